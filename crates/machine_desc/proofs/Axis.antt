@@ -5,12 +5,14 @@ use Rattle.std.proofs.Math.Nat.{mod-eq_of_lt, mod_self, add-mod_right}
 use Rattle.spin_base.specs.declared.chips.Dir.{Dir}
 use Rattle.spin_base.specs.declared.chips.Dir.TheVariants.{East, NorthEast, North, West, SouthWest, South}
 use Rattle.spin_base.specs.Links.{opposite_of}
-use Rattle.machine_desc.specs.Live.{Step, back, stay, ahead, stepped, x_step, y_step}
+use Rattle.machine_desc.specs.declared.steps.Step.{Step}
+use Rattle.machine_desc.specs.declared.steps.Step.TheVariants.{Back, Stay, Ahead}
+use Rattle.machine_desc.specs.Live.{stepped, x_step, y_step}
 
 pub turned : Step → Step
-turned back = ahead
-turned stay = stay
-turned ahead = back
+turned Back = Ahead
+turned Stay = Stay
+turned Ahead = Back
 
 pub x_step-opposite : (d : Dir) → x_step (opposite_of d) ≡ turned (x_step d)
 unfolding turned
@@ -61,15 +63,15 @@ ahead_after_back n w h = elim (cases_eq n 0) [
 -- A step that leads from n inside to k leads inside, and the step the other way leads from k back to n.
 pub stepped_back : (wrap : Bool) (w : ℕ) (s : Step) (n k : ℕ) → n < w → stepped wrap w s n ≡ Some k → stepped wrap w (turned s) k ≡ Some n
 unfolding turned
-stepped_back true w stay n k h e = sym e
-stepped_back false w stay n k h e = sym e
-stepped_back true w ahead n k h e =
+stepped_back true w Stay n k h e = sym e
+stepped_back false w Stay n k h e = sym e
+stepped_back true w Ahead n k h e =
     let same : (n + 1) % w ≡ k = cc in
     ap Some (ap (λ j. (j + (w - 1)) % w) (sym same) ∙ back_after_ahead n w h)
-stepped_back true w back n k h e =
+stepped_back true w Back n k h e =
     let same : (n + (w - 1)) % w ≡ k = cc in
     ap Some (ap (λ j. (j + 1) % w) (sym same) ∙ ahead_after_back n w h)
-stepped_back false w ahead n k h e = elim (cases_lt (n + 1) w) [
+stepped_back false w Ahead n k h e = elim (cases_lt (n + 1) w) [
     | inl inside ↦
         let same : Some (n + 1) ≡ Some k = sym (cond-true (ltb (n + 1) w) (Some (n + 1)) None (lt-ltb _ _ inside)) ∙ e in
         let is : n + 1 ≡ k = cc in
@@ -77,7 +79,7 @@ stepped_back false w ahead n k h e = elim (cases_lt (n + 1) w) [
     | inr last ↦
         let none : None ≡ Some k = sym (cond-false (ltb (n + 1) w) (Some (n + 1)) None (le-ltb _ _ last)) ∙ e in cc
 ]
-stepped_back false w back n k h e = elim (cases_eq n 0) [
+stepped_back false w Back n k h e = elim (cases_eq n 0) [
     | inl first ↦ let none : None ≡ Some k = sym (cond-true (eqb n 0) None (Some (n - 1)) (eq-eqb _ _ first)) ∙ e in cc
     | inr other ↦
         let same : Some (n - 1) ≡ Some k = sym (cond-false (eqb n 0) None (Some (n - 1)) (ne_eqb _ _ other)) ∙ e in
@@ -86,20 +88,37 @@ stepped_back false w back n k h e = elim (cases_eq n 0) [
 ]
 
 pub stepped_inside : (wrap : Bool) (w : ℕ) (s : Step) (n k : ℕ) → n < w → stepped wrap w s n ≡ Some k → k < w
-stepped_inside true w stay n k h e = let same : n ≡ k = cc in omega arith
-stepped_inside false w stay n k h e = let same : n ≡ k = cc in omega arith
-stepped_inside true w ahead n k h e = let same : (n + 1) % w ≡ k = cc in omega arith
-stepped_inside true w back n k h e = let same : (n + (w - 1)) % w ≡ k = cc in omega arith
-stepped_inside false w ahead n k h e = elim (cases_lt (n + 1) w) [
+stepped_inside true w Stay n k h e = let same : n ≡ k = cc in omega arith
+stepped_inside false w Stay n k h e = let same : n ≡ k = cc in omega arith
+stepped_inside true w Ahead n k h e = let same : (n + 1) % w ≡ k = cc in omega arith
+stepped_inside true w Back n k h e = let same : (n + (w - 1)) % w ≡ k = cc in omega arith
+stepped_inside false w Ahead n k h e = elim (cases_lt (n + 1) w) [
     | inl inside ↦
         let same : Some (n + 1) ≡ Some k = sym (cond-true (ltb (n + 1) w) (Some (n + 1)) None (lt-ltb _ _ inside)) ∙ e in
         let is : n + 1 ≡ k = cc in omega arith
     | inr last ↦
         let none : None ≡ Some k = sym (cond-false (ltb (n + 1) w) (Some (n + 1)) None (le-ltb _ _ last)) ∙ e in cc
 ]
-stepped_inside false w back n k h e = elim (cases_eq n 0) [
+stepped_inside false w Back n k h e = elim (cases_eq n 0) [
     | inl first ↦ let none : None ≡ Some k = sym (cond-true (eqb n 0) None (Some (n - 1)) (eq-eqb _ _ first)) ∙ e in cc
     | inr other ↦
         let same : Some (n - 1) ≡ Some k = sym (cond-false (eqb n 0) None (Some (n - 1)) (ne_eqb _ _ other)) ∙ e in
         let is : n - 1 ≡ k = cc in omega arith
 ]
+
+-- what the code of a step computes, by cases
+pub stepped_ahead_inside : (wrap : Bool) (n w : ℕ) → n + 1 < w → stepped wrap w Ahead n ≡ Some (n + 1)
+stepped_ahead_inside true n w h = ap Some (ahead_inside n w h)
+stepped_ahead_inside false n w h = cond-true (ltb (n + 1) w) (Some (n + 1)) None (lt-ltb _ _ h)
+
+pub stepped_ahead_last : (wrap : Bool) (n w : ℕ) → n < w → w ≤ n + 1 → stepped wrap w Ahead n ≡ cond wrap (Some 0) None
+stepped_ahead_last true n w h k = ap Some (ahead_last n w (omega arith))
+stepped_ahead_last false n w h k = cond-false (ltb (n + 1) w) (Some (n + 1)) None (le-ltb _ _ k)
+
+pub stepped_back_inside : (wrap : Bool) (n w : ℕ) → n < w → 0 < n → stepped wrap w Back n ≡ Some (n - 1)
+stepped_back_inside true n w h k = ap Some (back_inside n w k h)
+stepped_back_inside false n w h k = cond-false (eqb n 0) None (Some (n - 1)) (ne_eqb _ _ (omega arith))
+
+pub stepped_back_first : (wrap : Bool) (n w : ℕ) → n < w → n ≡ 0 → stepped wrap w Back n ≡ cond wrap (Some (w - 1)) None
+stepped_back_first true n w h k = ap Some (ap (λ j. (j + (w - 1)) % w) k ∙ back_first w (omega arith))
+stepped_back_first false n w h k = cond-true (eqb n 0) None (Some (n - 1)) (eq-eqb _ _ k)

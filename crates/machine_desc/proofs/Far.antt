@@ -7,8 +7,8 @@ use Rattle.spin_base.specs.declared.chips.Dir.{Dir}
 use Rattle.spin_base.specs.declared.chips.Dir.TheVariants.{East, NorthEast, North, West, SouthWest, South}
 use Rattle.spin_base.specs.Links.{opposite_of}
 use Rattle.machine_desc.specs.Description.{Description}
-use Rattle.machine_desc.specs.Equality.{chip_eq}
-use Rattle.machine_desc.specs.Live.{Step, stepped, x_step, y_step, chip_at, other_than, far_of, is_inside, is_live_chip, is_listed, is_live_between, is_live_link, IsInside, IsLiveChip, IsLiveLink, index_of}
+use Rattle.spin_base.specs.Equality.{chip_eq}
+use Rattle.machine_desc.specs.Live.{stepped, x_step, y_step, chip_at, other_than, far_of, is_inside, is_live_chip, is_listed, is_live_between, is_live_link, IsInside, IsLiveChip, IsLiveLink, index_of}
 use Rattle.machine_desc.proofs.Same.{same_chip, chip_eq_sym}
 use Rattle.machine_desc.proofs.Axis.{turned, x_step-opposite, y_step-opposite, stepped_back, stepped_inside}
 

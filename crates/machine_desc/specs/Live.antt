@@ -1,46 +1,43 @@
 -- Where each link leads, and which chips, links and cores are live.
-use Rattle.std.specs.Prelude.{◌≡◌, ℕ, ◌+◌, ◌-◌, ◌*◌, ◌%◌, ◌==◌, Bool, true, false, ◌&&◌, not, nat_lt, nat_le, IsTrue, if◌then◌else◌, Option, Some, None, List, [], ◌∷◌}
-use Rattle.std.specs.List.{list_any}
+use Rattle.std.specs.Prelude.{◌≡◌, ℕ, ◌+◌, ◌-◌, ◌*◌, ◌/◌, ◌%◌, ◌==◌, Bool, true, false, ◌&&◌, not, nat_lt, nat_le, IsTrue, if◌then◌else◌, Option, Some, None, List, [], ◌∷◌, map, count_by}
+use Rattle.std.specs.List.{list_any, range_with_len}
 use Rattle.spin_base.specs.declared.chips.Chip.{Chip}
 use Rattle.spin_base.specs.declared.chips.Spot.{Spot}
 use Rattle.spin_base.specs.declared.chips.Dir.{Dir}
 use Rattle.spin_base.specs.declared.chips.Dir.TheVariants.{East, NorthEast, North, West, SouthWest, South}
+use Rattle.spin_base.specs.Equality.{chip_eq, spot_eq}
 use Rattle.spin_base.specs.Links.{opposite_of}
+use Rattle.machine_desc.specs.declared.steps.Step.{Step}
+use Rattle.machine_desc.specs.declared.steps.Step.TheVariants.{Back, Stay, Ahead}
 use Rattle.machine_desc.specs.Description.{Description}
-use Rattle.machine_desc.specs.Equality.{chip_eq, spot_eq, edge_eq}
-
--- a step along one axis of the grid
-pub data Step : Type 0 where
-  back : Step
-  stay : Step
-  ahead : Step
+use Rattle.machine_desc.specs.Equality.{edge_eq}
 
 -- Links are numbered from East anticlockwise: East leads to (+1, 0), North-East to (+1, +1), North to (0, +1), and
 -- West, South-West and South lead the other way (SpiNNaker datasheet).
 abbrev pub x_step : Dir → Step
-x_step East = ahead
-x_step NorthEast = ahead
-x_step North = stay
-x_step West = back
-x_step SouthWest = back
-x_step South = stay
+x_step East = Ahead
+x_step NorthEast = Ahead
+x_step North = Stay
+x_step West = Back
+x_step SouthWest = Back
+x_step South = Stay
 
 abbrev pub y_step : Dir → Step
-y_step East = stay
-y_step NorthEast = ahead
-y_step North = ahead
-y_step West = stay
-y_step SouthWest = back
-y_step South = back
+y_step East = Stay
+y_step NorthEast = Ahead
+y_step North = Ahead
+y_step West = Stay
+y_step SouthWest = Back
+y_step South = Back
 
 -- The coordinate after a step along an axis of so many places: modulo that number where the grid is closed to a torus,
 -- else absent where it lies outside (SpiNNaker datasheet).
 abbrev pub stepped : Bool → ℕ → Step → ℕ → Option ℕ
-stepped wrap places stay n = Some n
-stepped true places ahead n = Some ((n + 1) % places)
-stepped true places back n = Some ((n + (places - 1)) % places)
-stepped false places ahead n = if nat_lt (n + 1) places then Some (n + 1) else None
-stepped false places back n = if n == 0 then None else Some (n - 1)
+stepped wrap places Stay n = Some n
+stepped true places Ahead n = Some ((n + 1) % places)
+stepped true places Back n = Some ((n + (places - 1)) % places)
+stepped false places Ahead n = if nat_lt (n + 1) places then Some (n + 1) else None
+stepped false places Back n = if n == 0 then None else Some (n - 1)
 
 abbrev pub chip_at : Option ℕ → Option ℕ → Option Chip
 chip_at (Some x) (Some y) = Some (record { x = x; y = y })
@@ -108,3 +105,15 @@ IsLiveWalk m (a ∷ (b ∷ cs)) = LeadsTo m a b × IsLiveWalk m (b ∷ cs)
 -- Chips are numbered by x, then y (this project's own).
 abbrev pub index_of : Description → Chip → ℕ
 index_of m c = c.x * m.height + c.y
+
+-- the chip of an index
+abbrev pub chip_of : Description → ℕ → Chip
+chip_of m i = record { x = i / m.height; y = i % m.height }
+
+-- the chips of the grid, in the order of their indices
+abbrev pub grid_chips : Description → List Chip
+grid_chips m = map (chip_of m) (range_with_len 0 (m.width * m.height))
+
+-- the number of live chips
+abbrev pub live_count_of : Description → ℕ
+live_count_of m = count_by (is_live_chip m) (grid_chips m)

@@ -7,6 +7,10 @@
 //! of dead parts are this project's own.
 #![tactic(auto)]
 
+mod grids;
+mod machines;
+mod steps;
 mod trees;
 
-pub use trees::Edge;
+pub use machines::Machine;
+pub use trees::{Edge, Tree};
