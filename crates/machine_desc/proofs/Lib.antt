@@ -1,0 +1,6 @@
+pub mod Axis
+pub mod Branches
+pub mod Far
+pub mod Listing
+pub mod Live
+pub mod Same
