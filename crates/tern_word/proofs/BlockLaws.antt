@@ -182,6 +182,7 @@ LiesIn-merge bs k d in_range = LiesIn-from_wants _ _ (λ i v w. ((merge_of-is_me
 
 -- a block that wants no more than another is at least as general
 pub generality-mono : (narrow wide : Block) → ((i v : ℕ) → Wants wide i v → Wants narrow i v) → generality narrow ≤ generality wide
+unfolding generality
 generality-mono narrow wide h = ones_mono 32 _ _ (omega (arith, narrow.small)) (λ i. by_place i (cases_lt i 32))
   where
     within : (i : ℕ) → bit_at wide.mask i ≤ bit_at narrow.mask i
@@ -200,6 +201,7 @@ generality-merge bs k d in_range = generality-mono _ _ (λ i v w. ((merge_of-is_
 
 -- a generality is at most 32
 pub generality_le : (b : Block) → generality b ≤ 32
+unfolding generality
 generality_le b = ones-le 32 (bit_not w32 b.mask) (omega arith)
 
 -- ---- the block of a range of keys

@@ -22,7 +22,7 @@ LiesIn inner outer = (k : ℕ) → k < 2 ^ 32 → Matches inner k → Matches ou
 
 -- A block is as general as the bits that it does not care for: the 0 bits of its mask
 -- (Mundy, Heathcote, Garside, HPSR 2016).
-abbrev pub generality : Block → ℕ
+unfoldable pub generality : Block → ℕ
 generality b = count_zeros w32 b.mask
 
 -- at bit i, only keys whose bit is v lie in the block
