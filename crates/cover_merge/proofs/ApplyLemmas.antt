@@ -39,7 +39,7 @@ none_from (t ∷ places) k below = by_head (eqb_tells t k) (none_from places k (
     by_head (inl same) rest = absurd (omega (arith, same.1, All-head (λ t. t < k) t places below))
     by_head (inr other) rest = ap (λ b. b || has places k) other.0 ∙ rest
 
-kept_in : (places : List ℕ) (j : ℕ) (x : Row) (xs : List Row) → has places j ≡ false → kept places j (x ∷ xs) ≡ x ∷ kept places (suc j) xs
+pub kept_in : (places : List ℕ) (j : ℕ) (x : Row) (xs : List Row) → has places j ≡ false → kept places j (x ∷ xs) ≡ x ∷ kept places (suc j) xs
 kept_in places j x xs e = ap (λ b. cond (not b) (x ∷ kept places (suc j) xs) (kept places (suc j) xs)) e
 
 kept_out : (places : List ℕ) (j : ℕ) (x : Row) (xs : List Row) → has places j ≡ true → kept places j (x ∷ xs) ≡ kept places (suc j) xs
@@ -66,7 +66,7 @@ kept_passed s rest j (x ∷ xs) behind =
 -- ---- taking out one place after another, the last first
 
 module _ (s : ℕ) (rest : List ℕ) (above : All (λ t. s < t) rest) where
-  first_kept : (j : ℕ) → j ≤ s → has rest j ≡ false
+  pub first_kept : (j : ℕ) → j ≤ s → has rest j ≡ false
   first_kept j le = none_at rest j (λ k d within. omega (arith, above k d within))
 
   pub kept_longer : (j m : ℕ) (xs : List Row) → s ≡ j + m → m < length xs → m < length (kept rest j xs)
@@ -98,7 +98,7 @@ drop_before : (places : List ℕ) (i : ℕ) → 0 < i → i ≤ length places �
 drop_before places i some within =
     let next : suc (i - 1) ≡ i = omega arith in drop-cons places (i - 1) 0 (omega arith) ∙ ap (λ n. get_or places (i - 1) 0 ∷ drop n places) next
 
-above_rest : (places : List ℕ) (i : ℕ) → AllPairs (λ s t. s < t) places → 0 < i → i ≤ length places → All (λ t. get_or places (i - 1) 0 < t) (drop i places)
+pub above_rest : (places : List ℕ) (i : ℕ) → AllPairs (λ s t. s < t) places → 0 < i → i ≤ length places → All (λ t. get_or places (i - 1) 0 < t) (drop i places)
 above_rest places i ascending some within k d inside =
     let far : i + k < length places = omega (arith, length-drop i places) in
     let less : get_or places (i - 1) d < get_or places (i + k) d = ascending (i - 1) (i + k) d (omega arith) far in
@@ -123,7 +123,7 @@ none_out places start = sym (ap (λ l. kept l 0 start) (drop_all (length places)
 
 -- ---- the table after a merge
 
-picked-append : (q : ℕ → Bool) (i : ℕ) (xs ys : List Row) → picked q i (xs ++ ys) ≡ picked q i xs ++ picked q (i + length xs) ys
+pub picked-append : (q : ℕ → Bool) (i : ℕ) (xs ys : List Row) → picked q i (xs ++ ys) ≡ picked q i xs ++ picked q (i + length xs) ys
 picked-append q i [] ys = ap (λ j. picked q j ys) (omega arith)
 picked-append q i (x ∷ xs) ys =
     ap (λ zs. cond (q i) (x ∷ zs) zs) (picked-append q (suc i) xs ys ∙ ap (λ j. picked q (suc i) xs ++ picked q j ys) (omega arith))

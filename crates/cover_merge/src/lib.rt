@@ -7,7 +7,10 @@
 #![tactic(auto)]
 
 mod applying;
+mod choosing;
+mod covering;
 mod refining;
 
 pub use applying::apply;
+pub use covering::{Covered, Merge, cover};
 pub use refining::refine;
