@@ -1,0 +1,124 @@
+-- A step along an axis of the grid, and the step back.
+use Rattle.std.proofs.Common.{◌≡◌, ◌≢◌, ℕ, zero, suc, ◌+◌, ◌-◌, ◌%◌, ◌<◌, ◌≤◌, Bool, true, false, cond, ltb, eqb, Option, Some, None, refl, sym, ap, ◌∙◌, subst, arith, inl, inr, ⊎_elim, ◌⊎◌}
+use Rattle.std.proofs.lemmas.Bool.{ltb-true, ltb-false, lt-ltb, le-ltb, eqb-true, eqb-false, eq-eqb, ne_eqb, cases_lt, cases_eq, cond-true, cond-false}
+use Rattle.std.proofs.Math.Nat.{mod-eq_of_lt, mod_self, add-mod_right}
+use Rattle.spin_base.specs.declared.chips.Dir.{Dir}
+use Rattle.spin_base.specs.declared.chips.Dir.TheVariants.{East, NorthEast, North, West, SouthWest, South}
+use Rattle.spin_base.specs.Links.{opposite_of}
+use Rattle.machine_desc.specs.declared.steps.Step.{Step}
+use Rattle.machine_desc.specs.declared.steps.Step.TheVariants.{Back, Stay, Ahead}
+use Rattle.machine_desc.specs.Live.{stepped, x_step, y_step}
+
+pub turned : Step → Step
+turned Back = Ahead
+turned Stay = Stay
+turned Ahead = Back
+
+pub x_step-opposite : (d : Dir) → x_step (opposite_of d) ≡ turned (x_step d)
+unfolding turned
+x_step-opposite East = refl
+x_step-opposite NorthEast = refl
+x_step-opposite North = refl
+x_step-opposite West = refl
+x_step-opposite SouthWest = refl
+x_step-opposite South = refl
+
+pub y_step-opposite : (d : Dir) → y_step (opposite_of d) ≡ turned (y_step d)
+unfolding turned
+y_step-opposite East = refl
+y_step-opposite NorthEast = refl
+y_step-opposite North = refl
+y_step-opposite West = refl
+y_step-opposite SouthWest = refl
+y_step-opposite South = refl
+
+-- the place after the last is the first
+ahead_inside : (n w : ℕ) → n + 1 < w → (n + 1) % w ≡ n + 1
+ahead_inside n w h = mod-eq_of_lt h
+
+ahead_last : (n w : ℕ) → n + 1 ≡ w → (n + 1) % w ≡ 0
+ahead_last n w e = ap (λ k. k % w) e ∙ mod_self w
+
+back_first : (w : ℕ) → 0 < w → (0 + (w - 1)) % w ≡ w - 1
+back_first w h = let below : 0 + (w - 1) < w = omega arith in mod-eq_of_lt below ∙ omega arith
+
+back_inside : (n w : ℕ) → 0 < n → n < w → (n + (w - 1)) % w ≡ n - 1
+back_inside n w p h =
+    let same : n + (w - 1) ≡ (n - 1) + w = omega arith in
+    let below : n - 1 < w = omega arith in
+    ap (λ k. k % w) same ∙ (add-mod_right (n - 1) w ∙ mod-eq_of_lt below)
+
+back_after_ahead : (n w : ℕ) → n < w → ((n + 1) % w + (w - 1)) % w ≡ n
+back_after_ahead n w h = elim (cases_lt (n + 1) w) [
+    | inl inside ↦ ap (λ k. (k + (w - 1)) % w) (ahead_inside n w inside) ∙ (back_inside (n + 1) w (omega arith) inside ∙ omega arith)
+    | inr last ↦ ap (λ k. (k + (w - 1)) % w) (ahead_last n w (omega arith)) ∙ (back_first w (omega arith) ∙ omega arith)
+]
+
+ahead_after_back : (n w : ℕ) → n < w → ((n + (w - 1)) % w + 1) % w ≡ n
+ahead_after_back n w h = elim (cases_eq n 0) [
+    | inl first ↦ ap (λ k. ((k + (w - 1)) % w + 1) % w) first ∙ (ap (λ k. (k + 1) % w) (back_first w (omega arith)) ∙ (ahead_last (w - 1) w (omega arith) ∙ sym first))
+    | inr other ↦ ap (λ k. (k + 1) % w) (back_inside n w (omega arith) h) ∙ (ahead_inside (n - 1) w (omega arith) ∙ omega arith)
+]
+
+-- A step that leads from n inside to k leads inside, and the step the other way leads from k back to n.
+pub stepped_back : (wrap : Bool) (w : ℕ) (s : Step) (n k : ℕ) → n < w → stepped wrap w s n ≡ Some k → stepped wrap w (turned s) k ≡ Some n
+unfolding turned
+stepped_back true w Stay n k h e = sym e
+stepped_back false w Stay n k h e = sym e
+stepped_back true w Ahead n k h e =
+    let same : (n + 1) % w ≡ k = cc in
+    ap Some (ap (λ j. (j + (w - 1)) % w) (sym same) ∙ back_after_ahead n w h)
+stepped_back true w Back n k h e =
+    let same : (n + (w - 1)) % w ≡ k = cc in
+    ap Some (ap (λ j. (j + 1) % w) (sym same) ∙ ahead_after_back n w h)
+stepped_back false w Ahead n k h e = elim (cases_lt (n + 1) w) [
+    | inl inside ↦
+        let same : Some (n + 1) ≡ Some k = sym (cond-true (ltb (n + 1) w) (Some (n + 1)) None (lt-ltb _ _ inside)) ∙ e in
+        let is : n + 1 ≡ k = cc in
+        cond-false (eqb k 0) None (Some (k - 1)) (ne_eqb _ _ (omega arith)) ∙ ap Some (omega arith)
+    | inr last ↦
+        let none : None ≡ Some k = sym (cond-false (ltb (n + 1) w) (Some (n + 1)) None (le-ltb _ _ last)) ∙ e in cc
+]
+stepped_back false w Back n k h e = elim (cases_eq n 0) [
+    | inl first ↦ let none : None ≡ Some k = sym (cond-true (eqb n 0) None (Some (n - 1)) (eq-eqb _ _ first)) ∙ e in cc
+    | inr other ↦
+        let same : Some (n - 1) ≡ Some k = sym (cond-false (eqb n 0) None (Some (n - 1)) (ne_eqb _ _ other)) ∙ e in
+        let is : n - 1 ≡ k = cc in
+        cond-true (ltb (k + 1) w) (Some (k + 1)) None (lt-ltb _ _ (omega arith)) ∙ ap Some (omega arith)
+]
+
+pub stepped_inside : (wrap : Bool) (w : ℕ) (s : Step) (n k : ℕ) → n < w → stepped wrap w s n ≡ Some k → k < w
+stepped_inside true w Stay n k h e = let same : n ≡ k = cc in omega arith
+stepped_inside false w Stay n k h e = let same : n ≡ k = cc in omega arith
+stepped_inside true w Ahead n k h e = let same : (n + 1) % w ≡ k = cc in omega arith
+stepped_inside true w Back n k h e = let same : (n + (w - 1)) % w ≡ k = cc in omega arith
+stepped_inside false w Ahead n k h e = elim (cases_lt (n + 1) w) [
+    | inl inside ↦
+        let same : Some (n + 1) ≡ Some k = sym (cond-true (ltb (n + 1) w) (Some (n + 1)) None (lt-ltb _ _ inside)) ∙ e in
+        let is : n + 1 ≡ k = cc in omega arith
+    | inr last ↦
+        let none : None ≡ Some k = sym (cond-false (ltb (n + 1) w) (Some (n + 1)) None (le-ltb _ _ last)) ∙ e in cc
+]
+stepped_inside false w Back n k h e = elim (cases_eq n 0) [
+    | inl first ↦ let none : None ≡ Some k = sym (cond-true (eqb n 0) None (Some (n - 1)) (eq-eqb _ _ first)) ∙ e in cc
+    | inr other ↦
+        let same : Some (n - 1) ≡ Some k = sym (cond-false (eqb n 0) None (Some (n - 1)) (ne_eqb _ _ other)) ∙ e in
+        let is : n - 1 ≡ k = cc in omega arith
+]
+
+-- what the code of a step computes, by cases
+pub stepped_ahead_inside : (wrap : Bool) (n w : ℕ) → n + 1 < w → stepped wrap w Ahead n ≡ Some (n + 1)
+stepped_ahead_inside true n w h = ap Some (ahead_inside n w h)
+stepped_ahead_inside false n w h = cond-true (ltb (n + 1) w) (Some (n + 1)) None (lt-ltb _ _ h)
+
+pub stepped_ahead_last : (wrap : Bool) (n w : ℕ) → n < w → w ≤ n + 1 → stepped wrap w Ahead n ≡ cond wrap (Some 0) None
+stepped_ahead_last true n w h k = ap Some (ahead_last n w (omega arith))
+stepped_ahead_last false n w h k = cond-false (ltb (n + 1) w) (Some (n + 1)) None (le-ltb _ _ k)
+
+pub stepped_back_inside : (wrap : Bool) (n w : ℕ) → n < w → 0 < n → stepped wrap w Back n ≡ Some (n - 1)
+stepped_back_inside true n w h k = ap Some (back_inside n w k h)
+stepped_back_inside false n w h k = cond-false (eqb n 0) None (Some (n - 1)) (ne_eqb _ _ (omega arith))
+
+pub stepped_back_first : (wrap : Bool) (n w : ℕ) → n < w → n ≡ 0 → stepped wrap w Back n ≡ cond wrap (Some (w - 1)) None
+stepped_back_first true n w h k = ap Some (ap (λ j. (j + (w - 1)) % w) k ∙ back_first w (omega arith))
+stepped_back_first false n w h k = cond-true (eqb n 0) None (Some (n - 1)) (eq-eqb _ _ k)

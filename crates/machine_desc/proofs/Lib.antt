@@ -1,0 +1,5 @@
+pub mod Axis
+pub mod Far
+pub mod Listing
+pub mod Live
+pub mod Same

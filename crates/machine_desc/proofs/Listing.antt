@@ -1,0 +1,98 @@
+-- A table that tells which things are listed, as the list is read.
+use Rattle.std.proofs.Common.{◌≡◌, ◌≢◌, ℕ, ◌+◌, ◌*◌, ◌<◌, ◌≤◌, Bool, true, false, ◌||◌, List, [], ◌∷◌, length, get_or, take, set, replicate, refl, sym, ap, ◌∙◌, subst, arith, inl, inr}
+use Rattle.std.specs.List.{list_any}
+use Rattle.std.proofs.lemmas.Bool.{cases_eq, cases_lt, or_right, false_from_ne_true}
+use Rattle.std.proofs.lemmas.Nat.{same_from_place, mul-add-lt}
+use Rattle.std.proofs.lemmas.List.{get_or-set_same, get_or-set_other, get_or-replicate, get_or_past, length-replicate}
+use Rattle.std.proofs.lemmas.List.Folds.{list_any_more}
+use Rattle.std.proofs.Math.Bool.{or-false}
+use Rattle.spin_base.specs.declared.chips.Chip.{Chip}
+use Rattle.spin_base.specs.declared.chips.Spot.{Spot}
+use Rattle.spin_base.specs.Equality.{chip_eq, spot_eq}
+use Rattle.spin_base.specs.Links.{dir_number}
+use Rattle.spin_base.proofs.Equality.{chip_eq_true, chip_eq_same, spot_eq_true, spot_eq_same}
+use Rattle.machine_desc.specs.declared.trees.Edge.{Edge}
+use Rattle.machine_desc.specs.declared.grids.Grid.{Grid}
+use Rattle.machine_desc.specs.Equality.{edge_eq}
+use Rattle.machine_desc.specs.Tables.{Tells, IsOn, IsSpotOn, IsEdgeOn, chip_place, spot_place, edge_place, TellsChips, TellsCores, TellsLinks}
+use Rattle.machine_desc.proofs.Same.{same_chip, same_spot, same_edge, same_dir, below_six, edge_eq-true, edge_eq_self}
+
+-- a clear table tells of the empty list
+pub Tells-none : {K : Type 0} (HasPlace : K → Type 0) (place_of : K → ℕ) (same : K → K → Bool) (n : ℕ) (table : List Bool) (listed : List K) →
+    table ≡ replicate n false → Tells HasPlace place_of same table (take 0 listed)
+Tells-none HasPlace place_of same n table listed e = λ k _. rw e (clear (place_of k))
+  where
+    clear : (i : ℕ) → get_or (replicate n false) i false ≡ false
+    clear i = elim (cases_lt i n) [
+        | inl below ↦ get_or-replicate n i false false below
+        | inr past ↦ let long : length (replicate n false) ≤ i = rw (length-replicate n false) past in get_or_past (replicate n false) i false long
+    ]
+
+module _ {K : Type 0} (HasPlace : K → Type 0) (place_of : K → ℕ) (same : K → K → Bool)
+    (same_true : (a b : K) → same a b ≡ true → a ≡ b) (same_self : (a : K) → same a a ≡ true) where
+
+  -- one more thing is read, and its place written
+  pub Tells-more : (apart : (a b : K) → HasPlace a → HasPlace b → place_of a ≡ place_of b → a ≡ b)
+      (table : List Bool) (listed : List K) (i p : ℕ) (d : K) → i < length listed → p ≡ place_of (get_or listed i d) →
+      HasPlace (get_or listed i d) → p < length table → Tells HasPlace place_of same table (take i listed) →
+      Tells HasPlace place_of same (set table p true) (take (i + 1) listed)
+  Tells-more apart table listed i p d within at placed below told k has =
+      let x : K = get_or listed i d in
+      let more : list_any (same k) (take (i + 1) listed) ≡ (list_any (same k) (take i listed) || same k x) =
+          list_any_more (same k) listed i d within in
+      elim (cases_eq (place_of k) p) [
+        | inl here ↦
+            let is : k ≡ x = apart k x has placed (here ∙ at) in
+            let mine : same k x ≡ true = subst (λ (y : K). same k y ≡ true) is (same_self k) in
+            ap (λ j. get_or (set table p true) j false) here
+                ∙ (get_or-set_same table p true false below ∙ sym (more ∙ or_right _ _ mine))
+        | inr other ↦
+            let no : same k x ≡ false = false_from_ne_true (same k x) (λ h. other (ap place_of (same_true k x h) ∙ sym at)) in
+            get_or-set_other table p (place_of k) true false other
+                ∙ (told k has ∙ (sym (or-false (list_any (same k) (take i listed))) ∙ sym (more ∙ ap (λ t. list_any (same k) (take i listed) || t) no)))
+    ]
+
+  -- a thing without a place is read, and nothing written
+  pub Tells-skip : (table : List Bool) (listed : List K) (i : ℕ) (d : K) → i < length listed →
+      (HasPlace (get_or listed i d) → ⊥) → Tells HasPlace place_of same table (take i listed) →
+      Tells HasPlace place_of same table (take (i + 1) listed)
+  Tells-skip table listed i d within none told k has =
+      let x : K = get_or listed i d in
+      let more : list_any (same k) (take (i + 1) listed) ≡ (list_any (same k) (take i listed) || same k x) =
+          list_any_more (same k) listed i d within in
+      let no : same k x ≡ false = false_from_ne_true (same k x) (λ h. none (subst HasPlace (same_true k x h) has)) in
+      told k has ∙ (sym (or-false (list_any (same k) (take i listed))) ∙ sym (more ∙ ap (λ t. list_any (same k) (take i listed) || t) no))
+
+pub chips_apart : (grid : Grid) (a b : Chip) → IsOn grid a → IsOn grid b → chip_place grid a ≡ chip_place grid b → a ≡ b
+chips_apart grid a b p q e =
+    let same = same_from_place a.x a.y b.x b.y grid.height p.1 q.1 e in same_chip a b same.0 same.1
+
+pub spots_apart : (grid : Grid) (a b : Spot) → IsSpotOn grid a → IsSpotOn grid b → spot_place grid a ≡ spot_place grid b → a ≡ b
+spots_apart grid a b p q e =
+    let same = same_from_place (chip_place grid a.chip) a.core (chip_place grid b.chip) b.core 18 p.1 q.1 e in
+    same_spot a b (chips_apart grid a.chip b.chip p.0 q.0 same.0) same.1
+
+pub edges_apart : (grid : Grid) (a b : Edge) → IsEdgeOn grid a → IsEdgeOn grid b → edge_place grid a ≡ edge_place grid b → a ≡ b
+edges_apart grid a b p q e =
+    let same = same_from_place (chip_place grid a.chip) (dir_number a.dir) (chip_place grid b.chip) (dir_number b.dir) 6 (below_six a.dir) (below_six b.dir) e in
+    same_edge a b (chips_apart grid a.chip b.chip p q same.0) (same_dir a.dir b.dir same.1)
+
+pub TellsChips-more : (grid : Grid) (table : List Bool) (listed : List Chip) (i p : ℕ) (d : Chip) → i < length listed → p ≡ chip_place grid (get_or listed i d) →
+    IsOn grid (get_or listed i d) → p < length table → TellsChips grid table (take i listed) →
+    TellsChips grid (set table p true) (take (i + 1) listed)
+TellsChips-more grid = Tells-more (IsOn grid) (chip_place grid) chip_eq chip_eq_true chip_eq_same (chips_apart grid)
+
+pub TellsCores-more : (grid : Grid) (table : List Bool) (listed : List Spot) (i p : ℕ) (d : Spot) → i < length listed → p ≡ spot_place grid (get_or listed i d) →
+    IsSpotOn grid (get_or listed i d) → p < length table → TellsCores grid table (take i listed) →
+    TellsCores grid (set table p true) (take (i + 1) listed)
+TellsCores-more grid = Tells-more (IsSpotOn grid) (spot_place grid) spot_eq spot_eq_true spot_eq_same (spots_apart grid)
+
+pub TellsCores-skip : (grid : Grid) (table : List Bool) (listed : List Spot) (i : ℕ) (d : Spot) → i < length listed →
+    18 ≤ (get_or listed i d).core → TellsCores grid table (take i listed) → TellsCores grid table (take (i + 1) listed)
+TellsCores-skip grid table listed i d within high =
+    Tells-skip (IsSpotOn grid) (spot_place grid) spot_eq spot_eq_true spot_eq_same table listed i d within (λ p. absurd (omega (arith, p.1)))
+
+pub TellsLinks-more : (grid : Grid) (table : List Bool) (listed : List Edge) (i p : ℕ) (d : Edge) → i < length listed → p ≡ edge_place grid (get_or listed i d) →
+    IsEdgeOn grid (get_or listed i d) → p < length table → TellsLinks grid table (take i listed) →
+    TellsLinks grid (set table p true) (take (i + 1) listed)
+TellsLinks-more grid = Tells-more (IsEdgeOn grid) (edge_place grid) edge_eq edge_eq-true edge_eq_self (edges_apart grid)
