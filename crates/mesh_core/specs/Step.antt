@@ -1,5 +1,5 @@
 -- The core step: what one event does to the lists of a mesh.
-use Rattle.std.specs.Prelude.{◌≡◌, ℕ, ◌+◌, ◌-◌, ◌^◌, ◌==◌, Bool, true, false, not, nat_lt, nat_le, min, ◌&&◌, if◌then◌else◌, List, [], ◌∷◌, ◌++◌, length, filter, Option, Some, None, is_some, unwrap_or, slice_get, slice_set}
+use Rattle.std.specs.Prelude.{◌≡◌, ℕ, ◌+◌, ◌-◌, ◌^◌, ◌==◌, Bool, true, false, not, nat_lt, nat_le, min, ◌&&◌, if◌then◌else◌, List, [], ◌∷◌, ◌++◌, length, Option, Some, None, is_some, unwrap_or, slice_get, slice_set}
 use Rattle.std.specs.List.{list_any}
 use Rattle.spin_base.specs.declared.chips.Chip.{Chip}
 use Rattle.spin_base.specs.declared.chips.Spot.{Spot}
@@ -36,9 +36,10 @@ abbrev pub in_hand : McCopy → Port → List Out → Option Held
 in_hand k port [] = None
 in_hand k port (o ∷ os) = Some (record { copy = k; port = port; outs = o ∷ os })
 
--- the outputs but one
+-- the outputs but the first that is this one
 abbrev pub without : Out → List Out → List Out
-without o os = filter (λ p. not (out_eq o p)) os
+without o [] = []
+without o (p ∷ os) = if out_eq o p then os else p ∷ without o os
 
 -- whether a list of queues has one at this place that holds less than the capacity
 abbrev pub has_room : ℕ → Option (List McCopy) → Bool
