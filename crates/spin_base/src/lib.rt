@@ -9,17 +9,31 @@
 mod blocks;
 mod chips;
 mod copies;
+mod fifos;
 mod lists;
+mod memory_ends;
 mod names;
+mod outside;
+mod reading;
 mod rooms;
 mod routes;
+mod std_ends;
+#[cfg(test)]
+mod tests;
 mod wants;
+mod writing;
 
 pub use blocks::{Block, Entry};
 pub use chips::{Chip, Dir, Port, Spot};
 pub use copies::{Delivery, DumpRec, Event, McCopy, Packet};
+pub use fifos::Fifo;
 pub use lists::Seq;
+pub use memory_ends::{MemSink, MemSource};
 pub use names::Name;
+pub use outside::{FreeGate, Gate, Sink, Source};
+pub use reading::{ReadErr, read_all};
 pub use rooms::Room;
 pub use routes::{Out, Outs, Route};
+pub use std_ends::{StdSink, StdSource};
 pub use wants::{Failed, Memory};
+pub use writing::{WriteErr, write_all};
