@@ -1,6 +1,6 @@
 -- A step along an axis of the grid, and the step back.
-use Rattle.std.proofs.Common.{◌≡◌, ◌≢◌, ℕ, zero, suc, ◌+◌, ◌-◌, ◌%◌, ◌<◌, ◌≤◌, Bool, true, false, cond, ltb, eqb, Option, Some, None, refl, sym, ap, ◌∙◌, subst, arith, inl, inr, ⊎_elim, ◌⊎◌}
-use Rattle.std.proofs.lemmas.Bool.{ltb-true, ltb-false, lt-ltb, le-ltb, eqb-true, eqb-false, eq-eqb, ne_eqb, cases_lt, cases_eq, cond-true, cond-false}
+use Rattle.std.proofs.Common.{◌≡◌, ℕ, ◌+◌, ◌-◌, ◌%◌, ◌<◌, ◌≤◌, Bool, true, false, cond, ltb, eqb, Some, None, refl, sym, ap, ◌∙◌, arith, inl, inr}
+use Rattle.std.proofs.lemmas.Bool.{lt-ltb, le-ltb, eq-eqb, ne_eqb, cases_lt, cases_eq, cond-true, cond-false}
 use Rattle.std.proofs.Math.Nat.{mod-eq_of_lt, mod_self, add-mod_right}
 use Rattle.spin_base.specs.declared.chips.Dir.{Dir}
 use Rattle.spin_base.specs.declared.chips.Dir.TheVariants.{East, NorthEast, North, West, SouthWest, South}
@@ -50,14 +50,14 @@ back_inside n w p h =
 
 back_after_ahead : (n w : ℕ) → n < w → ((n + 1) % w + (w - 1)) % w ≡ n
 back_after_ahead n w h = elim (cases_lt (n + 1) w) [
-    | inl inside ↦ ap (λ k. (k + (w - 1)) % w) (ahead_inside n w inside) ∙ (back_inside (n + 1) w (omega arith) inside ∙ omega arith)
-    | inr last ↦ ap (λ k. (k + (w - 1)) % w) (ahead_last n w (omega arith)) ∙ (back_first w (omega arith) ∙ omega arith)
+  | inl inside ↦ ap (λ k. (k + (w - 1)) % w) (ahead_inside n w inside) ∙ (back_inside (n + 1) w (omega arith) inside ∙ omega arith)
+  | inr last ↦ ap (λ k. (k + (w - 1)) % w) (ahead_last n w (omega arith)) ∙ (back_first w (omega arith) ∙ omega arith)
 ]
 
 ahead_after_back : (n w : ℕ) → n < w → ((n + (w - 1)) % w + 1) % w ≡ n
 ahead_after_back n w h = elim (cases_eq n 0) [
-    | inl first ↦ ap (λ k. ((k + (w - 1)) % w + 1) % w) first ∙ (ap (λ k. (k + 1) % w) (back_first w (omega arith)) ∙ (ahead_last (w - 1) w (omega arith) ∙ sym first))
-    | inr other ↦ ap (λ k. (k + 1) % w) (back_inside n w (omega arith) h) ∙ (ahead_inside (n - 1) w (omega arith) ∙ omega arith)
+  | inl first ↦ ap (λ k. ((k + (w - 1)) % w + 1) % w) first ∙ (ap (λ k. (k + 1) % w) (back_first w (omega arith)) ∙ (ahead_last (w - 1) w (omega arith) ∙ sym first))
+  | inr other ↦ ap (λ k. (k + 1) % w) (back_inside n w (omega arith) h) ∙ (ahead_inside (n - 1) w (omega arith) ∙ omega arith)
 ]
 
 -- A step that leads from n inside to k leads inside, and the step the other way leads from k back to n.
@@ -72,19 +72,19 @@ stepped_back true w Back n k h e =
     let same : (n + (w - 1)) % w ≡ k = cc in
     ap Some (ap (λ j. (j + 1) % w) (sym same) ∙ ahead_after_back n w h)
 stepped_back false w Ahead n k h e = elim (cases_lt (n + 1) w) [
-    | inl inside ↦
-        let same : Some (n + 1) ≡ Some k = sym (cond-true (ltb (n + 1) w) (Some (n + 1)) None (lt-ltb _ _ inside)) ∙ e in
-        let is : n + 1 ≡ k = cc in
-        cond-false (eqb k 0) None (Some (k - 1)) (ne_eqb _ _ (omega arith)) ∙ ap Some (omega arith)
-    | inr last ↦
-        let none : None ≡ Some k = sym (cond-false (ltb (n + 1) w) (Some (n + 1)) None (le-ltb _ _ last)) ∙ e in cc
+  | inl inside ↦
+      let same : Some (n + 1) ≡ Some k = sym (cond-true (ltb (n + 1) w) (Some (n + 1)) None (lt-ltb _ _ inside)) ∙ e in
+      let is : n + 1 ≡ k = cc in
+      cond-false (eqb k 0) None (Some (k - 1)) (ne_eqb _ _ (omega arith)) ∙ ap Some (omega arith)
+  | inr last ↦
+      let none : None ≡ Some k = sym (cond-false (ltb (n + 1) w) (Some (n + 1)) None (le-ltb _ _ last)) ∙ e in cc
 ]
 stepped_back false w Back n k h e = elim (cases_eq n 0) [
-    | inl first ↦ let none : None ≡ Some k = sym (cond-true (eqb n 0) None (Some (n - 1)) (eq-eqb _ _ first)) ∙ e in cc
-    | inr other ↦
-        let same : Some (n - 1) ≡ Some k = sym (cond-false (eqb n 0) None (Some (n - 1)) (ne_eqb _ _ other)) ∙ e in
-        let is : n - 1 ≡ k = cc in
-        cond-true (ltb (k + 1) w) (Some (k + 1)) None (lt-ltb _ _ (omega arith)) ∙ ap Some (omega arith)
+  | inl first ↦ let none : None ≡ Some k = sym (cond-true (eqb n 0) None (Some (n - 1)) (eq-eqb _ _ first)) ∙ e in cc
+  | inr other ↦
+      let same : Some (n - 1) ≡ Some k = sym (cond-false (eqb n 0) None (Some (n - 1)) (ne_eqb _ _ other)) ∙ e in
+      let is : n - 1 ≡ k = cc in
+      cond-true (ltb (k + 1) w) (Some (k + 1)) None (lt-ltb _ _ (omega arith)) ∙ ap Some (omega arith)
 ]
 
 pub stepped_inside : (wrap : Bool) (w : ℕ) (s : Step) (n k : ℕ) → n < w → stepped wrap w s n ≡ Some k → k < w
@@ -93,17 +93,17 @@ stepped_inside false w Stay n k h e = let same : n ≡ k = cc in omega arith
 stepped_inside true w Ahead n k h e = let same : (n + 1) % w ≡ k = cc in omega arith
 stepped_inside true w Back n k h e = let same : (n + (w - 1)) % w ≡ k = cc in omega arith
 stepped_inside false w Ahead n k h e = elim (cases_lt (n + 1) w) [
-    | inl inside ↦
-        let same : Some (n + 1) ≡ Some k = sym (cond-true (ltb (n + 1) w) (Some (n + 1)) None (lt-ltb _ _ inside)) ∙ e in
-        let is : n + 1 ≡ k = cc in omega arith
-    | inr last ↦
-        let none : None ≡ Some k = sym (cond-false (ltb (n + 1) w) (Some (n + 1)) None (le-ltb _ _ last)) ∙ e in cc
+  | inl inside ↦
+      let same : Some (n + 1) ≡ Some k = sym (cond-true (ltb (n + 1) w) (Some (n + 1)) None (lt-ltb _ _ inside)) ∙ e in
+      let is : n + 1 ≡ k = cc in omega arith
+  | inr last ↦
+      let none : None ≡ Some k = sym (cond-false (ltb (n + 1) w) (Some (n + 1)) None (le-ltb _ _ last)) ∙ e in cc
 ]
 stepped_inside false w Back n k h e = elim (cases_eq n 0) [
-    | inl first ↦ let none : None ≡ Some k = sym (cond-true (eqb n 0) None (Some (n - 1)) (eq-eqb _ _ first)) ∙ e in cc
-    | inr other ↦
-        let same : Some (n - 1) ≡ Some k = sym (cond-false (eqb n 0) None (Some (n - 1)) (ne_eqb _ _ other)) ∙ e in
-        let is : n - 1 ≡ k = cc in omega arith
+  | inl first ↦ let none : None ≡ Some k = sym (cond-true (eqb n 0) None (Some (n - 1)) (eq-eqb _ _ first)) ∙ e in cc
+  | inr other ↦
+      let same : Some (n - 1) ≡ Some k = sym (cond-false (eqb n 0) None (Some (n - 1)) (ne_eqb _ _ other)) ∙ e in
+      let is : n - 1 ≡ k = cc in omega arith
 ]
 
 -- what the code of a step computes, by cases

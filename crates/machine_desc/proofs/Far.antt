@@ -1,5 +1,5 @@
 -- Each link leads there and back, live links are live from both ends, and the index tells the chips of the grid apart.
-use Rattle.std.proofs.Common.{◌≡◌, ◌≢◌, ℕ, ◌+◌, ◌*◌, ◌<◌, ◌≤◌, Bool, true, false, cond, not, ◌&&◌, Option, Some, None, refl, sym, ap, ◌∙◌, subst, arith, inl, inr, ◌⊎◌, IsTrue}
+use Rattle.std.proofs.Common.{◌≡◌, ℕ, ◌+◌, ◌*◌, ◌<◌, true, false, not, Option, Some, None, refl, sym, ap, ◌∙◌, subst, arith, inl, inr}
 use Rattle.std.proofs.lemmas.Bool.{ltb-true, lt-ltb, and_parts, and_from, cond-true, cond-false, cases_Bool, false≢true}
 use Rattle.std.proofs.lemmas.Nat.{same_from_place, mul-add-lt}
 use Rattle.spin_base.specs.declared.chips.Chip.{Chip}
@@ -8,9 +8,9 @@ use Rattle.spin_base.specs.declared.chips.Dir.TheVariants.{East, NorthEast, Nort
 use Rattle.spin_base.specs.Links.{opposite_of}
 use Rattle.machine_desc.specs.Description.{Description}
 use Rattle.spin_base.specs.Equality.{chip_eq}
-use Rattle.machine_desc.specs.Live.{stepped, x_step, y_step, chip_at, other_than, far_of, is_inside, is_live_chip, is_listed, is_live_between, is_live_link, IsInside, IsLiveChip, IsLiveLink, index_of}
+use Rattle.machine_desc.specs.Live.{stepped, x_step, y_step, chip_at, other_than, far_of, is_listed, is_live_between, IsInside, IsLiveChip, IsLiveLink, index_of}
 use Rattle.machine_desc.proofs.Same.{same_chip, chip_eq_sym}
-use Rattle.machine_desc.proofs.Axis.{turned, x_step-opposite, y_step-opposite, stepped_back, stepped_inside}
+use Rattle.machine_desc.proofs.Axis.{x_step-opposite, y_step-opposite, stepped_back, stepped_inside}
 
 pub opposite_of-opposite : (d : Dir) → opposite_of (opposite_of d) ≡ d
 opposite_of-opposite East = refl
@@ -37,11 +37,11 @@ chip_at-parts None b e h = cc
 other_than-Some : (c e : Chip) (o : Option Chip) → other_than c o ≡ Some e → (o ≡ Some e) × (chip_eq c e ≡ false)
 other_than-Some c e None h = cc
 other_than-Some c e (Some f) h = elim (cases_Bool (chip_eq c f)) [
-    | inl same ↦ let none : None ≡ Some e = sym (cond-true (chip_eq c f) None (Some f) same) ∙ h in cc
-    | inr other ↦
-        let some : Some f ≡ Some e = sym (cond-false (chip_eq c f) None (Some f) other) ∙ h in
-        let is : f ≡ e = cc in
-        (some, subst (λ (g : Chip). chip_eq c g ≡ false) is other)
+  | inl same ↦ let none : None ≡ Some e = sym (cond-true (chip_eq c f) None (Some f) same) ∙ h in cc
+  | inr other ↦
+      let some : Some f ≡ Some e = sym (cond-false (chip_eq c f) None (Some f) other) ∙ h in
+      let is : f ≡ e = cc in
+      (some, subst (λ (g : Chip). chip_eq c g ≡ false) is other)
 ]
 
 pub far_parts : (m : Description) (c e : Chip) (d : Dir) → far_of m c d ≡ Some e →
@@ -62,7 +62,7 @@ far_inside m c e d h f =
     let at = inside_parts m c h in
     let parts = far_parts m c e d f in
     inside_from m e (stepped_inside m.wrap m.width (x_step d) c.x e.x at.0 parts.0)
-        (stepped_inside m.wrap m.height (y_step d) c.y e.y at.1 parts.1)
+    (stepped_inside m.wrap m.height (y_step d) c.y e.y at.1 parts.1)
 
 -- where a link leads from c to e, the opposite link of e leads to c
 pub far_back : (m : Description) (c e : Chip) (d : Dir) → IsInside m c → far_of m c d ≡ Some e → far_of m e (opposite_of d) ≡ Some c
@@ -70,9 +70,9 @@ far_back m c e d h f =
     let at = inside_parts m c h in
     let parts = far_parts m c e d f in
     let across : stepped m.wrap m.width (x_step (opposite_of d)) e.x ≡ Some c.x =
-        rw (x_step-opposite d) (stepped_back m.wrap m.width (x_step d) c.x e.x at.0 parts.0) in
+    rw (x_step-opposite d) (stepped_back m.wrap m.width (x_step d) c.x e.x at.0 parts.0) in
     let up : stepped m.wrap m.height (y_step (opposite_of d)) e.y ≡ Some c.y =
-        rw (y_step-opposite d) (stepped_back m.wrap m.height (y_step d) c.y e.y at.1 parts.1) in
+    rw (y_step-opposite d) (stepped_back m.wrap m.height (y_step d) c.y e.y at.1 parts.1) in
     far_from m e c (opposite_of d) across up (chip_eq_sym e c ∙ parts.2)
 
 pub far_forth : (m : Description) (c e : Chip) (d : Dir) → IsInside m e → far_of m e (opposite_of d) ≡ Some c → far_of m c d ≡ Some e
@@ -99,9 +99,9 @@ live_back m c e d f h =
     let listed = and_parts _ _ (and_parts _ _ here).1 in
     let back : far_of m e (opposite_of d) ≡ Some c = far_back m c e d (live_inside m c lives.0) f in
     let mine : not (is_listed m c (opposite_of (opposite_of d))) ≡ true =
-        subst (λ (o : Dir). not (is_listed m c o) ≡ true) (sym (opposite_of-opposite d)) listed.0 in
+    subst (λ (o : Dir). not (is_listed m c o) ≡ true) (sym (opposite_of-opposite d)) listed.0 in
     subst (λ (o : Option Chip). is_live_between m e (opposite_of d) o ≡ true) (sym back)
-        (and_from _ _ (and_from _ _ lives.1 lives.0) (and_from _ _ listed.1 mine))
+    (and_from _ _ (and_from _ _ lives.1 lives.0) (and_from _ _ listed.1 mine))
 
 pub index_below : (m : Description) (c : Chip) → IsInside m c → index_of m c < m.width * m.height
 index_below m c h = let at = inside_parts m c h in

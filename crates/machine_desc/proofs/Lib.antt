@@ -1,4 +1,5 @@
 pub mod Axis
+pub mod Branches
 pub mod Far
 pub mod Listing
 pub mod Live

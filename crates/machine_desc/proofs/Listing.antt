@@ -1,8 +1,8 @@
 -- A table that tells which things are listed, as the list is read.
-use Rattle.std.proofs.Common.{◌≡◌, ◌≢◌, ℕ, ◌+◌, ◌*◌, ◌<◌, ◌≤◌, Bool, true, false, ◌||◌, List, [], ◌∷◌, length, get_or, take, set, replicate, refl, sym, ap, ◌∙◌, subst, arith, inl, inr}
+use Rattle.std.proofs.Common.{◌≡◌, ℕ, ◌+◌, ◌<◌, ◌≤◌, Bool, true, false, ◌||◌, List, length, get_or, take, set, replicate, sym, ap, ◌∙◌, subst, arith, inl, inr}
 use Rattle.std.specs.List.{list_any}
 use Rattle.std.proofs.lemmas.Bool.{cases_eq, cases_lt, or_right, false_from_ne_true}
-use Rattle.std.proofs.lemmas.Nat.{same_from_place, mul-add-lt}
+use Rattle.std.proofs.lemmas.Nat.{same_from_place}
 use Rattle.std.proofs.lemmas.List.{get_or-set_same, get_or-set_other, get_or-replicate, get_or_past, length-replicate}
 use Rattle.std.proofs.lemmas.List.Folds.{list_any_more}
 use Rattle.std.proofs.Math.Bool.{or-false}
@@ -24,13 +24,12 @@ Tells-none HasPlace place_of same n table listed e = λ k _. rw e (clear (place_
   where
     clear : (i : ℕ) → get_or (replicate n false) i false ≡ false
     clear i = elim (cases_lt i n) [
-        | inl below ↦ get_or-replicate n i false false below
-        | inr past ↦ let long : length (replicate n false) ≤ i = rw (length-replicate n false) past in get_or_past (replicate n false) i false long
+      | inl below ↦ get_or-replicate n i false false below
+      | inr past ↦ let long : length (replicate n false) ≤ i = rw (length-replicate n false) past in get_or_past (replicate n false) i false long
     ]
 
 module _ {K : Type 0} (HasPlace : K → Type 0) (place_of : K → ℕ) (same : K → K → Bool)
     (same_true : (a b : K) → same a b ≡ true → a ≡ b) (same_self : (a : K) → same a a ≡ true) where
-
   -- one more thing is read, and its place written
   pub Tells-more : (apart : (a b : K) → HasPlace a → HasPlace b → place_of a ≡ place_of b → a ≡ b)
       (table : List Bool) (listed : List K) (i p : ℕ) (d : K) → i < length listed → p ≡ place_of (get_or listed i d) →
@@ -39,18 +38,18 @@ module _ {K : Type 0} (HasPlace : K → Type 0) (place_of : K → ℕ) (same : K
   Tells-more apart table listed i p d within at placed below told k has =
       let x : K = get_or listed i d in
       let more : list_any (same k) (take (i + 1) listed) ≡ (list_any (same k) (take i listed) || same k x) =
-          list_any_more (same k) listed i d within in
+      list_any_more (same k) listed i d within in
       elim (cases_eq (place_of k) p) [
         | inl here ↦
             let is : k ≡ x = apart k x has placed (here ∙ at) in
             let mine : same k x ≡ true = subst (λ (y : K). same k y ≡ true) is (same_self k) in
             ap (λ j. get_or (set table p true) j false) here
-                ∙ (get_or-set_same table p true false below ∙ sym (more ∙ or_right _ _ mine))
+            ∙ (get_or-set_same table p true false below ∙ sym (more ∙ or_right _ _ mine))
         | inr other ↦
             let no : same k x ≡ false = false_from_ne_true (same k x) (λ h. other (ap place_of (same_true k x h) ∙ sym at)) in
             get_or-set_other table p (place_of k) true false other
-                ∙ (told k has ∙ (sym (or-false (list_any (same k) (take i listed))) ∙ sym (more ∙ ap (λ t. list_any (same k) (take i listed) || t) no)))
-    ]
+            ∙ (told k has ∙ (sym (or-false (list_any (same k) (take i listed))) ∙ sym (more ∙ ap (λ t. list_any (same k) (take i listed) || t) no)))
+      ]
 
   -- a thing without a place is read, and nothing written
   pub Tells-skip : (table : List Bool) (listed : List K) (i : ℕ) (d : K) → i < length listed →
@@ -59,7 +58,7 @@ module _ {K : Type 0} (HasPlace : K → Type 0) (place_of : K → ℕ) (same : K
   Tells-skip table listed i d within none told k has =
       let x : K = get_or listed i d in
       let more : list_any (same k) (take (i + 1) listed) ≡ (list_any (same k) (take i listed) || same k x) =
-          list_any_more (same k) listed i d within in
+      list_any_more (same k) listed i d within in
       let no : same k x ≡ false = false_from_ne_true (same k x) (λ h. none (subst HasPlace (same_true k x h) has)) in
       told k has ∙ (sym (or-false (list_any (same k) (take i listed))) ∙ sym (more ∙ ap (λ t. list_any (same k) (take i listed) || t) no))
 

@@ -1,6 +1,6 @@
 -- The live chips, as the table counts them.
-use Rattle.std.proofs.Common.{◌≡◌, ℕ, zero, suc, ◌+◌, ◌*◌, ◌/◌, ◌%◌, ◌<◌, ◌≤◌, Bool, true, false, not, ◌&&◌, cond, List, [], ◌∷◌, length, get_or, map, refl, sym, ap, ◌∙◌, subst, arith, IsTrue}
-use Rattle.std.specs.List.{list_any, range_with_len, count_by, All}
+use Rattle.std.proofs.Common.{◌≡◌, ℕ, zero, suc, ◌+◌, ◌*◌, ◌<◌, Bool, false, not, ◌&&◌, cond, List, [], ◌∷◌, length, get_or, map, refl, sym, ap, ◌∙◌, subst, arith}
+use Rattle.std.specs.List.{list_any, count_by, All}
 use Rattle.std.proofs.lemmas.List.{ext_get_or, get_or-map, length-map}
 use Rattle.std.proofs.lemmas.List.FromFn.{get_or-map-range_with_len, length-map-range_with_len}
 use Rattle.std.proofs.lemmas.List.Elements.{All-head, All-tail, All-from_get_or, All-weaker}
@@ -30,21 +30,21 @@ pub count_by-map : {A B : Type 0} (p : B → Bool) (f : A → B) (xs : List A) �
 count_by-map p f [] = refl
 count_by-map p f (x ∷ xs) =
     sum_by-cons (λ b. cond (p b) 1 0) (f x) (map f xs)
-        ∙ (ap (λ n. cond (p (f x)) 1 0 + n) (count_by-map p f xs) ∙ sym (sum_by-cons (λ a. cond (p (f a)) 1 0) x xs))
+    ∙ (ap (λ n. cond (p (f x)) 1 0 + n) (count_by-map p f xs) ∙ sym (sum_by-cons (λ a. cond (p (f a)) 1 0) x xs))
 
 pub count_by_agree : {A : Type 0} (p q : A → Bool) (xs : List A) → All (λ x. p x ≡ q x) xs → count_by p xs ≡ count_by q xs
 count_by_agree p q [] h = refl
 count_by_agree p q (x ∷ xs) h =
     let here : p x ≡ q x = All-head (λ y. p y ≡ q y) x xs h in
     sum_by-cons (λ y. cond (p y) 1 0) x xs
-        ∙ (ap (λ b. cond b 1 0 + count_by p xs) here
-        ∙ (ap (λ n. cond (q x) 1 0 + n) (count_by_agree p q xs (All-tail (λ y. p y ≡ q y) x xs h)) ∙ sym (sum_by-cons (λ y. cond (q y) 1 0) x xs)))
+    ∙ (ap (λ b. cond b 1 0 + count_by p xs) here
+    ∙ (ap (λ n. cond (q x) 1 0 + n) (count_by_agree p q xs (All-tail (λ y. p y ≡ q y) x xs h)) ∙ sym (sum_by-cons (λ y. cond (q y) 1 0) x xs)))
 
 -- the chips of the grid are inside it
 pub grid_chips-inside : (m : Description) → All (IsInside m) (grid_chips m)
 grid_chips-inside m = All-from_get_or (IsInside m) (grid_chips m) (chip_of m 0)
     (λ i h. let below : i < m.width * m.height = rw (← length-map-range_with_len (chip_of m) 0 (m.width * m.height)) h in
-        rw (get_or-map-range_with_len (chip_of m) 0 (m.width * m.height) i i (chip_of m 0) below (omega arith)) (chip_of-inside m i below))
+    rw (get_or-map-range_with_len (chip_of m) 0 (m.width * m.height) i i (chip_of m 0) below (omega arith)) (chip_of-inside m i below))
 
 abbrev is_listed_dead : Description → Chip → Bool
 is_listed_dead m c = list_any (chip_eq c) m.dead_chips
@@ -55,18 +55,18 @@ pub live_counted : (m : Description) (table : List Bool) → length table ≡ m.
     count_by not table ≡ live_count_of m
 live_counted m table long told =
     ap (λ t. count_by not t) same
-        ∙ (count_by-map not (is_listed_dead m) (grid_chips m)
-        ∙ count_by_agree (λ c. not (is_listed_dead m c)) (is_live_chip m) (grid_chips m)
-            (All-weaker (IsInside m) (λ c. not (is_listed_dead m c) ≡ is_live_chip m c)
-                (λ c h. sym (ap (λ b. b && not (is_listed_dead m c)) h ∙ true-and (not (is_listed_dead m c)))) (grid_chips m) (grid_chips-inside m)))
+    ∙ (count_by-map not (is_listed_dead m) (grid_chips m)
+    ∙ count_by_agree (λ c. not (is_listed_dead m c)) (is_live_chip m) (grid_chips m)
+    (All-weaker (IsInside m) (λ c. not (is_listed_dead m c) ≡ is_live_chip m c)
+    (λ c h. sym (ap (λ b. b && not (is_listed_dead m c)) h ∙ true-and (not (is_listed_dead m c)))) (grid_chips m) (grid_chips-inside m)))
   where
     same : table ≡ map (is_listed_dead m) (grid_chips m)
     same = ext_get_or false table (map (is_listed_dead m) (grid_chips m))
         (long ∙ sym (length-map (grid_chips m) (is_listed_dead m) ∙ length-map-range_with_len (chip_of m) 0 (m.width * m.height)))
         (λ i h.
-            let below : i < m.width * m.height = subst (λ n. i < n) long h in
-            let long_too : i < length (grid_chips m) = rw (length-map-range_with_len (chip_of m) 0 (m.width * m.height)) below in
-            ap (λ j. get_or table j false) (sym (index_of-chip_of m i))
-                ∙ (told (chip_of m i) (inside_parts m (chip_of m i) (chip_of-inside m i below))
-                ∙ sym (get_or-map (is_listed_dead m) (grid_chips m) i (chip_of m 0) false long_too
-                    ∙ ap (is_listed_dead m) (get_or-map-range_with_len (chip_of m) 0 (m.width * m.height) i i (chip_of m 0) below (omega arith)))))
+        let below : i < m.width * m.height = subst (λ n. i < n) long h in
+        let long_too : i < length (grid_chips m) = rw (length-map-range_with_len (chip_of m) 0 (m.width * m.height)) below in
+        ap (λ j. get_or table j false) (sym (index_of-chip_of m i))
+        ∙ (told (chip_of m i) (inside_parts m (chip_of m i) (chip_of-inside m i below))
+        ∙ sym (get_or-map (is_listed_dead m) (grid_chips m) i (chip_of m 0) false long_too
+        ∙ ap (is_listed_dead m) (get_or-map-range_with_len (chip_of m) 0 (m.width * m.height) i i (chip_of m 0) below (omega arith)))))

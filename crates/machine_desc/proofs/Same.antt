@@ -1,5 +1,5 @@
 -- The tests of equality say what they are called for.
-use Rattle.std.proofs.Common.{◌≡◌, ℕ, zero, suc, Bool, true, false, refl, sym, ap, subst, ◌∙◌, ◌<◌, lit<}
+use Rattle.std.proofs.Common.{◌≡◌, ℕ, true, false, refl, sym, ap, subst, ◌∙◌, ◌<◌, lit<}
 use Rattle.std.proofs.lemmas.Bool.{and_parts, and_from, eq-eqb}
 use Rattle.spin_base.specs.declared.chips.Chip.{Chip}
 use Rattle.spin_base.specs.declared.chips.Spot.{Spot}
@@ -7,7 +7,7 @@ use Rattle.spin_base.specs.declared.chips.Dir.{Dir}
 use Rattle.spin_base.specs.declared.chips.Dir.TheVariants.{East, NorthEast, North, West, SouthWest, South}
 use Rattle.spin_base.specs.Links.{dir_number}
 use Rattle.machine_desc.specs.declared.trees.Edge.{Edge}
-use Rattle.spin_base.specs.Equality.{chip_eq, dir_eq}
+use Rattle.spin_base.specs.Equality.{chip_eq}
 use Rattle.spin_base.proofs.Equality.{chip_eq_true, chip_eq_same, dir_eq_true, dir_eq_same}
 use Rattle.machine_desc.specs.Equality.{edge_eq}
 
@@ -19,7 +19,7 @@ same_chip a b p q =
 pub same_edge : (a b : Edge) → a.chip ≡ b.chip → a.dir ≡ b.dir → a ≡ b
 same_edge a b p q =
     let first : a ≡ record { chip = b.chip; dir = a.dir } =
-        ap (λ (c : Chip). let e : Edge = record { chip = c; dir = a.dir } in e) p in
+    ap (λ (c : Chip). let e : Edge = record { chip = c; dir = a.dir } in e) p in
     first ∙ ap (λ (d : Dir). let e : Edge = record { chip = b.chip; dir = d } in e) q
 
 pub edge_eq-true : (a b : Edge) → edge_eq a b ≡ true → a ≡ b
@@ -35,14 +35,14 @@ chip_eq-from_same a b e = subst (λ (c : Chip). chip_eq a c ≡ true) e (chip_eq
 
 pub chip_eq_sym : (a b : Chip) → chip_eq a b ≡ chip_eq b a
 chip_eq_sym a b = elim (chip_eq a b) as (λ t. chip_eq a b ≡ t → t ≡ chip_eq b a) [
-    | true ↦ λ h. sym (chip_eq-from_same b a (sym (chip_eq_true a b h)))
-    | false ↦ λ h. elim (chip_eq b a) as (λ t. chip_eq b a ≡ t → false ≡ t) [ true ↦ λ g. sym h ∙ chip_eq-from_same a b (sym (chip_eq_true b a g)) | false ↦ λ _. refl ] refl
+  | true ↦ λ h. sym (chip_eq-from_same b a (sym (chip_eq_true a b h)))
+  | false ↦ λ h. elim (chip_eq b a) as (λ t. chip_eq b a ≡ t → false ≡ t) [ true ↦ λ g. sym h ∙ chip_eq-from_same a b (sym (chip_eq_true b a g)) | false ↦ λ _. refl ] refl
 ] refl
 
 pub same_spot : (a b : Spot) → a.chip ≡ b.chip → a.core ≡ b.core → a ≡ b
 same_spot a b p q =
     let first : a ≡ record { chip = b.chip; core = a.core } =
-        ap (λ (c : Chip). let s : Spot = record { chip = c; core = a.core } in s) p in
+    ap (λ (c : Chip). let s : Spot = record { chip = c; core = a.core } in s) p in
     first ∙ ap (λ (n : ℕ). let s : Spot = record { chip = b.chip; core = n } in s) q
 
 pub same_dir : (a b : Dir) → dir_number a ≡ dir_number b → a ≡ b

@@ -1,5 +1,5 @@
 -- What a contract sees of a machine, and what its tables keep.
-use Rattle.std.specs.Prelude.{◌≡◌, ℕ, ◌*◌, length}
+use Rattle.std.specs.Prelude.{◌≡◌, ◌*◌, length}
 use Rattle.machine_desc.specs.declared.machines.Machine.TheInside.{Inside}
 use Rattle.machine_desc.specs.Description.{Description, HasSize}
 use Rattle.machine_desc.specs.Live.{live_count_of}
@@ -7,13 +7,13 @@ use Rattle.machine_desc.specs.Tables.{TellsChips, TellsCores, TellsLinks, chip_t
 
 abbrev pub described : Inside → Description
 described s = record {
-    width = s.grid.width;
-    height = s.grid.height;
-    wrap = s.wrap;
-    sdram = s.sdram;
-    dead_chips = s.dead_chips;
-    dead_cores = s.dead_cores;
-    dead_links = s.dead_links
+  width = s.grid.width;
+  height = s.grid.height;
+  wrap = s.wrap;
+  sdram = s.sdram;
+  dead_chips = s.dead_chips;
+  dead_cores = s.dead_cores;
+  dead_links = s.dead_links;
 }
 
 -- The tables tell what is listed, and the live chips are counted.

@@ -14,3 +14,6 @@ mod trees;
 
 pub use machines::Machine;
 pub use trees::{Edge, Tree};
+
+#[cfg(test)]
+mod tests;

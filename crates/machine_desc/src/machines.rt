@@ -63,8 +63,15 @@ impl Machine {
         requires chips_inside { All (λ c. (c.x < width) × (c.y < height)) dead_chips.now }
         requires cores_inside { All (λ s. (s.chip.x < width) × (s.chip.y < height)) dead_cores.now }
         requires links_inside { All (λ e. (e.chip.x < width) × (e.chip.y < height)) dead_links.now }
-        ensures { IfOk result (λ m. m ≡ record { width = width; height = height; wrap = wrap; sdram = sdram;
-            dead_chips = dead_chips.now; dead_cores = dead_cores.now; dead_links = dead_links.now }) }
+        ensures { IfOk result (λ m. m ≡ record {
+          width = width;
+          height = height;
+          wrap = wrap;
+          sdram = sdram;
+          dead_chips = dead_chips.now;
+          dead_cores = dead_cores.now;
+          dead_links = dead_links.now;
+        }) }
     {
         let grid = Grid { width, height };
         let chip_listed = grid.chip_table(alloc, dead_chips.as_slice())?;
@@ -183,7 +190,10 @@ impl Machine {
     pub fn usable(&self, s: Spot) -> bool
         ensures { result ≡ is_usable self.now s }
     {
-        self.live(s.chip) && s.core >= 1 && s.core <= 17 && !self.core_listed[self.grid.spot_place(s)]
+        self.live(s.chip)
+            && s.core >= 1
+            && s.core <= 17
+            && !self.core_listed[self.grid.spot_place(s)]
     }
 
     /// Each link leads there and back: for chips `c` and `e` inside the grid, link `d` of `c` leads to `e` exactly where
@@ -191,8 +201,7 @@ impl Machine {
     pub fn links_lead_back(&self)
         ensures { (c e : Chip) (d : Dir) → IsInside self.now c → IsInside self.now e →
             (far_of self.now c d ≡ Some e) ↔ (far_of self.now e (opposite_of d) ≡ Some c) }
-    {
-    }
+    {}
 }
 
 // The number of things that a table doesn't list.

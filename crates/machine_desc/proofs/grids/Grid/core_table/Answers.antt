@@ -6,14 +6,16 @@ use Rattle.machine_desc.proofs.grids.Grid.core_table.Goals.{then-spot-lt18, else
 
 pub loop-spot-preserved : goal.loop-spot-preserved
 loop-spot-preserved c = elim c.if-spot-lt18.branch [
-    | then-spot-lt18 w ↦
-        rw w.table-is
-            (length-set _ _ _ ∙ c.loop-spot.invariant.0,
-                TellsCores-more c.args.self c.loop-spot.table.items c.args.listed.now c.loop-spot.spot-index w.spot_place.result _ c.loop-spot-test.true
-                    w.spot_place.ensures.place (c.requires _ _ c.loop-spot-test.true, w.if-spot-lt18.true) (omega arith) c.loop-spot.invariant.1)
-    | else-spot-lt18 w ↦
-        rw w.table-is
-            (c.loop-spot.invariant.0,
-                TellsCores-skip c.args.self c.loop-spot.table.items c.args.listed.now c.loop-spot.spot-index _ c.loop-spot-test.true
-                    w.if-spot-lt18.false c.loop-spot.invariant.1)
+  | then-spot-lt18 w ↦
+      rw w.table-is (
+        length-set _ _ _ ∙ c.loop-spot.invariant.0,
+        TellsCores-more c.args.self c.loop-spot.table.items c.args.listed.now c.loop-spot.spot-index w.spot_place.result _ c.loop-spot-test.true
+            w.spot_place.ensures.place (c.requires _ _ c.loop-spot-test.true, w.if-spot-lt18.true) (omega arith) c.loop-spot.invariant.1,
+      )
+  | else-spot-lt18 w ↦
+      rw w.table-is (
+        c.loop-spot.invariant.0,
+        TellsCores-skip c.args.self c.loop-spot.table.items c.args.listed.now c.loop-spot.spot-index _ c.loop-spot-test.true
+            w.if-spot-lt18.false c.loop-spot.invariant.1,
+      )
 ]

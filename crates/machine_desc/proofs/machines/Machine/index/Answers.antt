@@ -5,4 +5,4 @@ use Rattle.machine_desc.proofs.machines.Machine.index.Goals as goal
 pub returns-clause-below : goal.returns-clause-below
 returns-clause-below c =
     rw (c.from.ensures, c.from-2.ensures, c.from-3.ensures, ← c.self.view_is)
-        (index_below (described c.self.inside) c.args.c (rw (← c.self.view_is) at c.requires))
+    (index_below (described c.self.inside) c.args.c (rw (← c.self.view_is) at c.requires))
