@@ -107,7 +107,7 @@ back_in at k q = record {
   after_is = map-append (λ (c : McCopy). mark c at) q (k ∷ []);
 }
 
-hand_marks-held : (c : Chip) (k : McCopy) (port : Port) (os : List Out) → hand_marks c (held_for k port os) ≡ map (λ o. mark k (in_hand c o)) os
+pub hand_marks-held : (c : Chip) (k : McCopy) (port : Port) (os : List Out) → hand_marks c (held_for k port os) ≡ map (λ o. mark k (in_hand c o)) os
 hand_marks-held c k port [] = refl
 hand_marks-held c k port (o ∷ os) = refl
 
@@ -117,7 +117,7 @@ hand_marks-held c k port (o ∷ os) = refl
 abbrev behind_unsent : State → List Mark
 behind_unsent s = input_marks s ++ (all_hand_marks s ++ (core_marks s ++ (delivered_marks s ++ dumped_marks s)))
 
-unsent_out : (s : State) (v : ℕ) (k : McCopy) (q : List McCopy) → slice_get s.unsent v ≡ Some (k ∷ q) →
+pub unsent_out : (s : State) (v : ℕ) (k : McCopy) (q : List McCopy) → slice_get s.unsent v ≡ Some (k ∷ q) →
     TakenOut (mark k (unsent v)) (marks_of s) (marks_of (record s { unsent = slice_set s.unsent v q }))
 unsent_out s v k q at =
     let n_is : v ≡ 0 + v = omega arith in
@@ -125,7 +125,7 @@ unsent_out s v k q at =
     (taken_out_gathered (λ w copies. marked (unsent w) copies) (mark k (unsent v)) 0 s.unsent v (k ∷ q) q at
     (subst (λ n. TakenOut (mark k (unsent v)) (marked (unsent n) (k ∷ q)) (marked (unsent n) q)) n_is (front_out (unsent v) k q)))
 
-input_out : (s : State) (c : Chip) (port : Port) → IsInside s.machine c → (k : McCopy) (q : List McCopy) →
+pub input_out : (s : State) (c : Chip) (port : Port) → IsInside s.machine c → (k : McCopy) (q : List McCopy) →
     slice_get s.inputs (queue_at s.machine c port) ≡ Some (k ∷ q) →
     TakenOut (mark k (in_queue c port)) (marks_of s) (marks_of (record s { inputs = slice_set s.inputs (queue_at s.machine c port) q }))
 input_out s c port inside k q at =
@@ -139,7 +139,7 @@ input_out s c port inside k q at =
     (subst (λ st. TakenOut (mark k (in_queue c port)) (marked st (k ∷ q)) (marked st q))
     (sym (station_of_queue s.machine c port inside)) (front_out (in_queue c port) k q))))
 
-input_in : (s : State) (c : Chip) (port : Port) → IsInside s.machine c → (k : McCopy) (q : List McCopy) →
+pub input_in : (s : State) (c : Chip) (port : Port) → IsInside s.machine c → (k : McCopy) (q : List McCopy) →
     slice_get s.inputs (queue_at s.machine c port) ≡ Some q →
     PutIn (mark k (in_queue c port) ∷ []) (marks_of s) (marks_of (record s { inputs = slice_set s.inputs (queue_at s.machine c port) (q ++ k ∷ []) }))
 input_in s c port inside k q at =
@@ -154,7 +154,7 @@ input_in s c port inside k q at =
     (sym (station_of_queue s.machine c port inside)) (back_in (in_queue c port) k q))))
 
 -- the same for the hands: a hand's marks change as the hand does
-hand_out : (s : State) (c : Chip) → IsInside s.machine c → (old new : Option Held) (x : Mark) →
+pub hand_out : (s : State) (c : Chip) → IsInside s.machine c → (old new : Option Held) (x : Mark) →
     slice_get s.hands (index_of s.machine c) ≡ Some old → TakenOut x (hand_marks c old) (hand_marks c new) →
     TakenOut x (marks_of s) (marks_of (record s { hands = slice_set s.hands (index_of s.machine c) new }))
 hand_out s c inside old new x at t =
@@ -168,7 +168,7 @@ hand_out s c inside old new x at t =
     (taken_out_gathered (λ n h. hand_marks (chip_of s.machine n) h) x 0 s.hands i old new at
     (subst (λ d. TakenOut x (hand_marks d old) (hand_marks d new)) (sym n_is) t))))
 
-hand_in : (s : State) (c : Chip) → IsInside s.machine c → (old new : Option Held) (xs : List Mark) →
+pub hand_in : (s : State) (c : Chip) → IsInside s.machine c → (old new : Option Held) (xs : List Mark) →
     slice_get s.hands (index_of s.machine c) ≡ Some old → PutIn xs (hand_marks c old) (hand_marks c new) →
     PutIn xs (marks_of s) (marks_of (record s { hands = slice_set s.hands (index_of s.machine c) new }))
 hand_in s c inside old new xs at t =
@@ -182,7 +182,7 @@ hand_in s c inside old new xs at t =
     (put_in_gathered (λ n h. hand_marks (chip_of s.machine n) h) xs 0 s.hands i old new at
     (subst (λ d. PutIn xs (hand_marks d old) (hand_marks d new)) (sym n_is) t))))
 
-core_out : (s : State) (v : ℕ) (k : McCopy) (q : List McCopy) → slice_get s.cores v ≡ Some (k ∷ q) →
+pub core_out : (s : State) (v : ℕ) (k : McCopy) (q : List McCopy) → slice_get s.cores v ≡ Some (k ∷ q) →
     TakenOut (mark k (at_core v)) (marks_of s) (marks_of (record s { cores = slice_set s.cores v q }))
 core_out s v k q at =
     let s' : State = record s { cores = slice_set s.cores v q } in
@@ -196,7 +196,7 @@ core_out s v k q at =
     (taken_out_gathered (λ w copies. marked (at_core w) copies) x 0 s.cores v (k ∷ q) q at
     (subst (λ n. TakenOut x (marked (at_core n) (k ∷ q)) (marked (at_core n) q)) n_is (front_out (at_core v) k q))))))
 
-core_in : (s : State) (v : ℕ) (k : McCopy) (q : List McCopy) → slice_get s.cores v ≡ Some q →
+pub core_in : (s : State) (v : ℕ) (k : McCopy) (q : List McCopy) → slice_get s.cores v ≡ Some q →
     PutIn (mark k (at_core v) ∷ []) (marks_of s) (marks_of (record s { cores = slice_set s.cores v (q ++ k ∷ []) }))
 core_in s v k q at =
     let s' : State = record s { cores = slice_set s.cores v (q ++ k ∷ []) } in
@@ -210,7 +210,7 @@ core_in s v k q at =
     (put_in_gathered (λ w copies. marked (at_core w) copies) xs 0 s.cores v q (q ++ k ∷ []) at
     (subst (λ n. PutIn xs (marked (at_core n) q) (marked (at_core n) (q ++ k ∷ []))) n_is (back_in (at_core v) k q))))))
 
-delivered_in : (s : State) (v : ℕ) (k : McCopy) →
+pub delivered_in : (s : State) (v : ℕ) (k : McCopy) →
     PutIn (mark k (delivered v) ∷ []) (marks_of s) (marks_of (record s { delivered = s.delivered ++ record { vertex = v; copy = k } ∷ [] }))
 delivered_in s v k =
     let d : Delivery = record { vertex = v; copy = k } in
@@ -228,7 +228,7 @@ delivered_in s v k =
       after_is = map-append (λ (e : Delivery). mark e.copy (delivered e.vertex)) s.delivered (d ∷ []);
     })))))
 
-dumped_in : (s : State) (c : Chip) (o : Out) (k : McCopy) →
+pub dumped_in : (s : State) (c : Chip) (o : Out) (k : McCopy) →
     PutIn (mark k (dumped c o) ∷ []) (marks_of s) (marks_of (record s { dumped = s.dumped ++ record { chip = c; out = o; copy = k } ∷ [] }))
 dumped_in s c o k =
     let r : DumpRec = record { chip = c; out = o; copy = k } in
