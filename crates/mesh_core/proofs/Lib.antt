@@ -1,3 +1,4 @@
 pub mod Events
 pub mod Exchange
 pub mod Moves
+pub mod Ways
