@@ -1,4 +1,5 @@
 pub mod Events
 pub mod Exchange
+pub mod Law
 pub mod Moves
 pub mod Ways
