@@ -23,6 +23,7 @@ use Rattle.machine_desc.specs.RoutingTree.{end_of}
 use Rattle.machine_desc.specs.Branch.{Exit, IsBranch, arrival_at}
 use Rattle.machine_desc.proofs.Branches.{ComesBy, comes_by, exit_leads, ExitLeads, way_first, one_edge_into, exit_of}
 use Rattle.machine_desc.proofs.Far.{opposite_of-opposite}
+use Rattle.machine_desc.proofs.Live.{count_by-map}
 use Rattle.net_tables.specs.declared.nets.NetPlan.{NetPlan}
 use Rattle.net_tables.specs.Outputs.{is_wanted, ComesIn}
 use Rattle.net_tables.specs.RightTables.{IsKeyOf, table_at}
@@ -100,6 +101,13 @@ opposite_injective a b e = sym (opposite_of-opposite a) ∙ (ap opposite_of e �
 
 -- ---- one mark comes for one that leaves
 
+count_none : {X : Type 0} (os : List X) → count_by (λ o. false) os ≡ 0
+count_none [] = refl
+count_none (o ∷ os) = count_by-cons (λ x. false) o os ∙ omega (arith, count_none os)
+
+omega_add : (n : ℕ) → n + 0 ≡ n
+omega_add n = omega arith
+
 module _ (s : State) (net : NetPlan) (stands : Stands s net) where
   -- a way of the net
   abbrev Way : Spot → List Exit → ℕ → ℕ → Type 0
@@ -115,6 +123,19 @@ module _ (s : State) (net : NetPlan) (stands : Stands s net) where
       let within : hop < length xs = place_below xs hop x at in
       let short : length xs ≤ 4096 = short_branch s net stands t xs w.is_branch in
       omega arith
+
+  -- a copy on a trail has a hop number below the greatest, so it gets the outputs of lookup
+  outputs_are : (t : Spot) (xs : List Exit) (from to : ℕ) → Way t xs from to → (c : Chip) (port : Port) (k : McCopy) →
+      on_trail from to xs k.hop (in_queue c port) ≡ true →
+      outputs s c port k ≡ outs_of (lookup (table_at s.machine s.tables c) k.key port)
+  outputs_are t xs from to w c port k on =
+      let there = comes_parts xs k.hop c port on in
+      let small : k.hop < 4096 = small_hop t xs from to w k.hop there.exit there.at in
+      let other : (k.hop == last_hop) ≡ false = not_last k.hop small in
+      ap (λ b. if b then [] else outs_of (lookup (table_at s.machine s.tables c) k.key port)) other
+    where
+      not_last : (n : ℕ) → n < 4096 → (n == last_hop) ≡ false
+      not_last n few = grind arith
 
   -- Inject: the first place of every branch is the injection queue of the source's chip.
   inject_on : (t u : Spot) (xs ys : List Exit) (from from' to to' : ℕ) → Way t xs from to → Way u ys from' to' →
@@ -245,3 +266,96 @@ module _ (s : State) (net : NetPlan) (stands : Stands s net) where
           let exit = slice_get_there ys hop within in
           by_output exit.0 exit.1 exit.0.out refl last u_is
           (exit_leads s.machine net.tree.edges u net.tree.root ys hop exit.0 w'.is_branch exit.1)
+
+  -- Take: of the outputs that lookup gives, a branch that comes in there leaves by one, and any other by none.
+  take_on : (t u : Spot) (xs ys : List Exit) (from from' to to' : ℕ) → Way t xs from to → Way u ys from' to' →
+      (c : Chip) (port : Port) (k : McCopy) → IsKeyOf net.block k.key → on_trail from to xs k.hop (in_queue c port) ≡ true →
+      count_by (is_on_trail from' to' ys) (map (λ o. mark k (in_hand c o)) (outputs s c port k))
+      ≡ (if on_trail from' to' ys k.hop (in_queue c port) then 1 else 0)
+  take_on t u xs ys from from' to to' w w' c port k is_key on =
+      ap (λ os. count_by (is_on_trail from' to' ys) (map (λ o. mark k (in_hand c o)) os)) (outputs_are t xs from to w c port k on)
+      ∙ (count_by-map (is_on_trail from' to' ys) (λ o. mark k (in_hand c o)) (outs_of route)
+      ∙ by_exit (slice_get ys k.hop) refl)
+    where
+      route : Route
+      route = lookup (table_at s.machine s.tables c) k.key port
+
+      there : ComesThere xs k.hop c port
+      there = comes_parts xs k.hop c port on
+
+      comes_in : ComesIn s.machine net.tree.root net.tree.edges c port
+      comes_in =
+          subst (λ (d : Chip). ComesIn s.machine net.tree.root net.tree.edges d port) there.chip
+          (subst (λ (p : Port). ComesIn s.machine net.tree.root net.tree.edges there.exit.chip p) there.port_is
+          (branch_comes_in s net t xs w.is_branch k.hop there.exit there.at))
+
+      by_chip : (x : Exit) → slice_get ys k.hop ≡ Some x → (here : Bool) → chip_eq x.chip c ≡ here →
+          count_by (λ o. here && out_eq x.out o) (outs_of route) ≡ (if here && port_eq (arrival_at ys k.hop) port then 1 else 0)
+      by_chip x at false other = count_none (outs_of route)
+      by_chip x at true same =
+          let x_c : x.chip ≡ c = chip_eq_true x.chip c same in
+          let valid : IsOutput x.out = exit_is_output s net stands u w'.is_target ys w'.is_branch k.hop x at in
+          let wanted : is_wanted net.tree.edges net.targets x.chip x.out ≡ true =
+            exit_wanted s net u w'.is_target ys w'.is_branch k.hop x at
+          in
+          let given : has route x.out ≡ true =
+            stands.right c port k.key x.out comes_in is_key valid
+            ∙ (ap (λ (d : Chip). is_wanted net.tree.edges net.targets d x.out) (sym x_c) ∙ wanted)
+          in
+          let one = one_place s net stands t u xs ys w.is_branch w'.is_branch k.hop k.hop there.exit x there.at at (there.chip ∙ sym x_c) in
+          let arrives : port_eq (arrival_at ys k.hop) port ≡ true =
+            ap (λ (p : Port). port_eq p port) (sym one.1 ∙ there.port_is) ∙ port_eq_same port
+          in
+          outs_once route x.out valid ∙ (ap (λ b. if b then 1 else 0) given ∙ ap (λ b. if b then 1 else 0) (sym arrives))
+
+      by_exit : (x : Option Exit) → slice_get ys k.hop ≡ x →
+          count_by (λ o. leaves_there c o x) (outs_of route) ≡ (if comes_in_there ys k.hop c port x then 1 else 0)
+      by_exit (Some x) at = by_chip x at (chip_eq x.chip c) refl
+      by_exit None at = count_none (outs_of route)
+
+  -- one mark in the place of one, with the same test
+  one_for_one : (p : Mark → Bool) (x y : Mark) → p y ≡ p x → count_by p (y ∷ []) ≡ (if p x then 1 else 0)
+  one_for_one p x y same = count_by-cons p y [] ∙ (omega_add (if p y then 1 else 0) ∙ ap (λ b. if b then 1 else 0) same)
+
+  -- What comes stands on each trail of the net as often as what leaves.
+  pub move_counts : (t u : Spot) (xs ys : List Exit) (from from' to to' : ℕ) → Way t xs from to → Way u ys from' to' →
+      (x : Mark) (come : List Mark) → IsMove s x come → IsKeyOf net.block x.copy.key → is_on_trail from to xs x ≡ true →
+      count_by (is_on_trail from' to' ys) come ≡ (if is_on_trail from' to' ys x then 1 else 0)
+  move_counts t u xs ys from from' to to' w w' x come move is_key on = by_station x.copy x.station move is_key on
+    where
+      p : Mark → Bool
+      p = is_on_trail from' to' ys
+
+      crossing : (k : McCopy) (c : Chip) (o : Out) → Crosses s k c o come → on_trail from to xs k.hop (in_hand c o) ≡ true →
+          count_by p come ≡ (if p (mark k (in_hand c o)) then 1 else 0)
+      crossing k c (Link d) cross on' =
+          let y : Mark = mark (onward k) (in_queue cross.0 (ByLink (opposite_of d))) in
+          ap (λ l. count_by p l) cross.3
+          ∙ one_for_one p (mark k (in_hand c (Link d))) y (link_on t u xs ys from from' to to' w w' c cross.0 d k.hop cross.2 on')
+      crossing k c (Core q) cross on' =
+          let y : Mark = mark (onward k) (at_core cross.0) in
+          ap (λ l. count_by p l) cross.2
+          ∙ one_for_one p (mark k (in_hand c (Core q))) y (core_on t u xs ys from from' to to' w w' c q cross.0 k.hop cross.1 on')
+
+      by_station : (k : McCopy) (at : Station) → IsMoveOf s k at come → IsKeyOf net.block k.key → on_trail from to xs k.hop at ≡ true →
+          count_by p come ≡ (if on_trail from' to' ys k.hop at then 1 else 0)
+      by_station k (unsent v) m key on' =
+          ap (λ l. count_by p l) m.2
+          ∙ one_for_one p (mark k (unsent v)) (mark k (in_queue m.0.chip Local))
+            (inject_on t u xs ys from from' to to' w w' v m.0 k.hop m.1 on')
+      by_station k (in_queue c port) m key on' = ap (λ l. count_by p l) m ∙ take_on t u xs ys from from' to to' w w' c port k key on'
+      by_station k (in_hand c o) (inl m) key on' =
+          ap (λ l. count_by p l) m ∙ one_for_one p (mark k (in_hand c o)) (mark k (dumped c o)) refl
+      by_station k (in_hand c o) (inr m) key on' = crossing k c o m on'
+      by_station k (at_core v) m key on' = ap (λ l. count_by p l) m ∙ one_for_one p (mark k (at_core v)) (mark k (delivered v)) refl
+      by_station k (delivered v) m key on' = absurd m
+      by_station k (dumped c o) m key on' = absurd m
+
+  -- a mark stands on some trail of the net
+  pub record OnSomeTrail (y : Mark) : Type 0 where
+    pub target : Spot
+    pub branch : List Exit
+    pub from : ℕ
+    pub to : ℕ
+    pub way : IsWayOf s net target branch from to
+    pub on : is_on_trail from to branch y ≡ true
