@@ -1,5 +1,5 @@
 -- A move keeps what the ledger says of one net: what comes in the place of a mark stands on the same trails.
-use Rattle.std.proofs.Common.{◌≡◌, ◌≢◌, ℕ, ◌+◌, ◌*◌, ◌<◌, ◌≤◌, ◌^◌, suc, zero, List, [], ◌∷◌, map, filter, Bool, true, false, ◌==◌, ◌&&◌, IsTrue, if◌then◌else◌, cond, Option, Some, None, refl, ap, sym, ◌∙◌, subst, arith, inl, inr, ◌⊎◌, length, min, count_by}
+use Rattle.std.proofs.Common.{◌≡◌, ◌≢◌, ℕ, ◌+◌, ◌*◌, ◌<◌, ◌≤◌, ◌^◌, suc, zero, List, [], ◌∷◌, map, filter, Bool, true, false, ◌==◌, ◌&&◌, IsTrue, if◌then◌else◌, cond, Option, Some, None, refl, ap, sym, ◌∙◌, subst, arith, inl, inr, ◌⊎◌, length, min, count_by, nat_lt}
 use Rattle.std.specs.List.{slice_get, slice_index_or, list_any, All, Any, Contains}
 use Rattle.std.proofs.lemmas.Option.{slice_get_within}
 use Rattle.spin_base.specs.declared.chips.Chip.{Chip}
@@ -14,9 +14,13 @@ use Rattle.spin_base.specs.declared.copies.McCopy.{McCopy}
 use Rattle.spin_base.specs.Links.{opposite_of}
 use Rattle.spin_base.specs.Equality.{chip_eq, spot_eq, port_eq, out_eq}
 use Rattle.spin_base.specs.Lookup.{lookup}
-use Rattle.spin_base.specs.Outputs.{has, outs_of, IsOutput}
+use Rattle.spin_base.specs.Outputs.{has, outs_of, all_outs, IsOutput}
 use Rattle.spin_base.proofs.Equality.{chip_eq_same, chip_eq_true, port_eq_same, port_eq_true, out_eq_same, out_eq_true}
 use Rattle.spin_base.proofs.Once.{outs_once}
+use Rattle.spin_base.proofs.Outputs.{no_high_bit}
+use Rattle.std.specs.Int.{bit_at}
+use Rattle.std.proofs.lemmas.Bool.{ltb-true, ltb-false}
+use Rattle.std.proofs.lemmas.List.Elements.{All-contains}
 use Rattle.machine_desc.specs.declared.trees.Edge.{Edge}
 use Rattle.machine_desc.specs.Live.{far_of, IsLiveLink}
 use Rattle.machine_desc.specs.RoutingTree.{end_of}
@@ -104,6 +108,30 @@ opposite_injective a b e = sym (opposite_of-opposite a) ∙ (ap opposite_of e �
 count_none : {X : Type 0} (os : List X) → count_by (λ o. false) os ≡ 0
 count_none [] = refl
 count_none (o ∷ os) = count_by-cons (λ x. false) o os ∙ omega (arith, count_none os)
+
+-- what a filter keeps passes its test
+among_filter_by : (p : Out → Bool) (o q : Out) (os : List Out) → (b : Bool) → p q ≡ b → (Among o (filter p os) → p o ≡ true) →
+    Among o (cond b (q ∷ filter p os) (filter p os)) → p o ≡ true
+among_filter_by p o q os true passes later (inl here) = ap p here ∙ passes
+among_filter_by p o q os true passes later (inr rest) = later rest
+among_filter_by p o q os false fails later rest = later rest
+
+among_filter : (p : Out → Bool) (o : Out) (os : List Out) → Among o (filter p os) → p o ≡ true
+among_filter p o [] a = absurd a
+among_filter p o (q ∷ os) a = among_filter_by p o q os (p q) refl (among_filter p o os) a
+
+-- an output that a route has is one that a route can name
+has_is_output : (r : Route) (o : Out) → has r o ≡ true → IsOutput o
+has_is_output r (Link d) yes' = tt
+has_is_output r (Core p) yes' = by_size (nat_lt p 18) refl
+  where
+    by_size : (b : Bool) → nat_lt p 18 ≡ b → p < 18
+    by_size true small = ltb-true p 18 small
+    by_size false large =
+        let high : 18 ≤ p = ltb-false p 18 large in
+        let zero_bit : bit_at r.bits (6 + p) ≡ 0 = no_high_bit r (6 + p) (omega arith) in
+        let one_bit : bit_at r.bits (6 + p) ≡ 1 = nat_true (bit_at r.bits (6 + p)) 1 yes' in
+        absurd (omega (arith, zero_bit, one_bit))
 
 omega_add : (n : ℕ) → n + 0 ≡ n
 omega_add n = omega arith
@@ -359,3 +387,89 @@ module _ (s : State) (net : NetPlan) (stands : Stands s net) where
     pub to : ℕ
     pub way : IsWayOf s net target branch from to
     pub on : is_on_trail from to branch y ≡ true
+
+  -- an output that lookup gives at a chip where a branch comes in lies on some branch, at the same place
+  gives_trail : (t : Spot) (xs : List Exit) (from to : ℕ) → Way t xs from to → (c : Chip) (port : Port) (k : McCopy) →
+      IsKeyOf net.block k.key → on_trail from to xs k.hop (in_queue c port) ≡ true → (o : Out) → Among o (outputs s c port k) →
+      OnSomeTrail (mark k (in_hand c o))
+  gives_trail t xs from to w c port k is_key on o given =
+      let there : ComesThere xs k.hop c port = comes_parts xs k.hop c port on in
+      let route : Route = lookup (table_at s.machine s.tables c) k.key port in
+      let in_route : Among o (outs_of route) = subst (λ (l : List Out). Among o l) (outputs_are t xs from to w c port k on) given in
+      let has_it : has route o ≡ true = among_filter (has route) o all_outs in_route in
+      let comes_in : ComesIn s.machine net.tree.root net.tree.edges c port =
+        subst (λ (d : Chip). ComesIn s.machine net.tree.root net.tree.edges d port) there.chip
+        (subst (λ (p : Port). ComesIn s.machine net.tree.root net.tree.edges there.exit.chip p) there.port_is
+        (branch_comes_in s net t xs w.is_branch k.hop there.exit there.at))
+      in
+      let wanted : is_wanted net.tree.edges net.targets c o ≡ true =
+        sym (stands.right c port k.key o comes_in is_key (has_is_output route o has_it)) ∙ has_it
+      in
+      let other = wanted_on_branch s net stands (record { chip = c; out = o }) wanted in
+      let one = one_place s net stands t other.target xs other.branch w.is_branch other.is_branch k.hop other.place there.exit
+          (record { chip = c; out = o }) there.at other.at there.chip
+      in
+      let end = vertex_there s.spots other.target (All-contains (Contains s.spots) net.targets other.target stands.targets other.is_target) in
+      record {
+        target = other.target;
+        branch = other.branch;
+        from = from;
+        to = end.0;
+        way = record { is_target = other.is_target; is_branch = other.is_branch; begins = w.begins; ends = end.1 };
+        on = leaves_from other.branch k.hop c o (ap (slice_get other.branch) one.0 ∙ other.at);
+      }
+
+  -- What comes is of the same packet, with the same key and payload, and stands on some trail of the net.
+  pub record ComesRight (x y : Mark) : Type 0 where
+    pub packet : y.copy.packet ≡ x.copy.packet
+    pub key : y.copy.key ≡ x.copy.key
+    pub payload : y.copy.payload ≡ x.copy.payload
+    pub trail : OnSomeTrail y
+
+  pub move_comes : (t : Spot) (xs : List Exit) (from to : ℕ) → Way t xs from to → (x : Mark) (come : List Mark) →
+      IsMove s x come → IsKeyOf net.block x.copy.key → is_on_trail from to xs x ≡ true → (y : Mark) → Among y come → ComesRight x y
+  move_comes t xs from to w x come move is_key on y is_come = by_station x.copy x.station move is_key on
+    where
+      -- the one mark that comes is on the trail of the one that leaves
+      here : (z : Mark) → is_on_trail from to xs z ≡ true → OnSomeTrail z
+      here z on' = record { target = t; branch = xs; from = from; to = to; way = w; on = on' }
+
+      only : (z : Mark) → come ≡ z ∷ [] → y ≡ z
+      only z e = elim (subst (λ (l : List Mark). Among y l) e is_come) [ inl same ↦ same | inr none ↦ absurd none ]
+
+      -- the one mark that comes is this one
+      one : (k : McCopy) (at : Station) (z : Mark) → come ≡ z ∷ [] → z.copy.packet ≡ k.packet → z.copy.key ≡ k.key → z.copy.payload ≡ k.payload →
+          is_on_trail from to xs z ≡ true → ComesRight (mark k at) y
+      one k at z e packet key payload on' =
+          let same : y ≡ z = only z e in
+          subst (λ (m : Mark). ComesRight (mark k at) m) (sym same)
+          (record { packet = packet; key = key; payload = payload; trail = here z on' })
+
+      crossing : (k : McCopy) (c : Chip) (o : Out) → Crosses s k c o come → on_trail from to xs k.hop (in_hand c o) ≡ true → ComesRight (mark k (in_hand c o)) y
+      crossing k c (Link d) cross on' =
+          one k (in_hand c (Link d)) (mark (onward k) (in_queue cross.0 (ByLink (opposite_of d)))) cross.3 refl refl refl
+          (link_on t t xs xs from from to to w w c cross.0 d k.hop cross.2 on' ∙ on')
+      crossing k c (Core q) cross on' =
+          one k (in_hand c (Core q)) (mark (onward k) (at_core cross.0)) cross.2 refl refl refl
+          (core_on t t xs xs from from to to w w c q cross.0 k.hop cross.1 on' ∙ on')
+
+      taking : (k : McCopy) (c : Chip) (port : Port) → IsKeyOf net.block k.key → on_trail from to xs k.hop (in_queue c port) ≡ true →
+          (os : List Out) → Among y (map (λ o. mark k (in_hand c o)) os) → ((o : Out) → Among o os → Among o (outputs s c port k)) →
+          ComesRight (mark k (in_queue c port)) y
+      taking k c port key on' [] a within = absurd a
+      taking k c port key on' (o ∷ os) (inl same) within =
+          subst (λ (m : Mark). ComesRight (mark k (in_queue c port)) m) (sym same)
+          (record { packet = refl; key = refl; payload = refl; trail = gives_trail t xs from to w c port k key on' o (within o (inl refl)) })
+      taking k c port key on' (o ∷ os) (inr later) within = taking k c port key on' os later (λ p a. within p (inr a))
+
+      by_station : (k : McCopy) (at : Station) → IsMoveOf s k at come → IsKeyOf net.block k.key → on_trail from to xs k.hop at ≡ true → ComesRight (mark k at) y
+      by_station k (unsent v) m key on' =
+          one k (unsent v) (mark k (in_queue m.0.chip Local)) m.2 refl refl refl
+          (inject_on t t xs xs from from to to w w v m.0 k.hop m.1 on' ∙ on')
+      by_station k (in_queue c port) m key on' =
+          taking k c port key on' (outputs s c port k) (subst (λ (l : List Mark). Among y l) m is_come) (λ o a. a)
+      by_station k (in_hand c o) (inl m) key on' = one k (in_hand c o) (mark k (dumped c o)) m refl refl refl on'
+      by_station k (in_hand c o) (inr m) key on' = crossing k c o m on'
+      by_station k (at_core v) m key on' = one k (at_core v) (mark k (delivered v)) m refl refl refl on'
+      by_station k (delivered v) m key on' = absurd m
+      by_station k (dumped c o) m key on' = absurd m
