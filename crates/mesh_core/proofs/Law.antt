@@ -105,7 +105,8 @@ opposite_injective a b e = sym (opposite_of-opposite a) ∙ (ap opposite_of e �
 
 -- ---- one mark comes for one that leaves
 
-count_none : {X : Type 0} (os : List X) → count_by (λ o. false) os ≡ 0
+-- a test that fails counts none
+pub count_none : {X : Type 0} (os : List X) → count_by (λ o. false) os ≡ 0
 count_none [] = refl
 count_none (o ∷ os) = count_by-cons (λ x. false) o os ∙ omega (arith, count_none os)
 
