@@ -1,5 +1,6 @@
 pub mod Events
 pub mod Exchange
+pub mod Gathered
 pub mod Law
 pub mod LedgerLaw
 pub mod Moves

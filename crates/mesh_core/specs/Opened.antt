@@ -8,6 +8,7 @@ use Rattle.spin_base.specs.declared.copies.McCopy.{McCopy}
 use Rattle.spin_base.specs.declared.copies.Packet.{Packet}
 use Rattle.machine_desc.specs.Description.{Description}
 use Rattle.net_tables.specs.declared.nets.NetPlan.{NetPlan}
+use Rattle.net_tables.specs.RightTables.{IsKeyOf}
 use Rattle.mesh_core.specs.State.{State, vertex_at}
 use Rattle.mesh_core.specs.Ledger.{Label, MeetsLedger, marks_of}
 use Rattle.mesh_core.specs.Trail.{Mark}
@@ -52,12 +53,27 @@ abbrev pub opened_mesh : Description → List Spot → List (List Entry) → ℕ
 opened_mesh m spots tables capacity nets packets =
     record (empty_mesh m spots tables capacity) { unsent = map (unsent_of spots nets packets) (range_with_len 0 (length spots)) }
 
--- The ledger of a job: besides the ledger, the packets that have a mark are those of the job's list, each with the key
--- and payload that the job gives it.
-pub record MeetsJobLedger (s : State) (nets : List NetPlan) (packets : List Packet) (labels : ℕ → Label) : Type 0 where
-  pub ledger : MeetsLedger s nets labels
+-- the label of a packet of this net, if there is one
+abbrev pub label_by : Packet → Option NetPlan → Label
+label_by p (Some net) = label_in net p
+label_by p None = record { key = 0; payload = None }
+
+abbrev pub label_at : List NetPlan → Option Packet → Label
+label_at nets (Some p) = label_by p (slice_get nets p.net)
+label_at nets None = record { key = 0; payload = None }
+
+-- A job gives each packet number the key and payload of the packet at that place of its list.
+abbrev pub label_of : List NetPlan → List Packet → ℕ → Label
+label_of nets packets i = label_at nets (slice_get packets i)
+
+-- Each packet of a job is of one of its nets, and has a key of the net's block.
+abbrev pub AreOfNets : List NetPlan → List Packet → Type 0
+AreOfNets nets packets = (i : ℕ) (p : Packet) → slice_get packets i ≡ Some p →
+    (net : NetPlan) × (slice_get nets p.net ≡ Some net) × IsKeyOf net.block (net.block.key + p.index)
+
+-- The ledger of a job: the ledger with the job's keys and payloads, where the packets that have a mark are those of the
+-- job's list.
+pub record MeetsJobLedger (s : State) (nets : List NetPlan) (packets : List Packet) : Type 0 where
+  pub ledger : MeetsLedger s nets (label_of nets packets)
   pub of_the_job : (k : Mark) → Contains (marks_of s) k → k.copy.packet < length packets
-  pub each_packet : (i : ℕ) (p : Packet) → slice_get packets i ≡ Some p →
-      (k : Mark) × Contains (marks_of s) k × (k.copy.packet ≡ i)
-  pub labels_are : (i : ℕ) (p : Packet) (net : NetPlan) → slice_get packets i ≡ Some p → slice_get nets p.net ≡ Some net →
-      labels i ≡ label_in net p
+  pub each_packet : (i : ℕ) → i < length packets → (k : Mark) × Contains (marks_of s) k × (k.copy.packet ≡ i)
