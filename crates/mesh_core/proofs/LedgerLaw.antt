@@ -53,7 +53,7 @@ turned s t same = record { machine = sym same.machine; spots = sym same.spots }
 -- ---- the net of a key
 
 -- the net in whose block a key is, is one
-one_net : (nets : List NetPlan) → HaveDisjointBlocks nets → (a b : NetPlan) → Contains nets a → Contains nets b → (key : ℕ) →
+pub one_net : (nets : List NetPlan) → HaveDisjointBlocks nets → (a b : NetPlan) → Contains nets a → Contains nets b → (key : ℕ) →
     IsKeyOf a.block key → IsKeyOf b.block key → a ≡ b
 one_net nets disjoint a b in_a in_b key key_a key_b = elim (cases_order in_a.0 in_b.0) [
   | inl same ↦ sym in_a.2 ∙ (ap (λ k. slice_index_or nets k a) same ∙ (get_or_default nets in_b.0 a b in_b.1 ∙ in_b.2))

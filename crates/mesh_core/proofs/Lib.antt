@@ -4,4 +4,5 @@ pub mod Gathered
 pub mod Law
 pub mod LedgerLaw
 pub mod Moves
+pub mod OpenedLaw
 pub mod Ways
