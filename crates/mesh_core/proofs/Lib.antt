@@ -3,6 +3,7 @@ pub mod Exchange
 pub mod Gathered
 pub mod Law
 pub mod LedgerLaw
+pub mod MarkTests
 pub mod Moves
 pub mod OpenedLaw
 pub mod Ways
