@@ -1,0 +1,2 @@
+pub mod HandOutputs
+pub mod QueueLists

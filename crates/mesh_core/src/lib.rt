@@ -4,6 +4,11 @@
 //! the ledger of copies are this project's own.
 #![tactic(auto)]
 
+mod hands;
+mod meshes;
 mod places;
+mod queues;
 
+pub use hands::Hand;
+pub use meshes::Mesh;
 pub use places::{Did, Place, Where};
