@@ -1,2 +1,4 @@
+pub mod Changes
 pub mod HandOutputs
 pub mod QueueLists
+pub mod VertexTableLaws

@@ -6,3 +6,4 @@ pub mod State
 pub mod Step
 pub mod Tabled
 pub mod Trail
+pub mod VertexTable

@@ -1,9 +1,12 @@
 -- What a contract sees of a mesh, and what its table of vertices keeps.
-use Rattle.std.specs.Prelude.{◌≡◌, ℕ, ◌+◌, ◌*◌, ◌<◌, length, Some, slice_get}
+use Rattle.std.specs.Prelude.{◌≡◌, ℕ, ◌+◌, ◌*◌, ◌<◌, List, Option, length, Some, slice_get}
 use Rattle.spin_base.specs.declared.chips.Chip.{Chip}
+use Rattle.spin_base.specs.declared.chips.Spot.{Spot}
+use Rattle.machine_desc.specs.Description.{Description}
 use Rattle.machine_desc.specs.Live.{index_of, IsInside}
 use Rattle.mesh_core.specs.declared.meshes.Mesh.TheInside.{Inside}
-use Rattle.mesh_core.specs.State.{State, IsMesh, vertex_at}
+use Rattle.mesh_core.specs.State.{State, IsMesh}
+use Rattle.mesh_core.specs.VertexTable.{TellsVertices}
 
 abbrev pub state_of : Inside → State
 state_of s = record {
@@ -19,8 +22,7 @@ state_of s = record {
     capacity = s.capacity
 }
 
--- The table has, for each of the cores 0 to 17 of each chip, the vertex there.
+-- Every mesh is one, and its table tells the vertices.
 pub record IsTabled (s : Inside) : Type 0 where
   pub mesh : IsMesh (state_of s)
-  pub long : length s.vertices.items ≡ 18 * (s.machine.width * s.machine.height)
-  pub told : (c : Chip) (p : ℕ) → IsInside s.machine c → p < 18 → slice_get s.vertices.items (18 * index_of s.machine c + p) ≡ Some (vertex_at s.spots (record { chip = c; core = p }))
+  pub vertices : TellsVertices s.machine s.spots s.vertices.items

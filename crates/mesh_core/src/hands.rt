@@ -1,12 +1,13 @@
 // What a router holds in hand: a copy, and the outputs by which it still has to leave.
-ghost use Rattle.std.specs.Prelude.{◌≡◌, ◌==◌, [], if◌then◌else◌, position};
+ghost use Rattle.std.specs.Prelude.{◌≡◌, ◌==◌, [], if◌then◌else◌, position, replicate, None, IfOk};
 ghost use Rattle.std.specs.List.{list_any};
 ghost use Rattle.spin_base.specs.Equality.{out_eq};
 ghost use Rattle.spin_base.specs.Lookup.{lookup};
 ghost use Rattle.spin_base.specs.Outputs.{outs_of};
 ghost use Rattle.mesh_core.specs.Step.{without};
 
-use spin_base::{McCopy, Out, Outs, Port};
+use spin_base::{McCopy, Memory, Out, Outs, Port};
+use std::alloc::Global;
 use std::marker::Model;
 use tcam_find::Tcam;
 
@@ -80,4 +81,15 @@ fn place_of(outs: &Outs, out: Out) -> Option<usize>
     ensures { result ≡ position (out_eq out) outs.now.items }
 {
     outs.as_slice().iter().position(|other| other.number() == out.number())
+}
+
+// So many hands that hold nothing.
+pub fn empty_hands(alloc: Global, count: usize) -> Result<Vec<Option<Hand>>, Memory>
+    ensures { IfOk result (λ v. v.items ≡ replicate count None) }
+{
+    let mut hands = Vec::new(alloc);
+    for _ in 0..count {
+        hands.push(None)?;
+    }
+    Ok(hands)
 }

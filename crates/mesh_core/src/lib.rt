@@ -8,6 +8,7 @@ mod hands;
 mod meshes;
 mod places;
 mod queues;
+mod tables;
 
 pub use hands::Hand;
 pub use meshes::Mesh;

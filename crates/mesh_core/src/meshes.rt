@@ -2,7 +2,9 @@
 ghost use Rattle.std.specs.Prelude.{◌≡◌, ◌≢◌, ◌+◌, ◌*◌, ◌<◌, ◌≤◌, ◌++◌, [], ◌∷◌, Some, None, All, AllPairs, length, slice_get, slice_set, slice_index_or, replicate, IfOk, OnOk, OnErr};
 ghost use Rattle.std.specs.Option.{option_copied};
 
-use crate::hands::Hand;
+use crate::hands::{Hand, empty_hands};
+use crate::queues::{empty_queues, push_at};
+use crate::tables::vertex_table;
 use machine_desc::Machine;
 use spin_base::{Chip, Delivery, DumpRec, Fifo, McCopy, Memory, Port, Seq, Spot};
 use std::alloc::Global;
@@ -46,6 +48,55 @@ impl Model for Mesh {
 impl Mesh {
     ghost use Rattle.machine_desc.specs.Live.{index_of, IsInside, IsUsable};
     ghost use Rattle.mesh_core.specs.State.{queue_at};
+    ghost use Rattle.mesh_core.specs.Opened.{empty_mesh};
+    ghost use Rattle.mesh_core.specs.Step.{appended};
+
+    /// A mesh without a copy: for vertices on these cores, with one table for each chip index, and queues of at most
+    /// `queue` copies.
+    pub fn new(
+        alloc: Global,
+        machine: Machine,
+        spots: Seq<Spot>,
+        tcams: Seq<Tcam>,
+        queue: u32,
+    ) -> Result<Mesh, Memory>
+        requires different { AllPairs (λ a b. a ≢ b) spots }
+        requires usable { All (IsUsable machine) spots }
+        requires tables { length tcams ≡ machine.width * machine.height }
+        requires room { 1 ≤ queue }
+        ensures { IfOk result (λ mesh. mesh ≡ empty_mesh machine spots tcams queue) }
+    {
+        let chips = usize::from(machine.width()) * usize::from(machine.height());
+        let vertices = vertex_table(alloc, &machine, spots.as_slice())?;
+        let unsent = empty_queues(alloc, spots.len())?;
+        let inputs = empty_queues(alloc, 7 * chips)?;
+        let hands = empty_hands(alloc, chips)?;
+        let cores = empty_queues(alloc, spots.len())?;
+        Ok(Mesh {
+            machine,
+            spots,
+            vertices,
+            unsent,
+            inputs,
+            hands,
+            cores,
+            delivered: Seq::new(alloc),
+            dumped: Seq::new(alloc),
+            tcams,
+            capacity: queue,
+        })
+    }
+
+    /// Puts a copy that has passed no router at the end of those that vertex `vertex` has not sent yet. After a refusal
+    /// the mesh is as before.
+    pub fn add(&mut self, vertex: u32, copy: McCopy) -> Result<(), Memory>
+        requires exists { vertex < length self.old.spots }
+        requires at_start { copy.hop ≡ 0 }
+        ensures ok { OnOk result (self.new ≡ record self.old { unsent = appended self.old.unsent vertex copy (slice_get self.old.unsent vertex) }) }
+        ensures err { OnErr result (self.new ≡ self.old) }
+    {
+        push_at(&mut self.unsent, vertex as usize, copy)
+    }
 
     /// The copies that vertex `v` has not sent yet, in order.
     pub fn unsent(&self, v: u32) -> &[McCopy]
