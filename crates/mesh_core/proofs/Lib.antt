@@ -1,9 +1,15 @@
+pub mod Changes
 pub mod Events
+pub mod EventsLaw
 pub mod Exchange
 pub mod Gathered
+pub mod HandOutputs
+pub mod Keeping
 pub mod Law
 pub mod LedgerLaw
 pub mod MarkTests
 pub mod Moves
 pub mod OpenedLaw
+pub mod QueueLists
+pub mod VertexTableLaws
 pub mod Ways

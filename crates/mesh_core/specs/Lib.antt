@@ -1,6 +1,9 @@
 pub mod Expected
 pub mod Ledger
 pub mod Opened
+pub mod Queues
 pub mod State
 pub mod Step
+pub mod Tabled
 pub mod Trail
+pub mod VertexTable

@@ -4,6 +4,12 @@
 //! the ledger of copies are this project's own.
 #![tactic(auto)]
 
+mod hands;
+mod meshes;
 mod places;
+mod queues;
+mod tables;
 
+pub use hands::Hand;
+pub use meshes::Mesh;
 pub use places::{Did, Place, Where};
