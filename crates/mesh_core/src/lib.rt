@@ -5,6 +5,7 @@
 #![tactic(auto)]
 
 mod hands;
+pub mod laws;
 mod meshes;
 mod places;
 mod queues;
