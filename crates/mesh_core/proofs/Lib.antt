@@ -1,4 +1,5 @@
 pub mod Changes
+pub mod DeliveredLaw
 pub mod Events
 pub mod EventsLaw
 pub mod Exchange

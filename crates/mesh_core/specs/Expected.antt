@@ -1,5 +1,5 @@
 -- Which deliveries a job asks for.
-use Rattle.std.specs.Prelude.{◌≡◌, ℕ, ◌==◌, ◌&&◌, Contains, List, Some, count_by, length, slice_get}
+use Rattle.std.specs.Prelude.{◌≡◌, ℕ, ◌==◌, ◌&&◌, All, Contains, List, [], None, Some, count_by, length, slice_get}
 use Rattle.spin_base.specs.declared.chips.Spot.{Spot}
 use Rattle.spin_base.specs.declared.copies.Delivery.{Delivery}
 use Rattle.spin_base.specs.declared.copies.Packet.{Packet}
@@ -29,3 +29,10 @@ pub record AreAsExpected (s : State) (nets : List NetPlan) (packets : List Packe
   pub each_once : (i : ℕ) (p : Packet) (net : NetPlan) → slice_get packets i ≡ Some p → slice_get nets p.net ≡ Some net →
       (target : Spot) (branch : List Exit) (from to : ℕ) → IsWayOf s net target branch from to →
       count_by (λ (d : Delivery). (d.copy.packet == i) && (d.vertex == to)) s.delivered ≡ 1
+
+-- Nothing waits and nothing is unsent: each vertex has sent its packets, and every queue and hand is empty.
+pub record IsAtRest (s : State) : Type 0 where
+  pub all_sent : All (λ q. q ≡ []) s.unsent
+  pub inputs_empty : All (λ q. q ≡ []) s.inputs
+  pub hands_empty : All (λ h. h ≡ None) s.hands
+  pub cores_empty : All (λ q. q ≡ []) s.cores
