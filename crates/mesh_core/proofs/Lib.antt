@@ -1,5 +1,6 @@
 pub mod Changes
 pub mod HandOutputs
 pub mod Keeping
+pub mod Moves
 pub mod QueueLists
 pub mod VertexTableLaws

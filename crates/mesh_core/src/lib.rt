@@ -8,6 +8,7 @@ mod hands;
 mod meshes;
 mod places;
 mod queues;
+mod steps;
 mod tables;
 
 pub use hands::Hand;
