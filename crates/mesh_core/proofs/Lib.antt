@@ -3,4 +3,5 @@ pub mod HandOutputs
 pub mod Keeping
 pub mod Moves
 pub mod QueueLists
+pub mod ServingLaws
 pub mod VertexTableLaws
