@@ -1,5 +1,6 @@
 -- Where an event is enabled, and the mesh after it, by what the code looks at.
-use Rattle.std.proofs.Common.{◌≡◌, ℕ, refl, sym, ap, ◌∙◌, Bool, true, false, not, ◌&&◌, if◌then◌else◌, List, [], ◌∷◌, ◌++◌, set, Option, Some, None}
+use Rattle.std.proofs.Common.{◌≡◌, ℕ, refl, sym, ap, ◌∙◌, Bool, true, false, not, ◌&&◌, if◌then◌else◌, List, [], ◌∷◌, ◌++◌, set, Option, Some, None, is_some}
+use Rattle.std.specs.Prelude.{unwrap_or}
 use Rattle.std.specs.List.{slice_get}
 use Rattle.std.proofs.lemmas.Bool.{and_from}
 use Rattle.spin_base.specs.declared.chips.Chip.{Chip}
@@ -9,13 +10,22 @@ use Rattle.spin_base.specs.declared.chips.Port.TheVariants.{Local}
 use Rattle.spin_base.specs.declared.routes.Out.{Out}
 use Rattle.spin_base.specs.declared.copies.McCopy.{McCopy}
 use Rattle.spin_base.specs.declared.copies.DumpRec.{DumpRec}
+use Rattle.spin_base.specs.declared.copies.Event.{Event}
 use Rattle.spin_base.specs.declared.copies.Event.TheVariants.{Inject, Take, Send, Dump, Collect}
 use Rattle.machine_desc.specs.Live.{index_of, is_live_chip}
+use Rattle.mesh_core.specs.declared.places.Did.TheVariants.{Moved, Idle}
 use Rattle.mesh_core.specs.Queues.{front_of, shortened}
 use Rattle.mesh_core.specs.Serving.{copy_served, inputs_after, cores_after, hands_after}
 use Rattle.mesh_core.specs.State.{State, Held, Behind, input, core, nowhere, behind, queue_at}
-use Rattle.mesh_core.specs.Step.{onward, outputs, in_hand, has_room, has_room_behind, appended, arrived, injected, taken, serves, served, sent, dumped_at, stepped}
+use Rattle.mesh_core.specs.Step.{onward, outputs, in_hand, has_room, has_room_behind, appended, arrived, injected, taken, serves, served, sent, dumped_at, stepped, answer, after_event}
 use Rattle.mesh_core.proofs.Keeping.{if_some}
+
+-- what a step answers and leaves where the event is enabled
+pub answer-moved : (s t : State) (e : Event) → stepped s e ≡ Some t → Moved ≡ answer s e
+answer-moved s t e moves = sym (ap (λ (o : Option State). if is_some o then Moved else Idle) moves)
+
+pub after_event-moved : (s t : State) (e : Event) → stepped s e ≡ Some t → t ≡ after_event s e
+after_event-moved s t e moves = sym (ap (λ (o : Option State). unwrap_or o s) moves)
 
 -- a list of copies with a front
 inject_by : (s : State) (v : ℕ) (spot : Spot) (k : McCopy) (q : Option (List McCopy)) → slice_get s.unsent v ≡ q → front_of q ≡ Some k →

@@ -1,17 +1,23 @@
 -- Serving an output: the hands after it, and the queue behind it.
-use Rattle.std.proofs.Common.{◌≡◌, ◌≢◌, ℕ, ◌<◌, ◌≤◌, ◌+◌, refl, sym, ap, ◌∙◌, arith, Bool, true, false, List, [], ◌∷◌, length, get_or, set, Option, Some, None}
+use Rattle.std.proofs.Common.{◌≡◌, ◌≢◌, ℕ, ◌<◌, ◌≤◌, ◌+◌, refl, sym, ap, ◌∙◌, arith, Bool, true, false, List, [], ◌∷◌, length, get_or, set, Option, Some, None, ◌==◌, if◌then◌else◌, is_some}
 use Rattle.std.specs.List.{All, slice_get, position_from}
 use Rattle.std.proofs.lemmas.List.{set-set}
 use Rattle.std.proofs.lemmas.List.Elements.{All-head, All-tail}
 use Rattle.std.proofs.lemmas.List.Quantifiers.{position-Some}
-use Rattle.std.proofs.lemmas.Option.{slice_get-get_or}
+use Rattle.std.proofs.lemmas.Option.{slice_get-get_or, get_or_from_slice_get}
+use Rattle.spin_base.specs.declared.chips.Chip.{Chip}
+use Rattle.spin_base.specs.declared.chips.Port.{Port}
 use Rattle.spin_base.specs.declared.chips.Spot.{Spot}
+use Rattle.spin_base.specs.declared.blocks.Entry.{Entry}
+use Rattle.spin_base.specs.declared.copies.McCopy.{McCopy}
+use Rattle.spin_base.specs.Lookup.{lookup}
+use Rattle.spin_base.specs.Outputs.{outs_of}
 use Rattle.spin_base.specs.declared.routes.Out.{Out}
 use Rattle.spin_base.specs.Equality.{spot_eq}
 use Rattle.machine_desc.specs.Description.{Description}
-use Rattle.machine_desc.specs.Live.{IsInside, IsUsable}
-use Rattle.mesh_core.specs.State.{Held, vertex_at}
-use Rattle.mesh_core.specs.Step.{in_hand, without}
+use Rattle.machine_desc.specs.Live.{index_of, IsInside, IsUsable}
+use Rattle.mesh_core.specs.State.{State, Held, vertex_at}
+use Rattle.mesh_core.specs.Step.{in_hand, last_hop, outputs, without}
 use Rattle.mesh_core.specs.Serving.{hands_after}
 use Rattle.mesh_core.specs.VertexTable.{TellsVertices, core_place}
 use Rattle.mesh_core.proofs.QueueLists.{set-slice_get}
@@ -56,3 +62,20 @@ vertex_read m spots table s p r tells inside small at read =
     let here : slice_get table p ≡ Some r = slice_get-get_or table p r below ∙ ap Some (sym read) in
     let same : Some (vertex_at spots s) ≡ Some r = sym (tells.told s inside small) ∙ (ap (slice_get table) (sym at) ∙ here) in
     cc
+
+-- the outputs that a router gives, by the table that was looked up
+pub outputs_read : (s : State) (c : Chip) (port : Port) (k : McCopy) (n : ℕ) (table : List Entry) → n ≡ index_of s.machine c → slice_get s.tables n ≡ Some table →
+    (if k.hop == last_hop then [] else outs_of (lookup table k.key port)) ≡ outputs s c port k
+outputs_read s c port k n table at here =
+    let is : table ≡ get_or s.tables (index_of s.machine c) [] =
+        sym (get_or_from_slice_get s.tables n table [] here) ∙ ap (λ i. get_or s.tables i []) at
+    in
+    ap (λ (t : List Entry). if k.hop == last_hop then [] else outs_of (lookup t k.key port)) is
+
+-- a hand that isn't there
+pub no_hand : (hands : List (Option Held)) (i : ℕ) (x : Option Held) → i < length hands → x ≡ get_or hands i x → is_some x ≡ false → slice_get hands i ≡ Some None
+no_hand hands i x below read none = slice_get-get_or hands i x below ∙ ap Some (sym read ∙ is_none_from x none)
+  where
+    is_none_from : (x : Option Held) → is_some x ≡ false → x ≡ None
+    is_none_from None e = refl
+    is_none_from (Some h) e = cc
