@@ -1,4 +1,5 @@
 pub mod Changes
+pub mod Fixed
 pub mod HandOutputs
 pub mod Keeping
 pub mod Moves

@@ -10,6 +10,8 @@ mod places;
 mod queues;
 mod steps;
 mod tables;
+#[cfg(test)]
+mod tests;
 
 pub use hands::Hand;
 pub use meshes::Mesh;

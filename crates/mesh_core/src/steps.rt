@@ -9,12 +9,39 @@ use crate::hands::{Hand, serve};
 use crate::meshes::{Mesh, queue_place};
 use crate::places::Did;
 use crate::queues::{Queue, drop_front, front, has_room, push_at, push_behind};
-use spin_base::{Chip, Delivery, Dir, DumpRec, McCopy, Memory, Out, Port, Spot};
+use spin_base::{Chip, Delivery, Dir, DumpRec, Event, McCopy, Memory, Out, Port, Spot};
 
 impl Mesh {
     ghost use Rattle.spin_base.specs.declared.copies.Event.TheVariants.{Inject, Take, Send, Dump, Collect};
     ghost use Rattle.spin_base.specs.declared.routes.Out.TheVariants.{Link, Core};
     ghost use Rattle.mesh_core.specs.Step.{after_event, answer};
+
+    /// One event: `Moved` exactly where it is enabled, and `Idle` exactly where it isn't, and then nothing changes.
+    ///
+    /// `Inject` takes a vertex's first unsent copy to the back of its chip's injection queue, where that isn't full.
+    /// `Take` takes the front copy at a port into the free hand of a live chip, with the outputs that the chip's table
+    /// gives, or with none where its hop number is the greatest; without an output the copy is gone. `Send` takes the
+    /// copy in hand, with one hop more, to the back of the queue behind one of its outputs, where that isn't full.
+    /// `Dump` records the copy and drops it for an output behind which is a full queue or none. `Collect` delivers the
+    /// front copy in the queue of a vertex's core. An event of a vertex or a chip that isn't there is not enabled.
+    ///
+    /// It moves what it moves: its cost does not depend on the size of the mesh. After a refusal the mesh is as before.
+    #[tactic(auto, using(crate::proofs::Fixed::after_event_machine, crate::proofs::Fixed::after_event_spots))]
+    pub fn step(&mut self, e: Event) -> Result<Did, Memory>
+        ensures answer { IfOk result (λ did. did ≡ answer self.old e) }
+        ensures moves { OnOk result (self.new ≡ after_event self.old e) }
+        ensures err { OnErr result (self.new ≡ self.old) }
+        ensures machine_stays { self.new.machine ≡ self.old.machine }
+        ensures vertices_stay { self.new.spots ≡ self.old.spots }
+    {
+        match e {
+            Event::Inject(vertex) => self.inject(vertex),
+            Event::Take(chip, port) => Ok(self.take(chip, port)),
+            Event::Send(chip, out) => self.send(chip, out),
+            Event::Dump(chip, out) => self.dump(chip, out),
+            Event::Collect(vertex) => self.collect(vertex),
+        }
+    }
 
     // The vertex sends its first unsent copy to its chip's injection queue.
     fn inject(&mut self, v: u32) -> Result<Did, Memory>
