@@ -3,6 +3,7 @@ pub mod DeliveredLaw
 pub mod Events
 pub mod EventsLaw
 pub mod Exchange
+pub mod Fixed
 pub mod Gathered
 pub mod HandOutputs
 pub mod Keeping
@@ -12,5 +13,7 @@ pub mod MarkTests
 pub mod Moves
 pub mod OpenedLaw
 pub mod QueueLists
+pub mod ServingLaws
+pub mod StepParts
 pub mod VertexTableLaws
 pub mod Ways

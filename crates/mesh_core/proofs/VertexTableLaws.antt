@@ -49,7 +49,7 @@ position-push_new t (x ∷ xs) y n same none =
     let here : t x ≡ false = All-head (λ z. t z ≡ false) x xs none in
     rw here (position-push_new t xs y (n + 1) same (All-tail (λ z. t z ≡ false) x xs none) ∙ ap Some (omega arith))
 
-vertex_at-from : (spots : List Spot) (s : Spot) → vertex_at spots s ≡ position_from (spot_eq s) 0 spots
+pub vertex_at-from : (spots : List Spot) (s : Spot) → vertex_at spots s ≡ position_from (spot_eq s) 0 spots
 vertex_at-from spots s = position_from-zero (spot_eq s) spots
 
 other_spot : (a b : Spot) → a ≢ b → (t : Bool) → spot_eq a b ≡ t → t ≡ false

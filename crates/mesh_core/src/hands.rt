@@ -1,10 +1,11 @@
 // What a router holds in hand: a copy, and the outputs by which it still has to leave.
-ghost use Rattle.std.specs.Prelude.{◌≡◌, ◌==◌, [], if◌then◌else◌, position, replicate, None, IfOk};
+ghost use Rattle.std.specs.Prelude.{◌≡◌, ◌==◌, [], if◌then◌else◌, position, replicate, None, IfOk, ◌<◌, length, slice_get};
 ghost use Rattle.std.specs.List.{list_any};
 ghost use Rattle.spin_base.specs.Equality.{out_eq};
 ghost use Rattle.spin_base.specs.Lookup.{lookup};
 ghost use Rattle.spin_base.specs.Outputs.{outs_of};
 ghost use Rattle.mesh_core.specs.Step.{without};
+ghost use Rattle.mesh_core.specs.Serving.{hands_after};
 
 use spin_base::{McCopy, Memory, Out, Outs, Port};
 use std::alloc::Global;
@@ -92,4 +93,14 @@ pub fn empty_hands(alloc: Global, count: usize) -> Result<Vec<Option<Hand>>, Mem
         hands.push(None)?;
     }
     Ok(hands)
+}
+
+// The chip's router has served an output.
+pub fn serve(hands: &mut [Option<Hand>], chip: usize, out: Out)
+    requires { chip < length hands.old }
+    ensures { hands.new ≡ hands_after hands.old chip out (slice_get hands.old chip) }
+{
+    if let Some(hand) = hands[chip].take() {
+        hands[chip] = hand.without(out);
+    }
 }

@@ -9,7 +9,10 @@ pub mod laws;
 mod meshes;
 mod places;
 mod queues;
+mod steps;
 mod tables;
+#[cfg(test)]
+mod tests;
 
 pub use hands::Hand;
 pub use meshes::Mesh;

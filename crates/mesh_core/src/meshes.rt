@@ -1,6 +1,8 @@
 // The mesh: its lists, and what can be asked of them.
 ghost use Rattle.std.specs.Prelude.{◌≡◌, ◌≢◌, ◌+◌, ◌*◌, ◌<◌, ◌≤◌, ◌++◌, [], ◌∷◌, Some, None, All, AllPairs, length, slice_get, slice_set, slice_index_or, replicate, IfOk, OnOk, OnErr};
 ghost use Rattle.std.specs.Option.{option_copied};
+ghost use Rattle.machine_desc.specs.Live.{IsInside as IsInsideGrid};
+ghost use Rattle.mesh_core.specs.State.{queue_at as place_of_queue};
 
 use crate::hands::{Hand, empty_hands};
 use crate::queues::{empty_queues, push_at};
@@ -119,8 +121,7 @@ impl Mesh {
         requires { IsInside self.now.machine c }
         ensures { slice_get self.now.inputs (queue_at self.now.machine c port) ≡ Some result.now }
     {
-        let place = 7 * self.machine.index(c) as usize + port.number() as usize;
-        self.inputs[place].as_slice()
+        self.inputs[queue_place(&self.machine, c, port)].as_slice()
     }
 
     /// What the chip's router holds, and `None` exactly where it holds nothing.
@@ -144,4 +145,13 @@ impl Mesh {
     {
         self.dumped.as_slice()
     }
+}
+
+// The place of an input queue in the list of them.
+pub(crate) fn queue_place(machine: &Machine, c: Chip, port: Port) -> usize
+    requires { IsInsideGrid machine.now c }
+    ensures place { result ≡ place_of_queue machine.now c port }
+    ensures below { result < 7 * (machine.now.width * machine.now.height) }
+{
+    7 * machine.index(c) as usize + usize::from(port.number())
 }
