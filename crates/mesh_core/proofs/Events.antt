@@ -1,0 +1,329 @@
+-- Each event that is enabled is one move of marks.
+use Rattle.std.proofs.Common.{◌≡◌, ℕ, ◌+◌, ◌<◌, ◌≤◌, List, [], ◌∷◌, ◌++◌, map, Bool, true, false, ◌&&◌, not, IsTrue, if◌then◌else◌, Option, Some, None, refl, ap, sym, ◌∙◌, subst, arith, inl, inr, ◌⊎◌, length, nat_lt, ◌||◌, append-nil}
+use Rattle.std.specs.List.{slice_get, slice_set, slice_index_or, list_any, All}
+use Rattle.std.proofs.lemmas.Option.{slice_get_within, get_or_from_slice_get}
+use Rattle.spin_base.specs.declared.chips.Chip.{Chip}
+use Rattle.spin_base.specs.declared.chips.Dir.{Dir}
+use Rattle.spin_base.specs.declared.chips.Spot.{Spot}
+use Rattle.spin_base.specs.declared.chips.Port.{Port}
+use Rattle.spin_base.specs.declared.chips.Port.TheVariants.{Link as ByLink, Local}
+use Rattle.spin_base.specs.declared.routes.Out.{Out}
+use Rattle.spin_base.specs.declared.routes.Out.TheVariants.{Link, Core}
+use Rattle.spin_base.specs.declared.copies.McCopy.{McCopy}
+use Rattle.spin_base.specs.declared.copies.Event.{Event}
+use Rattle.spin_base.specs.declared.copies.Event.TheVariants.{Inject, Take, Send, Dump, Collect}
+use Rattle.spin_base.specs.Links.{opposite_of}
+use Rattle.spin_base.specs.Equality.{out_eq}
+use Rattle.spin_base.proofs.Equality.{out_eq_true}
+use Rattle.machine_desc.specs.Description.{Description}
+use Rattle.machine_desc.specs.Live.{far_of, index_of, is_live_chip, is_live_link, IsInside, IsLiveChip, IsLiveLink, IsUsable}
+use Rattle.machine_desc.proofs.Far.{live_inside, live_ends, far_inside}
+use Rattle.mesh_core.specs.State.{State, Held, IsMesh, Behind, input, core, nowhere, behind, across, core_of, queue_at, vertex_at}
+use Rattle.mesh_core.specs.Step.{stepped, injected, taken, sent, dumped_at, collected, has_room, has_room_behind, arrived, appended, in_hand as held_for, without, serves, served, outputs, onward}
+use Rattle.mesh_core.specs.Trail.{Station, unsent, in_queue, in_hand, at_core, delivered, dumped, Mark}
+use Rattle.mesh_core.specs.Ledger.{marks_of, hand_marks}
+use Rattle.mesh_core.proofs.Exchange.{TakenOut, PutIn, taken_out_after}
+use Rattle.mesh_core.proofs.Moves.{mark, Crosses, Exchange, unsent_out, input_out, input_in, hand_out, hand_in, core_out, core_in, delivered_in, dumped_in, hand_marks-held}
+
+-- ---- a queue with room is there
+
+pub room_is_there : (capacity : ℕ) (q : Option (List McCopy)) → has_room capacity q ≡ true → (l : List McCopy) × (q ≡ Some l)
+room_is_there capacity (Some l) room = (l, refl)
+room_is_there capacity None room = cc
+
+appended_is : (lists : List (List McCopy)) (i : ℕ) (k : McCopy) (q : Option (List McCopy)) (l : List McCopy) → q ≡ Some l → appended lists i k q ≡ slice_set lists i (l ++ k ∷ [])
+appended_is lists i k (Some l') l e = let same : l' ≡ l = cc in ap (λ v. slice_set lists i (v ++ k ∷ [])) same
+appended_is lists i k None l e = cc
+
+-- a copy that arrives changes neither machine, vertices, tables nor capacity
+arrived_machine : (s : State) (b : Behind) (k : McCopy) → (arrived s b k).machine ≡ s.machine
+arrived_machine s (input i) k = refl
+arrived_machine s (core v) k = refl
+arrived_machine s nowhere k = refl
+
+arrived_spots : (s : State) (b : Behind) (k : McCopy) → (arrived s b k).spots ≡ s.spots
+arrived_spots s (input i) k = refl
+arrived_spots s (core v) k = refl
+arrived_spots s nowhere k = refl
+
+arrived_tables : (s : State) (b : Behind) (k : McCopy) → (arrived s b k).tables ≡ s.tables
+arrived_tables s (input i) k = refl
+arrived_tables s (core v) k = refl
+arrived_tables s nowhere k = refl
+
+arrived_capacity : (s : State) (b : Behind) (k : McCopy) → (arrived s b k).capacity ≡ s.capacity
+arrived_capacity s (input i) k = refl
+arrived_capacity s (core v) k = refl
+arrived_capacity s nowhere k = refl
+
+pub and_true_left : (a b : Bool) → (a && b) ≡ true → a ≡ true
+and_true_left true b e = refl
+and_true_left false b e = e
+
+pub and_true_right : (a b : Bool) → (a && b) ≡ true → b ≡ true
+and_true_right true b e = e
+and_true_right false b e = cc
+
+-- the copy that arrives in an input queue with room
+arrives_at_input : (s : State) (c : Chip) (port : Port) → IsInside s.machine c → (k : McCopy) →
+    has_room_behind s (input (queue_at s.machine c port)) ≡ true →
+    PutIn (mark k (in_queue c port) ∷ []) (marks_of s) (marks_of (arrived s (input (queue_at s.machine c port)) k))
+arrives_at_input s c port inside k room =
+    let there = room_is_there s.capacity (slice_get s.inputs (queue_at s.machine c port)) room in
+    subst (λ (l : List (List McCopy)). PutIn (mark k (in_queue c port) ∷ []) (marks_of s) (marks_of (record s { inputs = l })))
+    (sym (appended_is s.inputs (queue_at s.machine c port) k (slice_get s.inputs (queue_at s.machine c port)) there.0 there.1))
+    (input_in s c port inside k there.0 there.1)
+
+arrives_at_core : (s : State) (v : ℕ) (k : McCopy) → has_room_behind s (core v) ≡ true →
+    PutIn (mark k (at_core v) ∷ []) (marks_of s) (marks_of (arrived s (core v) k))
+arrives_at_core s v k room =
+    let there = room_is_there s.capacity (slice_get s.cores v) room in
+    subst (λ (l : List (List McCopy)). PutIn (mark k (at_core v) ∷ []) (marks_of s) (marks_of (record s { cores = l })))
+    (sym (appended_is s.cores v k (slice_get s.cores v) there.0 there.1))
+    (core_in s v k there.0 there.1)
+
+-- ---- Inject
+
+-- the chip of a vertex is inside the grid
+vertex_inside : (s : State) → IsMesh s → (v : ℕ) (spot : Spot) → slice_get s.spots v ≡ Some spot → IsInside s.machine spot.chip
+vertex_inside s mesh v spot is =
+    let within = slice_get_within s.spots v spot is in
+    let there : slice_index_or s.spots v spot ≡ spot = get_or_from_slice_get s.spots v spot spot is in
+    let usable : IsUsable s.machine spot = subst (λ (x : Spot). IsUsable s.machine x) there (mesh.usable v spot within) in
+    live_inside s.machine spot.chip (and_true_left (is_live_chip s.machine spot.chip) _ usable)
+
+inject_by_room : (s : State) (v : ℕ) (spot : Spot) (k : McCopy) (rest : List McCopy) → IsInside s.machine spot.chip →
+    slice_get s.spots v ≡ Some spot → slice_get s.unsent v ≡ Some (k ∷ rest) →
+    (room : Bool) → has_room_behind s (input (queue_at s.machine spot.chip Local)) ≡ room → (t : State) →
+    (if room then Some (arrived (record s { unsent = slice_set s.unsent v rest }) (input (queue_at s.machine spot.chip Local)) k) else None) ≡ Some t →
+    Exchange s t
+inject_by_room s v spot k rest inside is_spot is_unsent false full t e = cc
+inject_by_room s v spot k rest inside is_spot is_unsent true room t e =
+    let between : State = record s { unsent = slice_set s.unsent v rest } in
+    let next : State = arrived between (input (queue_at s.machine spot.chip Local)) k in
+    let same : next ≡ t = cc in
+    subst (λ (u : State). Exchange s u) same (record {
+      leaves = mark k (unsent v);
+      come = mark k (in_queue spot.chip Local) ∷ [];
+      rest = marks_of between;
+      out = unsent_out s v k rest is_unsent;
+      put = arrives_at_input between spot.chip Local inside k room;
+      move = (spot, is_spot, refl);
+      machine = refl;
+      spots = refl;
+      tables = refl;
+      capacity = refl;
+    })
+
+inject_exchange : (s : State) → IsMesh s → (v : ℕ) (spot : Option Spot) (copies : Option (List McCopy)) →
+    slice_get s.spots v ≡ spot → slice_get s.unsent v ≡ copies → (t : State) → injected s v spot copies ≡ Some t → Exchange s t
+inject_exchange s mesh v (Some spot) (Some (k ∷ rest)) is_spot is_unsent t e =
+    inject_by_room s v spot k rest (vertex_inside s mesh v spot is_spot) is_spot is_unsent
+    (has_room_behind s (input (queue_at s.machine spot.chip Local))) refl t e
+inject_exchange s mesh v (Some spot) (Some []) is_spot is_unsent t e = cc
+inject_exchange s mesh v (Some spot) None is_spot is_unsent t e = cc
+inject_exchange s mesh v None copies is_spot is_unsent t e = cc
+
+-- ---- Take
+
+take_by_life : (s : State) (c : Chip) (port : Port) (k : McCopy) (rest : List McCopy) →
+    slice_get s.hands (index_of s.machine c) ≡ Some None → slice_get s.inputs (queue_at s.machine c port) ≡ Some (k ∷ rest) →
+    (live : Bool) → is_live_chip s.machine c ≡ live → (t : State) →
+    (if live then Some (record s {
+      inputs = slice_set s.inputs (queue_at s.machine c port) rest;
+      hands = slice_set s.hands (index_of s.machine c) (held_for k port (outputs s c port k)) }) else None) ≡ Some t →
+    Exchange s t
+take_by_life s c port k rest is_free is_queue false dead t e = cc
+take_by_life s c port k rest is_free is_queue true live t e =
+    let inside : IsInside s.machine c = live_inside s.machine c live in
+    let between : State = record s { inputs = slice_set s.inputs (queue_at s.machine c port) rest } in
+    let outs = outputs s c port k in
+    let next : State = record between { hands = slice_set s.hands (index_of s.machine c) (held_for k port outs) } in
+    let same : next ≡ t = cc in
+    let come : List Mark = map (λ o. mark k (in_hand c o)) outs in
+    subst (λ (u : State). Exchange s u) same (record {
+      leaves = mark k (in_queue c port);
+      come = come;
+      rest = marks_of between;
+      out = input_out s c port inside k rest is_queue;
+      put = hand_in between c inside None (held_for k port outs) come is_free (record {
+        front = [];
+        back = [];
+        before_is = refl;
+        after_is = hand_marks-held c k port outs ∙ sym (append-nil come);
+      });
+      move = refl;
+      machine = refl;
+      spots = refl;
+      tables = refl;
+      capacity = refl;
+    })
+
+take_exchange : (s : State) (c : Chip) (port : Port) (hand : Option (Option Held)) (queue : Option (List McCopy)) →
+    slice_get s.hands (index_of s.machine c) ≡ hand → slice_get s.inputs (queue_at s.machine c port) ≡ queue →
+    (t : State) → taken s c port hand queue ≡ Some t → Exchange s t
+take_exchange s c port (Some None) (Some (k ∷ rest)) is_free is_queue t e = take_by_life s c port k rest is_free is_queue (is_live_chip s.machine c) refl t e
+take_exchange s c port (Some None) (Some []) is_free is_queue t e = cc
+take_exchange s c port (Some None) None is_free is_queue t e = cc
+take_exchange s c port (Some (Some h)) queue is_free is_queue t e = cc
+take_exchange s c port None queue is_free is_queue t e = cc
+
+-- ---- Send and Dump
+
+without_out_by : (f : Out → Mark) (o p : Out) (os : List Out) (here : Bool) → out_eq o p ≡ here → (here || list_any (out_eq o) os) ≡ true →
+    (list_any (out_eq o) os ≡ true → TakenOut (f o) (map f os) (map f (without o os))) →
+    TakenOut (f o) (f p ∷ map f os) (map f (if here then os else p ∷ without o os))
+without_out_by f o p os true same has later = record {
+  front = [];
+  back = map f os;
+  before_is = ap (λ q. f q ∷ map f os) (sym (out_eq_true o p same));
+  after_is = refl;
+}
+without_out_by f o p os false other has later =
+    taken_out_after (f o) (f p ∷ []) (map f os) (map f (without o os)) (later has)
+
+-- the mark of an output that is served leaves the hand
+without_out : (f : Out → Mark) (o : Out) (os : List Out) → list_any (out_eq o) os ≡ true → TakenOut (f o) (map f os) (map f (without o os))
+without_out f o [] has = cc
+without_out f o (p ∷ os) has = without_out_by f o p os (out_eq o p) refl has (without_out f o os)
+
+-- a hand serves an output: its mark leaves
+hand_serves : (s : State) (c : Chip) (o : Out) (h : Held) → IsInside s.machine c → slice_get s.hands (index_of s.machine c) ≡ Some (Some h) →
+    list_any (out_eq o) h.outs ≡ true → TakenOut (mark h.copy (in_hand c o)) (marks_of s) (marks_of (served s c o h))
+hand_serves s c o h inside is_hand has =
+    hand_out s c inside (Some h) (held_for h.copy h.port (without o h.outs)) (mark h.copy (in_hand c o)) is_hand
+    (subst (λ (l : List Mark). TakenOut (mark h.copy (in_hand c o)) (hand_marks c (Some h)) l)
+    (sym (hand_marks-held c h.copy h.port (without o h.outs)))
+    (without_out (λ q. mark h.copy (in_hand c q)) o h.outs has))
+
+-- a copy arrives where a link leads
+arrives_by_link : (s : State) (c : Chip) (d : Dir) (k : McCopy) → IsInside s.machine c →
+    (live : Bool) → is_live_link s.machine c d ≡ live → (far : Option Chip) → far_of s.machine c d ≡ far →
+    has_room_behind s (across s.machine d live far) ≡ true →
+    (come : List Mark) × PutIn come (marks_of s) (marks_of (arrived s (across s.machine d live far) (onward k))) × Crosses s k c (Link d) come
+arrives_by_link s c d k inside false dead far is_far room = cc
+arrives_by_link s c d k inside true live None is_far room = cc
+arrives_by_link s c d k inside true live (Some e) is_far room =
+    let port : Port = ByLink (opposite_of d) in
+    (mark (onward k) (in_queue e port) ∷ [],
+     arrives_at_input s e port (far_inside s.machine c e d inside is_far) (onward k) room,
+     (e, live, is_far, refl))
+
+-- a copy arrives at a core's vertex
+arrives_by_core : (s : State) (c : Chip) (p : ℕ) (k : McCopy) →
+    (vertex : Option ℕ) → vertex_at s.spots (record { chip = c; core = p }) ≡ vertex →
+    has_room_behind s (core_of vertex) ≡ true →
+    (come : List Mark) × PutIn come (marks_of s) (marks_of (arrived s (core_of vertex) (onward k))) × Crosses s k c (Core p) come
+arrives_by_core s c p k None none room = cc
+arrives_by_core s c p k (Some v) is_vertex room =
+    (mark (onward k) (at_core v) ∷ [], arrives_at_core s v (onward k) room, (v, is_vertex, refl))
+
+-- a copy arrives behind an output with room
+arrives : (s : State) (c : Chip) (o : Out) (k : McCopy) → IsInside s.machine c → has_room_behind s (behind s.machine s.spots c o) ≡ true →
+    (come : List Mark) × PutIn come (marks_of s) (marks_of (arrived s (behind s.machine s.spots c o) (onward k))) × Crosses s k c o come
+arrives s c (Link d) k inside room =
+    arrives_by_link s c d k inside (is_live_link s.machine c d) refl (far_of s.machine c d) refl room
+arrives s c (Core p) k inside room =
+    arrives_by_core s c p k (vertex_at s.spots (record { chip = c; core = p })) refl room
+
+-- what it takes to serve an output
+serves_parts : (s : State) (c : Chip) (o : Out) (h : Held) → serves s c o (Some (Some h)) ≡ true →
+    IsInside s.machine c × (list_any (out_eq o) h.outs ≡ true)
+serves_parts s c o h serving =
+    (live_inside s.machine c (and_true_left (is_live_chip s.machine c) (list_any (out_eq o) h.outs) serving),
+     and_true_right (is_live_chip s.machine c) (list_any (out_eq o) h.outs) serving)
+
+send_by : (s : State) (c : Chip) (o : Out) (h : Held) → slice_get s.hands (index_of s.machine c) ≡ Some (Some h) →
+    (serving room : Bool) → serves s c o (Some (Some h)) ≡ serving → has_room_behind s (behind s.machine s.spots c o) ≡ room → (t : State) →
+    (if serving && room then Some (arrived (served s c o h) (behind s.machine s.spots c o) (onward h.copy)) else None) ≡ Some t →
+    Exchange s t
+send_by s c o h is_hand false room idle is_room t e = cc
+send_by s c o h is_hand true false serving full t e = cc
+send_by s c o h is_hand true true serving room t e =
+    let parts = serves_parts s c o h serving in
+    let between : State = served s c o h in
+    let arrival = arrives between c o h.copy parts.0 room in
+    let next : State = arrived between (behind s.machine s.spots c o) (onward h.copy) in
+    let same : next ≡ t = cc in
+    subst (λ (u : State). Exchange s u) same (record {
+      leaves = mark h.copy (in_hand c o);
+      come = arrival.0;
+      rest = marks_of between;
+      out = hand_serves s c o h parts.0 is_hand parts.1;
+      put = arrival.1;
+      move = inr arrival.2;
+      machine = arrived_machine between (behind s.machine s.spots c o) (onward h.copy);
+      spots = arrived_spots between (behind s.machine s.spots c o) (onward h.copy);
+      tables = arrived_tables between (behind s.machine s.spots c o) (onward h.copy);
+      capacity = arrived_capacity between (behind s.machine s.spots c o) (onward h.copy);
+    })
+
+send_exchange : (s : State) (c : Chip) (o : Out) (hand : Option (Option Held)) → slice_get s.hands (index_of s.machine c) ≡ hand →
+    (t : State) → sent s c o hand ≡ Some t → Exchange s t
+send_exchange s c o (Some (Some h)) is_hand t e =
+    send_by s c o h is_hand (serves s c o (Some (Some h))) (has_room_behind s (behind s.machine s.spots c o)) refl refl t e
+send_exchange s c o (Some None) is_hand t e = cc
+send_exchange s c o None is_hand t e = cc
+
+dump_by : (s : State) (c : Chip) (o : Out) (h : Held) → slice_get s.hands (index_of s.machine c) ≡ Some (Some h) →
+    (serving room : Bool) → serves s c o (Some (Some h)) ≡ serving → (t : State) →
+    (if serving && room then Some (record (served s c o h) { dumped = s.dumped ++ record { chip = c; out = o; copy = h.copy } ∷ [] }) else None) ≡ Some t →
+    Exchange s t
+dump_by s c o h is_hand false room idle t e = cc
+dump_by s c o h is_hand true false serving t e = cc
+dump_by s c o h is_hand true true serving t e =
+    let parts = serves_parts s c o h serving in
+    let between : State = served s c o h in
+    let next : State = record between { dumped = s.dumped ++ record { chip = c; out = o; copy = h.copy } ∷ [] } in
+    let same : next ≡ t = cc in
+    subst (λ (u : State). Exchange s u) same (record {
+      leaves = mark h.copy (in_hand c o);
+      come = mark h.copy (dumped c o) ∷ [];
+      rest = marks_of between;
+      out = hand_serves s c o h parts.0 is_hand parts.1;
+      put = dumped_in between c o h.copy;
+      move = inl refl;
+      machine = refl;
+      spots = refl;
+      tables = refl;
+      capacity = refl;
+    })
+
+dump_exchange : (s : State) (c : Chip) (o : Out) (hand : Option (Option Held)) → slice_get s.hands (index_of s.machine c) ≡ hand →
+    (t : State) → dumped_at s c o hand ≡ Some t → Exchange s t
+dump_exchange s c o (Some (Some h)) is_hand t e =
+    dump_by s c o h is_hand (serves s c o (Some (Some h))) (not (has_room_behind s (behind s.machine s.spots c o))) refl t e
+dump_exchange s c o (Some None) is_hand t e = cc
+dump_exchange s c o None is_hand t e = cc
+
+-- ---- Collect
+
+collect_exchange : (s : State) (v : ℕ) (queue : Option (List McCopy)) → slice_get s.cores v ≡ queue →
+    (t : State) → collected s v queue ≡ Some t → Exchange s t
+collect_exchange s v (Some (k ∷ rest)) is_queue t e =
+    let between : State = record s { cores = slice_set s.cores v rest } in
+    let next : State = record between { delivered = s.delivered ++ record { vertex = v; copy = k } ∷ [] } in
+    let same : next ≡ t = cc in
+    subst (λ (u : State). Exchange s u) same (record {
+      leaves = mark k (at_core v);
+      come = mark k (delivered v) ∷ [];
+      rest = marks_of between;
+      out = core_out s v k rest is_queue;
+      put = delivered_in between v k;
+      move = refl;
+      machine = refl;
+      spots = refl;
+      tables = refl;
+      capacity = refl;
+    })
+collect_exchange s v (Some []) is_queue t e = cc
+collect_exchange s v None is_queue t e = cc
+
+-- Each event that is enabled is one move.
+pub event_exchange : (s : State) → IsMesh s → (e : Event) (t : State) → stepped s e ≡ Some t → Exchange s t
+event_exchange s mesh (Inject v) t e = inject_exchange s mesh v (slice_get s.spots v) (slice_get s.unsent v) refl refl t e
+event_exchange s mesh (Take c port) t e =
+    take_exchange s c port (slice_get s.hands (index_of s.machine c)) (slice_get s.inputs (queue_at s.machine c port)) refl refl t e
+event_exchange s mesh (Send c o) t e = send_exchange s c o (slice_get s.hands (index_of s.machine c)) refl t e
+event_exchange s mesh (Dump c o) t e = dump_exchange s c o (slice_get s.hands (index_of s.machine c)) refl t e
+event_exchange s mesh (Collect v) t e = collect_exchange s v (slice_get s.cores v) refl t e

@@ -1,0 +1,213 @@
+-- Whatever happens, a mesh keeps what every mesh has.
+use Rattle.std.proofs.Common.{◌≡◌, ◌≢◌, ℕ, ◌+◌, ◌*◌, ◌<◌, ◌≤◌, refl, sym, ap, ◌∙◌, subst, arith, Bool, true, false, not, ◌&&◌, if◌then◌else◌, List, [], ◌∷◌, ◌++◌, length, get_or, set, Option, Some, None}
+use Rattle.std.specs.Prelude.{IfSome}
+use Rattle.std.specs.List.{All, slice_get, list_any}
+use Rattle.std.proofs.lemmas.List.{length_push}
+use Rattle.std.proofs.lemmas.List.Elements.{All-tail}
+use Rattle.std.proofs.lemmas.Option.{slice_get_within, get_or_from_slice_get}
+use Rattle.std.proofs.lemmas.Bool.{and_parts, ltb-true}
+use Rattle.spin_base.specs.declared.chips.Chip.{Chip}
+use Rattle.spin_base.specs.declared.chips.Spot.{Spot}
+use Rattle.spin_base.specs.declared.chips.Dir.{Dir}
+use Rattle.spin_base.specs.declared.chips.Port.{Port}
+use Rattle.spin_base.specs.declared.chips.Port.TheVariants.{Link as ByLink, Local}
+use Rattle.spin_base.specs.declared.routes.Out.{Out}
+use Rattle.spin_base.specs.declared.routes.Out.TheVariants.{Link, Core}
+use Rattle.spin_base.specs.declared.copies.McCopy.{McCopy}
+use Rattle.spin_base.specs.declared.copies.Event.{Event}
+use Rattle.spin_base.specs.declared.copies.Event.TheVariants.{Inject, Take, Send, Dump, Collect}
+use Rattle.spin_base.specs.Equality.{out_eq}
+use Rattle.spin_base.specs.Links.{dir_number, opposite_of, port_number}
+use Rattle.spin_base.proofs.Outputs.{dir_number_below}
+use Rattle.spin_base.proofs.Equality.{port_number_injective}
+use Rattle.machine_desc.specs.Description.{Description}
+use Rattle.machine_desc.specs.Live.{index_of, far_of, is_live_chip, is_live_link, IsInside, IsUsable}
+use Rattle.machine_desc.proofs.Far.{same_index, live_inside, live_ends, live_back}
+use Rattle.mesh_core.specs.State.{State, Held, IsMesh, queue_at, vertex_at, Behind, input, core, nowhere, across, core_of, behind}
+use Rattle.mesh_core.specs.Step.{onward, outputs, in_hand, without, has_room, has_room_behind, appended, arrived, injected, taken, serves, served, sent, dumped_at, collected, stepped}
+use Rattle.mesh_core.proofs.Changes.{port_below, IsMesh-unsent, IsMesh-cores, IsMesh-hands, IsMesh-delivered, IsMesh-dumped, IsMesh-inputs}
+use Rattle.mesh_core.proofs.VertexTableLaws.{usable_parts}
+
+-- what was chosen is there
+pub if_some : {X : Type 0} (b : Bool) (u t : X) → (if b then Some u else None) ≡ Some t → (b ≡ true) × (u ≡ t)
+if_some true u t e = (refl, cc)
+if_some false u t e = cc
+
+-- what is true of all is true of the one at a place
+pub All-slice_get : {X : Type 0} (P : X → Type 0) (xs : List X) (i : ℕ) (x : X) → All P xs → slice_get xs i ≡ Some x → P x
+All-slice_get P xs i x all here = subst P (get_or_from_slice_get xs i x x here) (all i x (slice_get_within xs i x here))
+
+-- queues of one place are those of one chip and port
+pub same_queue : (m : Description) (c e : Chip) (p q : Port) → IsInside m c → IsInside m e → queue_at m c p ≡ queue_at m e q → (c ≡ e) × (p ≡ q)
+same_queue m c e p q in_c in_e same =
+    let small_p : port_number p < 7 = port_below p in
+    let small_q : port_number q < 7 = port_below q in
+    let index : index_of m c ≡ index_of m e = omega arith in
+    (same_index m c e in_c in_e index, port_number_injective p q (omega arith))
+
+-- a copy may wait at this place: it is of no port whose link isn't live, and of no chip that isn't live
+record MayWait (m : Description) (i : ℕ) : Type 0 where
+  port : (c : Chip) (d : Dir) → is_live_link m c d ≡ false → IsInside m c → queue_at m c (ByLink d) ≡ i → ⊥
+  chip : (c : Chip) → is_live_chip m c ≡ false → IsInside m c → queue_at m c Local ≡ i → ⊥
+
+may_wait-local : (m : Description) (c : Chip) → is_live_chip m c ≡ true → MayWait m (queue_at m c Local)
+may_wait-local m c live = record {
+  port = λ e d dead inside same. let other : ByLink d ≡ Local = (same_queue m e c (ByLink d) Local inside (live_inside m c live) same).1 in cc;
+  chip = λ e dead inside same.
+      let is : e ≡ c = (same_queue m e c Local Local inside (live_inside m c live) same).0 in
+      let lives : is_live_chip m e ≡ true = ap (is_live_chip m) is ∙ live in
+      cc;
+}
+
+may_wait-link : (m : Description) (c : Chip) (d : Dir) → IsInside m c → is_live_link m c d ≡ true → MayWait m (queue_at m c (ByLink d))
+may_wait-link m c d in_c live = record {
+  port = λ e f dead inside same.
+      let both : (e ≡ c) × (ByLink f ≡ ByLink d) = same_queue m e c (ByLink f) (ByLink d) inside in_c same in
+      let port : ByLink f ≡ ByLink d = both.1 in
+      let link : f ≡ d = cc in
+      let lives : is_live_link m e f ≡ true = ap (λ x. is_live_link m x f) both.0 ∙ (ap (is_live_link m c) link ∙ live) in
+      cc;
+  chip = λ e dead inside same. let other : Local ≡ ByLink d = (same_queue m e c Local (ByLink d) inside in_c same).1 in cc;
+}
+
+-- a copy may wait in the queue behind an output
+MayWaitBehind : Description → Behind → Type 0
+MayWaitBehind m (input i) = MayWait m i
+MayWaitBehind m (core v) = Unit {0}
+MayWaitBehind m nowhere = Unit {0}
+
+may_wait-across : (m : Description) (c : Chip) (d : Dir) (b : Bool) (e : Option Chip) → is_live_link m c d ≡ b → far_of m c d ≡ e → MayWaitBehind m (across m d b e)
+unfolding MayWaitBehind
+may_wait-across m c d true (Some e) live far =
+    may_wait-link m e (opposite_of d) (inside_far m c d e live far) (live_back m c e d far live)
+  where
+    inside_far : (m : Description) (c : Chip) (d : Dir) (e : Chip) → is_live_link m c d ≡ true → far_of m c d ≡ Some e → IsInside m e
+    inside_far m c d e live far =
+        let ends = live_ends m c d live in
+        let there : Some ends.0 ≡ Some e = sym ends.1 ∙ far in
+        let same : ends.0 ≡ e = cc in
+        subst (IsInside m) same (live_inside m ends.0 ends.3)
+may_wait-across m c d true None live far = tt
+may_wait-across m c d false e live far = tt
+
+may_wait-core : (m : Description) (v : Option ℕ) → MayWaitBehind m (core_of v)
+unfolding MayWaitBehind
+may_wait-core m (Some v) = tt
+may_wait-core m None = tt
+
+may_wait-behind : (m : Description) (spots : List Spot) (c : Chip) (o : Out) → MayWaitBehind m (behind m spots c o)
+may_wait-behind m spots c (Link d) = may_wait-across m c d (is_live_link m c d) (far_of m c d) refl refl
+may_wait-behind m spots c (Core p) = may_wait-core m (vertex_at spots (record { chip = c; core = p }))
+
+arrived_input : (s : State) (i : ℕ) (k : McCopy) (q : Option (List McCopy)) → IsMesh s → MayWait s.machine i → has_room s.capacity q ≡ true → IsMesh (record s { inputs = appended s.inputs i k q })
+arrived_input s i k (Some q) h may room =
+    let short : length q < s.capacity = ltb-true (length q) s.capacity room in
+    IsMesh-inputs s i (q ++ k ∷ []) h (omega (arith, length_push q k))
+        (λ c d dead inside same. absurd (may.port c d dead inside same)) (λ c dead inside same. absurd (may.chip c dead inside same))
+arrived_input s i k None h may room = cc
+
+arrived_core : (s : State) (v : ℕ) (k : McCopy) (q : Option (List McCopy)) → IsMesh s → has_room s.capacity q ≡ true → IsMesh (record s { cores = appended s.cores v k q })
+arrived_core s v k (Some q) h room =
+    let short : length q < s.capacity = ltb-true (length q) s.capacity room in
+    IsMesh-cores s v (q ++ k ∷ []) h (omega (arith, length_push q k))
+arrived_core s v k None h room = cc
+
+-- a mesh where a copy came into a queue with room, at which copies may wait
+IsMesh-arrived : (s : State) (b : Behind) (k : McCopy) → IsMesh s → MayWaitBehind s.machine b → has_room_behind s b ≡ true → IsMesh (arrived s b k)
+unfolding MayWaitBehind
+IsMesh-arrived s (input i) k h may room = arrived_input s i k (slice_get s.inputs i) h may room
+IsMesh-arrived s (core v) k h may room = arrived_core s v k (slice_get s.cores v) h room
+IsMesh-arrived s nowhere k h may room = h
+
+-- a hand that took a copy or served an output isn't without outputs
+in_hand-some : (k : McCopy) (port : Port) (os : List Out) → IfSome (in_hand k port os) (λ held. held.outs ≢ [])
+in_hand-some k port [] = tt
+in_hand-some k port (o ∷ os) = λ e. cc
+
+keeps_injected : (s t : State) (v : ℕ) (spot : Option Spot) (unsent : Option (List McCopy)) → IsMesh s → slice_get s.spots v ≡ spot → slice_get s.unsent v ≡ unsent → injected s v spot unsent ≡ Some t → IsMesh t
+keeps_injected s t v (Some spot) (Some (k ∷ rest)) h at_spot at_unsent moves =
+    let queue : Behind = input (queue_at s.machine spot.chip Local) in
+    let now : State = record s { unsent = set s.unsent v rest } in
+    let parts : (has_room_behind s queue ≡ true) × (arrived now queue k ≡ t) = if_some (has_room_behind s queue) (arrived now queue k) t moves in
+    let start : All (λ x. x.hop ≡ 0) rest = All-tail (λ (x : McCopy). x.hop ≡ 0) k rest (All-slice_get (λ (l : List McCopy). All (λ x. x.hop ≡ 0) l) s.unsent v (k ∷ rest) h.unsent_at_start at_unsent) in
+    let usable : IsUsable s.machine spot = All-slice_get (IsUsable s.machine) s.spots v spot h.usable at_spot in
+    let live : is_live_chip s.machine spot.chip ≡ true = (and_parts _ _ usable).0 in
+    subst IsMesh parts.1 (arrived_input now (queue_at s.machine spot.chip Local) k (slice_get s.inputs (queue_at s.machine spot.chip Local)) (IsMesh-unsent s v rest h start) (may_wait-local s.machine spot.chip live) parts.0)
+keeps_injected s t v (Some spot) (Some []) h at_spot at_unsent moves = cc
+keeps_injected s t v (Some spot) None h at_spot at_unsent moves = cc
+keeps_injected s t v None (Some (k ∷ rest)) h at_spot at_unsent moves = cc
+keeps_injected s t v None (Some []) h at_spot at_unsent moves = cc
+keeps_injected s t v None None h at_spot at_unsent moves = cc
+
+-- a queue without its front is empty where no copy may wait: there was none
+nothing_waited : {X : Type 0} (xs : List (List X)) (i j : ℕ) (x : X) (rest : List X) → slice_get xs i ≡ Some (x ∷ rest) → slice_get xs j ≡ Some [] → j ≡ i → rest ≡ []
+nothing_waited xs i j x rest here there same = let both : Some (x ∷ rest) ≡ Some [] = sym here ∙ (ap (slice_get xs) (sym same) ∙ there) in cc
+
+keeps_taken : (s t : State) (c : Chip) (port : Port) (hand : Option (Option Held)) (queue : Option (List McCopy)) → IsMesh s → slice_get s.inputs (queue_at s.machine c port) ≡ queue → taken s c port hand queue ≡ Some t → IsMesh t
+keeps_taken s t c port (Some None) (Some (k ∷ rest)) h at_queue moves =
+    let q : ℕ = queue_at s.machine c port in
+    let now : State = record s { inputs = set s.inputs q rest } in
+    let hand : Option Held = in_hand k port (outputs s c port k) in
+    let next : State = record now { hands = set s.hands (index_of s.machine c) hand } in
+    let parts : (is_live_chip s.machine c ≡ true) × (next ≡ t) = if_some (is_live_chip s.machine c) next t moves in
+    let within : length (k ∷ rest) ≤ s.capacity = All-slice_get (λ (l : List McCopy). length l ≤ s.capacity) s.inputs q (k ∷ rest) h.inputs_within at_queue in
+    let kept : IsMesh now = IsMesh-inputs s q rest h (omega arith)
+        (λ e d dead inside same. nothing_waited s.inputs q (queue_at s.machine e (ByLink d)) k rest at_queue (h.none_at_dead_ports e d dead inside) same)
+        (λ e dead inside same. nothing_waited s.inputs q (queue_at s.machine e Local) k rest at_queue (h.none_on_dead_chips e dead inside) same)
+    in
+    subst IsMesh parts.1 (IsMesh-hands now (index_of s.machine c) hand kept (in_hand-some k port (outputs s c port k)))
+keeps_taken s t c port (Some None) (Some []) h at_queue moves = cc
+keeps_taken s t c port (Some None) None h at_queue moves = cc
+keeps_taken s t c port (Some (Some held)) queue h at_queue moves = cc
+keeps_taken s t c port None queue h at_queue moves = cc
+
+IsMesh-served : (s : State) (c : Chip) (o : Out) (held : Held) → IsMesh s → IsMesh (served s c o held)
+IsMesh-served s c o held h =
+    IsMesh-hands s (index_of s.machine c) (in_hand held.copy held.port (without o held.outs)) h (in_hand-some held.copy held.port (without o held.outs))
+
+keeps_sent : (s t : State) (c : Chip) (o : Out) (hand : Option (Option Held)) → IsMesh s → sent s c o hand ≡ Some t → IsMesh t
+keeps_sent s t c o (Some (Some held)) h moves =
+    let to : Behind = behind s.machine s.spots c o in
+    let hands : Bool = serves s c o (Some (Some held)) in
+    let next : State = arrived (served s c o held) to (onward held.copy) in
+    let parts : ((hands && has_room_behind s to) ≡ true) × (next ≡ t) = if_some (hands && has_room_behind s to) next t moves in
+    let both : (hands ≡ true) × (has_room_behind s to ≡ true) = and_parts hands (has_room_behind s to) parts.0 in
+    subst IsMesh parts.1 (IsMesh-arrived (served s c o held) to (onward held.copy) (IsMesh-served s c o held h) (may_wait-behind s.machine s.spots c o) (room_after s c o held to both.1))
+  where
+    -- what a hand holds changes no room
+    room_after : (s : State) (c : Chip) (o : Out) (held : Held) (b : Behind) → has_room_behind s b ≡ true → has_room_behind (served s c o held) b ≡ true
+    room_after s c o held (input i) room = room
+    room_after s c o held (core v) room = room
+    room_after s c o held nowhere room = room
+keeps_sent s t c o (Some None) h moves = cc
+keeps_sent s t c o None h moves = cc
+
+keeps_dumped : (s t : State) (c : Chip) (o : Out) (hand : Option (Option Held)) → IsMesh s → dumped_at s c o hand ≡ Some t → IsMesh t
+keeps_dumped s t c o (Some (Some held)) h moves =
+    let next : State = served s c o held in
+    let last : State = record next { dumped = next.dumped ++ record { chip = c; out = o; copy = held.copy } ∷ [] } in
+    let asked : Bool = serves s c o (Some (Some held)) && not (has_room_behind s (behind s.machine s.spots c o)) in
+    let parts : (asked ≡ true) × (last ≡ t) = if_some asked last t moves in
+    subst IsMesh parts.1 (IsMesh-dumped next last.dumped (IsMesh-served s c o held h))
+keeps_dumped s t c o (Some None) h moves = cc
+keeps_dumped s t c o None h moves = cc
+
+keeps_collected : (s t : State) (v : ℕ) (queue : Option (List McCopy)) → IsMesh s → slice_get s.cores v ≡ queue → collected s v queue ≡ Some t → IsMesh t
+keeps_collected s t v (Some (k ∷ rest)) h at_queue moves =
+    let now : State = record s { cores = set s.cores v rest } in
+    let last : State = record now { delivered = s.delivered ++ record { vertex = v; copy = k } ∷ [] } in
+    let same : Some last ≡ Some t = moves in
+    let is : last ≡ t = cc in
+    let within : length (k ∷ rest) ≤ s.capacity = All-slice_get (λ (l : List McCopy). length l ≤ s.capacity) s.cores v (k ∷ rest) h.cores_within at_queue in
+    subst IsMesh is (IsMesh-delivered now last.delivered (IsMesh-cores s v rest h (omega arith)))
+keeps_collected s t v (Some []) h at_queue moves = cc
+keeps_collected s t v None h at_queue moves = cc
+
+-- The mesh after an event is one.
+pub IsMesh-stepped : (s t : State) (e : Event) → IsMesh s → stepped s e ≡ Some t → IsMesh t
+IsMesh-stepped s t (Inject v) h moves = keeps_injected s t v (slice_get s.spots v) (slice_get s.unsent v) h refl refl moves
+IsMesh-stepped s t (Take c port) h moves =
+    keeps_taken s t c port (slice_get s.hands (index_of s.machine c)) (slice_get s.inputs (queue_at s.machine c port)) h refl moves
+IsMesh-stepped s t (Send c o) h moves = keeps_sent s t c o (slice_get s.hands (index_of s.machine c)) h moves
+IsMesh-stepped s t (Dump c o) h moves = keeps_dumped s t c o (slice_get s.hands (index_of s.machine c)) h moves
+IsMesh-stepped s t (Collect v) h moves = keeps_collected s t v (slice_get s.cores v) h refl moves

@@ -1,0 +1,476 @@
+-- A move keeps what the ledger says of one net: what comes in the place of a mark stands on the same trails.
+use Rattle.std.proofs.Common.{◌≡◌, ◌≢◌, ℕ, ◌+◌, ◌*◌, ◌<◌, ◌≤◌, ◌^◌, suc, zero, List, [], ◌∷◌, map, filter, Bool, true, false, ◌==◌, ◌&&◌, IsTrue, if◌then◌else◌, cond, Option, Some, None, refl, ap, sym, ◌∙◌, subst, arith, inl, inr, ◌⊎◌, length, min, count_by, nat_lt}
+use Rattle.std.specs.List.{slice_get, slice_index_or, list_any, All, Any, Contains}
+use Rattle.std.proofs.lemmas.Option.{slice_get_within}
+use Rattle.spin_base.specs.declared.chips.Chip.{Chip}
+use Rattle.spin_base.specs.declared.chips.Dir.{Dir}
+use Rattle.spin_base.specs.declared.chips.Spot.{Spot}
+use Rattle.spin_base.specs.declared.chips.Port.{Port}
+use Rattle.spin_base.specs.declared.chips.Port.TheVariants.{Link as ByLink, Local}
+use Rattle.spin_base.specs.declared.routes.Out.{Out}
+use Rattle.spin_base.specs.declared.routes.Out.TheVariants.{Link, Core}
+use Rattle.spin_base.specs.declared.routes.Route.{Route}
+use Rattle.spin_base.specs.declared.copies.McCopy.{McCopy}
+use Rattle.spin_base.specs.Links.{opposite_of}
+use Rattle.spin_base.specs.Equality.{chip_eq, spot_eq, port_eq, out_eq}
+use Rattle.spin_base.specs.Lookup.{lookup}
+use Rattle.spin_base.specs.Outputs.{has, outs_of, all_outs, IsOutput}
+use Rattle.spin_base.proofs.Equality.{chip_eq_same, chip_eq_true, port_eq_same, port_eq_true, out_eq_same, out_eq_true}
+use Rattle.spin_base.proofs.Once.{outs_once}
+use Rattle.spin_base.proofs.Outputs.{no_high_bit}
+use Rattle.std.specs.Int.{bit_at}
+use Rattle.std.proofs.lemmas.Bool.{ltb-true, ltb-false}
+use Rattle.std.proofs.lemmas.List.Elements.{All-contains}
+use Rattle.machine_desc.specs.declared.trees.Edge.{Edge}
+use Rattle.machine_desc.specs.Live.{far_of, IsLiveLink}
+use Rattle.machine_desc.specs.RoutingTree.{end_of}
+use Rattle.machine_desc.specs.Branch.{Exit, IsBranch, arrival_at}
+use Rattle.machine_desc.proofs.Branches.{ComesBy, comes_by, exit_leads, ExitLeads, way_first, one_edge_into, exit_of}
+use Rattle.machine_desc.proofs.Far.{opposite_of-opposite}
+use Rattle.machine_desc.proofs.Live.{count_by-map}
+use Rattle.net_tables.specs.declared.nets.NetPlan.{NetPlan}
+use Rattle.net_tables.specs.Outputs.{is_wanted, ComesIn}
+use Rattle.net_tables.specs.RightTables.{IsKeyOf, table_at}
+use Rattle.mesh_core.specs.State.{State, vertex_at}
+use Rattle.mesh_core.specs.Step.{last_hop, onward, outputs}
+use Rattle.mesh_core.specs.Trail.{Station, unsent, in_queue, in_hand, at_core, delivered, dumped, Mark, comes_in_there, leaves_there, on_trail, is_on_trail}
+use Rattle.mesh_core.specs.Ledger.{IsWayOf}
+use Rattle.mesh_core.proofs.Events.{and_true_left, and_true_right}
+use Rattle.mesh_core.proofs.Exchange.{Among, count_by-cons}
+use Rattle.mesh_core.proofs.Moves.{mark, Crosses, IsMove, IsMoveOf}
+use Rattle.mesh_core.proofs.Ways.{Stands, nat_true, nat_same, both_true, same_test, vertex_at_stands, vertex_there, short_branch, onward_hop, place_below, one_place, branch_comes_in, exit_wanted, exit_is_output, OnBranch, wanted_on_branch}
+
+-- ---- what the tests on a trail say
+
+-- a mark in a hand, or dumped, on a trail: the branch leaves there
+pub leaves_parts : (branch : List Exit) (hop : ℕ) (c : Chip) (o : Out) → leaves_there c o (slice_get branch hop) ≡ true →
+    slice_get branch hop ≡ Some (record { chip = c; out = o })
+leaves_parts branch hop c o on = by_exit (slice_get branch hop) refl on
+  where
+    same_exit : (a b : Chip) (p q : Out) → a ≡ b → p ≡ q → (let x : Exit = record { chip = a; out = p } in let y : Exit = record { chip = b; out = q } in x ≡ y)
+    same_exit a b p q e f = cc
+
+    by_exit : (x : Option Exit) → slice_get branch hop ≡ x → leaves_there c o x ≡ true → slice_get branch hop ≡ Some (record { chip = c; out = o })
+    by_exit (Some x) at on' =
+        let same_c : x.chip ≡ c = chip_eq_true x.chip c (and_true_left (chip_eq x.chip c) (out_eq x.out o) on') in
+        let same_o : x.out ≡ o = out_eq_true x.out o (and_true_right (chip_eq x.chip c) (out_eq x.out o) on') in
+        at ∙ ap Some (same_exit x.chip c x.out o same_c same_o)
+    by_exit None at on' = cc
+
+-- and the other way round
+pub leaves_from : (branch : List Exit) (hop : ℕ) (c : Chip) (o : Out) → slice_get branch hop ≡ Some (record { chip = c; out = o }) →
+    leaves_there c o (slice_get branch hop) ≡ true
+leaves_from branch hop c o at = rw at (both_true (chip_eq c c) (out_eq o o) (chip_eq_same c) (out_eq_same o))
+
+-- a mark in a queue on a trail: the branch comes in there
+pub record ComesThere (branch : List Exit) (hop : ℕ) (c : Chip) (port : Port) : Type 0 where
+  pub exit : Exit
+  pub at : slice_get branch hop ≡ Some exit
+  pub chip : exit.chip ≡ c
+  pub port_is : arrival_at branch hop ≡ port
+
+pub comes_parts : (branch : List Exit) (hop : ℕ) (c : Chip) (port : Port) → comes_in_there branch hop c port (slice_get branch hop) ≡ true →
+    ComesThere branch hop c port
+comes_parts branch hop c port on = by_exit (slice_get branch hop) refl on
+  where
+    by_exit : (x : Option Exit) → slice_get branch hop ≡ x → comes_in_there branch hop c port x ≡ true → ComesThere branch hop c port
+    by_exit (Some x) at on' = record {
+      exit = x;
+      at = at;
+      chip = chip_eq_true x.chip c (and_true_left (chip_eq x.chip c) (port_eq (arrival_at branch hop) port) on');
+      port_is = port_eq_true (arrival_at branch hop) port (and_true_right (chip_eq x.chip c) (port_eq (arrival_at branch hop) port) on');
+    }
+    by_exit None at on' = cc
+
+pub comes_from : (branch : List Exit) (hop : ℕ) (c : Chip) (port : Port) → ComesThere branch hop c port →
+    comes_in_there branch hop c port (slice_get branch hop) ≡ true
+comes_from branch hop c port there =
+    rw (there.at)
+    (both_true (chip_eq there.exit.chip c) (port_eq (arrival_at branch hop) port)
+    (ap (λ (d : Chip). chip_eq d c) there.chip ∙ chip_eq_same c)
+    (ap (λ (p : Port). port_eq p port) there.port_is ∙ port_eq_same port))
+
+-- the edge of an exit has the exit's link
+out_of_first : Option Exit → Option Out
+out_of_first (Some x) = Some x.out
+out_of_first None = None
+
+same_dir : (f : Edge) (c : Chip) (d : Dir) → Some (exit_of f) ≡ Some (record { chip = c; out = Link d }) → f.dir ≡ d
+unfolding out_of_first
+same_dir f c d e = let outs : Some (Link f.dir) ≡ Some (Link d) = ap out_of_first e in cc
+
+-- opposite links of one link are one
+opposite_injective : (a b : Dir) → opposite_of a ≡ opposite_of b → a ≡ b
+opposite_injective a b e = sym (opposite_of-opposite a) ∙ (ap opposite_of e ∙ opposite_of-opposite b)
+
+-- ---- one mark comes for one that leaves
+
+-- a test that fails counts none
+pub count_none : {X : Type 0} (os : List X) → count_by (λ o. false) os ≡ 0
+count_none [] = refl
+count_none (o ∷ os) = count_by-cons (λ x. false) o os ∙ omega (arith, count_none os)
+
+-- what a filter keeps passes its test
+among_filter_by : (p : Out → Bool) (o q : Out) (os : List Out) → (b : Bool) → p q ≡ b → (Among o (filter p os) → p o ≡ true) →
+    Among o (cond b (q ∷ filter p os) (filter p os)) → p o ≡ true
+among_filter_by p o q os true passes later (inl here) = ap p here ∙ passes
+among_filter_by p o q os true passes later (inr rest) = later rest
+among_filter_by p o q os false fails later rest = later rest
+
+among_filter : (p : Out → Bool) (o : Out) (os : List Out) → Among o (filter p os) → p o ≡ true
+among_filter p o [] a = absurd a
+among_filter p o (q ∷ os) a = among_filter_by p o q os (p q) refl (among_filter p o os) a
+
+-- an output that a route has is one that a route can name
+has_is_output : (r : Route) (o : Out) → has r o ≡ true → IsOutput o
+has_is_output r (Link d) yes' = tt
+has_is_output r (Core p) yes' = by_size (nat_lt p 18) refl
+  where
+    by_size : (b : Bool) → nat_lt p 18 ≡ b → p < 18
+    by_size true small = ltb-true p 18 small
+    by_size false large =
+        let high : 18 ≤ p = ltb-false p 18 large in
+        let zero_bit : bit_at r.bits (6 + p) ≡ 0 = no_high_bit r (6 + p) (omega arith) in
+        let one_bit : bit_at r.bits (6 + p) ≡ 1 = nat_true (bit_at r.bits (6 + p)) 1 yes' in
+        absurd (omega (arith, zero_bit, one_bit))
+
+omega_add : (n : ℕ) → n + 0 ≡ n
+omega_add n = omega arith
+
+module _ (s : State) (net : NetPlan) (stands : Stands s net) where
+  -- a way of the net
+  abbrev Way : Spot → List Exit → ℕ → ℕ → Type 0
+  Way target branch from to = IsWayOf s net target branch from to
+
+  -- ways of one net begin at one vertex
+  same_source : (t u : Spot) (xs ys : List Exit) (from from' to to' : ℕ) → Way t xs from to → Way u ys from' to' → from ≡ from'
+  same_source t u xs ys from from' to to' w w' = let e = w.begins in let e' = w'.begins in cc
+
+  -- a hop number on a branch is small
+  small_hop : (t : Spot) (xs : List Exit) (from to : ℕ) → Way t xs from to → (hop : ℕ) (x : Exit) → slice_get xs hop ≡ Some x → hop < 4096
+  small_hop t xs from to w hop x at =
+      let within : hop < length xs = place_below xs hop x at in
+      let short : length xs ≤ 4096 = short_branch s net stands t xs w.is_branch in
+      omega arith
+
+  -- a copy on a trail has a hop number below the greatest, so it gets the outputs of lookup
+  outputs_are : (t : Spot) (xs : List Exit) (from to : ℕ) → Way t xs from to → (c : Chip) (port : Port) (k : McCopy) →
+      on_trail from to xs k.hop (in_queue c port) ≡ true →
+      outputs s c port k ≡ outs_of (lookup (table_at s.machine s.tables c) k.key port)
+  outputs_are t xs from to w c port k on =
+      let there = comes_parts xs k.hop c port on in
+      let small : k.hop < 4096 = small_hop t xs from to w k.hop there.exit there.at in
+      let other : (k.hop == last_hop) ≡ false = not_last k.hop small in
+      ap (λ b. if b then [] else outs_of (lookup (table_at s.machine s.tables c) k.key port)) other
+    where
+      not_last : (n : ℕ) → n < 4096 → (n == last_hop) ≡ false
+      not_last n few = grind arith
+
+  -- Inject: the first place of every branch is the injection queue of the source's chip.
+  inject_on : (t u : Spot) (xs ys : List Exit) (from from' to to' : ℕ) → Way t xs from to → Way u ys from' to' →
+      (v : ℕ) (spot : Spot) (hop : ℕ) → slice_get s.spots v ≡ Some spot → on_trail from to xs hop (unsent v) ≡ true →
+      on_trail from' to' ys hop (in_queue spot.chip Local) ≡ on_trail from' to' ys hop (unsent v)
+  inject_on t u xs ys from from' to to' w w' v spot hop is_spot on =
+      let is_from : v ≡ from = nat_true v from (and_true_left (v == from) (hop == 0) on) in
+      let is_zero : hop ≡ 0 = nat_true hop 0 (and_true_right (v == from) (hop == 0) on) in
+      let one_from : from ≡ from' = same_source t u xs ys from from' to to' w w' in
+      let stands_there : slice_get s.spots from ≡ Some net.source = vertex_at_stands s.spots net.source from w.begins in
+      let same_spot : Some spot ≡ Some net.source = sym is_spot ∙ (ap (slice_get s.spots) is_from ∙ stands_there) in
+      let spot_is : spot ≡ net.source = cc in
+      let right_side : on_trail from' to' ys hop (unsent v) ≡ true =
+        both_true (v == from') (hop == 0) (nat_same v from' (is_from ∙ one_from)) (nat_same hop 0 is_zero)
+      in
+      let first = first_exit u ys w'.is_branch in
+      let left_side : comes_in_there ys 0 spot.chip Local (slice_get ys 0) ≡ true =
+        comes_from ys 0 spot.chip Local (record {
+          exit = first.0;
+          at = first.1;
+          chip = first.2 ∙ (stands.root ∙ ap (λ (q : Spot). q.chip) (sym spot_is));
+          port_is = refl;
+        })
+      in
+      ap (λ n. comes_in_there ys n spot.chip Local (slice_get ys n)) is_zero ∙ (left_side ∙ sym right_side)
+    where
+      first_exit : (t : Spot) (zs : List Exit) → IsBranch s.machine net.tree.root net.tree.edges t zs →
+          (x : Exit) × (slice_get zs 0 ≡ Some x) × (x.chip ≡ net.tree.root)
+      first_exit t [] is = absurd is
+      first_exit t (z ∷ zs) is = (z, refl, is.0)
+
+  -- Crossing a link: the branch goes on at the far end.
+  link_on : (t u : Spot) (xs ys : List Exit) (from from' to to' : ℕ) → Way t xs from to → Way u ys from' to' →
+      (c e : Chip) (d : Dir) (hop : ℕ) → far_of s.machine c d ≡ Some e → on_trail from to xs hop (in_hand c (Link d)) ≡ true →
+      on_trail from' to' ys (min (hop + 1) last_hop) (in_queue e (ByLink (opposite_of d))) ≡ on_trail from' to' ys hop (in_hand c (Link d))
+  link_on t u xs ys from from' to to' w w' c e d hop is_far on =
+      let at : slice_get xs hop ≡ Some (record { chip = c; out = Link d }) = leaves_parts xs hop c (Link d) on in
+      let small : hop < 4096 = small_hop t xs from to w hop (record { chip = c; out = Link d }) at in
+      let next : min (hop + 1) last_hop ≡ suc hop = onward_hop hop small ∙ plus_one hop in
+      let leads = exit_leads s.machine net.tree.edges t net.tree.root xs hop (record { chip = c; out = Link d }) w.is_branch at in
+      ap (λ n. comes_in_there ys n e (ByLink (opposite_of d)) (slice_get ys n)) next
+      ∙ same_test (comes_in_there ys (suc hop) e (ByLink (opposite_of d)) (slice_get ys (suc hop))) (leaves_there c (Link d) (slice_get ys hop))
+        (back leads.0) forth
+    where
+      edge : Edge
+      edge = record { chip = c; dir = d }
+
+      plus_one : (n : ℕ) → n + 1 ≡ suc n
+      plus_one n = omega arith
+
+      forth : leaves_there c (Link d) (slice_get ys hop) ≡ true → comes_in_there ys (suc hop) e (ByLink (opposite_of d)) (slice_get ys (suc hop)) ≡ true
+      forth on' =
+          let at : slice_get ys hop ≡ Some (record { chip = c; out = Link d }) = leaves_parts ys hop c (Link d) on' in
+          let leads = exit_leads s.machine net.tree.edges u net.tree.root ys hop (record { chip = c; out = Link d }) w'.is_branch at in
+          let y : Exit = leads.1.0 in
+          let by : ComesBy s.machine net.tree.edges ys Local hop y.chip =
+            comes_by s.machine net.tree.edges u net.tree.root Local ys hop y w'.is_branch leads.1.2
+          in
+          let same : Some (exit_of by.edge) ≡ Some (record { chip = c; out = Link d }) = sym by.before ∙ at in
+          let same_d : by.edge.dir ≡ d = same_dir by.edge c d same in
+          let same_e : Some y.chip ≡ Some e = sym leads.1.1 ∙ is_far in
+          comes_from ys (suc hop) e (ByLink (opposite_of d)) (record {
+            exit = y;
+            at = leads.1.2;
+            chip = cc;
+            port_is = by.arrives ∙ ap (λ (q : Dir). ByLink (opposite_of q)) same_d;
+          })
+
+      back : Contains net.tree.edges edge → comes_in_there ys (suc hop) e (ByLink (opposite_of d)) (slice_get ys (suc hop)) ≡ true → leaves_there c (Link d) (slice_get ys hop) ≡ true
+      back in_tree on' =
+          let there = comes_parts ys (suc hop) e (ByLink (opposite_of d)) on' in
+          let by : ComesBy s.machine net.tree.edges ys Local hop there.exit.chip =
+            comes_by s.machine net.tree.edges u net.tree.root Local ys hop there.exit w'.is_branch there.at
+          in
+          let one : by.edge ≡ edge =
+            one_edge_into s.machine net.tree.root net.tree.edges (map (λ x. x.chip) net.targets) stands.tree by.edge edge e
+            by.in_tree in_tree (by.leads ∙ ap Some there.chip) is_far
+          in
+          leaves_from ys hop c (Link d) (by.before ∙ ap (λ (f : Edge). Some (exit_of f)) one)
+
+  -- Crossing to a core: the branch ends there.
+  core_on : (t u : Spot) (xs ys : List Exit) (from from' to to' : ℕ) → Way t xs from to → Way u ys from' to' →
+      (c : Chip) (p v : ℕ) (hop : ℕ) → vertex_at s.spots (record { chip = c; core = p }) ≡ Some v → on_trail from to xs hop (in_hand c (Core p)) ≡ true →
+      on_trail from' to' ys (min (hop + 1) last_hop) (at_core v) ≡ on_trail from' to' ys hop (in_hand c (Core p))
+  core_on t u xs ys from from' to to' w w' c p v hop is_vertex on =
+      let at : slice_get xs hop ≡ Some (record { chip = c; out = Core p }) = leaves_parts xs hop c (Core p) on in
+      let small : hop < 4096 = small_hop t xs from to w hop (record { chip = c; out = Core p }) at in
+      ap (λ n. (v == to') && (n == length ys)) (onward_hop hop small)
+      ∙ same_test ((v == to') && (hop + 1 == length ys)) (leaves_there c (Core p) (slice_get ys hop)) back forth
+    where
+      spot : Spot
+      spot = record { chip = c; core = p }
+
+      forth : leaves_there c (Core p) (slice_get ys hop) ≡ true → ((v == to') && (hop + 1 == length ys)) ≡ true
+      forth on' =
+          let at : slice_get ys hop ≡ Some (record { chip = c; out = Core p }) = leaves_parts ys hop c (Core p) on' in
+          let leads = exit_leads s.machine net.tree.edges u net.tree.root ys hop (record { chip = c; out = Core p }) w'.is_branch at in
+          let ends : vertex_at s.spots spot ≡ Some to' = ap (vertex_at s.spots) (sym leads.0) ∙ w'.ends in
+          let same_v : v ≡ to' = cc in
+          both_true (v == to') (hop + 1 == length ys) (nat_same v to' same_v) (nat_same (hop + 1) (length ys) (omega (arith, leads.1)))
+
+      slice_get_there : (zs : List Exit) (i : ℕ) → i < length zs → (x : Exit) × (slice_get zs i ≡ Some x)
+      slice_get_there [] i within = absurd (omega arith)
+      slice_get_there (z ∷ zs) zero within = (z, refl)
+      slice_get_there (z ∷ zs) (suc i) within = slice_get_there zs i (omega arith)
+
+      by_output : (x : Exit) → slice_get ys hop ≡ Some x → (o : Out) → x.out ≡ o → hop + 1 ≡ length ys → u ≡ spot →
+          ExitLeads s.machine net.tree.edges u ys hop x o → leaves_there c (Core p) (slice_get ys hop) ≡ true
+      by_output x at (Link d) is last u_is leads =
+          let past : suc hop < length ys = place_below ys (suc hop) leads.1.0 leads.1.2 in absurd (omega arith)
+      by_output x at (Core q) is last u_is leads =
+          let target_is : spot ≡ record { chip = x.chip; core = q } = sym u_is ∙ leads.0 in
+          let same_c : c ≡ x.chip = ap (λ (z : Spot). z.chip) target_is in
+          let same_p : p ≡ q = ap (λ (z : Spot). z.core) target_is in
+          rw at (both_true (chip_eq x.chip c) (out_eq x.out (Core p))
+            (ap (λ (z : Chip). chip_eq x.chip z) same_c ∙ chip_eq_same x.chip)
+            (ap (λ (z : Out). out_eq z (Core p)) (is ∙ ap Core (sym same_p)) ∙ out_eq_same (Core p)))
+
+      back : ((v == to') && (hop + 1 == length ys)) ≡ true → leaves_there c (Core p) (slice_get ys hop) ≡ true
+      back both =
+          let same_v : v ≡ to' = nat_true v to' (and_true_left (v == to') (hop + 1 == length ys) both) in
+          let last : hop + 1 ≡ length ys = nat_true (hop + 1) (length ys) (and_true_right (v == to') (hop + 1 == length ys) both) in
+          let on_u : slice_get s.spots to' ≡ Some u = vertex_at_stands s.spots u to' w'.ends in
+          let on_spot : slice_get s.spots v ≡ Some spot = vertex_at_stands s.spots spot v is_vertex in
+          let target_is : Some u ≡ Some spot = sym on_u ∙ (ap (slice_get s.spots) (sym same_v) ∙ on_spot) in
+          let u_is : u ≡ spot = cc in
+          let within : hop < length ys = omega arith in
+          let exit = slice_get_there ys hop within in
+          by_output exit.0 exit.1 exit.0.out refl last u_is
+          (exit_leads s.machine net.tree.edges u net.tree.root ys hop exit.0 w'.is_branch exit.1)
+
+  -- Take: of the outputs that lookup gives, a branch that comes in there leaves by one, and any other by none.
+  take_on : (t u : Spot) (xs ys : List Exit) (from from' to to' : ℕ) → Way t xs from to → Way u ys from' to' →
+      (c : Chip) (port : Port) (k : McCopy) → IsKeyOf net.block k.key → on_trail from to xs k.hop (in_queue c port) ≡ true →
+      count_by (is_on_trail from' to' ys) (map (λ o. mark k (in_hand c o)) (outputs s c port k))
+      ≡ (if on_trail from' to' ys k.hop (in_queue c port) then 1 else 0)
+  take_on t u xs ys from from' to to' w w' c port k is_key on =
+      ap (λ os. count_by (is_on_trail from' to' ys) (map (λ o. mark k (in_hand c o)) os)) (outputs_are t xs from to w c port k on)
+      ∙ (count_by-map (is_on_trail from' to' ys) (λ o. mark k (in_hand c o)) (outs_of route)
+      ∙ by_exit (slice_get ys k.hop) refl)
+    where
+      route : Route
+      route = lookup (table_at s.machine s.tables c) k.key port
+
+      there : ComesThere xs k.hop c port
+      there = comes_parts xs k.hop c port on
+
+      comes_in : ComesIn s.machine net.tree.root net.tree.edges c port
+      comes_in =
+          subst (λ (d : Chip). ComesIn s.machine net.tree.root net.tree.edges d port) there.chip
+          (subst (λ (p : Port). ComesIn s.machine net.tree.root net.tree.edges there.exit.chip p) there.port_is
+          (branch_comes_in s net t xs w.is_branch k.hop there.exit there.at))
+
+      by_chip : (x : Exit) → slice_get ys k.hop ≡ Some x → (here : Bool) → chip_eq x.chip c ≡ here →
+          count_by (λ o. here && out_eq x.out o) (outs_of route) ≡ (if here && port_eq (arrival_at ys k.hop) port then 1 else 0)
+      by_chip x at false other = count_none (outs_of route)
+      by_chip x at true same =
+          let x_c : x.chip ≡ c = chip_eq_true x.chip c same in
+          let valid : IsOutput x.out = exit_is_output s net stands u w'.is_target ys w'.is_branch k.hop x at in
+          let wanted : is_wanted net.tree.edges net.targets x.chip x.out ≡ true =
+            exit_wanted s net u w'.is_target ys w'.is_branch k.hop x at
+          in
+          let given : has route x.out ≡ true =
+            stands.right c port k.key x.out comes_in is_key valid
+            ∙ (ap (λ (d : Chip). is_wanted net.tree.edges net.targets d x.out) (sym x_c) ∙ wanted)
+          in
+          let one = one_place s net stands t u xs ys w.is_branch w'.is_branch k.hop k.hop there.exit x there.at at (there.chip ∙ sym x_c) in
+          let arrives : port_eq (arrival_at ys k.hop) port ≡ true =
+            ap (λ (p : Port). port_eq p port) (sym one.1 ∙ there.port_is) ∙ port_eq_same port
+          in
+          outs_once route x.out valid ∙ (ap (λ b. if b then 1 else 0) given ∙ ap (λ b. if b then 1 else 0) (sym arrives))
+
+      by_exit : (x : Option Exit) → slice_get ys k.hop ≡ x →
+          count_by (λ o. leaves_there c o x) (outs_of route) ≡ (if comes_in_there ys k.hop c port x then 1 else 0)
+      by_exit (Some x) at = by_chip x at (chip_eq x.chip c) refl
+      by_exit None at = count_none (outs_of route)
+
+  -- one mark in the place of one, with the same test
+  one_for_one : (p : Mark → Bool) (x y : Mark) → p y ≡ p x → count_by p (y ∷ []) ≡ (if p x then 1 else 0)
+  one_for_one p x y same = count_by-cons p y [] ∙ (omega_add (if p y then 1 else 0) ∙ ap (λ b. if b then 1 else 0) same)
+
+  -- What comes stands on each trail of the net as often as what leaves.
+  pub move_counts : (t u : Spot) (xs ys : List Exit) (from from' to to' : ℕ) → Way t xs from to → Way u ys from' to' →
+      (x : Mark) (come : List Mark) → IsMove s x come → IsKeyOf net.block x.copy.key → is_on_trail from to xs x ≡ true →
+      count_by (is_on_trail from' to' ys) come ≡ (if is_on_trail from' to' ys x then 1 else 0)
+  move_counts t u xs ys from from' to to' w w' x come move is_key on = by_station x.copy x.station move is_key on
+    where
+      p : Mark → Bool
+      p = is_on_trail from' to' ys
+
+      crossing : (k : McCopy) (c : Chip) (o : Out) → Crosses s k c o come → on_trail from to xs k.hop (in_hand c o) ≡ true →
+          count_by p come ≡ (if p (mark k (in_hand c o)) then 1 else 0)
+      crossing k c (Link d) cross on' =
+          let y : Mark = mark (onward k) (in_queue cross.0 (ByLink (opposite_of d))) in
+          ap (λ l. count_by p l) cross.3
+          ∙ one_for_one p (mark k (in_hand c (Link d))) y (link_on t u xs ys from from' to to' w w' c cross.0 d k.hop cross.2 on')
+      crossing k c (Core q) cross on' =
+          let y : Mark = mark (onward k) (at_core cross.0) in
+          ap (λ l. count_by p l) cross.2
+          ∙ one_for_one p (mark k (in_hand c (Core q))) y (core_on t u xs ys from from' to to' w w' c q cross.0 k.hop cross.1 on')
+
+      by_station : (k : McCopy) (at : Station) → IsMoveOf s k at come → IsKeyOf net.block k.key → on_trail from to xs k.hop at ≡ true →
+          count_by p come ≡ (if on_trail from' to' ys k.hop at then 1 else 0)
+      by_station k (unsent v) m key on' =
+          ap (λ l. count_by p l) m.2
+          ∙ one_for_one p (mark k (unsent v)) (mark k (in_queue m.0.chip Local))
+            (inject_on t u xs ys from from' to to' w w' v m.0 k.hop m.1 on')
+      by_station k (in_queue c port) m key on' = ap (λ l. count_by p l) m ∙ take_on t u xs ys from from' to to' w w' c port k key on'
+      by_station k (in_hand c o) (inl m) key on' =
+          ap (λ l. count_by p l) m ∙ one_for_one p (mark k (in_hand c o)) (mark k (dumped c o)) refl
+      by_station k (in_hand c o) (inr m) key on' = crossing k c o m on'
+      by_station k (at_core v) m key on' = ap (λ l. count_by p l) m ∙ one_for_one p (mark k (at_core v)) (mark k (delivered v)) refl
+      by_station k (delivered v) m key on' = absurd m
+      by_station k (dumped c o) m key on' = absurd m
+
+  -- a mark stands on some trail of the net
+  pub record OnSomeTrail (y : Mark) : Type 0 where
+    pub target : Spot
+    pub branch : List Exit
+    pub from : ℕ
+    pub to : ℕ
+    pub way : IsWayOf s net target branch from to
+    pub on : is_on_trail from to branch y ≡ true
+
+  -- an output that lookup gives at a chip where a branch comes in lies on some branch, at the same place
+  gives_trail : (t : Spot) (xs : List Exit) (from to : ℕ) → Way t xs from to → (c : Chip) (port : Port) (k : McCopy) →
+      IsKeyOf net.block k.key → on_trail from to xs k.hop (in_queue c port) ≡ true → (o : Out) → Among o (outputs s c port k) →
+      OnSomeTrail (mark k (in_hand c o))
+  gives_trail t xs from to w c port k is_key on o given =
+      let there : ComesThere xs k.hop c port = comes_parts xs k.hop c port on in
+      let route : Route = lookup (table_at s.machine s.tables c) k.key port in
+      let in_route : Among o (outs_of route) = subst (λ (l : List Out). Among o l) (outputs_are t xs from to w c port k on) given in
+      let has_it : has route o ≡ true = among_filter (has route) o all_outs in_route in
+      let comes_in : ComesIn s.machine net.tree.root net.tree.edges c port =
+        subst (λ (d : Chip). ComesIn s.machine net.tree.root net.tree.edges d port) there.chip
+        (subst (λ (p : Port). ComesIn s.machine net.tree.root net.tree.edges there.exit.chip p) there.port_is
+        (branch_comes_in s net t xs w.is_branch k.hop there.exit there.at))
+      in
+      let wanted : is_wanted net.tree.edges net.targets c o ≡ true =
+        sym (stands.right c port k.key o comes_in is_key (has_is_output route o has_it)) ∙ has_it
+      in
+      let other = wanted_on_branch s net stands (record { chip = c; out = o }) wanted in
+      let one = one_place s net stands t other.target xs other.branch w.is_branch other.is_branch k.hop other.place there.exit
+          (record { chip = c; out = o }) there.at other.at there.chip
+      in
+      let end = vertex_there s.spots other.target (All-contains (Contains s.spots) net.targets other.target stands.targets other.is_target) in
+      record {
+        target = other.target;
+        branch = other.branch;
+        from = from;
+        to = end.0;
+        way = record { is_target = other.is_target; is_branch = other.is_branch; begins = w.begins; ends = end.1 };
+        on = leaves_from other.branch k.hop c o (ap (slice_get other.branch) one.0 ∙ other.at);
+      }
+
+  -- What comes is of the same packet, with the same key and payload, and stands on some trail of the net.
+  pub record ComesRight (x y : Mark) : Type 0 where
+    pub packet : y.copy.packet ≡ x.copy.packet
+    pub key : y.copy.key ≡ x.copy.key
+    pub payload : y.copy.payload ≡ x.copy.payload
+    pub trail : OnSomeTrail y
+
+  pub move_comes : (t : Spot) (xs : List Exit) (from to : ℕ) → Way t xs from to → (x : Mark) (come : List Mark) →
+      IsMove s x come → IsKeyOf net.block x.copy.key → is_on_trail from to xs x ≡ true → (y : Mark) → Among y come → ComesRight x y
+  move_comes t xs from to w x come move is_key on y is_come = by_station x.copy x.station move is_key on
+    where
+      -- the one mark that comes is on the trail of the one that leaves
+      here : (z : Mark) → is_on_trail from to xs z ≡ true → OnSomeTrail z
+      here z on' = record { target = t; branch = xs; from = from; to = to; way = w; on = on' }
+
+      only : (z : Mark) → come ≡ z ∷ [] → y ≡ z
+      only z e = elim (subst (λ (l : List Mark). Among y l) e is_come) [ inl same ↦ same | inr none ↦ absurd none ]
+
+      -- the one mark that comes is this one
+      one : (k : McCopy) (at : Station) (z : Mark) → come ≡ z ∷ [] → z.copy.packet ≡ k.packet → z.copy.key ≡ k.key → z.copy.payload ≡ k.payload →
+          is_on_trail from to xs z ≡ true → ComesRight (mark k at) y
+      one k at z e packet key payload on' =
+          let same : y ≡ z = only z e in
+          subst (λ (m : Mark). ComesRight (mark k at) m) (sym same)
+          (record { packet = packet; key = key; payload = payload; trail = here z on' })
+
+      crossing : (k : McCopy) (c : Chip) (o : Out) → Crosses s k c o come → on_trail from to xs k.hop (in_hand c o) ≡ true → ComesRight (mark k (in_hand c o)) y
+      crossing k c (Link d) cross on' =
+          one k (in_hand c (Link d)) (mark (onward k) (in_queue cross.0 (ByLink (opposite_of d)))) cross.3 refl refl refl
+          (link_on t t xs xs from from to to w w c cross.0 d k.hop cross.2 on' ∙ on')
+      crossing k c (Core q) cross on' =
+          one k (in_hand c (Core q)) (mark (onward k) (at_core cross.0)) cross.2 refl refl refl
+          (core_on t t xs xs from from to to w w c q cross.0 k.hop cross.1 on' ∙ on')
+
+      taking : (k : McCopy) (c : Chip) (port : Port) → IsKeyOf net.block k.key → on_trail from to xs k.hop (in_queue c port) ≡ true →
+          (os : List Out) → Among y (map (λ o. mark k (in_hand c o)) os) → ((o : Out) → Among o os → Among o (outputs s c port k)) →
+          ComesRight (mark k (in_queue c port)) y
+      taking k c port key on' [] a within = absurd a
+      taking k c port key on' (o ∷ os) (inl same) within =
+          subst (λ (m : Mark). ComesRight (mark k (in_queue c port)) m) (sym same)
+          (record { packet = refl; key = refl; payload = refl; trail = gives_trail t xs from to w c port k key on' o (within o (inl refl)) })
+      taking k c port key on' (o ∷ os) (inr later) within = taking k c port key on' os later (λ p a. within p (inr a))
+
+      by_station : (k : McCopy) (at : Station) → IsMoveOf s k at come → IsKeyOf net.block k.key → on_trail from to xs k.hop at ≡ true → ComesRight (mark k at) y
+      by_station k (unsent v) m key on' =
+          one k (unsent v) (mark k (in_queue m.0.chip Local)) m.2 refl refl refl
+          (inject_on t t xs xs from from to to w w v m.0 k.hop m.1 on' ∙ on')
+      by_station k (in_queue c port) m key on' =
+          taking k c port key on' (outputs s c port k) (subst (λ (l : List Mark). Among y l) m is_come) (λ o a. a)
+      by_station k (in_hand c o) (inl m) key on' = one k (in_hand c o) (mark k (dumped c o)) m refl refl refl on'
+      by_station k (in_hand c o) (inr m) key on' = crossing k c o m on'
+      by_station k (at_core v) m key on' = one k (at_core v) (mark k (delivered v)) m refl refl refl on'
+      by_station k (delivered v) m key on' = absurd m
+      by_station k (dumped c o) m key on' = absurd m

@@ -1,0 +1,393 @@
+-- The ledger of copies is kept by every bag of moves, of which an event is one move.
+use Rattle.std.proofs.Common.{◌≡◌, ◌≢◌, ℕ, ◌+◌, ◌<◌, ◌≤◌, List, [], ◌∷◌, Bool, true, false, ◌==◌, ◌&&◌, IsTrue, if◌then◌else◌, cond, Option, Some, None, refl, ap, sym, ◌∙◌, subst, arith, inl, inr, ◌⊎◌, length, count_by, suc, zero}
+use Rattle.std.specs.List.{slice_get, slice_index_or, All, AllPairs, Contains}
+use Rattle.std.proofs.lemmas.List.Elements.{All-contains}
+use Rattle.std.proofs.lemmas.Bool.{cases_order}
+use Rattle.std.proofs.lemmas.List.{get_or_default}
+use Rattle.spin_base.specs.declared.chips.Spot.{Spot}
+use Rattle.spin_base.specs.declared.blocks.Entry.{Entry}
+use Rattle.spin_base.specs.declared.copies.Event.{Event}
+use Rattle.machine_desc.specs.Description.{Description}
+use Rattle.machine_desc.specs.RoutingTree.{IsRoutingTree}
+use Rattle.machine_desc.specs.Branch.{Exit, IsBranch}
+use Rattle.net_tables.specs.declared.nets.NetPlan.{NetPlan}
+use Rattle.net_tables.specs.RightTables.{IsKeyOf, RoutesByTree, AreRight}
+use Rattle.mesh_core.specs.State.{State, IsMesh, vertex_at}
+use Rattle.mesh_core.specs.Step.{stepped, after_event, after_events, last_hop}
+use Rattle.mesh_core.specs.Trail.{Station, unsent, in_queue, in_hand, at_core, delivered, dumped, Mark, on_trail, is_on_trail, is_packet_on_trail}
+use Rattle.mesh_core.specs.Ledger.{marks_of, AreNetsOf, HaveDisjointBlocks, Label, IsWayOf, MeetsLedger}
+use Rattle.mesh_core.proofs.Exchange.{TakenOut, PutIn, Among, among_contains, contains_among, among_taken_out, among_before, among_put_in, count_taken_out, count_put_in, count_by-cons}
+use Rattle.mesh_core.proofs.Moves.{Exchange, IsMove}
+use Rattle.mesh_core.proofs.MarkTests.{mark_eq, mark_eq_same, mark_eq_true, rank, move_raises}
+use Rattle.mesh_core.proofs.Events.{and_true_left, and_true_right}
+use Rattle.mesh_core.proofs.Ways.{Stands, nat_true, nat_same, both_true, short_branch, place_below}
+use Rattle.mesh_core.proofs.Law.{OnSomeTrail, ComesRight, move_comes, move_counts, count_none, comes_parts, leaves_parts}
+
+-- ---- what the ledger says stays where machine and vertices stay
+
+record SameGround (s t : State) : Type 0 where
+  machine : t.machine ≡ s.machine
+  spots : t.spots ≡ s.spots
+
+nets_carried : (s t : State) → SameGround s t → (nets : List NetPlan) → AreNetsOf s nets → AreNetsOf t nets
+nets_carried s t same nets stand = record {
+  disjoint = stand.disjoint;
+  trees = subst (λ (m : Description). All (λ net. IsRoutingTree m net.tree.root net.tree.edges net.targets) nets) (sym same.machine) stand.trees;
+  roots = stand.roots;
+  sources = subst (λ (l : List Spot). All (λ net. Contains l net.source) nets) (sym same.spots) stand.sources;
+  targets = subst (λ (l : List Spot). All (λ net. All (Contains l) net.targets) nets) (sym same.spots) stand.targets;
+  different = stand.different;
+}
+
+way_carried : (s t : State) → SameGround s t → (net : NetPlan) (target : Spot) (branch : List Exit) (from to : ℕ) →
+    IsWayOf s net target branch from to → IsWayOf t net target branch from to
+way_carried s t same net target branch from to w = record {
+  is_target = w.is_target;
+  is_branch = subst (λ (m : Description). IsBranch m net.tree.root net.tree.edges target branch) (sym same.machine) w.is_branch;
+  begins = ap (λ (l : List Spot). vertex_at l net.source) same.spots ∙ w.begins;
+  ends = ap (λ (l : List Spot). vertex_at l target) same.spots ∙ w.ends;
+}
+
+turned : (s t : State) → SameGround s t → SameGround t s
+turned s t same = record { machine = sym same.machine; spots = sym same.spots }
+
+-- ---- the net of a key
+
+-- the net in whose block a key is, is one
+pub one_net : (nets : List NetPlan) → HaveDisjointBlocks nets → (a b : NetPlan) → Contains nets a → Contains nets b → (key : ℕ) →
+    IsKeyOf a.block key → IsKeyOf b.block key → a ≡ b
+one_net nets disjoint a b in_a in_b key key_a key_b = elim (cases_order in_a.0 in_b.0) [
+  | inl same ↦ sym in_a.2 ∙ (ap (λ k. slice_index_or nets k a) same ∙ (get_or_default nets in_b.0 a b in_b.1 ∙ in_b.2))
+  | inr (inl before) ↦
+      let first : slice_index_or nets in_a.0 a ≡ a = in_a.2 in
+      let second : slice_index_or nets in_b.0 a ≡ b = get_or_default nets in_b.0 a b in_b.1 ∙ in_b.2 in
+      absurd (disjoint in_a.0 in_b.0 a before in_b.1 key
+        (subst (λ (n : NetPlan). IsKeyOf n.block key) (sym first) key_a)
+        (subst (λ (n : NetPlan). IsKeyOf n.block key) (sym second) key_b))
+  | inr (inr after) ↦
+      let first : slice_index_or nets in_b.0 b ≡ b = in_b.2 in
+      let second : slice_index_or nets in_a.0 b ≡ a = get_or_default nets in_a.0 b a in_a.1 ∙ in_a.2 in
+      absurd (disjoint in_b.0 in_a.0 b after in_a.1 key
+        (subst (λ (n : NetPlan). IsKeyOf n.block key) (sym first) key_b)
+        (subst (λ (n : NetPlan). IsKeyOf n.block key) (sym second) key_a))
+]
+
+-- ---- counts of one packet
+
+count_agree : (p q : Mark → Bool) (xs : List Mark) → ((y : Mark) → Among y xs → p y ≡ q y) → count_by p xs ≡ count_by q xs
+count_agree p q [] same = refl
+count_agree p q (x ∷ xs) same =
+    count_by-cons p x xs
+    ∙ (ap (λ b. (if b then 1 else 0) + count_by p xs) (same x (inl refl))
+    ∙ (ap (λ n. (if q x then 1 else 0) + n) (count_agree p q xs (λ y a. same y (inr a))) ∙ sym (count_by-cons q x xs)))
+
+-- marks that are all of one packet, counted by packet and trail
+count_of_packet : (n m from to : ℕ) (branch : List Exit) (come : List Mark) → ((y : Mark) → Among y come → y.copy.packet ≡ m) →
+    (same : Bool) → (m == n) ≡ same → (leaves : Mark) → leaves.copy.packet ≡ m →
+    (same ≡ true → count_by (is_on_trail from to branch) come ≡ (if is_on_trail from to branch leaves then 1 else 0)) →
+    count_by (is_packet_on_trail n from to branch) come ≡ (if is_packet_on_trail n from to branch leaves then 1 else 0)
+count_of_packet n m from to branch come of_m true is leaves leaves_m counts =
+    count_agree (is_packet_on_trail n from to branch) (is_on_trail from to branch) come
+    (λ y a. ap (λ b. b && is_on_trail from to branch y) (ap (λ k. k == n) (of_m y a) ∙ is))
+    ∙ (counts refl ∙ ap (λ b. if b && is_on_trail from to branch leaves then 1 else 0) (sym (ap (λ k. k == n) leaves_m ∙ is)))
+count_of_packet n m from to branch come of_m false is leaves leaves_m counts =
+    count_agree (is_packet_on_trail n from to branch) (λ y. false) come
+    (λ y a. ap (λ b. b && is_on_trail from to branch y) (ap (λ k. k == n) (of_m y a) ∙ is))
+    ∙ (count_none come ∙ ap (λ b. if b && is_on_trail from to branch leaves then 1 else 0) (sym (ap (λ k. k == n) leaves_m ∙ is)))
+
+-- ---- bags of moves
+
+-- a move that was made
+pub record Moved (s : State) : Type 0 where
+  pub leaves : Mark
+  pub come : List Mark
+  pub is_move : IsMove s leaves come
+  pub small : leaves.copy.hop ≤ last_hop
+
+-- how many of the marks that left pass a test, and of those that came
+abbrev pub count_left : {s : State} → (Mark → Bool) → List (Moved s) → ℕ
+count_left p [] = 0
+count_left p (v ∷ moves) = (if p v.leaves then 1 else 0) + count_left p moves
+
+abbrev pub count_come : {s : State} → (Mark → Bool) → List (Moved s) → ℕ
+count_come p [] = 0
+count_come p (v ∷ moves) = count_by p v.come + count_come p moves
+
+-- A bag of moves leads from one mesh to another where, of every kind of marks, those afterwards and those that left are
+-- as many as those before and those that came. No order of the moves is asked.
+pub record Bag (s t : State) : Type 0 where
+  pub moves : List (Moved s)
+  pub balance : (p : Mark → Bool) → count_by p (marks_of t) + count_left p moves ≡ count_by p (marks_of s) + count_come p moves
+  pub machine : t.machine ≡ s.machine
+  pub spots : t.spots ≡ s.spots
+  pub tables : t.tables ≡ s.tables
+
+-- An event is a bag of one move.
+pub bag_of_event : (s t : State) (e : Exchange s t) → e.leaves.copy.hop ≤ last_hop → Bag s t
+bag_of_event s t e small = record {
+  moves = record { leaves = e.leaves; come = e.come; is_move = e.move; small = small } ∷ [];
+  balance = λ p.
+    let before = count_taken_out p e.leaves (marks_of s) e.rest e.out in
+    let after = count_put_in p e.come e.rest (marks_of t) e.put in
+    omega arith;
+  machine = e.machine;
+  spots = e.spots;
+  tables = e.tables;
+}
+
+-- ---- counts and members
+
+counts_one : (b : Bool) → b ≡ true → (let n : ℕ = if b then 1 else 0 in n ≡ 1)
+counts_one true e = refl
+counts_one false e = cc
+
+count_of_among : (p : Mark → Bool) (x : Mark) (xs : List Mark) → p x ≡ true → Among x xs → 1 ≤ count_by p xs
+count_of_among p x [] passes a = absurd a
+count_of_among p x (y ∷ xs) passes (inl here) =
+    let first = counts_one (p y) (ap p (sym here) ∙ passes) in
+    omega (arith, count_by-cons p y xs)
+count_of_among p x (y ∷ xs) passes (inr later) =
+    let rest = count_of_among p x xs passes later in omega (arith, count_by-cons p y xs)
+
+among_of_count_by : (x y : Mark) (xs : List Mark) (b : Bool) → mark_eq x y ≡ b → (1 ≤ count_by (mark_eq x) xs → Among x xs) →
+    1 ≤ (if b then 1 else 0) + count_by (mark_eq x) xs → Among x (y ∷ xs)
+among_of_count_by x y xs true same later some = inl (mark_eq_true x y same)
+among_of_count_by x y xs false other later some = inr (later (omega arith))
+
+among_of_count : (x : Mark) (xs : List Mark) → 1 ≤ count_by (mark_eq x) xs → Among x xs
+among_of_count x [] some = absurd (omega arith)
+among_of_count x (y ∷ xs) some =
+    among_of_count_by x y xs (mark_eq x y) refl (among_of_count x xs) (subst (λ n. 1 ≤ n) (count_by-cons (mark_eq x) y xs) some)
+
+-- ---- the law
+
+module _ (s t : State) (nets : List NetPlan) (labels : ℕ → Label)
+    (mesh : IsMesh s) (right : AreRight s.machine s.tables nets) (ledger : MeetsLedger s nets labels) where
+  -- a net of the list stands on the mesh
+  pub stands : (net : NetPlan) → Contains nets net → Stands s net
+  stands net has = record {
+    mesh = mesh;
+    tree = All-contains (λ n. IsRoutingTree s.machine n.tree.root n.tree.edges n.targets) nets net ledger.nets_stand.trees has;
+    root = All-contains (λ n. n.tree.root ≡ n.source.chip) nets net ledger.nets_stand.roots has;
+    source = All-contains (λ n. Contains s.spots n.source) nets net ledger.nets_stand.sources has;
+    targets = All-contains (λ n. All (Contains s.spots) n.targets) nets net ledger.nets_stand.targets has;
+    right = All-contains (RoutesByTree s.machine s.tables) nets net right has;
+  }
+
+  -- What the ledger asks of one mark, and that its packet had a mark before.
+  pub record IsRight (k : Mark) : Type 0 where
+    pub key : k.copy.key ≡ (labels k.copy.packet).key
+    pub payload : k.copy.payload ≡ (labels k.copy.packet).payload
+    pub net : NetPlan
+    pub in_nets : Contains nets net
+    pub is_key : IsKeyOf net.block k.copy.key
+    pub trail : OnSomeTrail s net (stands net in_nets) k
+    pub origin : Mark
+    pub was_there : Contains (marks_of s) origin
+    pub same_packet : origin.copy.packet ≡ k.copy.packet
+
+  pub right_before : (k : Mark) → Contains (marks_of s) k → IsRight k
+  right_before k has =
+      let label = ledger.labelled k has in
+      let on = ledger.on_a_trail k has in
+      record {
+        key = label.0;
+        payload = label.1;
+        net = on.0;
+        in_nets = on.1;
+        is_key = on.2;
+        trail = record { target = on.3.0; branch = on.3.1; from = on.3.2; to = on.3.3; way = on.3.4; on = on.3.5 };
+        origin = k;
+        was_there = has;
+        same_packet = refl;
+      }
+
+  right_come : (x : Mark) → IsRight x → (come : List Mark) → IsMove s x come → (y : Mark) → Among y come → IsRight y
+  right_come x r come move y a =
+      let comes = move_comes s r.net (stands r.net r.in_nets) r.trail.target r.trail.branch r.trail.from r.trail.to r.trail.way x come move r.is_key r.trail.on y a in
+      record {
+        key = comes.key ∙ (r.key ∙ ap (λ n. (labels n).key) (sym comes.packet));
+        payload = comes.payload ∙ (r.payload ∙ ap (λ n. (labels n).payload) (sym comes.packet));
+        net = r.net;
+        in_nets = r.in_nets;
+        is_key = subst (λ n. IsKeyOf r.net.block n) (sym comes.key) r.is_key;
+        trail = comes.trail;
+        origin = r.origin;
+        was_there = r.was_there;
+        same_packet = r.same_packet ∙ sym comes.packet;
+      }
+
+  -- a mark on a trail has a small hop number
+  pub right_small : (k : Mark) → IsRight k → k.copy.hop ≤ last_hop
+  right_small k r =
+      let w = r.trail in
+      let short : length w.branch ≤ 4096 = short_branch s r.net (stands r.net r.in_nets) w.target w.branch w.way.is_branch in
+      let hop : k.copy.hop ≤ length w.branch = hop_on_trail w.from w.to w.branch k.copy.hop k.station w.on in
+      omega arith
+    where
+      hop_on_trail : (from to : ℕ) (branch : List Exit) (hop : ℕ) (at : Station) → on_trail from to branch hop at ≡ true → hop ≤ length branch
+      hop_on_trail from to branch hop (unsent v) on = let zero_hop = nat_true hop 0 (and_true_right (v == from) (hop == 0) on) in omega arith
+      hop_on_trail from to branch hop (in_queue c port) on =
+          let there = comes_parts branch hop c port on in let below = place_below branch hop there.exit there.at in omega arith
+      hop_on_trail from to branch hop (in_hand c o) on =
+          let below = place_below branch hop (record { chip = c; out = o }) (leaves_parts branch hop c o on) in omega arith
+      hop_on_trail from to branch hop (at_core v) on = let last = nat_true hop (length branch) (and_true_right (v == to) (hop == length branch) on) in omega arith
+      hop_on_trail from to branch hop (delivered v) on = let last = nat_true hop (length branch) (and_true_right (v == to) (hop == length branch) on) in omega arith
+      hop_on_trail from to branch hop (dumped c o) on =
+          let below = place_below branch hop (record { chip = c; out = o }) (leaves_parts branch hop c o on) in omega arith
+
+  module _ (bag : Bag s t) where
+    abbrev AmongMoves : Moved s → List (Moved s) → Type 0
+    AmongMoves v moves = Among v moves
+
+    -- a mark that was there, or came
+    abbrev Occurs : Mark → Type 0
+    Occurs k = Among k (marks_of s) ⊎ ((v : Moved s) × Among v bag.moves × Among k v.come)
+
+    left_counts : (p : Mark → Bool) (v : Moved s) (moves : List (Moved s)) → Among v moves → p v.leaves ≡ true → 1 ≤ count_left p moves
+    left_counts p v [] a passes = absurd a
+    left_counts p v (w ∷ moves) (inl here) passes =
+        let first = counts_one (p w.leaves) (ap (λ (u : Moved s). p u.leaves) (sym here) ∙ passes) in
+        omega arith
+    left_counts p v (w ∷ moves) (inr later) passes = let rest = left_counts p v moves later passes in omega arith
+
+    come_counts : (k : Mark) (moves : List (Moved s)) → 1 ≤ count_come (mark_eq k) moves → (v : Moved s) × Among v moves × Among k v.come
+    come_counts k [] some = absurd (omega arith)
+    come_counts k (w ∷ moves) some = elim (cases_order (count_by (mark_eq k) w.come) 0) [
+      | inl none ↦ let rest = come_counts k moves (omega arith) in (rest.0, inr rest.1, rest.2)
+      | inr (inl below) ↦ absurd (omega arith)
+      | inr (inr more) ↦ (w, inl refl, among_of_count k w.come (omega arith))
+    ]
+
+    -- a mark that passes on one side of the balance is on the other
+    occurs_of_count : (k : Mark) → 1 ≤ count_by (mark_eq k) (marks_of s) + count_come (mark_eq k) bag.moves → Occurs k
+    occurs_of_count k some = elim (cases_order (count_by (mark_eq k) (marks_of s)) 0) [
+      | inl none ↦ inr (come_counts k bag.moves (omega arith))
+      | inr (inl below) ↦ absurd (omega arith)
+      | inr (inr more) ↦ inl (among_of_count k (marks_of s) (omega arith))
+    ]
+
+    leaves_occurs : (v : Moved s) → Among v bag.moves → Occurs v.leaves
+    leaves_occurs v a =
+        let left = left_counts (mark_eq v.leaves) v bag.moves a (mark_eq_same v.leaves) in
+        let even = bag.balance (mark_eq v.leaves) in
+        occurs_of_count v.leaves (omega arith)
+
+    now_occurs : (k : Mark) → Among k (marks_of t) → Occurs k
+    now_occurs k a =
+        let some = count_of_among (mark_eq k) k (marks_of t) (mark_eq_same k) a in
+        let even = bag.balance (mark_eq k) in
+        occurs_of_count k (omega arith)
+
+    -- every mark that was there or came is right: by induction on how far it is on
+    right_below : (n : ℕ) (k : Mark) → rank k < n → Occurs k → IsRight k
+    right_below zero k far o = absurd (omega arith)
+    right_below (suc n) k far (inl was) = right_before k (among_contains k (marks_of s) was)
+    right_below (suc n) k far (inr came) =
+        let v : Moved s = came.0 in
+        let further = move_raises s v.leaves v.come v.small v.is_move k came.2 in
+        right_come v.leaves (right_below n v.leaves (omega arith) (leaves_occurs v came.1)) v.come v.is_move k came.2
+
+    all_right : (k : Mark) → Occurs k → IsRight k
+    all_right k o = right_below (rank k + 1) k (omega arith) o
+
+    -- one move keeps the count of a packet on a trail
+    one_move : (n : ℕ) (net : NetPlan) → Contains nets net → IsKeyOf net.block (labels n).key →
+        (target : Spot) (branch : List Exit) (from to : ℕ) → IsWayOf s net target branch from to → (v : Moved s) → Among v bag.moves →
+        count_by (is_packet_on_trail n from to branch) v.come ≡ (if is_packet_on_trail n from to branch v.leaves then 1 else 0)
+    one_move n net has key target branch from to w v a =
+        count_of_packet n v.leaves.copy.packet from to branch v.come packets (v.leaves.copy.packet == n) refl v.leaves refl counted
+      where
+        r : IsRight v.leaves
+        r = all_right v.leaves (leaves_occurs v a)
+
+        packets : (y : Mark) → Among y v.come → y.copy.packet ≡ v.leaves.copy.packet
+        packets y b =
+            (move_comes s r.net (stands r.net r.in_nets) r.trail.target r.trail.branch r.trail.from r.trail.to r.trail.way v.leaves v.come v.is_move r.is_key r.trail.on y b).packet
+
+        counted : (v.leaves.copy.packet == n) ≡ true →
+            count_by (is_on_trail from to branch) v.come ≡ (if is_on_trail from to branch v.leaves then 1 else 0)
+        counted same =
+            let number : v.leaves.copy.packet ≡ n = nat_true v.leaves.copy.packet n same in
+            let its_key : v.leaves.copy.key ≡ (labels n).key = r.key ∙ ap (λ i. (labels i).key) number in
+            let one : r.net ≡ net =
+              one_net nets ledger.nets_stand.disjoint r.net net r.in_nets has v.leaves.copy.key r.is_key (subst (λ i. IsKeyOf net.block i) (sym its_key) key)
+            in
+            move_counts s r.net (stands r.net r.in_nets) r.trail.target target r.trail.branch branch r.trail.from from r.trail.to to r.trail.way
+            (subst (λ (m : NetPlan). IsWayOf s m target branch from to) (sym one) w) v.leaves v.come v.is_move r.is_key r.trail.on
+
+    all_moves : (n : ℕ) (net : NetPlan) → Contains nets net → IsKeyOf net.block (labels n).key →
+        (target : Spot) (branch : List Exit) (from to : ℕ) → IsWayOf s net target branch from to →
+        (moves : List (Moved s)) → ((v : Moved s) → Among v moves → Among v bag.moves) →
+        count_come (is_packet_on_trail n from to branch) moves ≡ count_left (is_packet_on_trail n from to branch) moves
+    all_moves n net has key target branch from to w [] within = refl
+    all_moves n net has key target branch from to w (v ∷ moves) within =
+        let first = one_move n net has key target branch from to w v (within v (inl refl)) in
+        let rest = all_moves n net has key target branch from to w moves (λ u a. within u (inr a)) in
+        omega arith
+
+    ground : SameGround s t
+    ground = record { machine = bag.machine; spots = bag.spots }
+
+    -- The ledger is kept by a bag of moves.
+    pub bag_keeps_ledger : MeetsLedger t nets labels
+    bag_keeps_ledger = record {
+      nets_stand = nets_carried s t ground nets ledger.nets_stand;
+      labelled = λ k has. let r = now_right k has in (r.key, r.payload);
+      on_a_trail = λ k has.
+        let r = now_right k has in
+        (r.net, r.in_nets, r.is_key,
+          (r.trail.target, r.trail.branch, r.trail.from, r.trail.to,
+            way_carried s t ground r.net r.trail.target r.trail.branch r.trail.from r.trail.to r.trail.way, r.trail.on));
+      once_on_each = once_now;
+    }
+      where
+        now_right : (k : Mark) → Contains (marks_of t) k → IsRight k
+        now_right k has = all_right k (now_occurs k (contains_among k (marks_of t) has))
+
+        once_now : (k : Mark) → Contains (marks_of t) k → (net : NetPlan) → Contains nets net → IsKeyOf net.block k.copy.key →
+            (target : Spot) (branch : List Exit) (from to : ℕ) → IsWayOf t net target branch from to →
+            count_by (is_packet_on_trail k.copy.packet from to branch) (marks_of t) ≡ 1
+        once_now k has net in_list key target branch from to w =
+            let r = now_right k has in
+            let n : ℕ = k.copy.packet in
+            let p : Mark → Bool = is_packet_on_trail n from to branch in
+            let w_s = way_carried t s (turned s t ground) net target branch from to w in
+            let label_key : IsKeyOf net.block (labels n).key = subst (λ i. IsKeyOf net.block i) r.key key in
+            let even = bag.balance p in
+            let moved = all_moves n net in_list label_key target branch from to w_s bag.moves (λ v a. a) in
+            let old = right_before r.origin r.was_there in
+            let origin_key : IsKeyOf net.block r.origin.copy.key =
+              subst (λ i. IsKeyOf net.block i) (sym (old.key ∙ ap (λ i. (labels i).key) r.same_packet)) label_key
+            in
+            let before : count_by p (marks_of s) ≡ 1 =
+              ap (λ i. count_by (is_packet_on_trail i from to branch) (marks_of s)) (sym r.same_packet)
+              ∙ ledger.once_on_each r.origin r.was_there net in_list origin_key target branch from to w_s
+            in
+            omega arith
+
+    -- A packet that has a mark had one before.
+    pub bag_adds_no_packet : (k : Mark) → Contains (marks_of t) k → (m : Mark) × Contains (marks_of s) m × (m.copy.packet ≡ k.copy.packet)
+    bag_adds_no_packet k has = let r = all_right k (now_occurs k (contains_among k (marks_of t) has)) in (r.origin, r.was_there, r.same_packet)
+
+    -- A packet that had a mark has one afterwards: its marks on a trail stay as many.
+    pub bag_keeps_packets : (k : Mark) → Contains (marks_of s) k → (m : Mark) × Contains (marks_of t) m × (m.copy.packet ≡ k.copy.packet)
+    bag_keeps_packets k has =
+        let r = right_before k has in
+        let n : ℕ = k.copy.packet in
+        let p : Mark → Bool = is_packet_on_trail n r.trail.from r.trail.to r.trail.branch in
+        let label_key : IsKeyOf r.net.block (labels n).key = subst (λ i. IsKeyOf r.net.block i) r.key r.is_key in
+        let even = bag.balance p in
+        let moved = all_moves n r.net r.in_nets label_key r.trail.target r.trail.branch r.trail.from r.trail.to r.trail.way bag.moves (λ v a. a) in
+        let before = ledger.once_on_each k has r.net r.in_nets r.is_key r.trail.target r.trail.branch r.trail.from r.trail.to r.trail.way in
+        let found = counted_one p (marks_of t) (omega arith) in
+        (found.0, among_contains found.0 (marks_of t) found.1, nat_true found.0.copy.packet n (and_true_left (found.0.copy.packet == n) _ found.2))
+      where
+        counted_by : (q : Mark → Bool) (x : Mark) (xs : List Mark) (b : Bool) → q x ≡ b → (1 ≤ count_by q xs → (y : Mark) × Among y xs × (q y ≡ true)) →
+            1 ≤ (if b then 1 else 0) + count_by q xs → (y : Mark) × Among y (x ∷ xs) × (q y ≡ true)
+        counted_by q x xs true passes later some = (x, inl refl, passes)
+        counted_by q x xs false fails later some = let rest = later (omega arith) in (rest.0, inr rest.1, rest.2)
+
+        counted_one : (q : Mark → Bool) (xs : List Mark) → 1 ≤ count_by q xs → (y : Mark) × Among y xs × (q y ≡ true)
+        counted_one q [] some = absurd (omega arith)
+        counted_one q (x ∷ xs) some = counted_by q x xs (q x) refl (counted_one q xs) (subst (λ i. 1 ≤ i) (count_by-cons q x xs) some)

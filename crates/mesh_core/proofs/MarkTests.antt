@@ -1,0 +1,201 @@
+-- A test of equality on marks, and a number that each move raises.
+use Rattle.std.proofs.Common.{◌≡◌, ℕ, ◌+◌, ◌*◌, ◌<◌, ◌≤◌, List, [], ◌∷◌, map, Bool, true, false, ◌==◌, ◌&&◌, if◌then◌else◌, Option, Some, None, refl, ap, sym, ◌∙◌, arith, inl, inr, ◌⊎◌, min, subst}
+use Rattle.spin_base.specs.declared.chips.Chip.{Chip}
+use Rattle.spin_base.specs.declared.chips.Port.{Port}
+use Rattle.spin_base.specs.declared.chips.Port.TheVariants.{Link as ByLink, Local}
+use Rattle.spin_base.specs.declared.routes.Out.{Out}
+use Rattle.spin_base.specs.declared.routes.Out.TheVariants.{Link, Core}
+use Rattle.spin_base.specs.declared.copies.McCopy.{McCopy}
+use Rattle.spin_base.specs.Links.{opposite_of}
+use Rattle.spin_base.specs.Lookup.{lookup}
+use Rattle.spin_base.specs.Outputs.{outs_of}
+use Rattle.net_tables.specs.RightTables.{table_at}
+use Rattle.spin_base.specs.Equality.{chip_eq, port_eq, out_eq}
+use Rattle.spin_base.proofs.Equality.{chip_eq_same, chip_eq_true, port_eq_same, port_eq_true, out_eq_same, out_eq_true}
+use Rattle.mesh_core.specs.State.{State}
+use Rattle.mesh_core.specs.Step.{onward, outputs, last_hop}
+use Rattle.mesh_core.specs.Trail.{Station, unsent, in_queue, in_hand, at_core, delivered, dumped, Mark}
+use Rattle.mesh_core.proofs.Exchange.{Among}
+use Rattle.mesh_core.proofs.Moves.{mark, IsMove, IsMoveOf, Crosses}
+use Rattle.mesh_core.proofs.Events.{and_true_left, and_true_right}
+use Rattle.mesh_core.proofs.Ways.{nat_true, nat_same, both_true}
+
+payload_eq : Option ℕ → Option ℕ → Bool
+payload_eq (Some a) (Some b) = a == b
+payload_eq (Some a) None = false
+payload_eq None (Some b) = false
+payload_eq None None = true
+
+payload_same : (a : Option ℕ) → payload_eq a a ≡ true
+unfolding payload_eq
+payload_same (Some a) = nat_same a a refl
+payload_same None = refl
+
+payload_true : (a b : Option ℕ) → payload_eq a b ≡ true → a ≡ b
+unfolding payload_eq
+payload_true (Some a) (Some b) e = ap Some (nat_true a b e)
+payload_true (Some a) None e = cc
+payload_true None (Some b) e = cc
+payload_true None None e = refl
+
+station_eq : Station → Station → Bool
+station_eq (unsent v) (unsent w) = v == w
+station_eq (in_queue c p) (in_queue d q) = chip_eq c d && port_eq p q
+station_eq (in_hand c o) (in_hand d p) = chip_eq c d && out_eq o p
+station_eq (at_core v) (at_core w) = v == w
+station_eq (delivered v) (delivered w) = v == w
+station_eq (dumped c o) (dumped d p) = chip_eq c d && out_eq o p
+station_eq _ _ = false
+
+station_same : (a : Station) → station_eq a a ≡ true
+unfolding station_eq
+station_same (unsent v) = nat_same v v refl
+station_same (in_queue c p) = both_true (chip_eq c c) (port_eq p p) (chip_eq_same c) (port_eq_same p)
+station_same (in_hand c o) = both_true (chip_eq c c) (out_eq o o) (chip_eq_same c) (out_eq_same o)
+station_same (at_core v) = nat_same v v refl
+station_same (delivered v) = nat_same v v refl
+station_same (dumped c o) = both_true (chip_eq c c) (out_eq o o) (chip_eq_same c) (out_eq_same o)
+
+two_alike : {A B C : Type 0} (f : A → B → C) (a a' : A) (b b' : B) → a ≡ a' → b ≡ b' → f a b ≡ f a' b'
+two_alike f a a' b b' e e' = cc
+
+station_true : (a b : Station) → station_eq a b ≡ true → a ≡ b
+unfolding station_eq
+station_true (unsent v) (unsent w) e = ap unsent (nat_true v w e)
+station_true (in_queue c p) (in_queue d q) e =
+    two_alike in_queue c d p q (chip_eq_true c d (and_true_left (chip_eq c d) (port_eq p q) e)) (port_eq_true p q (and_true_right (chip_eq c d) (port_eq p q) e))
+station_true (in_hand c o) (in_hand d p) e =
+    two_alike in_hand c d o p (chip_eq_true c d (and_true_left (chip_eq c d) (out_eq o p) e)) (out_eq_true o p (and_true_right (chip_eq c d) (out_eq o p) e))
+station_true (at_core v) (at_core w) e = ap at_core (nat_true v w e)
+station_true (delivered v) (delivered w) e = ap delivered (nat_true v w e)
+station_true (dumped c o) (dumped d p) e =
+    two_alike dumped c d o p (chip_eq_true c d (and_true_left (chip_eq c d) (out_eq o p) e)) (out_eq_true o p (and_true_right (chip_eq c d) (out_eq o p) e))
+station_true _ _ e = cc
+
+copy_eq : McCopy → McCopy → Bool
+copy_eq a b = (a.packet == b.packet) && ((a.key == b.key) && (payload_eq a.payload b.payload && (a.hop == b.hop)))
+
+copies_alike : (n n' k k' h h' : ℕ) (p p' : Option ℕ) → n ≡ n' → k ≡ k' → p ≡ p' → h ≡ h' →
+    (let a : McCopy = record { packet = n; key = k; payload = p; hop = h } in let b : McCopy = record { packet = n'; key = k'; payload = p'; hop = h' } in a ≡ b)
+copies_alike n n' k k' h h' p p' e f g i = cc
+
+-- whether two marks are one
+pub mark_eq : Mark → Mark → Bool
+mark_eq a b = copy_eq a.copy b.copy && station_eq a.station b.station
+
+pub mark_eq_same : (a : Mark) → mark_eq a a ≡ true
+unfolding mark_eq copy_eq
+mark_eq_same a =
+    both_true (copy_eq a.copy a.copy) (station_eq a.station a.station)
+    (both_true (a.copy.packet == a.copy.packet) ((a.copy.key == a.copy.key) && (payload_eq a.copy.payload a.copy.payload && (a.copy.hop == a.copy.hop)))
+      (nat_same a.copy.packet a.copy.packet refl)
+      (both_true (a.copy.key == a.copy.key) (payload_eq a.copy.payload a.copy.payload && (a.copy.hop == a.copy.hop)) (nat_same a.copy.key a.copy.key refl)
+        (both_true (payload_eq a.copy.payload a.copy.payload) (a.copy.hop == a.copy.hop) (payload_same a.copy.payload) (nat_same a.copy.hop a.copy.hop refl))))
+    (station_same a.station)
+
+marks_alike : (c d : McCopy) (a b : Station) → c ≡ d → a ≡ b → mark c a ≡ mark d b
+marks_alike c d a b e f = cc
+
+pub mark_eq_true : (a b : Mark) → mark_eq a b ≡ true → a ≡ b
+unfolding mark_eq copy_eq
+mark_eq_true a b e =
+    let copies = and_true_left (copy_eq a.copy b.copy) (station_eq a.station b.station) e in
+    let stations = and_true_right (copy_eq a.copy b.copy) (station_eq a.station b.station) e in
+    let later1 = and_true_right (a.copy.packet == b.copy.packet) ((a.copy.key == b.copy.key) && (payload_eq a.copy.payload b.copy.payload && (a.copy.hop == b.copy.hop))) copies in
+    let later2 = and_true_right (a.copy.key == b.copy.key) (payload_eq a.copy.payload b.copy.payload && (a.copy.hop == b.copy.hop)) later1 in
+    let same_copy : a.copy ≡ b.copy =
+      copies_alike a.copy.packet b.copy.packet a.copy.key b.copy.key a.copy.hop b.copy.hop a.copy.payload b.copy.payload
+      (nat_true a.copy.packet b.copy.packet (and_true_left (a.copy.packet == b.copy.packet) _ copies))
+      (nat_true a.copy.key b.copy.key (and_true_left (a.copy.key == b.copy.key) _ later1))
+      (payload_true a.copy.payload b.copy.payload (and_true_left (payload_eq a.copy.payload b.copy.payload) (a.copy.hop == b.copy.hop) later2))
+      (nat_true a.copy.hop b.copy.hop (and_true_right (payload_eq a.copy.payload b.copy.payload) (a.copy.hop == b.copy.hop) later2))
+    in
+    marks_alike a.copy b.copy a.station b.station same_copy (station_true a.station b.station stations)
+
+-- ---- a number that each move raises
+
+-- how far a station is on, at one hop number; at the greatest hop number a hand comes before the queues
+abbrev stage : Bool → Station → ℕ
+stage last (unsent v) = 0
+stage true (in_queue c p) = 2
+stage false (in_queue c p) = 1
+stage true (in_hand c o) = 1
+stage false (in_hand c o) = 2
+stage last (at_core v) = 2
+stage last (delivered v) = 3
+stage last (dumped c o) = 3
+
+pub rank : Mark → ℕ
+rank x = 4 * x.copy.hop + stage (x.copy.hop == last_hop) x.station
+
+-- a station further on, of the same copy
+same_copy_raises : (k : McCopy) (at to : Station) → ((last : Bool) → stage last at < stage last to) → rank (mark k at) < rank (mark k to)
+unfolding rank
+same_copy_raises k at to further = let more = further (k.hop == last_hop) in omega arith
+
+queue_raises : (last : Bool) (v : ℕ) (c : Chip) (p : Port) → stage last (unsent v) < stage last (in_queue c p)
+queue_raises true v c p = omega arith
+queue_raises false v c p = omega arith
+
+dump_raises : (last : Bool) (c : Chip) (o : Out) → stage last (in_hand c o) < stage last (dumped c o)
+dump_raises true c o = omega arith
+dump_raises false c o = omega arith
+
+-- a station behind a router, of the copy with one hop more
+onward_raises : (k : McCopy) (c : Chip) (o : Out) (to : Station) → ((last : Bool) → 1 ≤ stage last to) → stage true to ≡ 2 → k.hop ≤ last_hop →
+    (last : Bool) → (k.hop == last_hop) ≡ last → 4 * k.hop + stage last (in_hand c o) < 4 * min (k.hop + 1) last_hop + stage (min (k.hop + 1) last_hop == last_hop) to
+onward_raises k c o to from_one two within true is =
+    let here : k.hop ≡ last_hop = nat_true k.hop last_hop is in
+    let there : min (k.hop + 1) last_hop ≡ last_hop = omega arith in
+    let test : (min (k.hop + 1) last_hop == last_hop) ≡ true = nat_same (min (k.hop + 1) last_hop) last_hop there in
+    rw (test, two) (omega arith)
+onward_raises k c o to from_one two within false is =
+    let below : k.hop < last_hop = below_last k.hop within is in
+    let next : min (k.hop + 1) last_hop ≡ k.hop + 1 = omega arith in
+    let some = from_one (min (k.hop + 1) last_hop == last_hop) in
+    omega arith
+  where
+    below_last : (n : ℕ) → n ≤ last_hop → (n == last_hop) ≡ false → n < last_hop
+    below_last n within' e = grind arith
+
+-- each mark that comes is further on than the one that leaves
+pub move_raises : (s : State) (x : Mark) (come : List Mark) → x.copy.hop ≤ last_hop → IsMove s x come → (y : Mark) → Among y come → rank x < rank y
+unfolding rank
+move_raises s x come within move y is_come = by_station x.copy x.station within move
+  where
+    only : (z : Mark) → come ≡ z ∷ [] → y ≡ z
+    only z e = elim (subst (λ (l : List Mark). Among y l) e is_come) [ inl same ↦ same | inr none ↦ absurd none ]
+
+    one : (k : McCopy) (at to : Station) → come ≡ mark k to ∷ [] → ((last : Bool) → stage last at < stage last to) → rank (mark k at) < rank y
+    one k at to e further = subst (λ (z : Mark). rank (mark k at) < rank z) (sym (only (mark k to) e)) (same_copy_raises k at to further)
+
+    in_queue_stage : (last : Bool) (c : Chip) (p : Port) → 1 ≤ stage last (in_queue c p)
+    in_queue_stage true c p = omega arith
+    in_queue_stage false c p = omega arith
+
+    crossing : (k : McCopy) (c : Chip) (o : Out) → k.hop ≤ last_hop → Crosses s k c o come → rank (mark k (in_hand c o)) < rank y
+    crossing k c (Link d) small cross =
+        subst (λ (z : Mark). rank (mark k (in_hand c (Link d))) < rank z) (sym (only (mark (onward k) (in_queue cross.0 (ByLink (opposite_of d)))) cross.3))
+        (onward_raises k c (Link d) (in_queue cross.0 (ByLink (opposite_of d))) (λ last. in_queue_stage last cross.0 (ByLink (opposite_of d))) refl small (k.hop == last_hop) refl)
+    crossing k c (Core q) small cross =
+        subst (λ (z : Mark). rank (mark k (in_hand c (Core q))) < rank z) (sym (only (mark (onward k) (at_core cross.0)) cross.2))
+        (onward_raises k c (Core q) (at_core cross.0) (λ last. omega arith) refl small (k.hop == last_hop) refl)
+
+    taking : (k : McCopy) (c : Chip) (port : Port) → (last : Bool) → (k.hop == last_hop) ≡ last → (os : List Out) →
+        Among y (map (λ o. mark k (in_hand c o)) (if last then [] else os)) → rank (mark k (in_queue c port)) < rank y
+    taking k c port true is os a = absurd a
+    taking k c port false is [] a = absurd a
+    taking k c port false is (o ∷ os) (inl same) =
+        subst (λ (z : Mark). rank (mark k (in_queue c port)) < rank z) (sym same)
+        (rw is (omega arith))
+    taking k c port false is (o ∷ os) (inr later) = taking k c port false is os later
+
+    by_station : (k : McCopy) (at : Station) → k.hop ≤ last_hop → IsMoveOf s k at come → rank (mark k at) < rank y
+    by_station k (unsent v) small m = one k (unsent v) (in_queue m.0.chip Local) m.2 (λ last. queue_raises last v m.0.chip Local)
+    by_station k (in_queue c port) small m =
+        taking k c port (k.hop == last_hop) refl (outs_of (lookup (table_at s.machine s.tables c) k.key port)) (subst (λ (l : List Mark). Among y l) m is_come)
+    by_station k (in_hand c o) small (inl m) = one k (in_hand c o) (dumped c o) m (λ last. dump_raises last c o)
+    by_station k (in_hand c o) small (inr m) = crossing k c o small m
+    by_station k (at_core v) small m = one k (at_core v) (delivered v) m (λ last. omega arith)
+    by_station k (delivered v) small m = absurd m
+    by_station k (dumped c o) small m = absurd m

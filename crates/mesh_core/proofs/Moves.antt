@@ -1,0 +1,247 @@
+-- What one event does to the marks of a mesh: one mark leaves, and others come in its place.
+use Rattle.std.proofs.Common.{◌≡◌, ℕ, ◌+◌, ◌*◌, ◌/◌, ◌%◌, ◌<◌, ◌≤◌, List, [], ◌∷◌, ◌++◌, map, Bool, true, false, ◌==◌, ◌&&◌, not, IsTrue, if◌then◌else◌, Option, Some, None, refl, ap, sym, ◌∙◌, subst, arith, zero-add, append-nil, append_assoc, inl, inr, ◌⊎◌, length}
+use Rattle.std.specs.List.{slice_get, slice_set, slice_index_or, list_any, All}
+use Rattle.std.proofs.lemmas.List.{map-append}
+use Rattle.spin_base.specs.declared.chips.Chip.{Chip}
+use Rattle.spin_base.specs.declared.chips.Dir.{Dir}
+use Rattle.spin_base.specs.declared.chips.Dir.TheVariants.{East, NorthEast, North, West, SouthWest, South}
+use Rattle.spin_base.specs.declared.chips.Spot.{Spot}
+use Rattle.spin_base.specs.declared.chips.Port.{Port}
+use Rattle.spin_base.specs.declared.chips.Port.TheVariants.{Link as ByLink, Local}
+use Rattle.spin_base.specs.declared.routes.Out.{Out}
+use Rattle.spin_base.specs.declared.routes.Out.TheVariants.{Link, Core}
+use Rattle.spin_base.specs.declared.copies.McCopy.{McCopy}
+use Rattle.spin_base.specs.declared.copies.Delivery.{Delivery}
+use Rattle.spin_base.specs.declared.copies.DumpRec.{DumpRec}
+use Rattle.spin_base.specs.declared.copies.Event.{Event}
+use Rattle.spin_base.specs.declared.copies.Event.TheVariants.{Inject, Take, Send, Dump, Collect}
+use Rattle.spin_base.specs.Links.{opposite_of, port_number, dir_number}
+use Rattle.spin_base.specs.Equality.{out_eq, spot_eq}
+use Rattle.spin_base.proofs.Equality.{out_eq_true}
+use Rattle.spin_base.proofs.Outputs.{dir_number_below}
+use Rattle.machine_desc.specs.Description.{Description}
+use Rattle.machine_desc.specs.Live.{far_of, index_of, chip_of, is_live_chip, is_live_link, IsInside, IsLiveChip, IsLiveLink, IsUsable}
+use Rattle.machine_desc.proofs.Far.{live_inside, live_ends, far_inside, same_index, index_below}
+use Rattle.machine_desc.proofs.Live.{chip_of-inside, index_of-chip_of}
+use Rattle.mesh_core.specs.State.{State, Held, IsMesh, Behind, input, core, nowhere, behind, across, core_of, queue_at, vertex_at}
+use Rattle.mesh_core.specs.Step.{stepped, injected, taken, sent, dumped_at, collected, has_room, has_room_behind, arrived, appended, in_hand as held_for, without, serves, served, outputs, onward}
+use Rattle.mesh_core.specs.Trail.{Station, unsent, in_queue, in_hand, at_core, delivered, dumped, Mark}
+use Rattle.mesh_core.specs.Ledger.{marks_of, gathered, marked, hand_marks, port_of, unsent_marks, input_marks, all_hand_marks, core_marks, delivered_marks, dumped_marks}
+use Rattle.mesh_core.proofs.Exchange.{TakenOut, PutIn, taken_out_after, taken_out_before, put_in_after, put_in_before, taken_out_gathered, put_in_gathered}
+
+abbrev pub mark : McCopy → Station → Mark
+mark k at = record { copy = k; station = at }
+
+-- A copy leaves a hand by an output behind which there is a queue, into that queue.
+abbrev pub Crosses : State → McCopy → Chip → Out → List Mark → Type 0
+Crosses s k c (Link d) ys =
+    (e : Chip) × IsLiveLink s.machine c d × (far_of s.machine c d ≡ Some e) × (ys ≡ mark (onward k) (in_queue e (ByLink (opposite_of d))) ∷ [])
+Crosses s k c (Core p) ys =
+    (v : ℕ) × (vertex_at s.spots (record { chip = c; core = p }) ≡ Some v) × (ys ≡ mark (onward k) (at_core v) ∷ [])
+
+-- What comes in the place of a mark that leaves: of an unsent copy one in the injection queue of its vertex's chip; of
+-- one in a queue one in the hand for each output that lookup gives; of one in a hand a dump record, or one in the queue
+-- behind the output; of one at a core a delivery. Deliveries and dump records stay.
+abbrev pub IsMoveOf : State → McCopy → Station → List Mark → Type 0
+IsMoveOf s k (unsent v) ys = (spot : Spot) × (slice_get s.spots v ≡ Some spot) × (ys ≡ mark k (in_queue spot.chip Local) ∷ [])
+IsMoveOf s k (in_queue c port) ys = ys ≡ map (λ o. mark k (in_hand c o)) (outputs s c port k)
+IsMoveOf s k (in_hand c o) ys = (ys ≡ mark k (dumped c o) ∷ []) ⊎ Crosses s k c o ys
+IsMoveOf s k (at_core v) ys = ys ≡ mark k (delivered v) ∷ []
+IsMoveOf s k (delivered v) ys = ⊥
+IsMoveOf s k (dumped c o) ys = ⊥
+
+abbrev pub IsMove : State → Mark → List Mark → Type 0
+IsMove s x ys = IsMoveOf s x.copy x.station ys
+
+-- What an event that is enabled does: one move.
+pub record Exchange (s t : State) : Type 0 where
+  pub leaves : Mark
+  pub come : List Mark
+  pub rest : List Mark
+  pub out : TakenOut leaves (marks_of s) rest
+  pub put : PutIn come rest (marks_of t)
+  pub move : IsMove s leaves come
+  pub machine : t.machine ≡ s.machine
+  pub spots : t.spots ≡ s.spots
+  pub tables : t.tables ≡ s.tables
+  pub capacity : t.capacity ≡ s.capacity
+
+-- ---- the numbers of queues
+
+-- the chip of a chip's index
+pub chip_of-index_of : (m : Description) (c : Chip) → IsInside m c → chip_of m (index_of m c) ≡ c
+chip_of-index_of m c inside =
+    same_index m (chip_of m (index_of m c)) c (chip_of-inside m (index_of m c) (index_below m c inside)) inside (index_of-chip_of m (index_of m c))
+
+port_number_below : (port : Port) → port_number port < 7
+port_number_below (ByLink d) = omega (arith, dir_number_below d)
+port_number_below Local = omega arith
+
+pub port_of-port_number : (port : Port) → port_of (port_number port) ≡ port
+port_of-port_number (ByLink East) = refl
+port_of-port_number (ByLink NorthEast) = refl
+port_of-port_number (ByLink North) = refl
+port_of-port_number (ByLink West) = refl
+port_of-port_number (ByLink SouthWest) = refl
+port_of-port_number (ByLink South) = refl
+port_of-port_number Local = refl
+
+-- the station of a queue's number
+pub station_of_queue : (m : Description) (c : Chip) (port : Port) → IsInside m c → in_queue (chip_of m ((0 + queue_at m c port) / 7)) (port_of ((0 + queue_at m c port) % 7)) ≡ in_queue c port
+station_of_queue m c port inside =
+    let small = port_number_below port in
+    let index : (0 + (7 * index_of m c + port_number port)) / 7 ≡ index_of m c = omega arith in
+    let number : (0 + (7 * index_of m c + port_number port)) % 7 ≡ port_number port = omega arith in
+    rw (index, number, chip_of-index_of m c inside, port_of-port_number port) refl
+
+-- ---- parts of the marks
+
+front_out : (at : Station) (k : McCopy) (q : List McCopy) → TakenOut (mark k at) (marked at (k ∷ q)) (marked at q)
+front_out at k q = record { front = []; back = marked at q; before_is = refl; after_is = refl }
+
+back_in : (at : Station) (k : McCopy) (q : List McCopy) → PutIn (mark k at ∷ []) (marked at q) (marked at (q ++ k ∷ []))
+back_in at k q = record {
+  front = marked at q;
+  back = [];
+  before_is = sym (append-nil (marked at q));
+  after_is = map-append (λ (c : McCopy). mark c at) q (k ∷ []);
+}
+
+pub hand_marks-held : (c : Chip) (k : McCopy) (port : Port) (os : List Out) → hand_marks c (held_for k port os) ≡ map (λ o. mark k (in_hand c o)) os
+hand_marks-held c k port [] = refl
+hand_marks-held c k port (o ∷ os) = refl
+
+-- ---- one list of the mesh changes, so the marks of the mesh change
+
+-- what stands behind the unsent copies
+abbrev behind_unsent : State → List Mark
+behind_unsent s = input_marks s ++ (all_hand_marks s ++ (core_marks s ++ (delivered_marks s ++ dumped_marks s)))
+
+pub unsent_out : (s : State) (v : ℕ) (k : McCopy) (q : List McCopy) → slice_get s.unsent v ≡ Some (k ∷ q) →
+    TakenOut (mark k (unsent v)) (marks_of s) (marks_of (record s { unsent = slice_set s.unsent v q }))
+unsent_out s v k q at =
+    let n_is : v ≡ 0 + v = omega arith in
+    taken_out_before (mark k (unsent v)) (unsent_marks s) (unsent_marks (record s { unsent = slice_set s.unsent v q })) (behind_unsent s)
+    (taken_out_gathered (λ w copies. marked (unsent w) copies) (mark k (unsent v)) 0 s.unsent v (k ∷ q) q at
+    (subst (λ n. TakenOut (mark k (unsent v)) (marked (unsent n) (k ∷ q)) (marked (unsent n) q)) n_is (front_out (unsent v) k q)))
+
+pub input_out : (s : State) (c : Chip) (port : Port) → IsInside s.machine c → (k : McCopy) (q : List McCopy) →
+    slice_get s.inputs (queue_at s.machine c port) ≡ Some (k ∷ q) →
+    TakenOut (mark k (in_queue c port)) (marks_of s) (marks_of (record s { inputs = slice_set s.inputs (queue_at s.machine c port) q }))
+input_out s c port inside k q at =
+    let i = queue_at s.machine c port in
+    let s' : State = record s { inputs = slice_set s.inputs i q } in
+    taken_out_after (mark k (in_queue c port)) (unsent_marks s) (behind_unsent s) (behind_unsent s')
+    (taken_out_before (mark k (in_queue c port)) (input_marks s) (input_marks s')
+    (all_hand_marks s ++ (core_marks s ++ (delivered_marks s ++ dumped_marks s)))
+    (taken_out_gathered (λ n copies. marked (in_queue (chip_of s.machine (n / 7)) (port_of (n % 7))) copies)
+    (mark k (in_queue c port)) 0 s.inputs i (k ∷ q) q at
+    (subst (λ st. TakenOut (mark k (in_queue c port)) (marked st (k ∷ q)) (marked st q))
+    (sym (station_of_queue s.machine c port inside)) (front_out (in_queue c port) k q))))
+
+pub input_in : (s : State) (c : Chip) (port : Port) → IsInside s.machine c → (k : McCopy) (q : List McCopy) →
+    slice_get s.inputs (queue_at s.machine c port) ≡ Some q →
+    PutIn (mark k (in_queue c port) ∷ []) (marks_of s) (marks_of (record s { inputs = slice_set s.inputs (queue_at s.machine c port) (q ++ k ∷ []) }))
+input_in s c port inside k q at =
+    let i = queue_at s.machine c port in
+    let s' : State = record s { inputs = slice_set s.inputs i (q ++ k ∷ []) } in
+    put_in_after (mark k (in_queue c port) ∷ []) (unsent_marks s) (behind_unsent s) (behind_unsent s')
+    (put_in_before (mark k (in_queue c port) ∷ []) (input_marks s) (input_marks s')
+    (all_hand_marks s ++ (core_marks s ++ (delivered_marks s ++ dumped_marks s)))
+    (put_in_gathered (λ n copies. marked (in_queue (chip_of s.machine (n / 7)) (port_of (n % 7))) copies)
+    (mark k (in_queue c port) ∷ []) 0 s.inputs i q (q ++ k ∷ []) at
+    (subst (λ st. PutIn (mark k (in_queue c port) ∷ []) (marked st q) (marked st (q ++ k ∷ [])))
+    (sym (station_of_queue s.machine c port inside)) (back_in (in_queue c port) k q))))
+
+-- the same for the hands: a hand's marks change as the hand does
+pub hand_out : (s : State) (c : Chip) → IsInside s.machine c → (old new : Option Held) (x : Mark) →
+    slice_get s.hands (index_of s.machine c) ≡ Some old → TakenOut x (hand_marks c old) (hand_marks c new) →
+    TakenOut x (marks_of s) (marks_of (record s { hands = slice_set s.hands (index_of s.machine c) new }))
+hand_out s c inside old new x at t =
+    let i = index_of s.machine c in
+    let s' : State = record s { hands = slice_set s.hands i new } in
+    let n_is : chip_of s.machine (0 + i) ≡ c = ap (chip_of s.machine) (zero-add i) ∙ chip_of-index_of s.machine c inside in
+    taken_out_after x (unsent_marks s) (behind_unsent s) (behind_unsent s')
+    (taken_out_after x (input_marks s) (all_hand_marks s ++ (core_marks s ++ (delivered_marks s ++ dumped_marks s)))
+    (all_hand_marks s' ++ (core_marks s ++ (delivered_marks s ++ dumped_marks s)))
+    (taken_out_before x (all_hand_marks s) (all_hand_marks s') (core_marks s ++ (delivered_marks s ++ dumped_marks s))
+    (taken_out_gathered (λ n h. hand_marks (chip_of s.machine n) h) x 0 s.hands i old new at
+    (subst (λ d. TakenOut x (hand_marks d old) (hand_marks d new)) (sym n_is) t))))
+
+pub hand_in : (s : State) (c : Chip) → IsInside s.machine c → (old new : Option Held) (xs : List Mark) →
+    slice_get s.hands (index_of s.machine c) ≡ Some old → PutIn xs (hand_marks c old) (hand_marks c new) →
+    PutIn xs (marks_of s) (marks_of (record s { hands = slice_set s.hands (index_of s.machine c) new }))
+hand_in s c inside old new xs at t =
+    let i = index_of s.machine c in
+    let s' : State = record s { hands = slice_set s.hands i new } in
+    let n_is : chip_of s.machine (0 + i) ≡ c = ap (chip_of s.machine) (zero-add i) ∙ chip_of-index_of s.machine c inside in
+    put_in_after xs (unsent_marks s) (behind_unsent s) (behind_unsent s')
+    (put_in_after xs (input_marks s) (all_hand_marks s ++ (core_marks s ++ (delivered_marks s ++ dumped_marks s)))
+    (all_hand_marks s' ++ (core_marks s ++ (delivered_marks s ++ dumped_marks s)))
+    (put_in_before xs (all_hand_marks s) (all_hand_marks s') (core_marks s ++ (delivered_marks s ++ dumped_marks s))
+    (put_in_gathered (λ n h. hand_marks (chip_of s.machine n) h) xs 0 s.hands i old new at
+    (subst (λ d. PutIn xs (hand_marks d old) (hand_marks d new)) (sym n_is) t))))
+
+pub core_out : (s : State) (v : ℕ) (k : McCopy) (q : List McCopy) → slice_get s.cores v ≡ Some (k ∷ q) →
+    TakenOut (mark k (at_core v)) (marks_of s) (marks_of (record s { cores = slice_set s.cores v q }))
+core_out s v k q at =
+    let s' : State = record s { cores = slice_set s.cores v q } in
+    let x = mark k (at_core v) in
+    let n_is : v ≡ 0 + v = omega arith in
+    taken_out_after x (unsent_marks s) (behind_unsent s) (behind_unsent s')
+    (taken_out_after x (input_marks s) (all_hand_marks s ++ (core_marks s ++ (delivered_marks s ++ dumped_marks s)))
+    (all_hand_marks s ++ (core_marks s' ++ (delivered_marks s ++ dumped_marks s)))
+    (taken_out_after x (all_hand_marks s) (core_marks s ++ (delivered_marks s ++ dumped_marks s)) (core_marks s' ++ (delivered_marks s ++ dumped_marks s))
+    (taken_out_before x (core_marks s) (core_marks s') (delivered_marks s ++ dumped_marks s)
+    (taken_out_gathered (λ w copies. marked (at_core w) copies) x 0 s.cores v (k ∷ q) q at
+    (subst (λ n. TakenOut x (marked (at_core n) (k ∷ q)) (marked (at_core n) q)) n_is (front_out (at_core v) k q))))))
+
+pub core_in : (s : State) (v : ℕ) (k : McCopy) (q : List McCopy) → slice_get s.cores v ≡ Some q →
+    PutIn (mark k (at_core v) ∷ []) (marks_of s) (marks_of (record s { cores = slice_set s.cores v (q ++ k ∷ []) }))
+core_in s v k q at =
+    let s' : State = record s { cores = slice_set s.cores v (q ++ k ∷ []) } in
+    let xs = mark k (at_core v) ∷ [] in
+    let n_is : v ≡ 0 + v = omega arith in
+    put_in_after xs (unsent_marks s) (behind_unsent s) (behind_unsent s')
+    (put_in_after xs (input_marks s) (all_hand_marks s ++ (core_marks s ++ (delivered_marks s ++ dumped_marks s)))
+    (all_hand_marks s ++ (core_marks s' ++ (delivered_marks s ++ dumped_marks s)))
+    (put_in_after xs (all_hand_marks s) (core_marks s ++ (delivered_marks s ++ dumped_marks s)) (core_marks s' ++ (delivered_marks s ++ dumped_marks s))
+    (put_in_before xs (core_marks s) (core_marks s') (delivered_marks s ++ dumped_marks s)
+    (put_in_gathered (λ w copies. marked (at_core w) copies) xs 0 s.cores v q (q ++ k ∷ []) at
+    (subst (λ n. PutIn xs (marked (at_core n) q) (marked (at_core n) (q ++ k ∷ []))) n_is (back_in (at_core v) k q))))))
+
+pub delivered_in : (s : State) (v : ℕ) (k : McCopy) →
+    PutIn (mark k (delivered v) ∷ []) (marks_of s) (marks_of (record s { delivered = s.delivered ++ record { vertex = v; copy = k } ∷ [] }))
+delivered_in s v k =
+    let d : Delivery = record { vertex = v; copy = k } in
+    let s' : State = record s { delivered = s.delivered ++ d ∷ [] } in
+    let xs = mark k (delivered v) ∷ [] in
+    put_in_after xs (unsent_marks s) (behind_unsent s) (behind_unsent s')
+    (put_in_after xs (input_marks s) (all_hand_marks s ++ (core_marks s ++ (delivered_marks s ++ dumped_marks s)))
+    (all_hand_marks s ++ (core_marks s ++ (delivered_marks s' ++ dumped_marks s)))
+    (put_in_after xs (all_hand_marks s) (core_marks s ++ (delivered_marks s ++ dumped_marks s)) (core_marks s ++ (delivered_marks s' ++ dumped_marks s))
+    (put_in_after xs (core_marks s) (delivered_marks s ++ dumped_marks s) (delivered_marks s' ++ dumped_marks s)
+    (put_in_before xs (delivered_marks s) (delivered_marks s') (dumped_marks s) (record {
+      front = delivered_marks s;
+      back = [];
+      before_is = sym (append-nil (delivered_marks s));
+      after_is = map-append (λ (e : Delivery). mark e.copy (delivered e.vertex)) s.delivered (d ∷ []);
+    })))))
+
+pub dumped_in : (s : State) (c : Chip) (o : Out) (k : McCopy) →
+    PutIn (mark k (dumped c o) ∷ []) (marks_of s) (marks_of (record s { dumped = s.dumped ++ record { chip = c; out = o; copy = k } ∷ [] }))
+dumped_in s c o k =
+    let r : DumpRec = record { chip = c; out = o; copy = k } in
+    let s' : State = record s { dumped = s.dumped ++ r ∷ [] } in
+    let xs = mark k (dumped c o) ∷ [] in
+    put_in_after xs (unsent_marks s) (behind_unsent s) (behind_unsent s')
+    (put_in_after xs (input_marks s) (all_hand_marks s ++ (core_marks s ++ (delivered_marks s ++ dumped_marks s)))
+    (all_hand_marks s ++ (core_marks s ++ (delivered_marks s ++ dumped_marks s')))
+    (put_in_after xs (all_hand_marks s) (core_marks s ++ (delivered_marks s ++ dumped_marks s)) (core_marks s ++ (delivered_marks s ++ dumped_marks s'))
+    (put_in_after xs (core_marks s) (delivered_marks s ++ dumped_marks s) (delivered_marks s ++ dumped_marks s')
+    (put_in_after xs (delivered_marks s) (dumped_marks s) (dumped_marks s') (record {
+      front = dumped_marks s;
+      back = [];
+      before_is = sym (append-nil (dumped_marks s));
+      after_is = map-append (λ (e : DumpRec). mark e.copy (dumped e.chip e.out)) s.dumped (r ∷ []);
+    })))))

@@ -1,0 +1,282 @@
+-- The opened mesh of a job meets the ledger of the job.
+use Rattle.std.proofs.Common.{◌≡◌, ◌≢◌, ℕ, ◌+◌, ◌*◌, ◌/◌, ◌%◌, ◌<◌, ◌≤◌, suc, zero, List, [], ◌∷◌, ◌++◌, map, Bool, true, false, ◌==◌, ◌&&◌, IsTrue, if◌then◌else◌, Option, Some, None, refl, ap, sym, ◌∙◌, subst, arith, append-nil, inl, inr, ◌⊎◌, length, count_by, replicate}
+use Rattle.std.specs.List.{slice_get, slice_index_or, range_with_len, filter_map, enumerate_from, All, Any, Contains}
+use Rattle.std.specs.Option.{option_map_or}
+use Rattle.std.proofs.lemmas.List.Elements.{All-contains}
+use Rattle.std.proofs.lemmas.List.{length-map}
+use Rattle.std.proofs.lemmas.Option.{slice_get_within, get_or_from_slice_get, slice_get-get_or}
+use Rattle.spin_base.specs.declared.chips.Spot.{Spot}
+use Rattle.spin_base.specs.declared.blocks.Entry.{Entry}
+use Rattle.spin_base.specs.declared.copies.McCopy.{McCopy}
+use Rattle.spin_base.specs.declared.copies.Packet.{Packet}
+use Rattle.machine_desc.specs.declared.trees.Edge.{Edge}
+use Rattle.machine_desc.proofs.Live.{count_by-map}
+use Rattle.machine_desc.specs.Description.{Description}
+use Rattle.machine_desc.specs.RoutingTree.{IsRoutingTree}
+use Rattle.machine_desc.specs.Branch.{Exit, IsBranch}
+use Rattle.machine_desc.proofs.Branches.{core_on_branch, link_on_branch}
+use Rattle.net_tables.specs.declared.nets.NetPlan.{NetPlan}
+use Rattle.net_tables.specs.RightTables.{IsKeyOf}
+use Rattle.mesh_core.specs.State.{State, vertex_at}
+use Rattle.mesh_core.specs.Trail.{Station, Mark, unsent, in_queue, at_core, on_trail, is_on_trail, is_packet_on_trail}
+use Rattle.mesh_core.specs.Ledger.{marks_of, marked, hand_marks, port_of, gathered, unsent_marks, Label, AreNetsOf, HaveDisjointBlocks, IsWayOf, MeetsLedger}
+use Rattle.mesh_core.specs.Opened.{empty_mesh, label_in, label_of, label_at, label_by, first_copy, copy_from, unsent_of, opened_mesh, AreOfNets, MeetsJobLedger}
+use Rattle.machine_desc.specs.Live.{chip_of}
+use Rattle.mesh_core.proofs.Exchange.{Among, among_contains, contains_among}
+use Rattle.mesh_core.proofs.Moves.{mark}
+use Rattle.mesh_core.proofs.Events.{and_true_left, and_true_right}
+use Rattle.mesh_core.proofs.Gathered.{gathered_nothing, among_made, made_among, count_made_one, among_chosen, chosen_among, count_chosen_one, count_chosen_none}
+use Rattle.mesh_core.proofs.LedgerLaw.{one_net}
+use Rattle.mesh_core.proofs.Law.{count_none}
+use Rattle.mesh_core.proofs.Ways.{nat_true, nat_same, both_true, vertex_at_stands, vertex_there, place_below}
+
+-- a copy that a vertex sends, and of what packet it is
+record IsSent (spots : List Spot) (nets : List NetPlan) (p : Packet) (i v : ℕ) (k : McCopy) : Type 0 where
+  net : NetPlan
+  is_net : slice_get nets p.net ≡ Some net
+  vertex : vertex_at spots net.source ≡ Some v
+  copy : k ≡ first_copy i net p
+
+same_vertex : (w : Option ℕ) (v : ℕ) → option_map_or (λ n. n == v) w false ≡ true → w ≡ Some v
+same_vertex (Some w) v e = ap Some (nat_true w v e)
+same_vertex None v e = cc
+
+sent_parts : (spots : List Spot) (nets : List NetPlan) (p : Packet) (i v : ℕ) (k : McCopy) (net : Option NetPlan) → slice_get nets p.net ≡ net →
+    copy_from spots v i p net ≡ Some k → IsSent spots nets p i v k
+sent_parts spots nets p i v k (Some net) is e = by_vertex (option_map_or (λ n. n == v) (vertex_at spots net.source) false) refl e
+  where
+    by_vertex : (b : Bool) → option_map_or (λ n. n == v) (vertex_at spots net.source) false ≡ b → (if b then Some (first_copy i net p) else None) ≡ Some k →
+        IsSent spots nets p i v k
+    by_vertex true here e' = record { net = net; is_net = is; vertex = same_vertex (vertex_at spots net.source) v here; copy = let same : first_copy i net p ≡ k = cc in sym same }
+    by_vertex false other e' = cc
+sent_parts spots nets p i v k None is e = cc
+
+sent_from : (spots : List Spot) (nets : List NetPlan) (p : Packet) (i v : ℕ) (net : NetPlan) → slice_get nets p.net ≡ Some net → vertex_at spots net.source ≡ Some v →
+    copy_from spots v i p (slice_get nets p.net) ≡ Some (first_copy i net p)
+sent_from spots nets p i v net is vertex =
+    ap (copy_from spots v i p) is
+    ∙ ap (λ b. if b then Some (first_copy i net p) else None) (ap (λ w. option_map_or (λ n. n == v) w false) vertex ∙ nat_same v v refl)
+
+nothing_packet : Packet
+nothing_packet = record { net = 0; index = 0; payload = None }
+
+nat_apart : (a b : ℕ) → a ≢ b → (a == b) ≡ false
+nat_apart a b other = grind arith
+
+and_false : (b : Bool) → (b && false) ≡ false
+and_false true = refl
+and_false false = refl
+
+module _ (m : Description) (spots : List Spot) (tables : List (List Entry)) (capacity : ℕ) (nets : List NetPlan) (packets : List Packet) where
+  abbrev opened : State
+  opened = opened_mesh m spots tables capacity nets packets
+
+  abbrev copies : ℕ → List McCopy
+  copies v = unsent_of spots nets packets v
+
+  abbrev number : ℕ
+  number = length spots
+
+  -- the only marks are those of unsent copies
+  opened_marks : marks_of opened ≡ unsent_marks opened
+  opened_marks =
+      let inputs = gathered_nothing (λ i (q : List McCopy). marked (in_queue (chip_of m (i / 7)) (port_of (i % 7))) q) [] (λ j. refl) 0 (7 * (m.width * m.height)) in
+      let hands = gathered_nothing (λ i h. hand_marks (chip_of m i) h) None (λ j. refl) 0 (m.width * m.height) in
+      let cores = gathered_nothing (λ v (q : List McCopy). marked (at_core v) q) [] (λ j. refl) 0 number in
+      rw (inputs, hands, cores) (append-nil (unsent_marks opened))
+
+  -- what is known of a mark of the opened mesh
+  record IsUnsent (k : Mark) : Type 0 where
+    vertex : ℕ
+    number_is : ℕ
+    packet : Packet
+    at : slice_get packets number_is ≡ Some packet
+    sent : IsSent spots nets packet number_is vertex k.copy
+    below : vertex < number
+    station : k.station ≡ unsent vertex
+
+  among_marked : (at : Station) (k : Mark) (q : List McCopy) → Among k (marked at q) → (c : McCopy) × Among c q × (k ≡ mark c at)
+  among_marked at k [] a = absurd a
+  among_marked at k (c ∷ q) (inl here) = (c, inl refl, here)
+  among_marked at k (c ∷ q) (inr later) = let rest = among_marked at k q later in (rest.0, inr rest.1, rest.2)
+
+  marked_among : (at : Station) (c : McCopy) (q : List McCopy) → Among c q → Among (mark c at) (marked at q)
+  marked_among at c [] a = absurd a
+  marked_among at c (d ∷ q) (inl here) = inl (ap (λ e. mark e at) here)
+  marked_among at c (d ∷ q) (inr later) = inr (marked_among at c q later)
+
+  is_unsent : (k : Mark) → Contains (marks_of opened) k → IsUnsent k
+  is_unsent k has =
+      let made = among_made (λ v q. marked (unsent v) q) copies k 0 number (contains_among k (unsent_marks opened) (subst (λ l. Contains l k) opened_marks has)) in
+      let v : ℕ = made.0 in
+      let in_marked = among_marked (unsent v) k (copies v) made.3 in
+      let in_list = among_chosen (λ (e : ℕ × Packet). copy_from spots v e.0 e.1 (slice_get nets e.1.net)) in_marked.0 0 packets in_marked.1 in
+      let i : ℕ = in_list.0 in
+      let zero_more : 0 + i ≡ i = omega arith in
+      let copy_is : copy_from spots v i in_list.1 (slice_get nets in_list.1.net) ≡ Some in_marked.0 =
+        ap (λ n. copy_from spots v n in_list.1 (slice_get nets in_list.1.net)) (sym zero_more) ∙ in_list.3
+      in
+      let sent = sent_parts spots nets in_list.1 i v in_marked.0 (slice_get nets in_list.1.net) refl copy_is in
+      record {
+        vertex = v;
+        number_is = i;
+        packet = in_list.1;
+        at = in_list.2;
+        sent = subst (λ (c : McCopy). IsSent spots nets in_list.1 i v c) (sym (ap (λ (x : Mark). x.copy) in_marked.2)) sent;
+        below = omega (arith, made.2);
+        station = ap (λ (x : Mark). x.station) in_marked.2;
+      }
+
+  -- each packet of the list has a mark, with its source vertex
+  has_mark : (i : ℕ) (p : Packet) (net : NetPlan) (v : ℕ) → slice_get packets i ≡ Some p → slice_get nets p.net ≡ Some net → vertex_at spots net.source ≡ Some v →
+      Contains (marks_of opened) (mark (first_copy i net p) (unsent v))
+  has_mark i p net v at is vertex =
+      let below : v < number = place_below spots v net.source (vertex_at_stands spots net.source v vertex) in
+      let zero_more : 0 + i ≡ i = omega arith in
+      let in_list : Among (first_copy i net p) (copies v) =
+        chosen_among (λ (e : ℕ × Packet). copy_from spots v e.0 e.1 (slice_get nets e.1.net)) (first_copy i net p) 0 packets i p at
+        (ap (λ n. copy_from spots v n p (slice_get nets p.net)) zero_more ∙ sent_from spots nets p i v net is vertex)
+      in
+      let there : Among (mark (first_copy i net p) (unsent v)) (unsent_marks opened) =
+        made_among (λ w q. marked (unsent w) q) copies (mark (first_copy i net p) (unsent v)) 0 number v (omega arith) (omega arith)
+        (marked_among (unsent v) (first_copy i net p) (copies v) in_list)
+      in
+      subst (λ l. Contains l (mark (first_copy i net p) (unsent v))) (sym opened_marks) (among_contains (mark (first_copy i net p) (unsent v)) (unsent_marks opened) there)
+
+  -- a tree has a target: the root is one, or an edge leads on to one
+  some_branch : (net : NetPlan) → IsRoutingTree m net.tree.root net.tree.edges net.targets →
+      (t : Spot) × Contains net.targets t × ((branch : List Exit) × IsBranch m net.tree.root net.tree.edges t branch)
+  some_branch net tree = elim (tree.ends_are_targets net.tree.root (inl refl)) [
+    | inl out ↦
+        let way = link_on_branch m net.tree.root net.tree.edges net.targets tree out.1 (out.0, out.2, out.3) in
+        (way.0, way.1, (way.2.0, way.2.1))
+    | inr target ↦
+        let there = target_of net.targets target.0 (subst (λ n. target.0 < n) (length-map net.targets (λ s. s.chip)) target.1) in
+        let way = core_on_branch m net.tree.root net.tree.edges net.targets tree there.0 there.1 in
+        (there.0, there.1, (way.0, way.1))
+  ]
+    where
+      target_of : (ts : List Spot) (k : ℕ) → k < length ts → (t : Spot) × Contains ts t
+      target_of [] k within = absurd (omega arith)
+      target_of (t ∷ ts) k within = (t, (0, omega arith, refl))
+
+  module _ (stand : AreNetsOf opened nets) (of_nets : AreOfNets nets packets) where
+    -- the nets of the packets are nets of the list
+    net_in_list : (p : Packet) (net : NetPlan) → slice_get nets p.net ≡ Some net → Contains nets net
+    net_in_list p net is = (p.net, slice_get_within nets p.net net is, get_or_from_slice_get nets p.net net net is)
+
+    -- a packet's key is its net's
+    key_is : (i : ℕ) (p : Packet) (net : NetPlan) → slice_get packets i ≡ Some p → slice_get nets p.net ≡ Some net → IsKeyOf net.block (net.block.key + p.index)
+    key_is i p net at is =
+        let of = of_nets i p at in
+        let same : Some of.0 ≡ Some net = sym of.1 ∙ is in
+        let one : of.0 ≡ net = cc in
+        subst (λ (n : NetPlan). IsKeyOf n.block (n.block.key + p.index)) one of.2
+
+    label_is : (i : ℕ) (p : Packet) (net : NetPlan) → slice_get packets i ≡ Some p → slice_get nets p.net ≡ Some net → label_of nets packets i ≡ label_in net p
+    label_is i p net at is = ap (label_at nets) at ∙ ap (label_by p) is
+
+    -- an unsent mark of a packet of a net
+    unsent_key : (k : Mark) (u : IsUnsent k) → k.copy.key ≡ u.sent.net.block.key + u.packet.index
+    unsent_key k u = ap (λ (c : McCopy). c.key) u.sent.copy
+
+    unsent_number : (k : Mark) (u : IsUnsent k) → k.copy.packet ≡ u.number_is
+    unsent_number k u = ap (λ (c : McCopy). c.packet) u.sent.copy
+
+    unsent_is_key : (k : Mark) (u : IsUnsent k) → IsKeyOf u.sent.net.block k.copy.key
+    unsent_is_key k u =
+        subst (λ n. IsKeyOf u.sent.net.block n) (sym (unsent_key k u)) (key_is u.number_is u.packet u.sent.net u.at u.sent.is_net)
+
+    labelled : (k : Mark) → Contains (marks_of opened) k →
+        (k.copy.key ≡ (label_of nets packets k.copy.packet).key) × (k.copy.payload ≡ (label_of nets packets k.copy.packet).payload)
+    labelled k has =
+        let u = is_unsent k has in
+        let label : label_of nets packets k.copy.packet ≡ label_in u.sent.net u.packet =
+          ap (label_of nets packets) (unsent_number k u) ∙ label_is u.number_is u.packet u.sent.net u.at u.sent.is_net
+        in (
+          unsent_key k u ∙ sym (ap (λ (l : Label). l.key) label),
+          ap (λ (c : McCopy). c.payload) u.sent.copy ∙ sym (ap (λ (l : Label). l.payload) label),
+        )
+
+    on_a_trail : (k : Mark) → Contains (marks_of opened) k →
+        (net : NetPlan) × Contains nets net × IsKeyOf net.block k.copy.key ×
+        ((target : Spot) × (branch : List Exit) × (from : ℕ) × (to : ℕ) × IsWayOf opened net target branch from to × IsTrue (is_on_trail from to branch k))
+    on_a_trail k has =
+        let u = is_unsent k has in
+        let net : NetPlan = u.sent.net in
+        let in_list = net_in_list u.packet net u.sent.is_net in
+        let tree = All-contains (λ n. IsRoutingTree m n.tree.root n.tree.edges n.targets) nets net stand.trees in_list in
+        let way = some_branch net tree in
+        let on_spot = All-contains (Contains spots) net.targets way.0 (All-contains (λ n. All (Contains spots) n.targets) nets net stand.targets in_list) way.1 in
+        let end = vertex_there spots way.0 on_spot in
+        let hop : k.copy.hop ≡ 0 = ap (λ (c : McCopy). c.hop) u.sent.copy in
+        let on : is_on_trail u.vertex end.0 way.2.0 k ≡ true =
+          ap (λ at. on_trail u.vertex end.0 way.2.0 k.copy.hop at) u.station
+          ∙ both_true (u.vertex == u.vertex) (k.copy.hop == 0) (nat_same u.vertex u.vertex refl) (nat_same k.copy.hop 0 hop)
+        in
+        (net, in_list, unsent_is_key k u,
+          (way.0, way.2.0, u.vertex, end.0, record { is_target = way.1; is_branch = way.2.1; begins = u.sent.vertex; ends = end.1 }, on))
+
+    -- the test on an unsent copy
+    abbrev counts : ℕ → ℕ → ℕ → List Exit → ℕ → McCopy → Bool
+    counts n from to branch v c = (c.packet == n) && ((v == from) && (c.hop == 0))
+
+    once : (k : Mark) → Contains (marks_of opened) k → (net : NetPlan) → Contains nets net → IsKeyOf net.block k.copy.key →
+        (target : Spot) (branch : List Exit) (from to : ℕ) → IsWayOf opened net target branch from to →
+        count_by (is_packet_on_trail k.copy.packet from to branch) (marks_of opened) ≡ 1
+    once k has net in_list key target branch from to w =
+        let u = is_unsent k has in
+        let own_list = net_in_list u.packet u.sent.net u.sent.is_net in
+        let one : u.sent.net ≡ net = one_net nets stand.disjoint u.sent.net net own_list in_list k.copy.key (unsent_is_key k u) key in
+        let source : Some u.vertex ≡ Some from = sym u.sent.vertex ∙ (ap (λ (n : NetPlan). vertex_at spots n.source) one ∙ w.begins) in
+        let vertex_is : u.vertex ≡ from = cc in
+        let p : Mark → Bool = is_packet_on_trail k.copy.packet from to branch in
+        ap (count_by p) opened_marks
+        ∙ count_made_one (λ v q. marked (unsent v) q) copies p 0 number from 1 (omega arith) (from_below u vertex_is)
+          (count_by-map p (λ c. mark c (unsent from)) (copies from) ∙ one_of_source u vertex_is)
+          (λ v other. count_by-map p (λ c. mark c (unsent v)) (copies v) ∙ none_elsewhere v other)
+      where
+        n : ℕ
+        n = k.copy.packet
+
+        from_below : (u : IsUnsent k) → u.vertex ≡ from → from < 0 + number
+        from_below u is = let low : u.vertex < number = u.below in omega arith
+
+        none_elsewhere : (v : ℕ) → v ≢ from → count_by (counts n from to branch v) (copies v) ≡ 0
+        none_elsewhere v other =
+            count_chosen_none (λ (e : ℕ × Packet). copy_from spots v e.0 e.1 (slice_get nets e.1.net)) (counts n from to branch v) 0 packets
+            (λ i q c at is. fails v other c)
+          where
+            fails : (v : ℕ) → v ≢ from → (c : McCopy) → counts n from to branch v c ≡ false
+            fails v other c = ap (λ b. (c.packet == n) && (b && (c.hop == 0))) (nat_apart v from other) ∙ and_false (c.packet == n)
+
+        one_of_source : (u : IsUnsent k) → u.vertex ≡ from → count_by (counts n from to branch from) (copies from) ≡ 1
+        one_of_source u is =
+            let zero_more : 0 + u.number_is ≡ u.number_is = omega arith in
+            let vertex : vertex_at spots u.sent.net.source ≡ Some from = u.sent.vertex ∙ ap Some is in
+            let number_same : u.number_is ≡ n = sym (unsent_number k u) in
+            count_chosen_one (λ (e : ℕ × Packet). copy_from spots from e.0 e.1 (slice_get nets e.1.net)) (counts n from to branch from) 0 packets
+            u.number_is u.packet (first_copy u.number_is u.sent.net u.packet) u.at
+            (ap (λ j. copy_from spots from j u.packet (slice_get nets u.packet.net)) zero_more ∙ sent_from spots nets u.packet u.number_is from u.sent.net u.sent.is_net vertex)
+            (both_true (u.number_is == n) ((from == from) && true) (nat_same u.number_is n number_same) (both_true (from == from) true (nat_same from from refl) refl))
+            (λ j q c apart at e.
+              let zero_j : 0 + j ≡ j = omega arith in
+              let sent = sent_parts spots nets q j from c (slice_get nets q.net) refl (ap (λ i. copy_from spots from i q (slice_get nets q.net)) (sym zero_j) ∙ e) in
+              let its_number : c.packet ≡ j = ap (λ (d : McCopy). d.packet) sent.copy in
+              ap (λ b. b && ((from == from) && (c.hop == 0))) (nat_apart c.packet n (λ same. apart (sym its_number ∙ (same ∙ sym number_same)))))
+
+    -- The opened mesh of a job meets the ledger of the job.
+    pub opened_meets_ledger : MeetsJobLedger opened nets packets
+    opened_meets_ledger = record {
+      ledger = record { nets_stand = stand; labelled = labelled; on_a_trail = on_a_trail; once_on_each = once };
+      of_the_job = λ k has. let u = is_unsent k has in
+        subst (λ i. i < length packets) (sym (unsent_number k u)) (slice_get_within packets u.number_is u.packet u.at);
+      each_packet = λ i below.
+        let at = slice_get-get_or packets i nothing_packet below in
+        let of = of_nets i (slice_index_or packets i nothing_packet) at in
+        let in_list = net_in_list (slice_index_or packets i nothing_packet) of.0 of.1 in
+        let on_spot = All-contains (λ n. Contains spots n.source) nets of.0 stand.sources in_list in
+        let start = vertex_there spots of.0.source on_spot in
+        (mark (first_copy i of.0 (slice_index_or packets i nothing_packet)) (unsent start.0),
+          has_mark i (slice_index_or packets i nothing_packet) of.0 start.0 at of.1 start.1, refl);
+    }

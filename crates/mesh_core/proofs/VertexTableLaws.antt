@@ -1,0 +1,126 @@
+-- The table of vertices, as it is made.
+use Rattle.std.proofs.Common.{◌≡◌, ◌≢◌, ℕ, zero, suc, ◌+◌, ◌*◌, ◌<◌, ◌≤◌, refl, sym, ap, ◌∙◌, subst, arith, Bool, true, false, List, [], ◌∷◌, ◌++◌, length, take, get_or, set, replicate, cond, Option, Some, None, inl, inr, ◌⊎◌, ◌&&◌, not, nat_le}
+use Rattle.std.specs.Prelude.{position, AllPairs}
+use Rattle.std.specs.List.{position_from, slice_get, All, list_any}
+use Rattle.std.proofs.lemmas.Iterator.Adapters.{position_from-zero}
+use Rattle.std.proofs.lemmas.List.{take_more, length-set, length-replicate, get_or-replicate, length-take-le, get_or-take, get_or_default, take_all}
+use Rattle.std.proofs.lemmas.Option.{slice_get-get_or}
+use Rattle.std.proofs.lemmas.Bool.{cases_eq, and_parts, leb-true}
+use Rattle.std.proofs.lemmas.List.Elements.{All-from_get_or, All-get_or, All-head, All-tail}
+use Rattle.spin_base.specs.declared.chips.Chip.{Chip}
+use Rattle.spin_base.specs.declared.chips.Spot.{Spot}
+use Rattle.spin_base.specs.Equality.{spot_eq}
+use Rattle.spin_base.proofs.Equality.{spot_eq_true, spot_eq_same}
+use Rattle.machine_desc.specs.Description.{Description}
+use Rattle.machine_desc.specs.Live.{index_of, IsInside, IsUsable, is_live_chip}
+use Rattle.machine_desc.proofs.Far.{same_index, index_below, live_inside}
+use Rattle.machine_desc.proofs.Same.{same_spot}
+use Rattle.mesh_core.specs.State.{vertex_at}
+use Rattle.mesh_core.specs.VertexTable.{core_place, TellsVertices}
+use Rattle.mesh_core.proofs.QueueLists.{slice_get-set_same, slice_get-set_other}
+
+-- a usable core is one of the cores 0 to 17 of a chip of the grid
+pub usable_parts : (m : Description) (s : Spot) → IsUsable m s → IsInside m s.chip × (s.core < 18)
+usable_parts m s h =
+    let core : Bool = nat_le 1 s.core && nat_le s.core 17 in
+    let listed : Bool = not (list_any (spot_eq s) m.dead_cores) in
+    let parts : (is_live_chip m s.chip ≡ true) × ((core && listed) ≡ true) = and_parts (is_live_chip m s.chip) (core && listed) h in
+    let is_core : (core ≡ true) × (listed ≡ true) = and_parts core listed parts.1 in
+    let bounds : (nat_le 1 s.core ≡ true) × (nat_le s.core 17 ≡ true) = and_parts (nat_le 1 s.core) (nat_le s.core 17) is_core.0 in
+    (live_inside m s.chip parts.0, omega (arith, leb-true s.core 17 bounds.1))
+
+-- cores of one place are one core
+pub same_core_place : (m : Description) (a b : Spot) → IsInside m a.chip → IsInside m b.chip → a.core < 18 → b.core < 18 → core_place m a ≡ core_place m b → a ≡ b
+same_core_place m a b in_a in_b small_a small_b e =
+    let same : index_of m a.chip ≡ index_of m b.chip = omega arith in
+    same_spot a b (same_index m a.chip b.chip in_a in_b same) (omega arith)
+
+pub core_place-below : (m : Description) (s : Spot) → IsInside m s.chip → s.core < 18 → core_place m s < 18 * (m.width * m.height)
+core_place-below m s inside small = omega (arith, index_below m s.chip inside)
+
+-- what a search gives where there is one more item
+position-push_other : (t : Spot → Bool) (xs : List Spot) (y : Spot) (n : ℕ) → t y ≡ false → position_from t n (xs ++ y ∷ []) ≡ position_from t n xs
+position-push_other t [] y n other = rw other refl
+position-push_other t (x ∷ xs) y n other = ap (λ q. cond (t x) (Some n) q) (position-push_other t xs y (n + 1) other)
+
+position-push_new : (t : Spot → Bool) (xs : List Spot) (y : Spot) (n : ℕ) → t y ≡ true → All (λ x. t x ≡ false) xs → position_from t n (xs ++ y ∷ []) ≡ Some (n + length xs)
+position-push_new t [] y n same none = rw same (ap Some (omega arith))
+position-push_new t (x ∷ xs) y n same none =
+    let here : t x ≡ false = All-head (λ z. t z ≡ false) x xs none in
+    rw here (position-push_new t xs y (n + 1) same (All-tail (λ z. t z ≡ false) x xs none) ∙ ap Some (omega arith))
+
+pub vertex_at-from : (spots : List Spot) (s : Spot) → vertex_at spots s ≡ position_from (spot_eq s) 0 spots
+vertex_at-from spots s = position_from-zero (spot_eq s) spots
+
+other_spot : (a b : Spot) → a ≢ b → (t : Bool) → spot_eq a b ≡ t → t ≡ false
+other_spot a b other true e = absurd (other (spot_eq_true a b e))
+other_spot a b other false e = refl
+
+pub differs : (a b : Spot) → a ≢ b → spot_eq a b ≡ false
+differs a b other = other_spot a b other (spot_eq a b) refl
+
+same_eq : (a b : Spot) → a ≡ b → spot_eq a b ≡ true
+same_eq a b e = subst (λ (s : Spot). spot_eq a s ≡ true) e (spot_eq_same a)
+
+-- the vertex on a core, where one vertex more is known
+vertex_at-push_other : (spots : List Spot) (y s : Spot) → s ≢ y → vertex_at (spots ++ y ∷ []) s ≡ vertex_at spots s
+vertex_at-push_other spots y s other =
+    vertex_at-from (spots ++ y ∷ []) s ∙ (position-push_other (spot_eq s) spots y 0 (differs s y other) ∙ sym (vertex_at-from spots s))
+
+vertex_at-push_new : (spots : List Spot) (y s : Spot) → s ≡ y → All (λ x. y ≢ x) spots → vertex_at (spots ++ y ∷ []) s ≡ Some (length spots)
+vertex_at-push_new spots y s same different =
+    let none : All (λ x. spot_eq s x ≡ false) spots = λ k d below. differs s _ (λ e. different k d below (sym same ∙ e)) in
+    vertex_at-from (spots ++ y ∷ []) s ∙ (position-push_new (spot_eq s) spots y 0 (same_eq s y same) none ∙ ap Some (omega arith))
+
+-- the table of no vertices
+pub TellsVertices-none : (m : Description) (spots : List Spot) → TellsVertices m (take 0 spots) (replicate (18 * (m.width * m.height)) None)
+TellsVertices-none m spots = record {
+  long = length-replicate {A = Option ℕ} (18 * (m.width * m.height)) None;
+  told = λ s inside small.
+    let n : ℕ = 18 * (m.width * m.height) in
+    let below : core_place m s < n = core_place-below m s inside small in
+    slice_get-get_or (replicate n None) (core_place m s) None (rw (length-replicate {A = Option ℕ} n None) below)
+    ∙ ap Some (get_or-replicate n (core_place m s) None None below);
+}
+
+-- the table where one vertex more is written
+pub TellsVertices-more : (m : Description) (spots : List Spot) (i : ℕ) (y : Spot) (table : List (Option ℕ)) → i < length spots → y ≡ get_or spots i y →
+    AllPairs (λ a b. a ≢ b) spots → IsUsable m y → TellsVertices m (take i spots) table →
+    TellsVertices m (take (i + 1) spots) (set table (core_place m y) (Some i))
+TellsVertices-more m spots i y table below is_y different usable tells =
+    record {
+      long = length-set table (core_place m y) (Some i) ∙ tells.long;
+      told = λ s inside small. elim (cases_eq (core_place m s) (core_place m y)) [
+        | inl here ↦ at_y s inside small here
+        | inr there ↦
+            slice_get-set_other table (core_place m y) (core_place m s) (Some i) there
+            ∙ (tells.told s inside small
+            ∙ ap Some (sym (ap (λ l. vertex_at l s) more ∙ vertex_at-push_other (take i spots) y s (λ e. there (ap (core_place m) e)))))
+      ];
+    }
+  where
+    more : take (i + 1) spots ≡ take i spots ++ y ∷ []
+    more = take_more spots i y below ∙ ap (λ x. take i spots ++ x ∷ []) (sym is_y)
+    at : IsInside m y.chip × (y.core < 18)
+    at = usable_parts m y usable
+    taken : length (take i spots) ≡ i
+    taken = length-take-le i spots (omega arith)
+    earlier : All (λ x. y ≢ x) (take i spots)
+    earlier = λ k d k_below e.
+        let k_small : k < i = omega (arith, taken) in
+        let same : get_or spots k y ≡ get_or spots i y =
+            get_or_default spots k y d (omega arith) ∙ (sym (get_or-take i spots k d k_small) ∙ (sym e ∙ is_y)) in
+        different k i y k_small below same
+    at_y : (s : Spot) → IsInside m s.chip → s.core < 18 → core_place m s ≡ core_place m y → slice_get (set table (core_place m y) (Some i)) (core_place m s) ≡ Some (vertex_at (take (i + 1) spots) s)
+    at_y s inside small here =
+        let same : s ≡ y = same_core_place m s y inside at.0 small at.1 here in
+        ap (λ p. slice_get (set table (core_place m y) (Some i)) p) here
+        ∙ (slice_get-set_same table (core_place m y) (vertex_at (take i spots) y) (Some i) (tells.told y at.0 at.1)
+        ∙ ap Some (sym (ap (λ l. vertex_at l s) more ∙ (vertex_at-push_new (take i spots) y s same earlier ∙ ap Some taken))))
+
+-- all vertices are told once all are written
+pub TellsVertices-all : (m : Description) (spots : List Spot) (n : ℕ) (table : List (Option ℕ)) → length spots ≤ n → TellsVertices m (take n spots) table → TellsVertices m spots table
+TellsVertices-all m spots n table all tells = record {
+  long = tells.long;
+  told = λ s inside small. tells.told s inside small ∙ ap (λ l. Some (vertex_at l s)) (take_all n spots all);
+}

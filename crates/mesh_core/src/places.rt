@@ -1,0 +1,31 @@
+// Where a copy is, and what a step answers.
+use spin_base::{Chip, Out, Port};
+
+/// Whether an event was enabled: the mesh moved, or nothing changed.
+#[derive(Clone, Copy, Debug, PartialEq, Eq, Hash)]
+pub enum Did {
+    Moved,
+    Idle,
+}
+
+/// A place where a copy waits.
+#[derive(Clone, Copy, Debug, PartialEq, Eq, PartialOrd, Ord, Hash)]
+pub enum Place {
+    /// The input queue of a chip's port.
+    InQueue(Chip, Port),
+    /// The hand of a chip's router, for one output.
+    Hand(Chip, Out),
+    /// The queue of a core, by its chip and number.
+    CoreQueue(Chip, u8),
+}
+
+/// Where a target's copy of a packet is.
+#[derive(Clone, Copy, Debug, PartialEq, Eq, Hash)]
+pub enum Where {
+    Unsent,
+    At(Place),
+    /// The place in the list of deliveries.
+    Delivered(u32),
+    /// The place in the list of dump records.
+    Dumped(u32),
+}

@@ -1,0 +1,81 @@
+// Queues of copies by their place in a list of queues.
+ghost use Rattle.std.specs.Prelude.{◌≡◌, ◌<◌, [], ◌∷◌, slice_get, slice_set, replicate, length, OnOk, OnErr, IfOk};
+ghost use Rattle.mesh_core.specs.Step.{has_room, appended};
+ghost use Rattle.mesh_core.specs.Queues.{front_of, shortened};
+ghost use Rattle.mesh_core.specs.Serving.{named, IsPlace, inputs_after, cores_after};
+
+use spin_base::{Fifo, McCopy, Memory};
+use std::alloc::Global;
+
+// The queue behind an output, by its place among the input queues or by the vertex of its core.
+#[derive(Clone, Copy, Debug)]
+pub enum Queue {
+    Input(usize),
+    Core(usize),
+    // A link that isn't live, or a core without a vertex.
+    Nowhere,
+}
+
+// So many empty queues.
+pub fn empty_queues(alloc: Global, count: usize) -> Result<Vec<Fifo<McCopy>>, Memory>
+    ensures { IfOk result (λ v. v.items ≡ replicate count []) }
+{
+    let mut queues = Vec::new(alloc);
+    for _ in 0..count {
+        queues.push(Fifo::new(alloc))?;
+    }
+    Ok(queues)
+}
+
+// Whether the queue holds less than the capacity.
+pub fn has_room(queues: &[Fifo<McCopy>], place: usize, capacity: u32) -> bool
+    requires { place < length queues.now }
+    ensures { result ≡ has_room capacity (slice_get queues.now place) }
+{
+    queues[place].len() < capacity as usize
+}
+
+// The copy at the queue's front.
+pub fn front(queues: &[Fifo<McCopy>], place: usize) -> Option<McCopy>
+    requires { place < length queues.now }
+    ensures { result ≡ front_of (slice_get queues.now place) }
+{
+    queues[place].as_slice().first().copied()
+}
+
+// Puts a copy at the queue's back.
+pub fn push_at(queues: &mut [Fifo<McCopy>], place: usize, copy: McCopy) -> Result<(), Memory>
+    requires { place < length queues.old }
+    ensures ok { OnOk result (queues.new ≡ appended queues.old place copy (slice_get queues.old place)) }
+    ensures err { OnErr result (queues.new ≡ queues.old) }
+{
+    queues[place].push(copy)
+}
+
+// Takes the front copy off the queue.
+pub fn drop_front(queues: &mut [Fifo<McCopy>], place: usize)
+    requires { place < length queues.old }
+    ensures { queues.new ≡ shortened queues.old place (slice_get queues.old place) }
+{
+    let _ = queues[place].pop();
+}
+
+// Puts a copy at the back of the queue behind an output.
+pub fn push_behind(
+    inputs: &mut [Fifo<McCopy>],
+    cores: &mut [Fifo<McCopy>],
+    queue: Queue,
+    copy: McCopy,
+) -> Result<(), Memory>
+    requires { IsPlace (length inputs.old) (length cores.old) queue }
+    ensures inputs { OnOk result (inputs.new ≡ inputs_after inputs.old (named queue) copy) }
+    ensures cores { OnOk result (cores.new ≡ cores_after cores.old (named queue) copy) }
+    ensures inputs_stay { OnErr result (inputs.new ≡ inputs.old) }
+    ensures cores_stay { OnErr result (cores.new ≡ cores.old) }
+{
+    match queue {
+        Queue::Input(place) => push_at(inputs, place, copy),
+        Queue::Core(vertex) => push_at(cores, vertex, copy),
+        Queue::Nowhere => Ok(()),
+    }
+}

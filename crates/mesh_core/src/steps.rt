@@ -1,0 +1,221 @@
+// The step: what one event does to a mesh.
+ghost use Rattle.std.specs.Prelude.{◌≡◌, OnOk, OnErr, IfOk, IfSome, length, slice_get};
+ghost use Rattle.machine_desc.specs.Live.{index_of, IsInside};
+ghost use Rattle.mesh_core.specs.State.{behind};
+ghost use Rattle.mesh_core.specs.Step.{has_room_behind, onward};
+ghost use Rattle.mesh_core.specs.Serving.{named, copy_served, IsPlace};
+
+use crate::hands::{Hand, serve};
+use crate::meshes::{Mesh, queue_place};
+use crate::places::Did;
+use crate::queues::{Queue, drop_front, front, has_room, push_at, push_behind};
+use spin_base::{Chip, Delivery, Dir, DumpRec, Event, McCopy, Memory, Out, Port, Spot};
+
+impl Mesh {
+    ghost use Rattle.spin_base.specs.declared.copies.Event.TheVariants.{Inject, Take, Send, Dump, Collect};
+    ghost use Rattle.spin_base.specs.declared.routes.Out.TheVariants.{Link, Core};
+    ghost use Rattle.mesh_core.specs.Step.{after_event, answer};
+
+    /// One event: `Moved` exactly where it is enabled, and `Idle` exactly where it isn't, and then nothing changes.
+    ///
+    /// `Inject` takes a vertex's first unsent copy to the back of its chip's injection queue, where that isn't full.
+    /// `Take` takes the front copy at a port into the free hand of a live chip, with the outputs that the chip's table
+    /// gives, or with none where its hop number is the greatest; without an output the copy is gone. `Send` takes the
+    /// copy in hand, with one hop more, to the back of the queue behind one of its outputs, where that isn't full.
+    /// `Dump` records the copy and drops it for an output behind which is a full queue or none. `Collect` delivers the
+    /// front copy in the queue of a vertex's core. An event of a vertex or a chip that isn't there is not enabled.
+    ///
+    /// It moves what it moves: its cost does not depend on the size of the mesh. After a refusal the mesh is as before.
+    #[tactic(auto, using(crate::proofs::Fixed::after_event_machine, crate::proofs::Fixed::after_event_spots))]
+    pub fn step(&mut self, e: Event) -> Result<Did, Memory>
+        ensures answer { IfOk result (λ did. did ≡ answer self.old e) }
+        ensures moves { OnOk result (self.new ≡ after_event self.old e) }
+        ensures err { OnErr result (self.new ≡ self.old) }
+        ensures machine_stays { self.new.machine ≡ self.old.machine }
+        ensures vertices_stay { self.new.spots ≡ self.old.spots }
+    {
+        match e {
+            Event::Inject(vertex) => self.inject(vertex),
+            Event::Take(chip, port) => Ok(self.take(chip, port)),
+            Event::Send(chip, out) => self.send(chip, out),
+            Event::Dump(chip, out) => self.dump(chip, out),
+            Event::Collect(vertex) => self.collect(vertex),
+        }
+    }
+
+    // The vertex sends its first unsent copy to its chip's injection queue.
+    fn inject(&mut self, v: u32) -> Result<Did, Memory>
+        ensures answer { IfOk result (λ did. did ≡ answer self.old (Inject v)) }
+        ensures moves { OnOk result (self.new ≡ after_event self.old (Inject v)) }
+        ensures err { OnErr result (self.new ≡ self.old) }
+    {
+        let vertex = v as usize;
+        if vertex >= self.spots.len() {
+            return Ok(Did::Idle);
+        }
+        let Some(copy) = front(&self.unsent, vertex) else {
+            return Ok(Did::Idle);
+        };
+        let queue = queue_place(&self.machine, self.spots.get(vertex).chip, Port::Local);
+        if !has_room(&self.inputs, queue, self.capacity) {
+            return Ok(Did::Idle);
+        }
+        push_at(&mut self.inputs, queue, copy)?;
+        drop_front(&mut self.unsent, vertex);
+        Ok(Did::Moved)
+    }
+
+    // The vertex takes the first copy in the queue of its core.
+    fn collect(&mut self, v: u32) -> Result<Did, Memory>
+        ensures answer { IfOk result (λ did. did ≡ answer self.old (Collect v)) }
+        ensures moves { OnOk result (self.new ≡ after_event self.old (Collect v)) }
+        ensures err { OnErr result (self.new ≡ self.old) }
+    {
+        let vertex = v as usize;
+        if vertex >= self.cores.len() {
+            return Ok(Did::Idle);
+        }
+        let Some(copy) = front(&self.cores, vertex) else {
+            return Ok(Did::Idle);
+        };
+        self.delivered.push(Delivery { vertex: v, copy })?;
+        drop_front(&mut self.cores, vertex);
+        Ok(Did::Moved)
+    }
+
+    // The chip's router takes the first copy in the queue of a port.
+    fn take(&mut self, c: Chip, port: Port) -> Did
+        ensures answer { result ≡ answer self.old (Take c port) }
+        ensures moves { self.new ≡ after_event self.old (Take c port) }
+    {
+        if !self.machine.live(c) {
+            return Did::Idle;
+        }
+        let chip = self.machine.index(c) as usize;
+        if self.hands[chip].is_some() {
+            return Did::Idle;
+        }
+        let queue = queue_place(&self.machine, c, port);
+        let Some(copy) = front(&self.inputs, queue) else {
+            return Did::Idle;
+        };
+        self.hands[chip] = Hand::taken(copy, port, self.tcams.get(chip));
+        drop_front(&mut self.inputs, queue);
+        Did::Moved
+    }
+
+    // The chip's router sends the copy in its hand by an output.
+    fn send(&mut self, c: Chip, out: Out) -> Result<Did, Memory>
+        ensures answer { IfOk result (λ did. did ≡ answer self.old (Send c out)) }
+        ensures moves { OnOk result (self.new ≡ after_event self.old (Send c out)) }
+        ensures err { OnErr result (self.new ≡ self.old) }
+    {
+        let Some(copy) = self.copy_for(c, out) else {
+            return Ok(Did::Idle);
+        };
+        let queue = self.behind(c, out);
+        if !self.has_room_behind(queue) {
+            return Ok(Did::Idle);
+        }
+        push_behind(&mut self.inputs, &mut self.cores, queue, onward(copy))?;
+        let chip = self.machine.index(c) as usize;
+        serve(&mut self.hands, chip, out);
+        Ok(Did::Moved)
+    }
+
+    // The chip's router drops the copy in its hand for an output.
+    fn dump(&mut self, c: Chip, out: Out) -> Result<Did, Memory>
+        ensures answer { IfOk result (λ did. did ≡ answer self.old (Dump c out)) }
+        ensures moves { OnOk result (self.new ≡ after_event self.old (Dump c out)) }
+        ensures err { OnErr result (self.new ≡ self.old) }
+    {
+        let Some(copy) = self.copy_for(c, out) else {
+            return Ok(Did::Idle);
+        };
+        let queue = self.behind(c, out);
+        if self.has_room_behind(queue) {
+            return Ok(Did::Idle);
+        }
+        self.dumped.push(DumpRec { chip: c, out, copy })?;
+        let chip = self.machine.index(c) as usize;
+        serve(&mut self.hands, chip, out);
+        Ok(Did::Moved)
+    }
+
+    // The copy in the hand of the chip's router that still has to leave by the output.
+    fn copy_for(&self, c: Chip, out: Out) -> Option<McCopy>
+        ensures copy { result ≡ copy_served self.now c out (slice_get self.now.hands (index_of self.now.machine c)) }
+        ensures inside { IfSome result (λ _. IsInside self.now.machine c) }
+    {
+        if !self.machine.live(c) {
+            return None;
+        }
+        let hand = self.hands[self.machine.index(c) as usize].as_ref()?;
+        if hand.serves(out) { Some(hand.copy) } else { None }
+    }
+
+    // The queue behind an output.
+    fn behind(&self, c: Chip, out: Out) -> Queue
+        requires { IsInside self.now.machine c }
+        ensures queue { named result ≡ behind self.now.machine self.now.spots c out }
+        ensures place { IsPlace (length self.now.inputs) (length self.now.cores) result }
+    {
+        match out {
+            Out::Link(link) => self.behind_link(c, link),
+            Out::Core(core) => self.behind_core(Spot { chip: c, core }),
+        }
+    }
+
+    // The queue at the far end of a link.
+    fn behind_link(&self, c: Chip, link: Dir) -> Queue
+        requires { IsInside self.now.machine c }
+        ensures queue { named result ≡ behind self.now.machine self.now.spots c (Link link) }
+        ensures place { IsPlace (length self.now.inputs) (length self.now.cores) result }
+    {
+        if !self.machine.link_live(c, link) {
+            return Queue::Nowhere;
+        }
+        match self.machine.far(c, link) {
+            None => Queue::Nowhere,
+            Some(e) => Queue::Input(queue_place(&self.machine, e, Port::Link(link.opposite()))),
+        }
+    }
+
+    // The queue of the vertex on a core.
+    fn behind_core(&self, spot: Spot) -> Queue
+        requires { IsInside self.now.machine spot.chip }
+        ensures queue { named result ≡ behind self.now.machine self.now.spots spot.chip (Core spot.core) }
+        ensures place { IsPlace (length self.now.inputs) (length self.now.cores) result }
+    {
+        let first = 18 * self.machine.index(spot.chip) as usize;
+        if spot.core >= 18 {
+            return Queue::Nowhere;
+        }
+        match self.vertices[first + usize::from(spot.core)] {
+            None => Queue::Nowhere,
+            Some(vertex) => Queue::Core(vertex),
+        }
+    }
+
+    // Whether the queue behind an output has room.
+    fn has_room_behind(&self, queue: Queue) -> bool
+        requires { IsPlace (length self.now.inputs) (length self.now.cores) queue }
+        ensures { result ≡ has_room_behind self.now (named queue) }
+    {
+        match queue {
+            Queue::Input(place) => has_room(&self.inputs, place, self.capacity),
+            Queue::Core(vertex) => has_room(&self.cores, vertex, self.capacity),
+            Queue::Nowhere => false,
+        }
+    }
+}
+
+// The copy behind a router: one hop more.
+fn onward(copy: McCopy) -> McCopy
+    ensures { result ≡ onward copy }
+{
+    McCopy {
+        hop: copy.hop.saturating_add(1),
+        ..copy
+    }
+}

@@ -1,0 +1,9 @@
+//! Nets with their keys, cores and trees, and what it means that routers' tables are right for them.
+//!
+//! Which outputs a tree wants at a chip, and at which port packets arrive there, follow the tree (Navaridas and
+//! others, 2015, for trees of links; SpiNNaker datasheet for outputs and ports).
+#![tactic(auto)]
+
+mod nets;
+
+pub use nets::NetPlan;
