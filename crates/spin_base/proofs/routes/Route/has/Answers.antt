@@ -1,0 +1,10 @@
+use Rattle.std.proofs.Common.{◌≡◌, ◌<◌, ◌≤◌, ◌+◌, nat_lt, nat_eq, arith, ap, sym, ◌∙◌, false}
+use Rattle.std.specs.Int.{bit_at}
+use Rattle.spin_base.proofs.Outputs.{no_high_bit}
+use Rattle.spin_base.specs.Outputs.{has, out_number}
+use Rattle.spin_base.proofs.routes.Route.has.Goals as goal
+
+pub returns-else-core-lt18 : goal.returns-else-core-lt18
+returns-else-core-lt18 c =
+    let high : bit_at c.args.self.bits (6 + c.in-Core.core) ≡ 0 = no_high_bit c.args.self (6 + c.in-Core.core) (omega arith)
+    in rw (c.in-Core.is, high) (grind (arith, c.if-core-lt18.false))

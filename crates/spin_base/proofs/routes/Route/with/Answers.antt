@@ -1,0 +1,27 @@
+use Rattle.std.proofs.Common.{◌≡◌, ◌<◌, ◌^◌, ℕ, ◌+◌, ◌*◌, ◌%◌, bit_or, arith, ap, sym, refl, subst, ◌∙◌}
+use Rattle.spin_base.specs.Outputs.{out_number, IsOutput}
+use Rattle.spin_base.proofs.Outputs.{out_number_below, set_bit_within, set_bit_with_out}
+use Rattle.spin_base.proofs.routes.Route.with.Goals as goal
+use Rattle.spin_base.proofs.routes.Route.with.Goals.{in-Link, in-Core}
+
+pub invariant_of-result : goal.invariant_of-result
+invariant_of-result c =
+    let number_is : c.match-out.number ≡ out_number c.args.out =
+    elim c.match-out.branch [
+      | in-Link w ↦ rw (w.in-Link.is, w.number-is) w.number-number.ensures.number
+      | in-Core w ↦ rw (w.in-Core.is, w.number-is) refl
+    ]
+    in record {
+      within =
+          rw number_is
+          (set_bit_within c.args.self (out_number c.args.out) (out_number_below c.args.out c.requires));
+    }
+
+pub returns : goal.returns
+returns c =
+    let number_is : c.match-out.number ≡ out_number c.args.out =
+    elim c.match-out.branch [
+      | in-Link w ↦ rw (w.in-Link.is, w.number-is) w.number-number.ensures.number
+      | in-Core w ↦ rw (w.in-Core.is, w.number-is) refl
+    ]
+    in set_bit_with_out _ _ _ c.requires (ap (λ n. bit_or c.args.self.bits (1 * 2 ^ n % 2 ^ 32)) number_is)

@@ -1,0 +1,21 @@
+// Blocks of keys, and entries of a router's table.
+ghost use Rattle.std.specs.Prelude.{◌≡◌, ◌<◌, ◌^◌, bit_and};
+
+use crate::routes::Route;
+
+/// A block of keys: those `k` for which `k & mask = key`. The key has no bit outside the mask.
+#[derive(Clone, Copy, Debug, PartialEq, Eq, PartialOrd, Ord, Hash)]
+pub struct Block {
+    pub key: u32,
+    pub mask: u32,
+    ghost within: { bit_and key mask ≡ key },
+    ghost small: { mask < 2 ^ 32 },
+}
+
+/// An entry of a router's table: it matches a key `k` where `k & mask = key` (SpiNNaker datasheet).
+#[derive(Clone, Copy, Debug, PartialEq, Eq, PartialOrd, Ord, Hash)]
+pub struct Entry {
+    pub key: u32,
+    pub mask: u32,
+    pub route: Route,
+}

@@ -1,0 +1,114 @@
+// Routes: which links and cores get a copy of a packet.
+ghost use Rattle.std.specs.Prelude.{◌≡◌, ◌<◌, ◌≤◌, ◌^◌, ◌++◌, filter};
+ghost use Rattle.arrayvec.specs.ArrayVec.{array_vec_len};
+
+use crate::chips::Dir;
+use arrayvec::ArrayVec;
+
+/// An output of a router: a link, or a core of the chip (0 to 17).
+#[derive(Clone, Copy, Debug, PartialEq, Eq, PartialOrd, Ord, Hash)]
+pub enum Out {
+    Link(Dir),
+    Core(u8),
+}
+
+impl Default for Out {
+    fn default() -> Self {
+        Out::Core(0)
+    }
+}
+
+impl Out {
+    ghost use Rattle.spin_base.specs.Outputs.{out_number};
+
+    /// The output's bit in a route: bits 0 to 5 are the links, bits 6 to 23 the cores 0 to 17 (SpiNNaker datasheet).
+    pub fn number(self) -> u16
+        ensures { result ≡ out_number self }
+    {
+        match self {
+            Out::Link(link) => u16::from(link.number()),
+            Out::Core(core) => 6 + u16::from(core),
+        }
+    }
+}
+
+/// The outputs of one packet: at most 24 different ones, in the order of their bits.
+pub type Outs = ArrayVec<Out, 24>;
+
+/// The links and cores that get a copy of a packet, as 24 bits (SpiNNaker datasheet).
+#[derive(Clone, Copy, Debug, PartialEq, Eq, PartialOrd, Ord, Hash)]
+pub struct Route {
+    pub bits: u32,
+    ghost within: { bits < 2 ^ 24 },
+}
+
+impl Route {
+    ghost use Rattle.spin_base.specs.Outputs.{has, outs_of, link_outs, core_outs, IsOutput, WithOut, nothing};
+
+    /// No link and no core.
+    pub fn nothing() -> Route
+        ensures { result ≡ nothing }
+    {
+        Route { bits: 0 }
+    }
+
+    /// Whether the output gets a copy: its bit is 1. A core above 17 has no bit.
+    pub fn has(self, out: Out) -> bool
+        ensures { result ≡ has self out }
+    {
+        match out {
+            Out::Link(link) => (self.bits >> link.number()) & 1 == 1,
+            Out::Core(core) => core < 18 && (self.bits >> (6 + core)) & 1 == 1,
+        }
+    }
+
+    /// The same route, and that output besides.
+    pub fn with(self, out: Out) -> Route
+        requires { IsOutput out }
+        ensures { WithOut self out result }
+    {
+        let number = match out {
+            Out::Link(link) => link.number(),
+            Out::Core(core) => 6 + core,
+        };
+        Route {
+            bits: self.bits | 1 << number,
+        }
+    }
+
+    /// The outputs that get a copy, in the order of their bits, each once.
+    #[tactic(auto, using(crate::proofs::Outputs::outs_by_parts))]
+    pub fn outs(self) -> Outs
+        ensures all { result.items ≡ outs_of self }
+    {
+        let mut outs = self.links();
+        self.add_cores(&mut outs);
+        outs
+    }
+
+    // The links that get a copy.
+    fn links(self) -> Outs
+        ensures all { result.items ≡ filter (has self) link_outs }
+        ensures few { array_vec_len result ≤ 6 }
+    {
+        let mut outs = Outs::new();
+        for link in Dir::ALL {
+            if self.has(Out::Link(link)) {
+                outs.push(Out::Link(link));
+            }
+        }
+        outs
+    }
+
+    // Adds the cores that get a copy.
+    fn add_cores(self, outs: &mut Outs)
+        requires { array_vec_len outs.old ≤ 6 }
+        ensures { outs.new.items ≡ outs.old.items ++ filter (has self) core_outs }
+    {
+        for core in 0..18 {
+            if self.has(Out::Core(core)) {
+                outs.push(Out::Core(core));
+            }
+        }
+    }
+}
