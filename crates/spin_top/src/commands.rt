@@ -1,5 +1,9 @@
 // The words of the command line.
-ghost use Rattle.std.specs.Prelude.{◌≡◌, ◌↔◌, IfSome, IsNone};
+ghost use Rattle.std.specs.Prelude.{◌≡◌, ◌<◌, ◌^◌, ◌≢◌, decimal, IfSome, IfNone, ℕ};
+
+ghost use Rattle.std.specs.Prelude.{[], ◌∷◌};
+ghost use Rattle.spin_top.specs.declared.commands.Command.{Command};
+ghost use Rattle.spin_top.specs.Commands.{Spells, texts_of, IsCommand};
 
 /// What the words ask for.
 #[derive(Clone, Copy, Debug, PartialEq, Eq)]
@@ -17,15 +21,12 @@ pub enum Command {
 }
 
 /// The command that the words spell, the program's name left out. `None` exactly where they spell none.
-pub fn command_of(words: &[String]) -> Option<Command> {
+pub fn command_of(words: &[String]) -> Option<Command>
+    ensures some { IfSome result (λ c. Spells (texts_of words.now) c) }
+    ensures none { IfNone result (¬ IsCommand words.now) }
+{
     match words {
-        [word] => match word.as_str() {
-            "run" => Some(Command::Run),
-            "trace" => Some(Command::Trace),
-            "compile" => Some(Command::Compile),
-            "tables" => Some(Command::Tables),
-            _ => None,
-        },
+        [word] => plain_command(word.as_str()),
         [word, number] => {
             if word.as_str() == "gen" {
                 number_of(number.as_str()).map(Command::Gen)
@@ -37,8 +38,24 @@ pub fn command_of(words: &[String]) -> Option<Command> {
     }
 }
 
+fn plain_command(word: &str) -> Option<Command>
+    ensures some { IfSome result (λ c. Spells (word.now ∷ []) c) }
+    ensures none { IfNone result ((c : Command) → ¬ Spells (word.now ∷ []) c) }
+{
+    match word {
+        "run" => Some(Command::Run),
+        "trace" => Some(Command::Trace),
+        "compile" => Some(Command::Compile),
+        "tables" => Some(Command::Tables),
+        _ => None,
+    }
+}
+
 // The number that a word writes: `0`, or digits without a leading 0, below 2^64.
-fn number_of(word: &str) -> Option<u64> {
+fn number_of(word: &str) -> Option<u64>
+    ensures some { IfSome result (λ n. word.now ≡ decimal n) }
+    ensures none { IfNone result ((n : ℕ) → n < 2 ^ 64 → word.now ≢ decimal n) }
+{
     let digits = word.as_bytes();
     let is_number = match digits {
         [] => false,

@@ -16,6 +16,7 @@ mod plans;
 mod reports;
 mod runs;
 mod small_jobs;
+mod small_reads;
 #[cfg(test)]
 mod tests;
 mod texts;
@@ -26,6 +27,7 @@ pub use outcomes::{Outcome, Refusal};
 pub use plans::{Plan, plan_of};
 pub use reports::{Report, report_of};
 pub use runs::run_packets;
-pub use small_jobs::{SmallJob, SmallNet, small_job};
+pub use small_jobs::{SmallJob, SmallNet};
+pub use small_reads::small_job;
 pub use texts::text_of;
 pub use tops::spin;
