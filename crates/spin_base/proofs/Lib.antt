@@ -1,2 +1,4 @@
+pub mod Bytes
 pub mod Equality
+pub mod Once
 pub mod Outputs

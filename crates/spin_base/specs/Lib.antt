@@ -2,5 +2,8 @@ pub mod Equality
 pub mod Lending
 pub mod Links
 pub mod Lookup
+pub mod MemoryEnds
 pub mod Outputs
+pub mod Outside
+pub mod StdEnds
 pub mod WithRoom

@@ -51,6 +51,13 @@ impl<T> Room<T> {
         self.items.len()
     }
 
+    /// For how many items there is room.
+    pub fn spare(&self) -> usize
+        ensures { result ≡ self.now.spare }
+    {
+        self.items.capacity() - self.items.len()
+    }
+
     /// The list.
     pub fn as_slice(&self) -> &[T]
         ensures { result.now ≡ self.now.items }

@@ -1,5 +1,5 @@
 // Routes: which links and cores get a copy of a packet.
-ghost use Rattle.std.specs.Prelude.{◌≡◌, ◌<◌, ◌≤◌, ◌^◌, ◌++◌, filter};
+ghost use Rattle.std.specs.Prelude.{◌≡◌, ◌<◌, ◌≤◌, ◌^◌, ◌++◌, filter, count_by, if◌then◌else◌};
 ghost use Rattle.arrayvec.specs.ArrayVec.{array_vec_len};
 
 use crate::chips::Dir;
@@ -43,6 +43,8 @@ pub struct Route {
 }
 
 impl Route {
+    ghost use Rattle.spin_base.specs.Equality.{out_eq};
+    ghost use Rattle.spin_base.specs.declared.routes.Out.{Out};
     ghost use Rattle.spin_base.specs.Outputs.{has, outs_of, link_outs, core_outs, IsOutput, WithOut, nothing};
 
     /// No link and no core.
@@ -80,6 +82,7 @@ impl Route {
     #[tactic(auto, using(crate::proofs::Outputs::outs_by_parts))]
     pub fn outs(self) -> Outs
         ensures all { result.items ≡ outs_of self }
+        ensures once { (o : Out) → IsOutput o → count_by (out_eq o) result.items ≡ (if has self o then 1 else 0) }
     {
         let mut outs = self.links();
         self.add_cores(&mut outs);

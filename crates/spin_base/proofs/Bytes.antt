@@ -1,0 +1,94 @@
+-- Laws of bytes that are given and taken piece by piece.
+use Rattle.std.proofs.Common.{◌≡◌, ℕ, ◌+◌, ◌<◌, ◌≤◌, List, [], ◌∷◌, ◌++◌, length, take, Option, Some, None, refl, ap, sym, ◌∙◌, arith, append_assoc, append-nil, length-append, length-take-le, length-drop, drop}
+use Rattle.std.proofs.Math.Seq.{take-add, take-length}
+use Rattle.std.proofs.lemmas.List.{take-append-le, take-append-drop, drop-drop}
+use Rattle.std.proofs.Common.{inl, inr, ◌⊎◌, ◌^◌, ◌-◌}
+use Rattle.spin_base.specs.Outside.{FaultsRose, Gives, GivesAll, IsAtEnd, LosesFront, HasMoreThan, Takes, TakesProperPrefix, Reads}
+
+-- before the first read nothing was given
+pub gives_nothing : (a : Option (List ℕ)) → Gives a [] a
+gives_nothing (Some bytes) = refl
+gives_nothing None = tt
+
+-- what two reads give is given in order
+pub gives_then : (a b c : Option (List ℕ)) (g h : List ℕ) → Gives a g b → Gives b h c → Gives a (g ++ h) c
+gives_then (Some x) (Some y) (Some z) g h first second = first ∙ ap (λ v. g ++ v) second ∙ sym (append_assoc g h z)
+gives_then (Some x) (Some y) None g h first second = absurd second
+gives_then (Some x) None c g h first second = absurd first
+gives_then None (Some y) c g h first second = absurd first
+gives_then None None (Some z) g h first second = absurd second
+gives_then None None None g h first second = tt
+
+-- more than the limit was given, so more was to come
+pub gives_more : (a b : Option (List ℕ)) (g : List ℕ) (limit : ℕ) → Gives a g b → limit < length g → HasMoreThan limit a
+gives_more (Some x) (Some y) g limit gives more = omega (arith, ap length gives, length-append g y)
+gives_more (Some x) None g limit gives more = absurd gives
+gives_more None b g limit gives more = tt
+
+-- before the first write nothing was taken
+pub takes_nothing : (a : Option (List ℕ)) → Takes a [] a
+takes_nothing (Some bytes) = sym (append-nil bytes)
+takes_nothing None = tt
+
+-- what two writes take is taken in order
+pub takes_then : (a b c : Option (List ℕ)) (g h : List ℕ) → Takes a g b → Takes b h c → Takes a (g ++ h) c
+takes_then (Some x) (Some y) (Some z) g h first second = second ∙ ap (λ v. v ++ h) first ∙ append_assoc x g h
+takes_then (Some x) (Some y) None g h first second = absurd second
+takes_then (Some x) None c g h first second = absurd first
+takes_then None (Some y) c g h first second = absurd first
+takes_then None None (Some z) g h first second = absurd second
+takes_then None None None g h first second = tt
+
+-- a fault that shows against a later count shows against an earlier one
+pub rose_since : (early late after : ℕ) → early ≤ late → FaultsRose late after → FaultsRose early after
+rose_since early late after before (inl more) = inl (omega arith)
+rose_since early late after before (inr last) = inr last
+
+-- at the end of input all has been given
+pub gives_end : (a b c : Option (List ℕ)) (g : List ℕ) (n : ℕ) (buffer : List ℕ) → Gives a g b → Reads b n buffer c → n ≡ 0 → GivesAll a g c
+gives_end (Some x) (Some y) (Some z) g n buffer given reads none =
+    let nothing_given : take n buffer ≡ [] = ap (λ k. take k buffer) none in
+    let last : y ≡ z = reads.gives ∙ ap (λ v. v ++ z) nothing_given in
+    record { gives = given ∙ ap (λ v. g ++ v) last; at_end = sym last ∙ reads.end_of_input none }
+gives_end (Some x) (Some y) None g n buffer given reads none = absurd reads.gives
+gives_end (Some x) None c g n buffer given reads none = absurd given
+gives_end None (Some y) c g n buffer given reads none = absurd given
+gives_end None None (Some z) g n buffer given reads none = absurd reads.gives
+gives_end None None None g n buffer given reads none = record { gives = tt; at_end = tt }
+
+-- one read past the limit
+pub gives_too_many : (a b c : Option (List ℕ)) (g buffer : List ℕ) (n limit : ℕ) → Gives a g b → Gives b (take n buffer) c → n ≤ length buffer → limit - length g < n → HasMoreThan limit a
+gives_too_many a b c g buffer n limit first second within past =
+    let both : length (g ++ take n buffer) ≡ length g + n =
+      length-append g (take n buffer) ∙ ap (λ k. length g + k) (length-take-le n buffer within)
+    in gives_more a c (g ++ take n buffer) limit (gives_then a b c g (take n buffer) first second) (omega arith)
+
+-- what a write takes of the bytes after the first d
+pub takes_from : (a b c : Option (List ℕ)) (s : List ℕ) (d n : ℕ) → Takes a (take d s) b → Takes b (take n (take (length s - d) (drop d s))) c → Takes a (take (d + n) s) c
+takes_from a b c s d n first second =
+    let rest : take (length s - d) (drop d s) ≡ drop d s =
+      ap (λ k. take k (drop d s)) (sym (length-drop d s)) ∙ take-length (drop d s)
+    in rw take-add (takes_then a b c (take d s) (take n (drop d s)) first (rw rest at second))
+
+no_items : (s : List ℕ) → length s ≡ 0 → s ≡ []
+no_items [] e = refl
+no_items (x ∷ s) e = absurd (omega arith)
+
+-- a read of the next n bytes of a list in memory
+pub reads_next : (bytes list buffer copied : List ℕ) (p n : ℕ) → list ≡ bytes → copied ≡ take n (take (length list - p) (drop p list)) → n ≤ length bytes - p → (n ≡ 0 → length bytes - p ≡ 0) → Reads (Some (drop p bytes)) n (copied ++ drop n buffer) (Some (drop (p + n) bytes))
+reads_next bytes list buffer copied p n is_list is_copied within none =
+    let left : length (drop p bytes) ≡ length bytes - p = length-drop p bytes in
+    let rest : take (length bytes - p) (drop p bytes) ≡ drop p bytes =
+      ap (λ k. take k (drop p bytes)) (sym left) ∙ take-length (drop p bytes)
+    in
+    let is_front : copied ≡ take n (drop p bytes) =
+      is_copied ∙ ap (λ (l : List ℕ). take n (take (length l - p) (drop p l))) is_list ∙ ap (λ l. take n l) rest
+    in
+    let size : length copied ≡ n = ap length is_front ∙ length-take-le n (drop p bytes) (omega arith) in
+    let front : take n (copied ++ drop n buffer) ≡ copied =
+      take-append-le n copied (drop n buffer) (omega arith) ∙ ap (λ k. take k copied) (sym size) ∙ take-length copied
+    in
+    record {
+      gives = rw (front, is_front, ← drop-drop n p bytes) (sym (take-append-drop n (drop p bytes)));
+      end_of_input = λ zero. no_items (drop p bytes) (left ∙ none zero);
+    }

@@ -1,0 +1,48 @@
+use Rattle.std.proofs.Common.{◌≡◌, ◌<◌, ◌≤◌, ℕ, length, List, [], ◌++◌, take, ap, sym, ◌∙◌, refl, subst, arith, rules, length-take-le}
+use Rattle.spin_base.specs.Outside.{Gives, GivesAll}
+use Rattle.spin_base.proofs.Bytes.{gives_nothing, gives_then, gives_end, gives_too_many, rose_since}
+use Rattle.spin_base.proofs.reading.read_all.Goals as goal
+
+pub loop-count-init : goal.loop-count-init
+loop-count-init g c = record {
+  gives = rw c.new-bytes.ensures.items (gives_nothing _);
+  within = omega arith;
+  room = omega arith;
+  counted = omega arith;
+}
+
+pub returns-in-Err-clause-fault : goal.returns-in-Err-clause-fault
+returns-in-Err-clause-fault g c = λ _. rose_since _ _ _ c.loop-count.invariant.counted c.in-Err.ensures.failed
+
+pub returns-then-count-eq0-clause-all : goal.returns-then-count-eq0-clause-all
+returns-then-count-eq0-clause-all g c =
+    rw c.from_vec.ensures (gives_end _ _ _ _ _ _ c.loop-count.invariant.gives c.in-Ok.ensures.reads c.if-count-eq0.true)
+
+pub returns-then-count-eq0-clause-lost : goal.returns-then-count-eq0-clause-lost
+returns-then-count-eq0-clause-lost g c = (_, gives_then _ _ _ _ _ c.loop-count.invariant.gives c.in-Ok.ensures.reads.gives)
+
+pub returns-then-count-limit-clause-too_long : goal.returns-then-count-limit-clause-too_long
+returns-then-count-limit-clause-too_long g c = λ _.
+    gives_too_many _ _ _ _ c.read.new.buffer c.in-Ok.count c.args.limit c.loop-count.invariant.gives c.in-Ok.ensures.reads.gives
+    (omega (arith, c.in-Ok.ensures.count)) (omega arith)
+
+pub returns-then-count-limit-clause-lost : goal.returns-then-count-limit-clause-lost
+returns-then-count-limit-clause-lost g c = (_, gives_then _ _ _ _ _ c.loop-count.invariant.gives c.in-Ok.ensures.reads.gives)
+
+pub loop-count-preserved : goal.loop-count-preserved
+loop-count-preserved g c =
+    let whole : c.in-Ok.count ≤ length c.read.new.buffer = omega (arith, c.in-Ok.ensures.count) in
+    let taken : length (take c.in-Ok.count c.read.new.buffer) ≡ c.in-Ok.count =
+      length-take-le c.in-Ok.count c.read.new.buffer whole
+    in record {
+      gives =
+        rw c.in_ok-extend_from_slice.ensures.items
+        (gives_then _ _ _ _ _ c.loop-count.invariant.gives c.in-Ok.ensures.reads.gives);
+      within = omega (arith, c.in_ok-extend_from_slice.ensures.len, taken);
+      room = omega arith;
+      counted = omega (arith, c.in-Ok.ensures.counted);
+    }
+
+pub returns-in_err-extend_from_slice-clause-lost :
+    goal.returns-in_err-extend_from_slice-clause-lost
+returns-in_err-extend_from_slice-clause-lost g c = (_, gives_then _ _ _ _ _ c.loop-count.invariant.gives c.in-Ok.ensures.reads.gives)

@@ -1,0 +1,42 @@
+-- What a contract sees of a source and a sink in memory.
+use Rattle.std.specs.Prelude.{ℕ, ◌+◌, ◌-◌, ◌^◌, List, drop, min}
+use Rattle.spin_base.specs.declared.memory_ends.MemSource.{MemSource}
+use Rattle.spin_base.specs.declared.memory_ends.MemSink.{MemSink}
+
+-- the bytes still to come
+abbrev pub source_left : MemSource → List ℕ
+source_left s = drop s.place s.bytes
+
+abbrev pub source_faults : MemSource → ℕ
+source_faults s = s.faults
+
+-- how many calls there were
+abbrev pub source_calls : MemSource → ℕ
+source_calls s = s.calls
+
+-- the numbers of the calls that fail
+abbrev pub source_failing : MemSource → List ℕ
+source_failing s = s.failing
+
+-- the number of the next call: numbers stop at the counter's last value
+abbrev pub next_call : ℕ → ℕ
+next_call n = min (n + 1) (2 ^ 64 - 1)
+
+-- the bytes taken so far
+abbrev pub sink_written : MemSink → List ℕ
+sink_written s = s.room.items
+
+-- for how many bytes there is room
+abbrev pub sink_spare : MemSink → ℕ
+sink_spare s = s.room.spare
+
+abbrev pub sink_faults : MemSink → ℕ
+sink_faults s = s.faults
+
+-- how many calls there were
+abbrev pub sink_calls : MemSink → ℕ
+sink_calls s = s.calls
+
+-- the numbers of the calls that fail
+abbrev pub sink_failing : MemSink → List ℕ
+sink_failing s = s.failing
