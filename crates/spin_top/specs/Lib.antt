@@ -1,3 +1,4 @@
 pub mod Commands
 pub mod Members
 pub mod SmallJobs
+pub mod Outcomes

@@ -1,5 +1,5 @@
 -- The jobs of one chip that are built today (this project's own).
-use Rattle.std.specs.Prelude.{ℕ, ◌&&◌, List, [], ◌∷◌, length, map, Bool, true, is_none, nat_lt, nat_le, position, Option, Some, None, option_map, option_and_then, if◌then◌else◌, codes}
+use Rattle.std.specs.Prelude.{ℕ, ◌+◌, ◌&&◌, List, [], ◌∷◌, length, map, Bool, true, is_none, nat_lt, nat_le, Option, Some, None, option_map, option_and_then, if◌then◌else◌, codes}
 use Rattle.std.specs.List.{list_all}
 use Rattle.std.specs.Str.{bytes_eq}
 use Rattle.serde_json.specs.Data.{Data}
@@ -17,9 +17,13 @@ each f (x ∷ xs) = option_and_then (λ y. option_map (λ ys. y ∷ ys) (each f 
 abbrev pub where_passes : {A : Type 0} → (A → Bool) → A → Option A
 where_passes test x = if test x then Some x else None
 
+-- a byte of printable ASCII that is no blank
+abbrev pub is_printable_byte : ℕ → Bool
+is_printable_byte b = nat_le 0x21 b && nat_le b 0x7e
+
 -- A name has 1 to 64 bytes, each from 21 to 7e hexadecimal.
 abbrev pub is_name : List ℕ → Bool
-is_name s = nat_lt 0 (length s) && nat_le (length s) 64 && list_all (λ b. nat_le 0x21 b && nat_le b 0x7e) s
+is_name s = nat_lt 0 (length s) && nat_le (length s) 64 && list_all is_printable_byte s
 
 -- the name that an item's `name` is
 abbrev pub name_in : Data → Option (List ℕ)
@@ -27,7 +31,8 @@ name_in d = option_and_then (where_passes is_name) (text_of_member (codes "name"
 
 -- the least place of a text in a list
 abbrev pub place_in : List (List ℕ) → List ℕ → Option ℕ
-place_in names s = position (λ n. bytes_eq n s) names
+place_in [] s = None
+place_in (n ∷ names) s = if bytes_eq n s then Some 0 else option_map (λ i. i + 1) (place_in names s)
 
 -- whether no text stands twice
 abbrev pub all_different : List (List ℕ) → Bool

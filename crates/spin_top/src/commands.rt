@@ -2,6 +2,8 @@
 ghost use Rattle.std.specs.Prelude.{◌≡◌, ◌<◌, ◌^◌, ◌≢◌, decimal, IfSome, IfNone, ℕ};
 
 ghost use Rattle.std.specs.Prelude.{[], ◌∷◌};
+ghost use Rattle.std.specs.Char.{is_ascii_digit};
+ghost use Rattle.std.specs.List.{list_all};
 ghost use Rattle.spin_top.specs.declared.commands.Command.{Command};
 ghost use Rattle.spin_top.specs.Commands.{Spells, texts_of, IsCommand};
 
@@ -27,13 +29,7 @@ pub fn command_of(words: &[String]) -> Option<Command>
 {
     match words {
         [word] => plain_command(word.as_str()),
-        [word, number] => {
-            if word.as_str() == "gen" {
-                number_of(number.as_str()).map(Command::Gen)
-            } else {
-                None
-            }
-        }
+        [word, number] => numbered_command(word.as_str(), number.as_str()),
         _ => None,
     }
 }
@@ -51,17 +47,43 @@ fn plain_command(word: &str) -> Option<Command>
     }
 }
 
+fn numbered_command(word: &str, number: &str) -> Option<Command>
+    ensures some { IfSome result (λ c. Spells (word.now ∷ number.now ∷ []) c) }
+    ensures none { IfNone result ((c : Command) → ¬ Spells (word.now ∷ number.now ∷ []) c) }
+{
+    if word != "gen" {
+        return None;
+    }
+    match number_of(number) {
+        Some(number) => Some(Command::Gen(number)),
+        None => None,
+    }
+}
+
 // The number that a word writes: `0`, or digits without a leading 0, below 2^64.
 fn number_of(word: &str) -> Option<u64>
     ensures some { IfSome result (λ n. word.now ≡ decimal n) }
     ensures none { IfNone result ((n : ℕ) → n < 2 ^ 64 → word.now ≢ decimal n) }
+    ensures small { IfSome result (λ n. n < 2 ^ 64) }
 {
     let digits = word.as_bytes();
-    let is_number = match digits {
-        [] => false,
-        [b'0'] => true,
-        [b'0', ..] => false,
-        _ => digits.iter().all(|digit| digit.is_ascii_digit()),
-    };
-    if is_number { word.parse().ok() } else { None }
+    if digits.len() == 0 {
+        return None;
+    }
+    if !are_digits(digits) {
+        return None;
+    }
+    if digits[0] == b'0' && digits.len() > 1 {
+        return None;
+    }
+    match word.parse() {
+        Ok(number) => Some(number),
+        Err(_) => None,
+    }
+}
+
+fn are_digits(bytes: &[u8]) -> bool
+    ensures { result ≡ list_all is_ascii_digit bytes.now }
+{
+    bytes.iter().all(|byte| byte.is_ascii_digit())
 }

@@ -1,4 +1,6 @@
 // What came of a call.
+ghost use Rattle.std.specs.Prelude.{◌≡◌};
+
 use crate::plans::Plan;
 use crate::reports::Report;
 use mesh_core::Mesh;
@@ -29,8 +31,12 @@ pub struct Outcome {
 }
 
 impl Refusal {
+    ghost use Rattle.spin_top.specs.Outcomes.{status_of, line_of};
+
     /// The status that a call with this refusal ends with.
-    pub fn status(self) -> u8 {
+    pub fn status(self) -> u8
+        ensures { result ≡ status_of self }
+    {
         match self {
             Refusal::Usage => 1,
             Refusal::ReadFault => 2,
@@ -41,7 +47,9 @@ impl Refusal {
     }
 
     /// The line that a call with this refusal writes, ended by a line feed; nothing where writing failed.
-    pub fn line(self) -> &'static str {
+    pub fn line(self) -> &'static str
+        ensures { result.now ≡ line_of self }
+    {
         match self {
             Refusal::Usage => "usage: run, trace, compile, tables or gen N\n",
             Refusal::ReadFault => "read fault\n",

@@ -1,8 +1,9 @@
 // Reads a small job out of a JSON value.
 ghost use Rattle.std.specs.Prelude.{◌≡◌, ◌≤◌, length, map, option_map, option_and_then, codes, IfOk};
+ghost use Rattle.std.specs.List.{list_all};
 ghost use Rattle.serde_json.specs.View.{view};
 ghost use Rattle.spin_top.specs.Members.{text_of_member};
-ghost use Rattle.spin_top.specs.SmallJobs.{each, is_name, name_in, all_different, place_in, is_one_chip, is_plain_run, vertex_of, vertices_of, target_of, targets_of, net_of, net_names, nets_of, packet_of, packets_of, job_of_parts, small_job_of};
+ghost use Rattle.spin_top.specs.SmallJobs.{each, is_name, is_printable_byte, name_in, all_different, place_in, is_one_chip, is_plain_run, vertex_of, vertices_of, target_of, targets_of, net_of, net_names, nets_of, packet_of, packets_of, job_of_parts, small_job_of};
 
 use crate::members::{is_number, lacks_member, list, member, text};
 use crate::small_jobs::{SmallJob, SmallNet};
@@ -91,8 +92,14 @@ fn is_bare_run(run: &Value) -> bool
 fn may_name(text: &str) -> bool
     ensures { result ≡ is_name text.now }
 {
-    let bytes = text.as_bytes();
-    !bytes.is_empty() && bytes.len() <= 64 && bytes.iter().all(|byte| 0x21 <= *byte && *byte <= 0x7e)
+    !text.is_empty() && text.len() <= 64 && is_printable(text.as_bytes())
+}
+
+// Whether each byte is printable ASCII and no blank.
+fn is_printable(bytes: &[u8]) -> bool
+    ensures { result ≡ list_all is_printable_byte bytes.now }
+{
+    bytes.iter().all(|byte| 0x21 <= *byte && *byte <= 0x7e)
 }
 
 fn read_name<'a>(item: &'a Value) -> Option<&'a str>
@@ -166,10 +173,12 @@ fn find_name(names: &[Name], text: &[u8]) -> Option<u32>
     requires { length names.now ≤ 65536 }
     ensures { result ≡ place_in names.now text.now }
 {
-    match names.iter().position(|name| name.as_bytes() == text) {
-        Some(place) => Some(place as u32),
-        None => None,
+    for (i, name) in names.iter().enumerate() {
+        if name.as_bytes() == text {
+            return Some(i as u32);
+        }
     }
+    None
 }
 
 fn read_nets(alloc: Global, graph: &Value, vertices: &[Name]) -> Result<Option<Seq<SmallNet>>, Memory>
