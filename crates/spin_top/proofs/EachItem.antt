@@ -1,10 +1,11 @@
 -- What a list gives where each item is read in turn.
-use Rattle.std.proofs.Common.{◌≡◌, ℕ, suc, ◌+◌, ◌<◌, ◌≤◌, List, [], ◌∷◌, ◌++◌, length, map, take, drop, get_or, Bool, true, false, nat_le, if◌then◌else◌, Option, Some, None, refl, ap, sym, ◌∙◌, arith, append_assoc, length-append}
+use Rattle.std.proofs.Common.{◌≡◌, ℕ, zero, suc, subst, ◌+◌, ◌<◌, ◌≤◌, List, [], ◌∷◌, ◌++◌, length, map, take, drop, get_or, Bool, true, false, nat_le, if◌then◌else◌, Option, Some, None, refl, ap, sym, ◌∙◌, arith, append_assoc, length-append}
 use Rattle.std.specs.Option.{option_map, option_and_then}
 use Rattle.std.proofs.lemmas.List.{take_more, take-append-drop, map-append, length-map}
 use Rattle.std.proofs.Math.Seq.{take-length}
 use Rattle.std.proofs.lemmas.Bool.{leb-true}
 use Rattle.spin_top.specs.SmallJobs.{each, where_passes}
+use Rattle.spin_top.proofs.Options.{and_then-some, map-some}
 
 cons_in_turn : {B : Type 0} (y : B) (p q : Option (List B)) → option_map (λ ys. y ∷ ys) (option_and_then (λ ys. option_map (λ zs. ys ++ zs) q) p) ≡ option_and_then (λ ys. option_map (λ zs. ys ++ zs) q) (option_map (λ ys. y ∷ ys) p)
 cons_in_turn y None q = refl
@@ -21,6 +22,10 @@ length-tested-le test None n ys few e = absurd cc
 length-tested-le test (Some zs) n ys few e =
     elim (test zs) as (λ b. (if b then Some zs else None) ≡ Some ys → length ys ≤ n)
     [ true ↦ λ was. let same : zs ≡ ys = cc in rw (← same) (few zs refl) | false ↦ λ was. absurd cc ] e
+
+made_at : {B : Type 0} (P : B → Type 0) (y : B) (ys : List B) → P y → ((k : ℕ) (d : B) → k < length ys → P (get_or ys k d)) → (k : ℕ) (d : B) → k < length (y ∷ ys) → P (get_or (y ∷ ys) k d)
+made_at P y ys here later zero d below = here
+made_at P y ys here later (suc k) d below = later k d (omega arith)
 
 -- the items of two lists in turn
 pub each-append : {A B : Type 0} (f : A → Option B) (us vs : List A) → each f (us ++ vs) ≡ option_and_then (λ ys. option_map (λ zs. ys ++ zs) (each f vs)) (each f us)
@@ -66,3 +71,11 @@ length-read-le {A} {B} test f n (Some ds) ys e =
     elim (nat_le (length ds) n) as (λ b. nat_le (length ds) n ≡ b → option_and_then (where_passes test) (option_and_then (each f) (if b then Some ds else None)) ≡ Some ys → length ys ≤ n)
     [ true ↦ λ few read. length-tested-le test (each f ds) n ys (λ zs was. omega (arith, length-each f ds zs was, leb-true (length ds) n few)) read
     | false ↦ λ many read. absurd cc ] refl e
+
+-- each item that was read was made of one
+pub each-made : {A B : Type 0} (f : A → Option B) (P : B → Type 0) → ((x : A) (y : B) → f x ≡ Some y → P y) → (xs : List A) (ys : List B) → each f xs ≡ Some ys → (k : ℕ) (d : B) → k < length ys → P (get_or ys k d)
+each-made f P made [] ys e k d below = let nil : [] ≡ ys = cc in absurd (omega (arith, ap length nil))
+each-made f P made (x ∷ xs) ys e k d below =
+    let first = and_then-some (λ y. option_map (λ zs. y ∷ zs) (each f xs)) (f x) ys e in
+    let rest = map-some (λ zs. first.0 ∷ zs) (each f xs) ys first.1.1 in
+    subst (λ l. P (get_or l k d)) rest.1.1 (made_at P first.0 rest.0 (made x first.0 first.1.0) (each-made f P made xs rest.0 rest.1.0) k d (omega (arith, ap length rest.1.1)))

@@ -5,6 +5,7 @@ use Rattle.std.specs.Str.{bytes_eq}
 use Rattle.std.proofs.lemmas.List.{take_more, take-append-drop}
 use Rattle.std.proofs.lemmas.List.{length-take-le}
 use Rattle.spin_top.specs.SmallJobs.{place_in}
+use Rattle.spin_top.proofs.Options.{map-some}
 
 none_under : (o : Option ℕ) → option_map (λ i. i + 1) o ≡ None → o ≡ None
 none_under None e = refl
@@ -34,3 +35,12 @@ place_in-first xs i x s below is none same =
 pub place_in-none_more : (xs : List (List ℕ)) (i : ℕ) (x s : List ℕ) → i < length xs → x ≡ get_or xs i x → place_in (take i xs) s ≡ None → bytes_eq x s ≡ false → place_in (take (i + 1) xs) s ≡ None
 place_in-none_more xs i x s below is none other =
     rw (take_more xs i x below, ← is, place_in-append _ _ s none, other) refl
+
+-- a place is within the list
+pub place_in-below : (xs : List (List ℕ)) (s : List ℕ) (i : ℕ) → place_in xs s ≡ Some i → i < length xs
+place_in-below [] s i e = absurd cc
+place_in-below (x ∷ xs) s i e =
+    elim (bytes_eq x s) as (λ b. (if b then Some 0 else option_map (λ i. i + 1) (place_in xs s)) ≡ Some i → i < length (x ∷ xs))
+    [ true ↦ λ here. let zero_is : 0 ≡ i = cc in omega arith
+    | false ↦ λ later. let found = map-some (λ i. i + 1) (place_in xs s) i later in omega (arith, place_in-below xs s found.0 found.1.0, found.1.1) ]
+    e

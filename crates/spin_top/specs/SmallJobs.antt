@@ -1,5 +1,5 @@
 -- The jobs of one chip that are built today (this project's own).
-use Rattle.std.specs.Prelude.{ℕ, ◌+◌, ◌&&◌, List, [], ◌∷◌, length, map, Bool, true, is_none, nat_lt, nat_le, Option, Some, None, option_map, option_and_then, if◌then◌else◌, codes}
+use Rattle.std.specs.Prelude.{◌≡◌, ℕ, ◌+◌, ◌<◌, ◌≤◌, slice_index, slice_index_or, ◌&&◌, List, [], ◌∷◌, length, map, Bool, true, is_none, nat_lt, nat_le, Option, Some, None, option_map, option_and_then, if◌then◌else◌, codes}
 use Rattle.std.specs.List.{list_all}
 use Rattle.std.specs.Str.{bytes_eq}
 use Rattle.serde_json.specs.Data.{Data}
@@ -119,3 +119,20 @@ small_job_of d = if has_number (codes "version") 1 d then
         (member_of (codes "graph") d))
         (member_of (codes "machine") d)
     else None
+
+-- each number of the list is below n
+abbrev pub AllBelow : List ℕ → ℕ → Type 0
+AllBelow xs n = (k : ℕ) → k < length xs → slice_index xs k < n
+
+-- a net whose source and targets are among n vertices
+pub record IsNetAmong (n : ℕ) (net : SmallNet) : Type 0 where
+  pub source : net.source < n
+  pub targets : AllBelow net.targets n
+
+-- What holds of each small job: its limits, and that its nets name its vertices and its packets name its nets.
+pub record IsSmall (job : SmallJob) : Type 0 where
+  pub few_vertices : length job.vertices ≤ 17
+  pub few_nets : length job.nets ≤ 1024
+  pub few_packets : length job.packets ≤ 65536
+  pub nets : (k : ℕ) (net : SmallNet) → k < length job.nets → net ≡ slice_index_or job.nets k net → IsNetAmong (length job.vertices) net
+  pub packets : AllBelow job.packets (length job.nets)

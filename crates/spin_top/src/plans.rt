@@ -1,4 +1,7 @@
 // Where the vertices stand, which keys the nets have, and the router's entries.
+ghost use Rattle.std.specs.Prelude.{◌≡◌, ◌<◌, ◌≤◌, length, IfOk};
+ghost use Rattle.spin_top.specs.SmallJobs.{IsSmall, AllBelow};
+
 use crate::small_jobs::{SmallJob, SmallNet};
 use spin_base::{Block, Chip, Entry, Memory, Out, Route, Seq, Spot};
 use std::alloc::Global;
@@ -20,7 +23,12 @@ pub struct Plan {
 /// # Errors
 ///
 /// `Memory` where memory runs out.
-pub fn plan_of(alloc: Global, job: &SmallJob) -> Result<Plan, Memory> {
+pub fn plan_of(alloc: Global, job: &SmallJob) -> Result<Plan, Memory>
+    requires { IsSmall job.now }
+    ensures spots { IfOk result (λ plan. length plan.spots ≡ length job.now.vertices) }
+    ensures blocks { IfOk result (λ plan. length plan.blocks ≡ length job.now.nets) }
+    ensures entries { IfOk result (λ plan. length plan.entries ≡ length job.now.nets) }
+{
     let mut spots = Seq::new(alloc);
     for i in 0..job.vertices.len() {
         spots.push(Spot {
@@ -50,7 +58,9 @@ pub fn plan_of(alloc: Global, job: &SmallJob) -> Result<Plan, Memory> {
 }
 
 // The route to the cores of a net's targets.
-fn route_to(net: &SmallNet) -> Route {
+fn route_to(net: &SmallNet) -> Route
+    requires { AllBelow net.now.targets 17 }
+{
     let mut route = Route::nothing();
     for target in net.targets.as_slice() {
         route = route.with(Out::Core(*target as u8 + 1));

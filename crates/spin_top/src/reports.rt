@@ -1,4 +1,6 @@
 // What became of a job.
+ghost use Rattle.std.specs.Prelude.{◌≤◌, length};
+
 use crate::plans::{CHIP, Plan};
 use crate::small_jobs::SmallJob;
 use mesh_core::{Mesh, Place};
@@ -30,7 +32,9 @@ pub struct Report {
 /// # Errors
 ///
 /// `Memory` where memory runs out.
-pub fn report_of(alloc: Global, job: &SmallJob, plan: &Plan, mesh: &Mesh) -> Result<Report, Memory> {
+pub fn report_of(alloc: Global, job: &SmallJob, plan: &Plan, mesh: &Mesh) -> Result<Report, Memory>
+    requires { length plan.now.spots ≤ 17 }
+{
     Ok(Report {
         placed: placed_of(alloc, job, plan)?,
         keys: keys_of(alloc, job, plan)?,
@@ -95,7 +99,9 @@ fn dumped_of(alloc: Global, mesh: &Mesh) -> Result<Seq<DumpRec>, Memory> {
 }
 
 // By packet, then by place.
-fn waiting_of(alloc: Global, plan: &Plan, mesh: &Mesh) -> Result<Seq<(u32, Place)>, Memory> {
+fn waiting_of(alloc: Global, plan: &Plan, mesh: &Mesh) -> Result<Seq<(u32, Place)>, Memory>
+    requires { length plan.now.spots ≤ 17 }
+{
     let mut waiting = Vec::new(alloc);
     for copy in mesh.queue(CHIP, Port::Local) {
         waiting.push((copy.packet, Place::InQueue(CHIP, Port::Local)))?;
@@ -115,7 +121,9 @@ fn waiting_of(alloc: Global, plan: &Plan, mesh: &Mesh) -> Result<Seq<(u32, Place
 }
 
 // The number of packets that no core has sent; it stands still at 4,294,967,295.
-fn unsent_of(plan: &Plan, mesh: &Mesh) -> u32 {
+fn unsent_of(plan: &Plan, mesh: &Mesh) -> u32
+    requires { length plan.now.spots ≤ 17 }
+{
     let mut unsent: u32 = 0;
     for vertex in 0..plan.spots.len() {
         let more = u32::try_from(mesh.unsent(vertex as u32).len()).unwrap_or(u32::MAX);

@@ -1,4 +1,6 @@
 // Runs the packets of a job, one by one.
+ghost use Rattle.spin_top.specs.SmallJobs.{IsSmall};
+
 use crate::plans::{CHIP, Plan};
 use crate::small_jobs::SmallJob;
 use mesh_core::Mesh;
@@ -14,7 +16,9 @@ const QUEUE: u32 = 16;
 /// # Errors
 ///
 /// `Memory` where memory runs out.
-pub fn run_packets(alloc: Global, job: &SmallJob, plan: &Plan) -> Result<Mesh, Memory> {
+pub fn run_packets(alloc: Global, job: &SmallJob, plan: &Plan) -> Result<Mesh, Memory>
+    requires { IsSmall job.now }
+{
     let mut entries = Seq::new(alloc);
     for entry in plan.entries.as_slice() {
         entries.push(*entry)?;
@@ -33,9 +37,9 @@ pub fn run_packets(alloc: Global, job: &SmallJob, plan: &Plan) -> Result<Mesh, M
         let net = job.nets.get(*net as usize);
         mesh.step(Event::Inject(net.source))?;
         mesh.step(Event::Take(CHIP, Port::Local))?;
-        for vertex in 0..job.vertices.len() {
-            mesh.step(Event::Send(CHIP, Out::Core(vertex as u8 + 1)))?;
-            mesh.step(Event::Collect(vertex as u32))?;
+        for target in net.targets.as_slice() {
+            mesh.step(Event::Send(CHIP, Out::Core(*target as u8 + 1)))?;
+            mesh.step(Event::Collect(*target))?;
         }
     }
     Ok(mesh)

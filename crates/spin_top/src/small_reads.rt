@@ -1,9 +1,9 @@
 // Reads a small job out of a JSON value.
-ghost use Rattle.std.specs.Prelude.{◌≡◌, ◌≤◌, length, map, option_map, option_and_then, codes, IfOk};
+ghost use Rattle.std.specs.Prelude.{◌≡◌, ◌≤◌, length, map, option_map, option_and_then, codes, IfOk, IfSome};
 ghost use Rattle.std.specs.List.{list_all};
 ghost use Rattle.serde_json.specs.View.{view};
 ghost use Rattle.spin_top.specs.Members.{text_of_member};
-ghost use Rattle.spin_top.specs.SmallJobs.{each, is_name, is_printable_byte, name_in, all_different, place_in, is_one_chip, is_plain_run, vertex_of, vertices_of, target_of, targets_of, net_of, net_names, nets_of, packet_of, packets_of, job_of_parts, small_job_of};
+ghost use Rattle.spin_top.specs.SmallJobs.{each, is_name, is_printable_byte, name_in, all_different, place_in, is_one_chip, is_plain_run, vertex_of, vertices_of, target_of, targets_of, net_of, net_names, nets_of, packet_of, packets_of, job_of_parts, small_job_of, IsSmall};
 
 use crate::members::{is_number, lacks_member, list, member, text};
 use crate::small_jobs::{SmallJob, SmallNet};
@@ -27,7 +27,8 @@ const MOST_PACKETS: usize = 65536;
 ///
 /// `Memory` where memory runs out.
 pub fn small_job(alloc: Global, value: &Value) -> Result<Option<SmallJob>, Memory>
-    ensures { IfOk result (λ job. job ≡ small_job_of (view value.now)) }
+    ensures job { IfOk result (λ job. job ≡ small_job_of (view value.now)) }
+    ensures small { IfOk result (λ job. IfSome job IsSmall) }
 {
     if !is_number(value, "version", 1) {
         return Ok(None);
