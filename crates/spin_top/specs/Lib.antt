@@ -2,3 +2,4 @@ pub mod Commands
 pub mod Members
 pub mod SmallJobs
 pub mod Outcomes
+pub mod Ends

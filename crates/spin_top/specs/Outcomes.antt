@@ -1,5 +1,5 @@
 -- What a call ends with: its status, and the line that stands where there is no report (this project's own).
-use Rattle.std.specs.Prelude.{ℕ, List, [], codes}
+use Rattle.std.specs.Prelude.{ℕ, List, [], Option, Some, None, codes}
 use Rattle.spin_top.specs.declared.outcomes.Refusal.{Refusal}
 use Rattle.spin_top.specs.declared.outcomes.Refusal.TheVariants.{Usage, ReadFault, WriteFault, Memory, Unbuilt}
 
@@ -18,3 +18,8 @@ line_of ReadFault = codes "read fault\n"
 line_of WriteFault = []
 line_of Memory = codes "out of memory\n"
 line_of Unbuilt = codes "unbuilt\n"
+
+-- the status of an outcome: 0 where there is no refusal
+abbrev pub status_at : Option Refusal → ℕ
+status_at None = 0
+status_at (Some r) = status_of r

@@ -1,4 +1,12 @@
 // The top call.
+ghost use Rattle.std.specs.Prelude.{◌≡◌, ◌≢◌, ◌⊎◌, Some, None, IfOk, IfErr, OnOk, IsSome, length};
+ghost use Rattle.spin_base.specs.Outside.{FaultsRose, Takes, TakesProperPrefix};
+ghost use Rattle.spin_top.specs.Ends.{Ends, GivesAllParts, GivesNoPart, HasCause, HasReadCause, IsRun, ReadsJob};
+ghost use Rattle.spin_top.specs.Outcomes.{line_of, status_at};
+ghost use Rattle.spin_top.specs.SmallJobs.{IsSmall};
+ghost use Rattle.spin_top.specs.declared.small_jobs.SmallJob.{SmallJob};
+ghost use Rattle.spin_top.specs.declared.outcomes.Refusal.TheVariants.{WriteFault};
+
 use crate::commands::{Command, command_of};
 use crate::outcomes::{Outcome, Refusal};
 use crate::plans::{Plan, plan_of};
@@ -40,7 +48,11 @@ pub fn spin<Rt: Threads + Wait + Sync, S: Source, K: Sink, G: Gate>(
     source: &mut S,
     sink: &mut K,
     _gate: &G,
-) -> Outcome {
+) -> Outcome
+    ensures status { result.status ≡ status_at result.refusal }
+    ensures ends { Ends words.now (S.left source.old) (S.left source.new) (S.faults source.old) (S.faults source.new)
+        (K.written sink.old) (K.written sink.new) (K.faults sink.old) (K.faults sink.new) result }
+{
     match made_of(alloc, words, source) {
         Ok(made) => write_report(made, sink),
         Err(refusal) => write_refusal(refusal, sink),
@@ -48,19 +60,32 @@ pub fn spin<Rt: Threads + Wait + Sync, S: Source, K: Sink, G: Gate>(
 }
 
 // What the words and the source's bytes give, or why they give nothing.
-fn made_of<S: Source>(alloc: Global, words: &[String], source: &mut S) -> Result<Made, Refusal> {
+fn made_of<S: Source>(alloc: Global, words: &[String], source: &mut S) -> Result<Made, Refusal>
+    ensures ok { OnOk result (IsRun words.now × ((job : SmallJob) × ReadsJob (S.left source.old) job (S.left source.new))) }
+    ensures err { IfErr result (λ r. HasCause words.now (S.left source.old) (S.faults source.old) (S.faults source.new) r) }
+{
     match command_of(words) {
         None => Err(Refusal::Usage),
         Some(Command::Run) => {
-            let job = read_job(alloc, source)?;
-            run_job(alloc, &job)
+            let job = match read_job(alloc, source) {
+                Ok(job) => job,
+                Err(refusal) => return Err(refusal),
+            };
+            match make(alloc, &job) {
+                Ok(made) => Ok(made),
+                Err(Memory) => Err(Refusal::Memory),
+            }
         }
         Some(_) => Err(Refusal::Unbuilt),
     }
 }
 
 // The small job that the source's bytes are.
-fn read_job<S: Source>(alloc: Global, source: &mut S) -> Result<SmallJob, Refusal> {
+fn read_job<S: Source>(alloc: Global, source: &mut S) -> Result<SmallJob, Refusal>
+    ensures ok { IfOk result (λ job. ReadsJob (S.left source.old) job (S.left source.new)) }
+    ensures small { IfOk result IsSmall }
+    ensures err { IfErr result (λ r. HasReadCause (S.left source.old) (S.faults source.old) (S.faults source.new) r) }
+{
     let bytes = match read_all(alloc, source, MOST_BYTES) {
         Ok(bytes) => bytes,
         Err(ReadErr::Fault) => return Err(Refusal::ReadFault),
@@ -80,14 +105,9 @@ fn read_job<S: Source>(alloc: Global, source: &mut S) -> Result<SmallJob, Refusa
 }
 
 // Plans and runs a job, and makes its report and text.
-fn run_job(alloc: Global, job: &SmallJob) -> Result<Made, Refusal> {
-    match make(alloc, job) {
-        Ok(made) => Ok(made),
-        Err(Memory) => Err(Refusal::Memory),
-    }
-}
-
-fn make(alloc: Global, job: &SmallJob) -> Result<Made, Memory> {
+fn make(alloc: Global, job: &SmallJob) -> Result<Made, Memory>
+    requires { IsSmall job.now }
+{
     let plan = plan_of(alloc, job)?;
     let mesh = run_packets(alloc, job, &plan)?;
     let report = report_of(alloc, job, &plan, &mesh)?;
@@ -100,19 +120,26 @@ fn make(alloc: Global, job: &SmallJob) -> Result<Made, Memory> {
     })
 }
 
-fn write_report<K: Sink>(made: Made, sink: &mut K) -> Outcome {
+// Writes the text of what was made.
+fn write_report<K: Sink>(made: Made, sink: &mut K) -> Outcome
+    ensures status { result.status ≡ status_at result.refusal }
+    ensures parts { GivesAllParts result }
+    ensures written { ((result.refusal ≡ None) × Takes (K.written sink.old) made.text (K.written sink.new))
+        ⊎ ((result.refusal ≡ Some WriteFault) × TakesProperPrefix (K.written sink.old) made.text (K.written sink.new)
+            × FaultsRose (K.faults sink.old) (K.faults sink.new)) }
+{
     let Made {
         plan,
         mesh,
         report,
         text,
     } = made;
-    let (status, refusal) = match write_all(sink, text.as_slice()) {
-        Ok(()) => (0, None),
-        Err(_) => (3, Some(Refusal::WriteFault)),
+    let refusal = match write_all(sink, text.as_slice()) {
+        Ok(()) => None,
+        Err(_) => Some(Refusal::WriteFault),
     };
     Outcome {
-        status,
+        status: status_for(refusal),
         plan: Some(plan),
         mesh: Some(mesh),
         report: Some(report),
@@ -120,7 +147,14 @@ fn write_report<K: Sink>(made: Made, sink: &mut K) -> Outcome {
     }
 }
 
-fn write_refusal<K: Sink>(refusal: Refusal, sink: &mut K) -> Outcome {
+// Writes the line of a refusal.
+fn write_refusal<K: Sink>(refusal: Refusal, sink: &mut K) -> Outcome
+    ensures status { result.status ≡ status_at result.refusal }
+    ensures parts { GivesNoPart result }
+    ensures written { ((result.refusal ≡ Some refusal) × Takes (K.written sink.old) (line_of refusal) (K.written sink.new))
+        ⊎ ((result.refusal ≡ Some WriteFault) × TakesProperPrefix (K.written sink.old) (line_of refusal) (K.written sink.new)
+            × FaultsRose (K.faults sink.old) (K.faults sink.new)) }
+{
     let refusal = match write_all(sink, refusal.line().as_bytes()) {
         Ok(()) => refusal,
         Err(_) => Refusal::WriteFault,
@@ -131,5 +165,15 @@ fn write_refusal<K: Sink>(refusal: Refusal, sink: &mut K) -> Outcome {
         mesh: None,
         report: None,
         refusal: Some(refusal),
+    }
+}
+
+// The status of an outcome: 0 where there is no refusal.
+fn status_for(refusal: Option<Refusal>) -> u8
+    ensures { result ≡ status_at refusal }
+{
+    match refusal {
+        Some(refusal) => refusal.status(),
+        None => 0,
     }
 }
