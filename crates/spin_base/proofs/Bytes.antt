@@ -2,8 +2,8 @@
 use Rattle.std.proofs.Common.{◌≡◌, ℕ, ◌+◌, ◌<◌, ◌≤◌, List, [], ◌∷◌, ◌++◌, length, take, Option, Some, None, refl, ap, sym, ◌∙◌, arith, append_assoc, append-nil, length-append, length-take-le, length-drop, drop}
 use Rattle.std.proofs.Math.Seq.{take-add, take-length}
 use Rattle.std.proofs.lemmas.List.{take-append-le, take-append-drop, drop-drop}
-use Rattle.std.proofs.Common.{inl, inr, ◌⊎◌, ◌^◌, ◌-◌}
-use Rattle.spin_base.specs.Outside.{FaultsRose, Gives, GivesAll, IsAtEnd, LosesFront, HasMoreThan, Takes, TakesProperPrefix, Reads}
+use Rattle.std.proofs.Common.{inl, inr, ◌-◌}
+use Rattle.spin_base.specs.Outside.{FaultsRose, Gives, GivesAll, HasMoreThan, Takes, Reads}
 
 -- before the first read nothing was given
 pub gives_nothing : (a : Option (List ℕ)) → Gives a [] a
@@ -60,14 +60,14 @@ gives_end None None None g n buffer given reads none = record { gives = tt; at_e
 pub gives_too_many : (a b c : Option (List ℕ)) (g buffer : List ℕ) (n limit : ℕ) → Gives a g b → Gives b (take n buffer) c → n ≤ length buffer → limit - length g < n → HasMoreThan limit a
 gives_too_many a b c g buffer n limit first second within past =
     let both : length (g ++ take n buffer) ≡ length g + n =
-      length-append g (take n buffer) ∙ ap (λ k. length g + k) (length-take-le n buffer within)
+    length-append g (take n buffer) ∙ ap (λ k. length g + k) (length-take-le n buffer within)
     in gives_more a c (g ++ take n buffer) limit (gives_then a b c g (take n buffer) first second) (omega arith)
 
 -- what a write takes of the bytes after the first d
 pub takes_from : (a b c : Option (List ℕ)) (s : List ℕ) (d n : ℕ) → Takes a (take d s) b → Takes b (take n (take (length s - d) (drop d s))) c → Takes a (take (d + n) s) c
 takes_from a b c s d n first second =
     let rest : take (length s - d) (drop d s) ≡ drop d s =
-      ap (λ k. take k (drop d s)) (sym (length-drop d s)) ∙ take-length (drop d s)
+    ap (λ k. take k (drop d s)) (sym (length-drop d s)) ∙ take-length (drop d s)
     in rw take-add (takes_then a b c (take d s) (take n (drop d s)) first (rw rest at second))
 
 no_items : (s : List ℕ) → length s ≡ 0 → s ≡ []
@@ -79,14 +79,14 @@ pub reads_next : (bytes list buffer copied : List ℕ) (p n : ℕ) → list ≡ 
 reads_next bytes list buffer copied p n is_list is_copied within none =
     let left : length (drop p bytes) ≡ length bytes - p = length-drop p bytes in
     let rest : take (length bytes - p) (drop p bytes) ≡ drop p bytes =
-      ap (λ k. take k (drop p bytes)) (sym left) ∙ take-length (drop p bytes)
+    ap (λ k. take k (drop p bytes)) (sym left) ∙ take-length (drop p bytes)
     in
     let is_front : copied ≡ take n (drop p bytes) =
-      is_copied ∙ ap (λ (l : List ℕ). take n (take (length l - p) (drop p l))) is_list ∙ ap (λ l. take n l) rest
+    is_copied ∙ ap (λ (l : List ℕ). take n (take (length l - p) (drop p l))) is_list ∙ ap (λ l. take n l) rest
     in
     let size : length copied ≡ n = ap length is_front ∙ length-take-le n (drop p bytes) (omega arith) in
     let front : take n (copied ++ drop n buffer) ≡ copied =
-      take-append-le n copied (drop n buffer) (omega arith) ∙ ap (λ k. take k copied) (sym size) ∙ take-length copied
+    take-append-le n copied (drop n buffer) (omega arith) ∙ ap (λ k. take k copied) (sym size) ∙ take-length copied
     in
     record {
       gives = rw (front, is_front, ← drop-drop n p bytes) (sym (take-append-drop n (drop p bytes)));

@@ -1,5 +1,5 @@
 -- How often an output stands in what a route names: once where the route has it, else not.
-use Rattle.std.proofs.Common.{◌≡◌, ◌≢◌, ℕ, ◌+◌, ◌<◌, ◌≤◌, List, [], ◌∷◌, ◌++◌, map, filter, Bool, true, false, ◌==◌, arith, ap, sym, ◌∙◌, refl, cond, if◌then◌else◌, count_by, zero-add, add-zero, suc, zero}
+use Rattle.std.proofs.Common.{◌≡◌, ◌≢◌, ℕ, ◌+◌, ◌<◌, ◌≤◌, List, [], ◌∷◌, map, filter, Bool, true, false, ◌==◌, arith, ap, sym, ◌∙◌, refl, cond, if◌then◌else◌, count_by, suc, zero}
 use Rattle.std.specs.List.{range_with_len}
 use Rattle.std.proofs.lemmas.List.Sums.{sum_by-append, sum_by-cons}
 use Rattle.spin_base.specs.declared.chips.Dir.{Dir}
@@ -9,7 +9,7 @@ use Rattle.spin_base.specs.declared.routes.Out.{Out}
 use Rattle.spin_base.specs.declared.routes.Out.TheVariants.{Link, Core}
 use Rattle.spin_base.specs.declared.routes.Route.{Route}
 use Rattle.spin_base.specs.Equality.{out_eq}
-use Rattle.spin_base.specs.Outputs.{has, outs_of, all_outs, link_outs, core_outs, out_number, IsOutput}
+use Rattle.spin_base.specs.Outputs.{has, outs_of, all_outs, link_outs, core_outs, IsOutput}
 use Rattle.spin_base.proofs.Outputs.{dir_number_below}
 use Rattle.spin_base.proofs.Equality.{out_eq_true, nat_eq_same, nat_eq_true}
 
@@ -77,8 +77,14 @@ link_once South = refl
 links_none : (p : ℕ) → count_by (out_eq (Core p)) link_outs ≡ 0
 unfolding link_outs
 links_none p =
-    rw (apart (6 + p) 0 (λ e. omega arith), apart (6 + p) 1 (λ e. omega arith), apart (6 + p) 2 (λ e. omega arith),
-        apart (6 + p) 3 (λ e. omega arith), apart (6 + p) 4 (λ e. omega arith), apart (6 + p) 5 (λ e. omega arith)) refl
+    rw (
+      apart (6 + p) 0 (λ e. omega arith),
+      apart (6 + p) 1 (λ e. omega arith),
+      apart (6 + p) 2 (λ e. omega arith),
+      apart (6 + p) 3 (λ e. omega arith),
+      apart (6 + p) 4 (λ e. omega arith),
+      apart (6 + p) 5 (λ e. omega arith),
+    ) refl
 
 core_outs_none : (d : Dir) → count_by (out_eq (Link d)) core_outs ≡ 0
 unfolding core_outs

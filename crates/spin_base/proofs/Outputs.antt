@@ -1,5 +1,5 @@
 -- Lemmas on routes and their outputs.
-use Rattle.std.proofs.Common.{◌≡◌, ◌≢◌, ℕ, ◌+◌, ◌*◌, ◌%◌, ◌<◌, ◌≤◌, ◌^◌, List, [], ◌∷◌, ◌++◌, map, filter, Bool, true, false, IsTrue, nat_eq, arith, ap, sym, ◌∙◌, refl, subst, cond, append_assoc, append-nil, zero-add, w32, bit_or, lit<}
+use Rattle.std.proofs.Common.{◌≡◌, ◌≢◌, ℕ, ◌+◌, ◌*◌, ◌%◌, ◌<◌, ◌≤◌, ◌^◌, List, [], ◌∷◌, ◌++◌, map, filter, true, false, arith, ap, refl, cond, append_assoc, append-nil, zero-add, w32, bit_or, lit<}
 use Rattle.std.specs.Int.{bit_at}
 use Rattle.std.specs.List.{range_with_len}
 use Rattle.std.proofs.lemmas.Nat.{or_lt}
@@ -12,7 +12,7 @@ use Rattle.spin_base.specs.declared.routes.Out.TheVariants.{Link, Core}
 use Rattle.spin_base.specs.declared.chips.Dir.{Dir}
 use Rattle.spin_base.specs.declared.chips.Dir.TheVariants.{East, NorthEast, North, West, SouthWest, South}
 use Rattle.spin_base.specs.declared.routes.Route.{Route}
-use Rattle.spin_base.specs.Outputs.{has, outs_of, all_outs, link_outs, core_outs, out_number, IsOutput, WithOut}
+use Rattle.spin_base.specs.Outputs.{has, outs_of, link_outs, core_outs, out_number, IsOutput, WithOut}
 use Rattle.spin_base.specs.Links.{dir_number}
 
 -- the outputs of a route are its links and then its cores

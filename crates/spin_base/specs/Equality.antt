@@ -1,12 +1,10 @@
 -- Tests of equality that compute, for definitions that ask which chip, link or output it is.
-use Rattle.std.specs.Prelude.{Bool, true, false, ◌==◌, ◌&&◌}
+use Rattle.std.specs.Prelude.{Bool, ◌==◌, ◌&&◌}
 use Rattle.spin_base.specs.declared.chips.Chip.{Chip}
 use Rattle.spin_base.specs.declared.chips.Dir.{Dir}
 use Rattle.spin_base.specs.declared.chips.Port.{Port}
-use Rattle.spin_base.specs.declared.chips.Port.TheVariants.{Local, Link as FromLink}
 use Rattle.spin_base.specs.declared.chips.Spot.{Spot}
 use Rattle.spin_base.specs.declared.routes.Out.{Out}
-use Rattle.spin_base.specs.declared.routes.Out.TheVariants.{Link, Core}
 use Rattle.spin_base.specs.Links.{dir_number, port_number}
 use Rattle.spin_base.specs.Outputs.{out_number}
 

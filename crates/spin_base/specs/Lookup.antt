@@ -1,5 +1,5 @@
 -- What a router does with a key.
-use Rattle.std.specs.Prelude.{◌==◌, ℕ, ◌^◌, Bool, List, Option, find, bit_and}
+use Rattle.std.specs.Prelude.{◌==◌, ℕ, Bool, List, find, bit_and}
 use Rattle.std.specs.Option.{option_map_or}
 use Rattle.std.proofs.Common.{lit<}
 use Rattle.spin_base.specs.declared.chips.Dir.{Dir}

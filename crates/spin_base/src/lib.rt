@@ -9,6 +9,7 @@
 mod blocks;
 mod chips;
 mod copies;
+mod fifos;
 mod lists;
 mod memory_ends;
 mod names;
@@ -17,12 +18,15 @@ mod reading;
 mod rooms;
 mod routes;
 mod std_ends;
+#[cfg(test)]
+mod tests;
 mod wants;
 mod writing;
 
 pub use blocks::{Block, Entry};
 pub use chips::{Chip, Dir, Port, Spot};
 pub use copies::{Delivery, DumpRec, Event, McCopy, Packet};
+pub use fifos::Fifo;
 pub use lists::Seq;
 pub use memory_ends::{MemSink, MemSource};
 pub use names::Name;

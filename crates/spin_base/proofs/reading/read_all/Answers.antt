@@ -1,5 +1,4 @@
-use Rattle.std.proofs.Common.{◌≡◌, ◌<◌, ◌≤◌, ℕ, length, List, [], ◌++◌, take, ap, sym, ◌∙◌, refl, subst, arith, rules, length-take-le}
-use Rattle.spin_base.specs.Outside.{Gives, GivesAll}
+use Rattle.std.proofs.Common.{◌≡◌, ◌≤◌, length, take, arith, length-take-le}
 use Rattle.spin_base.proofs.Bytes.{gives_nothing, gives_then, gives_end, gives_too_many, rose_since}
 use Rattle.spin_base.proofs.reading.read_all.Goals as goal
 
@@ -33,11 +32,11 @@ pub loop-count-preserved : goal.loop-count-preserved
 loop-count-preserved g c =
     let whole : c.in-Ok.count ≤ length c.read.new.buffer = omega (arith, c.in-Ok.ensures.count) in
     let taken : length (take c.in-Ok.count c.read.new.buffer) ≡ c.in-Ok.count =
-      length-take-le c.in-Ok.count c.read.new.buffer whole
+    length-take-le c.in-Ok.count c.read.new.buffer whole
     in record {
       gives =
-        rw c.in_ok-extend_from_slice.ensures.items
-        (gives_then _ _ _ _ _ c.loop-count.invariant.gives c.in-Ok.ensures.reads.gives);
+          rw c.in_ok-extend_from_slice.ensures.items
+          (gives_then _ _ _ _ _ c.loop-count.invariant.gives c.in-Ok.ensures.reads.gives);
       within = omega (arith, c.in_ok-extend_from_slice.ensures.len, taken);
       room = omega arith;
       counted = omega (arith, c.in-Ok.ensures.counted);

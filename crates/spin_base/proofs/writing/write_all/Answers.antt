@@ -1,5 +1,4 @@
-use Rattle.std.proofs.Common.{◌≡◌, ◌<◌, ◌≤◌, ℕ, ◌+◌, length, take, drop, ap, sym, ◌∙◌, arith, subst, length-drop}
-use Rattle.spin_base.specs.Outside.{Takes}
+use Rattle.std.proofs.Common.{arith, length-drop}
 use Rattle.spin_base.proofs.Bytes.{takes_from}
 use Rattle.spin_base.proofs.writing.write_all.Goals as goal
 

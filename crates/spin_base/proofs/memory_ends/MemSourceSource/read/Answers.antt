@@ -1,4 +1,4 @@
-use Rattle.std.proofs.Common.{◌≡◌, ◌≤◌, arith, ap, drop, length, take, refl, sym, ◌∙◌}
+use Rattle.std.proofs.Common.{arith, ap, length}
 use Rattle.spin_base.proofs.Bytes.{reads_next}
 use Rattle.spin_base.proofs.memory_ends.MemSourceSource.read.Goals as goal
 

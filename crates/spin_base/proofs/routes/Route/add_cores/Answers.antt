@@ -1,9 +1,4 @@
-use Rattle.std.proofs.Common.{◌≡◌, ◌++◌, ◌+◌, ◌≤◌, ℕ, [], ◌∷◌, rules, arith, length, ap, sym, ◌∙◌, append_assoc, append-nil, zero-add, filter, map, cond}
-use Rattle.std.specs.List.{range_with_len}
-use Rattle.std.proofs.lemmas.List.FromFn.{filter_of_map_range_with_len_more}
-use Rattle.arrayvec.specs.ArrayVec.{array_vec_len}
-use Rattle.spin_base.specs.declared.routes.Out.TheVariants.{Core}
-use Rattle.spin_base.specs.Outputs.{has, core_outs}
+use Rattle.std.proofs.Common.{arith, sym, ◌∙◌}
 use Rattle.spin_base.proofs.Outputs.{core_had, core_not_had, cores_done}
 use Rattle.spin_base.proofs.routes.Route.add_cores.Goals as goal
 use Rattle.spin_base.proofs.routes.Route.add_cores.Goals.{then-has, else-has}

@@ -1,7 +1,6 @@
-use Rattle.std.proofs.Common.{◌≡◌, ◌<◌, ◌≤◌, ◌+◌, nat_lt, nat_eq, arith, ap, sym, ◌∙◌, false}
+use Rattle.std.proofs.Common.{◌≡◌, ◌+◌, arith}
 use Rattle.std.specs.Int.{bit_at}
 use Rattle.spin_base.proofs.Outputs.{no_high_bit}
-use Rattle.spin_base.specs.Outputs.{has, out_number}
 use Rattle.spin_base.proofs.routes.Route.has.Goals as goal
 
 pub returns-else-core-lt18 : goal.returns-else-core-lt18

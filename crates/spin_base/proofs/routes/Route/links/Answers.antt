@@ -1,4 +1,4 @@
-use Rattle.std.proofs.Common.{◌≡◌, rules, arith, take, length, ap, ◌∙◌}
+use Rattle.std.proofs.Common.{rules}
 use Rattle.spin_base.specs.Outputs.{link_outs}
 use Rattle.spin_base.proofs.routes.Route.links.Goals as goal
 

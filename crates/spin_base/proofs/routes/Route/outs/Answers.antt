@@ -1,5 +1,3 @@
-use Rattle.std.proofs.Common.{◌≡◌, rules, ap, sym, ◌∙◌, count_by}
-use Rattle.spin_base.specs.Equality.{out_eq}
 use Rattle.spin_base.proofs.Once.{outs_once}
 use Rattle.spin_base.proofs.Outputs.{outs_by_parts}
 use Rattle.spin_base.proofs.routes.Route.outs.Goals as goal

@@ -1,5 +1,5 @@
-use Rattle.std.proofs.Common.{◌≡◌, ◌<◌, ◌^◌, ℕ, ◌+◌, ◌*◌, ◌%◌, bit_or, arith, ap, sym, refl, subst, ◌∙◌}
-use Rattle.spin_base.specs.Outputs.{out_number, IsOutput}
+use Rattle.std.proofs.Common.{◌≡◌, ◌^◌, ◌*◌, ◌%◌, bit_or, ap, refl}
+use Rattle.spin_base.specs.Outputs.{out_number}
 use Rattle.spin_base.proofs.Outputs.{out_number_below, set_bit_within, set_bit_with_out}
 use Rattle.spin_base.proofs.routes.Route.with.Goals as goal
 use Rattle.spin_base.proofs.routes.Route.with.Goals.{in-Link, in-Core}
