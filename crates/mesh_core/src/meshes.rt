@@ -44,7 +44,12 @@ impl Mesh {
     /// # Errors
     ///
     /// `Memory` where memory runs out.
-    pub fn new(alloc: Global, spots: &Seq<Spot>, entries: Seq<Entry>, queue: u32) -> Result<Mesh, Memory> {
+    pub fn new(
+        alloc: Global,
+        spots: &Seq<Spot>,
+        entries: Seq<Entry>,
+        queue: u32,
+    ) -> Result<Mesh, Memory> {
         let mut banks = Vec::new(alloc);
         for spot in spots.as_slice() {
             banks.push(Bank {
@@ -105,7 +110,11 @@ impl Mesh {
 
     /// The copy in a router's hand.
     pub fn hand(&self, chip: Chip) -> Option<&Hand> {
-        if chip == CHIP { self.hand.as_ref() } else { None }
+        if chip == CHIP {
+            self.hand.as_ref()
+        } else {
+            None
+        }
     }
 
     /// The copies that vertices took, the first first.

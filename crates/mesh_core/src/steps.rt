@@ -132,9 +132,8 @@ impl Mesh {
     fn behind(&self, out: Out) -> Option<usize>
         ensures { IfSome result (λ v. v < vec_len self.now.banks) }
     {
-        self.banks
-            .iter()
-            .position(|bank| bank.spot.chip == CHIP && Out::Core(bank.spot.core) == out)
+        self.banks.iter().position(|bank| bank.spot.chip == CHIP
+            && Out::Core(bank.spot.core) == out)
     }
 
     // The output leaves the hand, and an empty hand is no hand.

@@ -8,8 +8,14 @@ const CHIP: Chip = Chip { x: 0, y: 0 };
 // Vertices on cores 1 and 2, and an entry that sends key 0 to core 2.
 fn two_vertices(alloc: Global, queue: u32) -> Result<Mesh, Fail> {
     let mut spots = Seq::new(alloc);
-    spots.push(Spot { chip: CHIP, core: 1 })?;
-    spots.push(Spot { chip: CHIP, core: 2 })?;
+    spots.push(Spot {
+        chip: CHIP,
+        core: 1,
+    })?;
+    spots.push(Spot {
+        chip: CHIP,
+        core: 2,
+    })?;
     let mut entries = Seq::new(alloc);
     entries.push(Entry {
         key: 0,

@@ -32,9 +32,10 @@ pub each-append : {A B : Type 0} (f : A → Option B) (us vs : List A) → each 
 each-append f [] vs =
     elim (each f vs) as (λ o. o ≡ option_map (λ zs. [] ++ zs) o) [ None ↦ refl | Some zs ↦ refl ]
 each-append {A} {B} f (u ∷ us) vs =
-    elim (f u) as (λ o. option_and_then (λ y. option_map (λ ys. y ∷ ys) (each f (us ++ vs))) o ≡ option_and_then (λ ys. option_map (λ zs. ys ++ zs) (each f vs)) (option_and_then (λ y. option_map (λ ys. y ∷ ys) (each f us)) o))
-    [ None ↦ refl
-    | Some y ↦ rw (each-append f us vs) (cons_in_turn y (each f us) (each f vs)) ]
+    elim (f u) as (λ o. option_and_then (λ y. option_map (λ ys. y ∷ ys) (each f (us ++ vs))) o ≡ option_and_then (λ ys. option_map (λ zs. ys ++ zs) (each f vs)) (option_and_then (λ y. option_map (λ ys. y ∷ ys) (each f us)) o)) [
+      | None ↦ refl
+      | Some y ↦ rw (each-append f us vs) (cons_in_turn y (each f us) (each f vs))
+    ]
 
 -- one more item is read, and put at the back
 pub each-more : {V A B : Type 0} (f : A → Option B) (g : V → A) (xs : List V) (i : ℕ) (x : V) (ys zs : List B) (y : B) → i < length xs → x ≡ get_or xs i x → each f (map g (take i xs)) ≡ Some ys → f (g x) ≡ Some y → zs ≡ ys ++ y ∷ [] → each f (map g (take (i + 1) xs)) ≡ Some zs
@@ -53,7 +54,6 @@ pub each-all : {V A B : Type 0} (f : A → Option B) (g : V → A) (xs : List V)
 each-all f g xs i ys end front =
     ap (λ l. each f (map g l)) (sym (ap (λ n. take n xs) end ∙ take-length xs)) ∙ front
 
-
 -- as many items as were read
 pub length-each : {A B : Type 0} (f : A → Option B) (xs : List A) (ys : List B) → each f xs ≡ Some ys → length ys ≡ length xs
 length-each f [] ys e = let nil : [] ≡ ys = cc in rw (← nil) refl
@@ -68,9 +68,10 @@ length-each-le f g xs ys zs n read same few =
 pub length-read-le : {A B : Type 0} (test : List B → Bool) (f : A → Option B) (n : ℕ) (o : Option (List A)) (ys : List B) → option_and_then (where_passes test) (option_and_then (each f) (option_and_then (where_passes (λ ds. nat_le (length ds) n)) o)) ≡ Some ys → length ys ≤ n
 length-read-le test f n None ys e = absurd cc
 length-read-le {A} {B} test f n (Some ds) ys e =
-    elim (nat_le (length ds) n) as (λ b. nat_le (length ds) n ≡ b → option_and_then (where_passes test) (option_and_then (each f) (if b then Some ds else None)) ≡ Some ys → length ys ≤ n)
-    [ true ↦ λ few read. length-tested-le test (each f ds) n ys (λ zs was. omega (arith, length-each f ds zs was, leb-true (length ds) n few)) read
-    | false ↦ λ many read. absurd cc ] refl e
+    elim (nat_le (length ds) n) as (λ b. nat_le (length ds) n ≡ b → option_and_then (where_passes test) (option_and_then (each f) (if b then Some ds else None)) ≡ Some ys → length ys ≤ n) [
+      | true ↦ λ few read. length-tested-le test (each f ds) n ys (λ zs was. omega (arith, length-each f ds zs was, leb-true (length ds) n few)) read
+      | false ↦ λ many read. absurd cc
+    ] refl e
 
 -- each item that was read was made of one
 pub each-made : {A B : Type 0} (f : A → Option B) (P : B → Type 0) → ((x : A) (y : B) → f x ≡ Some y → P y) → (xs : List A) (ys : List B) → each f xs ≡ Some ys → (k : ℕ) (d : B) → k < length ys → P (get_or ys k d)

@@ -20,9 +20,10 @@ pub place_in-append : (xs ys : List (List ℕ)) (s : List ℕ) → place_in xs s
 place_in-append [] ys s none =
     elim (place_in ys s) as (λ o. o ≡ option_map (λ i. 0 + i) o) [ None ↦ refl | Some i ↦ ap Some (sym (zero-add i)) ]
 place_in-append (a ∷ xs) ys s none =
-    elim (bytes_eq a s) as (λ b. (if b then Some 0 else option_map (λ i. i + 1) (place_in xs s)) ≡ None → (if b then Some 0 else option_map (λ i. i + 1) (place_in (xs ++ ys) s)) ≡ option_map (λ i. length (a ∷ xs) + i) (place_in ys s))
-    [ true ↦ λ e. absurd cc
-    | false ↦ λ e. rw (place_in-append xs ys s (none_under (place_in xs s) e)) (suc_inside (length xs) (place_in ys s)) ]
+    elim (bytes_eq a s) as (λ b. (if b then Some 0 else option_map (λ i. i + 1) (place_in xs s)) ≡ None → (if b then Some 0 else option_map (λ i. i + 1) (place_in (xs ++ ys) s)) ≡ option_map (λ i. length (a ∷ xs) + i) (place_in ys s)) [
+      | true ↦ λ e. absurd cc
+      | false ↦ λ e. rw (place_in-append xs ys s (none_under (place_in xs s) e)) (suc_inside (length xs) (place_in ys s))
+    ]
     none
 
 -- the first item that is the text
@@ -40,7 +41,8 @@ place_in-none_more xs i x s below is none other =
 pub place_in-below : (xs : List (List ℕ)) (s : List ℕ) (i : ℕ) → place_in xs s ≡ Some i → i < length xs
 place_in-below [] s i e = absurd cc
 place_in-below (x ∷ xs) s i e =
-    elim (bytes_eq x s) as (λ b. (if b then Some 0 else option_map (λ i. i + 1) (place_in xs s)) ≡ Some i → i < length (x ∷ xs))
-    [ true ↦ λ here. let zero_is : 0 ≡ i = cc in omega arith
-    | false ↦ λ later. let found = map-some (λ i. i + 1) (place_in xs s) i later in omega (arith, place_in-below xs s found.0 found.1.0, found.1.1) ]
+    elim (bytes_eq x s) as (λ b. (if b then Some 0 else option_map (λ i. i + 1) (place_in xs s)) ≡ Some i → i < length (x ∷ xs)) [
+      | true ↦ λ here. let zero_is : 0 ≡ i = cc in omega arith
+      | false ↦ λ later. let found = map-some (λ i. i + 1) (place_in xs s) i later in omega (arith, place_in-below xs s found.0 found.1.0, found.1.1)
+    ]
     e

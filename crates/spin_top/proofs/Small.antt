@@ -60,9 +60,10 @@ packets-below nets run ps e =
     let read = and_then-some (each (packet_of nets)) (option_and_then (where_passes (λ ds. nat_le (length ds) 65536)) (list_of_member (codes "packets") run)) ps e in
     let few = and_then-some (where_passes (λ ds. nat_le (length ds) 65536)) (list_of_member (codes "packets") run) read.0 read.1.0 in
     let passed = passes-some (λ ds. nat_le (length ds) 65536) few.0 read.0 few.1.1 in
-    let at_most : length few.0 ≤ 65536 = leb-true (length few.0) 65536 passed.0 in
-    ( omega (arith, length-each (packet_of nets) read.0 ps read.1.1, ap length passed.1)
-    , λ k below. each-made (packet_of nets) (λ p. p < length nets) (packet-below nets) read.0 ps read.1.1 k 0 below )
+    let at_most : length few.0 ≤ 65536 = leb-true (length few.0) 65536 passed.0 in (
+      omega (arith, length-each (packet_of nets) read.0 ps read.1.1, ap length passed.1),
+      λ k below. each-made (packet_of nets) (λ p. p < length nets) (packet-below nets) read.0 ps read.1.1 k 0 below,
+    )
 
 named-below : (nets : List SmallNet) (ps : List ℕ) → AllBelow ps (length (net_names nets)) → AllBelow ps (length nets)
 named-below nets ps named k below = omega (arith, named k below, length-map nets (λ (n : SmallNet). n.name))

@@ -58,7 +58,7 @@ vertex_of d = if lacks (codes "sdram") d && lacks (codes "at") d then name_in d 
 abbrev pub vertices_of : Data → Option (List (List ℕ))
 vertices_of graph = option_and_then (where_passes all_different)
     (option_and_then (each vertex_of)
-        (option_and_then (where_passes (λ ds. nat_le (length ds) 17)) (list_of_member (codes "vertices") graph)))
+    (option_and_then (where_passes (λ ds. nat_le (length ds) 17)) (list_of_member (codes "vertices") graph)))
 
 -- the vertex that a text names
 abbrev pub target_of : List (List ℕ) → Data → Option ℕ
@@ -73,10 +73,10 @@ targets_of vertices d = option_and_then (where_passes (λ ts. nat_lt 0 (length t
 abbrev pub net_of : List (List ℕ) → Data → Option SmallNet
 net_of vertices d = if lacks (codes "keys") d then
     option_and_then (λ name. option_and_then (λ source. option_map (λ targets.
-        record { name = name; source = source; targets = targets })
-        (targets_of vertices d))
-        (option_and_then (place_in vertices) (text_of_member (codes "source") d)))
-        (name_in d)
+    record { name = name; source = source; targets = targets })
+    (targets_of vertices d))
+    (option_and_then (place_in vertices) (text_of_member (codes "source") d)))
+    (name_in d)
     else None
 
 -- the names of nets
@@ -87,7 +87,7 @@ net_names nets = map (λ (n : SmallNet). n.name) nets
 abbrev pub nets_of : List (List ℕ) → Data → Option (List SmallNet)
 nets_of vertices graph = option_and_then (where_passes (λ nets. all_different (net_names nets)))
     (option_and_then (each (net_of vertices))
-        (option_and_then (where_passes (λ ds. nat_le (length ds) 1024)) (list_of_member (codes "nets") graph)))
+    (option_and_then (where_passes (λ ds. nat_le (length ds) 1024)) (list_of_member (codes "nets") graph)))
 
 -- A packet has the name of a net and index 0, and no payload.
 abbrev pub packet_of : List (List ℕ) → Data → Option ℕ
@@ -104,10 +104,10 @@ packets_of nets run = option_and_then (each (packet_of nets))
 abbrev pub job_of_parts : Data → Data → Data → Option SmallJob
 job_of_parts machine graph run = if is_one_chip machine && is_plain_run run then
     option_and_then (λ vertices. option_and_then (λ nets. option_map (λ packets.
-        record { vertices = vertices; nets = nets; packets = packets })
-        (packets_of (net_names nets) run))
-        (nets_of vertices graph))
-        (vertices_of graph)
+    record { vertices = vertices; nets = nets; packets = packets })
+    (packets_of (net_names nets) run))
+    (nets_of vertices graph))
+    (vertices_of graph)
     else None
 
 -- The small job that a value is: version 1, one chip of which nothing else is said, at most 17 vertices without memory
@@ -115,9 +115,9 @@ job_of_parts machine graph run = if is_one_chip machine && is_plain_run run then
 abbrev pub small_job_of : Data → Option SmallJob
 small_job_of d = if has_number (codes "version") 1 d then
     option_and_then (λ machine. option_and_then (λ graph. option_and_then (λ run. job_of_parts machine graph run)
-        (member_of (codes "run") d))
-        (member_of (codes "graph") d))
-        (member_of (codes "machine") d)
+    (member_of (codes "run") d))
+    (member_of (codes "graph") d))
+    (member_of (codes "machine") d)
     else None
 
 -- each number of the list is below n

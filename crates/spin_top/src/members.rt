@@ -10,13 +10,7 @@ pub(crate) fn member<'a>(value: &'a Value, name: &str) -> Option<&'a Value>
     ensures { option_map (λ v. view v.now) result ≡ member_of name.now (view value.now) }
 {
     match value.get(name) {
-        Some(found) => {
-            if found.is_null() {
-                None
-            } else {
-                Some(found)
-            }
-        }
+        Some(found) => { if found.is_null() { None } else { Some(found) } }
         None => None,
     }
 }

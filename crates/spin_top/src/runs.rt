@@ -26,12 +26,15 @@ pub fn run_packets(alloc: Global, job: &SmallJob, plan: &Plan) -> Result<Mesh, M
     let mut mesh = Mesh::new(alloc, &plan.spots, entries, QUEUE)?;
     for (packet, net) in job.packets.as_slice().iter().enumerate() {
         let source = job.nets.get(*net as usize).source;
-        mesh.add(source, McCopy {
-            packet: packet as u32,
-            key: *net,
-            payload: None,
-            hop: 0,
-        })?;
+        mesh.add(
+            source,
+            McCopy {
+                packet: packet as u32,
+                key: *net,
+                payload: None,
+                hop: 0,
+            },
+        )?;
     }
     for net in job.packets.as_slice() {
         let net = job.nets.get(*net as usize);

@@ -45,7 +45,12 @@ pub fn small_job(alloc: Global, value: &Value) -> Result<Option<SmallJob>, Memor
     read_parts(alloc, machine, graph, run)
 }
 
-fn read_parts(alloc: Global, machine: &Value, graph: &Value, run: &Value) -> Result<Option<SmallJob>, Memory>
+fn read_parts(
+    alloc: Global,
+    machine: &Value,
+    graph: &Value,
+    run: &Value,
+) -> Result<Option<SmallJob>, Memory>
     ensures { IfOk result (λ job. job ≡ job_of_parts (view machine.now) (view graph.now) (view run.now)) }
 {
     if !is_lone_chip(machine) || !is_bare_run(run) {
@@ -107,13 +112,7 @@ fn read_name<'a>(item: &'a Value) -> Option<&'a str>
     ensures { option_map (λ s. s.now) result ≡ name_in (view item.now) }
 {
     match text(item, "name") {
-        Some(found) => {
-            if may_name(found) {
-                Some(found)
-            } else {
-                None
-            }
-        }
+        Some(found) => { if may_name(found) { Some(found) } else { None } }
         None => None,
     }
 }
@@ -182,7 +181,11 @@ fn find_name(names: &[Name], text: &[u8]) -> Option<u32>
     None
 }
 
-fn read_nets(alloc: Global, graph: &Value, vertices: &[Name]) -> Result<Option<Seq<SmallNet>>, Memory>
+fn read_nets(
+    alloc: Global,
+    graph: &Value,
+    vertices: &[Name],
+) -> Result<Option<Seq<SmallNet>>, Memory>
     requires { length vertices.now ≤ 65536 }
     ensures { IfOk result (λ nets. nets ≡ nets_of vertices.now (view graph.now)) }
 {
@@ -213,7 +216,11 @@ fn names_of_nets(alloc: Global, nets: &[SmallNet]) -> Result<Seq<Name>, Memory>
     Ok(names)
 }
 
-fn read_each_net(alloc: Global, items: &[Value], vertices: &[Name]) -> Result<Option<Seq<SmallNet>>, Memory>
+fn read_each_net(
+    alloc: Global,
+    items: &[Value],
+    vertices: &[Name],
+) -> Result<Option<Seq<SmallNet>>, Memory>
     requires { length vertices.now ≤ 65536 }
     ensures { IfOk result (λ nets. nets ≡ each (net_of vertices.now) (map view items.now)) }
 {
@@ -277,7 +284,11 @@ fn read_targets(alloc: Global, item: &Value, vertices: &[Name]) -> Result<Option
     }
 }
 
-fn read_each_target(alloc: Global, items: &[Value], vertices: &[Name]) -> Result<Option<Seq<u32>>, Memory>
+fn read_each_target(
+    alloc: Global,
+    items: &[Value],
+    vertices: &[Name],
+) -> Result<Option<Seq<u32>>, Memory>
     requires { length vertices.now ≤ 65536 }
     ensures { IfOk result (λ targets. targets ≡ each (target_of vertices.now) (map view items.now)) }
 {
@@ -315,7 +326,11 @@ fn read_packets(alloc: Global, run: &Value, nets: &[SmallNet]) -> Result<Option<
     read_each_packet(alloc, items, names.as_slice())
 }
 
-fn read_each_packet(alloc: Global, items: &[Value], nets: &[Name]) -> Result<Option<Seq<u32>>, Memory>
+fn read_each_packet(
+    alloc: Global,
+    items: &[Value],
+    nets: &[Name],
+) -> Result<Option<Seq<u32>>, Memory>
     requires { length nets.now ≤ 65536 }
     ensures { IfOk result (λ packets. packets ≡ each (packet_of nets.now) (map view items.now)) }
 {

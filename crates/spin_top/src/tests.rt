@@ -7,21 +7,29 @@ use std::sync::Wait;
 use std::test::Fail;
 use std::thread::Threads;
 
-const TWO_VERTICES: &str = "{\"version\":1,\"machine\":{\"width\":1,\"height\":1},\"graph\":{\"vertices\":[{\"name\":\"a\"},{\"name\":\"b\"}],\"nets\":[{\"name\":\"n\",\"source\":\"a\",\"targets\":[\"b\"]}]},\"run\":{\"packets\":[{\"net\":\"n\",\"index\":0}]}}";
+const TWO_VERTICES: &str =
+    "{\"version\":1,\"machine\":{\"width\":1,\"height\":1},\"graph\":{\"vertices\":[{\"name\":\"a\"},{\"name\":\"b\"}],\"nets\":[{\"name\":\"n\",\"source\":\"a\",\"targets\":[\"b\"]}]},\"run\":{\"packets\":[{\"net\":\"n\",\"index\":0}]}}";
 
-const TO_ITSELF: &str = "{\"version\":1,\"machine\":{\"width\":1,\"height\":1},\"graph\":{\"vertices\":[{\"name\":\"a\"},{\"name\":\"b\"}],\"nets\":[{\"name\":\"n\",\"source\":\"a\",\"targets\":[\"a\"]}]},\"run\":{\"packets\":[{\"net\":\"n\",\"index\":0}]}}";
+const TO_ITSELF: &str =
+    "{\"version\":1,\"machine\":{\"width\":1,\"height\":1},\"graph\":{\"vertices\":[{\"name\":\"a\"},{\"name\":\"b\"}],\"nets\":[{\"name\":\"n\",\"source\":\"a\",\"targets\":[\"a\"]}]},\"run\":{\"packets\":[{\"net\":\"n\",\"index\":0}]}}";
 
-const TWICE_THE_SAME: &str = "{\"version\":1,\"machine\":{\"width\":1,\"height\":1},\"graph\":{\"vertices\":[{\"name\":\"a\"},{\"name\":\"b\"}],\"nets\":[{\"name\":\"n\",\"source\":\"a\",\"targets\":[\"b\",\"b\"]}]},\"run\":{\"packets\":[{\"net\":\"n\",\"index\":0}]}}";
+const TWICE_THE_SAME: &str =
+    "{\"version\":1,\"machine\":{\"width\":1,\"height\":1},\"graph\":{\"vertices\":[{\"name\":\"a\"},{\"name\":\"b\"}],\"nets\":[{\"name\":\"n\",\"source\":\"a\",\"targets\":[\"b\",\"b\"]}]},\"run\":{\"packets\":[{\"net\":\"n\",\"index\":0}]}}";
 
-const TWO_CHIPS: &str = "{\"version\":1,\"machine\":{\"width\":2,\"height\":1},\"graph\":{\"vertices\":[{\"name\":\"a\"},{\"name\":\"b\"}],\"nets\":[{\"name\":\"n\",\"source\":\"a\",\"targets\":[\"b\"]}]},\"run\":{\"packets\":[{\"net\":\"n\",\"index\":0}]}}";
+const TWO_CHIPS: &str =
+    "{\"version\":1,\"machine\":{\"width\":2,\"height\":1},\"graph\":{\"vertices\":[{\"name\":\"a\"},{\"name\":\"b\"}],\"nets\":[{\"name\":\"n\",\"source\":\"a\",\"targets\":[\"b\"]}]},\"run\":{\"packets\":[{\"net\":\"n\",\"index\":0}]}}";
 
-const DOUBLE_NET: &str = "{\"version\":1,\"machine\":{\"width\":1,\"height\":1},\"graph\":{\"vertices\":[{\"name\":\"a\"}],\"nets\":[{\"name\":\"n\",\"source\":\"a\",\"targets\":[\"a\"]},{\"name\":\"n\",\"source\":\"a\",\"targets\":[\"a\"]}]},\"run\":{\"packets\":[]}}";
+const DOUBLE_NET: &str =
+    "{\"version\":1,\"machine\":{\"width\":1,\"height\":1},\"graph\":{\"vertices\":[{\"name\":\"a\"}],\"nets\":[{\"name\":\"n\",\"source\":\"a\",\"targets\":[\"a\"]},{\"name\":\"n\",\"source\":\"a\",\"targets\":[\"a\"]}]},\"run\":{\"packets\":[]}}";
 
-const SEVENTEEN: &str = "{\"version\":1,\"machine\":{\"width\":1,\"height\":1},\"graph\":{\"vertices\":[{\"name\":\"v0\"},{\"name\":\"v1\"},{\"name\":\"v2\"},{\"name\":\"v3\"},{\"name\":\"v4\"},{\"name\":\"v5\"},{\"name\":\"v6\"},{\"name\":\"v7\"},{\"name\":\"v8\"},{\"name\":\"v9\"},{\"name\":\"v10\"},{\"name\":\"v11\"},{\"name\":\"v12\"},{\"name\":\"v13\"},{\"name\":\"v14\"},{\"name\":\"v15\"},{\"name\":\"v16\"}],\"nets\":[]},\"run\":{\"packets\":[]}}";
+const SEVENTEEN: &str =
+    "{\"version\":1,\"machine\":{\"width\":1,\"height\":1},\"graph\":{\"vertices\":[{\"name\":\"v0\"},{\"name\":\"v1\"},{\"name\":\"v2\"},{\"name\":\"v3\"},{\"name\":\"v4\"},{\"name\":\"v5\"},{\"name\":\"v6\"},{\"name\":\"v7\"},{\"name\":\"v8\"},{\"name\":\"v9\"},{\"name\":\"v10\"},{\"name\":\"v11\"},{\"name\":\"v12\"},{\"name\":\"v13\"},{\"name\":\"v14\"},{\"name\":\"v15\"},{\"name\":\"v16\"}],\"nets\":[]},\"run\":{\"packets\":[]}}";
 
-const TWO_VERTICES_REPORT: &str = "place a 0 0 1\nplace b 0 0 2\nkeys n 00000000 ffffffff\ntable 0 0 1\n00000000 ffffffff 000100\ngot b 0 00000000 -\nend delivered 1 dumped 0 waiting 0 unsent 0\n";
+const TWO_VERTICES_REPORT: &str =
+    "place a 0 0 1\nplace b 0 0 2\nkeys n 00000000 ffffffff\ntable 0 0 1\n00000000 ffffffff 000100\ngot b 0 00000000 -\nend delivered 1 dumped 0 waiting 0 unsent 0\n";
 
-const TO_ITSELF_REPORT: &str = "place a 0 0 1\nplace b 0 0 2\nkeys n 00000000 ffffffff\ntable 0 0 1\n00000000 ffffffff 000080\ngot a 0 00000000 -\nend delivered 1 dumped 0 waiting 0 unsent 0\n";
+const TO_ITSELF_REPORT: &str =
+    "place a 0 0 1\nplace b 0 0 2\nkeys n 00000000 ffffffff\ntable 0 0 1\n00000000 ffffffff 000080\ngot a 0 00000000 -\nend delivered 1 dumped 0 waiting 0 unsent 0\n";
 
 // A source of these bytes, `piece` at a time.
 fn source_of(alloc: Global, text: &str, piece: u32, failing: Seq<u64>) -> Result<MemSource, Fail>
@@ -118,12 +126,21 @@ fn a_failing_sink_leaves_the_front_of_the_report(rt: HostRuntime) -> Result<(), 
 #[test]
 fn words_that_are_no_command_are_answered_with_the_usage(rt: HostRuntime) -> Result<(), Fail> {
     let alloc = rt.alloc();
-    for words in [["run", "x"].as_slice(), &["gen", "01"], &["gen", "-1"], &[], &["--help"]] {
+    for words in [
+        ["run", "x"].as_slice(),
+        &["gen", "01"],
+        &["gen", "-1"],
+        &[],
+        &["--help"],
+    ] {
         let mut source = source_of(alloc, TWO_VERTICES, 64, Seq::new(alloc))?;
         let mut sink = sink_for(alloc, 64, Seq::new(alloc))?;
         let outcome = spin_over(&rt, alloc, words, &mut source, &mut sink)?;
         assert_eq!(rt; outcome.status, 1);
-        assert_eq!(rt; sink.as_slice(), "usage: run, trace, compile, tables or gen N\n".as_bytes());
+        assert_eq!(rt;
+            sink.as_slice(),
+            "usage: run, trace, compile, tables or gen N\n".as_bytes()
+        );
     }
     Ok(())
 }
@@ -145,7 +162,12 @@ fn what_is_no_small_job_is_not_built(rt: HostRuntime) -> Result<(), Fail> {
 #[test]
 fn another_command_is_not_built_and_reads_nothing(rt: HostRuntime) -> Result<(), Fail> {
     let alloc = rt.alloc();
-    for words in [["trace"].as_slice(), &["compile"], &["tables"], &["gen", "0"]] {
+    for words in [
+        ["trace"].as_slice(),
+        &["compile"],
+        &["tables"],
+        &["gen", "0"],
+    ] {
         let mut source = source_of(alloc, TWO_VERTICES, 64, Seq::new(alloc))?;
         let mut sink = sink_for(alloc, 64, Seq::new(alloc))?;
         let outcome = spin_over(&rt, alloc, words, &mut source, &mut sink)?;

@@ -132,7 +132,10 @@ fn put_end(text: &mut String, report: &Report) -> Result<(), Memory> {
     let dumped = report.dumped.len();
     let waiting = report.waiting.len();
     let unsent = report.unsent;
-    writeln!(text, "end delivered {delivered} dumped {dumped} waiting {waiting} unsent {unsent}")?;
+    writeln!(
+        text,
+        "end delivered {delivered} dumped {dumped} waiting {waiting} unsent {unsent}"
+    )?;
     Ok(())
 }
 

@@ -126,7 +126,7 @@ fn write_report<K: Sink>(made: Made, sink: &mut K) -> Outcome
     ensures parts { GivesAllParts result }
     ensures written { ((result.refusal ≡ None) × Takes (K.written sink.old) made.text (K.written sink.new))
         ⊎ ((result.refusal ≡ Some WriteFault) × TakesProperPrefix (K.written sink.old) made.text (K.written sink.new)
-            × FaultsRose (K.faults sink.old) (K.faults sink.new)) }
+        × FaultsRose (K.faults sink.old) (K.faults sink.new)) }
 {
     let Made {
         plan,
@@ -153,7 +153,7 @@ fn write_refusal<K: Sink>(refusal: Refusal, sink: &mut K) -> Outcome
     ensures parts { GivesNoPart result }
     ensures written { ((result.refusal ≡ Some refusal) × Takes (K.written sink.old) (line_of refusal) (K.written sink.new))
         ⊎ ((result.refusal ≡ Some WriteFault) × TakesProperPrefix (K.written sink.old) (line_of refusal) (K.written sink.new)
-            × FaultsRose (K.faults sink.old) (K.faults sink.new)) }
+        × FaultsRose (K.faults sink.old) (K.faults sink.new)) }
 {
     let refusal = match write_all(sink, refusal.line().as_bytes()) {
         Ok(()) => refusal,
