@@ -12,5 +12,8 @@ pub mod MarkTests
 pub mod Moves
 pub mod OpenedLaw
 pub mod QueueLists
+pub mod Searching
+pub mod Standing
 pub mod VertexTableLaws
+pub mod WalkingUp
 pub mod Ways

@@ -10,6 +10,7 @@ mod meshes;
 mod places;
 mod queues;
 mod tables;
+mod whereabouts;
 
 pub use hands::Hand;
 pub use meshes::Mesh;
