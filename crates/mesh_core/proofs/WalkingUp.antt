@@ -300,3 +300,183 @@ module _ (s : State) (net : NetPlan) (packet : ℕ) (tracked : IsTracked s net p
         by_station d (at_core v) b = absurd b
         by_station d (delivered v) b = absurd b
         by_station d (dumped c o) b = absurd (omega (arith, b))
+
+  -- ---- the steps of the walk
+
+  -- what is found on the way is the target's copy
+
+  pub found_at_core : (w : Where) → IsMarkThere s packet (IsOfCore s target) w → IsWhere s net packet target w
+  found_at_core w found xs from to way =
+      let k = found.mark in
+      told_by xs from to way k found.is_mark found.is_packet (ends_on xs from to way k found.is_mark found.is_packet found.there) w found.told
+
+  pub found_at_output : (steps : ℕ) (chip : Chip) (out : Out) → Walked s net packet target steps chip out →
+      (w : Where) → IsMarkThere s packet (IsOfOutput chip out) w → IsWhere s net packet target w
+  found_at_output steps chip out walked w found xs from to way =
+      let k = found.mark in
+      let on = walked xs from to way in
+      told_by xs from to way k found.is_mark found.is_packet
+      (leaves_on xs from to way k found.is_mark found.is_packet on.place chip out on.at found.there) w found.told
+
+  pub found_at_port : (steps : ℕ) (chip : Chip) (out : Out) (port : Port) → Walked s net packet target steps chip out →
+      (w : Where) → IsMarkThere s packet (IsOfPort chip port) w → IsWhere s net packet target w
+  found_at_port steps chip out port walked w found xs from to way =
+      let k = found.mark in
+      let on = walked xs from to way in
+      told_by xs from to way k found.is_mark found.is_packet
+      (comes_on xs from to way k found.is_mark found.is_packet on.place chip out port on.at found.there) w found.told
+
+  -- the walk begins at the target's core, where nothing was found
+
+  pub walk_begins : IsFound s packet (IsOfCore s target) None → Walked s net packet target 0 target.chip (Core target.core)
+  walk_begins none xs from to way =
+      let last = last_exit target xs way.is_branch in
+      record { place = last.0; is_place = let n = last.2 in omega arith; at = last.1; before = λ k has is_packet on. by_station last.0 last.2 k has is_packet k.station refl on }
+    where
+      by_station : (i : ℕ) → i + 1 ≡ length xs → (k : Mark) → Contains (marks_of s) k → k.copy.packet ≡ packet → (at : Station) → k.station ≡ at →
+          on_trail from to xs k.copy.hop at ≡ true → IsBefore (i + 1) k.copy.hop at
+      by_station i long k has is_packet (unsent v) is on = tt
+      by_station i long k has is_packet (in_queue c port) is on =
+          let there : ComesThere xs k.copy.hop c port = comes_parts xs k.copy.hop c port on in
+          let within : k.copy.hop < length xs = place_below xs k.copy.hop there.exit there.at in
+          omega arith
+      by_station i long k has is_packet (in_hand c o) is on =
+          let within : k.copy.hop < length xs = place_below xs k.copy.hop (record { chip = c; out = o }) (leaves_parts xs k.copy.hop c o on) in
+          omega arith
+      by_station i long k has is_packet (at_core v) is on =
+          let same : v ≡ to = nat_true v to (and_true_left (v == to) (k.copy.hop == length xs) on) in
+          none k has is_packet (v, way.ends ∙ ap Some (sym same), inl is)
+      by_station i long k has is_packet (delivered v) is on =
+          let same : v ≡ to = nat_true v to (and_true_left (v == to) (k.copy.hop == length xs) on) in
+          none k has is_packet (v, way.ends ∙ ap Some (sym same), inr is)
+      by_station i long k has is_packet (dumped c o) is on =
+          let within : k.copy.hop < length xs = place_below xs k.copy.hop (record { chip = c; out = o }) (leaves_parts xs k.copy.hop c o on) in
+          omega arith
+
+  -- the walk is at a chip inside the grid
+  pub walk_inside : (steps : ℕ) (chip : Chip) (out : Out) → Walked s net packet target steps chip out → IsInside s.machine chip
+  walk_inside steps chip out walked =
+      let w = some_way in
+      let on = walked w.branch w.from w.to w.way in
+      branch_inside s.machine net.tree.root net.tree.edges (map (λ x. x.chip) net.targets) tree target w.branch w.way.is_branch on.place
+      (record { chip = chip; out = out }) on.at
+
+  -- the walk has fewer steps than the grid has chips
+  pub walk_short : (steps : ℕ) (chip : Chip) (out : Out) → Walked s net packet target steps chip out → s.machine.width * s.machine.height ≤ steps → ⊥
+  walk_short steps chip out walked many =
+      let w = some_way in
+      let on = walked w.branch w.from w.to w.way in
+      let place : on.place + 1 + steps ≡ length w.branch = on.is_place in
+      let short : length w.branch ≤ s.machine.width * s.machine.height =
+        branch_short s.machine net.tree.root net.tree.edges (map (λ x. x.chip) net.targets) tree target w.branch w.way.is_branch
+      in
+      omega arith
+
+  -- the edge into a place's chip tells the port there, and the exit before
+  record Behind (xs : List Exit) (i : ℕ) (edge : Option Edge) : Type 0 where
+    arrives : arrival_at xs i ≡ port_behind edge
+    prior : Prior xs i edge
+
+  behind_place : (xs : List Exit) (from to : ℕ) → IsWayOf s net target xs from to → (i : ℕ) (x : Exit) → slice_get xs i ≡ Some x →
+      (edge : Option Edge) → IsEdgeInto s.machine net.tree.edges x.chip edge → Behind xs i edge
+  behind_place xs from to way zero x at None none = record { arrives = refl; prior = tt }
+  behind_place xs from to way zero x at (Some e) into =
+      let root : x.chip ≡ net.tree.root = way_first s.machine net.tree.edges target net.tree.root xs x way.is_branch at in
+      absurd (All-contains (λ f. end_of s.machine f ≢ Some net.tree.root) net.tree.edges e tree.none_into_root into.0 (into.1 ∙ ap Some root))
+  behind_place xs from to way (suc i) x at None none =
+      let by : ComesBy s.machine net.tree.edges xs Local i x.chip = comes_by s.machine net.tree.edges target net.tree.root Local xs i x way.is_branch at in
+      absurd (All-contains (λ f. end_of s.machine f ≢ Some x.chip) net.tree.edges by.edge none by.in_tree by.leads)
+  behind_place xs from to way (suc i) x at (Some e) into =
+      let by : ComesBy s.machine net.tree.edges xs Local i x.chip = comes_by s.machine net.tree.edges target net.tree.root Local xs i x way.is_branch at in
+      let one : by.edge ≡ e =
+        one_edge_into s.machine net.tree.root net.tree.edges (map (λ y. y.chip) net.targets) tree by.edge e x.chip by.in_tree into.0 by.leads into.1
+      in
+      record {
+        arrives = by.arrives ∙ ap (λ (f : Edge). ByLink (opposite_of f.dir)) one;
+        prior = by.before ∙ ap (λ (f : Edge). Some (exit_of f)) one;
+      }
+
+  -- where nothing was found at the exit and at the port, the packet's mark is before the place
+  narrowed : (xs : List Exit) (from to : ℕ) → IsWayOf s net target xs from to → (i : ℕ) (c : Chip) (o : Out) (port : Port) →
+      slice_get xs i ≡ Some (record { chip = c; out = o }) → arrival_at xs i ≡ port → IsFound s packet (IsOfOutput c o) None →
+      IsFound s packet (IsOfPort c port) None → (k : Mark) → Contains (marks_of s) k → k.copy.packet ≡ packet → is_on_trail from to xs k ≡ true →
+      IsBefore (i + 1) k.copy.hop k.station → IsBefore i k.copy.hop k.station
+  narrowed xs from to way i c o port at arrives none none_in k has is_packet on before = by_station k.station refl on before
+    where
+      -- the hop number is below the place, or the mark's exit is that of the place
+      lower : (x : Exit) → slice_get xs k.copy.hop ≡ Some x → k.copy.hop < i + 1 → (k.copy.hop ≡ i → x ≡ record { chip = c; out = o } → ⊥) → k.copy.hop < i
+      lower x its below never = elim (cases_order k.copy.hop i) [
+        | inl same ↦
+            let both : Some x ≡ Some (record { chip = c; out = o }) = sym its ∙ (ap (slice_get xs) same ∙ at) in
+            absurd (never same (let e : x ≡ record { chip = c; out = o } = cc in e))
+        | inr (inl less) ↦ less
+        | inr (inr more) ↦ absurd (omega arith)
+      ]
+
+      two_alike : {A B : Type 0} (f : A → B → Station) (a a' : A) (b b' : B) → a ≡ a' → b ≡ b' → f a b ≡ f a' b'
+      two_alike f a a' b b' e e' = cc
+
+      leaving : (d : Chip) (p : Out) → (let x : Exit = record { chip = d; out = p } in x ≡ record { chip = c; out = o }) →
+          (k.station ≡ in_hand d p) ⊎ (k.station ≡ dumped d p) → ⊥
+      leaving d p same is =
+          let chips : d ≡ c = ap (λ (x : Exit). x.chip) same in
+          let outs : p ≡ o = ap (λ (x : Exit). x.out) same in
+          none k has is_packet (elim is [
+            | inl here ↦ inl (here ∙ two_alike in_hand d c p o chips outs)
+            | inr here ↦ inr (here ∙ two_alike dumped d c p o chips outs)
+          ])
+
+      by_station : (st : Station) → k.station ≡ st → on_trail from to xs k.copy.hop st ≡ true → IsBefore (i + 1) k.copy.hop st → IsBefore i k.copy.hop st
+      by_station (unsent v) is on' b = tt
+      by_station (in_queue d p) is on' b =
+          let there : ComesThere xs k.copy.hop d p = comes_parts xs k.copy.hop d p on' in
+          lower there.exit there.at b (λ same exit.
+            let chips : d ≡ c = sym there.chip ∙ ap (λ (x : Exit). x.chip) exit in
+            let ports : p ≡ port = sym there.port_is ∙ (ap (arrival_at xs) same ∙ arrives) in
+            none_in k has is_packet (is ∙ two_alike in_queue d c p port chips ports))
+      by_station (in_hand d p) is on' b =
+          lower (record { chip = d; out = p }) (leaves_parts xs k.copy.hop d p on') b (λ same exit. leaving d p exit (inl is))
+      by_station (at_core v) is on' b = b
+      by_station (delivered v) is on' b = b
+      by_station (dumped d p) is on' b =
+          lower (record { chip = d; out = p }) (leaves_parts xs k.copy.hop d p on') b (λ same exit. leaving d p exit (inr is))
+
+  -- the walk goes on by the edge into the chip
+  pub walk_goes_on : (steps : ℕ) (chip : Chip) (out : Out) → Walked s net packet target steps chip out → IsFound s packet (IsOfOutput chip out) None →
+      (e : Edge) → IsEdgeInto s.machine net.tree.edges chip (Some e) → IsFound s packet (IsOfPort chip (port_behind (Some e))) None →
+      Walked s net packet target (steps + 1) e.chip (Link e.dir)
+  walk_goes_on steps chip out walked none e into none_in xs from to way =
+      let on = walked xs from to way in
+      let x : Exit = record { chip = chip; out = out } in
+      let back = behind_place xs from to way on.place x on.at (Some e) into in
+      by_place on.place on.is_place back.prior
+      (λ k has is_packet on'. narrowed xs from to way on.place chip out (port_behind (Some e)) on.at back.arrives none none_in k has is_packet on'
+        (on.before k has is_packet on'))
+    where
+      by_place : (i : ℕ) → i + 1 + steps ≡ length xs → Prior xs i (Some e) →
+          ((k : Mark) → Contains (marks_of s) k → k.copy.packet ≡ packet → is_on_trail from to xs k ≡ true → IsBefore i k.copy.hop k.station) →
+          WalkedOn s packet xs from to (steps + 1) e.chip (Link e.dir)
+      by_place zero long prior before = absurd prior
+      by_place (suc i) long prior before = record {
+        place = i;
+        is_place = omega arith;
+        at = prior;
+        before = λ k has is_packet on'. let n_is : suc i ≡ i + 1 = omega arith in subst (λ n. IsBefore n k.copy.hop k.station) n_is (before k has is_packet on');
+      }
+
+  -- where no edge leads into the chip, the copy is unsent
+  pub walk_ends : (steps : ℕ) (chip : Chip) (out : Out) → Walked s net packet target steps chip out → IsFound s packet (IsOfOutput chip out) None →
+      IsEdgeInto s.machine net.tree.edges chip None → IsFound s packet (IsOfPort chip Local) None → IsWhere s net packet target Unsent
+  walk_ends steps chip out walked none into none_in xs from to way =
+      let on = walked xs from to way in
+      let x : Exit = record { chip = chip; out = out } in
+      let back = behind_place xs from to way on.place x on.at None into in
+      by_place on.place back.prior
+      (λ k has is_packet on'. narrowed xs from to way on.place chip out Local on.at back.arrives none none_in k has is_packet on'
+        (on.before k has is_packet on'))
+    where
+      by_place : (i : ℕ) → Prior xs i None →
+          ((k : Mark) → Contains (marks_of s) k → k.copy.packet ≡ packet → is_on_trail from to xs k ≡ true → IsBefore i k.copy.hop k.station) →
+          IsTold s packet xs from to Unsent
+      by_place zero prior before = told_unsent xs from to way before
+      by_place (suc i) prior before = absurd prior
