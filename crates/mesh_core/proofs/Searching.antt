@@ -1,5 +1,5 @@
 -- What the searches of a port, an output and a core find.
-use Rattle.std.proofs.Common.{◌≡◌, ℕ, zero, suc, ◌+◌, ◌<◌, ◌≤◌, List, [], ◌∷◌, Bool, true, false, ◌==◌, ◌&&◌, Option, Some, None, refl, ap, sym, ◌∙◌, subst, arith, inl, inr, ◌⊎◌, length, nat_lt, cond}
+use Rattle.std.proofs.Common.{◌≡◌, ℕ, zero, suc, ◌<◌, ◌≤◌, List, [], ◌∷◌, Bool, true, false, ◌==◌, ◌&&◌, Option, Some, None, refl, ap, sym, ◌∙◌, subst, arith, inl, inr, ◌⊎◌, length, nat_lt, cond}
 use Rattle.std.specs.List.{slice_get, slice_index_or, list_any, Contains, position, position_or_len}
 use Rattle.std.proofs.lemmas.Bool.{ltb-false}
 use Rattle.std.proofs.lemmas.List.Folds.{Any-from_list_any, list_any_at}
@@ -9,7 +9,6 @@ use Rattle.std.proofs.lemmas.Option.{slice_get-get_or, slice_get_within}
 use Rattle.spin_base.specs.declared.chips.Chip.{Chip}
 use Rattle.spin_base.specs.declared.chips.Spot.{Spot}
 use Rattle.spin_base.specs.declared.chips.Port.{Port}
-use Rattle.spin_base.specs.declared.chips.Port.TheVariants.{Local}
 use Rattle.spin_base.specs.declared.routes.Out.{Out}
 use Rattle.spin_base.specs.declared.copies.McCopy.{McCopy}
 use Rattle.spin_base.specs.declared.copies.Delivery.{Delivery}
@@ -18,12 +17,10 @@ use Rattle.spin_base.specs.Equality.{chip_eq, out_eq}
 use Rattle.spin_base.proofs.Equality.{chip_eq_same, chip_eq_true, out_eq_same, out_eq_true}
 use Rattle.machine_desc.specs.Live.{index_of, IsInside}
 use Rattle.mesh_core.specs.declared.places.Place.TheVariants.{InQueue, Hand as HandAt, CoreQueue}
-use Rattle.mesh_core.specs.declared.places.Where.{Where}
-use Rattle.mesh_core.specs.declared.places.Where.TheVariants.{Unsent, At, Delivered, Dumped}
+use Rattle.mesh_core.specs.declared.places.Where.TheVariants.{At, Delivered, Dumped}
 use Rattle.mesh_core.specs.State.{State, Held, IsMesh, queue_at, vertex_at}
 use Rattle.mesh_core.specs.Trail.{Station, in_queue, in_hand, at_core, delivered, dumped, Mark}
 use Rattle.mesh_core.specs.Ledger.{marks_of}
-use Rattle.mesh_core.specs.Whereabouts.{TellsStation}
 use Rattle.mesh_core.specs.Searches.{IsMarkThere, IsFound, IsOfCore, IsOfOutput, IsOfPort, is_held}
 use Rattle.mesh_core.proofs.Exchange.{Among, among_contains, contains_among}
 use Rattle.mesh_core.proofs.Moves.{mark}
@@ -100,7 +97,7 @@ module _ (s : State) (packet : ℕ) where
       let both : Some stands.1 ≡ Some q = sym stands.2 ∙ (ap (slice_get s.inputs) place ∙ at) in
       let one : stands.1 ≡ q = cc in
       let found : list_any (λ (d : McCopy). d.packet == packet) stands.1 ≡ true =
-        among_any (λ (d : McCopy). d.packet == packet) k.copy stands.1 stands.5 (nat_same k.copy.packet packet is_packet)
+      among_any (λ (d : McCopy). d.packet == packet) k.copy stands.1 stands.5 (nat_same k.copy.packet packet is_packet)
       in
       let also : list_any (λ (d : McCopy). d.packet == packet) stands.1 ≡ false = ap (list_any (λ (d : McCopy). d.packet == packet)) one ∙ none in
       cc
@@ -157,7 +154,7 @@ module _ (s : State) (packet : ℕ) where
       let stands : StandsAt s k.copy (in_hand c o) = stands_there k has (in_hand c o) there in
       let h : Held = stands.1 in
       let place : stands.0 ≡ index_of s.machine c =
-        sym (index_of-chip_of s.machine stands.0 (some_rows s.machine c inside)) ∙ ap (index_of s.machine) stands.3
+      sym (index_of-chip_of s.machine stands.0 (some_rows s.machine c inside)) ∙ ap (index_of s.machine) stands.3
       in
       let at : slice_get s.hands (index_of s.machine c) ≡ Some (Some h) = ap (slice_get s.hands) (sym place) ∙ stands.2 in
       let serves : list_any (out_eq o) h.outs ≡ true = among_any (out_eq o) o h.outs stands.5 (out_eq_same o) in
@@ -170,7 +167,7 @@ module _ (s : State) (packet : ℕ) where
       let stands : Among r s.dumped = stands_there k has (dumped c o) there in
       position_nowhere (is_dump c o) s.dumped r nowhere stands
       (both_true (chip_eq c c && out_eq o o) (k.copy.packet == packet)
-        (both_true (chip_eq c c) (out_eq o o) (chip_eq_same c) (out_eq_same o)) (nat_same k.copy.packet packet is_packet))
+      (both_true (chip_eq c c) (out_eq o o) (chip_eq_same c) (out_eq_same o)) (nat_same k.copy.packet packet is_packet))
 
   -- ---- a core
 
@@ -218,7 +215,7 @@ module _ (s : State) (packet : ℕ) where
           let queues : Some stands.0 ≡ Some q = sym stands.1 ∙ (ap (slice_get s.cores) same ∙ at) in
           let one : stands.0 ≡ q = cc in
           let found : list_any (λ (d : McCopy). d.packet == packet) stands.0 ≡ true =
-            among_any (λ (d : McCopy). d.packet == packet) k.copy stands.0 stands.2 (nat_same k.copy.packet packet is_packet)
+          among_any (λ (d : McCopy). d.packet == packet) k.copy stands.0 stands.2 (nat_same k.copy.packet packet is_packet)
           in
           let also : list_any (λ (d : McCopy). d.packet == packet) stands.0 ≡ false = ap (list_any (λ (d : McCopy). d.packet == packet)) one ∙ none in
           cc

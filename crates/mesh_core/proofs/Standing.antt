@@ -1,5 +1,5 @@
 -- Which marks a mesh has, by their stations: those of the lists' items there.
-use Rattle.std.proofs.Common.{◌≡◌, ℕ, ◌+◌, ◌*◌, ◌/◌, ◌%◌, ◌<◌, ◌≤◌, suc, zero, List, [], ◌∷◌, ◌++◌, map, Option, Some, None, refl, ap, sym, ◌∙◌, subst, arith, inl, inr, ◌⊎◌, length}
+use Rattle.std.proofs.Common.{◌≡◌, ℕ, ◌+◌, ◌*◌, ◌/◌, ◌%◌, ◌<◌, suc, zero, List, [], ◌∷◌, ◌++◌, map, Option, Some, None, refl, ap, sym, ◌∙◌, subst, arith, inl, inr, ◌⊎◌}
 use Rattle.std.specs.List.{slice_get}
 use Rattle.spin_base.specs.declared.chips.Chip.{Chip}
 use Rattle.spin_base.specs.declared.chips.Port.{Port}
@@ -181,12 +181,12 @@ queued_mark s c port inside k q at a =
     let place : Station = in_queue (chip_of s.machine ((0 + i) / 7)) (port_of ((0 + i) % 7)) in
     let is : place ≡ in_queue c port = station_of_queue s.machine c port inside in
     let here : Among (mark k (in_queue c port)) (marked place q) =
-      subst (λ (p : Station). Among (mark k (in_queue c port)) (marked p q)) (sym is) (map_among (λ (d : McCopy). mark d (in_queue c port)) k q a)
+    subst (λ (p : Station). Among (mark k (in_queue c port)) (marked p q)) (sym is) (map_among (λ (d : McCopy). mark d (in_queue c port)) k q a)
     in
     let y : Mark = mark k (in_queue c port) in
     among_right y (unsent_marks s) (input_marks s ++ (all_hand_marks s ++ (core_marks s ++ (delivered_marks s ++ dumped_marks s))))
     (among_left y (input_marks s) (all_hand_marks s ++ (core_marks s ++ (delivered_marks s ++ dumped_marks s)))
-      (gathered_among_from (λ n (l : List McCopy). marked (in_queue (chip_of s.machine (n / 7)) (port_of (n % 7))) l) y 0 s.inputs i q at here))
+    (gathered_among_from (λ n (l : List McCopy). marked (in_queue (chip_of s.machine (n / 7)) (port_of (n % 7))) l) y 0 s.inputs i q at here))
 
 pub held_mark : (s : State) (c : Chip) (o : Out) → IsInside s.machine c → (h : Held) →
     slice_get s.hands (index_of s.machine c) ≡ Some (Some h) → Among o h.outs → Among (mark h.copy (in_hand c o)) (marks_of s)
@@ -194,12 +194,12 @@ held_mark s c o inside h at a =
     let i : ℕ = index_of s.machine c in
     let y : Mark = mark h.copy (in_hand c o) in
     let here : Among y (hand_marks (chip_of s.machine i) (Some h)) =
-      subst (λ (d : Chip). Among y (hand_marks d (Some h))) (sym (chip_of-index_of s.machine c inside)) (map_among (λ p. mark h.copy (in_hand c p)) o h.outs a)
+    subst (λ (d : Chip). Among y (hand_marks d (Some h))) (sym (chip_of-index_of s.machine c inside)) (map_among (λ p. mark h.copy (in_hand c p)) o h.outs a)
     in
     among_right y (unsent_marks s) (input_marks s ++ (all_hand_marks s ++ (core_marks s ++ (delivered_marks s ++ dumped_marks s))))
     (among_right y (input_marks s) (all_hand_marks s ++ (core_marks s ++ (delivered_marks s ++ dumped_marks s)))
-      (among_left y (all_hand_marks s) (core_marks s ++ (delivered_marks s ++ dumped_marks s))
-        (gathered_among (λ n (l : Option Held). hand_marks (chip_of s.machine n) l) y s.hands i (Some h) at here)))
+    (among_left y (all_hand_marks s) (core_marks s ++ (delivered_marks s ++ dumped_marks s))
+    (gathered_among (λ n (l : Option Held). hand_marks (chip_of s.machine n) l) y s.hands i (Some h) at here)))
 
 pub core_mark : (s : State) (v : ℕ) (k : McCopy) (q : List McCopy) → slice_get s.cores v ≡ Some q → Among k q →
     Among (mark k (at_core v)) (marks_of s)
@@ -207,24 +207,24 @@ core_mark s v k q at a =
     let y : Mark = mark k (at_core v) in
     among_right y (unsent_marks s) (input_marks s ++ (all_hand_marks s ++ (core_marks s ++ (delivered_marks s ++ dumped_marks s))))
     (among_right y (input_marks s) (all_hand_marks s ++ (core_marks s ++ (delivered_marks s ++ dumped_marks s)))
-      (among_right y (all_hand_marks s) (core_marks s ++ (delivered_marks s ++ dumped_marks s))
-        (among_left y (core_marks s) (delivered_marks s ++ dumped_marks s)
-          (gathered_among (λ n (l : List McCopy). marked (at_core n) l) y s.cores v q at (map_among (λ (c : McCopy). mark c (at_core v)) k q a)))))
+    (among_right y (all_hand_marks s) (core_marks s ++ (delivered_marks s ++ dumped_marks s))
+    (among_left y (core_marks s) (delivered_marks s ++ dumped_marks s)
+    (gathered_among (λ n (l : List McCopy). marked (at_core n) l) y s.cores v q at (map_among (λ (c : McCopy). mark c (at_core v)) k q a)))))
 
 pub delivered_mark : (s : State) (d : Delivery) → Among d s.delivered → Among (mark d.copy (delivered d.vertex)) (marks_of s)
 delivered_mark s d a =
     let y : Mark = mark d.copy (delivered d.vertex) in
     among_right y (unsent_marks s) (input_marks s ++ (all_hand_marks s ++ (core_marks s ++ (delivered_marks s ++ dumped_marks s))))
     (among_right y (input_marks s) (all_hand_marks s ++ (core_marks s ++ (delivered_marks s ++ dumped_marks s)))
-      (among_right y (all_hand_marks s) (core_marks s ++ (delivered_marks s ++ dumped_marks s))
-        (among_right y (core_marks s) (delivered_marks s ++ dumped_marks s)
-          (among_left y (delivered_marks s) (dumped_marks s) (map_among (λ (e : Delivery). mark e.copy (delivered e.vertex)) d s.delivered a)))))
+    (among_right y (all_hand_marks s) (core_marks s ++ (delivered_marks s ++ dumped_marks s))
+    (among_right y (core_marks s) (delivered_marks s ++ dumped_marks s)
+    (among_left y (delivered_marks s) (dumped_marks s) (map_among (λ (e : Delivery). mark e.copy (delivered e.vertex)) d s.delivered a)))))
 
 pub dumped_mark : (s : State) (r : DumpRec) → Among r s.dumped → Among (mark r.copy (dumped r.chip r.out)) (marks_of s)
 dumped_mark s r a =
     let y : Mark = mark r.copy (dumped r.chip r.out) in
     among_right y (unsent_marks s) (input_marks s ++ (all_hand_marks s ++ (core_marks s ++ (delivered_marks s ++ dumped_marks s))))
     (among_right y (input_marks s) (all_hand_marks s ++ (core_marks s ++ (delivered_marks s ++ dumped_marks s)))
-      (among_right y (all_hand_marks s) (core_marks s ++ (delivered_marks s ++ dumped_marks s))
-        (among_right y (core_marks s) (delivered_marks s ++ dumped_marks s)
-          (among_right y (delivered_marks s) (dumped_marks s) (map_among (λ (e : DumpRec). mark e.copy (dumped e.chip e.out)) r s.dumped a)))))
+    (among_right y (all_hand_marks s) (core_marks s ++ (delivered_marks s ++ dumped_marks s))
+    (among_right y (core_marks s) (delivered_marks s ++ dumped_marks s)
+    (among_right y (delivered_marks s) (dumped_marks s) (map_among (λ (e : DumpRec). mark e.copy (dumped e.chip e.out)) r s.dumped a)))))

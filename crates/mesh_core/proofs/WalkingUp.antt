@@ -1,5 +1,5 @@
 -- Walking up a branch from its target finds the target's copy of a packet.
-use Rattle.std.proofs.Common.{◌≡◌, ◌≢◌, ℕ, ◌+◌, ◌*◌, ◌<◌, ◌≤◌, zero, suc, List, [], ◌∷◌, map, Bool, true, false, ◌==◌, ◌&&◌, if◌then◌else◌, IsTrue, Option, Some, None, refl, ap, sym, ◌∙◌, subst, arith, inl, inr, ◌⊎◌, length, count_by}
+use Rattle.std.proofs.Common.{◌≡◌, ◌≢◌, ℕ, ◌+◌, ◌*◌, ◌<◌, ◌≤◌, zero, suc, List, [], ◌∷◌, map, Bool, true, false, ◌==◌, ◌&&◌, if◌then◌else◌, Option, Some, None, refl, ap, sym, ◌∙◌, subst, arith, inl, inr, ◌⊎◌, length, count_by}
 use Rattle.std.specs.List.{slice_get, All, Contains}
 use Rattle.std.proofs.lemmas.Bool.{cases_order}
 use Rattle.std.proofs.lemmas.List.Elements.{All-contains}
@@ -12,19 +12,17 @@ use Rattle.spin_base.specs.declared.routes.Out.TheVariants.{Link, Core}
 use Rattle.spin_base.specs.declared.copies.McCopy.{McCopy}
 use Rattle.spin_base.specs.Links.{opposite_of}
 use Rattle.machine_desc.specs.declared.trees.Edge.{Edge}
-use Rattle.machine_desc.specs.Description.{Description}
-use Rattle.machine_desc.specs.Live.{IsInside, IsLiveLink, IsUsable}
+use Rattle.machine_desc.specs.Live.{IsInside, IsUsable}
 use Rattle.machine_desc.specs.RoutingTree.{end_of, IsRoutingTree}
 use Rattle.machine_desc.specs.Branch.{Exit, IsBranch, arrival_at}
 use Rattle.machine_desc.proofs.Branches.{ComesBy, comes_by, exit_leads, ExitLeads, way_first, same_place, one_edge_into, branch_short, branch_inside, core_on_branch, exit_of}
-use Rattle.machine_desc.proofs.Far.{live_inside, live_ends}
 use Rattle.net_tables.specs.declared.nets.NetPlan.{NetPlan}
 use Rattle.net_tables.specs.RightTables.{IsKeyOf}
 use Rattle.mesh_core.specs.declared.places.Where.{Where}
 use Rattle.mesh_core.specs.declared.places.Where.TheVariants.{Unsent}
-use Rattle.mesh_core.specs.State.{State, IsMesh, vertex_at}
+use Rattle.mesh_core.specs.State.{State, IsMesh}
 use Rattle.mesh_core.specs.Trail.{Station, unsent, in_queue, in_hand, at_core, delivered, dumped, Mark, on_trail, is_on_trail, is_packet_on_trail}
-use Rattle.mesh_core.specs.Ledger.{marks_of, AreNetsOf, Label, IsWayOf, MeetsLedger}
+use Rattle.mesh_core.specs.Ledger.{marks_of, AreNetsOf, IsWayOf}
 use Rattle.mesh_core.specs.Whereabouts.{TellsStation, IsTold, IsWhere, IsTracked}
 use Rattle.mesh_core.specs.Searches.{IsMarkThere, IsFound, IsOfCore, IsOfOutput, IsOfPort, port_behind, IsEdgeInto}
 use Rattle.mesh_core.proofs.Exchange.{Among, among_contains, count_by-cons}
@@ -156,7 +154,7 @@ module _ (s : State) (net : NetPlan) (packet : ℕ) (tracked : IsTracked s net p
       let x = last_exit t xs w.is_branch in
       let y = last_exit u ys w'.is_branch in
       let place = one_place_of t u xs ys w.is_branch w'.is_branch x.0 y.0 (record { chip = t.chip; out = Core t.core })
-          (record { chip = u.chip; out = Core u.core }) x.1 y.1 (ap (λ (z : Spot). z.chip) same)
+      (record { chip = u.chip; out = Core u.core }) x.1 y.1 (ap (λ (z : Spot). z.chip) same)
       in
       sym x.2 ∙ (ap (λ n. n + 1) place.0 ∙ y.2)
 
@@ -176,7 +174,7 @@ module _ (s : State) (net : NetPlan) (packet : ℕ) (tracked : IsTracked s net p
       let here = (tracked.ledger.labelled k has).0 in
       let there = (tracked.ledger.labelled tracked.mark tracked.is_mark).0 in
       let same : tracked.mark.copy.key ≡ k.copy.key =
-        there ∙ (ap (λ n. (tracked.labels n).key) (tracked.is_packet ∙ sym is_packet) ∙ sym here)
+      there ∙ (ap (λ n. (tracked.labels n).key) (tracked.is_packet ∙ sym is_packet) ∙ sym here)
       in
       subst (λ n. IsKeyOf net.block n) same tracked.is_key
 
@@ -208,7 +206,7 @@ module _ (s : State) (net : NetPlan) (packet : ℕ) (tracked : IsTracked s net p
         leaves : slice_get u.branch k.copy.hop ≡ Some (record { chip = c; out = o }) → slice_get xs k.copy.hop ≡ Some (record { chip = c; out = o })
         leaves on =
             let one = one_place_of target u.goal xs u.branch way.is_branch u.way.is_branch i k.copy.hop
-                (record { chip = c; out = o }) (record { chip = c; out = o }) at on refl
+            (record { chip = c; out = o }) (record { chip = c; out = o }) at on refl
             in
             ap (slice_get xs) (sym one.0) ∙ at
 
@@ -227,15 +225,15 @@ module _ (s : State) (net : NetPlan) (packet : ℕ) (tracked : IsTracked s net p
         let on = sym (ap (on_trail u.from u.to u.branch k.copy.hop) is) ∙ u.on in
         let there : ComesThere u.branch k.copy.hop c port = comes_parts u.branch k.copy.hop c port on in
         let one = one_place_of target u.goal xs u.branch way.is_branch u.way.is_branch i k.copy.hop
-            (record { chip = c; out = o }) there.exit at there.at (sym there.chip)
+        (record { chip = c; out = o }) there.exit at there.at (sym there.chip)
         in
         let here : ComesThere xs k.copy.hop c port =
-          record {
-            exit = record { chip = c; out = o };
-            at = ap (slice_get xs) (sym one.0) ∙ at;
-            chip = refl;
-            port_is = ap (arrival_at xs) (sym one.0) ∙ (one.1 ∙ there.port_is);
-          }
+        record {
+          exit = record { chip = c; out = o };
+          at = ap (slice_get xs) (sym one.0) ∙ at;
+          chip = refl;
+          port_is = ap (arrival_at xs) (sym one.0) ∙ (one.1 ∙ there.port_is);
+        }
         in
         on_by k (in_queue c port) is (comes_from xs k.copy.hop c port here)
 
@@ -288,7 +286,7 @@ module _ (s : State) (net : NetPlan) (packet : ℕ) (tracked : IsTracked s net p
         let k = counted (is_packet_on_trail packet from to xs) (marks_of s) only_one in
         let has = among_contains k.0 (marks_of s) k.1 in
         let of_packet : k.0.copy.packet ≡ packet =
-          nat_true k.0.copy.packet packet (and_true_left (k.0.copy.packet == packet) (is_on_trail from to xs k.0) k.2)
+        nat_true k.0.copy.packet packet (and_true_left (k.0.copy.packet == packet) (is_on_trail from to xs k.0) k.2)
         in
         let on = and_true_right (k.0.copy.packet == packet) (is_on_trail from to xs k.0) k.2 in
         told_by k.0 has of_packet on Unsent (by_station k.0.copy k.0.station (before k.0 has of_packet on))
@@ -368,7 +366,7 @@ module _ (s : State) (net : NetPlan) (packet : ℕ) (tracked : IsTracked s net p
       let on = walked w.branch w.from w.to w.way in
       let place : on.place + 1 + steps ≡ length w.branch = on.is_place in
       let short : length w.branch ≤ s.machine.width * s.machine.height =
-        branch_short s.machine net.tree.root net.tree.edges (map (λ x. x.chip) net.targets) tree target w.branch w.way.is_branch
+      branch_short s.machine net.tree.root net.tree.edges (map (λ x. x.chip) net.targets) tree target w.branch w.way.is_branch
       in
       omega arith
 
@@ -389,7 +387,7 @@ module _ (s : State) (net : NetPlan) (packet : ℕ) (tracked : IsTracked s net p
   behind_place xs from to way (suc i) x at (Some e) into =
       let by : ComesBy s.machine net.tree.edges xs Local i x.chip = comes_by s.machine net.tree.edges target net.tree.root Local xs i x way.is_branch at in
       let one : by.edge ≡ e =
-        one_edge_into s.machine net.tree.root net.tree.edges (map (λ y. y.chip) net.targets) tree by.edge e x.chip by.in_tree into.0 by.leads into.1
+      one_edge_into s.machine net.tree.root net.tree.edges (map (λ y. y.chip) net.targets) tree by.edge e x.chip by.in_tree into.0 by.leads into.1
       in
       record {
         arrives = by.arrives ∙ ap (λ (f : Edge). ByLink (opposite_of f.dir)) one;
@@ -431,9 +429,9 @@ module _ (s : State) (net : NetPlan) (packet : ℕ) (tracked : IsTracked s net p
       by_station (in_queue d p) is on' b =
           let there : ComesThere xs k.copy.hop d p = comes_parts xs k.copy.hop d p on' in
           lower there.exit there.at b (λ same exit.
-            let chips : d ≡ c = sym there.chip ∙ ap (λ (x : Exit). x.chip) exit in
-            let ports : p ≡ port = sym there.port_is ∙ (ap (arrival_at xs) same ∙ arrives) in
-            none_in k has is_packet (is ∙ two_alike in_queue d c p port chips ports))
+          let chips : d ≡ c = sym there.chip ∙ ap (λ (x : Exit). x.chip) exit in
+          let ports : p ≡ port = sym there.port_is ∙ (ap (arrival_at xs) same ∙ arrives) in
+          none_in k has is_packet (is ∙ two_alike in_queue d c p port chips ports))
       by_station (in_hand d p) is on' b =
           lower (record { chip = d; out = p }) (leaves_parts xs k.copy.hop d p on') b (λ same exit. leaving d p exit (inl is))
       by_station (at_core v) is on' b = b
@@ -451,7 +449,7 @@ module _ (s : State) (net : NetPlan) (packet : ℕ) (tracked : IsTracked s net p
       let back = behind_place xs from to way on.place x on.at (Some e) into in
       by_place on.place on.is_place back.prior
       (λ k has is_packet on'. narrowed xs from to way on.place chip out (port_behind (Some e)) on.at back.arrives none none_in k has is_packet on'
-        (on.before k has is_packet on'))
+      (on.before k has is_packet on'))
     where
       by_place : (i : ℕ) → i + 1 + steps ≡ length xs → Prior xs i (Some e) →
           ((k : Mark) → Contains (marks_of s) k → k.copy.packet ≡ packet → is_on_trail from to xs k ≡ true → IsBefore i k.copy.hop k.station) →
@@ -473,7 +471,7 @@ module _ (s : State) (net : NetPlan) (packet : ℕ) (tracked : IsTracked s net p
       let back = behind_place xs from to way on.place x on.at None into in
       by_place on.place back.prior
       (λ k has is_packet on'. narrowed xs from to way on.place chip out Local on.at back.arrives none none_in k has is_packet on'
-        (on.before k has is_packet on'))
+      (on.before k has is_packet on'))
     where
       by_place : (i : ℕ) → Prior xs i None →
           ((k : Mark) → Contains (marks_of s) k → k.copy.packet ≡ packet → is_on_trail from to xs k ≡ true → IsBefore i k.copy.hop k.station) →

@@ -1,10 +1,8 @@
 -- Each search on the way finds the target's copy or shows where it is not, and the walk goes on.
-use Rattle.std.proofs.Common.{◌≡◌, ℕ, ◌*◌, ◌≤◌, sym, ap, ◌∙◌, subst, Option, Some, None, List}
-use Rattle.spin_base.specs.declared.chips.Chip.{Chip}
+use Rattle.std.proofs.Common.{◌≡◌, ℕ, ◌*◌, ◌≤◌, ap, ◌∙◌, subst, Some, None, List}
 use Rattle.spin_base.specs.declared.chips.Port.{Port}
 use Rattle.machine_desc.specs.declared.trees.Edge.{Edge}
 use Rattle.machine_desc.specs.Description.{Description}
-use Rattle.mesh_core.specs.declared.places.Where.{Where}
 use Rattle.mesh_core.specs.State.{State, IsMesh}
 use Rattle.mesh_core.specs.Searches.{IsFound, IsOfPort, IsEdgeInto, port_behind}
 use Rattle.mesh_core.proofs.WalkingUp.{target_usable, found_at_core, found_at_output, found_at_port, walk_begins, walk_inside, walk_short, walk_goes_on, walk_ends}
@@ -36,8 +34,8 @@ returns-in-Some-at_output c =
 pub at_port-requires : goal.at_port-requires
 at_port-requires c = record {
   inside =
-    walk_inside c.args.self.now c.args.net.now c.args.packet c.requires.tracked c.args.target c.requires.is_target
-    c.loop.counter c.loop.chip c.loop.out c.loop.invariant;
+      walk_inside c.args.self.now c.args.net.now c.args.packet c.requires.tracked c.args.target c.requires.is_target
+      c.loop.counter c.loop.chip c.loop.out c.loop.invariant;
 }
 
 pub returns-in-Some-at_port : goal.returns-in-Some-at_port
@@ -54,7 +52,7 @@ returns-in_default-before c =
     walk_ends s c.args.net.now c.args.packet c.requires.tracked c.args.target c.requires.is_target
     c.loop.counter c.loop.chip c.loop.out c.loop.invariant c.in_default-at_output.ensures
     (subst (λ (m : Description). IsEdgeInto m c.args.net.now.tree.edges c.loop.chip None) machine
-      (subst (λ (edges : List Edge). IsEdgeInto c.self.inside.machine edges c.loop.chip None) c.as_slice.ensures c.in_default-before.ensures))
+    (subst (λ (edges : List Edge). IsEdgeInto c.self.inside.machine edges c.loop.chip None) c.as_slice.ensures c.in_default-before.ensures))
     (subst (λ (p : Port). IsFound s c.args.packet (IsOfPort c.loop.chip p) None) port c.in_default-at_port.ensures)
 
 pub loop-preserved : goal.loop-preserved
@@ -67,7 +65,7 @@ loop-preserved c =
     walk_goes_on s c.args.net.now c.args.packet c.requires.tracked c.args.target c.requires.is_target
     c.loop.counter c.loop.chip c.loop.out c.loop.invariant c.in_default-at_output.ensures e
     (subst (λ (m : Description). IsEdgeInto m c.args.net.now.tree.edges c.loop.chip (Some e)) machine
-      (subst (λ (edges : List Edge). IsEdgeInto c.self.inside.machine edges c.loop.chip (Some e)) c.as_slice.ensures c.in-Some-before.ensures))
+    (subst (λ (edges : List Edge). IsEdgeInto c.self.inside.machine edges c.loop.chip (Some e)) c.as_slice.ensures c.in-Some-before.ensures))
     (subst (λ (p : Port). IsFound s c.args.packet (IsOfPort c.loop.chip p) None) port c.in_default-at_port.ensures)
 
 pub unreachable-requires : goal.unreachable-requires
@@ -76,8 +74,8 @@ unreachable-requires c =
     let m : Description = c.self.inside.machine in
     let machine : m ≡ s.machine = ap (λ (t : State). t.machine) c.self.view_is in
     let size : c.from.result * c.from-2.result ≡ m.width * m.height =
-      ap (λ (n : ℕ). n * c.from-2.result) (c.from.ensures ∙ c.width.ensures.value)
-      ∙ ap (λ (n : ℕ). m.width * n) (c.from-2.ensures ∙ c.height.ensures.value)
+    ap (λ (n : ℕ). n * c.from-2.result) (c.from.ensures ∙ c.width.ensures.value)
+    ∙ ap (λ (n : ℕ). m.width * n) (c.from-2.ensures ∙ c.height.ensures.value)
     in
     let all : c.from.result * c.from-2.result ≡ s.machine.width * s.machine.height = size ∙ ap (λ (d : Description). d.width * d.height) machine in
     let many : s.machine.width * s.machine.height ≤ c.loop.counter = subst (λ (n : ℕ). n ≤ c.loop.counter) all c.loop-test.false in
