@@ -13,7 +13,10 @@ pub mod MarkTests
 pub mod Moves
 pub mod OpenedLaw
 pub mod QueueLists
+pub mod Searching
 pub mod ServingLaws
+pub mod Standing
 pub mod StepParts
 pub mod VertexTableLaws
+pub mod WalkingUp
 pub mod Ways

@@ -2,9 +2,11 @@ pub mod Expected
 pub mod Ledger
 pub mod Opened
 pub mod Queues
+pub mod Searches
 pub mod Serving
 pub mod State
 pub mod Step
 pub mod Tabled
 pub mod Trail
 pub mod VertexTable
+pub mod Whereabouts

@@ -13,6 +13,7 @@ mod steps;
 mod tables;
 #[cfg(test)]
 mod tests;
+mod whereabouts;
 
 pub use hands::Hand;
 pub use meshes::Mesh;

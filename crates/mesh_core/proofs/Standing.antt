@@ -1,0 +1,230 @@
+-- Which marks a mesh has, by their stations: those of the lists' items there.
+use Rattle.std.proofs.Common.{◌≡◌, ℕ, ◌+◌, ◌*◌, ◌/◌, ◌%◌, ◌<◌, suc, zero, List, [], ◌∷◌, ◌++◌, map, Option, Some, None, refl, ap, sym, ◌∙◌, subst, arith, inl, inr, ◌⊎◌}
+use Rattle.std.specs.List.{slice_get}
+use Rattle.spin_base.specs.declared.chips.Chip.{Chip}
+use Rattle.spin_base.specs.declared.chips.Port.{Port}
+use Rattle.spin_base.specs.declared.routes.Out.{Out}
+use Rattle.spin_base.specs.declared.copies.McCopy.{McCopy}
+use Rattle.spin_base.specs.declared.copies.Delivery.{Delivery}
+use Rattle.spin_base.specs.declared.copies.DumpRec.{DumpRec}
+use Rattle.spin_base.specs.Links.{port_number}
+use Rattle.machine_desc.specs.Description.{Description}
+use Rattle.machine_desc.specs.Live.{chip_of, index_of, IsInside}
+use Rattle.machine_desc.proofs.Far.{inside_parts}
+use Rattle.mesh_core.specs.State.{State, Held, queue_at}
+use Rattle.mesh_core.specs.Trail.{Station, unsent, in_queue, in_hand, at_core, delivered, dumped, Mark}
+use Rattle.mesh_core.specs.Ledger.{marks_of, marked, hand_marks, port_of, gathered, unsent_marks, input_marks, all_hand_marks, core_marks, delivered_marks, dumped_marks}
+use Rattle.mesh_core.proofs.Exchange.{Among, among_left, among_right, among_either}
+use Rattle.mesh_core.proofs.Moves.{mark, chip_of-index_of, station_of_queue}
+
+-- ---- members of what is made of a list
+
+pub among_map : {X Y : Type 0} (f : X → Y) (y : Y) (xs : List X) → Among y (map f xs) → (x : X) × Among x xs × (y ≡ f x)
+among_map f y [] a = absurd a
+among_map f y (x ∷ xs) (inl here) = (x, inl refl, here)
+among_map f y (x ∷ xs) (inr later) = let rest = among_map f y xs later in (rest.0, inr rest.1, rest.2)
+
+pub map_among : {X Y : Type 0} (f : X → Y) (x : X) (xs : List X) → Among x xs → Among (f x) (map f xs)
+map_among f x [] a = absurd a
+map_among f x (y ∷ xs) (inl here) = inl (ap f here)
+map_among f x (y ∷ xs) (inr later) = inr (map_among f x xs later)
+
+among_gathered_from : {X Y : Type 0} (f : ℕ → X → List Y) (y : Y) (i : ℕ) (xs : List X) → Among y (gathered f i xs) →
+    (j : ℕ) × (x : X) × (slice_get xs j ≡ Some x) × Among y (f (i + j) x)
+among_gathered_from f y i [] a = absurd a
+among_gathered_from f y i (x ∷ xs) a = elim (among_either y (f i x) (gathered f (i + 1) xs) a) [
+  | inl here ↦ let n_is : i ≡ i + 0 = omega arith in (0, x, refl, subst (λ n. Among y (f n x)) n_is here)
+  | inr later ↦
+      let rest = among_gathered_from f y (i + 1) xs later in
+      let n_is : i + 1 + rest.0 ≡ i + suc rest.0 = omega arith in
+      (suc rest.0, rest.1, rest.2, subst (λ n. Among y (f n rest.1)) n_is rest.3)
+]
+
+gathered_among_from : {X Y : Type 0} (f : ℕ → X → List Y) (y : Y) (i : ℕ) (xs : List X) (j : ℕ) (x : X) → slice_get xs j ≡ Some x →
+    Among y (f (i + j) x) → Among y (gathered f i xs)
+gathered_among_from f y i [] j x at a = cc
+gathered_among_from {X} {Y} f y i (z ∷ xs) zero x at a =
+    let same : x ≡ z = cc in
+    let n_is : i + 0 ≡ i = omega arith in
+    let P : ℕ → X → Type 0 = λ n v. Among y (f n v) in
+    among_left y (f i z) (gathered f (i + 1) xs) (subst (λ n. P n z) n_is (subst (λ v. P (i + 0) v) same a))
+gathered_among_from f y i (z ∷ xs) (suc j) x at a =
+    let n_is : i + suc j ≡ i + 1 + j = omega arith in
+    among_right y (f i z) (gathered f (i + 1) xs) (gathered_among_from f y (i + 1) xs j x at (subst (λ n. Among y (f n x)) n_is a))
+
+-- the list's item of which a member is made
+among_gathered : {X Y : Type 0} (f : ℕ → X → List Y) (y : Y) (xs : List X) → Among y (gathered f 0 xs) →
+    (j : ℕ) × (x : X) × (slice_get xs j ≡ Some x) × Among y (f j x)
+among_gathered f y xs a =
+    let found = among_gathered_from f y 0 xs a in
+    let n_is : 0 + found.0 ≡ found.0 = omega arith in
+    (found.0, found.1, found.2, subst (λ n. Among y (f n found.1)) n_is found.3)
+
+gathered_among : {X Y : Type 0} (f : ℕ → X → List Y) (y : Y) (xs : List X) (j : ℕ) (x : X) → slice_get xs j ≡ Some x →
+    Among y (f j x) → Among y (gathered f 0 xs)
+gathered_among f y xs j x at a =
+    let n_is : j ≡ 0 + j = omega arith in
+    gathered_among_from f y 0 xs j x at (subst (λ n. Among y (f n x)) n_is a)
+
+-- ---- chips and ports by number
+
+-- the index of the chip of a number is that number
+pub index_of-chip_of : (m : Description) (i : ℕ) → 0 < m.height → index_of m (chip_of m i) ≡ i
+index_of-chip_of m i high = whole m.height i high
+  where
+    whole : (h n : ℕ) → 0 < h → (n / h) * h + n % h ≡ n
+    whole h n some = grind arith
+
+-- the number of the port of a number below 7 is that number
+pub port_number-port_of : (n : ℕ) → n < 7 → port_number (port_of n) ≡ n
+port_number-port_of zero low = refl
+port_number-port_of (suc zero) low = refl
+port_number-port_of (suc (suc zero)) low = refl
+port_number-port_of (suc (suc (suc zero))) low = refl
+port_number-port_of (suc (suc (suc (suc zero)))) low = refl
+port_number-port_of (suc (suc (suc (suc (suc zero))))) low = refl
+port_number-port_of (suc (suc (suc (suc (suc (suc zero)))))) low = refl
+port_number-port_of (suc (suc (suc (suc (suc (suc (suc n))))))) low = absurd (omega arith)
+
+-- a chip inside the grid has a row, so the grid has one
+pub some_rows : (m : Description) (c : Chip) → IsInside m c → 0 < m.height
+some_rows m c inside = let at = inside_parts m c inside in omega (arith, at.1)
+
+-- the place of the queues of a chip and port is one
+pub place_of_queue : (m : Description) (c : Chip) (port : Port) (i : ℕ) → IsInside m c → chip_of m (i / 7) ≡ c → port_of (i % 7) ≡ port →
+    i ≡ queue_at m c port
+place_of_queue m c port i inside is_chip is_port =
+    let index : index_of m c ≡ i / 7 = ap (index_of m) (sym is_chip) ∙ index_of-chip_of m (i / 7) (some_rows m c inside) in
+    let number : port_number port ≡ i % 7 = ap port_number (sym is_port) ∙ port_number-port_of (i % 7) (omega arith) in
+    omega (arith, index, number)
+
+-- ---- marks by their stations
+
+-- whether the lists have the copy at the station
+abbrev pub StandsAt : State → McCopy → Station → Type 0
+StandsAt s k (unsent v) = (q : List McCopy) × (slice_get s.unsent v ≡ Some q) × Among k q
+StandsAt s k (in_queue c port) =
+    (i : ℕ) × (q : List McCopy) × (slice_get s.inputs i ≡ Some q) × (chip_of s.machine (i / 7) ≡ c) × (port_of (i % 7) ≡ port) × Among k q
+StandsAt s k (in_hand c o) =
+    (i : ℕ) × (h : Held) × (slice_get s.hands i ≡ Some (Some h)) × (chip_of s.machine i ≡ c) × (h.copy ≡ k) × Among o h.outs
+StandsAt s k (at_core v) = (q : List McCopy) × (slice_get s.cores v ≡ Some q) × Among k q
+StandsAt s k (delivered v) = Among (record { vertex = v; copy = k }) s.delivered
+StandsAt s k (dumped c o) = Among (record { chip = c; out = o; copy = k }) s.dumped
+
+as_mark : (s : State) (k : Mark) (c : McCopy) (at : Station) → k ≡ mark c at → StandsAt s c at → StandsAt s k.copy k.station
+as_mark s k c at is stands = subst (λ (m : Mark). StandsAt s m.copy m.station) (sym is) stands
+
+-- a mark of the mesh stands in its lists
+pub mark_stands : (s : State) (k : Mark) → Among k (marks_of s) → StandsAt s k.copy k.station
+mark_stands s k a = first (among_either k (unsent_marks s) later1 a)
+  where
+    later5 : List Mark
+    later5 = delivered_marks s ++ dumped_marks s
+
+    later4 : List Mark
+    later4 = core_marks s ++ later5
+
+    later3 : List Mark
+    later3 = all_hand_marks s ++ later4
+
+    later1 : List Mark
+    later1 = input_marks s ++ later3
+
+    of_hand : (i : ℕ) (h : Option Held) → slice_get s.hands i ≡ Some h → Among k (hand_marks (chip_of s.machine i) h) → StandsAt s k.copy k.station
+    of_hand i (Some h) at b =
+        let m = among_map (λ o. mark h.copy (in_hand (chip_of s.machine i) o)) k h.outs b in
+        as_mark s k h.copy (in_hand (chip_of s.machine i) m.0) m.2 (i, h, at, refl, refl, m.1)
+    of_hand i None at b = absurd b
+
+    fifth : Among k (delivered_marks s) ⊎ Among k (dumped_marks s) → StandsAt s k.copy k.station
+    fifth (inl b) =
+        let m = among_map (λ (d : Delivery). mark d.copy (delivered d.vertex)) k s.delivered b in
+        as_mark s k m.0.copy (delivered m.0.vertex) m.2 m.1
+    fifth (inr b) =
+        let m = among_map (λ (r : DumpRec). mark r.copy (dumped r.chip r.out)) k s.dumped b in
+        as_mark s k m.0.copy (dumped m.0.chip m.0.out) m.2 m.1
+
+    fourth : Among k (core_marks s) ⊎ Among k later5 → StandsAt s k.copy k.station
+    fourth (inl b) =
+        let at = among_gathered (λ v (q : List McCopy). marked (at_core v) q) k s.cores b in
+        let m = among_map (λ (c : McCopy). mark c (at_core at.0)) k at.1 at.3 in
+        as_mark s k m.0 (at_core at.0) m.2 (at.1, at.2, m.1)
+    fourth (inr b) = fifth (among_either k (delivered_marks s) (dumped_marks s) b)
+
+    third : Among k (all_hand_marks s) ⊎ Among k later4 → StandsAt s k.copy k.station
+    third (inl b) =
+        let at = among_gathered (λ i (h : Option Held). hand_marks (chip_of s.machine i) h) k s.hands b in
+        of_hand at.0 at.1 at.2 at.3
+    third (inr b) = fourth (among_either k (core_marks s) later5 b)
+
+    second : Among k (input_marks s) ⊎ Among k later3 → StandsAt s k.copy k.station
+    second (inl b) =
+        let at = among_gathered (λ i (q : List McCopy). marked (in_queue (chip_of s.machine (i / 7)) (port_of (i % 7))) q) k s.inputs b in
+        let place : Station = in_queue (chip_of s.machine (at.0 / 7)) (port_of (at.0 % 7)) in
+        let m = among_map (λ (c : McCopy). mark c place) k at.1 at.3 in
+        as_mark s k m.0 place m.2 (at.0, at.1, at.2, refl, refl, m.1)
+    second (inr b) = third (among_either k (all_hand_marks s) later4 b)
+
+    first : Among k (unsent_marks s) ⊎ Among k later1 → StandsAt s k.copy k.station
+    first (inl b) =
+        let at = among_gathered (λ v (q : List McCopy). marked (unsent v) q) k s.unsent b in
+        let m = among_map (λ (c : McCopy). mark c (unsent at.0)) k at.1 at.3 in
+        as_mark s k m.0 (unsent at.0) m.2 (at.1, at.2, m.1)
+    first (inr b) = second (among_either k (input_marks s) later3 b)
+
+-- and what stands in the lists has a mark, here of the stations at which a copy is looked for
+
+pub queued_mark : (s : State) (c : Chip) (port : Port) → IsInside s.machine c → (k : McCopy) (q : List McCopy) →
+    slice_get s.inputs (queue_at s.machine c port) ≡ Some q → Among k q → Among (mark k (in_queue c port)) (marks_of s)
+queued_mark s c port inside k q at a =
+    let i : ℕ = queue_at s.machine c port in
+    let place : Station = in_queue (chip_of s.machine ((0 + i) / 7)) (port_of ((0 + i) % 7)) in
+    let is : place ≡ in_queue c port = station_of_queue s.machine c port inside in
+    let here : Among (mark k (in_queue c port)) (marked place q) =
+    subst (λ (p : Station). Among (mark k (in_queue c port)) (marked p q)) (sym is) (map_among (λ (d : McCopy). mark d (in_queue c port)) k q a)
+    in
+    let y : Mark = mark k (in_queue c port) in
+    among_right y (unsent_marks s) (input_marks s ++ (all_hand_marks s ++ (core_marks s ++ (delivered_marks s ++ dumped_marks s))))
+    (among_left y (input_marks s) (all_hand_marks s ++ (core_marks s ++ (delivered_marks s ++ dumped_marks s)))
+    (gathered_among_from (λ n (l : List McCopy). marked (in_queue (chip_of s.machine (n / 7)) (port_of (n % 7))) l) y 0 s.inputs i q at here))
+
+pub held_mark : (s : State) (c : Chip) (o : Out) → IsInside s.machine c → (h : Held) →
+    slice_get s.hands (index_of s.machine c) ≡ Some (Some h) → Among o h.outs → Among (mark h.copy (in_hand c o)) (marks_of s)
+held_mark s c o inside h at a =
+    let i : ℕ = index_of s.machine c in
+    let y : Mark = mark h.copy (in_hand c o) in
+    let here : Among y (hand_marks (chip_of s.machine i) (Some h)) =
+    subst (λ (d : Chip). Among y (hand_marks d (Some h))) (sym (chip_of-index_of s.machine c inside)) (map_among (λ p. mark h.copy (in_hand c p)) o h.outs a)
+    in
+    among_right y (unsent_marks s) (input_marks s ++ (all_hand_marks s ++ (core_marks s ++ (delivered_marks s ++ dumped_marks s))))
+    (among_right y (input_marks s) (all_hand_marks s ++ (core_marks s ++ (delivered_marks s ++ dumped_marks s)))
+    (among_left y (all_hand_marks s) (core_marks s ++ (delivered_marks s ++ dumped_marks s))
+    (gathered_among (λ n (l : Option Held). hand_marks (chip_of s.machine n) l) y s.hands i (Some h) at here)))
+
+pub core_mark : (s : State) (v : ℕ) (k : McCopy) (q : List McCopy) → slice_get s.cores v ≡ Some q → Among k q →
+    Among (mark k (at_core v)) (marks_of s)
+core_mark s v k q at a =
+    let y : Mark = mark k (at_core v) in
+    among_right y (unsent_marks s) (input_marks s ++ (all_hand_marks s ++ (core_marks s ++ (delivered_marks s ++ dumped_marks s))))
+    (among_right y (input_marks s) (all_hand_marks s ++ (core_marks s ++ (delivered_marks s ++ dumped_marks s)))
+    (among_right y (all_hand_marks s) (core_marks s ++ (delivered_marks s ++ dumped_marks s))
+    (among_left y (core_marks s) (delivered_marks s ++ dumped_marks s)
+    (gathered_among (λ n (l : List McCopy). marked (at_core n) l) y s.cores v q at (map_among (λ (c : McCopy). mark c (at_core v)) k q a)))))
+
+pub delivered_mark : (s : State) (d : Delivery) → Among d s.delivered → Among (mark d.copy (delivered d.vertex)) (marks_of s)
+delivered_mark s d a =
+    let y : Mark = mark d.copy (delivered d.vertex) in
+    among_right y (unsent_marks s) (input_marks s ++ (all_hand_marks s ++ (core_marks s ++ (delivered_marks s ++ dumped_marks s))))
+    (among_right y (input_marks s) (all_hand_marks s ++ (core_marks s ++ (delivered_marks s ++ dumped_marks s)))
+    (among_right y (all_hand_marks s) (core_marks s ++ (delivered_marks s ++ dumped_marks s))
+    (among_right y (core_marks s) (delivered_marks s ++ dumped_marks s)
+    (among_left y (delivered_marks s) (dumped_marks s) (map_among (λ (e : Delivery). mark e.copy (delivered e.vertex)) d s.delivered a)))))
+
+pub dumped_mark : (s : State) (r : DumpRec) → Among r s.dumped → Among (mark r.copy (dumped r.chip r.out)) (marks_of s)
+dumped_mark s r a =
+    let y : Mark = mark r.copy (dumped r.chip r.out) in
+    among_right y (unsent_marks s) (input_marks s ++ (all_hand_marks s ++ (core_marks s ++ (delivered_marks s ++ dumped_marks s))))
+    (among_right y (input_marks s) (all_hand_marks s ++ (core_marks s ++ (delivered_marks s ++ dumped_marks s)))
+    (among_right y (all_hand_marks s) (core_marks s ++ (delivered_marks s ++ dumped_marks s))
+    (among_right y (core_marks s) (delivered_marks s ++ dumped_marks s)
+    (among_right y (delivered_marks s) (dumped_marks s) (map_among (λ (e : DumpRec). mark e.copy (dumped e.chip e.out)) r s.dumped a)))))
