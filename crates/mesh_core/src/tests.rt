@@ -1,5 +1,5 @@
 // Worked examples of the step: what each event answers, and what is where after it.
-ghost use Rattle.std.specs.Prelude.{◌≡◌, ◌≤◌, [], ◌∷◌, IfOk, length};
+ghost use Rattle.std.specs.Prelude.{◌≡◌, ◌<◌, ◌≤◌, [], ◌∷◌, IfOk, length};
 
 use crate::*;
 use machine_desc::Machine;
@@ -101,11 +101,60 @@ fn copy(packet: u32, hop: u32) -> McCopy
     }
 }
 
-fn did(mesh: &mut Mesh, e: Event) -> Result<Did, &'static str>
+/// Whether each of the events moves something.
+fn all_move(mesh: &mut Mesh, events: &[Event]) -> Result<bool, &'static str>
     ensures machine { mesh.new.machine ≡ mesh.old.machine }
     ensures vertices { mesh.new.spots ≡ mesh.old.spots }
 {
-    mesh.step(e).map_err(|_| "memory")
+    for e in events {
+        if mesh.step(*e).map_err(|_| "memory")? == Did::Idle {
+            return Ok(false);
+        }
+    }
+    Ok(true)
+}
+
+/// The first copy at a port of a chip of the row.
+#[tactic(auto, using(machine_desc::proofs::Far::inside_from))]
+fn waiting(mesh: &Mesh, x: u8, port: Port) -> Option<McCopy>
+    requires in_row { x < mesh.now.machine.width }
+    requires row { mesh.now.machine.height ≡ 1 }
+{
+    mesh.queue(Chip { x, y: 0 }, port).first().copied()
+}
+
+/// The outputs that a chip of the row still has to serve.
+#[tactic(auto, using(machine_desc::proofs::Far::inside_from))]
+fn to_serve(mesh: &Mesh, x: u8) -> &[Out]
+    requires in_row { x < mesh.now.machine.width }
+    requires row { mesh.now.machine.height ≡ 1 }
+{
+    match mesh.hand(Chip { x, y: 0 }) {
+        Some(hand) => hand.outs.as_slice(),
+        None => &[],
+    }
+}
+
+fn send(x: u8, out: Out) -> Event {
+    Event::Send(Chip { x, y: 0 }, out)
+}
+
+fn take(x: u8, port: Port) -> Event {
+    Event::Take(Chip { x, y: 0 }, port)
+}
+
+#[test]
+fn a_copy_goes_through_its_chip(rt: HostRuntime) -> Result<(), Fail> {
+    let mut mesh = one_chip(&rt)?;
+    mesh.add(0, copy(0, 0)).map_err(|_| "memory")?;
+    assert_eq!(rt; mesh.unsent(0), [copy(0, 0)].as_slice());
+    assert!(rt; all_move(&mut mesh, &[Event::Inject(0)])?);
+    assert_eq!(rt; waiting(&mesh, 0, Port::Local), Some(copy(0, 0)));
+    assert!(rt; all_move(&mut mesh, &[take(0, Port::Local)])?);
+    assert_eq!(rt; to_serve(&mesh, 0), [Out::Core(2)].as_slice());
+    assert!(rt; all_move(&mut mesh, &[send(0, Out::Core(2))])?);
+    assert_eq!(rt; mesh.core_queue(1), [copy(0, 1)].as_slice());
+    Ok(())
 }
 
 #[test]
@@ -113,31 +162,30 @@ fn a_full_queue_lets_a_copy_be_dumped(rt: HostRuntime) -> Result<(), Fail> {
     let mut mesh = one_chip(&rt)?;
     mesh.add(0, copy(0, 0)).map_err(|_| "memory")?;
     mesh.add(0, copy(1, 0)).map_err(|_| "memory")?;
-    assert_eq!(rt; did(&mut mesh, Event::Inject(0))?, Did::Moved);
-    assert_eq!(rt; mesh.unsent(0), [copy(1, 0)].as_slice());
-    assert_eq!(rt; mesh.queue(ORIGIN, Port::Local), [copy(0, 0)].as_slice());
-    assert_eq!(rt; did(&mut mesh, Event::Take(ORIGIN, Port::Local))?, Did::Moved);
-    assert_eq!(rt; mesh.queue(ORIGIN, Port::Local).len(), 0);
-    let hand = mesh.hand(ORIGIN).ok_or("a hand")?;
-    assert_eq!(rt; hand.copy, copy(0, 0));
-    assert_eq!(rt; hand.port, Port::Local);
-    assert_eq!(rt; hand.outs.as_slice(), [Out::Core(2)].as_slice());
-    assert_eq!(rt; did(&mut mesh, Event::Send(ORIGIN, Out::Core(2)))?, Did::Moved);
-    assert!(rt; mesh.hand(ORIGIN).is_none());
-    assert_eq!(rt; mesh.core_queue(1), [copy(0, 1)].as_slice());
-    assert_eq!(rt; did(&mut mesh, Event::Inject(0))?, Did::Moved);
-    assert_eq!(rt; did(&mut mesh, Event::Take(ORIGIN, Port::Local))?, Did::Moved);
-    assert_eq!(rt; did(&mut mesh, Event::Send(ORIGIN, Out::Core(2)))?, Did::Idle);
-    assert_eq!(rt; did(&mut mesh, Event::Dump(ORIGIN, Out::Core(2)))?, Did::Moved);
+    let local = take(0, Port::Local);
+    let to_core = send(0, Out::Core(2));
+    let dump = Event::Dump(ORIGIN, Out::Core(2));
+    assert!(rt;
+        all_move(
+            &mut mesh,
+            &[
+                Event::Inject(0),
+                local,
+                to_core,
+                Event::Inject(0),
+                local
+            ]
+        )?
+    );
+    assert!(rt; !all_move(&mut mesh, &[to_core])?);
+    assert!(rt; all_move(&mut mesh, &[dump])?);
     let record = DumpRec {
         chip: ORIGIN,
         out: Out::Core(2),
         copy: copy(1, 0),
     };
     assert_eq!(rt; mesh.dumped(), [record].as_slice());
-    assert!(rt; mesh.hand(ORIGIN).is_none());
     assert_eq!(rt; mesh.core_queue(1), [copy(0, 1)].as_slice());
-    assert_eq!(rt; mesh.delivered().len(), 0);
     Ok(())
 }
 
@@ -145,12 +193,9 @@ fn a_full_queue_lets_a_copy_be_dumped(rt: HostRuntime) -> Result<(), Fail> {
 fn no_copy_is_dumped_where_there_is_room(rt: HostRuntime) -> Result<(), Fail> {
     let mut mesh = one_chip(&rt)?;
     mesh.add(0, copy(0, 0)).map_err(|_| "memory")?;
-    assert_eq!(rt; did(&mut mesh, Event::Inject(0))?, Did::Moved);
-    assert_eq!(rt; did(&mut mesh, Event::Take(ORIGIN, Port::Local))?, Did::Moved);
-    assert_eq!(rt; did(&mut mesh, Event::Dump(ORIGIN, Out::Core(2)))?, Did::Idle);
-    let hand = mesh.hand(ORIGIN).ok_or("a hand")?;
-    assert_eq!(rt; hand.outs.as_slice(), [Out::Core(2)].as_slice());
-    assert_eq!(rt; mesh.dumped().len(), 0);
+    assert!(rt; all_move(&mut mesh, &[Event::Inject(0), take(0, Port::Local)])?);
+    assert!(rt; !all_move(&mut mesh, &[Event::Dump(ORIGIN, Out::Core(2))])?);
+    assert_eq!(rt; to_serve(&mesh, 0), [Out::Core(2)].as_slice());
     Ok(())
 }
 
@@ -158,23 +203,31 @@ fn no_copy_is_dumped_where_there_is_room(rt: HostRuntime) -> Result<(), Fail> {
 fn an_event_that_is_not_enabled_changes_nothing(rt: HostRuntime) -> Result<(), Fail> {
     let mut mesh = one_chip(&rt)?;
     mesh.add(0, copy(0, 0)).map_err(|_| "memory")?;
-    let outside = Chip { x: 9, y: 9 };
-    assert_eq!(rt; did(&mut mesh, Event::Collect(1))?, Did::Idle);
-    assert_eq!(rt; did(&mut mesh, Event::Take(outside, Port::Local))?, Did::Idle);
-    assert_eq!(rt; did(&mut mesh, Event::Inject(1))?, Did::Idle);
-    assert_eq!(rt; did(&mut mesh, Event::Inject(2))?, Did::Idle);
+    assert!(rt; !all_move(&mut mesh, &[Event::Collect(1)])?);
+    assert!(rt;
+        !all_move(
+            &mut mesh,
+            &[Event::Take(Chip { x: 9, y: 9 }, Port::Local)]
+        )?
+    );
+    assert!(rt; !all_move(&mut mesh, &[Event::Inject(1)])?);
+    assert!(rt; !all_move(&mut mesh, &[Event::Inject(2)])?);
     assert_eq!(rt; mesh.unsent(0), [copy(0, 0)].as_slice());
     Ok(())
 }
 
-#[test]
-fn a_copy_goes_straight_on_and_comes_in_at_the_opposite_port(rt: HostRuntime) -> Result<(), Fail> {
-    let machine = row_of_chips(&rt, 4)?;
+/// Four chips in a row: a vertex on the first, which sends key 0 to the one on the last.
+fn four_chips(rt: &HostRuntime) -> Result<Mesh, &'static str>
+    ensures width { IfOk result (λ m. m.machine.width ≡ 4) }
+    ensures height { IfOk result (λ m. m.machine.height ≡ 1) }
+    ensures vertices { IfOk result (λ m. length m.spots ≡ 2) }
+{
+    let machine = row_of_chips(rt, 4)?;
     let mut tables = Seq::new(rt.alloc());
-    tables.push(row(0x00_0001)).map_err(|_| "memory")?;
-    tables.push(Tcam::empty()).map_err(|_| "memory")?;
-    tables.push(Tcam::empty()).map_err(|_| "memory")?;
-    tables.push(row(0x00_0080)).map_err(|_| "memory")?;
+    for bits in [0x00_0001, 0, 0, 0x00_0080] {
+        let table = if bits == 0 { Tcam::empty() } else { row(bits) };
+        tables.push(table).map_err(|_| "memory")?;
+    }
     let a = Spot {
         chip: ORIGIN,
         core: 1,
@@ -183,31 +236,43 @@ fn a_copy_goes_straight_on_and_comes_in_at_the_opposite_port(rt: HostRuntime) ->
         chip: Chip { x: 3, y: 0 },
         core: 1,
     };
-    let mut mesh = mesh_of(&rt, machine, a, b, tables)?;
+    mesh_of(rt, machine, a, b, tables)
+}
+
+#[test]
+fn a_copy_comes_in_at_the_opposite_port_and_goes_straight_on(rt: HostRuntime) -> Result<(), Fail> {
+    let mut mesh = four_chips(&rt)?;
     mesh.add(0, copy(0, 0)).map_err(|_| "memory")?;
-    assert_eq!(rt; did(&mut mesh, Event::Inject(0))?, Did::Moved);
-    assert_eq!(rt; did(&mut mesh, Event::Take(ORIGIN, Port::Local))?, Did::Moved);
-    assert_eq!(rt;
-        mesh.hand(ORIGIN).ok_or("a hand")?.outs.as_slice(),
-        [Out::Link(Dir::East)].as_slice()
-    );
-    let second = Chip { x: 1, y: 0 };
+    let east = Out::Link(Dir::East);
     let west = Port::Link(Dir::West);
-    assert_eq!(rt; did(&mut mesh, Event::Send(ORIGIN, Out::Link(Dir::East)))?, Did::Moved);
-    assert_eq!(rt; mesh.queue(second, west), [copy(0, 1)].as_slice());
-    assert_eq!(rt; did(&mut mesh, Event::Take(second, west))?, Did::Moved);
-    assert_eq!(rt;
-        mesh.hand(second).ok_or("a hand")?.outs.as_slice(),
-        [Out::Link(Dir::East)].as_slice()
-    );
-    let last = Chip { x: 3, y: 0 };
-    let third = Chip { x: 2, y: 0 };
-    assert_eq!(rt; did(&mut mesh, Event::Send(second, Out::Link(Dir::East)))?, Did::Moved);
-    assert_eq!(rt; did(&mut mesh, Event::Take(third, west))?, Did::Moved);
-    assert_eq!(rt; did(&mut mesh, Event::Send(third, Out::Link(Dir::East)))?, Did::Moved);
-    assert_eq!(rt; did(&mut mesh, Event::Take(last, west))?, Did::Moved);
-    assert_eq!(rt; did(&mut mesh, Event::Send(last, Out::Core(1)))?, Did::Moved);
-    assert_eq!(rt; did(&mut mesh, Event::Collect(1))?, Did::Moved);
+    assert!(rt; all_move(&mut mesh, &[Event::Inject(0), take(0, Port::Local)])?);
+    assert_eq!(rt; to_serve(&mesh, 0), [east].as_slice());
+    assert!(rt; all_move(&mut mesh, &[send(0, east)])?);
+    assert_eq!(rt; waiting(&mesh, 1, west), Some(copy(0, 1)));
+    assert!(rt; all_move(&mut mesh, &[take(1, west)])?);
+    assert_eq!(rt; to_serve(&mesh, 1), [east].as_slice());
+    Ok(())
+}
+
+#[test]
+fn a_copy_is_delivered_at_the_end_of_its_way(rt: HostRuntime) -> Result<(), Fail> {
+    let mut mesh = four_chips(&rt)?;
+    mesh.add(0, copy(0, 0)).map_err(|_| "memory")?;
+    let east = Out::Link(Dir::East);
+    let west = Port::Link(Dir::West);
+    let way = [
+        Event::Inject(0),
+        take(0, Port::Local),
+        send(0, east),
+        take(1, west),
+        send(1, east),
+        take(2, west),
+        send(2, east),
+        take(3, west),
+        send(3, Out::Core(1)),
+        Event::Collect(1),
+    ];
+    assert!(rt; all_move(&mut mesh, &way)?);
     let delivery = Delivery {
         vertex: 1,
         copy: copy(0, 4),
