@@ -1,10 +1,10 @@
 -- What every mesh has stays when one list changes, and when a mesh is made.
-use Rattle.std.proofs.Common.{◌≡◌, ◌≢◌, ℕ, ◌+◌, ◌*◌, ◌<◌, ◌≤◌, refl, sym, ap, ◌∙◌, subst, arith, Bool, true, false, List, [], ◌∷◌, ◌++◌, length, get_or, set, replicate, Option, Some, None, inl, inr, ◌⊎◌, lit<}
+use Rattle.std.proofs.Common.{◌≡◌, ◌≢◌, ℕ, ◌*◌, ◌<◌, ◌≤◌, sym, ap, ◌∙◌, subst, arith, false, List, [], length, set, replicate, Option, Some, None, inl, inr, lit<}
 use Rattle.std.specs.Prelude.{AllPairs, IfSome}
 use Rattle.std.specs.List.{All, slice_get}
 use Rattle.std.proofs.lemmas.List.{length-set, length-replicate, get_or-replicate}
 use Rattle.std.proofs.lemmas.List.Elements.{All-set, All-replicate}
-use Rattle.std.proofs.lemmas.Option.{slice_get-get_or, slice_get_within}
+use Rattle.std.proofs.lemmas.Option.{slice_get-get_or}
 use Rattle.std.proofs.lemmas.Bool.{cases_eq}
 use Rattle.spin_base.specs.declared.chips.Chip.{Chip}
 use Rattle.spin_base.specs.declared.chips.Spot.{Spot}
@@ -18,7 +18,7 @@ use Rattle.spin_base.specs.declared.copies.DumpRec.{DumpRec}
 use Rattle.spin_base.specs.Links.{port_number}
 use Rattle.spin_base.proofs.Outputs.{dir_number_below}
 use Rattle.machine_desc.specs.Description.{Description, HasSize}
-use Rattle.machine_desc.specs.Live.{index_of, is_live_chip, is_live_link, IsInside, IsUsable}
+use Rattle.machine_desc.specs.Live.{is_live_chip, is_live_link, IsInside, IsUsable}
 use Rattle.machine_desc.proofs.Far.{index_below}
 use Rattle.mesh_core.specs.State.{State, Held, IsMesh, queue_at}
 use Rattle.mesh_core.specs.Opened.{empty_mesh}
@@ -135,8 +135,8 @@ IsMesh-dumped s d h = record {
 -- an input queue is empty where no copy may wait
 still_empty : (inputs : List (List McCopy)) (i j : ℕ) (q : List McCopy) → (j ≡ i → q ≡ []) → slice_get inputs j ≡ Some [] → slice_get (set inputs i q) j ≡ Some []
 still_empty inputs i j q empty before = elim (cases_eq j i) [
-    | inl same ↦ ap (λ n. slice_get (set inputs i q) n) same ∙ (slice_get-set_same inputs i [] q (ap (λ n. slice_get inputs n) (sym same) ∙ before) ∙ ap Some (empty same))
-    | inr other ↦ slice_get-set_other inputs i j q other ∙ before
+  | inl same ↦ ap (λ n. slice_get (set inputs i q) n) same ∙ (slice_get-set_same inputs i [] q (ap (λ n. slice_get inputs n) (sym same) ∙ before) ∙ ap Some (empty same))
+  | inr other ↦ slice_get-set_other inputs i j q other ∙ before
 ]
 
 -- an input queue that isn't too long, and is empty where no copy may wait
@@ -194,16 +194,16 @@ pub IsMesh-made : (m : Description) (spots : List Spot) (tables : List (List Ent
     IsMesh (record { machine = m; spots = spots; unsent = unsent; inputs = inputs; hands = hands; cores = cores; delivered = []; dumped = []; tables = tables; capacity = capacity })
 IsMesh-made m spots tables capacity unsent inputs cores hands size different usable room long is_unsent is_inputs is_hands is_cores =
     let from : List (List McCopy) → List (List McCopy) → List (Option Held) → List (List McCopy) → State =
-        λ u i h c. record { machine = m; spots = spots; unsent = u; inputs = i; hands = h; cores = c; delivered = []; dumped = []; tables = tables; capacity = capacity }
+    λ u i h c. record { machine = m; spots = spots; unsent = u; inputs = i; hands = h; cores = c; delivered = []; dumped = []; tables = tables; capacity = capacity }
     in
     let one : from unsent inputs hands cores ≡ from (replicate (length spots) []) inputs hands cores = ap (λ u. from u inputs hands cores) is_unsent in
     let two : from (replicate (length spots) []) inputs hands cores ≡ from (replicate (length spots) []) (replicate (7 * (m.width * m.height)) []) hands cores =
-        ap (λ i. from (replicate (length spots) []) i hands cores) is_inputs
+    ap (λ i. from (replicate (length spots) []) i hands cores) is_inputs
     in
     let three : from (replicate (length spots) []) (replicate (7 * (m.width * m.height)) []) hands cores ≡ from (replicate (length spots) []) (replicate (7 * (m.width * m.height)) []) (replicate (m.width * m.height) None) cores =
-        ap (λ h. from (replicate (length spots) []) (replicate (7 * (m.width * m.height)) []) h cores) is_hands
+    ap (λ h. from (replicate (length spots) []) (replicate (7 * (m.width * m.height)) []) h cores) is_hands
     in
     let four : from (replicate (length spots) []) (replicate (7 * (m.width * m.height)) []) (replicate (m.width * m.height) None) cores ≡ empty_mesh m spots tables capacity =
-        ap (λ c. from (replicate (length spots) []) (replicate (7 * (m.width * m.height)) []) (replicate (m.width * m.height) None) c) is_cores
+    ap (λ c. from (replicate (length spots) []) (replicate (7 * (m.width * m.height)) []) (replicate (m.width * m.height) None) c) is_cores
     in
     subst IsMesh (sym (one ∙ (two ∙ (three ∙ four)))) (IsMesh-empty m spots tables capacity size different usable room long)

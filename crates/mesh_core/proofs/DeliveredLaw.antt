@@ -1,5 +1,5 @@
 -- A mesh at rest that meets the ledger of a job, without a dump, has delivered what the job asks for.
-use Rattle.std.proofs.Common.{◌≡◌, ℕ, ◌+◌, ◌/◌, ◌%◌, ◌<◌, ◌≤◌, suc, zero, List, [], ◌∷◌, ◌++◌, map, Bool, true, false, ◌==◌, ◌&&◌, IsTrue, Option, Some, None, refl, ap, sym, ◌∙◌, subst, arith, append-nil, inl, inr, ◌⊎◌, length, count_by, if◌then◌else◌}
+use Rattle.std.proofs.Common.{◌≡◌, ℕ, ◌+◌, ◌/◌, ◌%◌, ◌<◌, suc, zero, List, [], ◌∷◌, ◌++◌, map, Bool, true, ◌==◌, ◌&&◌, Option, Some, None, refl, ap, sym, ◌∙◌, subst, arith, append-nil, inl, inr, length, count_by, if◌then◌else◌}
 use Rattle.std.specs.List.{slice_get, slice_index_or, All, Contains}
 use Rattle.std.proofs.lemmas.List.Elements.{All-contains, All-head, All-tail}
 use Rattle.std.proofs.lemmas.Option.{slice_get-get_or, get_or_from_slice_get, slice_get_within}
@@ -16,10 +16,10 @@ use Rattle.machine_desc.proofs.Live.{count_by-map}
 use Rattle.machine_desc.proofs.Branches.{same_place, exit_leads, ExitLeads}
 use Rattle.net_tables.specs.declared.nets.NetPlan.{NetPlan}
 use Rattle.net_tables.specs.RightTables.{IsKeyOf}
-use Rattle.mesh_core.specs.State.{State, vertex_at}
-use Rattle.mesh_core.specs.Trail.{Mark, unsent, in_queue, at_core, delivered, is_on_trail, is_packet_on_trail}
-use Rattle.mesh_core.specs.Ledger.{marks_of, marked, hand_marks, port_of, gathered, unsent_marks, input_marks, all_hand_marks, core_marks, delivered_marks, Label, IsWayOf}
-use Rattle.mesh_core.specs.Opened.{label_in, label_of, label_at, label_by, first_copy, AreOfNets, MeetsJobLedger}
+use Rattle.mesh_core.specs.State.{State}
+use Rattle.mesh_core.specs.Trail.{Mark, unsent, in_queue, at_core, delivered, is_packet_on_trail}
+use Rattle.mesh_core.specs.Ledger.{marks_of, marked, hand_marks, port_of, gathered, delivered_marks, Label, IsWayOf}
+use Rattle.mesh_core.specs.Opened.{label_in, label_of, label_at, label_by, AreOfNets, MeetsJobLedger}
 use Rattle.mesh_core.specs.Expected.{IsAskedFor, AreAsExpected, IsAtRest}
 use Rattle.mesh_core.proofs.Exchange.{Among, among_contains, contains_among, count_by-cons}
 use Rattle.mesh_core.proofs.Moves.{mark}
@@ -133,8 +133,8 @@ module _ (s : State) (nets : List NetPlan) (packets : List Packet) (job : MeetsJ
         is_packet = p.is_packet;
         is_net = p.is_net;
         is_way =
-          subst (λ (n : NetPlan). IsWayOf s n on.3.0 branch on.3.2 d.vertex) one
-          (subst (λ v. IsWayOf s net on.3.0 branch on.3.2 v) (sym vertex) on.3.4);
+            subst (λ (n : NetPlan). IsWayOf s n on.3.0 branch on.3.2 d.vertex) one
+            (subst (λ v. IsWayOf s net on.3.0 branch on.3.2 v) (sym vertex) on.3.4);
         is_copy = copies_alike d.copy d.copy.packet (p.net.block.key + p.packet.index) (length branch) p.packet.payload refl p.key_is p.payload_is hop;
       }
 
@@ -143,7 +143,7 @@ module _ (s : State) (nets : List NetPlan) (packets : List Packet) (job : MeetsJ
       IsWayOf s net t xs from to → IsWayOf s net u ys from' to → length xs ≡ length ys
   same_length net has t u xs ys from from' to w w' =
       let tree : IsRoutingTree s.machine net.tree.root net.tree.edges net.targets =
-        All-contains (λ n. IsRoutingTree s.machine n.tree.root n.tree.edges n.targets) nets net job.ledger.nets_stand.trees has
+      All-contains (λ n. IsRoutingTree s.machine n.tree.root n.tree.edges n.targets) nets net job.ledger.nets_stand.trees has
       in
       let on_t = vertex_at_stands s.spots t to w.ends in
       let on_u = vertex_at_stands s.spots u to w'.ends in
@@ -152,7 +152,7 @@ module _ (s : State) (nets : List NetPlan) (packets : List Packet) (job : MeetsJ
       let x = last_exit t xs w.is_branch in
       let y = last_exit u ys w'.is_branch in
       let place = same_place s.machine net.tree.root net.tree.edges (map (λ z. z.chip) net.targets) tree t u xs ys w.is_branch w'.is_branch
-          x.0 y.0 x.1 y.1 x.2 y.2 (x.4 ∙ (ap (λ (z : Spot). z.chip) same ∙ sym y.4))
+      x.0 y.0 x.1 y.1 x.2 y.2 (x.4 ∙ (ap (λ (z : Spot). z.chip) same ∙ sym y.4))
       in
       sym x.3 ∙ (ap suc place.0 ∙ y.3)
     where
@@ -171,9 +171,14 @@ module _ (s : State) (nets : List NetPlan) (packets : List Packet) (job : MeetsJ
       last_exit v [] is = absurd is
       last_exit v (z ∷ zs) is =
           let i : ℕ = length zs in
-          let there = at_place (z ∷ zs) i (omega arith) in
-          (i, there.0, there.1, refl, at_end v (z ∷ zs) is i there.0 there.1 refl there.0.out
-            (exit_leads s.machine net.tree.edges v net.tree.root (z ∷ zs) i there.0 is there.1))
+          let there = at_place (z ∷ zs) i (omega arith) in (
+            i,
+            there.0,
+            there.1,
+            refl,
+            at_end v (z ∷ zs) is i there.0 there.1 refl there.0.out
+                (exit_leads s.machine net.tree.edges v net.tree.root (z ∷ zs) i there.0 is there.1),
+          )
 
   each_once : (i : ℕ) (p : Packet) (net : NetPlan) → slice_get packets i ≡ Some p → slice_get nets p.net ≡ Some net →
       (target : Spot) (branch : List Exit) (from to : ℕ) → IsWayOf s net target branch from to →
@@ -203,7 +208,7 @@ module _ (s : State) (nets : List NetPlan) (packets : List Packet) (job : MeetsJ
       its_key : (k : Mark) → Contains (marks_of s) k → k.copy.packet ≡ i → IsKeyOf net.block k.copy.key
       its_key k has number =
           let key : k.copy.key ≡ net.block.key + p.index =
-            (job.ledger.labelled k has).0 ∙ (ap (λ n. (label_of nets packets n).key) number ∙ ap (λ (l : Label). l.key) label)
+          (job.ledger.labelled k has).0 ∙ (ap (λ n. (label_of nets packets n).key) number ∙ ap (λ (l : Label). l.key) label)
           in
           subst (λ n. IsKeyOf net.block n) (sym key) net_key
 
@@ -223,13 +228,13 @@ module _ (s : State) (nets : List NetPlan) (packets : List Packet) (job : MeetsJ
               let has = has_mark d (among_contains d s.delivered a) in
               let on = job.ledger.on_a_trail (mark_of d) has in
               let same_net : on.0 ≡ net =
-                one_net nets job.ledger.nets_stand.disjoint on.0 net on.1 in_nets d.copy.key on.2 (its_key (mark_of d) has number)
+              one_net nets job.ledger.nets_stand.disjoint on.0 net on.1 in_nets d.copy.key on.2 (its_key (mark_of d) has number)
               in
               let end : d.vertex ≡ on.3.3 = nat_true d.vertex on.3.3 (and_true_left (d.vertex == on.3.3) (d.copy.hop == length on.3.1) on.3.5) in
               let hop : d.copy.hop ≡ length on.3.1 = nat_true d.copy.hop (length on.3.1) (and_true_right (d.vertex == on.3.3) (d.copy.hop == length on.3.1) on.3.5) in
               let way : IsWayOf s net on.3.0 on.3.1 on.3.2 to =
-                subst (λ (n : NetPlan). IsWayOf s n on.3.0 on.3.1 on.3.2 to) same_net
-                (subst (λ v. IsWayOf s on.0 on.3.0 on.3.1 on.3.2 v) (sym end ∙ vertex) on.3.4)
+              subst (λ (n : NetPlan). IsWayOf s n on.3.0 on.3.1 on.3.2 to) same_net
+              (subst (λ v. IsWayOf s on.0 on.3.0 on.3.1 on.3.2 v) (sym end ∙ vertex) on.3.4)
               in
               let long = same_length net in_nets on.3.0 target on.3.1 branch on.3.2 from to way w in
               both_true (d.copy.packet == i) ((d.vertex == to) && (d.copy.hop == length branch))

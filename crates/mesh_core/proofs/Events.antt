@@ -1,6 +1,6 @@
 -- Each event that is enabled is one move of marks.
-use Rattle.std.proofs.Common.{◌≡◌, ℕ, ◌+◌, ◌<◌, ◌≤◌, List, [], ◌∷◌, ◌++◌, map, Bool, true, false, ◌&&◌, not, IsTrue, if◌then◌else◌, Option, Some, None, refl, ap, sym, ◌∙◌, subst, arith, inl, inr, ◌⊎◌, length, nat_lt, ◌||◌, append-nil}
-use Rattle.std.specs.List.{slice_get, slice_set, slice_index_or, list_any, All}
+use Rattle.std.proofs.Common.{◌≡◌, ℕ, List, [], ◌∷◌, ◌++◌, map, Bool, true, false, ◌&&◌, not, if◌then◌else◌, Option, Some, None, refl, ap, sym, ◌∙◌, subst, inl, inr, ◌||◌, append-nil}
+use Rattle.std.specs.List.{slice_get, slice_set, slice_index_or, list_any}
 use Rattle.std.proofs.lemmas.Option.{slice_get_within, get_or_from_slice_get}
 use Rattle.spin_base.specs.declared.chips.Chip.{Chip}
 use Rattle.spin_base.specs.declared.chips.Dir.{Dir}
@@ -15,12 +15,11 @@ use Rattle.spin_base.specs.declared.copies.Event.TheVariants.{Inject, Take, Send
 use Rattle.spin_base.specs.Links.{opposite_of}
 use Rattle.spin_base.specs.Equality.{out_eq}
 use Rattle.spin_base.proofs.Equality.{out_eq_true}
-use Rattle.machine_desc.specs.Description.{Description}
-use Rattle.machine_desc.specs.Live.{far_of, index_of, is_live_chip, is_live_link, IsInside, IsLiveChip, IsLiveLink, IsUsable}
-use Rattle.machine_desc.proofs.Far.{live_inside, live_ends, far_inside}
+use Rattle.machine_desc.specs.Live.{far_of, index_of, is_live_chip, is_live_link, IsInside, IsUsable}
+use Rattle.machine_desc.proofs.Far.{live_inside, far_inside}
 use Rattle.mesh_core.specs.State.{State, Held, IsMesh, Behind, input, core, nowhere, behind, across, core_of, queue_at, vertex_at}
 use Rattle.mesh_core.specs.Step.{stepped, injected, taken, sent, dumped_at, collected, has_room, has_room_behind, arrived, appended, in_hand as held_for, without, serves, served, outputs, onward}
-use Rattle.mesh_core.specs.Trail.{Station, unsent, in_queue, in_hand, at_core, delivered, dumped, Mark}
+use Rattle.mesh_core.specs.Trail.{unsent, in_queue, in_hand, at_core, delivered, dumped, Mark}
 use Rattle.mesh_core.specs.Ledger.{marks_of, hand_marks}
 use Rattle.mesh_core.proofs.Exchange.{TakenOut, PutIn, taken_out_after}
 use Rattle.mesh_core.proofs.Moves.{mark, Crosses, Exchange, unsent_out, input_out, input_in, hand_out, hand_in, core_out, core_in, delivered_in, dumped_in, hand_marks-held}
@@ -131,7 +130,8 @@ take_by_life : (s : State) (c : Chip) (port : Port) (k : McCopy) (rest : List Mc
     (live : Bool) → is_live_chip s.machine c ≡ live → (t : State) →
     (if live then Some (record s {
       inputs = slice_set s.inputs (queue_at s.machine c port) rest;
-      hands = slice_set s.hands (index_of s.machine c) (held_for k port (outputs s c port k)) }) else None) ≡ Some t →
+      hands = slice_set s.hands (index_of s.machine c) (held_for k port (outputs s c port k));
+    }) else None) ≡ Some t →
     Exchange s t
 take_by_life s c port k rest is_free is_queue false dead t e = cc
 take_by_life s c port k rest is_free is_queue true live t e =
@@ -204,10 +204,11 @@ arrives_by_link : (s : State) (c : Chip) (d : Dir) (k : McCopy) → IsInside s.m
 arrives_by_link s c d k inside false dead far is_far room = cc
 arrives_by_link s c d k inside true live None is_far room = cc
 arrives_by_link s c d k inside true live (Some e) is_far room =
-    let port : Port = ByLink (opposite_of d) in
-    (mark (onward k) (in_queue e port) ∷ [],
-     arrives_at_input s e port (far_inside s.machine c e d inside is_far) (onward k) room,
-     (e, live, is_far, refl))
+    let port : Port = ByLink (opposite_of d) in (
+      mark (onward k) (in_queue e port) ∷ [],
+      arrives_at_input s e port (far_inside s.machine c e d inside is_far) (onward k) room,
+      (e, live, is_far, refl),
+    )
 
 -- a copy arrives at a core's vertex
 arrives_by_core : (s : State) (c : Chip) (p : ℕ) (k : McCopy) →
@@ -229,9 +230,10 @@ arrives s c (Core p) k inside room =
 -- what it takes to serve an output
 serves_parts : (s : State) (c : Chip) (o : Out) (h : Held) → serves s c o (Some (Some h)) ≡ true →
     IsInside s.machine c × (list_any (out_eq o) h.outs ≡ true)
-serves_parts s c o h serving =
-    (live_inside s.machine c (and_true_left (is_live_chip s.machine c) (list_any (out_eq o) h.outs) serving),
-     and_true_right (is_live_chip s.machine c) (list_any (out_eq o) h.outs) serving)
+serves_parts s c o h serving = (
+  live_inside s.machine c (and_true_left (is_live_chip s.machine c) (list_any (out_eq o) h.outs) serving),
+  and_true_right (is_live_chip s.machine c) (list_any (out_eq o) h.outs) serving,
+)
 
 send_by : (s : State) (c : Chip) (o : Out) (h : Held) → slice_get s.hands (index_of s.machine c) ≡ Some (Some h) →
     (serving room : Bool) → serves s c o (Some (Some h)) ≡ serving → has_room_behind s (behind s.machine s.spots c o) ≡ room → (t : State) →

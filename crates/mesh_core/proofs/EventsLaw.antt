@@ -1,5 +1,5 @@
 -- The ledger of copies is kept by every event and by every list of events, for a list of nets and for a job.
-use Rattle.std.proofs.Common.{◌≡◌, ℕ, ◌<◌, List, [], ◌∷◌, Option, Some, None, refl, ap, sym, ◌∙◌, subst, length, unwrap_or}
+use Rattle.std.proofs.Common.{◌≡◌, ℕ, ◌<◌, List, [], ◌∷◌, Option, Some, None, refl, sym, ◌∙◌, subst, length, unwrap_or}
 use Rattle.std.specs.List.{Contains}
 use Rattle.spin_base.specs.declared.blocks.Entry.{Entry}
 use Rattle.spin_base.specs.declared.copies.Event.{Event}
@@ -50,8 +50,8 @@ event_keeps s nets labels mesh right ledger e = by_answer (stepped s e) refl
         record {
           mesh = IsMesh-stepped s t e mesh is;
           right =
-            subst (λ (m : Description). AreRight m t.tables nets) (sym bag.machine)
-            (subst (λ (l : List (List Entry)). AreRight s.machine l nets) (sym bag.tables) right);
+              subst (λ (m : Description). AreRight m t.tables nets) (sym bag.machine)
+              (subst (λ (l : List (List Entry)). AreRight s.machine l nets) (sym bag.tables) right);
           ledger = bag_keeps_ledger s t nets labels mesh right ledger bag;
           no_new = bag_adds_no_packet s t nets labels mesh right ledger bag;
           none_lost = bag_keeps_packets s t nets labels mesh right ledger bag;
@@ -75,9 +75,9 @@ events_keep s nets labels mesh right ledger (e ∷ es) =
       right = rest.right;
       ledger = rest.ledger;
       no_new = λ k has.
-        let m = rest.no_new k has in let l = first.no_new m.0 m.1 in (l.0, l.1, l.2 ∙ m.2);
+          let m = rest.no_new k has in let l = first.no_new m.0 m.1 in (l.0, l.1, l.2 ∙ m.2);
       none_lost = λ k has.
-        let m = first.none_lost k has in let l = rest.none_lost m.0 m.1 in (l.0, l.1, l.2 ∙ m.2);
+          let m = first.none_lost k has in let l = rest.none_lost m.0 m.1 in (l.0, l.1, l.2 ∙ m.2);
     }
 
 -- the ledger of a job is kept as well
@@ -88,7 +88,7 @@ events_keep_job s nets packets mesh right job es =
     record {
       ledger = keeps.ledger;
       of_the_job = λ k has.
-        let m = keeps.no_new k has in subst (λ i. i < length packets) m.2 (job.of_the_job m.0 m.1);
+          let m = keeps.no_new k has in subst (λ i. i < length packets) m.2 (job.of_the_job m.0 m.1);
       each_packet = λ i below.
-        let k = job.each_packet i below in let m = keeps.none_lost k.0 k.1 in (m.0, m.1, m.2 ∙ k.2);
+          let k = job.each_packet i below in let m = keeps.none_lost k.0 k.1 in (m.0, m.1, m.2 ∙ k.2);
     }

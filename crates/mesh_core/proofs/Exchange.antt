@@ -1,6 +1,6 @@
 -- A list from which one item is taken out, and one into which items are put: what that does to counts and members,
 -- and how a change of one part of a list is a change of the whole.
-use Rattle.std.proofs.Common.{◌≡◌, ◌≢◌, ℕ, ◌+◌, ◌<◌, ◌≤◌, suc, zero, List, [], ◌∷◌, ◌++◌, map, Bool, true, false, cond, if◌then◌else◌, Option, Some, None, refl, ap, sym, ◌∙◌, subst, arith, append_assoc, append-nil, inl, inr, ◌⊎◌, count_by, length}
+use Rattle.std.proofs.Common.{◌≡◌, ℕ, ◌+◌, ◌<◌, suc, zero, List, [], ◌∷◌, ◌++◌, Bool, cond, if◌then◌else◌, Some, refl, ap, sym, ◌∙◌, subst, arith, append_assoc, inl, inr, ◌⊎◌, count_by, length}
 use Rattle.std.specs.List.{slice_get, Contains, slice_index_or, slice_set}
 use Rattle.std.proofs.lemmas.List.Sums.{sum_by-append, sum_by-cons}
 use Rattle.mesh_core.specs.Ledger.{gathered}
@@ -51,8 +51,8 @@ put_in_before xs before after r p = record {
   back = p.back ++ r;
   before_is = ap (λ v. v ++ r) p.before_is ∙ append_assoc p.front p.back r;
   after_is =
-    ap (λ v. v ++ r) p.after_is ∙ append_assoc p.front (xs ++ p.back) r
-    ∙ ap (λ v. p.front ++ v) (append_assoc xs p.back r);
+      ap (λ v. v ++ r) p.after_is ∙ append_assoc p.front (xs ++ p.back) r
+      ∙ ap (λ v. p.front ++ v) (append_assoc xs p.back r);
 }
 
 -- ---- in what is made of one item, so in what is made of the list
@@ -62,9 +62,9 @@ taken_out_gathered f y i [] j old new at t = cc
 taken_out_gathered {X} {Y} f y i (x ∷ xs) zero old new at t =
     let same : x ≡ old = cc in
     let here : TakenOut y (f i x) (f i new) =
-      let P : ℕ → X → Type 0 = λ n v. TakenOut y (f n v) (f n new) in
-      let n_is : i + 0 ≡ i = omega arith in
-      subst (λ n. P n x) n_is (subst (λ v. P (i + 0) v) (sym same) t)
+    let P : ℕ → X → Type 0 = λ n v. TakenOut y (f n v) (f n new) in
+    let n_is : i + 0 ≡ i = omega arith in
+    subst (λ n. P n x) n_is (subst (λ v. P (i + 0) v) (sym same) t)
     in
     taken_out_before y (f i x) (f i new) (gathered f (i + 1) xs) here
 taken_out_gathered f y i (x ∷ xs) (suc j) old new at t =
@@ -77,9 +77,9 @@ put_in_gathered f ys i [] j old new at t = cc
 put_in_gathered {X} {Y} f ys i (x ∷ xs) zero old new at t =
     let same : x ≡ old = cc in
     let here : PutIn ys (f i x) (f i new) =
-      let P : ℕ → X → Type 0 = λ n v. PutIn ys (f n v) (f n new) in
-      let n_is : i + 0 ≡ i = omega arith in
-      subst (λ n. P n x) n_is (subst (λ v. P (i + 0) v) (sym same) t)
+    let P : ℕ → X → Type 0 = λ n v. PutIn ys (f n v) (f n new) in
+    let n_is : i + 0 ≡ i = omega arith in
+    subst (λ n. P n x) n_is (subst (λ v. P (i + 0) v) (sym same) t)
     in
     put_in_before ys (f i x) (f i new) (gathered f (i + 1) xs) here
 put_in_gathered f ys i (x ∷ xs) (suc j) old new at t =
@@ -158,25 +158,29 @@ pub among_before : {X : Type 0} (x y : X) (before after : List X) → TakenOut x
 among_before x y before after t a =
     subst (λ l. Among y l) (sym t.before_is)
     (elim (among_either y t.front t.back (subst (λ l. Among y l) t.after_is a)) [
-      inl l ↦ among_left y t.front (x ∷ t.back) l
-    | inr r ↦ among_right y t.front (x ∷ t.back) (inr r) ])
+      | inl l ↦ among_left y t.front (x ∷ t.back) l
+      | inr r ↦ among_right y t.front (x ∷ t.back) (inr r)
+    ])
 
 -- what is there after a put was there before, or was put
 pub among_put_in : {X : Type 0} (y : X) (xs before after : List X) → PutIn xs before after → Among y after → Among y before ⊎ Among y xs
 among_put_in y xs before after t a =
     elim (among_either y t.front (xs ++ t.back) (subst (λ l. Among y l) t.after_is a)) [
-      inl l ↦ inl (subst (λ l. Among y l) (sym t.before_is) (among_left y t.front t.back l))
-    | inr r ↦ elim (among_either y xs t.back r) [
-        inl m ↦ inr m
-      | inr b ↦ inl (subst (λ l. Among y l) (sym t.before_is) (among_right y t.front t.back b)) ] ]
+      | inl l ↦ inl (subst (λ l. Among y l) (sym t.before_is) (among_left y t.front t.back l))
+      | inr r ↦ elim (among_either y xs t.back r) [
+        | inl m ↦ inr m
+        | inr b ↦ inl (subst (λ l. Among y l) (sym t.before_is) (among_right y t.front t.back b))
+      ]
+    ]
 
 -- what was there before a put is there after it, and so is what was put
 pub among_still : {X : Type 0} (y : X) (xs before after : List X) → PutIn xs before after → Among y before → Among y after
 among_still y xs before after t a =
     subst (λ l. Among y l) (sym t.after_is)
     (elim (among_either y t.front t.back (subst (λ l. Among y l) t.before_is a)) [
-      inl l ↦ among_left y t.front (xs ++ t.back) l
-    | inr r ↦ among_right y t.front (xs ++ t.back) (among_right y xs t.back r) ])
+      | inl l ↦ among_left y t.front (xs ++ t.back) l
+      | inr r ↦ among_right y t.front (xs ++ t.back) (among_right y xs t.back r)
+    ])
 
 pub among_put : {X : Type 0} (y : X) (xs before after : List X) → PutIn xs before after → Among y xs → Among y after
 among_put y xs before after t a =
@@ -186,7 +190,9 @@ among_put y xs before after t a =
 pub among_left_over : {X : Type 0} (x y : X) (before after : List X) → TakenOut x before after → Among y before → (y ≡ x) ⊎ Among y after
 among_left_over x y before after t a =
     elim (among_either y t.front (x ∷ t.back) (subst (λ l. Among y l) t.before_is a)) [
-      inl l ↦ inr (subst (λ l. Among y l) (sym t.after_is) (among_left y t.front t.back l))
-    | inr r ↦ elim r [
-        inl here ↦ inl here
-      | inr b ↦ inr (subst (λ l. Among y l) (sym t.after_is) (among_right y t.front t.back b)) ] ]
+      | inl l ↦ inr (subst (λ l. Among y l) (sym t.after_is) (among_left y t.front t.back l))
+      | inr r ↦ elim r [
+        | inl here ↦ inl here
+        | inr b ↦ inr (subst (λ l. Among y l) (sym t.after_is) (among_right y t.front t.back b))
+      ]
+    ]

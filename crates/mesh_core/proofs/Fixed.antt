@@ -1,5 +1,5 @@
 -- A step leaves the machine and the vertices' cores as they are.
-use Rattle.std.proofs.Common.{◌≡◌, ℕ, refl, sym, ap, ◌∙◌, Bool, true, false, not, ◌&&◌, if◌then◌else◌, List, [], ◌∷◌, ◌++◌, Option, Some, None}
+use Rattle.std.proofs.Common.{◌≡◌, ℕ, refl, ap, Bool, true, false, ◌&&◌, if◌then◌else◌, List, [], ◌∷◌, Option, Some, None}
 use Rattle.std.specs.Prelude.{unwrap_or}
 use Rattle.std.specs.List.{slice_get}
 use Rattle.spin_base.specs.declared.chips.Chip.{Chip}
@@ -12,7 +12,7 @@ use Rattle.spin_base.specs.declared.copies.Event.TheVariants.{Inject, Take, Send
 use Rattle.machine_desc.specs.Description.{Description}
 use Rattle.machine_desc.specs.Live.{index_of}
 use Rattle.mesh_core.specs.State.{State, Held, Behind, input, core, nowhere, behind, queue_at}
-use Rattle.mesh_core.specs.Step.{onward, has_room_behind, serves, served, arrived, injected, taken, sent, dumped_at, collected, stepped, after_event}
+use Rattle.mesh_core.specs.Step.{onward, has_room_behind, serves, served, arrived, injected, taken, sent, dumped_at, collected, after_event}
 
 -- the machine and the vertices' cores
 abbrev pub place_of : State → Description × List Spot

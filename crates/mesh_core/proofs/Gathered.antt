@@ -1,5 +1,5 @@
 -- What is made of each vertex, one after the other: members and counts.
-use Rattle.std.proofs.Common.{◌≡◌, ◌≢◌, ℕ, ◌+◌, ◌<◌, ◌≤◌, suc, zero, List, [], ◌∷◌, ◌++◌, map, Bool, true, false, ◌==◌, if◌then◌else◌, cond, Option, Some, None, refl, ap, sym, ◌∙◌, subst, arith, inl, inr, ◌⊎◌, length, count_by, replicate}
+use Rattle.std.proofs.Common.{◌≡◌, ◌≢◌, ℕ, ◌+◌, ◌<◌, ◌≤◌, suc, zero, List, [], ◌∷◌, ◌++◌, map, Bool, true, false, if◌then◌else◌, Option, Some, None, refl, ap, sym, ◌∙◌, subst, arith, inl, inr, ◌⊎◌, count_by, replicate}
 use Rattle.std.specs.List.{slice_get, range_with_len, filter_map, enumerate_from, cons_option}
 use Rattle.std.proofs.lemmas.Bool.{cases_order}
 use Rattle.mesh_core.specs.Ledger.{gathered}
@@ -119,7 +119,7 @@ module _ {X Y : Type 0} (h : ℕ × X → Option Y) where
       let zero_more : n + 0 ≡ n = omega arith in
       count_option p (h (n, x)) (chosen (n + 1) xs) (λ y e. none 0 x y refl (ap (λ k. h (k, x)) zero_more ∙ e))
       ∙ count_chosen_none p (n + 1) xs (λ i z y at e.
-        let next : n + suc i ≡ n + 1 + i = omega arith in none (suc i) z y at (ap (λ k. h (k, z)) next ∙ e))
+      let next : n + suc i ≡ n + 1 + i = omega arith in none (suc i) z y at (ap (λ k. h (k, z)) next ∙ e))
 
   -- where only the item at one place counts, one is counted
   pub count_chosen_one : (p : Y → Bool) (n : ℕ) (xs : List X) (i : ℕ) (x : X) (y : Y) → slice_get xs i ≡ Some x → h (n + i, x) ≡ Some y → p y ≡ true →
@@ -129,8 +129,8 @@ module _ {X Y : Type 0} (h : ℕ × X → Option Y) where
       let same : q ≡ x = cc in
       let zero_more : n + 0 ≡ n = omega arith in
       let rest : count_by p (chosen (n + 1) xs) ≡ 0 = count_chosen_none p (n + 1) xs (λ j z w at' e.
-        let next : n + suc j ≡ n + 1 + j = omega arith in
-        others (suc j) z w (λ e. omega arith) at' (ap (λ k. h (k, z)) next ∙ e))
+      let next : n + suc j ≡ n + 1 + j = omega arith in
+      others (suc j) z w (λ e. omega arith) at' (ap (λ k. h (k, z)) next ∙ e))
       in
       count_option_one p (h (n, q)) (chosen (n + 1) xs) y (ap (λ v. h (n, v)) same ∙ (ap (λ k. h (k, x)) (sym zero_more) ∙ is)) passes
       ∙ ap (λ k. 1 + k) rest
@@ -139,5 +139,5 @@ module _ {X Y : Type 0} (h : ℕ × X → Option Y) where
       let here : n + suc i ≡ n + 1 + i = omega arith in
       count_option p (h (n, q)) (chosen (n + 1) xs) (λ w e. others 0 q w (λ e'. omega arith) refl (ap (λ k. h (k, q)) zero_more ∙ e))
       ∙ count_chosen_one p (n + 1) xs i x y at (ap (λ k. h (k, x)) (sym here) ∙ is) passes (λ j z w apart at' e.
-        let next : n + suc j ≡ n + 1 + j = omega arith in
-        others (suc j) z w (λ same. apart (omega arith)) at' (ap (λ k. h (k, z)) next ∙ e))
+      let next : n + suc j ≡ n + 1 + j = omega arith in
+      others (suc j) z w (λ same. apart (omega arith)) at' (ap (λ k. h (k, z)) next ∙ e))

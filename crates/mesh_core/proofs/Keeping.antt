@@ -1,7 +1,7 @@
 -- Whatever happens, a mesh keeps what every mesh has.
-use Rattle.std.proofs.Common.{◌≡◌, ◌≢◌, ℕ, ◌+◌, ◌*◌, ◌<◌, ◌≤◌, refl, sym, ap, ◌∙◌, subst, arith, Bool, true, false, not, ◌&&◌, if◌then◌else◌, List, [], ◌∷◌, ◌++◌, length, get_or, set, Option, Some, None}
+use Rattle.std.proofs.Common.{◌≡◌, ◌≢◌, ℕ, ◌<◌, ◌≤◌, refl, sym, ap, ◌∙◌, subst, arith, Bool, true, false, not, ◌&&◌, if◌then◌else◌, List, [], ◌∷◌, ◌++◌, length, set, Option, Some, None}
 use Rattle.std.specs.Prelude.{IfSome}
-use Rattle.std.specs.List.{All, slice_get, list_any}
+use Rattle.std.specs.List.{All, slice_get}
 use Rattle.std.proofs.lemmas.List.{length_push}
 use Rattle.std.proofs.lemmas.List.Elements.{All-tail}
 use Rattle.std.proofs.lemmas.Option.{slice_get_within, get_or_from_slice_get}
@@ -16,9 +16,7 @@ use Rattle.spin_base.specs.declared.routes.Out.TheVariants.{Link, Core}
 use Rattle.spin_base.specs.declared.copies.McCopy.{McCopy}
 use Rattle.spin_base.specs.declared.copies.Event.{Event}
 use Rattle.spin_base.specs.declared.copies.Event.TheVariants.{Inject, Take, Send, Dump, Collect}
-use Rattle.spin_base.specs.Equality.{out_eq}
-use Rattle.spin_base.specs.Links.{dir_number, opposite_of, port_number}
-use Rattle.spin_base.proofs.Outputs.{dir_number_below}
+use Rattle.spin_base.specs.Links.{opposite_of, port_number}
 use Rattle.spin_base.proofs.Equality.{port_number_injective}
 use Rattle.machine_desc.specs.Description.{Description}
 use Rattle.machine_desc.specs.Live.{index_of, far_of, is_live_chip, is_live_link, IsInside, IsUsable}
@@ -26,7 +24,6 @@ use Rattle.machine_desc.proofs.Far.{same_index, live_inside, live_ends, live_bac
 use Rattle.mesh_core.specs.State.{State, Held, IsMesh, queue_at, vertex_at, Behind, input, core, nowhere, across, core_of, behind}
 use Rattle.mesh_core.specs.Step.{onward, outputs, in_hand, without, has_room, has_room_behind, appended, arrived, injected, taken, serves, served, sent, dumped_at, collected, stepped}
 use Rattle.mesh_core.proofs.Changes.{port_below, IsMesh-unsent, IsMesh-cores, IsMesh-hands, IsMesh-delivered, IsMesh-dumped, IsMesh-inputs}
-use Rattle.mesh_core.proofs.VertexTableLaws.{usable_parts}
 
 -- what was chosen is there
 pub if_some : {X : Type 0} (b : Bool) (u t : X) → (if b then Some u else None) ≡ Some t → (b ≡ true) × (u ≡ t)
@@ -103,7 +100,7 @@ arrived_input : (s : State) (i : ℕ) (k : McCopy) (q : Option (List McCopy)) �
 arrived_input s i k (Some q) h may room =
     let short : length q < s.capacity = ltb-true (length q) s.capacity room in
     IsMesh-inputs s i (q ++ k ∷ []) h (omega (arith, length_push q k))
-        (λ c d dead inside same. absurd (may.port c d dead inside same)) (λ c dead inside same. absurd (may.chip c dead inside same))
+    (λ c d dead inside same. absurd (may.port c d dead inside same)) (λ c dead inside same. absurd (may.chip c dead inside same))
 arrived_input s i k None h may room = cc
 
 arrived_core : (s : State) (v : ℕ) (k : McCopy) (q : Option (List McCopy)) → IsMesh s → has_room s.capacity q ≡ true → IsMesh (record s { cores = appended s.cores v k q })
@@ -152,8 +149,8 @@ keeps_taken s t c port (Some None) (Some (k ∷ rest)) h at_queue moves =
     let parts : (is_live_chip s.machine c ≡ true) × (next ≡ t) = if_some (is_live_chip s.machine c) next t moves in
     let within : length (k ∷ rest) ≤ s.capacity = All-slice_get (λ (l : List McCopy). length l ≤ s.capacity) s.inputs q (k ∷ rest) h.inputs_within at_queue in
     let kept : IsMesh now = IsMesh-inputs s q rest h (omega arith)
-        (λ e d dead inside same. nothing_waited s.inputs q (queue_at s.machine e (ByLink d)) k rest at_queue (h.none_at_dead_ports e d dead inside) same)
-        (λ e dead inside same. nothing_waited s.inputs q (queue_at s.machine e Local) k rest at_queue (h.none_on_dead_chips e dead inside) same)
+    (λ e d dead inside same. nothing_waited s.inputs q (queue_at s.machine e (ByLink d)) k rest at_queue (h.none_at_dead_ports e d dead inside) same)
+    (λ e dead inside same. nothing_waited s.inputs q (queue_at s.machine e Local) k rest at_queue (h.none_on_dead_chips e dead inside) same)
     in
     subst IsMesh parts.1 (IsMesh-hands now (index_of s.machine c) hand kept (in_hand-some k port (outputs s c port k)))
 keeps_taken s t c port (Some None) (Some []) h at_queue moves = cc

@@ -1,7 +1,6 @@
 -- A move keeps what the ledger says of one net: what comes in the place of a mark stands on the same trails.
-use Rattle.std.proofs.Common.{◌≡◌, ◌≢◌, ℕ, ◌+◌, ◌*◌, ◌<◌, ◌≤◌, ◌^◌, suc, zero, List, [], ◌∷◌, map, filter, Bool, true, false, ◌==◌, ◌&&◌, IsTrue, if◌then◌else◌, cond, Option, Some, None, refl, ap, sym, ◌∙◌, subst, arith, inl, inr, ◌⊎◌, length, min, count_by, nat_lt}
-use Rattle.std.specs.List.{slice_get, slice_index_or, list_any, All, Any, Contains}
-use Rattle.std.proofs.lemmas.Option.{slice_get_within}
+use Rattle.std.proofs.Common.{◌≡◌, ℕ, ◌+◌, ◌<◌, ◌≤◌, suc, zero, List, [], ◌∷◌, map, filter, Bool, true, false, ◌==◌, ◌&&◌, if◌then◌else◌, cond, Option, Some, None, refl, ap, sym, ◌∙◌, subst, arith, inl, inr, length, min, count_by, nat_lt}
+use Rattle.std.specs.List.{slice_get, Contains}
 use Rattle.spin_base.specs.declared.chips.Chip.{Chip}
 use Rattle.spin_base.specs.declared.chips.Dir.{Dir}
 use Rattle.spin_base.specs.declared.chips.Spot.{Spot}
@@ -12,7 +11,7 @@ use Rattle.spin_base.specs.declared.routes.Out.TheVariants.{Link, Core}
 use Rattle.spin_base.specs.declared.routes.Route.{Route}
 use Rattle.spin_base.specs.declared.copies.McCopy.{McCopy}
 use Rattle.spin_base.specs.Links.{opposite_of}
-use Rattle.spin_base.specs.Equality.{chip_eq, spot_eq, port_eq, out_eq}
+use Rattle.spin_base.specs.Equality.{chip_eq, port_eq, out_eq}
 use Rattle.spin_base.specs.Lookup.{lookup}
 use Rattle.spin_base.specs.Outputs.{has, outs_of, all_outs, IsOutput}
 use Rattle.spin_base.proofs.Equality.{chip_eq_same, chip_eq_true, port_eq_same, port_eq_true, out_eq_same, out_eq_true}
@@ -22,10 +21,9 @@ use Rattle.std.specs.Int.{bit_at}
 use Rattle.std.proofs.lemmas.Bool.{ltb-true, ltb-false}
 use Rattle.std.proofs.lemmas.List.Elements.{All-contains}
 use Rattle.machine_desc.specs.declared.trees.Edge.{Edge}
-use Rattle.machine_desc.specs.Live.{far_of, IsLiveLink}
-use Rattle.machine_desc.specs.RoutingTree.{end_of}
+use Rattle.machine_desc.specs.Live.{far_of}
 use Rattle.machine_desc.specs.Branch.{Exit, IsBranch, arrival_at}
-use Rattle.machine_desc.proofs.Branches.{ComesBy, comes_by, exit_leads, ExitLeads, way_first, one_edge_into, exit_of}
+use Rattle.machine_desc.proofs.Branches.{ComesBy, comes_by, exit_leads, ExitLeads, one_edge_into, exit_of}
 use Rattle.machine_desc.proofs.Far.{opposite_of-opposite}
 use Rattle.machine_desc.proofs.Live.{count_by-map}
 use Rattle.net_tables.specs.declared.nets.NetPlan.{NetPlan}
@@ -38,7 +36,7 @@ use Rattle.mesh_core.specs.Ledger.{IsWayOf}
 use Rattle.mesh_core.proofs.Events.{and_true_left, and_true_right}
 use Rattle.mesh_core.proofs.Exchange.{Among, count_by-cons}
 use Rattle.mesh_core.proofs.Moves.{mark, Crosses, IsMove, IsMoveOf}
-use Rattle.mesh_core.proofs.Ways.{Stands, nat_true, nat_same, both_true, same_test, vertex_at_stands, vertex_there, short_branch, onward_hop, place_below, one_place, branch_comes_in, exit_wanted, exit_is_output, OnBranch, wanted_on_branch}
+use Rattle.mesh_core.proofs.Ways.{Stands, nat_true, nat_same, both_true, same_test, vertex_at_stands, vertex_there, short_branch, onward_hop, place_below, one_place, branch_comes_in, exit_wanted, exit_is_output, wanted_on_branch}
 
 -- ---- what the tests on a trail say
 
@@ -178,16 +176,16 @@ module _ (s : State) (net : NetPlan) (stands : Stands s net) where
       let same_spot : Some spot ≡ Some net.source = sym is_spot ∙ (ap (slice_get s.spots) is_from ∙ stands_there) in
       let spot_is : spot ≡ net.source = cc in
       let right_side : on_trail from' to' ys hop (unsent v) ≡ true =
-        both_true (v == from') (hop == 0) (nat_same v from' (is_from ∙ one_from)) (nat_same hop 0 is_zero)
+      both_true (v == from') (hop == 0) (nat_same v from' (is_from ∙ one_from)) (nat_same hop 0 is_zero)
       in
       let first = first_exit u ys w'.is_branch in
       let left_side : comes_in_there ys 0 spot.chip Local (slice_get ys 0) ≡ true =
-        comes_from ys 0 spot.chip Local (record {
-          exit = first.0;
-          at = first.1;
-          chip = first.2 ∙ (stands.root ∙ ap (λ (q : Spot). q.chip) (sym spot_is));
-          port_is = refl;
-        })
+      comes_from ys 0 spot.chip Local (record {
+        exit = first.0;
+        at = first.1;
+        chip = first.2 ∙ (stands.root ∙ ap (λ (q : Spot). q.chip) (sym spot_is));
+        port_is = refl;
+      })
       in
       ap (λ n. comes_in_there ys n spot.chip Local (slice_get ys n)) is_zero ∙ (left_side ∙ sym right_side)
     where
@@ -207,7 +205,7 @@ module _ (s : State) (net : NetPlan) (stands : Stands s net) where
       let leads = exit_leads s.machine net.tree.edges t net.tree.root xs hop (record { chip = c; out = Link d }) w.is_branch at in
       ap (λ n. comes_in_there ys n e (ByLink (opposite_of d)) (slice_get ys n)) next
       ∙ same_test (comes_in_there ys (suc hop) e (ByLink (opposite_of d)) (slice_get ys (suc hop))) (leaves_there c (Link d) (slice_get ys hop))
-        (back leads.0) forth
+      (back leads.0) forth
     where
       edge : Edge
       edge = record { chip = c; dir = d }
@@ -221,7 +219,7 @@ module _ (s : State) (net : NetPlan) (stands : Stands s net) where
           let leads = exit_leads s.machine net.tree.edges u net.tree.root ys hop (record { chip = c; out = Link d }) w'.is_branch at in
           let y : Exit = leads.1.0 in
           let by : ComesBy s.machine net.tree.edges ys Local hop y.chip =
-            comes_by s.machine net.tree.edges u net.tree.root Local ys hop y w'.is_branch leads.1.2
+          comes_by s.machine net.tree.edges u net.tree.root Local ys hop y w'.is_branch leads.1.2
           in
           let same : Some (exit_of by.edge) ≡ Some (record { chip = c; out = Link d }) = sym by.before ∙ at in
           let same_d : by.edge.dir ≡ d = same_dir by.edge c d same in
@@ -237,11 +235,11 @@ module _ (s : State) (net : NetPlan) (stands : Stands s net) where
       back in_tree on' =
           let there = comes_parts ys (suc hop) e (ByLink (opposite_of d)) on' in
           let by : ComesBy s.machine net.tree.edges ys Local hop there.exit.chip =
-            comes_by s.machine net.tree.edges u net.tree.root Local ys hop there.exit w'.is_branch there.at
+          comes_by s.machine net.tree.edges u net.tree.root Local ys hop there.exit w'.is_branch there.at
           in
           let one : by.edge ≡ edge =
-            one_edge_into s.machine net.tree.root net.tree.edges (map (λ x. x.chip) net.targets) stands.tree by.edge edge e
-            by.in_tree in_tree (by.leads ∙ ap Some there.chip) is_far
+          one_edge_into s.machine net.tree.root net.tree.edges (map (λ x. x.chip) net.targets) stands.tree by.edge edge e
+          by.in_tree in_tree (by.leads ∙ ap Some there.chip) is_far
           in
           leaves_from ys hop c (Link d) (by.before ∙ ap (λ (f : Edge). Some (exit_of f)) one)
 
@@ -280,8 +278,8 @@ module _ (s : State) (net : NetPlan) (stands : Stands s net) where
           let same_c : c ≡ x.chip = ap (λ (z : Spot). z.chip) target_is in
           let same_p : p ≡ q = ap (λ (z : Spot). z.core) target_is in
           rw at (both_true (chip_eq x.chip c) (out_eq x.out (Core p))
-            (ap (λ (z : Chip). chip_eq x.chip z) same_c ∙ chip_eq_same x.chip)
-            (ap (λ (z : Out). out_eq z (Core p)) (is ∙ ap Core (sym same_p)) ∙ out_eq_same (Core p)))
+          (ap (λ (z : Chip). chip_eq x.chip z) same_c ∙ chip_eq_same x.chip)
+          (ap (λ (z : Out). out_eq z (Core p)) (is ∙ ap Core (sym same_p)) ∙ out_eq_same (Core p)))
 
       back : ((v == to') && (hop + 1 == length ys)) ≡ true → leaves_there c (Core p) (slice_get ys hop) ≡ true
       back both =
@@ -325,15 +323,15 @@ module _ (s : State) (net : NetPlan) (stands : Stands s net) where
           let x_c : x.chip ≡ c = chip_eq_true x.chip c same in
           let valid : IsOutput x.out = exit_is_output s net stands u w'.is_target ys w'.is_branch k.hop x at in
           let wanted : is_wanted net.tree.edges net.targets x.chip x.out ≡ true =
-            exit_wanted s net u w'.is_target ys w'.is_branch k.hop x at
+          exit_wanted s net u w'.is_target ys w'.is_branch k.hop x at
           in
           let given : has route x.out ≡ true =
-            stands.right c port k.key x.out comes_in is_key valid
-            ∙ (ap (λ (d : Chip). is_wanted net.tree.edges net.targets d x.out) (sym x_c) ∙ wanted)
+          stands.right c port k.key x.out comes_in is_key valid
+          ∙ (ap (λ (d : Chip). is_wanted net.tree.edges net.targets d x.out) (sym x_c) ∙ wanted)
           in
           let one = one_place s net stands t u xs ys w.is_branch w'.is_branch k.hop k.hop there.exit x there.at at (there.chip ∙ sym x_c) in
           let arrives : port_eq (arrival_at ys k.hop) port ≡ true =
-            ap (λ (p : Port). port_eq p port) (sym one.1 ∙ there.port_is) ∙ port_eq_same port
+          ap (λ (p : Port). port_eq p port) (sym one.1 ∙ there.port_is) ∙ port_eq_same port
           in
           outs_once route x.out valid ∙ (ap (λ b. if b then 1 else 0) given ∙ ap (λ b. if b then 1 else 0) (sym arrives))
 
@@ -371,7 +369,7 @@ module _ (s : State) (net : NetPlan) (stands : Stands s net) where
       by_station k (unsent v) m key on' =
           ap (λ l. count_by p l) m.2
           ∙ one_for_one p (mark k (unsent v)) (mark k (in_queue m.0.chip Local))
-            (inject_on t u xs ys from from' to to' w w' v m.0 k.hop m.1 on')
+          (inject_on t u xs ys from from' to to' w w' v m.0 k.hop m.1 on')
       by_station k (in_queue c port) m key on' = ap (λ l. count_by p l) m ∙ take_on t u xs ys from from' to to' w w' c port k key on'
       by_station k (in_hand c o) (inl m) key on' =
           ap (λ l. count_by p l) m ∙ one_for_one p (mark k (in_hand c o)) (mark k (dumped c o)) refl
@@ -399,16 +397,16 @@ module _ (s : State) (net : NetPlan) (stands : Stands s net) where
       let in_route : Among o (outs_of route) = subst (λ (l : List Out). Among o l) (outputs_are t xs from to w c port k on) given in
       let has_it : has route o ≡ true = among_filter (has route) o all_outs in_route in
       let comes_in : ComesIn s.machine net.tree.root net.tree.edges c port =
-        subst (λ (d : Chip). ComesIn s.machine net.tree.root net.tree.edges d port) there.chip
-        (subst (λ (p : Port). ComesIn s.machine net.tree.root net.tree.edges there.exit.chip p) there.port_is
-        (branch_comes_in s net t xs w.is_branch k.hop there.exit there.at))
+      subst (λ (d : Chip). ComesIn s.machine net.tree.root net.tree.edges d port) there.chip
+      (subst (λ (p : Port). ComesIn s.machine net.tree.root net.tree.edges there.exit.chip p) there.port_is
+      (branch_comes_in s net t xs w.is_branch k.hop there.exit there.at))
       in
       let wanted : is_wanted net.tree.edges net.targets c o ≡ true =
-        sym (stands.right c port k.key o comes_in is_key (has_is_output route o has_it)) ∙ has_it
+      sym (stands.right c port k.key o comes_in is_key (has_is_output route o has_it)) ∙ has_it
       in
       let other = wanted_on_branch s net stands (record { chip = c; out = o }) wanted in
       let one = one_place s net stands t other.target xs other.branch w.is_branch other.is_branch k.hop other.place there.exit
-          (record { chip = c; out = o }) there.at other.at there.chip
+      (record { chip = c; out = o }) there.at other.at there.chip
       in
       let end = vertex_there s.spots other.target (All-contains (Contains s.spots) net.targets other.target stands.targets other.is_target) in
       record {

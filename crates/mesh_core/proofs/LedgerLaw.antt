@@ -1,27 +1,25 @@
 -- The ledger of copies is kept by every bag of moves, of which an event is one move.
-use Rattle.std.proofs.Common.{◌≡◌, ◌≢◌, ℕ, ◌+◌, ◌<◌, ◌≤◌, List, [], ◌∷◌, Bool, true, false, ◌==◌, ◌&&◌, IsTrue, if◌then◌else◌, cond, Option, Some, None, refl, ap, sym, ◌∙◌, subst, arith, inl, inr, ◌⊎◌, length, count_by, suc, zero}
-use Rattle.std.specs.List.{slice_get, slice_index_or, All, AllPairs, Contains}
+use Rattle.std.proofs.Common.{◌≡◌, ℕ, ◌+◌, ◌<◌, ◌≤◌, List, [], ◌∷◌, Bool, true, false, ◌==◌, ◌&&◌, if◌then◌else◌, refl, ap, sym, ◌∙◌, subst, arith, inl, inr, ◌⊎◌, length, count_by, suc, zero}
+use Rattle.std.specs.List.{slice_index_or, All, Contains}
 use Rattle.std.proofs.lemmas.List.Elements.{All-contains}
 use Rattle.std.proofs.lemmas.Bool.{cases_order}
 use Rattle.std.proofs.lemmas.List.{get_or_default}
 use Rattle.spin_base.specs.declared.chips.Spot.{Spot}
-use Rattle.spin_base.specs.declared.blocks.Entry.{Entry}
-use Rattle.spin_base.specs.declared.copies.Event.{Event}
 use Rattle.machine_desc.specs.Description.{Description}
 use Rattle.machine_desc.specs.RoutingTree.{IsRoutingTree}
 use Rattle.machine_desc.specs.Branch.{Exit, IsBranch}
 use Rattle.net_tables.specs.declared.nets.NetPlan.{NetPlan}
 use Rattle.net_tables.specs.RightTables.{IsKeyOf, RoutesByTree, AreRight}
 use Rattle.mesh_core.specs.State.{State, IsMesh, vertex_at}
-use Rattle.mesh_core.specs.Step.{stepped, after_event, after_events, last_hop}
+use Rattle.mesh_core.specs.Step.{last_hop}
 use Rattle.mesh_core.specs.Trail.{Station, unsent, in_queue, in_hand, at_core, delivered, dumped, Mark, on_trail, is_on_trail, is_packet_on_trail}
 use Rattle.mesh_core.specs.Ledger.{marks_of, AreNetsOf, HaveDisjointBlocks, Label, IsWayOf, MeetsLedger}
-use Rattle.mesh_core.proofs.Exchange.{TakenOut, PutIn, Among, among_contains, contains_among, among_taken_out, among_before, among_put_in, count_taken_out, count_put_in, count_by-cons}
+use Rattle.mesh_core.proofs.Exchange.{Among, among_contains, contains_among, count_taken_out, count_put_in, count_by-cons}
 use Rattle.mesh_core.proofs.Moves.{Exchange, IsMove}
 use Rattle.mesh_core.proofs.MarkTests.{mark_eq, mark_eq_same, mark_eq_true, rank, move_raises}
 use Rattle.mesh_core.proofs.Events.{and_true_left, and_true_right}
-use Rattle.mesh_core.proofs.Ways.{Stands, nat_true, nat_same, both_true, short_branch, place_below}
-use Rattle.mesh_core.proofs.Law.{OnSomeTrail, ComesRight, move_comes, move_counts, count_none, comes_parts, leaves_parts}
+use Rattle.mesh_core.proofs.Ways.{Stands, nat_true, short_branch, place_below}
+use Rattle.mesh_core.proofs.Law.{OnSomeTrail, move_comes, move_counts, count_none, comes_parts, leaves_parts}
 
 -- ---- what the ledger says stays where machine and vertices stay
 
@@ -62,14 +60,14 @@ one_net nets disjoint a b in_a in_b key key_a key_b = elim (cases_order in_a.0 i
       let first : slice_index_or nets in_a.0 a ≡ a = in_a.2 in
       let second : slice_index_or nets in_b.0 a ≡ b = get_or_default nets in_b.0 a b in_b.1 ∙ in_b.2 in
       absurd (disjoint in_a.0 in_b.0 a before in_b.1 key
-        (subst (λ (n : NetPlan). IsKeyOf n.block key) (sym first) key_a)
-        (subst (λ (n : NetPlan). IsKeyOf n.block key) (sym second) key_b))
+      (subst (λ (n : NetPlan). IsKeyOf n.block key) (sym first) key_a)
+      (subst (λ (n : NetPlan). IsKeyOf n.block key) (sym second) key_b))
   | inr (inr after) ↦
       let first : slice_index_or nets in_b.0 b ≡ b = in_b.2 in
       let second : slice_index_or nets in_a.0 b ≡ a = get_or_default nets in_a.0 b a in_a.1 ∙ in_a.2 in
       absurd (disjoint in_b.0 in_a.0 b after in_a.1 key
-        (subst (λ (n : NetPlan). IsKeyOf n.block key) (sym first) key_b)
-        (subst (λ (n : NetPlan). IsKeyOf n.block key) (sym second) key_a))
+      (subst (λ (n : NetPlan). IsKeyOf n.block key) (sym first) key_b)
+      (subst (λ (n : NetPlan). IsKeyOf n.block key) (sym second) key_a))
 ]
 
 -- ---- counts of one packet
@@ -127,9 +125,9 @@ pub bag_of_event : (s t : State) (e : Exchange s t) → e.leaves.copy.hop ≤ la
 bag_of_event s t e small = record {
   moves = record { leaves = e.leaves; come = e.come; is_move = e.move; small = small } ∷ [];
   balance = λ p.
-    let before = count_taken_out p e.leaves (marks_of s) e.rest e.out in
-    let after = count_put_in p e.come e.rest (marks_of t) e.put in
-    omega arith;
+      let before = count_taken_out p e.leaves (marks_of s) e.rest e.out in
+      let after = count_put_in p e.come e.rest (marks_of t) e.put in
+      omega arith;
   machine = e.machine;
   spots = e.spots;
   tables = e.tables;
@@ -311,7 +309,7 @@ module _ (s t : State) (nets : List NetPlan) (labels : ℕ → Label)
             let number : v.leaves.copy.packet ≡ n = nat_true v.leaves.copy.packet n same in
             let its_key : v.leaves.copy.key ≡ (labels n).key = r.key ∙ ap (λ i. (labels i).key) number in
             let one : r.net ≡ net =
-              one_net nets ledger.nets_stand.disjoint r.net net r.in_nets has v.leaves.copy.key r.is_key (subst (λ i. IsKeyOf net.block i) (sym its_key) key)
+            one_net nets ledger.nets_stand.disjoint r.net net r.in_nets has v.leaves.copy.key r.is_key (subst (λ i. IsKeyOf net.block i) (sym its_key) key)
             in
             move_counts s r.net (stands r.net r.in_nets) r.trail.target target r.trail.branch branch r.trail.from from r.trail.to to r.trail.way
             (subst (λ (m : NetPlan). IsWayOf s m target branch from to) (sym one) w) v.leaves v.come v.is_move r.is_key r.trail.on
@@ -335,10 +333,19 @@ module _ (s t : State) (nets : List NetPlan) (labels : ℕ → Label)
       nets_stand = nets_carried s t ground nets ledger.nets_stand;
       labelled = λ k has. let r = now_right k has in (r.key, r.payload);
       on_a_trail = λ k has.
-        let r = now_right k has in
-        (r.net, r.in_nets, r.is_key,
-          (r.trail.target, r.trail.branch, r.trail.from, r.trail.to,
-            way_carried s t ground r.net r.trail.target r.trail.branch r.trail.from r.trail.to r.trail.way, r.trail.on));
+          let r = now_right k has in (
+            r.net,
+            r.in_nets,
+            r.is_key,
+            (
+              r.trail.target,
+              r.trail.branch,
+              r.trail.from,
+              r.trail.to,
+              way_carried s t ground r.net r.trail.target r.trail.branch r.trail.from r.trail.to r.trail.way,
+              r.trail.on,
+            ),
+          );
       once_on_each = once_now;
     }
       where
@@ -358,11 +365,11 @@ module _ (s t : State) (nets : List NetPlan) (labels : ℕ → Label)
             let moved = all_moves n net in_list label_key target branch from to w_s bag.moves (λ v a. a) in
             let old = right_before r.origin r.was_there in
             let origin_key : IsKeyOf net.block r.origin.copy.key =
-              subst (λ i. IsKeyOf net.block i) (sym (old.key ∙ ap (λ i. (labels i).key) r.same_packet)) label_key
+            subst (λ i. IsKeyOf net.block i) (sym (old.key ∙ ap (λ i. (labels i).key) r.same_packet)) label_key
             in
             let before : count_by p (marks_of s) ≡ 1 =
-              ap (λ i. count_by (is_packet_on_trail i from to branch) (marks_of s)) (sym r.same_packet)
-              ∙ ledger.once_on_each r.origin r.was_there net in_list origin_key target branch from to w_s
+            ap (λ i. count_by (is_packet_on_trail i from to branch) (marks_of s)) (sym r.same_packet)
+            ∙ ledger.once_on_each r.origin r.was_there net in_list origin_key target branch from to w_s
             in
             omega arith
 

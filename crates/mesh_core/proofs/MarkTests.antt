@@ -1,5 +1,5 @@
 -- A test of equality on marks, and a number that each move raises.
-use Rattle.std.proofs.Common.{◌≡◌, ℕ, ◌+◌, ◌*◌, ◌<◌, ◌≤◌, List, [], ◌∷◌, map, Bool, true, false, ◌==◌, ◌&&◌, if◌then◌else◌, Option, Some, None, refl, ap, sym, ◌∙◌, arith, inl, inr, ◌⊎◌, min, subst}
+use Rattle.std.proofs.Common.{◌≡◌, ℕ, ◌+◌, ◌*◌, ◌<◌, ◌≤◌, List, [], ◌∷◌, map, Bool, true, false, ◌==◌, ◌&&◌, if◌then◌else◌, Option, Some, None, refl, ap, sym, arith, inl, inr, min, subst}
 use Rattle.spin_base.specs.declared.chips.Chip.{Chip}
 use Rattle.spin_base.specs.declared.chips.Port.{Port}
 use Rattle.spin_base.specs.declared.chips.Port.TheVariants.{Link as ByLink, Local}
@@ -13,7 +13,7 @@ use Rattle.net_tables.specs.RightTables.{table_at}
 use Rattle.spin_base.specs.Equality.{chip_eq, port_eq, out_eq}
 use Rattle.spin_base.proofs.Equality.{chip_eq_same, chip_eq_true, port_eq_same, port_eq_true, out_eq_same, out_eq_true}
 use Rattle.mesh_core.specs.State.{State}
-use Rattle.mesh_core.specs.Step.{onward, outputs, last_hop}
+use Rattle.mesh_core.specs.Step.{onward, last_hop}
 use Rattle.mesh_core.specs.Trail.{Station, unsent, in_queue, in_hand, at_core, delivered, dumped, Mark}
 use Rattle.mesh_core.proofs.Exchange.{Among}
 use Rattle.mesh_core.proofs.Moves.{mark, IsMove, IsMoveOf, Crosses}
@@ -88,9 +88,9 @@ unfolding mark_eq copy_eq
 mark_eq_same a =
     both_true (copy_eq a.copy a.copy) (station_eq a.station a.station)
     (both_true (a.copy.packet == a.copy.packet) ((a.copy.key == a.copy.key) && (payload_eq a.copy.payload a.copy.payload && (a.copy.hop == a.copy.hop)))
-      (nat_same a.copy.packet a.copy.packet refl)
-      (both_true (a.copy.key == a.copy.key) (payload_eq a.copy.payload a.copy.payload && (a.copy.hop == a.copy.hop)) (nat_same a.copy.key a.copy.key refl)
-        (both_true (payload_eq a.copy.payload a.copy.payload) (a.copy.hop == a.copy.hop) (payload_same a.copy.payload) (nat_same a.copy.hop a.copy.hop refl))))
+    (nat_same a.copy.packet a.copy.packet refl)
+    (both_true (a.copy.key == a.copy.key) (payload_eq a.copy.payload a.copy.payload && (a.copy.hop == a.copy.hop)) (nat_same a.copy.key a.copy.key refl)
+    (both_true (payload_eq a.copy.payload a.copy.payload) (a.copy.hop == a.copy.hop) (payload_same a.copy.payload) (nat_same a.copy.hop a.copy.hop refl))))
     (station_same a.station)
 
 marks_alike : (c d : McCopy) (a b : Station) → c ≡ d → a ≡ b → mark c a ≡ mark d b
@@ -104,11 +104,11 @@ mark_eq_true a b e =
     let later1 = and_true_right (a.copy.packet == b.copy.packet) ((a.copy.key == b.copy.key) && (payload_eq a.copy.payload b.copy.payload && (a.copy.hop == b.copy.hop))) copies in
     let later2 = and_true_right (a.copy.key == b.copy.key) (payload_eq a.copy.payload b.copy.payload && (a.copy.hop == b.copy.hop)) later1 in
     let same_copy : a.copy ≡ b.copy =
-      copies_alike a.copy.packet b.copy.packet a.copy.key b.copy.key a.copy.hop b.copy.hop a.copy.payload b.copy.payload
-      (nat_true a.copy.packet b.copy.packet (and_true_left (a.copy.packet == b.copy.packet) _ copies))
-      (nat_true a.copy.key b.copy.key (and_true_left (a.copy.key == b.copy.key) _ later1))
-      (payload_true a.copy.payload b.copy.payload (and_true_left (payload_eq a.copy.payload b.copy.payload) (a.copy.hop == b.copy.hop) later2))
-      (nat_true a.copy.hop b.copy.hop (and_true_right (payload_eq a.copy.payload b.copy.payload) (a.copy.hop == b.copy.hop) later2))
+    copies_alike a.copy.packet b.copy.packet a.copy.key b.copy.key a.copy.hop b.copy.hop a.copy.payload b.copy.payload
+    (nat_true a.copy.packet b.copy.packet (and_true_left (a.copy.packet == b.copy.packet) _ copies))
+    (nat_true a.copy.key b.copy.key (and_true_left (a.copy.key == b.copy.key) _ later1))
+    (payload_true a.copy.payload b.copy.payload (and_true_left (payload_eq a.copy.payload b.copy.payload) (a.copy.hop == b.copy.hop) later2))
+    (nat_true a.copy.hop b.copy.hop (and_true_right (payload_eq a.copy.payload b.copy.payload) (a.copy.hop == b.copy.hop) later2))
     in
     marks_alike a.copy b.copy a.station b.station same_copy (station_true a.station b.station stations)
 

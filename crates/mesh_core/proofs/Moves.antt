@@ -1,9 +1,8 @@
 -- What one event does to the marks of a mesh: one mark leaves, and others come in its place.
-use Rattle.std.proofs.Common.{◌≡◌, ℕ, ◌+◌, ◌*◌, ◌/◌, ◌%◌, ◌<◌, ◌≤◌, List, [], ◌∷◌, ◌++◌, map, Bool, true, false, ◌==◌, ◌&&◌, not, IsTrue, if◌then◌else◌, Option, Some, None, refl, ap, sym, ◌∙◌, subst, arith, zero-add, append-nil, append_assoc, inl, inr, ◌⊎◌, length}
-use Rattle.std.specs.List.{slice_get, slice_set, slice_index_or, list_any, All}
+use Rattle.std.proofs.Common.{◌≡◌, ℕ, ◌+◌, ◌*◌, ◌/◌, ◌%◌, ◌<◌, List, [], ◌∷◌, ◌++◌, map, Option, Some, refl, ap, sym, ◌∙◌, subst, arith, zero-add, append-nil, ◌⊎◌}
+use Rattle.std.specs.List.{slice_get, slice_set}
 use Rattle.std.proofs.lemmas.List.{map-append}
 use Rattle.spin_base.specs.declared.chips.Chip.{Chip}
-use Rattle.spin_base.specs.declared.chips.Dir.{Dir}
 use Rattle.spin_base.specs.declared.chips.Dir.TheVariants.{East, NorthEast, North, West, SouthWest, South}
 use Rattle.spin_base.specs.declared.chips.Spot.{Spot}
 use Rattle.spin_base.specs.declared.chips.Port.{Port}
@@ -13,20 +12,16 @@ use Rattle.spin_base.specs.declared.routes.Out.TheVariants.{Link, Core}
 use Rattle.spin_base.specs.declared.copies.McCopy.{McCopy}
 use Rattle.spin_base.specs.declared.copies.Delivery.{Delivery}
 use Rattle.spin_base.specs.declared.copies.DumpRec.{DumpRec}
-use Rattle.spin_base.specs.declared.copies.Event.{Event}
-use Rattle.spin_base.specs.declared.copies.Event.TheVariants.{Inject, Take, Send, Dump, Collect}
-use Rattle.spin_base.specs.Links.{opposite_of, port_number, dir_number}
-use Rattle.spin_base.specs.Equality.{out_eq, spot_eq}
-use Rattle.spin_base.proofs.Equality.{out_eq_true}
+use Rattle.spin_base.specs.Links.{opposite_of, port_number}
 use Rattle.spin_base.proofs.Outputs.{dir_number_below}
 use Rattle.machine_desc.specs.Description.{Description}
-use Rattle.machine_desc.specs.Live.{far_of, index_of, chip_of, is_live_chip, is_live_link, IsInside, IsLiveChip, IsLiveLink, IsUsable}
-use Rattle.machine_desc.proofs.Far.{live_inside, live_ends, far_inside, same_index, index_below}
+use Rattle.machine_desc.specs.Live.{far_of, index_of, chip_of, IsInside, IsLiveLink}
+use Rattle.machine_desc.proofs.Far.{same_index, index_below}
 use Rattle.machine_desc.proofs.Live.{chip_of-inside, index_of-chip_of}
-use Rattle.mesh_core.specs.State.{State, Held, IsMesh, Behind, input, core, nowhere, behind, across, core_of, queue_at, vertex_at}
-use Rattle.mesh_core.specs.Step.{stepped, injected, taken, sent, dumped_at, collected, has_room, has_room_behind, arrived, appended, in_hand as held_for, without, serves, served, outputs, onward}
+use Rattle.mesh_core.specs.State.{State, Held, queue_at, vertex_at}
+use Rattle.mesh_core.specs.Step.{in_hand as held_for, outputs, onward}
 use Rattle.mesh_core.specs.Trail.{Station, unsent, in_queue, in_hand, at_core, delivered, dumped, Mark}
-use Rattle.mesh_core.specs.Ledger.{marks_of, gathered, marked, hand_marks, port_of, unsent_marks, input_marks, all_hand_marks, core_marks, delivered_marks, dumped_marks}
+use Rattle.mesh_core.specs.Ledger.{marks_of, marked, hand_marks, port_of, unsent_marks, input_marks, all_hand_marks, core_marks, delivered_marks, dumped_marks}
 use Rattle.mesh_core.proofs.Exchange.{TakenOut, PutIn, taken_out_after, taken_out_before, put_in_after, put_in_before, taken_out_gathered, put_in_gathered}
 
 abbrev pub mark : McCopy → Station → Mark

@@ -1,6 +1,6 @@
 -- The opened mesh of a job meets the ledger of the job.
-use Rattle.std.proofs.Common.{◌≡◌, ◌≢◌, ℕ, ◌+◌, ◌*◌, ◌/◌, ◌%◌, ◌<◌, ◌≤◌, suc, zero, List, [], ◌∷◌, ◌++◌, map, Bool, true, false, ◌==◌, ◌&&◌, IsTrue, if◌then◌else◌, Option, Some, None, refl, ap, sym, ◌∙◌, subst, arith, append-nil, inl, inr, ◌⊎◌, length, count_by, replicate}
-use Rattle.std.specs.List.{slice_get, slice_index_or, range_with_len, filter_map, enumerate_from, All, Any, Contains}
+use Rattle.std.proofs.Common.{◌≡◌, ◌≢◌, ℕ, ◌+◌, ◌*◌, ◌/◌, ◌%◌, ◌<◌, List, [], ◌∷◌, Bool, true, false, ◌==◌, ◌&&◌, IsTrue, if◌then◌else◌, Option, Some, None, refl, ap, sym, ◌∙◌, subst, arith, append-nil, inl, inr, length, count_by}
+use Rattle.std.specs.List.{slice_get, slice_index_or, All, Contains}
 use Rattle.std.specs.Option.{option_map_or}
 use Rattle.std.proofs.lemmas.List.Elements.{All-contains}
 use Rattle.std.proofs.lemmas.List.{length-map}
@@ -9,7 +9,6 @@ use Rattle.spin_base.specs.declared.chips.Spot.{Spot}
 use Rattle.spin_base.specs.declared.blocks.Entry.{Entry}
 use Rattle.spin_base.specs.declared.copies.McCopy.{McCopy}
 use Rattle.spin_base.specs.declared.copies.Packet.{Packet}
-use Rattle.machine_desc.specs.declared.trees.Edge.{Edge}
 use Rattle.machine_desc.proofs.Live.{count_by-map}
 use Rattle.machine_desc.specs.Description.{Description}
 use Rattle.machine_desc.specs.RoutingTree.{IsRoutingTree}
@@ -19,15 +18,13 @@ use Rattle.net_tables.specs.declared.nets.NetPlan.{NetPlan}
 use Rattle.net_tables.specs.RightTables.{IsKeyOf}
 use Rattle.mesh_core.specs.State.{State, vertex_at}
 use Rattle.mesh_core.specs.Trail.{Station, Mark, unsent, in_queue, at_core, on_trail, is_on_trail, is_packet_on_trail}
-use Rattle.mesh_core.specs.Ledger.{marks_of, marked, hand_marks, port_of, gathered, unsent_marks, Label, AreNetsOf, HaveDisjointBlocks, IsWayOf, MeetsLedger}
-use Rattle.mesh_core.specs.Opened.{empty_mesh, label_in, label_of, label_at, label_by, first_copy, copy_from, unsent_of, opened_mesh, AreOfNets, MeetsJobLedger}
+use Rattle.mesh_core.specs.Ledger.{marks_of, marked, hand_marks, port_of, unsent_marks, Label, AreNetsOf, IsWayOf}
+use Rattle.mesh_core.specs.Opened.{label_in, label_of, label_at, label_by, first_copy, copy_from, unsent_of, opened_mesh, AreOfNets, MeetsJobLedger}
 use Rattle.machine_desc.specs.Live.{chip_of}
 use Rattle.mesh_core.proofs.Exchange.{Among, among_contains, contains_among}
 use Rattle.mesh_core.proofs.Moves.{mark}
-use Rattle.mesh_core.proofs.Events.{and_true_left, and_true_right}
 use Rattle.mesh_core.proofs.Gathered.{gathered_nothing, among_made, made_among, count_made_one, among_chosen, chosen_among, count_chosen_one, count_chosen_none}
 use Rattle.mesh_core.proofs.LedgerLaw.{one_net}
-use Rattle.mesh_core.proofs.Law.{count_none}
 use Rattle.mesh_core.proofs.Ways.{nat_true, nat_same, both_true, vertex_at_stands, vertex_there, place_below}
 
 -- a copy that a vertex sends, and of what packet it is
@@ -114,7 +111,7 @@ module _ (m : Description) (spots : List Spot) (tables : List (List Entry)) (cap
       let i : ℕ = in_list.0 in
       let zero_more : 0 + i ≡ i = omega arith in
       let copy_is : copy_from spots v i in_list.1 (slice_get nets in_list.1.net) ≡ Some in_marked.0 =
-        ap (λ n. copy_from spots v n in_list.1 (slice_get nets in_list.1.net)) (sym zero_more) ∙ in_list.3
+      ap (λ n. copy_from spots v n in_list.1 (slice_get nets in_list.1.net)) (sym zero_more) ∙ in_list.3
       in
       let sent = sent_parts spots nets in_list.1 i v in_marked.0 (slice_get nets in_list.1.net) refl copy_is in
       record {
@@ -134,12 +131,12 @@ module _ (m : Description) (spots : List Spot) (tables : List (List Entry)) (cap
       let below : v < number = place_below spots v net.source (vertex_at_stands spots net.source v vertex) in
       let zero_more : 0 + i ≡ i = omega arith in
       let in_list : Among (first_copy i net p) (copies v) =
-        chosen_among (λ (e : ℕ × Packet). copy_from spots v e.0 e.1 (slice_get nets e.1.net)) (first_copy i net p) 0 packets i p at
-        (ap (λ n. copy_from spots v n p (slice_get nets p.net)) zero_more ∙ sent_from spots nets p i v net is vertex)
+      chosen_among (λ (e : ℕ × Packet). copy_from spots v e.0 e.1 (slice_get nets e.1.net)) (first_copy i net p) 0 packets i p at
+      (ap (λ n. copy_from spots v n p (slice_get nets p.net)) zero_more ∙ sent_from spots nets p i v net is vertex)
       in
       let there : Among (mark (first_copy i net p) (unsent v)) (unsent_marks opened) =
-        made_among (λ w q. marked (unsent w) q) copies (mark (first_copy i net p) (unsent v)) 0 number v (omega arith) (omega arith)
-        (marked_among (unsent v) (first_copy i net p) (copies v) in_list)
+      made_among (λ w q. marked (unsent w) q) copies (mark (first_copy i net p) (unsent v)) 0 number v (omega arith) (omega arith)
+      (marked_among (unsent v) (first_copy i net p) (copies v) in_list)
       in
       subst (λ l. Contains l (mark (first_copy i net p) (unsent v))) (sym opened_marks) (among_contains (mark (first_copy i net p) (unsent v)) (unsent_marks opened) there)
 
@@ -192,7 +189,7 @@ module _ (m : Description) (spots : List Spot) (tables : List (List Entry)) (cap
     labelled k has =
         let u = is_unsent k has in
         let label : label_of nets packets k.copy.packet ≡ label_in u.sent.net u.packet =
-          ap (label_of nets packets) (unsent_number k u) ∙ label_is u.number_is u.packet u.sent.net u.at u.sent.is_net
+        ap (label_of nets packets) (unsent_number k u) ∙ label_is u.number_is u.packet u.sent.net u.at u.sent.is_net
         in (
           unsent_key k u ∙ sym (ap (λ (l : Label). l.key) label),
           ap (λ (c : McCopy). c.payload) u.sent.copy ∙ sym (ap (λ (l : Label). l.payload) label),
@@ -211,11 +208,14 @@ module _ (m : Description) (spots : List Spot) (tables : List (List Entry)) (cap
         let end = vertex_there spots way.0 on_spot in
         let hop : k.copy.hop ≡ 0 = ap (λ (c : McCopy). c.hop) u.sent.copy in
         let on : is_on_trail u.vertex end.0 way.2.0 k ≡ true =
-          ap (λ at. on_trail u.vertex end.0 way.2.0 k.copy.hop at) u.station
-          ∙ both_true (u.vertex == u.vertex) (k.copy.hop == 0) (nat_same u.vertex u.vertex refl) (nat_same k.copy.hop 0 hop)
-        in
-        (net, in_list, unsent_is_key k u,
-          (way.0, way.2.0, u.vertex, end.0, record { is_target = way.1; is_branch = way.2.1; begins = u.sent.vertex; ends = end.1 }, on))
+        ap (λ at. on_trail u.vertex end.0 way.2.0 k.copy.hop at) u.station
+        ∙ both_true (u.vertex == u.vertex) (k.copy.hop == 0) (nat_same u.vertex u.vertex refl) (nat_same k.copy.hop 0 hop)
+        in (
+          net,
+          in_list,
+          unsent_is_key k u,
+          (way.0, way.2.0, u.vertex, end.0, record { is_target = way.1; is_branch = way.2.1; begins = u.sent.vertex; ends = end.1 }, on),
+        )
 
     -- the test on an unsent copy
     abbrev counts : ℕ → ℕ → ℕ → List Exit → ℕ → McCopy → Bool
@@ -233,8 +233,8 @@ module _ (m : Description) (spots : List Spot) (tables : List (List Entry)) (cap
         let p : Mark → Bool = is_packet_on_trail k.copy.packet from to branch in
         ap (count_by p) opened_marks
         ∙ count_made_one (λ v q. marked (unsent v) q) copies p 0 number from 1 (omega arith) (from_below u vertex_is)
-          (count_by-map p (λ c. mark c (unsent from)) (copies from) ∙ one_of_source u vertex_is)
-          (λ v other. count_by-map p (λ c. mark c (unsent v)) (copies v) ∙ none_elsewhere v other)
+        (count_by-map p (λ c. mark c (unsent from)) (copies from) ∙ one_of_source u vertex_is)
+        (λ v other. count_by-map p (λ c. mark c (unsent v)) (copies v) ∙ none_elsewhere v other)
       where
         n : ℕ
         n = k.copy.packet
@@ -260,23 +260,25 @@ module _ (m : Description) (spots : List Spot) (tables : List (List Entry)) (cap
             (ap (λ j. copy_from spots from j u.packet (slice_get nets u.packet.net)) zero_more ∙ sent_from spots nets u.packet u.number_is from u.sent.net u.sent.is_net vertex)
             (both_true (u.number_is == n) ((from == from) && true) (nat_same u.number_is n number_same) (both_true (from == from) true (nat_same from from refl) refl))
             (λ j q c apart at e.
-              let zero_j : 0 + j ≡ j = omega arith in
-              let sent = sent_parts spots nets q j from c (slice_get nets q.net) refl (ap (λ i. copy_from spots from i q (slice_get nets q.net)) (sym zero_j) ∙ e) in
-              let its_number : c.packet ≡ j = ap (λ (d : McCopy). d.packet) sent.copy in
-              ap (λ b. b && ((from == from) && (c.hop == 0))) (nat_apart c.packet n (λ same. apart (sym its_number ∙ (same ∙ sym number_same)))))
+            let zero_j : 0 + j ≡ j = omega arith in
+            let sent = sent_parts spots nets q j from c (slice_get nets q.net) refl (ap (λ i. copy_from spots from i q (slice_get nets q.net)) (sym zero_j) ∙ e) in
+            let its_number : c.packet ≡ j = ap (λ (d : McCopy). d.packet) sent.copy in
+            ap (λ b. b && ((from == from) && (c.hop == 0))) (nat_apart c.packet n (λ same. apart (sym its_number ∙ (same ∙ sym number_same)))))
 
     -- The opened mesh of a job meets the ledger of the job.
     pub opened_meets_ledger : MeetsJobLedger opened nets packets
     opened_meets_ledger = record {
       ledger = record { nets_stand = stand; labelled = labelled; on_a_trail = on_a_trail; once_on_each = once };
       of_the_job = λ k has. let u = is_unsent k has in
-        subst (λ i. i < length packets) (sym (unsent_number k u)) (slice_get_within packets u.number_is u.packet u.at);
+          subst (λ i. i < length packets) (sym (unsent_number k u)) (slice_get_within packets u.number_is u.packet u.at);
       each_packet = λ i below.
-        let at = slice_get-get_or packets i nothing_packet below in
-        let of = of_nets i (slice_index_or packets i nothing_packet) at in
-        let in_list = net_in_list (slice_index_or packets i nothing_packet) of.0 of.1 in
-        let on_spot = All-contains (λ n. Contains spots n.source) nets of.0 stand.sources in_list in
-        let start = vertex_there spots of.0.source on_spot in
-        (mark (first_copy i of.0 (slice_index_or packets i nothing_packet)) (unsent start.0),
-          has_mark i (slice_index_or packets i nothing_packet) of.0 start.0 at of.1 start.1, refl);
+          let at = slice_get-get_or packets i nothing_packet below in
+          let of = of_nets i (slice_index_or packets i nothing_packet) at in
+          let in_list = net_in_list (slice_index_or packets i nothing_packet) of.0 of.1 in
+          let on_spot = All-contains (λ n. Contains spots n.source) nets of.0 stand.sources in_list in
+          let start = vertex_there spots of.0.source on_spot in (
+            mark (first_copy i of.0 (slice_index_or packets i nothing_packet)) (unsent start.0),
+            has_mark i (slice_index_or packets i nothing_packet) of.0 start.0 at of.1 start.1,
+            refl,
+          );
     }

@@ -1,5 +1,5 @@
 -- Serving an output: the hands after it, and the queue behind it.
-use Rattle.std.proofs.Common.{◌≡◌, ◌≢◌, ℕ, ◌<◌, ◌≤◌, ◌+◌, refl, sym, ap, ◌∙◌, arith, Bool, true, false, List, [], ◌∷◌, length, get_or, set, Option, Some, None, ◌==◌, if◌then◌else◌, is_some}
+use Rattle.std.proofs.Common.{◌≡◌, ℕ, ◌<◌, ◌≤◌, ◌+◌, refl, sym, ap, ◌∙◌, arith, Bool, false, List, [], ◌∷◌, length, get_or, set, Option, Some, None, ◌==◌, if◌then◌else◌, is_some}
 use Rattle.std.specs.List.{All, slice_get, position_from}
 use Rattle.std.proofs.lemmas.List.{set-set}
 use Rattle.std.proofs.lemmas.List.Elements.{All-head, All-tail}
@@ -46,9 +46,9 @@ pub vertex_at-beyond : (m : Description) (spots : List Spot) (s : Spot) → All 
 vertex_at-beyond m spots s usable beyond =
     vertex_at-from spots s
     ∙ no_place (spot_eq s) spots 0 (λ k d below. differs s (get_or spots k d) (λ e.
-        let small : (get_or spots k d).core < 18 = (usable_parts m (get_or spots k d) (usable k d below)).1 in
-        let same : s.core ≡ (get_or spots k d).core = ap (λ (x : Spot). x.core) e in
-        omega arith))
+    let small : (get_or spots k d).core < 18 = (usable_parts m (get_or spots k d) (usable k d below)).1 in
+    let same : s.core ≡ (get_or spots k d).core = ap (λ (x : Spot). x.core) e in
+    omega arith))
 
 -- a vertex on a core is one of those that there are
 pub vertex_at-below : (spots : List Spot) (s : Spot) (v : ℕ) → vertex_at spots s ≡ Some v → v < length spots
@@ -68,7 +68,7 @@ pub outputs_read : (s : State) (c : Chip) (port : Port) (k : McCopy) (n : ℕ) (
     (if k.hop == last_hop then [] else outs_of (lookup table k.key port)) ≡ outputs s c port k
 outputs_read s c port k n table at here =
     let is : table ≡ get_or s.tables (index_of s.machine c) [] =
-        sym (get_or_from_slice_get s.tables n table [] here) ∙ ap (λ i. get_or s.tables i []) at
+    sym (get_or_from_slice_get s.tables n table [] here) ∙ ap (λ i. get_or s.tables i []) at
     in
     ap (λ (t : List Entry). if k.hop == last_hop then [] else outs_of (lookup t k.key port)) is
 

@@ -1,13 +1,12 @@
 -- The table of vertices, as it is made.
-use Rattle.std.proofs.Common.{◌≡◌, ◌≢◌, ℕ, zero, suc, ◌+◌, ◌*◌, ◌<◌, ◌≤◌, refl, sym, ap, ◌∙◌, subst, arith, Bool, true, false, List, [], ◌∷◌, ◌++◌, length, take, get_or, set, replicate, cond, Option, Some, None, inl, inr, ◌⊎◌, ◌&&◌, not, nat_le}
-use Rattle.std.specs.Prelude.{position, AllPairs}
+use Rattle.std.proofs.Common.{◌≡◌, ◌≢◌, ℕ, ◌+◌, ◌*◌, ◌<◌, ◌≤◌, refl, sym, ap, ◌∙◌, subst, arith, Bool, true, false, List, [], ◌∷◌, ◌++◌, length, take, get_or, set, replicate, cond, Option, Some, None, inl, inr, ◌&&◌, not, nat_le}
+use Rattle.std.specs.Prelude.{AllPairs}
 use Rattle.std.specs.List.{position_from, slice_get, All, list_any}
 use Rattle.std.proofs.lemmas.Iterator.Adapters.{position_from-zero}
 use Rattle.std.proofs.lemmas.List.{take_more, length-set, length-replicate, get_or-replicate, length-take-le, get_or-take, get_or_default, take_all}
 use Rattle.std.proofs.lemmas.Option.{slice_get-get_or}
 use Rattle.std.proofs.lemmas.Bool.{cases_eq, and_parts, leb-true}
-use Rattle.std.proofs.lemmas.List.Elements.{All-from_get_or, All-get_or, All-head, All-tail}
-use Rattle.spin_base.specs.declared.chips.Chip.{Chip}
+use Rattle.std.proofs.lemmas.List.Elements.{All-head, All-tail}
 use Rattle.spin_base.specs.declared.chips.Spot.{Spot}
 use Rattle.spin_base.specs.Equality.{spot_eq}
 use Rattle.spin_base.proofs.Equality.{spot_eq_true, spot_eq_same}
@@ -77,10 +76,10 @@ pub TellsVertices-none : (m : Description) (spots : List Spot) → TellsVertices
 TellsVertices-none m spots = record {
   long = length-replicate {A = Option ℕ} (18 * (m.width * m.height)) None;
   told = λ s inside small.
-    let n : ℕ = 18 * (m.width * m.height) in
-    let below : core_place m s < n = core_place-below m s inside small in
-    slice_get-get_or (replicate n None) (core_place m s) None (rw (length-replicate {A = Option ℕ} n None) below)
-    ∙ ap Some (get_or-replicate n (core_place m s) None None below);
+      let n : ℕ = 18 * (m.width * m.height) in
+      let below : core_place m s < n = core_place-below m s inside small in
+      slice_get-get_or (replicate n None) (core_place m s) None (rw (length-replicate {A = Option ℕ} n None) below)
+      ∙ ap Some (get_or-replicate n (core_place m s) None None below);
 }
 
 -- the table where one vertex more is written
@@ -101,16 +100,20 @@ TellsVertices-more m spots i y table below is_y different usable tells =
   where
     more : take (i + 1) spots ≡ take i spots ++ y ∷ []
     more = take_more spots i y below ∙ ap (λ x. take i spots ++ x ∷ []) (sym is_y)
+
     at : IsInside m y.chip × (y.core < 18)
     at = usable_parts m y usable
+
     taken : length (take i spots) ≡ i
     taken = length-take-le i spots (omega arith)
+
     earlier : All (λ x. y ≢ x) (take i spots)
     earlier = λ k d k_below e.
         let k_small : k < i = omega (arith, taken) in
         let same : get_or spots k y ≡ get_or spots i y =
-            get_or_default spots k y d (omega arith) ∙ (sym (get_or-take i spots k d k_small) ∙ (sym e ∙ is_y)) in
+        get_or_default spots k y d (omega arith) ∙ (sym (get_or-take i spots k d k_small) ∙ (sym e ∙ is_y)) in
         different k i y k_small below same
+
     at_y : (s : Spot) → IsInside m s.chip → s.core < 18 → core_place m s ≡ core_place m y → slice_get (set table (core_place m y) (Some i)) (core_place m s) ≡ Some (vertex_at (take (i + 1) spots) s)
     at_y s inside small here =
         let same : s ≡ y = same_core_place m s y inside at.0 small at.1 here in

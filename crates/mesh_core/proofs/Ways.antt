@@ -1,41 +1,35 @@
 -- Facts on the ways of a net: their ends are vertices, their places are few, and each wanted output lies on one.
-use Rattle.std.proofs.Common.{◌≡◌, ◌≢◌, ℕ, ◌+◌, ◌*◌, ◌<◌, ◌≤◌, ◌^◌, suc, zero, List, [], ◌∷◌, map, Bool, true, false, ◌==◌, ◌&&◌, IsTrue, Option, Some, None, refl, ap, sym, ◌∙◌, subst, arith, inl, inr, ◌⊎◌, length, min, nat_lt, nat_le, cond}
+use Rattle.std.proofs.Common.{◌≡◌, ℕ, ◌+◌, ◌*◌, ◌<◌, ◌≤◌, suc, zero, List, map, Bool, true, false, ◌==◌, ◌&&◌, Some, None, refl, ap, sym, ◌∙◌, subst, arith, inl, inr, length, min, nat_lt, nat_le, cond}
 use Rattle.std.specs.List.{position_or_len}
 use Rattle.std.proofs.lemmas.Bool.{ltb-false, leb-true}
 use Rattle.std.proofs.lemmas.List.Sums.{fails_before_first}
 use Rattle.std.proofs.lemmas.List.Elements.{All-contains}
 use Rattle.std.proofs.Math.Nat.{mul-le-mul_left}
-use Rattle.std.specs.List.{slice_get, slice_index_or, list_any, All, Any, Contains, position}
-use Rattle.std.proofs.lemmas.Option.{slice_get_within, get_or_from_slice_get, slice_get-get_or}
+use Rattle.std.specs.List.{slice_get, slice_index_or, All, Contains}
+use Rattle.std.proofs.lemmas.Option.{slice_get_within, slice_get-get_or}
 use Rattle.std.proofs.lemmas.List.Quantifiers.{position-Some}
 use Rattle.std.proofs.lemmas.List.Folds.{Any-from_list_any, list_any_at}
-use Rattle.spin_base.specs.declared.chips.Chip.{Chip}
-use Rattle.spin_base.specs.declared.chips.Dir.{Dir}
 use Rattle.spin_base.specs.declared.chips.Spot.{Spot}
-use Rattle.spin_base.specs.declared.chips.Port.{Port}
-use Rattle.spin_base.specs.declared.chips.Port.TheVariants.{Link as ByLink, Local}
+use Rattle.spin_base.specs.declared.chips.Port.TheVariants.{Local}
 use Rattle.spin_base.specs.declared.routes.Out.{Out}
 use Rattle.spin_base.specs.declared.routes.Out.TheVariants.{Link, Core}
-use Rattle.spin_base.specs.Links.{opposite_of}
-use Rattle.spin_base.specs.Equality.{chip_eq, spot_eq, port_eq, out_eq}
+use Rattle.spin_base.specs.Equality.{spot_eq}
 use Rattle.spin_base.specs.Outputs.{IsOutput}
-use Rattle.spin_base.proofs.Equality.{chip_eq_same, chip_eq_true, spot_eq_same, spot_eq_true, out_eq_same, out_eq_true}
+use Rattle.spin_base.proofs.Equality.{spot_eq_same, spot_eq_true}
 use Rattle.machine_desc.specs.declared.trees.Edge.{Edge}
 use Rattle.machine_desc.specs.Description.{Description}
 use Rattle.machine_desc.specs.Equality.{edge_eq}
-use Rattle.machine_desc.specs.Live.{far_of, is_live_chip, IsUsable}
-use Rattle.machine_desc.specs.RoutingTree.{end_of, IsTreeTo, IsRoutingTree}
-use Rattle.machine_desc.specs.Branch.{Exit, IsBranch, IsWay, arrival_at, arrival_from}
+use Rattle.machine_desc.specs.Live.{is_live_chip, IsUsable}
+use Rattle.machine_desc.specs.RoutingTree.{IsRoutingTree}
+use Rattle.machine_desc.specs.Branch.{Exit, IsBranch, arrival_at}
 use Rattle.machine_desc.proofs.Same.{edge_eq-true, edge_eq_self}
 use Rattle.machine_desc.proofs.Branches.{ComesBy, comes_by, exit_leads, way_first, same_place, branch_short, core_on_branch, link_on_branch, exit_of, ExitLeads}
 use Rattle.net_tables.specs.declared.nets.NetPlan.{NetPlan}
 use Rattle.net_tables.specs.Outputs.{is_wanted, ComesIn}
 use Rattle.net_tables.specs.RightTables.{RoutesByTree}
 use Rattle.mesh_core.specs.State.{State, IsMesh, vertex_at}
-use Rattle.mesh_core.specs.Step.{last_hop, onward}
-use Rattle.mesh_core.specs.Ledger.{IsWayOf}
+use Rattle.mesh_core.specs.Step.{last_hop}
 use Rattle.mesh_core.proofs.Events.{and_true_left, and_true_right}
-use Rattle.mesh_core.proofs.Exchange.{Among, among_contains, contains_among}
 
 -- ---- tests that say what equality says
 
@@ -105,7 +99,7 @@ pub short_branch : (s : State) (net : NetPlan) → Stands s net → (t : Spot) (
 short_branch s net stands t branch is =
     let m = s.machine in
     let short : length branch ≤ m.width * m.height =
-      branch_short m net.tree.root net.tree.edges (map (λ x. x.chip) net.targets) stands.tree t branch is
+    branch_short m net.tree.root net.tree.edges (map (λ x. x.chip) net.targets) stands.tree t branch is
     in
     let w : m.width ≤ 64 = stands.mesh.size.width_to_64 in
     let h : m.height ≤ 64 = stands.mesh.size.height_to_64 in
@@ -183,7 +177,7 @@ wanted_on_branch s net stands x wanted = by_output x.out wanted
         let found = Any-from_list_any (edge_eq e) net.tree.edges yes' in
         let same : e ≡ found.1 = edge_eq-true e found.1 found.4 in
         let has : Contains net.tree.edges e =
-          subst (λ (f : Edge). Contains net.tree.edges f) (sym same) (found.0, found.2, found.3)
+        subst (λ (f : Edge). Contains net.tree.edges f) (sym same) (found.0, found.2, found.3)
         in
         let way = link_on_branch m net.tree.root net.tree.edges net.targets stands.tree e has in
         record {
@@ -199,7 +193,7 @@ wanted_on_branch s net stands x wanted = by_output x.out wanted
         let found = Any-from_list_any (spot_eq u) net.targets yes' in
         let same : u ≡ found.1 = spot_eq_true u found.1 found.4 in
         let has : Contains net.targets u =
-          subst (λ (f : Spot). Contains net.targets f) (sym same) (found.0, found.2, found.3)
+        subst (λ (f : Spot). Contains net.targets f) (sym same) (found.0, found.2, found.3)
         in
         let way = core_on_branch m net.tree.root net.tree.edges net.targets stands.tree u has in
         record {

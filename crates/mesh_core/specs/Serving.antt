@@ -1,5 +1,5 @@
 -- Serving an output of a hand: the copy to send, where it goes, and what is left.
-use Rattle.std.specs.Prelude.{ℕ, ◌<◌, List, length, Option, Some, None, if◌then◌else◌, slice_get, slice_set}
+use Rattle.std.specs.Prelude.{ℕ, ◌<◌, List, Option, Some, None, if◌then◌else◌, slice_get, slice_set}
 use Rattle.spin_base.specs.declared.chips.Chip.{Chip}
 use Rattle.spin_base.specs.declared.routes.Out.{Out}
 use Rattle.spin_base.specs.declared.copies.McCopy.{McCopy}

@@ -1,25 +1,20 @@
 -- What a contract sees of a mesh, and what its table of vertices keeps.
-use Rattle.std.specs.Prelude.{◌≡◌, ℕ, ◌+◌, ◌*◌, ◌<◌, List, Option, length, Some, slice_get}
-use Rattle.spin_base.specs.declared.chips.Chip.{Chip}
-use Rattle.spin_base.specs.declared.chips.Spot.{Spot}
-use Rattle.machine_desc.specs.Description.{Description}
-use Rattle.machine_desc.specs.Live.{index_of, IsInside}
 use Rattle.mesh_core.specs.declared.meshes.Mesh.TheInside.{Inside}
 use Rattle.mesh_core.specs.State.{State, IsMesh}
 use Rattle.mesh_core.specs.VertexTable.{TellsVertices}
 
 abbrev pub state_of : Inside → State
 state_of s = record {
-    machine = s.machine;
-    spots = s.spots;
-    unsent = s.unsent.items;
-    inputs = s.inputs.items;
-    hands = s.hands.items;
-    cores = s.cores.items;
-    delivered = s.delivered;
-    dumped = s.dumped;
-    tables = s.tcams;
-    capacity = s.capacity
+  machine = s.machine;
+  spots = s.spots;
+  unsent = s.unsent.items;
+  inputs = s.inputs.items;
+  hands = s.hands.items;
+  cores = s.cores.items;
+  delivered = s.delivered;
+  dumped = s.dumped;
+  tables = s.tcams;
+  capacity = s.capacity;
 }
 
 -- Every mesh is one, and its table tells the vertices.

@@ -50,14 +50,21 @@ impl Hand {
     pub(crate) fn serves(&self, out: Out) -> bool
         ensures { result ≡ list_any (out_eq out) self.now.outs }
     {
-        self.outs.as_slice().iter().any(|other| other.number() == out.number())
+        self.outs
+            .as_slice()
+            .iter()
+            .any(|other| other.number() == out.number())
     }
 
     // What is held after that output was served: nothing where no other is left.
     pub(crate) fn without(self, out: Out) -> Option<Hand>
         ensures { result ≡ in_hand self.copy self.port (without out self.outs) }
     {
-        let Hand { copy, port, mut outs } = self;
+        let Hand {
+            copy,
+            port,
+            mut outs,
+        } = self;
         strike(&mut outs, out);
         if outs.is_empty() {
             None
@@ -81,7 +88,9 @@ fn strike(outs: &mut Outs, out: Out)
 fn place_of(outs: &Outs, out: Out) -> Option<usize>
     ensures { result ≡ position (out_eq out) outs.now.items }
 {
-    outs.as_slice().iter().position(|other| other.number() == out.number())
+    outs.as_slice()
+        .iter()
+        .position(|other| other.number() == out.number())
 }
 
 // So many hands that hold nothing.

@@ -20,21 +20,18 @@ pub fn events_keep_the_ledger()
         IsMesh s → AreRight s.machine s.tables nets → MeetsLedger s nets labels → MeetsLedger (after_events s events) nets labels }
     ensures of_job { (s : State) (nets : List NetPlan) (packets : List Packet) (events : List Event) →
         IsMesh s → AreRight s.machine s.tables nets → MeetsJobLedger s nets packets → MeetsJobLedger (after_events s events) nets packets }
-{
-}
+{}
 
 /// The opened mesh of a job meets the ledger of the job, where the nets stand on it and each packet has a key of its net.
 pub fn opened_mesh_meets_its_ledger()
     ensures { (m : Description) (spots : List Spot) (tables : List (List Entry)) (capacity : ℕ) (nets : List NetPlan) (packets : List Packet) →
         AreNetsOf (opened_mesh m spots tables capacity nets packets) nets → AreOfNets nets packets →
         MeetsJobLedger (opened_mesh m spots tables capacity nets packets) nets packets }
-{
-}
+{}
 
 /// A mesh that meets the ledger of a job, where nothing waits, nothing is unsent and nothing was dumped, has delivered
 /// each packet at each target of its net once, and nothing else.
 pub fn a_mesh_at_rest_has_delivered_all()
     ensures { (s : State) (nets : List NetPlan) (packets : List Packet) →
         MeetsJobLedger s nets packets → AreOfNets nets packets → IsAtRest s → s.dumped ≡ [] → AreAsExpected s nets packets }
-{
-}
+{}

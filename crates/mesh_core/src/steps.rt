@@ -151,7 +151,11 @@ impl Mesh {
             return None;
         }
         let hand = self.hands[self.machine.index(c) as usize].as_ref()?;
-        if hand.serves(out) { Some(hand.copy) } else { None }
+        if hand.serves(out) {
+            Some(hand.copy)
+        } else {
+            None
+        }
     }
 
     // The queue behind an output.

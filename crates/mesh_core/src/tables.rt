@@ -8,7 +8,11 @@ use spin_base::{Memory, Spot};
 use std::alloc::Global;
 
 // The vertex on each core: that on core p of chip index i at place 18 * i + p.
-pub fn vertex_table(alloc: Global, machine: &Machine, spots: &[Spot]) -> Result<Vec<Option<usize>>, Memory>
+pub fn vertex_table(
+    alloc: Global,
+    machine: &Machine,
+    spots: &[Spot],
+) -> Result<Vec<Option<usize>>, Memory>
     requires different { AllPairs (λ a b. a ≢ b) spots.now }
     requires usable { All (IsUsable machine.now) spots.now }
     ensures { IfOk result (λ v. TellsVertices machine.now spots.now v.items) }

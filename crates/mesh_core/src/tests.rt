@@ -168,13 +168,7 @@ fn a_full_queue_lets_a_copy_be_dumped(rt: HostRuntime) -> Result<(), Fail> {
     assert!(rt;
         all_move(
             &mut mesh,
-            &[
-                Event::Inject(0),
-                local,
-                to_core,
-                Event::Inject(0),
-                local
-            ]
+            &[Event::Inject(0), local, to_core, Event::Inject(0), local]
         )?
     );
     assert!(rt; !all_move(&mut mesh, &[to_core])?);
@@ -204,12 +198,7 @@ fn an_event_that_is_not_enabled_changes_nothing(rt: HostRuntime) -> Result<(), F
     let mut mesh = one_chip(&rt)?;
     mesh.add(0, copy(0, 0)).map_err(|_| "memory")?;
     assert!(rt; !all_move(&mut mesh, &[Event::Collect(1)])?);
-    assert!(rt;
-        !all_move(
-            &mut mesh,
-            &[Event::Take(Chip { x: 9, y: 9 }, Port::Local)]
-        )?
-    );
+    assert!(rt; !all_move(&mut mesh, &[Event::Take(Chip { x: 9, y: 9 }, Port::Local)])?);
     assert!(rt; !all_move(&mut mesh, &[Event::Inject(1)])?);
     assert!(rt; !all_move(&mut mesh, &[Event::Inject(2)])?);
     assert_eq!(rt; mesh.unsent(0), [copy(0, 0)].as_slice());

@@ -19,7 +19,7 @@ pub spots_different : (n : ℕ) → AllPairs (λ a b. a ≢ b) (spots_of n)
 spots_different n i j d before within same =
     let below : j < n = subst (λ m. j < m) (length-spots_of n) within in
     let cores : i + 1 ≡ j + 1 =
-      ap (λ (s : Spot). s.core) (sym (spot_at n i d (omega arith)) ∙ (same ∙ spot_at n j d below))
+    ap (λ (s : Spot). s.core) (sym (spot_at n i d (omega arith)) ∙ (same ∙ spot_at n j d below))
     in
     omega arith
 

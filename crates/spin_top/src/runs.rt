@@ -54,12 +54,15 @@ fn opened(alloc: Global, job: &SmallJob, plan: &Plan) -> Result<Mesh, Memory>
     let mut mesh = empty(alloc, plan, job.vertices.len())?;
     for (packet, net) in job.packets.as_slice().iter().enumerate() {
         let source = job.nets.get(*net as usize).source;
-        mesh.add(source, McCopy {
-            packet: packet as u32,
-            key: *net,
-            payload: None,
-            hop: 0,
-        })?;
+        mesh.add(
+            source,
+            McCopy {
+                packet: packet as u32,
+                key: *net,
+                payload: None,
+                hop: 0,
+            },
+        )?;
     }
     Ok(mesh)
 }

@@ -1,5 +1,4 @@
 -- The queue without its front stands at the place.
-use Rattle.std.proofs.Common.{refl}
 use Rattle.std.proofs.lemmas.Option.{slice_get-get_or}
 use Rattle.mesh_core.proofs.QueueLists.{shortened-popped}
 use Rattle.mesh_core.proofs.queues.drop_front.Goals as goal

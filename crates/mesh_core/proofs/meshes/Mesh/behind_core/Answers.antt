@@ -1,6 +1,5 @@
 -- The table tells the vertex on the core.
-use Rattle.std.proofs.Common.{◌≡◌, Option, Some, None, sym, ap, ◌∙◌, subst, arith, ℕ, ◌+◌, ◌*◌, ◌<◌, length, List}
-use Rattle.spin_base.specs.declared.chips.Spot.{Spot}
+use Rattle.std.proofs.Common.{◌≡◌, sym, ap, ◌∙◌, subst, arith, ◌+◌, ◌*◌, ◌<◌, length}
 use Rattle.machine_desc.specs.Live.{IsInside}
 use Rattle.mesh_core.specs.State.{State, core_of, vertex_at}
 use Rattle.mesh_core.specs.VertexTable.{core_place}
@@ -17,7 +16,7 @@ returns-in-None-clause-queue c =
     let inside : IsInside c.self.inside.machine c.args.spot.chip = subst (λ (s : State). IsInside s.machine c.args.spot.chip) (sym c.self.view_is) c.requires in
     let at : 18 * c.index.result + c.from.result ≡ core_place c.self.inside.machine c.args.spot = omega (arith, c.index.ensures.value, c.from.ensures) in
     let there : vertex_at c.self.inside.spots c.args.spot ≡ c.index-2.result.now =
-        vertex_read c.self.inside.machine c.self.inside.spots c.self.inside.vertices.items c.args.spot _ c.index-2.result.now c.self.invariant.vertices inside c.if-spot-ge18.false at c.index-2.ensures
+    vertex_read c.self.inside.machine c.self.inside.spots c.self.inside.vertices.items c.args.spot _ c.index-2.result.now c.self.invariant.vertices inside c.if-spot-ge18.false at c.index-2.ensures
     in
     sym (ap core_of (ap (λ (s : State). vertex_at s.spots c.args.spot) (sym c.self.view_is) ∙ (there ∙ c.in-None.is)))
 
@@ -26,7 +25,7 @@ returns-in-Some-clause-queue c =
     let inside : IsInside c.self.inside.machine c.args.spot.chip = subst (λ (s : State). IsInside s.machine c.args.spot.chip) (sym c.self.view_is) c.requires in
     let at : 18 * c.index.result + c.from.result ≡ core_place c.self.inside.machine c.args.spot = omega (arith, c.index.ensures.value, c.from.ensures) in
     let there : vertex_at c.self.inside.spots c.args.spot ≡ c.index-2.result.now =
-        vertex_read c.self.inside.machine c.self.inside.spots c.self.inside.vertices.items c.args.spot _ c.index-2.result.now c.self.invariant.vertices inside c.if-spot-ge18.false at c.index-2.ensures
+    vertex_read c.self.inside.machine c.self.inside.spots c.self.inside.vertices.items c.args.spot _ c.index-2.result.now c.self.invariant.vertices inside c.if-spot-ge18.false at c.index-2.ensures
     in
     sym (ap core_of (ap (λ (s : State). vertex_at s.spots c.args.spot) (sym c.self.view_is) ∙ (there ∙ c.in-Some.is)))
 
@@ -35,7 +34,7 @@ returns-in-Some-clause-place c =
     let inside : IsInside c.self.inside.machine c.args.spot.chip = subst (λ (s : State). IsInside s.machine c.args.spot.chip) (sym c.self.view_is) c.requires in
     let at : 18 * c.index.result + c.from.result ≡ core_place c.self.inside.machine c.args.spot = omega (arith, c.index.ensures.value, c.from.ensures) in
     let there : vertex_at c.self.inside.spots c.args.spot ≡ c.index-2.result.now =
-        vertex_read c.self.inside.machine c.self.inside.spots c.self.inside.vertices.items c.args.spot _ c.index-2.result.now c.self.invariant.vertices inside c.if-spot-ge18.false at c.index-2.ensures
+    vertex_read c.self.inside.machine c.self.inside.spots c.self.inside.vertices.items c.args.spot _ c.index-2.result.now c.self.invariant.vertices inside c.if-spot-ge18.false at c.index-2.ensures
     in
     let below : c.in-Some.vertex < length c.self.inside.spots = vertex_at-below c.self.inside.spots c.args.spot c.in-Some.vertex (there ∙ c.in-Some.is) in
     let few : c.in-Some.vertex < length c.self.inside.cores.items = omega (arith, c.self.invariant.mesh.core_lists) in

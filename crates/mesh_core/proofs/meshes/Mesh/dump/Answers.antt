@@ -1,5 +1,5 @@
 -- The mesh after the copy was dropped is the one that the step gives.
-use Rattle.std.proofs.Common.{◌≡◌, ◌∙◌, ap, sym, subst, arith, Bool, false, Some, ℕ, length, List, Option}
+use Rattle.std.proofs.Common.{◌≡◌, ◌∙◌, ap, sym, subst, arith, false, Some, ℕ}
 use Rattle.std.specs.List.{slice_get}
 use Rattle.std.specs.Vec.{with_items}
 use Rattle.std.proofs.lemmas.List.{with_items_is}
@@ -7,7 +7,7 @@ use Rattle.spin_base.specs.declared.copies.Event.TheVariants.{Dump}
 use Rattle.spin_base.specs.declared.copies.McCopy.{McCopy}
 use Rattle.machine_desc.specs.Live.{index_of}
 use Rattle.mesh_core.specs.Serving.{named, copy_served, hands_after}
-use Rattle.mesh_core.specs.State.{State, Held, Behind, behind}
+use Rattle.mesh_core.specs.State.{State, Behind, behind}
 use Rattle.mesh_core.specs.Step.{has_room_behind, stepped}
 use Rattle.mesh_core.specs.Tabled.{state_of}
 use Rattle.mesh_core.proofs.Keeping.{IsMesh-stepped}
@@ -29,17 +29,17 @@ moves c =
     let k : McCopy = c.in-Some.copy in
     let chip : ℕ = index_of s.machine c.args.c in
     let copy : Some k ≡ copy_served s c.args.c c.args.out (slice_get s.hands chip) =
-        subst (λ (t : State). Some k ≡ copy_served t c.args.c c.args.out (slice_get t.hands (index_of t.machine c.args.c))) (sym c.self.view_is) (sym c.in-Some.is ∙ c.copy_for.ensures.copy)
+    subst (λ (t : State). Some k ≡ copy_served t c.args.c c.args.out (slice_get t.hands (index_of t.machine c.args.c))) (sym c.self.view_is) (sym c.in-Some.is ∙ c.copy_for.ensures.copy)
     in
     let queue : named c.behind-queue.result ≡ to =
-        subst (λ (t : State). named c.behind-queue.result ≡ behind t.machine t.spots c.args.c c.args.out) (sym c.self.view_is) c.behind-queue.ensures.queue
+    subst (λ (t : State). named c.behind-queue.result ≡ behind t.machine t.spots c.args.c c.args.out) (sym c.self.view_is) c.behind-queue.ensures.queue
     in
     let full_named : has_room_behind s (named c.behind-queue.result) ≡ false =
-        subst (λ (t : State). has_room_behind t (named c.behind-queue.result) ≡ false) (sym c.self.view_is) (sym c.has_room_behind.ensures ∙ c.if-has_room_behind.false)
+    subst (λ (t : State). has_room_behind t (named c.behind-queue.result) ≡ false) (sym c.self.view_is) (sym c.has_room_behind.ensures ∙ c.if-has_room_behind.false)
     in
     let full : has_room_behind s to ≡ false = ap (has_room_behind s) (sym queue) ∙ full_named in
     let is_hands : (after c).hands ≡ hands_after s.hands chip c.args.out (slice_get s.hands chip) =
-        with_items_is c.self.inside.hands c.serve.new.hands (omega arith) ∙ cc
+    with_items_is c.self.inside.hands c.serve.new.hands (omega arith) ∙ cc
     in
     stepped-dump s c.args.c c.args.out k (after c).hands (after c).dumped copy full is_hands c.in_ok-push.ensures.ok
 

@@ -1,5 +1,5 @@
 -- The mesh after the copy was sent is the one that the step gives.
-use Rattle.std.proofs.Common.{rules, ◌≡◌, ◌∙◌, ap, arith, Bool, true, Some, ℕ, length, List}
+use Rattle.std.proofs.Common.{◌≡◌, ◌∙◌, ap, arith, true, Some, ℕ, List}
 use Rattle.std.specs.List.{slice_get}
 use Rattle.std.specs.Vec.{with_items}
 use Rattle.std.proofs.lemmas.List.{with_items_is}
@@ -20,12 +20,12 @@ invariant_of-self-2 c =
     let unsent : List (List McCopy) = (with_items c.self.inside.unsent c.drop_front.new.queues).items in
     let inputs : List (List McCopy) = (with_items c.self.inside.inputs c.push_at.new.queues).items in
     let is_unsent : unsent ≡ shortened s.unsent c.args.v (slice_get s.unsent c.args.v) =
-        with_items_is c.self.inside.unsent c.drop_front.new.queues (omega arith)
-        ∙ (c.drop_front.ensures ∙ ap (λ (l : List (List McCopy)). shortened l c.args.v (slice_get l c.args.v)) c.deref_mut-2.ensures.value)
+    with_items_is c.self.inside.unsent c.drop_front.new.queues (omega arith)
+    ∙ (c.drop_front.ensures ∙ ap (λ (l : List (List McCopy)). shortened l c.args.v (slice_get l c.args.v)) c.deref_mut-2.ensures.value)
     in
     let at : ℕ = queue_at s.machine c.get.result.now.chip Local in
     let is_inputs : inputs ≡ appended s.inputs at c.in-Some.copy (slice_get s.inputs at) =
-        with_items_is c.self.inside.inputs c.push_at.new.queues (omega arith) ∙ cc c.in_ok-push_at.ensures.ok
+    with_items_is c.self.inside.inputs c.push_at.new.queues (omega arith) ∙ cc c.in_ok-push_at.ensures.ok
     in
     let front : Some c.in-Some.copy ≡ front_of (slice_get s.unsent c.args.v) = cc in
     let room : has_room s.capacity (slice_get s.inputs at) ≡ true = cc in

@@ -1,5 +1,5 @@
 -- The lists are made as the empty mesh has them.
-use Rattle.std.proofs.Common.{◌≡◌, ℕ, ◌+◌, ◌*◌, ap, ◌∙◌, subst, [], List, Option, None}
+use Rattle.std.proofs.Common.{◌≡◌, ℕ, ◌*◌, ap, ◌∙◌, subst, [], List, Option, None}
 use Rattle.std.specs.Prelude.{replicate}
 use Rattle.spin_base.specs.declared.copies.McCopy.{McCopy}
 use Rattle.mesh_core.specs.State.{Held}
@@ -11,8 +11,8 @@ pub invariant_of-result : goal.invariant_of-result
 invariant_of-result c =
     let m = c.args.machine in
     let size : c.from.result * c.from-2.result ≡ m.width * m.height =
-        ap (λ (n : ℕ). n * c.from-2.result) (c.from.ensures ∙ c.width.ensures.value)
-        ∙ ap (λ (n : ℕ). m.width * n) (c.from-2.ensures ∙ c.height.ensures.value)
+    ap (λ (n : ℕ). n * c.from-2.result) (c.from.ensures ∙ c.width.ensures.value)
+    ∙ ap (λ (n : ℕ). m.width * n) (c.from-2.ensures ∙ c.height.ensures.value)
     in
     record {
       mesh = IsMesh-dumped _ _ (IsMesh-delivered _ _ (IsMesh-made m _ _ _ _ _ _ _ c.width.ensures.size c.requires.different c.requires.usable c.requires.room c.requires.tables

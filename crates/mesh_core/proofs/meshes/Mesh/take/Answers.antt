@@ -1,15 +1,13 @@
 -- The mesh after the copy was taken is the one that the step gives.
-use Rattle.std.proofs.Common.{◌≡◌, ◌∙◌, ap, sym, subst, arith, Bool, true, Some, None, ℕ, length, List, Option, set, is_some}
-use Rattle.std.specs.Prelude.{unwrap_or}
+use Rattle.std.proofs.Common.{◌≡◌, ◌∙◌, ap, sym, subst, arith, true, Some, None, ℕ, set}
 use Rattle.std.specs.List.{slice_get}
 use Rattle.std.specs.Vec.{with_items, with_item}
 use Rattle.std.proofs.lemmas.List.{with_items_is}
 use Rattle.spin_base.specs.declared.copies.Event.TheVariants.{Take}
-use Rattle.spin_base.specs.declared.copies.McCopy.{McCopy}
 use Rattle.machine_desc.specs.Live.{index_of, is_live_chip}
-use Rattle.mesh_core.specs.declared.places.Did.TheVariants.{Moved, Idle}
+use Rattle.mesh_core.specs.declared.places.Did.TheVariants.{Moved}
 use Rattle.mesh_core.specs.Queues.{front_of, shortened}
-use Rattle.mesh_core.specs.State.{State, Held, queue_at}
+use Rattle.mesh_core.specs.State.{State, queue_at}
 use Rattle.mesh_core.specs.Step.{in_hand, outputs, stepped, answer, after_event}
 use Rattle.mesh_core.specs.Tabled.{state_of}
 use Rattle.mesh_core.proofs.Keeping.{IsMesh-stepped}
@@ -33,15 +31,15 @@ moves c =
     let live : is_live_chip s.machine c.args.c ≡ true = cc in
     let at : c.index-chip.result ≡ chip = c.index-chip.ensures.value in
     let free : slice_get s.hands chip ≡ Some None =
-        ap (slice_get s.hands) (sym at) ∙ no_hand s.hands c.index-chip.result c.index.result.now (omega (arith, c.self.invariant.mesh.hand_list, c.index-chip.ensures.below)) c.index.ensures (sym c.is_some.ensures ∙ c.if-is_some.false)
+    ap (slice_get s.hands) (sym at) ∙ no_hand s.hands c.index-chip.result c.index.result.now (omega (arith, c.self.invariant.mesh.hand_list, c.index-chip.ensures.below)) c.index.ensures (sym c.is_some.ensures ∙ c.if-is_some.false)
     in
     let front : Some c.in-Some.copy ≡ front_of (slice_get s.inputs queue) = cc in
     let is_inputs : (after c).inputs ≡ shortened s.inputs queue (slice_get s.inputs queue) =
-        with_items_is c.self.inside.inputs c.drop_front.new.queues (omega arith) ∙ cc
+    with_items_is c.self.inside.inputs c.drop_front.new.queues (omega arith) ∙ cc
     in
     let is_hands : (after c).hands ≡ set s.hands chip (in_hand c.in-Some.copy c.args.port (outputs s c.args.c c.args.port c.in-Some.copy)) =
-        ap (λ (n : ℕ). set s.hands n c.taken.result) at
-        ∙ ap (set s.hands chip) (c.taken.ensures ∙ ap (in_hand c.in-Some.copy c.args.port) (outputs_read s c.args.c c.args.port c.in-Some.copy c.index-chip.result c.get.result.now at c.get.ensures))
+    ap (λ (n : ℕ). set s.hands n c.taken.result) at
+    ∙ ap (set s.hands chip) (c.taken.ensures ∙ ap (in_hand c.in-Some.copy c.args.port) (outputs_read s c.args.c c.args.port c.in-Some.copy c.index-chip.result c.get.result.now at c.get.ensures))
     in
     stepped-take s c.args.c c.args.port c.in-Some.copy (after c).inputs (after c).hands live free front is_inputs is_hands
 
