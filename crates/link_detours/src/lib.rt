@@ -1,0 +1,9 @@
+//! Trees round dead links: what is left of a routing tree when links of the machine are dead, joined again to its
+//! targets by the shortest detours over live links.
+//!
+//! Detours and their ties are this project's own.
+#![tactic(auto)]
+
+mod searches;
+
+
