@@ -1,14 +1,14 @@
 -- A search that lowers the numbers of chips until no flagged link leads to a number more than one greater.
-use Rattle.std.proofs.Common.{◌≡◌, ◌≢◌, ℕ, zero, suc, ◌+◌, ◌*◌, ◌<◌, ◌≤◌, ◌^◌, Bool, true, false, List, [], ◌∷◌, ◌++◌, length, get_or, set, Option, Some, None, add-one, refl, sym, ap, ◌∙◌, subst, arith, inl, inr, ◌⊎◌}
+use Rattle.std.proofs.Common.{◌≡◌, ◌≢◌, ℕ, zero, suc, ◌+◌, ◌*◌, ◌<◌, ◌≤◌, ◌^◌, Bool, true, false, cond, List, [], ◌∷◌, ◌++◌, length, get_or, set, Option, Some, None, add-one, refl, sym, ap, ◌∙◌, subst, arith, inl, inr, ◌⊎◌}
 use Rattle.std.specs.List.{Contains, All, sum_by}
-use Rattle.std.proofs.lemmas.Bool.{cases_lt, cases_eq, cases_order, cases_Bool, false≢true}
+use Rattle.std.proofs.lemmas.Bool.{cases_lt, cases_eq, cases_order, cases_Bool, cond-true, cond-false, false≢true}
 use Rattle.std.proofs.lemmas.List.{get_or-set_same, get_or-set_other, get_or_append_left, get_or_at, get_or_default, length-append, length-set}
 use Rattle.std.proofs.lemmas.List.Elements.{All-push, All-contains, Contains-get_or}
 use Rattle.std.proofs.lemmas.List.Sums.{sum_by-set}
 use Rattle.spin_base.specs.declared.chips.Chip.{Chip}
 use Rattle.spin_base.specs.declared.chips.Dir.{Dir}
 use Rattle.spin_base.specs.Equality.{chip_eq}
-use Rattle.spin_base.specs.Links.{dir_number}
+use Rattle.spin_base.specs.Links.{dir_number, all_dirs}
 use Rattle.spin_base.proofs.Equality.{chip_eq_true}
 use Rattle.machine_desc.specs.Description.{Description}
 use Rattle.machine_desc.specs.Live.{far_of, index_of, IsInside}
@@ -49,6 +49,15 @@ module _ (m : Description) (table : List Bool) (seeds : List Chip) (top : ℕ) w
   -- the links that wait while the chip at next is looked at, from link number i on
   abbrev pub WaitsFrom : List Chip → ℕ → Chip → ℕ → Chip → ℕ → Type 0
   WaitsFrom queue next at i c j = Waits queue (next + 1) c ⊎ ((c ≡ at) × (i ≤ j))
+
+  -- what holds while the links of the chip at next are looked at, from link number i on
+  pub record Looking (levels : List ℕ) (queue : List Chip) (next : ℕ) (at : Chip) (i count : ℕ) : Type 0 where
+    pub within : next < length queue
+    pub is_at : get_or queue next at ≡ at
+    pub at_inside : IsInside m at
+    pub at_low : number_at m levels at < top
+    pub count_is : count ≡ number_at m levels at + 1
+    pub ongoing : Ongoing levels queue (WaitsFrom queue next at i)
 
   -- the numbers after a chip gets a lower one
   number_same : (levels : List ℕ) (e c : Chip) (n : ℕ) → length levels ≡ m.width * m.height → IsInside m e → IsInside m c → c ≡ e →
@@ -115,10 +124,10 @@ module _ (m : Description) (table : List Bool) (seeds : List Chip) (top : ℕ) w
   -- a link that leads to a greater number: that number is lowered, and its chip waits
   pub lower : (levels : List ℕ) (queue : List Chip) (next : ℕ) (at e : Chip) (d : Dir) → IsInside m at →
       is_flagged m table at d ≡ true → far_of m at d ≡ Some e → next < length queue → get_or queue next at ≡ at →
-      number_at m levels at < top → number_at m levels at + 1 < number_at m levels e → number_at m levels e ≤ top →
+      number_at m levels at < top → number_at m levels at + 1 < number_at m levels e → number_at m levels at + 1 < top →
       Ongoing levels queue (WaitsFrom queue next at (dir_number d)) →
       Ongoing (set levels (index_of m e) (number_at m levels at + 1)) (queue ++ e ∷ []) (WaitsFrom (queue ++ e ∷ []) next at (dir_number d + 1))
-  lower levels queue next at e d at_inside flag leads within is at_low more at_most now = record {
+  lower levels queue next at e d at_inside flag leads within is at_low more fits now = record {
       long = length-set levels (index_of m e) n ∙ now.long;
       inside = All-push (IsInside m) queue e now.inside e_inside;
       known = All-push (λ c. number_at m after c < top) queue e (λ k x h. known_after (get_or queue k x) (now.inside k x h) (now.known k x h))
@@ -263,3 +272,104 @@ module _ (m : Description) (table : List Bool) (seeds : List Chip) (top : ℕ) w
       number_at m levels c < top
   reached_known levels queue next done high seeds_inside now c k by =
       (reached_low levels queue next done high seeds_inside now k by.0 c by.1 by.2).2
+
+  -- the chip at next is taken: its number is read, and its links are still to be looked at
+  pub start_looking : (levels : List ℕ) (queue : List Chip) (next : ℕ) (at : Chip) (place number : ℕ) → next < length queue →
+      at ≡ get_or queue next at → place ≡ index_of m at → number ≡ get_or levels place number →
+      Ongoing levels queue (λ c j. Waits queue next c) → Looking levels queue next at 0 (number + 1)
+  start_looking levels queue next at place number within at_is place_is number_is now =
+      let inside : IsInside m at = subst (λ (x : Chip). IsInside m x) (sym at_is) (now.inside next at within) in
+      let below : place < length levels = let grid : index_of m at < m.width * m.height = index_below m at inside in
+          let long : length levels ≡ m.width * m.height = now.long in omega arith in
+      let is : number ≡ number_at m levels at =
+          number_is ∙ (get_or_default levels place number 0 below ∙ ap (λ k. get_or levels k 0) place_is) in
+      record {
+          within = within;
+          is_at = sym at_is;
+          at_inside = inside;
+          at_low = subst (λ (x : Chip). number_at m levels x < top) (sym at_is) (now.known next at within);
+          count_is = ap (λ n. n + 1) is;
+          ongoing = start_links levels queue next at within (sym at_is) now
+      }
+
+  -- a link that leads nowhere, or to no greater number
+  pub look_past : (levels : List ℕ) (queue : List Chip) (next : ℕ) (at : Chip) (i count : ℕ) (d : Dir) → dir_number d ≡ i →
+      ((e : Chip) → is_flagged m table at d ≡ true → far_of m at d ≡ Some e → number_at m levels e ≤ count) →
+      Looking levels queue next at i count → Looking levels queue next at (i + 1) count
+  look_past levels queue next at i count d link fine now = record {
+      within = now.within;
+      is_at = now.is_at;
+      at_inside = now.at_inside;
+      at_low = now.at_low;
+      count_is = now.count_is;
+      ongoing = subst (λ k. Ongoing levels queue (WaitsFrom queue next at (k + 1))) link
+          (pass_link levels queue next at d (λ e flagged leads. subst (λ n. number_at m levels e ≤ n) now.count_is (fine e flagged leads))
+              (subst (λ k. Ongoing levels queue (WaitsFrom queue next at k)) (sym link) now.ongoing))
+  }
+
+  -- the number read of the chip to which a link leads
+  pub number_read : (levels : List ℕ) (e : Chip) (place number : ℕ) → length levels ≡ m.width * m.height → IsInside m e → place ≡ index_of m e →
+      number ≡ get_or levels place number → number ≡ number_at m levels e
+  number_read levels e place number long inside place_is number_is =
+      let below : place < length levels = let grid : index_of m e < m.width * m.height = index_below m e inside in omega arith in
+      number_is ∙ (get_or_default levels place number 0 below ∙ ap (λ k. get_or levels k 0) place_is)
+
+  -- a link that leads to a greater number
+  pub look_lower : (levels : List ℕ) (queue : List Chip) (next : ℕ) (at e : Chip) (i count place : ℕ) (d : Dir) → dir_number d ≡ i →
+      is_flagged m table at d ≡ true → far_of m at d ≡ Some e → place ≡ index_of m e → count < number_at m levels e → length queue + 1 < top →
+      Looking levels queue next at i count → Looking (set levels place count) (queue ++ e ∷ []) next at (i + 1) count
+  look_lower levels queue next at e i count place d link flagged leads place_is more high now =
+      let inside : IsInside m e = far_inside m at e d now.at_inside leads in
+      let longer : length (queue ++ e ∷ []) ≡ length queue + 1 = length-append queue (e ∷ []) in
+      let lowered : List ℕ = set levels (index_of m e) (number_at m levels at + 1) in
+      let same : set levels place count ≡ lowered =
+          ap (λ k. set levels k count) place_is ∙ ap (λ n. set levels (index_of m e) n) now.count_is in
+      let kept : number_at m lowered at ≡ number_at m levels at =
+          number_other levels e at (number_at m levels at + 1) inside now.at_inside (far_other m at e d leads) in
+      subst (λ ns. Looking ns (queue ++ e ∷ []) next at (i + 1) count) (sym same) (record {
+          within = let before : next < length queue = now.within in omega arith;
+          is_at = get_or_append_left queue (e ∷ []) at next now.within ∙ now.is_at;
+          at_inside = now.at_inside;
+          at_low = subst (λ n. n < top) (sym kept) now.at_low;
+          count_is = now.count_is ∙ ap (λ n. n + 1) (sym kept);
+          ongoing = subst (λ k. Ongoing lowered (queue ++ e ∷ []) (WaitsFrom (queue ++ e ∷ []) next at (k + 1))) link
+              (lower levels queue next at e d now.at_inside flagged leads now.within now.is_at now.at_low
+                  (subst (λ n. n < number_at m levels e) now.count_is more)
+                  (let few : number_at m levels at ≤ length queue = now.ongoing.few at now.at_inside now.at_low in omega arith)
+                  (subst (λ k. Ongoing levels queue (WaitsFrom queue next at k)) (sym link) now.ongoing))
+      })
+
+  -- a number that is lowered weighs more than the place that its chip takes in the queue
+  pub weight_falls : (levels : List ℕ) (queue : List Chip) (e : Chip) (place count most : ℕ) → length levels ≡ m.width * m.height → IsInside m e →
+      place ≡ index_of m e → count < number_at m levels e → 2 * sum_by (λ n. n) levels + length queue ≤ most →
+      2 * sum_by (λ n. n) (set levels place count) + length (queue ++ e ∷ []) ≤ most
+  weight_falls levels queue e place count most long inside place_is more before =
+      let below : place < length levels = let grid : index_of m e < m.width * m.height = index_below m e inside in omega arith in
+      let moved : sum_by (λ n. n) (set levels place count) + get_or levels place 0 ≡ sum_by (λ n. n) levels + count =
+          sum_by-set (λ n. n) levels place count 0 below in
+      let old : get_or levels place 0 ≡ number_at m levels e = ap (λ k. get_or levels k 0) place_is in
+      let longer : length (queue ++ e ∷ []) ≡ length queue + 1 = length-append queue (e ∷ []) in
+      omega arith
+
+-- the chip that a flagged link gives
+pub flagged_parts : (m : Description) (table : List Bool) (c e : Chip) (d : Dir) →
+    Some e ≡ cond (is_flagged m table c d) (far_of m c d) None → (is_flagged m table c d ≡ true) × (far_of m c d ≡ Some e)
+flagged_parts m table c e d h = elim (cases_Bool (is_flagged m table c d)) [
+    | inl flagged ↦ (flagged, sym (cond-true (is_flagged m table c d) (far_of m c d) None flagged) ∙ sym h)
+    | inr clear ↦ let none : Some e ≡ None = h ∙ cond-false (is_flagged m table c d) (far_of m c d) None clear in cc
+]
+
+-- a flagged link that leads somewhere gives a chip
+pub flagged_none : (m : Description) (table : List Bool) (c e : Chip) (d : Dir) →
+    None ≡ cond (is_flagged m table c d) (far_of m c d) None → is_flagged m table c d ≡ true → far_of m c d ≡ Some e → ⊥
+flagged_none m table c e d h flagged leads =
+    let some : None ≡ Some e = h ∙ (cond-true (is_flagged m table c d) (far_of m c d) None flagged ∙ leads) in cc
+
+pub dir_number_at : (i : ℕ) (d : Dir) → i < 6 → dir_number (get_or all_dirs i d) ≡ i
+dir_number_at zero d h = refl
+dir_number_at (suc zero) d h = refl
+dir_number_at (suc (suc zero)) d h = refl
+dir_number_at (suc (suc (suc zero))) d h = refl
+dir_number_at (suc (suc (suc (suc zero)))) d h = refl
+dir_number_at (suc (suc (suc (suc (suc zero))))) d h = refl
+dir_number_at (suc (suc (suc (suc (suc (suc i)))))) d h = absurd (omega (arith, h))
