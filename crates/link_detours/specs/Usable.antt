@@ -1,8 +1,10 @@
 -- Tables with a flag for each link, and the steps that they allow.
-use Rattle.std.specs.Prelude.{◌≡◌, ℕ, ◌+◌, ◌*◌, Bool, true, false, List, slice_index_or, slice_index, Some}
+use Rattle.std.specs.Prelude.{◌≡◌, ℕ, ◌+◌, ◌*◌, Bool, true, false, List, slice_index_or, slice_index, Option, Some}
+use Rattle.std.specs.Option.{option_map}
 use Rattle.spin_base.specs.declared.chips.Chip.{Chip}
 use Rattle.spin_base.specs.declared.chips.Dir.{Dir}
-use Rattle.spin_base.specs.Links.{dir_number}
+use Rattle.spin_base.specs.Links.{dir_number, opposite_of}
+use Rattle.machine_desc.specs.declared.trees.Edge.{Edge}
 use Rattle.machine_desc.specs.Description.{Description}
 use Rattle.machine_desc.specs.Live.{far_of, index_of, IsInside}
 
@@ -20,3 +22,7 @@ FlaggedStep m table a b = IsInside m a × ((d : Dir) × (is_flagged m table a d 
 -- the number that a table has for a chip
 abbrev pub number_at : Description → List ℕ → Chip → ℕ
 number_at m table c = slice_index table (index_of m c)
+
+-- the same link from its other end, where it leads anywhere
+abbrev pub turned : Description → Edge → Option Edge
+turned m e = option_map (λ (c : Chip). let f : Edge = record { chip = c; dir = opposite_of e.dir } in f) (far_of m e.chip e.dir)

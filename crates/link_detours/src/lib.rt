@@ -4,6 +4,8 @@
 //! Detours and their ties are this project's own.
 #![tactic(auto)]
 
+mod edges;
 mod searches;
+mod tables;
 
 

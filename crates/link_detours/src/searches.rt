@@ -6,21 +6,13 @@ ghost use Rattle.link_detours.specs.Steps.{IsReachedBy, IsLevel};
 ghost use Rattle.link_detours.specs.Usable.{link_place, is_flagged, FlaggedStep, number_at};
 ghost use Rattle.spin_base.specs.declared.chips.Chip.{Chip};
 
+use crate::tables::link_place;
 use machine_desc::Machine;
 use spin_base::{Chip, Dir, Memory};
 use std::alloc::Global;
 
 // What a table of numbers of steps has for a chip that no walk reaches.
 pub const UNREACHED: u64 = u64::MAX;
-
-// The place of a link in a table with six places for each chip.
-pub fn link_place(machine: &Machine, c: Chip, d: Dir) -> usize
-    requires { IsInside machine.now c }
-    ensures place { result ≡ link_place machine.now c d }
-    ensures below { result < machine.now.width * machine.now.height * 6 }
-{
-    machine.index(c) as usize * 6 + usize::from(d.number())
-}
 
 // The chip to which the link leads, where the table flags the link.
 fn flagged_far(machine: &Machine, flags: &[bool], c: Chip, d: Dir) -> Option<Chip>
