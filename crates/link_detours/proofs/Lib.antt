@@ -1,3 +1,7 @@
+pub mod Reaching
+pub mod Pruning
 pub mod Searching
 pub mod Seeding
+pub mod Stepping
 pub mod Tabling
+pub mod Wholes

@@ -1,3 +1,5 @@
+pub mod Descent
 pub mod Repair
 pub mod Steps
 pub mod Usable
+pub mod Whole

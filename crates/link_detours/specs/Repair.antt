@@ -46,7 +46,7 @@ IsDetour m root tree c (e ∷ walk) = IsLastLink m root tree c e × IsDetour m r
 -- The targets are taken in the order of their list, and each is joined to the tree as it is then.
 abbrev pub Joins : Description → Chip → List Edge → List Chip → List Edge → Type 0
 Joins m root tree [] whole = tree ≡ whole
-Joins m root tree (t ∷ targets) whole = (walk : List Edge) × IsDetour m root tree t walk × Joins m root (walk ++ tree) targets whole
+Joins m root tree (t ∷ targets) whole = (walk : List Edge) × IsDetour m root tree t walk × Joins m root (tree ++ walk) targets whole
 
 -- a target stands at the far end of the edge, or below it
 abbrev pub LeadsToTarget : Description → List Edge → List Chip → Edge → Type 0

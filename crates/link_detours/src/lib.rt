@@ -4,6 +4,7 @@
 //! Detours and their ties are this project's own.
 #![tactic(auto)]
 
+mod detours;
 mod edges;
 mod searches;
 mod tables;
