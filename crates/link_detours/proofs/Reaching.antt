@@ -2,22 +2,24 @@
 use Rattle.std.proofs.Common.{◌≡◌, ◌≢◌, ℕ, zero, suc, ◌+◌, ◌*◌, ◌<◌, ◌≤◌, Bool, true, false, List, [], ◌∷◌, ◌++◌, length, get_or, Some, None, add-one, refl, sym, ap, ◌∙◌, subst, arith, inl, inr, ◌⊎◌, ◌↔◌}
 use Rattle.std.specs.List.{Contains, All}
 use Rattle.std.proofs.lemmas.Bool.{cases_lt, cases_eq}
-use Rattle.std.proofs.lemmas.List.Elements.{All-contains}
+use Rattle.std.proofs.lemmas.List.Elements.{All-contains, Contains-get_or}
+use Rattle.std.proofs.lemmas.List.{append_assoc, append-nil, get_or_default}
 use Rattle.spin_base.specs.declared.chips.Chip.{Chip}
 use Rattle.spin_base.specs.declared.chips.Dir.{Dir}
-use Rattle.spin_base.specs.Links.{dir_number}
+use Rattle.spin_base.specs.Links.{dir_number, opposite_of}
 use Rattle.machine_desc.specs.declared.trees.Edge.{Edge}
 use Rattle.machine_desc.specs.Description.{Description}
-use Rattle.machine_desc.specs.Live.{far_of, IsInside, IsLiveChip, IsLiveLink, LeadsTo, is_live_link}
+use Rattle.machine_desc.specs.Live.{far_of, index_of, IsInside, IsLiveChip, IsLiveLink, LeadsTo, is_live_link}
 use Rattle.machine_desc.specs.RoutingTree.{end_of, IsTreeChip}
-use Rattle.machine_desc.proofs.Far.{live_ends, live_inside, far_inside}
+use Rattle.machine_desc.proofs.Far.{live_ends, live_inside, live_back, far_inside, far_back, opposite_of-opposite, index_below}
+use Rattle.machine_desc.proofs.Same.{same_dir}
 use Rattle.link_detours.specs.Steps.{Steps, IsReachedBy, IsLevel}
 use Rattle.link_detours.specs.Usable.{is_flagged, FlaggedStep, number_at}
 use Rattle.link_detours.specs.Repair.{EdgeStep, IsTreeLevel, IsLastLink, IsDetour, IsCutOff}
 use Rattle.link_detours.specs.Descent.{IsStepDown, IsBestStep, IsDescent}
 use Rattle.link_detours.specs.Whole.{IsWhole}
 use Rattle.link_detours.proofs.Stepping.{Steps-map, IsLevel-same, IsReachedBy-map}
-use Rattle.link_detours.proofs.Wholes.{steps_on_tree}
+use Rattle.link_detours.proofs.Wholes.{steps_on_tree, tree_cases}
 
 -- a live link begins inside the grid
 pub link_inside : (m : Description) (c : Chip) (d : Dir) → IsLiveLink m c d → IsInside m c
@@ -37,6 +39,17 @@ edges_flagged m table edges flags inside a b step =
     let e : Edge = record { chip = a; dir = step.0 } in
     let here : IsInside m a = All-contains (λ f. IsInside m f.chip) edges e inside step.1 in
     (here, (step.0, (flags e here).1 step.1, step.2))
+
+-- a live link into a chip is a live link of that chip, by the opposite link
+pub link_turned : (m : Description) (at b : Chip) (d : Dir) → IsLiveLink m b d → far_of m b d ≡ Some at →
+    IsLiveLink m at (opposite_of d) × (far_of m at (opposite_of d) ≡ Some b)
+link_turned m at b d lives leads = (live_back m b at d leads lives, far_back m b at d (link_inside m b d lives) leads)
+
+pub turned_link : (m : Description) (at b : Chip) (d : Dir) → IsLiveLink m at (opposite_of d) → far_of m at (opposite_of d) ≡ Some b →
+    IsLiveLink m b d × (far_of m b d ≡ Some at)
+turned_link m at b d lives leads =
+    let turned = link_turned m b at (opposite_of d) lives leads in
+    (subst (λ (o : Dir). IsLiveLink m b o) (opposite_of-opposite d) turned.0, subst (λ (o : Dir). far_of m b o ≡ Some at) (opposite_of-opposite d) turned.1)
 
 pub only_root : (root a : Chip) → Contains (root ∷ []) a → a ≡ root
 only_root root a (zero, within, same) = sym same
@@ -139,3 +152,52 @@ module _ (m : Description) (root : Chip) (tree : List Edge) (reach : List ℕ) (
               let f_is : number_at m counts f.chip ≡ number_at m counts e.chip = step_level f.chip (number_at m counts e.chip) level (link_inside m f.chip f.dir lives) in
               down.0.1 f (lives, leads, omega arith)
       }, descent_detour e.chip walk e_inside e_low down.1)
+
+-- a step down by the first link that has one is the best
+pub best_step : (m : Description) (counts : List ℕ) (at : Chip) (i : ℕ) (e : Edge) → dir_number e.dir ≡ i → IsStepDown m counts at e →
+    ((f : Edge) → IsStepDown m counts at f → i ≤ dir_number f.dir) → IsBestStep m counts at e
+best_step m counts at i e is down from = (down, λ f f_down. let low : i ≤ dir_number f.dir = from f f_down in omega arith)
+
+-- one link more has no step down
+pub next_link : (m : Description) (counts : List ℕ) (at : Chip) (i : ℕ) (d : Dir) → dir_number d ≡ i →
+    ((b : Chip) → IsStepDown m counts at (record { chip = b; dir = d }) → ⊥) → ((f : Edge) → IsStepDown m counts at f → i ≤ dir_number f.dir) →
+    (f : Edge) → IsStepDown m counts at f → i + 1 ≤ dir_number f.dir
+next_link m counts at i d is none from f down = elim (cases_eq (dir_number f.dir) i) [
+    | inr other ↦ (let low : i ≤ dir_number f.dir = from f down in omega arith)
+    | inl here ↦
+        let same : f.dir ≡ d = same_dir f.dir d (here ∙ sym is) in
+        absurd (none f.chip (subst (λ (o : Dir). IsStepDown m counts at (record { chip = f.chip; dir = o })) same down))
+]
+
+-- the way back so far, and one link more
+pub way_more : (m : Description) (counts : List ℕ) (target at : Chip) (old items done : List Edge) (e : Edge) → items ≡ old ++ done →
+    ((rest : List Edge) → IsDescent m counts at rest → IsDescent m counts target (done ++ rest)) → IsBestStep m counts at e →
+    (items ++ e ∷ [] ≡ old ++ (done ++ e ∷ []))
+        × ((rest : List Edge) → IsDescent m counts e.chip rest → IsDescent m counts target ((done ++ e ∷ []) ++ rest))
+way_more m counts target at old items done e is way best = (
+    ap (λ es. es ++ e ∷ []) is ∙ append_assoc old done (e ∷ []),
+    λ rest down. subst (λ es. IsDescent m counts target es) (sym (append_assoc done (e ∷ []) rest)) (way (e ∷ rest) (best, down))
+)
+
+pub way_ends : (m : Description) (counts : List ℕ) (target at : Chip) (done : List Edge) →
+    ((rest : List Edge) → IsDescent m counts at rest → IsDescent m counts target (done ++ rest)) →
+    ((e : Edge) → IsStepDown m counts at e → ⊥) → IsDescent m counts target done
+way_ends m counts target at done way none = subst (λ es. IsDescent m counts target es) (append-nil done) (way [] none)
+
+-- the chips and edges of a whole tree are inside the grid
+pub whole_inside : (m : Description) (root : Chip) (tree : List Edge) → IsWhole m root tree → IsInside m root → (c : Chip) → IsTreeChip m root tree c → IsInside m c
+whole_inside m root tree is inside c on = elim (tree_cases m root tree c on) [
+    | inl at ↦ subst (λ (x : Chip). IsInside m x) (sym at) inside
+    | inr into ↦ far_inside m into.0.chip c into.0.dir (link_inside m into.0.chip into.0.dir (is.live into.0 into.1)) into.2
+]
+
+pub edges_inside : (m : Description) (root : Chip) (tree : List Edge) → IsWhole m root tree → All (λ e. IsInside m e.chip) tree
+edges_inside m root tree is k d h =
+    link_inside m (get_or tree k d).chip (get_or tree k d).dir (is.live (get_or tree k d) (Contains-get_or tree k d h))
+
+-- the number read at a chip's place
+pub number_is : (m : Description) (counts : List ℕ) (c : Chip) (place number : ℕ) → length counts ≡ m.width * m.height → IsInside m c →
+    place ≡ index_of m c → number ≡ get_or counts place number → number ≡ number_at m counts c
+number_is m counts c place number long inside place_is is =
+    let below : place < length counts = let grid : index_of m c < m.width * m.height = index_below m c inside in omega arith in
+    is ∙ (get_or_default counts place number 0 below ∙ ap (λ k. get_or counts k 0) place_is)

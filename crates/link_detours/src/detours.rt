@@ -26,7 +26,8 @@ pub fn tree_reach(alloc: Global, machine: &Machine, root: Chip, edges: &[Edge]) 
         (number_at machine.now t.items c < UNREACHED) ↔ ((n : ℕ) × Steps (EdgeStep machine.now edges.now) n root c)) }
 {
     let table = link_table(alloc, machine, edges)?;
-    step_counts(alloc, machine, &table, &[root])
+    let reach = step_counts(alloc, machine, &table, &[root])?;
+    Ok(reach)
 }
 
 // The chip from which the link `d` leads to `at`, where it is live and the numbers fall by one along it.
