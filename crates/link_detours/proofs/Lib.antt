@@ -4,4 +4,5 @@ pub mod Searching
 pub mod Seeding
 pub mod Stepping
 pub mod Tabling
+pub mod Turning
 pub mod Wholes

@@ -6,6 +6,7 @@
 
 mod detours;
 mod edges;
+mod prunes;
 mod searches;
 mod tables;
 
