@@ -1,4 +1,5 @@
 pub mod Reaching
+pub mod Keeping
 pub mod Pruning
 pub mod Searching
 pub mod Seeding

@@ -120,7 +120,7 @@ module _ (m : Description) (root : Chip) (tree : List Edge) (is : IsWhole m root
       detour_apart e.chip walk detour.1 f g x (k, within, same) (j, inside, also_same) leads also
 
   -- and with them the chip where the detour ends is reached
-  detour_reached : (more : List Edge) (c : Chip) (walk : List Edge) → IsDetour m root tree c walk → ((f : Edge) → Contains walk f → Contains more f) →
+  pub detour_reached : (more : List Edge) (c : Chip) (walk : List Edge) → IsDetour m root tree c walk → ((f : Edge) → Contains walk f → Contains more f) →
       (n : ℕ) × Steps (EdgeStep m (tree ++ more)) n root c
   detour_reached more c [] detour sub = let way = is.reached c detour in (way.0, more_steps m tree more way.0 root c way.1)
   detour_reached more c (e ∷ walk) detour sub =

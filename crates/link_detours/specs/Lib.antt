@@ -1,3 +1,4 @@
+pub mod Cause
 pub mod Descent
 pub mod Repair
 pub mod Steps

@@ -7,7 +7,8 @@
 mod detours;
 mod edges;
 mod prunes;
+mod repairs;
 mod searches;
 mod tables;
 
-
+pub use repairs::{RepairErr, repair};
