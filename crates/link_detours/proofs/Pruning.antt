@@ -1,14 +1,12 @@
 -- What is left of a whole tree when only the edges that lead to a target stay.
-use Rattle.std.proofs.Common.{◌≡◌, ◌≢◌, ℕ, zero, suc, ◌+◌, ◌<◌, ◌≤◌, List, [], ◌∷◌, ◌++◌, length, get_or, Some, None, refl, sym, ap, ◌∙◌, subst, arith, inl, inr, ◌⊎◌, ◌↔◌}
-use Rattle.std.specs.List.{Contains, All, Any, AllPairs}
-use Rattle.std.proofs.lemmas.List.{get_or_default}
-use Rattle.std.proofs.lemmas.List.Elements.{All-contains, Contains-get_or}
+use Rattle.std.proofs.Common.{◌≡◌, ℕ, zero, suc, ◌<◌, List, [], ◌∷◌, ◌++◌, length, get_or, Some, refl, sym, ap, ◌∙◌, subst, arith, inl, inr, ◌⊎◌, ◌↔◌}
+use Rattle.std.specs.List.{Contains, Any}
+use Rattle.std.proofs.lemmas.List.Elements.{Contains-get_or}
 use Rattle.spin_base.specs.declared.chips.Chip.{Chip}
 use Rattle.machine_desc.specs.declared.trees.Edge.{Edge}
 use Rattle.machine_desc.specs.Description.{Description}
-use Rattle.machine_desc.specs.Live.{far_of, IsLiveChip, IsLiveLink}
+use Rattle.machine_desc.specs.Live.{IsLiveChip}
 use Rattle.machine_desc.specs.RoutingTree.{end_of, IsTreeChip, IsPath, IsTreeTo}
-use Rattle.machine_desc.proofs.Far.{live_ends}
 use Rattle.link_detours.specs.Steps.{Steps}
 use Rattle.link_detours.specs.Usable.{link_place}
 use Rattle.link_detours.specs.Repair.{EdgeStep, LeadsToTarget, IsInOrder}
@@ -26,7 +24,6 @@ path_more m edges from to c (f ∷ path) e along has at leads =
 module _ (m : Description) (root : Chip) (tree : List Edge) (targets : List Chip) (result : List Edge) (is : IsWhole m root tree)
     (on_tree : (t : Chip) → Contains targets t → IsTreeChip m root tree t) (some : 0 < length targets) (root_lives : IsLiveChip m root)
     (left : (e : Edge) → Contains result e ↔ (Contains tree e × LeadsToTarget m tree targets e)) (ordered : IsInOrder m result) where
-
   -- the chip is a target or leads to one
   LeadsOn : Chip → Type 0
   LeadsOn c = (t : Chip) × Contains targets t × ((n : ℕ) × Steps (EdgeStep m tree) n c t)
@@ -59,56 +56,56 @@ module _ (m : Description) (root : Chip) (tree : List Edge) (targets : List Chip
   left_chip : (c : Chip) → IsTreeChip m root result c → IsTreeChip m root tree c × LeadsOn c
   unfolding LeadsOn
   left_chip c on = elim (tree_cases m root result c on) [
-      | inl at ↦
-          let t : Chip = get_or targets 0 c in
-          let has : Contains targets t = Contains-get_or targets 0 c some in
-          let way = is.reached t (on_tree t has) in
-          (inl at, (t, has, (way.0, subst (λ (x : Chip). Steps (EdgeStep m tree) way.0 x t) (sym at) way.1)))
-      | inr into ↦
-          let known = stayed into.0 into.1 in
-          let same : Some known.1.0 ≡ Some c = sym known.1.1 ∙ into.2 in
-          let one : known.1.0 ≡ c = cc in
-          (tree_end m root tree into.0 c known.0 into.2, subst (λ (x : Chip). (t : Chip) × Contains targets t × ((n : ℕ) × Steps (EdgeStep m tree) n x t)) one known.1.2)
+    | inl at ↦
+        let t : Chip = get_or targets 0 c in
+        let has : Contains targets t = Contains-get_or targets 0 c some in
+        let way = is.reached t (on_tree t has) in
+        (inl at, (t, has, (way.0, subst (λ (x : Chip). Steps (EdgeStep m tree) way.0 x t) (sym at) way.1)))
+    | inr into ↦
+        let known = stayed into.0 into.1 in
+        let same : Some known.1.0 ≡ Some c = sym known.1.1 ∙ into.2 in
+        let one : known.1.0 ≡ c = cc in
+        (tree_end m root tree into.0 c known.0 into.2, subst (λ (x : Chip). (t : Chip) × Contains targets t × ((n : ℕ) × Steps (EdgeStep m tree) n x t)) one known.1.2)
   ]
 
   -- a chip of the tree that leads on is left
   stays_chip : (c : Chip) → IsTreeChip m root tree c → LeadsOn c → IsTreeChip m root result c
   stays_chip c on leads_on = elim (tree_cases m root tree c on) [
-      | inl at ↦ inl at
-      | inr into ↦ tree_end m root result into.0 c (stays into.0 c into.1 into.2 leads_on) into.2
+    | inl at ↦ inl at
+    | inr into ↦ tree_end m root result into.0 c (stays into.0 c into.1 into.2 leads_on) into.2
   ]
 
   -- What is left is a tree to the targets.
   pub tree_left : IsTreeTo m root result targets
   unfolding LeadsOn
   tree_left = record {
-      root_lives = root_lives;
-      edges_live = λ k d h. is.live (get_or result k d) (stayed (get_or result k d) (Contains-get_or result k d h)).0;
-      edges_begin = λ k d h.
-          let e : Edge = get_or result k d in
-          let known = stayed e (Contains-get_or result k d h) in
-          begins e known.0 known.1.0 known.1.1 known.1.2;
-      none_into_root = λ k d h. is.none_into_root (get_or result k d) (stayed (get_or result k d) (Contains-get_or result k d h)).0;
-      one_into_each = λ i j d lt h same.
-          let within : i < length result = omega arith in
-          let first = stayed (get_or result i d) (Contains-get_or result i d within) in
-          let second = stayed (get_or result j d) (Contains-get_or result j d h) in
-          let one : get_or result i d ≡ get_or result j d =
-              is.one_into (get_or result i d) (get_or result j d) second.1.0 first.0 second.0 (same ∙ second.1.1) second.1.1 in
-          let place : link_place m (get_or result i d).chip (get_or result i d).dir ≡ link_place m (get_or result j d).chip (get_or result j d).dir =
-              ap (λ (e : Edge). link_place m e.chip e.dir) one in
-          let apart : link_place m (get_or result i d).chip (get_or result i d).dir < link_place m (get_or result j d).chip (get_or result j d).dir =
-              ordered i j d lt h in
-          omega (arith, place, apart);
-      reached = λ c on.
-          let known = left_chip c on in
-          let way = is.reached c known.0 in
-          path_stays way.0 c way.1 known.1;
-      has_targets = λ k d h.
-          let t : Chip = get_or targets k d in
-          let has : Contains targets t = Contains-get_or targets k d h in
-          stays_chip t (on_tree t has) (t, has, (0, refl));
-      ends_are_targets = λ c on. ends c (left_chip c on).1
+    root_lives = root_lives;
+    edges_live = λ k d h. is.live (get_or result k d) (stayed (get_or result k d) (Contains-get_or result k d h)).0;
+    edges_begin = λ k d h.
+        let e : Edge = get_or result k d in
+        let known = stayed e (Contains-get_or result k d h) in
+        begins e known.0 known.1.0 known.1.1 known.1.2;
+    none_into_root = λ k d h. is.none_into_root (get_or result k d) (stayed (get_or result k d) (Contains-get_or result k d h)).0;
+    one_into_each = λ i j d lt h same.
+        let within : i < length result = omega arith in
+        let first = stayed (get_or result i d) (Contains-get_or result i d within) in
+        let second = stayed (get_or result j d) (Contains-get_or result j d h) in
+        let one : get_or result i d ≡ get_or result j d =
+        is.one_into (get_or result i d) (get_or result j d) second.1.0 first.0 second.0 (same ∙ second.1.1) second.1.1 in
+        let place : link_place m (get_or result i d).chip (get_or result i d).dir ≡ link_place m (get_or result j d).chip (get_or result j d).dir =
+        ap (λ (e : Edge). link_place m e.chip e.dir) one in
+        let apart : link_place m (get_or result i d).chip (get_or result i d).dir < link_place m (get_or result j d).chip (get_or result j d).dir =
+        ordered i j d lt h in
+        omega (arith, place, apart);
+    reached = λ c on.
+        let known = left_chip c on in
+        let way = is.reached c known.0 in
+        path_stays way.0 c way.1 known.1;
+    has_targets = λ k d h.
+        let t : Chip = get_or targets k d in
+        let has : Contains targets t = Contains-get_or targets k d h in
+        stays_chip t (on_tree t has) (t, has, (0, refl));
+    ends_are_targets = λ c on. ends c (left_chip c on).1;
   }
     where
       begins : (e : Edge) → Contains tree e → (c : Chip) → end_of m e ≡ Some c → LeadsOn c → IsTreeChip m root result e.chip

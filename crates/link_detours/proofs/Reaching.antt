@@ -1,7 +1,7 @@
 -- What tables of steps say of trees and levels.
-use Rattle.std.proofs.Common.{◌≡◌, ◌≢◌, ℕ, zero, suc, ◌+◌, ◌*◌, ◌<◌, ◌≤◌, Bool, true, false, List, [], ◌∷◌, ◌++◌, length, get_or, Some, None, add-one, refl, sym, ap, ◌∙◌, subst, arith, inl, inr, ◌⊎◌, ◌↔◌}
+use Rattle.std.proofs.Common.{◌≡◌, ℕ, zero, suc, ◌+◌, ◌*◌, ◌<◌, ◌≤◌, Bool, true, List, [], ◌∷◌, ◌++◌, length, get_or, Some, refl, sym, ap, ◌∙◌, subst, arith, inl, inr, ◌↔◌}
 use Rattle.std.specs.List.{Contains, All}
-use Rattle.std.proofs.lemmas.Bool.{cases_lt, cases_eq}
+use Rattle.std.proofs.lemmas.Bool.{cases_eq}
 use Rattle.std.proofs.lemmas.List.Elements.{All-contains, Contains-get_or}
 use Rattle.std.proofs.lemmas.List.{append_assoc, append-nil, get_or_default}
 use Rattle.spin_base.specs.declared.chips.Chip.{Chip}
@@ -9,13 +9,13 @@ use Rattle.spin_base.specs.declared.chips.Dir.{Dir}
 use Rattle.spin_base.specs.Links.{dir_number, opposite_of}
 use Rattle.machine_desc.specs.declared.trees.Edge.{Edge}
 use Rattle.machine_desc.specs.Description.{Description}
-use Rattle.machine_desc.specs.Live.{far_of, index_of, IsInside, IsLiveChip, IsLiveLink, LeadsTo, is_live_link}
-use Rattle.machine_desc.specs.RoutingTree.{end_of, IsTreeChip}
+use Rattle.machine_desc.specs.Live.{far_of, index_of, IsInside, IsLiveLink, LeadsTo, is_live_link}
+use Rattle.machine_desc.specs.RoutingTree.{IsTreeChip}
 use Rattle.machine_desc.proofs.Far.{live_ends, live_inside, live_back, far_inside, far_back, opposite_of-opposite, index_below}
 use Rattle.machine_desc.proofs.Same.{same_dir}
 use Rattle.link_detours.specs.Steps.{Steps, IsReachedBy, IsLevel}
 use Rattle.link_detours.specs.Usable.{is_flagged, FlaggedStep, number_at}
-use Rattle.link_detours.specs.Repair.{EdgeStep, IsTreeLevel, IsLastLink, IsDetour, IsCutOff}
+use Rattle.link_detours.specs.Repair.{EdgeStep, IsTreeLevel, IsDetour, IsCutOff}
 use Rattle.link_detours.specs.Descent.{IsStepDown, IsBestStep, IsDescent}
 use Rattle.link_detours.specs.Whole.{IsWhole}
 use Rattle.link_detours.proofs.Stepping.{Steps-map, IsLevel-same, IsReachedBy-map}
@@ -62,11 +62,16 @@ pub reach_edges : (m : Description) (root : Chip) (table : List Bool) (edges : L
     ((c : Chip) (n : ℕ) → IsReachedBy (FlaggedStep m table) (Contains (root ∷ [])) n c → number_at m counts c < top) →
     (c : Chip) → IsInside m c → (number_at m counts c < top) ↔ ((n : ℕ) × Steps (EdgeStep m edges) n root c)
 reach_edges m root table edges counts top flags inside levels reached c c_inside = (
-    λ low. let by = (levels c c_inside low).reached in
-        (number_at m counts c, subst (λ (a : Chip). Steps (EdgeStep m edges) (number_at m counts c) a c) (only_root root by.0 by.1)
-            (Steps-map (FlaggedStep m table) (EdgeStep m edges) (flagged_edges m table edges flags) (number_at m counts c) by.0 c by.2)),
-    λ way. reached c way.0 (root, (0, omega arith, refl),
-        Steps-map (EdgeStep m edges) (FlaggedStep m table) (edges_flagged m table edges flags inside) way.0 root c way.1)
+  λ low. let by = (levels c c_inside low).reached in (
+    number_at m counts c,
+    subst (λ (a : Chip). Steps (EdgeStep m edges) (number_at m counts c) a c) (only_root root by.0 by.1)
+        (Steps-map (FlaggedStep m table) (EdgeStep m edges) (flagged_edges m table edges flags) (number_at m counts c) by.0 c by.2),
+  ),
+  λ way. reached c way.0 (
+    root,
+    (0, omega arith, refl),
+    Steps-map (EdgeStep m edges) (FlaggedStep m table) (edges_flagged m table edges flags inside) way.0 root c way.1,
+  ),
 )
 
 -- the chips of a whole tree are those that its edges join to the root
@@ -81,7 +86,6 @@ module _ (m : Description) (root : Chip) (tree : List Edge) (reach : List ℕ) (
     (seeds_are : (c : Chip) → Contains seeds c ↔ (IsInside m c × (number_at m reach c < top)))
     (levels : (c : Chip) → IsInside m c → number_at m counts c < top → IsLevel (FlaggedStep m table) (Contains seeds) c (number_at m counts c))
     (reached : (c : Chip) (n : ℕ) → IsReachedBy (FlaggedStep m table) (Contains seeds) n c → number_at m counts c < top) where
-
   flagged_live : (a b : Chip) → FlaggedStep m table a b → LeadsTo m a b
   flagged_live a b step = (step.1.0, sym (flags (record { chip = a; dir = step.1.0 }) step.0) ∙ step.1.1, step.1.2)
 
@@ -99,7 +103,7 @@ module _ (m : Description) (root : Chip) (tree : List Edge) (reach : List ℕ) (
   tree_level : (c : Chip) → IsInside m c → number_at m counts c < top → IsTreeLevel m root tree c (number_at m counts c)
   tree_level c inside low =
       IsLevel-same (FlaggedStep m table) (LeadsTo m) (Contains seeds) (IsTreeChip m root tree) flagged_live live_flagged seed_on on_seed
-          c (number_at m counts c) (levels c inside low)
+      c (number_at m counts c) (levels c inside low)
 
   tree_reached : (c : Chip) (n : ℕ) → IsReachedBy (LeadsTo m) (IsTreeChip m root tree) n c → number_at m counts c < top
   tree_reached c n by =
@@ -141,8 +145,8 @@ module _ (m : Description) (root : Chip) (tree : List Edge) (reach : List ℕ) (
       let falls : number_at m counts e.chip + 1 ≡ number_at m counts c = step.2 in
       let e_inside : IsInside m e.chip = link_inside m e.chip e.dir step.0 in
       let e_low : number_at m counts e.chip < top = omega arith in
-      let is : number_at m counts c ≡ suc (number_at m counts e.chip) = omega arith in
-      (record {
+      let is : number_at m counts c ≡ suc (number_at m counts e.chip) = omega arith in (
+        record {
           level = number_at m counts e.chip;
           here = subst (λ n. IsTreeLevel m root tree c n) is (tree_level c inside low);
           there = tree_level e.chip e_inside e_low;
@@ -150,8 +154,10 @@ module _ (m : Description) (root : Chip) (tree : List Edge) (reach : List ℕ) (
           leads = step.1;
           least = λ f level lives leads.
               let f_is : number_at m counts f.chip ≡ number_at m counts e.chip = step_level f.chip (number_at m counts e.chip) level (link_inside m f.chip f.dir lives) in
-              down.0.1 f (lives, leads, omega arith)
-      }, descent_detour e.chip walk e_inside e_low down.1)
+              down.0.1 f (lives, leads, omega arith);
+        },
+        descent_detour e.chip walk e_inside e_low down.1,
+      )
 
 -- a step down by the first link that has one is the best
 pub best_step : (m : Description) (counts : List ℕ) (at : Chip) (i : ℕ) (e : Edge) → dir_number e.dir ≡ i → IsStepDown m counts at e →
@@ -163,20 +169,20 @@ pub next_link : (m : Description) (counts : List ℕ) (at : Chip) (i : ℕ) (d :
     ((b : Chip) → IsStepDown m counts at (record { chip = b; dir = d }) → ⊥) → ((f : Edge) → IsStepDown m counts at f → i ≤ dir_number f.dir) →
     (f : Edge) → IsStepDown m counts at f → i + 1 ≤ dir_number f.dir
 next_link m counts at i d is none from f down = elim (cases_eq (dir_number f.dir) i) [
-    | inr other ↦ (let low : i ≤ dir_number f.dir = from f down in omega arith)
-    | inl here ↦
-        let same : f.dir ≡ d = same_dir f.dir d (here ∙ sym is) in
-        absurd (none f.chip (subst (λ (o : Dir). IsStepDown m counts at (record { chip = f.chip; dir = o })) same down))
+  | inr other ↦ (let low : i ≤ dir_number f.dir = from f down in omega arith)
+  | inl here ↦
+      let same : f.dir ≡ d = same_dir f.dir d (here ∙ sym is) in
+      absurd (none f.chip (subst (λ (o : Dir). IsStepDown m counts at (record { chip = f.chip; dir = o })) same down))
 ]
 
 -- the way back so far, and one link more
 pub way_more : (m : Description) (counts : List ℕ) (target at : Chip) (old items done : List Edge) (e : Edge) → items ≡ old ++ done →
     ((rest : List Edge) → IsDescent m counts at rest → IsDescent m counts target (done ++ rest)) → IsBestStep m counts at e →
     (items ++ e ∷ [] ≡ old ++ (done ++ e ∷ []))
-        × ((rest : List Edge) → IsDescent m counts e.chip rest → IsDescent m counts target ((done ++ e ∷ []) ++ rest))
+    × ((rest : List Edge) → IsDescent m counts e.chip rest → IsDescent m counts target ((done ++ e ∷ []) ++ rest))
 way_more m counts target at old items done e is way best = (
-    ap (λ es. es ++ e ∷ []) is ∙ append_assoc old done (e ∷ []),
-    λ rest down. subst (λ es. IsDescent m counts target es) (sym (append_assoc done (e ∷ []) rest)) (way (e ∷ rest) (best, down))
+  ap (λ es. es ++ e ∷ []) is ∙ append_assoc old done (e ∷ []),
+  λ rest down. subst (λ es. IsDescent m counts target es) (sym (append_assoc done (e ∷ []) rest)) (way (e ∷ rest) (best, down)),
 )
 
 pub way_ends : (m : Description) (counts : List ℕ) (target at : Chip) (done : List Edge) →
@@ -187,8 +193,8 @@ way_ends m counts target at done way none = subst (λ es. IsDescent m counts tar
 -- the chips and edges of a whole tree are inside the grid
 pub whole_inside : (m : Description) (root : Chip) (tree : List Edge) → IsWhole m root tree → IsInside m root → (c : Chip) → IsTreeChip m root tree c → IsInside m c
 whole_inside m root tree is inside c on = elim (tree_cases m root tree c on) [
-    | inl at ↦ subst (λ (x : Chip). IsInside m x) (sym at) inside
-    | inr into ↦ far_inside m into.0.chip c into.0.dir (link_inside m into.0.chip into.0.dir (is.live into.0 into.1)) into.2
+  | inl at ↦ subst (λ (x : Chip). IsInside m x) (sym at) inside
+  | inr into ↦ far_inside m into.0.chip c into.0.dir (link_inside m into.0.chip into.0.dir (is.live into.0 into.1)) into.2
 ]
 
 pub edges_inside : (m : Description) (root : Chip) (tree : List Edge) → IsWhole m root tree → All (λ e. IsInside m e.chip) tree

@@ -1,20 +1,15 @@
 -- Trees whose every chip is reached from the root, and what a detour adds to one.
-use Rattle.std.proofs.Common.{◌≡◌, ◌≢◌, ℕ, zero, suc, ◌+◌, ◌<◌, ◌≤◌, List, [], ◌∷◌, ◌++◌, length, get_or, Some, None, refl, sym, ap, ◌∙◌, subst, arith, inl, inr, ◌⊎◌, ◌↔◌}
-use Rattle.std.specs.List.{Contains, All, Any, AllPairs}
-use Rattle.std.proofs.lemmas.Bool.{cases_order}
-use Rattle.std.proofs.lemmas.List.{get_or_default, append_assoc, append-nil}
-use Rattle.std.proofs.lemmas.List.Elements.{All-contains, Contains-append_left, Contains-append_right, Contains-append_cases}
+use Rattle.std.proofs.Common.{◌≡◌, ℕ, zero, suc, ◌<◌, ◌≤◌, List, [], ◌∷◌, ◌++◌, length, Some, refl, sym, ap, ◌∙◌, subst, arith, inl, inr, ◌⊎◌}
+use Rattle.std.specs.List.{Contains}
+use Rattle.std.proofs.lemmas.List.Elements.{Contains-append_left, Contains-append_right, Contains-append_cases}
 use Rattle.spin_base.specs.declared.chips.Chip.{Chip}
-use Rattle.spin_base.specs.declared.chips.Dir.{Dir}
-use Rattle.spin_base.specs.Links.{dir_number}
 use Rattle.machine_desc.specs.declared.trees.Edge.{Edge}
 use Rattle.machine_desc.specs.Description.{Description}
-use Rattle.machine_desc.specs.Live.{far_of, IsInside, IsLiveChip, IsLiveLink, LeadsTo}
+use Rattle.machine_desc.specs.Live.{IsLiveLink, LeadsTo}
 use Rattle.machine_desc.specs.RoutingTree.{end_of, IsTreeChip}
-use Rattle.machine_desc.proofs.Same.{same_edge}
-use Rattle.link_detours.specs.Steps.{Steps, IsReachedBy, IsLevel}
+use Rattle.link_detours.specs.Steps.{Steps}
 use Rattle.link_detours.specs.Whole.{IsWhole}
-use Rattle.link_detours.specs.Repair.{EdgeStep, IsTreeLevel, IsLastLink, IsDetour, Joins}
+use Rattle.link_detours.specs.Repair.{EdgeStep, IsTreeLevel, IsDetour, Joins}
 use Rattle.link_detours.proofs.Stepping.{Steps-map}
 
 -- a chip into which an edge of the tree leads is a chip of the tree
@@ -29,8 +24,8 @@ tree_cases m root tree c (inr into) = inr (into.1, (into.0, into.2, into.3), int
 
 pub more_chips : (m : Description) (root : Chip) (tree more : List Edge) (c : Chip) → IsTreeChip m root tree c → IsTreeChip m root (tree ++ more) c
 more_chips m root tree more c on = elim (tree_cases m root tree c on) [
-    | inl at ↦ inl at
-    | inr into ↦ tree_end m root (tree ++ more) into.0 c (Contains-append_left tree more into.0 into.1) into.2
+  | inl at ↦ inl at
+  | inr into ↦ tree_end m root (tree ++ more) into.0 c (Contains-append_left tree more into.0 into.1) into.2
 ]
 
 pub more_steps : (m : Description) (tree more : List Edge) (n : ℕ) (a c : Chip) → Steps (EdgeStep m tree) n a c → Steps (EdgeStep m (tree ++ more)) n a c
@@ -53,7 +48,6 @@ live_steps m root tree is = Steps-map (EdgeStep m tree) (LeadsTo m)
     (λ a b step. (step.0, is.live (record { chip = a; dir = step.0 }) step.1, step.2))
 
 module _ (m : Description) (root : Chip) (tree : List Edge) (is : IsWhole m root tree) where
-
   -- chips of the tree have level 0
   level_on_tree : (c : Chip) (n : ℕ) → IsTreeChip m root tree c → IsTreeLevel m root tree c n → n ≡ 0
   level_on_tree c n on level = let least : n ≤ 0 = level.least 0 (c, on, refl) in omega arith
@@ -137,7 +131,7 @@ module _ (m : Description) (root : Chip) (tree : List Edge) (is : IsWhole m root
   detour_begins more c (e ∷ (g ∷ walk)) detour sub f (zero, _, same) =
       let mine : Contains more g = sub g (1, omega arith, refl) in
       subst (λ (h : Edge). IsTreeChip m root (tree ++ more) h.chip) same
-          (tree_end m root (tree ++ more) g e.chip (Contains-append_right tree more g mine) detour.1.0.leads)
+      (tree_end m root (tree ++ more) g e.chip (Contains-append_right tree more g mine) detour.1.0.leads)
   detour_begins more c (e ∷ walk) detour sub f (suc k, longer, same) =
       let within : k < length walk = omega arith in
       detour_begins more e.chip walk detour.1 (λ g has. sub g (suc has.0, (let inside : has.0 < length walk = has.1 in omega arith), has.2)) f (k, within, same)
@@ -157,35 +151,35 @@ module _ (m : Description) (root : Chip) (tree : List Edge) (is : IsWhole m root
   -- a tree with a detour added is whole
   pub whole_joined : (t : Chip) (walk : List Edge) → IsDetour m root tree t walk → IsWhole m root (tree ++ walk)
   whole_joined t walk detour = record {
-      live = λ e has. elim (Contains-append_cases tree walk e has) [
-        | inl old ↦ is.live e old
-        | inr new ↦ detour_lives t walk detour e new
-      ];
-      reached = λ c on. elim (tree_cases m root (tree ++ walk) c on) [
-        | inl at ↦ (0, sym at)
-        | inr into ↦ elim (Contains-append_cases tree walk into.0 into.1) [
-            | inl old ↦ let way = is.reached c (tree_end m root tree into.0 c old into.2) in (way.0, more_steps m tree walk way.0 root c way.1)
-            | inr new ↦ detour_ends walk t walk detour (λ f has'. has') into.0 c new into.2
-        ]
-      ];
-      begins = λ e has. elim (Contains-append_cases tree walk e has) [
-        | inl old ↦ more_chips m root tree walk e.chip (is.begins e old)
-        | inr new ↦ detour_begins walk t walk detour (λ f has'. has') e new
-      ];
-      none_into_root = λ e has leads. elim (Contains-append_cases tree walk e has) [
-        | inl old ↦ is.none_into_root e old leads
-        | inr new ↦ detour_off t walk detour e root new leads (inl refl)
-      ];
-      one_into = λ e f c has too leads also. elim (Contains-append_cases tree walk e has) [
-        | inl old ↦ elim (Contains-append_cases tree walk f too) [
-            | inl old_too ↦ is.one_into e f c old old_too leads also
-            | inr new ↦ absurd (detour_off t walk detour f c new also (tree_end m root tree e c old leads))
-        ]
-        | inr new ↦ elim (Contains-append_cases tree walk f too) [
-            | inl old ↦ absurd (detour_off t walk detour e c new leads (tree_end m root tree f c old also))
-            | inr new_too ↦ detour_apart t walk detour e f c new new_too leads also
-        ]
+    live = λ e has. elim (Contains-append_cases tree walk e has) [
+      | inl old ↦ is.live e old
+      | inr new ↦ detour_lives t walk detour e new
+    ];
+    reached = λ c on. elim (tree_cases m root (tree ++ walk) c on) [
+      | inl at ↦ (0, sym at)
+      | inr into ↦ elim (Contains-append_cases tree walk into.0 into.1) [
+        | inl old ↦ let way = is.reached c (tree_end m root tree into.0 c old into.2) in (way.0, more_steps m tree walk way.0 root c way.1)
+        | inr new ↦ detour_ends walk t walk detour (λ f has'. has') into.0 c new into.2
       ]
+    ];
+    begins = λ e has. elim (Contains-append_cases tree walk e has) [
+      | inl old ↦ more_chips m root tree walk e.chip (is.begins e old)
+      | inr new ↦ detour_begins walk t walk detour (λ f has'. has') e new
+    ];
+    none_into_root = λ e has leads. elim (Contains-append_cases tree walk e has) [
+      | inl old ↦ is.none_into_root e old leads
+      | inr new ↦ detour_off t walk detour e root new leads (inl refl)
+    ];
+    one_into = λ e f c has too leads also. elim (Contains-append_cases tree walk e has) [
+      | inl old ↦ elim (Contains-append_cases tree walk f too) [
+        | inl old_too ↦ is.one_into e f c old old_too leads also
+        | inr new ↦ absurd (detour_off t walk detour f c new also (tree_end m root tree e c old leads))
+      ]
+      | inr new ↦ elim (Contains-append_cases tree walk f too) [
+        | inl old ↦ absurd (detour_off t walk detour e c new leads (tree_end m root tree f c old also))
+        | inr new_too ↦ detour_apart t walk detour e f c new new_too leads also
+      ]
+    ];
   }
 
 -- one target more is joined

@@ -1,5 +1,5 @@
 -- The way back from a chip, by links along which the numbers of a table fall by one.
-use Rattle.std.specs.Prelude.{◌≡◌, ℕ, ◌+◌, ◌<◌, ◌≤◌, List, [], ◌∷◌, Some}
+use Rattle.std.specs.Prelude.{◌≡◌, ℕ, ◌+◌, ◌≤◌, List, [], ◌∷◌, Some}
 use Rattle.spin_base.specs.declared.chips.Chip.{Chip}
 use Rattle.spin_base.specs.Links.{dir_number}
 use Rattle.machine_desc.specs.declared.trees.Edge.{Edge}

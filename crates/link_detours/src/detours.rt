@@ -18,7 +18,12 @@ use spin_base::{Chip, Dir, Memory};
 use std::alloc::Global;
 
 // The number of edges from the root to each chip that the edges join to it.
-pub fn tree_reach(alloc: Global, machine: &Machine, root: Chip, edges: &[Edge]) -> Result<Vec<u64>, Memory>
+pub fn tree_reach(
+    alloc: Global,
+    machine: &Machine,
+    root: Chip,
+    edges: &[Edge],
+) -> Result<Vec<u64>, Memory>
     requires root_inside { IsInside machine.now root }
     requires inside { All (λ e. IsInside machine.now e.chip) edges.now }
     ensures long { IfOk result (λ t. length t.items ≡ machine.now.width * machine.now.height) }
@@ -67,7 +72,12 @@ fn last_link(machine: &Machine, counts: &[u64], at: Chip) -> Option<Edge>
 }
 
 // Adds the links of the way back from a chip to one of number 0, the last first.
-fn walk_back(machine: &Machine, counts: &[u64], whole: &mut Vec<Edge>, target: Chip) -> Result<(), Memory>
+fn walk_back(
+    machine: &Machine,
+    counts: &[u64],
+    whole: &mut Vec<Edge>,
+    target: Chip,
+) -> Result<(), Memory>
     requires inside { IsInside machine.now target }
     requires long { length counts.now ≡ machine.now.width * machine.now.height }
     requires low { number_at machine.now counts.now target < UNREACHED }
@@ -83,7 +93,14 @@ fn walk_back(machine: &Machine, counts: &[u64], whole: &mut Vec<Edge>, target: C
 
 // Adds the detour to a target, and answers which chips the tree then joins to the root. `None` exactly where no walk of
 // live links joins root and target.
-pub fn join(alloc: Global, machine: &Machine, root: Chip, reach: &[u64], whole: &mut Vec<Edge>, target: Chip) -> Result<Option<Vec<u64>>, Memory>
+pub fn join(
+    alloc: Global,
+    machine: &Machine,
+    root: Chip,
+    reach: &[u64],
+    whole: &mut Vec<Edge>,
+    target: Chip,
+) -> Result<Option<Vec<u64>>, Memory>
     requires root_inside { IsInside machine.now root }
     requires inside { IsInside machine.now target }
     requires long { length reach.now ≡ machine.now.width * machine.now.height }

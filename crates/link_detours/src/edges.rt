@@ -25,7 +25,12 @@ pub fn live_edges(alloc: Global, machine: &Machine, edges: &[Edge]) -> Result<Ve
 }
 
 // The edges that begin at a chip that the search reached.
-pub fn reached_edges(alloc: Global, machine: &Machine, counts: &[u64], edges: &[Edge]) -> Result<Vec<Edge>, Memory>
+pub fn reached_edges(
+    alloc: Global,
+    machine: &Machine,
+    counts: &[u64],
+    edges: &[Edge],
+) -> Result<Vec<Edge>, Memory>
     requires inside { All (λ e. IsInside machine.now e.chip) edges.now }
     requires long { length counts.now ≡ machine.now.width * machine.now.height }
     ensures { IfOk result (λ v. v.items ≡ filter (λ e. nat_lt (number_at machine.now counts.now e.chip) UNREACHED) edges.now) }

@@ -12,3 +12,6 @@ mod searches;
 mod tables;
 
 pub use repairs::{RepairErr, repair};
+
+#[cfg(test)]
+mod tests;

@@ -13,7 +13,12 @@ use spin_base::{Chip, Memory};
 use std::alloc::Global;
 
 // The edges at or below whose far end a target stands, in order: a search from the targets up the tree finds them.
-pub fn pruned(alloc: Global, machine: &Machine, whole: &[Edge], targets: &[Chip]) -> Result<Vec<Edge>, Memory>
+pub fn pruned(
+    alloc: Global,
+    machine: &Machine,
+    whole: &[Edge],
+    targets: &[Chip],
+) -> Result<Vec<Edge>, Memory>
     requires edges_inside { All (λ e. IsInside machine.now e.chip) whole.now }
     requires targets_inside { All (IsInside machine.now) targets.now }
     ensures left { IfOk result (λ v. (e : Edge) → Contains v.items e ↔ (Contains whole.now e × LeadsToTarget machine.now whole.now targets.now e)) }

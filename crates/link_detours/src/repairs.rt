@@ -48,7 +48,12 @@ struct Grown {
 /// is then not in the tree, in the order of the list, each the shortest over live links from the tree as it is then
 /// (of all, last link first, that of the least link numbers); and without edges that lead to no target. Edges are in
 /// order of (x, y, link). It is refused exactly where some target is cut off from the root.
-pub fn repair(alloc: Global, machine: &Machine, tree: Tree, targets: &Seq<Chip>) -> Result<Tree, RepairErr>
+pub fn repair(
+    alloc: Global,
+    machine: &Machine,
+    tree: Tree,
+    targets: &Seq<Chip>,
+) -> Result<Tree, RepairErr>
     requires root_lives { IsLiveChip machine.now tree.root }
     requires none_into_root { All (λ e. end_of machine.now e ≢ Some tree.root) tree.edges }
     requires one_into_each { AllPairs (λ e f. (c : Chip) → end_of machine.now e ≡ Some c → end_of machine.now f ≢ Some c) tree.edges }
@@ -87,7 +92,13 @@ fn kept_tree(alloc: Global, machine: &Machine, root: Chip, edges: &[Edge]) -> Re
 }
 
 // The tree with a detour to each target that it doesn't have, in the order of their list.
-fn join_all(alloc: Global, machine: &Machine, root: Chip, grown: Grown, targets: &[Chip]) -> Result<Vec<Edge>, RepairErr>
+fn join_all(
+    alloc: Global,
+    machine: &Machine,
+    root: Chip,
+    grown: Grown,
+    targets: &[Chip],
+) -> Result<Vec<Edge>, RepairErr>
     requires root_lives { IsLiveChip machine.now root }
     requires targets_inside { All (IsInside machine.now) targets.now }
     requires is_whole { IsWhole machine.now root grown.edges.items }

@@ -20,7 +20,11 @@ fn flagged_far(machine: &Machine, flags: &[bool], c: Chip, d: Dir) -> Option<Chi
     requires long { length flags.now ≡ machine.now.width * machine.now.height * 6 }
     ensures { result ≡ (if is_flagged machine.now flags.now c d then far_of machine.now c d else None) }
 {
-    if flags[link_place(machine, c, d)] { machine.far(c, d) } else { None }
+    if flags[link_place(machine, c, d)] {
+        machine.far(c, d)
+    } else {
+        None
+    }
 }
 
 // A table that has 0 for each seed, and for each other chip that it is unreached.
@@ -39,7 +43,12 @@ fn seed_table(alloc: Global, machine: &Machine, seeds: &[Chip]) -> Result<Vec<u6
 }
 
 // The least number of steps by flagged links from a seed to each chip, and `UNREACHED` where no walk leads.
-pub fn step_counts(alloc: Global, machine: &Machine, flags: &[bool], seeds: &[Chip]) -> Result<Vec<u64>, Memory>
+pub fn step_counts(
+    alloc: Global,
+    machine: &Machine,
+    flags: &[bool],
+    seeds: &[Chip],
+) -> Result<Vec<u64>, Memory>
     requires inside { All (IsInside machine.now) seeds.now }
     requires long { length flags.now ≡ machine.now.width * machine.now.height * 6 }
     ensures long { IfOk result (λ t. length t.items ≡ machine.now.width * machine.now.height) }

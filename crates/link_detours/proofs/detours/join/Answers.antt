@@ -1,8 +1,5 @@
-use Rattle.std.proofs.Common.{◌≡◌, ◌+◌, ◌<◌, ◌≤◌, ◌++◌, List, sym, ap, ◌∙◌, subst, arith, rules}
-use Rattle.std.specs.List.{All}
+use Rattle.std.proofs.Common.{◌<◌, sym, subst, arith, rules}
 use Rattle.std.proofs.lemmas.Grind.{common_steps}
-use Rattle.machine_desc.specs.declared.trees.Edge.{Edge}
-use Rattle.machine_desc.specs.Live.{IsInside}
 use Rattle.link_detours.specs.Usable.{number_at}
 use Rattle.link_detours.specs.Repair.{IsDetour}
 use Rattle.link_detours.specs.Whole.{IsWhole}
@@ -14,31 +11,31 @@ use Rattle.link_detours.proofs.detours.join.Goals.{After-deref-4}
 pub returns-then-index-clause-cut_off : goal.returns-then-index-clause-cut_off
 returns-then-index-clause-cut_off c =
     let is = number_is c.args.machine.now c.in_ok-counts.counts.items c.args.target c.index.result c.index-2.result.now c.in_ok-counts.ensures.long
-        c.requires.inside c.index.ensures.value c.index-2.ensures in
+    c.requires.inside c.index.ensures.value c.index-2.ensures in
     cut_off c.args.machine.now c.args.root c.args.whole.now.items c.args.reach.now c.in_ok-table.table.items c.in_ok-seeds.seeds.items
-        c.in_ok-counts.counts.items 18446744073709551615 c.in_ok-table.ensures.flags c.requires.reach_is
-        (whole_inside c.args.machine.now c.args.root c.args.whole.now.items c.requires.is_whole c.requires.root_inside) c.in_ok-seeds.ensures
-        (rw (c.deref.ensures.value, c.deref-2.ensures.value) at c.in_ok-counts.ensures.levels)
-        (rw (c.deref.ensures.value, c.deref-2.ensures.value) at c.in_ok-counts.ensures.reached)
-        c.args.target (let far = c.if-index.true in omega (arith, far, is))
+    c.in_ok-counts.counts.items 18446744073709551615 c.in_ok-table.ensures.flags c.requires.reach_is
+    (whole_inside c.args.machine.now c.args.root c.args.whole.now.items c.requires.is_whole c.requires.root_inside) c.in_ok-seeds.ensures
+    (rw (c.deref.ensures.value, c.deref-2.ensures.value) at c.in_ok-counts.ensures.levels)
+    (rw (c.deref.ensures.value, c.deref-2.ensures.value) at c.in_ok-counts.ensures.reached)
+    c.args.target (let far = c.if-index.true in omega (arith, far, is))
 
 detour : (c : After-deref-4) → IsDetour c.args.machine.now c.args.root c.args.whole.now.items c.args.target c.in_ok-walk_back.ensures.0
 detour c =
     let low : number_at c.args.machine.now c.in_ok-counts.counts.items c.args.target < 18446744073709551615 = first_of (search rules, grind (arith, common_steps)) in
     let is = number_is c.args.machine.now c.in_ok-counts.counts.items c.args.target c.index.result c.index-2.result.now c.in_ok-counts.ensures.long
-        c.requires.inside c.index.ensures.value c.index-2.ensures in
+    c.requires.inside c.index.ensures.value c.index-2.ensures in
     descent_detour c.args.machine.now c.args.root c.args.whole.now.items c.args.reach.now c.in_ok-table.table.items c.in_ok-seeds.seeds.items
-        c.in_ok-counts.counts.items 18446744073709551615 c.in_ok-table.ensures.flags c.requires.reach_is
-        (whole_inside c.args.machine.now c.args.root c.args.whole.now.items c.requires.is_whole c.requires.root_inside) c.in_ok-seeds.ensures
-        (rw (c.deref.ensures.value, c.deref-2.ensures.value) at c.in_ok-counts.ensures.levels)
-        (rw (c.deref.ensures.value, c.deref-2.ensures.value) at c.in_ok-counts.ensures.reached)
-        c.args.target c.in_ok-walk_back.ensures.0 c.requires.inside low
-        (rw c.deref-3.ensures.value at c.in_ok-walk_back.ensures.2)
+    c.in_ok-counts.counts.items 18446744073709551615 c.in_ok-table.ensures.flags c.requires.reach_is
+    (whole_inside c.args.machine.now c.args.root c.args.whole.now.items c.requires.is_whole c.requires.root_inside) c.in_ok-seeds.ensures
+    (rw (c.deref.ensures.value, c.deref-2.ensures.value) at c.in_ok-counts.ensures.levels)
+    (rw (c.deref.ensures.value, c.deref-2.ensures.value) at c.in_ok-counts.ensures.reached)
+    c.args.target c.in_ok-walk_back.ensures.0 c.requires.inside low
+    (rw c.deref-3.ensures.value at c.in_ok-walk_back.ensures.2)
 
 whole : (c : After-deref-4) → IsWhole c.args.machine.now c.args.root c.walk_back.new.whole.items
 whole c =
     subst (λ es. IsWhole c.args.machine.now c.args.root es) (sym c.in_ok-walk_back.ensures.1)
-        (whole_joined c.args.machine.now c.args.root c.args.whole.now.items c.requires.is_whole c.args.target c.in_ok-walk_back.ensures.0 (detour c))
+    (whole_joined c.args.machine.now c.args.root c.args.whole.now.items c.requires.is_whole c.args.target c.in_ok-walk_back.ensures.0 (detour c))
 
 pub tree_reach-requires-clause-inside : goal.tree_reach-requires-clause-inside
 tree_reach-requires-clause-inside c =

@@ -1,4 +1,3 @@
-use Rattle.std.proofs.Common.{◌≡◌}
 use Rattle.link_detours.proofs.Tabling.{Gathered}
 use Rattle.link_detours.proofs.edges.reached_chips.Given as goal
 

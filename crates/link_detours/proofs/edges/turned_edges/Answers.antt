@@ -4,12 +4,12 @@ use Rattle.link_detours.proofs.edges.turned_edges.Goals.{in-Some+in_ok-push, in_
 
 pub loop-edge-preserved : goal.loop-edge-preserved
 loop-edge-preserved c = elim c.match-far.branch [
-    | in-Some+in_ok-push w ↦
-        rw (w.turned-is, w.in_ok-push.ensures.items)
-            (turned_some c.args.machine.now c.args.edges.now c.loop-edge.turned.items c.loop-edge.edge-index _ w.in-Some.chip w.opposite.result
-                c.loop-edge-test.true w.in-Some.ensures w.opposite.ensures.link c.loop-edge.invariant)
-    | in_default w ↦
-        rw w.turned-is
-            (turned_none c.args.machine.now c.args.edges.now c.loop-edge.turned.items c.loop-edge.edge-index _
-                c.loop-edge-test.true w.in_default.ensures c.loop-edge.invariant)
+  | in-Some+in_ok-push w ↦
+      rw (w.turned-is, w.in_ok-push.ensures.items)
+      (turned_some c.args.machine.now c.args.edges.now c.loop-edge.turned.items c.loop-edge.edge-index _ w.in-Some.chip w.opposite.result
+      c.loop-edge-test.true w.in-Some.ensures w.opposite.ensures.link c.loop-edge.invariant)
+  | in_default w ↦
+      rw w.turned-is
+      (turned_none c.args.machine.now c.args.edges.now c.loop-edge.turned.items c.loop-edge.edge-index _
+      c.loop-edge-test.true w.in_default.ensures c.loop-edge.invariant)
 ]

@@ -1,8 +1,6 @@
-use Rattle.std.proofs.Common.{◌≡◌, ℕ, ◌+◌, ◌*◌, ◌-◌, ◌<◌, ◌≤◌, length, get_or}
+use Rattle.std.proofs.Common.{◌+◌, ◌*◌, ◌-◌, ◌≤◌, length}
 use Rattle.std.specs.List.{sum_by}
-use Rattle.machine_desc.specs.Live.{IsInside}
-use Rattle.link_detours.specs.Usable.{number_at}
-use Rattle.link_detours.proofs.Searching.{Ongoing, Waits, WaitsFrom, Looking}
+use Rattle.link_detours.proofs.Searching.{Ongoing, Waits, Looking}
 use Rattle.link_detours.proofs.searches.step_counts.Given as goal
 
 -- the chips from next on wait
@@ -18,4 +16,4 @@ decreases-loop-next l = 2 * sum_by (λ n. n) l.counts.items + (length l.queue.it
 abbrev pub invariant-loop-link : goal.invariant-loop-link
 invariant-loop-link l =
     Looking l.machine l.flags l.seeds 18446744073709551615 l.counts.items l.queue.items l.next l.from l.link-index l.count
-        × (2 * sum_by (λ n. n) l.counts.items + length l.queue.items ≤ 2 * sum_by (λ n. n) l.initial.counts.items + length l.initial.queue.items)
+    × (2 * sum_by (λ n. n) l.counts.items + length l.queue.items ≤ 2 * sum_by (λ n. n) l.initial.counts.items + length l.initial.queue.items)
