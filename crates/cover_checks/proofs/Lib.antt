@@ -1,0 +1,4 @@
+pub mod Answering
+pub mod Legal
+pub mod Lists
+pub mod Positions

@@ -1,0 +1,205 @@
+-- Taking rows out, and the table after a merge.
+use Rattle.std.proofs.Common.{◌≡◌, ℕ, zero, suc, ◌+◌, ◌-◌, ◌<◌, ◌≤◌, ◌==◌, ◌||◌, ◌≢◌, Bool, true, false, cond, List, [], ◌∷◌, ◌++◌, length, get_or, take, drop, inl, inr, ◌⊎◌, refl, sym, ap, ◌∙◌, subst, Option, length-take, length-drop, get_or-drop, arith}
+use Rattle.std.specs.Prelude.{All, AllPairs, not, insert, remove, slice_get, map}
+use Rattle.std.specs.Prelude.{Result, Ok, Err, OnOk}
+use Rattle.std.specs.List.{flat_map, cons_option, list_any}
+use Rattle.std.proofs.lemmas.Bool.{cases_lt, eq-eqb}
+use Rattle.std.proofs.lemmas.Bool.Decides.{eqb_tells}
+use Rattle.std.proofs.lemmas.List.Elements.{All-nil, All-cons, All-head, All-tail}
+use Rattle.std.proofs.lemmas.Grind.{flat_map-append}
+use Rattle.std.proofs.lemmas.List.{append-nil, take_more, drop_all, get_or_default}
+use Rattle.std.proofs.Math.Seq.{drop-cons}
+use Rattle.std.proofs.lemmas.Option.{slice_get-get_or}
+use Rattle.spin_base.specs.declared.blocks.Block.{Block}
+use Rattle.tern_word.specs.declared.tables.Alias.{Alias}
+use Rattle.tern_word.specs.declared.tables.Row.{Row}
+use Rattle.tern_word.specs.SoundTable.{IsOrdered}
+use Rattle.tern_word.specs.Ternary.{generality, merge_of}
+use Rattle.cover_checks.specs.Merge.{has, rows_at, picked, kept, merge_rows, merged_row, merged_block, place_for, insert_place, after, IsMergeSet}
+use Rattle.cover_checks.proofs.Positions.{rows_at-push, rows_at-length, member_before, has-at, place_for-le}
+use Rattle.cover_merge.specs.Aliases.{aliases_at}
+
+-- ---- a place that is not of the set
+
+-- all places above k: k is none of them
+pub none_at : (places : List ℕ) (k : ℕ) → All (λ t. k < t) places → has places k ≡ false
+none_at [] k above = refl
+none_at (t ∷ places) k above = by_head (eqb_tells t k) (none_at places k (All-tail (λ t. k < t) t places above))
+  where
+    by_head : ((t == k) ≡ true) × (t ≡ k) ⊎ ((t == k) ≡ false) × (t ≢ k) → has places k ≡ false → ((t == k) || has places k) ≡ false
+    by_head (inl same) rest = absurd (omega (arith, same.1, All-head (λ t. k < t) t places above))
+    by_head (inr other) rest = ap (λ b. b || has places k) other.0 ∙ rest
+
+-- all places below k: k is none of them
+pub none_from : (places : List ℕ) (k : ℕ) → All (λ t. t < k) places → has places k ≡ false
+none_from [] k below = refl
+none_from (t ∷ places) k below = by_head (eqb_tells t k) (none_from places k (All-tail (λ t. t < k) t places below))
+  where
+    by_head : ((t == k) ≡ true) × (t ≡ k) ⊎ ((t == k) ≡ false) × (t ≢ k) → has places k ≡ false → ((t == k) || has places k) ≡ false
+    by_head (inl same) rest = absurd (omega (arith, same.1, All-head (λ t. t < k) t places below))
+    by_head (inr other) rest = ap (λ b. b || has places k) other.0 ∙ rest
+
+pub kept_in : (places : List ℕ) (j : ℕ) (x : Row) (xs : List Row) → has places j ≡ false → kept places j (x ∷ xs) ≡ x ∷ kept places (suc j) xs
+kept_in places j x xs e = ap (λ b. cond (not b) (x ∷ kept places (suc j) xs) (kept places (suc j) xs)) e
+
+kept_out : (places : List ℕ) (j : ℕ) (x : Row) (xs : List Row) → has places j ≡ true → kept places j (x ∷ xs) ≡ kept places (suc j) xs
+kept_out places j x xs e = ap (λ b. cond (not b) (x ∷ kept places (suc j) xs) (kept places (suc j) xs)) e
+
+-- where no place is left, all are kept
+pub kept_none : (places : List ℕ) (j : ℕ) (xs : List Row) → All (λ t. t < j) places → kept places j xs ≡ xs
+kept_none places j [] below = refl
+kept_none places j (x ∷ xs) below =
+    kept_in places j x xs (none_from places j below)
+    ∙ ap (λ ys. x ∷ ys) (kept_none places (suc j) xs (λ k d within. omega (arith, below k d within)))
+
+-- a place that is behind takes nothing out
+kept_passed : (s : ℕ) (rest : List ℕ) (j : ℕ) (xs : List Row) → s < j → kept (s ∷ rest) j xs ≡ kept rest j xs
+kept_passed s rest j [] behind = refl
+kept_passed s rest j (x ∷ xs) behind =
+    ap (λ b. cond (not (b || has rest j)) (x ∷ kept (s ∷ rest) (suc j) xs) (kept (s ∷ rest) (suc j) xs)) (differs (eqb_tells s j))
+    ∙ ap (λ ys. cond (not (has rest j)) (x ∷ ys) ys) (kept_passed s rest (suc j) xs (omega arith))
+  where
+    differs : ((s == j) ≡ true) × (s ≡ j) ⊎ ((s == j) ≡ false) × (s ≢ j) → (s == j) ≡ false
+    differs (inl same) = absurd (omega (arith, same.1))
+    differs (inr other) = other.0
+
+-- ---- taking out one place after another, the last first
+
+module _ (s : ℕ) (rest : List ℕ) (above : All (λ t. s < t) rest) where
+  pub first_kept : (j : ℕ) → j ≤ s → has rest j ≡ false
+  first_kept j le = none_at rest j (λ k d within. omega (arith, above k d within))
+
+  pub kept_longer : (j m : ℕ) (xs : List Row) → s ≡ j + m → m < length xs → m < length (kept rest j xs)
+  kept_longer j m [] at within = absurd (omega arith)
+  kept_longer j zero (x ∷ xs) at within = rw (kept_in rest j x xs (first_kept j (omega arith))) (omega arith)
+  kept_longer j (suc m) (x ∷ xs) at within =
+      let tail : m < length (kept rest (suc j) xs) = kept_longer (suc j) m xs (omega arith) (omega arith) in
+      rw (kept_in rest j x xs (first_kept j (omega arith))) (omega arith)
+
+  pub kept_remove : (j m : ℕ) (xs : List Row) → s ≡ j + m → m < length xs → remove (kept rest j xs) m ≡ kept (s ∷ rest) j xs
+  kept_remove j m [] at within = absurd (omega arith)
+  kept_remove j zero (x ∷ xs) at within =
+      let here : s ≡ j = omega arith in
+      let found : has (s ∷ rest) j ≡ true = ap (λ b. b || has rest j) (eq-eqb s j here) in
+      ap (λ ys. remove ys 0) (kept_in rest j x xs (first_kept j (omega arith)))
+      ∙ sym (kept_out (s ∷ rest) j x xs found ∙ kept_passed s rest (suc j) xs (omega arith))
+  kept_remove j (suc m) (x ∷ xs) at within =
+      let later : has (s ∷ rest) j ≡ false = ap (λ b. b || has rest j) (not_here (eqb_tells s j)) ∙ first_kept j (omega arith) in
+      ap (λ ys. remove ys (suc m)) (kept_in rest j x xs (first_kept j (omega arith)))
+      ∙ ap (λ ys. x ∷ ys) (kept_remove (suc j) m xs (omega arith) (omega arith))
+      ∙ sym (kept_in (s ∷ rest) j x xs later)
+    where
+      not_here : ((s == j) ≡ true) × (s ≡ j) ⊎ ((s == j) ≡ false) × (s ≢ j) → (s == j) ≡ false
+      not_here (inl same) = absurd (omega (arith, same.1))
+      not_here (inr other) = other.0
+
+-- the place before the rest
+drop_before : (places : List ℕ) (i : ℕ) → 0 < i → i ≤ length places → drop (i - 1) places ≡ get_or places (i - 1) 0 ∷ drop i places
+drop_before places i some within =
+    let next : suc (i - 1) ≡ i = omega arith in drop-cons places (i - 1) 0 (omega arith) ∙ ap (λ n. get_or places (i - 1) 0 ∷ drop n places) next
+
+pub above_rest : (places : List ℕ) (i : ℕ) → AllPairs (λ s t. s < t) places → 0 < i → i ≤ length places → All (λ t. get_or places (i - 1) 0 < t) (drop i places)
+above_rest places i ascending some within k d inside =
+    let far : i + k < length places = omega (arith, length-drop i places) in
+    let less : get_or places (i - 1) d < get_or places (i + k) d = ascending (i - 1) (i + k) d (omega arith) far in
+    subst (λ x. get_or places (i - 1) 0 < x) (sym (get_or-drop i places k d))
+    (subst (λ x. x < get_or places (i + k) d) (get_or_default places (i - 1) d 0 (omega arith)) less)
+
+pub one_out : (places : List ℕ) (i : ℕ) (start now new : List Row) → AllPairs (λ s t. s < t) places → All (λ s. s < length start) places → 0 < i → i ≤ length places
+    → now ≡ kept (drop i places) 0 start → new ≡ remove now (get_or places (i - 1) 0) → new ≡ kept (drop (i - 1) places) 0 start
+one_out places i start now new ascending in_range some within is removed =
+    removed ∙ ap (λ l. remove l (get_or places (i - 1) 0)) is
+    ∙ kept_remove (get_or places (i - 1) 0) (drop i places) (above_rest places i ascending some within) 0 (get_or places (i - 1) 0) start (omega arith) (in_range (i - 1) 0 (omega arith))
+    ∙ ap (λ l. kept l 0 start) (sym (drop_before places i some within))
+
+pub still_in : (places : List ℕ) (i : ℕ) (start now : List Row) → AllPairs (λ s t. s < t) places → All (λ s. s < length start) places → 0 < i → i ≤ length places
+    → now ≡ kept (drop i places) 0 start → get_or places (i - 1) 0 < length now
+still_in places i start now ascending in_range some within is =
+    rw is (kept_longer (get_or places (i - 1) 0) (drop i places) (above_rest places i ascending some within) 0 (get_or places (i - 1) 0) start (omega arith) (in_range (i - 1) 0 (omega arith)))
+
+-- nothing is taken out yet
+pub none_out : (places : List ℕ) (start : List Row) → start ≡ kept (drop (length places) places) 0 start
+none_out places start = sym (ap (λ l. kept l 0 start) (drop_all (length places) places (omega arith)) ∙ kept_none [] 0 start (All-nil (λ t. t < 0)))
+
+-- ---- the table after a merge
+
+pub picked-append : (q : ℕ → Bool) (i : ℕ) (xs ys : List Row) → picked q i (xs ++ ys) ≡ picked q i xs ++ picked q (i + length xs) ys
+picked-append q i [] ys = ap (λ j. picked q j ys) (omega arith)
+picked-append q i (x ∷ xs) ys =
+    ap (λ zs. cond (q i) (x ∷ zs) zs) (picked-append q (suc i) xs ys ∙ ap (λ j. picked q (suc i) xs ++ picked q j ys) (omega arith))
+    ∙ by_test (q i) (picked q (suc i) xs) (picked q (i + suc (length xs)) ys)
+  where
+    by_test : (b : Bool) (us vs : List Row) → cond b (x ∷ (us ++ vs)) (us ++ vs) ≡ cond b (x ∷ us) us ++ vs
+    by_test true us vs = refl
+    by_test false us vs = refl
+
+module _ (rows : List Row) (places : List ℕ) (ordered : IsOrdered rows) (set : IsMergeSet rows places) where
+  -- all members stand before the insertion place
+  pub members_before : All (λ t. t < insert_place rows places) places
+  members_before k d within =
+      subst (λ x. x < insert_place rows places) (get_or_default places k 0 d within)
+      (member_before rows places set.set.in_range ordered (get_or places k 0) (merged_row rows places) (has-at places k within))
+
+  pub after_is : kept places 0 (insert rows (insert_place rows places) (merged_row rows places)) ≡ after rows places
+  after_is =
+      let p = insert_place rows places in
+      let m = merged_row rows places in
+      let q = λ (k : ℕ). not (has places k) in
+      let front_length : 0 + length (take p rows) ≡ p = omega (arith, length-take p rows, place_for-le rows (generality (merged_block rows places))) in
+      picked-append q 0 (take p rows) (m ∷ drop p rows)
+      ∙ ap (λ n. picked q 0 (take p rows) ++ picked q n (m ∷ drop p rows)) front_length
+      ∙ ap (λ ys. picked q 0 (take p rows) ++ ys)
+      (kept_in places p m (drop p rows) (none_from places p members_before)
+      ∙ ap (λ ys. m ∷ ys)
+      (kept_none places (suc p) (drop p rows) (λ k d within. omega (arith, members_before k d within))
+      ∙ sym (kept_none places p (drop p rows) members_before)))
+
+  block_is : (merged_row rows places).block ≡ merged_block rows places
+  block_is = by_rows (rows_at rows places)
+    where
+      by_rows : (xs : List Row) → (merge_rows xs).block ≡ merge_of (map (λ (x : Row). x.block) xs)
+      by_rows [] = refl
+      by_rows (x ∷ xs) = refl
+
+  -- the place that the code finds
+  module _ (list : List Row) (same : list ≡ rows) (m : Row) (is : m ≡ merged_row rows places) (g p : ℕ) (general : g ≡ generality m.block) (place : p ≡ place_for list g) where
+    pub place_found : p ≡ insert_place rows places
+    place_found = place ∙ ap (λ l. place_for l g) same ∙ ap (place_for rows) (general ∙ ap (λ (r : Row). generality r.block) is ∙ ap generality block_is)
+
+    pub found_before : All (λ t. t < p) places
+    found_before = subst (λ n. All (λ t. t < n) places) (sym place_found) members_before
+
+    pub after_found : (new : List Row) → new ≡ kept places 0 (insert rows p m) → new ≡ after rows places
+    after_found new made = made ∙ ap (λ n. kept places 0 (insert rows n m)) place_found ∙ ap (λ x. kept places 0 (insert rows (insert_place rows places) x)) is ∙ after_is
+
+-- ---- the merged row
+
+pub aliases_more : (rows : List Row) (places : List ℕ) (i : ℕ) (r : Row) → All (λ s. s < length rows) places → i < length places
+    → aliases_at rows (take (i + 1) places) ≡ aliases_at rows (take i places) ++ (get_or rows (get_or places i 0) r).aliases
+aliases_more rows places i r in_range within =
+    let row = get_or rows (get_or places i 0) r in
+    ap (aliases_at rows) (take_more places i 0 within)
+    ∙ ap (flat_map (λ (x : Row). x.aliases)) (rows_at-push rows (take i places) (get_or places i 0) row (slice_get-get_or rows (get_or places i 0) r (in_range i 0 within)))
+    ∙ flat_map-append (λ (x : Row). x.aliases) (rows_at rows (take i places)) (row ∷ [])
+    ∙ ap (λ l. aliases_at rows (take i places) ++ l) (append-nil row.aliases)
+
+pub row_made : (rows : List Row) (places : List ℕ) (d : Row) (b : Block) (a : List Alias) → All (λ s. s < length rows) places → 0 < length places
+    → b ≡ merged_block rows places → a ≡ aliases_at rows places
+    → ◌≡◌ {A = Row} (record { block = b; route = (get_or rows (get_or places 0 0) d).route; aliases = a }) (merged_row rows places)
+row_made rows [] d b a in_range some block aliases = absurd (omega arith)
+row_made rows (s ∷ places) d b a in_range some block aliases =
+    let row = get_or rows s d in
+    let here = slice_get-get_or rows s d (in_range 0 s (omega arith)) in
+    ap (λ (x : Block). let r : Row = record { block = x; route = row.route; aliases = a } in r) block
+    ∙ ap (λ (l : List Alias). let r : Row = record { block = merged_block rows (s ∷ places); route = row.route; aliases = l } in r) aliases
+    ∙ ap (λ (o : Option Row). let r : Row = record {
+      block = merge_of (map (λ (x : Row). x.block) (cons_option o (rows_at rows places)));
+      route = row.route;
+      aliases = flat_map (λ (x : Row). x.aliases) (cons_option o (rows_at rows places));
+    } in r) here
+    ∙ sym (ap (λ (o : Option Row). merge_rows (cons_option o (rows_at rows places))) here)
+
+-- an outcome that says P of `Ok` says what follows from P
+pub on_ok : {T E : Type 0} (r : Result T E) (P Q : Type 0) → (P → Q) → OnOk r P → OnOk r Q
+on_ok (Ok x) P Q h p = h p
+on_ok (Err e) P Q h p = p

@@ -1,0 +1,258 @@
+-- The places of a route, the best of the refined sets, and pairs.
+use Rattle.std.proofs.Common.{◌≡◌, ◌≢◌, ℕ, zero, suc, ◌+◌, ◌-◌, ◌<◌, ◌≤◌, ◌==◌, Bool, true, false, cond, List, [], ◌∷◌, ◌++◌, length, get_or, take, drop, inl, inr, ◌⊎◌, refl, sym, ap, ◌∙◌, subst, length-take, append-nil, arith}
+use Rattle.std.specs.Prelude.{All, AllPairs, IsTrue, ◌↔◌, MatchBool}
+use mathlib.Core.Bool.{false≢true}
+use Rattle.std.proofs.lemmas.Bool.{cases_lt, eqb-true, eq-eqb}
+use Rattle.std.proofs.lemmas.Bool.Decides.{eqb_tells}
+use Rattle.std.proofs.lemmas.List.{take_more, get_or_default}
+use Rattle.std.proofs.lemmas.List.Elements.{All-nil, All-cons, All-head, All-tail}
+use Rattle.std.proofs.lemmas.List.Kept.{AllPairs-cons}
+use Rattle.spin_base.specs.declared.routes.Route.{Route}
+use Rattle.tern_word.specs.declared.tables.Row.{Row}
+use Rattle.tern_word.specs.SoundTable.{IsSound}
+use Rattle.cover_checks.specs.Merge.{SameRoute, IsOneRoute, IsMergeSet, IsLegal, merge_rows}
+use Rattle.cover_checks.proofs.Positions.{same_route, pair_set_read}
+use Rattle.cover_checks.proofs.Lists.{AllPairs-nil}
+use Rattle.cover_merge.specs.Refinement.{Refines, ends_empty}
+use Rattle.cover_merge.specs.Covering.{places_of, IsNoRival, IsBestBefore, StandsBefore, IsLargest, HasNoLargest, IsLegalPair, IsFirstPartner, HasNoLegalPair, IsFirstLegalPair}
+
+-- ---- the places of a route
+
+pub places_of-append : (bits i : ℕ) (xs ys : List Row) → places_of bits i (xs ++ ys) ≡ places_of bits i xs ++ places_of bits (i + length xs) ys
+places_of-append bits i [] ys = ap (λ j. places_of bits j ys) (omega arith)
+places_of-append bits i (x ∷ xs) ys =
+    ap (λ zs. cond (x.route.bits == bits) (i ∷ zs) zs) (places_of-append bits (suc i) xs ys ∙ ap (λ j. places_of bits (suc i) xs ++ places_of bits j ys) (omega arith))
+    ∙ by_test (x.route.bits == bits) (places_of bits (suc i) xs) (places_of bits (i + suc (length xs)) ys)
+  where
+    by_test : (b : Bool) (us vs : List ℕ) → cond b (i ∷ (us ++ vs)) (us ++ vs) ≡ cond b (i ∷ us) us ++ vs
+    by_test true us vs = refl
+    by_test false us vs = refl
+
+places_of-next : (bits k : ℕ) (rows : List Row) (d : Row) → k < length rows → places_of bits 0 (take (k + 1) rows) ≡ places_of bits 0 (take k rows) ++ cond ((get_or rows k d).route.bits == bits) (k ∷ []) []
+places_of-next bits k rows d within =
+    let here : 0 + length (take k rows) ≡ k = omega (arith, length-take k rows) in
+    ap (places_of bits 0) (take_more rows k d within)
+    ∙ places_of-append bits 0 (take k rows) (get_or rows k d ∷ [])
+    ∙ ap (λ j. places_of bits 0 (take k rows) ++ cond ((get_or rows k d).route.bits == bits) (j ∷ []) []) here
+
+pub places_of-here : (bits k : ℕ) (rows : List Row) (d : Row) → k < length rows → (get_or rows k d).route.bits ≡ bits → places_of bits 0 (take (k + 1) rows) ≡ places_of bits 0 (take k rows) ++ k ∷ []
+places_of-here bits k rows d within same =
+    places_of-next bits k rows d within ∙ ap (λ b. places_of bits 0 (take k rows) ++ cond b (k ∷ []) []) (eq-eqb (get_or rows k d).route.bits bits same)
+
+pub places_of-not : (bits k : ℕ) (rows : List Row) (d : Row) → k < length rows → (get_or rows k d).route.bits ≢ bits → places_of bits 0 (take (k + 1) rows) ≡ places_of bits 0 (take k rows)
+places_of-not bits k rows d within differ =
+    places_of-next bits k rows d within
+    ∙ ap (λ b. places_of bits 0 (take k rows) ++ cond b (k ∷ []) []) (no_test (eqb_tells (get_or rows k d).route.bits bits))
+    ∙ append-nil (places_of bits 0 (take k rows))
+  where
+    no_test : (((get_or rows k d).route.bits == bits) ≡ true) × ((get_or rows k d).route.bits ≡ bits) ⊎ (((get_or rows k d).route.bits == bits) ≡ false) × ((get_or rows k d).route.bits ≢ bits) → ((get_or rows k d).route.bits == bits) ≡ false
+    no_test (inl same) = absurd (differ same.1)
+    no_test (inr other) = other.0
+
+-- what each of the places is, counted from i
+record IsPlaceOf (bits i : ℕ) (rows : List Row) (s : ℕ) : Type 0 where
+  from : i ≤ s
+  below : s < i + length rows
+  route : (d : Row) → (get_or rows (s - i) d).route.bits ≡ bits
+
+later_place : (bits i : ℕ) (r : Row) (rows : List Row) (s : ℕ) → IsPlaceOf bits (suc i) rows s → IsPlaceOf bits i (r ∷ rows) s
+later_place bits i r rows s place =
+    let step : s - i ≡ suc (s - suc i) = omega (arith, place.from) in
+    record {
+      from = omega (arith, place.from);
+      below = omega (arith, place.below);
+      route = λ d. subst (λ n. (get_or (r ∷ rows) n d).route.bits ≡ bits) (sym step) (place.route d);
+    }
+
+places_are : (bits i : ℕ) (rows : List Row) → All (IsPlaceOf bits i rows) (places_of bits i rows)
+places_are bits i [] = All-nil (IsPlaceOf bits i [])
+places_are bits i (r ∷ rows) = by_test (r.route.bits == bits) refl (λ k d within. later_place bits i r rows (get_or (places_of bits (suc i) rows) k d) (places_are bits (suc i) rows k d within))
+  where
+    by_test : (b : Bool) → (r.route.bits == bits) ≡ b → All (IsPlaceOf bits i (r ∷ rows)) (places_of bits (suc i) rows) → All (IsPlaceOf bits i (r ∷ rows)) (cond b (i ∷ places_of bits (suc i) rows) (places_of bits (suc i) rows))
+    by_test true e rest = All-cons (IsPlaceOf bits i (r ∷ rows)) i (places_of bits (suc i) rows) here rest
+      where
+        here : IsPlaceOf bits i (r ∷ rows) i
+        here = let first : i - i ≡ 0 = omega arith in record {
+          from = omega arith;
+          below = omega arith;
+          route = λ d. subst (λ n. (get_or (r ∷ rows) n d).route.bits ≡ bits) (sym first) (eqb-true r.route.bits bits e);
+        }
+    by_test false e rest = rest
+
+places_ascend : (bits i : ℕ) (rows : List Row) → AllPairs (λ s t. s < t) (places_of bits i rows)
+places_ascend bits i [] = AllPairs-nil (λ s t. s < t)
+places_ascend bits i (r ∷ rows) = by_test (r.route.bits == bits) (places_ascend bits (suc i) rows) (places_are bits (suc i) rows)
+  where
+    by_test : (b : Bool) → AllPairs (λ s t. s < t) (places_of bits (suc i) rows) → All (IsPlaceOf bits (suc i) rows) (places_of bits (suc i) rows) → AllPairs (λ s t. s < t) (cond b (i ∷ places_of bits (suc i) rows) (places_of bits (suc i) rows))
+    by_test true rest are = AllPairs-cons (λ s t. s < t) i (places_of bits (suc i) rows) (λ k d within. let place = are k d within in omega (arith, place.from)) rest
+    by_test false rest are = rest
+
+-- they are places of one route
+pub places_of-one_route : (bits : ℕ) (rows : List Row) → IsOneRoute rows (places_of bits 0 rows)
+places_of-one_route bits rows = record {
+  ascending = places_ascend bits 0 rows;
+  in_range = λ k d within. let place = places_are bits 0 rows k d within in omega (arith, place.below);
+  one_route = λ a b d less within e. same_route (get_or rows (get_or (places_of bits 0 rows) a d) e).route (get_or rows (get_or (places_of bits 0 rows) b d) e).route (has_bits a d (omega arith) e ∙ sym (has_bits b d within e));
+}
+  where
+    has_bits : (k : ℕ) (d : ℕ) → k < length (places_of bits 0 rows) → (e : Row) → (get_or rows (get_or (places_of bits 0 rows) k d) e).route.bits ≡ bits
+    has_bits k d within e =
+        let place = places_are bits 0 rows k d within in
+        let whole : get_or (places_of bits 0 rows) k d - 0 ≡ get_or (places_of bits 0 rows) k d = omega arith in
+        subst (λ n. (get_or rows n e).route.bits ≡ bits) whole (place.route e)
+
+-- ---- the best so far
+
+module _ (rows : List Row) (k : ℕ) (within : k < length rows) (bits : ℕ) (set : List ℕ) (best : IsBestBefore rows k bits set) where
+  -- a route that stood before brings nothing new
+  pub best_again : (d : Row) → StandsBefore rows (get_or rows k d).route.bits k → IsBestBefore rows (k + 1) bits set
+  best_again d stands = record {
+    refined = best.refined;
+    rivals = λ j e less inside. elim (cases_lt j k) [
+      | inl earlier ↦ best.rivals j e earlier inside
+      | inr here ↦ let same : k ≡ j = omega arith in
+          subst (λ n. IsNoRival rows n bits (length set)) (stands.same e ∙ ap (λ (r : Row). r.route.bits) (get_or_default rows k d e within) ∙ ap (λ n. (get_or rows n e).route.bits) same)
+          (best.rivals stands.at e stands.before stands.inside)
+    ];
+  }
+
+  -- a set that does not beat the best
+  pub best_stays : (d : Row) (new : List ℕ) → Refines rows (places_of (get_or rows k d).route.bits 0 rows) new
+      → (length new < length set) ⊎ ((length new ≡ length set) × (bits ≤ (get_or rows k d).route.bits)) → IsBestBefore rows (k + 1) bits set
+  best_stays d new refined loses = record {
+    refined = best.refined;
+    rivals = λ j e less inside. elim (cases_lt j k) [
+      | inl earlier ↦ best.rivals j e earlier inside
+      | inr here ↦ let same : k ≡ j = omega arith in
+          subst (λ n. IsNoRival rows n bits (length set)) (ap (λ (r : Row). r.route.bits) (get_or_default rows k d e within) ∙ ap (λ n. (get_or rows n e).route.bits) same) (own loses)
+    ];
+  }
+    where
+      own : (length new < length set) ⊎ ((length new ≡ length set) × (bits ≤ (get_or rows k d).route.bits)) → IsNoRival rows (get_or rows k d).route.bits bits (length set)
+      own (inl less) = record { set = new; refined = refined; no_larger = omega arith; smaller = λ some low. less }
+      own (inr tie) = record { set = new; refined = refined; no_larger = omega (arith, tie.0); smaller = λ some low. absurd (omega (arith, tie.1)) }
+
+  -- a set that beats the best
+  pub best_new : (d : Row) (new : List ℕ) → Refines rows (places_of (get_or rows k d).route.bits 0 rows) new
+      → (length set < length new) ⊎ ((length new ≡ length set) × ((get_or rows k d).route.bits < bits)) → IsBestBefore rows (k + 1) (get_or rows k d).route.bits new
+  best_new d new refined wins = record {
+    refined = λ some. refined;
+    rivals = λ j e less inside. elim (cases_lt j k) [
+      | inl earlier ↦ old (best.rivals j e earlier inside) wins
+      | inr here ↦ let same : k ≡ j = omega arith in
+          subst (λ n. IsNoRival rows n (get_or rows k d).route.bits (length new)) (ap (λ (r : Row). r.route.bits) (get_or_default rows k d e within) ∙ ap (λ n. (get_or rows n e).route.bits) same)
+          (record { set = new; refined = refined; no_larger = omega arith; smaller = λ some low. absurd (omega arith) })
+    ];
+  }
+    where
+      old : {other : ℕ} → IsNoRival rows other bits (length set) → (length set < length new) ⊎ ((length new ≡ length set) × ((get_or rows k d).route.bits < bits)) → IsNoRival rows other (get_or rows k d).route.bits (length new)
+      old rival (inl less) = record { set = rival.set; refined = rival.refined; no_larger = omega (arith, rival.no_larger); smaller = λ some low. omega (arith, rival.no_larger) }
+      old rival (inr tie) = record { set = rival.set; refined = rival.refined; no_larger = omega (arith, rival.no_larger, tie.0); smaller = λ some low. let s = rival.smaller (omega (arith, tie.0)) (omega (arith, tie.1)) in omega (arith, s, tie.0) }
+
+-- the same as the code reads it
+module _ (rows list : List Row) (same : list ≡ rows) (k : ℕ) (within : k < length rows) (bits : ℕ) (set : List ℕ) (best : IsBestBefore rows k bits set) (d : Row) where
+  pub read_again : StandsBefore list (get_or list k d).route.bits k → IsBestBefore rows (k + 1) bits set
+  read_again stands = best_again rows k within bits set best d (subst (λ l. StandsBefore l (get_or l k d).route.bits k) same stands)
+
+  pub read_one_route : (places : List ℕ) → places ≡ places_of (get_or list k d).route.bits 0 list → IsOneRoute rows places
+  read_one_route places is = subst (IsOneRoute rows) (sym (is ∙ ap (places_of (get_or list k d).route.bits 0) same)) (places_of-one_route (get_or list k d).route.bits rows)
+
+  module _ (places : List ℕ) (is : places ≡ places_of (get_or list k d).route.bits 0 list) (new : List ℕ) (refined : Refines rows places new) (n m : ℕ) (count : n ≡ length new) (old : m ≡ length set) where
+    refined_here : Refines rows (places_of (get_or rows k d).route.bits 0 rows) new
+    refined_here = subst (λ l. Refines rows (places_of (get_or l k d).route.bits 0 l) new) same (subst (λ p. Refines rows p new) is refined)
+
+    pub read_stays : (n < m) ⊎ ((n ≡ m) × (bits ≤ (get_or list k d).route.bits)) → IsBestBefore rows (k + 1) bits set
+    read_stays loses = best_stays rows k within bits set best d new refined_here (by_case loses)
+      where
+        by_case : (n < m) ⊎ ((n ≡ m) × (bits ≤ (get_or list k d).route.bits)) → (length new < length set) ⊎ ((length new ≡ length set) × (bits ≤ (get_or rows k d).route.bits))
+        by_case (inl less) = inl (omega (arith, less))
+        by_case (inr tie) = inr (sym count ∙ tie.0 ∙ old, subst (λ l. bits ≤ (get_or l k d).route.bits) same tie.1)
+
+    pub read_new : (m < n) ⊎ ((n ≡ m) × ((get_or list k d).route.bits < bits)) → IsBestBefore rows (k + 1) (get_or list k d).route.bits new
+    read_new wins = subst (λ l. IsBestBefore rows (k + 1) (get_or l k d).route.bits new) (sym same) (best_new rows k within bits set best d new refined_here (by_case wins))
+      where
+        by_case : (m < n) ⊎ ((n ≡ m) × ((get_or list k d).route.bits < bits)) → (length set < length new) ⊎ ((length new ≡ length set) × ((get_or rows k d).route.bits < bits))
+        by_case (inl less) = inl (omega (arith, less))
+        by_case (inr tie) = inr (sym count ∙ tie.0 ∙ old, subst (λ l. (get_or l k d).route.bits < bits) same tie.1)
+
+pub best_first : (rows : List Row) (bits : ℕ) → IsBestBefore rows 0 bits []
+best_first rows bits = record { refined = λ some. absurd (omega arith); rivals = λ j d less inside. absurd (omega arith) }
+
+-- a route stands in the table, or has no places
+route_cases : (bits i : ℕ) (rows : List Row) → ((j : ℕ) × (j < length rows) × ((d : Row) → (get_or rows j d).route.bits ≡ bits)) ⊎ (places_of bits i rows ≡ [])
+route_cases bits i [] = inr refl
+route_cases bits i (r ∷ rows) = by_test (eqb_tells r.route.bits bits) (route_cases bits (suc i) rows)
+  where
+    by_test : ((r.route.bits == bits) ≡ true) × (r.route.bits ≡ bits) ⊎ ((r.route.bits == bits) ≡ false) × (r.route.bits ≢ bits)
+        → ((j : ℕ) × (j < length rows) × ((d : Row) → (get_or rows j d).route.bits ≡ bits)) ⊎ (places_of bits (suc i) rows ≡ [])
+        → ((j : ℕ) × (j < suc (length rows)) × ((d : Row) → (get_or (r ∷ rows) j d).route.bits ≡ bits)) ⊎ (cond (r.route.bits == bits) (i ∷ places_of bits (suc i) rows) (places_of bits (suc i) rows) ≡ [])
+    by_test (inl same) rest = inl (0, omega arith, λ d. same.1)
+    by_test (inr other) (inl found) = inl (suc found.0, omega (arith, found.1), found.2)
+    by_test (inr other) (inr none) = inr (ap (λ b. cond b (i ∷ places_of bits (suc i) rows) (places_of bits (suc i) rows)) other.0 ∙ none)
+
+module _ (rows : List Row) (k bits : ℕ) (set : List ℕ) (best : IsBestBefore rows k bits set) (all : length rows ≤ k) where
+  no_rival : (route : Route) → IsNoRival rows route.bits bits (length set)
+  no_rival route = by_cases (route_cases route.bits 0 rows)
+    where
+      by_cases : ((j : ℕ) × (j < length rows) × ((d : Row) → (get_or rows j d).route.bits ≡ route.bits)) ⊎ (places_of route.bits 0 rows ≡ []) → IsNoRival rows route.bits bits (length set)
+      by_cases (inl found) = subst (λ n. IsNoRival rows n bits (length set)) (found.2 (merge_rows [])) (best.rivals found.0 (merge_rows []) (omega (arith, found.1)) found.1)
+      by_cases (inr none) = record { set = []; refined = subst (λ l. Refines rows l []) (sym none) (ends_empty [] (omega arith)); no_larger = omega arith; smaller = λ some low. some }
+
+  pub none_largest : length set < 2 → HasNoLargest rows
+  none_largest less route = let rival = no_rival route in (rival.set, rival.refined, omega (arith, rival.no_larger))
+
+  pub best_largest : 2 ≤ length set → IsLargest rows set
+  best_largest two = record { bits = bits; refined = best.refined (omega arith); two = two; others = no_rival }
+
+-- ---- pairs
+
+pub pair_order : (rows : List Row) (i j : ℕ) → IsLegalPair rows i j → i < j
+pair_order rows i j pair = pair.set.set.ascending 0 1 0 (omega arith) (omega arith)
+
+pub pair_inside : (rows : List Row) (i j : ℕ) → IsLegalPair rows i j → j < length rows
+pair_inside rows i j pair = pair.set.set.in_range 1 0 (omega arith)
+
+module _ (list rows : List Row) (same : list ≡ rows) (i j : ℕ) (d e : Row) (less : i < j) (within : j < length rows) where
+  inside_list : j < length list
+  inside_list = subst (λ l. j < length l) (sym same) within
+
+  pub pair_made : (get_or list i d).route.bits ≡ (get_or list j e).route.bits → IsMergeSet rows (i ∷ j ∷ [])
+  pair_made equal = pair_set_read list rows same i j d e less inside_list (eq-eqb (get_or list i d).route.bits (get_or list j e).route.bits equal)
+
+  pub not_pair : (get_or list i d).route.bits ≢ (get_or list j e).route.bits → IsLegalPair rows i j → ⊥
+  not_pair differ pair =
+      let route : (get_or list i d).route ≡ (get_or list j d).route = subst (λ l. (get_or l i d).route ≡ (get_or l j d).route) (sym same) (pair.set.set.one_route 0 1 0 (omega arith) (omega arith) d) in
+      differ (ap (λ (r : Route). r.bits) route ∙ ap (λ (r : Row). r.route.bits) (get_or_default list j d e inside_list))
+
+pub match_legal : (rows : List Row) (i j : ℕ) (b : Bool) → IsMergeSet rows (i ∷ j ∷ []) → (IsTrue b) ↔ (IsLegal rows (i ∷ j ∷ [])) → MatchBool b (IsLegalPair rows i j) (IsLegalPair rows i j → ⊥)
+match_legal rows i j true set tells = record { set = set; legal = tells.0 refl }
+match_legal rows i j false set tells = λ pair. false≢true (tells.1 pair.legal)
+
+pub partner_found : (rows : List Row) (i j : ℕ) → ((b : ℕ) → i < b → b < j → IsLegalPair rows i b → ⊥) → IsLegalPair rows i j → IsFirstPartner rows i j
+partner_found rows i j none pair = record { legal = pair; before = λ b less other. none b (pair_order rows i b other) less other }
+
+pub no_partner : (rows : List Row) (i j : ℕ) → length rows ≤ j → ((b : ℕ) → i < b → b < j → IsLegalPair rows i b → ⊥) → (b : ℕ) → IsLegalPair rows i b → ⊥
+no_partner rows i j all none b other = none b (pair_order rows i b other) (omega (arith, pair_inside rows i b other)) other
+
+pub first_found : (rows : List Row) (set : List ℕ) (i j : ℕ) → set ≡ i ∷ j ∷ [] → ((a : ℕ) → a < i → (b : ℕ) → IsLegalPair rows a b → ⊥) → IsFirstPartner rows i j → IsFirstLegalPair rows set
+first_found rows set i j is none partner = record { i = i; j = j; pair = is; legal = partner.legal; before = earlier }
+  where
+    earlier : (a b : ℕ) → (a < i) ⊎ ((a ≡ i) × (b < j)) → IsLegalPair rows a b → ⊥
+    earlier a b (inl less) other = none a less b other
+    earlier a b (inr here) other = partner.before b here.1 (subst (λ n. IsLegalPair rows n b) here.0 other)
+
+pub no_pair : (rows : List Row) (i : ℕ) → length rows ≤ i → ((a : ℕ) → a < i → (b : ℕ) → IsLegalPair rows a b → ⊥) → HasNoLegalPair rows
+no_pair rows i all none a b other = none a (omega (arith, pair_order rows a b other, pair_inside rows a b other)) b other
+
+-- ---- a route that stands before
+
+pub stands_at : (rows : List Row) (bits k j : ℕ) (d : Row) → j < k → k ≤ length rows → (get_or rows j d).route.bits ≡ bits → StandsBefore rows bits k
+stands_at rows bits k j d less within same = record {
+  at = j;
+  before = less;
+  inside = omega arith;
+  same = λ e. ap (λ (r : Row). r.route.bits) (get_or_default rows j e d (omega arith)) ∙ same;
+}
+
+pub none_stands : (rows : List Row) (bits k j : ℕ) → k ≤ j → ((m : ℕ) (d : Row) → m < j → (get_or rows m d).route.bits ≡ bits → ⊥) → StandsBefore rows bits k → ⊥
+none_stands rows bits k j all none stands = none stands.at (merge_rows []) (omega (arith, stands.before)) (stands.same (merge_rows []))

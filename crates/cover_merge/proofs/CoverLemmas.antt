@@ -1,0 +1,219 @@
+-- What a chosen merge keeps: soundness and the served blocks; and that each merge makes the table shorter.
+use Rattle.std.proofs.Common.{◌≡◌, ℕ, zero, suc, ◌+◌, ◌-◌, ◌^◌, ◌<◌, ◌≤◌, List, [], ◌∷◌, ◌++◌, length, get_or, take, drop, inl, inr, ◌⊎◌, refl, sym, ap, ◌∙◌, subst, append_assoc, append-nil, take-append-drop, length-append, length-take, arith}
+use Rattle.std.specs.Prelude.{All, AllPairs, map, remove, slice_get, not}
+use Rattle.std.specs.List.{flat_map, cons_option}
+use Rattle.std.specs.List.Sorted.{IsPermutation}
+use Rattle.std.proofs.Math.Seq.{drop-cons}
+use Rattle.std.proofs.lemmas.Grind.{flat_map-append}
+use Rattle.std.proofs.lemmas.List.{map-append, get_or_default}
+use Rattle.std.proofs.lemmas.Option.{slice_get-get_or}
+use Rattle.std.proofs.lemmas.List.Elements.{All-nil, All-cons, All-head, All-tail}
+use Rattle.std.proofs.lemmas.List.Sorted.{IsPermutation-refl, IsPermutation-trans, IsPermutation-append_left, IsPermutation-append_right, IsPermutation-append_comm}
+use Rattle.spin_base.specs.declared.routes.Route.{Route}
+use Rattle.tern_word.specs.declared.tables.Alias.{Alias}
+use Rattle.tern_word.specs.declared.tables.Row.{Row}
+use Rattle.tern_word.specs.Ternary.{generality}
+use Rattle.tern_word.specs.SoundTable.{IsSound, Original, served_by, served}
+use Rattle.cover_checks.specs.Merge.{has, picked, kept, rows_at, merge_rows, merged_row, merged_block, insert_place, place_for, after, SameRoute, IsOneRoute, IsMergeSet, IsLegal}
+use Rattle.cover_checks.proofs.Lists.{AllPairs-head, AllPairs-tail}
+use Rattle.cover_checks.proofs.Positions.{has-place, rows_at-from, place_for-le}
+use Rattle.cover_merge.specs.Refinement.{Refines, ends_empty, ends_legal, goes_up, goes_down}
+use Rattle.cover_merge.specs.Covering.{places_of, IsLargest, IsFirstLegalPair, HasNoLargest, IsChosen, HasNoChosen, Covers, short, stuck, merged}
+use Rattle.cover_merge.specs.declared.covering.Merge.{Merge}
+use Rattle.cover_merge.specs.Merges.{sets_of}
+use Rattle.cover_merge.proofs.RefineLemmas.{one_route_after, legal_here}
+use Rattle.cover_merge.proofs.ApplyLemmas.{kept_none, kept_longer, kept_remove, picked-append, kept_in, first_kept}
+use Rattle.cover_merge.proofs.ChooseLemmas.{places_of-one_route}
+
+-- ---- a chosen merge is legal
+
+-- what a refinement ends in is empty or legal
+pub refined_legal : (rows : List Row) (places answer : List ℕ) → IsSound rows → IsOneRoute rows places → Refines rows places answer → (answer ≡ []) ⊎ ((IsMergeSet rows answer) × (IsLegal rows answer))
+refined_legal rows places answer sound set (ends_empty p few) = inl refl
+refined_legal rows places answer sound set (ends_legal p two up down) = inr (legal_here rows p set sound two p p (up, down, refl) refl)
+refined_legal rows places answer sound set (goes_up p next a two step rest) = refined_legal rows next a sound (one_route_after rows p set next (inl step)) rest
+refined_legal rows places answer sound set (goes_down p next a two step rest) = refined_legal rows next a sound (one_route_after rows p set next (inr step)) rest
+
+pub chosen_legal : (rows : List Row) (set : List ℕ) → IsSound rows → IsChosen rows set → (IsMergeSet rows set) × (IsLegal rows set)
+chosen_legal rows set sound (inl largest) = elim (refined_legal rows (places_of largest.bits 0 rows) set sound (places_of-one_route largest.bits rows) largest.refined) [
+  | inl none ↦ absurd (omega (arith, largest.two, ap length none))
+  | inr legal ↦ legal
+]
+chosen_legal rows set sound (inr found) = subst (λ s. (IsMergeSet rows s) × (IsLegal rows s)) (sym found.1.pair) (found.1.legal.set, found.1.legal.legal)
+
+-- ---- what stays and what goes
+
+-- the row at a place before all places of the set stays where it is
+pub kept_reads : (s : ℕ) (rest : List ℕ) (above : All (λ t. s < t) rest) (j m : ℕ) (xs : List Row) (d : Row) → s ≡ j + m → m < length xs → get_or (kept rest j xs) m d ≡ get_or xs m d
+kept_reads s rest above j m [] d at within = absurd (omega arith)
+kept_reads s rest above j zero (x ∷ xs) d at within = ap (λ l. get_or l 0 d) (kept_in rest j x xs (first_kept s rest above j (omega arith)))
+kept_reads s rest above j (suc m) (x ∷ xs) d at within =
+    ap (λ l. get_or l (suc m) d) (kept_in rest j x xs (first_kept s rest above j (omega arith))) ∙ kept_reads s rest above (suc j) m xs d (omega arith) (omega arith)
+
+split_at : (s : ℕ) (xs : List Row) (d : Row) → s < length xs → xs ≡ take s xs ++ get_or xs s d ∷ drop (suc s) xs
+split_at s xs d within = sym (take-append-drop s xs) ∙ ap (λ l. take s xs ++ l) (drop-cons xs s d within)
+
+-- a list taken out of the middle goes to the front
+taken_out : {X : Type 0} (t a r b : List X) → IsPermutation (t ++ (a ++ (r ++ b))) ((r ++ t) ++ (a ++ b))
+taken_out t a r b =
+    let before : ((t ++ a) ++ r) ++ b ≡ t ++ (a ++ (r ++ b)) = append_assoc (t ++ a) r b ∙ append_assoc t a (r ++ b) in
+    let behind : (r ++ (t ++ a)) ++ b ≡ (r ++ t) ++ (a ++ b) = ap (λ l. l ++ b) (sym (append_assoc r t a)) ∙ append_assoc (r ++ t) a b in
+    subst (λ l. IsPermutation l ((r ++ t) ++ (a ++ b))) before
+    (subst (IsPermutation (((t ++ a) ++ r) ++ b)) behind (IsPermutation-append_left b ((t ++ a) ++ r) (r ++ (t ++ a)) (IsPermutation-append_comm (t ++ a) r)))
+
+-- the served blocks are those of the set and those of the rest
+pub served_out : (rows : List Row) (places : List ℕ) → AllPairs (λ s t. s < t) places → All (λ s. s < length rows) places → IsPermutation (served rows) (served (rows_at rows places) ++ served (kept places 0 rows))
+served_out rows [] ascending in_range = subst (λ l. IsPermutation (served rows) (served l)) (sym (kept_none [] 0 rows (All-nil (λ t. t < 0)))) (IsPermutation-refl (served rows))
+served_out rows (s ∷ rest) ascending in_range =
+    out (served_out rows rest (AllPairs-tail (λ a b. a < b) s rest ascending) (All-tail (λ x. x < length rows) s rest in_range))
+  where
+    above : All (λ t. s < t) rest
+    above = AllPairs-head (λ a b. a < b) s rest ascending
+
+    within : s < length rows
+    within = All-head (λ x. x < length rows) s rest in_range
+
+    d : Row
+    d = merge_rows []
+
+    k : List Row
+    k = kept rest 0 rows
+
+    row : Row
+    row = get_or rows s d
+
+    split : kept rest 0 rows ≡ take s (kept rest 0 rows) ++ get_or rows s (merge_rows []) ∷ drop (suc s) (kept rest 0 rows)
+    split =
+        split_at s (kept rest 0 rows) (merge_rows []) (kept_longer s rest above 0 s rows (omega arith) within)
+        ∙ ap (λ r. take s (kept rest 0 rows) ++ r ∷ drop (suc s) (kept rest 0 rows)) (kept_reads s rest above 0 s rows (merge_rows []) (omega arith) within)
+
+    removed : take s (kept rest 0 rows) ++ drop (suc s) (kept rest 0 rows) ≡ kept (s ∷ rest) 0 rows
+    removed = kept_remove s rest above 0 s rows (omega arith) within
+
+    rows_are : rows_at rows (s ∷ rest) ≡ get_or rows s (merge_rows []) ∷ rows_at rows rest
+    rows_are = ap (λ o. cons_option o (rows_at rows rest)) (slice_get-get_or rows s (merge_rows []) within)
+
+    out : IsPermutation (served rows) (served (rows_at rows rest) ++ served (kept rest 0 rows)) → IsPermutation (served rows) (served (rows_at rows (s ∷ rest)) ++ served (kept (s ∷ rest) 0 rows))
+    out before =
+        let a = take s (kept rest 0 rows) in
+        let b = drop (suc s) (kept rest 0 rows) in
+        let r = get_or rows s (merge_rows []) in
+        let t = served (rows_at rows rest) in
+        let parts : served (kept rest 0 rows) ≡ served a ++ (served_by r ++ served b) = ap served split ∙ flat_map-append served_by a (r ∷ b) in
+        let whole : served (kept (s ∷ rest) 0 rows) ≡ served a ++ served b = sym (ap served removed) ∙ flat_map-append served_by a b in
+        subst (λ l. IsPermutation (served rows) (l ++ served (kept (s ∷ rest) 0 rows))) (sym (ap served rows_are))
+        (subst (λ l. IsPermutation (served rows) ((served_by r ++ t) ++ l)) (sym whole)
+        (IsPermutation-trans (served rows) (t ++ served (kept rest 0 rows)) ((served_by r ++ t) ++ (served a ++ served b)) before
+        (subst (λ l. IsPermutation (t ++ l) ((served_by r ++ t) ++ (served a ++ served b))) (sym parts) (taken_out t (served a) (served_by r) (served b)))))
+
+-- each place takes one row out
+length_out : (rows : List Row) (places : List ℕ) → AllPairs (λ s t. s < t) places → All (λ s. s < length rows) places → length places + length (kept places 0 rows) ≡ length rows
+length_out rows [] ascending in_range = let all = ap length (kept_none [] 0 rows (All-nil (λ t. t < 0))) in omega (arith, all)
+length_out rows (s ∷ rest) ascending in_range =
+    let above = AllPairs-head (λ a b. a < b) s rest ascending in
+    let within = All-head (λ x. x < length rows) s rest in_range in
+    let before = length_out rows rest (AllPairs-tail (λ a b. a < b) s rest ascending) (All-tail (λ x. x < length rows) s rest in_range) in
+    let k = kept rest 0 rows in
+    let whole = ap length (split_at s k (merge_rows []) (kept_longer s rest above 0 s rows (omega arith) within)) in
+    let removed = ap length (kept_remove s rest above 0 s rows (omega arith) within) in
+    let parts = length-append (take s k) (get_or k s (merge_rows []) ∷ drop (suc s) k) in
+    let left = length-append (take s k) (drop (suc s) k) in
+    omega (arith, before, whole, removed, parts, left)
+
+-- ---- the merge serves what its members serve
+
+served_alike : (route : Route) (rows : List Row) → All (λ (x : Row). x.route ≡ route) rows
+    → map (λ (a : Alias). let o : Original = record { block = a.block; port = a.port; route = route } in o) (flat_map (λ (x : Row). x.aliases) rows) ≡ served rows
+served_alike route [] all = refl
+served_alike route (r ∷ rows) all =
+    let mark = λ (ρ : Route). λ (a : Alias). let o : Original = record { block = a.block; port = a.port; route = ρ } in o in
+    map-append (mark route) r.aliases (flat_map (λ (x : Row). x.aliases) rows)
+    ∙ ap (λ l. map (mark route) r.aliases ++ l) (served_alike route rows (All-tail (λ (x : Row). x.route ≡ route) r rows all))
+    ∙ ap (λ ρ. map (mark ρ) r.aliases ++ served rows) (sym (All-head (λ (x : Row). x.route ≡ route) r rows all))
+
+served_merge : (r : Row) (rows : List Row) → All (λ (x : Row). x.route ≡ r.route) rows → served_by (merge_rows (r ∷ rows)) ≡ served (r ∷ rows)
+served_merge r rows all = served_alike r.route (r ∷ rows) (All-cons (λ (x : Row). x.route ≡ r.route) r rows refl all)
+
+pub served_merged : (rows : List Row) (places : List ℕ) → IsMergeSet rows places → served_by (merged_row rows places) ≡ served (rows_at rows places)
+served_merged rows [] set = absurd (omega (arith, set.two))
+served_merged rows (s ∷ rest) set =
+    let within : s < length rows = All-head (λ x. x < length rows) s rest set.set.in_range in
+    let d : Row = merge_rows [] in
+    let r = get_or rows s d in
+    let rows_are : rows_at rows (s ∷ rest) ≡ r ∷ rows_at rows rest = ap (λ o. cons_option o (rows_at rows rest)) (slice_get-get_or rows s d within) in
+    let alike : All (λ (x : Row). x.route ≡ r.route) (rows_at rows rest) =
+    rows_at-from (λ (x : Row). x.route ≡ r.route) rows rest (λ t e found.
+    let at = has-place rest t found in
+    let same : (get_or rows s e).route ≡ (get_or rows (get_or rest at.0 0) e).route = AllPairs-head (SameRoute rows) s rest set.set.one_route at.0 0 at.1 e in
+    ap (λ n. (get_or rows n e).route) (sym at.2) ∙ sym same ∙ ap (λ (x : Row). x.route) (get_or_default rows s e d within)) in
+    ap (λ l. served_by (merge_rows l)) rows_are ∙ served_merge r (rows_at rows rest) alike ∙ sym (ap served rows_are)
+
+-- ---- the table after a merge serves the same blocks, and is shorter
+
+module _ (rows : List Row) (places : List ℕ) (set : IsMergeSet rows places) where
+  kept_parts : kept places 0 rows ≡ kept places 0 (take (insert_place rows places) rows) ++ kept places (insert_place rows places) (drop (insert_place rows places) rows)
+  kept_parts =
+      let p = insert_place rows places in
+      let q = λ (k : ℕ). not (has places k) in
+      let front_length : 0 + length (take p rows) ≡ p = omega (arith, length-take p rows, place_for-le rows (generality (merged_block rows places))) in
+      ap (λ l. picked q 0 l) (sym (take-append-drop p rows)) ∙ picked-append q 0 (take p rows) (drop p rows) ∙ ap (λ n. picked q 0 (take p rows) ++ picked q n (drop p rows)) front_length
+
+  pub served_after : IsPermutation (served rows) (served (after rows places))
+  served_after =
+      let p = insert_place rows places in
+      let m = merged_row rows places in
+      let a = kept places 0 (take p rows) in
+      let b = kept places p (drop p rows) in
+      let split : served (after rows places) ≡ served a ++ (served_by m ++ served b) = flat_map-append served_by a (m ∷ b) in
+      let rest : served (kept places 0 rows) ≡ served a ++ served b = ap served kept_parts ∙ flat_map-append served_by a b in
+      let before : IsPermutation (served rows) (served_by m ++ (served a ++ served b)) =
+      subst (λ l. IsPermutation (served rows) (served_by m ++ l)) rest
+      (subst (λ l. IsPermutation (served rows) (l ++ served (kept places 0 rows))) (sym (served_merged rows places set)) (served_out rows places set.set.ascending set.set.in_range)) in
+      let move : IsPermutation (served_by m ++ (served a ++ served b)) (served a ++ (served_by m ++ served b)) =
+      subst (λ l. IsPermutation l (served a ++ (served_by m ++ served b))) (append_assoc (served_by m) (served a) (served b))
+      (subst (λ l. IsPermutation ((served_by m ++ served a) ++ served b) l) (append_assoc (served a) (served_by m) (served b))
+      (IsPermutation-append_left (served b) (served_by m ++ served a) (served a ++ served_by m) (IsPermutation-append_comm (served_by m) (served a)))) in
+      subst (IsPermutation (served rows)) (sym split) (IsPermutation-trans (served rows) (served_by m ++ (served a ++ served b)) (served a ++ (served_by m ++ served b)) before move)
+
+  pub shorter : length (after rows places) < length rows
+  shorter =
+      let p = insert_place rows places in
+      let a = kept places 0 (take p rows) in
+      let b = kept places p (drop p rows) in
+      omega (arith, set.two, length_out rows places set.set.ascending set.set.in_range, ap length kept_parts, length-append a b, length-append a (merged_row rows places ∷ b))
+
+-- ---- one merge after another
+
+-- one more merge at the end of those that were made
+sets_more : (merges : List Merge) (m : Merge) (sets : List (List ℕ)) → sets_of (merges ++ m ∷ []) ++ sets ≡ sets_of merges ++ m.places ∷ sets
+sets_more merges m sets = ap (λ l. l ++ sets) (map-append (λ (x : Merge). x.places) merges (m ∷ [])) ∙ append_assoc (sets_of merges) (m.places ∷ []) sets
+
+-- what covering keeps from one merge to the next
+pub record IsCoveredSoFar (target : ℕ) (start now : List Row) (merges : List Merge) : Type 0 where
+  pub few : length now < 2 ^ 32
+  pub sound : IsSound now
+  pub goes_on : (sets : List (List ℕ)) (covered : List Row) → Covers target now sets covered → Covers target start (sets_of merges ++ sets) covered
+  pub serves : IsPermutation (served start) (served now)
+
+pub so_far_first : (target : ℕ) (start : List Row) → length start < 2 ^ 32 → IsSound start → IsCoveredSoFar target start start []
+so_far_first target start few sound = record { few = few; sound = sound; goes_on = λ sets covered h. h; serves = IsPermutation-refl (served start) }
+
+pub so_far_more : (target : ℕ) (start now new : List Row) (merges : List Merge) (m : Merge) → IsCoveredSoFar target start now merges → target < length now → IsChosen now m.places → new ≡ after now m.places
+    → IsCoveredSoFar target start new (merges ++ m ∷ [])
+so_far_more target start now new merges m so_far more chosen is =
+    let legal = chosen_legal now m.places so_far.sound chosen in
+    subst (λ l. IsCoveredSoFar target start l (merges ++ m ∷ [])) (sym is) (record {
+      few = omega (arith, shorter now m.places legal.0, so_far.few);
+      sound = legal.1;
+      goes_on = λ sets covered h. subst (λ l. Covers target start l covered) (sym (sets_more merges m sets)) (so_far.goes_on (m.places ∷ sets) covered (merged now m.places sets covered more chosen h));
+      serves = IsPermutation-trans (served start) (served now) (served (after now m.places)) so_far.serves (served_after now m.places legal.0);
+    })
+
+pub chosen_shorter : (now new : List Row) (set : List ℕ) → IsSound now → IsChosen now set → new ≡ after now set → length new < length now
+chosen_shorter now new set sound chosen is = subst (λ l. length l < length now) (sym is) (shorter now set (chosen_legal now set sound chosen).0)
+
+pub covered_short : (target : ℕ) (start now : List Row) (merges : List Merge) → IsCoveredSoFar target start now merges → length now ≤ target → Covers target start (sets_of merges) now
+covered_short target start now merges so_far enough = subst (λ l. Covers target start l now) (append-nil (sets_of merges)) (so_far.goes_on [] now (short now enough))
+
+pub covered_stuck : (target : ℕ) (start now : List Row) (merges : List Merge) → IsCoveredSoFar target start now merges → target < length now → HasNoChosen now → Covers target start (sets_of merges) now
+covered_stuck target start now merges so_far more none = subst (λ l. Covers target start l now) (append-nil (sets_of merges)) (so_far.goes_on [] now (stuck now more none))

@@ -1,0 +1,4 @@
+pub mod ApplyLemmas
+pub mod ChooseLemmas
+pub mod CoverLemmas
+pub mod RefineLemmas

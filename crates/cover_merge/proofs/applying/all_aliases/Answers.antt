@@ -1,0 +1,12 @@
+-- Each turn adds the aliases of one more row.
+use Rattle.std.proofs.Common.{◌≡◌, ◌++◌, take, sym, ap, ◌∙◌}
+use Rattle.cover_merge.specs.Aliases.{aliases_at}
+use Rattle.cover_merge.proofs.ApplyLemmas.{aliases_more}
+use Rattle.cover_merge.proofs.applying.all_aliases.Goals as goal
+
+pub loop-s-preserved : goal.loop-s-preserved
+loop-s-preserved c =
+    c.in_ok-extend_from_slice.ensures.items
+    ∙ ap (λ l. l ++ c.as_slice.result.now) c.loop-s.invariant
+    ∙ ap (λ l. aliases_at c.args.rows.now (take c.loop-s.s-index c.args.places.now) ++ l) c.as_slice.ensures
+    ∙ sym (aliases_more c.args.rows.now c.args.places.now c.loop-s.s-index c.index-rows-s.result c.requires c.loop-s-test.true)

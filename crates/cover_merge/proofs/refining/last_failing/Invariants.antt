@@ -1,0 +1,13 @@
+-- The places passed, the greater first, pass the up-check.
+use Rattle.std.proofs.Common.{◌<◌, ◌≤◌, ℕ, length, get_or}
+use Rattle.cover_checks.specs.Merge.{PassesUp}
+use Rattle.cover_merge.proofs.refining.last_failing.Given as goal
+
+abbrev pub invariant-loop-i : goal.invariant-loop-i
+invariant-loop-i l = record {
+  within : l.i ≤ length l.places;
+  behind : (k : ℕ) → l.i ≤ k → k < length l.places → PassesUp l.rows l.places (get_or l.places k 0) l.place;
+}
+
+abbrev pub decreases-loop-i : goal.decreases-loop-i
+decreases-loop-i l = l.i

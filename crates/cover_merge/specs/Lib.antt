@@ -1,0 +1,4 @@
+pub mod Aliases
+pub mod Covering
+pub mod Merges
+pub mod Refinement

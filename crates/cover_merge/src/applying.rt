@@ -1,0 +1,81 @@
+// The table after a merge.
+ghost use Rattle.std.specs.Prelude.{◌≡◌, ◌<◌, ◌≤◌, ◌^◌, All, AllPairs, IfOk, OnOk, OnErr, length, insert};
+ghost use Rattle.tern_word.specs.SoundTable.{IsOrdered};
+ghost use Rattle.cover_checks.specs.Merge.{IsMergeSet, after, kept, merged_row, rows_at};
+ghost use Rattle.cover_merge.specs.Aliases.{aliases_at};
+
+use cover_checks::{merged_block, place_for};
+use spin_base::{Memory, Seq};
+use std::alloc::Global;
+use std::mem;
+use tern_word::{Alias, Row, Table, generality};
+
+/// Merges the rows at the places: they go out, and the merge stands before the row that was at its insertion place.
+/// After a refusal the table is as before.
+pub fn apply(alloc: Global, table: &mut Table, places: &Seq<u32>) -> Result<(), Memory>
+    requires few { length table.old.rows < 2 ^ 32 }
+    requires ordered { IsOrdered table.old.rows }
+    requires set { IsMergeSet table.old.rows places.now }
+    ensures ok { OnOk result (table.new.rows ≡ after table.old.rows places.now) }
+    ensures err { OnErr result (table.new.rows ≡ table.old.rows) }
+{
+    let members = places.as_slice();
+    let merged = merged_row(alloc, table.rows.as_slice(), members)?;
+    let place = place_for(table.rows.as_slice(), generality(merged.block));
+    let mut rows = mem::replace(&mut table.rows, Seq::new(alloc)).into_vec();
+    let done = put_in(&mut rows, merged, place, members);
+    table.rows = Seq::from_vec(rows);
+    done
+}
+
+// The merge of the rows at the places.
+fn merged_row(alloc: Global, rows: &[Row], places: &[u32]) -> Result<Row, Memory>
+    requires in_range { All (λ s. s < length rows.now) places.now }
+    requires some { 0 < length places.now }
+    ensures { IfOk result (λ row. row ≡ merged_row rows.now places.now) }
+{
+    let aliases = all_aliases(alloc, rows, places)?;
+    Ok(Row {
+        block: merged_block(rows, places),
+        route: rows[places[0] as usize].route,
+        aliases,
+    })
+}
+
+// The aliases of the rows at the places, in the order of the places.
+fn all_aliases(alloc: Global, rows: &[Row], places: &[u32]) -> Result<Seq<Alias>, Memory>
+    requires { All (λ s. s < length rows.now) places.now }
+    ensures { IfOk result (λ aliases. aliases ≡ aliases_at rows.now places.now) }
+{
+    let mut aliases = Vec::new(alloc);
+    for s in places {
+        aliases.extend_from_slice(rows[*s as usize].aliases.as_slice())?;
+    }
+    Ok(Seq::from_vec(aliases))
+}
+
+// Puts the merge in at its place, behind all rows of the set, and takes those out.
+fn put_in(rows: &mut Vec<Row>, merged: Row, place: u32, places: &[u32]) -> Result<(), Memory>
+    requires place { place ≤ length rows.old.items }
+    requires ascending { AllPairs (λ s t. s < t) places.now }
+    requires before { All (λ s. s < place) places.now }
+    ensures ok { OnOk result (rows.new.items ≡ kept places.now 0 (insert rows.old.items place merged)) }
+    ensures err { OnErr result (rows.new.items ≡ rows.old.items) }
+{
+    rows.insert(place as usize, merged)?;
+    take_out_all(rows, places);
+    Ok(())
+}
+
+// Takes out the rows at the places, the last first.
+fn take_out_all(rows: &mut Vec<Row>, places: &[u32])
+    requires ascending { AllPairs (λ s t. s < t) places.now }
+    requires in_range { All (λ s. s < length rows.old.items) places.now }
+    ensures { rows.new.items ≡ kept places.now 0 rows.old.items }
+{
+    let mut i = places.len();
+    while i > 0 {
+        i -= 1;
+        let _ = rows.remove(places[i] as usize);
+    }
+}

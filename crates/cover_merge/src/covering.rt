@@ -1,0 +1,49 @@
+// Covering a table.
+ghost use Rattle.std.specs.Prelude.{◌≡◌, ◌<◌, ◌≤◌, ◌^◌, ◌⊎◌, IfOk, length, map};
+ghost use Rattle.tern_word.specs.SoundTable.{IsSound, served};
+ghost use Rattle.std.specs.List.Sorted.{IsPermutation};
+ghost use Rattle.cover_merge.specs.Covering.{Covers, HasNoLegalPair};
+ghost use Rattle.cover_merge.specs.Merges.{sets_of};
+
+use crate::applying::apply;
+use crate::choosing::chosen;
+use spin_base::{Memory, Seq};
+use std::alloc::Global;
+use tern_word::Table;
+
+/// A merge that was made: the places of the rows in the table before it.
+#[derive(Debug, Drop)]
+pub struct Merge {
+    pub places: Seq<u32>,
+}
+
+/// A covered table, and the merges that led to it, in order.
+#[derive(Debug, Drop)]
+pub struct Covered {
+    pub table: Table,
+    pub merges: Seq<Merge>,
+}
+
+/// Merges rows while the table has more than `target`: the largest refined set of the rows of a route, of equal ones
+/// that of the least route; where none has two places, the first legal pair; where no pair is legal, covering ends.
+/// Each key of each alias keeps its route (Mundy, Heathcote, Garside, HPSR 2016).
+pub fn cover(alloc: Global, mut table: Table, target: u32) -> Result<Covered, Memory>
+    requires few { length table.rows < 2 ^ 32 }
+    requires sound { IsSound table.rows }
+    ensures covered { IfOk result (λ c. Covers target table.rows (sets_of c.merges) c.table.rows) }
+    ensures sound { IfOk result (λ c. IsSound c.table.rows) }
+    ensures serves { IfOk result (λ c. IsPermutation (served table.rows) (served c.table.rows)) }
+    ensures ended { IfOk result (λ c. (length c.table.rows ≤ target) ⊎ (HasNoLegalPair c.table.rows)) }
+{
+    let mut merges = Seq::new(alloc);
+    'merging: while table.rows.len() > target as usize {
+        match chosen(alloc, &table)? {
+            Some(places) => {
+                apply(alloc, &mut table, &places)?;
+                merges.push(Merge { places })?;
+            }
+            None => return Ok(Covered { table, merges }),
+        }
+    }
+    Ok(Covered { table, merges })
+}

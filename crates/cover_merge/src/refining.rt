@@ -1,0 +1,185 @@
+// The refined set of places of one route.
+ghost use Rattle.std.specs.Prelude.{◌≡◌, ◌<◌, ◌≤◌, ◌^◌, ◌↔◌, ◌⊎◌, [], IsTrue, IfOk, MatchOption, MatchBool, All, length, filter, not, ◌==◌, ℕ};
+ghost use Rattle.tern_word.specs.Ternary.{Intersects};
+ghost use Rattle.tern_word.specs.SoundTable.{IsSound, Misses};
+ghost use Rattle.cover_checks.specs.Merge.{has, IsOneRoute, IsMergeSet, IsLegal, merged_block, insert_place, PassesUp, PassesUpCheck, PassesDown, PassesDownCheck};
+ghost use Rattle.cover_merge.specs.Refinement.{IsLastFailing, without, IsUpStep, IsFirstMet, IsFirstMetFrom, can_choose, keeps, parts, kept_by, kept_count, IsBestBit, IsNarrowed, IsDownStep, Refines};
+
+use cover_checks::{merged_block, passes_up, place_for};
+use spin_base::{Block, Memory, Seq};
+use tern_word::{Alias, Row, Table, generality, intersects};
+
+/// The places of the set that can be merged. With fewer than two places there are none. Where the up-check fails, the
+/// greatest place for which it fails is taken out; where the down-check fails, the first alias that the merge would
+/// meet is kept clear by the bit that keeps most places, the highest on a tie; and so on until the merge is legal.
+pub fn refine(table: &Table, places: Seq<u32>) -> Result<Seq<u32>, Memory>
+    requires few { length table.now.rows < 2 ^ 32 }
+    requires sound { IsSound table.now.rows }
+    requires set { IsOneRoute table.now.rows places }
+    ensures refined { IfOk result (λ answer. Refines table.now.rows places answer) }
+    ensures legal { IfOk result (λ answer. (answer ≡ []) ⊎ ((IsMergeSet table.now.rows answer) × (IsLegal table.now.rows answer))) }
+{
+    let rows = table.rows.as_slice();
+    let mut set = places.into_vec();
+    while set.len() >= 2 {
+        if narrow(rows, &mut set) {
+            return Ok(Seq::from_vec(set));
+        }
+    }
+    set.clear();
+    Ok(Seq::from_vec(set))
+}
+
+// One step: takes out what a check fails for. Whether both checks were true, and the set stays as it was.
+fn narrow(rows: &[Row], set: &mut Vec<u32>) -> bool
+    requires few { length rows.now < 2 ^ 32 }
+    requires set { IsMergeSet rows.now set.old.items }
+    ensures { MatchBool result ((PassesUpCheck rows.now set.old.items) × (PassesDownCheck rows.now set.old.items) × (set.new.items ≡ set.old.items)) (((IsUpStep rows.now set.old.items set.new.items) ⊎ (IsDownStep rows.now set.old.items set.new.items)) × (length set.new.items < length set.old.items)) }
+{
+    let merged = merged_block(rows, set);
+    let place = place_for(rows, generality(merged));
+    match last_failing(rows, set, place) {
+        Some(s) => {
+            take_out(set, s);
+            false
+        }
+        None => match first_met_from(rows, merged, place) {
+            Some(met) => {
+                choose(rows, set, merged, met);
+                false
+            }
+            None => true,
+        },
+    }
+}
+
+// The greatest place of the set for which the up-check fails.
+fn last_failing(rows: &[Row], places: &[u32], place: u32) -> Option<u32>
+    requires few { length rows.now < 2 ^ 32 }
+    requires set { IsOneRoute rows.now places.now }
+    requires place { place ≤ length rows.now }
+    ensures { MatchOption result ((s : ℕ) → IsTrue (has places.now s) → PassesUp rows.now places.now s place) (λ s. IsLastFailing rows.now places.now place s) }
+{
+    let mut i = places.len();
+    while i > 0 {
+        i -= 1;
+        if !passes_up(rows, places, places[i], place) {
+            return Some(places[i]);
+        }
+    }
+    None
+}
+
+// Takes one place out of the set.
+fn take_out(set: &mut Vec<u32>, s: u32)
+    ensures { set.new.items ≡ without s set.old.items }
+{
+    set.retain(|t| *t != s);
+}
+
+// The block of the first alias that the block meets, of the first row from place `p` on that has one.
+fn first_met_from(rows: &[Row], block: Block, p: u32) -> Option<Block>
+    ensures { MatchOption result (PassesDown rows.now block p) (λ met. IsFirstMetFrom rows.now block p met) }
+{
+    for r in p as usize..rows.len() {
+        if let Some(met) = first_met(rows[r].aliases.as_slice(), block) {
+            return Some(met);
+        }
+    }
+    None
+}
+
+// The block of the first of the aliases that the block meets.
+fn first_met(aliases: &[Alias], block: Block) -> Option<Block>
+    ensures { MatchOption result (All (λ a. ¬ (Intersects block a.block)) aliases.now) (λ met. IsFirstMet block aliases.now met) }
+{
+    for alias in aliases {
+        if intersects(block, alias.block) {
+            return Some(alias.block);
+        }
+    }
+    None
+}
+
+// Keeps the places that the best bit keeps, and none where no bit keeps one.
+fn choose(rows: &[Row], set: &mut Vec<u32>, merged: Block, met: Block)
+    ensures { IsNarrowed rows.now set.old.items merged met set.new.items }
+{
+    match best_bit(rows, set, merged, met) {
+        Some(bit) => keep(rows, set, met, bit),
+        None => set.clear(),
+    }
+}
+
+// Keeps the places that the bit keeps.
+fn keep(rows: &[Row], set: &mut Vec<u32>, met: Block, bit: u32)
+    ensures { set.new.items ≡ kept_by rows.now met bit set.old.items }
+{
+    set.retain(|s| keeps(rows, met, bit, *s));
+}
+
+// The bit that keeps most places, of equal ones the highest, where one keeps any.
+fn best_bit(rows: &[Row], places: &[u32], merged: Block, met: Block) -> Option<u32>
+    ensures { MatchOption result ((j : ℕ) → j < 32 → kept_count rows.now places.now merged met j ≡ 0) (λ i. (i < 32) × (IsBestBit rows.now places.now merged met i)) }
+{
+    let mut best = 0;
+    let mut most = 0;
+    let mut bit = 32;
+    while bit > 0 {
+        bit -= 1;
+        let count = kept_count(rows, places, merged, met, bit);
+        if count > most {
+            best = bit;
+            most = count;
+        }
+    }
+    if most == 0 { None } else { Some(best) }
+}
+
+// How many places the bit keeps, and none where it cannot be chosen.
+fn kept_count(rows: &[Row], places: &[u32], merged: Block, met: Block, bit: u32) -> usize
+    requires { bit < 32 }
+    ensures value { result ≡ kept_count rows.now places.now merged met bit }
+{
+    if !can_choose(merged, met, bit) {
+        return 0;
+    }
+    let mut count = 0;
+    for s in places {
+        if keeps(rows, met, bit, *s) {
+            count += 1;
+        }
+    }
+    count
+}
+
+// Whether the bit keeps the place; no place outside the table is kept.
+fn keeps(rows: &[Row], met: Block, bit: u32, s: u32) -> bool
+    ensures { result ≡ keeps rows.now met bit s }
+{
+    (s as usize) < rows.len() && parts(rows[s as usize].block, met, bit)
+}
+
+// Whether the block cares for the bit, and has there the other value than the met alias.
+fn parts(block: Block, met: Block, bit: u32) -> bool
+    ensures { result ≡ parts block met bit }
+{
+    if bit >= 32 {
+        return false;
+    }
+    if (block.mask >> bit) & 1 == 0 {
+        return false;
+    }
+    (block.key >> bit) & 1 != (met.key >> bit) & 1
+}
+
+// Whether the bit can be chosen: the merge does not care for it, and the met alias does.
+fn can_choose(merged: Block, met: Block, bit: u32) -> bool
+    requires { bit < 32 }
+    ensures { result ≡ can_choose merged met bit }
+{
+    if (merged.mask >> bit) & 1 == 1 {
+        return false;
+    }
+    (met.mask >> bit) & 1 == 1
+}

@@ -1,0 +1,206 @@
+-- Kept rows route as all rows do.
+use Rattle.std.proofs.Common.{◌≡◌, ℕ, zero, suc, ◌+◌, ◌-◌, ◌^◌, ◌<◌, ◌≤◌, ◌⊎◌, inl, inr, ◌==◌, Bool, true, false, cond, Option, Some, None, List, [], ◌∷◌, ◌++◌, length, get_or, refl, sym, ap, ◌∙◌, subst, arith}
+use Rattle.std.specs.Prelude.{All, AllPairs, map, find, slice_get, bit_and, MatchBool, IsTrue, ◌↔◌}
+use Rattle.std.specs.List.{cons_option}
+use Rattle.std.specs.Option.{option_map_or}
+use mathlib.Core.Bool.{false≢true, true≢false}
+use Rattle.std.proofs.lemmas.Bool.{cases_lt, eqb-true, eq-eqb}
+use Rattle.std.proofs.lemmas.Bool.Decides.{eqb_tells}
+use Rattle.std.proofs.lemmas.List.{get_or_default}
+use Rattle.std.proofs.lemmas.List.Elements.{All-nil, All-cons, All-head, All-tail}
+use Rattle.std.proofs.lemmas.Option.{slice_get_read, get_or_from_slice_get, slice_get_within}
+use Rattle.spin_base.specs.declared.chips.Dir.{Dir}
+use Rattle.spin_base.specs.declared.chips.Dir.TheVariants.{East, NorthEast, North, West, SouthWest, South}
+use Rattle.spin_base.specs.declared.chips.Port.{Port}
+use Rattle.spin_base.specs.declared.chips.Port.TheVariants.{Link, Local}
+use Rattle.spin_base.specs.declared.blocks.Block.{Block}
+use Rattle.spin_base.specs.declared.blocks.Entry.{Entry}
+use Rattle.spin_base.specs.declared.routes.Route.{Route}
+use Rattle.spin_base.specs.Lookup.{matches, straight_on, default_route, lookup}
+use Rattle.spin_base.specs.Links.{dir_number}
+use Rattle.tern_word.specs.declared.tables.Alias.{Alias}
+use Rattle.tern_word.specs.declared.tables.Row.{Row}
+use Rattle.tern_word.specs.Ternary.{Matches, Intersects}
+use Rattle.tern_word.specs.SoundTable.{Misses, IsSound}
+use Rattle.cover_checks.specs.Merge.{has, rows_at}
+use Rattle.cover_checks.proofs.Answering.{fails}
+use Rattle.cover_checks.proofs.Positions.{has-at, has-place, rows_at-from, rows_at-has, same_route}
+use Rattle.default_routes.specs.KeptRows.{IsStrippable, KeptFrom, ends, goes, stays, AreKept, entry_of, RoutesAll}
+
+-- ---- lookup, entry by entry
+
+pub lookup_hit : (r : Row) (rows : List Row) (key : ℕ) (port : Port) → Matches r.block key → lookup (map entry_of (r ∷ rows)) key port ≡ r.route
+lookup_hit r rows key port hit =
+    ap (λ b. option_map_or (λ (e : Entry). e.route) (cond b (Some (entry_of r)) (find (λ (e : Entry). matches e key) (map entry_of rows))) (default_route port)) (eq-eqb (bit_and key r.block.mask) r.block.key hit)
+
+pub lookup_miss : (r : Row) (rows : List Row) (key : ℕ) (port : Port) → (Matches r.block key → ⊥) → lookup (map entry_of (r ∷ rows)) key port ≡ lookup (map entry_of rows) key port
+lookup_miss r rows key port miss =
+    ap (λ b. option_map_or (λ (e : Entry). e.route) (cond b (Some (entry_of r)) (find (λ (e : Entry). matches e key) (map entry_of rows))) (default_route port)) (off (eqb_tells (bit_and key r.block.mask) r.block.key))
+  where
+    off : ((bit_and key r.block.mask == r.block.key) ≡ true) × (Matches r.block key) ⊎ ((bit_and key r.block.mask == r.block.key) ≡ false) × (Matches r.block key → ⊥) → (bit_and key r.block.mask == r.block.key) ≡ false
+    off (inl hit) = absurd (miss hit.1)
+    off (inr other) = other.0
+
+-- where no row matches, the default route
+pub lookup_none : (rows : List Row) (key : ℕ) (port : Port) → All (λ (r : Row). Matches r.block key → ⊥) rows → lookup (map entry_of rows) key port ≡ default_route port
+lookup_none [] key port all = refl
+lookup_none (r ∷ rows) key port all =
+    lookup_miss r rows key port (All-head (λ (x : Row). Matches x.block key → ⊥) r rows all) ∙ lookup_none rows key port (All-tail (λ (x : Row). Matches x.block key → ⊥) r rows all)
+
+-- ---- kept rows route as the table does
+
+module _ (rows : List Row) (sound : IsSound rows) where
+  -- what is claimed of the rows from place i on
+  abbrev RoutesFrom : ℕ → List ℕ → Type 0
+  RoutesFrom i kept =
+      (j : ℕ) (d : Row) → i ≤ j → j < length rows → (m : ℕ) (e : Alias) → m < length (get_or rows j d).aliases
+      → (key : ℕ) → key < 2 ^ 32 → Matches (get_or (get_or rows j d).aliases m e).block key
+      → lookup (map entry_of (rows_at rows kept)) key (get_or (get_or rows j d).aliases m e).port ≡ (get_or rows j d).route
+
+  routes_from : (i : ℕ) (kept : List ℕ) → KeptFrom rows i kept → RoutesFrom i kept
+  routes_from i kept ends j d from within m e inside key small hit = absurd (omega arith)
+  routes_from i kept (goes n row rest here strip later) j d from within m e inside key small hit = elim (cases_lt n j) [
+    | inl behind ↦ routes_from (suc n) rest later j d behind within m e inside key small hit
+    | inr first ↦
+        let same : n ≡ j = omega arith in
+        let is : get_or rows j d ≡ row = ap (λ x. get_or rows x d) (sym same) ∙ get_or_from_slice_get rows n row d here in
+        routed (get_or rows j d) (sym is) m e inside key small hit
+  ]
+    where
+      routed : (r : Row) → row ≡ r → (m : ℕ) (e : Alias) → m < length r.aliases → (key : ℕ) → key < 2 ^ 32 → Matches (get_or r.aliases m e).block key
+          → lookup (map entry_of (rows_at rows rest)) key (get_or r.aliases m e).port ≡ r.route
+      routed r is m e inside key small hit =
+          let strips = subst (λ x. IsStrippable x (rows_at rows rest)) is strip in
+          lookup_none (rows_at rows rest) key (get_or r.aliases m e).port (λ k f among met. strips.clear k f among m e inside (record { key = key; small = small; first = met; second = hit }))
+          ∙ ap default_route (strips.arrives m e inside)
+          ∙ sym strips.route
+  routes_from i kept (stays n row rest here keep later) j d from within m e inside key small hit = elim (cases_lt n j) [
+    | inl behind ↦
+        let first : rows_at rows (n ∷ rest) ≡ row ∷ rows_at rows rest = ap (λ o. cons_option o (rows_at rows rest)) here in
+        let at : get_or rows n d ≡ row = get_or_from_slice_get rows n row d here in
+        ap (λ l. lookup (map entry_of l) key (get_or (get_or rows j d).aliases m e).port) first
+        ∙ lookup_miss row (rows_at rows rest) key (get_or (get_or rows j d).aliases m e).port (λ met.
+        sound.unmet n j d behind within m e inside (record { key = key; small = small; first = subst (λ (x : Row). Matches x.block key) (sym at) met; second = hit }))
+        ∙ routes_from (suc n) rest later j d behind within m e inside key small hit
+    | inr before ↦
+        let same : n ≡ j = omega arith in
+        let first : rows_at rows (n ∷ rest) ≡ row ∷ rows_at rows rest = ap (λ o. cons_option o (rows_at rows rest)) here in
+        let is : row ≡ get_or rows j d = sym (get_or_from_slice_get rows n row d here) ∙ ap (λ x. get_or rows x d) same in
+        ap (λ l. lookup (map entry_of l) key (get_or (get_or rows j d).aliases m e).port) first
+        ∙ lookup_hit row (rows_at rows rest) key (get_or (get_or rows j d).aliases m e).port (subst (λ (x : Row). Matches x.block key) (sym is) (sound.inside j d within m e inside key small hit))
+        ∙ ap (λ (x : Row). x.route) is
+  ]
+
+  pub kept_routes : (kept : List ℕ) → AreKept rows kept → RoutesAll rows kept
+  kept_routes kept are j d within m e inside key small hit = routes_from 0 kept are j d (omega arith) within m e inside key small hit
+
+-- ---- one arrival for each one-link route
+
+pub straight_injective : (d e : Dir) → (straight_on d).bits ≡ (straight_on e).bits → d ≡ e
+straight_injective East East e = refl
+straight_injective East NorthEast e = absurd (omega (arith, e))
+straight_injective East North e = absurd (omega (arith, e))
+straight_injective East West e = absurd (omega (arith, e))
+straight_injective East SouthWest e = absurd (omega (arith, e))
+straight_injective East South e = absurd (omega (arith, e))
+straight_injective NorthEast East e = absurd (omega (arith, e))
+straight_injective NorthEast NorthEast e = refl
+straight_injective NorthEast North e = absurd (omega (arith, e))
+straight_injective NorthEast West e = absurd (omega (arith, e))
+straight_injective NorthEast SouthWest e = absurd (omega (arith, e))
+straight_injective NorthEast South e = absurd (omega (arith, e))
+straight_injective North East e = absurd (omega (arith, e))
+straight_injective North NorthEast e = absurd (omega (arith, e))
+straight_injective North North e = refl
+straight_injective North West e = absurd (omega (arith, e))
+straight_injective North SouthWest e = absurd (omega (arith, e))
+straight_injective North South e = absurd (omega (arith, e))
+straight_injective West East e = absurd (omega (arith, e))
+straight_injective West NorthEast e = absurd (omega (arith, e))
+straight_injective West North e = absurd (omega (arith, e))
+straight_injective West West e = refl
+straight_injective West SouthWest e = absurd (omega (arith, e))
+straight_injective West South e = absurd (omega (arith, e))
+straight_injective SouthWest East e = absurd (omega (arith, e))
+straight_injective SouthWest NorthEast e = absurd (omega (arith, e))
+straight_injective SouthWest North e = absurd (omega (arith, e))
+straight_injective SouthWest West e = absurd (omega (arith, e))
+straight_injective SouthWest SouthWest e = refl
+straight_injective SouthWest South e = absurd (omega (arith, e))
+straight_injective South East e = absurd (omega (arith, e))
+straight_injective South NorthEast e = absurd (omega (arith, e))
+straight_injective South North e = absurd (omega (arith, e))
+straight_injective South West e = absurd (omega (arith, e))
+straight_injective South SouthWest e = absurd (omega (arith, e))
+straight_injective South South e = refl
+
+-- ---- a row that can go
+
+module _ (row : Row) (later : List Row) (d : Dir) (bits : (straight_on d).bits ≡ row.route.bits) where
+  pub strips : All (λ (a : Alias). a.port ≡ Link d) row.aliases → All (λ (r : Row). Misses r.block row) later → IsStrippable row later
+  strips arrives clear = record { arrival = d; route = same_route row.route (straight_on d) (sym bits); arrives = arrives; clear = clear }
+
+  pub strips_by : IsStrippable row later → All (λ (a : Alias). a.port ≡ Link d) row.aliases
+  strips_by strip =
+      let same : strip.arrival ≡ d = straight_injective strip.arrival d (ap (λ (r : Route). r.bits) (sym strip.route) ∙ sym bits) in
+      subst (λ x. All (λ (a : Alias). a.port ≡ Link x) row.aliases) same strip.arrives
+
+pub strips_not : (row : Row) (later : List Row) → ((d : Dir) → (straight_on d).bits ≡ row.route.bits → ⊥) → IsStrippable row later → ⊥
+strips_not row later none strip = none strip.arrival (ap (λ (r : Route). r.bits) (sym strip.route))
+
+-- both parts, as the code finds them
+pub match_strip : (row : Row) (later : List Row) (d : Dir) (b : Bool) → (straight_on d).bits ≡ row.route.bits → All (λ (a : Alias). a.port ≡ Link d) row.aliases
+    → MatchBool b (All (λ (r : Row). Misses r.block row) later) (All (λ (r : Row). Misses r.block row) later → ⊥) → MatchBool b (IsStrippable row later) (IsStrippable row later → ⊥)
+match_strip row later d true bits arrives clear = strips row later d bits arrives clear
+match_strip row later d false bits arrives clear = λ strip. clear strip.clear
+
+-- ---- the rows that may meet an alias
+
+pub meets_one : (rows : List Row) (places : List ℕ) (row : Row) (i : ℕ) (d : Row) (b : Bool) → All (λ s. s < length rows) places → i < length places
+    → (IsTrue b) ↔ (Misses (get_or rows (get_or places i 0) d).block row) → b ≡ false → All (λ (r : Row). Misses r.block row) (rows_at rows places) → ⊥
+meets_one rows places row i d b in_range within tells came all =
+    fails (Misses (get_or rows (get_or places i 0) d).block row) b tells came
+    (rows_at-has (λ (r : Row). Misses r.block row) rows places in_range all (get_or places i 0) d (has-at places i within))
+
+pub misses_more : (rows : List Row) (places : List ℕ) (row : Row) (i : ℕ) (e : Row) (b : Bool) → All (λ s. s < length rows) places → i < length places
+    → ((k : ℕ) (d : Row) → k < i → Misses (get_or rows (get_or places k 0) d).block row)
+    → (IsTrue b) ↔ (Misses (get_or rows (get_or places i 0) e).block row) → b ≡ true
+    → (k : ℕ) (d : Row) → k < i + 1 → Misses (get_or rows (get_or places k 0) d).block row
+misses_more rows places row i e b in_range within before tells came k d less = elim (cases_lt k i) [
+  | inl earlier ↦ before k d earlier
+  | inr here ↦
+      let same : i ≡ k = omega arith in
+      subst (λ n. Misses (get_or rows (get_or places n 0) d).block row) same
+      (subst (λ (r : Row). Misses r.block row) (get_or_default rows (get_or places i 0) e d (in_range i 0 within)) (tells.0 came))
+]
+
+pub misses_all : (rows : List Row) (places : List ℕ) (row : Row) (i : ℕ) → length places ≤ i → ((k : ℕ) (d : Row) → k < i → Misses (get_or rows (get_or places k 0) d).block row)
+    → All (λ (r : Row). Misses r.block row) (rows_at rows places)
+misses_all rows places row i all before =
+    rows_at-from (λ (r : Row). Misses r.block row) rows places (λ s d found. let at = has-place places s found in subst (λ n. Misses (get_or rows n d).block row) at.2 (before at.0 d (omega (arith, at.1))))
+
+-- ---- one row after another, the last first
+
+module _ (rows : List Row) (i : ℕ) (kept list : List ℕ) (same : list ≡ kept) (row : Row) (read : row ≡ get_or rows (i - 1) row) (some : 0 < i) (within : i ≤ length rows) (later : KeptFrom rows i kept) where
+  behind : KeptFrom rows (suc (i - 1)) kept
+  behind = let next : i ≡ suc (i - 1) = omega arith in subst (λ n. KeptFrom rows n kept) next later
+
+  here : slice_get rows (i - 1) ≡ Some row
+  here = slice_get_read rows (length rows) (i - 1) row refl (omega arith) read
+
+  pub kept_goes : IsStrippable row (rows_at rows list) → KeptFrom rows (i - 1) kept
+  kept_goes strip = goes (i - 1) row kept here (subst (λ l. IsStrippable row (rows_at rows l)) same strip) behind
+
+  pub kept_stays : (IsStrippable row (rows_at rows list) → ⊥) → (new : List ℕ) → new ≡ (i - 1) ∷ kept → KeptFrom rows (i - 1) new
+  kept_stays keep new is =
+      subst (KeptFrom rows (i - 1)) (sym is)
+      (stays (i - 1) row kept here (subst (λ l. IsStrippable row (rows_at rows l) → ⊥) same keep) behind)
+
+pub in_range_more : (n i : ℕ) (kept new : List ℕ) → All (λ s. s < n) kept → i < n → new ≡ i ∷ kept → All (λ s. s < n) new
+in_range_more n i kept new all less is = subst (All (λ s. s < n)) (sym is) (All-cons (λ s. s < n) i kept less all)
+
+pub none_kept : (rows : List Row) (new : List ℕ) → new ≡ [] → KeptFrom rows (length rows) new
+none_kept rows new is = subst (KeptFrom rows (length rows)) (sym is) ends
+
+pub in_range_none : (n : ℕ) (new : List ℕ) → new ≡ [] → All (λ s. s < n) new
+in_range_none n new is = subst (All (λ s. s < n)) (sym is) (All-nil (λ s. s < n))

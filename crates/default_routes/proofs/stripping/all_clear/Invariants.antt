@@ -1,0 +1,8 @@
+-- The rows passed meet no alias of the row.
+use Rattle.std.proofs.Common.{ℕ, ◌<◌, get_or}
+use Rattle.tern_word.specs.declared.tables.Row.{Row}
+use Rattle.tern_word.specs.SoundTable.{Misses}
+use Rattle.default_routes.proofs.stripping.all_clear.Given as goal
+
+abbrev pub invariant-loop-s : goal.invariant-loop-s
+invariant-loop-s l = (k : ℕ) (d : Row) → k < l.s-index → Misses (get_or l.rows (get_or l.places k 0) d).block l.row

@@ -1,0 +1,13 @@
+-- The link, the aliases and the later rows together.
+use Rattle.std.proofs.Common.{◌≡◌, subst}
+use Rattle.std.specs.Prelude.{All}
+use Rattle.spin_base.specs.declared.chips.Port.TheVariants.{Link}
+use Rattle.tern_word.specs.declared.tables.Alias.{Alias}
+use Rattle.cover_checks.specs.Merge.{rows_at}
+use Rattle.default_routes.proofs.StripLemmas.{match_strip, strips_by, strips_not}
+use Rattle.default_routes.proofs.stripping.can_go.Goals as goal
+
+pub returns-then-all_arrive : goal.returns-then-all_arrive
+returns-then-all_arrive c =
+    match_strip c.args.row.now (rows_at c.args.rows.now c.args.kept.now) c.in-Some.arrival c.all_clear.result c.in-Some.ensures
+    (subst (All (λ (a : Alias). a.port ≡ Link c.in-Some.arrival)) c.as_slice.ensures c.if-all_arrive.ensures) c.all_clear.ensures

@@ -1,0 +1,15 @@
+-- The kept places of the rows passed, the last first.
+use Rattle.std.proofs.Common.{◌≤◌, ◌<◌, length}
+use Rattle.std.specs.Prelude.{All}
+use Rattle.default_routes.specs.KeptRows.{KeptFrom}
+use Rattle.default_routes.proofs.stripping.kept_places.Given as goal
+
+abbrev pub invariant-loop-i : goal.invariant-loop-i
+invariant-loop-i l = record {
+  within : l.i ≤ length l.rows;
+  in_range : All (λ s. s < length l.rows) l.kept.items;
+  kept : KeptFrom l.rows l.i l.kept.items;
+}
+
+abbrev pub decreases-loop-i : goal.decreases-loop-i
+decreases-loop-i l = l.i

@@ -1,0 +1,111 @@
+// Leaving out the rows that default routing replaces.
+ghost use Rattle.std.specs.Prelude.{◌≡◌, ◌<◌, ◌^◌, IfOk, All, MatchOption, MatchBool, length};
+ghost use Rattle.tern_word.specs.SoundTable.{IsSound, Misses};
+ghost use Rattle.cover_checks.specs.Merge.{rows_at};
+ghost use Rattle.spin_base.specs.Lookup.{straight_on};
+ghost use Rattle.spin_base.specs.declared.chips.Dir.{Dir};
+ghost use Rattle.spin_base.specs.declared.chips.Port.TheVariants.{Link};
+ghost use Rattle.default_routes.specs.KeptRows.{IsStrippable, AreKept, RoutesAll};
+
+use cover_checks::misses;
+use cover_merge::Covered;
+use spin_base::{Dir, Memory, Port, Seq};
+use std::alloc::Global;
+use tern_word::{Alias, Row};
+
+/// A covered table, and the places of the rows that are loaded, ascending.
+#[derive(Debug, Drop)]
+pub struct Final {
+    pub covered: Covered,
+    pub kept: Seq<u32>,
+}
+
+/// Leaves out the rows that default routing replaces. From the last row to the first, a row goes where its route is
+/// one link, each alias arrives at the opposite link, and no later kept row meets an alias of it.
+pub fn strip(alloc: Global, covered: Covered) -> Result<Final, Memory>
+    requires few { length covered.table.rows < 2 ^ 32 }
+    requires sound { IsSound covered.table.rows }
+    ensures covered { IfOk result (λ f. f.covered ≡ covered) }
+    ensures kept { IfOk result (λ f. AreKept covered.table.rows f.kept) }
+    ensures routes { IfOk result (λ f. RoutesAll covered.table.rows f.kept) }
+{
+    let kept = kept_places(alloc, covered.table.rows.as_slice())?;
+    Ok(Final { covered, kept })
+}
+
+// The places of the kept rows, ascending: found from the last row to the first.
+fn kept_places(alloc: Global, rows: &[Row]) -> Result<Seq<u32>, Memory>
+    requires { length rows.now < 2 ^ 32 }
+    ensures { IfOk result (λ kept. AreKept rows.now kept) }
+{
+    let mut kept = Vec::new(alloc);
+    let mut i = rows.len();
+    while i > 0 {
+        i -= 1;
+        if !can_go(&rows[i], rows, &kept) {
+            kept.insert(0, i as u32)?;
+        }
+    }
+    Ok(Seq::from_vec(kept))
+}
+
+// Whether the row can go, where these later rows are kept.
+fn can_go(row: &Row, rows: &[Row], kept: &[u32]) -> bool
+    requires { All (λ s. s < length rows.now) kept.now }
+    ensures { MatchBool result (IsStrippable row.now (rows_at rows.now kept.now)) (IsStrippable row.now (rows_at rows.now kept.now) → ⊥) }
+{
+    match arrival_of(row.route.bits) {
+        Some(arrival) => all_arrive(row.aliases.as_slice(), arrival) && all_clear(row, rows, kept),
+        None => false,
+    }
+}
+
+// The arrival link whose packets go on by the one link of the route of these bits, where the route is one link.
+fn arrival_of(bits: u32) -> Option<Dir>
+    ensures { MatchOption result ((d : Dir) → (straight_on d).bits ≡ bits → ⊥) (λ d. (straight_on d).bits ≡ bits) }
+{
+    match bits {
+        1 => Some(Dir::West),
+        2 => Some(Dir::SouthWest),
+        4 => Some(Dir::South),
+        8 => Some(Dir::East),
+        16 => Some(Dir::NorthEast),
+        32 => Some(Dir::North),
+        _ => None,
+    }
+}
+
+// Whether all aliases arrive by the link.
+fn all_arrive(aliases: &[Alias], arrival: Dir) -> bool
+    ensures { MatchBool result (All (λ a. a.port ≡ Link arrival) aliases.now) (All (λ a. a.port ≡ Link arrival) aliases.now → ⊥) }
+{
+    for alias in aliases {
+        if !is_link(alias.port, arrival) {
+            return false;
+        }
+    }
+    true
+}
+
+// Whether the port is that link.
+fn is_link(port: Port, link: Dir) -> bool
+    ensures { MatchBool result (port ≡ Link link) (port ≡ Link link → ⊥) }
+{
+    match port {
+        Port::Link(other) => other.number() == link.number(),
+        Port::Local => false,
+    }
+}
+
+// Whether no row at the places meets an alias of the row.
+fn all_clear(row: &Row, rows: &[Row], places: &[u32]) -> bool
+    requires { All (λ s. s < length rows.now) places.now }
+    ensures { MatchBool result (All (λ r. Misses r.block row.now) (rows_at rows.now places.now)) (All (λ r. Misses r.block row.now) (rows_at rows.now places.now) → ⊥) }
+{
+    for s in places {
+        if !misses(rows[*s as usize].block, row) {
+            return false;
+        }
+    }
+    true
+}

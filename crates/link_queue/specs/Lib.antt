@@ -1,0 +1,5 @@
+pub mod Ends
+pub mod Moves
+pub mod Steps
+pub mod TheRule
+pub mod Ups

@@ -1,0 +1,40 @@
+// An offer of the sender, and a take of the receiver.
+ghost use Rattle.std.specs.Prelude.{◌≡◌, ℕ, MatchOption};
+ghost use Rattle.link_queue.specs.Ends.{IsTx, IsRx, cap_of, sending, taking};
+ghost use Rattle.link_queue.specs.Moves.{MatchOffered, TakesOffer, RefusesOffer, TakesCopy, FindsNothing};
+
+use crate::links::{Link, NotesFull, NotesNone, Offered, Offers, Rx, Takes, Tx};
+use spin_base::McCopy;
+use std::sync::Wait;
+
+/// Offers a copy to the link. `Full` hands that copy back, and comes exactly where the queue refused the push of this
+/// call: it then held as many copies as it can, and the end has one note more, of how many copies had entered.
+pub fn offer<R: Wait>(rt: &R, link: &Link, tx: &mut Tx, copy: McCopy) -> Offered
+    requires { IsTx link.now tx.old }
+    ensures answer { MatchOffered result (TakesOffer (sending tx.old) copy (sending tx.new)) (λ back. (back ≡ copy) × RefusesOffer (cap_of link.now) (sending tx.old) (sending tx.new)) }
+    ensures end { IsTx link.now tx.new }
+{
+    match link.queue.push_as::<Offers, R>(rt, &mut tx.pass, copy) {
+        Ok(()) => Offered::Taken,
+        Err(copy) => {
+            let _ = link.queue.another::<NotesFull>(&mut tx.pass);
+            Offered::Full(copy)
+        }
+    }
+}
+
+/// Takes the copy at the front. `None` comes exactly where the pop of this call found the queue empty: the whole first
+/// list was then taken, and the end has one note more, of how many copies it took.
+pub fn take<R: Wait>(rt: &R, link: &Link, rx: &mut Rx) -> Option<McCopy>
+    requires { IsRx link.now rx.old }
+    ensures answer { MatchOption result (FindsNothing (taking rx.old) (taking rx.new)) (λ x. TakesCopy (taking rx.old) x (taking rx.new)) }
+    ensures end { IsRx link.now rx.new }
+{
+    match link.queue.pop_as::<Takes, R>(rt, &mut rx.pass) {
+        Some(copy) => Some(copy),
+        None => {
+            let _ = link.queue.another::<NotesNone>(&mut rx.pass);
+            None
+        }
+    }
+}

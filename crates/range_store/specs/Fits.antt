@@ -1,0 +1,30 @@
+-- Where in a list of holes a range fits, as the private functions say it.
+use Rattle.std.specs.Prelude.{◌≡◌, ◌≢◌, ℕ, ◌-◌, ◌%◌, ◌<◌, ◌≤◌, true, false, List, length, Option, Some, MatchOption, slice_get}
+use Rattle.range_store.specs.declared.holes.Hole.{Hole}
+use Rattle.range_store.specs.Regions.{has_range, end_of}
+
+-- the range lies in the hole at that place of the list
+pub record FitsAt (holes : List Hole) (at place size : ℕ) : Type 0 where
+  pub hole : Hole
+  pub is : slice_get holes at ≡ Some hole
+  pub inside : at < length holes
+  pub fits : has_range place size hole ≡ true
+
+-- the least multiple of align from which a range lies in this hole
+pub record IsLeastIn (h : Hole) (size align place : ℕ) : Type 0 where
+  pub aligned : place % align ≡ 0
+  pub fits : has_range place size h ≡ true
+  pub least : (q : ℕ) → q % align ≡ 0 → has_range q size h ≡ true → place ≤ q
+
+-- no range from a multiple of align on lies in this hole
+abbrev pub NoneIn : Hole → ℕ → ℕ → Type 0
+NoneIn h size align = (q : ℕ) → q % align ≡ 0 → has_range q size h ≡ false
+
+-- at holes begin before the place; left is the last of them if it ends there, and right the next if it begins at the end
+pub record AreNeighbours (holes : List Hole) (place end at : ℕ) (left right : Option Hole) : Type 0 where
+  pub within : at ≤ length holes
+  pub before : (k : ℕ) (h : Hole) → k < at → slice_get holes k ≡ Some h → h.place < place
+  pub first : (h : Hole) → slice_get holes at ≡ Some h → place ≤ h.place
+  pub left_is : MatchOption left ((h : Hole) → 0 < at → slice_get holes (at - 1) ≡ Some h → end_of h ≢ place)
+      (λ h. (0 < at) × (slice_get holes (at - 1) ≡ Some h) × (end_of h ≡ place))
+  pub right_is : MatchOption right ((h : Hole) → slice_get holes at ≡ Some h → h.place ≢ end) (λ h. (slice_get holes at ≡ Some h) × (h.place ≡ end))

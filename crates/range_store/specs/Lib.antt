@@ -1,0 +1,3 @@
+pub mod Regions
+pub mod Fits
+pub mod Views

@@ -1,0 +1,91 @@
+// Which hole serves a range, and what the range leaves of it.
+ghost use Rattle.std.specs.Prelude.{◌≡◌, ℕ, ◌+◌, ◌%◌, ◌<◌, ◌≤◌, ◌++◌, ◌∷◌, true, false, IfSome, IfNone, OnOk, OnErr, Some, slice_get, take, drop};
+ghost use Rattle.std.specs.Prelude.{vec_len, vec_capacity};
+ghost use Rattle.range_store.specs.Regions.{AreRuns, IsFirstFit, HasNoFit, has_range, rest_of, is_hole_range, end_of};
+ghost use Rattle.range_store.specs.Fits.{FitsAt, IsLeastIn, NoneIn};
+ghost use Rattle.range_store.specs.declared.holes.Hole.{Hole};
+
+use crate::holes::Hole;
+use spin_base::Memory;
+
+/// The first hole that has a range of `size` places from a multiple of `align` on, and the least such place in it.
+pub(crate) fn first_fit(holes: &[Hole], size: u64, align: u64) -> Option<(usize, u64)>
+    requires some { 0 < size }
+    requires step { 0 < align }
+    requires runs { AreRuns 0 4294967296 holes.now }
+    ensures first { IfSome result (λ r. IsFirstFit holes.now size align r.1) }
+    ensures at { IfSome result (λ r. FitsAt holes.now r.0 r.1 size) }
+    ensures none { IfNone result (HasNoFit holes.now size align) }
+{
+    for (at, hole) in holes.iter().enumerate() {
+        if let Some(place) = fit_in(hole, size, align) {
+            return Some((at, place));
+        }
+    }
+    None
+}
+
+/// The least multiple of `align` from which a range of `size` places lies in the hole.
+fn fit_in(hole: &Hole, size: u64, align: u64) -> Option<u64>
+    requires some { 0 < size }
+    requires step { 0 < align }
+    requires below { end_of hole.now ≤ 4294967296 }
+    ensures least { IfSome result (λ place. IsLeastIn hole.now size align place) }
+    ensures none { IfNone result (NoneIn hole.now size align) }
+{
+    let end = hole.place + hole.len;
+    let place = hole.place.checked_next_multiple_of(align)?;
+    if place <= end && size <= end - place {
+        Some(place)
+    } else {
+        None
+    }
+}
+
+/// The hole in which a range lies.
+pub(crate) fn hole_with(holes: &[Hole], place: u64, size: u64) -> Option<usize>
+    requires runs { AreRuns 0 4294967296 holes.now }
+    ensures at { IfSome result (λ at. FitsAt holes.now at place size) }
+    ensures none { IfNone result (is_hole_range holes.now place size ≡ false) }
+{
+    for (at, hole) in holes.iter().enumerate() {
+        let end = hole.place + hole.len;
+        if hole.place <= place && place <= end && size <= end - place {
+            return Some(at);
+        }
+    }
+    None
+}
+
+/// Takes a range out of the hole in which it lies.
+pub(crate) fn cut_out(holes: &mut Vec<Hole>, at: usize, place: u64, size: u64) -> Result<(), Memory>
+    requires fits { FitsAt holes.old.items at place size }
+    requires runs { AreRuns 0 4294967296 holes.old.items }
+    ensures ok { OnOk result ((h : Hole) → slice_get holes.old.items at ≡ Some h → holes.new.items ≡ take at holes.old.items ++ (rest_of place size h ++ drop (at + 1) holes.old.items)) }
+    ensures err { OnErr result (holes.new.items ≡ holes.old.items) }
+    ensures len { vec_len holes.new ≤ vec_len holes.old + 1 }
+    ensures capacity { vec_capacity holes.old ≤ vec_capacity holes.new }
+{
+    let hole = holes[at];
+    let after = place + size;
+    let left = Hole {
+        place: hole.place,
+        len: place - hole.place,
+    };
+    let right = Hole {
+        place: after,
+        len: hole.place + hole.len - after,
+    };
+    match (left.len, right.len) {
+        (0, 0) => {
+            holes.remove(at);
+        }
+        (_, 0) => holes[at] = left,
+        (0, _) => holes[at] = right,
+        _ => {
+            holes.insert(at, left)?;
+            holes[at + 1] = right;
+        }
+    }
+    Ok(())
+}

@@ -1,0 +1,108 @@
+// A range put back among the holes.
+ghost use Rattle.std.specs.Prelude.{◌≡◌, ◌≢◌, ℕ, ◌+◌, ◌-◌, ◌<◌, ◌≤◌, ◌||◌, true, false, Some, IfSome, IfNone, length, slice_get};
+ghost use Rattle.std.specs.Prelude.{vec_len, vec_capacity};
+ghost use Rattle.range_store.specs.Regions.{AreRuns, is_free, in_range, end_of};
+ghost use Rattle.range_store.specs.Fits.{AreNeighbours};
+ghost use Rattle.range_store.specs.declared.holes.Hole.{Hole};
+
+use crate::holes::Hole;
+
+/// Puts a range back, and merges it with the holes that end where it begins and begin where it ends.
+pub(crate) fn put_back(holes: &mut Vec<Hole>, place: u64, size: u64)
+    requires some { 0 < size }
+    requires within { place + size ≤ 4294967296 }
+    requires runs { AreRuns 0 4294967296 holes.old.items }
+    requires taken { (k : ℕ) → in_range place size k ≡ true → is_free holes.old.items k ≡ false }
+    requires room { vec_len holes.old < vec_capacity holes.old }
+    ensures free { (k : ℕ) → is_free holes.new.items k ≡ (is_free holes.old.items k || in_range place size k) }
+    ensures runs { (n : ℕ) → AreRuns 0 n holes.old.items → place + size ≤ n → AreRuns 0 n holes.new.items }
+    ensures len { vec_len holes.new ≤ vec_len holes.old + 1 }
+    ensures capacity { vec_capacity holes.old ≤ vec_capacity holes.new }
+{
+    let (at, left, right) = neighbours(holes.as_slice(), place, place + size);
+    match (left, right) {
+        (Some(left), Some(right)) => {
+            holes.remove(at);
+            holes[at - 1] = Hole {
+                place: left.place,
+                len: left.len + size + right.len,
+            };
+        }
+        (Some(left), None) => {
+            holes[at - 1] = Hole {
+                place: left.place,
+                len: left.len + size,
+            };
+        }
+        (None, Some(right)) => {
+            holes[at] = Hole {
+                place,
+                len: size + right.len,
+            };
+        }
+        (None, None) => {
+            // There is room, so it can't fail.
+            let _ = holes.insert(at, Hole { place, len: size });
+        }
+    }
+}
+
+/// How many holes begin before a range, and the holes that end where it begins and begin where it ends.
+fn neighbours(holes: &[Hole], place: u64, end: u64) -> (usize, Option<Hole>, Option<Hole>)
+    ensures { AreNeighbours holes.now place end result.0 result.1 result.2 }
+{
+    let at = first_from(holes, place);
+    (
+        at,
+        hole_that_ends(holes, at, place),
+        hole_that_begins(holes, at, end),
+    )
+}
+
+/// How many holes begin before a place.
+fn first_from(holes: &[Hole], place: u64) -> usize
+    ensures within { result ≤ length holes.now }
+    ensures before { (k : ℕ) (h : Hole) → k < result → slice_get holes.now k ≡ Some h → h.place < place }
+    ensures first { (h : Hole) → slice_get holes.now result ≡ Some h → place ≤ h.place }
+{
+    for (at, hole) in holes.iter().enumerate() {
+        if place <= hole.place {
+            return at;
+        }
+    }
+    holes.len()
+}
+
+/// The hole before one of the list, if it ends at a place.
+fn hole_that_ends(holes: &[Hole], at: usize, place: u64) -> Option<Hole>
+    requires at { at ≤ length holes.now }
+    requires before { (k : ℕ) (h : Hole) → k < at → slice_get holes.now k ≡ Some h → h.place < place }
+    ensures some { IfSome result (λ h. (0 < at) × (slice_get holes.now (at - 1) ≡ Some h) × (end_of h ≡ place)) }
+    ensures none { IfNone result ((h : Hole) → 0 < at → slice_get holes.now (at - 1) ≡ Some h → end_of h ≢ place) }
+{
+    if at == 0 {
+        return None;
+    }
+    let hole = holes[at - 1];
+    if hole.len == place - hole.place {
+        Some(hole)
+    } else {
+        None
+    }
+}
+
+/// The hole at that place of the list, if it begins at a place.
+fn hole_that_begins(holes: &[Hole], at: usize, place: u64) -> Option<Hole>
+    ensures some { IfSome result (λ h. (slice_get holes.now at ≡ Some h) × (h.place ≡ place)) }
+    ensures none { IfNone result ((h : Hole) → slice_get holes.now at ≡ Some h → h.place ≢ place) }
+{
+    if at >= holes.len() {
+        return None;
+    }
+    let hole = holes[at];
+    if hole.place == place {
+        Some(hole)
+    } else {
+        None
+    }
+}

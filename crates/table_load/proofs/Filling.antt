@@ -1,0 +1,141 @@
+-- Memories that are filled table by table.
+use Rattle.std.proofs.Common.{◌≡◌, ◌≢◌, ℕ, zero, suc, ◌+◌, ◌-◌, ◌*◌, ◌<◌, ◌≤◌, eqb, cond, List, [], ◌∷◌, ◌++◌, length, get_or, set, take, replicate, refl, sym, ap, ◌∙◌, subst, arith, Some, slice_get, append_assoc, inl, inr}
+use Rattle.std.proofs.Math.Nat.{mul-le-mul_left}
+use Rattle.std.proofs.lemmas.Bool.{cases_eq, eq-eqb, ne_eqb}
+use Rattle.std.proofs.lemmas.List.{set_at, length-take-le, take_more, length-set, get_or-take, length-replicate}
+use Rattle.spin_base.specs.declared.blocks.Entry.{Entry}
+use Rattle.spin_base.specs.declared.chips.Chip.{Chip}
+use Rattle.tcam_find.specs.Memory.{unused, empty_memory}
+use Rattle.table_load.specs.declared.tables.ChipTable.{ChipTable}
+use Rattle.table_load.specs.declared.tables.Image.{Image}
+use Rattle.table_load.specs.Images.{IsValid, IsBefore}
+use Rattle.table_load.specs.Memories.{index_of, rows_at, loaded}
+
+pub empty_is : empty_memory ≡ loaded []
+unfolding empty_memory
+empty_is = refl
+
+pub fill_more : (rows : List Entry) (p : ℕ) (x : Entry) (m n : List Entry) → p < length rows → length rows ≤ 1024 → x ≡ get_or rows p x
+    → m ≡ take p rows ++ replicate (1024 - p) unused → n ≡ set m p x → n ≡ take (p + 1) rows ++ replicate (1024 - (p + 1)) unused
+fill_more rows p x m n inside few is before step =
+    let left : 1024 - p ≡ suc (1024 - (p + 1)) = omega arith in
+    let r = replicate (1024 - (p + 1)) unused in
+    let rest : replicate (1024 - p) unused ≡ unused ∷ r = ap (λ k. replicate k unused) left in
+    let more : take (p + 1) rows ≡ take p rows ++ x ∷ [] = take_more rows p x inside ∙ ap (λ y. take p rows ++ y ∷ []) (sym is) in
+    step
+    ∙ ap (λ l. set l p x) (before ∙ ap (λ l. take p rows ++ l) rest)
+    ∙ set_at (take p rows) unused r x p (length-take-le p rows (omega arith))
+    ∙ sym (append_assoc (take p rows) (x ∷ []) r)
+    ∙ ap (λ t. t ++ r) (sym more)
+
+get_replicate : (n i : ℕ) (m : List Entry) → i < n → slice_get (replicate n m) i ≡ Some m
+get_replicate zero i m lt = absurd (omega arith)
+get_replicate (suc n) zero m lt = refl
+get_replicate (suc n) (suc i) m lt = get_replicate n i m (omega arith)
+
+pub all_empty : (n : ℕ) (ms : List (List Entry)) → ms ≡ replicate n empty_memory
+    → (length ms ≡ n) × ((i : ℕ) → i < n → slice_get ms i ≡ Some (loaded []))
+all_empty n ms e = (
+  ap length e ∙ length-replicate n empty_memory,
+  λ i lt. ap (λ l. slice_get l i) e ∙ get_replicate n i empty_memory lt ∙ ap Some empty_is,
+)
+
+get_set_same : (xs : List (List Entry)) (i : ℕ) (x : List Entry) → i < length xs → slice_get (set xs i x) i ≡ Some x
+get_set_same [] i x lt = absurd (omega arith)
+get_set_same (y ∷ ys) zero x lt = refl
+get_set_same (y ∷ ys) (suc i) x lt = get_set_same ys i x (omega arith)
+
+get_set_other : (xs : List (List Entry)) (i j : ℕ) (x : List Entry) → j ≢ i → slice_get (set xs i x) j ≡ slice_get xs j
+get_set_other [] i j x ne = refl
+get_set_other (y ∷ ys) zero zero x ne = absurd (ne refl)
+get_set_other (y ∷ ys) zero (suc j) x ne = refl
+get_set_other (y ∷ ys) (suc i) zero x ne = refl
+get_set_other (y ∷ ys) (suc i) (suc j) x ne = get_set_other ys i j x (λ e. ne (ap suc e))
+
+got : (xs : List (List Entry)) (i : ℕ) (x d : List Entry) → slice_get xs i ≡ Some x → get_or xs i d ≡ x
+got [] i x d e = cc
+got (y ∷ ys) zero x d e = cc
+got (y ∷ ys) (suc i) x d e = got ys i x d e
+
+-- no table of the list is of that chip
+abbrev Without : ℕ → List ChipTable → ℕ → Type 0
+Without h ts i = (j : ℕ) (d : ChipTable) → j < length ts → index_of h (get_or ts j d) ≢ i
+
+rows_none : (h : ℕ) (ts : List ChipTable) (i : ℕ) → Without h ts i → rows_at h ts i ≡ []
+rows_none h [] i none = refl
+rows_none h (t ∷ ts) i none =
+    let first = ne_eqb (index_of h t) i (none 0 t (omega arith)) in
+    rw first (rows_none h ts i (λ j d lt. none (suc j) d (omega arith)))
+
+rows_here : (h : ℕ) (ts : List ChipTable) (t : ChipTable) (i : ℕ) → Without h ts i → index_of h t ≡ i → rows_at h (ts ++ t ∷ []) i ≡ t.entries
+rows_here h [] t i none here = rw (eq-eqb (index_of h t) i here) refl
+rows_here h (s ∷ ts) t i none here =
+    let first = ne_eqb (index_of h s) i (none 0 s (omega arith)) in
+    rw first (rows_here h ts t i (λ j d lt. none (suc j) d (omega arith)) here)
+
+rows_other : (h : ℕ) (ts : List ChipTable) (t : ChipTable) (i : ℕ) → index_of h t ≢ i → rows_at h (ts ++ t ∷ []) i ≡ rows_at h ts i
+rows_other h [] t i other = rw (ne_eqb (index_of h t) i other) refl
+rows_other h (s ∷ ts) t i other = ap (λ r. cond (eqb (index_of h s) i) s.entries r) (rows_other h ts t i other)
+
+-- an earlier chip has a lower index
+lower : (h : ℕ) (a b : Chip) → a.y < h → IsBefore a b → a.x * h + a.y < b.x * h + b.y
+lower h a b low (inl less) = let wide = mul-le-mul_left h less in omega (arith, wide)
+lower h a b low (inr same) = let e = ap (λ x. x * h) same.0 in let less = same.1 in omega (arith, e, less)
+
+module _ (v : Image) (valid : IsValid v) (k : ℕ) (t : ChipTable) (inside : k < length v.chips) (is : t ≡ get_or v.chips k t) where
+  abbrev at : ℕ
+  at = index_of v.height t
+
+  -- the index is one of the grid's
+  pub in_grid : at < v.width * v.height
+  in_grid =
+      let place = subst (λ (s : ChipTable). (s.chip.x < v.width) × (s.chip.y < v.height)) (sym is) (valid.tables k t inside).inside in
+      let wide = mul-le-mul_left v.height place.0 in
+      let low = place.1 in
+      omega (arith, wide, low)
+
+  apart : Without v.height (take k v.chips) at
+  apart j d lt =
+      let before : j < k = omega (arith, length-take-le k v.chips (omega arith)) in
+      let same = get_or-take k v.chips j d before in
+      let t_is : get_or v.chips k d ≡ t = default_free v.chips k d t inside ∙ sym is in
+      let less = lower v.height (get_or v.chips j d).chip (get_or v.chips k d).chip (valid.tables j d (omega arith)).inside.1 (valid.ordered j k d before inside) in
+      let a = ap (index_of v.height) same in
+      let b = ap (index_of v.height) t_is in
+      λ e. absurd (omega (arith, less, a, b, e))
+    where
+      default_free : (xs : List ChipTable) (i : ℕ) (d e : ChipTable) → i < length xs → get_or xs i d ≡ get_or xs i e
+      default_free [] i d e lt = absurd (omega arith)
+      default_free (x ∷ xs) zero d e lt = refl
+      default_free (x ∷ xs) (suc i) d e lt = default_free xs i d e (omega arith)
+
+  module _ (ms : List (List Entry)) (long : length ms ≡ v.width * v.height)
+      (each : (i : ℕ) → i < v.width * v.height → slice_get ms i ≡ Some (loaded (rows_at v.height (take k v.chips) i))) where
+    -- the memory of the next table's chip is empty
+    pub still_empty : (m : List Entry) → m ≡ get_or ms at m → m ≡ empty_memory
+    still_empty m here =
+        here ∙ got ms at _ m (each at in_grid) ∙ ap loaded (rows_none v.height (take k v.chips) at apart) ∙ sym empty_is
+
+    pub load_more : (m : List Entry) → m ≡ loaded t.entries
+        → (length (set ms at m) ≡ v.width * v.height)
+        × ((i : ℕ) → i < v.width * v.height → slice_get (set ms at m) i ≡ Some (loaded (rows_at v.height (take (k + 1) v.chips) i)))
+    load_more m full =
+        let more : take (k + 1) v.chips ≡ take k v.chips ++ t ∷ [] = take_more v.chips k t inside ∙ ap (λ s. take k v.chips ++ s ∷ []) (sym is) in (
+          length-set ms at m ∙ long,
+          λ i lt. elim (cases_eq i at) [
+            | inl here ↦ (
+                ap (slice_get (set ms at m)) here
+                ∙ get_set_same ms at m (omega (arith, in_grid))
+                ∙ ap Some full
+                ∙ ap (λ r. Some (loaded r)) (sym (rows_here v.height (take k v.chips) t at apart refl))
+                ∙ ap (λ l. Some (loaded (rows_at v.height l at))) (sym more)
+                ∙ ap (λ j. Some (loaded (rows_at v.height (take (k + 1) v.chips) j))) (sym here)
+                )
+            | inr other ↦ (
+                get_set_other ms at i m other
+                ∙ each i lt
+                ∙ ap (λ r. Some (loaded r)) (sym (rows_other v.height (take k v.chips) t i (λ e. other (sym e))))
+                ∙ ap (λ l. Some (loaded (rows_at v.height l i))) (sym more)
+                )
+          ],
+        )

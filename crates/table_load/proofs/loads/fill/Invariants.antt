@@ -1,0 +1,7 @@
+use Rattle.std.proofs.Common.{◌≡◌, ◌-◌, ◌++◌, take, replicate}
+use Rattle.tcam_find.specs.Memory.{unused}
+use Rattle.table_load.proofs.loads.fill.Given as goal
+
+-- the rows so far, and unused entries after them
+abbrev pub invariant-loop-place : goal.invariant-loop-place
+invariant-loop-place l = l.memory ≡ take l.place l.rows ++ replicate (1024 - l.place) unused

@@ -1,0 +1,7 @@
+-- What is read off eight comparisons made at once.
+use Rattle.std.specs.Prelude.{ℕ, if◌then◌else◌, ◌==◌}
+use Rattle.std.specs.Int.{w64, trailing_zeros}
+
+-- the place of the lowest bit that is set, and 8 where none is
+abbrev pub first_set : ℕ → ℕ
+first_set mask = if mask == 0 then 8 else trailing_zeros w64 mask

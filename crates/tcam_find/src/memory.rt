@@ -1,0 +1,113 @@
+// The memory itself.
+ghost use Rattle.spin_base.specs.Links.{dir_number};
+ghost use Rattle.spin_base.specs.Lookup.{default_route};
+ghost use Rattle.std.specs.Prelude.{◌≡◌, ◌^◌, []};
+
+use crate::lanes::{LANES, first_match};
+use spin_base::{Dir, Entry, Port, Route};
+use std::marker::Model;
+
+/// How many entries a router has (SpiNNaker datasheet).
+const SIZE: usize = 1024;
+
+/// How many groups of eight entries these are.
+const GROUPS: usize = 128;
+
+/// The lookup memory of a router: 1,024 entries, seen as their list.
+///
+/// Keys, masks and routes stand in three rows of 1,024 words.
+#[derive(Drop)]
+pub struct Tcam {
+    keys: [u32; 1024],
+    masks: [u32; 1024],
+    routes: [Route; 1024],
+}
+
+impl Model for Tcam {
+    ghost use Rattle.std.specs.Prelude.{List};
+    ghost use Rattle.spin_base.specs.declared.blocks.Entry.{Entry};
+    ghost use Rattle.tcam_find.specs.Memory.{entries_of};
+
+    ghost Value = { List Entry };
+
+    ghost view = { λ t. entries_of t.keys t.masks t.routes };
+}
+
+impl Tcam {
+    ghost use Rattle.std.specs.Prelude.{◌≡◌, ℕ, ◌<◌, false, length, slice_get, slice_set};
+    ghost use Rattle.spin_base.specs.Lookup.{lookup, matches};
+    ghost use Rattle.tcam_find.specs.Memory.{empty_memory, unused};
+
+    /// A memory of unused entries. An unused entry has key ffffffff, mask 0 and no route, and matches no key.
+    pub fn empty() -> Tcam
+        ensures all_unused { result ≡ empty_memory }
+        ensures size { length result ≡ 1024 }
+        ensures unused_matches_no_key { (key : ℕ) → matches unused key ≡ false }
+    {
+        Tcam {
+            keys: [u32::MAX; 1024],
+            masks: [0; 1024],
+            routes: [Route::nothing(); 1024],
+        }
+    }
+
+    /// Puts an entry at a place below 1,024.
+    pub fn set(&mut self, place: u32, e: Entry)
+        requires { place < 1024 }
+        ensures one { self.new ≡ slice_set self.old place e }
+        ensures size { length self.new ≡ 1024 }
+    {
+        let place = place as usize;
+        self.keys[place] = e.key;
+        self.masks[place] = e.mask;
+        self.routes[place] = e.route;
+    }
+
+    /// The entry at a place below 1,024.
+    pub fn entry(&self, place: u32) -> Entry
+        requires { place < 1024 }
+        ensures at_place { slice_get self.now place ≡ Some result }
+        ensures size { length self.now ≡ 1024 }
+    {
+        let place = place as usize;
+        Entry {
+            key: self.keys[place],
+            mask: self.masks[place],
+            route: self.routes[place],
+        }
+    }
+
+    /// The route of a packet with that key that came in at that port: the route of the first entry that matches,
+    /// without one the opposite link for a link, and nothing at `Local` (SpiNNaker datasheet).
+    pub fn find(&self, key: u32, port: Port) -> Route
+        ensures { result ≡ lookup self.now key port }
+    {
+        for group in 0..GROUPS {
+            let at = LANES * group;
+            let lane = first_match(&self.keys, &self.masks, at, key);
+            if lane < LANES {
+                return self.routes[at + lane];
+            }
+        }
+        undecided(port)
+    }
+}
+
+/// Where a packet goes on that no entry matches: by the opposite link, and nowhere from `Local`.
+fn undecided(port: Port) -> Route
+    ensures { result ≡ default_route port }
+{
+    match port {
+        Port::Link(link) => through(link.opposite()),
+        Port::Local => Route::nothing(),
+    }
+}
+
+/// The route through one link.
+fn through(link: Dir) -> Route
+    ensures { result.bits ≡ 2 ^ dir_number link }
+{
+    Route {
+        bits: 1 << link.number(),
+    }
+}

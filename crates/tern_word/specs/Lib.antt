@@ -1,0 +1,3 @@
+pub mod MergeFits
+pub mod SoundTable
+pub mod Ternary
