@@ -1,0 +1,164 @@
+-- The kept edges are a whole tree, and a whole tree stays one as targets are joined.
+use Rattle.std.proofs.Common.{◌≡◌, ◌≢◌, ℕ, zero, suc, ◌+◌, ◌*◌, ◌<◌, ltb, List, [], ◌∷◌, ◌++◌, length, get_or, take, Some, sym, ap, ◌∙◌, subst, arith, inl, inr, ◌↔◌}
+use Rattle.std.specs.List.{Contains, All, AllPairs, filter, slice_get}
+use Rattle.std.proofs.lemmas.Bool.{cases_order, lt-ltb, ltb-true}
+use Rattle.std.proofs.lemmas.List.{get_or_default, append-nil, take_more, get_or-take, length-take}
+use Rattle.std.proofs.lemmas.List.Elements.{All-contains, All-push, All-weaker, Contains-get_or}
+use Rattle.std.proofs.lemmas.Option.{get_or_from_slice_get, slice_get_within}
+use Rattle.spin_base.specs.declared.chips.Chip.{Chip}
+use Rattle.machine_desc.specs.declared.trees.Edge.{Edge}
+use Rattle.machine_desc.specs.Description.{Description}
+use Rattle.machine_desc.specs.Live.{IsInside, IsLiveLink, is_live_link}
+use Rattle.machine_desc.specs.RoutingTree.{end_of, IsTreeChip}
+use Rattle.link_detours.specs.Steps.{Steps}
+use Rattle.link_detours.specs.Usable.{number_at}
+use Rattle.link_detours.specs.Repair.{EdgeStep, LiveEdgeStep, IsKept, IsDetour, Joins, IsCutOff, IsFirstCutOff}
+use Rattle.link_detours.specs.Whole.{IsWhole}
+use Rattle.link_detours.proofs.Reaching.{link_inside}
+use Rattle.link_detours.proofs.Stepping.{Steps-map}
+use Rattle.link_detours.proofs.Turning.{filter_has, has_filter}
+use Rattle.link_detours.proofs.Wholes.{tree_cases, steps_on_tree, more_chips, live_steps, whole_joined, detour_reached, Joins-more}
+
+module _ (m : Description) (root : Chip) (edges : List Edge) (counts : List ℕ) (top : ℕ) where
+  abbrev pub live_of : List Edge
+  live_of = filter (λ e. is_live_link m e.chip e.dir) edges
+
+  abbrev pub kept_of : List Edge
+  kept_of = filter (λ e. ltb (number_at m counts e.chip) top) live_of
+
+-- live edges begin inside the grid
+pub live_edges_inside : (m : Description) (edges : List Edge) → All (λ e. IsInside m e.chip) (filter (λ e. is_live_link m e.chip e.dir) edges)
+live_edges_inside m edges k d h =
+    let e : Edge = get_or (filter (λ f. is_live_link m f.chip f.dir) edges) k d in
+    let known = filter_has (λ f. is_live_link m f.chip f.dir) edges e (Contains-get_or (filter (λ f. is_live_link m f.chip f.dir) edges) k d h) in
+    link_inside m e.chip e.dir known.1
+
+module _ (m : Description) (root : Chip) (edges : List Edge) (counts : List ℕ) (top : ℕ) (root_inside : IsInside m root)
+    (none_into : All (λ e. end_of m e ≢ Some root) edges)
+    (one_into : AllPairs (λ e f. (c : Chip) → end_of m e ≡ Some c → end_of m f ≢ Some c) edges)
+    (reach : (c : Chip) → IsInside m c → (number_at m counts c < top) ↔ ((n : ℕ) × Steps (EdgeStep m (live_of m root edges counts top)) n root c)) where
+  -- a kept edge is a live edge whose chip is reached
+  kept_has : (e : Edge) → Contains (kept_of m root edges counts top) e →
+      Contains (live_of m root edges counts top) e × Contains edges e × IsLiveLink m e.chip e.dir × ((n : ℕ) × Steps (EdgeStep m (live_of m root edges counts top)) n root e.chip)
+  kept_has e has =
+      let kept = filter_has (λ f. ltb (number_at m counts f.chip) top) (live_of m root edges counts top) e has in
+      let live = filter_has (λ f. is_live_link m f.chip f.dir) edges e kept.0 in
+      (kept.0, live.0, live.1, (reach e.chip (link_inside m e.chip e.dir live.1)).0 (ltb-true (number_at m counts e.chip) top kept.1))
+
+  has_kept : (e : Edge) → Contains (live_of m root edges counts top) e → ((n : ℕ) × Steps (EdgeStep m (live_of m root edges counts top)) n root e.chip) →
+      Contains (kept_of m root edges counts top) e
+  has_kept e has way =
+      let live = filter_has (λ f. is_live_link m f.chip f.dir) edges e has in
+      has_filter (λ f. ltb (number_at m counts f.chip) top) (live_of m root edges counts top) e has
+      (lt-ltb (number_at m counts e.chip) top ((reach e.chip (link_inside m e.chip e.dir live.1)).1 way))
+
+  kept_steps : (n : ℕ) (c : Chip) → Steps (EdgeStep m (live_of m root edges counts top)) n root c → Steps (EdgeStep m (kept_of m root edges counts top)) n root c
+  kept_steps zero c walk = walk
+  kept_steps (suc n) c walk =
+      (walk.0, kept_steps n walk.0 walk.1, (walk.2.0, has_kept (record { chip = walk.0; dir = walk.2.0 }) walk.2.1 (n, walk.1), walk.2.2))
+
+  -- a chip of the kept tree is reached by live edges
+  chip_reached : (c : Chip) → IsTreeChip m root (kept_of m root edges counts top) c → (n : ℕ) × Steps (EdgeStep m (live_of m root edges counts top)) n root c
+  chip_reached c on = elim (tree_cases m root (kept_of m root edges counts top) c on) [
+    | inl at ↦ (0, sym at)
+    | inr into ↦
+        let known = kept_has into.0 into.1 in
+        (suc known.3.0, (into.0.chip, known.3.1, (into.0.dir, known.0, into.2)))
+  ]
+
+  pub kept_whole : IsWhole m root (kept_of m root edges counts top)
+  kept_whole = record {
+    live = λ e has. (kept_has e has).2;
+    reached = λ c on. let way = chip_reached c on in (way.0, kept_steps way.0 c way.1);
+    none_into_root = λ e has. All-contains (λ f. end_of m f ≢ Some root) edges e none_into (kept_has e has).1;
+    begins = λ e has. let way = (kept_has e has).3 in steps_on_tree m root (kept_of m root edges counts top) way.0 e.chip (kept_steps way.0 e.chip way.1);
+    one_into = λ e f c has too leads also. same e f c (kept_has e has).1 (kept_has f too).1 leads also;
+  }
+    where
+      same : (e f : Edge) (c : Chip) → Contains edges e → Contains edges f → end_of m e ≡ Some c → end_of m f ≡ Some c → e ≡ f
+      same e f c has too leads also = elim (cases_order has.0 too.0) [
+        | inl here ↦ sym has.2 ∙ (ap (λ k. get_or edges k e) here ∙ (get_or_default edges too.0 e f too.1 ∙ too.2))
+        | inr (inl before) ↦
+            let second : get_or edges too.0 e ≡ f = get_or_default edges too.0 e f too.1 ∙ too.2 in
+            absurd (one_into has.0 too.0 e before too.1 c (ap (end_of m) has.2 ∙ leads) (ap (end_of m) second ∙ also))
+        | inr (inr after) ↦
+            let second : get_or edges has.0 f ≡ e = get_or_default edges has.0 f e has.1 ∙ has.2 in
+            absurd (one_into too.0 has.0 f after has.1 c (ap (end_of m) too.2 ∙ also) (ap (end_of m) second ∙ leads))
+      ]
+
+  pub kept_reach : (c : Chip) → IsInside m c → (number_at m counts c < top) ↔ IsTreeChip m root (kept_of m root edges counts top) c
+  kept_reach c inside = (
+    λ low. let way = (reach c inside).0 low in steps_on_tree m root (kept_of m root edges counts top) way.0 c (kept_steps way.0 c way.1),
+    λ on. (reach c inside).1 (chip_reached c on),
+  )
+
+  pub kept_is : (e : Edge) → Contains (kept_of m root edges counts top) e ↔ IsKept m root edges e
+  kept_is e = (
+    λ has.
+        let known = kept_has e has in (
+          known.1,
+          known.2,
+          (
+            known.3.0,
+            Steps-map (EdgeStep m (live_of m root edges counts top)) (LiveEdgeStep m edges)
+                (λ a b step. let live = filter_has (λ f. is_live_link m f.chip f.dir) edges (record { chip = a; dir = step.0 }) step.1 in
+                (step.0, live.0, live.1, step.2)) known.3.0 root e.chip known.3.1,
+          ),
+        ),
+    λ known.
+        let live = has_filter (λ f. is_live_link m f.chip f.dir) edges e known.0 known.1 in
+        has_kept e live (
+          known.2.0,
+          Steps-map (LiveEdgeStep m edges) (EdgeStep m (live_of m root edges counts top))
+              (λ a b step. (step.0, has_filter (λ f. is_live_link m f.chip f.dir) edges (record { chip = a; dir = step.0 }) step.1 step.2, step.3)) known.2.0 root e.chip known.2.1,
+        ),
+  )
+
+-- the targets that were taken are joined
+pub record JoinedSoFar (m : Description) (root : Chip) (kept : List Edge) (top : ℕ) (whole : List Edge) (reach : List ℕ) (taken : List Chip) : Type 0 where
+  pub joins : Joins m root kept taken whole
+  pub is_whole : IsWhole m root whole
+  pub long : length reach ≡ m.width * m.height
+  pub reach_is : (c : Chip) → IsInside m c → (number_at m reach c < top) ↔ IsTreeChip m root whole c
+  pub on_tree : All (IsTreeChip m root whole) taken
+
+pub joined_more : (m : Description) (root : Chip) (kept : List Edge) (top : ℕ) (whole after : List Edge) (reach counts : List ℕ) (targets : List Chip) (i : ℕ)
+    (d : Chip) (walk : List Edge) → i < length targets → after ≡ whole ++ walk → IsDetour m root whole (get_or targets i d) walk →
+    length counts ≡ m.width * m.height → ((c : Chip) → IsInside m c → (number_at m counts c < top) ↔ IsTreeChip m root after c) →
+    JoinedSoFar m root kept top whole reach (take i targets) → JoinedSoFar m root kept top after counts (take (i + 1) targets)
+joined_more m root kept top whole after reach counts targets i d walk within is detour long reach_is so_far =
+    let t : Chip = get_or targets i d in
+    let there = detour_reached m root whole so_far.is_whole walk t walk detour (λ f has. has) in
+    subst (λ ts. JoinedSoFar m root kept top after counts ts) (sym (take_more targets i d within)) (record {
+      joins = subst (λ es. Joins m root kept (take i targets ++ t ∷ []) es) (sym is) (Joins-more m root kept (take i targets) whole t walk so_far.joins detour);
+      is_whole = subst (λ es. IsWhole m root es) (sym is) (whole_joined m root whole so_far.is_whole t walk detour);
+      long = long;
+      reach_is = reach_is;
+      on_tree = subst (λ es. All (IsTreeChip m root es) (take i targets ++ t ∷ [])) (sym is)
+          (All-push (IsTreeChip m root (whole ++ walk)) (take i targets) t
+          (All-weaker (IsTreeChip m root whole) (IsTreeChip m root (whole ++ walk)) (more_chips m root whole walk) (take i targets) so_far.on_tree)
+          (steps_on_tree m root (whole ++ walk) there.0 t there.1));
+    })
+
+-- a target that is in the tree is passed over
+pub joined_past : (m : Description) (root : Chip) (kept : List Edge) (top : ℕ) (whole : List Edge) (reach : List ℕ) (targets : List Chip) (i : ℕ)
+    (d : Chip) → i < length targets → IsTreeChip m root whole (get_or targets i d) →
+    JoinedSoFar m root kept top whole reach (take i targets) → JoinedSoFar m root kept top whole reach (take (i + 1) targets)
+joined_past m root kept top whole reach targets i d within on so_far =
+    joined_more m root kept top whole whole reach reach targets i d [] within (sym (append-nil whole)) on so_far.long so_far.reach_is so_far
+
+-- the first target that is cut off
+pub first_cut_off : (m : Description) (root : Chip) (kept : List Edge) (top : ℕ) (whole : List Edge) (reach : List ℕ) (targets : List Chip) (i : ℕ)
+    (t : Chip) → slice_get targets i ≡ Some t → IsCutOff m root t → JoinedSoFar m root kept top whole reach (take i targets) → IsFirstCutOff m root targets t
+first_cut_off m root kept top whole reach targets i t at cut so_far = record {
+  place = i;
+  at_place = at;
+  cut_off = cut;
+  others_joined = λ j u before here.
+      let within : j < length targets = slice_get_within targets j u here in
+      let taken : j < length (take i targets) = rw (length-take i targets) (omega arith) in
+      let is : get_or (take i targets) j u ≡ u = get_or-take i targets j u before ∙ get_or_from_slice_get targets j u u here in
+      let on : IsTreeChip m root whole u = subst (λ (c : Chip). IsTreeChip m root whole c) is (so_far.on_tree j u taken) in
+      let way = so_far.is_whole.reached u on in
+      (way.0, live_steps m root whole so_far.is_whole way.0 root u way.1);
+}

@@ -1,0 +1,9 @@
+pub mod Reaching
+pub mod Keeping
+pub mod Pruning
+pub mod Searching
+pub mod Seeding
+pub mod Stepping
+pub mod Tabling
+pub mod Turning
+pub mod Wholes

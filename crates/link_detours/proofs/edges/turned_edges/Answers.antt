@@ -1,0 +1,15 @@
+use Rattle.link_detours.proofs.Tabling.{turned_some, turned_none}
+use Rattle.link_detours.proofs.edges.turned_edges.Goals as goal
+use Rattle.link_detours.proofs.edges.turned_edges.Goals.{in-Some+in_ok-push, in_default}
+
+pub loop-edge-preserved : goal.loop-edge-preserved
+loop-edge-preserved c = elim c.match-far.branch [
+  | in-Some+in_ok-push w ↦
+      rw (w.turned-is, w.in_ok-push.ensures.items)
+      (turned_some c.args.machine.now c.args.edges.now c.loop-edge.turned.items c.loop-edge.edge-index _ w.in-Some.chip w.opposite.result
+      c.loop-edge-test.true w.in-Some.ensures w.opposite.ensures.link c.loop-edge.invariant)
+  | in_default w ↦
+      rw w.turned-is
+      (turned_none c.args.machine.now c.args.edges.now c.loop-edge.turned.items c.loop-edge.edge-index _
+      c.loop-edge-test.true w.in_default.ensures c.loop-edge.invariant)
+]

@@ -1,0 +1,48 @@
+use Rattle.std.proofs.Common.{ltb}
+use Rattle.std.specs.List.{All, filter, filter_map}
+use Rattle.machine_desc.specs.declared.trees.Edge.{Edge}
+use Rattle.machine_desc.specs.Live.{IsInside}
+use Rattle.link_detours.specs.Usable.{number_at, turned}
+use Rattle.link_detours.proofs.Turning.{turned_inside, filter_all, left_leads, edge_in}
+use Rattle.link_detours.proofs.prunes.pruned.Goals as goal
+use Rattle.link_detours.proofs.prunes.pruned.Goals.{After-deref-4}
+
+pub link_table-requires : goal.link_table-requires
+link_table-requires c =
+    rw (c.deref.ensures.value, c.in_ok-turned.ensures) (turned_inside c.args.machine.now c.args.whole.now c.requires.edges_inside)
+
+pub reached_edges-requires-clause-inside : goal.reached_edges-requires-clause-inside
+reached_edges-requires-clause-inside c =
+    rw (c.deref-4.ensures.value, c.in_ok-turned.ensures) (turned_inside c.args.machine.now c.args.whole.now c.requires.edges_inside)
+
+-- the edges that were reached begin inside the grid
+wanted_inside : (c : After-deref-4) → All (λ e. IsInside c.args.machine.now e.chip)
+    (filter (λ e. ltb (number_at c.args.machine.now c.in_ok-counts.counts.items e.chip) 18446744073709551615) (filter_map (turned c.args.machine.now) c.args.whole.now))
+wanted_inside c =
+    filter_all (λ (e : Edge). IsInside c.args.machine.now e.chip) (λ e. ltb (number_at c.args.machine.now c.in_ok-counts.counts.items e.chip) 18446744073709551615)
+    (filter_map (turned c.args.machine.now) c.args.whole.now) (turned_inside c.args.machine.now c.args.whole.now c.requires.edges_inside)
+
+pub turned_edges-requires-2 : goal.turned_edges-requires-2
+turned_edges-requires-2 c =
+    rw (c.deref-5.ensures.value, c.in_ok-wanted.ensures, c.deref-3.ensures.value, c.deref-4.ensures.value, c.in_ok-turned.ensures)
+    (wanted_inside (goal.at.turned_edges-requires-2 c).After-deref-4)
+
+pub link_table-requires-2 : goal.link_table-requires-2
+link_table-requires-2 c =
+    rw (c.deref-6.ensures.value, c.in_ok-left.ensures, c.deref-5.ensures.value, c.in_ok-wanted.ensures, c.deref-3.ensures.value, c.deref-4.ensures.value, c.in_ok-turned.ensures)
+    (turned_inside c.args.machine.now _ (wanted_inside (goal.at.link_table-requires-2 c).After-deref-4))
+
+pub returns-clause-left : goal.returns-clause-left
+returns-clause-left c = λ e.
+    let leads = left_leads c.args.machine.now c.args.whole.now c.requires.edges_inside c.in_ok-table.table.items c.args.targets.now
+    c.in_ok-counts.counts.items 18446744073709551615
+    (rw (c.deref.ensures.value, c.in_ok-turned.ensures) at c.in_ok-table.ensures.flags)
+    (rw c.deref-2.ensures.value at c.in_ok-counts.ensures.levels)
+    (rw c.deref-2.ensures.value at c.in_ok-counts.ensures.reached) e in
+    let left = rw (c.deref-6.ensures.value, c.in_ok-left.ensures, c.deref-5.ensures.value, c.in_ok-wanted.ensures, c.deref-3.ensures.value, c.deref-4.ensures.value, c.in_ok-turned.ensures)
+    at (c.in_ok-flags.ensures.flags e) in
+    let flagged = rw c.deref-7.ensures.value at (c.in_ok-edges.ensures.flagged e) in (
+      λ has. let known = flagged.0 has in leads.0 ((left known.0).0 known.1),
+      λ known. let inside = edge_in c.args.machine.now c.args.whole.now c.requires.edges_inside e known.0 in
+          flagged.1 (inside, (left inside).1 (leads.1 known)),
+    )

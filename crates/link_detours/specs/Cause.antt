@@ -1,0 +1,12 @@
+-- When a repair is refused.
+use Rattle.std.specs.Prelude.{List}
+use Rattle.spin_base.specs.declared.chips.Chip.{Chip}
+use Rattle.machine_desc.specs.Description.{Description}
+use Rattle.link_detours.specs.declared.repairs.RepairErr.{RepairErr}
+use Rattle.link_detours.specs.declared.repairs.RepairErr.TheVariants.{CutOff, Memory}
+use Rattle.link_detours.specs.Repair.{IsFirstCutOff}
+
+-- A target is named where it is the first that no walk of live links joins to the root. Want of memory is free.
+abbrev pub IsCause : Description → Chip → List Chip → RepairErr → Type 0
+IsCause m root targets (CutOff t) = IsFirstCutOff m root targets t
+IsCause m root targets Memory = Unit {0}

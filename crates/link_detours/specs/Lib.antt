@@ -1,0 +1,6 @@
+pub mod Cause
+pub mod Descent
+pub mod Repair
+pub mod Steps
+pub mod Usable
+pub mod Whole

@@ -1,0 +1,78 @@
+-- The repaired tree: what is kept of a tree whose links may be dead, and how its targets are joined again.
+use Rattle.std.specs.Prelude.{◌≡◌, ℕ, ◌<◌, ◌≤◌, List, [], ◌∷◌, ◌++◌, Some, Contains, AllPairs, ◌↔◌, slice_get}
+use Rattle.std.proofs.Common.{suc}
+use Rattle.spin_base.specs.declared.chips.Chip.{Chip}
+use Rattle.spin_base.specs.declared.chips.Dir.{Dir}
+use Rattle.spin_base.specs.Links.{dir_number}
+use Rattle.machine_desc.specs.declared.trees.Edge.{Edge}
+use Rattle.machine_desc.specs.Description.{Description}
+use Rattle.machine_desc.specs.Live.{far_of, IsLiveLink, LeadsTo}
+use Rattle.machine_desc.specs.RoutingTree.{end_of, IsTreeChip}
+use Rattle.link_detours.specs.Steps.{Steps, IsLevel}
+use Rattle.link_detours.specs.Usable.{link_place}
+
+-- a step by an edge of the list
+abbrev pub EdgeStep : Description → List Edge → Chip → Chip → Type 0
+EdgeStep m edges a b = (d : Dir) × Contains edges (record { chip = a; dir = d }) × (far_of m a d ≡ Some b)
+
+-- a step by a live edge of the list
+abbrev pub LiveEdgeStep : Description → List Edge → Chip → Chip → Type 0
+LiveEdgeStep m edges a b = (d : Dir) × Contains edges (record { chip = a; dir = d }) × IsLiveLink m a d × (far_of m a d ≡ Some b)
+
+-- Kept are the edges that are joined to the root by live links of the tree (this project's own).
+abbrev pub IsKept : Description → Chip → List Edge → Edge → Type 0
+IsKept m root edges e = Contains edges e × IsLiveLink m e.chip e.dir × ((n : ℕ) × Steps (LiveEdgeStep m edges) n root e.chip)
+
+-- the number of live links from a tree to a chip
+abbrev pub IsTreeLevel : Description → Chip → List Edge → Chip → ℕ → Type 0
+IsTreeLevel m root tree c n = IsLevel (LeadsTo m) (IsTreeChip m root tree) c n
+
+-- The last link of a detour to c comes from a chip whose level is one less, and of all live links that do so it has the
+-- least number (this project's own).
+pub record IsLastLink (m : Description) (root : Chip) (tree : List Edge) (c : Chip) (e : Edge) : Type 0 where
+  pub level : ℕ
+  pub here : IsTreeLevel m root tree c (suc level)
+  pub there : IsTreeLevel m root tree e.chip level
+  pub lives : IsLiveLink m e.chip e.dir
+  pub leads : end_of m e ≡ Some c
+  pub least : (f : Edge) → IsTreeLevel m root tree f.chip level → IsLiveLink m f.chip f.dir → end_of m f ≡ Some c →
+      dir_number e.dir ≤ dir_number f.dir
+
+-- A detour to c is found backwards, last link first, until a chip of the tree: a chip of the tree needs none.
+abbrev pub IsDetour : Description → Chip → List Edge → Chip → List Edge → Type 0
+IsDetour m root tree c [] = IsTreeChip m root tree c
+IsDetour m root tree c (e ∷ walk) = IsLastLink m root tree c e × IsDetour m root tree e.chip walk
+
+-- The targets are taken in the order of their list, and each is joined to the tree as it is then.
+abbrev pub Joins : Description → Chip → List Edge → List Chip → List Edge → Type 0
+Joins m root tree [] whole = tree ≡ whole
+Joins m root tree (t ∷ targets) whole = (walk : List Edge) × IsDetour m root tree t walk × Joins m root (tree ++ walk) targets whole
+
+-- a target stands at the far end of the edge, or below it
+abbrev pub LeadsToTarget : Description → List Edge → List Chip → Edge → Type 0
+LeadsToTarget m tree targets e =
+    (c : Chip) × (end_of m e ≡ Some c) × ((t : Chip) × Contains targets t × ((n : ℕ) × Steps (EdgeStep m tree) n c t))
+
+-- edges stand in order of x, y and link number
+abbrev pub IsInOrder : Description → List Edge → Type 0
+IsInOrder m edges = AllPairs (λ e f. link_place m e.chip e.dir < link_place m f.chip f.dir) edges
+
+-- The repaired tree has, of the kept edges and the detours of the targets, those that lead to a target, in order.
+pub record IsRepaired (m : Description) (root : Chip) (edges : List Edge) (targets : List Chip) (result : List Edge) : Type 0 where
+  pub kept : List Edge
+  pub kept_is : (e : Edge) → Contains kept e ↔ IsKept m root edges e
+  pub whole : List Edge
+  pub joined : Joins m root kept targets whole
+  pub result_is : (e : Edge) → Contains result e ↔ (Contains whole e × LeadsToTarget m whole targets e)
+  pub in_order : IsInOrder m result
+
+-- no walk of live links joins the root and the chip
+abbrev pub IsCutOff : Description → Chip → Chip → Type 0
+IsCutOff m root c = (n : ℕ) → Steps (LeadsTo m) n root c → ⊥
+
+-- the first target in the order of the list that is cut off
+pub record IsFirstCutOff (m : Description) (root : Chip) (targets : List Chip) (t : Chip) : Type 0 where
+  pub place : ℕ
+  pub at_place : slice_get targets place ≡ Some t
+  pub cut_off : IsCutOff m root t
+  pub others_joined : (j : ℕ) (u : Chip) → j < place → slice_get targets j ≡ Some u → (n : ℕ) × Steps (LeadsTo m) n root u

@@ -1,0 +1,17 @@
+-- Trees over live links whose every chip is reached from the root in one way, whatever they lead to.
+use Rattle.std.specs.Prelude.{◌≡◌, ◌≢◌, ℕ, List, Some, Contains}
+use Rattle.spin_base.specs.declared.chips.Chip.{Chip}
+use Rattle.machine_desc.specs.declared.trees.Edge.{Edge}
+use Rattle.machine_desc.specs.Description.{Description}
+use Rattle.machine_desc.specs.Live.{IsLiveLink}
+use Rattle.machine_desc.specs.RoutingTree.{end_of, IsTreeChip}
+use Rattle.link_detours.specs.Steps.{Steps}
+use Rattle.link_detours.specs.Repair.{EdgeStep}
+
+-- all edges are live, each chip is reached from the root, and there is one way to it
+pub record IsWhole (m : Description) (root : Chip) (tree : List Edge) : Type 0 where
+  pub live : (e : Edge) → Contains tree e → IsLiveLink m e.chip e.dir
+  pub reached : (c : Chip) → IsTreeChip m root tree c → (n : ℕ) × Steps (EdgeStep m tree) n root c
+  pub none_into_root : (e : Edge) → Contains tree e → end_of m e ≢ Some root
+  pub begins : (e : Edge) → Contains tree e → IsTreeChip m root tree e.chip
+  pub one_into : (e f : Edge) (c : Chip) → Contains tree e → Contains tree f → end_of m e ≡ Some c → end_of m f ≡ Some c → e ≡ f

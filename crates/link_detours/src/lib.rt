@@ -1,0 +1,17 @@
+//! Trees round dead links: what is left of a routing tree when links of the machine are dead, joined again to its
+//! targets by the shortest detours over live links.
+//!
+//! Detours and their ties are this project's own.
+#![tactic(auto)]
+
+mod detours;
+mod edges;
+mod prunes;
+mod repairs;
+mod searches;
+mod tables;
+
+pub use repairs::{RepairErr, repair};
+
+#[cfg(test)]
+mod tests;

@@ -1,0 +1,126 @@
+// Trees joined again round dead links.
+ghost use Rattle.std.specs.Prelude.{◌≡◌, ◌≢◌, ℕ, ◌*◌, ◌<◌, ◌↔◌, Some, length, All, AllPairs, IfOk, IfErr, Contains};
+ghost use Rattle.machine_desc.specs.Live.{IsInside, IsLiveChip};
+ghost use Rattle.machine_desc.specs.RoutingTree.{end_of, IsTreeChip, IsTreeTo};
+ghost use Rattle.link_detours.specs.Usable.{number_at};
+ghost use Rattle.link_detours.specs.Repair.{IsKept, Joins, IsRepaired};
+ghost use Rattle.link_detours.specs.Whole.{IsWhole};
+ghost use Rattle.link_detours.specs.Cause.{IsCause};
+ghost use Rattle.spin_base.specs.declared.chips.Chip.{Chip};
+ghost use Rattle.machine_desc.specs.declared.trees.Edge.{Edge};
+
+use crate::detours::{join, tree_reach};
+use crate::edges::{live_edges, reached_edges};
+use crate::prunes::pruned;
+use crate::searches::UNREACHED;
+use machine_desc::{Edge, Machine, Tree};
+use spin_base::{Chip, Memory, Seq};
+use std::alloc::Global;
+
+/// Why a tree is not repaired.
+#[derive(Clone, Copy, Debug, PartialEq, Eq)]
+pub enum RepairErr {
+    /// No walk of live links joins the root and this target, the first such of the list.
+    CutOff { target: Chip },
+    /// There was not enough memory.
+    Memory,
+}
+
+impl From<Memory> for RepairErr {
+    ghost use Rattle.std.specs.Prelude.{◌≡◌};
+    ghost use Rattle.link_detours.specs.declared.repairs.RepairErr.TheVariants.{Memory as NoMemory};
+
+    ghost from_gives = { λ _ e. e ≡ NoMemory };
+
+    fn from(_: Memory) -> Self {
+        RepairErr::Memory
+    }
+}
+
+// A tree, and the number of edges from its root to each of its chips.
+#[derive(Drop)]
+struct Grown {
+    edges: Vec<Edge>,
+    reach: Vec<u64>,
+}
+
+/// The tree with, of its edges, those that live links of the tree join to the root; with a detour to each target that
+/// is then not in the tree, in the order of the list, each the shortest over live links from the tree as it is then
+/// (of all, last link first, that of the least link numbers); and without edges that lead to no target. Edges are in
+/// order of (x, y, link). It is refused exactly where some target is cut off from the root.
+pub fn repair(
+    alloc: Global,
+    machine: &Machine,
+    tree: Tree,
+    targets: &Seq<Chip>,
+) -> Result<Tree, RepairErr>
+    requires root_lives { IsLiveChip machine.now tree.root }
+    requires none_into_root { All (λ e. end_of machine.now e ≢ Some tree.root) tree.edges }
+    requires one_into_each { AllPairs (λ e f. (c : Chip) → end_of machine.now e ≡ Some c → end_of machine.now f ≢ Some c) tree.edges }
+    requires some_target { 0 < length targets.now }
+    requires targets_inside { All (IsInside machine.now) targets.now }
+    ensures root { IfOk result (λ t. t.root ≡ tree.root) }
+    ensures repaired { IfOk result (λ t. IsRepaired machine.now tree.root tree.edges targets.now t.edges) }
+    ensures routing { IfOk result (λ t. IsTreeTo machine.now tree.root t.edges targets.now) }
+    ensures cut_off { IfErr result (IsCause machine.now tree.root targets.now) }
+{
+    let Tree { root, edges } = tree;
+    let grown = kept_tree(alloc, machine, root, edges.as_slice())?;
+    let whole = join_all(alloc, machine, root, grown, targets.as_slice())?;
+    let left = pruned(alloc, machine, &whole, targets.as_slice())?;
+    Ok(Tree {
+        root,
+        edges: Seq::from_vec(left),
+    })
+}
+
+// The edges that live links of the tree join to the root.
+fn kept_tree(alloc: Global, machine: &Machine, root: Chip, edges: &[Edge]) -> Result<Grown, Memory>
+    requires root_lives { IsLiveChip machine.now root }
+    requires none_into_root { All (λ e. end_of machine.now e ≢ Some root) edges.now }
+    requires one_into_each { AllPairs (λ e f. (c : Chip) → end_of machine.now e ≡ Some c → end_of machine.now f ≢ Some c) edges.now }
+    ensures kept { IfOk result (λ g. (e : Edge) → Contains g.edges.items e ↔ IsKept machine.now root edges.now e) }
+    ensures is_whole { IfOk result (λ g. IsWhole machine.now root g.edges.items) }
+    ensures long { IfOk result (λ g. length g.reach.items ≡ machine.now.width * machine.now.height) }
+    ensures reach { IfOk result (λ g. (c : Chip) → IsInside machine.now c →
+        (number_at machine.now g.reach.items c < UNREACHED) ↔ IsTreeChip machine.now root g.edges.items c) }
+{
+    let live = live_edges(alloc, machine, edges)?;
+    let reach = tree_reach(alloc, machine, root, &live)?;
+    let kept = reached_edges(alloc, machine, &reach, &live)?;
+    Ok(Grown { edges: kept, reach })
+}
+
+// The tree with a detour to each target that it doesn't have, in the order of their list.
+fn join_all(
+    alloc: Global,
+    machine: &Machine,
+    root: Chip,
+    grown: Grown,
+    targets: &[Chip],
+) -> Result<Vec<Edge>, RepairErr>
+    requires root_lives { IsLiveChip machine.now root }
+    requires targets_inside { All (IsInside machine.now) targets.now }
+    requires is_whole { IsWhole machine.now root grown.edges.items }
+    requires long { length grown.reach.items ≡ machine.now.width * machine.now.height }
+    requires reach { (c : Chip) → IsInside machine.now c →
+        (number_at machine.now grown.reach.items c < UNREACHED) ↔ IsTreeChip machine.now root grown.edges.items c }
+    ensures joined { IfOk result (λ v. Joins machine.now root grown.edges.items targets.now v.items) }
+    ensures is_whole { IfOk result (λ v. IsWhole machine.now root v.items) }
+    ensures has_targets { IfOk result (λ v. All (IsTreeChip machine.now root v.items) targets.now) }
+    ensures cut_off { IfErr result (IsCause machine.now root targets.now) }
+{
+    let Grown {
+        edges: mut whole,
+        mut reach,
+    } = grown;
+    for target in targets {
+        if reach[machine.index(*target) as usize] == UNREACHED {
+            match join(alloc, machine, root, &reach, &mut whole, *target)? {
+                Some(joined) => reach = joined,
+                None => return Err(RepairErr::CutOff { target: *target }),
+            }
+        }
+    }
+    Ok(whole)
+}
