@@ -101,17 +101,18 @@ fn copy(packet: u32, hop: u32) -> McCopy
     }
 }
 
-/// Whether each of the events moves something.
-fn all_move(mesh: &mut Mesh, events: &[Event]) -> Result<bool, &'static str>
+/// How many of the events move something.
+fn moved(mesh: &mut Mesh, events: &[Event]) -> Result<u32, &'static str>
     ensures machine { mesh.new.machine ≡ mesh.old.machine }
     ensures vertices { mesh.new.spots ≡ mesh.old.spots }
 {
+    let mut count: u32 = 0;
     for e in events {
-        if mesh.step(*e).map_err(|_| "memory")? == Did::Idle {
-            return Ok(false);
+        if mesh.step(*e).map_err(|_| "memory")? == Did::Moved {
+            count = count.saturating_add(1);
         }
     }
-    Ok(true)
+    Ok(count)
 }
 
 /// The first copy at a port of a chip of the row.
@@ -135,74 +136,21 @@ fn to_serve(mesh: &Mesh, x: u8) -> &[Out]
     }
 }
 
+/// Vertex 0 has one more packet to send.
+fn put(mesh: &mut Mesh, packet: u32) -> Result<(), &'static str>
+    requires { length mesh.old.spots ≡ 2 }
+    ensures machine { mesh.new.machine ≡ mesh.old.machine }
+    ensures vertices { mesh.new.spots ≡ mesh.old.spots }
+{
+    mesh.add(0, copy(packet, 0)).map_err(|_| "memory")
+}
+
 fn send(x: u8, out: Out) -> Event {
     Event::Send(Chip { x, y: 0 }, out)
 }
 
 fn take(x: u8, port: Port) -> Event {
     Event::Take(Chip { x, y: 0 }, port)
-}
-
-#[test]
-fn a_copy_goes_through_its_chip(rt: HostRuntime) -> Result<(), Fail> {
-    let mut mesh = one_chip(&rt)?;
-    mesh.add(0, copy(0, 0)).map_err(|_| "memory")?;
-    assert_eq!(rt; mesh.unsent(0), [copy(0, 0)].as_slice());
-    assert!(rt; all_move(&mut mesh, &[Event::Inject(0)])?);
-    assert_eq!(rt; waiting(&mesh, 0, Port::Local), Some(copy(0, 0)));
-    assert!(rt; all_move(&mut mesh, &[take(0, Port::Local)])?);
-    assert_eq!(rt; to_serve(&mesh, 0), [Out::Core(2)].as_slice());
-    assert!(rt; all_move(&mut mesh, &[send(0, Out::Core(2))])?);
-    assert_eq!(rt; mesh.core_queue(1), [copy(0, 1)].as_slice());
-    Ok(())
-}
-
-#[test]
-fn a_full_queue_lets_a_copy_be_dumped(rt: HostRuntime) -> Result<(), Fail> {
-    let mut mesh = one_chip(&rt)?;
-    mesh.add(0, copy(0, 0)).map_err(|_| "memory")?;
-    mesh.add(0, copy(1, 0)).map_err(|_| "memory")?;
-    let local = take(0, Port::Local);
-    let to_core = send(0, Out::Core(2));
-    let dump = Event::Dump(ORIGIN, Out::Core(2));
-    assert!(rt;
-        all_move(
-            &mut mesh,
-            &[Event::Inject(0), local, to_core, Event::Inject(0), local]
-        )?
-    );
-    assert!(rt; !all_move(&mut mesh, &[to_core])?);
-    assert!(rt; all_move(&mut mesh, &[dump])?);
-    let record = DumpRec {
-        chip: ORIGIN,
-        out: Out::Core(2),
-        copy: copy(1, 0),
-    };
-    assert_eq!(rt; mesh.dumped(), [record].as_slice());
-    assert_eq!(rt; mesh.core_queue(1), [copy(0, 1)].as_slice());
-    Ok(())
-}
-
-#[test]
-fn no_copy_is_dumped_where_there_is_room(rt: HostRuntime) -> Result<(), Fail> {
-    let mut mesh = one_chip(&rt)?;
-    mesh.add(0, copy(0, 0)).map_err(|_| "memory")?;
-    assert!(rt; all_move(&mut mesh, &[Event::Inject(0), take(0, Port::Local)])?);
-    assert!(rt; !all_move(&mut mesh, &[Event::Dump(ORIGIN, Out::Core(2))])?);
-    assert_eq!(rt; to_serve(&mesh, 0), [Out::Core(2)].as_slice());
-    Ok(())
-}
-
-#[test]
-fn an_event_that_is_not_enabled_changes_nothing(rt: HostRuntime) -> Result<(), Fail> {
-    let mut mesh = one_chip(&rt)?;
-    mesh.add(0, copy(0, 0)).map_err(|_| "memory")?;
-    assert!(rt; !all_move(&mut mesh, &[Event::Collect(1)])?);
-    assert!(rt; !all_move(&mut mesh, &[Event::Take(Chip { x: 9, y: 9 }, Port::Local)])?);
-    assert!(rt; !all_move(&mut mesh, &[Event::Inject(1)])?);
-    assert!(rt; !all_move(&mut mesh, &[Event::Inject(2)])?);
-    assert_eq!(rt; mesh.unsent(0), [copy(0, 0)].as_slice());
-    Ok(())
 }
 
 /// Four chips in a row: a vertex on the first, which sends key 0 to the one on the last.
@@ -228,25 +176,105 @@ fn four_chips(rt: &HostRuntime) -> Result<Mesh, &'static str>
     mesh_of(rt, machine, a, b, tables)
 }
 
-#[test]
-fn a_copy_comes_in_at_the_opposite_port_and_goes_straight_on(rt: HostRuntime) -> Result<(), Fail> {
-    let mut mesh = four_chips(&rt)?;
-    mesh.add(0, copy(0, 0)).map_err(|_| "memory")?;
-    let east = Out::Link(Dir::East);
-    let west = Port::Link(Dir::West);
-    assert!(rt; all_move(&mut mesh, &[Event::Inject(0), take(0, Port::Local)])?);
-    assert_eq!(rt; to_serve(&mesh, 0), [east].as_slice());
-    assert!(rt; all_move(&mut mesh, &[send(0, east)])?);
-    assert_eq!(rt; waiting(&mesh, 1, west), Some(copy(0, 1)));
-    assert!(rt; all_move(&mut mesh, &[take(1, west)])?);
-    assert_eq!(rt; to_serve(&mesh, 1), [east].as_slice());
-    Ok(())
+// Whether a copy comes into the queue of its chip.
+fn waits(rt: &HostRuntime) -> Result<bool, &'static str> {
+    let mut mesh = one_chip(rt)?;
+    put(&mut mesh, 0)?;
+    let sent = moved(&mut mesh, &[Event::Inject(0)])?;
+    Ok(sent == 1 && waiting(&mesh, 0, Port::Local) == Some(copy(0, 0)))
 }
 
 #[test]
-fn a_copy_is_delivered_at_the_end_of_its_way(rt: HostRuntime) -> Result<(), Fail> {
-    let mut mesh = four_chips(&rt)?;
-    mesh.add(0, copy(0, 0)).map_err(|_| "memory")?;
+fn a_sent_copy_waits_at_its_chip(rt: HostRuntime) -> Result<(), Fail> {
+    assert!(rt; waits(&rt)?);
+    Ok(())
+}
+
+// Whether a copy comes into the hand, with the output that the table gives.
+fn is_in_hand(rt: &HostRuntime) -> Result<bool, &'static str> {
+    let mut mesh = one_chip(rt)?;
+    put(&mut mesh, 0)?;
+    let taken = moved(&mut mesh, &[Event::Inject(0), take(0, Port::Local)])?;
+    Ok(taken == 2 && to_serve(&mesh, 0) == [Out::Core(2)].as_slice())
+}
+
+#[test]
+fn a_taken_copy_is_in_hand(rt: HostRuntime) -> Result<(), Fail> {
+    assert!(rt; is_in_hand(&rt)?);
+    Ok(())
+}
+
+// Whether of two copies to one core the second is dumped, and not sent, while the first fills the queue.
+fn is_dumped(rt: &HostRuntime) -> Result<bool, &'static str> {
+    let mut mesh = one_chip(rt)?;
+    put(&mut mesh, 0)?;
+    put(&mut mesh, 1)?;
+    let local = take(0, Port::Local);
+    let to_core = send(0, Out::Core(2));
+    let dump = Event::Dump(ORIGIN, Out::Core(2));
+    let events = [
+        Event::Inject(0),
+        local,
+        to_core,
+        Event::Inject(0),
+        local,
+        to_core,
+        dump,
+    ];
+    let count = moved(&mut mesh, &events)?;
+    let record = DumpRec {
+        chip: ORIGIN,
+        out: Out::Core(2),
+        copy: copy(1, 0),
+    };
+    Ok(count == 6 && mesh.dumped() == [record].as_slice())
+}
+
+#[test]
+fn a_full_queue_lets_a_copy_be_dumped(rt: HostRuntime) -> Result<(), Fail> {
+    assert!(rt; is_dumped(&rt)?);
+    Ok(())
+}
+
+// How many events move something where a copy in hand is dumped though there is room.
+fn dumped_with_room(rt: &HostRuntime) -> Result<u32, &'static str> {
+    let mut mesh = one_chip(rt)?;
+    put(&mut mesh, 0)?;
+    let dump = Event::Dump(ORIGIN, Out::Core(2));
+    moved(&mut mesh, &[Event::Inject(0), take(0, Port::Local), dump])
+}
+
+#[test]
+fn no_copy_is_dumped_where_there_is_room(rt: HostRuntime) -> Result<(), Fail> {
+    assert_eq!(rt; dumped_with_room(&rt)?, 2);
+    Ok(())
+}
+
+// Whether events that are not enabled move nothing.
+fn nothing_moves(rt: &HostRuntime) -> Result<bool, &'static str> {
+    let mut mesh = one_chip(rt)?;
+    put(&mut mesh, 0)?;
+    let nowhere = Event::Take(Chip { x: 9, y: 9 }, Port::Local);
+    let events = [
+        Event::Collect(1),
+        nowhere,
+        Event::Inject(1),
+        Event::Inject(2),
+    ];
+    let count = moved(&mut mesh, &events)?;
+    Ok(count == 0 && mesh.unsent(0) == [copy(0, 0)].as_slice())
+}
+
+#[test]
+fn an_event_that_is_not_enabled_changes_nothing(rt: HostRuntime) -> Result<(), Fail> {
+    assert!(rt; nothing_moves(&rt)?);
+    Ok(())
+}
+
+// Whether a copy crosses the row of chips, each by the port opposite its link, and is delivered.
+fn crosses_the_row(rt: &HostRuntime) -> Result<bool, &'static str> {
+    let mut mesh = four_chips(rt)?;
+    put(&mut mesh, 0)?;
     let east = Out::Link(Dir::East);
     let west = Port::Link(Dir::West);
     let way = [
@@ -261,11 +289,16 @@ fn a_copy_is_delivered_at_the_end_of_its_way(rt: HostRuntime) -> Result<(), Fail
         send(3, Out::Core(1)),
         Event::Collect(1),
     ];
-    assert!(rt; all_move(&mut mesh, &way)?);
+    let count = moved(&mut mesh, &way)?;
     let delivery = Delivery {
         vertex: 1,
         copy: copy(0, 4),
     };
-    assert_eq!(rt; mesh.delivered(), [delivery].as_slice());
+    Ok(count == 10 && mesh.delivered() == [delivery].as_slice())
+}
+
+#[test]
+fn a_copy_is_delivered_at_the_end_of_its_way(rt: HostRuntime) -> Result<(), Fail> {
+    assert!(rt; crosses_the_row(&rt)?);
     Ok(())
 }

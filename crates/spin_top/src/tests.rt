@@ -1,7 +1,7 @@
 ghost use Rattle.std.specs.Prelude.{◌<◌};
 
-use crate::{Outcome, Refusal, spin};
-use spin_base::{FreeGate, MemSink, MemSource, Room, Seq, read_all};
+use crate::spin;
+use spin_base::{FreeGate, MemSink, MemSource, Room, Seq};
 use std::alloc::Global;
 use std::sync::Wait;
 use std::test::Fail;
@@ -31,6 +31,11 @@ const TWO_VERTICES_REPORT: &str =
 const TO_ITSELF_REPORT: &str =
     "place a 0 0 1\nplace b 0 0 2\nkeys n 00000000 ffffffff\ntable 0 0 1\n00000000 ffffffff 000080\ngot a 0 00000000 -\nend delivered 1 dumped 0 waiting 0 unsent 0\n";
 
+const SEVENTEEN_REPORT: &str =
+    "place v0 0 0 1\nplace v1 0 0 2\nplace v2 0 0 3\nplace v3 0 0 4\nplace v4 0 0 5\nplace v5 0 0 6\nplace v6 0 0 7\nplace v7 0 0 8\nplace v8 0 0 9\nplace v9 0 0 10\nplace v10 0 0 11\nplace v11 0 0 12\nplace v12 0 0 13\nplace v13 0 0 14\nplace v14 0 0 15\nplace v15 0 0 16\nplace v16 0 0 17\nend delivered 0 dumped 0 waiting 0 unsent 0\n";
+
+const USAGE: &str = "usage: run, trace, compile, tables or gen N\n";
+
 // A source of these bytes, `piece` at a time.
 fn source_of(alloc: Global, text: &str, piece: u32, failing: Seq<u64>) -> Result<MemSource, Fail>
     requires { 0 < piece }
@@ -49,83 +54,133 @@ fn sink_for(alloc: Global, piece: u32, failing: Seq<u64>) -> Result<MemSink, Fai
     }
 }
 
-fn spin_over<Rt: Threads + Wait + Sync>(
+// Whether the words, over a source of this text, give the status and write the line or report.
+fn gives<Rt: Threads + Wait + Sync>(
     rt: &Rt,
     alloc: Global,
     words: &[&str],
-    source: &mut MemSource,
-    sink: &mut MemSink,
-) -> Result<Outcome, Fail> {
+    job: &str,
+    status: u8,
+    text: &str,
+) -> Result<bool, Fail> {
+    let mut source = source_of(alloc, job, 64, Seq::new(alloc))?;
+    let mut sink = sink_for(alloc, 64, Seq::new(alloc))?;
+    let texts = texts_of(alloc, words)?;
+    let outcome = spin(
+        rt,
+        alloc,
+        texts.as_slice(),
+        &mut source,
+        &mut sink,
+        &FreeGate,
+    );
+    Ok(outcome.status == status && sink.as_slice() == text.as_bytes())
+}
+
+fn texts_of(alloc: Global, words: &[&str]) -> Result<Vec<String>, Fail> {
     let mut texts = Vec::new(alloc);
     for word in words {
         texts.push(String::from_str(alloc, word)?)?;
     }
-    Ok(spin(rt, alloc, texts.as_slice(), source, sink, &FreeGate))
+    Ok(texts)
 }
 
 #[test]
-fn jobs_of_one_chip_are_run_and_reported(rt: HostRuntime) -> Result<(), Fail> {
-    let alloc = rt.alloc();
-    for (job, report) in [
-        (TWO_VERTICES, TWO_VERTICES_REPORT),
-        (TO_ITSELF, TO_ITSELF_REPORT),
-        (TWICE_THE_SAME, TWO_VERTICES_REPORT),
-    ] {
-        let mut source = source_of(alloc, job, 64, Seq::new(alloc))?;
-        let mut sink = sink_for(alloc, 64, Seq::new(alloc))?;
-        let outcome = spin_over(&rt, alloc, &["run"], &mut source, &mut sink)?;
-        assert_eq!(rt; outcome.status, 0);
-        assert_eq!(rt; outcome.refusal, None);
-        assert!(rt; outcome.plan.is_some() && outcome.mesh.is_some() && outcome.report.is_some());
-        assert_eq!(rt; sink.as_slice(), report.as_bytes());
-    }
+fn a_packet_goes_from_vertex_to_vertex(rt: HostRuntime) -> Result<(), Fail> {
+    assert!(rt;
+        gives(
+            &rt,
+            rt.alloc(),
+            &["run"],
+            TWO_VERTICES,
+            0,
+            TWO_VERTICES_REPORT
+        )?
+    );
+    Ok(())
+}
+
+#[test]
+fn a_vertex_can_send_to_itself(rt: HostRuntime) -> Result<(), Fail> {
+    assert!(rt; gives(&rt, rt.alloc(), &["run"], TO_ITSELF, 0, TO_ITSELF_REPORT)?);
+    Ok(())
+}
+
+#[test]
+fn a_target_that_is_named_twice_counts_once(rt: HostRuntime) -> Result<(), Fail> {
+    assert!(rt;
+        gives(
+            &rt,
+            rt.alloc(),
+            &["run"],
+            TWICE_THE_SAME,
+            0,
+            TWO_VERTICES_REPORT
+        )?
+    );
     Ok(())
 }
 
 #[test]
 fn seventeen_vertices_fill_a_chip(rt: HostRuntime) -> Result<(), Fail> {
-    let alloc = rt.alloc();
-    let mut source = source_of(alloc, SEVENTEEN, 64, Seq::new(alloc))?;
-    let mut sink = sink_for(alloc, 64, Seq::new(alloc))?;
-    let outcome = spin_over(&rt, alloc, &["run"], &mut source, &mut sink)?;
-    assert_eq!(rt; outcome.status, 0);
-    let end = "place v16 0 0 17\nend delivered 0 dumped 0 waiting 0 unsent 0\n".as_bytes();
-    assert!(rt; sink.as_slice().ends_with(end));
+    assert!(rt; gives(&rt, rt.alloc(), &["run"], SEVENTEEN, 0, SEVENTEEN_REPORT)?);
     Ok(())
+}
+
+// Whether a failing source, and a failing sink, end the run as they should.
+fn fails<Rt: Threads + Wait + Sync>(
+    rt: &Rt,
+    alloc: Global,
+    reads: Seq<u64>,
+    writes: Seq<u64>,
+    status: u8,
+    text: &str,
+) -> Result<bool, Fail> {
+    let mut source = source_of(alloc, TWO_VERTICES, 16, reads)?;
+    let mut sink = sink_for(alloc, 10, writes)?;
+    let texts = texts_of(alloc, &["run"])?;
+    let outcome = spin(
+        rt,
+        alloc,
+        texts.as_slice(),
+        &mut source,
+        &mut sink,
+        &FreeGate,
+    );
+    Ok(outcome.status == status && sink.as_slice() == text.as_bytes())
+}
+
+fn second(alloc: Global) -> Result<Seq<u64>, Fail> {
+    let mut calls = Seq::new(alloc);
+    calls.push(2)?;
+    Ok(calls)
 }
 
 #[test]
 fn a_failing_source_is_a_read_fault(rt: HostRuntime) -> Result<(), Fail> {
     let alloc = rt.alloc();
-    let mut second = Seq::new(alloc);
-    second.push(2)?;
-    let mut source = source_of(alloc, TWO_VERTICES, 16, second)?;
-    let mut sink = sink_for(alloc, 64, Seq::new(alloc))?;
-    let outcome = spin_over(&rt, alloc, &["run"], &mut source, &mut sink)?;
-    assert_eq!(rt; outcome.status, 2);
-    assert_eq!(rt; outcome.refusal, Some(Refusal::ReadFault));
-    assert_eq!(rt; sink.as_slice(), "read fault\n".as_bytes());
+    assert!(rt;
+        fails(
+            &rt,
+            alloc,
+            second(alloc)?,
+            Seq::new(alloc),
+            2,
+            "read fault\n"
+        )?
+    );
     Ok(())
 }
 
 #[test]
 fn a_failing_sink_leaves_the_front_of_the_report(rt: HostRuntime) -> Result<(), Fail> {
     let alloc = rt.alloc();
-    let mut second = Seq::new(alloc);
-    second.push(2)?;
-    let mut source = source_of(alloc, TWO_VERTICES, 64, Seq::new(alloc))?;
-    let mut sink = sink_for(alloc, 10, second)?;
-    let outcome = spin_over(&rt, alloc, &["run"], &mut source, &mut sink)?;
-    assert_eq!(rt; outcome.status, 3);
-    assert_eq!(rt; outcome.refusal, Some(Refusal::WriteFault));
-    assert!(rt; outcome.report.is_some());
-    assert_eq!(rt; sink.as_slice(), "place a 0 ".as_bytes());
+    assert!(rt; fails(&rt, alloc, Seq::new(alloc), second(alloc)?, 3, "place a 0 ")?);
     Ok(())
 }
 
 #[test]
 fn words_that_are_no_command_are_answered_with_the_usage(rt: HostRuntime) -> Result<(), Fail> {
-    let alloc = rt.alloc();
     for words in [
         ["run", "x"].as_slice(),
         &["gen", "01"],
@@ -133,48 +188,28 @@ fn words_that_are_no_command_are_answered_with_the_usage(rt: HostRuntime) -> Res
         &[],
         &["--help"],
     ] {
-        let mut source = source_of(alloc, TWO_VERTICES, 64, Seq::new(alloc))?;
-        let mut sink = sink_for(alloc, 64, Seq::new(alloc))?;
-        let outcome = spin_over(&rt, alloc, words, &mut source, &mut sink)?;
-        assert_eq!(rt; outcome.status, 1);
-        assert_eq!(rt;
-            sink.as_slice(),
-            "usage: run, trace, compile, tables or gen N\n".as_bytes()
-        );
+        assert!(rt; gives(&rt, rt.alloc(), words, TWO_VERTICES, 1, USAGE)?);
     }
     Ok(())
 }
 
 #[test]
 fn what_is_no_small_job_is_not_built(rt: HostRuntime) -> Result<(), Fail> {
-    let alloc = rt.alloc();
     for job in [TWO_CHIPS, DOUBLE_NET, "{\"version\":1}", "", "{"] {
-        let mut source = source_of(alloc, job, 64, Seq::new(alloc))?;
-        let mut sink = sink_for(alloc, 64, Seq::new(alloc))?;
-        let outcome = spin_over(&rt, alloc, &["run"], &mut source, &mut sink)?;
-        assert_eq!(rt; outcome.status, 10);
-        assert_eq!(rt; outcome.refusal, Some(Refusal::Unbuilt));
-        assert_eq!(rt; sink.as_slice(), "unbuilt\n".as_bytes());
+        assert!(rt; gives(&rt, rt.alloc(), &["run"], job, 10, "unbuilt\n")?);
     }
     Ok(())
 }
 
 #[test]
-fn another_command_is_not_built_and_reads_nothing(rt: HostRuntime) -> Result<(), Fail> {
-    let alloc = rt.alloc();
+fn another_command_is_not_built(rt: HostRuntime) -> Result<(), Fail> {
     for words in [
         ["trace"].as_slice(),
         &["compile"],
         &["tables"],
         &["gen", "0"],
     ] {
-        let mut source = source_of(alloc, TWO_VERTICES, 64, Seq::new(alloc))?;
-        let mut sink = sink_for(alloc, 64, Seq::new(alloc))?;
-        let outcome = spin_over(&rt, alloc, words, &mut source, &mut sink)?;
-        assert_eq!(rt; outcome.status, 10);
-        assert_eq!(rt; sink.as_slice(), "unbuilt\n".as_bytes());
-        let left = read_all(alloc, &mut source, 4096)?;
-        assert_eq!(rt; left.as_slice(), TWO_VERTICES.as_bytes());
+        assert!(rt; gives(&rt, rt.alloc(), words, TWO_VERTICES, 10, "unbuilt\n")?);
     }
     Ok(())
 }

@@ -1,0 +1,4 @@
+pub mod Small
+pub mod Stands
+pub mod Right
+pub mod Tracked

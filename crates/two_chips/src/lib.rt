@@ -1,0 +1,48 @@
+//! Two chips and a net with targets on both: the definitions of the mesh tried on one example.
+//!
+//! What the definitions of trees, right tables, steps and the ledger ask can be met, and the events do on it what a
+//! reader expects. The example is this project's own.
+#![tactic(auto)]
+
+ghost use Rattle.std.specs.Prelude.{◌≡◌, ℕ, ◌<◌, List, [], ◌∷◌, ◌++◌, None, Some};
+ghost use Rattle.spin_base.specs.declared.chips.Dir.TheVariants.{East, West};
+ghost use Rattle.spin_base.specs.declared.chips.Port.TheVariants.{Link as ByLink, Local};
+ghost use Rattle.spin_base.specs.declared.routes.Out.TheVariants.{Link, Core};
+ghost use Rattle.spin_base.specs.declared.copies.Event.{Event};
+ghost use Rattle.spin_base.specs.declared.copies.Event.TheVariants.{Inject, Take, Send};
+ghost use Rattle.net_tables.specs.RightTables.{AreRight};
+ghost use Rattle.mesh_core.specs.State.{IsMesh};
+ghost use Rattle.mesh_core.specs.Step.{after_events};
+ghost use Rattle.mesh_core.specs.Ledger.{AreNetsOf, IsWayOf};
+ghost use Rattle.mesh_core.specs.Opened.{AreOfNets, MeetsJobLedger};
+ghost use Rattle.mesh_core.specs.Whereabouts.{IsTracked};
+ghost use Rattle.two_chips.specs.Board.{board, left, right, spots, net, tables, packets, opened, far_branch, first_packet, second_packet, copy};
+
+/// The net stands on the mesh with a tree to its three targets, the tables are right for it, and each packet has its
+/// key. So the mesh meets the ledger of the job after every list of events, and both packets can be found in it.
+pub fn the_example_meets_the_definitions()
+    ensures is_mesh { IsMesh opened }
+    ensures stands { AreNetsOf opened (net ∷ []) }
+    ensures right_tables { AreRight board tables (net ∷ []) }
+    ensures of_nets { AreOfNets (net ∷ []) packets }
+    ensures way { IsWayOf opened net (record { chip = right; core = 2 }) far_branch 0 3 }
+    ensures ledger { (events : List Event) → MeetsJobLedger (after_events opened events) (net ∷ []) packets }
+    ensures tracked { (events : List Event) (i : ℕ) → i < 2 → IsTracked (after_events opened events) net i }
+{}
+
+/// What is where, worked by hand: the first packet is in hand on the left chip with two outputs to serve; on the right
+/// chip's port after it left by the link; and delivered at last at three vertices, but for vertex 1, where it waits. So the
+/// second packet is dumped there.
+pub fn the_events_do_what_is_expected()
+    ensures in_hand { (after_events opened (Inject 0 ∷ Take left Local ∷ [])).hands
+        ≡ Some (record { copy = copy 0 0; port = Local; outs = Link East ∷ Core 2 ∷ [] }) ∷ None ∷ [] }
+    ensures across { (after_events opened (Inject 0 ∷ Take left Local ∷ Send left (Link East) ∷ [])).inputs
+        ≡ [] ∷ [] ∷ [] ∷ [] ∷ [] ∷ [] ∷ [] ∷ [] ∷ [] ∷ [] ∷ (copy 0 1 ∷ []) ∷ [] ∷ [] ∷ [] ∷ [] }
+    ensures delivered { (after_events opened first_packet).delivered
+        ≡ record { vertex = 2; copy = copy 0 2 } ∷ record { vertex = 3; copy = copy 0 2 } ∷ [] }
+    ensures waits { (after_events opened first_packet).cores ≡ [] ∷ (copy 0 1 ∷ []) ∷ [] ∷ [] ∷ [] }
+    ensures dumped { (after_events opened (first_packet ++ second_packet)).dumped
+        ≡ record { chip = left; out = Core 2; copy = copy 1 0 } ∷ [] }
+    ensures goes_on { (after_events opened (first_packet ++ second_packet)).hands
+        ≡ Some (record { copy = copy 1 0; port = Local; outs = Link East ∷ [] }) ∷ None ∷ [] }
+{}
