@@ -1,0 +1,41 @@
+// Vertices, nets, and the run part of a job.
+use spin_base::{Chip, Event, Name, Packet, Seq};
+
+/// A vertex: its name, the bytes of its chip's shared memory that it needs, and the chip on which it must stand where the
+/// job says one.
+#[derive(Debug, Drop)]
+pub struct Vertex {
+    pub name: Name,
+    pub sdram: u32,
+    pub at: Option<Chip>,
+}
+
+/// A net: its name, the positions of its source and targets in the list of vertices, and how many keys it needs.
+#[derive(Debug, Drop)]
+pub struct Net {
+    pub name: Name,
+    pub source: u32,
+    pub targets: Seq<u32>,
+    pub keys: u64,
+}
+
+/// Vertices and nets, in the order of the job.
+#[derive(Debug, Drop)]
+pub struct Graph {
+    pub vertices: Seq<Vertex>,
+    pub nets: Seq<Net>,
+}
+
+/// How a job is to run: the capacity of each queue, how many refused offers a copy waits before it is dumped, the number
+/// of worker threads, the turns of a round, the rows that a table may keep before rows are merged, the packets, and the
+/// events of a trace.
+#[derive(Debug, Drop)]
+pub struct RunPart {
+    pub queue: u32,
+    pub patience: u32,
+    pub workers: u32,
+    pub turns: u32,
+    pub target: u32,
+    pub packets: Seq<Packet>,
+    pub events: Seq<Event>,
+}
