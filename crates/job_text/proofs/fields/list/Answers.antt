@@ -1,4 +1,4 @@
-use Rattle.std.proofs.Common.{◌≡◌, map, option_map, Some, ap}
+use Rattle.std.proofs.Common.{map, option_map, ap}
 use Rattle.serde_json.specs.View.{view}
 use Rattle.job_text.proofs.Items.{list-read}
 use Rattle.job_text.proofs.fields.list.Goals as goal
