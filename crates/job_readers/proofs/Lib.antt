@@ -1,0 +1,6 @@
+pub mod Firsts
+pub mod ItemSteps
+pub mod NamedSteps
+pub mod EntryLengths
+pub mod PlaceSteps
+pub mod GraphSteps
