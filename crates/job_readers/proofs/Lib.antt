@@ -4,3 +4,4 @@ pub mod NamedSteps
 pub mod EntryLengths
 pub mod PlaceSteps
 pub mod GraphSteps
+pub mod RunSteps

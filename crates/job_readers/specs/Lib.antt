@@ -5,4 +5,5 @@ pub mod Members
 pub mod Entries
 pub mod MachinePart
 pub mod GraphPart
+pub mod RunPart
 pub mod Job

@@ -153,12 +153,7 @@ fn some_items<'a>(alloc: Global, v: Option<&'a Value>, path: &Name) -> Result<&'
 }
 
 #[tactic(auto, using(crate::proofs::Firsts::firsts), unfolding(crate::specs::GraphPart::targets_faults, crate::specs::GraphPart::targets_value, crate::specs::Members::list_member))]
-fn targets(
-    alloc: Global,
-    item: &Value,
-    path: &Name,
-    vertices: &Names,
-) -> Result<Seq<u32>, TextErr>
+fn targets(alloc: Global, item: &Value, path: &Name, vertices: &Names) -> Result<Seq<u32>, TextErr>
     ensures read { Gives (λ t. t) result (targets_faults vertices.now path.now (view item.now)) (targets_value vertices.now (view item.now)) }
     ensures below { IfOk result (λ ts. All (λ t. t < length vertices.now) ts) }
     ensures some { IfOk result (λ ts. 0 < length ts) }
@@ -225,7 +220,10 @@ fn nets(alloc: Global, graph: &Value, path: &Name, vertices: &Names) -> Result<S
 }
 
 // The names of vertices.
-pub(crate) fn names_of_vertices<'a>(alloc: Global, vertices: &'a [Vertex]) -> Result<Names<'a>, Memory>
+pub(crate) fn names_of_vertices<'a>(
+    alloc: Global,
+    vertices: &'a [Vertex],
+) -> Result<Names<'a>, Memory>
     requires { length vertices.now ≤ 16384 }
     ensures { IfOk result (λ names. names ≡ map (λ v. v.name) vertices.now) }
 {

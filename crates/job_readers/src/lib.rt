@@ -6,12 +6,15 @@
 #![tactic(auto)]
 
 mod entries;
+mod events;
 mod graph_parts;
 mod machine_parts;
 mod members;
 mod names;
+mod run_parts;
 mod versions;
 
 pub use graph_parts::graph_of;
 pub use machine_parts::machine_of;
+pub use run_parts::run_of;
 pub use versions::version_of;

@@ -17,7 +17,13 @@ use spin_base::{Chip, Dir, Name, Seq, Spot};
 use std::alloc::Global;
 
 #[tactic(auto, unfolding(crate::specs::MachinePart::dead_chip_faults, crate::specs::MachinePart::dead_chip))]
-fn dead_chip(alloc: Global, item: &Value, path: &Name, width: u8, height: u8) -> Result<Chip, TextErr>
+fn dead_chip(
+    alloc: Global,
+    item: &Value,
+    path: &Name,
+    width: u8,
+    height: u8,
+) -> Result<Chip, TextErr>
     ensures read { Gives (λ c. c) result (dead_chip_faults width height path.now (view item.now)) (dead_chip (view item.now)) }
     ensures inside { IfOk result (λ c. (c.x < width) × (c.y < height)) }
 {
@@ -56,7 +62,13 @@ fn dead_chips(
 }
 
 #[tactic(auto, unfolding(crate::specs::MachinePart::dead_core_faults, crate::specs::MachinePart::dead_core))]
-fn dead_core(alloc: Global, item: &Value, path: &Name, width: u8, height: u8) -> Result<Spot, TextErr>
+fn dead_core(
+    alloc: Global,
+    item: &Value,
+    path: &Name,
+    width: u8,
+    height: u8,
+) -> Result<Spot, TextErr>
     ensures read { Gives (λ s. s) result (dead_core_faults width height path.now (view item.now)) (dead_core (view item.now)) }
     ensures inside { IfOk result (λ s. (s.chip.x < width) × (s.chip.y < height)) }
 {
@@ -115,7 +127,13 @@ fn link(number: u64) -> Dir
 }
 
 #[tactic(auto, unfolding(crate::specs::MachinePart::dead_link_faults, crate::specs::MachinePart::dead_link))]
-fn dead_link(alloc: Global, item: &Value, path: &Name, width: u8, height: u8) -> Result<Edge, TextErr>
+fn dead_link(
+    alloc: Global,
+    item: &Value,
+    path: &Name,
+    width: u8,
+    height: u8,
+) -> Result<Edge, TextErr>
     ensures read { Gives (λ e. e) result (dead_link_faults width height path.now (view item.now)) (dead_link (view item.now)) }
     ensures inside { IfOk result (λ e. (e.chip.x < width) × (e.chip.y < height)) }
 {
@@ -160,7 +178,13 @@ fn dead_links(
 }
 
 #[tactic(auto, using(crate::proofs::Firsts::firsts), unfolding(crate::specs::MachinePart::entries_faults))]
-fn listed_chips(alloc: Global, machine: &Value, path: &Name, width: u8, height: u8) -> Result<Seq<Chip>, TextErr>
+fn listed_chips(
+    alloc: Global,
+    machine: &Value,
+    path: &Name,
+    width: u8,
+    height: u8,
+) -> Result<Seq<Chip>, TextErr>
     ensures read { Gives (λ c. c) result (entries_faults (dead_chip_faults width height) path.now (codes "dead_chips") (view machine.now)) (map dead_chip (list_member (codes "dead_chips") (view machine.now))) }
     ensures inside { IfOk result (λ cs. All (λ c. (c.x < width) × (c.y < height)) cs) }
 {
@@ -170,7 +194,13 @@ fn listed_chips(alloc: Global, machine: &Value, path: &Name, width: u8, height: 
 }
 
 #[tactic(auto, using(crate::proofs::Firsts::firsts), unfolding(crate::specs::MachinePart::entries_faults))]
-fn listed_cores(alloc: Global, machine: &Value, path: &Name, width: u8, height: u8) -> Result<Seq<Spot>, TextErr>
+fn listed_cores(
+    alloc: Global,
+    machine: &Value,
+    path: &Name,
+    width: u8,
+    height: u8,
+) -> Result<Seq<Spot>, TextErr>
     ensures read { Gives (λ c. c) result (entries_faults (dead_core_faults width height) path.now (codes "dead_cores") (view machine.now)) (map dead_core (list_member (codes "dead_cores") (view machine.now))) }
     ensures inside { IfOk result (λ cs. All (λ s. (s.chip.x < width) × (s.chip.y < height)) cs) }
 {
@@ -180,7 +210,13 @@ fn listed_cores(alloc: Global, machine: &Value, path: &Name, width: u8, height: 
 }
 
 #[tactic(auto, using(crate::proofs::Firsts::firsts), unfolding(crate::specs::MachinePart::entries_faults))]
-fn listed_links(alloc: Global, machine: &Value, path: &Name, width: u8, height: u8) -> Result<Seq<Edge>, TextErr>
+fn listed_links(
+    alloc: Global,
+    machine: &Value,
+    path: &Name,
+    width: u8,
+    height: u8,
+) -> Result<Seq<Edge>, TextErr>
     ensures read { Gives (λ c. c) result (entries_faults (dead_link_faults width height) path.now (codes "dead_links") (view machine.now)) (map dead_link (list_member (codes "dead_links") (view machine.now))) }
     ensures inside { IfOk result (λ cs. All (λ e. (e.chip.x < width) × (e.chip.y < height)) cs) }
 {
@@ -199,7 +235,15 @@ fn machine_members(alloc: Global, machine: &Value, path: &Name) -> Result<Machin
     let width = number_of(alloc, machine, path, "width", 1, 64, None)? as u8;
     let height = number_of(alloc, machine, path, "height", 1, 64, None)? as u8;
     let wrap = flag_of(alloc, machine, path, "wrap", false)?;
-    let sdram = number_of(alloc, machine, path, "sdram", 0, CHIP_MEMORY, Some(CHIP_MEMORY))? as u32;
+    let sdram = number_of(
+        alloc,
+        machine,
+        path,
+        "sdram",
+        0,
+        CHIP_MEMORY,
+        Some(CHIP_MEMORY),
+    )? as u32;
     let dead_chips = listed_chips(alloc, machine, path, width, height)?;
     let dead_cores = listed_cores(alloc, machine, path, width, height)?;
     let dead_links = listed_links(alloc, machine, path, width, height)?;

@@ -12,12 +12,12 @@ invariant_of-result c =
     let names = said_of c.self.inside in
     let at : c.place.result ≡ place_in names c.args.name.now = cc in
     let more : map (λ n. n.now) c.push.new.self.items ≡ names ++ c.args.name.now ∷ [] =
-      rw c.in_ok-push.ensures.items (map_push _ c.self.inside.said.items c.args.name) in
+    rw c.in_ok-push.ensures.items (map_push _ c.self.inside.said.items c.args.name) in
     record {
       told = λ q.
-        c.self.invariant.told q
-        ∙ known_stays names c.args.name.now c.place.result c.is_some-known.result at c.is_some-known.ensures c.if-known.true q
-        ∙ ap (λ l. place_in l q) (sym more);
+          c.self.invariant.told q
+          ∙ known_stays names c.args.name.now c.place.result c.is_some-known.result at c.is_some-known.ensures c.if-known.true q
+          ∙ ap (λ l. place_in l q) (sym more);
     }
 
 pub invariant_of-result-2 : goal.invariant_of-result-2
@@ -25,14 +25,14 @@ invariant_of-result-2 c =
     let names = said_of c.self.inside in
     let at : c.place.result ≡ place_in names c.args.name.now = cc in
     let more : map (λ n. n.now) c.push.new.self.items ≡ names ++ c.args.name.now ∷ [] =
-      rw c.in_ok-push.ensures.items (map_push _ c.self.inside.said.items c.args.name) in
+    rw c.in_ok-push.ensures.items (map_push _ c.self.inside.said.items c.args.name) in
     let count : c.len-count.result ≡ length names =
-      omega (arith, length-map c.self.inside.said.items (λ n. n.now), c.self.inside.said.ok.0) in
+    omega (arith, length-map c.self.inside.said.items (λ n. n.now), c.self.inside.said.ok.0) in
     record {
       told = λ q.
-        hash_map_updates_str c.args.name.now c.self.inside.places c.insert.new.self _ c.in_ok-insert.ensures.updates q
-        ∙ ap (λ o. cond (bytes_eq c.args.name.now q) (Some c.len-count.result) o) (c.self.invariant.told q)
-        ∙ ap (λ j. cond (bytes_eq c.args.name.now q) (Some j) (place_in names q)) count
-        ∙ new_is_last names c.args.name.now c.place.result c.is_some-known.result at c.is_some-known.ensures c.if-known.false q
-        ∙ ap (λ l. place_in l q) (sym more);
+          hash_map_updates_str c.args.name.now c.self.inside.places c.insert.new.self _ c.in_ok-insert.ensures.updates q
+          ∙ ap (λ o. cond (bytes_eq c.args.name.now q) (Some c.len-count.result) o) (c.self.invariant.told q)
+          ∙ ap (λ j. cond (bytes_eq c.args.name.now q) (Some j) (place_in names q)) count
+          ∙ new_is_last names c.args.name.now c.place.result c.is_some-known.result at c.is_some-known.ensures c.if-known.false q
+          ∙ ap (λ l. place_in l q) (sym more);
     }
