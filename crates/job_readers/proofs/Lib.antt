@@ -5,3 +5,4 @@ pub mod EntryLengths
 pub mod PlaceSteps
 pub mod GraphSteps
 pub mod RunSteps
+pub mod Parts

@@ -7,3 +7,4 @@ pub mod MachinePart
 pub mod GraphPart
 pub mod RunPart
 pub mod Job
+pub mod WholeJob

@@ -8,6 +8,7 @@
 mod entries;
 mod events;
 mod graph_parts;
+mod jobs;
 mod machine_parts;
 mod members;
 mod names;
@@ -15,6 +16,7 @@ mod run_parts;
 mod versions;
 
 pub use graph_parts::graph_of;
+pub use jobs::{Job, job_of};
 pub use machine_parts::machine_of;
 pub use run_parts::run_of;
 pub use versions::version_of;
