@@ -1,0 +1,2 @@
+pub mod LongestFirst
+pub mod Signed
