@@ -1,10 +1,10 @@
 -- What the steps of a displacement add up to.
-use Rattle.std.proofs.Common.{◌≡◌, ℕ, zero, suc, ◌+◌, ◌-◌, ◌*◌, ◌<◌, ◌≤◌, max, min, Bool, true, false, cond, leb, List, [], ◌∷◌, ◌++◌, length, replicate, refl, sym, ap, ◌∙◌, subst, arith, inl, inr, ◌⊎◌}
+use Rattle.std.proofs.Common.{◌≡◌, ℕ, zero, suc, ◌+◌, ◌-◌, ◌*◌, max, min, cond, leb, List, [], ◌∷◌, length, replicate, refl, sym, ap, ◌∙◌, arith, inl, inr, ◌⊎◌}
 use Rattle.std.proofs.lemmas.Bool.{cases_Bool, cond-true, cond-false}
 use Rattle.std.proofs.lemmas.Int.{ints}
 use Rattle.std.proofs.lemmas.List.Sums.{sum_by-append, sum_by-cons}
 use Rattle.std.specs.List.{flat_map, sum_by, count_by}
-use Rattle.std.specs.Prelude.{ℤ, pos, negsuc, ◌-ℤ◌, neg_ℤ, unsigned_abs}
+use Rattle.std.specs.Prelude.{ℤ, pos, negsuc, ◌-ℤ◌, neg_ℤ}
 use Rattle.spin_base.specs.declared.chips.Dir.{Dir}
 use Rattle.spin_base.specs.declared.chips.Dir.TheVariants.{East, NorthEast, North, West, SouthWest, South}
 use Rattle.spin_base.specs.Links.{opposite_of}
@@ -12,7 +12,7 @@ use Rattle.machine_desc.specs.Live.{x_step, y_step}
 use Rattle.ner_trees.specs.declared.displacements.Disp.{Disp}
 use Rattle.ner_trees.specs.declared.walks.Run.{Run}
 use Rattle.ner_trees.specs.Geometry.{length_of, forth, back, disp}
-use Rattle.ner_trees.specs.LongestFirst.{median, run_of, runs_of, put_run, longest_first, steps_of, ldf_of, is_ahead, is_back, sum_of}
+use Rattle.ner_trees.specs.LongestFirst.{median, run_of, put_run, longest_first, steps_of, ldf_of, is_ahead, is_back, sum_of}
 use Rattle.ner_trees.proofs.Signed.{length_is, less_median, less_median_second, minus_median}
 
 -- how much the steps of a run weigh

@@ -1,9 +1,9 @@
 -- The walk of a displacement that goes the longest dimension first.
-use Rattle.std.specs.Prelude.{ℕ, Bool, true, false, nat_le, if◌then◌else◌, suc, ℤ, pos, negsuc, ◌-ℤ◌, neg_ℤ, List, [], ◌∷◌, replicate}
+use Rattle.std.specs.Prelude.{Bool, true, false, nat_le, if◌then◌else◌, suc, ℤ, pos, negsuc, ◌-ℤ◌, neg_ℤ, List, [], ◌∷◌, replicate}
 use Rattle.std.specs.Int.{int_max, int_min}
 use Rattle.std.specs.List.{flat_map, count_by}
 use Rattle.spin_base.specs.declared.chips.Dir.{Dir}
-use Rattle.spin_base.specs.declared.chips.Dir.TheVariants.{East, NorthEast, North, West, SouthWest, South}
+use Rattle.spin_base.specs.declared.chips.Dir.TheVariants.{East, North, SouthWest}
 use Rattle.spin_base.specs.Links.{opposite_of}
 use Rattle.machine_desc.specs.declared.steps.Step.{Step}
 use Rattle.machine_desc.specs.declared.steps.Step.TheVariants.{Back, Stay, Ahead}

@@ -1,7 +1,7 @@
-ghost use Rattle.std.specs.Prelude.{◌≡◌, ◌<◌, ◌≤◌};
+ghost use Rattle.std.specs.Prelude.{◌≡◌, ◌<◌, ◌≤◌, [], ◌∷◌, IfOk};
 
-use crate::{Disp, displacement, distance, ldf};
-use machine_desc::Machine;
+use crate::{Disp, Grown, Join, displacement, distance, ldf, ner};
+use machine_desc::{Edge, Machine};
 use spin_base::{Chip, Dir, Memory, Seq};
 use std::alloc::Global;
 use std::process::Abort;
@@ -75,5 +75,84 @@ fn a_torus_is_crossed_the_short_way(rt: HostRuntime) -> Result<(), Fail> {
     let (p, q) = (Chip { x: 0, y: 0 }, Chip { x: 7, y: 7 });
     assert!(rt; torus.live(p) && torus.live(q));
     assert_eq!(rt; displacement(&torus, p, q), Disp { a: -1, b: -1 });
+    Ok(())
+}
+
+fn edge(x: u8, y: u8, dir: Dir) -> Edge {
+    Edge {
+        chip: Chip { x, y },
+        dir,
+    }
+}
+
+// A list of two chips.
+fn both(alloc: Global, one: Chip, other: Chip) -> Result<Seq<Chip>, Memory>
+    ensures { IfOk result (λ s. s ≡ one ∷ other ∷ []) }
+{
+    Ok(Seq::from_vec(Vec::from_slice(alloc, &[one, other])?))
+}
+
+// The tree from chip (0, 0) to two targets.
+fn grow(
+    rt: &impl Abort,
+    alloc: Global,
+    machine: &Machine,
+    one: Chip,
+    other: Chip,
+) -> Result<(Vec<Edge>, Vec<Join>), Memory> {
+    let root = Chip { x: 0, y: 0 };
+    assert!(rt; machine.live(root) && machine.live(one) && machine.live(other));
+    let targets = both(alloc, one, other)?;
+    let Grown { tree, joins } = ner(alloc, machine, root, &targets)?;
+    Ok((tree.edges.into_vec(), joins.into_vec()))
+}
+
+#[test]
+fn a_target_is_joined_to_the_nearest_chip(rt: HostRuntime) -> Result<(), Fail> {
+    let grid = whole(rt.alloc(), 8, 8, false)?;
+    let (edges, _joins) = grow(
+        &rt,
+        rt.alloc(),
+        &grid,
+        Chip { x: 4, y: 0 },
+        Chip { x: 4, y: 1 },
+    )?;
+    let expected = [
+        edge(0, 0, Dir::East),
+        edge(1, 0, Dir::East),
+        edge(2, 0, Dir::East),
+        edge(3, 0, Dir::East),
+        edge(3, 0, Dir::NorthEast),
+    ];
+    assert_eq!(rt; edges.as_slice(), expected.as_slice());
+    Ok(())
+}
+
+#[test]
+fn beyond_the_radius_a_walk_leaves_the_root(rt: HostRuntime) -> Result<(), Fail> {
+    let grid = whole(rt.alloc(), 64, 64, false)?;
+    let (edges, joins) = grow(
+        &rt,
+        rt.alloc(),
+        &grid,
+        Chip { x: 22, y: 0 },
+        Chip { x: 44, y: 0 },
+    )?;
+    let second = Join {
+        target: Chip { x: 44, y: 0 },
+        near: Chip { x: 0, y: 0 },
+        start: Chip { x: 22, y: 0 },
+    };
+    assert_eq!(rt; joins.last().copied(), Some(second));
+    assert_eq!(rt; edges.len(), 44);
+    Ok(())
+}
+
+#[test]
+fn of_two_ways_round_a_torus_the_lower_is_taken(rt: HostRuntime) -> Result<(), Fail> {
+    let torus = whole(rt.alloc(), 2, 2, true)?;
+    let target = Chip { x: 1, y: 0 };
+    let (edges, _joins) = grow(&rt, rt.alloc(), &torus, target, target)?;
+    assert_eq!(rt; edges.as_slice(), [edge(0, 0, Dir::West)].as_slice());
     Ok(())
 }

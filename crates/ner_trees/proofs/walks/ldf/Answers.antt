@@ -1,10 +1,9 @@
-use Rattle.std.proofs.Common.{◌≡◌, ℕ, ◌≤◌, List, length, sym, ap, ◌∙◌, take, arith}
+use Rattle.std.proofs.Common.{◌≡◌, ℕ, ◌≤◌, List, length, ap, ◌∙◌, take, arith}
 use Rattle.std.specs.List.{flat_map}
 use Rattle.std.proofs.lemmas.List.{take_all}
 use Rattle.spin_base.specs.declared.chips.Dir.{Dir}
 use Rattle.ner_trees.specs.declared.displacements.Disp.{Disp}
 use Rattle.ner_trees.specs.declared.walks.Run.{Run}
-use Rattle.ner_trees.specs.Geometry.{length_of}
 use Rattle.ner_trees.specs.LongestFirst.{steps_of, longest_first, runs_of, ldf_of, sum_of}
 use Rattle.ner_trees.proofs.LongestFirst.{ldf_length, ldf_sum, length-longest_first}
 use Rattle.ner_trees.proofs.walks.ldf.Goals as goal
