@@ -1,5 +1,5 @@
 -- An image that is read is spelled by the bytes, and one that is spelled is read; so no spelling begins another.
-use Rattle.std.proofs.Common.{◌≡◌, ℕ, zero, suc, ◌+◌, ◌-◌, ◌*◌, ◌%◌, ◌^◌, ◌<◌, ◌≤◌, Bool, true, false, cond, eqb, List, [], ◌∷◌, ◌++◌, length, All, Option, Some, None, Result, Ok, Err, refl, sym, ap, subst, ◌∙◌, append_assoc, arith}
+use Rattle.std.proofs.Common.{◌≡◌, ℕ, zero, suc, ◌*◌, ◌%◌, ◌^◌, ◌<◌, ◌≤◌, Bool, true, false, cond, eqb, List, [], ◌∷◌, ◌++◌, length, Some, None, Result, Ok, Err, refl, sym, ap, subst, ◌∙◌, append_assoc, arith}
 use Rattle.std.specs.Prelude.{if◌then◌else◌}
 use Rattle.std.specs.List.{flat_map, AllByRecursion, AllPairs}
 use Rattle.std.specs.Int.{w8, w16, w32, to_le_bytes}
@@ -11,9 +11,9 @@ use Rattle.table_load.specs.declared.faults.Stop.{Stop}
 use Rattle.table_load.specs.declared.faults.Stop.TheVariants as stops
 use Rattle.table_load.specs.declared.tables.ChipTable.{ChipTable}
 use Rattle.table_load.specs.declared.tables.Image.{Image}
-use Rattle.table_load.specs.Images.{IsTable, IsValid, Spells, head_bytes, table_bytes}
+use Rattle.table_load.specs.Images.{IsTable, Spells, table_bytes}
 use Rattle.table_load.specs.Reading.{◌>>=◌, Fails, AreBytes, field, between, tables_at, image_at, place_in, fault_of}
-use Rattle.table_load.proofs.Numbers.{bind_ok, if_ok, ok_is, Takes, Takes-then, wide8, wide16, wide32, field_takes, field_again}
+use Rattle.table_load.proofs.Numbers.{bind_ok, if_ok, ok_is, Takes-then, wide8, wide16, wide32, field_takes, field_again}
 use Rattle.table_load.proofs.Rows.{between_is, between_from}
 use Rattle.table_load.proofs.TableReads.{Earlier, tables_take, tables_again, pairs_from_order, order_from_pairs}
 

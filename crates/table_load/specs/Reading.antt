@@ -1,6 +1,6 @@
 -- Reading an image from its first byte on, field by field, and the place of a fault: that of the first byte of the first
 -- field that is not there whole, or whose number is not allowed. The format is this project's own.
-use Rattle.std.specs.Prelude.{◌≡◌, ℕ, zero, suc, ◌-◌, ◌*◌, ◌^◌, ◌<◌, ◌%◌, ◌⊎◌, List, [], ◌∷◌, length, take, drop, Bool, true, ◌&&◌, ◌||◌, Option, Some, None, Result, Ok, Err, nat_lt, nat_le, ◌==◌, bit_and, slice_index, if◌then◌else◌}
+use Rattle.std.specs.Prelude.{◌≡◌, ℕ, zero, suc, ◌-◌, ◌*◌, ◌^◌, ◌<◌, ◌%◌, List, [], ◌∷◌, length, take, drop, Bool, true, ◌&&◌, ◌||◌, Option, Some, None, Result, Ok, Err, nat_lt, nat_le, ◌==◌, bit_and, slice_index, if◌then◌else◌}
 use Rattle.std.specs.Int.{Width, w8, w16, w32, byte_len, from_le_bytes}
 use Rattle.std.proofs.Common.{lit<}
 use Rattle.std.proofs.lemmas.Nat.{mod_below}

@@ -1,4 +1,3 @@
-use Rattle.std.proofs.Common.{◌≡◌, ◌++◌, ◌∷◌, []}
 use Rattle.std.proofs.lemmas.Result.{err_from_is_err_and}
 use Rattle.table_load.specs.Reading.{rows_at}
 use Rattle.table_load.proofs.Rows.{goes_on, ends, is_done}

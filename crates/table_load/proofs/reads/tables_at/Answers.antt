@@ -1,4 +1,4 @@
-use Rattle.std.proofs.Common.{◌≡◌, ◌++◌, ◌∷◌, [], None}
+use Rattle.std.proofs.Common.{None}
 use Rattle.std.proofs.lemmas.Result.{err_from_is_err_and}
 use Rattle.table_load.specs.Reading.{tables_at}
 use Rattle.table_load.proofs.TableReads.{goes_on, ends, is_done}
