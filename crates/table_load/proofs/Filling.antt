@@ -15,9 +15,11 @@ pub empty_is : empty_memory ≡ loaded []
 unfolding empty_memory
 empty_is = refl
 
-pub fill_more : (rows : List Entry) (p : ℕ) (x : Entry) (m n : List Entry) → p < length rows → length rows ≤ 1024 → x ≡ get_or rows p x
-    → m ≡ take p rows ++ replicate (1024 - p) unused → n ≡ set m p x → n ≡ take (p + 1) rows ++ replicate (1024 - (p + 1)) unused
-fill_more rows p x m n inside few is before step =
+pub fill_more : (rows : List Entry) (p first : ℕ) (x : Entry) (m n : List Entry) → first ≡ 0 → p < length rows → length rows ≤ 1024 → x ≡ get_or rows p x
+    → m ≡ take p rows ++ replicate (1024 - p) unused → n ≡ set m (first + p) x → n ≡ take (p + 1) rows ++ replicate (1024 - (p + 1)) unused
+fill_more rows p first x m n zeroth inside few is before given =
+    let same : first + p ≡ p = omega arith in
+    let step : n ≡ set m p x = given ∙ ap (λ k. set m k x) same in
     let left : 1024 - p ≡ suc (1024 - (p + 1)) = omega arith in
     let r = replicate (1024 - (p + 1)) unused in
     let rest : replicate (1024 - p) unused ≡ unused ∷ r = ap (λ k. replicate k unused) left in

@@ -1,5 +1,5 @@
 -- The image of a grid's tables, and its spelling as bytes. The format is this project's own.
-use Rattle.std.specs.Prelude.{◌≡◌, ℕ, ◌*◌, ◌<◌, ◌≤◌, ◌⊎◌, List, [], ◌∷◌, ◌++◌, length, All, AllPairs, bit_and, if◌then◌else◌}
+use Rattle.std.specs.Prelude.{◌≡◌, ℕ, ◌*◌, ◌^◌, ◌<◌, ◌≤◌, ◌⊎◌, List, [], ◌∷◌, ◌++◌, length, All, AllPairs, bit_and, if◌then◌else◌}
 use Rattle.std.specs.Int.{w16, w32, to_le_bytes}
 use Rattle.std.specs.List.{flat_map}
 use Rattle.spin_base.specs.declared.chips.Chip.{Chip}
@@ -7,9 +7,9 @@ use Rattle.spin_base.specs.declared.blocks.Entry.{Entry}
 use Rattle.table_load.specs.declared.tables.ChipTable.{ChipTable}
 use Rattle.table_load.specs.declared.tables.Image.{Image}
 
--- a row that a table may have: no bit of the key outside the mask, and some output
+-- a row that a table may have: no bit of the key outside the mask, a mask of 32 bits, and some output
 abbrev pub IsRow : Entry → Type 0
-IsRow e = (bit_and e.key e.mask ≡ e.key) × (0 < e.route.bits)
+IsRow e = (bit_and e.key e.mask ≡ e.key) × (e.mask < 2 ^ 32) × (0 < e.route.bits)
 
 -- chips are ordered by x, then y
 abbrev pub IsBefore : Chip → Chip → Type 0

@@ -5,11 +5,18 @@
 //! own; rows are those of the SpiNNaker datasheet.
 #![tactic(auto)]
 
+mod faults;
+mod fields;
+mod laws;
 mod loads;
+mod reads;
 mod tables;
 mod writes;
 
+pub use faults::ImageErr;
+pub use laws::{a_fault_is_where_no_image_is_spelled, an_image_has_one_spelling};
 pub use loads::load;
+pub use reads::decode;
 pub use tables::{ChipTable, Image};
 pub use writes::encode;
 

@@ -1,13 +1,17 @@
 // The lookup memories of a grid's chips.
-ghost use Rattle.std.specs.Prelude.{◌≡◌, ◌*◌, ◌≤◌, length, replicate, IfOk};
+ghost use Rattle.std.specs.Prelude.{◌≡◌, ◌*◌, ◌<◌, ◌≤◌, length, replicate, IfOk, OnOk};
 ghost use Rattle.table_load.specs.Images.{IsValid};
 ghost use Rattle.table_load.specs.Memories.{IsLoaded, loaded};
 ghost use Rattle.tcam_find.specs.Memory.{empty_memory};
 
 use crate::tables::Image;
+use range_store::Ranges;
 use spin_base::{Entry, Memory, Seq};
 use std::alloc::Global;
 use tcam_find::Tcam;
+
+/// How many places for entries a router has (SpiNNaker datasheet).
+const SIZE: u64 = 1024;
 
 /// One lookup memory for each chip of the grid, in the order of the chips' indices x * height + y: a chip's rows from
 /// place 0 on, and unused entries after them.
@@ -19,7 +23,7 @@ pub fn load(alloc: Global, image: &Image) -> Result<Seq<Tcam>, Memory>
     let mut memories = empty_memories(alloc, image.width as usize * height)?;
     for table in image.chips.as_slice() {
         let at = table.chip.x as usize * height + table.chip.y as usize;
-        fill(&mut memories[at], table.entries.as_slice());
+        fill(alloc, &mut memories[at], table.entries.as_slice())?;
     }
     Ok(Seq::from_vec(memories))
 }
@@ -36,12 +40,28 @@ fn empty_memories(alloc: Global, count: usize) -> Result<Vec<Tcam>, Memory>
 }
 
 /// Puts rows at the places 0 onwards of an empty memory.
-fn fill(memory: &mut Tcam, rows: &[Entry])
+fn fill(alloc: Global, memory: &mut Tcam, rows: &[Entry]) -> Result<(), Memory>
     requires empty { memory.old ≡ empty_memory }
+    requires some { 0 < length rows.now }
     requires few { length rows.now ≤ 1024 }
-    ensures { memory.new ≡ loaded rows.now }
+    ensures { OnOk result (memory.new ≡ loaded rows.now) }
 {
-    for (place, row) in rows.iter().enumerate() {
-        memory.set(place as u32, *row);
+    let first = take_places(alloc, rows.len() as u64)?;
+    for (at, row) in rows.iter().enumerate() {
+        memory.set(first + at as u32, *row);
+    }
+    Ok(())
+}
+
+/// Takes places for so many rows from the region of a memory's places, and answers the first of them, which is 0.
+fn take_places(alloc: Global, rows: u64) -> Result<u32, Memory>
+    requires some { 0 < rows }
+    requires few { rows ≤ 1024 }
+    ensures { IfOk result (λ first. first ≡ 0) }
+{
+    let mut places = Ranges::new(alloc, SIZE)?;
+    match places.take(rows, 1)? {
+        Some(first) => Ok(first as u32),
+        None => unreachable!(),
     }
 }

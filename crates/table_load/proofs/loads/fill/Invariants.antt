@@ -3,5 +3,5 @@ use Rattle.tcam_find.specs.Memory.{unused}
 use Rattle.table_load.proofs.loads.fill.Given as goal
 
 -- the rows so far, and unused entries after them
-abbrev pub invariant-loop-place : goal.invariant-loop-place
-invariant-loop-place l = l.memory ≡ take l.place l.rows ++ replicate (1024 - l.place) unused
+abbrev pub invariant-loop-at : goal.invariant-loop-at
+invariant-loop-at l = l.memory ≡ take l.at l.rows ++ replicate (1024 - l.at) unused

@@ -19,4 +19,4 @@ loop-table-preserved c =
     (subst (λ l. c.loop-table.table-index < length l) c.as_slice-table-items.ensures c.loop-table-test.true)
     (subst (λ l. c.table-item.result ≡ get_or l c.loop-table.table-index c.table-item.result) c.as_slice-table-items.ensures c.table-item.is)
     c.loop-table.memories.items c.loop-table.invariant.0 c.loop-table.invariant.1 c.fill.new.memory
-    (c.fill.ensures ∙ ap loaded c.as_slice.ensures)
+    (c.in_ok-fill.ensures ∙ ap loaded c.as_slice.ensures)
