@@ -7,6 +7,8 @@
 
 mod orders;
 mod reports;
+#[cfg(test)]
+mod tests;
 mod texts;
 mod unsents;
 mod waits;
