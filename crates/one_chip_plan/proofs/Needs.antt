@@ -45,7 +45,6 @@ pub record Needs (m : Description) (spots : List Spot) (table : List Entry) (net
   pub edgeless : AreEdgeless nets
 
 module _ (job : SmallJob) (plan : Plan) (small : IsSmall job) (planned : IsPlanOf job plan) where
-
   nets_planned : AllZip (IsNetPlan (spots_of (length job.vertices))) (enumerate_from 0 job.nets) plan.nets
   nets_planned = subst (λ s. AllZip (IsNetPlan s) (enumerate_from 0 job.nets) plan.nets) planned.spots planned.nets
 
@@ -75,9 +74,8 @@ module _ (job : SmallJob) (plan : Plan) (small : IsSmall job) (planned : IsPlanO
   }
 
   module _ (m : Description) (spots : List Spot) (table : List Entry) (nets : List NetPlan) (sources : List ℕ) (packets : List Packet)
-    (is_m : m ≡ one_chip) (is_spots : spots ≡ plan.spots) (is_table : table ≡ loaded plan.rows) (is_nets : nets ≡ plan.nets)
-    (is_sources : sources ≡ map (λ (net : SmallNet). net.source) job.nets) (is_packets : packets ≡ packets_of job) where
-
+      (is_m : m ≡ one_chip) (is_spots : spots ≡ plan.spots) (is_table : table ≡ loaded plan.rows) (is_nets : nets ≡ plan.nets)
+      (is_sources : sources ≡ map (λ (net : SmallNet). net.source) job.nets) (is_packets : packets ≡ packets_of job) where
     pub needs : Needs m spots table nets sources packets
     needs =
         subst (λ x. Needs x spots table nets sources packets) (sym is_m)

@@ -133,8 +133,7 @@ found_row a (x ∷ xs) rest (suc i) e up there fits =
 -- ---- the rows are right
 
 module _ (spots : List Spot) (jobs : List SmallNet) (nets : List NetPlan) (rows : List Entry)
-  (planned : AllZip (IsNetPlan spots) (enumerate_from 0 jobs) nets) (rowed : AllZip IsRow nets rows) where
-
+    (planned : AllZip (IsNetPlan spots) (enumerate_from 0 jobs) nets) (rowed : AllZip IsRow nets rows) where
   IsRightAt : NetPlan → ℕ → Port → Out → Chip → Type 0
   IsRightAt net key port o c = has (lookup (table_at one_chip (loaded rows ∷ []) c) key port) o ≡ is_wanted net.tree.edges net.targets c o
 

@@ -75,7 +75,6 @@ among_filter {X} p x (y ∷ xs) (inr later) e = by_test (among_filter p x xs lat
 -- ---- nets
 
 module _ (job : SmallJob) (small : IsSmall job) where
-
   n : ℕ
   n = length job.vertices
 
@@ -137,8 +136,7 @@ module _ (job : SmallJob) (small : IsSmall job) where
   pub sources_of : (nets : List NetPlan) → Planned nets → AreSources (spots_of (length job.vertices)) nets (map (λ (net : SmallNet). net.source) job.nets)
   sources_of nets planned i net at =
       let k = net_known nets planned i net at in
-      let source : ℕ = k.net_job.source in
-      (
+      let source : ℕ = k.net_job.source in (
         source,
         slice_get-map (λ (net : SmallNet). net.source) job.nets i ∙ ap (option_map (λ (net : SmallNet). net.source)) k.there,
         ap (vertex_at (spots_of (length job.vertices))) k.source ∙ vertex_is (length job.vertices) source k.among.source,
@@ -160,8 +158,7 @@ module _ (job : SmallJob) (small : IsSmall job) where
       let p_index : p.index ≡ 0 = ap (λ (q : Packet). q.index) (sym got.2) in
       let few = k.few in
       let key : net.block.key + p.index ≡ net.block.key = ap (λ j. net.block.key + j) p_index ∙ add-zero net.block.key in
-      let fits : net.block.key < 2 ^ 32 = subst (λ j. j < 2 ^ 32) (sym k.key) (lt_trans' number few) in
-      (
+      let fits : net.block.key < 2 ^ 32 = subst (λ j. j < 2 ^ 32) (sym k.key) (lt_trans' number few) in (
         net,
         ap (slice_get nets) p_net ∙ planned_one.1,
         record { fits = subst (λ j. j < 2 ^ 32) (sym key) fits; matches = ap (λ j. bit_and j net.block.mask) key ∙ net.block.within },

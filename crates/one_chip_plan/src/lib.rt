@@ -10,6 +10,5 @@ mod plans;
 mod rows;
 mod runs;
 
-
 pub use plans::{Plan, plan_of};
 pub use runs::{one_chip, run_plan};

@@ -72,7 +72,12 @@ fn nets_of(alloc: Global, spots: &Seq<Spot>, nets: &[SmallNet]) -> Result<Seq<Ne
 }
 
 // The plan of a net: its number is its key.
-fn net_plan(alloc: Global, spots: &Seq<Spot>, number: u32, net: &SmallNet) -> Result<NetPlan, Memory>
+fn net_plan(
+    alloc: Global,
+    spots: &Seq<Spot>,
+    number: u32,
+    net: &SmallNet,
+) -> Result<NetPlan, Memory>
     requires { net.now.source < 17 }
     ensures { IfOk result (λ plan. IsNetPlan spots.now (number, net.now) plan) }
 {
@@ -110,9 +115,9 @@ fn targets_of(alloc: Global, spots: &Seq<Spot>, targets: &[u32]) -> Result<Seq<S
 fn is_target(vertices: &[u32], spot: Spot) -> bool
     ensures { result ≡ is_core_of vertices.now spot }
 {
-    vertices
-        .iter()
-        .any(|vertex| 0 == spot.chip.x && 0 == spot.chip.y && *vertex as usize + 1 == usize::from(spot.core))
+    vertices.iter().any(|vertex| 0 == spot.chip.x
+        && 0 == spot.chip.y
+        && *vertex as usize + 1 == usize::from(spot.core))
 }
 
 // The row of each net.

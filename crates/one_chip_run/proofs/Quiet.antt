@@ -86,8 +86,7 @@ queue_here : (m : Description) → queue_at m the_chip Local ≡ 6
 queue_here m = ap (λ i. 7 * i + 6) (index_here m)
 
 module _ (m : Description) (spots : List Spot) (tables : List (List Entry)) (cap : ℕ)
-  (live : is_live_chip m the_chip ≡ true) (room : nat_lt 0 cap ≡ true) where
-
+    (live : is_live_chip m the_chip ≡ true) (room : nat_lt 0 cap ≡ true) where
   -- a vertex sends its first copy
   pub inject_one : (u : List (List McCopy)) (d : List Delivery) (v p : ℕ) (k : McCopy) (rest : List McCopy) →
       slice_get spots v ≡ Some (record { chip = the_chip; core = p }) → slice_get u v ≡ Some (k ∷ rest) →
@@ -163,11 +162,10 @@ module _ (m : Description) (spots : List Spot) (tables : List (List Entry)) (cap
       in
       let collected : after_event (waiting u d (in_hand k Local os) v (onward k)) (Collect v) ≡ state m spots tables cap u d' [] (in_hand k Local os) =
       moved (waiting u d (in_hand k Local os) v (onward k)) (state m spots tables cap u d' [] (in_hand k Local os)) (Collect v) (collect_one u d (in_hand k Local os) v (onward k) below)
-      in
-      (
+      in (
         d',
         ap (λ x. after_events s (Send the_chip (Core p) ∷ collect_events x)) vertex
-        ∙ (ap (λ t. after_event t (Collect v)) sent ∙ collected),
+            ∙ (ap (λ t. after_event t (Collect v)) sent ∙ collected),
       )
 
   -- all outputs of a hand are served
@@ -177,11 +175,10 @@ module _ (m : Description) (spots : List Spot) (tables : List (List Entry)) (cap
   serve_all u d k (o ∷ os) (first, rest) =
       let one = serve_one u d k o os first in
       let more = serve_all u one.0 k os rest in
-      let s = state m spots tables cap u d [] (in_hand k Local (o ∷ os)) in
-      (
+      let s = state m spots tables cap u d [] (in_hand k Local (o ∷ os)) in (
         more.0,
         after_events-append s (serve_events spots o) (flat_map (serve_events spots) os)
-        ∙ (ap (λ t. after_events t (flat_map (serve_events spots) os)) one.1 ∙ more.1),
+            ∙ (ap (λ t. after_events t (flat_map (serve_events spots) os)) one.1 ∙ more.1),
       )
 
   -- a packet is sent, and brought to its targets
@@ -197,9 +194,8 @@ module _ (m : Description) (spots : List Spot) (tables : List (List Entry)) (cap
       let injected : after_event s (Inject v) ≡ queued = moved s queued (Inject v) (inject_one u d v p k rest spot first) in
       let taken : after_event queued (Take the_chip Local) ≡ held = moved queued held (Take the_chip Local) (take_one (set u v rest) d k) in
       let sent : after_events s (send_events v) ≡ held = ap (λ t. after_event t (Take the_chip Local)) injected ∙ taken in
-      let served = serve_all (set u v rest) d k os each in
-      (
+      let served = serve_all (set u v rest) d k os each in (
         served.0,
         ap (λ t. after_events t (hand_events t)) sent
-        ∙ (ap (λ l. after_events held (flat_map (serve_events spots) l)) (outs_in-hand k os) ∙ served.1),
+            ∙ (ap (λ l. after_events held (flat_map (serve_events spots) l)) (outs_in-hand k os) ∙ served.1),
       )

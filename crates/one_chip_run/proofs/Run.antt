@@ -85,7 +85,6 @@ one_place : (n : ℕ) → n < 1 → n ≡ 0
 one_place n below = omega (arith, below)
 
 module _ (m : Description) (spots : List Spot) (tables : List (List Entry)) (cap : ℕ) (nets : List NetPlan) (one : IsOneChip m) (room : 1 ≤ cap) where
-
   -- what is known of a packet: its net, its source, and that its key leads to cores with vertices
   record Goes (source : Packet → ℕ) (p : Packet) : Type 0 where
     net : NetPlan
@@ -117,11 +116,10 @@ module _ (m : Description) (spots : List Spot) (tables : List (List Entry)) (cap
       let served = packet_served m spots tables cap first.live (lt-ltb 0 cap room) (unsent_from spots nets i (p ∷ ps)) d v first.core (first_copy i net p) (copies_from spots nets (i + 1) ps v)
       stands (first_of_source spots nets i p net v first.is_net first.vertex below ps) first.outs
       in
-      let more = run_from source (i + 1) served.0 ps others in
-      (
+      let more = run_from source (i + 1) served.0 ps others in (
         more.0,
         ap (λ t. after_packets t (map source ps)) (served.1 ∙ ap (λ u. state m spots tables cap u served.0 [] None) (rest_of_source spots nets i p net v first.is_net first.vertex below ps))
-        ∙ more.1,
+            ∙ more.1,
       )
 
   size_one : m.width * m.height ≡ 1
@@ -152,8 +150,7 @@ module _ (m : Description) (spots : List Spot) (tables : List (List Entry)) (cap
   }
 
   module _ (packets : List Packet) (sources : List ℕ) (of_nets : AreOfNets nets packets) (source_of : AreSources spots nets sources)
-    (stand : AreNetsOf (opened_mesh m spots tables cap nets packets) nets) (right : AreRight m tables nets) (edgeless : AreEdgeless nets) where
-
+      (stand : AreNetsOf (opened_mesh m spots tables cap nets packets) nets) (right : AreRight m tables nets) (edgeless : AreEdgeless nets) where
     abbrev opened : State
     opened = opened_mesh m spots tables cap nets packets
 

@@ -64,8 +64,7 @@ no_copy spots nets i p net v w is vertex other =
     ∙ ap (λ b. if b then Some (first_copy i net p) else None) (ap (λ x. option_map_or (λ n. n == w) x false) vertex ∙ nat_apart v w (λ same. other (sym same)))
 
 module _ (spots : List Spot) (nets : List NetPlan) (i : ℕ) (p : Packet) (net : NetPlan) (v : ℕ)
-  (is : slice_get nets p.net ≡ Some net) (vertex : vertex_at spots net.source ≡ Some v) (below : v < length spots) where
-
+    (is : slice_get nets p.net ≡ Some net) (vertex : vertex_at spots net.source ≡ Some v) (below : v < length spots) where
   -- the packet's copy is the first of its source
   pub first_of_source : (ps : List Packet) → slice_get (unsent_from spots nets i (p ∷ ps)) v ≡ Some (first_copy i net p ∷ copies_from spots nets (i + 1) ps v)
   first_of_source ps =

@@ -142,7 +142,5 @@ fn vertex_on(spots: &[Spot], core: u8) -> Option<usize>
     ensures vertex { result ≡ vertex_at spots.now (record { chip = the_chip; core = core }) }
     ensures below { IfSome result (λ v. v < length spots.now) }
 {
-    spots
-        .iter()
-        .position(|spot| 0 == spot.chip.x && 0 == spot.chip.y && core == spot.core)
+    spots.iter().position(|spot| 0 == spot.chip.x && 0 == spot.chip.y && core == spot.core)
 }

@@ -62,7 +62,6 @@ told_none None rest job none reads = none
 -- ---- parts
 
 module _ (o : Outcome) (P : SmallJob → Plan → State → Report → Type 0) where
-
   where_given : (job : SmallJob) (plan : Plan) (mesh : State) (report : Report) → GivesParts o job plan mesh report → P job plan mesh report → WhereGiven o P
   where_given job plan mesh report parts holds =
       subst (λ x. IfSome x (λ job. IfSome o.plan (λ plan. IfSome o.mesh (λ mesh. IfSome o.report (λ report. P job plan mesh report))))) (sym parts.job_is)
@@ -80,8 +79,7 @@ all_parts o job plan mesh report parts = (ap is_some parts.job_is, ap is_some pa
 -- ---- clauses
 
 module _ (words : List (String Global)) (left rest : Option (List ℕ)) (reads reads' : ℕ) (written more : Option (List ℕ)) (writes writes' : ℕ) (o : Outcome)
-  (ends : Ends words left rest reads reads' written more writes writes' o) where
-
+    (ends : Ends words left rest reads reads' written more writes writes' o) where
   -- what holds of all that is made holds of what is given
   pub made_clause : (P : SmallJob → Plan → State → Report → Type 0) →
       ((job : SmallJob) (plan : Plan) (mesh : State) (report : Report) → IsRun words → ReadsJob left job rest → IsMadeOf job plan mesh report → P job plan mesh report) →

@@ -18,7 +18,12 @@ use std::alloc::Global;
 use table_load::ChipTable;
 
 /// The report of a small job, its plan, and the mesh after the run.
-pub(crate) fn report_on(alloc: Global, job: &SmallJob, plan: &Plan, mesh: &Mesh) -> Result<Report, Memory>
+pub(crate) fn report_on(
+    alloc: Global,
+    job: &SmallJob,
+    plan: &Plan,
+    mesh: &Mesh,
+) -> Result<Report, Memory>
     requires small { IsSmall job.now }
     requires planned { IsPlanOf job.now plan.now }
     requires machine { mesh.now.machine ≡ the_machine }
@@ -33,7 +38,11 @@ pub(crate) fn report_on(alloc: Global, job: &SmallJob, plan: &Plan, mesh: &Mesh)
 }
 
 // Each vertex with its core.
-fn placed_of(alloc: Global, vertices: &Seq<Name>, spots: &Seq<Spot>) -> Result<Seq<(Name, Spot)>, Memory>
+fn placed_of(
+    alloc: Global,
+    vertices: &Seq<Name>,
+    spots: &Seq<Spot>,
+) -> Result<Seq<(Name, Spot)>, Memory>
     requires { length spots.now ≡ length vertices.now }
     ensures { IfOk result (λ placed. placed ≡ zip vertices.now spots.now) }
 {
@@ -46,7 +55,11 @@ fn placed_of(alloc: Global, vertices: &Seq<Name>, spots: &Seq<Spot>) -> Result<S
 }
 
 // Each net with its keys.
-fn keys_of(alloc: Global, jobs: &Seq<SmallNet>, nets: &Seq<NetPlan>) -> Result<Seq<(Name, Block)>, Memory>
+fn keys_of(
+    alloc: Global,
+    jobs: &Seq<SmallNet>,
+    nets: &Seq<NetPlan>,
+) -> Result<Seq<(Name, Block)>, Memory>
     requires { length nets.now ≡ length jobs.now }
     ensures { IfOk result (λ keys. keys ≡ zip (map (λ (net : SmallNet). net.name) jobs.now) (map (λ (net : NetPlan). net.block) nets.now)) }
 {

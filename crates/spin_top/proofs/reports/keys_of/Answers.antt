@@ -16,5 +16,5 @@ loop-i-preserved c =
     ∙ (ap {B = List (List ℕ × Block)} (λ l. l ++ (c.in_ok-name.name, c.get-in-loop-i.result.now.block) ∷ []) c.loop-i.invariant
     ∙ (ap {B = List (List ℕ × Block)} (λ n. zip (take c.loop-i.i names) (take c.loop-i.i blocks) ++ (n, c.get-in-loop-i.result.now.block) ∷ []) (c.in_ok-name.ensures ∙ c.as_str.ensures)
     ∙ sym (pair_more names blocks c.loop-i.i c.get.result.now.name c.get-in-loop-i.result.now.block
-      (slice_get-map (λ (net : SmallNet). net.name) c.args.jobs.now c.loop-i.i ∙ ap (option_map (λ (net : SmallNet). net.name)) c.get.ensures)
-      (slice_get-map (λ (net : NetPlan). net.block) c.args.nets.now c.loop-i.i ∙ ap (option_map (λ (net : NetPlan). net.block)) c.get-in-loop-i.ensures))))
+    (slice_get-map (λ (net : SmallNet). net.name) c.args.jobs.now c.loop-i.i ∙ ap (option_map (λ (net : SmallNet). net.name)) c.get.ensures)
+    (slice_get-map (λ (net : NetPlan). net.block) c.args.nets.now c.loop-i.i ∙ ap (option_map (λ (net : NetPlan). net.block)) c.get-in-loop-i.ensures))))
