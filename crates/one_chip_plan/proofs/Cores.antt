@@ -1,6 +1,6 @@
 -- The cores of a small job's vertices are different, and usable.
-use Rattle.std.proofs.Common.{◌≡◌, ◌≢◌, ℕ, ◌+◌, ◌<◌, ◌≤◌, List, map, Bool, true, refl, ap, sym, ◌∙◌, subst, arith, length, get_or, nat_le, IsTrue, ◌&&◌, zero-add}
-use Rattle.std.specs.List.{range_with_len, All, AllPairs}
+use Rattle.std.proofs.Common.{◌≡◌, ◌≢◌, ℕ, ◌+◌, ◌<◌, ◌≤◌, refl, ap, sym, ◌∙◌, subst, arith, length, get_or, zero-add}
+use Rattle.std.specs.List.{All, AllPairs}
 use Rattle.std.proofs.lemmas.Bool.{le-leb}
 use Rattle.std.proofs.lemmas.List.FromFn.{length-map-range_with_len, get_or-map-range_with_len}
 use Rattle.spin_base.specs.declared.chips.Spot.{Spot}

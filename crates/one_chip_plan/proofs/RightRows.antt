@@ -1,23 +1,22 @@
 -- The rows of a small job are right for its nets.
-use Rattle.std.proofs.Common.{◌≡◌, ◌≢◌, ℕ, zero, suc, ◌+◌, ◌-◌, ◌%◌, ◌^◌, ◌<◌, ◌≤◌, ◌==◌, Bool, true, false, cond, bit_and, List, [], ◌∷◌, ◌++◌, length, get_or, replicate, Option, Some, None, refl, sym, ap, ◌∙◌, subst, arith, mod-eq_of_lt, find, take, inl, inr}
+use Rattle.std.proofs.Common.{◌≡◌, ◌≢◌, ℕ, zero, suc, ◌+◌, ◌-◌, ◌^◌, ◌<◌, ◌==◌, true, false, cond, bit_and, List, [], ◌∷◌, ◌++◌, length, get_or, replicate, Option, Some, refl, sym, ap, ◌∙◌, subst, arith, mod-eq_of_lt, find, take, inl, inr}
 use Rattle.std.specs.Option.{option_map_or}
 use Rattle.std.specs.List.{All, AllZip, Contains, enumerate_from, slice_get, slice_index_or}
 use Rattle.std.proofs.lemmas.Nat.{and_mask}
 use Rattle.std.proofs.lemmas.List.{take_more, length-take-le}
-use Rattle.std.proofs.lemmas.Option.{slice_get_within, get_or_from_slice_get, slice_get-get_or}
+use Rattle.std.proofs.lemmas.Option.{slice_get-get_or}
 use Rattle.spin_base.specs.declared.chips.Chip.{Chip}
 use Rattle.spin_base.specs.declared.chips.Spot.{Spot}
 use Rattle.spin_base.specs.declared.chips.Port.{Port}
-use Rattle.spin_base.specs.declared.chips.Port.TheVariants.{Local}
 use Rattle.spin_base.specs.declared.routes.Out.{Out}
 use Rattle.spin_base.specs.declared.blocks.Block.{Block}
 use Rattle.spin_base.specs.declared.blocks.Entry.{Entry}
 use Rattle.spin_base.specs.Lookup.{lookup, matches, default_route}
-use Rattle.spin_base.specs.Outputs.{has, IsOutput}
+use Rattle.spin_base.specs.Outputs.{has}
 use Rattle.tcam_find.specs.Memory.{unused}
 use Rattle.machine_desc.specs.declared.trees.Edge.{Edge}
 use Rattle.net_tables.specs.declared.nets.NetPlan.{NetPlan}
-use Rattle.net_tables.specs.Outputs.{is_wanted, ComesIn}
+use Rattle.net_tables.specs.Outputs.{is_wanted}
 use Rattle.net_tables.specs.RightTables.{IsKeyOf, RoutesByTree, AreRight, table_at}
 use Rattle.one_chip_jobs.specs.declared.small_jobs.SmallNet.{SmallNet}
 use Rattle.one_chip_plan.specs.OneChip.{one_chip, the_chip}

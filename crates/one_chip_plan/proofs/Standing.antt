@@ -1,8 +1,8 @@
 -- The nets of a small job's plan stand on its mesh, and its packets have keys of their nets.
-use Rattle.std.proofs.Common.{◌≡◌, ◌≢◌, ℕ, zero, suc, ◌+◌, ◌-◌, ◌^◌, ◌<◌, ◌≤◌, ◌==◌, Bool, true, false, cond, bit_and, List, [], ◌∷◌, ◌++◌, map, length, get_or, filter, Option, Some, None, refl, sym, ap, ◌∙◌, subst, arith, add-zero, inl, inr, lit≤}
+use Rattle.std.proofs.Common.{◌≡◌, ◌≢◌, ℕ, ◌+◌, ◌^◌, ◌<◌, ◌≤◌, Bool, true, false, cond, bit_and, List, [], ◌∷◌, map, length, get_or, filter, Option, Some, None, refl, sym, ap, ◌∙◌, subst, arith, add-zero, inl, inr, lit≤}
 use Rattle.std.specs.Option.{option_map}
-use Rattle.std.specs.List.{All, AllPairs, AllZip, Contains, enumerate_from, list_any, slice_get, slice_index, slice_index_or}
-use Rattle.std.proofs.lemmas.List.Elements.{All-filter, All-from_recursion, All-map, All-nil, All-contains_itself}
+use Rattle.std.specs.List.{All, AllPairs, AllZip, Contains, enumerate_from, slice_get, slice_index, slice_index_or}
+use Rattle.std.proofs.lemmas.List.Elements.{All-filter, All-map, All-nil, All-contains_itself}
 use Rattle.std.proofs.lemmas.List.Kept.{AllPairs-filter}
 use Rattle.std.proofs.lemmas.Option.{slice_get_within, get_or_from_slice_get, slice_get-get_or, slice_get-map}
 use Rattle.spin_base.specs.declared.chips.Chip.{Chip}
@@ -13,22 +13,21 @@ use Rattle.spin_base.specs.Equality.{spot_eq}
 use Rattle.spin_base.proofs.Equality.{spot_eq_same}
 use Rattle.machine_desc.specs.declared.trees.Edge.{Edge}
 use Rattle.machine_desc.specs.Live.{IsLiveLink}
-use Rattle.machine_desc.specs.RoutingTree.{IsTreeChip, IsTreeTo, IsRoutingTree, IsPath, end_of}
+use Rattle.machine_desc.specs.RoutingTree.{IsTreeChip, IsRoutingTree, end_of}
 use Rattle.net_tables.specs.declared.nets.NetPlan.{NetPlan}
-use Rattle.net_tables.specs.RightTables.{IsKeyOf}
-use Rattle.mesh_core.specs.State.{State, vertex_at}
-use Rattle.mesh_core.specs.Ledger.{AreNetsOf, HaveDisjointBlocks}
+use Rattle.mesh_core.specs.State.{vertex_at}
+use Rattle.mesh_core.specs.Ledger.{AreNetsOf}
 use Rattle.mesh_core.specs.Opened.{opened_mesh, AreOfNets}
 use Rattle.mesh_core.proofs.Exchange.{Among, among_contains, contains_among}
 use Rattle.mesh_core.proofs.Searching.{among_any}
 use Rattle.mesh_core.proofs.Standing.{map_among}
 use Rattle.mesh_core.proofs.Ways.{vertex_at_stands, vertex_there}
-use Rattle.one_chip_run.specs.OnOneChip.{IsOneChip, AreEdgeless, AreSources}
+use Rattle.one_chip_run.specs.OnOneChip.{AreEdgeless, AreSources}
 use Rattle.one_chip_jobs.specs.SmallJobs.{IsNetAmong, IsSmall}
 use Rattle.one_chip_jobs.specs.declared.small_jobs.SmallNet.{SmallNet}
 use Rattle.one_chip_jobs.specs.declared.small_jobs.SmallJob.{SmallJob}
 use Rattle.one_chip_plan.specs.OneChip.{one_chip, the_chip, spot_of, spots_of}
-use Rattle.one_chip_plan.specs.Plans.{is_core_of, target_spots, IsNetPlan, IsRow, packet_of, packets_of}
+use Rattle.one_chip_plan.specs.Plans.{is_core_of, target_spots, IsNetPlan, packet_of, packets_of}
 use Rattle.one_chip_plan.proofs.Cores.{length-spots_of, spot_at, spots_different}
 use Rattle.one_chip_plan.proofs.RightRows.{zip_at, zip_at', numbered, numbered', All-by_place, only_key}
 

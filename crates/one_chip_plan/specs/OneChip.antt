@@ -1,5 +1,5 @@
 -- The machine and the cores of a small job.
-use Rattle.std.specs.Prelude.{ℕ, ◌+◌, Bool, false, List, [], map}
+use Rattle.std.specs.Prelude.{ℕ, ◌+◌, false, List, [], map}
 use Rattle.std.specs.List.{range_with_len}
 use Rattle.spin_base.specs.declared.chips.Chip.{Chip}
 use Rattle.spin_base.specs.declared.chips.Spot.{Spot}

@@ -1,6 +1,6 @@
 -- Where the vertices of a small job stand, which keys its nets have, and the router's rows (this project's own; rows as
 -- in the SpiNNaker datasheet).
-use Rattle.std.specs.Prelude.{◌≡◌, ℕ, ◌+◌, ◌-◌, ◌==◌, List, [], ◌++◌, length, map, filter, replicate, Bool, None}
+use Rattle.std.specs.Prelude.{◌≡◌, ℕ, ◌-◌, List, [], ◌++◌, length, map, filter, replicate, Bool, None}
 use Rattle.std.specs.List.{AllZip, enumerate_from, list_any}
 use Rattle.spin_base.specs.declared.chips.Spot.{Spot}
 use Rattle.spin_base.specs.declared.routes.Out.{Out}

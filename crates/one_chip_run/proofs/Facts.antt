@@ -1,9 +1,8 @@
 -- Right tables on one chip bring each packet to cores with vertices.
-use Rattle.std.proofs.Common.{◌≡◌, ℕ, zero, suc, ◌+◌, ◌<◌, refl, sym, ap, ◌∙◌, subst, true, false, Bool, List, [], ◌∷◌, ◌++◌, map, length, Option, Some, None, filter, inl, inr, arith, cond, IsTrue}
-use Rattle.std.specs.List.{slice_get, list_any, All, Contains, range_with_len}
+use Rattle.std.proofs.Common.{◌≡◌, ℕ, zero, suc, ◌+◌, ◌<◌, refl, sym, ◌∙◌, subst, true, false, Bool, List, [], ◌∷◌, ◌++◌, map, filter, arith, cond}
+use Rattle.std.specs.List.{All, Contains, range_with_len}
 use Rattle.std.proofs.lemmas.List.Elements.{All-contains}
 use Rattle.spin_base.specs.declared.chips.Spot.{Spot}
-use Rattle.spin_base.specs.declared.chips.Port.TheVariants.{Local}
 use Rattle.spin_base.specs.declared.routes.Out.{Out}
 use Rattle.spin_base.specs.declared.routes.Out.TheVariants.{Link, Core}
 use Rattle.spin_base.specs.declared.routes.Route.{Route}
@@ -11,8 +10,7 @@ use Rattle.spin_base.specs.Outputs.{all_outs, core_outs, link_outs, has, outs_of
 use Rattle.spin_base.specs.Equality.{spot_eq}
 use Rattle.spin_base.proofs.Equality.{spot_eq_true}
 use Rattle.net_tables.specs.Outputs.{is_wanted}
-use Rattle.mesh_core.specs.State.{vertex_at}
-use Rattle.mesh_core.proofs.Exchange.{Among, among_contains}
+use Rattle.mesh_core.proofs.Exchange.{among_contains}
 use Rattle.mesh_core.proofs.Searching.{any_among}
 use Rattle.mesh_core.proofs.ServingLaws.{vertex_at-below}
 use Rattle.mesh_core.proofs.Ways.{vertex_there}

@@ -1,5 +1,5 @@
 -- A packet of a job, its net, and the vertex that sends it.
-use Rattle.std.proofs.Common.{◌≡◌, ℕ, ◌+◌, ◌<◌, ◌≤◌, ◌^◌, refl, sym, ap, ◌∙◌, subst, List, [], ◌∷◌, ◌++◌, map, take, length, get_or, Some, arith}
+use Rattle.std.proofs.Common.{◌≡◌, ℕ, ◌+◌, ◌<◌, sym, ap, ◌∙◌, List, [], ◌∷◌, ◌++◌, take, length, Some, arith}
 use Rattle.std.specs.List.{slice_get, slice_index_or}
 use Rattle.std.proofs.lemmas.List.{take_more, length-take-le}
 use Rattle.std.proofs.lemmas.Option.{slice_get_within, get_or_from_slice_get, slice_get-get_or}
@@ -14,7 +14,7 @@ use Rattle.mesh_core.specs.Step.{appended}
 use Rattle.mesh_core.specs.Opened.{empty_mesh, opened_mesh, first_copy, AreOfNets}
 use Rattle.mesh_core.proofs.ServingLaws.{vertex_at-below}
 use Rattle.one_chip_run.specs.OnOneChip.{AreSources}
-use Rattle.one_chip_run.proofs.Unsent.{opened_more, opened_none, unsent_from}
+use Rattle.one_chip_run.proofs.Unsent.{opened_more, opened_none}
 
 -- what is known of a packet of a job
 pub record Known (spots : List Spot) (nets : List NetPlan) (sources : List ℕ) (p : Packet) : Type 0 where

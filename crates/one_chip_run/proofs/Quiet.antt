@@ -1,5 +1,5 @@
 -- What the events of one packet do to a mesh of one chip in which nothing waits.
-use Rattle.std.proofs.Common.{◌≡◌, ℕ, zero, suc, ◌*◌, ◌<◌, ◌+◌, zero-mul, refl, sym, ap, ◌∙◌, true, ◌&&◌, ◌||◌, if◌then◌else◌, List, [], ◌∷◌, ◌++◌, set, length, replicate, Option, Some, None, nat_lt, arith}
+use Rattle.std.proofs.Common.{◌≡◌, ℕ, zero, suc, ◌*◌, ◌<◌, ◌+◌, zero-mul, refl, sym, ap, ◌∙◌, true, ◌||◌, if◌then◌else◌, List, [], ◌∷◌, ◌++◌, set, length, replicate, Option, Some, None, nat_lt, arith}
 use Rattle.std.specs.List.{slice_get, flat_map, list_any}
 use Rattle.std.proofs.lemmas.Bool.{and_from}
 use Rattle.spin_base.specs.Equality.{out_eq}
@@ -15,7 +15,7 @@ use Rattle.spin_base.specs.declared.copies.Event.{Event}
 use Rattle.spin_base.specs.declared.copies.Event.TheVariants.{Inject, Take, Send, Collect}
 use Rattle.machine_desc.specs.Description.{Description}
 use Rattle.machine_desc.specs.Live.{index_of, is_live_chip}
-use Rattle.mesh_core.specs.State.{State, Held, Behind, core, behind, core_of, queue_at, vertex_at}
+use Rattle.mesh_core.specs.State.{State, Held, core, behind, core_of, queue_at, vertex_at}
 use Rattle.mesh_core.specs.Queues.{front_of, shortened}
 use Rattle.mesh_core.specs.Serving.{copy_served, inputs_after, cores_after, hands_after}
 use Rattle.mesh_core.specs.Step.{after_event, after_events, appended, collected, has_room, has_room_behind, in_hand, onward, outputs, serves, stepped, without}

@@ -1,5 +1,5 @@
 -- All packets of a job are brought to their targets on one chip.
-use Rattle.std.proofs.Common.{◌≡◌, ◌≢◌, ℕ, zero, suc, ◌+◌, ◌*◌, ◌<◌, ◌≤◌, refl, sym, ap, ◌∙◌, subst, true, false, Bool, nat_lt, List, [], ◌∷◌, ◌++◌, map, length, replicate, Option, Some, None, arith, inl, inr}
+use Rattle.std.proofs.Common.{◌≡◌, ◌≢◌, ℕ, suc, ◌+◌, ◌*◌, ◌<◌, ◌≤◌, refl, sym, ap, ◌∙◌, subst, true, nat_lt, List, [], ◌∷◌, ◌++◌, map, length, replicate, Option, Some, None, arith, inl}
 use Rattle.std.specs.List.{slice_get, slice_index_or, flat_map, All, AllPairs, Contains, range_with_len}
 use Rattle.std.proofs.lemmas.Bool.{lt-ltb, ltb-true}
 use Rattle.std.proofs.lemmas.List.FromFn.{length-map-range_with_len}
@@ -27,7 +27,7 @@ use Rattle.net_tables.specs.RightTables.{AreRight, RoutesByTree, table_at}
 use Rattle.mesh_core.specs.State.{State, Held, IsMesh, vertex_at}
 use Rattle.mesh_core.specs.Step.{after_events}
 use Rattle.mesh_core.specs.Ledger.{AreNetsOf}
-use Rattle.mesh_core.specs.Opened.{empty_mesh, opened_mesh, first_copy, AreOfNets, MeetsJobLedger}
+use Rattle.mesh_core.specs.Opened.{opened_mesh, first_copy, AreOfNets, MeetsJobLedger}
 use Rattle.mesh_core.specs.Expected.{IsAtRest, AreAsExpected}
 use Rattle.mesh_core.proofs.Changes.{IsMesh-empty}
 use Rattle.mesh_core.proofs.DeliveredLaw.{delivered_as_expected}
@@ -35,7 +35,7 @@ use Rattle.mesh_core.proofs.Events.{and_true_left, and_true_right}
 use Rattle.mesh_core.proofs.EventsLaw.{events_keep_job}
 use Rattle.mesh_core.proofs.OpenedLaw.{opened_meets_ledger}
 use Rattle.mesh_core.proofs.ServingLaws.{vertex_at-below}
-use Rattle.mesh_core.proofs.Ways.{vertex_at_stands, vertex_there}
+use Rattle.mesh_core.proofs.Ways.{vertex_at_stands}
 use Rattle.one_chip_run.specs.OnOneChip.{the_chip, IsOneChip, AreEdgeless, AreSources}
 use Rattle.one_chip_run.specs.HasRun.{HasRun, DropsNone}
 use Rattle.one_chip_run.specs.DrainEvents.{send_events, collect_events, serve_events, hand_events, after_packet, after_packets, outs_in}

@@ -1,5 +1,5 @@
 -- Machines of one chip, and nets on them.
-use Rattle.std.specs.Prelude.{◌≡◌, ℕ, List, [], All, Option, Some, slice_get}
+use Rattle.std.specs.Prelude.{◌≡◌, ℕ, List, [], All, Some, slice_get}
 use Rattle.spin_base.specs.declared.chips.Chip.{Chip}
 use Rattle.spin_base.specs.declared.chips.Spot.{Spot}
 use Rattle.machine_desc.specs.Description.{Description}

@@ -1,4 +1,4 @@
-use Rattle.std.proofs.Common.{◌≡◌, ◌+◌, ℕ, sym, subst, take}
+use Rattle.std.proofs.Common.{◌+◌, sym, subst, take}
 use Rattle.std.specs.List.{AllZip, enumerate_from}
 use Rattle.one_chip_jobs.specs.declared.small_jobs.SmallNet.{SmallNet}
 use Rattle.one_chip_plan.specs.Plans.{IsNetPlan}

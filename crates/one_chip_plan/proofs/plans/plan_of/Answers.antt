@@ -1,11 +1,11 @@
-use Rattle.std.proofs.Common.{◌≡◌, ◌<◌, [], length, sym, ap, ◌∙◌, subst}
+use Rattle.std.proofs.Common.{◌≡◌, ◌<◌, [], sym, ap, ◌∙◌, subst}
 use Rattle.std.specs.List.{All, AllZip, enumerate_from}
 use Rattle.spin_base.specs.declared.chips.Spot.{Spot}
 use Rattle.net_tables.specs.declared.nets.NetPlan.{NetPlan}
 use Rattle.one_chip_plan.specs.OneChip.{the_chip, spots_of}
 use Rattle.one_chip_plan.specs.Plans.{IsNetPlan, IsRow}
 use Rattle.one_chip_plan.proofs.Needs.{plan_right}
-use Rattle.one_chip_plan.proofs.Standing.{sources_low, edgeless, targets_low, targets_here}
+use Rattle.one_chip_plan.proofs.Standing.{edgeless, targets_low, targets_here}
 use Rattle.one_chip_plan.proofs.plans.plan_of.Goals as goal
 
 pub rows_of-requires-clause-edgeless : goal.rows_of-requires-clause-edgeless

@@ -1,4 +1,4 @@
-use Rattle.std.proofs.Common.{◌≡◌, ◌+◌, sym, subst, take}
+use Rattle.std.proofs.Common.{◌+◌, sym, subst, take}
 use Rattle.std.specs.List.{AllZip}
 use Rattle.net_tables.specs.declared.nets.NetPlan.{NetPlan}
 use Rattle.one_chip_plan.specs.Plans.{IsRow}

@@ -1,5 +1,4 @@
-use Rattle.std.proofs.Common.{◌≡◌, ◌∙◌, ap, set, refl}
-use Rattle.tcam_find.specs.Memory.{empty_memory}
+use Rattle.std.proofs.Common.{◌∙◌}
 use Rattle.one_chip_plan.proofs.Loading.{nothing_loaded, load_more}
 use Rattle.one_chip_plan.proofs.runs.loaded.Goals as goal
 

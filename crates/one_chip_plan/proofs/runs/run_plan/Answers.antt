@@ -1,4 +1,4 @@
-use Rattle.std.proofs.Common.{◌≡◌, ◌≤◌, ◌∙◌, length, map, sym, ap, subst}
+use Rattle.std.proofs.Common.{◌≤◌, ◌∙◌, length, map, sym, ap, subst}
 use Rattle.one_chip_jobs.specs.declared.small_jobs.SmallNet.{SmallNet}
 use Rattle.one_chip_plan.specs.Plans.{loaded, packet_of}
 use Rattle.one_chip_plan.proofs.Needs.{needs, few_rows, run_same}

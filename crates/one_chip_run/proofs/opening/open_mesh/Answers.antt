@@ -1,9 +1,9 @@
-use Rattle.std.proofs.Common.{◌≡◌, ℕ, ◌+◌, ◌<◌, length, sym, ap, ◌∙◌, subst, None}
+use Rattle.std.proofs.Common.{◌+◌, ◌<◌, length, sym, ap, ◌∙◌, subst, None}
 use Rattle.std.specs.List.{slice_index_or}
 use Rattle.std.proofs.lemmas.Option.{get_or_from_slice_get}
 use Rattle.spin_base.specs.declared.copies.Packet.{Packet}
 use Rattle.net_tables.specs.declared.nets.NetPlan.{NetPlan}
-use Rattle.one_chip_run.proofs.Opened.{Known, known, opens, grows}
+use Rattle.one_chip_run.proofs.Opened.{known, opens, grows}
 use Rattle.one_chip_run.proofs.opening.open_mesh.Goals as goal
 
 pub loop-number-init : goal.loop-number-init

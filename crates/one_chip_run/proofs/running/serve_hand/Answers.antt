@@ -1,4 +1,4 @@
-use Rattle.std.proofs.Common.{◌≡◌, ◌∙◌}
+use Rattle.std.proofs.Common.{◌∙◌}
 use Rattle.one_chip_run.proofs.Loops.{serve_more}
 use Rattle.one_chip_run.proofs.running.serve_hand.Goals as goal
 
