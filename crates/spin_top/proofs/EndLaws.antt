@@ -1,5 +1,5 @@
 -- What follows from how a call ends.
-use Rattle.std.proofs.Common.{◌≡◌, ◌⊎◌, ℕ, ◌<◌, ◌≤◌, List, [], ◌∷◌, length, String, Option, Some, None, IfSome, is_some, refl, sym, ap, ◌∙◌, subst, arith, inl, inr, codes, decimal}
+use Rattle.std.proofs.Common.{◌≡◌, ◌⊎◌, ℕ, List, [], ◌∷◌, length, String, Option, Some, None, IfSome, is_some, refl, sym, ap, ◌∙◌, subst, arith, inl, inr}
 use Rattle.std.specs.declared.alloc.Global.{Global}
 use Rattle.spin_base.specs.Outside.{FaultsRose, Takes, TakesProperPrefix}
 use Rattle.mesh_core.specs.State.{State}
@@ -12,9 +12,9 @@ use Rattle.spin_top.specs.declared.commands.Command.TheVariants.{Run, Trace, Com
 use Rattle.spin_top.specs.declared.outcomes.Outcome.{Outcome}
 use Rattle.spin_top.specs.declared.outcomes.Refusal.{Refusal}
 use Rattle.spin_top.specs.declared.outcomes.Refusal.TheVariants.{Usage, ReadFault, WriteFault, Memory, Unbuilt}
-use Rattle.spin_top.specs.Calls.{WhereGiven, GivesAllParts, GivesFor, IsCut, Writes, HasSmallJob, TellsNoSmallJob, IsRefused, ComesUsage, ComesUnbuilt}
+use Rattle.spin_top.specs.Calls.{WhereGiven, GivesAllParts, GivesFor, Writes, HasSmallJob, TellsNoSmallJob, IsRefused, ComesUsage, ComesUnbuilt}
 use Rattle.spin_top.specs.Commands.{Spells, texts_of, IsCommand, IsOtherCommand}
-use Rattle.spin_top.specs.Ends.{Ends, reported, report_cut, refused, refusal_cut, GivesNoPart, GivesParts, HasCause, HasNoSmallJob, IsRun, ReadsJob, small_job_in}
+use Rattle.spin_top.specs.Ends.{Ends, reported, report_cut, refused, refusal_cut, GivesNoPart, GivesParts, HasCause, HasNoSmallJob, IsRun, ReadsJob}
 use Rattle.spin_top.specs.Outcomes.{line_of, status_at}
 use Rattle.spin_top.specs.Runs.{IsMadeOf}
 

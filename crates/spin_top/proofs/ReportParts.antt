@@ -1,8 +1,7 @@
 -- Lists side by side.
-use Rattle.std.proofs.Common.{◌≡◌, ℕ, zero, suc, ◌+◌, List, [], ◌∷◌, ◌++◌, map, take, length, Some, refl, sym, ap, ◌∙◌, arith}
-use Rattle.std.specs.List.{slice_get, zip, AllZip, enumerate_from}
+use Rattle.std.proofs.Common.{◌≡◌, ℕ, zero, suc, ◌+◌, List, [], ◌∷◌, ◌++◌, map, take, length, Some, refl, ap, ◌∙◌, arith}
+use Rattle.std.specs.List.{slice_get, zip, enumerate_from}
 use Rattle.std.proofs.lemmas.List.FromFn.{length-enumerate_from}
-use Rattle.spin_base.specs.declared.chips.Spot.{Spot}
 use Rattle.one_chip_jobs.specs.declared.small_jobs.SmallJob.{SmallJob}
 use Rattle.one_chip_plan.specs.declared.plans.Plan.{Plan}
 use Rattle.one_chip_plan.specs.Plans.{IsPlanOf, IsNetPlan}

@@ -1,17 +1,17 @@
 -- What a call of the program promises, part by part (this project's own).
-use Rattle.std.specs.Prelude.{◌≡◌, ◌⊎◌, ℕ, ◌≤◌, List, [], length, String, Option, Some, None, IfSome, IsSome}
+use Rattle.std.specs.Prelude.{◌≡◌, ◌⊎◌, ℕ, ◌≤◌, List, length, String, Option, Some, None, IfSome, IsSome}
 use Rattle.std.specs.declared.alloc.Global.{Global}
 use Rattle.mesh_core.specs.State.{State}
 use Rattle.run_report.specs.declared.reports.Report.{Report}
 use Rattle.run_report.specs.ReportText.{report_text}
-use Rattle.spin_base.specs.Outside.{FaultsRose, Takes, TakesProperPrefix}
+use Rattle.spin_base.specs.Outside.{Takes, TakesProperPrefix}
 use Rattle.one_chip_jobs.specs.declared.small_jobs.SmallJob.{SmallJob}
 use Rattle.one_chip_plan.specs.declared.plans.Plan.{Plan}
 use Rattle.spin_top.specs.declared.outcomes.Outcome.{Outcome}
 use Rattle.spin_top.specs.declared.outcomes.Refusal.{Refusal}
 use Rattle.spin_top.specs.declared.outcomes.Refusal.TheVariants.{Usage, ReadFault, WriteFault, Memory, Unbuilt}
 use Rattle.spin_top.specs.Commands.{IsCommand, IsOtherCommand}
-use Rattle.spin_top.specs.Ends.{GivesNoPart, HasCause, HasNoSmallJob, IsRun, ReadsJob, small_job_in}
+use Rattle.spin_top.specs.Ends.{GivesNoPart, HasCause, HasNoSmallJob, IsRun, small_job_in}
 use Rattle.spin_top.specs.Outcomes.{line_of}
 
 -- what holds of the job, plan, mesh and report, where they are given

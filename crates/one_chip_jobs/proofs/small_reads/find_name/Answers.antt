@@ -1,4 +1,4 @@
-use Rattle.std.proofs.Common.{◌≡◌, ◌∙◌, sym, ap}
+use Rattle.std.proofs.Common.{◌∙◌, sym, ap}
 use Rattle.std.specs.Str.{bytes_eq}
 use Rattle.one_chip_jobs.proofs.Places.{place_in-first, place_in-none_more}
 use Rattle.one_chip_jobs.proofs.small_reads.find_name.Goals as goal

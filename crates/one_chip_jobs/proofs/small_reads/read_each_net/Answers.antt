@@ -1,4 +1,4 @@
-use Rattle.std.proofs.Common.{◌≡◌, ◌∙◌, sym, ap, ◌++◌, [], ◌∷◌}
+use Rattle.std.proofs.Common.{◌∙◌, sym}
 use Rattle.serde_json.specs.View.{view}
 use Rattle.one_chip_jobs.specs.SmallJobs.{net_of}
 use Rattle.one_chip_jobs.proofs.EachItem.{each-more, each-stops}

@@ -1,5 +1,4 @@
-use Rattle.std.proofs.Common.{◌≤◌, ◌∙◌, sym, ap, arith, length, nat_le}
-use Rattle.std.specs.Option.{option_and_then}
+use Rattle.std.proofs.Common.{◌≤◌, ◌∙◌, sym, ap, arith, length}
 use Rattle.serde_json.specs.View.{view}
 use Rattle.one_chip_jobs.specs.Members.{list_of_member}
 use Rattle.one_chip_jobs.specs.SmallJobs.{all_different, vertex_of, net_of, net_names}

@@ -1,4 +1,4 @@
-use Rattle.std.proofs.Common.{◌≡◌, [], ◌∷◌, ◌++◌, take, sym, ap, ◌∙◌, List, ℕ}
+use Rattle.std.proofs.Common.{[], ◌∷◌, ◌++◌, take, sym, ap, ◌∙◌, List, ℕ}
 use Rattle.std.specs.List.{zip}
 use Rattle.spin_base.specs.declared.chips.Spot.{Spot}
 use Rattle.spin_top.proofs.ReportParts.{pair_more}

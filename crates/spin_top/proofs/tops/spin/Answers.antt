@@ -1,4 +1,3 @@
-use Rattle.std.proofs.Common.{◌≡◌}
 use Rattle.spin_top.proofs.EndLaws.{made_clause, given_clause, written_clause, complete_clause, usage_clause, read_fault_clause, write_fault_clause, unbuilt_clause}
 use Rattle.mesh_core.specs.Opened.{MeetsJobLedger}
 use Rattle.one_chip_plan.specs.Plans.{packets_of}
