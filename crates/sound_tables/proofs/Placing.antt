@@ -1,5 +1,5 @@
 -- A table is sound where each of its rows is well placed.
-use Rattle.std.proofs.Common.{◌≡◌, ℕ, ◌<◌, ◌≤◌, List, length, arith}
+use Rattle.std.proofs.Common.{ℕ, ◌<◌, List, length, arith}
 use Rattle.tern_word.specs.declared.tables.Row.{Row}
 use Rattle.tern_word.specs.SoundTable.{IsSound}
 use Rattle.sound_tables.specs.Placed.{IsWellPlaced}

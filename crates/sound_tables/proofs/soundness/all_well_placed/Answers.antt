@@ -1,5 +1,5 @@
 -- The table is sound where no row is badly placed.
-use Rattle.std.proofs.Common.{◌<◌, refl, arith}
+use Rattle.std.proofs.Common.{refl, arith}
 use borrow.Author.Count.{below_more}
 use Rattle.cover_checks.proofs.Answering.{answers_no, fails}
 use Rattle.tern_word.specs.SoundTable.{IsSound}
