@@ -1,12 +1,14 @@
 -- A rival that would come to stand before a merge makes it no legal one.
-use Rattle.std.proofs.Common.{◌≡◌, ℕ, ◌+◌, ◌<◌, ◌≤◌, ◌⊎◌, Bool, true, false, List, [], ◌∷◌, ◌++◌, length, get_or, All, refl, sym, ap, subst, ◌∙◌, arith, inl, inr}
+use Rattle.std.proofs.Common.{◌≡◌, ℕ, ◌+◌, ◌<◌, ◌≤◌, true, false, List, [], ◌∷◌, ◌++◌, length, get_or, sym, ap, subst, ◌∙◌, arith, inl, inr}
 use Rattle.std.proofs.lemmas.Bool.{cases_order, cases_lt, false_from_ne_true}
 use Rattle.std.proofs.lemmas.List.{get_or_append_left, get_or_push}
+use Rattle.std.proofs.lemmas.List.Elements.{at_read, pair_read}
+use Rattle.spin_base.specs.declared.blocks.Block.{Block}
 use Rattle.tern_word.specs.declared.tables.Row.{Row}
 use Rattle.tern_word.specs.Ternary.{generality}
 use Rattle.tern_word.specs.SoundTable.{IsSound}
 use Rattle.tern_word.proofs.BlockLaws.{generality_le}
-use Rattle.cover_checks.specs.Merge.{has, IsOneRoute, IsMergeSet, IsLegal, merged_block, insert_place}
+use Rattle.cover_checks.specs.Merge.{has, IsMergeSet, IsLegal, merged_block, merged_row, insert_place}
 use Rattle.cover_checks.proofs.Positions.{has-at, has-place, place_for-above}
 use Rattle.cover_checks.proofs.Legal.{up_from_legal}
 use Rattle.cover_merge.specs.Rivals.{IsRival, HasRival, AreRivals}
@@ -47,3 +49,26 @@ rivals_more rows done x each last s inside low =
           let e : get_or (done ++ x ∷ []) s 0 ≡ x = get_or_push done x 0 s (sym same) in
           subst (HasRival rows s) (sym e) (subst (λ i. HasRival rows i x) (sym same) (last (omega (arith, e, low))))
     ]
+
+-- the row that was read is a rival
+pub rival_at : (rows : List Row) (s r : ℕ) (a b : Row) (g : ℕ) → s < length rows → r < length rows → s < r → a ≡ get_or rows s a → b ≡ get_or rows r b → IsRival a b → g ≡ generality b.block → HasRival rows s g
+rival_at rows s r a b g low inside behind is_a is_b rival level = record {
+  at = r;
+  behind = behind;
+  inside = inside;
+  general = at_read rows (λ (x : Row). generality x.block ≤ g) r b inside is_b (omega (arith, level));
+  rival = pair_read rows IsRival s r a b low inside is_a is_b rival;
+}
+
+-- the merge of a set with a row whose number is at most the merge's generality is not legal
+pub refused : (rows list : List Row) (rivals places : List ℕ) → IsMergeSet rows places → IsSound rows → AreRivals rows rivals → list ≡ rows → (b : Block) → b ≡ merged_block list places → (g : ℕ) → g ≡ generality b
+    → (k : ℕ) → k < length places → get_or rivals (get_or places k 0) 0 ≤ g → IsLegal rows places → ⊥
+refused rows list rivals places set sound numbers same b b_is g g_is k inside low legal =
+    let s = get_or places k 0 in
+    let member = has-at places k inside in
+    let at : s < length rows = set.set.in_range k 0 inside in
+    let as_many = numbers.one_each in
+    let limit = generality_le b in
+    let rival = numbers.each s (omega (arith, at, as_many)) (omega (arith, low, limit, g_is)) in
+    let level : g ≡ generality (merged_block rows places) = g_is ∙ ap generality (b_is ∙ ap (λ l. merged_block l places) same) in
+    rival_refuses rows places set sound s (get_or rivals s 0) (merged_row rows places) member rival (omega (arith, low, level)) legal
