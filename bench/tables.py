@@ -6,10 +6,10 @@ The calls are made by a small program that stands below as text. It is compiled 
 proof, from a copy of the repository that has it as one crate more; the crates that it calls are those that `rt ci` proves.
 """
 import os
+import resource
 import subprocess
 import sys
 import tempfile
-import time
 
 ROOT = os.path.dirname(os.path.dirname(os.path.realpath(__file__)))
 sys.path.insert(0, f"{ROOT}/tools")
@@ -159,14 +159,20 @@ def program_in(room):
     return f"{room}/out/spin"
 
 
+def processor_time():
+    """Of all programs that were run and have ended: other work on the machine does not count."""
+    used = resource.getrusage(resource.RUSAGE_CHILDREN)
+    return used.ru_utime + used.ru_stime
+
+
 def timed(program, *words):
-    """The least time of three runs, and what the program wrote."""
+    """The least processor time of three runs, and what the program wrote."""
     times = []
     for _ in range(3):
-        begun = time.monotonic()
+        before = processor_time()
         done = subprocess.run([program, *map(str, words)], capture_output=True, check=True)
-        times.append(time.monotonic() - begun)
-        if times[0] > 20:
+        times.append(processor_time() - before)
+        if times[0] > 3:
             break
     return min(times), done.stdout.decode().strip()
 
@@ -190,7 +196,7 @@ def main():
             for steps in (1, 2, 3):
                 show(program, made, "image", steps, 0)
         if "cover" in parts:
-            for rows in (128, 256, 512):
+            for rows in (128, 256, 512, 1024):
                 for routes in (17, 40, 1000):
                     show(program, base, "cover", rows, routes)
 
