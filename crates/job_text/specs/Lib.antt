@@ -1,1 +1,6 @@
 pub mod Json
+pub mod Equality
+pub mod Paths
+pub mod Members
+pub mod Reading
+pub mod Fields

@@ -17,6 +17,7 @@ use Rattle.link_detours.specs.Whole.{IsWhole}
 use Rattle.link_detours.proofs.Reaching.{link_inside}
 use Rattle.link_detours.proofs.Stepping.{Steps-map}
 use Rattle.link_detours.proofs.Turning.{filter_has, has_filter}
+use Rattle.link_detours.proofs.Walks.{steps_walk}
 use Rattle.link_detours.proofs.Wholes.{tree_cases, steps_on_tree, more_chips, live_steps, whole_joined, detour_reached, Joins-more}
 
 module _ (m : Description) (root : Chip) (edges : List Edge) (counts : List ℕ) (top : ℕ) where
@@ -160,5 +161,5 @@ first_cut_off m root kept top whole reach targets i t at cut so_far = record {
       let is : get_or (take i targets) j u ≡ u = get_or-take i targets j u before ∙ get_or_from_slice_get targets j u u here in
       let on : IsTreeChip m root whole u = subst (λ (c : Chip). IsTreeChip m root whole c) is (so_far.on_tree j u taken) in
       let way = so_far.is_whole.reached u on in
-      (way.0, live_steps m root whole so_far.is_whole way.0 root u way.1);
+      steps_walk m way.0 root u (live_steps m root whole so_far.is_whole way.0 root u way.1);
 }

@@ -5,5 +5,8 @@ pub mod Searching
 pub mod Seeding
 pub mod Stepping
 pub mod Tabling
+pub mod Trimming
 pub mod Turning
+pub mod Unchanged
+pub mod Walks
 pub mod Wholes

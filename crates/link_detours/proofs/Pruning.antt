@@ -15,7 +15,7 @@ use Rattle.link_detours.proofs.Stepping.{Steps-cons, Steps-first}
 use Rattle.link_detours.proofs.Wholes.{tree_end, tree_cases, edge_step}
 
 -- one edge more at the end of a path
-path_more : (m : Description) (edges : List Edge) (from to c : Chip) (path : List Edge) (e : Edge) →
+pub path_more : (m : Description) (edges : List Edge) (from to c : Chip) (path : List Edge) (e : Edge) →
     IsPath m edges from path to → Contains edges e → e.chip ≡ to → end_of m e ≡ Some c → IsPath m edges from (path ++ e ∷ []) c
 path_more m edges from to c [] e along has at leads = (has, at ∙ sym along, (c, leads, refl))
 path_more m edges from to c (f ∷ path) e along has at leads =

@@ -19,6 +19,7 @@ use Rattle.link_detours.specs.Repair.{EdgeStep, IsTreeLevel, IsDetour, IsCutOff}
 use Rattle.link_detours.specs.Descent.{IsStepDown, IsBestStep, IsDescent}
 use Rattle.link_detours.specs.Whole.{IsWhole}
 use Rattle.link_detours.proofs.Stepping.{Steps-map, IsLevel-same, IsReachedBy-map}
+use Rattle.link_detours.proofs.Walks.{walk_steps}
 use Rattle.link_detours.proofs.Wholes.{steps_on_tree, tree_cases}
 
 -- a live link begins inside the grid
@@ -111,7 +112,10 @@ module _ (m : Description) (root : Chip) (tree : List Edge) (reach : List ℕ) (
 
   -- a chip without a number is cut off
   pub cut_off : (t : Chip) → top ≤ number_at m counts t → IsCutOff m root t
-  cut_off t high n walk = let low : number_at m counts t < top = tree_reached t n (root, inl refl, walk) in omega arith
+  cut_off t high walk along =
+      let way = walk_steps m walk root along.0 in
+      let low : number_at m counts t < top = tree_reached t way.0 (root, inl refl, subst (λ (c : Chip). Steps (LeadsTo m) way.0 root c) along.1 way.1) in
+      omega arith
 
   step_level : (c : Chip) (n : ℕ) → IsTreeLevel m root tree c n → IsInside m c → number_at m counts c ≡ n
   step_level c n level inside =

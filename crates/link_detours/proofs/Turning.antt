@@ -20,11 +20,11 @@ use Rattle.link_detours.proofs.Reaching.{flagged_edges, edges_flagged}
 use Rattle.link_detours.proofs.Stepping.{Steps-map, Steps-turn}
 
 -- one item further on
-further : {X : Type 0} (x y : X) (xs : List X) → Contains xs y → Contains (x ∷ xs) y
+pub further : {X : Type 0} (x y : X) (xs : List X) → Contains xs y → Contains (x ∷ xs) y
 further x y xs has = (suc has.0, (let within : has.0 < length xs = has.1 in omega arith), has.2)
 
 -- a list with one item before
-head_or_rest : {X : Type 0} (x y : X) (xs : List X) → Contains (x ∷ xs) y → (x ≡ y) ⊎ Contains xs y
+pub head_or_rest : {X : Type 0} (x y : X) (xs : List X) → Contains (x ∷ xs) y → (x ≡ y) ⊎ Contains xs y
 head_or_rest x y xs (zero, within, same) = inl same
 head_or_rest x y xs (suc k, longer, same) = inr (k, (omega arith), same)
 

@@ -6,7 +6,7 @@ use Rattle.spin_base.specs.declared.chips.Dir.{Dir}
 use Rattle.spin_base.specs.Links.{dir_number}
 use Rattle.machine_desc.specs.declared.trees.Edge.{Edge}
 use Rattle.machine_desc.specs.Description.{Description}
-use Rattle.machine_desc.specs.Live.{far_of, IsLiveLink, LeadsTo}
+use Rattle.machine_desc.specs.Live.{far_of, IsLiveLink, LeadsTo, IsLiveWalk}
 use Rattle.machine_desc.specs.RoutingTree.{end_of, IsTreeChip}
 use Rattle.link_detours.specs.Steps.{Steps, IsLevel}
 use Rattle.link_detours.specs.Usable.{link_place}
@@ -66,13 +66,22 @@ pub record IsRepaired (m : Description) (root : Chip) (edges : List Edge) (targe
   pub result_is : (e : Edge) → Contains result e ↔ (Contains whole e × LeadsToTarget m whole targets e)
   pub in_order : IsInOrder m result
 
+-- the last of an item and those after it
+abbrev pub last_of : {X : Type 0} → X → List X → X
+last_of x [] = x
+last_of x (y ∷ ys) = last_of y ys
+
+-- a walk of live links leads from the first chip over these to the second
+abbrev pub IsWalkTo : Description → Chip → Chip → List Chip → Type 0
+IsWalkTo m a c walk = IsLiveWalk m (a ∷ walk) × (last_of a walk ≡ c)
+
 -- no walk of live links joins the root and the chip
 abbrev pub IsCutOff : Description → Chip → Chip → Type 0
-IsCutOff m root c = (n : ℕ) → Steps (LeadsTo m) n root c → ⊥
+IsCutOff m root c = (walk : List Chip) → IsWalkTo m root c walk → ⊥
 
 -- the first target in the order of the list that is cut off
 pub record IsFirstCutOff (m : Description) (root : Chip) (targets : List Chip) (t : Chip) : Type 0 where
   pub place : ℕ
   pub at_place : slice_get targets place ≡ Some t
   pub cut_off : IsCutOff m root t
-  pub others_joined : (j : ℕ) (u : Chip) → j < place → slice_get targets j ≡ Some u → (n : ℕ) × Steps (LeadsTo m) n root u
+  pub others_joined : (j : ℕ) (u : Chip) → j < place → slice_get targets j ≡ Some u → (walk : List Chip) × IsWalkTo m root u walk

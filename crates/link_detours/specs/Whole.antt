@@ -1,5 +1,5 @@
 -- Trees over live links whose every chip is reached from the root in one way, whatever they lead to.
-use Rattle.std.specs.Prelude.{◌≡◌, ◌≢◌, ℕ, List, Some, Contains}
+use Rattle.std.specs.Prelude.{◌≡◌, ◌≢◌, ℕ, List, Some, Any, Contains, ◌⊎◌}
 use Rattle.spin_base.specs.declared.chips.Chip.{Chip}
 use Rattle.machine_desc.specs.declared.trees.Edge.{Edge}
 use Rattle.machine_desc.specs.Description.{Description}
@@ -15,3 +15,7 @@ pub record IsWhole (m : Description) (root : Chip) (tree : List Edge) : Type 0 w
   pub none_into_root : (e : Edge) → Contains tree e → end_of m e ≢ Some root
   pub begins : (e : Edge) → Contains tree e → IsTreeChip m root tree e.chip
   pub one_into : (e f : Edge) (c : Chip) → Contains tree e → Contains tree f → end_of m e ≡ Some c → end_of m f ≡ Some c → e ≡ f
+
+-- a target stands at the chip, or an edge begins there
+abbrev pub GoesOnFrom : List Edge → List Chip → Chip → Type 0
+GoesOnFrom edges targets c = Any (λ e. e.chip ≡ c) edges ⊎ Contains targets c

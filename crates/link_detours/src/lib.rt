@@ -10,6 +10,7 @@ mod prunes;
 mod repairs;
 mod searches;
 mod tables;
+mod trims;
 
 pub use repairs::{RepairErr, repair};
 

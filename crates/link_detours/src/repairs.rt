@@ -3,16 +3,17 @@ ghost use Rattle.std.specs.Prelude.{◌≡◌, ◌≢◌, ℕ, ◌*◌, ◌<◌,
 ghost use Rattle.machine_desc.specs.Live.{IsInside, IsLiveChip};
 ghost use Rattle.machine_desc.specs.RoutingTree.{end_of, IsTreeChip, IsTreeTo};
 ghost use Rattle.link_detours.specs.Usable.{number_at};
-ghost use Rattle.link_detours.specs.Repair.{IsKept, Joins, IsRepaired};
+ghost use Rattle.link_detours.specs.Repair.{IsKept, Joins, IsRepaired, IsInOrder};
 ghost use Rattle.link_detours.specs.Whole.{IsWhole};
 ghost use Rattle.link_detours.specs.Cause.{IsCause};
+ghost use Rattle.link_detours.specs.declared.repairs.RepairErr.TheVariants.{Memory as NoMemory};
 ghost use Rattle.spin_base.specs.declared.chips.Chip.{Chip};
 ghost use Rattle.machine_desc.specs.declared.trees.Edge.{Edge};
 
 use crate::detours::{join, tree_reach};
 use crate::edges::{live_edges, reached_edges};
-use crate::prunes::pruned;
 use crate::searches::UNREACHED;
+use crate::trims::trimmed;
 use machine_desc::{Edge, Machine, Tree};
 use spin_base::{Chip, Memory, Seq};
 use std::alloc::Global;
@@ -63,11 +64,15 @@ pub fn repair(
     ensures repaired { IfOk result (λ t. IsRepaired machine.now tree.root tree.edges targets.now t.edges) }
     ensures routing { IfOk result (λ t. IsTreeTo machine.now tree.root t.edges targets.now) }
     ensures cut_off { IfErr result (IsCause machine.now tree.root targets.now) }
+    ensures same_edges { IsTreeTo machine.now tree.root tree.edges targets.now →
+        IfOk result (λ t. (e : Edge) → Contains t.edges e ↔ Contains tree.edges e) }
+    ensures unchanged { IsTreeTo machine.now tree.root tree.edges targets.now → IsInOrder machine.now tree.edges → IfOk result (λ t. t ≡ tree) }
+    ensures not_cut_off { IsTreeTo machine.now tree.root tree.edges targets.now → IfErr result (λ e. e ≡ NoMemory) }
 {
     let Tree { root, edges } = tree;
     let grown = kept_tree(alloc, machine, root, edges.as_slice())?;
     let whole = join_all(alloc, machine, root, grown, targets.as_slice())?;
-    let left = pruned(alloc, machine, &whole, targets.as_slice())?;
+    let left = trimmed(alloc, machine, root, whole, targets.as_slice())?;
     Ok(Tree {
         root,
         edges: Seq::from_vec(left),

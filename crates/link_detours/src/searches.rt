@@ -28,7 +28,7 @@ fn flagged_far(machine: &Machine, flags: &[bool], c: Chip, d: Dir) -> Option<Chi
 }
 
 // A table that has 0 for each seed, and for each other chip that it is unreached.
-fn seed_table(alloc: Global, machine: &Machine, seeds: &[Chip]) -> Result<Vec<u64>, Memory>
+pub fn seed_table(alloc: Global, machine: &Machine, seeds: &[Chip]) -> Result<Vec<u64>, Memory>
     requires { All (IsInside machine.now) seeds.now }
     ensures long { IfOk result (λ t. length t.items ≡ machine.now.width * machine.now.height) }
     ensures at_seeds { IfOk result (λ t. (a : Chip) → Contains seeds.now a → number_at machine.now t.items a ≡ 0) }

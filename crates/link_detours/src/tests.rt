@@ -168,3 +168,21 @@ fn an_edge_that_leads_to_no_target_is_taken_off(rt: HostRuntime) -> Result<(), F
     assert_eq!(rt; edges.as_slice(), [edge(0, 0, Dir::East)].as_slice());
     Ok(())
 }
+
+#[test]
+fn a_tree_over_live_links_comes_back(rt: HostRuntime) -> Result<(), Fail> {
+    let link = Edge {
+        chip: Chip { x: 0, y: 0 },
+        dir: Dir::North,
+    };
+    let square = machine(rt.alloc(), 2, 2, false, Chip { x: 1, y: 1 }, link)?;
+    let edges = repaired(
+        &rt,
+        rt.alloc(),
+        &square,
+        edge(0, 0, Dir::East),
+        Chip { x: 1, y: 0 },
+    )?;
+    assert_eq!(rt; edges.as_slice(), [edge(0, 0, Dir::East)].as_slice());
+    Ok(())
+}

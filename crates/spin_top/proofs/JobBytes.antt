@@ -1,13 +1,12 @@
 -- All bytes of a source, and the job that they spell.
 use Rattle.std.proofs.Common.{◌≡◌, ℕ, ◌≤◌, List, [], ◌++◌, length, Option, Some, None, refl, ap, sym, ◌∙◌, inr, arith}
-use Rattle.std.specs.Option.{option_and_then}
 use Rattle.std.proofs.lemmas.List.{append-nil}
 use Rattle.serde_json.specs.Data.{Data}
 use Rattle.job_text.specs.Json.{json_of}
 use Rattle.spin_base.specs.Outside.{GivesAll}
-use Rattle.spin_top.specs.declared.small_jobs.SmallJob.{SmallJob}
+use Rattle.one_chip_jobs.specs.declared.small_jobs.SmallJob.{SmallJob}
 use Rattle.spin_top.specs.Ends.{small_job_in, ReadsJob, HasNoSmallJob}
-use Rattle.spin_top.specs.SmallJobs.{small_job_of}
+use Rattle.one_chip_jobs.specs.SmallJobs.{small_job_of}
 
 -- what the value is, the bytes spell
 pub small_job_in-value : (bytes : List ℕ) (d : Data) (o : Option SmallJob) → json_of bytes ≡ Some d → o ≡ small_job_of d → small_job_in bytes ≡ o

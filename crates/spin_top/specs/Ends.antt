@@ -1,5 +1,5 @@
 -- How a call of the program ends, and why (this project's own).
-use Rattle.std.specs.Prelude.{◌≡◌, ◌⊎◌, ℕ, ◌<◌, ◌≤◌, List, [], length, String, Option, Some, None, IsSome, option_and_then}
+use Rattle.std.specs.Prelude.{◌≡◌, ◌⊎◌, ℕ, ◌<◌, ◌≤◌, List, [], length, String, Option, Some, None, option_and_then}
 use Rattle.std.specs.declared.alloc.Global.{Global}
 use Rattle.job_text.specs.Json.{json_of}
 use Rattle.spin_base.specs.Outside.{FaultsRose, Takes, TakesProperPrefix}
@@ -7,10 +7,15 @@ use Rattle.spin_top.specs.declared.commands.Command.TheVariants.{Run}
 use Rattle.spin_top.specs.declared.outcomes.Outcome.{Outcome}
 use Rattle.spin_top.specs.declared.outcomes.Refusal.{Refusal}
 use Rattle.spin_top.specs.declared.outcomes.Refusal.TheVariants.{Usage, ReadFault, WriteFault, Memory, Unbuilt}
-use Rattle.spin_top.specs.declared.small_jobs.SmallJob.{SmallJob}
+use Rattle.one_chip_jobs.specs.declared.small_jobs.SmallJob.{SmallJob}
+use Rattle.mesh_core.specs.State.{State}
+use Rattle.run_report.specs.declared.reports.Report.{Report}
+use Rattle.run_report.specs.ReportText.{report_text}
+use Rattle.one_chip_plan.specs.declared.plans.Plan.{Plan}
+use Rattle.spin_top.specs.Runs.{IsMadeOf}
 use Rattle.spin_top.specs.Commands.{Spells, texts_of, IsCommand, IsOtherCommand}
 use Rattle.spin_top.specs.Outcomes.{line_of}
-use Rattle.spin_top.specs.SmallJobs.{small_job_of}
+use Rattle.one_chip_jobs.specs.SmallJobs.{small_job_of}
 
 -- the words are `run`
 abbrev pub IsRun : List (String Global) → Type 0
@@ -48,19 +53,24 @@ HasCause words left before after WriteFault = ⊥
 HasCause words left before after Memory = IsRun words
 HasCause words left before after Unbuilt = IsOtherCommand words ⊎ (IsRun words × HasNoSmallJob left)
 
--- plan, mesh and report are given
-abbrev pub GivesAllParts : Outcome → Type 0
-GivesAllParts o = IsSome o.plan × IsSome o.mesh × IsSome o.report
+-- job, plan, mesh and report are given, and are these
+pub record GivesParts (o : Outcome) (job : SmallJob) (plan : Plan) (mesh : State) (report : Report) : Type 0 where
+  pub job_is : o.job ≡ Some job
+  pub plan_is : o.plan ≡ Some plan
+  pub mesh_is : o.mesh ≡ Some mesh
+  pub report_is : o.report ≡ Some report
 
--- plan, mesh and report are absent
+-- job, plan, mesh and report are absent
 abbrev pub GivesNoPart : Outcome → Type 0
-GivesNoPart o = (o.plan ≡ None) × (o.mesh ≡ None) × (o.report ≡ None)
+GivesNoPart o = (o.job ≡ None) × (o.plan ≡ None) × (o.mesh ≡ None) × (o.report ≡ None)
 
--- How a call ends. Either all that the words ask for was made of the job that the source had left, and the whole text
--- was written or, at a fault of the sink, a proper prefix of it. Or there is a refusal with its cause, and its line was
--- written or, at a fault of the sink, a proper prefix of it.
+-- How a call ends. Either all that the words ask for was made of the job that the source had left, and the report's whole
+-- text was written or, at a fault of the sink, a proper prefix of it. Or there is a refusal with its cause, and its line
+-- was written or, at a fault of the sink, a proper prefix of it.
 pub data Ends (words : List (String Global)) (left rest : Option (List ℕ)) (reads reads' : ℕ) (written more : Option (List ℕ)) (writes writes' : ℕ) (o : Outcome) : Type 0 where
-  reported : (job : SmallJob) (text : List ℕ) → IsRun words → ReadsJob left job rest → o.refusal ≡ None → GivesAllParts o → Takes written text more → Ends words left rest reads reads' written more writes writes' o
-  report_cut : (job : SmallJob) (text : List ℕ) → IsRun words → ReadsJob left job rest → o.refusal ≡ Some WriteFault → GivesAllParts o → TakesProperPrefix written text more → FaultsRose writes writes' → Ends words left rest reads reads' written more writes writes' o
+  reported : (job : SmallJob) (plan : Plan) (mesh : State) (report : Report) → IsRun words → ReadsJob left job rest → IsMadeOf job plan mesh report → GivesParts o job plan mesh report →
+      o.refusal ≡ None → Takes written (report_text report) more → Ends words left rest reads reads' written more writes writes' o
+  report_cut : (job : SmallJob) (plan : Plan) (mesh : State) (report : Report) → IsRun words → ReadsJob left job rest → IsMadeOf job plan mesh report → GivesParts o job plan mesh report →
+      o.refusal ≡ Some WriteFault → TakesProperPrefix written (report_text report) more → FaultsRose writes writes' → Ends words left rest reads reads' written more writes writes' o
   refused : (r : Refusal) → HasCause words left reads reads' r → o.refusal ≡ Some r → GivesNoPart o → Takes written (line_of r) more → Ends words left rest reads reads' written more writes writes' o
   refusal_cut : (r : Refusal) → HasCause words left reads reads' r → o.refusal ≡ Some WriteFault → GivesNoPart o → TakesProperPrefix written (line_of r) more → FaultsRose writes writes' → Ends words left rest reads reads' written more writes writes' o

@@ -1,6 +1,5 @@
+pub mod Calls
 pub mod Commands
 pub mod Ends
-pub mod Members
-pub mod OneChip
 pub mod Outcomes
-pub mod SmallJobs
+pub mod Runs

@@ -1,9 +1,10 @@
 // What came of a call.
 ghost use Rattle.std.specs.Prelude.{◌≡◌};
 
-use crate::plans::Plan;
-use crate::reports::Report;
 use mesh_core::Mesh;
+use one_chip_jobs::SmallJob;
+use one_chip_plan::Plan;
+use run_report::Report;
 
 /// Why there is no report.
 #[derive(Clone, Copy, Debug, PartialEq, Eq)]
@@ -20,10 +21,12 @@ pub enum Refusal {
     Unbuilt,
 }
 
-/// What came of a call: the status, what was made on the way, and why there is no report.
+/// What came of a call: the status, the job that was read and what was made of it, and why there is no report. Job, plan,
+/// mesh and report are given together, where the whole text was made, or none of them is.
 #[derive(Drop)]
 pub struct Outcome {
     pub status: u8,
+    pub job: Option<SmallJob>,
     pub plan: Option<Plan>,
     pub mesh: Option<Mesh>,
     pub report: Option<Report>,

@@ -1,22 +1,24 @@
 // The top call.
-ghost use Rattle.std.specs.Prelude.{◌≡◌, ◌≢◌, ◌⊎◌, Some, None, IfOk, IfErr, OnOk, IsSome, length};
+ghost use Rattle.std.specs.Prelude.{◌≡◌, ◌⊎◌, Some, None, IfOk, IfErr};
+ghost use Rattle.mesh_core.specs.Opened.{MeetsJobLedger};
+ghost use Rattle.run_report.specs.ReportText.{report_text};
 ghost use Rattle.spin_base.specs.Outside.{FaultsRose, Takes, TakesProperPrefix};
-ghost use Rattle.spin_top.specs.Ends.{Ends, GivesAllParts, GivesNoPart, HasCause, HasReadCause, IsRun, ReadsJob};
+ghost use Rattle.one_chip_jobs.specs.SmallJobs.{IsSmall};
+ghost use Rattle.one_chip_plan.specs.Plans.{packets_of};
+ghost use Rattle.spin_top.specs.Calls.{ComesUnbuilt, ComesUsage, GivesFor, HasSmallJob, WhereGiven, Writes};
+ghost use Rattle.spin_top.specs.Ends.{Ends, GivesNoPart, GivesParts, HasCause, HasReadCause, IsRun, ReadsJob};
 ghost use Rattle.spin_top.specs.Outcomes.{line_of, status_at};
-ghost use Rattle.spin_top.specs.SmallJobs.{IsSmall};
-ghost use Rattle.spin_top.specs.declared.small_jobs.SmallJob.{SmallJob};
-ghost use Rattle.spin_top.specs.declared.outcomes.Refusal.TheVariants.{WriteFault};
+ghost use Rattle.spin_top.specs.Runs.{HasRunOut, IsMadeOf, IsPlanned, IsReported};
+ghost use Rattle.spin_top.specs.declared.outcomes.Refusal.TheVariants.{ReadFault, WriteFault};
 
 use crate::commands::{Command, command_of};
 use crate::outcomes::{Outcome, Refusal};
-use crate::plans::{Plan, plan_of};
-use crate::reports::{Report, report_of};
-use crate::runs::run_packets;
-use crate::small_jobs::SmallJob;
-use crate::small_reads::small_job;
-use crate::texts::text_of;
+use crate::reports::report_on;
 use job_text::{ParseErr, parse};
 use mesh_core::Mesh;
+use one_chip_jobs::{SmallJob, small_job};
+use one_chip_plan::{Plan, plan_of, run_plan};
+use run_report::{Report, text_of};
 use spin_base::{Gate, Memory, ReadErr, Seq, Sink, Source, read_all, write_all};
 use std::alloc::Global;
 use std::sync::Wait;
@@ -27,6 +29,7 @@ pub const MOST_BYTES: u64 = 16_777_216;
 
 // What a run made: its values, and the whole text that is to be written.
 struct Made {
+    job: SmallJob,
     plan: Plan,
     mesh: Mesh,
     report: Report,
@@ -50,6 +53,31 @@ pub fn spin<Rt: Threads + Wait + Sync, S: Source, K: Sink, G: Gate>(
     _gate: &G,
 ) -> Outcome
     ensures status { result.status ≡ status_at result.refusal }
+    ensures given { GivesFor result.refusal result }
+    ensures job { WhereGiven result (λ job plan mesh report. IsRun words.now × ReadsJob (S.left source.old) job (S.left source.new)) }
+    ensures plan { WhereGiven result (λ job plan mesh report. IsPlanned job plan) }
+    ensures ledger { WhereGiven result (λ job plan mesh report. MeetsJobLedger mesh plan.nets (packets_of job)) }
+    ensures run { WhereGiven result (λ job plan mesh report. HasRunOut job plan mesh) }
+    ensures report { WhereGiven result (λ job plan mesh report. IsReported job plan mesh report) }
+    ensures written { Writes words.now (S.left source.old) (S.faults source.old) (S.faults source.new) (K.written sink.old) (K.written sink.new) result.refusal result }
+    ensures complete { IsRun words.now → HasSmallJob (S.left source.old) → ¬ FaultsRose (S.faults source.old) (S.faults source.new) →
+        ¬ FaultsRose (K.faults sink.old) (K.faults sink.new) → (result.status ≡ 0) ⊎ (result.status ≡ 9) }
+    ensures usage { ComesUsage words.now result }
+    ensures read_fault { result.refusal ≡ Some ReadFault → IsRun words.now × FaultsRose (S.faults source.old) (S.faults source.new) }
+    ensures write_fault { result.refusal ≡ Some WriteFault → FaultsRose (K.faults sink.old) (K.faults sink.new) }
+    ensures unbuilt { ComesUnbuilt words.now (S.left source.old) result }
+{
+    answered(alloc, words, source, sink)
+}
+
+// What `spin` does, and how it ends.
+fn answered<S: Source, K: Sink>(
+    alloc: Global,
+    words: &[String],
+    source: &mut S,
+    sink: &mut K,
+) -> Outcome
+    ensures status { result.status ≡ status_at result.refusal }
     ensures ends { Ends words.now (S.left source.old) (S.left source.new) (S.faults source.old) (S.faults source.new)
         (K.written sink.old) (K.written sink.new) (K.faults sink.old) (K.faults sink.new) result }
 {
@@ -61,7 +89,10 @@ pub fn spin<Rt: Threads + Wait + Sync, S: Source, K: Sink, G: Gate>(
 
 // What the words and the source's bytes give, or why they give nothing.
 fn made_of<S: Source>(alloc: Global, words: &[String], source: &mut S) -> Result<Made, Refusal>
-    ensures ok { OnOk result (IsRun words.now × ((job : SmallJob) × ReadsJob (S.left source.old) job (S.left source.new))) }
+    ensures run { IfOk result (λ made. IsRun words.now) }
+    ensures job { IfOk result (λ made. ReadsJob (S.left source.old) made.job (S.left source.new)) }
+    ensures made { IfOk result (λ made. IsMadeOf made.job made.plan made.mesh made.report) }
+    ensures text { IfOk result (λ made. made.text ≡ report_text made.report) }
     ensures err { IfErr result (λ r. HasCause words.now (S.left source.old) (S.faults source.old) (S.faults source.new) r) }
 {
     match command_of(words) {
@@ -71,7 +102,7 @@ fn made_of<S: Source>(alloc: Global, words: &[String], source: &mut S) -> Result
                 Ok(job) => job,
                 Err(refusal) => return Err(refusal),
             };
-            match make(alloc, &job) {
+            match make(alloc, job) {
                 Ok(made) => Ok(made),
                 Err(Memory) => Err(Refusal::Memory),
             }
@@ -105,14 +136,18 @@ fn read_job<S: Source>(alloc: Global, source: &mut S) -> Result<SmallJob, Refusa
 }
 
 // Plans and runs a job, and makes its report and text.
-fn make(alloc: Global, job: &SmallJob) -> Result<Made, Memory>
-    requires { IsSmall job.now }
+fn make(alloc: Global, job: SmallJob) -> Result<Made, Memory>
+    requires { IsSmall job }
+    ensures job { IfOk result (λ made. made.job ≡ job) }
+    ensures made { IfOk result (λ made. IsMadeOf made.job made.plan made.mesh made.report) }
+    ensures text { IfOk result (λ made. made.text ≡ report_text made.report) }
 {
-    let plan = plan_of(alloc, job)?;
-    let mesh = run_packets(alloc, job, &plan)?;
-    let report = report_of(alloc, job, &plan, &mesh)?;
+    let plan = plan_of(alloc, &job)?;
+    let mesh = run_plan(alloc, &job, &plan)?;
+    let report = report_on(alloc, &job, &plan, &mesh)?;
     let text = text_of(alloc, &report)?;
     Ok(Made {
+        job,
         plan,
         mesh,
         report,
@@ -123,12 +158,13 @@ fn make(alloc: Global, job: &SmallJob) -> Result<Made, Memory>
 // Writes the text of what was made.
 fn write_report<K: Sink>(made: Made, sink: &mut K) -> Outcome
     ensures status { result.status ≡ status_at result.refusal }
-    ensures parts { GivesAllParts result }
+    ensures parts { GivesParts result made.job made.plan made.mesh made.report }
     ensures written { ((result.refusal ≡ None) × Takes (K.written sink.old) made.text (K.written sink.new))
         ⊎ ((result.refusal ≡ Some WriteFault) × TakesProperPrefix (K.written sink.old) made.text (K.written sink.new)
         × FaultsRose (K.faults sink.old) (K.faults sink.new)) }
 {
     let Made {
+        job,
         plan,
         mesh,
         report,
@@ -140,6 +176,7 @@ fn write_report<K: Sink>(made: Made, sink: &mut K) -> Outcome
     };
     Outcome {
         status: status_for(refusal),
+        job: Some(job),
         plan: Some(plan),
         mesh: Some(mesh),
         report: Some(report),
@@ -161,6 +198,7 @@ fn write_refusal<K: Sink>(refusal: Refusal, sink: &mut K) -> Outcome
     };
     Outcome {
         status: refusal.status(),
+        job: None,
         plan: None,
         mesh: None,
         report: None,

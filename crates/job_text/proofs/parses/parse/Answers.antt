@@ -1,8 +1,6 @@
-use Rattle.std.proofs.Common.{◌≡◌, Some, None, ◌∙◌, sym, ap}
+use Rattle.std.proofs.Common.{◌∙◌, sym, ap}
 use Rattle.std.proofs.lemmas.Bool.{iff_false}
-use Rattle.serde_json.specs.View.{view}
 use Rattle.serde_json.specs.Read.{read}
-use Rattle.job_text.specs.Json.{json_of}
 use Rattle.job_text.proofs.Readings.{json_of-utf8, json_of-not_utf8}
 use Rattle.job_text.proofs.parses.parse.Goals as goal
 

@@ -1,12 +1,14 @@
+use Rattle.std.proofs.Common.{◌≡◌, List, IfErr, ap, rules}
+use Rattle.std.proofs.lemmas.Result.{IfErr-weaker}
 use Rattle.std.proofs.lemmas.List.Elements.{All-contains}
+use Rattle.machine_desc.specs.declared.trees.Edge.{Edge}
+use Rattle.machine_desc.specs.declared.trees.Tree.{Tree}
 use Rattle.machine_desc.specs.RoutingTree.{IsTreeChip}
 use Rattle.link_detours.proofs.Pruning.{tree_left}
-use Rattle.link_detours.proofs.Reaching.{edges_inside}
+use Rattle.link_detours.proofs.Unchanged.{same_edges, unchanged, not_cut_off}
+use Rattle.link_detours.specs.Cause.{IsCause}
+use Rattle.link_detours.specs.declared.repairs.RepairErr.TheVariants.{Memory as NoMemory}
 use Rattle.link_detours.proofs.repairs.repair.Goals as goal
-
-pub pruned-requires-clause-edges_inside : goal.pruned-requires-clause-edges_inside
-pruned-requires-clause-edges_inside c =
-    rw c.deref.ensures.value (edges_inside c.args.machine.now c.args.tree.root c.in_ok-whole.whole.items c.in_ok-whole.ensures.is_whole)
 
 pub returns-clause-repaired : goal.returns-clause-repaired
 returns-clause-repaired c = record {
@@ -14,7 +16,7 @@ returns-clause-repaired c = record {
   kept_is = rw c.as_slice.ensures at c.in_ok-grown.ensures.kept;
   whole = c.in_ok-whole.whole.items;
   joined = rw c.as_slice-2.ensures at c.in_ok-whole.ensures.joined;
-  result_is = rw (c.from_vec.ensures, ← c.deref.ensures.value, ← c.as_slice-3.ensures) c.in_ok-left.ensures.left;
+  result_is = rw (c.from_vec.ensures, ← c.as_slice-3.ensures) c.in_ok-left.ensures.left;
   in_order = rw c.from_vec.ensures c.in_ok-left.ensures.in_order;
 }
 
@@ -25,4 +27,23 @@ returns-clause-routing c =
     (tree_left c.args.machine.now c.args.tree.root c.in_ok-whole.whole.items c.args.targets.now c.in_ok-left.left.items c.in_ok-whole.ensures.is_whole
     (λ t has. All-contains (IsTreeChip c.args.machine.now c.args.tree.root c.in_ok-whole.whole.items) c.args.targets.now t has_targets has)
     c.requires.some_target c.requires.root_lives
-    (rw (c.deref.ensures.value, c.as_slice-3.ensures) at c.in_ok-left.ensures.left) c.in_ok-left.ensures.in_order)
+    (rw c.as_slice-3.ensures at c.in_ok-left.ensures.left) c.in_ok-left.ensures.in_order)
+
+pub returns-clause-same_edges : goal.returns-clause-same_edges
+returns-clause-same_edges c tree =
+    same_edges c.args.machine.now c.args.tree.root c.args.tree.edges c.args.targets.now c.from_vec.result tree (returns-clause-repaired c)
+
+pub returns-clause-unchanged : goal.returns-clause-unchanged
+returns-clause-unchanged c tree ordered =
+    let same : c.from_vec.result ≡ c.args.tree.edges =
+    unchanged c.args.machine.now c.args.tree.root c.args.tree.edges c.args.targets.now c.from_vec.result tree (returns-clause-repaired c) ordered in
+    ap (λ (es : List Edge). let t : Tree = record { root = c.args.tree.root; edges = es } in t) same
+
+pub returns-in_err-whole-clause-not_cut_off : goal.returns-in_err-whole-clause-not_cut_off
+returns-in_err-whole-clause-not_cut_off c tree =
+    let cause : IfErr c.from_residual-in_err-whole.result (IsCause c.args.machine.now c.args.tree.root c.args.targets.now) = search rules in
+    IfErr-weaker c.from_residual-in_err-whole.result (IsCause c.args.machine.now c.args.tree.root c.args.targets.now) (λ e. e ≡ NoMemory)
+    (λ e. not_cut_off c.args.machine.now c.args.tree.root c.args.tree.edges c.args.targets.now e tree) cause
+
+pub trimmed-requires-clause-has_targets : goal.trimmed-requires-clause-has_targets
+trimmed-requires-clause-has_targets c = rw c.as_slice-3.ensures (rw c.as_slice-2.ensures at c.in_ok-whole.ensures.has_targets)

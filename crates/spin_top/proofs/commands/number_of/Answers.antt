@@ -1,4 +1,4 @@
-use Rattle.std.proofs.Common.{◌≡◌, ◌<◌, true, false, arith, length, get_or, ap, sym, ◌∙◌}
+use Rattle.std.proofs.Common.{◌<◌, arith, length, get_or, ap, sym, ◌∙◌}
 use Rattle.std.specs.List.{list_all}
 use Rattle.std.specs.Char.{is_ascii_digit}
 use Rattle.spin_top.proofs.Numbers.{no_number-empty, no_number-other, no_number-zero, number-parsed, number-unparsed}

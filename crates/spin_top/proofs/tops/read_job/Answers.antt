@@ -1,7 +1,6 @@
-use Rattle.std.proofs.Common.{◌≡◌, Some, None, Err, ap, sym, ◌∙◌}
+use Rattle.std.proofs.Common.{Some, None, Err, ap, sym, ◌∙◌}
 use Rattle.serde_json.specs.View.{view}
 use Rattle.job_text.specs.Json.{json_of}
-use Rattle.spin_top.specs.Ends.{small_job_in}
 use Rattle.spin_top.proofs.JobBytes.{small_job_in-value, small_job_in-no_json, reads-job, has-no_job}
 use Rattle.spin_top.proofs.tops.read_job.Goals as goal
 

@@ -1,0 +1,44 @@
+-- Lists that are no pair or triple by their number of items.
+use Rattle.std.proofs.Common.{◌≡◌, ℕ, ◌+◌, ◌<◌, ◌≤◌, List, [], ◌∷◌, length, Option, Some, None, refl, sym, arith}
+use Rattle.serde_json.specs.Data.{Data}
+use Rattle.serde_json.specs.Find.{as_array}
+use Rattle.serde_json.specs.View.{items_of}
+use Rattle.job_text.proofs.Items.{list_of-items_of}
+use Rattle.job_readers.specs.Entries.{two_of, pair_of, three_of, triple_of}
+
+two_of-short : (ds : List Data) → length ds < 2 → two_of ds ≡ None
+two_of-short [] h = refl
+two_of-short (a ∷ []) h = refl
+two_of-short (a ∷ (b ∷ ds)) h = absurd (omega arith)
+
+two_of-long : (ds : List Data) → 3 ≤ length ds → two_of ds ≡ None
+two_of-long [] h = refl
+two_of-long (a ∷ []) h = refl
+two_of-long (a ∷ (b ∷ [])) h = absurd (omega arith)
+two_of-long (a ∷ (b ∷ (c ∷ ds))) h = refl
+
+three_of-short : (ds : List Data) → length ds < 3 → three_of ds ≡ None
+three_of-short [] h = refl
+three_of-short (a ∷ []) h = refl
+three_of-short (a ∷ (b ∷ [])) h = refl
+three_of-short (a ∷ (b ∷ (c ∷ ds))) h = absurd (omega arith)
+
+three_of-long : (ds : List Data) → 4 ≤ length ds → three_of ds ≡ None
+three_of-long [] h = refl
+three_of-long (a ∷ []) h = refl
+three_of-long (a ∷ (b ∷ [])) h = refl
+three_of-long (a ∷ (b ∷ (c ∷ []))) h = absurd (omega arith)
+three_of-long (a ∷ (b ∷ (c ∷ (d ∷ ds)))) h = refl
+
+module _ (d : Data) (ds : List Data) (listed : Some (items_of ds) ≡ as_array d) where
+  pub pair-short : length ds < 2 → None ≡ pair_of d
+  pair-short h = rw (← listed, list_of-items_of ds) (sym (two_of-short ds h))
+
+  pub pair-long : 3 ≤ length ds → None ≡ pair_of d
+  pair-long h = rw (← listed, list_of-items_of ds) (sym (two_of-long ds h))
+
+  pub triple-short : length ds < 3 → None ≡ triple_of d
+  triple-short h = rw (← listed, list_of-items_of ds) (sym (three_of-short ds h))
+
+  pub triple-long : 4 ≤ length ds → None ≡ triple_of d
+  triple-long h = rw (← listed, list_of-items_of ds) (sym (three_of-long ds h))

@@ -1,0 +1,42 @@
+-- A loop over the items of a list goes on with the faults of those that are left.
+use Rattle.std.proofs.Common.{◌≡◌, ℕ, ◌+◌, ◌<◌, ◌≤◌, List, [], ◌∷◌, ◌++◌, length, map, take, drop, get_or, refl, ap, subst, sym, ◌∙◌, arith, add-one, drop-cons}
+use Rattle.std.proofs.lemmas.List.{take_more, map-append, drop_all}
+use Rattle.std.proofs.Common.{take_all}
+use Rattle.serde_json.specs.Data.{Data}
+use Rattle.job_text.specs.declared.faults.JobFault.{JobFault}
+use Rattle.job_text.specs.declared.faults.TextErr.{TextErr}
+use Rattle.job_text.specs.Reading.{Fails}
+use Rattle.job_text.specs.Paths.{item_at}
+use Rattle.job_readers.specs.Items.{items_faults}
+use Rattle.job_readers.proofs.Firsts.{fails_before}
+
+module _ {V : Type 0} (g : V → Data) (xs : List V) (i : ℕ) (x : V) (below : i < length xs) (is : x ≡ get_or xs i x) where
+  left : map g (drop i xs) ≡ g x ∷ map g (drop (i + 1) xs)
+  left = rw (drop-cons xs i x, ← is, add-one) refl
+
+  -- an item without a fault
+  pub items-more : (f : List ℕ → Data → List JobFault) (path at : List ℕ) (total : List JobFault) → at ≡ item_at path i → f at (g x) ≡ [] → items_faults f path i (map g (drop i xs)) ≡ total → items_faults f path (i + 1) (map g (drop (i + 1) xs)) ≡ total
+  unfolding items_faults
+  items-more f path at total here good so_far =
+      let none : f (item_at path i) (g x) ≡ [] = ap (λ p. f p (g x)) (sym here) ∙ good in
+      sym (ap (items_faults f path i) left ∙ rw none refl) ∙ so_far
+
+  -- an item with a fault
+  pub items-fail : (f : List ℕ → Data → List JobFault) (path at : List ℕ) (total : List JobFault) (e : TextErr) → at ≡ item_at path i → Fails e (f at (g x)) → items_faults f path i (map g (drop i xs)) ≡ total → Fails e total
+  unfolding items_faults
+  items-fail f path at total e here bad so_far =
+      let one : Fails e (f (item_at path i) (g x)) = subst (λ p. Fails e (f p (g x))) here bad in
+      rw (← so_far, left) (fails_before e (f (item_at path i) (g x)) (items_faults f path (i + 1) (map g (drop (i + 1) xs))) one)
+
+  -- one more value
+  pub values-more : {A : Type 0} (v : Data → A) (out new : List A) → out ≡ map v (map g (take i xs)) → new ≡ out ++ v (g x) ∷ [] → new ≡ map v (map g (take (i + 1) xs))
+  values-more v out new so_far pushed = pushed ∙ rw (so_far, take_more xs i x below, ← is, map-append, map-append) refl
+
+-- no item is left
+pub items-none : {V : Type 0} (g : V → Data) (xs : List V) (i : ℕ) (f : List ℕ → Data → List JobFault) (path : List ℕ) (total : List JobFault) → length xs ≤ i → items_faults f path i (map g (drop i xs)) ≡ total → total ≡ []
+unfolding items_faults
+items-none g xs i f path total end so_far = sym so_far ∙ rw (drop_all i xs end) refl
+
+-- all values
+pub values-all : {V A : Type 0} (g : V → Data) (xs : List V) (i : ℕ) (v : Data → A) (out : List A) → length xs ≤ i → out ≡ map v (map g (take i xs)) → out ≡ map v (map g xs)
+values-all g xs i v out end so_far = so_far ∙ rw (take_all i xs end) refl

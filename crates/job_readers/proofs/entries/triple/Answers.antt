@@ -1,0 +1,13 @@
+use Rattle.std.proofs.Common.{length, map, arith, ap}
+use Rattle.std.proofs.lemmas.List.{length-map}
+use Rattle.serde_json.specs.View.{view}
+use Rattle.job_readers.proofs.EntryLengths.{triple-short, triple-long}
+use Rattle.job_readers.proofs.entries.triple.Goals as goal
+
+pub returns-in_default : goal.returns-in_default
+returns-in_default c =
+    triple-short (view c.args.item.now) (map view c.in_ok-as_array.field-0.now.items) c.in_ok-as_array.ensures (omega (arith, length-map c.in_ok-as_array.field-0.now.items view, ap length c.as_slice.ensures.value))
+
+pub returns-in_default-2 : goal.returns-in_default-2
+returns-in_default-2 c =
+    triple-long (view c.args.item.now) (map view c.in_ok-as_array.field-0.now.items) c.in_ok-as_array.ensures (omega (arith, length-map c.in_ok-as_array.field-0.now.items view, ap length c.as_slice.ensures.value))

@@ -1,0 +1,6 @@
+use Rattle.std.proofs.Common.{◌≡◌, map, take}
+use Rattle.app_graph.specs.declared.graphs.Vertex.{Vertex}
+use Rattle.job_readers.proofs.graph_parts.names_of_vertices.Given as goal
+
+abbrev pub invariant-loop-vertex : goal.invariant-loop-vertex
+invariant-loop-vertex l = l.names ≡ map (λ (v : Vertex). v.name) (take l.vertex-index l.vertices)

@@ -1,0 +1,31 @@
+use Rattle.std.proofs.Common.{◌≡◌, ◌<◌, ◌≤◌, length, map, arith, rules}
+use Rattle.std.proofs.lemmas.Grind.{common_steps}
+use Rattle.std.proofs.lemmas.Result.{err_from_is_err_and}
+use Rattle.serde_json.specs.View.{view}
+use Rattle.job_readers.specs.Items.{items_faults}
+use Rattle.job_readers.specs.MachinePart.{dead_link_faults, dead_link}
+use Rattle.job_readers.proofs.ItemSteps.{items-more, items-fail, values-more, items-none, values-all}
+use Rattle.job_readers.proofs.machine_parts.dead_links.Goals as goal
+
+pub returns-in_err-link-clause-read : goal.returns-in_err-link-clause-read
+returns-in_err-link-clause-read c =
+    let p = err_from_is_err_and c.from_residual-in_err-link.result c.from_residual-in_err-link.ensures.1 in
+    let xs = c.args.items.now in
+    let f = dead_link_faults c.args.width c.args.height in
+    rw (p.1, p.2) (items-fail view xs c.loop-i.i c.index-items-i.result (omega arith) c.index-items-i.is f c.args.path.now c.in_ok-path.path (items_faults f c.args.path.now 0 (map view xs)) c.in_err-link.field-0.0 c.in_ok-path.ensures c.in_err-link.ensures.read c.loop-i.invariant.left)
+
+pub loop-i-preserved : goal.loop-i-preserved
+loop-i-preserved c =
+    let xs = c.args.items.now in
+    let f = dead_link_faults c.args.width c.args.height in
+    record {
+      left = items-more view xs c.loop-i.i c.index-items-i.result (omega arith) c.index-items-i.is f c.args.path.now c.in_ok-path.path (items_faults f c.args.path.now 0 (map view xs)) c.in_ok-path.ensures c.in_ok-link.ensures.read.0 c.loop-i.invariant.left;
+      read = values-more view xs c.loop-i.i c.index-items-i.result (omega arith) c.index-items-i.is dead_link c.loop-i.links c.push.new.self c.loop-i.invariant.read (rw (← c.in_ok-link.ensures.read.1) c.in_ok-push.ensures.ok);
+      inside = grind (arith, common_steps);
+    }
+
+pub returns-clause-read : goal.returns-clause-read
+returns-clause-read c =
+    let xs = c.args.items.now in
+    let f = dead_link_faults c.args.width c.args.height in
+    (items-none view xs c.loop-i.i f c.args.path.now (items_faults f c.args.path.now 0 (map view xs)) (omega arith) c.loop-i.invariant.left, values-all view xs c.loop-i.i dead_link c.loop-i.links (omega arith) c.loop-i.invariant.read)

@@ -1,0 +1,40 @@
+-- Entries of lists: pairs and triples of whole numbers.
+use Rattle.std.specs.Prelude.{ℕ, List, [], ◌∷◌, Option, Some, None, option_map, option_and_then, if◌then◌else◌, ◌==◌, ◌&&◌, Bool, nat_lt, nat_le, unwrap_or}
+use Rattle.serde_json.specs.Data.{Data}
+use Rattle.serde_json.specs.Find.{as_array}
+use Rattle.spin_base.specs.declared.chips.Chip.{Chip}
+use Rattle.spin_base.specs.declared.chips.Spot.{Spot}
+use Rattle.spin_base.specs.declared.chips.Dir.{Dir}
+use Rattle.spin_base.specs.declared.chips.Dir.TheVariants.{East, NorthEast, North, West, SouthWest, South}
+use Rattle.machine_desc.specs.declared.trees.Edge.{Edge}
+use Rattle.job_text.specs.Members.{whole_number, list_of}
+
+-- a list of exactly two whole numbers
+abbrev pub two_of : List Data → Option (ℕ × ℕ)
+two_of [] = None
+two_of (a ∷ []) = None
+two_of (a ∷ (b ∷ [])) = option_and_then (λ x. option_map (λ y. (x, y)) (whole_number b)) (whole_number a)
+two_of (a ∷ (b ∷ (c ∷ ds))) = None
+
+abbrev pub pair_of : Data → Option (ℕ × ℕ)
+pair_of d = option_and_then (λ items. two_of (list_of items)) (as_array d)
+
+-- a list of exactly three whole numbers
+abbrev pub three_of : List Data → Option (ℕ × ℕ × ℕ)
+three_of [] = None
+three_of (a ∷ []) = None
+three_of (a ∷ (b ∷ [])) = None
+three_of (a ∷ (b ∷ (c ∷ []))) =
+    option_and_then (λ x. option_and_then (λ y. option_map (λ z. (x, y, z)) (whole_number c)) (whole_number b)) (whole_number a)
+three_of (a ∷ (b ∷ (c ∷ (d ∷ ds)))) = None
+
+abbrev pub triple_of : Data → Option (ℕ × ℕ × ℕ)
+triple_of d = option_and_then (λ items. three_of (list_of items)) (as_array d)
+
+-- the chip that a pair names
+abbrev pub chip_at : ℕ → ℕ → Chip
+chip_at x y = record { x = x; y = y }
+
+-- The link of a number: the links are numbered from East anticlockwise (SpiNNaker datasheet).
+abbrev pub link_of : ℕ → Dir
+link_of n = if n == 0 then East else (if n == 1 then NorthEast else (if n == 2 then North else (if n == 3 then West else (if n == 4 then SouthWest else South))))

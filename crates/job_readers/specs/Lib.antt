@@ -1,0 +1,10 @@
+pub mod Places
+pub mod Indexed
+pub mod Items
+pub mod Members
+pub mod Entries
+pub mod MachinePart
+pub mod GraphPart
+pub mod RunPart
+pub mod Job
+pub mod WholeJob

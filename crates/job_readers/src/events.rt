@@ -1,0 +1,273 @@
+// Reads the events of a job.
+ghost use Rattle.std.specs.Prelude.{◌≡◌, ◌<◌, ◌≤◌, [], length, map, codes, IfOk, IfSome, All, option_map};
+ghost use Rattle.serde_json.specs.View.{view};
+ghost use Rattle.spin_base.specs.Outputs.{IsOutput};
+ghost use Rattle.job_text.specs.Reading.{Gives};
+ghost use Rattle.app_graph.specs.ValidGraph.{IsValidGraph};
+ghost use Rattle.job_readers.specs.Items.{items_faults};
+ghost use Rattle.job_readers.specs.RunPart.{link_named, core_named, port_named, out_named, one_text, chip_and_text, items_in, at_vertex_faults, at_vertex, at_chip_faults, chip_of_event, port_of_event, out_of_event, worded_faults, worded_event, event_faults, event_value, vertex_names_of, events_faults, events_value, IsEventOf};
+
+use crate::graph_parts::names_of_vertices;
+use crate::members::long_list_of;
+use crate::names::{Names, unknown};
+use app_graph::Graph;
+use job_text::{TextErr, item_path, may_name, member_path, range, shape};
+use serde_json::Value;
+use spin_base::{Chip, Dir, Event, Name, Out, Port, Seq};
+use std::alloc::Global;
+
+// The link that a word names.
+#[tactic(auto, unfolding(crate::specs::RunPart::link_named, crate::specs::RunPart::link_words))]
+fn link_named(word: &str) -> Option<Dir>
+    ensures { result ≡ link_named word.now }
+{
+    match word {
+        "E" => Some(Dir::East),
+        "NE" => Some(Dir::NorthEast),
+        "N" => Some(Dir::North),
+        "W" => Some(Dir::West),
+        "SW" => Some(Dir::SouthWest),
+        "S" => Some(Dir::South),
+        _ => None,
+    }
+}
+
+// The core that a word names.
+#[tactic(auto, unfolding(crate::specs::RunPart::core_named, crate::specs::RunPart::core_words))]
+fn core_named(word: &str) -> Option<u8>
+    ensures value { result ≡ core_named word.now }
+    ensures core { IfSome result (λ p. p < 18) }
+{
+    match word {
+        "c0" => Some(0),
+        "c1" => Some(1),
+        "c2" => Some(2),
+        "c3" => Some(3),
+        "c4" => Some(4),
+        "c5" => Some(5),
+        "c6" => Some(6),
+        "c7" => Some(7),
+        "c8" => Some(8),
+        "c9" => Some(9),
+        "c10" => Some(10),
+        "c11" => Some(11),
+        "c12" => Some(12),
+        "c13" => Some(13),
+        "c14" => Some(14),
+        "c15" => Some(15),
+        "c16" => Some(16),
+        "c17" => Some(17),
+        _ => None,
+    }
+}
+
+#[tactic(auto, unfolding(crate::specs::RunPart::port_named))]
+fn port_named(word: &str) -> Option<Port>
+    ensures { result ≡ port_named word.now }
+{
+    if word == "L" {
+        return Some(Port::Local);
+    }
+    match link_named(word) {
+        Some(link) => Some(Port::Link(link)),
+        None => None,
+    }
+}
+
+#[tactic(auto, unfolding(crate::specs::RunPart::out_named))]
+fn out_named(word: &str) -> Option<Out>
+    ensures value { result ≡ out_named word.now }
+    ensures output { IfSome result IsOutput }
+{
+    if let Some(link) = link_named(word) {
+        return Some(Out::Link(link));
+    }
+    match core_named(word) {
+        Some(core) => Some(Out::Core(core)),
+        None => None,
+    }
+}
+
+// The vertex of an event, by its name.
+#[tactic(auto, using(crate::proofs::Firsts::firsts, crate::proofs::PlaceSteps::bounds), unfolding(crate::specs::RunPart::at_vertex_faults, crate::specs::RunPart::at_vertex))]
+fn vertex_of(alloc: Global, rest: &[Value], path: &Name, vertices: &Names) -> Result<u32, TextErr>
+    ensures read { Gives (λ v. v) result (at_vertex_faults vertices.now path.now (map view rest.now)) (at_vertex vertices.now (map view rest.now)) }
+    ensures below { IfOk result (λ v. v < length vertices.now) }
+{
+    let Some(said) = one_text(rest) else {
+        return Err(shape(alloc, path));
+    };
+    if !may_name(said) {
+        return Err(range(alloc, path));
+    }
+    match vertices.place(said) {
+        Some(v) => Ok(v),
+        None => Err(unknown(alloc, path)),
+    }
+}
+
+// Exactly one text.
+fn one_text<'a>(rest: &'a [Value]) -> Option<&'a str>
+    ensures { option_map (λ s. s.now) result ≡ one_text (map view rest.now) }
+{
+    match rest {
+        [said] => said.as_str(),
+        _ => None,
+    }
+}
+
+// Exactly two whole numbers and a text.
+fn chip_and_text<'a>(rest: &'a [Value]) -> Option<(u64, u64, &'a str)>
+    ensures { option_map (λ t. (t.0, t.1, t.2.now)) result ≡ chip_and_text (map view rest.now) }
+{
+    match rest {
+        [x, y, word] => Some((x.as_u64()?, y.as_u64()?, word.as_str()?)),
+        _ => None,
+    }
+}
+
+// The chip and the port of an event.
+#[tactic(auto, unfolding(crate::specs::RunPart::at_chip_faults, crate::specs::RunPart::chip_of_event, crate::specs::RunPart::port_of_event))]
+fn chip_and_port(alloc: Global, rest: &[Value], path: &Name) -> Result<(Chip, Port), TextErr>
+    ensures { Gives (λ t. t) result (at_chip_faults port_named path.now (map view rest.now)) (chip_of_event (map view rest.now), port_of_event (map view rest.now)) }
+{
+    let Some((x, y, word)) = chip_and_text(rest) else {
+        return Err(shape(alloc, path));
+    };
+    if x > 63 {
+        return Err(range(alloc, path));
+    }
+    if y > 63 {
+        return Err(range(alloc, path));
+    }
+    let Some(port) = port_named(word) else {
+        return Err(range(alloc, path));
+    };
+    Ok((
+        Chip {
+            x: x as u8,
+            y: y as u8,
+        },
+        port,
+    ))
+}
+
+// The chip and the output of an event.
+#[tactic(auto, unfolding(crate::specs::RunPart::at_chip_faults, crate::specs::RunPart::chip_of_event, crate::specs::RunPart::out_of_event))]
+fn chip_and_out(alloc: Global, rest: &[Value], path: &Name) -> Result<(Chip, Out), TextErr>
+    ensures read { Gives (λ t. t) result (at_chip_faults out_named path.now (map view rest.now)) (chip_of_event (map view rest.now), out_of_event (map view rest.now)) }
+    ensures output { IfOk result (λ t. IsOutput t.1) }
+{
+    let Some((x, y, word)) = chip_and_text(rest) else {
+        return Err(shape(alloc, path));
+    };
+    if x > 63 {
+        return Err(range(alloc, path));
+    }
+    if y > 63 {
+        return Err(range(alloc, path));
+    }
+    let Some(out) = out_named(word) else {
+        return Err(range(alloc, path));
+    };
+    Ok((
+        Chip {
+            x: x as u8,
+            y: y as u8,
+        },
+        out,
+    ))
+}
+
+// The event that begins with a word.
+#[tactic(auto, unfolding(crate::specs::RunPart::worded_faults, crate::specs::RunPart::worded_event))]
+fn worded(
+    alloc: Global,
+    word: &str,
+    rest: &[Value],
+    path: &Name,
+    vertices: &Names,
+) -> Result<Event, TextErr>
+    ensures read { Gives (λ e. e) result (worded_faults vertices.now path.now word.now (map view rest.now)) (worded_event vertices.now word.now (map view rest.now)) }
+    ensures valid { IfOk result (IsEventOf (length vertices.now)) }
+{
+    if word == "inject" {
+        return Ok(Event::Inject(vertex_of(alloc, rest, path, vertices)?));
+    }
+    if word == "take" {
+        let (chip, port) = chip_and_port(alloc, rest, path)?;
+        return Ok(Event::Take(chip, port));
+    }
+    if word == "send" {
+        let (chip, out) = chip_and_out(alloc, rest, path)?;
+        return Ok(Event::Send(chip, out));
+    }
+    if word == "dump" {
+        let (chip, out) = chip_and_out(alloc, rest, path)?;
+        return Ok(Event::Dump(chip, out));
+    }
+    if word == "collect" {
+        return Ok(Event::Collect(vertex_of(alloc, rest, path, vertices)?));
+    }
+    Err(range(alloc, path))
+}
+
+// The items of a value that is a list, and none of any other.
+fn items_in<'a>(item: &'a Value) -> &'a [Value]
+    ensures { map view result.now ≡ items_in (view item.now) }
+{
+    match item.as_array() {
+        Some(items) => items.as_slice(),
+        None => &[],
+    }
+}
+
+#[tactic(auto, unfolding(crate::specs::RunPart::event_faults, crate::specs::RunPart::event_value))]
+fn event(alloc: Global, item: &Value, path: &Name, vertices: &Names) -> Result<Event, TextErr>
+    ensures read { Gives (λ e. e) result (event_faults vertices.now path.now (view item.now)) (event_value vertices.now (view item.now)) }
+    ensures valid { IfOk result (IsEventOf (length vertices.now)) }
+{
+    let [head, rest @ ..] = items_in(item) else {
+        return Err(shape(alloc, path));
+    };
+    let Some(word) = head.as_str() else {
+        return Err(shape(alloc, path));
+    };
+    worded(alloc, word, rest, path, vertices)
+}
+
+fn each_event(
+    alloc: Global,
+    items: &[Value],
+    path: &Name,
+    vertices: &Names,
+) -> Result<Seq<Event>, TextErr>
+    ensures read { Gives (λ e. e) result (items_faults (event_faults vertices.now) path.now 0 (map view items.now)) (map (event_value vertices.now) (map view items.now)) }
+    ensures valid { IfOk result (λ es. All (IsEventOf (length vertices.now)) es) }
+{
+    let mut events = Seq::new(alloc);
+    for (i, item) in items.iter().enumerate() {
+        let path = item_path(alloc, path, i as u64)?;
+        let event = event(alloc, item, &path, vertices)?;
+        events.push(event)?;
+    }
+    Ok(events)
+}
+
+// The events of a run part.
+#[tactic(auto, using(crate::proofs::Firsts::firsts), unfolding(crate::specs::RunPart::events_faults, crate::specs::RunPart::events_value, crate::specs::RunPart::vertex_names_of))]
+pub(crate) fn events(
+    alloc: Global,
+    run: &Value,
+    path: &Name,
+    graph: &Graph,
+) -> Result<Seq<Event>, TextErr>
+    requires { IsValidGraph graph.now }
+    ensures read { Gives (λ e. e) result (events_faults graph.now.vertices path.now (view run.now)) (events_value graph.now.vertices (view run.now)) }
+    ensures valid { IfOk result (λ es. All (IsEventOf (length graph.now.vertices)) es) }
+{
+    let items = long_list_of(alloc, run, path, "events", false)?;
+    let path = member_path(alloc, path, "events")?;
+    let names = names_of_vertices(alloc, graph.vertices.as_slice())?;
+    each_event(alloc, items, &path, &names)
+}

@@ -1,0 +1,47 @@
+// The whole job.
+ghost use Rattle.std.specs.Prelude.{◌≡◌, IfOk};
+ghost use Rattle.serde_json.specs.View.{view};
+ghost use Rattle.job_text.specs.Reading.{Gives};
+ghost use Rattle.app_graph.specs.ValidGraph.{IsValidGraph};
+ghost use Rattle.job_readers.specs.RunPart.{IsRunOf};
+ghost use Rattle.job_readers.specs.WholeJob.{job_faults, job_value};
+
+use crate::graph_parts::graph_of;
+use crate::machine_parts::machine_of;
+use crate::run_parts::run_of;
+use crate::versions::version_of;
+use app_graph::{Graph, RunPart};
+use job_text::TextErr;
+use machine_desc::Machine;
+use serde_json::Value;
+use std::alloc::Global;
+
+/// A job: its machine, its graph, and how it is to run.
+#[derive(Debug, Drop)]
+pub struct Job {
+    pub machine: Machine,
+    pub graph: Graph,
+    pub run: RunPart,
+}
+
+/// The job that a value is.
+///
+/// # Errors
+///
+/// `Fault` with the job's first fault in the order of reading; `Memory`.
+#[tactic(auto, using(crate::proofs::Parts::parts), unfolding(crate::specs::WholeJob::job_faults, crate::specs::WholeJob::job_value))]
+pub fn job_of(alloc: Global, value: &Value) -> Result<Job, TextErr>
+    ensures job { Gives (λ j. j) result (job_faults (view value.now)) (job_value (view value.now)) }
+    ensures graph { IfOk result (λ j. IsValidGraph j.graph) }
+    ensures run { IfOk result (λ j. IsRunOf j.graph j.run) }
+{
+    version_of(alloc, value)?;
+    let machine = machine_of(alloc, value)?;
+    let graph = graph_of(alloc, value)?;
+    let run = run_of(alloc, value, &machine, &graph)?;
+    Ok(Job {
+        machine,
+        graph,
+        run,
+    })
+}

@@ -1,0 +1,24 @@
+//! Reads a job out of a JSON value: its version, its machine, its graph, and how it is to run.
+//!
+//! `version_of`, `machine_of`, `graph_of` and `run_of` read one part each. Called in this order they give the job, or
+//! the first of its faults in the order of reading, with its path. `specs/` lists all faults of a part in that order,
+//! and what the part is. The format is this project's own.
+#![tactic(auto)]
+
+mod entries;
+mod events;
+mod graph_parts;
+mod jobs;
+mod machine_parts;
+mod members;
+mod names;
+mod run_parts;
+#[cfg(test)]
+mod tests;
+mod versions;
+
+pub use graph_parts::graph_of;
+pub use jobs::{Job, job_of};
+pub use machine_parts::machine_of;
+pub use run_parts::run_of;
+pub use versions::version_of;

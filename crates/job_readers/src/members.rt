@@ -1,0 +1,77 @@
+// Reads members of an object. Each has the path of the object, then its own name.
+ghost use Rattle.std.specs.Prelude.{◌≡◌, ◌≤◌, length, map, IfOk, IfSome};
+ghost use Rattle.serde_json.specs.View.{view};
+ghost use Rattle.job_text.specs.Reading.{Gives};
+ghost use Rattle.job_readers.specs.Members.{number_member_faults, number_member, flag_member_faults, flag_member, list_member_faults, long_list_member_faults, list_member};
+
+use job_text::{TextErr, count_to, flag, list, member, member_path, number_in};
+use serde_json::Value;
+use spin_base::Name;
+use std::alloc::Global;
+
+// A number from `low` to `high`.
+#[tactic(auto, unfolding(crate::specs::Members::number_member_faults, crate::specs::Members::number_member))]
+pub(crate) fn number_of(
+    alloc: Global,
+    object: &Value,
+    path: &Name,
+    name: &str,
+    low: u64,
+    high: u64,
+    default: Option<u64>,
+) -> Result<u64, TextErr>
+    ensures read { Gives (λ n. n) result (number_member_faults path.now name.now low high default (view object.now)) (number_member name.now default (view object.now)) }
+    ensures within { IfOk result (λ n. IfSome default (λ d. (low ≤ d) × (d ≤ high)) → (low ≤ n) × (n ≤ high)) }
+{
+    let path = member_path(alloc, path, name)?;
+    number_in(alloc, member(object, name), &path, low, high, default)
+}
+
+// A truth value.
+#[tactic(auto, unfolding(crate::specs::Members::flag_member_faults, crate::specs::Members::flag_member))]
+pub(crate) fn flag_of(
+    alloc: Global,
+    object: &Value,
+    path: &Name,
+    name: &str,
+    default: bool,
+) -> Result<bool, TextErr>
+    ensures { Gives (λ b. b) result (flag_member_faults path.now name.now (view object.now)) (flag_member name.now default (view object.now)) }
+{
+    let path = member_path(alloc, path, name)?;
+    flag(alloc, member(object, name), &path, default)
+}
+
+// A list of at most `limit` items, whose path is given.
+#[tactic(auto, using(crate::proofs::Firsts::firsts), unfolding(crate::specs::Members::list_member_faults, crate::specs::Members::list_member))]
+pub(crate) fn list_of<'a>(
+    alloc: Global,
+    object: &'a Value,
+    path: &Name,
+    name: &str,
+    needed: bool,
+    limit: u64,
+) -> Result<&'a [Value], TextErr>
+    ensures read { Gives (λ items. map view items.now) result (list_member_faults path.now name.now needed limit (view object.now)) (list_member name.now (view object.now)) }
+    ensures within { IfOk result (λ items. length items.now ≤ limit) }
+{
+    let path = member_path(alloc, path, name)?;
+    let items = list(alloc, member(object, name), &path, needed)?;
+    count_to(alloc, &path, limit, items.len() as u64)?;
+    Ok(items)
+}
+
+// A list of any number of items.
+#[tactic(auto, unfolding(crate::specs::Members::long_list_member_faults, crate::specs::Members::list_member))]
+pub(crate) fn long_list_of<'a>(
+    alloc: Global,
+    object: &'a Value,
+    path: &Name,
+    name: &str,
+    needed: bool,
+) -> Result<&'a [Value], TextErr>
+    ensures { Gives (λ items. map view items.now) result (long_list_member_faults path.now name.now needed (view object.now)) (list_member name.now (view object.now)) }
+{
+    let path = member_path(alloc, path, name)?;
+    list(alloc, member(object, name), &path, needed)
+}

@@ -1,0 +1,140 @@
+// Names in the order of a list, looked up in a map.
+ghost use Rattle.std.specs.Prelude.{◌≡◌, ◌<◌, [], ◌∷◌, ◌++◌, length, option_map, unwrap_or, map, IfOk};
+ghost use Rattle.serde_json.specs.View.{view};
+ghost use Rattle.job_text.specs.Reading.{Gives, Fails};
+ghost use Rattle.job_text.specs.Fields.{text_value};
+ghost use Rattle.job_text.specs.declared.faults.JobFault.TheVariants.{UnknownName, DoubleName};
+ghost use Rattle.job_readers.specs.Places.{place_in, reference_faults, reference_value, new_name_faults};
+ghost use Rattle.job_readers.specs.GraphPart.{name_of};
+
+use job_text::{JobFault, TextErr, member, text_in};
+use serde_json::Value;
+use spin_base::{Memory, Name};
+use std::alloc::Global;
+use std::collections::HashMap;
+use std::marker::Model;
+
+// The names of a list, in its order. Contracts see the list; a map tells the first place of each name.
+#[derive(Drop)]
+pub(crate) struct Names<'a> {
+    said: Vec<&'a str>,
+    places: HashMap<&'a str, u32>,
+}
+
+impl<'a> Model for Names<'a> {
+    ghost use Rattle.std.specs.Prelude.{ℕ, List};
+    ghost use Rattle.job_readers.specs.Indexed.{said_of, IsIndexed};
+
+    ghost Value = { List (List ℕ) };
+
+    ghost view = { said_of };
+
+    ghost invariant = { IsIndexed };
+}
+
+impl<'a> Names<'a> {
+    // No name.
+    pub(crate) fn new(alloc: Global) -> Names<'a>
+        ensures { result ≡ [] }
+    {
+        Names {
+            said: Vec::new(alloc),
+            places: HashMap::new(alloc),
+        }
+    }
+
+    // The first place of a name.
+    pub(crate) fn place(&self, name: &str) -> Option<u32>
+        ensures { result ≡ place_in self.now name.now }
+    {
+        self.places.get(name).copied()
+    }
+
+    // The names, and one more at the end.
+    pub(crate) fn with(self, name: &'a str) -> Result<Names<'a>, Memory>
+        requires { length self < 4294967296 }
+        ensures { IfOk result (λ names. names ≡ self.entry ++ name.now ∷ []) }
+    {
+        let known = self.place(name).is_some();
+        let Names {
+            mut said,
+            mut places,
+        } = self;
+        let count = said.len() as u32;
+        said.push(name)?;
+        if known {
+            return Ok(Names { said, places });
+        }
+        places.insert(name, count)?;
+        Ok(Names { said, places })
+    }
+}
+
+// The error of a name that refers to nothing.
+pub(crate) fn unknown(alloc: Global, path: &Name) -> TextErr
+    ensures { Fails result (UnknownName path.now ∷ []) }
+{
+    match Name::of(alloc, path.as_str()) {
+        Ok(path) => TextErr::Fault(JobFault::UnknownName(path)),
+        Err(_) => TextErr::Memory,
+    }
+}
+
+// The error of a name that stands earlier.
+fn double(alloc: Global, path: &Name) -> TextErr
+    ensures { Fails result (DoubleName path.now ∷ []) }
+{
+    match Name::of(alloc, path.as_str()) {
+        Ok(path) => TextErr::Fault(JobFault::DoubleName(path)),
+        Err(_) => TextErr::Memory,
+    }
+}
+
+// The place of the name that a text is.
+#[tactic(auto, using(crate::proofs::Firsts::firsts), unfolding(crate::specs::Places::reference_faults, crate::specs::Places::reference_value))]
+pub(crate) fn reference(
+    alloc: Global,
+    v: Option<&Value>,
+    path: &Name,
+    names: &Names,
+) -> Result<u32, TextErr>
+    ensures read { Gives (λ i. i) result (reference_faults names.now path.now (option_map (λ d. view d.now) v.entry)) (reference_value names.now (option_map (λ d. view d.now) v.entry)) }
+    ensures below { IfOk result (λ i. i < length names.now) }
+{
+    let said = text_in(alloc, v, path)?;
+    match names.place(said) {
+        Some(i) => Ok(i),
+        None => Err(unknown(alloc, path)),
+    }
+}
+
+// A name that is none of those before it.
+#[tactic(auto, using(crate::proofs::Firsts::firsts), unfolding(crate::specs::Places::new_name_faults))]
+pub(crate) fn new_name<'a>(
+    alloc: Global,
+    v: Option<&'a Value>,
+    path: &Name,
+    before: &Names,
+) -> Result<&'a str, TextErr>
+    ensures { Gives (λ s. s.now) result (new_name_faults before.now path.now (option_map (λ d. view d.now) v.entry)) (text_value (option_map (λ d. view d.now) v.entry)) }
+{
+    let said = text_in(alloc, v, path)?;
+    if before.place(said).is_some() {
+        return Err(double(alloc, path));
+    }
+    Ok(said)
+}
+
+// The name that an item says, and no text where it says none.
+#[tactic(auto, unfolding(crate::specs::GraphPart::name_of))]
+pub(crate) fn said_name<'a>(item: &'a Value) -> &'a str
+    ensures { result.now ≡ name_of (view item.now) }
+{
+    match member(item, "name") {
+        Some(name) => match name.as_str() {
+            Some(said) => said,
+            None => "",
+        },
+        None => "",
+    }
+}

@@ -1,0 +1,243 @@
+// Reads the run part of a job.
+ghost use Rattle.std.specs.Prelude.{◌≡◌, ◌+◌, ◌*◌, ◌<◌, ◌≤◌, ◌-◌, [], length, map, codes, option_map, IfOk, All, Some, None};
+ghost use Rattle.serde_json.specs.View.{view};
+ghost use Rattle.serde_json.specs.Data.{null};
+ghost use Rattle.job_text.specs.Fields.{object_value};
+ghost use Rattle.job_text.specs.Reading.{Gives, ◌▹◌};
+ghost use Rattle.machine_desc.specs.Live.{live_count_of};
+ghost use Rattle.app_graph.specs.ValidGraph.{IsValidGraph};
+ghost use Rattle.job_readers.specs.Items.{items_faults};
+ghost use Rattle.job_readers.specs.Members.{number_member_faults, number_member, optional_number};
+ghost use Rattle.job_readers.specs.Job.{own_faults};
+ghost use Rattle.job_readers.specs.RunPart.{net_names, keys_of, packet_net_faults, packet_net, packet_faults, packet_value, packets_faults, packets_value, IsPacketOf, vertex_names_of, events_faults, events_value, IsEventOf, places_faults, run_members_faults, run_members, optional_object_faults, run_faults, run_value, IsRunOf};
+
+use crate::events::events;
+use crate::members::{list_of, number_of};
+use crate::names::{Names, reference};
+use app_graph::{Graph, Net, RunPart};
+use job_text::{
+    TextErr, count_to, field, item_path, member, member_path, number_in, object, shape,
+};
+use machine_desc::Machine;
+use serde_json::Value;
+use spin_base::{Memory, Name, Packet, Seq};
+use std::alloc::Global;
+
+/// The most packets of a job.
+const MOST_PACKETS: u64 = 65536;
+
+/// The most places of all queues together.
+const MOST_PLACES: u64 = 16777216;
+
+// The net of a packet.
+#[tactic(auto, unfolding(crate::specs::RunPart::packet_net_faults, crate::specs::RunPart::packet_net))]
+fn net_of_packet(
+    alloc: Global,
+    item: &Value,
+    path: &Name,
+    names: &Names,
+    graph: &Graph,
+) -> Result<u32, TextErr>
+    requires { names.now ≡ net_names graph.now.nets }
+    ensures read { Gives (λ i. i) result (packet_net_faults graph.now.nets path.now (view item.now)) (packet_net graph.now.nets (view item.now)) }
+    ensures below { IfOk result (λ i. i < length graph.now.nets) }
+{
+    let path = member_path(alloc, path, "net")?;
+    reference(alloc, member(item, "net"), &path, names)
+}
+
+// The last key of a net, counted from 0.
+fn last_key(graph: &Graph, net: u32) -> u64
+    requires valid { IsValidGraph graph.now }
+    requires below { net < length graph.now.nets }
+    ensures last { result ≡ keys_of graph.now.nets net - 1 }
+    ensures key { result < keys_of graph.now.nets net }
+    ensures small { result < 4294967296 }
+{
+    graph.nets.get(net as usize).keys - 1
+}
+
+// The payload of a packet.
+#[tactic(auto, unfolding(crate::specs::Members::number_member_faults, crate::specs::Members::optional_number))]
+fn payload_of(alloc: Global, item: &Value, path: &Name) -> Result<Option<u32>, TextErr>
+    ensures { Gives (λ p. p) result (number_member_faults path.now (codes "payload") 0 4294967295 (Some 0) (view item.now)) (optional_number (codes "payload") (view item.now)) }
+{
+    let path = member_path(alloc, path, "payload")?;
+    let Some(found) = member(item, "payload") else {
+        return Ok(None);
+    };
+    let payload = number_in(alloc, Some(found), &path, 0, 4294967295, None)?;
+    Ok(Some(payload as u32))
+}
+
+#[tactic(auto, using(crate::proofs::Firsts::firsts), unfolding(crate::specs::RunPart::packet_faults, crate::specs::RunPart::packet_value))]
+fn packet(
+    alloc: Global,
+    item: &Value,
+    path: &Name,
+    names: &Names,
+    graph: &Graph,
+) -> Result<Packet, TextErr>
+    requires named { names.now ≡ net_names graph.now.nets }
+    requires valid { IsValidGraph graph.now }
+    ensures read { Gives (λ p. p) result (packet_faults graph.now.nets path.now (view item.now)) (packet_value graph.now.nets (view item.now)) }
+    ensures found { IfOk result (IsPacketOf graph.now.nets) }
+{
+    let item = object(alloc, Some(item), path)?;
+    let net = net_of_packet(alloc, item, path, names, graph)?;
+    let last = last_key(graph, net);
+    let index = number_of(alloc, item, path, "index", 0, last, None)? as u32;
+    let payload = payload_of(alloc, item, path)?;
+    Ok(Packet {
+        net,
+        index,
+        payload,
+    })
+}
+
+fn each_packet(
+    alloc: Global,
+    items: &[Value],
+    path: &Name,
+    names: &Names,
+    graph: &Graph,
+) -> Result<Seq<Packet>, TextErr>
+    requires named { names.now ≡ net_names graph.now.nets }
+    requires valid { IsValidGraph graph.now }
+    ensures read { Gives (λ p. p) result (items_faults (packet_faults graph.now.nets) path.now 0 (map view items.now)) (map (packet_value graph.now.nets) (map view items.now)) }
+    ensures found { IfOk result (λ ps. All (IsPacketOf graph.now.nets) ps) }
+    ensures count { IfOk result (λ ps. length ps ≡ length items.now) }
+{
+    let mut packets = Seq::new(alloc);
+    for (i, item) in items.iter().enumerate() {
+        let path = item_path(alloc, path, i as u64)?;
+        let packet = packet(alloc, item, &path, names, graph)?;
+        packets.push(packet)?;
+    }
+    Ok(packets)
+}
+
+// The names of nets.
+#[tactic(auto, unfolding(crate::specs::RunPart::net_names))]
+fn names_of_nets<'a>(alloc: Global, nets: &'a [Net]) -> Result<Names<'a>, Memory>
+    requires { length nets.now ≤ 4096 }
+    ensures { IfOk result (λ names. names ≡ net_names nets.now) }
+{
+    let mut names = Names::new(alloc);
+    for net in nets {
+        names = names.with(net.name.as_str())?;
+    }
+    Ok(names)
+}
+
+#[tactic(auto, using(crate::proofs::Firsts::firsts), unfolding(crate::specs::RunPart::packets_faults, crate::specs::RunPart::packets_value))]
+fn packets(alloc: Global, run: &Value, path: &Name, graph: &Graph) -> Result<Seq<Packet>, TextErr>
+    requires { IsValidGraph graph.now }
+    ensures read { Gives (λ p. p) result (packets_faults graph.now.nets path.now (view run.now)) (packets_value graph.now.nets (view run.now)) }
+    ensures found { IfOk result (λ ps. All (IsPacketOf graph.now.nets) ps) }
+    ensures few { IfOk result (λ ps. length ps ≤ 65536) }
+{
+    let items = list_of(alloc, run, path, "packets", false, MOST_PACKETS)?;
+    let path = member_path(alloc, path, "packets")?;
+    let names = names_of_nets(alloc, graph.nets.as_slice())?;
+    each_packet(alloc, items, &path, &names, graph)
+}
+
+// Tests that the places of all queues are not too many.
+#[tactic(auto, unfolding(crate::specs::RunPart::places_faults))]
+fn places_to(
+    alloc: Global,
+    run: &Value,
+    path: &Name,
+    queue: u32,
+    live: u32,
+    vertices: u32,
+) -> Result<(), TextErr>
+    requires queue { queue ≡ number_member (codes "queue") (Some 16) (view run.now) }
+    requires few { queue ≤ 65536 }
+    requires vertices { vertices ≤ 16384 }
+    ensures { Gives (λ u. u) result (places_faults live vertices path.now (view run.now)) tt }
+{
+    let path = member_path(alloc, path, "queue")?;
+    let places = u64::from(queue) * (7 * u64::from(live) + u64::from(vertices));
+    count_to(alloc, &path, MOST_PLACES, places)
+}
+
+#[tactic(auto, using(crate::proofs::Firsts::firsts), unfolding(crate::specs::RunPart::run_members_faults, crate::specs::RunPart::run_members))]
+fn run_members(
+    alloc: Global,
+    run: &Value,
+    path: &Name,
+    machine: &Machine,
+    graph: &Graph,
+) -> Result<RunPart, TextErr>
+    requires { IsValidGraph graph.now }
+    ensures read { Gives (λ r. r) result (run_members_faults (live_count_of machine.now) graph.now path.now (view run.now)) (run_members graph.now (view run.now)) }
+    ensures found { IfOk result (IsRunOf graph.now) }
+{
+    let queue = number_of(alloc, run, path, "queue", 1, 65536, Some(16))? as u32;
+    let patience = number_of(alloc, run, path, "patience", 1, 255, Some(16))? as u32;
+    let workers = number_of(alloc, run, path, "workers", 1, 64, Some(1))? as u32;
+    let turns = number_of(alloc, run, path, "turns", 1, 64, Some(16))? as u32;
+    let target = number_of(alloc, run, path, "target", 0, 1024, Some(1024))? as u32;
+    let packets = packets(alloc, run, path, graph)?;
+    let events = events(alloc, run, path, graph)?;
+    let vertices = graph.vertices.len() as u32;
+    places_to(alloc, run, path, queue, machine.live_count(), vertices)?;
+    Ok(RunPart {
+        queue,
+        patience,
+        workers,
+        turns,
+        target,
+        packets,
+        events,
+    })
+}
+
+// The object at a path, and null where it is absent.
+#[tactic(auto, unfolding(crate::specs::RunPart::optional_object_faults))]
+fn optional_object<'a>(
+    alloc: Global,
+    v: Option<&'a Value>,
+    path: &Name,
+    absent: &'a Value,
+) -> Result<&'a Value, TextErr>
+    requires { view absent.now ≡ null }
+    ensures { Gives (λ d. view d.now) result (optional_object_faults path.now (option_map (λ d. view d.now) v.entry)) (object_value (option_map (λ d. view d.now) v.entry)) }
+{
+    match v {
+        Some(found) => {
+            if found.is_object() {
+                Ok(found)
+            } else {
+                Err(shape(alloc, path))
+            }
+        }
+        None => Ok(absent),
+    }
+}
+
+/// The run part of a job, for its machine and its graph.
+///
+/// # Errors
+///
+/// `Fault` with the first fault of the job's own shape and of its run part; `Memory`.
+#[tactic(auto, using(crate::proofs::Firsts::firsts), unfolding(crate::specs::Job::own_faults, crate::specs::RunPart::run_faults, crate::specs::RunPart::run_value))]
+pub fn run_of(
+    alloc: Global,
+    job: &Value,
+    machine: &Machine,
+    graph: &Graph,
+) -> Result<RunPart, TextErr>
+    requires { IsValidGraph graph.now }
+    ensures run { Gives (λ r. r) result (own_faults (view job.now) ▹ run_faults machine.now graph.now (view job.now)) (run_value graph.now (view job.now)) }
+    ensures found { IfOk result (IsRunOf graph.now) }
+{
+    let path = Name::of(alloc, "job")?;
+    let found = field(alloc, job, &path, "run")?;
+    let path = Name::of(alloc, "job.run")?;
+    let absent = Value::Null;
+    let run = optional_object(alloc, found, &path, &absent)?;
+    run_members(alloc, run, &path, machine, graph)
+}

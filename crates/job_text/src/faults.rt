@@ -1,0 +1,79 @@
+// What a job's text may have wrong.
+ghost use Rattle.std.specs.Prelude.{◌≡◌};
+ghost use Rattle.job_text.specs.declared.faults.TextErr.TheVariants.{Memory};
+
+use spin_base::Name;
+use std::alloc::{AllocError, AllocFailed};
+
+/// A fault of a job's text, with the path of the part that has it: `job`, then `.name` for a member and `[i]` for an
+/// item of a list, counted from 0.
+#[derive(Debug, Drop)]
+pub enum JobFault {
+    /// The part is absent and has no default, or is of another JSON type.
+    Shape(Name),
+    /// The part is of the right type, and its value is not allowed.
+    Range(Name),
+    /// No vertex or net has that name.
+    UnknownName(Name),
+    /// The name stands earlier in the same list.
+    DoubleName(Name),
+    /// So many are too many.
+    TooMany(Name, u64),
+}
+
+impl PartialEq for JobFault {
+    ghost use Rattle.std.specs.Prelude.{bytes_eq};
+    ghost use Rattle.std.specs.Cmp.{on_per, partial_equiv_from_equiv};
+    ghost use Rattle.std.specs.Cmp.Lexicographic.{nat_list_eq_equiv};
+    ghost use Rattle.job_text.specs.Equality.{code_of};
+
+    ghost eq = { λ a b. bytes_eq (code_of a) (code_of b) };
+
+    ghost laws = { on_per code_of (partial_equiv_from_equiv nat_list_eq_equiv) };
+
+    fn eq(&self, other: &JobFault) -> bool {
+        match (self, other) {
+            (JobFault::Shape(a), JobFault::Shape(b)) => a.as_bytes() == b.as_bytes(),
+            (JobFault::Range(a), JobFault::Range(b)) => a.as_bytes() == b.as_bytes(),
+            (JobFault::UnknownName(a), JobFault::UnknownName(b)) => a.as_bytes() == b.as_bytes(),
+            (JobFault::DoubleName(a), JobFault::DoubleName(b)) => a.as_bytes() == b.as_bytes(),
+            (JobFault::TooMany(a, m), JobFault::TooMany(b, n)) => {
+                *m == *n && a.as_bytes() == b.as_bytes()
+            }
+            _ => false,
+        }
+    }
+}
+
+/// Why a part of a job was not read.
+#[derive(Debug, Drop, PartialEq)]
+pub enum TextErr {
+    /// The part's first fault.
+    Fault(JobFault),
+    /// There was not enough memory.
+    Memory,
+}
+
+impl From<AllocError> for TextErr {
+    ghost from_gives = { λ _ e. e ≡ Memory };
+
+    fn from(_: AllocError) -> Self {
+        TextErr::Memory
+    }
+}
+
+impl<T: Drop> From<AllocFailed<T>> for TextErr {
+    ghost from_gives = { λ _ e. e ≡ Memory };
+
+    fn from(_: AllocFailed<T>) -> Self {
+        TextErr::Memory
+    }
+}
+
+impl From<spin_base::Memory> for TextErr {
+    ghost from_gives = { λ _ e. e ≡ Memory };
+
+    fn from(_: spin_base::Memory) -> Self {
+        TextErr::Memory
+    }
+}

@@ -1,0 +1,79 @@
+-- Nets have at most one right list of blocks.
+use Rattle.std.proofs.Common.{◌≡◌, ℕ, ◌+◌, ◌^◌, ◌<◌, ◌≤◌, List, ◌++◌, [], ◌∷◌, length, take, refl, sym, ap, ap₂, ◌∙◌, subst, zero, suc, inl, inr, arith}
+use Rattle.std.specs.Prelude.{bit_and}
+use Rattle.std.proofs.lemmas.List.{take_more, take_all}
+use Rattle.std.proofs.lemmas.Option.{slice_get_cases, slice_get_within}
+use Rattle.std.proofs.lemmas.Bool.{cases_lt}
+use Rattle.spin_base.specs.declared.blocks.Block.{Block}
+use Rattle.app_graph.specs.declared.graphs.Net.{Net}
+use Rattle.tern_word.proofs.BlockLaws.{one_block}
+use Rattle.key_alloc.specs.KeyBlocks.{size_of, IsOpen, IsBlockFor, AreFirstBlocks, AreRightBlocks, AreKeysOut}
+use Rattle.key_alloc.proofs.Sizes.{one_size}
+
+same_parts : (x y : Block) → x.key ≡ y.key → x.mask ≡ y.mask → x ≡ y
+same_parts x y keys masks =
+    let Q : ℕ → Type 0 = λ m. (w : bit_and x.key m ≡ x.key) (s : m < 2 ^ 32) → ◌≡◌ {A = Block} x (record { key = x.key; mask = m; within = w; small = s }) in
+    let q : Q y.mask = subst Q masks (λ w s. one_block x.key x.mask x.within w x.small s) in
+    let R : ℕ → Type 0 = λ k. (w : bit_and k y.mask ≡ k) → ◌≡◌ {A = Block} x (record { key = k; mask = y.mask; within = w; small = y.small }) in
+    let r : R y.key = subst R keys (λ w. q w y.small) in
+    r y.within
+
+same_block : (earlier : List Block) (net : Net) (x y : Block) → IsBlockFor earlier net x → IsBlockFor earlier net y → x ≡ y
+same_block earlier net x y a b =
+    let sizes : size_of x ≡ size_of y = one_size net.keys (size_of x) (size_of y) a.size b.size in
+    let masks : x.mask ≡ y.mask = omega (arith, sizes, x.small, y.small) in
+    let up : x.key ≤ y.key = a.least y.key (subst (λ s. IsOpen earlier s y.key) (sym sizes) b.may) in
+    let down : y.key ≤ x.key = b.least x.key (subst (λ s. IsOpen earlier s x.key) sizes a.may) in
+    same_parts x y (omega arith) masks
+
+-- two lists of first blocks agree as far as both go
+agree : (nets : List Net) (xs ys : List Block) → AreFirstBlocks nets xs → AreFirstBlocks nets ys → (n : ℕ) → n ≤ length xs → n ≤ length ys → take n xs ≡ take n ys
+agree nets xs ys a b zero in_xs in_ys = refl
+agree nets xs ys a b (suc n) in_xs in_ys =
+    let before = agree nets xs ys a b n (omega arith) (omega arith) in
+    elim (slice_get_cases xs n).1 [
+      | inl (x, x_in, is_x, got_x) ↦ elim (slice_get_cases ys n).1 [
+        | inl (y, y_in, is_y, got_y) ↦ elim (slice_get_cases nets n).1 [
+          | inl (net, net_in, is_net, got_net) ↦ (
+              let one = same_block (take n ys) net x y (subst (λ e. IsBlockFor e net x) before (a.each n net x is_net is_x)) (b.each n net y is_net is_y) in
+              let up : suc n ≡ n + 1 = omega arith in
+              ap (λ k. take k xs) up
+              ∙ take_more xs n x x_in
+              ∙ ap₂ (λ (e : List Block) (z : Block). e ++ z ∷ []) before (got_x ∙ one ∙ sym got_y)
+              ∙ sym (take_more ys n y y_in)
+              ∙ ap (λ k. take k ys) (sym up)
+              )
+          | inr (past, none) ↦ absurd (omega (arith, a.few))
+        ]
+        | inr (past, none) ↦ absurd (omega arith)
+      ]
+      | inr (past, none) ↦ absurd (omega arith)
+    ]
+
+-- the shorter of two lists of first blocks is the beginning of the longer
+begins : (nets : List Net) (xs ys : List Block) → AreFirstBlocks nets xs → AreFirstBlocks nets ys → length xs ≤ length ys → take (length xs) ys ≡ xs
+begins nets xs ys a b le = sym (agree nets xs ys a b (length xs) (omega arith) le) ∙ take_all (length xs) xs (omega arith)
+
+pub one_list : (nets : List Net) (xs ys : List Block) → AreRightBlocks nets xs → AreRightBlocks nets ys → xs ≡ ys
+one_list nets xs ys a b = sym (begins nets xs ys a.first b.first (omega (arith, a.all, b.all))) ∙ take_all (length xs) ys (omega (arith, a.all, b.all))
+
+-- where keys are out, no list of first blocks goes beyond
+no_further : (nets : List Net) (xs : List Block) (i : ℕ) → AreFirstBlocks nets xs → AreKeysOut nets i → length xs ≤ i
+no_further nets xs i first out =
+    elim (cases_lt i (length xs)) [
+      | inl beyond ↦ elim (slice_get_cases xs i).1 [
+        | inl (x, x_in, is_x, got_x) ↦ (
+            let mine = first.each i out.net x out.is is_x in
+            let same : take i xs ≡ out.blocks = ap (λ n. take n xs) (sym out.here) ∙ begins nets out.blocks xs out.before first (omega (arith, out.here)) in
+            absurd (out.none (size_of x) x.key mine.size (subst (λ e. IsOpen e (size_of x) x.key) same mine.may))
+            )
+        | inr (past, none) ↦ absurd (omega arith)
+      ]
+      | inr within ↦ within
+    ]
+
+pub not_both : (nets : List Net) (xs : List Block) (i : ℕ) → AreRightBlocks nets xs → AreKeysOut nets i → ⊥
+not_both nets xs i right out = omega (arith, no_further nets xs i right.first out, right.all, slice_get_within nets i out.net out.is)
+
+pub one_net : (nets : List Net) (i j : ℕ) → AreKeysOut nets i → AreKeysOut nets j → i ≡ j
+one_net nets i j a b = omega (arith, no_further nets a.blocks j a.before b, no_further nets b.blocks i b.before a, a.here, b.here)

@@ -1,0 +1,4 @@
+pub mod Sizes
+pub mod Taking
+pub mod Growing
+pub mod Determined

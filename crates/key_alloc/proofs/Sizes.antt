@@ -1,0 +1,39 @@
+-- The size for a number of keys.
+use Rattle.std.proofs.Common.{◌≡◌, ℕ, ◌+◌, ◌*◌, ◌/◌, ◌^◌, ◌<◌, ◌≤◌, max, refl, subst, inl, inr, arith}
+use Rattle.std.specs.Int.{IsPowerOfTwo}
+use Rattle.std.proofs.lemmas.Bool.{cases_lt}
+use Rattle.std.proofs.lemmas.Nat.{pow_pos}
+use Rattle.std.proofs.lemmas.Grind.{pow_more}
+use Rattle.std.proofs.Math.Pow.{pow_mono}
+use Rattle.key_alloc.specs.KeyBlocks.{IsSizeFor}
+
+-- a power of two below another is at most half of it
+half : (i j : ℕ) → 2 ^ i < 2 ^ j → 2 ^ i * 2 ≤ 2 ^ j
+half i j lt =
+    elim (cases_lt i j) [
+      | inl less ↦ (let up : 2 ^ (i + 1) ≤ 2 ^ j = pow_mono (omega arith) in omega (arith, up, pow_more 2 i))
+      | inr more ↦ (let down : 2 ^ j ≤ 2 ^ i = pow_mono more in absurd (omega (arith, down, lt)))
+    ]
+
+pub positive : (s : ℕ) → IsPowerOfTwo s → 0 < s
+positive s (e, is) = omega (arith, is, pow_pos e)
+
+-- a power of two that is not below the number, and whose half is
+pub size_from_half : (keys s : ℕ) → 1 ≤ keys → IsPowerOfTwo s → keys ≤ s → s / 2 < max 1 keys → IsSizeFor keys s
+size_from_half keys s some power enough half_below = record {
+  power = power;
+  enough = enough;
+  least = λ p power_p above. elim (cases_lt p s) [
+    | inl less ↦ (
+        let twice : 2 ^ power_p.0 * 2 ≤ 2 ^ power.0 = half power_p.0 power.0 (subst (λ z. z < 2 ^ power.0) power_p.1 (subst (λ z. p < z) power.1 less)) in
+        absurd (omega (arith, twice, power_p.1, power.1, above, half_below))
+        )
+    | inr more ↦ more
+  ];
+}
+
+pub size_within : (keys s : ℕ) → keys ≤ 4294967296 → IsSizeFor keys s → s ≤ 4294967296
+size_within keys s few is = is.least 4294967296 (32, refl) few
+
+pub one_size : (keys s t : ℕ) → IsSizeFor keys s → IsSizeFor keys t → s ≡ t
+one_size keys s t a b = omega (arith, a.least t b.power b.enough, b.least s a.power a.enough)

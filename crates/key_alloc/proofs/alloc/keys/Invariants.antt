@@ -1,0 +1,13 @@
+use Rattle.std.proofs.Common.{◌≡◌, length}
+use Rattle.key_alloc.specs.KeyBlocks.{AreFirstBlocks}
+use Rattle.key_alloc.proofs.Taking.{IsTaken}
+use Rattle.key_alloc.proofs.alloc.keys.Given as goal
+
+-- the nets so far have their blocks, and the region has all other keys
+abbrev pub invariant-loop-i : goal.invariant-loop-i
+invariant-loop-i l = record {
+  each_one : length l.blocks ≡ l.i;
+  first : AreFirstBlocks l.graph.nets l.blocks;
+  whole : l.free.size ≡ 4294967296;
+  taken : IsTaken l.blocks l.free.holes;
+}

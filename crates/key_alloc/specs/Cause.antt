@@ -1,0 +1,10 @@
+-- Why nets have no keys.
+use Rattle.std.specs.Prelude.{List}
+use Rattle.app_graph.specs.declared.graphs.Net.{Net}
+use Rattle.key_alloc.specs.declared.alloc.KeyErr.{KeyErr}
+use Rattle.key_alloc.specs.declared.alloc.KeyErr.TheVariants.{KeysOut, Memory}
+use Rattle.key_alloc.specs.KeyBlocks.{AreKeysOut}
+
+abbrev pub IsCause : List Net → KeyErr → Type 0
+IsCause nets (KeysOut net) = AreKeysOut nets net
+IsCause nets Memory = Unit {0}

@@ -1,0 +1,57 @@
+-- Which blocks of keys nets have (this project's own).
+use Rattle.std.specs.Prelude.{◌≡◌, ℕ, ◌+◌, ◌-◌, ◌%◌, ◌^◌, ◌<◌, ◌≤◌, true, List, length, take, All, Some, slice_get}
+use Rattle.std.specs.Int.{IsPowerOfTwo}
+use Rattle.spin_base.specs.declared.blocks.Block.{Block}
+use Rattle.app_graph.specs.declared.graphs.Net.{Net}
+use Rattle.range_store.specs.Regions.{in_range}
+use Rattle.tern_word.specs.Ternary.{Matches}
+
+-- A block whose mask has all bits from one up to the highest has the keys from its own key on, so many of them.
+abbrev pub size_of : Block → ℕ
+size_of b = 2 ^ 32 - b.mask
+
+-- The size for a number of keys is the least power of two not below it.
+pub record IsSizeFor (keys size : ℕ) : Type 0 where
+  pub power : IsPowerOfTwo size
+  pub enough : keys ≤ size
+  pub least : (p : ℕ) → IsPowerOfTwo p → keys ≤ p → size ≤ p
+
+-- no key is in the block's range and also in that of size keys from a place on
+abbrev pub Misses : ℕ → ℕ → Block → Type 0
+Misses place size b = (k : ℕ) → in_range b.key (size_of b) k ≡ true → in_range place size k ≡ true → ⊥
+
+-- A net may have a range that begins at a multiple of its size, ends at or below 2^32, and meets no range of an earlier
+-- net.
+pub record IsOpen (earlier : List Block) (size place : ℕ) : Type 0 where
+  pub aligned : place % size ≡ 0
+  pub within : place + size ≤ 2 ^ 32
+  pub apart : All (Misses place size) earlier
+
+-- A net's block has the net's size, and begins at the least place of all that the net may have.
+pub record IsBlockFor (earlier : List Block) (net : Net) (b : Block) : Type 0 where
+  pub size : IsSizeFor net.keys (size_of b)
+  pub may : IsOpen earlier (size_of b) b.key
+  pub least : (place : ℕ) → IsOpen earlier (size_of b) place → b.key ≤ place
+
+-- the right blocks of the first nets, as many as there are blocks
+pub record AreFirstBlocks (nets : List Net) (blocks : List Block) : Type 0 where
+  pub few : length blocks ≤ length nets
+  pub each : (i : ℕ) (net : Net) (b : Block) → slice_get nets i ≡ Some net → slice_get blocks i ≡ Some b → IsBlockFor (take i blocks) net b
+
+-- the right blocks of all nets
+pub record AreRightBlocks (nets : List Net) (blocks : List Block) : Type 0 where
+  pub first : AreFirstBlocks nets blocks
+  pub all : length blocks ≡ length nets
+
+-- Keys are out at a net where the nets before it have right blocks, and there is no range that it may have.
+pub record AreKeysOut (nets : List Net) (i : ℕ) : Type 0 where
+  pub blocks : List Block
+  pub before : AreFirstBlocks nets blocks
+  pub here : length blocks ≡ i
+  pub net : Net
+  pub is : slice_get nets i ≡ Some net
+  pub none : (size place : ℕ) → IsSizeFor net.keys size → IsOpen blocks size place → ⊥
+
+-- each key of a net, the block's key and one of the numbers below the net's keys added, is a 32-bit key of the block
+abbrev pub HasKeys : Net → Block → Type 0
+HasKeys net b = (index : ℕ) → index < net.keys → (b.key + index < 2 ^ 32) × Matches b (b.key + index)

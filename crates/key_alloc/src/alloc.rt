@@ -1,0 +1,75 @@
+// The blocks of all nets.
+ghost use Rattle.std.specs.Prelude.{◌≡◌, ℕ, ◌+◌, ◌^◌, ◌<◌, ◌≤◌, ◌&&◌, ◌↔◌, not, AllPairs, IfOk, IfErr, IfSome, IfNone};
+ghost use Rattle.std.specs.List.{AllZip};
+ghost use Rattle.app_graph.specs.ValidGraph.{IsValidGraph};
+ghost use Rattle.range_store.specs.Regions.{AreRuns, IsFirstFit, HasNoFit, is_free, in_range};
+ghost use Rattle.tern_word.specs.Ternary.{Matches, Intersects};
+ghost use Rattle.key_alloc.specs.KeyBlocks.{IsSizeFor, AreRightBlocks, HasKeys, size_of};
+ghost use Rattle.key_alloc.specs.Cause.{IsCause};
+
+use app_graph::Graph;
+use range_store::Ranges;
+use spin_base::{Block, Memory, Seq};
+use std::alloc::Global;
+use tern_word::block_of;
+
+/// Why nets have no keys.
+#[derive(Clone, Copy, Debug, PartialEq, Eq)]
+pub enum KeyErr {
+    /// There is no free range of keys for this net, the first such of the list.
+    KeysOut { net: u32 },
+    /// There was not enough memory.
+    Memory,
+}
+
+impl From<Memory> for KeyErr {
+    ghost use Rattle.std.specs.Prelude.{◌≡◌};
+    ghost use Rattle.key_alloc.specs.declared.alloc.KeyErr.TheVariants.{Memory as NoMemory};
+
+    ghost from_gives = { λ _ e. e ≡ NoMemory };
+
+    fn from(_: Memory) -> Self {
+        KeyErr::Memory
+    }
+}
+
+/// The blocks of the nets, in their order. A net's block has as many keys as the least power of two that is not below
+/// the keys that the net needs. It begins at the least multiple of that number from which the range meets no block of
+/// an earlier net. `KeysOut` comes exactly where some net has no such range below 2^32, and names the first.
+pub fn keys(alloc: Global, graph: &Graph) -> Result<Seq<Block>, KeyErr>
+    requires { IsValidGraph graph.now }
+    ensures blocks { IfOk result (AreRightBlocks graph.now.nets) }
+    ensures keys_out { IfErr result (IsCause graph.now.nets) }
+    ensures apart { IfOk result (AllPairs (λ a b. ¬ Intersects a b)) }
+    ensures enough { IfOk result (AllZip HasKeys graph.now.nets) }
+{
+    let mut free = Ranges::new(alloc, 4_294_967_296)?;
+    let mut blocks = Seq::new(alloc);
+    for (i, net) in graph.nets.as_slice().iter().enumerate() {
+        let Some(block) = next_block(&mut free, net.keys)? else {
+            return Err(KeyErr::KeysOut { net: i as u32 });
+        };
+        blocks.push(block)?;
+    }
+    Ok(blocks)
+}
+
+// Takes the first free range of the size for so many keys, as a block.
+fn next_block(free: &mut Ranges, keys: u64) -> Result<Option<Block>, Memory>
+    requires some { 1 ≤ keys }
+    requires few { keys ≤ 4294967296 }
+    requires runs { AreRuns 0 4294967296 free.old.holes }
+    ensures size { IfOk result (λ o. IfSome o (λ b. IsSizeFor keys (size_of b))) }
+    ensures first { IfOk result (λ o. IfSome o (λ b. IsFirstFit free.old.holes (size_of b) (size_of b) b.key)) }
+    ensures keys { IfOk result (λ o. IfSome o (λ b. (k : ℕ) → k < 2 ^ 32 → Matches b k ↔ ((b.key ≤ k) × (k < b.key + size_of b)))) }
+    ensures free { IfOk result (λ o. IfSome o (λ b. (k : ℕ) → is_free free.new.holes k ≡ (is_free free.old.holes k && not (in_range b.key (size_of b) k)))) }
+    ensures none { IfOk result (λ o. IfNone o ((s : ℕ) → IsSizeFor keys s → HasNoFit free.old.holes s s)) }
+    ensures runs { AreRuns 0 free.new.size free.new.holes }
+    ensures whole { free.new.size ≡ free.old.size }
+{
+    let size = keys.next_power_of_two();
+    let Some(place) = free.take(size, size)? else {
+        return Ok(None);
+    };
+    Ok(Some(block_of(place as u32, size)))
+}

@@ -1,0 +1,12 @@
+use Rattle.link_detours.proofs.Trimming.{chips_inside, goes_on}
+use Rattle.link_detours.proofs.trims.ends_go_on.Goals as goal
+
+pub seed_table-requires : goal.seed_table-requires
+seed_table-requires c =
+    rw (c.deref.ensures.value, c.in_ok-chips.ensures) (chips_inside c.args.machine.now c.args.edges.now c.args.targets.now c.requires.inside c.requires.targets_inside)
+
+pub returns : goal.returns
+returns c low =
+    goes_on c.args.machine.now c.args.edges.now c.args.targets.now c.in_ok-chips.chips.items c.in_ok-table.table.items 18446744073709551615
+    c.in_ok-chips.ensures c.requires.inside (rw c.deref.ensures.value at c.in_ok-table.ensures.elsewhere)
+    (rw c.deref-2.ensures.value at (c.ends_are_low.ensures low))

@@ -1,0 +1,127 @@
+// Trees of which nothing has to be taken off: seen from their edges, without a search.
+ghost use Rattle.std.specs.Prelude.{◌≡◌, ℕ, ◌*◌, ◌<◌, ◌↔◌, ◌++◌, true, Some, length, map, All, IfOk, Contains};
+ghost use Rattle.machine_desc.specs.Live.{IsInside, IsLiveChip};
+ghost use Rattle.machine_desc.specs.RoutingTree.{end_of, IsTreeChip};
+ghost use Rattle.link_detours.specs.Usable.{number_at};
+ghost use Rattle.link_detours.specs.Repair.{LeadsToTarget, IsInOrder};
+ghost use Rattle.link_detours.specs.Whole.{IsWhole, GoesOnFrom};
+ghost use Rattle.spin_base.specs.declared.chips.Chip.{Chip};
+ghost use Rattle.machine_desc.specs.declared.trees.Edge.{Edge};
+
+use crate::prunes::pruned;
+use crate::searches::{UNREACHED, seed_table};
+use crate::tables::link_place;
+use machine_desc::{Edge, Machine};
+use spin_base::{Chip, Memory};
+use std::alloc::Global;
+
+// The edges at or below whose far end a target stands, in order. Where those are all and in order, no search is made.
+pub fn trimmed(
+    alloc: Global,
+    machine: &Machine,
+    root: Chip,
+    whole: Vec<Edge>,
+    targets: &[Chip],
+) -> Result<Vec<Edge>, Memory>
+    requires root_lives { IsLiveChip machine.now root }
+    requires is_whole { IsWhole machine.now root whole.items }
+    requires some_target { 0 < length targets.now }
+    requires targets_inside { All (IsInside machine.now) targets.now }
+    requires has_targets { All (IsTreeChip machine.now root whole.items) targets.now }
+    ensures left { IfOk result (λ v. (e : Edge) → Contains v.items e ↔ (Contains whole.items e × LeadsToTarget machine.now whole.items targets.now e)) }
+    ensures in_order { IfOk result (λ v. IsInOrder machine.now v.items) }
+{
+    if is_lean(alloc, machine, &whole, targets)? {
+        Ok(whole)
+    } else {
+        pruned(alloc, machine, &whole, targets)
+    }
+}
+
+// Whether edges stand in order, and each ends at a target or where another begins.
+fn is_lean(
+    alloc: Global,
+    machine: &Machine,
+    edges: &[Edge],
+    targets: &[Chip],
+) -> Result<bool, Memory>
+    requires inside { All (λ e. IsInside machine.now e.chip) edges.now }
+    requires targets_inside { All (IsInside machine.now) targets.now }
+    ensures in_order { IfOk result (λ b. b ≡ true → IsInOrder machine.now edges.now) }
+    ensures goes_on { IfOk result (λ b. b ≡ true → All (λ e. (c : Chip) → end_of machine.now e ≡ Some c → GoesOnFrom edges.now targets.now c) edges.now) }
+{
+    if !is_in_order(machine, edges) {
+        return Ok(false);
+    }
+    let all_go_on = ends_go_on(alloc, machine, edges, targets)?;
+    Ok(all_go_on)
+}
+
+// Whether edges stand in order of x, y and link number.
+fn is_in_order(machine: &Machine, edges: &[Edge]) -> bool
+    requires { All (λ e. IsInside machine.now e.chip) edges.now }
+    ensures { result ≡ true → IsInOrder machine.now edges.now }
+{
+    let mut least = 0;
+    for edge in edges {
+        let place = link_place(machine, edge.chip, edge.dir);
+        if place < least {
+            return false;
+        }
+        least = place + 1;
+    }
+    true
+}
+
+// Whether each edge ends at a target, or where another begins.
+fn ends_go_on(
+    alloc: Global,
+    machine: &Machine,
+    edges: &[Edge],
+    targets: &[Chip],
+) -> Result<bool, Memory>
+    requires inside { All (λ e. IsInside machine.now e.chip) edges.now }
+    requires targets_inside { All (IsInside machine.now) targets.now }
+    ensures { IfOk result (λ b. b ≡ true → All (λ e. (c : Chip) → end_of machine.now e ≡ Some c → GoesOnFrom edges.now targets.now c) edges.now) }
+{
+    let chips = chips_before(alloc, edges, targets)?;
+    let table = seed_table(alloc, machine, &chips)?;
+    Ok(ends_are_low(machine, &table, edges))
+}
+
+// The targets, and the chips at which edges begin.
+fn chips_before(alloc: Global, edges: &[Edge], targets: &[Chip]) -> Result<Vec<Chip>, Memory>
+    ensures { IfOk result (λ v. v.items ≡ targets.now ++ map (λ e. e.chip) edges.now) }
+{
+    let mut chips = Vec::from_slice(alloc, targets)?;
+    for edge in edges {
+        chips.push(edge.chip)?;
+    }
+    Ok(chips)
+}
+
+// Whether the table has a number for each chip at which an edge ends.
+fn ends_are_low(machine: &Machine, table: &[u64], edges: &[Edge]) -> bool
+    requires inside { All (λ e. IsInside machine.now e.chip) edges.now }
+    requires long { length table.now ≡ machine.now.width * machine.now.height }
+    ensures { result ≡ true → All (λ e. (c : Chip) → end_of machine.now e ≡ Some c → number_at machine.now table.now c < UNREACHED) edges.now }
+{
+    for edge in edges {
+        if !end_is_low(machine, table, *edge) {
+            return false;
+        }
+    }
+    true
+}
+
+// Whether the table has a number for the chip at which the edge ends.
+fn end_is_low(machine: &Machine, table: &[u64], edge: Edge) -> bool
+    requires inside { IsInside machine.now edge.chip }
+    requires long { length table.now ≡ machine.now.width * machine.now.height }
+    ensures { result ≡ true → (c : Chip) → end_of machine.now edge ≡ Some c → number_at machine.now table.now c < UNREACHED }
+{
+    match machine.far(edge.chip, edge.dir) {
+        Some(far) => table[machine.index(far) as usize] < UNREACHED,
+        None => true,
+    }
+}

@@ -1,0 +1,167 @@
+-- Walks cut at the last chip that a table has, and tables that note where links lead.
+use Rattle.std.proofs.Common.{◌≡◌, ℕ, ◌+◌, ◌*◌, ◌<◌, Bool, true, false, List, [], ◌∷◌, ◌++◌, length, get_or, take, set, Some, None, refl, sym, ap, ◌∙◌, subst, arith, inl, inr, ◌⊎◌, ◌↔◌}
+use Rattle.std.specs.List.{Contains, Any}
+use Rattle.std.proofs.lemmas.Bool.{cases_eq}
+use Rattle.std.proofs.lemmas.List.{append-nil, append_assoc, take_more, get_or-set_same, get_or-set_other}
+use Rattle.std.proofs.lemmas.List.Elements.{All-push, All-nil, Contains-append_left, Contains-push, Contains-push_cases}
+use Rattle.spin_base.specs.declared.chips.Chip.{Chip}
+use Rattle.spin_base.specs.declared.chips.Dir.{Dir}
+use Rattle.machine_desc.specs.declared.trees.Edge.{Edge}
+use Rattle.machine_desc.specs.Description.{Description}
+use Rattle.machine_desc.specs.Live.{index_of, IsInside}
+use Rattle.machine_desc.specs.RoutingTree.{end_of}
+use Rattle.machine_desc.proofs.Far.{same_index, index_below, far_inside}
+use Rattle.ner_trees.specs.Growth.{next_of, end_of_walk, links_of}
+use Rattle.ner_trees.specs.Search.{is_on, IsCutAt}
+use Rattle.ner_trees.proofs.Trees.{link, walk_end}
+
+-- one step more at the end of a walk
+pub links_push : (m : Description) (c : Chip) (ds : List Dir) (d : Dir) → links_of m c (ds ++ d ∷ []) ≡ links_of m c ds ++ link (end_of_walk m c ds) d ∷ []
+links_push m c [] d = refl
+links_push m c (e ∷ ds) d = ap (λ es. link c e ∷ es) (links_push m (next_of m c e) ds d)
+
+-- at the start nothing is passed
+pub cut_start : (m : Description) (on : List Bool) (near : Chip) → IsInside m near → is_on m on near ≡ true → IsCutAt m on near [] near []
+cut_start m on near inside is = record {
+  passed = [];
+  rest = [];
+  walk_is = refl;
+  start_is = refl;
+  start_inside = inside;
+  start_on = is;
+  added_is = refl;
+  added_inside = All-nil (λ e. IsInside m e.chip);
+  added_off = All-nil (λ e. is_on m on (next_of m e.chip e.dir) ≡ false);
+}
+
+-- a step to a chip of the table is where the branch starts anew
+pub cut_again : (m : Description) (on : List Bool) (near : Chip) (ds : List Dir) (d : Dir) (at next : Chip) → at ≡ end_of_walk m near ds → next ≡ next_of m at d → IsInside m next →
+    is_on m on next ≡ true → IsCutAt m on near (ds ++ d ∷ []) next []
+cut_again m on near ds d at next ends is inside has = record {
+  passed = ds ++ d ∷ [];
+  rest = [];
+  walk_is = sym (append-nil (ds ++ d ∷ []));
+  start_is = walk_end m near ds (d ∷ []) ∙ (ap (λ (c : Chip). next_of m c d) (sym ends) ∙ sym is);
+  start_inside = inside;
+  start_on = has;
+  added_is = refl;
+  added_inside = All-nil (λ e. IsInside m e.chip);
+  added_off = All-nil (λ e. is_on m on (next_of m e.chip e.dir) ≡ false);
+}
+
+-- another step is added
+pub cut_more : (m : Description) (on : List Bool) (near : Chip) (ds : List Dir) (d : Dir) (at next start : Chip) (added : List Edge) → at ≡ end_of_walk m near ds → IsInside m at →
+    next ≡ next_of m at d → is_on m on next ≡ false → IsCutAt m on near ds start added → IsCutAt m on near (ds ++ d ∷ []) start (added ++ link at d ∷ [])
+cut_more m on near ds d at next start added ends inside is has cut = record {
+  passed = cut.passed;
+  rest = cut.rest ++ d ∷ [];
+  walk_is = ap (λ es. es ++ d ∷ []) cut.walk_is ∙ append_assoc cut.passed cut.rest (d ∷ []);
+  start_is = cut.start_is;
+  start_inside = cut.start_inside;
+  start_on = cut.start_on;
+  added_is =
+      let here : end_of_walk m start cut.rest ≡ at =
+      ap (λ (c : Chip). end_of_walk m c cut.rest) (sym cut.start_is) ∙ (sym (walk_end m near cut.passed cut.rest) ∙ (ap (end_of_walk m near) (sym cut.walk_is) ∙ sym ends)) in
+      ap (λ es. es ++ link at d ∷ []) cut.added_is ∙ (ap (λ (c : Chip). links_of m start cut.rest ++ link c d ∷ []) (sym here) ∙ sym (links_push m start cut.rest d));
+  added_inside = All-push (λ e. IsInside m e.chip) added (link at d) cut.added_inside inside;
+  added_off = All-push (λ e. is_on m on (next_of m e.chip e.dir) ≡ false) added (link at d) cut.added_off (ap (is_on m on) (sym is) ∙ has);
+}
+
+-- a table that has, beside the chips of another, those where links lead
+abbrev pub Marked : Description → List Bool → List Bool → List Edge → Type 0
+Marked m old new links = (c : Chip) → IsInside m c → (is_on m new c ≡ true) ↔ ((is_on m old c ≡ true) ⊎ Any (λ e. end_of m e ≡ Some c) links)
+
+leads_in : (m : Description) (links : List Edge) (e : Edge) (c : Chip) → Contains links e → end_of m e ≡ Some c → Any (λ f. end_of m f ≡ Some c) links
+leads_in m links e c has leads = (has.0, e, has.1, has.2, leads)
+
+any_push : (m : Description) (links : List Edge) (e : Edge) (c : Chip) → Any (λ f. end_of m f ≡ Some c) (links ++ e ∷ []) → Any (λ f. end_of m f ≡ Some c) links ⊎ (end_of m e ≡ Some c)
+any_push m links e c any = elim (Contains-push_cases links e any.1 (any.0, any.2, any.3)) [
+  | inl old ↦ inl (leads_in m links any.1 c old any.4)
+  | inr new ↦ inr (ap (end_of m) new ∙ any.4)
+]
+
+push_any : (m : Description) (links : List Edge) (e : Edge) (c : Chip) → Any (λ f. end_of m f ≡ Some c) links → Any (λ f. end_of m f ≡ Some c) (links ++ e ∷ [])
+push_any m links e c any = leads_in m (links ++ e ∷ []) any.1 c (Contains-append_left links (e ∷ []) any.1 (any.0, any.2, any.3)) any.4
+
+same_some : {X : Type 0} (x y : X) → Some x ≡ Some y → x ≡ y
+same_some x y e = cc
+
+pub marked_start : (m : Description) (on : List Bool) → Marked m on on []
+marked_start m on c inside = (
+  λ is. inl is,
+  λ or. elim or [
+    | inl is ↦ is
+    | inr any ↦ absurd (let none : any.0 < 0 = any.2 in omega arith)
+  ],
+)
+
+pub marked_more : (m : Description) (old new : List Bool) (links : List Edge) (i : ℕ) (d : Edge) (far : Chip) → i < length links → length new ≡ m.width * m.height →
+    IsInside m (get_or links i d).chip → end_of m (get_or links i d) ≡ Some far → Marked m old new (take i links) → Marked m old (set new (index_of m far) true) (take (i + 1) links)
+marked_more m old new links i d far within long e_in leads so_far =
+    subst (λ es. Marked m old (set new (index_of m far) true) es) (sym (take_more links i d within)) (λ c inside. elim (cases_eq (index_of m c) (index_of m far)) [
+      | inl same ↦
+          let e : Edge = get_or links i d in
+          let far_in : IsInside m far = far_inside m e.chip far e.dir e_in leads in
+          let is : c ≡ far = same_index m c far inside far_in same in
+          let below : index_of m far < length new = (let b : index_of m far < m.width * m.height = index_below m far far_in in omega arith) in
+          let at : is_on m (set new (index_of m far) true) c ≡ true =
+          ap (λ k. get_or (set new (index_of m far) true) k false) same ∙ get_or-set_same new (index_of m far) true false below in
+          (λ _. inr (leads_in m (take i links ++ e ∷ []) e c (Contains-push (take i links) e) (leads ∙ ap Some (sym is))), λ _. at)
+      | inr other ↦
+          let e : Edge = get_or links i d in
+          let at : is_on m (set new (index_of m far) true) c ≡ is_on m new c = get_or-set_other new (index_of m far) (index_of m c) true false other in (
+            λ is. elim ((so_far c inside).0 (sym at ∙ is)) [
+              | inl was ↦ inl was
+              | inr any ↦ inr (push_any m (take i links) e c any)
+            ],
+            λ or. at ∙ (so_far c inside).1 (elim or [
+              | inl was ↦ inl was
+              | inr any ↦ elim (any_push m (take i links) e c any) [
+                | inl before ↦ inr before
+                | inr here ↦ absurd (other (ap (index_of m) (same_some c far (sym here ∙ leads))))
+              ]
+            ]),
+          )
+    ])
+
+pub marked_past : (m : Description) (old new : List Bool) (links : List Edge) (i : ℕ) (d : Edge) → i < length links → end_of m (get_or links i d) ≡ None →
+    Marked m old new (take i links) → Marked m old new (take (i + 1) links)
+marked_past m old new links i d within nowhere so_far =
+    subst (λ es. Marked m old new es) (sym (take_more links i d within)) (λ c inside.
+    let e : Edge = get_or links i d in (
+      λ is. elim ((so_far c inside).0 is) [
+        | inl was ↦ inl was
+        | inr any ↦ inr (push_any m (take i links) e c any)
+      ],
+      λ or. (so_far c inside).1 (elim or [
+        | inl was ↦ inl was
+        | inr any ↦ elim (any_push m (take i links) e c any) [
+          | inl before ↦ inr before
+          | inr here ↦ absurd (none_some c (sym nowhere ∙ here))
+        ]
+      ]),
+    ))
+  where
+    none_some : (c : Chip) → None ≡ Some c → ⊥
+    none_some c e = cc
+
+-- the same steps along a list of steps
+pub at_more : (m : Description) (near : Chip) (walk : List Dir) (i : ℕ) (d : Dir) (at next : Chip) → i < length walk → at ≡ end_of_walk m near (take i walk) →
+    next ≡ next_of m at (get_or walk i d) → next ≡ end_of_walk m near (take (i + 1) walk)
+at_more m near walk i d at next within ends is =
+    is ∙ (ap (λ (c : Chip). next_of m c (get_or walk i d)) ends ∙ (sym (walk_end m near (take i walk) (get_or walk i d ∷ [])) ∙ ap (end_of_walk m near) (sym (take_more walk i d within))))
+
+pub cut_again_at : (m : Description) (on : List Bool) (near : Chip) (walk : List Dir) (i : ℕ) (d : Dir) (at next : Chip) (links : List Edge) → i < length walk →
+    at ≡ end_of_walk m near (take i walk) → next ≡ next_of m at (get_or walk i d) → IsInside m next → is_on m on next ≡ true → links ≡ [] →
+    IsCutAt m on near (take (i + 1) walk) next links
+cut_again_at m on near walk i d at next links within ends is inside has none =
+    subst (λ es. IsCutAt m on near (take (i + 1) walk) next es) (sym none)
+    (subst (λ ds. IsCutAt m on near ds next []) (sym (take_more walk i d within)) (cut_again m on near (take i walk) (get_or walk i d) at next ends is inside has))
+
+pub cut_more_at : (m : Description) (on : List Bool) (near : Chip) (walk : List Dir) (i : ℕ) (d : Dir) (at next start : Chip) (added links : List Edge) → i < length walk →
+    at ≡ end_of_walk m near (take i walk) → IsInside m at → next ≡ next_of m at (get_or walk i d) → is_on m on next ≡ false →
+    links ≡ added ++ link at (get_or walk i d) ∷ [] → IsCutAt m on near (take i walk) start added → IsCutAt m on near (take (i + 1) walk) start links
+cut_more_at m on near walk i d at next start added links within ends inside is has grows cut =
+    subst (λ es. IsCutAt m on near (take (i + 1) walk) start es) (sym grows)
+    (subst (λ ds. IsCutAt m on near ds start (added ++ link at (get_or walk i d) ∷ [])) (sym (take_more walk i d within))
+    (cut_more m on near (take i walk) (get_or walk i d) at next start added ends inside is has cut))

@@ -1,0 +1,335 @@
+-- The tree so far: what its table says, and what comes of growing when it is done.
+use Rattle.std.proofs.Common.{◌≡◌, ◌≢◌, ℕ, ◌+◌, ◌*◌, ◌<◌, ◌≤◌, Bool, true, false, List, [], ◌∷◌, ◌++◌, length, map, get_or, take, set, replicate, Option, Some, None, refl, sym, ap, ◌∙◌, subst, arith, inl, inr, ◌⊎◌, ◌↔◌}
+use Rattle.std.specs.List as lists
+use Rattle.std.specs.List.{Contains, All, AllPairs, Any, sum_by}
+use Rattle.std.specs.List.Sorted.{IsPermutation, IsNonDecreasingBy}
+use Rattle.std.proofs.lemmas.Bool.{cases_eq, cases_order, true≢false, and_from, eq-eqb}
+use Rattle.std.proofs.lemmas.List.{append-nil, append_assoc, take_more, take_all, map_push, get_or-set_same, get_or-set_other, get_or-replicate, length-replicate}
+use Rattle.std.proofs.Math.ListN.{length-set}
+use Rattle.std.proofs.lemmas.List.Edits.{swap_is, length-swap}
+use Rattle.std.proofs.lemmas.List.Elements.{All-contains, All-nil, Contains-get_or, Contains-append_cases, Contains-append_right}
+use Rattle.std.proofs.lemmas.List.Sorted.{IsPermutation-keeps, IsPermutation-sym, Contains-permutation, length_permutation}
+use Rattle.spin_base.specs.declared.chips.Chip.{Chip}
+use Rattle.spin_base.specs.declared.chips.Dir.{Dir}
+use Rattle.spin_base.specs.Links.{dir_number}
+use Rattle.spin_base.proofs.Outputs.{dir_number_below}
+use Rattle.spin_base.proofs.Equality.{dir_eq_true}
+use Rattle.machine_desc.proofs.Same.{same_edge, same_chip}
+use Rattle.machine_desc.specs.declared.trees.Edge.{Edge}
+use Rattle.machine_desc.specs.Description.{Description, HasSize}
+use Rattle.machine_desc.specs.Live.{far_of, index_of, is_live_between, IsInside, IsLiveLink}
+use Rattle.machine_desc.specs.RoutingTree.{end_of, IsTreeChip, IsPath, IsTreeTo}
+use Rattle.machine_desc.proofs.Far.{same_index, index_below, far_inside, inside_parts}
+use Rattle.ner_trees.specs.declared.growths.Join.{Join}
+use Rattle.ner_trees.specs.Geometry.{displacement_of, distance_of}
+use Rattle.ner_trees.specs.LongestFirst.{ldf_of}
+use Rattle.ner_trees.specs.Growth.{or_stay, next_of, IsNear, IsAdded, Grows, IsGrown, IsWithoutDead, distance_sum}
+use Rattle.ner_trees.specs.Order.{IsBefore, order_number}
+use Rattle.ner_trees.specs.Search.{is_on, IsNearestOn, IsNoneOn, IsCutAt}
+use Rattle.ner_trees.proofs.Cutting.{Marked}
+use Rattle.ner_trees.proofs.Trees.{tree_end, tree_cases, more_chips, spanning_root, Outcome, grown}
+use Rattle.ner_trees.proofs.Walking.{ldf_walks}
+
+-- the table has the chips of the tree
+abbrev pub TellsTree : Description → Chip → List Bool → List Edge → Type 0
+TellsTree m root on tree = (c : Chip) → IsInside m c → (is_on m on c ≡ true) ↔ IsTreeChip m root tree c
+
+-- chips of a tree whose edges begin inside the grid are inside
+pub on_inside : (m : Description) (root : Chip) (tree : List Edge) → IsInside m root → All (λ e. IsInside m e.chip) tree → (c : Chip) → IsTreeChip m root tree c → IsInside m c
+on_inside m root tree root_in inside c on = elim (tree_cases m root tree c on) [
+  | inl at ↦ subst (λ (x : Chip). IsInside m x) (sym at) root_in
+  | inr into ↦ far_inside m into.0.chip c into.0.dir (All-contains (λ e. IsInside m e.chip) tree into.0 inside into.1) into.2
+]
+
+pub near_is : (m : Description) (root : Chip) (on : List Bool) (tree : List Edge) (t near : Chip) → IsInside m root → All (λ e. IsInside m e.chip) tree → TellsTree m root on tree →
+    IsNearestOn m on t 20 near ⊎ (IsNoneOn m on t 20 × (near ≡ root)) → IsNear m root tree t near
+near_is m root on tree t near root_in inside tells (inl found) =
+    inl (
+      ((tells near found.0.inside).0 found.0.on_it, found.0.near),
+      λ e is.
+          let e_in = on_inside m root tree root_in inside e is.0 in
+          found.1 e (record { inside = e_in; on_it = (tells e e_in).1 is.0; near = is.1 }),
+    )
+near_is m root on tree t near root_in inside tells (inr none) =
+    inr (
+      λ e is.
+          let e_in = on_inside m root tree root_in inside e is.0 in
+          none.0 e (record { inside = e_in; on_it = (tells e e_in).1 is.0; near = is.1 }),
+      none.1,
+    )
+
+-- the chip to which a target is joined is one that the table has
+pub near_on_table : (m : Description) (root : Chip) (on : List Bool) (tree : List Edge) (t near : Chip) → IsInside m root → TellsTree m root on tree →
+    IsNearestOn m on t 20 near ⊎ (IsNoneOn m on t 20 × (near ≡ root)) → IsInside m near × (is_on m on near ≡ true)
+near_on_table m root on tree t near root_in tells (inl found) = (found.0.inside, found.0.on_it)
+near_on_table m root on tree t near root_in tells (inr none) =
+    subst (λ (c : Chip). IsInside m c × (is_on m on c ≡ true)) (sym none.1) (root_in, (tells root root_in).1 (inl refl))
+
+next_inside : (m : Description) (c : Chip) (d : Dir) → IsInside m c → IsInside m (next_of m c d)
+next_inside m c d c_in = go (far_of m c d) refl
+  where
+    go : (o : Option Chip) → far_of m c d ≡ o → IsInside m (or_stay c o)
+    go None e = c_in
+    go (Some f) e = far_inside m c f d c_in e
+
+pub added_is : (m : Description) (root : Chip) (on : List Bool) (tree : List Edge) (j : Join) (walk : List Dir) (links : List Edge) → TellsTree m root on tree →
+    walk ≡ ldf_of (displacement_of m j.near j.target) → IsCutAt m on j.near walk j.start links → IsAdded m root tree j links
+added_is m root on tree j walk links tells is cut = record {
+  passed = cut.passed;
+  rest = cut.rest;
+  walk = sym is ∙ cut.walk_is;
+  start_is = cut.start_is;
+  on_tree = (tells j.start cut.start_inside).0 cut.start_on;
+  added_is = cut.added_is;
+  off_tree = λ k d within there.
+      let e : Edge = get_or links k d in
+      let e_in : IsInside m e.chip = cut.added_inside k d within in
+      true≢false (sym ((tells (next_of m e.chip e.dir) (next_inside m e.chip e.dir e_in)).1 there) ∙ cut.added_off k d within);
+}
+
+-- the table with the branch noted tells the tree with the branch
+pub tells_more : (m : Description) (root : Chip) (old new : List Bool) (tree links whole : List Edge) → whole ≡ tree ++ links → TellsTree m root old tree → Marked m old new links →
+    TellsTree m root new whole
+tells_more m root old new tree links whole is tells marked = subst (λ es. TellsTree m root new es) (sym is) (λ c c_in. (
+  λ has. elim ((marked c c_in).0 has) [
+    | inl was ↦ more_chips m root tree links c ((tells c c_in).0 was)
+    | inr any ↦ tree_end m root (tree ++ links) any.1 c (lists_right any.1 (any.0, any.2, any.3)) any.4
+  ],
+  λ there. (marked c c_in).1 (elim (tree_cases m root (tree ++ links) c there) [
+    | inl at ↦ inl ((tells c c_in).1 (inl at))
+    | inr into ↦ elim (Contains-append_cases tree links into.0 into.1) [
+      | inl before ↦ inl ((tells c c_in).1 (tree_end m root tree into.0 c before into.2))
+      | inr here ↦ inr (here.0, into.0, here.1, here.2, into.2)
+    ]
+  ]),
+))
+  where
+    lists_right : (e : Edge) → Contains links e → Contains (tree ++ links) e
+    lists_right e has = Contains-append_right tree links e has
+
+-- the tree so far, and how its targets came to it
+pub record GrownSoFar (m : Description) (root : Chip) (on : List Bool) (edges : List Edge) (joins : List Join) (taken : List Chip) : Type 0 where
+  pub long : length on ≡ m.width * m.height
+  pub on_is : TellsTree m root on edges
+  pub inside : All (λ e. IsInside m e.chip) edges
+  pub targets : map (λ j. j.target) joins ≡ taken
+  pub grows : (js : List Join) (whole : List Edge) → Grows m root edges js whole → Grows m root [] (joins ++ js) whole
+
+pub so_far_start : (m : Description) (root : Chip) (on : List Bool) (i : ℕ) → IsInside m root → on ≡ replicate (m.width * m.height) false → i ≡ index_of m root →
+    GrownSoFar m root (set on i true) [] [] []
+so_far_start m root on i root_in is at = record {
+  long = length-set on i true ∙ (ap length is ∙ length-replicate (m.width * m.height) false);
+  on_is = λ c c_in. elim (cases_eq (index_of m c) i) [
+    | inl same ↦
+        let one : c ≡ root = same_index m c root c_in root_in (same ∙ at) in
+        let long : length on ≡ m.width * m.height = ap length is ∙ length-replicate (m.width * m.height) false in
+        let below : i < length on = (let b : index_of m root < m.width * m.height = index_below m root root_in in omega arith) in
+        (λ _. inl one, λ _. ap (λ k. get_or (set on i true) k false) same ∙ get_or-set_same on i true false below)
+    | inr other ↦ (
+      λ has.
+          let below : index_of m c < m.width * m.height = index_below m c c_in in
+          let none : is_on m (set on i true) c ≡ false =
+          get_or-set_other on i (index_of m c) true false other ∙ (ap (λ l. get_or l (index_of m c) false) is ∙ get_or-replicate (m.width * m.height) (index_of m c) false false below) in
+          absurd (true≢false (sym has ∙ none)),
+      λ there. elim (tree_cases m root [] c there) [
+        | inl one ↦ absurd (other (ap (index_of m) one ∙ sym at))
+        | inr into ↦ absurd (let none : into.1.0 < 0 = into.1.1 in omega arith)
+      ],
+    )
+  ];
+  inside = All-nil (λ e. IsInside m e.chip);
+  targets = refl;
+  grows = λ js whole g. g;
+}
+
+pub so_far_more : (m : Description) (root : Chip) (on after : List Bool) (edges whole : List Edge) (joins more : List Join) (targets : List Chip) (i : ℕ) (d : Chip) (j : Join) →
+    i < length targets → length after ≡ m.width * m.height → TellsTree m root after whole → All (λ e. IsInside m e.chip) whole → j.target ≡ get_or targets i d →
+    IsNear m root edges (get_or targets i d) j.near → ((added : List Edge) × IsAdded m root edges j added × (whole ≡ edges ++ added)) → more ≡ joins ++ j ∷ [] →
+    GrownSoFar m root on edges joins (take i targets) → GrownSoFar m root after whole more (take (i + 1) targets)
+so_far_more m root on after edges whole joins more targets i d j within long tells inside target near added is so_far =
+    subst (λ js. GrownSoFar m root after whole js (take (i + 1) targets)) (sym is) (record {
+      long = long;
+      on_is = tells;
+      inside = inside;
+      targets = map_push (λ (k : Join). k.target) joins j ∙ (ap (λ ts. ts ++ j.target ∷ []) so_far.targets ∙ (ap (λ (t : Chip). take i targets ++ t ∷ []) target ∙ sym (take_more targets i d within)));
+      grows = λ js end g.
+          subst (λ ks. Grows m root [] ks end) (sym (append_assoc joins (j ∷ []) js))
+          (so_far.grows (j ∷ js) end (subst (λ (t : Chip). IsNear m root edges t j.near) (sym target) near, (added.0, added.1, subst (λ es. Grows m root es js end) added.2 g)));
+    })
+
+-- pairs that differ both ways differ in any order of the list
+moved : {X : Type 0} (l : List X) (i j k : ℕ) (d : X) → i < length l → j < length l → k < length l →
+    (n : ℕ) × (get_or (lists.swap l i j) k d ≡ get_or l n d) × (n < length l) × (((k ≡ j) × (n ≡ i)) ⊎ (((k ≡ i) × (n ≡ j)) ⊎ ((k ≢ j) × (k ≢ i) × (n ≡ k))))
+moved l i j k d il jl kl = elim (cases_eq k j) [
+  | inl last ↦ (
+    i,
+    ap (λ xs. get_or xs k d) (sym (swap_is l i j d il jl)) ∙ (ap (λ n. get_or (set (set l i (get_or l j d)) j (get_or l i d)) n d) last
+        ∙ get_or-set_same (set l i (get_or l j d)) j (get_or l i d) d (rw (length-set l i (get_or l j d)) jl)),
+    il,
+    inl (last, refl),
+  )
+  | inr not_last ↦ elim (cases_eq k i) [
+    | inl first ↦ (
+      j,
+      ap (λ xs. get_or xs k d) (sym (swap_is l i j d il jl)) ∙ (get_or-set_other (set l i (get_or l j d)) j k (get_or l i d) d not_last
+          ∙ (ap (λ n. get_or (set l i (get_or l j d)) n d) first ∙ get_or-set_same l i (get_or l j d) d il)),
+      jl,
+      inr (inl (first, refl)),
+    )
+    | inr not_first ↦ (
+      k,
+      ap (λ xs. get_or xs k d) (sym (swap_is l i j d il jl)) ∙ (get_or-set_other (set l i (get_or l j d)) j k (get_or l i d) d not_last
+          ∙ get_or-set_other l i k (get_or l j d) d not_first),
+      kl,
+      inr (inr (not_last, not_first, refl)),
+    )
+  ]
+]
+
+differ : (i j p q m n : ℕ) → p < q → (((p ≡ j) × (m ≡ i)) ⊎ (((p ≡ i) × (m ≡ j)) ⊎ ((p ≢ j) × (p ≢ i) × (m ≡ p)))) →
+    (((q ≡ j) × (n ≡ i)) ⊎ (((q ≡ i) × (n ≡ j)) ⊎ ((q ≢ j) × (q ≢ i) × (n ≡ q)))) → m ≡ n → ⊥
+differ i j p q m n less (inl a) (inl b) e = omega arith
+differ i j p q m n less (inl a) (inr (inl b)) e = omega arith
+differ i j p q m n less (inl a) (inr (inr b)) e = b.1 (sym b.2 ∙ (sym e ∙ a.1))
+differ i j p q m n less (inr (inl a)) (inl b) e = omega arith
+differ i j p q m n less (inr (inl a)) (inr (inl b)) e = omega arith
+differ i j p q m n less (inr (inl a)) (inr (inr b)) e = b.0 (sym b.2 ∙ (sym e ∙ a.1))
+differ i j p q m n less (inr (inr a)) (inl b) e = a.1 (sym a.2 ∙ (e ∙ b.1))
+differ i j p q m n less (inr (inr a)) (inr (inl b)) e = a.0 (sym a.2 ∙ (e ∙ b.1))
+differ i j p q m n less (inr (inr a)) (inr (inr b)) e = (let x : m ≡ p = a.2 in let y : n ≡ q = b.2 in omega arith)
+
+pub pairs_permutation : {X : Type 0} (R : X → X → Type 0) → ((x y : X) → R x y → R y x) → (xs ys : List X) → IsPermutation xs ys → AllPairs R xs → AllPairs R ys
+pairs_permutation {X} R turn xs ys perm all = IsPermutation-keeps xs (λ l. AllPairs R l) all (λ l i j il jl pairs p q d less short.
+    let long : length (lists.swap l i j) ≡ length l = length-swap l i j in
+    let ql : q < length l = omega arith in
+    let pl : p < length l = omega arith in
+    let one = moved l i j p d il jl pl in
+    let two = moved l i j q d il jl ql in
+    let here : R (get_or l one.0 d) (get_or l two.0 d) = elim (cases_order one.0 two.0) [
+      | inl same ↦ absurd (differ i j p q one.0 two.0 less one.3 two.3 same)
+      | inr (inl before) ↦ pairs one.0 two.0 d before two.2
+      | inr (inr after) ↦ turn (get_or l two.0 d) (get_or l one.0 d) (pairs two.0 one.0 d after one.2)
+    ] in
+    subst (λ (x : X). R x (get_or (lists.swap l i j) q d)) (sym one.1) (subst (λ (y : X). R (get_or l one.0 d) y) (sym two.1) here)) ys perm
+
+-- numbers that rise put edges in order
+before_is : (e f : Edge) → e.chip.y < 256 → f.chip.y < 256 → order_number e ≤ order_number f → (e ≡ f → ⊥) → IsBefore e f
+before_is e f ey fy rises apart =
+    let dn : dir_number e.dir < 6 = dir_number_below e.dir in
+    let fn : dir_number f.dir < 6 = dir_number_below f.dir in
+    elim (cases_order e.chip.x f.chip.x) [
+      | inr (inl less) ↦ inl less
+      | inr (inr more) ↦ absurd (omega arith)
+      | inl same ↦ elim (cases_order e.chip.y f.chip.y) [
+        | inr (inl less) ↦ inr (same, inl less)
+        | inr (inr more) ↦ absurd (omega arith)
+        | inl too ↦ elim (cases_order (dir_number e.dir) (dir_number f.dir)) [
+          | inr (inl less) ↦ inr (same, inr (too, less))
+          | inr (inr more) ↦ absurd (omega arith)
+          | inl all ↦ absurd (apart (same_edge e f (same_chip e.chip f.chip same too) (dir_eq_true e.dir f.dir (eq-eqb _ _ all))))
+        ]
+      ]
+    ]
+
+-- on a machine without dead parts each link that leads somewhere is live
+live_link : (m : Description) (c e : Chip) (d : Dir) → IsWithoutDead m → IsInside m c → IsInside m e → far_of m c d ≡ Some e → IsLiveLink m c d
+live_link m c e d dead c_in e_in far =
+    subst (λ (o : Option Chip). is_live_between m c d o ≡ true) (sym far)
+    (rw (dead.no_chip, dead.no_link) (and_from _ _ (and_from _ _ (and_from _ _ c_in refl) (and_from _ _ e_in refl)) refl))
+
+-- What the whole tree is, once its edges are put in order.
+pub record Finished (m : Description) (root : Chip) (targets : List Chip) (joins : List Join) (edges : List Edge) : Type 0 where
+  pub is_grown : IsGrown m root targets joins edges
+  pub inside : All (λ e. IsInside m e.chip) edges
+  pub none_into_root : All (λ e. end_of m e ≢ Some root) edges
+  pub one_into_each : AllPairs (λ e f. (c : Chip) → end_of m e ≡ Some c → end_of m f ≢ Some c) edges
+  pub few : length edges ≤ distance_sum m root targets
+  pub routing : IsWithoutDead m → 0 < length targets → IsTreeTo m root edges targets
+
+path_map : (m : Description) (es fs : List Edge) → ((e : Edge) → Contains es e → Contains fs e) → (from : Chip) (path : List Edge) (to : Chip) → IsPath m es from path to → IsPath m fs from path to
+path_map m es fs sub from [] to is = is
+path_map m es fs sub from (e ∷ path) to is = (sub e is.0, is.1, (is.2.0, is.2.1, path_map m es fs sub is.2.0 path to is.2.2))
+
+chip_map : (m : Description) (root : Chip) (es fs : List Edge) → ((e : Edge) → Contains es e → Contains fs e) → (c : Chip) → IsTreeChip m root es c → IsTreeChip m root fs c
+chip_map m root es fs sub c on = elim (tree_cases m root es c on) [
+  | inl at ↦ inl at
+  | inr into ↦ tree_end m root fs into.0 c (sub into.0 into.1) into.2
+]
+
+-- an edge of the tree begins at the root, or the root is the only chip that the path leads to
+root_goes : (m : Description) (root : Chip) (targets : List Chip) (es : List Edge) (t : Chip) (path : List Edge) → IsPath m es root path t → Contains targets t →
+    Any (λ e. e.chip ≡ root) es ⊎ Contains targets root
+root_goes m root targets es t [] is has = inr (subst (λ (c : Chip). Contains targets c) (sym is) has)
+root_goes m root targets es t (e ∷ path) is has = inl (is.0.0, e, is.0.1, is.0.2, is.1)
+
+pub finished : (m : Description) (root : Chip) (targets : List Chip) (joins : List Join) (on : List Bool) (whole edges : List Edge) → HasSize m → IsInside m root →
+    All (IsInside m) targets → GrownSoFar m root on whole joins targets → IsPermutation whole edges → IsNonDecreasingBy order_number edges → Finished m root targets joins edges
+finished m root targets joins on whole edges size root_in targets_in so_far perm rises =
+    let grows : Grows m root [] joins whole = subst (λ js. Grows m root [] js whole) (append-nil joins) (so_far.grows [] whole refl) in
+    let wanted : (t : Chip) → Contains (map (λ j. j.target) joins) t → Contains targets t = λ t has. subst (λ ts. Contains ts t) so_far.targets has in
+    let out : Outcome m root targets [] whole joins =
+    grown m root root_in targets (λ t has. All-contains (IsInside m) targets t targets_in has) (λ p q pi qi. ldf_walks m p q size pi qi) joins [] whole wanted (spanning_root m root)
+    (λ c on'. elim (tree_cases m root [] c on') [
+      | inl at ↦ inl at
+      | inr into ↦ absurd (let none : into.1.0 < 0 = into.1.1 in omega arith)
+    ]) grows in
+    let to : (e : Edge) → Contains edges e → Contains whole e = λ e has. Contains-permutation edges whole e (IsPermutation-sym whole edges perm) has in
+    let back' : (e : Edge) → Contains whole e → Contains edges e = λ e has. Contains-permutation whole edges e perm has in
+    let apart : AllPairs (λ e f. end_of m e ≢ end_of m f) edges = pairs_permutation (λ e f. end_of m e ≢ end_of m f) (λ e f differ' same. differ' (sym same)) whole edges perm out.spans.apart in
+    let at : (k : ℕ) (d : Edge) → k < length edges → Contains whole (get_or edges k d) = λ k d within. to (get_or edges k d) (Contains-get_or edges k d within) in
+    let inside : All (λ e. IsInside m e.chip) edges = λ k d within. out.spans.inside (get_or edges k d) (at k d within) in
+    let none_into : All (λ e. end_of m e ≢ Some root) edges = λ k d within. out.spans.none_into_root (get_or edges k d) (at k d within) in
+    let low : (k : ℕ) (d : Edge) → k < length edges → (get_or edges k d).chip.y < 256 = λ k d within.
+    (let parts = inside_parts m (get_or edges k d).chip (inside k d within) in let below : (get_or edges k d).chip.y < m.height = parts.1 in let most : m.height ≤ 64 = size.height_to_64 in omega arith) in
+    let has_target : (t : Chip) → Contains targets t → IsTreeChip m root whole t = λ t has. out.has t (subst (λ ts. Contains ts t) (sym so_far.targets) has) in
+    let long : length edges ≡ length whole = length_permutation whole edges perm in
+    let most : length whole ≤ length {A = Edge} [] + sum_by (distance_of m root) (map (λ j. j.target) joins) = out.few in
+    let sums : sum_by (distance_of m root) (map (λ j. j.target) joins) ≡ sum_by (distance_of m root) targets = ap (sum_by (distance_of m root)) so_far.targets in
+    record {
+      is_grown = record {
+        each_joined = so_far.targets;
+        whole = whole;
+        grows = grows;
+        same_edges = λ e. (to e, back' e);
+        in_order = λ i j d less short.
+            let il : i < length edges = omega arith in
+            before_is (get_or edges i d) (get_or edges j d) (low i d il) (low j d short) (rises i j d (omega arith) short)
+            (λ same. apart i j d less short (ap (end_of m) same));
+      };
+      inside = inside;
+      none_into_root = none_into;
+      one_into_each = λ i j d less short c p q. apart i j d less short (p ∙ sym q);
+      few = omega (arith, long, most, sums);
+      routing = λ dead some. record {
+        root_lives = and_from _ _ root_in (rw dead.no_chip refl);
+        edges_live = λ k d within.
+            let e : Edge = get_or edges k d in
+            let leads = out.spans.leads e (at k d within) in
+            live_link m e.chip leads.0 e.dir dead (inside k d within) (far_inside m e.chip leads.0 e.dir (inside k d within) leads.1) leads.1;
+        edges_begin = λ k d within. chip_map m root whole edges back' (get_or edges k d).chip (out.spans.begins (get_or edges k d) (at k d within));
+        none_into_root = none_into;
+        one_into_each = apart;
+        reached = λ c on'.
+            let way = out.spans.reached c (chip_map m root edges whole to c on') in
+            (way.0, path_map m whole edges back' root way.0 c way.1);
+        has_targets = λ k d within. chip_map m root whole edges back' (get_or targets k d) (has_target (get_or targets k d) (Contains-get_or targets k d within));
+        ends_are_targets = λ c on'. elim (out.ended c (chip_map m root edges whole to c on')) [
+          | inr (inl goes) ↦ (let has = back' goes.0 goes.1 in inl (has.0, goes.0, has.1, has.2, goes.2))
+          | inr (inr target) ↦ inr target
+          | inl is_root ↦
+              let t : Chip = get_or targets 0 root in
+              let has : Contains targets t = Contains-get_or targets 0 root some in
+              let way = out.spans.reached t (has_target t has) in
+              subst (λ (x : Chip). Any (λ e. e.chip ≡ x) edges ⊎ Contains targets x) (sym is_root)
+              (root_goes m root targets edges t way.0 (path_map m whole edges back' root way.0 t way.1) has)
+        ];
+      };
+    }
+
+pub finished_at : (m : Description) (root : Chip) (targets items : List Chip) (joins : List Join) (on : List Bool) (whole edges result : List Edge) (i : ℕ) → HasSize m → IsInside m root →
+    All (IsInside m) targets → items ≡ targets → length items ≤ i → GrownSoFar m root on whole joins (take i targets) → IsPermutation whole edges →
+    IsNonDecreasingBy order_number edges → result ≡ edges → Finished m root targets joins result
+finished_at m root targets items joins on whole edges result i size root_in targets_in same past so_far perm rises is =
+    let all : take i targets ≡ targets = take_all i targets (subst (λ ts. length ts ≤ i) same past) in
+    subst (λ es. Finished m root targets joins es) (sym is)
+    (finished m root targets joins on whole edges size root_in targets_in (subst (λ ts. GrownSoFar m root on whole joins ts) all so_far) perm rises)

@@ -1,0 +1,211 @@
+-- What the steps of a displacement add up to.
+use Rattle.std.proofs.Common.{◌≡◌, ℕ, zero, suc, ◌+◌, ◌-◌, ◌*◌, max, min, cond, leb, List, [], ◌∷◌, length, replicate, refl, sym, ap, ◌∙◌, arith, inl, inr, ◌⊎◌}
+use Rattle.std.proofs.lemmas.Bool.{cases_Bool, cond-true, cond-false}
+use Rattle.std.proofs.lemmas.Int.{ints}
+use Rattle.std.proofs.lemmas.List.Sums.{sum_by-append, sum_by-cons}
+use Rattle.std.specs.List.{flat_map, sum_by, count_by}
+use Rattle.std.specs.Prelude.{ℤ, pos, negsuc, ◌-ℤ◌, neg_ℤ}
+use Rattle.spin_base.specs.declared.chips.Dir.{Dir}
+use Rattle.spin_base.specs.declared.chips.Dir.TheVariants.{East, NorthEast, North, West, SouthWest, South}
+use Rattle.spin_base.specs.Links.{opposite_of}
+use Rattle.machine_desc.specs.Live.{x_step, y_step}
+use Rattle.ner_trees.specs.declared.displacements.Disp.{Disp}
+use Rattle.ner_trees.specs.declared.walks.Run.{Run}
+use Rattle.ner_trees.specs.Geometry.{length_of, forth, back, disp}
+use Rattle.ner_trees.specs.LongestFirst.{median, run_of, put_run, longest_first, steps_of, ldf_of, is_ahead, is_back, sum_of}
+use Rattle.ner_trees.proofs.Signed.{length_is, less_median, less_median_second, minus_median}
+
+-- how much the steps of a run weigh
+sum-replicate : (w : Dir → ℕ) (d : Dir) (n : ℕ) → sum_by w (replicate n d) ≡ n * w d
+sum-replicate w d zero = omega arith
+sum-replicate w d (suc n) =
+    let more : sum_by w (replicate n d) ≡ n * w d = sum-replicate w d n in
+    sum_by-cons w d (replicate n d) ∙ (ap (λ k. w d + k) more ∙ grind arith)
+
+-- a run weighs the same wherever it is put
+sum-put : (w : Dir → ℕ) (r : Run) (rs : List Run) → sum_by w (flat_map steps_of (put_run r rs)) ≡ sum_by w (steps_of r) + sum_by w (flat_map steps_of rs)
+sum-put w r [] = sum_by-append w (steps_of r) []
+sum-put w r (s ∷ rs) = elim (cases_Bool (leb s.count r.count)) [
+  | inl fits ↦
+      ap (λ qs. sum_by w (flat_map steps_of qs)) (cond-true (leb s.count r.count) (r ∷ s ∷ rs) (s ∷ put_run r rs) fits)
+      ∙ sum_by-append w (steps_of r) (flat_map steps_of (s ∷ rs))
+  | inr past ↦
+      let more : sum_by w (flat_map steps_of (put_run r rs)) ≡ sum_by w (steps_of r) + sum_by w (flat_map steps_of rs) = sum-put w r rs in
+      let mine : sum_by w (flat_map steps_of (s ∷ put_run r rs)) ≡ sum_by w (steps_of s) + sum_by w (flat_map steps_of (put_run r rs)) =
+      sum_by-append w (steps_of s) (flat_map steps_of (put_run r rs)) in
+      let other : sum_by w (flat_map steps_of (s ∷ rs)) ≡ sum_by w (steps_of s) + sum_by w (flat_map steps_of rs) = sum_by-append w (steps_of s) (flat_map steps_of rs) in
+      ap (λ qs. sum_by w (flat_map steps_of qs)) (cond-false (leb s.count r.count) (r ∷ s ∷ rs) (s ∷ put_run r rs) past) ∙ (omega arith)
+]
+
+pub sum-longest_first : (w : Dir → ℕ) (rs : List Run) → sum_by w (flat_map steps_of (longest_first rs)) ≡ sum_by w (flat_map steps_of rs)
+sum-longest_first w [] = refl
+sum-longest_first w (r ∷ rs) =
+    sum-put w r (longest_first rs) ∙ (ap (λ k. sum_by w (steps_of r) + k) (sum-longest_first w rs) ∙ sym (sum_by-append w (steps_of r) (flat_map steps_of rs)))
+
+-- how much the steps along one dimension weigh, of which the forward or the backward ones are none
+run_weighs : (w : Dir → ℕ) (d : Dir) (z : ℤ) → sum_by w (steps_of (run_of d z)) ≡ forth z * w d + back z * w (opposite_of d)
+run_weighs w d (pos n) = sum-replicate w d n ∙ (grind arith)
+run_weighs w d (negsuc n) = sum-replicate w (opposite_of d) (suc n) ∙ (grind arith)
+
+-- the three numbers of steps of a displacement
+abbrev pub x_of : Disp → ℤ
+x_of d = d.a -ℤ median d.a d.b (pos 0)
+
+abbrev pub y_of : Disp → ℤ
+y_of d = d.b -ℤ median d.a d.b (pos 0)
+
+abbrev pub z_of : Disp → ℤ
+z_of d = neg_ℤ (median d.a d.b (pos 0))
+
+pub ldf_weighs : (w : Dir → ℕ) (d : Disp) → sum_by w (ldf_of d) ≡
+    (forth (x_of d) * w East + back (x_of d) * w West) + ((forth (y_of d) * w North + back (y_of d) * w South) + (forth (z_of d) * w SouthWest + back (z_of d) * w NorthEast))
+unfolding ldf_of
+ldf_weighs w d =
+    let x : Run = run_of East (x_of d) in
+    let y : Run = run_of North (y_of d) in
+    let z : Run = run_of SouthWest (z_of d) in
+    let first : sum_by w (flat_map steps_of (longest_first (x ∷ y ∷ z ∷ []))) ≡ sum_by w (flat_map steps_of (x ∷ y ∷ z ∷ [])) = sum-longest_first w (x ∷ y ∷ z ∷ []) in
+    let one : sum_by w (flat_map steps_of (x ∷ y ∷ z ∷ [])) ≡ sum_by w (steps_of x) + sum_by w (flat_map steps_of (y ∷ z ∷ [])) = sum_by-append w (steps_of x) (flat_map steps_of (y ∷ z ∷ [])) in
+    let two : sum_by w (flat_map steps_of (y ∷ z ∷ [])) ≡ sum_by w (steps_of y) + sum_by w (flat_map steps_of (z ∷ [])) = sum_by-append w (steps_of y) (flat_map steps_of (z ∷ [])) in
+    let three : sum_by w (flat_map steps_of (z ∷ [])) ≡ sum_by w (steps_of z) + sum_by w [] = sum_by-append w (steps_of z) [] in
+    let at_x : sum_by w (steps_of x) ≡ forth (x_of d) * w East + back (x_of d) * w West = run_weighs w East (x_of d) in
+    let at_y : sum_by w (steps_of y) ≡ forth (y_of d) * w North + back (y_of d) * w South = run_weighs w North (y_of d) in
+    let at_z : sum_by w (steps_of z) ≡ forth (z_of d) * w SouthWest + back (z_of d) * w NorthEast = run_weighs w SouthWest (z_of d) in
+    first ∙ (one ∙ (ap (λ k. sum_by w (steps_of x) + k) (two ∙ ap (λ k. sum_by w (steps_of y) + k) three)
+    ∙ (ap (λ k. k + (sum_by w (steps_of y) + (sum_by w (steps_of z) + 0))) at_x
+    ∙ (ap (λ k. (forth (x_of d) * w East + back (x_of d) * w West) + (k + (sum_by w (steps_of z) + 0))) at_y
+    ∙ (ap (λ k. (forth (x_of d) * w East + back (x_of d) * w West) + ((forth (y_of d) * w North + back (y_of d) * w South) + (k + 0))) at_z ∙ omega arith)))))
+
+-- what is above and below 0 of a difference
+less_parts : (z : ℤ) (m n : ℕ) → z ≡ pos m -ℤ pos n → (forth z ≡ m - n) × (back z ≡ n - m)
+less_parts (pos k) m n e = (omega (arith, ints, e), omega (arith, ints, e))
+less_parts (negsuc k) m n e = (omega (arith, ints, e), omega (arith, ints, e))
+
+-- what the six numbers of steps come to
+pub record Counts (d : Disp) : Type 0 where
+  pub ahead : forth (x_of d) + back (z_of d) ≡ forth d.a
+  pub behind : back (x_of d) + forth (z_of d) ≡ back d.a
+  pub above : forth (y_of d) + back (z_of d) ≡ forth d.b
+  pub below : back (y_of d) + forth (z_of d) ≡ back d.b
+  pub all : (forth (x_of d) + back (x_of d)) + ((forth (y_of d) + back (y_of d)) + (forth (z_of d) + back (z_of d))) ≡ max (forth d.a) (forth d.b) + max (back d.a) (back d.b)
+
+one_sided : (z : ℤ) → (forth z ≡ 0) ⊎ (back z ≡ 0)
+one_sided (pos n) = inr refl
+one_sided (negsuc n) = inl refl
+
+one_way : (e w n s : ℕ) → (e ≡ 0) ⊎ (w ≡ 0) → (n ≡ 0) ⊎ (s ≡ 0) → ((e + min w s) - (w + min e n)) + (min e n - min w s) ≡ e
+one_way e w n s (inl p) (inl q) = omega arith
+one_way e w n s (inl p) (inr q) = omega arith
+one_way e w n s (inr p) (inl q) = omega arith
+one_way e w n s (inr p) (inr q) = omega arith
+
+other_way : (e w n s : ℕ) → (e ≡ 0) ⊎ (w ≡ 0) → (n ≡ 0) ⊎ (s ≡ 0) → ((w + min e n) - (e + min w s)) + (min w s - min e n) ≡ w
+other_way e w n s (inl p) (inl q) = omega arith
+other_way e w n s (inl p) (inr q) = omega arith
+other_way e w n s (inr p) (inl q) = omega arith
+other_way e w n s (inr p) (inr q) = omega arith
+
+up_way : (e w n s : ℕ) → (e ≡ 0) ⊎ (w ≡ 0) → (n ≡ 0) ⊎ (s ≡ 0) → ((n + min w s) - (s + min e n)) + (min e n - min w s) ≡ n
+up_way e w n s (inl p) (inl q) = omega arith
+up_way e w n s (inl p) (inr q) = omega arith
+up_way e w n s (inr p) (inl q) = omega arith
+up_way e w n s (inr p) (inr q) = omega arith
+
+down_way : (e w n s : ℕ) → (e ≡ 0) ⊎ (w ≡ 0) → (n ≡ 0) ⊎ (s ≡ 0) → ((s + min e n) - (n + min w s)) + (min w s - min e n) ≡ s
+down_way e w n s (inl p) (inl q) = omega arith
+down_way e w n s (inl p) (inr q) = omega arith
+down_way e w n s (inr p) (inl q) = omega arith
+down_way e w n s (inr p) (inr q) = omega arith
+
+all_ways : (e w n s fx bx fy by fz bz : ℕ) → (e ≡ 0) ⊎ (w ≡ 0) → (n ≡ 0) ⊎ (s ≡ 0) → fx + bz ≡ e → bx + fz ≡ w → fy + bz ≡ n → by + fz ≡ s →
+    fz ≡ min w s - min e n → bz ≡ min e n - min w s → (fx + bx) + ((fy + by) + (fz + bz)) ≡ max e n + max w s
+all_ways e w n s fx bx fy by fz bz (inl p) (inl q) a b c d z y = omega arith
+all_ways e w n s fx bx fy by fz bz (inl p) (inr q) a b c d z y = omega arith
+all_ways e w n s fx bx fy by fz bz (inr p) (inl q) a b c d z y = omega arith
+all_ways e w n s fx bx fy by fz bz (inr p) (inr q) a b c d z y = omega arith
+
+pub counts : (d : Disp) → Counts d
+counts d =
+    let e : ℕ = forth d.a in
+    let w : ℕ = back d.a in
+    let n : ℕ = forth d.b in
+    let s : ℕ = back d.b in
+    let one = one_sided d.a in
+    let two = one_sided d.b in
+    let x = less_parts (x_of d) (e + min w s) (w + min e n) (less_median d.a d.b) in
+    let y = less_parts (y_of d) (n + min w s) (s + min e n) (less_median_second d.a d.b) in
+    let z = less_parts (z_of d) (min w s) (min e n) (minus_median d.a d.b) in
+    let ahead : forth (x_of d) + back (z_of d) ≡ e = rw (x.0, z.1) (one_way e w n s one two) in
+    let behind : back (x_of d) + forth (z_of d) ≡ w = rw (x.1, z.0) (other_way e w n s one two) in
+    let above : forth (y_of d) + back (z_of d) ≡ n = rw (y.0, z.1) (up_way e w n s one two) in
+    let below : back (y_of d) + forth (z_of d) ≡ s = rw (y.1, z.0) (down_way e w n s one two) in
+    record {
+      ahead = ahead;
+      behind = behind;
+      above = above;
+      below = below;
+      all = all_ways e w n s (forth (x_of d)) (back (x_of d)) (forth (y_of d)) (back (y_of d)) (forth (z_of d)) (back (z_of d)) one two ahead behind above below z.0 z.1;
+    }
+
+length-put_run : (r : Run) (rs : List Run) → length (put_run r rs) ≡ suc (length rs)
+length-put_run r [] = refl
+length-put_run r (s ∷ rs) = elim (cases_Bool (leb s.count r.count)) [
+  | inl fits ↦ ap length (cond-true (leb s.count r.count) (r ∷ s ∷ rs) (s ∷ put_run r rs) fits)
+  | inr past ↦ ap length (cond-false (leb s.count r.count) (r ∷ s ∷ rs) (s ∷ put_run r rs) past) ∙ ap suc (length-put_run r rs)
+]
+
+pub length-longest_first : (rs : List Run) → length (longest_first rs) ≡ length rs
+length-longest_first [] = refl
+length-longest_first (r ∷ rs) = length-put_run r (longest_first rs) ∙ ap suc (length-longest_first rs)
+
+sum_of_ones : (ds : List Dir) → sum_by (λ _. 1) ds ≡ length ds
+sum_of_ones [] = refl
+sum_of_ones (d ∷ ds) = sum_by-cons (λ _. 1) d ds ∙ (ap (λ k. 1 + k) (sum_of_ones ds) ∙ omega arith)
+
+pub ldf_length : (d : Disp) → length (ldf_of d) ≡ length_of d
+ldf_length d =
+    let all = (counts d).all in
+    let weighs : sum_by (λ _. 1) (ldf_of d) ≡
+    (forth (x_of d) * 1 + back (x_of d) * 1) + ((forth (y_of d) * 1 + back (y_of d) * 1) + (forth (z_of d) * 1 + back (z_of d) * 1)) = ldf_weighs (λ _. 1) d in
+    let long : length_of d ≡ max (forth d.a) (forth d.b) + max (back d.a) (back d.b) = length_is d in
+    sym (sum_of_ones (ldf_of d)) ∙ (weighs ∙ (numbers_of _ _ _ _ _ _ ∙ (all ∙ sym long)))
+  where
+    numbers_of : (a b c e f g : ℕ) → (a * 1 + b * 1) + ((c * 1 + e * 1) + (f * 1 + g * 1)) ≡ (a + b) + ((c + e) + (f + g))
+    numbers_of a b c e f g = omega arith
+
+-- so many steps lead ahead and back along each axis
+pub ldf_ahead : (d : Disp) → count_by (λ e. is_ahead (x_step e)) (ldf_of d) ≡ forth d.a
+ldf_ahead d = ldf_weighs (λ e. cond (is_ahead (x_step e)) 1 0) d ∙ (pick _ _ _ _ _ _ ∙ (counts d).ahead)
+  where
+    pick : (a b c e f g : ℕ) → (a * 1 + b * 0) + ((c * 0 + e * 0) + (f * 0 + g * 1)) ≡ a + g
+    pick a b c e f g = omega arith
+
+pub ldf_behind : (d : Disp) → count_by (λ e. is_back (x_step e)) (ldf_of d) ≡ back d.a
+ldf_behind d = ldf_weighs (λ e. cond (is_back (x_step e)) 1 0) d ∙ (pick _ _ _ _ _ _ ∙ (counts d).behind)
+  where
+    pick : (a b c e f g : ℕ) → (a * 0 + b * 1) + ((c * 0 + e * 0) + (f * 1 + g * 0)) ≡ b + f
+    pick a b c e f g = omega arith
+
+pub ldf_above : (d : Disp) → count_by (λ e. is_ahead (y_step e)) (ldf_of d) ≡ forth d.b
+ldf_above d = ldf_weighs (λ e. cond (is_ahead (y_step e)) 1 0) d ∙ (pick _ _ _ _ _ _ ∙ (counts d).above)
+  where
+    pick : (a b c e f g : ℕ) → (a * 0 + b * 0) + ((c * 1 + e * 0) + (f * 0 + g * 1)) ≡ c + g
+    pick a b c e f g = omega arith
+
+pub ldf_below : (d : Disp) → count_by (λ e. is_back (y_step e)) (ldf_of d) ≡ back d.b
+ldf_below d = ldf_weighs (λ e. cond (is_back (y_step e)) 1 0) d ∙ (pick _ _ _ _ _ _ ∙ (counts d).below)
+  where
+    pick : (a b c e f g : ℕ) → (a * 0 + b * 0) + ((c * 0 + e * 1) + (f * 1 + g * 0)) ≡ e + f
+    pick a b c e f g = omega arith
+
+signed_is : (z : ℤ) → pos (forth z) -ℤ pos (back z) ≡ z
+signed_is (pos n) = omega (arith, ints)
+signed_is (negsuc n) = omega (arith, ints)
+
+pub ldf_sum : (d : Disp) → sum_of (ldf_of d) ≡ d
+ldf_sum d =
+    let across : pos (count_by (λ e. is_ahead (x_step e)) (ldf_of d)) -ℤ pos (count_by (λ e. is_back (x_step e)) (ldf_of d)) ≡ d.a =
+    ap (λ k. pos k -ℤ pos (count_by (λ e. is_back (x_step e)) (ldf_of d))) (ldf_ahead d) ∙ (ap (λ k. pos (forth d.a) -ℤ pos k) (ldf_behind d) ∙ signed_is d.a) in
+    let up : pos (count_by (λ e. is_ahead (y_step e)) (ldf_of d)) -ℤ pos (count_by (λ e. is_back (y_step e)) (ldf_of d)) ≡ d.b =
+    ap (λ k. pos k -ℤ pos (count_by (λ e. is_back (y_step e)) (ldf_of d))) (ldf_above d) ∙ (ap (λ k. pos (forth d.b) -ℤ pos k) (ldf_below d) ∙ signed_is d.b) in
+    ap (λ k. disp k (sum_of (ldf_of d)).b) across ∙ ap (λ k. disp d.a k) up

@@ -1,0 +1,80 @@
+-- Signed numbers as what is above 0 and what is below.
+use Rattle.std.proofs.Common.{◌≡◌, ℕ, ◌+◌, max, min, [], ◌∷◌, true, false, sym, ap, ◌∙◌, arith}
+use Rattle.std.proofs.lemmas.Bool.{cond-true, cond-false}
+use Rattle.std.proofs.lemmas.Int.{ints}
+use Rattle.std.specs.Prelude.{ℤ, pos, negsuc, ◌-ℤ◌, neg_ℤ, unsigned_abs}
+use Rattle.std.specs.Int.{int_max, int_min}
+use Rattle.spin_base.specs.declared.chips.Chip.{Chip}
+use Rattle.spin_base.specs.declared.chips.Dir.TheVariants.{East, North, SouthWest}
+use Rattle.machine_desc.specs.Description.{Description}
+use Rattle.ner_trees.specs.declared.displacements.Disp.{Disp}
+use Rattle.ner_trees.specs.declared.walks.Run.{Run}
+use Rattle.ner_trees.specs.Geometry.{length_of, forth, back, disp, least_of, ahead_by, on_torus, displacement_of}
+use Rattle.ner_trees.specs.LongestFirst.{median, run_of, runs_of, longest_first}
+
+pub length_is : (d : Disp) → length_of d ≡ max (forth d.a) (forth d.b) + max (back d.a) (back d.b)
+length_is d = parts d.a d.b
+  where
+    parts : (a b : ℤ) → unsigned_abs (int_max (int_max a b) (pos 0) -ℤ int_min (int_min a b) (pos 0)) ≡ max (forth a) (forth b) + max (back a) (back b)
+    parts (pos m) (pos n) = grind (arith, ints)
+    parts (pos m) (negsuc n) = grind (arith, ints)
+    parts (negsuc m) (pos n) = grind (arith, ints)
+    parts (negsuc m) (negsuc n) = grind (arith, ints)
+
+pub abs_is : (z : ℤ) → unsigned_abs z ≡ forth z + back z
+abs_is (pos n) = omega arith
+abs_is (negsuc n) = omega arith
+
+-- the median of a, b and 0, as what the two have in common
+pub less_median : (a b : ℤ) → a -ℤ median a b (pos 0) ≡ pos (forth a + min (back a) (back b)) -ℤ pos (back a + min (forth a) (forth b))
+less_median (pos m) (pos n) = grind (arith, ints)
+less_median (pos m) (negsuc n) = grind (arith, ints)
+less_median (negsuc m) (pos n) = grind (arith, ints)
+less_median (negsuc m) (negsuc n) = grind (arith, ints)
+
+pub less_median_second : (a b : ℤ) → b -ℤ median a b (pos 0) ≡ pos (forth b + min (back a) (back b)) -ℤ pos (back b + min (forth a) (forth b))
+less_median_second (pos m) (pos n) = grind (arith, ints)
+less_median_second (pos m) (negsuc n) = grind (arith, ints)
+less_median_second (negsuc m) (pos n) = grind (arith, ints)
+less_median_second (negsuc m) (negsuc n) = grind (arith, ints)
+
+pub minus_median : (a b : ℤ) → neg_ℤ (median a b (pos 0)) ≡ pos (min (back a) (back b)) -ℤ pos (min (forth a) (forth b))
+minus_median (pos m) (pos n) = grind (arith, ints)
+minus_median (pos m) (negsuc n) = grind (arith, ints)
+minus_median (negsuc m) (pos n) = grind (arith, ints)
+minus_median (negsuc m) (negsuc n) = grind (arith, ints)
+
+-- what the four displacements on a torus come to
+pub torus_steps : (w h a b : ℕ) (za zb zx zy : ℤ) (r s t : Disp) → za ≡ pos a → zb ≡ pos b → zx ≡ pos a -ℤ pos w → zy ≡ pos b -ℤ pos h →
+    r ≡ least_of (disp za zb) (disp zx zb) → s ≡ least_of r (disp za zy) → t ≡ least_of s (disp zx zy) → t ≡ on_torus w h a b
+unfolding on_torus
+torus_steps w h a b za zb zx zy r s t ea eb ex ey er es et = rw (et, es, er, ea, eb, ex, ey)
+
+pub displaced_on_torus : (m : Description) (p q : Chip) (w h x y : ℕ) (r : Disp) → m.wrap ≡ true → w ≡ m.width → h ≡ m.height → x ≡ ahead_by w p.x q.x →
+    y ≡ ahead_by h p.y q.y → r ≡ on_torus w h x y → r ≡ displacement_of m p q
+unfolding displacement_of
+displaced_on_torus m p q w h x y r wraps ew eh ex ey er =
+    let fx : x ≡ ahead_by m.width p.x q.x = ex ∙ ap (λ k. ahead_by k p.x q.x) ew in
+    let fy : y ≡ ahead_by m.height p.y q.y = ey ∙ ap (λ k. ahead_by k p.y q.y) eh in
+    er ∙ (ap (λ k. on_torus k h x y) ew ∙ (ap (λ k. on_torus m.width k x y) eh ∙ (ap (λ k. on_torus m.width m.height k y) fx ∙ (ap (λ k. on_torus m.width m.height (ahead_by m.width p.x q.x) k) fy
+    ∙ sym (cond-true m.wrap (on_torus m.width m.height (ahead_by m.width p.x q.x) (ahead_by m.height p.y q.y)) (disp (pos q.x -ℤ pos p.x) (pos q.y -ℤ pos p.y)) wraps)))))
+
+pub displaced_on_grid : (m : Description) (p q : Chip) (a b : ℤ) → m.wrap ≡ false → a ≡ pos q.x -ℤ pos p.x → b ≡ pos q.y -ℤ pos p.y →
+    disp a b ≡ displacement_of m p q
+unfolding displacement_of
+displaced_on_grid m p q a b opens ea eb =
+    ap (λ k. disp k b) ea ∙ (ap (λ k. disp (pos q.x -ℤ pos p.x) k) eb
+    ∙ sym (cond-false m.wrap (on_torus m.width m.height (ahead_by m.width p.x q.x) (ahead_by m.height p.y q.y)) (disp (pos q.x -ℤ pos p.x) (pos q.y -ℤ pos p.y)) opens))
+
+-- the runs of a displacement, from what is above and below 0
+pub runs_steps : (d : Disp) (a b : ℤ) (x y z : Run) (east west north south north_east south_west : ℕ) → a ≡ d.a → b ≡ d.b →
+    east ≡ forth a → west ≡ back a → north ≡ forth b → south ≡ back b →
+    north_east ≡ min east north → south_west ≡ min west south → x ≡ run_of East (pos (east + south_west) -ℤ pos (west + north_east)) →
+    y ≡ run_of North (pos (north + south_west) -ℤ pos (south + north_east)) → z ≡ run_of SouthWest (pos south_west -ℤ pos north_east) →
+    longest_first (x ∷ y ∷ z ∷ []) ≡ longest_first (runs_of d)
+runs_steps d a b x y z east west north south north_east south_west ea eb e1 e2 e3 e4 e5 e6 ex ey ez =
+    let fx : x ≡ run_of East (d.a -ℤ median d.a d.b (pos 0)) = rw (ex, e5, e6, e1, e2, e3, e4, ea, eb) (ap (run_of East) (sym (less_median d.a d.b))) in
+    let fy : y ≡ run_of North (d.b -ℤ median d.a d.b (pos 0)) = rw (ey, e5, e6, e1, e2, e3, e4, ea, eb) (ap (run_of North) (sym (less_median_second d.a d.b))) in
+    let fz : z ≡ run_of SouthWest (neg_ℤ (median d.a d.b (pos 0))) = rw (ez, e5, e6, e1, e2, e3, e4, ea, eb) (ap (run_of SouthWest) (sym (minus_median d.a d.b))) in
+    let rest : x ∷ y ∷ z ∷ [] ≡ runs_of d = rw (fx, fy, fz) in
+    ap longest_first rest

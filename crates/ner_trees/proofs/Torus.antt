@@ -1,0 +1,186 @@
+-- The displacement on a torus never leads all the way round.
+use Rattle.std.proofs.Common.{◌≡◌, ℕ, ◌+◌, ◌-◌, ◌*◌, ◌<◌, ◌≤◌, max, Bool, true, false, ltb, eqb, refl, sym, ap, ◌∙◌, subst, arith, inl, inr, ◌⊎◌}
+use Rattle.std.proofs.lemmas.Bool.{cases_eq, cases_Bool, ltb-true, ltb-false, eqb-true, eqb-false, cond-true, cond-false}
+use Rattle.std.proofs.lemmas.Int.{ints}
+use Rattle.std.specs.Prelude.{ℤ, pos, negsuc, ◌-ℤ◌, unsigned_abs}
+use Rattle.ner_trees.specs.declared.displacements.Disp.{Disp}
+use Rattle.ner_trees.specs.Geometry.{length_of, forth, back, disp, first_differs, is_before, least_of, on_torus, IsSmall}
+use Rattle.ner_trees.proofs.Signed.{length_is, abs_is}
+
+-- the first three of the numbers by which displacements are put in order, as one
+abbrev pub weight : Disp → ℕ
+weight d = length_of d * 65536 + unsigned_abs d.a * 256 + unsigned_abs d.b
+
+-- a displacement that comes before another is not heavier
+differs_true : (m n : ℕ) (rest : Bool) → first_differs m n rest ≡ true → (m < n) ⊎ ((m ≡ n) × (rest ≡ true))
+differs_true m n rest is = elim (cases_Bool (eqb m n)) [
+  | inl same ↦ inr (eqb-true m n same, sym (cond-true (eqb m n) rest (ltb m n) same) ∙ is)
+  | inr other ↦ inl (ltb-true m n (sym (cond-false (eqb m n) rest (ltb m n) other) ∙ is))
+]
+
+differs_false : (m n : ℕ) (rest : Bool) → first_differs m n rest ≡ false → (n < m) ⊎ ((m ≡ n) × (rest ≡ false))
+differs_false m n rest is = elim (cases_Bool (eqb m n)) [
+  | inl same ↦ inr (eqb-true m n same, sym (cond-true (eqb m n) rest (ltb m n) same) ∙ is)
+  | inr other ↦
+      let most : n ≤ m = ltb-false m n (sym (cond-false (eqb m n) rest (ltb m n) other) ∙ is) in
+      let apart : m ≡ n → ⊥ = eqb-false m n other in
+      inl (elim (cases_eq m n) [ inl same ↦ absurd (apart same) | inr differ ↦ omega arith ])
+]
+
+heavier : (l k a b c d : ℕ) → a ≤ 64 → b ≤ 64 → c ≤ 64 → d ≤ 64 → (l < k) ⊎ ((l ≡ k) × ((a < c) ⊎ ((a ≡ c) × ((b < d) ⊎ (b ≡ d))))) →
+    l * 65536 + a * 256 + b ≤ k * 65536 + c * 256 + d
+heavier l k a b c d pa pb pc pd (inl less) = omega arith
+heavier l k a b c d pa pb pc pd (inr (e, inl less)) = omega arith
+heavier l k a b c d pa pb pc pd (inr (e, inr (f, inl less))) = omega arith
+heavier l k a b c d pa pb pc pd (inr (e, inr (f, inr g))) = omega arith
+
+before_true : (d e : Disp) → IsSmall d → IsSmall e → is_before d e ≡ true → weight d ≤ weight e
+before_true d e sd se is =
+    heavier (length_of d) (length_of e) (unsigned_abs d.a) (unsigned_abs d.b) (unsigned_abs e.a) (unsigned_abs e.b) sd.0 sd.1 se.0 se.1
+    (elim (differs_true (length_of d) (length_of e) _ is) [
+      | inl less ↦ inl less
+      | inr same ↦ elim (differs_true (unsigned_abs d.a) (unsigned_abs e.a) _ same.1) [
+        | inl less ↦ inr (same.0, inl less)
+        | inr again ↦ elim (differs_true (unsigned_abs d.b) (unsigned_abs e.b) _ again.1) [
+          | inl less ↦ inr (same.0, inr (again.0, inl less))
+          | inr third ↦ inr (same.0, inr (again.0, inr third.0))
+        ]
+      ]
+    ])
+
+before_false : (d e : Disp) → IsSmall d → IsSmall e → is_before d e ≡ false → weight e ≤ weight d
+before_false d e sd se is =
+    heavier (length_of e) (length_of d) (unsigned_abs e.a) (unsigned_abs e.b) (unsigned_abs d.a) (unsigned_abs d.b) se.0 se.1 sd.0 sd.1
+    (elim (differs_false (length_of d) (length_of e) _ is) [
+      | inl less ↦ inl less
+      | inr same ↦ elim (differs_false (unsigned_abs d.a) (unsigned_abs e.a) _ same.1) [
+        | inl less ↦ inr (sym same.0, inl less)
+        | inr again ↦ elim (differs_false (unsigned_abs d.b) (unsigned_abs e.b) _ again.1) [
+          | inl less ↦ inr (sym same.0, inr (sym again.0, inl less))
+          | inr third ↦ inr (sym same.0, inr (sym again.0, inr (sym third.0)))
+        ]
+      ]
+    ])
+
+-- the first of two is one of them, and neither is lighter
+pub record Least (d e r : Disp) : Type 0 where
+  pub which : (r ≡ d) ⊎ (r ≡ e)
+  pub small : IsSmall r
+  pub one : weight r ≤ weight d
+  pub other : weight r ≤ weight e
+
+pub least : (d e : Disp) → IsSmall d → IsSmall e → Least d e (least_of d e)
+least d e sd se = elim (cases_Bool (is_before e d)) [
+  | inl before ↦
+      let at : least_of d e ≡ e = cond-true (is_before e d) e d before in
+      subst (λ (r : Disp). Least d e r) (sym at) (record { which = inr refl; small = se; one = before_true e d se sd before; other = (let l : weight e ≤ weight e = omega arith in l) })
+  | inr after ↦
+      let at : least_of d e ≡ d = cond-false (is_before e d) e d after in
+      subst (λ (r : Disp). Least d e r) (sym at) (record { which = inl refl; small = sd; one = (let l : weight d ≤ weight d = omega arith in l); other = before_false e d se sd after })
+]
+
+weight_is : (d : Disp) → weight d ≡ (max (forth d.a) (forth d.b) + max (back d.a) (back d.b)) * 65536 + (forth d.a + back d.a) * 256 + (forth d.b + back d.b)
+weight_is d =
+    let l : length_of d ≡ max (forth d.a) (forth d.b) + max (back d.a) (back d.b) = length_is d in
+    let a : unsigned_abs d.a ≡ forth d.a + back d.a = abs_is d.a in
+    let b : unsigned_abs d.b ≡ forth d.b + back d.b = abs_is d.b in
+    rw (l, a, b) refl
+
+-- to lead back all the way is heavier than to stay
+round_a : (w : ℕ) (z y : ℤ) → 0 < w → forth z ≡ 0 → back z ≡ w → weight (disp (pos 0) y) < weight (disp z y)
+round_a w z y some f b =
+    rw (weight_is (disp (pos 0) y), weight_is (disp z y), f, b) (numbers w (forth y) (back y) some)
+  where
+    numbers : (w m n : ℕ) → 0 < w → (max 0 m + max 0 n) * 65536 + (0 + 0) * 256 + (m + n) < (max 0 m + max w n) * 65536 + (0 + w) * 256 + (m + n)
+    numbers w m n some = omega arith
+
+round_b : (w : ℕ) (z y : ℤ) → 0 < w → forth z ≡ 0 → back z ≡ w → weight (disp y (pos 0)) < weight (disp y z)
+round_b w z y some f b =
+    rw (weight_is (disp y (pos 0)), weight_is (disp y z), f, b) (numbers w (forth y) (back y) some)
+  where
+    numbers : (w m n : ℕ) → 0 < w → (max m 0 + max n 0) * 65536 + (m + n) * 256 + (0 + 0) < (max m 0 + max n w) * 65536 + (m + n) * 256 + (0 + w)
+    numbers w m n some = omega arith
+
+-- a number less another that is greater
+pub behind : (a w : ℕ) → a < w → (forth (pos a -ℤ pos w) ≡ 0) × (back (pos a -ℤ pos w) ≡ w - a)
+behind a w less = parts (pos a -ℤ pos w) refl
+  where
+    parts : (z : ℤ) → z ≡ pos a -ℤ pos w → (forth z ≡ 0) × (back z ≡ w - a)
+    parts (pos k) e = (omega (arith, ints, e), omega (arith, ints, e))
+    parts (negsuc k) e = (refl, omega (arith, ints, e))
+
+-- along each axis the displacement leads ahead, or back by what is left where that is not the whole axis
+abbrev pub AheadOrBack : ℕ → ℕ → ℤ → Type 0
+AheadOrBack w a z = (z ≡ pos a) ⊎ ((z ≡ pos a -ℤ pos w) × (0 < a))
+
+pub torus_ways : (w h a b : ℕ) → a < w → b < h → w ≤ 64 → h ≤ 64 → AheadOrBack w a (on_torus w h a b).a × AheadOrBack h b (on_torus w h a b).b
+unfolding on_torus
+torus_ways w h a b aw bh ws hs =
+    let x : ℤ = pos a -ℤ pos w in
+    let y : ℤ = pos b -ℤ pos h in
+    let d1 : Disp = disp (pos a) (pos b) in
+    let d2 : Disp = disp x (pos b) in
+    let d3 : Disp = disp (pos a) y in
+    let d4 : Disp = disp x y in
+    let bx = behind a w aw in
+    let by = behind b h bh in
+    let sx : unsigned_abs x ≤ 64 = rw (abs_is x, bx.0, bx.1) (omega arith) in
+    let sy : unsigned_abs y ≤ 64 = rw (abs_is y, by.0, by.1) (omega arith) in
+    let sa : a ≤ 64 = omega arith in
+    let sb : b ≤ 64 = omega arith in
+    let r1 = least d1 d2 (sa, sb) (sx, sb) in
+    let r2 = least (least_of d1 d2) d3 r1.small (sa, sy) in
+    let r3 = least (least_of (least_of d1 d2) d3) d4 r2.small (sx, sy) in
+    ways (least_of (least_of (least_of d1 d2) d3) d4)
+    (elim r3.which [
+      | inr four ↦ inr (inr (inr four))
+      | inl three ↦ elim r2.which [
+        | inr third ↦ inr (inr (inl (three ∙ third)))
+        | inl two ↦ elim r1.which [
+          | inr second ↦ inr (inl (three ∙ (two ∙ second)))
+          | inl one ↦ inl (three ∙ (two ∙ one))
+        ]
+      ]
+    ])
+    (below r3.one (below r2.one r1.one)) (below r3.one (below r2.one r1.other)) (below r3.one r2.other)
+  where
+    below : {k l n : ℕ} → k ≤ l → l ≤ n → k ≤ n
+    below p q = omega arith
+
+    heavy_a : (y : ℤ) → a ≡ 0 → weight (disp (pos a -ℤ pos w) y) ≤ weight (disp (pos a) y) → ⊥
+    heavy_a y none light =
+        let bx = behind a w aw in
+        let whole : back (pos a -ℤ pos w) ≡ w = bx.1 ∙ omega arith in
+        let some : 0 < w = omega arith in
+        let less : weight (disp (pos 0) y) < weight (disp (pos a -ℤ pos w) y) = round_a w (pos a -ℤ pos w) y some bx.0 whole in
+        let same : weight (disp (pos a) y) ≡ weight (disp (pos 0) y) = ap (λ k. weight (disp (pos k) y)) none in
+        omega arith
+
+    heavy_b : (y : ℤ) → b ≡ 0 → weight (disp y (pos b -ℤ pos h)) ≤ weight (disp y (pos b)) → ⊥
+    heavy_b y none light =
+        let by = behind b h bh in
+        let whole : back (pos b -ℤ pos h) ≡ h = by.1 ∙ omega arith in
+        let some : 0 < h = omega arith in
+        let less : weight (disp y (pos 0)) < weight (disp y (pos b -ℤ pos h)) = round_b h (pos b -ℤ pos h) y some by.0 whole in
+        let same : weight (disp y (pos b)) ≡ weight (disp y (pos 0)) = ap (λ k. weight (disp y (pos k))) none in
+        omega arith
+
+    ways : (r : Disp) → (r ≡ disp (pos a) (pos b)) ⊎ ((r ≡ disp (pos a -ℤ pos w) (pos b)) ⊎ ((r ≡ disp (pos a) (pos b -ℤ pos h)) ⊎ (r ≡ disp (pos a -ℤ pos w) (pos b -ℤ pos h)))) →
+        weight r ≤ weight (disp (pos a) (pos b)) → weight r ≤ weight (disp (pos a -ℤ pos w) (pos b)) → weight r ≤ weight (disp (pos a) (pos b -ℤ pos h)) →
+        AheadOrBack w a r.a × AheadOrBack h b r.b
+    ways r (inl one) p q s = (inl (ap (λ (d : Disp). d.a) one), inl (ap (λ (d : Disp). d.b) one))
+    ways r (inr (inl two)) p q s = elim (cases_eq a 0) [
+      | inl none ↦ absurd (heavy_a (pos b) none (subst (λ (d : Disp). weight d ≤ weight (disp (pos a) (pos b))) two p))
+      | inr some ↦ (inr (ap (λ (d : Disp). d.a) two, omega arith), inl (ap (λ (d : Disp). d.b) two))
+    ]
+    ways r (inr (inr (inl three))) p q s = elim (cases_eq b 0) [
+      | inl none ↦ absurd (heavy_b (pos a) none (subst (λ (d : Disp). weight d ≤ weight (disp (pos a) (pos b))) three p))
+      | inr some ↦ (inl (ap (λ (d : Disp). d.a) three), inr (ap (λ (d : Disp). d.b) three, omega arith))
+    ]
+    ways r (inr (inr (inr four))) p q s = elim (cases_eq a 0) [
+      | inl none ↦ absurd (heavy_a (pos b -ℤ pos h) none (subst (λ (d : Disp). weight d ≤ weight (disp (pos a) (pos b -ℤ pos h))) four s))
+      | inr some ↦ elim (cases_eq b 0) [
+        | inl none ↦ absurd (heavy_b (pos a -ℤ pos w) none (subst (λ (d : Disp). weight d ≤ weight (disp (pos a -ℤ pos w) (pos b))) four q))
+        | inr more ↦ (inr (ap (λ (d : Disp). d.a) four, omega arith), inr (ap (λ (d : Disp). d.b) four, omega arith))
+      ]
+    ]

@@ -1,0 +1,265 @@
+-- The walk between two chips goes one way along each axis, and arrives.
+use Rattle.std.proofs.Common.{◌≡◌, ℕ, suc, ◌+◌, ◌<◌, Bool, true, false, not, cond, List, [], ◌∷◌, Some, refl, sym, ap, ◌∙◌, subst, arith, inl, inr, ◌⊎◌}
+use Rattle.std.proofs.lemmas.Bool.{cases_Bool, cond-true, cond-false, true≢false}
+use Rattle.std.proofs.lemmas.Int.{ints}
+use Rattle.std.proofs.lemmas.List.Sums.{sum_by-cons}
+use Rattle.std.specs.List.{count_by}
+use Rattle.std.specs.Prelude.{ℤ, pos, negsuc, ◌-ℤ◌}
+use Rattle.spin_base.specs.declared.chips.Chip.{Chip}
+use Rattle.spin_base.specs.declared.chips.Dir.{Dir}
+use Rattle.spin_base.specs.declared.chips.Dir.TheVariants.{East, NorthEast, North, West, SouthWest, South}
+use Rattle.spin_base.specs.Equality.{chip_eq}
+use Rattle.spin_base.proofs.Equality.{chip_eq_true}
+use Rattle.machine_desc.specs.declared.steps.Step.{Step}
+use Rattle.machine_desc.specs.declared.steps.Step.TheVariants.{Back, Stay, Ahead}
+use Rattle.machine_desc.specs.Description.{Description, HasSize}
+use Rattle.machine_desc.specs.Live.{far_of, x_step, y_step, IsInside}
+use Rattle.machine_desc.proofs.Far.{far_from, inside_parts, inside_from}
+use Rattle.machine_desc.proofs.Same.{same_chip}
+use Rattle.ner_trees.specs.declared.displacements.Disp.{Disp}
+use Rattle.ner_trees.specs.Geometry.{forth, back, ahead_by, disp, on_torus, displacement_of}
+use Rattle.ner_trees.specs.LongestFirst.{is_ahead, is_back, ldf_of}
+use Rattle.ner_trees.specs.Growth.{or_stay, next_of, end_of_walk}
+use Rattle.ner_trees.proofs.Axis.{ahead_cases, ahead_below, way, goes, gap, IsStraight, Reaches, gap_start, gap_same, moves_on}
+use Rattle.ner_trees.proofs.LongestFirst.{ldf_ahead, ldf_behind, ldf_above, ldf_below}
+use Rattle.ner_trees.proofs.Torus.{AheadOrBack, torus_ways}
+use Rattle.ner_trees.proofs.Trees.{Rises, Walks}
+
+-- what a displacement on a ring, or on an open axis, says of the places
+reach_ring : (w p q : ℕ) (z : ℤ) → p < w → q < w → AheadOrBack w (ahead_by w p q) z → Reaches true w p q z
+reach_ring w p q z pw qw (inl ahead) = subst (λ (y : ℤ). Reaches true w p q y) (sym ahead) (record {
+  from_inside = pw;
+  to_inside = qw;
+  far = omega arith;
+  straight = λ e. absurd (true≢false e);
+})
+reach_ring w p q (pos k) pw qw (inr behind) =
+    let below : ahead_by w p q < w = ahead_below w p q pw qw in
+    let is : pos k ≡ pos (ahead_by w p q) -ℤ pos w = behind.0 in
+    absurd (omega (arith, ints, is, below))
+reach_ring w p q (negsuc k) pw qw (inr behind) =
+    let below : ahead_by w p q < w = ahead_below w p q pw qw in
+    let is : negsuc k ≡ pos (ahead_by w p q) -ℤ pos w = behind.0 in
+    let less : suc k + ahead_by w p q ≡ w = omega (arith, ints, is, below) in
+    let some : 0 < ahead_by w p q = behind.1 in
+    record {
+      from_inside = pw;
+      to_inside = qw;
+      far = elim (ahead_cases w p q pw qw) [
+        | inl one ↦ elim (ahead_cases w q p qw pw) [
+          | inl two ↦ let x : ahead_by w p q + p ≡ q = one.1 in let y : ahead_by w q p + q ≡ p = two.1 in absurd (omega arith)
+          | inr two ↦ let x : ahead_by w p q + p ≡ q = one.1 in let y : ahead_by w q p + q ≡ p + w = two.1 in (omega arith)
+        ]
+        | inr one ↦ elim (ahead_cases w q p qw pw) [
+          | inl two ↦ let x : ahead_by w p q + p ≡ q + w = one.1 in let y : ahead_by w q p + q ≡ p = two.1 in (omega arith)
+          | inr two ↦ let x : q < p = one.0 in let y : p < q = two.0 in absurd (omega arith)
+        ]
+      ];
+      straight = λ e. absurd (true≢false e);
+    }
+
+reach_line : (w p q : ℕ) (z : ℤ) → p < w → q < w → z ≡ pos q -ℤ pos p → Reaches false w p q z
+reach_line w p q (pos k) pw qw is =
+    let sum : k + p ≡ q = omega (arith, ints, is) in
+    record {
+      from_inside = pw;
+      to_inside = qw;
+      far = elim (ahead_cases w p q pw qw) [
+        | inl one ↦ let x : ahead_by w p q + p ≡ q = one.1 in (omega arith)
+        | inr one ↦ let x : q < p = one.0 in absurd (omega arith)
+      ];
+      straight = λ _. (omega arith);
+    }
+reach_line w p q (negsuc k) pw qw is =
+    let sum : suc k + q ≡ p = omega (arith, ints, is) in
+    record {
+      from_inside = pw;
+      to_inside = qw;
+      far = elim (ahead_cases w q p qw pw) [
+        | inl one ↦ let x : ahead_by w q p + q ≡ p = one.1 in (omega arith)
+        | inr one ↦ let x : p < q = one.0 in absurd (omega arith)
+      ];
+      straight = λ _. (omega arith);
+    }
+
+-- The displacement between two chips of a machine leads from one to the other along each axis.
+pub reaches : (m : Description) (p q : Chip) → HasSize m → IsInside m p → IsInside m q →
+    Reaches m.wrap m.width p.x q.x (displacement_of m p q).a × Reaches m.wrap m.height p.y q.y (displacement_of m p q).b
+unfolding displacement_of
+reaches m p q size p_in q_in = both m.wrap refl
+  where
+    at : (IsInside m p → (p.x < m.width) × (p.y < m.height))
+    at = inside_parts m p
+
+    to : (IsInside m q → (q.x < m.width) × (q.y < m.height))
+    to = inside_parts m q
+
+    torus : Disp
+    torus = on_torus m.width m.height (ahead_by m.width p.x q.x) (ahead_by m.height p.y q.y)
+
+    grid : Disp
+    grid = disp (pos q.x -ℤ pos p.x) (pos q.y -ℤ pos p.y)
+
+    both : (b : Bool) → m.wrap ≡ b → Reaches m.wrap m.width p.x q.x (cond m.wrap (on_torus m.width m.height (ahead_by m.width p.x q.x) (ahead_by m.height p.y q.y)) (disp (pos q.x -ℤ pos p.x) (pos q.y -ℤ pos p.y))).a
+        × Reaches m.wrap m.height p.y q.y (cond m.wrap (on_torus m.width m.height (ahead_by m.width p.x q.x) (ahead_by m.height p.y q.y)) (disp (pos q.x -ℤ pos p.x) (pos q.y -ℤ pos p.y))).b
+    both true e =
+        let pa = inside_parts m p p_in in
+        let qa = inside_parts m q q_in in
+        let ways = torus_ways m.width m.height (ahead_by m.width p.x q.x) (ahead_by m.height p.y q.y) (ahead_below m.width p.x q.x pa.0 qa.0)
+        (ahead_below m.height p.y q.y pa.1 qa.1) size.width_to_64 size.height_to_64 in
+        subst (λ (b : Bool). Reaches b m.width p.x q.x (cond b (on_torus m.width m.height (ahead_by m.width p.x q.x) (ahead_by m.height p.y q.y)) (disp (pos q.x -ℤ pos p.x) (pos q.y -ℤ pos p.y))).a
+        × Reaches b m.height p.y q.y (cond b (on_torus m.width m.height (ahead_by m.width p.x q.x) (ahead_by m.height p.y q.y)) (disp (pos q.x -ℤ pos p.x) (pos q.y -ℤ pos p.y))).b) (sym e) (
+          reach_ring m.width p.x q.x (on_torus m.width m.height (ahead_by m.width p.x q.x) (ahead_by m.height p.y q.y)).a pa.0 qa.0 ways.0,
+          reach_ring m.height p.y q.y (on_torus m.width m.height (ahead_by m.width p.x q.x) (ahead_by m.height p.y q.y)).b pa.1 qa.1 ways.1,
+        )
+    both false e =
+        let pa = inside_parts m p p_in in
+        let qa = inside_parts m q q_in in
+        subst (λ (b : Bool). Reaches b m.width p.x q.x (cond b (on_torus m.width m.height (ahead_by m.width p.x q.x) (ahead_by m.height p.y q.y)) (disp (pos q.x -ℤ pos p.x) (pos q.y -ℤ pos p.y))).a
+        × Reaches b m.height p.y q.y (cond b (on_torus m.width m.height (ahead_by m.width p.x q.x) (ahead_by m.height p.y q.y)) (disp (pos q.x -ℤ pos p.x) (pos q.y -ℤ pos p.y))).b) (sym e) (
+          reach_line m.width p.x q.x (pos q.x -ℤ pos p.x) pa.0 qa.0 refl,
+          reach_line m.height p.y q.y (pos q.y -ℤ pos p.y) pa.1 qa.1 refl,
+        )
+
+abbrev pub one_if : Bool → ℕ
+one_if b = cond b 1 0
+
+one_if_true : (b : Bool) → b ≡ true → one_if b ≡ 1
+one_if_true b e = cond-true b 1 0 e
+
+one_if_false : (b : Bool) → b ≡ false → one_if b ≡ 0
+one_if_false b e = cond-false b 1 0 e
+
+-- each link leads along some axis
+some_step : (d : Dir) → (x_step d ≡ Stay) → (y_step d ≡ Stay) → ⊥
+some_step East x y = true≢false (ap is_ahead x)
+some_step NorthEast x y = true≢false (ap is_ahead x)
+some_step North x y = true≢false (ap is_ahead y)
+some_step West x y = true≢false (ap is_back x)
+some_step SouthWest x y = true≢false (ap is_back x)
+some_step South x y = true≢false (ap is_back y)
+
+step_goes : (b : Bool) (s : Step) → goes (not b) s ≡ false → (s ≡ Stay) ⊎ (goes b s ≡ true)
+step_goes true Ahead against = inr refl
+step_goes true Stay against = inl refl
+step_goes true Back against = absurd (true≢false against)
+step_goes false Ahead against = absurd (true≢false against)
+step_goes false Stay against = inl refl
+step_goes false Back against = inr refl
+
+one_goes : (bx by : Bool) (d : Dir) → goes (not bx) (x_step d) ≡ false → goes (not by) (y_step d) ≡ false →
+    0 < one_if (goes bx (x_step d)) + one_if (goes by (y_step d))
+one_goes bx by d x y = elim (step_goes bx (x_step d) x) [
+  | inr goes_x ↦ let one : one_if (goes bx (x_step d)) ≡ 1 = one_if_true (goes bx (x_step d)) goes_x in omega arith
+  | inl stays ↦ elim (step_goes by (y_step d) y) [
+    | inr goes_y ↦ let one : one_if (goes by (y_step d)) ≡ 1 = one_if_true (goes by (y_step d)) goes_y in omega arith
+    | inl too ↦ absurd (some_step d stays too)
+  ]
+]
+
+-- the first of steps none of which passes a test, and the rest
+none_first : (p : Dir → Bool) (d : Dir) (ds : List Dir) → count_by p (d ∷ ds) ≡ 0 → (p d ≡ false) × (count_by p ds ≡ 0)
+none_first p d ds none = elim (cases_Bool (p d)) [
+  | inl yes' ↦
+      let one : one_if (p d) ≡ 1 = one_if_true (p d) yes' in
+      let all : count_by p (d ∷ ds) ≡ one_if (p d) + count_by p ds = sum_by-cons (λ e. one_if (p e)) d ds in
+      absurd (omega arith)
+  | inr no' ↦
+      let one : one_if (p d) ≡ 0 = one_if_false (p d) no' in
+      let all : count_by p (d ∷ ds) ≡ one_if (p d) + count_by p ds = sum_by-cons (λ e. one_if (p e)) d ds in
+      (no', omega arith)
+]
+
+module _ (m : Description) (p q : Chip) (p_in : IsInside m p) (q_in : IsInside m q) (bx by : Bool) (sx : m.wrap ≡ false → IsStraight bx p.x q.x)
+    (sy : m.wrap ≡ false → IsStraight by p.y q.y) where
+  -- how far a chip is from the start
+  rank_of : Chip → ℕ
+  rank_of e = gap bx m.width p.x e.x + gap by m.height p.y e.y
+
+  pub rising : (ds : List Dir) (c : Chip) → IsInside m c → count_by (λ d. goes (not bx) (x_step d)) ds ≡ 0 → count_by (λ d. goes (not by) (y_step d)) ds ≡ 0 →
+      gap bx m.width p.x c.x + count_by (λ d. goes bx (x_step d)) ds ≡ gap bx m.width p.x q.x →
+      gap by m.height p.y c.y + count_by (λ d. goes by (y_step d)) ds ≡ gap by m.height p.y q.y →
+      Rises m (λ e. gap bx m.width p.x e.x + gap by m.height p.y e.y) c ds × (end_of_walk m c ds ≡ q)
+  rising [] c c_in none_x none_y left_x left_y =
+      let pa = inside_parts m p p_in in
+      let qa = inside_parts m q q_in in
+      let ca = inside_parts m c c_in in
+      let ex : gap bx m.width p.x c.x ≡ gap bx m.width p.x q.x = (omega arith) ∙ left_x in
+      let ey : gap by m.height p.y c.y ≡ gap by m.height p.y q.y = (omega arith) ∙ left_y in
+      (tt, same_chip c q (gap_same bx m.width p.x c.x q.x pa.0 ca.0 qa.0 ex) (gap_same by m.height p.y c.y q.y pa.1 ca.1 qa.1 ey))
+  rising (d ∷ ds) c c_in none_x none_y left_x left_y =
+      let pa = inside_parts m p p_in in
+      let qa = inside_parts m q q_in in
+      let ca = inside_parts m c c_in in
+      let nx = none_first (λ d. goes (not bx) (x_step d)) d ds none_x in
+      let ny = none_first (λ d. goes (not by) (y_step d)) d ds none_y in
+      let cx : count_by (λ d. goes bx (x_step d)) (d ∷ ds) ≡ one_if (goes bx (x_step d)) + count_by (λ d. goes bx (x_step d)) ds =
+      sum_by-cons (λ e. one_if (goes bx (x_step e))) d ds in
+      let cy : count_by (λ d. goes by (y_step d)) (d ∷ ds) ≡ one_if (goes by (y_step d)) + count_by (λ d. goes by (y_step d)) ds =
+      sum_by-cons (λ e. one_if (goes by (y_step e))) d ds in
+      let room_x : goes bx (x_step d) ≡ true → gap bx m.width p.x c.x < gap bx m.width p.x q.x =
+      λ g. (let one : one_if (goes bx (x_step d)) ≡ 1 = one_if_true (goes bx (x_step d)) g in omega (arith, one, cx, left_x)) in
+      let room_y : goes by (y_step d) ≡ true → gap by m.height p.y c.y < gap by m.height p.y q.y =
+      λ g. (let one : one_if (goes by (y_step d)) ≡ 1 = one_if_true (goes by (y_step d)) g in omega (arith, one, cy, left_y)) in
+      let mx = moves_on m.wrap bx m.width p.x q.x c.x (x_step d) pa.0 qa.0 ca.0 sx nx.0 room_x in
+      let my = moves_on m.wrap by m.height p.y q.y c.y (y_step d) pa.1 qa.1 ca.1 sy ny.0 room_y in
+      let e : Chip = record { x = mx.0; y = my.0 } in
+      let e_in : IsInside m e = inside_from m e mx.2 my.2 in
+      let gx : gap bx m.width p.x e.x ≡ gap bx m.width p.x c.x + one_if (goes bx (x_step d)) = mx.3 in
+      let gy : gap by m.height p.y e.y ≡ gap by m.height p.y c.y + one_if (goes by (y_step d)) = my.3 in
+      let some : 0 < one_if (goes bx (x_step d)) + one_if (goes by (y_step d)) = one_goes bx by d nx.0 ny.0 in
+      let rise : gap bx m.width p.x c.x + gap by m.height p.y c.y < gap bx m.width p.x e.x + gap by m.height p.y e.y = (omega (arith, gx, gy, some)) in
+      let other : chip_eq c e ≡ false = differ c e rise in
+      let far : far_of m c d ≡ Some e = far_from m c e d mx.1 my.1 other in
+      let next : next_of m c d ≡ e = ap (or_stay c) far in
+      let lx : gap bx m.width p.x e.x + count_by (λ d. goes bx (x_step d)) ds ≡ gap bx m.width p.x q.x = (omega (arith, gx, cx, left_x)) in
+      let ly : gap by m.height p.y e.y + count_by (λ d. goes by (y_step d)) ds ≡ gap by m.height p.y q.y = (omega (arith, gy, cy, left_y)) in
+      let rest = rising ds e e_in nx.1 ny.1 lx ly in
+      subst (λ (f : Chip). ((far_of m c d ≡ Some f) × (gap bx m.width p.x c.x + gap by m.height p.y c.y < gap bx m.width p.x f.x + gap by m.height p.y f.y) ×
+      Rises m (λ e. gap bx m.width p.x e.x + gap by m.height p.y e.y) f ds) × (end_of_walk m f ds ≡ q)) (sym next) ((far, rise, rest.0), rest.1)
+    where
+      differ : (c e : Chip) → gap bx m.width p.x c.x + gap by m.height p.y c.y < gap bx m.width p.x e.x + gap by m.height p.y e.y → chip_eq c e ≡ false
+      differ c e less = elim (cases_Bool (chip_eq c e)) [
+        | inr other ↦ other
+        | inl same ↦
+            let is : c ≡ e = chip_eq_true c e same in
+            let flat : gap bx m.width p.x c.x + gap by m.height p.y c.y ≡ gap bx m.width p.x e.x + gap by m.height p.y e.y =
+            ap (λ (f : Chip). gap bx m.width p.x f.x + gap by m.height p.y f.y) is in
+            absurd (omega arith)
+      ]
+
+-- of a number, what leads its way and what leads against it
+against : (z : ℤ) (f b : ℕ) → f ≡ forth z → b ≡ back z → (cond (way z) b f ≡ 0) × (cond (way z) f b ≡ forth z + back z)
+against (pos n) f b ef eb = (eb, (omega arith))
+against (negsuc n) f b ef eb = (ef, (omega arith))
+
+count_goes : (b : Bool) (step : Dir → Step) (ds : List Dir) → count_by (λ d. goes b (step d)) ds ≡ cond b (count_by (λ d. is_ahead (step d)) ds) (count_by (λ d. is_back (step d)) ds)
+count_goes true step ds = refl
+count_goes false step ds = refl
+
+not_cond : (b : Bool) (x y : ℕ) → cond (not b) x y ≡ cond b y x
+not_cond true x y = refl
+not_cond false x y = refl
+
+-- The walk of `ldf` from one chip to another leads over the grid, never twice to one chip, and arrives.
+pub ldf_walks : (m : Description) (p q : Chip) → HasSize m → IsInside m p → IsInside m q → Walks m p q
+ldf_walks m p q size p_in q_in =
+    let d : Disp = displacement_of m p q in
+    let ds : List Dir = ldf_of d in
+    let reach = reaches m p q size p_in q_in in
+    let x = against d.a (count_by (λ e. is_ahead (x_step e)) ds) (count_by (λ e. is_back (x_step e)) ds) (ldf_ahead d) (ldf_behind d) in
+    let y = against d.b (count_by (λ e. is_ahead (y_step e)) ds) (count_by (λ e. is_back (y_step e)) ds) (ldf_above d) (ldf_below d) in
+    let pa = inside_parts m p p_in in
+    let none_x : count_by (λ e. goes (not (way d.a)) (x_step e)) ds ≡ 0 = count_goes (not (way d.a)) x_step ds ∙ (not_cond (way d.a) _ _ ∙ x.0) in
+    let none_y : count_by (λ e. goes (not (way d.b)) (y_step e)) ds ≡ 0 = count_goes (not (way d.b)) y_step ds ∙ (not_cond (way d.b) _ _ ∙ y.0) in
+    let all_x : count_by (λ e. goes (way d.a) (x_step e)) ds ≡ gap (way d.a) m.width p.x q.x = count_goes (way d.a) x_step ds ∙ (x.1 ∙ sym reach.0.far) in
+    let all_y : count_by (λ e. goes (way d.b) (y_step e)) ds ≡ gap (way d.b) m.height p.y q.y = count_goes (way d.b) y_step ds ∙ (y.1 ∙ sym reach.1.far) in
+    let start_x : gap (way d.a) m.width p.x p.x ≡ 0 = gap_start (way d.a) m.width p.x pa.0 in
+    let start_y : gap (way d.b) m.height p.y p.y ≡ 0 = gap_start (way d.b) m.height p.y pa.1 in
+    let left_x : gap (way d.a) m.width p.x p.x + count_by (λ e. goes (way d.a) (x_step e)) ds ≡ gap (way d.a) m.width p.x q.x = sums _ _ _ start_x all_x in
+    let left_y : gap (way d.b) m.height p.y p.y + count_by (λ e. goes (way d.b) (y_step e)) ds ≡ gap (way d.b) m.height p.y q.y = sums _ _ _ start_y all_y in
+    let known = rising m p q p_in q_in (way d.a) (way d.b) reach.0.straight reach.1.straight ds p p_in none_x none_y left_x left_y in
+    record { rank = λ e. gap (way d.a) m.width p.x e.x + gap (way d.b) m.height p.y e.y; rises = known.0; arrives = known.1 }
+  where
+    sums : (a b c : ℕ) → a ≡ 0 → b ≡ c → a + b ≡ c
+    sums a b c p q = omega arith

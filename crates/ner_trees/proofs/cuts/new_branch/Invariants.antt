@@ -1,0 +1,13 @@
+use Rattle.std.proofs.Common.{◌≡◌, take}
+use Rattle.machine_desc.specs.Live.{IsInside}
+use Rattle.ner_trees.specs.Growth.{end_of_walk}
+use Rattle.ner_trees.specs.Search.{IsCutAt}
+use Rattle.ner_trees.proofs.cuts.new_branch.Given as goal
+
+-- the walk so far is cut at its last chip that is in the tree
+abbrev pub invariant-loop-dir : goal.invariant-loop-dir
+invariant-loop-dir l = record {
+  at_end : l.at ≡ end_of_walk l.machine l.fn.near (take l.dir-index l.walk);
+  at_inside : IsInside l.machine l.at;
+  cut : IsCutAt l.machine l.on l.fn.near (take l.dir-index l.walk) l.start l.links.items;
+}

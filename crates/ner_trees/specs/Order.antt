@@ -1,0 +1,17 @@
+-- The order of a tree's edges.
+use Rattle.std.specs.Prelude.{◌≡◌, ℕ, ◌+◌, ◌*◌, ◌<◌, ◌⊎◌, List, AllPairs}
+use Rattle.spin_base.specs.Links.{dir_number}
+use Rattle.machine_desc.specs.declared.trees.Edge.{Edge}
+
+-- Edges are ordered by x, then y, then the link's number (this project's own).
+abbrev pub IsBefore : Edge → Edge → Type 0
+IsBefore e f =
+    (e.chip.x < f.chip.x)
+    ⊎ ((e.chip.x ≡ f.chip.x) × ((e.chip.y < f.chip.y) ⊎ ((e.chip.y ≡ f.chip.y) × (dir_number e.dir < dir_number f.dir))))
+
+abbrev pub IsInOrder : List Edge → Type 0
+IsInOrder edges = AllPairs IsBefore edges
+
+-- a number that rises in that order
+abbrev pub order_number : Edge → ℕ
+order_number e = (e.chip.x * 256 + e.chip.y) * 8 + dir_number e.dir

@@ -1,0 +1,56 @@
+-- The search for the chip of a tree that is nearest to a target, in a window round the target.
+use Rattle.std.specs.Prelude.{◌≡◌, ℕ, ◌+◌, ◌-◌, ◌*◌, ◌/◌, ◌%◌, ◌<◌, ◌≤◌, Bool, true, false, nat_lt, if◌then◌else◌, List, ◌++◌, Option, Some, None, All, slice_index_or}
+use Rattle.spin_base.specs.declared.chips.Chip.{Chip}
+use Rattle.spin_base.specs.declared.chips.Dir.{Dir}
+use Rattle.machine_desc.specs.declared.trees.Edge.{Edge}
+use Rattle.machine_desc.specs.Description.{Description}
+use Rattle.machine_desc.specs.Live.{chip_at, index_of, IsInside}
+use Rattle.ner_trees.specs.Geometry.{distance_of}
+use Rattle.ner_trees.specs.Growth.{IsNotFarther, end_of_walk, links_of, next_of}
+
+-- what a table with a place for each chip says of a chip
+abbrev pub is_on : Description → List Bool → Chip → Bool
+is_on m on c = slice_index_or on (index_of m c) false
+
+-- the place on an axis that is so far past the place a radius before the centre, where there is one
+abbrev pub place_at : Bool → ℕ → ℕ → ℕ → ℕ → Option ℕ
+place_at true places centre radius offset = Some ((centre + places * 20 + offset - radius) % places)
+place_at false places centre radius offset =
+    if nat_lt (centre + offset) radius then None
+    else (if nat_lt (centre + offset - radius) places then Some (centre + offset - radius) else None)
+
+-- the chips of the window of so many chips to each side of the centre, numbered column by column
+unfoldable pub window_chip : Description → Chip → ℕ → ℕ → Option Chip
+window_chip m centre radius k =
+    chip_at (place_at m.wrap m.width centre.x radius (k / (2 * radius + 1))) (place_at m.wrap m.height centre.y radius (k % (2 * radius + 1)))
+
+-- a chip that the table has, from which the target is at most so many links away
+pub record IsOnWithin (m : Description) (on : List Bool) (t : Chip) (radius : ℕ) (c : Chip) : Type 0 where
+  pub inside : IsInside m c
+  pub on_it : is_on m on c ≡ true
+  pub near : distance_of m c t ≤ radius
+
+-- the nearest of these
+abbrev pub IsNearestOn : Description → List Bool → Chip → ℕ → Chip → Type 0
+IsNearestOn m on t radius c = IsOnWithin m on t radius c × ((e : Chip) → IsOnWithin m on t radius e → IsNotFarther m t c e)
+
+abbrev pub IsNoneOn : Description → List Bool → Chip → ℕ → Type 0
+IsNoneOn m on t radius = (e : Chip) → IsOnWithin m on t radius e → ⊥
+
+-- of the first so many chips of the window the nearest
+abbrev pub IsBestOf : Description → List Bool → Chip → ℕ → ℕ → Option Chip → Type 0
+IsBestOf m on t radius k None = (j : ℕ) (e : Chip) → j < k → window_chip m t radius j ≡ Some e → IsOnWithin m on t radius e → ⊥
+IsBestOf m on t radius k (Some c) =
+    IsOnWithin m on t radius c × ((j : ℕ) (e : Chip) → j < k → window_chip m t radius j ≡ Some e → IsOnWithin m on t radius e → IsNotFarther m t c e)
+
+-- a walk, cut at the last of its chips that the table has
+pub record IsCutAt (m : Description) (on : List Bool) (near : Chip) (walk : List Dir) (start : Chip) (added : List Edge) : Type 0 where
+  pub passed : List Dir
+  pub rest : List Dir
+  pub walk_is : walk ≡ passed ++ rest
+  pub start_is : end_of_walk m near passed ≡ start
+  pub start_inside : IsInside m start
+  pub start_on : is_on m on start ≡ true
+  pub added_is : added ≡ links_of m start rest
+  pub added_inside : All (λ e. IsInside m e.chip) added
+  pub added_off : All (λ e. is_on m on (next_of m e.chip e.dir) ≡ false) added

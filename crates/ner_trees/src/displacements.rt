@@ -1,0 +1,150 @@
+// How far chips are from each other.
+ghost use Rattle.std.specs.Prelude.{◌≡◌, ◌+◌, ◌-◌, ◌%◌, ◌<◌, ◌≤◌, unsigned_abs, pos, ◌-ℤ◌, max, int_lt};
+ghost use Rattle.machine_desc.specs.Live.{IsInside};
+ghost use Rattle.ner_trees.specs.Geometry.{IsSmall, length_of, is_before, least_of, ahead_by, displacement_of, distance_of, forth, back, on_torus};
+
+use machine_desc::Machine;
+use spin_base::Chip;
+
+/// A displacement: so many chips along x, and so many along y. Negative numbers lead to lower coordinates.
+#[derive(Clone, Copy, Debug, PartialEq, Eq)]
+pub struct Disp {
+    pub a: i32,
+    pub b: i32,
+}
+
+// How much a number is above 0.
+pub fn forth(n: i32) -> u32
+    ensures { result ≡ forth n }
+{
+    if n > 0 { n.unsigned_abs() } else { 0 }
+}
+
+// How much a number is below 0.
+pub fn back(n: i32) -> u32
+    ensures { result ≡ back n }
+{
+    if n < 0 { n.unsigned_abs() } else { 0 }
+}
+
+// The difference of two numbers.
+fn difference(more: u8, less: u8) -> i32
+    ensures { result ≡ pos more -ℤ pos less }
+{
+    i32::from(more) - i32::from(less)
+}
+
+// Whether a number is below another.
+fn is_below(m: i32, n: i32) -> bool
+    ensures { result ≡ int_lt m n }
+{
+    m < n
+}
+
+impl Disp {
+    // The number of links that it takes: the greatest of a, b and 0 less the least of them.
+    fn length(self) -> u32
+        requires { IsSmall self }
+        ensures value { result ≡ length_of self }
+        ensures few { result ≤ 128 }
+    {
+        forth(self.a).max(forth(self.b)) + back(self.a).max(back(self.b))
+    }
+
+    // Whether it comes before the other one in the order of (length, |a|, |b|, a, b).
+    fn is_before(self, other: Disp) -> bool
+        requires this { IsSmall self }
+        requires that { IsSmall other }
+        ensures { result ≡ is_before self other }
+    {
+        let (mine, its) = (self.length(), other.length());
+        if mine != its {
+            return mine < its;
+        }
+        let (mine, its) = (self.a.unsigned_abs(), other.a.unsigned_abs());
+        if mine != its {
+            return mine < its;
+        }
+        let (mine, its) = (self.b.unsigned_abs(), other.b.unsigned_abs());
+        if mine != its {
+            return mine < its;
+        }
+        is_below(self.a, other.a) || !is_below(other.a, self.a) && is_below(self.b, other.b)
+    }
+
+    // The one that comes before the other, and this one where neither does.
+    fn or_before(self, other: Disp) -> Disp
+        requires this { IsSmall self }
+        requires that { IsSmall other }
+        ensures value { result ≡ least_of self other }
+        ensures small { IsSmall result }
+    {
+        if other.is_before(self) { other } else { self }
+    }
+}
+
+// The number of places from `from` ahead to `to`, on an axis that is closed to a ring.
+fn ahead_by(places: u8, from: u8, to: u8) -> u8
+    requires from_inside { from < places }
+    requires to_inside { to < places }
+    requires small { places ≤ 64 }
+    ensures value { result ≡ ahead_by places from to }
+    ensures below { result < places }
+{
+    (to + (places - from)) % places
+}
+
+// Of displacements that lead ahead along each axis, or back by what is then left of it, the first in order.
+fn on_torus(width: u8, height: u8, a: u8, b: u8) -> Disp
+    requires width { width ≤ 64 }
+    requires height { height ≤ 64 }
+    requires across { a < width }
+    requires up { b < height }
+    ensures value { result ≡ on_torus width height a b }
+    ensures small { IsSmall result }
+{
+    let (a, behind) = (difference(a, 0), difference(a, width));
+    let (b, below) = (difference(b, 0), difference(b, height));
+    Disp { a, b }
+        .or_before(Disp { a: behind, b })
+        .or_before(Disp { a, b: below })
+        .or_before(Disp {
+            a: behind,
+            b: below,
+        })
+}
+
+/// The displacement from `p` to `q`. On an open grid it is the difference of their coordinates. On a torus it is, of
+/// the differences modulo width and height and those that are less by width or height, the first in the order of
+/// (length, |a|, |b|, a, b), where the length is the greatest of a, b and 0 less the least of them.
+pub fn displacement(machine: &Machine, p: Chip, q: Chip) -> Disp
+    requires from_inside { IsInside machine.now p }
+    requires to_inside { IsInside machine.now q }
+    ensures value { result ≡ displacement_of machine.now p q }
+    ensures small { IsSmall result }
+{
+    let (width, height) = (machine.width(), machine.height());
+    if machine.wrap() {
+        on_torus(
+            width,
+            height,
+            ahead_by(width, p.x, q.x),
+            ahead_by(height, p.y, q.y),
+        )
+    } else {
+        Disp {
+            a: difference(q.x, p.x),
+            b: difference(q.y, p.y),
+        }
+    }
+}
+
+/// The number of links from `p` to `q` where none is dead: the length of the displacement, 0 to 128.
+pub fn distance(machine: &Machine, p: Chip, q: Chip) -> u32
+    requires from_inside { IsInside machine.now p }
+    requires to_inside { IsInside machine.now q }
+    ensures value { result ≡ distance_of machine.now p q }
+    ensures few { result ≤ 128 }
+{
+    displacement(machine, p, q).length()
+}

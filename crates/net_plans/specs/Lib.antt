@@ -1,0 +1,5 @@
+pub mod Ascending
+pub mod Cause
+pub mod NetPlans
+pub mod Numbers
+pub mod Targets

@@ -1,0 +1,13 @@
+//! What each net needs on the machine, once vertices have cores and nets have blocks: its target cores, and its tree.
+//!
+//! Trees are those of neighbour-exploring routing (Navaridas and others, 2015), grown to the target chips in the order of
+//! their distance from the source, with detours round dead links. The order of targets and the detours are this project's
+//! own.
+#![tactic(auto)]
+
+mod nets;
+mod sets;
+mod targets;
+
+pub use nets::{NetErr, net_plans};
+pub use targets::{target_chips, targets_of};

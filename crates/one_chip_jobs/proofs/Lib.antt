@@ -1,0 +1,5 @@
+pub mod EachItem
+pub mod Items
+pub mod Options
+pub mod Places
+pub mod Small

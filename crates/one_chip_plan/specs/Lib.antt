@@ -1,0 +1,2 @@
+pub mod OneChip
+pub mod Plans

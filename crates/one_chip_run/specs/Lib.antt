@@ -1,0 +1,3 @@
+pub mod DrainEvents
+pub mod HasRun
+pub mod OnOneChip

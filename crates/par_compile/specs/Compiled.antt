@@ -1,0 +1,47 @@
+-- When compiling is refused, and how the nets of a plan stand on a mesh (this project's own).
+use Rattle.std.specs.Prelude.{ℕ, List, map}
+use Rattle.spin_base.specs.declared.blocks.Block.{Block}
+use Rattle.spin_base.specs.declared.blocks.Entry.{Entry}
+use Rattle.spin_base.specs.declared.chips.Chip.{Chip}
+use Rattle.spin_base.specs.declared.chips.Spot.{Spot}
+use Rattle.spin_base.specs.declared.copies.Packet.{Packet}
+use Rattle.machine_desc.specs.Description.{Description}
+use Rattle.app_graph.specs.declared.graphs.Graph.{Graph}
+use Rattle.net_tables.specs.declared.nets.NetPlan.{NetPlan}
+use Rattle.mesh_core.specs.Ledger.{AreNetsOf}
+use Rattle.mesh_core.specs.Opened.{opened_mesh}
+use Rattle.place_fit.specs.Placement.{IsPlacement, HasNoRoom}
+use Rattle.key_alloc.specs.KeyBlocks.{AreKeysOut, AreRightBlocks}
+use Rattle.net_plans.specs.NetPlans.{IsFirstCutOff}
+use Rattle.par_compile.specs.declared.compiling.CompileErr.{CompileErr}
+use Rattle.par_compile.specs.declared.compiling.CompileErr.TheVariants.{NoRoom, KeysOut, CutOff, Memory}
+
+-- the blocks of nets
+abbrev pub blocks_of : List NetPlan → List Block
+blocks_of nets = map (λ (net : NetPlan). net.block) nets
+
+-- all vertices have a place
+abbrev pub HasPlacement : Description → Graph → Type 0
+HasPlacement m graph = (spots : List Spot) × (memory : List ℕ) × IsPlacement m graph.vertices spots memory
+
+-- All vertices have a place and all nets have keys, and a net is the first with a target that is cut off.
+pub record HasCutOff (m : Description) (graph : Graph) (net : ℕ) (target : Chip) : Type 0 where
+  pub spots : List Spot
+  pub memory : List ℕ
+  pub placed : IsPlacement m graph.vertices spots memory
+  pub blocks : List Block
+  pub keyed : AreRightBlocks graph.nets blocks
+  pub first : IsFirstCutOff m spots graph.nets blocks net target
+
+-- A vertex has no room; or all have, and keys are out at a net; or all have keys, and a target of a net is cut off. Want of
+-- memory is free.
+abbrev pub IsCause : Description → Graph → CompileErr → Type 0
+IsCause m graph (NoRoom vertex) = HasNoRoom m graph.vertices vertex
+IsCause m graph (KeysOut net) = HasPlacement m graph × AreKeysOut graph.nets net
+IsCause m graph (CutOff net target) = HasCutOff m graph net target
+IsCause m graph Memory = Unit {0}
+
+-- The nets stand on the opened mesh of every list of packets, whatever the tables and the capacity of queues.
+abbrev pub StandOn : Description → List Spot → List NetPlan → Type 0
+StandOn m spots nets =
+    (tables : List (List Entry)) (capacity : ℕ) (packets : List Packet) → AreNetsOf (opened_mesh m spots tables capacity nets packets) nets

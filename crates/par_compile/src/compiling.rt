@@ -1,0 +1,104 @@
+// The stages of compiling, one after the other.
+ghost use Rattle.std.specs.Prelude.{◌≡◌, ◌≢◌, ◌*◌, ◌++◌, List, All, AllPairs, length, map, IfOk, IfErr};
+ghost use Rattle.spin_base.specs.declared.blocks.Entry.{Entry};
+ghost use Rattle.tern_word.specs.declared.tables.Table.{Table};
+ghost use Rattle.std.specs.List.{AllZip, zip};
+ghost use Rattle.machine_desc.specs.Description.{HasSize};
+ghost use Rattle.machine_desc.specs.Live.{IsUsable};
+ghost use Rattle.app_graph.specs.ValidGraph.{IsValidGraph};
+ghost use Rattle.key_alloc.specs.KeyBlocks.{AreRightBlocks, HasKeys};
+ghost use Rattle.net_tables.specs.RightTables.{AreRight};
+ghost use Rattle.plain_tables.specs.PlainTable.{entries, AtEach, IsPlainTable};
+ghost use Rattle.net_plans.specs.NetPlans.{IsPlanned};
+ghost use Rattle.place_fit.specs.Placement.{IsPlacement};
+ghost use Rattle.par_compile.specs.Compiled.{blocks_of, IsCause, StandOn};
+
+use app_graph::Graph;
+use key_alloc::{KeyErr, keys};
+use machine_desc::Machine;
+use net_plans::{NetErr, net_plans};
+use net_tables::NetPlan;
+use place_fit::{PlaceErr, Placement, place};
+use plain_tables::plain_tables;
+use spin_base::{Chip, Seq};
+use std::alloc::Global;
+use tern_word::Table;
+
+/// What a graph needs on a machine: where each vertex stands, of each net its keys, cores and tree, and of each chip, by its
+/// index, its table.
+#[derive(Debug, Drop)]
+pub struct Plan {
+    pub placement: Placement,
+    pub nets: Seq<NetPlan>,
+    pub tables: Seq<Table>,
+}
+
+/// Why a graph is not compiled.
+#[derive(Clone, Copy, Debug, PartialEq, Eq)]
+pub enum CompileErr {
+    /// The first vertex for which no chip has room.
+    NoRoom { vertex: u32 },
+    /// The first net for which no range of keys is left.
+    KeysOut { net: u32 },
+    /// The first net with a target chip that no walk of live links joins to its source's, and its first such target.
+    CutOff { net: u32, target: Chip },
+    /// There was not enough memory.
+    Memory,
+}
+
+/// The plan of a graph on a machine: first fit along the chip order for vertices, the least free aligned range of keys for
+/// each net, for each net the tree that grows from its source's chip to its targets, with detours round what is dead, and
+/// the plain table of each chip.
+///
+/// # Errors
+///
+/// `NoRoom` names the first vertex without room, `KeysOut` the first net without keys where all vertices have room, and
+/// `CutOff` the first net with a target that is cut off where all nets have keys, with its first such target.
+/// `Memory` where memory runs out.
+pub fn compile(alloc: Global, machine: &Machine, graph: &Graph) -> Result<Plan, CompileErr>
+    requires { IsValidGraph graph.now }
+    ensures placed { IfOk result (λ plan. IsPlacement machine.now graph.now.vertices plan.placement.spots plan.placement.memory) }
+    ensures blocks { IfOk result (λ plan. AreRightBlocks graph.now.nets (blocks_of plan.nets)) }
+    ensures nets { IfOk result (λ plan. AllZip (IsPlanned machine.now plan.placement.spots) (zip graph.now.nets (blocks_of plan.nets)) plan.nets) }
+    ensures different { IfOk result (λ plan. AllPairs (λ a b. a ≢ b) plan.placement.spots) }
+    ensures usable { IfOk result (λ plan. All (IsUsable machine.now) plan.placement.spots) }
+    ensures enough { IfOk result (λ plan. AllZip HasKeys graph.now.nets (blocks_of plan.nets)) }
+    ensures stand { IfOk result (λ plan. StandOn machine.now plan.placement.spots plan.nets) }
+    ensures tables { IfOk result (λ plan. length plan.tables ≡ machine.now.width * machine.now.height) }
+    ensures plain { IfOk result (λ plan. AtEach machine.now plan.tables (IsPlainTable machine.now plan.nets)) }
+    ensures right { IfOk result (λ plan. AreRight machine.now (map entries plan.tables) plan.nets) }
+    ensures followed { IfOk result (λ plan. (rest : Table → List Entry) → AreRight machine.now (map (λ (t : Table). entries t ++ rest t) plan.tables) plan.nets) }
+    ensures cause { IfErr result (IsCause machine.now graph.now) }
+{
+    let placement = match place(alloc, machine, graph) {
+        Ok(placement) => placement,
+        Err(PlaceErr::NoRoom { vertex }) => return Err(CompileErr::NoRoom { vertex }),
+        Err(PlaceErr::Memory) => return Err(CompileErr::Memory),
+    };
+    let blocks = match keys(alloc, graph) {
+        Ok(blocks) => blocks,
+        Err(KeyErr::KeysOut { net }) => return Err(CompileErr::KeysOut { net }),
+        Err(KeyErr::Memory) => return Err(CompileErr::Memory),
+    };
+    has_size(machine);
+    let nets = match net_plans(alloc, machine, graph, &placement.spots, &blocks) {
+        Ok(nets) => nets,
+        Err(NetErr::CutOff { net, target }) => return Err(CompileErr::CutOff { net, target }),
+        Err(NetErr::Memory) => return Err(CompileErr::Memory),
+    };
+    match plain_tables(alloc, machine, &nets) {
+        Ok(tables) => Ok(Plan {
+            placement,
+            nets,
+            tables,
+        }),
+        Err(_) => Err(CompileErr::Memory),
+    }
+}
+
+// A machine's size is within its limits. Nothing is done: its clause is for the prover.
+fn has_size(machine: &Machine)
+    ensures { HasSize machine.now }
+{
+    machine.width();
+}

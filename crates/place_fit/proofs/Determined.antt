@@ -1,0 +1,120 @@
+-- Vertices have at most one placement.
+use Rattle.std.proofs.Common.{◌≡◌, ℕ, ◌+◌, ◌≤◌, true, List, [], ◌∷◌, ◌++◌, length, take, filter, refl, sym, ap, ap₂, ◌∙◌, subst, zero, suc, inl, inr, arith, All}
+use Rattle.std.proofs.lemmas.Bool.{cases_lt}
+use Rattle.std.proofs.lemmas.Grind.{same_number_lists}
+use Rattle.std.proofs.lemmas.List.{take_more, take_all}
+use Rattle.std.proofs.lemmas.List.Elements.{All-head, All-tail}
+use Rattle.std.proofs.lemmas.Option.{slice_get_cases, slice_get_within, get_or_from_slice_get}
+use Rattle.spin_base.specs.declared.chips.Chip.{Chip}
+use Rattle.spin_base.specs.declared.chips.Spot.{Spot}
+use Rattle.machine_desc.specs.Description.{Description}
+use Rattle.machine_desc.specs.Live.{is_live_chip}
+use Rattle.machine_desc.proofs.Same.{same_spot}
+use Rattle.app_graph.specs.declared.graphs.Vertex.{Vertex}
+use Rattle.place_fit.specs.Curve.{hilbert, IsChipOrder}
+use Rattle.place_fit.specs.Placement.{core_of, is_free_core, HasRoom, IsFirst, choices, IsSpotFor, AreFirstSpots, AreFirstMemories, memory_of, IsPlacement, HasNoRoom}
+
+one_order : (m : Description) (xs ys : List Chip) → IsChipOrder m xs → IsChipOrder m ys → xs ≡ ys
+one_order m xs ys a b =
+    let up : a.level ≤ b.level = a.is_level.least b.level b.is_level.wide b.is_level.high in
+    let down : b.level ≤ a.level = b.is_level.least a.level a.is_level.wide a.is_level.high in
+    let same : a.level ≡ b.level = omega (arith, up, down) in
+    a.live ∙ (ap (λ k. filter (is_live_chip m) (hilbert k)) same ∙ sym b.live)
+
+one_first : (P : Chip → Type 0) (xs : List Chip) (c d : Chip) → IsFirst P xs c → IsFirst P xs d → c ≡ d
+one_first P [] c d a b = absurd a
+one_first P (x ∷ xs) c d a b =
+    elim a [
+      | inl here ↦ elim b [ inl there ↦ sym here.1 ∙ there.1 | inr later ↦ absurd (later.0 here.0) ]
+      | inr further ↦ elim b [ inl there ↦ absurd (further.0 there.0) | inr later ↦ one_first P xs c d further.1 later.1 ]
+    ]
+
+none_first : (P : Chip → Type 0) (xs : List Chip) (c : Chip) → IsFirst P xs c → All (λ x. P x → ⊥) xs → ⊥
+none_first P [] c a none = a
+none_first P (x ∷ xs) c a none =
+    elim a [
+      | inl here ↦ All-head (λ z. P z → ⊥) x xs none here.0
+      | inr later ↦ none_first P xs c later.1 (All-tail (λ z. P z → ⊥) x xs none)
+    ]
+
+one_spot : (m : Description) (order : List Chip) (vs : List Vertex) (ss : List Spot) (v : Vertex) (s t : Spot) → IsSpotFor m order vs ss v s → IsSpotFor m order vs ss v t → s ≡ t
+one_spot m order vs ss v s t a b =
+    let chips : s.chip ≡ t.chip = one_first (HasRoom m vs ss v) (choices order v.at) s.chip t.chip a.chip b.chip in
+    let up : s.core ≤ t.core = a.least t.core (subst (λ c. is_free_core m ss (core_of c t.core) ≡ true) (sym chips) b.free) in
+    let down : t.core ≤ s.core = b.least s.core (subst (λ c. is_free_core m ss (core_of c s.core) ≡ true) chips a.free) in
+    same_spot s t chips (omega (arith, up, down))
+
+module _ (m : Description) (order : List Chip) (vertices : List Vertex) where
+  agree : (xs ys : List Spot) → AreFirstSpots m order vertices xs → AreFirstSpots m order vertices ys → (n : ℕ) → n ≤ length xs → n ≤ length ys → take n xs ≡ take n ys
+  agree xs ys a b zero in_xs in_ys = refl
+  agree xs ys a b (suc n) in_xs in_ys =
+      let before = agree xs ys a b n (omega arith) (omega arith) in
+      elim (slice_get_cases xs n).1 [
+        | inl (x, x_in, is_x, got_x) ↦ elim (slice_get_cases ys n).1 [
+          | inl (y, y_in, is_y, got_y) ↦ elim (slice_get_cases vertices n).1 [
+            | inl (v, v_in, is_v, got_v) ↦ (
+                let one = one_spot m order (take n vertices) (take n ys) v x y (subst (λ e. IsSpotFor m order (take n vertices) e v x) before (a.each n v x is_v is_x)) (b.each n v y is_v is_y) in
+                let up : suc n ≡ n + 1 = omega arith in
+                ap (λ k. take k xs) up
+                ∙ take_more xs n x x_in
+                ∙ ap₂ (λ (e : List Spot) (z : Spot). e ++ z ∷ []) before (got_x ∙ one ∙ sym got_y)
+                ∙ sym (take_more ys n y y_in)
+                ∙ ap (λ k. take k ys) (sym up)
+                )
+            | inr (past, none) ↦ absurd (omega (arith, a.few))
+          ]
+          | inr (past, none) ↦ absurd (omega arith)
+        ]
+        | inr (past, none) ↦ absurd (omega arith)
+      ]
+
+  begins : (xs ys : List Spot) → AreFirstSpots m order vertices xs → AreFirstSpots m order vertices ys → length xs ≤ length ys → take (length xs) ys ≡ xs
+  begins xs ys a b le = sym (agree xs ys a b (length xs) (omega arith) le) ∙ take_all (length xs) xs (omega arith)
+
+-- where a vertex has no room, no list of first spots goes beyond
+no_further : (m : Description) (order : List Chip) (vertices : List Vertex) (xs : List Spot) (i : ℕ) → IsChipOrder m order → AreFirstSpots m order vertices xs → HasNoRoom m vertices i → length xs ≤ i
+no_further m order vertices xs i is_order first out =
+    let orders = one_order m out.order order out.is_order is_order in
+    elim (cases_lt i (length xs)) [
+      | inl beyond ↦ elim (slice_get_cases xs i).1 [
+        | inl (x, x_in, is_x, got_x) ↦ (
+            let mine = first.each i out.vertex x out.is is_x in
+            let before = subst (λ o. AreFirstSpots m o vertices out.spots) orders out.before in
+            let same : take i xs ≡ out.spots = ap (λ n. take n xs) (sym out.here) ∙ begins m order vertices out.spots xs before first (omega (arith, out.here)) in
+            let chip = subst (λ e. IsFirst (HasRoom m (take i vertices) e out.vertex) (choices order out.vertex.at) x.chip) same mine.chip in
+            let none = subst (λ o. All (λ c. HasRoom m (take i vertices) out.spots out.vertex c → ⊥) (choices o out.vertex.at)) orders out.none in
+            absurd (none_first (HasRoom m (take i vertices) out.spots out.vertex) (choices order out.vertex.at) x.chip chip none)
+            )
+        | inr (past, none) ↦ absurd (omega arith)
+      ]
+      | inr within ↦ within
+    ]
+
+one_memory : (vertices : List Vertex) (spots : List Spot) (ms ns : List ℕ) → length spots ≡ length vertices → AreFirstMemories vertices spots ms → AreFirstMemories vertices spots ns → ms ≡ ns
+one_memory vertices spots ms ns all a b =
+    same_number_lists ms ns (a.one_each ∙ sym b.one_each) (λ k inside.
+    elim (slice_get_cases spots k).1 [
+      | inl (s, s_in, is_s, got_s) ↦ elim (slice_get_cases vertices k).1 [
+        | inl (v, v_in, is_v, got_v) ↦ (
+            let x = get_or_from_slice_get ms k (memory_of (take k vertices) (take k spots) v s) 0 (a.each k v s is_v is_s) in
+            let y = get_or_from_slice_get ns k (memory_of (take k vertices) (take k spots) v s) 0 (b.each k v s is_v is_s) in
+            x ∙ sym y
+            )
+        | inr (past, none) ↦ absurd (omega (arith, past, all, inside, a.one_each))
+      ]
+      | inr (past, none) ↦ absurd (omega (arith, past, inside, a.one_each))
+    ])
+
+pub one_placement : (m : Description) (vertices : List Vertex) (ss ts : List Spot) (ms ns : List ℕ) → IsPlacement m vertices ss ms → IsPlacement m vertices ts ns → (ss ≡ ts) × (ms ≡ ns)
+one_placement m vertices ss ts ms ns a b =
+    let first = subst (λ o. AreFirstSpots m o vertices ts) (one_order m b.order a.order b.is_order a.is_order) b.first in
+    let spots : ss ≡ ts = sym (begins m a.order vertices ss ts a.first first (omega (arith, a.all, b.all))) ∙ take_all (length ss) ts (omega (arith, a.all, b.all)) in
+    (spots, one_memory vertices ts ms ns b.all (subst (λ l. AreFirstMemories vertices l ms) spots a.memories) b.memories)
+
+pub not_both : (m : Description) (vertices : List Vertex) (ss : List Spot) (ms : List ℕ) (i : ℕ) → IsPlacement m vertices ss ms → HasNoRoom m vertices i → ⊥
+not_both m vertices ss ms i placed out =
+    omega (arith, no_further m placed.order vertices ss i placed.is_order placed.first out, placed.all, slice_get_within vertices i out.vertex out.is)
+
+pub one_vertex : (m : Description) (vertices : List Vertex) (i j : ℕ) → HasNoRoom m vertices i → HasNoRoom m vertices j → i ≡ j
+one_vertex m vertices i j a b =
+    omega (arith, no_further m a.order vertices a.spots j a.is_order a.before b, no_further m b.order vertices b.spots i b.is_order b.before a, a.here, b.here)

@@ -1,0 +1,5 @@
+pub mod CurveLaws
+pub mod RoomLaws
+pub mod Standing
+pub mod SpotLaws
+pub mod Determined

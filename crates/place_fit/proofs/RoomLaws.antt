@@ -1,0 +1,118 @@
+-- The tree over the rooms of a row.
+use Rattle.std.proofs.Common.{◌≡◌, ◌≢◌, ℕ, ◌+◌, ◌*◌, ◌/◌, ◌<◌, ◌≤◌, max, List, length, drop, set, get_or, sym, ap, ap₂, ◌∙◌, subst, zero, suc, inl, inr, arith, All}
+use Rattle.std.proofs.lemmas.Bool.{cases_lt, cases_eq}
+use Rattle.std.proofs.lemmas.List.{length-set, get_or-set_same, get_or-set_other, get_or-drop, length-drop, get_or_default}
+use Rattle.place_fit.specs.RoomTree.{IsTree}
+
+-- the node has the greater of its children's rooms
+abbrev pub IsGreatest : List ℕ → ℕ → Type 0
+IsGreatest tree q = get_or tree q 0 ≡ max (get_or tree (2 * q) 0) (get_or tree (2 * q + 1) 0)
+
+-- the tree, but for the one node
+pub record IsTreeBut (leaves but : ℕ) (tree : List ℕ) : Type 0 where
+  pub long : length tree ≡ 2 * leaves
+  pub greatest : (q : ℕ) → 1 ≤ q → q < leaves → q ≢ but → IsGreatest tree q
+
+module _ (leaves : ℕ) (tree : List ℕ) (is_tree : IsTree leaves tree) where
+  -- a node has no more room than its parent
+  pub parent : (q : ℕ) → 2 ≤ q → q < 2 * leaves → get_or tree q 0 ≤ get_or tree (q / 2) 0
+  parent q low high =
+      let p = q / 2 in
+      let up = is_tree.greatest p (omega arith) (omega arith) in
+      elim (cases_eq q (2 * p)) [
+        | inl even ↦ (let e = ap (λ i. get_or tree i 0) even in omega (arith, up, e))
+        | inr odd ↦ (let o : q ≡ 2 * p + 1 = omega arith in let e = ap (λ i. get_or tree i 0) o in omega (arith, up, e))
+      ]
+
+  below_root : (need : ℕ) → get_or tree 1 0 ≤ need → (fuel q : ℕ) → q ≤ fuel → 1 ≤ q → q < 2 * leaves → get_or tree q 0 ≤ need
+  below_root need root zero q few low high = absurd (omega arith)
+  below_root need root (suc fuel) q few low high =
+      elim (cases_lt q 2) [
+        | inl first ↦ (let one : q ≡ 1 = omega arith in let e = ap (λ i. get_or tree i 0) one in omega (arith, e, root))
+        | inr later ↦ (
+            let up = parent q later high in
+            let above = below_root need root fuel (q / 2) (omega arith) (omega arith) (omega arith) in
+            omega (arith, up, above)
+            )
+      ]
+
+  pub none_above : (need : ℕ) → 1 ≤ leaves → get_or tree 1 0 ≤ need → All (λ room. room ≤ need) (drop leaves tree)
+  none_above need some root k d inside =
+      let in_tree : leaves + k < 2 * leaves = omega (arith, inside, length-drop leaves tree, is_tree.long) in
+      let here = below_root need root (leaves + k) (leaves + k) (omega arith) (omega arith) in_tree in
+      let at : get_or (drop leaves tree) k d ≡ get_or tree (leaves + k) d = get_or-drop leaves tree k d in
+      let same : get_or tree (leaves + k) d ≡ get_or tree (leaves + k) 0 = get_or_default tree (leaves + k) d 0 (omega (arith, in_tree, is_tree.long)) in
+      omega (arith, here, at, same)
+
+pub room_at : (leaves : ℕ) (tree : List ℕ) (k : ℕ) → get_or (drop leaves tree) k 0 ≡ get_or tree (leaves + k) 0
+room_at leaves tree k = get_or-drop leaves tree k 0
+
+-- the nodes of one level, of which those before the node have too little room, and the node has enough
+pub record IsFound (tree : List ℕ) (need first node : ℕ) : Type 0 where
+  pub from : first ≤ node
+  pub to : node < 2 * first
+  pub little : (q : ℕ) → first ≤ q → q < node → get_or tree q 0 ≤ need
+  pub enough : need < get_or tree node 0
+
+module _ (leaves : ℕ) (tree : List ℕ) (is_tree : IsTree leaves tree) (need first node : ℕ) (found : IsFound tree need first node) (inner : node < leaves) where
+  before_children : (q : ℕ) → 2 * first ≤ q → q < 2 * node → 1 ≤ first → get_or tree q 0 ≤ need
+  before_children q low high some =
+      let up = parent leaves tree is_tree q (omega arith) (omega arith) in
+      let above = found.little (q / 2) (omega arith) (omega arith) in
+      omega (arith, up, above)
+
+  pub found_left : 1 ≤ first → need < get_or tree (2 * node) 0 → IsFound tree need (2 * first) (2 * node)
+  found_left some enough = record {
+    from = omega (arith, found.from);
+    to = omega (arith, found.to);
+    little = λ q low high. before_children q low high some;
+    enough = enough;
+  }
+
+  pub found_right : 1 ≤ first → get_or tree (2 * node) 0 ≤ need → IsFound tree need (2 * first) (2 * node + 1)
+  found_right some little = record {
+    from = omega (arith, found.from);
+    to = omega (arith, found.to);
+    little = λ q low high. elim (cases_lt q (2 * node)) [
+      | inl before ↦ before_children q low before some
+      | inr at ↦ (let e : q ≡ 2 * node = omega arith in let s = ap (λ i. get_or tree i 0) e in omega (arith, s, little))
+    ];
+    enough = (let up = is_tree.greatest node (omega (arith, found.from)) inner in omega (arith, up, found.enough, little));
+  }
+
+-- ---- a room changed
+
+pub mended : (leaves : ℕ) (tree : List ℕ) → IsTreeBut leaves 0 tree → IsTree leaves tree
+mended leaves tree but = record {
+  long = but.long;
+  greatest = λ q low high. but.greatest q low high (λ e. omega (arith, e));
+}
+
+-- a leaf changed
+pub leaf_set : (leaves : ℕ) (tree : List ℕ) (node room : ℕ) → IsTree leaves tree → leaves ≤ node → IsTreeBut leaves (node / 2) (set tree node room)
+leaf_set leaves tree node room is_tree low = record {
+  long = length-set tree node room ∙ is_tree.long;
+  greatest = λ q some inner other.
+      get_or-set_other tree node q room 0 (λ e. omega (arith, e))
+      ∙ (is_tree.greatest q some inner
+      ∙ ap₂ max (sym (get_or-set_other tree node (2 * q) room 0 (λ e. other (omega (arith, e)))))
+      (sym (get_or-set_other tree node (2 * q + 1) room 0 (λ e. other (omega (arith, e))))));
+}
+
+-- the parent of a node that was changed gets the greater of its children's rooms
+pub parent_set : (leaves : ℕ) (tree : List ℕ) (p room : ℕ) → IsTreeBut leaves p tree → 1 ≤ p → p < leaves
+    → room ≡ max (get_or tree (2 * p) 0) (get_or tree (2 * p + 1) 0) → IsTreeBut leaves (p / 2) (set tree p room)
+parent_set leaves tree p room but some inner is = record {
+  long = length-set tree p room ∙ but.long;
+  greatest = λ q low high other. elim (cases_eq q p) [
+    | inl here ↦ subst (IsGreatest (set tree p room)) (sym here) (
+        get_or-set_same tree p room 0 (omega (arith, but.long))
+        ∙ (is ∙ ap₂ max (sym (get_or-set_other tree p (2 * p) room 0 (λ e. omega (arith, e)))) (sym (get_or-set_other tree p (2 * p + 1) room 0 (λ e. omega (arith, e)))))
+        )
+    | inr there ↦ (
+        get_or-set_other tree p q room 0 there
+        ∙ (but.greatest q low high there
+        ∙ ap₂ max (sym (get_or-set_other tree p (2 * q) room 0 (λ e. other (omega (arith, e))))) (sym (get_or-set_other tree p (2 * q + 1) room 0 (λ e. other (omega (arith, e))))))
+        )
+  ];
+}

@@ -1,0 +1,33 @@
+use Rattle.std.proofs.Common.{◌^◌, ◌≤◌, ◌++◌, ◌∷◌, [], List, All, refl, sym, ap, ◌∙◌, subst, arith}
+use Rattle.std.proofs.Math.Pow.{pow_mono}
+use Rattle.std.proofs.lemmas.Grind.{pow_more}
+use Rattle.spin_base.specs.declared.chips.Chip.{Chip}
+use Rattle.place_fit.specs.Curve.{four_quarters}
+use Rattle.place_fit.proofs.CurveLaws.{IsIn, hilbert-zero, hilbert-next, hilbert_inside}
+use Rattle.place_fit.proofs.curves.curve.Goals as goal
+
+pub loop-level-init : goal.loop-level-init
+loop-level-init c =
+    (c.in_ok-push.ensures.items ∙ ap (λ (l : List Chip). l ++ record { x = 0; y = 0 } ∷ []) c.new-chips.ensures.items ∙ sym hilbert-zero, refl)
+
+pub next_level-requires-clause-small : goal.next_level-requires-clause-small
+next_level-requires-clause-small c =
+    let up : 2 ^ c.loop-level.level ≤ 2 ^ 5 = pow_mono {j = 5} (omega arith) in omega (arith, up, c.loop-level.invariant.1)
+
+pub next_level-requires-clause-inside : goal.next_level-requires-clause-inside
+next_level-requires-clause-inside c =
+    let here = subst (All (IsIn (2 ^ c.loop-level.level))) (sym (c.deref.ensures.value ∙ c.loop-level.invariant.0)) (hilbert_inside c.loop-level.level) in
+    subst (λ s. All (IsIn s) c.deref.result.now) (sym c.loop-level.invariant.1) here
+
+pub overflow_mul-side : goal.overflow_mul-side
+overflow_mul-side c =
+    let up : 2 ^ c.loop-level.level ≤ 2 ^ 5 = pow_mono {j = 5} (omega arith) in record { fits = omega (arith, up, c.loop-level.invariant.1) }
+
+pub loop-level-preserved : goal.loop-level-preserved
+loop-level-preserved c = (
+  c.in_ok-chips.ensures
+      ∙ (ap (λ s. four_quarters s c.deref.result.now) c.loop-level.invariant.1
+      ∙ (ap (four_quarters (2 ^ c.loop-level.level)) (c.deref.ensures.value ∙ c.loop-level.invariant.0)
+      ∙ sym (hilbert-next c.loop-level.level))),
+  omega (arith, c.loop-level.invariant.1, pow_more 2 c.loop-level.level),
+)

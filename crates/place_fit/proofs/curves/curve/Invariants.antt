@@ -1,0 +1,7 @@
+use Rattle.std.proofs.Common.{◌≡◌, ◌^◌}
+use Rattle.place_fit.specs.Curve.{hilbert}
+use Rattle.place_fit.proofs.curves.curve.Given as goal
+
+-- the curve of the level so far, and its side
+abbrev pub invariant-loop-level : goal.invariant-loop-level
+invariant-loop-level l = (l.chips.items ≡ hilbert l.level) × (l.side ≡ 2 ^ l.level)

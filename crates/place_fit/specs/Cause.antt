@@ -1,0 +1,11 @@
+-- Why vertices are not placed.
+use Rattle.std.specs.Prelude.{List}
+use Rattle.machine_desc.specs.Description.{Description}
+use Rattle.app_graph.specs.declared.graphs.Vertex.{Vertex}
+use Rattle.place_fit.specs.declared.placing.PlaceErr.{PlaceErr}
+use Rattle.place_fit.specs.declared.placing.PlaceErr.TheVariants.{NoRoom, Memory}
+use Rattle.place_fit.specs.Placement.{HasNoRoom}
+
+abbrev pub IsCause : Description → List Vertex → PlaceErr → Type 0
+IsCause m vertices (NoRoom vertex) = HasNoRoom m vertices vertex
+IsCause m vertices Memory = Unit {0}

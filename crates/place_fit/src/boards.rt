@@ -1,0 +1,134 @@
+// How far the chips of a machine are filled.
+ghost use Rattle.std.specs.Prelude.{◌≡◌, ℕ, ◌+◌, ◌-◌, ◌==◌, ◌^◌, ◌<◌, ◌≤◌, Some, length, slice_get, slice_set, slice_index, if◌then◌else◌, nat_lt, IfOk, IfSome, IfNone};
+ghost use Rattle.place_fit.specs.Boards.{IsBoard, IsEmptyBoard, IsNextCore, IsPlaceWithRoom, HasNoPlace, HasNoRoomAt, IsFilled, first_room};
+
+use crate::curves::{curve, place_on_curve};
+use crate::rooms::Rooms;
+use app_graph::Vertex;
+use machine_desc::Machine;
+use spin_base::{Chip, Memory, Seq, Spot};
+use std::alloc::Global;
+
+// The chips of the curve of a level. Beside each, its least free core, or 18; and how much room it has, which is one
+// more than the bytes that are left of its memory, and 0 where no core is free.
+#[derive(Drop)]
+pub struct Board {
+    pub level: u32,
+    pub chips: Seq<Chip>,
+    pub cores: Vec<u8>,
+    pub rooms: Rooms,
+}
+
+// Where one vertex stands, and where its memory begins.
+#[derive(Clone, Copy)]
+pub struct Placed {
+    pub spot: Spot,
+    pub memory: u64,
+}
+
+// The board on which no vertex stands.
+pub fn empty_board(alloc: Global, machine: &Machine, level: u32) -> Result<Board, Memory>
+    requires small { level ≤ 6 }
+    requires wide { machine.now.width ≤ 2 ^ level }
+    requires high { machine.now.height ≤ 2 ^ level }
+    ensures board { IfOk result (IsBoard machine.now level) }
+    ensures empty { IfOk result (IsEmptyBoard machine.now) }
+{
+    let chips = curve(alloc, level)?;
+    let mut cores = Vec::new(alloc);
+    let mut rooms = Rooms::new(alloc, 2 * level)?;
+    for (place, chip) in chips.as_slice().iter().enumerate() {
+        let core = next_core(machine, *chip, 0);
+        cores.push(core)?;
+        rooms.set(place, room_with(core, machine.sdram()));
+    }
+    Ok(Board {
+        level,
+        chips,
+        cores,
+        rooms,
+    })
+}
+
+// The room of a chip with this least free core, of whose memory so many bytes are left.
+fn room_with(core: u8, left: u32) -> u64
+    ensures { result ≡ first_room core left }
+{
+    if core < 18 { u64::from(left) + 1 } else { 0 }
+}
+
+// The least usable core of a chip from a number on, or 18.
+fn next_core(machine: &Machine, chip: Chip, from: u8) -> u8
+    requires { from ≤ 18 }
+    ensures { IsNextCore machine.now chip from result }
+{
+    for core in from..18 {
+        if machine.usable(Spot { chip, core }) {
+            return core;
+        }
+    }
+    18
+}
+
+impl Board {
+    // The place of the chip on which a vertex stands: the first with room, or that of the chip that it names.
+    pub fn find(&self, machine: &Machine, vertex: &Vertex) -> Option<usize>
+        requires { IsBoard machine.now self.now.level self.now }
+        ensures found { IfSome result (IsPlaceWithRoom self.now vertex.now) }
+        ensures none { IfNone result (HasNoPlace machine.now self.now vertex.now) }
+    {
+        match vertex.at {
+            None => self.rooms.first_above(u64::from(vertex.sdram)),
+            Some(chip) => self.named(machine, chip, vertex.sdram),
+        }
+    }
+
+    // The place of a chip, if it has room.
+    fn named(&self, machine: &Machine, chip: Chip, sdram: u32) -> Option<usize>
+        requires { IsBoard machine.now self.now.level self.now }
+        ensures within { IfSome result (λ place. place < length self.now.chips) }
+        ensures enough { IfSome result (λ place. sdram < slice_index self.now.rooms place) }
+        ensures there { IfSome result (λ place. slice_get self.now.chips place ≡ Some chip) }
+        ensures none { IfNone result (HasNoRoomAt machine.now self.now sdram chip) }
+    {
+        if !machine.live(chip) {
+            return None;
+        }
+        let place = place_on_curve(self.level, chip);
+        if self.rooms.get(place) > u64::from(sdram) {
+            Some(place)
+        } else {
+            None
+        }
+    }
+
+    // Puts a vertex that needs so many bytes on the least free core of the chip at a place.
+    pub fn fill(&mut self, machine: &Machine, place: usize, sdram: u32) -> Placed
+        requires board { IsBoard machine.now self.old.level self.old }
+        requires within { place < length self.old.chips }
+        requires free { slice_index self.old.cores.items place < 18 }
+        requires enough { sdram < slice_index self.old.rooms place }
+        requires few { slice_index self.old.rooms place ≤ machine.now.sdram + 1 }
+        ensures { IsFilled machine.now place sdram self.old self.new result }
+    {
+        let total = machine.sdram();
+        let chip = *self.chips.get(place);
+        let core = self.cores[place];
+        let left = self.rooms.get(place) - 1;
+        let next = next_core(machine, chip, core + 1);
+        self.cores[place] = next;
+        self.rooms
+            .set(place, room_with(next, (left - u64::from(sdram)) as u32));
+        Placed {
+            spot: Spot { chip, core },
+            memory: begin_of(sdram, u64::from(total) - left),
+        }
+    }
+}
+
+// Where the memory of a vertex begins: behind what earlier vertices need, and at 0 if it needs none.
+fn begin_of(sdram: u32, used: u64) -> u64
+    ensures { result ≡ (if sdram == 0 then 0 else used) }
+{
+    if sdram == 0 { 0 } else { used }
+}

@@ -1,0 +1,138 @@
+// The curve through the chips of a square.
+ghost use Rattle.std.specs.Prelude.{◌≡◌, ◌+◌, ◌-◌, ◌*◌, ◌^◌, ◌<◌, ◌≤◌, ◌++◌, map, All, IfOk, OnOk};
+ghost use Rattle.place_fit.specs.Curve.{hilbert, four_quarters};
+ghost use Rattle.place_fit.specs.Quarters.{in_quarter, curve_place};
+
+use spin_base::{Chip, Memory, Seq};
+use std::alloc::Global;
+
+/// The chips of a square of side 2^k in the order of Hilbert's curve, which begins at (0, 0) and ends at (2^k - 1, 0).
+pub fn curve(alloc: Global, k: u32) -> Result<Seq<Chip>, Memory>
+    requires { k ≤ 6 }
+    ensures { IfOk result (λ chips. chips ≡ hilbert k) }
+{
+    let mut chips = Vec::new(alloc);
+    chips.push(Chip { x: 0, y: 0 })?;
+    let mut side = 1;
+    for level in 0..k {
+        chips = next_level(alloc, &chips, side)?;
+        side *= 2;
+    }
+    Ok(Seq::from_vec(chips))
+}
+
+// The curve through a square of twice the side.
+fn next_level(alloc: Global, chips: &[Chip], side: u8) -> Result<Vec<Chip>, Memory>
+    requires small { side ≤ 32 }
+    requires inside { All (λ c. (c.x < side) × (c.y < side)) chips.now }
+    ensures { IfOk result (λ v. v.items ≡ four_quarters side chips.now) }
+{
+    let mut all = Vec::new(alloc);
+    add_quarter(&mut all, chips, Quarter::LowerLeft, side)?;
+    add_quarter(&mut all, chips, Quarter::UpperLeft, side)?;
+    add_quarter(&mut all, chips, Quarter::UpperRight, side)?;
+    add_quarter(&mut all, chips, Quarter::LowerRight, side)?;
+    Ok(all)
+}
+
+// A quarter of a square, in the order in which the curve goes through them.
+#[derive(Clone, Copy)]
+enum Quarter {
+    LowerLeft,
+    UpperLeft,
+    UpperRight,
+    LowerRight,
+}
+
+impl Quarter {
+    // A chip of a square of that side, as it stands in this quarter of the square of twice the side.
+    fn chip(self, side: u8, c: Chip) -> Chip
+        requires small { side ≤ 32 }
+        requires across { c.x < side }
+        requires up { c.y < side }
+        ensures { result ≡ in_quarter self side c }
+    {
+        match self {
+            Quarter::LowerLeft => Chip { x: c.y, y: c.x },
+            Quarter::UpperLeft => Chip {
+                x: c.x,
+                y: c.y + side,
+            },
+            Quarter::UpperRight => Chip {
+                x: c.x + side,
+                y: c.y + side,
+            },
+            Quarter::LowerRight => Chip {
+                x: 2 * side - 1 - c.y,
+                y: side - 1 - c.x,
+            },
+        }
+    }
+}
+
+// Puts the curve through a quarter behind what there is.
+fn add_quarter(
+    all: &mut Vec<Chip>,
+    chips: &[Chip],
+    quarter: Quarter,
+    side: u8,
+) -> Result<(), Memory>
+    requires small { side ≤ 32 }
+    requires inside { All (λ c. (c.x < side) × (c.y < side)) chips.now }
+    ensures { OnOk result (all.new.items ≡ all.old.items ++ map (in_quarter quarter side) chips.now) }
+{
+    for chip in chips {
+        all.push(quarter.chip(side, *chip))?;
+    }
+    Ok(())
+}
+
+// The place of a chip on the curve.
+pub(crate) fn place_on_curve(level: u32, c: Chip) -> usize
+    requires small { level ≤ 6 }
+    requires across { c.x < 2 ^ level }
+    requires up { c.y < 2 ^ level }
+    ensures place { result ≡ curve_place level c }
+    ensures below { result < 4096 }
+{
+    if level == 0 {
+        return 0;
+    }
+    let side = half_side(level);
+    let run = usize::from(side) * usize::from(side);
+    if c.x < side {
+        if c.y < side {
+            let lower_left = Chip { x: c.y, y: c.x };
+            place_on_curve(level - 1, lower_left)
+        } else {
+            let upper_left = Chip {
+                x: c.x,
+                y: c.y - side,
+            };
+            run + place_on_curve(level - 1, upper_left)
+        }
+    } else if c.y < side {
+        let lower_right = Chip {
+            x: side - 1 - c.y,
+            y: 2 * side - 1 - c.x,
+        };
+        3 * run + place_on_curve(level - 1, lower_right)
+    } else {
+        let upper_right = Chip {
+            x: c.x - side,
+            y: c.y - side,
+        };
+        2 * run + place_on_curve(level - 1, upper_right)
+    }
+}
+
+// Half the side of the square of a level.
+fn half_side(level: u32) -> u8
+    requires some { 1 ≤ level }
+    requires small { level ≤ 6 }
+    ensures half { result ≡ 2 ^ (level - 1) }
+    ensures whole { 2 ^ level ≡ 2 * result }
+    ensures small { result ≤ 32 }
+{
+    1 << (level - 1)
+}

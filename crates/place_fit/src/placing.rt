@@ -1,0 +1,83 @@
+// The placement of all vertices.
+ghost use Rattle.std.specs.Prelude.{◌≡◌, ◌≢◌, ℕ, ◌^◌, ◌<◌, ◌≤◌, All, AllPairs, IfOk, IfErr};
+ghost use Rattle.machine_desc.specs.Live.{IsUsable};
+ghost use Rattle.app_graph.specs.ValidGraph.{IsValidGraph};
+ghost use Rattle.place_fit.specs.Curve.{IsLevel};
+ghost use Rattle.place_fit.specs.Placement.{IsPlacement};
+ghost use Rattle.place_fit.specs.Cause.{IsCause};
+
+use crate::boards::empty_board;
+use app_graph::Graph;
+use machine_desc::Machine;
+use spin_base::{Memory, Seq, Spot};
+use std::alloc::Global;
+
+/// Where each vertex stands, and at which byte of its chip's shared memory its own begins, in the order of the vertices.
+#[derive(Debug, Drop)]
+pub struct Placement {
+    pub spots: Seq<Spot>,
+    pub memory: Seq<u64>,
+}
+
+/// Why vertices are not placed.
+#[derive(Clone, Copy, Debug, PartialEq, Eq)]
+pub enum PlaceErr {
+    /// No chip has room for this vertex, the first such of the list.
+    NoRoom { vertex: u32 },
+    /// There was not enough memory.
+    Memory,
+}
+
+impl From<Memory> for PlaceErr {
+    ghost use Rattle.std.specs.Prelude.{◌≡◌};
+    ghost use Rattle.place_fit.specs.declared.placing.PlaceErr.TheVariants.{Memory as NoMemory};
+
+    ghost from_gives = { λ _ e. e ≡ NoMemory };
+
+    fn from(_: Memory) -> Self {
+        PlaceErr::Memory
+    }
+}
+
+/// Places the vertices in their order. Each stands on the first chip with room, in the order of the curve, or on the
+/// chip that it names, and takes the least core there that is usable and no earlier vertex's. A chip has room where it
+/// has such a core, and earlier vertices leave as many bytes of its memory as the vertex needs. The memory of a vertex
+/// begins behind what earlier vertices on its chip need, and at 0 where it needs none. `NoRoom` comes exactly where
+/// some vertex finds no room, and names the first.
+pub fn place(alloc: Global, machine: &Machine, graph: &Graph) -> Result<Placement, PlaceErr>
+    requires { IsValidGraph graph.now }
+    ensures placed { IfOk result (λ p. IsPlacement machine.now graph.now.vertices p.spots p.memory) }
+    ensures no_room { IfErr result (IsCause machine.now graph.now.vertices) }
+    ensures different { IfOk result (λ p. AllPairs (λ a b. a ≢ b) p.spots) }
+    ensures usable { IfOk result (λ p. All (IsUsable machine.now) p.spots) }
+{
+    let mut board = empty_board(alloc, machine, level_of(machine))?;
+    let mut spots = Seq::new(alloc);
+    let mut memory = Seq::new(alloc);
+    for (i, vertex) in graph.vertices.as_slice().iter().enumerate() {
+        let Some(place) = board.find(machine, vertex) else {
+            return Err(PlaceErr::NoRoom { vertex: i as u32 });
+        };
+        let placed = board.fill(machine, place, vertex.sdram);
+        spots.push(placed.spot)?;
+        memory.push(placed.memory)?;
+    }
+    Ok(Placement { spots, memory })
+}
+
+// The least level of the curve whose square holds the machine's grid.
+fn level_of(machine: &Machine) -> u32
+    ensures level { IsLevel machine.now result }
+    ensures small { result ≤ 6 }
+{
+    let width = machine.width();
+    let height = machine.height();
+    let mut side = 1u8;
+    for level in 0..6 {
+        if width <= side && height <= side {
+            return level;
+        }
+        side *= 2;
+    }
+    6
+}

@@ -1,0 +1,7 @@
+pub mod ExampleTree
+pub mod Marking
+pub mod Ordering
+pub mod Permuting
+pub mod Telling
+pub mod Trees
+pub mod Whole

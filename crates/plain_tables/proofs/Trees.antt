@@ -1,0 +1,65 @@
+-- A routing tree is inside the grid, and what is told of its chips is what their lists get.
+use Rattle.std.proofs.Common.{◌≡◌, ◌<◌, List, get_or, Option, Some, None, refl, sym, subst, inl, inr}
+use Rattle.std.specs.List.{All}
+use Rattle.std.proofs.Math.ListN.{get_or-map}
+use Rattle.std.proofs.lemmas.List.{length-map}
+use Rattle.std.proofs.lemmas.List.Elements.{All-contains}
+use Rattle.spin_base.specs.declared.chips.Chip.{Chip}
+use Rattle.spin_base.specs.declared.chips.Spot.{Spot}
+use Rattle.spin_base.specs.declared.chips.Port.{Port}
+use Rattle.spin_base.specs.declared.routes.Out.{Out}
+use Rattle.spin_base.specs.declared.routes.Route.{Route}
+use Rattle.spin_base.specs.Outputs.{has, IsOutput}
+use Rattle.machine_desc.specs.declared.trees.Edge.{Edge}
+use Rattle.machine_desc.specs.Description.{Description}
+use Rattle.machine_desc.specs.Live.{IsInside}
+use Rattle.machine_desc.specs.RoutingTree.{IsTreeChip, IsRoutingTree}
+use Rattle.machine_desc.proofs.Far.{far_inside, live_inside, live_ends}
+use Rattle.net_tables.specs.declared.nets.NetPlan.{NetPlan}
+use Rattle.net_tables.specs.Outputs.{is_wanted, ComesIn}
+use Rattle.plain_tables.specs.declared.marks.Mark.{Mark}
+use Rattle.plain_tables.specs.Marks.{TellsPort, Grows, marked}
+use Rattle.plain_tables.proofs.Telling.{tree_cases}
+
+module _ (m : Description) (root : Chip) (edges : List Edge) (targets : List Spot) (tree : IsRoutingTree m root edges targets) where
+  pub root_inside : IsInside m root
+  root_inside = live_inside m root tree.root_lives
+
+  pub edges_inside : All (λ (e : Edge). IsInside m e.chip) edges
+  edges_inside k d below =
+      let ends = live_ends m (get_or edges k d).chip (get_or edges k d).dir (tree.edges_live k d below) in
+      live_inside m (get_or edges k d).chip ends.2
+
+  pub chips_inside : (c : Chip) → IsTreeChip m root edges c → IsInside m c
+  chips_inside c on = elim (tree_cases m root edges c on) [
+    | inl at ↦ subst (IsInside m) (sym at) root_inside
+    | inr into ↦ far_inside m into.0.chip c into.0.dir (All-contains (λ (e : Edge). IsInside m e.chip) edges into.0 edges_inside into.1) into.2
+  ]
+
+  pub targets_inside : All (λ (s : Spot). IsInside m s.chip) targets
+  targets_inside k d below =
+      chips_inside (get_or targets k d).chip
+      (subst (IsTreeChip m root edges) (get_or-map (λ (s : Spot). s.chip) targets k d)
+      (tree.has_targets k d.chip (subst (λ n. k < n) (sym (length-map targets (λ (s : Spot). s.chip))) below)))
+
+-- where packets come in is a chip of the tree
+pub comes_in_tree : (m : Description) (root : Chip) (edges : List Edge) (c : Chip) (port : Port) → ComesIn m root edges c port → IsTreeChip m root edges c
+comes_in_tree m root edges c port (inl at) = inl at.0
+comes_in_tree m root edges c port (inr by) = inr (by.1.0, by.0, by.1.1, by.1.2, by.2)
+
+grows : (m : Description) (net : NetPlan) (c : Chip) (o : Option Port) (route : Route) (before after : List Mark) → TellsPort m net.tree.root net.tree.edges c o →
+    ((out : Out) → IsOutput out → has route out ≡ is_wanted net.tree.edges net.targets c out) → after ≡ marked net.block o route before → Grows m net c before after
+grows m net c (Some port) route before after told outputs is =
+    inl (
+      comes_in_tree m net.tree.root net.tree.edges c port told,
+      record { block = net.block; port = port; route = route },
+      record { keys = refl; port = told; outputs = outputs },
+      is,
+    )
+grows m net c None route before after told outputs is = inr (told, is)
+
+-- the same where the tree's edges are read from a list that is theirs
+pub grows_by : (m : Description) (net : NetPlan) (edges : List Edge) (c : Chip) (o : Option Port) (route : Route) (before after : List Mark) → edges ≡ net.tree.edges →
+    TellsPort m net.tree.root edges c o →
+    ((out : Out) → IsOutput out → has route out ≡ is_wanted net.tree.edges net.targets c out) → after ≡ marked net.block o route before → Grows m net c before after
+grows_by m net edges c o route before after same told = grows m net c o route before after (subst (λ es. TellsPort m net.tree.root es c o) same told)

@@ -1,0 +1,69 @@
+-- What one net wants of each chip, by the chip's index, and the rows that follow.
+use Rattle.std.specs.Prelude.{◌≡◌, ℕ, ◌+◌, ◌*◌, ◌<◌, ◌⊎◌, List, [], ◌∷◌, ◌++◌, Option, Some, None, All, AllPairs, map, slice_index_or}
+use Rattle.std.specs.List.Sorted.{IsPermutation}
+use Rattle.spin_base.specs.declared.chips.Chip.{Chip}
+use Rattle.spin_base.specs.declared.chips.Port.{Port}
+use Rattle.spin_base.specs.declared.chips.Spot.{Spot}
+use Rattle.spin_base.specs.declared.blocks.Block.{Block}
+use Rattle.spin_base.specs.declared.routes.Out.{Out}
+use Rattle.spin_base.specs.declared.routes.Route.{Route}
+use Rattle.spin_base.specs.Outputs.{has, IsOutput, nothing}
+use Rattle.machine_desc.specs.declared.trees.Edge.{Edge}
+use Rattle.machine_desc.specs.Description.{Description}
+use Rattle.machine_desc.specs.Live.{IsInside, index_of}
+use Rattle.machine_desc.specs.RoutingTree.{IsTreeChip, IsRoutingTree}
+use Rattle.net_tables.specs.declared.nets.NetPlan.{NetPlan}
+use Rattle.net_tables.specs.Outputs.{is_wanted, ComesIn}
+use Rattle.tern_word.specs.declared.tables.Row.{Row}
+use Rattle.tern_word.specs.declared.tables.Table.{Table}
+use Rattle.tern_word.specs.Ternary.{generality}
+use Rattle.tern_word.specs.SoundTable.{Original}
+use Rattle.plain_tables.specs.declared.marks.Mark.{Mark}
+use Rattle.plain_tables.specs.PlainTable.{HasChip, IsOriginalOf, IsNotAfter, row_of}
+
+-- the port is one at which packets come in at the chip, and there is none only at a chip off the tree
+abbrev pub TellsPort : Description → Chip → List Edge → Chip → Option Port → Type 0
+TellsPort m root edges c (Some port) = ComesIn m root edges c port
+TellsPort m root edges c None = IsTreeChip m root edges c → ⊥
+
+abbrev pub TellsPorts : Description → Chip → List Edge → List (Option Port) → Type 0
+TellsPorts m root edges ports = (c : Chip) → IsInside m c → TellsPort m root edges c (slice_index_or ports (index_of m c) None)
+
+-- each chip's route has exactly the outputs that the tree wants there
+abbrev pub TellsRoutes : Description → List Edge → List Spot → List Route → Type 0
+TellsRoutes m edges targets routes =
+    (c : Chip) (o : Out) → IsInside m c → IsOutput o → has (slice_index_or routes (index_of m c) nothing) o ≡ is_wanted edges targets c o
+
+abbrev pub original_of : Mark → Original
+original_of k = record { block = k.block; port = k.port; route = k.route }
+
+-- the list, with one more item where there is a port
+abbrev pub marked : Block → Option Port → Route → List Mark → List Mark
+marked block (Some port) route list = list ++ record { block = block; port = port; route = route } ∷ []
+marked block None route list = list
+
+-- what a net's tree and targets must be
+pub record IsRouted (m : Description) (net : NetPlan) : Type 0 where
+  pub tree : IsRoutingTree m net.tree.root net.tree.edges net.targets
+  pub cores : All (λ (s : Spot). s.core < 18) net.targets
+
+-- the list of a chip has the net's original block more, exactly where the net's tree has the chip
+abbrev pub Grows : Description → NetPlan → Chip → List Mark → List Mark → Type 0
+Grows m net c before after =
+    (HasChip m net c × (k : Mark) × IsOriginalOf m net c (original_of k) × (after ≡ before ++ k ∷ []))
+    ⊎ ((HasChip m net c → ⊥) × (after ≡ before))
+
+-- the place of a block in the order of rows: by generality, then by key
+abbrev pub rank : Block → ℕ
+rank b = generality b * 4294967296 + b.key
+
+-- the row of an original block
+abbrev pub row_at : Mark → Row
+row_at k = row_of (original_of k)
+
+-- a table with a row for each original block of the list, in order
+pub record IsTableOf (marks : List Mark) (t : Table) : Type 0 where
+  pub sorted : List Mark
+  pub same : IsPermutation marks sorted
+  pub rows_are : t.rows ≡ map row_at sorted
+  pub in_order : AllPairs IsNotAfter t.rows

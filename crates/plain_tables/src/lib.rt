@@ -1,0 +1,15 @@
+//! Plain tables: for each chip one row for each net whose tree has the chip, before any two rows are joined.
+//!
+//! Which outputs a tree wants, and at which port packets come in, are those of `net_tables`; the order of rows is this
+//! project's own.
+#![tactic(auto)]
+
+mod gather;
+mod marks;
+mod plain;
+mod rows;
+
+pub use plain::plain_tables;
+
+#[cfg(test)]
+mod tests;

@@ -1,0 +1,74 @@
+// The rows of original blocks, in order.
+ghost use Rattle.std.specs.Prelude.{◌≡◌, map, IfOk, OnOk};
+ghost use Rattle.std.specs.List.{AllZip};
+ghost use Rattle.std.specs.List.Sorted.{IsPermutation, IsNonDecreasingBy};
+ghost use Rattle.plain_tables.specs.PlainTable.{row_of};
+ghost use Rattle.plain_tables.specs.Marks.{original_of, row_at, rank, IsTableOf};
+
+use crate::marks::Mark;
+use spin_base::{Block, Memory, Seq};
+use std::alloc::Global;
+use tern_word::{Alias, Row, Table, generality};
+
+// The table of each list.
+pub fn tables_of(alloc: Global, lists: &[Seq<Mark>]) -> Result<Seq<Table>, Memory>
+    ensures { IfOk result (λ tables. AllZip IsTableOf lists.now tables) }
+{
+    let mut tables = Seq::new(alloc);
+    for list in lists {
+        tables.push(table_of(alloc, list.as_slice())?)?;
+    }
+    Ok(tables)
+}
+
+// The table with one row for each original block.
+fn table_of(alloc: Global, marks: &[Mark]) -> Result<Table, Memory>
+    ensures { IfOk result (IsTableOf marks.now) }
+{
+    let mut sorted = Vec::from_slice(alloc, marks)?;
+    sort_marks(&mut sorted)?;
+    let rows = rows_of(alloc, sorted.as_slice())?;
+    Ok(Table { rows })
+}
+
+fn sort_marks(marks: &mut Vec<Mark>) -> Result<(), Memory>
+    ensures same { OnOk result (IsPermutation marks.old.items marks.new.items) }
+    ensures in_order { OnOk result (IsNonDecreasingBy (λ k. rank k.block) marks.new.items) }
+{
+    marks.sort_by_key(|mark| rank(mark.block))?;
+    Ok(())
+}
+
+// The place of a block in the order of rows: by generality, then by key.
+fn rank(block: Block) -> u64
+    ensures { result ≡ rank block }
+{
+    u64::from(generality(block)) * 4_294_967_296 + u64::from(block.key)
+}
+
+// The rows of the original blocks, in their order.
+fn rows_of(alloc: Global, marks: &[Mark]) -> Result<Seq<Row>, Memory>
+    ensures { IfOk result (λ rows. rows ≡ map row_at marks.now) }
+{
+    let mut rows = Seq::new(alloc);
+    for mark in marks {
+        rows.push(row_of(alloc, *mark)?)?;
+    }
+    Ok(rows)
+}
+
+// The row of one original block, its only alias.
+fn row_of(alloc: Global, mark: Mark) -> Result<Row, Memory>
+    ensures { IfOk result (λ row. row ≡ row_of (original_of mark)) }
+{
+    let mut aliases = Seq::new(alloc);
+    aliases.push(Alias {
+        block: mark.block,
+        port: mark.port,
+    })?;
+    Ok(Row {
+        block: mark.block,
+        route: mark.route,
+        aliases,
+    })
+}

@@ -1,0 +1,4 @@
+pub mod Gathering
+pub mod HexDigits
+pub mod Joining
+pub mod Sorting

@@ -1,0 +1,4 @@
+pub mod Keys
+pub mod Orders
+pub mod ReportText
+pub mod RunReport

@@ -1,0 +1,180 @@
+// The copies that wait in a mesh.
+ghost use Rattle.std.specs.Prelude.{◌≡◌, ◌≤◌, ◌<◌, ◌*◌, ◌++◌, length, map, OnOk, IfOk, Some};
+ghost use Rattle.std.specs.Option.{option_copied};
+ghost use Rattle.std.specs.List.{flat_map};
+ghost use Rattle.spin_base.specs.Links.{port_number};
+ghost use Rattle.machine_desc.specs.Live.{IsInside, chip_of, grid_chips};
+ghost use Rattle.mesh_core.specs.Ledger.{gathered};
+ghost use Rattle.run_report.specs.Orders.{IsInOrder};
+ghost use Rattle.run_report.specs.Keys.{wait_numbers};
+ghost use Rattle.run_report.specs.RunReport.{waits_of, wait_key, waits_at, queue_waits, held_waits, chip_waits, core_waits};
+
+use machine_desc::Machine;
+use mesh_core::{Hand, Mesh, Place};
+use spin_base::{Chip, Dir, McCopy, Memory, Name, Port, Seq, Spot};
+use std::alloc::Global;
+
+/// The waiting copies of a mesh, by packet and place.
+pub fn waiting_of(
+    alloc: Global,
+    placed: &[(Name, Spot)],
+    machine: &Machine,
+    mesh: &Mesh,
+) -> Result<Seq<(u32, Place)>, Memory>
+    requires few { length placed.now ≤ 4294967295 }
+    requires machine { mesh.now.machine ≡ machine.now }
+    requires vertices { mesh.now.spots ≡ map (λ v. v.1) placed.now }
+    ensures { IfOk result (λ waiting. IsInOrder wait_key (waits_of mesh.now) waiting) }
+{
+    let mut waiting = Vec::new(alloc);
+    put_chips(&mut waiting, machine, mesh)?;
+    put_cores(&mut waiting, placed, mesh)?;
+    sort_waits(&mut waiting)?;
+    Ok(Seq::from_vec(waiting))
+}
+
+// Puts what waits on the chips at the end, chip by chip in the order of their indices.
+fn put_chips(waiting: &mut Vec<(u32, Place)>, machine: &Machine, mesh: &Mesh) -> Result<(), Memory>
+    requires { mesh.now.machine ≡ machine.now }
+    ensures { OnOk result (waiting.new.items ≡ waiting.old.items ++ flat_map (chip_waits mesh.now) (grid_chips machine.now)) }
+{
+    let chips = usize::from(machine.width()) * usize::from(machine.height());
+    for index in 0..chips {
+        put_chip(waiting, chip_at(machine, index), mesh)?;
+    }
+    Ok(())
+}
+
+// The chip of an index.
+fn chip_at(machine: &Machine, index: usize) -> Chip
+    requires { index < machine.now.width * machine.now.height }
+    ensures chip { result ≡ chip_of machine.now index }
+    ensures inside { IsInside machine.now result }
+{
+    let height = usize::from(machine.height());
+    Chip {
+        x: (index / height) as u8,
+        y: (index % height) as u8,
+    }
+}
+
+// Puts what waits on one chip at the end.
+fn put_chip(waiting: &mut Vec<(u32, Place)>, chip: Chip, mesh: &Mesh) -> Result<(), Memory>
+    requires { IsInside mesh.now.machine chip }
+    ensures { OnOk result (waiting.new.items ≡ waiting.old.items ++ chip_waits mesh.now chip) }
+{
+    put_queues(waiting, chip, &PORTS, mesh)?;
+    put_hand(waiting, chip, mesh.hand(chip))
+}
+
+// The ports of a chip, in the order of their numbers.
+const PORTS: [Port; 7] = [
+    Port::Link(Dir::East),
+    Port::Link(Dir::NorthEast),
+    Port::Link(Dir::North),
+    Port::Link(Dir::West),
+    Port::Link(Dir::SouthWest),
+    Port::Link(Dir::South),
+    Port::Local,
+];
+
+// Puts the copies of a chip's input queues at the end, port by port.
+fn put_queues(
+    waiting: &mut Vec<(u32, Place)>,
+    chip: Chip,
+    ports: &[Port],
+    mesh: &Mesh,
+) -> Result<(), Memory>
+    requires { IsInside mesh.now.machine chip }
+    ensures { OnOk result (waiting.new.items ≡ waiting.old.items ++ flat_map (queue_waits mesh.now chip) ports.now) }
+{
+    for port in ports {
+        put_queue(waiting, chip, *port, mesh)?;
+    }
+    Ok(())
+}
+
+// Puts the copies of one input queue at the end.
+fn put_queue(
+    waiting: &mut Vec<(u32, Place)>,
+    chip: Chip,
+    port: Port,
+    mesh: &Mesh,
+) -> Result<(), Memory>
+    requires { IsInside mesh.now.machine chip }
+    ensures { OnOk result (waiting.new.items ≡ waiting.old.items ++ queue_waits mesh.now chip port) }
+{
+    put_copies(waiting, Place::InQueue(chip, port), mesh.queue(chip, port))
+}
+
+// Puts what a router holds at the end: one item for each output.
+fn put_hand(waiting: &mut Vec<(u32, Place)>, chip: Chip, hand: Option<&Hand>) -> Result<(), Memory>
+    ensures { OnOk result (waiting.new.items ≡ waiting.old.items ++ held_waits chip (Some (option_copied hand.entry))) }
+{
+    if let Some(hand) = hand {
+        put_outs(waiting, chip, hand)?;
+    }
+    Ok(())
+}
+
+fn put_outs(waiting: &mut Vec<(u32, Place)>, chip: Chip, hand: &Hand) -> Result<(), Memory>
+    ensures { OnOk result (waiting.new.items ≡ waiting.old.items ++ held_waits chip (Some (Some hand.now))) }
+{
+    for out in hand.outs.as_slice() {
+        waiting.push((hand.copy.packet, Place::Hand(chip, *out)))?;
+    }
+    Ok(())
+}
+
+// Puts the copies of a list, which all wait at one place, at the end.
+fn put_copies(
+    waiting: &mut Vec<(u32, Place)>,
+    place: Place,
+    copies: &[McCopy],
+) -> Result<(), Memory>
+    ensures { OnOk result (waiting.new.items ≡ waiting.old.items ++ waits_at place copies.now) }
+{
+    for copy in copies {
+        waiting.push((copy.packet, place))?;
+    }
+    Ok(())
+}
+
+// Puts the copies in the queues of the vertices' cores at the end.
+fn put_cores(
+    waiting: &mut Vec<(u32, Place)>,
+    placed: &[(Name, Spot)],
+    mesh: &Mesh,
+) -> Result<(), Memory>
+    requires few { length placed.now ≤ 4294967295 }
+    requires vertices { mesh.now.spots ≡ map (λ v. v.1) placed.now }
+    ensures { OnOk result (waiting.new.items ≡ waiting.old.items ++ gathered (core_waits mesh.now) 0 mesh.now.spots) }
+{
+    for (vertex, (_, spot)) in placed.iter().enumerate() {
+        put_copies(
+            waiting,
+            Place::CoreQueue(spot.chip, spot.core),
+            mesh.core_queue(vertex as u32),
+        )?;
+    }
+    Ok(())
+}
+
+// Sorts the copies by packet and place.
+fn sort_waits(waiting: &mut Vec<(u32, Place)>) -> Result<(), Memory>
+    ensures { OnOk result (IsInOrder wait_key waiting.old.items waiting.new.items) }
+{
+    waiting.sort_by_key(|wait| numbers_of(wait))?;
+    Ok(())
+}
+
+// The numbers by which waiting copies are ordered: packet, x, y, kind, and port, output or core.
+fn numbers_of(wait: &(u32, Place)) -> (u32, u8, u8, u8, u16)
+    ensures { result ≡ wait_numbers wait.now }
+{
+    match wait.1 {
+        Place::InQueue(chip, port) => (wait.0, chip.x, chip.y, 0, u16::from(port.number())),
+        Place::Hand(chip, out) => (wait.0, chip.x, chip.y, 1, out.number()),
+        Place::CoreQueue(chip, core) => (wait.0, chip.x, chip.y, 2, u16::from(core)),
+    }
+}
