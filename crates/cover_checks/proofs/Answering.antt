@@ -1,9 +1,12 @@
 -- What one turn of a check tells of the whole.
-use Rattle.std.proofs.Common.{◌≡◌, ℕ, ◌+◌, ◌<◌, ◌≤◌, ◌↔◌, IsTrue, Bool, true, false, List, length, get_or, sym, ◌∙◌, subst, arith}
+use Rattle.std.proofs.Common.{◌≡◌, ℕ, ◌+◌, ◌<◌, ◌≤◌, ◌↔◌, IsTrue, Bool, true, false, List, length, get_or, refl, sym, ◌∙◌, subst, arith}
 use borrow.Author.Count.{below_more}
 use mathlib.Core.Bool.{true≢false, false≢true}
 use Rattle.tern_word.specs.declared.tables.Row.{Row}
-use Rattle.cover_checks.specs.Merge.{insert_place, PassesUp, PassesUpCheck}
+use Rattle.std.proofs.lemmas.List.{get_or_default}
+use Rattle.std.proofs.lemmas.List.Elements.{pair_read}
+use Rattle.tern_word.specs.SoundTable.{Misses}
+use Rattle.cover_checks.specs.Merge.{has, IsClear, insert_place, PassesUp, PassesUpCheck}
 use Rattle.cover_checks.proofs.Positions.{has-at, has-place}
 
 -- a test that came out false tells that its fact does not hold
@@ -38,3 +41,18 @@ pub up_all : (rows : List Row) (places : List ℕ) (i : ℕ) → length places �
 up_all rows places i all before s found =
     let at = has-place places s found in
     subst (λ k. PassesUp rows places k (insert_place rows places)) at.2 (before at.0 (omega (arith, at.1)))
+
+-- ---- one row against another
+
+module _ (rows : List Row) (places : List ℕ) (s r : ℕ) (first later : Row) (in_s : s < length rows) (in_r : r < length rows) (is_first : first ≡ get_or rows s first) (is_later : later ≡ get_or rows r later) where
+  pub clear_from : Misses later.block first → IsClear rows places s r
+  clear_from missed d outside = pair_read rows (λ (x y : Row). Misses x.block y) r s later first in_r in_s is_later is_first missed d
+
+  pub missed_from : IsClear rows places s r → has places r ≡ false → Misses later.block first
+  missed_from clear outside =
+      let a : get_or rows r first ≡ later = get_or_default rows r first later in_r ∙ sym is_later in
+      subst (λ (x : Row). Misses later.block x) (sym is_first) (subst (λ (x : Row). Misses x.block (get_or rows s first)) a (clear first outside))
+
+  pub answer_of : (found missed : Bool) → found ≡ has places r → (IsTrue missed) ↔ (Misses later.block first) → missed ≡ false → (IsTrue found) ↔ (IsClear rows places s r)
+  answer_of true missed is tells came = (λ t d outside. absurd (true≢false (is ∙ outside)), λ clear. refl)
+  answer_of false missed is tells came = (λ t. absurd (false≢true t), λ clear. absurd (fails (Misses later.block first) missed tells came (missed_from clear (sym is))))

@@ -109,7 +109,7 @@ fn is_clear(rows: &[Row], places: &[u32], s: u32, r: u32) -> bool
     requires member { s < length rows.now }
     ensures { IsTrue result ↔ IsClear rows.now places.now s r }
 {
-    places.contains(&r) || misses(rows[r as usize].block, &rows[s as usize])
+    misses(rows[r as usize].block, &rows[s as usize]) || places.contains(&r)
 }
 
 /// Whether the block meets no alias of a row at or after place `p`.

@@ -1,11 +1,11 @@
 -- Taking rows out, and the table after a merge.
 use Rattle.std.proofs.Common.{◌≡◌, ℕ, zero, suc, ◌+◌, ◌-◌, ◌<◌, ◌≤◌, ◌==◌, ◌||◌, ◌≢◌, Bool, true, false, cond, List, [], ◌∷◌, ◌++◌, length, get_or, take, drop, inl, inr, ◌⊎◌, refl, sym, ap, ◌∙◌, subst, Option, length-take, length-drop, get_or-drop, arith}
-use Rattle.std.specs.Prelude.{All, AllPairs, not, insert, remove, slice_get, map}
+use Rattle.std.specs.Prelude.{All, AllPairs, not, insert, remove, map}
 use Rattle.std.specs.Prelude.{Result, Ok, Err, OnOk}
-use Rattle.std.specs.List.{flat_map, cons_option, list_any}
-use Rattle.std.proofs.lemmas.Bool.{cases_lt, eq-eqb}
+use Rattle.std.specs.List.{flat_map, cons_option}
+use Rattle.std.proofs.lemmas.Bool.{eq-eqb}
 use Rattle.std.proofs.lemmas.Bool.Decides.{eqb_tells}
-use Rattle.std.proofs.lemmas.List.Elements.{All-nil, All-cons, All-head, All-tail}
+use Rattle.std.proofs.lemmas.List.Elements.{All-nil, All-head, All-tail}
 use Rattle.std.proofs.lemmas.Grind.{flat_map-append}
 use Rattle.std.proofs.lemmas.List.{append-nil, take_more, drop_all, get_or_default}
 use Rattle.std.proofs.Math.Seq.{drop-cons}
@@ -16,7 +16,7 @@ use Rattle.tern_word.specs.declared.tables.Row.{Row}
 use Rattle.tern_word.specs.SoundTable.{IsOrdered}
 use Rattle.tern_word.specs.Ternary.{generality, merge_of}
 use Rattle.cover_checks.specs.Merge.{has, rows_at, picked, kept, merge_rows, merged_row, merged_block, place_for, insert_place, after, IsMergeSet}
-use Rattle.cover_checks.proofs.Positions.{rows_at-push, rows_at-length, member_before, has-at, place_for-le}
+use Rattle.cover_checks.proofs.Positions.{rows_at-push, member_before, has-at, place_for-le}
 use Rattle.cover_merge.specs.Aliases.{aliases_at}
 
 -- ---- a place that is not of the set

@@ -1,16 +1,15 @@
 -- The places of a route, the best of the refined sets, and pairs.
-use Rattle.std.proofs.Common.{◌≡◌, ◌≢◌, ℕ, zero, suc, ◌+◌, ◌-◌, ◌<◌, ◌≤◌, ◌==◌, Bool, true, false, cond, List, [], ◌∷◌, ◌++◌, length, get_or, take, drop, inl, inr, ◌⊎◌, refl, sym, ap, ◌∙◌, subst, length-take, append-nil, arith}
+use Rattle.std.proofs.Common.{◌≡◌, ◌≢◌, ℕ, suc, ◌+◌, ◌-◌, ◌<◌, ◌≤◌, ◌==◌, Bool, true, false, cond, List, [], ◌∷◌, ◌++◌, length, get_or, take, inl, inr, ◌⊎◌, refl, sym, ap, ◌∙◌, subst, length-take, append-nil, arith}
 use Rattle.std.specs.Prelude.{All, AllPairs, IsTrue, ◌↔◌, MatchBool}
 use mathlib.Core.Bool.{false≢true}
 use Rattle.std.proofs.lemmas.Bool.{cases_lt, eqb-true, eq-eqb}
 use Rattle.std.proofs.lemmas.Bool.Decides.{eqb_tells}
 use Rattle.std.proofs.lemmas.List.{take_more, get_or_default}
-use Rattle.std.proofs.lemmas.List.Elements.{All-nil, All-cons, All-head, All-tail}
+use Rattle.std.proofs.lemmas.List.Elements.{All-nil, All-cons}
 use Rattle.std.proofs.lemmas.List.Kept.{AllPairs-cons}
 use Rattle.spin_base.specs.declared.routes.Route.{Route}
 use Rattle.tern_word.specs.declared.tables.Row.{Row}
-use Rattle.tern_word.specs.SoundTable.{IsSound}
-use Rattle.cover_checks.specs.Merge.{SameRoute, IsOneRoute, IsMergeSet, IsLegal, merge_rows}
+use Rattle.cover_checks.specs.Merge.{IsOneRoute, IsMergeSet, IsLegal, merge_rows}
 use Rattle.cover_checks.proofs.Positions.{same_route, pair_set_read}
 use Rattle.cover_checks.proofs.Lists.{AllPairs-nil}
 use Rattle.cover_merge.specs.Refinement.{Refines, ends_empty}

@@ -1,6 +1,6 @@
 -- What a chosen merge keeps: soundness and the served blocks; and that each merge makes the table shorter.
-use Rattle.std.proofs.Common.{◌≡◌, ℕ, zero, suc, ◌+◌, ◌-◌, ◌^◌, ◌<◌, ◌≤◌, List, [], ◌∷◌, ◌++◌, length, get_or, take, drop, inl, inr, ◌⊎◌, refl, sym, ap, ◌∙◌, subst, append_assoc, append-nil, take-append-drop, length-append, length-take, arith}
-use Rattle.std.specs.Prelude.{All, AllPairs, map, remove, slice_get, not}
+use Rattle.std.proofs.Common.{◌≡◌, ℕ, zero, suc, ◌+◌, ◌^◌, ◌<◌, ◌≤◌, List, [], ◌∷◌, ◌++◌, length, get_or, take, drop, inl, inr, ◌⊎◌, refl, sym, ap, ◌∙◌, subst, append_assoc, append-nil, take-append-drop, length-append, length-take, arith}
+use Rattle.std.specs.Prelude.{All, AllPairs, map, not}
 use Rattle.std.specs.List.{flat_map, cons_option}
 use Rattle.std.specs.List.Sorted.{IsPermutation}
 use Rattle.std.proofs.Math.Seq.{drop-cons}
@@ -8,17 +8,17 @@ use Rattle.std.proofs.lemmas.Grind.{flat_map-append}
 use Rattle.std.proofs.lemmas.List.{map-append, get_or_default}
 use Rattle.std.proofs.lemmas.Option.{slice_get-get_or}
 use Rattle.std.proofs.lemmas.List.Elements.{All-nil, All-cons, All-head, All-tail}
-use Rattle.std.proofs.lemmas.List.Sorted.{IsPermutation-refl, IsPermutation-trans, IsPermutation-append_left, IsPermutation-append_right, IsPermutation-append_comm}
+use Rattle.std.proofs.lemmas.List.Sorted.{IsPermutation-refl, IsPermutation-trans, IsPermutation-append_left, IsPermutation-append_comm}
 use Rattle.spin_base.specs.declared.routes.Route.{Route}
 use Rattle.tern_word.specs.declared.tables.Alias.{Alias}
 use Rattle.tern_word.specs.declared.tables.Row.{Row}
 use Rattle.tern_word.specs.Ternary.{generality}
 use Rattle.tern_word.specs.SoundTable.{IsSound, Original, served_by, served}
-use Rattle.cover_checks.specs.Merge.{has, picked, kept, rows_at, merge_rows, merged_row, merged_block, insert_place, place_for, after, SameRoute, IsOneRoute, IsMergeSet, IsLegal}
+use Rattle.cover_checks.specs.Merge.{has, picked, kept, rows_at, merge_rows, merged_row, merged_block, insert_place, after, SameRoute, IsOneRoute, IsMergeSet, IsLegal}
 use Rattle.cover_checks.proofs.Lists.{AllPairs-head, AllPairs-tail}
 use Rattle.cover_checks.proofs.Positions.{has-place, rows_at-from, place_for-le}
 use Rattle.cover_merge.specs.Refinement.{Refines, ends_empty, ends_legal, goes_up, goes_down}
-use Rattle.cover_merge.specs.Covering.{places_of, IsLargest, IsFirstLegalPair, HasNoLargest, IsChosen, HasNoChosen, Covers, short, stuck, merged}
+use Rattle.cover_merge.specs.Covering.{places_of, IsChosen, HasNoChosen, Covers, short, stuck, merged}
 use Rattle.cover_merge.specs.declared.covering.Merge.{Merge}
 use Rattle.cover_merge.specs.Merges.{sets_of}
 use Rattle.cover_merge.proofs.RefineLemmas.{one_route_after, legal_here}

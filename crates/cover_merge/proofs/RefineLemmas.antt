@@ -1,6 +1,6 @@
 -- What one turn of a refinement tells of the rules.
-use Rattle.std.proofs.Common.{◌≡◌, ◌≢◌, ℕ, zero, suc, ◌+◌, ◌-◌, ◌/◌, ◌^◌, ◌<◌, ◌≤◌, ◌==◌, ◌&&◌, Bool, true, false, cond, Option, Some, None, List, [], ◌∷◌, length, get_or, inl, inr, ◌⊎◌, refl, sym, ap, ◌∙◌, subst, arith}
-use Rattle.std.specs.Prelude.{bit_and, not, filter, slice_get, map, All, AllPairs, IsTrue, ◌↔◌}
+use Rattle.std.proofs.Common.{◌≡◌, ◌≢◌, ℕ, zero, suc, ◌-◌, ◌/◌, ◌^◌, ◌<◌, ◌≤◌, ◌==◌, ◌&&◌, Bool, true, false, cond, Option, List, [], ◌∷◌, length, get_or, inl, inr, ◌⊎◌, refl, sym, ap, ◌∙◌, subst, arith}
+use Rattle.std.specs.Prelude.{bit_and, not, filter, map, All, AllPairs, IsTrue, ◌↔◌}
 use Rattle.std.specs.Int.{bit_at}
 use Rattle.std.specs.Option.{option_map_or}
 use Rattle.std.proofs.lemmas.Bool.{cases_lt, eq-eqb}
@@ -20,7 +20,7 @@ use Rattle.tern_word.specs.SoundTable.{IsSound}
 use Rattle.cover_checks.proofs.Legal.{legal_from_checks}
 use Rattle.cover_checks.proofs.Answering.{fails}
 use Rattle.cover_checks.proofs.Positions.{has-at, has-place, All-has, rows_at-from, rows_at-length}
-use Rattle.cover_merge.specs.Refinement.{can_choose, parts, keeps, kept_by, kept_count, without, IsLastFailing, IsUpStep, IsFirstMetFrom, IsBestBit, IsNarrowed, IsDownStep, Refines, ends_empty, ends_legal, goes_up, goes_down}
+use Rattle.cover_merge.specs.Refinement.{can_choose, parts, keeps, kept_by, without, IsLastFailing, IsUpStep, IsFirstMetFrom, IsNarrowed, IsDownStep, Refines, ends_empty, ends_legal, goes_up, goes_down}
 
 -- ---- the tests of bits
 

@@ -1,10 +1,11 @@
 // Which rows are merged next.
 ghost use Rattle.std.specs.Prelude.{◌≡◌, ◌+◌, ◌<◌, ◌≤◌, ◌^◌, ◌↔◌, ◌==◌, ℕ, [], ◌∷◌, IfOk, MatchOption, MatchBool, length, ◌⊎◌};
 ghost use Rattle.tern_word.specs.SoundTable.{IsSound};
+ghost use Rattle.cover_merge.specs.Rivals.{AreRivals};
 ghost use Rattle.cover_merge.specs.Covering.{places_of, IsBestBefore, StandsBefore, IsFirstPartner, IsLargest, HasNoLargest, IsLegalPair, HasNoLegalPair, IsFirstLegalPair, IsChosen, HasNoChosen};
 
 use crate::refining::refine;
-use cover_checks::is_legal;
+use crate::rivals::{is_legal_pair, rivals_of};
 use spin_base::{Memory, Seq};
 use std::alloc::Global;
 use tern_word::{Row, Table};
@@ -110,8 +111,9 @@ fn first_pair(alloc: Global, table: &Table) -> Result<Option<Seq<u32>>, Memory>
     requires sound { IsSound table.now.rows }
     ensures { IfOk result (λ found. MatchOption found (HasNoLegalPair table.now.rows) (λ set. IsFirstLegalPair table.now.rows set)) }
 {
+    let rivals = rivals_of(alloc, table.rows.as_slice())?;
     for i in 0..table.rows.len() {
-        if let Some(j) = partner(table, i as u32) {
+        if let Some(j) = partner(table, &rivals, i as u32) {
             return Ok(Some(two_places(alloc, i as u32, j)?));
         }
     }
@@ -129,14 +131,15 @@ fn two_places(alloc: Global, i: u32, j: u32) -> Result<Seq<u32>, Memory>
 }
 
 // The first row behind row `i` that can be merged with it.
-fn partner(table: &Table, i: u32) -> Option<u32>
+fn partner(table: &Table, rivals: &[u32], i: u32) -> Option<u32>
     requires few { length table.now.rows < 2 ^ 32 }
     requires sound { IsSound table.now.rows }
+    requires rivals { AreRivals table.now.rows rivals.now }
     requires inside { i < length table.now.rows }
     ensures { MatchOption result ((b : ℕ) → IsLegalPair table.now.rows i b → ⊥) (λ j. IsFirstPartner table.now.rows i j) }
 {
     for j in i + 1..table.rows.len() as u32 {
-        if may_pair(table, i, j) {
+        if may_pair(table, rivals, i, j) {
             return Some(j);
         }
     }
@@ -144,16 +147,17 @@ fn partner(table: &Table, i: u32) -> Option<u32>
 }
 
 // Whether the two rows have one route and their merge is legal.
-fn may_pair(table: &Table, i: u32, j: u32) -> bool
+fn may_pair(table: &Table, rivals: &[u32], i: u32, j: u32) -> bool
     requires few { length table.now.rows < 2 ^ 32 }
     requires sound { IsSound table.now.rows }
+    requires rivals { AreRivals table.now.rows rivals.now }
     requires order { i < j }
     requires inside { j < length table.now.rows }
     ensures { MatchBool result (IsLegalPair table.now.rows i j) (IsLegalPair table.now.rows i j → ⊥) }
 {
     let rows = table.rows.as_slice();
     if rows[i as usize].route.bits == rows[j as usize].route.bits {
-        return is_legal(table, &[i, j]);
+        return is_legal_pair(table, rivals, i, j);
     }
     false
 }

@@ -10,6 +10,7 @@ mod applying;
 mod choosing;
 mod covering;
 mod refining;
+mod rivals;
 
 pub use applying::apply;
 pub use covering::{Covered, Merge, cover};

@@ -1,5 +1,5 @@
 -- Each turn adds the place of a row of the route.
-use Rattle.std.proofs.Common.{◌≡◌, ◌∷◌, ◌++◌, [], ap, sym, ◌∙◌}
+use Rattle.std.proofs.Common.{◌∷◌, ◌++◌, [], ap, sym, ◌∙◌}
 use Rattle.cover_merge.proofs.ChooseLemmas.{places_of-here, places_of-not}
 use Rattle.cover_merge.proofs.choosing.places_of.Goals as goal
 use Rattle.cover_merge.proofs.choosing.places_of.Goals.{then-rows-k+in_ok-push, else-rows-k}

@@ -1,5 +1,5 @@
 -- Each round makes a chosen merge, which is legal.
-use Rattle.std.proofs.Common.{◌≡◌, ◌<◌, ◌≤◌, length, sym, subst, arith}
+use Rattle.std.proofs.Common.{◌<◌, ◌≤◌, length, sym, subst, arith}
 use Rattle.std.specs.Prelude.{MatchOption}
 use Rattle.cover_merge.specs.Covering.{IsChosen, HasNoChosen}
 use Rattle.cover_merge.proofs.CoverLemmas.{IsCoveredSoFar, chosen_legal, chosen_shorter, so_far_more, covered_short, covered_stuck}

@@ -1,6 +1,6 @@
 -- Each round is a rule of the refinement.
-use Rattle.std.proofs.Common.{◌≡◌, ◌<◌, ◌≤◌, length, inr, sym, subst, arith}
-use Rattle.cover_checks.specs.Merge.{IsOneRoute, IsMergeSet, IsLegal}
+use Rattle.std.proofs.Common.{◌<◌, ◌≤◌, length, inr, sym, subst, arith}
+use Rattle.cover_checks.specs.Merge.{IsMergeSet, IsLegal}
 use Rattle.tern_word.specs.SoundTable.{IsSound}
 use Rattle.cover_merge.specs.Refinement.{Refines}
 use Rattle.cover_merge.proofs.RefineLemmas.{one_route_after, refines_after, refines_here, legal_here, refines_few}
