@@ -1,54 +1,215 @@
-"""Times `./spin tables` on jobs whose work is placement and keys: 16,384 vertices on 4,096 chips; as many where the memory of
-the first half of the chips is full while most of their cores are free; and 4,096 nets of mixed sizes.
+"""Times placement and keys: `curve`, `place`, `keys`, each alone.
 
-A command that is not built yet answers status 10, and the script says so."""
-import json
+    python3 bench/placement_and_keys.py
+
+`place` puts 16,384 vertices on 4,096 chips, once where they need no memory, and once where the memory of the first half of
+the chips is full while 16 cores of each are free, so that each later vertex is to stand behind them all. `keys` gives keys
+to 4,096 nets that need from 1 to 2^20 each, in mixed order. Each is done at half and at a quarter of the size too.
+
+The calls are made by a small program that stands below as text. It is compiled as the launcher's program is, without a
+proof, from a copy of the repository that has it as one crate more; the crates that it calls are those that `rt ci` proves.
+It makes the machine and the graph, and then does the one call many times over; the time without that call is taken off.
+"""
 import os
+import resource
 import subprocess
+import sys
 import tempfile
-import time
 
 ROOT = os.path.dirname(os.path.dirname(os.path.realpath(__file__)))
-ALL_MEMORY = 134217728
+sys.path.insert(0, f"{ROOT}/tools")
+import compile as launcher  # noqa: E402
+
+LINE = "bench_placement: place_fit key_alloc range_store tern_word app_graph machine_desc spin_base\n"
+
+PROGRAM = r"""
+#![tactic(auto)]
+
+use app_graph::{Graph, Net, Vertex};
+use key_alloc::{KeyErr, keys};
+use machine_desc::Machine;
+use place_fit::{PlaceErr, curve, place};
+use spin_base::{Memory, Name, Seq};
+use std::alloc::Global;
+use std::env;
+use std::process::ExitCode;
+
+// All memory of a chip.
+const ALL_MEMORY: u32 = 134217728;
+
+fn next(seed: u32) -> u32 {
+    seed.wrapping_mul(1664525).wrapping_add(1013904223)
+}
+
+// What is measured.
+#[derive(Drop)]
+struct Task<'a> {
+    what: &'a str,
+    count: u32,
+    width: u8,
+    height: u8,
+    turns: u32,
+}
+
+fn machine(alloc: Global, task: &Task) -> Result<Machine, Memory> {
+    let none = Seq::new(alloc);
+    Machine::new(alloc, task.width, task.height, false, ALL_MEMORY, &none, &Seq::new(alloc), &Seq::new(alloc))
+}
+
+// So many vertices. The first of them, as many as `full`, need all memory of a chip, and the others `each`.
+fn vertices(alloc: Global, count: u32, full: u32, each: u32) -> Result<Seq<Vertex>, Memory> {
+    let mut vertices = Seq::new(alloc);
+    for i in 0..count {
+        let sdram = if i < full { ALL_MEMORY } else { each };
+        vertices.push(Vertex { name: Name::of(alloc, "v")?, sdram, at: None })?;
+    }
+    Ok(vertices)
+}
+
+// So many nets from the first vertex to itself. They need from 1 to 2^20 keys: the number of bits is drawn, then the number.
+fn nets(alloc: Global, count: u32) -> Result<Seq<Net>, Memory> {
+    let mut nets = Seq::new(alloc);
+    let mut seed = 5;
+    for _ in 0..count {
+        seed = next(seed);
+        let most = 1u32 << ((seed >> 8) % 21);
+        seed = next(seed);
+        let keys = u64::from(most - (seed >> 8) % (most / 2 + 1));
+        let mut targets = Seq::new(alloc);
+        targets.push(0)?;
+        nets.push(Net { name: Name::of(alloc, "n")?, source: 0, targets, keys })?;
+    }
+    Ok(nets)
+}
+
+fn graph(alloc: Global, task: &Task) -> Result<Graph, Memory> {
+    let chips = u32::from(task.width) * u32::from(task.height);
+    match task.what {
+        "short" => Ok(Graph { vertices: vertices(alloc, task.count, chips / 2, 1)?, nets: Seq::new(alloc) }),
+        "keys" => Ok(Graph { vertices: vertices(alloc, 1, 0, 0)?, nets: nets(alloc, task.count)? }),
+        _ => Ok(Graph { vertices: vertices(alloc, task.count, 0, 0)?, nets: Seq::new(alloc) }),
+    }
+}
+
+// Where the last vertex stands, x, y and core as two digits each; 0 where there is no room.
+fn placed(alloc: Global, machine: &Machine, graph: &Graph) -> Result<u64, Memory> {
+    match place(alloc, machine, graph) {
+        Ok(placement) => {
+            let Some(last) = placement.spots.as_slice().last() else { return Ok(0) };
+            Ok(u64::from(last.chip.x) * 10000 + u64::from(last.chip.y) * 100 + u64::from(last.core))
+        }
+        Err(PlaceErr::NoRoom { .. }) => Ok(0),
+        Err(PlaceErr::Memory) => Err(Memory),
+    }
+}
+
+// The first key of the last net; 0 where keys are out.
+fn given(alloc: Global, graph: &Graph) -> Result<u64, Memory> {
+    match keys(alloc, graph) {
+        Ok(blocks) => {
+            let Some(last) = blocks.as_slice().last() else { return Ok(0) };
+            Ok(u64::from(last.key))
+        }
+        Err(KeyErr::KeysOut { .. }) => Ok(0),
+        Err(KeyErr::Memory) => Err(Memory),
+    }
+}
+
+fn once(alloc: Global, task: &Task, machine: &Machine, graph: &Graph) -> Result<u64, Memory> {
+    match task.what {
+        "keys" => given(alloc, graph),
+        "curve" => Ok(curve(alloc, task.count)?.len() as u64),
+        _ => placed(alloc, machine, graph),
+    }
+}
+
+// The last answer of so many turns.
+fn answer(alloc: Global, task: &Task) -> Result<u64, Memory> {
+    let machine = machine(alloc, task)?;
+    let graph = graph(alloc, task)?;
+    let mut last = 0;
+    for _ in 0..task.turns {
+        last = once(alloc, task, &machine, &graph)?;
+    }
+    Ok(last)
+}
+
+fn number(word: &str) -> u32 {
+    match word.parse::<u32>() {
+        Ok(number) => number,
+        Err(_) => 0,
+    }
+}
+
+fn main(rt: HostRuntime) -> ExitCode {
+    let Ok(all) = env::args(&rt) else { return ExitCode::from(1) };
+    let Ok(words) = all.skip(1).collect::<Vec<String>>(rt.alloc()) else { return ExitCode::from(1) };
+    if words.len() < 5 {
+        return ExitCode::from(2);
+    }
+    let task = Task {
+        what: words[0].as_str(),
+        count: number(words[1].as_str()),
+        width: number(words[2].as_str()) as u8,
+        height: number(words[3].as_str()) as u8,
+        turns: number(words[4].as_str()),
+    };
+    let Ok(last) = answer(rt.alloc(), &task) else { return ExitCode::from(9) };
+    let Ok(_) = println!(rt; "{last}") else { return ExitCode::from(4) };
+    ExitCode::from(0)
+}
+"""
 
 
-def job(vertices, nets):
-    machine = {"width": 64, "height": 64}
-    return {"version": 1, "machine": machine, "graph": {"vertices": vertices, "nets": nets}, "run": {"packets": []}}
+def program_in(room):
+    """Compiles the program in a copy of the repository with one crate more."""
+    os.makedirs(f"{room}/crates/bench_placement/src")
+    for name in os.listdir(f"{ROOT}/crates"):
+        os.symlink(f"{ROOT}/crates/{name}", f"{room}/crates/{name}")
+    with open(f"{ROOT}/crates.txt", encoding="utf-8") as lines, open(f"{room}/crates.txt", "w", encoding="utf-8") as copy:
+        copy.write(lines.read() + LINE)
+    with open(f"{room}/crates/bench_placement/src/main.rt", "w", encoding="utf-8") as source:
+        source.write(PROGRAM)
+    launcher.main(room, "bench_placement")
+    return f"{room}/out/spin"
 
 
-def crowded():
-    return job([{"name": f"v{i}"} for i in range(16384)], [])
+def processor_time():
+    """Of all programs that were run and have ended: other work on the machine does not count."""
+    used = resource.getrusage(resource.RUSAGE_CHILDREN)
+    return used.ru_utime + used.ru_stime
 
 
-def short_of_memory():
-    # One vertex takes all memory of each of the first 2,048 chips. Each later one must go past them all.
-    full = [{"name": f"v{i}", "sdram": ALL_MEMORY} for i in range(2048)]
-    return job(full + [{"name": f"v{i}", "sdram": 1} for i in range(2048, 16384)], [])
+def timed(program, *words):
+    """The least processor time of three runs, in milliseconds, and what the program wrote."""
+    times = []
+    for _ in range(3):
+        before = processor_time()
+        done = subprocess.run([program, *map(str, words)], capture_output=True, check=True)
+        times.append((processor_time() - before) * 1000)
+    return min(times), done.stdout.decode().strip()
 
 
-def mixed_nets():
-    nets = [{"name": f"n{i}", "source": f"v{i}", "targets": [f"v{i}"], "keys": 2 ** (7 * i % 20) + 1} for i in range(4096)]
-    return job([{"name": f"v{i}"} for i in range(4096)], nets)
-
-
-def timed(name, value):
-    with tempfile.TemporaryFile() as source:
-        source.write(json.dumps(value, separators=(",", ":")).encode())
-        for turn in range(3):
-            source.seek(0)
-            begun = time.monotonic()
-            done = subprocess.run([f"{ROOT}/spin", "tables"], stdin=source, capture_output=True)
-            if done.returncode == 10:
-                print(f"{name}: the command is not built yet")
-                return
-            print(f"{name}: {time.monotonic() - begun:.2f} s, status {done.returncode}: {done.stdout.splitlines()[-1].decode()}")
+def show(program, title, turns, *words):
+    base, _ = timed(program, *words, 0)
+    spent, wrote = timed(program, *words, turns)
+    last = int(wrote)
+    if title.startswith("place"):
+        wrote = f"the last on ({last // 10000}, {last // 100 % 100}), core {last % 100}"
+    print(f"{title:68}{(spent - base) / turns:8.3f} ms   {wrote}")
 
 
 def main():
-    timed("16,384 vertices on 4,096 chips", crowded())
-    timed("16,384 vertices, half of the chips short of memory", short_of_memory())
-    timed("4,096 nets of mixed sizes", mixed_nets())
+    with tempfile.TemporaryDirectory(prefix="bench-placement-") as room:
+        program = program_in(room)
+        for level in (4, 5, 6):
+            show(program, f"curve: {4 ** level:,} chips", 4000, "curve", level, 1, 1)
+        for count, width, height in ((4096, 32, 32), (8192, 64, 32), (16384, 64, 64)):
+            size = f"{count:,} vertices on {width * height:,} chips"
+            show(program, f"place: {size}", 100, "crowded", count, width, height)
+            show(program, f"place: {size}, the memory of half of them full", 100, "short", count, width, height)
+        for count in (1024, 2048, 4096):
+            show(program, f"keys: {count:,} nets of mixed sizes", 500, "keys", count, 1, 1)
 
 
 if __name__ == "__main__":
