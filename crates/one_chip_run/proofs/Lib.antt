@@ -1,3 +1,4 @@
+pub mod Edgeless
 pub mod Facts
 pub mod Loops
 pub mod Opened

@@ -36,12 +36,13 @@ use Rattle.mesh_core.proofs.EventsLaw.{events_keep_job}
 use Rattle.mesh_core.proofs.OpenedLaw.{opened_meets_ledger}
 use Rattle.mesh_core.proofs.ServingLaws.{vertex_at-below}
 use Rattle.mesh_core.proofs.Ways.{vertex_at_stands}
-use Rattle.one_chip_run.specs.OnOneChip.{the_chip, IsOneChip, AreEdgeless, AreSources}
+use Rattle.one_chip_run.specs.OnOneChip.{the_chip, IsOneChip, AreSources}
 use Rattle.one_chip_run.specs.HasRun.{HasRun, DropsNone}
 use Rattle.one_chip_run.specs.DrainEvents.{send_events, collect_events, serve_events, hand_events, after_packet, after_packets, outs_in}
 use Rattle.one_chip_run.proofs.Quiet.{state, EachCoreOf, packet_served, after_events-append}
 use Rattle.one_chip_run.proofs.Unsent.{unsent_from, copies_from, first_of_source, rest_of_source, at_start}
 use Rattle.one_chip_run.proofs.Facts.{right_route}
+use Rattle.one_chip_run.proofs.Edgeless.{without_edge}
 
 -- ---- none of the events drops a copy
 
@@ -150,7 +151,7 @@ module _ (m : Description) (spots : List Spot) (tables : List (List Entry)) (cap
   }
 
   module _ (packets : List Packet) (sources : List ℕ) (of_nets : AreOfNets nets packets) (source_of : AreSources spots nets sources)
-      (stand : AreNetsOf (opened_mesh m spots tables cap nets packets) nets) (right : AreRight m tables nets) (edgeless : AreEdgeless nets) where
+      (stand : AreNetsOf (opened_mesh m spots tables cap nets packets) nets) (right : AreRight m tables nets) where
     abbrev opened : State
     opened = opened_mesh m spots tables cap nets packets
 
@@ -172,7 +173,7 @@ module _ (m : Description) (spots : List Spot) (tables : List (List Entry)) (cap
         let x : net.tree.root.x ≡ 0 = one_place net.tree.root.x (subst (λ n. net.tree.root.x < n) one.one_wide (ltb-true _ _ inside.0)) in
         let y : net.tree.root.y ≡ 0 = one_place net.tree.root.y (subst (λ n. net.tree.root.y < n) one.one_high (ltb-true _ _ inside.1)) in
         let here : net.tree.root ≡ the_chip = chip_same x y in
-        let edges : net.tree.edges ≡ [] = All-contains (λ n. n.tree.edges ≡ []) nets net edgeless in_nets in
+        let edges : net.tree.edges ≡ [] = without_edge m one net.tree.root net.tree.edges net.targets tree in
         let targets : All (Contains spots) net.targets = All-contains (λ n. All (Contains spots) n.targets) nets net stand.targets in_nets in
         let routes : RoutesByTree m tables net = All-contains (RoutesByTree m tables) nets net right in_nets in
         let key : ℕ = net.block.key + p.index in

@@ -1,5 +1,5 @@
 -- Machines of one chip, and nets on them.
-use Rattle.std.specs.Prelude.{◌≡◌, ℕ, List, [], All, Some, slice_get}
+use Rattle.std.specs.Prelude.{◌≡◌, ℕ, List, Some, slice_get}
 use Rattle.spin_base.specs.declared.chips.Chip.{Chip}
 use Rattle.spin_base.specs.declared.chips.Spot.{Spot}
 use Rattle.machine_desc.specs.Description.{Description}
@@ -14,10 +14,6 @@ the_chip = record { x = 0; y = 0 }
 pub record IsOneChip (m : Description) : Type 0 where
   pub one_wide : m.width ≡ 1
   pub one_high : m.height ≡ 1
-
--- A tree on one chip has no edge.
-abbrev pub AreEdgeless : List NetPlan → Type 0
-AreEdgeless nets = All (λ net. net.tree.edges ≡ []) nets
 
 -- the numbers are those of the vertices on the nets' source cores
 abbrev pub AreSources : List Spot → List NetPlan → List ℕ → Type 0

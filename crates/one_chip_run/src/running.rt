@@ -8,7 +8,7 @@ ghost use Rattle.mesh_core.specs.Step.{after_events};
 ghost use Rattle.mesh_core.specs.Ledger.{AreNetsOf};
 ghost use Rattle.mesh_core.specs.Opened.{opened_mesh, AreOfNets, MeetsJobLedger};
 ghost use Rattle.mesh_core.specs.Expected.{AreAsExpected};
-ghost use Rattle.one_chip_run.specs.OnOneChip.{the_chip, IsOneChip, AreEdgeless, AreSources};
+ghost use Rattle.one_chip_run.specs.OnOneChip.{the_chip, IsOneChip, AreSources};
 ghost use Rattle.one_chip_run.specs.DrainEvents.{serve_events, hand_events, outs_in, after_packet};
 ghost use Rattle.one_chip_run.specs.HasRun.{HasRun};
 
@@ -42,14 +42,13 @@ pub fn run_packets(
     requires one_chip { IsOneChip machine }
     requires different { AllPairs (λ a b. a ≢ b) spots.now }
     requires usable { All (IsUsable machine) spots.now }
-    requires few_vertices { length spots.now ≤ 17 }
+    requires few_vertices { length spots.now ≤ 4294967295 }
     requires room { 1 ≤ queue }
     requires few { length packets.now ≤ 65536 }
     requires of_nets { AreOfNets nets.now packets.now }
     requires sources { AreSources spots.now nets.now sources.now }
     requires stand { AreNetsOf (opened_mesh machine spots.now (table ∷ []) queue nets.now packets.now) nets.now }
     requires right { AreRight machine (table ∷ []) nets.now }
-    requires edgeless { AreEdgeless nets.now }
     ensures run { IfOk result (λ mesh. HasRun (opened_mesh machine spots.now (table ∷ []) queue nets.now packets.now) mesh) }
     ensures ledger { IfOk result (λ mesh. MeetsJobLedger mesh nets.now packets.now) }
     ensures delivered { IfOk result (λ mesh. AreAsExpected mesh nets.now packets.now) }
@@ -71,7 +70,7 @@ fn send_packet(mesh: &mut Mesh, spots: &[Spot], vertex: u32) -> Result<(), Memor
     requires inside { IsInside mesh.old.machine the_chip }
     requires one_chip { IsOneChip mesh.old.machine }
     requires spots { mesh.old.spots ≡ spots.now }
-    requires few { length spots.now ≤ 17 }
+    requires few { length spots.now ≤ 4294967295 }
     ensures packet { OnOk result (mesh.new ≡ after_packet mesh.old vertex) }
     ensures machine { mesh.new.machine ≡ mesh.old.machine }
     ensures vertices { mesh.new.spots ≡ mesh.old.spots }
@@ -86,7 +85,7 @@ fn serve_hand(mesh: &mut Mesh, spots: &[Spot]) -> Result<(), Memory>
     requires inside { IsInside mesh.old.machine the_chip }
     requires one_chip { IsOneChip mesh.old.machine }
     requires spots { mesh.old.spots ≡ spots.now }
-    requires few { length spots.now ≤ 17 }
+    requires few { length spots.now ≤ 4294967295 }
     ensures served { OnOk result (mesh.new ≡ after_events mesh.old (hand_events mesh.old)) }
     ensures machine { mesh.new.machine ≡ mesh.old.machine }
     ensures vertices { mesh.new.spots ≡ mesh.old.spots }
@@ -112,7 +111,7 @@ fn held_outs(mesh: &Mesh) -> Result<Outs, Memory>
 
 // The router sends its copy to a core, and the vertex there takes it.
 fn serve(mesh: &mut Mesh, spots: &[Spot], out: Out) -> Result<(), Memory>
-    requires few { length spots.now ≤ 17 }
+    requires few { length spots.now ≤ 4294967295 }
     ensures served { OnOk result (mesh.new ≡ after_events mesh.old (serve_events spots.now out)) }
     ensures machine { mesh.new.machine ≡ mesh.old.machine }
     ensures vertices { mesh.new.spots ≡ mesh.old.spots }

@@ -1,18 +1,24 @@
 -- When compiling is refused, and how the nets of a plan stand on a mesh (this project's own).
-use Rattle.std.specs.Prelude.{ℕ, List, map}
+use Rattle.std.specs.Prelude.{◌≡◌, ◌≢◌, ℕ, ◌*◌, ◌++◌, List, length, map, All, AllPairs}
+use Rattle.std.specs.List.{AllZip, zip}
 use Rattle.spin_base.specs.declared.blocks.Block.{Block}
 use Rattle.spin_base.specs.declared.blocks.Entry.{Entry}
 use Rattle.spin_base.specs.declared.chips.Chip.{Chip}
 use Rattle.spin_base.specs.declared.chips.Spot.{Spot}
 use Rattle.spin_base.specs.declared.copies.Packet.{Packet}
 use Rattle.machine_desc.specs.Description.{Description}
+use Rattle.machine_desc.specs.Live.{IsUsable}
 use Rattle.app_graph.specs.declared.graphs.Graph.{Graph}
 use Rattle.net_tables.specs.declared.nets.NetPlan.{NetPlan}
 use Rattle.mesh_core.specs.Ledger.{AreNetsOf}
 use Rattle.mesh_core.specs.Opened.{opened_mesh}
 use Rattle.place_fit.specs.Placement.{IsPlacement, HasNoRoom}
-use Rattle.key_alloc.specs.KeyBlocks.{AreKeysOut, AreRightBlocks}
-use Rattle.net_plans.specs.NetPlans.{IsFirstCutOff}
+use Rattle.key_alloc.specs.KeyBlocks.{AreKeysOut, AreRightBlocks, HasKeys}
+use Rattle.net_tables.specs.RightTables.{AreRight}
+use Rattle.tern_word.specs.declared.tables.Table.{Table}
+use Rattle.net_plans.specs.NetPlans.{IsFirstCutOff, IsPlanned}
+use Rattle.plain_tables.specs.PlainTable.{entries, AtEach, IsPlainTable}
+use Rattle.par_compile.specs.declared.compiling.Plan.{Plan}
 use Rattle.par_compile.specs.declared.compiling.CompileErr.{CompileErr}
 use Rattle.par_compile.specs.declared.compiling.CompileErr.TheVariants.{NoRoom, KeysOut, CutOff, Memory}
 
@@ -45,3 +51,20 @@ IsCause m graph Memory = Unit {0}
 abbrev pub StandOn : Description → List Spot → List NetPlan → Type 0
 StandOn m spots nets =
     (tables : List (List Entry)) (capacity : ℕ) (packets : List Packet) → AreNetsOf (opened_mesh m spots tables capacity nets packets) nets
+
+-- What a plan of a graph on a machine is. Each vertex stands on the first chip with room, each net has the least free
+-- aligned range of keys, its targets, and its tree with the detours round what is dead; each chip has its plain table.
+-- With that the tables are right for the nets, also where other entries follow their rows, and the nets stand on the
+-- machine's mesh.
+pub record IsPlanOf (m : Description) (graph : Graph) (plan : Plan) : Type 0 where
+  pub placed : IsPlacement m graph.vertices plan.placement.spots plan.placement.memory
+  pub different : AllPairs (λ a b. a ≢ b) plan.placement.spots
+  pub usable : All (IsUsable m) plan.placement.spots
+  pub blocks : AreRightBlocks graph.nets (blocks_of plan.nets)
+  pub enough : AllZip HasKeys graph.nets (blocks_of plan.nets)
+  pub nets : AllZip (IsPlanned m plan.placement.spots) (zip graph.nets (blocks_of plan.nets)) plan.nets
+  pub stand : StandOn m plan.placement.spots plan.nets
+  pub one_table_each : length plan.tables ≡ m.width * m.height
+  pub plain : AtEach m plan.tables (IsPlainTable m plan.nets)
+  pub right : AreRight m (map entries plan.tables) plan.nets
+  pub followed : (rest : Table → List Entry) → AreRight m (map (λ (t : Table). entries t ++ rest t) plan.tables) plan.nets

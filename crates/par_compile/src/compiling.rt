@@ -1,17 +1,8 @@
 // The stages of compiling, one after the other.
-ghost use Rattle.std.specs.Prelude.{◌≡◌, ◌≢◌, ◌*◌, ◌++◌, List, All, AllPairs, length, map, IfOk, IfErr};
-ghost use Rattle.spin_base.specs.declared.blocks.Entry.{Entry};
-ghost use Rattle.tern_word.specs.declared.tables.Table.{Table};
-ghost use Rattle.std.specs.List.{AllZip, zip};
+ghost use Rattle.std.specs.Prelude.{IfOk, IfErr};
 ghost use Rattle.machine_desc.specs.Description.{HasSize};
-ghost use Rattle.machine_desc.specs.Live.{IsUsable};
 ghost use Rattle.app_graph.specs.ValidGraph.{IsValidGraph};
-ghost use Rattle.key_alloc.specs.KeyBlocks.{AreRightBlocks, HasKeys};
-ghost use Rattle.net_tables.specs.RightTables.{AreRight};
-ghost use Rattle.plain_tables.specs.PlainTable.{entries, AtEach, IsPlainTable};
-ghost use Rattle.net_plans.specs.NetPlans.{IsPlanned};
-ghost use Rattle.place_fit.specs.Placement.{IsPlacement};
-ghost use Rattle.par_compile.specs.Compiled.{blocks_of, IsCause, StandOn};
+ghost use Rattle.par_compile.specs.Compiled.{IsCause, IsPlanOf};
 
 use app_graph::Graph;
 use key_alloc::{KeyErr, keys};
@@ -48,7 +39,7 @@ pub enum CompileErr {
 
 /// The plan of a graph on a machine: first fit along the chip order for vertices, the least free aligned range of keys for
 /// each net, for each net the tree that grows from its source's chip to its targets, with detours round what is dead, and
-/// the plain table of each chip.
+/// the plain table of each chip. The tables are right for the nets.
 ///
 /// # Errors
 ///
@@ -57,17 +48,7 @@ pub enum CompileErr {
 /// `Memory` where memory runs out.
 pub fn compile(alloc: Global, machine: &Machine, graph: &Graph) -> Result<Plan, CompileErr>
     requires { IsValidGraph graph.now }
-    ensures placed { IfOk result (λ plan. IsPlacement machine.now graph.now.vertices plan.placement.spots plan.placement.memory) }
-    ensures blocks { IfOk result (λ plan. AreRightBlocks graph.now.nets (blocks_of plan.nets)) }
-    ensures nets { IfOk result (λ plan. AllZip (IsPlanned machine.now plan.placement.spots) (zip graph.now.nets (blocks_of plan.nets)) plan.nets) }
-    ensures different { IfOk result (λ plan. AllPairs (λ a b. a ≢ b) plan.placement.spots) }
-    ensures usable { IfOk result (λ plan. All (IsUsable machine.now) plan.placement.spots) }
-    ensures enough { IfOk result (λ plan. AllZip HasKeys graph.now.nets (blocks_of plan.nets)) }
-    ensures stand { IfOk result (λ plan. StandOn machine.now plan.placement.spots plan.nets) }
-    ensures tables { IfOk result (λ plan. length plan.tables ≡ machine.now.width * machine.now.height) }
-    ensures plain { IfOk result (λ plan. AtEach machine.now plan.tables (IsPlainTable machine.now plan.nets)) }
-    ensures right { IfOk result (λ plan. AreRight machine.now (map entries plan.tables) plan.nets) }
-    ensures followed { IfOk result (λ plan. (rest : Table → List Entry) → AreRight machine.now (map (λ (t : Table). entries t ++ rest t) plan.tables) plan.nets) }
+    ensures plan { IfOk result (IsPlanOf machine.now graph.now) }
     ensures cause { IfErr result (IsCause machine.now graph.now) }
 {
     let placement = match place(alloc, machine, graph) {

@@ -1,6 +1,6 @@
 -- The text of a report, line by line. The format is this project's own.
 use Rattle.std.specs.Prelude.{ℕ, zero, suc, ◌/◌, ◌%◌, List, [], ◌∷◌, ◌++◌, length, false, Option, Some, None, codes, decimal}
-use Rattle.std.specs.List.{flat_map}
+use Rattle.std.specs.List.{flat_map, sum_by}
 use Rattle.std.specs.Fmt.{digit_glyph}
 use Rattle.spin_base.specs.declared.chips.Spot.{Spot}
 use Rattle.spin_base.specs.declared.chips.Dir.{Dir}
@@ -104,3 +104,15 @@ end_line r = line (codes "end" ∷ codes "delivered" ∷ decimal (length r.deliv
 abbrev pub report_text : Report → List ℕ
 report_text r = flat_map place_line r.placed ++ flat_map keys_line r.keys ++ flat_map table_lines r.tables
     ++ flat_map got_line r.delivered ++ flat_map dump_line r.dumped ++ flat_map wait_line r.waiting ++ end_line r
+
+-- ---- the text of a plan
+
+-- the number of rows of all tables
+abbrev pub row_total : List ChipTable → ℕ
+row_total tables = sum_by (λ (t : ChipTable). length t.entries) tables
+
+-- The text of a plan that is not run: the same lines of vertices, nets and tables, and a last line with the number of rows
+-- of all tables.
+abbrev pub plan_text : List (List ℕ × Spot) → List (List ℕ × Block) → List ChipTable → List ℕ
+plan_text placed keys tables = flat_map place_line placed ++ flat_map keys_line keys ++ flat_map table_lines tables
+    ++ line (codes "end" ∷ codes "rows" ∷ decimal (row_total tables) ∷ [])

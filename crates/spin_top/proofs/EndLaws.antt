@@ -1,221 +1,301 @@
 -- What follows from how a call ends.
-use Rattle.std.proofs.Common.{◌≡◌, ◌⊎◌, ℕ, List, [], ◌∷◌, length, String, Option, Some, None, IfSome, is_some, refl, sym, ap, ◌∙◌, subst, arith, inl, inr}
+use Rattle.std.proofs.Common.{◌≡◌, ◌⊎◌, ℕ, List, [], length, String, Option, Some, None, Result, Ok, Err, IfErr, IfSome, is_some, refl, sym, ap, ◌∙◌, subst, inl, inr, All}
 use Rattle.std.specs.declared.alloc.Global.{Global}
+use Rattle.spin_base.specs.declared.chips.Chip.{Chip}
 use Rattle.spin_base.specs.Outside.{FaultsRose, Takes, TakesProperPrefix}
 use Rattle.mesh_core.specs.State.{State}
+use Rattle.job_readers.specs.declared.jobs.Job.{Job}
 use Rattle.run_report.specs.declared.reports.Report.{Report}
-use Rattle.run_report.specs.ReportText.{report_text}
-use Rattle.one_chip_jobs.specs.declared.small_jobs.SmallJob.{SmallJob}
-use Rattle.one_chip_plan.specs.declared.plans.Plan.{Plan}
+use Rattle.par_compile.specs.declared.compiling.Plan.{Plan}
+use Rattle.par_compile.specs.Compiled.{HasCutOff, IsPlanOf}
+use Rattle.job_runs.specs.OpenedFor.{Fits}
 use Rattle.spin_top.specs.declared.commands.Command.{Command}
 use Rattle.spin_top.specs.declared.commands.Command.TheVariants.{Run, Trace, Compile, Tables, Gen}
 use Rattle.spin_top.specs.declared.outcomes.Outcome.{Outcome}
 use Rattle.spin_top.specs.declared.outcomes.Refusal.{Refusal}
-use Rattle.spin_top.specs.declared.outcomes.Refusal.TheVariants.{Usage, ReadFault, WriteFault, Memory, Unbuilt}
-use Rattle.spin_top.specs.Calls.{WhereGiven, GivesAllParts, GivesFor, Writes, HasSmallJob, TellsNoSmallJob, IsRefused, ComesUsage, ComesUnbuilt}
-use Rattle.spin_top.specs.Commands.{Spells, texts_of, IsCommand, IsOtherCommand}
-use Rattle.spin_top.specs.Ends.{Ends, reported, report_cut, refused, refusal_cut, GivesNoPart, GivesParts, HasCause, HasNoSmallJob, IsRun, ReadsJob}
+use Rattle.spin_top.specs.declared.outcomes.Refusal.TheVariants as refusals
+use Rattle.spin_top.specs.Causes.{Serves, HasNoBuiltPlan, cut_off, long_table, IsRefused, unread, unserved, no_plan, IsRefusedLate, HasCauseFor, HasCause, no_command, not_built, of_command, no_memory, HasNoPlan, no_room, keys_out}
+use Rattle.spin_top.specs.Commands.{Spells, texts_of, IsCommand, IsBuilt, IsRun, IsTables}
+use Rattle.spin_top.specs.Ends.{Ends, done, cut, refused, refusal_cut, Makes, GivesNoPart}
+use Rattle.spin_top.specs.Given.{WhereGiven, WhereRun, GivesAll, IsGiven, IsCut, IsWritten, IsCaused, IsRefusedAs, IsRefusedWhere, HasAnswer}
+use Rattle.spin_top.specs.Jobs.{IsOfText}
 use Rattle.spin_top.specs.Outcomes.{line_of, status_at}
-use Rattle.spin_top.specs.Runs.{IsMadeOf}
+use Rattle.spin_top.specs.Runs.{IsMade, IsOutputOf, IsRunOf, output_text}
+use Rattle.spin_top.proofs.Exclusive.{one_command, serves_built, same_job, IsReady, refused_not_ready, one_refusal, ready_late, ready_made}
 
--- ---- words
+-- what each error has, each error has that has more
+pub err_weaker : {A E : Type 0} (r : Result A E) (P Q : E → Type 0) → ((e : E) → P e → Q e) → IfErr r P → IfErr r Q
+err_weaker (Ok x) P Q more has = has
+err_weaker (Err e) P Q more has = more e has
 
-first_length : List (List ℕ) → ℕ
-first_length [] = 0
-first_length (w ∷ ws) = length w
+-- ---- a fault of writing is no cause
 
-differ : (a b : ℕ) → (a ≡ b → ⊥) → (u v : List (List ℕ)) → first_length u ≡ a → first_length v ≡ b → u ≡ v → ⊥
-differ a b apart u v ua vb same = apart (sym ua ∙ (ap first_length same ∙ vb))
+no_text : (r : Refusal) → IsOfText r → r ≡ refusals.WriteFault → ⊥
+no_text r text is = subst IsOfText is text
 
-not_run : (words : List (List ℕ)) (c : Command) → (c ≡ Run → ⊥) → Spells words c → Spells words Run → ⊥
-unfolding first_length
-not_run words Run other is run = other refl
-not_run words Trace other is run = differ 5 3 (λ e. omega (arith, e)) words words (ap first_length is) (ap first_length run) refl
-not_run words Compile other is run = differ 7 3 (λ e. omega (arith, e)) words words (ap first_length is) (ap first_length run) refl
-not_run words Tables other is run = differ 6 3 (λ e. omega (arith, e)) words words (ap first_length is) (ap first_length run) refl
-not_run words (Gen n) other is run =
-    let two : length words ≡ 2 = ap length is.0 in
-    let one : length words ≡ 1 = ap length run in
-    omega (arith, two, one)
+no_write_no_plan : (job : Job) (r : Refusal) → HasNoPlan job r → r ≡ refusals.WriteFault → ⊥
+no_write_no_plan job r none is = elim none [
+  | no_room i v room at e ↦ cc
+  | keys_out i net placed out at e ↦ cc
+]
 
-other_is_not_run : (words : List (String Global)) → IsOtherCommand words → IsRun words → ⊥
-other_is_not_run words other run = not_run (texts_of words) other.0 other.1 other.2 run
+no_write_late : (job : Job) (r : Refusal) → HasNoBuiltPlan job r → r ≡ refusals.WriteFault → ⊥
+no_write_late job r none is = elim none [
+  | cut_off i net target has at e ↦ cc
+  | long_table plan is_plan long e ↦ cc
+]
 
-run_is_command : (words : List (String Global)) → IsRun words → IsCommand words
-run_is_command words run = (Run, run)
+no_write_refused : (c : Command) (left : Option (List ℕ)) (r : Refusal) → IsRefused c left r → r ≡ refusals.WriteFault → ⊥
+no_write_refused c left r ref is = elim ref [
+  | unread text told ↦ no_text r text is
+  | unserved job tells not e ↦ cc
+  | no_plan job tells served none ↦ no_write_no_plan job r none is
+]
 
-other_is_command : (words : List (String Global)) → IsOtherCommand words → IsCommand words
-other_is_command words other = (other.0, other.2)
+no_write_for : (c : Command) (left : Option (List ℕ)) (reads reads' : ℕ) (r : Refusal) → HasCauseFor c left reads reads' r → r ≡ refusals.WriteFault → ⊥
+no_write_for c left reads reads' r (inl ref) is = no_write_refused c left r ref is
+no_write_for c left reads reads' r (inr (inl late)) is = no_write_late late.0 r late.3 is
+no_write_for c left reads reads' r (inr (inr (inl fault))) is = let e = fault.0 in cc
+no_write_for c left reads reads' r (inr (inr (inr memory))) is = cc
 
--- ---- bytes
-
-small_or_not : (left : Option (List ℕ)) → HasSmallJob left → HasNoSmallJob left → ⊥
-small_or_not (Some bytes) small (inl long) = let few = small.0 in omega (arith, few, long)
-small_or_not (Some bytes) small (inr none) = let job = small.1.1 in cc
-small_or_not None small none = small
-
-told_none : (left : Option (List ℕ)) (rest : Option (List ℕ)) (job : SmallJob) → TellsNoSmallJob left → ReadsJob left job rest → ⊥
-told_none (Some bytes) rest job (inl long) reads = let few = reads.0 in omega (arith, few, long)
-told_none (Some bytes) rest job (inr none) reads = let is = reads.1 in cc
-told_none None rest job none reads = none
+no_write_cause : (words : List (String Global)) (left : Option (List ℕ)) (reads reads' : ℕ) (r : Refusal) → HasCause words left reads reads' r → r ≡ refusals.WriteFault → ⊥
+no_write_cause words left reads reads' r cause is = elim cause [
+  | no_command none e ↦ cc
+  | not_built c spelled un e ↦ cc
+  | of_command c spelled built has ↦ no_write_for c left reads reads' r has is
+  | no_memory e ↦ cc
+]
 
 -- ---- parts
 
-module _ (o : Outcome) (P : SmallJob → Plan → State → Report → Type 0) where
-  where_given : (job : SmallJob) (plan : Plan) (mesh : State) (report : Report) → GivesParts o job plan mesh report → P job plan mesh report → WhereGiven o P
-  where_given job plan mesh report parts holds =
-      subst (λ x. IfSome x (λ job. IfSome o.plan (λ plan. IfSome o.mesh (λ mesh. IfSome o.report (λ report. P job plan mesh report))))) (sym parts.job_is)
-      (subst (λ x. IfSome x (λ plan. IfSome o.mesh (λ mesh. IfSome o.report (λ report. P job plan mesh report)))) (sym parts.plan_is)
-      (subst (λ x. IfSome x (λ mesh. IfSome o.report (λ report. P job plan mesh report))) (sym parts.mesh_is)
-      (subst (λ x. IfSome x (λ report. P job plan mesh report)) (sym parts.report_is) holds)))
+module _ (o : Outcome) where
+  where_given : (P : Job → Plan → Type 0) (job : Job) (plan : Plan) → o.job ≡ Some job → o.plan ≡ Some plan → P job plan → WhereGiven o P
+  where_given P job plan job_is plan_is holds =
+      subst (λ x. IfSome x (λ job. IfSome o.plan (λ plan. P job plan))) (sym job_is)
+      (subst (λ x. IfSome x (λ plan. P job plan)) (sym plan_is) holds)
 
-  nowhere_given : GivesNoPart o → WhereGiven o P
-  nowhere_given none =
-      subst (λ x. IfSome x (λ job. IfSome o.plan (λ plan. IfSome o.mesh (λ mesh. IfSome o.report (λ report. P job plan mesh report))))) (sym none.0) tt
+  nowhere_given : (P : Job → Plan → Type 0) → GivesNoPart o → WhereGiven o P
+  nowhere_given P none = subst (λ x. IfSome x (λ job. IfSome o.plan (λ plan. P job plan))) (sym none.0) tt
 
-all_parts : (o : Outcome) (job : SmallJob) (plan : Plan) (mesh : State) (report : Report) → GivesParts o job plan mesh report → GivesAllParts o
-all_parts o job plan mesh report parts = (ap is_some parts.job_is, ap is_some parts.plan_is, ap is_some parts.mesh_is, ap is_some parts.report_is)
+  run_given : (c : Command) (job : Job) (plan : Plan) (text : List ℕ) → IsOutputOf c job plan o.mesh o.report text → (Q : State → Report → Type 0) →
+      ((mesh : State) (report : Report) → IsRunOf job plan mesh report → Q mesh report) → IfSome o.mesh (λ mesh. IfSome o.report (λ report. Q mesh report))
+  run_given Run job plan text (m, r, mesh_is, report_is, run, text_is) Q from =
+      subst (λ x. IfSome x (λ mesh. IfSome o.report (λ report. Q mesh report))) (sym mesh_is)
+      (subst (λ x. IfSome x (λ report. Q m report)) (sym report_is) (from m r run))
+  run_given Tables job plan text (no_mesh, no_report, text_is) Q from = subst (λ x. IfSome x (λ mesh. IfSome o.report (λ report. Q mesh report))) (sym no_mesh) tt
+  run_given Trace job plan text out Q from = absurd out
+  run_given Compile job plan text out Q from = absurd out
+  run_given (Gen n) job plan text out Q from = absurd out
 
--- ---- clauses
+  output_is : (c : Command) (job : Job) (plan : Plan) (text : List ℕ) → IsOutputOf c job plan o.mesh o.report text → text ≡ output_text o.report job plan
+  output_is Run job plan text (m, r, mesh_is, report_is, run, text_is) = text_is ∙ sym (ap (λ x. output_text x job plan) report_is)
+  output_is Tables job plan text (no_mesh, no_report, text_is) = text_is ∙ sym (ap (λ x. output_text x job plan) no_report)
+  output_is Trace job plan text out = absurd out
+  output_is Compile job plan text out = absurd out
+  output_is (Gen n) job plan text out = absurd out
 
-module _ (words : List (String Global)) (left rest : Option (List ℕ)) (reads reads' : ℕ) (written more : Option (List ℕ)) (writes writes' : ℕ) (o : Outcome)
-    (ends : Ends words left rest reads reads' written more writes writes' o) where
-  -- what holds of all that is made holds of what is given
-  pub made_clause : (P : SmallJob → Plan → State → Report → Type 0) →
-      ((job : SmallJob) (plan : Plan) (mesh : State) (report : Report) → IsRun words → ReadsJob left job rest → IsMadeOf job plan mesh report → P job plan mesh report) →
-      WhereGiven o P
-  made_clause P from = elim ends [
-    | reported job plan mesh report run read made parts none takes ↦ where_given o P job plan mesh report parts (from job plan mesh report run read made)
-    | report_cut job plan mesh report run read made parts cut takes rose ↦ where_given o P job plan mesh report parts (from job plan mesh report run read made)
-    | refused r cause is parts takes ↦ nowhere_given o P parts
-    | refusal_cut r cause is parts takes rose ↦ nowhere_given o P parts
-  ]
-
-  given_none : (r : Refusal) → HasCause words left reads reads' r → GivesNoPart o → GivesFor (Some r) o
-  given_none Usage cause parts = parts
-  given_none ReadFault cause parts = parts
-  given_none WriteFault cause parts = absurd cause
-  given_none Memory cause parts = parts
-  given_none Unbuilt cause parts = parts
-
-  pub given_clause : GivesFor o.refusal o
-  given_clause = elim ends [
-    | reported job plan mesh report run read made parts none takes ↦ subst (λ r. GivesFor r o) (sym none) (all_parts o job plan mesh report parts)
-    | report_cut job plan mesh report run read made parts cut takes rose ↦ subst (λ r. GivesFor r o) (sym cut) (inl (all_parts o job plan mesh report parts))
-    | refused r cause is parts takes ↦ subst (λ x. GivesFor x o) (sym is) (given_none r cause parts)
-    | refusal_cut r cause is parts takes rose ↦ subst (λ x. GivesFor x o) (sym is) (inr parts)
-  ]
-
-  writes_line : (r : Refusal) → HasCause words left reads reads' r → Takes written (line_of r) more → Writes words left reads reads' written more (Some r) o
-  writes_line Usage cause takes = takes
-  writes_line ReadFault cause takes = takes
-  writes_line WriteFault cause takes = absurd cause
-  writes_line Memory cause takes = takes
-  writes_line Unbuilt cause takes = takes
-
-  pub written_clause : Writes words left reads reads' written more o.refusal o
-  written_clause = elim ends [
-    | reported job plan mesh report run read made parts none takes ↦
-        subst (λ r. Writes words left reads reads' written more r o) (sym none)
-        (where_given o (λ job plan mesh report. Takes written (report_text report) more) job plan mesh report parts takes)
-    | report_cut job plan mesh report run read made parts cut takes rose ↦
-        subst (λ r. Writes words left reads reads' written more r o) (sym cut)
-        (inl (ap is_some parts.report_is, where_given o (λ job plan mesh report. TakesProperPrefix written (report_text report) more) job plan mesh report parts takes))
-    | refused r cause is parts takes ↦ subst (λ x. Writes words left reads reads' written more x o) (sym is) (writes_line r cause takes)
-    | refusal_cut r cause is parts takes rose ↦ subst (λ x. Writes words left reads reads' written more x o) (sym is) (inr (parts, (r, cause, takes)))
-  ]
-
-  complete_by : (r : Refusal) → HasCause words left reads reads' r → IsRun words → HasSmallJob left → (FaultsRose reads reads' → ⊥) → r ≡ Memory
-  complete_by Usage cause run small quiet = absurd (cause (run_is_command words run))
-  complete_by ReadFault cause run small quiet = absurd (quiet cause.1)
-  complete_by WriteFault cause run small quiet = absurd cause
-  complete_by Memory cause run small quiet = refl
-  complete_by Unbuilt (inl other) run small quiet = absurd (other_is_not_run words other run)
-  complete_by Unbuilt (inr none) run small quiet = absurd (small_or_not left small none.1)
-
-  pub complete_clause : o.status ≡ status_at o.refusal → IsRun words → HasSmallJob left → (FaultsRose reads reads' → ⊥) → (FaultsRose writes writes' → ⊥) → (o.status ≡ 0) ⊎ (o.status ≡ 9)
-  complete_clause status run small quiet_source quiet_sink = elim ends [
-    | reported job plan mesh report run read made parts none takes ↦ inl (status ∙ ap status_at none)
-    | report_cut job plan mesh report run read made parts cut takes rose ↦ absurd (quiet_sink rose)
-    | refused r cause is parts takes ↦ inr (status ∙ (ap status_at is ∙ ap (λ x. status_at (Some x)) (complete_by r cause run small quiet_source)))
-    | refusal_cut r cause is parts takes rose ↦ absurd (quiet_sink rose)
-  ]
-
-  some_same : (a b : Refusal) → o.refusal ≡ Some a → o.refusal ≡ Some b → b ≡ a
+  some_same : (a b : Refusal) → o.refusal ≡ Some a → o.refusal ≡ Some b → a ≡ b
   some_same a b ea eb = cc
 
   none_some : (a : Refusal) → o.refusal ≡ None → o.refusal ≡ Some a → ⊥
   none_some a e f = cc
 
-  write_fault_is : (a : Refusal) → o.refusal ≡ Some WriteFault → o.refusal ≡ Some a → a ≡ WriteFault
-  write_fault_is a e f = cc
+  all_given : (words : List (String Global)) (c : Command) (job : Job) (plan : Plan) (text : List ℕ) → Spells (texts_of words) c → o.job ≡ Some job → o.plan ≡ Some plan →
+      IsOutputOf c job plan o.mesh o.report text → GivesAll words o
+  all_given words Run job plan text spelled job_is plan_is (m, r, mesh_is, report_is, run, text_is) =
+      (ap is_some job_is, ap is_some plan_is, inl (spelled, ap is_some mesh_is, ap is_some report_is))
+  all_given words Tables job plan text spelled job_is plan_is (no_mesh, no_report, text_is) = (ap is_some job_is, ap is_some plan_is, inr (spelled, no_mesh, no_report))
+  all_given words Trace job plan text spelled job_is plan_is out = absurd out
+  all_given words Compile job plan text spelled job_is plan_is out = absurd out
+  all_given words (Gen n) job plan text spelled job_is plan_is out = absurd out
 
-  -- the cause of a refusal that is given, but for a fault of writing
-  cause_of : (r : Refusal) → (r ≡ WriteFault → ⊥) → o.refusal ≡ Some r → HasCause words left reads reads' r
-  cause_of r other is = elim ends [
-    | reported job plan mesh report run read made parts none takes ↦ absurd (none_some r none is)
-    | report_cut job plan mesh report run read made parts cut takes rose ↦ absurd (other (write_fault_is r cut is))
-    | refused s cause said parts takes ↦ subst (HasCause words left reads reads') (some_same r s is said) cause
-    | refusal_cut s cause cut parts takes rose ↦ absurd (other (write_fault_is r cut is))
+  named_run : (words : List (String Global)) (c : Command) (job : Job) (plan : Plan) (text : List ℕ) → Spells (texts_of words) c → IsOutputOf c job plan o.mesh o.report text → IsRun words ⊎ IsTables words
+  named_run words Run job plan text spelled out = inl spelled
+  named_run words Tables job plan text spelled out = inr spelled
+  named_run words Trace job plan text spelled out = absurd out
+  named_run words Compile job plan text spelled out = absurd out
+  named_run words (Gen n) job plan text spelled out = absurd out
+
+-- ---- clauses
+
+module _ (words : List (String Global)) (left rest : Option (List ℕ)) (reads reads' : ℕ) (written more : Option (List ℕ)) (writes writes' : ℕ) (o : Outcome)
+    (ends : Ends words left rest reads reads' written more writes writes' o) where
+  abbrev Made : List ℕ → Type 0
+  Made text = Makes words left rest o text
+
+  -- what holds of all that is made holds of what is given
+  pub given_by : (P : Job → Plan → Type 0) → ((text : List ℕ) (m : Makes words left rest o text) → P m.job m.plan) → WhereGiven o P
+  given_by P from = elim ends [
+    | done text m none takes ↦ where_given o P m.job m.plan m.job_is m.plan_is (from text m)
+    | cut text m is takes rose ↦ where_given o P m.job m.plan m.job_is m.plan_is (from text m)
+    | refused r cause is parts takes ↦ nowhere_given o P parts
+    | refusal_cut r cause is parts takes rose ↦ nowhere_given o P parts
   ]
 
-  pub usage_clause : ComesUsage words o
-  usage_clause = record {
-    only = λ is. cause_of Usage (λ e. cc) is;
-    always = λ no_command. elim ends [
-      | reported job plan mesh report run read made parts none takes ↦ absurd (no_command (run_is_command words run))
-      | report_cut job plan mesh report run read made parts cut takes rose ↦ inr cut
-      | refused r cause is parts takes ↦ inl (is ∙ ap Some (must_be r cause no_command))
-      | refusal_cut r cause cut parts takes rose ↦ inr cut
+  pub run_by : (P : Job → Plan → State → Report → Type 0) → ((job : Job) (plan : Plan) (mesh : State) (report : Report) → IsRunOf job plan mesh report → P job plan mesh report) → WhereRun o P
+  run_by P from = given_by (λ job plan. IfSome o.mesh (λ mesh. IfSome o.report (λ report. P job plan mesh report)))
+      (λ text m. run_given o m.command m.job m.plan text m.made.output (P m.job m.plan) (from m.job m.plan))
+
+  gives_all : (text : List ℕ) → Made text → GivesAll words o
+  gives_all text m = all_given o words m.command m.job m.plan text m.spelled m.job_is m.plan_is m.made.output
+
+  pub named : (text : List ℕ) → Made text → IsRun words ⊎ IsTables words
+  named text m = named_run o words m.command m.job m.plan text m.spelled m.made.output
+
+  pub given_clause : IsGiven words o
+  given_clause = record {
+    all = λ none. elim ends [
+      | done text m is takes ↦ gives_all text m
+      | cut text m is takes rose ↦ absurd (none_some o refusals.WriteFault none is)
+      | refused r cause is parts takes ↦ absurd (none_some o r none is)
+      | refusal_cut r cause is parts takes rose ↦ absurd (none_some o refusals.WriteFault none is)
+    ];
+    all_or_none = λ fault. elim ends [
+      | done text m is takes ↦ absurd (none_some o refusals.WriteFault is fault)
+      | cut text m is takes rose ↦ inl (gives_all text m)
+      | refused r cause is parts takes ↦ inr parts
+      | refusal_cut r cause is parts takes rose ↦ inr parts
+    ];
+    none = λ r said other. elim ends [
+      | done text m is takes ↦ absurd (none_some o r is said)
+      | cut text m is takes rose ↦ absurd (other (some_same o r refusals.WriteFault said is))
+      | refused s cause is parts takes ↦ parts
+      | refusal_cut s cause is parts takes rose ↦ parts
     ];
   }
-    where
-      must_be : (r : Refusal) → HasCause words left reads reads' r → (IsCommand words → ⊥) → r ≡ Usage
-      must_be Usage cause none = refl
-      must_be ReadFault cause none = absurd (none (run_is_command words cause.0))
-      must_be WriteFault cause none = absurd cause
-      must_be Memory cause none = absurd (none (run_is_command words cause))
-      must_be Unbuilt (inl other) none = absurd (none (other_is_command words other))
-      must_be Unbuilt (inr run) none = absurd (none (run_is_command words run.0))
 
-  pub read_fault_clause : o.refusal ≡ Some ReadFault → IsRun words × FaultsRose reads reads'
-  read_fault_clause is = cause_of ReadFault (λ e. cc) is
+  text_is : (text : List ℕ) (m : Makes words left rest o text) → text ≡ output_text o.report m.job m.plan
+  text_is text m = output_is o m.command m.job m.plan text m.made.output
 
-  pub write_fault_clause : o.refusal ≡ Some WriteFault → FaultsRose writes writes'
-  write_fault_clause is = elim ends [
-    | reported job plan mesh report run read made parts none takes ↦ absurd (none_some WriteFault none is)
-    | report_cut job plan mesh report run read made parts cut takes rose ↦ rose
-    | refused r cause said parts takes ↦ absurd (subst (HasCause words left reads reads') (some_same WriteFault r is said) cause)
-    | refusal_cut r cause cut parts takes rose ↦ rose
+  pub written_clause : IsWritten words left reads reads' written more o
+  written_clause = record {
+    text = λ none. elim ends [
+      | done text m is takes ↦ where_given o (λ job plan. Takes written (output_text o.report job plan) more) m.job m.plan m.job_is m.plan_is
+          (subst (λ t. Takes written t more) (text_is text m) takes)
+      | cut text m is takes rose ↦ absurd (none_some o refusals.WriteFault none is)
+      | refused r cause is parts takes ↦ absurd (none_some o r none is)
+      | refusal_cut r cause is parts takes rose ↦ absurd (none_some o refusals.WriteFault none is)
+    ];
+    prefix = λ fault. elim ends [
+      | done text m is takes ↦ absurd (none_some o refusals.WriteFault is fault)
+      | cut text m is takes rose ↦ inl (
+        gives_all text m,
+        where_given o (λ job plan. TakesProperPrefix written (output_text o.report job plan) more) m.job m.plan m.job_is m.plan_is
+            (subst (λ t. TakesProperPrefix written t more) (text_is text m) takes),
+      )
+      | refused r cause is parts takes ↦ absurd (no_write_cause words left reads reads' r cause (some_same o r refusals.WriteFault is fault))
+      | refusal_cut r cause is parts takes rose ↦ inr (parts, (r, cause, takes))
+    ];
+    line = λ r said other. elim ends [
+      | done text m is takes ↦ absurd (none_some o r is said)
+      | cut text m is takes rose ↦ absurd (other (some_same o r refusals.WriteFault said is))
+      | refused s cause is parts takes ↦ subst (λ x. Takes written (line_of x) more) (some_same o s r is said) takes
+      | refusal_cut s cause is parts takes rose ↦ absurd (other (some_same o r refusals.WriteFault said is))
+    ];
+  }
+
+  pub cause_clause : IfSome o.refusal (IsCaused words left reads reads' writes writes')
+  cause_clause = elim ends [
+    | done text m is takes ↦ subst (λ x. IfSome x (IsCaused words left reads reads' writes writes')) (sym is) tt
+    | cut text m is takes rose ↦ subst (λ x. IfSome x (IsCaused words left reads reads' writes writes')) (sym is) (inl (refl, rose))
+    | refused r cause is parts takes ↦ subst (λ x. IfSome x (IsCaused words left reads reads' writes writes')) (sym is) (inr cause)
+    | refusal_cut r cause is parts takes rose ↦ subst (λ x. IfSome x (IsCaused words left reads reads' writes writes')) (sym is) (inl (refl, rose))
   ]
 
-  pub unbuilt_clause : ComesUnbuilt words left o
-  unbuilt_clause = record {
-    only = λ is. cause_of Unbuilt (λ e. cc) is;
-    other_word = λ other. elim ends [
-      | reported job plan mesh report run read made parts none takes ↦ absurd (other_is_not_run words other run)
-      | report_cut job plan mesh report run read made parts cut takes rose ↦ inr cut
-      | refused r cause is parts takes ↦ inl (is ∙ ap Some (must_be r cause other))
-      | refusal_cut r cause cut parts takes rose ↦ inr cut
+  write_fault : (r : Refusal) → o.refusal ≡ Some refusals.WriteFault → IsRefusedAs o r
+  write_fault r is = inr (inl is)
+
+  memory : (r s : Refusal) → o.refusal ≡ Some s → s ≡ refusals.Memory → IsRefusedAs o r
+  memory r s is e = inr (inr (inr (is ∙ ap Some e)))
+
+  made_told : (bytes : List ℕ) → left ≡ Some bytes → (text : List ℕ) (m : Makes words left rest o text) → IsMade m.command (Some bytes) rest m.job m.plan o.mesh o.report text
+  made_told bytes told text m = subst (λ l. IsMade m.command l rest m.job m.plan o.mesh o.report text) told m.made
+
+  cause_told : (c : Command) (bytes : List ℕ) → left ≡ Some bytes → (s : Refusal) (d : Command) → d ≡ c → HasCauseFor d left reads reads' s → HasCauseFor c (Some bytes) reads reads' s
+  cause_told c bytes told s d same has = subst (λ l. HasCauseFor c l reads reads' s) told (subst (λ x. HasCauseFor x left reads reads' s) same has)
+
+  by_cause : (c : Command) (bytes : List ℕ) (r s : Refusal) → IsRefused c (Some bytes) r → o.refusal ≡ Some s → HasCauseFor c (Some bytes) reads reads' s → IsRefusedAs o r
+  by_cause c bytes r s ref is (inl ref') = inl (is ∙ ap Some (one_refusal c bytes s r ref' ref))
+  by_cause c bytes r s ref is (inr (inl late)) = absurd (refused_not_ready c bytes r ref (ready_late c bytes s late))
+  by_cause c bytes r s ref is (inr (inr (inl fault))) = inr (inr (inl (is ∙ ap Some fault.0)))
+  by_cause c bytes r s ref is (inr (inr (inr e))) = memory r s is e
+
+  pub refused_clause : IsRefusedWhere words left o
+  refused_clause = record {
+    no_command = λ none. elim ends [
+      | done text m is takes ↦ absurd (none (m.command, m.spelled))
+      | cut text m is takes rose ↦ write_fault refusals.Usage is
+      | refused r cause is parts takes ↦ elim cause [
+        | no_command unspelled e ↦ inl (is ∙ ap Some e)
+        | not_built c spelled un e ↦ absurd (none (c, spelled))
+        | of_command c spelled built has ↦ absurd (none (c, spelled))
+        | no_memory e ↦ memory refusals.Usage r is e
+      ]
+      | refusal_cut r cause is parts takes rose ↦ write_fault refusals.Usage is
     ];
-    no_small_job = λ run none. elim ends [
-      | reported job plan mesh report run' read made parts none' takes ↦ absurd (told_none left rest job none read)
-      | report_cut job plan mesh report run' read made parts cut takes rose ↦ inl (inr cut)
-      | refused r cause is parts takes ↦ may_be r cause run is
-      | refusal_cut r cause cut parts takes rose ↦ inl (inr cut)
+    not_built = λ c spelled un. elim ends [
+      | done text m is takes ↦
+          let built : IsBuilt m.command = serves_built m.command m.job m.made.served in
+          absurd (un (subst IsBuilt (one_command (texts_of words) m.command c m.spelled built spelled) built))
+      | cut text m is takes rose ↦ write_fault refusals.Unbuilt is
+      | refused r cause is parts takes ↦ elim cause [
+        | no_command unspelled e ↦ absurd (unspelled (c, spelled))
+        | not_built d spelled' un' e ↦ inl (is ∙ ap Some e)
+        | of_command d spelled' built has ↦ absurd (un (subst IsBuilt (one_command (texts_of words) d c spelled' built spelled) built))
+        | no_memory e ↦ memory refusals.Unbuilt r is e
+      ]
+      | refusal_cut r cause is parts takes rose ↦ write_fault refusals.Unbuilt is
+    ];
+    refused = λ c spelled built bytes told r ref. elim ends [
+      | done text m is takes ↦
+          let same : c ≡ m.command = one_command (texts_of words) c m.command spelled built m.spelled in
+          let ready = ready_made m.command bytes rest m.job m.plan o.mesh o.report text (made_told bytes told text m) in
+          absurd (refused_not_ready c bytes r ref (subst (λ x. IsReady x bytes) (sym same) ready))
+      | cut text m is takes rose ↦ write_fault r is
+      | refused s cause is parts takes ↦ elim cause [
+        | no_command unspelled e ↦ absurd (unspelled (c, spelled))
+        | not_built d spelled' un e ↦ absurd (un (subst IsBuilt (one_command (texts_of words) c d spelled built spelled') built))
+        | of_command d spelled' built' has ↦ by_cause c bytes r s ref is (cause_told c bytes told s d (one_command (texts_of words) d c spelled' built' spelled) has)
+        | no_memory e ↦ memory r s is e
+      ]
+      | refusal_cut s cause is parts takes rose ↦ write_fault r is
     ];
   }
-    where
-      must_be : (r : Refusal) → HasCause words left reads reads' r → IsOtherCommand words → r ≡ Unbuilt
-      must_be Usage cause other = absurd (cause (other_is_command words other))
-      must_be ReadFault cause other = absurd (other_is_not_run words other cause.0)
-      must_be WriteFault cause other = absurd cause
-      must_be Memory cause other = absurd (other_is_not_run words other cause)
-      must_be Unbuilt cause other = refl
 
-      may_be : (r : Refusal) → HasCause words left reads reads' r → IsRun words → o.refusal ≡ Some r → IsRefused o Unbuilt ⊎ ((o.refusal ≡ Some ReadFault) ⊎ (o.refusal ≡ Some Memory))
-      may_be Usage cause run is = absurd (cause (run_is_command words run))
-      may_be ReadFault cause run is = inr (inl is)
-      may_be WriteFault cause run is = absurd cause
-      may_be Memory cause run is = inr (inr is)
-      may_be Unbuilt cause run is = inl (inl is)
+  module _ (job : Job) (answer : HasAnswer words left job) (quiet_source : FaultsRose reads reads' → ⊥) where
+    ready : IsReady answer.command answer.bytes
+    ready = record { job = job; tells = answer.is_job; served = answer.served; placed = answer.placed; keyed = answer.keyed }
+
+    built : IsBuilt answer.command
+    built = serves_built answer.command job answer.served
+
+    no_late : (r : Refusal) → IsRefusedLate answer.command (Some answer.bytes) r → ⊥
+    no_late r late =
+        let same : late.0 ≡ job = same_job answer.bytes late.0 job late.1 answer.is_job in
+        elim late.3 [
+          | cut_off i net target has at is ↦ answer.joined i target (subst (λ (j : Job). HasCutOff j.machine j.graph i target) same has)
+          | long_table plan is long e ↦ long (answer.fit plan (subst (λ (j : Job). IsPlanOf j.machine j.graph plan) same is))
+        ]
+
+    by_memory : (r : Refusal) → HasCauseFor answer.command (Some answer.bytes) reads reads' r → r ≡ refusals.Memory
+    by_memory r (inl ref) = absurd (refused_not_ready answer.command answer.bytes r ref ready)
+    by_memory r (inr (inl late)) = absurd (no_late r late)
+    by_memory r (inr (inr (inl fault))) = absurd (quiet_source fault.1)
+    by_memory r (inr (inr (inr e))) = e
+
+    only_memory : (r : Refusal) → HasCause words left reads reads' r → r ≡ refusals.Memory
+    only_memory r cause = elim cause [
+      | no_command unspelled e ↦ absurd (unspelled (answer.command, answer.spelled))
+      | not_built d spelled un e ↦ absurd (un (subst IsBuilt (one_command (texts_of words) answer.command d answer.spelled built spelled) built))
+      | of_command d spelled built' has ↦
+          by_memory r (cause_told answer.command answer.bytes answer.told r d (one_command (texts_of words) d answer.command spelled built' answer.spelled) has)
+      | no_memory e ↦ e
+    ]
+
+    pub complete_clause : o.status ≡ status_at o.refusal → (FaultsRose writes writes' → ⊥) → (o.status ≡ 0) ⊎ (o.status ≡ 9)
+    complete_clause status quiet_sink = elim ends [
+      | done text m is takes ↦ inl (status ∙ ap status_at is)
+      | cut text m is takes rose ↦ absurd (quiet_sink rose)
+      | refused r cause is parts takes ↦ inr (status ∙ (ap status_at is ∙ ap (λ x. status_at (Some x)) (only_memory r cause)))
+      | refusal_cut r cause is parts takes rose ↦ absurd (quiet_sink rose)
+    ]

@@ -1,5 +1,5 @@
 -- The words of the command line.
-use Rattle.std.specs.Prelude.{◌≡◌, ◌≢◌, ℕ, ◌^◌, ◌<◌, List, [], ◌∷◌, map, String, string_bytes, codes, decimal}
+use Rattle.std.specs.Prelude.{◌≡◌, ℕ, ◌^◌, ◌<◌, List, [], ◌∷◌, map, String, string_bytes, codes, decimal}
 use Rattle.std.specs.declared.alloc.Global.{Global}
 use Rattle.spin_top.specs.declared.commands.Command.{Command}
 use Rattle.spin_top.specs.declared.commands.Command.TheVariants.{Run, Trace, Compile, Tables, Gen}
@@ -21,6 +21,17 @@ texts_of words = map string_bytes words
 abbrev pub IsCommand : List (String Global) → Type 0
 IsCommand words = (c : Command) × Spells (texts_of words) c
 
--- the words spell a command that is not `run`
-abbrev pub IsOtherCommand : List (String Global) → Type 0
-IsOtherCommand words = (c : Command) × (c ≢ Run) × Spells (texts_of words) c
+-- The commands that are built read a job: `run` and `tables`.
+abbrev pub IsBuilt : Command → Type 0
+IsBuilt Run = Unit {0}
+IsBuilt Trace = ⊥
+IsBuilt Compile = ⊥
+IsBuilt Tables = Unit {0}
+IsBuilt (Gen n) = ⊥
+
+-- the words are `run`, or `tables`
+abbrev pub IsRun : List (String Global) → Type 0
+IsRun words = Spells (texts_of words) Run
+
+abbrev pub IsTables : List (String Global) → Type 0
+IsTables words = Spells (texts_of words) Tables

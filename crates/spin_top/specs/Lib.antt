@@ -1,5 +1,7 @@
-pub mod Calls
+pub mod Causes
 pub mod Commands
 pub mod Ends
+pub mod Given
+pub mod Jobs
 pub mod Outcomes
 pub mod Runs

@@ -1,59 +1,58 @@
--- What is made of a small job: its plan, the mesh after its run, and the report of both (this project's own).
-use Rattle.std.specs.Prelude.{ℕ, List, [], ◌∷◌, map}
-use Rattle.std.specs.List.{zip}
-use Rattle.spin_base.specs.declared.chips.Spot.{Spot}
-use Rattle.spin_base.specs.declared.blocks.Block.{Block}
-use Rattle.spin_base.specs.declared.blocks.Entry.{Entry}
-use Rattle.net_tables.specs.declared.nets.NetPlan.{NetPlan}
+-- What is made of a job: its plan, the mesh after its run, the report, and the text (this project's own).
+use Rattle.std.specs.Prelude.{◌≡◌, ℕ, List, map, Option, Some, None, All}
 use Rattle.net_tables.specs.RightTables.{AreRight}
-use Rattle.table_load.specs.declared.tables.ChipTable.{ChipTable}
 use Rattle.mesh_core.specs.State.{State}
-use Rattle.mesh_core.specs.Opened.{opened_mesh, MeetsJobLedger}
+use Rattle.mesh_core.specs.Opened.{MeetsJobLedger}
 use Rattle.mesh_core.specs.Expected.{AreAsExpected}
+use Rattle.job_readers.specs.declared.jobs.Job.{Job}
 use Rattle.run_report.specs.declared.reports.Report.{Report}
-use Rattle.run_report.specs.RunReport.{IsReportOf}
-use Rattle.one_chip_jobs.specs.declared.small_jobs.SmallNet.{SmallNet}
-use Rattle.one_chip_jobs.specs.declared.small_jobs.SmallJob.{SmallJob}
+use Rattle.run_report.specs.ReportText.{report_text}
 use Rattle.one_chip_run.specs.HasRun.{HasRun}
-use Rattle.one_chip_plan.specs.declared.plans.Plan.{Plan}
-use Rattle.one_chip_plan.specs.OneChip.{one_chip, the_chip}
-use Rattle.one_chip_plan.specs.Plans.{IsPlanOf, loaded, packets_of}
+use Rattle.par_compile.specs.declared.compiling.Plan.{Plan}
+use Rattle.par_compile.specs.Compiled.{IsPlanOf}
+use Rattle.job_runs.specs.OpenedFor.{Fits, loaded, opened_for}
+use Rattle.plan_reports.specs.Listed.{IsReported, text_of_plan}
+use Rattle.spin_top.specs.declared.commands.Command.{Command}
+use Rattle.spin_top.specs.declared.commands.Command.TheVariants.{Run, Trace, Compile, Tables, Gen}
+use Rattle.spin_top.specs.Causes.{Serves}
+use Rattle.spin_top.specs.Jobs.{IsReadTo}
 
--- each vertex with its core
-abbrev pub placed_of : SmallJob → Plan → List (List ℕ × Spot)
-placed_of job plan = zip job.vertices plan.spots
-
--- each net with its keys
-abbrev pub keys_of : SmallJob → Plan → List (List ℕ × Block)
-keys_of job plan = zip (map (λ (net : SmallNet). net.name) job.nets) (map (λ (net : NetPlan). net.block) plan.nets)
-
--- the table of the chip, where it has a row
-abbrev pub tables_of : List Entry → List ChipTable
-tables_of [] = []
-tables_of (row ∷ rows) = record { chip = the_chip; entries = row ∷ rows } ∷ []
-
--- The mesh before the first event: the router has the plan's rows, and each queue holds at most 16 copies.
-abbrev pub opened_for : SmallJob → Plan → State
-opened_for job plan = opened_mesh one_chip plan.spots (loaded plan.rows ∷ []) 16 plan.nets (packets_of job)
-
--- The plan is the one that the definitions give, and its rows, loaded, are right for its nets.
-pub record IsPlanned (job : SmallJob) (plan : Plan) : Type 0 where
-  pub as_defined : IsPlanOf job plan
-  pub right : AreRight one_chip (loaded plan.rows ∷ []) plan.nets
+-- The plan is the one that the definitions give, each table fits into its router, and the tables, loaded, are right for the
+-- nets.
+pub record IsPlanned (job : Job) (plan : Plan) : Type 0 where
+  pub as_defined : IsPlanOf job.machine job.graph plan
+  pub fit : All Fits plan.tables
+  pub right : AreRight job.machine (map loaded plan.tables) plan.nets
 
 -- The mesh was reached from the opened one by events that drop no copy, nothing waits and nothing is unsent, and it has
 -- delivered what the job asks for and nothing else.
-pub record HasRunOut (job : SmallJob) (plan : Plan) (mesh : State) : Type 0 where
-  pub reached : HasRun (opened_for job plan) mesh
-  pub delivered : AreAsExpected mesh plan.nets (packets_of job)
+pub record HasRunOut (job : Job) (plan : Plan) (mesh : State) : Type 0 where
+  pub reached : HasRun (opened_for job.machine plan job.run) mesh
+  pub delivered : AreAsExpected mesh plan.nets job.run.packets
 
--- the report is that of the plan and the mesh
-abbrev pub IsReported : SmallJob → Plan → State → Report → Type 0
-IsReported job plan mesh report = IsReportOf (placed_of job plan) (keys_of job plan) (tables_of plan.rows) mesh report
-
--- all that is made of a job
-pub record IsMadeOf (job : SmallJob) (plan : Plan) (mesh : State) (report : Report) : Type 0 where
-  pub planned : IsPlanned job plan
-  pub ledger : MeetsJobLedger mesh plan.nets (packets_of job)
+-- what is made by a run
+pub record IsRunOf (job : Job) (plan : Plan) (mesh : State) (report : Report) : Type 0 where
+  pub ledger : MeetsJobLedger mesh plan.nets job.run.packets
   pub run_out : HasRunOut job plan mesh
-  pub reported : IsReported job plan mesh report
+  pub reported : IsReported job.machine job.graph plan mesh report
+
+-- what a command makes of a planned job: `run` a mesh, its report and the report's text, `tables` the text of the plan
+abbrev pub IsOutputOf : Command → Job → Plan → Option State → Option Report → List ℕ → Type 0
+IsOutputOf Run job plan mesh report text =
+    (m : State) × (r : Report) × (mesh ≡ Some m) × (report ≡ Some r) × IsRunOf job plan m r × (text ≡ report_text r)
+IsOutputOf Tables job plan mesh report text = (mesh ≡ None) × (report ≡ None) × (text ≡ text_of_plan job.machine job.graph plan)
+IsOutputOf Trace job plan mesh report text = ⊥
+IsOutputOf Compile job plan mesh report text = ⊥
+IsOutputOf (Gen n) job plan mesh report text = ⊥
+
+-- All that a command makes: the job that the source had left, which the command serves, its plan, and the output.
+pub record IsMade (c : Command) (left rest : Option (List ℕ)) (job : Job) (plan : Plan) (mesh : Option State) (report : Option Report) (text : List ℕ) : Type 0 where
+  pub read : IsReadTo left job rest
+  pub served : Serves c job
+  pub planned : IsPlanned job plan
+  pub output : IsOutputOf c job plan mesh report text
+
+-- the text that is written of a plan: that of the report where there is one, else that of the plan
+abbrev pub output_text : Option Report → Job → Plan → List ℕ
+output_text (Some report) job plan = report_text report
+output_text None job plan = text_of_plan job.machine job.graph plan

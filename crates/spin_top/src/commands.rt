@@ -21,6 +21,25 @@ pub enum Command {
     Gen(u64),
 }
 
+impl Command {
+    ghost use Rattle.std.specs.Prelude.{true};
+    ghost use Rattle.spin_top.specs.Commands.{IsBuilt};
+
+    // Whether the command is built today.
+    pub(crate) fn is_built(self) -> bool
+        ensures yes { result ≡ true → IsBuilt self }
+        ensures no { IsBuilt self → result ≡ true }
+    {
+        match self {
+            Command::Run => true,
+            Command::Trace => false,
+            Command::Compile => false,
+            Command::Tables => true,
+            Command::Gen(_) => false,
+        }
+    }
+}
+
 /// The command that the words spell, the program's name left out. `None` exactly where they spell none.
 pub fn command_of(words: &[String]) -> Option<Command>
     ensures some { IfSome result (λ c. Spells (texts_of words.now) c) }

@@ -10,17 +10,20 @@ use std::thread::Threads;
 const TWO_VERTICES: &str =
     "{\"version\":1,\"machine\":{\"width\":1,\"height\":1},\"graph\":{\"vertices\":[{\"name\":\"a\"},{\"name\":\"b\"}],\"nets\":[{\"name\":\"n\",\"source\":\"a\",\"targets\":[\"b\"]}]},\"run\":{\"packets\":[{\"net\":\"n\",\"index\":0}]}}";
 
-const TO_ITSELF: &str =
-    "{\"version\":1,\"machine\":{\"width\":1,\"height\":1},\"graph\":{\"vertices\":[{\"name\":\"a\"},{\"name\":\"b\"}],\"nets\":[{\"name\":\"n\",\"source\":\"a\",\"targets\":[\"a\"]}]},\"run\":{\"packets\":[{\"net\":\"n\",\"index\":0}]}}";
-
 const TWICE_THE_SAME: &str =
     "{\"version\":1,\"machine\":{\"width\":1,\"height\":1},\"graph\":{\"vertices\":[{\"name\":\"a\"},{\"name\":\"b\"}],\"nets\":[{\"name\":\"n\",\"source\":\"a\",\"targets\":[\"b\",\"b\"]}]},\"run\":{\"packets\":[{\"net\":\"n\",\"index\":0}]}}";
 
 const TWO_CHIPS: &str =
     "{\"version\":1,\"machine\":{\"width\":2,\"height\":1},\"graph\":{\"vertices\":[{\"name\":\"a\"},{\"name\":\"b\"}],\"nets\":[{\"name\":\"n\",\"source\":\"a\",\"targets\":[\"b\"]}]},\"run\":{\"packets\":[{\"net\":\"n\",\"index\":0}]}}";
 
-const DOUBLE_NET: &str =
-    "{\"version\":1,\"machine\":{\"width\":1,\"height\":1},\"graph\":{\"vertices\":[{\"name\":\"a\"}],\"nets\":[{\"name\":\"n\",\"source\":\"a\",\"targets\":[\"a\"]},{\"name\":\"n\",\"source\":\"a\",\"targets\":[\"a\"]}]},\"run\":{\"packets\":[]}}";
+const NO_ROOM: &str =
+    "{\"version\":1,\"machine\":{\"width\":1,\"height\":1},\"graph\":{\"vertices\":[{\"name\":\"a\"},{\"name\":\"b\",\"at\":[1,0]}],\"nets\":[]}}";
+
+const KEYS_OUT: &str =
+    "{\"version\":1,\"machine\":{\"width\":1,\"height\":1},\"graph\":{\"vertices\":[{\"name\":\"a\"}],\"nets\":[{\"name\":\"n\",\"source\":\"a\",\"targets\":[\"a\"],\"keys\":4294967296},{\"name\":\"m\",\"source\":\"a\",\"targets\":[\"a\"]}]}}";
+
+const CUT_OFF: &str =
+    "{\"version\":1,\"machine\":{\"width\":3,\"height\":1,\"dead_chips\":[[1,0]]},\"graph\":{\"vertices\":[{\"name\":\"a\",\"at\":[0,0]},{\"name\":\"b\",\"at\":[2,0]}],\"nets\":[{\"name\":\"n\",\"source\":\"a\",\"targets\":[\"b\"]}]}}";
 
 const SEVENTEEN: &str =
     "{\"version\":1,\"machine\":{\"width\":1,\"height\":1},\"graph\":{\"vertices\":[{\"name\":\"v0\"},{\"name\":\"v1\"},{\"name\":\"v2\"},{\"name\":\"v3\"},{\"name\":\"v4\"},{\"name\":\"v5\"},{\"name\":\"v6\"},{\"name\":\"v7\"},{\"name\":\"v8\"},{\"name\":\"v9\"},{\"name\":\"v10\"},{\"name\":\"v11\"},{\"name\":\"v12\"},{\"name\":\"v13\"},{\"name\":\"v14\"},{\"name\":\"v15\"},{\"name\":\"v16\"}],\"nets\":[]},\"run\":{\"packets\":[]}}";
@@ -28,8 +31,8 @@ const SEVENTEEN: &str =
 const TWO_VERTICES_REPORT: &str =
     "place a 0 0 1\nplace b 0 0 2\nkeys n 00000000 ffffffff\ntable 0 0 1\n00000000 ffffffff 000100\ngot b 0 00000000 -\nend delivered 1 dumped 0 waiting 0 unsent 0\n";
 
-const TO_ITSELF_REPORT: &str =
-    "place a 0 0 1\nplace b 0 0 2\nkeys n 00000000 ffffffff\ntable 0 0 1\n00000000 ffffffff 000080\ngot a 0 00000000 -\nend delivered 1 dumped 0 waiting 0 unsent 0\n";
+const TWO_CHIPS_TABLES: &str =
+    "place a 0 0 1\nplace b 0 0 2\nkeys n 00000000 ffffffff\ntable 0 0 1\n00000000 ffffffff 000100\nend rows 1\n";
 
 const SEVENTEEN_REPORT: &str =
     "place v0 0 0 1\nplace v1 0 0 2\nplace v2 0 0 3\nplace v3 0 0 4\nplace v4 0 0 5\nplace v5 0 0 6\nplace v6 0 0 7\nplace v7 0 0 8\nplace v8 0 0 9\nplace v9 0 0 10\nplace v10 0 0 11\nplace v11 0 0 12\nplace v12 0 0 13\nplace v13 0 0 14\nplace v14 0 0 15\nplace v15 0 0 16\nplace v16 0 0 17\nend delivered 0 dumped 0 waiting 0 unsent 0\n";
@@ -97,12 +100,6 @@ fn a_packet_goes_from_vertex_to_vertex(rt: HostRuntime) -> Result<(), Fail> {
             TWO_VERTICES_REPORT
         )?
     );
-    Ok(())
-}
-
-#[test]
-fn a_vertex_can_send_to_itself(rt: HostRuntime) -> Result<(), Fail> {
-    assert!(rt; gives(&rt, rt.alloc(), &["run"], TO_ITSELF, 0, TO_ITSELF_REPORT)?);
     Ok(())
 }
 
@@ -194,22 +191,29 @@ fn words_that_are_no_command_are_answered_with_the_usage(rt: HostRuntime) -> Res
 }
 
 #[test]
-fn what_is_no_small_job_is_not_built(rt: HostRuntime) -> Result<(), Fail> {
-    for job in [TWO_CHIPS, DOUBLE_NET, "{\"version\":1}", "", "{"] {
-        assert!(rt; gives(&rt, rt.alloc(), &["run"], job, 10, "unbuilt\n")?);
+fn a_job_that_cannot_be_served_is_answered_with_its_cause(rt: HostRuntime) -> Result<(), Fail> {
+    for (job, status, line) in [
+        ("{", 4, "bad job: not json\n"),
+        ("{\"version\":2}", 4, "bad job: range job.version\n"),
+        (NO_ROOM, 5, "no room: b\n"),
+        (KEYS_OUT, 6, "keys out: m\n"),
+        (CUT_OFF, 7, "cut off: n 2 0\n"),
+    ] {
+        assert!(rt; gives(&rt, rt.alloc(), &["tables"], job, status, line)?);
     }
     Ok(())
 }
 
 #[test]
-fn another_command_is_not_built(rt: HostRuntime) -> Result<(), Fail> {
-    for words in [
-        ["trace"].as_slice(),
-        &["compile"],
-        &["tables"],
-        &["gen", "0"],
-    ] {
-        assert!(rt; gives(&rt, rt.alloc(), words, TWO_VERTICES, 10, "unbuilt\n")?);
+fn a_plan_is_listed(rt: HostRuntime) -> Result<(), Fail> {
+    assert!(rt; gives(&rt, rt.alloc(), &["tables"], TWO_CHIPS, 0, TWO_CHIPS_TABLES)?);
+    Ok(())
+}
+
+#[test]
+fn what_is_not_built_is_answered_so(rt: HostRuntime) -> Result<(), Fail> {
+    for words in [["run"].as_slice(), &["trace"], &["compile"], &["gen", "0"]] {
+        assert!(rt; gives(&rt, rt.alloc(), words, TWO_CHIPS, 10, "unbuilt\n")?);
     }
     Ok(())
 }

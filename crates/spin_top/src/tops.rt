@@ -1,49 +1,54 @@
 // The top call.
-ghost use Rattle.std.specs.Prelude.{◌≡◌, ◌⊎◌, Some, None, IfOk, IfErr};
+ghost use Rattle.std.specs.Prelude.{◌≡◌, ◌⊎◌, [], Some, None, IfOk, IfErr, IfSome, true};
+ghost use Rattle.serde_json.specs.View.{view};
+ghost use Rattle.app_graph.specs.ValidGraph.{IsValidGraph};
+ghost use Rattle.job_readers.specs.MachinePart.{machine_faults, machine_value};
+ghost use Rattle.job_readers.specs.RunPart.{IsRunOf as IsRunPartOf};
 ghost use Rattle.mesh_core.specs.Opened.{MeetsJobLedger};
-ghost use Rattle.run_report.specs.ReportText.{report_text};
+ghost use Rattle.plan_reports.specs.Listed.{IsReported};
 ghost use Rattle.spin_base.specs.Outside.{FaultsRose, Takes, TakesProperPrefix};
-ghost use Rattle.one_chip_jobs.specs.SmallJobs.{IsSmall};
-ghost use Rattle.one_chip_plan.specs.Plans.{packets_of};
-ghost use Rattle.spin_top.specs.Calls.{ComesUnbuilt, ComesUsage, GivesFor, HasSmallJob, WhereGiven, Writes};
-ghost use Rattle.spin_top.specs.Ends.{Ends, GivesNoPart, GivesParts, HasCause, HasReadCause, IsRun, ReadsJob};
-ghost use Rattle.spin_top.specs.Outcomes.{line_of, status_at};
-ghost use Rattle.spin_top.specs.Runs.{HasRunOut, IsMadeOf, IsPlanned, IsReported};
-ghost use Rattle.spin_top.specs.declared.outcomes.Refusal.TheVariants.{ReadFault, WriteFault};
+ghost use Rattle.job_readers.specs.declared.jobs.Job.{Job};
+ghost use Rattle.spin_top.specs.Causes.{HasCause, HasCauseFor, Serves};
+ghost use Rattle.spin_top.specs.Commands.{IsBuilt, IsRun, IsTables, Spells, texts_of};
+ghost use Rattle.spin_top.specs.declared.commands.Command.{Command};
+ghost use Rattle.spin_top.specs.Ends.{Ends, GivesNoPart, IsLineWritten};
+ghost use Rattle.spin_top.specs.Given.{HasAnswer, IsCaused, IsGiven, IsRefusedWhere, IsWritten, WhereGiven, WhereRun};
+ghost use Rattle.spin_top.specs.Jobs.{IsReadTo};
+ghost use Rattle.spin_top.specs.Outcomes.{line_of as line_of_refusal, status_at};
+ghost use Rattle.spin_top.specs.Runs.{HasRunOut, IsMade, IsOutputOf, IsPlanned};
+ghost use Rattle.spin_top.specs.declared.outcomes.Refusal.TheVariants.{Memory as NoMemory, WriteFault};
 
 use crate::commands::{Command, command_of};
+use crate::lines::{OUT_OF_MEMORY, line_of};
 use crate::outcomes::{Outcome, Refusal};
-use crate::reports::report_on;
-use job_text::{ParseErr, parse};
-use mesh_core::Mesh;
-use one_chip_jobs::{SmallJob, small_job};
-use one_chip_plan::{Plan, plan_of, run_plan};
-use run_report::{Report, text_of};
-use spin_base::{Gate, Memory, ReadErr, Seq, Sink, Source, read_all, write_all};
+use crate::outputs::{Output, list, run};
+use crate::plans::plan_of;
+use crate::texts::{read_job, read_value};
+use job_readers::Job;
+use par_compile::Plan;
+use serde_json::Value;
+use spin_base::{Gate, Memory, Sink, Source, write_all};
 use std::alloc::Global;
 use std::sync::Wait;
 use std::thread::Threads;
 
-/// The most bytes of a job.
-pub const MOST_BYTES: u64 = 16_777_216;
-
-// What a run made: its values, and the whole text that is to be written.
+// What a command made: its values, and the whole text that is to be written.
 struct Made {
-    job: SmallJob,
+    job: Job,
     plan: Plan,
-    mesh: Mesh,
-    report: Report,
-    text: Seq<u8>,
+    output: Output,
 }
 
-/// Does what the words ask for, with the source's bytes as the job, and writes the report or one line to the sink.
+/// Does what the words ask for, with the source's bytes as the job, and writes the text or one line to the sink.
 ///
 /// The words are those of the command line without the program's name: `run`, `trace`, `compile`, `tables` or `gen N`.
-/// Today `run` alone is built, for a small job. The whole text stands before its first byte is written, and a refusal
-/// writes its line and nothing else.
+/// Built today are `run`, for jobs whose machine has one chip, and `tables`. `run` compiles the job, runs it, and writes
+/// the report; `tables` compiles it and writes where its vertices stand, which keys its nets have, and its tables. The
+/// whole text stands before its first byte is written, and a refusal writes its line and nothing else.
 ///
-/// Statuses: 0, the report was written; 1, the words spell no command; 2, reading failed; 3, writing failed; 9, memory ran
-/// out; 10, the words or the job need a part that is not built.
+/// Statuses: 0, the text was written; 1, the words spell no command; 2, reading failed; 3, writing failed; 4, the bytes are
+/// no job; 5, a vertex has no room; 6, a net has no keys; 7, a target is cut off; 9, memory ran out; 10, the words or the
+/// job need a part that is not built.
 pub fn spin<Rt: Threads + Wait + Sync, S: Source, K: Sink, G: Gate>(
     _rt: &Rt,
     alloc: Global,
@@ -53,19 +58,17 @@ pub fn spin<Rt: Threads + Wait + Sync, S: Source, K: Sink, G: Gate>(
     _gate: &G,
 ) -> Outcome
     ensures status { result.status ≡ status_at result.refusal }
-    ensures given { GivesFor result.refusal result }
-    ensures job { WhereGiven result (λ job plan mesh report. IsRun words.now × ReadsJob (S.left source.old) job (S.left source.new)) }
-    ensures plan { WhereGiven result (λ job plan mesh report. IsPlanned job plan) }
-    ensures ledger { WhereGiven result (λ job plan mesh report. MeetsJobLedger mesh plan.nets (packets_of job)) }
-    ensures run { WhereGiven result (λ job plan mesh report. HasRunOut job plan mesh) }
-    ensures report { WhereGiven result (λ job plan mesh report. IsReported job plan mesh report) }
-    ensures written { Writes words.now (S.left source.old) (S.faults source.old) (S.faults source.new) (K.written sink.old) (K.written sink.new) result.refusal result }
-    ensures complete { IsRun words.now → HasSmallJob (S.left source.old) → ¬ FaultsRose (S.faults source.old) (S.faults source.new) →
+    ensures given { IsGiven words.now result }
+    ensures job { WhereGiven result (λ job plan. (IsRun words.now ⊎ IsTables words.now) × IsReadTo (S.left source.old) job (S.left source.new)) }
+    ensures plan { WhereGiven result IsPlanned }
+    ensures ledger { WhereRun result (λ job plan mesh report. MeetsJobLedger mesh plan.nets job.run.packets) }
+    ensures run { WhereRun result (λ job plan mesh report. HasRunOut job plan mesh) }
+    ensures report { WhereRun result (λ job plan mesh report. IsReported job.machine job.graph plan mesh report) }
+    ensures written { IsWritten words.now (S.left source.old) (S.faults source.old) (S.faults source.new) (K.written sink.old) (K.written sink.new) result }
+    ensures cause { IfSome result.refusal (IsCaused words.now (S.left source.old) (S.faults source.old) (S.faults source.new) (K.faults sink.old) (K.faults sink.new)) }
+    ensures refused { IsRefusedWhere words.now (S.left source.old) result }
+    ensures complete { (job : Job) → HasAnswer words.now (S.left source.old) job → ¬ FaultsRose (S.faults source.old) (S.faults source.new) →
         ¬ FaultsRose (K.faults sink.old) (K.faults sink.new) → (result.status ≡ 0) ⊎ (result.status ≡ 9) }
-    ensures usage { ComesUsage words.now result }
-    ensures read_fault { result.refusal ≡ Some ReadFault → IsRun words.now × FaultsRose (S.faults source.old) (S.faults source.new) }
-    ensures write_fault { result.refusal ≡ Some WriteFault → FaultsRose (K.faults sink.old) (K.faults sink.new) }
-    ensures unbuilt { ComesUnbuilt words.now (S.left source.old) result }
 {
     answered(alloc, words, source, sink)
 }
@@ -82,117 +85,136 @@ fn answered<S: Source, K: Sink>(
         (K.written sink.old) (K.written sink.new) (K.faults sink.old) (K.faults sink.new) result }
 {
     match made_of(alloc, words, source) {
-        Ok(made) => write_report(made, sink),
-        Err(refusal) => write_refusal(refusal, sink),
+        Ok(made) => write_text(made, sink),
+        Err(refusal) => write_refusal(alloc, refusal, sink),
     }
 }
 
 // What the words and the source's bytes give, or why they give nothing.
 fn made_of<S: Source>(alloc: Global, words: &[String], source: &mut S) -> Result<Made, Refusal>
-    ensures run { IfOk result (λ made. IsRun words.now) }
-    ensures job { IfOk result (λ made. ReadsJob (S.left source.old) made.job (S.left source.new)) }
-    ensures made { IfOk result (λ made. IsMadeOf made.job made.plan made.mesh made.report) }
-    ensures text { IfOk result (λ made. made.text ≡ report_text made.report) }
-    ensures err { IfErr result (λ r. HasCause words.now (S.left source.old) (S.faults source.old) (S.faults source.new) r) }
+    ensures made { IfOk result (λ made. (c : Command) × Spells (texts_of words.now) c
+        × IsMade c (S.left source.old) (S.left source.new) made.job made.plan made.output.mesh made.output.report made.output.text) }
+    ensures err { IfErr result (HasCause words.now (S.left source.old) (S.faults source.old) (S.faults source.new)) }
 {
-    match command_of(words) {
-        None => Err(Refusal::Usage),
-        Some(Command::Run) => {
-            let job = match read_job(alloc, source) {
-                Ok(job) => job,
-                Err(refusal) => return Err(refusal),
-            };
-            match make(alloc, job) {
-                Ok(made) => Ok(made),
-                Err(Memory) => Err(Refusal::Memory),
-            }
-        }
-        Some(_) => Err(Refusal::Unbuilt),
+    let Some(command) = command_of(words) else {
+        return Err(Refusal::Usage);
+    };
+    if !command.is_built() {
+        return Err(Refusal::Unbuilt);
     }
+    made_by(alloc, command, source)
 }
 
-// The small job that the source's bytes are.
-fn read_job<S: Source>(alloc: Global, source: &mut S) -> Result<SmallJob, Refusal>
-    ensures ok { IfOk result (λ job. ReadsJob (S.left source.old) job (S.left source.new)) }
-    ensures small { IfOk result IsSmall }
-    ensures err { IfErr result (λ r. HasReadCause (S.left source.old) (S.faults source.old) (S.faults source.new) r) }
+// What a command makes of the source's bytes.
+fn made_by<S: Source>(alloc: Global, command: Command, source: &mut S) -> Result<Made, Refusal>
+    requires { IsBuilt command }
+    ensures made { IfOk result (λ made. IsMade command (S.left source.old) (S.left source.new) made.job made.plan made.output.mesh made.output.report made.output.text) }
+    ensures err { IfErr result (HasCauseFor command (S.left source.old) (S.faults source.old) (S.faults source.new)) }
 {
-    let bytes = match read_all(alloc, source, MOST_BYTES) {
-        Ok(bytes) => bytes,
-        Err(ReadErr::Fault) => return Err(Refusal::ReadFault),
-        Err(ReadErr::TooLong) => return Err(Refusal::Unbuilt),
-        Err(ReadErr::OutOfMemory) => return Err(Refusal::Memory),
-    };
-    let value = match parse(alloc, bytes.as_slice()) {
+    let value = match read_value(alloc, source) {
         Ok(value) => value,
-        Err(ParseErr::NotJson) => return Err(Refusal::Unbuilt),
-        Err(ParseErr::Memory) => return Err(Refusal::Memory),
+        Err(refusal) => return Err(refusal),
     };
-    match small_job(alloc, &value) {
-        Ok(Some(job)) => Ok(job),
-        Ok(None) => Err(Refusal::Unbuilt),
+    let job = match read_job(alloc, &value) {
+        Ok(job) => job,
+        Err(refusal) => return Err(refusal),
+    };
+    if !serves(command, &job) {
+        return Err(Refusal::Unbuilt);
+    }
+    let plan = match plan_of(alloc, &job) {
+        Ok(plan) => plan,
+        Err(refusal) => return Err(refusal),
+    };
+    match output_of(alloc, command, &value, &job, &plan) {
+        Ok(output) => Ok(Made { job, plan, output }),
         Err(Memory) => Err(Refusal::Memory),
     }
 }
 
-// Plans and runs a job, and makes its report and text.
-fn make(alloc: Global, job: SmallJob) -> Result<Made, Memory>
-    requires { IsSmall job }
-    ensures job { IfOk result (λ made. made.job ≡ job) }
-    ensures made { IfOk result (λ made. IsMadeOf made.job made.plan made.mesh made.report) }
-    ensures text { IfOk result (λ made. made.text ≡ report_text made.report) }
+// Whether the command serves the job today.
+fn serves(command: Command, job: &Job) -> bool
+    requires { IsBuilt command }
+    ensures yes { result ≡ true → Serves command job.now }
+    ensures no { Serves command job.now → result ≡ true }
 {
-    let plan = plan_of(alloc, &job)?;
-    let mesh = run_plan(alloc, &job, &plan)?;
-    let report = report_on(alloc, &job, &plan, &mesh)?;
-    let text = text_of(alloc, &report)?;
-    Ok(Made {
-        job,
-        plan,
-        mesh,
-        report,
-        text,
-    })
+    if command == Command::Run {
+        return job.machine.width() == 1 && job.machine.height() == 1;
+    }
+    true
+}
+
+// What a command makes of a planned job.
+fn output_of(
+    alloc: Global,
+    command: Command,
+    value: &Value,
+    job: &Job,
+    plan: &Plan,
+) -> Result<Output, Memory>
+    requires built { IsBuilt command }
+    requires served { Serves command job.now }
+    requires faultless { machine_faults (view value.now) ≡ [] }
+    requires machine { machine_value (view value.now) ≡ job.now.machine }
+    requires graph { IsValidGraph job.now.graph }
+    requires run { IsRunPartOf job.now.graph job.now.run }
+    requires planned { IsPlanned job.now plan.now }
+    ensures { IfOk result (λ out. IsOutputOf command job.now plan.now out.mesh out.report out.text) }
+{
+    if command == Command::Run {
+        return run(alloc, value, job, plan);
+    }
+    list(alloc, job, plan)
 }
 
 // Writes the text of what was made.
-fn write_report<K: Sink>(made: Made, sink: &mut K) -> Outcome
+fn write_text<K: Sink>(made: Made, sink: &mut K) -> Outcome
     ensures status { result.status ≡ status_at result.refusal }
-    ensures parts { GivesParts result made.job made.plan made.mesh made.report }
-    ensures written { ((result.refusal ≡ None) × Takes (K.written sink.old) made.text (K.written sink.new))
-        ⊎ ((result.refusal ≡ Some WriteFault) × TakesProperPrefix (K.written sink.old) made.text (K.written sink.new)
+    ensures job { result.job ≡ Some made.job }
+    ensures plan { result.plan ≡ Some made.plan }
+    ensures mesh { result.mesh ≡ made.output.mesh }
+    ensures report { result.report ≡ made.output.report }
+    ensures written { ((result.refusal ≡ None) × Takes (K.written sink.old) made.output.text (K.written sink.new))
+        ⊎ ((result.refusal ≡ Some WriteFault) × TakesProperPrefix (K.written sink.old) made.output.text (K.written sink.new)
         × FaultsRose (K.faults sink.old) (K.faults sink.new)) }
 {
-    let Made {
-        job,
-        plan,
-        mesh,
-        report,
-        text,
-    } = made;
+    let Made { job, plan, output } = made;
+    let Output { mesh, report, text } = output;
     let refusal = match write_all(sink, text.as_slice()) {
         Ok(()) => None,
         Err(_) => Some(Refusal::WriteFault),
     };
     Outcome {
-        status: status_for(refusal),
+        status: if refusal.is_none() { 0 } else { 3 },
         job: Some(job),
         plan: Some(plan),
-        mesh: Some(mesh),
-        report: Some(report),
+        mesh,
+        report,
         refusal,
     }
 }
 
-// Writes the line of a refusal.
-fn write_refusal<K: Sink>(refusal: Refusal, sink: &mut K) -> Outcome
+// Writes the line of a refusal, or that of want of memory where there is no memory for it.
+fn write_refusal<K: Sink>(alloc: Global, refusal: Refusal, sink: &mut K) -> Outcome
     ensures status { result.status ≡ status_at result.refusal }
     ensures parts { GivesNoPart result }
-    ensures written { ((result.refusal ≡ Some refusal) × Takes (K.written sink.old) (line_of refusal) (K.written sink.new))
-        ⊎ ((result.refusal ≡ Some WriteFault) × TakesProperPrefix (K.written sink.old) (line_of refusal) (K.written sink.new)
-        × FaultsRose (K.faults sink.old) (K.faults sink.new)) }
+    ensures written { IsLineWritten refusal (K.written sink.old) (K.written sink.new) (K.faults sink.old) (K.faults sink.new) result.refusal
+        ⊎ IsLineWritten NoMemory (K.written sink.old) (K.written sink.new) (K.faults sink.old) (K.faults sink.new) result.refusal }
 {
-    let refusal = match write_all(sink, refusal.line().as_bytes()) {
+    match line_of(alloc, &refusal) {
+        Ok(line) => write_line(refusal, line.as_slice(), sink),
+        Err(Memory) => write_line(Refusal::Memory, OUT_OF_MEMORY.as_bytes(), sink),
+    }
+}
+
+// Writes the line of a refusal.
+fn write_line<K: Sink>(refusal: Refusal, line: &[u8], sink: &mut K) -> Outcome
+    requires { line.now ≡ line_of_refusal refusal }
+    ensures status { result.status ≡ status_at result.refusal }
+    ensures parts { GivesNoPart result }
+    ensures written { IsLineWritten refusal (K.written sink.old) (K.written sink.new) (K.faults sink.old) (K.faults sink.new) result.refusal }
+{
+    let refusal = match write_all(sink, line) {
         Ok(()) => refusal,
         Err(_) => Refusal::WriteFault,
     };
@@ -203,15 +225,5 @@ fn write_refusal<K: Sink>(refusal: Refusal, sink: &mut K) -> Outcome
         mesh: None,
         report: None,
         refusal: Some(refusal),
-    }
-}
-
-// The status of an outcome: 0 where there is no refusal.
-fn status_for(refusal: Option<Refusal>) -> u8
-    ensures { result ≡ status_at refusal }
-{
-    match refusal {
-        Some(refusal) => refusal.status(),
-        None => 0,
     }
 }

@@ -33,7 +33,7 @@ returns-clause-run c =
     ∙ ap (λ ps. after_packets opened (map (λ (p : Packet). slice_index_or c.args.sources.now p.net 0) ps)) (take_all c.loop-packet.packet-index c.args.packets.now c.loop-packet-test.false)
     in
     subst (HasRun opened) (sym end)
-    (has_run c.args.machine c.args.spots.now (c.args.table ∷ []) c.args.queue c.args.nets.now r.one_chip r.room c.args.packets.now c.args.sources.now r.of_nets r.sources r.stand r.right r.edgeless)
+    (has_run c.args.machine c.args.spots.now (c.args.table ∷ []) c.args.queue c.args.nets.now r.one_chip r.room c.args.packets.now c.args.sources.now r.of_nets r.sources r.stand r.right)
 
 pub returns-clause-ledger : goal.returns-clause-ledger
 returns-clause-ledger c =
@@ -42,11 +42,11 @@ returns-clause-ledger c =
     let end = c.loop-packet.invariant.reached
     ∙ ap (λ ps. after_packets opened (map (λ (p : Packet). slice_index_or c.args.sources.now p.net 0) ps)) (take_all c.loop-packet.packet-index c.args.packets.now c.loop-packet-test.false)
     in
-    let mesh = is_mesh c.args.machine c.args.spots.now (c.args.table ∷ []) c.args.queue c.args.nets.now r.one_chip r.room c.args.packets.now c.args.sources.now r.of_nets r.sources r.stand r.right r.edgeless
+    let mesh = is_mesh c.args.machine c.args.spots.now (c.args.table ∷ []) c.args.queue c.args.nets.now r.one_chip r.room c.args.packets.now c.args.sources.now r.of_nets r.sources r.stand r.right
     r.usable r.different refl
     in
     subst (λ s. MeetsJobLedger s c.args.nets.now c.args.packets.now) (sym end)
-    (keeps_ledger c.args.machine c.args.spots.now (c.args.table ∷ []) c.args.queue c.args.nets.now r.one_chip r.room c.args.packets.now c.args.sources.now r.of_nets r.sources r.stand r.right r.edgeless mesh)
+    (keeps_ledger c.args.machine c.args.spots.now (c.args.table ∷ []) c.args.queue c.args.nets.now r.one_chip r.room c.args.packets.now c.args.sources.now r.of_nets r.sources r.stand r.right mesh)
 
 pub returns-clause-delivered : goal.returns-clause-delivered
 returns-clause-delivered c =
@@ -55,8 +55,8 @@ returns-clause-delivered c =
     let end = c.loop-packet.invariant.reached
     ∙ ap (λ ps. after_packets opened (map (λ (p : Packet). slice_index_or c.args.sources.now p.net 0) ps)) (take_all c.loop-packet.packet-index c.args.packets.now c.loop-packet-test.false)
     in
-    let mesh = is_mesh c.args.machine c.args.spots.now (c.args.table ∷ []) c.args.queue c.args.nets.now r.one_chip r.room c.args.packets.now c.args.sources.now r.of_nets r.sources r.stand r.right r.edgeless
+    let mesh = is_mesh c.args.machine c.args.spots.now (c.args.table ∷ []) c.args.queue c.args.nets.now r.one_chip r.room c.args.packets.now c.args.sources.now r.of_nets r.sources r.stand r.right
     r.usable r.different refl
     in
     subst (λ s. AreAsExpected s c.args.nets.now c.args.packets.now) (sym end)
-    (delivers c.args.machine c.args.spots.now (c.args.table ∷ []) c.args.queue c.args.nets.now r.one_chip r.room c.args.packets.now c.args.sources.now r.of_nets r.sources r.stand r.right r.edgeless mesh)
+    (delivers c.args.machine c.args.spots.now (c.args.table ∷ []) c.args.queue c.args.nets.now r.one_chip r.room c.args.packets.now c.args.sources.now r.of_nets r.sources r.stand r.right mesh)

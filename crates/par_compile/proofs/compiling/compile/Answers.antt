@@ -16,23 +16,20 @@ plain_tables-requires c =
     routed c.args.machine.now c.in-Ok.placement.spots (zip c.args.graph.now.nets c.in-Ok-keys.blocks) c.in-Ok-net_plans.nets c.in-Ok-net_plans.ensures.planned
     (subst (AllPairs (λ (a b : Block). Intersects a b → ⊥)) (sym same) c.in-Ok-keys.ensures.apart) c.in-Ok-net_plans.ensures.routing c.in-Ok.ensures.usable
 
-pub returns-in-Ok-plain_tables-clause-blocks : goal.returns-in-Ok-plain_tables-clause-blocks
-returns-in-Ok-plain_tables-clause-blocks c =
+pub returns-in-Ok-plain_tables-clause-plan : goal.returns-in-Ok-plain_tables-clause-plan
+returns-in-Ok-plain_tables-clause-plan c =
     let same = blocks_same c.args.machine.now c.in-Ok.placement.spots c.args.graph.now.nets c.in-Ok-keys.blocks c.in-Ok-net_plans.nets c.in-Ok-keys.ensures.blocks.all c.in-Ok-net_plans.ensures.planned in
-    subst (AreRightBlocks c.args.graph.now.nets) (sym same) c.in-Ok-keys.ensures.blocks
-
-pub returns-in-Ok-plain_tables-clause-nets : goal.returns-in-Ok-plain_tables-clause-nets
-returns-in-Ok-plain_tables-clause-nets c =
-    let same = blocks_same c.args.machine.now c.in-Ok.placement.spots c.args.graph.now.nets c.in-Ok-keys.blocks c.in-Ok-net_plans.nets c.in-Ok-keys.ensures.blocks.all c.in-Ok-net_plans.ensures.planned in
-    subst (λ bs. AllZip (IsPlanned c.args.machine.now c.in-Ok.placement.spots) (zip c.args.graph.now.nets bs) c.in-Ok-net_plans.nets) (sym same) c.in-Ok-net_plans.ensures.planned
-
-pub returns-in-Ok-plain_tables-clause-enough : goal.returns-in-Ok-plain_tables-clause-enough
-returns-in-Ok-plain_tables-clause-enough c =
-    let same = blocks_same c.args.machine.now c.in-Ok.placement.spots c.args.graph.now.nets c.in-Ok-keys.blocks c.in-Ok-net_plans.nets c.in-Ok-keys.ensures.blocks.all c.in-Ok-net_plans.ensures.planned in
-    subst (AllZip HasKeys c.args.graph.now.nets) (sym same) c.in-Ok-keys.ensures.enough
-
-pub returns-in-Ok-plain_tables-clause-stand : goal.returns-in-Ok-plain_tables-clause-stand
-returns-in-Ok-plain_tables-clause-stand c =
-    let same = blocks_same c.args.machine.now c.in-Ok.placement.spots c.args.graph.now.nets c.in-Ok-keys.blocks c.in-Ok-net_plans.nets c.in-Ok-keys.ensures.blocks.all c.in-Ok-net_plans.ensures.planned in
-    stands c.args.machine.now c.in-Ok.placement.spots (zip c.args.graph.now.nets c.in-Ok-keys.blocks) c.in-Ok-net_plans.nets c.in-Ok-net_plans.ensures.planned
-    (subst (AllPairs (λ (a b : Block). Intersects a b → ⊥)) (sym same) c.in-Ok-keys.ensures.apart) c.in-Ok-net_plans.ensures.routing
+    record {
+      placed = c.in-Ok.ensures.placed;
+      different = c.in-Ok.ensures.different;
+      usable = c.in-Ok.ensures.usable;
+      blocks = subst (AreRightBlocks c.args.graph.now.nets) (sym same) c.in-Ok-keys.ensures.blocks;
+      enough = subst (AllZip HasKeys c.args.graph.now.nets) (sym same) c.in-Ok-keys.ensures.enough;
+      nets = subst (λ bs. AllZip (IsPlanned c.args.machine.now c.in-Ok.placement.spots) (zip c.args.graph.now.nets bs) c.in-Ok-net_plans.nets) (sym same) c.in-Ok-net_plans.ensures.planned;
+      stand = stands c.args.machine.now c.in-Ok.placement.spots (zip c.args.graph.now.nets c.in-Ok-keys.blocks) c.in-Ok-net_plans.nets c.in-Ok-net_plans.ensures.planned
+          (subst (AllPairs (λ (a b : Block). Intersects a b → ⊥)) (sym same) c.in-Ok-keys.ensures.apart) c.in-Ok-net_plans.ensures.routing;
+      one_table_each = c.in-Ok-plain_tables.ensures.long;
+      plain = c.in-Ok-plain_tables.ensures.plain;
+      right = c.in-Ok-plain_tables.ensures.right;
+      followed = c.in-Ok-plain_tables.ensures.followed;
+    }

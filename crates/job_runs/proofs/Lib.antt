@@ -1,0 +1,4 @@
+pub mod Loading
+pub mod Lone
+pub mod Needs
+pub mod Pairs

@@ -1,2 +1,0 @@
-pub mod OneChip
-pub mod Plans
