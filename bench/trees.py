@@ -148,9 +148,9 @@ def processor_time():
 
 
 def timed(program, *words):
-    """The least processor time of three runs, and what the program wrote."""
+    """The least processor time of five runs, and what the program wrote."""
     times = []
-    for _ in range(3):
+    for _ in range(5):
         before = processor_time()
         done = subprocess.run([program, *map(str, words)], capture_output=True, check=True)
         times.append(processor_time() - before)

@@ -54,6 +54,7 @@ after block p s = record {
   lists = set s.lists p (marked block (get_or s.ports p None) (get_or s.routes p nothing) (get_or s.lists p []));
 }
 
+-- the boards and the lists have the place
 pub record Has (s : Stand) (p : ℕ) : Type 0 where
   pub ports : p < length s.ports
   pub routes : p < length s.routes
@@ -118,6 +119,7 @@ pub record IsAfter (block : Block) (p : ℕ) (s t : Stand) : Type 0 where
   pub routes : t.routes ≡ set s.routes p nothing
   pub lists : t.lists ≡ set s.lists p (marked block (get_or s.ports p None) (get_or s.routes p nothing) (get_or s.lists p []))
 
+-- such boards and lists are the same
 is_after : (block : Block) (p : ℕ) (s t : Stand) → IsAfter block p s t → after block p s ≡ t
 unfolding after
 is_after block p s t is =
@@ -130,6 +132,7 @@ is_after block p s t is =
     ap (λ ls. record { ports = t.ports; routes = t.routes; lists = ls }) (sym is.lists) in
     a ∙ (b ∙ c)
 
+-- only the root's place was taken
 first_after : (m : Description) (root : Chip) (edges : List Edge) (block : Block) (from : Stand) (p : ℕ) → p ≡ index_of m root → Has from p →
     IsTaken m root (take 0 edges) block from (after block p from)
 unfolding after
@@ -156,6 +159,7 @@ pub taken_first : (m : Description) (root : Chip) (edges : List Edge) (block : B
 taken_first m root edges block from s p at within is =
     subst (IsTaken m root (take 0 edges) block from) (is_after block p from s is) (first_after m root edges block from p at within)
 
+-- the place of the far end of one more edge is taken
 taken_push : (m : Description) (root : Chip) (es : List Edge) (e : Edge) (far : Chip) (block : Block) (from s : Stand) (p : ℕ) →
     end_of m e ≡ Some far → p ≡ index_of m far → Has s p → IsTaken m root es block from s → IsTaken m root (es ++ e ∷ []) block from (after block p s)
 unfolding after
@@ -178,6 +182,7 @@ taken_push m root es e far block from s p leads at within so_far = record {
     one : {a b : Chip} → Some a ≡ Some b → a ≡ b
     one e = cc
 
+-- one more edge leads nowhere
 taken_nowhere : (m : Description) (root : Chip) (es : List Edge) (e : Edge) (block : Block) (from s : Stand) → end_of m e ≡ None →
     IsTaken m root es block from s → IsTaken m root (es ++ e ∷ []) block from s
 taken_nowhere m root es e block from s none so_far = record {
@@ -197,7 +202,7 @@ taken_nowhere m root es e block from s none so_far = record {
     differ : {a : Chip} → None ≡ Some a → ⊥
     differ e = cc
 
--- the place of one more edge's far end is taken
+-- the same of an edge that is read from a list that is the tree's
 pub taken_more : (m : Description) (root : Chip) (items edges : List Edge) (i : ℕ) (d : Edge) (far : Chip) (block : Block) (from s t : Stand) (p : ℕ) → items ≡ edges →
     i < length items → end_of m (get_or items i d) ≡ Some far → p ≡ index_of m far → Has s p → IsAfter block p s t → IsTaken m root (take i edges) block from s →
     IsTaken m root (take (i + 1) edges) block from t
@@ -211,6 +216,7 @@ pub taken_same : (m : Description) (root : Chip) (items edges : List Edge) (i : 
 taken_same m root items edges i d block from s same below none so_far =
     subst (λ es. IsTaken m root es block from s) (sym (reads items edges i d same below)) (taken_nowhere m root (take i edges) (get_or items i d) block from s none so_far)
 
+-- the edges were read to the end
 pub taken_all : (m : Description) (root : Chip) (items edges : List Edge) (i : ℕ) (block : Block) (from s : Stand) → items ≡ edges → length items ≤ i →
     IsTaken m root (take i edges) block from s → IsTaken m root edges block from s
 taken_all m root items edges i block from s same past =

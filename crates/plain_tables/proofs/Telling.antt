@@ -119,6 +119,7 @@ pub ports_same : (m : Description) (root : Chip) (items edges : List Edge) (i : 
 ports_same m root items edges i d ports same within none told =
     subst (λ es. TellsPorts m root es ports) (sym (reads items edges i d same within)) (ports_nowhere m root (take i edges) (get_or items i d) ports none told)
 
+-- the edges were read to the end
 pub ports_all : (m : Description) (root : Chip) (items edges : List Edge) (i : ℕ) (ports : List (Option Port)) → items ≡ edges → length items ≤ i →
     TellsPorts m root (take i edges) ports → TellsPorts m root edges ports
 ports_all m root items edges i ports same past =
@@ -136,7 +137,7 @@ none_wanted c (Core p) = refl
 pub routes_start : (m : Description) (edges : List Edge) (routes : List Route) → IsClear m nothing routes → TellsRoutes m (take 0 edges) [] routes
 routes_start m edges routes clear c o inside valid = ap (λ r. has r o) (clear.clear c inside) ∙ (has_nothing o ∙ sym (none_wanted c o))
 
--- a route of a chip of the tree is written
+-- where the route of a chip of the tree is written, chips off the tree have none as before
 pub off_kept : (m : Description) (net : NetPlan) (k : Chip) (p : ℕ) (r : Route) (routes : List Route) → IsInside m k → HasChip m net k → p ≡ index_of m k →
     IsClearOff m net routes → IsClearOff m net (set routes p r)
 off_kept m net k p r routes k_in on at none c inside off =

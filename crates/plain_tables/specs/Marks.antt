@@ -47,7 +47,7 @@ pub record IsRouted (m : Description) (net : NetPlan) : Type 0 where
   pub tree : IsRoutingTree m net.tree.root net.tree.edges net.targets
   pub cores : All (λ (s : Spot). s.core < 18) net.targets
 
--- a board has a place for each chip, and the same at each
+-- a board has a place for each chip of the grid, and at each of them this
 pub record IsClear {X : Type 0} (m : Description) (x : X) (board : List X) : Type 0 where
   pub long : length board ≡ m.width * m.height
   pub clear : (c : Chip) → IsInside m c → slice_index_or board (index_of m c) x ≡ x
