@@ -147,14 +147,15 @@ def processor_time():
     return used.ru_utime + used.ru_stime
 
 
-def timed(program, *words):
-    """The least processor time of five runs, and what the program wrote."""
-    times = []
+def timed(program, *runs):
+    """Of each of the runs the least processor time of five, and what the last wrote. They take turns."""
+    times = [[] for _ in runs]
     for _ in range(5):
-        before = processor_time()
-        done = subprocess.run([program, *map(str, words)], capture_output=True, check=True)
-        times.append(processor_time() - before)
-    return min(times), done.stdout.decode().strip()
+        for words, spent in zip(runs, times):
+            before = processor_time()
+            done = subprocess.run([program, *map(str, words)], capture_output=True, check=True)
+            spent.append(processor_time() - before)
+    return [min(spent) for spent in times], done.stdout.decode().strip()
 
 
 def main():
@@ -167,8 +168,7 @@ def main():
         ):
             print(what)
             for many in sizes:
-                grown, _ = timed(program, 0, many, count, side)
-                spent, rows = timed(program, turns, many, count, side)
+                (grown, spent), rows = timed(program, (0, many, count, side), (turns, many, count, side))
                 tables = (spent - grown) / turns
                 print(f"  {many:5} nets: ner {grown * 1000:7.0f} ms   plain_tables {tables * 1000:7.1f} ms   {rows} rows")
 
