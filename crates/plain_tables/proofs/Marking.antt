@@ -1,66 +1,13 @@
--- Lists of original blocks, as they grow place by place and net by net.
-use Rattle.std.proofs.Common.{◌≡◌, ℕ, ◌+◌, ◌<◌, ◌≤◌, List, [], ◌∷◌, ◌++◌, length, get_or, take, set, map, Option, Some, None, refl, sym, ap, ◌∙◌, subst, arith, inl, inr}
-use Rattle.std.proofs.lemmas.Bool.{cases_eq, cases_lt}
-use Rattle.std.proofs.lemmas.List.{get_or-set_same, get_or-set_other, get_or_past, take_more}
+-- Lists of original blocks, as they grow net by net.
+use Rattle.std.proofs.Common.{◌≡◌, ℕ, ◌+◌, ◌<◌, List, [], ◌∷◌, ◌++◌, length, get_or, take, map, refl, sym, ap, ◌∙◌, subst, inl, inr}
+use Rattle.std.proofs.lemmas.List.{take_more}
 use Rattle.spin_base.specs.declared.chips.Chip.{Chip}
-use Rattle.spin_base.specs.declared.chips.Port.{Port}
-use Rattle.spin_base.specs.declared.blocks.Block.{Block}
-use Rattle.spin_base.specs.declared.routes.Route.{Route}
-use Rattle.spin_base.specs.Outputs.{nothing}
 use Rattle.machine_desc.specs.Description.{Description}
 use Rattle.net_tables.specs.declared.nets.NetPlan.{NetPlan}
 use Rattle.tern_word.specs.SoundTable.{Original}
 use Rattle.plain_tables.specs.declared.marks.Mark.{Mark}
 use Rattle.plain_tables.specs.PlainTable.{HasChip, IsOriginalOf, AreOriginals}
-use Rattle.plain_tables.specs.Marks.{Grows, marked, original_of}
-
--- the lists below place n have got what their ports say, and the others nothing
-pub record Marked (block : Block) (ports : List (Option Port)) (routes : List Route) (before after : List (List Mark)) (n : ℕ) : Type 0 where
-  pub done : (i : ℕ) → i < n → get_or after i [] ≡ marked block (get_or ports i None) (get_or routes i nothing) (get_or before i [])
-  pub left : (i : ℕ) → n ≤ i → get_or after i [] ≡ get_or before i []
-
-module _ (block : Block) (ports : List (Option Port)) (routes : List Route) (before : List (List Mark)) where
-  pub marked_start : Marked block ports routes before before 0
-  marked_start = record { done = λ i below. absurd (omega (arith, below)); left = λ i _. refl }
-
-  pub marked_more : (after : List (List Mark)) (n : ℕ) (port : Port) (k : Mark) → n < length after → get_or ports n None ≡ Some port →
-      k ≡ record { block = block; port = port; route = get_or routes n nothing } → Marked block ports routes before after n →
-      Marked block ports routes before (set after n (get_or after n [] ++ k ∷ [])) (n + 1)
-  marked_more after n port k within there is so_far = record {
-    done = λ i below. elim (cases_eq i n) [
-      | inl here ↦
-          let got : get_or (set after n (get_or after n [] ++ k ∷ [])) n [] ≡ marked block (get_or ports n None) (get_or routes n nothing) (get_or before n []) =
-          get_or-set_same after n (get_or after n [] ++ k ∷ []) [] within
-          ∙ (ap (λ l. l ++ k ∷ []) (so_far.left n (omega arith)) ∙ (ap (λ (x : Mark). get_or before n [] ++ x ∷ []) is
-          ∙ sym (ap (λ o. marked block o (get_or routes n nothing) (get_or before n [])) there)))
-          in
-          subst (λ j. get_or (set after n (get_or after n [] ++ k ∷ [])) j [] ≡ marked block (get_or ports j None) (get_or routes j nothing) (get_or before j [])) (sym here) got
-      | inr other ↦ get_or-set_other after n i (get_or after n [] ++ k ∷ []) [] other ∙ so_far.done i (omega arith)
-    ];
-    left = λ i past. get_or-set_other after n i (get_or after n [] ++ k ∷ []) [] (λ e. omega arith) ∙ so_far.left i (omega arith);
-  }
-
-  pub marked_skip : (after : List (List Mark)) (n : ℕ) → get_or ports n None ≡ None → Marked block ports routes before after n →
-      Marked block ports routes before after (n + 1)
-  marked_skip after n there so_far = record {
-    done = λ i below. elim (cases_eq i n) [
-      | inl here ↦
-          let got : get_or after n [] ≡ marked block (get_or ports n None) (get_or routes n nothing) (get_or before n []) =
-          so_far.left n (omega arith) ∙ sym (ap (λ o. marked block o (get_or routes n nothing) (get_or before n [])) there) in
-          subst (λ j. get_or after j [] ≡ marked block (get_or ports j None) (get_or routes j nothing) (get_or before j [])) (sym here) got
-      | inr other ↦ so_far.done i (omega arith)
-    ];
-    left = λ i past. so_far.left i (omega arith);
-  }
-
-  pub marked_all : (after : List (List Mark)) (n : ℕ) → length ports ≤ n → Marked block ports routes before after n →
-      (i : ℕ) → get_or after i [] ≡ marked block (get_or ports i None) (get_or routes i nothing) (get_or before i [])
-  marked_all after n long so_far i = elim (cases_lt i n) [
-    | inl below ↦ so_far.done i below
-    | inr past ↦ so_far.left i past ∙ sym (ap (λ o. marked block o (get_or routes i nothing) (get_or before i [])) (get_or_past ports i None (omega arith)))
-  ]
-
--- ---- one net more
+use Rattle.plain_tables.specs.Marks.{Grows, original_of}
 
 originals_push : (m : Description) (c : Chip) (nets : List NetPlan) (net : NetPlan) (os : List Original) (o : Original) → HasChip m net c → IsOriginalOf m net c o →
     AreOriginals m c nets os → AreOriginals m c (nets ++ net ∷ []) (os ++ o ∷ [])

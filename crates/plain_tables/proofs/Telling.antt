@@ -1,10 +1,10 @@
 -- What ports and routes tell, as a tree's edges and target cores are read one by one.
-use Rattle.std.proofs.Common.{◌≡◌, ◌≢◌, ℕ, ◌+◌, ◌*◌, ◌<◌, ◌≤◌, ◌==◌, Bool, true, false, ◌||◌, List, [], ◌∷◌, ◌++◌, length, get_or, take, set, replicate, Option, Some, None, refl, sym, ap, ◌∙◌, subst, arith, inl, inr, ◌⊎◌}
-use Rattle.std.specs.List.{All, Contains, list_any}
-use Rattle.std.proofs.lemmas.Bool.{cases_eq, cases_lt, cases_Bool, or_right, false_from_ne_true, false≢true}
+use Rattle.std.proofs.Common.{◌≡◌, ◌≢◌, ℕ, ◌+◌, ◌*◌, ◌<◌, ◌≤◌, ◌==◌, Bool, true, false, ◌||◌, List, [], ◌∷◌, ◌++◌, length, get_or, take, set, Option, Some, None, refl, sym, ap, ◌∙◌, subst, arith, inl, inr, ◌⊎◌}
+use Rattle.std.specs.List.{Contains, list_any}
+use Rattle.std.proofs.lemmas.Bool.{cases_eq, cases_Bool, or_right, false_from_ne_true, false≢true}
 use Rattle.std.proofs.Math.Bool.{or-false}
 use Rattle.std.proofs.lemmas.Nat.Bits.{bit_at-zero}
-use Rattle.std.proofs.lemmas.List.{get_or-set_same, get_or-set_other, get_or-replicate, get_or_past, get_or_default, length-replicate, take_more}
+use Rattle.std.proofs.lemmas.List.{get_or-set_same, get_or-set_other, get_or_default, take_all, take_more}
 use Rattle.std.proofs.Math.ListN.{length-set}
 use Rattle.std.proofs.lemmas.List.Elements.{Contains-append_left, Contains-push, Contains-push_cases}
 use Rattle.std.proofs.lemmas.List.Folds.{list_any_more}
@@ -27,7 +27,9 @@ use Rattle.machine_desc.specs.Equality.{edge_eq}
 use Rattle.machine_desc.proofs.Far.{same_index, far_inside}
 use Rattle.machine_desc.proofs.Same.{edge_eq-true, edge_eq_self}
 use Rattle.net_tables.specs.Outputs.{is_wanted}
-use Rattle.plain_tables.specs.Marks.{TellsPort, TellsPorts, TellsRoutes}
+use Rattle.net_tables.specs.declared.nets.NetPlan.{NetPlan}
+use Rattle.plain_tables.specs.PlainTable.{HasChip}
+use Rattle.plain_tables.specs.Marks.{IsClear, IsClearOff, TellsPort, TellsPorts, TellsRoutes}
 
 -- ---- ports
 
@@ -36,24 +38,15 @@ pub tree_cases : (m : Description) (root : Chip) (tree : List Edge) (c : Chip) �
 tree_cases m root tree c (inl at) = inl at
 tree_cases m root tree c (inr into) = inr (into.1, (into.0, into.2, into.3), into.4)
 
-clear : {X : Type 0} (x : X) (n i : ℕ) → get_or (replicate n x) i x ≡ x
-clear x n i = elim (cases_lt i n) [
-  | inl below ↦ get_or-replicate n i x x below
-  | inr past ↦ let long : length (replicate n x) ≤ i = rw (length-replicate n x) past in get_or_past (replicate n x) i x long
-]
-
-abbrev none_at : Option Port
-none_at = None
-
-ports_start : (m : Description) (root : Chip) (edges : List Edge) (n p : ℕ) → IsInside m root → p ≡ index_of m root →
-    p < length (replicate n none_at) → TellsPorts m root (take 0 edges) (set (replicate n none_at) p (Some Local))
-ports_start m root edges n p root_in at below c inside = elim (cases_eq (index_of m c) p) [
+ports_start : (m : Description) (root : Chip) (edges : List Edge) (p : ℕ) (ports : List (Option Port)) → IsClear m None ports → IsInside m root → p ≡ index_of m root →
+    p < length ports → TellsPorts m root (take 0 edges) (set ports p (Some Local))
+ports_start m root edges p ports clear root_in at below c inside = elim (cases_eq (index_of m c) p) [
   | inl here ↦
       let is : c ≡ root = same_index m c root inside root_in (here ∙ at) in
-      subst (TellsPort m root [] c) (sym (ap (λ j. get_or (set (replicate n none_at) p (Some Local)) j None) here ∙ get_or-set_same (replicate n none_at) p (Some Local) None below))
+      subst (TellsPort m root [] c) (sym (ap (λ j. get_or (set ports p (Some Local)) j None) here ∙ get_or-set_same ports p (Some Local) None below))
       (inl (is, refl))
   | inr other ↦
-      subst (TellsPort m root [] c) (sym (get_or-set_other (replicate n none_at) p (index_of m c) (Some Local) None other ∙ clear none_at n (index_of m c)))
+      subst (TellsPort m root [] c) (sym (get_or-set_other ports p (index_of m c) (Some Local) None other ∙ clear.clear c inside))
       (λ on. elim (tree_cases m root [] c on) [
         | inl is ↦ other (ap (index_of m) is ∙ sym at)
         | inr into ↦ no_edge into.1
@@ -63,13 +56,11 @@ ports_start m root edges n p root_in at below c inside = elim (cases_eq (index_o
     no_edge : {e : Edge} → Contains [] e → ⊥
     no_edge (k, below, is) = omega (arith, below)
 
-pub ports_first : (m : Description) (root : Chip) (edges : List Edge) (n p : ℕ) (ports : List (Option Port)) → ports ≡ replicate n none_at → n ≡ m.width * m.height →
+pub ports_first : (m : Description) (root : Chip) (edges : List Edge) (p : ℕ) (ports : List (Option Port)) → IsClear m None ports →
     IsInside m root → p ≡ index_of m root → p < m.width * m.height →
     (length (set ports p (Some Local)) ≡ m.width * m.height) × TellsPorts m root (take 0 edges) (set ports p (Some Local))
-ports_first m root edges n p ports is many root_in at below =
-    let long : length (replicate n none_at) ≡ m.width * m.height = length-replicate n none_at ∙ many in
-    subst (λ (ps : List (Option Port)). (length (set ps p (Some Local)) ≡ m.width * m.height) × TellsPorts m root (take 0 edges) (set ps p (Some Local))) (sym is)
-    (length-set (replicate n none_at) p (Some Local) ∙ long, ports_start m root edges n p root_in at (subst (λ k. p < k) (sym long) below))
+ports_first m root edges p ports clear root_in at below =
+    (length-set ports p (Some Local) ∙ clear.long, ports_start m root edges p ports clear root_in at (subst (λ k. p < k) (sym clear.long) below))
 
 -- an edge that leads elsewhere changes nothing at a chip
 kept : (m : Description) (root : Chip) (es : List Edge) (e : Edge) (c : Chip) (o : Option Port) → (end_of m e ≢ Some c) →
@@ -111,18 +102,28 @@ ports_nowhere m root es e ports none told c inside =
     differ : {a : Chip} → None ≡ Some a → ⊥
     differ e = cc
 
--- one more edge is read
-pub ports_more : (m : Description) (root : Chip) (edges : List Edge) (i : ℕ) (d : Edge) (far : Chip) (p : ℕ) (ports : List (Option Port)) → i < length edges →
-    end_of m (get_or edges i d) ≡ Some far → IsInside m (get_or edges i d).chip → p ≡ index_of m far → p < length ports → TellsPorts m root (take i edges) ports →
-    TellsPorts m root (take (i + 1) edges) (set ports p (Some (ByLink (opposite_of (get_or edges i d).dir))))
-ports_more m root edges i d far p ports within leads inside at below told =
-    subst (λ es. TellsPorts m root es (set ports p (Some (ByLink (opposite_of (get_or edges i d).dir))))) (sym (take_more edges i d within))
-    (ports_push m root (take i edges) (get_or edges i d) far p ports leads (far_inside m (get_or edges i d).chip far (get_or edges i d).dir inside leads) at below told)
+-- one more thing of a list is read, which is the same as another
+pub reads : {X : Type 0} (items xs : List X) (i : ℕ) (d : X) → items ≡ xs → i < length items → take (i + 1) xs ≡ take i xs ++ get_or items i d ∷ []
+reads items xs i d same within = sym (ap (take (i + 1)) same) ∙ (take_more items i d within ∙ ap (λ l. take i l ++ get_or items i d ∷ []) same)
 
-pub ports_same : (m : Description) (root : Chip) (edges : List Edge) (i : ℕ) (d : Edge) (ports : List (Option Port)) → i < length edges →
-    end_of m (get_or edges i d) ≡ None → TellsPorts m root (take i edges) ports → TellsPorts m root (take (i + 1) edges) ports
-ports_same m root edges i d ports within none told =
-    subst (λ es. TellsPorts m root es ports) (sym (take_more edges i d within)) (ports_nowhere m root (take i edges) (get_or edges i d) ports none told)
+-- one more edge is read
+pub ports_more : (m : Description) (root : Chip) (items edges : List Edge) (i : ℕ) (d : Edge) (far : Chip) (p : ℕ) (ports : List (Option Port)) → items ≡ edges →
+    i < length items → end_of m (get_or items i d) ≡ Some far → IsInside m (get_or items i d).chip → p ≡ index_of m far → p < length ports →
+    TellsPorts m root (take i edges) ports → TellsPorts m root (take (i + 1) edges) (set ports p (Some (ByLink (opposite_of (get_or items i d).dir))))
+ports_more m root items edges i d far p ports same within leads inside at below told =
+    subst (λ es. TellsPorts m root es (set ports p (Some (ByLink (opposite_of (get_or items i d).dir))))) (sym (reads items edges i d same within))
+    (ports_push m root (take i edges) (get_or items i d) far p ports leads (far_inside m (get_or items i d).chip far (get_or items i d).dir inside leads) at below told)
+
+pub ports_same : (m : Description) (root : Chip) (items edges : List Edge) (i : ℕ) (d : Edge) (ports : List (Option Port)) → items ≡ edges → i < length items →
+    end_of m (get_or items i d) ≡ None → TellsPorts m root (take i edges) ports → TellsPorts m root (take (i + 1) edges) ports
+ports_same m root items edges i d ports same within none told =
+    subst (λ es. TellsPorts m root es ports) (sym (reads items edges i d same within)) (ports_nowhere m root (take i edges) (get_or items i d) ports none told)
+
+-- the edges were read to the end
+pub ports_all : (m : Description) (root : Chip) (items edges : List Edge) (i : ℕ) (ports : List (Option Port)) → items ≡ edges → length items ≤ i →
+    TellsPorts m root (take i edges) ports → TellsPorts m root edges ports
+ports_all m root items edges i ports same past =
+    subst (λ es. TellsPorts m root es ports) (take_all i edges (subst (λ (es : List Edge). length es ≤ i) same past))
 
 -- ---- routes
 
@@ -133,8 +134,14 @@ none_wanted : (c : Chip) (o : Out) → is_wanted [] [] c o ≡ false
 none_wanted c (Link d) = refl
 none_wanted c (Core p) = refl
 
-pub routes_start : (m : Description) (edges : List Edge) (n : ℕ) → TellsRoutes m (take 0 edges) [] (replicate n nothing)
-routes_start m edges n c o inside valid = ap (λ r. has r o) (clear nothing n (index_of m c)) ∙ (has_nothing o ∙ sym (none_wanted c o))
+pub routes_start : (m : Description) (edges : List Edge) (routes : List Route) → IsClear m nothing routes → TellsRoutes m (take 0 edges) [] routes
+routes_start m edges routes clear c o inside valid = ap (λ r. has r o) (clear.clear c inside) ∙ (has_nothing o ∙ sym (none_wanted c o))
+
+-- where the route of a chip of the tree is written, chips off the tree have none as before
+pub off_kept : (m : Description) (net : NetPlan) (k : Chip) (p : ℕ) (r : Route) (routes : List Route) → IsInside m k → HasChip m net k → p ≡ index_of m k →
+    IsClearOff m net routes → IsClearOff m net (set routes p r)
+off_kept m net k p r routes k_in on at none c inside off =
+    get_or-set_other routes p (index_of m c) r nothing (λ here. off (subst (HasChip m net) (sym (same_index m c k inside k_in (here ∙ at))) on)) ∙ none c inside off
 
 -- one output more at one chip
 module _ (m : Description) (k : Chip) (x : Out) (added : Chip → Out → Bool) (is : added k x ≡ true)
@@ -197,35 +204,44 @@ unfolding core_adds
 core_more edges targets i d within c (Link l) = sym (or-false (list_any (edge_eq (record { chip = c; dir = l })) edges))
 core_more edges targets i d within c (Core p) = list_any_more (spot_eq (record { chip = c; core = p })) targets i d within
 
-pub links_more : (m : Description) (edges : List Edge) (i : ℕ) (d : Edge) (p : ℕ) (routes : List Route) (old r : Route) → i < length edges →
+links_read : (m : Description) (edges : List Edge) (i : ℕ) (d : Edge) (p : ℕ) (routes : List Route) (old r : Route) → i < length edges →
     IsInside m (get_or edges i d).chip → p ≡ index_of m (get_or edges i d).chip → p < length routes → old ≡ get_or routes p old →
     WithOut old (Link (get_or edges i d).dir) r → TellsRoutes m (take i edges) [] routes →
     TellsRoutes m (take (i + 1) edges) [] (set routes p r)
 unfolding edge_adds
-links_more m edges i d p routes old r within inside at below is withs told =
+links_read m edges i d p routes old r within inside at below is withs told =
     let e : Edge = get_or edges i d in
     let before : old ≡ get_or routes p nothing = is ∙ get_or_default routes p old nothing below in
     added_one m e.chip (Link e.dir) (edge_adds e) (edge_eq_self e) (edge_only e) routes p r
     (is_wanted (take i edges) []) (is_wanted (take (i + 1) edges) []) inside at below
     (subst (λ (o : Route). WithOut o (Link e.dir) r) before withs) (edge_more edges i d within) told
 
+-- the same where the edges are read from a list that is theirs
+pub links_more : (m : Description) (items edges : List Edge) (i : ℕ) (d : Edge) (p : ℕ) (routes : List Route) (old r : Route) → items ≡ edges → i < length items →
+    IsInside m (get_or items i d).chip → p ≡ index_of m (get_or items i d).chip → p < length routes → old ≡ get_or routes p old →
+    WithOut old (Link (get_or items i d).dir) r → TellsRoutes m (take i edges) [] routes →
+    TellsRoutes m (take (i + 1) edges) [] (set routes p r)
+links_more m items edges i d p routes old r same within inside at below is withs =
+    subst (λ es. TellsRoutes m (take i es) [] routes → TellsRoutes m (take (i + 1) es) [] (set routes p r)) same
+    (links_read m items i d p routes old r within inside at below is withs)
+
 cores_read : (m : Description) (edges : List Edge) (targets : List Spot) (i : ℕ) (d : Spot) (p : ℕ) (routes : List Route) (old r : Route) → i < length targets →
-    p ≡ index_of m (get_or targets i d).chip → p < length routes → old ≡ get_or routes p old →
-    WithOut old (Core (get_or targets i d).core) r → All (λ (s : Spot). IsInside m s.chip) targets → TellsRoutes m edges (take i targets) routes →
+    IsInside m (get_or targets i d).chip → p ≡ index_of m (get_or targets i d).chip → p < length routes → old ≡ get_or routes p old →
+    WithOut old (Core (get_or targets i d).core) r → TellsRoutes m edges (take i targets) routes →
     TellsRoutes m edges (take (i + 1) targets) (set routes p r)
 unfolding core_adds
-cores_read m edges targets i d p routes old r within at below is withs inside told =
+cores_read m edges targets i d p routes old r within inside at below is withs told =
     let s : Spot = get_or targets i d in
     let before : old ≡ get_or routes p nothing = is ∙ get_or_default routes p old nothing below in
     added_one m s.chip (Core s.core) (core_adds s) (spot_eq_same s) (core_only s) routes p r
-    (is_wanted edges (take i targets)) (is_wanted edges (take (i + 1) targets)) (inside i d within) at below
+    (is_wanted edges (take i targets)) (is_wanted edges (take (i + 1) targets)) inside at below
     (subst (λ (o : Route). WithOut o (Core s.core) r) before withs) (core_more edges targets i d within) told
 
 -- the same where the targets are read from a list that is theirs
 pub cores_more : (m : Description) (edges : List Edge) (items targets : List Spot) (i : ℕ) (d : Spot) (p : ℕ) (routes : List Route) (old r : Route) → items ≡ targets → i < length items →
-    p ≡ index_of m (get_or items i d).chip → p < length routes → old ≡ get_or routes p old →
-    WithOut old (Core (get_or items i d).core) r → All (λ (s : Spot). IsInside m s.chip) targets → TellsRoutes m edges (take i targets) routes →
+    IsInside m (get_or items i d).chip → p ≡ index_of m (get_or items i d).chip → p < length routes → old ≡ get_or routes p old →
+    WithOut old (Core (get_or items i d).core) r → TellsRoutes m edges (take i targets) routes →
     TellsRoutes m edges (take (i + 1) targets) (set routes p r)
-cores_more m edges items targets i d p routes old r same within at below is withs =
-    subst (λ ts. All (λ (s : Spot). IsInside m s.chip) ts → TellsRoutes m edges (take i ts) routes → TellsRoutes m edges (take (i + 1) ts) (set routes p r)) same
-    (cores_read m edges items i d p routes old r within at below is withs)
+cores_more m edges items targets i d p routes old r same within inside at below is withs =
+    subst (λ ts. TellsRoutes m edges (take i ts) routes → TellsRoutes m edges (take (i + 1) ts) (set routes p r)) same
+    (cores_read m edges items i d p routes old r within inside at below is withs)

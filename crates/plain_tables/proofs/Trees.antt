@@ -1,5 +1,5 @@
 -- A routing tree is inside the grid, and what is told of its chips is what their lists get.
-use Rattle.std.proofs.Common.{◌≡◌, ◌<◌, List, get_or, Option, Some, None, refl, sym, subst, inl, inr}
+use Rattle.std.proofs.Common.{◌≡◌, ℕ, ◌<◌, List, length, get_or, Option, Some, None, refl, sym, subst, inl, inr}
 use Rattle.std.specs.List.{All}
 use Rattle.std.proofs.Math.ListN.{get_or-map}
 use Rattle.std.proofs.lemmas.List.{length-map}
@@ -36,18 +36,32 @@ module _ (m : Description) (root : Chip) (edges : List Edge) (targets : List Spo
     | inr into ↦ far_inside m into.0.chip c into.0.dir (All-contains (λ (e : Edge). IsInside m e.chip) edges into.0 edges_inside into.1) into.2
   ]
 
-  pub targets_inside : All (λ (s : Spot). IsInside m s.chip) targets
-  targets_inside k d below =
-      chips_inside (get_or targets k d).chip
-      (subst (IsTreeChip m root edges) (get_or-map (λ (s : Spot). s.chip) targets k d)
-      (tree.has_targets k d.chip (subst (λ n. k < n) (sym (length-map targets (λ (s : Spot). s.chip))) below)))
+  targets_on : All (λ (s : Spot). IsTreeChip m root edges s.chip) targets
+  targets_on k d below =
+      subst (IsTreeChip m root edges) (get_or-map (λ (s : Spot). s.chip) targets k d)
+      (tree.has_targets k d.chip (subst (λ n. k < n) (sym (length-map targets (λ (s : Spot). s.chip))) below))
+
+  -- the same of an edge or a target that is read from a list that is theirs
+  module _ (items : List Edge) (same : items ≡ edges) (k : ℕ) (d : Edge) (below : k < length items) where
+    pub edge_inside : IsInside m (get_or items k d).chip
+    edge_inside = subst (All (λ (e : Edge). IsInside m e.chip)) (sym same) edges_inside k d below
+
+    pub edge_on : IsTreeChip m root edges (get_or items k d).chip
+    edge_on = subst (All (λ (e : Edge). IsTreeChip m root edges e.chip)) (sym same) tree.edges_begin k d below
+
+  module _ (items : List Spot) (same : items ≡ targets) (k : ℕ) (d : Spot) (below : k < length items) where
+    pub target_on : IsTreeChip m root edges (get_or items k d).chip
+    target_on = subst (All (λ (s : Spot). IsTreeChip m root edges s.chip)) (sym same) targets_on k d below
+
+    pub target_inside : IsInside m (get_or items k d).chip
+    target_inside = chips_inside (get_or items k d).chip target_on
 
 -- where packets come in is a chip of the tree
 pub comes_in_tree : (m : Description) (root : Chip) (edges : List Edge) (c : Chip) (port : Port) → ComesIn m root edges c port → IsTreeChip m root edges c
 comes_in_tree m root edges c port (inl at) = inl at.0
 comes_in_tree m root edges c port (inr by) = inr (by.1.0, by.0, by.1.1, by.1.2, by.2)
 
-grows : (m : Description) (net : NetPlan) (c : Chip) (o : Option Port) (route : Route) (before after : List Mark) → TellsPort m net.tree.root net.tree.edges c o →
+pub grows : (m : Description) (net : NetPlan) (c : Chip) (o : Option Port) (route : Route) (before after : List Mark) → TellsPort m net.tree.root net.tree.edges c o →
     ((out : Out) → IsOutput out → has route out ≡ is_wanted net.tree.edges net.targets c out) → after ≡ marked net.block o route before → Grows m net c before after
 grows m net c (Some port) route before after told outputs is =
     inl (
@@ -57,9 +71,3 @@ grows m net c (Some port) route before after told outputs is =
       is,
     )
 grows m net c None route before after told outputs is = inr (told, is)
-
--- the same where the tree's edges are read from a list that is theirs
-pub grows_by : (m : Description) (net : NetPlan) (edges : List Edge) (c : Chip) (o : Option Port) (route : Route) (before after : List Mark) → edges ≡ net.tree.edges →
-    TellsPort m net.tree.root edges c o →
-    ((out : Out) → IsOutput out → has route out ≡ is_wanted net.tree.edges net.targets c out) → after ≡ marked net.block o route before → Grows m net c before after
-grows_by m net edges c o route before after same told = grows m net c o route before after (subst (λ es. TellsPort m net.tree.root es c o) same told)

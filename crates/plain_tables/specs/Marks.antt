@@ -1,5 +1,5 @@
 -- What one net wants of each chip, by the chip's index, and the rows that follow.
-use Rattle.std.specs.Prelude.{◌≡◌, ℕ, ◌+◌, ◌*◌, ◌<◌, ◌⊎◌, List, [], ◌∷◌, ◌++◌, Option, Some, None, All, AllPairs, map, slice_index_or}
+use Rattle.std.specs.Prelude.{◌≡◌, ℕ, ◌+◌, ◌*◌, ◌<◌, ◌⊎◌, List, [], ◌∷◌, ◌++◌, Option, Some, None, All, AllPairs, length, map, slice_index_or}
 use Rattle.std.specs.List.Sorted.{IsPermutation}
 use Rattle.spin_base.specs.declared.chips.Chip.{Chip}
 use Rattle.spin_base.specs.declared.chips.Port.{Port}
@@ -46,6 +46,15 @@ marked block None route list = list
 pub record IsRouted (m : Description) (net : NetPlan) : Type 0 where
   pub tree : IsRoutingTree m net.tree.root net.tree.edges net.targets
   pub cores : All (λ (s : Spot). s.core < 18) net.targets
+
+-- a board has a place for each chip of the grid, and at each of them this
+pub record IsClear {X : Type 0} (m : Description) (x : X) (board : List X) : Type 0 where
+  pub long : length board ≡ m.width * m.height
+  pub clear : (c : Chip) → IsInside m c → slice_index_or board (index_of m c) x ≡ x
+
+-- a chip off the net's tree has no route
+abbrev pub IsClearOff : Description → NetPlan → List Route → Type 0
+IsClearOff m net routes = (c : Chip) → IsInside m c → (HasChip m net c → ⊥) → slice_index_or routes (index_of m c) nothing ≡ nothing
 
 -- the list of a chip has the net's original block more, exactly where the net's tree has the chip
 abbrev pub Grows : Description → NetPlan → Chip → List Mark → List Mark → Type 0

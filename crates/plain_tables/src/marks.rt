@@ -1,11 +1,11 @@
-// What one net wants of each chip, by the chip's index.
-ghost use Rattle.std.specs.Prelude.{◌≡◌, ◌*◌, ◌<◌, length, All, IfOk, [], None, replicate};
-ghost use Rattle.machine_desc.specs.Live.{IsInside};
-ghost use Rattle.plain_tables.specs.Marks.{TellsPorts, TellsRoutes};
+// What one net wants of each chip, on boards with a place for each chip, by the chip's index.
+ghost use Rattle.std.specs.Prelude.{◌≡◌, ◌*◌, length, IfOk, [], None};
+ghost use Rattle.spin_base.specs.Outputs.{nothing};
+ghost use Rattle.plain_tables.specs.Marks.{IsClear, IsClearOff, IsRouted, TellsPorts, TellsRoutes};
 
-use machine_desc::{Edge, Machine};
+use machine_desc::Machine;
 use net_tables::NetPlan;
-use spin_base::{Block, Chip, Memory, Out, Port, Route};
+use spin_base::{Block, Memory, Out, Port, Route};
 use std::alloc::Global;
 
 // An original block of a chip: the keys of a net, the port at which its packets come in, and their outputs.
@@ -23,65 +23,61 @@ pub fn chip_total(machine: &Machine) -> usize
     usize::from(machine.width()) * usize::from(machine.height())
 }
 
-// The port at which packets come in at each chip of the tree.
-pub fn ports_of(
-    alloc: Global,
-    machine: &Machine,
-    root: Chip,
-    edges: &[Edge],
-) -> Result<Vec<Option<Port>>, Memory>
-    requires root { IsInside machine.now root }
-    requires edges { All (λ e. IsInside machine.now e.chip) edges.now }
-    ensures long { IfOk result (λ v. length v.items ≡ machine.now.width * machine.now.height) }
-    ensures told { IfOk result (λ v. TellsPorts machine.now root edges.now v.items) }
+// A board without a port.
+pub fn no_ports(alloc: Global, machine: &Machine) -> Result<Vec<Option<Port>>, Memory>
+    ensures { IfOk result (λ v. IsClear machine.now None v.items) }
 {
-    let mut ports = no_ports(alloc, chip_total(machine))?;
-    ports[machine.index(root) as usize] = Some(Port::Local);
-    for edge in edges {
+    Ok(vec![in alloc; None; chip_total(machine)]?)
+}
+
+// A board without a route.
+pub fn no_routes(alloc: Global, machine: &Machine) -> Result<Vec<Route>, Memory>
+    ensures { IfOk result (λ v. IsClear machine.now nothing v.items) }
+{
+    Ok(vec![in alloc; Route::nothing(); chip_total(machine)]?)
+}
+
+// Writes the port at which packets come in at each chip of the net's tree.
+pub fn set_ports(machine: &Machine, net: &NetPlan, ports: &mut [Option<Port>])
+    requires routed { IsRouted machine.now net.now }
+    requires clear { IsClear machine.now None ports.old }
+    ensures long { length ports.new ≡ machine.now.width * machine.now.height }
+    ensures told { TellsPorts machine.now net.now.tree.root net.now.tree.edges ports.new }
+{
+    ports[machine.index(net.tree.root) as usize] = Some(Port::Local);
+    for edge in net.tree.edges.as_slice() {
         if let Some(chip) = machine.far(edge.chip, edge.dir) {
             ports[machine.index(chip) as usize] = Some(Port::Link(edge.dir.opposite()));
         }
     }
-    Ok(ports)
 }
 
-// No port at so many chips.
-fn no_ports(alloc: Global, count: usize) -> Result<Vec<Option<Port>>, Memory>
-    ensures { IfOk result (λ v. v.items ≡ replicate count None) }
+// Writes the links by which the net's tree goes on from each of its chips.
+pub fn set_links(machine: &Machine, net: &NetPlan, routes: &mut [Route])
+    requires routed { IsRouted machine.now net.now }
+    requires clear { IsClear machine.now nothing routes.old }
+    ensures long { length routes.new ≡ machine.now.width * machine.now.height }
+    ensures told { TellsRoutes machine.now net.now.tree.edges [] routes.new }
+    ensures clear_off { IsClearOff machine.now net.now routes.new }
 {
-    let mut ports = Vec::new(alloc);
-    for _ in 0..count {
-        ports.push(None)?;
-    }
-    Ok(ports)
-}
-
-// The links by which the tree goes on from each chip.
-pub fn links_of(alloc: Global, machine: &Machine, edges: &[Edge]) -> Result<Vec<Route>, Memory>
-    requires { All (λ e. IsInside machine.now e.chip) edges.now }
-    ensures long { IfOk result (λ v. length v.items ≡ machine.now.width * machine.now.height) }
-    ensures told { IfOk result (λ v. TellsRoutes machine.now edges.now [] v.items) }
-{
-    let mut routes = vec![in alloc; Route::nothing(); chip_total(machine)]?;
-    for edge in edges {
+    for edge in net.tree.edges.as_slice() {
         let place = machine.index(edge.chip) as usize;
         routes[place] = routes[place].with(Out::Link(edge.dir));
     }
-    Ok(routes)
 }
 
-// The same routes, and the net's target cores besides.
-pub fn with_cores(machine: &Machine, net: &NetPlan, mut routes: Vec<Route>) -> Vec<Route>
-    requires inside { All (λ s. IsInside machine.now s.chip) net.now.targets }
-    requires cores { All (λ s. s.core < 18) net.now.targets }
-    requires long { length routes.items ≡ machine.now.width * machine.now.height }
-    requires links { TellsRoutes machine.now net.now.tree.edges [] routes.items }
-    ensures long { length result.items ≡ machine.now.width * machine.now.height }
-    ensures told { TellsRoutes machine.now net.now.tree.edges net.now.targets result.items }
+// Adds the net's target cores to the links.
+pub fn set_cores(machine: &Machine, net: &NetPlan, routes: &mut [Route])
+    requires routed { IsRouted machine.now net.now }
+    requires long { length routes.old ≡ machine.now.width * machine.now.height }
+    requires links { TellsRoutes machine.now net.now.tree.edges [] routes.old }
+    requires clear_off { IsClearOff machine.now net.now routes.old }
+    ensures long { length routes.new ≡ machine.now.width * machine.now.height }
+    ensures told { TellsRoutes machine.now net.now.tree.edges net.now.targets routes.new }
+    ensures clear_off { IsClearOff machine.now net.now routes.new }
 {
     for target in net.targets.as_slice() {
         let place = machine.index(target.chip) as usize;
         routes[place] = routes[place].with(Out::Core(target.core));
     }
-    routes
 }
