@@ -1,0 +1,69 @@
+"""Times `out/spin tables` on jobs at the limits: 16,384 vertices on a torus of 64 by 64 chips, and 4,096 nets.
+
+    python3 bench/tables_command.py
+
+`./spin` must have built the program. Nets have four targets anywhere, or eight near their source. Each job is run three
+times; the least processor time and wall-clock time are told, with the greatest memory.
+"""
+import json
+import os
+import resource
+import subprocess
+import tempfile
+import time
+
+ROOT = os.path.dirname(os.path.dirname(os.path.realpath(__file__)))
+
+
+def numbers():
+    """Numbers that look random and are the same each time."""
+    seed = 7
+    while True:
+        seed = (seed * 1664525 + 1013904223) % 2**32
+        yield seed >> 8
+
+
+def job(nets, targets_of):
+    vertices = [{"name": f"v{i}"} for i in range(16384)]
+    drawn = numbers()
+    listed = []
+    for i in range(nets):
+        source = 4 * i % 16384
+        listed.append({"name": f"n{i}", "source": f"v{source}", "targets": targets_of(source, drawn), "keys": 16})
+    machine = {"width": 64, "height": 64, "wrap": True}
+    return {"version": 1, "machine": machine, "graph": {"vertices": vertices, "nets": listed}}
+
+
+def anywhere(_, drawn):
+    return [f"v{next(drawn) % 16384}" for _ in range(4)]
+
+
+def near(source, drawn):
+    return [f"v{(source + next(drawn) % 64) % 16384}" for _ in range(8)]
+
+
+def timed(name, value):
+    with tempfile.TemporaryFile() as source:
+        source.write(json.dumps(value, separators=(",", ":")).encode())
+        spent, taken = [], []
+        for _ in range(3):
+            source.seek(0)
+            before = resource.getrusage(resource.RUSAGE_CHILDREN).ru_utime
+            begun = time.monotonic()
+            done = subprocess.run([f"{ROOT}/out/spin", "tables"], stdin=source, capture_output=True)
+            taken.append(time.monotonic() - begun)
+            spent.append(resource.getrusage(resource.RUSAGE_CHILDREN).ru_utime - before)
+        last = done.stdout.splitlines()[-1].decode()
+        most = resource.getrusage(resource.RUSAGE_CHILDREN).ru_maxrss // 1024
+        print(f"{name}: {min(spent):.2f} s of a processor, {min(taken):.2f} s in all, {most} MiB, status {done.returncode}: {last}")
+
+
+def main():
+    for nets in [1024, 2048, 4096]:
+        timed(f"{nets} nets, eight targets near their source", job(nets, near))
+    for nets in [1024, 2048, 4096]:
+        timed(f"{nets} nets, four targets anywhere", job(nets, anywhere))
+
+
+if __name__ == "__main__":
+    main()
