@@ -1,5 +1,6 @@
 -- What follows from how a call ends.
 use Rattle.std.proofs.Common.{◌≡◌, ◌⊎◌, ℕ, List, [], length, String, Option, Some, None, Result, Ok, Err, IfErr, IfSome, is_some, refl, sym, ap, ◌∙◌, subst, inl, inr, All}
+use Rattle.std.specs.Result.{IsErr, IsErrAnd}
 use Rattle.std.specs.declared.alloc.Global.{Global}
 use Rattle.spin_base.specs.declared.chips.Chip.{Chip}
 use Rattle.spin_base.specs.Outside.{FaultsRose, Takes, TakesProperPrefix}
@@ -27,6 +28,11 @@ use Rattle.spin_top.proofs.Exclusive.{one_command, serves_built, same_job, IsRea
 pub err_weaker : {A E : Type 0} (r : Result A E) (P Q : E → Type 0) → ((e : E) → P e → Q e) → IfErr r P → IfErr r Q
 err_weaker (Ok x) P Q more has = has
 err_weaker (Err e) P Q more has = more e has
+
+-- an error that is handed on is the same
+pub err_carried : {A E : Type 0} (r : Result A E) (e : E) (P : E → Type 0) → IsErr r × IsErrAnd r (λ f. f ≡ e) → P e → IfErr r P
+err_carried (Ok x) e P carried has = tt
+err_carried (Err f) e P carried has = subst P (sym carried.1) has
 
 -- ---- a fault of writing is no cause
 

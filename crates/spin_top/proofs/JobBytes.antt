@@ -1,5 +1,5 @@
 -- All bytes of a source, and the job that they are.
-use Rattle.std.proofs.Common.{◌≡◌, ℕ, ◌<◌, ◌≤◌, List, [], ◌++◌, length, nat_lt, Bool, true, false, Option, Some, None, Ok, Err, refl, ap, sym, ◌∙◌, arith}
+use Rattle.std.proofs.Common.{◌≡◌, ◌⊎◌, inl, inr, ℕ, ◌<◌, ◌≤◌, List, [], ◌++◌, length, nat_lt, Bool, true, false, Option, Some, None, Ok, Err, refl, ap, sym, ◌∙◌, arith}
 use Rattle.std.proofs.lemmas.Bool.{cond-true, cond-false, lt-ltb, ltb-true}
 use Rattle.std.proofs.lemmas.List.{append-nil}
 use Rattle.serde_json.specs.Data.{Data}
@@ -8,7 +8,9 @@ use Rattle.spin_base.specs.Outside.{GivesAll, HasMoreThan}
 use Rattle.job_readers.specs.declared.jobs.Job.{Job}
 use Rattle.spin_top.specs.declared.outcomes.Refusal.{Refusal}
 use Rattle.spin_top.specs.declared.outcomes.Refusal.TheVariants as refusals
-use Rattle.spin_top.specs.Jobs.{job_in, job_of, job_from, IsValueOf, IsReadTo, Tells, TellsRefusal}
+use Rattle.spin_top.specs.declared.commands.Command.{Command}
+use Rattle.spin_top.specs.Causes.{HasCauseFor, HasNoBuiltPlan, HasNoPlan, Serves, unread, no_plan}
+use Rattle.spin_top.specs.Jobs.{IsOfText, job_in, job_of, job_from, IsValueOf, IsReadTo, Tells, TellsRefusal}
 
 not_long : (bytes : List ℕ) → length bytes ≤ 16777216 → nat_lt 16777216 (length bytes) ≡ false
 not_long bytes few = by_cases (nat_lt 16777216 (length bytes)) refl
@@ -63,3 +65,15 @@ tells-job (Some bytes) rest d job value is = job_in-few bytes value.0 ∙ (ap jo
 pub tells-fault : (left rest : Option (List ℕ)) (d : Data) (r : Refusal) → IsValueOf left d rest → job_of d ≡ Err r → TellsRefusal left r
 tells-fault None rest d r value is = tt
 tells-fault (Some bytes) rest d r value is = job_in-few bytes value.0 ∙ (ap job_from value.1 ∙ is)
+
+-- why a command has no job, or no plan of it
+pub cause_of_text : (c : Command) (left rest : Option (List ℕ)) (before after : ℕ) (d : Data) (r : Refusal) → IsValueOf left d rest →
+    (IsOfText r × (job_of d ≡ Err r)) ⊎ (r ≡ refusals.Memory) → HasCauseFor c left before after r
+cause_of_text c left rest before after d r value (inl text) = inl (unread text.0 (tells-fault left rest d r value text.1))
+cause_of_text c left rest before after d r value (inr memory) = inr (inr (inr memory))
+
+pub cause_of_plan : (c : Command) (left rest : Option (List ℕ)) (before after : ℕ) (d : Data) (job : Job) (r : Refusal) → IsValueOf left d rest → job_of d ≡ Ok job → Serves c job →
+    HasNoPlan job r ⊎ (HasNoBuiltPlan job r ⊎ (r ≡ refusals.Memory)) → HasCauseFor c left before after r
+cause_of_plan c left rest before after d job r value is served (inl none) = inl (no_plan job (tells-job left rest d job value is) served none)
+cause_of_plan c left rest before after d job r value is served (inr (inl late)) = inr (inl (job, tells-job left rest d job value is, served, late))
+cause_of_plan c left rest before after d job r value is served (inr (inr memory)) = inr (inr (inr memory))

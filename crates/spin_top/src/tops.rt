@@ -111,21 +111,12 @@ fn made_by<S: Source>(alloc: Global, command: Command, source: &mut S) -> Result
     ensures made { IfOk result (λ made. IsMade command (S.left source.old) (S.left source.new) made.job made.plan made.output.mesh made.output.report made.output.text) }
     ensures err { IfErr result (HasCauseFor command (S.left source.old) (S.faults source.old) (S.faults source.new)) }
 {
-    let value = match read_value(alloc, source) {
-        Ok(value) => value,
-        Err(refusal) => return Err(refusal),
-    };
-    let job = match read_job(alloc, &value) {
-        Ok(job) => job,
-        Err(refusal) => return Err(refusal),
-    };
+    let value = read_value(alloc, source)?;
+    let job = read_job(alloc, &value)?;
     if !serves(command, &job) {
         return Err(Refusal::Unbuilt);
     }
-    let plan = match plan_of(alloc, &job) {
-        Ok(plan) => plan,
-        Err(refusal) => return Err(refusal),
-    };
+    let plan = plan_of(alloc, &job)?;
     match output_of(alloc, command, &value, &job, &plan) {
         Ok(output) => Ok(Made { job, plan, output }),
         Err(Memory) => Err(Refusal::Memory),

@@ -1,41 +1,43 @@
-use Rattle.std.proofs.Common.{refl, sym, ◌∙◌, inl, inr}
+use Rattle.std.proofs.Common.{refl, sym, ◌∙◌, inl}
 use Rattle.std.proofs.lemmas.Bool.{false≢true}
 use Rattle.serde_json.specs.View.{view}
-use Rattle.spin_top.specs.Causes.{unread, unserved, no_plan}
-use Rattle.spin_top.proofs.JobBytes.{reads-job, tells-job, tells-fault}
+use Rattle.spin_top.specs.Causes.{unserved}
+use Rattle.spin_top.specs.Causes.{HasCauseFor}
+use Rattle.spin_top.proofs.EndLaws.{err_carried}
+use Rattle.spin_top.proofs.JobBytes.{cause_of_plan, cause_of_text, reads-job, tells-job}
 use Rattle.spin_top.proofs.tops.made_by.Goals as goal
-
-pub returns-in-Err-read_job-clause-err : goal.returns-in-Err-read_job-clause-err
-returns-in-Err-read_job-clause-err g c =
-    let r = c.in-Err-read_job.refusal in
-    elim c.in-Err-read_job.ensures.err [
-      | inl text ↦ inl (unread text.0 (tells-fault (g.S.Source.left c.args.source.now) (g.S.Source.left c.read_value.new.source) (view c.in-Ok.value) r c.in-Ok.ensures.value text.1))
-      | inr memory ↦ inr (inr (inr memory))
-    ]
 
 pub returns-then-not-serves-clause-err : goal.returns-then-not-serves-clause-err
 returns-then-not-serves-clause-err g c =
-    let job = c.in-Ok-read_job.job in
-    let told = tells-job (g.S.Source.left c.args.source.now) (g.S.Source.left c.read_value.new.source) (view c.in-Ok.value) job c.in-Ok.ensures.value c.in-Ok-read_job.ensures.job in
+    let job = c.in_ok-job.job in
+    let told = tells-job (g.S.Source.left c.args.source.now) (g.S.Source.left c.read_value.new.source) (view c.in_ok-value.value) job c.in_ok-value.ensures.value c.in_ok-job.ensures.job in
     inl (unserved job told (λ served. false≢true (sym c.if-not-serves.true ∙ c.serves.ensures.no served)) refl)
 
-pub returns-in-Err-plan_of-clause-err : goal.returns-in-Err-plan_of-clause-err
-returns-in-Err-plan_of-clause-err g c =
-    let job = c.in-Ok-read_job.job in
-    let told = tells-job (g.S.Source.left c.args.source.now) (g.S.Source.left c.read_value.new.source) (view c.in-Ok.value) job c.in-Ok.ensures.value c.in-Ok-read_job.ensures.job in
-    let served = c.serves.ensures.yes c.if-not-serves.false in
-    elim c.in-Err-plan_of.ensures.err [
-      | inl none ↦ inl (no_plan job told served none)
-      | inr later ↦ elim later [
-        | inl late ↦ inr (inl (job, told, served, late))
-        | inr memory ↦ inr (inr (inr memory))
-      ]
-    ]
-
-pub returns-in-Ok-output_of-clause-made : goal.returns-in-Ok-output_of-clause-made
-returns-in-Ok-output_of-clause-made g c = record {
-  read = reads-job (g.S.Source.left c.args.source.now) (g.S.Source.left c.read_value.new.source) (view c.in-Ok.value) c.in-Ok-read_job.job c.in-Ok.ensures.value c.in-Ok-read_job.ensures.job;
+pub returns-in-Ok-clause-made : goal.returns-in-Ok-clause-made
+returns-in-Ok-clause-made g c = record {
+  read = reads-job (g.S.Source.left c.args.source.now) (g.S.Source.left c.read_value.new.source) (view c.in_ok-value.value) c.in_ok-job.job c.in_ok-value.ensures.value c.in_ok-job.ensures.job;
   served = c.serves.ensures.yes c.if-not-serves.false;
-  planned = c.in-Ok-plan_of.ensures.plan;
-  output = c.in-Ok-output_of.ensures;
+  planned = c.in_ok-plan.ensures.plan;
+  output = c.in-Ok.ensures;
 }
+
+pub returns-in_err-job-clause-err : goal.returns-in_err-job-clause-err
+returns-in_err-job-clause-err g c =
+    let left = g.S.Source.left c.args.source.now in
+    let rest = g.S.Source.left c.read_value.new.source in
+    let before = g.S.Source.faults c.args.source.now in
+    let after = g.S.Source.faults c.read_value.new.source in
+    let r = c.in_err-job.field-0.0 in
+    err_carried c.from_residual-in_err-job.result r (HasCauseFor c.args.command left before after) c.from_residual-in_err-job.ensures
+    (cause_of_text c.args.command left rest before after (view c.in_ok-value.value) r c.in_ok-value.ensures.value c.in_err-job.ensures.err)
+
+pub returns-in_err-plan-clause-err : goal.returns-in_err-plan-clause-err
+returns-in_err-plan-clause-err g c =
+    let left = g.S.Source.left c.args.source.now in
+    let rest = g.S.Source.left c.read_value.new.source in
+    let before = g.S.Source.faults c.args.source.now in
+    let after = g.S.Source.faults c.read_value.new.source in
+    let r = c.in_err-plan.field-0.0 in
+    err_carried c.from_residual-in_err-plan.result r (HasCauseFor c.args.command left before after) c.from_residual-in_err-plan.ensures
+    (cause_of_plan c.args.command left rest before after (view c.in_ok-value.value) c.in_ok-job.job r c.in_ok-value.ensures.value c.in_ok-job.ensures.job
+    (c.serves.ensures.yes c.if-not-serves.false) c.in_err-plan.ensures.err)
