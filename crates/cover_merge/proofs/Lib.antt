@@ -1,5 +1,5 @@
 pub mod ApplyLemmas
 pub mod ChooseLemmas
 pub mod CoverLemmas
+pub mod GuardLemmas
 pub mod RefineLemmas
-pub mod RivalLemmas

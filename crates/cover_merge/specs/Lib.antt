@@ -1,5 +1,5 @@
 pub mod Aliases
 pub mod Covering
+pub mod Guards
 pub mod Merges
 pub mod Refinement
-pub mod Rivals

@@ -7,6 +7,7 @@ ghost use Rattle.cover_merge.specs.Merges.{sets_of};
 
 use crate::applying::apply;
 use crate::choosing::chosen;
+use crate::guards::guards_of;
 use spin_base::{Memory, Seq};
 use std::alloc::Global;
 use tern_word::Table;
@@ -37,7 +38,8 @@ pub fn cover(alloc: Global, mut table: Table, target: u32) -> Result<Covered, Me
 {
     let mut merges = Seq::new(alloc);
     'merging: while table.rows.len() > target as usize {
-        match chosen(alloc, &table)? {
+        let guards = guards_of(alloc, table.rows.as_slice())?;
+        match chosen(alloc, &table, &guards)? {
             Some(places) => {
                 apply(alloc, &mut table, &places)?;
                 merges.push(Merge { places })?;

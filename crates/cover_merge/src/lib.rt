@@ -9,8 +9,8 @@
 mod applying;
 mod choosing;
 mod covering;
+mod guards;
 mod refining;
-mod rivals;
 
 pub use applying::apply;
 pub use covering::{Covered, Merge, cover};

@@ -1,11 +1,13 @@
 // The refined set of places of one route.
 ghost use Rattle.std.specs.Prelude.{◌≡◌, ◌<◌, ◌≤◌, ◌^◌, ◌↔◌, ◌⊎◌, [], IsTrue, IfOk, MatchOption, MatchBool, All, length, filter, not, ◌==◌, ℕ};
 ghost use Rattle.tern_word.specs.Ternary.{Intersects};
-ghost use Rattle.tern_word.specs.SoundTable.{IsSound, Misses};
-ghost use Rattle.cover_checks.specs.Merge.{has, IsOneRoute, IsMergeSet, IsLegal, merged_block, insert_place, PassesUp, PassesUpCheck, PassesDown, PassesDownCheck};
+ghost use Rattle.tern_word.specs.SoundTable.{IsOrdered, IsSound, Misses};
+ghost use Rattle.cover_checks.specs.Merge.{has, IsOneRoute, IsMergeSet, IsLegal, merged_block, insert_place, place_for, PassesUp, PassesUpCheck, PassesDown, PassesDownCheck};
+ghost use Rattle.cover_merge.specs.Guards.{AreGuards};
 ghost use Rattle.cover_merge.specs.Refinement.{IsLastFailing, without, IsUpStep, IsFirstMet, IsFirstMetFrom, can_choose, keeps, parts, kept_by, kept_count, IsBestBit, IsNarrowed, IsDownStep, Refines};
 
-use cover_checks::{merged_block, passes_up, place_for};
+use crate::guards::{Guard, passes, place_in};
+use cover_checks::merged_block;
 use spin_base::{Block, Memory, Seq};
 use tern_word::{Alias, Row, Table, generality, intersects};
 
@@ -19,10 +21,26 @@ pub fn refine(table: &Table, places: Seq<u32>) -> Result<Seq<u32>, Memory>
     ensures refined { IfOk result (λ answer. Refines table.now.rows places answer) }
     ensures legal { IfOk result (λ answer. (answer ≡ []) ⊎ ((IsMergeSet table.now.rows answer) × (IsLegal table.now.rows answer))) }
 {
+    refine_by(table, &[], places)
+}
+
+/// The same, by what the guards tell.
+pub(crate) fn refine_by(
+    table: &Table,
+    guards: &[Guard],
+    places: Seq<u32>,
+) -> Result<Seq<u32>, Memory>
+    requires few { length table.now.rows < 2 ^ 32 }
+    requires sound { IsSound table.now.rows }
+    requires guards { AreGuards table.now.rows guards.now }
+    requires set { IsOneRoute table.now.rows places }
+    ensures refined { IfOk result (λ answer. Refines table.now.rows places answer) }
+    ensures legal { IfOk result (λ answer. (answer ≡ []) ⊎ ((IsMergeSet table.now.rows answer) × (IsLegal table.now.rows answer))) }
+{
     let rows = table.rows.as_slice();
     let mut set = places.into_vec();
     while set.len() >= 2 {
-        if narrow(rows, &mut set) {
+        if narrow(rows, guards, &mut set) {
             return Ok(Seq::from_vec(set));
         }
     }
@@ -31,19 +49,21 @@ pub fn refine(table: &Table, places: Seq<u32>) -> Result<Seq<u32>, Memory>
 }
 
 // One step: takes out what a check fails for. Whether both checks were true, and the set stays as it was.
-fn narrow(rows: &[Row], set: &mut Vec<u32>) -> bool
+fn narrow(rows: &[Row], guards: &[Guard], set: &mut Vec<u32>) -> bool
     requires few { length rows.now < 2 ^ 32 }
+    requires ordered { IsOrdered rows.now }
+    requires guards { AreGuards rows.now guards.now }
     requires set { IsMergeSet rows.now set.old.items }
     ensures { MatchBool result ((PassesUpCheck rows.now set.old.items) × (PassesDownCheck rows.now set.old.items) × (set.new.items ≡ set.old.items)) (((IsUpStep rows.now set.old.items set.new.items) ⊎ (IsDownStep rows.now set.old.items set.new.items)) × (length set.new.items < length set.old.items)) }
 {
     let merged = merged_block(rows, set);
-    let place = place_for(rows, generality(merged));
-    match last_failing(rows, set, place) {
+    let general = generality(merged);
+    match last_failing(rows, guards, set, general) {
         Some(s) => {
             take_out(set, s);
             false
         }
-        None => match first_met_from(rows, merged, place) {
+        None => match first_met_from(rows, merged, place_in(rows, general)) {
             Some(met) => {
                 choose(rows, set, merged, met);
                 false
@@ -53,17 +73,19 @@ fn narrow(rows: &[Row], set: &mut Vec<u32>) -> bool
     }
 }
 
-// The greatest place of the set for which the up-check fails.
-fn last_failing(rows: &[Row], places: &[u32], place: u32) -> Option<u32>
+// The greatest place of the set for which the up-check fails, where the merge has this generality.
+fn last_failing(rows: &[Row], guards: &[Guard], places: &[u32], general: u32) -> Option<u32>
     requires few { length rows.now < 2 ^ 32 }
+    requires ordered { IsOrdered rows.now }
+    requires guards { AreGuards rows.now guards.now }
     requires set { IsOneRoute rows.now places.now }
-    requires place { place ≤ length rows.now }
-    ensures { MatchOption result ((s : ℕ) → IsTrue (has places.now s) → PassesUp rows.now places.now s place) (λ s. IsLastFailing rows.now places.now place s) }
+    requires low { general ≤ 32 }
+    ensures { MatchOption result ((s : ℕ) → IsTrue (has places.now s) → PassesUp rows.now places.now s (place_for rows.now general)) (λ s. IsLastFailing rows.now places.now (place_for rows.now general) s) }
 {
     let mut i = places.len();
     while i > 0 {
         i -= 1;
-        if !passes_up(rows, places, places[i], place) {
+        if !passes(rows, guards, places, places[i], general) {
             return Some(places[i]);
         }
     }

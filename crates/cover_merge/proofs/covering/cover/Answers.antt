@@ -1,9 +1,13 @@
 -- Each round makes a chosen merge, which is legal.
 use Rattle.std.proofs.Common.{◌<◌, ◌≤◌, length, sym, subst, arith}
 use Rattle.std.specs.Prelude.{MatchOption}
+use Rattle.cover_merge.specs.Guards.{AreGuards}
 use Rattle.cover_merge.specs.Covering.{IsChosen, HasNoChosen}
 use Rattle.cover_merge.proofs.CoverLemmas.{IsCoveredSoFar, chosen_legal, chosen_shorter, so_far_more, covered_short, covered_stuck}
 use Rattle.cover_merge.proofs.covering.cover.Goals as goal
+
+pub chosen-requires-clause-guards : goal.chosen-requires-clause-guards
+chosen-requires-clause-guards c = subst (AreGuards c.merging.table.rows) (sym c.deref.ensures.value) (subst (λ l. AreGuards l c.in_ok-guards.guards.items) c.as_slice.ensures c.in_ok-guards.ensures.guards)
 
 pub apply-requires-clause-set : goal.apply-requires-clause-set
 apply-requires-clause-set c =

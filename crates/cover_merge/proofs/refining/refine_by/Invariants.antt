@@ -2,7 +2,7 @@
 use Rattle.std.proofs.Common.{ℕ, List, length}
 use Rattle.cover_checks.specs.Merge.{IsOneRoute}
 use Rattle.cover_merge.specs.Refinement.{Refines}
-use Rattle.cover_merge.proofs.refining.refine.Given as goal
+use Rattle.cover_merge.proofs.refining.refine_by.Given as goal
 
 abbrev pub invariant-loop-rows : goal.invariant-loop-rows
 invariant-loop-rows l = record {

@@ -2,9 +2,13 @@
 use Rattle.std.proofs.Common.{◌<◌, ◌≤◌, length, inr, sym, subst, arith}
 use Rattle.cover_checks.specs.Merge.{IsMergeSet, IsLegal}
 use Rattle.tern_word.specs.SoundTable.{IsSound}
+use Rattle.cover_merge.specs.Guards.{AreGuards}
 use Rattle.cover_merge.specs.Refinement.{Refines}
 use Rattle.cover_merge.proofs.RefineLemmas.{one_route_after, refines_after, refines_here, legal_here, refines_few}
-use Rattle.cover_merge.proofs.refining.refine.Goals as goal
+use Rattle.cover_merge.proofs.refining.refine_by.Goals as goal
+
+pub narrow-requires-clause-guards : goal.narrow-requires-clause-guards
+narrow-requires-clause-guards c = subst (λ l. AreGuards l c.args.guards.now) (sym c.as_slice-rows.ensures) c.requires.guards
 
 pub returns-then-narrow-clause-refined : goal.returns-then-narrow-clause-refined
 returns-then-narrow-clause-refined c =
