@@ -1,4 +1,5 @@
 pub mod ApplyLemmas
+pub mod CarryLemmas
 pub mod ChooseLemmas
 pub mod CoverLemmas
 pub mod GuardLemmas

@@ -1,5 +1,6 @@
 -- What is known of the rows behind a row. It saves looking at all of them in each up-check.
-use Rattle.std.specs.Prelude.{◌≡◌, ℕ, suc, ◌<◌, ◌≤◌, List, ◌∷◌, All, length, drop, slice_index_or}
+use Rattle.std.specs.Prelude.{◌≡◌, ℕ, suc, ◌<◌, ◌≤◌, ◌⊎◌, List, ◌∷◌, All, length, drop, slice_index_or}
+use Rattle.spin_base.specs.declared.blocks.Block.{Block}
 use Rattle.tern_word.specs.declared.tables.Row.{Row}
 use Rattle.tern_word.specs.Ternary.{generality}
 use Rattle.tern_word.specs.SoundTable.{Misses}
@@ -28,3 +29,12 @@ IsGuardAt rows s guard = (d : Row) → IsGuard (slice_index_or rows s d) (drop (
 -- each guard tells of the row at its place
 abbrev pub AreGuards : List Row → List Guard → Type 0
 AreGuards rows guards = (s : ℕ) (e : Guard) → s < length guards → IsGuardAt rows s (slice_index_or guards s e)
+
+-- a guard that says nothing
+pub record IsSilent (guard : Guard) : Type 0 where
+  pub no_rival : 32 < guard.rival
+  pub none_clear : guard.clear ≡ 0
+
+-- each guard says nothing, or is that of a row with no alias that the block meets
+abbrev pub AreApart : Block → List Row → List Guard → Type 0
+AreApart block rows guards = (s : ℕ) (d : Row) (e : Guard) → s < length guards → (IsSilent (slice_index_or guards s e)) ⊎ (Misses block (slice_index_or rows s d))

@@ -22,8 +22,8 @@ pub(crate) struct Guard {
 /// More than the generality of any block.
 const NONE: u32 = 33;
 
-/// The guard that says nothing.
-const NOTHING: Guard = Guard {
+//// The guard that says nothing.
+pub(crate) const NOTHING: Guard = Guard {
     rival: 33,
     clear: 0,
 };
@@ -41,8 +41,8 @@ pub(crate) fn guards_of(alloc: Global, rows: &[Row]) -> Result<Vec<Guard>, Memor
     Ok(guards)
 }
 
-// The guard of row `s`.
-fn guard_of(rows: &[Row], s: usize) -> Guard
+/// The guard of row `s`.
+pub(crate) fn guard_of(rows: &[Row], s: usize) -> Guard
     requires ordered { IsOrdered rows.now }
     requires inside { s < length rows.now }
     ensures { IsGuardAt rows.now s result }

@@ -7,6 +7,7 @@
 #![tactic(auto)]
 
 mod applying;
+mod carrying;
 mod choosing;
 mod covering;
 mod guards;
