@@ -207,3 +207,8 @@ row_made rows (s ∷ places) d b a in_range some block aliases =
 pub on_ok : {T E : Type 0} (r : Result T E) (P Q : Type 0) → (P → Q) → OnOk r P → OnOk r Q
 on_ok (Ok x) P Q h p = h p
 on_ok (Err e) P Q h p = p
+
+-- the merge has the route of its first row
+pub route_is : (rows : List Row) (places : List ℕ) (d : Row) → All (λ s. s < length rows) places → 0 < length places → (merged_row rows places).route ≡ (get_or rows (get_or places 0 0) d).route
+route_is rows [] d in_range some = absurd (omega arith)
+route_is rows (s ∷ places) d in_range some = ap (λ (o : Option Row). (merge_rows (cons_option o (rows_at rows places))).route) (slice_get-get_or rows s d (in_range 0 s (omega arith)))

@@ -3,4 +3,5 @@ pub mod CarryLemmas
 pub mod ChooseLemmas
 pub mod CoverLemmas
 pub mod GuardLemmas
+pub mod LinkLemmas
 pub mod RefineLemmas

@@ -11,6 +11,7 @@ use crate::applying::apply;
 use crate::carrying::{carry, renew};
 use crate::choosing::chosen;
 use crate::guards::{Guard, guards_of};
+use crate::links::{carry_numbers, links_of, numbers_of};
 use spin_base::{Memory, Seq};
 use std::alloc::Global;
 use tern_word::Table;
@@ -40,10 +41,19 @@ pub fn cover(alloc: Global, mut table: Table, target: u32) -> Result<Covered, Me
     ensures ended { IfOk result (λ c. (length c.table.rows ≤ target) ⊎ (HasNoLegalPair c.table.rows)) }
 {
     let mut guards = guards_of(alloc, table.rows.as_slice())?;
+    let limit = table.rows.len();
+    let mut numbers = numbers_of(alloc, table.rows.as_slice())?;
     let mut merges = Seq::new(alloc);
     'merging: while table.rows.len() > target as usize {
-        match chosen(alloc, &table, &guards)? {
+        let links = links_of(alloc, table.rows.as_slice(), &numbers, limit)?;
+        match chosen(alloc, &table, &guards, &links)? {
             Some(places) => {
+                carry_numbers(
+                    table.rows.as_slice(),
+                    &mut numbers,
+                    places.as_slice(),
+                    limit,
+                )?;
                 merge_at(alloc, &mut table, &mut guards, &places)?;
                 merges.push(Merge { places })?;
             }

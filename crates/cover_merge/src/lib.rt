@@ -11,6 +11,7 @@ mod carrying;
 mod choosing;
 mod covering;
 mod guards;
+mod links;
 mod refining;
 
 pub use applying::apply;
