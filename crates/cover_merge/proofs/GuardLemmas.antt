@@ -7,7 +7,7 @@ use Rattle.spin_base.specs.declared.blocks.Block.{Block}
 use Rattle.tern_word.specs.declared.tables.Row.{Row}
 use Rattle.tern_word.specs.Ternary.{generality}
 use Rattle.tern_word.specs.SoundTable.{IsOrdered, IsSound, Misses}
-use Rattle.cover_checks.specs.Merge.{has, merge_rows, merged_block, insert_place, IsOneRoute, IsMergeSet, IsLegal, place_for, PassesUp, PassesDown}
+use Rattle.cover_checks.specs.Merge.{has, merge_rows, merged_block, insert_place, IsOneRoute, IsMergeSet, IsLegal, place_for, IsClear, PassesUp, PassesDown}
 use Rattle.cover_checks.proofs.Positions.{has-place, place_for-above, place_for-below, place_for-le}
 use Rattle.cover_checks.proofs.Answering.{answers_no, fails}
 use Rattle.cover_checks.proofs.Legal.{up_from_legal, down_from_legal, legal_from_checks}
@@ -60,6 +60,14 @@ module _ (rows : List Row) (places : List ℕ) (set : IsOneRoute rows places) (o
       let same : get_or (drop (suc s) rows) (r - suc s) d ≡ get_or rows r d = get_or-drop (suc s) rows (r - suc s) d ∙ ap (λ i. get_or rows i d) at in
       let inside : r - suc s < length (drop (suc s) rows) = omega (arith, length-drop (suc s) rows, place_for-le rows g, before, after) in
       subst (λ (x : Row). generality x.block < guard.clear → Misses x.block (get_or rows s d)) same ((guarded d).passes (r - suc s) d inside) (omega (arith, place_for-below rows g ordered r d before, less))
+
+  -- no row of a generality below the second number meets the row
+  pub guard_clears : (from : ℕ) → from ≤ length rows → ((k : ℕ) (d : Row) → k < from → generality (get_or rows k d).block < guard.clear) → (r : ℕ) → s < r → r < from → IsClear rows places s r
+  guard_clears from within low r after before d outside =
+      let at : suc s + (r - suc s) ≡ r = omega arith in
+      let same : get_or (drop (suc s) rows) (r - suc s) d ≡ get_or rows r d = get_or-drop (suc s) rows (r - suc s) d ∙ ap (λ i. get_or rows i d) at in
+      let inside : r - suc s < length (drop (suc s) rows) = omega (arith, length-drop (suc s) rows, within, before, after) in
+      subst (λ (x : Row). generality x.block < guard.clear → Misses x.block (get_or rows s d)) same ((guarded d).passes (r - suc s) d inside) (low r d before)
 
 -- ---- a guard that was found
 

@@ -3,10 +3,10 @@ ghost use Rattle.std.specs.Prelude.{◌≡◌, ◌<◌, ◌≤◌, ◌^◌, ◌�
 ghost use Rattle.tern_word.specs.declared.tables.Row.{Row as ARow};
 ghost use Rattle.tern_word.specs.Ternary.{generality};
 ghost use Rattle.tern_word.specs.SoundTable.{IsOrdered, IsSound, Misses};
-ghost use Rattle.cover_checks.specs.Merge.{has, place_for, IsOneRoute, IsMergeSet, IsLegal, PassesUp};
+ghost use Rattle.cover_checks.specs.Merge.{has, place_for, IsOneRoute, IsMergeSet, IsLegal, IsClear, PassesUp};
 ghost use Rattle.cover_merge.specs.Guards.{IsRival, HasRival, IsGuardAt, AreGuards};
 
-use cover_checks::{merged_block, misses, passes_down, passes_up};
+use cover_checks::{merged_block, misses, passes_down};
 use spin_base::Memory;
 use std::alloc::Global;
 use tern_word::{Row, Table, generality};
@@ -130,7 +130,57 @@ pub(crate) fn passes(rows: &[Row], guards: &[Guard], places: &[u32], s: u32, gen
     if general < guard.clear {
         return true;
     }
-    passes_up(rows, places, s, place_in(rows, general))
+    let from = place_below(rows, guard.clear);
+    passes_from(rows, places, s, from, place_in(rows, general))
+}
+
+// A place up to which all rows are of a generality below `clear`.
+fn place_below(rows: &[Row], clear: u32) -> u32
+    requires few { length rows.now < 2 ^ 32 }
+    requires ordered { IsOrdered rows.now }
+    ensures bound { result ≤ length rows.now }
+    ensures below { (k : ℕ) (d : ARow) → k < result → generality (slice_index_or rows.now k d).block < clear }
+{
+    if clear == 0 {
+        return 0;
+    }
+    place_in(rows, clear - 1)
+}
+
+// Whether no row outside the set between the places `s` and `p` meets an alias of row `s`, where none before `from` does.
+fn passes_from(rows: &[Row], places: &[u32], s: u32, from: u32, p: u32) -> bool
+    requires within { s < length rows.now }
+    requires place { p ≤ length rows.now }
+    requires cleared { (r : ℕ) → s < r → r < from → IsClear rows.now places.now s r }
+    ensures { IsTrue result ↔ PassesUp rows.now places.now s p }
+{
+    for r in from..p {
+        if !is_clear_behind(rows, places, s, r) {
+            return false;
+        }
+    }
+    true
+}
+
+// The same where row `r` stands behind row `s`, and else true.
+fn is_clear_behind(rows: &[Row], places: &[u32], s: u32, r: u32) -> bool
+    requires row { r < length rows.now }
+    requires member { s < length rows.now }
+    ensures { IsTrue result ↔ (s < r → IsClear rows.now places.now s r) }
+{
+    if r <= s {
+        return true;
+    }
+    is_clear(rows, places, s, r)
+}
+
+// Whether row `r` is of the set or its block meets no alias of row `s`.
+fn is_clear(rows: &[Row], places: &[u32], s: u32, r: u32) -> bool
+    requires row { r < length rows.now }
+    requires member { s < length rows.now }
+    ensures { IsTrue result ↔ IsClear rows.now places.now s r }
+{
+    misses(rows[r as usize].block, &rows[s as usize]) || places.contains(&r)
 }
 
 /// The number of rows whose generality is at most `general`: the place behind them.
