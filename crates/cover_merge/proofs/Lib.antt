@@ -5,3 +5,4 @@ pub mod CoverLemmas
 pub mod GuardLemmas
 pub mod LinkLemmas
 pub mod RefineLemmas
+pub mod SiftLemmas

@@ -2,15 +2,18 @@
 use Rattle.std.proofs.Common.{arith}
 use Rattle.cover_checks.specs.Merge.{place_for}
 use Rattle.cover_merge.proofs.RefineLemmas.{last_found, last_more, none_fails}
-use Rattle.cover_merge.proofs.refining.last_failing.Goals as goal
+use Rattle.cover_merge.proofs.refining.failing_before.Goals as goal
 
 pub returns-then-not-passes : goal.returns-then-not-passes
-returns-then-not-passes c =
-    last_found c.args.rows.now c.args.places.now (place_for c.args.rows.now c.args.general) c.loop-i.i c.passes.result c.requires.set.ascending c.loop-i-test.true c.loop-i.invariant.within c.loop-i.invariant.behind c.passes.ensures c.if-not-passes.true
+returns-then-not-passes c = (
+  omega (arith, c.loop-i.invariant.before, c.loop-i-test.true),
+  last_found c.args.rows.now c.args.places.now (place_for c.args.rows.now c.args.general) c.loop-i.i c.passes.result c.requires.set.ascending c.loop-i-test.true c.loop-i.invariant.within c.loop-i.invariant.behind c.passes.ensures c.if-not-passes.true,
+)
 
 pub loop-i-preserved : goal.loop-i-preserved
 loop-i-preserved c = record {
   within = omega (arith, c.loop-i.invariant.within);
+  before = omega (arith, c.loop-i.invariant.before);
   behind = last_more c.args.rows.now c.args.places.now (place_for c.args.rows.now c.args.general) c.loop-i.i c.passes.result c.loop-i-test.true c.loop-i.invariant.behind c.passes.ensures c.if-not-passes.false;
 }
 
