@@ -196,7 +196,7 @@ def main():
             for steps in (1, 2, 3):
                 show(program, made, "image", steps, 0)
         if "cover" in parts:
-            for rows in (128, 256, 512, 1024):
+            for rows in (256, 512, 1024, 2048, 4096):
                 for routes in (17, 40, 1000):
                     show(program, base, "cover", rows, routes)
 

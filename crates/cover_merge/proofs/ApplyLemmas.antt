@@ -39,24 +39,28 @@ none_from (t ∷ places) k below = by_head (eqb_tells t k) (none_from places k (
     by_head (inl same) rest = absurd (omega (arith, same.1, All-head (λ t. t < k) t places below))
     by_head (inr other) rest = ap (λ b. b || has places k) other.0 ∙ rest
 
-pub kept_in : (places : List ℕ) (j : ℕ) (x : Row) (xs : List Row) → has places j ≡ false → kept places j (x ∷ xs) ≡ x ∷ kept places (suc j) xs
-kept_in places j x xs e = ap (λ b. cond (not b) (x ∷ kept places (suc j) xs) (kept places (suc j) xs)) e
+-- the items whose places, counted from i, are not of the set
+abbrev pub left : {X : Type 0} → List ℕ → ℕ → List X → List X
+left places i xs = picked (λ k. not (has places k)) i xs
 
-kept_out : (places : List ℕ) (j : ℕ) (x : Row) (xs : List Row) → has places j ≡ true → kept places j (x ∷ xs) ≡ kept places (suc j) xs
-kept_out places j x xs e = ap (λ b. cond (not b) (x ∷ kept places (suc j) xs) (kept places (suc j) xs)) e
+pub kept_in : {X : Type 0} (places : List ℕ) (j : ℕ) (x : X) (xs : List X) → has places j ≡ false → left places j (x ∷ xs) ≡ x ∷ left places (suc j) xs
+kept_in places j x xs e = ap (λ b. cond (not b) (x ∷ left places (suc j) xs) (left places (suc j) xs)) e
+
+kept_out : {X : Type 0} (places : List ℕ) (j : ℕ) (x : X) (xs : List X) → has places j ≡ true → left places j (x ∷ xs) ≡ left places (suc j) xs
+kept_out places j x xs e = ap (λ b. cond (not b) (x ∷ left places (suc j) xs) (left places (suc j) xs)) e
 
 -- where no place is left, all are kept
-pub kept_none : (places : List ℕ) (j : ℕ) (xs : List Row) → All (λ t. t < j) places → kept places j xs ≡ xs
+pub kept_none : {X : Type 0} (places : List ℕ) (j : ℕ) (xs : List X) → All (λ t. t < j) places → left places j xs ≡ xs
 kept_none places j [] below = refl
 kept_none places j (x ∷ xs) below =
     kept_in places j x xs (none_from places j below)
     ∙ ap (λ ys. x ∷ ys) (kept_none places (suc j) xs (λ k d within. omega (arith, below k d within)))
 
 -- a place that is behind takes nothing out
-kept_passed : (s : ℕ) (rest : List ℕ) (j : ℕ) (xs : List Row) → s < j → kept (s ∷ rest) j xs ≡ kept rest j xs
+kept_passed : {X : Type 0} (s : ℕ) (rest : List ℕ) (j : ℕ) (xs : List X) → s < j → left (s ∷ rest) j xs ≡ left rest j xs
 kept_passed s rest j [] behind = refl
 kept_passed s rest j (x ∷ xs) behind =
-    ap (λ b. cond (not (b || has rest j)) (x ∷ kept (s ∷ rest) (suc j) xs) (kept (s ∷ rest) (suc j) xs)) (differs (eqb_tells s j))
+    ap (λ b. cond (not (b || has rest j)) (x ∷ left (s ∷ rest) (suc j) xs) (left (s ∷ rest) (suc j) xs)) (differs (eqb_tells s j))
     ∙ ap (λ ys. cond (not (has rest j)) (x ∷ ys) ys) (kept_passed s rest (suc j) xs (omega arith))
   where
     differs : ((s == j) ≡ true) × (s ≡ j) ⊎ ((s == j) ≡ false) × (s ≢ j) → (s == j) ≡ false
@@ -69,14 +73,14 @@ module _ (s : ℕ) (rest : List ℕ) (above : All (λ t. s < t) rest) where
   pub first_kept : (j : ℕ) → j ≤ s → has rest j ≡ false
   first_kept j le = none_at rest j (λ k d within. omega (arith, above k d within))
 
-  pub kept_longer : (j m : ℕ) (xs : List Row) → s ≡ j + m → m < length xs → m < length (kept rest j xs)
+  pub kept_longer : {X : Type 0} (j m : ℕ) (xs : List X) → s ≡ j + m → m < length xs → m < length (left rest j xs)
   kept_longer j m [] at within = absurd (omega arith)
   kept_longer j zero (x ∷ xs) at within = rw (kept_in rest j x xs (first_kept j (omega arith))) (omega arith)
   kept_longer j (suc m) (x ∷ xs) at within =
-      let tail : m < length (kept rest (suc j) xs) = kept_longer (suc j) m xs (omega arith) (omega arith) in
+      let tail : m < length (left rest (suc j) xs) = kept_longer (suc j) m xs (omega arith) (omega arith) in
       rw (kept_in rest j x xs (first_kept j (omega arith))) (omega arith)
 
-  pub kept_remove : (j m : ℕ) (xs : List Row) → s ≡ j + m → m < length xs → remove (kept rest j xs) m ≡ kept (s ∷ rest) j xs
+  pub kept_remove : {X : Type 0} (j m : ℕ) (xs : List X) → s ≡ j + m → m < length xs → remove (left rest j xs) m ≡ left (s ∷ rest) j xs
   kept_remove j m [] at within = absurd (omega arith)
   kept_remove j zero (x ∷ xs) at within =
       let here : s ≡ j = omega arith in
@@ -105,31 +109,31 @@ above_rest places i ascending some within k d inside =
     subst (λ x. get_or places (i - 1) 0 < x) (sym (get_or-drop i places k d))
     (subst (λ x. x < get_or places (i + k) d) (get_or_default places (i - 1) d 0 (omega arith)) less)
 
-pub one_out : (places : List ℕ) (i : ℕ) (start now new : List Row) → AllPairs (λ s t. s < t) places → All (λ s. s < length start) places → 0 < i → i ≤ length places
-    → now ≡ kept (drop i places) 0 start → new ≡ remove now (get_or places (i - 1) 0) → new ≡ kept (drop (i - 1) places) 0 start
+pub one_out : {X : Type 0} (places : List ℕ) (i : ℕ) (start now new : List X) → AllPairs (λ s t. s < t) places → All (λ s. s < length start) places → 0 < i → i ≤ length places
+    → now ≡ left (drop i places) 0 start → new ≡ remove now (get_or places (i - 1) 0) → new ≡ left (drop (i - 1) places) 0 start
 one_out places i start now new ascending in_range some within is removed =
     removed ∙ ap (λ l. remove l (get_or places (i - 1) 0)) is
     ∙ kept_remove (get_or places (i - 1) 0) (drop i places) (above_rest places i ascending some within) 0 (get_or places (i - 1) 0) start (omega arith) (in_range (i - 1) 0 (omega arith))
-    ∙ ap (λ l. kept l 0 start) (sym (drop_before places i some within))
+    ∙ ap (λ l. left l 0 start) (sym (drop_before places i some within))
 
-pub still_in : (places : List ℕ) (i : ℕ) (start now : List Row) → AllPairs (λ s t. s < t) places → All (λ s. s < length start) places → 0 < i → i ≤ length places
-    → now ≡ kept (drop i places) 0 start → get_or places (i - 1) 0 < length now
+pub still_in : {X : Type 0} (places : List ℕ) (i : ℕ) (start now : List X) → AllPairs (λ s t. s < t) places → All (λ s. s < length start) places → 0 < i → i ≤ length places
+    → now ≡ left (drop i places) 0 start → get_or places (i - 1) 0 < length now
 still_in places i start now ascending in_range some within is =
     rw is (kept_longer (get_or places (i - 1) 0) (drop i places) (above_rest places i ascending some within) 0 (get_or places (i - 1) 0) start (omega arith) (in_range (i - 1) 0 (omega arith)))
 
 -- nothing is taken out yet
-pub none_out : (places : List ℕ) (start : List Row) → start ≡ kept (drop (length places) places) 0 start
-none_out places start = sym (ap (λ l. kept l 0 start) (drop_all (length places) places (omega arith)) ∙ kept_none [] 0 start (All-nil (λ t. t < 0)))
+pub none_out : {X : Type 0} (places : List ℕ) (start : List X) → start ≡ left (drop (length places) places) 0 start
+none_out places start = sym (ap (λ l. left l 0 start) (drop_all (length places) places (omega arith)) ∙ kept_none [] 0 start (All-nil (λ t. t < 0)))
 
 -- ---- the table after a merge
 
-pub picked-append : (q : ℕ → Bool) (i : ℕ) (xs ys : List Row) → picked q i (xs ++ ys) ≡ picked q i xs ++ picked q (i + length xs) ys
-picked-append q i [] ys = ap (λ j. picked q j ys) (omega arith)
-picked-append q i (x ∷ xs) ys =
+pub picked-append : {X : Type 0} (q : ℕ → Bool) (i : ℕ) (xs ys : List X) → picked q i (xs ++ ys) ≡ picked q i xs ++ picked q (i + length xs) ys
+picked-append {X = X} q i [] ys = ap (λ j. picked q j ys) (omega arith)
+picked-append {X = X} q i (x ∷ xs) ys =
     ap (λ zs. cond (q i) (x ∷ zs) zs) (picked-append q (suc i) xs ys ∙ ap (λ j. picked q (suc i) xs ++ picked q j ys) (omega arith))
     ∙ by_test (q i) (picked q (suc i) xs) (picked q (i + suc (length xs)) ys)
   where
-    by_test : (b : Bool) (us vs : List Row) → cond b (x ∷ (us ++ vs)) (us ++ vs) ≡ cond b (x ∷ us) us ++ vs
+    by_test : (b : Bool) (us vs : List X) → cond b (x ∷ (us ++ vs)) (us ++ vs) ≡ cond b (x ∷ us) us ++ vs
     by_test true us vs = refl
     by_test false us vs = refl
 
@@ -154,7 +158,7 @@ module _ (rows : List Row) (places : List ℕ) (ordered : IsOrdered rows) (set :
       (kept_none places (suc p) (drop p rows) (λ k d within. omega (arith, members_before k d within))
       ∙ sym (kept_none places p (drop p rows) members_before)))
 
-  block_is : (merged_row rows places).block ≡ merged_block rows places
+  pub block_is : (merged_row rows places).block ≡ merged_block rows places
   block_is = by_rows (rows_at rows places)
     where
       by_rows : (xs : List Row) → (merge_rows xs).block ≡ merge_of (map (λ (x : Row). x.block) xs)
@@ -203,3 +207,8 @@ row_made rows (s ∷ places) d b a in_range some block aliases =
 pub on_ok : {T E : Type 0} (r : Result T E) (P Q : Type 0) → (P → Q) → OnOk r P → OnOk r Q
 on_ok (Ok x) P Q h p = h p
 on_ok (Err e) P Q h p = p
+
+-- the merge has the route of its first row
+pub route_is : (rows : List Row) (places : List ℕ) (d : Row) → All (λ s. s < length rows) places → 0 < length places → (merged_row rows places).route ≡ (get_or rows (get_or places 0 0) d).route
+route_is rows [] d in_range some = absurd (omega arith)
+route_is rows (s ∷ places) d in_range some = ap (λ (o : Option Row). (merge_rows (cons_option o (rows_at rows places))).route) (slice_get-get_or rows s d (in_range 0 s (omega arith)))

@@ -1,10 +1,10 @@
 -- The places of a route, the best of the refined sets, and pairs.
-use Rattle.std.proofs.Common.{◌≡◌, ◌≢◌, ℕ, suc, ◌+◌, ◌-◌, ◌<◌, ◌≤◌, ◌==◌, Bool, true, false, cond, List, [], ◌∷◌, ◌++◌, length, get_or, take, inl, inr, ◌⊎◌, refl, sym, ap, ◌∙◌, subst, length-take, append-nil, arith}
+use Rattle.std.proofs.Common.{◌≡◌, ◌≢◌, ℕ, zero, suc, ◌+◌, ◌-◌, ◌<◌, ◌≤◌, ◌==◌, Bool, true, false, cond, List, [], ◌∷◌, ◌++◌, length, get_or, take, inl, inr, ◌⊎◌, refl, sym, ap, ◌∙◌, subst, length-take, append-nil, arith}
 use Rattle.std.specs.Prelude.{All, AllPairs, IsTrue, ◌↔◌, MatchBool}
 use mathlib.Core.Bool.{false≢true}
-use Rattle.std.proofs.lemmas.Bool.{cases_lt, eqb-true, eq-eqb}
+use Rattle.std.proofs.lemmas.Bool.{cases_lt, cases_order, eqb-true, eq-eqb}
 use Rattle.std.proofs.lemmas.Bool.Decides.{eqb_tells}
-use Rattle.std.proofs.lemmas.List.{take_more, get_or_default}
+use Rattle.std.proofs.lemmas.List.{take_more, take_all, get_or_default}
 use Rattle.std.proofs.lemmas.List.Elements.{All-nil, All-cons}
 use Rattle.std.proofs.lemmas.List.Kept.{AllPairs-cons}
 use Rattle.spin_base.specs.declared.routes.Route.{Route}
@@ -13,6 +13,7 @@ use Rattle.cover_checks.specs.Merge.{IsOneRoute, IsMergeSet, IsLegal, merge_rows
 use Rattle.cover_checks.proofs.Positions.{same_route, pair_set_read}
 use Rattle.cover_checks.proofs.Lists.{AllPairs-nil}
 use Rattle.cover_merge.specs.Refinement.{Refines, ends_empty}
+use Rattle.cover_merge.specs.Links.{AreLinks, IsNext, IsFirst}
 use Rattle.cover_merge.specs.Covering.{places_of, IsNoRival, IsBestBefore, StandsBefore, IsLargest, HasNoLargest, IsLegalPair, IsFirstPartner, HasNoLegalPair, IsFirstLegalPair}
 
 -- ---- the places of a route
@@ -150,9 +151,6 @@ module _ (rows : List Row) (k : ℕ) (within : k < length rows) (bits : ℕ) (se
 
 -- the same as the code reads it
 module _ (rows list : List Row) (same : list ≡ rows) (k : ℕ) (within : k < length rows) (bits : ℕ) (set : List ℕ) (best : IsBestBefore rows k bits set) (d : Row) where
-  pub read_again : StandsBefore list (get_or list k d).route.bits k → IsBestBefore rows (k + 1) bits set
-  read_again stands = best_again rows k within bits set best d (subst (λ l. StandsBefore l (get_or l k d).route.bits k) same stands)
-
   pub read_one_route : (places : List ℕ) → places ≡ places_of (get_or list k d).route.bits 0 list → IsOneRoute rows places
   read_one_route places is = subst (IsOneRoute rows) (sym (is ∙ ap (places_of (get_or list k d).route.bits 0) same)) (places_of-one_route (get_or list k d).route.bits rows)
 
@@ -243,15 +241,75 @@ first_found rows set i j is none partner = record { i = i; j = j; pair = is; leg
 pub no_pair : (rows : List Row) (i : ℕ) → length rows ≤ i → ((a : ℕ) → a < i → (b : ℕ) → IsLegalPair rows a b → ⊥) → HasNoLegalPair rows
 no_pair rows i all none a b other = none a (omega (arith, pair_order rows a b other, pair_inside rows a b other)) b other
 
--- ---- a route that stands before
+-- ---- links
 
-pub stands_at : (rows : List Row) (bits k j : ℕ) (d : Row) → j < k → k ≤ length rows → (get_or rows j d).route.bits ≡ bits → StandsBefore rows bits k
-stands_at rows bits k j d less within same = record {
-  at = j;
+module _ (rows : List Row) (nexts firsts : List ℕ) (links : AreLinks rows nexts firsts) (k x : ℕ) (inside : k < length rows) where
+  pub link_next : x ≡ get_or nexts k x → IsNext rows k x
+  link_next is = subst (IsNext rows k) (get_or_default nexts k 0 x (omega (arith, links.one_next, inside)) ∙ sym is) (links.next k inside)
+
+  pub link_first : x ≡ get_or firsts k x → IsFirst rows k x
+  link_first is = subst (IsFirst rows k) (get_or_default firsts k 0 x (omega (arith, links.one_first, inside)) ∙ sym is) (links.first k inside)
+
+-- a row that is not the first of its route stands behind that
+pub first_stands : (rows : List Row) (k x : ℕ) (d : Row) → k < length rows → IsFirst rows k x → x < k → StandsBefore rows (get_or rows k d).route.bits k
+first_stands rows k x d inside first less = record {
+  at = x;
   before = less;
-  inside = omega arith;
-  same = λ e. ap (λ (r : Row). r.route.bits) (get_or_default rows j e d (omega arith)) ∙ same;
+  inside = omega (arith, less, inside);
+  same = λ e. first.same e ∙ ap (λ (r : Row). r.route.bits) (get_or_default rows k e d inside);
 }
 
-pub none_stands : (rows : List Row) (bits k j : ℕ) → k ≤ j → ((m : ℕ) (d : Row) → m < j → (get_or rows m d).route.bits ≡ bits → ⊥) → StandsBefore rows bits k → ⊥
-none_stands rows bits k j all none stands = none stands.at (merge_rows []) (omega (arith, stands.before)) (stands.same (merge_rows []))
+-- rows of other routes add no place
+places_gap : (bits : ℕ) (rows : List Row) (i n : ℕ) → ((m : ℕ) (d : Row) → i ≤ m → m < i + n → m < length rows → (get_or rows m d).route.bits ≡ bits → ⊥) → places_of bits 0 (take (i + n) rows) ≡ places_of bits 0 (take i rows)
+places_gap bits rows i zero none = let same : i + 0 ≡ i = omega arith in ap (λ j. places_of bits 0 (take j rows)) same
+places_gap bits rows i (suc n) none =
+    let last : i + suc n ≡ i + n + 1 = omega arith in
+    ap (λ j. places_of bits 0 (take j rows)) last
+    ∙ one_more (cases_lt (i + n) (length rows))
+    ∙ places_gap bits rows i n (λ m d from less. none m d from (omega (arith, less)))
+  where
+    one_more : (i + n < length rows) ⊎ (length rows ≤ i + n) → places_of bits 0 (take (i + n + 1) rows) ≡ places_of bits 0 (take (i + n) rows)
+    one_more (inl within) = places_of-not bits (i + n) rows (merge_rows []) within (none (i + n) (merge_rows []) (omega arith) (omega arith) within)
+    one_more (inr all) = ap (places_of bits 0) (take_all (i + n + 1) rows (omega (arith, all)) ∙ sym (take_all (i + n) rows all))
+
+-- the first row of a route begins its places
+pub places_begin : (rows : List Row) (k x : ℕ) (d : Row) → k < length rows → IsFirst rows k x → k ≤ x → [] ≡ places_of (get_or rows k d).route.bits 0 (take k rows)
+places_begin rows k x d inside first from =
+    let bits = (get_or rows k d).route.bits in
+    let whole : 0 + k ≡ k = omega arith in
+    sym (ap (λ j. places_of bits 0 (take j rows)) (sym whole)
+    ∙ places_gap bits rows 0 k (λ m e low less within same.
+    first.before m e (omega (arith, less, from)) (same ∙ ap (λ (r : Row). r.route.bits) (get_or_default rows k d e inside))))
+
+-- one row of the route more, and then on to the next
+pub places_next : (rows : List Row) (k place x : ℕ) (d : Row) (old new : List ℕ) → k < length rows → place < length rows → ((e : Row) → (get_or rows place e).route.bits ≡ (get_or rows k e).route.bits) → IsNext rows place x
+    → old ≡ places_of (get_or rows k d).route.bits 0 (take place rows) → new ≡ old ++ place ∷ [] → new ≡ places_of (get_or rows k d).route.bits 0 (take x rows)
+places_next rows k place x d old new in_k inside same next before now =
+    let bits = (get_or rows k d).route.bits in
+    let there : place + 1 + (x - (place + 1)) ≡ x = omega (arith, next.behind) in
+    now ∙ ap (λ l. l ++ place ∷ []) before
+    ∙ sym (places_of-here bits place rows d inside (same d))
+    ∙ sym (places_gap bits rows (place + 1) (x - (place + 1)) (λ m e from less within equal.
+    next.between m e (omega (arith, from)) (omega (arith, less, there)) within (equal ∙ ap (λ (r : Row). r.route.bits) (get_or_default rows k d e in_k) ∙ sym (same e))))
+    ∙ ap (λ j. places_of bits 0 (take j rows)) there
+
+pub places_end : (rows : List Row) (bits place : ℕ) (found : List ℕ) → length rows ≤ place → found ≡ places_of bits 0 (take place rows) → found ≡ places_of bits 0 rows
+places_end rows bits place found all is = is ∙ ap (places_of bits 0) (take_all place rows all)
+
+-- the rows of a pair have one route
+pair_bits : (rows : List Row) (i b : ℕ) (d : Row) → IsLegalPair rows i b → (get_or rows b d).route.bits ≡ (get_or rows i d).route.bits
+pair_bits rows i b d pair = sym (ap (λ (r : Route). r.bits) (pair.set.set.one_route 0 1 0 (omega arith) (omega arith) d))
+
+-- up to the next row of the route none is a partner
+pub none_first : (rows : List Row) (i j : ℕ) → IsNext rows i j → (b : ℕ) → i < b → b < j → IsLegalPair rows i b → ⊥
+none_first rows i j next b from before pair = next.between b (merge_rows []) from before (pair_inside rows i b pair) (pair_bits rows i b (merge_rows []) pair)
+
+pub none_next : (rows : List Row) (i j x : ℕ) → ((d : Row) → (get_or rows j d).route.bits ≡ (get_or rows i d).route.bits) → IsNext rows j x → (IsLegalPair rows i j → ⊥) → ((b : ℕ) → i < b → b < j → IsLegalPair rows i b → ⊥)
+    → (b : ℕ) → i < b → b < x → IsLegalPair rows i b → ⊥
+none_next rows i j x same next refused none b from before pair = elim (cases_order b j) [
+  | inl here ↦ refused (subst (IsLegalPair rows i) here pair)
+  | inr apart ↦ elim apart [
+    | inl earlier ↦ none b from earlier pair
+    | inr later ↦ next.between b (merge_rows []) later before (pair_inside rows i b pair) (pair_bits rows i b (merge_rows []) pair ∙ sym (same (merge_rows [])))
+  ]
+]

@@ -15,7 +15,7 @@ use Rattle.spin_base.specs.declared.blocks.Block.{Block}
 use Rattle.tern_word.specs.declared.tables.Row.{Row}
 use Rattle.tern_word.specs.Ternary.{Wants, generality}
 use Rattle.tern_word.proofs.BlockLaws.{merge_of-is_merge}
-use Rattle.cover_checks.specs.Merge.{has, rows_at, merged_block, place_for, insert_place, SameRoute, IsOneRoute, IsMergeSet, IsLegal, PassesUp, PassesUpCheck, PassesDown, PassesDownCheck}
+use Rattle.cover_checks.specs.Merge.{has, rows_at, merged_block, place_for, insert_place, SameRoute, IsOneRoute, IsMergeSet, IsLegal, PassesUp, PassesUpCheck, PassesDownCheck}
 use Rattle.tern_word.specs.SoundTable.{IsSound}
 use Rattle.cover_checks.proofs.Legal.{legal_from_checks}
 use Rattle.cover_checks.proofs.Answering.{fails}
@@ -143,37 +143,21 @@ narrowed_shorter rows old new met set (inl (i, low, best, is)) = rw is (elim (dr
 
 -- ---- the steps
 
-module _ (rows : List Row) (old list : List ℕ) (same : list ≡ old) (merged : Block) (is : merged ≡ merged_block rows list) (g p : ℕ) (general : g ≡ generality merged) (place : p ≡ place_for rows g) where
-  merged_is : merged ≡ merged_block rows old
-  merged_is = is ∙ ap (merged_block rows) same
-
+module _ (rows : List Row) (old : List ℕ) (merged : Block) (is : merged ≡ merged_block rows old) (g p : ℕ) (general : g ≡ generality merged) (place : p ≡ place_for rows g) where
   place_is : p ≡ insert_place rows old
-  place_is = place ∙ ap (place_for rows) (general ∙ ap generality merged_is)
+  place_is = place ∙ ap (place_for rows) (general ∙ ap generality is)
 
-  pub up_step : (list2 : List ℕ) → list2 ≡ old → (s : ℕ) (new : List ℕ) → IsLastFailing rows list2 p s → new ≡ without s old → ((IsUpStep rows old new) ⊎ (IsDownStep rows old new)) × (length new < length old)
-  up_step list2 same2 s new last now =
-      let last_here : IsLastFailing rows old (insert_place rows old) s = subst (λ q. IsLastFailing rows old q s) place_is (subst (λ l. IsLastFailing rows l p s) same2 last) in
-      (inl (record { place = s; last = last_here; result = now }), rw now (without_shorter s old last_here.member))
-
-  up_passes : (list2 : List ℕ) → list2 ≡ old → ((s : ℕ) → IsTrue (has list2 s) → PassesUp rows list2 s p) → PassesUpCheck rows old
-  up_passes list2 same2 all s found = subst (λ q. PassesUp rows old s q) place_is (subst (λ l. (s : ℕ) → IsTrue (has l s) → PassesUp rows l s p) same2 all s found)
-
-  pub down_step : (list2 : List ℕ) → list2 ≡ old → IsMergeSet rows old → ((s : ℕ) → IsTrue (has list2 s) → PassesUp rows list2 s p) → (met : Block) → IsFirstMetFrom rows merged p met → (new : List ℕ) → IsNarrowed rows old merged met new
-      → ((IsUpStep rows old new) ⊎ (IsDownStep rows old new)) × (length new < length old)
-  down_step list2 same2 set up met first new narrowed =
-      let narrowed_here = subst (λ b. IsNarrowed rows old b met new) merged_is narrowed in (
-        inr (record {
-          up = up_passes list2 same2 up;
+  pub down_step : IsMergeSet rows old → PassesUpCheck rows old → (met : Block) → IsFirstMetFrom rows merged p met → (new : List ℕ) → IsNarrowed rows old merged met new → (IsDownStep rows old new) × (length new < length old)
+  down_step set up met first new narrowed =
+      let narrowed_here = subst (λ b. IsNarrowed rows old b met new) is narrowed in (
+        record {
+          up = up;
           met = met;
-          first = subst (λ b. IsFirstMetFrom rows b (insert_place rows old) met) merged_is (subst (λ q. IsFirstMetFrom rows merged q met) place_is first);
+          first = subst (λ b. IsFirstMetFrom rows b (insert_place rows old) met) is (subst (λ q. IsFirstMetFrom rows merged q met) place_is first);
           narrowed = narrowed_here;
-        }),
+        },
         narrowed_shorter rows old new met set narrowed_here,
       )
-
-  pub both_pass : (list2 : List ℕ) → list2 ≡ old → ((s : ℕ) → IsTrue (has list2 s) → PassesUp rows list2 s p) → PassesDown rows merged p → (new : List ℕ) → new ≡ old → (PassesUpCheck rows old) × (PassesDownCheck rows old) × (new ≡ old)
-  both_pass list2 same2 up down new now =
-      (up_passes list2 same2 up, subst (λ b. PassesDown rows b (insert_place rows old)) merged_is (subst (λ q. PassesDown rows merged q) place_is down), now)
 
 -- ---- the greatest place that fails
 

@@ -1,6 +1,6 @@
 -- The refined set of places of one route: what stays of it until its merge is legal
 -- (after Mundy, Heathcote, Garside, HPSR 2016; the ties are this project's own).
-use Rattle.std.specs.Prelude.{◌≡◌, ℕ, ◌<◌, ◌≤◌, ◌⊎◌, ◌==◌, ◌&&◌, not, Bool, true, false, if◌then◌else◌, List, [], length, filter, slice_get, slice_index_or, Some}
+use Rattle.std.specs.Prelude.{◌≡◌, ℕ, ◌+◌, ◌<◌, ◌≤◌, ◌⊎◌, ◌==◌, ◌&&◌, not, Bool, true, false, if◌then◌else◌, List, [], length, filter, take, slice_get, slice_index_or, Some}
 use Rattle.std.specs.Int.{bit_at}
 use Rattle.std.specs.Option.{option_map_or}
 use Rattle.spin_base.specs.declared.blocks.Block.{Block}
@@ -15,6 +15,11 @@ pub record IsLastFailing (rows : List Row) (places : List ℕ) (p s : ℕ) : Typ
   pub member : has places s ≡ true
   pub failing : PassesUp rows places s p → ⊥
   pub behind : (t : ℕ) → has places t ≡ true → s < t → PassesUp rows places t p
+
+-- for each place of the set the merge of the rows up to it
+pub record AreMerges (rows : List Row) (places : List ℕ) (merges : List Block) : Type 0 where
+  pub one_each : length merges ≡ length places
+  pub each : (k : ℕ) (d : Block) → k < length merges → slice_index_or merges k d ≡ merged_block rows (take (k + 1) places)
 
 -- the set without the place
 abbrev pub without : ℕ → List ℕ → List ℕ

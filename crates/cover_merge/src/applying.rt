@@ -1,7 +1,7 @@
 // The table after a merge.
-ghost use Rattle.std.specs.Prelude.{◌≡◌, ◌<◌, ◌≤◌, ◌^◌, All, AllPairs, IfOk, OnOk, OnErr, length, insert};
+ghost use Rattle.std.specs.Prelude.{◌≡◌, ◌<◌, ◌≤◌, ◌^◌, All, AllPairs, IfOk, OnOk, OnErr, length, insert, not};
 ghost use Rattle.tern_word.specs.SoundTable.{IsOrdered};
-ghost use Rattle.cover_checks.specs.Merge.{IsMergeSet, after, kept, merged_row, rows_at};
+ghost use Rattle.cover_checks.specs.Merge.{IsMergeSet, after, has, kept, merged_row, picked, rows_at};
 ghost use Rattle.cover_merge.specs.Aliases.{aliases_at};
 
 use cover_checks::{merged_block, place_for};
@@ -67,15 +67,15 @@ fn put_in(rows: &mut Vec<Row>, merged: Row, place: u32, places: &[u32]) -> Resul
     Ok(())
 }
 
-// Takes out the rows at the places, the last first.
-fn take_out_all(rows: &mut Vec<Row>, places: &[u32])
+/// Takes out the items at the places, the last first.
+pub(crate) fn take_out_all<T: Drop>(items: &mut Vec<T>, places: &[u32])
     requires ascending { AllPairs (λ s t. s < t) places.now }
-    requires in_range { All (λ s. s < length rows.old.items) places.now }
-    ensures { rows.new.items ≡ kept places.now 0 rows.old.items }
+    requires in_range { All (λ s. s < length items.old.items) places.now }
+    ensures { items.new.items ≡ picked (λ k. not (has places.now k)) 0 items.old.items }
 {
     let mut i = places.len();
     while i > 0 {
         i -= 1;
-        let _ = rows.remove(places[i] as usize);
+        let _ = items.remove(places[i] as usize);
     }
 }

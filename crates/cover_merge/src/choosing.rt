@@ -1,25 +1,35 @@
 // Which rows are merged next.
-ghost use Rattle.std.specs.Prelude.{◌≡◌, ◌+◌, ◌<◌, ◌≤◌, ◌^◌, ◌↔◌, ◌==◌, ℕ, [], ◌∷◌, IfOk, MatchOption, MatchBool, length, ◌⊎◌};
+ghost use Rattle.std.specs.Prelude.{◌≡◌, ◌+◌, ◌<◌, ◌≤◌, ◌^◌, ◌↔◌, ◌==◌, ℕ, [], ◌∷◌, IfOk, MatchOption, MatchBool, length, slice_index, slice_index_or, ◌⊎◌};
 ghost use Rattle.tern_word.specs.SoundTable.{IsSound};
-ghost use Rattle.cover_merge.specs.Rivals.{AreRivals};
+ghost use Rattle.tern_word.specs.declared.tables.Row.{Row as ARow};
+ghost use Rattle.cover_merge.specs.Guards.{AreGuards};
+ghost use Rattle.cover_merge.specs.Links.{AreLinks};
 ghost use Rattle.cover_merge.specs.Covering.{places_of, IsBestBefore, StandsBefore, IsFirstPartner, IsLargest, HasNoLargest, IsLegalPair, HasNoLegalPair, IsFirstLegalPair, IsChosen, HasNoChosen};
 
-use crate::refining::refine;
-use crate::rivals::{is_legal_pair, rivals_of};
+use crate::guards::{Guard, is_legal_pair};
+use crate::links::Links;
+use crate::refining::refine_by;
 use spin_base::{Memory, Seq};
 use std::alloc::Global;
 use tern_word::{Row, Table};
 
 /// The set of places that is merged next, where there is one: the largest refined set, of equal ones that of the least
 /// route, and where none has two places the first legal pair.
-pub fn chosen(alloc: Global, table: &Table) -> Result<Option<Seq<u32>>, Memory>
+pub(crate) fn chosen(
+    alloc: Global,
+    table: &Table,
+    guards: &[Guard],
+    links: &Links,
+) -> Result<Option<Seq<u32>>, Memory>
     requires few { length table.now.rows < 2 ^ 32 }
     requires sound { IsSound table.now.rows }
+    requires guards { AreGuards table.now.rows guards.now }
+    requires links { AreLinks table.now.rows links.now.next.items links.now.first.items }
     ensures { IfOk result (λ found. MatchOption found (HasNoChosen table.now.rows) (λ set. IsChosen table.now.rows set)) }
 {
-    match largest(alloc, table)? {
+    match largest(alloc, table, guards, links)? {
         Some(set) => Ok(Some(set)),
-        None => first_pair(alloc, table),
+        None => first_pair(alloc, table, guards, links),
     }
 }
 
@@ -31,9 +41,16 @@ struct Best {
 }
 
 // The largest refined set, where one has two places.
-fn largest(alloc: Global, table: &Table) -> Result<Option<Seq<u32>>, Memory>
+fn largest(
+    alloc: Global,
+    table: &Table,
+    guards: &[Guard],
+    links: &Links,
+) -> Result<Option<Seq<u32>>, Memory>
     requires few { length table.now.rows < 2 ^ 32 }
     requires sound { IsSound table.now.rows }
+    requires guards { AreGuards table.now.rows guards.now }
+    requires links { AreLinks table.now.rows links.now.next.items links.now.first.items }
     ensures { IfOk result (λ found. MatchOption found (HasNoLargest table.now.rows) (λ set. IsLargest table.now.rows set)) }
 {
     let mut best = Best {
@@ -41,7 +58,7 @@ fn largest(alloc: Global, table: &Table) -> Result<Option<Seq<u32>>, Memory>
         bits: 0,
     };
     for k in 0..table.rows.len() {
-        best = better(alloc, table, k, best)?;
+        best = better(alloc, table, guards, links, k, best)?;
     }
     let Best { set, bits: _ } = best;
     if set.len() < 2 {
@@ -52,19 +69,28 @@ fn largest(alloc: Global, table: &Table) -> Result<Option<Seq<u32>>, Memory>
 }
 
 // The better of the best set so far and that of the route of row `k`.
-fn better(alloc: Global, table: &Table, k: usize, best: Best) -> Result<Best, Memory>
+fn better(
+    alloc: Global,
+    table: &Table,
+    guards: &[Guard],
+    links: &Links,
+    k: usize,
+    best: Best,
+) -> Result<Best, Memory>
     requires few { length table.now.rows < 2 ^ 32 }
     requires sound { IsSound table.now.rows }
+    requires guards { AreGuards table.now.rows guards.now }
+    requires links { AreLinks table.now.rows links.now.next.items links.now.first.items }
     requires inside { k < length table.now.rows }
     requires best { IsBestBefore table.now.rows k best.bits best.set }
     ensures { IfOk result (λ new. IsBestBefore table.now.rows (k + 1) new.bits new.set) }
 {
-    let rows = table.rows.as_slice();
-    let bits = rows[k].route.bits;
-    if stands_before(rows, bits, k) {
+    if (links.first[k] as usize) < k {
         return Ok(best);
     }
-    let set = refine(table, places_of(alloc, rows, bits)?)?;
+    let rows = table.rows.as_slice();
+    let bits = rows[k].route.bits;
+    let set = refine_by(table, guards, places_from(alloc, rows, links, k)?)?;
     if beats(set.len(), bits, best.set.len(), best.bits) {
         return Ok(Best { set, bits });
     }
@@ -78,42 +104,38 @@ fn beats(n: usize, bits: u32, m: usize, other: u32) -> bool
     m < n || (n == m && bits < other)
 }
 
-// Whether a row before place `k` has the route of these bits.
-fn stands_before(rows: &[Row], bits: u32, k: usize) -> bool
-    requires { k ≤ length rows.now }
-    ensures { MatchBool result (StandsBefore rows.now bits k) (StandsBefore rows.now bits k → ⊥) }
-{
-    for j in 0..k {
-        if rows[j].route.bits == bits {
-            return true;
-        }
-    }
-    false
-}
-
-// The places of all rows of the route of these bits.
-fn places_of(alloc: Global, rows: &[Row], bits: u32) -> Result<Seq<u32>, Memory>
-    requires { length rows.now < 2 ^ 32 }
-    ensures { IfOk result (λ places. places ≡ places_of bits 0 rows.now) }
+// The places of all rows of the route of row `k`, which is the first of them.
+fn places_from(alloc: Global, rows: &[Row], links: &Links, k: usize) -> Result<Seq<u32>, Memory>
+    requires few { length rows.now < 2 ^ 32 }
+    requires links { AreLinks rows.now links.now.next.items links.now.first.items }
+    requires inside { k < length rows.now }
+    requires first { k ≤ slice_index links.now.first.items k }
+    ensures { IfOk result (λ places. (d : ARow) → places ≡ places_of (slice_index_or rows.now k d).route.bits 0 rows.now) }
 {
     let mut places = Vec::new(alloc);
-    for k in 0..rows.len() {
-        if rows[k].route.bits == bits {
-            places.push(k as u32)?;
-        }
+    let mut place = k;
+    while place < rows.len() {
+        places.push(place as u32)?;
+        place = links.next[place] as usize;
     }
     Ok(Seq::from_vec(places))
 }
 
 // The first legal pair.
-fn first_pair(alloc: Global, table: &Table) -> Result<Option<Seq<u32>>, Memory>
+fn first_pair(
+    alloc: Global,
+    table: &Table,
+    guards: &[Guard],
+    links: &Links,
+) -> Result<Option<Seq<u32>>, Memory>
     requires few { length table.now.rows < 2 ^ 32 }
     requires sound { IsSound table.now.rows }
+    requires guards { AreGuards table.now.rows guards.now }
+    requires links { AreLinks table.now.rows links.now.next.items links.now.first.items }
     ensures { IfOk result (λ found. MatchOption found (HasNoLegalPair table.now.rows) (λ set. IsFirstLegalPair table.now.rows set)) }
 {
-    let rivals = rivals_of(alloc, table.rows.as_slice())?;
     for i in 0..table.rows.len() {
-        if let Some(j) = partner(table, &rivals, i as u32) {
+        if let Some(j) = partner(table, guards, links, i as u32) {
             return Ok(Some(two_places(alloc, i as u32, j)?));
         }
     }
@@ -130,34 +152,21 @@ fn two_places(alloc: Global, i: u32, j: u32) -> Result<Seq<u32>, Memory>
     Ok(set)
 }
 
-// The first row behind row `i` that can be merged with it.
-fn partner(table: &Table, rivals: &[u32], i: u32) -> Option<u32>
+// The first row behind row `i` that can be merged with it: only those of its route can.
+fn partner(table: &Table, guards: &[Guard], links: &Links, i: u32) -> Option<u32>
     requires few { length table.now.rows < 2 ^ 32 }
     requires sound { IsSound table.now.rows }
-    requires rivals { AreRivals table.now.rows rivals.now }
+    requires guards { AreGuards table.now.rows guards.now }
+    requires links { AreLinks table.now.rows links.now.next.items links.now.first.items }
     requires inside { i < length table.now.rows }
     ensures { MatchOption result ((b : ℕ) → IsLegalPair table.now.rows i b → ⊥) (λ j. IsFirstPartner table.now.rows i j) }
 {
-    for j in i + 1..table.rows.len() as u32 {
-        if may_pair(table, rivals, i, j) {
+    let mut j = links.next[i as usize];
+    while (j as usize) < table.rows.len() {
+        if is_legal_pair(table, guards, i, j) {
             return Some(j);
         }
+        j = links.next[j as usize];
     }
     None
-}
-
-// Whether the two rows have one route and their merge is legal.
-fn may_pair(table: &Table, rivals: &[u32], i: u32, j: u32) -> bool
-    requires few { length table.now.rows < 2 ^ 32 }
-    requires sound { IsSound table.now.rows }
-    requires rivals { AreRivals table.now.rows rivals.now }
-    requires order { i < j }
-    requires inside { j < length table.now.rows }
-    ensures { MatchBool result (IsLegalPair table.now.rows i j) (IsLegalPair table.now.rows i j → ⊥) }
-{
-    let rows = table.rows.as_slice();
-    if rows[i as usize].route.bits == rows[j as usize].route.bits {
-        return is_legal_pair(table, rivals, i, j);
-    }
-    false
 }

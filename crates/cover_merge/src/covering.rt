@@ -1,12 +1,17 @@
 // Covering a table.
-ghost use Rattle.std.specs.Prelude.{◌≡◌, ◌<◌, ◌≤◌, ◌^◌, ◌⊎◌, IfOk, length, map};
-ghost use Rattle.tern_word.specs.SoundTable.{IsSound, served};
+ghost use Rattle.std.specs.Prelude.{◌≡◌, ◌<◌, ◌≤◌, ◌^◌, ◌⊎◌, IfOk, OnOk, length, map};
+ghost use Rattle.tern_word.specs.SoundTable.{IsOrdered, IsSound, served};
 ghost use Rattle.std.specs.List.Sorted.{IsPermutation};
+ghost use Rattle.cover_checks.specs.Merge.{IsLegal, IsMergeSet, after};
+ghost use Rattle.cover_merge.specs.Guards.{AreGuards};
 ghost use Rattle.cover_merge.specs.Covering.{Covers, HasNoLegalPair};
 ghost use Rattle.cover_merge.specs.Merges.{sets_of};
 
 use crate::applying::apply;
+use crate::carrying::{carry, renew};
 use crate::choosing::chosen;
+use crate::guards::{Guard, guards_of};
+use crate::links::{carry_numbers, links_of, numbers_of};
 use spin_base::{Memory, Seq};
 use std::alloc::Global;
 use tern_word::Table;
@@ -35,15 +40,48 @@ pub fn cover(alloc: Global, mut table: Table, target: u32) -> Result<Covered, Me
     ensures serves { IfOk result (λ c. IsPermutation (served table.rows) (served c.table.rows)) }
     ensures ended { IfOk result (λ c. (length c.table.rows ≤ target) ⊎ (HasNoLegalPair c.table.rows)) }
 {
+    let mut guards = guards_of(alloc, table.rows.as_slice())?;
+    let limit = table.rows.len();
+    let mut numbers = numbers_of(alloc, table.rows.as_slice())?;
     let mut merges = Seq::new(alloc);
     'merging: while table.rows.len() > target as usize {
-        match chosen(alloc, &table)? {
+        let links = links_of(alloc, table.rows.as_slice(), &numbers, limit)?;
+        match chosen(alloc, &table, &guards, &links)? {
             Some(places) => {
-                apply(alloc, &mut table, &places)?;
+                carry_numbers(
+                    table.rows.as_slice(),
+                    &mut numbers,
+                    places.as_slice(),
+                    limit,
+                )?;
+                merge_at(alloc, &mut table, &mut guards, &places)?;
                 merges.push(Merge { places })?;
             }
             None => return Ok(Covered { table, merges }),
         }
     }
     Ok(Covered { table, merges })
+}
+
+// Merges the rows at the places, and finds the guards of the table after it.
+fn merge_at(
+    alloc: Global,
+    table: &mut Table,
+    guards: &mut Vec<Guard>,
+    places: &Seq<u32>,
+) -> Result<(), Memory>
+    requires few { length table.old.rows < 2 ^ 32 }
+    requires ordered { IsOrdered table.old.rows }
+    requires one_each { length guards.old.items ≡ length table.old.rows }
+    requires guards { AreGuards table.old.rows guards.old.items }
+    requires set { IsMergeSet table.old.rows places.now }
+    requires legal { IsLegal table.old.rows places.now }
+    ensures table { OnOk result (table.new.rows ≡ after table.old.rows places.now) }
+    ensures one_each { OnOk result (length guards.new.items ≡ length table.new.rows) }
+    ensures guards { OnOk result (AreGuards table.new.rows guards.new.items) }
+{
+    carry(table.rows.as_slice(), guards, places.as_slice())?;
+    apply(alloc, table, places)?;
+    renew(table.rows.as_slice(), guards);
+    Ok(())
 }

@@ -7,10 +7,12 @@
 #![tactic(auto)]
 
 mod applying;
+mod carrying;
 mod choosing;
 mod covering;
+mod guards;
+mod links;
 mod refining;
-mod rivals;
 
 pub use applying::apply;
 pub use covering::{Covered, Merge, cover};

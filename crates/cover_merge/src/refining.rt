@@ -1,13 +1,17 @@
 // The refined set of places of one route.
-ghost use Rattle.std.specs.Prelude.{◌≡◌, ◌<◌, ◌≤◌, ◌^◌, ◌↔◌, ◌⊎◌, [], IsTrue, IfOk, MatchOption, MatchBool, All, length, filter, not, ◌==◌, ℕ};
+ghost use Rattle.std.specs.Prelude.{◌≡◌, ◌<◌, ◌≤◌, ◌^◌, ◌↔◌, ◌⊎◌, [], IsTrue, IfOk, MatchOption, MatchBool, All, length, filter, not, ◌==◌, ◌+◌, ℕ, List, take, slice_index, slice_index_or};
+ghost use Rattle.spin_base.specs.declared.blocks.Block.{Block as ABlock};
 ghost use Rattle.tern_word.specs.Ternary.{Intersects};
-ghost use Rattle.tern_word.specs.SoundTable.{IsSound, Misses};
-ghost use Rattle.cover_checks.specs.Merge.{has, IsOneRoute, IsMergeSet, IsLegal, merged_block, insert_place, PassesUp, PassesUpCheck, PassesDown, PassesDownCheck};
-ghost use Rattle.cover_merge.specs.Refinement.{IsLastFailing, without, IsUpStep, IsFirstMet, IsFirstMetFrom, can_choose, keeps, parts, kept_by, kept_count, IsBestBit, IsNarrowed, IsDownStep, Refines};
+ghost use Rattle.tern_word.specs.SoundTable.{IsOrdered, IsSound, Misses};
+ghost use Rattle.cover_checks.specs.Merge.{has, IsOneRoute, IsMergeSet, IsLegal, merged_block, insert_place, place_for, PassesUp, PassesUpCheck, PassesDown, PassesDownCheck};
+ghost use Rattle.cover_merge.specs.Guards.{AreGuards};
+ghost use Rattle.cover_merge.specs.Refinement.{AreMerges, IsLastFailing, IsFirstMet, IsFirstMetFrom, can_choose, keeps, parts, kept_by, kept_count, IsBestBit, IsNarrowed, IsDownStep, Refines};
 
-use cover_checks::{merged_block, passes_up, place_for};
+use crate::guards::{Guard, passes, place_in};
+use cover_checks::merged_block;
 use spin_base::{Block, Memory, Seq};
-use tern_word::{Alias, Row, Table, generality, intersects};
+use std::alloc::Global;
+use tern_word::{Alias, Row, Table, generality, intersects, merge_two};
 
 /// The places of the set that can be merged. With fewer than two places there are none. Where the up-check fails, the
 /// greatest place for which it fails is taken out; where the down-check fails, the first alias that the merge would
@@ -19,62 +23,146 @@ pub fn refine(table: &Table, places: Seq<u32>) -> Result<Seq<u32>, Memory>
     ensures refined { IfOk result (λ answer. Refines table.now.rows places answer) }
     ensures legal { IfOk result (λ answer. (answer ≡ []) ⊎ ((IsMergeSet table.now.rows answer) × (IsLegal table.now.rows answer))) }
 {
+    refine_by(table, &[], places)
+}
+
+/// The same, by what the guards tell.
+pub(crate) fn refine_by(
+    table: &Table,
+    guards: &[Guard],
+    places: Seq<u32>,
+) -> Result<Seq<u32>, Memory>
+    requires few { length table.now.rows < 2 ^ 32 }
+    requires sound { IsSound table.now.rows }
+    requires guards { AreGuards table.now.rows guards.now }
+    requires set { IsOneRoute table.now.rows places }
+    ensures refined { IfOk result (λ answer. Refines table.now.rows places answer) }
+    ensures legal { IfOk result (λ answer. (answer ≡ []) ⊎ ((IsMergeSet table.now.rows answer) × (IsLegal table.now.rows answer))) }
+{
     let rows = table.rows.as_slice();
     let mut set = places.into_vec();
+    let alloc = *set.allocator();
     while set.len() >= 2 {
-        if narrow(rows, &mut set) {
-            return Ok(Seq::from_vec(set));
+        if let Some(merged) = sift(alloc, rows, guards, &mut set)? {
+            if narrow(rows, &mut set, merged) {
+                return Ok(Seq::from_vec(set));
+            }
         }
     }
     set.clear();
     Ok(Seq::from_vec(set))
 }
 
-// One step: takes out what a check fails for. Whether both checks were true, and the set stays as it was.
-fn narrow(rows: &[Row], set: &mut Vec<u32>) -> bool
+// Takes out the places for which the up-check fails, the greatest first, each time with the merge of those that are
+// left. The merge where two are left.
+fn sift(
+    alloc: Global,
+    rows: &[Row],
+    guards: &[Guard],
+    set: &mut Vec<u32>,
+) -> Result<Option<Block>, Memory>
     requires few { length rows.now < 2 ^ 32 }
+    requires ordered { IsOrdered rows.now }
+    requires guards { AreGuards rows.now guards.now }
     requires set { IsMergeSet rows.now set.old.items }
-    ensures { MatchBool result ((PassesUpCheck rows.now set.old.items) × (PassesDownCheck rows.now set.old.items) × (set.new.items ≡ set.old.items)) (((IsUpStep rows.now set.old.items set.new.items) ⊎ (IsDownStep rows.now set.old.items set.new.items)) × (length set.new.items < length set.old.items)) }
+    ensures one_route { IfOk result (λ found. IsOneRoute rows.now set.new.items) }
+    ensures fewer { length set.new.items ≤ length set.old.items }
+    ensures steps { IfOk result (λ found. (answer : List ℕ) → Refines rows.now set.new.items answer → Refines rows.now set.old.items answer) }
+    ensures found { IfOk result (λ found. MatchOption found (length set.new.items < 2) (λ merged. (2 ≤ length set.new.items) × (merged ≡ merged_block rows.now set.new.items) × (PassesUpCheck rows.now set.new.items))) }
 {
-    let merged = merged_block(rows, set);
-    let place = place_for(rows, generality(merged));
-    match last_failing(rows, set, place) {
-        Some(s) => {
-            take_out(set, s);
+    let merges = merges_of(alloc, rows, set)?;
+    let mut merged = merges[set.len() - 1];
+    let mut from = set.len();
+    while set.len() >= 2 {
+        match failing_before(rows, guards, set, from, generality(merged)) {
+            Some(i) => {
+                let _ = set.remove(i);
+                merged = merge_from(rows, &merges, set, i);
+                from = i;
+            }
+            None => return Ok(Some(merged)),
+        }
+    }
+    Ok(None)
+}
+
+// For each place of the set the merge of the rows up to it.
+fn merges_of(alloc: Global, rows: &[Row], set: &[u32]) -> Result<Vec<Block>, Memory>
+    requires in_range { All (λ s. s < length rows.now) set.now }
+    requires some { 0 < length set.now }
+    ensures { IfOk result (λ v. AreMerges rows.now set.now v.items) }
+{
+    let mut merges = Vec::with_capacity(alloc, set.len())?;
+    merges.push(rows[set[0] as usize].block)?;
+    for k in 1..set.len() {
+        let merged = merge_two(merges[k - 1], rows[set[k] as usize].block);
+        merges.push(merged)?;
+    }
+    Ok(merges)
+}
+
+// The merge of the set, where the merges of its places before place `i` are known.
+fn merge_from(rows: &[Row], merges: &[Block], set: &[u32], i: usize) -> Block
+    requires in_range { All (λ s. s < length rows.now) set.now }
+    requires some { 0 < length set.now }
+    requires inside { i ≤ length set.now }
+    requires known { (k : ℕ) (d : ABlock) → k < i → k < length merges.now → slice_index_or merges.now k d ≡ merged_block rows.now (take (k + 1) set.now) }
+    requires many { i ≤ length merges.now }
+    ensures { result ≡ merged_block rows.now set.now }
+{
+    if i == 0 {
+        return merged_block(rows, set);
+    }
+    let mut merged = merges[i - 1];
+    for k in i..set.len() {
+        merged = merge_two(merged, rows[set[k] as usize].block);
+    }
+    merged
+}
+
+// Narrows the set where the down-check fails. Whether it was true, and the set stays as it was.
+fn narrow(rows: &[Row], set: &mut Vec<u32>, merged: Block) -> bool
+    requires few { length rows.now < 2 ^ 32 }
+    requires ordered { IsOrdered rows.now }
+    requires set { IsMergeSet rows.now set.old.items }
+    requires merged { merged ≡ merged_block rows.now set.old.items }
+    requires up { PassesUpCheck rows.now set.old.items }
+    ensures { MatchBool result ((PassesDownCheck rows.now set.old.items) × (set.new.items ≡ set.old.items)) ((IsDownStep rows.now set.old.items set.new.items) × (length set.new.items < length set.old.items)) }
+{
+    match first_met_from(rows, merged, place_in(rows, generality(merged))) {
+        Some(met) => {
+            choose(rows, set, merged, met);
             false
         }
-        None => match first_met_from(rows, merged, place) {
-            Some(met) => {
-                choose(rows, set, merged, met);
-                false
-            }
-            None => true,
-        },
+        None => true,
     }
 }
 
-// The greatest place of the set for which the up-check fails.
-fn last_failing(rows: &[Row], places: &[u32], place: u32) -> Option<u32>
+// The index of the greatest place of the set for which the up-check fails, where those from index `from` on pass it.
+fn failing_before(
+    rows: &[Row],
+    guards: &[Guard],
+    places: &[u32],
+    from: usize,
+    general: u32,
+) -> Option<usize>
     requires few { length rows.now < 2 ^ 32 }
+    requires ordered { IsOrdered rows.now }
+    requires guards { AreGuards rows.now guards.now }
     requires set { IsOneRoute rows.now places.now }
-    requires place { place ≤ length rows.now }
-    ensures { MatchOption result ((s : ℕ) → IsTrue (has places.now s) → PassesUp rows.now places.now s place) (λ s. IsLastFailing rows.now places.now place s) }
+    requires low { general ≤ 32 }
+    requires from { from ≤ length places.now }
+    requires behind { (k : ℕ) → from ≤ k → k < length places.now → PassesUp rows.now places.now (slice_index places.now k) (place_for rows.now general) }
+    ensures { MatchOption result ((s : ℕ) → IsTrue (has places.now s) → PassesUp rows.now places.now s (place_for rows.now general)) (λ i. (i < from) × (IsLastFailing rows.now places.now (place_for rows.now general) (slice_index places.now i))) }
 {
-    let mut i = places.len();
+    let mut i = from;
     while i > 0 {
         i -= 1;
-        if !passes_up(rows, places, places[i], place) {
-            return Some(places[i]);
+        if !passes(rows, guards, places, places[i], general) {
+            return Some(i);
         }
     }
     None
-}
-
-// Takes one place out of the set.
-fn take_out(set: &mut Vec<u32>, s: u32)
-    ensures { set.new.items ≡ without s set.old.items }
-{
-    set.retain(|t| *t != s);
 }
 
 // The block of the first alias that the block meets, of the first row from place `p` on that has one.

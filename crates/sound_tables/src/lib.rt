@@ -13,4 +13,6 @@ mod soundness;
 pub use soundness::{is_sound, lies_in};
 
 #[cfg(test)]
+mod plain_cover;
+#[cfg(test)]
 mod tests;

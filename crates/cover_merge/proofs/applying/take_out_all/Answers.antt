@@ -4,13 +4,13 @@ use Rattle.cover_merge.proofs.ApplyLemmas.{none_out, one_out, still_in}
 use Rattle.cover_merge.proofs.applying.take_out_all.Goals as goal
 
 pub loop-i-init : goal.loop-i-init
-loop-i-init c = record { within = omega arith; out = none_out c.args.places.now c.args.rows.now.items }
+loop-i-init g c = record { within = omega arith; out = none_out c.args.places.now c.args.items.now.items }
 
 pub remove-requires : goal.remove-requires
-remove-requires c = omega (arith, still_in c.args.places.now c.loop-i.i c.args.rows.now.items c.loop-i.rows.items c.requires.ascending c.requires.in_range c.loop-i-test.true c.loop-i.invariant.within c.loop-i.invariant.out)
+remove-requires g c = omega (arith, still_in c.args.places.now c.loop-i.i c.args.items.now.items c.loop-i.items.items c.requires.ascending c.requires.in_range c.loop-i-test.true c.loop-i.invariant.within c.loop-i.invariant.out)
 
 pub loop-i-preserved : goal.loop-i-preserved
-loop-i-preserved c = record {
+loop-i-preserved g c = record {
   within = omega (arith, c.loop-i.invariant.within);
-  out = one_out c.args.places.now c.loop-i.i c.args.rows.now.items c.loop-i.rows.items c.remove.new.self.items c.requires.ascending c.requires.in_range c.loop-i-test.true c.loop-i.invariant.within c.loop-i.invariant.out c.remove.ensures.items;
+  out = one_out c.args.places.now c.loop-i.i c.args.items.now.items c.loop-i.items.items c.remove.new.self.items c.requires.ascending c.requires.in_range c.loop-i-test.true c.loop-i.invariant.within c.loop-i.invariant.out c.remove.ensures.items;
 }

@@ -1,7 +1,15 @@
--- No row passed is a legal pair with row i.
-use Rattle.std.proofs.Common.{ℕ, ◌<◌}
+-- No row passed is a legal pair with row i, and the row at hand has its route.
+use Rattle.std.proofs.Common.{◌≡◌, ◌-◌, ℕ, ◌<◌, length, get_or}
+use Rattle.tern_word.specs.declared.tables.Row.{Row}
 use Rattle.cover_merge.specs.Covering.{IsLegalPair}
 use Rattle.cover_merge.proofs.choosing.partner.Given as goal
 
 abbrev pub invariant-loop-j : goal.invariant-loop-j
-invariant-loop-j l = (b : ℕ) → l.i < b → b < l.j → IsLegalPair l.table.rows l.i b → ⊥
+invariant-loop-j l = record {
+  behind : l.i < l.j;
+  same : (d : Row) → l.j < length l.table.rows → (get_or l.table.rows l.j d).route.bits ≡ (get_or l.table.rows l.i d).route.bits;
+  none : (b : ℕ) → l.i < b → b < l.j → IsLegalPair l.table.rows l.i b → ⊥;
+}
+
+abbrev pub decreases-loop-j : goal.decreases-loop-j
+decreases-loop-j l = length l.table.rows - l.j

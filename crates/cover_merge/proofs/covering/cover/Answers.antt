@@ -1,38 +1,69 @@
 -- Each round makes a chosen merge, which is legal.
-use Rattle.std.proofs.Common.{◌<◌, ◌≤◌, length, sym, subst, arith}
+use Rattle.std.proofs.Common.{◌<◌, ◌≤◌, ap, length, sym, subst, ◌∙◌, arith}
 use Rattle.std.specs.Prelude.{MatchOption}
 use Rattle.cover_merge.specs.Covering.{IsChosen, HasNoChosen}
-use Rattle.cover_merge.proofs.CoverLemmas.{IsCoveredSoFar, chosen_legal, chosen_shorter, so_far_more, covered_short, covered_stuck}
+use Rattle.cover_checks.specs.Merge.{IsMergeSet, after}
+use Rattle.cover_merge.specs.Guards.{AreGuards}
+use Rattle.cover_merge.specs.Links.{AreNumbers}
+use Rattle.cover_merge.proofs.CoverLemmas.{IsCoveredSoFar, chosen_legal, chosen_shorter, so_far_first, so_far_more, covered_short, covered_stuck}
 use Rattle.cover_merge.proofs.covering.cover.Goals as goal
 
-pub apply-requires-clause-set : goal.apply-requires-clause-set
-apply-requires-clause-set c =
+pub merging-init : goal.merging-init
+merging-init c = record {
+  so_far = subst (IsCoveredSoFar c.args.target c.args.table.rows c.args.table.rows) (sym c.new-merges.ensures) (so_far_first c.args.target c.args.table.rows c.requires.few c.requires.sound);
+  one_each = c.in_ok-guards.ensures.one_each ∙ ap length c.as_slice.ensures;
+  guards = subst (λ l. AreGuards l c.in_ok-guards.guards.items) c.as_slice.ensures c.in_ok-guards.ensures.guards;
+  numbers = subst (λ n. AreNumbers n c.args.table.rows c.in_ok-numbers.numbers.items) (sym c.len-limit.ensures) (subst (λ l. AreNumbers (length l) l c.in_ok-numbers.numbers.items) c.as_slice-2.ensures c.in_ok-numbers.ensures);
+}
+
+pub chosen-requires-clause-guards : goal.chosen-requires-clause-guards
+chosen-requires-clause-guards c = subst (AreGuards c.merging.table.rows) (sym c.deref-in-merging.ensures.value) c.merging.invariant.guards
+
+pub carry_numbers-requires-clause-set : goal.carry_numbers-requires-clause-set
+carry_numbers-requires-clause-set c =
     let rows = c.merging.table.rows in
     let chosen : IsChosen rows c.in-Some.places = subst (λ o. MatchOption o (HasNoChosen rows) (IsChosen rows)) c.in-Some.is c.in_ok-places.ensures in
-    (chosen_legal rows c.in-Some.places c.merging.invariant.sound chosen).0
+    subst (λ l. IsMergeSet l c.as_slice-in-Some-2.result.now) (sym c.as_slice-in-Some.ensures) (subst (IsMergeSet rows) (sym c.as_slice-in-Some-2.ensures) (chosen_legal rows c.in-Some.places c.merging.invariant.so_far.sound chosen).0)
+
+pub merge_at-requires-clause-set : goal.merge_at-requires-clause-set
+merge_at-requires-clause-set c =
+    let rows = c.merging.table.rows in
+    let chosen : IsChosen rows c.in-Some.places = subst (λ o. MatchOption o (HasNoChosen rows) (IsChosen rows)) c.in-Some.is c.in_ok-places.ensures in
+    (chosen_legal rows c.in-Some.places c.merging.invariant.so_far.sound chosen).0
+
+pub merge_at-requires-clause-legal : goal.merge_at-requires-clause-legal
+merge_at-requires-clause-legal c =
+    let rows = c.merging.table.rows in
+    let chosen : IsChosen rows c.in-Some.places = subst (λ o. MatchOption o (HasNoChosen rows) (IsChosen rows)) c.in-Some.is c.in_ok-places.ensures in
+    (chosen_legal rows c.in-Some.places c.merging.invariant.so_far.sound chosen).1
 
 pub merging-smaller : goal.merging-smaller
 merging-smaller c =
     let rows = c.merging.table.rows in
     let chosen : IsChosen rows c.in-Some.places = subst (λ o. MatchOption o (HasNoChosen rows) (IsChosen rows)) c.in-Some.is c.in_ok-places.ensures in
-    chosen_shorter rows c.apply.new.table.rows c.in-Some.places c.merging.invariant.sound chosen c.in_ok-apply-in-Some.ensures.ok
+    chosen_shorter rows c.merge_at.new.table.rows c.in-Some.places c.merging.invariant.so_far.sound chosen c.in_ok-merge_at-in-Some.ensures.table
 
 pub merging-preserved : goal.merging-preserved
 merging-preserved c =
     let rows = c.merging.table.rows in
     let chosen : IsChosen rows c.in-Some.places = subst (λ o. MatchOption o (HasNoChosen rows) (IsChosen rows)) c.in-Some.is c.in_ok-places.ensures in
-    let more : c.args.target < length rows = omega (arith, c.len.ensures) in
-    subst (IsCoveredSoFar c.args.target c.args.table.rows c.apply.new.table.rows) (sym c.in_ok-push-in-Some.ensures.ok)
-    (so_far_more c.args.target c.args.table.rows rows c.apply.new.table.rows c.merging.merges (record { places = c.in-Some.places }) c.merging.invariant more chosen c.in_ok-apply-in-Some.ensures.ok)
+    let more : c.args.target < length rows = omega (arith, c.len.ensures) in record {
+      so_far = subst (IsCoveredSoFar c.args.target c.args.table.rows c.merge_at.new.table.rows) (sym c.in_ok-push-in-Some.ensures.ok)
+          (so_far_more c.args.target c.args.table.rows rows c.merge_at.new.table.rows c.merging.merges (record { places = c.in-Some.places }) c.merging.invariant.so_far more chosen c.in_ok-merge_at-in-Some.ensures.table);
+      one_each = c.in_ok-merge_at-in-Some.ensures.one_each;
+      guards = c.in_ok-merge_at-in-Some.ensures.guards;
+      numbers = subst (λ l. AreNumbers c.len-limit.result l c.carry_numbers.new.numbers.items)
+          (ap (λ l. after l c.as_slice-in-Some-2.result.now) c.as_slice-in-Some.ensures ∙ ap (after rows) c.as_slice-in-Some-2.ensures ∙ sym c.in_ok-merge_at-in-Some.ensures.table) c.in_ok-carry_numbers-in-Some.ensures;
+    }
 
 pub returns-in-None-clause-covered : goal.returns-in-None-clause-covered
 returns-in-None-clause-covered c =
     let rows = c.merging.table.rows in
     let none : HasNoChosen rows = subst (λ o. MatchOption o (HasNoChosen rows) (IsChosen rows)) c.in-None.is c.in_ok-places.ensures in
     let more : c.args.target < length rows = omega (arith, c.len.ensures) in
-    covered_stuck c.args.target c.args.table.rows rows c.merging.merges c.merging.invariant more none
+    covered_stuck c.args.target c.args.table.rows rows c.merging.merges c.merging.invariant.so_far more none
 
 pub returns-clause-covered : goal.returns-clause-covered
 returns-clause-covered c =
     let enough : length c.merging.table.rows ≤ c.args.target = omega (arith, c.len.ensures) in
-    covered_short c.args.target c.args.table.rows c.merging.table.rows c.merging.merges c.merging.invariant enough
+    covered_short c.args.target c.args.table.rows c.merging.table.rows c.merging.merges c.merging.invariant.so_far enough

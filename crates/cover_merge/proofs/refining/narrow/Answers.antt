@@ -1,14 +1,7 @@
--- Each branch is a step, or tells that both checks are true.
-use Rattle.std.proofs.Common.{refl}
-use Rattle.cover_merge.proofs.RefineLemmas.{up_step, down_step, both_pass}
+-- The best bit against the first alias met narrows the set.
+use Rattle.cover_merge.proofs.RefineLemmas.{down_step}
 use Rattle.cover_merge.proofs.refining.narrow.Goals as goal
 
 pub returns-in-Some : goal.returns-in-Some
-returns-in-Some c = up_step c.args.rows.now c.args.set.now.items c.deref.result.now c.deref.ensures.value c.merged_block-merged.result c.merged_block-merged.ensures c.generality.result c.place_for-place.result c.generality.ensures.value c.place_for-place.ensures.value c.deref-2.result.now c.deref-2.ensures.value c.in-Some.s c.take_out.new.set.items c.in-Some.ensures c.take_out.ensures
-
-pub returns-in-Some-first_met_from : goal.returns-in-Some-first_met_from
-returns-in-Some-first_met_from c =
-    down_step c.args.rows.now c.args.set.now.items c.deref.result.now c.deref.ensures.value c.merged_block-merged.result c.merged_block-merged.ensures c.generality.result c.place_for-place.result c.generality.ensures.value c.place_for-place.ensures.value c.deref-2.result.now c.deref-2.ensures.value c.requires.set c.in-None.ensures c.in-Some-first_met_from.met c.in-Some-first_met_from.ensures c.choose.new.set.items c.choose.ensures
-
-pub returns-in-None-first_met_from : goal.returns-in-None-first_met_from
-returns-in-None-first_met_from c = both_pass c.args.rows.now c.args.set.now.items c.deref.result.now c.deref.ensures.value c.merged_block-merged.result c.merged_block-merged.ensures c.generality.result c.place_for-place.result c.generality.ensures.value c.place_for-place.ensures.value c.deref-2.result.now c.deref-2.ensures.value c.in-None.ensures c.in-None-first_met_from.ensures c.args.set.now.items refl
+returns-in-Some c =
+    down_step c.args.rows.now c.args.set.now.items c.args.merged c.requires.merged c.generality.result c.place_in.result c.generality.ensures.value c.place_in.ensures.value c.requires.set c.requires.up c.in-Some.met c.in-Some.ensures c.choose.new.set.items c.choose.ensures

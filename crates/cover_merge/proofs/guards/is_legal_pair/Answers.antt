@@ -1,0 +1,27 @@
+-- A pair is legal where both rows pass the up-check, and the merge the down-check.
+use Rattle.std.proofs.Common.{◌∷◌, [], arith, sym, subst}
+use Rattle.cover_checks.proofs.Positions.{has-at}
+use Rattle.cover_merge.specs.Guards.{AreGuards}
+use Rattle.cover_merge.proofs.GuardLemmas.{pair_refused, pair_told}
+use Rattle.cover_merge.proofs.guards.is_legal_pair.Goals as goal
+
+pub passes-requires-clause-guards : goal.passes-requires-clause-guards
+passes-requires-clause-guards c = subst (λ l. AreGuards l c.args.guards.now) (sym c.as_slice-rows.ensures) c.requires.guards
+
+pub returns-then-not-passes : goal.returns-then-not-passes
+returns-then-not-passes c =
+    pair_refused c.as_slice-rows.result.now c.args.table.now.rows c.as_slice-rows.ensures c.args.i c.args.j c.requires.set c.requires.sound c.merged_block-merged.result c.merged_block-merged.ensures c.generality-general.result c.generality-general.ensures.value
+    c.args.i c.passes.result (has-at (c.args.i ∷ c.args.j ∷ []) 0 (omega arith)) c.passes.ensures c.if-not-passes.true
+
+pub passes-requires-2-clause-guards : goal.passes-requires-2-clause-guards
+passes-requires-2-clause-guards c = subst (λ l. AreGuards l c.args.guards.now) (sym c.as_slice-rows.ensures) c.requires.guards
+
+pub returns-then-not-passes-2 : goal.returns-then-not-passes-2
+returns-then-not-passes-2 c =
+    pair_refused c.as_slice-rows.result.now c.args.table.now.rows c.as_slice-rows.ensures c.args.i c.args.j c.requires.set c.requires.sound c.merged_block-merged.result c.merged_block-merged.ensures c.generality-general.result c.generality-general.ensures.value
+    c.args.j c.passes-2.result (has-at (c.args.i ∷ c.args.j ∷ []) 1 (omega arith)) c.passes-2.ensures c.if-not-passes-2.true
+
+pub returns : goal.returns
+returns c =
+    pair_told c.as_slice-rows.result.now c.args.table.now.rows c.as_slice-rows.ensures c.args.i c.args.j c.requires.set c.requires.sound c.merged_block-merged.result c.merged_block-merged.ensures c.generality-general.result c.generality-general.ensures.value
+    c.passes_down.result c.place_in.result (c.passes.ensures.0 c.if-not-passes.false) (c.passes-2.ensures.0 c.if-not-passes-2.false) c.place_in.ensures.value c.passes_down.ensures

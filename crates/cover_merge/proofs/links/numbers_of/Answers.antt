@@ -1,0 +1,6 @@
+-- All rows have their number.
+use Rattle.cover_merge.proofs.LinkLemmas.{numbers_done}
+use Rattle.cover_merge.proofs.links.numbers_of.Goals as goal
+
+pub returns : goal.returns
+returns c = numbers_done c.args.rows.now c.loop-s.numbers.items c.loop-s.s c.loop-s-test.false c.loop-s.invariant

@@ -1,0 +1,40 @@
+-- What is known of the rows behind a row. It saves looking at all of them in each up-check.
+use Rattle.std.specs.Prelude.{◌≡◌, ℕ, suc, ◌<◌, ◌≤◌, ◌⊎◌, List, ◌∷◌, All, length, drop, slice_index_or}
+use Rattle.spin_base.specs.declared.blocks.Block.{Block}
+use Rattle.tern_word.specs.declared.tables.Row.{Row}
+use Rattle.tern_word.specs.Ternary.{generality}
+use Rattle.tern_word.specs.SoundTable.{Misses}
+use Rattle.cover_merge.specs.declared.guards.Guard.{Guard}
+
+-- A later row is a rival of a row where it has another route and meets an alias of it.
+pub record IsRival (row later : Row) : Type 0 where
+  pub other : row.route.bits ≡ later.route.bits → ⊥
+  pub meets : Misses later.block row → ⊥
+
+-- one of the later rows is a rival of the row, and its generality is at most n
+pub data HasRival (row : Row) (n : ℕ) : List Row → Type 0 where
+  here : (later : Row) (rows : List Row) → generality later.block ≤ n → IsRival row later → HasRival row n (later ∷ rows)
+  behind : (later : Row) (rows : List Row) → HasRival row n rows → HasRival row n (later ∷ rows)
+
+-- What a guard tells of a row and of those behind it: where its first number is at most 32, one of them is a rival of
+-- at most that generality; and none of a generality below its second number meets an alias of the row.
+pub record IsGuard (row : Row) (later : List Row) (guard : Guard) : Type 0 where
+  pub refuses : guard.rival ≤ 32 → HasRival row guard.rival later
+  pub passes : All (λ (x : Row). generality x.block < guard.clear → Misses x.block row) later
+
+-- the same of the row at place s of a table
+abbrev pub IsGuardAt : List Row → ℕ → Guard → Type 0
+IsGuardAt rows s guard = (d : Row) → IsGuard (slice_index_or rows s d) (drop (suc s) rows) guard
+
+-- each guard tells of the row at its place
+abbrev pub AreGuards : List Row → List Guard → Type 0
+AreGuards rows guards = (s : ℕ) (e : Guard) → s < length guards → IsGuardAt rows s (slice_index_or guards s e)
+
+-- a guard that says nothing
+pub record IsSilent (guard : Guard) : Type 0 where
+  pub no_rival : 32 < guard.rival
+  pub none_clear : guard.clear ≡ 0
+
+-- each guard says nothing, or is that of a row with no alias that the block meets
+abbrev pub AreApart : Block → List Row → List Guard → Type 0
+AreApart block rows guards = (s : ℕ) (d : Row) (e : Guard) → s < length guards → (IsSilent (slice_index_or guards s e)) ⊎ (Misses block (slice_index_or rows s d))

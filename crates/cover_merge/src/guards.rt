@@ -1,0 +1,224 @@
+// Guards of rows: whether a row can be merged, without a look at the rows behind it.
+ghost use Rattle.std.specs.Prelude.{◌≡◌, ◌<◌, ◌≤◌, ◌^◌, ◌↔◌, ◌∷◌, [], ℕ, suc, true, List, IfOk, IsTrue, drop, length, slice_index_or};
+ghost use Rattle.tern_word.specs.declared.tables.Row.{Row as ARow};
+ghost use Rattle.tern_word.specs.Ternary.{generality};
+ghost use Rattle.tern_word.specs.SoundTable.{IsOrdered, IsSound, Misses};
+ghost use Rattle.cover_checks.specs.Merge.{has, place_for, IsOneRoute, IsMergeSet, IsLegal, IsClear, PassesUp};
+ghost use Rattle.cover_merge.specs.Guards.{IsRival, HasRival, IsGuardAt, AreGuards};
+
+use cover_checks::{merged_block, misses, passes_down};
+use spin_base::Memory;
+use std::alloc::Global;
+use tern_word::{Row, Table, generality};
+
+/// What is known of the rows behind a row: the generality of the first of another route that meets an alias of it, and
+/// that of the first of any route; 33 where there is none. 33 and 0 say nothing.
+#[derive(Clone, Copy)]
+pub(crate) struct Guard {
+    pub(crate) rival: u32,
+    pub(crate) clear: u32,
+}
+
+/// More than the generality of any block.
+const NONE: u32 = 33;
+
+//// The guard that says nothing.
+pub(crate) const NOTHING: Guard = Guard {
+    rival: 33,
+    clear: 0,
+};
+
+/// The guards of all rows.
+pub(crate) fn guards_of(alloc: Global, rows: &[Row]) -> Result<Vec<Guard>, Memory>
+    requires ordered { IsOrdered rows.now }
+    ensures guards { IfOk result (λ v. AreGuards rows.now v.items) }
+    ensures one_each { IfOk result (λ v. length v.items ≡ length rows.now) }
+{
+    let mut guards = Vec::with_capacity(alloc, rows.len())?;
+    for s in 0..rows.len() {
+        guards.push(guard_of(rows, s))?;
+    }
+    Ok(guards)
+}
+
+/// The guard of row `s`.
+pub(crate) fn guard_of(rows: &[Row], s: usize) -> Guard
+    requires ordered { IsOrdered rows.now }
+    requires inside { s < length rows.now }
+    ensures { IsGuardAt rows.now s result }
+{
+    let met = first_met(rows, s);
+    Guard {
+        rival: first_rival(rows, s, met),
+        clear: general_from(rows, met),
+    }
+}
+
+// The place of the first row behind row `s` that meets an alias of it, and the number of rows where there is none.
+fn first_met(rows: &[Row], s: usize) -> usize
+    requires inside { s < length rows.now }
+    ensures behind { s < result }
+    ensures missed { (r : ℕ) (d : ARow) → s < r → r < result → Misses (slice_index_or rows.now r d).block (slice_index_or rows.now s d) }
+{
+    for r in s + 1..rows.len() {
+        if !misses(rows[r].block, &rows[s]) {
+            return r;
+        }
+    }
+    rows.len()
+}
+
+// The generality of the first rival of row `s`, from place `from` on.
+fn first_rival(rows: &[Row], s: usize, from: usize) -> u32
+    requires inside { s < length rows.now }
+    requires behind { s < from }
+    ensures { (d : ARow) → result ≤ 32 → HasRival (slice_index_or rows.now s d) result (drop (suc s) rows.now) }
+{
+    for r in from..rows.len() {
+        if is_rival(&rows[s], &rows[r]) {
+            return generality(rows[r].block);
+        }
+    }
+    NONE
+}
+
+// Whether a later row is a rival: then it is one.
+fn is_rival(row: &Row, later: &Row) -> bool
+    ensures { IsTrue result → IsRival row.now later.now }
+{
+    if row.route.bits == later.route.bits {
+        return false;
+    }
+    !misses(later.block, row)
+}
+
+// The generality of the row at the place: none at or behind it has a lesser one.
+fn general_from(rows: &[Row], place: usize) -> u32
+    requires ordered { IsOrdered rows.now }
+    ensures { (k : ℕ) (d : ARow) → place ≤ k → k < length rows.now → result ≤ generality (slice_index_or rows.now k d).block }
+{
+    if place < rows.len() {
+        return generality(rows[place].block);
+    }
+    NONE
+}
+
+// The guard at the place, which says nothing where there is none.
+fn guard_at(guards: &[Guard], s: u32) -> Guard
+    ensures { (rows : List ARow) → AreGuards rows guards.now → IsGuardAt rows s result }
+{
+    if (s as usize) < guards.len() {
+        return guards[s as usize];
+    }
+    NOTHING
+}
+
+/// Whether no row outside the set, behind row `s` of the set and of generality at most `general`, meets an alias of it.
+pub(crate) fn passes(rows: &[Row], guards: &[Guard], places: &[u32], s: u32, general: u32) -> bool
+    requires few { length rows.now < 2 ^ 32 }
+    requires ordered { IsOrdered rows.now }
+    requires guards { AreGuards rows.now guards.now }
+    requires set { IsOneRoute rows.now places.now }
+    requires member { has places.now s ≡ true }
+    requires low { general ≤ 32 }
+    ensures { IsTrue result ↔ PassesUp rows.now places.now s (place_for rows.now general) }
+{
+    let guard = guard_at(guards, s);
+    if guard.rival <= general {
+        return false;
+    }
+    if general < guard.clear {
+        return true;
+    }
+    let from = place_below(rows, guard.clear);
+    passes_from(rows, places, s, from, place_in(rows, general))
+}
+
+// A place up to which all rows are of a generality below `clear`.
+fn place_below(rows: &[Row], clear: u32) -> u32
+    requires few { length rows.now < 2 ^ 32 }
+    requires ordered { IsOrdered rows.now }
+    ensures bound { result ≤ length rows.now }
+    ensures below { (k : ℕ) (d : ARow) → k < result → generality (slice_index_or rows.now k d).block < clear }
+{
+    if clear == 0 {
+        return 0;
+    }
+    place_in(rows, clear - 1)
+}
+
+// Whether no row outside the set between the places `s` and `p` meets an alias of row `s`, where none before `from` does.
+fn passes_from(rows: &[Row], places: &[u32], s: u32, from: u32, p: u32) -> bool
+    requires within { s < length rows.now }
+    requires place { p ≤ length rows.now }
+    requires cleared { (r : ℕ) → s < r → r < from → IsClear rows.now places.now s r }
+    ensures { IsTrue result ↔ PassesUp rows.now places.now s p }
+{
+    for r in from..p {
+        if !is_clear_behind(rows, places, s, r) {
+            return false;
+        }
+    }
+    true
+}
+
+// The same where row `r` stands behind row `s`, and else true.
+fn is_clear_behind(rows: &[Row], places: &[u32], s: u32, r: u32) -> bool
+    requires row { r < length rows.now }
+    requires member { s < length rows.now }
+    ensures { IsTrue result ↔ (s < r → IsClear rows.now places.now s r) }
+{
+    if r <= s {
+        return true;
+    }
+    is_clear(rows, places, s, r)
+}
+
+// Whether row `r` is of the set or its block meets no alias of row `s`.
+fn is_clear(rows: &[Row], places: &[u32], s: u32, r: u32) -> bool
+    requires row { r < length rows.now }
+    requires member { s < length rows.now }
+    ensures { IsTrue result ↔ IsClear rows.now places.now s r }
+{
+    misses(rows[r as usize].block, &rows[s as usize]) || places.contains(&r)
+}
+
+/// The number of rows whose generality is at most `general`: the place behind them.
+pub(crate) fn place_in(rows: &[Row], general: u32) -> u32
+    requires few { length rows.now < 2 ^ 32 }
+    requires ordered { IsOrdered rows.now }
+    ensures value { result ≡ place_for rows.now general }
+    ensures bound { result ≤ length rows.now }
+{
+    let mut low = 0;
+    let mut high = rows.len();
+    while low < high {
+        let middle = low + (high - low) / 2;
+        if generality(rows[middle].block) <= general {
+            low = middle + 1;
+        } else {
+            high = middle;
+        }
+    }
+    low as u32
+}
+
+/// Whether the merge of two rows of one route is legal.
+pub(crate) fn is_legal_pair(table: &Table, guards: &[Guard], i: u32, j: u32) -> bool
+    requires few { length table.now.rows < 2 ^ 32 }
+    requires sound { IsSound table.now.rows }
+    requires guards { AreGuards table.now.rows guards.now }
+    requires set { IsMergeSet table.now.rows (i ∷ j ∷ []) }
+    ensures { IsTrue result ↔ IsLegal table.now.rows (i ∷ j ∷ []) }
+{
+    let rows = table.rows.as_slice();
+    let merged = merged_block(rows, &[i, j]);
+    let general = generality(merged);
+    if !passes(rows, guards, &[i, j], i, general) {
+        return false;
+    }
+    if !passes(rows, guards, &[i, j], j, general) {
+        return false;
+    }
+    passes_down(rows, merged, place_in(rows, general))
+}
