@@ -1,7 +1,6 @@
 -- The places of a route, the best of the refined sets, and pairs.
 use Rattle.std.proofs.Common.{◌≡◌, ◌≢◌, ℕ, zero, suc, ◌+◌, ◌-◌, ◌<◌, ◌≤◌, ◌==◌, Bool, true, false, cond, List, [], ◌∷◌, ◌++◌, length, get_or, take, inl, inr, ◌⊎◌, refl, sym, ap, ◌∙◌, subst, length-take, append-nil, arith}
-use Rattle.std.specs.Prelude.{All, AllPairs, IsTrue, ◌↔◌, MatchBool}
-use mathlib.Core.Bool.{false≢true}
+use Rattle.std.specs.Prelude.{All, AllPairs}
 use Rattle.std.proofs.lemmas.Bool.{cases_lt, cases_order, eqb-true, eq-eqb}
 use Rattle.std.proofs.lemmas.Bool.Decides.{eqb_tells}
 use Rattle.std.proofs.lemmas.List.{take_more, take_all, get_or_default}
@@ -9,7 +8,7 @@ use Rattle.std.proofs.lemmas.List.Elements.{All-nil, All-cons}
 use Rattle.std.proofs.lemmas.List.Kept.{AllPairs-cons}
 use Rattle.spin_base.specs.declared.routes.Route.{Route}
 use Rattle.tern_word.specs.declared.tables.Row.{Row}
-use Rattle.cover_checks.specs.Merge.{IsOneRoute, IsMergeSet, IsLegal, merge_rows}
+use Rattle.cover_checks.specs.Merge.{IsOneRoute, IsMergeSet, merge_rows}
 use Rattle.cover_checks.proofs.Positions.{same_route, pair_set_read}
 use Rattle.cover_checks.proofs.Lists.{AllPairs-nil}
 use Rattle.cover_merge.specs.Refinement.{Refines, ends_empty}
@@ -215,15 +214,6 @@ module _ (list rows : List Row) (same : list ≡ rows) (i j : ℕ) (d e : Row) (
 
   pub pair_made : (get_or list i d).route.bits ≡ (get_or list j e).route.bits → IsMergeSet rows (i ∷ j ∷ [])
   pair_made equal = pair_set_read list rows same i j d e less inside_list (eq-eqb (get_or list i d).route.bits (get_or list j e).route.bits equal)
-
-  pub not_pair : (get_or list i d).route.bits ≢ (get_or list j e).route.bits → IsLegalPair rows i j → ⊥
-  not_pair differ pair =
-      let route : (get_or list i d).route ≡ (get_or list j d).route = subst (λ l. (get_or l i d).route ≡ (get_or l j d).route) (sym same) (pair.set.set.one_route 0 1 0 (omega arith) (omega arith) d) in
-      differ (ap (λ (r : Route). r.bits) route ∙ ap (λ (r : Row). r.route.bits) (get_or_default list j d e inside_list))
-
-pub match_legal : (rows : List Row) (i j : ℕ) (b : Bool) → IsMergeSet rows (i ∷ j ∷ []) → (IsTrue b) ↔ (IsLegal rows (i ∷ j ∷ [])) → MatchBool b (IsLegalPair rows i j) (IsLegalPair rows i j → ⊥)
-match_legal rows i j true set tells = record { set = set; legal = tells.0 refl }
-match_legal rows i j false set tells = λ pair. false≢true (tells.1 pair.legal)
 
 pub partner_found : (rows : List Row) (i j : ℕ) → ((b : ℕ) → i < b → b < j → IsLegalPair rows i b → ⊥) → IsLegalPair rows i j → IsFirstPartner rows i j
 partner_found rows i j none pair = record { legal = pair; before = λ b less other. none b (pair_order rows i b other) less other }

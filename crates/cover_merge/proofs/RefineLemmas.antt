@@ -3,7 +3,7 @@ use Rattle.std.proofs.Common.{◌≡◌, ◌≢◌, ℕ, zero, suc, ◌-◌, ◌
 use Rattle.std.specs.Prelude.{bit_and, not, filter, map, All, AllPairs, IsTrue, ◌↔◌}
 use Rattle.std.specs.Int.{bit_at}
 use Rattle.std.specs.Option.{option_map_or}
-use Rattle.std.proofs.lemmas.Bool.{cases_lt, eq-eqb}
+use Rattle.std.proofs.lemmas.Bool.{cases_lt}
 use mathlib.Core.Bool.{false≢true}
 use Rattle.std.proofs.lemmas.List.Sums.{length-filter, count_by-le-length}
 use Rattle.std.proofs.lemmas.List.Elements.{All-nil, All-cons, All-map, All-filter}
@@ -20,7 +20,7 @@ use Rattle.tern_word.specs.SoundTable.{IsSound}
 use Rattle.cover_checks.proofs.Legal.{legal_from_checks}
 use Rattle.cover_checks.proofs.Answering.{fails}
 use Rattle.cover_checks.proofs.Positions.{has-at, has-place, All-has, rows_at-from, rows_at-length}
-use Rattle.cover_merge.specs.Refinement.{can_choose, parts, keeps, kept_by, without, IsLastFailing, IsUpStep, IsFirstMetFrom, IsNarrowed, IsDownStep, Refines, ends_empty, ends_legal, goes_up, goes_down}
+use Rattle.cover_merge.specs.Refinement.{can_choose, parts, keeps, kept_by, IsLastFailing, IsUpStep, IsFirstMetFrom, IsNarrowed, IsDownStep, Refines, ends_empty, ends_legal, goes_up, goes_down}
 
 -- ---- the tests of bits
 
@@ -105,12 +105,6 @@ drops_or_keeps p (x ∷ xs) = by_head (p x) refl (drops_or_keeps p xs)
     by_head false e rest = let less : length (filter p xs) < suc (length xs) = omega (arith, length-filter p xs, count_by-le-length p xs) in inl less
     by_head true e (inl less) = let more : suc (length (filter p xs)) < suc (length xs) = omega arith in inl more
     by_head true e (inr all) = inr (All-cons (λ y. p y ≡ true) x xs e all)
-
-pub without_shorter : (s : ℕ) (places : List ℕ) → has places s ≡ true → length (without s places) < length places
-without_shorter s places found = elim (drops_or_keeps (λ t. not (t == s)) places) [
-  | inl less ↦ less
-  | inr all ↦ absurd (false≢true (sym (ap not (eq-eqb s s refl)) ∙ All-has (λ t. not (t == s) ≡ true) places s all found))
-]
 
 not_both : (n : ℕ) → n ≡ 0 → n ≡ 1 → ⊥
 not_both n off on = omega arith
