@@ -1,5 +1,5 @@
 -- What follows from how a call ends.
-use Rattle.std.proofs.Common.{◌≡◌, ◌⊎◌, ℕ, List, [], length, String, Option, Some, None, Result, Ok, Err, IfErr, IfSome, is_some, refl, sym, ap, ◌∙◌, subst, inl, inr, All}
+use Rattle.std.proofs.Common.{◌≡◌, ◌⊎◌, ℕ, List, String, Option, Some, None, Result, Ok, Err, IfErr, IfSome, is_some, refl, sym, ap, ◌∙◌, subst, inl, inr}
 use Rattle.std.specs.Result.{IsErr, IsErrAnd}
 use Rattle.std.specs.declared.alloc.Global.{Global}
 use Rattle.spin_base.specs.declared.chips.Chip.{Chip}
@@ -9,19 +9,19 @@ use Rattle.job_readers.specs.declared.jobs.Job.{Job}
 use Rattle.run_report.specs.declared.reports.Report.{Report}
 use Rattle.par_compile.specs.declared.compiling.Plan.{Plan}
 use Rattle.par_compile.specs.Compiled.{HasCutOff, IsPlanOf}
-use Rattle.job_runs.specs.OpenedFor.{Fits}
 use Rattle.spin_top.specs.declared.commands.Command.{Command}
 use Rattle.spin_top.specs.declared.commands.Command.TheVariants.{Run, Trace, Compile, Tables, Gen}
 use Rattle.spin_top.specs.declared.outcomes.Outcome.{Outcome}
 use Rattle.spin_top.specs.declared.outcomes.Refusal.{Refusal}
 use Rattle.spin_top.specs.declared.outcomes.Refusal.TheVariants as refusals
 use Rattle.spin_top.specs.Causes.{Serves, HasNoBuiltPlan, cut_off, long_table, IsRefused, unread, unserved, no_plan, IsRefusedLate, HasCauseFor, HasCause, no_command, not_built, of_command, no_memory, HasNoPlan, no_room, keys_out}
-use Rattle.spin_top.specs.Commands.{Spells, texts_of, IsCommand, IsBuilt, IsRun, IsTables}
+use Rattle.spin_top.specs.Commands.{Spells, texts_of, IsBuilt, IsRun, IsTables}
 use Rattle.spin_top.specs.Ends.{Ends, done, cut, refused, refusal_cut, Makes, GivesNoPart}
-use Rattle.spin_top.specs.Given.{WhereGiven, WhereRun, GivesAll, IsGiven, IsCut, IsWritten, IsCaused, IsRefusedAs, IsRefusedWhere, HasAnswer}
-use Rattle.spin_top.specs.Jobs.{IsOfText}
+use Rattle.spin_top.specs.Given.{WhereGiven, WhereRun, GivesAll, IsGiven, IsWritten, IsCaused, IsCalledCutOff, IsRefusedAs, IsRefusedWhere, HasAnswer}
+use Rattle.spin_top.specs.Jobs.{IsOfText, job_in}
 use Rattle.spin_top.specs.Outcomes.{line_of, status_at}
 use Rattle.spin_top.specs.Runs.{IsMade, IsOutputOf, IsRunOf, output_text}
+use Rattle.spin_top.proofs.CutOffs.{cut_not_planned}
 use Rattle.spin_top.proofs.Exclusive.{one_command, serves_built, same_job, IsReady, refused_not_ready, one_refusal, ready_late, ready_made}
 
 -- what each error has, each error has that has more
@@ -226,6 +226,27 @@ module _ (words : List (String Global)) (left rest : Option (List ℕ)) (reads r
   by_cause c bytes r s ref is (inr (inr (inl fault))) = inr (inr (inl (is ∙ ap Some fault.0)))
   by_cause c bytes r s ref is (inr (inr (inr e))) = memory r s is e
 
+  by_late : (job : Job) (i : ℕ) (target : Chip) → HasCutOff job.machine job.graph i target → (s : Refusal) → o.refusal ≡ Some s → HasNoBuiltPlan job s → IsCalledCutOff o
+  by_late job i target has s is none = elim none [
+    | cut_off j net other has' at e ↦ inl (net.name, other, is ∙ ap Some e)
+    | long_table plan is_plan long e ↦ absurd (cut_not_planned job.machine job.graph i target plan has is_plan)
+  ]
+
+  by_cut_off : (c : Command) (bytes : List ℕ) (job : Job) → job_in bytes ≡ Ok job → Serves c job → (i : ℕ) (target : Chip) → HasCutOff job.machine job.graph i target →
+      (s : Refusal) → o.refusal ≡ Some s → HasCauseFor c (Some bytes) reads reads' s → IsCalledCutOff o
+  by_cut_off c bytes job job_is served i target has s is (inl ref) =
+      absurd (refused_not_ready c bytes s ref (record {
+        job = job;
+        tells = job_is;
+        served = served;
+        placed = (has.spots, has.memory, has.placed);
+        keyed = (has.blocks, has.keyed);
+      }))
+  by_cut_off c bytes job job_is served i target has s is (inr (inl late)) =
+      by_late job i target has s is (subst (λ (j : Job). HasNoBuiltPlan j s) (same_job bytes late.0 job late.1 job_is) late.3)
+  by_cut_off c bytes job job_is served i target has s is (inr (inr (inl fault))) = inr (inr (inl (is ∙ ap Some fault.0)))
+  by_cut_off c bytes job job_is served i target has s is (inr (inr (inr e))) = inr (inr (inr (is ∙ ap Some e)))
+
   pub refused_clause : IsRefusedWhere words left o
   refused_clause = record {
     no_command = λ none. elim ends [
@@ -266,6 +287,23 @@ module _ (words : List (String Global)) (left rest : Option (List ℕ)) (reads r
       ]
       | refusal_cut s cause is parts takes rose ↦ write_fault r is
     ];
+    cut_off = λ c spelled bytes told job job_is served i target has.
+        let built : IsBuilt c = serves_built c job served in
+        elim ends [
+          | done text m is takes ↦
+              let made = made_told bytes told text m in
+              let same : m.job ≡ job = same_job bytes m.job job made.read.0 job_is in
+              absurd (cut_not_planned m.job.machine m.job.graph i target m.plan (subst (λ (j : Job). HasCutOff j.machine j.graph i target) (sym same) has) made.planned.as_defined)
+          | cut text m is takes rose ↦ inr (inl is)
+          | refused s cause is parts takes ↦ elim cause [
+            | no_command unspelled e ↦ absurd (unspelled (c, spelled))
+            | not_built d spelled' un e ↦ absurd (un (subst IsBuilt (one_command (texts_of words) c d spelled built spelled') built))
+            | of_command d spelled' built' given ↦
+                by_cut_off c bytes job job_is served i target has s is (cause_told c bytes told s d (one_command (texts_of words) d c spelled' built' spelled) given)
+            | no_memory e ↦ inr (inr (inr (is ∙ ap Some e)))
+          ]
+          | refusal_cut s cause is parts takes rose ↦ inr (inl is)
+        ];
   }
 
   module _ (job : Job) (answer : HasAnswer words left job) (quiet_source : FaultsRose reads reads' → ⊥) where

@@ -1,5 +1,5 @@
 -- A call has one cause: causes of different commands, of different stages and of different places exclude each other.
-use Rattle.std.proofs.Common.{◌≡◌, ◌⊎◌, ℕ, List, [], ◌∷◌, length, Option, Some, None, Ok, Err, refl, sym, ap, ◌∙◌, subst, arith, inl, inr}
+use Rattle.std.proofs.Common.{◌≡◌, ℕ, List, [], ◌∷◌, length, Option, Some, Ok, Err, refl, sym, ap, ◌∙◌, subst, arith}
 use Rattle.std.specs.List.{slice_get}
 use Rattle.mesh_core.specs.State.{State}
 use Rattle.app_graph.specs.declared.graphs.Vertex.{Vertex}
@@ -14,10 +14,10 @@ use Rattle.spin_top.specs.declared.commands.Command.{Command}
 use Rattle.spin_top.specs.declared.commands.Command.TheVariants.{Run, Trace, Compile, Tables, Gen}
 use Rattle.spin_top.specs.declared.outcomes.Refusal.{Refusal}
 use Rattle.spin_top.specs.declared.outcomes.Refusal.TheVariants as refusals
-use Rattle.spin_top.specs.Causes.{Serves, HasBlocks, HasNoPlan, no_room, keys_out, HasNoBuiltPlan, cut_off, long_table, IsRefused, unread, unserved, no_plan, IsRefusedLate}
+use Rattle.spin_top.specs.Causes.{Serves, HasBlocks, HasNoPlan, no_room, keys_out, cut_off, long_table, IsRefused, unread, unserved, no_plan, IsRefusedLate}
 use Rattle.spin_top.specs.Commands.{Spells, IsBuilt}
 use Rattle.spin_top.specs.Jobs.{job_in}
-use Rattle.spin_top.specs.Runs.{IsMade, IsPlanned}
+use Rattle.spin_top.specs.Runs.{IsMade}
 
 -- ---- words spell one command
 

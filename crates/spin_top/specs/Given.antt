@@ -12,7 +12,7 @@ use Rattle.job_runs.specs.OpenedFor.{Fits}
 use Rattle.spin_top.specs.declared.commands.Command.{Command}
 use Rattle.spin_top.specs.declared.outcomes.Outcome.{Outcome}
 use Rattle.spin_top.specs.declared.outcomes.Refusal.{Refusal}
-use Rattle.spin_top.specs.declared.outcomes.Refusal.TheVariants.{WriteFault, ReadFault, Memory, Usage, Unbuilt}
+use Rattle.spin_top.specs.declared.outcomes.Refusal.TheVariants.{CutOff, WriteFault, ReadFault, Memory, Usage, Unbuilt}
 use Rattle.spin_top.specs.Causes.{HasBlocks, HasCause, IsRefused, Serves}
 use Rattle.spin_top.specs.Commands.{Spells, texts_of, IsCommand, IsBuilt, IsRun, IsTables}
 use Rattle.spin_top.specs.Ends.{GivesNoPart}
@@ -56,16 +56,27 @@ pub record IsWritten (words : List (String Global)) (left : Option (List ℕ)) (
 abbrev pub IsCaused : List (String Global) → Option (List ℕ) → ℕ → ℕ → ℕ → ℕ → Refusal → Type 0
 IsCaused words left reads reads' writes writes' r = ((r ≡ WriteFault) × FaultsRose writes writes') ⊎ HasCause words left reads reads' r
 
+-- a fault, or want of memory
+abbrev pub IsFailed : Outcome → Type 0
+IsFailed o = (o.refusal ≡ Some WriteFault) ⊎ ((o.refusal ≡ Some ReadFault) ⊎ (o.refusal ≡ Some Memory))
+
 -- the refusal is this one, or a fault or want of memory stands in its place
 abbrev pub IsRefusedAs : Outcome → Refusal → Type 0
-IsRefusedAs o r = (o.refusal ≡ Some r) ⊎ ((o.refusal ≡ Some WriteFault) ⊎ ((o.refusal ≡ Some ReadFault) ⊎ (o.refusal ≡ Some Memory)))
+IsRefusedAs o r = (o.refusal ≡ Some r) ⊎ IsFailed o
+
+-- the refusal is that of a target that is cut off, or a fault or want of memory stands in its place
+abbrev pub IsCalledCutOff : Outcome → Type 0
+IsCalledCutOff o = ((net : List ℕ) × (target : Chip) × (o.refusal ≡ Some (CutOff net target))) ⊎ IsFailed o
 
 -- Words that spell no command, or one that is not built, are refused so. Where the source tells its bytes, a command that
--- is built is refused for each cause of their text, their job, its vertices' room and its nets' keys.
+-- is built is refused for each cause of their text, their job, its vertices' room and its nets' keys; and where a target of
+-- the job is cut off, one is named.
 pub record IsRefusedWhere (words : List (String Global)) (left : Option (List ℕ)) (o : Outcome) : Type 0 where
   pub no_command : (IsCommand words → ⊥) → IsRefusedAs o Usage
   pub not_built : (c : Command) → Spells (texts_of words) c → (IsBuilt c → ⊥) → IsRefusedAs o Unbuilt
   pub refused : (c : Command) → Spells (texts_of words) c → IsBuilt c → (bytes : List ℕ) → left ≡ Some bytes → (r : Refusal) → IsRefused c (Some bytes) r → IsRefusedAs o r
+  pub cut_off : (c : Command) → Spells (texts_of words) c → (bytes : List ℕ) → left ≡ Some bytes → (job : Job) → job_in bytes ≡ Ok job → Serves c job →
+      (i : ℕ) (target : Chip) → HasCutOff job.machine job.graph i target → IsCalledCutOff o
 
 -- The source tells the bytes of a job that the words' command serves, its vertices have places, its nets have keys, no
 -- target is cut off, and the tables of its plan fit.
