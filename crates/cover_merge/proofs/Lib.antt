@@ -6,3 +6,4 @@ pub mod GuardLemmas
 pub mod LinkLemmas
 pub mod RefineLemmas
 pub mod SiftLemmas
+pub mod TriedLemmas

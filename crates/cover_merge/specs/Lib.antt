@@ -4,3 +4,4 @@ pub mod Guards
 pub mod Links
 pub mod Merges
 pub mod Refinement
+pub mod Tried

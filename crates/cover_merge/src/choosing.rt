@@ -1,12 +1,14 @@
 // Which rows are merged next.
-ghost use Rattle.std.specs.Prelude.{◌≡◌, ◌+◌, ◌<◌, ◌≤◌, ◌^◌, ◌↔◌, ◌==◌, ℕ, [], ◌∷◌, IfOk, MatchOption, MatchBool, length, slice_index, slice_index_or, ◌⊎◌};
+ghost use Rattle.std.specs.Prelude.{◌≡◌, ◌+◌, ◌<◌, ◌≤◌, ◌^◌, ◌↔◌, ◌==◌, ℕ, [], ◌∷◌, IfOk, OnOk, IsTrue, MatchOption, MatchBool, length, slice_index, slice_index_or, ◌⊎◌};
 ghost use Rattle.tern_word.specs.SoundTable.{IsSound};
 ghost use Rattle.tern_word.specs.declared.tables.Row.{Row as ARow};
 ghost use Rattle.cover_merge.specs.Guards.{AreGuards};
+ghost use Rattle.cover_merge.specs.Tried.{IsRefusedAt, AreTried, AreMarked, AreLatest};
+ghost use Rattle.cover_merge.specs.declared.guards.Guard.{Guard as AGuard};
 ghost use Rattle.cover_merge.specs.Links.{AreLinks};
 ghost use Rattle.cover_merge.specs.Covering.{places_of, IsBestBefore, StandsBefore, IsFirstPartner, IsLargest, HasNoLargest, IsLegalPair, HasNoLegalPair, IsFirstLegalPair, IsChosen, HasNoChosen};
 
-use crate::guards::{Guard, is_legal_pair};
+use crate::guards::{Guard, marked, try_pair};
 use crate::links::Links;
 use crate::refining::refine_by;
 use spin_base::{Memory, Seq};
@@ -18,18 +20,24 @@ use tern_word::{Row, Table};
 pub(crate) fn chosen(
     alloc: Global,
     table: &Table,
-    guards: &[Guard],
+    guards: &mut Vec<Guard>,
     links: &Links,
+    now: usize,
 ) -> Result<Option<Seq<u32>>, Memory>
     requires few { length table.now.rows < 2 ^ 32 }
     requires sound { IsSound table.now.rows }
-    requires guards { AreGuards table.now.rows guards.now }
+    requires one_each { length guards.old.items ≡ length table.now.rows }
+    requires guards { AreGuards table.now.rows guards.old.items }
+    requires marks { AreMarked now table.now.rows guards.old.items }
     requires links { AreLinks table.now.rows links.now.next.items links.now.first.items }
-    ensures { IfOk result (λ found. MatchOption found (HasNoChosen table.now.rows) (λ set. IsChosen table.now.rows set)) }
+    ensures found { IfOk result (λ found. MatchOption found (HasNoChosen table.now.rows) (λ set. IsChosen table.now.rows set)) }
+    ensures one_each { OnOk result (length guards.new.items ≡ length table.now.rows) }
+    ensures guards { OnOk result (AreGuards table.now.rows guards.new.items) }
+    ensures marks { OnOk result (AreMarked now table.now.rows guards.new.items) }
 {
     match largest(alloc, table, guards, links)? {
         Some(set) => Ok(Some(set)),
-        None => first_pair(alloc, table, guards, links),
+        None => first_pair(alloc, table, guards, links, now),
     }
 }
 
@@ -121,25 +129,69 @@ fn places_from(alloc: Global, rows: &[Row], links: &Links, k: usize) -> Result<S
     Ok(Seq::from_vec(places))
 }
 
-// The first legal pair.
+// The first legal pair. A row whose pairs are all refused until a row changes is marked.
 fn first_pair(
+    alloc: Global,
+    table: &Table,
+    guards: &mut Vec<Guard>,
+    links: &Links,
+    now: usize,
+) -> Result<Option<Seq<u32>>, Memory>
+    requires few { length table.now.rows < 2 ^ 32 }
+    requires sound { IsSound table.now.rows }
+    requires one_each { length guards.old.items ≡ length table.now.rows }
+    requires guards { AreGuards table.now.rows guards.old.items }
+    requires marks { AreMarked now table.now.rows guards.old.items }
+    requires links { AreLinks table.now.rows links.now.next.items links.now.first.items }
+    ensures found { IfOk result (λ found. MatchOption found (HasNoLegalPair table.now.rows) (λ set. IsFirstLegalPair table.now.rows set)) }
+    ensures one_each { OnOk result (length guards.new.items ≡ length table.now.rows) }
+    ensures guards { OnOk result (AreGuards table.now.rows guards.new.items) }
+    ensures marks { OnOk result (AreMarked now table.now.rows guards.new.items) }
+{
+    let latest = latest_of(alloc, table, guards, links)?;
+    for i in 0..table.rows.len() {
+        let search = partner(table, guards, links, &latest, i as u32);
+        if let Some(j) = search.place {
+            return Ok(Some(two_places(alloc, i as u32, j)?));
+        }
+        guards[i] = marked(guards[i], search.settled, now);
+    }
+    Ok(None)
+}
+
+// For each row when one of those behind it of its route last changed.
+fn latest_of(
     alloc: Global,
     table: &Table,
     guards: &[Guard],
     links: &Links,
-) -> Result<Option<Seq<u32>>, Memory>
-    requires few { length table.now.rows < 2 ^ 32 }
-    requires sound { IsSound table.now.rows }
-    requires guards { AreGuards table.now.rows guards.now }
+) -> Result<Vec<usize>, Memory>
+    requires one_each { length guards.now ≡ length table.now.rows }
     requires links { AreLinks table.now.rows links.now.next.items links.now.first.items }
-    ensures { IfOk result (λ found. MatchOption found (HasNoLegalPair table.now.rows) (λ set. IsFirstLegalPair table.now.rows set)) }
+    ensures latest { IfOk result (λ v. AreLatest table.now.rows guards.now v.items) }
+    ensures times { IfOk result (λ v. length v.items ≡ length table.now.rows) }
 {
-    for i in 0..table.rows.len() {
-        if let Some(j) = partner(table, guards, links, i as u32) {
-            return Ok(Some(two_places(alloc, i as u32, j)?));
-        }
+    let mut latest = vec![in alloc; 0usize; table.rows.len()]?;
+    let mut k = table.rows.len();
+    while k > 0 {
+        k -= 1;
+        latest[k] = latest_from(guards, &latest, links.next[k]);
     }
-    Ok(None)
+    Ok(latest)
+}
+
+// When the row at the place or one behind it of its route last changed, where there is a row.
+fn latest_from(guards: &[Guard], latest: &[usize], place: u32) -> usize
+    requires times { length latest.now ≡ length guards.now }
+    ensures here { (e : AGuard) → place < length guards.now → (slice_index_or guards.now place e).changed ≤ result }
+    ensures behind { place < length guards.now → slice_index latest.now place ≤ result }
+{
+    if (place as usize) >= guards.len() {
+        return 0;
+    }
+    let here = guards[place as usize].changed;
+    let behind = latest[place as usize];
+    if here < behind { behind } else { here }
 }
 
 // The list of two places.
@@ -152,21 +204,55 @@ fn two_places(alloc: Global, i: u32, j: u32) -> Result<Seq<u32>, Memory>
     Ok(set)
 }
 
+// The partner of a row, where there is one, and whether each of its pairs is refused until a row changes.
+#[derive(Clone, Copy)]
+struct Search {
+    place: Option<u32>,
+    settled: bool,
+}
+
 // The first row behind row `i` that can be merged with it: only those of its route can.
-fn partner(table: &Table, guards: &[Guard], links: &Links, i: u32) -> Option<u32>
+fn partner(table: &Table, guards: &[Guard], links: &Links, latest: &[usize], i: u32) -> Search
     requires few { length table.now.rows < 2 ^ 32 }
     requires sound { IsSound table.now.rows }
+    requires one_each { length guards.now ≡ length table.now.rows }
     requires guards { AreGuards table.now.rows guards.now }
+    requires tried { AreTried table.now.rows guards.now }
     requires links { AreLinks table.now.rows links.now.next.items links.now.first.items }
+    requires latest { AreLatest table.now.rows guards.now latest.now }
+    requires times { length latest.now ≡ length table.now.rows }
     requires inside { i < length table.now.rows }
-    ensures { MatchOption result ((b : ℕ) → IsLegalPair table.now.rows i b → ⊥) (λ j. IsFirstPartner table.now.rows i j) }
+    ensures place { MatchOption result.place ((b : ℕ) → IsLegalPair table.now.rows i b → ⊥) (λ j. IsFirstPartner table.now.rows i j) }
+    ensures settled { IsTrue result.settled → (b : ℕ) → i < b → b < length table.now.rows → IsRefusedAt table.now.rows guards.now i b }
 {
+    if latest[i as usize] < guards[i as usize].tried {
+        return Search {
+            place: None,
+            settled: true,
+        };
+    }
+    let mut settled = true;
     let mut j = links.next[i as usize];
     while (j as usize) < table.rows.len() {
-        if is_legal_pair(table, guards, i, j) {
-            return Some(j);
+        let trial = try_pair(table, guards, i, j);
+        if trial.legal {
+            return Search {
+                place: Some(j),
+                settled: false,
+            };
         }
+        settled = both(settled, trial.lasting);
         j = links.next[j as usize];
     }
-    None
+    Search {
+        place: None,
+        settled,
+    }
+}
+
+// Whether both are true.
+fn both(a: bool, b: bool) -> bool
+    ensures { IsTrue result → (IsTrue a) × (IsTrue b) }
+{
+    a && b
 }

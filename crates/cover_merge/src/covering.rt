@@ -4,6 +4,7 @@ ghost use Rattle.tern_word.specs.SoundTable.{IsOrdered, IsSound, served};
 ghost use Rattle.std.specs.List.Sorted.{IsPermutation};
 ghost use Rattle.cover_checks.specs.Merge.{IsLegal, IsMergeSet, after};
 ghost use Rattle.cover_merge.specs.Guards.{AreGuards};
+ghost use Rattle.cover_merge.specs.Tried.{AreMarked};
 ghost use Rattle.cover_merge.specs.Covering.{Covers, HasNoLegalPair};
 ghost use Rattle.cover_merge.specs.Merges.{sets_of};
 
@@ -46,7 +47,8 @@ pub fn cover(alloc: Global, mut table: Table, target: u32) -> Result<Covered, Me
     let mut merges = Seq::new(alloc);
     'merging: while table.rows.len() > target as usize {
         let links = links_of(alloc, table.rows.as_slice(), &numbers, limit)?;
-        match chosen(alloc, &table, &guards, &links)? {
+        let now = merges.len();
+        match chosen(alloc, &table, &mut guards, &links, now)? {
             Some(places) => {
                 carry_numbers(
                     table.rows.as_slice(),
@@ -54,7 +56,7 @@ pub fn cover(alloc: Global, mut table: Table, target: u32) -> Result<Covered, Me
                     places.as_slice(),
                     limit,
                 )?;
-                merge_at(alloc, &mut table, &mut guards, &places)?;
+                merge_at(alloc, &mut table, &mut guards, &places, now)?;
                 merges.push(Merge { places })?;
             }
             None => return Ok(Covered { table, merges }),
@@ -69,19 +71,22 @@ fn merge_at(
     table: &mut Table,
     guards: &mut Vec<Guard>,
     places: &Seq<u32>,
+    now: usize,
 ) -> Result<(), Memory>
     requires few { length table.old.rows < 2 ^ 32 }
     requires ordered { IsOrdered table.old.rows }
     requires one_each { length guards.old.items ≡ length table.old.rows }
     requires guards { AreGuards table.old.rows guards.old.items }
+    requires marks { AreMarked now table.old.rows guards.old.items }
     requires set { IsMergeSet table.old.rows places.now }
     requires legal { IsLegal table.old.rows places.now }
     ensures table { OnOk result (table.new.rows ≡ after table.old.rows places.now) }
     ensures one_each { OnOk result (length guards.new.items ≡ length table.new.rows) }
     ensures guards { OnOk result (AreGuards table.new.rows guards.new.items) }
+    ensures marks { OnOk result (AreMarked now table.new.rows guards.new.items) }
 {
-    carry(table.rows.as_slice(), guards, places.as_slice())?;
+    carry(table.rows.as_slice(), guards, places.as_slice(), now)?;
     apply(alloc, table, places)?;
-    renew(table.rows.as_slice(), guards);
+    renew(table.rows.as_slice(), guards, now);
     Ok(())
 }

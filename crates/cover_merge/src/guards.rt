@@ -1,56 +1,79 @@
 // Guards of rows: whether a row can be merged, without a look at the rows behind it.
-ghost use Rattle.std.specs.Prelude.{◌≡◌, ◌<◌, ◌≤◌, ◌^◌, ◌↔◌, ◌∷◌, [], ℕ, suc, true, List, IfOk, IsTrue, drop, length, slice_index_or};
+ghost use Rattle.std.specs.Prelude.{◌≡◌, ◌<◌, ◌≤◌, ◌^◌, ◌↔◌, ◌⊎◌, ◌∷◌, [], ℕ, suc, true, List, IfOk, IsTrue, drop, length, slice_index_or};
 ghost use Rattle.tern_word.specs.declared.tables.Row.{Row as ARow};
 ghost use Rattle.tern_word.specs.Ternary.{generality};
 ghost use Rattle.tern_word.specs.SoundTable.{IsOrdered, IsSound, Misses};
 ghost use Rattle.cover_checks.specs.Merge.{has, place_for, IsOneRoute, IsMergeSet, IsLegal, IsClear, PassesUp};
-ghost use Rattle.cover_merge.specs.Guards.{IsRival, HasRival, IsGuardAt, AreGuards};
+ghost use Rattle.cover_merge.specs.Guards.{IsRival, HasRival, IsGuardAt, AreGuards, IsSilent};
+ghost use Rattle.cover_merge.specs.Tried.{IsFresh, IsRefusedAt, AreTried, AreMarked, IsMarked};
 
 use cover_checks::{merged_block, misses, passes_down};
 use spin_base::Memory;
 use std::alloc::Global;
-use tern_word::{Row, Table, generality};
+use tern_word::{Row, Table, generality, merge_two};
 
 /// What is known of the rows behind a row: the generality of the first of another route that meets an alias of it, and
-/// that of the first of any route; 33 where there is none. 33 and 0 say nothing.
+/// that of the first of any route; 33 where there is none. 33 and 0 say nothing. And when the row was last tried with all
+/// later ones of its route, 0 where it was not, and when it last changed, both counted in merges.
 #[derive(Clone, Copy)]
 pub(crate) struct Guard {
     pub(crate) rival: u32,
     pub(crate) clear: u32,
+    pub(crate) tried: usize,
+    pub(crate) changed: usize,
 }
 
 /// More than the generality of any block.
 const NONE: u32 = 33;
 
-//// The guard that says nothing.
-pub(crate) const NOTHING: Guard = Guard {
+/// The guard that says nothing.
+const NOTHING: Guard = Guard {
     rival: 33,
     clear: 0,
+    tried: 0,
+    changed: 0,
 };
+
+/// The guard that says nothing, of a row that changed now.
+pub(crate) fn unknown(now: usize) -> Guard
+    ensures silent { IsSilent result }
+    ensures fresh { IsFresh now result }
+{
+    Guard {
+        rival: 33,
+        clear: 0,
+        tried: 0,
+        changed: now,
+    }
+}
 
 /// The guards of all rows.
 pub(crate) fn guards_of(alloc: Global, rows: &[Row]) -> Result<Vec<Guard>, Memory>
     requires ordered { IsOrdered rows.now }
     ensures guards { IfOk result (λ v. AreGuards rows.now v.items) }
     ensures one_each { IfOk result (λ v. length v.items ≡ length rows.now) }
+    ensures marks { IfOk result (λ v. AreMarked 0 rows.now v.items) }
 {
     let mut guards = Vec::with_capacity(alloc, rows.len())?;
     for s in 0..rows.len() {
-        guards.push(guard_of(rows, s))?;
+        guards.push(guard_of(rows, s, 0))?;
     }
     Ok(guards)
 }
 
-/// The guard of row `s`.
-pub(crate) fn guard_of(rows: &[Row], s: usize) -> Guard
+/// The guard of row `s`, which changed now.
+pub(crate) fn guard_of(rows: &[Row], s: usize, now: usize) -> Guard
     requires ordered { IsOrdered rows.now }
     requires inside { s < length rows.now }
-    ensures { IsGuardAt rows.now s result }
+    ensures guard { IsGuardAt rows.now s result }
+    ensures fresh { IsFresh now result }
 {
     let met = first_met(rows, s);
     Guard {
         rival: first_rival(rows, s, met),
         clear: general_from(rows, met),
+        tried: 0,
+        changed: now,
     }
 }
 
@@ -221,4 +244,76 @@ pub(crate) fn is_legal_pair(table: &Table, guards: &[Guard], i: u32, j: u32) -> 
         return false;
     }
     passes_down(rows, merged, place_in(rows, general))
+}
+
+/// What a try of two rows tells: whether their merge is legal, and whether it is refused until one of the two changes.
+#[derive(Clone, Copy)]
+pub(crate) struct Trial {
+    pub(crate) legal: bool,
+    pub(crate) lasting: bool,
+}
+
+/// Tries two rows of one route.
+pub(crate) fn try_pair(table: &Table, guards: &[Guard], i: u32, j: u32) -> Trial
+    requires few { length table.now.rows < 2 ^ 32 }
+    requires sound { IsSound table.now.rows }
+    requires one_each { length guards.now ≡ length table.now.rows }
+    requires guards { AreGuards table.now.rows guards.now }
+    requires tried { AreTried table.now.rows guards.now }
+    requires set { IsMergeSet table.now.rows (i ∷ j ∷ []) }
+    ensures legal { IsTrue result.legal ↔ IsLegal table.now.rows (i ∷ j ∷ []) }
+    ensures lasting { IsTrue result.lasting → IsRefusedAt table.now.rows guards.now i j }
+{
+    if is_refused(table, guards, i, j) {
+        return Trial {
+            legal: false,
+            lasting: true,
+        };
+    }
+    Trial {
+        legal: is_legal_pair(table, guards, i, j),
+        lasting: false,
+    }
+}
+
+// Whether the merge of two rows is refused until one of them changes: then it is. They were tried since, or one has a
+// rival that the merge comes to stand behind, or the merge meets an alias of a row that it comes to stand before.
+fn is_refused(table: &Table, guards: &[Guard], i: u32, j: u32) -> bool
+    requires few { length table.now.rows < 2 ^ 32 }
+    requires sound { IsSound table.now.rows }
+    requires one_each { length guards.now ≡ length table.now.rows }
+    requires tried { AreTried table.now.rows guards.now }
+    requires set { IsMergeSet table.now.rows (i ∷ j ∷ []) }
+    ensures { IsTrue result → IsRefusedAt table.now.rows guards.now i j }
+{
+    let first = guards[i as usize];
+    let second = guards[j as usize];
+    if second.changed < first.tried {
+        return true;
+    }
+    let rows = table.rows.as_slice();
+    let merged = merge_two(rows[i as usize].block, rows[j as usize].block);
+    let general = generality(merged);
+    if first.rival <= general {
+        return true;
+    }
+    if second.rival <= general {
+        return true;
+    }
+    !passes_down(rows, merged, place_in(rows, general))
+}
+
+/// The guard of a row that was tried now, where each pair of it is refused until it changes.
+pub(crate) fn marked(guard: Guard, settled: bool, now: usize) -> Guard
+    ensures { (result ≡ guard) ⊎ ((IsTrue settled) × (IsMarked now guard result)) }
+{
+    if settled {
+        return Guard {
+            rival: guard.rival,
+            clear: guard.clear,
+            tried: now,
+            changed: guard.changed,
+        };
+    }
+    guard
 }

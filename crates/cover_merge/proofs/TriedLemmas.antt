@@ -1,0 +1,462 @@
+-- Pairs that were refused stay refused until one of their rows changes.
+use Rattle.std.proofs.Common.{◌≡◌, ℕ, zero, suc, ◌+◌, ◌-◌, ◌<◌, ◌≤◌, ◌⊎◌, ◌↔◌, IsTrue, Bool, true, false, cond, List, [], ◌∷◌, length, get_or, take, drop, inl, inr, refl, sym, ap, ◌∙◌, subst, set, length-append, length-drop, length-take, get_or-take, get_or-drop, arith}
+use Rattle.std.specs.Prelude.{All, not, insert, map}
+use Rattle.std.specs.List.{cons_option}
+use Rattle.std.proofs.lemmas.List.Elements.{All-cons, All-append, All-take, All-drop, All-head}
+use Rattle.std.proofs.lemmas.Bool.{cases_lt, cases_order}
+use Rattle.std.proofs.lemmas.Grind.{get_or-set_at}
+use Rattle.std.proofs.lemmas.List.{get_or_default, get_or-set_other, length-set}
+use Rattle.std.proofs.lemmas.Option.{slice_get-get_or}
+use Rattle.spin_base.specs.declared.blocks.Block.{Block}
+use Rattle.tern_word.specs.declared.tables.Row.{Row}
+use Rattle.tern_word.specs.Ternary.{generality, merge_two, merge_of}
+use Rattle.tern_word.specs.SoundTable.{IsOrdered, IsSound, Misses}
+use Rattle.tern_word.proofs.BlockLaws.{generality-merge, generality_le}
+use Rattle.cover_checks.specs.Merge.{has, picked, kept, rows_at, merge_rows, merged_row, merged_block, insert_place, place_for, after, IsMergeSet, IsLegal, PassesDown}
+use Rattle.cover_checks.proofs.Lists.{All-picked, All-left, All-right, picked-at, All-from_map}
+use Rattle.cover_checks.proofs.Positions.{has-at, rows_at-has, place_for-below, place_for-above}
+use Rattle.cover_checks.proofs.Answering.{fails}
+use Rattle.cover_checks.proofs.Legal.{Misses-members, up_from_legal, down_from_legal}
+use Rattle.cover_merge.specs.declared.guards.Guard.{Guard}
+use Rattle.cover_merge.specs.Guards.{HasRival, IsGuardAt, AreGuards}
+use Rattle.cover_merge.specs.Links.{IsNext}
+use Rattle.cover_merge.specs.Covering.{IsLegalPair}
+use Rattle.cover_merge.specs.Tried.{HasMet, IsRefused, IsRefusedAt, AreTried, AreMarked, IsFresh, IsMarked, IsLatest, AreLatest}
+use Rattle.cover_merge.proofs.ApplyLemmas.{left, after_is, block_is}
+use Rattle.cover_merge.proofs.GuardLemmas.{guard_refuses}
+use Rattle.cover_merge.proofs.CarryLemmas.{guard_set}
+
+-- ---- pairs in two lists at once
+
+module _ (K : Row → Guard → Row → Guard → Type 0) where
+  abbrev pub Across : Row → Guard → List Row → List Guard → Type 0
+  Across r g rows gs = (j : ℕ) (d : Row) (e : Guard) → j < length gs → K r g (get_or rows j d) (get_or gs j e)
+
+  abbrev pub Pairs : List Row → List Guard → Type 0
+  Pairs rows gs = (i j : ℕ) (d : Row) (e : Guard) → i < j → j < length gs → K (get_or rows i d) (get_or gs i e) (get_or rows j d) (get_or gs j e)
+
+  across_cons : (r : Row) (g : Guard) (s : Row) (h : Guard) (rows : List Row) (gs : List Guard) → K r g s h → Across r g rows gs → Across r g (s ∷ rows) (h ∷ gs)
+  across_cons r g s h rows gs first rest zero d e within = first
+  across_cons r g s h rows gs first rest (suc j) d e within = rest j d e (omega arith)
+
+  across_tail : (r : Row) (g : Guard) (s : Row) (h : Guard) (rows : List Row) (gs : List Guard) → Across r g (s ∷ rows) (h ∷ gs) → Across r g rows gs
+  across_tail r g s h rows gs all j d e within = all (suc j) d e (omega arith)
+
+  pairs_cons : (r : Row) (g : Guard) (rows : List Row) (gs : List Guard) → Across r g rows gs → Pairs rows gs → Pairs (r ∷ rows) (g ∷ gs)
+  pairs_cons r g rows gs first rest zero zero d e less within = absurd (omega arith)
+  pairs_cons r g rows gs first rest zero (suc j) d e less within = first j d e (omega arith)
+  pairs_cons r g rows gs first rest (suc i) zero d e less within = absurd (omega arith)
+  pairs_cons r g rows gs first rest (suc i) (suc j) d e less within = rest i j d e (omega arith) (omega arith)
+
+  pairs_head : (r : Row) (g : Guard) (rows : List Row) (gs : List Guard) → Pairs (r ∷ rows) (g ∷ gs) → Across r g rows gs
+  pairs_head r g rows gs all j d e within = all 0 (suc j) d e (omega arith) (omega arith)
+
+  pairs_tail : (r : Row) (g : Guard) (rows : List Row) (gs : List Guard) → Pairs (r ∷ rows) (g ∷ gs) → Pairs rows gs
+  pairs_tail r g rows gs all i j d e less within = all (suc i) (suc j) d e (omega arith) (omega arith)
+
+  across_picked : (r : Row) (g : Guard) (q : ℕ → Bool) (i : ℕ) (rows : List Row) (gs : List Guard) → length gs ≡ length rows → Across r g rows gs → Across r g (picked q i rows) (picked q i gs)
+  across_picked r g q i [] [] same all = all
+  across_picked r g q i [] (h ∷ gs) same all = absurd (omega arith)
+  across_picked r g q i (s ∷ rows) [] same all = absurd (omega arith)
+  across_picked r g q i (s ∷ rows) (h ∷ gs) same all = by_test (q i) (across_picked r g q (suc i) rows gs (omega arith) (across_tail r g s h rows gs all))
+    where
+      by_test : (t : Bool) → Across r g (picked q (suc i) rows) (picked q (suc i) gs) → Across r g (cond t (s ∷ picked q (suc i) rows) (picked q (suc i) rows)) (cond t (h ∷ picked q (suc i) gs) (picked q (suc i) gs))
+      by_test true rest = across_cons r g s h (picked q (suc i) rows) (picked q (suc i) gs) (all 0 s h (omega arith)) rest
+      by_test false rest = rest
+
+  pub pairs_picked : (q : ℕ → Bool) (i : ℕ) (rows : List Row) (gs : List Guard) → length gs ≡ length rows → Pairs rows gs → Pairs (picked q i rows) (picked q i gs)
+  pairs_picked q i [] [] same all = all
+  pairs_picked q i [] (h ∷ gs) same all = absurd (omega arith)
+  pairs_picked q i (s ∷ rows) [] same all = absurd (omega arith)
+  pairs_picked q i (s ∷ rows) (h ∷ gs) same all =
+      by_test (q i) (across_picked s h q (suc i) rows gs (omega arith) (pairs_head s h rows gs all)) (pairs_picked q (suc i) rows gs (omega arith) (pairs_tail s h rows gs all))
+    where
+      by_test : (t : Bool) → Across s h (picked q (suc i) rows) (picked q (suc i) gs) → Pairs (picked q (suc i) rows) (picked q (suc i) gs)
+          → Pairs (cond t (s ∷ picked q (suc i) rows) (picked q (suc i) rows)) (cond t (h ∷ picked q (suc i) gs) (picked q (suc i) gs))
+      by_test true first rest = pairs_cons s h (picked q (suc i) rows) (picked q (suc i) gs) first rest
+      by_test false first rest = rest
+
+  module _ (m : Row) (n : Guard) where
+    across_insert : (r : Row) (g : Guard) (rows : List Row) (gs : List Guard) (p : ℕ) → length gs ≡ length rows → K r g m n → Across r g rows gs → Across r g (insert rows p m) (insert gs p n)
+    across_insert r g rows gs zero same here all = across_cons r g m n rows gs here all
+    across_insert r g [] [] (suc p) same here all = across_cons r g m n [] [] here all
+    across_insert r g [] (h ∷ gs) (suc p) same here all = absurd (omega arith)
+    across_insert r g (s ∷ rows) [] (suc p) same here all = absurd (omega arith)
+    across_insert r g (s ∷ rows) (h ∷ gs) (suc p) same here all =
+        across_cons r g s h (insert rows p m) (insert gs p n) (all 0 s h (omega arith)) (across_insert r g rows gs p (omega arith) here (across_tail r g s h rows gs all))
+
+    pub pairs_insert : (rows : List Row) (gs : List Guard) (p : ℕ) → length gs ≡ length rows → ((k : ℕ) (d : Row) (e : Guard) → k < length gs → K (get_or rows k d) (get_or gs k e) m n) → ((s : Row) (h : Guard) → K m n s h)
+        → Pairs rows gs → Pairs (insert rows p m) (insert gs p n)
+    pairs_insert rows gs zero same into out all = pairs_cons m n rows gs (λ j d e within. out (get_or rows j d) (get_or gs j e)) all
+    pairs_insert [] [] (suc p) same into out all = pairs_cons m n [] [] (λ j d e within. out (get_or [] j d) (get_or [] j e)) all
+    pairs_insert [] (h ∷ gs) (suc p) same into out all = absurd (omega arith)
+    pairs_insert (s ∷ rows) [] (suc p) same into out all = absurd (omega arith)
+    pairs_insert (s ∷ rows) (h ∷ gs) (suc p) same into out all =
+        pairs_cons s h (insert rows p m) (insert gs p n)
+        (across_insert s h rows gs p (omega arith) (into 0 s h (omega arith)) (pairs_head s h rows gs all))
+        (pairs_insert rows gs p (omega arith) (λ k d e within. into (suc k) d e (omega arith)) out (pairs_tail s h rows gs all))
+
+  -- another guard in place of one
+  module _ (rows : List Row) (gs : List Guard) (s : ℕ) (g : Guard) (inside : s < length gs) where
+    other_at : (k : ℕ) (e : Guard) → (k < s) ⊎ (s < k) → get_or (set gs s g) k e ≡ get_or gs k e
+    other_at k e apart = get_or-set_other gs s k g e (differs apart)
+      where
+        differs : (k < s) ⊎ (s < k) → k ≡ s → ⊥
+        differs (inl before) same = omega (arith, before, same)
+        differs (inr later) same = omega (arith, later, same)
+
+    pub pairs_put : ((k : ℕ) (d : Row) (e : Guard) → k < s → K (get_or rows k d) (get_or gs k e) (get_or rows s d) g)
+        → ((k : ℕ) (d : Row) (e : Guard) → s < k → k < length gs → K (get_or rows s d) g (get_or rows k d) (get_or gs k e))
+        → Pairs rows gs → Pairs rows (set gs s g)
+    pairs_put before behind all i j d e less within = first (cases_order i s)
+      where
+        in_gs : j < length gs
+        in_gs = omega (arith, length-set gs s g, within)
+
+        second : (i < s) ⊎ (s < i) → (j ≡ s) ⊎ ((j < s) ⊎ (s < j)) → K (get_or rows i d) (get_or gs i e) (get_or rows j d) (get_or (set gs s g) j e)
+        second apart (inl same) =
+            subst (λ x. K (get_or rows i d) (get_or gs i e) (get_or rows j d) x) (sym (get_or-set_at gs s j g e same inside))
+            (subst (λ n. K (get_or rows i d) (get_or gs i e) (get_or rows n d) g) (sym same) (before i d e (omega (arith, same, less))))
+        second apart (inr other) = subst (λ x. K (get_or rows i d) (get_or gs i e) (get_or rows j d) x) (sym (other_at j e other)) (all i j d e less in_gs)
+
+        first : (i ≡ s) ⊎ ((i < s) ⊎ (s < i)) → K (get_or rows i d) (get_or (set gs s g) i e) (get_or rows j d) (get_or (set gs s g) j e)
+        first (inl same) =
+            subst (λ x. K (get_or rows i d) x (get_or rows j d) (get_or (set gs s g) j e)) (sym (get_or-set_at gs s i g e same inside))
+            (subst (λ x. K (get_or rows i d) g (get_or rows j d) x) (sym (other_at j e (inr (omega (arith, same, less)))))
+            (subst (λ n. K (get_or rows n d) g (get_or rows j d) (get_or gs j e)) (sym same) (behind j d e (omega (arith, same, less)) in_gs)))
+        first (inr apart) = subst (λ x. K (get_or rows i d) x (get_or rows j d) (get_or (set gs s g) j e)) (sym (other_at i e apart)) (second apart (cases_order j s))
+
+-- what is told of two rows that were tried
+abbrev Told : List Row → Row → Guard → Row → Guard → Type 0
+Told rows r g s h = h.changed < g.tried → IsRefused rows r g.rival s h.rival
+
+-- ---- one guard in place of another
+
+bound_put : (now : ℕ) (gs : List Guard) (s : ℕ) (g : Guard) → s < length gs → g.tried ≤ now → All (λ (x : Guard). x.tried ≤ now) gs → All (λ (x : Guard). x.tried ≤ now) (set gs s g)
+bound_put now gs s g inside low all k e within = by_case (cases_order k s)
+  where
+    by_case : (k ≡ s) ⊎ ((k < s) ⊎ (s < k)) → (get_or (set gs s g) k e).tried ≤ now
+    by_case (inl same) = subst (λ (x : Guard). x.tried ≤ now) (sym (get_or-set_at gs s k g e same inside)) low
+    by_case (inr apart) = subst (λ (x : Guard). x.tried ≤ now) (sym (get_or-set_other gs s k g e (differs apart))) (all k e (omega (arith, length-set gs s g, within)))
+      where
+        differs : (k < s) ⊎ (s < k) → k ≡ s → ⊥
+        differs (inl before) same = omega (arith, before, same)
+        differs (inr later) same = omega (arith, later, same)
+
+module _ (now : ℕ) (rows : List Row) (gs : List Guard) (s : ℕ) (g old : Guard) (inside : s < length gs) (is_old : old ≡ get_or gs s old) (marks : AreMarked now rows gs) where
+  old_at : (e : Guard) → old ≡ get_or gs s e
+  old_at e = is_old ∙ get_or_default gs s old e inside
+
+  -- the same guard, or that of a row that changed
+  fresh_put : (g ≡ old) ⊎ (IsFresh now g) → AreMarked now rows (set gs s g)
+  fresh_put (inl same) = record {
+    tried = pairs_put (Told rows) rows gs s g inside
+        (λ k d e less. subst (λ x. Told rows (get_or rows k d) (get_or gs k e) (get_or rows s d) x) (sym (old_at e) ∙ sym same) (marks.tried k s d e less inside))
+        (λ k d e less within. subst (λ x. Told rows (get_or rows s d) x (get_or rows k d) (get_or gs k e)) (sym (old_at e) ∙ sym same) (marks.tried s k d e less within))
+        marks.tried;
+    bound = bound_put now gs s g inside (subst (λ (x : Guard). x.tried ≤ now) (sym (old_at old) ∙ sym same) (marks.bound s old inside)) marks.bound;
+  }
+  fresh_put (inr fresh) = record {
+    tried = pairs_put (Told rows) rows gs s g inside
+        (λ k d e less told. absurd (omega (arith, told, fresh.changed, marks.bound k e (omega (arith, less, inside)))))
+        (λ k d e less within told. absurd (omega (arith, told, fresh.tried)))
+        marks.tried;
+    bound = bound_put now gs s g inside (omega (arith, fresh.tried)) marks.bound;
+  }
+
+  pub fresh_set : (new : List Guard) → new ≡ set gs s g → (g ≡ old) ⊎ (IsFresh now g) → AreMarked now rows new
+  fresh_set new is told = subst (AreMarked now rows) (sym is) (fresh_put told)
+
+  -- the guard of a row that is refused with each later one
+  tried_put : (settled : Bool) → (IsTrue settled → (b : ℕ) → s < b → b < length rows → IsRefusedAt rows gs s b) → length gs ≡ length rows → (g ≡ old) ⊎ ((IsTrue settled) × (IsMarked now old g)) → AreMarked now rows (set gs s g)
+  tried_put settled refused same (inl kept) = fresh_put (inl kept)
+  tried_put settled refused same (inr (yes_settled, mark)) = record {
+    tried = pairs_put (Told rows) rows gs s g inside
+        (λ k d e less told. subst (λ n. IsRefused rows (get_or rows k d) (get_or gs k e).rival (get_or rows s d) n) (sym (rival_at e)) (marks.tried k s d e less inside (omega (arith, told, changed_at e))))
+        (λ k d e less within told. subst (λ n. IsRefused rows (get_or rows s d) n (get_or rows k d) (get_or gs k e).rival) (sym (rival_at e)) (refused yes_settled k less (omega (arith, within, same)) d e))
+        marks.tried;
+    bound = bound_put now gs s g inside (omega (arith, mark.tried)) marks.bound;
+  }
+    where
+      rival_at : (e : Guard) → g.rival ≡ (get_or gs s e).rival
+      rival_at e = mark.rival ∙ ap (λ (x : Guard). x.rival) (old_at e)
+
+      changed_at : (e : Guard) → g.changed ≡ (get_or gs s e).changed
+      changed_at e = mark.changed ∙ ap (λ (x : Guard). x.changed) (old_at e)
+
+  pub tried_set : (new : List Guard) → new ≡ set gs s g → (settled : Bool) → (IsTrue settled → (b : ℕ) → s < b → b < length rows → IsRefusedAt rows gs s b) → length gs ≡ length rows → (g ≡ old) ⊎ ((IsTrue settled) × (IsMarked now old g)) → AreMarked now rows new
+  tried_set new is settled refused same told = subst (AreMarked now rows) (sym is) (tried_put settled refused same told)
+
+-- a mark changes nothing that a guard tells
+pub marked_guard : (now : ℕ) (rows : List Row) (gs new : List Guard) (s : ℕ) (g old : Guard) (settled : Bool) → s < length gs → old ≡ get_or gs s old → new ≡ set gs s g → (g ≡ old) ⊎ ((IsTrue settled) × (IsMarked now old g)) → AreGuards rows gs → AreGuards rows new
+marked_guard now rows gs new s g old settled inside is_old is told each = guard_set rows gs new s g inside is each (by_case told)
+  where
+    here : IsGuardAt rows s old
+    here = subst (IsGuardAt rows s) (sym is_old) (each s old inside)
+
+    by_case : (g ≡ old) ⊎ ((IsTrue settled) × (IsMarked now old g)) → IsGuardAt rows s g
+    by_case (inl same) = subst (IsGuardAt rows s) (sym same) here
+    by_case (inr (yes_settled, mark)) = λ d. record {
+      refuses = subst (λ n. n ≤ 32 → HasRival (get_or rows s d) n (drop (suc s) rows)) (sym mark.rival) (here d).refuses;
+      passes = subst (λ n. All (λ (x : Row). generality x.block < n → Misses x.block (get_or rows s d)) (drop (suc s) rows)) (sym mark.clear) (here d).passes;
+    }
+
+pub fresh_marked : (rows : List Row) (gs : List Guard) → All (IsFresh 0) gs → AreMarked 0 rows gs
+fresh_marked rows gs all = record {
+  tried = λ i j d e less within told. absurd (omega (arith, told, (all i e (omega (arith, less, within))).tried));
+  bound = λ k e within. omega (arith, (all k e within).tried);
+}
+
+pub marked_later : (now : ℕ) (rows : List Row) (gs : List Guard) (then : ℕ) → now ≤ then → AreMarked now rows gs → AreMarked then rows gs
+marked_later now rows gs then le marks = record { tried = marks.tried; bound = λ k e within. omega (arith, le, marks.bound k e within) }
+
+-- ---- the table after a merge
+
+bool_cases : (b : Bool) → (b ≡ true) ⊎ (b ≡ false)
+bool_cases true = inl refl
+bool_cases false = inr refl
+
+module _ (rows : List Row) (places : List ℕ) (ordered : IsOrdered rows) (merge : IsMergeSet rows places) where
+  -- what was met is met in the table after the merge
+  met_after : (b : Block) → HasMet rows b → HasMet (after rows places) b
+  met_after b met all = met each
+    where
+      n : ℕ
+      n = insert_place rows places
+
+      P : Row → Type 0
+      P x = generality b < generality x.block → Misses b x
+
+      front : All P (kept places 0 (take n rows))
+      front = All-left P (kept places 0 (take n rows)) (merged_row rows places ∷ kept places n (drop n rows)) all
+
+      back : All P (merged_row rows places ∷ kept places n (drop n rows))
+      back = All-right P (kept places 0 (take n rows)) (merged_row rows places ∷ kept places n (drop n rows)) all
+
+      member : (k : ℕ) (d : Row) → has places k ≡ true → P (get_or rows k d)
+      member k d found above =
+          let lower = rows_at-has (λ (r : Row). generality r.block ≤ generality (merged_block rows places)) rows places merge.set.in_range
+          (All-from_map (λ x. generality x ≤ generality (merged_block rows places)) (λ (x : Row). x.block) (rows_at rows places) (generality-merge (map (λ (x : Row). x.block) (rows_at rows places)))) k d found in
+          rows_at-has (Misses b) rows places merge.set.in_range
+          (Misses-members b (rows_at rows places) (All-head P (merged_row rows places) (kept places n (drop n rows)) back (omega (arith, above, lower, ap generality (block_is rows places ordered merge))))) k d found
+
+      outside : (k : ℕ) (d : Row) → k < length rows → not (has places k) ≡ true → (k < n) ⊎ (n ≤ k) → P (get_or rows k d)
+      outside k d within out (inl before) =
+          subst P (get_or-take n rows k d before) (picked-at P (λ j. not (has places j)) 0 (take n rows) front k k d (omega arith) (omega (arith, length-take n rows, before, within)) out)
+      outside k d within out (inr from) =
+          let at : n + (k - n) ≡ k = omega (arith, from) in
+          subst P (get_or-drop n rows (k - n) d ∙ ap (λ i. get_or rows i d) at)
+          (picked-at P (λ j. not (has places j)) n (drop n rows) (λ i e inside. back (suc i) e (omega (arith, inside))) (k - n) k d (sym at) (omega (arith, length-drop n rows, from, within)) out)
+
+      each : All P rows
+      each k d within = by_case (bool_cases (has places k))
+        where
+          by_case : (has places k ≡ true) ⊎ (has places k ≡ false) → P (get_or rows k d)
+          by_case (inl found) = member k d found
+          by_case (inr out) = outside k d within (ap not out) (cases_lt k n)
+
+  refused_after : (r : Row) (m : ℕ) (s : Row) (n : ℕ) → IsRefused rows r m s n → IsRefused (after rows places) r m s n
+  refused_after r m s n refused bits = by_case (refused bits)
+    where
+      by_case : (m ≤ generality (merge_two r.block s.block)) ⊎ ((n ≤ generality (merge_two r.block s.block)) ⊎ HasMet rows (merge_two r.block s.block))
+          → (m ≤ generality (merge_two r.block s.block)) ⊎ ((n ≤ generality (merge_two r.block s.block)) ⊎ HasMet (after rows places) (merge_two r.block s.block))
+      by_case (inl low) = inl low
+      by_case (inr (inl low)) = inr (inl low)
+      by_case (inr (inr met)) = inr (inr (met_after (merge_two r.block s.block) met))
+
+  pub marks_carried : (now p : ℕ) (nothing : Guard) (gs new : List Guard) → p ≡ insert_place rows places → IsFresh now nothing → length gs ≡ length rows → AreMarked now rows gs → new ≡ left places 0 (insert gs p nothing) → AreMarked now (after rows places) new
+  marks_carried now p nothing gs new place fresh same marks is =
+      subst (AreMarked now (after rows places)) (sym (is ∙ ap (λ q. left places 0 (insert gs q nothing)) place)) (record {
+        tried = λ i j d e less within told. refused_after (get_or (after rows places) i d) (get_or kept_gs i e).rival (get_or (after rows places) j d) (get_or kept_gs j e).rival (moved i j d e less within told);
+        bound = All-picked (λ (x : Guard). x.tried ≤ now) (λ k. not (has places k)) 0 (insert gs n nothing)
+            (All-append (λ (x : Guard). x.tried ≤ now) (take n gs) (nothing ∷ drop n gs) (All-take (λ (x : Guard). x.tried ≤ now) n gs marks.bound)
+            (All-cons (λ (x : Guard). x.tried ≤ now) nothing (drop n gs) (omega (arith, fresh.tried)) (All-drop (λ (x : Guard). x.tried ≤ now) n gs marks.bound)));
+      })
+    where
+      n : ℕ
+      n = insert_place rows places
+
+      kept_gs : List Guard
+      kept_gs = left places 0 (insert gs (insert_place rows places) nothing)
+
+      longer : length (insert gs n nothing) ≡ length (insert rows n (merged_row rows places))
+      longer = omega (arith, same, length-append (take n gs) (nothing ∷ drop n gs), length-append (take n rows) (merged_row rows places ∷ drop n rows), length-take n gs, length-take n rows, length-drop n gs, length-drop n rows)
+
+      inserted : Pairs (Told rows) (insert rows n (merged_row rows places)) (insert gs n nothing)
+      inserted = pairs_insert (Told rows) (merged_row rows places) nothing rows gs n same
+          (λ k d e within told. absurd (omega (arith, told, fresh.changed, marks.bound k e within)))
+          (λ s h told. absurd (omega (arith, told, fresh.tried)))
+          marks.tried
+
+      moved : Pairs (Told rows) (after rows places) kept_gs
+      moved = subst (λ l. Pairs (Told rows) l kept_gs) (after_is rows places ordered merge) (pairs_picked (Told rows) (λ k. not (has places k)) 0 (insert rows n (merged_row rows places)) (insert gs n nothing) longer inserted)
+
+-- ---- a pair
+
+module _ (rows : List Row) (i j : ℕ) (set : IsMergeSet rows (i ∷ j ∷ [])) where
+  pub first_within : i < length rows
+  first_within = set.set.in_range 0 0 (omega arith)
+
+  pub second_within : j < length rows
+  second_within = set.set.in_range 1 0 (omega arith)
+
+  pub in_order : i < j
+  in_order = set.set.ascending 0 1 0 (omega arith) (omega arith)
+
+  pair_block : (d : Row) → merged_block rows (i ∷ j ∷ []) ≡ merge_two (get_or rows i d).block (get_or rows j d).block
+  pair_block d =
+      ap (λ l. merge_of (map (λ (x : Row). x.block) l))
+      (ap (λ o. cons_option o (rows_at rows (j ∷ []))) (slice_get-get_or rows i d first_within) ∙ ap (λ o. get_or rows i d ∷ cons_option o []) (slice_get-get_or rows j d second_within))
+
+  pair_bits : (d : Row) → (get_or rows i d).route.bits ≡ (get_or rows j d).route.bits
+  pair_bits d = ap (λ x. x.bits) (set.set.one_route 0 1 0 (omega arith) (omega arith) d)
+
+  -- a pair that is refused is not legal
+  pub refused_illegal : (gs : List Guard) → IsSound rows → length gs ≡ length rows → AreGuards rows gs → IsRefusedAt rows gs i j → IsLegal rows (i ∷ j ∷ []) → ⊥
+  refused_illegal gs sound same guards refused legal = by_case (refused d e (pair_bits d))
+    where
+      d : Row
+      d = merge_rows []
+
+      e : Guard
+      e = record { rival = 0; clear = 0; tried = 0; changed = 0 }
+
+      m : Block
+      m = merge_two (get_or rows i d).block (get_or rows j d).block
+
+      by_guard : (s : ℕ) → has (i ∷ j ∷ []) s ≡ true → s < length gs → (get_or gs s e).rival ≤ generality m → ⊥
+      by_guard s member inside low =
+          let at : generality (merged_block rows (i ∷ j ∷ [])) ≡ generality m = ap generality (pair_block d) in
+          guard_refuses rows (i ∷ j ∷ []) set.set sound.ordered s member (get_or gs s e) (guards s e inside) (generality (merged_block rows (i ∷ j ∷ []))) (omega (arith, at, low)) (generality_le (merged_block rows (i ∷ j ∷ [])))
+          (up_from_legal rows (i ∷ j ∷ []) sound set.set.in_range legal s member)
+
+      met_by : HasMet rows m → ⊥
+      met_by met =
+          let down = down_from_legal rows (i ∷ j ∷ []) sound set.set.in_range legal in
+          let at : generality (merged_block rows (i ∷ j ∷ [])) ≡ generality m = ap generality (pair_block d) in
+          met (λ k x within above. subst (λ b. Misses b (get_or rows k x)) (pair_block d) (down k x (behind k x above at (cases_lt k (insert_place rows (i ∷ j ∷ [])))) within))
+        where
+          behind : (k : ℕ) (x : Row) → generality m < generality (get_or rows k x).block → generality (merged_block rows (i ∷ j ∷ [])) ≡ generality m → (k < insert_place rows (i ∷ j ∷ [])) ⊎ (insert_place rows (i ∷ j ∷ []) ≤ k) → insert_place rows (i ∷ j ∷ []) ≤ k
+          behind k x above at (inl before) = absurd (omega (arith, above, at, place_for-below rows (generality (merged_block rows (i ∷ j ∷ []))) sound.ordered k x before))
+          behind k x above at (inr from) = from
+
+      by_case : ((get_or gs i e).rival ≤ generality m) ⊎ (((get_or gs j e).rival ≤ generality m) ⊎ HasMet rows m) → ⊥
+      by_case (inl low) = by_guard i (has-at (i ∷ j ∷ []) 0 (omega arith)) (omega (arith, same, first_within)) low
+      by_case (inr (inl low)) = by_guard j (has-at (i ∷ j ∷ []) 1 (omega arith)) (omega (arith, same, second_within)) low
+      by_case (inr (inr met)) = met_by met
+
+  -- ---- what the code reads
+
+  module _ (gs : List Guard) (same : length gs ≡ length rows) (z : Guard) where
+    first_at : (e : Guard) → get_or gs i z ≡ get_or gs i e
+    first_at e = get_or_default gs i z e (omega (arith, same, first_within))
+
+    second_at : (e : Guard) → get_or gs j z ≡ get_or gs j e
+    second_at e = get_or_default gs j z e (omega (arith, same, second_within))
+
+    pub tried_read : AreTried rows gs → (get_or gs j z).changed < (get_or gs i z).tried → IsRefusedAt rows gs i j
+    tried_read tried less d e = tried i j d e in_order (omega (arith, same, second_within)) (omega (arith, less, ap (λ (x : Guard). x.changed) (second_at e), ap (λ (x : Guard). x.tried) (first_at e)))
+
+    pub refused_read : (list : List Row) → list ≡ rows → (a b : Row) (m : Block) → m ≡ merge_two (get_or list i a).block (get_or list j b).block → (g : ℕ) → g ≡ generality m
+        → ((get_or gs i z).rival ≤ g) ⊎ (((get_or gs j z).rival ≤ g) ⊎ HasMet list m) → IsRefusedAt rows gs i j
+    refused_read list is a b m is_m g is_g cause d e bits = by_case cause
+      where
+        a_at : get_or list i a ≡ get_or rows i d
+        a_at = ap (λ l. get_or l i a) is ∙ get_or_default rows i a d first_within
+
+        b_at : get_or list j b ≡ get_or rows j d
+        b_at = ap (λ l. get_or l j b) is ∙ get_or_default rows j b d second_within
+
+        m_at : m ≡ merge_two (get_or rows i d).block (get_or rows j d).block
+        m_at = is_m ∙ ap (λ (x : Row). merge_two x.block (get_or list j b).block) a_at ∙ ap (λ (x : Row). merge_two (get_or rows i d).block x.block) b_at
+
+        level : g ≡ generality (merge_two (get_or rows i d).block (get_or rows j d).block)
+        level = is_g ∙ ap generality m_at
+
+        by_case : ((get_or gs i z).rival ≤ g) ⊎ (((get_or gs j z).rival ≤ g) ⊎ HasMet list m)
+            → ((get_or gs i e).rival ≤ generality (merge_two (get_or rows i d).block (get_or rows j d).block)) ⊎ (((get_or gs j e).rival ≤ generality (merge_two (get_or rows i d).block (get_or rows j d).block)) ⊎ HasMet rows (merge_two (get_or rows i d).block (get_or rows j d).block))
+        by_case (inl low) = inl (omega (arith, low, level, ap (λ (x : Guard). x.rival) (first_at e)))
+        by_case (inr (inl low)) = inr (inl (omega (arith, low, level, ap (λ (x : Guard). x.rival) (second_at e))))
+        by_case (inr (inr met)) = inr (inr (subst (λ l. HasMet l (merge_two (get_or rows i d).block (get_or rows j d).block)) is (subst (HasMet list) m_at met)))
+
+-- where the down-check is false, the merge meets an alias of a row of greater generality
+pub met_read : (list : List Row) (m : Block) (g p : ℕ) (t : Bool) → IsOrdered list → g ≡ generality m → p ≡ place_for list g → (IsTrue t) ↔ (PassesDown list m p) → not t ≡ true → HasMet list m
+met_read list m g p t ordered is_g is_p tells came all =
+    fails (PassesDown list m p) t tells (from_not t came) (λ r d from within. all r d within (above r d from within (cases_lt (generality m) (generality (get_or list r d).block))))
+  where
+    from_not : (u : Bool) → not u ≡ true → u ≡ false
+    from_not true e = sym e
+    from_not false e = refl
+
+    above : (r : ℕ) (d : Row) → p ≤ r → r < length list → (generality m < generality (get_or list r d).block) ⊎ (generality (get_or list r d).block ≤ generality m) → generality m < generality (get_or list r d).block
+    above r d from within (inl high) = high
+    above r d from within (inr low) = absurd (omega (arith, is_p, from, place_for-above list g ordered r d within (omega (arith, low, is_g))))
+
+-- ---- the pairs of a row
+
+-- up to the next row of the route there is none of it
+pub refused_first : (rows : List Row) (gs : List Guard) (i j : ℕ) → IsNext rows i j → (b : ℕ) → i < b → b < j → b < length rows → IsRefusedAt rows gs i b
+refused_first rows gs i j next b from before within d e bits = absurd (next.between b d from before within (sym bits))
+
+pub refused_next : (rows : List Row) (gs : List Guard) (i j x : ℕ) → j < length rows → ((d : Row) → (get_or rows j d).route.bits ≡ (get_or rows i d).route.bits) → IsNext rows j x → IsRefusedAt rows gs i j
+    → ((b : ℕ) → i < b → b < j → b < length rows → IsRefusedAt rows gs i b) → (b : ℕ) → i < b → b < x → b < length rows → IsRefusedAt rows gs i b
+refused_next rows gs i j x inside same next here before b from to within = elim (cases_order b j) [
+  | inl at ↦ subst (IsRefusedAt rows gs i) (sym at) here
+  | inr apart ↦ elim apart [
+    | inl earlier ↦ before b from earlier within
+    | inr later ↦ λ d e bits. absurd (next.between b d later to within (sym bits ∙ sym (same d)))
+  ]
+]
+
+-- ---- the rows that changed last
+
+-- one row more, by the next of its route
+latest_here : (rows : List Row) (gs : List Guard) (k x v t : ℕ) → length gs ≡ length rows → IsNext rows k x → ((e : Guard) → x < length gs → (get_or gs x e).changed ≤ v) → (x < length gs → t ≤ v) → (x < length rows → IsLatest rows gs x t) → IsLatest rows gs k v
+latest_here rows gs k x v t same next here later rest b d e behind within bits = elim (cases_order b x) [
+  | inl at ↦ subst (λ n. (get_or gs n e).changed ≤ v) (sym at) (here e (omega (arith, at, same, within)))
+  | inr apart ↦ elim apart [
+    | inl before ↦ absurd (next.between b d behind before within (sym bits))
+    | inr after ↦
+        let inside : x < length rows = omega (arith, after, within) in
+        omega (arith, later (omega (arith, inside, same)), rest inside b d e after within (next.same d inside ∙ bits))
+  ]
+]
+
+pub latest_more : (rows : List Row) (gs : List Guard) (now new : List ℕ) (k x v : ℕ) → length gs ≡ length rows → length now ≡ length rows → k < length rows → IsNext rows k x → ((e : Guard) → x < length gs → (get_or gs x e).changed ≤ v) → (x < length gs → get_or now x 0 ≤ v)
+    → new ≡ set now k v → ((j : ℕ) → k + 1 ≤ j → j < length rows → IsLatest rows gs j (get_or now j 0)) → (j : ℕ) → k ≤ j → j < length rows → IsLatest rows gs j (get_or new j 0)
+latest_more rows gs now new k x v same times inside next here later is done j from within = subst (λ l. IsLatest rows gs j (get_or l j 0)) (sym is) (by_case (cases_order j k))
+  where
+    by_case : (j ≡ k) ⊎ ((j < k) ⊎ (k < j)) → IsLatest rows gs j (get_or (set now k v) j 0)
+    by_case (inl at) =
+        subst (IsLatest rows gs j) (sym (get_or-set_at now k j v 0 at (omega (arith, times, inside))))
+        (subst (λ n. IsLatest rows gs n v) (sym at) (latest_here rows gs k x v (get_or now x 0) same next here later (λ in_rows. done x (omega (arith, next.behind)) in_rows)))
+    by_case (inr (inl before)) = absurd (omega (arith, before, from))
+    by_case (inr (inr after)) = subst (IsLatest rows gs j) (sym (get_or-set_other now k j v 0 (λ at. omega (arith, at, after)))) (done j (omega (arith, after)) within)
+
+-- a mark changes no time
+pub latest_kept : (now : ℕ) (rows : List Row) (gs new : List Guard) (latest : List ℕ) (s : ℕ) (g old : Guard) (settled : Bool) → length gs ≡ length rows → s < length gs → old ≡ get_or gs s old → new ≡ set gs s g → (g ≡ old) ⊎ ((IsTrue settled) × (IsMarked now old g))
+    → AreLatest rows gs latest → AreLatest rows new latest
+latest_kept now rows gs new latest s g old settled same inside is_old is told each k in_rows b d e behind within bits = subst (λ l. (get_or l b e).changed ≤ get_or latest k 0) (sym is) (by_case (cases_order b s))
+  where
+    before : (get_or gs b e).changed ≤ get_or latest k 0
+    before = each k in_rows b d e behind within bits
+
+    changed_at : (g ≡ old) ⊎ ((IsTrue settled) × (IsMarked now old g)) → g.changed ≡ (get_or gs s e).changed
+    changed_at (inl kept) = ap (λ (x : Guard). x.changed) (kept ∙ is_old ∙ get_or_default gs s old e inside)
+    changed_at (inr (yes_settled, mark)) = mark.changed ∙ ap (λ (x : Guard). x.changed) (is_old ∙ get_or_default gs s old e inside)
+
+    by_case : (b ≡ s) ⊎ ((b < s) ⊎ (s < b)) → (get_or (set gs s g) b e).changed ≤ get_or latest k 0
+    by_case (inl at) = subst (λ (x : Guard). x.changed ≤ get_or latest k 0) (sym (get_or-set_at gs s b g e at inside)) (omega (arith, changed_at told, ap (λ n. (get_or gs n e).changed) at, before))
+    by_case (inr apart) = subst (λ (x : Guard). x.changed ≤ get_or latest k 0) (sym (get_or-set_other gs s b g e (differs apart))) before
+      where
+        differs : (b < s) ⊎ (s < b) → b ≡ s → ⊥
+        differs (inl less) at = omega (arith, less, at)
+        differs (inr less) at = omega (arith, less, at)
+
+-- where none behind it changed since it was tried, a row is still refused with each
+pub still_refused : (rows : List Row) (gs : List Guard) (i t : ℕ) (z : Guard) → length gs ≡ length rows → i < length rows → AreTried rows gs → IsLatest rows gs i t → t < (get_or gs i z).tried → (b : ℕ) → i < b → b < length rows → IsRefusedAt rows gs i b
+still_refused rows gs i t z same inside tried latest less b behind within d e bits =
+    tried i b d e behind (omega (arith, same, within)) (omega (arith, less, latest b d e behind within bits, ap (λ (x : Guard). x.tried) (get_or_default gs i z e (omega (arith, same, inside))))) bits
+
+pub refused_alone : (rows : List Row) (gs : List Guard) (i : ℕ) → IsSound rows → length gs ≡ length rows → AreGuards rows gs → ((b : ℕ) → i < b → b < length rows → IsRefusedAt rows gs i b) → (b : ℕ) → IsLegalPair rows i b → ⊥
+refused_alone rows gs i sound same guards all b pair = refused_illegal rows i b pair.set gs sound same guards (all b (in_order rows i b pair.set) (second_within rows i b pair.set)) pair.legal

@@ -1,0 +1,53 @@
+-- Which pairs of rows were tried and stay refused. It saves trying them again after each merge.
+use Rattle.std.specs.Prelude.{◌≡◌, ℕ, ◌<◌, ◌≤◌, ◌⊎◌, List, All, length, slice_index, slice_index_or}
+use Rattle.spin_base.specs.declared.blocks.Block.{Block}
+use Rattle.tern_word.specs.declared.tables.Row.{Row}
+use Rattle.tern_word.specs.Ternary.{generality, merge_two}
+use Rattle.tern_word.specs.SoundTable.{Misses}
+use Rattle.cover_merge.specs.declared.guards.Guard.{Guard}
+
+-- the block meets an alias of a row of greater generality
+abbrev pub HasMet : List Row → Block → Type 0
+HasMet rows b = All (λ (x : Row). generality b < generality x.block → Misses b x) rows → ⊥
+
+-- Two rows of one route are refused where one of them has a rival of at most the generality of their merge, or where
+-- the merge meets an alias of a row of greater generality. The numbers are the generalities of their first rivals.
+abbrev pub IsRefused : List Row → Row → ℕ → Row → ℕ → Type 0
+IsRefused rows r m s n =
+    r.route.bits ≡ s.route.bits → (m ≤ generality (merge_two r.block s.block)) ⊎ ((n ≤ generality (merge_two r.block s.block)) ⊎ HasMet rows (merge_two r.block s.block))
+
+-- the same of the rows at two places, by what their guards tell
+abbrev pub IsRefusedAt : List Row → List Guard → ℕ → ℕ → Type 0
+IsRefusedAt rows guards i j = (d : Row) (e : Guard) → IsRefused rows (slice_index_or rows i d) (slice_index_or guards i e).rival (slice_index_or rows j d) (slice_index_or guards j e).rival
+
+-- a row is refused with each later one that has not changed since the row was tried
+abbrev pub AreTried : List Row → List Guard → Type 0
+AreTried rows guards =
+    (i j : ℕ) (d : Row) (e : Guard) → i < j → j < length guards → (slice_index_or guards j e).changed < (slice_index_or guards i e).tried
+    → IsRefused rows (slice_index_or rows i d) (slice_index_or guards i e).rival (slice_index_or rows j d) (slice_index_or guards j e).rival
+
+-- and no row was tried later than now
+pub record AreMarked (now : ℕ) (rows : List Row) (guards : List Guard) : Type 0 where
+  pub tried : AreTried rows guards
+  pub bound : All (λ (g : Guard). g.tried ≤ now) guards
+
+-- the guard of a row that changed now and was not tried
+pub record IsFresh (now : ℕ) (guard : Guard) : Type 0 where
+  pub tried : guard.tried ≡ 0
+  pub changed : guard.changed ≡ now
+
+-- the same guard, of a row that was tried now
+pub record IsMarked (now : ℕ) (old new : Guard) : Type 0 where
+  pub rival : new.rival ≡ old.rival
+  pub clear : new.clear ≡ old.clear
+  pub changed : new.changed ≡ old.changed
+  pub tried : new.tried ≡ now
+
+-- no row behind row k of its route changed after the time
+abbrev pub IsLatest : List Row → List Guard → ℕ → ℕ → Type 0
+IsLatest rows guards k time =
+    (b : ℕ) (d : Row) (e : Guard) → k < b → b < length rows → (slice_index_or rows k d).route.bits ≡ (slice_index_or rows b d).route.bits → (slice_index_or guards b e).changed ≤ time
+
+-- for each row such a time
+abbrev pub AreLatest : List Row → List Guard → List ℕ → Type 0
+AreLatest rows guards latest = (k : ℕ) → k < length rows → IsLatest rows guards k (slice_index latest k)
