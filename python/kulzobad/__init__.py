@@ -1,0 +1,18 @@
+"""Jobs for the SpiNNaker multicast tool chain: written, handed to its program, and what it answers as objects.
+
+    from kulzobad import Job, Machine, Net, Packet, Vertex, run
+
+    job = Job(Machine(1, 1), [Vertex("a"), Vertex("b")], [Net("n", "a", ["b"])], packets=[Packet("n")])
+    for delivery in run(job).deliveries:
+        print(delivery.vertex, delivery.packet)
+
+The package has no rules of its own: placements, keys, tables and refusals are those of the program.
+"""
+from .jobs import Job, Machine, Net, Packet, Vertex
+from .program import Refused, run, tables
+from .reports import Delivery, Dump, Keys, Place, Plan, Report, Row, Table, Wait, links_of, cores_of
+
+__all__ = [
+    "Delivery", "Dump", "Job", "Keys", "Machine", "Net", "Packet", "Place", "Plan", "Refused", "Report", "Row", "Table", "Vertex",
+    "Wait", "cores_of", "links_of", "run", "tables",
+]

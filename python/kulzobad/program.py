@@ -1,0 +1,60 @@
+"""Calls the program."""
+from __future__ import annotations
+
+import os
+import subprocess
+from pathlib import Path
+from typing import Any, Optional
+
+from .jobs import Job
+from .reports import Plan, Report, read
+
+REPOSITORY = Path(__file__).resolve().parents[2]
+
+KINDS = {
+    1: "usage", 2: "read fault", 3: "write fault", 4: "bad job", 5: "no room", 6: "keys out", 7: "cut off", 8: "table long",
+    9: "out of memory", 10: "unbuilt", 11: "words",
+}
+
+
+class Refused(Exception):
+    """The program gave no output. `status` is its status and `kind` that status in words; for a bad job `fault` is what is
+    wrong ("shape", "range", ..), `path` where, and `member` the part of the job that stands there."""
+
+    def __init__(self, status: int, line: str, job: Optional[Job] = None) -> None:
+        self.status, self.line = status, line
+        self.kind = KINDS.get(status, "unknown")
+        self.fault: Optional[str] = None
+        self.path: Optional[str] = None
+        self.member: Any = None
+        rest = line[len("bad job: "):].split(" ") if line.startswith("bad job: ") else []
+        at = next((i for i, word in enumerate(rest) if word == "job" or word.startswith("job.")), None)
+        if at is not None:
+            self.fault, self.path = " ".join(rest[:at]), rest[at]
+            self.member = job.member(self.path) if job else None
+        shown = f", which is {self.member!r}" if self.member is not None else ""
+        super().__init__(f"{line or self.kind} (status {status}){shown}")
+
+
+def program_of(program: Optional[str]) -> str:
+    """The program to call: the one named, that of the variable KULZOBAD_SPIN, or the launcher of this repository."""
+    return program or os.environ.get("KULZOBAD_SPIN") or str(REPOSITORY / "spin")
+
+
+def answer(word: str, job: Job, program: Optional[str]) -> str:
+    """What the program writes for the job. Refused where its status is not 0."""
+    done = subprocess.run([program_of(program), word], input=job.text().encode(), stdout=subprocess.PIPE, check=False)
+    text = done.stdout.decode()
+    if done.returncode:
+        raise Refused(done.returncode, text.rstrip("\n"), job)
+    return text
+
+
+def run(job: Job, program: Optional[str] = None) -> Report:
+    """Compiles the job and runs its packets."""
+    return read(answer("run", job, program))
+
+
+def tables(job: Job, program: Optional[str] = None) -> Plan:
+    """Compiles the job: where its vertices stand, which keys its nets have, and its tables."""
+    return read(answer("tables", job, program)).plan
