@@ -1,1 +1,2 @@
 pub mod ValidGraph
+pub mod RunPart

@@ -6,7 +6,8 @@ use Rattle.serde_json.specs.Find.{as_array}
 use Rattle.serde_json.specs.View.{items_of}
 use Rattle.app_graph.specs.declared.graphs.Net.{Net}
 use Rattle.job_text.proofs.Items.{list_of-items_of}
-use Rattle.job_readers.specs.RunPart.{keys_of, items_in}
+use Rattle.app_graph.specs.RunPart.{keys_of}
+use Rattle.job_readers.specs.RunPart.{items_in}
 
 -- what stands at a place
 pub at_place : {A : Type 0} (xs : List A) (i : ℕ) (x : A) → slice_get xs i ≡ Some x → get_or xs i x ≡ x

@@ -1,6 +1,6 @@
 -- The run part of a job: its faults in the order of reading, and what it is (this project's own). Where a part has
 -- faults, its value is what could be read, and 0 or nothing in place of the rest.
-use Rattle.std.specs.Prelude.{ℕ, ◌<◌, ◌≤◌, All, ◌+◌, ◌-◌, ◌*◌, List, [], ◌∷◌, ◌++◌, length, slice_index, Bool, true, false, ◌&&◌, ◌||◌, nat_le, is_some, bytes_eq, decimal, if◌then◌else◌, Option, Some, None, map, option_map, option_and_then, unwrap_or, codes}
+use Rattle.std.specs.Prelude.{ℕ, ◌+◌, ◌-◌, ◌*◌, List, [], ◌∷◌, ◌++◌, length, Bool, true, false, ◌&&◌, ◌||◌, nat_le, is_some, bytes_eq, decimal, if◌then◌else◌, Option, Some, None, map, option_map, option_and_then, unwrap_or, codes}
 use Rattle.std.specs.List.{range_with_len}
 use Rattle.serde_json.specs.Data.{Data}
 use Rattle.serde_json.specs.Find.{as_str, as_array}
@@ -10,7 +10,6 @@ use Rattle.spin_base.specs.declared.chips.Port.TheVariants as ports
 use Rattle.spin_base.specs.declared.routes.Out.{Out}
 use Rattle.spin_base.specs.declared.routes.Out.TheVariants as outs
 use Rattle.spin_base.specs.declared.chips.Dir.{Dir}
-use Rattle.spin_base.specs.Outputs.{IsOutput}
 use Rattle.spin_base.specs.declared.copies.Packet.{Packet}
 use Rattle.spin_base.specs.declared.copies.Event.{Event}
 use Rattle.spin_base.specs.declared.copies.Event.TheVariants.{Inject, Take, Send, Dump, Collect}
@@ -20,6 +19,7 @@ use Rattle.app_graph.specs.declared.graphs.Vertex.{Vertex}
 use Rattle.app_graph.specs.declared.graphs.Net.{Net}
 use Rattle.app_graph.specs.declared.graphs.Graph.{Graph}
 use Rattle.app_graph.specs.declared.graphs.RunPart.{RunPart}
+use Rattle.app_graph.specs.RunPart.{keys_of}
 use Rattle.job_text.specs.declared.faults.JobFault.{JobFault}
 use Rattle.job_text.specs.declared.faults.JobFault.TheVariants.{Shape, Range}
 use Rattle.job_text.specs.Reading.{◌▹◌}
@@ -33,12 +33,9 @@ use Rattle.job_readers.specs.Entries.{chip_at, link_of}
 
 -- ---- packets
 
--- the names of nets, and how many keys each has
+-- the names of nets
 unfoldable pub net_names : List Net → List (List ℕ)
 net_names nets = map (λ (n : Net). n.name) nets
-
-unfoldable pub keys_of : List Net → ℕ → ℕ
-keys_of nets i = slice_index (map (λ (n : Net). n.keys) nets) i
 
 unfoldable pub packet_net_faults : List Net → List ℕ → Data → List JobFault
 packet_net_faults nets path d = reference_faults (net_names nets) (member_at path (codes "net")) (member_of (codes "net") d)
@@ -66,10 +63,6 @@ unfoldable pub packets_faults : List Net → List ℕ → Data → List JobFault
 packets_faults nets path d =
     list_member_faults path (codes "packets") false 65536 d
     ++ items_faults (packet_faults nets) (member_at path (codes "packets")) 0 (list_member (codes "packets") d)
-
--- the net is one of the nets, and the index below its number of keys
-abbrev pub IsPacketOf : List Net → Packet → Type 0
-IsPacketOf nets p = (p.net < length nets) × (p.index < keys_of nets p.net)
 
 unfoldable pub packets_value : List Net → Data → List Packet
 packets_value nets d = map (packet_value nets) (list_member (codes "packets") d)
@@ -201,14 +194,6 @@ events_faults vertices path d =
     long_list_member_faults path (codes "events") false d
     ++ items_faults (event_faults (vertex_names_of vertices)) (member_at path (codes "events")) 0 (list_member (codes "events") d)
 
--- a vertex of an event is one of n, and an output of an event is a link or a core
-abbrev pub IsEventOf : ℕ → Event → Type 0
-IsEventOf n (Inject v) = v < n
-IsEventOf n (Take c p) = Unit {0}
-IsEventOf n (Send c o) = IsOutput o
-IsEventOf n (Dump c o) = IsOutput o
-IsEventOf n (Collect v) = v < n
-
 unfoldable pub events_value : List Vertex → Data → List Event
 events_value vertices d = map (event_value (vertex_names_of vertices)) (list_member (codes "events") d)
 
@@ -254,14 +239,3 @@ run_faults machine graph job =
 
 unfoldable pub run_value : Graph → Data → RunPart
 run_value graph job = run_members graph (object_value (member_of (codes "run") job))
-
--- what holds of each run part that was read for a graph
-pub record IsRunOf (graph : Graph) (run : RunPart) : Type 0 where
-  pub queue : (1 ≤ run.queue) × (run.queue ≤ 65536)
-  pub patience : (1 ≤ run.patience) × (run.patience ≤ 255)
-  pub workers : (1 ≤ run.workers) × (run.workers ≤ 64)
-  pub turns : (1 ≤ run.turns) × (run.turns ≤ 64)
-  pub target : run.target ≤ 1024
-  pub few_packets : length run.packets ≤ 65536
-  pub packets : All (IsPacketOf graph.nets) run.packets
-  pub events : All (IsEventOf (length graph.vertices)) run.events

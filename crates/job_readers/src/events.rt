@@ -4,8 +4,9 @@ ghost use Rattle.serde_json.specs.View.{view};
 ghost use Rattle.spin_base.specs.Outputs.{IsOutput};
 ghost use Rattle.job_text.specs.Reading.{Gives};
 ghost use Rattle.app_graph.specs.ValidGraph.{IsValidGraph};
+ghost use Rattle.app_graph.specs.RunPart.{IsEventOf};
 ghost use Rattle.job_readers.specs.Items.{items_faults};
-ghost use Rattle.job_readers.specs.RunPart.{link_named, core_named, port_named, out_named, one_text, chip_and_text, items_in, at_vertex_faults, at_vertex, at_chip_faults, chip_of_event, port_of_event, out_of_event, worded_faults, worded_event, event_faults, event_value, vertex_names_of, events_faults, events_value, IsEventOf};
+ghost use Rattle.job_readers.specs.RunPart.{link_named, core_named, port_named, out_named, one_text, chip_and_text, items_in, at_vertex_faults, at_vertex, at_chip_faults, chip_of_event, port_of_event, out_of_event, worded_faults, worded_event, event_faults, event_value, vertex_names_of, events_faults, events_value};
 
 use crate::graph_parts::names_of_vertices;
 use crate::members::long_list_of;

@@ -3,7 +3,7 @@ ghost use Rattle.std.specs.Prelude.{◌≡◌, IfOk};
 ghost use Rattle.serde_json.specs.View.{view};
 ghost use Rattle.job_text.specs.Reading.{Gives};
 ghost use Rattle.app_graph.specs.ValidGraph.{IsValidGraph};
-ghost use Rattle.job_readers.specs.RunPart.{IsRunOf};
+ghost use Rattle.app_graph.specs.RunPart.{IsRunOf};
 ghost use Rattle.job_readers.specs.WholeJob.{job_faults, job_value};
 
 use crate::graph_parts::graph_of;

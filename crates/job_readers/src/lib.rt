@@ -13,8 +13,6 @@ mod machine_parts;
 mod members;
 mod names;
 mod run_parts;
-#[cfg(test)]
-mod tests;
 mod versions;
 
 pub use graph_parts::graph_of;

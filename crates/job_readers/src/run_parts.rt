@@ -6,10 +6,11 @@ ghost use Rattle.job_text.specs.Fields.{object_value};
 ghost use Rattle.job_text.specs.Reading.{Gives, ◌▹◌};
 ghost use Rattle.machine_desc.specs.Live.{live_count_of};
 ghost use Rattle.app_graph.specs.ValidGraph.{IsValidGraph};
+ghost use Rattle.app_graph.specs.RunPart.{keys_of, IsPacketOf, IsRunOf};
 ghost use Rattle.job_readers.specs.Items.{items_faults};
 ghost use Rattle.job_readers.specs.Members.{number_member_faults, number_member, optional_number};
 ghost use Rattle.job_readers.specs.Job.{own_faults};
-ghost use Rattle.job_readers.specs.RunPart.{net_names, keys_of, packet_net_faults, packet_net, packet_faults, packet_value, packets_faults, packets_value, IsPacketOf, vertex_names_of, events_faults, events_value, IsEventOf, places_faults, run_members_faults, run_members, optional_object_faults, run_faults, run_value, IsRunOf};
+ghost use Rattle.job_readers.specs.RunPart.{net_names, packet_net_faults, packet_net, packet_faults, packet_value, packets_faults, packets_value, vertex_names_of, events_faults, events_value, places_faults, run_members_faults, run_members, optional_object_faults, run_faults, run_value};
 
 use crate::events::events;
 use crate::members::{list_of, number_of};

@@ -26,7 +26,7 @@ use Rattle.one_chip_run.specs.OnOneChip.{AreSources}
 use Rattle.one_chip_run.specs.HasRun.{HasRun}
 use Rattle.par_compile.specs.declared.compiling.Plan.{Plan}
 use Rattle.par_compile.specs.Compiled.{blocks_of, IsPlanOf}
-use Rattle.job_readers.specs.RunPart.{IsPacketOf, IsRunOf, keys_of}
+use Rattle.app_graph.specs.RunPart.{IsPacketOf, IsRunOf, keys_of}
 use Rattle.job_runs.specs.OpenedFor.{loaded, opened_for}
 use Rattle.job_runs.proofs.Pairs.{all_at, zip_at, zip_at', first_at, vertex_is}
 

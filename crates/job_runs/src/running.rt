@@ -2,7 +2,7 @@
 ghost use Rattle.std.specs.Prelude.{◌≡◌, map, All, IfOk};
 ghost use Rattle.app_graph.specs.declared.graphs.Net.{Net};
 ghost use Rattle.app_graph.specs.ValidGraph.{IsValidGraph};
-ghost use Rattle.job_readers.specs.RunPart.{IsRunOf};
+ghost use Rattle.app_graph.specs.RunPart.{IsRunOf};
 ghost use Rattle.mesh_core.specs.Opened.{MeetsJobLedger};
 ghost use Rattle.mesh_core.specs.Expected.{AreAsExpected};
 ghost use Rattle.one_chip_run.specs.OnOneChip.{IsOneChip};

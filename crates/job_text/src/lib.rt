@@ -10,8 +10,6 @@ mod fields;
 mod members;
 mod parses;
 mod paths;
-#[cfg(test)]
-mod tests;
 
 pub use faults::{JobFault, TextErr};
 pub use fields::{

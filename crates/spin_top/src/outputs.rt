@@ -3,7 +3,7 @@ ghost use Rattle.std.specs.Prelude.{◌≡◌, [], IfOk};
 ghost use Rattle.serde_json.specs.View.{view};
 ghost use Rattle.app_graph.specs.ValidGraph.{IsValidGraph};
 ghost use Rattle.job_readers.specs.MachinePart.{machine_faults, machine_value};
-ghost use Rattle.job_readers.specs.RunPart.{IsRunOf as IsRunPartOf};
+ghost use Rattle.app_graph.specs.RunPart.{IsRunOf as IsRunPartOf};
 ghost use Rattle.one_chip_run.specs.OnOneChip.{IsOneChip};
 ghost use Rattle.spin_top.specs.Runs.{IsOutputOf, IsPlanned};
 ghost use Rattle.spin_top.specs.declared.commands.Command.TheVariants.{Run, Tables};

@@ -2,7 +2,7 @@
 ghost use Rattle.std.specs.Prelude.{◌≡◌, ◌⊎◌, [], Ok, Err, IfOk, IfErr};
 ghost use Rattle.serde_json.specs.View.{view};
 ghost use Rattle.app_graph.specs.ValidGraph.{IsValidGraph};
-ghost use Rattle.job_readers.specs.RunPart.{IsRunOf};
+ghost use Rattle.app_graph.specs.RunPart.{IsRunOf};
 ghost use Rattle.job_readers.specs.MachinePart.{machine_faults, machine_value};
 ghost use Rattle.spin_top.specs.Causes.{IsFailure};
 ghost use Rattle.spin_top.specs.Jobs.{IsOfText, IsValueOf, TellsRefusal, job_of as job_that_is};

@@ -3,7 +3,7 @@ ghost use Rattle.std.specs.Prelude.{◌≡◌, ◌⊎◌, [], Some, None, IfOk, 
 ghost use Rattle.serde_json.specs.View.{view};
 ghost use Rattle.app_graph.specs.ValidGraph.{IsValidGraph};
 ghost use Rattle.job_readers.specs.MachinePart.{machine_faults, machine_value};
-ghost use Rattle.job_readers.specs.RunPart.{IsRunOf as IsRunPartOf};
+ghost use Rattle.app_graph.specs.RunPart.{IsRunOf as IsRunPartOf};
 ghost use Rattle.mesh_core.specs.Opened.{MeetsJobLedger};
 ghost use Rattle.plan_reports.specs.Listed.{IsReported};
 ghost use Rattle.spin_base.specs.Outside.{FaultsRose, Takes, TakesProperPrefix};

@@ -2,7 +2,8 @@ use Rattle.std.proofs.Common.{◌≡◌, ◌<◌, length, map, take, drop}
 use Rattle.std.specs.Prelude.{All}
 use Rattle.serde_json.specs.View.{view}
 use Rattle.job_readers.specs.Items.{items_faults}
-use Rattle.job_readers.specs.RunPart.{event_faults, event_value, IsEventOf}
+use Rattle.app_graph.specs.RunPart.{IsEventOf}
+use Rattle.job_readers.specs.RunPart.{event_faults, event_value}
 use Rattle.job_readers.proofs.events.each_event.Given as goal
 
 abbrev pub invariant-loop-i : goal.invariant-loop-i

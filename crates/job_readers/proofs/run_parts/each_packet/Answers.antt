@@ -3,7 +3,8 @@ use Rattle.std.proofs.lemmas.List.Elements.{All-push}
 use Rattle.std.proofs.lemmas.Result.{err_from_is_err_and}
 use Rattle.serde_json.specs.View.{view}
 use Rattle.job_readers.specs.Items.{items_faults}
-use Rattle.job_readers.specs.RunPart.{packet_faults, packet_value, IsPacketOf}
+use Rattle.app_graph.specs.RunPart.{IsPacketOf}
+use Rattle.job_readers.specs.RunPart.{packet_faults, packet_value}
 use Rattle.job_readers.proofs.ItemSteps.{items-more, items-fail, values-more, items-none, values-all}
 use Rattle.job_readers.proofs.run_parts.each_packet.Goals as goal
 

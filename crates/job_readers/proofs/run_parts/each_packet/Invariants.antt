@@ -2,7 +2,8 @@ use Rattle.std.proofs.Common.{◌≡◌, ◌<◌, length, map, take, drop}
 use Rattle.std.specs.Prelude.{All}
 use Rattle.serde_json.specs.View.{view}
 use Rattle.job_readers.specs.Items.{items_faults}
-use Rattle.job_readers.specs.RunPart.{packet_faults, packet_value, IsPacketOf}
+use Rattle.app_graph.specs.RunPart.{IsPacketOf}
+use Rattle.job_readers.specs.RunPart.{packet_faults, packet_value}
 use Rattle.job_readers.proofs.run_parts.each_packet.Given as goal
 
 abbrev pub invariant-loop-i : goal.invariant-loop-i
