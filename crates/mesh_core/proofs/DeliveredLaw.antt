@@ -160,7 +160,7 @@ module _ (s : State) (nets : List NetPlan) (packets : List Packet) (job : MeetsJ
       at_place (z ∷ zs) (suc i) within = at_place zs i (omega arith)
 
       at_end : (v : Spot) (zs : List Exit) (i : ℕ) (z : Exit) → suc i ≡ length zs → ExitLeads s.setup.machine net.tree.edges v zs i z → z.chip ≡ v.chip
-      at_end v zs i z last (inl (d, out, in_tree, y, far, next)) = let past = place_below zs (suc i) y next in absurd (omega arith)
+      at_end v zs i z last (inl (d, out, in_tree, (y, far, next))) = let past = place_below zs (suc i) y next in absurd (omega arith)
       at_end v zs i z last (inr (chip, out, long)) = sym chip
 
       last_exit : (v : Spot) (zs : List Exit) → IsBranch s.setup.machine net.tree.root net.tree.edges v zs →

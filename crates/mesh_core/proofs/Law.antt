@@ -25,7 +25,7 @@ use Rattle.machine_desc.specs.declared.trees.Edge.{Edge}
 use Rattle.machine_desc.specs.Live.{far_of, is_live_link, IsLiveLink, IsSite}
 use Rattle.machine_desc.specs.Branch.{Exit, IsBranch, arrival_at}
 use Rattle.machine_desc.proofs.Branches.{ComesBy, comes_by, exit_leads, ExitLeads, exit_of}
-use Rattle.machine_desc.proofs.Trees.{one_edge_into}
+use Rattle.machine_desc.proofs.TreeLemmas.{one_edge_into}
 use Rattle.machine_desc.proofs.Sites.{end_is_no_live_link, same_site}
 use Rattle.machine_desc.proofs.Far.{opposite_of-opposite}
 use Rattle.machine_desc.proofs.Live.{count_by-map}
@@ -206,7 +206,7 @@ module _ (s : State) (net : NetPlan) (stands : Stands s net) where
     where
       by_end : ExitLeads s.setup.machine net.tree.edges t xs hop (record { chip = c; out = Link d }) →
           Contains net.tree.edges (record { chip = c; dir = d }) × ((y : Exit) × (far_of s.setup.machine c d ≡ Some y.chip) × (slice_get xs (suc hop) ≡ Some y))
-      by_end (inl (f, out, in_tree, y, far, next)) =
+      by_end (inl (f, out, in_tree, (y, far, next))) =
           let same : f ≡ d = cc in
           (
             subst (λ (q : Dir). Contains net.tree.edges (record { chip = c; dir = q })) same in_tree,
@@ -314,7 +314,7 @@ module _ (s : State) (net : NetPlan) (stands : Stands s net) where
 
       by_end : (x : Exit) → slice_get ys hop ≡ Some x → hop + 1 ≡ length ys → u ≡ there.0 →
           ExitLeads s.setup.machine net.tree.edges u ys hop x → leaves_there c o (slice_get ys hop) ≡ true
-      by_end x at last u_is (inl (d, out, in_tree, y, far, next)) =
+      by_end x at last u_is (inl (d, out, in_tree, (y, far, next))) =
           let past : suc hop < length ys = place_below ys (suc hop) y next in absurd (omega arith)
       by_end x at last u_is (inr (chip, out, long)) =
           let same_c : x.chip ≡ c = sym chip ∙ (ap (λ (z : Spot). z.chip) u_is ∙ there.2) in

@@ -1,8 +1,9 @@
 -- The opened mesh of a job meets the ledger of the job.
-use Rattle.std.proofs.Common.{◌≡◌, ◌≢◌, ℕ, ◌+◌, ◌*◌, ◌/◌, ◌%◌, ◌<◌, List, [], ◌∷◌, Bool, true, false, ◌==◌, ◌&&◌, IsTrue, if◌then◌else◌, Option, Some, None, refl, ap, sym, ◌∙◌, subst, arith, append-nil, inl, inr, length, count_by}
-use Rattle.std.specs.List.{slice_get, All, Contains}
+use Rattle.std.proofs.Common.{◌≡◌, ◌≢◌, ℕ, ◌+◌, ◌*◌, ◌/◌, ◌%◌, ◌<◌, List, [], ◌∷◌, Bool, true, false, ◌==◌, ◌&&◌, IsTrue, if◌then◌else◌, Option, Some, None, refl, ap, sym, ◌∙◌, subst, arith, append-nil, inl, inr, length, count_by, suc, zero}
+use Rattle.std.specs.List.{slice_get, slice_index_or, range_with_len, All, Contains}
 use Rattle.std.specs.Option.{option_map_or}
-use Rattle.std.proofs.lemmas.List.Elements.{All-contains}
+use Rattle.std.proofs.lemmas.List.Elements.{All-contains, All-map}
+use Rattle.std.proofs.lemmas.List.FromFn.{length-map-range_with_len}
 use Rattle.std.proofs.lemmas.List.{length-map}
 use Rattle.spin_base.specs.declared.chips.Spot.{Spot}
 use Rattle.spin_base.specs.declared.copies.McCopy.{McCopy}
@@ -15,10 +16,10 @@ use Rattle.machine_desc.proofs.Branches.{end_on_branch, link_on_branch}
 use Rattle.net_tables.specs.declared.nets.NetPlan.{NetPlan}
 use Rattle.net_tables.specs.RightTables.{IsKeyOf}
 use Rattle.net_tables.specs.NetsOn.{vertex_at, AreNetsOn, IsWayOn}
-use Rattle.mesh_core.specs.State.{Setup, State}
+use Rattle.mesh_core.specs.State.{Setup, State, IsMesh}
 use Rattle.mesh_core.specs.Trail.{Station, Mark, unsent, in_queue, at_core, on_trail, is_on_trail, is_packet_on_trail}
 use Rattle.mesh_core.specs.Ledger.{marks_of, marked, hand_marks, port_of, unsent_marks, Label, label_of}
-use Rattle.mesh_core.specs.Opened.{label_in, asked_by, first_copy, copy_from, unsent_of, opened_mesh, AreOfNets, MeetsJobLedger}
+use Rattle.mesh_core.specs.Opened.{label_in, asked_by, first_copy, copy_from, unsent_of, empty_mesh, opened_mesh, AreOfNets, MeetsJobLedger}
 use Rattle.mesh_core.proofs.AskedPackets.{asked_parts, asked_from, asked_of_net, net_in_list, key_of_net}
 use Rattle.machine_desc.specs.Live.{chip_of}
 use Rattle.mesh_core.proofs.Exchange.{Among, among_contains, contains_among}
@@ -142,6 +143,40 @@ module _ (setup : Setup) (nets : List NetPlan) (packets : List Packet) where
       (marked_among (unsent v) (first_copy i net p) (copies v) in_list)
       in
       subst (λ l. Contains l (mark (first_copy i net p) (unsent v))) (sym opened_marks) (among_contains (mark (first_copy i net p) (unsent v)) (unsent_marks opened) there)
+
+  among_at : {X : Type 0} (xs : List X) (k : ℕ) (d : X) → k < length xs → Among (slice_index_or xs k d) xs
+  among_at [] k d below = absurd (omega arith)
+  among_at (x ∷ xs) zero d below = inl refl
+  among_at (x ∷ xs) (suc k) d below = inr (among_at xs k d (omega arith))
+
+  -- unsent copies have passed no router
+  copies_at_start : (v : ℕ) → All (λ k. k.hop ≡ 0) (copies v)
+  copies_at_start v = λ j d below.
+      let k : McCopy = slice_index_or (copies v) j d in
+      let in_list = among_chosen (λ (e : ℕ × Packet). copy_from spots v e.0 e.1 (slice_get nets e.1.net)) k 0 packets (among_at (copies v) j d below) in
+      let sent = sent_parts spots nets in_list.1 (0 + in_list.0) v k (slice_get nets in_list.1.net) refl in_list.3 in
+      ap (λ (c : McCopy). c.hop) sent.copy
+
+  -- The opened mesh of a job is a mesh.
+  pub IsMesh-opened : IsMesh (empty_mesh setup) → IsMesh opened
+  IsMesh-opened h = record {
+    size = h.size;
+    different = h.different;
+    sites = h.sites;
+    room = h.room;
+    unsent_lists = length-map-range_with_len copies 0 number;
+    input_lists = h.input_lists;
+    hand_list = h.hand_list;
+    core_lists = h.core_lists;
+    table_list = h.table_list;
+    inputs_within = h.inputs_within;
+    cores_within = h.cores_within;
+    unsent_at_start =
+        All-map (λ (q : List McCopy). All (λ k. k.hop ≡ 0) q) copies (range_with_len 0 number) (λ j d below. copies_at_start (slice_index_or (range_with_len 0 number) j d));
+    hands_with_outputs = h.hands_with_outputs;
+    none_at_dead_ports = h.none_at_dead_ports;
+    none_on_dead_chips = h.none_on_dead_chips;
+  }
 
   -- a tree has a target: the root is one, or an edge leads on to one
   some_branch : (net : NetPlan) → IsRoutingTree m net.tree.root net.tree.edges net.targets →

@@ -15,9 +15,9 @@ use Rattle.machine_desc.specs.declared.trees.Edge.{Edge}
 use Rattle.machine_desc.specs.Live.{IsInside, IsLiveChip, IsSite}
 use Rattle.machine_desc.specs.RoutingTree.{end_of, IsRoutingTree}
 use Rattle.machine_desc.specs.Branch.{Exit, IsBranch, arrival_at}
-use Rattle.machine_desc.proofs.Branches.{ComesBy, comes_by, exit_leads, ExitLeads, way_first, same_place, branch_short, branch_inside, end_on_branch, exit_of, last_exit}
+use Rattle.machine_desc.proofs.Branches.{ComesBy, comes_by, exit_leads, ExitLeads, way_first, same_place, branch_short, branch_inside, exit_of, last_exit}
 use Rattle.machine_desc.proofs.Sites.{site_parts}
-use Rattle.machine_desc.proofs.Trees.{one_edge_into}
+use Rattle.machine_desc.proofs.TreeLemmas.{one_edge_into}
 use Rattle.spin_base.specs.Outputs.{out_of}
 use Rattle.net_tables.specs.declared.nets.NetPlan.{NetPlan}
 use Rattle.net_tables.specs.RightTables.{IsKeyOf}
@@ -33,7 +33,7 @@ use Rattle.mesh_core.proofs.Exchange.{Among, among_contains, count_by-cons}
 use Rattle.mesh_core.proofs.Events.{and_true_left, and_true_right}
 use Rattle.mesh_core.proofs.LedgerLaw.{one_net}
 use Rattle.mesh_core.proofs.Law.{leaves_parts, leaves_from, ComesThere, comes_parts, comes_from}
-use Rattle.mesh_core.proofs.Ways.{nat_true, nat_same, both_true, vertex_at_stands, vertex_there, place_below}
+use Rattle.mesh_core.proofs.Ways.{nat_true, nat_same, both_true, vertex_at_stands, some_way, place_below}
 
 -- ---- lists
 
@@ -110,23 +110,8 @@ module _ (s : State) (net : NetPlan) (packet : ℕ) (tracked : IsTracked s net p
   -- ---- the ways to the target
 
   -- there is a way of the net to the target
-  record SomeWay : Type 0 where
-    branch : List Exit
-    from : ℕ
-    to : ℕ
-    way : IsWayOn s.setup.machine s.setup.spots net target branch from to
-
-  some_way : SomeWay
-  some_way =
-      let found = end_on_branch s.setup.machine net.tree.root net.tree.edges net.targets tree target is_target in
-      let begin = vertex_there s.setup.spots net.source (All-contains (λ n. Contains s.setup.spots n.source) tracked.nets net stand.sources tracked.in_nets) in
-      let end = vertex_there s.setup.spots target on_spot in
-      record {
-        branch = found.0;
-        from = begin.0;
-        to = end.0;
-        way = record { is_target = is_target; is_branch = found.1; begins = begin.1; ends = end.1 };
-      }
+  a_way : (branch : List Exit) × (from : ℕ) × (to : ℕ) × IsWayOn s.setup.machine s.setup.spots net target branch from to
+  a_way = some_way s.setup.machine s.setup.spots tracked.nets stand net tracked.in_nets target is_target
 
   same_exit : (x : Exit) (c : Chip) (o : Out) → x.chip ≡ c → x.out ≡ o → x ≡ record { chip = c; out = o }
   same_exit x c o e f = made x.chip c x.out o e f
@@ -144,7 +129,7 @@ module _ (s : State) (net : NetPlan) (packet : ℕ) (tracked : IsTracked s net p
       (i, there.1 ∙ ap Some (by_end there.0 (exit_leads s.setup.machine net.tree.edges t net.tree.root (x ∷ xs) i there.0 is there.1)), omega arith)
     where
       by_end : (z : Exit) → ExitLeads s.setup.machine net.tree.edges t (x ∷ xs) (length xs) z → z ≡ last_exit t
-      by_end z (inl (d, out, in_tree, y, far, next)) =
+      by_end z (inl (d, out, in_tree, (y, far, next))) =
           let past : suc (length xs) < length (x ∷ xs) = place_below (x ∷ xs) (suc (length xs)) y next in absurd (omega arith)
       by_end z (inr (chip, out, long)) = same_exit z t.chip (out_of t.core) (sym chip) out
 
@@ -362,19 +347,19 @@ module _ (s : State) (net : NetPlan) (packet : ℕ) (tracked : IsTracked s net p
   -- the walk is at a chip inside the grid
   pub walk_inside : IsMesh s → (steps : ℕ) (chip : Chip) (out : Out) → Walked s net packet target steps chip out → IsInside s.setup.machine chip
   walk_inside mesh steps chip out walked =
-      let w = some_way in
-      let on = walked w.branch w.from w.to w.way in
-      branch_inside s.setup.machine net.tree.root net.tree.edges (map (λ x. x.chip) net.targets) tree (root_lives mesh) target w.branch w.way.is_branch on.place
+      let w = a_way in
+      let on = walked w.0 w.1 w.2 w.3 in
+      branch_inside s.setup.machine net.tree.root net.tree.edges (map (λ x. x.chip) net.targets) tree (root_lives mesh) target w.0 w.3.is_branch on.place
       (record { chip = chip; out = out }) on.at
 
   -- the walk has fewer steps than the grid has chips
   pub walk_short : IsMesh s → (steps : ℕ) (chip : Chip) (out : Out) → Walked s net packet target steps chip out → s.setup.machine.width * s.setup.machine.height ≤ steps → ⊥
   walk_short mesh steps chip out walked many =
-      let w = some_way in
-      let on = walked w.branch w.from w.to w.way in
-      let place : on.place + 1 + steps ≡ length w.branch = on.is_place in
-      let short : length w.branch ≤ s.setup.machine.width * s.setup.machine.height =
-      branch_short s.setup.machine net.tree.root net.tree.edges (map (λ x. x.chip) net.targets) tree (root_lives mesh) target w.branch w.way.is_branch
+      let w = a_way in
+      let on = walked w.0 w.1 w.2 w.3 in
+      let place : on.place + 1 + steps ≡ length w.0 = on.is_place in
+      let short : length w.0 ≤ s.setup.machine.width * s.setup.machine.height =
+      branch_short s.setup.machine net.tree.root net.tree.edges (map (λ x. x.chip) net.targets) tree (root_lives mesh) target w.0 w.3.is_branch
       in
       omega arith
 

@@ -31,7 +31,7 @@ use Rattle.machine_desc.proofs.Sites.{site_parts}
 use Rattle.machine_desc.proofs.Branches.{ComesBy, comes_by, exit_leads, way_first, same_place, branch_short, end_on_branch, link_on_branch, exit_of, last_exit, ExitLeads}
 use Rattle.net_tables.specs.declared.nets.NetPlan.{NetPlan}
 use Rattle.net_tables.specs.Outputs.{is_edge_out, leads_to_spot, is_wanted, ComesIn}
-use Rattle.net_tables.specs.NetsOn.{vertex_at}
+use Rattle.net_tables.specs.NetsOn.{vertex_at, AreNetsOn, IsWayOn}
 use Rattle.net_tables.specs.RightTables.{RoutesByTree}
 use Rattle.mesh_core.specs.State.{State, IsMesh, vertex_behind}
 use Rattle.mesh_core.specs.Step.{last_hop}
@@ -262,3 +262,13 @@ wanted_on_branch s net stands x wanted =
           place = way.2.0;
           at = slice_get-get_or way.0 way.2.0 (last_exit t) way.2.1 ∙ ap Some (way.2.2 ∙ same_exit t.chip x.chip (out_of t.core) x.out parts.0 parts.1);
         }
+
+-- each target of a net that stands has a way
+pub some_way : (m : Description) (spots : List Spot) (nets : List NetPlan) → AreNetsOn m spots nets → (net : NetPlan) → Contains nets net →
+    (target : Spot) → Contains net.targets target → (branch : List Exit) × (from : ℕ) × (to : ℕ) × IsWayOn m spots net target branch from to
+some_way m spots nets stand net has target is_target =
+    let tree = All-contains (λ n. IsRoutingTree m n.tree.root n.tree.edges n.targets) nets net stand.trees has in
+    let found = end_on_branch m net.tree.root net.tree.edges net.targets tree target is_target in
+    let begin = vertex_there spots net.source (All-contains (λ n. Contains spots n.source) nets net stand.sources has) in
+    let end = vertex_there spots target (All-contains (Contains spots) net.targets target (All-contains (λ n. All (Contains spots) n.targets) nets net stand.targets has) is_target) in
+    (found.0, begin.0, end.0, record { is_target = is_target; is_branch = found.1; begins = begin.1; ends = end.1 })
