@@ -1,5 +1,5 @@
 //! Laws of the core. Each function does nothing: its clauses are the law, for every mesh.
-ghost use Rattle.std.specs.Prelude.{◌≡◌, ◌≢◌, ◌≤◌, ◌*◌, ℕ, List, [], Option, All, AllPairs, Contains, length};
+ghost use Rattle.std.specs.Prelude.{◌≡◌, ◌≢◌, ◌≤◌, ◌+◌, ◌*◌, ◌^◌, ℕ, List, [], Option, All, AllPairs, Contains, length};
 ghost use Rattle.spin_base.specs.declared.chips.Spot.{Spot};
 ghost use Rattle.spin_base.specs.declared.copies.Event.{Event};
 ghost use Rattle.spin_base.specs.declared.copies.Packet.{Packet};
@@ -71,4 +71,15 @@ pub fn opened_mesh_meets_its_ledger()
 pub fn a_mesh_at_rest_has_delivered_all()
     ensures { (s : State) (nets : List NetPlan) (packets : List Packet) →
         MeetsJobLedger s nets packets → IsAtRest s → s.dumped ≡ [] → AreAsExpected s nets packets }
+{}
+
+/// The deliveries and dump records of a mesh that meets the ledger of a job are few: together at most the number of packets
+/// times the greatest number of targets of a net, so at most 2 ^ 30 for 65,536 packets and 16,384 targets.
+pub fn deliveries_and_records_are_few()
+    ensures few { (s : State) (nets : List NetPlan) (packets : List Packet) (most : ℕ) →
+        MeetsJobLedger s nets packets → All (λ net. length net.targets ≤ most) nets →
+        length s.delivered + length s.dumped ≤ length packets * most }
+    ensures at_limits { (s : State) (nets : List NetPlan) (packets : List Packet) →
+        MeetsJobLedger s nets packets → length packets ≤ 2 ^ 16 → All (λ net. length net.targets ≤ 2 ^ 14) nets →
+        length s.delivered + length s.dumped ≤ 2 ^ 30 }
 {}
