@@ -124,19 +124,25 @@ count_two p x y (z ∷ xs) apart px py (inr later) (inl here) =
 count_two p x y (z ∷ xs) apart px py (inr later) (inr last) =
     let rest = count_two p x y xs apart px py later last in omega (arith, count_by-cons p z xs)
 
--- items at two places that pass a test count two
-pub count_places : {X : Type 0} (p : X → Bool) (xs : List X) (i j : ℕ) (d : X) → i < j → j < length xs → p (slice_index_or xs i d) ≡ true → p (slice_index_or xs j d) ≡ true →
-    2 ≤ count_by p xs
-count_places p [] i j d before within pi pj = absurd (omega arith)
-count_places p (x ∷ xs) i zero d before within pi pj = absurd (omega arith)
-count_places {X} p (x ∷ xs) zero (suc j) d before within pi pj =
-    let first = counts_one (p x) pi in
-    let rest = count_some p (slice_index_or xs j d) xs pj (among_at xs j (omega arith)) in
-    omega (arith, count_by-cons p x xs)
-  where
-    among_at : (ys : List X) (k : ℕ) → k < length ys → Among (slice_index_or ys k d) ys
-    among_at [] k low = absurd (omega arith)
-    among_at (y ∷ ys) zero low = inl refl
-    among_at (y ∷ ys) (suc k) low = inr (among_at ys k (omega arith))
-count_places p (x ∷ xs) (suc i) (suc j) d before within pi pj =
-    let rest = count_places p xs i j d (omega arith) (omega arith) pi pj in omega (arith, count_by-cons p x xs)
+-- a test that passes where another does counts no less
+one_below : (p q : Bool) → (p ≡ true → q ≡ true) → (let n : ℕ = if p then 1 else 0 in let m : ℕ = if q then 1 else 0 in n ≤ m)
+one_below true q then' = rw (then' refl) (omega arith)
+one_below false true then' = omega arith
+one_below false false then' = omega arith
+
+pub count_le : {X : Type 0} (p q : X → Bool) (xs : List X) → ((x : X) → Among x xs → p x ≡ true → q x ≡ true) → count_by p xs ≤ count_by q xs
+count_le p q [] then' = omega arith
+count_le p q (x ∷ xs) then' =
+    let rest = count_le p q xs (λ y a. then' y (inr a)) in
+    let first = one_below (p x) (q x) (then' x (inl refl)) in
+    omega (arith, count_by-cons p x xs, count_by-cons q x xs)
+
+-- what is counted is there
+counted_by : {X : Type 0} (p : X → Bool) (x : X) (xs : List X) (b : Bool) → p x ≡ b → (1 ≤ count_by p xs → (y : X) × Among y xs × (p y ≡ true)) →
+    1 ≤ (if b then 1 else 0) + count_by p xs → (y : X) × Among y (x ∷ xs) × (p y ≡ true)
+counted_by p x xs true is later some = (x, inl refl, is)
+counted_by p x xs false is later some = let rest = later (omega (arith, some)) in (rest.0, inr rest.1, rest.2)
+
+pub counted : {X : Type 0} (p : X → Bool) (xs : List X) → 1 ≤ count_by p xs → (y : X) × Among y xs × (p y ≡ true)
+counted p [] some = absurd (omega (arith, some))
+counted p (x ∷ xs) some = counted_by p x xs (p x) refl (counted p xs) (subst (λ n. 1 ≤ n) (count_by-cons p x xs) some)

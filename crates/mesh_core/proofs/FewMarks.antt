@@ -1,7 +1,9 @@
 -- A mesh that meets the ledger of a job has few marks: at most one for each packet and each target of its net.
-use Rattle.std.proofs.Common.{◌≡◌, ◌≢◌, ℕ, ◌+◌, ◌*◌, ◌^◌, ◌<◌, ◌≤◌, suc, zero, List, [], ◌∷◌, ◌++◌, map, Bool, true, false, ◌==◌, ◌&&◌, Some, refl, ap, sym, ◌∙◌, subst, arith, inl, inr, length, count_by}
-use Rattle.std.specs.List.{slice_get, All, Contains}
-use Rattle.std.proofs.lemmas.List.{length-append, length-map}
+use Rattle.std.proofs.Common.{◌≡◌, ◌≢◌, ℕ, ◌+◌, ◌*◌, ◌^◌, ◌<◌, ◌≤◌, suc, zero, nat_lt, cond, List, [], ◌∷◌, ◌++◌, map, get_or, Bool, true, false, ◌==◌, ◌&&◌, Some, None, refl, ap, sym, ◌∙◌, subst, arith, inl, inr, length, count_by}
+use Rattle.std.specs.Prelude.{AllPairs, position}
+use Rattle.std.specs.List.{slice_get, slice_index_or, position_or_len, All, Contains}
+use Rattle.std.proofs.lemmas.List.Quantifiers.{position-Some}
+use Rattle.std.proofs.lemmas.List.{length-append, length-map, get_or-map, get_or_default}
 use Rattle.std.proofs.lemmas.List.Elements.{All-contains}
 use Rattle.std.proofs.lemmas.Option.{slice_get_within}
 use Rattle.std.proofs.Math.Nat.{mul-le-mul_left}
@@ -9,7 +11,10 @@ use Rattle.spin_base.specs.declared.chips.Spot.{Spot}
 use Rattle.spin_base.specs.declared.copies.Delivery.{Delivery}
 use Rattle.spin_base.specs.declared.copies.DumpRec.{DumpRec}
 use Rattle.spin_base.specs.declared.copies.Packet.{Packet}
+use Rattle.spin_base.specs.Equality.{spot_eq}
+use Rattle.spin_base.proofs.Equality.{spot_eq_true}
 use Rattle.machine_desc.specs.Branch.{Exit}
+use Rattle.machine_desc.proofs.Branches.{length_le_from_apart}
 use Rattle.net_tables.specs.declared.nets.NetPlan.{NetPlan}
 use Rattle.net_tables.specs.NetsOn.{AreNetsOn, IsWayOn}
 use Rattle.net_tables.specs.RightTables.{IsKeyOf}
@@ -23,7 +28,57 @@ use Rattle.mesh_core.proofs.Exchange.{Among, among_contains, contains_among}
 use Rattle.mesh_core.proofs.LedgerLaw.{one_net}
 use Rattle.mesh_core.proofs.Moves.{mark}
 use Rattle.mesh_core.proofs.OneWay.{AWay, at_place, one_way}
-use Rattle.mesh_core.proofs.Ways.{nat_true, both_true, some_way}
+use Rattle.mesh_core.proofs.Ways.{nat_true, both_true, vertex_there, some_way}
+
+-- the place of a spot in the list
+abbrev place_in : List Spot → Spot → ℕ
+place_in spots t = position_or_len (spot_eq t) spots
+
+-- different items of a list are at most as many as the list has
+few_different : (spots : List Spot) (ts : List Spot) → AllPairs (λ a b. a ≢ b) ts → All (Contains spots) ts → length ts ≤ length spots
+few_different spots ts different within =
+    subst (λ n. n ≤ length spots) (length-map ts (place_in spots)) (length_le_from_apart (map (place_in spots) ts) (length spots) apart below)
+  where
+    in_ts : (k : ℕ) → k < length (map (place_in spots) ts) → k < length ts
+    in_ts k low = subst (λ n. k < n) (length-map ts (place_in spots)) low
+
+    nothing : Spot
+    nothing = record { chip = record { x = 0; y = 0 }; core = 0 }
+
+    read : (k d : ℕ) → k < length (map (place_in spots) ts) → get_or (map (place_in spots) ts) k d ≡ place_in spots (get_or ts k nothing)
+    read k d low = get_or-map (place_in spots) ts k nothing d (in_ts k low)
+
+    -- a spot of the list is at its place
+    there : (t : Spot) → Contains spots t → (place_in spots t < length spots) × (t ≡ slice_index_or spots (place_in spots t) t)
+    there t has =
+        let v = vertex_there spots t has in
+        let found = position-Some (spot_eq t) spots v.0 t v.1 in
+        let is : v.0 ≡ position_or_len (spot_eq t) spots = position_is v.0 v.1 in
+        (subst (λ n. n < length spots) is found.0, subst (λ n. t ≡ slice_index_or spots n t) is (spot_eq_true t (slice_index_or spots v.0 t) found.1))
+      where
+        position_is : (v : ℕ) → position (spot_eq t) spots ≡ Some v → v ≡ position_or_len (spot_eq t) spots
+        position_is v is = by_test (nat_lt (position_or_len (spot_eq t) spots) (length spots)) is
+          where
+            by_test : (b : Bool) → cond b (Some (position_or_len (spot_eq t) spots)) None ≡ Some v → v ≡ position_or_len (spot_eq t) spots
+            by_test true e = let same : position_or_len (spot_eq t) spots ≡ v = cc in sym same
+            by_test false e = cc
+
+    below : (k d : ℕ) → k < length (map (place_in spots) ts) → get_or (map (place_in spots) ts) k d < length spots
+    below k d low =
+        subst (λ n. n < length spots) (sym (read k d low)) (there (get_or ts k nothing) (within k nothing (in_ts k low))).0
+
+    apart : (i j d : ℕ) → i < j → j < length (map (place_in spots) ts) → get_or (map (place_in spots) ts) i d ≢ get_or (map (place_in spots) ts) j d
+    apart i j d before low e =
+        let low_i : i < length (map (place_in spots) ts) = omega arith in
+        let a : Spot = get_or ts i nothing in
+        let b : Spot = get_or ts j nothing in
+        let in_a = within i nothing (in_ts i low_i) in
+        let in_b = within j nothing (in_ts j low) in
+        let places : place_in spots a ≡ place_in spots b = sym (read i d low_i) ∙ (e ∙ read j d low) in
+        let at_a = there a in_a in
+        let at_b = there b in_b in
+        different i j nothing before (in_ts j low)
+        (at_a.1 ∙ (ap (λ n. slice_index_or spots n a) places ∙ (get_or_default spots (place_in spots b) a b at_b.0 ∙ sym at_b.1)))
 
 module _ (s : State) (nets : List NetPlan) (packets : List Packet) (job : MeetsJobLedger s nets packets) where
   stand : AreNetsOn s.setup.machine s.setup.spots nets
@@ -107,7 +162,7 @@ module _ (s : State) (nets : List NetPlan) (packets : List Packet) (job : MeetsJ
       (λ w b. let one = once i a asked has w in omega (arith, one)))
 
   -- the number of a mark's packet is below the number of packets
-  number_below : (k : Mark) → Contains (marks_of s) k → k.copy.packet < length packets
+  pub number_below : (k : Mark) → Contains (marks_of s) k → k.copy.packet < length packets
   number_below k there =
       let asked = job.ledger.was_asked k there in
       let parts = asked_parts nets packets k.copy.packet asked.0 asked.1 in
@@ -145,8 +200,14 @@ module _ (s : State) (nets : List NetPlan) (packets : List Packet) (job : MeetsJ
         let g : length (dumped_marks s) ≡ length s.dumped = length-map s.dumped (λ (x : DumpRec). mark x.copy (dumped x.chip x.out)) in
         omega (arith, a, b, c, d, e, f, g)
 
-    pub few_at_limits : length packets ≤ 2 ^ 16 → most ≤ 2 ^ 14 → length s.delivered + length s.dumped ≤ 2 ^ 30
-    few_at_limits few_packets few_targets =
-        let few = few_ends in
-        let first : length packets * most ≤ length packets * 2 ^ 14 = mul-le-mul_left (length packets) few_targets in
-        omega arith
+  -- the targets of a net are different spots of vertices, so at most as many
+  few_targets : All (λ net. length net.targets ≤ length s.setup.spots) nets
+  few_targets = λ n d within.
+      let net : NetPlan = slice_index_or nets n d in
+      few_different s.setup.spots net.targets (stand.different n d within) (stand.targets n d within)
+
+  pub few_at_limits : length packets ≤ 2 ^ 16 → length s.setup.spots ≤ 2 ^ 14 → length s.delivered + length s.dumped ≤ 2 ^ 30
+  few_at_limits few_packets few_vertices =
+      let few = few_ends (length s.setup.spots) few_targets in
+      let first : length packets * length s.setup.spots ≤ length packets * 2 ^ 14 = mul-le-mul_left (length packets) few_vertices in
+      omega arith

@@ -14,9 +14,11 @@ pub mod Law
 pub mod LedgerLaw
 pub mod MarkTests
 pub mod Moves
+pub mod NoDump
 pub mod OneWay
 pub mod OpenedLaw
 pub mod QueueLists
+pub mod Queued
 pub mod Searching
 pub mod ServingLaws
 pub mod Standing

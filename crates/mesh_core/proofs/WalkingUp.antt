@@ -187,7 +187,7 @@ module _ (s : State) (net : NetPlan) (packet : ℕ) (tracked : IsTracked s net p
             let on = sym (ap (on_trail u.from u.to u.branch k.copy.hop) is) ∙ u.on in
             on_by k (dumped c o) is (leaves_from xs k.copy.hop c o (leaves (leaves_parts u.branch k.copy.hop c o on)))
 
-    comes_on : (k : Mark) → Contains (marks_of s) k → k.copy.packet ≡ packet → (i : ℕ) (c : Chip) (o : Out) (port : Port) →
+    pub comes_on : (k : Mark) → Contains (marks_of s) k → k.copy.packet ≡ packet → (i : ℕ) (c : Chip) (o : Out) (port : Port) →
         slice_get xs i ≡ Some (record { chip = c; out = o }) → k.station ≡ in_queue c port → is_on_trail from to xs k ≡ true
     comes_on k has is_packet i c o port at is =
         let u = on_net k has is_packet in
@@ -207,7 +207,7 @@ module _ (s : State) (net : NetPlan) (packet : ℕ) (tracked : IsTracked s net p
         on_by k (in_queue c port) is (comes_from xs k.copy.hop c port here)
 
     -- a mark at the target's vertex
-    ends_on : (k : Mark) → Contains (marks_of s) k → k.copy.packet ≡ packet → IsOfCore s target k.station → is_on_trail from to xs k ≡ true
+    pub ends_on : (k : Mark) → Contains (marks_of s) k → k.copy.packet ≡ packet → IsOfCore s target k.station → is_on_trail from to xs k ≡ true
     ends_on k has is_packet there = by_station there.2
       where
         u : OnNet k

@@ -89,6 +89,22 @@ one_index spots different v w t at at' = elim (cases_order v w) [
       absurd (different w v t after (slice_get_within spots v t at) (get_or_from_slice_get spots w t t at' ∙ sym (get_or_from_slice_get spots v t t at)))
 ]
 
+-- a spot of the list to which an output leads has a vertex behind the output
+pub vertex_behind_there : (spots : List Spot) (c : Chip) (o : Out) (t : Spot) → Contains spots t → leads_to_spot c o t ≡ true → (v : ℕ) × (vertex_behind spots c o ≡ Some v)
+vertex_behind_there spots c o t has leads = found (nat_lt first (length spots)) refl
+  where
+    first : ℕ
+    first = position_or_len (leads_to_spot c o) spots
+
+    found : (b : Bool) → nat_lt first (length spots) ≡ b → (v : ℕ) × (cond b (Some first) None ≡ Some v)
+    found true e = (first, refl)
+    found false e =
+        let past : length spots ≤ first = ltb-false first (length spots) e in
+        let before : has.0 < first = let within : has.0 < length spots = has.1 in omega arith in
+        let fails : leads_to_spot c o (slice_index_or spots has.0 t) ≡ false = fails_before_first (leads_to_spot c o) spots has.0 t before in
+        let passes : leads_to_spot c o (slice_index_or spots has.0 t) ≡ true = ap (leads_to_spot c o) has.2 ∙ leads in
+        cc
+
 -- ---- what is common to all ways of one net
 
 -- a net that stands on a mesh, with tables that are right for it

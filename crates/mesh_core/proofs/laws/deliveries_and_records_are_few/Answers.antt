@@ -1,4 +1,3 @@
-use Rattle.std.proofs.Common.{◌^◌, ◌≤◌, arith}
 use Rattle.mesh_core.proofs.FewMarks.{few_ends, few_at_limits}
 use Rattle.mesh_core.proofs.laws.deliveries_and_records_are_few.Goals as goal
 
@@ -6,4 +5,4 @@ pub returns-clause-few : goal.returns-clause-few
 returns-clause-few c = λ s nets packets most job each. few_ends s nets packets job most each
 
 pub returns-clause-at_limits : goal.returns-clause-at_limits
-returns-clause-at_limits c = λ s nets packets job few each. few_at_limits s nets packets job (2 ^ 14) each few (omega arith)
+returns-clause-at_limits c = λ s nets packets job few vertices. few_at_limits s nets packets job few vertices
