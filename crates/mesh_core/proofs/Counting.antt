@@ -1,10 +1,10 @@
 -- Counts of a list by tests of which each item passes one.
-use Rattle.std.proofs.Common.{◌≡◌, ◌≢◌, ℕ, ◌+◌, ◌*◌, ◌<◌, ◌≤◌, suc, zero, List, [], ◌∷◌, Bool, true, false, ◌==◌, ◌&&◌, not, if◌then◌else◌, Some, refl, ap, sym, ◌∙◌, subst, arith, inl, inr, ◌⊎◌, length, count_by}
-use Rattle.std.specs.List.{slice_get, slice_index_or}
+use Rattle.std.proofs.Common.{◌≡◌, ◌≢◌, ℕ, ◌+◌, ◌*◌, ◌<◌, ◌≤◌, suc, zero, List, [], ◌∷◌, Bool, true, false, ◌==◌, ◌&&◌, not, if◌then◌else◌, Some, refl, ap, sym, ◌∙◌, subst, arith, inl, inr, length, count_by}
+use Rattle.std.specs.List.{slice_get}
 use Rattle.std.proofs.lemmas.Bool.{cases_order}
 use Rattle.mesh_core.specs.Ledger.{gathered}
 use Rattle.mesh_core.proofs.Exchange.{Among, count_by-append, count_by-cons}
-use Rattle.mesh_core.proofs.Ways.{nat_true, nat_same}
+use Rattle.mesh_core.proofs.Ways.{nat_same}
 
 -- a test that all pass counts all
 pub count_all : {X : Type 0} (p : X → Bool) (xs : List X) → ((x : X) → Among x xs → p x ≡ true) → count_by p xs ≡ length xs

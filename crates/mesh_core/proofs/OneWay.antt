@@ -1,13 +1,11 @@
 -- A net that stands on a machine has one way to each target.
-use Rattle.std.proofs.Common.{◌≡◌, ℕ, ◌+◌, ◌<◌, suc, zero, List, [], ◌∷◌, map, Option, Some, None, refl, ap, sym, ◌∙◌, subst, arith, inl, inr, length}
+use Rattle.std.proofs.Common.{◌≡◌, ℕ, ◌+◌, ◌<◌, suc, zero, List, [], ◌∷◌, map, Some, refl, ap, sym, ◌∙◌, arith, inl, inr, length}
 use Rattle.std.specs.List.{slice_get, Contains}
 use Rattle.std.proofs.lemmas.List.Elements.{All-contains}
-use Rattle.std.proofs.lemmas.Option.{slice_get_within, slice_get_past}
 use Rattle.spin_base.specs.declared.chips.Chip.{Chip}
 use Rattle.spin_base.specs.declared.chips.Port.TheVariants.{Local}
 use Rattle.spin_base.specs.declared.chips.Spot.{Spot}
 use Rattle.spin_base.specs.declared.routes.Out.{Out}
-use Rattle.spin_base.specs.Outputs.{out_of}
 use Rattle.machine_desc.specs.declared.trees.Edge.{Edge}
 use Rattle.machine_desc.specs.Description.{Description}
 use Rattle.machine_desc.specs.RoutingTree.{IsRoutingTree}

@@ -1,23 +1,20 @@
 -- Where a packet waits, in a mesh that meets the ledger: behind each output that a hand still has to serve there is a queue
 -- without a copy of the hand's packet, and no queue has two copies of one packet.
-use Rattle.std.proofs.Common.{◌≡◌, ◌≢◌, ℕ, ◌+◌, ◌*◌, ◌/◌, ◌%◌, ◌<◌, ◌≤◌, suc, zero, List, [], ◌∷◌, ◌++◌, map, Bool, true, false, not, ◌==◌, ◌&&◌, if◌then◌else◌, Option, Some, None, refl, ap, sym, ◌∙◌, subst, arith, inl, inr, ◌⊎◌, length, count_by}
-use Rattle.std.specs.List.{slice_get, slice_index_or, list_any, All, Contains}
-use Rattle.std.proofs.lemmas.Bool.{cases_order, ltb-true}
+use Rattle.std.proofs.Common.{◌≡◌, ◌≢◌, ℕ, ◌+◌, ◌/◌, ◌%◌, ◌<◌, ◌≤◌, suc, List, ◌++◌, Bool, true, false, ◌==◌, Some, refl, ap, sym, ◌∙◌, subst, arith, inl, inr, length, count_by}
+use Rattle.std.specs.List.{slice_get, slice_index_or, All, Contains}
+use Rattle.std.proofs.lemmas.Bool.{cases_order}
 use Rattle.std.proofs.lemmas.List.Elements.{All-contains}
-use Rattle.std.proofs.lemmas.List.Folds.{Any-from_list_any}
 use Rattle.std.proofs.lemmas.Option.{slice_get_within, get_or_from_slice_get}
 use Rattle.spin_base.specs.declared.chips.Chip.{Chip}
 use Rattle.spin_base.specs.declared.chips.Dir.{Dir}
 use Rattle.spin_base.specs.declared.chips.Spot.{Spot}
 use Rattle.spin_base.specs.declared.chips.Port.{Port}
-use Rattle.spin_base.specs.declared.chips.Port.TheVariants.{Link as ByLink, Local}
+use Rattle.spin_base.specs.declared.chips.Port.TheVariants.{Link as ByLink}
 use Rattle.spin_base.specs.declared.routes.Out.{Out}
 use Rattle.spin_base.specs.declared.routes.Out.TheVariants.{Link, Core}
 use Rattle.spin_base.specs.declared.copies.McCopy.{McCopy}
-use Rattle.spin_base.specs.Equality.{out_eq}
 use Rattle.spin_base.specs.Links.{opposite_of}
 use Rattle.spin_base.specs.Outputs.{out_of}
-use Rattle.spin_base.proofs.Equality.{out_eq_true}
 use Rattle.machine_desc.specs.Live.{far_of, chip_of, is_live_link, IsInside, IsLiveLink, IsSite}
 use Rattle.machine_desc.specs.Branch.{Exit}
 use Rattle.machine_desc.proofs.Branches.{exit_leads, ExitLeads}
@@ -25,10 +22,10 @@ use Rattle.machine_desc.proofs.Far.{live_inside, live_ends, far_inside}
 use Rattle.machine_desc.proofs.Live.{count_by-map}
 use Rattle.machine_desc.proofs.Sites.{end_is_no_live_link, same_site}
 use Rattle.net_tables.specs.declared.nets.NetPlan.{NetPlan}
-use Rattle.net_tables.specs.NetsOn.{vertex_at, IsWayOn}
+use Rattle.net_tables.specs.NetsOn.{IsWayOn}
 use Rattle.net_tables.specs.RightTables.{IsKeyOf}
 use Rattle.machine_desc.specs.RoutingTree.{IsRoutingTree}
-use Rattle.mesh_core.specs.State.{Setup, State, Held, IsMesh, Behind, input, core, nowhere, queue_at, core_of, behind, behind_link, vertex_behind}
+use Rattle.mesh_core.specs.State.{Setup, State, IsMesh, Behind, input, core, nowhere, queue_at, core_of, behind, behind_link, vertex_behind}
 use Rattle.mesh_core.specs.Trail.{Station, in_queue, in_hand, at_core, Mark, is_on_trail, is_packet_on_trail}
 use Rattle.mesh_core.specs.Ledger.{marks_of, marked, port_of, unsent_marks, input_marks, all_hand_marks, core_marks, delivered_marks, dumped_marks, Label, MeetsLedger}
 use Rattle.mesh_core.specs.Waiting.{queue_of}
