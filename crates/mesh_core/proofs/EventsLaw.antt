@@ -1,6 +1,6 @@
 -- The ledger of copies is kept by every event, by every list of events and by putting a copy back: for a list of nets, for
 -- asked packets and for a job.
-use Rattle.std.proofs.Common.{◌≡◌, ℕ, List, [], ◌∷◌, Bool, true, false, Option, Some, None, refl, sym, ap, ◌∙◌, subst, unwrap_or, if◌then◌else◌}
+use Rattle.std.proofs.Common.{◌≡◌, ℕ, List, [], ◌∷◌, Bool, true, false, Option, Some, None, refl, sym, ◌∙◌, subst, unwrap_or, if◌then◌else◌}
 use Rattle.std.specs.List.{Contains}
 use Rattle.spin_base.specs.declared.copies.DumpRec.{DumpRec}
 use Rattle.spin_base.specs.declared.copies.Event.{Event}

@@ -148,6 +148,12 @@ contains_among_at x (y ∷ xs) (suc k) within is = inr (contains_among_at x xs k
 pub contains_among : {X : Type 0} (x : X) (xs : List X) → Contains xs x → Among x xs
 contains_among x xs c = contains_among_at x xs c.0 c.1 c.2
 
+-- the item at a place
+pub among_at : {X : Type 0} (xs : List X) (k : ℕ) (d : X) → k < length xs → Among (slice_index_or xs k d) xs
+among_at [] k d within = absurd (omega arith)
+among_at (x ∷ xs) zero d within = inl refl
+among_at (x ∷ xs) (suc k) d within = inr (among_at xs k d (omega arith))
+
 -- what was taken out was there
 pub among_taken_out : {X : Type 0} (x : X) (before after : List X) → TakenOut x before after → Among x before
 among_taken_out {X} x before after t =

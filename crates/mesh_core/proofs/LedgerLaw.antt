@@ -353,7 +353,7 @@ module _ (s t : State) (nets : List NetPlan) (labels : ℕ → Label)
         let moved = all_moves n r.net r.in_nets label_key r.trail.target r.trail.branch r.trail.from r.trail.to r.trail.way bag.moves (λ v a. a) in
         let before = ledger.once_on_each k has r.net r.in_nets r.is_key r.trail.target r.trail.branch r.trail.from r.trail.to r.trail.way in
         let found = counted_one p (marks_of t) (omega arith) in
-        (found.0, among_contains found.0 (marks_of t) found.1, nat_true found.0.copy.packet n (and_true_left (found.0.copy.packet == n) _ found.2))
+        (found.0, among_contains found.0 (marks_of t) found.1, nat_true found.0.copy.packet n (and_true_left (found.0.copy.packet == n) (is_on_trail r.trail.from r.trail.to r.trail.branch found.0) found.2))
       where
         counted_by : (q : Mark → Bool) (x : Mark) (xs : List Mark) (b : Bool) → q x ≡ b → (1 ≤ count_by q xs → (y : Mark) × Among y xs × (q y ≡ true)) →
             1 ≤ (if b then 1 else 0) + count_by q xs → (y : Mark) × Among y (x ∷ xs) × (q y ≡ true)

@@ -1,9 +1,11 @@
 pub mod AskedPackets
 pub mod Changes
+pub mod Counting
 pub mod DeliveredLaw
 pub mod Events
 pub mod EventsLaw
 pub mod Exchange
+pub mod FewMarks
 pub mod Fixed
 pub mod Gathered
 pub mod HandOutputs
@@ -12,8 +14,11 @@ pub mod Law
 pub mod LedgerLaw
 pub mod MarkTests
 pub mod Moves
+pub mod NoDump
+pub mod OneWay
 pub mod OpenedLaw
 pub mod QueueLists
+pub mod Queued
 pub mod Searching
 pub mod ServingLaws
 pub mod Standing

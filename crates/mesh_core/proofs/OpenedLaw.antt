@@ -1,5 +1,5 @@
 -- The opened mesh of a job meets the ledger of the job.
-use Rattle.std.proofs.Common.{◌≡◌, ◌≢◌, ℕ, ◌+◌, ◌*◌, ◌/◌, ◌%◌, ◌<◌, List, [], ◌∷◌, Bool, true, false, ◌==◌, ◌&&◌, IsTrue, if◌then◌else◌, Option, Some, None, refl, ap, sym, ◌∙◌, subst, arith, append-nil, inl, inr, length, count_by, suc, zero}
+use Rattle.std.proofs.Common.{◌≡◌, ◌≢◌, ℕ, ◌+◌, ◌*◌, ◌/◌, ◌%◌, ◌<◌, List, [], ◌∷◌, Bool, true, false, ◌==◌, ◌&&◌, IsTrue, if◌then◌else◌, Option, Some, None, refl, ap, sym, ◌∙◌, subst, arith, append-nil, inl, inr, length, count_by}
 use Rattle.std.specs.List.{slice_get, slice_index_or, range_with_len, All, Contains}
 use Rattle.std.specs.Option.{option_map_or}
 use Rattle.std.proofs.lemmas.List.Elements.{All-contains, All-map}
@@ -22,7 +22,7 @@ use Rattle.mesh_core.specs.Ledger.{marks_of, marked, hand_marks, port_of, unsent
 use Rattle.mesh_core.specs.Opened.{label_in, asked_by, first_copy, copy_from, unsent_of, empty_mesh, opened_mesh, AreOfNets, MeetsJobLedger}
 use Rattle.mesh_core.proofs.AskedPackets.{asked_parts, asked_from, asked_of_net, net_in_list, key_of_net}
 use Rattle.machine_desc.specs.Live.{chip_of}
-use Rattle.mesh_core.proofs.Exchange.{Among, among_contains, contains_among}
+use Rattle.mesh_core.proofs.Exchange.{Among, among_at, among_contains, contains_among}
 use Rattle.mesh_core.proofs.Moves.{mark}
 use Rattle.mesh_core.proofs.Gathered.{gathered_nothing, among_made, made_among, count_made_one, among_chosen, chosen_among, count_chosen_one, count_chosen_none}
 use Rattle.mesh_core.proofs.LedgerLaw.{one_net}
@@ -143,11 +143,6 @@ module _ (setup : Setup) (nets : List NetPlan) (packets : List Packet) where
       (marked_among (unsent v) (first_copy i net p) (copies v) in_list)
       in
       subst (λ l. Contains l (mark (first_copy i net p) (unsent v))) (sym opened_marks) (among_contains (mark (first_copy i net p) (unsent v)) (unsent_marks opened) there)
-
-  among_at : {X : Type 0} (xs : List X) (k : ℕ) (d : X) → k < length xs → Among (slice_index_or xs k d) xs
-  among_at [] k d below = absurd (omega arith)
-  among_at (x ∷ xs) zero d below = inl refl
-  among_at (x ∷ xs) (suc k) d below = inr (among_at xs k d (omega arith))
 
   -- unsent copies have passed no router
   copies_at_start : (v : ℕ) → All (λ k. k.hop ≡ 0) (copies v)

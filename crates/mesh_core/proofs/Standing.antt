@@ -60,7 +60,7 @@ among_gathered f y xs a =
     let n_is : 0 + found.0 ≡ found.0 = omega arith in
     (found.0, found.1, found.2, subst (λ n. Among y (f n found.1)) n_is found.3)
 
-gathered_among : {X Y : Type 0} (f : ℕ → X → List Y) (y : Y) (xs : List X) (j : ℕ) (x : X) → slice_get xs j ≡ Some x →
+pub gathered_among : {X Y : Type 0} (f : ℕ → X → List Y) (y : Y) (xs : List X) (j : ℕ) (x : X) → slice_get xs j ≡ Some x →
     Among y (f j x) → Among y (gathered f 0 xs)
 gathered_among f y xs j x at a =
     let n_is : j ≡ 0 + j = omega arith in

@@ -8,14 +8,14 @@ use Rattle.spin_base.specs.declared.chips.Spot.{Spot}
 use Rattle.spin_base.specs.declared.chips.Port.{Port}
 use Rattle.spin_base.specs.declared.chips.Port.TheVariants.{Link as ByLink, Local}
 use Rattle.spin_base.specs.declared.routes.Out.{Out}
-use Rattle.spin_base.specs.declared.routes.Out.TheVariants.{Link, Core}
+use Rattle.spin_base.specs.declared.routes.Out.TheVariants.{Link}
 use Rattle.spin_base.specs.declared.copies.McCopy.{McCopy}
 use Rattle.spin_base.specs.Links.{opposite_of}
 use Rattle.machine_desc.specs.declared.trees.Edge.{Edge}
 use Rattle.machine_desc.specs.Live.{IsInside, IsLiveChip, IsSite}
 use Rattle.machine_desc.specs.RoutingTree.{end_of, IsRoutingTree}
 use Rattle.machine_desc.specs.Branch.{Exit, IsBranch, arrival_at}
-use Rattle.machine_desc.proofs.Branches.{ComesBy, comes_by, exit_leads, ExitLeads, way_first, same_place, branch_short, branch_inside, exit_of, last_exit}
+use Rattle.machine_desc.proofs.Branches.{ComesBy, comes_by, way_first, same_place, branch_short, branch_inside, exit_of, last_exit}
 use Rattle.machine_desc.proofs.Sites.{site_parts}
 use Rattle.machine_desc.proofs.TreeLemmas.{one_edge_into}
 use Rattle.spin_base.specs.Outputs.{out_of}
@@ -33,14 +33,10 @@ use Rattle.mesh_core.proofs.Exchange.{Among, among_contains, count_by-cons}
 use Rattle.mesh_core.proofs.Events.{and_true_left, and_true_right}
 use Rattle.mesh_core.proofs.LedgerLaw.{one_net}
 use Rattle.mesh_core.proofs.Law.{leaves_parts, leaves_from, ComesThere, comes_parts, comes_from}
+use Rattle.mesh_core.proofs.OneWay.{last_place}
 use Rattle.mesh_core.proofs.Ways.{nat_true, nat_same, both_true, vertex_at_stands, some_way, place_below}
 
 -- ---- lists
-
-at_place : {X : Type 0} (xs : List X) (i : ℕ) → i < length xs → (x : X) × (slice_get xs i ≡ Some x)
-at_place [] i within = absurd (omega arith)
-at_place (x ∷ xs) zero within = (x, refl)
-at_place (x ∷ xs) (suc i) within = at_place xs i (omega arith)
 
 -- what is counted once is there
 counted_by : (p : Mark → Bool) (x : Mark) (xs : List Mark) (b : Bool) → p x ≡ b → (count_by p xs ≡ 1 → (y : Mark) × Among y xs × (p y ≡ true)) →
@@ -113,26 +109,6 @@ module _ (s : State) (net : NetPlan) (packet : ℕ) (tracked : IsTracked s net p
   a_way : (branch : List Exit) × (from : ℕ) × (to : ℕ) × IsWayOn s.setup.machine s.setup.spots net target branch from to
   a_way = some_way s.setup.machine s.setup.spots tracked.nets stand net tracked.in_nets target is_target
 
-  same_exit : (x : Exit) (c : Chip) (o : Out) → x.chip ≡ c → x.out ≡ o → x ≡ record { chip = c; out = o }
-  same_exit x c o e f = made x.chip c x.out o e f
-    where
-      made : (a b : Chip) (p q : Out) → a ≡ b → p ≡ q → (let y : Exit = record { chip = a; out = p } in let z : Exit = record { chip = b; out = q } in y ≡ z)
-      made a b p q e' f' = cc
-
-  -- the last exit of a branch is by the output that leads to its target
-  last_place : (t : Spot) (xs : List Exit) → IsBranch s.setup.machine net.tree.root net.tree.edges t xs →
-      (i : ℕ) × (slice_get xs i ≡ Some (last_exit t)) × (i + 1 ≡ length xs)
-  last_place t [] is = absurd is
-  last_place t (x ∷ xs) is =
-      let i : ℕ = length xs in
-      let there = at_place (x ∷ xs) i (omega arith) in
-      (i, there.1 ∙ ap Some (by_end there.0 (exit_leads s.setup.machine net.tree.edges t net.tree.root (x ∷ xs) i there.0 is there.1)), omega arith)
-    where
-      by_end : (z : Exit) → ExitLeads s.setup.machine net.tree.edges t (x ∷ xs) (length xs) z → z ≡ last_exit t
-      by_end z (inl (d, out, in_tree, (y, far, next))) =
-          let past : suc (length xs) < length (x ∷ xs) = place_below (x ∷ xs) (suc (length xs)) y next in absurd (omega arith)
-      by_end z (inr (chip, out, long)) = same_exit z t.chip (out_of t.core) (sym chip) out
-
   -- branches that pass a chip pass it at one place and come in at one port
   one_place_of : (t u : Spot) (xs ys : List Exit) → IsBranch s.setup.machine net.tree.root net.tree.edges t xs → IsBranch s.setup.machine net.tree.root net.tree.edges u ys →
       (i j : ℕ) (x y : Exit) → slice_get xs i ≡ Some x → slice_get ys j ≡ Some y → x.chip ≡ y.chip → (i ≡ j) × (arrival_at xs i ≡ arrival_at ys j)
@@ -145,8 +121,8 @@ module _ (s : State) (net : NetPlan) (packet : ℕ) (tracked : IsTracked s net p
       let on_u = vertex_at_stands s.setup.spots u to w'.ends in
       let both : Some t ≡ Some u = sym on_t ∙ on_u in
       let same : t ≡ u = cc in
-      let x = last_place t xs w.is_branch in
-      let y = last_place u ys w'.is_branch in
+      let x = last_place s.setup.machine net tree t xs w.is_branch in
+      let y = last_place s.setup.machine net tree u ys w'.is_branch in
       let place = one_place_of t u xs ys w.is_branch w'.is_branch x.0 y.0 (last_exit t) (last_exit u) x.1 y.1 (ap (λ (z : Spot). z.chip) same)
       in
       sym x.2 ∙ (ap (λ n. n + 1) place.0 ∙ y.2)
@@ -211,7 +187,7 @@ module _ (s : State) (net : NetPlan) (packet : ℕ) (tracked : IsTracked s net p
             let on = sym (ap (on_trail u.from u.to u.branch k.copy.hop) is) ∙ u.on in
             on_by k (dumped c o) is (leaves_from xs k.copy.hop c o (leaves (leaves_parts u.branch k.copy.hop c o on)))
 
-    comes_on : (k : Mark) → Contains (marks_of s) k → k.copy.packet ≡ packet → (i : ℕ) (c : Chip) (o : Out) (port : Port) →
+    pub comes_on : (k : Mark) → Contains (marks_of s) k → k.copy.packet ≡ packet → (i : ℕ) (c : Chip) (o : Out) (port : Port) →
         slice_get xs i ≡ Some (record { chip = c; out = o }) → k.station ≡ in_queue c port → is_on_trail from to xs k ≡ true
     comes_on k has is_packet i c o port at is =
         let u = on_net k has is_packet in
@@ -231,7 +207,7 @@ module _ (s : State) (net : NetPlan) (packet : ℕ) (tracked : IsTracked s net p
         on_by k (in_queue c port) is (comes_from xs k.copy.hop c port here)
 
     -- a mark at the target's vertex
-    ends_on : (k : Mark) → Contains (marks_of s) k → k.copy.packet ≡ packet → IsOfCore s target k.station → is_on_trail from to xs k ≡ true
+    pub ends_on : (k : Mark) → Contains (marks_of s) k → k.copy.packet ≡ packet → IsOfCore s target k.station → is_on_trail from to xs k ≡ true
     ends_on k has is_packet there = by_station there.2
       where
         u : OnNet k
@@ -321,7 +297,7 @@ module _ (s : State) (net : NetPlan) (packet : ℕ) (tracked : IsTracked s net p
 
   pub walk_begins : IsFound s packet (IsOfCore s target) None → Walked s net packet target 0 target.chip (out_of target.core)
   walk_begins none xs from to way =
-      let last = last_place target xs way.is_branch in
+      let last = last_place s.setup.machine net tree target xs way.is_branch in
       record { place = last.0; is_place = let n = last.2 in omega arith; at = last.1; before = λ k has is_packet on. by_station last.0 last.2 k has is_packet k.station refl on }
     where
       by_station : (i : ℕ) → i + 1 ≡ length xs → (k : Mark) → Contains (marks_of s) k → k.copy.packet ≡ packet → (at : Station) → k.station ≡ at →

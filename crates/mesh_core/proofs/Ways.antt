@@ -1,8 +1,8 @@
 -- Facts on the ways of a net: their ends are vertices, their places are few, and each wanted output lies on one.
-use Rattle.std.proofs.Common.{◌≡◌, ◌≢◌, ◌⊎◌, ℕ, ◌+◌, ◌-◌, ◌*◌, ◌<◌, ◌≤◌, suc, zero, List, map, Bool, true, false, not, ◌==◌, ◌&&◌, ◌||◌, Some, None, refl, ap, sym, ◌∙◌, subst, arith, inl, inr, length, min, nat_lt, nat_le, cond}
+use Rattle.std.proofs.Common.{◌≡◌, ◌≢◌, ℕ, ◌+◌, ◌-◌, ◌*◌, ◌<◌, ◌≤◌, suc, zero, List, map, Bool, true, false, ◌==◌, ◌&&◌, Some, None, refl, ap, sym, ◌∙◌, subst, arith, inl, inr, length, min, nat_lt, cond}
 use Rattle.std.specs.Prelude.{AllPairs}
 use Rattle.std.specs.List.{position_or_len}
-use Rattle.std.proofs.lemmas.Bool.{ltb-true, ltb-false, leb-true, or_cases, or_left, or_right, cases_order}
+use Rattle.std.proofs.lemmas.Bool.{ltb-true, ltb-false, or_cases, or_left, or_right, cases_order}
 use Rattle.std.proofs.lemmas.List.Sums.{fails_before_first}
 use Rattle.std.proofs.lemmas.List.Elements.{All-contains}
 use Rattle.std.proofs.Math.Nat.{mul-le-mul_left}
@@ -12,7 +12,6 @@ use Rattle.std.proofs.lemmas.List.Quantifiers.{position-Some}
 use Rattle.std.proofs.lemmas.List.Folds.{Any-from_list_any, list_any_at}
 use Rattle.spin_base.specs.declared.chips.Spot.{Spot}
 use Rattle.spin_base.specs.declared.chips.Chip.{Chip}
-use Rattle.spin_base.specs.declared.chips.Dir.{Dir}
 use Rattle.spin_base.specs.declared.chips.Port.TheVariants.{Local}
 use Rattle.spin_base.specs.declared.routes.Out.{Out}
 use Rattle.spin_base.specs.declared.routes.Out.TheVariants.{Link, Core}
@@ -88,6 +87,22 @@ one_index spots different v w t at at' = elim (cases_order v w) [
   | inr (inr after) ↦
       absurd (different w v t after (slice_get_within spots v t at) (get_or_from_slice_get spots w t t at' ∙ sym (get_or_from_slice_get spots v t t at)))
 ]
+
+-- a spot of the list to which an output leads has a vertex behind the output
+pub vertex_behind_there : (spots : List Spot) (c : Chip) (o : Out) (t : Spot) → Contains spots t → leads_to_spot c o t ≡ true → (v : ℕ) × (vertex_behind spots c o ≡ Some v)
+vertex_behind_there spots c o t has leads = found (nat_lt first (length spots)) refl
+  where
+    first : ℕ
+    first = position_or_len (leads_to_spot c o) spots
+
+    found : (b : Bool) → nat_lt first (length spots) ≡ b → (v : ℕ) × (cond b (Some first) None ≡ Some v)
+    found true e = (first, refl)
+    found false e =
+        let past : length spots ≤ first = ltb-false first (length spots) e in
+        let before : has.0 < first = let within : has.0 < length spots = has.1 in omega arith in
+        let fails : leads_to_spot c o (slice_index_or spots has.0 t) ≡ false = fails_before_first (leads_to_spot c o) spots has.0 t before in
+        let passes : leads_to_spot c o (slice_index_or spots has.0 t) ≡ true = ap (leads_to_spot c o) has.2 ∙ leads in
+        cc
 
 -- ---- what is common to all ways of one net
 

@@ -11,4 +11,5 @@ pub mod Step
 pub mod Tabled
 pub mod Trail
 pub mod VertexTable
+pub mod Waiting
 pub mod Whereabouts
