@@ -1,5 +1,6 @@
 pub mod Expected
 pub mod HasRun
+pub mod InParts
 pub mod Ledger
 pub mod Opened
 pub mod PutBack
@@ -12,3 +13,4 @@ pub mod Tabled
 pub mod Trail
 pub mod VertexTable
 pub mod Whereabouts
+pub mod Whole
