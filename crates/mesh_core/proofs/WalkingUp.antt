@@ -12,24 +12,28 @@ use Rattle.spin_base.specs.declared.routes.Out.TheVariants.{Link, Core}
 use Rattle.spin_base.specs.declared.copies.McCopy.{McCopy}
 use Rattle.spin_base.specs.Links.{opposite_of}
 use Rattle.machine_desc.specs.declared.trees.Edge.{Edge}
-use Rattle.machine_desc.specs.Live.{IsInside, IsUsable}
+use Rattle.machine_desc.specs.Live.{IsInside, IsLiveChip, IsSite}
 use Rattle.machine_desc.specs.RoutingTree.{end_of, IsRoutingTree}
 use Rattle.machine_desc.specs.Branch.{Exit, IsBranch, arrival_at}
-use Rattle.machine_desc.proofs.Branches.{ComesBy, comes_by, exit_leads, ExitLeads, way_first, same_place, one_edge_into, branch_short, branch_inside, core_on_branch, exit_of}
+use Rattle.machine_desc.proofs.Branches.{ComesBy, comes_by, exit_leads, ExitLeads, way_first, same_place, branch_short, branch_inside, exit_of, last_exit}
+use Rattle.machine_desc.proofs.Sites.{site_parts}
+use Rattle.machine_desc.proofs.TreeLemmas.{one_edge_into}
+use Rattle.spin_base.specs.Outputs.{out_of}
 use Rattle.net_tables.specs.declared.nets.NetPlan.{NetPlan}
 use Rattle.net_tables.specs.RightTables.{IsKeyOf}
 use Rattle.mesh_core.specs.declared.places.Where.{Where}
 use Rattle.mesh_core.specs.declared.places.Where.TheVariants.{Unsent}
 use Rattle.mesh_core.specs.State.{State, IsMesh}
 use Rattle.mesh_core.specs.Trail.{Station, unsent, in_queue, in_hand, at_core, delivered, dumped, Mark, on_trail, is_on_trail, is_packet_on_trail}
-use Rattle.mesh_core.specs.Ledger.{marks_of, AreNetsOf, IsWayOf}
+use Rattle.net_tables.specs.NetsOn.{AreNetsOn, IsWayOn}
+use Rattle.mesh_core.specs.Ledger.{marks_of}
 use Rattle.mesh_core.specs.Whereabouts.{TellsStation, IsTold, IsWhere, IsTracked}
 use Rattle.mesh_core.specs.Searches.{IsMarkThere, IsFound, IsOfCore, IsOfOutput, IsOfPort, port_behind, IsEdgeInto}
 use Rattle.mesh_core.proofs.Exchange.{Among, among_contains, count_by-cons}
 use Rattle.mesh_core.proofs.Events.{and_true_left, and_true_right}
 use Rattle.mesh_core.proofs.LedgerLaw.{one_net}
 use Rattle.mesh_core.proofs.Law.{leaves_parts, leaves_from, ComesThere, comes_parts, comes_from}
-use Rattle.mesh_core.proofs.Ways.{nat_true, nat_same, both_true, vertex_at_stands, vertex_there, place_below}
+use Rattle.mesh_core.proofs.Ways.{nat_true, nat_same, both_true, vertex_at_stands, some_way, place_below}
 
 -- ---- lists
 
@@ -92,29 +96,22 @@ module _ (s : State) (net : NetPlan) (packet : ℕ) (tracked : IsTracked s net p
       All-contains (Contains s.setup.spots) net.targets target
       (All-contains (λ n. All (Contains s.setup.spots) n.targets) tracked.nets net stand.targets tracked.in_nets) is_target
 
-  pub target_usable : IsMesh s → IsUsable s.setup.machine target
-  target_usable mesh = All-contains (IsUsable s.setup.machine) s.setup.spots target mesh.usable on_spot
+  pub target_is_site : IsMesh s → IsSite s.setup.machine target
+  target_is_site mesh = All-contains (IsSite s.setup.machine) s.setup.spots target mesh.sites on_spot
+
+  -- the root of the net's tree is the chip of a vertex, so live
+  root_lives : IsMesh s → IsLiveChip s.setup.machine net.tree.root
+  root_lives mesh =
+      let source = All-contains (λ n. Contains s.setup.spots n.source) tracked.nets net stand.sources tracked.in_nets in
+      let site : IsSite s.setup.machine net.source = All-contains (IsSite s.setup.machine) s.setup.spots net.source mesh.sites source in
+      subst (λ (c : Chip). IsLiveChip s.setup.machine c) (sym (All-contains (λ n. n.tree.root ≡ n.source.chip) tracked.nets net stand.roots tracked.in_nets))
+      (site_parts s.setup.machine net.source site).0
 
   -- ---- the ways to the target
 
   -- there is a way of the net to the target
-  record SomeWay : Type 0 where
-    branch : List Exit
-    from : ℕ
-    to : ℕ
-    way : IsWayOn s.setup.machine s.setup.spots net target branch from to
-
-  some_way : SomeWay
-  some_way =
-      let found = core_on_branch s.setup.machine net.tree.root net.tree.edges net.targets tree target is_target in
-      let begin = vertex_there s.setup.spots net.source (All-contains (λ n. Contains s.setup.spots n.source) tracked.nets net stand.sources tracked.in_nets) in
-      let end = vertex_there s.setup.spots target on_spot in
-      record {
-        branch = found.0;
-        from = begin.0;
-        to = end.0;
-        way = record { is_target = is_target; is_branch = found.1; begins = begin.1; ends = end.1 };
-      }
+  a_way : (branch : List Exit) × (from : ℕ) × (to : ℕ) × IsWayOn s.setup.machine s.setup.spots net target branch from to
+  a_way = some_way s.setup.machine s.setup.spots tracked.nets stand net tracked.in_nets target is_target
 
   same_exit : (x : Exit) (c : Chip) (o : Out) → x.chip ≡ c → x.out ≡ o → x ≡ record { chip = c; out = o }
   same_exit x c o e f = made x.chip c x.out o e f
@@ -122,22 +119,19 @@ module _ (s : State) (net : NetPlan) (packet : ℕ) (tracked : IsTracked s net p
       made : (a b : Chip) (p q : Out) → a ≡ b → p ≡ q → (let y : Exit = record { chip = a; out = p } in let z : Exit = record { chip = b; out = q } in y ≡ z)
       made a b p q e' f' = cc
 
-  -- the last exit of a branch is its target's core
-  last_exit : (t : Spot) (xs : List Exit) → IsBranch s.setup.machine net.tree.root net.tree.edges t xs →
-      (i : ℕ) × (slice_get xs i ≡ Some (record { chip = t.chip; out = Core t.core })) × (i + 1 ≡ length xs)
-  last_exit t [] is = absurd is
-  last_exit t (x ∷ xs) is =
+  -- the last exit of a branch is by the output that leads to its target
+  last_place : (t : Spot) (xs : List Exit) → IsBranch s.setup.machine net.tree.root net.tree.edges t xs →
+      (i : ℕ) × (slice_get xs i ≡ Some (last_exit t)) × (i + 1 ≡ length xs)
+  last_place t [] is = absurd is
+  last_place t (x ∷ xs) is =
       let i : ℕ = length xs in
       let there = at_place (x ∷ xs) i (omega arith) in
-      (i, there.1 ∙ ap Some (by_output there.0 there.1 there.0.out refl (exit_leads s.setup.machine net.tree.edges t net.tree.root (x ∷ xs) i there.0 is there.1)), omega arith)
+      (i, there.1 ∙ ap Some (by_end there.0 (exit_leads s.setup.machine net.tree.edges t net.tree.root (x ∷ xs) i there.0 is there.1)), omega arith)
     where
-      by_output : (z : Exit) → slice_get (x ∷ xs) (length xs) ≡ Some z → (o : Out) → z.out ≡ o →
-          ExitLeads s.setup.machine net.tree.edges t (x ∷ xs) (length xs) z o → z ≡ record { chip = t.chip; out = Core t.core }
-      by_output z at (Link d) out_is leads =
-          let past : suc (length xs) < length (x ∷ xs) = place_below (x ∷ xs) (suc (length xs)) leads.1.0 leads.1.2 in absurd (omega arith)
-      by_output z at (Core p) out_is leads =
-          same_exit z t.chip (Core t.core) (ap (λ (u : Spot). u.chip) (sym leads.0))
-          (out_is ∙ ap (λ (u : Spot). Core u.core) (sym leads.0))
+      by_end : (z : Exit) → ExitLeads s.setup.machine net.tree.edges t (x ∷ xs) (length xs) z → z ≡ last_exit t
+      by_end z (inl (d, out, in_tree, (y, far, next))) =
+          let past : suc (length xs) < length (x ∷ xs) = place_below (x ∷ xs) (suc (length xs)) y next in absurd (omega arith)
+      by_end z (inr (chip, out, long)) = same_exit z t.chip (out_of t.core) (sym chip) out
 
   -- branches that pass a chip pass it at one place and come in at one port
   one_place_of : (t u : Spot) (xs ys : List Exit) → IsBranch s.setup.machine net.tree.root net.tree.edges t xs → IsBranch s.setup.machine net.tree.root net.tree.edges u ys →
@@ -151,10 +145,9 @@ module _ (s : State) (net : NetPlan) (packet : ℕ) (tracked : IsTracked s net p
       let on_u = vertex_at_stands s.setup.spots u to w'.ends in
       let both : Some t ≡ Some u = sym on_t ∙ on_u in
       let same : t ≡ u = cc in
-      let x = last_exit t xs w.is_branch in
-      let y = last_exit u ys w'.is_branch in
-      let place = one_place_of t u xs ys w.is_branch w'.is_branch x.0 y.0 (record { chip = t.chip; out = Core t.core })
-      (record { chip = u.chip; out = Core u.core }) x.1 y.1 (ap (λ (z : Spot). z.chip) same)
+      let x = last_place t xs w.is_branch in
+      let y = last_place u ys w'.is_branch in
+      let place = one_place_of t u xs ys w.is_branch w'.is_branch x.0 y.0 (last_exit t) (last_exit u) x.1 y.1 (ap (λ (z : Spot). z.chip) same)
       in
       sym x.2 ∙ (ap (λ n. n + 1) place.0 ∙ y.2)
 
@@ -324,11 +317,11 @@ module _ (s : State) (net : NetPlan) (packet : ℕ) (tracked : IsTracked s net p
       told_by xs from to way k found.is_mark found.is_packet
       (comes_on xs from to way k found.is_mark found.is_packet on.place chip out port on.at found.there) w found.told
 
-  -- the walk begins at the target's core, where nothing was found
+  -- the walk begins at the target's output, where nothing was found at its vertex
 
-  pub walk_begins : IsFound s packet (IsOfCore s target) None → Walked s net packet target 0 target.chip (Core target.core)
+  pub walk_begins : IsFound s packet (IsOfCore s target) None → Walked s net packet target 0 target.chip (out_of target.core)
   walk_begins none xs from to way =
-      let last = last_exit target xs way.is_branch in
+      let last = last_place target xs way.is_branch in
       record { place = last.0; is_place = let n = last.2 in omega arith; at = last.1; before = λ k has is_packet on. by_station last.0 last.2 k has is_packet k.station refl on }
     where
       by_station : (i : ℕ) → i + 1 ≡ length xs → (k : Mark) → Contains (marks_of s) k → k.copy.packet ≡ packet → (at : Station) → k.station ≡ at →
@@ -352,21 +345,21 @@ module _ (s : State) (net : NetPlan) (packet : ℕ) (tracked : IsTracked s net p
           omega arith
 
   -- the walk is at a chip inside the grid
-  pub walk_inside : (steps : ℕ) (chip : Chip) (out : Out) → Walked s net packet target steps chip out → IsInside s.setup.machine chip
-  walk_inside steps chip out walked =
-      let w = some_way in
-      let on = walked w.branch w.from w.to w.way in
-      branch_inside s.setup.machine net.tree.root net.tree.edges (map (λ x. x.chip) net.targets) tree target w.branch w.way.is_branch on.place
+  pub walk_inside : IsMesh s → (steps : ℕ) (chip : Chip) (out : Out) → Walked s net packet target steps chip out → IsInside s.setup.machine chip
+  walk_inside mesh steps chip out walked =
+      let w = a_way in
+      let on = walked w.0 w.1 w.2 w.3 in
+      branch_inside s.setup.machine net.tree.root net.tree.edges (map (λ x. x.chip) net.targets) tree (root_lives mesh) target w.0 w.3.is_branch on.place
       (record { chip = chip; out = out }) on.at
 
   -- the walk has fewer steps than the grid has chips
-  pub walk_short : (steps : ℕ) (chip : Chip) (out : Out) → Walked s net packet target steps chip out → s.setup.machine.width * s.setup.machine.height ≤ steps → ⊥
-  walk_short steps chip out walked many =
-      let w = some_way in
-      let on = walked w.branch w.from w.to w.way in
-      let place : on.place + 1 + steps ≡ length w.branch = on.is_place in
-      let short : length w.branch ≤ s.setup.machine.width * s.setup.machine.height =
-      branch_short s.setup.machine net.tree.root net.tree.edges (map (λ x. x.chip) net.targets) tree target w.branch w.way.is_branch
+  pub walk_short : IsMesh s → (steps : ℕ) (chip : Chip) (out : Out) → Walked s net packet target steps chip out → s.setup.machine.width * s.setup.machine.height ≤ steps → ⊥
+  walk_short mesh steps chip out walked many =
+      let w = a_way in
+      let on = walked w.0 w.1 w.2 w.3 in
+      let place : on.place + 1 + steps ≡ length w.0 = on.is_place in
+      let short : length w.0 ≤ s.setup.machine.width * s.setup.machine.height =
+      branch_short s.setup.machine net.tree.root net.tree.edges (map (λ x. x.chip) net.targets) tree (root_lives mesh) target w.0 w.3.is_branch
       in
       omega arith
 

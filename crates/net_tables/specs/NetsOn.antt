@@ -1,5 +1,5 @@
 -- Nets that stand on a machine whose vertices are on these spots, and the ways of their packets.
-use Rattle.std.specs.Prelude.{◌≡◌, ◌≢◌, ℕ, ⊥, List, All, AllPairs, Contains, Option, Some, position}
+use Rattle.std.specs.Prelude.{◌≡◌, ◌≢◌, ℕ, List, All, AllPairs, Contains, Option, Some, position}
 use Rattle.spin_base.specs.declared.chips.Spot.{Spot}
 use Rattle.spin_base.specs.Equality.{spot_eq}
 use Rattle.machine_desc.specs.Description.{Description}
