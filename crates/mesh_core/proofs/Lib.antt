@@ -22,6 +22,7 @@ pub mod Queued
 pub mod Searching
 pub mod ServingLaws
 pub mod Standing
+pub mod StepLedger
 pub mod StepParts
 pub mod VertexTableLaws
 pub mod WalkingUp
