@@ -68,7 +68,7 @@ pub(crate) fn guard_of(rows: &[Row], s: usize, now: usize) -> Guard
     ensures guard { IsGuardAt rows.now s result }
     ensures fresh { IsFresh now result }
 {
-    let met = first_met(rows, s);
+    let met = next_to_meet(rows, s);
     Guard {
         rival: first_rival(rows, s, met),
         clear: general_from(rows, met),
@@ -78,7 +78,7 @@ pub(crate) fn guard_of(rows: &[Row], s: usize, now: usize) -> Guard
 }
 
 // The place of the first row behind row `s` that meets an alias of it, and the number of rows where there is none.
-fn first_met(rows: &[Row], s: usize) -> usize
+fn next_to_meet(rows: &[Row], s: usize) -> usize
     requires inside { s < length rows.now }
     ensures behind { s < result }
     ensures missed { (r : ℕ) (d : ARow) → s < r → r < result → Misses (slice_index_or rows.now r d).block (slice_index_or rows.now s d) }

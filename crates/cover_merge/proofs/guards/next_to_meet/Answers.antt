@@ -1,7 +1,7 @@
 -- Each row passed is missed.
 use Rattle.std.proofs.Common.{arith}
 use Rattle.cover_merge.proofs.GuardLemmas.{missed_more}
-use Rattle.cover_merge.proofs.guards.first_met.Goals as goal
+use Rattle.cover_merge.proofs.guards.next_to_meet.Goals as goal
 
 pub loop-r-preserved : goal.loop-r-preserved
 loop-r-preserved c =
