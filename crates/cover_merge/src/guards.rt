@@ -7,10 +7,10 @@ ghost use Rattle.cover_checks.specs.Merge.{has, place_for, IsOneRoute, IsMergeSe
 ghost use Rattle.cover_merge.specs.Guards.{IsRival, HasRival, IsGuardAt, AreGuards, IsSilent};
 ghost use Rattle.cover_merge.specs.Tried.{IsFresh, IsRefusedAt, AreTried, AreMarked, IsMarked};
 
-use cover_checks::{merged_block, misses, passes_down};
+use cover_checks::{is_clear, merged_block, passes_down};
 use spin_base::Memory;
 use std::alloc::Global;
-use tern_word::{Row, Table, generality, merge_two};
+use tern_word::{Row, Table, generality, merge_two, misses};
 
 /// What is known of the rows behind a row: the generality of the first of another route that meets an alias of it, and
 /// that of the first of any route; 33 where there is none. 33 and 0 say nothing. And when the row was last tried with all
@@ -195,15 +195,6 @@ fn is_clear_behind(rows: &[Row], places: &[u32], s: u32, r: u32) -> bool
         return true;
     }
     is_clear(rows, places, s, r)
-}
-
-// Whether row `r` is of the set or its block meets no alias of row `s`.
-fn is_clear(rows: &[Row], places: &[u32], s: u32, r: u32) -> bool
-    requires row { r < length rows.now }
-    requires member { s < length rows.now }
-    ensures { IsTrue result ↔ IsClear rows.now places.now s r }
-{
-    misses(rows[r as usize].block, &rows[s as usize]) || places.contains(&r)
 }
 
 /// The number of rows whose generality is at most `general`: the place behind them.

@@ -21,13 +21,14 @@ use Rattle.spin_base.specs.Lookup.{matches, straight_on, default_route, lookup}
 use Rattle.spin_base.specs.Links.{dir_number}
 use Rattle.tern_word.specs.declared.tables.Alias.{Alias}
 use Rattle.tern_word.specs.declared.tables.Row.{Row}
+use Rattle.tern_word.specs.Entries.{entry_of}
 use Rattle.tern_word.specs.Ternary.{Matches, Intersects}
 use Rattle.tern_word.specs.SoundTable.{Misses, IsSound, Original, served_by, served}
 use Rattle.cover_checks.specs.Merge.{has, rows_at}
 use Rattle.cover_checks.proofs.Answering.{fails}
 use Rattle.cover_checks.proofs.Lists.{AllPairs-nil, All-flat_map}
 use Rattle.cover_checks.proofs.Positions.{has-at, has-place, rows_at-from, rows_at-has, same_route}
-use Rattle.default_routes.specs.KeptRows.{IsStrippable, KeptFrom, ends, goes, stays, AreKept, ArePlaces, entry_of, RoutesAll, Routes}
+use Rattle.default_routes.specs.KeptRows.{IsStrippable, KeptFrom, ends, goes, stays, AreKept, ArePlaces, RoutesAll, Routes}
 
 -- ---- lookup, entry by entry
 

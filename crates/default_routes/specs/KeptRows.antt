@@ -3,10 +3,10 @@ use Rattle.std.specs.Prelude.{◌≡◌, ℕ, suc, ◌<◌, ◌≤◌, ◌^◌, 
 use Rattle.spin_base.specs.declared.chips.Dir.{Dir}
 use Rattle.spin_base.specs.declared.chips.Port.{Port}
 use Rattle.spin_base.specs.declared.chips.Port.TheVariants.{Link}
-use Rattle.spin_base.specs.declared.blocks.Entry.{Entry}
 use Rattle.spin_base.specs.Lookup.{straight_on, lookup}
 use Rattle.tern_word.specs.declared.tables.Alias.{Alias}
 use Rattle.tern_word.specs.declared.tables.Row.{Row}
+use Rattle.tern_word.specs.Entries.{entry_of}
 use Rattle.tern_word.specs.Ternary.{Matches}
 use Rattle.tern_word.specs.SoundTable.{Misses, Original}
 use Rattle.cover_checks.specs.Merge.{rows_at}
@@ -35,10 +35,6 @@ pub record ArePlaces (rows : List Row) (places : List ℕ) : Type 0 where
   pub in_range : All (λ s. s < length rows) places
   pub ascending : AllPairs (λ s t. s < t) places
   pub few : length places ≤ length rows
-
--- the entry of a row
-abbrev pub entry_of : Row → Entry
-entry_of r = record { key = r.block.key; mask = r.block.mask; route = r.route }
 
 -- In the rows at the places, lookup gives each key of each alias, arriving at the alias's port, its row's route.
 abbrev pub RoutesAll : List Row → List ℕ → Type 0

@@ -7,11 +7,10 @@ ghost use Rattle.spin_base.specs.declared.chips.Dir.{Dir};
 ghost use Rattle.spin_base.specs.declared.chips.Port.TheVariants.{Link};
 ghost use Rattle.default_routes.specs.KeptRows.{IsStrippable, AreKept, ArePlaces, RoutesAll, Routes};
 
-use cover_checks::misses;
 use cover_merge::Covered;
 use spin_base::{Dir, Memory, Port, Seq};
 use std::alloc::Global;
-use tern_word::{Alias, Row};
+use tern_word::{Alias, Row, misses};
 
 /// A covered table, and the places of the rows that are loaded, ascending.
 #[derive(Debug, Drop)]

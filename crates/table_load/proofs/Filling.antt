@@ -7,7 +7,7 @@ use Rattle.std.proofs.lemmas.List.{set_at, length-take-le, take_more, length-set
 use Rattle.spin_base.specs.declared.blocks.Entry.{Entry}
 use Rattle.spin_base.specs.declared.chips.Chip.{Chip}
 use Rattle.tcam_find.specs.Memory.{unused, empty_memory}
-use Rattle.table_load.specs.declared.tables.ChipTable.{ChipTable}
+use Rattle.spin_base.specs.declared.blocks.ChipTable.{ChipTable}
 use Rattle.table_load.specs.declared.tables.Image.{Image}
 use Rattle.table_load.specs.Images.{IsValid, IsBefore}
 use Rattle.table_load.specs.Memories.{index_of, rows_at, loaded}

@@ -2,7 +2,7 @@
 ghost use Rattle.std.specs.Prelude.{◌≡◌, ◌≤◌, ◌++◌, length, OnOk, IfOk};
 ghost use Rattle.table_load.specs.Images.{IsValid, Spells, head_bytes, table_bytes, row_bytes};
 
-use crate::tables::{ChipTable, Image};
+use crate::tables::Image;
 use spin_base::{Entry, Memory, Seq};
 use std::alloc::Global;
 

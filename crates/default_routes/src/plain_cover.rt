@@ -1,10 +1,9 @@
 // The plain slow form of covering: each step from its rule, with nothing kept from one to the next. The fast form is
 // tried beside it on small random tables.
-use super::*;
-use cover_merge::cover;
+use cover_merge::{Merge, cover};
 use spin_base::{Block, Memory, Port, Route, Seq};
 use std::alloc::Global;
-use tern_word::{Alias, Row, Table, block_of, generality, matches, merge_two};
+use tern_word::{Alias, Row, Table, block_of, generality, is_sound, matches, merge_two};
 
 /// A row, whose aliases are single keys.
 #[derive(Clone, Drop)]
@@ -261,17 +260,28 @@ fn after(alloc: Global, rows: &[Plain], set: &[usize], block: Block) -> Result<V
     Ok(new)
 }
 
+/// The covered rows, and the sets that were merged.
+struct PlainCovered {
+    rows: Vec<Plain>,
+    sets: Vec<Vec<usize>>,
+}
+
 /// The covered rows.
-fn slow_cover(alloc: Global, start: Vec<Plain>) -> Result<Vec<Plain>, Memory> {
+fn slow_cover(alloc: Global, start: Vec<Plain>, target: usize) -> Result<PlainCovered, Memory> {
     let mut rows = start;
+    let mut sets = Vec::new(alloc);
     for _ in 0..100 {
+        if rows.len() <= target {
+            break;
+        }
         let set = chosen(alloc, &rows)?;
         let Some(block) = merged(&rows, &set) else {
-            return Ok(rows);
+            break;
         };
         rows = after(alloc, &rows, &set, block)?;
+        sets.push(set)?;
     }
-    Ok(rows)
+    Ok(PlainCovered { rows, sets })
 }
 
 /// How many routes the random tables have.
@@ -326,23 +336,67 @@ fn are_same(rows: &[Row], wanted: &[Plain]) -> bool {
         return false;
     }
     for s in 0..rows.len() {
-        if rows[s].block != wanted[s].block || rows[s].route.bits != wanted[s].bits {
+        if !is_same(&rows[s], &wanted[s]) {
             return false;
         }
     }
     true
 }
 
-/// Whether both forms cover the table of this seed alike, and how many rows are left.
+/// Whether they have the same block, route and aliases.
+fn is_same(row: &Row, wanted: &Plain) -> bool {
+    let aliases = row.aliases.as_slice();
+    if row.block != wanted.block || row.route.bits != wanted.bits {
+        return false;
+    }
+    if aliases.len() != wanted.keys.len() {
+        return false;
+    }
+    for k in 0..aliases.len() {
+        if aliases[k].block != block_of(wanted.keys[k], 1) {
+            return false;
+        }
+    }
+    true
+}
+
+/// Whether the same sets were merged, one by one.
+fn are_same_merges(merges: &[Merge], wanted: &[Vec<usize>]) -> bool {
+    if merges.len() != wanted.len() {
+        return false;
+    }
+    for m in 0..merges.len() {
+        if !is_same_set(merges[m].places.as_slice(), &wanted[m]) {
+            return false;
+        }
+    }
+    true
+}
+
+fn is_same_set(places: &[u32], wanted: &[usize]) -> bool {
+    if places.len() != wanted.len() {
+        return false;
+    }
+    for k in 0..places.len() {
+        if places[k] as usize != wanted[k] {
+            return false;
+        }
+    }
+    true
+}
+
+/// Whether both forms cover the table of this seed alike.
 fn agree(alloc: Global, seed: u32) -> Result<bool, Memory> {
     let rows = random_rows(alloc, seed)?;
     let table = table_of(alloc, &rows)?;
     if table.rows.len() > 100 || !is_sound(&table) {
         return Ok(false);
     }
-    let fast = cover(alloc, table, 0)?;
-    let slow = slow_cover(alloc, rows)?;
-    Ok(are_same(fast.table.rows.as_slice(), &slow))
+    let target = seed % 16;
+    let fast = cover(alloc, table, target)?;
+    let slow = slow_cover(alloc, rows, target as usize)?;
+    Ok(are_same_merges(fast.merges.as_slice(), &slow.sets)
+        && are_same(fast.table.rows.as_slice(), &slow.rows))
 }
 
 /// Whether both forms agree on so many tables.

@@ -1,14 +1,13 @@
-// Worked examples of covering and default routing, on tables that are asked whether they are sound.
-ghost use Rattle.std.specs.Prelude.{◌≡◌, ◌∷◌, [], ◌<◌, ◌^◌, IfOk, length};
-ghost use Rattle.cover_checks.specs.Merge.{IsOneRoute};
+// Worked examples of merging, covering and default routing, on tables that are asked whether they are sound.
+ghost use Rattle.std.specs.Prelude.{◌≡◌, ◌∷◌, [], IfOk, IsTrue};
+ghost use Rattle.cover_checks.specs.Merge.{IsMergeSet};
 
 use super::*;
-use cover_merge::{Covered, cover, refine};
-use default_routes::strip;
+use cover_merge::{Covered, apply, cover, refine};
 use spin_base::{Block, Dir, Memory, Port, Route, Seq};
 use std::alloc::Global;
 use std::test::Fail;
-use tern_word::{Alias, Row, Table, block_of};
+use tern_word::{Alias, Row, Table, block_of, is_sound};
 
 /// Three links and a core, as routes.
 const A: Route = Route { bits: 1 };
@@ -105,6 +104,12 @@ fn three_rows_of_one_route_become_one(rt: HostRuntime) {
 }
 
 #[test]
+fn two_keys_that_agree_in_no_bit_become_the_block_of_all_keys(rt: HostRuntime) {
+    let keys = [(0, A), (0xffff_ffff, A)];
+    assert!(rt; is_covered_by(rt.alloc(), &keys, 0, &[(0, 0, A)], 1));
+}
+
+#[test]
 fn a_table_that_is_short_enough_stays(rt: HostRuntime) {
     let keys = [(0, A), (1, B), (2, A), (3, A)];
     let wanted = [(0, ONE, A), (1, ONE, B), (2, ONE, A), (3, ONE, A)];
@@ -148,31 +153,17 @@ fn a_merge_tells_its_places(rt: HostRuntime) -> Result<(), Fail> {
     Ok(())
 }
 
-/// How many places are left of a pair of rows, where they are of one route and the table is sound.
-fn refined_pair(alloc: Global, table: &Table, i: u32, j: u32) -> Option<usize> {
+/// Whether the places are those of two rows of one route, in order.
+fn is_pair(table: &Table, i: u32, j: u32) -> bool
+    ensures { IsTrue result → IsMergeSet table.now.rows (i ∷ j ∷ []) }
+{
     let rows = table.rows.as_slice();
-    if rows.len() < 100 && i < j && (j as usize) < rows.len() {
-        if rows[i as usize].route == rows[j as usize].route {
-            return refined(alloc, table, i, j);
+    if i < j {
+        if (j as usize) < rows.len() {
+            return rows[i as usize].route == rows[j as usize].route;
         }
     }
-    None
-}
-
-fn refined(alloc: Global, table: &Table, i: u32, j: u32) -> Option<usize>
-    requires few { length table.now.rows < 2 ^ 32 }
-    requires set { IsOneRoute table.now.rows (i ∷ j ∷ []) }
-{
-    if !is_sound(table) {
-        return None;
-    }
-    let Ok(places) = two_places(alloc, i, j) else {
-        return None;
-    };
-    match refine(table, places) {
-        Ok(answer) => Some(answer.len()),
-        Err(_) => None,
-    }
+    false
 }
 
 fn two_places(alloc: Global, i: u32, j: u32) -> Result<Seq<u32>, Memory>
@@ -184,13 +175,75 @@ fn two_places(alloc: Global, i: u32, j: u32) -> Result<Seq<u32>, Memory>
     Ok(places)
 }
 
+/// How many places are left of a pair of rows of one route, where the table is sound.
+fn refined_pair(alloc: Global, table: &Table, i: u32, j: u32) -> Result<Option<usize>, Memory> {
+    if table.rows.len() > 100 {
+        return Ok(None);
+    }
+    if !is_sound(table) {
+        return Ok(None);
+    }
+    if !is_pair(table, i, j) {
+        return Ok(None);
+    }
+    let places = two_places(alloc, i, j)?;
+    let left = refine(alloc, table, places)?;
+    Ok(Some(left.len()))
+}
+
+/// The table after the merge of a pair of rows of one route, where it is sound.
+fn merged_pair(alloc: Global, mut table: Table, i: u32, j: u32) -> Result<Option<Table>, Memory> {
+    if table.rows.len() > 100 {
+        return Ok(None);
+    }
+    if !is_sound(&table) {
+        return Ok(None);
+    }
+    if !is_pair(&table, i, j) {
+        return Ok(None);
+    }
+    let places = two_places(alloc, i, j)?;
+    apply(alloc, &mut table, &places)?;
+    Ok(Some(table))
+}
+
+/// Whether the aliases are these keys.
+fn are_keys(aliases: &[Alias], wanted: &[u32]) -> bool {
+    if aliases.len() != wanted.len() {
+        return false;
+    }
+    for (i, key) in wanted.iter().enumerate() {
+        if aliases[i].block != block_of(*key, 1) {
+            return false;
+        }
+    }
+    true
+}
+
+/// Whether the rows are those of keys 1 and 3 and then the merge of 0 and 2.
+fn are_merged(rows: &[Row]) -> bool {
+    let wanted = [(1, ONE, B), (3, ONE, A), (0, 0xffff_fffd, A)];
+    are_rows(rows, &wanted) && are_keys(rows[2].aliases.as_slice(), &[0, 2])
+}
+
+#[test]
+fn a_merge_stands_behind_the_rows_of_single_keys(rt: HostRuntime) -> Result<(), Fail> {
+    let keys = [(0, A), (1, B), (2, A), (3, A)];
+    let table = keys_to(rt.alloc(), &keys)?;
+    let merged = merged_pair(rt.alloc(), table, 0, 2)?.ok_or("they are a pair")?;
+    assert!(rt; are_merged(merged.rows.as_slice()));
+    Ok(())
+}
+
 #[test]
 fn nothing_is_left_of_a_pair_that_would_lose_a_key(rt: HostRuntime) -> Result<(), Fail> {
     let keys = [(0, A), (1, B), (2, B), (3, A)];
     let found = covered(rt.alloc(), keys_to(rt.alloc(), &keys)?, 0).ok_or("it is covered")?;
-    assert_eq!(rt; refined_pair(rt.alloc(), &found.table, 0, 1), Some(0));
+    assert_eq!(rt; refined_pair(rt.alloc(), &found.table, 0, 1)?, Some(0));
     Ok(())
 }
+
+fn may_be_lent<T: Send + Sync>() {}
 
 /// Whether of a sound table the rows at these places are kept.
 fn are_kept(alloc: Global, table: Table, places: &[u32]) -> bool {
@@ -202,7 +255,10 @@ fn are_kept(alloc: Global, table: Table, places: &[u32]) -> bool {
     }
     let merges = Seq::new(alloc);
     match strip(alloc, Covered { table, merges }) {
-        Ok(found) => found.kept.as_slice() == places,
+        Ok(found) => {
+            may_be_lent::<Final>();
+            found.kept.as_slice() == places
+        }
         Err(_) => false,
     }
 }
@@ -237,14 +293,5 @@ fn straight_on(alloc: Global, with_wide: bool) -> Result<Table, Memory> {
 fn a_row_stays_where_a_later_row_would_take_its_packets(rt: HostRuntime) -> Result<(), Fail> {
     assert!(rt; are_kept(rt.alloc(), straight_on(rt.alloc(), true)?, &[0, 1]));
     assert!(rt; are_kept(rt.alloc(), straight_on(rt.alloc(), false)?, &[]));
-    Ok(())
-}
-
-#[test]
-fn a_wide_row_before_its_alias_is_not_sound(rt: HostRuntime) -> Result<(), Fail> {
-    let mut rows = Seq::new(rt.alloc());
-    rows.push(wide_row(rt.alloc())?)?;
-    rows.push(row(rt.alloc(), 1, A, Port::Local)?)?;
-    assert!(rt; !is_sound(&Table { rows }));
     Ok(())
 }
