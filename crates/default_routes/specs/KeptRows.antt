@@ -1,7 +1,6 @@
 -- The rows that must be kept, since default routing does not replace them.
 use Rattle.std.specs.Prelude.{◌≡◌, ℕ, suc, ◌<◌, ◌≤◌, ◌^◌, List, [], ◌∷◌, length, All, AllPairs, map, slice_get, slice_index_or, Some}
 use Rattle.spin_base.specs.declared.chips.Dir.{Dir}
-use Rattle.spin_base.specs.declared.chips.Port.{Port}
 use Rattle.spin_base.specs.declared.chips.Port.TheVariants.{Link}
 use Rattle.spin_base.specs.Lookup.{straight_on, lookup}
 use Rattle.tern_word.specs.declared.tables.Alias.{Alias}

@@ -261,6 +261,7 @@ fn after(alloc: Global, rows: &[Plain], set: &[usize], block: Block) -> Result<V
 }
 
 /// The covered rows, and the sets that were merged.
+#[derive(Drop)]
 struct PlainCovered {
     rows: Vec<Plain>,
     sets: Vec<Vec<usize>>,
@@ -395,8 +396,10 @@ fn agree(alloc: Global, seed: u32) -> Result<bool, Memory> {
     let target = seed % 16;
     let fast = cover(alloc, table, target)?;
     let slow = slow_cover(alloc, rows, target as usize)?;
-    Ok(are_same_merges(fast.merges.as_slice(), &slow.sets)
-        && are_same(fast.table.rows.as_slice(), &slow.rows))
+    Ok(
+        are_same_merges(fast.merges.as_slice(), &slow.sets)
+            && are_same(fast.table.rows.as_slice(), &slow.rows),
+    )
 }
 
 /// Whether both forms agree on so many tables.

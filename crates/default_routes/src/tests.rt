@@ -223,7 +223,10 @@ fn are_keys(aliases: &[Alias], wanted: &[u32]) -> bool {
 /// Whether the rows are those of keys 1 and 3 and then the merge of 0 and 2.
 fn are_merged(rows: &[Row]) -> bool {
     let wanted = [(1, ONE, B), (3, ONE, A), (0, 0xffff_fffd, A)];
-    are_rows(rows, &wanted) && are_keys(rows[2].aliases.as_slice(), &[0, 2])
+    match rows {
+        [_, _, merged] => are_rows(rows, &wanted) && are_keys(merged.aliases.as_slice(), &[0, 2]),
+        _ => false,
+    }
 }
 
 #[test]

@@ -17,14 +17,11 @@ fn copy_of(packet: u32) -> McCopy {
     }
 }
 
-fn may_be_lent<T: Send + Sync>() {}
-
 #[test]
 fn offers_fill_the_link_and_the_rest_comes_down(rt: HostRuntime) -> Result<(), Fail> {
     let Ok(ends) = link_up(&rt, rt.alloc(), Seq::new(rt.alloc()), 2) else {
         return Ok(Err(Memory)?);
     };
-    may_be_lent::<LinkEnds>();
     let LinkEnds {
         link,
         mut tx,

@@ -3,7 +3,7 @@ ghost use Rattle.std.specs.Prelude.{◌≡◌, ◌≤◌, ◌++◌, length, OnOk
 ghost use Rattle.table_load.specs.Images.{IsValid, Spells, head_bytes, table_bytes, row_bytes};
 
 use crate::tables::Image;
-use spin_base::{Entry, Memory, Seq};
+use spin_base::{ChipTable, Entry, Memory, Seq};
 use std::alloc::Global;
 
 /// The bytes that spell a valid image.

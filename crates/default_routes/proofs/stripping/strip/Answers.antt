@@ -1,5 +1,5 @@
 -- The kept rows route as the covered table does.
-use Rattle.std.proofs.Common.{subst, sym}
+use Rattle.std.proofs.Common.{subst}
 use Rattle.default_routes.proofs.StripLemmas.{kept_routes, kept_serve, kept_places}
 use Rattle.default_routes.specs.KeptRows.{AreKept}
 use Rattle.default_routes.proofs.stripping.strip.Goals as goal
