@@ -1,11 +1,12 @@
 -- Which targets no walk of live links reaches.
-use Rattle.std.specs.Prelude.{◌≡◌, ◌<◌, ◌≤◌, ℕ, List, Contains, Some, slice_get}
+use Rattle.std.specs.Prelude.{◌≡◌, ◌<◌, ℕ, List, Contains, Some, slice_get}
 use Rattle.spin_base.specs.declared.chips.Chip.{Chip}
 use Rattle.spin_base.specs.declared.chips.Spot.{Spot}
 use Rattle.machine_desc.specs.Description.{Description}
 use Rattle.app_graph.specs.declared.graphs.Net.{Net}
 use Rattle.link_detours.specs.Repair.{IsCutOff}
-use Rattle.net_plans.specs.Targets.{chip_number}
+use Rattle.net_plans.specs.Order.{IsBelow}
+use Rattle.net_plans.specs.Targets.{chip_key}
 
 -- A target chip of a net is cut off: the core of a target vertex is on it, and no walk of live links leads to it from the
 -- chip of the net's source.
@@ -22,11 +23,12 @@ pub record IsCutOffIn (m : Description) (spots : List Spot) (net : Net) (source 
 abbrev pub HasNoneCutOff : Description → List Spot → Net → Type 0
 HasNoneCutOff m spots net = (source : Spot) (chip : Chip) → IsCutOffIn m spots net source chip → ⊥
 
--- The first target chip of a net that is cut off, in the order of the distance from the source, then x, then y.
+-- The first target chip of a net that is cut off: none before it is, in the order of the distance from the source's chip, then
+-- x, then y.
 pub record IsFirstCutOffIn (m : Description) (spots : List Spot) (net : Net) (chip : Chip) : Type 0 where
   pub source : Spot
   pub is : IsCutOffIn m spots net source chip
-  pub first : (other : Chip) → IsCutOffIn m spots net source other → chip_number m source.chip chip ≤ chip_number m source.chip other
+  pub first : (other : Chip) → IsCutOffIn m spots net source other → IsBelow (chip_key m source.chip other) (chip_key m source.chip chip) → ⊥
 
 -- The first net with a target that is cut off, and its first such target.
 pub record IsFirstCutOff (m : Description) (spots : List Spot) (nets : List Net) (i : ℕ) (chip : Chip) : Type 0 where

@@ -20,16 +20,16 @@ joined_chips grown = map (λ (j : Join). j.target) grown.joins
 -- The plan of a net has its block, the core of its source, and its targets. A tree grows from the source's chip to the
 -- target chips, whatever is dead, with no more edges than the target chips are far from the root, all together. The net's
 -- tree is that tree with its detours round dead links.
-pub record IsPlanned (m : Description) (spots : List Spot) (net : Net) (block : Block) (grown : Grown) (plan : NetPlan) : Type 0 where
-  pub block : plan.block ≡ block
+pub record IsPlanned (m : Description) (spots : List Spot) (net : Net) (keys : Block) (growth : Grown) (plan : NetPlan) : Type 0 where
+  pub block : plan.block ≡ keys
   pub source : slice_get spots net.source ≡ Some plan.source
   pub targets : AreTargets spots net.targets plan.targets
-  pub chips : AreTargetChips m plan.source.chip plan.targets (joined_chips grown)
-  pub grows_from : grown.tree.root ≡ plan.source.chip
-  pub grown : IsGrown m plan.source.chip (joined_chips grown) grown.joins grown.tree.edges
-  pub few_edges : length grown.tree.edges ≤ distance_sum m plan.source.chip (joined_chips grown)
+  pub chips : AreTargetChips m plan.source.chip plan.targets (joined_chips growth)
+  pub grows_from : growth.tree.root ≡ plan.source.chip
+  pub grown : IsGrown m plan.source.chip (joined_chips growth) growth.joins growth.tree.edges
+  pub few_edges : length growth.tree.edges ≤ distance_sum m plan.source.chip (joined_chips growth)
   pub root : plan.tree.root ≡ plan.source.chip
-  pub repaired : IsRepaired m plan.source.chip grown.tree.edges (joined_chips grown) plan.tree.edges
+  pub repaired : IsRepaired m plan.source.chip growth.tree.edges (joined_chips growth) plan.tree.edges
 
 -- The plans of nets: each net has, at its place in the list, its block, the tree that grew for it, and its plan.
 pub record ArePlanned (m : Description) (spots : List Spot) (nets : List Net) (blocks : List Block) (grown : List Grown) (plans : List NetPlan) : Type 0 where
