@@ -53,7 +53,7 @@ IsMesh-unsent s i q h start = record {
 }
 
 -- a core's queue that isn't too long
-pub IsMesh-cores : (s : State) (i : ℕ) (q : List McCopy) → IsMesh s → length q ≤ s.capacity → IsMesh (record s { cores = set s.cores i q })
+pub IsMesh-cores : (s : State) (i : ℕ) (q : List McCopy) → IsMesh s → length q ≤ s.setup.capacity → IsMesh (record s { cores = set s.cores i q })
 IsMesh-cores s i q h short = record {
   size = h.size;
   different = h.different;
@@ -65,7 +65,7 @@ IsMesh-cores s i q h short = record {
   core_lists = length-set s.cores i q ∙ h.core_lists;
   table_list = h.table_list;
   inputs_within = h.inputs_within;
-  cores_within = All-set (λ l. length l ≤ s.capacity) s.cores i q short h.cores_within;
+  cores_within = All-set (λ l. length l ≤ s.setup.capacity) s.cores i q short h.cores_within;
   unsent_at_start = h.unsent_at_start;
   hands_with_outputs = h.hands_with_outputs;
   none_at_dead_ports = h.none_at_dead_ports;
@@ -140,9 +140,9 @@ still_empty inputs i j q empty before = elim (cases_eq j i) [
 ]
 
 -- an input queue that isn't too long, and is empty where no copy may wait
-pub IsMesh-inputs : (s : State) (i : ℕ) (q : List McCopy) → IsMesh s → length q ≤ s.capacity →
-    ((c : Chip) (d : Dir) → is_live_link s.machine c d ≡ false → IsInside s.machine c → queue_at s.machine c (ByLink d) ≡ i → q ≡ []) →
-    ((c : Chip) → is_live_chip s.machine c ≡ false → IsInside s.machine c → queue_at s.machine c Local ≡ i → q ≡ []) →
+pub IsMesh-inputs : (s : State) (i : ℕ) (q : List McCopy) → IsMesh s → length q ≤ s.setup.capacity →
+    ((c : Chip) (d : Dir) → is_live_link s.setup.machine c d ≡ false → IsInside s.setup.machine c → queue_at s.setup.machine c (ByLink d) ≡ i → q ≡ []) →
+    ((c : Chip) → is_live_chip s.setup.machine c ≡ false → IsInside s.setup.machine c → queue_at s.setup.machine c Local ≡ i → q ≡ []) →
     IsMesh (record s { inputs = set s.inputs i q })
 IsMesh-inputs s i q h short ports chips = record {
   size = h.size;
@@ -154,12 +154,12 @@ IsMesh-inputs s i q h short ports chips = record {
   hand_list = h.hand_list;
   core_lists = h.core_lists;
   table_list = h.table_list;
-  inputs_within = All-set (λ l. length l ≤ s.capacity) s.inputs i q short h.inputs_within;
+  inputs_within = All-set (λ l. length l ≤ s.setup.capacity) s.inputs i q short h.inputs_within;
   cores_within = h.cores_within;
   unsent_at_start = h.unsent_at_start;
   hands_with_outputs = h.hands_with_outputs;
-  none_at_dead_ports = λ c d dead inside. still_empty s.inputs i (queue_at s.machine c (ByLink d)) q (ports c d dead inside) (h.none_at_dead_ports c d dead inside);
-  none_on_dead_chips = λ c dead inside. still_empty s.inputs i (queue_at s.machine c Local) q (chips c dead inside) (h.none_on_dead_chips c dead inside);
+  none_at_dead_ports = λ c d dead inside. still_empty s.inputs i (queue_at s.setup.machine c (ByLink d)) q (ports c d dead inside) (h.none_at_dead_ports c d dead inside);
+  none_on_dead_chips = λ c dead inside. still_empty s.inputs i (queue_at s.setup.machine c Local) q (chips c dead inside) (h.none_on_dead_chips c dead inside);
 }
 
 empty_at : (n i : ℕ) → i < n → slice_get (replicate {A = List McCopy} n []) i ≡ Some []

@@ -52,8 +52,8 @@ module _ (s : State) (nets : List NetPlan) (packets : List Packet) (job : MeetsJ
   only_deliveries : marks_of s ≡ delivered_marks s
   only_deliveries =
       let sent = gathered_of_none (λ v (q : List McCopy). marked (unsent v) q) [] (λ j. refl) 0 s.unsent rest.all_sent in
-      let inputs = gathered_of_none (λ i (q : List McCopy). marked (in_queue (chip_of s.machine (i / 7)) (port_of (i % 7))) q) [] (λ j. refl) 0 s.inputs rest.inputs_empty in
-      let hands = gathered_of_none (λ i h. hand_marks (chip_of s.machine i) h) None (λ j. refl) 0 s.hands rest.hands_empty in
+      let inputs = gathered_of_none (λ i (q : List McCopy). marked (in_queue (chip_of s.setup.machine (i / 7)) (port_of (i % 7))) q) [] (λ j. refl) 0 s.inputs rest.inputs_empty in
+      let hands = gathered_of_none (λ i h. hand_marks (chip_of s.setup.machine i) h) None (λ j. refl) 0 s.hands rest.hands_empty in
       let cores = gathered_of_none (λ v (q : List McCopy). marked (at_core v) q) [] (λ j. refl) 0 s.cores rest.cores_empty in
       rw (sent, inputs, hands, cores, no_dump) (append-nil (delivered_marks s))
 
@@ -133,25 +133,25 @@ module _ (s : State) (nets : List NetPlan) (packets : List Packet) (job : MeetsJ
         is_packet = p.is_packet;
         is_net = p.is_net;
         is_way =
-            subst (λ (n : NetPlan). IsWayOf s n on.3.0 branch on.3.2 d.vertex) one
-            (subst (λ v. IsWayOf s net on.3.0 branch on.3.2 v) (sym vertex) on.3.4);
+            subst (λ (n : NetPlan). IsWayOn s.setup.machine s.setup.spots n on.3.0 branch on.3.2 d.vertex) one
+            (subst (λ v. IsWayOn s.setup.machine s.setup.spots net on.3.0 branch on.3.2 v) (sym vertex) on.3.4);
         is_copy = copies_alike d.copy d.copy.packet (p.net.block.key + p.packet.index) (length branch) p.packet.payload refl p.key_is p.payload_is hop;
       }
 
   -- two branches of a net to one vertex are of one length
   same_length : (net : NetPlan) → Contains nets net → (t u : Spot) (xs ys : List Exit) (from from' to : ℕ) →
-      IsWayOf s net t xs from to → IsWayOf s net u ys from' to → length xs ≡ length ys
+      IsWayOn s.setup.machine s.setup.spots net t xs from to → IsWayOn s.setup.machine s.setup.spots net u ys from' to → length xs ≡ length ys
   same_length net has t u xs ys from from' to w w' =
-      let tree : IsRoutingTree s.machine net.tree.root net.tree.edges net.targets =
-      All-contains (λ n. IsRoutingTree s.machine n.tree.root n.tree.edges n.targets) nets net job.ledger.nets_stand.trees has
+      let tree : IsRoutingTree s.setup.machine net.tree.root net.tree.edges net.targets =
+      All-contains (λ n. IsRoutingTree s.setup.machine n.tree.root n.tree.edges n.targets) nets net job.ledger.nets_stand.trees has
       in
-      let on_t = vertex_at_stands s.spots t to w.ends in
-      let on_u = vertex_at_stands s.spots u to w'.ends in
+      let on_t = vertex_at_stands s.setup.spots t to w.ends in
+      let on_u = vertex_at_stands s.setup.spots u to w'.ends in
       let both : Some t ≡ Some u = sym on_t ∙ on_u in
       let same : t ≡ u = cc in
       let x = last_exit t xs w.is_branch in
       let y = last_exit u ys w'.is_branch in
-      let place = same_place s.machine net.tree.root net.tree.edges (map (λ z. z.chip) net.targets) tree t u xs ys w.is_branch w'.is_branch
+      let place = same_place s.setup.machine net.tree.root net.tree.edges (map (λ z. z.chip) net.targets) tree t u xs ys w.is_branch w'.is_branch
       x.0 y.0 x.1 y.1 x.2 y.2 (x.4 ∙ (ap (λ (z : Spot). z.chip) same ∙ sym y.4))
       in
       sym x.3 ∙ (ap suc place.0 ∙ y.3)
@@ -161,12 +161,12 @@ module _ (s : State) (nets : List NetPlan) (packets : List Packet) (job : MeetsJ
       at_place (z ∷ zs) zero within = (z, refl)
       at_place (z ∷ zs) (suc i) within = at_place zs i (omega arith)
 
-      at_end : (v : Spot) (zs : List Exit) → IsBranch s.machine net.tree.root net.tree.edges v zs → (i : ℕ) (z : Exit) → slice_get zs i ≡ Some z →
-          suc i ≡ length zs → (o : Out) → ExitLeads s.machine net.tree.edges v zs i z o → z.chip ≡ v.chip
+      at_end : (v : Spot) (zs : List Exit) → IsBranch s.setup.machine net.tree.root net.tree.edges v zs → (i : ℕ) (z : Exit) → slice_get zs i ≡ Some z →
+          suc i ≡ length zs → (o : Out) → ExitLeads s.setup.machine net.tree.edges v zs i z o → z.chip ≡ v.chip
       at_end v zs is i z at last (Link d) leads = let past = place_below zs (suc i) leads.1.0 leads.1.2 in absurd (omega arith)
       at_end v zs is i z at last (Core p) leads = ap (λ (q : Spot). q.chip) (sym leads.0)
 
-      last_exit : (v : Spot) (zs : List Exit) → IsBranch s.machine net.tree.root net.tree.edges v zs →
+      last_exit : (v : Spot) (zs : List Exit) → IsBranch s.setup.machine net.tree.root net.tree.edges v zs →
           (i : ℕ) × (z : Exit) × (slice_get zs i ≡ Some z) × (suc i ≡ length zs) × (z.chip ≡ v.chip)
       last_exit v [] is = absurd is
       last_exit v (z ∷ zs) is =
@@ -177,11 +177,11 @@ module _ (s : State) (nets : List NetPlan) (packets : List Packet) (job : MeetsJ
             there.1,
             refl,
             at_end v (z ∷ zs) is i there.0 there.1 refl there.0.out
-                (exit_leads s.machine net.tree.edges v net.tree.root (z ∷ zs) i there.0 is there.1),
+                (exit_leads s.setup.machine net.tree.edges v net.tree.root (z ∷ zs) i there.0 is there.1),
           )
 
   each_once : (i : ℕ) (p : Packet) (net : NetPlan) → slice_get packets i ≡ Some p → slice_get nets p.net ≡ Some net →
-      (target : Spot) (branch : List Exit) (from to : ℕ) → IsWayOf s net target branch from to →
+      (target : Spot) (branch : List Exit) (from to : ℕ) → IsWayOn s.setup.machine s.setup.spots net target branch from to →
       count_by (λ (d : Delivery). (d.copy.packet == i) && (d.vertex == to)) s.delivered ≡ 1
   each_once i p net at is target branch from to w =
       count_agree q (λ d. is_packet_on_trail i from to branch (mark_of d)) s.delivered agrees
@@ -232,9 +232,9 @@ module _ (s : State) (nets : List NetPlan) (packets : List Packet) (job : MeetsJ
               in
               let end : d.vertex ≡ on.3.3 = nat_true d.vertex on.3.3 (and_true_left (d.vertex == on.3.3) (d.copy.hop == length on.3.1) on.3.5) in
               let hop : d.copy.hop ≡ length on.3.1 = nat_true d.copy.hop (length on.3.1) (and_true_right (d.vertex == on.3.3) (d.copy.hop == length on.3.1) on.3.5) in
-              let way : IsWayOf s net on.3.0 on.3.1 on.3.2 to =
-              subst (λ (n : NetPlan). IsWayOf s n on.3.0 on.3.1 on.3.2 to) same_net
-              (subst (λ v. IsWayOf s on.0 on.3.0 on.3.1 on.3.2 v) (sym end ∙ vertex) on.3.4)
+              let way : IsWayOn s.setup.machine s.setup.spots net on.3.0 on.3.1 on.3.2 to =
+              subst (λ (n : NetPlan). IsWayOn s.setup.machine s.setup.spots n on.3.0 on.3.1 on.3.2 to) same_net
+              (subst (λ v. IsWayOn s.setup.machine s.setup.spots on.0 on.3.0 on.3.1 on.3.2 v) (sym end ∙ vertex) on.3.4)
               in
               let long = same_length net in_nets on.3.0 target on.3.1 branch on.3.2 from to way w in
               both_true (d.copy.packet == i) ((d.vertex == to) && (d.copy.hop == length branch))

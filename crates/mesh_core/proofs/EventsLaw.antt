@@ -18,7 +18,7 @@ use Rattle.mesh_core.proofs.Keeping.{IsMesh-stepped}
 use Rattle.mesh_core.proofs.LedgerLaw.{Bag, bag_of_event, bag_keeps_ledger, bag_adds_no_packet, bag_keeps_packets, right_before, right_small}
 
 -- an event that is enabled is a bag, in a mesh that meets the ledger
-event_bag : (s t : State) (nets : List NetPlan) (labels : ℕ → Label) → IsMesh s → AreRight s.machine s.tables nets → MeetsLedger s nets labels →
+event_bag : (s t : State) (nets : List NetPlan) (labels : ℕ → Label) → IsMesh s → AreRight s.setup.machine s.setup.tables nets → MeetsLedger s nets labels →
     (e : Event) → stepped s e ≡ Some t → Bag s t
 event_bag s t nets labels mesh right ledger e is =
     let x = event_exchange s mesh e t is in
@@ -28,12 +28,12 @@ event_bag s t nets labels mesh right ledger e is =
 -- what an event leaves as it is
 pub record Keeps (s t : State) (nets : List NetPlan) (labels : ℕ → Label) : Type 0 where
   pub mesh : IsMesh t
-  pub right : AreRight t.machine t.tables nets
+  pub right : AreRight t.setup.machine t.setup.tables nets
   pub ledger : MeetsLedger t nets labels
   pub no_new : (k : Mark) → Contains (marks_of t) k → (m : Mark) × Contains (marks_of s) m × (m.copy.packet ≡ k.copy.packet)
   pub none_lost : (k : Mark) → Contains (marks_of s) k → (m : Mark) × Contains (marks_of t) m × (m.copy.packet ≡ k.copy.packet)
 
-pub event_keeps : (s : State) (nets : List NetPlan) (labels : ℕ → Label) → IsMesh s → AreRight s.machine s.tables nets → MeetsLedger s nets labels →
+pub event_keeps : (s : State) (nets : List NetPlan) (labels : ℕ → Label) → IsMesh s → AreRight s.setup.machine s.setup.tables nets → MeetsLedger s nets labels →
     (e : Event) → Keeps s (after_event s e) nets labels
 event_keeps s nets labels mesh right ledger e = by_answer (stepped s e) refl
   where
@@ -50,15 +50,15 @@ event_keeps s nets labels mesh right ledger e = by_answer (stepped s e) refl
         record {
           mesh = IsMesh-stepped s t e mesh is;
           right =
-              subst (λ (m : Description). AreRight m t.tables nets) (sym bag.machine)
-              (subst (λ (l : List (List Entry)). AreRight s.machine l nets) (sym bag.tables) right);
+              subst (λ (m : Description). AreRight m t.setup.tables nets) (sym bag.setup.machine)
+              (subst (λ (l : List (List Entry)). AreRight s.setup.machine l nets) (sym bag.setup.tables) right);
           ledger = bag_keeps_ledger s t nets labels mesh right ledger bag;
           no_new = bag_adds_no_packet s t nets labels mesh right ledger bag;
           none_lost = bag_keeps_packets s t nets labels mesh right ledger bag;
         }
 
 -- what each event leaves as it is, a list of events leaves as it is
-pub events_keep : (s : State) (nets : List NetPlan) (labels : ℕ → Label) → IsMesh s → AreRight s.machine s.tables nets → MeetsLedger s nets labels →
+pub events_keep : (s : State) (nets : List NetPlan) (labels : ℕ → Label) → IsMesh s → AreRight s.setup.machine s.setup.tables nets → MeetsLedger s nets labels →
     (es : List Event) → Keeps s (after_events s es) nets labels
 events_keep s nets labels mesh right ledger [] = record {
   mesh = mesh;
@@ -81,7 +81,7 @@ events_keep s nets labels mesh right ledger (e ∷ es) =
     }
 
 -- the ledger of a job is kept as well
-pub events_keep_job : (s : State) (nets : List NetPlan) (packets : List Packet) → IsMesh s → AreRight s.machine s.tables nets → MeetsJobLedger s nets packets →
+pub events_keep_job : (s : State) (nets : List NetPlan) (packets : List Packet) → IsMesh s → AreRight s.setup.machine s.setup.tables nets → MeetsJobLedger s nets packets →
     (es : List Event) → MeetsJobLedger (after_events s es) nets packets
 events_keep_job s nets packets mesh right job es =
     let keeps = events_keep s nets (label_of nets packets) mesh right job.ledger es in

@@ -16,7 +16,7 @@ use Rattle.mesh_core.specs.Step.{onward, has_room_behind, serves, served, arrive
 
 -- the machine and the vertices' cores
 abbrev pub place_of : State → Description × List Spot
-place_of s = (s.machine, s.spots)
+place_of s = (s.setup.machine, s.setup.spots)
 
 place-arrived : (s : State) (b : Behind) (k : McCopy) → place_of (arrived s b k) ≡ place_of s
 place-arrived s (input i) k = refl
@@ -43,7 +43,7 @@ place-taken s c port None queue = refl
 
 place-sent : (s : State) (c : Chip) (o : Out) (hand : Option (Option Held)) → place_of (unwrap_or (sent s c o hand) s) ≡ place_of s
 place-sent s c o (Some (Some h)) =
-    let to : Behind = behind s.machine s.spots c o in
+    let to : Behind = behind s.setup c o in
     place-if (serves s c o (Some (Some h)) && has_room_behind s to) (arrived (served s c o h) to (onward h.copy)) s (place-arrived (served s c o h) to (onward h.copy))
 place-sent s c o (Some None) = refl
 place-sent s c o None = refl
@@ -59,14 +59,14 @@ place-collected s v (Some []) = refl
 place-collected s v None = refl
 
 place-after_event : (s : State) (e : Event) → place_of (after_event s e) ≡ place_of s
-place-after_event s (Inject v) = place-injected s v (slice_get s.spots v) (slice_get s.unsent v)
-place-after_event s (Take c port) = place-taken s c port (slice_get s.hands (index_of s.machine c)) (slice_get s.inputs (queue_at s.machine c port))
-place-after_event s (Send c o) = place-sent s c o (slice_get s.hands (index_of s.machine c))
-place-after_event s (Dump c o) = place-dumped s c o (slice_get s.hands (index_of s.machine c))
+place-after_event s (Inject v) = place-injected s v (slice_get s.setup.spots v) (slice_get s.unsent v)
+place-after_event s (Take c port) = place-taken s c port (slice_get s.hands (index_of s.setup.machine c)) (slice_get s.inputs (queue_at s.setup.machine c port))
+place-after_event s (Send c o) = place-sent s c o (slice_get s.hands (index_of s.setup.machine c))
+place-after_event s (Dump c o) = place-dumped s c o (slice_get s.hands (index_of s.setup.machine c))
 place-after_event s (Collect v) = place-collected s v (slice_get s.cores v)
 
-pub after_event_machine : (s : State) (e : Event) → (after_event s e).machine ≡ s.machine
+pub after_event_machine : (s : State) (e : Event) → (after_event s e).setup.machine ≡ s.setup.machine
 after_event_machine s e = ap (λ (p : Description × List Spot). p.0) (place-after_event s e)
 
-pub after_event_spots : (s : State) (e : Event) → (after_event s e).spots ≡ s.spots
+pub after_event_spots : (s : State) (e : Event) → (after_event s e).setup.spots ≡ s.setup.spots
 after_event_spots s e = ap (λ (p : Description × List Spot). p.1) (place-after_event s e)

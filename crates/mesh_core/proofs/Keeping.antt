@@ -96,21 +96,21 @@ may_wait-behind : (m : Description) (spots : List Spot) (c : Chip) (o : Out) →
 may_wait-behind m spots c (Link d) = may_wait-across m c d (is_live_link m c d) (far_of m c d) refl refl
 may_wait-behind m spots c (Core p) = may_wait-core m (vertex_at spots (record { chip = c; core = p }))
 
-arrived_input : (s : State) (i : ℕ) (k : McCopy) (q : Option (List McCopy)) → IsMesh s → MayWait s.machine i → has_room s.capacity q ≡ true → IsMesh (record s { inputs = appended s.inputs i k q })
+arrived_input : (s : State) (i : ℕ) (k : McCopy) (q : Option (List McCopy)) → IsMesh s → MayWait s.setup.machine i → has_room s.setup.capacity q ≡ true → IsMesh (record s { inputs = appended s.inputs i k q })
 arrived_input s i k (Some q) h may room =
-    let short : length q < s.capacity = ltb-true (length q) s.capacity room in
+    let short : length q < s.setup.capacity = ltb-true (length q) s.setup.capacity room in
     IsMesh-inputs s i (q ++ k ∷ []) h (omega (arith, length_push q k))
     (λ c d dead inside same. absurd (may.port c d dead inside same)) (λ c dead inside same. absurd (may.chip c dead inside same))
 arrived_input s i k None h may room = cc
 
-arrived_core : (s : State) (v : ℕ) (k : McCopy) (q : Option (List McCopy)) → IsMesh s → has_room s.capacity q ≡ true → IsMesh (record s { cores = appended s.cores v k q })
+arrived_core : (s : State) (v : ℕ) (k : McCopy) (q : Option (List McCopy)) → IsMesh s → has_room s.setup.capacity q ≡ true → IsMesh (record s { cores = appended s.cores v k q })
 arrived_core s v k (Some q) h room =
-    let short : length q < s.capacity = ltb-true (length q) s.capacity room in
+    let short : length q < s.setup.capacity = ltb-true (length q) s.setup.capacity room in
     IsMesh-cores s v (q ++ k ∷ []) h (omega (arith, length_push q k))
 arrived_core s v k None h room = cc
 
 -- a mesh where a copy came into a queue with room, at which copies may wait
-IsMesh-arrived : (s : State) (b : Behind) (k : McCopy) → IsMesh s → MayWaitBehind s.machine b → has_room_behind s b ≡ true → IsMesh (arrived s b k)
+IsMesh-arrived : (s : State) (b : Behind) (k : McCopy) → IsMesh s → MayWaitBehind s.setup.machine b → has_room_behind s b ≡ true → IsMesh (arrived s b k)
 unfolding MayWaitBehind
 IsMesh-arrived s (input i) k h may room = arrived_input s i k (slice_get s.inputs i) h may room
 IsMesh-arrived s (core v) k h may room = arrived_core s v k (slice_get s.cores v) h room
@@ -121,15 +121,15 @@ in_hand-some : (k : McCopy) (port : Port) (os : List Out) → IfSome (in_hand k 
 in_hand-some k port [] = tt
 in_hand-some k port (o ∷ os) = λ e. cc
 
-keeps_injected : (s t : State) (v : ℕ) (spot : Option Spot) (unsent : Option (List McCopy)) → IsMesh s → slice_get s.spots v ≡ spot → slice_get s.unsent v ≡ unsent → injected s v spot unsent ≡ Some t → IsMesh t
+keeps_injected : (s t : State) (v : ℕ) (spot : Option Spot) (unsent : Option (List McCopy)) → IsMesh s → slice_get s.setup.spots v ≡ spot → slice_get s.unsent v ≡ unsent → injected s v spot unsent ≡ Some t → IsMesh t
 keeps_injected s t v (Some spot) (Some (k ∷ rest)) h at_spot at_unsent moves =
-    let queue : Behind = input (queue_at s.machine spot.chip Local) in
+    let queue : Behind = input (queue_at s.setup.machine spot.chip Local) in
     let now : State = record s { unsent = set s.unsent v rest } in
     let parts : (has_room_behind s queue ≡ true) × (arrived now queue k ≡ t) = if_some (has_room_behind s queue) (arrived now queue k) t moves in
     let start : All (λ x. x.hop ≡ 0) rest = All-tail (λ (x : McCopy). x.hop ≡ 0) k rest (All-slice_get (λ (l : List McCopy). All (λ x. x.hop ≡ 0) l) s.unsent v (k ∷ rest) h.unsent_at_start at_unsent) in
-    let usable : IsUsable s.machine spot = All-slice_get (IsUsable s.machine) s.spots v spot h.usable at_spot in
-    let live : is_live_chip s.machine spot.chip ≡ true = (and_parts _ _ usable).0 in
-    subst IsMesh parts.1 (arrived_input now (queue_at s.machine spot.chip Local) k (slice_get s.inputs (queue_at s.machine spot.chip Local)) (IsMesh-unsent s v rest h start) (may_wait-local s.machine spot.chip live) parts.0)
+    let usable : IsUsable s.setup.machine spot = All-slice_get (IsUsable s.setup.machine) s.setup.spots v spot h.usable at_spot in
+    let live : is_live_chip s.setup.machine spot.chip ≡ true = (and_parts _ _ usable).0 in
+    subst IsMesh parts.1 (arrived_input now (queue_at s.setup.machine spot.chip Local) k (slice_get s.inputs (queue_at s.setup.machine spot.chip Local)) (IsMesh-unsent s v rest h start) (may_wait-local s.setup.machine spot.chip live) parts.0)
 keeps_injected s t v (Some spot) (Some []) h at_spot at_unsent moves = cc
 keeps_injected s t v (Some spot) None h at_spot at_unsent moves = cc
 keeps_injected s t v None (Some (k ∷ rest)) h at_spot at_unsent moves = cc
@@ -140,19 +140,19 @@ keeps_injected s t v None None h at_spot at_unsent moves = cc
 nothing_waited : {X : Type 0} (xs : List (List X)) (i j : ℕ) (x : X) (rest : List X) → slice_get xs i ≡ Some (x ∷ rest) → slice_get xs j ≡ Some [] → j ≡ i → rest ≡ []
 nothing_waited xs i j x rest here there same = let both : Some (x ∷ rest) ≡ Some [] = sym here ∙ (ap (slice_get xs) (sym same) ∙ there) in cc
 
-keeps_taken : (s t : State) (c : Chip) (port : Port) (hand : Option (Option Held)) (queue : Option (List McCopy)) → IsMesh s → slice_get s.inputs (queue_at s.machine c port) ≡ queue → taken s c port hand queue ≡ Some t → IsMesh t
+keeps_taken : (s t : State) (c : Chip) (port : Port) (hand : Option (Option Held)) (queue : Option (List McCopy)) → IsMesh s → slice_get s.inputs (queue_at s.setup.machine c port) ≡ queue → taken s c port hand queue ≡ Some t → IsMesh t
 keeps_taken s t c port (Some None) (Some (k ∷ rest)) h at_queue moves =
-    let q : ℕ = queue_at s.machine c port in
+    let q : ℕ = queue_at s.setup.machine c port in
     let now : State = record s { inputs = set s.inputs q rest } in
-    let hand : Option Held = in_hand k port (outputs s c port k) in
-    let next : State = record now { hands = set s.hands (index_of s.machine c) hand } in
-    let parts : (is_live_chip s.machine c ≡ true) × (next ≡ t) = if_some (is_live_chip s.machine c) next t moves in
-    let within : length (k ∷ rest) ≤ s.capacity = All-slice_get (λ (l : List McCopy). length l ≤ s.capacity) s.inputs q (k ∷ rest) h.inputs_within at_queue in
+    let hand : Option Held = in_hand k port (outputs s.setup c port k) in
+    let next : State = record now { hands = set s.hands (index_of s.setup.machine c) hand } in
+    let parts : (is_live_chip s.setup.machine c ≡ true) × (next ≡ t) = if_some (is_live_chip s.setup.machine c) next t moves in
+    let within : length (k ∷ rest) ≤ s.setup.capacity = All-slice_get (λ (l : List McCopy). length l ≤ s.setup.capacity) s.inputs q (k ∷ rest) h.inputs_within at_queue in
     let kept : IsMesh now = IsMesh-inputs s q rest h (omega arith)
-    (λ e d dead inside same. nothing_waited s.inputs q (queue_at s.machine e (ByLink d)) k rest at_queue (h.none_at_dead_ports e d dead inside) same)
-    (λ e dead inside same. nothing_waited s.inputs q (queue_at s.machine e Local) k rest at_queue (h.none_on_dead_chips e dead inside) same)
+    (λ e d dead inside same. nothing_waited s.inputs q (queue_at s.setup.machine e (ByLink d)) k rest at_queue (h.none_at_dead_ports e d dead inside) same)
+    (λ e dead inside same. nothing_waited s.inputs q (queue_at s.setup.machine e Local) k rest at_queue (h.none_on_dead_chips e dead inside) same)
     in
-    subst IsMesh parts.1 (IsMesh-hands now (index_of s.machine c) hand kept (in_hand-some k port (outputs s c port k)))
+    subst IsMesh parts.1 (IsMesh-hands now (index_of s.setup.machine c) hand kept (in_hand-some k port (outputs s.setup c port k)))
 keeps_taken s t c port (Some None) (Some []) h at_queue moves = cc
 keeps_taken s t c port (Some None) None h at_queue moves = cc
 keeps_taken s t c port (Some (Some held)) queue h at_queue moves = cc
@@ -160,16 +160,16 @@ keeps_taken s t c port None queue h at_queue moves = cc
 
 IsMesh-served : (s : State) (c : Chip) (o : Out) (held : Held) → IsMesh s → IsMesh (served s c o held)
 IsMesh-served s c o held h =
-    IsMesh-hands s (index_of s.machine c) (in_hand held.copy held.port (without o held.outs)) h (in_hand-some held.copy held.port (without o held.outs))
+    IsMesh-hands s (index_of s.setup.machine c) (in_hand held.copy held.port (without o held.outs)) h (in_hand-some held.copy held.port (without o held.outs))
 
 keeps_sent : (s t : State) (c : Chip) (o : Out) (hand : Option (Option Held)) → IsMesh s → sent s c o hand ≡ Some t → IsMesh t
 keeps_sent s t c o (Some (Some held)) h moves =
-    let to : Behind = behind s.machine s.spots c o in
+    let to : Behind = behind s.setup c o in
     let hands : Bool = serves s c o (Some (Some held)) in
     let next : State = arrived (served s c o held) to (onward held.copy) in
     let parts : ((hands && has_room_behind s to) ≡ true) × (next ≡ t) = if_some (hands && has_room_behind s to) next t moves in
     let both : (hands ≡ true) × (has_room_behind s to ≡ true) = and_parts hands (has_room_behind s to) parts.0 in
-    subst IsMesh parts.1 (IsMesh-arrived (served s c o held) to (onward held.copy) (IsMesh-served s c o held h) (may_wait-behind s.machine s.spots c o) (room_after s c o held to both.1))
+    subst IsMesh parts.1 (IsMesh-arrived (served s c o held) to (onward held.copy) (IsMesh-served s c o held h) (may_wait-behind s.setup c o) (room_after s c o held to both.1))
   where
     -- what a hand holds changes no room
     room_after : (s : State) (c : Chip) (o : Out) (held : Held) (b : Behind) → has_room_behind s b ≡ true → has_room_behind (served s c o held) b ≡ true
@@ -183,7 +183,7 @@ keeps_dumped : (s t : State) (c : Chip) (o : Out) (hand : Option (Option Held)) 
 keeps_dumped s t c o (Some (Some held)) h moves =
     let next : State = served s c o held in
     let last : State = record next { dumped = next.dumped ++ record { chip = c; out = o; copy = held.copy } ∷ [] } in
-    let asked : Bool = serves s c o (Some (Some held)) && not (has_room_behind s (behind s.machine s.spots c o)) in
+    let asked : Bool = serves s c o (Some (Some held)) && not (has_room_behind s (behind s.setup c o)) in
     let parts : (asked ≡ true) × (last ≡ t) = if_some asked last t moves in
     subst IsMesh parts.1 (IsMesh-dumped next last.dumped (IsMesh-served s c o held h))
 keeps_dumped s t c o (Some None) h moves = cc
@@ -195,16 +195,16 @@ keeps_collected s t v (Some (k ∷ rest)) h at_queue moves =
     let last : State = record now { delivered = s.delivered ++ record { vertex = v; copy = k } ∷ [] } in
     let same : Some last ≡ Some t = moves in
     let is : last ≡ t = cc in
-    let within : length (k ∷ rest) ≤ s.capacity = All-slice_get (λ (l : List McCopy). length l ≤ s.capacity) s.cores v (k ∷ rest) h.cores_within at_queue in
+    let within : length (k ∷ rest) ≤ s.setup.capacity = All-slice_get (λ (l : List McCopy). length l ≤ s.setup.capacity) s.cores v (k ∷ rest) h.cores_within at_queue in
     subst IsMesh is (IsMesh-delivered now last.delivered (IsMesh-cores s v rest h (omega arith)))
 keeps_collected s t v (Some []) h at_queue moves = cc
 keeps_collected s t v None h at_queue moves = cc
 
 -- The mesh after an event is one.
 pub IsMesh-stepped : (s t : State) (e : Event) → IsMesh s → stepped s e ≡ Some t → IsMesh t
-IsMesh-stepped s t (Inject v) h moves = keeps_injected s t v (slice_get s.spots v) (slice_get s.unsent v) h refl refl moves
+IsMesh-stepped s t (Inject v) h moves = keeps_injected s t v (slice_get s.setup.spots v) (slice_get s.unsent v) h refl refl moves
 IsMesh-stepped s t (Take c port) h moves =
-    keeps_taken s t c port (slice_get s.hands (index_of s.machine c)) (slice_get s.inputs (queue_at s.machine c port)) h refl moves
-IsMesh-stepped s t (Send c o) h moves = keeps_sent s t c o (slice_get s.hands (index_of s.machine c)) h moves
-IsMesh-stepped s t (Dump c o) h moves = keeps_dumped s t c o (slice_get s.hands (index_of s.machine c)) h moves
+    keeps_taken s t c port (slice_get s.hands (index_of s.setup.machine c)) (slice_get s.inputs (queue_at s.setup.machine c port)) h refl moves
+IsMesh-stepped s t (Send c o) h moves = keeps_sent s t c o (slice_get s.hands (index_of s.setup.machine c)) h moves
+IsMesh-stepped s t (Dump c o) h moves = keeps_dumped s t c o (slice_get s.hands (index_of s.setup.machine c)) h moves
 IsMesh-stepped s t (Collect v) h moves = keeps_collected s t v (slice_get s.cores v) h refl moves

@@ -24,30 +24,30 @@ use Rattle.mesh_core.proofs.Law.{OnSomeTrail, move_comes, move_counts, count_non
 -- ---- what the ledger says stays where machine and vertices stay
 
 record SameGround (s t : State) : Type 0 where
-  machine : t.machine ≡ s.machine
-  spots : t.spots ≡ s.spots
+  machine : t.setup.machine ≡ s.setup.machine
+  spots : t.setup.spots ≡ s.setup.spots
 
-nets_carried : (s t : State) → SameGround s t → (nets : List NetPlan) → AreNetsOf s nets → AreNetsOf t nets
+nets_carried : (s t : State) → SameGround s t → (nets : List NetPlan) → AreNetsOn s.setup.machine s.setup.spots nets → AreNetsOn t.setup.machine t.setup.spots nets
 nets_carried s t same nets stand = record {
   disjoint = stand.disjoint;
-  trees = subst (λ (m : Description). All (λ net. IsRoutingTree m net.tree.root net.tree.edges net.targets) nets) (sym same.machine) stand.trees;
+  trees = subst (λ (m : Description). All (λ net. IsRoutingTree m net.tree.root net.tree.edges net.targets) nets) (sym same.setup.machine) stand.trees;
   roots = stand.roots;
-  sources = subst (λ (l : List Spot). All (λ net. Contains l net.source) nets) (sym same.spots) stand.sources;
-  targets = subst (λ (l : List Spot). All (λ net. All (Contains l) net.targets) nets) (sym same.spots) stand.targets;
+  sources = subst (λ (l : List Spot). All (λ net. Contains l net.source) nets) (sym same.setup.spots) stand.sources;
+  targets = subst (λ (l : List Spot). All (λ net. All (Contains l) net.targets) nets) (sym same.setup.spots) stand.targets;
   different = stand.different;
 }
 
 way_carried : (s t : State) → SameGround s t → (net : NetPlan) (target : Spot) (branch : List Exit) (from to : ℕ) →
-    IsWayOf s net target branch from to → IsWayOf t net target branch from to
+    IsWayOn s.setup.machine s.setup.spots net target branch from to → IsWayOn t.setup.machine t.setup.spots net target branch from to
 way_carried s t same net target branch from to w = record {
   is_target = w.is_target;
-  is_branch = subst (λ (m : Description). IsBranch m net.tree.root net.tree.edges target branch) (sym same.machine) w.is_branch;
-  begins = ap (λ (l : List Spot). vertex_at l net.source) same.spots ∙ w.begins;
-  ends = ap (λ (l : List Spot). vertex_at l target) same.spots ∙ w.ends;
+  is_branch = subst (λ (m : Description). IsBranch m net.tree.root net.tree.edges target branch) (sym same.setup.machine) w.is_branch;
+  begins = ap (λ (l : List Spot). vertex_at l net.source) same.setup.spots ∙ w.begins;
+  ends = ap (λ (l : List Spot). vertex_at l target) same.setup.spots ∙ w.ends;
 }
 
 turned : (s t : State) → SameGround s t → SameGround t s
-turned s t same = record { machine = sym same.machine; spots = sym same.spots }
+turned s t same = record { machine = sym same.setup.machine; spots = sym same.setup.spots }
 
 -- ---- the net of a key
 
@@ -116,9 +116,9 @@ count_come p (v ∷ moves) = count_by p v.come + count_come p moves
 pub record Bag (s t : State) : Type 0 where
   pub moves : List (Moved s)
   pub balance : (p : Mark → Bool) → count_by p (marks_of t) + count_left p moves ≡ count_by p (marks_of s) + count_come p moves
-  pub machine : t.machine ≡ s.machine
-  pub spots : t.spots ≡ s.spots
-  pub tables : t.tables ≡ s.tables
+  pub machine : t.setup.machine ≡ s.setup.machine
+  pub spots : t.setup.spots ≡ s.setup.spots
+  pub tables : t.setup.tables ≡ s.setup.tables
 
 -- An event is a bag of one move.
 pub bag_of_event : (s t : State) (e : Exchange s t) → e.leaves.copy.hop ≤ last_hop → Bag s t
@@ -128,9 +128,9 @@ bag_of_event s t e small = record {
       let before = count_taken_out p e.leaves (marks_of s) e.rest e.out in
       let after = count_put_in p e.come e.rest (marks_of t) e.put in
       omega arith;
-  machine = e.machine;
-  spots = e.spots;
-  tables = e.tables;
+  machine = e.setup.machine;
+  spots = e.setup.spots;
+  tables = e.setup.tables;
 }
 
 -- ---- counts and members
@@ -160,16 +160,16 @@ among_of_count x (y ∷ xs) some =
 -- ---- the law
 
 module _ (s t : State) (nets : List NetPlan) (labels : ℕ → Label)
-    (mesh : IsMesh s) (right : AreRight s.machine s.tables nets) (ledger : MeetsLedger s nets labels) where
+    (mesh : IsMesh s) (right : AreRight s.setup.machine s.setup.tables nets) (ledger : MeetsLedger s nets labels) where
   -- a net of the list stands on the mesh
   pub stands : (net : NetPlan) → Contains nets net → Stands s net
   stands net has = record {
     mesh = mesh;
-    tree = All-contains (λ n. IsRoutingTree s.machine n.tree.root n.tree.edges n.targets) nets net ledger.nets_stand.trees has;
+    tree = All-contains (λ n. IsRoutingTree s.setup.machine n.tree.root n.tree.edges n.targets) nets net ledger.nets_stand.trees has;
     root = All-contains (λ n. n.tree.root ≡ n.source.chip) nets net ledger.nets_stand.roots has;
-    source = All-contains (λ n. Contains s.spots n.source) nets net ledger.nets_stand.sources has;
-    targets = All-contains (λ n. All (Contains s.spots) n.targets) nets net ledger.nets_stand.targets has;
-    right = All-contains (RoutesByTree s.machine s.tables) nets net right has;
+    source = All-contains (λ n. Contains s.setup.spots n.source) nets net ledger.nets_stand.sources has;
+    targets = All-contains (λ n. All (Contains s.setup.spots) n.targets) nets net ledger.nets_stand.targets has;
+    right = All-contains (RoutesByTree s.setup.machine s.setup.tables) nets net right has;
   }
 
   -- What the ledger asks of one mark, and that its packet had a mark before.
@@ -291,7 +291,7 @@ module _ (s t : State) (nets : List NetPlan) (labels : ℕ → Label)
 
     -- one move keeps the count of a packet on a trail
     one_move : (n : ℕ) (net : NetPlan) → Contains nets net → IsKeyOf net.block (labels n).key →
-        (target : Spot) (branch : List Exit) (from to : ℕ) → IsWayOf s net target branch from to → (v : Moved s) → Among v bag.moves →
+        (target : Spot) (branch : List Exit) (from to : ℕ) → IsWayOn s.setup.machine s.setup.spots net target branch from to → (v : Moved s) → Among v bag.moves →
         count_by (is_packet_on_trail n from to branch) v.come ≡ (if is_packet_on_trail n from to branch v.leaves then 1 else 0)
     one_move n net has key target branch from to w v a =
         count_of_packet n v.leaves.copy.packet from to branch v.come packets (v.leaves.copy.packet == n) refl v.leaves refl counted
@@ -312,10 +312,10 @@ module _ (s t : State) (nets : List NetPlan) (labels : ℕ → Label)
             one_net nets ledger.nets_stand.disjoint r.net net r.in_nets has v.leaves.copy.key r.is_key (subst (λ i. IsKeyOf net.block i) (sym its_key) key)
             in
             move_counts s r.net (stands r.net r.in_nets) r.trail.target target r.trail.branch branch r.trail.from from r.trail.to to r.trail.way
-            (subst (λ (m : NetPlan). IsWayOf s m target branch from to) (sym one) w) v.leaves v.come v.is_move r.is_key r.trail.on
+            (subst (λ (m : NetPlan). IsWayOn s.setup.machine s.setup.spots m target branch from to) (sym one) w) v.leaves v.come v.is_move r.is_key r.trail.on
 
     all_moves : (n : ℕ) (net : NetPlan) → Contains nets net → IsKeyOf net.block (labels n).key →
-        (target : Spot) (branch : List Exit) (from to : ℕ) → IsWayOf s net target branch from to →
+        (target : Spot) (branch : List Exit) (from to : ℕ) → IsWayOn s.setup.machine s.setup.spots net target branch from to →
         (moves : List (Moved s)) → ((v : Moved s) → Among v moves → Among v bag.moves) →
         count_come (is_packet_on_trail n from to branch) moves ≡ count_left (is_packet_on_trail n from to branch) moves
     all_moves n net has key target branch from to w [] within = refl
@@ -325,7 +325,7 @@ module _ (s t : State) (nets : List NetPlan) (labels : ℕ → Label)
         omega arith
 
     ground : SameGround s t
-    ground = record { machine = bag.machine; spots = bag.spots }
+    ground = record { machine = bag.setup.machine; spots = bag.setup.spots }
 
     -- The ledger is kept by a bag of moves.
     pub bag_keeps_ledger : MeetsLedger t nets labels
@@ -353,7 +353,7 @@ module _ (s t : State) (nets : List NetPlan) (labels : ℕ → Label)
         now_right k has = all_right k (now_occurs k (contains_among k (marks_of t) has))
 
         once_now : (k : Mark) → Contains (marks_of t) k → (net : NetPlan) → Contains nets net → IsKeyOf net.block k.copy.key →
-            (target : Spot) (branch : List Exit) (from to : ℕ) → IsWayOf t net target branch from to →
+            (target : Spot) (branch : List Exit) (from to : ℕ) → IsWayOn t.setup.machine t.setup.spots net target branch from to →
             count_by (is_packet_on_trail k.copy.packet from to branch) (marks_of t) ≡ 1
         once_now k has net in_list key target branch from to w =
             let r = now_right k has in

@@ -193,7 +193,7 @@ move_raises s x come within move y is_come = by_station x.copy x.station within 
     by_station : (k : McCopy) (at : Station) → k.hop ≤ last_hop → IsMoveOf s k at come → rank (mark k at) < rank y
     by_station k (unsent v) small m = one k (unsent v) (in_queue m.0.chip Local) m.2 (λ last. queue_raises last v m.0.chip Local)
     by_station k (in_queue c port) small m =
-        taking k c port (k.hop == last_hop) refl (outs_of (lookup (table_at s.machine s.tables c) k.key port)) (subst (λ (l : List Mark). Among y l) m is_come)
+        taking k c port (k.hop == last_hop) refl (outs_of (lookup (table_at s.setup.machine s.setup.tables c) k.key port)) (subst (λ (l : List Mark). Among y l) m is_come)
     by_station k (in_hand c o) small (inl m) = one k (in_hand c o) (dumped c o) m (λ last. dump_raises last c o)
     by_station k (in_hand c o) small (inr m) = crossing k c o small m
     by_station k (at_core v) small m = one k (at_core v) (delivered v) m (λ last. omega arith)

@@ -157,7 +157,7 @@ module _ (m : Description) (spots : List Spot) (tables : List (List Entry)) (cap
       target_of [] k within = absurd (omega arith)
       target_of (t ∷ ts) k within = (t, (0, omega arith, refl))
 
-  module _ (stand : AreNetsOf opened nets) (of_nets : AreOfNets nets packets) where
+  module _ (stand : AreNetsOn opened.setup.machine opened.setup.spots nets) (of_nets : AreOfNets nets packets) where
     -- the nets of the packets are nets of the list
     net_in_list : (p : Packet) (net : NetPlan) → slice_get nets p.net ≡ Some net → Contains nets net
     net_in_list p net is = (p.net, slice_get_within nets p.net net is, get_or_from_slice_get nets p.net net net is)
@@ -197,7 +197,7 @@ module _ (m : Description) (spots : List Spot) (tables : List (List Entry)) (cap
 
     on_a_trail : (k : Mark) → Contains (marks_of opened) k →
         (net : NetPlan) × Contains nets net × IsKeyOf net.block k.copy.key ×
-        ((target : Spot) × (branch : List Exit) × (from : ℕ) × (to : ℕ) × IsWayOf opened net target branch from to × IsTrue (is_on_trail from to branch k))
+        ((target : Spot) × (branch : List Exit) × (from : ℕ) × (to : ℕ) × IsWayOn opened.setup.machine opened.setup.spots net target branch from to × IsTrue (is_on_trail from to branch k))
     on_a_trail k has =
         let u = is_unsent k has in
         let net : NetPlan = u.sent.net in
@@ -222,7 +222,7 @@ module _ (m : Description) (spots : List Spot) (tables : List (List Entry)) (cap
     counts n from to branch v c = (c.packet == n) && ((v == from) && (c.hop == 0))
 
     once : (k : Mark) → Contains (marks_of opened) k → (net : NetPlan) → Contains nets net → IsKeyOf net.block k.copy.key →
-        (target : Spot) (branch : List Exit) (from to : ℕ) → IsWayOf opened net target branch from to →
+        (target : Spot) (branch : List Exit) (from to : ℕ) → IsWayOn opened.setup.machine opened.setup.spots net target branch from to →
         count_by (is_packet_on_trail k.copy.packet from to branch) (marks_of opened) ≡ 1
     once k has net in_list key target branch from to w =
         let u = is_unsent k has in

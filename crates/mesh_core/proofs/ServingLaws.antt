@@ -64,11 +64,11 @@ vertex_read m spots table s p r tells inside small at read =
     cc
 
 -- the outputs that a router gives, by the table that was looked up
-pub outputs_read : (s : State) (c : Chip) (port : Port) (k : McCopy) (n : ℕ) (table : List Entry) → n ≡ index_of s.machine c → slice_get s.tables n ≡ Some table →
-    (if k.hop == last_hop then [] else outs_of (lookup table k.key port)) ≡ outputs s c port k
+pub outputs_read : (s : State) (c : Chip) (port : Port) (k : McCopy) (n : ℕ) (table : List Entry) → n ≡ index_of s.setup.machine c → slice_get s.setup.tables n ≡ Some table →
+    (if k.hop == last_hop then [] else outs_of (lookup table k.key port)) ≡ outputs s.setup c port k
 outputs_read s c port k n table at here =
-    let is : table ≡ get_or s.tables (index_of s.machine c) [] =
-    sym (get_or_from_slice_get s.tables n table [] here) ∙ ap (λ i. get_or s.tables i []) at
+    let is : table ≡ get_or s.setup.tables (index_of s.setup.machine c) [] =
+    sym (get_or_from_slice_get s.setup.tables n table [] here) ∙ ap (λ i. get_or s.setup.tables i []) at
     in
     ap (λ (t : List Entry). if k.hop == last_hop then [] else outs_of (lookup t k.key port)) is
 

@@ -71,7 +71,7 @@ pub record WalkedOn (s : State) (packet : ℕ) (branch : List Exit) (from to ste
 
 abbrev pub Walked : State → NetPlan → ℕ → Spot → ℕ → Chip → Out → Type 0
 Walked s net packet target steps chip out =
-    (branch : List Exit) (from to : ℕ) → IsWayOf s net target branch from to → WalkedOn s packet branch from to steps chip out
+    (branch : List Exit) (from to : ℕ) → IsWayOn s.setup.machine s.setup.spots net target branch from to → WalkedOn s packet branch from to steps chip out
 
 -- the exit before a place, where this edge leads into the place's chip
 abbrev Prior : List Exit → ℕ → Option Edge → Type 0
@@ -81,19 +81,19 @@ Prior xs (suc i) None = ⊥
 Prior xs (suc i) (Some e) = slice_get xs i ≡ Some (exit_of e)
 
 module _ (s : State) (net : NetPlan) (packet : ℕ) (tracked : IsTracked s net packet) (target : Spot) (is_target : Contains net.targets target) where
-  stand : AreNetsOf s tracked.nets
+  stand : AreNetsOn s.setup.machine s.setup.spots tracked.nets
   stand = tracked.ledger.nets_stand
 
-  tree : IsRoutingTree s.machine net.tree.root net.tree.edges net.targets
-  tree = All-contains (λ n. IsRoutingTree s.machine n.tree.root n.tree.edges n.targets) tracked.nets net stand.trees tracked.in_nets
+  tree : IsRoutingTree s.setup.machine net.tree.root net.tree.edges net.targets
+  tree = All-contains (λ n. IsRoutingTree s.setup.machine n.tree.root n.tree.edges n.targets) tracked.nets net stand.trees tracked.in_nets
 
-  on_spot : Contains s.spots target
+  on_spot : Contains s.setup.spots target
   on_spot =
-      All-contains (Contains s.spots) net.targets target
-      (All-contains (λ n. All (Contains s.spots) n.targets) tracked.nets net stand.targets tracked.in_nets) is_target
+      All-contains (Contains s.setup.spots) net.targets target
+      (All-contains (λ n. All (Contains s.setup.spots) n.targets) tracked.nets net stand.targets tracked.in_nets) is_target
 
-  pub target_usable : IsMesh s → IsUsable s.machine target
-  target_usable mesh = All-contains (IsUsable s.machine) s.spots target mesh.usable on_spot
+  pub target_usable : IsMesh s → IsUsable s.setup.machine target
+  target_usable mesh = All-contains (IsUsable s.setup.machine) s.setup.spots target mesh.usable on_spot
 
   -- ---- the ways to the target
 
@@ -102,13 +102,13 @@ module _ (s : State) (net : NetPlan) (packet : ℕ) (tracked : IsTracked s net p
     branch : List Exit
     from : ℕ
     to : ℕ
-    way : IsWayOf s net target branch from to
+    way : IsWayOn s.setup.machine s.setup.spots net target branch from to
 
   some_way : SomeWay
   some_way =
-      let found = core_on_branch s.machine net.tree.root net.tree.edges net.targets tree target is_target in
-      let begin = vertex_there s.spots net.source (All-contains (λ n. Contains s.spots n.source) tracked.nets net stand.sources tracked.in_nets) in
-      let end = vertex_there s.spots target on_spot in
+      let found = core_on_branch s.setup.machine net.tree.root net.tree.edges net.targets tree target is_target in
+      let begin = vertex_there s.setup.spots net.source (All-contains (λ n. Contains s.setup.spots n.source) tracked.nets net stand.sources tracked.in_nets) in
+      let end = vertex_there s.setup.spots target on_spot in
       record {
         branch = found.0;
         from = begin.0;
@@ -123,16 +123,16 @@ module _ (s : State) (net : NetPlan) (packet : ℕ) (tracked : IsTracked s net p
       made a b p q e' f' = cc
 
   -- the last exit of a branch is its target's core
-  last_exit : (t : Spot) (xs : List Exit) → IsBranch s.machine net.tree.root net.tree.edges t xs →
+  last_exit : (t : Spot) (xs : List Exit) → IsBranch s.setup.machine net.tree.root net.tree.edges t xs →
       (i : ℕ) × (slice_get xs i ≡ Some (record { chip = t.chip; out = Core t.core })) × (i + 1 ≡ length xs)
   last_exit t [] is = absurd is
   last_exit t (x ∷ xs) is =
       let i : ℕ = length xs in
       let there = at_place (x ∷ xs) i (omega arith) in
-      (i, there.1 ∙ ap Some (by_output there.0 there.1 there.0.out refl (exit_leads s.machine net.tree.edges t net.tree.root (x ∷ xs) i there.0 is there.1)), omega arith)
+      (i, there.1 ∙ ap Some (by_output there.0 there.1 there.0.out refl (exit_leads s.setup.machine net.tree.edges t net.tree.root (x ∷ xs) i there.0 is there.1)), omega arith)
     where
       by_output : (z : Exit) → slice_get (x ∷ xs) (length xs) ≡ Some z → (o : Out) → z.out ≡ o →
-          ExitLeads s.machine net.tree.edges t (x ∷ xs) (length xs) z o → z ≡ record { chip = t.chip; out = Core t.core }
+          ExitLeads s.setup.machine net.tree.edges t (x ∷ xs) (length xs) z o → z ≡ record { chip = t.chip; out = Core t.core }
       by_output z at (Link d) out_is leads =
           let past : suc (length xs) < length (x ∷ xs) = place_below (x ∷ xs) (suc (length xs)) leads.1.0 leads.1.2 in absurd (omega arith)
       by_output z at (Core p) out_is leads =
@@ -140,15 +140,15 @@ module _ (s : State) (net : NetPlan) (packet : ℕ) (tracked : IsTracked s net p
           (out_is ∙ ap (λ (u : Spot). Core u.core) (sym leads.0))
 
   -- branches that pass a chip pass it at one place and come in at one port
-  one_place_of : (t u : Spot) (xs ys : List Exit) → IsBranch s.machine net.tree.root net.tree.edges t xs → IsBranch s.machine net.tree.root net.tree.edges u ys →
+  one_place_of : (t u : Spot) (xs ys : List Exit) → IsBranch s.setup.machine net.tree.root net.tree.edges t xs → IsBranch s.setup.machine net.tree.root net.tree.edges u ys →
       (i j : ℕ) (x y : Exit) → slice_get xs i ≡ Some x → slice_get ys j ≡ Some y → x.chip ≡ y.chip → (i ≡ j) × (arrival_at xs i ≡ arrival_at ys j)
-  one_place_of = same_place s.machine net.tree.root net.tree.edges (map (λ x. x.chip) net.targets) tree
+  one_place_of = same_place s.setup.machine net.tree.root net.tree.edges (map (λ x. x.chip) net.targets) tree
 
   -- branches to one vertex are of one length
-  one_length : (t u : Spot) (xs ys : List Exit) (from from' to : ℕ) → IsWayOf s net t xs from to → IsWayOf s net u ys from' to → length xs ≡ length ys
+  one_length : (t u : Spot) (xs ys : List Exit) (from from' to : ℕ) → IsWayOn s.setup.machine s.setup.spots net t xs from to → IsWayOn s.setup.machine s.setup.spots net u ys from' to → length xs ≡ length ys
   one_length t u xs ys from from' to w w' =
-      let on_t = vertex_at_stands s.spots t to w.ends in
-      let on_u = vertex_at_stands s.spots u to w'.ends in
+      let on_t = vertex_at_stands s.setup.spots t to w.ends in
+      let on_u = vertex_at_stands s.setup.spots u to w'.ends in
       let both : Some t ≡ Some u = sym on_t ∙ on_u in
       let same : t ≡ u = cc in
       let x = last_exit t xs w.is_branch in
@@ -166,7 +166,7 @@ module _ (s : State) (net : NetPlan) (packet : ℕ) (tracked : IsTracked s net p
     branch : List Exit
     from : ℕ
     to : ℕ
-    way : IsWayOf s net goal branch from to
+    way : IsWayOn s.setup.machine s.setup.spots net goal branch from to
     on : is_on_trail from to branch k ≡ true
 
   its_key : (k : Mark) → Contains (marks_of s) k → k.copy.packet ≡ packet → IsKeyOf net.block k.copy.key
@@ -187,11 +187,11 @@ module _ (s : State) (net : NetPlan) (packet : ℕ) (tracked : IsTracked s net p
         branch = on.3.1;
         from = on.3.2;
         to = on.3.3;
-        way = subst (λ (n : NetPlan). IsWayOf s n on.3.0 on.3.1 on.3.2 on.3.3) one on.3.4;
+        way = subst (λ (n : NetPlan). IsWayOn s.setup.machine s.setup.spots n on.3.0 on.3.1 on.3.2 on.3.3) one on.3.4;
         on = on.3.5;
       }
 
-  module _ (xs : List Exit) (from to : ℕ) (way : IsWayOf s net target xs from to) where
+  module _ (xs : List Exit) (from to : ℕ) (way : IsWayOn s.setup.machine s.setup.spots net target xs from to) where
     -- a mark whose station is this is on the trail where the station is
     on_by : (k : Mark) (at : Station) → k.station ≡ at → on_trail from to xs k.copy.hop at ≡ true → is_on_trail from to xs k ≡ true
     on_by k at is on = ap (on_trail from to xs k.copy.hop) is ∙ on
@@ -254,7 +254,7 @@ module _ (s : State) (net : NetPlan) (packet : ℕ) (tracked : IsTracked s net p
         at_end on =
             let its_to : v ≡ u.to = nat_true v u.to (and_true_left (v == u.to) (k.copy.hop == length u.branch) on) in
             let hop : k.copy.hop ≡ length u.branch = nat_true k.copy.hop (length u.branch) (and_true_right (v == u.to) (k.copy.hop == length u.branch) on) in
-            let other : IsWayOf s net u.goal u.branch u.from to = subst (λ n. IsWayOf s net u.goal u.branch u.from n) (sym its_to ∙ is_to) u.way in
+            let other : IsWayOn s.setup.machine s.setup.spots net u.goal u.branch u.from to = subst (λ n. IsWayOn s.setup.machine s.setup.spots net u.goal u.branch u.from n) (sym its_to ∙ is_to) u.way in
             let long = one_length u.goal target u.branch xs u.from from to other way in
             both_true (v == to) (k.copy.hop == length xs) (nat_same v to is_to) (nat_same k.copy.hop (length xs) (hop ∙ long))
 
@@ -352,21 +352,21 @@ module _ (s : State) (net : NetPlan) (packet : ℕ) (tracked : IsTracked s net p
           omega arith
 
   -- the walk is at a chip inside the grid
-  pub walk_inside : (steps : ℕ) (chip : Chip) (out : Out) → Walked s net packet target steps chip out → IsInside s.machine chip
+  pub walk_inside : (steps : ℕ) (chip : Chip) (out : Out) → Walked s net packet target steps chip out → IsInside s.setup.machine chip
   walk_inside steps chip out walked =
       let w = some_way in
       let on = walked w.branch w.from w.to w.way in
-      branch_inside s.machine net.tree.root net.tree.edges (map (λ x. x.chip) net.targets) tree target w.branch w.way.is_branch on.place
+      branch_inside s.setup.machine net.tree.root net.tree.edges (map (λ x. x.chip) net.targets) tree target w.branch w.way.is_branch on.place
       (record { chip = chip; out = out }) on.at
 
   -- the walk has fewer steps than the grid has chips
-  pub walk_short : (steps : ℕ) (chip : Chip) (out : Out) → Walked s net packet target steps chip out → s.machine.width * s.machine.height ≤ steps → ⊥
+  pub walk_short : (steps : ℕ) (chip : Chip) (out : Out) → Walked s net packet target steps chip out → s.setup.machine.width * s.setup.machine.height ≤ steps → ⊥
   walk_short steps chip out walked many =
       let w = some_way in
       let on = walked w.branch w.from w.to w.way in
       let place : on.place + 1 + steps ≡ length w.branch = on.is_place in
-      let short : length w.branch ≤ s.machine.width * s.machine.height =
-      branch_short s.machine net.tree.root net.tree.edges (map (λ x. x.chip) net.targets) tree target w.branch w.way.is_branch
+      let short : length w.branch ≤ s.setup.machine.width * s.setup.machine.height =
+      branch_short s.setup.machine net.tree.root net.tree.edges (map (λ x. x.chip) net.targets) tree target w.branch w.way.is_branch
       in
       omega arith
 
@@ -375,19 +375,19 @@ module _ (s : State) (net : NetPlan) (packet : ℕ) (tracked : IsTracked s net p
     arrives : arrival_at xs i ≡ port_behind edge
     prior : Prior xs i edge
 
-  behind_place : (xs : List Exit) (from to : ℕ) → IsWayOf s net target xs from to → (i : ℕ) (x : Exit) → slice_get xs i ≡ Some x →
-      (edge : Option Edge) → IsEdgeInto s.machine net.tree.edges x.chip edge → Behind xs i edge
+  behind_place : (xs : List Exit) (from to : ℕ) → IsWayOn s.setup.machine s.setup.spots net target xs from to → (i : ℕ) (x : Exit) → slice_get xs i ≡ Some x →
+      (edge : Option Edge) → IsEdgeInto s.setup.machine net.tree.edges x.chip edge → Behind xs i edge
   behind_place xs from to way zero x at None none = record { arrives = refl; prior = tt }
   behind_place xs from to way zero x at (Some e) into =
-      let root : x.chip ≡ net.tree.root = way_first s.machine net.tree.edges target net.tree.root xs x way.is_branch at in
-      absurd (All-contains (λ f. end_of s.machine f ≢ Some net.tree.root) net.tree.edges e tree.none_into_root into.0 (into.1 ∙ ap Some root))
+      let root : x.chip ≡ net.tree.root = way_first s.setup.machine net.tree.edges target net.tree.root xs x way.is_branch at in
+      absurd (All-contains (λ f. end_of s.setup.machine f ≢ Some net.tree.root) net.tree.edges e tree.none_into_root into.0 (into.1 ∙ ap Some root))
   behind_place xs from to way (suc i) x at None none =
-      let by : ComesBy s.machine net.tree.edges xs Local i x.chip = comes_by s.machine net.tree.edges target net.tree.root Local xs i x way.is_branch at in
-      absurd (All-contains (λ f. end_of s.machine f ≢ Some x.chip) net.tree.edges by.edge none by.in_tree by.leads)
+      let by : ComesBy s.setup.machine net.tree.edges xs Local i x.chip = comes_by s.setup.machine net.tree.edges target net.tree.root Local xs i x way.is_branch at in
+      absurd (All-contains (λ f. end_of s.setup.machine f ≢ Some x.chip) net.tree.edges by.edge none by.in_tree by.leads)
   behind_place xs from to way (suc i) x at (Some e) into =
-      let by : ComesBy s.machine net.tree.edges xs Local i x.chip = comes_by s.machine net.tree.edges target net.tree.root Local xs i x way.is_branch at in
+      let by : ComesBy s.setup.machine net.tree.edges xs Local i x.chip = comes_by s.setup.machine net.tree.edges target net.tree.root Local xs i x way.is_branch at in
       let one : by.edge ≡ e =
-      one_edge_into s.machine net.tree.root net.tree.edges (map (λ y. y.chip) net.targets) tree by.edge e x.chip by.in_tree into.0 by.leads into.1
+      one_edge_into s.setup.machine net.tree.root net.tree.edges (map (λ y. y.chip) net.targets) tree by.edge e x.chip by.in_tree into.0 by.leads into.1
       in
       record {
         arrives = by.arrives ∙ ap (λ (f : Edge). ByLink (opposite_of f.dir)) one;
@@ -395,7 +395,7 @@ module _ (s : State) (net : NetPlan) (packet : ℕ) (tracked : IsTracked s net p
       }
 
   -- where nothing was found at the exit and at the port, the packet's mark is before the place
-  narrowed : (xs : List Exit) (from to : ℕ) → IsWayOf s net target xs from to → (i : ℕ) (c : Chip) (o : Out) (port : Port) →
+  narrowed : (xs : List Exit) (from to : ℕ) → IsWayOn s.setup.machine s.setup.spots net target xs from to → (i : ℕ) (c : Chip) (o : Out) (port : Port) →
       slice_get xs i ≡ Some (record { chip = c; out = o }) → arrival_at xs i ≡ port → IsFound s packet (IsOfOutput c o) None →
       IsFound s packet (IsOfPort c port) None → (k : Mark) → Contains (marks_of s) k → k.copy.packet ≡ packet → is_on_trail from to xs k ≡ true →
       IsBefore (i + 1) k.copy.hop k.station → IsBefore i k.copy.hop k.station
@@ -441,7 +441,7 @@ module _ (s : State) (net : NetPlan) (packet : ℕ) (tracked : IsTracked s net p
 
   -- the walk goes on by the edge into the chip
   pub walk_goes_on : (steps : ℕ) (chip : Chip) (out : Out) → Walked s net packet target steps chip out → IsFound s packet (IsOfOutput chip out) None →
-      (e : Edge) → IsEdgeInto s.machine net.tree.edges chip (Some e) → IsFound s packet (IsOfPort chip (port_behind (Some e))) None →
+      (e : Edge) → IsEdgeInto s.setup.machine net.tree.edges chip (Some e) → IsFound s packet (IsOfPort chip (port_behind (Some e))) None →
       Walked s net packet target (steps + 1) e.chip (Link e.dir)
   walk_goes_on steps chip out walked none e into none_in xs from to way =
       let on = walked xs from to way in
@@ -464,7 +464,7 @@ module _ (s : State) (net : NetPlan) (packet : ℕ) (tracked : IsTracked s net p
 
   -- where no edge leads into the chip, the copy is unsent
   pub walk_ends : (steps : ℕ) (chip : Chip) (out : Out) → Walked s net packet target steps chip out → IsFound s packet (IsOfOutput chip out) None →
-      IsEdgeInto s.machine net.tree.edges chip None → IsFound s packet (IsOfPort chip Local) None → IsWhere s net packet target Unsent
+      IsEdgeInto s.setup.machine net.tree.edges chip None → IsFound s packet (IsOfPort chip Local) None → IsWhere s net packet target Unsent
   walk_ends steps chip out walked none into none_in xs from to way =
       let on = walked xs from to way in
       let x : Exit = record { chip = chip; out = out } in

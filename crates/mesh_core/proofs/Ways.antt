@@ -78,26 +78,26 @@ vertex_there spots t has = found (nat_lt first (length spots)) refl
 -- a net that stands on a mesh, with tables that are right for it
 pub record Stands (s : State) (net : NetPlan) : Type 0 where
   pub mesh : IsMesh s
-  pub tree : IsRoutingTree s.machine net.tree.root net.tree.edges net.targets
+  pub tree : IsRoutingTree s.setup.machine net.tree.root net.tree.edges net.targets
   pub root : net.tree.root ≡ net.source.chip
-  pub source : Contains s.spots net.source
-  pub targets : All (Contains s.spots) net.targets
-  pub right : RoutesByTree s.machine s.tables net
+  pub source : Contains s.setup.spots net.source
+  pub targets : All (Contains s.setup.spots) net.targets
+  pub right : RoutesByTree s.setup.machine s.setup.tables net
 
 -- a target is on a usable core, so on one of 1 to 17
 pub target_core_low : (s : State) (net : NetPlan) → Stands s net → (t : Spot) → Contains net.targets t → t.core ≤ 17
 target_core_low s net stands t has =
-    let on_spot : Contains s.spots t = All-contains (Contains s.spots) net.targets t stands.targets has in
-    let usable : IsUsable s.machine t = All-contains (IsUsable s.machine) s.spots t stands.mesh.usable on_spot in
-    let middle = and_true_right (is_live_chip s.machine t.chip) _ usable in
+    let on_spot : Contains s.setup.spots t = All-contains (Contains s.setup.spots) net.targets t stands.targets has in
+    let usable : IsUsable s.setup.machine t = All-contains (IsUsable s.setup.machine) s.setup.spots t stands.mesh.usable on_spot in
+    let middle = and_true_right (is_live_chip s.setup.machine t.chip) _ usable in
     let range = and_true_left (nat_le 1 t.core && nat_le t.core 17) _ middle in
     leb-true t.core 17 (and_true_right (nat_le 1 t.core) (nat_le t.core 17) range)
 
 -- a branch is shorter than hop numbers go
 pub short_branch : (s : State) (net : NetPlan) → Stands s net → (t : Spot) (branch : List Exit) →
-    IsBranch s.machine net.tree.root net.tree.edges t branch → length branch ≤ 4096
+    IsBranch s.setup.machine net.tree.root net.tree.edges t branch → length branch ≤ 4096
 short_branch s net stands t branch is =
-    let m = s.machine in
+    let m = s.setup.machine in
     let short : length branch ≤ m.width * m.height =
     branch_short m net.tree.root net.tree.edges (map (λ x. x.chip) net.targets) stands.tree t branch is
     in
@@ -116,27 +116,27 @@ place_below xs i x at = slice_get_within xs i x at
 
 -- two branches of the net that pass a chip pass it at one place and come in at one port
 pub one_place : (s : State) (net : NetPlan) → Stands s net → (t u : Spot) (xs ys : List Exit) →
-    IsBranch s.machine net.tree.root net.tree.edges t xs → IsBranch s.machine net.tree.root net.tree.edges u ys →
+    IsBranch s.setup.machine net.tree.root net.tree.edges t xs → IsBranch s.setup.machine net.tree.root net.tree.edges u ys →
     (i j : ℕ) (x y : Exit) → slice_get xs i ≡ Some x → slice_get ys j ≡ Some y → x.chip ≡ y.chip →
     (i ≡ j) × (arrival_at xs i ≡ arrival_at ys j)
 one_place s net stands =
-    same_place s.machine net.tree.root net.tree.edges (map (λ x. x.chip) net.targets) stands.tree
+    same_place s.setup.machine net.tree.root net.tree.edges (map (λ x. x.chip) net.targets) stands.tree
 
 -- the net's packets come in where its branches pass
-pub branch_comes_in : (s : State) (net : NetPlan) → (t : Spot) (xs : List Exit) → IsBranch s.machine net.tree.root net.tree.edges t xs →
-    (i : ℕ) (x : Exit) → slice_get xs i ≡ Some x → ComesIn s.machine net.tree.root net.tree.edges x.chip (arrival_at xs i)
-branch_comes_in s net t xs is zero x at = inl (way_first s.machine net.tree.edges t net.tree.root xs x is at, refl)
+pub branch_comes_in : (s : State) (net : NetPlan) → (t : Spot) (xs : List Exit) → IsBranch s.setup.machine net.tree.root net.tree.edges t xs →
+    (i : ℕ) (x : Exit) → slice_get xs i ≡ Some x → ComesIn s.setup.machine net.tree.root net.tree.edges x.chip (arrival_at xs i)
+branch_comes_in s net t xs is zero x at = inl (way_first s.setup.machine net.tree.edges t net.tree.root xs x is at, refl)
 branch_comes_in s net t xs is (suc i) x at =
-    let by : ComesBy s.machine net.tree.edges xs Local i x.chip = comes_by s.machine net.tree.edges t net.tree.root Local xs i x is at in
+    let by : ComesBy s.setup.machine net.tree.edges xs Local i x.chip = comes_by s.setup.machine net.tree.edges t net.tree.root Local xs i x is at in
     inr (by.edge, by.in_tree, by.leads, by.arrives)
 
 -- the exits of a branch are wanted
 pub exit_wanted : (s : State) (net : NetPlan) → (t : Spot) → Contains net.targets t → (xs : List Exit) →
-    IsBranch s.machine net.tree.root net.tree.edges t xs → (i : ℕ) (x : Exit) → slice_get xs i ≡ Some x →
+    IsBranch s.setup.machine net.tree.root net.tree.edges t xs → (i : ℕ) (x : Exit) → slice_get xs i ≡ Some x →
     is_wanted net.tree.edges net.targets x.chip x.out ≡ true
-exit_wanted s net t has xs is i x at = by_output x.out (exit_leads s.machine net.tree.edges t net.tree.root xs i x is at)
+exit_wanted s net t has xs is i x at = by_output x.out (exit_leads s.setup.machine net.tree.edges t net.tree.root xs i x is at)
   where
-    by_output : (o : Out) → ExitLeads s.machine net.tree.edges t xs i x o → is_wanted net.tree.edges net.targets x.chip o ≡ true
+    by_output : (o : Out) → ExitLeads s.setup.machine net.tree.edges t xs i x o → is_wanted net.tree.edges net.targets x.chip o ≡ true
     by_output (Link d) leads =
         let e : Edge = record { chip = x.chip; dir = d } in
         list_any_at (edge_eq e) net.tree.edges leads.0.0 e leads.0.1 (ap (edge_eq e) leads.0.2 ∙ edge_eq_self e)
@@ -146,10 +146,10 @@ exit_wanted s net t has xs is i x at = by_output x.out (exit_leads s.machine net
 
 -- the exits of a branch are outputs that a route can name
 pub exit_is_output : (s : State) (net : NetPlan) → Stands s net → (t : Spot) → Contains net.targets t → (xs : List Exit) →
-    IsBranch s.machine net.tree.root net.tree.edges t xs → (i : ℕ) (x : Exit) → slice_get xs i ≡ Some x → IsOutput x.out
-exit_is_output s net stands t has xs is i x at = by_output x.out (exit_leads s.machine net.tree.edges t net.tree.root xs i x is at)
+    IsBranch s.setup.machine net.tree.root net.tree.edges t xs → (i : ℕ) (x : Exit) → slice_get xs i ≡ Some x → IsOutput x.out
+exit_is_output s net stands t has xs is i x at = by_output x.out (exit_leads s.setup.machine net.tree.edges t net.tree.root xs i x is at)
   where
-    by_output : (o : Out) → ExitLeads s.machine net.tree.edges t xs i x o → IsOutput o
+    by_output : (o : Out) → ExitLeads s.setup.machine net.tree.edges t xs i x o → IsOutput o
     by_output (Link d) leads = tt
     by_output (Core p) leads =
         let low : t.core ≤ 17 = target_core_low s net stands t has in
@@ -161,7 +161,7 @@ pub record OnBranch (s : State) (net : NetPlan) (x : Exit) : Type 0 where
   pub target : Spot
   pub is_target : Contains net.targets target
   pub branch : List Exit
-  pub is_branch : IsBranch s.machine net.tree.root net.tree.edges target branch
+  pub is_branch : IsBranch s.setup.machine net.tree.root net.tree.edges target branch
   pub place : ℕ
   pub at : slice_get branch place ≡ Some x
 
@@ -169,7 +169,7 @@ pub wanted_on_branch : (s : State) (net : NetPlan) → Stands s net → (x : Exi
 wanted_on_branch s net stands x wanted = by_output x.out wanted
   where
     m : Description
-    m = s.machine
+    m = s.setup.machine
 
     by_output : (o : Out) → is_wanted net.tree.edges net.targets x.chip o ≡ true → OnBranch s net (record { chip = x.chip; out = o })
     by_output (Link d) yes' =

@@ -1,6 +1,8 @@
 pub mod Expected
+pub mod HasRun
 pub mod Ledger
 pub mod Opened
+pub mod PutBack
 pub mod Queues
 pub mod Searches
 pub mod Serving

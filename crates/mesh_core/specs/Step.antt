@@ -16,7 +16,7 @@ use Rattle.machine_desc.specs.Live.{index_of, is_live_chip}
 use Rattle.net_tables.specs.RightTables.{table_at}
 use Rattle.mesh_core.specs.declared.places.Did.{Did}
 use Rattle.mesh_core.specs.declared.places.Did.TheVariants.{Moved, Idle}
-use Rattle.mesh_core.specs.State.{State, Held, Behind, input, core, nowhere, behind, queue_at}
+use Rattle.mesh_core.specs.State.{Setup, State, Held, Behind, input, core, nowhere, behind, queue_at}
 
 -- the greatest hop number
 abbrev pub last_hop : ℕ
@@ -28,8 +28,8 @@ onward k = record k { hop = min (k.hop + 1) last_hop }
 
 -- The outputs that a router gives a copy: those that lookup gives its key at its port (SpiNNaker datasheet), and none
 -- where it has the greatest hop number (this project's own).
-abbrev pub outputs : State → Chip → Port → McCopy → List Out
-outputs s c port k = if k.hop == last_hop then [] else outs_of (lookup (table_at s.machine s.tables c) k.key port)
+abbrev pub outputs : Setup → Chip → Port → McCopy → List Out
+outputs u c port k = if k.hop == last_hop then [] else outs_of (lookup (table_at u.machine u.tables c) k.key port)
 
 -- what a router holds once it has these outputs to serve: nothing where there is none
 abbrev pub in_hand : McCopy → Port → List Out → Option Held
@@ -48,8 +48,8 @@ has_room capacity None = false
 
 -- whether the queue behind an output has room. There is none behind an output that leads nowhere.
 abbrev pub has_room_behind : State → Behind → Bool
-has_room_behind s (input i) = has_room s.capacity (slice_get s.inputs i)
-has_room_behind s (core v) = has_room s.capacity (slice_get s.cores v)
+has_room_behind s (input i) = has_room s.setup.capacity (slice_get s.inputs i)
+has_room_behind s (core v) = has_room s.setup.capacity (slice_get s.cores v)
 has_room_behind s nowhere = false
 
 -- the lists with one more item at the back of the list at a place
@@ -67,7 +67,7 @@ arrived s nowhere k = s
 -- back of that queue.
 abbrev pub injected : State → ℕ → Option Spot → Option (List McCopy) → Option State
 injected s v (Some spot) (Some (k ∷ rest)) =
-    let queue = input (queue_at s.machine spot.chip Local) in
+    let queue = input (queue_at s.setup.machine spot.chip Local) in
     if has_room_behind s queue then Some (arrived (record s { unsent = slice_set s.unsent v rest }) queue k) else None
 injected s v spot unsent = None
 
@@ -75,30 +75,30 @@ injected s v spot unsent = None
 -- lookup gives. A copy without outputs is gone.
 abbrev pub taken : State → Chip → Port → Option (Option Held) → Option (List McCopy) → Option State
 taken s c port (Some None) (Some (k ∷ rest)) =
-    if is_live_chip s.machine c
+    if is_live_chip s.setup.machine c
     then Some (record s {
-      inputs = slice_set s.inputs (queue_at s.machine c port) rest;
-      hands = slice_set s.hands (index_of s.machine c) (in_hand k port (outputs s c port k));
+      inputs = slice_set s.inputs (queue_at s.setup.machine c port) rest;
+      hands = slice_set s.hands (index_of s.setup.machine c) (in_hand k port (outputs s.setup c port k));
     })
     else None
 taken s c port hand queue = None
 
 -- whether a live chip's hand still has this output to serve
 abbrev pub serves : State → Chip → Out → Option (Option Held) → Bool
-serves s c o (Some (Some h)) = is_live_chip s.machine c && list_any (out_eq o) h.outs
+serves s c o (Some (Some h)) = is_live_chip s.setup.machine c && list_any (out_eq o) h.outs
 serves s c o (Some None) = false
 serves s c o None = false
 
 -- the mesh where the hand has served an output
 abbrev pub served : State → Chip → Out → Held → State
-served s c o h = record s { hands = slice_set s.hands (index_of s.machine c) (in_hand h.copy h.port (without o h.outs)) }
+served s c o h = record s { hands = slice_set s.hands (index_of s.setup.machine c) (in_hand h.copy h.port (without o h.outs)) }
 
 -- Send: a chip whose hand has the output, and behind it a queue that isn't full, sends the copy with one hop more to
 -- the back of that queue, and the output leaves the hand.
 abbrev pub sent : State → Chip → Out → Option (Option Held) → Option State
 sent s c o (Some (Some h)) =
-    if serves s c o (Some (Some h)) && has_room_behind s (behind s.machine s.spots c o)
-    then Some (arrived (served s c o h) (behind s.machine s.spots c o) (onward h.copy))
+    if serves s c o (Some (Some h)) && has_room_behind s (behind s.setup c o)
+    then Some (arrived (served s c o h) (behind s.setup c o) (onward h.copy))
     else None
 sent s c o (Some None) = None
 sent s c o None = None
@@ -107,7 +107,7 @@ sent s c o None = None
 -- the output leaves the hand.
 abbrev pub dumped_at : State → Chip → Out → Option (Option Held) → Option State
 dumped_at s c o (Some (Some h)) =
-    if serves s c o (Some (Some h)) && not (has_room_behind s (behind s.machine s.spots c o))
+    if serves s c o (Some (Some h)) && not (has_room_behind s (behind s.setup c o))
     then (let next = served s c o h in Some (record next { dumped = next.dumped ++ record { chip = c; out = o; copy = h.copy } ∷ [] }))
     else None
 dumped_at s c o (Some None) = None
@@ -121,10 +121,10 @@ collected s v queue = None
 
 -- The lists after an event, where it is enabled. An event of a vertex or chip that isn't there is not.
 abbrev pub stepped : State → Event → Option State
-stepped s (Inject v) = injected s v (slice_get s.spots v) (slice_get s.unsent v)
-stepped s (Take c port) = taken s c port (slice_get s.hands (index_of s.machine c)) (slice_get s.inputs (queue_at s.machine c port))
-stepped s (Send c o) = sent s c o (slice_get s.hands (index_of s.machine c))
-stepped s (Dump c o) = dumped_at s c o (slice_get s.hands (index_of s.machine c))
+stepped s (Inject v) = injected s v (slice_get s.setup.spots v) (slice_get s.unsent v)
+stepped s (Take c port) = taken s c port (slice_get s.hands (index_of s.setup.machine c)) (slice_get s.inputs (queue_at s.setup.machine c port))
+stepped s (Send c o) = sent s c o (slice_get s.hands (index_of s.setup.machine c))
+stepped s (Dump c o) = dumped_at s c o (slice_get s.hands (index_of s.setup.machine c))
 stepped s (Collect v) = collected s v (slice_get s.cores v)
 
 -- An event that isn't enabled changes nothing.
@@ -139,3 +139,8 @@ answer s e = if is_some (stepped s e) then Moved else Idle
 abbrev pub after_events : State → List Event → State
 after_events s [] = s
 after_events s (e ∷ es) = after_events (after_event s e) es
+
+-- the answers to a list of events, one by one
+abbrev pub answers_of : State → List Event → List Did
+answers_of s [] = []
+answers_of s (e ∷ es) = answer s e ∷ answers_of (after_event s e) es

@@ -5,16 +5,13 @@ use Rattle.mesh_core.specs.VertexTable.{TellsVertices}
 
 abbrev pub state_of : Inside → State
 state_of s = record {
-  machine = s.machine;
-  spots = s.spots;
+  setup = record { machine = s.machine; spots = s.spots; tables = s.tcams; capacity = s.capacity };
   unsent = s.unsent.items;
   inputs = s.inputs.items;
   hands = s.hands.items;
   cores = s.cores.items;
   delivered = s.delivered;
   dumped = s.dumped;
-  tables = s.tcams;
-  capacity = s.capacity;
 }
 
 -- Every mesh is one, and its table tells the vertices.

@@ -17,15 +17,15 @@ ghost use Rattle.mesh_core.specs.Expected.{IsAtRest, AreAsExpected};
 /// of events, so after each event of any list; and the same for the ledger of a job.
 pub fn events_keep_the_ledger()
     ensures of_nets { (s : State) (nets : List NetPlan) (labels : ℕ → Label) (events : List Event) →
-        IsMesh s → AreRight s.machine s.tables nets → MeetsLedger s nets labels → MeetsLedger (after_events s events) nets labels }
+        IsMesh s → AreRight s.setup.machine s.setup.tables nets → MeetsLedger s nets labels → MeetsLedger (after_events s events) nets labels }
     ensures of_job { (s : State) (nets : List NetPlan) (packets : List Packet) (events : List Event) →
-        IsMesh s → AreRight s.machine s.tables nets → MeetsJobLedger s nets packets → MeetsJobLedger (after_events s events) nets packets }
+        IsMesh s → AreRight s.setup.machine s.setup.tables nets → MeetsJobLedger s nets packets → MeetsJobLedger (after_events s events) nets packets }
 {}
 
 /// The opened mesh of a job meets the ledger of the job, where the nets stand on it and each packet has a key of its net.
 pub fn opened_mesh_meets_its_ledger()
     ensures { (m : Description) (spots : List Spot) (tables : List (List Entry)) (capacity : ℕ) (nets : List NetPlan) (packets : List Packet) →
-        AreNetsOf (opened_mesh m spots tables capacity nets packets) nets → AreOfNets nets packets →
+        AreNetsOn (opened_mesh m spots tables capacity nets packets).setup.machine (opened_mesh m spots tables capacity nets packets).setup.spots nets → AreOfNets nets packets →
         MeetsJobLedger (opened_mesh m spots tables capacity nets packets) nets packets }
 {}
 

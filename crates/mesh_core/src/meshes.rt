@@ -92,7 +92,7 @@ impl Mesh {
     /// Puts a copy that has passed no router at the end of those that vertex `vertex` has not sent yet. After a refusal
     /// the mesh is as before.
     pub fn add(&mut self, vertex: u32, copy: McCopy) -> Result<(), Memory>
-        requires exists { vertex < length self.old.spots }
+        requires exists { vertex < length self.old.setup.spots }
         requires at_start { copy.hop ≡ 0 }
         ensures ok { OnOk result (self.new ≡ record self.old { unsent = appended self.old.unsent vertex copy (slice_get self.old.unsent vertex) }) }
         ensures err { OnErr result (self.new ≡ self.old) }
@@ -102,7 +102,7 @@ impl Mesh {
 
     /// The copies that vertex `v` has not sent yet, in order.
     pub fn unsent(&self, v: u32) -> &[McCopy]
-        requires { v < length self.now.spots }
+        requires { v < length self.now.setup.spots }
         ensures { slice_get self.now.unsent v ≡ Some result.now }
     {
         self.unsent[v as usize].as_slice()
@@ -110,7 +110,7 @@ impl Mesh {
 
     /// The queue of vertex `v`'s core, front first.
     pub fn core_queue(&self, v: u32) -> &[McCopy]
-        requires { v < length self.now.spots }
+        requires { v < length self.now.setup.spots }
         ensures { slice_get self.now.cores v ≡ Some result.now }
     {
         self.cores[v as usize].as_slice()
@@ -118,16 +118,16 @@ impl Mesh {
 
     /// The input queue of a port, front first.
     pub fn queue(&self, c: Chip, port: Port) -> &[McCopy]
-        requires { IsInside self.now.machine c }
-        ensures { slice_get self.now.inputs (queue_at self.now.machine c port) ≡ Some result.now }
+        requires { IsInside self.now.setup.machine c }
+        ensures { slice_get self.now.inputs (queue_at self.now.setup.machine c port) ≡ Some result.now }
     {
         self.inputs[queue_place(&self.machine, c, port)].as_slice()
     }
 
     /// What the chip's router holds, and `None` exactly where it holds nothing.
     pub fn hand(&self, c: Chip) -> Option<&Hand>
-        requires { IsInside self.now.machine c }
-        ensures { slice_get self.now.hands (index_of self.now.machine c) ≡ Some (option_copied result) }
+        requires { IsInside self.now.setup.machine c }
+        ensures { slice_get self.now.hands (index_of self.now.setup.machine c) ≡ Some (option_copied result) }
     {
         self.hands[self.machine.index(c) as usize].as_ref()
     }

@@ -31,8 +31,8 @@ impl Mesh {
         ensures answer { IfOk result (λ did. did ≡ answer self.old e) }
         ensures moves { OnOk result (self.new ≡ after_event self.old e) }
         ensures err { OnErr result (self.new ≡ self.old) }
-        ensures machine_stays { self.new.machine ≡ self.old.machine }
-        ensures vertices_stay { self.new.spots ≡ self.old.spots }
+        ensures machine_stays { self.new.setup.machine ≡ self.old.setup.machine }
+        ensures vertices_stay { self.new.setup.spots ≡ self.old.setup.spots }
     {
         match e {
             Event::Inject(vertex) => self.inject(vertex),
@@ -144,8 +144,8 @@ impl Mesh {
 
     // The copy in the hand of the chip's router that still has to leave by the output.
     fn copy_for(&self, c: Chip, out: Out) -> Option<McCopy>
-        ensures copy { result ≡ copy_served self.now c out (slice_get self.now.hands (index_of self.now.machine c)) }
-        ensures inside { IfSome result (λ _. IsInside self.now.machine c) }
+        ensures copy { result ≡ copy_served self.now c out (slice_get self.now.hands (index_of self.now.setup.machine c)) }
+        ensures inside { IfSome result (λ _. IsInside self.now.setup.machine c) }
     {
         if !self.machine.live(c) {
             return None;
@@ -160,8 +160,8 @@ impl Mesh {
 
     // The queue behind an output.
     fn behind(&self, c: Chip, out: Out) -> Queue
-        requires { IsInside self.now.machine c }
-        ensures queue { named result ≡ behind self.now.machine self.now.spots c out }
+        requires { IsInside self.now.setup.machine c }
+        ensures queue { named result ≡ behind self.now.setup c out }
         ensures place { IsPlace (length self.now.inputs) (length self.now.cores) result }
     {
         match out {
@@ -172,8 +172,8 @@ impl Mesh {
 
     // The queue at the far end of a link.
     fn behind_link(&self, c: Chip, link: Dir) -> Queue
-        requires { IsInside self.now.machine c }
-        ensures queue { named result ≡ behind self.now.machine self.now.spots c (Link link) }
+        requires { IsInside self.now.setup.machine c }
+        ensures queue { named result ≡ behind self.now.setup c (Link link) }
         ensures place { IsPlace (length self.now.inputs) (length self.now.cores) result }
     {
         if !self.machine.link_live(c, link) {
@@ -187,8 +187,8 @@ impl Mesh {
 
     // The queue of the vertex on a core.
     fn behind_core(&self, spot: Spot) -> Queue
-        requires { IsInside self.now.machine spot.chip }
-        ensures queue { named result ≡ behind self.now.machine self.now.spots spot.chip (Core spot.core) }
+        requires { IsInside self.now.setup.machine spot.chip }
+        ensures queue { named result ≡ behind self.now.setup spot.chip (Core spot.core) }
         ensures place { IsPlace (length self.now.inputs) (length self.now.cores) result }
     {
         let first = 18 * self.machine.index(spot.chip) as usize;

@@ -52,7 +52,7 @@ impl Mesh {
 
     // Where a copy of the packet is at the vertex on a core: delivered, or in the core's queue.
     fn at_core(&self, packet: u32, spot: Spot) -> Option<Where>
-        requires usable { IsUsable self.now.machine spot }
+        requires usable { IsUsable self.now.setup.machine spot }
         requires few_deliveries { length self.now.delivered < 2 ^ 32 }
         ensures { IsFound self.now packet (IsOfCore self.now spot) result }
     {
@@ -68,7 +68,7 @@ impl Mesh {
 
     // Where a copy of the packet is at an output of a chip: in the hand, or dumped.
     fn at_output(&self, packet: u32, chip: Chip, out: Out) -> Option<Where>
-        requires inside { IsInside self.now.machine chip }
+        requires inside { IsInside self.now.setup.machine chip }
         requires few_dumps { length self.now.dumped < 2 ^ 32 }
         ensures { IsFound self.now packet (IsOfOutput chip out) result }
     {
@@ -81,7 +81,7 @@ impl Mesh {
 
     // Where a copy of the packet is at a port of a chip: in the input queue.
     fn at_port(&self, packet: u32, chip: Chip, port: Port) -> Option<Where>
-        requires inside { IsInside self.now.machine chip }
+        requires inside { IsInside self.now.setup.machine chip }
         ensures { IsFound self.now packet (IsOfPort chip port) result }
     {
         if has_packet(self.queue(chip, port), packet) {
@@ -93,8 +93,8 @@ impl Mesh {
 
     // The vertex on a core.
     fn vertex_on(&self, spot: Spot) -> Option<usize>
-        requires { IsUsable self.now.machine spot }
-        ensures { result ≡ vertex_at self.now.spots spot }
+        requires { IsUsable self.now.setup.machine spot }
+        ensures { result ≡ vertex_at self.now.setup.spots spot }
     {
         self.vertices[18 * self.machine.index(spot.chip) as usize + usize::from(spot.core)]
     }
@@ -123,8 +123,8 @@ impl Mesh {
 
     // Whether the chip's hand has a copy of the packet for the output.
     fn holds(&self, packet: u32, chip: Chip, out: Out) -> bool
-        requires { IsInside self.now.machine chip }
-        ensures { result ≡ is_held packet out (slice_get self.now.hands (index_of self.now.machine chip)) }
+        requires { IsInside self.now.setup.machine chip }
+        ensures { result ≡ is_held packet out (slice_get self.now.hands (index_of self.now.setup.machine chip)) }
     {
         match self.hand(chip) {
             Some(hand) => hand.copy.packet == packet && hand.serves(out),

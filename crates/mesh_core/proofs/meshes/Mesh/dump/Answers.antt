@@ -25,14 +25,14 @@ moves : (c : goal.After-self-1) → stepped (state_of c.self.inside) (Dump c.arg
 unfolding after
 moves c =
     let s : State = state_of c.self.inside in
-    let to : Behind = behind s.machine s.spots c.args.c c.args.out in
+    let to : Behind = behind s.setup c.args.c c.args.out in
     let k : McCopy = c.in-Some.copy in
-    let chip : ℕ = index_of s.machine c.args.c in
+    let chip : ℕ = index_of s.setup.machine c.args.c in
     let copy : Some k ≡ copy_served s c.args.c c.args.out (slice_get s.hands chip) =
-    subst (λ (t : State). Some k ≡ copy_served t c.args.c c.args.out (slice_get t.hands (index_of t.machine c.args.c))) (sym c.self.view_is) (sym c.in-Some.is ∙ c.copy_for.ensures.copy)
+    subst (λ (t : State). Some k ≡ copy_served t c.args.c c.args.out (slice_get t.hands (index_of t.setup.machine c.args.c))) (sym c.self.view_is) (sym c.in-Some.is ∙ c.copy_for.ensures.copy)
     in
     let queue : named c.behind-queue.result ≡ to =
-    subst (λ (t : State). named c.behind-queue.result ≡ behind t.machine t.spots c.args.c c.args.out) (sym c.self.view_is) c.behind-queue.ensures.queue
+    subst (λ (t : State). named c.behind-queue.result ≡ behind t.setup c.args.c c.args.out) (sym c.self.view_is) c.behind-queue.ensures.queue
     in
     let full_named : has_room_behind s (named c.behind-queue.result) ≡ false =
     subst (λ (t : State). has_room_behind t (named c.behind-queue.result) ≡ false) (sym c.self.view_is) (sym c.has_room_behind.ensures ∙ c.if-has_room_behind.false)

@@ -23,12 +23,12 @@ invariant_of-self-2 c =
     with_items_is c.self.inside.unsent c.drop_front.new.queues (omega arith)
     ∙ (c.drop_front.ensures ∙ ap (λ (l : List (List McCopy)). shortened l c.args.v (slice_get l c.args.v)) c.deref_mut-2.ensures.value)
     in
-    let at : ℕ = queue_at s.machine c.get.result.now.chip Local in
+    let at : ℕ = queue_at s.setup.machine c.get.result.now.chip Local in
     let is_inputs : inputs ≡ appended s.inputs at c.in-Some.copy (slice_get s.inputs at) =
     with_items_is c.self.inside.inputs c.push_at.new.queues (omega arith) ∙ cc c.in_ok-push_at.ensures.ok
     in
     let front : Some c.in-Some.copy ≡ front_of (slice_get s.unsent c.args.v) = cc in
-    let room : has_room s.capacity (slice_get s.inputs at) ≡ true = cc in
+    let room : has_room s.setup.capacity (slice_get s.inputs at) ≡ true = cc in
     record {
       mesh = IsMesh-stepped s _ (Inject c.args.v) c.self.invariant.mesh
           (stepped-inject s c.args.v c.get.result.now c.in-Some.copy unsent inputs c.get.ensures front room is_unsent is_inputs);

@@ -9,7 +9,7 @@ use Rattle.mesh_core.proofs.meshes.Mesh.new.Goals as goal
 
 pub invariant_of-result : goal.invariant_of-result
 invariant_of-result c =
-    let m = c.args.machine in
+    let m = c.args.setup.machine in
     let size : c.from.result * c.from-2.result ≡ m.width * m.height =
     ap (λ (n : ℕ). n * c.from-2.result) (c.from.ensures ∙ c.width.ensures.value)
     ∙ ap (λ (n : ℕ). m.width * n) (c.from-2.ensures ∙ c.height.ensures.value)

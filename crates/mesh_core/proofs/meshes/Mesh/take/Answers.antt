@@ -26,9 +26,9 @@ moves : (c : goal.After-self-2-1) → stepped (state_of c.self.inside) (Take c.a
 unfolding after
 moves c =
     let s : State = state_of c.self.inside in
-    let chip : ℕ = index_of s.machine c.args.c in
-    let queue : ℕ = queue_at s.machine c.args.c c.args.port in
-    let live : is_live_chip s.machine c.args.c ≡ true = cc in
+    let chip : ℕ = index_of s.setup.machine c.args.c in
+    let queue : ℕ = queue_at s.setup.machine c.args.c c.args.port in
+    let live : is_live_chip s.setup.machine c.args.c ≡ true = cc in
     let at : c.index-chip.result ≡ chip = c.index-chip.ensures.value in
     let free : slice_get s.hands chip ≡ Some None =
     ap (slice_get s.hands) (sym at) ∙ no_hand s.hands c.index-chip.result c.index.result.now (omega (arith, c.self.invariant.mesh.hand_list, c.index-chip.ensures.below)) c.index.ensures (sym c.is_some.ensures ∙ c.if-is_some.false)
@@ -37,7 +37,7 @@ moves c =
     let is_inputs : (after c).inputs ≡ shortened s.inputs queue (slice_get s.inputs queue) =
     with_items_is c.self.inside.inputs c.drop_front.new.queues (omega arith) ∙ cc
     in
-    let is_hands : (after c).hands ≡ set s.hands chip (in_hand c.in-Some.copy c.args.port (outputs s c.args.c c.args.port c.in-Some.copy)) =
+    let is_hands : (after c).hands ≡ set s.hands chip (in_hand c.in-Some.copy c.args.port (outputs s.setup c.args.c c.args.port c.in-Some.copy)) =
     ap (λ (n : ℕ). set s.hands n c.taken.result) at
     ∙ ap (set s.hands chip) (c.taken.ensures ∙ ap (in_hand c.in-Some.copy c.args.port) (outputs_read s c.args.c c.args.port c.in-Some.copy c.index-chip.result c.get.result.now at c.get.ensures))
     in
