@@ -12,6 +12,7 @@ use Rattle.machine_desc.specs.Live.{far_of, IsLiveLink}
 use Rattle.machine_desc.specs.RoutingTree.{IsPath, IsTreeChip, IsRoutingTree}
 use Rattle.app_graph.specs.declared.graphs.Net.{Net}
 use Rattle.link_detours.specs.Repair.{IsWalkTo, IsFirstCutOff as IsFirstOfList}
+use Rattle.link_detours.specs.Cause.{IsCause as IsRepairCause}
 use Rattle.link_detours.specs.declared.repairs.RepairErr.{RepairErr}
 use Rattle.link_detours.specs.declared.repairs.RepairErr.TheVariants as repairs
 use Rattle.list_laws.proofs.Members.{Contains-map}
@@ -72,9 +73,6 @@ module _ (m : Description) (spots : List Spot) (net : Net) where
             by_place other cut below listed.0 listed.1 listed.2;
       }
     where
-      key : Chip → ℕ × ℕ × ℕ
-      key c = chip_key m source.chip c
-
       by_place : (other : Chip) → IsCutOffIn m spots net source other → IsBelow (chip_key m source.chip other) (chip_key m source.chip chip) → (j : ℕ) → j < length chips → slice_index_or chips j other ≡ other → ⊥
       by_place other cut below j within is = elim (cases_order j found.place) [
         | inl same ↦
@@ -95,6 +93,12 @@ module _ (m : Description) (spots : List Spot) (net : Net) where
             (subst (λ c. IsBelow (chip_key m source.chip chip) (chip_key m source.chip c)) is
             (subst (λ c. IsBelow (chip_key m source.chip c) (chip_key m source.chip (slice_index_or chips j other))) first above))
       ]
+
+  -- why repairing is refused is why the net has no plan
+  pub cause_one : (source : Spot) (targets : List Spot) (chips : List Chip) → slice_get spots net.source ≡ Some source → AreTargets spots net.targets targets →
+      AreTargetChips m source.chip targets chips → (e : RepairErr) → IsRepairCause m source.chip chips e → IsCauseOne m spots net e
+  cause_one source targets chips at are are_chips (repairs.CutOff chip) found = first_cut_off source targets chips chip at are are_chips found
+  cause_one source targets chips at are are_chips repairs.Memory found = tt
 
   pub one_first_target : (a b : Chip) → IsFirstCutOffIn m spots net a → IsFirstCutOffIn m spots net b → a ≡ b
   one_first_target a b first_a first_b =

@@ -31,9 +31,14 @@ pub record IsPlanned (m : Description) (spots : List Spot) (net : Net) (keys : B
   pub root : plan.tree.root ≡ plan.source.chip
   pub repaired : IsRepaired m plan.source.chip growth.tree.edges (joined_chips growth) plan.tree.edges
 
--- The plans of nets: each net has, at its place in the list, its block, the tree that grew for it, and its plan.
+-- at each place, the net with its block has the tree that grew for it and its plan
+abbrev pub IsEachPlanned : Description → List Spot → List Net → List Block → List Grown → List NetPlan → Type 0
+IsEachPlanned m spots nets blocks grown plans =
+    (i : ℕ) (net : Net) (block : Block) (tree : Grown) (plan : NetPlan) → slice_get nets i ≡ Some net → slice_get blocks i ≡ Some block →
+    slice_get grown i ≡ Some tree → slice_get plans i ≡ Some plan → IsPlanned m spots net block tree plan
+
+-- The plans of nets: each net has a tree that grew and a plan, at the net's place in the list.
 pub record ArePlanned (m : Description) (spots : List Spot) (nets : List Net) (blocks : List Block) (grown : List Grown) (plans : List NetPlan) : Type 0 where
   pub one_tree_each : length grown ≡ length nets
   pub one_plan_each : length plans ≡ length nets
-  pub each : (i : ℕ) (net : Net) (block : Block) (tree : Grown) (plan : NetPlan) → slice_get nets i ≡ Some net → slice_get blocks i ≡ Some block →
-      slice_get grown i ≡ Some tree → slice_get plans i ≡ Some plan → IsPlanned m spots net block tree plan
+  pub each : IsEachPlanned m spots nets blocks grown plans

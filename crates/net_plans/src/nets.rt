@@ -1,7 +1,7 @@
 // The plan of each net.
 ghost use Rattle.std.specs.Prelude.{◌≡◌, ℕ, ◌<◌, All, length, IfOk, IfErr};
 ghost use Rattle.spin_base.specs.declared.chips.Chip.{Chip};
-ghost use Rattle.machine_desc.specs.Live.{IsUsable};
+ghost use Rattle.machine_desc.specs.Live.{IsSite};
 ghost use Rattle.machine_desc.specs.RoutingTree.{IsRoutingTree};
 ghost use Rattle.app_graph.specs.ValidGraph.{IsValidGraph, IsValidNet};
 ghost use Rattle.net_plans.specs.Cause.{IsCause, IsCauseOne, IsRefusedBy};
@@ -68,7 +68,7 @@ pub fn net_plans(
 ) -> Result<RoutedNets, NetErr>
     requires valid { IsValidGraph graph.now }
     requires a_spot_each { length spots.now ≡ length graph.now.vertices }
-    requires usable { All (IsUsable machine.now) spots.now }
+    requires sites { All (IsSite machine.now) spots.now }
     requires a_block_each { length blocks.now ≡ length graph.now.nets }
     ensures planned { IfOk result (λ r. ArePlanned machine.now spots.now graph.now.nets blocks.now r.grown r.plans) }
     ensures routing { IfOk result (λ r. All (λ p. IsRoutingTree machine.now p.tree.root p.tree.edges p.targets) r.plans) }
@@ -111,7 +111,7 @@ pub fn net_plan(
     block: Block,
 ) -> Result<Routed, RepairErr>
     requires valid { IsValidNet (length spots.now) net.now }
-    requires usable { All (IsUsable machine.now) spots.now }
+    requires sites { All (IsSite machine.now) spots.now }
     ensures planned { IfOk result (λ r. IsPlanned machine.now spots.now net.now block r.grown r.plan) }
     ensures routing { IfOk result (λ r. IsRoutingTree machine.now r.plan.tree.root r.plan.tree.edges r.plan.targets) }
     ensures reached { IfOk result (λ _. HasNoneCutOff machine.now spots.now net.now) }

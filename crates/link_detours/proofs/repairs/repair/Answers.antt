@@ -26,7 +26,7 @@ returns-clause-routing c =
     rw c.from_vec.ensures
     (tree_left c.args.machine.now c.args.tree.now.root c.in_ok-whole.whole.items c.args.targets.now c.in_ok-left.left.items c.in_ok-whole.ensures.is_whole
     (λ t has. All-contains (IsTreeChip c.args.machine.now c.args.tree.now.root c.in_ok-whole.whole.items) c.args.targets.now t has_targets has)
-    c.requires.some_target c.requires.root_lives
+    c.requires.some_target
     (rw c.as_slice-3.ensures at c.in_ok-left.ensures.left) c.in_ok-left.ensures.in_order)
 
 pub returns-clause-same_edges : goal.returns-clause-same_edges
