@@ -2,6 +2,7 @@
 use Rattle.std.proofs.Common.{◌≡◌, ℕ, ◌+◌, ◌<◌, ◌≤◌, List, [], ◌∷◌, ◌++◌, map, length, refl, sym, ap, ◌∙◌, subst, arith, inl, inr, Some}
 use Rattle.std.specs.List.{All, Contains, slice_get, slice_index_or}
 use Rattle.std.proofs.lemmas.Bool.{cases_order}
+use Rattle.std.proofs.lemmas.List.{length-append}
 use Rattle.std.proofs.lemmas.List.Elements.{All-contains, All-contains_itself}
 use Rattle.std.proofs.lemmas.Option.{slice_get_within, slice_get-get_or}
 use Rattle.spin_base.specs.declared.chips.Chip.{Chip}
@@ -105,6 +106,9 @@ plan_is m spots net keys source targets chips growth tree at are are_chips from 
 
 -- ---- nets one after the other
 
+pub long_more : {X : Type 0} (xs ys : List X) (x : X) (i : ℕ) → length xs ≡ i → ys ≡ xs ++ x ∷ [] → length ys ≡ i + 1
+long_more xs ys x i long is = ap length is ∙ (length-append xs (x ∷ []) ∙ ap (λ n. n + 1) long)
+
 module _ (m : Description) (spots : List Spot) (nets : List Net) where
   -- no target of any net before this place is cut off
   pub NoneBefore : ℕ → Type 0
@@ -132,6 +136,9 @@ module _ (m : Description) (spots : List Spot) (nets : List Net) where
   pub none_at_all : (i : ℕ) → length nets ≤ i → NoneBefore i → All (HasNoneCutOff m spots) nets
   unfolding NoneBefore
   none_at_all i past before k d below = before k (slice_index_or nets k d) (omega (arith, past, below)) (slice_get-get_or nets k d below)
+
+  pub plans_none : (blocks : List Block) (grown : List Grown) (plans : List NetPlan) → length grown ≡ 0 → IsEachPlanned m spots nets blocks grown plans
+  plans_none blocks grown plans long j n b t p n_at b_at t_at p_at = let within = slice_get_within grown j t t_at in absurd (omega (arith, within, long))
 
   pub plans_more : (blocks : List Block) (grown : List Grown) (plans : List NetPlan) (i : ℕ) (net : Net) (block : Block) (tree : Grown) (plan : NetPlan) →
       length grown ≡ i → length plans ≡ i → slice_get nets i ≡ Some net → slice_get blocks i ≡ Some block → IsEachPlanned m spots nets blocks grown plans →

@@ -51,7 +51,11 @@ pub fn target_chips(
 }
 
 // Of each target vertex the x, y and core.
-fn spot_keys(alloc: Global, spots: &Seq<Spot>, vertices: &Seq<u32>) -> Result<Vec<(u8, u8, u8)>, Memory>
+fn spot_keys(
+    alloc: Global,
+    spots: &Seq<Spot>,
+    vertices: &Seq<u32>,
+) -> Result<Vec<(u8, u8, u8)>, Memory>
     requires { All (λ v. v < length spots.now) vertices.now }
     ensures { IfOk result (λ keys. keys.items ≡ map (λ v. spot_key (slice_index_or spots.now v nowhere)) vertices.now) }
 {

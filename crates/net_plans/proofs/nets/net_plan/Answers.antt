@@ -1,8 +1,7 @@
 use Rattle.std.proofs.Common.{sym, subst, IfOk, IfErr, rules}
-use Rattle.std.specs.List.{All}
 use Rattle.std.proofs.lemmas.Result.{IfErr-weaker}
 use Rattle.machine_desc.specs.Live.{IsInside, IsLiveChip}
-use Rattle.machine_desc.specs.RoutingTree.{IsTreeTo, IsRoutingTree}
+use Rattle.machine_desc.specs.RoutingTree.{IsTreeTo}
 use Rattle.link_detours.specs.Cause.{IsCause as IsRepairCause}
 use Rattle.net_plans.specs.Cause.{IsCauseOne}
 use Rattle.net_plans.specs.CutOffTargets.{HasNoneCutOff}
@@ -38,7 +37,9 @@ repair-requires-clause-some_target c =
     c.in_ok-targets.ensures c.in_ok-chips.ensures c.requires.valid.some_target c.requires.valid.targets
 
 pub repair-requires-clause-targets_inside : goal.repair-requires-clause-targets_inside
-repair-requires-clause-targets_inside c = ner-requires-clause-targets_inside c
+repair-requires-clause-targets_inside c =
+    of_chips (IsInside c.args.machine.now) c.args.machine.now c.get-source.result.now.chip c.in_ok-targets.targets c.in_ok-chips.chips c.in_ok-chips.ensures
+    (of_targets (λ s. IsInside c.args.machine.now s.chip) c.args.spots.now c.args.net.now.targets c.in_ok-targets.targets c.in_ok-targets.ensures (all_inside c.args.machine.now c.args.spots.now c.requires.sites))
 
 pub returns-in_err-tree-clause-cause : goal.returns-in_err-tree-clause-cause
 returns-in_err-tree-clause-cause c =

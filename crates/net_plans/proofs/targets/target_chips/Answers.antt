@@ -1,4 +1,4 @@
-use Rattle.std.proofs.Common.{map, sym, ◌∙◌, subst}
+use Rattle.std.proofs.Common.{map, sym, subst}
 use Rattle.net_plans.specs.Keys.{chip_at}
 use Rattle.net_plans.specs.Targets.{AreTargetChips}
 use Rattle.net_plans.proofs.TargetLaws.{AreOnce, chip_keys_of, are_target_chips, ok_is}

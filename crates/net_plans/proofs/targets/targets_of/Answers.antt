@@ -1,5 +1,5 @@
-use Rattle.std.proofs.Common.{map, sym, ◌∙◌, subst}
-use Rattle.net_plans.specs.Keys.{nowhere, spot_at}
+use Rattle.std.proofs.Common.{map, sym, subst}
+use Rattle.net_plans.specs.Keys.{spot_at}
 use Rattle.net_plans.specs.Targets.{AreTargets}
 use Rattle.net_plans.proofs.TargetLaws.{AreOnce, keys_of, are_targets, ok_is}
 use Rattle.net_plans.proofs.targets.targets_of.Goals as goal
