@@ -8,7 +8,7 @@ use Rattle.spin_base.specs.declared.chips.Chip.{Chip}
 use Rattle.spin_base.specs.declared.chips.Dir.TheVariants.{East}
 use Rattle.machine_desc.specs.declared.trees.Edge.{Edge}
 use Rattle.machine_desc.specs.Description.{Description}
-use Rattle.machine_desc.specs.Live.{IsInside, IsLiveChip}
+use Rattle.machine_desc.specs.Live.{IsInside}
 use Rattle.machine_desc.specs.RoutingTree.{end_of, IsTreeChip, IsPath, IsTreeTo}
 use Rattle.machine_desc.proofs.Far.{live_ends, far_inside}
 use Rattle.link_detours.specs.Steps.{Steps}

@@ -1,7 +1,7 @@
 -- A tree over live parts alone is repaired by itself.
 use Rattle.std.proofs.Common.{◌≡◌, ℕ, zero, suc, ◌<◌, ◌≤◌, List, [], ◌∷◌, length, Some, refl, sym, ap, ◌∙◌, subst, arith, inl, inr, ◌↔◌}
-use Rattle.std.specs.List.{Contains, All, AllPairs}
-use Rattle.std.proofs.lemmas.List.{append-nil, get_or_default}
+use Rattle.std.specs.List.{Contains, All}
+use Rattle.std.proofs.lemmas.List.{append-nil}
 use Rattle.std.proofs.lemmas.List.Elements.{All-contains}
 use Rattle.std.proofs.lemmas.Option.{get_or_from_slice_get, slice_get_within}
 use Rattle.spin_base.specs.declared.chips.Chip.{Chip}
