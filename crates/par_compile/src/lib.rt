@@ -6,7 +6,5 @@
 #![tactic(auto)]
 
 mod compiling;
-#[cfg(test)]
-mod tests;
 
 pub use compiling::{CompileErr, Plan, compile};
