@@ -7,6 +7,8 @@ use Rattle.std.proofs.lemmas.List.{length-append, length-map, get_or-map, get_or
 use Rattle.std.proofs.lemmas.List.Elements.{All-contains}
 use Rattle.std.proofs.lemmas.Option.{slice_get_within}
 use Rattle.std.proofs.Math.Nat.{mul-le-mul_left}
+use Rattle.list_laws.proofs.Members.{Among, among_contains, contains_among}
+use Rattle.list_laws.proofs.Places.{slice_get_there}
 use Rattle.spin_base.specs.declared.chips.Spot.{Spot}
 use Rattle.spin_base.specs.declared.copies.Delivery.{Delivery}
 use Rattle.spin_base.specs.declared.copies.DumpRec.{DumpRec}
@@ -24,10 +26,9 @@ use Rattle.mesh_core.specs.Ledger.{marks_of, unsent_marks, input_marks, all_hand
 use Rattle.mesh_core.specs.Opened.{asked_by, MeetsJobLedger}
 use Rattle.mesh_core.proofs.AskedPackets.{asks, asked_parts, asked_from, net_in_list}
 use Rattle.mesh_core.proofs.Counting.{count_all, count_covered, count_numbered}
-use Rattle.mesh_core.proofs.Exchange.{Among, among_contains, contains_among}
 use Rattle.mesh_core.proofs.LedgerLaw.{one_net}
 use Rattle.mesh_core.proofs.Moves.{mark}
-use Rattle.mesh_core.proofs.OneWay.{AWay, at_place, one_way}
+use Rattle.mesh_core.proofs.OneWay.{AWay, one_way}
 use Rattle.mesh_core.proofs.Ways.{nat_true, both_true, vertex_there, some_way}
 
 -- the place of a spot in the list
@@ -171,7 +172,7 @@ module _ (s : State) (nets : List NetPlan) (packets : List Packet) (job : MeetsJ
   module _ (most : ℕ) (each : All (λ net. length net.targets ≤ most) nets) where
     few_each : (i : ℕ) → i < length packets → count_by (λ k. k.copy.packet == i) (marks_of s) ≤ most
     few_each i below =
-        let at = at_place packets i below in
+        let at = slice_get_there packets i below in
         let of = job.of_nets i at.0 at.1 in
         let has = net_in_list nets at.0 of.0 of.1 in
         let few = few_of_packet i (asks of.0 at.0) (asked_from nets packets i at.0 of.0 at.1 of.1) has in

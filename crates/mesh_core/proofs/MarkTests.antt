@@ -1,5 +1,6 @@
 -- A test of equality on marks, and a number that each move raises.
 use Rattle.std.proofs.Common.{◌≡◌, ℕ, ◌+◌, ◌*◌, ◌<◌, ◌≤◌, List, [], ◌∷◌, map, Bool, true, false, ◌==◌, ◌&&◌, if◌then◌else◌, Option, Some, None, refl, ap, sym, arith, inl, inr, min, subst}
+use Rattle.list_laws.proofs.Members.{Among}
 use Rattle.spin_base.specs.declared.chips.Chip.{Chip}
 use Rattle.spin_base.specs.declared.chips.Port.{Port}
 use Rattle.spin_base.specs.declared.chips.Port.TheVariants.{Link as ByLink, Local}
@@ -14,7 +15,6 @@ use Rattle.spin_base.proofs.Equality.{chip_eq_same, chip_eq_true, port_eq_same, 
 use Rattle.mesh_core.specs.State.{State}
 use Rattle.mesh_core.specs.Step.{onward, last_hop}
 use Rattle.mesh_core.specs.Trail.{Station, unsent, in_queue, in_hand, at_core, delivered, dumped, Mark}
-use Rattle.mesh_core.proofs.Exchange.{Among}
 use Rattle.mesh_core.proofs.Moves.{mark, IsMove, IsMoveOf, Crosses}
 use Rattle.mesh_core.proofs.Events.{and_true_left, and_true_right}
 use Rattle.mesh_core.proofs.Ways.{nat_true, nat_same, both_true}

@@ -4,6 +4,8 @@ use Rattle.std.specs.List.{slice_get, list_any, Contains}
 use Rattle.std.proofs.lemmas.Bool.{lt-ltb}
 use Rattle.std.proofs.lemmas.List.Elements.{All-contains}
 use Rattle.std.proofs.lemmas.List.Folds.{Any-from_list_any}
+use Rattle.list_laws.proofs.Counts.{count_by-cons, count_by-none}
+use Rattle.list_laws.proofs.Members.{Among, among_contains, contains_among}
 use Rattle.spin_base.specs.declared.chips.Chip.{Chip}
 use Rattle.spin_base.specs.declared.routes.Out.{Out}
 use Rattle.spin_base.specs.declared.copies.McCopy.{McCopy}
@@ -23,9 +25,7 @@ use Rattle.mesh_core.specs.Opened.{asked_by, MeetsJobLedger}
 use Rattle.mesh_core.specs.Waiting.{queue_of}
 use Rattle.mesh_core.proofs.Counting.{count_all, count_le, count_numbered}
 use Rattle.mesh_core.proofs.Events.{and_true_left, and_true_right}
-use Rattle.mesh_core.proofs.Exchange.{Among, among_contains, contains_among, count_by-cons}
 use Rattle.mesh_core.proofs.FewMarks.{number_below}
-use Rattle.mesh_core.proofs.Law.{count_none}
 use Rattle.mesh_core.proofs.Moves.{mark}
 use Rattle.mesh_core.proofs.Queued.{FreeBehind, free_behind, once_in_queue, waiting_mark}
 use Rattle.mesh_core.proofs.Standing.{held_mark}
@@ -73,7 +73,7 @@ module _ (s : State) (nets : List NetPlan) (packets : List Packet) (mesh : IsMes
                 let fewer = count_le (λ (j : McCopy). j.packet == i) (λ j. false) free.0 (λ j among same.
                 absurd (All-contains (λ (d : McCopy). d.packet ≢ k.packet) free.0 j free.2 (among_contains j free.0 among) (nat_true j.packet i same ∙ sym number)))
                 in
-                let zero_count = count_none free.0 in
+                let zero_count = count_by-none free.0 in
                 omega (arith, fewer, zero_count)
 
     room : has_room_behind s (behind s.setup c o) ≡ true

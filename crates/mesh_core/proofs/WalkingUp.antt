@@ -3,6 +3,8 @@ use Rattle.std.proofs.Common.{◌≡◌, ◌≢◌, ℕ, ◌+◌, ◌*◌, ◌<�
 use Rattle.std.specs.List.{slice_get, All, Contains}
 use Rattle.std.proofs.lemmas.Bool.{cases_order}
 use Rattle.std.proofs.lemmas.List.Elements.{All-contains}
+use Rattle.list_laws.proofs.Counts.{count_by-cons}
+use Rattle.list_laws.proofs.Members.{Among, among_contains}
 use Rattle.spin_base.specs.declared.chips.Chip.{Chip}
 use Rattle.spin_base.specs.declared.chips.Spot.{Spot}
 use Rattle.spin_base.specs.declared.chips.Port.{Port}
@@ -29,25 +31,12 @@ use Rattle.net_tables.specs.NetsOn.{AreNetsOn, IsWayOn}
 use Rattle.mesh_core.specs.Ledger.{marks_of}
 use Rattle.mesh_core.specs.Whereabouts.{TellsStation, IsTold, IsWhere, IsTracked}
 use Rattle.mesh_core.specs.Searches.{IsMarkThere, IsFound, IsOfCore, IsOfOutput, IsOfPort, port_behind, IsEdgeInto}
-use Rattle.mesh_core.proofs.Exchange.{Among, among_contains, count_by-cons}
+use Rattle.mesh_core.proofs.Counting.{counted}
 use Rattle.mesh_core.proofs.Events.{and_true_left, and_true_right}
 use Rattle.mesh_core.proofs.LedgerLaw.{one_net}
 use Rattle.mesh_core.proofs.Law.{leaves_parts, leaves_from, ComesThere, comes_parts, comes_from}
 use Rattle.mesh_core.proofs.OneWay.{last_place}
 use Rattle.mesh_core.proofs.Ways.{nat_true, nat_same, both_true, vertex_at_stands, some_way, place_below}
-
--- ---- lists
-
--- what is counted once is there
-counted_by : (p : Mark → Bool) (x : Mark) (xs : List Mark) (b : Bool) → p x ≡ b → (count_by p xs ≡ 1 → (y : Mark) × Among y xs × (p y ≡ true)) →
-    (if b then 1 else 0) + count_by p xs ≡ 1 → (y : Mark) × Among y (x ∷ xs) × (p y ≡ true)
-counted_by p x xs true is later once = (x, inl refl, is)
-counted_by p x xs false is later once =
-    let rest = later (omega (arith, once)) in (rest.0, inr rest.1, rest.2)
-
-counted : (p : Mark → Bool) (xs : List Mark) → count_by p xs ≡ 1 → (y : Mark) × Among y xs × (p y ≡ true)
-counted p [] once = absurd (omega (arith, once))
-counted p (x ∷ xs) once = counted_by p x xs (p x) refl (counted p xs) (sym (count_by-cons p x xs) ∙ once)
 
 -- ---- how far the walk has come
 
@@ -252,7 +241,8 @@ module _ (s : State) (net : NetPlan) (packet : ℕ) (tracked : IsTracked s net p
     told_unsent : ((k : Mark) → Contains (marks_of s) k → k.copy.packet ≡ packet → is_on_trail from to xs k ≡ true → IsBefore 0 k.copy.hop k.station) →
         IsTold s packet xs from to Unsent
     told_unsent before =
-        let k = counted (is_packet_on_trail packet from to xs) (marks_of s) only_one in
+        let once = only_one in
+        let k = counted (is_packet_on_trail packet from to xs) (marks_of s) (omega (arith, once)) in
         let has = among_contains k.0 (marks_of s) k.1 in
         let of_packet : k.0.copy.packet ≡ packet =
         nat_true k.0.copy.packet packet (and_true_left (k.0.copy.packet == packet) (is_on_trail from to xs k.0) k.2)

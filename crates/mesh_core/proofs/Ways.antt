@@ -78,16 +78,6 @@ vertex_there spots t has = found (nat_lt first (length spots)) refl
         let passes : spot_eq t (slice_index_or spots has.0 t) ≡ true = ap (spot_eq t) has.2 ∙ spot_eq_same t in
         cc
 
--- different items at one place
-pub one_index : (spots : List Spot) → AllPairs (λ a b. a ≢ b) spots → (v w : ℕ) (t : Spot) → slice_get spots v ≡ Some t → slice_get spots w ≡ Some t → v ≡ w
-one_index spots different v w t at at' = elim (cases_order v w) [
-  | inl same ↦ same
-  | inr (inl before) ↦
-      absurd (different v w t before (slice_get_within spots w t at') (get_or_from_slice_get spots v t t at ∙ sym (get_or_from_slice_get spots w t t at')))
-  | inr (inr after) ↦
-      absurd (different w v t after (slice_get_within spots v t at) (get_or_from_slice_get spots w t t at' ∙ sym (get_or_from_slice_get spots v t t at)))
-]
-
 -- a spot of the list to which an output leads has a vertex behind the output
 pub vertex_behind_there : (spots : List Spot) (c : Chip) (o : Out) (t : Spot) → Contains spots t → leads_to_spot c o t ≡ true → (v : ℕ) × (vertex_behind spots c o ≡ Some v)
 vertex_behind_there spots c o t has leads = found (nat_lt first (length spots)) refl
