@@ -20,6 +20,7 @@ pub mod Queued
 pub mod Searching
 pub mod ServingLaws
 pub mod Standing
+pub mod StepLedger
 pub mod StepParts
 pub mod VertexTableLaws
 pub mod WalkingUp

@@ -1,5 +1,6 @@
 pub mod Expected
 pub mod HasRun
+pub mod InParts
 pub mod Ledger
 pub mod Opened
 pub mod PutBack
@@ -13,3 +14,4 @@ pub mod Trail
 pub mod VertexTable
 pub mod Waiting
 pub mod Whereabouts
+pub mod Whole
