@@ -1,12 +1,11 @@
 -- Counts of a list by tests of which each item passes one.
 use Rattle.std.proofs.Common.{◌≡◌, ◌≢◌, ℕ, ◌+◌, ◌*◌, ◌<◌, ◌≤◌, suc, zero, List, [], ◌∷◌, Bool, true, false, ◌==◌, ◌&&◌, not, if◌then◌else◌, Some, refl, ap, sym, ◌∙◌, subst, arith, inl, inr, length, count_by}
 use Rattle.std.specs.List.{slice_get}
-use Rattle.std.proofs.lemmas.Bool.{cases_order}
+use Rattle.std.proofs.lemmas.Bool.{cases_order, eq-eqb}
 use Rattle.list_laws.proofs.Counts.{count_by-append, count_by-cons, count_by-agree}
 use Rattle.list_laws.proofs.Members.{Among, contains_among}
 use Rattle.list_laws.specs.Gathered.{gathered}
 use Rattle.list_laws.proofs.Places.{All-each}
-use Rattle.mesh_core.proofs.Ways.{nat_same}
 
 -- a test that all pass counts all
 pub count_all : {X : Type 0} (p : X → Bool) (xs : List X) → ((x : X) → Among x xs → p x ≡ true) → count_by p xs ≡ length xs
@@ -81,7 +80,7 @@ count_numbered {X} f (suc n) m p xs below each =
     lower x a passes =
         let small : f x < suc n = below x a (and_not_left (p x) (f x == n) passes) in
         elim (cases_order (f x) n) [
-          | inl same ↦ absurd (and_not_right (p x) (f x == n) passes (nat_same (f x) n same))
+          | inl same ↦ absurd (and_not_right (p x) (f x == n) passes (eq-eqb (f x) n same))
           | inr (inl less) ↦ less
           | inr (inr more) ↦ absurd (omega arith)
         ]

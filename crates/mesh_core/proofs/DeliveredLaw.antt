@@ -1,10 +1,11 @@
 -- A mesh at rest that meets the ledger of a job, without a dump, has delivered what the job asks for.
-use Rattle.std.proofs.Common.{◌≡◌, ℕ, ◌+◌, ◌/◌, ◌%◌, ◌<◌, suc, zero, List, [], ◌∷◌, ◌++◌, map, Bool, true, ◌==◌, ◌&&◌, Option, Some, None, refl, ap, sym, ◌∙◌, subst, arith, append-nil, inl, inr, length, count_by, if◌then◌else◌}
-use Rattle.std.specs.List.{slice_get, All, Contains}
-use Rattle.std.proofs.lemmas.List.Elements.{All-contains, All-head, All-tail}
-use Rattle.list_laws.proofs.Counts.{count_by-map, count_by-cons}
+use Rattle.std.proofs.Common.{◌≡◌, ℕ, ◌+◌, ◌/◌, ◌%◌, suc, List, [], ◌∷◌, map, Bool, true, ◌==◌, ◌&&◌, Option, Some, None, refl, ap, sym, ◌∙◌, subst, arith, append-nil, inl, inr, length, count_by}
+use Rattle.std.specs.List.{slice_get, Contains}
+use Rattle.std.proofs.lemmas.List.Elements.{All-contains}
+use Rattle.std.proofs.lemmas.Bool.{and_parts, eqb-true, eq-eqb, and_from}
+use Rattle.std.proofs.lemmas.Option.{slice_get_within}
+use Rattle.list_laws.proofs.Counts.{count_by-map}
 use Rattle.list_laws.proofs.Members.{Among, among_contains, contains_among, map_among}
-use Rattle.list_laws.specs.Gathered.{gathered}
 use Rattle.list_laws.proofs.Gathering.{gathered_of_none}
 use Rattle.list_laws.proofs.Places.{slice_get_there}
 use Rattle.spin_base.specs.declared.chips.Spot.{Spot}
@@ -26,9 +27,8 @@ use Rattle.mesh_core.specs.Expected.{IsAskedFor, AreAsExpected, IsAtRest}
 use Rattle.mesh_core.proofs.AskedPackets.{asks, asked_parts, asked_from, net_in_list, key_of_net}
 use Rattle.mesh_core.proofs.Moves.{mark}
 use Rattle.mesh_core.proofs.Counting.{count_agree}
-use Rattle.mesh_core.proofs.Events.{and_true_left, and_true_right}
 use Rattle.mesh_core.proofs.LedgerLaw.{one_net}
-use Rattle.mesh_core.proofs.Ways.{nat_true, nat_same, both_true, same_test, vertex_at_stands, place_below}
+use Rattle.mesh_core.proofs.Ways.{same_test, vertex_at_stands}
 
 -- the mark of a delivery
 abbrev mark_of : Delivery → Mark
@@ -98,8 +98,8 @@ module _ (s : State) (nets : List NetPlan) (packets : List Packet) (job : MeetsJ
       let p = packet_net d.copy.packet d.copy.key d.copy.payload asked.0 asked.1 label.0 label.1 in
       let one : net ≡ p.net = one_net nets job.ledger.ledger.nets_stand.disjoint net p.net on.1 p.in_nets d.copy.key on.2 p.is_key in
       let branch : List Exit = on.3.1 in
-      let vertex : d.vertex ≡ on.3.3 = nat_true d.vertex on.3.3 (and_true_left (d.vertex == on.3.3) (d.copy.hop == length branch) on.3.5) in
-      let hop : d.copy.hop ≡ length branch = nat_true d.copy.hop (length branch) (and_true_right (d.vertex == on.3.3) (d.copy.hop == length branch) on.3.5) in
+      let vertex : d.vertex ≡ on.3.3 = eqb-true d.vertex on.3.3 ((and_parts (d.vertex == on.3.3) (d.copy.hop == length branch) on.3.5).0) in
+      let hop : d.copy.hop ≡ length branch = eqb-true d.copy.hop (length branch) ((and_parts (d.vertex == on.3.3) (d.copy.hop == length branch) on.3.5).1) in
       record {
         number = d.copy.packet;
         packet = p.packet;
@@ -134,7 +134,7 @@ module _ (s : State) (nets : List NetPlan) (packets : List Packet) (job : MeetsJ
       sym x.3 ∙ (ap suc place.0 ∙ y.3)
     where
       at_end : (v : Spot) (zs : List Exit) (i : ℕ) (z : Exit) → suc i ≡ length zs → ExitLeads s.setup.machine net.tree.edges v zs i z → z.chip ≡ v.chip
-      at_end v zs i z last (inl (d, out, in_tree, (y, far, next))) = let past = place_below zs (suc i) y next in absurd (omega arith)
+      at_end v zs i z last (inl (d, out, in_tree, (y, far, next))) = let past = slice_get_within zs (suc i) y next in absurd (omega arith)
       at_end v zs i z last (inr (chip, out, long)) = sym chip
 
       last_exit : (v : Spot) (zs : List Exit) → IsBranch s.setup.machine net.tree.root net.tree.edges v zs →
@@ -192,30 +192,30 @@ module _ (s : State) (nets : List NetPlan) (packets : List Packet) (job : MeetsJ
         where
           forth : q d ≡ true → is_packet_on_trail i from to branch (mark_of d) ≡ true
           forth yes' =
-              let number : d.copy.packet ≡ i = nat_true d.copy.packet i (and_true_left (d.copy.packet == i) (d.vertex == to) yes') in
-              let vertex : d.vertex ≡ to = nat_true d.vertex to (and_true_right (d.copy.packet == i) (d.vertex == to) yes') in
+              let number : d.copy.packet ≡ i = eqb-true d.copy.packet i ((and_parts (d.copy.packet == i) (d.vertex == to) yes').0) in
+              let vertex : d.vertex ≡ to = eqb-true d.vertex to ((and_parts (d.copy.packet == i) (d.vertex == to) yes').1) in
               let has = has_mark d (among_contains d s.delivered a) in
               let on = job.ledger.ledger.on_a_trail (mark_of d) has in
               let same_net : on.0 ≡ net =
               one_net nets job.ledger.ledger.nets_stand.disjoint on.0 net on.1 in_nets d.copy.key on.2 (its_key (mark_of d) has number)
               in
-              let end : d.vertex ≡ on.3.3 = nat_true d.vertex on.3.3 (and_true_left (d.vertex == on.3.3) (d.copy.hop == length on.3.1) on.3.5) in
-              let hop : d.copy.hop ≡ length on.3.1 = nat_true d.copy.hop (length on.3.1) (and_true_right (d.vertex == on.3.3) (d.copy.hop == length on.3.1) on.3.5) in
+              let end : d.vertex ≡ on.3.3 = eqb-true d.vertex on.3.3 ((and_parts (d.vertex == on.3.3) (d.copy.hop == length on.3.1) on.3.5).0) in
+              let hop : d.copy.hop ≡ length on.3.1 = eqb-true d.copy.hop (length on.3.1) ((and_parts (d.vertex == on.3.3) (d.copy.hop == length on.3.1) on.3.5).1) in
               let way : IsWayOn s.setup.machine s.setup.spots net on.3.0 on.3.1 on.3.2 to =
               subst (λ (n : NetPlan). IsWayOn s.setup.machine s.setup.spots n on.3.0 on.3.1 on.3.2 to) same_net
               (subst (λ v. IsWayOn s.setup.machine s.setup.spots on.0 on.3.0 on.3.1 on.3.2 v) (sym end ∙ vertex) on.3.4)
               in
               let long = same_length net in_nets on.3.0 target on.3.1 branch on.3.2 from to way w in
-              both_true (d.copy.packet == i) ((d.vertex == to) && (d.copy.hop == length branch))
-              (nat_same d.copy.packet i number)
-              (both_true (d.vertex == to) (d.copy.hop == length branch) (nat_same d.vertex to vertex) (nat_same d.copy.hop (length branch) (hop ∙ long)))
+              and_from (d.copy.packet == i) ((d.vertex == to) && (d.copy.hop == length branch))
+              (eq-eqb d.copy.packet i number)
+              (and_from (d.vertex == to) (d.copy.hop == length branch) (eq-eqb d.vertex to vertex) (eq-eqb d.copy.hop (length branch) (hop ∙ long)))
 
           back : is_packet_on_trail i from to branch (mark_of d) ≡ true → q d ≡ true
           back yes' =
-              let rest' = and_true_right (d.copy.packet == i) ((d.vertex == to) && (d.copy.hop == length branch)) yes' in
-              both_true (d.copy.packet == i) (d.vertex == to)
-              (and_true_left (d.copy.packet == i) ((d.vertex == to) && (d.copy.hop == length branch)) yes')
-              (and_true_left (d.vertex == to) (d.copy.hop == length branch) rest')
+              let rest' = (and_parts (d.copy.packet == i) ((d.vertex == to) && (d.copy.hop == length branch)) yes').1 in
+              and_from (d.copy.packet == i) (d.vertex == to)
+              ((and_parts (d.copy.packet == i) ((d.vertex == to) && (d.copy.hop == length branch)) yes').0)
+              ((and_parts (d.vertex == to) (d.copy.hop == length branch) rest').0)
 
   pub delivered_as_expected : AreAsExpected s nets packets
   delivered_as_expected = record { no_other = asked_for; each_once = each_once }

@@ -2,8 +2,9 @@
 use Rattle.std.proofs.Common.{◌≡◌, ℕ, ◌+◌, ◌<◌, ◌≤◌, List, [], ◌∷◌, Bool, true, false, ◌==◌, ◌&&◌, if◌then◌else◌, refl, ap, sym, ◌∙◌, subst, arith, inl, inr, ◌⊎◌, length, count_by, suc, zero}
 use Rattle.std.specs.List.{slice_index_or, All, Contains}
 use Rattle.std.proofs.lemmas.List.Elements.{All-contains}
-use Rattle.std.proofs.lemmas.Bool.{cases_order}
+use Rattle.std.proofs.lemmas.Bool.{cases_order, and_parts, eqb-true}
 use Rattle.std.proofs.lemmas.List.{get_or_default}
+use Rattle.std.proofs.lemmas.Option.{slice_get_within}
 use Rattle.list_laws.proofs.Counts.{count_by-cons, count_by-none}
 use Rattle.list_laws.proofs.Exchange.{count_taken_out, count_put_in}
 use Rattle.list_laws.proofs.Members.{Among, among_contains, contains_among}
@@ -20,8 +21,7 @@ use Rattle.mesh_core.specs.Ledger.{marks_of, Label, MeetsLedger}
 use Rattle.mesh_core.proofs.Counting.{counts_one, count_some, counted, count_agree}
 use Rattle.mesh_core.proofs.Moves.{Exchange, IsMove}
 use Rattle.mesh_core.proofs.MarkTests.{mark_eq, mark_eq_same, mark_eq_true, rank, move_raises}
-use Rattle.mesh_core.proofs.Events.{and_true_left, and_true_right}
-use Rattle.mesh_core.proofs.Ways.{Stands, nat_true, short_branch, place_below}
+use Rattle.mesh_core.proofs.Ways.{Stands, short_branch}
 use Rattle.mesh_core.proofs.Law.{OnSomeTrail, move_comes, move_counts, comes_parts, leaves_parts}
 
 -- ---- the net of a key
@@ -176,15 +176,15 @@ module _ (s t : State) (nets : List NetPlan) (labels : ℕ → Label)
       omega arith
     where
       hop_on_trail : (from to : ℕ) (branch : List Exit) (hop : ℕ) (at : Station) → on_trail from to branch hop at ≡ true → hop ≤ length branch
-      hop_on_trail from to branch hop (unsent v) on = let zero_hop = nat_true hop 0 (and_true_right (v == from) (hop == 0) on) in omega arith
+      hop_on_trail from to branch hop (unsent v) on = let zero_hop = eqb-true hop 0 ((and_parts (v == from) (hop == 0) on).1) in omega arith
       hop_on_trail from to branch hop (in_queue c port) on =
-          let there = comes_parts branch hop c port on in let below = place_below branch hop there.exit there.at in omega arith
+          let there = comes_parts branch hop c port on in let below = slice_get_within branch hop there.exit there.at in omega arith
       hop_on_trail from to branch hop (in_hand c o) on =
-          let below = place_below branch hop (record { chip = c; out = o }) (leaves_parts branch hop c o on) in omega arith
-      hop_on_trail from to branch hop (at_core v) on = let last = nat_true hop (length branch) (and_true_right (v == to) (hop == length branch) on) in omega arith
-      hop_on_trail from to branch hop (delivered v) on = let last = nat_true hop (length branch) (and_true_right (v == to) (hop == length branch) on) in omega arith
+          let below = slice_get_within branch hop (record { chip = c; out = o }) (leaves_parts branch hop c o on) in omega arith
+      hop_on_trail from to branch hop (at_core v) on = let last = eqb-true hop (length branch) ((and_parts (v == to) (hop == length branch) on).1) in omega arith
+      hop_on_trail from to branch hop (delivered v) on = let last = eqb-true hop (length branch) ((and_parts (v == to) (hop == length branch) on).1) in omega arith
       hop_on_trail from to branch hop (dumped c o) on =
-          let below = place_below branch hop (record { chip = c; out = o }) (leaves_parts branch hop c o on) in omega arith
+          let below = slice_get_within branch hop (record { chip = c; out = o }) (leaves_parts branch hop c o on) in omega arith
 
   module _ (bag : Bag s t) where
     abbrev AmongMoves : Moved s → List (Moved s) → Type 0
@@ -258,7 +258,7 @@ module _ (s t : State) (nets : List NetPlan) (labels : ℕ → Label)
         counted : (v.leaves.copy.packet == n) ≡ true →
             count_by (is_on_trail from to branch) v.come ≡ (if is_on_trail from to branch v.leaves then 1 else 0)
         counted same =
-            let number : v.leaves.copy.packet ≡ n = nat_true v.leaves.copy.packet n same in
+            let number : v.leaves.copy.packet ≡ n = eqb-true v.leaves.copy.packet n same in
             let its_key : v.leaves.copy.key ≡ (labels n).key = r.key ∙ ap (λ i. (labels i).key) number in
             let one : r.net ≡ net =
             one_net nets ledger.nets_stand.disjoint r.net net r.in_nets has v.leaves.copy.key r.is_key (subst (λ i. IsKeyOf net.block i) (sym its_key) key)
@@ -337,4 +337,4 @@ module _ (s t : State) (nets : List NetPlan) (labels : ℕ → Label)
         let moved = all_moves n r.net r.in_nets label_key r.trail.target r.trail.branch r.trail.from r.trail.to r.trail.way bag.moves (λ v a. a) in
         let before = ledger.once_on_each k has r.net r.in_nets r.is_key r.trail.target r.trail.branch r.trail.from r.trail.to r.trail.way in
         let found = counted p (marks_of t) (omega arith) in
-        (found.0, among_contains found.0 (marks_of t) found.1, nat_true found.0.copy.packet n (and_true_left (found.0.copy.packet == n) (is_on_trail r.trail.from r.trail.to r.trail.branch found.0) found.2))
+        (found.0, among_contains found.0 (marks_of t) found.1, eqb-true found.0.copy.packet n ((and_parts (found.0.copy.packet == n) (is_on_trail r.trail.from r.trail.to r.trail.branch found.0) found.2).0))

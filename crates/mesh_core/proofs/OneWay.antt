@@ -2,6 +2,7 @@
 use Rattle.std.proofs.Common.{◌≡◌, ℕ, ◌+◌, ◌<◌, suc, zero, List, [], ◌∷◌, map, Some, refl, ap, sym, ◌∙◌, arith, inl, inr, length}
 use Rattle.std.specs.List.{slice_get, Contains}
 use Rattle.std.proofs.lemmas.List.Elements.{All-contains}
+use Rattle.std.proofs.lemmas.Option.{slice_get_within}
 use Rattle.list_laws.proofs.Places.{slice_get_there}
 use Rattle.spin_base.specs.declared.chips.Chip.{Chip}
 use Rattle.spin_base.specs.declared.chips.Port.TheVariants.{Local}
@@ -15,7 +16,6 @@ use Rattle.machine_desc.proofs.Branches.{ComesBy, comes_by, exit_leads, ExitLead
 use Rattle.machine_desc.proofs.TreeLemmas.{one_edge_into}
 use Rattle.net_tables.specs.declared.nets.NetPlan.{NetPlan}
 use Rattle.net_tables.specs.NetsOn.{AreNetsOn, IsWayOn}
-use Rattle.mesh_core.proofs.Ways.{place_below}
 
 same_items : {X : Type 0} (xs ys : List X) → length xs ≡ length ys → ((i : ℕ) → i < length xs → slice_get xs i ≡ slice_get ys i) → xs ≡ ys
 same_items [] [] long same = refl
@@ -45,7 +45,7 @@ module _ (m : Description) (net : NetPlan) (tree : IsRoutingTree m net.tree.root
     where
       by_end : (z : Exit) → ExitLeads m net.tree.edges t (x ∷ xs) (length xs) z → z ≡ last_exit t
       by_end z (inl (d, out, in_tree, (y, far, next))) =
-          let past : suc (length xs) < length (x ∷ xs) = place_below (x ∷ xs) (suc (length xs)) y next in absurd (omega arith)
+          let past : suc (length xs) < length (x ∷ xs) = slice_get_within (x ∷ xs) (suc (length xs)) y next in absurd (omega arith)
       by_end z (inr (chip, out, long)) = same_exit z (last_exit t) (sym chip) out
 
   module _ (t : Spot) (xs ys : List Exit) (is : IsBranch m net.tree.root net.tree.edges t xs) (also : IsBranch m net.tree.root net.tree.edges t ys) where

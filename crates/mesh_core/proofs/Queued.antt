@@ -1,8 +1,8 @@
 -- Where a packet waits, in a mesh that meets the ledger: behind each output that a hand still has to serve there is a queue
 -- without a copy of the hand's packet, and no queue has two copies of one packet.
 use Rattle.std.proofs.Common.{◌≡◌, ◌≢◌, ℕ, ◌+◌, ◌/◌, ◌%◌, ◌<◌, ◌≤◌, suc, List, ◌++◌, Bool, true, false, ◌==◌, Some, refl, ap, sym, ◌∙◌, subst, arith, inl, inr, length, count_by}
-use Rattle.std.specs.List.{slice_get, slice_index_or, All, Contains}
-use Rattle.std.proofs.lemmas.Bool.{cases_order}
+use Rattle.std.specs.List.{slice_get, All, Contains}
+use Rattle.std.proofs.lemmas.Bool.{cases_order, and_parts, eqb-true, eq-eqb, and_from}
 use Rattle.std.proofs.lemmas.List.Elements.{All-contains}
 use Rattle.std.proofs.lemmas.Option.{slice_get_within, get_or_from_slice_get}
 use Rattle.list_laws.proofs.Counts.{count_by-map, count_by-append}
@@ -36,12 +36,11 @@ use Rattle.mesh_core.specs.Waiting.{queue_of}
 use Rattle.mesh_core.specs.Whereabouts.{IsTracked}
 use Rattle.mesh_core.proofs.Changes.{queue_at-below}
 use Rattle.mesh_core.proofs.Counting.{count_two, count_le, counted, count_gathered_part}
-use Rattle.mesh_core.proofs.Events.{and_true_left}
 use Rattle.mesh_core.proofs.Law.{leaves_parts, comes_parts}
 use Rattle.mesh_core.proofs.Moves.{mark}
 use Rattle.mesh_core.proofs.Standing.{queued_mark, core_mark}
 use Rattle.mesh_core.proofs.WalkingUp.{comes_on, ends_on}
-use Rattle.mesh_core.proofs.Ways.{nat_true, nat_same, both_true, vertex_at_stands, vertex_behind_there, vertex_behind_stands, leads_to}
+use Rattle.mesh_core.proofs.Ways.{vertex_at_stands, vertex_behind_there, vertex_behind_stands, leads_to}
 
 -- the queue behind an output, which has no copy of this packet
 abbrev pub FreeBehind : State → Chip → Out → ℕ → Type 0
@@ -84,8 +83,8 @@ module _ (s : State) (nets : List NetPlan) (labels : ℕ → Label) (ledger : Me
       is_on_trail t.from t.to t.branch y ≡ true → x ≢ y → ⊥
   not_twice x has t y there same on apart =
       let p : Mark → Bool = is_packet_on_trail x.copy.packet t.from t.to t.branch in
-      let px : p x ≡ true = both_true (x.copy.packet == x.copy.packet) (is_on_trail t.from t.to t.branch x) (nat_same x.copy.packet x.copy.packet refl) t.on in
-      let py : p y ≡ true = both_true (y.copy.packet == x.copy.packet) (is_on_trail t.from t.to t.branch y) (nat_same y.copy.packet x.copy.packet same) on in
+      let px : p x ≡ true = and_from (x.copy.packet == x.copy.packet) (is_on_trail t.from t.to t.branch x) (eq-eqb x.copy.packet x.copy.packet refl) t.on in
+      let py : p y ≡ true = and_from (y.copy.packet == x.copy.packet) (is_on_trail t.from t.to t.branch y) (eq-eqb y.copy.packet x.copy.packet same) on in
       let two = count_two p x y (marks_of s) apart px py (contains_among x (marks_of s) has) (contains_among y (marks_of s) there) in
       let one = t.once in
       absurd (omega (arith, two, one))
@@ -206,12 +205,12 @@ module _ (s : State) (nets : List NetPlan) (labels : ℕ → Label) (ledger : Me
         let found = counted (λ (j : McCopy). j.packet == n) q (omega (arith, some)) in
         let a : McCopy = found.0 in
         let t : OnTrail (mark a at) = trail_of (mark a at) (there a found.1) in
-        let number : a.packet ≡ n = nat_true a.packet n found.2 in
+        let number : a.packet ≡ n = eqb-true a.packet n found.2 in
         let p : Mark → Bool = is_packet_on_trail a.packet t.from t.to t.branch in
         let fewer : count_by (λ j. j.packet == n) q ≤ count_by (λ j. p (mark j at)) q =
         count_le (λ (j : McCopy). j.packet == n) (λ j. p (mark j at)) q (λ j among passes.
-        let same : j.packet ≡ a.packet = nat_true j.packet n passes ∙ sym number in
-        both_true (j.packet == a.packet) (is_on_trail t.from t.to t.branch (mark j at)) (nat_same j.packet a.packet same) (same_trail a t j among same))
+        let same : j.packet ≡ a.packet = eqb-true j.packet n passes ∙ sym number in
+        and_from (j.packet == a.packet) (is_on_trail t.from t.to t.branch (mark j at)) (eq-eqb j.packet a.packet same) (same_trail a t j among same))
         in
         let mapped : count_by p (marked at q) ≡ count_by (λ j. p (mark j at)) q = count_by-map p (λ (j : McCopy). mark j at) q in
         let all = part p in
@@ -268,7 +267,7 @@ module _ (s : State) (nets : List NetPlan) (labels : ℕ → Label) (ledger : Me
       let whole = in_core_marks p in
       omega (arith, part, whole))
       (λ x t j among same.
-      let is_to : v ≡ t.to = nat_true v t.to (and_true_left (v == t.to) (x.hop == length t.branch) t.on) in
+      let is_to : v ≡ t.to = eqb-true v t.to ((and_parts (v == t.to) (x.hop == length t.branch) t.on).0) in
       ends_on s t.net x.packet t.tracked t.target t.way.is_target t.branch t.from t.to t.way (mark j (at_core v)) (waiting_mark (core v) q at j among) same
       (v, t.way.ends ∙ ap Some (sym is_to), inl refl))
       n

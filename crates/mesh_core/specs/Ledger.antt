@@ -1,5 +1,5 @@
 -- The ledger of copies: each target's copy of each packet is in exactly one place of its trail.
-use Rattle.std.specs.Prelude.{◌≡◌, ℕ, ◌+◌, ◌/◌, ◌%◌, IsTrue, List, [], ◌∷◌, ◌++◌, map, Contains, Option, Some, None, count_by, slice_index_or}
+use Rattle.std.specs.Prelude.{◌≡◌, ℕ, ◌/◌, ◌%◌, IsTrue, List, [], ◌∷◌, ◌++◌, map, Contains, Option, Some, None, count_by, slice_index_or}
 pub use Rattle.list_laws.specs.Gathered.{gathered}
 use Rattle.spin_base.specs.Links.{all_dirs}
 use Rattle.spin_base.specs.declared.chips.Chip.{Chip}
