@@ -1,10 +1,11 @@
 -- Counts of a list by tests of which each item passes one.
 use Rattle.std.proofs.Common.{◌≡◌, ◌≢◌, ℕ, ◌+◌, ◌*◌, ◌<◌, ◌≤◌, suc, zero, List, [], ◌∷◌, Bool, true, false, ◌==◌, ◌&&◌, not, if◌then◌else◌, Some, refl, ap, sym, ◌∙◌, subst, arith, inl, inr, length, count_by}
 use Rattle.std.specs.List.{slice_get}
-use Rattle.std.proofs.lemmas.Bool.{cases_order}
-use Rattle.mesh_core.specs.Ledger.{gathered}
-use Rattle.mesh_core.proofs.Exchange.{Among, count_by-append, count_by-cons}
-use Rattle.mesh_core.proofs.Ways.{nat_same}
+use Rattle.std.proofs.lemmas.Bool.{cases_order, eq-eqb}
+use Rattle.list_laws.proofs.Counts.{count_by-append, count_by-cons, count_by-agree}
+use Rattle.list_laws.proofs.Members.{Among, contains_among}
+use Rattle.list_laws.specs.Gathered.{gathered}
+use Rattle.list_laws.proofs.Places.{All-each}
 
 -- a test that all pass counts all
 pub count_all : {X : Type 0} (p : X → Bool) (xs : List X) → ((x : X) → Among x xs → p x ≡ true) → count_by p xs ≡ length xs
@@ -79,7 +80,7 @@ count_numbered {X} f (suc n) m p xs below each =
     lower x a passes =
         let small : f x < suc n = below x a (and_not_left (p x) (f x == n) passes) in
         elim (cases_order (f x) n) [
-          | inl same ↦ absurd (and_not_right (p x) (f x == n) passes (nat_same (f x) n same))
+          | inl same ↦ absurd (and_not_right (p x) (f x == n) passes (eq-eqb (f x) n same))
           | inr (inl less) ↦ less
           | inr (inr more) ↦ absurd (omega arith)
         ]
@@ -100,11 +101,11 @@ count_gathered_part f p i (z ∷ xs) (suc j) x at =
     omega (arith, here, count_by-append p (f i z) (gathered f (i + 1) xs))
 
 -- two different items that pass a test count two
-counts_one : (b : Bool) → b ≡ true → (let n : ℕ = if b then 1 else 0 in n ≡ 1)
+pub counts_one : (b : Bool) → b ≡ true → (let n : ℕ = if b then 1 else 0 in n ≡ 1)
 counts_one true e = refl
 counts_one false e = cc
 
-count_some : {X : Type 0} (p : X → Bool) (x : X) (xs : List X) → p x ≡ true → Among x xs → 1 ≤ count_by p xs
+pub count_some : {X : Type 0} (p : X → Bool) (x : X) (xs : List X) → p x ≡ true → Among x xs → 1 ≤ count_by p xs
 count_some p x [] passes a = absurd a
 count_some p x (y ∷ xs) passes (inl here) =
     let first = counts_one (p y) (ap p (sym here) ∙ passes) in omega (arith, count_by-cons p y xs)
@@ -146,3 +147,7 @@ counted_by p x xs false is later some = let rest = later (omega (arith, some)) i
 pub counted : {X : Type 0} (p : X → Bool) (xs : List X) → 1 ≤ count_by p xs → (y : X) × Among y xs × (p y ≡ true)
 counted p [] some = absurd (omega (arith, some))
 counted p (x ∷ xs) some = counted_by p x xs (p x) refl (counted p xs) (subst (λ n. 1 ≤ n) (count_by-cons p x xs) some)
+
+-- tests that agree on the items count the same
+pub count_agree : {X : Type 0} (p q : X → Bool) (xs : List X) → ((x : X) → Among x xs → p x ≡ q x) → count_by p xs ≡ count_by q xs
+count_agree p q xs same = count_by-agree p q xs (All-each (λ x. p x ≡ q x) xs (λ x has. same x (contains_among x xs has)))

@@ -2,6 +2,8 @@
 use Rattle.std.proofs.Common.{◌≡◌, ℕ, List, [], ◌∷◌, ◌++◌, map, Bool, true, false, ◌&&◌, not, if◌then◌else◌, Option, Some, None, refl, ap, sym, ◌∙◌, subst, inl, inr, ◌||◌, append-nil}
 use Rattle.std.specs.List.{slice_get, slice_set, slice_index_or, list_any}
 use Rattle.std.proofs.lemmas.Option.{slice_get_within, get_or_from_slice_get}
+use Rattle.std.proofs.lemmas.Bool.{and_parts}
+use Rattle.list_laws.proofs.Exchange.{TakenOut, PutIn, taken_out_after}
 use Rattle.spin_base.specs.declared.chips.Chip.{Chip}
 use Rattle.spin_base.specs.declared.chips.Dir.{Dir}
 use Rattle.spin_base.specs.declared.chips.Spot.{Spot}
@@ -22,7 +24,6 @@ use Rattle.mesh_core.specs.State.{State, Held, IsMesh, Behind, input, core, nowh
 use Rattle.mesh_core.specs.Step.{step_of, inject_of, take_of, send_of, dump_of, collect_of, has_room, has_room_behind, push_behind, push_at, in_hand as held_for, without, serves, after_serving, outputs, onward}
 use Rattle.mesh_core.specs.Trail.{unsent, in_queue, in_hand, at_core, delivered, dumped, Mark}
 use Rattle.mesh_core.specs.Ledger.{marks_of, hand_marks}
-use Rattle.mesh_core.proofs.Exchange.{TakenOut, PutIn, taken_out_after}
 use Rattle.mesh_core.proofs.Moves.{mark, Crosses, Exchange, unsent_out, input_out, input_in, hand_out, hand_in, core_out, core_in, delivered_in, dumped_in, hand_marks-held}
 
 -- ---- a queue with room is there
@@ -40,14 +41,6 @@ pub push_behind_setup : (s : State) (b : Behind) (k : McCopy) → (push_behind s
 push_behind_setup s (input i) k = refl
 push_behind_setup s (core v) k = refl
 push_behind_setup s nowhere k = refl
-
-pub and_true_left : (a b : Bool) → (a && b) ≡ true → a ≡ true
-and_true_left true b e = refl
-and_true_left false b e = e
-
-pub and_true_right : (a b : Bool) → (a && b) ≡ true → b ≡ true
-and_true_right true b e = e
-and_true_right false b e = cc
 
 -- the copy that arrives in an input queue with room
 arrives_at_input : (s : State) (c : Chip) (port : Port) → IsInside s.setup.machine c → (k : McCopy) →
@@ -213,8 +206,8 @@ arrives s c (Core p) k room = arrives_at_vertex s c (Core p) k (λ d same. cc) (
 serves_parts : (s : State) (c : Chip) (o : Out) (h : Held) → serves s c o (Some (Some h)) ≡ true →
     IsInside s.setup.machine c × (list_any (out_eq o) h.outs ≡ true)
 serves_parts s c o h serving = (
-  live_inside s.setup.machine c (and_true_left (is_live_chip s.setup.machine c) (list_any (out_eq o) h.outs) serving),
-  and_true_right (is_live_chip s.setup.machine c) (list_any (out_eq o) h.outs) serving,
+  live_inside s.setup.machine c ((and_parts (is_live_chip s.setup.machine c) (list_any (out_eq o) h.outs) serving).0),
+  (and_parts (is_live_chip s.setup.machine c) (list_any (out_eq o) h.outs) serving).1,
 )
 
 send_by : (s : State) (c : Chip) (o : Out) (h : Held) → slice_get s.hands (index_of s.setup.machine c) ≡ Some (Some h) →

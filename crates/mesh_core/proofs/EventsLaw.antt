@@ -2,6 +2,8 @@
 -- asked packets and for a job.
 use Rattle.std.proofs.Common.{◌≡◌, ℕ, List, [], ◌∷◌, Bool, true, false, Option, Some, None, refl, sym, ◌∙◌, subst, unwrap_or, if◌then◌else◌}
 use Rattle.std.specs.List.{Contains}
+use Rattle.list_laws.proofs.Exchange.{among_taken_out}
+use Rattle.list_laws.proofs.Members.{among_contains}
 use Rattle.spin_base.specs.declared.copies.DumpRec.{DumpRec}
 use Rattle.spin_base.specs.declared.copies.Event.{Event}
 use Rattle.spin_base.specs.declared.copies.Packet.{Packet}
@@ -15,7 +17,6 @@ use Rattle.mesh_core.specs.Ledger.{marks_of, Label, Asked, label_of, MeetsLedger
 use Rattle.mesh_core.specs.Opened.{asked_by, MeetsJobLedger}
 use Rattle.mesh_core.proofs.Changes.{IsMesh-dumped}
 use Rattle.mesh_core.proofs.Events.{event_exchange, arrives, push_behind_setup}
-use Rattle.mesh_core.proofs.Exchange.{among_contains, among_taken_out}
 use Rattle.mesh_core.proofs.Keeping.{IsMesh-step_of, IsMesh-push_behind, may_wait-behind}
 use Rattle.mesh_core.proofs.LedgerLaw.{Bag, bag_of_event, bag_keeps_ledger, bag_adds_no_packet, bag_keeps_packets, right_before, right_small}
 use Rattle.mesh_core.proofs.Moves.{mark, Exchange, dumped_out}

@@ -7,6 +7,9 @@ use Rattle.std.proofs.lemmas.List.{length-append, length-map, get_or-map, get_or
 use Rattle.std.proofs.lemmas.List.Elements.{All-contains}
 use Rattle.std.proofs.lemmas.Option.{slice_get_within}
 use Rattle.std.proofs.Math.Nat.{mul-le-mul_left}
+use Rattle.std.proofs.lemmas.Bool.{eqb-true, and_from}
+use Rattle.list_laws.proofs.Members.{Among, among_contains, contains_among}
+use Rattle.list_laws.proofs.Places.{slice_get_there}
 use Rattle.spin_base.specs.declared.chips.Spot.{Spot}
 use Rattle.spin_base.specs.declared.copies.Delivery.{Delivery}
 use Rattle.spin_base.specs.declared.copies.DumpRec.{DumpRec}
@@ -24,11 +27,10 @@ use Rattle.mesh_core.specs.Ledger.{marks_of, unsent_marks, input_marks, all_hand
 use Rattle.mesh_core.specs.Opened.{asked_by, MeetsJobLedger}
 use Rattle.mesh_core.proofs.AskedPackets.{asks, asked_parts, asked_from, net_in_list}
 use Rattle.mesh_core.proofs.Counting.{count_all, count_covered, count_numbered}
-use Rattle.mesh_core.proofs.Exchange.{Among, among_contains, contains_among}
 use Rattle.mesh_core.proofs.LedgerLaw.{one_net}
 use Rattle.mesh_core.proofs.Moves.{mark}
-use Rattle.mesh_core.proofs.OneWay.{AWay, at_place, one_way}
-use Rattle.mesh_core.proofs.Ways.{nat_true, both_true, vertex_there, some_way}
+use Rattle.mesh_core.proofs.OneWay.{AWay, one_way}
+use Rattle.mesh_core.proofs.Ways.{vertex_there, some_way}
 
 -- the place of a spot in the list
 abbrev place_in : List Spot → Spot → ℕ
@@ -121,7 +123,7 @@ module _ (s : State) (nets : List NetPlan) (packets : List Packet) (job : MeetsJ
       (w : Way a.net) × Among w (all_ways a.net has) × (passes i a.net w k ≡ true)
   on_one i a asked has k there number =
       let in_marks = among_contains k (marks_of s) there in
-      let is_number : k.copy.packet ≡ i = nat_true k.copy.packet i number in
+      let is_number : k.copy.packet ≡ i = eqb-true k.copy.packet i number in
       let on = job.ledger.ledger.on_a_trail k in_marks in
       let label : k.copy.key ≡ a.label.key =
       (job.ledger.ledger.labelled k in_marks).0 ∙ (ap (λ n. (label_of (asked_by nets packets n)).key) is_number ∙ ap (λ o. (label_of o).key) asked)
@@ -141,7 +143,7 @@ module _ (s : State) (nets : List NetPlan) (packets : List Packet) (job : MeetsJ
       subst (λ n. is_on_trail n w.to w.branch k ≡ true) same.1
       (subst (λ n. is_on_trail on.3.2 n w.branch k ≡ true) same.2 (subst (λ (l : List Exit). is_on_trail on.3.2 on.3.3 l k ≡ true) same.0 on.3.5))
       in
-      (w, chosen.1, both_true (k.copy.packet == i) (is_on_trail w.from w.to w.branch k) number on_it)
+      (w, chosen.1, and_from (k.copy.packet == i) (is_on_trail w.from w.to w.branch k) number on_it)
 
   -- on the trail of a way there is one mark of a packet
   once : (i : ℕ) (a : Asked) → asked_by nets packets i ≡ Some a → (has : Contains nets a.net) → (w : Way a.net) → count_by (passes i a.net w) (marks_of s) ≡ 1
@@ -171,7 +173,7 @@ module _ (s : State) (nets : List NetPlan) (packets : List Packet) (job : MeetsJ
   module _ (most : ℕ) (each : All (λ net. length net.targets ≤ most) nets) where
     few_each : (i : ℕ) → i < length packets → count_by (λ k. k.copy.packet == i) (marks_of s) ≤ most
     few_each i below =
-        let at = at_place packets i below in
+        let at = slice_get_there packets i below in
         let of = job.of_nets i at.0 at.1 in
         let has = net_in_list nets at.0 of.0 of.1 in
         let few = few_of_packet i (asks of.0 at.0) (asked_from nets packets i at.0 of.0 at.1 of.1) has in

@@ -4,10 +4,8 @@ pub mod Counting
 pub mod DeliveredLaw
 pub mod Events
 pub mod EventsLaw
-pub mod Exchange
 pub mod FewMarks
 pub mod Fixed
-pub mod Gathered
 pub mod HandOutputs
 pub mod Keeping
 pub mod Law

@@ -1,9 +1,11 @@
 -- Where a queue has room for a copy of each packet of a job, no copy is dumped.
 use Rattle.std.proofs.Common.{◌≡◌, ◌≢◌, ℕ, ◌+◌, ◌*◌, ◌<◌, ◌≤◌, List, ◌∷◌, Bool, true, false, not, ◌==◌, ◌&&◌, if◌then◌else◌, Option, Some, None, is_some, refl, ap, sym, ◌∙◌, subst, arith, inl, inr, length, count_by}
 use Rattle.std.specs.List.{slice_get, list_any, Contains}
-use Rattle.std.proofs.lemmas.Bool.{lt-ltb}
+use Rattle.std.proofs.lemmas.Bool.{lt-ltb, and_parts, eqb-true}
 use Rattle.std.proofs.lemmas.List.Elements.{All-contains}
 use Rattle.std.proofs.lemmas.List.Folds.{Any-from_list_any}
+use Rattle.list_laws.proofs.Counts.{count_by-cons, count_by-none}
+use Rattle.list_laws.proofs.Members.{Among, among_contains, contains_among}
 use Rattle.spin_base.specs.declared.chips.Chip.{Chip}
 use Rattle.spin_base.specs.declared.routes.Out.{Out}
 use Rattle.spin_base.specs.declared.copies.McCopy.{McCopy}
@@ -22,14 +24,10 @@ use Rattle.mesh_core.specs.Ledger.{marks_of, label_of}
 use Rattle.mesh_core.specs.Opened.{asked_by, MeetsJobLedger}
 use Rattle.mesh_core.specs.Waiting.{queue_of}
 use Rattle.mesh_core.proofs.Counting.{count_all, count_le, count_numbered}
-use Rattle.mesh_core.proofs.Events.{and_true_left, and_true_right}
-use Rattle.mesh_core.proofs.Exchange.{Among, among_contains, contains_among, count_by-cons}
 use Rattle.mesh_core.proofs.FewMarks.{number_below}
-use Rattle.mesh_core.proofs.Law.{count_none}
 use Rattle.mesh_core.proofs.Moves.{mark}
 use Rattle.mesh_core.proofs.Queued.{FreeBehind, free_behind, once_in_queue, waiting_mark}
 use Rattle.mesh_core.proofs.Standing.{held_mark}
-use Rattle.mesh_core.proofs.Ways.{nat_true}
 
 -- a queue that is shorter than the capacity has room
 room_of : (s : State) (b : Behind) (q : List McCopy) → queue_of s b ≡ Some q → length q < s.setup.capacity → has_room_behind s b ≡ true
@@ -69,11 +67,11 @@ module _ (s : State) (nets : List NetPlan) (packets : List Packet) (mesh : IsMes
           where
             none : (k.packet == i) ≡ true → count_by (λ (j : McCopy). j.packet == i) free.0 ≤ 0
             none is =
-                let number : k.packet ≡ i = nat_true k.packet i is in
+                let number : k.packet ≡ i = eqb-true k.packet i is in
                 let fewer = count_le (λ (j : McCopy). j.packet == i) (λ j. false) free.0 (λ j among same.
-                absurd (All-contains (λ (d : McCopy). d.packet ≢ k.packet) free.0 j free.2 (among_contains j free.0 among) (nat_true j.packet i same ∙ sym number)))
+                absurd (All-contains (λ (d : McCopy). d.packet ≢ k.packet) free.0 j free.2 (among_contains j free.0 among) (eqb-true j.packet i same ∙ sym number)))
                 in
-                let zero_count = count_none free.0 in
+                let zero_count = count_by-none free.0 in
                 omega (arith, fewer, zero_count)
 
     room : has_room_behind s (behind s.setup c o) ≡ true
@@ -85,8 +83,8 @@ module _ (s : State) (nets : List NetPlan) (packets : List Packet) (mesh : IsMes
   idle_by c o h at false has idle room' t = refl
   idle_by c o h at true true serving room' t = refl
   idle_by c o h at true false serving full t =
-      let inside : IsInside s.setup.machine c = live_inside s.setup.machine c (and_true_left (is_live_chip s.setup.machine c) (list_any (out_eq o) h.outs) serving) in
-      let found = Any-from_list_any (out_eq o) h.outs (and_true_right (is_live_chip s.setup.machine c) (list_any (out_eq o) h.outs) serving) in
+      let inside : IsInside s.setup.machine c = live_inside s.setup.machine c ((and_parts (is_live_chip s.setup.machine c) (list_any (out_eq o) h.outs) serving).0) in
+      let found = Any-from_list_any (out_eq o) h.outs ((and_parts (is_live_chip s.setup.machine c) (list_any (out_eq o) h.outs) serving).1) in
       let is : o ≡ found.1 = out_eq_true o found.1 found.4 in
       let in_outs : Contains h.outs o = subst (λ (p : Out). Contains h.outs p) (sym is) (found.0, found.2, found.3) in
       let m : Mark = mark h.copy (in_hand c o) in

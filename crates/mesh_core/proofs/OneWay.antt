@@ -2,6 +2,8 @@
 use Rattle.std.proofs.Common.{◌≡◌, ℕ, ◌+◌, ◌<◌, suc, zero, List, [], ◌∷◌, map, Some, refl, ap, sym, ◌∙◌, arith, inl, inr, length}
 use Rattle.std.specs.List.{slice_get, Contains}
 use Rattle.std.proofs.lemmas.List.Elements.{All-contains}
+use Rattle.std.proofs.lemmas.Option.{slice_get_within}
+use Rattle.list_laws.proofs.Places.{slice_get_there}
 use Rattle.spin_base.specs.declared.chips.Chip.{Chip}
 use Rattle.spin_base.specs.declared.chips.Port.TheVariants.{Local}
 use Rattle.spin_base.specs.declared.chips.Spot.{Spot}
@@ -14,13 +16,6 @@ use Rattle.machine_desc.proofs.Branches.{ComesBy, comes_by, exit_leads, ExitLead
 use Rattle.machine_desc.proofs.TreeLemmas.{one_edge_into}
 use Rattle.net_tables.specs.declared.nets.NetPlan.{NetPlan}
 use Rattle.net_tables.specs.NetsOn.{AreNetsOn, IsWayOn}
-use Rattle.mesh_core.proofs.Ways.{place_below}
-
--- the item at a place
-pub at_place : {X : Type 0} (xs : List X) (i : ℕ) → i < length xs → (x : X) × (slice_get xs i ≡ Some x)
-at_place [] i within = absurd (omega arith)
-at_place (x ∷ xs) zero within = (x, refl)
-at_place (x ∷ xs) (suc i) within = at_place xs i (omega arith)
 
 same_items : {X : Type 0} (xs ys : List X) → length xs ≡ length ys → ((i : ℕ) → i < length xs → slice_get xs i ≡ slice_get ys i) → xs ≡ ys
 same_items [] [] long same = refl
@@ -45,12 +40,12 @@ module _ (m : Description) (net : NetPlan) (tree : IsRoutingTree m net.tree.root
   last_place t [] is = absurd is
   last_place t (x ∷ xs) is =
       let i : ℕ = length xs in
-      let there = at_place (x ∷ xs) i (omega arith) in
+      let there = slice_get_there (x ∷ xs) i (omega arith) in
       (i, there.1 ∙ ap Some (by_end there.0 (exit_leads m net.tree.edges t net.tree.root (x ∷ xs) i there.0 is there.1)), omega arith)
     where
       by_end : (z : Exit) → ExitLeads m net.tree.edges t (x ∷ xs) (length xs) z → z ≡ last_exit t
       by_end z (inl (d, out, in_tree, (y, far, next))) =
-          let past : suc (length xs) < length (x ∷ xs) = place_below (x ∷ xs) (suc (length xs)) y next in absurd (omega arith)
+          let past : suc (length xs) < length (x ∷ xs) = slice_get_within (x ∷ xs) (suc (length xs)) y next in absurd (omega arith)
       by_end z (inr (chip, out, long)) = same_exit z (last_exit t) (sym chip) out
 
   module _ (t : Spot) (xs ys : List Exit) (is : IsBranch m net.tree.root net.tree.edges t xs) (also : IsBranch m net.tree.root net.tree.edges t ys) where
@@ -70,7 +65,7 @@ module _ (m : Description) (net : NetPlan) (tree : IsRoutingTree m net.tree.root
         let there : y.0 ≡ i = let long = y.2 in omega (arith, far, long, one_length) in
         ap (slice_get xs) (sym here) ∙ (x.1 ∙ (sym y.1 ∙ ap (slice_get ys) there))
     same_from_end (suc n) i far =
-        let next = at_place xs (suc i) (omega (arith, far)) in
+        let next = slice_get_there xs (suc i) (omega (arith, far)) in
         let too : slice_get ys (suc i) ≡ Some next.0 = sym (same_from_end n (suc i) (omega (arith, far))) ∙ next.1 in
         let x : ComesBy m net.tree.edges xs Local i next.0.chip = comes_by m net.tree.edges t net.tree.root Local xs i next.0 is next.1 in
         let y : ComesBy m net.tree.edges ys Local i next.0.chip = comes_by m net.tree.edges t net.tree.root Local ys i next.0 also too in

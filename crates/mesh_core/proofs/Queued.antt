@@ -1,10 +1,15 @@
 -- Where a packet waits, in a mesh that meets the ledger: behind each output that a hand still has to serve there is a queue
 -- without a copy of the hand's packet, and no queue has two copies of one packet.
 use Rattle.std.proofs.Common.{◌≡◌, ◌≢◌, ℕ, ◌+◌, ◌/◌, ◌%◌, ◌<◌, ◌≤◌, suc, List, ◌++◌, Bool, true, false, ◌==◌, Some, refl, ap, sym, ◌∙◌, subst, arith, inl, inr, length, count_by}
-use Rattle.std.specs.List.{slice_get, slice_index_or, All, Contains}
-use Rattle.std.proofs.lemmas.Bool.{cases_order}
+use Rattle.std.specs.List.{slice_get, All, Contains}
+use Rattle.std.proofs.lemmas.Bool.{cases_order, and_parts, eqb-true, eq-eqb, and_from}
 use Rattle.std.proofs.lemmas.List.Elements.{All-contains}
 use Rattle.std.proofs.lemmas.Option.{slice_get_within, get_or_from_slice_get}
+use Rattle.list_laws.proofs.Counts.{count_by-map, count_by-append}
+use Rattle.list_laws.proofs.Gathering.{gathered_among}
+use Rattle.list_laws.proofs.Members.{Among, among_left, among_right, among_contains, contains_among, map_among}
+use Rattle.list_laws.proofs.Pairs.{AllPairs-apart}
+use Rattle.list_laws.proofs.Places.{All-each, slice_get_there}
 use Rattle.spin_base.specs.declared.chips.Chip.{Chip}
 use Rattle.spin_base.specs.declared.chips.Dir.{Dir}
 use Rattle.spin_base.specs.declared.chips.Spot.{Spot}
@@ -19,7 +24,6 @@ use Rattle.machine_desc.specs.Live.{far_of, chip_of, is_live_link, IsInside, IsL
 use Rattle.machine_desc.specs.Branch.{Exit}
 use Rattle.machine_desc.proofs.Branches.{exit_leads, ExitLeads}
 use Rattle.machine_desc.proofs.Far.{live_inside, live_ends, far_inside}
-use Rattle.machine_desc.proofs.Live.{count_by-map}
 use Rattle.machine_desc.proofs.Sites.{end_is_no_live_link, same_site}
 use Rattle.net_tables.specs.declared.nets.NetPlan.{NetPlan}
 use Rattle.net_tables.specs.NetsOn.{IsWayOn}
@@ -32,14 +36,11 @@ use Rattle.mesh_core.specs.Waiting.{queue_of}
 use Rattle.mesh_core.specs.Whereabouts.{IsTracked}
 use Rattle.mesh_core.proofs.Changes.{queue_at-below}
 use Rattle.mesh_core.proofs.Counting.{count_two, count_le, counted, count_gathered_part}
-use Rattle.mesh_core.proofs.Events.{and_true_left}
-use Rattle.mesh_core.proofs.Exchange.{Among, among_at, among_left, among_right, among_contains, contains_among, count_by-append}
 use Rattle.mesh_core.proofs.Law.{leaves_parts, comes_parts}
 use Rattle.mesh_core.proofs.Moves.{mark}
-use Rattle.mesh_core.proofs.OneWay.{at_place}
-use Rattle.mesh_core.proofs.Standing.{gathered_among, map_among, queued_mark, core_mark}
+use Rattle.mesh_core.proofs.Standing.{queued_mark, core_mark}
 use Rattle.mesh_core.proofs.WalkingUp.{comes_on, ends_on}
-use Rattle.mesh_core.proofs.Ways.{nat_true, nat_same, both_true, vertex_at_stands, vertex_behind_there, vertex_behind_stands, leads_to, one_index}
+use Rattle.mesh_core.proofs.Ways.{vertex_at_stands, vertex_behind_there, vertex_behind_stands, leads_to}
 
 -- the queue behind an output, which has no copy of this packet
 abbrev pub FreeBehind : State → Chip → Out → ℕ → Type 0
@@ -82,8 +83,8 @@ module _ (s : State) (nets : List NetPlan) (labels : ℕ → Label) (ledger : Me
       is_on_trail t.from t.to t.branch y ≡ true → x ≢ y → ⊥
   not_twice x has t y there same on apart =
       let p : Mark → Bool = is_packet_on_trail x.copy.packet t.from t.to t.branch in
-      let px : p x ≡ true = both_true (x.copy.packet == x.copy.packet) (is_on_trail t.from t.to t.branch x) (nat_same x.copy.packet x.copy.packet refl) t.on in
-      let py : p y ≡ true = both_true (y.copy.packet == x.copy.packet) (is_on_trail t.from t.to t.branch y) (nat_same y.copy.packet x.copy.packet same) on in
+      let px : p x ≡ true = and_from (x.copy.packet == x.copy.packet) (is_on_trail t.from t.to t.branch x) (eq-eqb x.copy.packet x.copy.packet refl) t.on in
+      let py : p y ≡ true = and_from (y.copy.packet == x.copy.packet) (is_on_trail t.from t.to t.branch y) (eq-eqb y.copy.packet x.copy.packet same) on in
       let two = count_two p x y (marks_of s) apart px py (contains_among x (marks_of s) has) (contains_among y (marks_of s) there) in
       let one = t.once in
       absurd (omega (arith, two, one))
@@ -107,21 +108,20 @@ module _ (s : State) (nets : List NetPlan) (labels : ℕ → Label) (ledger : Me
         let in_c : IsInside u.machine c = live_inside u.machine c (live_ends u.machine c d live).2 in
         let inside : IsInside u.machine y.chip = far_inside u.machine c y.chip d in_c far in
         let low : i < length s.inputs = let below = queue_at-below u.machine y.chip port inside in let long = mesh.input_lists in omega (arith, below, long) in
-        let q = at_place s.inputs i low in
+        let q = slice_get_there s.inputs i low in
         let is_behind : behind u c o ≡ input i =
         ap (behind u c) out ∙ (ap (λ b. behind_link u c d b (far_of u.machine c d)) live ∙ ap (behind_link u c d true) far)
         in (
           q.0,
           ap (queue_of s) is_behind ∙ q.1,
-          λ n e within same.
-              let j : McCopy = slice_index_or q.0 n e in
+          All-each (λ j. j.packet ≢ k.packet) q.0 (λ j in_q same.
               let m : Mark = mark j (in_queue y.chip port) in
               let there : Contains (marks_of s) m =
-              among_contains m (marks_of s) (queued_mark s y.chip port inside j q.0 q.1 (among_at q.0 n e within))
+              among_contains m (marks_of s) (queued_mark s y.chip port inside j q.0 q.1 (contains_among j q.0 in_q))
               in
               not_twice x has t m there same
               (comes_on s t.net k.packet t.tracked t.target t.way.is_target t.branch t.from t.to t.way m there same (suc k.hop) y.chip y.out port next refl)
-              (λ e'. let stations : in_hand c o ≡ in_queue y.chip port = ap (λ (z : Mark). z.station) e' in cc),
+              (λ e'. let stations : in_hand c o ≡ in_queue y.chip port = ap (λ (z : Mark). z.station) e' in cc)),
         )
 
     -- where the branch ends there is the queue of the target's vertex
@@ -139,20 +139,19 @@ module _ (s : State) (nets : List NetPlan) (labels : ℕ → Label) (ledger : Me
         in
         let same_spot : spot.0 ≡ t.target = same_site u.machine spot.0 t.target its_site site (spot.2 ∙ sym chip) (spot.3 ∙ out) in
         let goal : slice_get u.spots t.to ≡ Some t.target = vertex_at_stands u.spots t.target t.to t.way.ends in
-        let is_to : vertex.0 ≡ t.to = one_index u.spots mesh.different vertex.0 t.to t.target (spot.1 ∙ ap Some same_spot) goal in
+        let is_to : vertex.0 ≡ t.to = AllPairs-apart u.spots t.target mesh.different vertex.0 t.to (spot.1 ∙ ap Some same_spot) goal in
         let low : vertex.0 < length s.cores = let below = slice_get_within u.spots vertex.0 spot.0 spot.1 in let long = mesh.core_lists in omega (arith, below, long) in
-        let q = at_place s.cores vertex.0 low in
+        let q = slice_get_there s.cores vertex.0 low in
         let is_behind : behind u c o ≡ core vertex.0 = to_vertex o out vertex.0 vertex.1 site in (
           q.0,
           ap (queue_of s) is_behind ∙ q.1,
-          λ n e within same.
-              let j : McCopy = slice_index_or q.0 n e in
+          All-each (λ j. j.packet ≢ k.packet) q.0 (λ j in_q same.
               let m : Mark = mark j (at_core vertex.0) in
-              let there : Contains (marks_of s) m = among_contains m (marks_of s) (core_mark s vertex.0 j q.0 q.1 (among_at q.0 n e within)) in
+              let there : Contains (marks_of s) m = among_contains m (marks_of s) (core_mark s vertex.0 j q.0 q.1 (contains_among j q.0 in_q)) in
               not_twice x has t m there same
               (ends_on s t.net k.packet t.tracked t.target t.way.is_target t.branch t.from t.to t.way m there same
               (vertex.0, t.way.ends ∙ ap Some (sym is_to), inl refl))
-              (λ e'. let stations : in_hand c o ≡ at_core vertex.0 = ap (λ (z : Mark). z.station) e' in cc),
+              (λ e'. let stations : in_hand c o ≡ at_core vertex.0 = ap (λ (z : Mark). z.station) e' in cc)),
         )
       where
         to_vertex : (p : Out) → p ≡ out_of t.target.core → (v : ℕ) → vertex_behind s.setup.spots c p ≡ Some v → IsSite s.setup.machine t.target → behind s.setup c p ≡ core v
@@ -206,12 +205,12 @@ module _ (s : State) (nets : List NetPlan) (labels : ℕ → Label) (ledger : Me
         let found = counted (λ (j : McCopy). j.packet == n) q (omega (arith, some)) in
         let a : McCopy = found.0 in
         let t : OnTrail (mark a at) = trail_of (mark a at) (there a found.1) in
-        let number : a.packet ≡ n = nat_true a.packet n found.2 in
+        let number : a.packet ≡ n = eqb-true a.packet n found.2 in
         let p : Mark → Bool = is_packet_on_trail a.packet t.from t.to t.branch in
         let fewer : count_by (λ j. j.packet == n) q ≤ count_by (λ j. p (mark j at)) q =
         count_le (λ (j : McCopy). j.packet == n) (λ j. p (mark j at)) q (λ j among passes.
-        let same : j.packet ≡ a.packet = nat_true j.packet n passes ∙ sym number in
-        both_true (j.packet == a.packet) (is_on_trail t.from t.to t.branch (mark j at)) (nat_same j.packet a.packet same) (same_trail a t j among same))
+        let same : j.packet ≡ a.packet = eqb-true j.packet n passes ∙ sym number in
+        and_from (j.packet == a.packet) (is_on_trail t.from t.to t.branch (mark j at)) (eq-eqb j.packet a.packet same) (same_trail a t j among same))
         in
         let mapped : count_by p (marked at q) ≡ count_by (λ j. p (mark j at)) q = count_by-map p (λ (j : McCopy). mark j at) q in
         let all = part p in
@@ -268,7 +267,7 @@ module _ (s : State) (nets : List NetPlan) (labels : ℕ → Label) (ledger : Me
       let whole = in_core_marks p in
       omega (arith, part, whole))
       (λ x t j among same.
-      let is_to : v ≡ t.to = nat_true v t.to (and_true_left (v == t.to) (x.hop == length t.branch) t.on) in
+      let is_to : v ≡ t.to = eqb-true v t.to ((and_parts (v == t.to) (x.hop == length t.branch) t.on).0) in
       ends_on s t.net x.packet t.tracked t.target t.way.is_target t.branch t.from t.to t.way (mark j (at_core v)) (waiting_mark (core v) q at j among) same
       (v, t.way.ends ∙ ap Some (sym is_to), inl refl))
       n

@@ -1,8 +1,10 @@
 -- Walking up a branch from its target finds the target's copy of a packet.
-use Rattle.std.proofs.Common.{◌≡◌, ◌≢◌, ℕ, ◌+◌, ◌*◌, ◌<◌, ◌≤◌, zero, suc, List, [], ◌∷◌, map, Bool, true, false, ◌==◌, ◌&&◌, if◌then◌else◌, Option, Some, None, refl, ap, sym, ◌∙◌, subst, arith, inl, inr, ◌⊎◌, length, count_by}
+use Rattle.std.proofs.Common.{◌≡◌, ◌≢◌, ℕ, ◌+◌, ◌*◌, ◌<◌, ◌≤◌, zero, suc, List, map, true, ◌==◌, ◌&&◌, Option, Some, None, refl, ap, sym, ◌∙◌, subst, arith, inl, inr, ◌⊎◌, length, count_by}
 use Rattle.std.specs.List.{slice_get, All, Contains}
-use Rattle.std.proofs.lemmas.Bool.{cases_order}
+use Rattle.std.proofs.lemmas.Bool.{cases_order, and_parts, eqb-true, eq-eqb, and_from}
 use Rattle.std.proofs.lemmas.List.Elements.{All-contains}
+use Rattle.std.proofs.lemmas.Option.{slice_get_within}
+use Rattle.list_laws.proofs.Members.{among_contains}
 use Rattle.spin_base.specs.declared.chips.Chip.{Chip}
 use Rattle.spin_base.specs.declared.chips.Spot.{Spot}
 use Rattle.spin_base.specs.declared.chips.Port.{Port}
@@ -29,25 +31,11 @@ use Rattle.net_tables.specs.NetsOn.{AreNetsOn, IsWayOn}
 use Rattle.mesh_core.specs.Ledger.{marks_of}
 use Rattle.mesh_core.specs.Whereabouts.{TellsStation, IsTold, IsWhere, IsTracked}
 use Rattle.mesh_core.specs.Searches.{IsMarkThere, IsFound, IsOfCore, IsOfOutput, IsOfPort, port_behind, IsEdgeInto}
-use Rattle.mesh_core.proofs.Exchange.{Among, among_contains, count_by-cons}
-use Rattle.mesh_core.proofs.Events.{and_true_left, and_true_right}
+use Rattle.mesh_core.proofs.Counting.{counted}
 use Rattle.mesh_core.proofs.LedgerLaw.{one_net}
 use Rattle.mesh_core.proofs.Law.{leaves_parts, leaves_from, ComesThere, comes_parts, comes_from}
 use Rattle.mesh_core.proofs.OneWay.{last_place}
-use Rattle.mesh_core.proofs.Ways.{nat_true, nat_same, both_true, vertex_at_stands, some_way, place_below}
-
--- ---- lists
-
--- what is counted once is there
-counted_by : (p : Mark → Bool) (x : Mark) (xs : List Mark) (b : Bool) → p x ≡ b → (count_by p xs ≡ 1 → (y : Mark) × Among y xs × (p y ≡ true)) →
-    (if b then 1 else 0) + count_by p xs ≡ 1 → (y : Mark) × Among y (x ∷ xs) × (p y ≡ true)
-counted_by p x xs true is later once = (x, inl refl, is)
-counted_by p x xs false is later once =
-    let rest = later (omega (arith, once)) in (rest.0, inr rest.1, rest.2)
-
-counted : (p : Mark → Bool) (xs : List Mark) → count_by p xs ≡ 1 → (y : Mark) × Among y xs × (p y ≡ true)
-counted p [] once = absurd (omega (arith, once))
-counted p (x ∷ xs) once = counted_by p x xs (p x) refl (counted p xs) (sym (count_by-cons p x xs) ∙ once)
+use Rattle.mesh_core.proofs.Ways.{vertex_at_stands, some_way}
 
 -- ---- how far the walk has come
 
@@ -221,11 +209,11 @@ module _ (s : State) (net : NetPlan) (packet : ℕ) (tracked : IsTracked s net p
 
         at_end : ((v == u.to) && (k.copy.hop == length u.branch)) ≡ true → ((v == to) && (k.copy.hop == length xs)) ≡ true
         at_end on =
-            let its_to : v ≡ u.to = nat_true v u.to (and_true_left (v == u.to) (k.copy.hop == length u.branch) on) in
-            let hop : k.copy.hop ≡ length u.branch = nat_true k.copy.hop (length u.branch) (and_true_right (v == u.to) (k.copy.hop == length u.branch) on) in
+            let its_to : v ≡ u.to = eqb-true v u.to ((and_parts (v == u.to) (k.copy.hop == length u.branch) on).0) in
+            let hop : k.copy.hop ≡ length u.branch = eqb-true k.copy.hop (length u.branch) ((and_parts (v == u.to) (k.copy.hop == length u.branch) on).1) in
             let other : IsWayOn s.setup.machine s.setup.spots net u.goal u.branch u.from to = subst (λ n. IsWayOn s.setup.machine s.setup.spots net u.goal u.branch u.from n) (sym its_to ∙ is_to) u.way in
             let long = one_length u.goal target u.branch xs u.from from to other way in
-            both_true (v == to) (k.copy.hop == length xs) (nat_same v to is_to) (nat_same k.copy.hop (length xs) (hop ∙ long))
+            and_from (v == to) (k.copy.hop == length xs) (eq-eqb v to is_to) (eq-eqb k.copy.hop (length xs) (hop ∙ long))
 
         by_station : (k.station ≡ at_core v) ⊎ (k.station ≡ delivered v) → is_on_trail from to xs k ≡ true
         by_station (inl is) = on_by k (at_core v) is (at_end (sym (ap (on_trail u.from u.to u.branch k.copy.hop) is) ∙ u.on))
@@ -244,7 +232,7 @@ module _ (s : State) (net : NetPlan) (packet : ℕ) (tracked : IsTracked s net p
       only_one = only_one;
       mark = k;
       is_mark = has;
-      on_trail = both_true (k.copy.packet == packet) (is_on_trail from to xs k) (nat_same k.copy.packet packet is_packet) on;
+      on_trail = and_from (k.copy.packet == packet) (is_on_trail from to xs k) (eq-eqb k.copy.packet packet is_packet) on;
       told = told;
     }
 
@@ -252,12 +240,13 @@ module _ (s : State) (net : NetPlan) (packet : ℕ) (tracked : IsTracked s net p
     told_unsent : ((k : Mark) → Contains (marks_of s) k → k.copy.packet ≡ packet → is_on_trail from to xs k ≡ true → IsBefore 0 k.copy.hop k.station) →
         IsTold s packet xs from to Unsent
     told_unsent before =
-        let k = counted (is_packet_on_trail packet from to xs) (marks_of s) only_one in
+        let once = only_one in
+        let k = counted (is_packet_on_trail packet from to xs) (marks_of s) (omega (arith, once)) in
         let has = among_contains k.0 (marks_of s) k.1 in
         let of_packet : k.0.copy.packet ≡ packet =
-        nat_true k.0.copy.packet packet (and_true_left (k.0.copy.packet == packet) (is_on_trail from to xs k.0) k.2)
+        eqb-true k.0.copy.packet packet ((and_parts (k.0.copy.packet == packet) (is_on_trail from to xs k.0) k.2).0)
         in
-        let on = and_true_right (k.0.copy.packet == packet) (is_on_trail from to xs k.0) k.2 in
+        let on = (and_parts (k.0.copy.packet == packet) (is_on_trail from to xs k.0) k.2).1 in
         told_by k.0 has of_packet on Unsent (by_station k.0.copy k.0.station (before k.0 has of_packet on))
       where
         by_station : (d : McCopy) (at : Station) → IsBefore 0 d.hop at → TellsStation s d at Unsent
@@ -305,19 +294,19 @@ module _ (s : State) (net : NetPlan) (packet : ℕ) (tracked : IsTracked s net p
       by_station i long k has is_packet (unsent v) is on = tt
       by_station i long k has is_packet (in_queue c port) is on =
           let there : ComesThere xs k.copy.hop c port = comes_parts xs k.copy.hop c port on in
-          let within : k.copy.hop < length xs = place_below xs k.copy.hop there.exit there.at in
+          let within : k.copy.hop < length xs = slice_get_within xs k.copy.hop there.exit there.at in
           omega arith
       by_station i long k has is_packet (in_hand c o) is on =
-          let within : k.copy.hop < length xs = place_below xs k.copy.hop (record { chip = c; out = o }) (leaves_parts xs k.copy.hop c o on) in
+          let within : k.copy.hop < length xs = slice_get_within xs k.copy.hop (record { chip = c; out = o }) (leaves_parts xs k.copy.hop c o on) in
           omega arith
       by_station i long k has is_packet (at_core v) is on =
-          let same : v ≡ to = nat_true v to (and_true_left (v == to) (k.copy.hop == length xs) on) in
+          let same : v ≡ to = eqb-true v to ((and_parts (v == to) (k.copy.hop == length xs) on).0) in
           none k has is_packet (v, way.ends ∙ ap Some (sym same), inl is)
       by_station i long k has is_packet (delivered v) is on =
-          let same : v ≡ to = nat_true v to (and_true_left (v == to) (k.copy.hop == length xs) on) in
+          let same : v ≡ to = eqb-true v to ((and_parts (v == to) (k.copy.hop == length xs) on).0) in
           none k has is_packet (v, way.ends ∙ ap Some (sym same), inr is)
       by_station i long k has is_packet (dumped c o) is on =
-          let within : k.copy.hop < length xs = place_below xs k.copy.hop (record { chip = c; out = o }) (leaves_parts xs k.copy.hop c o on) in
+          let within : k.copy.hop < length xs = slice_get_within xs k.copy.hop (record { chip = c; out = o }) (leaves_parts xs k.copy.hop c o on) in
           omega arith
 
   -- the walk is at a chip inside the grid
