@@ -1,0 +1,81 @@
+"""Prints the picture of docs/architecture.md: the crates by layer, each with its lines and what it stands on.
+
+    python3 tools/house.py [--check]      with --check: compares it with what stands there, and ends with status 1 where it differs
+
+A crate's layer is one more than the highest layer below it, among the crates of this repository. A chain of crates is as long
+as the number of layers. Lines: code without tests, definitions, proofs.
+"""
+import glob
+import os
+import re
+import sys
+
+ROOT = os.path.dirname(os.path.dirname(os.path.realpath(__file__)))
+BEGIN, END = "<!-- made by tools/house.py -->\n", "<!-- end -->\n"
+
+
+def crates():
+    """Each crate of crates.txt with the crates of the repository that it names."""
+    found = {}
+    with open(f"{ROOT}/crates.txt", encoding="utf-8") as lines:
+        for line in lines:
+            name, colon, names = line.partition("#")[0].partition(":")
+            if colon:
+                found[name.split()[0]] = names.split()
+    return {name: [it for it in below if it in found] for name, below in found.items()}
+
+
+def lines_of(pattern, but=()):
+    count = 0
+    for file in glob.glob(f"{ROOT}/{pattern}", recursive=True):
+        if not set(os.path.relpath(file, ROOT)[:-3].split("/")) & set(but):
+            with open(file, encoding="utf-8") as text:
+                count += sum(1 for _ in text)
+    return count
+
+
+def tests_of(name):
+    """The modules of a crate that stand under cfg(test) in its root file."""
+    for file in glob.glob(f"{ROOT}/crates/{name}/src/*.rt"):
+        if os.path.basename(file) in ("lib.rt", "main.rt"):
+            with open(file, encoding="utf-8") as text:
+                return re.findall(r"#\[cfg\(test\)\]\s*mod (\w+);", text.read())
+    return []
+
+
+def picture():
+    below, layers = crates(), {}
+
+    def layer(name):
+        if name not in layers:
+            layers[name] = 1 + max((layer(it) for it in below[name]), default=0)
+        return layers[name]
+
+    top = max(map(layer, below))
+    rows = [BEGIN, "| layer | crate | code | definitions | proofs | stands on |\n", "|---|---|---|---|---|---|\n"]
+    for at in range(1, top + 1):
+        for name in [it for it in below if layers[it] == at]:
+            sizes = [lines_of(f"crates/{name}/src/**/*.rt", tests_of(name)), lines_of(f"crates/{name}/specs/**/*.antt"), lines_of(f"crates/{name}/proofs/**/*.antt")]
+            rows.append(f"| {at} | `{name}` | {sizes[0]} | {sizes[1]} | {sizes[2]} | {', '.join(below[name])} |\n")
+    return "".join([*rows, END])
+
+
+def main(words):
+    file = f"{ROOT}/docs/architecture.md"
+    with open(file, encoding="utf-8") as text:
+        before, _, rest = text.read().partition(BEGIN)
+    _, _, after = rest.partition(END)
+    made = before + picture() + after
+    with open(file, encoding="utf-8") as text:
+        is_same = text.read() == made
+    if "--check" not in words:
+        with open(file, "w", encoding="utf-8") as text:
+            text.write(made)
+    elif not is_same:
+        print("docs/architecture.md has another picture: python3 tools/house.py")
+        return 1
+    return 0
+
+
+if __name__ == "__main__":
+    sys.exit(main(sys.argv[1:]))
