@@ -6,5 +6,7 @@
 #![tactic(auto)]
 
 mod compiling;
+#[cfg(test)]
+mod tests;
 
 pub use compiling::{CompileErr, Plan, compile};
