@@ -20,10 +20,11 @@ use Rattle.spin_base.proofs.Equality.{out_eq_true}
 use Rattle.machine_desc.specs.Live.{far_of, index_of, is_live_chip, is_live_link, IsInside, IsSite}
 use Rattle.machine_desc.proofs.Far.{live_ends, live_inside, far_inside}
 use Rattle.machine_desc.proofs.Sites.{site_parts}
-use Rattle.mesh_core.specs.State.{State, Held, IsMesh, Behind, input, core, nowhere, behind, behind_link, core_of, queue_at, vertex_behind}
+use Rattle.mesh_core.specs.State.{State, Held, IsMesh, Behind, input, core, behind, behind_link, core_of, queue_at, vertex_behind}
 use Rattle.mesh_core.specs.Step.{step_of, inject_of, take_of, send_of, dump_of, collect_of, has_room, has_room_behind, push_behind, push_at, in_hand as held_for, without, serves, after_serving, outputs, onward}
 use Rattle.mesh_core.specs.Trail.{unsent, in_queue, in_hand, at_core, delivered, dumped, Mark}
 use Rattle.mesh_core.specs.Ledger.{marks_of, hand_marks}
+use Rattle.mesh_core.proofs.Fixed.{push_behind_setup}
 use Rattle.mesh_core.proofs.Moves.{mark, Crosses, Exchange, unsent_out, input_out, input_in, hand_out, hand_in, core_out, core_in, delivered_in, dumped_in, hand_marks-held}
 
 -- ---- a queue with room is there
@@ -35,12 +36,6 @@ room_is_there capacity None room = cc
 appended_is : (lists : List (List McCopy)) (i : ℕ) (k : McCopy) (q : Option (List McCopy)) (l : List McCopy) → q ≡ Some l → push_at lists i k q ≡ slice_set lists i (l ++ k ∷ [])
 appended_is lists i k (Some l') l e = let same : l' ≡ l = cc in ap (λ v. slice_set lists i (v ++ k ∷ [])) same
 appended_is lists i k None l e = cc
-
--- a copy that arrives changes nothing that a mesh never changes
-pub push_behind_setup : (s : State) (b : Behind) (k : McCopy) → (push_behind s b k).setup ≡ s.setup
-push_behind_setup s (input i) k = refl
-push_behind_setup s (core v) k = refl
-push_behind_setup s nowhere k = refl
 
 -- the copy that arrives in an input queue with room
 arrives_at_input : (s : State) (c : Chip) (port : Port) → IsInside s.setup.machine c → (k : McCopy) →

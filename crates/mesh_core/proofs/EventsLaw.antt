@@ -16,7 +16,8 @@ use Rattle.mesh_core.specs.Trail.{Mark, dumped}
 use Rattle.mesh_core.specs.Ledger.{marks_of, Label, Asked, label_of, MeetsLedger, MeetsLedgerFor}
 use Rattle.mesh_core.specs.Opened.{asked_by, MeetsJobLedger}
 use Rattle.mesh_core.proofs.Changes.{IsMesh-dumped}
-use Rattle.mesh_core.proofs.Events.{event_exchange, arrives, push_behind_setup}
+use Rattle.mesh_core.proofs.Events.{event_exchange, arrives}
+use Rattle.mesh_core.proofs.Fixed.{push_behind_setup}
 use Rattle.mesh_core.proofs.Keeping.{IsMesh-step_of, IsMesh-push_behind, may_wait-behind}
 use Rattle.mesh_core.proofs.LedgerLaw.{Bag, bag_of_event, bag_keeps_ledger, bag_adds_no_packet, bag_keeps_packets, right_before, right_small}
 use Rattle.mesh_core.proofs.Moves.{mark, Exchange, dumped_out}

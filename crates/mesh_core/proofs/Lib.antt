@@ -17,6 +17,7 @@ pub mod OneWay
 pub mod OpenedLaw
 pub mod QueueLists
 pub mod Queued
+pub mod RoomyRuns
 pub mod Searching
 pub mod ServingLaws
 pub mod Standing

@@ -92,7 +92,7 @@ module _ (s : State) (nets : List NetPlan) (packets : List Packet) (mesh : IsMes
       let has_it = room c o h.copy there in
       cc
 
-  dump_none : (c : Chip) (o : Out) (hand : Option (Option Held)) → slice_get s.hands (index_of s.setup.machine c) ≡ hand → dump_of s c o hand ≡ None
+  pub dump_none : (c : Chip) (o : Out) (hand : Option (Option Held)) → slice_get s.hands (index_of s.setup.machine c) ≡ hand → dump_of s c o hand ≡ None
   dump_none c o (Some (Some h)) at = idle_by c o h at (serves s c o (Some (Some h))) (has_room_behind s (behind s.setup c o)) refl refl _
   dump_none c o (Some None) at = refl
   dump_none c o None at = refl

@@ -101,8 +101,20 @@ pub fn a_packet_waits_once()
         MeetsLedger s nets labels → queue_of s b ≡ Some q → count_by (λ j. j.packet == number) q ≤ 1 }
 {}
 
-/// Where a queue has room for a copy of each packet of a job, no Dump is enabled.
+/// Where a queue has room for a copy of each packet of a job, no Dump is enabled, and no list of events makes a dump record.
 pub fn a_roomy_mesh_drops_nothing()
-    ensures { (s : State) (nets : List NetPlan) (packets : List Packet) (c : Chip) (o : Out) →
+    ensures idle { (s : State) (nets : List NetPlan) (packets : List Packet) (c : Chip) (o : Out) →
         IsMesh s → MeetsJobLedger s nets packets → length packets ≤ s.setup.capacity → answer s (Dump c o) ≡ Idle }
+    ensures no_record { (s : State) (nets : List NetPlan) (packets : List Packet) (events : List Event) →
+        IsMesh s → AreRight s.setup.machine s.setup.tables nets → MeetsJobLedger s nets packets → length packets ≤ s.setup.capacity →
+        (after_events s events).dumped ≡ s.dumped }
+{}
+
+/// So it has delivered all that the job asks for, and nothing else, after every list of events from the opened mesh of the job
+/// that leaves nothing waiting and nothing unsent: in whatever order routers, cores and vertices take their turns.
+pub fn a_roomy_mesh_delivers_all()
+    ensures { (setup : Setup) (nets : List NetPlan) (packets : List Packet) (events : List Event) →
+        IsMesh (opened_mesh setup nets packets) → AreRight setup.machine setup.tables nets → AreNetsOn setup.machine setup.spots nets →
+        AreOfNets nets packets → length packets ≤ setup.capacity → IsAtRest (after_events (opened_mesh setup nets packets) events) →
+        AreAsExpected (after_events (opened_mesh setup nets packets) events) nets packets }
 {}
