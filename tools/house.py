@@ -1,6 +1,9 @@
 """Prints the picture of docs/architecture.md: the crates by layer, each with its lines and what it stands on.
 
-    python3 tools/house.py [--check]      with --check: compares it with what stands there, and ends with status 1 where it differs
+    python3 tools/house.py [--check]
+
+With --check it compares the picture with what stands there, and docs/definitions.md with the files of definitions, each of which
+it has to name; the status is 1 where something differs.
 
 A crate's layer is one more than the highest layer below it, among the crates of this repository. A chain of crates is as long
 as the number of layers. Lines: code without tests, definitions, proofs.
@@ -71,10 +74,16 @@ def main(words):
     if "--check" not in words:
         with open(file, "w", encoding="utf-8") as text:
             text.write(made)
-    elif not is_same:
-        print("docs/architecture.md has another picture: python3 tools/house.py")
-        return 1
-    return 0
+        return 0
+    wrong = [] if is_same else ["docs/architecture.md has another picture: python3 tools/house.py"]
+    files = {os.path.relpath(it, f"{ROOT}/crates") for it in glob.glob(f"{ROOT}/crates/*/specs/**/*.antt", recursive=True)}
+    files = {it for it in files if os.path.basename(it) != "Lib.antt"}
+    with open(f"{ROOT}/docs/definitions.md", encoding="utf-8") as text:
+        named = set(re.findall(r"`(\w+/specs/[\w/]+\.antt)`", text.read()))
+    wrong += [f"docs/definitions.md does not name {it}" for it in sorted(files - named)]
+    wrong += [f"docs/definitions.md names {it}, which is not there" for it in sorted(named - files)]
+    print("\n".join(wrong), end="\n" if wrong else "")
+    return 1 if wrong else 0
 
 
 if __name__ == "__main__":
