@@ -1,0 +1,3 @@
+pub mod Draining
+pub mod HasRun
+pub mod UnderWay
