@@ -35,13 +35,14 @@ use Rattle.mesh_core.proofs.ServingLaws.{vertex_at-below}
 use Rattle.mesh_core.proofs.Standing.{held_mark, queued_mark}
 use Rattle.packet_runs.specs.declared.draining.Waiting.{Waiting}
 use Rattle.packet_runs.specs.Draining.{IsKept}
-use Rattle.packet_runs.specs.UnderWay.{outs_in, times, IsUnderWay, IsServing}
+use Rattle.packet_runs.specs.UnderWay.{outs_in, times, weight_in, IsUnderWay, IsServing}
+use Rattle.packet_runs.proofs.Progress.{moved_lighter}
 use Rattle.packet_runs.proofs.Alone.{Beyond, link_beyond, core_beyond}
 
 -- ---- lists
 
 -- a list that is written twice at a place
-set_twice : {X : Type 0} (xs : List X) (i : ℕ) (x y : X) → set (set xs i x) i y ≡ set xs i y
+pub set_twice : {X : Type 0} (xs : List X) (i : ℕ) (x y : X) → set (set xs i x) i y ≡ set xs i y
 set_twice [] i x y = refl
 set_twice (z ∷ zs) zero x y = refl
 set_twice (z ∷ zs) (suc i) x y = ap (λ l. z ∷ l) (set_twice zs i x y)
@@ -53,7 +54,7 @@ put_back (z ∷ zs) zero x y there = let same : z ≡ x = cc in ap (λ w. w ∷ 
 put_back (z ∷ zs) (suc i) x y there = ap (λ l. z ∷ l) (put_back zs i x y there)
 
 -- what is true of what is written, and of what was there, is true of a list that was written
-written : (P : List McCopy → Type 0) (lists : List (List McCopy)) (i j : ℕ) (q : List McCopy) → i < length lists →
+pub written : (P : List McCopy → Type 0) (lists : List (List McCopy)) (i j : ℕ) (q : List McCopy) → i < length lists →
     (i ≡ j → P q) → (i ≢ j → P (slice_index_or lists j [])) → P (slice_index_or (set lists i q) j [])
 written P lists i j q within at apart = by_test (i == j) refl
   where
@@ -69,7 +70,7 @@ written P lists i j q within at apart = by_test (i == j) refl
         differ a b = cc
 
 -- one place more in the list of those where the packet waits
-times_more : (m : Description) (i : ℕ) (w : List Waiting) (a : Waiting) →
+pub times_more : (m : Description) (i : ℕ) (w : List Waiting) (a : Waiting) →
     times m i (w ++ a ∷ []) ≡ times m i w + (if queue_at m a.chip a.port == i then 1 else 0)
 times_more m i w a =
     let p : Waiting → Bool = λ x. queue_at m x.chip x.port == i in
@@ -84,7 +85,7 @@ kept_after s e kept =
     let keeps = event_keeps s kept.nets kept.labels kept.mesh kept.right kept.ledger e in
     record { mesh = keeps.mesh; nets = kept.nets; labels = kept.labels; right = keeps.right; ledger = keeps.ledger }
 
-moved : (s t : State) (e : Event) → stepped s e ≡ Some t → after_event s e ≡ t
+pub moved : (s t : State) (e : Event) → stepped s e ≡ Some t → after_event s e ≡ t
 moved s t e is = ap (λ (o : Option State). unwrap_or o s) is
 
 -- ---- a mesh with a packet under way
@@ -94,7 +95,7 @@ module _ (s : State) (waiting : List Waiting) where
   m = s.machine
 
   -- the queue of a port of a live chip is there
-  queue_there : IsKept s → (c : Chip) (port : Port) → IsLiveChip s.machine c →
+  pub queue_there : IsKept s → (c : Chip) (port : Port) → IsLiveChip s.machine c →
       (queue_at s.machine c port < length s.inputs) × (slice_get s.inputs (queue_at s.machine c port) ≡ Some (slice_index_or s.inputs (queue_at s.machine c port) []))
   queue_there kept c port live =
       let below = queue_at-below s.machine c port (live_inside s.machine c live) in
@@ -316,15 +317,25 @@ module _ (s : State) (w : List Waiting) (c : Chip) (d : Dir) (os : List Out) (u 
   pub beyond : Beyond s u.kept u.copy c d
   beyond = link_beyond s u.kept u.copy c d (has_mark s w c (Link d) os u)
 
-  pub next : Waiting
+  abbrev pub next : Waiting
   next = record { chip = beyond.far; port = ByLink (opposite_of d) }
 
   pub send_leads : far_of s.machine c d ≡ Some beyond.far
   send_leads = beyond.leads
 
-  pub send_link : IsServing (after_event s (Send c (Link d))) (w ++ next ∷ []) c os
-  unfolding beyond next held
-  send_link =
+  far_queue : ℕ
+  far_queue = queue_at s.machine beyond.far (ByLink (opposite_of d))
+
+  linked : State
+  linked = record s { inputs = slice_set s.inputs far_queue (onward u.copy ∷ []); hands = slice_set u.others (index_of s.machine c) (in_hand u.copy u.port os) }
+
+  far_there : (far_queue < length s.inputs) × (slice_get s.inputs far_queue ≡ Some (slice_index_or s.inputs far_queue []))
+  unfolding far_queue beyond
+  far_there = queue_there s w u.kept beyond.far (ByLink (opposite_of d)) beyond.live
+
+  is_linked : stepped s (Send c (Link d)) ≡ Some linked
+  unfolding beyond held linked far_queue
+  is_linked =
       let b = beyond in
       let port : Port = ByLink (opposite_of d) in
       let j : ℕ = queue_at s.machine b.far port in
@@ -343,7 +354,34 @@ module _ (s : State) (w : List Waiting) (c : Chip) (d : Dir) (os : List Out) (u 
       ∙ (ap (λ h. Some (from h)) (hands_then s w c (Link d) os u)
       ∙ ap (λ q. Some (record s { inputs = appended s.inputs j (onward u.copy) q; hands = slice_set u.others n (in_hand u.copy u.port os) })) at)
       in
-      let same : after_event s (Send c (Link d)) ≡ t = moved s t (Send c (Link d)) step in
+      step
+    where
+      empty : (q : List McCopy) → slice_index_or s.inputs (queue_at s.machine beyond.far (ByLink (opposite_of d))) [] ≡ q →
+          slice_get s.inputs (queue_at s.machine beyond.far (ByLink (opposite_of d))) ≡ Some (slice_index_or s.inputs (queue_at s.machine beyond.far (ByLink (opposite_of d))) []) →
+          slice_index_or s.inputs (queue_at s.machine beyond.far (ByLink (opposite_of d))) [] ≡ []
+      empty [] e at = e
+      empty (k ∷ rest) e at =
+          let port : Port = ByLink (opposite_of d) in
+          let j : ℕ = queue_at s.machine beyond.far port in
+          let all : All (λ (x : McCopy). x.packet ≡ u.copy.packet) (k ∷ rest) = subst (All (λ (x : McCopy). x.packet ≡ u.copy.packet)) e (u.of_packet j) in
+          let packet = All-head (λ (x : McCopy). x.packet ≡ u.copy.packet) k rest all in
+          let y : Mark = mark k (in_queue beyond.far port) in
+          absurd (beyond.none k packet (among_contains y (marks_of s)
+          (queued_mark s beyond.far port (live_inside s.machine beyond.far beyond.live) k (k ∷ rest) (at ∙ ap Some e) (inl refl))))
+
+  pub send_link_lighter : weight_in (after_event s (Send c (Link d))) < weight_in s
+  send_link_lighter =
+      let less = moved_lighter s linked (Send c (Link d)) u.kept is_linked in
+      let same : weight_in (after_event s (Send c (Link d))) ≡ weight_in linked = ap weight_in (moved s linked (Send c (Link d)) is_linked) in
+      omega (arith, less, same)
+
+  pub send_link : IsServing (after_event s (Send c (Link d))) (w ++ next ∷ []) c os
+  unfolding linked far_queue
+  send_link =
+      let b = beyond in
+      let j : ℕ = queue_at s.machine b.far (ByLink (opposite_of d)) in
+      let there = far_there in
+      let same : after_event s (Send c (Link d)) ≡ linked = moved s linked (Send c (Link d)) is_linked in
       subst (λ x. IsServing x (w ++ next ∷ []) c os) (sym same) (record {
         kept = subst IsKept same (kept_after s (Send c (Link d)) u.kept);
         copy = u.copy;
@@ -362,19 +400,6 @@ module _ (s : State) (w : List Waiting) (c : Chip) (d : Dir) (os : List Out) (u 
             (λ here. All-cons (λ (k : McCopy). k.packet ≡ u.copy.packet) (onward u.copy) [] refl (All-nil (λ (k : McCopy). k.packet ≡ u.copy.packet)))
             (λ other. u.of_packet x);
       })
-    where
-      empty : (q : List McCopy) → slice_index_or s.inputs (queue_at s.machine beyond.far (ByLink (opposite_of d))) [] ≡ q →
-          slice_get s.inputs (queue_at s.machine beyond.far (ByLink (opposite_of d))) ≡ Some (slice_index_or s.inputs (queue_at s.machine beyond.far (ByLink (opposite_of d))) []) →
-          slice_index_or s.inputs (queue_at s.machine beyond.far (ByLink (opposite_of d))) [] ≡ []
-      empty [] e at = e
-      empty (k ∷ rest) e at =
-          let port : Port = ByLink (opposite_of d) in
-          let j : ℕ = queue_at s.machine beyond.far port in
-          let all : All (λ (x : McCopy). x.packet ≡ u.copy.packet) (k ∷ rest) = subst (All (λ (x : McCopy). x.packet ≡ u.copy.packet)) e (u.of_packet j) in
-          let packet = All-head (λ (x : McCopy). x.packet ≡ u.copy.packet) k rest all in
-          let y : Mark = mark k (in_queue beyond.far port) in
-          absurd (beyond.none k packet (among_contains y (marks_of s)
-          (queued_mark s beyond.far port (live_inside s.machine beyond.far beyond.live) k (k ∷ rest) (at ∙ ap Some e) (inl refl))))
 
 -- a core is served, and its vertex takes the copy
 module _ (s : State) (w : List Waiting) (c : Chip) (p : ℕ) (os : List Out) (u : IsServing s w c (Core p ∷ os)) where

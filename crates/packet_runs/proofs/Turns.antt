@@ -1,0 +1,166 @@
+-- What the calls of a packet under way leave, as they follow on each other.
+use Rattle.std.proofs.Common.{◌≡◌, ◌≢◌, ℕ, suc, ◌+◌, ◌<◌, ◌≤◌, set, get_or, drop, refl, sym, ap, ◌∙◌, subst, arith, List, [], ◌∷◌, ◌++◌, length, Option, Some, None}
+use Rattle.std.specs.List.{slice_get, All}
+use Rattle.std.proofs.Math.Seq.{drop-cons}
+use Rattle.std.proofs.lemmas.List.{length-append, get_or-set_same, get_or_default}
+use Rattle.std.proofs.lemmas.Option.{slice_get-get_or, slice_get_within, get_or_from_slice_get}
+use Rattle.spin_base.specs.declared.chips.Chip.{Chip}
+use Rattle.spin_base.specs.declared.chips.Dir.{Dir}
+use Rattle.spin_base.specs.declared.chips.Spot.{Spot}
+use Rattle.spin_base.specs.declared.chips.Port.TheVariants.{Link as ByLink, Local}
+use Rattle.spin_base.specs.declared.routes.Out.{Out}
+use Rattle.spin_base.specs.declared.routes.Out.TheVariants.{Link, Core}
+use Rattle.spin_base.specs.declared.copies.McCopy.{McCopy}
+use Rattle.spin_base.specs.declared.copies.Event.TheVariants.{Inject, Take, Send, Collect}
+use Rattle.spin_base.specs.Links.{opposite_of}
+use Rattle.machine_desc.specs.Description.{Description}
+use Rattle.machine_desc.specs.Live.{far_of, index_of}
+use Rattle.mesh_core.specs.State.{State, vertex_at}
+use Rattle.mesh_core.specs.Step.{after_event}
+use Rattle.packet_runs.specs.declared.draining.Waiting.{Waiting}
+use Rattle.packet_runs.specs.Draining.{IsKept, IsReached, NothingWaits}
+use Rattle.packet_runs.specs.UnderWay.{work, weight_in, outs_in, IsUnderWay, IsServing}
+use Rattle.packet_runs.proofs.Frame.{reached_by, reached_then}
+use Rattle.packet_runs.proofs.Progress.{event_lighter}
+use Rattle.packet_runs.proofs.Packets.{inject_step, inject_unsent, packet_done}
+use Rattle.packet_runs.proofs.Steps.{kept_after, written, set_twice, take_step, beyond, next, send_leads, send_link, sent_vertex, send_meets, send_core, send_link_lighter}
+
+some_same : {X : Type 0} (x y : X) → Some x ≡ Some y → x ≡ y
+some_same x y e = cc
+
+none_some : {X : Type 0} (x : X) → None ≡ Some x → ⊥
+none_some x e = cc
+
+-- ---- a link
+
+module _ (s t : State) (w : List Waiting) (c : Chip) (d : Dir) (m : Description)
+    (is : t ≡ after_event s (Send c (Link d))) (machine : m ≡ t.machine) (stays : t.machine ≡ s.machine) where
+  pub link_there : (rest : List Out) → IsServing s w c (Link d ∷ rest) → None ≡ far_of m c d → ⊥
+  link_there rest u none = none_some (beyond s w c d rest u).far (none ∙ (ap (λ n. far_of n c d) (machine ∙ stays) ∙ send_leads s w c d rest u))
+
+  pub link_served : (w' : List Waiting) (far : Chip) (o : Dir) → Some far ≡ far_of m c d → o ≡ opposite_of d → w' ≡ w ++ record { chip = far; port = ByLink o } ∷ [] →
+      (rest : List Out) → IsServing s w c (Link d ∷ rest) → IsServing t w' c rest
+  link_served w' far o leads opposite more rest u =
+      let b = beyond s w c d rest u in
+      let same_far : far ≡ b.far = some_same far b.far (leads ∙ (ap (λ n. far_of n c d) (machine ∙ stays) ∙ send_leads s w c d rest u)) in
+      let place : Chip → Dir → Waiting = λ e q. record { chip = e; port = ByLink q } in
+      let same : w' ≡ w ++ next s w c d rest u ∷ [] = more ∙ (ap (λ e. w ++ place e o ∷ []) same_far ∙ ap (λ q. w ++ place b.far q ∷ []) opposite) in
+      subst (λ l. IsServing t l c rest) (sym same) (subst (λ x. IsServing x (w ++ next s w c d rest u ∷ []) c rest) (sym is) (send_link s w c d rest u))
+
+  pub link_less : (w' : List Waiting) (a : Waiting) → w' ≡ w ++ a ∷ [] → (rest : List Out) × IsServing s w c (Link d ∷ rest) → work t w' ≤ work s w
+  link_less w' a more u =
+      let lighter = send_link_lighter s w c d u.0 u.1 in
+      let there : weight_in t ≡ weight_in (after_event s (Send c (Link d))) = ap weight_in is in
+      let long : length w' ≡ length w + 1 = ap length more ∙ length-append w (a ∷ []) in
+      omega (arith, lighter, there, long)
+
+-- ---- a core
+
+module _ (s t : State) (c : Chip) (p : ℕ) (spots : List Spot)
+    (is : t ≡ after_event s (Send c (Core p))) (list : spots ≡ t.spots) (stays : t.spots ≡ s.spots) where
+  vertex_here : (w : List Waiting) (rest : List Out) (u : IsServing s w c (Core p ∷ rest)) → vertex_at spots (record { chip = c; core = p }) ≡ Some (sent_vertex s w c p rest u)
+  vertex_here w rest u = ap (λ l. vertex_at l (record { chip = c; core = p })) (list ∙ stays) ∙ send_meets s w c p rest u
+
+  pub core_there : (w : List Waiting) (rest : List Out) → IsServing s w c (Core p ∷ rest) → None ≡ vertex_at spots (record { chip = c; core = p }) → ⊥
+  core_there w rest u none = none_some (sent_vertex s w c p rest u) (none ∙ vertex_here w rest u)
+
+  pub core_served : (v : ℕ) (end : State) → Some v ≡ vertex_at spots (record { chip = c; core = p }) → end ≡ after_event t (Collect v) →
+      (w : List Waiting) (rest : List Out) → IsServing s w c (Core p ∷ rest) → IsServing end w c rest
+  core_served v end meets last w rest u =
+      let same : v ≡ sent_vertex s w c p rest u = some_same v (sent_vertex s w c p rest u) (meets ∙ vertex_here w rest u) in
+      let whole : end ≡ after_event (after_event s (Send c (Core p))) (Collect (sent_vertex s w c p rest u)) =
+      last ∙ (ap (λ x. after_event x (Collect v)) is ∙ ap (λ n. after_event (after_event s (Send c (Core p))) (Collect n)) same)
+      in
+      subst (λ x. IsServing x w c rest) (sym whole) (send_core s w c p rest u)
+
+  pub core_reached : (v : ℕ) (end : State) → end ≡ after_event t (Collect v) → IsReached s end
+  core_reached v end last = reached_then s t end (reached_by s t (Send c (Core p)) tt is) (reached_by t end (Collect v) tt last)
+
+  pub core_lighter : (v : ℕ) (end : State) → IsKept s → end ≡ after_event t (Collect v) → weight_in end ≤ weight_in s
+  core_lighter v end kept last =
+      let first = event_lighter s (Send c (Core p)) kept in
+      let then' = event_lighter (after_event s (Send c (Core p))) (Collect v) (kept_after s (Send c (Core p)) kept) in
+      let whole : weight_in end ≡ weight_in (after_event (after_event s (Send c (Core p))) (Collect v)) = ap weight_in (last ∙ ap (λ x. after_event x (Collect v)) is) in
+      omega (arith, first, then', whole)
+
+-- ---- a packet goes on
+
+pub taken_serving : (s t : State) (w : List Waiting) (a : Waiting) (os items : List Out) → t ≡ after_event s (Take a.chip a.port) → IsUnderWay s (w ++ a ∷ []) →
+    os ≡ outs_in (slice_get t.hands (index_of t.machine a.chip)) → items ≡ os → IsServing t w a.chip items
+taken_serving s t w a os items is u held list =
+    subst (IsServing t w a.chip) (sym (list ∙ held))
+    (subst (λ x. IsServing x w a.chip (outs_in (slice_get x.hands (index_of x.machine a.chip)))) (sym is) (take_step s w a u))
+
+pub taken_less : (s t : State) (w v : List Waiting) (a : Waiting) → t ≡ after_event s (Take a.chip a.port) → IsUnderWay s (v ++ a ∷ []) → work t w ≤ work s w
+taken_less s t w v a is u =
+    let lighter = event_lighter s (Take a.chip a.port) u.kept in
+    let there : weight_in t ≡ weight_in (after_event s (Take a.chip a.port)) = ap weight_in is in
+    omega (arith, lighter, there)
+
+pub outs_left : (os : List Out) (i : ℕ) (d : Out) → i < length os → drop i os ≡ get_or os i d ∷ drop (i + 1) os
+outs_left os i d below =
+    let one : suc i ≡ i + 1 = omega arith in
+    drop-cons os i d below ∙ ap (λ n. get_or os i d ∷ drop n os) one
+
+-- ---- a packet begins
+
+has_first : (q : List McCopy) → q ≢ [] → (k : McCopy) × (rest : List McCopy) × (q ≡ k ∷ rest)
+has_first [] some = absurd (some refl)
+has_first (k ∷ rest) some = (k, rest, refl)
+
+pub begins : (s t : State) (v : ℕ) (w items : List Waiting) (spots : List Spot) (d : Spot) → IsKept s → NothingWaits s → v < length s.spots → slice_get s.unsent v ≢ Some [] →
+    t ≡ after_event s (Inject v) → spots ≡ s.spots → w ≡ [] → items ≡ w ++ record { chip = (get_or spots v d).chip; port = Local } ∷ [] → IsUnderWay t items
+begins s t v w items spots d kept quiet below some is list none more =
+    let spot : Spot = get_or s.spots v d in
+    let stands : slice_get s.spots v ≡ Some spot = slice_get-get_or s.spots v d below in
+    let long = kept.mesh.unsent_lists in
+    let there = slice_get-get_or s.unsent v [] (omega (arith, below, long)) in
+    let first = has_first (get_or s.unsent v []) (λ empty. some (there ∙ ap Some empty)) in
+    let at : List Spot → Waiting = λ l. record { chip = (get_or l v d).chip; port = Local } in
+    let same : items ≡ at s.spots ∷ [] = more ∙ (ap (λ l. l ++ at spots ∷ []) none ∙ ap (λ l. at l ∷ []) list) in
+    subst (IsUnderWay t) (sym same)
+    (subst (λ x. IsUnderWay x (at s.spots ∷ [])) (sym is) (inject_step s kept quiet v spot first.0 first.1 stands (there ∙ ap Some first.2)))
+
+pub begins_unsent : (s t : State) (v : ℕ) → IsKept s → NothingWaits s → v < length s.spots → t ≡ after_event s (Inject v) →
+    (k : McCopy) (rest : List McCopy) → slice_get s.unsent v ≡ Some (k ∷ rest) → t.unsent ≡ set s.unsent v rest
+begins_unsent s t v kept quiet below is k rest first =
+    let d : Spot = record { chip = record { x = 0; y = 0 }; core = 0 } in
+    ap (λ (x : State). x.unsent) is ∙ inject_unsent s kept quiet v (get_or s.spots v d) k rest (slice_get-get_or s.spots v d below) first
+
+pub ends_quiet : (s : State) (w : List Waiting) → IsUnderWay s w → w ≡ [] → NothingWaits s
+ends_quiet s w u none = packet_done s (subst (IsUnderWay s) none u)
+
+-- ---- a vertex sends all
+
+pub one_less : (before now after : List (List McCopy)) (v : ℕ) (q items : List McCopy) → now ≡ set before v q → slice_get now v ≡ Some items → items ≢ [] →
+    ((k : McCopy) (rest : List McCopy) → slice_get now v ≡ Some (k ∷ rest) → after ≡ set now v rest) →
+    ((r : List McCopy) × (after ≡ set before v r)) × (length (get_or after v []) < length (get_or now v []))
+one_less before now after v q items is there some next' =
+    let first = has_first items some in
+    let full : slice_get now v ≡ Some (first.0 ∷ first.1) = there ∙ ap Some first.2 in
+    let then' = next' first.0 first.1 full in
+    let within = slice_get_within now v (first.0 ∷ first.1) full in
+    let new : length (get_or after v []) ≡ length first.1 = ap (λ l. length (get_or l v [])) then' ∙ ap length (get_or-set_same now v first.1 [] within) in
+    let old : length (get_or now v []) ≡ suc (length first.1) = ap length (get_or_from_slice_get now v (first.0 ∷ first.1) [] full) in
+    ((first.1, then' ∙ (ap (λ l. set l v first.1) is ∙ set_twice before v q first.1)), omega (arith, new, old))
+
+pub all_sent_there : (before now : List (List McCopy)) (v : ℕ) (q items : List McCopy) → v < length before → now ≡ set before v q → slice_get now v ≡ Some items → items ≡ [] → now ≡ set before v []
+all_sent_there before now v q items below is there none =
+    let here : get_or now v [] ≡ items = get_or_from_slice_get now v items [] there in
+    let written' : get_or now v [] ≡ q = ap (λ l. get_or l v []) is ∙ get_or-set_same before v q [] below in
+    is ∙ ap (set before v) (sym written' ∙ (here ∙ none))
+
+-- ---- all vertices
+
+pub one_vertex_more : (now after : List (List McCopy)) (v : ℕ) → v < length now → after ≡ set now v [] → ((i : ℕ) → i < v → get_or now i [] ≡ []) →
+    (i : ℕ) → i < v + 1 → get_or after i [] ≡ []
+one_vertex_more now after v within is before i below =
+    ap (λ l. get_or l i []) is ∙ written (λ q. q ≡ []) now v i [] within (λ same. refl) (λ other. before i (less other))
+  where
+    less : v ≢ i → i < v
+    less other = omega (arith, below, other)
+
+pub all_vertices : (s : State) (n : ℕ) → IsKept s → length s.spots ≤ n → ((i : ℕ) → i < n → get_or s.unsent i [] ≡ []) → All (λ (q : List McCopy). q ≡ []) s.unsent
+all_vertices s n kept all before = λ i d below.
+    let long = kept.mesh.unsent_lists in
+    get_or_default s.unsent i d [] below ∙ before i (omega (arith, below, long, all))

@@ -1,0 +1,20 @@
+use Rattle.std.proofs.Common.{◌∙◌}
+use Rattle.spin_base.specs.declared.copies.Event.TheVariants.{Inject}
+use Rattle.packet_runs.proofs.Frame.{reached_by, reached_then}
+use Rattle.packet_runs.proofs.Turns.{begins, begins_unsent, ends_quiet}
+use Rattle.packet_runs.proofs.draining.send_packet.Goals as goal
+
+pub loop-next-init : goal.loop-next-init
+loop-next-init c = record {
+  reached = reached_by c.args.mesh.now c.step.new.self (Inject c.args.vertex) tt c.in_ok-step.ensures.moves;
+  under_way = begins c.args.mesh.now c.step.new.self c.args.vertex c.args.waiting.now.items c.push.new.self.items c.spots.result.now _
+      c.requires.kept c.requires.quiet c.requires.exists c.requires.some c.in_ok-step.ensures.moves c.spots.ensures c.requires.none c.in_ok-push.ensures.items;
+  unsent = begins_unsent c.args.mesh.now c.step.new.self c.args.vertex c.requires.kept c.requires.quiet c.requires.exists c.in_ok-step.ensures.moves;
+}
+
+pub loop-next-preserved : goal.loop-next-preserved
+loop-next-preserved c = record {
+  reached = reached_then c.args.mesh.now c.loop-next.mesh c.go_on.new.mesh c.loop-next.invariant.reached c.in_ok-go_on.ensures.reached;
+  under_way = c.in_ok-go_on.ensures.under_way;
+  unsent = λ copy rest first. c.in_ok-go_on.ensures.unsent ∙ c.loop-next.invariant.unsent copy rest first;
+}
