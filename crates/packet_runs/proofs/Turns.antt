@@ -1,8 +1,8 @@
 -- What the calls of a packet under way leave, as they follow on each other.
-use Rattle.std.proofs.Common.{◌≡◌, ◌≢◌, ℕ, suc, ◌+◌, ◌<◌, ◌≤◌, set, get_or, drop, refl, sym, ap, ◌∙◌, subst, arith, List, [], ◌∷◌, ◌++◌, length, Option, Some, None}
+use Rattle.std.proofs.Common.{◌≡◌, ◌≢◌, ◌==◌, true, false, ℕ, suc, ◌+◌, ◌<◌, ◌≤◌, set, get_or, drop, refl, sym, ap, ◌∙◌, subst, arith, List, [], ◌∷◌, ◌++◌, length, Option, Some, None}
 use Rattle.std.specs.List.{slice_get, All}
 use Rattle.std.proofs.Math.Seq.{drop-cons}
-use Rattle.std.proofs.lemmas.List.{length-append, get_or-set_same, get_or_default}
+use Rattle.std.proofs.lemmas.List.{length-append, get_or-set_same, get_or_default, set-get_or}
 use Rattle.std.proofs.lemmas.Option.{slice_get-get_or, slice_get_within, get_or_from_slice_get}
 use Rattle.spin_base.specs.declared.chips.Chip.{Chip}
 use Rattle.spin_base.specs.declared.chips.Dir.{Dir}
@@ -13,14 +13,15 @@ use Rattle.spin_base.specs.declared.routes.Out.TheVariants.{Link, Core}
 use Rattle.spin_base.specs.declared.copies.McCopy.{McCopy}
 use Rattle.spin_base.specs.declared.copies.Event.TheVariants.{Inject, Take, Send, Collect}
 use Rattle.spin_base.specs.Links.{opposite_of}
+use Rattle.spin_base.proofs.Equality.{nat_eq_true}
 use Rattle.machine_desc.specs.Description.{Description}
 use Rattle.machine_desc.specs.Live.{far_of, index_of}
 use Rattle.mesh_core.specs.State.{State, vertex_at}
 use Rattle.mesh_core.specs.Step.{after_event}
 use Rattle.packet_runs.specs.declared.draining.Waiting.{Waiting}
-use Rattle.packet_runs.specs.Draining.{IsKept, IsReached, NothingWaits}
+use Rattle.packet_runs.specs.Draining.{IsKept, IsReached, NothingWaits, HasDrained}
 use Rattle.packet_runs.specs.UnderWay.{work, weight_in, outs_in, IsUnderWay, IsServing}
-use Rattle.packet_runs.proofs.Frame.{reached_by, reached_then}
+use Rattle.packet_runs.proofs.Frame.{reached_by, reached_then, spots_reached, kept_reached, dumped_reached}
 use Rattle.packet_runs.proofs.Progress.{event_lighter}
 use Rattle.packet_runs.proofs.Packets.{inject_step, inject_unsent, packet_done}
 use Rattle.packet_runs.proofs.Steps.{kept_after, written, set_twice, take_step, beyond, next, send_leads, send_link, sent_vertex, send_meets, send_core, send_link_lighter}
@@ -164,3 +165,39 @@ pub all_vertices : (s : State) (n : ℕ) → IsKept s → length s.spots ≤ n �
 all_vertices s n kept all before = λ i d below.
     let long = kept.mesh.unsent_lists in
     get_or_default s.unsent i d [] below ∙ before i (omega (arith, below, long, all))
+
+-- one place less waits, and no more is to be done
+pub popped_smaller : (s t : State) (w left after : List Waiting) (a : Waiting) → w ≡ left ++ a ∷ [] → work t after ≤ work s left → work t after < work s w
+popped_smaller s t w left after a popped less =
+    let long : length w ≡ length left + 1 = ap length popped ∙ length-append left (a ∷ []) in
+    omega (arith, long, less)
+
+pub is_none : (q : List McCopy) → true ≡ (length q == 0) → q ≡ []
+is_none [] e = refl
+is_none (k ∷ q) e = let none = nat_eq_true (length (k ∷ q)) 0 (sym e) in absurd (omega (arith, none))
+
+pub is_some' : (q : List McCopy) → false ≡ (length q == 0) → q ≢ []
+is_some' [] e = cc
+is_some' (k ∷ q) e = λ same. cc
+
+pub as_before : (s : State) (v : ℕ) → (left : List McCopy) × (s.unsent ≡ set s.unsent v left)
+as_before s v = (get_or s.unsent v [], sym (set-get_or s.unsent v []))
+
+pub there_still : (s t : State) (v : ℕ) → IsReached s t → v < length s.spots → v < length t.spots
+there_still s t v reached below = subst (λ (l : List Spot). v < length l) (sym (spots_reached s t reached)) below
+
+pub was_there : (s : State) (v : ℕ) → IsKept s → v < length s.spots → v < length s.unsent
+was_there s v kept below = let long = kept.mesh.unsent_lists in omega (arith, below, long)
+
+-- all is sent, and nothing waits
+pub drained : (s t : State) (n : ℕ) → IsKept s → IsReached s t → NothingWaits t → length s.spots ≤ n → ((i : ℕ) → i < n → get_or t.unsent i [] ≡ []) → HasDrained s t
+drained s t n kept reached quiet all before = record {
+  reached = reached;
+  at_rest = record {
+    all_sent = all_vertices t n (kept_reached s t kept reached) (subst (λ (l : List Spot). length l ≤ n) (sym (spots_reached s t reached)) all) before;
+    inputs_empty = quiet.inputs_empty;
+    hands_empty = quiet.hands_empty;
+    cores_empty = quiet.cores_empty;
+  };
+  no_record = dumped_reached s t reached;
+}

@@ -1,7 +1,7 @@
-use Rattle.std.proofs.Common.{◌∙◌}
+use Rattle.std.proofs.Common.{◌∙◌, rules}
 use Rattle.spin_base.specs.declared.copies.Event.TheVariants.{Inject}
 use Rattle.packet_runs.proofs.Frame.{reached_by, reached_then}
-use Rattle.packet_runs.proofs.Turns.{begins, begins_unsent, ends_quiet}
+use Rattle.packet_runs.proofs.Turns.{begins, begins_unsent, ends_quiet, popped_smaller}
 use Rattle.packet_runs.proofs.draining.send_packet.Goals as goal
 
 pub loop-next-init : goal.loop-next-init
@@ -18,3 +18,9 @@ loop-next-preserved c = record {
   under_way = c.in_ok-go_on.ensures.under_way;
   unsent = λ copy rest first. c.in_ok-go_on.ensures.unsent ∙ c.loop-next.invariant.unsent copy rest first;
 }
+
+pub loop-next-smaller : goal.loop-next-smaller
+loop-next-smaller c = popped_smaller c.loop-next.mesh c.go_on.new.mesh c.loop-next.waiting.items c.pop.new.self.items c.go_on.new.waiting.items c.in-Some.next c.in-Some.ensures.items c.in_ok-go_on.ensures.less
+
+pub returns-clause-quiet : goal.returns-clause-quiet
+returns-clause-quiet c = ends_quiet c.loop-next.mesh c.loop-next.waiting.items c.loop-next.invariant.under_way (search rules)
