@@ -1,3 +1,4 @@
+pub mod AskedPackets
 pub mod Changes
 pub mod DeliveredLaw
 pub mod Events

@@ -103,8 +103,8 @@ fn copy(packet: u32, hop: u32) -> McCopy
 
 /// How many of the events move something.
 fn moved(mesh: &mut Mesh, events: &[Event]) -> Result<u32, &'static str>
-    ensures machine { mesh.new.machine ≡ mesh.old.machine }
-    ensures vertices { mesh.new.spots ≡ mesh.old.spots }
+    ensures machine { mesh.new.setup.machine ≡ mesh.old.setup.machine }
+    ensures vertices { mesh.new.setup.spots ≡ mesh.old.setup.spots }
 {
     let mut count: u32 = 0;
     for e in events {
@@ -118,8 +118,8 @@ fn moved(mesh: &mut Mesh, events: &[Event]) -> Result<u32, &'static str>
 /// The first copy at a port of a chip of the row.
 #[tactic(auto, using(machine_desc::proofs::Far::inside_from))]
 fn waiting(mesh: &Mesh, x: u8, port: Port) -> Option<McCopy>
-    requires in_row { x < mesh.now.machine.width }
-    requires row { mesh.now.machine.height ≡ 1 }
+    requires in_row { x < mesh.now.setup.machine.width }
+    requires row { mesh.now.setup.machine.height ≡ 1 }
 {
     mesh.queue(Chip { x, y: 0 }, port).first().copied()
 }
@@ -127,8 +127,8 @@ fn waiting(mesh: &Mesh, x: u8, port: Port) -> Option<McCopy>
 /// The outputs that a chip of the row still has to serve.
 #[tactic(auto, using(machine_desc::proofs::Far::inside_from))]
 fn to_serve(mesh: &Mesh, x: u8) -> &[Out]
-    requires in_row { x < mesh.now.machine.width }
-    requires row { mesh.now.machine.height ≡ 1 }
+    requires in_row { x < mesh.now.setup.machine.width }
+    requires row { mesh.now.setup.machine.height ≡ 1 }
 {
     match mesh.hand(Chip { x, y: 0 }) {
         Some(hand) => hand.outs.as_slice(),
@@ -138,9 +138,9 @@ fn to_serve(mesh: &Mesh, x: u8) -> &[Out]
 
 /// Vertex 0 has one more packet to send.
 fn put(mesh: &mut Mesh, packet: u32) -> Result<(), &'static str>
-    requires { length mesh.old.spots ≡ 2 }
-    ensures machine { mesh.new.machine ≡ mesh.old.machine }
-    ensures vertices { mesh.new.spots ≡ mesh.old.spots }
+    requires { length mesh.old.setup.spots ≡ 2 }
+    ensures machine { mesh.new.setup.machine ≡ mesh.old.setup.machine }
+    ensures vertices { mesh.new.setup.spots ≡ mesh.old.setup.spots }
 {
     mesh.add(0, copy(packet, 0)).map_err(|_| "memory")
 }

@@ -3,4 +3,4 @@ use Rattle.std.proofs.Common.{◌≡◌}
 use Rattle.mesh_core.proofs.tests.moved.Given as goal
 
 abbrev pub invariant-loop-e : goal.invariant-loop-e
-invariant-loop-e l = (l.mesh.machine ≡ l.fn.mesh.machine) × (l.mesh.spots ≡ l.fn.mesh.spots)
+invariant-loop-e l = (l.mesh.setup.machine ≡ l.fn.mesh.setup.machine) × (l.mesh.setup.spots ≡ l.fn.mesh.setup.spots)

@@ -16,7 +16,7 @@ returns-then-has_packet c =
     let v = c.in_ok-vertex.vertex in
     let s : State = c.args.self.now in
     let q : List McCopy = c.index.result.now in
-    let is_vertex : vertex_at s.spots c.args.spot ≡ Some v = sym c.vertex_on.ensures ∙ c.in_ok-vertex.was in
+    let is_vertex : vertex_at s.setup.spots c.args.spot ≡ Some v = sym c.vertex_on.ensures ∙ c.in_ok-vertex.was in
     let mesh : IsMesh s = subst IsMesh c.self.view_is c.self.invariant.mesh in
     let there : q ≡ slice_index_or s.cores v q = c.index.ensures ∙ ap (λ (t : State). slice_index_or t.cores v q) c.self.view_is in
     core_has s c.args.packet c.args.spot v c.as_slice.result.now is_vertex
@@ -28,7 +28,7 @@ returns c =
     let v = c.in_ok-vertex.vertex in
     let s : State = c.args.self.now in
     let q : List McCopy = c.index.result.now in
-    let is_vertex : vertex_at s.spots c.args.spot ≡ Some v = sym c.vertex_on.ensures ∙ c.in_ok-vertex.was in
+    let is_vertex : vertex_at s.setup.spots c.args.spot ≡ Some v = sym c.vertex_on.ensures ∙ c.in_ok-vertex.was in
     let mesh : IsMesh s = subst IsMesh c.self.view_is c.self.invariant.mesh in
     let there : q ≡ slice_index_or s.cores v q = c.index.ensures ∙ ap (λ (t : State). slice_index_or t.cores v q) c.self.view_is in
     core_lacks s c.args.packet c.args.spot v c.as_slice.result.now is_vertex

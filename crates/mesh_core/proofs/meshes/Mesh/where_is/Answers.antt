@@ -46,38 +46,38 @@ returns-in-Some-at_port c =
 pub returns-in_default-before : goal.returns-in_default-before
 returns-in_default-before c =
     let s : State = c.args.self.now in
-    let machine : c.self.inside.machine ≡ s.machine = ap (λ (t : State). t.machine) c.self.view_is in
+    let machine : c.self.inside.setup.machine ≡ s.setup.machine = ap (λ (t : State). t.setup.machine) c.self.view_is in
     let none_before : c.edge_into-before.result ≡ None = c.in_default-before.is in
     let port : c.port_behind.result ≡ port_behind None = c.port_behind.ensures ∙ ap port_behind none_before in
     walk_ends s c.args.net.now c.args.packet c.requires.tracked c.args.target c.requires.is_target
     c.loop.counter c.loop.chip c.loop.out c.loop.invariant c.in_default-at_output.ensures
     (subst (λ (m : Description). IsEdgeInto m c.args.net.now.tree.edges c.loop.chip None) machine
-    (subst (λ (edges : List Edge). IsEdgeInto c.self.inside.machine edges c.loop.chip None) c.as_slice.ensures c.in_default-before.ensures))
+    (subst (λ (edges : List Edge). IsEdgeInto c.self.inside.setup.machine edges c.loop.chip None) c.as_slice.ensures c.in_default-before.ensures))
     (subst (λ (p : Port). IsFound s c.args.packet (IsOfPort c.loop.chip p) None) port c.in_default-at_port.ensures)
 
 pub loop-preserved : goal.loop-preserved
 loop-preserved c =
     let s : State = c.args.self.now in
-    let machine : c.self.inside.machine ≡ s.machine = ap (λ (t : State). t.machine) c.self.view_is in
+    let machine : c.self.inside.setup.machine ≡ s.setup.machine = ap (λ (t : State). t.setup.machine) c.self.view_is in
     let e : Edge = c.in-Some-before.edge in
     let before : c.edge_into-before.result ≡ Some e = c.in-Some-before.is in
     let port : c.port_behind.result ≡ port_behind (Some e) = c.port_behind.ensures ∙ ap port_behind before in
     walk_goes_on s c.args.net.now c.args.packet c.requires.tracked c.args.target c.requires.is_target
     c.loop.counter c.loop.chip c.loop.out c.loop.invariant c.in_default-at_output.ensures e
     (subst (λ (m : Description). IsEdgeInto m c.args.net.now.tree.edges c.loop.chip (Some e)) machine
-    (subst (λ (edges : List Edge). IsEdgeInto c.self.inside.machine edges c.loop.chip (Some e)) c.as_slice.ensures c.in-Some-before.ensures))
+    (subst (λ (edges : List Edge). IsEdgeInto c.self.inside.setup.machine edges c.loop.chip (Some e)) c.as_slice.ensures c.in-Some-before.ensures))
     (subst (λ (p : Port). IsFound s c.args.packet (IsOfPort c.loop.chip p) None) port c.in_default-at_port.ensures)
 
 pub unreachable-requires : goal.unreachable-requires
 unreachable-requires c =
     let s : State = c.args.self.now in
-    let m : Description = c.self.inside.machine in
-    let machine : m ≡ s.machine = ap (λ (t : State). t.machine) c.self.view_is in
+    let m : Description = c.self.inside.setup.machine in
+    let machine : m ≡ s.setup.machine = ap (λ (t : State). t.setup.machine) c.self.view_is in
     let size : c.from.result * c.from-2.result ≡ m.width * m.height =
     ap (λ (n : ℕ). n * c.from-2.result) (c.from.ensures ∙ c.width.ensures.value)
     ∙ ap (λ (n : ℕ). m.width * n) (c.from-2.ensures ∙ c.height.ensures.value)
     in
-    let all : c.from.result * c.from-2.result ≡ s.machine.width * s.machine.height = size ∙ ap (λ (d : Description). d.width * d.height) machine in
-    let many : s.machine.width * s.machine.height ≤ c.loop.counter = subst (λ (n : ℕ). n ≤ c.loop.counter) all c.loop-test.false in
+    let all : c.from.result * c.from-2.result ≡ s.setup.machine.width * s.setup.machine.height = size ∙ ap (λ (d : Description). d.width * d.height) machine in
+    let many : s.setup.machine.width * s.setup.machine.height ≤ c.loop.counter = subst (λ (n : ℕ). n ≤ c.loop.counter) all c.loop-test.false in
     walk_short s c.args.net.now c.args.packet c.requires.tracked c.args.target c.requires.is_target
     c.loop.counter c.loop.chip c.loop.out c.loop.invariant many

@@ -1,6 +1,6 @@
 use Rattle.std.proofs.Common.{◌≡◌, ◌*◌, length, take}
 use Rattle.plain_tables.specs.Marks.{TellsRoutes, IsClearOff}
-use Rattle.plain_tables.proofs.marks.set_cores.Given as goal
+use Rattle.plain_tables.proofs.marks.set_targets.Given as goal
 
 -- the routes tell of all edges, and of the targets that were read
 abbrev pub invariant-loop-target : goal.invariant-loop-target
