@@ -18,7 +18,7 @@ use Rattle.spin_base.specs.Lookup.{lookup}
 use Rattle.spin_base.specs.Outputs.{has, outs_of, all_outs, link_outs, core_outs}
 use Rattle.net_tables.specs.RightTables.{table_at}
 use Rattle.mesh_core.specs.State.{State}
-use Rattle.mesh_core.specs.Step.{last_hop, onward, outputs, stepped, after_event}
+use Rattle.mesh_core.specs.Step.{last_hop, onward, outputs, step_of, after_event}
 use Rattle.mesh_core.specs.Trail.{Station, unsent, in_queue, in_hand, at_core, delivered, dumped, Mark, is_on_trail}
 use Rattle.mesh_core.specs.Ledger.{marks_of}
 use Rattle.mesh_core.proofs.Events.{event_exchange}
@@ -56,8 +56,8 @@ few_outs r =
     let all = all_few in
     omega (arith, counted, within, all)
 
-few_outputs : (s : State) (c : Chip) (port : Port) (k : McCopy) → length (outputs s c port k) ≤ 24
-few_outputs s c port k = by_last (k.hop == last_hop) (outs_of (lookup (table_at s.machine s.tables c) k.key port)) (few_outs (lookup (table_at s.machine s.tables c) k.key port))
+few_outputs : (s : State) (c : Chip) (port : Port) (k : McCopy) → length (outputs s.setup c port k) ≤ 24
+few_outputs s c port k = by_last (k.hop == last_hop) (outs_of (lookup (table_at s.setup.machine s.setup.tables c) k.key port)) (few_outs (lookup (table_at s.setup.machine s.setup.tables c) k.key port))
   where
     by_last : (b : Bool) (os : List Out) → length os ≤ 24 → length (if b then [] else os) ≤ 24
     by_last true os few = omega arith
@@ -70,20 +70,20 @@ few_come s x come move = by_station x.copy x.station move
     one z is = let long : length come ≡ 1 = ap length is in omega (arith, long)
 
     crossing : (k : McCopy) (c : Chip) (o : Out) → Crosses s k c o come → length come ≤ 24
-    crossing k c (Link d) cross = one _ cross.3
-    crossing k c (Core p) cross = one _ cross.2
+    crossing k c o (inl (d, e, out, live, far, is)) = one _ is
+    crossing k c o (inr (v, dead, vertex, is)) = one _ is
 
     by_station : (k : McCopy) (at : Station) → IsMoveOf s k at come → length come ≤ 24
     by_station k (unsent v) m = one _ m.2
     by_station k (in_queue c port) m =
-        let long : length come ≡ length (outputs s c port k) = ap length m ∙ length-map (outputs s c port k) (λ o. mark k (in_hand c o)) in
+        let long : length come ≡ length (outputs s.setup c port k) = ap length m ∙ length-map (outputs s.setup c port k) (λ o. mark k (in_hand c o)) in
         let few = few_outputs s c port k in
         omega (arith, long, few)
     by_station k (in_hand c o) (inl m) = one _ m
     by_station k (in_hand c o) (inr m) = crossing k c o m
     by_station k (at_core v) m = one _ m
     by_station k (delivered v) m = absurd m
-    by_station k (dumped c o) m = absurd m
+    by_station k (dumped c o) m = crossing k c o m
 
 -- ---- weights
 
@@ -114,7 +114,7 @@ HasNext k (unsent v) = Unit {0}
 HasNext k (in_queue c port) = Unit {0}
 HasNext k (at_core v) = Unit {0}
 HasNext k (delivered v) = Unit {0}
-HasNext k (dumped c o) = Unit {0}
+HasNext k (dumped c o) = k.hop < last_hop
 
 has_next : (s : State) (kept : IsKept s) (x : Mark) → IsRight s s kept.nets kept.labels kept.mesh kept.right kept.ledger x → HasNext x.copy x.station
 unfolding HasNext
@@ -131,7 +131,9 @@ has_next s kept x r = by_station x.copy x.station r.trail.on
     by_station k (in_queue c port) on = tt
     by_station k (at_core v) on = tt
     by_station k (delivered v) on = tt
-    by_station k (dumped c o) on = tt
+    by_station k (dumped c o) on =
+        let below = place_below r.trail.branch k.hop (record { chip = c; out = o }) (leaves_parts r.trail.branch k.hop c o on) in
+        omega (arith, below, short)
 
 -- each mark that comes is further on than the one that leaves
 move_advances : (s : State) (x : Mark) (come : List Mark) → HasNext x.copy x.station → IsMove s x come → (y : Mark) → Among y come → advance x < advance y
@@ -144,12 +146,12 @@ move_advances s x come next move y is_come = by_station x.copy x.station next mo
     one : (k : McCopy) (at : Station) (z : Mark) → come ≡ z ∷ [] → 4 * k.hop + stage at < 4 * z.copy.hop + stage z.station → 4 * k.hop + stage at < 4 * y.copy.hop + stage y.station
     one k at z is more = subst (λ (u : Mark). 4 * k.hop + stage at < 4 * u.copy.hop + stage u.station) (sym (only z is)) more
 
-    further : (n : ℕ) → n < last_hop → 4 * n + 2 < 4 * min (n + 1) last_hop + 1
-    further n below = omega (arith, below)
+    further : (n i : ℕ) → i ≤ 3 → n < last_hop → 4 * n + i < 4 * min (n + 1) last_hop + 1
+    further n i low below = omega (arith, low, below)
 
-    crossing : (k : McCopy) (c : Chip) (o : Out) → k.hop < last_hop → Crosses s k c o come → 4 * k.hop + 2 < 4 * y.copy.hop + stage y.station
-    crossing k c (Link d) below cross = one k (in_hand c (Link d)) (mark (onward k) (in_queue cross.0 (ByLink (opposite_of d)))) cross.3 (further k.hop below)
-    crossing k c (Core p) below cross = one k (in_hand c (Core p)) (mark (onward k) (at_core cross.0)) cross.2 (further k.hop below)
+    crossing : (k : McCopy) (c : Chip) (o : Out) (at : Station) → stage at ≤ 3 → k.hop < last_hop → Crosses s k c o come → 4 * k.hop + stage at < 4 * y.copy.hop + stage y.station
+    crossing k c o at low below (inl (d, e, out, live, far, is)) = one k at (mark (onward k) (in_queue e (ByLink (opposite_of d)))) is (further k.hop (stage at) low below)
+    crossing k c o at low below (inr (v, dead, vertex, is)) = one k at (mark (onward k) (at_core v)) is (further k.hop (stage at) low below)
 
     taking : (k : McCopy) (c : Chip) (port : Port) (os : List Out) → Among y (map (λ o. mark k (in_hand c o)) os) → 4 * k.hop + 1 < 4 * y.copy.hop + stage y.station
     taking k c port [] a = absurd a
@@ -158,12 +160,12 @@ move_advances s x come next move y is_come = by_station x.copy x.station next mo
 
     by_station : (k : McCopy) (at : Station) → HasNext k at → IsMoveOf s k at come → 4 * k.hop + stage at < 4 * y.copy.hop + stage y.station
     by_station k (unsent v) next' m = one k (unsent v) (mark k (in_queue m.0.chip Local)) m.2 (omega arith)
-    by_station k (in_queue c port) next' m = taking k c port (outputs s c port k) (subst (λ (l : List Mark). Among y l) m is_come)
+    by_station k (in_queue c port) next' m = taking k c port (outputs s.setup c port k) (subst (λ (l : List Mark). Among y l) m is_come)
     by_station k (in_hand c o) next' (inl m) = one k (in_hand c o) (mark k (dumped c o)) m (omega arith)
-    by_station k (in_hand c o) next' (inr m) = crossing k c o next' m
+    by_station k (in_hand c o) next' (inr m) = crossing k c o (in_hand c o) (omega arith) next' m
     by_station k (at_core v) next' m = one k (at_core v) (mark k (delivered v)) m (omega arith)
     by_station k (delivered v) next' m = absurd m
-    by_station k (dumped c o) next' m = absurd m
+    by_station k (dumped c o) next' m = crossing k c o (dumped c o) (omega arith) next' m
 
 -- what comes is lighter than what leaves
 come_lighter : (s : State) (x : Mark) (come : List Mark) → x.copy.hop ≤ last_hop → HasNext x.copy x.station → IsMove s x come → sum_by weight_of come < weight_of x
@@ -189,7 +191,7 @@ come_lighter s x come small next move = by_bound (4 * last_hop + 4) (advance_bel
 -- ---- events
 
 -- an event that is enabled makes the marks lighter
-pub moved_lighter : (s t : State) (e : Event) → IsKept s → stepped s e ≡ Some t → weight_in t < weight_in s
+pub moved_lighter : (s t : State) (e : Event) → IsKept s → step_of s e ≡ Some t → weight_in t < weight_in s
 unfolding weight_in
 moved_lighter s t e kept is =
     let x = event_exchange s kept.mesh e t is in
@@ -221,8 +223,8 @@ moved_lighter s t e kept is =
 
 -- an event never makes them heavier
 pub event_lighter : (s : State) (e : Event) → IsKept s → weight_in (after_event s e) ≤ weight_in s
-event_lighter s e kept = by_answer (stepped s e) refl
+event_lighter s e kept = by_answer (step_of s e) refl
   where
-    by_answer : (t : Option State) → stepped s e ≡ t → weight_in (unwrap_or t s) ≤ weight_in s
+    by_answer : (t : Option State) → step_of s e ≡ t → weight_in (unwrap_or t s) ≤ weight_in s
     by_answer None is = omega arith
     by_answer (Some t) is = let less = moved_lighter s t e kept is in omega (arith, less)

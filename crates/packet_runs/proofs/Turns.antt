@@ -19,7 +19,8 @@ use Rattle.machine_desc.specs.Live.{far_of, index_of}
 use Rattle.mesh_core.specs.State.{State, vertex_at}
 use Rattle.mesh_core.specs.Step.{after_event}
 use Rattle.packet_runs.specs.declared.draining.Waiting.{Waiting}
-use Rattle.packet_runs.specs.Draining.{IsKept, IsReached, NothingWaits, HasDrained}
+use Rattle.packet_runs.specs.Draining.{IsKept, IsReached, HasDrained}
+use Rattle.mesh_core.specs.Expected.{NothingWaits}
 use Rattle.packet_runs.specs.UnderWay.{work, weight_in, outs_in, IsUnderWay, IsServing}
 use Rattle.packet_runs.proofs.Frame.{reached_by, reached_then, spots_reached, kept_reached, dumped_reached}
 use Rattle.packet_runs.proofs.Progress.{event_lighter}
@@ -35,7 +36,7 @@ none_some x e = cc
 -- ---- a link
 
 module _ (s t : State) (w : List Waiting) (c : Chip) (d : Dir) (m : Description)
-    (is : t ≡ after_event s (Send c (Link d))) (machine : m ≡ t.machine) (stays : t.machine ≡ s.machine) where
+    (is : t ≡ after_event s (Send c (Link d))) (machine : m ≡ t.setup.machine) (stays : t.setup.machine ≡ s.setup.machine) where
   pub link_there : (rest : List Out) → IsServing s w c (Link d ∷ rest) → None ≡ far_of m c d → ⊥
   link_there rest u none = none_some (beyond s w c d rest u).far (none ∙ (ap (λ n. far_of n c d) (machine ∙ stays) ∙ send_leads s w c d rest u))
 
@@ -58,7 +59,7 @@ module _ (s t : State) (w : List Waiting) (c : Chip) (d : Dir) (m : Description)
 -- ---- a core
 
 module _ (s t : State) (c : Chip) (p : ℕ) (spots : List Spot)
-    (is : t ≡ after_event s (Send c (Core p))) (list : spots ≡ t.spots) (stays : t.spots ≡ s.spots) where
+    (is : t ≡ after_event s (Send c (Core p))) (list : spots ≡ t.setup.spots) (stays : t.setup.spots ≡ s.setup.spots) where
   vertex_here : (w : List Waiting) (rest : List Out) (u : IsServing s w c (Core p ∷ rest)) → vertex_at spots (record { chip = c; core = p }) ≡ Some (sent_vertex s w c p rest u)
   vertex_here w rest u = ap (λ l. vertex_at l (record { chip = c; core = p })) (list ∙ stays) ∙ send_meets s w c p rest u
 
@@ -87,10 +88,10 @@ module _ (s t : State) (c : Chip) (p : ℕ) (spots : List Spot)
 -- ---- a packet goes on
 
 pub taken_serving : (s t : State) (w : List Waiting) (a : Waiting) (os items : List Out) → t ≡ after_event s (Take a.chip a.port) → IsUnderWay s (w ++ a ∷ []) →
-    os ≡ outs_in (slice_get t.hands (index_of t.machine a.chip)) → items ≡ os → IsServing t w a.chip items
+    os ≡ outs_in (slice_get t.hands (index_of t.setup.machine a.chip)) → items ≡ os → IsServing t w a.chip items
 taken_serving s t w a os items is u held list =
     subst (IsServing t w a.chip) (sym (list ∙ held))
-    (subst (λ x. IsServing x w a.chip (outs_in (slice_get x.hands (index_of x.machine a.chip)))) (sym is) (take_step s w a u))
+    (subst (λ x. IsServing x w a.chip (outs_in (slice_get x.hands (index_of x.setup.machine a.chip)))) (sym is) (take_step s w a u))
 
 pub taken_less : (s t : State) (w v : List Waiting) (a : Waiting) → t ≡ after_event s (Take a.chip a.port) → IsUnderWay s (v ++ a ∷ []) → work t w ≤ work s w
 taken_less s t w v a is u =
@@ -109,24 +110,24 @@ has_first : (q : List McCopy) → q ≢ [] → (k : McCopy) × (rest : List McCo
 has_first [] some = absurd (some refl)
 has_first (k ∷ rest) some = (k, rest, refl)
 
-pub begins : (s t : State) (v : ℕ) (w items : List Waiting) (spots : List Spot) (d : Spot) → IsKept s → NothingWaits s → v < length s.spots → slice_get s.unsent v ≢ Some [] →
-    t ≡ after_event s (Inject v) → spots ≡ s.spots → w ≡ [] → items ≡ w ++ record { chip = (get_or spots v d).chip; port = Local } ∷ [] → IsUnderWay t items
+pub begins : (s t : State) (v : ℕ) (w items : List Waiting) (spots : List Spot) (d : Spot) → IsKept s → NothingWaits s → v < length s.setup.spots → slice_get s.unsent v ≢ Some [] →
+    t ≡ after_event s (Inject v) → spots ≡ s.setup.spots → w ≡ [] → items ≡ w ++ record { chip = (get_or spots v d).chip; port = Local } ∷ [] → IsUnderWay t items
 begins s t v w items spots d kept quiet below some is list none more =
-    let spot : Spot = get_or s.spots v d in
-    let stands : slice_get s.spots v ≡ Some spot = slice_get-get_or s.spots v d below in
+    let spot : Spot = get_or s.setup.spots v d in
+    let stands : slice_get s.setup.spots v ≡ Some spot = slice_get-get_or s.setup.spots v d below in
     let long = kept.mesh.unsent_lists in
     let there = slice_get-get_or s.unsent v [] (omega (arith, below, long)) in
     let first = has_first (get_or s.unsent v []) (λ empty. some (there ∙ ap Some empty)) in
     let at : List Spot → Waiting = λ l. record { chip = (get_or l v d).chip; port = Local } in
-    let same : items ≡ at s.spots ∷ [] = more ∙ (ap (λ l. l ++ at spots ∷ []) none ∙ ap (λ l. at l ∷ []) list) in
+    let same : items ≡ at s.setup.spots ∷ [] = more ∙ (ap (λ l. l ++ at spots ∷ []) none ∙ ap (λ l. at l ∷ []) list) in
     subst (IsUnderWay t) (sym same)
-    (subst (λ x. IsUnderWay x (at s.spots ∷ [])) (sym is) (inject_step s kept quiet v spot first.0 first.1 stands (there ∙ ap Some first.2)))
+    (subst (λ x. IsUnderWay x (at s.setup.spots ∷ [])) (sym is) (inject_step s kept quiet v spot first.0 first.1 stands (there ∙ ap Some first.2)))
 
-pub begins_unsent : (s t : State) (v : ℕ) → IsKept s → NothingWaits s → v < length s.spots → t ≡ after_event s (Inject v) →
+pub begins_unsent : (s t : State) (v : ℕ) → IsKept s → NothingWaits s → v < length s.setup.spots → t ≡ after_event s (Inject v) →
     (k : McCopy) (rest : List McCopy) → slice_get s.unsent v ≡ Some (k ∷ rest) → t.unsent ≡ set s.unsent v rest
 begins_unsent s t v kept quiet below is k rest first =
     let d : Spot = record { chip = record { x = 0; y = 0 }; core = 0 } in
-    ap (λ (x : State). x.unsent) is ∙ inject_unsent s kept quiet v (get_or s.spots v d) k rest (slice_get-get_or s.spots v d below) first
+    ap (λ (x : State). x.unsent) is ∙ inject_unsent s kept quiet v (get_or s.setup.spots v d) k rest (slice_get-get_or s.setup.spots v d below) first
 
 pub ends_quiet : (s : State) (w : List Waiting) → IsUnderWay s w → w ≡ [] → NothingWaits s
 ends_quiet s w u none = packet_done s (subst (IsUnderWay s) none u)
@@ -161,7 +162,7 @@ one_vertex_more now after v within is before i below =
     less : v ≢ i → i < v
     less other = omega (arith, below, other)
 
-pub all_vertices : (s : State) (n : ℕ) → IsKept s → length s.spots ≤ n → ((i : ℕ) → i < n → get_or s.unsent i [] ≡ []) → All (λ (q : List McCopy). q ≡ []) s.unsent
+pub all_vertices : (s : State) (n : ℕ) → IsKept s → length s.setup.spots ≤ n → ((i : ℕ) → i < n → get_or s.unsent i [] ≡ []) → All (λ (q : List McCopy). q ≡ []) s.unsent
 all_vertices s n kept all before = λ i d below.
     let long = kept.mesh.unsent_lists in
     get_or_default s.unsent i d [] below ∙ before i (omega (arith, below, long, all))
@@ -183,14 +184,14 @@ is_some' (k ∷ q) e = λ same. cc
 pub as_before : (s : State) (v : ℕ) → (left : List McCopy) × (s.unsent ≡ set s.unsent v left)
 as_before s v = (get_or s.unsent v [], sym (set-get_or s.unsent v []))
 
-pub there_still : (s t : State) (v : ℕ) → IsReached s t → v < length s.spots → v < length t.spots
+pub there_still : (s t : State) (v : ℕ) → IsReached s t → v < length s.setup.spots → v < length t.setup.spots
 there_still s t v reached below = subst (λ (l : List Spot). v < length l) (sym (spots_reached s t reached)) below
 
-pub was_there : (s : State) (v : ℕ) → IsKept s → v < length s.spots → v < length s.unsent
+pub was_there : (s : State) (v : ℕ) → IsKept s → v < length s.setup.spots → v < length s.unsent
 was_there s v kept below = let long = kept.mesh.unsent_lists in omega (arith, below, long)
 
--- all is sent, and nothing waits
-pub drained : (s t : State) (n : ℕ) → IsKept s → IsReached s t → NothingWaits t → length s.spots ≤ n → ((i : ℕ) → i < n → get_or t.unsent i [] ≡ []) → HasDrained s t
+-- all is send_of, and nothing waits
+pub drained : (s t : State) (n : ℕ) → IsKept s → IsReached s t → NothingWaits t → length s.setup.spots ≤ n → ((i : ℕ) → i < n → get_or t.unsent i [] ≡ []) → HasDrained s t
 drained s t n kept reached quiet all before = record {
   reached = reached;
   at_rest = record {

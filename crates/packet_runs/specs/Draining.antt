@@ -7,14 +7,14 @@ use Rattle.mesh_core.specs.State.{State, IsMesh}
 use Rattle.mesh_core.specs.Step.{after_events}
 use Rattle.mesh_core.specs.Ledger.{Label, MeetsLedger}
 use Rattle.mesh_core.specs.Expected.{IsAtRest}
-use Rattle.packet_runs.specs.HasRun.{DropsNone}
+use Rattle.mesh_core.specs.HasRun.{DropsNone}
 
 -- The mesh meets the ledger of some nets, for which its tables are right.
 pub record IsKept (s : State) : Type 0 where
   pub mesh : IsMesh s
   pub nets : List NetPlan
   pub labels : ℕ → Label
-  pub right : AreRight s.machine s.tables nets
+  pub right : AreRight s.setup.machine s.setup.tables nets
   pub ledger : MeetsLedger s nets labels
 
 -- A mesh is reached from another by events of which none drops a copy.
@@ -22,12 +22,6 @@ pub record IsReached (before after : State) : Type 0 where
   pub events : List Event
   pub dropless : All DropsNone events
   pub is : after ≡ after_events before events
-
--- Nothing waits: every queue and hand is empty. Copies may be unsent.
-pub record NothingWaits (s : State) : Type 0 where
-  pub inputs_empty : All (λ q. q ≡ []) s.inputs
-  pub hands_empty : All (λ h. h ≡ None) s.hands
-  pub cores_empty : All (λ q. q ≡ []) s.cores
 
 -- The mesh was brought to rest: by events of which none drops a copy, so that nothing waits, nothing is unsent, and no
 -- dump record has come.

@@ -3,12 +3,16 @@ use Rattle.std.specs.Prelude.{◌≡◌, ℕ, ◌+◌, ◌*◌, ◌-◌, ◌<◌
 use Rattle.std.specs.List.{sum_by}
 use Rattle.std.proofs.Common.{zero, suc}
 use Rattle.spin_base.specs.declared.chips.Chip.{Chip}
+use Rattle.spin_base.specs.declared.chips.Dir.{Dir}
 use Rattle.spin_base.specs.declared.chips.Port.{Port}
+use Rattle.spin_base.specs.declared.chips.Port.TheVariants.{Link as ByLink}
+use Rattle.spin_base.specs.Links.{opposite_of}
 use Rattle.spin_base.specs.declared.routes.Out.{Out}
+use Rattle.spin_base.specs.declared.routes.Out.TheVariants.{Link, Core}
 use Rattle.spin_base.specs.declared.copies.McCopy.{McCopy}
 use Rattle.machine_desc.specs.Description.{Description}
-use Rattle.machine_desc.specs.Live.{index_of, IsLiveChip}
-use Rattle.mesh_core.specs.State.{State, Held, queue_at}
+use Rattle.machine_desc.specs.Live.{far_of, index_of, IsLiveChip}
+use Rattle.mesh_core.specs.State.{Setup, State, Held, queue_at}
 use Rattle.mesh_core.specs.Step.{in_hand as held_for, last_hop}
 use Rattle.mesh_core.specs.Trail.{Station, unsent, in_queue, in_hand, at_core, delivered, dumped, Mark}
 use Rattle.mesh_core.specs.Ledger.{marks_of}
@@ -54,6 +58,21 @@ outs_in (Some (Some h)) = h.outs
 outs_in (Some None) = []
 outs_in None = []
 
+-- the port at the far end of a link
+abbrev pub far_port : Dir → Option Chip → Option Waiting
+far_port d (Some far) = Some (record { chip = far; port = ByLink (opposite_of d) })
+far_port d None = None
+
+-- where a copy waits that left a chip by a live link
+abbrev pub next_place : Description → Chip → Out → Option Waiting
+next_place m c (Link d) = far_port d (far_of m c d)
+next_place m c (Core p) = None
+
+-- A setup has the machine and the spots of a mesh.
+pub record IsMapOf (setup : Setup) (s : State) : Type 0 where
+  pub machine : setup.machine ≡ s.setup.machine
+  pub spots : setup.spots ≡ s.setup.spots
+
 -- One packet alone is under way: all copies that wait are of it, they wait in input queues, and each queue stands as often
 -- in the list as copies wait in it, or more often.
 pub record IsUnderWay (s : State) (waiting : List Waiting) : Type 0 where
@@ -61,8 +80,8 @@ pub record IsUnderWay (s : State) (waiting : List Waiting) : Type 0 where
   pub packet : ℕ
   pub free : All (λ h. h ≡ None) s.hands
   pub collected : All (λ q. q ≡ []) s.cores
-  pub live : All (λ (w : Waiting). IsLiveChip s.machine w.chip) waiting
-  pub listed : (i : ℕ) → length (slice_index_or s.inputs i []) ≤ times s.machine i waiting
+  pub live : All (λ (w : Waiting). IsLiveChip s.setup.machine w.chip) waiting
+  pub listed : (i : ℕ) → length (slice_index_or s.inputs i []) ≤ times s.setup.machine i waiting
   pub of_packet : (i : ℕ) → All (λ (k : McCopy). k.packet ≡ packet) (slice_index_or s.inputs i [])
 
 -- the same, but for one chip, whose hand still has to serve these outputs
@@ -72,10 +91,10 @@ pub record IsServing (s : State) (waiting : List Waiting) (c : Chip) (outs : Lis
   pub port : Port
   pub others : List (Option Held)
   pub free : All (λ h. h ≡ None) others
-  pub within : index_of s.machine c < length others
-  pub hand : s.hands ≡ slice_set others (index_of s.machine c) (held_for copy port outs)
-  pub here : IsLiveChip s.machine c
+  pub within : index_of s.setup.machine c < length others
+  pub hand : s.hands ≡ slice_set others (index_of s.setup.machine c) (held_for copy port outs)
+  pub here : IsLiveChip s.setup.machine c
   pub collected : All (λ q. q ≡ []) s.cores
-  pub live : All (λ (w : Waiting). IsLiveChip s.machine w.chip) waiting
-  pub listed : (i : ℕ) → length (slice_index_or s.inputs i []) ≤ times s.machine i waiting
+  pub live : All (λ (w : Waiting). IsLiveChip s.setup.machine w.chip) waiting
+  pub listed : (i : ℕ) → length (slice_index_or s.inputs i []) ≤ times s.setup.machine i waiting
   pub of_packet : (i : ℕ) → All (λ (k : McCopy). k.packet ≡ copy.packet) (slice_index_or s.inputs i [])

@@ -1,16 +1,15 @@
 // Packets, one by one, from their sources to their targets.
-ghost use Rattle.std.specs.Prelude.{◌≡◌, ◌≢◌, ℕ, List, [], ◌∷◌, ◌++◌, ◌<◌, ◌≤◌, Some, IfSome, length, slice_get, slice_set, IfOk, OnOk};
+ghost use Rattle.std.specs.Prelude.{◌≡◌, ◌≢◌, ℕ, List, [], ◌∷◌, ◌++◌, ◌<◌, ◌≤◌, Some, length, slice_get, slice_set, IfOk, OnOk};
 ghost use Rattle.spin_base.specs.declared.copies.McCopy.{McCopy as Copy};
 ghost use Rattle.spin_base.specs.declared.routes.Out.{Out as Output};
-ghost use Rattle.spin_base.specs.declared.routes.Out.TheVariants.{Link, Core};
 ghost use Rattle.machine_desc.specs.Live.{index_of, IsInside};
-ghost use Rattle.mesh_core.specs.State.{vertex_at};
-ghost use Rattle.packet_runs.specs.declared.draining.Waiting.{Waiting as Place};
-ghost use Rattle.packet_runs.specs.Draining.{IsKept, IsReached, NothingWaits, HasDrained};
-ghost use Rattle.packet_runs.specs.UnderWay.{work, weight_in, outs_in, IsUnderWay, IsServing};
+ghost use Rattle.mesh_core.specs.Expected.{NothingWaits};
+ghost use Rattle.packet_runs.specs.Draining.{IsKept, IsReached, HasDrained};
+ghost use Rattle.packet_runs.specs.UnderWay.{work, outs_in, next_place, IsMapOf, IsUnderWay, IsServing};
 
-use mesh_core::Mesh;
-use spin_base::{Chip, Dir, Event, Memory, Out, Outs, Port, Spot};
+use machine_desc::Machine;
+use mesh_core::{Mesh, MeshSetup, Queue};
+use spin_base::{Chip, Event, Memory, Out, Outs, Port, Seq};
 use std::alloc::Global;
 
 /// Brings all packets to their targets, one after the other, until no event is enabled. It takes no memory but that of the
@@ -24,12 +23,23 @@ pub fn drain(alloc: Global, mesh: &mut Mesh) -> Result<(), Memory>
     requires quiet { NothingWaits mesh.old }
     ensures { OnOk result (HasDrained mesh.old mesh.new) }
 {
+    let setup = map_of(alloc, mesh)?;
     let mut waiting = Vec::new(alloc);
     let count = mesh.spots().len();
     for vertex in 0..count {
-        send_all(mesh, &mut waiting, vertex as u32)?;
+        send_all(mesh, &setup, &mut waiting, vertex as u32)?;
     }
     Ok(())
+}
+
+// The machine and the spots of a mesh, in which a spot's vertex is found in constant time.
+fn map_of(alloc: Global, mesh: &Mesh) -> Result<MeshSetup, Memory>
+    requires { IsKept mesh.now }
+    ensures { IfOk result (λ setup. IsMapOf setup mesh.now) }
+{
+    let machine = mesh.machine().copy(alloc)?;
+    let spots = Seq::from_vec(Vec::from_slice(alloc, mesh.spots())?);
+    MeshSetup::new(alloc, machine, spots, Seq::new(alloc), 1)
 }
 
 /// A port at which the packet under way waits.
@@ -40,29 +50,31 @@ pub struct Waiting {
 }
 
 // A vertex sends all its packets, and each is brought to its targets before the next.
-fn send_all(mesh: &mut Mesh, waiting: &mut Vec<Waiting>, vertex: u32) -> Result<(), Memory>
-    requires exists { vertex < length mesh.old.spots }
+fn send_all(mesh: &mut Mesh, setup: &MeshSetup, waiting: &mut Vec<Waiting>, vertex: u32) -> Result<(), Memory>
+    requires exists { vertex < length mesh.old.setup.spots }
     requires kept { IsKept mesh.old }
     requires quiet { NothingWaits mesh.old }
     requires none { waiting.old.items ≡ [] }
+    requires map { IsMapOf setup.now mesh.old }
     ensures reached { OnOk result (IsReached mesh.old mesh.new) }
     ensures quiet { OnOk result (NothingWaits mesh.new) }
     ensures none { OnOk result (waiting.new.items ≡ []) }
     ensures unsent { OnOk result (mesh.new.unsent ≡ slice_set mesh.old.unsent vertex []) }
 {
     'packets: while !mesh.unsent(vertex).is_empty() {
-        send_packet(mesh, waiting, vertex)?;
+        send_packet(mesh, setup, waiting, vertex)?;
     }
     Ok(())
 }
 
 // A vertex sends its first packet, and the packet is brought to its targets.
-fn send_packet(mesh: &mut Mesh, waiting: &mut Vec<Waiting>, vertex: u32) -> Result<(), Memory>
-    requires exists { vertex < length mesh.old.spots }
+fn send_packet(mesh: &mut Mesh, setup: &MeshSetup, waiting: &mut Vec<Waiting>, vertex: u32) -> Result<(), Memory>
+    requires exists { vertex < length mesh.old.setup.spots }
     requires some { slice_get mesh.old.unsent vertex ≢ Some [] }
     requires kept { IsKept mesh.old }
     requires quiet { NothingWaits mesh.old }
     requires none { waiting.old.items ≡ [] }
+    requires map { IsMapOf setup.now mesh.old }
     ensures reached { OnOk result (IsReached mesh.old mesh.new) }
     ensures quiet { OnOk result (NothingWaits mesh.new) }
     ensures none { OnOk result (waiting.new.items ≡ []) }
@@ -74,14 +86,15 @@ fn send_packet(mesh: &mut Mesh, waiting: &mut Vec<Waiting>, vertex: u32) -> Resu
     let first = Waiting { chip, port: Port::Local };
     waiting.push(first)?;
     while let Some(next) = waiting.pop() {
-        go_on(mesh, waiting, next)?;
+        go_on(mesh, setup, waiting, next)?;
     }
     Ok(())
 }
 
 // A packet that waits at a port goes on from there to the next routers, or to the vertices of the chip.
-fn go_on(mesh: &mut Mesh, waiting: &mut Vec<Waiting>, at: Waiting) -> Result<(), Memory>
-    requires { IsUnderWay mesh.old (waiting.old.items ++ at ∷ []) }
+fn go_on(mesh: &mut Mesh, setup: &MeshSetup, waiting: &mut Vec<Waiting>, at: Waiting) -> Result<(), Memory>
+    requires under_way { IsUnderWay mesh.old (waiting.old.items ++ at ∷ []) }
+    requires map { IsMapOf setup.now mesh.old }
     ensures reached { OnOk result (IsReached mesh.old mesh.new) }
     ensures under_way { OnOk result (IsUnderWay mesh.new waiting.new.items) }
     ensures unsent { OnOk result (mesh.new.unsent ≡ mesh.old.unsent) }
@@ -90,15 +103,15 @@ fn go_on(mesh: &mut Mesh, waiting: &mut Vec<Waiting>, at: Waiting) -> Result<(),
     mesh.step(Event::Take(at.chip, at.port))?;
     let outs = held_outs(mesh, at.chip)?;
     for out in outs.as_slice() {
-        serve(mesh, waiting, at.chip, *out)?;
+        serve(mesh, setup, waiting, at.chip, *out)?;
     }
     Ok(())
 }
 
 // The outputs that a router still has to serve.
 fn held_outs(mesh: &Mesh, chip: Chip) -> Result<Outs, Memory>
-    requires { IsInside mesh.now.machine chip }
-    ensures { IfOk result (λ outs. outs.items ≡ outs_in (slice_get mesh.now.hands (index_of mesh.now.machine chip))) }
+    requires { IsInside mesh.now.setup.machine chip }
+    ensures { IfOk result (λ outs. outs.items ≡ outs_in (slice_get mesh.now.hands (index_of mesh.now.setup.machine chip))) }
 {
     match mesh.hand(chip) {
         Some(hand) => Ok(hand.outs.clone()?),
@@ -106,57 +119,48 @@ fn held_outs(mesh: &Mesh, chip: Chip) -> Result<Outs, Memory>
     }
 }
 
-// A router sends the packet by the first output of its hand.
-fn serve(mesh: &mut Mesh, waiting: &mut Vec<Waiting>, chip: Chip, out: Out) -> Result<(), Memory>
-    requires { (rest : List Output) × IsServing mesh.old waiting.old.items chip (out ∷ rest) }
+// A router sends the packet by the first output of its hand: to the port at the far end of a live link, or to a vertex, which
+// takes it.
+fn serve(
+    mesh: &mut Mesh,
+    setup: &MeshSetup,
+    waiting: &mut Vec<Waiting>,
+    chip: Chip,
+    out: Out,
+) -> Result<(), Memory>
+    requires serving { (rest : List Output) × IsServing mesh.old waiting.old.items chip (out ∷ rest) }
+    requires map { IsMapOf setup.now mesh.old }
     ensures reached { OnOk result (IsReached mesh.old mesh.new) }
     ensures served { OnOk result ((rest : List Output) → IsServing mesh.old waiting.old.items chip (out ∷ rest) → IsServing mesh.new waiting.new.items chip rest) }
     ensures unsent { OnOk result (mesh.new.unsent ≡ mesh.old.unsent) }
     ensures less { OnOk result (work mesh.new waiting.new.items ≤ work mesh.old waiting.old.items) }
 {
-    match out {
-        Out::Link(link) => send_on(mesh, waiting, chip, link),
-        Out::Core(core) => deliver(mesh, chip, core),
+    mesh.step(Event::Send(chip, out))?;
+    match setup.behind(chip, out) {
+        Queue::Input(_) => {
+            if let Some(next) = next_place(mesh.machine(), chip, out) {
+                waiting.push(next)?;
+            }
+        }
+        Queue::Core(vertex) => {
+            mesh.step(Event::Collect(vertex as u32))?;
+        }
+        Queue::Nowhere => {}
     }
-}
-
-// A router sends the packet by a link, to the port at its far end.
-fn send_on(mesh: &mut Mesh, waiting: &mut Vec<Waiting>, chip: Chip, link: Dir) -> Result<(), Memory>
-    requires { (rest : List Output) × IsServing mesh.old waiting.old.items chip (Link link ∷ rest) }
-    ensures reached { OnOk result (IsReached mesh.old mesh.new) }
-    ensures served { OnOk result ((rest : List Output) → IsServing mesh.old waiting.old.items chip (Link link ∷ rest) → IsServing mesh.new waiting.new.items chip rest) }
-    ensures unsent { OnOk result (mesh.new.unsent ≡ mesh.old.unsent) }
-    ensures less { OnOk result (work mesh.new waiting.new.items ≤ work mesh.old waiting.old.items) }
-{
-    mesh.step(Event::Send(chip, Out::Link(link)))?;
-    let Some(far) = mesh.machine().far(chip, link) else {
-        return Ok(());
-    };
-    let next = Waiting { chip: far, port: Port::Link(link.opposite()) };
-    waiting.push(next)?;
     Ok(())
 }
 
-// A router sends the packet to a core, and the vertex there takes it.
-fn deliver(mesh: &mut Mesh, chip: Chip, core: u8) -> Result<(), Memory>
-    requires { IsKept mesh.old }
-    ensures reached { OnOk result (IsReached mesh.old mesh.new) }
-    ensures served { OnOk result ((waiting : List Place) (rest : List Output) → IsServing mesh.old waiting chip (Core core ∷ rest) → IsServing mesh.new waiting chip rest) }
-    ensures unsent { OnOk result (mesh.new.unsent ≡ mesh.old.unsent) }
-    ensures lighter { OnOk result (weight_in mesh.new ≤ weight_in mesh.old) }
+// Where the packet waits that left a chip by a live link.
+fn next_place(machine: &Machine, chip: Chip, out: Out) -> Option<Waiting>
+    requires { IsInside machine.now chip }
+    ensures { result ≡ next_place machine.now chip out }
 {
-    mesh.step(Event::Send(chip, Out::Core(core)))?;
-    let Some(vertex) = vertex_on(mesh.spots(), Spot { chip, core }) else {
-        return Ok(());
+    let Out::Link(link) = out else {
+        return None;
     };
-    mesh.step(Event::Collect(vertex as u32))?;
-    Ok(())
-}
-
-// The vertex on a core.
-fn vertex_on(spots: &[Spot], spot: Spot) -> Option<usize>
-    ensures vertex { result ≡ vertex_at spots.now spot }
-    ensures below { IfSome result (λ v. v < length spots.now) }
-{
-    spots.iter().position(|other| *other == spot)
+    let far = machine.far(chip, link)?;
+    Some(Waiting {
+        chip: far,
+        port: Port::Link(link.opposite()),
+    })
 }

@@ -1,5 +1,6 @@
 use Rattle.std.proofs.Common.{◌≡◌, ◌<◌, ℕ, [], get_or}
-use Rattle.packet_runs.specs.Draining.{IsReached, NothingWaits}
+use Rattle.packet_runs.specs.Draining.{IsReached}
+use Rattle.mesh_core.specs.Expected.{NothingWaits}
 use Rattle.packet_runs.proofs.draining.drain.Given as goal
 
 -- the vertices before this one have sent all

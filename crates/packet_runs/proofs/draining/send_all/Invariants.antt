@@ -1,7 +1,8 @@
 use Rattle.std.proofs.Common.{◌≡◌, [], List, length, get_or}
 use Rattle.std.specs.List.{slice_set}
 use Rattle.spin_base.specs.declared.copies.McCopy.{McCopy}
-use Rattle.packet_runs.specs.Draining.{IsReached, NothingWaits}
+use Rattle.packet_runs.specs.Draining.{IsReached}
+use Rattle.mesh_core.specs.Expected.{NothingWaits}
 use Rattle.packet_runs.proofs.draining.send_all.Given as goal
 
 abbrev pub invariant-packets : goal.invariant-packets
