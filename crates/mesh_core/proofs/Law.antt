@@ -207,8 +207,7 @@ module _ (s : State) (net : NetPlan) (stands : Stands s net) where
       by_end : ExitLeads s.setup.machine net.tree.edges t xs hop (record { chip = c; out = Link d }) →
           Contains net.tree.edges (record { chip = c; dir = d }) × ((y : Exit) × (far_of s.setup.machine c d ≡ Some y.chip) × (slice_get xs (suc hop) ≡ Some y))
       by_end (inl (f, out, in_tree, (y, far, next))) =
-          let same : f ≡ d = cc in
-          (
+          let same : f ≡ d = cc in (
             subst (λ (q : Dir). Contains net.tree.edges (record { chip = c; dir = q })) same in_tree,
             (y, subst (λ (q : Dir). far_of s.setup.machine c q ≡ Some y.chip) same far, next),
           )

@@ -17,6 +17,7 @@ pub mod QueueLists
 pub mod Searching
 pub mod ServingLaws
 pub mod Standing
+pub mod StepLedger
 pub mod StepParts
 pub mod VertexTableLaws
 pub mod WalkingUp

@@ -1,6 +1,7 @@
 -- What the searches of a port, an output and a core find.
-use Rattle.std.proofs.Common.{◌≡◌, ℕ, zero, suc, ◌<◌, ◌≤◌, List, [], ◌∷◌, Bool, true, false, ◌==◌, ◌&&◌, Option, Some, None, refl, ap, sym, ◌∙◌, subst, arith, inl, inr, ◌⊎◌, length, nat_lt, cond}
-use Rattle.std.specs.List.{slice_get, slice_index_or, list_any, Contains, position, position_or_len}
+use Rattle.std.proofs.Common.{◌≡◌, ℕ, zero, suc, ◌<◌, ◌≤◌, List, [], ◌∷◌, Bool, true, false, ◌==◌, ◌&&◌, Option, Some, None, refl, ap, sym, ◌∙◌, subst, arith, inl, inr, ◌⊎◌, length, get_or, nat_lt, cond}
+use Rattle.std.proofs.lemmas.List.Elements.{All-contains}
+use Rattle.std.specs.List.{All, slice_get, slice_index_or, list_any, Contains, position, position_or_len}
 use Rattle.std.proofs.lemmas.Bool.{ltb-false}
 use Rattle.std.proofs.lemmas.List.Folds.{Any-from_list_any, list_any_at}
 use Rattle.std.proofs.lemmas.List.Quantifiers.{position-Some}
@@ -15,12 +16,19 @@ use Rattle.spin_base.specs.declared.copies.Delivery.{Delivery}
 use Rattle.spin_base.specs.declared.copies.DumpRec.{DumpRec}
 use Rattle.spin_base.specs.Equality.{chip_eq, out_eq}
 use Rattle.spin_base.proofs.Equality.{chip_eq_same, chip_eq_true, out_eq_same, out_eq_true}
+use Rattle.machine_desc.specs.declared.trees.Edge.{Edge}
+use Rattle.machine_desc.specs.Description.{Description}
 use Rattle.machine_desc.specs.Live.{index_of, IsInside}
+use Rattle.machine_desc.specs.RoutingTree.{IsRoutingTree}
+use Rattle.machine_desc.proofs.Far.{live_inside, live_ends}
+use Rattle.net_tables.specs.declared.nets.NetPlan.{NetPlan}
 use Rattle.mesh_core.specs.declared.places.Place.TheVariants.{InQueue, Hand as HandAt, CoreQueue}
 use Rattle.mesh_core.specs.declared.places.Where.TheVariants.{At, Delivered, Dumped}
-use Rattle.mesh_core.specs.State.{State, Held, IsMesh, queue_at, vertex_at}
+use Rattle.net_tables.specs.NetsOn.{vertex_at}
+use Rattle.mesh_core.specs.State.{State, Held, IsMesh, queue_at}
 use Rattle.mesh_core.specs.Trail.{Station, in_queue, in_hand, at_core, delivered, dumped, Mark}
 use Rattle.mesh_core.specs.Ledger.{marks_of}
+use Rattle.mesh_core.specs.Whereabouts.{IsTracked}
 use Rattle.mesh_core.specs.Searches.{IsMarkThere, IsFound, IsOfCore, IsOfOutput, IsOfPort, is_held}
 use Rattle.mesh_core.proofs.Exchange.{Among, among_contains, contains_among}
 use Rattle.mesh_core.proofs.Moves.{mark}
@@ -249,3 +257,12 @@ core_queue_there s mesh spot v is_vertex q d is same =
     let lists : length s.cores ≡ length s.setup.spots = mesh.core_lists in
     let within : v < length s.cores = omega arith in
     slice_get-get_or s.cores v d within ∙ ap Some (sym is ∙ sym same)
+
+-- the edges of a tracked packet's net begin inside the grid
+pub edges_inside : (s : State) (net : NetPlan) (packet : ℕ) → IsTracked s net packet → All (λ e. IsInside s.setup.machine e.chip) net.tree.edges
+edges_inside s net packet tracked =
+    let m : Description = s.setup.machine in
+    let tree : IsRoutingTree m net.tree.root net.tree.edges net.targets =
+    All-contains (λ n. IsRoutingTree m n.tree.root n.tree.edges n.targets) tracked.nets net tracked.ledger.nets_stand.trees tracked.in_nets
+    in
+    λ k d below. let e : Edge = get_or net.tree.edges k d in live_inside m e.chip (live_ends m e.chip e.dir (tree.edges_live k d below)).2

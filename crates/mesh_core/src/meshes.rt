@@ -3,8 +3,8 @@ ghost use Rattle.std.specs.Prelude.{◌≡◌, ◌≢◌, ◌+◌, ◌*◌, ◌<
 ghost use Rattle.std.specs.Option.{option_copied};
 
 use crate::hands::{Hand, empty_hands};
-use crate::queues::{empty_queues, push_at};
 use crate::parts::MeshParts;
+use crate::queues::{empty_queues, push_at};
 use crate::setups::{MeshSetup, queue_place};
 use machine_desc::Machine;
 use spin_base::{Chip, Delivery, DumpRec, Fifo, McCopy, Memory, Port, Seq, Spot};
@@ -62,7 +62,7 @@ impl Mesh {
         requires room { 1 ≤ queue }
         ensures { IfOk result (λ mesh. mesh ≡ empty_mesh (record { machine = machine; spots = spots; tables = tables; capacity = queue })) }
     {
-        let chips = usize::from(machine.width()) * usize::from(machine.height());
+        let chips = machine.chips();
         let vertices = spots.len();
         let setup = MeshSetup::new(alloc, machine, spots, tables, queue)?;
         let unsent = empty_queues(alloc, vertices)?;

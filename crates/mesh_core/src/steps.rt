@@ -14,7 +14,10 @@ use spin_base::{Chip, Delivery, DumpRec, Event, McCopy, Memory, Out, Port};
 
 impl Mesh {
     ghost use Rattle.spin_base.specs.declared.copies.Event.TheVariants.{Inject, Take, Send, Dump, Collect};
+    ghost use Rattle.net_tables.specs.declared.nets.NetPlan.{NetPlan};
+    ghost use Rattle.net_tables.specs.RightTables.{AreRight};
     ghost use Rattle.mesh_core.specs.Step.{after_event, answer};
+    ghost use Rattle.mesh_core.specs.Ledger.{Label, MeetsLedger};
 
     /// One event: `Moved` exactly where it is enabled, and `Idle` exactly where it isn't, and then nothing changes.
     ///
@@ -25,6 +28,8 @@ impl Mesh {
     /// `Dump` records the copy and drops it for an output behind which is a full queue or none. `Collect` delivers the
     /// front copy in the queue of a vertex's core. An event of a vertex or a chip that isn't there is not enabled.
     ///
+    /// Where the tables are right for some nets and the mesh met their ledger of copies before, it meets it after.
+    ///
     /// It moves what it moves: its cost does not depend on the size of the mesh. After a refusal the mesh is as before.
     #[tactic(auto, using(crate::proofs::Fixed::after_event_setup))]
     pub fn step(&mut self, e: Event) -> Result<Did, Memory>
@@ -32,7 +37,10 @@ impl Mesh {
         ensures moves { OnOk result (self.new ≡ after_event self.old e) }
         ensures err { OnErr result (self.new ≡ self.old) }
         ensures setup_stays { self.new.setup ≡ self.old.setup }
+        ensures ledger { (nets : List NetPlan) (labels : ℕ → Label) →
+            AreRight self.old.setup.machine self.old.setup.tables nets → MeetsLedger self.old nets labels → MeetsLedger self.new nets labels }
     {
+        let _ = &self.setup;
         match e {
             Event::Inject(vertex) => self.inject(vertex),
             Event::Take(chip, port) => Ok(self.take(chip, port)),

@@ -20,8 +20,7 @@ pub fn vertex_table(
     requires sites { All (IsSite machine.now) spots.now }
     ensures { IfOk result (λ v. TellsVertices machine.now spots.now v.items) }
 {
-    let chips = usize::from(machine.width()) * usize::from(machine.height());
-    let mut table = vec![in alloc; None; SPOTS * chips]?;
+    let mut table = vec![in alloc; None; SPOTS * machine.chips()]?;
     for (vertex, spot) in spots.iter().enumerate() {
         table[spot_place(machine, *spot)] = Some(vertex);
     }

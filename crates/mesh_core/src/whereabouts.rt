@@ -7,7 +7,7 @@ ghost use Rattle.mesh_core.specs.Searches.{IsEdgeInto, port_behind};
 use crate::meshes::Mesh;
 use crate::places::{Place, Where};
 use machine_desc::{Edge, Machine};
-use net_tables::NetPlan;
+use net_tables::{NetPlan, out_of};
 use spin_base::{Chip, McCopy, Out, Port, Spot};
 
 impl Mesh {
@@ -27,13 +27,12 @@ impl Mesh {
         ensures { IsWhere self.now net.now packet target result }
     {
         let machine = self.setup.machine();
-        let chips = u32::from(machine.width()) * u32::from(machine.height());
         if let Some(found) = self.at_core(packet, target) {
             return found;
         }
         let mut chip = target.chip;
-        let mut out = Out::Core(target.core);
-        for _ in 0..chips {
+        let mut out = out_of(target.core);
+        for _ in 0..machine.chips() {
             if let Some(found) = self.at_output(packet, chip, out) {
                 return found;
             }

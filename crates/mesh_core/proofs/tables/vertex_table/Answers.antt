@@ -1,5 +1,5 @@
 -- The table tells one vertex more after each spot.
-use Rattle.std.proofs.Common.{rules, ◌≡◌, ℕ, ◌+◌, ◌*◌, take, get_or, set, replicate, sym, ap, ◌∙◌, subst, arith, Option, Some, None}
+use Rattle.std.proofs.Common.{rules, ◌≡◌, ℕ, ◌+◌, ◌*◌, take, get_or, set, replicate, sym, ap, ◌∙◌, subst, Option, Some, None}
 use Rattle.std.proofs.lemmas.List.{get_or_default}
 use Rattle.spin_base.specs.declared.chips.Spot.{Spot}
 use Rattle.mesh_core.specs.VertexTable.{TellsVertices, spot_place}
@@ -9,12 +9,8 @@ use Rattle.mesh_core.proofs.tables.vertex_table.Goals as goal
 pub loop-vertex-init : goal.loop-vertex-init
 loop-vertex-init c =
     let m = c.args.machine.now in
-    let size : 24 * (c.from.result * c.from-2.result) ≡ 24 * (m.width * m.height) =
-    ap (λ (n : ℕ). 24 * (n * c.from-2.result)) (c.from.ensures ∙ c.width.ensures.value)
-    ∙ ap (λ (n : ℕ). 24 * (m.width * n)) (c.from-2.ensures ∙ c.height.ensures.value)
-    in
     let made = c.in_ok-table.ensures.items_if_clones_equal (λ y h. search rules) in
-    subst (TellsVertices m (take 0 c.args.spots.now)) (sym (made ∙ ap (λ (n : ℕ). replicate {A = Option ℕ} n None) size)) (TellsVertices-none m c.args.spots.now)
+    subst (TellsVertices m (take 0 c.args.spots.now)) (sym (made ∙ ap (λ (n : ℕ). replicate {A = Option ℕ} (24 * n) None) c.chips.ensures.total)) (TellsVertices-none m c.args.spots.now)
 
 pub loop-vertex-preserved : goal.loop-vertex-preserved
 loop-vertex-preserved c =

@@ -5,4 +5,4 @@ use Rattle.machine_desc.specs.RoutingTree.{end_of}
 use Rattle.mesh_core.proofs.whereabouts.edge_into.Given as goal
 
 abbrev pub invariant-loop-edge : goal.invariant-loop-edge
-invariant-loop-edge l = (k : ℕ) (d : Edge) → k < l.edge-index → end_of l.setup.machine (get_or l.edges k d) ≢ Some l.chip
+invariant-loop-edge l = (k : ℕ) (d : Edge) → k < l.edge-index → end_of l.machine (get_or l.edges k d) ≢ Some l.chip

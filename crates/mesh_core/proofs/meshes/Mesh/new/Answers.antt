@@ -1,5 +1,5 @@
 -- The lists are made as the empty mesh has them.
-use Rattle.std.proofs.Common.{◌≡◌, ℕ, ◌*◌, ap, sym, ◌∙◌, subst, List, [], Option, None}
+use Rattle.std.proofs.Common.{ℕ, ◌*◌, ap, sym, ◌∙◌, subst, List, [], Option, None}
 use Rattle.std.specs.Prelude.{replicate}
 use Rattle.spin_base.specs.declared.copies.McCopy.{McCopy}
 use Rattle.mesh_core.specs.State.{Setup, Held, IsMesh}
@@ -10,17 +10,13 @@ pub invariant_of-result : goal.invariant_of-result
 invariant_of-result c =
     let m = c.args.machine in
     let u : Setup = record { machine = m; spots = c.args.spots; tables = c.args.tables; capacity = c.args.queue } in
-    let size : c.from.result * c.from-2.result ≡ m.width * m.height =
-    ap (λ (n : ℕ). n * c.from-2.result) (c.from.ensures ∙ c.width.ensures.value)
-    ∙ ap (λ (n : ℕ). m.width * n) (c.from-2.ensures ∙ c.height.ensures.value)
-    in
     let made = empty_from u c.in_ok-unsent.unsent.items c.in_ok-inputs.inputs.items c.in_ok-cores.cores.items c.in_ok-hands.hands.items
     (c.in_ok-unsent.ensures ∙ ap (λ (n : ℕ). replicate {A = List McCopy} n []) c.len-vertices.ensures)
-    (c.in_ok-inputs.ensures ∙ ap (λ (n : ℕ). replicate {A = List McCopy} (7 * n) []) size)
-    (c.in_ok-hands.ensures ∙ ap (λ (n : ℕ). replicate {A = Option Held} n None) size)
+    (c.in_ok-inputs.ensures ∙ ap (λ (n : ℕ). replicate {A = List McCopy} (7 * n) []) c.chips-chips.ensures.total)
+    (c.in_ok-hands.ensures ∙ ap (λ (n : ℕ). replicate {A = Option Held} n None) c.chips-chips.ensures.total)
     (c.in_ok-cores.ensures ∙ ap (λ (n : ℕ). replicate {A = List McCopy} n []) c.len-vertices.ensures)
     in
-    let empty = subst IsMesh made (IsMesh-empty u c.width.ensures.size c.requires.different c.requires.sites c.requires.room c.requires.tables) in
+    let empty = subst IsMesh made (IsMesh-empty u c.chips-chips.ensures.size c.requires.different c.requires.sites c.requires.room c.requires.tables) in
     subst (λ (t : Setup). IsMesh (record {
       setup = t;
       unsent = c.in_ok-unsent.unsent.items;

@@ -52,7 +52,7 @@ moves c =
 
 pub invariant_of-self-2 : goal.invariant_of-self-2
 unfolding after
-invariant_of-self-2 c = 
+invariant_of-self-2 c =
     IsMesh-step_of (state_of c.self.inside) (after c) (Send c.args.c c.args.out) c.self.invariant (moves c)
 
 pub returns-clause-moves : goal.returns-clause-moves

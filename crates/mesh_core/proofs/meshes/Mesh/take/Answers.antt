@@ -58,7 +58,7 @@ moves c =
 
 pub invariant_of-self : goal.invariant_of-self
 unfolding after
-invariant_of-self c = 
+invariant_of-self c =
     IsMesh-step_of (state_of c.self.inside) (after c) (Take c.args.c c.args.port) c.self.invariant (moves c)
 
 pub returns-clause-answer : goal.returns-clause-answer
