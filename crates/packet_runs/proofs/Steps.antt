@@ -256,7 +256,7 @@ module _ (s : State) (w : List Waiting) (a : Waiting) (u : IsUnderWay s (w ++ a 
       plus n = omega arith
 
   pub take_step : IsServing (after_event s (Take a.chip a.port)) w a.chip
-      (outs_in (slice_get (after_event s (Take a.chip a.port)).hands (index_of (after_event s (Take a.chip a.port)).machine a.chip)))
+      (outs_in (slice_get (after_event s (Take a.chip a.port)).hands (index_of (after_event s (Take a.chip a.port)).setup.machine a.chip)))
   unfolding Served i queue
   take_step = by_queue (slice_index_or s.inputs (queue_at s.setup.machine a.chip a.port) []) refl
     where
@@ -316,7 +316,7 @@ module _ (s : State) (w : List Waiting) (c : Chip) (d : Dir) (os : List Out) (u 
   abbrev pub next : Waiting
   next = record { chip = beyond.far; port = ByLink (opposite_of d) }
 
-  far_queue : ℕ
+  pub far_queue : ℕ
   far_queue = queue_at s.setup.machine beyond.far (ByLink (opposite_of d))
 
   linked : State
@@ -325,6 +325,10 @@ module _ (s : State) (w : List Waiting) (c : Chip) (d : Dir) (os : List Out) (u 
   far_there : (far_queue < length s.inputs) × (slice_get s.inputs far_queue ≡ Some (slice_index_or s.inputs far_queue []))
   unfolding far_queue
   far_there = queue_there s w u.kept beyond.far (ByLink (opposite_of d)) beyond.live
+
+  pub behind_far : behind s.setup c (Link d) ≡ input far_queue
+  unfolding far_queue
+  behind_far = ap (λ x. behind_link s.setup c d x (far_of s.setup.machine c d)) beyond.live_link ∙ ap (behind_link s.setup c d true) beyond.leads
 
   is_linked : step_of s (Send c (Link d)) ≡ Some linked
   unfolding held linked far_queue

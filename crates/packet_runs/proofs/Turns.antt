@@ -1,6 +1,8 @@
 -- What the calls of a packet under way leave, as they follow on each other.
-use Rattle.std.proofs.Common.{◌≡◌, ◌≢◌, ◌==◌, true, false, ℕ, suc, ◌+◌, ◌<◌, ◌≤◌, set, get_or, drop, refl, sym, ap, ◌∙◌, subst, arith, List, [], ◌∷◌, ◌++◌, length, Option, Some, None}
+use Rattle.std.proofs.Common.{◌≡◌, ◌≢◌, ◌==◌, true, false, ℕ, suc, ◌+◌, ◌<◌, ◌≤◌, set, get_or, drop, refl, sym, ap, ◌∙◌, subst, arith, List, [], ◌∷◌, ◌++◌, length, Option, Some, None, Bool, inl, inr, ◌⊎◌}
 use Rattle.std.specs.List.{slice_get, All}
+use Rattle.std.specs.Option.{option_to_list}
+use Rattle.std.specs.Prelude.{OnOk, Result, Ok, Err}
 use Rattle.std.proofs.Math.Seq.{drop-cons}
 use Rattle.std.proofs.lemmas.List.{length-append, get_or-set_same, get_or_default, set-get_or}
 use Rattle.std.proofs.lemmas.Option.{slice_get-get_or, slice_get_within, get_or_from_slice_get}
@@ -15,75 +17,136 @@ use Rattle.spin_base.specs.declared.copies.Event.TheVariants.{Inject, Take, Send
 use Rattle.spin_base.specs.Links.{opposite_of}
 use Rattle.spin_base.proofs.Equality.{nat_eq_true}
 use Rattle.machine_desc.specs.Description.{Description}
-use Rattle.machine_desc.specs.Live.{far_of, index_of}
-use Rattle.mesh_core.specs.State.{State, vertex_at}
+use Rattle.machine_desc.specs.Live.{far_of, index_of, is_live_link}
+use Rattle.mesh_core.specs.State.{Setup, State, Behind, input, core, nowhere, behind, behind_link}
+use Rattle.mesh_core.proofs.Fixed.{after_event_setup}
+use Rattle.packet_runs.proofs.Alone.{Beyond, IsBeyond, beyond}
 use Rattle.mesh_core.specs.Step.{after_event}
 use Rattle.packet_runs.specs.declared.draining.Waiting.{Waiting}
 use Rattle.packet_runs.specs.Draining.{IsKept, IsReached, HasDrained}
 use Rattle.mesh_core.specs.Expected.{NothingWaits}
-use Rattle.packet_runs.specs.UnderWay.{work, weight_in, outs_in, IsUnderWay, IsServing}
-use Rattle.packet_runs.proofs.Frame.{reached_by, reached_then, spots_reached, kept_reached, dumped_reached}
+use Rattle.packet_runs.specs.UnderWay.{work, weight_in, outs_in, far_port, next_place, IsMapOf, IsUnderWay, IsServing}
+use Rattle.packet_runs.proofs.Frame.{reached_by, reached_then, setup_reached, kept_reached, dumped_reached}
 use Rattle.packet_runs.proofs.Progress.{event_lighter}
 use Rattle.packet_runs.proofs.Packets.{inject_step, inject_unsent, packet_done}
-use Rattle.packet_runs.proofs.Steps.{kept_after, written, set_twice, take_step, beyond, next, send_leads, send_link, sent_vertex, send_meets, send_core, send_link_lighter}
+use Rattle.packet_runs.proofs.Steps.{kept_after, written, set_twice, take_step, has_mark, next, far_queue, behind_far, send_link, send_core, send_link_lighter}
 
-some_same : {X : Type 0} (x y : X) → Some x ≡ Some y → x ≡ y
-some_same x y e = cc
+-- what follows where a call went well
+pub on_ok : {T E A B : Type 0} (r : Result T E) → OnOk r A → (A → B) → OnOk r B
+on_ok (Ok x) here then' = then' here
+on_ok (Err e) here then' = tt
 
-none_some : {X : Type 0} (x : X) → None ≡ Some x → ⊥
-none_some x e = cc
+-- ---- an output is served
 
--- ---- a link
+-- what is behind an output depends on machine and spots alone
+same_behind : (u v : Setup) (c : Chip) (o : Out) → u.machine ≡ v.machine → u.spots ≡ v.spots → behind u c o ≡ behind v c o
+same_behind u v c o machine spots = plain u o ∙ (ap (λ m. of m u.spots o) machine ∙ (ap (λ l. of v.machine l o) spots ∙ sym (plain v o)))
+  where
+    of : Description → List Spot → Out → Behind
+    of m l p = behind (record { machine = m; spots = l; tables = []; capacity = 0 }) c p
 
-module _ (s t : State) (w : List Waiting) (c : Chip) (d : Dir) (m : Description)
-    (is : t ≡ after_event s (Send c (Link d))) (machine : m ≡ t.setup.machine) (stays : t.setup.machine ≡ s.setup.machine) where
-  pub link_there : (rest : List Out) → IsServing s w c (Link d ∷ rest) → None ≡ far_of m c d → ⊥
-  link_there rest u none = none_some (beyond s w c d rest u).far (none ∙ (ap (λ n. far_of n c d) (machine ∙ stays) ∙ send_leads s w c d rest u))
+    by_far : (z : Setup) (d : Dir) (b : Bool) (far : Option Chip) →
+        behind_link z c d b far ≡ behind_link (record { machine = z.machine; spots = z.spots; tables = []; capacity = 0 }) c d b far
+    by_far z d true (Some e) = refl
+    by_far z d true None = refl
+    by_far z d false far = refl
 
-  pub link_served : (w' : List Waiting) (far : Chip) (o : Dir) → Some far ≡ far_of m c d → o ≡ opposite_of d → w' ≡ w ++ record { chip = far; port = ByLink o } ∷ [] →
-      (rest : List Out) → IsServing s w c (Link d ∷ rest) → IsServing t w' c rest
-  link_served w' far o leads opposite more rest u =
-      let b = beyond s w c d rest u in
-      let same_far : far ≡ b.far = some_same far b.far (leads ∙ (ap (λ n. far_of n c d) (machine ∙ stays) ∙ send_leads s w c d rest u)) in
-      let place : Chip → Dir → Waiting = λ e q. record { chip = e; port = ByLink q } in
-      let same : w' ≡ w ++ next s w c d rest u ∷ [] = more ∙ (ap (λ e. w ++ place e o ∷ []) same_far ∙ ap (λ q. w ++ place b.far q ∷ []) opposite) in
-      subst (λ l. IsServing t l c rest) (sym same) (subst (λ x. IsServing x (w ++ next s w c d rest u ∷ []) c rest) (sym is) (send_link s w c d rest u))
+    plain : (z : Setup) (p : Out) → behind z c p ≡ of z.machine z.spots p
+    plain z (Link d) = by_far z d (is_live_link z.machine c d) (far_of z.machine c d)
+    plain z (Core p) = refl
 
-  pub link_less : (w' : List Waiting) (a : Waiting) → w' ≡ w ++ a ∷ [] → (rest : List Out) × IsServing s w c (Link d ∷ rest) → work t w' ≤ work s w
-  link_less w' a more u =
-      let lighter = send_link_lighter s w c d u.0 u.1 in
-      let there : weight_in t ≡ weight_in (after_event s (Send c (Link d))) = ap weight_in is in
-      let long : length w' ≡ length w + 1 = ap length more ∙ length-append w (a ∷ []) in
-      omega (arith, lighter, there, long)
+-- the link is the one by which the copy leaves
+module _ (s : State) (w : List Waiting) (c : Chip) where
+  IsFar : Out → List Out → Type 0
+  IsFar o rest = (d : Dir) × (o ≡ Link d) × ((u : IsServing s w c (Link d ∷ rest)) × Beyond s u.kept u.copy c d)
 
--- ---- a core
+  by_way : (o : Out) (rest : List Out) (u : IsServing s w c (o ∷ rest)) →
+      ((d : Dir) × (o ≡ Link d) × ((r : IsServing s w c (Link d ∷ rest)) × Beyond s r.kept r.copy c d))
+      ⊎ ((v : ℕ) × (v < length s.setup.spots) × (behind s.setup c o ≡ core v))
+  by_way o rest u = by_out o u (beyond s u.kept u.copy c o (has_mark s w c o rest u))
+    where
+      by_out : (p : Out) (r : IsServing s w c (p ∷ rest)) → IsBeyond s r.kept r.copy c p →
+          ((d : Dir) × (p ≡ Link d) × ((q : IsServing s w c (Link d ∷ rest)) × Beyond s q.kept q.copy c d))
+          ⊎ ((v : ℕ) × (v < length s.setup.spots) × (behind s.setup c p ≡ core v))
+      by_out (Link d) r (inl (e, same, b)) = let is : e ≡ d = cc in inl (d, refl, (r, subst (Beyond s r.kept r.copy c) is b))
+      by_out (Core p) r (inl (e, same, b)) = absurd (differ same)
+        where
+          differ : {e : Dir} → Core p ≡ Link e → ⊥
+          differ x = cc
+      by_out p r (inr there) = inr there
 
-module _ (s t : State) (c : Chip) (p : ℕ) (spots : List Spot)
-    (is : t ≡ after_event s (Send c (Core p))) (list : spots ≡ t.setup.spots) (stays : t.setup.spots ≡ s.setup.spots) where
-  vertex_here : (w : List Waiting) (rest : List Out) (u : IsServing s w c (Core p ∷ rest)) → vertex_at spots (record { chip = c; core = p }) ≡ Some (sent_vertex s w c p rest u)
-  vertex_here w rest u = ap (λ l. vertex_at l (record { chip = c; core = p })) (list ∙ stays) ∙ send_meets s w c p rest u
+module _ (s t : State) (w : List Waiting) (c : Chip) (o : Out) (setup : Setup) (is : t ≡ after_event s (Send c o)) (map : IsMapOf setup s) where
+  here : (q : Behind) → q ≡ behind setup c o → behind s.setup c o ≡ q
+  here q found = sym (found ∙ same_behind setup s.setup c o map.machine map.spots)
 
-  pub core_there : (w : List Waiting) (rest : List Out) → IsServing s w c (Core p ∷ rest) → None ≡ vertex_at spots (record { chip = c; core = p }) → ⊥
-  core_there w rest u none = none_some (sent_vertex s w c p rest u) (none ∙ vertex_here w rest u)
+  -- by a live link: the packet waits at its far end
+  pub link_served : (i : ℕ) → input i ≡ behind setup c o → (m : Description) → m ≡ t.setup.machine → (w' : List Waiting) → w' ≡ w ++ option_to_list (next_place m c o) →
+      (rest : List Out) → IsServing s w c (o ∷ rest) → IsServing t w' c rest × (work t w' ≤ work s w)
+  link_served i found m machine w' more rest u = by_parts (by_way s w c o rest u)
+    where
+      kept : m ≡ s.setup.machine
+      kept = machine ∙ (ap (λ (x : State). x.setup.machine) is ∙ ap (λ (x : Setup). x.machine) (after_event_setup s (Send c o)))
 
-  pub core_served : (v : ℕ) (end : State) → Some v ≡ vertex_at spots (record { chip = c; core = p }) → end ≡ after_event t (Collect v) →
-      (w : List Waiting) (rest : List Out) → IsServing s w c (Core p ∷ rest) → IsServing end w c rest
-  core_served v end meets last w rest u =
-      let same : v ≡ sent_vertex s w c p rest u = some_same v (sent_vertex s w c p rest u) (meets ∙ vertex_here w rest u) in
-      let whole : end ≡ after_event (after_event s (Send c (Core p))) (Collect (sent_vertex s w c p rest u)) =
-      last ∙ (ap (λ x. after_event x (Collect v)) is ∙ ap (λ n. after_event (after_event s (Send c (Core p))) (Collect n)) same)
-      in
-      subst (λ x. IsServing x w c rest) (sym whole) (send_core s w c p rest u)
+      by_parts : ((d : Dir) × (o ≡ Link d) × ((r : IsServing s w c (Link d ∷ rest)) × Beyond s r.kept r.copy c d)) ⊎ ((v : ℕ) × (v < length s.setup.spots) × (behind s.setup c o ≡ core v)) →
+          IsServing t w' c rest × (work t w' ≤ work s w)
+      by_parts (inr (v, below, there)) = absurd (differ (sym (here (input i) found) ∙ there))
+        where
+          differ : input i ≡ core v → ⊥
+          differ x = cc
+      by_parts (inl (d, out, (r, b))) =
+          let e : t ≡ after_event s (Send c (Link d)) = is ∙ ap (λ p. after_event s (Send c p)) out in
+          let place : next_place m c o ≡ Some (next s w c d rest r b) =
+          ap (λ n. next_place n c o) kept ∙ (ap (next_place s.setup.machine c) out ∙ ap (far_port d) b.leads)
+          in
+          let list : w' ≡ w ++ next s w c d rest r b ∷ [] = more ∙ ap (λ x. w ++ option_to_list x) place in
+          let long : length w' ≡ length w + 1 = ap length list ∙ length-append w (next s w c d rest r b ∷ []) in
+          let lighter = send_link_lighter s w c d rest r b in
+          let there : weight_in t ≡ weight_in (after_event s (Send c (Link d))) = ap weight_in e in
+          (
+            subst (λ l. IsServing t l c rest) (sym list) (subst (λ x. IsServing x (w ++ next s w c d rest r b ∷ []) c rest) (sym e) (send_link s w c d rest r b)),
+            omega (arith, lighter, there, long),
+          )
 
-  pub core_reached : (v : ℕ) (end : State) → end ≡ after_event t (Collect v) → IsReached s end
-  core_reached v end last = reached_then s t end (reached_by s t (Send c (Core p)) tt is) (reached_by t end (Collect v) tt last)
+  -- to a vertex, which takes it
+  pub core_served : (v : ℕ) → core v ≡ behind setup c o → (end : State) → end ≡ after_event t (Collect v) →
+      (rest : List Out) → IsServing s w c (o ∷ rest) → IsServing end w c rest × (work end w ≤ work s w)
+  core_served v found end last rest u = by_parts (by_way s w c o rest u)
+    where
+      by_parts : ((d : Dir) × (o ≡ Link d) × ((r : IsServing s w c (Link d ∷ rest)) × Beyond s r.kept r.copy c d)) ⊎ ((z : ℕ) × (z < length s.setup.spots) × (behind s.setup c o ≡ core z)) →
+          IsServing end w c rest × (work end w ≤ work s w)
+      by_parts (inl (d, out, (r, b))) = absurd (differ (far_queue s w c d rest r b) (sym (behind_far s w c d rest r b) ∙ (sym (ap (behind s.setup c) out) ∙ here (core v) found)))
+        where
+          differ : (j : ℕ) → input j ≡ core v → ⊥
+          differ j x = cc
+      by_parts (inr (z, below, there)) =
+          let same : z ≡ v = let both : core z ≡ core v = sym there ∙ here (core v) found in cc in
+          let whole : end ≡ after_event (after_event s (Send c o)) (Collect z) =
+          last ∙ (ap (λ x. after_event x (Collect v)) is ∙ ap (λ n. after_event (after_event s (Send c o)) (Collect n)) (sym same))
+          in
+          let first = event_lighter s (Send c o) u.kept in
+          let then' = event_lighter (after_event s (Send c o)) (Collect z) (kept_after s (Send c o) u.kept) in
+          let all : weight_in end ≡ weight_in (after_event (after_event s (Send c o)) (Collect z)) = ap weight_in whole in
+          (subst (λ x. IsServing x w c rest) (sym whole) (send_core s w c o rest u z below there), omega (arith, first, then', all))
 
-  pub core_lighter : (v : ℕ) (end : State) → IsKept s → end ≡ after_event t (Collect v) → weight_in end ≤ weight_in s
-  core_lighter v end kept last =
-      let first = event_lighter s (Send c (Core p)) kept in
-      let then' = event_lighter (after_event s (Send c (Core p))) (Collect v) (kept_after s (Send c (Core p)) kept) in
-      let whole : weight_in end ≡ weight_in (after_event (after_event s (Send c (Core p))) (Collect v)) = ap weight_in (last ∙ ap (λ x. after_event x (Collect v)) is) in
-      omega (arith, first, then', whole)
+  -- never nowhere
+  pub nowhere_served : nowhere ≡ behind setup c o → (rest : List Out) → IsServing s w c (o ∷ rest) → ⊥
+  nowhere_served found rest u = by_parts (by_way s w c o rest u)
+    where
+      by_parts : ((d : Dir) × (o ≡ Link d) × ((r : IsServing s w c (Link d ∷ rest)) × Beyond s r.kept r.copy c d)) ⊎ ((z : ℕ) × (z < length s.setup.spots) × (behind s.setup c o ≡ core z)) → ⊥
+      by_parts (inl (d, out, (r, b))) = differ (far_queue s w c d rest r b) (sym (behind_far s w c d rest r b) ∙ (sym (ap (behind s.setup c) out) ∙ here nowhere found))
+        where
+          differ : (j : ℕ) → input j ≡ nowhere → ⊥
+          differ j x = cc
+      by_parts (inr (z, below, there)) = differ (sym there ∙ here nowhere found)
+        where
+          differ : core z ≡ nowhere → ⊥
+          differ x = cc
+
+-- a setup stays one of the same machine and spots
+pub map_still : (setup : Setup) (s t : State) → IsReached s t → IsMapOf setup s → IsMapOf setup t
+map_still setup s t reached map =
+    let same = setup_reached s t reached in
+    record { machine = map.machine ∙ ap (λ (x : Setup). x.machine) (sym same); spots = map.spots ∙ ap (λ (x : Setup). x.spots) (sym same) }
 
 -- ---- a packet goes on
 
@@ -185,7 +248,7 @@ pub as_before : (s : State) (v : ℕ) → (left : List McCopy) × (s.unsent ≡ 
 as_before s v = (get_or s.unsent v [], sym (set-get_or s.unsent v []))
 
 pub there_still : (s t : State) (v : ℕ) → IsReached s t → v < length s.setup.spots → v < length t.setup.spots
-there_still s t v reached below = subst (λ (l : List Spot). v < length l) (sym (spots_reached s t reached)) below
+there_still s t v reached below = subst (λ (l : List Spot). v < length l) (sym (ap (λ (x : Setup). x.spots) (setup_reached s t reached))) below
 
 pub was_there : (s : State) (v : ℕ) → IsKept s → v < length s.setup.spots → v < length s.unsent
 was_there s v kept below = let long = kept.mesh.unsent_lists in omega (arith, below, long)
@@ -195,10 +258,8 @@ pub drained : (s t : State) (n : ℕ) → IsKept s → IsReached s t → Nothing
 drained s t n kept reached quiet all before = record {
   reached = reached;
   at_rest = record {
-    all_sent = all_vertices t n (kept_reached s t kept reached) (subst (λ (l : List Spot). length l ≤ n) (sym (spots_reached s t reached)) all) before;
-    inputs_empty = quiet.inputs_empty;
-    hands_empty = quiet.hands_empty;
-    cores_empty = quiet.cores_empty;
+    all_sent = all_vertices t n (kept_reached s t kept reached) (subst (λ (l : List Spot). length l ≤ n) (sym (ap (λ (x : Setup). x.spots) (setup_reached s t reached))) all) before;
+    waits = quiet;
   };
   no_record = dumped_reached s t reached;
 }

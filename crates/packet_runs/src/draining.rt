@@ -2,7 +2,10 @@
 ghost use Rattle.std.specs.Prelude.{◌≡◌, ◌≢◌, ℕ, List, [], ◌∷◌, ◌++◌, ◌<◌, ◌≤◌, Some, length, slice_get, slice_set, IfOk, OnOk};
 ghost use Rattle.spin_base.specs.declared.copies.McCopy.{McCopy as Copy};
 ghost use Rattle.spin_base.specs.declared.routes.Out.{Out as Output};
+ghost use Rattle.std.specs.Option.{option_to_list};
+ghost use Rattle.spin_base.specs.declared.copies.Event.TheVariants.{Collect};
 ghost use Rattle.machine_desc.specs.Live.{index_of, IsInside};
+ghost use Rattle.mesh_core.specs.Step.{after_event};
 ghost use Rattle.mesh_core.specs.Expected.{NothingWaits};
 ghost use Rattle.packet_runs.specs.Draining.{IsKept, IsReached, HasDrained};
 ghost use Rattle.packet_runs.specs.UnderWay.{work, outs_in, next_place, IsMapOf, IsUnderWay, IsServing};
@@ -137,15 +140,32 @@ fn serve(
 {
     mesh.step(Event::Send(chip, out))?;
     match setup.behind(chip, out) {
-        Queue::Input(_) => {
-            if let Some(next) = next_place(mesh.machine(), chip, out) {
-                waiting.push(next)?;
-            }
-        }
-        Queue::Core(vertex) => {
-            mesh.step(Event::Collect(vertex as u32))?;
-        }
-        Queue::Nowhere => {}
+        Queue::Input(_) => wait_beyond(mesh.machine(), waiting, chip, out),
+        Queue::Core(vertex) => collect(mesh, vertex as u32),
+        Queue::Nowhere => Ok(()),
+    }
+}
+
+// The vertex takes the packet.
+fn collect(mesh: &mut Mesh, vertex: u32) -> Result<(), Memory>
+    ensures { OnOk result (mesh.new ≡ after_event mesh.old (Collect vertex)) }
+{
+    mesh.step(Event::Collect(vertex))?;
+    Ok(())
+}
+
+// The packet waits at the far end of a link.
+fn wait_beyond(
+    machine: &Machine,
+    waiting: &mut Vec<Waiting>,
+    chip: Chip,
+    out: Out,
+) -> Result<(), Memory>
+    requires { IsInside machine.now chip }
+    ensures { OnOk result (waiting.new.items ≡ waiting.old.items ++ option_to_list (next_place machine.now chip out)) }
+{
+    if let Some(next) = next_place(machine, chip, out) {
+        waiting.push(next)?;
     }
     Ok(())
 }

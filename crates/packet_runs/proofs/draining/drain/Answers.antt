@@ -1,7 +1,7 @@
 use Rattle.std.proofs.Common.{◌<◌, ◌≤◌, length, ap, arith, subst}
 use Rattle.packet_runs.proofs.Frame.{reached_then, kept_reached}
 use Rattle.packet_runs.proofs.Packets.{few_spots}
-use Rattle.packet_runs.proofs.Turns.{there_still, was_there, one_vertex_more, drained}
+use Rattle.packet_runs.proofs.Turns.{there_still, was_there, one_vertex_more, drained, map_still}
 use Rattle.packet_runs.proofs.draining.drain.Goals as goal
 
 pub overflow_cast-vertex : goal.overflow_cast-vertex
@@ -37,3 +37,6 @@ pub returns : goal.returns
 returns c =
     drained c.args.mesh.now c.loop-vertex.mesh c.loop-vertex.vertex c.requires.kept c.loop-vertex.invariant.reached c.loop-vertex.invariant.quiet
     (subst (λ l. length l ≤ c.loop-vertex.vertex) c.spots-count.ensures c.loop-vertex-test.false) c.loop-vertex.invariant.sent
+
+pub send_all-requires-clause-map : goal.send_all-requires-clause-map
+send_all-requires-clause-map c = map_still c.in_ok-setup.setup c.args.mesh.now c.loop-vertex.mesh c.loop-vertex.invariant.reached c.in_ok-setup.ensures

@@ -1,8 +1,8 @@
 use Rattle.std.proofs.Common.{◌<◌, length, sym, ap, ◌∙◌, subst, refl, get_or, []}
 use Rattle.std.specs.List.{slice_set}
 use Rattle.spin_base.specs.declared.chips.Spot.{Spot}
-use Rattle.packet_runs.proofs.Frame.{reached_none, reached_then, kept_reached, spots_reached}
-use Rattle.packet_runs.proofs.Turns.{one_less, all_sent_there, as_before, there_still, was_there, is_none, is_some'}
+use Rattle.packet_runs.proofs.Frame.{reached_none, reached_then, kept_reached}
+use Rattle.packet_runs.proofs.Turns.{one_less, all_sent_there, as_before, there_still, was_there, is_none, is_some', map_still}
 use Rattle.packet_runs.proofs.draining.send_all.Goals as goal
 
 pub packets-init : goal.packets-init
@@ -40,3 +40,6 @@ pub returns-clause-unsent : goal.returns-clause-unsent
 returns-clause-unsent c =
     all_sent_there c.args.mesh.now.unsent c.packets.mesh.unsent c.args.vertex c.packets.invariant.unsent.0 c.unsent.result.now
     (was_there c.args.mesh.now c.args.vertex c.requires.kept c.requires.exists) c.packets.invariant.unsent.1 c.unsent.ensures (is_none c.unsent.result.now c.packets-test.ensures)
+
+pub send_packet-requires-clause-map : goal.send_packet-requires-clause-map
+send_packet-requires-clause-map c = map_still c.args.setup.now c.args.mesh.now c.packets.mesh c.packets.invariant.reached c.requires.map

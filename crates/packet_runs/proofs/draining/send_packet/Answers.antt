@@ -1,7 +1,7 @@
 use Rattle.std.proofs.Common.{◌∙◌, rules}
 use Rattle.spin_base.specs.declared.copies.Event.TheVariants.{Inject}
 use Rattle.packet_runs.proofs.Frame.{reached_by, reached_then}
-use Rattle.packet_runs.proofs.Turns.{begins, begins_unsent, ends_quiet, popped_smaller}
+use Rattle.packet_runs.proofs.Turns.{begins, begins_unsent, ends_quiet, popped_smaller, map_still}
 use Rattle.packet_runs.proofs.draining.send_packet.Goals as goal
 
 pub loop-next-init : goal.loop-next-init
@@ -24,3 +24,6 @@ loop-next-smaller c = popped_smaller c.loop-next.mesh c.go_on.new.mesh c.loop-ne
 
 pub returns-clause-quiet : goal.returns-clause-quiet
 returns-clause-quiet c = ends_quiet c.loop-next.mesh c.loop-next.waiting.items c.loop-next.invariant.under_way (search rules)
+
+pub go_on-requires-clause-map : goal.go_on-requires-clause-map
+go_on-requires-clause-map c = map_still c.args.setup.now c.args.mesh.now c.loop-next.mesh c.loop-next.invariant.reached c.requires.map
