@@ -7,5 +7,7 @@
 #![tactic(auto)]
 
 mod draining;
+mod opening;
 
 pub use draining::drain;
+pub use opening::open_mesh;
