@@ -16,9 +16,10 @@ use Rattle.link_detours.specs.Repair.{EdgeStep, LiveEdgeStep, IsKept, IsDetour, 
 use Rattle.link_detours.specs.Whole.{IsWhole}
 use Rattle.link_detours.proofs.Reaching.{link_inside}
 use Rattle.link_detours.proofs.Stepping.{Steps-map}
-use Rattle.link_detours.proofs.Turning.{filter_has, has_filter}
+use Rattle.machine_desc.proofs.TreeLemmas.{tree_cases, more_chips}
+use Rattle.list_laws.proofs.Members.{Contains-from_filter, Contains-filter}
 use Rattle.link_detours.proofs.Walks.{steps_walk}
-use Rattle.link_detours.proofs.Wholes.{tree_cases, steps_on_tree, more_chips, live_steps, whole_joined, detour_reached, Joins-more}
+use Rattle.link_detours.proofs.Wholes.{steps_on_tree, live_steps, whole_joined, detour_reached, Joins-more}
 
 module _ (m : Description) (root : Chip) (edges : List Edge) (counts : List ℕ) (top : ℕ) where
   abbrev pub live_of : List Edge
@@ -31,7 +32,7 @@ module _ (m : Description) (root : Chip) (edges : List Edge) (counts : List ℕ)
 pub live_edges_inside : (m : Description) (edges : List Edge) → All (λ e. IsInside m e.chip) (filter (λ e. is_live_link m e.chip e.dir) edges)
 live_edges_inside m edges k d h =
     let e : Edge = get_or (filter (λ f. is_live_link m f.chip f.dir) edges) k d in
-    let known = filter_has (λ f. is_live_link m f.chip f.dir) edges e (Contains-get_or (filter (λ f. is_live_link m f.chip f.dir) edges) k d h) in
+    let known = Contains-from_filter (λ f. is_live_link m f.chip f.dir) edges e (Contains-get_or (filter (λ f. is_live_link m f.chip f.dir) edges) k d h) in
     link_inside m e.chip e.dir known.1
 
 module _ (m : Description) (root : Chip) (edges : List Edge) (counts : List ℕ) (top : ℕ) (root_inside : IsInside m root)
@@ -42,15 +43,15 @@ module _ (m : Description) (root : Chip) (edges : List Edge) (counts : List ℕ)
   kept_has : (e : Edge) → Contains (kept_of m root edges counts top) e →
       Contains (live_of m root edges counts top) e × Contains edges e × IsLiveLink m e.chip e.dir × ((n : ℕ) × Steps (EdgeStep m (live_of m root edges counts top)) n root e.chip)
   kept_has e has =
-      let kept = filter_has (λ f. ltb (number_at m counts f.chip) top) (live_of m root edges counts top) e has in
-      let live = filter_has (λ f. is_live_link m f.chip f.dir) edges e kept.0 in
+      let kept = Contains-from_filter (λ f. ltb (number_at m counts f.chip) top) (live_of m root edges counts top) e has in
+      let live = Contains-from_filter (λ f. is_live_link m f.chip f.dir) edges e kept.0 in
       (kept.0, live.0, live.1, (reach e.chip (link_inside m e.chip e.dir live.1)).0 (ltb-true (number_at m counts e.chip) top kept.1))
 
   has_kept : (e : Edge) → Contains (live_of m root edges counts top) e → ((n : ℕ) × Steps (EdgeStep m (live_of m root edges counts top)) n root e.chip) →
       Contains (kept_of m root edges counts top) e
   has_kept e has way =
-      let live = filter_has (λ f. is_live_link m f.chip f.dir) edges e has in
-      has_filter (λ f. ltb (number_at m counts f.chip) top) (live_of m root edges counts top) e has
+      let live = Contains-from_filter (λ f. is_live_link m f.chip f.dir) edges e has in
+      Contains-filter (λ f. ltb (number_at m counts f.chip) top) (live_of m root edges counts top) e has
       (lt-ltb (number_at m counts e.chip) top ((reach e.chip (link_inside m e.chip e.dir live.1)).1 way))
 
   kept_steps : (n : ℕ) (c : Chip) → Steps (EdgeStep m (live_of m root edges counts top)) n root c → Steps (EdgeStep m (kept_of m root edges counts top)) n root c
@@ -102,16 +103,16 @@ module _ (m : Description) (root : Chip) (edges : List Edge) (counts : List ℕ)
           (
             known.3.0,
             Steps-map (EdgeStep m (live_of m root edges counts top)) (LiveEdgeStep m edges)
-                (λ a b step. let live = filter_has (λ f. is_live_link m f.chip f.dir) edges (record { chip = a; dir = step.0 }) step.1 in
+                (λ a b step. let live = Contains-from_filter (λ f. is_live_link m f.chip f.dir) edges (record { chip = a; dir = step.0 }) step.1 in
                 (step.0, live.0, live.1, step.2)) known.3.0 root e.chip known.3.1,
           ),
         ),
     λ known.
-        let live = has_filter (λ f. is_live_link m f.chip f.dir) edges e known.0 known.1 in
+        let live = Contains-filter (λ f. is_live_link m f.chip f.dir) edges e known.0 known.1 in
         has_kept e live (
           known.2.0,
           Steps-map (LiveEdgeStep m edges) (EdgeStep m (live_of m root edges counts top))
-              (λ a b step. (step.0, has_filter (λ f. is_live_link m f.chip f.dir) edges (record { chip = a; dir = step.0 }) step.1 step.2, step.3)) known.2.0 root e.chip known.2.1,
+              (λ a b step. (step.0, Contains-filter (λ f. is_live_link m f.chip f.dir) edges (record { chip = a; dir = step.0 }) step.1 step.2, step.3)) known.2.0 root e.chip known.2.1,
         ),
   )
 

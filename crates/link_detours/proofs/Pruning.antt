@@ -11,14 +11,8 @@ use Rattle.link_detours.specs.Usable.{link_place}
 use Rattle.link_detours.specs.Repair.{EdgeStep, LeadsToTarget, IsInOrder}
 use Rattle.link_detours.specs.Whole.{IsWhole}
 use Rattle.link_detours.proofs.Stepping.{Steps-cons, Steps-first}
-use Rattle.link_detours.proofs.Wholes.{tree_end, tree_cases, edge_step}
-
--- one edge more at the end of a path
-pub path_more : (m : Description) (edges : List Edge) (from to c : Chip) (path : List Edge) (e : Edge) →
-    IsPath m edges from path to → Contains edges e → e.chip ≡ to → end_of m e ≡ Some c → IsPath m edges from (path ++ e ∷ []) c
-path_more m edges from to c [] e along has at leads = (has, at ∙ sym along, (c, leads, refl))
-path_more m edges from to c (f ∷ path) e along has at leads =
-    (along.0, along.1, (along.2.0, along.2.1, path_more m edges along.2.0 to c path e along.2.2 has at leads))
+use Rattle.machine_desc.proofs.TreeLemmas.{tree_end, tree_cases, path_more}
+use Rattle.link_detours.proofs.Wholes.{edge_step}
 
 module _ (m : Description) (root : Chip) (tree : List Edge) (targets : List Chip) (result : List Edge) (is : IsWhole m root tree)
     (on_tree : (t : Chip) → Contains targets t → IsTreeChip m root tree t) (some : 0 < length targets)

@@ -20,7 +20,8 @@ use Rattle.link_detours.specs.Descent.{IsStepDown, IsBestStep, IsDescent}
 use Rattle.link_detours.specs.Whole.{IsWhole}
 use Rattle.link_detours.proofs.Stepping.{Steps-map, IsLevel-same, IsReachedBy-map}
 use Rattle.link_detours.proofs.Walks.{walk_steps}
-use Rattle.link_detours.proofs.Wholes.{steps_on_tree, tree_cases}
+use Rattle.machine_desc.proofs.TreeLemmas.{tree_cases}
+use Rattle.link_detours.proofs.Wholes.{steps_on_tree}
 
 -- a live link begins inside the grid
 pub link_inside : (m : Description) (c : Chip) (d : Dir) → IsLiveLink m c d → IsInside m c

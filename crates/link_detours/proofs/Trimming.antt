@@ -2,7 +2,7 @@
 use Rattle.std.proofs.Common.{◌≡◌, ℕ, zero, suc, ◌+◌, ◌<◌, ◌≤◌, List, [], ◌∷◌, ◌++◌, length, get_or, map, take, Some, refl, sym, ap, ◌∙◌, subst, arith, inl, inr, ◌↔◌}
 use Rattle.std.specs.List.{Contains, All, Any}
 use Rattle.std.proofs.lemmas.List.{take_more, get_or_default, get_or-map, length-map}
-use Rattle.std.proofs.lemmas.List.Elements.{All-contains, All-push, Contains-get_or, Contains-append_cases}
+use Rattle.std.proofs.lemmas.List.Elements.{All-contains, Contains-get_or, Contains-append_cases, All-more}
 use Rattle.std.proofs.lemmas.List.Quantifiers.{all_pairs_push}
 use Rattle.spin_base.specs.declared.chips.Chip.{Chip}
 use Rattle.spin_base.specs.declared.chips.Dir.TheVariants.{East}
@@ -15,14 +15,9 @@ use Rattle.link_detours.specs.Steps.{Steps}
 use Rattle.link_detours.specs.Usable.{link_place, number_at}
 use Rattle.link_detours.specs.Repair.{EdgeStep, LeadsToTarget, IsInOrder}
 use Rattle.link_detours.specs.Whole.{IsWhole, GoesOnFrom}
-use Rattle.link_detours.proofs.Pruning.{path_more}
 use Rattle.link_detours.proofs.Stepping.{Steps-first}
 use Rattle.link_detours.proofs.Unchanged.{tree_leads}
-use Rattle.link_detours.proofs.Wholes.{tree_cases}
-
--- one item more that has a property
-pub All-more : {X : Type 0} (P : X → Type 0) (xs : List X) (i : ℕ) (d : X) → i < length xs → P (get_or xs i d) → All P (take i xs) → All P (take (i + 1) xs)
-All-more P xs i d within new old = subst (λ ys. All P ys) (sym (take_more xs i d within)) (All-push P (take i xs) (get_or xs i d) old new)
+use Rattle.machine_desc.proofs.TreeLemmas.{tree_cases, path_more}
 
 -- one edge more is in order, where its place is no less than the least that may come
 pub order_more : (m : Description) (edges : List Edge) (i : ℕ) (d : Edge) (least place : ℕ) → i < length edges →
@@ -35,8 +30,8 @@ order_more m edges i d least place within is low ordered below = (
       (λ k f h. let before : link_place m (get_or (take i edges) k f).chip (get_or (take i edges) k f).dir < least = below k f h in
       subst (λ n. link_place m (get_or (take i edges) k f).chip (get_or (take i edges) k f).dir < n) is (omega (arith, before, low)))),
   All-more (λ e. link_place m e.chip e.dir < place + 1) edges i d within
-      (subst (λ n. n < place + 1) is (omega arith))
-      (λ k f h. let before : link_place m (get_or (take i edges) k f).chip (get_or (take i edges) k f).dir < least = below k f h in omega (arith, before, low)),
+      (λ k f h. let before : link_place m (get_or (take i edges) k f).chip (get_or (take i edges) k f).dir < least = below k f h in omega (arith, before, low))
+      (subst (λ n. n < place + 1) is (omega arith)),
 )
 
 -- what an item of a mapped list comes from

@@ -26,7 +26,7 @@ use Rattle.link_detours.proofs.Stepping.{Steps-map, Steps-cons}
 use Rattle.list_laws.proofs.Ascending.{same_in_order}
 use Rattle.list_laws.proofs.Members.{Contains-later}
 use Rattle.link_detours.proofs.Walks.{steps_walk}
-use Rattle.link_detours.proofs.Wholes.{tree_end, tree_cases}
+use Rattle.machine_desc.proofs.TreeLemmas.{tree_end, tree_cases}
 
 -- a path over live edges is as many steps
 path_steps : (m : Description) (edges : List Edge) → All (λ e. IsLiveLink m e.chip e.dir) edges → (from to : Chip) (path : List Edge) →

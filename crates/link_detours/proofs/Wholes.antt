@@ -1,5 +1,5 @@
 -- Trees whose every chip is reached from the root, and what a detour adds to one.
-use Rattle.std.proofs.Common.{◌≡◌, ℕ, zero, suc, ◌<◌, ◌≤◌, List, [], ◌∷◌, ◌++◌, length, Some, refl, sym, ap, ◌∙◌, subst, arith, inl, inr, ◌⊎◌}
+use Rattle.std.proofs.Common.{◌≡◌, ℕ, zero, suc, ◌<◌, ◌≤◌, List, [], ◌∷◌, ◌++◌, length, Some, refl, sym, ap, ◌∙◌, subst, arith, inl, inr}
 use Rattle.std.specs.List.{Contains}
 use Rattle.std.proofs.lemmas.List.Elements.{Contains-append_left, Contains-append_right, Contains-append_cases}
 use Rattle.spin_base.specs.declared.chips.Chip.{Chip}
@@ -7,26 +7,11 @@ use Rattle.machine_desc.specs.declared.trees.Edge.{Edge}
 use Rattle.machine_desc.specs.Description.{Description}
 use Rattle.machine_desc.specs.Live.{IsLiveLink, LeadsTo}
 use Rattle.machine_desc.specs.RoutingTree.{end_of, IsTreeChip}
+use Rattle.machine_desc.proofs.TreeLemmas.{tree_end, tree_cases, more_chips}
 use Rattle.link_detours.specs.Steps.{Steps}
 use Rattle.link_detours.specs.Whole.{IsWhole}
 use Rattle.link_detours.specs.Repair.{EdgeStep, IsTreeLevel, IsDetour, Joins}
 use Rattle.link_detours.proofs.Stepping.{Steps-map}
-
--- a chip into which an edge of the tree leads is a chip of the tree
-pub tree_end : (m : Description) (root : Chip) (tree : List Edge) (e : Edge) (c : Chip) → Contains tree e → end_of m e ≡ Some c → IsTreeChip m root tree c
-tree_end m root tree e c has leads = inr (has.0, e, has.1, has.2, leads)
-
--- the edge of the tree that leads into a chip, where that is not the root
-pub tree_cases : (m : Description) (root : Chip) (tree : List Edge) (c : Chip) → IsTreeChip m root tree c →
-    (c ≡ root) ⊎ ((e : Edge) × Contains tree e × (end_of m e ≡ Some c))
-tree_cases m root tree c (inl at) = inl at
-tree_cases m root tree c (inr into) = inr (into.1, (into.0, into.2, into.3), into.4)
-
-pub more_chips : (m : Description) (root : Chip) (tree more : List Edge) (c : Chip) → IsTreeChip m root tree c → IsTreeChip m root (tree ++ more) c
-more_chips m root tree more c on = elim (tree_cases m root tree c on) [
-  | inl at ↦ inl at
-  | inr into ↦ tree_end m root (tree ++ more) into.0 c (Contains-append_left tree more into.0 into.1) into.2
-]
 
 pub more_steps : (m : Description) (tree more : List Edge) (n : ℕ) (a c : Chip) → Steps (EdgeStep m tree) n a c → Steps (EdgeStep m (tree ++ more)) n a c
 more_steps m tree more = Steps-map (EdgeStep m tree) (EdgeStep m (tree ++ more))

@@ -4,6 +4,7 @@ use Rattle.std.specs.List.{Contains, Any}
 use Rattle.std.proofs.lemmas.Bool.{cases_eq}
 use Rattle.std.proofs.lemmas.List.{append-nil, append_assoc, take_more, get_or-set_same, get_or-set_other}
 use Rattle.std.proofs.lemmas.List.Elements.{All-push, All-nil, Contains-append_left, Contains-push, Contains-push_cases}
+use Rattle.std.proofs.lemmas.Option.{same_Some}
 use Rattle.spin_base.specs.declared.chips.Chip.{Chip}
 use Rattle.spin_base.specs.declared.chips.Dir.{Dir}
 use Rattle.machine_desc.specs.declared.trees.Edge.{Edge}
@@ -83,9 +84,6 @@ any_push m links e c any = elim (Contains-push_cases links e any.1 (any.0, any.2
 push_any : (m : Description) (links : List Edge) (e : Edge) (c : Chip) → Any (λ f. end_of m f ≡ Some c) links → Any (λ f. end_of m f ≡ Some c) (links ++ e ∷ [])
 push_any m links e c any = leads_in m (links ++ e ∷ []) any.1 c (Contains-append_left links (e ∷ []) any.1 (any.0, any.2, any.3)) any.4
 
-same_some : {X : Type 0} (x y : X) → Some x ≡ Some y → x ≡ y
-same_some x y e = cc
-
 pub marked_start : (m : Description) (on : List Bool) → Marked m on on []
 marked_start m on c inside = (
   λ is. inl is,
@@ -118,7 +116,7 @@ marked_more m old new links i d far within long e_in leads so_far =
               | inl was ↦ inl was
               | inr any ↦ elim (any_push m (take i links) e c any) [
                 | inl before ↦ inr before
-                | inr here ↦ absurd (other (ap (index_of m) (same_some c far (sym here ∙ leads))))
+                | inr here ↦ absurd (other (ap (index_of m) (same_Some c far (sym here ∙ leads))))
               ]
             ]),
           )

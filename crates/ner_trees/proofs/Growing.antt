@@ -1,14 +1,12 @@
 -- The tree so far: what its table says, and what comes of growing when it is done.
 use Rattle.std.proofs.Common.{◌≡◌, ◌≢◌, ℕ, ◌+◌, ◌*◌, ◌<◌, ◌≤◌, Bool, true, false, List, [], ◌∷◌, ◌++◌, length, map, get_or, take, set, replicate, Option, Some, None, refl, sym, ap, ◌∙◌, subst, arith, inl, inr, ◌⊎◌, ◌↔◌}
-use Rattle.std.specs.List as lists
 use Rattle.std.specs.List.{Contains, All, AllPairs, Any, sum_by}
 use Rattle.std.specs.List.Sorted.{IsPermutation, IsNonDecreasingBy}
 use Rattle.std.proofs.lemmas.Bool.{cases_eq, cases_order, true≢false, and_from, eq-eqb}
 use Rattle.std.proofs.lemmas.List.{append-nil, append_assoc, take_more, take_all, map_push, get_or-set_same, get_or-set_other, get_or-replicate, length-replicate}
 use Rattle.std.proofs.Math.ListN.{length-set}
-use Rattle.std.proofs.lemmas.List.Edits.{swap_is, length-swap}
 use Rattle.std.proofs.lemmas.List.Elements.{All-contains, All-nil, Contains-get_or, Contains-append_cases, Contains-append_right}
-use Rattle.std.proofs.lemmas.List.Sorted.{IsPermutation-keeps, IsPermutation-sym, Contains-permutation, length_permutation}
+use Rattle.std.proofs.lemmas.List.Sorted.{IsPermutation-sym, Contains-permutation, length_permutation}
 use Rattle.spin_base.specs.declared.chips.Chip.{Chip}
 use Rattle.spin_base.specs.declared.chips.Dir.{Dir}
 use Rattle.spin_base.specs.Links.{dir_number}
@@ -27,7 +25,9 @@ use Rattle.ner_trees.specs.Growth.{or_stay, next_of, IsNear, IsAdded, Grows, IsG
 use Rattle.ner_trees.specs.Order.{IsBefore, order_number}
 use Rattle.ner_trees.specs.Search.{is_on, IsNearestOn, IsNoneOn, IsCutAt}
 use Rattle.ner_trees.proofs.Cutting.{Marked}
-use Rattle.ner_trees.proofs.Trees.{tree_end, tree_cases, more_chips, spanning_root, Outcome, grown}
+use Rattle.machine_desc.proofs.TreeLemmas.{tree_end, tree_cases, more_chips}
+use Rattle.list_laws.proofs.Pairs.{AllPairs-permutation}
+use Rattle.ner_trees.proofs.Trees.{spanning_root, Outcome, grown}
 use Rattle.ner_trees.proofs.Walking.{ldf_walks}
 
 -- the table has the chips of the tree
@@ -157,61 +157,6 @@ so_far_more m root on after edges whole joins more targets i d j within long tel
           (so_far.grows (j ∷ js) end (subst (λ (t : Chip). IsNear m root edges t j.near) (sym target) near, (added.0, added.1, subst (λ es. Grows m root es js end) added.2 g)));
     })
 
--- pairs that differ both ways differ in any order of the list
-moved : {X : Type 0} (l : List X) (i j k : ℕ) (d : X) → i < length l → j < length l → k < length l →
-    (n : ℕ) × (get_or (lists.swap l i j) k d ≡ get_or l n d) × (n < length l) × (((k ≡ j) × (n ≡ i)) ⊎ (((k ≡ i) × (n ≡ j)) ⊎ ((k ≢ j) × (k ≢ i) × (n ≡ k))))
-moved l i j k d il jl kl = elim (cases_eq k j) [
-  | inl last ↦ (
-    i,
-    ap (λ xs. get_or xs k d) (sym (swap_is l i j d il jl)) ∙ (ap (λ n. get_or (set (set l i (get_or l j d)) j (get_or l i d)) n d) last
-        ∙ get_or-set_same (set l i (get_or l j d)) j (get_or l i d) d (rw (length-set l i (get_or l j d)) jl)),
-    il,
-    inl (last, refl),
-  )
-  | inr not_last ↦ elim (cases_eq k i) [
-    | inl first ↦ (
-      j,
-      ap (λ xs. get_or xs k d) (sym (swap_is l i j d il jl)) ∙ (get_or-set_other (set l i (get_or l j d)) j k (get_or l i d) d not_last
-          ∙ (ap (λ n. get_or (set l i (get_or l j d)) n d) first ∙ get_or-set_same l i (get_or l j d) d il)),
-      jl,
-      inr (inl (first, refl)),
-    )
-    | inr not_first ↦ (
-      k,
-      ap (λ xs. get_or xs k d) (sym (swap_is l i j d il jl)) ∙ (get_or-set_other (set l i (get_or l j d)) j k (get_or l i d) d not_last
-          ∙ get_or-set_other l i k (get_or l j d) d not_first),
-      kl,
-      inr (inr (not_last, not_first, refl)),
-    )
-  ]
-]
-
-differ : (i j p q m n : ℕ) → p < q → (((p ≡ j) × (m ≡ i)) ⊎ (((p ≡ i) × (m ≡ j)) ⊎ ((p ≢ j) × (p ≢ i) × (m ≡ p)))) →
-    (((q ≡ j) × (n ≡ i)) ⊎ (((q ≡ i) × (n ≡ j)) ⊎ ((q ≢ j) × (q ≢ i) × (n ≡ q)))) → m ≡ n → ⊥
-differ i j p q m n less (inl a) (inl b) e = omega arith
-differ i j p q m n less (inl a) (inr (inl b)) e = omega arith
-differ i j p q m n less (inl a) (inr (inr b)) e = b.1 (sym b.2 ∙ (sym e ∙ a.1))
-differ i j p q m n less (inr (inl a)) (inl b) e = omega arith
-differ i j p q m n less (inr (inl a)) (inr (inl b)) e = omega arith
-differ i j p q m n less (inr (inl a)) (inr (inr b)) e = b.0 (sym b.2 ∙ (sym e ∙ a.1))
-differ i j p q m n less (inr (inr a)) (inl b) e = a.1 (sym a.2 ∙ (e ∙ b.1))
-differ i j p q m n less (inr (inr a)) (inr (inl b)) e = a.0 (sym a.2 ∙ (e ∙ b.1))
-differ i j p q m n less (inr (inr a)) (inr (inr b)) e = (let x : m ≡ p = a.2 in let y : n ≡ q = b.2 in omega arith)
-
-pub pairs_permutation : {X : Type 0} (R : X → X → Type 0) → ((x y : X) → R x y → R y x) → (xs ys : List X) → IsPermutation xs ys → AllPairs R xs → AllPairs R ys
-pairs_permutation {X} R turn xs ys perm all = IsPermutation-keeps xs (λ l. AllPairs R l) all (λ l i j il jl pairs p q d less short.
-    let long : length (lists.swap l i j) ≡ length l = length-swap l i j in
-    let ql : q < length l = omega arith in
-    let pl : p < length l = omega arith in
-    let one = moved l i j p d il jl pl in
-    let two = moved l i j q d il jl ql in
-    let here : R (get_or l one.0 d) (get_or l two.0 d) = elim (cases_order one.0 two.0) [
-      | inl same ↦ absurd (differ i j p q one.0 two.0 less one.3 two.3 same)
-      | inr (inl before) ↦ pairs one.0 two.0 d before two.2
-      | inr (inr after) ↦ turn (get_or l two.0 d) (get_or l one.0 d) (pairs two.0 one.0 d after one.2)
-    ] in
-    subst (λ (x : X). R x (get_or (lists.swap l i j) q d)) (sym one.1) (subst (λ (y : X). R (get_or l one.0 d) y) (sym two.1) here)) ys perm
-
 -- numbers that rise put edges in order
 before_is : (e f : Edge) → e.chip.y < 256 → f.chip.y < 256 → order_number e ≤ order_number f → (e ≡ f → ⊥) → IsBefore e f
 before_is e f ey fy rises apart =
@@ -275,7 +220,7 @@ finished m root targets joins on whole edges size root_in targets_in so_far perm
     ]) grows in
     let to : (e : Edge) → Contains edges e → Contains whole e = λ e has. Contains-permutation edges whole e (IsPermutation-sym whole edges perm) has in
     let back' : (e : Edge) → Contains whole e → Contains edges e = λ e has. Contains-permutation whole edges e perm has in
-    let apart : AllPairs (λ e f. end_of m e ≢ end_of m f) edges = pairs_permutation (λ e f. end_of m e ≢ end_of m f) (λ e f differ' same. differ' (sym same)) whole edges perm out.spans.apart in
+    let apart : AllPairs (λ e f. end_of m e ≢ end_of m f) edges = AllPairs-permutation (λ e f. end_of m e ≢ end_of m f) (λ e f differ' same. differ' (sym same)) whole edges perm out.spans.apart in
     let at : (k : ℕ) (d : Edge) → k < length edges → Contains whole (get_or edges k d) = λ k d within. to (get_or edges k d) (Contains-get_or edges k d within) in
     let inside : All (λ e. IsInside m e.chip) edges = λ k d within. out.spans.inside (get_or edges k d) (at k d within) in
     let none_into : All (λ e. end_of m e ≢ Some root) edges = λ k d within. out.spans.none_into_root (get_or edges k d) (at k d within) in

@@ -4,6 +4,7 @@ use Rattle.std.proofs.lemmas.Bool.{cases_lt, cases_eq, cond-true, cond-false, lt
 use Rattle.std.proofs.lemmas.Nat.{mod-mul-add, div-mul-add, mul-add-lt}
 use Rattle.std.specs.Option.{IfSome, IfNone}
 use Rattle.std.specs.Prelude.{ℤ, pos, negsuc}
+use Rattle.std.proofs.lemmas.Option.{same_Some}
 use Rattle.spin_base.specs.declared.chips.Chip.{Chip}
 use Rattle.machine_desc.specs.Description.{Description, HasSize}
 use Rattle.machine_desc.specs.Live.{chip_at, index_of, IsInside}
@@ -163,16 +164,13 @@ best_past m on t r k (Some c) none so_far = (
   ],
 )
 
-same_some : {X : Type 0} (x y : X) → Some x ≡ Some y → x ≡ y
-same_some x y e = cc
-
 pub best_more : (m : Description) (on : List Bool) (t : Chip) (r k : ℕ) (best : Option Chip) (c n : Chip) → window_chip m t r k ≡ Some c → IsOnWithin m on t r c →
     IfNone best (n ≡ c) → IfSome best (λ b. ((n ≡ b) × IsNotFarther m t b c) ⊎ ((n ≡ c) × IsNotFarther m t c b)) →
     IsBestOf m on t r k best → IsBestOf m on t r (k + 1) (Some n)
 best_more m on t r k None c n at is first later so_far = (
   subst (λ (x : Chip). IsOnWithin m on t r x) (sym first) is,
   λ j e less there it. elim (cases_eq j k) [
-    | inl last ↦ not_farther_same m t n e (first ∙ same_some c e (sym at ∙ (ap (window_chip m t r) (sym last) ∙ there)))
+    | inl last ↦ not_farther_same m t n e (first ∙ same_Some c e (sym at ∙ (ap (window_chip m t r) (sym last) ∙ there)))
     | inr other ↦ absurd (so_far j e (omega arith) there it)
   ],
 )
@@ -180,14 +178,14 @@ best_more m on t r k (Some b) c n at is first (inl old) so_far = (
   subst (λ (x : Chip). IsOnWithin m on t r x) (sym old.0) so_far.0,
   λ j e less there it. elim (cases_eq j k) [
     | inl last ↦ subst (λ (x : Chip). IsNotFarther m t x e) (sym old.0)
-        (subst (λ (x : Chip). IsNotFarther m t b x) (same_some c e (sym at ∙ (ap (window_chip m t r) (sym last) ∙ there))) old.1)
+        (subst (λ (x : Chip). IsNotFarther m t b x) (same_Some c e (sym at ∙ (ap (window_chip m t r) (sym last) ∙ there))) old.1)
     | inr other ↦ subst (λ (x : Chip). IsNotFarther m t x e) (sym old.0) (so_far.1 j e (omega arith) there it)
   ],
 )
 best_more m on t r k (Some b) c n at is first (inr new) so_far = (
   subst (λ (x : Chip). IsOnWithin m on t r x) (sym new.0) is,
   λ j e less there it. elim (cases_eq j k) [
-    | inl last ↦ not_farther_same m t n e (new.0 ∙ same_some c e (sym at ∙ (ap (window_chip m t r) (sym last) ∙ there)))
+    | inl last ↦ not_farther_same m t n e (new.0 ∙ same_Some c e (sym at ∙ (ap (window_chip m t r) (sym last) ∙ there)))
     | inr other ↦ subst (λ (x : Chip). IsNotFarther m t x e) (sym new.0) (not_farther_trans m t c b e new.1 (so_far.1 j e (omega arith) there it))
   ],
 )

@@ -1,5 +1,5 @@
 -- Trees that grow by branches: each of their chips is reached from the root, in one way.
-use Rattle.std.proofs.Common.{◌≡◌, ◌≢◌, ℕ, zero, suc, ◌+◌, ◌<◌, ◌≤◌, List, [], ◌∷◌, ◌++◌, length, map, Some, get_or, refl, sym, ap, ◌∙◌, subst, arith, inl, inr, ◌⊎◌}
+use Rattle.std.proofs.Common.{◌≡◌, ◌≢◌, ℕ, suc, ◌+◌, ◌<◌, ◌≤◌, List, [], ◌∷◌, ◌++◌, length, map, Some, get_or, refl, sym, ap, ◌∙◌, subst, arith, inl, inr, ◌⊎◌}
 use Rattle.std.specs.List.{Contains, All, AllPairs, sum_by}
 use Rattle.std.proofs.lemmas.Bool.{cases_lt}
 use Rattle.std.proofs.lemmas.List.{append-nil, append_assoc, length-append}
@@ -13,6 +13,9 @@ use Rattle.machine_desc.specs.Description.{Description}
 use Rattle.machine_desc.specs.Live.{far_of, IsInside}
 use Rattle.machine_desc.specs.RoutingTree.{end_of, IsTreeChip, IsPath}
 use Rattle.machine_desc.proofs.Far.{far_inside}
+use Rattle.machine_desc.proofs.TreeLemmas.{tree_end, tree_cases, more_chips, more_path, path_more}
+use Rattle.list_laws.proofs.Members.{Contains-none, Contains-first, Contains-later, Contains-cases}
+use Rattle.std.proofs.lemmas.Option.{same_Some}
 use Rattle.ner_trees.specs.declared.growths.Join.{Join}
 use Rattle.ner_trees.specs.Geometry.{displacement_of, distance_of}
 use Rattle.ner_trees.specs.LongestFirst.{ldf_of}
@@ -23,33 +26,6 @@ use Rattle.ner_trees.proofs.LongestFirst.{ldf_length}
 abbrev pub link : Chip → Dir → Edge
 link c d = record { chip = c; dir = d }
 
-pub tree_end : (m : Description) (root : Chip) (tree : List Edge) (e : Edge) (c : Chip) → Contains tree e → end_of m e ≡ Some c → IsTreeChip m root tree c
-tree_end m root tree e c has leads = inr (has.0, e, has.1, has.2, leads)
-
--- the edge that leads into a chip of the tree, where that is not the root
-pub tree_cases : (m : Description) (root : Chip) (tree : List Edge) (c : Chip) → IsTreeChip m root tree c →
-    (c ≡ root) ⊎ ((e : Edge) × Contains tree e × (end_of m e ≡ Some c))
-tree_cases m root tree c (inl at) = inl at
-tree_cases m root tree c (inr into) = inr (into.1, (into.0, into.2, into.3), into.4)
-
-pub more_chips : (m : Description) (root : Chip) (tree more : List Edge) (c : Chip) → IsTreeChip m root tree c → IsTreeChip m root (tree ++ more) c
-more_chips m root tree more c on = elim (tree_cases m root tree c on) [
-  | inl at ↦ inl at
-  | inr into ↦ tree_end m root (tree ++ more) into.0 c (Contains-append_left tree more into.0 into.1) into.2
-]
-
--- a path over more edges, and a path with an edge after it
-pub more_path : (m : Description) (tree more : List Edge) (from : Chip) (path : List Edge) (to : Chip) → IsPath m tree from path to → IsPath m (tree ++ more) from path to
-more_path m tree more from [] to is = is
-more_path m tree more from (e ∷ path) to is =
-    (Contains-append_left tree more e is.0, is.1, (is.2.0, is.2.1, more_path m tree more is.2.0 path to is.2.2))
-
-path_push : (m : Description) (edges : List Edge) (from : Chip) (path : List Edge) (mid : Chip) (e : Edge) (to : Chip) → IsPath m edges from path mid →
-    Contains edges e → e.chip ≡ mid → end_of m e ≡ Some to → IsPath m edges from (path ++ e ∷ []) to
-path_push m edges from [] mid e to is has begins leads = (has, begins ∙ sym is, (to, leads, refl))
-path_push m edges from (f ∷ path) mid e to is has begins leads =
-    (is.0, is.1, (is.2.0, is.2.1, path_push m edges is.2.0 path mid e to is.2.2 has begins leads))
-
 -- Each edge leads somewhere inside the grid, no two into one chip and none into the root, and each chip is reached.
 pub record IsSpanning (m : Description) (root : Chip) (tree : List Edge) : Type 0 where
   pub inside : (e : Edge) → Contains tree e → IsInside m e.chip
@@ -59,19 +35,16 @@ pub record IsSpanning (m : Description) (root : Chip) (tree : List Edge) : Type 
   pub apart : AllPairs (λ e f. end_of m e ≢ end_of m f) tree
   pub reached : (c : Chip) → IsTreeChip m root tree c → (path : List Edge) × IsPath m tree root path c
 
-none_in : {X : Type 0} (x : X) → Contains [] x → ⊥
-none_in x has = let none : has.0 < 0 = has.1 in omega arith
-
 pub spanning_root : (m : Description) (root : Chip) → IsSpanning m root []
 spanning_root m root = record {
-  inside = λ e has. absurd (none_in e has);
-  leads = λ e has. absurd (none_in e has);
-  begins = λ e has. absurd (none_in e has);
-  none_into_root = λ e has. absurd (none_in e has);
+  inside = λ e has. absurd (Contains-none e has);
+  leads = λ e has. absurd (Contains-none e has);
+  begins = λ e has. absurd (Contains-none e has);
+  none_into_root = λ e has. absurd (Contains-none e has);
   apart = λ i j d less short. absurd (omega arith);
   reached = λ c on. elim (tree_cases m root [] c on) [
     | inl at ↦ ([], sym at)
-    | inr into ↦ absurd (none_in into.0 into.1)
+    | inr into ↦ absurd (Contains-none into.0 into.1)
   ];
 }
 
@@ -81,9 +54,6 @@ tree_inside m root tree root_inside is c on = elim (tree_cases m root tree c on)
   | inl at ↦ subst (λ (x : Chip). IsInside m x) (sym at) root_inside
   | inr into ↦ far_inside m into.0.chip c into.0.dir (is.inside into.0 into.1) into.2
 ]
-
-same_some : {X : Type 0} (x y : X) → Some x ≡ Some y → x ≡ y
-same_some x y e = cc
 
 -- an edge that leads from the tree to a chip that is not in it
 pub spanning_more : (m : Description) (root : Chip) (tree : List Edge) (e : Edge) (c : Chip) → IsSpanning m root tree → IsInside m e.chip →
@@ -105,7 +75,7 @@ spanning_more m root tree e c is e_inside begins leads off = record {
     | inl old ↦ is.none_into_root f old into
     | inr new ↦
         let at : Some c ≡ Some root = sym leads ∙ (ap (end_of m) new ∙ into) in
-        off (inl (same_some c root at))
+        off (inl (same_Some c root at))
   ];
   apart = all_pairs_push (λ f g. end_of m f ≢ end_of m g) tree e is.apart (λ k d within same.
       off (tree_end m root tree (get_or tree k d) c (Contains-get_or tree k d within) (same ∙ leads)));
@@ -118,7 +88,7 @@ spanning_more m root tree e c is e_inside begins leads off = record {
       | inr new ↦
           let way = is.reached e.chip begins in
           let at : end_of m e ≡ Some x = ap (end_of m) new ∙ into.2 in
-          (way.0 ++ e ∷ [], path_push m (tree ++ e ∷ []) root way.0 e.chip e x (more_path m tree (e ∷ []) root way.0 e.chip way.1) (Contains-push tree e) refl at)
+          (way.0 ++ e ∷ [], path_more m (tree ++ e ∷ []) root e.chip x way.0 e (more_path m tree (e ∷ []) root way.0 e.chip way.1) (Contains-push tree e) refl at)
     ]
   ];
 }
@@ -142,21 +112,11 @@ pub length-links_of : (m : Description) (c : Chip) (ds : List Dir) → length (l
 length-links_of m c [] = refl
 length-links_of m c (d ∷ ds) = ap suc (length-links_of m (next_of m c d) ds)
 
-later : {X : Type 0} (x : X) (xs : List X) (y : X) → Contains (x ∷ xs) y → (x ≡ y) ⊎ Contains xs y
-later x xs y (zero, within, same) = inl same
-later x xs y (suc k, within, same) = inr (k, (let less : k < length xs = omega arith in less), same)
-
-first : {X : Type 0} (x : X) (xs : List X) → Contains (x ∷ xs) x
-first x xs = (0, omega arith, refl)
-
-next : {X : Type 0} (x : X) (xs : List X) (y : X) → Contains xs y → Contains (x ∷ xs) y
-next x xs y has = (suc has.0, (let less : has.0 < length xs = has.1 in omega arith), has.2)
-
 -- the links of a rising walk lead somewhere, all to greater numbers
 links_lead : (m : Description) (rank : Chip → ℕ) (c : Chip) (ds : List Dir) → Rises m rank c ds → (f : Edge) → Contains (links_of m c ds) f →
     (far_of m f.chip f.dir ≡ Some (next_of m f.chip f.dir)) × (rank c < rank (next_of m f.chip f.dir))
-links_lead m rank c [] rise f has = absurd (none_in f has)
-links_lead m rank c (d ∷ ds) rise f has = elim (later (link c d) (links_of m (next_of m c d) ds) f has) [
+links_lead m rank c [] rise f has = absurd (Contains-none f has)
+links_lead m rank c (d ∷ ds) rise f has = elim (Contains-cases (link c d) (links_of m (next_of m c d) ds) f has) [
   | inl same ↦ subst (λ (g : Edge). (far_of m g.chip g.dir ≡ Some (next_of m g.chip g.dir)) × (rank c < rank (next_of m g.chip g.dir))) same (rise.0, rise.1)
   | inr past ↦
       let known = links_lead m rank (next_of m c d) ds rise.2 f past in
@@ -174,19 +134,19 @@ spanning_branch m root rank tree c (d ∷ ds) is inside on rise off =
     let e : Edge = link c d in
     let more : List Edge = links_of m (next_of m c d) ds in
     let tree_more : List Edge = tree ++ e ∷ [] in
-    let spans : IsSpanning m root tree_more = spanning_more m root tree e (next_of m c d) is inside on rise.0 (off e (first e more)) in
+    let spans : IsSpanning m root tree_more = spanning_more m root tree e (next_of m c d) is inside on rise.0 (off e (Contains-first e more)) in
     let there : IsTreeChip m root tree_more (next_of m c d) = tree_end m root tree_more e (next_of m c d) (Contains-push tree e) rise.0 in
     let next_inside : IsInside m (next_of m c d) = far_inside m c (next_of m c d) d inside rise.0 in
     subst (λ (es : List Edge). IsSpanning m root es) (append_assoc tree (e ∷ []) more)
     (spanning_branch m root rank tree_more (next_of m c d) ds spans next_inside there rise.2 (λ f has at.
     elim (tree_cases m root tree_more (next_of m f.chip f.dir) at) [
-      | inl root_at ↦ off f (next e more f has) (inl root_at)
+      | inl root_at ↦ off f (Contains-later e more f has) (inl root_at)
       | inr into ↦ elim (Contains-push_cases tree e into.0 into.1) [
-        | inl old ↦ off f (next e more f has) (tree_end m root tree into.0 (next_of m f.chip f.dir) old into.2)
+        | inl old ↦ off f (Contains-later e more f has) (tree_end m root tree into.0 (next_of m f.chip f.dir) old into.2)
         | inr new ↦
             let known = links_lead m rank (next_of m c d) ds rise.2 f has in
             let same : Some (next_of m c d) ≡ Some (next_of m f.chip f.dir) = sym rise.0 ∙ (ap (end_of m) new ∙ into.2) in
-            let one : rank (next_of m c d) ≡ rank (next_of m f.chip f.dir) = ap rank (same_some (next_of m c d) (next_of m f.chip f.dir) same) in
+            let one : rank (next_of m c d) ≡ rank (next_of m f.chip f.dir) = ap rank (same_Some (next_of m c d) (next_of m f.chip f.dir) same) in
             let less : rank (next_of m c d) < rank (next_of m f.chip f.dir) = known.1 in
             omega arith
       ]
@@ -195,21 +155,21 @@ spanning_branch m root rank tree c (d ∷ ds) is inside on rise off =
 -- the chips of a branch: each is its last one, or another link begins there
 branch_on : (m : Description) (c : Chip) (ds : List Dir) (f : Edge) → Contains (links_of m c ds) f →
     (next_of m f.chip f.dir ≡ end_of_walk m c ds) ⊎ ((g : Edge) × Contains (links_of m c ds) g × (g.chip ≡ next_of m f.chip f.dir))
-branch_on m c [] f has = absurd (none_in f has)
-branch_on m c (d ∷ []) f has = elim (later (link c d) [] f has) [
+branch_on m c [] f has = absurd (Contains-none f has)
+branch_on m c (d ∷ []) f has = elim (Contains-cases (link c d) [] f has) [
   | inl same ↦ inl (ap (λ (g : Edge). next_of m g.chip g.dir) (sym same))
-  | inr past ↦ absurd (none_in f past)
+  | inr past ↦ absurd (Contains-none f past)
 ]
-branch_on m c (d ∷ (e ∷ ds)) f has = elim (later (link c d) (links_of m (next_of m c d) (e ∷ ds)) f has) [
+branch_on m c (d ∷ (e ∷ ds)) f has = elim (Contains-cases (link c d) (links_of m (next_of m c d) (e ∷ ds)) f has) [
   | inl same ↦
       inr (
         link (next_of m c d) e,
-        next (link c d) (links_of m (next_of m c d) (e ∷ ds)) (link (next_of m c d) e) (first (link (next_of m c d) e) (links_of m (next_of m (next_of m c d) e) ds)),
+        Contains-later (link c d) (links_of m (next_of m c d) (e ∷ ds)) (link (next_of m c d) e) (Contains-first (link (next_of m c d) e) (links_of m (next_of m (next_of m c d) e) ds)),
         ap (λ (g : Edge). next_of m g.chip g.dir) same,
       )
   | inr past ↦ elim (branch_on m (next_of m c d) (e ∷ ds) f past) [
     | inl ends ↦ inl ends
-    | inr goes ↦ inr (goes.0, next (link c d) (links_of m (next_of m c d) (e ∷ ds)) goes.0 goes.1, goes.2)
+    | inr goes ↦ inr (goes.0, Contains-later (link c d) (links_of m (next_of m c d) (e ∷ ds)) goes.0 goes.1, goes.2)
   ]
 ]
 
@@ -219,8 +179,8 @@ branch_ends : (m : Description) (root : Chip) (rank : Chip → ℕ) (tree : List
 branch_ends m root rank tree c [] rise on sub = on
 branch_ends m root rank tree c (d ∷ ds) rise on sub =
     branch_ends m root rank tree (next_of m c d) ds rise.2
-    (tree_end m root tree (link c d) (next_of m c d) (sub (link c d) (first (link c d) (links_of m (next_of m c d) ds))) rise.0)
-    (λ f has. sub f (next (link c d) (links_of m (next_of m c d) ds) f has))
+    (tree_end m root tree (link c d) (next_of m c d) (sub (link c d) (Contains-first (link c d) (links_of m (next_of m c d) ds))) rise.0)
+    (λ f has. sub f (Contains-later (link c d) (links_of m (next_of m c d) ds) f has))
 
 -- each chip of the tree is its root or a target, or an edge begins there
 abbrev pub IsEnded : Description → Chip → List Chip → List Edge → Type 0
@@ -238,7 +198,7 @@ ended_branch m root rank targets tree c ds is rise wanted x on = elim (tree_case
     ]
     | inr new ↦
         let known = links_lead m rank c ds rise into.0 new in
-        let at : next_of m into.0.chip into.0.dir ≡ x = same_some (next_of m into.0.chip into.0.dir) x (sym known.0 ∙ into.2) in
+        let at : next_of m into.0.chip into.0.dir ≡ x = same_Some (next_of m into.0.chip into.0.dir) x (sym known.0 ∙ into.2) in
         elim (branch_on m c ds into.0 new) [
           | inl ends ↦ inr (inr (subst (λ (y : Chip). Contains targets y) (sym ends ∙ at) wanted))
           | inr goes ↦ inr (inl (goes.0, Contains-append_right tree (links_of m c ds) goes.0 goes.1, goes.2 ∙ at))
@@ -323,14 +283,14 @@ module _ (m : Description) (root : Chip) (root_inside : IsInside m root) (target
     spans = subst (λ (es : List Edge). IsSpanning m root es) grows spans;
     ended = subst (λ (es : List Edge). IsEnded m root targets es) grows ended;
     more = λ c on. subst (λ (es : List Edge). IsTreeChip m root es c) grows on;
-    has = λ t has. absurd (none_in t has);
+    has = λ t has. absurd (Contains-none t has);
     few = let same : length tree ≡ length whole = ap length grows in omega arith;
   }
   grown (j ∷ joins) tree whole wanted spans ended grows =
       let added : List Edge = grows.1.0 in
       let ts : List Chip = map (λ j. j.target) joins in
-      let one = joined tree added j (wanted j.target (first j.target ts)) spans ended grows.0 grows.1.1 in
-      let rest = grown joins (tree ++ added) whole (λ t has. wanted t (next j.target ts t has)) one.spans one.ended grows.1.2 in
+      let one = joined tree added j (wanted j.target (Contains-first j.target ts)) spans ended grows.0 grows.1.1 in
+      let rest = grown joins (tree ++ added) whole (λ t has. wanted t (Contains-later j.target ts t has)) one.spans one.ended grows.1.2 in
       let few : length whole ≤ length (tree ++ added) + sum_by (distance_of m root) ts = rest.few in
       let long : length (tree ++ added) ≡ length tree + length added = length-append tree added in
       let sum : sum_by (distance_of m root) (j.target ∷ ts) ≡ distance_of m root j.target + sum_by (distance_of m root) ts = sum_by-cons (distance_of m root) j.target ts in
@@ -339,7 +299,7 @@ module _ (m : Description) (root : Chip) (root_inside : IsInside m root) (target
         spans = rest.spans;
         ended = rest.ended;
         more = λ c on. rest.more c (more_chips m root tree added c on);
-        has = λ t has. elim (later j.target ts t has) [
+        has = λ t has. elim (Contains-cases j.target ts t has) [
           | inl same ↦ subst (λ (c : Chip). IsTreeChip m root whole c) same (rest.more j.target one.there)
           | inr past ↦ rest.has t past
         ];

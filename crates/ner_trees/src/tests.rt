@@ -156,3 +156,9 @@ fn of_two_ways_round_a_torus_the_lower_is_taken(rt: HostRuntime) -> Result<(), F
     assert_eq!(rt; edges.as_slice(), [edge(0, 0, Dir::West)].as_slice());
     Ok(())
 }
+
+fn goes_between_threads<T: Send + Sync>(_: &T) {}
+
+fn grown_trees_go_between_threads(grown: &Grown) {
+    goes_between_threads(grown);
+}

@@ -5,6 +5,7 @@ ghost use Rattle.app_graph.specs.ValidGraph.{IsValidGraph, IsValidNet, IsValidVe
 use crate::{CompileErr, Plan, compile};
 use app_graph::{Graph, Net, Vertex};
 use machine_desc::{Edge, Machine};
+use net_plans::Routed;
 use spin_base::{Chip, Dir, Memory, Name, Seq};
 use std::alloc::Global;
 
@@ -154,3 +155,11 @@ fn a_target_behind_a_dead_link_is_cut_off(rt: HostRuntime) {
         )
     );
 }
+
+// A plan is lent to workers, and a worker hands over a net that it routed.
+fn go_between_threads(plan: &Plan, routed: &Routed) {
+    goes_between_threads(plan);
+    goes_between_threads(routed);
+}
+
+fn goes_between_threads<T: Send + Sync>(_: &T) {}

@@ -3,7 +3,8 @@ use Rattle.std.specs.List.{All, filter, filter_map}
 use Rattle.machine_desc.specs.declared.trees.Edge.{Edge}
 use Rattle.machine_desc.specs.Live.{IsInside}
 use Rattle.link_detours.specs.Usable.{number_at, turned}
-use Rattle.link_detours.proofs.Turning.{turned_inside, filter_all, left_leads, edge_in}
+use Rattle.std.proofs.lemmas.List.Elements.{All-filter}
+use Rattle.link_detours.proofs.Turning.{turned_inside, left_leads, edge_in}
 use Rattle.link_detours.proofs.prunes.pruned.Goals as goal
 use Rattle.link_detours.proofs.prunes.pruned.Goals.{After-deref-4}
 
@@ -19,7 +20,7 @@ reached_edges-requires-clause-inside c =
 wanted_inside : (c : After-deref-4) → All (λ e. IsInside c.args.machine.now e.chip)
     (filter (λ e. ltb (number_at c.args.machine.now c.in_ok-counts.counts.items e.chip) 18446744073709551615) (filter_map (turned c.args.machine.now) c.args.whole.now))
 wanted_inside c =
-    filter_all (λ (e : Edge). IsInside c.args.machine.now e.chip) (λ e. ltb (number_at c.args.machine.now c.in_ok-counts.counts.items e.chip) 18446744073709551615)
+    All-filter (λ (e : Edge). ltb (number_at c.args.machine.now c.in_ok-counts.counts.items e.chip) 18446744073709551615) (λ (e : Edge). IsInside c.args.machine.now e.chip)
     (filter_map (turned c.args.machine.now) c.args.whole.now) (turned_inside c.args.machine.now c.args.whole.now c.requires.edges_inside)
 
 pub turned_edges-requires-2 : goal.turned_edges-requires-2

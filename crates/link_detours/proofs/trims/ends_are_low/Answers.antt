@@ -3,14 +3,14 @@ use Rattle.std.proofs.lemmas.List.{take_all}
 use Rattle.machine_desc.specs.RoutingTree.{end_of}
 use Rattle.link_detours.specs.Usable.{number_at}
 use Rattle.spin_base.specs.declared.chips.Chip.{Chip}
-use Rattle.link_detours.proofs.Trimming.{All-more}
+use Rattle.std.proofs.lemmas.List.Elements.{All-more}
 use Rattle.link_detours.proofs.trims.ends_are_low.Goals as goal
 
 pub loop-edge-preserved : goal.loop-edge-preserved
 loop-edge-preserved c =
     let low : c.end_is_low.result ≡ true = search rules in
     All-more (λ e. (x : Chip) → end_of c.args.machine.now e ≡ Some x → number_at c.args.machine.now c.args.table.now x < 18446744073709551615)
-    c.args.edges.now c.loop-edge.edge-index _ c.loop-edge-test.true (c.end_is_low.ensures low) c.loop-edge.invariant
+    c.args.edges.now c.loop-edge.edge-index _ c.loop-edge-test.true c.loop-edge.invariant (c.end_is_low.ensures low)
 
 pub returns : goal.returns
 returns c _ = rw (take_all c.loop-edge.edge-index c.args.edges.now c.loop-edge-test.false) at c.loop-edge.invariant
