@@ -1,4 +1,3 @@
-pub mod Alone
 pub mod Frame
 pub mod Opened
 pub mod Packets

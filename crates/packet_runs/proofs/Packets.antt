@@ -17,8 +17,8 @@ use Rattle.machine_desc.proofs.Sites.{site_parts}
 use Rattle.mesh_core.specs.State.{State, IsMesh, Held, queue_at}
 use Rattle.mesh_core.specs.Step.{has_room, inject_of, push_at, after_event}
 use Rattle.mesh_core.specs.VertexTable.{spot_place}
-use Rattle.mesh_core.proofs.Exchange.{count_by-cons}
-use Rattle.mesh_core.proofs.Keeping.{All-slice_get}
+use Rattle.list_laws.proofs.Counts.{count_by-cons}
+use Rattle.list_laws.proofs.Places.{All-at}
 use Rattle.mesh_core.proofs.VertexTableLaws.{site_inside, same_spot_place, spot_place-below}
 use Rattle.packet_runs.specs.declared.draining.Waiting.{Waiting}
 use Rattle.packet_runs.specs.Draining.{IsKept}
@@ -42,7 +42,7 @@ module _ (s : State) (kept : IsKept s) (quiet : NothingWaits s) (v : ℕ) (spot 
   begun = record { chip = spot.chip; port = Local }
 
   live_chip : IsLiveChip s.setup.machine spot.chip
-  live_chip = (site_parts s.setup.machine spot (All-slice_get (IsSite s.setup.machine) s.setup.spots v spot kept.mesh.sites stands)).0
+  live_chip = (site_parts s.setup.machine spot (All-at (IsSite s.setup.machine) s.setup.spots v spot kept.mesh.sites stands)).0
 
   sent_mesh : State
   sent_mesh = record s { unsent = slice_set s.unsent v rest; inputs = slice_set s.inputs (queue_at s.setup.machine spot.chip Local) (k ∷ []) }

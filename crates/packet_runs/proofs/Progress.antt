@@ -4,6 +4,7 @@ use Rattle.std.specs.List.{sum_by}
 use Rattle.std.proofs.Math.Nat.{mul-le-mul_left}
 use Rattle.std.proofs.lemmas.List.{length-map}
 use Rattle.std.proofs.lemmas.List.Sums.{sum_by-append, sum_by-cons, length-filter, count_by-le-length}
+use Rattle.std.proofs.lemmas.Option.{slice_get_within}
 use Rattle.spin_base.specs.declared.copies.Event.{Event}
 use Rattle.spin_base.specs.declared.copies.McCopy.{McCopy}
 use Rattle.spin_base.specs.declared.chips.Chip.{Chip}
@@ -20,11 +21,12 @@ use Rattle.mesh_core.specs.Step.{last_hop, onward, outputs, step_of, after_event
 use Rattle.mesh_core.specs.Trail.{Station, unsent, in_queue, in_hand, at_core, delivered, dumped, Mark, is_on_trail}
 use Rattle.mesh_core.specs.Ledger.{marks_of}
 use Rattle.mesh_core.proofs.Events.{event_exchange}
-use Rattle.mesh_core.proofs.Exchange.{Among, among_contains, among_taken_out, TakenOut, PutIn}
+use Rattle.list_laws.proofs.Exchange.{among_taken_out, TakenOut, PutIn}
+use Rattle.list_laws.proofs.Members.{Among, among_contains}
 use Rattle.mesh_core.proofs.LedgerLaw.{IsRight, right_before, right_small, stands}
 use Rattle.mesh_core.proofs.Moves.{mark, IsMove, IsMoveOf, Crosses}
 use Rattle.mesh_core.proofs.Law.{leaves_parts}
-use Rattle.mesh_core.proofs.Ways.{short_branch, place_below}
+use Rattle.mesh_core.proofs.Ways.{short_branch}
 use Rattle.packet_runs.specs.Draining.{IsKept}
 use Rattle.packet_runs.specs.UnderWay.{heavy, stage, advance, weight_of, weight_in}
 
@@ -123,14 +125,14 @@ has_next s kept x r = by_station x.copy x.station r.trail.on
 
     by_station : (k : McCopy) (at : Station) → is_on_trail r.trail.from r.trail.to r.trail.branch (mark k at) ≡ true → HasNext k at
     by_station k (in_hand c o) on =
-        let below = place_below r.trail.branch k.hop (record { chip = c; out = o }) (leaves_parts r.trail.branch k.hop c o on) in
+        let below = slice_get_within r.trail.branch k.hop (record { chip = c; out = o }) (leaves_parts r.trail.branch k.hop c o on) in
         omega (arith, below, short)
     by_station k (unsent v) on = tt
     by_station k (in_queue c port) on = tt
     by_station k (at_core v) on = tt
     by_station k (delivered v) on = tt
     by_station k (dumped c o) on =
-        let below = place_below r.trail.branch k.hop (record { chip = c; out = o }) (leaves_parts r.trail.branch k.hop c o on) in
+        let below = slice_get_within r.trail.branch k.hop (record { chip = c; out = o }) (leaves_parts r.trail.branch k.hop c o on) in
         omega (arith, below, short)
 
 -- each mark that comes is further on than the one that leaves

@@ -4,13 +4,13 @@ use Rattle.std.specs.List.{slice_get, slice_index_or, slice_set, All, list_any, 
 use Rattle.std.proofs.lemmas.Bool.{and_from, lt-ltb}
 use Rattle.std.proofs.lemmas.List.{get_or-set_same, get_or-set_other}
 use Rattle.std.proofs.lemmas.List.Elements.{All-head, All-tail, All-nil, All-cons, All-append}
-use Rattle.std.proofs.lemmas.Option.{slice_get-get_or}
+use Rattle.std.proofs.lemmas.Option.{slice_get-get_or, get_or_from_slice_get}
 use Rattle.spin_base.specs.declared.chips.Chip.{Chip}
 use Rattle.spin_base.specs.declared.chips.Dir.{Dir}
 use Rattle.spin_base.specs.declared.chips.Port.{Port}
 use Rattle.spin_base.specs.declared.chips.Port.TheVariants.{Link as ByLink, Local}
 use Rattle.spin_base.specs.declared.routes.Out.{Out}
-use Rattle.spin_base.specs.declared.routes.Out.TheVariants.{Link}
+use Rattle.spin_base.specs.declared.routes.Out.TheVariants.{Link, Core}
 use Rattle.spin_base.specs.declared.copies.McCopy.{McCopy}
 use Rattle.spin_base.specs.declared.copies.Event.{Event}
 use Rattle.spin_base.specs.declared.copies.Event.TheVariants.{Take, Send, Collect}
@@ -18,24 +18,26 @@ use Rattle.spin_base.specs.Equality.{out_eq}
 use Rattle.spin_base.specs.Links.{opposite_of}
 use Rattle.spin_base.proofs.Equality.{nat_eq_true, nat_eq_same, out_eq_same}
 use Rattle.machine_desc.specs.Description.{Description}
-use Rattle.machine_desc.specs.Live.{far_of, index_of, IsInside, IsLiveChip}
-use Rattle.machine_desc.proofs.Far.{live_inside, index_below}
-use Rattle.mesh_core.specs.State.{State, Held, Behind, input, core, behind, behind_link, queue_at}
+use Rattle.machine_desc.specs.Live.{far_of, index_of, IsInside, IsLiveChip, is_live_link}
+use Rattle.machine_desc.proofs.Far.{live_inside, live_ends, index_below}
+use Rattle.mesh_core.specs.State.{Setup, State, Held, Behind, input, core, nowhere, core_of, behind, behind_link, vertex_behind, queue_at}
 use Rattle.mesh_core.specs.Step.{has_room, has_room_behind, onward, outputs, in_hand, without, push_at, push_behind, after_serving, serves, take_of, send_of, collect_of, step_of, after_event}
-use Rattle.mesh_core.specs.Trail.{in_queue, in_hand as held_at, Mark}
+use Rattle.mesh_core.specs.Trail.{in_hand as held_at}
 use Rattle.mesh_core.specs.Ledger.{marks_of}
 use Rattle.mesh_core.proofs.Changes.{queue_at-below}
 use Rattle.mesh_core.proofs.EventsLaw.{event_keeps}
-use Rattle.mesh_core.proofs.Exchange.{among_contains, count_by-append, count_by-cons}
-use Rattle.mesh_core.proofs.Keeping.{All-slice_get}
+use Rattle.list_laws.proofs.Counts.{count_by-append, count_by-cons}
+use Rattle.list_laws.proofs.Members.{among_contains}
+use Rattle.list_laws.proofs.Pairs.{All-left, All-right}
+use Rattle.list_laws.proofs.Places.{All-at, slice_get-set_same, set-slice_get, set_put_back}
+use Rattle.mesh_core.specs.Waiting.{queue_of}
 use Rattle.mesh_core.proofs.Moves.{mark}
-use Rattle.mesh_core.proofs.QueueLists.{slice_get-set_same}
-use Rattle.mesh_core.proofs.Standing.{held_mark, queued_mark}
+use Rattle.mesh_core.proofs.Queued.{FreeBehind, free_behind}
+use Rattle.mesh_core.proofs.Standing.{held_mark}
 use Rattle.packet_runs.specs.declared.draining.Waiting.{Waiting}
 use Rattle.packet_runs.specs.Draining.{IsKept}
-use Rattle.packet_runs.specs.UnderWay.{outs_in, times, weight_in, IsUnderWay, IsServing}
+use Rattle.packet_runs.specs.UnderWay.{far_port, next_place, outs_in, times, weight_in, IsUnderWay, IsServing}
 use Rattle.packet_runs.proofs.Progress.{moved_lighter}
-use Rattle.packet_runs.proofs.Alone.{Beyond}
 
 -- ---- lists
 
@@ -44,12 +46,6 @@ pub set_twice : {X : Type 0} (xs : List X) (i : ℕ) (x y : X) → set (set xs i
 set_twice [] i x y = refl
 set_twice (z ∷ zs) zero x y = refl
 set_twice (z ∷ zs) (suc i) x y = ap (λ l. z ∷ l) (set_twice zs i x y)
-
--- a list whose item was replaced, and put back
-put_back : {X : Type 0} (xs : List X) (i : ℕ) (x y : X) → slice_get xs i ≡ Some x → set (set xs i y) i x ≡ xs
-put_back [] i x y there = cc
-put_back (z ∷ zs) zero x y there = let same : z ≡ x = cc in ap (λ w. w ∷ zs) (sym same)
-put_back (z ∷ zs) (suc i) x y there = ap (λ l. z ∷ l) (put_back zs i x y there)
 
 -- what is true of what is written, and of what was there, is true of a list that was written
 pub written : (P : List McCopy → Type 0) (lists : List (List McCopy)) (i j : ℕ) (q : List McCopy) → i < length lists →
@@ -114,18 +110,12 @@ module _ (s : State) (w : List Waiting) (a : Waiting) (u : IsUnderWay s (w ++ a 
   queue = slice_index_or s.inputs (queue_at s.setup.machine a.chip a.port) []
 
   live_before : All (λ (x : Waiting). IsLiveChip s.setup.machine x.chip) w
-  live_before = All-before (λ (x : Waiting). IsLiveChip s.setup.machine x.chip) w a u.live
-    where
-      All-before : (P : Waiting → Type 0) (xs : List Waiting) (y : Waiting) → All P (xs ++ y ∷ []) → All P xs
-      All-before P [] y all = All-nil P
-      All-before P (x ∷ xs) y all = All-cons P x xs (All-head P x (xs ++ y ∷ []) all) (All-before P xs y (All-tail P x (xs ++ y ∷ []) all))
+  live_before = All-left (λ (x : Waiting). IsLiveChip s.setup.machine x.chip) w (a ∷ []) u.live
 
   pub live_here : IsLiveChip s.setup.machine a.chip
-  live_here = last (λ (x : Waiting). IsLiveChip s.setup.machine x.chip) w a u.live
-    where
-      last : (P : Waiting → Type 0) (xs : List Waiting) (y : Waiting) → All P (xs ++ y ∷ []) → P y
-      last P [] y all = All-head P y [] all
-      last P (x ∷ xs) y all = last P xs y (All-tail P x (xs ++ y ∷ []) all)
+  live_here =
+      All-head (λ (x : Waiting). IsLiveChip s.setup.machine x.chip) a []
+      (All-right (λ (x : Waiting). IsLiveChip s.setup.machine x.chip) w (a ∷ []) u.live)
 
   inside_here : IsInside s.setup.machine a.chip
   inside_here = live_inside s.setup.machine a.chip live_here
@@ -136,7 +126,7 @@ module _ (s : State) (w : List Waiting) (a : Waiting) (u : IsUnderWay s (w ++ a 
   hand_free : slice_get s.hands (index_of s.setup.machine a.chip) ≡ Some None
   hand_free =
       let there = slice_get-get_or s.hands (index_of s.setup.machine a.chip) None hand_within in
-      there ∙ ap Some (All-slice_get (λ (h : Option Held). h ≡ None) s.hands (index_of s.setup.machine a.chip) (slice_index_or s.hands (index_of s.setup.machine a.chip) None) u.free there)
+      there ∙ ap Some (All-at (λ (h : Option Held). h ≡ None) s.hands (index_of s.setup.machine a.chip) (slice_index_or s.hands (index_of s.setup.machine a.chip) None) u.free there)
 
   there : (i < length s.inputs) × (slice_get s.inputs i ≡ Some queue)
   unfolding i queue
@@ -188,7 +178,7 @@ module _ (s : State) (w : List Waiting) (a : Waiting) (u : IsUnderWay s (w ++ a 
         others = s.hands;
         free = u.free;
         within = hand_within;
-        hand = sym (put_same s.hands (index_of s.setup.machine a.chip) None hand_free);
+        hand = sym (set-slice_get s.hands (index_of s.setup.machine a.chip) None hand_free);
         here = live_here;
         collected = u.collected;
         live = live_before;
@@ -196,11 +186,6 @@ module _ (s : State) (w : List Waiting) (a : Waiting) (u : IsUnderWay s (w ++ a 
         of_packet = u.of_packet;
       }))
     where
-      put_same : {X : Type 0} (xs : List X) (n : ℕ) (x : X) → slice_get xs n ≡ Some x → set xs n x ≡ xs
-      put_same [] n x e = refl
-      put_same (y ∷ xs) zero x e = let same : y ≡ x = cc in ap (λ z. z ∷ xs) (sym same)
-      put_same (y ∷ xs) (suc n) x e = ap (λ zs. y ∷ zs) (put_same xs n x e)
-
       by_place : (j : ℕ) → length (slice_index_or s.inputs j []) ≤ times s.setup.machine j w
       by_place j = by_test (i == j) refl
         where
@@ -310,76 +295,101 @@ module _ (s : State) (w : List Waiting) (c : Chip) (o : Out) (os : List Out) (u 
       ∙ (ap (λ x. if serves s c o (Some (Some held)) && has_room_behind s x then Some (push_behind (after_serving s c o held) x (onward u.copy)) else None) is
       ∙ ap (λ t. if t then Some (push_behind (after_serving s c o held) b (onward u.copy)) else None) (and_from _ _ asked has))
 
--- a live link is served: the packet waits at the far end then
-module _ (s : State) (w : List Waiting) (c : Chip) (d : Dir) (os : List Out) (u : IsServing s w c (Link d ∷ os)) (beyond : Beyond s u.kept u.copy c d) where
-  abbrev pub next : Waiting
-  next = record { chip = beyond.far; port = ByLink (opposite_of d) }
+  -- the queue behind the output, which has no copy of the packet
+  free : FreeBehind s c o u.copy.packet
+  free = free_behind s u.kept.nets u.kept.labels u.kept.ledger u.kept.mesh c o u.copy has_mark
 
-  pub far_queue : ℕ
-  far_queue = queue_at s.setup.machine beyond.far (ByLink (opposite_of d))
+  -- a queue all of whose copies are of the packet, and none, is empty
+  none_of : (q : List McCopy) → All (λ (k : McCopy). k.packet ≢ u.copy.packet) q → All (λ (k : McCopy). k.packet ≡ u.copy.packet) q → q ≡ []
+  none_of [] other same = refl
+  none_of (k ∷ q) other same = absurd (All-head (λ (x : McCopy). x.packet ≢ u.copy.packet) k q other (All-head (λ (x : McCopy). x.packet ≡ u.copy.packet) k q same))
+
+-- an output is served behind which there is no queue: that never is
+pub send_nowhere : (s : State) (w : List Waiting) (c : Chip) (o : Out) (os : List Out) → IsServing s w c (o ∷ os) → behind s.setup c o ≡ nowhere → ⊥
+send_nowhere s w c o os u is = none_some (free s w c o os u).0 (sym (ap (queue_of s) is) ∙ (free s w c o os u).1)
+  where
+    none_some : (q : List McCopy) → None ≡ Some q → ⊥
+    none_some q e = cc
+
+-- an output behind which there is an input queue is a live link, and the queue is at its far end
+pub record IsFar (u : Setup) (c : Chip) (o : Out) (i : ℕ) : Type 0 where
+  pub link : Dir
+  pub out : o ≡ Link link
+  pub far : Chip
+  pub leads : far_of u.machine c link ≡ Some far
+  pub live : IsLiveChip u.machine far
+  pub place : queue_at u.machine far (ByLink (opposite_of link)) ≡ i
+
+pub far_behind : (u : Setup) (c : Chip) (o : Out) (i : ℕ) → behind u c o ≡ input i → IsFar u c o i
+far_behind u c o i is = by_output o refl
+  where
+    no_core : (v : Option ℕ) → core_of v ≡ input i → ⊥
+    no_core (Some v) e = cc
+    no_core None e = cc
+
+    by_link : (d : Dir) → o ≡ Link d → (live : Bool) → is_live_link u.machine c d ≡ live → (far : Option Chip) → far_of u.machine c d ≡ far → behind_link u c d live far ≡ input i → IsFar u c o i
+    by_link d out true live (Some e) leads there =
+        let place : queue_at u.machine e (ByLink (opposite_of d)) ≡ i = cc in
+        let ends = live_ends u.machine c d live in
+        let same : ends.0 ≡ e = let both : Some ends.0 ≡ Some e = sym ends.1 ∙ leads in cc in
+        record { link = d; out = out; far = e; leads = leads; live = subst (IsLiveChip u.machine) same ends.3; place = place }
+    by_link d out true live None leads there = absurd (differ there)
+      where
+        differ : nowhere ≡ input i → ⊥
+        differ e = cc
+    by_link d out false live far leads there = absurd (no_core (vertex_behind u.spots c (Link d)) there)
+
+    by_output : (p : Out) → o ≡ p → IsFar u c o i
+    by_output (Link d) out = by_link d out (is_live_link u.machine c d) refl (far_of u.machine c d) refl (sym (ap (behind u c) out) ∙ is)
+    by_output (Core p) out = absurd (no_core (vertex_behind u.spots c (Core p)) (sym (ap (behind u c) out) ∙ is))
+
+-- a live link is served: the packet waits at the far end then
+module _ (s : State) (w : List Waiting) (c : Chip) (o : Out) (os : List Out) (u : IsServing s w c (o ∷ os)) (i : ℕ) (is : behind s.setup c o ≡ input i) where
+  pub far : IsFar s.setup c o i
+  far = far_behind s.setup c o i is
+
+  abbrev pub next : Waiting
+  next = record { chip = far.far; port = ByLink (opposite_of far.link) }
+
+  pub next_is : next_place s.setup.machine c o ≡ Some next
+  next_is = ap (next_place s.setup.machine c) far.out ∙ ap (far_port far.link) far.leads
 
   linked : State
-  linked = record s { inputs = slice_set s.inputs far_queue (onward u.copy ∷ []); hands = slice_set u.others (index_of s.setup.machine c) (in_hand u.copy u.port os) }
+  linked = record s { inputs = slice_set s.inputs i (onward u.copy ∷ []); hands = slice_set u.others (index_of s.setup.machine c) (in_hand u.copy u.port os) }
 
-  far_there : (far_queue < length s.inputs) × (slice_get s.inputs far_queue ≡ Some (slice_index_or s.inputs far_queue []))
-  unfolding far_queue
-  far_there = queue_there s w u.kept beyond.far (ByLink (opposite_of d)) beyond.live
+  far_there : i < length s.inputs
+  far_there = subst (λ n. n < length s.inputs) far.place (queue_there s w u.kept far.far (ByLink (opposite_of far.link)) far.live).0
 
-  pub behind_far : behind s.setup c (Link d) ≡ input far_queue
-  unfolding far_queue
-  behind_far = ap (λ x. behind_link s.setup c d x (far_of s.setup.machine c d)) beyond.live_link ∙ ap (behind_link s.setup c d true) beyond.leads
+  far_empty : slice_get s.inputs i ≡ Some []
+  far_empty =
+      let q = free s w c o os u in
+      let at : slice_get s.inputs i ≡ Some q.0 = sym (ap (queue_of s) is) ∙ q.1 in
+      at ∙ ap Some (none_of s w c o os u q.0 q.2 (subst (All (λ (k : McCopy). k.packet ≡ u.copy.packet)) (get_or_from_slice_get s.inputs i q.0 [] at) (u.of_packet i)))
 
-  is_linked : step_of s (Send c (Link d)) ≡ Some linked
-  unfolding held linked far_queue
+  is_linked : step_of s (Send c o) ≡ Some linked
+  unfolding held linked
   is_linked =
-      let b = beyond in
-      let port : Port = ByLink (opposite_of d) in
-      let j : ℕ = queue_at s.setup.machine b.far port in
       let n : ℕ = index_of s.setup.machine c in
-      let there = queue_there s w u.kept b.far port b.live in
-      let nothing : slice_index_or s.inputs j [] ≡ [] = empty (slice_index_or s.inputs j []) refl there.1 in
-      let at : slice_get s.inputs j ≡ Some [] = there.1 ∙ ap Some nothing in
-      let is : behind s.setup c (Link d) ≡ input j =
-      ap (λ x. behind_link s.setup c d x (far_of s.setup.machine c d)) b.live_link ∙ ap (behind_link s.setup c d true) b.leads
-      in
-      let has : has_room_behind s (input j) ≡ true = ap (has_room s.setup.capacity) at ∙ room s w c (Link d) os u in
-      let t : State = record s { inputs = slice_set s.inputs j (onward u.copy ∷ []); hands = slice_set u.others n (in_hand u.copy u.port os) } in
-      let from : List (Option Held) → State = λ hands. record s { inputs = push_at s.inputs j (onward u.copy) (slice_get s.inputs j); hands = hands } in
-      let step : step_of s (Send c (Link d)) ≡ Some t =
-      send_to s w c (Link d) os u (input j) is has
-      ∙ (ap (λ h. Some (from h)) (hands_then s w c (Link d) os u)
-      ∙ ap (λ q. Some (record s { inputs = push_at s.inputs j (onward u.copy) q; hands = slice_set u.others n (in_hand u.copy u.port os) })) at)
-      in
-      step
-    where
-      empty : (q : List McCopy) → slice_index_or s.inputs (queue_at s.setup.machine beyond.far (ByLink (opposite_of d))) [] ≡ q →
-          slice_get s.inputs (queue_at s.setup.machine beyond.far (ByLink (opposite_of d))) ≡ Some (slice_index_or s.inputs (queue_at s.setup.machine beyond.far (ByLink (opposite_of d))) []) →
-          slice_index_or s.inputs (queue_at s.setup.machine beyond.far (ByLink (opposite_of d))) [] ≡ []
-      empty [] e at = e
-      empty (k ∷ rest) e at =
-          let port : Port = ByLink (opposite_of d) in
-          let j : ℕ = queue_at s.setup.machine beyond.far port in
-          let all : All (λ (x : McCopy). x.packet ≡ u.copy.packet) (k ∷ rest) = subst (All (λ (x : McCopy). x.packet ≡ u.copy.packet)) e (u.of_packet j) in
-          let packet = All-head (λ (x : McCopy). x.packet ≡ u.copy.packet) k rest all in
-          let y : Mark = mark k (in_queue beyond.far port) in
-          absurd (beyond.none k packet (among_contains y (marks_of s)
-          (queued_mark s beyond.far port (live_inside s.setup.machine beyond.far beyond.live) k (k ∷ rest) (at ∙ ap Some e) (inl refl))))
+      let has : has_room_behind s (input i) ≡ true = ap (has_room s.setup.capacity) far_empty ∙ room s w c o os u in
+      let from : List (Option Held) → State = λ hands. record s { inputs = push_at s.inputs i (onward u.copy) (slice_get s.inputs i); hands = hands } in
+      send_to s w c o os u (input i) is has
+      ∙ (ap (λ h. Some (from h)) (hands_then s w c o os u)
+      ∙ ap (λ q. Some (record s { inputs = push_at s.inputs i (onward u.copy) q; hands = slice_set u.others n (in_hand u.copy u.port os) })) far_empty)
 
-  pub send_link_lighter : weight_in (after_event s (Send c (Link d))) < weight_in s
+  pub send_link_lighter : weight_in (after_event s (Send c o)) < weight_in s
   send_link_lighter =
-      let less = moved_lighter s linked (Send c (Link d)) u.kept is_linked in
-      let same : weight_in (after_event s (Send c (Link d))) ≡ weight_in linked = ap weight_in (moved s linked (Send c (Link d)) is_linked) in
+      let less = moved_lighter s linked (Send c o) u.kept is_linked in
+      let same : weight_in (after_event s (Send c o)) ≡ weight_in linked = ap weight_in (moved s linked (Send c o) is_linked) in
       omega (arith, less, same)
 
-  pub send_link : IsServing (after_event s (Send c (Link d))) (w ++ next ∷ []) c os
-  unfolding linked far_queue
+  pub send_link : IsServing (after_event s (Send c o)) (w ++ next ∷ []) c os
+  unfolding linked
   send_link =
-      let b = beyond in
-      let j : ℕ = queue_at s.setup.machine b.far (ByLink (opposite_of d)) in
-      let there = far_there in
-      let same : after_event s (Send c (Link d)) ≡ linked = moved s linked (Send c (Link d)) is_linked in
+      let Live : Waiting → Type 0 = λ x. IsLiveChip s.setup.machine x.chip in
+      let Of : McCopy → Type 0 = λ k. k.packet ≡ u.copy.packet in
+      let same : after_event s (Send c o) ≡ linked = moved s linked (Send c o) is_linked in
       subst (λ x. IsServing x (w ++ next ∷ []) c os) (sym same) (record {
-        kept = subst IsKept same (kept_after s (Send c (Link d)) u.kept);
+        kept = subst IsKept same (kept_after s (Send c o) u.kept);
         copy = u.copy;
         port = u.port;
         others = u.others;
@@ -388,25 +398,28 @@ module _ (s : State) (w : List Waiting) (c : Chip) (d : Dir) (os : List Out) (u 
         hand = refl;
         here = u.here;
         collected = u.collected;
-        live = All-append (λ (x : Waiting). IsLiveChip s.setup.machine x.chip) w (next ∷ []) u.live (All-cons (λ (x : Waiting). IsLiveChip s.setup.machine x.chip) next [] b.live (All-nil (λ (x : Waiting). IsLiveChip s.setup.machine x.chip)));
-        listed = λ x. written (λ q. length q ≤ times s.setup.machine x (w ++ next ∷ [])) s.inputs j x (onward u.copy ∷ []) there.0
-            (λ here. let more = times_more s.setup.machine x w next ∙ ap (λ y. times s.setup.machine x w + (if y then 1 else 0)) (ap (λ y. j == y) (sym here) ∙ nat_eq_same j) in omega (arith, more))
+        live = All-append Live w (next ∷ []) u.live (All-cons Live next [] far.live (All-nil Live));
+        listed = λ x. written (λ q. length q ≤ times s.setup.machine x (w ++ next ∷ [])) s.inputs i x (onward u.copy ∷ []) far_there
+            (λ here. let more = times_more s.setup.machine x w next ∙ ap (λ y. times s.setup.machine x w + (if y then 1 else 0)) (ap (λ y. y == x) (far.place ∙ here) ∙ nat_eq_same x) in omega (arith, more))
             (λ other. let most = u.listed x in let more = times_more s.setup.machine x w next in omega (arith, most, more));
-        of_packet = λ x. written (All (λ (k : McCopy). k.packet ≡ u.copy.packet)) s.inputs j x (onward u.copy ∷ []) there.0
-            (λ here. All-cons (λ (k : McCopy). k.packet ≡ u.copy.packet) (onward u.copy) [] refl (All-nil (λ (k : McCopy). k.packet ≡ u.copy.packet)))
+        of_packet = λ x. written (All Of) s.inputs i x (onward u.copy ∷ []) far_there
+            (λ here. All-cons Of (onward u.copy) [] refl (All-nil Of))
             (λ other. u.of_packet x);
       })
 
 -- an output that leads to a vertex is served, and the vertex takes the copy
-module _ (s : State) (w : List Waiting) (c : Chip) (o : Out) (os : List Out) (u : IsServing s w c (o ∷ os)) (v : ℕ)
-    (below : v < length s.setup.spots) (is : behind s.setup c o ≡ core v) where
+module _ (s : State) (w : List Waiting) (c : Chip) (o : Out) (os : List Out) (u : IsServing s w c (o ∷ os)) (v : ℕ) (is : behind s.setup c o ≡ core v) where
+  core_empty : slice_get s.cores v ≡ Some []
+  core_empty =
+      let q = free s w c o os u in
+      let at : slice_get s.cores v ≡ Some q.0 = sym (ap (queue_of s) is) ∙ q.1 in
+      at ∙ ap Some (All-at (λ (l : List McCopy). l ≡ []) s.cores v q.0 u.collected at)
+
   pub send_core : IsServing (after_event (after_event s (Send c o)) (Collect v)) w c os
   unfolding held
   send_core =
       let n : ℕ = index_of s.setup.machine c in
-      let long = u.kept.mesh.core_lists in
-      let there = slice_get-get_or s.cores v [] (omega (arith, below, long)) in
-      let at : slice_get s.cores v ≡ Some [] = there ∙ ap Some (All-slice_get (λ (q : List McCopy). q ≡ []) s.cores v (slice_index_or s.cores v []) u.collected there) in
+      let at : slice_get s.cores v ≡ Some [] = core_empty in
       let has : has_room_behind s (core v) ≡ true = ap (has_room s.setup.capacity) at ∙ room s w c o os u in
       let hands : List (Option Held) = slice_set u.others n (in_hand u.copy u.port os) in
       let k : McCopy = onward u.copy in
@@ -419,7 +432,7 @@ module _ (s : State) (w : List Waiting) (c : Chip) (o : Out) (os : List Out) (u 
       in
       let same : after_event s (Send c o) ≡ t = moved s t (Send c o) step in
       let end : State = record s { hands = hands; delivered = s.delivered ++ record { vertex = v; copy = k } ∷ [] } in
-      let back : set (set s.cores v (k ∷ [])) v [] ≡ s.cores = put_back s.cores v [] (k ∷ []) at in
+      let back : set (set s.cores v (k ∷ [])) v [] ≡ s.cores = set_put_back s.cores v [] (k ∷ []) at in
       let take : step_of t (Collect v) ≡ Some end =
       ap (collect_of t v) (slice_get-set_same s.cores v [] (k ∷ []) at)
       ∙ ap (λ l. Some (record end { cores = l })) back

@@ -1,5 +1,5 @@
 -- What the calls of a packet under way leave, as they follow on each other.
-use Rattle.std.proofs.Common.{◌≡◌, ◌≢◌, ◌==◌, true, false, ℕ, suc, ◌+◌, ◌<◌, ◌≤◌, set, get_or, drop, refl, sym, ap, ◌∙◌, subst, arith, List, [], ◌∷◌, ◌++◌, length, Option, Some, None, Bool, inl, inr, ◌⊎◌}
+use Rattle.std.proofs.Common.{◌≡◌, ◌≢◌, ◌==◌, true, false, ℕ, suc, ◌+◌, ◌<◌, ◌≤◌, set, get_or, drop, refl, sym, ap, ◌∙◌, subst, arith, List, [], ◌∷◌, ◌++◌, length, Option, Some, None, Bool}
 use Rattle.std.specs.List.{slice_get, All}
 use Rattle.std.specs.Option.{option_to_list}
 use Rattle.std.specs.Prelude.{OnOk, Result, Ok, Err}
@@ -19,16 +19,15 @@ use Rattle.machine_desc.specs.Description.{Description}
 use Rattle.machine_desc.specs.Live.{far_of, index_of, is_live_link}
 use Rattle.mesh_core.specs.State.{Setup, State, Behind, input, core, nowhere, behind, behind_link}
 use Rattle.mesh_core.proofs.Fixed.{after_event_setup}
-use Rattle.packet_runs.proofs.Alone.{Beyond, IsBeyond, beyond}
 use Rattle.mesh_core.specs.Step.{after_event}
 use Rattle.packet_runs.specs.declared.draining.Waiting.{Waiting}
 use Rattle.packet_runs.specs.Draining.{IsKept, IsReached, HasDrained}
 use Rattle.mesh_core.specs.Expected.{NothingWaits}
-use Rattle.packet_runs.specs.UnderWay.{work, weight_in, outs_in, far_port, next_place, IsMapOf, IsUnderWay, IsServing}
+use Rattle.packet_runs.specs.UnderWay.{work, weight_in, outs_in, next_place, IsMapOf, IsUnderWay, IsServing}
 use Rattle.packet_runs.proofs.Frame.{setup_reached, kept_reached, dumped_reached}
 use Rattle.packet_runs.proofs.Progress.{event_lighter}
 use Rattle.packet_runs.proofs.Packets.{inject_step, inject_unsent, packet_done}
-use Rattle.packet_runs.proofs.Steps.{kept_after, written, set_twice, take_step, has_mark, next, far_queue, behind_far, send_link, send_core, send_link_lighter}
+use Rattle.packet_runs.proofs.Steps.{kept_after, written, set_twice, take_step, next, next_is, send_link, send_link_lighter, send_core, send_nowhere}
 
 -- what follows where a call went well
 pub on_ok : {T E A B : Type 0} (r : Result T E) → OnOk r A → (A → B) → OnOk r B
@@ -54,26 +53,6 @@ same_behind u v c o machine spots = plain u o ∙ (ap (λ m. of m u.spots o) mac
     plain z (Link d) = by_far z d (is_live_link z.machine c d) (far_of z.machine c d)
     plain z (Core p) = refl
 
--- the link is the one by which the copy leaves
-module _ (s : State) (w : List Waiting) (c : Chip) where
-  IsFar : Out → List Out → Type 0
-  IsFar o rest = (d : Dir) × (o ≡ Link d) × ((u : IsServing s w c (Link d ∷ rest)) × Beyond s u.kept u.copy c d)
-
-  by_way : (o : Out) (rest : List Out) (u : IsServing s w c (o ∷ rest)) →
-      ((d : Dir) × (o ≡ Link d) × ((r : IsServing s w c (Link d ∷ rest)) × Beyond s r.kept r.copy c d))
-      ⊎ ((v : ℕ) × (v < length s.setup.spots) × (behind s.setup c o ≡ core v))
-  by_way o rest u = by_out o u (beyond s u.kept u.copy c o (has_mark s w c o rest u))
-    where
-      by_out : (p : Out) (r : IsServing s w c (p ∷ rest)) → IsBeyond s r.kept r.copy c p →
-          ((d : Dir) × (p ≡ Link d) × ((q : IsServing s w c (Link d ∷ rest)) × Beyond s q.kept q.copy c d))
-          ⊎ ((v : ℕ) × (v < length s.setup.spots) × (behind s.setup c p ≡ core v))
-      by_out (Link d) r (inl (e, same, b)) = let is : e ≡ d = cc in inl (d, refl, (r, subst (Beyond s r.kept r.copy c) is b))
-      by_out (Core p) r (inl (e, same, b)) = absurd (differ same)
-        where
-          differ : {e : Dir} → Core p ≡ Link e → ⊥
-          differ x = cc
-      by_out p r (inr there) = inr there
-
 module _ (s t : State) (w : List Waiting) (c : Chip) (o : Out) (setup : Setup) (is : t ≡ after_event s (Send c o)) (map : IsMapOf setup s) where
   here : (q : Behind) → q ≡ behind setup c o → behind s.setup c o ≡ q
   here q found = sym (found ∙ same_behind setup s.setup c o map.machine map.spots)
@@ -81,64 +60,31 @@ module _ (s t : State) (w : List Waiting) (c : Chip) (o : Out) (setup : Setup) (
   -- by a live link: the packet waits at its far end
   pub link_served : (i : ℕ) → input i ≡ behind setup c o → (m : Description) → m ≡ t.setup.machine → (w' : List Waiting) → w' ≡ w ++ option_to_list (next_place m c o) →
       (rest : List Out) → IsServing s w c (o ∷ rest) → IsServing t w' c rest × (work t w' ≤ work s w)
-  link_served i found m machine w' more rest u = by_parts (by_way s w c o rest u)
-    where
-      kept : m ≡ s.setup.machine
-      kept = machine ∙ (ap (λ (x : State). x.setup.machine) is ∙ ap (λ (x : Setup). x.machine) (after_event_setup s (Send c o)))
-
-      by_parts : ((d : Dir) × (o ≡ Link d) × ((r : IsServing s w c (Link d ∷ rest)) × Beyond s r.kept r.copy c d)) ⊎ ((v : ℕ) × (v < length s.setup.spots) × (behind s.setup c o ≡ core v)) →
-          IsServing t w' c rest × (work t w' ≤ work s w)
-      by_parts (inr (v, below, there)) = absurd (differ (sym (here (input i) found) ∙ there))
-        where
-          differ : input i ≡ core v → ⊥
-          differ x = cc
-      by_parts (inl (d, out, (r, b))) =
-          let e : t ≡ after_event s (Send c (Link d)) = is ∙ ap (λ p. after_event s (Send c p)) out in
-          let place : next_place m c o ≡ Some (next s w c d rest r b) =
-          ap (λ n. next_place n c o) kept ∙ (ap (next_place s.setup.machine c) out ∙ ap (far_port d) b.leads)
-          in
-          let list : w' ≡ w ++ next s w c d rest r b ∷ [] = more ∙ ap (λ x. w ++ option_to_list x) place in
-          let long : length w' ≡ length w + 1 = ap length list ∙ length-append w (next s w c d rest r b ∷ []) in
-          let lighter = send_link_lighter s w c d rest r b in
-          let there : weight_in t ≡ weight_in (after_event s (Send c (Link d))) = ap weight_in e in (
-            subst (λ l. IsServing t l c rest) (sym list) (subst (λ x. IsServing x (w ++ next s w c d rest r b ∷ []) c rest) (sym e) (send_link s w c d rest r b)),
-            omega (arith, lighter, there, long),
-          )
+  link_served i found m machine w' more rest u =
+      let to = here (input i) found in
+      let kept : m ≡ s.setup.machine = machine ∙ (ap (λ (x : State). x.setup.machine) is ∙ ap (λ (x : Setup). x.machine) (after_event_setup s (Send c o))) in
+      let there : Waiting = next s w c o rest u i to in
+      let list : w' ≡ w ++ there ∷ [] = more ∙ ap (λ x. w ++ option_to_list x) (ap (λ n. next_place n c o) kept ∙ next_is s w c o rest u i to) in
+      let long : length w' ≡ length w + 1 = ap length list ∙ length-append w (there ∷ []) in
+      let lighter = send_link_lighter s w c o rest u i to in
+      let same : weight_in t ≡ weight_in (after_event s (Send c o)) = ap weight_in is in (
+        subst (λ l. IsServing t l c rest) (sym list) (subst (λ x. IsServing x (w ++ there ∷ []) c rest) (sym is) (send_link s w c o rest u i to)),
+        omega (arith, lighter, same, long),
+      )
 
   -- to a vertex, which takes it
   pub core_served : (v : ℕ) → core v ≡ behind setup c o → (end : State) → end ≡ after_event t (Collect v) →
       (rest : List Out) → IsServing s w c (o ∷ rest) → IsServing end w c rest × (work end w ≤ work s w)
-  core_served v found end last rest u = by_parts (by_way s w c o rest u)
-    where
-      by_parts : ((d : Dir) × (o ≡ Link d) × ((r : IsServing s w c (Link d ∷ rest)) × Beyond s r.kept r.copy c d)) ⊎ ((z : ℕ) × (z < length s.setup.spots) × (behind s.setup c o ≡ core z)) →
-          IsServing end w c rest × (work end w ≤ work s w)
-      by_parts (inl (d, out, (r, b))) = absurd (differ (far_queue s w c d rest r b) (sym (behind_far s w c d rest r b) ∙ (sym (ap (behind s.setup c) out) ∙ here (core v) found)))
-        where
-          differ : (j : ℕ) → input j ≡ core v → ⊥
-          differ j x = cc
-      by_parts (inr (z, below, there)) =
-          let same : z ≡ v = let both : core z ≡ core v = sym there ∙ here (core v) found in cc in
-          let whole : end ≡ after_event (after_event s (Send c o)) (Collect z) =
-          last ∙ (ap (λ x. after_event x (Collect v)) is ∙ ap (λ n. after_event (after_event s (Send c o)) (Collect n)) (sym same))
-          in
-          let first = event_lighter s (Send c o) u.kept in
-          let then' = event_lighter (after_event s (Send c o)) (Collect z) (kept_after s (Send c o) u.kept) in
-          let all : weight_in end ≡ weight_in (after_event (after_event s (Send c o)) (Collect z)) = ap weight_in whole in
-          (subst (λ x. IsServing x w c rest) (sym whole) (send_core s w c o rest u z below there), omega (arith, first, then', all))
+  core_served v found end last rest u =
+      let whole : end ≡ after_event (after_event s (Send c o)) (Collect v) = last ∙ ap (λ x. after_event x (Collect v)) is in
+      let first = event_lighter s (Send c o) u.kept in
+      let then' = event_lighter (after_event s (Send c o)) (Collect v) (kept_after s (Send c o) u.kept) in
+      let all : weight_in end ≡ weight_in (after_event (after_event s (Send c o)) (Collect v)) = ap weight_in whole in
+      (subst (λ x. IsServing x w c rest) (sym whole) (send_core s w c o rest u v (here (core v) found)), omega (arith, first, then', all))
 
   -- never nowhere
   pub nowhere_served : nowhere ≡ behind setup c o → (rest : List Out) → IsServing s w c (o ∷ rest) → ⊥
-  nowhere_served found rest u = by_parts (by_way s w c o rest u)
-    where
-      by_parts : ((d : Dir) × (o ≡ Link d) × ((r : IsServing s w c (Link d ∷ rest)) × Beyond s r.kept r.copy c d)) ⊎ ((z : ℕ) × (z < length s.setup.spots) × (behind s.setup c o ≡ core z)) → ⊥
-      by_parts (inl (d, out, (r, b))) = differ (far_queue s w c d rest r b) (sym (behind_far s w c d rest r b) ∙ (sym (ap (behind s.setup c) out) ∙ here nowhere found))
-        where
-          differ : (j : ℕ) → input j ≡ nowhere → ⊥
-          differ j x = cc
-      by_parts (inr (z, below, there)) = differ (sym there ∙ here nowhere found)
-        where
-          differ : core z ≡ nowhere → ⊥
-          differ x = cc
+  nowhere_served found rest u = send_nowhere s w c o rest u (here nowhere found)
 
 -- a setup stays one of the same machine and spots
 pub map_still : (setup : Setup) (s t : State) → IsReached s t → IsMapOf setup s → IsMapOf setup t
