@@ -1,11 +1,10 @@
-ghost use Rattle.std.specs.Prelude.{◌≡◌, ◌<◌, ◌≤◌, [], ◌∷◌, IfOk};
+// Worked examples: walks, displacements, and trees to two targets.
+ghost use Rattle.std.specs.Prelude.{◌≡◌, ◌≤◌, [], ◌∷◌, IfOk};
 
 use crate::{Disp, Grown, Join, displacement, distance, ldf, ner};
 use machine_desc::{Edge, Machine};
 use spin_base::{Chip, Dir, Memory, Seq};
 use std::alloc::Global;
-use std::process::Abort;
-use std::test::Fail;
 
 // A machine without dead parts.
 fn whole(alloc: Global, width: u8, height: u8, wrap: bool) -> Result<Machine, Memory>
@@ -20,67 +19,53 @@ fn whole(alloc: Global, width: u8, height: u8, wrap: bool) -> Result<Machine, Me
     Machine::new(alloc, width, height, wrap, 4, &chips, &cores, &links)
 }
 
-// How far it is between two chips, and the walk.
-fn walk(
-    rt: &impl Abort,
-    alloc: Global,
-    machine: &Machine,
-    p: Chip,
-    q: Chip,
-) -> Result<(u32, Vec<Dir>), Memory> {
-    assert!(rt; machine.live(p) && machine.live(q));
-    let steps = ldf(alloc, displacement(machine, p, q))?;
-    Ok((distance(machine, p, q), steps.into_vec()))
+fn chip(x: u8, y: u8) -> Chip {
+    Chip { x, y }
+}
+
+// Whether it is so far between two chips, and the walk has these steps.
+fn walks(alloc: Global, machine: &Machine, p: Chip, q: Chip, far: u32, steps: &[Dir]) -> bool {
+    if !machine.live(p) || !machine.live(q) {
+        return false;
+    }
+    match ldf(alloc, displacement(machine, p, q)) {
+        Ok(walk) => walk.as_slice() == steps && distance(machine, p, q) == far,
+        Err(_) => false,
+    }
 }
 
 #[test]
-fn the_longest_dimension_goes_first(rt: HostRuntime) -> Result<(), Fail> {
-    let grid = whole(rt.alloc(), 8, 8, false)?;
-    let (far, steps) = walk(
-        &rt,
-        rt.alloc(),
-        &grid,
-        Chip { x: 0, y: 0 },
-        Chip { x: 3, y: 2 },
-    )?;
-    assert_eq!(rt; far, 3);
-    assert_eq!(rt;
-        steps.as_slice(),
-        [Dir::NorthEast, Dir::NorthEast, Dir::East].as_slice()
+fn the_longest_dimension_goes_first(rt: HostRuntime) {
+    let grid = whole(rt.alloc(), 8, 8, false);
+    let steps = [Dir::NorthEast, Dir::NorthEast, Dir::East];
+    assert!(rt;
+        matches!(&grid, Ok(grid) if walks(rt.alloc(), grid, chip(0, 0), chip(3, 2), 3, &steps))
     );
-    Ok(())
 }
 
 #[test]
-fn of_equal_dimensions_x_goes_first(rt: HostRuntime) -> Result<(), Fail> {
-    let grid = whole(rt.alloc(), 8, 8, false)?;
-    let (far, steps) = walk(
-        &rt,
-        rt.alloc(),
-        &grid,
-        Chip { x: 2, y: 0 },
-        Chip { x: 0, y: 2 },
-    )?;
-    assert_eq!(rt; far, 4);
-    assert_eq!(rt;
-        steps.as_slice(),
-        [Dir::West, Dir::West, Dir::North, Dir::North].as_slice()
+fn of_equal_dimensions_x_goes_first(rt: HostRuntime) {
+    let grid = whole(rt.alloc(), 8, 8, false);
+    let steps = [Dir::West, Dir::West, Dir::North, Dir::North];
+    assert!(rt;
+        matches!(&grid, Ok(grid) if walks(rt.alloc(), grid, chip(2, 0), chip(0, 2), 4, &steps))
     );
-    Ok(())
+}
+
+// Whether a torus is crossed by its edges, to the South-West.
+fn crosses_back(torus: &Machine) -> bool {
+    let (p, q) = (chip(0, 0), chip(7, 7));
+    torus.live(p) && torus.live(q) && displacement(torus, p, q) == Disp { a: -1, b: -1 }
 }
 
 #[test]
-fn a_torus_is_crossed_the_short_way(rt: HostRuntime) -> Result<(), Fail> {
-    let torus = whole(rt.alloc(), 8, 8, true)?;
-    let (p, q) = (Chip { x: 0, y: 0 }, Chip { x: 7, y: 7 });
-    assert!(rt; torus.live(p) && torus.live(q));
-    assert_eq!(rt; displacement(&torus, p, q), Disp { a: -1, b: -1 });
-    Ok(())
+fn a_torus_is_crossed_the_short_way(rt: HostRuntime) {
+    assert!(rt; matches!(&whole(rt.alloc(), 8, 8, true), Ok(torus) if crosses_back(torus)));
 }
 
 fn edge(x: u8, y: u8, dir: Dir) -> Edge {
     Edge {
-        chip: Chip { x, y },
+        chip: chip(x, y),
         dir,
     }
 }
@@ -92,73 +77,76 @@ fn both(alloc: Global, one: Chip, other: Chip) -> Result<Seq<Chip>, Memory>
     Ok(Seq::from_vec(Vec::from_slice(alloc, &[one, other])?))
 }
 
-// The tree from chip (0, 0) to two targets.
-fn grow(
-    rt: &impl Abort,
-    alloc: Global,
-    machine: &Machine,
-    one: Chip,
-    other: Chip,
-) -> Result<(Vec<Edge>, Vec<Join>), Memory> {
-    let root = Chip { x: 0, y: 0 };
-    assert!(rt; machine.live(root) && machine.live(one) && machine.live(other));
-    let targets = both(alloc, one, other)?;
-    let Grown { tree, joins } = ner(alloc, machine, root, &targets)?;
-    Ok((tree.edges.into_vec(), joins.into_vec()))
+// The tree from chip (0, 0) to two targets, and nothing where a chip is dead.
+fn grown(alloc: Global, machine: &Machine, one: Chip, other: Chip) -> Option<Grown> {
+    let root = chip(0, 0);
+    if !machine.live(root) || !machine.live(one) || !machine.live(other) {
+        return None;
+    }
+    let targets = both(alloc, one, other).ok()?;
+    ner(alloc, machine, root, &targets).ok()
 }
 
-#[test]
-fn a_target_is_joined_to_the_nearest_chip(rt: HostRuntime) -> Result<(), Fail> {
-    let grid = whole(rt.alloc(), 8, 8, false)?;
-    let (edges, _joins) = grow(
-        &rt,
-        rt.alloc(),
-        &grid,
-        Chip { x: 4, y: 0 },
-        Chip { x: 4, y: 1 },
-    )?;
-    let expected = [
-        edge(0, 0, Dir::East),
-        edge(1, 0, Dir::East),
-        edge(2, 0, Dir::East),
-        edge(3, 0, Dir::East),
-        edge(3, 0, Dir::NorthEast),
-    ];
-    assert_eq!(rt; edges.as_slice(), expected.as_slice());
-    Ok(())
-}
-
-#[test]
-fn beyond_the_radius_a_walk_leaves_the_root(rt: HostRuntime) -> Result<(), Fail> {
-    let grid = whole(rt.alloc(), 64, 64, false)?;
-    let (edges, joins) = grow(
-        &rt,
-        rt.alloc(),
-        &grid,
-        Chip { x: 22, y: 0 },
-        Chip { x: 44, y: 0 },
-    )?;
-    let second = Join {
-        target: Chip { x: 44, y: 0 },
-        near: Chip { x: 0, y: 0 },
-        start: Chip { x: 22, y: 0 },
-    };
-    assert_eq!(rt; joins.last().copied(), Some(second));
-    assert_eq!(rt; edges.len(), 44);
-    Ok(())
-}
-
-#[test]
-fn of_two_ways_round_a_torus_the_lower_is_taken(rt: HostRuntime) -> Result<(), Fail> {
-    let torus = whole(rt.alloc(), 2, 2, true)?;
-    let target = Chip { x: 1, y: 0 };
-    let (edges, _joins) = grow(&rt, rt.alloc(), &torus, target, target)?;
-    assert_eq!(rt; edges.as_slice(), [edge(0, 0, Dir::West)].as_slice());
-    Ok(())
+// Whether the second target was joined so, by this last edge.
+fn ends_so(grown: &Grown, second: Join, last: Edge, edges: usize) -> bool {
+    goes_between_threads(grown);
+    grown.joins.as_slice().last() == Some(&second)
+        && grown.tree.edges.as_slice().last() == Some(&last)
+        && grown.tree.edges.len() == edges
 }
 
 fn goes_between_threads<T: Send + Sync>(_: &T) {}
 
-fn grown_trees_go_between_threads(grown: &Grown) {
-    goes_between_threads(grown);
+// Whether on this machine the tree to the two targets ends so.
+fn grows(
+    alloc: Global,
+    machine: &Machine,
+    one: Chip,
+    second: Join,
+    last: Edge,
+    edges: usize,
+) -> bool {
+    match grown(alloc, machine, one, second.target) {
+        Some(grown) => ends_so(&grown, second, last, edges),
+        None => false,
+    }
+}
+
+#[test]
+fn a_target_is_joined_to_the_nearest_chip(rt: HostRuntime) {
+    let grid = whole(rt.alloc(), 8, 8, false);
+    let second = Join {
+        target: chip(4, 1),
+        near: chip(3, 0),
+        start: chip(3, 0),
+    };
+    assert!(rt;
+        matches!(&grid, Ok(grid) if grows(rt.alloc(), grid, chip(4, 0), second, edge(3, 0, Dir::NorthEast), 5))
+    );
+}
+
+#[test]
+fn beyond_the_radius_a_walk_leaves_the_root(rt: HostRuntime) {
+    let grid = whole(rt.alloc(), 64, 64, false);
+    let second = Join {
+        target: chip(44, 0),
+        near: chip(0, 0),
+        start: chip(22, 0),
+    };
+    assert!(rt;
+        matches!(&grid, Ok(grid) if grows(rt.alloc(), grid, chip(22, 0), second, edge(43, 0, Dir::East), 44))
+    );
+}
+
+#[test]
+fn of_two_ways_round_a_torus_the_lower_is_taken(rt: HostRuntime) {
+    let torus = whole(rt.alloc(), 2, 2, true);
+    let second = Join {
+        target: chip(1, 0),
+        near: chip(1, 0),
+        start: chip(1, 0),
+    };
+    assert!(rt;
+        matches!(&torus, Ok(torus) if grows(rt.alloc(), torus, chip(1, 0), second, edge(0, 0, Dir::West), 1))
+    );
 }
