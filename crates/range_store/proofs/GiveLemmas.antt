@@ -4,10 +4,11 @@ use Rattle.std.proofs.lemmas.Bool.{cases_lt}
 use Rattle.std.proofs.lemmas.Bool.Decides.{nat_tests}
 use Rattle.std.proofs.lemmas.List.{take-append-drop, set_split, set_at, length-take-le}
 use Rattle.std.proofs.lemmas.List.Folds.{list_any-append}
+use Rattle.std.proofs.lemmas.Option.{slice_get-get_or, slice_get_within}
 use Rattle.range_store.specs.declared.holes.Hole.{Hole}
 use Rattle.range_store.specs.Fits.{AreNeighbours}
 use Rattle.range_store.specs.Regions.{AreRuns, has_range, is_free, in_range, end_of}
-use Rattle.range_store.proofs.RunLemmas.{next, got, got_is, runs_split, runs_join, earlier, range_from, fits_any, drop_got, false_true}
+use Rattle.range_store.proofs.RunLemmas.{next, runs_split, runs_join, earlier, range_from, fits_any, drop_got, false_true}
 
 -- one hole in place of some, of which it has the places, and those of a range
 module _ (n p s : ℕ) (pre mid post : List Hole) (m : Hole) (runs : AreRuns 0 n (pre ++ (mid ++ post)))
@@ -41,9 +42,6 @@ take_got (x ∷ xs) (suc i) h e = ap (λ r. x ∷ r) (take_got xs i h e)
 
 split_got : (xs : List Hole) (i : ℕ) (h : Hole) → slice_get xs i ≡ Some h → xs ≡ take i xs ++ (h ∷ drop (suc i) xs)
 split_got xs i h e = sym (take-append-drop i xs) ∙ ap (λ d. take i xs ++ d) (drop_got xs i h e)
-
-inside_of : (xs : List Hole) (i : ℕ) (h : Hole) → slice_get xs i ≡ Some h → i < length xs
-inside_of xs i h e = (got xs i h h e).1
 
 get_dropped : (xs : List Hole) (i : ℕ) (h : Hole) → slice_get (drop i xs) 0 ≡ Some h → slice_get xs i ≡ Some h
 get_dropped xs zero h e = e
@@ -101,7 +99,7 @@ module _ (n p s a : ℕ) (xs : List Hole) (some : 0 < s) (within : p + s ≤ n) 
   start_none apart (suc i) is le =
       let back : a - 1 ≡ i = omega arith in
       let l = get_or xs i (record { place = 0; len = 0 }) in
-      let e = got_is xs i (record { place = 0; len = 0 }) (omega arith) in
+      let e = slice_get-get_or xs i (record { place = 0; len = 0 }) (omega arith) in
       let gap = left_gap i l is e in
       let ne = apart l (omega arith) (ap (slice_get xs) back ∙ e) in
       let last = ap (next 0) (take_got xs i l e) ∙ next_last 0 (take i xs) l in
@@ -144,7 +142,7 @@ module _ (n p s a : ℕ) (xs : List Hole) (some : 0 < s) (within : p + s ≤ n) 
       → Gives (set xs a (record { place = p; len = s + r.len }))
   give_right r le no_left e meets =
       let long = some_len 0 n xs a r runs e in
-      gives a (suc a) (r ∷ []) (record { place = p; len = s + r.len }) _ (split_got xs a r e) (set_split xs a _ (inside_of xs a r e)) (λ k. has_right k p s r meets)
+      gives a (suc a) (r ∷ []) (record { place = p; len = s + r.len }) _ (split_got xs a r e) (set_split xs a _ (slice_get_within xs a r e)) (λ k. has_right k p s r meets)
       (start_none no_left a refl le) (omega arith) (omega (arith, long.1)) (earlier (end_of r + 1) _ n _ (after_right r e) (omega arith))
 
   pub give_left : (l : Hole) → 0 < a → slice_get xs (a - 1) ≡ Some l → end_of l ≡ p → ((r : Hole) → slice_get xs a ≡ Some r → r.place ≢ p + s)
@@ -154,7 +152,7 @@ module _ (n p s a : ℕ) (xs : List Hole) (some : 0 < s) (within : p + s ≤ n) 
       let m : Hole = record { place = l.place; len = l.len + s } in
       gives (a - 1) a (l ∷ []) m _
       (split_got xs (a - 1) l e ∙ ap (λ j. take (a - 1) xs ++ (l ∷ drop j xs)) up)
-      (set_split xs (a - 1) m (inside_of xs (a - 1) l e) ∙ ap (λ j. take (a - 1) xs ++ m ∷ drop j xs) up)
+      (set_split xs (a - 1) m (slice_get_within xs (a - 1) l e) ∙ ap (λ j. take (a - 1) xs ++ m ∷ drop j xs) up)
       (λ k. has_left k p s l meets) (start_left (a - 1) l e) (omega arith) (omega arith)
       (earlier (p + s + 1) (end_of m + 1) n _ (after_none no_right) (omega arith))
 
@@ -163,7 +161,7 @@ module _ (n p s a : ℕ) (xs : List Hole) (some : 0 < s) (within : p + s ≤ n) 
   give_both l r some_before e meets f meets_right =
       let up : suc (a - 1) ≡ a = omega arith in
       let m : Hole = record { place = l.place; len = l.len + s + r.len } in
-      let inside = inside_of xs (a - 1) l e in
+      let inside = slice_get_within xs (a - 1) l e in
       let long = some_len 0 n xs a r runs f in
       let pre : take a xs ≡ take (a - 1) xs ++ l ∷ [] = ap (λ j. take j xs) (sym up) ∙ take_got xs (a - 1) l e in
       let rest : drop (suc (a - 1)) xs ≡ r ∷ drop (suc a) xs = ap (λ j. drop j xs) up ∙ drop_got xs a r f in
@@ -209,7 +207,7 @@ module _ (n p s a : ℕ) (xs : List Hole) (left right : Option Hole) (some : 0 <
 
   -- the neighbours, as numbers
   pub right_end : (y : Hole) → right ≡ Some y → (a < length xs) × (y.place ≡ p + s) × (end_of y ≤ n)
-  right_end y r = let is = subst RightIs r near.right_is in (inside_of xs a y is.0, is.1, (some_len 0 n xs a y runs is.0).1)
+  right_end y r = let is = subst RightIs r near.right_is in (slice_get_within xs a y is.0, is.1, (some_len 0 n xs a y runs is.0).1)
 
   pub left_end : (x : Hole) → left ≡ Some x → (0 < a) × (end_of x ≡ p)
   left_end x l = let is = subst LeftIs l near.left_is in (is.0, is.2)

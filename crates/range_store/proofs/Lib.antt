@@ -1,2 +1,2 @@
-pub mod GiveLemmas
-pub mod RunLemmas
+mod GiveLemmas
+mod RunLemmas

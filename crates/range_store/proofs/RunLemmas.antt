@@ -1,6 +1,7 @@
 -- Holes as runs of free places, and what a range leaves of them.
-use Rattle.std.proofs.Common.{◌≡◌, ◌≢◌, ℕ, ◌+◌, ◌-◌, ◌%◌, ◌<◌, ◌≤◌, min, max, Bool, true, false, true≢false, not, ◌&&◌, ◌||◌, leb, ltb, List, [], ◌∷◌, ◌++◌, length, get_or, set, take, drop, refl, sym, ap, ap₂, ◌∙◌, ◌*◌, ◌/◌, subst, arith, zero, suc, Some, slice_get, inl, inr, ◌⊎◌, append_assoc}
-use Rattle.std.proofs.lemmas.Bool.{cases_lt, cases_eq}
+use Rattle.std.proofs.Common.{◌≡◌, ◌≢◌, ℕ, ◌+◌, ◌-◌, ◌%◌, ◌<◌, ◌≤◌, min, max, Bool, true, false, true≢false, not, ◌&&◌, ◌||◌, leb, ltb, List, [], ◌∷◌, ◌++◌, length, get_or, set, take, drop, refl, sym, ap, ap₂, ◌∙◌, ◌*◌, ◌/◌, subst, arith, zero, suc, Some, slice_get, inl, inr, append_assoc}
+use Rattle.std.proofs.lemmas.Bool.{cases_Bool, cases_lt, cases_eq, or_cases, or_parts, or_right}
+use Rattle.std.proofs.lemmas.Option.{get_or_from_slice_get, slice_get_within}
 use Rattle.std.proofs.lemmas.List.{set_split, set_at, length-take-le, length_push, take-append-drop}
 use Rattle.std.proofs.lemmas.List.Folds.{list_any-append}
 use Rattle.std.proofs.lemmas.Bool.Decides.{nat_tests}
@@ -136,10 +137,6 @@ multiple x y some =
           )
     ]
 
-bool_cases : (b : Bool) → (b ≡ true) ⊎ (b ≡ false)
-bool_cases true = inl refl
-bool_cases false = inr refl
-
 pub least_in : (h : Hole) (s y : ℕ) → 0 < y → next_multiple_of h.place y ≤ end_of h → s ≤ end_of h - next_multiple_of h.place y
     → IsLeastIn h s y (next_multiple_of h.place y)
 least_in h s y some low room =
@@ -152,7 +149,7 @@ least_in h s y some low room =
 
 pub none_in : (h : Hole) (s y : ℕ) → 0 < s → 0 < y → end_of h - next_multiple_of h.place y < s → NoneIn h s y
 none_in h s y size some short q even =
-    elim (bool_cases (has_range q s h)) [
+    elim (cases_Bool (has_range q s h)) [
       | inl here ↦ (
           let m = multiple h.place y some in
           let facts = range_facts q s h here in
@@ -162,14 +159,7 @@ none_in h s y size some short q even =
     ]
 
 pub got : (xs : List Hole) (i : ℕ) (h d : Hole) → slice_get xs i ≡ Some h → (get_or xs i d ≡ h) × (i < length xs)
-got [] i h d e = cc
-got (x ∷ xs) zero h d e = (cc, omega arith)
-got (x ∷ xs) (suc i) h d e = let rest = got xs i h d e in (rest.0, omega (arith, rest.1))
-
-pub got_is : (xs : List Hole) (i : ℕ) (d : Hole) → i < length xs → slice_get xs i ≡ Some (get_or xs i d)
-got_is [] i d inside = absurd (omega arith)
-got_is (x ∷ xs) zero d inside = refl
-got_is (x ∷ xs) (suc i) d inside = got_is xs i d (omega arith)
+got xs i h d e = (get_or_from_slice_get xs i h d e, slice_get_within xs i h e)
 
 -- what a range leaves of the hole in which it lies
 rest_is : (p s : ℕ) (h : Hole) → h.place ≤ p → p + s ≤ end_of h → rest_of p s h ≡ hole_of h.place p ++ hole_of (p + s) (end_of h)
@@ -180,18 +170,6 @@ rest_is p s h low high =
 
 pub false_true : {A : Type 0} → false ≡ true → A
 false_true e = absurd (true≢false (sym e))
-
-or_right : (a b : Bool) → b ≡ true → (a || b) ≡ true
-or_right true b e = refl
-or_right false b e = e
-
-or_cases : (a b : Bool) → (a || b) ≡ true → (a ≡ true) ⊎ (b ≡ true)
-or_cases true b e = inl refl
-or_cases false b e = inr e
-
-or_none : (a b : Bool) → (a || b) ≡ false → (a ≡ false) × (b ≡ false)
-or_none true b e = false_true (sym e)
-or_none false b e = (refl, e)
 
 or_second : (a b : Bool) → a ≡ false → (a || b) ≡ true → b ≡ true
 or_second true b e f = false_true (sym e)
@@ -277,7 +255,7 @@ least_of from n (x ∷ xs) zero h size align place q runs is here none even fits
           )
     ]
 least_of from n (x ∷ xs) (suc i) h size align place q runs is here none even fits =
-    let apart = or_none (has_range q size x) (is_hole_range (take i xs) q size) none in
+    let apart = or_parts (has_range q size x) (is_hole_range (take i xs) q size) none in
     least_of (end_of x + 1) n xs i h size align place q runs.3 is here apart.1 even (or_second (has_range q size x) _ apart.0 fits)
 
 -- the first hole with a fit has the least one of all, since the holes stand in order

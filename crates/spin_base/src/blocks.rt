@@ -6,7 +6,7 @@ use crate::lists::Seq;
 use crate::routes::Route;
 
 /// A block of keys: those `k` for which `k & mask = key`. The key has no bit outside the mask.
-#[derive(Clone, Copy, Debug, PartialEq, Eq, PartialOrd, Ord, Hash)]
+#[derive(Clone, Copy, Debug, PartialEq, Eq)]
 pub struct Block {
     pub key: u32,
     pub mask: u32,
@@ -15,7 +15,7 @@ pub struct Block {
 }
 
 /// An entry of a router's table: it matches a key `k` where `k & mask = key` (SpiNNaker datasheet).
-#[derive(Clone, Copy, Debug, PartialEq, Eq, PartialOrd, Ord, Hash)]
+#[derive(Clone, Copy, Debug, PartialEq, Eq)]
 pub struct Entry {
     pub key: u32,
     pub mask: u32,

@@ -104,8 +104,8 @@ impl Port {
     }
 }
 
-/// A core of a chip, by its number. Spots are ordered by x, then y, then core.
-#[derive(Clone, Copy, Debug, PartialEq, Eq, PartialOrd, Ord, Hash)]
+/// A core of a chip, by its number.
+#[derive(Clone, Copy, Debug, PartialEq, Eq)]
 pub struct Spot {
     pub chip: Chip,
     pub core: u8,

@@ -36,7 +36,7 @@ impl Out {
 pub type Outs = ArrayVec<Out, 24>;
 
 /// The links and cores that get a copy of a packet, as 24 bits (SpiNNaker datasheet).
-#[derive(Clone, Copy, Debug, PartialEq, Eq, PartialOrd, Ord, Hash)]
+#[derive(Clone, Copy, Debug, PartialEq, Eq)]
 pub struct Route {
     pub bits: u32,
     ghost within: { bits < 2 ^ 24 },

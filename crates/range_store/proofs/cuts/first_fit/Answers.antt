@@ -1,4 +1,5 @@
-use Rattle.range_store.proofs.RunLemmas.{end_below, first_is_least, got_is}
+use Rattle.std.proofs.lemmas.Option.{slice_get-get_or}
+use Rattle.range_store.proofs.RunLemmas.{end_below, first_is_least}
 use Rattle.range_store.proofs.cuts.first_fit.Goals as goal
 
 pub fit_in-requires-clause-below : goal.fit_in-requires-clause-below
@@ -7,12 +8,12 @@ fit_in-requires-clause-below c = end_below 0 4294967296 c.args.holes.now c.loop-
 pub returns-in-Some-clause-first : goal.returns-in-Some-clause-first
 returns-in-Some-clause-first c =
     first_is_least 0 4294967296 c.args.holes.now c.loop-at.at _ c.args.size c.args.align c.in-Some.place c.requires.runs
-    (got_is c.args.holes.now c.loop-at.at _ c.loop-at-test.true) c.in-Some.ensures.least c.loop-at.invariant c.requires.some
+    (slice_get-get_or c.args.holes.now c.loop-at.at _ c.loop-at-test.true) c.in-Some.ensures.least c.loop-at.invariant c.requires.some
 
 pub returns-in-Some-clause-at : goal.returns-in-Some-clause-at
 returns-in-Some-clause-at c = record {
   hole = _;
-  is = got_is c.args.holes.now c.loop-at.at (record { place = 0; len = 0 }) c.loop-at-test.true;
+  is = slice_get-get_or c.args.holes.now c.loop-at.at (record { place = 0; len = 0 }) c.loop-at-test.true;
   inside = c.loop-at-test.true;
   fits = c.in-Some.ensures.least.fits;
 }
