@@ -1,5 +1,5 @@
 // Worked examples of the step: events one after the other, and what was delivered and dumped at their end.
-ghost use Rattle.std.specs.Prelude.{◌≤◌};
+ghost use Rattle.std.specs.Prelude.{◌≡◌, ◌≤◌};
 
 use crate::*;
 use machine_desc::Machine;
@@ -46,7 +46,28 @@ fn tables(rt: &HostRuntime, last: u32) -> Result<Seq<Tcam>, &'static str>
     Ok(tables)
 }
 
-/// The mesh of the row, where vertex 0 on the first chip sends to vertex 1, with queues of one copy.
+/// The mesh of two vertices on different sites, with queues of one copy.
+fn mesh_of(
+    rt: &HostRuntime,
+    machine: Machine,
+    a: Spot,
+    b: Spot,
+    tables: Seq<Tcam>,
+) -> Result<Mesh, &'static str> {
+    if a == b || !machine.site(a) || !machine.site(b) {
+        return Err("two different sites");
+    }
+    if tables.len() != machine.chips() {
+        return Err("a table for each chip");
+    }
+    let mut spots = Seq::new(rt.alloc());
+    spots.push(a).map_err(|_| "memory")?;
+    spots.push(b).map_err(|_| "memory")?;
+    let mesh = Mesh::new(rt.alloc(), machine, spots, tables, 1);
+    mesh.map_err(|_| "memory")
+}
+
+/// The mesh of the row, where vertex 0 on the first chip sends to vertex 1.
 fn mesh_to(rt: &HostRuntime, to: Spot, last: u32) -> Result<Mesh, &'static str>
     requires { last ≤ 16777215 }
 {
@@ -56,17 +77,12 @@ fn mesh_to(rt: &HostRuntime, to: Spot, last: u32) -> Result<Mesh, &'static str>
         chip: at(0),
         core: 1,
     };
-    let mut spots = Seq::new(rt.alloc());
-    spots.push(from).map_err(|_| "memory")?;
-    spots.push(to).map_err(|_| "memory")?;
-    if from == to || !machine.site(from) || !machine.site(to) || tables.len() != machine.chips() {
-        return Err("two sites, and a table for each chip");
-    }
-    let mesh = Mesh::new(rt.alloc(), machine, spots, tables, 1);
-    mesh.map_err(|_| "memory")
+    mesh_of(rt, machine, from, to, tables)
 }
 
-fn copy(packet: u32, hop: u32) -> McCopy {
+fn copy(packet: u32, hop: u32) -> McCopy
+    ensures { result.hop ≡ hop }
+{
     McCopy {
         packet,
         key: 0,
@@ -80,13 +96,7 @@ fn put(mesh: &mut Mesh, packet: u32) -> Result<(), &'static str> {
     if mesh.spots().is_empty() {
         return Err("no vertex");
     }
-    let copy = McCopy {
-        packet,
-        key: 0,
-        payload: Some(7),
-        hop: 0,
-    };
-    mesh.add(0, copy).map_err(|_| "memory")
+    mesh.add(0, copy(packet, 0)).map_err(|_| "memory")
 }
 
 /// How many of the events move something.
