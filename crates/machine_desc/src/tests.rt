@@ -1,6 +1,6 @@
 ghost use Rattle.std.specs.Prelude.{◌≤◌};
 
-use crate::{Edge, Machine};
+use crate::{Edge, Machine, Tree};
 use spin_base::{Chip, Dir, Memory, Seq, Spot};
 use std::alloc::Global;
 use std::test::Fail;
@@ -118,8 +118,13 @@ fn a_copy_tells_what_the_machine_was_made_of(rt: HostRuntime) -> Result<(), Fail
     let torus = machine(rt.alloc(), 2, true)?;
     assert_eq!(rt; copied(rt.alloc(), &torus)?, (2, 3, true, 1024, 5, 6));
     assert_eq!(rt; last_chip(&torus), Chip { x: 1, y: 2 });
-    goes_between_threads(&torus);
     Ok(())
+}
+
+// Workers are lent machines and trees.
+fn are_lent(machine: &Machine, tree: &Tree) {
+    goes_between_threads(machine);
+    goes_between_threads(tree);
 }
 
 fn goes_between_threads<T: Send + Sync>(_: &T) {}

@@ -1,5 +1,5 @@
 -- What one event does to the marks of a mesh: one mark leaves, and others come in its place.
-use Rattle.std.proofs.Common.{◌≡◌, ℕ, ◌+◌, ◌*◌, ◌/◌, ◌%◌, ◌<◌, false, List, [], ◌∷◌, ◌++◌, map, Option, Some, refl, ap, sym, ◌∙◌, subst, arith, zero-add, append-nil, ◌⊎◌}
+use Rattle.std.proofs.Common.{◌≡◌, ℕ, ◌+◌, ◌*◌, ◌/◌, ◌%◌, false, List, [], ◌∷◌, ◌++◌, map, Option, Some, refl, ap, sym, ◌∙◌, subst, arith, zero-add, append-nil, ◌⊎◌}
 use Rattle.std.specs.List.{slice_get, slice_set}
 use Rattle.std.proofs.lemmas.List.{map-append}
 use Rattle.list_laws.proofs.Exchange.{TakenOut, PutIn, taken_out_after, taken_out_before, put_in_after, put_in_before, taken_out_gathered, put_in_gathered}
@@ -15,7 +15,6 @@ use Rattle.spin_base.specs.declared.copies.McCopy.{McCopy}
 use Rattle.spin_base.specs.declared.copies.Delivery.{Delivery}
 use Rattle.spin_base.specs.declared.copies.DumpRec.{DumpRec}
 use Rattle.spin_base.specs.Links.{opposite_of, port_number}
-use Rattle.spin_base.proofs.Outputs.{dir_number_below}
 use Rattle.machine_desc.specs.Description.{Description}
 use Rattle.machine_desc.specs.Live.{far_of, index_of, chip_of, is_live_link, IsInside, IsLiveLink}
 use Rattle.machine_desc.proofs.Far.{same_index, index_below}
@@ -24,6 +23,7 @@ use Rattle.mesh_core.specs.State.{State, Held, queue_at, vertex_behind}
 use Rattle.mesh_core.specs.Step.{in_hand as held_for, outputs, onward}
 use Rattle.mesh_core.specs.Trail.{Station, unsent, in_queue, in_hand, at_core, delivered, dumped, Mark}
 use Rattle.mesh_core.specs.Ledger.{marks_of, marked, hand_marks, port_of, unsent_marks, input_marks, all_hand_marks, core_marks, delivered_marks, dumped_marks}
+use Rattle.mesh_core.proofs.Changes.{port_below}
 
 abbrev pub mark : McCopy → Station → Mark
 mark k at = record { copy = k; station = at }
@@ -68,10 +68,6 @@ pub chip_of-index_of : (m : Description) (c : Chip) → IsInside m c → chip_of
 chip_of-index_of m c inside =
     same_index m (chip_of m (index_of m c)) c (chip_of-inside m (index_of m c) (index_below m c inside)) inside (index_of-chip_of m (index_of m c))
 
-port_number_below : (port : Port) → port_number port < 7
-port_number_below (ByLink d) = omega (arith, dir_number_below d)
-port_number_below Local = omega arith
-
 pub port_of-port_number : (port : Port) → port_of (port_number port) ≡ port
 port_of-port_number (ByLink East) = refl
 port_of-port_number (ByLink NorthEast) = refl
@@ -84,7 +80,7 @@ port_of-port_number Local = refl
 -- the station of a queue's number
 pub station_of_queue : (m : Description) (c : Chip) (port : Port) → IsInside m c → in_queue (chip_of m ((0 + queue_at m c port) / 7)) (port_of ((0 + queue_at m c port) % 7)) ≡ in_queue c port
 station_of_queue m c port inside =
-    let small = port_number_below port in
+    let small = port_below port in
     let index : (0 + (7 * index_of m c + port_number port)) / 7 ≡ index_of m c = omega arith in
     let number : (0 + (7 * index_of m c + port_number port)) % 7 ≡ port_number port = omega arith in
     rw (index, number, chip_of-index_of m c inside, port_of-port_number port) refl

@@ -18,6 +18,7 @@ use Rattle.machine_desc.specs.Description.{Description}
 use Rattle.machine_desc.specs.Live.{index_of, IsInside}
 use Rattle.machine_desc.specs.RoutingTree.{IsRoutingTree}
 use Rattle.machine_desc.proofs.Far.{live_inside, live_ends}
+use Rattle.machine_desc.proofs.Live.{index_of-chip_of}
 use Rattle.net_tables.specs.declared.nets.NetPlan.{NetPlan}
 use Rattle.mesh_core.specs.declared.places.Place.TheVariants.{InQueue, Hand as HandAt, CoreQueue}
 use Rattle.mesh_core.specs.declared.places.Where.TheVariants.{At, Delivered, Dumped}
@@ -30,7 +31,7 @@ use Rattle.mesh_core.specs.Searches.{IsMarkThere, IsFound, IsOfCore, IsOfOutput,
 use Rattle.list_laws.proofs.Members.{Among, among_contains, contains_among, any_among, among_any, position_there, position_nowhere}
 use Rattle.mesh_core.proofs.Moves.{mark}
 use Rattle.mesh_core.proofs.Ways.{vertex_at_stands}
-use Rattle.mesh_core.proofs.Standing.{StandsAt, mark_stands, queued_mark, held_mark, core_mark, delivered_mark, dumped_mark, place_of_queue, index_of-chip_of, some_rows}
+use Rattle.mesh_core.proofs.Standing.{StandsAt, mark_stands, queued_mark, held_mark, core_mark, delivered_mark, dumped_mark, place_of_queue}
 
 module _ (s : State) (packet : ℕ) where
   -- a mark of the mesh at a station stands there
@@ -117,7 +118,7 @@ module _ (s : State) (packet : ℕ) where
       let stands : StandsAt s k.copy (in_hand c o) = stands_there k has (in_hand c o) there in
       let h : Held = stands.1 in
       let place : stands.0 ≡ index_of s.setup.machine c =
-      sym (index_of-chip_of s.setup.machine stands.0 (some_rows s.setup.machine c inside)) ∙ ap (index_of s.setup.machine) stands.3
+      sym (index_of-chip_of s.setup.machine stands.0) ∙ ap (index_of s.setup.machine) stands.3
       in
       let at : slice_get s.hands (index_of s.setup.machine c) ≡ Some (Some h) = ap (slice_get s.hands) (sym place) ∙ stands.2 in
       let serves : list_any (out_eq o) h.outs ≡ true = among_any (out_eq o) o h.outs stands.5 (out_eq_same o) in

@@ -1,5 +1,5 @@
 -- Which marks a mesh has, by their stations: those of the lists' items there.
-use Rattle.std.proofs.Common.{◌≡◌, ℕ, ◌+◌, ◌*◌, ◌/◌, ◌%◌, ◌<◌, suc, zero, List, ◌++◌, Option, Some, None, refl, ap, sym, ◌∙◌, subst, arith, inl, inr, ◌⊎◌}
+use Rattle.std.proofs.Common.{◌≡◌, ℕ, ◌+◌, ◌/◌, ◌%◌, ◌<◌, suc, zero, List, ◌++◌, Option, Some, None, refl, ap, sym, ◌∙◌, subst, arith, inl, inr, ◌⊎◌}
 use Rattle.std.specs.List.{slice_get}
 use Rattle.list_laws.proofs.Members.{Among, among_left, among_right, among_either, among_map, map_among}
 use Rattle.list_laws.proofs.Gathering.{among_gathered, gathered_among_from, gathered_among}
@@ -12,20 +12,13 @@ use Rattle.spin_base.specs.declared.copies.DumpRec.{DumpRec}
 use Rattle.spin_base.specs.Links.{port_number}
 use Rattle.machine_desc.specs.Description.{Description}
 use Rattle.machine_desc.specs.Live.{chip_of, index_of, IsInside}
-use Rattle.machine_desc.proofs.Far.{inside_parts}
+use Rattle.machine_desc.proofs.Live.{index_of-chip_of}
 use Rattle.mesh_core.specs.State.{State, Held, queue_at}
 use Rattle.mesh_core.specs.Trail.{Station, unsent, in_queue, in_hand, at_core, delivered, dumped, Mark}
 use Rattle.mesh_core.specs.Ledger.{marks_of, marked, hand_marks, port_of, unsent_marks, input_marks, all_hand_marks, core_marks, delivered_marks, dumped_marks}
 use Rattle.mesh_core.proofs.Moves.{mark, chip_of-index_of, station_of_queue}
 
 -- ---- chips and ports by number
-
--- the index of the chip of a number is that number
-pub index_of-chip_of : (m : Description) (i : ℕ) → 0 < m.height → index_of m (chip_of m i) ≡ i
-index_of-chip_of m i high = whole m.height i high
-  where
-    whole : (h n : ℕ) → 0 < h → (n / h) * h + n % h ≡ n
-    whole h n some = grind arith
 
 -- the number of the port of a number below 7 is that number
 pub port_number-port_of : (n : ℕ) → n < 7 → port_number (port_of n) ≡ n
@@ -38,15 +31,11 @@ port_number-port_of (suc (suc (suc (suc (suc zero))))) low = refl
 port_number-port_of (suc (suc (suc (suc (suc (suc zero)))))) low = refl
 port_number-port_of (suc (suc (suc (suc (suc (suc (suc n))))))) low = absurd (omega arith)
 
--- a chip inside the grid has a row, so the grid has one
-pub some_rows : (m : Description) (c : Chip) → IsInside m c → 0 < m.height
-some_rows m c inside = let at = inside_parts m c inside in omega (arith, at.1)
-
 -- the place of the queues of a chip and port is one
 pub place_of_queue : (m : Description) (c : Chip) (port : Port) (i : ℕ) → IsInside m c → chip_of m (i / 7) ≡ c → port_of (i % 7) ≡ port →
     i ≡ queue_at m c port
 place_of_queue m c port i inside is_chip is_port =
-    let index : index_of m c ≡ i / 7 = ap (index_of m) (sym is_chip) ∙ index_of-chip_of m (i / 7) (some_rows m c inside) in
+    let index : index_of m c ≡ i / 7 = ap (index_of m) (sym is_chip) ∙ index_of-chip_of m (i / 7) in
     let number : port_number port ≡ i % 7 = ap port_number (sym is_port) ∙ port_number-port_of (i % 7) (omega arith) in
     omega (arith, index, number)
 

@@ -38,11 +38,15 @@ pub fn a_mesh_stays_a_mesh()
     ensures after_put_back { (s : State) → IsMesh s → IsMesh (after_put_back s) }
 {}
 
-/// Each target of a net that stands on a machine has a way.
-pub fn each_target_has_a_way()
-    ensures { (m : Description) (spots : List Spot) (nets : List NetPlan) (net : NetPlan) (target : Spot) →
+/// Each target of a net that stands on a machine has a way, and two ways to one target are one.
+pub fn each_target_has_one_way()
+    ensures some { (m : Description) (spots : List Spot) (nets : List NetPlan) (net : NetPlan) (target : Spot) →
         AreNetsOn m spots nets → Contains nets net → Contains net.targets target →
         (branch : List Exit) × (from : ℕ) × (to : ℕ) × IsWayOn m spots net target branch from to }
+    ensures no_other { (m : Description) (spots : List Spot) (nets : List NetPlan) (net : NetPlan) (target : Spot)
+        (branch other : List Exit) (from begin to end : ℕ) →
+        AreNetsOn m spots nets → Contains nets net → IsWayOn m spots net target branch from to → IsWayOn m spots net target other begin end →
+        (branch ≡ other) × (from ≡ begin) × (to ≡ end) }
 {}
 
 /// Where the tables are right for the nets and the mesh meets the ledger of copies, it meets the ledger after every list
