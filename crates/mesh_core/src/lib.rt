@@ -13,8 +13,6 @@ mod queues;
 mod setups;
 mod steps;
 mod tables;
-#[cfg(test)]
-mod tests;
 mod whereabouts;
 
 pub use hands::Hand;

@@ -1,5 +1,5 @@
--- The net of the example stands on its mesh.
-use Rattle.std.proofs.Common.{◌≡◌, ◌≢◌, ◌+◌, ◌*◌, suc, zero, List, [], ◌∷◌, map, Some, None, refl, sym, ap, ◌∙◌, subst, arith, inl, inr, ◌⊎◌}
+-- The nets of the example stand on its machine.
+use Rattle.std.proofs.Common.{◌≡◌, ◌≢◌, ℕ, ◌+◌, ◌*◌, suc, zero, List, [], ◌∷◌, map, Some, None, refl, sym, ap, ◌∙◌, subst, arith, inl, inr, ◌⊎◌}
 use Rattle.std.specs.List.{All, AllPairs, Any, Contains, slice_get}
 use Rattle.std.proofs.lemmas.List.Elements.{All-from_recursion}
 use Rattle.std.proofs.lemmas.List.Kept.{AllPairs-cons}
@@ -7,17 +7,17 @@ use Rattle.spin_base.specs.declared.chips.Chip.{Chip}
 use Rattle.spin_base.specs.declared.chips.Spot.{Spot}
 use Rattle.spin_base.specs.declared.copies.Packet.{Packet}
 use Rattle.machine_desc.specs.declared.trees.Edge.{Edge}
-use Rattle.machine_desc.specs.Live.{IsLiveLink, IsUsable}
+use Rattle.machine_desc.specs.Description.{HasSize}
+use Rattle.machine_desc.specs.Live.{IsLiveLink, IsSite}
 use Rattle.machine_desc.specs.RoutingTree.{IsRoutingTree, IsTreeChip, IsPath, end_of}
 use Rattle.net_tables.specs.declared.nets.NetPlan.{NetPlan}
+use Rattle.net_tables.specs.NetsOn.{AreNetsOn, HaveDisjointBlocks}
 use Rattle.net_tables.specs.RightTables.{IsKeyOf}
-use Rattle.machine_desc.specs.Description.{HasSize}
-use Rattle.spin_base.specs.declared.copies.McCopy.{McCopy}
 use Rattle.mesh_core.specs.State.{IsMesh}
+use Rattle.mesh_core.specs.Opened.{AreOfNets}
 use Rattle.mesh_core.proofs.Changes.{IsMesh-empty}
-use Rattle.mesh_core.specs.Ledger.{AreNetsOf}
-use Rattle.mesh_core.specs.Opened.{AreOfNets, empty_mesh}
-use Rattle.two_chips.specs.Board.{board, left, right, east, source, targets, spots, net, packets, opened, block, tables, copy}
+use Rattle.mesh_core.proofs.OpenedLaw.{IsMesh-opened}
+use Rattle.two_chips.specs.Board.{board, left, right, east, source, targets, device, spots, net, other_net, nets, packets, setup, opened, block, other_block}
 use Rattle.two_chips.proofs.Small.{one_item}
 
 left_is_not_right : left ≢ right
@@ -37,27 +37,36 @@ reached c h = by (chips_of_tree c h)
     by (inl at) = ([], sym at)
     by (inr at) = (east ∷ [], ((0, omega arith, refl), refl, (right, refl, sym at)))
 
-ends_are_targets : (c : Chip) → IsTreeChip board left (east ∷ []) c → Any (λ e. e.chip ≡ c) (east ∷ []) ⊎ Contains (map (λ (s : Spot). s.chip) targets) c
-ends_are_targets c h = by (chips_of_tree c h)
+left_in_tree : IsTreeChip board left (east ∷ []) left
+left_in_tree = inl refl
+
+right_in_tree : IsTreeChip board left (east ∷ []) right
+right_in_tree = inr (0, east, omega arith, refl, refl)
+
+-- the tree of the one link, to targets of which one is on the right chip
+tree_to : (to : List Spot) → Contains (map (λ (s : Spot). s.chip) to) right → All (IsTreeChip board left (east ∷ [])) (map (λ (s : Spot). s.chip) to) →
+    IsRoutingTree board left (east ∷ []) to
+tree_to to has in_tree =
+    record {
+      edges_live = All-from_recursion (λ (e : Edge). IsLiveLink board e.chip e.dir) (east ∷ []) (refl, tt);
+      edges_begin = All-from_recursion (λ (e : Edge). IsTreeChip board left (east ∷ []) e.chip) (east ∷ []) (left_in_tree, tt);
+      none_into_root = All-from_recursion (λ (e : Edge). end_of board e ≢ Some left) (east ∷ []) ((λ e. left_is_not_right (sym (cc e))), tt);
+      one_into_each = λ i j d lt within. absurd (omega (arith, lt, within));
+      reached = reached;
+      has_targets = in_tree;
+      ends_are_targets = λ c h. ends c (chips_of_tree c h);
+    }
   where
-    by : (c ≡ left) ⊎ (c ≡ right) → Any (λ e. e.chip ≡ c) (east ∷ []) ⊎ Contains (map (λ (s : Spot). s.chip) targets) c
-    by (inl at) = inl (0, east, omega arith, refl, sym at)
-    by (inr at) = inr (1, omega arith, sym at)
+    ends : (c : Chip) → (c ≡ left) ⊎ (c ≡ right) → Any (λ (e : Edge). e.chip ≡ c) (east ∷ []) ⊎ Contains (map (λ (s : Spot). s.chip) to) c
+    ends c (inl at) = inl (0, east, omega arith, refl, sym at)
+    ends c (inr at) = inr (subst (Contains (map (λ (s : Spot). s.chip) to)) (sym at) has)
 
 tree_stands : IsRoutingTree board left (east ∷ []) targets
-tree_stands = record {
-  root_lives = refl;
-  edges_live = All-from_recursion (λ (e : Edge). IsLiveLink board e.chip e.dir) (east ∷ []) (refl, tt);
-  edges_begin = All-from_recursion (λ (e : Edge). IsTreeChip board left (east ∷ []) e.chip) (east ∷ []) ((inl refl), tt);
-  none_into_root = All-from_recursion (λ (e : Edge). end_of board e ≢ Some left) (east ∷ []) ((λ e. left_is_not_right (sym (cc e))), tt);
-  one_into_each = λ i j d lt within. absurd (omega (arith, lt, within));
-  reached = reached;
-  has_targets = All-from_recursion (IsTreeChip board left (east ∷ [])) (left ∷ right ∷ right ∷ []) (inl refl, (right_in_tree, (right_in_tree, tt)));
-  ends_are_targets = ends_are_targets;
-}
-  where
-    right_in_tree : IsTreeChip board left (east ∷ []) right
-    right_in_tree = inr (0, east, omega arith, refl, refl)
+tree_stands = tree_to targets (1, omega arith, refl)
+    (All-from_recursion (IsTreeChip board left (east ∷ [])) (left ∷ right ∷ right ∷ []) (left_in_tree, (right_in_tree, (right_in_tree, tt))))
+
+other_tree_stands : IsRoutingTree board left (east ∷ []) (device ∷ [])
+other_tree_stands = tree_to (device ∷ []) (0, omega arith, refl) (All-from_recursion (IsTreeChip board left (east ∷ [])) (right ∷ []) (right_in_tree, tt))
 
 abbrev near : Spot
 near = record { chip = left; core = 2 }
@@ -71,87 +80,87 @@ last = record { chip = right; core = 2 }
 spots_of_one : (a b : Spot) → (a.chip.x + (2 * a.core)) ≢ (b.chip.x + (2 * b.core)) → a ≢ b
 spots_of_one a b differ same = differ (ap (λ (s : Spot). s.chip.x + (2 * s.core)) same)
 
+spots_differ : AllPairs (λ a b. a ≢ b) spots
+spots_differ = AllPairs-cons (λ a b. a ≢ b) source (near ∷ far ∷ last ∷ device ∷ [])
+    (All-from_recursion (λ b. source ≢ b) (near ∷ far ∷ last ∷ device ∷ []) (
+      spots_of_one source near (λ e. absurd (omega (arith, e))),
+      (
+        spots_of_one source far (λ e. absurd (omega (arith, e))),
+        (spots_of_one source last (λ e. absurd (omega (arith, e))), (spots_of_one source device (λ e. absurd (omega (arith, e))), tt)),
+      ),
+    ))
+    (AllPairs-cons (λ a b. a ≢ b) near (far ∷ last ∷ device ∷ [])
+    (All-from_recursion (λ b. near ≢ b) (far ∷ last ∷ device ∷ []) (
+      spots_of_one near far (λ e. absurd (omega (arith, e))),
+      (spots_of_one near last (λ e. absurd (omega (arith, e))), (spots_of_one near device (λ e. absurd (omega (arith, e))), tt)),
+    ))
+    (AllPairs-cons (λ a b. a ≢ b) far (last ∷ device ∷ [])
+    (All-from_recursion (λ b. far ≢ b) (last ∷ device ∷ []) (
+      spots_of_one far last (λ e. absurd (omega (arith, e))),
+      (spots_of_one far device (λ e. absurd (omega (arith, e))), tt),
+    ))
+    (AllPairs-cons (λ a b. a ≢ b) last (device ∷ [])
+    (All-from_recursion (λ b. last ≢ b) (device ∷ []) (spots_of_one last device (λ e. absurd (omega (arith, e))), tt))
+    (λ i j d lt within. absurd (omega (arith, lt, within))))))
+
 targets_differ : AllPairs (λ a b. a ≢ b) targets
 targets_differ = AllPairs-cons (λ a b. a ≢ b) near (far ∷ last ∷ [])
-    (All-from_recursion (λ b. near ≢ b) (far ∷ last ∷ []) (spots_of_one near far (λ e. absurd (omega (arith, e))), (spots_of_one near last (λ e. absurd (omega (arith, e))), tt)))
+    (All-from_recursion (λ b. near ≢ b) (far ∷ last ∷ []) (
+      spots_of_one near far (λ e. absurd (omega (arith, e))),
+      (spots_of_one near last (λ e. absurd (omega (arith, e))), tt),
+    ))
     (AllPairs-cons (λ a b. a ≢ b) far (last ∷ [])
     (All-from_recursion (λ b. far ≢ b) (last ∷ []) (spots_of_one far last (λ e. absurd (omega (arith, e))), tt))
     (λ i j d lt within. absurd (omega (arith, lt, within))))
 
-spots_differ : AllPairs (λ a b. a ≢ b) spots
-spots_differ = AllPairs-cons (λ a b. a ≢ b) source targets
-    (All-from_recursion (λ b. source ≢ b) targets (
-      spots_of_one source near (λ e. absurd (omega (arith, e))),
-      (spots_of_one source far (λ e. absurd (omega (arith, e))), (spots_of_one source last (λ e. absurd (omega (arith, e))), tt)),
-    ))
-    targets_differ
+one_differs : AllPairs (λ a b. a ≢ b) (device ∷ [])
+one_differs i j d lt within = absurd (omega (arith, lt, within))
 
 has_size : HasSize board
 has_size = record { width_from_one = omega arith; width_to_64 = omega arith; height_from_one = omega arith; height_to_64 = omega arith }
 
-all_usable : All (IsUsable board) spots
-all_usable = All-from_recursion (IsUsable board) spots (refl, (refl, (refl, (refl, tt))))
+all_sites : All (IsSite board) spots
+all_sites = All-from_recursion (IsSite board) spots (refl, (refl, (refl, (refl, (refl, tt)))))
 
--- the same mesh with nothing unsent
-empty : IsMesh (empty_mesh board spots tables 1)
-empty = IsMesh-empty board spots tables 1 has_size spots_differ all_usable (omega arith) refl
-
-at_start : All (λ (q : List McCopy). All (λ k. k.hop ≡ 0) q) opened.unsent
-at_start = All-from_recursion (λ (q : List McCopy). All (λ k. k.hop ≡ 0) q) opened.unsent
-    (All-from_recursion (λ (k : McCopy). k.hop ≡ 0) (copy 0 0 ∷ copy 1 0 ∷ []) (refl, (refl, tt)), (none, (none, (none, tt))))
+-- no key is in both blocks
+disjoint : HaveDisjointBlocks nets
+disjoint = AllPairs-cons (λ a b. (key : ℕ) → IsKeyOf a.block key → IsKeyOf b.block key → ⊥) net (other_net ∷ [])
+    (All-from_recursion (λ (b : NetPlan). (key : ℕ) → IsKeyOf block key → IsKeyOf b.block key → ⊥) (other_net ∷ []) (apart, tt))
+    (λ i j d lt within. absurd (omega (arith, lt, within)))
   where
-    none : All (λ (k : McCopy). k.hop ≡ 0) []
-    none = All-from_recursion (λ (k : McCopy). k.hop ≡ 0) [] tt
+    apart : (key : ℕ) → IsKeyOf block key → IsKeyOf other_block key → ⊥
+    apart key k l = let e : 0 ≡ 1 = sym k.matches ∙ l.matches in absurd (omega (arith, e))
 
-pub stands : AreNetsOf opened (net ∷ [])
+pub stands : AreNetsOn board spots nets
 stands = record {
-  disjoint = λ i j d lt within. absurd (omega (arith, lt, within));
-  trees = All-from_recursion (λ (n : NetPlan). IsRoutingTree board n.tree.root n.tree.edges n.targets) (net ∷ []) (tree_stands, tt);
-  roots = All-from_recursion (λ (n : NetPlan). n.tree.root ≡ n.source.chip) (net ∷ []) (refl, tt);
-  sources = All-from_recursion (λ (n : NetPlan). Contains spots n.source) (net ∷ []) ((0, omega arith, refl), tt);
-  targets = All-from_recursion (λ (n : NetPlan). All (Contains spots) n.targets) (net ∷ []) (each_target, tt);
-  different = All-from_recursion (λ (n : NetPlan). AllPairs (λ a b. a ≢ b) n.targets) (net ∷ []) (targets_differ, tt);
+  disjoint = disjoint;
+  trees = All-from_recursion (λ (n : NetPlan). IsRoutingTree board n.tree.root n.tree.edges n.targets) nets (tree_stands, (other_tree_stands, tt));
+  roots = All-from_recursion (λ (n : NetPlan). n.tree.root ≡ n.source.chip) nets (refl, (refl, tt));
+  sources = All-from_recursion (λ (n : NetPlan). Contains spots n.source) nets ((0, omega arith, refl), ((1, omega arith, refl), tt));
+  targets = All-from_recursion (λ (n : NetPlan). All (Contains spots) n.targets) nets (each_target, (other_target, tt));
+  different = All-from_recursion (λ (n : NetPlan). AllPairs (λ a b. a ≢ b) n.targets) nets (targets_differ, (one_differs, tt));
 }
   where
     each_target : All (Contains spots) targets
     each_target = All-from_recursion (Contains spots) targets ((1, omega arith, refl), ((2, omega arith, refl), ((3, omega arith, refl), tt)))
 
+    other_target : All (Contains spots) (device ∷ [])
+    other_target = All-from_recursion (Contains spots) (device ∷ []) ((4, omega arith, refl), tt)
+
 pub mesh_stands : IsMesh opened
-mesh_stands = record {
-  size = has_size;
-  different = spots_differ;
-  usable = all_usable;
-  room = omega arith;
-  unsent_lists = refl;
-  input_lists = refl;
-  hand_list = refl;
-  core_lists = refl;
-  table_list = refl;
-  inputs_within = empty.inputs_within;
-  cores_within = empty.cores_within;
-  unsent_at_start = at_start;
-  hands_with_outputs = empty.hands_with_outputs;
-  none_at_dead_ports = empty.none_at_dead_ports;
-  none_on_dead_chips = empty.none_on_dead_chips;
-}
+mesh_stands = IsMesh-opened setup nets packets (IsMesh-empty setup has_size spots_differ all_sites (omega arith) refl)
 
--- each packet has the key 0
-pub packets_of_nets : AreOfNets (net ∷ []) packets
-packets_of_nets zero p at = (net, is_net (cc at), key_of (cc at))
-  where
-    is_net : record { net = 0; index = 0; payload = None } ≡ p → slice_get (net ∷ []) p.net ≡ Some net
-    is_net e = subst (λ (q : Packet). slice_get (net ∷ []) q.net ≡ Some net) e refl
+-- a packet of a net, which is the net's first
+of_net : (n : ℕ) (b : NetPlan) (p : Packet) → slice_get nets n ≡ Some b → IsKeyOf b.block (b.block.key + 0) → record { net = n; index = 0; payload = None } ≡ p →
+    (net : NetPlan) × (slice_get nets p.net ≡ Some net) × IsKeyOf net.block (net.block.key + p.index)
+of_net n b p is key e = (b, subst (λ (q : Packet). slice_get nets q.net ≡ Some b) e is, subst (λ (q : Packet). IsKeyOf b.block (b.block.key + q.index)) e key)
 
-    key_of : record { net = 0; index = 0; payload = None } ≡ p → IsKeyOf block (0 + p.index)
-    key_of e = subst (λ (q : Packet). IsKeyOf block (0 + q.index)) e (record { fits = omega arith; matches = refl })
-packets_of_nets (suc zero) p at = (net, is_net (cc at), key_of (cc at))
-  where
-    is_net : record { net = 0; index = 0; payload = None } ≡ p → slice_get (net ∷ []) p.net ≡ Some net
-    is_net e = subst (λ (q : Packet). slice_get (net ∷ []) q.net ≡ Some net) e refl
-
-    key_of : record { net = 0; index = 0; payload = None } ≡ p → IsKeyOf block (0 + p.index)
-    key_of e = subst (λ (q : Packet). IsKeyOf block (0 + q.index)) e (record { fits = omega arith; matches = refl })
-packets_of_nets (suc (suc i)) p at = absurd (nothing at)
+-- each packet has a key of its net
+pub packets_of_nets : AreOfNets nets packets
+packets_of_nets zero p at = of_net 0 net p refl (record { fits = omega arith; matches = refl }) (cc at)
+packets_of_nets (suc zero) p at = of_net 0 net p refl (record { fits = omega arith; matches = refl }) (cc at)
+packets_of_nets (suc (suc zero)) p at = of_net 1 other_net p refl (record { fits = omega arith; matches = refl }) (cc at)
+packets_of_nets (suc (suc (suc i))) p at = absurd (nothing at)
   where
     nothing : {X : Type 0} {x : X} → None ≡ Some x → ⊥
     nothing e = cc e

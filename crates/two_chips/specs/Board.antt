@@ -1,5 +1,6 @@
--- A small mesh on which the definitions can be tried: two chips, and a net with targets on both (this project's own).
-use Rattle.std.specs.Prelude.{ℕ, false, List, [], ◌∷◌, None}
+-- A small mesh on which the definitions can be tried: two chips, a net with targets on both, and a net to a device (this
+-- project's own).
+use Rattle.std.specs.Prelude.{ℕ, false, List, [], ◌∷◌, ◌++◌, None}
 use Rattle.std.proofs.Common.{lit<, refl}
 use Rattle.spin_base.specs.declared.chips.Chip.{Chip}
 use Rattle.spin_base.specs.declared.chips.Spot.{Spot}
@@ -17,7 +18,7 @@ use Rattle.machine_desc.specs.declared.trees.Edge.{Edge}
 use Rattle.machine_desc.specs.Description.{Description}
 use Rattle.machine_desc.specs.Branch.{Exit}
 use Rattle.net_tables.specs.declared.nets.NetPlan.{NetPlan}
-use Rattle.mesh_core.specs.State.{State}
+use Rattle.mesh_core.specs.State.{Setup, State}
 use Rattle.mesh_core.specs.Opened.{opened_mesh}
 
 -- two chips side by side, with no dead part
@@ -41,42 +42,77 @@ source = record { chip = left; core = 1 }
 abbrev pub targets : List Spot
 targets = record { chip = left; core = 2 } ∷ record { chip = right; core = 1 } ∷ record { chip = right; core = 2 } ∷ []
 
--- a vertex on each: 0 sends, 1, 2 and 3 receive
-abbrev pub spots : List Spot
-spots = source ∷ targets
+-- the device on the right chip's link east, which leads nowhere
+abbrev pub device : Spot
+device = record { chip = right; core = 18 }
 
--- the block of the key 0 alone
+-- A vertex on each: 0 sends to 1, 2 and 3, and vertex 1 sends to the device, which is vertex 4.
+abbrev pub spots : List Spot
+spots = source ∷ (targets ++ device ∷ [])
+
+-- the blocks of the key 0 alone, and of the key 1
 abbrev pub block : Block
 block = record { key = 0; mask = 4_294_967_295; within = refl; small = lit< tt }
 
--- the net, with the tree of the one link
+abbrev pub other_block : Block
+other_block = record { key = 1; mask = 4_294_967_295; within = refl; small = lit< tt }
+
+-- the nets, both with the tree of the one link
 abbrev pub net : NetPlan
 net = record { block = block; source = source; targets = targets; tree = record { root = left; edges = east ∷ [] } }
 
--- On the left chip the key goes east (bit 0) and to core 2 (bit 8), on the right one to cores 1 and 2 (bits 7 and 8).
+abbrev pub other_net : NetPlan
+other_net = record { block = other_block; source = record { chip = left; core = 2 }; targets = device ∷ []; tree = record { root = left; edges = east ∷ [] } }
+
+abbrev pub nets : List NetPlan
+nets = net ∷ other_net ∷ []
+
+-- On the left chip key 0 goes east (bit 0) and to core 2 (bit 8), on the right one to cores 1 and 2 (bits 7 and 8). Key 1
+-- goes east on the left chip. The right one has no row for it: default routing takes it straight on, to the device.
 abbrev pub left_route : Route
 left_route = record { bits = 257; within = lit< tt }
 
 abbrev pub right_route : Route
 right_route = record { bits = 384; within = lit< tt }
 
-abbrev pub row : Route → Entry
-row route = record { key = 0; mask = 4_294_967_295; route = route }
+abbrev pub east_route : Route
+east_route = record { bits = 1; within = lit< tt }
+
+abbrev pub row : ℕ → Route → Entry
+row key route = record { key = key; mask = 4_294_967_295; route = route }
+
+abbrev pub left_table : List Entry
+left_table = row 0 left_route ∷ row 1 east_route ∷ []
+
+abbrev pub right_table : List Entry
+right_table = row 0 right_route ∷ []
 
 abbrev pub tables : List (List Entry)
-tables = (row left_route ∷ []) ∷ (row right_route ∷ []) ∷ []
+tables = left_table ∷ right_table ∷ []
 
--- the packet is sent twice
+-- tables that are not right: the left chip has no row for key 1
+abbrev pub wrong_tables : List (List Entry)
+wrong_tables = (row 0 left_route ∷ []) ∷ right_table ∷ []
+
+-- a packet of the first net is sent twice, and one of the other net once
 abbrev pub packets : List Packet
-packets = record { net = 0; index = 0; payload = None } ∷ record { net = 0; index = 0; payload = None } ∷ []
+packets = record { net = 0; index = 0; payload = None } ∷ record { net = 0; index = 0; payload = None } ∷ record { net = 1; index = 0; payload = None } ∷ []
 
--- the mesh before the first event; each queue holds one copy
+-- what the mesh never changes; each queue holds one copy
+abbrev pub setup : Setup
+setup = record { machine = board; spots = spots; tables = tables; capacity = 1 }
+
+-- the mesh before the first event
 abbrev pub opened : State
-opened = opened_mesh board spots tables 1 (net ∷ []) packets
+opened = opened_mesh setup nets packets
 
 -- the way to the last target
 abbrev pub far_branch : List Exit
 far_branch = record { chip = left; out = Link East } ∷ record { chip = right; out = Core 2 } ∷ []
+
+-- the way to the device
+abbrev pub device_branch : List Exit
+device_branch = record { chip = left; out = Link East } ∷ record { chip = right; out = Link East } ∷ []
 
 -- The first packet goes to all its targets.
 abbrev pub first_packet : List Event
@@ -88,6 +124,15 @@ first_packet =
 abbrev pub second_packet : List Event
 second_packet = Inject 0 ∷ Take left Local ∷ Dump left (Core 2) ∷ []
 
--- a copy of a packet that has passed so many routers
+-- The packet of the other net goes through the right chip to the device.
+abbrev pub device_packet : List Event
+device_packet =
+    Inject 1 ∷ Take left Local ∷ Send left (Link East) ∷ Take right (ByLink West) ∷ Send right (Link East) ∷ Collect 4 ∷ []
+
+-- a copy of a packet of the first net that has passed so many routers
 abbrev pub copy : ℕ → ℕ → McCopy
 copy packet hop = record { packet = packet; key = 0; payload = None; hop = hop }
+
+-- the copy of the other net's packet
+abbrev pub other_copy : ℕ → McCopy
+other_copy hop = record { packet = 2; key = 1; payload = None; hop = hop }

@@ -25,3 +25,7 @@ returns-clause-dumped c = refl
 pub returns-clause-goes_on : goal.returns-clause-goes_on
 unfolding link_outs core_outs
 returns-clause-goes_on c = refl
+
+pub returns-clause-at_device : goal.returns-clause-at_device
+unfolding link_outs core_outs
+returns-clause-at_device c = refl
