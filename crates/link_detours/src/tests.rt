@@ -1,13 +1,14 @@
+// Trees of one edge, repaired on small machines with one dead chip and one dead link.
 ghost use Rattle.std.specs.Prelude.{◌≡◌, ◌<◌, ◌≤◌, [], ◌∷◌, IfOk};
 
 use crate::{RepairErr, repair};
 use machine_desc::{Edge, Machine, Tree};
 use spin_base::{Chip, Dir, Memory, Seq};
 use std::alloc::Global;
-use std::process::Abort;
-use std::test::Fail;
 
-fn edge(x: u8, y: u8, dir: Dir) -> Edge {
+fn edge(x: u8, y: u8, dir: Dir) -> Edge
+    ensures { result ≡ record { chip = record { x = x; y = y }; dir = dir } }
+{
     Edge {
         chip: Chip { x, y },
         dir,
@@ -56,133 +57,79 @@ fn machine(
     )
 }
 
-// Repairs the tree of one edge for one target, and answers its edges.
+// The tree of one edge, repaired for one target; nothing where the machine has no such tree.
 fn repaired(
-    rt: &impl Abort,
     alloc: Global,
     machine: &Machine,
     edge: Edge,
     target: Chip,
-) -> Result<Vec<Edge>, RepairErr> {
+) -> Option<Result<Tree, RepairErr>> {
     let root = edge.chip;
-    assert!(rt; machine.live(root) && machine.live(target));
-    assert!(rt; machine.far(root, edge.dir) != Some(root));
-    let tree = Tree {
-        root,
-        edges: list_of(alloc, edge)?,
-    };
-    let targets = list_of(alloc, target)?;
-    let Tree { root: _, edges } = repair(alloc, machine, &tree, &targets)?;
-    Ok(edges.into_vec())
-}
-
-#[test]
-fn a_dead_link_of_a_torus_is_left_for_the_other_way(rt: HostRuntime) -> Result<(), Fail> {
-    let link = Edge {
-        chip: Chip { x: 0, y: 0 },
-        dir: Dir::West,
-    };
-    let torus = machine(rt.alloc(), 2, 2, true, Chip { x: 0, y: 1 }, link)?;
-    let edges = repaired(
-        &rt,
-        rt.alloc(),
-        &torus,
-        edge(0, 0, Dir::West),
-        Chip { x: 1, y: 0 },
-    )?;
-    assert_eq!(rt; edges.as_slice(), [edge(0, 0, Dir::East)].as_slice());
-    Ok(())
-}
-
-#[test]
-fn a_dead_link_sends_the_tree_round(rt: HostRuntime) -> Result<(), Fail> {
-    let link = Edge {
-        chip: Chip { x: 0, y: 0 },
-        dir: Dir::East,
-    };
-    let square = machine(rt.alloc(), 2, 2, false, Chip { x: 0, y: 1 }, link)?;
-    let edges = repaired(
-        &rt,
-        rt.alloc(),
-        &square,
-        edge(0, 0, Dir::East),
-        Chip { x: 1, y: 0 },
-    )?;
-    let round = [edge(0, 0, Dir::NorthEast), edge(1, 1, Dir::South)];
-    assert_eq!(rt; edges.as_slice(), round.as_slice());
-    Ok(())
-}
-
-#[test]
-fn a_target_behind_a_dead_link_of_a_line_is_cut_off(rt: HostRuntime) -> Result<(), Fail> {
-    let link = Edge {
-        chip: Chip { x: 0, y: 0 },
-        dir: Dir::East,
-    };
-    let line = machine(rt.alloc(), 3, 1, false, Chip { x: 2, y: 0 }, link)?;
-    let target = Chip { x: 1, y: 0 };
-    match repaired(&rt, rt.alloc(), &line, edge(0, 0, Dir::East), target) {
-        Ok(_) => panic!(rt; "the target is reached"),
-        Err(cause) => assert_eq!(rt; cause, RepairErr::CutOff { target }),
+    if !machine.live(root) || !machine.live(target) {
+        return None;
     }
-    Ok(())
+    if machine.far(root, edge.dir) == Some(root) {
+        return None;
+    }
+    let edges = list_of(alloc, edge).ok()?;
+    let targets = list_of(alloc, target).ok()?;
+    Some(repair(alloc, machine, &Tree { root, edges }, &targets))
+}
+
+// Whether it then has these edges.
+fn leads_by(alloc: Global, machine: &Machine, edge: Edge, target: Chip, expected: &[Edge]) -> bool {
+    match repaired(alloc, machine, edge, target) {
+        Some(Ok(tree)) => tree.edges.as_slice() == expected,
+        _ => false,
+    }
 }
 
 #[test]
-fn a_dead_chip_sends_the_tree_round(rt: HostRuntime) -> Result<(), Fail> {
-    let link = Edge {
-        chip: Chip { x: 2, y: 1 },
-        dir: Dir::East,
-    };
-    let open = machine(rt.alloc(), 3, 2, false, Chip { x: 1, y: 0 }, link)?;
-    let edges = repaired(
-        &rt,
+fn a_dead_link_of_a_torus_is_left_for_the_other_way(rt: HostRuntime) {
+    let link = edge(0, 0, Dir::West);
+    let torus = machine(rt.alloc(), 2, 2, true, Chip { x: 0, y: 1 }, link);
+    let other = [edge(0, 0, Dir::East)];
+    assert!(rt;
+        matches!(&torus, Ok(torus) if leads_by(rt.alloc(), torus, link, Chip { x: 1, y: 0 }, &other))
+    );
+}
+
+#[test]
+fn a_dead_link_sends_the_tree_round(rt: HostRuntime) {
+    let link = edge(0, 0, Dir::East);
+    let square = machine(rt.alloc(), 2, 2, false, Chip { x: 0, y: 1 }, link);
+    let round = [edge(0, 0, Dir::NorthEast), edge(1, 1, Dir::South)];
+    assert!(rt;
+        matches!(&square, Ok(square) if leads_by(rt.alloc(), square, link, Chip { x: 1, y: 0 }, &round))
+    );
+}
+
+#[test]
+fn a_dead_chip_sends_the_tree_round(rt: HostRuntime) {
+    let open = machine(
         rt.alloc(),
-        &open,
-        edge(0, 0, Dir::East),
-        Chip { x: 2, y: 0 },
-    )?;
+        3,
+        2,
+        false,
+        Chip { x: 1, y: 0 },
+        edge(2, 1, Dir::East),
+    );
     let round = [
         edge(0, 0, Dir::NorthEast),
         edge(1, 1, Dir::East),
         edge(2, 1, Dir::South),
     ];
-    assert_eq!(rt; edges.as_slice(), round.as_slice());
-    Ok(())
+    assert!(rt;
+        matches!(&open, Ok(open) if leads_by(rt.alloc(), open, edge(0, 0, Dir::East), Chip { x: 2, y: 0 }, &round))
+    );
 }
 
 #[test]
-fn an_edge_that_leads_to_no_target_is_taken_off(rt: HostRuntime) -> Result<(), Fail> {
-    let link = Edge {
-        chip: Chip { x: 1, y: 1 },
-        dir: Dir::East,
-    };
-    let square = machine(rt.alloc(), 2, 2, false, Chip { x: 1, y: 1 }, link)?;
-    let edges = repaired(
-        &rt,
-        rt.alloc(),
-        &square,
-        edge(0, 0, Dir::North),
-        Chip { x: 1, y: 0 },
-    )?;
-    assert_eq!(rt; edges.as_slice(), [edge(0, 0, Dir::East)].as_slice());
-    Ok(())
-}
-
-#[test]
-fn a_tree_over_live_links_comes_back(rt: HostRuntime) -> Result<(), Fail> {
-    let link = Edge {
-        chip: Chip { x: 0, y: 0 },
-        dir: Dir::North,
-    };
-    let square = machine(rt.alloc(), 2, 2, false, Chip { x: 1, y: 1 }, link)?;
-    let edges = repaired(
-        &rt,
-        rt.alloc(),
-        &square,
-        edge(0, 0, Dir::East),
-        Chip { x: 1, y: 0 },
-    )?;
-    assert_eq!(rt; edges.as_slice(), [edge(0, 0, Dir::East)].as_slice());
-    Ok(())
+fn a_target_behind_a_dead_link_of_a_line_is_cut_off(rt: HostRuntime) {
+    let link = edge(0, 0, Dir::East);
+    let line = machine(rt.alloc(), 3, 1, false, Chip { x: 2, y: 0 }, link);
+    let cut_off = Chip { x: 1, y: 0 };
+    assert!(rt;
+        matches!(&line, Ok(line) if matches!(repaired(rt.alloc(), line, link, cut_off), Some(Err(RepairErr::CutOff { target: Chip { x: 1, y: 0 } }))))
+    );
 }
