@@ -1,7 +1,20 @@
-//! Laws of lists that several crates prove with, and that std does not have: members, items at a place, pairs of
-//! items, ascending lists, counts, what is gathered from the items of a list, and what is taken out of a list or put in.
+//! Laws of lists that several crates prove with, and that std does not have.
 //!
-//! It stands on std alone. Before a lemma is put here, look for it in std (`rt lemma`): what std has is not said again.
+//! | module of `proofs/` | on |
+//! |---|---|
+//! | `Members` | what is in a list: after a push, `++`, a map, a filter, a search |
+//! | `Places` | the item at a place: after a write, a push, a map, beside another list |
+//! | `Pairs` | what holds of all items of `++` and of all pairs |
+//! | `Ascending` | lists in the order of a number |
+//! | `Determined` | lists whose items are determined by those before them |
+//! | `Counts`, `Ranges` | how many items pass; lists made of a range of numbers |
+//! | `Gathering`, `Exchange` | what is made of all items with their places; one item taken out, others put in |
+//! | `Tests` | what a test tells of the fact that it stands for |
+//!
+//! It stands on std alone. Before a lemma is put here, look for it in std (`rt lemma`); these are often proved again:
+//! `and_parts`, `or_cases`, `eqb-true`, `eq-eqb`, `ne_eqb`, `cases_Bool`, `not-true` of `lemmas.Bool`; `All-head`,
+//! `All-filter`, `All-more`, `Contains-append_cases` of `lemmas.List.Elements`; `slice_get_within`, `slice_get-get_or`,
+//! `same_Some` of `lemmas.Option`; `all_zipped_more`, `seconds-zip` of `lemmas.Slice.Zip`.
 #![tactic(auto)]
 
 ghost use Rattle.std.specs.Prelude.{◌≡◌, ℕ, ◌<◌, List, AllPairs, Contains};
