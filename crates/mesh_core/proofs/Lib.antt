@@ -4,6 +4,7 @@ pub mod Counting
 pub mod DeliveredLaw
 pub mod Events
 pub mod EventsLaw
+pub mod ExpectedList
 pub mod FewMarks
 pub mod Fixed
 pub mod HandOutputs
@@ -15,6 +16,7 @@ pub mod Moves
 pub mod NoDump
 pub mod OneWay
 pub mod OpenedLaw
+pub mod Ordered
 pub mod QueueLists
 pub mod Queued
 pub mod RoomyRuns
