@@ -1,11 +1,10 @@
 -- The deliveries of a mesh that has delivered what its job asks for, in their order, are the list that the job asks for.
-use Rattle.std.proofs.Common.{◌≡◌, ◌≢◌, ℕ, ◌+◌, ◌<◌, ◌≤◌, suc, List, [], ◌∷◌, ◌++◌, map, Bool, true, false, ◌==◌, ◌&&◌, if◌then◌else◌, Option, Some, None, refl, ap, sym, ◌∙◌, subst, arith, inl, inr, ◌⊎◌, length, count_by, cond}
+use Rattle.std.proofs.Common.{◌≡◌, ℕ, ◌+◌, ◌<◌, ◌≤◌, List, [], ◌∷◌, map, Bool, true, false, ◌==◌, ◌&&◌, if◌then◌else◌, Option, Some, None, refl, ap, sym, ◌∙◌, subst, arith, inl, inr, ◌⊎◌, count_by, cond}
 use Rattle.std.specs.List.{slice_get, AllPairs, Contains, list_any}
 use Rattle.std.specs.List.Sorted.{IsPermutation}
 use Rattle.std.proofs.lemmas.Bool.{and_parts, and_from, eqb-true, eq-eqb, cases_order}
 use Rattle.std.proofs.lemmas.List.Elements.{All-contains}
 use Rattle.std.proofs.lemmas.List.Sorted.{Contains-permutation, IsPermutation-sym, sum_by-IsPermutation}
-use Rattle.list_laws.specs.Gathered.{gathered}
 use Rattle.list_laws.proofs.Counts.{count_by-cons}
 use Rattle.list_laws.proofs.Gathering.{among_gathered, gathered_among}
 use Rattle.list_laws.proofs.Members.{Among, among_contains, contains_among, among_map, map_among, any_among, among_any}
@@ -19,7 +18,7 @@ use Rattle.spin_base.proofs.Equality.{spot_eq_same, spot_eq_true}
 use Rattle.net_tables.specs.declared.nets.NetPlan.{NetPlan}
 use Rattle.net_tables.specs.NetsOn.{AreNetsOn}
 use Rattle.mesh_core.specs.State.{State, IsMesh}
-use Rattle.mesh_core.specs.Opened.{first_copy, MeetsJobLedger}
+use Rattle.mesh_core.specs.Opened.{first_copy}
 use Rattle.mesh_core.specs.Expected.{IsAskedFor, AreAsExpected, without_hop, delivery_at, deliveries_of, expected_deliveries, IsNotAfter}
 use Rattle.mesh_core.proofs.AskedPackets.{net_in_list}
 use Rattle.mesh_core.proofs.Counting.{count_some, counted}
