@@ -26,7 +26,7 @@ use Rattle.mesh_core.proofs.Ordered.{Ordered, ordered_gathered, same_ordered}
 use Rattle.mesh_core.proofs.Ways.{vertex_at_stands, some_way}
 
 -- by the packet's number, then by the position of the vertex, and not the same in both
-abbrev ComesBefore : Delivery → Delivery → Type 0
+abbrev pub ComesBefore : Delivery → Delivery → Type 0
 ComesBefore a b = (a.copy.packet < b.copy.packet) ⊎ ((a.copy.packet ≡ b.copy.packet) × (a.vertex < b.vertex))
 
 one_way_only : (a b : Delivery) → ComesBefore a b → ComesBefore b a → ⊥
@@ -36,19 +36,19 @@ one_way_only a b (inr x) (inl y) = (let e = x.0 in omega (arith, e))
 one_way_only a b (inr x) (inr y) = (let e = x.1 in let f = y.1 in omega (arith, e, f))
 
 -- whether a delivery is of a packet and at a vertex
-abbrev is_of : ℕ → ℕ → Delivery → Bool
+abbrev pub is_of : ℕ → ℕ → Delivery → Bool
 is_of i v d = (d.copy.packet == i) && (d.vertex == v)
 
-is_of_from : (i v : ℕ) (d : Delivery) → d.copy.packet ≡ i → d.vertex ≡ v → is_of i v d ≡ true
+pub is_of_from : (i v : ℕ) (d : Delivery) → d.copy.packet ≡ i → d.vertex ≡ v → is_of i v d ≡ true
 is_of_from i v d e f = and_from (d.copy.packet == i) (d.vertex == v) (eq-eqb d.copy.packet i e) (eq-eqb d.vertex v f)
 
-is_of_parts : (i v : ℕ) (d : Delivery) → is_of i v d ≡ true → (d.copy.packet ≡ i) × (d.vertex ≡ v)
+pub is_of_parts : (i v : ℕ) (d : Delivery) → is_of i v d ≡ true → (d.copy.packet ≡ i) × (d.vertex ≡ v)
 is_of_parts i v d e =
     let parts = and_parts (d.copy.packet == i) (d.vertex == v) e in
     (eqb-true d.copy.packet i parts.0, eqb-true d.vertex v parts.1)
 
 -- the delivery of a packet at a vertex, without its hop number
-abbrev bare : ℕ → ℕ → NetPlan → Packet → Delivery
+abbrev pub bare : ℕ → ℕ → NetPlan → Packet → Delivery
 bare v i net p = record { vertex = v; copy = first_copy i net p }
 
 bare_alike : (v w i j : ℕ) (net net' : NetPlan) (p q : Packet) → v ≡ w → i ≡ j → net ≡ net' → p ≡ q → bare v i net p ≡ bare w j net' q
@@ -181,7 +181,7 @@ module _ (spots : List Spot) (nets : List NetPlan) (packets : List Packet) where
       subst (λ (d : Delivery). ComesBefore d b) (sym x.is_delivery) (subst (ComesBefore (bare j i net p)) (sym y.is_delivery) (inr (refl, less))))
   packet_in_order i p None = tt
 
-  in_order : Ordered ComesBefore (expected_deliveries spots nets packets)
+  pub in_order : Ordered ComesBefore (expected_deliveries spots nets packets)
   in_order =
       ordered_gathered ComesBefore of_packet 0 packets (λ i p. packet_in_order i p (slice_get nets p.net))
       (λ j k z w a b less in_a in_b.
@@ -203,7 +203,7 @@ module _ (s : State) (nets : List NetPlan) (packets : List Packet) (mesh : IsMes
   asked_bare : (d : Delivery) (a : IsAskedFor s nets packets d) → without_hop d ≡ bare d.vertex a.number a.net a.packet
   asked_bare d a = ap {B = Delivery} (λ (c : McCopy). record { vertex = d.vertex; copy = record c { hop = 0 } }) a.is_copy
 
-  is_listed : (d : Delivery) → Among d s.delivered → Among (without_hop d) the_list
+  pub is_listed : (d : Delivery) → Among d s.delivered → Among (without_hop d) the_list
   is_listed d there =
       let a = asked d there in
       subst (λ (y : Delivery). Among y the_list) (sym (asked_bare d a))
@@ -211,7 +211,7 @@ module _ (s : State) (nets : List NetPlan) (packets : List Packet) (mesh : IsMes
       (vertex_at_stands s.setup.spots a.target d.vertex a.is_way.ends) a.is_way.is_target)
 
   -- one delivery of a packet at a vertex of the list
-  listed_once : (y : Delivery) → Among y the_list → count_by (is_of y.copy.packet y.vertex) s.delivered ≡ 1
+  pub listed_once : (y : Delivery) → Among y the_list → count_by (is_of y.copy.packet y.vertex) s.delivered ≡ 1
   listed_once y there =
       let l = listed_parts s.setup.spots nets packets y there in
       let has = net_in_list nets l.packet l.net l.is_net in
@@ -223,7 +223,7 @@ module _ (s : State) (nets : List NetPlan) (packets : List Packet) (mesh : IsMes
       ap (λ (i : ℕ). count_by (is_of i y.vertex) s.delivered) number ∙ (ap (λ (v : ℕ). count_by (is_of l.number v) s.delivered) vertex ∙ one)
 
   -- so a delivery of the list was made
-  listed_made : (y : Delivery) → Among y the_list → (d : Delivery) × Among d s.delivered × (without_hop d ≡ y)
+  pub listed_made : (y : Delivery) → Among y the_list → (d : Delivery) × Among d s.delivered × (without_hop d ≡ y)
   listed_made y there =
       let l = listed_parts s.setup.spots nets packets y there in
       let once = listed_once y there in

@@ -4,6 +4,7 @@ pub mod Counting
 pub mod DeliveredLaw
 pub mod Events
 pub mod EventsLaw
+pub mod ExpectedCount
 pub mod ExpectedList
 pub mod FewMarks
 pub mod Fixed

@@ -1,8 +1,14 @@
 -- Lists in an order that is never both ways.
-use Rattle.std.proofs.Common.{◌≡◌, ℕ, ◌+◌, ◌<◌, List, [], ◌∷◌, ◌++◌, refl, ap, sym, ◌∙◌, subst, arith, inl, inr}
+use Rattle.std.proofs.Common.{◌≡◌, ℕ, ◌+◌, ◌<◌, ◌≤◌, List, [], ◌∷◌, ◌++◌, Bool, true, false, if◌then◌else◌, refl, ap, sym, ◌∙◌, subst, arith, inl, inr, count_by}
+use Rattle.std.specs.List.{AllPairs}
+use Rattle.std.proofs.lemmas.Bool.{cases_order}
+use Rattle.std.proofs.lemmas.List.Elements.{All-contains}
 use Rattle.list_laws.specs.Gathered.{gathered}
 use Rattle.list_laws.proofs.Gathering.{among_gathered_from}
-use Rattle.list_laws.proofs.Members.{Among, among_either}
+use Rattle.list_laws.proofs.Counts.{count_by-cons}
+use Rattle.list_laws.proofs.Members.{Among, among_contains, among_either}
+use Rattle.list_laws.proofs.Pairs.{AllPairs-head, AllPairs-tail}
+use Rattle.mesh_core.proofs.Counting.{counted}
 
 module _ {X : Type 0} (R : X → X → Type 0) where
   -- each item is before all later ones
@@ -27,6 +33,30 @@ module _ {X : Type 0} (R : X → X → Type 0) where
       (λ a b in_a in_b.
       let found = among_gathered_from f b (i + 1) zs in_b in
       across i (i + 1 + found.0) z found.1 a b (omega arith) in_a found.3)
+
+  pub ordered_from : (xs : List X) → AllPairs R xs → Ordered xs
+  ordered_from [] pairs = tt
+  ordered_from (x ∷ xs) pairs = (
+    λ y a. All-contains (R x) xs y (AllPairs-head R x xs pairs) (among_contains y xs a),
+    ordered_from xs (AllPairs-tail R x xs pairs),
+  )
+
+  -- a test that no two items pass of which one is before the other counts at most one
+  pub at_most_one : (p : X → Bool) (xs : List X) → Ordered xs → ((x y : X) → R x y → p x ≡ true → p y ≡ true → ⊥) → count_by p xs ≤ 1
+  at_most_one p [] up never = omega arith
+  at_most_one p (x ∷ xs) up never =
+      subst (λ n. n ≤ 1) (sym (count_by-cons p x xs)) (by_test (p x) refl (at_most_one p xs up.1 never))
+    where
+      none : p x ≡ true → count_by p xs ≤ 0
+      none passes = elim (cases_order (count_by p xs) 0) [
+        | inl same ↦ omega (arith, same)
+        | inr (inl less) ↦ absurd (omega (arith, less))
+        | inr (inr some) ↦ let y = counted p xs (omega (arith, some)) in absurd (never x y.0 (up.0 y.0 y.1) passes y.2)
+      ]
+
+      by_test : (b : Bool) → p x ≡ b → count_by p xs ≤ 1 → (if b then 1 else 0) + count_by p xs ≤ 1
+      by_test true e few = let rest = none e in omega (arith, rest)
+      by_test false e few = omega (arith, few)
 
   module _ (one_way : (x y : X) → R x y → R y x → ⊥) where
     later_still : (x y : X) (xs ys : List X) → x ≡ y → ((z : X) → Among z xs → R x z) → ((z : X) → Among z (x ∷ xs) → Among z (y ∷ ys)) →

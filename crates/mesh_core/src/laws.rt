@@ -95,6 +95,12 @@ pub fn deliveries_in_order_are_the_expected_list()
         map without_hop sorted ≡ expected_deliveries s.setup.spots nets packets }
 {}
 
+/// And they are as many as the targets of the packets' nets, over all packets.
+pub fn deliveries_are_as_many_as_expected()
+    ensures { (s : State) (nets : List NetPlan) (packets : List Packet) →
+        IsMesh s → MeetsJobLedger s nets packets → IsAtRest s → s.dumped ≡ [] → length s.delivered ≡ expected_count nets packets }
+{}
+
 /// The deliveries and dump records of a mesh that meets the ledger of a job are few: together at most the number of packets
 /// times the greatest number of targets of a net, so at most 2 ^ 30 for 65,536 packets and 16,384 vertices.
 pub fn deliveries_and_records_are_few()
