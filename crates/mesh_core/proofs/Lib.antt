@@ -4,6 +4,8 @@ pub mod Counting
 pub mod DeliveredLaw
 pub mod Events
 pub mod EventsLaw
+pub mod ExpectedCount
+pub mod ExpectedList
 pub mod FewMarks
 pub mod Fixed
 pub mod HandOutputs
@@ -15,6 +17,7 @@ pub mod Moves
 pub mod NoDump
 pub mod OneWay
 pub mod OpenedLaw
+pub mod Ordered
 pub mod QueueLists
 pub mod Queued
 pub mod RoomyRuns

@@ -1,11 +1,13 @@
 //! Laws of the core. Each function does nothing: its clauses are the law, for every mesh.
-ghost use Rattle.std.specs.Prelude.{◌≡◌, ◌≢◌, ◌≤◌, ◌+◌, ◌*◌, ◌^◌, ◌==◌, ℕ, List, [], Option, Some, count_by, All, AllPairs, Contains, length};
+ghost use Rattle.std.specs.Prelude.{◌≡◌, ◌≢◌, ◌≤◌, ◌+◌, ◌*◌, ◌^◌, ◌==◌, ℕ, List, [], Option, Some, count_by, map, All, AllPairs, Contains, length};
+ghost use Rattle.std.specs.List.Sorted.{IsPermutation};
 ghost use Rattle.spin_base.specs.declared.chips.Chip.{Chip};
 ghost use Rattle.spin_base.specs.declared.chips.Spot.{Spot};
 ghost use Rattle.spin_base.specs.declared.routes.Out.{Out};
 ghost use Rattle.spin_base.specs.declared.copies.McCopy.{McCopy};
 ghost use Rattle.spin_base.specs.declared.copies.Event.{Event};
 ghost use Rattle.spin_base.specs.declared.copies.Event.TheVariants.{Dump};
+ghost use Rattle.spin_base.specs.declared.copies.Delivery.{Delivery};
 ghost use Rattle.spin_base.specs.declared.copies.Packet.{Packet};
 ghost use Rattle.machine_desc.specs.Branch.{Exit};
 ghost use Rattle.machine_desc.specs.Description.{Description, HasSize};
@@ -21,7 +23,7 @@ ghost use Rattle.mesh_core.specs.Ledger.{marks_of, Label, Asked, MeetsLedger, Me
 ghost use Rattle.mesh_core.specs.Trail.{in_hand};
 ghost use Rattle.mesh_core.specs.Waiting.{queue_of};
 ghost use Rattle.mesh_core.specs.Opened.{opened_mesh, AreOfNets, MeetsJobLedger};
-ghost use Rattle.mesh_core.specs.Expected.{IsAtRest, AreAsExpected};
+ghost use Rattle.mesh_core.specs.Expected.{IsAtRest, AreAsExpected, without_hop, IsNotAfter, expected_deliveries, expected_count};
 
 /// The opened mesh of a job is a mesh, for vertices on different sites of a machine of 1 to 64 chips along each axis, with one
 /// table for each chip index and room for at least one copy in a queue.
@@ -82,6 +84,21 @@ pub fn opened_mesh_meets_its_ledger()
 pub fn a_mesh_at_rest_has_delivered_all()
     ensures { (s : State) (nets : List NetPlan) (packets : List Packet) →
         MeetsJobLedger s nets packets → IsAtRest s → s.dumped ≡ [] → AreAsExpected s nets packets }
+{}
+
+/// The deliveries of such a mesh, put in the order of a report, are exactly the list of deliveries that the job asks for, but for
+/// hop numbers.
+pub fn deliveries_in_order_are_the_expected_list()
+    ensures { (s : State) (nets : List NetPlan) (packets : List Packet) (sorted : List Delivery) →
+        IsMesh s → MeetsJobLedger s nets packets → IsAtRest s → s.dumped ≡ [] →
+        IsPermutation s.delivered sorted → AllPairs IsNotAfter sorted →
+        map without_hop sorted ≡ expected_deliveries s.setup.spots nets packets }
+{}
+
+/// And they are as many as the targets of the packets' nets, over all packets.
+pub fn deliveries_are_as_many_as_expected()
+    ensures { (s : State) (nets : List NetPlan) (packets : List Packet) →
+        IsMesh s → MeetsJobLedger s nets packets → IsAtRest s → s.dumped ≡ [] → length s.delivered ≡ expected_count nets packets }
 {}
 
 /// The deliveries and dump records of a mesh that meets the ledger of a job are few: together at most the number of packets

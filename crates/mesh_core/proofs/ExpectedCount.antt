@@ -1,0 +1,150 @@
+-- The deliveries of a mesh that has delivered what its job asks for are as many as the targets of the packets' nets.
+use Rattle.std.proofs.Common.{◌≡◌, ◌≢◌, ℕ, ◌+◌, ◌≤◌, List, [], ◌∷◌, Bool, true, false, if◌then◌else◌, Option, Some, None, refl, ap, sym, ◌∙◌, arith, inl, inr, length, count_by}
+use Rattle.std.specs.List.{slice_get, AllPairs, Contains, All, list_any, filter}
+use Rattle.std.proofs.lemmas.List.{length-append}
+use Rattle.std.proofs.lemmas.List.Elements.{All-contains}
+use Rattle.std.proofs.lemmas.List.Sums.{length-filter, sum_by-cons}
+use Rattle.list_laws.specs.Gathered.{gathered}
+use Rattle.list_laws.proofs.Counts.{count_by-cons}
+use Rattle.list_laws.proofs.Members.{Among, among_contains, contains_among, any_among, among_any, Contains-filter}
+use Rattle.spin_base.specs.declared.chips.Spot.{Spot}
+use Rattle.spin_base.specs.declared.copies.Delivery.{Delivery}
+use Rattle.spin_base.specs.declared.copies.Packet.{Packet}
+use Rattle.spin_base.specs.Equality.{spot_eq}
+use Rattle.spin_base.proofs.Equality.{spot_eq_same, spot_eq_true}
+use Rattle.net_tables.specs.declared.nets.NetPlan.{NetPlan}
+use Rattle.net_tables.specs.NetsOn.{AreNetsOn}
+use Rattle.mesh_core.specs.State.{State, IsMesh}
+use Rattle.mesh_core.specs.Expected.{AreAsExpected, without_hop, delivery_at, deliveries_of, expected_deliveries, targets_of_net, expected_count}
+use Rattle.mesh_core.proofs.AskedPackets.{net_in_list}
+use Rattle.mesh_core.proofs.Counting.{count_all, count_covered}
+use Rattle.mesh_core.proofs.ExpectedList.{ComesBefore, is_of, is_of_from, is_of_parts, bare, in_order, is_listed, listed_once, listed_made}
+use Rattle.mesh_core.proofs.Ordered.{ordered_from, at_most_one}
+
+-- ---- targets and spots
+
+-- a spot is at most once among different spots
+one_spot : (xs : List Spot) → AllPairs (λ a b. a ≢ b) xs → (w : Spot) → count_by (λ x. spot_eq x w) xs ≤ 1
+one_spot xs different w =
+    at_most_one (λ a b. a ≢ b) (λ x. spot_eq x w) xs (ordered_from (λ a b. a ≢ b) xs different)
+    (λ x y apart px py. apart (spot_eq_true x w px ∙ sym (spot_eq_true y w py)))
+
+module _ (spots ts : List Spot) (different : AllPairs (λ a b. a ≢ b) spots) (apart : AllPairs (λ a b. a ≢ b) ts) (within : All (Contains spots) ts) where
+  abbrev is_target : Spot → Bool
+  is_target spot = list_any (spot_eq spot) ts
+
+  at_most : count_by is_target spots ≤ length ts
+  at_most =
+      count_covered (λ w x. spot_eq x w) ts is_target spots (λ x a passes. any_among (spot_eq x) ts passes) (λ w a. one_spot spots different w)
+
+  at_least : length ts ≤ count_by is_target spots
+  at_least =
+      let all : count_by (λ x. true) ts ≡ length ts = count_all (λ x. true) ts (λ x a. refl) in
+      let few : count_by (λ x. true) ts ≤ length (filter is_target spots) =
+      count_covered (λ w x. spot_eq x w) (filter is_target spots) (λ x. true) ts kept (λ w a. one_spot ts apart w)
+      in
+      let long : length (filter is_target spots) ≡ count_by is_target spots = length-filter is_target spots in
+      omega (arith, all, few, long)
+    where
+      kept : (t : Spot) → Among t ts → true ≡ true → (w : Spot) × Among w (filter is_target spots) × (spot_eq t w ≡ true)
+      kept t a e =
+          let has : Contains spots t = All-contains (Contains spots) ts t within (among_contains t ts a) in
+          let passes : is_target t ≡ true = among_any (spot_eq t) t ts a (spot_eq_same t) in
+          (t, contains_among t (filter is_target spots) (Contains-filter is_target spots t has passes), spot_eq_same t)
+
+  -- the spots that are targets are as many as the targets
+  spots_of_targets : count_by is_target spots ≡ length ts
+  spots_of_targets = let a = at_most in let b = at_least in omega (arith, a, b)
+
+-- ---- the length of the list
+
+length_at : (i : ℕ) (net : NetPlan) (p : Packet) (v : ℕ) (spot : Spot) → length (delivery_at i net p v spot) ≡ (if list_any (spot_eq spot) net.targets then 1 else 0)
+length_at i net p v spot = by_test (list_any (spot_eq spot) net.targets)
+  where
+    by_test : (b : Bool) → length (if b then bare v i net p ∷ [] else []) ≡ (if b then 1 else 0)
+    by_test true = refl
+    by_test false = refl
+
+length_of_net : (i : ℕ) (net : NetPlan) (p : Packet) (v : ℕ) (spots : List Spot) →
+    length (gathered (delivery_at i net p) v spots) ≡ count_by (λ (spot : Spot). list_any (spot_eq spot) net.targets) spots
+length_of_net i net p v [] = refl
+length_of_net i net p v (x ∷ spots) =
+    let first = length_at i net p v x in
+    let rest = length_of_net i net p (v + 1) spots in
+    let whole = length-append (delivery_at i net p v x) (gathered (delivery_at i net p) (v + 1) spots) in
+    let counts = count_by-cons (λ (spot : Spot). list_any (spot_eq spot) net.targets) x spots in
+    omega (arith, first, rest, whole, counts)
+
+module _ (spots : List Spot) (nets : List NetPlan) (each : (i : ℕ) (p : Packet) (o : Option NetPlan) → slice_get nets p.net ≡ o → length (deliveries_of spots i p o) ≡ targets_of_net o) where
+  length_of_packets : (i : ℕ) (ps : List Packet) → length (gathered (λ j (p : Packet). deliveries_of spots j p (slice_get nets p.net)) i ps) ≡ expected_count nets ps
+  length_of_packets i [] = refl
+  length_of_packets i (p ∷ ps) =
+      let first = each i p (slice_get nets p.net) refl in
+      let rest = length_of_packets (i + 1) ps in
+      let whole = length-append (deliveries_of spots i p (slice_get nets p.net)) (gathered (λ j (q : Packet). deliveries_of spots j q (slice_get nets q.net)) (i + 1) ps) in
+      let sums = sum_by-cons (λ (q : Packet). targets_of_net (slice_get nets q.net)) p ps in
+      omega (arith, first, rest, whole, sums)
+
+-- ---- the deliveries of a mesh
+
+module _ (s : State) (nets : List NetPlan) (packets : List Packet) (mesh : IsMesh s) (stand : AreNetsOn s.setup.machine s.setup.spots nets)
+    (expected : AreAsExpected s nets packets) where
+  abbrev all_asked : List Delivery
+  all_asked = expected_deliveries s.setup.spots nets packets
+
+  -- a list's delivery counts for the deliveries of its packet at its vertex
+  abbrev alike : Delivery → Delivery → Bool
+  alike w d = is_of w.copy.packet w.vertex d
+
+  no_more : length s.delivered ≤ length all_asked
+  no_more =
+      let all : count_by (λ x. true) s.delivered ≡ length s.delivered = count_all (λ x. true) s.delivered (λ x a. refl) in
+      let few : count_by (λ x. true) s.delivered ≤ length all_asked =
+      count_covered alike all_asked (λ x. true) s.delivered
+      (λ d a e. (without_hop d, is_listed s nets packets mesh stand expected d a, is_of_from d.copy.packet d.vertex d refl refl))
+      (λ w a. let one = listed_once s nets packets mesh stand expected w a in omega (arith, one))
+      in
+      omega (arith, all, few)
+
+  no_fewer : length all_asked ≤ length s.delivered
+  no_fewer =
+      let all : count_by (λ x. true) all_asked ≡ length all_asked = count_all (λ x. true) all_asked (λ x a. refl) in
+      let few : count_by (λ x. true) all_asked ≤ length s.delivered = count_covered alike s.delivered (λ x. true) all_asked made (λ d a. once d.copy.packet d.vertex) in
+      omega (arith, all, few)
+    where
+      made : (y : Delivery) → Among y all_asked → true ≡ true → (d : Delivery) × Among d s.delivered × (alike d y ≡ true)
+      made y a e =
+          let found = listed_made s nets packets mesh stand expected y a in (
+            found.0,
+            found.1,
+            is_of_from found.0.copy.packet found.0.vertex y
+                (sym (ap (λ (d : Delivery). d.copy.packet) found.2)) (sym (ap (λ (d : Delivery). d.vertex) found.2)),
+          )
+
+      once : (i v : ℕ) → count_by (is_of i v) all_asked ≤ 1
+      once i v =
+          at_most_one ComesBefore (is_of i v) all_asked (in_order s.setup.spots nets packets) (λ x y less px py.
+          let a = is_of_parts i v x px in
+          let b = is_of_parts i v y py in
+          never x y less (a.0 ∙ sym b.0) (a.1 ∙ sym b.1))
+        where
+          never : (x y : Delivery) → ComesBefore x y → x.copy.packet ≡ y.copy.packet → x.vertex ≡ y.vertex → ⊥
+          never x y (inl less) e f = omega (arith, less, e)
+          never x y (inr (same, less)) e f = omega (arith, less, f)
+
+  -- a packet has a delivery for each target of its net
+  of_packet_long : (i : ℕ) (p : Packet) (o : Option NetPlan) → slice_get nets p.net ≡ o → length (deliveries_of s.setup.spots i p o) ≡ targets_of_net o
+  of_packet_long i p (Some net) is =
+      let has = net_in_list nets p net is in
+      length_of_net i net p 0 s.setup.spots
+      ∙ spots_of_targets s.setup.spots net.targets mesh.different
+      (All-contains (λ (n : NetPlan). AllPairs (λ a b. a ≢ b) n.targets) nets net stand.different has)
+      (All-contains (λ (n : NetPlan). All (Contains s.setup.spots) n.targets) nets net stand.targets has)
+  of_packet_long i p None is = refl
+
+  pub as_many : length s.delivered ≡ expected_count nets packets
+  as_many =
+      let a = no_more in
+      let b = no_fewer in
+      let long : length all_asked ≡ expected_count nets packets = length_of_packets s.setup.spots nets of_packet_long 0 packets in
+      omega (arith, a, b, long)
