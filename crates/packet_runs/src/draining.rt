@@ -20,11 +20,12 @@ use std::alloc::Global;
 ///
 /// # Errors
 ///
-/// `Memory` where memory runs out.
+/// `Memory` where memory runs out. Each packet is then unsent, delivered, or on its way.
 pub fn drain(alloc: Global, mesh: &mut Mesh) -> Result<(), Memory>
     requires kept { IsKept mesh.old }
     requires quiet { NothingWaits mesh.old }
-    ensures { OnOk result (HasDrained mesh.old mesh.new) }
+    ensures drained { OnOk result (HasDrained mesh.old mesh.new) }
+    ensures reached { IsReached mesh.old mesh.new }
 {
     let setup = map_of(alloc, mesh)?;
     let mut waiting = Vec::new(alloc);
@@ -64,7 +65,7 @@ fn send_all(
     requires quiet { NothingWaits mesh.old }
     requires none { waiting.old.items ≡ [] }
     requires map { IsMapOf setup.now mesh.old }
-    ensures reached { OnOk result (IsReached mesh.old mesh.new) }
+    ensures reached { IsReached mesh.old mesh.new }
     ensures quiet { OnOk result (NothingWaits mesh.new) }
     ensures none { OnOk result (waiting.new.items ≡ []) }
     ensures unsent { OnOk result (mesh.new.unsent ≡ slice_set mesh.old.unsent vertex []) }
@@ -88,7 +89,7 @@ fn send_packet(
     requires quiet { NothingWaits mesh.old }
     requires none { waiting.old.items ≡ [] }
     requires map { IsMapOf setup.now mesh.old }
-    ensures reached { OnOk result (IsReached mesh.old mesh.new) }
+    ensures reached { IsReached mesh.old mesh.new }
     ensures quiet { OnOk result (NothingWaits mesh.new) }
     ensures none { OnOk result (waiting.new.items ≡ []) }
     ensures unsent { OnOk result ((copy : Copy) (rest : List Copy) → slice_get mesh.old.unsent vertex ≡ Some (copy ∷ rest) →
@@ -116,7 +117,7 @@ fn go_on(
 ) -> Result<(), Memory>
     requires under_way { IsUnderWay mesh.old (waiting.old.items ++ at ∷ []) }
     requires map { IsMapOf setup.now mesh.old }
-    ensures reached { OnOk result (IsReached mesh.old mesh.new) }
+    ensures reached { IsReached mesh.old mesh.new }
     ensures under_way { OnOk result (IsUnderWay mesh.new waiting.new.items) }
     ensures unsent { OnOk result (mesh.new.unsent ≡ mesh.old.unsent) }
     ensures less { OnOk result (work mesh.new waiting.new.items ≤ work mesh.old waiting.old.items) }
@@ -151,7 +152,7 @@ fn serve(
 ) -> Result<(), Memory>
     requires serving { (rest : List Output) × IsServing mesh.old waiting.old.items chip (out ∷ rest) }
     requires map { IsMapOf setup.now mesh.old }
-    ensures reached { OnOk result (IsReached mesh.old mesh.new) }
+    ensures reached { IsReached mesh.old mesh.new }
     ensures served { OnOk result ((rest : List Output) → IsServing mesh.old waiting.old.items chip (out ∷ rest) → IsServing mesh.new waiting.new.items chip rest) }
     ensures unsent { OnOk result (mesh.new.unsent ≡ mesh.old.unsent) }
     ensures less { OnOk result (work mesh.new waiting.new.items ≤ work mesh.old waiting.old.items) }
@@ -166,7 +167,8 @@ fn serve(
 
 // The vertex takes the packet.
 fn collect(mesh: &mut Mesh, vertex: u32) -> Result<(), Memory>
-    ensures { OnOk result (mesh.new ≡ after_event mesh.old (Collect vertex)) }
+    ensures taken { OnOk result (mesh.new ≡ after_event mesh.old (Collect vertex)) }
+    ensures reached { IsReached mesh.old mesh.new }
 {
     mesh.step(Event::Collect(vertex))?;
     Ok(())

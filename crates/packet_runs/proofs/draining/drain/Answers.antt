@@ -26,17 +26,21 @@ loop-vertex-preserved c =
     (subst (λ l. c.loop-vertex.vertex < length l) c.spots-count.ensures c.loop-vertex-test.true)
     in
     record {
-      reached = reached_then c.args.mesh.now c.loop-vertex.mesh c.send_all.new.mesh c.loop-vertex.invariant.reached c.in_ok-send_all.ensures.reached;
+      reached = reached_then c.args.mesh.now c.loop-vertex.mesh c.send_all.new.mesh c.loop-vertex.invariant.reached c.send_all.ensures.reached;
       quiet = c.in_ok-send_all.ensures.quiet;
       none = c.in_ok-send_all.ensures.none;
       sent = one_vertex_more c.loop-vertex.mesh.unsent c.send_all.new.mesh.unsent c.loop-vertex.vertex
           (was_there c.loop-vertex.mesh c.loop-vertex.vertex kept below) c.in_ok-send_all.ensures.unsent c.loop-vertex.invariant.sent;
     }
 
-pub returns : goal.returns
-returns c =
+pub returns-clause-drained : goal.returns-clause-drained
+returns-clause-drained c =
     drained c.args.mesh.now c.loop-vertex.mesh c.loop-vertex.vertex c.requires.kept c.loop-vertex.invariant.reached c.loop-vertex.invariant.quiet
     (subst (λ l. length l ≤ c.loop-vertex.vertex) c.spots-count.ensures c.loop-vertex-test.false) c.loop-vertex.invariant.sent
 
 pub send_all-requires-clause-map : goal.send_all-requires-clause-map
 send_all-requires-clause-map c = map_still c.in_ok-setup.setup c.args.mesh.now c.loop-vertex.mesh c.loop-vertex.invariant.reached c.in_ok-setup.ensures
+
+pub returns-in_err-send_all-clause-reached : goal.returns-in_err-send_all-clause-reached
+returns-in_err-send_all-clause-reached c =
+    reached_then c.args.mesh.now c.loop-vertex.mesh c.send_all.new.mesh c.loop-vertex.invariant.reached c.send_all.ensures.reached

@@ -33,7 +33,7 @@ loop-out-preserved c =
     let os = c.as_slice-out-items.result.now in
     let i = c.loop-out.out-index in
     record {
-      reached = reached_then c.args.mesh.now c.loop-out.mesh c.serve.new.mesh c.loop-out.invariant.reached c.in_ok-serve.ensures.reached;
+      reached = reached_then c.args.mesh.now c.loop-out.mesh c.serve.new.mesh c.loop-out.invariant.reached c.serve.ensures.reached;
       serving = c.in_ok-serve.ensures.served (drop (i + 1) os)
           (subst (IsServing c.loop-out.mesh c.loop-out.waiting.items c.args.at.chip) (outs_left os i _ c.loop-out-test.true) c.loop-out.invariant.serving);
       unsent = c.in_ok-serve.ensures.unsent ∙ c.loop-out.invariant.unsent;
@@ -44,3 +44,9 @@ pub returns-clause-under_way : goal.returns-clause-under_way
 returns-clause-under_way c =
     serving_done c.loop-out.mesh c.loop-out.waiting.items c.args.at.chip
     (subst (IsServing c.loop-out.mesh c.loop-out.waiting.items c.args.at.chip) (drop_all c.loop-out.out-index c.as_slice-out-items.result.now c.loop-out-test.false) c.loop-out.invariant.serving)
+
+pub returns-in_err-outs-clause-reached : goal.returns-in_err-outs-clause-reached
+returns-in_err-outs-clause-reached c = reached_by c.args.mesh.now c.step.new.self (Take c.args.at.chip c.args.at.port) tt c.in_ok-step.ensures.moves
+
+pub returns-in_err-serve-clause-reached : goal.returns-in_err-serve-clause-reached
+returns-in_err-serve-clause-reached c = reached_then c.args.mesh.now c.loop-out.mesh c.serve.new.mesh c.loop-out.invariant.reached c.serve.ensures.reached

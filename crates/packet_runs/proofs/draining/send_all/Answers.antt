@@ -26,7 +26,7 @@ packets-smaller c =
 
 pub packets-preserved : goal.packets-preserved
 packets-preserved c = record {
-  reached = reached_then c.args.mesh.now c.packets.mesh c.send_packet.new.mesh c.packets.invariant.reached c.in_ok-send_packet.ensures.reached;
+  reached = reached_then c.args.mesh.now c.packets.mesh c.send_packet.new.mesh c.packets.invariant.reached c.send_packet.ensures.reached;
   quiet = c.in_ok-send_packet.ensures.quiet;
   none = c.in_ok-send_packet.ensures.none;
   unsent = (one_less c.args.mesh.now.unsent c.packets.mesh.unsent c.send_packet.new.mesh.unsent c.args.vertex c.packets.invariant.unsent.0 c.unsent.result.now
@@ -40,3 +40,7 @@ returns-clause-unsent c =
 
 pub send_packet-requires-clause-map : goal.send_packet-requires-clause-map
 send_packet-requires-clause-map c = map_still c.args.setup.now c.args.mesh.now c.packets.mesh c.packets.invariant.reached c.requires.map
+
+pub returns-in_err-send_packet-clause-reached : goal.returns-in_err-send_packet-clause-reached
+returns-in_err-send_packet-clause-reached c =
+    reached_then c.args.mesh.now c.packets.mesh c.send_packet.new.mesh c.packets.invariant.reached c.send_packet.ensures.reached

@@ -14,7 +14,7 @@ loop-next-init c = record {
 
 pub loop-next-preserved : goal.loop-next-preserved
 loop-next-preserved c = record {
-  reached = reached_then c.args.mesh.now c.loop-next.mesh c.go_on.new.mesh c.loop-next.invariant.reached c.in_ok-go_on.ensures.reached;
+  reached = reached_then c.args.mesh.now c.loop-next.mesh c.go_on.new.mesh c.loop-next.invariant.reached c.go_on.ensures.reached;
   under_way = c.in_ok-go_on.ensures.under_way;
   unsent = λ copy rest first. c.in_ok-go_on.ensures.unsent ∙ c.loop-next.invariant.unsent copy rest first;
 }
@@ -27,3 +27,9 @@ returns-clause-quiet c = ends_quiet c.loop-next.mesh c.loop-next.waiting.items c
 
 pub go_on-requires-clause-map : goal.go_on-requires-clause-map
 go_on-requires-clause-map c = map_still c.args.setup.now c.args.mesh.now c.loop-next.mesh c.loop-next.invariant.reached c.requires.map
+
+pub returns-in_err-push-clause-reached : goal.returns-in_err-push-clause-reached
+returns-in_err-push-clause-reached c = reached_by c.args.mesh.now c.step.new.self (Inject c.args.vertex) tt c.in_ok-step.ensures.moves
+
+pub returns-in_err-go_on-clause-reached : goal.returns-in_err-go_on-clause-reached
+returns-in_err-go_on-clause-reached c = reached_then c.args.mesh.now c.loop-next.mesh c.go_on.new.mesh c.loop-next.invariant.reached c.go_on.ensures.reached

@@ -14,9 +14,7 @@ overflow_cast-vertex c =
     omega (arith, few, list, below)
 
 pub returns-in-Input-clause-reached : goal.returns-in-Input-clause-reached
-returns-in-Input-clause-reached c =
-    on_ok c.wait_beyond.result c.wait_beyond.ensures (λ more.
-    reached_by c.args.mesh.now c.step.new.self (Send c.args.chip c.args.out) tt c.in_ok-step.ensures.moves)
+returns-in-Input-clause-reached c = reached_by c.args.mesh.now c.step.new.self (Send c.args.chip c.args.out) tt c.in_ok-step.ensures.moves
 
 pub returns-in-Input-clause-served : goal.returns-in-Input-clause-served
 returns-in-Input-clause-served c =
@@ -37,26 +35,24 @@ returns-in-Input-clause-less c =
 
 pub returns-in-Core-clause-reached : goal.returns-in-Core-clause-reached
 returns-in-Core-clause-reached c =
-    on_ok c.collect.result c.collect.ensures (λ last.
     reached_then c.args.mesh.now c.step.new.self c.collect.new.mesh
-    (reached_by c.args.mesh.now c.step.new.self (Send c.args.chip c.args.out) tt c.in_ok-step.ensures.moves)
-    (reached_by c.step.new.self c.collect.new.mesh (Collect c.in-Core.vertex) tt last))
+    (reached_by c.args.mesh.now c.step.new.self (Send c.args.chip c.args.out) tt c.in_ok-step.ensures.moves) c.collect.ensures.reached
 
 pub returns-in-Core-clause-served : goal.returns-in-Core-clause-served
 returns-in-Core-clause-served c =
-    on_ok c.collect.result c.collect.ensures (λ last. λ rest u.
+    on_ok c.collect.result c.collect.ensures.taken (λ last. λ rest u.
     (core_served c.args.mesh.now c.step.new.self c.args.waiting.now.items c.args.chip c.args.out c.args.setup.now c.in_ok-step.ensures.moves c.requires.map
     c.in-Core.vertex c.in-Core.ensures.queue c.collect.new.mesh last rest u).0)
 
 pub returns-in-Core-clause-unsent : goal.returns-in-Core-clause-unsent
 returns-in-Core-clause-unsent c =
-    on_ok c.collect.result c.collect.ensures (λ last.
+    on_ok c.collect.result c.collect.ensures.taken (λ last.
     ap (λ (s : State). s.unsent) last ∙ (unsent_stays c.step.new.self (Collect c.in-Core.vertex) tt
     ∙ (ap (λ (s : State). s.unsent) c.in_ok-step.ensures.moves ∙ unsent_stays c.args.mesh.now (Send c.args.chip c.args.out) tt)))
 
 pub returns-in-Core-clause-less : goal.returns-in-Core-clause-less
 returns-in-Core-clause-less c =
-    on_ok c.collect.result c.collect.ensures (λ last.
+    on_ok c.collect.result c.collect.ensures.taken (λ last.
     (core_served c.args.mesh.now c.step.new.self c.args.waiting.now.items c.args.chip c.args.out c.args.setup.now c.in_ok-step.ensures.moves c.requires.map
     c.in-Core.vertex c.in-Core.ensures.queue c.collect.new.mesh last c.requires.serving.0 c.requires.serving.1).1)
 
