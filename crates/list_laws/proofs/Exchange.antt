@@ -1,10 +1,10 @@
 -- A list from which one item is taken out, and one into which items are put: what that does to counts and members,
 -- and how a change of one part of a list is a change of the whole.
-use Rattle.std.proofs.Common.{◌≡◌, ℕ, ◌+◌, suc, zero, List, [], ◌∷◌, ◌++◌, Bool, if◌then◌else◌, Some, refl, ap, sym, ◌∙◌, subst, arith, append_assoc, inl, inr, ◌⊎◌, count_by}
+use Rattle.std.proofs.Common.{◌≡◌, ℕ, ◌+◌, suc, zero, List, [], ◌∷◌, ◌++◌, Bool, if◌then◌else◌, Some, refl, ap, sym, ◌∙◌, subst, arith, append_assoc, inl, count_by}
 use Rattle.std.specs.List.{slice_get, slice_set}
 use Rattle.list_laws.specs.Gathered.{gathered}
 use Rattle.list_laws.proofs.Counts.{count_by-append, count_by-cons}
-use Rattle.list_laws.proofs.Members.{Among, among_left, among_right, among_either}
+use Rattle.list_laws.proofs.Members.{Among, among_right}
 
 -- after is before without one item
 pub record TakenOut {X : Type 0} (x : X) (before after : List X) : Type 0 where
@@ -114,47 +114,3 @@ count_put_in p xs before after t =
 pub among_taken_out : {X : Type 0} (x : X) (before after : List X) → TakenOut x before after → Among x before
 among_taken_out {X} x before after t =
     subst (λ l. Among x l) (sym t.before_is) (among_right x t.front (x ∷ t.back) (inl refl))
-
--- what is left was there
-pub among_before : {X : Type 0} (x y : X) (before after : List X) → TakenOut x before after → Among y after → Among y before
-among_before x y before after t a =
-    subst (λ l. Among y l) (sym t.before_is)
-    (elim (among_either y t.front t.back (subst (λ l. Among y l) t.after_is a)) [
-      | inl l ↦ among_left y t.front (x ∷ t.back) l
-      | inr r ↦ among_right y t.front (x ∷ t.back) (inr r)
-    ])
-
--- what is there after a put was there before, or was put
-pub among_put_in : {X : Type 0} (y : X) (xs before after : List X) → PutIn xs before after → Among y after → Among y before ⊎ Among y xs
-among_put_in y xs before after t a =
-    elim (among_either y t.front (xs ++ t.back) (subst (λ l. Among y l) t.after_is a)) [
-      | inl l ↦ inl (subst (λ l. Among y l) (sym t.before_is) (among_left y t.front t.back l))
-      | inr r ↦ elim (among_either y xs t.back r) [
-        | inl m ↦ inr m
-        | inr b ↦ inl (subst (λ l. Among y l) (sym t.before_is) (among_right y t.front t.back b))
-      ]
-    ]
-
--- what was there before a put is there after it, and so is what was put
-pub among_still : {X : Type 0} (y : X) (xs before after : List X) → PutIn xs before after → Among y before → Among y after
-among_still y xs before after t a =
-    subst (λ l. Among y l) (sym t.after_is)
-    (elim (among_either y t.front t.back (subst (λ l. Among y l) t.before_is a)) [
-      | inl l ↦ among_left y t.front (xs ++ t.back) l
-      | inr r ↦ among_right y t.front (xs ++ t.back) (among_right y xs t.back r)
-    ])
-
-pub among_put : {X : Type 0} (y : X) (xs before after : List X) → PutIn xs before after → Among y xs → Among y after
-among_put y xs before after t a =
-    subst (λ l. Among y l) (sym t.after_is) (among_right y t.front (xs ++ t.back) (among_left y xs t.back a))
-
--- another item than the one taken out is still there
-pub among_left_over : {X : Type 0} (x y : X) (before after : List X) → TakenOut x before after → Among y before → (y ≡ x) ⊎ Among y after
-among_left_over x y before after t a =
-    elim (among_either y t.front (x ∷ t.back) (subst (λ l. Among y l) t.before_is a)) [
-      | inl l ↦ inr (subst (λ l. Among y l) (sym t.after_is) (among_left y t.front t.back l))
-      | inr r ↦ elim r [
-        | inl here ↦ inl here
-        | inr b ↦ inr (subst (λ l. Among y l) (sym t.after_is) (among_right y t.front t.back b))
-      ]
-    ]

@@ -31,10 +31,6 @@ Contains-only x y has = elim (Contains-cases x [] y has) [ inl here ↦ here | i
 pub Contains-at : {X : Type 0} (xs : List X) (i : ℕ) (x : X) → slice_get xs i ≡ Some x → Contains xs x
 Contains-at xs i x at = (i, slice_get_within xs i x at, get_or_from_slice_get xs i x x at)
 
--- and what is in the list stands at a place
-pub place_of_Contains : {X : Type 0} (xs : List X) (x : X) → Contains xs x → (i : ℕ) × (slice_get xs i ≡ Some x)
-place_of_Contains xs x has = (has.0, slice_get-get_or xs has.0 x has.1 ∙ ap Some has.2)
-
 -- ---- Among: x is one of the list
 
 abbrev pub Among : {X : Type 0} → X → List X → Type 0

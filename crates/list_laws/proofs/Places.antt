@@ -1,5 +1,5 @@
 -- The item at a place of a list, as `slice_get` gives it: after a write, a push, a map, and beside another list.
-use Rattle.std.proofs.Common.{◌≡◌, ◌≢◌, ℕ, zero, suc, ◌+◌, ◌<◌, List, [], ◌∷◌, ◌++◌, map, take, length, set, get_or, replicate, Option, Some, refl, sym, ap, ◌∙◌, subst, arith, inl, inr, ◌⊎◌}
+use Rattle.std.proofs.Common.{◌≡◌, ◌≢◌, ℕ, zero, suc, ◌+◌, ◌<◌, List, [], ◌∷◌, ◌++◌, map, take, length, set, get_or, Option, Some, refl, sym, ap, ◌∙◌, subst, arith, inl, inr, ◌⊎◌}
 use Rattle.std.specs.List.{All, AllZip, Contains, slice_get, zip, enumerate_from}
 use Rattle.std.proofs.lemmas.List.{take_more}
 use Rattle.std.proofs.lemmas.List.Elements.{All-weaker, All-contains_itself}
@@ -39,11 +39,6 @@ pub slice_get-mapped : {X Y : Type 0} (f : X → Y) (xs : List X) (i : ℕ) (x :
 slice_get-mapped f [] i x here = cc
 slice_get-mapped f (y ∷ ys) zero x here = let same : y ≡ x = cc in ap (λ z. Some (f z)) same
 slice_get-mapped f (y ∷ ys) (suc i) x here = slice_get-mapped f ys i x here
-
-pub slice_get-replicate : {X : Type 0} (n i : ℕ) (x : X) → i < n → slice_get (replicate n x) i ≡ Some x
-slice_get-replicate zero i x below = absurd (omega arith)
-slice_get-replicate (suc n) zero x below = refl
-slice_get-replicate (suc n) (suc i) x below = slice_get-replicate n i x (omega arith)
 
 -- ---- after a write
 
