@@ -1,7 +1,7 @@
 -- What each event of the packet under way does.
 use Rattle.std.proofs.Common.{◌≡◌, ◌≢◌, ℕ, zero, suc, ◌+◌, ◌<◌, ◌≤◌, ◌==◌, ◌&&◌, ◌||◌, refl, sym, ap, ◌∙◌, subst, arith, inl, List, [], ◌∷◌, ◌++◌, set, length, Option, Some, None, Bool, true, false, if◌then◌else◌, unwrap_or, nat_lt}
 use Rattle.std.specs.List.{slice_get, slice_index_or, slice_set, All, list_any, Contains}
-use Rattle.std.proofs.lemmas.Bool.{and_from, lt-ltb}
+use Rattle.std.proofs.lemmas.Bool.{and_from, eqb-true, lt-ltb}
 use Rattle.std.proofs.lemmas.List.{get_or-set_same, get_or-set_other}
 use Rattle.std.proofs.lemmas.List.Elements.{All-head, All-tail, All-nil, All-cons, All-append}
 use Rattle.std.proofs.lemmas.Option.{slice_get-get_or, get_or_from_slice_get}
@@ -16,7 +16,7 @@ use Rattle.spin_base.specs.declared.copies.Event.{Event}
 use Rattle.spin_base.specs.declared.copies.Event.TheVariants.{Take, Send, Collect}
 use Rattle.spin_base.specs.Equality.{out_eq}
 use Rattle.spin_base.specs.Links.{opposite_of}
-use Rattle.spin_base.proofs.Equality.{nat_eq_true, nat_eq_same, out_eq_same}
+use Rattle.spin_base.proofs.Equality.{nat_eq_same, out_eq_same}
 use Rattle.machine_desc.specs.Description.{Description}
 use Rattle.machine_desc.specs.Live.{far_of, index_of, IsInside, IsLiveChip, is_live_link}
 use Rattle.machine_desc.proofs.Far.{live_inside, live_ends, index_below}
@@ -54,7 +54,7 @@ written P lists i j q within at apart = by_test (i == j) refl
   where
     by_test : (b : Bool) → (i == j) ≡ b → P (slice_index_or (set lists i q) j [])
     by_test true e =
-        let same : i ≡ j = nat_eq_true i j e in
+        let same : i ≡ j = eqb-true i j e in
         subst (λ n. P (slice_index_or (set lists i q) n [])) same (subst P (sym (get_or-set_same lists i q [] within)) (at same))
     by_test false e =
         let other : i ≢ j = λ same. differ (ap (λ n. i == n) (sym same) ∙ nat_eq_same i) e in
@@ -138,7 +138,7 @@ module _ (s : State) (w : List Waiting) (a : Waiting) (u : IsUnderWay s (w ++ a 
   listed_else j other = by_test (queue_at s.setup.machine a.chip a.port == j) refl
     where
       by_test : (b : Bool) → (queue_at s.setup.machine a.chip a.port == j) ≡ b → length (slice_index_or s.inputs j []) ≤ times s.setup.machine j w
-      by_test true e = absurd (other (nat_eq_true (queue_at s.setup.machine a.chip a.port) j e))
+      by_test true e = absurd (other (eqb-true (queue_at s.setup.machine a.chip a.port) j e))
       by_test false e =
           let most = u.listed j in
           let more = times_more s.setup.machine j w a ∙ ap (λ b. times s.setup.machine j w + (if b then 1 else 0)) e in
@@ -191,7 +191,7 @@ module _ (s : State) (w : List Waiting) (a : Waiting) (u : IsUnderWay s (w ++ a 
         where
           by_test : (b : Bool) → (i == j) ≡ b → length (slice_index_or s.inputs j []) ≤ times s.setup.machine j w
           by_test true e =
-              subst (λ n. length (slice_index_or s.inputs n []) ≤ times s.setup.machine n w) (nat_eq_true i j e)
+              subst (λ n. length (slice_index_or s.inputs n []) ≤ times s.setup.machine n w) (eqb-true i j e)
               (let long : length (slice_index_or s.inputs i []) ≡ 0 = ap length empty in omega (arith, long))
           by_test false e = listed_else j (λ same. differ (ap (λ n. i == n) (sym same) ∙ nat_eq_same i) e)
             where

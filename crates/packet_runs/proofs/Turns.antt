@@ -14,7 +14,7 @@ use Rattle.spin_base.specs.declared.routes.Out.{Out}
 use Rattle.spin_base.specs.declared.routes.Out.TheVariants.{Link, Core}
 use Rattle.spin_base.specs.declared.copies.McCopy.{McCopy}
 use Rattle.spin_base.specs.declared.copies.Event.TheVariants.{Inject, Take, Send, Collect}
-use Rattle.spin_base.proofs.Equality.{nat_eq_true}
+use Rattle.std.proofs.lemmas.Bool.{eqb-true}
 use Rattle.machine_desc.specs.Description.{Description}
 use Rattle.machine_desc.specs.Live.{far_of, index_of, is_live_link}
 use Rattle.mesh_core.specs.State.{Setup, State, Behind, input, core, nowhere, behind, behind_link}
@@ -182,7 +182,7 @@ popped_smaller s t w left after a popped less =
 
 pub is_none : (q : List McCopy) → true ≡ (length q == 0) → q ≡ []
 is_none [] e = refl
-is_none (k ∷ q) e = let none = nat_eq_true (length (k ∷ q)) 0 (sym e) in absurd (omega (arith, none))
+is_none (k ∷ q) e = let none = eqb-true (length (k ∷ q)) 0 (sym e) in absurd (omega (arith, none))
 
 pub is_some' : (q : List McCopy) → false ≡ (length q == 0) → q ≢ []
 is_some' [] e = cc
