@@ -1,15 +1,20 @@
 // What became of a job.
-ghost use Rattle.std.specs.Prelude.{◌≡◌, ◌≤◌, length, map, IfOk};
+ghost use Rattle.std.specs.Prelude.{◌≡◌, ◌*◌, length, IfOk};
+ghost use Rattle.app_graph.specs.ValidGraph.{IsValidGraph};
 ghost use Rattle.run_report.specs.RunReport.{IsReportOf};
 
+use crate::lists::{keys_of, placed_of, tables_of};
 use crate::orders::{delivered_of, dumped_of};
 use crate::unsents::unsent_of;
 use crate::waits::waiting_of;
+use app_graph::Graph;
 use machine_desc::Machine;
 use mesh_core::{Mesh, Place};
+use net_tables::NetPlan;
 use spin_base::{Block, DumpRec, McCopy, Memory, Name, Seq, Spot};
 use std::alloc::Global;
 use table_load::ChipTable;
+use tern_word::Table;
 
 /// What a report says.
 #[derive(Debug, Drop)]
@@ -30,30 +35,37 @@ pub struct Report {
     pub unsent: u32,
 }
 
-/// The report of a run on a machine: what the plan says, and what the mesh holds afterwards.
-///
-/// `placed` has each vertex with its core, in the order of the mesh's vertices.
+/// The report of a graph's plan and of the mesh after its run: a line for each vertex, each net, and each chip whose table
+/// has a row, and what the mesh delivered, dumped and still holds. The plan has a spot for each vertex, which are those of
+/// the mesh, and for each chip, by its index, a table.
 ///
 /// # Errors
 ///
 /// `Memory` where memory runs out.
 pub fn report_of(
     alloc: Global,
-    placed: Seq<(Name, Spot)>,
-    keys: Seq<(Name, Block)>,
-    tables: Seq<ChipTable>,
     machine: &Machine,
+    graph: &Graph,
+    spots: &Seq<Spot>,
+    nets: &Seq<NetPlan>,
+    tables: &Seq<Table>,
     mesh: &Mesh,
 ) -> Result<Report, Memory>
-    requires few { length placed ≤ 4294967295 }
+    requires graph { IsValidGraph graph.now }
+    requires spots { length spots.now ≡ length graph.now.vertices }
+    requires nets { length nets.now ≡ length graph.now.nets }
+    requires tables { length tables.now ≡ machine.now.width * machine.now.height }
     requires machine { mesh.now.machine ≡ machine.now }
-    requires vertices { mesh.now.spots ≡ map (λ v. v.1) placed }
-    ensures { IfOk result (λ report. IsReportOf placed keys tables mesh.now report) }
+    requires vertices { mesh.now.spots ≡ spots.now }
+    ensures { IfOk result (λ report. IsReportOf machine.now graph.now spots.now nets.now tables.now mesh.now report) }
 {
+    let placed = placed_of(alloc, &graph.vertices, spots)?;
+    let keys = keys_of(alloc, &graph.nets, nets)?;
+    let tables = tables_of(alloc, machine, tables)?;
     let delivered = delivered_of(alloc, placed.as_slice(), mesh)?;
     let dumped = dumped_of(alloc, mesh)?;
-    let waiting = waiting_of(alloc, placed.as_slice(), machine, mesh)?;
-    let unsent = unsent_of(placed.len(), mesh);
+    let waiting = waiting_of(alloc, machine, spots.as_slice(), mesh)?;
+    let unsent = unsent_of(spots.len(), mesh);
     Ok(Report {
         placed,
         keys,

@@ -1,5 +1,5 @@
 // The copies that wait in a mesh.
-ghost use Rattle.std.specs.Prelude.{◌≡◌, ◌≤◌, ◌<◌, ◌*◌, ◌++◌, length, map, OnOk, IfOk, Some};
+ghost use Rattle.std.specs.Prelude.{◌≡◌, ◌≤◌, ◌<◌, ◌*◌, ◌++◌, length, OnOk, IfOk, Some};
 ghost use Rattle.std.specs.Option.{option_copied};
 ghost use Rattle.std.specs.List.{flat_map};
 ghost use Rattle.spin_base.specs.Links.{port_number};
@@ -11,24 +11,24 @@ ghost use Rattle.run_report.specs.RunReport.{waits_of, wait_key, waits_at, queue
 
 use machine_desc::Machine;
 use mesh_core::{Hand, Mesh, Place};
-use spin_base::{Chip, Dir, McCopy, Memory, Name, Port, Seq, Spot};
+use spin_base::{Chip, Dir, McCopy, Memory, Port, Seq, Spot};
 use std::alloc::Global;
 
 /// The waiting copies of a mesh, by packet and place.
 pub fn waiting_of(
     alloc: Global,
-    placed: &[(Name, Spot)],
     machine: &Machine,
+    spots: &[Spot],
     mesh: &Mesh,
 ) -> Result<Seq<(u32, Place)>, Memory>
-    requires few { length placed.now ≤ 4294967295 }
+    requires few { length spots.now ≤ 4294967295 }
     requires machine { mesh.now.machine ≡ machine.now }
-    requires vertices { mesh.now.spots ≡ map (λ v. v.1) placed.now }
+    requires vertices { mesh.now.spots ≡ spots.now }
     ensures { IfOk result (λ waiting. IsInOrder wait_key (waits_of mesh.now) waiting) }
 {
     let mut waiting = Vec::new(alloc);
     put_chips(&mut waiting, machine, mesh)?;
-    put_cores(&mut waiting, placed, mesh)?;
+    put_cores(&mut waiting, spots, mesh)?;
     sort_waits(&mut waiting)?;
     Ok(Seq::from_vec(waiting))
 }
@@ -141,16 +141,12 @@ fn put_copies(
 }
 
 // Puts the copies in the queues of the vertices' cores at the end.
-fn put_cores(
-    waiting: &mut Vec<(u32, Place)>,
-    placed: &[(Name, Spot)],
-    mesh: &Mesh,
-) -> Result<(), Memory>
-    requires few { length placed.now ≤ 4294967295 }
-    requires vertices { mesh.now.spots ≡ map (λ v. v.1) placed.now }
+fn put_cores(waiting: &mut Vec<(u32, Place)>, spots: &[Spot], mesh: &Mesh) -> Result<(), Memory>
+    requires few { length spots.now ≤ 4294967295 }
+    requires vertices { mesh.now.spots ≡ spots.now }
     ensures { OnOk result (waiting.new.items ≡ waiting.old.items ++ gathered (core_waits mesh.now) 0 mesh.now.spots) }
 {
-    for (vertex, (_, spot)) in placed.iter().enumerate() {
+    for (vertex, spot) in spots.iter().enumerate() {
         put_copies(
             waiting,
             Place::CoreQueue(spot.chip, spot.core),

@@ -14,8 +14,6 @@ mod lines;
 mod outcomes;
 mod outputs;
 mod plans;
-#[cfg(test)]
-mod tests;
 mod texts;
 mod tops;
 

@@ -3,7 +3,7 @@ ghost use Rattle.std.specs.Prelude.{◌≡◌, [], IfOk};
 ghost use Rattle.serde_json.specs.View.{view};
 ghost use Rattle.app_graph.specs.ValidGraph.{IsValidGraph};
 ghost use Rattle.job_readers.specs.MachinePart.{machine_faults, machine_value};
-ghost use Rattle.app_graph.specs.RunPart.{IsRunOf as IsRunPartOf};
+ghost use Rattle.app_graph.specs.RunPart.{IsRunOf};
 ghost use Rattle.one_chip_run.specs.OnOneChip.{IsOneChip};
 ghost use Rattle.spin_top.specs.Runs.{IsOutputOf, IsPlanned};
 ghost use Rattle.spin_top.specs.declared.commands.Command.TheVariants.{Run, Tables};
@@ -13,8 +13,7 @@ use job_runs::run_job;
 use machine_desc::Machine;
 use mesh_core::Mesh;
 use par_compile::Plan;
-use plan_reports::{report_of_run, text_of_plan};
-use run_report::{Report, text_of};
+use run_report::{Report, plan_text, report_of, text_of};
 use serde_json::Value;
 use spin_base::{Memory, Seq};
 use std::alloc::Global;
@@ -32,13 +31,21 @@ pub(crate) fn run(alloc: Global, value: &Value, job: &Job, plan: &Plan) -> Resul
     requires machine { machine_value (view value.now) ≡ job.now.machine }
     requires one_chip { IsOneChip job.now.machine }
     requires graph { IsValidGraph job.now.graph }
-    requires run { IsRunPartOf job.now.graph job.now.run }
+    requires run { IsRunOf job.now.graph job.now.run }
     requires planned { IsPlanned job.now plan.now }
     ensures { IfOk result (λ out. IsOutputOf Run job.now plan.now out.mesh out.report out.text) }
 {
     let machine = own_machine(alloc, value)?;
     let mesh = run_job(alloc, machine, &job.graph, &job.run, plan)?;
-    let report = report_of_run(alloc, &job.machine, &job.graph, plan, &mesh)?;
+    let report = report_of(
+        alloc,
+        &job.machine,
+        &job.graph,
+        plan.placement.spots.as_slice(),
+        plan.nets.as_slice(),
+        plan.tables.as_slice(),
+        &mesh,
+    )?;
     let text = text_of(alloc, &report)?;
     Ok(Output {
         mesh: Some(mesh),
@@ -64,7 +71,14 @@ pub(crate) fn list(alloc: Global, job: &Job, plan: &Plan) -> Result<Output, Memo
     requires graph { IsValidGraph job.now.graph }
     ensures { IfOk result (λ out. IsOutputOf Tables job.now plan.now out.mesh out.report out.text) }
 {
-    let text = text_of_plan(alloc, &job.machine, &job.graph, plan)?;
+    let text = plan_text(
+        alloc,
+        &job.machine,
+        &job.graph,
+        plan.placement.spots.as_slice(),
+        plan.nets.as_slice(),
+        plan.tables.as_slice(),
+    )?;
     Ok(Output {
         mesh: None,
         report: None,
