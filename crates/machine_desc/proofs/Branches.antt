@@ -1,7 +1,7 @@
 -- Branches of one routing tree: where they pass, that together they pass everywhere, and that none is long.
-use Rattle.std.proofs.Common.{◌≡◌, ◌≢◌, ℕ, zero, suc, ◌+◌, ◌*◌, ◌<◌, ◌≤◌, eqb, List, [], ◌∷◌, ◌++◌, length, get_or, map, Some, None, refl, sym, ap, ◌∙◌, subst, arith, inl, inr}
+use Rattle.std.proofs.Common.{◌≡◌, ◌≢◌, ℕ, zero, suc, ◌+◌, ◌*◌, ◌<◌, ◌≤◌, eqb, List, [], ◌∷◌, ◌++◌, length, get_or, map, Some, None, refl, sym, ap, ◌∙◌, subst, arith, inl, inr, ◌⊎◌}
 use Rattle.std.specs.List.{slice_get, Contains}
-use Rattle.std.proofs.lemmas.Bool.{cases_order, eqb-true, ne_eqb}
+use Rattle.std.proofs.lemmas.Bool.{eqb-true, ne_eqb}
 use Rattle.std.proofs.lemmas.List.{get_or_default, get_or-map, length-map, length-append, map-append}
 use Rattle.std.proofs.lemmas.List.Elements.{All-contains, Contains-push, Contains-append_left}
 use Rattle.std.proofs.lemmas.Map.Keys.{IsDistinct-from_apart}
@@ -14,15 +14,17 @@ use Rattle.spin_base.specs.declared.chips.Dir.{Dir}
 use Rattle.spin_base.specs.declared.chips.Port.{Port}
 use Rattle.spin_base.specs.declared.chips.Port.TheVariants.{Link as ByLink, Local}
 use Rattle.spin_base.specs.declared.routes.Out.{Out}
-use Rattle.spin_base.specs.declared.routes.Out.TheVariants.{Link, Core}
+use Rattle.spin_base.specs.declared.routes.Out.TheVariants.{Link}
 use Rattle.spin_base.specs.Links.{opposite_of}
+use Rattle.spin_base.specs.Outputs.{out_of}
 use Rattle.machine_desc.specs.declared.trees.Edge.{Edge}
 use Rattle.machine_desc.specs.Description.{Description}
-use Rattle.machine_desc.specs.Live.{far_of, IsInside, IsLiveLink, index_of}
+use Rattle.machine_desc.specs.Live.{far_of, IsInside, IsLiveChip, index_of}
 use Rattle.machine_desc.specs.RoutingTree.{end_of, IsTreeChip, IsPath, IsTreeTo, IsRoutingTree}
 use Rattle.machine_desc.specs.Branch.{Exit, GoesOn, IsWay, IsBranch, port_after, arrival_from, arrival_at}
-use Rattle.machine_desc.proofs.Far.{live_inside, live_ends, far_inside, same_index, index_below}
+use Rattle.machine_desc.proofs.Far.{live_inside, far_inside, same_index, index_below}
 use Rattle.machine_desc.proofs.Same.{same_edge}
+use Rattle.machine_desc.proofs.TreeLemmas.{path_more, path_in_tree, one_edge_into, edge_lives, root_lives_with_edge}
 
 -- numbers below n of which no two are the same are at most n
 pub length_le_from_apart : (xs : List ℕ) (n : ℕ) → ((i j d : ℕ) → i < j → j < length xs → get_or xs i d ≢ get_or xs j d) →
@@ -60,7 +62,7 @@ pub comes_by : (m : Description) (edges : List Edge) (s : Spot) (from : Chip) (p
     IsWay m edges s from xs → slice_get xs (suc k) ≡ Some x → ComesBy m edges xs port k x.chip
 comes_by m edges s from port [] k x way h = absurd way
 comes_by m edges s from port (y ∷ ys) k x way h =
-    by_output (λ c rest j at. comes_by m edges s c (port_after y.out) ys j x rest at) y.out refl way.1
+    leaves (λ c rest j at. comes_by m edges s c (port_after y.out) ys j x rest at) way.1
   where
     Later : Type 0
     Later = (c : Chip) → IsWay m edges s c ys → (j : ℕ) → slice_get ys (suc j) ≡ Some x → ComesBy m edges ys (port_after y.out) j x.chip
@@ -78,21 +80,22 @@ comes_by m edges s from port (y ∷ ys) k x way h =
         let later : ComesBy m edges ys (port_after y.out) j x.chip = on c rest j h in
         record { edge = later.edge; in_tree = later.in_tree; leads = later.leads; before = later.before; arrives = later.arrives }
 
-    by_output : Later → (o : Out) → y.out ≡ o → GoesOn m edges s from o ys (λ e. IsWay m edges s e ys) → ComesBy m edges (y ∷ ys) port k x.chip
-    by_output on (Link d) is goes = place on d goes.1.0 is goes.0 goes.1.1 goes.1.2 k h
-    by_output on (Core p) is goes = let none : None ≡ Some x = ap (λ zs. slice_get zs k) (sym goes.1) ∙ h in cc
+    leaves : Later → GoesOn m edges s from y.out ys (λ e. IsWay m edges s e ys) → ComesBy m edges (y ∷ ys) port k x.chip
+    leaves on (inl (d, is, has, (e, far, rest))) = place on d e is has far rest k h
+    leaves on (inr (at, is, last)) = let none : None ≡ Some x = ap (λ zs. slice_get zs k) (sym last) ∙ h in cc
 
--- what is known of an exit at a place of a way: one by a link is an edge, and the next exit is that of the chip to which
--- it leads; one by a core is the target's, and the last
-abbrev pub ExitLeads : (m : Description) (edges : List Edge) (s : Spot) (xs : List Exit) (i : ℕ) (x : Exit) → Out → Type 0
-ExitLeads m edges s xs i x (Link d) =
-    Contains edges (record { chip = x.chip; dir = d }) × ((y : Exit) × (far_of m x.chip d ≡ Some y.chip) × (slice_get xs (suc i) ≡ Some y))
-ExitLeads m edges s xs i x (Core p) = (s ≡ record { chip = x.chip; core = p }) × (length xs ≡ suc i)
+-- what is known of an exit at a place of a way: it is an edge, and the next exit is that of the chip to which it leads; or
+-- it is on the target's chip, by the target's output, and the last
+abbrev pub ExitLeads : (m : Description) (edges : List Edge) (s : Spot) (xs : List Exit) (i : ℕ) (x : Exit) → Type 0
+ExitLeads m edges s xs i x =
+    ((d : Dir) × (x.out ≡ Link d) × Contains edges (record { chip = x.chip; dir = d })
+    × ((y : Exit) × (far_of m x.chip d ≡ Some y.chip) × (slice_get xs (suc i) ≡ Some y)))
+    ⊎ ((s.chip ≡ x.chip) × (x.out ≡ out_of s.core) × (length xs ≡ suc i))
 
 pub exit_leads : (m : Description) (edges : List Edge) (s : Spot) (from : Chip) (xs : List Exit) (i : ℕ) (x : Exit) →
-    IsWay m edges s from xs → slice_get xs i ≡ Some x → ExitLeads m edges s xs i x x.out
+    IsWay m edges s from xs → slice_get xs i ≡ Some x → ExitLeads m edges s xs i x
 exit_leads m edges s from [] i x way h = absurd way
-exit_leads m edges s from (y ∷ ys) zero x way h = subst (λ (z : Exit). ExitLeads m edges s (y ∷ ys) zero z z.out) same (by_output y.out way.1)
+exit_leads m edges s from (y ∷ ys) zero x way h = subst (ExitLeads m edges s (y ∷ ys) zero) same (leaves way.1)
   where
     same : y ≡ x
     same = cc
@@ -101,24 +104,26 @@ exit_leads m edges s from (y ∷ ys) zero x way h = subst (λ (z : Exit). ExitLe
     next [] c rest = absurd rest
     next (z ∷ zs) c rest = (z, rest.0, refl)
 
-    by_output : (o : Out) → GoesOn m edges s from o ys (λ e. IsWay m edges s e ys) → ExitLeads m edges s (y ∷ ys) zero y o
-    by_output (Link d) goes =
-        let z = next ys goes.1.0 goes.1.2 in (
-          subst (λ (c : Chip). Contains edges (record { chip = c; dir = d })) (sym way.0) goes.0,
-          (z.0, subst (λ (c : Chip). far_of m c d ≡ Some z.0.chip) (sym way.0) (goes.1.1 ∙ ap Some (sym z.1)), z.2),
+    leaves : GoesOn m edges s from y.out ys (λ e. IsWay m edges s e ys) → ExitLeads m edges s (y ∷ ys) zero y
+    leaves (inl (d, is, has, (e, far, rest))) =
+        let z = next ys e rest in
+        inl (
+          d,
+          is,
+          subst (λ (c : Chip). Contains edges (record { chip = c; dir = d })) (sym way.0) has,
+          (z.0, subst (λ (c : Chip). far_of m c d ≡ Some z.0.chip) (sym way.0) (far ∙ ap Some (sym z.1)), z.2),
         )
-    by_output (Core p) goes =
-        (goes.0 ∙ ap (λ (c : Chip). let t : Spot = record { chip = c; core = p } in t) (sym way.0), ap (λ zs. suc (length zs)) goes.1)
-exit_leads m edges s from (y ∷ ys) (suc i) x way h = by_output (λ c rest. exit_leads m edges s c ys i x rest h) y.out way.1
+    leaves (inr (at, is, last)) = inr (at ∙ sym way.0, is, ap (λ zs. suc (length zs)) last)
+exit_leads m edges s from (y ∷ ys) (suc i) x way h = leaves (λ c rest. exit_leads m edges s c ys i x rest h) way.1
   where
-    later : (o : Out) → ExitLeads m edges s ys i x o → ExitLeads m edges s (y ∷ ys) (suc i) x o
-    later (Link d) leads = leads
-    later (Core p) leads = (leads.0, ap suc leads.1)
+    later : ExitLeads m edges s ys i x → ExitLeads m edges s (y ∷ ys) (suc i) x
+    later (inl leads) = inl leads
+    later (inr (at, is, last)) = inr (at, is, ap suc last)
 
-    by_output : ((c : Chip) → IsWay m edges s c ys → ExitLeads m edges s ys i x x.out) → (o : Out) →
-        GoesOn m edges s from o ys (λ e. IsWay m edges s e ys) → ExitLeads m edges s (y ∷ ys) (suc i) x x.out
-    by_output on (Link d) goes = later x.out (on goes.1.0 goes.1.2)
-    by_output on (Core p) goes = let none : None ≡ Some x = ap (λ zs. slice_get zs i) (sym goes.1) ∙ h in cc
+    leaves : ((c : Chip) → IsWay m edges s c ys → ExitLeads m edges s ys i x) →
+        GoesOn m edges s from y.out ys (λ e. IsWay m edges s e ys) → ExitLeads m edges s (y ∷ ys) (suc i) x
+    leaves on (inl (d, is, has, (e, far, rest))) = later (on e rest)
+    leaves on (inr (at, is, last)) = let none : None ≡ Some x = ap (λ zs. slice_get zs i) (sym last) ∙ h in cc
 
 -- the way along a path, and on
 pub way_along : (m : Description) (edges : List Edge) (s : Spot) (from to : Chip) (path : List Edge) (ys : List Exit) →
@@ -127,38 +132,17 @@ way_along m edges s from to [] ys along way = subst (λ (c : Chip). IsWay m edge
 way_along m edges s from to (e ∷ path) ys along way =
     let rest = way_along m edges s along.2.0 to path ys along.2.2 way in
     let same : e ≡ record { chip = from; dir = e.dir } = same_edge e (record { chip = from; dir = e.dir }) along.1 refl in
-    (along.1, (subst (λ (f : Edge). Contains edges f) same along.0, (along.2.0, ap (λ (c : Chip). far_of m c e.dir) (sym along.1) ∙ along.2.1, rest)))
+    let leads : far_of m from e.dir ≡ Some along.2.0 = ap (λ (c : Chip). far_of m c e.dir) (sym along.1) ∙ along.2.1 in
+    (along.1, inl (e.dir, refl, subst (λ (f : Edge). Contains edges f) same along.0, (along.2.0, leads, rest)))
 
-way_core : (m : Description) (edges : List Edge) (s : Spot) → IsWay m edges s s.chip (record { chip = s.chip; out = Core s.core } ∷ [])
-way_core m edges s = (refl, (refl, refl))
+-- the last exit of a way to a target
+abbrev pub last_exit : Spot → Exit
+last_exit s = record { chip = s.chip; out = out_of s.core }
 
--- one edge more at the end of a path
-path_more : (m : Description) (edges : List Edge) (from to c : Chip) (path : List Edge) (e : Edge) →
-    IsPath m edges from path to → Contains edges e → e.chip ≡ to → end_of m e ≡ Some c → IsPath m edges from (path ++ e ∷ []) c
-path_more m edges from to c [] e along has at leads = (has, at ∙ sym along, (c, leads, refl))
-path_more m edges from to c (f ∷ path) e along has at leads =
-    (along.0, along.1, (along.2.0, along.2.1, path_more m edges along.2.0 to c path e along.2.2 has at leads))
-
--- a path from a chip of a tree leads to a chip of the tree
-path_in_tree : (m : Description) (root : Chip) (edges : List Edge) (from to : Chip) (path : List Edge) →
-    IsTreeChip m root edges from → IsPath m edges from path to → IsTreeChip m root edges to
-path_in_tree m root edges from to [] here along = subst (λ (c : Chip). IsTreeChip m root edges c) along here
-path_in_tree m root edges from to (e ∷ path) here along =
-    path_in_tree m root edges along.2.0 to path (inr (along.0.0, e, along.0.1, along.0.2, along.2.1)) along.2.2
+way_last : (m : Description) (edges : List Edge) (s : Spot) → IsWay m edges s s.chip (last_exit s ∷ [])
+way_last m edges s = (refl, inr (refl, refl, refl))
 
 module _ (m : Description) (root : Chip) (edges : List Edge) (targets : List Chip) (tree : IsTreeTo m root edges targets) where
-  -- only one edge leads into a chip
-  pub one_edge_into : (e f : Edge) (c : Chip) → Contains edges e → Contains edges f → end_of m e ≡ Some c → end_of m f ≡ Some c → e ≡ f
-  one_edge_into e f c has too leads also = elim (cases_order has.0 too.0) [
-    | inl same ↦ sym has.2 ∙ (ap (λ k. get_or edges k e) same ∙ (get_or_default edges too.0 e f too.1 ∙ too.2))
-    | inr (inl before) ↦
-        let second : get_or edges too.0 e ≡ f = get_or_default edges too.0 e f too.1 ∙ too.2 in
-        absurd (tree.one_into_each has.0 too.0 e before too.1 (ap (end_of m) has.2 ∙ (leads ∙ (sym also ∙ sym (ap (end_of m) second)))))
-    | inr (inr after) ↦
-        let second : get_or edges has.0 f ≡ e = get_or_default edges has.0 f e has.1 ∙ has.2 in
-        absurd (tree.one_into_each too.0 has.0 f after has.1 (ap (end_of m) too.2 ∙ (also ∙ (sym leads ∙ sym (ap (end_of m) second)))))
-  ]
-
   -- Two branches that pass one chip pass it at one place, and come in at one port.
   pub same_place : (s t : Spot) (xs ys : List Exit) → IsBranch m root edges s xs → IsBranch m root edges t ys →
       (i j : ℕ) (x y : Exit) → slice_get xs i ≡ Some x → slice_get ys j ≡ Some y → x.chip ≡ y.chip →
@@ -175,22 +159,22 @@ module _ (m : Description) (root : Chip) (edges : List Edge) (targets : List Chi
   same_place s t xs ys p q (suc i) (suc j) x y here there same =
       let by : ComesBy m edges xs Local i x.chip = comes_by m edges s root Local xs i x p here in
       let too : ComesBy m edges ys Local j y.chip = comes_by m edges t root Local ys j y q there in
-      let one : by.edge ≡ too.edge = one_edge_into by.edge too.edge y.chip by.in_tree too.in_tree (by.leads ∙ ap Some same) too.leads in
+      let one : by.edge ≡ too.edge = one_edge_into m root edges targets tree by.edge too.edge y.chip by.in_tree too.in_tree (by.leads ∙ ap Some same) too.leads in
       let before = same_place s t xs ys p q i j (exit_of by.edge) (exit_of too.edge) by.before too.before (ap (λ (e : Edge). e.chip) one) in
       (ap suc before.0, by.arrives ∙ (ap (λ (e : Edge). ByLink (opposite_of e.dir)) one ∙ sym too.arrives))
 
   -- the chips of a branch are inside the grid
-  pub branch_inside : (s : Spot) (xs : List Exit) → IsBranch m root edges s xs → (i : ℕ) (x : Exit) → slice_get xs i ≡ Some x → IsInside m x.chip
-  branch_inside s xs p zero x here =
-      subst (λ (c : Chip). IsInside m c) (sym (way_first m edges s root xs x p here)) (live_inside m root tree.root_lives)
-  branch_inside s xs p (suc i) x here =
+  pub branch_inside : IsLiveChip m root → (s : Spot) (xs : List Exit) → IsBranch m root edges s xs → (i : ℕ) (x : Exit) → slice_get xs i ≡ Some x → IsInside m x.chip
+  branch_inside root_lives s xs p zero x here =
+      subst (λ (c : Chip). IsInside m c) (sym (way_first m edges s root xs x p here)) (live_inside m root root_lives)
+  branch_inside root_lives s xs p (suc i) x here =
       let by : ComesBy m edges xs Local i x.chip = comes_by m edges s root Local xs i x p here in
-      let before = branch_inside s xs p i (exit_of by.edge) by.before in
+      let before = branch_inside root_lives s xs p i (exit_of by.edge) by.before in
       far_inside m by.edge.chip x.chip by.edge.dir before by.leads
 
   -- A branch has at most as many exits as the grid has chips.
-  pub branch_short : (s : Spot) (xs : List Exit) → IsBranch m root edges s xs → length xs ≤ m.width * m.height
-  branch_short s xs p =
+  pub branch_short : IsLiveChip m root → (s : Spot) (xs : List Exit) → IsBranch m root edges s xs → length xs ≤ m.width * m.height
+  branch_short root_lives s xs p =
       let short : length (map index xs) ≤ m.width * m.height = length_le_from_apart (map index xs) (m.width * m.height) apart below in
       subst (λ n. n ≤ m.width * m.height) (length-map xs index) short
     where
@@ -201,7 +185,7 @@ module _ (m : Description) (root : Chip) (edges : List Edge) (targets : List Chi
       within k h = subst (λ n. k < n) (length-map xs index) h
 
       nothing : Exit
-      nothing = record { chip = root; out = Core 0 }
+      nothing = last_exit (record { chip = root; core = 0 })
 
       at : (k : ℕ) → k < length xs → slice_get xs k ≡ Some (get_or xs k nothing)
       at k h = slice_get-get_or xs k nothing h
@@ -212,7 +196,7 @@ module _ (m : Description) (root : Chip) (edges : List Edge) (targets : List Chi
       below : (k d : ℕ) → k < length (map index xs) → get_or (map index xs) k d < m.width * m.height
       below k d h =
           rw (read k d (within k h))
-          (index_below m (get_or xs k nothing).chip (branch_inside s xs p k (get_or xs k nothing) (at k (within k h))))
+          (index_below m (get_or xs k nothing).chip (branch_inside root_lives s xs p k (get_or xs k nothing) (at k (within k h))))
 
       apart : (i j d : ℕ) → i < j → j < length (map index xs) → get_or (map index xs) i d ≢ get_or (map index xs) j d
       apart i j d lt h e =
@@ -220,76 +204,74 @@ module _ (m : Description) (root : Chip) (edges : List Edge) (targets : List Chi
           let here : i < length xs = omega arith in
           let same : (get_or xs i nothing).chip ≡ (get_or xs j nothing).chip =
           same_index m (get_or xs i nothing).chip (get_or xs j nothing).chip
-          (branch_inside s xs p i (get_or xs i nothing) (at i here)) (branch_inside s xs p j (get_or xs j nothing) (at j there))
+          (branch_inside root_lives s xs p i (get_or xs i nothing) (at i here)) (branch_inside root_lives s xs p j (get_or xs j nothing) (at j there))
           (sym (read i d here) ∙ (e ∙ read j d there)) in
           let one = same_place s s xs xs p p i j (get_or xs i nothing) (get_or xs j nothing) (at i here) (at j there) same in
           let eq : i ≡ j = one.0 in omega arith
 
   -- A path in the tree has fewer edges than the grid has chips.
-  pub path_short : (c : Chip) (path : List Edge) → IsPath m edges root path c → length path < m.width * m.height
-  path_short c path along =
+  pub path_short : IsLiveChip m root → (c : Chip) (path : List Edge) → IsPath m edges root path c → length path < m.width * m.height
+  path_short root_lives c path along =
       let s : Spot = record { chip = c; core = 0 } in
-      let core : List Exit = record { chip = c; out = Core 0 } ∷ [] in
-      let short : length (map exit_of path ++ core) ≤ m.width * m.height =
-      branch_short s (map exit_of path ++ core) (way_along m edges s root c path core along (way_core m edges s)) in
-      let long : length (map exit_of path ++ core) ≡ length path + 1 =
-      length-append (map exit_of path) core ∙ ap (λ n. n + 1) (length-map path exit_of) in
+      let end : List Exit = last_exit s ∷ [] in
+      let short : length (map exit_of path ++ end) ≤ m.width * m.height =
+      branch_short root_lives s (map exit_of path ++ end) (way_along m edges s root c path end along (way_last m edges s)) in
+      let long : length (map exit_of path ++ end) ≡ length path + 1 =
+      length-append (map exit_of path) end ∙ ap (λ n. n + 1) (length-map path exit_of) in
       omega arith
 
   -- Below each chip of the tree there is a target chip.
-  goes_down : (room : ℕ) (c : Chip) (path : List Edge) → IsPath m edges root path c → m.width * m.height ≤ length path + room →
+  goes_down : IsLiveChip m root → (room : ℕ) (c : Chip) (path : List Edge) → IsPath m edges root path c → m.width * m.height ≤ length path + room →
       (to : Chip) × Contains targets to × ((down : List Edge) × IsPath m edges c down to)
-  goes_down zero c path along few = absurd (let short : length path < m.width * m.height = path_short c path along in omega arith)
-  goes_down (suc room) c path along few =
+  goes_down root_lives zero c path along few =
+      absurd (let short : length path < m.width * m.height = path_short root_lives c path along in omega arith)
+  goes_down root_lives (suc room) c path along few =
       let on_tree : IsTreeChip m root edges c = path_in_tree m root edges root c path (inl refl) along in
       elim (tree.ends_are_targets c on_tree) [
         | inl out ↦
             let e : Edge = out.1 in
             let has : Contains edges e = (out.0, out.2, out.3) in
-            let live : IsLiveLink m e.chip e.dir = All-contains (λ f. IsLiveLink m f.chip f.dir) edges e tree.edges_live has in
-            let ends = live_ends m e.chip e.dir live in
+            let ends = edge_lives m root edges targets tree e has in
             let longer : IsPath m edges root (path ++ e ∷ []) ends.0 = path_more m edges root c ends.0 path e along has out.4 ends.1 in
             let room_left : m.width * m.height ≤ length (path ++ e ∷ []) + room = rw (length-append path (e ∷ [])) (omega arith) in
-            let below = goes_down room ends.0 (path ++ e ∷ []) longer room_left in
+            let below = goes_down root_lives room ends.0 (path ++ e ∷ []) longer room_left in
             (below.0, below.1, (e ∷ below.2.0, (has, out.4, (ends.0, ends.1, below.2.1))))
         | inr target ↦ (c, target, ([], refl))
       ]
 
-  -- Each target chip has a branch, to each of its cores.
-  pub target_on_branch : (s : Spot) → Contains targets s.chip →
-      (xs : List Exit) × IsBranch m root edges s xs × Contains xs (record { chip = s.chip; out = Core s.core })
+  -- Each target chip has a branch, to each of its spots.
+  pub target_on_branch : (s : Spot) → Contains targets s.chip → (xs : List Exit) × IsBranch m root edges s xs × Contains xs (last_exit s)
   target_on_branch s has =
       let path = tree.reached s.chip (All-contains (IsTreeChip m root edges) targets s.chip tree.has_targets has) in
-      let core : List Exit = record { chip = s.chip; out = Core s.core } ∷ [] in (
-        map exit_of path.0 ++ core,
-        way_along m edges s root s.chip path.0 core path.1 (way_core m edges s),
-        Contains-push (map exit_of path.0) (record { chip = s.chip; out = Core s.core }),
+      let end : List Exit = last_exit s ∷ [] in (
+        map exit_of path.0 ++ end,
+        way_along m edges s root s.chip path.0 end path.1 (way_last m edges s),
+        Contains-push (map exit_of path.0) (last_exit s),
       )
 
-  -- Each edge lies on a branch to some target chip, to each of its cores.
+  -- Each edge lies on a branch to some target chip, to each of its spots.
   pub edge_on_branch : (e : Edge) → Contains edges e →
       (to : Chip) × Contains targets to × ((s : Spot) → s.chip ≡ to → (xs : List Exit) × IsBranch m root edges s xs × Contains xs (exit_of e))
   edge_on_branch e has =
       let begins : IsTreeChip m root edges e.chip = All-contains (λ f. IsTreeChip m root edges f.chip) edges e tree.edges_begin has in
       let path = tree.reached e.chip begins in
-      let live : IsLiveLink m e.chip e.dir = All-contains (λ f. IsLiveLink m f.chip f.dir) edges e tree.edges_live has in
-      let ends = live_ends m e.chip e.dir live in
+      let ends = edge_lives m root edges targets tree e has in
       let longer : IsPath m edges root (path.0 ++ e ∷ []) ends.0 = path_more m edges root e.chip ends.0 path.0 e path.1 has refl ends.1 in
-      let below = goes_down (m.width * m.height) ends.0 (path.0 ++ e ∷ []) longer (omega arith) in (
+      let below = goes_down (root_lives_with_edge m root edges targets tree e has) (m.width * m.height) ends.0 (path.0 ++ e ∷ []) longer (omega arith) in (
         below.0,
         below.1,
         λ s at.
-            let core : List Exit = record { chip = s.chip; out = Core s.core } ∷ [] in
+            let end : List Exit = last_exit s ∷ [] in
             let down : IsPath m edges ends.0 below.2.0 s.chip = subst (λ (c : Chip). IsPath m edges ends.0 below.2.0 c) (sym at) below.2.1 in
-            let last : IsWay m edges s ends.0 (map exit_of below.2.0 ++ core) = way_along m edges s ends.0 s.chip below.2.0 core down (way_core m edges s) in (
-              map exit_of (path.0 ++ e ∷ []) ++ (map exit_of below.2.0 ++ core),
-              way_along m edges s root ends.0 (path.0 ++ e ∷ []) (map exit_of below.2.0 ++ core) longer last,
-              Contains-append_left (map exit_of (path.0 ++ e ∷ [])) (map exit_of below.2.0 ++ core) (exit_of e)
+            let last : IsWay m edges s ends.0 (map exit_of below.2.0 ++ end) = way_along m edges s ends.0 s.chip below.2.0 end down (way_last m edges s) in (
+              map exit_of (path.0 ++ e ∷ []) ++ (map exit_of below.2.0 ++ end),
+              way_along m edges s root ends.0 (path.0 ++ e ∷ []) (map exit_of below.2.0 ++ end) longer last,
+              Contains-append_left (map exit_of (path.0 ++ e ∷ [])) (map exit_of below.2.0 ++ end) (exit_of e)
                   (subst (λ zs. Contains zs (exit_of e)) (sym (map-append exit_of path.0 (e ∷ []))) (Contains-push (map exit_of path.0) (exit_of e))),
             ),
       )
 
--- a target chip of a list of target cores is the chip of one of them
+-- a target chip of a list of targets is the chip of one of them
 chip_of_target : (targets : List Spot) (c : Chip) → Contains (map (λ s. s.chip) targets) c → (s : Spot) × Contains targets s × (s.chip ≡ c)
 chip_of_target targets c has =
     let nothing : Spot = record { chip = c; core = 0 } in
@@ -304,13 +286,13 @@ target_chip targets s has = (
   get_or-map (λ t. t.chip) targets has.0 s s.chip has.1 ∙ ap (λ (t : Spot). t.chip) has.2,
 )
 
--- Each target core of a routing tree has a branch, whose last exit is that core.
-pub core_on_branch : (m : Description) (root : Chip) (edges : List Edge) (targets : List Spot) → IsRoutingTree m root edges targets →
-    (s : Spot) → Contains targets s → (xs : List Exit) × IsBranch m root edges s xs × Contains xs (record { chip = s.chip; out = Core s.core })
-core_on_branch m root edges targets tree s has =
+-- Each target of a routing tree has a branch, whose last exit is by the output that leads to it.
+pub end_on_branch : (m : Description) (root : Chip) (edges : List Edge) (targets : List Spot) → IsRoutingTree m root edges targets →
+    (s : Spot) → Contains targets s → (xs : List Exit) × IsBranch m root edges s xs × Contains xs (last_exit s)
+end_on_branch m root edges targets tree s has =
     target_on_branch m root edges (map (λ t. t.chip) targets) tree s (target_chip targets s has)
 
--- Each edge of a routing tree lies on a branch to some target core.
+-- Each edge of a routing tree lies on a branch to some target.
 pub link_on_branch : (m : Description) (root : Chip) (edges : List Edge) (targets : List Spot) → IsRoutingTree m root edges targets →
     (e : Edge) → Contains edges e → (s : Spot) × Contains targets s × ((xs : List Exit) × IsBranch m root edges s xs × Contains xs (exit_of e))
 link_on_branch m root edges targets tree e has =

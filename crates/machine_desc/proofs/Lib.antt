@@ -4,3 +4,5 @@ pub mod Far
 pub mod Listing
 pub mod Live
 pub mod Same
+pub mod Sites
+pub mod TreeLemmas

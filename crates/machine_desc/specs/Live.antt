@@ -1,12 +1,12 @@
 -- Where each link leads, and which chips, links and cores are live.
-use Rattle.std.specs.Prelude.{◌≡◌, ℕ, ◌+◌, ◌-◌, ◌*◌, ◌/◌, ◌%◌, ◌==◌, Bool, true, false, ◌&&◌, not, nat_lt, nat_le, IsTrue, if◌then◌else◌, Option, Some, None, List, [], ◌∷◌, map, count_by}
+use Rattle.std.specs.Prelude.{◌≡◌, ℕ, ◌+◌, ◌-◌, ◌*◌, ◌/◌, ◌%◌, ◌==◌, Bool, true, false, ◌&&◌, ◌||◌, not, nat_lt, nat_le, IsTrue, if◌then◌else◌, Option, Some, None, List, [], ◌∷◌, map, count_by}
 use Rattle.std.specs.List.{list_any, range_with_len}
 use Rattle.spin_base.specs.declared.chips.Chip.{Chip}
 use Rattle.spin_base.specs.declared.chips.Spot.{Spot}
 use Rattle.spin_base.specs.declared.chips.Dir.{Dir}
 use Rattle.spin_base.specs.declared.chips.Dir.TheVariants.{East, NorthEast, North, West, SouthWest, South}
 use Rattle.spin_base.specs.Equality.{chip_eq, spot_eq}
-use Rattle.spin_base.specs.Links.{opposite_of}
+use Rattle.spin_base.specs.Links.{opposite_of, dir_at}
 use Rattle.machine_desc.specs.declared.steps.Step.{Step}
 use Rattle.machine_desc.specs.declared.steps.Step.TheVariants.{Back, Stay, Ahead}
 use Rattle.machine_desc.specs.Description.{Description}
@@ -80,6 +80,15 @@ is_live_link m c d = is_live_between m c d (far_of m c d)
 abbrev pub is_usable : Description → Spot → Bool
 is_usable m s = is_live_chip m s.chip && ((nat_le 1 s.core && nat_le s.core 17) && not (list_any (spot_eq s) m.dead_cores))
 
+-- A device hangs on a link that is not live, of a live chip. Its number on the chip is 18 + d, for link d (this project's own).
+abbrev pub is_device_place : Description → Spot → Bool
+is_device_place m s =
+    is_live_chip m s.chip && ((nat_le 18 s.core && nat_lt s.core 24) && not (is_live_link m s.chip (dir_at (s.core - 18))))
+
+-- A site is a spot where a vertex can stand: a usable core, or the place of a device.
+abbrev pub is_site : Description → Spot → Bool
+is_site m s = is_usable m s || is_device_place m s
+
 abbrev pub IsInside : Description → Chip → Type 0
 IsInside m c = IsTrue (is_inside m c)
 
@@ -91,6 +100,9 @@ IsLiveLink m c d = IsTrue (is_live_link m c d)
 
 abbrev pub IsUsable : Description → Spot → Type 0
 IsUsable m s = IsTrue (is_usable m s)
+
+abbrev pub IsSite : Description → Spot → Type 0
+IsSite m s = IsTrue (is_site m s)
 
 -- some live link leads from the first chip to the second
 abbrev pub LeadsTo : Description → Chip → Chip → Type 0

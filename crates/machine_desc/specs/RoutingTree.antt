@@ -4,7 +4,7 @@ use Rattle.spin_base.specs.declared.chips.Chip.{Chip}
 use Rattle.spin_base.specs.declared.chips.Spot.{Spot}
 use Rattle.machine_desc.specs.declared.trees.Edge.{Edge}
 use Rattle.machine_desc.specs.Description.{Description}
-use Rattle.machine_desc.specs.Live.{far_of, IsLiveChip, IsLiveLink}
+use Rattle.machine_desc.specs.Live.{far_of, IsLiveLink}
 
 -- the chip into which an edge leads, if any
 abbrev pub end_of : Description → Edge → Option Chip
@@ -20,11 +20,9 @@ IsPath m edges from [] to = from ≡ to
 IsPath m edges from (e ∷ path) to =
     Contains edges e × (e.chip ≡ from) × ((c : Chip) × (end_of m e ≡ Some c) × IsPath m edges c path to)
 
--- A tree over live parts leads from its root to all target chips and to no end that is none (this project's own; trees
--- as in Navaridas and others, 2015).
+-- A tree over live links leads from its root to all target chips and to no end that is none (this project's own; trees as in
+-- Navaridas and others, 2015). Of a root without edges it does not say that the chip is live.
 pub record IsTreeTo (m : Description) (root : Chip) (edges : List Edge) (targets : List Chip) : Type 0 where
-  -- the root is live
-  pub root_lives : IsLiveChip m root
   -- each edge is a live link
   pub edges_live : All (λ e. IsLiveLink m e.chip e.dir) edges
   -- each edge begins at a chip of the tree
@@ -40,6 +38,6 @@ pub record IsTreeTo (m : Description) (root : Chip) (edges : List Edge) (targets
   -- each chip without an edge out of it is a target chip
   pub ends_are_targets : (c : Chip) → IsTreeChip m root edges c → Any (λ e. e.chip ≡ c) edges ⊎ Contains targets c
 
--- A routing tree for a list of target cores is a tree to their chips.
+-- A routing tree for a list of targets, cores and devices, is a tree to their chips.
 abbrev pub IsRoutingTree : Description → Chip → List Edge → List Spot → Type 0
 IsRoutingTree m root edges targets = IsTreeTo m root edges (map (λ s. s.chip) targets)

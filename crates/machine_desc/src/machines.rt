@@ -38,7 +38,7 @@ impl Model for Machine {
 
 impl Machine {
     ghost use Rattle.machine_desc.specs.Description.{HasSize};
-    ghost use Rattle.machine_desc.specs.Live.{far_of, is_inside, is_listed, is_live_chip, is_live_link, is_usable, live_count_of, index_of, IsInside};
+    ghost use Rattle.machine_desc.specs.Live.{far_of, is_inside, is_listed, is_live_chip, is_live_link, is_usable, is_device_place, is_site, live_count_of, index_of, chip_of, IsInside};
     ghost use Rattle.spin_base.specs.Links.{opposite_of};
     ghost use Rattle.spin_base.specs.declared.chips.Chip.{Chip};
     ghost use Rattle.spin_base.specs.declared.chips.Dir.{Dir};
@@ -92,6 +92,24 @@ impl Machine {
         })
     }
 
+    /// The same machine once more.
+    pub fn copy(&self, alloc: Global) -> Result<Machine, Memory>
+        ensures { IfOk result (λ m. m ≡ self.now) }
+    {
+        Ok(Machine {
+            grid: self.grid,
+            wrap: self.wrap,
+            sdram: self.sdram,
+            dead_chips: copied(alloc, &self.dead_chips)?,
+            dead_cores: copied(alloc, &self.dead_cores)?,
+            dead_links: copied(alloc, &self.dead_links)?,
+            chip_listed: Vec::from_slice(alloc, &self.chip_listed)?,
+            core_listed: Vec::from_slice(alloc, &self.core_listed)?,
+            link_listed: Vec::from_slice(alloc, &self.link_listed)?,
+            live_count: self.live_count,
+        })
+    }
+
     /// Chips along x, 1 to 64.
     pub fn width(&self) -> u8
         ensures value { result ≡ self.now.width }
@@ -122,6 +140,16 @@ impl Machine {
         self.sdram
     }
 
+    /// The number of chips, live or not: 1 to 4096.
+    pub fn chips(&self) -> usize
+        ensures total { result ≡ self.now.width * self.now.height }
+        ensures some { 1 ≤ result }
+        ensures few { result ≤ 4096 }
+        ensures size { HasSize self.now }
+    {
+        self.grid.chips()
+    }
+
     /// The number of live chips.
     pub fn live_count(&self) -> u32
         ensures { result ≡ live_count_of self.now }
@@ -129,8 +157,8 @@ impl Machine {
         self.live_count
     }
 
-    // Whether the chip is inside the grid.
-    fn is_inside(&self, c: Chip) -> bool
+    /// Whether the chip is inside the grid.
+    pub fn is_inside(&self, c: Chip) -> bool
         ensures { result ≡ is_inside self.now c }
     {
         c.x < self.grid.width && c.y < self.grid.height
@@ -144,6 +172,20 @@ impl Machine {
         ensures few { result < 4096 }
     {
         u32::from(c.x) * u32::from(self.grid.height) + u32::from(c.y)
+    }
+
+    /// The chip of an index.
+    pub fn chip_at(&self, index: u32) -> Chip
+        requires { index < self.now.width * self.now.height }
+        ensures chip { result ≡ chip_of self.now index }
+        ensures inside { IsInside self.now result }
+        ensures back { index_of self.now result ≡ index }
+    {
+        let height = u32::from(self.grid.height);
+        Chip {
+            x: (index / height) as u8,
+            y: (index % height) as u8,
+        }
     }
 
     /// The chip to which a link leads: the neighbour, modulo width and height with wrap (SpiNNaker datasheet). `None`
@@ -196,6 +238,27 @@ impl Machine {
             && !self.core_listed[self.grid.spot_place(s)]
     }
 
+    /// Whether a vertex can stand on the spot: a usable core, or the place of a device, which has the number 18 + d on a
+    /// live chip whose link d is not live.
+    pub fn site(&self, s: Spot) -> bool
+        ensures { result ≡ is_site self.now s }
+    {
+        self.usable(s) || self.is_device_place(s)
+    }
+
+    // Whether the spot is the place of a device.
+    fn is_device_place(&self, s: Spot) -> bool
+        ensures { result ≡ is_device_place self.now s }
+    {
+        if s.core < 18 {
+            return false;
+        }
+        match Dir::from_number(s.core - 18) {
+            None => false,
+            Some(d) => self.live(s.chip) && !self.link_live(s.chip, d),
+        }
+    }
+
     /// Each link leads there and back: for chips `c` and `e` inside the grid, link `d` of `c` leads to `e` exactly where
     /// the opposite link of `e` leads to `c`. It does nothing.
     pub fn links_lead_back(&self)
@@ -210,4 +273,11 @@ fn clear_count(table: &[bool]) -> u32
     ensures { result ≡ count_by not table.now }
 {
     table.iter().filter(|listed| !**listed).count() as u32
+}
+
+// The same list once more.
+fn copied<T: Copy>(alloc: Global, list: &Seq<T>) -> Result<Seq<T>, Memory>
+    ensures { IfOk result (λ copy. copy ≡ list.now) }
+{
+    Ok(Seq::from_vec(Vec::from_slice(alloc, list.as_slice())?))
 }

@@ -1,11 +1,8 @@
 -- A mesh at rest that meets the ledger of a job, without a dump, has delivered what the job asks for.
 use Rattle.std.proofs.Common.{◌≡◌, ℕ, ◌+◌, ◌/◌, ◌%◌, ◌<◌, suc, zero, List, [], ◌∷◌, ◌++◌, map, Bool, true, ◌==◌, ◌&&◌, Option, Some, None, refl, ap, sym, ◌∙◌, subst, arith, append-nil, inl, inr, length, count_by, if◌then◌else◌}
-use Rattle.std.specs.List.{slice_get, slice_index_or, All, Contains}
+use Rattle.std.specs.List.{slice_get, All, Contains}
 use Rattle.std.proofs.lemmas.List.Elements.{All-contains, All-head, All-tail}
-use Rattle.std.proofs.lemmas.Option.{slice_get-get_or, get_or_from_slice_get, slice_get_within}
 use Rattle.spin_base.specs.declared.chips.Spot.{Spot}
-use Rattle.spin_base.specs.declared.routes.Out.{Out}
-use Rattle.spin_base.specs.declared.routes.Out.TheVariants.{Link, Core}
 use Rattle.spin_base.specs.declared.copies.McCopy.{McCopy}
 use Rattle.spin_base.specs.declared.copies.Delivery.{Delivery}
 use Rattle.spin_base.specs.declared.copies.Packet.{Packet}
@@ -16,11 +13,13 @@ use Rattle.machine_desc.proofs.Live.{count_by-map}
 use Rattle.machine_desc.proofs.Branches.{same_place, exit_leads, ExitLeads}
 use Rattle.net_tables.specs.declared.nets.NetPlan.{NetPlan}
 use Rattle.net_tables.specs.RightTables.{IsKeyOf}
+use Rattle.net_tables.specs.NetsOn.{IsWayOn}
 use Rattle.mesh_core.specs.State.{State}
 use Rattle.mesh_core.specs.Trail.{Mark, unsent, in_queue, at_core, delivered, is_packet_on_trail}
-use Rattle.mesh_core.specs.Ledger.{marks_of, marked, hand_marks, port_of, gathered, delivered_marks, Label, IsWayOf}
-use Rattle.mesh_core.specs.Opened.{label_in, label_of, label_at, label_by, AreOfNets, MeetsJobLedger}
+use Rattle.mesh_core.specs.Ledger.{marks_of, marked, hand_marks, port_of, gathered, delivered_marks, Label, Asked, label_of}
+use Rattle.mesh_core.specs.Opened.{label_in, asked_by, MeetsJobLedger}
 use Rattle.mesh_core.specs.Expected.{IsAskedFor, AreAsExpected, IsAtRest}
+use Rattle.mesh_core.proofs.AskedPackets.{asks, asked_parts, asked_from, net_in_list, key_of_net}
 use Rattle.mesh_core.proofs.Exchange.{Among, among_contains, contains_among, count_by-cons}
 use Rattle.mesh_core.proofs.Moves.{mark}
 use Rattle.mesh_core.proofs.Events.{and_true_left, and_true_right}
@@ -46,15 +45,15 @@ count_agree p q (d ∷ ds) same =
     ∙ (ap (λ b. (if b then 1 else 0) + count_by p ds) (same d (inl refl))
     ∙ (ap (λ n. (if q d then 1 else 0) + n) (count_agree p q ds (λ e a. same e (inr a))) ∙ sym (count_by-cons q d ds)))
 
-module _ (s : State) (nets : List NetPlan) (packets : List Packet) (job : MeetsJobLedger s nets packets) (of_nets : AreOfNets nets packets)
+module _ (s : State) (nets : List NetPlan) (packets : List Packet) (job : MeetsJobLedger s nets packets)
     (rest : IsAtRest s) (no_dump : s.dumped ≡ []) where
   -- the only marks are those of deliveries
   only_deliveries : marks_of s ≡ delivered_marks s
   only_deliveries =
       let sent = gathered_of_none (λ v (q : List McCopy). marked (unsent v) q) [] (λ j. refl) 0 s.unsent rest.all_sent in
-      let inputs = gathered_of_none (λ i (q : List McCopy). marked (in_queue (chip_of s.machine (i / 7)) (port_of (i % 7))) q) [] (λ j. refl) 0 s.inputs rest.inputs_empty in
-      let hands = gathered_of_none (λ i h. hand_marks (chip_of s.machine i) h) None (λ j. refl) 0 s.hands rest.hands_empty in
-      let cores = gathered_of_none (λ v (q : List McCopy). marked (at_core v) q) [] (λ j. refl) 0 s.cores rest.cores_empty in
+      let inputs = gathered_of_none (λ i (q : List McCopy). marked (in_queue (chip_of s.setup.machine (i / 7)) (port_of (i % 7))) q) [] (λ j. refl) 0 s.inputs rest.waits.inputs_empty in
+      let hands = gathered_of_none (λ i h. hand_marks (chip_of s.setup.machine i) h) None (λ j. refl) 0 s.hands rest.waits.hands_empty in
+      let cores = gathered_of_none (λ v (q : List McCopy). marked (at_core v) q) [] (λ j. refl) 0 s.cores rest.waits.cores_empty in
       rw (sent, inputs, hands, cores, no_dump) (append-nil (delivered_marks s))
 
   among_deliveries : (k : Mark) (ds : List Delivery) → Among k (map mark_of ds) → (d : Delivery) × Among d ds × (k ≡ mark_of d)
@@ -83,21 +82,19 @@ module _ (s : State) (nets : List NetPlan) (packets : List Packet) (job : MeetsJ
     key_is : key ≡ net.block.key + packet.index
     payload_is : payload ≡ packet.payload
 
-  packet_net : (i key : ℕ) (payload : Option ℕ) → i < length packets → key ≡ (label_of nets packets i).key → payload ≡ (label_of nets packets i).payload → PacketNet i key payload
-  packet_net i key payload below key_is payload_is =
-      let nothing : Packet = record { net = 0; index = 0; payload = None } in
-      let p : Packet = slice_index_or packets i nothing in
-      let at : slice_get packets i ≡ Some p = slice_get-get_or packets i nothing below in
-      let of = of_nets i p at in
-      let label : label_of nets packets i ≡ label_in of.0 p = ap (label_at nets) at ∙ ap (label_by p) of.1 in
-      let its_key : key ≡ of.0.block.key + p.index = key_is ∙ ap (λ (l : Label). l.key) label in
+  packet_net : (i key : ℕ) (payload : Option ℕ) (a : Asked) → asked_by nets packets i ≡ Some a → key ≡ (label_of (asked_by nets packets i)).key →
+      payload ≡ (label_of (asked_by nets packets i)).payload → PacketNet i key payload
+  packet_net i key payload a asked key_is payload_is =
+      let parts = asked_parts nets packets i a asked in
+      let label : label_of (asked_by nets packets i) ≡ label_in parts.net parts.packet = ap label_of (asked_from nets packets i parts.packet parts.net parts.is_packet parts.is_net) in
+      let its_key : key ≡ parts.net.block.key + parts.packet.index = key_is ∙ ap (λ (l : Label). l.key) label in
       record {
-        packet = p;
-        net = of.0;
-        is_packet = at;
-        is_net = of.1;
-        in_nets = (p.net, slice_get_within nets p.net of.0 of.1, get_or_from_slice_get nets p.net of.0 of.0 of.1);
-        is_key = subst (λ n. IsKeyOf of.0.block n) (sym its_key) of.2;
+        packet = parts.packet;
+        net = parts.net;
+        is_packet = parts.is_packet;
+        is_net = parts.is_net;
+        in_nets = net_in_list nets parts.packet parts.net parts.is_net;
+        is_key = subst (λ n. IsKeyOf parts.net.block n) (sym its_key) (key_of_net nets packets job.of_nets i parts.packet parts.net parts.is_packet parts.is_net);
         key_is = its_key;
         payload_is = payload_is ∙ ap (λ (l : Label). l.payload) label;
       }
@@ -115,11 +112,12 @@ module _ (s : State) (nets : List NetPlan) (packets : List Packet) (job : MeetsJ
   asked_for d has =
       let k : Mark = mark_of d in
       let there = has_mark d has in
-      let label = job.ledger.labelled k there in
-      let on = job.ledger.on_a_trail k there in
+      let label = job.ledger.ledger.labelled k there in
+      let on = job.ledger.ledger.on_a_trail k there in
       let net : NetPlan = on.0 in
-      let p = packet_net d.copy.packet d.copy.key d.copy.payload (job.of_the_job k there) label.0 label.1 in
-      let one : net ≡ p.net = one_net nets job.ledger.nets_stand.disjoint net p.net on.1 p.in_nets d.copy.key on.2 p.is_key in
+      let asked = job.ledger.was_asked k there in
+      let p = packet_net d.copy.packet d.copy.key d.copy.payload asked.0 asked.1 label.0 label.1 in
+      let one : net ≡ p.net = one_net nets job.ledger.ledger.nets_stand.disjoint net p.net on.1 p.in_nets d.copy.key on.2 p.is_key in
       let branch : List Exit = on.3.1 in
       let vertex : d.vertex ≡ on.3.3 = nat_true d.vertex on.3.3 (and_true_left (d.vertex == on.3.3) (d.copy.hop == length branch) on.3.5) in
       let hop : d.copy.hop ≡ length branch = nat_true d.copy.hop (length branch) (and_true_right (d.vertex == on.3.3) (d.copy.hop == length branch) on.3.5) in
@@ -133,25 +131,25 @@ module _ (s : State) (nets : List NetPlan) (packets : List Packet) (job : MeetsJ
         is_packet = p.is_packet;
         is_net = p.is_net;
         is_way =
-            subst (λ (n : NetPlan). IsWayOf s n on.3.0 branch on.3.2 d.vertex) one
-            (subst (λ v. IsWayOf s net on.3.0 branch on.3.2 v) (sym vertex) on.3.4);
+            subst (λ (n : NetPlan). IsWayOn s.setup.machine s.setup.spots n on.3.0 branch on.3.2 d.vertex) one
+            (subst (λ v. IsWayOn s.setup.machine s.setup.spots net on.3.0 branch on.3.2 v) (sym vertex) on.3.4);
         is_copy = copies_alike d.copy d.copy.packet (p.net.block.key + p.packet.index) (length branch) p.packet.payload refl p.key_is p.payload_is hop;
       }
 
   -- two branches of a net to one vertex are of one length
   same_length : (net : NetPlan) → Contains nets net → (t u : Spot) (xs ys : List Exit) (from from' to : ℕ) →
-      IsWayOf s net t xs from to → IsWayOf s net u ys from' to → length xs ≡ length ys
+      IsWayOn s.setup.machine s.setup.spots net t xs from to → IsWayOn s.setup.machine s.setup.spots net u ys from' to → length xs ≡ length ys
   same_length net has t u xs ys from from' to w w' =
-      let tree : IsRoutingTree s.machine net.tree.root net.tree.edges net.targets =
-      All-contains (λ n. IsRoutingTree s.machine n.tree.root n.tree.edges n.targets) nets net job.ledger.nets_stand.trees has
+      let tree : IsRoutingTree s.setup.machine net.tree.root net.tree.edges net.targets =
+      All-contains (λ n. IsRoutingTree s.setup.machine n.tree.root n.tree.edges n.targets) nets net job.ledger.ledger.nets_stand.trees has
       in
-      let on_t = vertex_at_stands s.spots t to w.ends in
-      let on_u = vertex_at_stands s.spots u to w'.ends in
+      let on_t = vertex_at_stands s.setup.spots t to w.ends in
+      let on_u = vertex_at_stands s.setup.spots u to w'.ends in
       let both : Some t ≡ Some u = sym on_t ∙ on_u in
       let same : t ≡ u = cc in
       let x = last_exit t xs w.is_branch in
       let y = last_exit u ys w'.is_branch in
-      let place = same_place s.machine net.tree.root net.tree.edges (map (λ z. z.chip) net.targets) tree t u xs ys w.is_branch w'.is_branch
+      let place = same_place s.setup.machine net.tree.root net.tree.edges (map (λ z. z.chip) net.targets) tree t u xs ys w.is_branch w'.is_branch
       x.0 y.0 x.1 y.1 x.2 y.2 (x.4 ∙ (ap (λ (z : Spot). z.chip) same ∙ sym y.4))
       in
       sym x.3 ∙ (ap suc place.0 ∙ y.3)
@@ -161,12 +159,11 @@ module _ (s : State) (nets : List NetPlan) (packets : List Packet) (job : MeetsJ
       at_place (z ∷ zs) zero within = (z, refl)
       at_place (z ∷ zs) (suc i) within = at_place zs i (omega arith)
 
-      at_end : (v : Spot) (zs : List Exit) → IsBranch s.machine net.tree.root net.tree.edges v zs → (i : ℕ) (z : Exit) → slice_get zs i ≡ Some z →
-          suc i ≡ length zs → (o : Out) → ExitLeads s.machine net.tree.edges v zs i z o → z.chip ≡ v.chip
-      at_end v zs is i z at last (Link d) leads = let past = place_below zs (suc i) leads.1.0 leads.1.2 in absurd (omega arith)
-      at_end v zs is i z at last (Core p) leads = ap (λ (q : Spot). q.chip) (sym leads.0)
+      at_end : (v : Spot) (zs : List Exit) (i : ℕ) (z : Exit) → suc i ≡ length zs → ExitLeads s.setup.machine net.tree.edges v zs i z → z.chip ≡ v.chip
+      at_end v zs i z last (inl (d, out, in_tree, (y, far, next))) = let past = place_below zs (suc i) y next in absurd (omega arith)
+      at_end v zs i z last (inr (chip, out, long)) = sym chip
 
-      last_exit : (v : Spot) (zs : List Exit) → IsBranch s.machine net.tree.root net.tree.edges v zs →
+      last_exit : (v : Spot) (zs : List Exit) → IsBranch s.setup.machine net.tree.root net.tree.edges v zs →
           (i : ℕ) × (z : Exit) × (slice_get zs i ≡ Some z) × (suc i ≡ length zs) × (z.chip ≡ v.chip)
       last_exit v [] is = absurd is
       last_exit v (z ∷ zs) is =
@@ -176,12 +173,11 @@ module _ (s : State) (nets : List NetPlan) (packets : List Packet) (job : MeetsJ
             there.0,
             there.1,
             refl,
-            at_end v (z ∷ zs) is i there.0 there.1 refl there.0.out
-                (exit_leads s.machine net.tree.edges v net.tree.root (z ∷ zs) i there.0 is there.1),
+            at_end v (z ∷ zs) i there.0 refl (exit_leads s.setup.machine net.tree.edges v net.tree.root (z ∷ zs) i there.0 is there.1),
           )
 
   each_once : (i : ℕ) (p : Packet) (net : NetPlan) → slice_get packets i ≡ Some p → slice_get nets p.net ≡ Some net →
-      (target : Spot) (branch : List Exit) (from to : ℕ) → IsWayOf s net target branch from to →
+      (target : Spot) (branch : List Exit) (from to : ℕ) → IsWayOn s.setup.machine s.setup.spots net target branch from to →
       count_by (λ (d : Delivery). (d.copy.packet == i) && (d.vertex == to)) s.delivered ≡ 1
   each_once i p net at is target branch from to w =
       count_agree q (λ d. is_packet_on_trail i from to branch (mark_of d)) s.delivered agrees
@@ -192,31 +188,30 @@ module _ (s : State) (nets : List NetPlan) (packets : List Packet) (job : MeetsJ
       q d = (d.copy.packet == i) && (d.vertex == to)
 
       in_nets : Contains nets net
-      in_nets = (p.net, slice_get_within nets p.net net is, get_or_from_slice_get nets p.net net net is)
+      in_nets = net_in_list nets p net is
 
-      label : label_of nets packets i ≡ label_in net p
-      label = ap (label_at nets) at ∙ ap (label_by p) is
+      asked : asked_by nets packets i ≡ Some (asks net p)
+      asked = asked_from nets packets i p net at is
+
+      label : label_of (asked_by nets packets i) ≡ label_in net p
+      label = ap label_of asked
 
       net_key : IsKeyOf net.block (net.block.key + p.index)
-      net_key =
-          let of = of_nets i p at in
-          let both : Some of.0 ≡ Some net = sym of.1 ∙ is in
-          let same : of.0 ≡ net = cc in
-          subst (λ (n : NetPlan). IsKeyOf n.block (n.block.key + p.index)) same of.2
+      net_key = key_of_net nets packets job.of_nets i p net at is
 
       -- a key of a mark of this number is the net's
       its_key : (k : Mark) → Contains (marks_of s) k → k.copy.packet ≡ i → IsKeyOf net.block k.copy.key
       its_key k has number =
           let key : k.copy.key ≡ net.block.key + p.index =
-          (job.ledger.labelled k has).0 ∙ (ap (λ n. (label_of nets packets n).key) number ∙ ap (λ (l : Label). l.key) label)
+          (job.ledger.ledger.labelled k has).0 ∙ (ap (λ n. (label_of (asked_by nets packets n)).key) number ∙ ap (λ (l : Label). l.key) label)
           in
           subst (λ n. IsKeyOf net.block n) (sym key) net_key
 
       one : count_by (is_packet_on_trail i from to branch) (marks_of s) ≡ 1
       one =
-          let k = job.each_packet i (slice_get_within packets i p at) in
+          let k = job.ledger.each_asked i (asks net p) asked in
           ap (λ n. count_by (is_packet_on_trail n from to branch) (marks_of s)) (sym k.2)
-          ∙ job.ledger.once_on_each k.0 k.1 net in_nets (its_key k.0 k.1 k.2) target branch from to w
+          ∙ job.ledger.ledger.once_on_each k.0 k.1 net in_nets (its_key k.0 k.1 k.2) target branch from to w
 
       agrees : (d : Delivery) → Among d s.delivered → q d ≡ is_packet_on_trail i from to branch (mark_of d)
       agrees d a = same_test (q d) (is_packet_on_trail i from to branch (mark_of d)) forth back
@@ -226,15 +221,15 @@ module _ (s : State) (nets : List NetPlan) (packets : List Packet) (job : MeetsJ
               let number : d.copy.packet ≡ i = nat_true d.copy.packet i (and_true_left (d.copy.packet == i) (d.vertex == to) yes') in
               let vertex : d.vertex ≡ to = nat_true d.vertex to (and_true_right (d.copy.packet == i) (d.vertex == to) yes') in
               let has = has_mark d (among_contains d s.delivered a) in
-              let on = job.ledger.on_a_trail (mark_of d) has in
+              let on = job.ledger.ledger.on_a_trail (mark_of d) has in
               let same_net : on.0 ≡ net =
-              one_net nets job.ledger.nets_stand.disjoint on.0 net on.1 in_nets d.copy.key on.2 (its_key (mark_of d) has number)
+              one_net nets job.ledger.ledger.nets_stand.disjoint on.0 net on.1 in_nets d.copy.key on.2 (its_key (mark_of d) has number)
               in
               let end : d.vertex ≡ on.3.3 = nat_true d.vertex on.3.3 (and_true_left (d.vertex == on.3.3) (d.copy.hop == length on.3.1) on.3.5) in
               let hop : d.copy.hop ≡ length on.3.1 = nat_true d.copy.hop (length on.3.1) (and_true_right (d.vertex == on.3.3) (d.copy.hop == length on.3.1) on.3.5) in
-              let way : IsWayOf s net on.3.0 on.3.1 on.3.2 to =
-              subst (λ (n : NetPlan). IsWayOf s n on.3.0 on.3.1 on.3.2 to) same_net
-              (subst (λ v. IsWayOf s on.0 on.3.0 on.3.1 on.3.2 v) (sym end ∙ vertex) on.3.4)
+              let way : IsWayOn s.setup.machine s.setup.spots net on.3.0 on.3.1 on.3.2 to =
+              subst (λ (n : NetPlan). IsWayOn s.setup.machine s.setup.spots n on.3.0 on.3.1 on.3.2 to) same_net
+              (subst (λ v. IsWayOn s.setup.machine s.setup.spots on.0 on.3.0 on.3.1 on.3.2 v) (sym end ∙ vertex) on.3.4)
               in
               let long = same_length net in_nets on.3.0 target on.3.1 branch on.3.2 from to way w in
               both_true (d.copy.packet == i) ((d.vertex == to) && (d.copy.hop == length branch))

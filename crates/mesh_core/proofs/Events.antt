@@ -15,10 +15,11 @@ use Rattle.spin_base.specs.declared.copies.Event.TheVariants.{Inject, Take, Send
 use Rattle.spin_base.specs.Links.{opposite_of}
 use Rattle.spin_base.specs.Equality.{out_eq}
 use Rattle.spin_base.proofs.Equality.{out_eq_true}
-use Rattle.machine_desc.specs.Live.{far_of, index_of, is_live_chip, is_live_link, IsInside, IsUsable}
-use Rattle.machine_desc.proofs.Far.{live_inside, far_inside}
-use Rattle.mesh_core.specs.State.{State, Held, IsMesh, Behind, input, core, nowhere, behind, across, core_of, queue_at, vertex_at}
-use Rattle.mesh_core.specs.Step.{stepped, injected, taken, sent, dumped_at, collected, has_room, has_room_behind, arrived, appended, in_hand as held_for, without, serves, served, outputs, onward}
+use Rattle.machine_desc.specs.Live.{far_of, index_of, is_live_chip, is_live_link, IsInside, IsSite}
+use Rattle.machine_desc.proofs.Far.{live_ends, live_inside, far_inside}
+use Rattle.machine_desc.proofs.Sites.{site_parts}
+use Rattle.mesh_core.specs.State.{State, Held, IsMesh, Behind, input, core, nowhere, behind, behind_link, core_of, queue_at, vertex_behind}
+use Rattle.mesh_core.specs.Step.{step_of, inject_of, take_of, send_of, dump_of, collect_of, has_room, has_room_behind, push_behind, push_at, in_hand as held_for, without, serves, after_serving, outputs, onward}
 use Rattle.mesh_core.specs.Trail.{unsent, in_queue, in_hand, at_core, delivered, dumped, Mark}
 use Rattle.mesh_core.specs.Ledger.{marks_of, hand_marks}
 use Rattle.mesh_core.proofs.Exchange.{TakenOut, PutIn, taken_out_after}
@@ -30,30 +31,15 @@ pub room_is_there : (capacity : ℕ) (q : Option (List McCopy)) → has_room cap
 room_is_there capacity (Some l) room = (l, refl)
 room_is_there capacity None room = cc
 
-appended_is : (lists : List (List McCopy)) (i : ℕ) (k : McCopy) (q : Option (List McCopy)) (l : List McCopy) → q ≡ Some l → appended lists i k q ≡ slice_set lists i (l ++ k ∷ [])
+appended_is : (lists : List (List McCopy)) (i : ℕ) (k : McCopy) (q : Option (List McCopy)) (l : List McCopy) → q ≡ Some l → push_at lists i k q ≡ slice_set lists i (l ++ k ∷ [])
 appended_is lists i k (Some l') l e = let same : l' ≡ l = cc in ap (λ v. slice_set lists i (v ++ k ∷ [])) same
 appended_is lists i k None l e = cc
 
--- a copy that arrives changes neither machine, vertices, tables nor capacity
-arrived_machine : (s : State) (b : Behind) (k : McCopy) → (arrived s b k).machine ≡ s.machine
-arrived_machine s (input i) k = refl
-arrived_machine s (core v) k = refl
-arrived_machine s nowhere k = refl
-
-arrived_spots : (s : State) (b : Behind) (k : McCopy) → (arrived s b k).spots ≡ s.spots
-arrived_spots s (input i) k = refl
-arrived_spots s (core v) k = refl
-arrived_spots s nowhere k = refl
-
-arrived_tables : (s : State) (b : Behind) (k : McCopy) → (arrived s b k).tables ≡ s.tables
-arrived_tables s (input i) k = refl
-arrived_tables s (core v) k = refl
-arrived_tables s nowhere k = refl
-
-arrived_capacity : (s : State) (b : Behind) (k : McCopy) → (arrived s b k).capacity ≡ s.capacity
-arrived_capacity s (input i) k = refl
-arrived_capacity s (core v) k = refl
-arrived_capacity s nowhere k = refl
+-- a copy that arrives changes nothing that a mesh never changes
+pub push_behind_setup : (s : State) (b : Behind) (k : McCopy) → (push_behind s b k).setup ≡ s.setup
+push_behind_setup s (input i) k = refl
+push_behind_setup s (core v) k = refl
+push_behind_setup s nowhere k = refl
 
 pub and_true_left : (a b : Bool) → (a && b) ≡ true → a ≡ true
 and_true_left true b e = refl
@@ -64,19 +50,19 @@ and_true_right true b e = e
 and_true_right false b e = cc
 
 -- the copy that arrives in an input queue with room
-arrives_at_input : (s : State) (c : Chip) (port : Port) → IsInside s.machine c → (k : McCopy) →
-    has_room_behind s (input (queue_at s.machine c port)) ≡ true →
-    PutIn (mark k (in_queue c port) ∷ []) (marks_of s) (marks_of (arrived s (input (queue_at s.machine c port)) k))
+arrives_at_input : (s : State) (c : Chip) (port : Port) → IsInside s.setup.machine c → (k : McCopy) →
+    has_room_behind s (input (queue_at s.setup.machine c port)) ≡ true →
+    PutIn (mark k (in_queue c port) ∷ []) (marks_of s) (marks_of (push_behind s (input (queue_at s.setup.machine c port)) k))
 arrives_at_input s c port inside k room =
-    let there = room_is_there s.capacity (slice_get s.inputs (queue_at s.machine c port)) room in
+    let there = room_is_there s.setup.capacity (slice_get s.inputs (queue_at s.setup.machine c port)) room in
     subst (λ (l : List (List McCopy)). PutIn (mark k (in_queue c port) ∷ []) (marks_of s) (marks_of (record s { inputs = l })))
-    (sym (appended_is s.inputs (queue_at s.machine c port) k (slice_get s.inputs (queue_at s.machine c port)) there.0 there.1))
+    (sym (appended_is s.inputs (queue_at s.setup.machine c port) k (slice_get s.inputs (queue_at s.setup.machine c port)) there.0 there.1))
     (input_in s c port inside k there.0 there.1)
 
 arrives_at_core : (s : State) (v : ℕ) (k : McCopy) → has_room_behind s (core v) ≡ true →
-    PutIn (mark k (at_core v) ∷ []) (marks_of s) (marks_of (arrived s (core v) k))
+    PutIn (mark k (at_core v) ∷ []) (marks_of s) (marks_of (push_behind s (core v) k))
 arrives_at_core s v k room =
-    let there = room_is_there s.capacity (slice_get s.cores v) room in
+    let there = room_is_there s.setup.capacity (slice_get s.cores v) room in
     subst (λ (l : List (List McCopy)). PutIn (mark k (at_core v) ∷ []) (marks_of s) (marks_of (record s { cores = l })))
     (sym (appended_is s.cores v k (slice_get s.cores v) there.0 there.1))
     (core_in s v k there.0 there.1)
@@ -84,22 +70,22 @@ arrives_at_core s v k room =
 -- ---- Inject
 
 -- the chip of a vertex is inside the grid
-vertex_inside : (s : State) → IsMesh s → (v : ℕ) (spot : Spot) → slice_get s.spots v ≡ Some spot → IsInside s.machine spot.chip
+vertex_inside : (s : State) → IsMesh s → (v : ℕ) (spot : Spot) → slice_get s.setup.spots v ≡ Some spot → IsInside s.setup.machine spot.chip
 vertex_inside s mesh v spot is =
-    let within = slice_get_within s.spots v spot is in
-    let there : slice_index_or s.spots v spot ≡ spot = get_or_from_slice_get s.spots v spot spot is in
-    let usable : IsUsable s.machine spot = subst (λ (x : Spot). IsUsable s.machine x) there (mesh.usable v spot within) in
-    live_inside s.machine spot.chip (and_true_left (is_live_chip s.machine spot.chip) _ usable)
+    let within = slice_get_within s.setup.spots v spot is in
+    let there : slice_index_or s.setup.spots v spot ≡ spot = get_or_from_slice_get s.setup.spots v spot spot is in
+    let site : IsSite s.setup.machine spot = subst (λ (x : Spot). IsSite s.setup.machine x) there (mesh.sites v spot within) in
+    live_inside s.setup.machine spot.chip (site_parts s.setup.machine spot site).0
 
-inject_by_room : (s : State) (v : ℕ) (spot : Spot) (k : McCopy) (rest : List McCopy) → IsInside s.machine spot.chip →
-    slice_get s.spots v ≡ Some spot → slice_get s.unsent v ≡ Some (k ∷ rest) →
-    (room : Bool) → has_room_behind s (input (queue_at s.machine spot.chip Local)) ≡ room → (t : State) →
-    (if room then Some (arrived (record s { unsent = slice_set s.unsent v rest }) (input (queue_at s.machine spot.chip Local)) k) else None) ≡ Some t →
+inject_by_room : (s : State) (v : ℕ) (spot : Spot) (k : McCopy) (rest : List McCopy) → IsInside s.setup.machine spot.chip →
+    slice_get s.setup.spots v ≡ Some spot → slice_get s.unsent v ≡ Some (k ∷ rest) →
+    (room : Bool) → has_room_behind s (input (queue_at s.setup.machine spot.chip Local)) ≡ room → (t : State) →
+    (if room then Some (push_behind (record s { unsent = slice_set s.unsent v rest }) (input (queue_at s.setup.machine spot.chip Local)) k) else None) ≡ Some t →
     Exchange s t
 inject_by_room s v spot k rest inside is_spot is_unsent false full t e = cc
 inject_by_room s v spot k rest inside is_spot is_unsent true room t e =
     let between : State = record s { unsent = slice_set s.unsent v rest } in
-    let next : State = arrived between (input (queue_at s.machine spot.chip Local)) k in
+    let next : State = push_behind between (input (queue_at s.setup.machine spot.chip Local)) k in
     let same : next ≡ t = cc in
     subst (λ (u : State). Exchange s u) same (record {
       leaves = mark k (unsent v);
@@ -108,17 +94,14 @@ inject_by_room s v spot k rest inside is_spot is_unsent true room t e =
       out = unsent_out s v k rest is_unsent;
       put = arrives_at_input between spot.chip Local inside k room;
       move = (spot, is_spot, refl);
-      machine = refl;
-      spots = refl;
-      tables = refl;
-      capacity = refl;
+      setup = refl;
     })
 
 inject_exchange : (s : State) → IsMesh s → (v : ℕ) (spot : Option Spot) (copies : Option (List McCopy)) →
-    slice_get s.spots v ≡ spot → slice_get s.unsent v ≡ copies → (t : State) → injected s v spot copies ≡ Some t → Exchange s t
+    slice_get s.setup.spots v ≡ spot → slice_get s.unsent v ≡ copies → (t : State) → inject_of s v spot copies ≡ Some t → Exchange s t
 inject_exchange s mesh v (Some spot) (Some (k ∷ rest)) is_spot is_unsent t e =
     inject_by_room s v spot k rest (vertex_inside s mesh v spot is_spot) is_spot is_unsent
-    (has_room_behind s (input (queue_at s.machine spot.chip Local))) refl t e
+    (has_room_behind s (input (queue_at s.setup.machine spot.chip Local))) refl t e
 inject_exchange s mesh v (Some spot) (Some []) is_spot is_unsent t e = cc
 inject_exchange s mesh v (Some spot) None is_spot is_unsent t e = cc
 inject_exchange s mesh v None copies is_spot is_unsent t e = cc
@@ -126,19 +109,19 @@ inject_exchange s mesh v None copies is_spot is_unsent t e = cc
 -- ---- Take
 
 take_by_life : (s : State) (c : Chip) (port : Port) (k : McCopy) (rest : List McCopy) →
-    slice_get s.hands (index_of s.machine c) ≡ Some None → slice_get s.inputs (queue_at s.machine c port) ≡ Some (k ∷ rest) →
-    (live : Bool) → is_live_chip s.machine c ≡ live → (t : State) →
+    slice_get s.hands (index_of s.setup.machine c) ≡ Some None → slice_get s.inputs (queue_at s.setup.machine c port) ≡ Some (k ∷ rest) →
+    (live : Bool) → is_live_chip s.setup.machine c ≡ live → (t : State) →
     (if live then Some (record s {
-      inputs = slice_set s.inputs (queue_at s.machine c port) rest;
-      hands = slice_set s.hands (index_of s.machine c) (held_for k port (outputs s c port k));
+      inputs = slice_set s.inputs (queue_at s.setup.machine c port) rest;
+      hands = slice_set s.hands (index_of s.setup.machine c) (held_for k port (outputs s.setup c port k));
     }) else None) ≡ Some t →
     Exchange s t
 take_by_life s c port k rest is_free is_queue false dead t e = cc
 take_by_life s c port k rest is_free is_queue true live t e =
-    let inside : IsInside s.machine c = live_inside s.machine c live in
-    let between : State = record s { inputs = slice_set s.inputs (queue_at s.machine c port) rest } in
-    let outs = outputs s c port k in
-    let next : State = record between { hands = slice_set s.hands (index_of s.machine c) (held_for k port outs) } in
+    let inside : IsInside s.setup.machine c = live_inside s.setup.machine c live in
+    let between : State = record s { inputs = slice_set s.inputs (queue_at s.setup.machine c port) rest } in
+    let outs = outputs s.setup c port k in
+    let next : State = record between { hands = slice_set s.hands (index_of s.setup.machine c) (held_for k port outs) } in
     let same : next ≡ t = cc in
     let come : List Mark = map (λ o. mark k (in_hand c o)) outs in
     subst (λ (u : State). Exchange s u) same (record {
@@ -153,16 +136,13 @@ take_by_life s c port k rest is_free is_queue true live t e =
         after_is = hand_marks-held c k port outs ∙ sym (append-nil come);
       });
       move = refl;
-      machine = refl;
-      spots = refl;
-      tables = refl;
-      capacity = refl;
+      setup = refl;
     })
 
 take_exchange : (s : State) (c : Chip) (port : Port) (hand : Option (Option Held)) (queue : Option (List McCopy)) →
-    slice_get s.hands (index_of s.machine c) ≡ hand → slice_get s.inputs (queue_at s.machine c port) ≡ queue →
-    (t : State) → taken s c port hand queue ≡ Some t → Exchange s t
-take_exchange s c port (Some None) (Some (k ∷ rest)) is_free is_queue t e = take_by_life s c port k rest is_free is_queue (is_live_chip s.machine c) refl t e
+    slice_get s.hands (index_of s.setup.machine c) ≡ hand → slice_get s.inputs (queue_at s.setup.machine c port) ≡ queue →
+    (t : State) → take_of s c port hand queue ≡ Some t → Exchange s t
+take_exchange s c port (Some None) (Some (k ∷ rest)) is_free is_queue t e = take_by_life s c port k rest is_free is_queue (is_live_chip s.setup.machine c) refl t e
 take_exchange s c port (Some None) (Some []) is_free is_queue t e = cc
 take_exchange s c port (Some None) None is_free is_queue t e = cc
 take_exchange s c port (Some (Some h)) queue is_free is_queue t e = cc
@@ -188,64 +168,66 @@ without_out f o [] has = cc
 without_out f o (p ∷ os) has = without_out_by f o p os (out_eq o p) refl has (without_out f o os)
 
 -- a hand serves an output: its mark leaves
-hand_serves : (s : State) (c : Chip) (o : Out) (h : Held) → IsInside s.machine c → slice_get s.hands (index_of s.machine c) ≡ Some (Some h) →
-    list_any (out_eq o) h.outs ≡ true → TakenOut (mark h.copy (in_hand c o)) (marks_of s) (marks_of (served s c o h))
+hand_serves : (s : State) (c : Chip) (o : Out) (h : Held) → IsInside s.setup.machine c → slice_get s.hands (index_of s.setup.machine c) ≡ Some (Some h) →
+    list_any (out_eq o) h.outs ≡ true → TakenOut (mark h.copy (in_hand c o)) (marks_of s) (marks_of (after_serving s c o h))
 hand_serves s c o h inside is_hand has =
     hand_out s c inside (Some h) (held_for h.copy h.port (without o h.outs)) (mark h.copy (in_hand c o)) is_hand
     (subst (λ (l : List Mark). TakenOut (mark h.copy (in_hand c o)) (hand_marks c (Some h)) l)
     (sym (hand_marks-held c h.copy h.port (without o h.outs)))
     (without_out (λ q. mark h.copy (in_hand c q)) o h.outs has))
 
+-- a copy that arrives behind an output, and the mark that comes
+abbrev Arrives : State → McCopy → Chip → Out → Behind → Type 0
+Arrives s k c o to = (come : List Mark) × PutIn come (marks_of s) (marks_of (push_behind s to (onward k))) × Crosses s k c o come
+
+-- a copy arrives at a vertex
+arrives_at_vertex : (s : State) (c : Chip) (o : Out) (k : McCopy) → ((d : Dir) → o ≡ Link d → is_live_link s.setup.machine c d ≡ false) →
+    (vertex : Option ℕ) → vertex_behind s.setup.spots c o ≡ vertex → has_room_behind s (core_of vertex) ≡ true → Arrives s k c o (core_of vertex)
+arrives_at_vertex s c o k dead None none room = cc
+arrives_at_vertex s c o k dead (Some v) is_vertex room =
+    (mark (onward k) (at_core v) ∷ [], arrives_at_core s v (onward k) room, inr (v, dead, is_vertex, refl))
+
 -- a copy arrives where a link leads
-arrives_by_link : (s : State) (c : Chip) (d : Dir) (k : McCopy) → IsInside s.machine c →
-    (live : Bool) → is_live_link s.machine c d ≡ live → (far : Option Chip) → far_of s.machine c d ≡ far →
-    has_room_behind s (across s.machine d live far) ≡ true →
-    (come : List Mark) × PutIn come (marks_of s) (marks_of (arrived s (across s.machine d live far) (onward k))) × Crosses s k c (Link d) come
-arrives_by_link s c d k inside false dead far is_far room = cc
-arrives_by_link s c d k inside true live None is_far room = cc
-arrives_by_link s c d k inside true live (Some e) is_far room =
-    let port : Port = ByLink (opposite_of d) in (
+arrives_by_link : (s : State) (c : Chip) (d : Dir) (k : McCopy) →
+    (live : Bool) → is_live_link s.setup.machine c d ≡ live → (far : Option Chip) → far_of s.setup.machine c d ≡ far →
+    has_room_behind s (behind_link s.setup c d live far) ≡ true → Arrives s k c (Link d) (behind_link s.setup c d live far)
+arrives_by_link s c d k false dead far is_far room =
+    arrives_at_vertex s c (Link d) k (λ f same. let is : f ≡ d = cc in subst (λ (q : Dir). is_live_link s.setup.machine c q ≡ false) (sym is) dead)
+    (vertex_behind s.setup.spots c (Link d)) refl room
+arrives_by_link s c d k true live None is_far room = cc
+arrives_by_link s c d k true live (Some e) is_far room =
+    let port : Port = ByLink (opposite_of d) in
+    let inside : IsInside s.setup.machine c = live_inside s.setup.machine c (live_ends s.setup.machine c d live).2 in (
       mark (onward k) (in_queue e port) ∷ [],
-      arrives_at_input s e port (far_inside s.machine c e d inside is_far) (onward k) room,
-      (e, live, is_far, refl),
+      arrives_at_input s e port (far_inside s.setup.machine c e d inside is_far) (onward k) room,
+      inl (d, e, refl, live, is_far, refl),
     )
 
--- a copy arrives at a core's vertex
-arrives_by_core : (s : State) (c : Chip) (p : ℕ) (k : McCopy) →
-    (vertex : Option ℕ) → vertex_at s.spots (record { chip = c; core = p }) ≡ vertex →
-    has_room_behind s (core_of vertex) ≡ true →
-    (come : List Mark) × PutIn come (marks_of s) (marks_of (arrived s (core_of vertex) (onward k))) × Crosses s k c (Core p) come
-arrives_by_core s c p k None none room = cc
-arrives_by_core s c p k (Some v) is_vertex room =
-    (mark (onward k) (at_core v) ∷ [], arrives_at_core s v (onward k) room, (v, is_vertex, refl))
-
 -- a copy arrives behind an output with room
-arrives : (s : State) (c : Chip) (o : Out) (k : McCopy) → IsInside s.machine c → has_room_behind s (behind s.machine s.spots c o) ≡ true →
-    (come : List Mark) × PutIn come (marks_of s) (marks_of (arrived s (behind s.machine s.spots c o) (onward k))) × Crosses s k c o come
-arrives s c (Link d) k inside room =
-    arrives_by_link s c d k inside (is_live_link s.machine c d) refl (far_of s.machine c d) refl room
-arrives s c (Core p) k inside room =
-    arrives_by_core s c p k (vertex_at s.spots (record { chip = c; core = p })) refl room
+pub arrives : (s : State) (c : Chip) (o : Out) (k : McCopy) → has_room_behind s (behind s.setup c o) ≡ true →
+    (come : List Mark) × PutIn come (marks_of s) (marks_of (push_behind s (behind s.setup c o) (onward k))) × Crosses s k c o come
+arrives s c (Link d) k room = arrives_by_link s c d k (is_live_link s.setup.machine c d) refl (far_of s.setup.machine c d) refl room
+arrives s c (Core p) k room = arrives_at_vertex s c (Core p) k (λ d same. cc) (vertex_behind s.setup.spots c (Core p)) refl room
 
 -- what it takes to serve an output
 serves_parts : (s : State) (c : Chip) (o : Out) (h : Held) → serves s c o (Some (Some h)) ≡ true →
-    IsInside s.machine c × (list_any (out_eq o) h.outs ≡ true)
+    IsInside s.setup.machine c × (list_any (out_eq o) h.outs ≡ true)
 serves_parts s c o h serving = (
-  live_inside s.machine c (and_true_left (is_live_chip s.machine c) (list_any (out_eq o) h.outs) serving),
-  and_true_right (is_live_chip s.machine c) (list_any (out_eq o) h.outs) serving,
+  live_inside s.setup.machine c (and_true_left (is_live_chip s.setup.machine c) (list_any (out_eq o) h.outs) serving),
+  and_true_right (is_live_chip s.setup.machine c) (list_any (out_eq o) h.outs) serving,
 )
 
-send_by : (s : State) (c : Chip) (o : Out) (h : Held) → slice_get s.hands (index_of s.machine c) ≡ Some (Some h) →
-    (serving room : Bool) → serves s c o (Some (Some h)) ≡ serving → has_room_behind s (behind s.machine s.spots c o) ≡ room → (t : State) →
-    (if serving && room then Some (arrived (served s c o h) (behind s.machine s.spots c o) (onward h.copy)) else None) ≡ Some t →
+send_by : (s : State) (c : Chip) (o : Out) (h : Held) → slice_get s.hands (index_of s.setup.machine c) ≡ Some (Some h) →
+    (serving room : Bool) → serves s c o (Some (Some h)) ≡ serving → has_room_behind s (behind s.setup c o) ≡ room → (t : State) →
+    (if serving && room then Some (push_behind (after_serving s c o h) (behind s.setup c o) (onward h.copy)) else None) ≡ Some t →
     Exchange s t
 send_by s c o h is_hand false room idle is_room t e = cc
 send_by s c o h is_hand true false serving full t e = cc
 send_by s c o h is_hand true true serving room t e =
     let parts = serves_parts s c o h serving in
-    let between : State = served s c o h in
-    let arrival = arrives between c o h.copy parts.0 room in
-    let next : State = arrived between (behind s.machine s.spots c o) (onward h.copy) in
+    let between : State = after_serving s c o h in
+    let arrival = arrives between c o h.copy room in
+    let next : State = push_behind between (behind s.setup c o) (onward h.copy) in
     let same : next ≡ t = cc in
     subst (λ (u : State). Exchange s u) same (record {
       leaves = mark h.copy (in_hand c o);
@@ -254,28 +236,25 @@ send_by s c o h is_hand true true serving room t e =
       out = hand_serves s c o h parts.0 is_hand parts.1;
       put = arrival.1;
       move = inr arrival.2;
-      machine = arrived_machine between (behind s.machine s.spots c o) (onward h.copy);
-      spots = arrived_spots between (behind s.machine s.spots c o) (onward h.copy);
-      tables = arrived_tables between (behind s.machine s.spots c o) (onward h.copy);
-      capacity = arrived_capacity between (behind s.machine s.spots c o) (onward h.copy);
+      setup = push_behind_setup between (behind s.setup c o) (onward h.copy);
     })
 
-send_exchange : (s : State) (c : Chip) (o : Out) (hand : Option (Option Held)) → slice_get s.hands (index_of s.machine c) ≡ hand →
-    (t : State) → sent s c o hand ≡ Some t → Exchange s t
+send_exchange : (s : State) (c : Chip) (o : Out) (hand : Option (Option Held)) → slice_get s.hands (index_of s.setup.machine c) ≡ hand →
+    (t : State) → send_of s c o hand ≡ Some t → Exchange s t
 send_exchange s c o (Some (Some h)) is_hand t e =
-    send_by s c o h is_hand (serves s c o (Some (Some h))) (has_room_behind s (behind s.machine s.spots c o)) refl refl t e
+    send_by s c o h is_hand (serves s c o (Some (Some h))) (has_room_behind s (behind s.setup c o)) refl refl t e
 send_exchange s c o (Some None) is_hand t e = cc
 send_exchange s c o None is_hand t e = cc
 
-dump_by : (s : State) (c : Chip) (o : Out) (h : Held) → slice_get s.hands (index_of s.machine c) ≡ Some (Some h) →
+dump_by : (s : State) (c : Chip) (o : Out) (h : Held) → slice_get s.hands (index_of s.setup.machine c) ≡ Some (Some h) →
     (serving room : Bool) → serves s c o (Some (Some h)) ≡ serving → (t : State) →
-    (if serving && room then Some (record (served s c o h) { dumped = s.dumped ++ record { chip = c; out = o; copy = h.copy } ∷ [] }) else None) ≡ Some t →
+    (if serving && room then Some (record (after_serving s c o h) { dumped = s.dumped ++ record { chip = c; out = o; copy = h.copy } ∷ [] }) else None) ≡ Some t →
     Exchange s t
 dump_by s c o h is_hand false room idle t e = cc
 dump_by s c o h is_hand true false serving t e = cc
 dump_by s c o h is_hand true true serving t e =
     let parts = serves_parts s c o h serving in
-    let between : State = served s c o h in
+    let between : State = after_serving s c o h in
     let next : State = record between { dumped = s.dumped ++ record { chip = c; out = o; copy = h.copy } ∷ [] } in
     let same : next ≡ t = cc in
     subst (λ (u : State). Exchange s u) same (record {
@@ -285,23 +264,20 @@ dump_by s c o h is_hand true true serving t e =
       out = hand_serves s c o h parts.0 is_hand parts.1;
       put = dumped_in between c o h.copy;
       move = inl refl;
-      machine = refl;
-      spots = refl;
-      tables = refl;
-      capacity = refl;
+      setup = refl;
     })
 
-dump_exchange : (s : State) (c : Chip) (o : Out) (hand : Option (Option Held)) → slice_get s.hands (index_of s.machine c) ≡ hand →
-    (t : State) → dumped_at s c o hand ≡ Some t → Exchange s t
+dump_exchange : (s : State) (c : Chip) (o : Out) (hand : Option (Option Held)) → slice_get s.hands (index_of s.setup.machine c) ≡ hand →
+    (t : State) → dump_of s c o hand ≡ Some t → Exchange s t
 dump_exchange s c o (Some (Some h)) is_hand t e =
-    dump_by s c o h is_hand (serves s c o (Some (Some h))) (not (has_room_behind s (behind s.machine s.spots c o))) refl t e
+    dump_by s c o h is_hand (serves s c o (Some (Some h))) (not (has_room_behind s (behind s.setup c o))) refl t e
 dump_exchange s c o (Some None) is_hand t e = cc
 dump_exchange s c o None is_hand t e = cc
 
 -- ---- Collect
 
 collect_exchange : (s : State) (v : ℕ) (queue : Option (List McCopy)) → slice_get s.cores v ≡ queue →
-    (t : State) → collected s v queue ≡ Some t → Exchange s t
+    (t : State) → collect_of s v queue ≡ Some t → Exchange s t
 collect_exchange s v (Some (k ∷ rest)) is_queue t e =
     let between : State = record s { cores = slice_set s.cores v rest } in
     let next : State = record between { delivered = s.delivered ++ record { vertex = v; copy = k } ∷ [] } in
@@ -313,19 +289,16 @@ collect_exchange s v (Some (k ∷ rest)) is_queue t e =
       out = core_out s v k rest is_queue;
       put = delivered_in between v k;
       move = refl;
-      machine = refl;
-      spots = refl;
-      tables = refl;
-      capacity = refl;
+      setup = refl;
     })
 collect_exchange s v (Some []) is_queue t e = cc
 collect_exchange s v None is_queue t e = cc
 
 -- Each event that is enabled is one move.
-pub event_exchange : (s : State) → IsMesh s → (e : Event) (t : State) → stepped s e ≡ Some t → Exchange s t
-event_exchange s mesh (Inject v) t e = inject_exchange s mesh v (slice_get s.spots v) (slice_get s.unsent v) refl refl t e
+pub event_exchange : (s : State) → IsMesh s → (e : Event) (t : State) → step_of s e ≡ Some t → Exchange s t
+event_exchange s mesh (Inject v) t e = inject_exchange s mesh v (slice_get s.setup.spots v) (slice_get s.unsent v) refl refl t e
 event_exchange s mesh (Take c port) t e =
-    take_exchange s c port (slice_get s.hands (index_of s.machine c)) (slice_get s.inputs (queue_at s.machine c port)) refl refl t e
-event_exchange s mesh (Send c o) t e = send_exchange s c o (slice_get s.hands (index_of s.machine c)) refl t e
-event_exchange s mesh (Dump c o) t e = dump_exchange s c o (slice_get s.hands (index_of s.machine c)) refl t e
+    take_exchange s c port (slice_get s.hands (index_of s.setup.machine c)) (slice_get s.inputs (queue_at s.setup.machine c port)) refl refl t e
+event_exchange s mesh (Send c o) t e = send_exchange s c o (slice_get s.hands (index_of s.setup.machine c)) refl t e
+event_exchange s mesh (Dump c o) t e = dump_exchange s c o (slice_get s.hands (index_of s.setup.machine c)) refl t e
 event_exchange s mesh (Collect v) t e = collect_exchange s v (slice_get s.cores v) refl t e

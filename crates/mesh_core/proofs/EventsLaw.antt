@@ -1,72 +1,74 @@
--- The ledger of copies is kept by every event and by every list of events, for a list of nets and for a job.
-use Rattle.std.proofs.Common.{◌≡◌, ℕ, ◌<◌, List, [], ◌∷◌, Option, Some, None, refl, sym, ◌∙◌, subst, length, unwrap_or}
+-- The ledger of copies is kept by every event, by every list of events and by putting a copy back: for a list of nets, for
+-- asked packets and for a job.
+use Rattle.std.proofs.Common.{◌≡◌, ℕ, List, [], ◌∷◌, Bool, true, false, Option, Some, None, refl, sym, ap, ◌∙◌, subst, unwrap_or, if◌then◌else◌}
 use Rattle.std.specs.List.{Contains}
-use Rattle.spin_base.specs.declared.blocks.Entry.{Entry}
+use Rattle.spin_base.specs.declared.copies.DumpRec.{DumpRec}
 use Rattle.spin_base.specs.declared.copies.Event.{Event}
 use Rattle.spin_base.specs.declared.copies.Packet.{Packet}
-use Rattle.machine_desc.specs.Description.{Description}
 use Rattle.net_tables.specs.declared.nets.NetPlan.{NetPlan}
 use Rattle.net_tables.specs.RightTables.{AreRight}
-use Rattle.mesh_core.specs.State.{State, IsMesh}
-use Rattle.mesh_core.specs.Step.{stepped, after_event, after_events}
-use Rattle.mesh_core.specs.Trail.{Mark}
-use Rattle.mesh_core.specs.Ledger.{marks_of, Label, MeetsLedger}
-use Rattle.mesh_core.specs.Opened.{label_of, MeetsJobLedger}
-use Rattle.mesh_core.proofs.Events.{event_exchange}
+use Rattle.mesh_core.specs.State.{Setup, State, IsMesh, Behind, input, core, nowhere, behind}
+use Rattle.mesh_core.specs.Step.{step_of, after_event, after_events, has_room_behind, push_behind, onward}
+use Rattle.mesh_core.specs.PutBack.{put_back_of, after_put_back}
+use Rattle.mesh_core.specs.Trail.{Mark, dumped}
+use Rattle.mesh_core.specs.Ledger.{marks_of, Label, Asked, label_of, MeetsLedger, MeetsLedgerFor}
+use Rattle.mesh_core.specs.Opened.{asked_by, MeetsJobLedger}
+use Rattle.mesh_core.proofs.Changes.{IsMesh-dumped}
+use Rattle.mesh_core.proofs.Events.{event_exchange, arrives, push_behind_setup}
 use Rattle.mesh_core.proofs.Exchange.{among_contains, among_taken_out}
-use Rattle.mesh_core.proofs.Keeping.{IsMesh-stepped}
+use Rattle.mesh_core.proofs.Keeping.{IsMesh-step_of, IsMesh-push_behind, may_wait-behind}
 use Rattle.mesh_core.proofs.LedgerLaw.{Bag, bag_of_event, bag_keeps_ledger, bag_adds_no_packet, bag_keeps_packets, right_before, right_small}
+use Rattle.mesh_core.proofs.Moves.{mark, Exchange, dumped_out}
 
--- an event that is enabled is a bag, in a mesh that meets the ledger
-event_bag : (s t : State) (nets : List NetPlan) (labels : ℕ → Label) → IsMesh s → AreRight s.machine s.tables nets → MeetsLedger s nets labels →
-    (e : Event) → stepped s e ≡ Some t → Bag s t
-event_bag s t nets labels mesh right ledger e is =
-    let x = event_exchange s mesh e t is in
+-- one move is a bag, in a mesh that meets the ledger
+move_bag : (s t : State) (nets : List NetPlan) (labels : ℕ → Label) → IsMesh s → AreRight s.setup.machine s.setup.tables nets → MeetsLedger s nets labels →
+    Exchange s t → Bag s t
+move_bag s t nets labels mesh right ledger x =
     let has = among_contains x.leaves (marks_of s) (among_taken_out x.leaves (marks_of s) x.rest x.out) in
     bag_of_event s t x (right_small s t nets labels mesh right ledger x.leaves (right_before s t nets labels mesh right ledger x.leaves has))
 
--- what an event leaves as it is
+-- what an event, or putting a copy back, leaves as it is
 pub record Keeps (s t : State) (nets : List NetPlan) (labels : ℕ → Label) : Type 0 where
   pub mesh : IsMesh t
-  pub right : AreRight t.machine t.tables nets
+  pub right : AreRight t.setup.machine t.setup.tables nets
   pub ledger : MeetsLedger t nets labels
   pub no_new : (k : Mark) → Contains (marks_of t) k → (m : Mark) × Contains (marks_of s) m × (m.copy.packet ≡ k.copy.packet)
   pub none_lost : (k : Mark) → Contains (marks_of s) k → (m : Mark) × Contains (marks_of t) m × (m.copy.packet ≡ k.copy.packet)
 
-pub event_keeps : (s : State) (nets : List NetPlan) (labels : ℕ → Label) → IsMesh s → AreRight s.machine s.tables nets → MeetsLedger s nets labels →
-    (e : Event) → Keeps s (after_event s e) nets labels
-event_keeps s nets labels mesh right ledger e = by_answer (stepped s e) refl
-  where
-    by_answer : (t : Option State) → stepped s e ≡ t → Keeps s (unwrap_or t s) nets labels
-    by_answer None is = record {
-      mesh = mesh;
-      right = right;
-      ledger = ledger;
-      no_new = λ k has. (k, has, refl);
-      none_lost = λ k has. (k, has, refl);
-    }
-    by_answer (Some t) is =
-        let bag = event_bag s t nets labels mesh right ledger e is in
-        record {
-          mesh = IsMesh-stepped s t e mesh is;
-          right =
-              subst (λ (m : Description). AreRight m t.tables nets) (sym bag.machine)
-              (subst (λ (l : List (List Entry)). AreRight s.machine l nets) (sym bag.tables) right);
-          ledger = bag_keeps_ledger s t nets labels mesh right ledger bag;
-          no_new = bag_adds_no_packet s t nets labels mesh right ledger bag;
-          none_lost = bag_keeps_packets s t nets labels mesh right ledger bag;
-        }
-
--- what each event leaves as it is, a list of events leaves as it is
-pub events_keep : (s : State) (nets : List NetPlan) (labels : ℕ → Label) → IsMesh s → AreRight s.machine s.tables nets → MeetsLedger s nets labels →
-    (es : List Event) → Keeps s (after_events s es) nets labels
-events_keep s nets labels mesh right ledger [] = record {
+keeps_itself : (s : State) (nets : List NetPlan) (labels : ℕ → Label) → IsMesh s → AreRight s.setup.machine s.setup.tables nets → MeetsLedger s nets labels →
+    Keeps s s nets labels
+keeps_itself s nets labels mesh right ledger = record {
   mesh = mesh;
   right = right;
   ledger = ledger;
   no_new = λ k has. (k, has, refl);
   none_lost = λ k has. (k, has, refl);
 }
+
+move_keeps : (s t : State) (nets : List NetPlan) (labels : ℕ → Label) → IsMesh s → AreRight s.setup.machine s.setup.tables nets → MeetsLedger s nets labels →
+    IsMesh t → Exchange s t → Keeps s t nets labels
+move_keeps s t nets labels mesh right ledger next x =
+    let bag = move_bag s t nets labels mesh right ledger x in
+    record {
+      mesh = next;
+      right = subst (λ (u : Setup). AreRight u.machine u.tables nets) (sym bag.setup) right;
+      ledger = bag_keeps_ledger s t nets labels mesh right ledger bag;
+      no_new = bag_adds_no_packet s t nets labels mesh right ledger bag;
+      none_lost = bag_keeps_packets s t nets labels mesh right ledger bag;
+    }
+
+pub event_keeps : (s : State) (nets : List NetPlan) (labels : ℕ → Label) → IsMesh s → AreRight s.setup.machine s.setup.tables nets → MeetsLedger s nets labels →
+    (e : Event) → Keeps s (after_event s e) nets labels
+event_keeps s nets labels mesh right ledger e = by_answer (step_of s e) refl
+  where
+    by_answer : (t : Option State) → step_of s e ≡ t → Keeps s (unwrap_or t s) nets labels
+    by_answer None is = keeps_itself s nets labels mesh right ledger
+    by_answer (Some t) is = move_keeps s t nets labels mesh right ledger (IsMesh-step_of s t e mesh is) (event_exchange s mesh e t is)
+
+-- what each event leaves as it is, a list of events leaves as it is
+pub events_keep : (s : State) (nets : List NetPlan) (labels : ℕ → Label) → IsMesh s → AreRight s.setup.machine s.setup.tables nets → MeetsLedger s nets labels →
+    (es : List Event) → Keeps s (after_events s es) nets labels
+events_keep s nets labels mesh right ledger [] = keeps_itself s nets labels mesh right ledger
 events_keep s nets labels mesh right ledger (e ∷ es) =
     let first = event_keeps s nets labels mesh right ledger e in
     let rest = events_keep (after_event s e) nets labels first.mesh first.right first.ledger es in
@@ -80,15 +82,105 @@ events_keep s nets labels mesh right ledger (e ∷ es) =
           let m = first.none_lost k has in let l = rest.none_lost m.0 m.1 in (l.0, l.1, l.2 ∙ m.2);
     }
 
--- the ledger of a job is kept as well
-pub events_keep_job : (s : State) (nets : List NetPlan) (packets : List Packet) → IsMesh s → AreRight s.machine s.tables nets → MeetsJobLedger s nets packets →
+-- a mesh stays one, whatever it holds
+pub IsMesh-after_events : (s : State) (es : List Event) → IsMesh s → IsMesh (after_events s es)
+IsMesh-after_events s [] mesh = mesh
+IsMesh-after_events s (e ∷ es) mesh = IsMesh-after_events (after_event s e) es (by_answer (step_of s e) refl)
+  where
+    by_answer : (t : Option State) → step_of s e ≡ t → IsMesh (unwrap_or t s)
+    by_answer None is = mesh
+    by_answer (Some t) is = IsMesh-step_of s t e mesh is
+
+-- ---- putting a copy back
+
+-- the dump records change no queue
+same_room : (s : State) (rest : List DumpRec) (b : Behind) → has_room_behind (record s { dumped = rest }) b ≡ has_room_behind s b
+same_room s rest (input i) = refl
+same_room s rest (core v) = refl
+same_room s rest nowhere = refl
+
+-- putting a copy back is one move, to a mesh
+pub record IsPutBack (s t : State) : Type 0 where
+  pub move : Exchange s t
+  pub mesh : IsMesh s → IsMesh t
+
+put_back_by_room : (s : State) (r : DumpRec) (rest : List DumpRec) → s.dumped ≡ r ∷ rest → (room : Bool) →
+    has_room_behind s (behind s.setup r.chip r.out) ≡ room → (t : State) →
+    (if room then Some (push_behind (record s { dumped = rest }) (behind s.setup r.chip r.out) (onward r.copy)) else None) ≡ Some t → IsPutBack s t
+put_back_by_room s r rest is false full t e = cc
+put_back_by_room s r rest is true room t e =
+    let between : State = record s { dumped = rest } in
+    let to : Behind = behind s.setup r.chip r.out in
+    let next : State = push_behind between to (onward r.copy) in
+    let same : next ≡ t = cc in
+    let still : has_room_behind between to ≡ true = same_room s rest to ∙ room in
+    let arrival = arrives between r.chip r.out r.copy still in
+    subst (λ (u : State). IsPutBack s u) same (record {
+      move = record {
+        leaves = mark r.copy (dumped r.chip r.out);
+        come = arrival.0;
+        rest = marks_of between;
+        out = dumped_out s r rest is;
+        put = arrival.1;
+        move = arrival.2;
+        setup = push_behind_setup between to (onward r.copy);
+      };
+      mesh = λ mesh. IsMesh-push_behind between to (onward r.copy) (IsMesh-dumped s rest mesh) (may_wait-behind s.setup r.chip r.out) still;
+    })
+
+pub put_back_is : (s : State) (records : List DumpRec) → s.dumped ≡ records → (t : State) → put_back_of s records ≡ Some t → IsPutBack s t
+put_back_is s [] is t e = cc
+put_back_is s (r ∷ rest) is t e = put_back_by_room s r rest is (has_room_behind s (behind s.setup r.chip r.out)) refl t e
+
+pub IsMesh-after_put_back : (s : State) → IsMesh s → IsMesh (after_put_back s)
+IsMesh-after_put_back s mesh = by_answer (put_back_of s s.dumped) refl
+  where
+    by_answer : (t : Option State) → put_back_of s s.dumped ≡ t → IsMesh (unwrap_or t s)
+    by_answer None is = mesh
+    by_answer (Some t) is = (put_back_is s s.dumped refl t is).mesh mesh
+
+pub put_back_keeps : (s : State) (nets : List NetPlan) (labels : ℕ → Label) → IsMesh s → AreRight s.setup.machine s.setup.tables nets → MeetsLedger s nets labels →
+    Keeps s (after_put_back s) nets labels
+put_back_keeps s nets labels mesh right ledger = by_answer (put_back_of s s.dumped) refl
+  where
+    by_answer : (t : Option State) → put_back_of s s.dumped ≡ t → Keeps s (unwrap_or t s) nets labels
+    by_answer None is = keeps_itself s nets labels mesh right ledger
+    by_answer (Some t) is =
+        let back = put_back_is s s.dumped refl t is in
+        move_keeps s t nets labels mesh right ledger (back.mesh mesh) back.move
+
+-- ---- asked packets, and jobs
+
+abbrev pub labels_of : (ℕ → Option Asked) → ℕ → Label
+labels_of asked i = label_of (asked i)
+
+pub keeps_for : (s t : State) (nets : List NetPlan) (asked : ℕ → Option Asked) → MeetsLedgerFor s nets asked → Keeps s t nets (labels_of asked) →
+    MeetsLedgerFor t nets asked
+keeps_for s t nets asked before keeps = record {
+  ledger = keeps.ledger;
+  of_its_net = before.of_its_net;
+  was_asked = λ k has.
+      let m = keeps.no_new k has in subst (λ i. (a : Asked) × (asked i ≡ Some a)) m.2 (before.was_asked m.0 m.1);
+  each_asked = λ i a is.
+      let k = before.each_asked i a is in let m = keeps.none_lost k.0 k.1 in (m.0, m.1, m.2 ∙ k.2);
+}
+
+pub events_keep_for : (s : State) (nets : List NetPlan) (asked : ℕ → Option Asked) → IsMesh s → AreRight s.setup.machine s.setup.tables nets →
+    MeetsLedgerFor s nets asked → (es : List Event) → MeetsLedgerFor (after_events s es) nets asked
+events_keep_for s nets asked mesh right before es =
+    keeps_for s (after_events s es) nets asked before (events_keep s nets (labels_of asked) mesh right before.ledger es)
+
+pub put_back_keeps_for : (s : State) (nets : List NetPlan) (asked : ℕ → Option Asked) → IsMesh s → AreRight s.setup.machine s.setup.tables nets →
+    MeetsLedgerFor s nets asked → MeetsLedgerFor (after_put_back s) nets asked
+put_back_keeps_for s nets asked mesh right before =
+    keeps_for s (after_put_back s) nets asked before (put_back_keeps s nets (labels_of asked) mesh right before.ledger)
+
+pub events_keep_job : (s : State) (nets : List NetPlan) (packets : List Packet) → IsMesh s → AreRight s.setup.machine s.setup.tables nets → MeetsJobLedger s nets packets →
     (es : List Event) → MeetsJobLedger (after_events s es) nets packets
 events_keep_job s nets packets mesh right job es =
-    let keeps = events_keep s nets (label_of nets packets) mesh right job.ledger es in
-    record {
-      ledger = keeps.ledger;
-      of_the_job = λ k has.
-          let m = keeps.no_new k has in subst (λ i. i < length packets) m.2 (job.of_the_job m.0 m.1);
-      each_packet = λ i below.
-          let k = job.each_packet i below in let m = keeps.none_lost k.0 k.1 in (m.0, m.1, m.2 ∙ k.2);
-    }
+    record { of_nets = job.of_nets; ledger = events_keep_for s nets (asked_by nets packets) mesh right job.ledger es }
+
+pub put_back_keeps_job : (s : State) (nets : List NetPlan) (packets : List Packet) → IsMesh s → AreRight s.setup.machine s.setup.tables nets → MeetsJobLedger s nets packets →
+    MeetsJobLedger (after_put_back s) nets packets
+put_back_keeps_job s nets packets mesh right job =
+    record { of_nets = job.of_nets; ledger = put_back_keeps_for s nets (asked_by nets packets) mesh right job.ledger }

@@ -19,10 +19,11 @@ use Rattle.spin_base.specs.declared.copies.Event.TheVariants.{Inject, Take, Send
 use Rattle.spin_base.specs.Links.{opposite_of, port_number}
 use Rattle.spin_base.proofs.Equality.{port_number_injective}
 use Rattle.machine_desc.specs.Description.{Description}
-use Rattle.machine_desc.specs.Live.{index_of, far_of, is_live_chip, is_live_link, IsInside, IsUsable}
+use Rattle.machine_desc.specs.Live.{index_of, far_of, is_live_chip, is_live_link, IsInside, IsSite}
+use Rattle.machine_desc.proofs.Sites.{site_parts}
 use Rattle.machine_desc.proofs.Far.{same_index, live_inside, live_ends, live_back}
-use Rattle.mesh_core.specs.State.{State, Held, IsMesh, queue_at, vertex_at, Behind, input, core, nowhere, across, core_of, behind}
-use Rattle.mesh_core.specs.Step.{onward, outputs, in_hand, without, has_room, has_room_behind, appended, arrived, injected, taken, serves, served, sent, dumped_at, collected, stepped}
+use Rattle.mesh_core.specs.State.{Setup, State, Held, IsMesh, queue_at, vertex_behind, Behind, input, core, nowhere, core_of, behind_link, behind}
+use Rattle.mesh_core.specs.Step.{onward, outputs, in_hand, without, has_room, has_room_behind, push_at, push_behind, inject_of, take_of, serves, after_serving, send_of, dump_of, collect_of, step_of}
 use Rattle.mesh_core.proofs.Changes.{port_below, IsMesh-unsent, IsMesh-cores, IsMesh-hands, IsMesh-delivered, IsMesh-dumped, IsMesh-inputs}
 
 -- what was chosen is there
@@ -43,7 +44,7 @@ same_queue m c e p q in_c in_e same =
     (same_index m c e in_c in_e index, port_number_injective p q (omega arith))
 
 -- a copy may wait at this place: it is of no port whose link isn't live, and of no chip that isn't live
-record MayWait (m : Description) (i : ℕ) : Type 0 where
+pub record MayWait (m : Description) (i : ℕ) : Type 0 where
   port : (c : Chip) (d : Dir) → is_live_link m c d ≡ false → IsInside m c → queue_at m c (ByLink d) ≡ i → ⊥
   chip : (c : Chip) → is_live_chip m c ≡ false → IsInside m c → queue_at m c Local ≡ i → ⊥
 
@@ -68,15 +69,20 @@ may_wait-link m c d in_c live = record {
 }
 
 -- a copy may wait in the queue behind an output
-MayWaitBehind : Description → Behind → Type 0
+pub MayWaitBehind : Description → Behind → Type 0
 MayWaitBehind m (input i) = MayWait m i
 MayWaitBehind m (core v) = Unit {0}
 MayWaitBehind m nowhere = Unit {0}
 
-may_wait-across : (m : Description) (c : Chip) (d : Dir) (b : Bool) (e : Option Chip) → is_live_link m c d ≡ b → far_of m c d ≡ e → MayWaitBehind m (across m d b e)
+may_wait-core : (m : Description) (v : Option ℕ) → MayWaitBehind m (core_of v)
 unfolding MayWaitBehind
-may_wait-across m c d true (Some e) live far =
-    may_wait-link m e (opposite_of d) (inside_far m c d e live far) (live_back m c e d far live)
+may_wait-core m (Some v) = tt
+may_wait-core m None = tt
+
+may_wait-by_link : (u : Setup) (c : Chip) (d : Dir) (b : Bool) (e : Option Chip) → is_live_link u.machine c d ≡ b → far_of u.machine c d ≡ e → MayWaitBehind u.machine (behind_link u c d b e)
+unfolding MayWaitBehind
+may_wait-by_link u c d true (Some e) live far =
+    may_wait-link u.machine e (opposite_of d) (inside_far u.machine c d e live far) (live_back u.machine c e d far live)
   where
     inside_far : (m : Description) (c : Chip) (d : Dir) (e : Chip) → is_live_link m c d ≡ true → far_of m c d ≡ Some e → IsInside m e
     inside_far m c d e live far =
@@ -84,52 +90,47 @@ may_wait-across m c d true (Some e) live far =
         let there : Some ends.0 ≡ Some e = sym ends.1 ∙ far in
         let same : ends.0 ≡ e = cc in
         subst (IsInside m) same (live_inside m ends.0 ends.3)
-may_wait-across m c d true None live far = tt
-may_wait-across m c d false e live far = tt
+may_wait-by_link u c d true None live far = tt
+may_wait-by_link u c d false e live far = may_wait-core u.machine (vertex_behind u.spots c (Link d))
 
-may_wait-core : (m : Description) (v : Option ℕ) → MayWaitBehind m (core_of v)
-unfolding MayWaitBehind
-may_wait-core m (Some v) = tt
-may_wait-core m None = tt
+pub may_wait-behind : (u : Setup) (c : Chip) (o : Out) → MayWaitBehind u.machine (behind u c o)
+may_wait-behind u c (Link d) = may_wait-by_link u c d (is_live_link u.machine c d) (far_of u.machine c d) refl refl
+may_wait-behind u c (Core p) = may_wait-core u.machine (vertex_behind u.spots c (Core p))
 
-may_wait-behind : (m : Description) (spots : List Spot) (c : Chip) (o : Out) → MayWaitBehind m (behind m spots c o)
-may_wait-behind m spots c (Link d) = may_wait-across m c d (is_live_link m c d) (far_of m c d) refl refl
-may_wait-behind m spots c (Core p) = may_wait-core m (vertex_at spots (record { chip = c; core = p }))
-
-arrived_input : (s : State) (i : ℕ) (k : McCopy) (q : Option (List McCopy)) → IsMesh s → MayWait s.machine i → has_room s.capacity q ≡ true → IsMesh (record s { inputs = appended s.inputs i k q })
+arrived_input : (s : State) (i : ℕ) (k : McCopy) (q : Option (List McCopy)) → IsMesh s → MayWait s.setup.machine i → has_room s.setup.capacity q ≡ true → IsMesh (record s { inputs = push_at s.inputs i k q })
 arrived_input s i k (Some q) h may room =
-    let short : length q < s.capacity = ltb-true (length q) s.capacity room in
+    let short : length q < s.setup.capacity = ltb-true (length q) s.setup.capacity room in
     IsMesh-inputs s i (q ++ k ∷ []) h (omega (arith, length_push q k))
     (λ c d dead inside same. absurd (may.port c d dead inside same)) (λ c dead inside same. absurd (may.chip c dead inside same))
 arrived_input s i k None h may room = cc
 
-arrived_core : (s : State) (v : ℕ) (k : McCopy) (q : Option (List McCopy)) → IsMesh s → has_room s.capacity q ≡ true → IsMesh (record s { cores = appended s.cores v k q })
+arrived_core : (s : State) (v : ℕ) (k : McCopy) (q : Option (List McCopy)) → IsMesh s → has_room s.setup.capacity q ≡ true → IsMesh (record s { cores = push_at s.cores v k q })
 arrived_core s v k (Some q) h room =
-    let short : length q < s.capacity = ltb-true (length q) s.capacity room in
+    let short : length q < s.setup.capacity = ltb-true (length q) s.setup.capacity room in
     IsMesh-cores s v (q ++ k ∷ []) h (omega (arith, length_push q k))
 arrived_core s v k None h room = cc
 
 -- a mesh where a copy came into a queue with room, at which copies may wait
-IsMesh-arrived : (s : State) (b : Behind) (k : McCopy) → IsMesh s → MayWaitBehind s.machine b → has_room_behind s b ≡ true → IsMesh (arrived s b k)
+pub IsMesh-push_behind : (s : State) (b : Behind) (k : McCopy) → IsMesh s → MayWaitBehind s.setup.machine b → has_room_behind s b ≡ true → IsMesh (push_behind s b k)
 unfolding MayWaitBehind
-IsMesh-arrived s (input i) k h may room = arrived_input s i k (slice_get s.inputs i) h may room
-IsMesh-arrived s (core v) k h may room = arrived_core s v k (slice_get s.cores v) h room
-IsMesh-arrived s nowhere k h may room = h
+IsMesh-push_behind s (input i) k h may room = arrived_input s i k (slice_get s.inputs i) h may room
+IsMesh-push_behind s (core v) k h may room = arrived_core s v k (slice_get s.cores v) h room
+IsMesh-push_behind s nowhere k h may room = h
 
 -- a hand that took a copy or served an output isn't without outputs
 in_hand-some : (k : McCopy) (port : Port) (os : List Out) → IfSome (in_hand k port os) (λ held. held.outs ≢ [])
 in_hand-some k port [] = tt
 in_hand-some k port (o ∷ os) = λ e. cc
 
-keeps_injected : (s t : State) (v : ℕ) (spot : Option Spot) (unsent : Option (List McCopy)) → IsMesh s → slice_get s.spots v ≡ spot → slice_get s.unsent v ≡ unsent → injected s v spot unsent ≡ Some t → IsMesh t
+keeps_injected : (s t : State) (v : ℕ) (spot : Option Spot) (unsent : Option (List McCopy)) → IsMesh s → slice_get s.setup.spots v ≡ spot → slice_get s.unsent v ≡ unsent → inject_of s v spot unsent ≡ Some t → IsMesh t
 keeps_injected s t v (Some spot) (Some (k ∷ rest)) h at_spot at_unsent moves =
-    let queue : Behind = input (queue_at s.machine spot.chip Local) in
+    let queue : Behind = input (queue_at s.setup.machine spot.chip Local) in
     let now : State = record s { unsent = set s.unsent v rest } in
-    let parts : (has_room_behind s queue ≡ true) × (arrived now queue k ≡ t) = if_some (has_room_behind s queue) (arrived now queue k) t moves in
+    let parts : (has_room_behind s queue ≡ true) × (push_behind now queue k ≡ t) = if_some (has_room_behind s queue) (push_behind now queue k) t moves in
     let start : All (λ x. x.hop ≡ 0) rest = All-tail (λ (x : McCopy). x.hop ≡ 0) k rest (All-slice_get (λ (l : List McCopy). All (λ x. x.hop ≡ 0) l) s.unsent v (k ∷ rest) h.unsent_at_start at_unsent) in
-    let usable : IsUsable s.machine spot = All-slice_get (IsUsable s.machine) s.spots v spot h.usable at_spot in
-    let live : is_live_chip s.machine spot.chip ≡ true = (and_parts _ _ usable).0 in
-    subst IsMesh parts.1 (arrived_input now (queue_at s.machine spot.chip Local) k (slice_get s.inputs (queue_at s.machine spot.chip Local)) (IsMesh-unsent s v rest h start) (may_wait-local s.machine spot.chip live) parts.0)
+    let site : IsSite s.setup.machine spot = All-slice_get (IsSite s.setup.machine) s.setup.spots v spot h.sites at_spot in
+    let live : is_live_chip s.setup.machine spot.chip ≡ true = (site_parts s.setup.machine spot site).0 in
+    subst IsMesh parts.1 (arrived_input now (queue_at s.setup.machine spot.chip Local) k (slice_get s.inputs (queue_at s.setup.machine spot.chip Local)) (IsMesh-unsent s v rest h start) (may_wait-local s.setup.machine spot.chip live) parts.0)
 keeps_injected s t v (Some spot) (Some []) h at_spot at_unsent moves = cc
 keeps_injected s t v (Some spot) None h at_spot at_unsent moves = cc
 keeps_injected s t v None (Some (k ∷ rest)) h at_spot at_unsent moves = cc
@@ -140,71 +141,71 @@ keeps_injected s t v None None h at_spot at_unsent moves = cc
 nothing_waited : {X : Type 0} (xs : List (List X)) (i j : ℕ) (x : X) (rest : List X) → slice_get xs i ≡ Some (x ∷ rest) → slice_get xs j ≡ Some [] → j ≡ i → rest ≡ []
 nothing_waited xs i j x rest here there same = let both : Some (x ∷ rest) ≡ Some [] = sym here ∙ (ap (slice_get xs) (sym same) ∙ there) in cc
 
-keeps_taken : (s t : State) (c : Chip) (port : Port) (hand : Option (Option Held)) (queue : Option (List McCopy)) → IsMesh s → slice_get s.inputs (queue_at s.machine c port) ≡ queue → taken s c port hand queue ≡ Some t → IsMesh t
+keeps_taken : (s t : State) (c : Chip) (port : Port) (hand : Option (Option Held)) (queue : Option (List McCopy)) → IsMesh s → slice_get s.inputs (queue_at s.setup.machine c port) ≡ queue → take_of s c port hand queue ≡ Some t → IsMesh t
 keeps_taken s t c port (Some None) (Some (k ∷ rest)) h at_queue moves =
-    let q : ℕ = queue_at s.machine c port in
+    let q : ℕ = queue_at s.setup.machine c port in
     let now : State = record s { inputs = set s.inputs q rest } in
-    let hand : Option Held = in_hand k port (outputs s c port k) in
-    let next : State = record now { hands = set s.hands (index_of s.machine c) hand } in
-    let parts : (is_live_chip s.machine c ≡ true) × (next ≡ t) = if_some (is_live_chip s.machine c) next t moves in
-    let within : length (k ∷ rest) ≤ s.capacity = All-slice_get (λ (l : List McCopy). length l ≤ s.capacity) s.inputs q (k ∷ rest) h.inputs_within at_queue in
+    let hand : Option Held = in_hand k port (outputs s.setup c port k) in
+    let next : State = record now { hands = set s.hands (index_of s.setup.machine c) hand } in
+    let parts : (is_live_chip s.setup.machine c ≡ true) × (next ≡ t) = if_some (is_live_chip s.setup.machine c) next t moves in
+    let within : length (k ∷ rest) ≤ s.setup.capacity = All-slice_get (λ (l : List McCopy). length l ≤ s.setup.capacity) s.inputs q (k ∷ rest) h.inputs_within at_queue in
     let kept : IsMesh now = IsMesh-inputs s q rest h (omega arith)
-    (λ e d dead inside same. nothing_waited s.inputs q (queue_at s.machine e (ByLink d)) k rest at_queue (h.none_at_dead_ports e d dead inside) same)
-    (λ e dead inside same. nothing_waited s.inputs q (queue_at s.machine e Local) k rest at_queue (h.none_on_dead_chips e dead inside) same)
+    (λ e d dead inside same. nothing_waited s.inputs q (queue_at s.setup.machine e (ByLink d)) k rest at_queue (h.none_at_dead_ports e d dead inside) same)
+    (λ e dead inside same. nothing_waited s.inputs q (queue_at s.setup.machine e Local) k rest at_queue (h.none_on_dead_chips e dead inside) same)
     in
-    subst IsMesh parts.1 (IsMesh-hands now (index_of s.machine c) hand kept (in_hand-some k port (outputs s c port k)))
+    subst IsMesh parts.1 (IsMesh-hands now (index_of s.setup.machine c) hand kept (in_hand-some k port (outputs s.setup c port k)))
 keeps_taken s t c port (Some None) (Some []) h at_queue moves = cc
 keeps_taken s t c port (Some None) None h at_queue moves = cc
 keeps_taken s t c port (Some (Some held)) queue h at_queue moves = cc
 keeps_taken s t c port None queue h at_queue moves = cc
 
-IsMesh-served : (s : State) (c : Chip) (o : Out) (held : Held) → IsMesh s → IsMesh (served s c o held)
-IsMesh-served s c o held h =
-    IsMesh-hands s (index_of s.machine c) (in_hand held.copy held.port (without o held.outs)) h (in_hand-some held.copy held.port (without o held.outs))
+IsMesh-after_serving : (s : State) (c : Chip) (o : Out) (held : Held) → IsMesh s → IsMesh (after_serving s c o held)
+IsMesh-after_serving s c o held h =
+    IsMesh-hands s (index_of s.setup.machine c) (in_hand held.copy held.port (without o held.outs)) h (in_hand-some held.copy held.port (without o held.outs))
 
-keeps_sent : (s t : State) (c : Chip) (o : Out) (hand : Option (Option Held)) → IsMesh s → sent s c o hand ≡ Some t → IsMesh t
+keeps_sent : (s t : State) (c : Chip) (o : Out) (hand : Option (Option Held)) → IsMesh s → send_of s c o hand ≡ Some t → IsMesh t
 keeps_sent s t c o (Some (Some held)) h moves =
-    let to : Behind = behind s.machine s.spots c o in
+    let to : Behind = behind s.setup c o in
     let hands : Bool = serves s c o (Some (Some held)) in
-    let next : State = arrived (served s c o held) to (onward held.copy) in
+    let next : State = push_behind (after_serving s c o held) to (onward held.copy) in
     let parts : ((hands && has_room_behind s to) ≡ true) × (next ≡ t) = if_some (hands && has_room_behind s to) next t moves in
     let both : (hands ≡ true) × (has_room_behind s to ≡ true) = and_parts hands (has_room_behind s to) parts.0 in
-    subst IsMesh parts.1 (IsMesh-arrived (served s c o held) to (onward held.copy) (IsMesh-served s c o held h) (may_wait-behind s.machine s.spots c o) (room_after s c o held to both.1))
+    subst IsMesh parts.1 (IsMesh-push_behind (after_serving s c o held) to (onward held.copy) (IsMesh-after_serving s c o held h) (may_wait-behind s.setup c o) (room_after s c o held to both.1))
   where
     -- what a hand holds changes no room
-    room_after : (s : State) (c : Chip) (o : Out) (held : Held) (b : Behind) → has_room_behind s b ≡ true → has_room_behind (served s c o held) b ≡ true
+    room_after : (s : State) (c : Chip) (o : Out) (held : Held) (b : Behind) → has_room_behind s b ≡ true → has_room_behind (after_serving s c o held) b ≡ true
     room_after s c o held (input i) room = room
     room_after s c o held (core v) room = room
     room_after s c o held nowhere room = room
 keeps_sent s t c o (Some None) h moves = cc
 keeps_sent s t c o None h moves = cc
 
-keeps_dumped : (s t : State) (c : Chip) (o : Out) (hand : Option (Option Held)) → IsMesh s → dumped_at s c o hand ≡ Some t → IsMesh t
+keeps_dumped : (s t : State) (c : Chip) (o : Out) (hand : Option (Option Held)) → IsMesh s → dump_of s c o hand ≡ Some t → IsMesh t
 keeps_dumped s t c o (Some (Some held)) h moves =
-    let next : State = served s c o held in
+    let next : State = after_serving s c o held in
     let last : State = record next { dumped = next.dumped ++ record { chip = c; out = o; copy = held.copy } ∷ [] } in
-    let asked : Bool = serves s c o (Some (Some held)) && not (has_room_behind s (behind s.machine s.spots c o)) in
+    let asked : Bool = serves s c o (Some (Some held)) && not (has_room_behind s (behind s.setup c o)) in
     let parts : (asked ≡ true) × (last ≡ t) = if_some asked last t moves in
-    subst IsMesh parts.1 (IsMesh-dumped next last.dumped (IsMesh-served s c o held h))
+    subst IsMesh parts.1 (IsMesh-dumped next last.dumped (IsMesh-after_serving s c o held h))
 keeps_dumped s t c o (Some None) h moves = cc
 keeps_dumped s t c o None h moves = cc
 
-keeps_collected : (s t : State) (v : ℕ) (queue : Option (List McCopy)) → IsMesh s → slice_get s.cores v ≡ queue → collected s v queue ≡ Some t → IsMesh t
+keeps_collected : (s t : State) (v : ℕ) (queue : Option (List McCopy)) → IsMesh s → slice_get s.cores v ≡ queue → collect_of s v queue ≡ Some t → IsMesh t
 keeps_collected s t v (Some (k ∷ rest)) h at_queue moves =
     let now : State = record s { cores = set s.cores v rest } in
     let last : State = record now { delivered = s.delivered ++ record { vertex = v; copy = k } ∷ [] } in
     let same : Some last ≡ Some t = moves in
     let is : last ≡ t = cc in
-    let within : length (k ∷ rest) ≤ s.capacity = All-slice_get (λ (l : List McCopy). length l ≤ s.capacity) s.cores v (k ∷ rest) h.cores_within at_queue in
+    let within : length (k ∷ rest) ≤ s.setup.capacity = All-slice_get (λ (l : List McCopy). length l ≤ s.setup.capacity) s.cores v (k ∷ rest) h.cores_within at_queue in
     subst IsMesh is (IsMesh-delivered now last.delivered (IsMesh-cores s v rest h (omega arith)))
 keeps_collected s t v (Some []) h at_queue moves = cc
 keeps_collected s t v None h at_queue moves = cc
 
 -- The mesh after an event is one.
-pub IsMesh-stepped : (s t : State) (e : Event) → IsMesh s → stepped s e ≡ Some t → IsMesh t
-IsMesh-stepped s t (Inject v) h moves = keeps_injected s t v (slice_get s.spots v) (slice_get s.unsent v) h refl refl moves
-IsMesh-stepped s t (Take c port) h moves =
-    keeps_taken s t c port (slice_get s.hands (index_of s.machine c)) (slice_get s.inputs (queue_at s.machine c port)) h refl moves
-IsMesh-stepped s t (Send c o) h moves = keeps_sent s t c o (slice_get s.hands (index_of s.machine c)) h moves
-IsMesh-stepped s t (Dump c o) h moves = keeps_dumped s t c o (slice_get s.hands (index_of s.machine c)) h moves
-IsMesh-stepped s t (Collect v) h moves = keeps_collected s t v (slice_get s.cores v) h refl moves
+pub IsMesh-step_of : (s t : State) (e : Event) → IsMesh s → step_of s e ≡ Some t → IsMesh t
+IsMesh-step_of s t (Inject v) h moves = keeps_injected s t v (slice_get s.setup.spots v) (slice_get s.unsent v) h refl refl moves
+IsMesh-step_of s t (Take c port) h moves =
+    keeps_taken s t c port (slice_get s.hands (index_of s.setup.machine c)) (slice_get s.inputs (queue_at s.setup.machine c port)) h refl moves
+IsMesh-step_of s t (Send c o) h moves = keeps_sent s t c o (slice_get s.hands (index_of s.setup.machine c)) h moves
+IsMesh-step_of s t (Dump c o) h moves = keeps_dumped s t c o (slice_get s.hands (index_of s.setup.machine c)) h moves
+IsMesh-step_of s t (Collect v) h moves = keeps_collected s t v (slice_get s.cores v) h refl moves

@@ -13,30 +13,33 @@ use Rattle.spin_base.specs.declared.copies.McCopy.{McCopy}
 use Rattle.spin_base.specs.Links.{opposite_of}
 use Rattle.spin_base.specs.Equality.{chip_eq, port_eq, out_eq}
 use Rattle.spin_base.specs.Lookup.{lookup}
-use Rattle.spin_base.specs.Outputs.{has, outs_of, all_outs, IsOutput}
+use Rattle.spin_base.specs.Outputs.{has, outs_of, all_outs, out_of, IsOutput}
 use Rattle.spin_base.proofs.Equality.{chip_eq_same, chip_eq_true, port_eq_same, port_eq_true, out_eq_same, out_eq_true}
 use Rattle.spin_base.proofs.Once.{outs_once}
 use Rattle.spin_base.proofs.Outputs.{no_high_bit}
 use Rattle.std.specs.Int.{bit_at}
 use Rattle.std.proofs.lemmas.Bool.{ltb-true, ltb-false}
 use Rattle.std.proofs.lemmas.List.Elements.{All-contains}
+use Rattle.std.proofs.lemmas.Option.{slice_get_within, get_or_from_slice_get}
 use Rattle.machine_desc.specs.declared.trees.Edge.{Edge}
-use Rattle.machine_desc.specs.Live.{far_of}
+use Rattle.machine_desc.specs.Live.{far_of, is_live_link, IsLiveLink, IsSite}
 use Rattle.machine_desc.specs.Branch.{Exit, IsBranch, arrival_at}
-use Rattle.machine_desc.proofs.Branches.{ComesBy, comes_by, exit_leads, ExitLeads, one_edge_into, exit_of}
+use Rattle.machine_desc.proofs.Branches.{ComesBy, comes_by, exit_leads, ExitLeads, exit_of}
+use Rattle.machine_desc.proofs.TreeLemmas.{one_edge_into}
+use Rattle.machine_desc.proofs.Sites.{end_is_no_live_link, same_site}
 use Rattle.machine_desc.proofs.Far.{opposite_of-opposite}
 use Rattle.machine_desc.proofs.Live.{count_by-map}
 use Rattle.net_tables.specs.declared.nets.NetPlan.{NetPlan}
 use Rattle.net_tables.specs.Outputs.{is_wanted, ComesIn}
 use Rattle.net_tables.specs.RightTables.{IsKeyOf, table_at}
-use Rattle.mesh_core.specs.State.{State, vertex_at}
+use Rattle.mesh_core.specs.State.{State, vertex_behind}
 use Rattle.mesh_core.specs.Step.{last_hop, onward, outputs}
 use Rattle.mesh_core.specs.Trail.{Station, unsent, in_queue, in_hand, at_core, delivered, dumped, Mark, comes_in_there, leaves_there, on_trail, is_on_trail}
-use Rattle.mesh_core.specs.Ledger.{IsWayOf}
+use Rattle.net_tables.specs.NetsOn.{IsWayOn}
 use Rattle.mesh_core.proofs.Events.{and_true_left, and_true_right}
 use Rattle.mesh_core.proofs.Exchange.{Among, count_by-cons}
 use Rattle.mesh_core.proofs.Moves.{mark, Crosses, IsMove, IsMoveOf}
-use Rattle.mesh_core.proofs.Ways.{Stands, nat_true, nat_same, both_true, same_test, vertex_at_stands, vertex_there, short_branch, onward_hop, place_below, one_place, branch_comes_in, exit_wanted, exit_is_output, wanted_on_branch}
+use Rattle.mesh_core.proofs.Ways.{Stands, nat_true, nat_same, both_true, same_test, vertex_at_stands, vertex_there, vertex_behind_stands, one_index, target_site, short_branch, onward_hop, place_below, one_place, branch_comes_in, exit_wanted, exit_is_output, wanted_on_branch}
 
 -- ---- what the tests on a trail say
 
@@ -138,7 +141,7 @@ omega_add n = omega arith
 module _ (s : State) (net : NetPlan) (stands : Stands s net) where
   -- a way of the net
   abbrev Way : Spot → List Exit → ℕ → ℕ → Type 0
-  Way target branch from to = IsWayOf s net target branch from to
+  Way target branch from to = IsWayOn s.setup.machine s.setup.spots net target branch from to
 
   -- ways of one net begin at one vertex
   same_source : (t u : Spot) (xs ys : List Exit) (from from' to to' : ℕ) → Way t xs from to → Way u ys from' to' → from ≡ from'
@@ -154,26 +157,26 @@ module _ (s : State) (net : NetPlan) (stands : Stands s net) where
   -- a copy on a trail has a hop number below the greatest, so it gets the outputs of lookup
   outputs_are : (t : Spot) (xs : List Exit) (from to : ℕ) → Way t xs from to → (c : Chip) (port : Port) (k : McCopy) →
       on_trail from to xs k.hop (in_queue c port) ≡ true →
-      outputs s c port k ≡ outs_of (lookup (table_at s.machine s.tables c) k.key port)
+      outputs s.setup c port k ≡ outs_of (lookup (table_at s.setup.machine s.setup.tables c) k.key port)
   outputs_are t xs from to w c port k on =
       let there = comes_parts xs k.hop c port on in
       let small : k.hop < 4096 = small_hop t xs from to w k.hop there.exit there.at in
       let other : (k.hop == last_hop) ≡ false = not_last k.hop small in
-      ap (λ b. if b then [] else outs_of (lookup (table_at s.machine s.tables c) k.key port)) other
+      ap (λ b. if b then [] else outs_of (lookup (table_at s.setup.machine s.setup.tables c) k.key port)) other
     where
       not_last : (n : ℕ) → n < 4096 → (n == last_hop) ≡ false
       not_last n few = grind arith
 
   -- Inject: the first place of every branch is the injection queue of the source's chip.
   inject_on : (t u : Spot) (xs ys : List Exit) (from from' to to' : ℕ) → Way t xs from to → Way u ys from' to' →
-      (v : ℕ) (spot : Spot) (hop : ℕ) → slice_get s.spots v ≡ Some spot → on_trail from to xs hop (unsent v) ≡ true →
+      (v : ℕ) (spot : Spot) (hop : ℕ) → slice_get s.setup.spots v ≡ Some spot → on_trail from to xs hop (unsent v) ≡ true →
       on_trail from' to' ys hop (in_queue spot.chip Local) ≡ on_trail from' to' ys hop (unsent v)
   inject_on t u xs ys from from' to to' w w' v spot hop is_spot on =
       let is_from : v ≡ from = nat_true v from (and_true_left (v == from) (hop == 0) on) in
       let is_zero : hop ≡ 0 = nat_true hop 0 (and_true_right (v == from) (hop == 0) on) in
       let one_from : from ≡ from' = same_source t u xs ys from from' to to' w w' in
-      let stands_there : slice_get s.spots from ≡ Some net.source = vertex_at_stands s.spots net.source from w.begins in
-      let same_spot : Some spot ≡ Some net.source = sym is_spot ∙ (ap (slice_get s.spots) is_from ∙ stands_there) in
+      let stands_there : slice_get s.setup.spots from ≡ Some net.source = vertex_at_stands s.setup.spots net.source from w.begins in
+      let same_spot : Some spot ≡ Some net.source = sym is_spot ∙ (ap (slice_get s.setup.spots) is_from ∙ stands_there) in
       let spot_is : spot ≡ net.source = cc in
       let right_side : on_trail from' to' ys hop (unsent v) ≡ true =
       both_true (v == from') (hop == 0) (nat_same v from' (is_from ∙ one_from)) (nat_same hop 0 is_zero)
@@ -189,23 +192,43 @@ module _ (s : State) (net : NetPlan) (stands : Stands s net) where
       in
       ap (λ n. comes_in_there ys n spot.chip Local (slice_get ys n)) is_zero ∙ (left_side ∙ sym right_side)
     where
-      first_exit : (t : Spot) (zs : List Exit) → IsBranch s.machine net.tree.root net.tree.edges t zs →
+      first_exit : (t : Spot) (zs : List Exit) → IsBranch s.setup.machine net.tree.root net.tree.edges t zs →
           (x : Exit) × (slice_get zs 0 ≡ Some x) × (x.chip ≡ net.tree.root)
       first_exit t [] is = absurd is
       first_exit t (z ∷ zs) is = (z, refl, is.0)
 
-  -- Crossing a link: the branch goes on at the far end.
+  -- the link of an exit by a live link is an edge, and the branch goes on at the far end
+  goes_on : (t : Spot) (xs : List Exit) (from to : ℕ) → Way t xs from to → (c : Chip) (d : Dir) → IsLiveLink s.setup.machine c d → (hop : ℕ) →
+      slice_get xs hop ≡ Some (record { chip = c; out = Link d }) →
+      Contains net.tree.edges (record { chip = c; dir = d }) × ((y : Exit) × (far_of s.setup.machine c d ≡ Some y.chip) × (slice_get xs (suc hop) ≡ Some y))
+  goes_on t xs from to w c d live hop at =
+      by_end (exit_leads s.setup.machine net.tree.edges t net.tree.root xs hop (record { chip = c; out = Link d }) w.is_branch at)
+    where
+      by_end : ExitLeads s.setup.machine net.tree.edges t xs hop (record { chip = c; out = Link d }) →
+          Contains net.tree.edges (record { chip = c; dir = d }) × ((y : Exit) × (far_of s.setup.machine c d ≡ Some y.chip) × (slice_get xs (suc hop) ≡ Some y))
+      by_end (inl (f, out, in_tree, (y, far, next))) =
+          let same : f ≡ d = cc in (
+            subst (λ (q : Dir). Contains net.tree.edges (record { chip = c; dir = q })) same in_tree,
+            (y, subst (λ (q : Dir). far_of s.setup.machine c q ≡ Some y.chip) same far, next),
+          )
+      by_end (inr (chip, out, last)) =
+          let dead : is_live_link s.setup.machine t.chip d ≡ false =
+          end_is_no_live_link s.setup.machine t d (target_site s net stands t w.is_target) (sym out)
+          in
+          let lives : is_live_link s.setup.machine t.chip d ≡ true = ap (λ (q : Chip). is_live_link s.setup.machine q d) chip ∙ live in
+          cc
+
+  -- Crossing a live link: the branch goes on at the far end.
   link_on : (t u : Spot) (xs ys : List Exit) (from from' to to' : ℕ) → Way t xs from to → Way u ys from' to' →
-      (c e : Chip) (d : Dir) (hop : ℕ) → far_of s.machine c d ≡ Some e → on_trail from to xs hop (in_hand c (Link d)) ≡ true →
+      (c e : Chip) (d : Dir) (hop : ℕ) → IsLiveLink s.setup.machine c d → far_of s.setup.machine c d ≡ Some e → on_trail from to xs hop (in_hand c (Link d)) ≡ true →
       on_trail from' to' ys (min (hop + 1) last_hop) (in_queue e (ByLink (opposite_of d))) ≡ on_trail from' to' ys hop (in_hand c (Link d))
-  link_on t u xs ys from from' to to' w w' c e d hop is_far on =
+  link_on t u xs ys from from' to to' w w' c e d hop live is_far on =
       let at : slice_get xs hop ≡ Some (record { chip = c; out = Link d }) = leaves_parts xs hop c (Link d) on in
       let small : hop < 4096 = small_hop t xs from to w hop (record { chip = c; out = Link d }) at in
       let next : min (hop + 1) last_hop ≡ suc hop = onward_hop hop small ∙ plus_one hop in
-      let leads = exit_leads s.machine net.tree.edges t net.tree.root xs hop (record { chip = c; out = Link d }) w.is_branch at in
       ap (λ n. comes_in_there ys n e (ByLink (opposite_of d)) (slice_get ys n)) next
       ∙ same_test (comes_in_there ys (suc hop) e (ByLink (opposite_of d)) (slice_get ys (suc hop))) (leaves_there c (Link d) (slice_get ys hop))
-      (back leads.0) forth
+      (back (goes_on t xs from to w c d live hop at).0) forth
     where
       edge : Edge
       edge = record { chip = c; dir = d }
@@ -216,10 +239,10 @@ module _ (s : State) (net : NetPlan) (stands : Stands s net) where
       forth : leaves_there c (Link d) (slice_get ys hop) ≡ true → comes_in_there ys (suc hop) e (ByLink (opposite_of d)) (slice_get ys (suc hop)) ≡ true
       forth on' =
           let at : slice_get ys hop ≡ Some (record { chip = c; out = Link d }) = leaves_parts ys hop c (Link d) on' in
-          let leads = exit_leads s.machine net.tree.edges u net.tree.root ys hop (record { chip = c; out = Link d }) w'.is_branch at in
+          let leads = goes_on u ys from' to' w' c d live hop at in
           let y : Exit = leads.1.0 in
-          let by : ComesBy s.machine net.tree.edges ys Local hop y.chip =
-          comes_by s.machine net.tree.edges u net.tree.root Local ys hop y w'.is_branch leads.1.2
+          let by : ComesBy s.setup.machine net.tree.edges ys Local hop y.chip =
+          comes_by s.setup.machine net.tree.edges u net.tree.root Local ys hop y w'.is_branch leads.1.2
           in
           let same : Some (exit_of by.edge) ≡ Some (record { chip = c; out = Link d }) = sym by.before ∙ at in
           let same_d : by.edge.dir ≡ d = same_dir by.edge c d same in
@@ -234,70 +257,86 @@ module _ (s : State) (net : NetPlan) (stands : Stands s net) where
       back : Contains net.tree.edges edge → comes_in_there ys (suc hop) e (ByLink (opposite_of d)) (slice_get ys (suc hop)) ≡ true → leaves_there c (Link d) (slice_get ys hop) ≡ true
       back in_tree on' =
           let there = comes_parts ys (suc hop) e (ByLink (opposite_of d)) on' in
-          let by : ComesBy s.machine net.tree.edges ys Local hop there.exit.chip =
-          comes_by s.machine net.tree.edges u net.tree.root Local ys hop there.exit w'.is_branch there.at
+          let by : ComesBy s.setup.machine net.tree.edges ys Local hop there.exit.chip =
+          comes_by s.setup.machine net.tree.edges u net.tree.root Local ys hop there.exit w'.is_branch there.at
           in
           let one : by.edge ≡ edge =
-          one_edge_into s.machine net.tree.root net.tree.edges (map (λ x. x.chip) net.targets) stands.tree by.edge edge e
+          one_edge_into s.setup.machine net.tree.root net.tree.edges (map (λ x. x.chip) net.targets) stands.tree by.edge edge e
           by.in_tree in_tree (by.leads ∙ ap Some there.chip) is_far
           in
           leaves_from ys hop c (Link d) (by.before ∙ ap (λ (f : Edge). Some (exit_of f)) one)
 
-  -- Crossing to a core: the branch ends there.
-  core_on : (t u : Spot) (xs ys : List Exit) (from from' to to' : ℕ) → Way t xs from to → Way u ys from' to' →
-      (c : Chip) (p v : ℕ) (hop : ℕ) → vertex_at s.spots (record { chip = c; core = p }) ≡ Some v → on_trail from to xs hop (in_hand c (Core p)) ≡ true →
-      on_trail from' to' ys (min (hop + 1) last_hop) (at_core v) ≡ on_trail from' to' ys hop (in_hand c (Core p))
-  core_on t u xs ys from from' to to' w w' c p v hop is_vertex on =
-      let at : slice_get xs hop ≡ Some (record { chip = c; out = Core p }) = leaves_parts xs hop c (Core p) on in
-      let small : hop < 4096 = small_hop t xs from to w hop (record { chip = c; out = Core p }) at in
+  -- Crossing to a vertex: the branch ends there.
+  end_on : (t u : Spot) (xs ys : List Exit) (from from' to to' : ℕ) → Way t xs from to → Way u ys from' to' →
+      (c : Chip) (o : Out) (v : ℕ) (hop : ℕ) → ((d : Dir) → o ≡ Link d → is_live_link s.setup.machine c d ≡ false) →
+      vertex_behind s.setup.spots c o ≡ Some v → on_trail from to xs hop (in_hand c o) ≡ true →
+      on_trail from' to' ys (min (hop + 1) last_hop) (at_core v) ≡ on_trail from' to' ys hop (in_hand c o)
+  end_on t u xs ys from from' to to' w w' c o v hop dead is_vertex on =
+      let at : slice_get xs hop ≡ Some (record { chip = c; out = o }) = leaves_parts xs hop c o on in
+      let small : hop < 4096 = small_hop t xs from to w hop (record { chip = c; out = o }) at in
       ap (λ n. (v == to') && (n == length ys)) (onward_hop hop small)
-      ∙ same_test ((v == to') && (hop + 1 == length ys)) (leaves_there c (Core p) (slice_get ys hop)) back forth
+      ∙ same_test ((v == to') && (hop + 1 == length ys)) (leaves_there c o (slice_get ys hop)) back forth
     where
-      spot : Spot
-      spot = record { chip = c; core = p }
+      -- the spot of the vertex there
+      there : (q : Spot) × (slice_get s.setup.spots v ≡ Some q) × (q.chip ≡ c) × (out_of q.core ≡ o)
+      there = vertex_behind_stands s.setup.spots c o v is_vertex
 
-      forth : leaves_there c (Core p) (slice_get ys hop) ≡ true → ((v == to') && (hop + 1 == length ys)) ≡ true
+      -- the spot of the branch's target
+      goal : slice_get s.setup.spots to' ≡ Some u
+      goal = vertex_at_stands s.setup.spots u to' w'.ends
+
+      site : IsSite s.setup.machine there.0
+      site =
+          subst (IsSite s.setup.machine) (get_or_from_slice_get s.setup.spots v there.0 there.0 there.1)
+          (stands.mesh.sites v there.0 (slice_get_within s.setup.spots v there.0 there.1))
+
+      ends : ExitLeads s.setup.machine net.tree.edges u ys hop (record { chip = c; out = o }) → ((v == to') && (hop + 1 == length ys)) ≡ true
+      ends (inl (d, out, in_tree, next)) =
+          let live : IsLiveLink s.setup.machine c d = All-contains (λ (f : Edge). IsLiveLink s.setup.machine f.chip f.dir) net.tree.edges (record { chip = c; dir = d }) stands.tree.edges_live in_tree in
+          let not_live = dead d out in
+          cc
+      ends (inr (chip, out, last)) =
+          let same : there.0 ≡ u =
+          same_site s.setup.machine there.0 u site (target_site s net stands u w'.is_target) (there.2 ∙ sym chip) (there.3 ∙ out)
+          in
+          let same_v : v ≡ to' = one_index s.setup.spots stands.mesh.different v to' u (there.1 ∙ ap Some same) goal in
+          both_true (v == to') (hop + 1 == length ys) (nat_same v to' same_v) (nat_same (hop + 1) (length ys) (omega (arith, last)))
+
+      forth : leaves_there c o (slice_get ys hop) ≡ true → ((v == to') && (hop + 1 == length ys)) ≡ true
       forth on' =
-          let at : slice_get ys hop ≡ Some (record { chip = c; out = Core p }) = leaves_parts ys hop c (Core p) on' in
-          let leads = exit_leads s.machine net.tree.edges u net.tree.root ys hop (record { chip = c; out = Core p }) w'.is_branch at in
-          let ends : vertex_at s.spots spot ≡ Some to' = ap (vertex_at s.spots) (sym leads.0) ∙ w'.ends in
-          let same_v : v ≡ to' = cc in
-          both_true (v == to') (hop + 1 == length ys) (nat_same v to' same_v) (nat_same (hop + 1) (length ys) (omega (arith, leads.1)))
+          ends (exit_leads s.setup.machine net.tree.edges u net.tree.root ys hop (record { chip = c; out = o }) w'.is_branch (leaves_parts ys hop c o on'))
 
       slice_get_there : (zs : List Exit) (i : ℕ) → i < length zs → (x : Exit) × (slice_get zs i ≡ Some x)
       slice_get_there [] i within = absurd (omega arith)
       slice_get_there (z ∷ zs) zero within = (z, refl)
       slice_get_there (z ∷ zs) (suc i) within = slice_get_there zs i (omega arith)
 
-      by_output : (x : Exit) → slice_get ys hop ≡ Some x → (o : Out) → x.out ≡ o → hop + 1 ≡ length ys → u ≡ spot →
-          ExitLeads s.machine net.tree.edges u ys hop x o → leaves_there c (Core p) (slice_get ys hop) ≡ true
-      by_output x at (Link d) is last u_is leads =
-          let past : suc hop < length ys = place_below ys (suc hop) leads.1.0 leads.1.2 in absurd (omega arith)
-      by_output x at (Core q) is last u_is leads =
-          let target_is : spot ≡ record { chip = x.chip; core = q } = sym u_is ∙ leads.0 in
-          let same_c : c ≡ x.chip = ap (λ (z : Spot). z.chip) target_is in
-          let same_p : p ≡ q = ap (λ (z : Spot). z.core) target_is in
-          rw at (both_true (chip_eq x.chip c) (out_eq x.out (Core p))
-          (ap (λ (z : Chip). chip_eq x.chip z) same_c ∙ chip_eq_same x.chip)
-          (ap (λ (z : Out). out_eq z (Core p)) (is ∙ ap Core (sym same_p)) ∙ out_eq_same (Core p)))
+      by_end : (x : Exit) → slice_get ys hop ≡ Some x → hop + 1 ≡ length ys → u ≡ there.0 →
+          ExitLeads s.setup.machine net.tree.edges u ys hop x → leaves_there c o (slice_get ys hop) ≡ true
+      by_end x at last u_is (inl (d, out, in_tree, (y, far, next))) =
+          let past : suc hop < length ys = place_below ys (suc hop) y next in absurd (omega arith)
+      by_end x at last u_is (inr (chip, out, long)) =
+          let same_c : x.chip ≡ c = sym chip ∙ (ap (λ (z : Spot). z.chip) u_is ∙ there.2) in
+          let same_o : x.out ≡ o = out ∙ (ap (λ (z : Spot). out_of z.core) u_is ∙ there.3) in
+          rw at (both_true (chip_eq x.chip c) (out_eq x.out o)
+          (ap (λ (z : Chip). chip_eq z c) same_c ∙ chip_eq_same c)
+          (ap (λ (z : Out). out_eq z o) same_o ∙ out_eq_same o))
 
-      back : ((v == to') && (hop + 1 == length ys)) ≡ true → leaves_there c (Core p) (slice_get ys hop) ≡ true
+      back : ((v == to') && (hop + 1 == length ys)) ≡ true → leaves_there c o (slice_get ys hop) ≡ true
       back both =
           let same_v : v ≡ to' = nat_true v to' (and_true_left (v == to') (hop + 1 == length ys) both) in
           let last : hop + 1 ≡ length ys = nat_true (hop + 1) (length ys) (and_true_right (v == to') (hop + 1 == length ys) both) in
-          let on_u : slice_get s.spots to' ≡ Some u = vertex_at_stands s.spots u to' w'.ends in
-          let on_spot : slice_get s.spots v ≡ Some spot = vertex_at_stands s.spots spot v is_vertex in
-          let target_is : Some u ≡ Some spot = sym on_u ∙ (ap (slice_get s.spots) (sym same_v) ∙ on_spot) in
-          let u_is : u ≡ spot = cc in
+          let target_is : Some u ≡ Some there.0 = sym goal ∙ (ap (slice_get s.setup.spots) (sym same_v) ∙ there.1) in
+          let u_is : u ≡ there.0 = cc in
           let within : hop < length ys = omega arith in
           let exit = slice_get_there ys hop within in
-          by_output exit.0 exit.1 exit.0.out refl last u_is
-          (exit_leads s.machine net.tree.edges u net.tree.root ys hop exit.0 w'.is_branch exit.1)
+          by_end exit.0 exit.1 last u_is
+          (exit_leads s.setup.machine net.tree.edges u net.tree.root ys hop exit.0 w'.is_branch exit.1)
 
   -- Take: of the outputs that lookup gives, a branch that comes in there leaves by one, and any other by none.
   take_on : (t u : Spot) (xs ys : List Exit) (from from' to to' : ℕ) → Way t xs from to → Way u ys from' to' →
       (c : Chip) (port : Port) (k : McCopy) → IsKeyOf net.block k.key → on_trail from to xs k.hop (in_queue c port) ≡ true →
-      count_by (is_on_trail from' to' ys) (map (λ o. mark k (in_hand c o)) (outputs s c port k))
+      count_by (is_on_trail from' to' ys) (map (λ o. mark k (in_hand c o)) (outputs s.setup c port k))
       ≡ (if on_trail from' to' ys k.hop (in_queue c port) then 1 else 0)
   take_on t u xs ys from from' to to' w w' c port k is_key on =
       ap (λ os. count_by (is_on_trail from' to' ys) (map (λ o. mark k (in_hand c o)) os)) (outputs_are t xs from to w c port k on)
@@ -305,15 +344,15 @@ module _ (s : State) (net : NetPlan) (stands : Stands s net) where
       ∙ by_exit (slice_get ys k.hop) refl)
     where
       route : Route
-      route = lookup (table_at s.machine s.tables c) k.key port
+      route = lookup (table_at s.setup.machine s.setup.tables c) k.key port
 
       there : ComesThere xs k.hop c port
       there = comes_parts xs k.hop c port on
 
-      comes_in : ComesIn s.machine net.tree.root net.tree.edges c port
+      comes_in : ComesIn s.setup.machine net.tree.root net.tree.edges c port
       comes_in =
-          subst (λ (d : Chip). ComesIn s.machine net.tree.root net.tree.edges d port) there.chip
-          (subst (λ (p : Port). ComesIn s.machine net.tree.root net.tree.edges there.exit.chip p) there.port_is
+          subst (λ (d : Chip). ComesIn s.setup.machine net.tree.root net.tree.edges d port) there.chip
+          (subst (λ (p : Port). ComesIn s.setup.machine net.tree.root net.tree.edges there.exit.chip p) there.port_is
           (branch_comes_in s net t xs w.is_branch k.hop there.exit there.at))
 
       by_chip : (x : Exit) → slice_get ys k.hop ≡ Some x → (here : Bool) → chip_eq x.chip c ≡ here →
@@ -321,7 +360,7 @@ module _ (s : State) (net : NetPlan) (stands : Stands s net) where
       by_chip x at false other = count_none (outs_of route)
       by_chip x at true same =
           let x_c : x.chip ≡ c = chip_eq_true x.chip c same in
-          let valid : IsOutput x.out = exit_is_output s net stands u w'.is_target ys w'.is_branch k.hop x at in
+          let valid : IsOutput x.out = exit_is_output s net u ys w'.is_branch k.hop x at in
           let wanted : is_wanted net.tree.edges net.targets x.chip x.out ≡ true =
           exit_wanted s net u w'.is_target ys w'.is_branch k.hop x at
           in
@@ -353,16 +392,19 @@ module _ (s : State) (net : NetPlan) (stands : Stands s net) where
       p : Mark → Bool
       p = is_on_trail from' to' ys
 
+      -- a copy is on a trail in hand where it is on it dumped, and goes on from either
       crossing : (k : McCopy) (c : Chip) (o : Out) → Crosses s k c o come → on_trail from to xs k.hop (in_hand c o) ≡ true →
           count_by p come ≡ (if p (mark k (in_hand c o)) then 1 else 0)
-      crossing k c (Link d) cross on' =
-          let y : Mark = mark (onward k) (in_queue cross.0 (ByLink (opposite_of d))) in
-          ap (λ l. count_by p l) cross.3
-          ∙ one_for_one p (mark k (in_hand c (Link d))) y (link_on t u xs ys from from' to to' w w' c cross.0 d k.hop cross.2 on')
-      crossing k c (Core q) cross on' =
-          let y : Mark = mark (onward k) (at_core cross.0) in
-          ap (λ l. count_by p l) cross.2
-          ∙ one_for_one p (mark k (in_hand c (Core q))) y (core_on t u xs ys from from' to to' w w' c q cross.0 k.hop cross.1 on')
+      crossing k c o (inl (d, e, is_link, live, far, comes)) on' =
+          let y : Mark = mark (onward k) (in_queue e (ByLink (opposite_of d))) in
+          let on_link : on_trail from to xs k.hop (in_hand c (Link d)) ≡ true = ap (λ (q : Out). on_trail from to xs k.hop (in_hand c q)) (sym is_link) ∙ on' in
+          ap (λ l. count_by p l) comes
+          ∙ one_for_one p (mark k (in_hand c o)) y
+          (link_on t u xs ys from from' to to' w w' c e d k.hop live far on_link ∙ ap (λ (q : Out). on_trail from' to' ys k.hop (in_hand c q)) (sym is_link))
+      crossing k c o (inr (v, dead, vertex, comes)) on' =
+          let y : Mark = mark (onward k) (at_core v) in
+          ap (λ l. count_by p l) comes
+          ∙ one_for_one p (mark k (in_hand c o)) y (end_on t u xs ys from from' to to' w w' c o v k.hop dead vertex on')
 
       by_station : (k : McCopy) (at : Station) → IsMoveOf s k at come → IsKeyOf net.block k.key → on_trail from to xs k.hop at ≡ true →
           count_by p come ≡ (if on_trail from' to' ys k.hop at then 1 else 0)
@@ -376,7 +418,7 @@ module _ (s : State) (net : NetPlan) (stands : Stands s net) where
       by_station k (in_hand c o) (inr m) key on' = crossing k c o m on'
       by_station k (at_core v) m key on' = ap (λ l. count_by p l) m ∙ one_for_one p (mark k (at_core v)) (mark k (delivered v)) refl
       by_station k (delivered v) m key on' = absurd m
-      by_station k (dumped c o) m key on' = absurd m
+      by_station k (dumped c o) m key on' = crossing k c o m on'
 
   -- a mark stands on some trail of the net
   pub record OnSomeTrail (y : Mark) : Type 0 where
@@ -384,21 +426,21 @@ module _ (s : State) (net : NetPlan) (stands : Stands s net) where
     pub branch : List Exit
     pub from : ℕ
     pub to : ℕ
-    pub way : IsWayOf s net target branch from to
+    pub way : IsWayOn s.setup.machine s.setup.spots net target branch from to
     pub on : is_on_trail from to branch y ≡ true
 
   -- an output that lookup gives at a chip where a branch comes in lies on some branch, at the same place
   gives_trail : (t : Spot) (xs : List Exit) (from to : ℕ) → Way t xs from to → (c : Chip) (port : Port) (k : McCopy) →
-      IsKeyOf net.block k.key → on_trail from to xs k.hop (in_queue c port) ≡ true → (o : Out) → Among o (outputs s c port k) →
+      IsKeyOf net.block k.key → on_trail from to xs k.hop (in_queue c port) ≡ true → (o : Out) → Among o (outputs s.setup c port k) →
       OnSomeTrail (mark k (in_hand c o))
   gives_trail t xs from to w c port k is_key on o given =
       let there : ComesThere xs k.hop c port = comes_parts xs k.hop c port on in
-      let route : Route = lookup (table_at s.machine s.tables c) k.key port in
+      let route : Route = lookup (table_at s.setup.machine s.setup.tables c) k.key port in
       let in_route : Among o (outs_of route) = subst (λ (l : List Out). Among o l) (outputs_are t xs from to w c port k on) given in
       let has_it : has route o ≡ true = among_filter (has route) o all_outs in_route in
-      let comes_in : ComesIn s.machine net.tree.root net.tree.edges c port =
-      subst (λ (d : Chip). ComesIn s.machine net.tree.root net.tree.edges d port) there.chip
-      (subst (λ (p : Port). ComesIn s.machine net.tree.root net.tree.edges there.exit.chip p) there.port_is
+      let comes_in : ComesIn s.setup.machine net.tree.root net.tree.edges c port =
+      subst (λ (d : Chip). ComesIn s.setup.machine net.tree.root net.tree.edges d port) there.chip
+      (subst (λ (p : Port). ComesIn s.setup.machine net.tree.root net.tree.edges there.exit.chip p) there.port_is
       (branch_comes_in s net t xs w.is_branch k.hop there.exit there.at))
       in
       let wanted : is_wanted net.tree.edges net.targets c o ≡ true =
@@ -408,7 +450,7 @@ module _ (s : State) (net : NetPlan) (stands : Stands s net) where
       let one = one_place s net stands t other.target xs other.branch w.is_branch other.is_branch k.hop other.place there.exit
       (record { chip = c; out = o }) there.at other.at there.chip
       in
-      let end = vertex_there s.spots other.target (All-contains (Contains s.spots) net.targets other.target stands.targets other.is_target) in
+      let end = vertex_there s.setup.spots other.target (All-contains (Contains s.setup.spots) net.targets other.target stands.targets other.is_target) in
       record {
         target = other.target;
         branch = other.branch;
@@ -444,16 +486,17 @@ module _ (s : State) (net : NetPlan) (stands : Stands s net) where
           subst (λ (m : Mark). ComesRight (mark k at) m) (sym same)
           (record { packet = packet; key = key; payload = payload; trail = here z on' })
 
-      crossing : (k : McCopy) (c : Chip) (o : Out) → Crosses s k c o come → on_trail from to xs k.hop (in_hand c o) ≡ true → ComesRight (mark k (in_hand c o)) y
-      crossing k c (Link d) cross on' =
-          one k (in_hand c (Link d)) (mark (onward k) (in_queue cross.0 (ByLink (opposite_of d)))) cross.3 refl refl refl
-          (link_on t t xs xs from from to to w w c cross.0 d k.hop cross.2 on' ∙ on')
-      crossing k c (Core q) cross on' =
-          one k (in_hand c (Core q)) (mark (onward k) (at_core cross.0)) cross.2 refl refl refl
-          (core_on t t xs xs from from to to w w c q cross.0 k.hop cross.1 on' ∙ on')
+      crossing : (k : McCopy) (c : Chip) (o : Out) (at : Station) → Crosses s k c o come → on_trail from to xs k.hop (in_hand c o) ≡ true → ComesRight (mark k at) y
+      crossing k c o at (inl (d, e, is_link, live, far, comes)) on' =
+          let on_link : on_trail from to xs k.hop (in_hand c (Link d)) ≡ true = ap (λ (q : Out). on_trail from to xs k.hop (in_hand c q)) (sym is_link) ∙ on' in
+          one k at (mark (onward k) (in_queue e (ByLink (opposite_of d)))) comes refl refl refl
+          (link_on t t xs xs from from to to w w c e d k.hop live far on_link ∙ on_link)
+      crossing k c o at (inr (v, dead, vertex, comes)) on' =
+          one k at (mark (onward k) (at_core v)) comes refl refl refl
+          (end_on t t xs xs from from to to w w c o v k.hop dead vertex on' ∙ on')
 
       taking : (k : McCopy) (c : Chip) (port : Port) → IsKeyOf net.block k.key → on_trail from to xs k.hop (in_queue c port) ≡ true →
-          (os : List Out) → Among y (map (λ o. mark k (in_hand c o)) os) → ((o : Out) → Among o os → Among o (outputs s c port k)) →
+          (os : List Out) → Among y (map (λ o. mark k (in_hand c o)) os) → ((o : Out) → Among o os → Among o (outputs s.setup c port k)) →
           ComesRight (mark k (in_queue c port)) y
       taking k c port key on' [] a within = absurd a
       taking k c port key on' (o ∷ os) (inl same) within =
@@ -466,9 +509,9 @@ module _ (s : State) (net : NetPlan) (stands : Stands s net) where
           one k (unsent v) (mark k (in_queue m.0.chip Local)) m.2 refl refl refl
           (inject_on t t xs xs from from to to w w v m.0 k.hop m.1 on' ∙ on')
       by_station k (in_queue c port) m key on' =
-          taking k c port key on' (outputs s c port k) (subst (λ (l : List Mark). Among y l) m is_come) (λ o a. a)
+          taking k c port key on' (outputs s.setup c port k) (subst (λ (l : List Mark). Among y l) m is_come) (λ o a. a)
       by_station k (in_hand c o) (inl m) key on' = one k (in_hand c o) (mark k (dumped c o)) m refl refl refl on'
-      by_station k (in_hand c o) (inr m) key on' = crossing k c o m on'
+      by_station k (in_hand c o) (inr m) key on' = crossing k c o (in_hand c o) m on'
       by_station k (at_core v) m key on' = one k (at_core v) (mark k (delivered v)) m refl refl refl on'
       by_station k (delivered v) m key on' = absurd m
-      by_station k (dumped c o) m key on' = absurd m
+      by_station k (dumped c o) m key on' = crossing k c o (dumped c o) m on'

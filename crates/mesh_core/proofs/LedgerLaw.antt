@@ -5,49 +5,21 @@ use Rattle.std.proofs.lemmas.List.Elements.{All-contains}
 use Rattle.std.proofs.lemmas.Bool.{cases_order}
 use Rattle.std.proofs.lemmas.List.{get_or_default}
 use Rattle.spin_base.specs.declared.chips.Spot.{Spot}
-use Rattle.machine_desc.specs.Description.{Description}
 use Rattle.machine_desc.specs.RoutingTree.{IsRoutingTree}
-use Rattle.machine_desc.specs.Branch.{Exit, IsBranch}
+use Rattle.machine_desc.specs.Branch.{Exit}
 use Rattle.net_tables.specs.declared.nets.NetPlan.{NetPlan}
 use Rattle.net_tables.specs.RightTables.{IsKeyOf, RoutesByTree, AreRight}
-use Rattle.mesh_core.specs.State.{State, IsMesh, vertex_at}
+use Rattle.net_tables.specs.NetsOn.{HaveDisjointBlocks, AreNetsOn, IsWayOn}
+use Rattle.mesh_core.specs.State.{Setup, State, IsMesh}
 use Rattle.mesh_core.specs.Step.{last_hop}
 use Rattle.mesh_core.specs.Trail.{Station, unsent, in_queue, in_hand, at_core, delivered, dumped, Mark, on_trail, is_on_trail, is_packet_on_trail}
-use Rattle.mesh_core.specs.Ledger.{marks_of, AreNetsOf, HaveDisjointBlocks, Label, IsWayOf, MeetsLedger}
+use Rattle.mesh_core.specs.Ledger.{marks_of, Label, MeetsLedger}
 use Rattle.mesh_core.proofs.Exchange.{Among, among_contains, contains_among, count_taken_out, count_put_in, count_by-cons}
 use Rattle.mesh_core.proofs.Moves.{Exchange, IsMove}
 use Rattle.mesh_core.proofs.MarkTests.{mark_eq, mark_eq_same, mark_eq_true, rank, move_raises}
 use Rattle.mesh_core.proofs.Events.{and_true_left, and_true_right}
 use Rattle.mesh_core.proofs.Ways.{Stands, nat_true, short_branch, place_below}
 use Rattle.mesh_core.proofs.Law.{OnSomeTrail, move_comes, move_counts, count_none, comes_parts, leaves_parts}
-
--- ---- what the ledger says stays where machine and vertices stay
-
-record SameGround (s t : State) : Type 0 where
-  machine : t.machine ≡ s.machine
-  spots : t.spots ≡ s.spots
-
-nets_carried : (s t : State) → SameGround s t → (nets : List NetPlan) → AreNetsOf s nets → AreNetsOf t nets
-nets_carried s t same nets stand = record {
-  disjoint = stand.disjoint;
-  trees = subst (λ (m : Description). All (λ net. IsRoutingTree m net.tree.root net.tree.edges net.targets) nets) (sym same.machine) stand.trees;
-  roots = stand.roots;
-  sources = subst (λ (l : List Spot). All (λ net. Contains l net.source) nets) (sym same.spots) stand.sources;
-  targets = subst (λ (l : List Spot). All (λ net. All (Contains l) net.targets) nets) (sym same.spots) stand.targets;
-  different = stand.different;
-}
-
-way_carried : (s t : State) → SameGround s t → (net : NetPlan) (target : Spot) (branch : List Exit) (from to : ℕ) →
-    IsWayOf s net target branch from to → IsWayOf t net target branch from to
-way_carried s t same net target branch from to w = record {
-  is_target = w.is_target;
-  is_branch = subst (λ (m : Description). IsBranch m net.tree.root net.tree.edges target branch) (sym same.machine) w.is_branch;
-  begins = ap (λ (l : List Spot). vertex_at l net.source) same.spots ∙ w.begins;
-  ends = ap (λ (l : List Spot). vertex_at l target) same.spots ∙ w.ends;
-}
-
-turned : (s t : State) → SameGround s t → SameGround t s
-turned s t same = record { machine = sym same.machine; spots = sym same.spots }
 
 -- ---- the net of a key
 
@@ -116,9 +88,7 @@ count_come p (v ∷ moves) = count_by p v.come + count_come p moves
 pub record Bag (s t : State) : Type 0 where
   pub moves : List (Moved s)
   pub balance : (p : Mark → Bool) → count_by p (marks_of t) + count_left p moves ≡ count_by p (marks_of s) + count_come p moves
-  pub machine : t.machine ≡ s.machine
-  pub spots : t.spots ≡ s.spots
-  pub tables : t.tables ≡ s.tables
+  pub setup : t.setup ≡ s.setup
 
 -- An event is a bag of one move.
 pub bag_of_event : (s t : State) (e : Exchange s t) → e.leaves.copy.hop ≤ last_hop → Bag s t
@@ -128,9 +98,7 @@ bag_of_event s t e small = record {
       let before = count_taken_out p e.leaves (marks_of s) e.rest e.out in
       let after = count_put_in p e.come e.rest (marks_of t) e.put in
       omega arith;
-  machine = e.machine;
-  spots = e.spots;
-  tables = e.tables;
+  setup = e.setup;
 }
 
 -- ---- counts and members
@@ -160,16 +128,16 @@ among_of_count x (y ∷ xs) some =
 -- ---- the law
 
 module _ (s t : State) (nets : List NetPlan) (labels : ℕ → Label)
-    (mesh : IsMesh s) (right : AreRight s.machine s.tables nets) (ledger : MeetsLedger s nets labels) where
+    (mesh : IsMesh s) (right : AreRight s.setup.machine s.setup.tables nets) (ledger : MeetsLedger s nets labels) where
   -- a net of the list stands on the mesh
   pub stands : (net : NetPlan) → Contains nets net → Stands s net
   stands net has = record {
     mesh = mesh;
-    tree = All-contains (λ n. IsRoutingTree s.machine n.tree.root n.tree.edges n.targets) nets net ledger.nets_stand.trees has;
+    tree = All-contains (λ n. IsRoutingTree s.setup.machine n.tree.root n.tree.edges n.targets) nets net ledger.nets_stand.trees has;
     root = All-contains (λ n. n.tree.root ≡ n.source.chip) nets net ledger.nets_stand.roots has;
-    source = All-contains (λ n. Contains s.spots n.source) nets net ledger.nets_stand.sources has;
-    targets = All-contains (λ n. All (Contains s.spots) n.targets) nets net ledger.nets_stand.targets has;
-    right = All-contains (RoutesByTree s.machine s.tables) nets net right has;
+    source = All-contains (λ n. Contains s.setup.spots n.source) nets net ledger.nets_stand.sources has;
+    targets = All-contains (λ n. All (Contains s.setup.spots) n.targets) nets net ledger.nets_stand.targets has;
+    right = All-contains (RoutesByTree s.setup.machine s.setup.tables) nets net right has;
   }
 
   -- What the ledger asks of one mark, and that its packet had a mark before.
@@ -291,7 +259,7 @@ module _ (s t : State) (nets : List NetPlan) (labels : ℕ → Label)
 
     -- one move keeps the count of a packet on a trail
     one_move : (n : ℕ) (net : NetPlan) → Contains nets net → IsKeyOf net.block (labels n).key →
-        (target : Spot) (branch : List Exit) (from to : ℕ) → IsWayOf s net target branch from to → (v : Moved s) → Among v bag.moves →
+        (target : Spot) (branch : List Exit) (from to : ℕ) → IsWayOn s.setup.machine s.setup.spots net target branch from to → (v : Moved s) → Among v bag.moves →
         count_by (is_packet_on_trail n from to branch) v.come ≡ (if is_packet_on_trail n from to branch v.leaves then 1 else 0)
     one_move n net has key target branch from to w v a =
         count_of_packet n v.leaves.copy.packet from to branch v.come packets (v.leaves.copy.packet == n) refl v.leaves refl counted
@@ -312,10 +280,10 @@ module _ (s t : State) (nets : List NetPlan) (labels : ℕ → Label)
             one_net nets ledger.nets_stand.disjoint r.net net r.in_nets has v.leaves.copy.key r.is_key (subst (λ i. IsKeyOf net.block i) (sym its_key) key)
             in
             move_counts s r.net (stands r.net r.in_nets) r.trail.target target r.trail.branch branch r.trail.from from r.trail.to to r.trail.way
-            (subst (λ (m : NetPlan). IsWayOf s m target branch from to) (sym one) w) v.leaves v.come v.is_move r.is_key r.trail.on
+            (subst (λ (m : NetPlan). IsWayOn s.setup.machine s.setup.spots m target branch from to) (sym one) w) v.leaves v.come v.is_move r.is_key r.trail.on
 
     all_moves : (n : ℕ) (net : NetPlan) → Contains nets net → IsKeyOf net.block (labels n).key →
-        (target : Spot) (branch : List Exit) (from to : ℕ) → IsWayOf s net target branch from to →
+        (target : Spot) (branch : List Exit) (from to : ℕ) → IsWayOn s.setup.machine s.setup.spots net target branch from to →
         (moves : List (Moved s)) → ((v : Moved s) → Among v moves → Among v bag.moves) →
         count_come (is_packet_on_trail n from to branch) moves ≡ count_left (is_packet_on_trail n from to branch) moves
     all_moves n net has key target branch from to w [] within = refl
@@ -324,13 +292,10 @@ module _ (s t : State) (nets : List NetPlan) (labels : ℕ → Label)
         let rest = all_moves n net has key target branch from to w moves (λ u a. within u (inr a)) in
         omega arith
 
-    ground : SameGround s t
-    ground = record { machine = bag.machine; spots = bag.spots }
-
     -- The ledger is kept by a bag of moves.
     pub bag_keeps_ledger : MeetsLedger t nets labels
     bag_keeps_ledger = record {
-      nets_stand = nets_carried s t ground nets ledger.nets_stand;
+      nets_stand = subst (λ (u : Setup). AreNetsOn u.machine u.spots nets) (sym bag.setup) ledger.nets_stand;
       labelled = λ k has. let r = now_right k has in (r.key, r.payload);
       on_a_trail = λ k has.
           let r = now_right k has in (
@@ -342,7 +307,7 @@ module _ (s t : State) (nets : List NetPlan) (labels : ℕ → Label)
               r.trail.branch,
               r.trail.from,
               r.trail.to,
-              way_carried s t ground r.net r.trail.target r.trail.branch r.trail.from r.trail.to r.trail.way,
+              subst (λ (u : Setup). IsWayOn u.machine u.spots r.net r.trail.target r.trail.branch r.trail.from r.trail.to) (sym bag.setup) r.trail.way,
               r.trail.on,
             ),
           );
@@ -353,13 +318,13 @@ module _ (s t : State) (nets : List NetPlan) (labels : ℕ → Label)
         now_right k has = all_right k (now_occurs k (contains_among k (marks_of t) has))
 
         once_now : (k : Mark) → Contains (marks_of t) k → (net : NetPlan) → Contains nets net → IsKeyOf net.block k.copy.key →
-            (target : Spot) (branch : List Exit) (from to : ℕ) → IsWayOf t net target branch from to →
+            (target : Spot) (branch : List Exit) (from to : ℕ) → IsWayOn t.setup.machine t.setup.spots net target branch from to →
             count_by (is_packet_on_trail k.copy.packet from to branch) (marks_of t) ≡ 1
         once_now k has net in_list key target branch from to w =
             let r = now_right k has in
             let n : ℕ = k.copy.packet in
             let p : Mark → Bool = is_packet_on_trail n from to branch in
-            let w_s = way_carried t s (turned s t ground) net target branch from to w in
+            let w_s : IsWayOn s.setup.machine s.setup.spots net target branch from to = subst (λ (u : Setup). IsWayOn u.machine u.spots net target branch from to) bag.setup w in
             let label_key : IsKeyOf net.block (labels n).key = subst (λ i. IsKeyOf net.block i) r.key key in
             let even = bag.balance p in
             let moved = all_moves n net in_list label_key target branch from to w_s bag.moves (λ v a. a) in

@@ -1,3 +1,4 @@
+pub mod AskedPackets
 pub mod Changes
 pub mod DeliveredLaw
 pub mod Events
@@ -16,6 +17,7 @@ pub mod QueueLists
 pub mod Searching
 pub mod ServingLaws
 pub mod Standing
+pub mod StepLedger
 pub mod StepParts
 pub mod VertexTableLaws
 pub mod WalkingUp

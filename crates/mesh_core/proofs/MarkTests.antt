@@ -4,7 +4,6 @@ use Rattle.spin_base.specs.declared.chips.Chip.{Chip}
 use Rattle.spin_base.specs.declared.chips.Port.{Port}
 use Rattle.spin_base.specs.declared.chips.Port.TheVariants.{Link as ByLink, Local}
 use Rattle.spin_base.specs.declared.routes.Out.{Out}
-use Rattle.spin_base.specs.declared.routes.Out.TheVariants.{Link, Core}
 use Rattle.spin_base.specs.declared.copies.McCopy.{McCopy}
 use Rattle.spin_base.specs.Links.{opposite_of}
 use Rattle.spin_base.specs.Lookup.{lookup}
@@ -114,19 +113,20 @@ mark_eq_true a b e =
 
 -- ---- a number that each move raises
 
--- how far a station is on, at one hop number; at the greatest hop number a hand comes before the queues
+-- how far a station is on, at one hop number; at the greatest hop number hands and dump records come before the queues
 abbrev stage : Bool → Station → ℕ
 stage last (unsent v) = 0
-stage true (in_queue c p) = 2
+stage true (in_queue c p) = 3
 stage false (in_queue c p) = 1
 stage true (in_hand c o) = 1
 stage false (in_hand c o) = 2
-stage last (at_core v) = 2
-stage last (delivered v) = 3
-stage last (dumped c o) = 3
+stage true (dumped c o) = 2
+stage false (dumped c o) = 3
+stage last (at_core v) = 3
+stage last (delivered v) = 4
 
 pub rank : Mark → ℕ
-rank x = 4 * x.copy.hop + stage (x.copy.hop == last_hop) x.station
+rank x = 5 * x.copy.hop + stage (x.copy.hop == last_hop) x.station
 
 -- a station further on, of the same copy
 same_copy_raises : (k : McCopy) (at to : Station) → ((last : Bool) → stage last at < stage last to) → rank (mark k at) < rank (mark k to)
@@ -142,16 +142,17 @@ dump_raises true c o = omega arith
 dump_raises false c o = omega arith
 
 -- a station behind a router, of the copy with one hop more
-onward_raises : (k : McCopy) (c : Chip) (o : Out) (to : Station) → ((last : Bool) → 1 ≤ stage last to) → stage true to ≡ 2 → k.hop ≤ last_hop →
-    (last : Bool) → (k.hop == last_hop) ≡ last → 4 * k.hop + stage last (in_hand c o) < 4 * min (k.hop + 1) last_hop + stage (min (k.hop + 1) last_hop == last_hop) to
-onward_raises k c o to from_one two within true is =
+onward_raises : (k : McCopy) (at to : Station) → ((last : Bool) → stage last at ≤ 3) → stage true at ≤ 2 → ((last : Bool) → 1 ≤ stage last to) → stage true to ≡ 3 → k.hop ≤ last_hop →
+    (last : Bool) → (k.hop == last_hop) ≡ last → 5 * k.hop + stage last at < 5 * min (k.hop + 1) last_hop + stage (min (k.hop + 1) last_hop == last_hop) to
+onward_raises k at to to_three to_two from_one three within true is =
     let here : k.hop ≡ last_hop = nat_true k.hop last_hop is in
     let there : min (k.hop + 1) last_hop ≡ last_hop = omega arith in
     let test : (min (k.hop + 1) last_hop == last_hop) ≡ true = nat_same (min (k.hop + 1) last_hop) last_hop there in
-    rw (test, two) (omega arith)
-onward_raises k c o to from_one two within false is =
+    rw (test, three) (omega arith)
+onward_raises k at to to_three to_two from_one three within false is =
     let below : k.hop < last_hop = below_last k.hop within is in
     let next : min (k.hop + 1) last_hop ≡ k.hop + 1 = omega arith in
+    let low : stage false at ≤ 3 = to_three false in
     let some = from_one (min (k.hop + 1) last_hop == last_hop) in
     omega arith
   where
@@ -173,13 +174,23 @@ move_raises s x come within move y is_come = by_station x.copy x.station within 
     in_queue_stage true c p = omega arith
     in_queue_stage false c p = omega arith
 
-    crossing : (k : McCopy) (c : Chip) (o : Out) → k.hop ≤ last_hop → Crosses s k c o come → rank (mark k (in_hand c o)) < rank y
-    crossing k c (Link d) small cross =
-        subst (λ (z : Mark). rank (mark k (in_hand c (Link d))) < rank z) (sym (only (mark (onward k) (in_queue cross.0 (ByLink (opposite_of d)))) cross.3))
-        (onward_raises k c (Link d) (in_queue cross.0 (ByLink (opposite_of d))) (λ last. in_queue_stage last cross.0 (ByLink (opposite_of d))) refl small (k.hop == last_hop) refl)
-    crossing k c (Core q) small cross =
-        subst (λ (z : Mark). rank (mark k (in_hand c (Core q))) < rank z) (sym (only (mark (onward k) (at_core cross.0)) cross.2))
-        (onward_raises k c (Core q) (at_core cross.0) (λ last. omega arith) refl small (k.hop == last_hop) refl)
+    crossing : (k : McCopy) (c : Chip) (o : Out) (at : Station) → ((last : Bool) → stage last at ≤ 3) → stage true at ≤ 2 → k.hop ≤ last_hop → Crosses s k c o come →
+        rank (mark k at) < rank y
+    crossing k c o at to_three to_two small (inl cross) =
+        let to : Station = in_queue cross.1 (ByLink (opposite_of cross.0)) in
+        subst (λ (z : Mark). rank (mark k at) < rank z) (sym (only (mark (onward k) to) cross.5))
+        (onward_raises k at to to_three to_two (λ last. in_queue_stage last cross.1 (ByLink (opposite_of cross.0))) refl small (k.hop == last_hop) refl)
+    crossing k c o at to_three to_two small (inr cross) =
+        subst (λ (z : Mark). rank (mark k at) < rank z) (sym (only (mark (onward k) (at_core cross.0)) cross.3))
+        (onward_raises k at (at_core cross.0) to_three to_two (λ last. omega arith) refl small (k.hop == last_hop) refl)
+
+    held_stage : (last : Bool) (c : Chip) (o : Out) → stage last (in_hand c o) ≤ 3
+    held_stage true c o = omega arith
+    held_stage false c o = omega arith
+
+    dumped_stage : (last : Bool) (c : Chip) (o : Out) → stage last (dumped c o) ≤ 3
+    dumped_stage true c o = omega arith
+    dumped_stage false c o = omega arith
 
     taking : (k : McCopy) (c : Chip) (port : Port) → (last : Bool) → (k.hop == last_hop) ≡ last → (os : List Out) →
         Among y (map (λ o. mark k (in_hand c o)) (if last then [] else os)) → rank (mark k (in_queue c port)) < rank y
@@ -193,9 +204,9 @@ move_raises s x come within move y is_come = by_station x.copy x.station within 
     by_station : (k : McCopy) (at : Station) → k.hop ≤ last_hop → IsMoveOf s k at come → rank (mark k at) < rank y
     by_station k (unsent v) small m = one k (unsent v) (in_queue m.0.chip Local) m.2 (λ last. queue_raises last v m.0.chip Local)
     by_station k (in_queue c port) small m =
-        taking k c port (k.hop == last_hop) refl (outs_of (lookup (table_at s.machine s.tables c) k.key port)) (subst (λ (l : List Mark). Among y l) m is_come)
+        taking k c port (k.hop == last_hop) refl (outs_of (lookup (table_at s.setup.machine s.setup.tables c) k.key port)) (subst (λ (l : List Mark). Among y l) m is_come)
     by_station k (in_hand c o) small (inl m) = one k (in_hand c o) (dumped c o) m (λ last. dump_raises last c o)
-    by_station k (in_hand c o) small (inr m) = crossing k c o small m
+    by_station k (in_hand c o) small (inr m) = crossing k c o (in_hand c o) (λ last. held_stage last c o) (omega arith) small m
     by_station k (at_core v) small m = one k (at_core v) (delivered v) m (λ last. omega arith)
     by_station k (delivered v) small m = absurd m
-    by_station k (dumped c o) small m = absurd m
+    by_station k (dumped c o) small m = crossing k c o (dumped c o) (λ last. dumped_stage last c o) (omega arith) small m

@@ -1,8 +1,9 @@
 -- What one event does to the marks of a mesh: one mark leaves, and others come in its place.
-use Rattle.std.proofs.Common.{◌≡◌, ℕ, ◌+◌, ◌*◌, ◌/◌, ◌%◌, ◌<◌, List, [], ◌∷◌, ◌++◌, map, Option, Some, refl, ap, sym, ◌∙◌, subst, arith, zero-add, append-nil, ◌⊎◌}
+use Rattle.std.proofs.Common.{◌≡◌, ℕ, ◌+◌, ◌*◌, ◌/◌, ◌%◌, ◌<◌, false, List, [], ◌∷◌, ◌++◌, map, Option, Some, refl, ap, sym, ◌∙◌, subst, arith, zero-add, append-nil, ◌⊎◌}
 use Rattle.std.specs.List.{slice_get, slice_set}
 use Rattle.std.proofs.lemmas.List.{map-append}
 use Rattle.spin_base.specs.declared.chips.Chip.{Chip}
+use Rattle.spin_base.specs.declared.chips.Dir.{Dir}
 use Rattle.spin_base.specs.declared.chips.Dir.TheVariants.{East, NorthEast, North, West, SouthWest, South}
 use Rattle.spin_base.specs.declared.chips.Spot.{Spot}
 use Rattle.spin_base.specs.declared.chips.Port.{Port}
@@ -15,10 +16,10 @@ use Rattle.spin_base.specs.declared.copies.DumpRec.{DumpRec}
 use Rattle.spin_base.specs.Links.{opposite_of, port_number}
 use Rattle.spin_base.proofs.Outputs.{dir_number_below}
 use Rattle.machine_desc.specs.Description.{Description}
-use Rattle.machine_desc.specs.Live.{far_of, index_of, chip_of, IsInside, IsLiveLink}
+use Rattle.machine_desc.specs.Live.{far_of, index_of, chip_of, is_live_link, IsInside, IsLiveLink}
 use Rattle.machine_desc.proofs.Far.{same_index, index_below}
 use Rattle.machine_desc.proofs.Live.{chip_of-inside, index_of-chip_of}
-use Rattle.mesh_core.specs.State.{State, Held, queue_at, vertex_at}
+use Rattle.mesh_core.specs.State.{State, Held, queue_at, vertex_behind}
 use Rattle.mesh_core.specs.Step.{in_hand as held_for, outputs, onward}
 use Rattle.mesh_core.specs.Trail.{Station, unsent, in_queue, in_hand, at_core, delivered, dumped, Mark}
 use Rattle.mesh_core.specs.Ledger.{marks_of, marked, hand_marks, port_of, unsent_marks, input_marks, all_hand_marks, core_marks, delivered_marks, dumped_marks}
@@ -27,28 +28,30 @@ use Rattle.mesh_core.proofs.Exchange.{TakenOut, PutIn, taken_out_after, taken_ou
 abbrev pub mark : McCopy → Station → Mark
 mark k at = record { copy = k; station = at }
 
--- A copy leaves a hand by an output behind which there is a queue, into that queue.
+-- A copy leaves a hand by an output behind which there is a queue, into that queue: at the far end of a live link, else that of
+-- the vertex to which the output leads.
 abbrev pub Crosses : State → McCopy → Chip → Out → List Mark → Type 0
-Crosses s k c (Link d) ys =
-    (e : Chip) × IsLiveLink s.machine c d × (far_of s.machine c d ≡ Some e) × (ys ≡ mark (onward k) (in_queue e (ByLink (opposite_of d))) ∷ [])
-Crosses s k c (Core p) ys =
-    (v : ℕ) × (vertex_at s.spots (record { chip = c; core = p }) ≡ Some v) × (ys ≡ mark (onward k) (at_core v) ∷ [])
+Crosses s k c o ys =
+    ((d : Dir) × (e : Chip) × (o ≡ Link d) × IsLiveLink s.setup.machine c d × (far_of s.setup.machine c d ≡ Some e) ×
+    (ys ≡ mark (onward k) (in_queue e (ByLink (opposite_of d))) ∷ []))
+    ⊎ ((v : ℕ) × ((d : Dir) → o ≡ Link d → is_live_link s.setup.machine c d ≡ false) × (vertex_behind s.setup.spots c o ≡ Some v) ×
+    (ys ≡ mark (onward k) (at_core v) ∷ []))
 
 -- What comes in the place of a mark that leaves: of an unsent copy one in the injection queue of its vertex's chip; of
 -- one in a queue one in the hand for each output that lookup gives; of one in a hand a dump record, or one in the queue
--- behind the output; of one at a core a delivery. Deliveries and dump records stay.
+-- behind the output; of one at a core a delivery; of a dump record one in the queue behind its output. Deliveries stay.
 abbrev pub IsMoveOf : State → McCopy → Station → List Mark → Type 0
-IsMoveOf s k (unsent v) ys = (spot : Spot) × (slice_get s.spots v ≡ Some spot) × (ys ≡ mark k (in_queue spot.chip Local) ∷ [])
-IsMoveOf s k (in_queue c port) ys = ys ≡ map (λ o. mark k (in_hand c o)) (outputs s c port k)
+IsMoveOf s k (unsent v) ys = (spot : Spot) × (slice_get s.setup.spots v ≡ Some spot) × (ys ≡ mark k (in_queue spot.chip Local) ∷ [])
+IsMoveOf s k (in_queue c port) ys = ys ≡ map (λ o. mark k (in_hand c o)) (outputs s.setup c port k)
 IsMoveOf s k (in_hand c o) ys = (ys ≡ mark k (dumped c o) ∷ []) ⊎ Crosses s k c o ys
 IsMoveOf s k (at_core v) ys = ys ≡ mark k (delivered v) ∷ []
 IsMoveOf s k (delivered v) ys = ⊥
-IsMoveOf s k (dumped c o) ys = ⊥
+IsMoveOf s k (dumped c o) ys = Crosses s k c o ys
 
 abbrev pub IsMove : State → Mark → List Mark → Type 0
 IsMove s x ys = IsMoveOf s x.copy x.station ys
 
--- What an event that is enabled does: one move.
+-- What an event that is enabled does, or putting a copy back: one move.
 pub record Exchange (s t : State) : Type 0 where
   pub leaves : Mark
   pub come : List Mark
@@ -56,10 +59,7 @@ pub record Exchange (s t : State) : Type 0 where
   pub out : TakenOut leaves (marks_of s) rest
   pub put : PutIn come rest (marks_of t)
   pub move : IsMove s leaves come
-  pub machine : t.machine ≡ s.machine
-  pub spots : t.spots ≡ s.spots
-  pub tables : t.tables ≡ s.tables
-  pub capacity : t.capacity ≡ s.capacity
+  pub setup : t.setup ≡ s.setup
 
 -- ---- the numbers of queues
 
@@ -120,61 +120,61 @@ unsent_out s v k q at =
     (taken_out_gathered (λ w copies. marked (unsent w) copies) (mark k (unsent v)) 0 s.unsent v (k ∷ q) q at
     (subst (λ n. TakenOut (mark k (unsent v)) (marked (unsent n) (k ∷ q)) (marked (unsent n) q)) n_is (front_out (unsent v) k q)))
 
-pub input_out : (s : State) (c : Chip) (port : Port) → IsInside s.machine c → (k : McCopy) (q : List McCopy) →
-    slice_get s.inputs (queue_at s.machine c port) ≡ Some (k ∷ q) →
-    TakenOut (mark k (in_queue c port)) (marks_of s) (marks_of (record s { inputs = slice_set s.inputs (queue_at s.machine c port) q }))
+pub input_out : (s : State) (c : Chip) (port : Port) → IsInside s.setup.machine c → (k : McCopy) (q : List McCopy) →
+    slice_get s.inputs (queue_at s.setup.machine c port) ≡ Some (k ∷ q) →
+    TakenOut (mark k (in_queue c port)) (marks_of s) (marks_of (record s { inputs = slice_set s.inputs (queue_at s.setup.machine c port) q }))
 input_out s c port inside k q at =
-    let i = queue_at s.machine c port in
+    let i = queue_at s.setup.machine c port in
     let s' : State = record s { inputs = slice_set s.inputs i q } in
     taken_out_after (mark k (in_queue c port)) (unsent_marks s) (behind_unsent s) (behind_unsent s')
     (taken_out_before (mark k (in_queue c port)) (input_marks s) (input_marks s')
     (all_hand_marks s ++ (core_marks s ++ (delivered_marks s ++ dumped_marks s)))
-    (taken_out_gathered (λ n copies. marked (in_queue (chip_of s.machine (n / 7)) (port_of (n % 7))) copies)
+    (taken_out_gathered (λ n copies. marked (in_queue (chip_of s.setup.machine (n / 7)) (port_of (n % 7))) copies)
     (mark k (in_queue c port)) 0 s.inputs i (k ∷ q) q at
     (subst (λ st. TakenOut (mark k (in_queue c port)) (marked st (k ∷ q)) (marked st q))
-    (sym (station_of_queue s.machine c port inside)) (front_out (in_queue c port) k q))))
+    (sym (station_of_queue s.setup.machine c port inside)) (front_out (in_queue c port) k q))))
 
-pub input_in : (s : State) (c : Chip) (port : Port) → IsInside s.machine c → (k : McCopy) (q : List McCopy) →
-    slice_get s.inputs (queue_at s.machine c port) ≡ Some q →
-    PutIn (mark k (in_queue c port) ∷ []) (marks_of s) (marks_of (record s { inputs = slice_set s.inputs (queue_at s.machine c port) (q ++ k ∷ []) }))
+pub input_in : (s : State) (c : Chip) (port : Port) → IsInside s.setup.machine c → (k : McCopy) (q : List McCopy) →
+    slice_get s.inputs (queue_at s.setup.machine c port) ≡ Some q →
+    PutIn (mark k (in_queue c port) ∷ []) (marks_of s) (marks_of (record s { inputs = slice_set s.inputs (queue_at s.setup.machine c port) (q ++ k ∷ []) }))
 input_in s c port inside k q at =
-    let i = queue_at s.machine c port in
+    let i = queue_at s.setup.machine c port in
     let s' : State = record s { inputs = slice_set s.inputs i (q ++ k ∷ []) } in
     put_in_after (mark k (in_queue c port) ∷ []) (unsent_marks s) (behind_unsent s) (behind_unsent s')
     (put_in_before (mark k (in_queue c port) ∷ []) (input_marks s) (input_marks s')
     (all_hand_marks s ++ (core_marks s ++ (delivered_marks s ++ dumped_marks s)))
-    (put_in_gathered (λ n copies. marked (in_queue (chip_of s.machine (n / 7)) (port_of (n % 7))) copies)
+    (put_in_gathered (λ n copies. marked (in_queue (chip_of s.setup.machine (n / 7)) (port_of (n % 7))) copies)
     (mark k (in_queue c port) ∷ []) 0 s.inputs i q (q ++ k ∷ []) at
     (subst (λ st. PutIn (mark k (in_queue c port) ∷ []) (marked st q) (marked st (q ++ k ∷ [])))
-    (sym (station_of_queue s.machine c port inside)) (back_in (in_queue c port) k q))))
+    (sym (station_of_queue s.setup.machine c port inside)) (back_in (in_queue c port) k q))))
 
 -- the same for the hands: a hand's marks change as the hand does
-pub hand_out : (s : State) (c : Chip) → IsInside s.machine c → (old new : Option Held) (x : Mark) →
-    slice_get s.hands (index_of s.machine c) ≡ Some old → TakenOut x (hand_marks c old) (hand_marks c new) →
-    TakenOut x (marks_of s) (marks_of (record s { hands = slice_set s.hands (index_of s.machine c) new }))
+pub hand_out : (s : State) (c : Chip) → IsInside s.setup.machine c → (old new : Option Held) (x : Mark) →
+    slice_get s.hands (index_of s.setup.machine c) ≡ Some old → TakenOut x (hand_marks c old) (hand_marks c new) →
+    TakenOut x (marks_of s) (marks_of (record s { hands = slice_set s.hands (index_of s.setup.machine c) new }))
 hand_out s c inside old new x at t =
-    let i = index_of s.machine c in
+    let i = index_of s.setup.machine c in
     let s' : State = record s { hands = slice_set s.hands i new } in
-    let n_is : chip_of s.machine (0 + i) ≡ c = ap (chip_of s.machine) (zero-add i) ∙ chip_of-index_of s.machine c inside in
+    let n_is : chip_of s.setup.machine (0 + i) ≡ c = ap (chip_of s.setup.machine) (zero-add i) ∙ chip_of-index_of s.setup.machine c inside in
     taken_out_after x (unsent_marks s) (behind_unsent s) (behind_unsent s')
     (taken_out_after x (input_marks s) (all_hand_marks s ++ (core_marks s ++ (delivered_marks s ++ dumped_marks s)))
     (all_hand_marks s' ++ (core_marks s ++ (delivered_marks s ++ dumped_marks s)))
     (taken_out_before x (all_hand_marks s) (all_hand_marks s') (core_marks s ++ (delivered_marks s ++ dumped_marks s))
-    (taken_out_gathered (λ n h. hand_marks (chip_of s.machine n) h) x 0 s.hands i old new at
+    (taken_out_gathered (λ n h. hand_marks (chip_of s.setup.machine n) h) x 0 s.hands i old new at
     (subst (λ d. TakenOut x (hand_marks d old) (hand_marks d new)) (sym n_is) t))))
 
-pub hand_in : (s : State) (c : Chip) → IsInside s.machine c → (old new : Option Held) (xs : List Mark) →
-    slice_get s.hands (index_of s.machine c) ≡ Some old → PutIn xs (hand_marks c old) (hand_marks c new) →
-    PutIn xs (marks_of s) (marks_of (record s { hands = slice_set s.hands (index_of s.machine c) new }))
+pub hand_in : (s : State) (c : Chip) → IsInside s.setup.machine c → (old new : Option Held) (xs : List Mark) →
+    slice_get s.hands (index_of s.setup.machine c) ≡ Some old → PutIn xs (hand_marks c old) (hand_marks c new) →
+    PutIn xs (marks_of s) (marks_of (record s { hands = slice_set s.hands (index_of s.setup.machine c) new }))
 hand_in s c inside old new xs at t =
-    let i = index_of s.machine c in
+    let i = index_of s.setup.machine c in
     let s' : State = record s { hands = slice_set s.hands i new } in
-    let n_is : chip_of s.machine (0 + i) ≡ c = ap (chip_of s.machine) (zero-add i) ∙ chip_of-index_of s.machine c inside in
+    let n_is : chip_of s.setup.machine (0 + i) ≡ c = ap (chip_of s.setup.machine) (zero-add i) ∙ chip_of-index_of s.setup.machine c inside in
     put_in_after xs (unsent_marks s) (behind_unsent s) (behind_unsent s')
     (put_in_after xs (input_marks s) (all_hand_marks s ++ (core_marks s ++ (delivered_marks s ++ dumped_marks s)))
     (all_hand_marks s' ++ (core_marks s ++ (delivered_marks s ++ dumped_marks s)))
     (put_in_before xs (all_hand_marks s) (all_hand_marks s') (core_marks s ++ (delivered_marks s ++ dumped_marks s))
-    (put_in_gathered (λ n h. hand_marks (chip_of s.machine n) h) xs 0 s.hands i old new at
+    (put_in_gathered (λ n h. hand_marks (chip_of s.setup.machine n) h) xs 0 s.hands i old new at
     (subst (λ d. PutIn xs (hand_marks d old) (hand_marks d new)) (sym n_is) t))))
 
 pub core_out : (s : State) (v : ℕ) (k : McCopy) (q : List McCopy) → slice_get s.cores v ≡ Some (k ∷ q) →
@@ -239,4 +239,22 @@ dumped_in s c o k =
       back = [];
       before_is = sym (append-nil (dumped_marks s));
       after_is = map-append (λ (e : DumpRec). mark e.copy (dumped e.chip e.out)) s.dumped (r ∷ []);
+    })))))
+
+-- the first dump record leaves
+pub dumped_out : (s : State) (r : DumpRec) (rest : List DumpRec) → s.dumped ≡ r ∷ rest →
+    TakenOut (mark r.copy (dumped r.chip r.out)) (marks_of s) (marks_of (record s { dumped = rest }))
+dumped_out s r rest is =
+    let s' : State = record s { dumped = rest } in
+    let x : Mark = mark r.copy (dumped r.chip r.out) in
+    taken_out_after x (unsent_marks s) (behind_unsent s) (behind_unsent s')
+    (taken_out_after x (input_marks s) (all_hand_marks s ++ (core_marks s ++ (delivered_marks s ++ dumped_marks s)))
+    (all_hand_marks s ++ (core_marks s ++ (delivered_marks s ++ dumped_marks s')))
+    (taken_out_after x (all_hand_marks s) (core_marks s ++ (delivered_marks s ++ dumped_marks s)) (core_marks s ++ (delivered_marks s ++ dumped_marks s'))
+    (taken_out_after x (core_marks s) (delivered_marks s ++ dumped_marks s) (delivered_marks s ++ dumped_marks s')
+    (taken_out_after x (delivered_marks s) (dumped_marks s) (dumped_marks s') (record {
+      front = [];
+      back = dumped_marks s';
+      before_is = ap (map (λ (e : DumpRec). mark e.copy (dumped e.chip e.out))) is;
+      after_is = refl;
     })))))

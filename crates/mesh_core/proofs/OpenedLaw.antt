@@ -1,25 +1,26 @@
 -- The opened mesh of a job meets the ledger of the job.
-use Rattle.std.proofs.Common.{◌≡◌, ◌≢◌, ℕ, ◌+◌, ◌*◌, ◌/◌, ◌%◌, ◌<◌, List, [], ◌∷◌, Bool, true, false, ◌==◌, ◌&&◌, IsTrue, if◌then◌else◌, Option, Some, None, refl, ap, sym, ◌∙◌, subst, arith, append-nil, inl, inr, length, count_by}
-use Rattle.std.specs.List.{slice_get, slice_index_or, All, Contains}
+use Rattle.std.proofs.Common.{◌≡◌, ◌≢◌, ℕ, ◌+◌, ◌*◌, ◌/◌, ◌%◌, ◌<◌, List, [], ◌∷◌, Bool, true, false, ◌==◌, ◌&&◌, IsTrue, if◌then◌else◌, Option, Some, None, refl, ap, sym, ◌∙◌, subst, arith, append-nil, inl, inr, length, count_by, suc, zero}
+use Rattle.std.specs.List.{slice_get, slice_index_or, range_with_len, All, Contains}
 use Rattle.std.specs.Option.{option_map_or}
-use Rattle.std.proofs.lemmas.List.Elements.{All-contains}
+use Rattle.std.proofs.lemmas.List.Elements.{All-contains, All-map}
+use Rattle.std.proofs.lemmas.List.FromFn.{length-map-range_with_len}
 use Rattle.std.proofs.lemmas.List.{length-map}
-use Rattle.std.proofs.lemmas.Option.{slice_get_within, get_or_from_slice_get, slice_get-get_or}
 use Rattle.spin_base.specs.declared.chips.Spot.{Spot}
-use Rattle.spin_base.specs.declared.blocks.Entry.{Entry}
 use Rattle.spin_base.specs.declared.copies.McCopy.{McCopy}
 use Rattle.spin_base.specs.declared.copies.Packet.{Packet}
 use Rattle.machine_desc.proofs.Live.{count_by-map}
 use Rattle.machine_desc.specs.Description.{Description}
 use Rattle.machine_desc.specs.RoutingTree.{IsRoutingTree}
 use Rattle.machine_desc.specs.Branch.{Exit, IsBranch}
-use Rattle.machine_desc.proofs.Branches.{core_on_branch, link_on_branch}
+use Rattle.machine_desc.proofs.Branches.{end_on_branch, link_on_branch}
 use Rattle.net_tables.specs.declared.nets.NetPlan.{NetPlan}
 use Rattle.net_tables.specs.RightTables.{IsKeyOf}
-use Rattle.mesh_core.specs.State.{State, vertex_at}
+use Rattle.net_tables.specs.NetsOn.{vertex_at, AreNetsOn, IsWayOn}
+use Rattle.mesh_core.specs.State.{Setup, State, IsMesh}
 use Rattle.mesh_core.specs.Trail.{Station, Mark, unsent, in_queue, at_core, on_trail, is_on_trail, is_packet_on_trail}
-use Rattle.mesh_core.specs.Ledger.{marks_of, marked, hand_marks, port_of, unsent_marks, Label, AreNetsOf, IsWayOf}
-use Rattle.mesh_core.specs.Opened.{label_in, label_of, label_at, label_by, first_copy, copy_from, unsent_of, opened_mesh, AreOfNets, MeetsJobLedger}
+use Rattle.mesh_core.specs.Ledger.{marks_of, marked, hand_marks, port_of, unsent_marks, Label, label_of}
+use Rattle.mesh_core.specs.Opened.{label_in, asked_by, first_copy, copy_from, unsent_of, empty_mesh, opened_mesh, AreOfNets, MeetsJobLedger}
+use Rattle.mesh_core.proofs.AskedPackets.{asked_parts, asked_from, asked_of_net, net_in_list, key_of_net}
 use Rattle.machine_desc.specs.Live.{chip_of}
 use Rattle.mesh_core.proofs.Exchange.{Among, among_contains, contains_among}
 use Rattle.mesh_core.proofs.Moves.{mark}
@@ -54,9 +55,6 @@ sent_from spots nets p i v net is vertex =
     ap (copy_from spots v i p) is
     ∙ ap (λ b. if b then Some (first_copy i net p) else None) (ap (λ w. option_map_or (λ n. n == v) w false) vertex ∙ nat_same v v refl)
 
-nothing_packet : Packet
-nothing_packet = record { net = 0; index = 0; payload = None }
-
 nat_apart : (a b : ℕ) → a ≢ b → (a == b) ≡ false
 nat_apart a b other = grind arith
 
@@ -64,9 +62,15 @@ and_false : (b : Bool) → (b && false) ≡ false
 and_false true = refl
 and_false false = refl
 
-module _ (m : Description) (spots : List Spot) (tables : List (List Entry)) (capacity : ℕ) (nets : List NetPlan) (packets : List Packet) where
+module _ (setup : Setup) (nets : List NetPlan) (packets : List Packet) where
+  abbrev m : Description
+  m = setup.machine
+
+  abbrev spots : List Spot
+  spots = setup.spots
+
   abbrev opened : State
-  opened = opened_mesh m spots tables capacity nets packets
+  opened = opened_mesh setup nets packets
 
   abbrev copies : ℕ → List McCopy
   copies v = unsent_of spots nets packets v
@@ -140,6 +144,40 @@ module _ (m : Description) (spots : List Spot) (tables : List (List Entry)) (cap
       in
       subst (λ l. Contains l (mark (first_copy i net p) (unsent v))) (sym opened_marks) (among_contains (mark (first_copy i net p) (unsent v)) (unsent_marks opened) there)
 
+  among_at : {X : Type 0} (xs : List X) (k : ℕ) (d : X) → k < length xs → Among (slice_index_or xs k d) xs
+  among_at [] k d below = absurd (omega arith)
+  among_at (x ∷ xs) zero d below = inl refl
+  among_at (x ∷ xs) (suc k) d below = inr (among_at xs k d (omega arith))
+
+  -- unsent copies have passed no router
+  copies_at_start : (v : ℕ) → All (λ k. k.hop ≡ 0) (copies v)
+  copies_at_start v = λ j d below.
+      let k : McCopy = slice_index_or (copies v) j d in
+      let in_list = among_chosen (λ (e : ℕ × Packet). copy_from spots v e.0 e.1 (slice_get nets e.1.net)) k 0 packets (among_at (copies v) j d below) in
+      let sent = sent_parts spots nets in_list.1 (0 + in_list.0) v k (slice_get nets in_list.1.net) refl in_list.3 in
+      ap (λ (c : McCopy). c.hop) sent.copy
+
+  -- The opened mesh of a job is a mesh.
+  pub IsMesh-opened : IsMesh (empty_mesh setup) → IsMesh opened
+  IsMesh-opened h = record {
+    size = h.size;
+    different = h.different;
+    sites = h.sites;
+    room = h.room;
+    unsent_lists = length-map-range_with_len copies 0 number;
+    input_lists = h.input_lists;
+    hand_list = h.hand_list;
+    core_lists = h.core_lists;
+    table_list = h.table_list;
+    inputs_within = h.inputs_within;
+    cores_within = h.cores_within;
+    unsent_at_start =
+        All-map (λ (q : List McCopy). All (λ k. k.hop ≡ 0) q) copies (range_with_len 0 number) (λ j d below. copies_at_start (slice_index_or (range_with_len 0 number) j d));
+    hands_with_outputs = h.hands_with_outputs;
+    none_at_dead_ports = h.none_at_dead_ports;
+    none_on_dead_chips = h.none_on_dead_chips;
+  }
+
   -- a tree has a target: the root is one, or an edge leads on to one
   some_branch : (net : NetPlan) → IsRoutingTree m net.tree.root net.tree.edges net.targets →
       (t : Spot) × Contains net.targets t × ((branch : List Exit) × IsBranch m net.tree.root net.tree.edges t branch)
@@ -149,7 +187,7 @@ module _ (m : Description) (spots : List Spot) (tables : List (List Entry)) (cap
         (way.0, way.1, (way.2.0, way.2.1))
     | inr target ↦
         let there = target_of net.targets target.0 (subst (λ n. target.0 < n) (length-map net.targets (λ s. s.chip)) target.1) in
-        let way = core_on_branch m net.tree.root net.tree.edges net.targets tree there.0 there.1 in
+        let way = end_on_branch m net.tree.root net.tree.edges net.targets tree there.0 there.1 in
         (there.0, there.1, (way.0, way.1))
   ]
     where
@@ -157,21 +195,9 @@ module _ (m : Description) (spots : List Spot) (tables : List (List Entry)) (cap
       target_of [] k within = absurd (omega arith)
       target_of (t ∷ ts) k within = (t, (0, omega arith, refl))
 
-  module _ (stand : AreNetsOf opened nets) (of_nets : AreOfNets nets packets) where
-    -- the nets of the packets are nets of the list
-    net_in_list : (p : Packet) (net : NetPlan) → slice_get nets p.net ≡ Some net → Contains nets net
-    net_in_list p net is = (p.net, slice_get_within nets p.net net is, get_or_from_slice_get nets p.net net net is)
-
-    -- a packet's key is its net's
-    key_is : (i : ℕ) (p : Packet) (net : NetPlan) → slice_get packets i ≡ Some p → slice_get nets p.net ≡ Some net → IsKeyOf net.block (net.block.key + p.index)
-    key_is i p net at is =
-        let of = of_nets i p at in
-        let same : Some of.0 ≡ Some net = sym of.1 ∙ is in
-        let one : of.0 ≡ net = cc in
-        subst (λ (n : NetPlan). IsKeyOf n.block (n.block.key + p.index)) one of.2
-
-    label_is : (i : ℕ) (p : Packet) (net : NetPlan) → slice_get packets i ≡ Some p → slice_get nets p.net ≡ Some net → label_of nets packets i ≡ label_in net p
-    label_is i p net at is = ap (label_at nets) at ∙ ap (label_by p) is
+  module _ (stand : AreNetsOn m spots nets) (of_nets : AreOfNets nets packets) where
+    label_is : (i : ℕ) (p : Packet) (net : NetPlan) → slice_get packets i ≡ Some p → slice_get nets p.net ≡ Some net → label_of (asked_by nets packets i) ≡ label_in net p
+    label_is i p net at is = ap label_of (asked_from nets packets i p net at is)
 
     -- an unsent mark of a packet of a net
     unsent_key : (k : Mark) (u : IsUnsent k) → k.copy.key ≡ u.sent.net.block.key + u.packet.index
@@ -182,14 +208,14 @@ module _ (m : Description) (spots : List Spot) (tables : List (List Entry)) (cap
 
     unsent_is_key : (k : Mark) (u : IsUnsent k) → IsKeyOf u.sent.net.block k.copy.key
     unsent_is_key k u =
-        subst (λ n. IsKeyOf u.sent.net.block n) (sym (unsent_key k u)) (key_is u.number_is u.packet u.sent.net u.at u.sent.is_net)
+        subst (λ n. IsKeyOf u.sent.net.block n) (sym (unsent_key k u)) (key_of_net nets packets of_nets u.number_is u.packet u.sent.net u.at u.sent.is_net)
 
     labelled : (k : Mark) → Contains (marks_of opened) k →
-        (k.copy.key ≡ (label_of nets packets k.copy.packet).key) × (k.copy.payload ≡ (label_of nets packets k.copy.packet).payload)
+        (k.copy.key ≡ (label_of (asked_by nets packets k.copy.packet)).key) × (k.copy.payload ≡ (label_of (asked_by nets packets k.copy.packet)).payload)
     labelled k has =
         let u = is_unsent k has in
-        let label : label_of nets packets k.copy.packet ≡ label_in u.sent.net u.packet =
-        ap (label_of nets packets) (unsent_number k u) ∙ label_is u.number_is u.packet u.sent.net u.at u.sent.is_net
+        let label : label_of (asked_by nets packets k.copy.packet) ≡ label_in u.sent.net u.packet =
+        ap (λ i. label_of (asked_by nets packets i)) (unsent_number k u) ∙ label_is u.number_is u.packet u.sent.net u.at u.sent.is_net
         in (
           unsent_key k u ∙ sym (ap (λ (l : Label). l.key) label),
           ap (λ (c : McCopy). c.payload) u.sent.copy ∙ sym (ap (λ (l : Label). l.payload) label),
@@ -197,11 +223,11 @@ module _ (m : Description) (spots : List Spot) (tables : List (List Entry)) (cap
 
     on_a_trail : (k : Mark) → Contains (marks_of opened) k →
         (net : NetPlan) × Contains nets net × IsKeyOf net.block k.copy.key ×
-        ((target : Spot) × (branch : List Exit) × (from : ℕ) × (to : ℕ) × IsWayOf opened net target branch from to × IsTrue (is_on_trail from to branch k))
+        ((target : Spot) × (branch : List Exit) × (from : ℕ) × (to : ℕ) × IsWayOn m spots net target branch from to × IsTrue (is_on_trail from to branch k))
     on_a_trail k has =
         let u = is_unsent k has in
         let net : NetPlan = u.sent.net in
-        let in_list = net_in_list u.packet net u.sent.is_net in
+        let in_list = net_in_list nets u.packet net u.sent.is_net in
         let tree = All-contains (λ n. IsRoutingTree m n.tree.root n.tree.edges n.targets) nets net stand.trees in_list in
         let way = some_branch net tree in
         let on_spot = All-contains (Contains spots) net.targets way.0 (All-contains (λ n. All (Contains spots) n.targets) nets net stand.targets in_list) way.1 in
@@ -222,11 +248,11 @@ module _ (m : Description) (spots : List Spot) (tables : List (List Entry)) (cap
     counts n from to branch v c = (c.packet == n) && ((v == from) && (c.hop == 0))
 
     once : (k : Mark) → Contains (marks_of opened) k → (net : NetPlan) → Contains nets net → IsKeyOf net.block k.copy.key →
-        (target : Spot) (branch : List Exit) (from to : ℕ) → IsWayOf opened net target branch from to →
+        (target : Spot) (branch : List Exit) (from to : ℕ) → IsWayOn m spots net target branch from to →
         count_by (is_packet_on_trail k.copy.packet from to branch) (marks_of opened) ≡ 1
     once k has net in_list key target branch from to w =
         let u = is_unsent k has in
-        let own_list = net_in_list u.packet u.sent.net u.sent.is_net in
+        let own_list = net_in_list nets u.packet u.sent.net u.sent.is_net in
         let one : u.sent.net ≡ net = one_net nets stand.disjoint u.sent.net net own_list in_list k.copy.key (unsent_is_key k u) key in
         let source : Some u.vertex ≡ Some from = sym u.sent.vertex ∙ (ap (λ (n : NetPlan). vertex_at spots n.source) one ∙ w.begins) in
         let vertex_is : u.vertex ≡ from = cc in
@@ -268,17 +294,22 @@ module _ (m : Description) (spots : List Spot) (tables : List (List Entry)) (cap
     -- The opened mesh of a job meets the ledger of the job.
     pub opened_meets_ledger : MeetsJobLedger opened nets packets
     opened_meets_ledger = record {
-      ledger = record { nets_stand = stand; labelled = labelled; on_a_trail = on_a_trail; once_on_each = once };
-      of_the_job = λ k has. let u = is_unsent k has in
-          subst (λ i. i < length packets) (sym (unsent_number k u)) (slice_get_within packets u.number_is u.packet u.at);
-      each_packet = λ i below.
-          let at = slice_get-get_or packets i nothing_packet below in
-          let of = of_nets i (slice_index_or packets i nothing_packet) at in
-          let in_list = net_in_list (slice_index_or packets i nothing_packet) of.0 of.1 in
-          let on_spot = All-contains (λ n. Contains spots n.source) nets of.0 stand.sources in_list in
-          let start = vertex_there spots of.0.source on_spot in (
-            mark (first_copy i of.0 (slice_index_or packets i nothing_packet)) (unsent start.0),
-            has_mark i (slice_index_or packets i nothing_packet) of.0 start.0 at of.1 start.1,
-            refl,
-          );
+      of_nets = of_nets;
+      ledger = record {
+        ledger = record { nets_stand = stand; labelled = labelled; on_a_trail = on_a_trail; once_on_each = once };
+        of_its_net = asked_of_net nets packets of_nets;
+        was_asked = λ k has.
+            let u = is_unsent k has in
+            let asked = asked_from nets packets u.number_is u.packet u.sent.net u.at u.sent.is_net in
+            (record { net = u.sent.net; label = label_in u.sent.net u.packet }, ap (asked_by nets packets) (unsent_number k u) ∙ asked);
+        each_asked = λ i a is.
+            let parts = asked_parts nets packets i a is in
+            let in_list = net_in_list nets parts.packet parts.net parts.is_net in
+            let on_spot = All-contains (λ n. Contains spots n.source) nets parts.net stand.sources in_list in
+            let start = vertex_there spots parts.net.source on_spot in (
+              mark (first_copy i parts.net parts.packet) (unsent start.0),
+              has_mark i parts.packet parts.net start.0 parts.is_packet parts.is_net start.1,
+              refl,
+            );
+      };
     }

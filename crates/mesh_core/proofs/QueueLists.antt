@@ -2,7 +2,7 @@
 use Rattle.std.proofs.Common.{◌≡◌, ◌≢◌, ℕ, zero, suc, List, [], ◌∷◌, ◌++◌, set, refl, sym, ap, ◌∙◌, Option, Some, None, ◌↔◌, IsNone, option_to_list}
 use Rattle.std.specs.List.{slice_get}
 use Rattle.spin_base.specs.declared.copies.McCopy.{McCopy}
-use Rattle.mesh_core.specs.Queues.{shortened}
+use Rattle.mesh_core.specs.Queues.{drop_front}
 
 -- a look at the place where a list was written
 pub slice_get-set_same : {X : Type 0} (xs : List X) (i : ℕ) (x y : X) → slice_get xs i ≡ Some x → slice_get (set xs i y) i ≡ Some y
@@ -25,10 +25,10 @@ set-slice_get (y ∷ xs) zero x e = let same : y ≡ x = cc in ap (λ z. z ∷ x
 set-slice_get (y ∷ xs) (suc i) x e = ap (λ zs. y ∷ zs) (set-slice_get xs i x e)
 
 -- what a queue is after its front left
-pub shortened-popped : (lists : List (List McCopy)) (i : ℕ) (old new : List McCopy) (front : Option McCopy) → slice_get lists i ≡ Some old → old ≡ option_to_list front ++ new → (IsNone front ↔ (old ≡ [])) → set lists i new ≡ shortened lists i (slice_get lists i)
-shortened-popped lists i old new (Some k) here popped none =
+pub drop_front-popped : (lists : List (List McCopy)) (i : ℕ) (old new : List McCopy) (front : Option McCopy) → slice_get lists i ≡ Some old → old ≡ option_to_list front ++ new → (IsNone front ↔ (old ≡ [])) → set lists i new ≡ drop_front lists i (slice_get lists i)
+drop_front-popped lists i old new (Some k) here popped none =
     let is : slice_get lists i ≡ Some (k ∷ new) = here ∙ ap Some popped in rw is refl
-shortened-popped lists i old new None here popped none =
+drop_front-popped lists i old new None here popped none =
     let gone : old ≡ [] = none.0 refl in
     let rest : new ≡ [] = sym popped ∙ gone in
     let is : slice_get lists i ≡ Some [] = here ∙ ap Some gone in

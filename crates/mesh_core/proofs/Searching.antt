@@ -1,6 +1,7 @@
 -- What the searches of a port, an output and a core find.
-use Rattle.std.proofs.Common.{◌≡◌, ℕ, zero, suc, ◌<◌, ◌≤◌, List, [], ◌∷◌, Bool, true, false, ◌==◌, ◌&&◌, Option, Some, None, refl, ap, sym, ◌∙◌, subst, arith, inl, inr, ◌⊎◌, length, nat_lt, cond}
-use Rattle.std.specs.List.{slice_get, slice_index_or, list_any, Contains, position, position_or_len}
+use Rattle.std.proofs.Common.{◌≡◌, ℕ, zero, suc, ◌<◌, ◌≤◌, List, [], ◌∷◌, Bool, true, false, ◌==◌, ◌&&◌, Option, Some, None, refl, ap, sym, ◌∙◌, subst, arith, inl, inr, ◌⊎◌, length, get_or, nat_lt, cond}
+use Rattle.std.proofs.lemmas.List.Elements.{All-contains}
+use Rattle.std.specs.List.{All, slice_get, slice_index_or, list_any, Contains, position, position_or_len}
 use Rattle.std.proofs.lemmas.Bool.{ltb-false}
 use Rattle.std.proofs.lemmas.List.Folds.{Any-from_list_any, list_any_at}
 use Rattle.std.proofs.lemmas.List.Quantifiers.{position-Some}
@@ -15,12 +16,19 @@ use Rattle.spin_base.specs.declared.copies.Delivery.{Delivery}
 use Rattle.spin_base.specs.declared.copies.DumpRec.{DumpRec}
 use Rattle.spin_base.specs.Equality.{chip_eq, out_eq}
 use Rattle.spin_base.proofs.Equality.{chip_eq_same, chip_eq_true, out_eq_same, out_eq_true}
+use Rattle.machine_desc.specs.declared.trees.Edge.{Edge}
+use Rattle.machine_desc.specs.Description.{Description}
 use Rattle.machine_desc.specs.Live.{index_of, IsInside}
+use Rattle.machine_desc.specs.RoutingTree.{IsRoutingTree}
+use Rattle.machine_desc.proofs.Far.{live_inside, live_ends}
+use Rattle.net_tables.specs.declared.nets.NetPlan.{NetPlan}
 use Rattle.mesh_core.specs.declared.places.Place.TheVariants.{InQueue, Hand as HandAt, CoreQueue}
 use Rattle.mesh_core.specs.declared.places.Where.TheVariants.{At, Delivered, Dumped}
-use Rattle.mesh_core.specs.State.{State, Held, IsMesh, queue_at, vertex_at}
+use Rattle.net_tables.specs.NetsOn.{vertex_at}
+use Rattle.mesh_core.specs.State.{State, Held, IsMesh, queue_at}
 use Rattle.mesh_core.specs.Trail.{Station, in_queue, in_hand, at_core, delivered, dumped, Mark}
 use Rattle.mesh_core.specs.Ledger.{marks_of}
+use Rattle.mesh_core.specs.Whereabouts.{IsTracked}
 use Rattle.mesh_core.specs.Searches.{IsMarkThere, IsFound, IsOfCore, IsOfOutput, IsOfPort, is_held}
 use Rattle.mesh_core.proofs.Exchange.{Among, among_contains, contains_among}
 use Rattle.mesh_core.proofs.Moves.{mark}
@@ -76,7 +84,7 @@ module _ (s : State) (packet : ℕ) where
 
   -- ---- an input queue
 
-  pub queue_has : (c : Chip) (port : Port) → IsInside s.machine c → (q : List McCopy) → slice_get s.inputs (queue_at s.machine c port) ≡ Some q →
+  pub queue_has : (c : Chip) (port : Port) → IsInside s.setup.machine c → (q : List McCopy) → slice_get s.inputs (queue_at s.setup.machine c port) ≡ Some q →
       list_any (λ k. k.packet == packet) q ≡ true → IsMarkThere s packet (IsOfPort c port) (At (InQueue c port))
   queue_has c port inside q at yes' =
       let k = any_among (λ (k : McCopy). k.packet == packet) q yes' in
@@ -89,11 +97,11 @@ module _ (s : State) (packet : ℕ) where
         told = refl;
       }
 
-  pub queue_lacks : (c : Chip) (port : Port) → IsInside s.machine c → (q : List McCopy) → slice_get s.inputs (queue_at s.machine c port) ≡ Some q →
+  pub queue_lacks : (c : Chip) (port : Port) → IsInside s.setup.machine c → (q : List McCopy) → slice_get s.inputs (queue_at s.setup.machine c port) ≡ Some q →
       list_any (λ k. k.packet == packet) q ≡ false → IsFound s packet (IsOfPort c port) None
   queue_lacks c port inside q at none k has is_packet there =
       let stands : StandsAt s k.copy (in_queue c port) = stands_there k has (in_queue c port) there in
-      let place : stands.0 ≡ queue_at s.machine c port = place_of_queue s.machine c port stands.0 inside stands.3 stands.4 in
+      let place : stands.0 ≡ queue_at s.setup.machine c port = place_of_queue s.setup.machine c port stands.0 inside stands.3 stands.4 in
       let both : Some stands.1 ≡ Some q = sym stands.2 ∙ (ap (slice_get s.inputs) place ∙ at) in
       let one : stands.1 ≡ q = cc in
       let found : list_any (λ (d : McCopy). d.packet == packet) stands.1 ≡ true =
@@ -104,11 +112,11 @@ module _ (s : State) (packet : ℕ) where
 
   -- ---- an output
 
-  pub hand_has : (c : Chip) (o : Out) → IsInside s.machine c → is_held packet o (slice_get s.hands (index_of s.machine c)) ≡ true →
+  pub hand_has : (c : Chip) (o : Out) → IsInside s.setup.machine c → is_held packet o (slice_get s.hands (index_of s.setup.machine c)) ≡ true →
       IsMarkThere s packet (IsOfOutput c o) (At (HandAt c o))
-  hand_has c o inside yes' = by_hand (slice_get s.hands (index_of s.machine c)) refl yes'
+  hand_has c o inside yes' = by_hand (slice_get s.hands (index_of s.setup.machine c)) refl yes'
     where
-      by_hand : (x : Option (Option Held)) → slice_get s.hands (index_of s.machine c) ≡ x → is_held packet o x ≡ true →
+      by_hand : (x : Option (Option Held)) → slice_get s.hands (index_of s.setup.machine c) ≡ x → is_held packet o x ≡ true →
           IsMarkThere s packet (IsOfOutput c o) (At (HandAt c o))
       by_hand (Some (Some h)) at held =
           let out = any_among (out_eq o) h.outs (and_true_right (h.copy.packet == packet) (list_any (out_eq o) h.outs) held) in
@@ -148,15 +156,15 @@ module _ (s : State) (packet : ℕ) where
         told = (i, r.1, refl);
       }
 
-  pub output_lacks : (c : Chip) (o : Out) → IsInside s.machine c → is_held packet o (slice_get s.hands (index_of s.machine c)) ≡ false →
+  pub output_lacks : (c : Chip) (o : Out) → IsInside s.setup.machine c → is_held packet o (slice_get s.hands (index_of s.setup.machine c)) ≡ false →
       position (is_dump c o) s.dumped ≡ None → IsFound s packet (IsOfOutput c o) None
   output_lacks c o inside none nowhere k has is_packet (inl there) =
       let stands : StandsAt s k.copy (in_hand c o) = stands_there k has (in_hand c o) there in
       let h : Held = stands.1 in
-      let place : stands.0 ≡ index_of s.machine c =
-      sym (index_of-chip_of s.machine stands.0 (some_rows s.machine c inside)) ∙ ap (index_of s.machine) stands.3
+      let place : stands.0 ≡ index_of s.setup.machine c =
+      sym (index_of-chip_of s.setup.machine stands.0 (some_rows s.setup.machine c inside)) ∙ ap (index_of s.setup.machine) stands.3
       in
-      let at : slice_get s.hands (index_of s.machine c) ≡ Some (Some h) = ap (slice_get s.hands) (sym place) ∙ stands.2 in
+      let at : slice_get s.hands (index_of s.setup.machine c) ≡ Some (Some h) = ap (slice_get s.hands) (sym place) ∙ stands.2 in
       let serves : list_any (out_eq o) h.outs ≡ true = among_any (out_eq o) o h.outs stands.5 (out_eq_same o) in
       let of_packet : (h.copy.packet == packet) ≡ true = nat_same h.copy.packet packet (ap (λ (d : McCopy). d.packet) stands.4 ∙ is_packet) in
       let held : is_held packet o (Some (Some h)) ≡ true = both_true (h.copy.packet == packet) (list_any (out_eq o) h.outs) of_packet serves in
@@ -175,7 +183,7 @@ module _ (s : State) (packet : ℕ) where
   abbrev is_delivery : ℕ → Delivery → Bool
   is_delivery v d = (d.vertex == v) && (d.copy.packet == packet)
 
-  pub delivery_has : (spot : Spot) (v i : ℕ) → vertex_at s.spots spot ≡ Some v → position (is_delivery v) s.delivered ≡ Some i →
+  pub delivery_has : (spot : Spot) (v i : ℕ) → vertex_at s.setup.spots spot ≡ Some v → position (is_delivery v) s.delivered ≡ Some i →
       IsMarkThere s packet (IsOfCore s spot) (Delivered i)
   delivery_has spot v i is_vertex is =
       let nothing : Delivery = record { vertex = 0; copy = record { packet = 0; key = 0; payload = None; hop = 0 } } in
@@ -190,7 +198,7 @@ module _ (s : State) (packet : ℕ) where
         told = (i, d.1, refl);
       }
 
-  pub core_has : (spot : Spot) (v : ℕ) (q : List McCopy) → vertex_at s.spots spot ≡ Some v → slice_get s.cores v ≡ Some q →
+  pub core_has : (spot : Spot) (v : ℕ) (q : List McCopy) → vertex_at s.setup.spots spot ≡ Some v → slice_get s.cores v ≡ Some q →
       list_any (λ k. k.packet == packet) q ≡ true → IsMarkThere s packet (IsOfCore s spot) (At (CoreQueue spot.chip spot.core))
   core_has spot v q is_vertex at yes' =
       let k = any_among (λ (k : McCopy). k.packet == packet) q yes' in
@@ -200,14 +208,14 @@ module _ (s : State) (packet : ℕ) where
         is_mark = among_contains y (marks_of s) (core_mark s v k.0 q at k.1);
         is_packet = nat_true k.0.packet packet k.2;
         there = (v, is_vertex, inl refl);
-        told = (spot, vertex_at_stands s.spots spot v is_vertex, refl);
+        told = (spot, vertex_at_stands s.setup.spots spot v is_vertex, refl);
       }
 
-  pub core_lacks : (spot : Spot) (v : ℕ) (q : List McCopy) → vertex_at s.spots spot ≡ Some v → position (is_delivery v) s.delivered ≡ None →
+  pub core_lacks : (spot : Spot) (v : ℕ) (q : List McCopy) → vertex_at s.setup.spots spot ≡ Some v → position (is_delivery v) s.delivered ≡ None →
       slice_get s.cores v ≡ Some q → list_any (λ k. k.packet == packet) q ≡ false → IsFound s packet (IsOfCore s spot) None
   core_lacks spot v q is_vertex nowhere at none k has is_packet there = by_station there.0 there.1 there.2
     where
-      by_station : (w : ℕ) → vertex_at s.spots spot ≡ Some w → (k.station ≡ at_core w) ⊎ (k.station ≡ delivered w) → ⊥
+      by_station : (w : ℕ) → vertex_at s.setup.spots spot ≡ Some w → (k.station ≡ at_core w) ⊎ (k.station ≡ delivered w) → ⊥
       by_station w is (inl here) =
           let stands : StandsAt s k.copy (at_core w) = stands_there k has (at_core w) here in
           let both : Some w ≡ Some v = sym is ∙ is_vertex in
@@ -228,7 +236,7 @@ module _ (s : State) (packet : ℕ) where
           (both_true (w == v) (k.copy.packet == packet) (nat_same w v same) (nat_same k.copy.packet packet is_packet))
 
   -- on a core without a vertex there is nothing
-  pub no_vertex_lacks : (spot : Spot) → vertex_at s.spots spot ≡ None → IsFound s packet (IsOfCore s spot) None
+  pub no_vertex_lacks : (spot : Spot) → vertex_at s.setup.spots spot ≡ None → IsFound s packet (IsOfCore s spot) None
   no_vertex_lacks spot none k has is_packet there = let both : Some there.0 ≡ None = sym there.1 ∙ none in cc
 
 -- ---- what the code of a search knows
@@ -241,11 +249,20 @@ none_from r never = by_value r refl
     by_value None e = e
 
 -- the queue of a vertex's core is in the list
-pub core_queue_there : (s : State) → IsMesh s → (spot : Spot) (v : ℕ) → vertex_at s.spots spot ≡ Some v → (q d : List McCopy) →
+pub core_queue_there : (s : State) → IsMesh s → (spot : Spot) (v : ℕ) → vertex_at s.setup.spots spot ≡ Some v → (q d : List McCopy) →
     d ≡ slice_index_or s.cores v d → q ≡ d → slice_get s.cores v ≡ Some q
 core_queue_there s mesh spot v is_vertex q d is same =
-    let on_spot : slice_get s.spots v ≡ Some spot = vertex_at_stands s.spots spot v is_vertex in
-    let below : v < length s.spots = slice_get_within s.spots v spot on_spot in
-    let lists : length s.cores ≡ length s.spots = mesh.core_lists in
+    let on_spot : slice_get s.setup.spots v ≡ Some spot = vertex_at_stands s.setup.spots spot v is_vertex in
+    let below : v < length s.setup.spots = slice_get_within s.setup.spots v spot on_spot in
+    let lists : length s.cores ≡ length s.setup.spots = mesh.core_lists in
     let within : v < length s.cores = omega arith in
     slice_get-get_or s.cores v d within ∙ ap Some (sym is ∙ sym same)
+
+-- the edges of a tracked packet's net begin inside the grid
+pub edges_inside : (s : State) (net : NetPlan) (packet : ℕ) → IsTracked s net packet → All (λ e. IsInside s.setup.machine e.chip) net.tree.edges
+edges_inside s net packet tracked =
+    let m : Description = s.setup.machine in
+    let tree : IsRoutingTree m net.tree.root net.tree.edges net.targets =
+    All-contains (λ n. IsRoutingTree m n.tree.root n.tree.edges n.targets) tracked.nets net tracked.ledger.nets_stand.trees tracked.in_nets
+    in
+    λ k d below. let e : Edge = get_or net.tree.edges k d in live_inside m e.chip (live_ends m e.chip e.dir (tree.edges_live k d below)).2

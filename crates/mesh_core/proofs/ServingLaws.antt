@@ -1,9 +1,11 @@
 -- Serving an output: the hands after it, and the queue behind it.
-use Rattle.std.proofs.Common.{◌≡◌, ℕ, ◌<◌, ◌≤◌, ◌+◌, refl, sym, ap, ◌∙◌, arith, Bool, false, List, [], ◌∷◌, length, get_or, set, Option, Some, None, ◌==◌, if◌then◌else◌, is_some}
+use Rattle.std.proofs.Common.{◌≡◌, ℕ, ◌<◌, ◌≤◌, ◌+◌, ◌-◌, refl, sym, ap, ◌∙◌, subst, arith, Bool, true, false, cond, List, [], ◌∷◌, length, get_or, set, Option, Some, None, ◌==◌, if◌then◌else◌, is_some}
 use Rattle.std.specs.List.{All, slice_get, position_from}
 use Rattle.std.proofs.lemmas.List.{set-set}
 use Rattle.std.proofs.lemmas.List.Elements.{All-head, All-tail}
 use Rattle.std.proofs.lemmas.List.Quantifiers.{position-Some}
+use Rattle.std.proofs.lemmas.Iterator.Adapters.{position_from-zero}
+use Rattle.std.proofs.lemmas.Bool.{and_parts, and_from}
 use Rattle.std.proofs.lemmas.Option.{slice_get-get_or, get_or_from_slice_get}
 use Rattle.spin_base.specs.declared.chips.Chip.{Chip}
 use Rattle.spin_base.specs.declared.chips.Port.{Port}
@@ -11,24 +13,33 @@ use Rattle.spin_base.specs.declared.chips.Spot.{Spot}
 use Rattle.spin_base.specs.declared.blocks.Entry.{Entry}
 use Rattle.spin_base.specs.declared.copies.McCopy.{McCopy}
 use Rattle.spin_base.specs.Lookup.{lookup}
-use Rattle.spin_base.specs.Outputs.{outs_of}
+use Rattle.spin_base.specs.Links.{dir_number, dir_at}
+use Rattle.spin_base.specs.Outputs.{outs_of, out_of}
+use Rattle.spin_base.specs.declared.chips.Dir.{Dir}
 use Rattle.spin_base.specs.declared.routes.Out.{Out}
-use Rattle.spin_base.specs.Equality.{spot_eq}
+use Rattle.spin_base.specs.declared.routes.Out.TheVariants.{Link, Core}
+use Rattle.spin_base.specs.Equality.{chip_eq, spot_eq, out_eq}
+use Rattle.spin_base.proofs.Equality.{chip_eq_true, chip_eq_same, spot_eq_true, spot_eq_same, out_eq_true, out_eq_same}
+use Rattle.spin_base.proofs.Spots.{dir_at-dir_number, out_of-core, out_of-device, spot_of_core, spot_of_link}
 use Rattle.machine_desc.specs.Description.{Description}
-use Rattle.machine_desc.specs.Live.{index_of, IsInside, IsUsable}
-use Rattle.mesh_core.specs.State.{State, Held, vertex_at}
+use Rattle.machine_desc.specs.Live.{index_of, IsInside, IsSite}
+use Rattle.machine_desc.proofs.Same.{same_spot}
+use Rattle.machine_desc.proofs.Sites.{site_parts}
+use Rattle.net_tables.specs.NetsOn.{vertex_at}
+use Rattle.net_tables.specs.Outputs.{leads_to_spot}
+use Rattle.mesh_core.specs.State.{State, Held, vertex_behind}
 use Rattle.mesh_core.specs.Step.{in_hand, last_hop, outputs, without}
 use Rattle.mesh_core.specs.Serving.{hands_after}
-use Rattle.mesh_core.specs.VertexTable.{TellsVertices, core_place}
+use Rattle.mesh_core.specs.VertexTable.{TellsVertices, spot_place}
 use Rattle.mesh_core.proofs.QueueLists.{set-slice_get}
-use Rattle.mesh_core.proofs.VertexTableLaws.{usable_parts, core_place-below, differs, vertex_at-from}
+use Rattle.mesh_core.proofs.VertexTableLaws.{spot_place-below, vertex_at-from}
 
 -- a hand served an output
 pub hands_after-some : (hands : List (Option Held)) (i : ℕ) (o : Out) (d x r : Option Held) (h : Held) → i < length hands → get_or hands i d ≡ Some h →
     r ≡ in_hand h.copy h.port (without o h.outs) → set (set hands i x) i r ≡ hands_after hands i o (slice_get hands i)
-hands_after-some hands i o d x r h below here served =
+hands_after-some hands i o d x r h below here after_serving =
     let at : slice_get hands i ≡ Some (Some h) = slice_get-get_or hands i d below ∙ ap Some here in
-    set-set hands i x r ∙ (ap (set hands i) served ∙ ap (hands_after hands i o) (sym at))
+    set-set hands i x r ∙ (ap (set hands i) after_serving ∙ ap (hands_after hands i o) (sym at))
 
 -- there was no hand
 pub hands_after-none : (hands : List (Option Held)) (i : ℕ) (o : Out) (d x : Option Held) → i < length hands → get_or hands i d ≡ None → x ≡ None →
@@ -37,40 +48,99 @@ hands_after-none hands i o d x below here none =
     let at : slice_get hands i ≡ Some None = slice_get-get_or hands i d below ∙ ap Some here in
     ap (set hands i) none ∙ (set-slice_get hands i None at ∙ ap (hands_after hands i o) (sym at))
 
+-- tests that answer alike find the same
+position-same : (t u : Spot → Bool) (xs : List Spot) (n : ℕ) → All (λ x. t x ≡ u x) xs → position_from t n xs ≡ position_from u n xs
+position-same t u [] n same = refl
+position-same t u (x ∷ xs) n same =
+    ap (λ b. cond b (Some n) (position_from t (n + 1) xs)) (All-head (λ z. t z ≡ u z) x xs same)
+    ∙ ap (λ q. cond (u x) (Some n) q) (position-same t u xs (n + 1) (All-tail (λ z. t z ≡ u z) x xs same))
+
+same_test : (a b : Bool) → (a ≡ true → b ≡ true) → (b ≡ true → a ≡ true) → a ≡ b
+same_test true b there back = sym (there refl)
+same_test false true there back = back refl
+same_test false false there back = refl
+
+vertex_behind-from : (spots : List Spot) (c : Chip) (o : Out) → vertex_behind spots c o ≡ position_from (leads_to_spot c o) 0 spots
+vertex_behind-from spots c o = position_from-zero (leads_to_spot c o) spots
+
+-- an output that leads to a spot's chip and number leads to that spot
+leads_there : (o : Out) (t s : Spot) → o ≡ out_of t.core → spot_eq t s ≡ true → leads_to_spot t.chip o s ≡ true
+leads_there o t s is same =
+    let there : t ≡ s = spot_eq_true t s same in
+    and_from _ _ (subst (λ (x : Spot). chip_eq x.chip t.chip ≡ true) there (chip_eq_same t.chip))
+    (subst (λ (x : Spot). out_eq (out_of x.core) o ≡ true) there (ap (λ (w : Out). out_eq w o) (sym is) ∙ out_eq_same o))
+
+leads_back : (o : Out) (t s : Spot) → (out_of s.core ≡ o → s.core ≡ t.core) → leads_to_spot t.chip o s ≡ true → spot_eq t s ≡ true
+leads_back o t s number leads =
+    let parts = and_parts _ _ leads in
+    let chips : s.chip ≡ t.chip = chip_eq_true s.chip t.chip parts.0 in
+    let same : s ≡ t = same_spot s t chips (number (out_eq_true (out_of s.core) o parts.1)) in
+    subst (λ (x : Spot). spot_eq t x ≡ true) (sym same) (spot_eq_same t)
+
+-- the vertex behind an output is the vertex on the spot to which it leads
+vertex_behind-is : (spots : List Spot) (o : Out) (t : Spot) → o ≡ out_of t.core → All (λ s. out_of s.core ≡ o → s.core ≡ t.core) spots → vertex_behind spots t.chip o ≡ vertex_at spots t
+vertex_behind-is spots o t is numbers =
+    vertex_behind-from spots t.chip o
+    ∙ (position-same (leads_to_spot t.chip o) (spot_eq t) spots 0
+    (λ k d below. same_test _ _ (leads_back o t (get_or spots k d) (numbers k d below)) (leads_there o t (get_or spots k d) is))
+    ∙ sym (vertex_at-from spots t))
+
+pub vertex_behind-core : (spots : List Spot) (t : Spot) → t.core < 18 → vertex_behind spots t.chip (Core t.core) ≡ vertex_at spots t
+vertex_behind-core spots t small =
+    vertex_behind-is spots (Core t.core) t (sym (out_of-core t.core small)) (λ k d below e. (spot_of_core (get_or spots k d).core t.core e).0)
+
+pub vertex_behind-link : (m : Description) (spots : List Spot) (t : Spot) (d : Dir) → t.core ≡ 18 + dir_number d → All (IsSite m) spots → vertex_behind spots t.chip (Link d) ≡ vertex_at spots t
+vertex_behind-link m spots t d is sites =
+    let number : t.core - 18 ≡ dir_number d = omega (arith, is) in
+    let out : Link d ≡ out_of t.core = ap Link (sym (dir_at-dir_number d) ∙ ap dir_at (sym number)) ∙ sym (out_of-device t.core (omega (arith, is))) in
+    vertex_behind-is spots (Link d) t out
+    (λ k e below f. spot_of_link (get_or spots k e).core d (site_parts m (get_or spots k e) (sites k e below)).1 f ∙ sym is)
+
 no_place : (t : Spot → Bool) (xs : List Spot) (n : ℕ) → All (λ x. t x ≡ false) xs → position_from t n xs ≡ None
 no_place t [] n none = refl
 no_place t (x ∷ xs) n none = rw (All-head (λ z. t z ≡ false) x xs none) (no_place t xs (n + 1) (All-tail (λ z. t z ≡ false) x xs none))
 
--- no vertex is on a core beyond 17
-pub vertex_at-beyond : (m : Description) (spots : List Spot) (s : Spot) → All (IsUsable m) spots → 18 ≤ s.core → vertex_at spots s ≡ None
-vertex_at-beyond m spots s usable beyond =
-    vertex_at-from spots s
-    ∙ no_place (spot_eq s) spots 0 (λ k d below. differs s (get_or spots k d) (λ e.
-    let small : (get_or spots k d).core < 18 = (usable_parts m (get_or spots k d) (usable k d below)).1 in
-    let same : s.core ≡ (get_or spots k d).core = ap (λ (x : Spot). x.core) e in
-    omega arith))
+not_true : (b : Bool) → (b ≡ true → ⊥) → b ≡ false
+not_true true never = absurd (never refl)
+not_true false never = refl
 
--- a vertex on a core is one of those that there are
+-- no vertex is behind a core beyond 17
+pub vertex_behind-beyond : (spots : List Spot) (c : Chip) (p : ℕ) → 18 ≤ p → vertex_behind spots c (Core p) ≡ None
+vertex_behind-beyond spots c p beyond =
+    vertex_behind-from spots c (Core p)
+    ∙ no_place (leads_to_spot c (Core p)) spots 0 (λ k d below. not_true _ (λ leads.
+    let parts = and_parts _ _ leads in
+    let same = spot_of_core (get_or spots k d).core p (out_eq_true (out_of (get_or spots k d).core) (Core p) parts.1) in
+    omega (arith, same.0, same.1)))
+
+-- a vertex on a spot is one of those that there are
 pub vertex_at-below : (spots : List Spot) (s : Spot) (v : ℕ) → vertex_at spots s ≡ Some v → v < length spots
 vertex_at-below spots s v e = (position-Some (spot_eq s) spots v s e).0
 
--- what the table has at the place of a core
-pub vertex_read : (m : Description) (spots : List Spot) (table : List (Option ℕ)) (s : Spot) (p : ℕ) (r : Option ℕ) → TellsVertices m spots table → IsInside m s.chip → s.core < 18 →
-    p ≡ core_place m s → r ≡ get_or table p r → vertex_at spots s ≡ r
+-- what the table has at the place of a spot
+pub vertex_read : (m : Description) (spots : List Spot) (table : List (Option ℕ)) (s : Spot) (p : ℕ) (r : Option ℕ) → TellsVertices m spots table → IsInside m s.chip → s.core < 24 →
+    p ≡ spot_place m s → r ≡ get_or table p r → r ≡ vertex_at spots s
 vertex_read m spots table s p r tells inside small at read =
-    let below : p < length table = omega (arith, tells.long, core_place-below m s inside small) in
+    let below : p < length table = omega (arith, tells.long, spot_place-below m s inside small) in
     let here : slice_get table p ≡ Some r = slice_get-get_or table p r below ∙ ap Some (sym read) in
     let same : Some (vertex_at spots s) ≡ Some r = sym (tells.told s inside small) ∙ (ap (slice_get table) (sym at) ∙ here) in
     cc
 
 -- the outputs that a router gives, by the table that was looked up
-pub outputs_read : (s : State) (c : Chip) (port : Port) (k : McCopy) (n : ℕ) (table : List Entry) → n ≡ index_of s.machine c → slice_get s.tables n ≡ Some table →
-    (if k.hop == last_hop then [] else outs_of (lookup table k.key port)) ≡ outputs s c port k
+outputs_read : (s : State) (c : Chip) (port : Port) (k : McCopy) (n : ℕ) (table : List Entry) → n ≡ index_of s.setup.machine c → slice_get s.setup.tables n ≡ Some table →
+    (if k.hop == last_hop then [] else outs_of (lookup table k.key port)) ≡ outputs s.setup c port k
 outputs_read s c port k n table at here =
-    let is : table ≡ get_or s.tables (index_of s.machine c) [] =
-    sym (get_or_from_slice_get s.tables n table [] here) ∙ ap (λ i. get_or s.tables i []) at
+    let is : table ≡ get_or s.setup.tables (index_of s.setup.machine c) [] =
+    sym (get_or_from_slice_get s.setup.tables n table [] here) ∙ ap (λ i. get_or s.setup.tables i []) at
     in
     ap (λ (t : List Entry). if k.hop == last_hop then [] else outs_of (lookup t k.key port)) is
+
+-- the same, by the table at a place of a list
+pub outputs_at : (s : State) (c : Chip) (port : Port) (k : McCopy) (n : ℕ) (tables : List (List Entry)) (table d : List Entry) → n ≡ index_of s.setup.machine c →
+    tables ≡ s.setup.tables → n < length tables → table ≡ get_or tables n d →
+    (if k.hop == last_hop then [] else outs_of (lookup table k.key port)) ≡ outputs s.setup c port k
+outputs_at s c port k n tables table d at same below here =
+    outputs_read s c port k n table at (ap (λ l. slice_get l n) (sym same) ∙ (slice_get-get_or tables n d below ∙ ap Some (sym here)))
 
 -- a hand that isn't there
 pub no_hand : (hands : List (Option Held)) (i : ℕ) (x : Option Held) → i < length hands → x ≡ get_or hands i x → is_some x ≡ false → slice_get hands i ≡ Some None

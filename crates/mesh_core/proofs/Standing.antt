@@ -104,9 +104,9 @@ place_of_queue m c port i inside is_chip is_port =
 abbrev pub StandsAt : State → McCopy → Station → Type 0
 StandsAt s k (unsent v) = (q : List McCopy) × (slice_get s.unsent v ≡ Some q) × Among k q
 StandsAt s k (in_queue c port) =
-    (i : ℕ) × (q : List McCopy) × (slice_get s.inputs i ≡ Some q) × (chip_of s.machine (i / 7) ≡ c) × (port_of (i % 7) ≡ port) × Among k q
+    (i : ℕ) × (q : List McCopy) × (slice_get s.inputs i ≡ Some q) × (chip_of s.setup.machine (i / 7) ≡ c) × (port_of (i % 7) ≡ port) × Among k q
 StandsAt s k (in_hand c o) =
-    (i : ℕ) × (h : Held) × (slice_get s.hands i ≡ Some (Some h)) × (chip_of s.machine i ≡ c) × (h.copy ≡ k) × Among o h.outs
+    (i : ℕ) × (h : Held) × (slice_get s.hands i ≡ Some (Some h)) × (chip_of s.setup.machine i ≡ c) × (h.copy ≡ k) × Among o h.outs
 StandsAt s k (at_core v) = (q : List McCopy) × (slice_get s.cores v ≡ Some q) × Among k q
 StandsAt s k (delivered v) = Among (record { vertex = v; copy = k }) s.delivered
 StandsAt s k (dumped c o) = Among (record { chip = c; out = o; copy = k }) s.dumped
@@ -130,10 +130,10 @@ mark_stands s k a = first (among_either k (unsent_marks s) later1 a)
     later1 : List Mark
     later1 = input_marks s ++ later3
 
-    of_hand : (i : ℕ) (h : Option Held) → slice_get s.hands i ≡ Some h → Among k (hand_marks (chip_of s.machine i) h) → StandsAt s k.copy k.station
+    of_hand : (i : ℕ) (h : Option Held) → slice_get s.hands i ≡ Some h → Among k (hand_marks (chip_of s.setup.machine i) h) → StandsAt s k.copy k.station
     of_hand i (Some h) at b =
-        let m = among_map (λ o. mark h.copy (in_hand (chip_of s.machine i) o)) k h.outs b in
-        as_mark s k h.copy (in_hand (chip_of s.machine i) m.0) m.2 (i, h, at, refl, refl, m.1)
+        let m = among_map (λ o. mark h.copy (in_hand (chip_of s.setup.machine i) o)) k h.outs b in
+        as_mark s k h.copy (in_hand (chip_of s.setup.machine i) m.0) m.2 (i, h, at, refl, refl, m.1)
     of_hand i None at b = absurd b
 
     fifth : Among k (delivered_marks s) ⊎ Among k (dumped_marks s) → StandsAt s k.copy k.station
@@ -153,14 +153,14 @@ mark_stands s k a = first (among_either k (unsent_marks s) later1 a)
 
     third : Among k (all_hand_marks s) ⊎ Among k later4 → StandsAt s k.copy k.station
     third (inl b) =
-        let at = among_gathered (λ i (h : Option Held). hand_marks (chip_of s.machine i) h) k s.hands b in
+        let at = among_gathered (λ i (h : Option Held). hand_marks (chip_of s.setup.machine i) h) k s.hands b in
         of_hand at.0 at.1 at.2 at.3
     third (inr b) = fourth (among_either k (core_marks s) later5 b)
 
     second : Among k (input_marks s) ⊎ Among k later3 → StandsAt s k.copy k.station
     second (inl b) =
-        let at = among_gathered (λ i (q : List McCopy). marked (in_queue (chip_of s.machine (i / 7)) (port_of (i % 7))) q) k s.inputs b in
-        let place : Station = in_queue (chip_of s.machine (at.0 / 7)) (port_of (at.0 % 7)) in
+        let at = among_gathered (λ i (q : List McCopy). marked (in_queue (chip_of s.setup.machine (i / 7)) (port_of (i % 7))) q) k s.inputs b in
+        let place : Station = in_queue (chip_of s.setup.machine (at.0 / 7)) (port_of (at.0 % 7)) in
         let m = among_map (λ (c : McCopy). mark c place) k at.1 at.3 in
         as_mark s k m.0 place m.2 (at.0, at.1, at.2, refl, refl, m.1)
     second (inr b) = third (among_either k (all_hand_marks s) later4 b)
@@ -174,32 +174,32 @@ mark_stands s k a = first (among_either k (unsent_marks s) later1 a)
 
 -- and what stands in the lists has a mark, here of the stations at which a copy is looked for
 
-pub queued_mark : (s : State) (c : Chip) (port : Port) → IsInside s.machine c → (k : McCopy) (q : List McCopy) →
-    slice_get s.inputs (queue_at s.machine c port) ≡ Some q → Among k q → Among (mark k (in_queue c port)) (marks_of s)
+pub queued_mark : (s : State) (c : Chip) (port : Port) → IsInside s.setup.machine c → (k : McCopy) (q : List McCopy) →
+    slice_get s.inputs (queue_at s.setup.machine c port) ≡ Some q → Among k q → Among (mark k (in_queue c port)) (marks_of s)
 queued_mark s c port inside k q at a =
-    let i : ℕ = queue_at s.machine c port in
-    let place : Station = in_queue (chip_of s.machine ((0 + i) / 7)) (port_of ((0 + i) % 7)) in
-    let is : place ≡ in_queue c port = station_of_queue s.machine c port inside in
+    let i : ℕ = queue_at s.setup.machine c port in
+    let place : Station = in_queue (chip_of s.setup.machine ((0 + i) / 7)) (port_of ((0 + i) % 7)) in
+    let is : place ≡ in_queue c port = station_of_queue s.setup.machine c port inside in
     let here : Among (mark k (in_queue c port)) (marked place q) =
     subst (λ (p : Station). Among (mark k (in_queue c port)) (marked p q)) (sym is) (map_among (λ (d : McCopy). mark d (in_queue c port)) k q a)
     in
     let y : Mark = mark k (in_queue c port) in
     among_right y (unsent_marks s) (input_marks s ++ (all_hand_marks s ++ (core_marks s ++ (delivered_marks s ++ dumped_marks s))))
     (among_left y (input_marks s) (all_hand_marks s ++ (core_marks s ++ (delivered_marks s ++ dumped_marks s)))
-    (gathered_among_from (λ n (l : List McCopy). marked (in_queue (chip_of s.machine (n / 7)) (port_of (n % 7))) l) y 0 s.inputs i q at here))
+    (gathered_among_from (λ n (l : List McCopy). marked (in_queue (chip_of s.setup.machine (n / 7)) (port_of (n % 7))) l) y 0 s.inputs i q at here))
 
-pub held_mark : (s : State) (c : Chip) (o : Out) → IsInside s.machine c → (h : Held) →
-    slice_get s.hands (index_of s.machine c) ≡ Some (Some h) → Among o h.outs → Among (mark h.copy (in_hand c o)) (marks_of s)
+pub held_mark : (s : State) (c : Chip) (o : Out) → IsInside s.setup.machine c → (h : Held) →
+    slice_get s.hands (index_of s.setup.machine c) ≡ Some (Some h) → Among o h.outs → Among (mark h.copy (in_hand c o)) (marks_of s)
 held_mark s c o inside h at a =
-    let i : ℕ = index_of s.machine c in
+    let i : ℕ = index_of s.setup.machine c in
     let y : Mark = mark h.copy (in_hand c o) in
-    let here : Among y (hand_marks (chip_of s.machine i) (Some h)) =
-    subst (λ (d : Chip). Among y (hand_marks d (Some h))) (sym (chip_of-index_of s.machine c inside)) (map_among (λ p. mark h.copy (in_hand c p)) o h.outs a)
+    let here : Among y (hand_marks (chip_of s.setup.machine i) (Some h)) =
+    subst (λ (d : Chip). Among y (hand_marks d (Some h))) (sym (chip_of-index_of s.setup.machine c inside)) (map_among (λ p. mark h.copy (in_hand c p)) o h.outs a)
     in
     among_right y (unsent_marks s) (input_marks s ++ (all_hand_marks s ++ (core_marks s ++ (delivered_marks s ++ dumped_marks s))))
     (among_right y (input_marks s) (all_hand_marks s ++ (core_marks s ++ (delivered_marks s ++ dumped_marks s)))
     (among_left y (all_hand_marks s) (core_marks s ++ (delivered_marks s ++ dumped_marks s))
-    (gathered_among (λ n (l : Option Held). hand_marks (chip_of s.machine n) l) y s.hands i (Some h) at here)))
+    (gathered_among (λ n (l : Option Held). hand_marks (chip_of s.setup.machine n) l) y s.hands i (Some h) at here)))
 
 pub core_mark : (s : State) (v : ℕ) (k : McCopy) (q : List McCopy) → slice_get s.cores v ≡ Some q → Among k q →
     Among (mark k (at_core v)) (marks_of s)

@@ -14,138 +14,138 @@ use Rattle.spin_base.specs.declared.copies.Event.{Event}
 use Rattle.spin_base.specs.declared.copies.Event.TheVariants.{Inject, Take, Send, Dump}
 use Rattle.machine_desc.specs.Live.{index_of, is_live_chip}
 use Rattle.mesh_core.specs.declared.places.Did.TheVariants.{Moved, Idle}
-use Rattle.mesh_core.specs.Queues.{front_of, shortened}
+use Rattle.mesh_core.specs.Queues.{front_of, drop_front}
 use Rattle.mesh_core.specs.Serving.{copy_served, inputs_after, cores_after, hands_after}
 use Rattle.mesh_core.specs.State.{State, Held, Behind, input, core, nowhere, behind, queue_at}
-use Rattle.mesh_core.specs.Step.{onward, outputs, in_hand, has_room, has_room_behind, appended, arrived, injected, taken, serves, served, sent, dumped_at, stepped, answer, after_event}
+use Rattle.mesh_core.specs.Step.{onward, outputs, in_hand, has_room, has_room_behind, push_at, push_behind, inject_of, take_of, serves, after_serving, send_of, dump_of, step_of, answer, after_event}
 use Rattle.mesh_core.proofs.Keeping.{if_some}
 
 -- what a step answers and leaves where the event is enabled
-pub answer-moved : (s t : State) (e : Event) → stepped s e ≡ Some t → Moved ≡ answer s e
+pub answer-moved : (s t : State) (e : Event) → step_of s e ≡ Some t → Moved ≡ answer s e
 answer-moved s t e moves = sym (ap (λ (o : Option State). if is_some o then Moved else Idle) moves)
 
-pub after_event-moved : (s t : State) (e : Event) → stepped s e ≡ Some t → t ≡ after_event s e
+pub after_event-moved : (s t : State) (e : Event) → step_of s e ≡ Some t → t ≡ after_event s e
 after_event-moved s t e moves = sym (ap (λ (o : Option State). unwrap_or o s) moves)
 
 -- a list of copies with a front
 inject_by : (s : State) (v : ℕ) (spot : Spot) (k : McCopy) (q : Option (List McCopy)) → slice_get s.unsent v ≡ q → front_of q ≡ Some k →
-    has_room s.capacity (slice_get s.inputs (queue_at s.machine spot.chip Local)) ≡ true →
-    injected s v (Some spot) q ≡ Some (record s {
-      unsent = shortened s.unsent v q;
-      inputs = appended s.inputs (queue_at s.machine spot.chip Local) k (slice_get s.inputs (queue_at s.machine spot.chip Local));
+    has_room s.setup.capacity (slice_get s.inputs (queue_at s.setup.machine spot.chip Local)) ≡ true →
+    inject_of s v (Some spot) q ≡ Some (record s {
+      unsent = drop_front s.unsent v q;
+      inputs = push_at s.inputs (queue_at s.setup.machine spot.chip Local) k (slice_get s.inputs (queue_at s.setup.machine spot.chip Local));
     })
 inject_by s v spot k (Some (x ∷ rest)) here front room =
     let is : x ≡ k = cc in
-    let at : ℕ = queue_at s.machine spot.chip Local in
-    let after : McCopy → State = λ y. record s { unsent = set s.unsent v rest; inputs = appended s.inputs at y (slice_get s.inputs at) } in
+    let at : ℕ = queue_at s.setup.machine spot.chip Local in
+    let after : McCopy → State = λ y. record s { unsent = set s.unsent v rest; inputs = push_at s.inputs at y (slice_get s.inputs at) } in
     ap (λ b. if b then Some (after x) else None) room ∙ ap (λ y. Some (after y)) is
 inject_by s v spot k (Some []) here front room = cc
 inject_by s v spot k None here front room = cc
 
 -- the mesh after a copy was sent
-pub stepped-inject : (s : State) (v : ℕ) (spot : Spot) (k : McCopy) (unsent inputs : List (List McCopy)) → slice_get s.spots v ≡ Some spot → Some k ≡ front_of (slice_get s.unsent v) →
-    has_room s.capacity (slice_get s.inputs (queue_at s.machine spot.chip Local)) ≡ true →
-    unsent ≡ shortened s.unsent v (slice_get s.unsent v) →
-    inputs ≡ appended s.inputs (queue_at s.machine spot.chip Local) k (slice_get s.inputs (queue_at s.machine spot.chip Local)) →
-    stepped s (Inject v) ≡ Some (record s { unsent = unsent; inputs = inputs })
-stepped-inject s v spot k unsent inputs at_spot front room is_unsent is_inputs =
-    ap (λ o. injected s v o (slice_get s.unsent v)) at_spot
+pub step_of-inject : (s : State) (v : ℕ) (spot : Spot) (k : McCopy) (unsent inputs : List (List McCopy)) → slice_get s.setup.spots v ≡ Some spot → Some k ≡ front_of (slice_get s.unsent v) →
+    has_room s.setup.capacity (slice_get s.inputs (queue_at s.setup.machine spot.chip Local)) ≡ true →
+    unsent ≡ drop_front s.unsent v (slice_get s.unsent v) →
+    inputs ≡ push_at s.inputs (queue_at s.setup.machine spot.chip Local) k (slice_get s.inputs (queue_at s.setup.machine spot.chip Local)) →
+    step_of s (Inject v) ≡ Some (record s { unsent = unsent; inputs = inputs })
+step_of-inject s v spot k unsent inputs at_spot front room is_unsent is_inputs =
+    ap (λ o. inject_of s v o (slice_get s.unsent v)) at_spot
     ∙ (inject_by s v spot k (slice_get s.unsent v) refl (sym front) room
-    ∙ (ap (λ u. Some (record s { unsent = u; inputs = appended s.inputs (queue_at s.machine spot.chip Local) k (slice_get s.inputs (queue_at s.machine spot.chip Local)) })) (sym is_unsent)
+    ∙ (ap (λ u. Some (record s { unsent = u; inputs = push_at s.inputs (queue_at s.setup.machine spot.chip Local) k (slice_get s.inputs (queue_at s.setup.machine spot.chip Local)) })) (sym is_unsent)
     ∙ ap (λ i. Some (record s { unsent = unsent; inputs = i })) (sym is_inputs)))
 
 -- a live chip took a copy
-take_by : (s : State) (c : Chip) (port : Port) (k : McCopy) (q : Option (List McCopy)) → front_of q ≡ Some k → is_live_chip s.machine c ≡ true →
-    taken s c port (Some None) q ≡ Some (record s {
-      inputs = shortened s.inputs (queue_at s.machine c port) q;
-      hands = set s.hands (index_of s.machine c) (in_hand k port (outputs s c port k));
+take_by : (s : State) (c : Chip) (port : Port) (k : McCopy) (q : Option (List McCopy)) → front_of q ≡ Some k → is_live_chip s.setup.machine c ≡ true →
+    take_of s c port (Some None) q ≡ Some (record s {
+      inputs = drop_front s.inputs (queue_at s.setup.machine c port) q;
+      hands = set s.hands (index_of s.setup.machine c) (in_hand k port (outputs s.setup c port k));
     })
 take_by s c port k (Some (x ∷ rest)) front live =
     let is : x ≡ k = cc in
     let after : McCopy → State = λ y. record s {
-      inputs = set s.inputs (queue_at s.machine c port) rest;
-      hands = set s.hands (index_of s.machine c) (in_hand y port (outputs s c port y));
+      inputs = set s.inputs (queue_at s.setup.machine c port) rest;
+      hands = set s.hands (index_of s.setup.machine c) (in_hand y port (outputs s.setup c port y));
     } in
     ap (λ b. if b then Some (after x) else None) live ∙ ap (λ y. Some (after y)) is
 take_by s c port k (Some []) front live = cc
 take_by s c port k None front live = cc
 
 -- the mesh after a copy was taken
-pub stepped-take : (s : State) (c : Chip) (port : Port) (k : McCopy) (inputs : List (List McCopy)) (hands : List (Option Held)) → is_live_chip s.machine c ≡ true →
-    slice_get s.hands (index_of s.machine c) ≡ Some None → Some k ≡ front_of (slice_get s.inputs (queue_at s.machine c port)) →
-    inputs ≡ shortened s.inputs (queue_at s.machine c port) (slice_get s.inputs (queue_at s.machine c port)) →
-    hands ≡ set s.hands (index_of s.machine c) (in_hand k port (outputs s c port k)) →
-    stepped s (Take c port) ≡ Some (record s { inputs = inputs; hands = hands })
-stepped-take s c port k inputs hands live free front is_inputs is_hands =
-    let q : Option (List McCopy) = slice_get s.inputs (queue_at s.machine c port) in
-    ap (λ h. taken s c port h q) free
+pub step_of-take : (s : State) (c : Chip) (port : Port) (k : McCopy) (inputs : List (List McCopy)) (hands : List (Option Held)) → is_live_chip s.setup.machine c ≡ true →
+    slice_get s.hands (index_of s.setup.machine c) ≡ Some None → Some k ≡ front_of (slice_get s.inputs (queue_at s.setup.machine c port)) →
+    inputs ≡ drop_front s.inputs (queue_at s.setup.machine c port) (slice_get s.inputs (queue_at s.setup.machine c port)) →
+    hands ≡ set s.hands (index_of s.setup.machine c) (in_hand k port (outputs s.setup c port k)) →
+    step_of s (Take c port) ≡ Some (record s { inputs = inputs; hands = hands })
+step_of-take s c port k inputs hands live free front is_inputs is_hands =
+    let q : Option (List McCopy) = slice_get s.inputs (queue_at s.setup.machine c port) in
+    ap (λ h. take_of s c port h q) free
     ∙ (take_by s c port k q (sym front) live
-    ∙ (ap (λ i. Some (record s { inputs = i; hands = set s.hands (index_of s.machine c) (in_hand k port (outputs s c port k)) })) (sym is_inputs)
+    ∙ (ap (λ i. Some (record s { inputs = i; hands = set s.hands (index_of s.setup.machine c) (in_hand k port (outputs s.setup c port k)) })) (sym is_inputs)
     ∙ ap (λ h. Some (record s { inputs = inputs; hands = h })) (sym is_hands)))
 
 -- the mesh where a copy came into the queue behind an output
-arrived_is : (s : State) (b : Behind) (k : McCopy) → arrived s b k ≡ record s { inputs = inputs_after s.inputs b k; cores = cores_after s.cores b k }
+arrived_is : (s : State) (b : Behind) (k : McCopy) → push_behind s b k ≡ record s { inputs = inputs_after s.inputs b k; cores = cores_after s.cores b k }
 arrived_is s (input i) k = refl
 arrived_is s (core v) k = refl
 arrived_is s nowhere k = refl
 
 send_by : (s : State) (c : Chip) (o : Out) (k : McCopy) (hand : Option (Option Held)) → copy_served s c o hand ≡ Some k →
-    has_room_behind s (behind s.machine s.spots c o) ≡ true →
-    sent s c o hand ≡ Some (record s {
-      inputs = inputs_after s.inputs (behind s.machine s.spots c o) (onward k);
-      cores = cores_after s.cores (behind s.machine s.spots c o) (onward k);
-      hands = hands_after s.hands (index_of s.machine c) o hand;
+    has_room_behind s (behind s.setup c o) ≡ true →
+    send_of s c o hand ≡ Some (record s {
+      inputs = inputs_after s.inputs (behind s.setup c o) (onward k);
+      cores = cores_after s.cores (behind s.setup c o) (onward k);
+      hands = hands_after s.hands (index_of s.setup.machine c) o hand;
     })
 send_by s c o k (Some (Some h)) copy room =
-    let to : Behind = behind s.machine s.spots c o in
+    let to : Behind = behind s.setup c o in
     let parts : (serves s c o (Some (Some h)) ≡ true) × (h.copy ≡ k) = if_some (serves s c o (Some (Some h))) h.copy k copy in
     let asked : (serves s c o (Some (Some h)) && has_room_behind s to) ≡ true = and_from _ _ parts.0 room in
-    ap (λ b. if b then Some (arrived (served s c o h) to (onward h.copy)) else None) asked
-    ∙ (ap (λ x. Some (arrived (served s c o h) to (onward x))) parts.1
-    ∙ ap Some (arrived_is (served s c o h) to (onward k)))
+    ap (λ b. if b then Some (push_behind (after_serving s c o h) to (onward h.copy)) else None) asked
+    ∙ (ap (λ x. Some (push_behind (after_serving s c o h) to (onward x))) parts.1
+    ∙ ap Some (arrived_is (after_serving s c o h) to (onward k)))
 send_by s c o k (Some None) copy room = cc
 send_by s c o k None copy room = cc
 
 -- the mesh after a copy was sent by an output
-pub stepped-send : (s : State) (c : Chip) (o : Out) (k : McCopy) (inputs cores : List (List McCopy)) (hands : List (Option Held)) →
-    Some k ≡ copy_served s c o (slice_get s.hands (index_of s.machine c)) →
-    has_room_behind s (behind s.machine s.spots c o) ≡ true →
-    inputs ≡ inputs_after s.inputs (behind s.machine s.spots c o) (onward k) →
-    cores ≡ cores_after s.cores (behind s.machine s.spots c o) (onward k) →
-    hands ≡ hands_after s.hands (index_of s.machine c) o (slice_get s.hands (index_of s.machine c)) →
-    stepped s (Send c o) ≡ Some (record s { inputs = inputs; cores = cores; hands = hands })
-stepped-send s c o k inputs cores hands copy room is_inputs is_cores is_hands =
+pub step_of-send : (s : State) (c : Chip) (o : Out) (k : McCopy) (inputs cores : List (List McCopy)) (hands : List (Option Held)) →
+    Some k ≡ copy_served s c o (slice_get s.hands (index_of s.setup.machine c)) →
+    has_room_behind s (behind s.setup c o) ≡ true →
+    inputs ≡ inputs_after s.inputs (behind s.setup c o) (onward k) →
+    cores ≡ cores_after s.cores (behind s.setup c o) (onward k) →
+    hands ≡ hands_after s.hands (index_of s.setup.machine c) o (slice_get s.hands (index_of s.setup.machine c)) →
+    step_of s (Send c o) ≡ Some (record s { inputs = inputs; cores = cores; hands = hands })
+step_of-send s c o k inputs cores hands copy room is_inputs is_cores is_hands =
     let from : List (List McCopy) → List (List McCopy) → List (Option Held) → Option State = λ i q h. Some (record s { inputs = i; cores = q; hands = h }) in
-    let to : Behind = behind s.machine s.spots c o in
-    let last : List (Option Held) = hands_after s.hands (index_of s.machine c) o (slice_get s.hands (index_of s.machine c)) in
-    send_by s c o k (slice_get s.hands (index_of s.machine c)) (sym copy) room
+    let to : Behind = behind s.setup c o in
+    let last : List (Option Held) = hands_after s.hands (index_of s.setup.machine c) o (slice_get s.hands (index_of s.setup.machine c)) in
+    send_by s c o k (slice_get s.hands (index_of s.setup.machine c)) (sym copy) room
     ∙ (ap (λ i. from i (cores_after s.cores to (onward k)) last) (sym is_inputs)
     ∙ (ap (λ q. from inputs q last) (sym is_cores)
     ∙ ap (λ h. from inputs cores h) (sym is_hands)))
 
 dump_by : (s : State) (c : Chip) (o : Out) (k : McCopy) (hand : Option (Option Held)) → copy_served s c o hand ≡ Some k →
-    has_room_behind s (behind s.machine s.spots c o) ≡ false →
-    dumped_at s c o hand ≡ Some (record s {
-      hands = hands_after s.hands (index_of s.machine c) o hand;
+    has_room_behind s (behind s.setup c o) ≡ false →
+    dump_of s c o hand ≡ Some (record s {
+      hands = hands_after s.hands (index_of s.setup.machine c) o hand;
       dumped = s.dumped ++ record { chip = c; out = o; copy = k } ∷ [];
     })
 dump_by s c o k (Some (Some h)) copy full =
-    let to : Behind = behind s.machine s.spots c o in
+    let to : Behind = behind s.setup c o in
     let parts : (serves s c o (Some (Some h)) ≡ true) × (h.copy ≡ k) = if_some (serves s c o (Some (Some h))) h.copy k copy in
     let asked : (serves s c o (Some (Some h)) && not (has_room_behind s to)) ≡ true = and_from _ _ parts.0 (ap not full) in
-    let after : McCopy → State = λ x. record (served s c o h) { dumped = s.dumped ++ record { chip = c; out = o; copy = x } ∷ [] } in
+    let after : McCopy → State = λ x. record (after_serving s c o h) { dumped = s.dumped ++ record { chip = c; out = o; copy = x } ∷ [] } in
     ap (λ b. if b then Some (after h.copy) else None) asked ∙ ap (λ x. Some (after x)) parts.1
 dump_by s c o k (Some None) copy full = cc
 dump_by s c o k None copy full = cc
 
 -- the mesh after a copy was dropped at an output
-pub stepped-dump : (s : State) (c : Chip) (o : Out) (k : McCopy) (hands : List (Option Held)) (dumped : List DumpRec) →
-    Some k ≡ copy_served s c o (slice_get s.hands (index_of s.machine c)) →
-    has_room_behind s (behind s.machine s.spots c o) ≡ false →
-    hands ≡ hands_after s.hands (index_of s.machine c) o (slice_get s.hands (index_of s.machine c)) →
+pub step_of-dump : (s : State) (c : Chip) (o : Out) (k : McCopy) (hands : List (Option Held)) (dumped : List DumpRec) →
+    Some k ≡ copy_served s c o (slice_get s.hands (index_of s.setup.machine c)) →
+    has_room_behind s (behind s.setup c o) ≡ false →
+    hands ≡ hands_after s.hands (index_of s.setup.machine c) o (slice_get s.hands (index_of s.setup.machine c)) →
     dumped ≡ s.dumped ++ record { chip = c; out = o; copy = k } ∷ [] →
-    stepped s (Dump c o) ≡ Some (record s { hands = hands; dumped = dumped })
-stepped-dump s c o k hands dumped copy full is_hands is_dumped =
-    dump_by s c o k (slice_get s.hands (index_of s.machine c)) (sym copy) full
+    step_of s (Dump c o) ≡ Some (record s { hands = hands; dumped = dumped })
+step_of-dump s c o k hands dumped copy full is_hands is_dumped =
+    dump_by s c o k (slice_get s.hands (index_of s.setup.machine c)) (sym copy) full
     ∙ (ap (λ h. Some (record s { hands = h; dumped = s.dumped ++ record { chip = c; out = o; copy = k } ∷ [] })) (sym is_hands)
     ∙ ap (λ d. Some (record s { hands = hands; dumped = d })) (sym is_dumped))

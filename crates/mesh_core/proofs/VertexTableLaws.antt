@@ -1,41 +1,36 @@
 -- The table of vertices, as it is made.
-use Rattle.std.proofs.Common.{◌≡◌, ◌≢◌, ℕ, ◌+◌, ◌*◌, ◌<◌, ◌≤◌, refl, sym, ap, ◌∙◌, subst, arith, Bool, true, false, List, [], ◌∷◌, ◌++◌, length, take, get_or, set, replicate, cond, Option, Some, None, inl, inr, ◌&&◌, not, nat_le}
+use Rattle.std.proofs.Common.{◌≡◌, ◌≢◌, ℕ, ◌+◌, ◌*◌, ◌<◌, ◌≤◌, refl, sym, ap, ◌∙◌, subst, arith, Bool, true, false, List, [], ◌∷◌, ◌++◌, length, take, get_or, set, replicate, cond, Option, Some, None, inl, inr}
 use Rattle.std.specs.Prelude.{AllPairs}
-use Rattle.std.specs.List.{position_from, slice_get, All, list_any}
+use Rattle.std.specs.List.{position_from, slice_get, All}
 use Rattle.std.proofs.lemmas.Iterator.Adapters.{position_from-zero}
 use Rattle.std.proofs.lemmas.List.{take_more, length-set, length-replicate, get_or-replicate, length-take-le, get_or-take, get_or_default, take_all}
 use Rattle.std.proofs.lemmas.Option.{slice_get-get_or}
-use Rattle.std.proofs.lemmas.Bool.{cases_eq, and_parts, leb-true}
+use Rattle.std.proofs.lemmas.Bool.{cases_eq}
 use Rattle.std.proofs.lemmas.List.Elements.{All-head, All-tail}
 use Rattle.spin_base.specs.declared.chips.Spot.{Spot}
 use Rattle.spin_base.specs.Equality.{spot_eq}
 use Rattle.spin_base.proofs.Equality.{spot_eq_true, spot_eq_same}
 use Rattle.machine_desc.specs.Description.{Description}
-use Rattle.machine_desc.specs.Live.{index_of, IsInside, IsUsable, is_live_chip}
+use Rattle.machine_desc.specs.Live.{index_of, IsInside, IsSite}
 use Rattle.machine_desc.proofs.Far.{same_index, index_below, live_inside}
 use Rattle.machine_desc.proofs.Same.{same_spot}
-use Rattle.mesh_core.specs.State.{vertex_at}
-use Rattle.mesh_core.specs.VertexTable.{core_place, TellsVertices}
+use Rattle.machine_desc.proofs.Sites.{site_parts}
+use Rattle.net_tables.specs.NetsOn.{vertex_at}
+use Rattle.mesh_core.specs.VertexTable.{spot_place, TellsVertices}
 use Rattle.mesh_core.proofs.QueueLists.{slice_get-set_same, slice_get-set_other}
 
--- a usable core is one of the cores 0 to 17 of a chip of the grid
-pub usable_parts : (m : Description) (s : Spot) → IsUsable m s → IsInside m s.chip × (s.core < 18)
-usable_parts m s h =
-    let core : Bool = nat_le 1 s.core && nat_le s.core 17 in
-    let listed : Bool = not (list_any (spot_eq s) m.dead_cores) in
-    let parts : (is_live_chip m s.chip ≡ true) × ((core && listed) ≡ true) = and_parts (is_live_chip m s.chip) (core && listed) h in
-    let is_core : (core ≡ true) × (listed ≡ true) = and_parts core listed parts.1 in
-    let bounds : (nat_le 1 s.core ≡ true) × (nat_le s.core 17 ≡ true) = and_parts (nat_le 1 s.core) (nat_le s.core 17) is_core.0 in
-    (live_inside m s.chip parts.0, omega (arith, leb-true s.core 17 bounds.1))
+-- a site is one of the 24 spots of a chip of the grid
+pub site_inside : (m : Description) (s : Spot) → IsSite m s → IsInside m s.chip × (s.core < 24)
+site_inside m s h = let parts = site_parts m s h in (live_inside m s.chip parts.0, parts.1)
 
--- cores of one place are one core
-pub same_core_place : (m : Description) (a b : Spot) → IsInside m a.chip → IsInside m b.chip → a.core < 18 → b.core < 18 → core_place m a ≡ core_place m b → a ≡ b
-same_core_place m a b in_a in_b small_a small_b e =
+-- spots of one place are one spot
+pub same_spot_place : (m : Description) (a b : Spot) → IsInside m a.chip → IsInside m b.chip → a.core < 24 → b.core < 24 → spot_place m a ≡ spot_place m b → a ≡ b
+same_spot_place m a b in_a in_b small_a small_b e =
     let same : index_of m a.chip ≡ index_of m b.chip = omega arith in
     same_spot a b (same_index m a.chip b.chip in_a in_b same) (omega arith)
 
-pub core_place-below : (m : Description) (s : Spot) → IsInside m s.chip → s.core < 18 → core_place m s < 18 * (m.width * m.height)
-core_place-below m s inside small = omega (arith, index_below m s.chip inside)
+pub spot_place-below : (m : Description) (s : Spot) → IsInside m s.chip → s.core < 24 → spot_place m s < 24 * (m.width * m.height)
+spot_place-below m s inside small = omega (arith, index_below m s.chip inside)
 
 -- what a search gives where there is one more item
 position-push_other : (t : Spot → Bool) (xs : List Spot) (y : Spot) (n : ℕ) → t y ≡ false → position_from t n (xs ++ y ∷ []) ≡ position_from t n xs
@@ -61,7 +56,7 @@ differs a b other = other_spot a b other (spot_eq a b) refl
 same_eq : (a b : Spot) → a ≡ b → spot_eq a b ≡ true
 same_eq a b e = subst (λ (s : Spot). spot_eq a s ≡ true) e (spot_eq_same a)
 
--- the vertex on a core, where one vertex more is known
+-- the vertex on a spot, where one vertex more is known
 vertex_at-push_other : (spots : List Spot) (y s : Spot) → s ≢ y → vertex_at (spots ++ y ∷ []) s ≡ vertex_at spots s
 vertex_at-push_other spots y s other =
     vertex_at-from (spots ++ y ∷ []) s ∙ (position-push_other (spot_eq s) spots y 0 (differs s y other) ∙ sym (vertex_at-from spots s))
@@ -72,37 +67,37 @@ vertex_at-push_new spots y s same different =
     vertex_at-from (spots ++ y ∷ []) s ∙ (position-push_new (spot_eq s) spots y 0 (same_eq s y same) none ∙ ap Some (omega arith))
 
 -- the table of no vertices
-pub TellsVertices-none : (m : Description) (spots : List Spot) → TellsVertices m (take 0 spots) (replicate (18 * (m.width * m.height)) None)
+pub TellsVertices-none : (m : Description) (spots : List Spot) → TellsVertices m (take 0 spots) (replicate (24 * (m.width * m.height)) None)
 TellsVertices-none m spots = record {
-  long = length-replicate {A = Option ℕ} (18 * (m.width * m.height)) None;
+  long = length-replicate {A = Option ℕ} (24 * (m.width * m.height)) None;
   told = λ s inside small.
-      let n : ℕ = 18 * (m.width * m.height) in
-      let below : core_place m s < n = core_place-below m s inside small in
-      slice_get-get_or (replicate n None) (core_place m s) None (rw (length-replicate {A = Option ℕ} n None) below)
-      ∙ ap Some (get_or-replicate n (core_place m s) None None below);
+      let n : ℕ = 24 * (m.width * m.height) in
+      let below : spot_place m s < n = spot_place-below m s inside small in
+      slice_get-get_or (replicate n None) (spot_place m s) None (rw (length-replicate {A = Option ℕ} n None) below)
+      ∙ ap Some (get_or-replicate n (spot_place m s) None None below);
 }
 
 -- the table where one vertex more is written
 pub TellsVertices-more : (m : Description) (spots : List Spot) (i : ℕ) (y : Spot) (table : List (Option ℕ)) → i < length spots → y ≡ get_or spots i y →
-    AllPairs (λ a b. a ≢ b) spots → IsUsable m y → TellsVertices m (take i spots) table →
-    TellsVertices m (take (i + 1) spots) (set table (core_place m y) (Some i))
-TellsVertices-more m spots i y table below is_y different usable tells =
+    AllPairs (λ a b. a ≢ b) spots → IsSite m y → TellsVertices m (take i spots) table →
+    TellsVertices m (take (i + 1) spots) (set table (spot_place m y) (Some i))
+TellsVertices-more m spots i y table below is_y different site tells =
     record {
-      long = length-set table (core_place m y) (Some i) ∙ tells.long;
-      told = λ s inside small. elim (cases_eq (core_place m s) (core_place m y)) [
+      long = length-set table (spot_place m y) (Some i) ∙ tells.long;
+      told = λ s inside small. elim (cases_eq (spot_place m s) (spot_place m y)) [
         | inl here ↦ at_y s inside small here
         | inr there ↦
-            slice_get-set_other table (core_place m y) (core_place m s) (Some i) there
+            slice_get-set_other table (spot_place m y) (spot_place m s) (Some i) there
             ∙ (tells.told s inside small
-            ∙ ap Some (sym (ap (λ l. vertex_at l s) more ∙ vertex_at-push_other (take i spots) y s (λ e. there (ap (core_place m) e)))))
+            ∙ ap Some (sym (ap (λ l. vertex_at l s) more ∙ vertex_at-push_other (take i spots) y s (λ e. there (ap (spot_place m) e)))))
       ];
     }
   where
     more : take (i + 1) spots ≡ take i spots ++ y ∷ []
     more = take_more spots i y below ∙ ap (λ x. take i spots ++ x ∷ []) (sym is_y)
 
-    at : IsInside m y.chip × (y.core < 18)
-    at = usable_parts m y usable
+    at : IsInside m y.chip × (y.core < 24)
+    at = site_inside m y site
 
     taken : length (take i spots) ≡ i
     taken = length-take-le i spots (omega arith)
@@ -114,11 +109,11 @@ TellsVertices-more m spots i y table below is_y different usable tells =
         get_or_default spots k y d (omega arith) ∙ (sym (get_or-take i spots k d k_small) ∙ (sym e ∙ is_y)) in
         different k i y k_small below same
 
-    at_y : (s : Spot) → IsInside m s.chip → s.core < 18 → core_place m s ≡ core_place m y → slice_get (set table (core_place m y) (Some i)) (core_place m s) ≡ Some (vertex_at (take (i + 1) spots) s)
+    at_y : (s : Spot) → IsInside m s.chip → s.core < 24 → spot_place m s ≡ spot_place m y → slice_get (set table (spot_place m y) (Some i)) (spot_place m s) ≡ Some (vertex_at (take (i + 1) spots) s)
     at_y s inside small here =
-        let same : s ≡ y = same_core_place m s y inside at.0 small at.1 here in
-        ap (λ p. slice_get (set table (core_place m y) (Some i)) p) here
-        ∙ (slice_get-set_same table (core_place m y) (vertex_at (take i spots) y) (Some i) (tells.told y at.0 at.1)
+        let same : s ≡ y = same_spot_place m s y inside at.0 small at.1 here in
+        ap (λ p. slice_get (set table (spot_place m y) (Some i)) p) here
+        ∙ (slice_get-set_same table (spot_place m y) (vertex_at (take i spots) y) (Some i) (tells.told y at.0 at.1)
         ∙ ap Some (sym (ap (λ l. vertex_at l s) more ∙ (vertex_at-push_new (take i spots) y s same earlier ∙ ap Some taken))))
 
 -- all vertices are told once all are written

@@ -12,24 +12,28 @@ use Rattle.spin_base.specs.declared.routes.Out.TheVariants.{Link, Core}
 use Rattle.spin_base.specs.declared.copies.McCopy.{McCopy}
 use Rattle.spin_base.specs.Links.{opposite_of}
 use Rattle.machine_desc.specs.declared.trees.Edge.{Edge}
-use Rattle.machine_desc.specs.Live.{IsInside, IsUsable}
+use Rattle.machine_desc.specs.Live.{IsInside, IsLiveChip, IsSite}
 use Rattle.machine_desc.specs.RoutingTree.{end_of, IsRoutingTree}
 use Rattle.machine_desc.specs.Branch.{Exit, IsBranch, arrival_at}
-use Rattle.machine_desc.proofs.Branches.{ComesBy, comes_by, exit_leads, ExitLeads, way_first, same_place, one_edge_into, branch_short, branch_inside, core_on_branch, exit_of}
+use Rattle.machine_desc.proofs.Branches.{ComesBy, comes_by, exit_leads, ExitLeads, way_first, same_place, branch_short, branch_inside, exit_of, last_exit}
+use Rattle.machine_desc.proofs.Sites.{site_parts}
+use Rattle.machine_desc.proofs.TreeLemmas.{one_edge_into}
+use Rattle.spin_base.specs.Outputs.{out_of}
 use Rattle.net_tables.specs.declared.nets.NetPlan.{NetPlan}
 use Rattle.net_tables.specs.RightTables.{IsKeyOf}
 use Rattle.mesh_core.specs.declared.places.Where.{Where}
 use Rattle.mesh_core.specs.declared.places.Where.TheVariants.{Unsent}
 use Rattle.mesh_core.specs.State.{State, IsMesh}
 use Rattle.mesh_core.specs.Trail.{Station, unsent, in_queue, in_hand, at_core, delivered, dumped, Mark, on_trail, is_on_trail, is_packet_on_trail}
-use Rattle.mesh_core.specs.Ledger.{marks_of, AreNetsOf, IsWayOf}
+use Rattle.net_tables.specs.NetsOn.{AreNetsOn, IsWayOn}
+use Rattle.mesh_core.specs.Ledger.{marks_of}
 use Rattle.mesh_core.specs.Whereabouts.{TellsStation, IsTold, IsWhere, IsTracked}
 use Rattle.mesh_core.specs.Searches.{IsMarkThere, IsFound, IsOfCore, IsOfOutput, IsOfPort, port_behind, IsEdgeInto}
 use Rattle.mesh_core.proofs.Exchange.{Among, among_contains, count_by-cons}
 use Rattle.mesh_core.proofs.Events.{and_true_left, and_true_right}
 use Rattle.mesh_core.proofs.LedgerLaw.{one_net}
 use Rattle.mesh_core.proofs.Law.{leaves_parts, leaves_from, ComesThere, comes_parts, comes_from}
-use Rattle.mesh_core.proofs.Ways.{nat_true, nat_same, both_true, vertex_at_stands, vertex_there, place_below}
+use Rattle.mesh_core.proofs.Ways.{nat_true, nat_same, both_true, vertex_at_stands, some_way, place_below}
 
 -- ---- lists
 
@@ -71,7 +75,7 @@ pub record WalkedOn (s : State) (packet : ℕ) (branch : List Exit) (from to ste
 
 abbrev pub Walked : State → NetPlan → ℕ → Spot → ℕ → Chip → Out → Type 0
 Walked s net packet target steps chip out =
-    (branch : List Exit) (from to : ℕ) → IsWayOf s net target branch from to → WalkedOn s packet branch from to steps chip out
+    (branch : List Exit) (from to : ℕ) → IsWayOn s.setup.machine s.setup.spots net target branch from to → WalkedOn s packet branch from to steps chip out
 
 -- the exit before a place, where this edge leads into the place's chip
 abbrev Prior : List Exit → ℕ → Option Edge → Type 0
@@ -81,40 +85,33 @@ Prior xs (suc i) None = ⊥
 Prior xs (suc i) (Some e) = slice_get xs i ≡ Some (exit_of e)
 
 module _ (s : State) (net : NetPlan) (packet : ℕ) (tracked : IsTracked s net packet) (target : Spot) (is_target : Contains net.targets target) where
-  stand : AreNetsOf s tracked.nets
+  stand : AreNetsOn s.setup.machine s.setup.spots tracked.nets
   stand = tracked.ledger.nets_stand
 
-  tree : IsRoutingTree s.machine net.tree.root net.tree.edges net.targets
-  tree = All-contains (λ n. IsRoutingTree s.machine n.tree.root n.tree.edges n.targets) tracked.nets net stand.trees tracked.in_nets
+  tree : IsRoutingTree s.setup.machine net.tree.root net.tree.edges net.targets
+  tree = All-contains (λ n. IsRoutingTree s.setup.machine n.tree.root n.tree.edges n.targets) tracked.nets net stand.trees tracked.in_nets
 
-  on_spot : Contains s.spots target
+  on_spot : Contains s.setup.spots target
   on_spot =
-      All-contains (Contains s.spots) net.targets target
-      (All-contains (λ n. All (Contains s.spots) n.targets) tracked.nets net stand.targets tracked.in_nets) is_target
+      All-contains (Contains s.setup.spots) net.targets target
+      (All-contains (λ n. All (Contains s.setup.spots) n.targets) tracked.nets net stand.targets tracked.in_nets) is_target
 
-  pub target_usable : IsMesh s → IsUsable s.machine target
-  target_usable mesh = All-contains (IsUsable s.machine) s.spots target mesh.usable on_spot
+  pub target_is_site : IsMesh s → IsSite s.setup.machine target
+  target_is_site mesh = All-contains (IsSite s.setup.machine) s.setup.spots target mesh.sites on_spot
+
+  -- the root of the net's tree is the chip of a vertex, so live
+  root_lives : IsMesh s → IsLiveChip s.setup.machine net.tree.root
+  root_lives mesh =
+      let source = All-contains (λ n. Contains s.setup.spots n.source) tracked.nets net stand.sources tracked.in_nets in
+      let site : IsSite s.setup.machine net.source = All-contains (IsSite s.setup.machine) s.setup.spots net.source mesh.sites source in
+      subst (λ (c : Chip). IsLiveChip s.setup.machine c) (sym (All-contains (λ n. n.tree.root ≡ n.source.chip) tracked.nets net stand.roots tracked.in_nets))
+      (site_parts s.setup.machine net.source site).0
 
   -- ---- the ways to the target
 
   -- there is a way of the net to the target
-  record SomeWay : Type 0 where
-    branch : List Exit
-    from : ℕ
-    to : ℕ
-    way : IsWayOf s net target branch from to
-
-  some_way : SomeWay
-  some_way =
-      let found = core_on_branch s.machine net.tree.root net.tree.edges net.targets tree target is_target in
-      let begin = vertex_there s.spots net.source (All-contains (λ n. Contains s.spots n.source) tracked.nets net stand.sources tracked.in_nets) in
-      let end = vertex_there s.spots target on_spot in
-      record {
-        branch = found.0;
-        from = begin.0;
-        to = end.0;
-        way = record { is_target = is_target; is_branch = found.1; begins = begin.1; ends = end.1 };
-      }
+  a_way : (branch : List Exit) × (from : ℕ) × (to : ℕ) × IsWayOn s.setup.machine s.setup.spots net target branch from to
+  a_way = some_way s.setup.machine s.setup.spots tracked.nets stand net tracked.in_nets target is_target
 
   same_exit : (x : Exit) (c : Chip) (o : Out) → x.chip ≡ c → x.out ≡ o → x ≡ record { chip = c; out = o }
   same_exit x c o e f = made x.chip c x.out o e f
@@ -122,39 +119,35 @@ module _ (s : State) (net : NetPlan) (packet : ℕ) (tracked : IsTracked s net p
       made : (a b : Chip) (p q : Out) → a ≡ b → p ≡ q → (let y : Exit = record { chip = a; out = p } in let z : Exit = record { chip = b; out = q } in y ≡ z)
       made a b p q e' f' = cc
 
-  -- the last exit of a branch is its target's core
-  last_exit : (t : Spot) (xs : List Exit) → IsBranch s.machine net.tree.root net.tree.edges t xs →
-      (i : ℕ) × (slice_get xs i ≡ Some (record { chip = t.chip; out = Core t.core })) × (i + 1 ≡ length xs)
-  last_exit t [] is = absurd is
-  last_exit t (x ∷ xs) is =
+  -- the last exit of a branch is by the output that leads to its target
+  last_place : (t : Spot) (xs : List Exit) → IsBranch s.setup.machine net.tree.root net.tree.edges t xs →
+      (i : ℕ) × (slice_get xs i ≡ Some (last_exit t)) × (i + 1 ≡ length xs)
+  last_place t [] is = absurd is
+  last_place t (x ∷ xs) is =
       let i : ℕ = length xs in
       let there = at_place (x ∷ xs) i (omega arith) in
-      (i, there.1 ∙ ap Some (by_output there.0 there.1 there.0.out refl (exit_leads s.machine net.tree.edges t net.tree.root (x ∷ xs) i there.0 is there.1)), omega arith)
+      (i, there.1 ∙ ap Some (by_end there.0 (exit_leads s.setup.machine net.tree.edges t net.tree.root (x ∷ xs) i there.0 is there.1)), omega arith)
     where
-      by_output : (z : Exit) → slice_get (x ∷ xs) (length xs) ≡ Some z → (o : Out) → z.out ≡ o →
-          ExitLeads s.machine net.tree.edges t (x ∷ xs) (length xs) z o → z ≡ record { chip = t.chip; out = Core t.core }
-      by_output z at (Link d) out_is leads =
-          let past : suc (length xs) < length (x ∷ xs) = place_below (x ∷ xs) (suc (length xs)) leads.1.0 leads.1.2 in absurd (omega arith)
-      by_output z at (Core p) out_is leads =
-          same_exit z t.chip (Core t.core) (ap (λ (u : Spot). u.chip) (sym leads.0))
-          (out_is ∙ ap (λ (u : Spot). Core u.core) (sym leads.0))
+      by_end : (z : Exit) → ExitLeads s.setup.machine net.tree.edges t (x ∷ xs) (length xs) z → z ≡ last_exit t
+      by_end z (inl (d, out, in_tree, (y, far, next))) =
+          let past : suc (length xs) < length (x ∷ xs) = place_below (x ∷ xs) (suc (length xs)) y next in absurd (omega arith)
+      by_end z (inr (chip, out, long)) = same_exit z t.chip (out_of t.core) (sym chip) out
 
   -- branches that pass a chip pass it at one place and come in at one port
-  one_place_of : (t u : Spot) (xs ys : List Exit) → IsBranch s.machine net.tree.root net.tree.edges t xs → IsBranch s.machine net.tree.root net.tree.edges u ys →
+  one_place_of : (t u : Spot) (xs ys : List Exit) → IsBranch s.setup.machine net.tree.root net.tree.edges t xs → IsBranch s.setup.machine net.tree.root net.tree.edges u ys →
       (i j : ℕ) (x y : Exit) → slice_get xs i ≡ Some x → slice_get ys j ≡ Some y → x.chip ≡ y.chip → (i ≡ j) × (arrival_at xs i ≡ arrival_at ys j)
-  one_place_of = same_place s.machine net.tree.root net.tree.edges (map (λ x. x.chip) net.targets) tree
+  one_place_of = same_place s.setup.machine net.tree.root net.tree.edges (map (λ x. x.chip) net.targets) tree
 
   -- branches to one vertex are of one length
-  one_length : (t u : Spot) (xs ys : List Exit) (from from' to : ℕ) → IsWayOf s net t xs from to → IsWayOf s net u ys from' to → length xs ≡ length ys
+  one_length : (t u : Spot) (xs ys : List Exit) (from from' to : ℕ) → IsWayOn s.setup.machine s.setup.spots net t xs from to → IsWayOn s.setup.machine s.setup.spots net u ys from' to → length xs ≡ length ys
   one_length t u xs ys from from' to w w' =
-      let on_t = vertex_at_stands s.spots t to w.ends in
-      let on_u = vertex_at_stands s.spots u to w'.ends in
+      let on_t = vertex_at_stands s.setup.spots t to w.ends in
+      let on_u = vertex_at_stands s.setup.spots u to w'.ends in
       let both : Some t ≡ Some u = sym on_t ∙ on_u in
       let same : t ≡ u = cc in
-      let x = last_exit t xs w.is_branch in
-      let y = last_exit u ys w'.is_branch in
-      let place = one_place_of t u xs ys w.is_branch w'.is_branch x.0 y.0 (record { chip = t.chip; out = Core t.core })
-      (record { chip = u.chip; out = Core u.core }) x.1 y.1 (ap (λ (z : Spot). z.chip) same)
+      let x = last_place t xs w.is_branch in
+      let y = last_place u ys w'.is_branch in
+      let place = one_place_of t u xs ys w.is_branch w'.is_branch x.0 y.0 (last_exit t) (last_exit u) x.1 y.1 (ap (λ (z : Spot). z.chip) same)
       in
       sym x.2 ∙ (ap (λ n. n + 1) place.0 ∙ y.2)
 
@@ -166,7 +159,7 @@ module _ (s : State) (net : NetPlan) (packet : ℕ) (tracked : IsTracked s net p
     branch : List Exit
     from : ℕ
     to : ℕ
-    way : IsWayOf s net goal branch from to
+    way : IsWayOn s.setup.machine s.setup.spots net goal branch from to
     on : is_on_trail from to branch k ≡ true
 
   its_key : (k : Mark) → Contains (marks_of s) k → k.copy.packet ≡ packet → IsKeyOf net.block k.copy.key
@@ -187,11 +180,11 @@ module _ (s : State) (net : NetPlan) (packet : ℕ) (tracked : IsTracked s net p
         branch = on.3.1;
         from = on.3.2;
         to = on.3.3;
-        way = subst (λ (n : NetPlan). IsWayOf s n on.3.0 on.3.1 on.3.2 on.3.3) one on.3.4;
+        way = subst (λ (n : NetPlan). IsWayOn s.setup.machine s.setup.spots n on.3.0 on.3.1 on.3.2 on.3.3) one on.3.4;
         on = on.3.5;
       }
 
-  module _ (xs : List Exit) (from to : ℕ) (way : IsWayOf s net target xs from to) where
+  module _ (xs : List Exit) (from to : ℕ) (way : IsWayOn s.setup.machine s.setup.spots net target xs from to) where
     -- a mark whose station is this is on the trail where the station is
     on_by : (k : Mark) (at : Station) → k.station ≡ at → on_trail from to xs k.copy.hop at ≡ true → is_on_trail from to xs k ≡ true
     on_by k at is on = ap (on_trail from to xs k.copy.hop) is ∙ on
@@ -254,7 +247,7 @@ module _ (s : State) (net : NetPlan) (packet : ℕ) (tracked : IsTracked s net p
         at_end on =
             let its_to : v ≡ u.to = nat_true v u.to (and_true_left (v == u.to) (k.copy.hop == length u.branch) on) in
             let hop : k.copy.hop ≡ length u.branch = nat_true k.copy.hop (length u.branch) (and_true_right (v == u.to) (k.copy.hop == length u.branch) on) in
-            let other : IsWayOf s net u.goal u.branch u.from to = subst (λ n. IsWayOf s net u.goal u.branch u.from n) (sym its_to ∙ is_to) u.way in
+            let other : IsWayOn s.setup.machine s.setup.spots net u.goal u.branch u.from to = subst (λ n. IsWayOn s.setup.machine s.setup.spots net u.goal u.branch u.from n) (sym its_to ∙ is_to) u.way in
             let long = one_length u.goal target u.branch xs u.from from to other way in
             both_true (v == to) (k.copy.hop == length xs) (nat_same v to is_to) (nat_same k.copy.hop (length xs) (hop ∙ long))
 
@@ -324,11 +317,11 @@ module _ (s : State) (net : NetPlan) (packet : ℕ) (tracked : IsTracked s net p
       told_by xs from to way k found.is_mark found.is_packet
       (comes_on xs from to way k found.is_mark found.is_packet on.place chip out port on.at found.there) w found.told
 
-  -- the walk begins at the target's core, where nothing was found
+  -- the walk begins at the target's output, where nothing was found at its vertex
 
-  pub walk_begins : IsFound s packet (IsOfCore s target) None → Walked s net packet target 0 target.chip (Core target.core)
+  pub walk_begins : IsFound s packet (IsOfCore s target) None → Walked s net packet target 0 target.chip (out_of target.core)
   walk_begins none xs from to way =
-      let last = last_exit target xs way.is_branch in
+      let last = last_place target xs way.is_branch in
       record { place = last.0; is_place = let n = last.2 in omega arith; at = last.1; before = λ k has is_packet on. by_station last.0 last.2 k has is_packet k.station refl on }
     where
       by_station : (i : ℕ) → i + 1 ≡ length xs → (k : Mark) → Contains (marks_of s) k → k.copy.packet ≡ packet → (at : Station) → k.station ≡ at →
@@ -352,21 +345,21 @@ module _ (s : State) (net : NetPlan) (packet : ℕ) (tracked : IsTracked s net p
           omega arith
 
   -- the walk is at a chip inside the grid
-  pub walk_inside : (steps : ℕ) (chip : Chip) (out : Out) → Walked s net packet target steps chip out → IsInside s.machine chip
-  walk_inside steps chip out walked =
-      let w = some_way in
-      let on = walked w.branch w.from w.to w.way in
-      branch_inside s.machine net.tree.root net.tree.edges (map (λ x. x.chip) net.targets) tree target w.branch w.way.is_branch on.place
+  pub walk_inside : IsMesh s → (steps : ℕ) (chip : Chip) (out : Out) → Walked s net packet target steps chip out → IsInside s.setup.machine chip
+  walk_inside mesh steps chip out walked =
+      let w = a_way in
+      let on = walked w.0 w.1 w.2 w.3 in
+      branch_inside s.setup.machine net.tree.root net.tree.edges (map (λ x. x.chip) net.targets) tree (root_lives mesh) target w.0 w.3.is_branch on.place
       (record { chip = chip; out = out }) on.at
 
   -- the walk has fewer steps than the grid has chips
-  pub walk_short : (steps : ℕ) (chip : Chip) (out : Out) → Walked s net packet target steps chip out → s.machine.width * s.machine.height ≤ steps → ⊥
-  walk_short steps chip out walked many =
-      let w = some_way in
-      let on = walked w.branch w.from w.to w.way in
-      let place : on.place + 1 + steps ≡ length w.branch = on.is_place in
-      let short : length w.branch ≤ s.machine.width * s.machine.height =
-      branch_short s.machine net.tree.root net.tree.edges (map (λ x. x.chip) net.targets) tree target w.branch w.way.is_branch
+  pub walk_short : IsMesh s → (steps : ℕ) (chip : Chip) (out : Out) → Walked s net packet target steps chip out → s.setup.machine.width * s.setup.machine.height ≤ steps → ⊥
+  walk_short mesh steps chip out walked many =
+      let w = a_way in
+      let on = walked w.0 w.1 w.2 w.3 in
+      let place : on.place + 1 + steps ≡ length w.0 = on.is_place in
+      let short : length w.0 ≤ s.setup.machine.width * s.setup.machine.height =
+      branch_short s.setup.machine net.tree.root net.tree.edges (map (λ x. x.chip) net.targets) tree (root_lives mesh) target w.0 w.3.is_branch
       in
       omega arith
 
@@ -375,19 +368,19 @@ module _ (s : State) (net : NetPlan) (packet : ℕ) (tracked : IsTracked s net p
     arrives : arrival_at xs i ≡ port_behind edge
     prior : Prior xs i edge
 
-  behind_place : (xs : List Exit) (from to : ℕ) → IsWayOf s net target xs from to → (i : ℕ) (x : Exit) → slice_get xs i ≡ Some x →
-      (edge : Option Edge) → IsEdgeInto s.machine net.tree.edges x.chip edge → Behind xs i edge
+  behind_place : (xs : List Exit) (from to : ℕ) → IsWayOn s.setup.machine s.setup.spots net target xs from to → (i : ℕ) (x : Exit) → slice_get xs i ≡ Some x →
+      (edge : Option Edge) → IsEdgeInto s.setup.machine net.tree.edges x.chip edge → Behind xs i edge
   behind_place xs from to way zero x at None none = record { arrives = refl; prior = tt }
   behind_place xs from to way zero x at (Some e) into =
-      let root : x.chip ≡ net.tree.root = way_first s.machine net.tree.edges target net.tree.root xs x way.is_branch at in
-      absurd (All-contains (λ f. end_of s.machine f ≢ Some net.tree.root) net.tree.edges e tree.none_into_root into.0 (into.1 ∙ ap Some root))
+      let root : x.chip ≡ net.tree.root = way_first s.setup.machine net.tree.edges target net.tree.root xs x way.is_branch at in
+      absurd (All-contains (λ f. end_of s.setup.machine f ≢ Some net.tree.root) net.tree.edges e tree.none_into_root into.0 (into.1 ∙ ap Some root))
   behind_place xs from to way (suc i) x at None none =
-      let by : ComesBy s.machine net.tree.edges xs Local i x.chip = comes_by s.machine net.tree.edges target net.tree.root Local xs i x way.is_branch at in
-      absurd (All-contains (λ f. end_of s.machine f ≢ Some x.chip) net.tree.edges by.edge none by.in_tree by.leads)
+      let by : ComesBy s.setup.machine net.tree.edges xs Local i x.chip = comes_by s.setup.machine net.tree.edges target net.tree.root Local xs i x way.is_branch at in
+      absurd (All-contains (λ f. end_of s.setup.machine f ≢ Some x.chip) net.tree.edges by.edge none by.in_tree by.leads)
   behind_place xs from to way (suc i) x at (Some e) into =
-      let by : ComesBy s.machine net.tree.edges xs Local i x.chip = comes_by s.machine net.tree.edges target net.tree.root Local xs i x way.is_branch at in
+      let by : ComesBy s.setup.machine net.tree.edges xs Local i x.chip = comes_by s.setup.machine net.tree.edges target net.tree.root Local xs i x way.is_branch at in
       let one : by.edge ≡ e =
-      one_edge_into s.machine net.tree.root net.tree.edges (map (λ y. y.chip) net.targets) tree by.edge e x.chip by.in_tree into.0 by.leads into.1
+      one_edge_into s.setup.machine net.tree.root net.tree.edges (map (λ y. y.chip) net.targets) tree by.edge e x.chip by.in_tree into.0 by.leads into.1
       in
       record {
         arrives = by.arrives ∙ ap (λ (f : Edge). ByLink (opposite_of f.dir)) one;
@@ -395,7 +388,7 @@ module _ (s : State) (net : NetPlan) (packet : ℕ) (tracked : IsTracked s net p
       }
 
   -- where nothing was found at the exit and at the port, the packet's mark is before the place
-  narrowed : (xs : List Exit) (from to : ℕ) → IsWayOf s net target xs from to → (i : ℕ) (c : Chip) (o : Out) (port : Port) →
+  narrowed : (xs : List Exit) (from to : ℕ) → IsWayOn s.setup.machine s.setup.spots net target xs from to → (i : ℕ) (c : Chip) (o : Out) (port : Port) →
       slice_get xs i ≡ Some (record { chip = c; out = o }) → arrival_at xs i ≡ port → IsFound s packet (IsOfOutput c o) None →
       IsFound s packet (IsOfPort c port) None → (k : Mark) → Contains (marks_of s) k → k.copy.packet ≡ packet → is_on_trail from to xs k ≡ true →
       IsBefore (i + 1) k.copy.hop k.station → IsBefore i k.copy.hop k.station
@@ -441,7 +434,7 @@ module _ (s : State) (net : NetPlan) (packet : ℕ) (tracked : IsTracked s net p
 
   -- the walk goes on by the edge into the chip
   pub walk_goes_on : (steps : ℕ) (chip : Chip) (out : Out) → Walked s net packet target steps chip out → IsFound s packet (IsOfOutput chip out) None →
-      (e : Edge) → IsEdgeInto s.machine net.tree.edges chip (Some e) → IsFound s packet (IsOfPort chip (port_behind (Some e))) None →
+      (e : Edge) → IsEdgeInto s.setup.machine net.tree.edges chip (Some e) → IsFound s packet (IsOfPort chip (port_behind (Some e))) None →
       Walked s net packet target (steps + 1) e.chip (Link e.dir)
   walk_goes_on steps chip out walked none e into none_in xs from to way =
       let on = walked xs from to way in
@@ -464,7 +457,7 @@ module _ (s : State) (net : NetPlan) (packet : ℕ) (tracked : IsTracked s net p
 
   -- where no edge leads into the chip, the copy is unsent
   pub walk_ends : (steps : ℕ) (chip : Chip) (out : Out) → Walked s net packet target steps chip out → IsFound s packet (IsOfOutput chip out) None →
-      IsEdgeInto s.machine net.tree.edges chip None → IsFound s packet (IsOfPort chip Local) None → IsWhere s net packet target Unsent
+      IsEdgeInto s.setup.machine net.tree.edges chip None → IsFound s packet (IsOfPort chip Local) None → IsWhere s net packet target Unsent
   walk_ends steps chip out walked none into none_in xs from to way =
       let on = walked xs from to way in
       let x : Exit = record { chip = chip; out = out } in

@@ -1,33 +1,39 @@
 -- Facts on the ways of a net: their ends are vertices, their places are few, and each wanted output lies on one.
-use Rattle.std.proofs.Common.{◌≡◌, ℕ, ◌+◌, ◌*◌, ◌<◌, ◌≤◌, suc, zero, List, map, Bool, true, false, ◌==◌, ◌&&◌, Some, None, refl, ap, sym, ◌∙◌, subst, arith, inl, inr, length, min, nat_lt, nat_le, cond}
+use Rattle.std.proofs.Common.{◌≡◌, ◌≢◌, ◌⊎◌, ℕ, ◌+◌, ◌-◌, ◌*◌, ◌<◌, ◌≤◌, suc, zero, List, map, Bool, true, false, not, ◌==◌, ◌&&◌, ◌||◌, Some, None, refl, ap, sym, ◌∙◌, subst, arith, inl, inr, length, min, nat_lt, nat_le, cond}
+use Rattle.std.specs.Prelude.{AllPairs}
 use Rattle.std.specs.List.{position_or_len}
-use Rattle.std.proofs.lemmas.Bool.{ltb-false, leb-true}
+use Rattle.std.proofs.lemmas.Bool.{ltb-true, ltb-false, leb-true, or_cases, or_left, or_right, cases_order}
 use Rattle.std.proofs.lemmas.List.Sums.{fails_before_first}
 use Rattle.std.proofs.lemmas.List.Elements.{All-contains}
 use Rattle.std.proofs.Math.Nat.{mul-le-mul_left}
-use Rattle.std.specs.List.{slice_get, slice_index_or, All, Contains}
-use Rattle.std.proofs.lemmas.Option.{slice_get_within, slice_get-get_or}
+use Rattle.std.specs.List.{slice_get, slice_index_or, list_any, All, Contains}
+use Rattle.std.proofs.lemmas.Option.{slice_get_within, slice_get-get_or, get_or_from_slice_get}
 use Rattle.std.proofs.lemmas.List.Quantifiers.{position-Some}
 use Rattle.std.proofs.lemmas.List.Folds.{Any-from_list_any, list_any_at}
 use Rattle.spin_base.specs.declared.chips.Spot.{Spot}
+use Rattle.spin_base.specs.declared.chips.Chip.{Chip}
+use Rattle.spin_base.specs.declared.chips.Dir.{Dir}
 use Rattle.spin_base.specs.declared.chips.Port.TheVariants.{Local}
 use Rattle.spin_base.specs.declared.routes.Out.{Out}
 use Rattle.spin_base.specs.declared.routes.Out.TheVariants.{Link, Core}
-use Rattle.spin_base.specs.Equality.{spot_eq}
-use Rattle.spin_base.specs.Outputs.{IsOutput}
-use Rattle.spin_base.proofs.Equality.{spot_eq_same, spot_eq_true}
+use Rattle.spin_base.specs.Equality.{chip_eq, out_eq, spot_eq}
+use Rattle.spin_base.specs.Links.{dir_at}
+use Rattle.spin_base.specs.Outputs.{IsOutput, out_of}
+use Rattle.spin_base.proofs.Equality.{chip_eq_same, chip_eq_true, out_eq_same, out_eq_true, spot_eq_same, spot_eq_true}
 use Rattle.machine_desc.specs.declared.trees.Edge.{Edge}
 use Rattle.machine_desc.specs.Description.{Description}
 use Rattle.machine_desc.specs.Equality.{edge_eq}
-use Rattle.machine_desc.specs.Live.{is_live_chip, IsUsable}
+use Rattle.machine_desc.specs.Live.{IsLiveChip, IsSite}
 use Rattle.machine_desc.specs.RoutingTree.{IsRoutingTree}
 use Rattle.machine_desc.specs.Branch.{Exit, IsBranch, arrival_at}
 use Rattle.machine_desc.proofs.Same.{edge_eq-true, edge_eq_self}
-use Rattle.machine_desc.proofs.Branches.{ComesBy, comes_by, exit_leads, way_first, same_place, branch_short, core_on_branch, link_on_branch, exit_of, ExitLeads}
+use Rattle.machine_desc.proofs.Sites.{site_parts}
+use Rattle.machine_desc.proofs.Branches.{ComesBy, comes_by, exit_leads, way_first, same_place, branch_short, end_on_branch, link_on_branch, exit_of, last_exit, ExitLeads}
 use Rattle.net_tables.specs.declared.nets.NetPlan.{NetPlan}
-use Rattle.net_tables.specs.Outputs.{is_wanted, ComesIn}
+use Rattle.net_tables.specs.Outputs.{is_edge_out, leads_to_spot, is_wanted, ComesIn}
+use Rattle.net_tables.specs.NetsOn.{vertex_at, AreNetsOn, IsWayOn}
 use Rattle.net_tables.specs.RightTables.{RoutesByTree}
-use Rattle.mesh_core.specs.State.{State, IsMesh, vertex_at}
+use Rattle.mesh_core.specs.State.{State, IsMesh, vertex_behind}
 use Rattle.mesh_core.specs.Step.{last_hop}
 use Rattle.mesh_core.proofs.Events.{and_true_left, and_true_right}
 
@@ -73,33 +79,46 @@ vertex_there spots t has = found (nat_lt first (length spots)) refl
         let passes : spot_eq t (slice_index_or spots has.0 t) ≡ true = ap (spot_eq t) has.2 ∙ spot_eq_same t in
         cc
 
+-- different items at one place
+pub one_index : (spots : List Spot) → AllPairs (λ a b. a ≢ b) spots → (v w : ℕ) (t : Spot) → slice_get spots v ≡ Some t → slice_get spots w ≡ Some t → v ≡ w
+one_index spots different v w t at at' = elim (cases_order v w) [
+  | inl same ↦ same
+  | inr (inl before) ↦
+      absurd (different v w t before (slice_get_within spots w t at') (get_or_from_slice_get spots v t t at ∙ sym (get_or_from_slice_get spots w t t at')))
+  | inr (inr after) ↦
+      absurd (different w v t after (slice_get_within spots v t at) (get_or_from_slice_get spots w t t at' ∙ sym (get_or_from_slice_get spots v t t at)))
+]
+
 -- ---- what is common to all ways of one net
 
 -- a net that stands on a mesh, with tables that are right for it
 pub record Stands (s : State) (net : NetPlan) : Type 0 where
   pub mesh : IsMesh s
-  pub tree : IsRoutingTree s.machine net.tree.root net.tree.edges net.targets
+  pub tree : IsRoutingTree s.setup.machine net.tree.root net.tree.edges net.targets
   pub root : net.tree.root ≡ net.source.chip
-  pub source : Contains s.spots net.source
-  pub targets : All (Contains s.spots) net.targets
-  pub right : RoutesByTree s.machine s.tables net
+  pub source : Contains s.setup.spots net.source
+  pub targets : All (Contains s.setup.spots) net.targets
+  pub right : RoutesByTree s.setup.machine s.setup.tables net
 
--- a target is on a usable core, so on one of 1 to 17
-pub target_core_low : (s : State) (net : NetPlan) → Stands s net → (t : Spot) → Contains net.targets t → t.core ≤ 17
-target_core_low s net stands t has =
-    let on_spot : Contains s.spots t = All-contains (Contains s.spots) net.targets t stands.targets has in
-    let usable : IsUsable s.machine t = All-contains (IsUsable s.machine) s.spots t stands.mesh.usable on_spot in
-    let middle = and_true_right (is_live_chip s.machine t.chip) _ usable in
-    let range = and_true_left (nat_le 1 t.core && nat_le t.core 17) _ middle in
-    leb-true t.core 17 (and_true_right (nat_le 1 t.core) (nat_le t.core 17) range)
+-- a target is the spot of a vertex, so a site
+pub target_site : (s : State) (net : NetPlan) → Stands s net → (t : Spot) → Contains net.targets t → IsSite s.setup.machine t
+target_site s net stands t has =
+    All-contains (IsSite s.setup.machine) s.setup.spots t stands.mesh.sites
+    (All-contains (Contains s.setup.spots) net.targets t stands.targets has)
+
+-- the root of a tree that stands is live
+pub root_lives : (s : State) (net : NetPlan) → Stands s net → IsLiveChip s.setup.machine net.tree.root
+root_lives s net stands =
+    let site : IsSite s.setup.machine net.source = All-contains (IsSite s.setup.machine) s.setup.spots net.source stands.mesh.sites stands.source in
+    subst (λ (c : Chip). IsLiveChip s.setup.machine c) (sym stands.root) (site_parts s.setup.machine net.source site).0
 
 -- a branch is shorter than hop numbers go
 pub short_branch : (s : State) (net : NetPlan) → Stands s net → (t : Spot) (branch : List Exit) →
-    IsBranch s.machine net.tree.root net.tree.edges t branch → length branch ≤ 4096
+    IsBranch s.setup.machine net.tree.root net.tree.edges t branch → length branch ≤ 4096
 short_branch s net stands t branch is =
-    let m = s.machine in
+    let m = s.setup.machine in
     let short : length branch ≤ m.width * m.height =
-    branch_short m net.tree.root net.tree.edges (map (λ x. x.chip) net.targets) stands.tree t branch is
+    branch_short m net.tree.root net.tree.edges (map (λ x. x.chip) net.targets) stands.tree (root_lives s net stands) t branch is
     in
     let w : m.width ≤ 64 = stands.mesh.size.width_to_64 in
     let h : m.height ≤ 64 = stands.mesh.size.height_to_64 in
@@ -116,63 +135,101 @@ place_below xs i x at = slice_get_within xs i x at
 
 -- two branches of the net that pass a chip pass it at one place and come in at one port
 pub one_place : (s : State) (net : NetPlan) → Stands s net → (t u : Spot) (xs ys : List Exit) →
-    IsBranch s.machine net.tree.root net.tree.edges t xs → IsBranch s.machine net.tree.root net.tree.edges u ys →
+    IsBranch s.setup.machine net.tree.root net.tree.edges t xs → IsBranch s.setup.machine net.tree.root net.tree.edges u ys →
     (i j : ℕ) (x y : Exit) → slice_get xs i ≡ Some x → slice_get ys j ≡ Some y → x.chip ≡ y.chip →
     (i ≡ j) × (arrival_at xs i ≡ arrival_at ys j)
 one_place s net stands =
-    same_place s.machine net.tree.root net.tree.edges (map (λ x. x.chip) net.targets) stands.tree
+    same_place s.setup.machine net.tree.root net.tree.edges (map (λ x. x.chip) net.targets) stands.tree
 
 -- the net's packets come in where its branches pass
-pub branch_comes_in : (s : State) (net : NetPlan) → (t : Spot) (xs : List Exit) → IsBranch s.machine net.tree.root net.tree.edges t xs →
-    (i : ℕ) (x : Exit) → slice_get xs i ≡ Some x → ComesIn s.machine net.tree.root net.tree.edges x.chip (arrival_at xs i)
-branch_comes_in s net t xs is zero x at = inl (way_first s.machine net.tree.edges t net.tree.root xs x is at, refl)
+pub branch_comes_in : (s : State) (net : NetPlan) → (t : Spot) (xs : List Exit) → IsBranch s.setup.machine net.tree.root net.tree.edges t xs →
+    (i : ℕ) (x : Exit) → slice_get xs i ≡ Some x → ComesIn s.setup.machine net.tree.root net.tree.edges x.chip (arrival_at xs i)
+branch_comes_in s net t xs is zero x at = inl (way_first s.setup.machine net.tree.edges t net.tree.root xs x is at, refl)
 branch_comes_in s net t xs is (suc i) x at =
-    let by : ComesBy s.machine net.tree.edges xs Local i x.chip = comes_by s.machine net.tree.edges t net.tree.root Local xs i x is at in
+    let by : ComesBy s.setup.machine net.tree.edges xs Local i x.chip = comes_by s.setup.machine net.tree.edges t net.tree.root Local xs i x is at in
     inr (by.edge, by.in_tree, by.leads, by.arrives)
+
+-- a spot is one to which an output of its chip leads
+pub leads_to : (c : Chip) (o : Out) (t : Spot) → t.chip ≡ c → o ≡ out_of t.core → leads_to_spot c o t ≡ true
+leads_to c o t at out =
+    both_true (chip_eq t.chip c) (out_eq (out_of t.core) o)
+    (ap (chip_eq t.chip) (sym at) ∙ chip_eq_same t.chip)
+    (ap (out_eq (out_of t.core)) out ∙ out_eq_same (out_of t.core))
+
+pub leads_parts : (c : Chip) (o : Out) (t : Spot) → leads_to_spot c o t ≡ true → (t.chip ≡ c) × (out_of t.core ≡ o)
+leads_parts c o t leads = (
+  chip_eq_true t.chip c (and_true_left (chip_eq t.chip c) (out_eq (out_of t.core) o) leads),
+  out_eq_true (out_of t.core) o (and_true_right (chip_eq t.chip c) (out_eq (out_of t.core) o) leads),
+)
+
+-- the vertex behind an output stands on a spot to which the output leads
+pub vertex_behind_stands : (spots : List Spot) (c : Chip) (o : Out) (v : ℕ) → vertex_behind spots c o ≡ Some v →
+    (t : Spot) × (slice_get spots v ≡ Some t) × (t.chip ≡ c) × (out_of t.core ≡ o)
+vertex_behind_stands spots c o v is =
+    let nothing : Spot = record { chip = c; core = 0 } in
+    let found = position-Some (leads_to_spot c o) spots v nothing is in
+    let t : Spot = slice_index_or spots v nothing in
+    let parts = leads_parts c o t found.1 in
+    (t, slice_get-get_or spots v nothing found.0, parts.0, parts.1)
 
 -- the exits of a branch are wanted
 pub exit_wanted : (s : State) (net : NetPlan) → (t : Spot) → Contains net.targets t → (xs : List Exit) →
-    IsBranch s.machine net.tree.root net.tree.edges t xs → (i : ℕ) (x : Exit) → slice_get xs i ≡ Some x →
+    IsBranch s.setup.machine net.tree.root net.tree.edges t xs → (i : ℕ) (x : Exit) → slice_get xs i ≡ Some x →
     is_wanted net.tree.edges net.targets x.chip x.out ≡ true
-exit_wanted s net t has xs is i x at = by_output x.out (exit_leads s.machine net.tree.edges t net.tree.root xs i x is at)
+exit_wanted s net t has xs is i x at = by_end (exit_leads s.setup.machine net.tree.edges t net.tree.root xs i x is at)
   where
-    by_output : (o : Out) → ExitLeads s.machine net.tree.edges t xs i x o → is_wanted net.tree.edges net.targets x.chip o ≡ true
-    by_output (Link d) leads =
+    by_end : ExitLeads s.setup.machine net.tree.edges t xs i x → is_wanted net.tree.edges net.targets x.chip x.out ≡ true
+    by_end (inl (d, out, in_tree, next)) =
         let e : Edge = record { chip = x.chip; dir = d } in
-        list_any_at (edge_eq e) net.tree.edges leads.0.0 e leads.0.1 (ap (edge_eq e) leads.0.2 ∙ edge_eq_self e)
-    by_output (Core p) leads =
-        let u : Spot = record { chip = x.chip; core = p } in
-        list_any_at (spot_eq u) net.targets has.0 t has.1 (ap (spot_eq u) (has.2 ∙ leads.0) ∙ spot_eq_same u)
+        let by_edge : is_edge_out net.tree.edges x.chip (Link d) ≡ true =
+        list_any_at (edge_eq e) net.tree.edges in_tree.0 e in_tree.1 (ap (edge_eq e) in_tree.2 ∙ edge_eq_self e)
+        in
+        or_left (is_edge_out net.tree.edges x.chip x.out) _ (ap (is_edge_out net.tree.edges x.chip) out ∙ by_edge)
+    by_end (inr (chip, out, last)) =
+        or_right (is_edge_out net.tree.edges x.chip x.out) _
+        (list_any_at (leads_to_spot x.chip x.out) net.targets has.0 t has.1 (ap (leads_to_spot x.chip x.out) has.2 ∙ leads_to x.chip x.out t chip out))
+
+-- an output that leads to a spot is one that a route can name
+pub spot_output : (p : ℕ) → IsOutput (out_of p)
+spot_output p = by_size (nat_lt p 18) refl
+  where
+    by_size : (b : Bool) → nat_lt p 18 ≡ b → IsOutput (cond b (Core p) (Link (dir_at (p - 18))))
+    by_size true low = ltb-true p 18 low
+    by_size false high = tt
 
 -- the exits of a branch are outputs that a route can name
-pub exit_is_output : (s : State) (net : NetPlan) → Stands s net → (t : Spot) → Contains net.targets t → (xs : List Exit) →
-    IsBranch s.machine net.tree.root net.tree.edges t xs → (i : ℕ) (x : Exit) → slice_get xs i ≡ Some x → IsOutput x.out
-exit_is_output s net stands t has xs is i x at = by_output x.out (exit_leads s.machine net.tree.edges t net.tree.root xs i x is at)
+pub exit_is_output : (s : State) (net : NetPlan) → (t : Spot) → (xs : List Exit) →
+    IsBranch s.setup.machine net.tree.root net.tree.edges t xs → (i : ℕ) (x : Exit) → slice_get xs i ≡ Some x → IsOutput x.out
+exit_is_output s net t xs is i x at = by_end (exit_leads s.setup.machine net.tree.edges t net.tree.root xs i x is at)
   where
-    by_output : (o : Out) → ExitLeads s.machine net.tree.edges t xs i x o → IsOutput o
-    by_output (Link d) leads = tt
-    by_output (Core p) leads =
-        let low : t.core ≤ 17 = target_core_low s net stands t has in
-        let same : t.core ≡ p = ap (λ (u : Spot). u.core) leads.0 in
-        omega arith
+    by_end : ExitLeads s.setup.machine net.tree.edges t xs i x → IsOutput x.out
+    by_end (inl (d, out, in_tree, next)) = let link : IsOutput (Link d) = tt in subst IsOutput (sym out) link
+    by_end (inr (chip, out, last)) = subst IsOutput (sym out) (spot_output t.core)
 
 -- each wanted output lies on a branch, at the chip's place
 pub record OnBranch (s : State) (net : NetPlan) (x : Exit) : Type 0 where
   pub target : Spot
   pub is_target : Contains net.targets target
   pub branch : List Exit
-  pub is_branch : IsBranch s.machine net.tree.root net.tree.edges target branch
+  pub is_branch : IsBranch s.setup.machine net.tree.root net.tree.edges target branch
   pub place : ℕ
   pub at : slice_get branch place ≡ Some x
 
+same_exit : (c d : Chip) (o p : Out) → c ≡ d → o ≡ p → (let x : Exit = record { chip = c; out = o } in let y : Exit = record { chip = d; out = p } in x ≡ y)
+same_exit c d o p e f = cc
+
 pub wanted_on_branch : (s : State) (net : NetPlan) → Stands s net → (x : Exit) → is_wanted net.tree.edges net.targets x.chip x.out ≡ true → OnBranch s net x
-wanted_on_branch s net stands x wanted = by_output x.out wanted
+wanted_on_branch s net stands x wanted =
+    elim (or_cases (is_edge_out net.tree.edges x.chip x.out) _ wanted) [
+      | inl edge ↦ by_edge x.out edge
+      | inr target ↦ by_target target
+    ]
   where
     m : Description
-    m = s.machine
+    m = s.setup.machine
 
-    by_output : (o : Out) → is_wanted net.tree.edges net.targets x.chip o ≡ true → OnBranch s net (record { chip = x.chip; out = o })
-    by_output (Link d) yes' =
+    by_edge : (o : Out) → is_edge_out net.tree.edges x.chip o ≡ true → OnBranch s net (record { chip = x.chip; out = o })
+    by_edge (Link d) yes' =
         let e : Edge = record { chip = x.chip; dir = d } in
         let found = Any-from_list_any (edge_eq e) net.tree.edges yes' in
         let same : e ≡ found.1 = edge_eq-true e found.1 found.4 in
@@ -188,19 +245,30 @@ wanted_on_branch s net stands x wanted = by_output x.out wanted
           place = way.2.2.0;
           at = slice_get-get_or way.2.0 way.2.2.0 (exit_of e) way.2.2.1 ∙ ap Some way.2.2.2;
         }
-    by_output (Core p) yes' =
-        let u : Spot = record { chip = x.chip; core = p } in
-        let found = Any-from_list_any (spot_eq u) net.targets yes' in
-        let same : u ≡ found.1 = spot_eq_true u found.1 found.4 in
-        let has : Contains net.targets u =
-        subst (λ (f : Spot). Contains net.targets f) (sym same) (found.0, found.2, found.3)
-        in
-        let way = core_on_branch m net.tree.root net.tree.edges net.targets stands.tree u has in
+    by_edge (Core p) yes' = cc
+
+    by_target : list_any (leads_to_spot x.chip x.out) net.targets ≡ true → OnBranch s net x
+    by_target yes' =
+        let found = Any-from_list_any (leads_to_spot x.chip x.out) net.targets yes' in
+        let t : Spot = found.1 in
+        let has : Contains net.targets t = (found.0, found.2, found.3) in
+        let parts = leads_parts x.chip x.out t found.4 in
+        let way = end_on_branch m net.tree.root net.tree.edges net.targets stands.tree t has in
         record {
-          target = u;
+          target = t;
           is_target = has;
           branch = way.0;
           is_branch = way.1;
           place = way.2.0;
-          at = slice_get-get_or way.0 way.2.0 (record { chip = x.chip; out = Core p }) way.2.1 ∙ ap Some way.2.2;
+          at = slice_get-get_or way.0 way.2.0 (last_exit t) way.2.1 ∙ ap Some (way.2.2 ∙ same_exit t.chip x.chip (out_of t.core) x.out parts.0 parts.1);
         }
+
+-- each target of a net that stands has a way
+pub some_way : (m : Description) (spots : List Spot) (nets : List NetPlan) → AreNetsOn m spots nets → (net : NetPlan) → Contains nets net →
+    (target : Spot) → Contains net.targets target → (branch : List Exit) × (from : ℕ) × (to : ℕ) × IsWayOn m spots net target branch from to
+some_way m spots nets stand net has target is_target =
+    let tree = All-contains (λ n. IsRoutingTree m n.tree.root n.tree.edges n.targets) nets net stand.trees has in
+    let found = end_on_branch m net.tree.root net.tree.edges net.targets tree target is_target in
+    let begin = vertex_there spots net.source (All-contains (λ n. Contains spots n.source) nets net stand.sources has) in
+    let end = vertex_there spots target (All-contains (Contains spots) net.targets target (All-contains (λ n. All (Contains spots) n.targets) nets net stand.targets has) is_target) in
+    (found.0, begin.0, end.0, record { is_target = is_target; is_branch = found.1; begins = begin.1; ends = end.1 })

@@ -1,6 +1,9 @@
 pub mod Expected
+pub mod HasRun
+pub mod InParts
 pub mod Ledger
 pub mod Opened
+pub mod PutBack
 pub mod Queues
 pub mod Searches
 pub mod Serving
@@ -10,3 +13,4 @@ pub mod Tabled
 pub mod Trail
 pub mod VertexTable
 pub mod Whereabouts
+pub mod Whole

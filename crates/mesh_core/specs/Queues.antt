@@ -9,7 +9,7 @@ front_of (Some []) = None
 front_of None = None
 
 -- the lists without the first item of the list at a place
-abbrev pub shortened : List (List McCopy) → ℕ → Option (List McCopy) → List (List McCopy)
-shortened lists i (Some (k ∷ rest)) = slice_set lists i rest
-shortened lists i (Some []) = lists
-shortened lists i None = lists
+abbrev pub drop_front : List (List McCopy) → ℕ → Option (List McCopy) → List (List McCopy)
+drop_front lists i (Some (k ∷ rest)) = slice_set lists i rest
+drop_front lists i (Some []) = lists
+drop_front lists i None = lists

@@ -11,8 +11,9 @@ use Rattle.spin_base.specs.Links.{opposite_of}
 use Rattle.machine_desc.specs.declared.trees.Edge.{Edge}
 use Rattle.machine_desc.specs.Description.{Description}
 use Rattle.machine_desc.specs.RoutingTree.{end_of}
+use Rattle.net_tables.specs.NetsOn.{vertex_at}
 use Rattle.mesh_core.specs.declared.places.Where.{Where}
-use Rattle.mesh_core.specs.State.{State, Held, vertex_at}
+use Rattle.mesh_core.specs.State.{State, Held}
 use Rattle.mesh_core.specs.Trail.{Station, in_queue, in_hand, at_core, delivered, dumped, Mark}
 use Rattle.mesh_core.specs.Ledger.{marks_of}
 use Rattle.mesh_core.specs.Whereabouts.{TellsStation}
@@ -31,7 +32,7 @@ IsFound s packet IsThere None = (k : Mark) → Contains (marks_of s) k → k.cop
 
 -- the stations of the vertex on a core: the core's queue, and delivered
 abbrev pub IsOfCore : State → Spot → Station → Type 0
-IsOfCore s spot station = (v : ℕ) × (vertex_at s.spots spot ≡ Some v) × ((station ≡ at_core v) ⊎ (station ≡ delivered v))
+IsOfCore s spot station = (v : ℕ) × (vertex_at s.setup.spots spot ≡ Some v) × ((station ≡ at_core v) ⊎ (station ≡ delivered v))
 
 -- the stations of an output: the chip's hand for it, and dumped there
 abbrev pub IsOfOutput : Chip → Out → Station → Type 0

@@ -6,7 +6,7 @@ use Rattle.spin_base.specs.declared.copies.McCopy.{McCopy}
 use Rattle.mesh_core.specs.declared.queues.Queue.{Queue}
 use Rattle.mesh_core.specs.declared.queues.Queue.TheVariants.{Input, Core, Nowhere}
 use Rattle.mesh_core.specs.State.{State, Held, Behind, input, core, nowhere}
-use Rattle.mesh_core.specs.Step.{appended, in_hand, serves, without}
+use Rattle.mesh_core.specs.Step.{push_at, in_hand, serves, without}
 
 -- the copy that a live chip's hand still has to send by this output
 abbrev pub copy_served : State → Chip → Out → Option (Option Held) → Option McCopy
@@ -28,14 +28,14 @@ IsPlace inputs cores Nowhere = Unit {0}
 
 -- the input queues with a copy at the back of the queue behind an output
 abbrev pub inputs_after : List (List McCopy) → Behind → McCopy → List (List McCopy)
-inputs_after inputs (input i) k = appended inputs i k (slice_get inputs i)
+inputs_after inputs (input i) k = push_at inputs i k (slice_get inputs i)
 inputs_after inputs (core v) k = inputs
 inputs_after inputs nowhere k = inputs
 
 -- the cores' queues with a copy at the back of the queue behind an output
 abbrev pub cores_after : List (List McCopy) → Behind → McCopy → List (List McCopy)
 cores_after cores (input i) k = cores
-cores_after cores (core v) k = appended cores v k (slice_get cores v)
+cores_after cores (core v) k = push_at cores v k (slice_get cores v)
 cores_after cores nowhere k = cores
 
 -- the hands where the hand at a place has served an output

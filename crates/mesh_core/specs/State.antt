@@ -12,9 +12,9 @@ use Rattle.spin_base.specs.declared.copies.McCopy.{McCopy}
 use Rattle.spin_base.specs.declared.copies.Delivery.{Delivery}
 use Rattle.spin_base.specs.declared.copies.DumpRec.{DumpRec}
 use Rattle.spin_base.specs.Links.{opposite_of, port_number}
-use Rattle.spin_base.specs.Equality.{spot_eq}
 use Rattle.machine_desc.specs.Description.{Description, HasSize}
-use Rattle.machine_desc.specs.Live.{far_of, index_of, is_live_chip, is_live_link, IsInside, IsUsable}
+use Rattle.machine_desc.specs.Live.{far_of, index_of, is_live_chip, is_live_link, IsInside, IsSite}
+use Rattle.net_tables.specs.Outputs.{leads_to_spot}
 
 -- A copy in a router's hand: where it came in, and the outputs by which it still has to leave.
 pub record Held : Type 0 where
@@ -22,72 +22,77 @@ pub record Held : Type 0 where
   pub port : Port
   pub outs : List Out
 
--- A mesh is a machine, the cores of its vertices, and lists: per vertex the copies it has not sent yet; seven input
--- queues per chip, that of chip index i and port number k at place 7 * i + k; per chip what its router holds in hand;
--- per vertex the queue of its core; all deliveries and all dump records so far; per chip index the router's table;
--- and how many copies a queue holds at most (SpiNNaker datasheet for routers, ports and tables; the lists are this
--- project's own).
-pub record State : Type 0 where
+-- What a mesh never changes: its machine, the spots of its vertices, per chip index the router's table, and how many copies
+-- a queue holds at most (SpiNNaker datasheet for routers and tables).
+pub record Setup : Type 0 where
   pub machine : Description
   pub spots : List Spot
+  pub tables : List (List Entry)
+  pub capacity : ℕ
+
+-- A mesh is what never changes, and lists: per vertex the copies it has not sent yet; seven input queues per chip, that of
+-- chip index i and port number k at place 7 * i + k; per chip what its router holds in hand; per vertex the queue of its
+-- core or device; and all deliveries and all dump records so far (SpiNNaker datasheet for routers and ports; the lists are
+-- this project's own).
+pub record State : Type 0 where
+  pub setup : Setup
   pub unsent : List (List McCopy)
   pub inputs : List (List McCopy)
   pub hands : List (Option Held)
   pub cores : List (List McCopy)
   pub delivered : List Delivery
   pub dumped : List DumpRec
-  pub tables : List (List Entry)
-  pub capacity : ℕ
 
 -- the place of an input queue in the list of them
 abbrev pub queue_at : Description → Chip → Port → ℕ
 queue_at m c port = 7 * index_of m c + port_number port
 
--- the vertex on a core, if there is one
-abbrev pub vertex_at : List Spot → Spot → Option ℕ
-vertex_at spots s = position (spot_eq s) spots
+-- the vertex on the spot to which an output leads, if there is one
+abbrev pub vertex_behind : List Spot → Chip → Out → Option ℕ
+vertex_behind spots c o = position (leads_to_spot c o) spots
 
 -- The queue behind an output.
 pub data Behind : Type 0 where
   -- the input queue of this place
   input : ℕ → Behind
-  -- the queue of this vertex's core
+  -- the queue of this vertex's core or device
   core : ℕ → Behind
-  -- none: a link that isn't live, or a core without a vertex
+  -- none: a link that is neither live nor a device's, or a core without a vertex
   nowhere : Behind
-
--- the queue at the far end of a link, where it is live
-abbrev pub across : Description → Dir → Bool → Option Chip → Behind
-across m d true (Some e) = input (queue_at m e (ByLink (opposite_of d)))
-across m d true None = nowhere
-across m d false e = nowhere
 
 abbrev pub core_of : Option ℕ → Behind
 core_of (Some v) = core v
 core_of None = nowhere
 
--- A copy that a live link carries comes to the chip at its far end, into the queue of the port of the opposite link
--- (SpiNNaker datasheet). One that goes to a core comes into the queue of the vertex there.
-abbrev pub behind : Description → List Spot → Chip → Out → Behind
-behind m spots c (Link d) = across m d (is_live_link m c d) (far_of m c d)
-behind m spots c (Core p) = core_of (vertex_at spots (record { chip = c; core = p }))
+-- the queue behind a link: at the far end where it is live, else that of the vertex whose device hangs on it
+abbrev pub behind_link : Setup → Chip → Dir → Bool → Option Chip → Behind
+behind_link u c d true (Some e) = input (queue_at u.machine e (ByLink (opposite_of d)))
+behind_link u c d true None = nowhere
+behind_link u c d false e = core_of (vertex_behind u.spots c (Link d))
 
--- Every mesh has lists of the lengths that its machine and vertices ask for, vertices on different usable cores, and
+-- A copy that a live link carries comes to the chip at its far end, into the queue of the port of the opposite link
+-- (SpiNNaker datasheet). One that goes to a core, or by a link that is not live to a device, comes into the queue of the
+-- vertex there.
+abbrev pub behind : Setup → Chip → Out → Behind
+behind u c (Link d) = behind_link u c d (is_live_link u.machine c d) (far_of u.machine c d)
+behind u c (Core p) = core_of (vertex_behind u.spots c (Core p))
+
+-- Every mesh has lists of the lengths that its machine and vertices ask for, vertices on different sites, and
 -- room for at least one copy in a queue. No queue holds more than its capacity. What isn't sent yet has passed no
 -- router. No hand is without outputs. Nothing waits at a port whose link isn't live, or on a chip that isn't live.
 pub record IsMesh (s : State) : Type 0 where
-  pub size : HasSize s.machine
-  pub different : AllPairs (λ a b. a ≢ b) s.spots
-  pub usable : All (IsUsable s.machine) s.spots
-  pub room : 1 ≤ s.capacity
-  pub unsent_lists : length s.unsent ≡ length s.spots
-  pub input_lists : length s.inputs ≡ 7 * (s.machine.width * s.machine.height)
-  pub hand_list : length s.hands ≡ s.machine.width * s.machine.height
-  pub core_lists : length s.cores ≡ length s.spots
-  pub table_list : length s.tables ≡ s.machine.width * s.machine.height
-  pub inputs_within : All (λ q. length q ≤ s.capacity) s.inputs
-  pub cores_within : All (λ q. length q ≤ s.capacity) s.cores
+  pub size : HasSize s.setup.machine
+  pub different : AllPairs (λ a b. a ≢ b) s.setup.spots
+  pub sites : All (IsSite s.setup.machine) s.setup.spots
+  pub room : 1 ≤ s.setup.capacity
+  pub unsent_lists : length s.unsent ≡ length s.setup.spots
+  pub input_lists : length s.inputs ≡ 7 * (s.setup.machine.width * s.setup.machine.height)
+  pub hand_list : length s.hands ≡ s.setup.machine.width * s.setup.machine.height
+  pub core_lists : length s.cores ≡ length s.setup.spots
+  pub table_list : length s.setup.tables ≡ s.setup.machine.width * s.setup.machine.height
+  pub inputs_within : All (λ q. length q ≤ s.setup.capacity) s.inputs
+  pub cores_within : All (λ q. length q ≤ s.setup.capacity) s.cores
   pub unsent_at_start : All (λ q. All (λ k. k.hop ≡ 0) q) s.unsent
   pub hands_with_outputs : All (λ h. IfSome h (λ held. held.outs ≢ [])) s.hands
-  pub none_at_dead_ports : (c : Chip) (d : Dir) → is_live_link s.machine c d ≡ false → IsInside s.machine c → slice_get s.inputs (queue_at s.machine c (ByLink d)) ≡ Some []
-  pub none_on_dead_chips : (c : Chip) → is_live_chip s.machine c ≡ false → IsInside s.machine c → slice_get s.inputs (queue_at s.machine c Local) ≡ Some []
+  pub none_at_dead_ports : (c : Chip) (d : Dir) → is_live_link s.setup.machine c d ≡ false → IsInside s.setup.machine c → slice_get s.inputs (queue_at s.setup.machine c (ByLink d)) ≡ Some []
+  pub none_on_dead_chips : (c : Chip) → is_live_chip s.setup.machine c ≡ false → IsInside s.setup.machine c → slice_get s.inputs (queue_at s.setup.machine c Local) ≡ Some []

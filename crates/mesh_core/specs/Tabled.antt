@@ -1,23 +1,14 @@
--- What a contract sees of a mesh, and what its table of vertices keeps.
-use Rattle.mesh_core.specs.declared.meshes.Mesh.TheInside.{Inside}
-use Rattle.mesh_core.specs.State.{State, IsMesh}
+-- What a contract sees of what a mesh never changes, and what its table of vertices keeps.
+use Rattle.std.specs.Prelude.{All}
+use Rattle.machine_desc.specs.Live.{IsSite}
+use Rattle.mesh_core.specs.declared.setups.MeshSetup.TheInside.{Inside}
+use Rattle.mesh_core.specs.State.{Setup}
 use Rattle.mesh_core.specs.VertexTable.{TellsVertices}
 
-abbrev pub state_of : Inside → State
-state_of s = record {
-  machine = s.machine;
-  spots = s.spots;
-  unsent = s.unsent.items;
-  inputs = s.inputs.items;
-  hands = s.hands.items;
-  cores = s.cores.items;
-  delivered = s.delivered;
-  dumped = s.dumped;
-  tables = s.tcams;
-  capacity = s.capacity;
-}
+abbrev pub setup_of : Inside → Setup
+setup_of u = record { machine = u.machine; spots = u.spots; tables = u.tables; capacity = u.capacity }
 
--- Every mesh is one, and its table tells the vertices.
-pub record IsTabled (s : Inside) : Type 0 where
-  pub mesh : IsMesh (state_of s)
-  pub vertices : TellsVertices s.machine s.spots s.vertices.items
+-- The vertices are on sites, and the table tells them.
+pub record IsTabled (u : Inside) : Type 0 where
+  pub sites : All (IsSite u.machine) u.spots
+  pub vertices : TellsVertices u.machine u.spots u.vertices.items

@@ -5,12 +5,13 @@ use Rattle.spin_base.specs.declared.copies.McCopy.{McCopy}
 use Rattle.machine_desc.specs.Branch.{Exit}
 use Rattle.net_tables.specs.declared.nets.NetPlan.{NetPlan}
 use Rattle.net_tables.specs.RightTables.{IsKeyOf}
+use Rattle.net_tables.specs.NetsOn.{IsWayOn}
 use Rattle.mesh_core.specs.declared.places.Place.TheVariants.{InQueue, Hand as HandAt, CoreQueue}
 use Rattle.mesh_core.specs.declared.places.Where.{Where}
 use Rattle.mesh_core.specs.declared.places.Where.TheVariants.{Unsent, At, Delivered, Dumped}
 use Rattle.mesh_core.specs.State.{State}
 use Rattle.mesh_core.specs.Trail.{Station, unsent, in_queue, in_hand, at_core, delivered, dumped, Mark, is_packet_on_trail}
-use Rattle.mesh_core.specs.Ledger.{Label, IsWayOf, MeetsLedger, marks_of}
+use Rattle.mesh_core.specs.Ledger.{Label, MeetsLedger, marks_of}
 
 -- An answer tells the station of a copy: unsent, its queue or hand, the queue of the core on which its vertex stands,
 -- or its place in the list of deliveries or of dump records (this project's own).
@@ -18,7 +19,7 @@ abbrev pub TellsStation : State → McCopy → Station → Where → Type 0
 TellsStation s k (unsent v) w = w ≡ Unsent
 TellsStation s k (in_queue c port) w = w ≡ At (InQueue c port)
 TellsStation s k (in_hand c o) w = w ≡ At (HandAt c o)
-TellsStation s k (at_core v) w = (spot : Spot) × (slice_get s.spots v ≡ Some spot) × (w ≡ At (CoreQueue spot.chip spot.core))
+TellsStation s k (at_core v) w = (spot : Spot) × (slice_get s.setup.spots v ≡ Some spot) × (w ≡ At (CoreQueue spot.chip spot.core))
 TellsStation s k (delivered v) w = (i : ℕ) × (slice_get s.delivered i ≡ Some (record { vertex = v; copy = k })) × (w ≡ Delivered i)
 TellsStation s k (dumped c o) w = (i : ℕ) × (slice_get s.dumped i ≡ Some (record { chip = c; out = o; copy = k })) × (w ≡ Dumped i)
 
@@ -34,7 +35,7 @@ pub record IsTold (s : State) (packet : ℕ) (branch : List Exit) (from to : ℕ
 -- An answer is where a target's copy of a packet of a net is: it tells it on every way of the net to the target.
 abbrev pub IsWhere : State → NetPlan → ℕ → Spot → Where → Type 0
 IsWhere s net packet target w =
-    (branch : List Exit) (from to : ℕ) → IsWayOf s net target branch from to → IsTold s packet branch from to w
+    (branch : List Exit) (from to : ℕ) → IsWayOn s.setup.machine s.setup.spots net target branch from to → IsTold s packet branch from to w
 
 -- A packet of a net is tracked where the mesh meets the ledger of some list of nets that has this net, and some mark of
 -- the packet has a key of the net's block.

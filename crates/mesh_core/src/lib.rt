@@ -7,8 +7,10 @@
 mod hands;
 pub mod laws;
 mod meshes;
+mod parts;
 mod places;
 mod queues;
+mod setups;
 mod steps;
 mod tables;
 #[cfg(test)]
@@ -17,4 +19,7 @@ mod whereabouts;
 
 pub use hands::Hand;
 pub use meshes::Mesh;
+pub use parts::MeshParts;
 pub use places::{Did, Place, Where};
+pub use queues::Queue;
+pub use setups::MeshSetup;

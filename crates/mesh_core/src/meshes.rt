@@ -1,12 +1,11 @@
 // The mesh: its lists, and what can be asked of them.
 ghost use Rattle.std.specs.Prelude.{◌≡◌, ◌≢◌, ◌+◌, ◌*◌, ◌<◌, ◌≤◌, ◌++◌, [], ◌∷◌, Some, None, All, AllPairs, length, slice_get, slice_set, slice_index_or, replicate, IfOk, OnOk, OnErr};
 ghost use Rattle.std.specs.Option.{option_copied};
-ghost use Rattle.machine_desc.specs.Live.{IsInside as IsInsideGrid};
-ghost use Rattle.mesh_core.specs.State.{queue_at as place_of_queue};
 
 use crate::hands::{Hand, empty_hands};
+use crate::parts::MeshParts;
 use crate::queues::{empty_queues, push_at};
-use crate::tables::vertex_table;
+use crate::setups::{MeshSetup, queue_place};
 use machine_desc::Machine;
 use spin_base::{Chip, Delivery, DumpRec, Fifo, McCopy, Memory, Port, Seq, Spot};
 use std::alloc::Global;
@@ -15,24 +14,19 @@ use tcam_find::Tcam;
 
 /// Routers, queues and vertices of every chip of a machine.
 ///
-/// Every vertex has its unsent copies and the queue of its core. Every chip has seven input queues, one for each link
-/// and one for its own cores, a router with at most one copy in hand, and a table. Deliveries and dump records are kept
-/// in order. Each query takes constant time and no memory.
+/// Every vertex has its unsent copies and the queue of its core or device. Every chip has seven input queues, one for
+/// each link and one for its own cores, a router with at most one copy in hand, and a table. Deliveries and dump records
+/// are kept in order. Each query takes constant time and no memory.
 #[derive(Drop)]
 pub struct Mesh {
-    pub(crate) machine: Machine,
-    pub(crate) spots: Seq<Spot>,
-    // The vertex on core p of chip index i, at place 18 * i + p.
-    pub(crate) vertices: Vec<Option<usize>>,
+    pub(crate) setup: MeshSetup,
     pub(crate) unsent: Vec<Fifo<McCopy>>,
     // The input queue of port number k of chip index i, at place 7 * i + k.
     pub(crate) inputs: Vec<Fifo<McCopy>>,
     pub(crate) hands: Vec<Option<Hand>>,
     pub(crate) cores: Vec<Fifo<McCopy>>,
     pub(crate) delivered: Seq<Delivery>,
-    pub(crate) dumped: Seq<DumpRec>,
-    pub(crate) tcams: Seq<Tcam>,
-    pub(crate) capacity: u32,
+    pub(crate) dumped: Fifo<DumpRec>,
 }
 
 impl Model for Mesh {
@@ -40,61 +34,122 @@ impl Model for Mesh {
 
     ghost Value = { State };
 
-    ghost use Rattle.mesh_core.specs.Tabled.{state_of, IsTabled};
+    ghost use Rattle.mesh_core.specs.Whole.{state_of, IsWhole};
 
     ghost view = { state_of };
 
-    ghost invariant = { IsTabled };
+    ghost invariant = { IsWhole };
 }
 
 impl Mesh {
-    ghost use Rattle.machine_desc.specs.Live.{index_of, IsInside, IsUsable};
-    ghost use Rattle.mesh_core.specs.State.{queue_at};
+    ghost use Rattle.machine_desc.specs.Live.{index_of, IsInside, IsSite};
+    ghost use Rattle.mesh_core.specs.State.{queue_at, IsMesh};
     ghost use Rattle.mesh_core.specs.Opened.{empty_mesh};
-    ghost use Rattle.mesh_core.specs.Step.{appended};
+    ghost use Rattle.mesh_core.specs.Step.{push_at};
 
-    /// A mesh without a copy: for vertices on these cores, with one table for each chip index, and queues of at most
+    /// A mesh without a copy: for vertices on these spots, with one table for each chip index, and queues of at most
     /// `queue` copies.
     pub fn new(
         alloc: Global,
         machine: Machine,
         spots: Seq<Spot>,
-        tcams: Seq<Tcam>,
+        tables: Seq<Tcam>,
         queue: u32,
     ) -> Result<Mesh, Memory>
         requires different { AllPairs (λ a b. a ≢ b) spots }
-        requires usable { All (IsUsable machine) spots }
-        requires tables { length tcams ≡ machine.width * machine.height }
+        requires sites { All (IsSite machine) spots }
+        requires tables { length tables ≡ machine.width * machine.height }
         requires room { 1 ≤ queue }
-        ensures { IfOk result (λ mesh. mesh ≡ empty_mesh machine spots tcams queue) }
+        ensures { IfOk result (λ mesh. mesh ≡ empty_mesh (record { machine = machine; spots = spots; tables = tables; capacity = queue })) }
     {
-        let chips = usize::from(machine.width()) * usize::from(machine.height());
-        let vertices = vertex_table(alloc, &machine, spots.as_slice())?;
-        let unsent = empty_queues(alloc, spots.len())?;
+        let chips = machine.chips();
+        let vertices = spots.len();
+        let setup = MeshSetup::new(alloc, machine, spots, tables, queue)?;
+        let unsent = empty_queues(alloc, vertices)?;
         let inputs = empty_queues(alloc, 7 * chips)?;
         let hands = empty_hands(alloc, chips)?;
-        let cores = empty_queues(alloc, spots.len())?;
+        let cores = empty_queues(alloc, vertices)?;
         Ok(Mesh {
-            machine,
-            spots,
-            vertices,
+            setup,
             unsent,
             inputs,
             hands,
             cores,
             delivered: Seq::new(alloc),
-            dumped: Seq::new(alloc),
-            tcams,
-            capacity: queue,
+            dumped: Fifo::new(alloc),
         })
+    }
+
+    /// The mesh in its parts. It takes no memory and constant time.
+    pub fn take_apart(self) -> MeshParts
+        ensures parts { result ≡ self }
+        ensures mesh { IsMesh self }
+    {
+        let Mesh {
+            setup,
+            unsent,
+            inputs,
+            hands,
+            cores,
+            delivered,
+            dumped,
+        } = self;
+        MeshParts {
+            setup,
+            unsent,
+            inputs,
+            hands,
+            cores,
+            delivered,
+            dumped,
+        }
+    }
+
+    /// The mesh of these parts. It takes no memory and constant time.
+    pub fn put_together(parts: MeshParts) -> Mesh
+        requires { IsMesh parts }
+        ensures { result ≡ parts }
+    {
+        let MeshParts {
+            setup,
+            unsent,
+            inputs,
+            hands,
+            cores,
+            delivered,
+            dumped,
+        } = parts;
+        Mesh {
+            setup,
+            unsent,
+            inputs,
+            hands,
+            cores,
+            delivered,
+            dumped,
+        }
+    }
+
+    /// The machine.
+    pub fn machine(&self) -> &Machine
+        ensures { result.now ≡ self.now.setup.machine }
+    {
+        self.setup.machine()
+    }
+
+    /// The spot of each vertex.
+    pub fn spots(&self) -> &[Spot]
+        ensures { result.now ≡ self.now.setup.spots }
+    {
+        self.setup.spots()
     }
 
     /// Puts a copy that has passed no router at the end of those that vertex `vertex` has not sent yet. After a refusal
     /// the mesh is as before.
     pub fn add(&mut self, vertex: u32, copy: McCopy) -> Result<(), Memory>
-        requires exists { vertex < length self.old.spots }
+        requires exists { vertex < length self.old.setup.spots }
         requires at_start { copy.hop ≡ 0 }
-        ensures ok { OnOk result (self.new ≡ record self.old { unsent = appended self.old.unsent vertex copy (slice_get self.old.unsent vertex) }) }
+        ensures ok { OnOk result (self.new ≡ record self.old { unsent = push_at self.old.unsent vertex copy (slice_get self.old.unsent vertex) }) }
         ensures err { OnErr result (self.new ≡ self.old) }
     {
         push_at(&mut self.unsent, vertex as usize, copy)
@@ -102,7 +157,7 @@ impl Mesh {
 
     /// The copies that vertex `v` has not sent yet, in order.
     pub fn unsent(&self, v: u32) -> &[McCopy]
-        requires { v < length self.now.spots }
+        requires { v < length self.now.setup.spots }
         ensures { slice_get self.now.unsent v ≡ Some result.now }
     {
         self.unsent[v as usize].as_slice()
@@ -110,7 +165,7 @@ impl Mesh {
 
     /// The queue of vertex `v`'s core, front first.
     pub fn core_queue(&self, v: u32) -> &[McCopy]
-        requires { v < length self.now.spots }
+        requires { v < length self.now.setup.spots }
         ensures { slice_get self.now.cores v ≡ Some result.now }
     {
         self.cores[v as usize].as_slice()
@@ -118,18 +173,18 @@ impl Mesh {
 
     /// The input queue of a port, front first.
     pub fn queue(&self, c: Chip, port: Port) -> &[McCopy]
-        requires { IsInside self.now.machine c }
-        ensures { slice_get self.now.inputs (queue_at self.now.machine c port) ≡ Some result.now }
+        requires { IsInside self.now.setup.machine c }
+        ensures { slice_get self.now.inputs (queue_at self.now.setup.machine c port) ≡ Some result.now }
     {
-        self.inputs[queue_place(&self.machine, c, port)].as_slice()
+        self.inputs[queue_place(self.setup.machine(), c, port)].as_slice()
     }
 
     /// What the chip's router holds, and `None` exactly where it holds nothing.
     pub fn hand(&self, c: Chip) -> Option<&Hand>
-        requires { IsInside self.now.machine c }
-        ensures { slice_get self.now.hands (index_of self.now.machine c) ≡ Some (option_copied result) }
+        requires { IsInside self.now.setup.machine c }
+        ensures { slice_get self.now.hands (index_of self.now.setup.machine c) ≡ Some (option_copied result) }
     {
-        self.hands[self.machine.index(c) as usize].as_ref()
+        self.hands[self.setup.machine().index(c) as usize].as_ref()
     }
 
     /// All deliveries so far, in order.
@@ -145,13 +200,4 @@ impl Mesh {
     {
         self.dumped.as_slice()
     }
-}
-
-// The place of an input queue in the list of them.
-pub(crate) fn queue_place(machine: &Machine, c: Chip, port: Port) -> usize
-    requires { IsInsideGrid machine.now c }
-    ensures place { result ≡ place_of_queue machine.now c port }
-    ensures below { result < 7 * (machine.now.width * machine.now.height) }
-{
-    7 * machine.index(c) as usize + usize::from(port.number())
 }

@@ -1,7 +1,7 @@
 // Queues of copies by their place in a list of queues.
 ghost use Rattle.std.specs.Prelude.{◌≡◌, ◌<◌, [], ◌∷◌, slice_get, slice_set, replicate, length, OnOk, OnErr, IfOk};
-ghost use Rattle.mesh_core.specs.Step.{has_room, appended};
-ghost use Rattle.mesh_core.specs.Queues.{front_of, shortened};
+ghost use Rattle.mesh_core.specs.Step.{has_room, push_at};
+ghost use Rattle.mesh_core.specs.Queues.{front_of, drop_front};
 ghost use Rattle.mesh_core.specs.Serving.{named, IsPlace, inputs_after, cores_after};
 
 use spin_base::{Fifo, McCopy, Memory};
@@ -46,7 +46,7 @@ pub fn front(queues: &[Fifo<McCopy>], place: usize) -> Option<McCopy>
 // Puts a copy at the queue's back.
 pub fn push_at(queues: &mut [Fifo<McCopy>], place: usize, copy: McCopy) -> Result<(), Memory>
     requires { place < length queues.old }
-    ensures ok { OnOk result (queues.new ≡ appended queues.old place copy (slice_get queues.old place)) }
+    ensures ok { OnOk result (queues.new ≡ push_at queues.old place copy (slice_get queues.old place)) }
     ensures err { OnErr result (queues.new ≡ queues.old) }
 {
     queues[place].push(copy)
@@ -55,7 +55,7 @@ pub fn push_at(queues: &mut [Fifo<McCopy>], place: usize, copy: McCopy) -> Resul
 // Takes the front copy off the queue.
 pub fn drop_front(queues: &mut [Fifo<McCopy>], place: usize)
     requires { place < length queues.old }
-    ensures { queues.new ≡ shortened queues.old place (slice_get queues.old place) }
+    ensures { queues.new ≡ drop_front queues.old place (slice_get queues.old place) }
 {
     let _ = queues[place].pop();
 }

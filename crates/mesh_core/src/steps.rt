@@ -1,20 +1,23 @@
 // The step: what one event does to a mesh.
-ghost use Rattle.std.specs.Prelude.{◌≡◌, OnOk, OnErr, IfOk, IfSome, length, slice_get};
+ghost use Rattle.std.specs.Prelude.{◌≡◌, ℕ, List, OnOk, OnErr, IfOk, IfSome, length, slice_get};
 ghost use Rattle.machine_desc.specs.Live.{index_of, IsInside};
 ghost use Rattle.mesh_core.specs.State.{behind};
 ghost use Rattle.mesh_core.specs.Step.{has_room_behind, onward};
 ghost use Rattle.mesh_core.specs.Serving.{named, copy_served, IsPlace};
 
 use crate::hands::{Hand, serve};
-use crate::meshes::{Mesh, queue_place};
+use crate::meshes::Mesh;
 use crate::places::Did;
 use crate::queues::{Queue, drop_front, front, has_room, push_at, push_behind};
-use spin_base::{Chip, Delivery, Dir, DumpRec, Event, McCopy, Memory, Out, Port, Spot};
+use crate::setups::queue_place;
+use spin_base::{Chip, Delivery, DumpRec, Event, McCopy, Memory, Out, Port};
 
 impl Mesh {
     ghost use Rattle.spin_base.specs.declared.copies.Event.TheVariants.{Inject, Take, Send, Dump, Collect};
-    ghost use Rattle.spin_base.specs.declared.routes.Out.TheVariants.{Link, Core};
+    ghost use Rattle.net_tables.specs.declared.nets.NetPlan.{NetPlan};
+    ghost use Rattle.net_tables.specs.RightTables.{AreRight};
     ghost use Rattle.mesh_core.specs.Step.{after_event, answer};
+    ghost use Rattle.mesh_core.specs.Ledger.{Label, MeetsLedger};
 
     /// One event: `Moved` exactly where it is enabled, and `Idle` exactly where it isn't, and then nothing changes.
     ///
@@ -25,15 +28,19 @@ impl Mesh {
     /// `Dump` records the copy and drops it for an output behind which is a full queue or none. `Collect` delivers the
     /// front copy in the queue of a vertex's core. An event of a vertex or a chip that isn't there is not enabled.
     ///
+    /// Where the tables are right for some nets and the mesh met their ledger of copies before, it meets it after.
+    ///
     /// It moves what it moves: its cost does not depend on the size of the mesh. After a refusal the mesh is as before.
-    #[tactic(auto, using(crate::proofs::Fixed::after_event_machine, crate::proofs::Fixed::after_event_spots))]
+    #[tactic(auto, using(crate::proofs::Fixed::after_event_setup))]
     pub fn step(&mut self, e: Event) -> Result<Did, Memory>
         ensures answer { IfOk result (λ did. did ≡ answer self.old e) }
         ensures moves { OnOk result (self.new ≡ after_event self.old e) }
         ensures err { OnErr result (self.new ≡ self.old) }
-        ensures machine_stays { self.new.machine ≡ self.old.machine }
-        ensures vertices_stay { self.new.spots ≡ self.old.spots }
+        ensures setup_stays { self.new.setup ≡ self.old.setup }
+        ensures ledger { (nets : List NetPlan) (labels : ℕ → Label) →
+            AreRight self.old.setup.machine self.old.setup.tables nets → MeetsLedger self.old nets labels → MeetsLedger self.new nets labels }
     {
+        let _ = &self.setup;
         match e {
             Event::Inject(vertex) => self.inject(vertex),
             Event::Take(chip, port) => Ok(self.take(chip, port)),
@@ -50,14 +57,16 @@ impl Mesh {
         ensures err { OnErr result (self.new ≡ self.old) }
     {
         let vertex = v as usize;
-        if vertex >= self.spots.len() {
+        let spots = self.setup.spots();
+        if vertex >= spots.len() {
             return Ok(Did::Idle);
         }
+        let chip = spots[vertex].chip;
         let Some(copy) = front(&self.unsent, vertex) else {
             return Ok(Did::Idle);
         };
-        let queue = queue_place(&self.machine, self.spots.get(vertex).chip, Port::Local);
-        if !has_room(&self.inputs, queue, self.capacity) {
+        let queue = queue_place(self.setup.machine(), chip, Port::Local);
+        if !has_room(&self.inputs, queue, self.setup.capacity()) {
             return Ok(Did::Idle);
         }
         push_at(&mut self.inputs, queue, copy)?;
@@ -88,18 +97,19 @@ impl Mesh {
         ensures answer { result ≡ answer self.old (Take c port) }
         ensures moves { self.new ≡ after_event self.old (Take c port) }
     {
-        if !self.machine.live(c) {
+        let machine = self.setup.machine();
+        if !machine.live(c) {
             return Did::Idle;
         }
-        let chip = self.machine.index(c) as usize;
+        let chip = machine.index(c) as usize;
         if self.hands[chip].is_some() {
             return Did::Idle;
         }
-        let queue = queue_place(&self.machine, c, port);
+        let queue = queue_place(machine, c, port);
         let Some(copy) = front(&self.inputs, queue) else {
             return Did::Idle;
         };
-        self.hands[chip] = Hand::taken(copy, port, self.tcams.get(chip));
+        self.hands[chip] = Hand::taken(copy, port, &self.setup.tables()[chip]);
         drop_front(&mut self.inputs, queue);
         Did::Moved
     }
@@ -118,7 +128,7 @@ impl Mesh {
             return Ok(Did::Idle);
         }
         push_behind(&mut self.inputs, &mut self.cores, queue, onward(copy))?;
-        let chip = self.machine.index(c) as usize;
+        let chip = self.setup.machine().index(c) as usize;
         serve(&mut self.hands, chip, out);
         Ok(Did::Moved)
     }
@@ -137,20 +147,21 @@ impl Mesh {
             return Ok(Did::Idle);
         }
         self.dumped.push(DumpRec { chip: c, out, copy })?;
-        let chip = self.machine.index(c) as usize;
+        let chip = self.setup.machine().index(c) as usize;
         serve(&mut self.hands, chip, out);
         Ok(Did::Moved)
     }
 
     // The copy in the hand of the chip's router that still has to leave by the output.
     fn copy_for(&self, c: Chip, out: Out) -> Option<McCopy>
-        ensures copy { result ≡ copy_served self.now c out (slice_get self.now.hands (index_of self.now.machine c)) }
-        ensures inside { IfSome result (λ _. IsInside self.now.machine c) }
+        ensures copy { result ≡ copy_served self.now c out (slice_get self.now.hands (index_of self.now.setup.machine c)) }
+        ensures inside { IfSome result (λ _. IsInside self.now.setup.machine c) }
     {
-        if !self.machine.live(c) {
+        let machine = self.setup.machine();
+        if !machine.live(c) {
             return None;
         }
-        let hand = self.hands[self.machine.index(c) as usize].as_ref()?;
+        let hand = self.hands[machine.index(c) as usize].as_ref()?;
         if hand.serves(out) {
             Some(hand.copy)
         } else {
@@ -160,45 +171,11 @@ impl Mesh {
 
     // The queue behind an output.
     fn behind(&self, c: Chip, out: Out) -> Queue
-        requires { IsInside self.now.machine c }
-        ensures queue { named result ≡ behind self.now.machine self.now.spots c out }
+        requires { IsInside self.now.setup.machine c }
+        ensures queue { named result ≡ behind self.now.setup c out }
         ensures place { IsPlace (length self.now.inputs) (length self.now.cores) result }
     {
-        match out {
-            Out::Link(link) => self.behind_link(c, link),
-            Out::Core(core) => self.behind_core(Spot { chip: c, core }),
-        }
-    }
-
-    // The queue at the far end of a link.
-    fn behind_link(&self, c: Chip, link: Dir) -> Queue
-        requires { IsInside self.now.machine c }
-        ensures queue { named result ≡ behind self.now.machine self.now.spots c (Link link) }
-        ensures place { IsPlace (length self.now.inputs) (length self.now.cores) result }
-    {
-        if !self.machine.link_live(c, link) {
-            return Queue::Nowhere;
-        }
-        match self.machine.far(c, link) {
-            None => Queue::Nowhere,
-            Some(e) => Queue::Input(queue_place(&self.machine, e, Port::Link(link.opposite()))),
-        }
-    }
-
-    // The queue of the vertex on a core.
-    fn behind_core(&self, spot: Spot) -> Queue
-        requires { IsInside self.now.machine spot.chip }
-        ensures queue { named result ≡ behind self.now.machine self.now.spots spot.chip (Core spot.core) }
-        ensures place { IsPlace (length self.now.inputs) (length self.now.cores) result }
-    {
-        let first = 18 * self.machine.index(spot.chip) as usize;
-        if spot.core >= 18 {
-            return Queue::Nowhere;
-        }
-        match self.vertices[first + usize::from(spot.core)] {
-            None => Queue::Nowhere,
-            Some(vertex) => Queue::Core(vertex),
-        }
+        self.setup.behind(c, out)
     }
 
     // Whether the queue behind an output has room.
@@ -207,8 +184,8 @@ impl Mesh {
         ensures { result ≡ has_room_behind self.now (named queue) }
     {
         match queue {
-            Queue::Input(place) => has_room(&self.inputs, place, self.capacity),
-            Queue::Core(vertex) => has_room(&self.cores, vertex, self.capacity),
+            Queue::Input(place) => has_room(&self.inputs, place, self.setup.capacity()),
+            Queue::Core(vertex) => has_room(&self.cores, vertex, self.setup.capacity()),
             Queue::Nowhere => false,
         }
     }

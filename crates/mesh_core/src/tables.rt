@@ -1,27 +1,38 @@
-// The table from cores to vertices.
-ghost use Rattle.std.specs.Prelude.{◌≡◌, ◌≢◌, All, AllPairs, IfOk};
-ghost use Rattle.machine_desc.specs.Live.{IsUsable};
-ghost use Rattle.mesh_core.specs.VertexTable.{TellsVertices};
+// The table from spots to vertices.
+ghost use Rattle.std.specs.Prelude.{◌≡◌, ◌≢◌, ◌*◌, ◌<◌, All, AllPairs, IfOk};
+ghost use Rattle.machine_desc.specs.Live.{IsInside, IsSite};
+ghost use Rattle.mesh_core.specs.VertexTable.{TellsVertices, spot_place};
 
 use machine_desc::Machine;
 use spin_base::{Memory, Spot};
 use std::alloc::Global;
 
-// The vertex on each core: that on core p of chip index i at place 18 * i + p.
+/// How many vertices a chip has room for: one on each of its cores 0 to 17, and one on each of its six links.
+pub const SPOTS: usize = 24;
+
+// The vertex on each spot, at the spot's place.
 pub fn vertex_table(
     alloc: Global,
     machine: &Machine,
     spots: &[Spot],
 ) -> Result<Vec<Option<usize>>, Memory>
     requires different { AllPairs (λ a b. a ≢ b) spots.now }
-    requires usable { All (IsUsable machine.now) spots.now }
+    requires sites { All (IsSite machine.now) spots.now }
     ensures { IfOk result (λ v. TellsVertices machine.now spots.now v.items) }
 {
-    let chips = usize::from(machine.width()) * usize::from(machine.height());
-    let mut table = vec![in alloc; None; 18 * chips]?;
+    let mut table = vec![in alloc; None; SPOTS * machine.chips()]?;
     for (vertex, spot) in spots.iter().enumerate() {
-        let place = 18 * machine.index(spot.chip) as usize + usize::from(spot.core);
-        table[place] = Some(vertex);
+        table[spot_place(machine, *spot)] = Some(vertex);
     }
     Ok(table)
+}
+
+// The place of a spot in the table.
+pub fn spot_place(machine: &Machine, spot: Spot) -> usize
+    requires inside { IsInside machine.now spot.chip }
+    requires numbered { spot.core < 24 }
+    ensures place { result ≡ spot_place machine.now spot }
+    ensures below { result < 24 * (machine.now.width * machine.now.height) }
+{
+    SPOTS * machine.index(spot.chip) as usize + usize::from(spot.core)
 }

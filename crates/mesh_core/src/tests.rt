@@ -1,5 +1,5 @@
-// Worked examples of the step: what each event answers, and what is where after it.
-ghost use Rattle.std.specs.Prelude.{◌≡◌, ◌<◌, ◌≤◌, [], ◌∷◌, IfOk, length};
+// Worked examples of the step: events one after the other, and what was delivered and dumped at their end.
+ghost use Rattle.std.specs.Prelude.{◌≤◌};
 
 use crate::*;
 use machine_desc::Machine;
@@ -7,26 +7,16 @@ use spin_base::{Chip, Delivery, Dir, DumpRec, Entry, Event, McCopy, Out, Port, R
 use std::test::Fail;
 use tcam_find::Tcam;
 
-const ORIGIN: Chip = Chip { x: 0, y: 0 };
+/// A chip of the row.
+fn at(x: u8) -> Chip {
+    Chip { x, y: 0 }
+}
 
-/// A grid that isn't closed, one chip high, with no dead part.
-fn row_of_chips(rt: &HostRuntime, width: u8) -> Result<Machine, &'static str>
-    requires from_one { 1 ≤ width }
-    requires to_64 { width ≤ 64 }
-    ensures width { IfOk result (λ m. m.width ≡ width) }
-    ensures height { IfOk result (λ m. m.height ≡ 1) }
-{
+/// A row of three chips that is not closed, with no dead part.
+fn row_of_chips(rt: &HostRuntime) -> Result<Machine, &'static str> {
     let alloc = rt.alloc();
-    let machine = Machine::new(
-        alloc,
-        width,
-        1,
-        false,
-        1024,
-        &Seq::new(alloc),
-        &Seq::new(alloc),
-        &Seq::new(alloc),
-    );
+    let (chips, cores, links) = (Seq::new(alloc), Seq::new(alloc), Seq::new(alloc));
+    let machine = Machine::new(alloc, 3, 1, false, 1024, &chips, &cores, &links);
     machine.map_err(|_| "memory")
 }
 
@@ -35,64 +25,48 @@ fn row(bits: u32) -> Tcam
     requires { bits ≤ 16777215 }
 {
     let mut table = Tcam::empty();
-    table.set(
-        0,
-        Entry {
-            key: 0,
-            mask: 0xffff_ffff,
-            route: Route { bits },
-        },
-    );
+    let route = Route { bits };
+    let entry = Entry {
+        key: 0,
+        mask: 0xffff_ffff,
+        route,
+    };
+    table.set(0, entry);
     table
 }
 
-/// The mesh of two vertices, which are on different usable cores.
-fn mesh_of(
-    rt: &HostRuntime,
-    machine: Machine,
-    a: Spot,
-    b: Spot,
-    tables: Seq<Tcam>,
-) -> Result<Mesh, &'static str>
-    ensures machine { IfOk result (λ m. m.machine ≡ machine) }
-    ensures vertices { IfOk result (λ m. m.spots ≡ a ∷ (b ∷ [])) }
+/// Tables that send key 0 from the first chip east, and from the last one by an output. The one between has no row.
+fn tables(rt: &HostRuntime, last: u32) -> Result<Seq<Tcam>, &'static str>
+    requires { last ≤ 16777215 }
 {
-    if a == b || !machine.usable(a) || !machine.usable(b) {
-        return Err("two different usable cores");
-    }
-    if tables.len() != usize::from(machine.width()) * usize::from(machine.height()) {
-        return Err("a table for each chip");
-    }
+    let mut tables = Seq::new(rt.alloc());
+    tables.push(row(0x00_0001)).map_err(|_| "memory")?;
+    tables.push(Tcam::empty()).map_err(|_| "memory")?;
+    tables.push(row(last)).map_err(|_| "memory")?;
+    Ok(tables)
+}
+
+/// The mesh of the row, where vertex 0 on the first chip sends to vertex 1, with queues of one copy.
+fn mesh_to(rt: &HostRuntime, to: Spot, last: u32) -> Result<Mesh, &'static str>
+    requires { last ≤ 16777215 }
+{
+    let machine = row_of_chips(rt)?;
+    let tables = tables(rt, last)?;
+    let from = Spot {
+        chip: at(0),
+        core: 1,
+    };
     let mut spots = Seq::new(rt.alloc());
-    spots.push(a).map_err(|_| "memory")?;
-    spots.push(b).map_err(|_| "memory")?;
+    spots.push(from).map_err(|_| "memory")?;
+    spots.push(to).map_err(|_| "memory")?;
+    if from == to || !machine.site(from) || !machine.site(to) || tables.len() != machine.chips() {
+        return Err("two sites, and a table for each chip");
+    }
     let mesh = Mesh::new(rt.alloc(), machine, spots, tables, 1);
     mesh.map_err(|_| "memory")
 }
 
-/// The mesh of one chip, vertices on its cores 1 and 2, queues of one copy, and key 0 going to core 2.
-fn one_chip(rt: &HostRuntime) -> Result<Mesh, &'static str>
-    ensures width { IfOk result (λ m. m.machine.width ≡ 1) }
-    ensures height { IfOk result (λ m. m.machine.height ≡ 1) }
-    ensures vertices { IfOk result (λ m. length m.spots ≡ 2) }
-{
-    let machine = row_of_chips(rt, 1)?;
-    let mut tables = Seq::new(rt.alloc());
-    tables.push(row(0x00_0100)).map_err(|_| "memory")?;
-    let a = Spot {
-        chip: ORIGIN,
-        core: 1,
-    };
-    let b = Spot {
-        chip: ORIGIN,
-        core: 2,
-    };
-    mesh_of(rt, machine, a, b, tables)
-}
-
-fn copy(packet: u32, hop: u32) -> McCopy
-    ensures { result.hop ≡ hop }
-{
+fn copy(packet: u32, hop: u32) -> McCopy {
     McCopy {
         packet,
         key: 0,
@@ -101,11 +75,22 @@ fn copy(packet: u32, hop: u32) -> McCopy
     }
 }
 
+/// Vertex 0 has one more packet to send.
+fn put(mesh: &mut Mesh, packet: u32) -> Result<(), &'static str> {
+    if mesh.spots().is_empty() {
+        return Err("no vertex");
+    }
+    let copy = McCopy {
+        packet,
+        key: 0,
+        payload: Some(7),
+        hop: 0,
+    };
+    mesh.add(0, copy).map_err(|_| "memory")
+}
+
 /// How many of the events move something.
-fn moved(mesh: &mut Mesh, events: &[Event]) -> Result<u32, &'static str>
-    ensures machine { mesh.new.machine ≡ mesh.old.machine }
-    ensures vertices { mesh.new.spots ≡ mesh.old.spots }
-{
+fn moved(mesh: &mut Mesh, events: &[Event]) -> Result<u32, &'static str> {
     let mut count: u32 = 0;
     for e in events {
         if mesh.step(*e).map_err(|_| "memory")? == Did::Moved {
@@ -115,119 +100,91 @@ fn moved(mesh: &mut Mesh, events: &[Event]) -> Result<u32, &'static str>
     Ok(count)
 }
 
-/// The first copy at a port of a chip of the row.
-#[tactic(auto, using(machine_desc::proofs::Far::inside_from))]
-fn waiting(mesh: &Mesh, x: u8, port: Port) -> Option<McCopy>
-    requires in_row { x < mesh.now.machine.width }
-    requires row { mesh.now.machine.height ≡ 1 }
-{
-    mesh.queue(Chip { x, y: 0 }, port).first().copied()
+/// The events of a packet on its way to the last chip, but for the last output.
+fn way() -> [Event; 6] {
+    let east = Out::Link(Dir::East);
+    let west = Port::Link(Dir::West);
+    [
+        Event::Inject(0),
+        Event::Take(at(0), Port::Local),
+        Event::Send(at(0), east),
+        Event::Take(at(1), west),
+        Event::Send(at(1), east),
+        Event::Take(at(2), west),
+    ]
 }
 
-/// The outputs that a chip of the row still has to serve.
-#[tactic(auto, using(machine_desc::proofs::Far::inside_from))]
-fn to_serve(mesh: &Mesh, x: u8) -> &[Out]
-    requires in_row { x < mesh.now.machine.width }
-    requires row { mesh.now.machine.height ≡ 1 }
-{
-    match mesh.hand(Chip { x, y: 0 }) {
-        Some(hand) => hand.outs.as_slice(),
-        None => &[],
-    }
-}
-
-/// Vertex 0 has one more packet to send.
-fn put(mesh: &mut Mesh, packet: u32) -> Result<(), &'static str>
-    requires { length mesh.old.spots ≡ 2 }
-    ensures machine { mesh.new.machine ≡ mesh.old.machine }
-    ensures vertices { mesh.new.spots ≡ mesh.old.spots }
-{
-    mesh.add(0, copy(packet, 0)).map_err(|_| "memory")
-}
-
-fn send(x: u8, out: Out) -> Event {
-    Event::Send(Chip { x, y: 0 }, out)
-}
-
-fn take(x: u8, port: Port) -> Event {
-    Event::Take(Chip { x, y: 0 }, port)
-}
-
-/// Four chips in a row: a vertex on the first, which sends key 0 to the one on the last.
-fn four_chips(rt: &HostRuntime) -> Result<Mesh, &'static str>
-    ensures width { IfOk result (λ m. m.machine.width ≡ 4) }
-    ensures height { IfOk result (λ m. m.machine.height ≡ 1) }
-    ensures vertices { IfOk result (λ m. length m.spots ≡ 2) }
-{
-    let machine = row_of_chips(rt, 4)?;
-    let mut tables = Seq::new(rt.alloc());
-    for bits in [0x00_0001, 0, 0, 0x00_0080] {
-        let table = if bits == 0 { Tcam::empty() } else { row(bits) };
-        tables.push(table).map_err(|_| "memory")?;
-    }
-    let a = Spot {
-        chip: ORIGIN,
-        core: 1,
+/// Whether vertex 1 is delivered the packet once it left the last chip by that output.
+fn is_delivered(mesh: &mut Mesh, out: Out) -> Result<bool, &'static str> {
+    let there = moved(mesh, &way())?;
+    let end = [Event::Send(at(2), out), Event::Collect(1)];
+    let last = moved(mesh, &end)?;
+    let delivery = Delivery {
+        vertex: 1,
+        copy: copy(0, 3),
     };
-    let b = Spot {
-        chip: Chip { x: 3, y: 0 },
-        core: 1,
-    };
-    mesh_of(rt, machine, a, b, tables)
+    Ok(there == 6 && last == 2 && mesh.delivered() == [delivery].as_slice())
 }
 
-// Whether a copy comes into the queue of its chip.
-fn waits(rt: &HostRuntime) -> Result<bool, &'static str> {
-    let mut mesh = one_chip(rt)?;
+/// A packet goes through a chip without a row and is delivered at a core, in a mesh that was taken apart before.
+fn reaches_a_core(rt: &HostRuntime) -> Result<bool, &'static str> {
+    let core = Spot {
+        chip: at(2),
+        core: 3,
+    };
+    let mut mesh = mesh_to(rt, core, 0x00_0200)?;
     put(&mut mesh, 0)?;
-    let sent = moved(&mut mesh, &[Event::Inject(0)])?;
-    Ok(sent == 1 && waiting(&mesh, 0, Port::Local) == Some(copy(0, 0)))
+    let mut again = Mesh::put_together(mesh.take_apart());
+    is_delivered(&mut again, Out::Core(3))
 }
 
 #[test]
-fn a_sent_copy_waits_at_its_chip(rt: HostRuntime) -> Result<(), Fail> {
-    assert!(rt; waits(&rt)?);
+fn a_copy_is_delivered_at_a_core(rt: HostRuntime) -> Result<(), Fail> {
+    assert!(rt; reaches_a_core(&rt)?);
     Ok(())
 }
 
-// Whether a copy comes into the hand, with the output that the table gives.
-fn is_in_hand(rt: &HostRuntime) -> Result<bool, &'static str> {
-    let mut mesh = one_chip(rt)?;
+/// A packet leaves the row by the last chip's link, on which a device hangs.
+fn reaches_a_device(rt: &HostRuntime) -> Result<bool, &'static str> {
+    let device = Spot {
+        chip: at(2),
+        core: 18,
+    };
+    let mut mesh = mesh_to(rt, device, 0x00_0001)?;
     put(&mut mesh, 0)?;
-    let taken = moved(&mut mesh, &[Event::Inject(0), take(0, Port::Local)])?;
-    Ok(taken == 2 && to_serve(&mesh, 0) == [Out::Core(2)].as_slice())
+    is_delivered(&mut mesh, Out::Link(Dir::East))
 }
 
 #[test]
-fn a_taken_copy_is_in_hand(rt: HostRuntime) -> Result<(), Fail> {
-    assert!(rt; is_in_hand(&rt)?);
+fn a_copy_is_delivered_at_a_device(rt: HostRuntime) -> Result<(), Fail> {
+    assert!(rt; reaches_a_device(&rt)?);
     Ok(())
 }
 
-// Whether of two copies to one core the second is dumped, and not sent, while the first fills the queue.
+/// Of two packets to one core the second is dumped, and not sent, while the first fills the queue.
 fn is_dumped(rt: &HostRuntime) -> Result<bool, &'static str> {
-    let mut mesh = one_chip(rt)?;
+    let core = Spot {
+        chip: at(2),
+        core: 3,
+    };
+    let mut mesh = mesh_to(rt, core, 0x00_0200)?;
     put(&mut mesh, 0)?;
     put(&mut mesh, 1)?;
-    let local = take(0, Port::Local);
-    let to_core = send(0, Out::Core(2));
-    let dump = Event::Dump(ORIGIN, Out::Core(2));
-    let events = [
-        Event::Inject(0),
-        local,
-        to_core,
-        Event::Inject(0),
-        local,
-        to_core,
-        dump,
-    ];
-    let count = moved(&mut mesh, &events)?;
+    let first = moved(&mut mesh, &way())?;
+    let out = Out::Core(3);
+    let sent = moved(&mut mesh, &[Event::Send(at(2), out)])?;
+    let second = moved(&mut mesh, &way())?;
+    let last = moved(
+        &mut mesh,
+        &[Event::Send(at(2), out), Event::Dump(at(2), out)],
+    )?;
     let record = DumpRec {
-        chip: ORIGIN,
-        out: Out::Core(2),
-        copy: copy(1, 0),
+        chip: at(2),
+        out,
+        copy: copy(1, 2),
     };
-    Ok(count == 6 && mesh.dumped() == [record].as_slice())
+    let all = first == 6 && sent == 1 && second == 6 && last == 1;
+    Ok(all && mesh.dumped() == [record].as_slice())
 }
 
 #[test]
@@ -236,69 +193,16 @@ fn a_full_queue_lets_a_copy_be_dumped(rt: HostRuntime) -> Result<(), Fail> {
     Ok(())
 }
 
-// How many events move something where a copy in hand is dumped though there is room.
-fn dumped_with_room(rt: &HostRuntime) -> Result<u32, &'static str> {
-    let mut mesh = one_chip(rt)?;
-    put(&mut mesh, 0)?;
-    let dump = Event::Dump(ORIGIN, Out::Core(2));
-    moved(&mut mesh, &[Event::Inject(0), take(0, Port::Local), dump])
-}
+fn is_shared<T: Send + Sync>() {}
 
 #[test]
-fn no_copy_is_dumped_where_there_is_room(rt: HostRuntime) -> Result<(), Fail> {
-    assert_eq!(rt; dumped_with_room(&rt)?, 2);
-    Ok(())
-}
-
-// Whether events that are not enabled move nothing.
-fn nothing_moves(rt: &HostRuntime) -> Result<bool, &'static str> {
-    let mut mesh = one_chip(rt)?;
-    put(&mut mesh, 0)?;
-    let nowhere = Event::Take(Chip { x: 9, y: 9 }, Port::Local);
-    let events = [
-        Event::Collect(1),
-        nowhere,
-        Event::Inject(1),
-        Event::Inject(2),
-    ];
-    let count = moved(&mut mesh, &events)?;
-    Ok(count == 0 && mesh.unsent(0) == [copy(0, 0)].as_slice())
-}
-
-#[test]
-fn an_event_that_is_not_enabled_changes_nothing(rt: HostRuntime) -> Result<(), Fail> {
-    assert!(rt; nothing_moves(&rt)?);
-    Ok(())
-}
-
-// Whether a copy crosses the row of chips, each by the port opposite its link, and is delivered.
-fn crosses_the_row(rt: &HostRuntime) -> Result<bool, &'static str> {
-    let mut mesh = four_chips(rt)?;
-    put(&mut mesh, 0)?;
-    let east = Out::Link(Dir::East);
-    let west = Port::Link(Dir::West);
-    let way = [
-        Event::Inject(0),
-        take(0, Port::Local),
-        send(0, east),
-        take(1, west),
-        send(1, east),
-        take(2, west),
-        send(2, east),
-        take(3, west),
-        send(3, Out::Core(1)),
-        Event::Collect(1),
-    ];
-    let count = moved(&mut mesh, &way)?;
-    let delivery = Delivery {
-        vertex: 1,
-        copy: copy(0, 4),
-    };
-    Ok(count == 10 && mesh.delivered() == [delivery].as_slice())
-}
-
-#[test]
-fn a_copy_is_delivered_at_the_end_of_its_way(rt: HostRuntime) -> Result<(), Fail> {
-    assert!(rt; crosses_the_row(&rt)?);
-    Ok(())
+fn meshes_and_their_parts_can_be_shared() {
+    is_shared::<Mesh>();
+    is_shared::<MeshParts>();
+    is_shared::<MeshSetup>();
+    is_shared::<Hand>();
+    is_shared::<Queue>();
+    is_shared::<Did>();
+    is_shared::<Place>();
+    is_shared::<Where>();
 }

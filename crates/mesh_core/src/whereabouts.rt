@@ -7,13 +7,12 @@ ghost use Rattle.mesh_core.specs.Searches.{IsEdgeInto, port_behind};
 use crate::meshes::Mesh;
 use crate::places::{Place, Where};
 use machine_desc::{Edge, Machine};
-use net_tables::NetPlan;
+use net_tables::{NetPlan, out_of};
 use spin_base::{Chip, McCopy, Out, Port, Spot};
 
 impl Mesh {
     ghost use Rattle.spin_base.specs.Equality.{chip_eq, out_eq};
-    ghost use Rattle.machine_desc.specs.Live.{index_of, IsUsable};
-    ghost use Rattle.mesh_core.specs.State.{vertex_at};
+    ghost use Rattle.machine_desc.specs.Live.{index_of, IsSite};
     ghost use Rattle.mesh_core.specs.Whereabouts.{IsTracked, IsWhere};
     ghost use Rattle.mesh_core.specs.Searches.{IsFound, IsOfCore, IsOfOutput, IsOfPort, is_held};
 
@@ -27,17 +26,17 @@ impl Mesh {
         requires few_dumps { length self.now.dumped < 2 ^ 32 }
         ensures { IsWhere self.now net.now packet target result }
     {
-        let chips = u32::from(self.machine.width()) * u32::from(self.machine.height());
+        let machine = self.setup.machine();
         if let Some(found) = self.at_core(packet, target) {
             return found;
         }
         let mut chip = target.chip;
-        let mut out = Out::Core(target.core);
-        for _ in 0..chips {
+        let mut out = out_of(target.core);
+        for _ in 0..machine.chips() {
             if let Some(found) = self.at_output(packet, chip, out) {
                 return found;
             }
-            let before = edge_into(&self.machine, net.tree.edges.as_slice(), chip);
+            let before = edge_into(machine, net.tree.edges.as_slice(), chip);
             if let Some(found) = self.at_port(packet, chip, port_behind(before)) {
                 return found;
             }
@@ -52,11 +51,11 @@ impl Mesh {
 
     // Where a copy of the packet is at the vertex on a core: delivered, or in the core's queue.
     fn at_core(&self, packet: u32, spot: Spot) -> Option<Where>
-        requires usable { IsUsable self.now.machine spot }
+        requires site { IsSite self.now.setup.machine spot }
         requires few_deliveries { length self.now.delivered < 2 ^ 32 }
         ensures { IsFound self.now packet (IsOfCore self.now spot) result }
     {
-        let vertex = self.vertex_on(spot)?;
+        let vertex = self.setup.vertex_at(spot)?;
         if let Some(place) = self.delivery_to(packet, vertex) {
             return Some(Where::Delivered(place as u32));
         }
@@ -68,7 +67,7 @@ impl Mesh {
 
     // Where a copy of the packet is at an output of a chip: in the hand, or dumped.
     fn at_output(&self, packet: u32, chip: Chip, out: Out) -> Option<Where>
-        requires inside { IsInside self.now.machine chip }
+        requires inside { IsInside self.now.setup.machine chip }
         requires few_dumps { length self.now.dumped < 2 ^ 32 }
         ensures { IsFound self.now packet (IsOfOutput chip out) result }
     {
@@ -81,7 +80,7 @@ impl Mesh {
 
     // Where a copy of the packet is at a port of a chip: in the input queue.
     fn at_port(&self, packet: u32, chip: Chip, port: Port) -> Option<Where>
-        requires inside { IsInside self.now.machine chip }
+        requires inside { IsInside self.now.setup.machine chip }
         ensures { IsFound self.now packet (IsOfPort chip port) result }
     {
         if has_packet(self.queue(chip, port), packet) {
@@ -89,14 +88,6 @@ impl Mesh {
         } else {
             None
         }
-    }
-
-    // The vertex on a core.
-    fn vertex_on(&self, spot: Spot) -> Option<usize>
-        requires { IsUsable self.now.machine spot }
-        ensures { result ≡ vertex_at self.now.spots spot }
-    {
-        self.vertices[18 * self.machine.index(spot.chip) as usize + usize::from(spot.core)]
     }
 
     // The place of the first delivery of the packet to the vertex.
@@ -123,8 +114,8 @@ impl Mesh {
 
     // Whether the chip's hand has a copy of the packet for the output.
     fn holds(&self, packet: u32, chip: Chip, out: Out) -> bool
-        requires { IsInside self.now.machine chip }
-        ensures { result ≡ is_held packet out (slice_get self.now.hands (index_of self.now.machine chip)) }
+        requires { IsInside self.now.setup.machine chip }
+        ensures { result ≡ is_held packet out (slice_get self.now.hands (index_of self.now.setup.machine chip)) }
     {
         match self.hand(chip) {
             Some(hand) => hand.copy.packet == packet && hand.serves(out),

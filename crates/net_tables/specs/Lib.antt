@@ -1,2 +1,3 @@
+pub mod NetsOn
 pub mod Outputs
 pub mod RightTables

@@ -5,5 +5,10 @@
 #![tactic(auto)]
 
 mod nets;
+mod outputs;
 
 pub use nets::NetPlan;
+pub use outputs::out_of;
+
+#[cfg(test)]
+mod tests;

@@ -7,7 +7,7 @@ use Rattle.spin_base.specs.declared.chips.Chip.{Chip}
 use Rattle.spin_base.specs.declared.chips.Spot.{Spot}
 use Rattle.spin_base.specs.declared.blocks.Block.{Block}
 use Rattle.machine_desc.specs.declared.trees.Edge.{Edge}
-use Rattle.machine_desc.specs.Live.{IsLiveLink}
+use Rattle.machine_desc.specs.Live.{IsInside, IsLiveLink}
 use Rattle.machine_desc.specs.RoutingTree.{IsRoutingTree, IsTreeChip, IsPath, end_of}
 use Rattle.net_tables.specs.declared.nets.NetPlan.{NetPlan}
 use Rattle.tern_word.specs.Ternary.{Intersects}
@@ -42,15 +42,17 @@ ends_are_targets c h = by (chips_of_tree c h)
     by (inl at) = inl (0, east, omega arith, refl, sym at)
     by (inr at) = inr (0, omega arith, sym at)
 
+right_on : IsTreeChip board left (east ∷ []) right
+right_on = inr (0, east, omega arith, refl, refl)
+
 tree_stands : IsRoutingTree board left (east ∷ []) targets
 tree_stands = record {
-  root_lives = refl;
   edges_live = All-from_recursion (λ (e : Edge). IsLiveLink board e.chip e.dir) (east ∷ []) (refl, tt);
   edges_begin = All-from_recursion (λ (e : Edge). IsTreeChip board left (east ∷ []) e.chip) (east ∷ []) ((inl refl), tt);
   none_into_root = All-from_recursion (λ (e : Edge). end_of board e ≢ Some left) (east ∷ []) ((λ e. left_is_not_right (sym (cc e))), tt);
   one_into_each = λ i j d lt within. absurd (omega (arith, lt, within));
   reached = reached;
-  has_targets = All-from_recursion (IsTreeChip board left (east ∷ [])) (right ∷ []) (inr (0, east, omega arith, refl, refl), tt);
+  has_targets = All-from_recursion (IsTreeChip board left (east ∷ [])) (right ∷ right ∷ []) (right_on, (right_on, tt));
   ends_are_targets = ends_are_targets;
 }
 
@@ -58,11 +60,12 @@ module _ (a b : Block) where
   pub routed : ¬ (Intersects a b) → AreRouted board (net_with a ∷ net_with b ∷ [])
   routed apart = record {
     trees = All-from_recursion (λ (n : NetPlan). IsRoutingTree board n.tree.root n.tree.edges n.targets) (net_with a ∷ net_with b ∷ []) (tree_stands, (tree_stands, tt));
-    cores = All-from_recursion (λ (n : NetPlan). All (λ (s : Spot). s.core < 18) n.targets) (net_with a ∷ net_with b ∷ []) (core_below, (core_below, tt));
+    roots = All-from_recursion (λ (n : NetPlan). IsInside board n.tree.root) (net_with a ∷ net_with b ∷ []) (refl, (refl, tt));
+    cores = All-from_recursion (λ (n : NetPlan). All (λ (s : Spot). s.core < 24) n.targets) (net_with a ∷ net_with b ∷ []) (core_below, (core_below, tt));
     apart = AllPairs-cons (λ (m n : NetPlan). ¬ (Intersects m.block n.block)) (net_with a) (net_with b ∷ [])
         (All-from_recursion (λ (n : NetPlan). ¬ (Intersects a n.block)) (net_with b ∷ []) (apart, tt))
         (λ i j d lt within. absurd (omega (arith, lt, within)));
   }
     where
-      core_below : All (λ (s : Spot). s.core < 18) targets
-      core_below = All-from_recursion (λ (s : Spot). s.core < 18) targets (omega arith, tt)
+      core_below : All (λ (s : Spot). s.core < 24) targets
+      core_below = All-from_recursion (λ (s : Spot). s.core < 24) targets (omega arith, (omega arith, tt))

@@ -17,7 +17,8 @@ use Rattle.machine_desc.specs.RoutingTree.{IsTreeChip, end_of}
 use Rattle.net_tables.specs.declared.nets.NetPlan.{NetPlan}
 use Rattle.plain_tables.specs.declared.marks.Mark.{Mark}
 use Rattle.plain_tables.specs.Marks.{IsClear, IsClearOff, TellsPort, TellsPorts, TellsRoutes, Grows, marked}
-use Rattle.plain_tables.proofs.Telling.{tree_cases, reads}
+use Rattle.machine_desc.proofs.TreeLemmas.{tree_cases}
+use Rattle.plain_tables.proofs.Telling.{reads}
 use Rattle.plain_tables.proofs.Trees.{comes_in_tree, grows}
 
 -- the boards and the lists at one moment

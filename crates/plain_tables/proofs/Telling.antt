@@ -1,8 +1,8 @@
--- What ports and routes tell, as a tree's edges and target cores are read one by one.
-use Rattle.std.proofs.Common.{◌≡◌, ◌≢◌, ℕ, ◌+◌, ◌*◌, ◌<◌, ◌≤◌, ◌==◌, Bool, true, false, ◌||◌, List, [], ◌∷◌, ◌++◌, length, get_or, take, set, Option, Some, None, refl, sym, ap, ◌∙◌, subst, arith, inl, inr, ◌⊎◌}
+-- What ports and routes tell, as a tree's edges and targets are read one by one.
+use Rattle.std.proofs.Common.{◌≡◌, ◌≢◌, ℕ, ◌+◌, ◌*◌, ◌<◌, ◌≤◌, ◌==◌, Bool, true, false, ◌||◌, List, [], ◌∷◌, ◌++◌, length, get_or, take, set, Option, Some, None, refl, sym, ap, ◌∙◌, subst, arith, inl, inr}
 use Rattle.std.specs.List.{Contains, list_any}
 use Rattle.std.proofs.lemmas.Bool.{cases_eq, cases_Bool, or_right, false_from_ne_true, false≢true}
-use Rattle.std.proofs.Math.Bool.{or-false}
+use Rattle.std.proofs.Math.Bool.{or-false, or_assoc}
 use Rattle.std.proofs.lemmas.Nat.Bits.{bit_at-zero}
 use Rattle.std.proofs.lemmas.List.{get_or-set_same, get_or-set_other, get_or_default, take_all, take_more}
 use Rattle.std.proofs.Math.ListN.{length-set}
@@ -16,27 +16,22 @@ use Rattle.spin_base.specs.declared.routes.Out.{Out}
 use Rattle.spin_base.specs.declared.routes.Out.TheVariants.{Link, Core}
 use Rattle.spin_base.specs.declared.routes.Route.{Route}
 use Rattle.spin_base.specs.Links.{opposite_of}
-use Rattle.spin_base.specs.Outputs.{has, IsOutput, nothing, WithOut, out_number}
-use Rattle.spin_base.specs.Equality.{spot_eq}
-use Rattle.spin_base.proofs.Equality.{spot_eq_true, spot_eq_same}
+use Rattle.spin_base.specs.Outputs.{has, IsOutput, nothing, WithOut, out_number, out_of}
 use Rattle.machine_desc.specs.declared.trees.Edge.{Edge}
 use Rattle.machine_desc.specs.Description.{Description}
 use Rattle.machine_desc.specs.Live.{IsInside, index_of}
-use Rattle.machine_desc.specs.RoutingTree.{IsTreeChip, end_of}
+use Rattle.machine_desc.specs.RoutingTree.{end_of}
 use Rattle.machine_desc.specs.Equality.{edge_eq}
 use Rattle.machine_desc.proofs.Far.{same_index, far_inside}
 use Rattle.machine_desc.proofs.Same.{edge_eq-true, edge_eq_self}
-use Rattle.net_tables.specs.Outputs.{is_wanted}
+use Rattle.machine_desc.proofs.TreeLemmas.{tree_cases}
+use Rattle.net_tables.specs.Outputs.{is_wanted, is_edge_out, leads_to_spot}
+use Rattle.net_tables.proofs.Wanted.{spot_of_out, leads_to_own}
 use Rattle.net_tables.specs.declared.nets.NetPlan.{NetPlan}
 use Rattle.plain_tables.specs.PlainTable.{HasChip}
 use Rattle.plain_tables.specs.Marks.{IsClear, IsClearOff, TellsPort, TellsPorts, TellsRoutes}
 
 -- ---- ports
-
-pub tree_cases : (m : Description) (root : Chip) (tree : List Edge) (c : Chip) → IsTreeChip m root tree c →
-    (c ≡ root) ⊎ ((e : Edge) × Contains tree e × (end_of m e ≡ Some c))
-tree_cases m root tree c (inl at) = inl at
-tree_cases m root tree c (inr into) = inr (into.1, (into.0, into.2, into.3), into.4)
 
 ports_start : (m : Description) (root : Chip) (edges : List Edge) (p : ℕ) (ports : List (Option Port)) → IsClear m None ports → IsInside m root → p ≡ index_of m root →
     p < length ports → TellsPorts m root (take 0 edges) (set ports p (Some Local))
@@ -174,10 +169,6 @@ edge_adds : Edge → Chip → Out → Bool
 edge_adds e c (Link d) = edge_eq (record { chip = c; dir = d }) e
 edge_adds e c (Core p) = false
 
-core_adds : Spot → Chip → Out → Bool
-core_adds s c (Link d) = false
-core_adds s c (Core p) = spot_eq (record { chip = c; core = p }) s
-
 edge_only : (e : Edge) (c : Chip) (o : Out) → edge_adds e c o ≡ true → (c ≡ e.chip) × (o ≡ Link e.dir)
 unfolding edge_adds
 edge_only e c (Link d) hit =
@@ -185,24 +176,24 @@ edge_only e c (Link d) hit =
     (ap (λ (f : Edge). f.chip) same, ap (λ (f : Edge). Link f.dir) same)
 edge_only e c (Core p) hit = absurd (false≢true hit)
 
-core_only : (s : Spot) (c : Chip) (o : Out) → core_adds s c o ≡ true → (c ≡ s.chip) × (o ≡ Core s.core)
-unfolding core_adds
-core_only s c (Link d) hit = absurd (false≢true hit)
-core_only s c (Core p) hit =
-    let same : record { chip = c; core = p } ≡ s = spot_eq_true (record { chip = c; core = p }) s hit in
-    (ap (λ (t : Spot). t.chip) same, ap (λ (t : Spot). Core t.core) same)
+end_only : (s : Spot) (c : Chip) (o : Out) → leads_to_spot c o s ≡ true → (c ≡ s.chip) × (o ≡ out_of s.core)
+end_only s c o hit = let leads = spot_of_out c o s hit in (sym leads.0, leads.1)
 
 edge_more : (edges : List Edge) (i : ℕ) (d : Edge) → i < length edges → (c : Chip) (o : Out) →
     is_wanted (take (i + 1) edges) [] c o ≡ (is_wanted (take i edges) [] c o || edge_adds (get_or edges i d) c o)
 unfolding edge_adds
-edge_more edges i d within c (Link l) = list_any_more (edge_eq (record { chip = c; dir = l })) edges i d within
+edge_more edges i d within c (Link l) =
+    let same : Edge → Bool = edge_eq (record { chip = c; dir = l }) in
+    or-false (list_any same (take (i + 1) edges))
+    ∙ (list_any_more same edges i d within
+    ∙ ap (λ b. b || same (get_or edges i d)) (sym (or-false (list_any same (take i edges)))))
 edge_more edges i d within c (Core p) = refl
 
-core_more : (edges : List Edge) (targets : List Spot) (i : ℕ) (d : Spot) → i < length targets → (c : Chip) (o : Out) →
-    is_wanted edges (take (i + 1) targets) c o ≡ (is_wanted edges (take i targets) c o || core_adds (get_or targets i d) c o)
-unfolding core_adds
-core_more edges targets i d within c (Link l) = sym (or-false (list_any (edge_eq (record { chip = c; dir = l })) edges))
-core_more edges targets i d within c (Core p) = list_any_more (spot_eq (record { chip = c; core = p })) targets i d within
+end_more : (edges : List Edge) (targets : List Spot) (i : ℕ) (d : Spot) → i < length targets → (c : Chip) (o : Out) →
+    is_wanted edges (take (i + 1) targets) c o ≡ (is_wanted edges (take i targets) c o || leads_to_spot c o (get_or targets i d))
+end_more edges targets i d within c o =
+    ap (λ b. is_edge_out edges c o || b) (list_any_more (leads_to_spot c o) targets i d within)
+    ∙ sym (or_assoc (is_edge_out edges c o) (list_any (leads_to_spot c o) (take i targets)) (leads_to_spot c o (get_or targets i d)))
 
 links_read : (m : Description) (edges : List Edge) (i : ℕ) (d : Edge) (p : ℕ) (routes : List Route) (old r : Route) → i < length edges →
     IsInside m (get_or edges i d).chip → p ≡ index_of m (get_or edges i d).chip → p < length routes → old ≡ get_or routes p old →
@@ -225,23 +216,22 @@ links_more m items edges i d p routes old r same within inside at below is withs
     subst (λ es. TellsRoutes m (take i es) [] routes → TellsRoutes m (take (i + 1) es) [] (set routes p r)) same
     (links_read m items i d p routes old r within inside at below is withs)
 
-cores_read : (m : Description) (edges : List Edge) (targets : List Spot) (i : ℕ) (d : Spot) (p : ℕ) (routes : List Route) (old r : Route) → i < length targets →
+ends_read : (m : Description) (edges : List Edge) (targets : List Spot) (i : ℕ) (d : Spot) (p : ℕ) (routes : List Route) (old r : Route) → i < length targets →
     IsInside m (get_or targets i d).chip → p ≡ index_of m (get_or targets i d).chip → p < length routes → old ≡ get_or routes p old →
-    WithOut old (Core (get_or targets i d).core) r → TellsRoutes m edges (take i targets) routes →
+    WithOut old (out_of (get_or targets i d).core) r → TellsRoutes m edges (take i targets) routes →
     TellsRoutes m edges (take (i + 1) targets) (set routes p r)
-unfolding core_adds
-cores_read m edges targets i d p routes old r within inside at below is withs told =
+ends_read m edges targets i d p routes old r within inside at below is withs told =
     let s : Spot = get_or targets i d in
     let before : old ≡ get_or routes p nothing = is ∙ get_or_default routes p old nothing below in
-    added_one m s.chip (Core s.core) (core_adds s) (spot_eq_same s) (core_only s) routes p r
+    added_one m s.chip (out_of s.core) (λ c o. leads_to_spot c o s) (leads_to_own s) (end_only s) routes p r
     (is_wanted edges (take i targets)) (is_wanted edges (take (i + 1) targets)) inside at below
-    (subst (λ (o : Route). WithOut o (Core s.core) r) before withs) (core_more edges targets i d within) told
+    (subst (λ (o : Route). WithOut o (out_of s.core) r) before withs) (end_more edges targets i d within) told
 
 -- the same where the targets are read from a list that is theirs
-pub cores_more : (m : Description) (edges : List Edge) (items targets : List Spot) (i : ℕ) (d : Spot) (p : ℕ) (routes : List Route) (old r : Route) → items ≡ targets → i < length items →
+pub ends_more : (m : Description) (edges : List Edge) (items targets : List Spot) (i : ℕ) (d : Spot) (p : ℕ) (routes : List Route) (old r : Route) → items ≡ targets → i < length items →
     IsInside m (get_or items i d).chip → p ≡ index_of m (get_or items i d).chip → p < length routes → old ≡ get_or routes p old →
-    WithOut old (Core (get_or items i d).core) r → TellsRoutes m edges (take i targets) routes →
+    WithOut old (out_of (get_or items i d).core) r → TellsRoutes m edges (take i targets) routes →
     TellsRoutes m edges (take (i + 1) targets) (set routes p r)
-cores_more m edges items targets i d p routes old r same within inside at below is withs =
+ends_more m edges items targets i d p routes old r same within inside at below is withs =
     subst (λ ts. TellsRoutes m edges (take i ts) routes → TellsRoutes m edges (take (i + 1) ts) (set routes p r)) same
-    (cores_read m edges items i d p routes old r within inside at below is withs)
+    (ends_read m edges items i d p routes old r within inside at below is withs)

@@ -15,24 +15,21 @@ use Rattle.machine_desc.specs.Description.{Description}
 use Rattle.machine_desc.specs.Live.{IsInside}
 use Rattle.machine_desc.specs.RoutingTree.{IsTreeChip, IsRoutingTree}
 use Rattle.machine_desc.proofs.Far.{far_inside, live_inside, live_ends}
+use Rattle.machine_desc.proofs.TreeLemmas.{tree_cases}
 use Rattle.net_tables.specs.declared.nets.NetPlan.{NetPlan}
 use Rattle.net_tables.specs.Outputs.{is_wanted, ComesIn}
 use Rattle.plain_tables.specs.declared.marks.Mark.{Mark}
 use Rattle.plain_tables.specs.Marks.{TellsPort, Grows, marked}
-use Rattle.plain_tables.proofs.Telling.{tree_cases}
 
 module _ (m : Description) (root : Chip) (edges : List Edge) (targets : List Spot) (tree : IsRoutingTree m root edges targets) where
-  pub root_inside : IsInside m root
-  root_inside = live_inside m root tree.root_lives
-
   pub edges_inside : All (λ (e : Edge). IsInside m e.chip) edges
   edges_inside k d below =
       let ends = live_ends m (get_or edges k d).chip (get_or edges k d).dir (tree.edges_live k d below) in
       live_inside m (get_or edges k d).chip ends.2
 
-  pub chips_inside : (c : Chip) → IsTreeChip m root edges c → IsInside m c
-  chips_inside c on = elim (tree_cases m root edges c on) [
-    | inl at ↦ subst (IsInside m) (sym at) root_inside
+  pub chips_inside : IsInside m root → (c : Chip) → IsTreeChip m root edges c → IsInside m c
+  chips_inside root_in c on = elim (tree_cases m root edges c on) [
+    | inl at ↦ subst (IsInside m) (sym at) root_in
     | inr into ↦ far_inside m into.0.chip c into.0.dir (All-contains (λ (e : Edge). IsInside m e.chip) edges into.0 edges_inside into.1) into.2
   ]
 
@@ -53,8 +50,8 @@ module _ (m : Description) (root : Chip) (edges : List Edge) (targets : List Spo
     pub target_on : IsTreeChip m root edges (get_or items k d).chip
     target_on = subst (All (λ (s : Spot). IsTreeChip m root edges s.chip)) (sym same) targets_on k d below
 
-    pub target_inside : IsInside m (get_or items k d).chip
-    target_inside = chips_inside (get_or items k d).chip target_on
+    pub target_inside : IsInside m root → IsInside m (get_or items k d).chip
+    target_inside root_in = chips_inside root_in (get_or items k d).chip target_on
 
 -- where packets come in is a chip of the tree
 pub comes_in_tree : (m : Description) (root : Chip) (edges : List Edge) (c : Chip) (port : Port) → ComesIn m root edges c port → IsTreeChip m root edges c

@@ -293,7 +293,7 @@ module _ (m : Description) (nets : List NetPlan) (lists : List (List Mark)) (tab
   all_followed rest i d i_in c port key o comes k valid =
       let net : NetPlan = get_or nets i d in
       let on : HasChip m net c = comes_in_tree m net.tree.root net.tree.edges c port comes in
-      let inside : IsInside m c = chips_inside m net.tree.root net.tree.edges net.targets (routed.trees i d i_in) c on in
+      let inside : IsInside m c = chips_inside m net.tree.root net.tree.edges net.targets (routed.trees i d i_in) (routed.roots i d i_in) c on in
       let below : index_of m c < length tables = subst (λ n. index_of m c < n) (sym all_long) (index_below m c inside) in
       let at = at_map (λ (t : Table). entries t ++ rest t) tables (index_of m c) below in
       ap (λ (es : List Entry). has (lookup es key port) o) at.2

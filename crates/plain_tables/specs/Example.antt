@@ -1,5 +1,5 @@
--- A small machine on which plain tables can be tried: two chips, and nets from one to a core of the other (this project's
--- own).
+-- A small machine on which plain tables can be tried: two chips, and nets from one to a core of the other and to a
+-- device there (this project's own).
 use Rattle.std.specs.Prelude.{false, List, [], ◌∷◌}
 use Rattle.spin_base.specs.declared.chips.Chip.{Chip}
 use Rattle.spin_base.specs.declared.chips.Spot.{Spot}
@@ -24,8 +24,8 @@ abbrev pub east : Edge
 east = record { chip = left; dir = East }
 
 abbrev pub targets : List Spot
-targets = record { chip = right; core = 2 } ∷ []
+targets = record { chip = right; core = 2 } ∷ record { chip = right; core = 18 } ∷ []
 
--- a net with this block from core 1 of the left chip to core 2 of the right one
+-- a net with this block from core 1 of the left chip to core 2 of the right one and to the device on its East link
 abbrev pub net_with : Block → NetPlan
 net_with block = record { block = block; source = record { chip = left; core = 1 }; targets = targets; tree = record { root = left; edges = east ∷ [] } }

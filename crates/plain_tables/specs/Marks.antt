@@ -45,7 +45,8 @@ marked block None route list = list
 -- what a net's tree and targets must be
 pub record IsRouted (m : Description) (net : NetPlan) : Type 0 where
   pub tree : IsRoutingTree m net.tree.root net.tree.edges net.targets
-  pub cores : All (λ (s : Spot). s.core < 18) net.targets
+  pub root : IsInside m net.tree.root
+  pub cores : All (λ (s : Spot). s.core < 24) net.targets
 
 -- a board has a place for each chip of the grid, and at each of them this
 pub record IsClear {X : Type 0} (m : Description) (x : X) (board : List X) : Type 0 where

@@ -59,11 +59,12 @@ pub record ServesOriginals (m : Description) (nets : List NetPlan) (c : Chip) (r
 abbrev pub AtEach : Description → List Table → (Chip → List Row → Type 0) → Type 0
 AtEach m tables Is = (c : Chip) (t : Table) → IsInside m c → slice_get tables (index_of m c) ≡ Some t → Is c t.rows
 
--- What a list of nets must meet for plain tables to be right: trees that are routing trees for the nets' targets, target
--- cores of a chip, and no key that two nets have.
+-- What a list of nets must meet for plain tables to be right: trees that are routing trees for the nets' targets, with roots
+-- in the grid; targets that are cores or devices of a chip; and no key that two nets have.
 pub record AreRouted (m : Description) (nets : List NetPlan) : Type 0 where
   pub trees : All (λ (net : NetPlan). IsRoutingTree m net.tree.root net.tree.edges net.targets) nets
-  pub cores : All (λ (net : NetPlan). All (λ (s : Spot). s.core < 18) net.targets) nets
+  pub roots : All (λ (net : NetPlan). IsInside m net.tree.root) nets
+  pub cores : All (λ (net : NetPlan). All (λ (s : Spot). s.core < 24) net.targets) nets
   pub apart : AllPairs (λ (a b : NetPlan). ¬ (Intersects a.block b.block)) nets
 
 -- the entries of a table's rows, in order

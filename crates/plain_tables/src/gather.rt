@@ -6,7 +6,7 @@ ghost use Rattle.machine_desc.specs.Live.{IsInside, index_of};
 ghost use Rattle.plain_tables.specs.PlainTable.{AreOriginals};
 ghost use Rattle.plain_tables.specs.Marks.{IsClear, IsClearOff, IsRouted, Grows, TellsPorts, TellsRoutes, marked, original_of};
 
-use crate::marks::{Mark, chip_total, no_ports, no_routes, set_cores, set_links, set_ports};
+use crate::marks::{Mark, no_ports, no_routes, set_links, set_ports, set_targets};
 use machine_desc::Machine;
 use net_tables::NetPlan;
 use spin_base::{Block, Memory, Port, Route, Seq};
@@ -26,7 +26,7 @@ pub fn marks_of(
 {
     let mut ports = no_ports(alloc, machine)?;
     let mut routes = no_routes(alloc, machine)?;
-    let mut lists = empty_lists(alloc, chip_total(machine))?;
+    let mut lists = empty_lists(alloc, machine.chips())?;
     add_nets(machine, nets, &mut ports, &mut routes, &mut lists)?;
     Ok(lists)
 }
@@ -84,7 +84,7 @@ fn add_net(
 {
     set_ports(machine, net, ports);
     set_links(machine, net, routes);
-    set_cores(machine, net, routes);
+    set_targets(machine, net, routes);
     take_marks(machine, net, ports, routes, lists)
 }
 

@@ -4,7 +4,7 @@ ghost use Rattle.spin_base.specs.Outputs.{nothing};
 ghost use Rattle.plain_tables.specs.Marks.{IsClear, IsClearOff, IsRouted, TellsPorts, TellsRoutes};
 
 use machine_desc::Machine;
-use net_tables::NetPlan;
+use net_tables::{NetPlan, out_of};
 use spin_base::{Block, Memory, Out, Port, Route};
 use std::alloc::Global;
 
@@ -16,25 +16,18 @@ pub struct Mark {
     pub route: Route,
 }
 
-// The number of chips, live or not.
-pub fn chip_total(machine: &Machine) -> usize
-    ensures { result ≡ machine.now.width * machine.now.height }
-{
-    usize::from(machine.width()) * usize::from(machine.height())
-}
-
 // A board without a port.
 pub fn no_ports(alloc: Global, machine: &Machine) -> Result<Vec<Option<Port>>, Memory>
     ensures { IfOk result (λ v. IsClear machine.now None v.items) }
 {
-    Ok(vec![in alloc; None; chip_total(machine)]?)
+    Ok(vec![in alloc; None; machine.chips()]?)
 }
 
 // A board without a route.
 pub fn no_routes(alloc: Global, machine: &Machine) -> Result<Vec<Route>, Memory>
     ensures { IfOk result (λ v. IsClear machine.now nothing v.items) }
 {
-    Ok(vec![in alloc; Route::nothing(); chip_total(machine)]?)
+    Ok(vec![in alloc; Route::nothing(); machine.chips()]?)
 }
 
 // Writes the port at which packets come in at each chip of the net's tree.
@@ -66,8 +59,8 @@ pub fn set_links(machine: &Machine, net: &NetPlan, routes: &mut [Route])
     }
 }
 
-// Adds the net's target cores to the links.
-pub fn set_cores(machine: &Machine, net: &NetPlan, routes: &mut [Route])
+// Adds the outputs of the net's targets to the links.
+pub fn set_targets(machine: &Machine, net: &NetPlan, routes: &mut [Route])
     requires routed { IsRouted machine.now net.now }
     requires long { length routes.old ≡ machine.now.width * machine.now.height }
     requires links { TellsRoutes machine.now net.now.tree.edges [] routes.old }
@@ -78,6 +71,6 @@ pub fn set_cores(machine: &Machine, net: &NetPlan, routes: &mut [Route])
 {
     for target in net.targets.as_slice() {
         let place = machine.index(target.chip) as usize;
-        routes[place] = routes[place].with(Out::Core(target.core));
+        routes[place] = routes[place].with(out_of(target.core));
     }
 }

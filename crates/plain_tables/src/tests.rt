@@ -21,17 +21,16 @@ fn board(alloc: Global) -> Result<Machine, Memory>
     Machine::new(alloc, 2, 1, false, 134_217_728, &chips, &cores, &links)
 }
 
-// A net from core 1 of the left chip to core 2 of the right one.
+// A net from core 1 of the left chip to core 2 of the right one and to the device on its East link.
 fn net(alloc: Global, block: Block) -> Result<NetPlan, Memory>
     ensures { IfOk result (λ net. net ≡ net_with block) }
 {
     let left = Chip { x: 0, y: 0 };
     let right = Chip { x: 1, y: 0 };
     let mut targets = Seq::new(alloc);
-    targets.push(Spot {
-        chip: right,
-        core: 2,
-    })?;
+    for core in [2, 18] {
+        targets.push(Spot { chip: right, core })?;
+    }
     let mut edges = Seq::new(alloc);
     edges.push(Edge {
         chip: left,
@@ -89,8 +88,8 @@ fn the_narrower_block_stands_first_on_both_chips(rt: HostRuntime) -> Result<(), 
     let tables = tables(rt.alloc(), wide, single).map_err(|_| "memory")?;
     assert_eq!(rt; told(&tables, 0, 0), Some((9, 1, 6)));
     assert_eq!(rt; told(&tables, 0, 1), Some((4, 1, 6)));
-    assert_eq!(rt; told(&tables, 1, 0), Some((9, 0x100, 3)));
-    assert_eq!(rt; told(&tables, 1, 1), Some((4, 0x100, 3)));
+    assert_eq!(rt; told(&tables, 1, 0), Some((9, 0x101, 3)));
+    assert_eq!(rt; told(&tables, 1, 1), Some((4, 0x101, 3)));
     assert_eq!(rt; told(&tables, 1, 2), None);
     Ok(())
 }

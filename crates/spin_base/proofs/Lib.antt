@@ -2,3 +2,4 @@ pub mod Bytes
 pub mod Equality
 pub mod Once
 pub mod Outputs
+pub mod Spots

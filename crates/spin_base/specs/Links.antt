@@ -1,5 +1,5 @@
 -- The links of a chip: their numbers, and which lead against each other.
-use Rattle.std.specs.Prelude.{ℕ, List, [], ◌∷◌}
+use Rattle.std.specs.Prelude.{ℕ, List, [], ◌∷◌, slice_index_or}
 use Rattle.spin_base.specs.declared.chips.Dir.{Dir}
 use Rattle.spin_base.specs.declared.chips.Dir.TheVariants.{East, NorthEast, North, West, SouthWest, South}
 use Rattle.spin_base.specs.declared.chips.Port.{Port}
@@ -17,6 +17,10 @@ dir_number South = 5
 -- the six links in the order of their numbers
 abbrev pub all_dirs : List Dir
 all_dirs = East ∷ NorthEast ∷ North ∷ West ∷ SouthWest ∷ South ∷ []
+
+-- the link of a number below 6
+abbrev pub dir_at : ℕ → Dir
+dir_at n = slice_index_or all_dirs n East
 
 -- A packet that went out by a link comes in by the link that leads the other way (SpiNNaker datasheet).
 abbrev pub opposite_of : Dir → Dir

@@ -1,12 +1,12 @@
 -- The outputs of a router, and the routes that name them.
-use Rattle.std.specs.Prelude.{◌≡◌, ◌≢◌, ℕ, ◌+◌, ◌<◌, Bool, List, ◌++◌, map, filter, IsTrue, ◌==◌}
+use Rattle.std.specs.Prelude.{◌≡◌, ◌≢◌, ℕ, ◌+◌, ◌-◌, ◌<◌, Bool, List, ◌++◌, map, filter, IsTrue, ◌==◌, nat_lt, if◌then◌else◌}
 use Rattle.std.specs.List.{range_with_len}
 use Rattle.std.specs.Int.{bit_at}
 use Rattle.std.proofs.Common.{lit<}
 use Rattle.spin_base.specs.declared.routes.Out.{Out}
 use Rattle.spin_base.specs.declared.routes.Out.TheVariants.{Link, Core}
 use Rattle.spin_base.specs.declared.routes.Route.{Route}
-use Rattle.spin_base.specs.Links.{dir_number, all_dirs}
+use Rattle.spin_base.specs.Links.{dir_number, dir_at, all_dirs}
 
 -- Bits 0 to 5 of a route are the links, bits 6 to 23 the cores 0 to 17 (SpiNNaker datasheet).
 abbrev pub out_number : Out → ℕ
@@ -17,6 +17,11 @@ out_number (Core p) = 6 + p
 abbrev pub IsOutput : Out → Type 0
 IsOutput (Link d) = Unit {0}
 IsOutput (Core p) = p < 18
+
+-- The output that leads to a spot of its chip: that of the core for a core 0 to 17, and link d for the device on link d, whose
+-- number is 18 + d (this project's own).
+abbrev pub out_of : ℕ → Out
+out_of p = if nat_lt p 18 then Core p else Link (dir_at (p - 18))
 
 -- the links of a chip, in the order of their numbers
 unfoldable pub link_outs : List Out

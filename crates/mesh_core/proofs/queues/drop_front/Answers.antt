@@ -1,8 +1,8 @@
 -- The queue without its front stands at the place.
 use Rattle.std.proofs.lemmas.Option.{slice_get-get_or}
-use Rattle.mesh_core.proofs.QueueLists.{shortened-popped}
+use Rattle.mesh_core.proofs.QueueLists.{drop_front-popped}
 use Rattle.mesh_core.proofs.queues.drop_front.Goals as goal
 
 pub returns : goal.returns
 returns c =
-    shortened-popped _ _ _ _ _ (slice_get-get_or _ _ _ c.requires) c.pop.ensures.items c.pop.ensures.none
+    drop_front-popped _ _ _ _ _ (slice_get-get_or _ _ _ c.requires) c.pop.ensures.items c.pop.ensures.none

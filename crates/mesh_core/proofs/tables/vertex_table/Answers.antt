@@ -1,28 +1,22 @@
 -- The table tells one vertex more after each spot.
-use Rattle.std.proofs.Common.{rules, ◌≡◌, ℕ, ◌+◌, ◌*◌, take, get_or, set, replicate, sym, ap, ◌∙◌, subst, arith, Option, Some, None}
+use Rattle.std.proofs.Common.{rules, ◌≡◌, ℕ, ◌+◌, ◌*◌, take, get_or, set, replicate, sym, ap, ◌∙◌, subst, Option, Some, None}
 use Rattle.std.proofs.lemmas.List.{get_or_default}
 use Rattle.spin_base.specs.declared.chips.Spot.{Spot}
-use Rattle.mesh_core.specs.VertexTable.{TellsVertices, core_place}
+use Rattle.mesh_core.specs.VertexTable.{TellsVertices, spot_place}
 use Rattle.mesh_core.proofs.VertexTableLaws.{TellsVertices-none, TellsVertices-more}
 use Rattle.mesh_core.proofs.tables.vertex_table.Goals as goal
 
 pub loop-vertex-init : goal.loop-vertex-init
 loop-vertex-init c =
     let m = c.args.machine.now in
-    let size : 18 * (c.from.result * c.from-2.result) ≡ 18 * (m.width * m.height) =
-    ap (λ (n : ℕ). 18 * (n * c.from-2.result)) (c.from.ensures ∙ c.width.ensures.value)
-    ∙ ap (λ (n : ℕ). 18 * (m.width * n)) (c.from-2.ensures ∙ c.height.ensures.value)
-    in
     let made = c.in_ok-table.ensures.items_if_clones_equal (λ y h. search rules) in
-    subst (TellsVertices m (take 0 c.args.spots.now)) (sym (made ∙ ap (λ (n : ℕ). replicate {A = Option ℕ} n None) size)) (TellsVertices-none m c.args.spots.now)
+    subst (TellsVertices m (take 0 c.args.spots.now)) (sym (made ∙ ap (λ (n : ℕ). replicate {A = Option ℕ} (24 * n) None) c.chips.ensures.total)) (TellsVertices-none m c.args.spots.now)
 
 pub loop-vertex-preserved : goal.loop-vertex-preserved
 loop-vertex-preserved c =
     let y : Spot = get_or c.args.spots.now c.loop-vertex.vertex (record { chip = record { x = 0; y = 0 }; core = 0 }) in
-    let same : 18 * c.index.result + c.from-in-loop-vertex.result ≡ core_place c.args.machine.now y =
-    omega (arith, c.index.ensures.value, c.from-in-loop-vertex.ensures)
-    in
+    let same : c.spot_place.result ≡ spot_place c.args.machine.now y = c.spot_place.ensures.place in
     let P : ℕ → Type 0 = λ p. TellsVertices c.args.machine.now (take (c.loop-vertex.vertex + 1) c.args.spots.now) (set c.loop-vertex.table.items p (Some c.loop-vertex.vertex)) in
     subst P (sym same)
     (TellsVertices-more c.args.machine.now c.args.spots.now c.loop-vertex.vertex y c.loop-vertex.table.items
-    c.loop-vertex-test.true (get_or_default c.args.spots.now c.loop-vertex.vertex _ y c.loop-vertex-test.true) c.requires.different (c.requires.usable c.loop-vertex.vertex _ c.loop-vertex-test.true) c.loop-vertex.invariant)
+    c.loop-vertex-test.true (get_or_default c.args.spots.now c.loop-vertex.vertex _ y c.loop-vertex-test.true) c.requires.different (c.requires.sites c.loop-vertex.vertex _ c.loop-vertex-test.true) c.loop-vertex.invariant)

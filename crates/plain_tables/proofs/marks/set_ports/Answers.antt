@@ -2,14 +2,14 @@ use Rattle.std.proofs.Common.{◌<◌, ◌∙◌, sym, subst}
 use Rattle.std.proofs.Math.ListN.{length-set}
 use Rattle.machine_desc.proofs.Far.{far_inside}
 use Rattle.plain_tables.proofs.Telling.{ports_first, ports_more, ports_same, ports_all}
-use Rattle.plain_tables.proofs.Trees.{root_inside, edge_inside}
+use Rattle.plain_tables.proofs.Trees.{edge_inside}
 use Rattle.plain_tables.proofs.marks.set_ports.Goals as goal
 use Rattle.plain_tables.proofs.marks.set_ports.Goals.{in-Some, in_default}
 
 pub loop-edge-init : goal.loop-edge-init
 loop-edge-init c =
     ports_first c.args.machine.now c.args.net.now.tree.root c.args.net.now.tree.edges c.index.result c.args.ports.now c.requires.clear
-    (root_inside c.args.machine.now c.args.net.now.tree.root c.args.net.now.tree.edges c.args.net.now.targets c.requires.routed.tree)
+    c.requires.routed.root
     c.index.ensures.value c.index.ensures.below
 
 pub far-requires : goal.far-requires

@@ -1,6 +1,11 @@
 use Rattle.plain_tables.proofs.Whole.{all_long, all_plain, all_sound, all_serve, all_right, all_followed}
 use Rattle.plain_tables.proofs.plain.plain_tables.Goals as goal
 
+pub marks_of-requires : goal.marks_of-requires
+marks_of-requires c =
+    rw c.as_slice.ensures
+    (λ k d below. record { tree = c.requires.trees k d below; root = c.requires.roots k d below; cores = c.requires.cores k d below })
+
 pub returns-clause-long : goal.returns-clause-long
 returns-clause-long c =
     all_long c.args.machine.now c.args.nets.now c.in_ok-marks.marks.items c.in_ok-tables.tables c.requires c.in_ok-marks.ensures.long

@@ -2,22 +2,25 @@
 use Rattle.std.proofs.Common.{◌≡◌, sym, ap, ◌∙◌, subst, Some, List}
 use Rattle.std.specs.List.{slice_index_or}
 use Rattle.spin_base.specs.declared.copies.McCopy.{McCopy}
-use Rattle.mesh_core.specs.State.{State, IsMesh, vertex_at}
+use Rattle.machine_desc.specs.Live.{IsInside}
+use Rattle.mesh_core.specs.State.{State, IsMesh}
+use Rattle.net_tables.specs.NetsOn.{vertex_at}
 use Rattle.mesh_core.proofs.Searching.{delivery_has, core_has, core_lacks, none_from, core_queue_there}
+use Rattle.mesh_core.proofs.VertexTableLaws.{site_inside}
 use Rattle.mesh_core.proofs.meshes.Mesh.at_core.Goals as goal
 
 pub returns-in-Some : goal.returns-in-Some
 returns-in-Some c =
     delivery_has c.args.self.now c.args.packet c.args.spot c.in_ok-vertex.vertex c.in-Some.place
-    (sym c.vertex_on.ensures ∙ c.in_ok-vertex.was) (sym c.delivery_to.ensures ∙ c.in-Some.is)
+    (sym (ap (λ (t : State). vertex_at t.setup.spots c.args.spot) c.self.view_is) ∙ (sym c.vertex_at.ensures ∙ c.in_ok-vertex.was)) (sym c.delivery_to.ensures ∙ c.in-Some.is)
 
 pub returns-then-has_packet : goal.returns-then-has_packet
 returns-then-has_packet c =
     let v = c.in_ok-vertex.vertex in
     let s : State = c.args.self.now in
     let q : List McCopy = c.index.result.now in
-    let is_vertex : vertex_at s.spots c.args.spot ≡ Some v = sym c.vertex_on.ensures ∙ c.in_ok-vertex.was in
-    let mesh : IsMesh s = subst IsMesh c.self.view_is c.self.invariant.mesh in
+    let is_vertex : vertex_at s.setup.spots c.args.spot ≡ Some v = sym (ap (λ (t : State). vertex_at t.setup.spots c.args.spot) c.self.view_is) ∙ (sym c.vertex_at.ensures ∙ c.in_ok-vertex.was) in
+    let mesh : IsMesh s = subst IsMesh c.self.view_is c.self.invariant in
     let there : q ≡ slice_index_or s.cores v q = c.index.ensures ∙ ap (λ (t : State). slice_index_or t.cores v q) c.self.view_is in
     core_has s c.args.packet c.args.spot v c.as_slice.result.now is_vertex
     (core_queue_there s mesh c.args.spot v is_vertex c.as_slice.result.now q there c.as_slice.ensures)
@@ -28,10 +31,18 @@ returns c =
     let v = c.in_ok-vertex.vertex in
     let s : State = c.args.self.now in
     let q : List McCopy = c.index.result.now in
-    let is_vertex : vertex_at s.spots c.args.spot ≡ Some v = sym c.vertex_on.ensures ∙ c.in_ok-vertex.was in
-    let mesh : IsMesh s = subst IsMesh c.self.view_is c.self.invariant.mesh in
+    let is_vertex : vertex_at s.setup.spots c.args.spot ≡ Some v = sym (ap (λ (t : State). vertex_at t.setup.spots c.args.spot) c.self.view_is) ∙ (sym c.vertex_at.ensures ∙ c.in_ok-vertex.was) in
+    let mesh : IsMesh s = subst IsMesh c.self.view_is c.self.invariant in
     let there : q ≡ slice_index_or s.cores v q = c.index.ensures ∙ ap (λ (t : State). slice_index_or t.cores v q) c.self.view_is in
     core_lacks s c.args.packet c.args.spot v c.as_slice.result.now is_vertex
     (sym c.delivery_to.ensures ∙ none_from c.delivery_to.result c.in_default.not-Some)
     (core_queue_there s mesh c.args.spot v is_vertex c.as_slice.result.now q there c.as_slice.ensures)
     (sym c.has_packet.ensures ∙ c.if-has_packet.false)
+
+pub vertex_at-requires : goal.vertex_at-requires
+vertex_at-requires c =
+    let parts = site_inside c.args.self.now.setup.machine c.args.spot c.requires.site in
+    record {
+      inside = subst (λ (s : State). IsInside s.setup.machine c.args.spot.chip) (sym c.self.view_is) parts.0;
+      numbered = parts.1;
+    }

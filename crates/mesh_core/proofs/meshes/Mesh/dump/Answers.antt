@@ -8,10 +8,10 @@ use Rattle.spin_base.specs.declared.copies.McCopy.{McCopy}
 use Rattle.machine_desc.specs.Live.{index_of}
 use Rattle.mesh_core.specs.Serving.{named, copy_served, hands_after}
 use Rattle.mesh_core.specs.State.{State, Behind, behind}
-use Rattle.mesh_core.specs.Step.{has_room_behind, stepped}
-use Rattle.mesh_core.specs.Tabled.{state_of}
-use Rattle.mesh_core.proofs.Keeping.{IsMesh-stepped}
-use Rattle.mesh_core.proofs.StepParts.{stepped-dump}
+use Rattle.mesh_core.specs.Step.{has_room_behind, step_of}
+use Rattle.mesh_core.specs.Whole.{state_of}
+use Rattle.mesh_core.proofs.Keeping.{IsMesh-step_of}
+use Rattle.mesh_core.proofs.StepParts.{step_of-dump}
 use Rattle.mesh_core.proofs.meshes.Mesh.dump.Goals as goal
 
 -- the lists after the event
@@ -21,18 +21,18 @@ after c = record (state_of c.self.inside) {
   dumped = c.push.new.self;
 }
 
-moves : (c : goal.After-self-1) → stepped (state_of c.self.inside) (Dump c.args.c c.args.out) ≡ Some (after c)
+moves : (c : goal.After-self-1) → step_of (state_of c.self.inside) (Dump c.args.c c.args.out) ≡ Some (after c)
 unfolding after
 moves c =
     let s : State = state_of c.self.inside in
-    let to : Behind = behind s.machine s.spots c.args.c c.args.out in
+    let to : Behind = behind s.setup c.args.c c.args.out in
     let k : McCopy = c.in-Some.copy in
-    let chip : ℕ = index_of s.machine c.args.c in
+    let chip : ℕ = index_of s.setup.machine c.args.c in
     let copy : Some k ≡ copy_served s c.args.c c.args.out (slice_get s.hands chip) =
-    subst (λ (t : State). Some k ≡ copy_served t c.args.c c.args.out (slice_get t.hands (index_of t.machine c.args.c))) (sym c.self.view_is) (sym c.in-Some.is ∙ c.copy_for.ensures.copy)
+    subst (λ (t : State). Some k ≡ copy_served t c.args.c c.args.out (slice_get t.hands (index_of t.setup.machine c.args.c))) (sym c.self.view_is) (sym c.in-Some.is ∙ c.copy_for.ensures.copy)
     in
     let queue : named c.behind-queue.result ≡ to =
-    subst (λ (t : State). named c.behind-queue.result ≡ behind t.machine t.spots c.args.c c.args.out) (sym c.self.view_is) c.behind-queue.ensures.queue
+    subst (λ (t : State). named c.behind-queue.result ≡ behind t.setup c.args.c c.args.out) (sym c.self.view_is) c.behind-queue.ensures.queue
     in
     let full_named : has_room_behind s (named c.behind-queue.result) ≡ false =
     subst (λ (t : State). has_room_behind t (named c.behind-queue.result) ≡ false) (sym c.self.view_is) (sym c.has_room_behind.ensures ∙ c.if-has_room_behind.false)
@@ -41,11 +41,9 @@ moves c =
     let is_hands : (after c).hands ≡ hands_after s.hands chip c.args.out (slice_get s.hands chip) =
     with_items_is c.self.inside.hands c.serve.new.hands (omega arith) ∙ cc
     in
-    stepped-dump s c.args.c c.args.out k (after c).hands (after c).dumped copy full is_hands c.in_ok-push.ensures.ok
+    step_of-dump s c.args.c c.args.out k (after c).hands (after c).dumped copy full is_hands c.in_ok-push.ensures.ok
 
 pub invariant_of-self-2 : goal.invariant_of-self-2
 unfolding after
-invariant_of-self-2 c = record {
-  mesh = IsMesh-stepped (state_of c.self.inside) (after c) (Dump c.args.c c.args.out) c.self.invariant.mesh (moves c);
-  vertices = c.self.invariant.vertices;
-}
+invariant_of-self-2 c =
+    IsMesh-step_of (state_of c.self.inside) (after c) (Dump c.args.c c.args.out) c.self.invariant (moves c)

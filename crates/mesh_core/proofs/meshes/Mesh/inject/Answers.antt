@@ -1,36 +1,70 @@
 -- The mesh after the copy was sent is the one that the step gives.
-use Rattle.std.proofs.Common.{◌≡◌, ◌∙◌, ap, arith, true, Some, ℕ, List}
+use Rattle.std.proofs.Common.{◌≡◌, ◌∙◌, ◌<◌, ap, sym, subst, arith, true, Some, ℕ, List, length, get_or}
 use Rattle.std.specs.List.{slice_get}
 use Rattle.std.specs.Vec.{with_items}
 use Rattle.std.proofs.lemmas.List.{with_items_is}
+use Rattle.std.proofs.lemmas.Option.{slice_get-get_or}
+use Rattle.spin_base.specs.declared.chips.Spot.{Spot}
 use Rattle.spin_base.specs.declared.chips.Port.TheVariants.{Local}
 use Rattle.spin_base.specs.declared.copies.Event.TheVariants.{Inject}
 use Rattle.spin_base.specs.declared.copies.McCopy.{McCopy}
-use Rattle.mesh_core.specs.Queues.{front_of, shortened}
+use Rattle.machine_desc.specs.Description.{Description}
+use Rattle.mesh_core.specs.Queues.{front_of, drop_front}
 use Rattle.mesh_core.specs.State.{State, queue_at}
-use Rattle.mesh_core.specs.Step.{has_room, appended}
-use Rattle.mesh_core.specs.Tabled.{state_of}
-use Rattle.mesh_core.proofs.Keeping.{IsMesh-stepped}
-use Rattle.mesh_core.proofs.StepParts.{stepped-inject}
+use Rattle.mesh_core.specs.Step.{has_room, push_at, step_of, after_event}
+use Rattle.mesh_core.specs.Whole.{state_of}
+use Rattle.mesh_core.proofs.Keeping.{IsMesh-step_of}
+use Rattle.mesh_core.proofs.StepParts.{step_of-inject, after_event-moved}
 use Rattle.mesh_core.proofs.meshes.Mesh.inject.Goals as goal
 
-pub invariant_of-self-2 : goal.invariant_of-self-2
-invariant_of-self-2 c =
+-- the lists after the event
+after : goal.After-self-2-1 → State
+after c = record (state_of c.self.inside) {
+  unsent = (with_items c.self.inside.unsent c.drop_front.new.queues).items;
+  inputs = (with_items c.self.inside.inputs c.push_at.new.queues).items;
+}
+
+moves : (c : goal.After-self-2-1) → step_of (state_of c.self.inside) (Inject c.args.v) ≡ Some (after c)
+unfolding after
+moves c =
     let s : State = state_of c.self.inside in
-    let unsent : List (List McCopy) = (with_items c.self.inside.unsent c.drop_front.new.queues).items in
-    let inputs : List (List McCopy) = (with_items c.self.inside.inputs c.push_at.new.queues).items in
-    let is_unsent : unsent ≡ shortened s.unsent c.args.v (slice_get s.unsent c.args.v) =
+    let v : ℕ = c.args.v in
+    let none : Spot = record { chip = record { x = 0; y = 0 }; core = 0 } in
+    let spot : Spot = get_or c.spots-spots.result.now v none in
+    let below : v < length c.spots-spots.result.now = omega (arith, c.if-vertex-spots.false) in
+    let at_spot : slice_get s.setup.spots v ≡ Some spot =
+    ap (λ (l : List Spot). slice_get l v) (sym c.spots-spots.ensures) ∙ slice_get-get_or c.spots-spots.result.now v none below
+    in
+    let from : ℕ = queue_at s.setup.machine spot.chip Local in
+    let place : c.queue_place-queue.result ≡ from =
+    c.queue_place-queue.ensures.place ∙ ap (λ (m : Description). queue_at m spot.chip Local) c.machine.ensures
+    in
+    let front : Some c.in-Some.copy ≡ front_of (slice_get s.unsent v) =
+    sym c.in-Some.is ∙ (c.front.ensures ∙ ap (λ (l : List (List McCopy)). front_of (slice_get l v)) c.deref.ensures.value)
+    in
+    let room : has_room s.setup.capacity (slice_get s.inputs from) ≡ true =
+    ap (λ (n : ℕ). has_room s.setup.capacity (slice_get s.inputs n)) (sym place)
+    ∙ (ap (λ (l : List (List McCopy)). has_room s.setup.capacity (slice_get l c.queue_place-queue.result)) (sym c.deref-2.ensures.value)
+    ∙ (ap (λ (n : ℕ). has_room n (slice_get c.deref-2.result.now c.queue_place-queue.result)) (sym c.capacity.ensures)
+    ∙ (sym c.has_room.ensures ∙ c.if-not-has_room.false)))
+    in
+    let is_unsent : (after c).unsent ≡ drop_front s.unsent v (slice_get s.unsent v) =
     with_items_is c.self.inside.unsent c.drop_front.new.queues (omega arith)
-    ∙ (c.drop_front.ensures ∙ ap (λ (l : List (List McCopy)). shortened l c.args.v (slice_get l c.args.v)) c.deref_mut-2.ensures.value)
+    ∙ (c.drop_front.ensures ∙ ap (λ (l : List (List McCopy)). drop_front l v (slice_get l v)) c.deref_mut-2.ensures.value)
     in
-    let at : ℕ = queue_at s.machine c.get.result.now.chip Local in
-    let is_inputs : inputs ≡ appended s.inputs at c.in-Some.copy (slice_get s.inputs at) =
-    with_items_is c.self.inside.inputs c.push_at.new.queues (omega arith) ∙ cc c.in_ok-push_at.ensures.ok
+    let is_inputs : (after c).inputs ≡ push_at s.inputs from c.in-Some.copy (slice_get s.inputs from) =
+    with_items_is c.self.inside.inputs c.push_at.new.queues (omega arith)
+    ∙ (c.in_ok-push_at.ensures.ok
+    ∙ (ap (λ (l : List (List McCopy)). push_at l c.queue_place-queue.result c.in-Some.copy (slice_get l c.queue_place-queue.result)) c.deref_mut.ensures.value
+    ∙ ap (λ (n : ℕ). push_at s.inputs n c.in-Some.copy (slice_get s.inputs n)) place))
     in
-    let front : Some c.in-Some.copy ≡ front_of (slice_get s.unsent c.args.v) = cc in
-    let room : has_room s.capacity (slice_get s.inputs at) ≡ true = cc in
-    record {
-      mesh = IsMesh-stepped s _ (Inject c.args.v) c.self.invariant.mesh
-          (stepped-inject s c.args.v c.get.result.now c.in-Some.copy unsent inputs c.get.ensures front room is_unsent is_inputs);
-      vertices = c.self.invariant.vertices;
-    }
+    step_of-inject s v spot c.in-Some.copy (after c).unsent (after c).inputs at_spot front room is_unsent is_inputs
+
+pub invariant_of-self-2 : goal.invariant_of-self-2
+unfolding after
+invariant_of-self-2 c = IsMesh-step_of (state_of c.self.inside) (after c) (Inject c.args.v) c.self.invariant (moves c)
+
+pub returns-clause-moves : goal.returns-clause-moves
+unfolding after
+returns-clause-moves c =
+    subst (λ (s : State). after c ≡ after_event s (Inject c.args.v)) c.self.view_is (after_event-moved (state_of c.self.inside) (after c) (Inject c.args.v) (moves c))

@@ -1,24 +1,28 @@
 -- The lists are made as the empty mesh has them.
-use Rattle.std.proofs.Common.{◌≡◌, ℕ, ◌*◌, ap, ◌∙◌, subst, [], List, Option, None}
+use Rattle.std.proofs.Common.{ℕ, ◌*◌, ap, sym, ◌∙◌, subst, List, [], Option, None}
 use Rattle.std.specs.Prelude.{replicate}
 use Rattle.spin_base.specs.declared.copies.McCopy.{McCopy}
-use Rattle.mesh_core.specs.State.{Held}
-use Rattle.mesh_core.specs.VertexTable.{TellsVertices}
-use Rattle.mesh_core.proofs.Changes.{IsMesh-made, IsMesh-delivered, IsMesh-dumped}
+use Rattle.mesh_core.specs.State.{Setup, Held, IsMesh}
+use Rattle.mesh_core.proofs.Changes.{IsMesh-empty, empty_from, IsMesh-delivered, IsMesh-dumped}
 use Rattle.mesh_core.proofs.meshes.Mesh.new.Goals as goal
 
 pub invariant_of-result : goal.invariant_of-result
 invariant_of-result c =
     let m = c.args.machine in
-    let size : c.from.result * c.from-2.result ≡ m.width * m.height =
-    ap (λ (n : ℕ). n * c.from-2.result) (c.from.ensures ∙ c.width.ensures.value)
-    ∙ ap (λ (n : ℕ). m.width * n) (c.from-2.ensures ∙ c.height.ensures.value)
+    let u : Setup = record { machine = m; spots = c.args.spots; tables = c.args.tables; capacity = c.args.queue } in
+    let made = empty_from u c.in_ok-unsent.unsent.items c.in_ok-inputs.inputs.items c.in_ok-cores.cores.items c.in_ok-hands.hands.items
+    (c.in_ok-unsent.ensures ∙ ap (λ (n : ℕ). replicate {A = List McCopy} n []) c.len-vertices.ensures)
+    (c.in_ok-inputs.ensures ∙ ap (λ (n : ℕ). replicate {A = List McCopy} (7 * n) []) c.chips-chips.ensures.total)
+    (c.in_ok-hands.ensures ∙ ap (λ (n : ℕ). replicate {A = Option Held} n None) c.chips-chips.ensures.total)
+    (c.in_ok-cores.ensures ∙ ap (λ (n : ℕ). replicate {A = List McCopy} n []) c.len-vertices.ensures)
     in
-    record {
-      mesh = IsMesh-dumped _ _ (IsMesh-delivered _ _ (IsMesh-made m _ _ _ _ _ _ _ c.width.ensures.size c.requires.different c.requires.usable c.requires.room c.requires.tables
-          (c.in_ok-unsent.ensures ∙ ap (λ (n : ℕ). replicate {A = List McCopy} n []) c.len.ensures)
-          (c.in_ok-inputs.ensures ∙ ap (λ (n : ℕ). replicate {A = List McCopy} (7 * n) []) size)
-          (c.in_ok-hands.ensures ∙ ap (λ (n : ℕ). replicate {A = Option Held} n None) size)
-          (c.in_ok-cores.ensures ∙ ap (λ (n : ℕ). replicate {A = List McCopy} n []) c.len-2.ensures)));
-      vertices = subst (λ l. TellsVertices m l c.in_ok-vertices.vertices.items) c.as_slice.ensures c.in_ok-vertices.ensures;
-    }
+    let empty = subst IsMesh made (IsMesh-empty u c.chips-chips.ensures.size c.requires.different c.requires.sites c.requires.room c.requires.tables) in
+    subst (λ (t : Setup). IsMesh (record {
+      setup = t;
+      unsent = c.in_ok-unsent.unsent.items;
+      inputs = c.in_ok-inputs.inputs.items;
+      hands = c.in_ok-hands.hands.items;
+      cores = c.in_ok-cores.cores.items;
+      delivered = c.new-2.result;
+      dumped = c.new-3.result;
+    })) (sym c.in_ok-setup.ensures) (IsMesh-dumped _ _ (IsMesh-delivered _ _ empty))

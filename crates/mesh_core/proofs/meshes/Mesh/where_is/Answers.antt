@@ -1,17 +1,28 @@
 -- Each search on the way finds the target's copy or shows where it is not, and the walk goes on.
-use Rattle.std.proofs.Common.{◌≡◌, ℕ, ◌*◌, ◌≤◌, ap, ◌∙◌, subst, Some, None, List}
+use Rattle.std.proofs.Common.{◌≡◌, ℕ, ◌*◌, ◌≤◌, ap, sym, ◌∙◌, subst, Some, None, List}
 use Rattle.spin_base.specs.declared.chips.Port.{Port}
 use Rattle.machine_desc.specs.declared.trees.Edge.{Edge}
+use Rattle.std.specs.List.{All}
 use Rattle.machine_desc.specs.Description.{Description}
+use Rattle.machine_desc.specs.Live.{IsInside}
+use Rattle.spin_base.specs.declared.routes.Out.{Out}
+use Rattle.machine_desc.proofs.Sites.{site_parts}
 use Rattle.mesh_core.specs.State.{State, IsMesh}
 use Rattle.mesh_core.specs.Searches.{IsFound, IsOfPort, IsEdgeInto, port_behind}
-use Rattle.mesh_core.proofs.WalkingUp.{target_usable, found_at_core, found_at_output, found_at_port, walk_begins, walk_inside, walk_short, walk_goes_on, walk_ends}
+use Rattle.mesh_core.proofs.WalkingUp.{Walked, target_is_site, found_at_core, found_at_output, found_at_port, walk_begins, walk_inside, walk_short, walk_goes_on, walk_ends}
+use Rattle.mesh_core.proofs.Searching.{edges_inside}
 use Rattle.mesh_core.proofs.meshes.Mesh.where_is.Goals as goal
 
-pub at_core-requires-clause-usable : goal.at_core-requires-clause-usable
-at_core-requires-clause-usable c =
-    target_usable c.args.self.now c.args.net.now c.args.packet c.requires.tracked c.args.target c.requires.is_target
-    (subst IsMesh c.self.view_is c.self.invariant.mesh)
+pub at_core-requires-clause-site : goal.at_core-requires-clause-site
+at_core-requires-clause-site c =
+    target_is_site c.args.self.now c.args.net.now c.args.packet c.requires.tracked c.args.target c.requires.is_target
+    (subst IsMesh c.self.view_is c.self.invariant)
+
+pub out_of-out-requires : goal.out_of-out-requires
+out_of-out-requires c =
+    (site_parts c.args.self.now.setup.machine c.args.target
+    (target_is_site c.args.self.now c.args.net.now c.args.packet c.requires.tracked c.args.target c.requires.is_target
+    (subst IsMesh c.self.view_is c.self.invariant))).1
 
 pub returns-in-Some : goal.returns-in-Some
 returns-in-Some c =
@@ -19,12 +30,13 @@ returns-in-Some c =
 
 pub loop-init : goal.loop-init
 loop-init c =
-    walk_begins c.args.self.now c.args.net.now c.args.packet c.requires.tracked c.args.target c.requires.is_target c.in_default.ensures
+    subst (λ (o : Out). Walked c.args.self.now c.args.net.now c.args.packet c.args.target 0 c.args.target.chip o) (sym c.out_of-out.ensures)
+    (walk_begins c.args.self.now c.args.net.now c.args.packet c.requires.tracked c.args.target c.requires.is_target c.in_default.ensures)
 
 pub at_output-requires-clause-inside : goal.at_output-requires-clause-inside
 at_output-requires-clause-inside c =
     walk_inside c.args.self.now c.args.net.now c.args.packet c.requires.tracked c.args.target c.requires.is_target
-    c.loop.counter c.loop.chip c.loop.out c.loop.invariant
+    (subst IsMesh c.self.view_is c.self.invariant) c.loop.counter c.loop.chip c.loop.out c.loop.invariant
 
 pub returns-in-Some-at_output : goal.returns-in-Some-at_output
 returns-in-Some-at_output c =
@@ -35,7 +47,7 @@ pub at_port-requires : goal.at_port-requires
 at_port-requires c = record {
   inside =
       walk_inside c.args.self.now c.args.net.now c.args.packet c.requires.tracked c.args.target c.requires.is_target
-      c.loop.counter c.loop.chip c.loop.out c.loop.invariant;
+      (subst IsMesh c.self.view_is c.self.invariant) c.loop.counter c.loop.chip c.loop.out c.loop.invariant;
 }
 
 pub returns-in-Some-at_port : goal.returns-in-Some-at_port
@@ -46,38 +58,42 @@ returns-in-Some-at_port c =
 pub returns-in_default-before : goal.returns-in_default-before
 returns-in_default-before c =
     let s : State = c.args.self.now in
-    let machine : c.self.inside.machine ≡ s.machine = ap (λ (t : State). t.machine) c.self.view_is in
+    let machine : c.machine-machine.result.now ≡ s.setup.machine = c.machine-machine.ensures ∙ ap (λ (t : State). t.setup.machine) c.self.view_is in
     let none_before : c.edge_into-before.result ≡ None = c.in_default-before.is in
     let port : c.port_behind.result ≡ port_behind None = c.port_behind.ensures ∙ ap port_behind none_before in
     walk_ends s c.args.net.now c.args.packet c.requires.tracked c.args.target c.requires.is_target
     c.loop.counter c.loop.chip c.loop.out c.loop.invariant c.in_default-at_output.ensures
     (subst (λ (m : Description). IsEdgeInto m c.args.net.now.tree.edges c.loop.chip None) machine
-    (subst (λ (edges : List Edge). IsEdgeInto c.self.inside.machine edges c.loop.chip None) c.as_slice.ensures c.in_default-before.ensures))
+    (subst (λ (edges : List Edge). IsEdgeInto c.machine-machine.result.now edges c.loop.chip None) c.as_slice.ensures c.in_default-before.ensures))
     (subst (λ (p : Port). IsFound s c.args.packet (IsOfPort c.loop.chip p) None) port c.in_default-at_port.ensures)
 
 pub loop-preserved : goal.loop-preserved
 loop-preserved c =
     let s : State = c.args.self.now in
-    let machine : c.self.inside.machine ≡ s.machine = ap (λ (t : State). t.machine) c.self.view_is in
+    let machine : c.machine-machine.result.now ≡ s.setup.machine = c.machine-machine.ensures ∙ ap (λ (t : State). t.setup.machine) c.self.view_is in
     let e : Edge = c.in-Some-before.edge in
     let before : c.edge_into-before.result ≡ Some e = c.in-Some-before.is in
     let port : c.port_behind.result ≡ port_behind (Some e) = c.port_behind.ensures ∙ ap port_behind before in
     walk_goes_on s c.args.net.now c.args.packet c.requires.tracked c.args.target c.requires.is_target
     c.loop.counter c.loop.chip c.loop.out c.loop.invariant c.in_default-at_output.ensures e
     (subst (λ (m : Description). IsEdgeInto m c.args.net.now.tree.edges c.loop.chip (Some e)) machine
-    (subst (λ (edges : List Edge). IsEdgeInto c.self.inside.machine edges c.loop.chip (Some e)) c.as_slice.ensures c.in-Some-before.ensures))
+    (subst (λ (edges : List Edge). IsEdgeInto c.machine-machine.result.now edges c.loop.chip (Some e)) c.as_slice.ensures c.in-Some-before.ensures))
     (subst (λ (p : Port). IsFound s c.args.packet (IsOfPort c.loop.chip p) None) port c.in_default-at_port.ensures)
 
 pub unreachable-requires : goal.unreachable-requires
 unreachable-requires c =
     let s : State = c.args.self.now in
-    let m : Description = c.self.inside.machine in
-    let machine : m ≡ s.machine = ap (λ (t : State). t.machine) c.self.view_is in
-    let size : c.from.result * c.from-2.result ≡ m.width * m.height =
-    ap (λ (n : ℕ). n * c.from-2.result) (c.from.ensures ∙ c.width.ensures.value)
-    ∙ ap (λ (n : ℕ). m.width * n) (c.from-2.ensures ∙ c.height.ensures.value)
-    in
-    let all : c.from.result * c.from-2.result ≡ s.machine.width * s.machine.height = size ∙ ap (λ (d : Description). d.width * d.height) machine in
-    let many : s.machine.width * s.machine.height ≤ c.loop.counter = subst (λ (n : ℕ). n ≤ c.loop.counter) all c.loop-test.false in
+    let m : Description = c.machine-machine.result.now in
+    let machine : m ≡ s.setup.machine = c.machine-machine.ensures ∙ ap (λ (t : State). t.setup.machine) c.self.view_is in
+    let all : c.chips-end.result ≡ s.setup.machine.width * s.setup.machine.height = c.chips-end.ensures.total ∙ ap (λ (d : Description). d.width * d.height) machine in
+    let many : s.setup.machine.width * s.setup.machine.height ≤ c.loop.counter = subst (λ (n : ℕ). n ≤ c.loop.counter) all c.loop-test.false in
     walk_short s c.args.net.now c.args.packet c.requires.tracked c.args.target c.requires.is_target
-    c.loop.counter c.loop.chip c.loop.out c.loop.invariant many
+    (subst IsMesh c.self.view_is c.self.invariant) c.loop.counter c.loop.chip c.loop.out c.loop.invariant many
+
+pub edge_into-before-requires : goal.edge_into-before-requires
+edge_into-before-requires c =
+    let s : State = c.args.self.now in
+    let machine : c.machine-machine.result.now ≡ s.setup.machine = c.machine-machine.ensures ∙ ap (λ (t : State). t.setup.machine) c.self.view_is in
+    subst (λ (m : Description). All (λ e. IsInside m e.chip) c.as_slice.result.now) (sym machine)
+    (subst (λ (edges : List Edge). All (λ e. IsInside s.setup.machine e.chip) edges) (sym c.as_slice.ensures)
+    (edges_inside s c.args.net.now c.args.packet c.requires.tracked))

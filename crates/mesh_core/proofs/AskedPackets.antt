@@ -1,0 +1,60 @@
+-- The packets that a job asks for, each with its net.
+use Rattle.std.proofs.Common.{◌≡◌, ℕ, List, Option, Some, None, refl, ap, sym, ◌∙◌, subst, ◌+◌}
+use Rattle.std.specs.List.{slice_get, Contains}
+use Rattle.std.proofs.lemmas.Option.{get_or_from_slice_get, slice_get_within}
+use Rattle.spin_base.specs.declared.copies.Packet.{Packet}
+use Rattle.net_tables.specs.declared.nets.NetPlan.{NetPlan}
+use Rattle.net_tables.specs.RightTables.{IsKeyOf}
+use Rattle.mesh_core.specs.Ledger.{Asked}
+use Rattle.mesh_core.specs.Opened.{label_in, asked_in, asked_at, asked_by, AreOfNets}
+
+-- what a packet of a net asks for
+abbrev pub asks : NetPlan → Packet → Asked
+asks net p = record { net = net; label = label_in net p }
+
+-- the packet that was asked for by a number, and its net
+pub record IsAsked (nets : List NetPlan) (packets : List Packet) (i : ℕ) (a : Asked) : Type 0 where
+  pub packet : Packet
+  pub net : NetPlan
+  pub is_packet : slice_get packets i ≡ Some packet
+  pub is_net : slice_get nets packet.net ≡ Some net
+  pub is_asked : a ≡ asks net packet
+
+pub asked_parts : (nets : List NetPlan) (packets : List Packet) (i : ℕ) (a : Asked) → asked_by nets packets i ≡ Some a → IsAsked nets packets i a
+asked_parts nets packets i a asked = by_packet (slice_get packets i) refl asked
+  where
+    by_net : (p : Packet) → slice_get packets i ≡ Some p → (net : Option NetPlan) → slice_get nets p.net ≡ net → asked_in p net ≡ Some a → IsAsked nets packets i a
+    by_net p at (Some net) is e = record { packet = p; net = net; is_packet = at; is_net = is; is_asked = let same : asks net p ≡ a = cc in sym same }
+    by_net p at None is e = cc
+
+    by_packet : (p : Option Packet) → slice_get packets i ≡ p → asked_at nets p ≡ Some a → IsAsked nets packets i a
+    by_packet (Some p) at e = by_net p at (slice_get nets p.net) refl e
+    by_packet None at e = cc
+
+-- and the other way round
+pub asked_from : (nets : List NetPlan) (packets : List Packet) (i : ℕ) (p : Packet) (net : NetPlan) → slice_get packets i ≡ Some p → slice_get nets p.net ≡ Some net →
+    asked_by nets packets i ≡ Some (asks net p)
+asked_from nets packets i p net at is = ap (asked_at nets) at ∙ ap (asked_in p) is
+
+-- the net of a packet is one of the list
+pub net_in_list : (nets : List NetPlan) (p : Packet) (net : NetPlan) → slice_get nets p.net ≡ Some net → Contains nets net
+net_in_list nets p net is = (p.net, slice_get_within nets p.net net is, get_or_from_slice_get nets p.net net net is)
+
+-- a packet's key is its net's
+pub key_of_net : (nets : List NetPlan) (packets : List Packet) → AreOfNets nets packets → (i : ℕ) (p : Packet) (net : NetPlan) →
+    slice_get packets i ≡ Some p → slice_get nets p.net ≡ Some net → IsKeyOf net.block (net.block.key + p.index)
+key_of_net nets packets of_nets i p net at is =
+    let of = of_nets i p at in
+    let same : Some of.0 ≡ Some net = sym of.1 ∙ is in
+    let one : of.0 ≡ net = cc in
+    subst (λ (n : NetPlan). IsKeyOf n.block (n.block.key + p.index)) one of.2
+
+-- what is asked for is of one of the nets, and has a key of it
+pub asked_of_net : (nets : List NetPlan) (packets : List Packet) → AreOfNets nets packets → (i : ℕ) (a : Asked) → asked_by nets packets i ≡ Some a →
+    Contains nets a.net × IsKeyOf a.net.block a.label.key
+asked_of_net nets packets of_nets i a asked =
+    let parts = asked_parts nets packets i a asked in
+    subst (λ (b : Asked). Contains nets b.net × IsKeyOf b.net.block b.label.key) (sym parts.is_asked) (
+      net_in_list nets parts.packet parts.net parts.is_net,
+      key_of_net nets packets of_nets i parts.packet parts.net parts.is_packet parts.is_net,
+    )

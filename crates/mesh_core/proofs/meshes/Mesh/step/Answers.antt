@@ -1,0 +1,31 @@
+-- Each event keeps the ledger.
+use Rattle.std.proofs.Common.{subst}
+use Rattle.spin_base.specs.declared.copies.Event.TheVariants.{Inject, Take, Send, Dump, Collect}
+use Rattle.mesh_core.specs.State.{IsMesh}
+use Rattle.mesh_core.proofs.StepLedger.{ledger-after_event, ledger-after_result}
+use Rattle.mesh_core.proofs.meshes.Mesh.step.Goals as goal
+
+pub returns-in-Inject-clause-ledger : goal.returns-in-Inject-clause-ledger
+returns-in-Inject-clause-ledger c =
+    ledger-after_result c.inject.result c.args.self.now c.inject.new.self (Inject c.in-Inject.vertex)
+    (subst IsMesh c.self.view_is c.self.invariant) c.inject.ensures.moves c.inject.ensures.err
+
+pub returns-in-Take-clause-ledger : goal.returns-in-Take-clause-ledger
+returns-in-Take-clause-ledger c =
+    ledger-after_event c.args.self.now c.take.new.self (Take c.in-Take.chip c.in-Take.port)
+    (subst IsMesh c.self.view_is c.self.invariant) c.take.ensures.moves
+
+pub returns-in-Send-clause-ledger : goal.returns-in-Send-clause-ledger
+returns-in-Send-clause-ledger c =
+    ledger-after_result c.send.result c.args.self.now c.send.new.self (Send c.in-Send.chip c.in-Send.out)
+    (subst IsMesh c.self.view_is c.self.invariant) c.send.ensures.moves c.send.ensures.err
+
+pub returns-in-Dump-clause-ledger : goal.returns-in-Dump-clause-ledger
+returns-in-Dump-clause-ledger c =
+    ledger-after_result c.dump.result c.args.self.now c.dump.new.self (Dump c.in-Dump.chip c.in-Dump.out)
+    (subst IsMesh c.self.view_is c.self.invariant) c.dump.ensures.moves c.dump.ensures.err
+
+pub returns-in-Collect-clause-ledger : goal.returns-in-Collect-clause-ledger
+returns-in-Collect-clause-ledger c =
+    ledger-after_result c.collect.result c.args.self.now c.collect.new.self (Collect c.in-Collect.vertex)
+    (subst IsMesh c.self.view_is c.self.invariant) c.collect.ensures.moves c.collect.ensures.err

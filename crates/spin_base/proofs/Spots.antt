@@ -1,0 +1,87 @@
+-- The outputs that lead to the spots of a chip: two spots of one chip have two outputs.
+use Rattle.std.proofs.Common.{◌≡◌, ℕ, zero, suc, ◌+◌, ◌-◌, ◌%◌, ◌<◌, ◌≤◌, ltb, refl, sym, ap, ◌∙◌, subst, arith, inl, inr}
+use Rattle.std.proofs.lemmas.Bool.{lt-ltb, le-ltb, cases_lt, cond-true, cond-false}
+use Rattle.std.proofs.Math.Nat.{mod-eq_of_lt}
+use Rattle.spin_base.specs.declared.chips.Dir.{Dir}
+use Rattle.spin_base.specs.declared.chips.Dir.TheVariants.{East, NorthEast, North, West, SouthWest, South}
+use Rattle.spin_base.specs.declared.routes.Out.TheVariants.{Link, Core}
+use Rattle.spin_base.specs.Links.{dir_number, dir_at}
+use Rattle.spin_base.specs.Outputs.{out_number, out_of, IsOutput}
+
+-- the link of a number has that number
+pub dir_number-dir_at : (n : ℕ) → n < 6 → dir_number (dir_at n) ≡ n
+dir_number-dir_at zero h = refl
+dir_number-dir_at (suc zero) h = refl
+dir_number-dir_at (suc (suc zero)) h = refl
+dir_number-dir_at (suc (suc (suc zero))) h = refl
+dir_number-dir_at (suc (suc (suc (suc zero)))) h = refl
+dir_number-dir_at (suc (suc (suc (suc (suc zero))))) h = refl
+dir_number-dir_at (suc (suc (suc (suc (suc (suc n)))))) h = absurd (omega (arith, h))
+
+pub dir_at-dir_number : (d : Dir) → dir_at (dir_number d) ≡ d
+dir_at-dir_number East = refl
+dir_at-dir_number NorthEast = refl
+dir_at-dir_number North = refl
+dir_at-dir_number West = refl
+dir_at-dir_number SouthWest = refl
+dir_at-dir_number South = refl
+
+-- a spot below 18 is left by its core, one from 18 on by a link
+pub out_of-core : (p : ℕ) → p < 18 → out_of p ≡ Core p
+out_of-core p h = cond-true (ltb p 18) (Core p) (Link (dir_at (p - 18))) (lt-ltb _ _ h)
+
+pub out_of-device : (p : ℕ) → 18 ≤ p → out_of p ≡ Link (dir_at (p - 18))
+out_of-device p h = cond-false (ltb p 18) (Core p) (Link (dir_at (p - 18))) (le-ltb _ _ h)
+
+-- the output that leads to a spot has a bit
+pub out_of-has_bit : (p : ℕ) → IsOutput (out_of p)
+out_of-has_bit p = elim (cases_lt p 18) [
+  | inl core ↦ subst IsOutput (sym (out_of-core p core)) core
+  | inr device ↦ subst IsOutput (sym (out_of-device p device)) tt
+]
+
+-- cores come after the links, and the devices on links come round to them
+pub out_number-out_of : (p : ℕ) → p < 24 → out_number (out_of p) ≡ (p + 6) % 24
+out_number-out_of p h = elim (cases_lt p 18) [
+  | inl core ↦
+      let below : p + 6 < 24 = omega arith in
+      ap out_number (out_of-core p core) ∙ (omega arith ∙ sym (mod-eq_of_lt below))
+  | inr device ↦
+      let below : p - 18 < 6 = omega arith in
+      ap out_number (out_of-device p device) ∙ (dir_number-dir_at (p - 18) below ∙ omega arith)
+]
+
+-- an output that is a core leads to the spot of its number, one that is a link to that of 18 and the link's number
+pub spot_of_core : (p q : ℕ) → out_of p ≡ Core q → (p ≡ q) × (p < 18)
+spot_of_core p q e = elim (cases_lt p 18) [
+  | inl core ↦ (same (sym (out_of-core p core) ∙ e), core)
+  | inr device ↦ absurd (other (sym (out_of-device p device) ∙ e))
+]
+  where
+    same : {a b : ℕ} → Core a ≡ Core b → a ≡ b
+    same e = cc
+
+    other : {d : Dir} {b : ℕ} → Link d ≡ Core b → ⊥
+    other e = cc
+
+pub spot_of_link : (p : ℕ) (d : Dir) → p < 24 → out_of p ≡ Link d → p ≡ 18 + dir_number d
+spot_of_link p d h e = elim (cases_lt p 18) [
+  | inl core ↦ absurd (other (sym (out_of-core p core) ∙ e))
+  | inr device ↦
+      let below : p - 18 < 6 = omega arith in
+      let is : dir_at (p - 18) ≡ d = same (sym (out_of-device p device) ∙ e) in
+      let number : p - 18 ≡ dir_number d = sym (dir_number-dir_at (p - 18) below) ∙ ap dir_number is in
+      omega arith
+]
+  where
+    same : {a b : Dir} → Link a ≡ Link b → a ≡ b
+    same e = cc
+
+    other : {d : Dir} {b : ℕ} → Core b ≡ Link d → ⊥
+    other e = cc
+
+-- spots of one chip with one output are one spot
+pub same_number : (p q : ℕ) → p < 24 → q < 24 → out_of p ≡ out_of q → p ≡ q
+same_number p q h k e =
+    let same : (p + 6) % 24 ≡ (q + 6) % 24 = sym (out_number-out_of p h) ∙ (ap out_number e ∙ out_number-out_of q k) in
+    omega arith
