@@ -1,0 +1,10 @@
+pub mod Members
+pub mod Places
+pub mod Pairs
+pub mod Ascending
+pub mod Determined
+pub mod Counts
+pub mod Ranges
+pub mod Tests
+pub mod Gathering
+pub mod Exchange

@@ -1,0 +1,191 @@
+-- The members of a list: of a first item and others, of lists joined, mapped, filtered and searched.
+-- `Among` is membership by recursion over the list; `Contains` of std names a place.
+use Rattle.std.proofs.Common.{◌≡◌, ℕ, zero, suc, ◌<◌, ◌≤◌, Bool, true, false, cond, nat_lt, List, [], ◌∷◌, ◌++◌, map, length, Option, Some, None, refl, sym, ap, ◌∙◌, subst, arith, inl, inr, ◌⊎◌}
+use Rattle.std.specs.List.{Contains, slice_get, slice_index_or, filter, filter_map, cons_option, list_any, position, position_or_len}
+use Rattle.std.proofs.lemmas.Bool.{cases_Bool, cond-true, cond-false, ltb-false}
+use Rattle.std.proofs.lemmas.List.Folds.{Any-from_list_any, list_any_at}
+use Rattle.std.proofs.lemmas.List.Quantifiers.{position-Some}
+use Rattle.std.proofs.lemmas.List.Sums.{fails_before_first}
+use Rattle.std.proofs.lemmas.Option.{slice_get-get_or, slice_get_within, get_or_from_slice_get}
+
+-- ---- Contains, of a first item and others
+
+pub Contains-none : {X : Type 0} (x : X) → Contains [] x → ⊥
+Contains-none x has = absurd (let none : has.0 < 0 = has.1 in omega arith)
+
+pub Contains-first : {X : Type 0} (x : X) (xs : List X) → Contains (x ∷ xs) x
+Contains-first x xs = (0, omega arith, refl)
+
+pub Contains-later : {X : Type 0} (x : X) (xs : List X) (y : X) → Contains xs y → Contains (x ∷ xs) y
+Contains-later x xs y has = (suc has.0, (let within : has.0 < length xs = has.1 in omega arith), has.2)
+
+pub Contains-cases : {X : Type 0} (x : X) (xs : List X) (y : X) → Contains (x ∷ xs) y → (x ≡ y) ⊎ Contains xs y
+Contains-cases x xs y (zero, within, same) = inl same
+Contains-cases x xs y (suc k, within, same) = inr (k, omega (arith, within), same)
+
+-- a list of one item has that item alone
+pub Contains-only : {X : Type 0} (x y : X) → Contains (x ∷ []) y → x ≡ y
+Contains-only x y has = elim (Contains-cases x [] y has) [ inl here ↦ here | inr later ↦ absurd (Contains-none y later) ]
+
+-- the item at a place is in the list
+pub Contains-at : {X : Type 0} (xs : List X) (i : ℕ) (x : X) → slice_get xs i ≡ Some x → Contains xs x
+Contains-at xs i x at = (i, slice_get_within xs i x at, get_or_from_slice_get xs i x x at)
+
+-- and what is in the list stands at a place
+pub place_of_Contains : {X : Type 0} (xs : List X) (x : X) → Contains xs x → (i : ℕ) × (slice_get xs i ≡ Some x)
+place_of_Contains xs x has = (has.0, slice_get-get_or xs has.0 x has.1 ∙ ap Some has.2)
+
+-- ---- Among: x is one of the list
+
+abbrev pub Among : {X : Type 0} → X → List X → Type 0
+Among x [] = ⊥
+Among x (y ∷ ys) = (x ≡ y) ⊎ Among x ys
+
+pub among_contains : {X : Type 0} (x : X) (xs : List X) → Among x xs → Contains xs x
+among_contains x [] a = absurd a
+among_contains x (y ∷ xs) (inl here) = (0, omega arith, sym here)
+among_contains x (y ∷ xs) (inr later) = Contains-later y xs x (among_contains x xs later)
+
+pub contains_among : {X : Type 0} (x : X) (xs : List X) → Contains xs x → Among x xs
+contains_among x xs has = at xs has.0 has.1 has.2
+  where
+    at : (ys : List _) (k : ℕ) → k < length ys → slice_index_or ys k x ≡ x → Among x ys
+    at [] k within is = absurd (omega arith)
+    at (y ∷ ys) zero within is = inl (sym is)
+    at (y ∷ ys) (suc k) within is = inr (at ys k (omega arith) is)
+
+pub among_left : {X : Type 0} (x : X) (xs ys : List X) → Among x xs → Among x (xs ++ ys)
+among_left x [] ys a = absurd a
+among_left x (y ∷ xs) ys (inl here) = inl here
+among_left x (y ∷ xs) ys (inr later) = inr (among_left x xs ys later)
+
+pub among_right : {X : Type 0} (x : X) (xs ys : List X) → Among x ys → Among x (xs ++ ys)
+among_right x [] ys a = a
+among_right x (y ∷ xs) ys a = inr (among_right x xs ys a)
+
+pub among_either : {X : Type 0} (x : X) (xs ys : List X) → Among x (xs ++ ys) → Among x xs ⊎ Among x ys
+among_either x [] ys a = inr a
+among_either x (y ∷ xs) ys (inl here) = inl (inl here)
+among_either x (y ∷ xs) ys (inr later) =
+    elim (among_either x xs ys later) [ inl l ↦ inl (inr l) | inr r ↦ inr r ]
+
+pub map_among : {X Y : Type 0} (f : X → Y) (x : X) (xs : List X) → Among x xs → Among (f x) (map f xs)
+map_among f x [] a = absurd a
+map_among f x (y ∷ xs) (inl here) = inl (ap f here)
+map_among f x (y ∷ xs) (inr later) = inr (map_among f x xs later)
+
+pub among_map : {X Y : Type 0} (f : X → Y) (y : Y) (xs : List X) → Among y (map f xs) → (x : X) × Among x xs × (y ≡ f x)
+among_map f y [] a = absurd a
+among_map f y (x ∷ xs) (inl here) = (x, inl refl, here)
+among_map f y (x ∷ xs) (inr later) = let rest = among_map f y xs later in (rest.0, inr rest.1, rest.2)
+
+-- the item at a place is among the list
+pub among_at : {X : Type 0} (xs : List X) (i : ℕ) (x : X) → slice_get xs i ≡ Some x → Among x xs
+among_at [] i x at = cc
+among_at (y ∷ ys) zero x at = inl (let same : x ≡ y = cc in same)
+among_at (y ∷ ys) (suc i) x at = inr (among_at ys i x at)
+
+-- ---- what a map has
+
+pub Contains-map : {X Y : Type 0} (f : X → Y) (xs : List X) (x : X) → Contains xs x → Contains (map f xs) (f x)
+Contains-map f xs x has = among_contains (f x) (map f xs) (map_among f x xs (contains_among x xs has))
+
+pub Contains-unmap : {X Y : Type 0} (f : X → Y) (xs : List X) (y : Y) → Contains (map f xs) y → (x : X) × Contains xs x × (f x ≡ y)
+Contains-unmap f xs y has =
+    let found = among_map f y xs (contains_among y (map f xs) has) in
+    (found.0, among_contains found.0 xs found.1, sym found.2)
+
+-- ---- what a filter keeps
+
+pub Contains-from_filter : {X : Type 0} (p : X → Bool) (xs : List X) (x : X) → Contains (filter p xs) x → Contains xs x × (p x ≡ true)
+Contains-from_filter p [] x has = absurd (Contains-none x has)
+Contains-from_filter {X} p (y ∷ ys) x has = elim (cases_Bool (p y)) [
+  | inl kept ↦ elim (Contains-cases y (filter p ys) x (subst (λ zs. Contains zs x) (cond-true (p y) (y ∷ filter p ys) (filter p ys) kept) has)) [
+    | inl here ↦ ((0, omega arith, here), subst (λ (z : X). p z ≡ true) here kept)
+    | inr later ↦ let rest = Contains-from_filter p ys x later in (Contains-later y ys x rest.0, rest.1)
+  ]
+  | inr left ↦
+      let rest = Contains-from_filter p ys x (subst (λ zs. Contains zs x) (cond-false (p y) (y ∷ filter p ys) (filter p ys) left) has) in
+      (Contains-later y ys x rest.0, rest.1)
+]
+
+pub Contains-filter : {X : Type 0} (p : X → Bool) (xs : List X) (x : X) → Contains xs x → p x ≡ true → Contains (filter p xs) x
+Contains-filter p [] x has pass = absurd (Contains-none x has)
+Contains-filter {X} p (y ∷ ys) x has pass = elim (Contains-cases y ys x has) [
+  | inl here ↦
+      let kept : p y ≡ true = subst (λ (z : X). p z ≡ true) (sym here) pass in
+      subst (λ zs. Contains zs x) (sym (cond-true (p y) (y ∷ filter p ys) (filter p ys) kept)) (0, omega arith, here)
+  | inr later ↦ elim (cases_Bool (p y)) [
+    | inl kept ↦ subst (λ zs. Contains zs x) (sym (cond-true (p y) (y ∷ filter p ys) (filter p ys) kept)) (Contains-later y (filter p ys) x (Contains-filter p ys x later pass))
+    | inr left ↦ subst (λ zs. Contains zs x) (sym (cond-false (p y) (y ∷ filter p ys) (filter p ys) left)) (Contains-filter p ys x later pass)
+  ]
+]
+
+pub among_filter : {X : Type 0} (p : X → Bool) (x : X) (xs : List X) → Among x (filter p xs) → Among x xs × (p x ≡ true)
+among_filter p x xs a =
+    let found = Contains-from_filter p xs x (among_contains x (filter p xs) a) in (contains_among x xs found.0, found.1)
+
+-- ---- what a map of some items gives
+
+pub Contains-from_filter_map : {X Y : Type 0} (h : X → Option Y) (xs : List X) (y : Y) → Contains (filter_map h xs) y → (x : X) × Contains xs x × (h x ≡ Some y)
+Contains-from_filter_map h [] y has = absurd (Contains-none y has)
+Contains-from_filter_map {X} {Y} h (x ∷ xs) y has = elim (given (h x) refl has) [
+  | inl here ↦ (x, (0, omega arith, refl), here)
+  | inr later ↦ let rest = Contains-from_filter_map h xs y later in (rest.0, Contains-later x xs rest.0 rest.1, rest.2)
+]
+  where
+    given : (o : Option Y) → h x ≡ o → Contains (cons_option o (filter_map h xs)) y → (h x ≡ Some y) ⊎ Contains (filter_map h xs) y
+    given None is has = inr has
+    given (Some z) is has = elim (Contains-cases z (filter_map h xs) y has) [
+      | inl here ↦ inl (is ∙ ap Some here)
+      | inr later ↦ inr later
+    ]
+
+pub Contains-filter_map : {X Y : Type 0} (h : X → Option Y) (xs : List X) (x : X) (y : Y) → Contains xs x → h x ≡ Some y → Contains (filter_map h xs) y
+Contains-filter_map h [] x y has is = absurd (Contains-none x has)
+Contains-filter_map {X} {Y} h (z ∷ zs) x y has is = elim (Contains-cases z zs x has) [
+  | inl here ↦
+      let given : h z ≡ Some y = ap h here ∙ is in
+      subst (λ (o : Option Y). Contains (cons_option o (filter_map h zs)) y) (sym given) (0, omega arith, refl)
+  | inr later ↦ rest (h z) (filter_map h zs) (Contains-filter_map h zs x y later is)
+]
+  where
+    rest : (o : Option Y) (ys : List Y) → Contains ys y → Contains (cons_option o ys) y
+    rest None ys has = has
+    rest (Some w) ys has = Contains-later w ys y has
+
+-- ---- what a search finds
+
+pub any_among : {X : Type 0} (p : X → Bool) (xs : List X) → list_any p xs ≡ true → (x : X) × Among x xs × (p x ≡ true)
+any_among p xs e =
+    let found = Any-from_list_any p xs e in
+    (found.1, contains_among found.1 xs (found.0, found.2, found.3), found.4)
+
+pub among_any : {X : Type 0} (p : X → Bool) (x : X) (xs : List X) → Among x xs → p x ≡ true → list_any p xs ≡ true
+among_any p x xs a passes = let has = among_contains x xs a in list_any_at p xs has.0 x has.1 (ap p has.2 ∙ passes)
+
+-- the item at the place that is found
+pub position_there : {X : Type 0} (p : X → Bool) (xs : List X) (i : ℕ) (d : X) → position p xs ≡ Some i →
+    (x : X) × (slice_get xs i ≡ Some x) × Among x xs × (p x ≡ true)
+position_there p xs i d is =
+    let found = position-Some p xs i d is in
+    let x = slice_index_or xs i d in
+    let at : slice_get xs i ≡ Some x = slice_get-get_or xs i d found.0 in
+    (x, at, among_at xs i x at, found.1)
+
+-- where no place is found, no item passes
+pub position_nowhere : {X : Type 0} (p : X → Bool) (xs : List X) (x : X) → position p xs ≡ None → Among x xs → p x ≡ true → ⊥
+position_nowhere {X} p xs x is a passes = by_size (nat_lt first (length xs)) refl is
+  where
+    first : ℕ
+    first = position_or_len p xs
+
+    by_size : (b : Bool) → nat_lt first (length xs) ≡ b → cond b (Some first) None ≡ None → ⊥
+    by_size true e none = cc
+    by_size false e none =
+        let has = among_contains x xs a in
+        let past : length xs ≤ first = ltb-false first (length xs) e in
+        let before : has.0 < first = let within : has.0 < length xs = has.1 in omega arith in
+        let fails : p (slice_index_or xs has.0 x) ≡ false = fails_before_first p xs has.0 x before in
+        let also : p (slice_index_or xs has.0 x) ≡ true = ap p has.2 ∙ passes in
+        cc
