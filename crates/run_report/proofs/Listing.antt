@@ -1,41 +1,17 @@
 -- Lists side by side, and the tables that are listed.
-use Rattle.std.proofs.Common.{◌≡◌, ℕ, zero, suc, ◌+◌, ◌*◌, ◌<◌, ◌≤◌, ◌^◌, List, [], ◌∷◌, ◌++◌, map, filter, take, length, Bool, true, false, cond, Some, refl, sym, ap, ◌∙◌, arith, All}
-use Rattle.std.specs.List.{slice_get, zip, enumerate_from}
-use Rattle.std.proofs.Math.Nat.{mul-le-mul_right}
+use Rattle.std.proofs.Common.{◌≡◌, ℕ, suc, ◌+◌, ◌*◌, ◌<◌, ◌≤◌, ◌^◌, List, [], ◌∷◌, ◌++◌, map, filter, take, length, Bool, true, false, cond, Some, refl, sym, ap, ◌∙◌, arith, All}
+use Rattle.std.specs.List.{slice_get, enumerate_from}
 use Rattle.std.proofs.lemmas.List.{append-nil, map-append, length-map}
 use Rattle.std.proofs.lemmas.List.Elements.{filter-append, All-head, All-tail}
 use Rattle.std.proofs.lemmas.List.Sums.{sum_by-cons}
+use Rattle.list_laws.proofs.Places.{enumerate_more}
 use Rattle.spin_base.specs.declared.blocks.Entry.{Entry}
-use Rattle.machine_desc.specs.Description.{Description, HasSize}
+use Rattle.machine_desc.specs.Description.{Description}
 use Rattle.tern_word.specs.declared.tables.Table.{Table}
-use Rattle.table_load.specs.declared.tables.ChipTable.{ChipTable}
-use Rattle.plain_tables.specs.PlainTable.{entry_of}
+use Rattle.spin_base.specs.declared.blocks.ChipTable.{ChipTable}
+use Rattle.tern_word.specs.Entries.{entry_of}
 use Rattle.run_report.specs.ReportText.{row_total}
 use Rattle.run_report.specs.Listed.{chip_table, has_row, is_some_row, tables_of}
-
--- a pair more
-pub pair_more : {X Y : Type 0} (xs : List X) (ys : List Y) (i : ℕ) (x : X) (y : Y) → slice_get xs i ≡ Some x → slice_get ys i ≡ Some y →
-    zip (take (i + 1) xs) (take (i + 1) ys) ≡ zip (take i xs) (take i ys) ++ (x, y) ∷ []
-pair_more [] ys i x y ex ey = cc
-pair_more (w ∷ xs) [] i x y ex ey = cc
-pair_more {X} {Y} (w ∷ xs) (z ∷ ys) zero x y ex ey =
-    let a : w ≡ x = cc in let b : z ≡ y = cc in ap {B = List (X × Y)} (λ u. (u, z) ∷ []) a ∙ ap {B = List (X × Y)} (λ u. (x, u) ∷ []) b
-pair_more {X} {Y} (w ∷ xs) (z ∷ ys) (suc i) x y ex ey =
-    let more : suc i + 1 ≡ suc (i + 1) = omega arith in
-    ap {B = List (X × Y)} (λ n. zip (take n (w ∷ xs)) (take n (z ∷ ys))) more ∙ ap {B = List (X × Y)} (λ l. (w, z) ∷ l) (pair_more xs ys i x y ex ey)
-
--- an item more, with its number
-enumerate_more : {X : Type 0} (n : ℕ) (xs : List X) (i j : ℕ) (x : X) → slice_get xs i ≡ Some x → n + i ≡ j →
-    enumerate_from n (take (i + 1) xs) ≡ enumerate_from n (take i xs) ++ (j, x) ∷ []
-enumerate_more n [] i j x is at = cc
-enumerate_more {X} n (y ∷ ys) zero j x is at =
-    let same : y ≡ x = cc in
-    let here : n ≡ j = omega (arith, at) in
-    ap {B = List (ℕ × X)} (λ k. (k, y) ∷ []) here ∙ ap {B = List (ℕ × X)} (λ z. (j, z) ∷ []) same
-enumerate_more {X} n (y ∷ ys) (suc i) j x is at =
-    let more : suc i + 1 ≡ suc (i + 1) = omega arith in
-    ap {B = List (ℕ × X)} (λ k. enumerate_from n (take k (y ∷ ys))) more
-    ∙ ap {B = List (ℕ × X)} (λ l. (n, y) ∷ l) (enumerate_more (n + 1) ys i j x is (omega (arith, at)))
 
 -- a table more
 listed_more : (m : Description) (ts : List Table) (i : ℕ) (t : Table) → slice_get ts i ≡ Some t →
@@ -91,12 +67,3 @@ rows_from m n (t ∷ ts) short =
 
 pub few_rows : (m : Description) (ts : List Table) → All (λ (t : Table). length t.rows ≤ 1024) ts → length ts ≤ 4096 → row_total (tables_of m ts) < 2 ^ 64
 few_rows m ts short few = let a = rows_from m 0 ts short in omega (arith, a, few)
-
--- a grid has at most 64 by 64 chips
-pub few_chips : (m : Description) (ts : List Table) → HasSize m → length ts ≡ m.width * m.height → length ts ≤ 4096
-few_chips m ts size long = by_size m.width m.height size.width_to_64 size.height_to_64 long
-  where
-    by_size : (w h : ℕ) → w ≤ 64 → h ≤ 64 → length ts ≡ w * h → length ts ≤ 4096
-    by_size w h wide high long =
-        let across : w * h ≤ 64 * h = mul-le-mul_right h wide in
-        omega (arith, across, high, long)

@@ -11,8 +11,8 @@ use Rattle.app_graph.specs.declared.graphs.Net.{Net}
 use Rattle.app_graph.specs.declared.graphs.Graph.{Graph}
 use Rattle.net_tables.specs.declared.nets.NetPlan.{NetPlan}
 use Rattle.tern_word.specs.declared.tables.Table.{Table}
-use Rattle.table_load.specs.declared.tables.ChipTable.{ChipTable}
-use Rattle.plain_tables.specs.PlainTable.{entries}
+use Rattle.tern_word.specs.Entries.{entry_of}
+use Rattle.spin_base.specs.declared.blocks.ChipTable.{ChipTable}
 
 -- the names of vertices, and of nets
 abbrev pub vertex_names : List Vertex → List (List ℕ)
@@ -29,9 +29,9 @@ placed_of graph spots = zip (vertex_names graph.vertices) spots
 abbrev pub keys_of : Graph → List NetPlan → List (List ℕ × Block)
 keys_of graph nets = zip (net_names graph.nets) (map (λ (net : NetPlan). net.block) nets)
 
--- the table of the chip with this index
+-- the table of the chip with this index: an entry for each row
 abbrev pub chip_table : Description → ℕ × Table → ChipTable
-chip_table m e = record { chip = chip_of m e.0; entries = entries e.1 }
+chip_table m e = record { chip = chip_of m e.0; entries = map entry_of e.1.rows }
 
 abbrev pub is_some_row : List Entry → Bool
 is_some_row [] = false

@@ -17,7 +17,7 @@ use Rattle.machine_desc.specs.Description.{Description}
 use Rattle.app_graph.specs.declared.graphs.Graph.{Graph}
 use Rattle.net_tables.specs.declared.nets.NetPlan.{NetPlan}
 use Rattle.tern_word.specs.declared.tables.Table.{Table}
-use Rattle.table_load.specs.declared.tables.ChipTable.{ChipTable}
+use Rattle.spin_base.specs.declared.blocks.ChipTable.{ChipTable}
 use Rattle.mesh_core.specs.declared.places.Place.{Place}
 use Rattle.mesh_core.specs.declared.places.Place.TheVariants.{InQueue, Hand, CoreQueue}
 use Rattle.run_report.specs.declared.reports.Report.{Report}

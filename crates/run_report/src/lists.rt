@@ -1,17 +1,15 @@
 // The lists of a report that come from a plan.
 ghost use Rattle.std.specs.Prelude.{◌≡◌, ◌*◌, ◌<◌, ◌≤◌, ◌∷◌, ◌++◌, [], length, map, filter, IfOk, OnOk};
 ghost use Rattle.std.specs.List.{zip};
-ghost use Rattle.machine_desc.specs.Live.{chip_of};
 ghost use Rattle.net_tables.specs.declared.nets.NetPlan.{NetPlan};
-ghost use Rattle.plain_tables.specs.PlainTable.{entries};
+ghost use Rattle.tern_word.specs.Entries.{entry_of};
 ghost use Rattle.run_report.specs.Listed.{chip_table, has_row, net_names, tables_of, vertex_names};
 
 use app_graph::{Net, Vertex};
 use machine_desc::Machine;
 use net_tables::NetPlan;
-use spin_base::{Block, Chip, Entry, Memory, Name, Seq, Spot};
+use spin_base::{Block, ChipTable, Entry, Memory, Name, Seq, Spot};
 use std::alloc::Global;
-use table_load::ChipTable;
 use tern_word::Table;
 
 // Each vertex with its core.
@@ -59,12 +57,9 @@ pub fn tables_of(
     ensures few { length tables.now ≤ 4096 }
 {
     let mut listed = Seq::new(alloc);
-    let chips = usize::from(machine.width()) * usize::from(machine.height());
-    for index in 0..chips {
-        add_table(
-            &mut listed,
-            chip_table(alloc, machine, index, tables.get(index))?,
-        )?;
+    for index in 0..machine.chips() as u32 {
+        let table = tables.get(index as usize);
+        add_table(&mut listed, chip_table(alloc, machine, index, table)?)?;
     }
     Ok(listed)
 }
@@ -83,41 +78,25 @@ fn add_table(listed: &mut Seq<ChipTable>, listing: ChipTable) -> Result<(), Memo
 fn chip_table(
     alloc: Global,
     machine: &Machine,
-    index: usize,
+    index: u32,
     table: &Table,
 ) -> Result<ChipTable, Memory>
     requires { index < machine.now.width * machine.now.height }
     ensures { IfOk result (λ listing. listing ≡ chip_table machine.now (index, table.now)) }
 {
     Ok(ChipTable {
-        chip: chip_of(machine, index),
+        chip: machine.chip_at(index),
         entries: entries_of(alloc, table)?,
     })
 }
 
-// The chip with this index.
-fn chip_of(machine: &Machine, index: usize) -> Chip
-    requires { index < machine.now.width * machine.now.height }
-    ensures { result ≡ chip_of machine.now index }
-{
-    let height = usize::from(machine.height());
-    Chip {
-        x: (index / height) as u8,
-        y: (index % height) as u8,
-    }
-}
-
 // The entries of a table's rows, in order.
 fn entries_of(alloc: Global, table: &Table) -> Result<Seq<Entry>, Memory>
-    ensures { IfOk result (λ all. all ≡ entries table.now) }
+    ensures { IfOk result (λ all. all ≡ map entry_of table.now.rows) }
 {
     let mut all = Seq::new(alloc);
     for row in table.rows.as_slice() {
-        all.push(Entry {
-            key: row.block.key,
-            mask: row.block.mask,
-            route: row.route,
-        })?;
+        all.push(row.entry())?;
     }
     Ok(all)
 }

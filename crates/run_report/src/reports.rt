@@ -8,12 +8,10 @@ use crate::orders::{delivered_of, dumped_of};
 use crate::unsents::unsent_of;
 use crate::waits::waiting_of;
 use app_graph::Graph;
-use machine_desc::Machine;
 use mesh_core::{Mesh, Place};
 use net_tables::NetPlan;
-use spin_base::{Block, DumpRec, McCopy, Memory, Name, Seq, Spot};
+use spin_base::{Block, ChipTable, DumpRec, McCopy, Memory, Name, Seq, Spot};
 use std::alloc::Global;
-use table_load::ChipTable;
 use tern_word::Table;
 
 /// What a report says.
@@ -35,16 +33,15 @@ pub struct Report {
     pub unsent: u32,
 }
 
-/// The report of a graph's plan and of the mesh after its run: a line for each vertex, each net, and each chip whose table
-/// has a row, and what the mesh delivered, dumped and still holds. The plan has a spot for each vertex, which are those of
-/// the mesh, and for each chip, by its index, a table.
+/// The report of a graph's plan and of the mesh after its run, on the mesh's machine: a line for each vertex, each net, and
+/// each chip whose table has a row, and what the mesh delivered, dumped and still holds. The plan's spots are those of the
+/// mesh, and it has a table for each chip, by its index.
 ///
 /// # Errors
 ///
 /// `Memory` where memory runs out.
 pub fn report_of(
     alloc: Global,
-    machine: &Machine,
     graph: &Graph,
     spots: &Seq<Spot>,
     nets: &Seq<NetPlan>,
@@ -54,18 +51,17 @@ pub fn report_of(
     requires graph { IsValidGraph graph.now }
     requires spots { length spots.now ≡ length graph.now.vertices }
     requires nets { length nets.now ≡ length graph.now.nets }
-    requires tables { length tables.now ≡ machine.now.width * machine.now.height }
-    requires machine { mesh.now.machine ≡ machine.now }
-    requires vertices { mesh.now.spots ≡ spots.now }
-    ensures { IfOk result (λ report. IsReportOf machine.now graph.now spots.now nets.now tables.now mesh.now report) }
+    requires tables { length tables.now ≡ mesh.now.setup.machine.width * mesh.now.setup.machine.height }
+    requires mesh { mesh.now.setup.spots ≡ spots.now }
+    ensures { IfOk result (λ report. IsReportOf mesh.now.setup.machine graph.now spots.now nets.now tables.now mesh.now report) }
 {
     let placed = placed_of(alloc, &graph.vertices, spots)?;
     let keys = keys_of(alloc, &graph.nets, nets)?;
-    let tables = tables_of(alloc, machine, tables)?;
+    let tables = tables_of(alloc, mesh.machine(), tables)?;
     let delivered = delivered_of(alloc, placed.as_slice(), mesh)?;
     let dumped = dumped_of(alloc, mesh)?;
-    let waiting = waiting_of(alloc, machine, spots.as_slice(), mesh)?;
-    let unsent = unsent_of(spots.len(), mesh);
+    let waiting = waiting_of(alloc, mesh)?;
+    let unsent = unsent_of(mesh);
     Ok(Report {
         placed,
         keys,

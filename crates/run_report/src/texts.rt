@@ -7,10 +7,9 @@ ghost use Rattle.run_report.specs.ReportText.{report_text, listed_text, row_tota
 use crate::reports::Report;
 use mesh_core::Place;
 use spin_base::{
-    Block, Chip, Dir, DumpRec, Entry, McCopy, Memory, Name, Out, Port, Route, Seq, Spot,
+    Block, Chip, ChipTable, Dir, DumpRec, Entry, McCopy, Memory, Name, Out, Port, Route, Seq, Spot,
 };
 use std::alloc::Global;
-use table_load::ChipTable;
 
 /// The text of a report: one line an item, each ended by a line feed, its words one space apart.
 ///

@@ -1,5 +1,5 @@
 use Rattle.std.proofs.Common.{◌≡◌, map, take}
-use Rattle.plain_tables.specs.PlainTable.{entry_of}
+use Rattle.tern_word.specs.Entries.{entry_of}
 use Rattle.run_report.proofs.lists.entries_of.Given as goal
 
 -- the entries of the rows so far
