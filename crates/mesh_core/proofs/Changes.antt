@@ -20,7 +20,7 @@ use Rattle.machine_desc.specs.Live.{is_live_chip, is_live_link, IsInside, IsSite
 use Rattle.machine_desc.proofs.Far.{index_below}
 use Rattle.mesh_core.specs.State.{Setup, State, Held, IsMesh, queue_at}
 use Rattle.mesh_core.specs.Opened.{empty_mesh}
-use Rattle.mesh_core.proofs.QueueLists.{slice_get-set_same, slice_get-set_other}
+use Rattle.list_laws.proofs.Places.{slice_get-set_same, slice_get-set_other}
 
 -- what a port's number is below
 pub port_below : (port : Port) → port_number port < 7

@@ -1,7 +1,13 @@
 -- A mesh at rest that meets the ledger of a job, without a dump, has delivered what the job asks for.
-use Rattle.std.proofs.Common.{◌≡◌, ℕ, ◌+◌, ◌/◌, ◌%◌, ◌<◌, suc, zero, List, [], ◌∷◌, ◌++◌, map, Bool, true, ◌==◌, ◌&&◌, Option, Some, None, refl, ap, sym, ◌∙◌, subst, arith, append-nil, inl, inr, length, count_by, if◌then◌else◌}
-use Rattle.std.specs.List.{slice_get, All, Contains}
-use Rattle.std.proofs.lemmas.List.Elements.{All-contains, All-head, All-tail}
+use Rattle.std.proofs.Common.{◌≡◌, ℕ, ◌+◌, ◌/◌, ◌%◌, suc, List, [], ◌∷◌, map, Bool, true, ◌==◌, ◌&&◌, Option, Some, None, refl, ap, sym, ◌∙◌, subst, arith, append-nil, inl, inr, length, count_by}
+use Rattle.std.specs.List.{slice_get, Contains}
+use Rattle.std.proofs.lemmas.List.Elements.{All-contains}
+use Rattle.std.proofs.lemmas.Bool.{and_parts, eqb-true, eq-eqb, and_from}
+use Rattle.std.proofs.lemmas.Option.{slice_get_within}
+use Rattle.list_laws.proofs.Counts.{count_by-map}
+use Rattle.list_laws.proofs.Members.{Among, among_contains, contains_among, map_among}
+use Rattle.list_laws.proofs.Gathering.{gathered_of_none}
+use Rattle.list_laws.proofs.Places.{slice_get_there}
 use Rattle.spin_base.specs.declared.chips.Spot.{Spot}
 use Rattle.spin_base.specs.declared.copies.McCopy.{McCopy}
 use Rattle.spin_base.specs.declared.copies.Delivery.{Delivery}
@@ -9,41 +15,24 @@ use Rattle.spin_base.specs.declared.copies.Packet.{Packet}
 use Rattle.machine_desc.specs.Live.{chip_of}
 use Rattle.machine_desc.specs.RoutingTree.{IsRoutingTree}
 use Rattle.machine_desc.specs.Branch.{Exit, IsBranch}
-use Rattle.machine_desc.proofs.Live.{count_by-map}
 use Rattle.machine_desc.proofs.Branches.{same_place, exit_leads, ExitLeads}
 use Rattle.net_tables.specs.declared.nets.NetPlan.{NetPlan}
 use Rattle.net_tables.specs.RightTables.{IsKeyOf}
 use Rattle.net_tables.specs.NetsOn.{IsWayOn}
 use Rattle.mesh_core.specs.State.{State}
 use Rattle.mesh_core.specs.Trail.{Mark, unsent, in_queue, at_core, delivered, is_packet_on_trail}
-use Rattle.mesh_core.specs.Ledger.{marks_of, marked, hand_marks, port_of, gathered, delivered_marks, Label, Asked, label_of}
+use Rattle.mesh_core.specs.Ledger.{marks_of, marked, hand_marks, port_of, delivered_marks, Label, Asked, label_of}
 use Rattle.mesh_core.specs.Opened.{label_in, asked_by, MeetsJobLedger}
 use Rattle.mesh_core.specs.Expected.{IsAskedFor, AreAsExpected, IsAtRest}
 use Rattle.mesh_core.proofs.AskedPackets.{asks, asked_parts, asked_from, net_in_list, key_of_net}
-use Rattle.mesh_core.proofs.Exchange.{Among, among_contains, contains_among, count_by-cons}
 use Rattle.mesh_core.proofs.Moves.{mark}
-use Rattle.mesh_core.proofs.Events.{and_true_left, and_true_right}
+use Rattle.mesh_core.proofs.Counting.{count_agree}
 use Rattle.mesh_core.proofs.LedgerLaw.{one_net}
-use Rattle.mesh_core.proofs.Ways.{nat_true, nat_same, both_true, same_test, vertex_at_stands, place_below}
-
--- nothing is made of items of which nothing is made
-gathered_of_none : {X Y : Type 0} (f : ℕ → X → List Y) (x : X) → ((j : ℕ) → f j x ≡ []) → (i : ℕ) (xs : List X) → All (λ y. y ≡ x) xs → gathered f i xs ≡ []
-gathered_of_none f x nothing i [] all = refl
-gathered_of_none f x nothing i (y ∷ xs) all =
-    let same : y ≡ x = All-head (λ z. z ≡ x) y xs all in
-    ap (λ l. l ++ gathered f (i + 1) xs) (ap (f i) same ∙ nothing i)
-    ∙ gathered_of_none f x nothing (i + 1) xs (All-tail (λ z. z ≡ x) y xs all)
+use Rattle.mesh_core.proofs.Ways.{same_test, vertex_at_stands}
 
 -- the mark of a delivery
 abbrev mark_of : Delivery → Mark
 mark_of d = mark d.copy (delivered d.vertex)
-
-count_agree : (p q : Delivery → Bool) (ds : List Delivery) → ((d : Delivery) → Among d ds → p d ≡ q d) → count_by p ds ≡ count_by q ds
-count_agree p q [] same = refl
-count_agree p q (d ∷ ds) same =
-    count_by-cons p d ds
-    ∙ (ap (λ b. (if b then 1 else 0) + count_by p ds) (same d (inl refl))
-    ∙ (ap (λ n. (if q d then 1 else 0) + n) (count_agree p q ds (λ e a. same e (inr a))) ∙ sym (count_by-cons q d ds)))
 
 module _ (s : State) (nets : List NetPlan) (packets : List Packet) (job : MeetsJobLedger s nets packets)
     (rest : IsAtRest s) (no_dump : s.dumped ≡ []) where
@@ -56,20 +45,10 @@ module _ (s : State) (nets : List NetPlan) (packets : List Packet) (job : MeetsJ
       let cores = gathered_of_none (λ v (q : List McCopy). marked (at_core v) q) [] (λ j. refl) 0 s.cores rest.waits.cores_empty in
       rw (sent, inputs, hands, cores, no_dump) (append-nil (delivered_marks s))
 
-  among_deliveries : (k : Mark) (ds : List Delivery) → Among k (map mark_of ds) → (d : Delivery) × Among d ds × (k ≡ mark_of d)
-  among_deliveries k [] a = absurd a
-  among_deliveries k (d ∷ ds) (inl here) = (d, inl refl, here)
-  among_deliveries k (d ∷ ds) (inr later) = let more = among_deliveries k ds later in (more.0, inr more.1, more.2)
-
-  delivery_among : (d : Delivery) (ds : List Delivery) → Among d ds → Among (mark_of d) (map mark_of ds)
-  delivery_among d [] a = absurd a
-  delivery_among d (e ∷ ds) (inl here) = inl (ap mark_of here)
-  delivery_among d (e ∷ ds) (inr later) = inr (delivery_among d ds later)
-
   has_mark : (d : Delivery) → Contains s.delivered d → Contains (marks_of s) (mark_of d)
   has_mark d has =
       subst (λ l. Contains l (mark_of d)) (sym only_deliveries)
-      (among_contains (mark_of d) (delivered_marks s) (delivery_among d s.delivered (contains_among d s.delivered has)))
+      (among_contains (mark_of d) (delivered_marks s) (map_among mark_of d s.delivered (contains_among d s.delivered has)))
 
   -- the net of a packet, whose key the packet's label has
   record PacketNet (i : ℕ) (key : ℕ) (payload : Option ℕ) : Type 0 where
@@ -119,8 +98,8 @@ module _ (s : State) (nets : List NetPlan) (packets : List Packet) (job : MeetsJ
       let p = packet_net d.copy.packet d.copy.key d.copy.payload asked.0 asked.1 label.0 label.1 in
       let one : net ≡ p.net = one_net nets job.ledger.ledger.nets_stand.disjoint net p.net on.1 p.in_nets d.copy.key on.2 p.is_key in
       let branch : List Exit = on.3.1 in
-      let vertex : d.vertex ≡ on.3.3 = nat_true d.vertex on.3.3 (and_true_left (d.vertex == on.3.3) (d.copy.hop == length branch) on.3.5) in
-      let hop : d.copy.hop ≡ length branch = nat_true d.copy.hop (length branch) (and_true_right (d.vertex == on.3.3) (d.copy.hop == length branch) on.3.5) in
+      let vertex : d.vertex ≡ on.3.3 = eqb-true d.vertex on.3.3 ((and_parts (d.vertex == on.3.3) (d.copy.hop == length branch) on.3.5).0) in
+      let hop : d.copy.hop ≡ length branch = eqb-true d.copy.hop (length branch) ((and_parts (d.vertex == on.3.3) (d.copy.hop == length branch) on.3.5).1) in
       record {
         number = d.copy.packet;
         packet = p.packet;
@@ -154,13 +133,8 @@ module _ (s : State) (nets : List NetPlan) (packets : List Packet) (job : MeetsJ
       in
       sym x.3 ∙ (ap suc place.0 ∙ y.3)
     where
-      at_place : (zs : List Exit) (i : ℕ) → i < length zs → (z : Exit) × (slice_get zs i ≡ Some z)
-      at_place [] i within = absurd (omega arith)
-      at_place (z ∷ zs) zero within = (z, refl)
-      at_place (z ∷ zs) (suc i) within = at_place zs i (omega arith)
-
       at_end : (v : Spot) (zs : List Exit) (i : ℕ) (z : Exit) → suc i ≡ length zs → ExitLeads s.setup.machine net.tree.edges v zs i z → z.chip ≡ v.chip
-      at_end v zs i z last (inl (d, out, in_tree, (y, far, next))) = let past = place_below zs (suc i) y next in absurd (omega arith)
+      at_end v zs i z last (inl (d, out, in_tree, (y, far, next))) = let past = slice_get_within zs (suc i) y next in absurd (omega arith)
       at_end v zs i z last (inr (chip, out, long)) = sym chip
 
       last_exit : (v : Spot) (zs : List Exit) → IsBranch s.setup.machine net.tree.root net.tree.edges v zs →
@@ -168,7 +142,7 @@ module _ (s : State) (nets : List NetPlan) (packets : List Packet) (job : MeetsJ
       last_exit v [] is = absurd is
       last_exit v (z ∷ zs) is =
           let i : ℕ = length zs in
-          let there = at_place (z ∷ zs) i (omega arith) in (
+          let there = slice_get_there (z ∷ zs) i (omega arith) in (
             i,
             there.0,
             there.1,
@@ -218,30 +192,30 @@ module _ (s : State) (nets : List NetPlan) (packets : List Packet) (job : MeetsJ
         where
           forth : q d ≡ true → is_packet_on_trail i from to branch (mark_of d) ≡ true
           forth yes' =
-              let number : d.copy.packet ≡ i = nat_true d.copy.packet i (and_true_left (d.copy.packet == i) (d.vertex == to) yes') in
-              let vertex : d.vertex ≡ to = nat_true d.vertex to (and_true_right (d.copy.packet == i) (d.vertex == to) yes') in
+              let number : d.copy.packet ≡ i = eqb-true d.copy.packet i ((and_parts (d.copy.packet == i) (d.vertex == to) yes').0) in
+              let vertex : d.vertex ≡ to = eqb-true d.vertex to ((and_parts (d.copy.packet == i) (d.vertex == to) yes').1) in
               let has = has_mark d (among_contains d s.delivered a) in
               let on = job.ledger.ledger.on_a_trail (mark_of d) has in
               let same_net : on.0 ≡ net =
               one_net nets job.ledger.ledger.nets_stand.disjoint on.0 net on.1 in_nets d.copy.key on.2 (its_key (mark_of d) has number)
               in
-              let end : d.vertex ≡ on.3.3 = nat_true d.vertex on.3.3 (and_true_left (d.vertex == on.3.3) (d.copy.hop == length on.3.1) on.3.5) in
-              let hop : d.copy.hop ≡ length on.3.1 = nat_true d.copy.hop (length on.3.1) (and_true_right (d.vertex == on.3.3) (d.copy.hop == length on.3.1) on.3.5) in
+              let end : d.vertex ≡ on.3.3 = eqb-true d.vertex on.3.3 ((and_parts (d.vertex == on.3.3) (d.copy.hop == length on.3.1) on.3.5).0) in
+              let hop : d.copy.hop ≡ length on.3.1 = eqb-true d.copy.hop (length on.3.1) ((and_parts (d.vertex == on.3.3) (d.copy.hop == length on.3.1) on.3.5).1) in
               let way : IsWayOn s.setup.machine s.setup.spots net on.3.0 on.3.1 on.3.2 to =
               subst (λ (n : NetPlan). IsWayOn s.setup.machine s.setup.spots n on.3.0 on.3.1 on.3.2 to) same_net
               (subst (λ v. IsWayOn s.setup.machine s.setup.spots on.0 on.3.0 on.3.1 on.3.2 v) (sym end ∙ vertex) on.3.4)
               in
               let long = same_length net in_nets on.3.0 target on.3.1 branch on.3.2 from to way w in
-              both_true (d.copy.packet == i) ((d.vertex == to) && (d.copy.hop == length branch))
-              (nat_same d.copy.packet i number)
-              (both_true (d.vertex == to) (d.copy.hop == length branch) (nat_same d.vertex to vertex) (nat_same d.copy.hop (length branch) (hop ∙ long)))
+              and_from (d.copy.packet == i) ((d.vertex == to) && (d.copy.hop == length branch))
+              (eq-eqb d.copy.packet i number)
+              (and_from (d.vertex == to) (d.copy.hop == length branch) (eq-eqb d.vertex to vertex) (eq-eqb d.copy.hop (length branch) (hop ∙ long)))
 
           back : is_packet_on_trail i from to branch (mark_of d) ≡ true → q d ≡ true
           back yes' =
-              let rest' = and_true_right (d.copy.packet == i) ((d.vertex == to) && (d.copy.hop == length branch)) yes' in
-              both_true (d.copy.packet == i) (d.vertex == to)
-              (and_true_left (d.copy.packet == i) ((d.vertex == to) && (d.copy.hop == length branch)) yes')
-              (and_true_left (d.vertex == to) (d.copy.hop == length branch) rest')
+              let rest' = (and_parts (d.copy.packet == i) ((d.vertex == to) && (d.copy.hop == length branch)) yes').1 in
+              and_from (d.copy.packet == i) (d.vertex == to)
+              ((and_parts (d.copy.packet == i) ((d.vertex == to) && (d.copy.hop == length branch)) yes').0)
+              ((and_parts (d.vertex == to) (d.copy.hop == length branch) rest').0)
 
   pub delivered_as_expected : AreAsExpected s nets packets
   delivered_as_expected = record { no_other = asked_for; each_once = each_once }

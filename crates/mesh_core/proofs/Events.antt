@@ -2,6 +2,8 @@
 use Rattle.std.proofs.Common.{◌≡◌, ℕ, List, [], ◌∷◌, ◌++◌, map, Bool, true, false, ◌&&◌, not, if◌then◌else◌, Option, Some, None, refl, ap, sym, ◌∙◌, subst, inl, inr, ◌||◌, append-nil}
 use Rattle.std.specs.List.{slice_get, slice_set, slice_index_or, list_any}
 use Rattle.std.proofs.lemmas.Option.{slice_get_within, get_or_from_slice_get}
+use Rattle.std.proofs.lemmas.Bool.{and_parts}
+use Rattle.list_laws.proofs.Exchange.{TakenOut, PutIn, taken_out_after}
 use Rattle.spin_base.specs.declared.chips.Chip.{Chip}
 use Rattle.spin_base.specs.declared.chips.Dir.{Dir}
 use Rattle.spin_base.specs.declared.chips.Spot.{Spot}
@@ -18,11 +20,11 @@ use Rattle.spin_base.proofs.Equality.{out_eq_true}
 use Rattle.machine_desc.specs.Live.{far_of, index_of, is_live_chip, is_live_link, IsInside, IsSite}
 use Rattle.machine_desc.proofs.Far.{live_ends, live_inside, far_inside}
 use Rattle.machine_desc.proofs.Sites.{site_parts}
-use Rattle.mesh_core.specs.State.{State, Held, IsMesh, Behind, input, core, nowhere, behind, behind_link, core_of, queue_at, vertex_behind}
+use Rattle.mesh_core.specs.State.{State, Held, IsMesh, Behind, input, core, behind, behind_link, core_of, queue_at, vertex_behind}
 use Rattle.mesh_core.specs.Step.{step_of, inject_of, take_of, send_of, dump_of, collect_of, has_room, has_room_behind, push_behind, push_at, in_hand as held_for, without, serves, after_serving, outputs, onward}
 use Rattle.mesh_core.specs.Trail.{unsent, in_queue, in_hand, at_core, delivered, dumped, Mark}
 use Rattle.mesh_core.specs.Ledger.{marks_of, hand_marks}
-use Rattle.mesh_core.proofs.Exchange.{TakenOut, PutIn, taken_out_after}
+use Rattle.mesh_core.proofs.Fixed.{push_behind_setup}
 use Rattle.mesh_core.proofs.Moves.{mark, Crosses, Exchange, unsent_out, input_out, input_in, hand_out, hand_in, core_out, core_in, delivered_in, dumped_in, hand_marks-held}
 
 -- ---- a queue with room is there
@@ -34,20 +36,6 @@ room_is_there capacity None room = cc
 appended_is : (lists : List (List McCopy)) (i : ℕ) (k : McCopy) (q : Option (List McCopy)) (l : List McCopy) → q ≡ Some l → push_at lists i k q ≡ slice_set lists i (l ++ k ∷ [])
 appended_is lists i k (Some l') l e = let same : l' ≡ l = cc in ap (λ v. slice_set lists i (v ++ k ∷ [])) same
 appended_is lists i k None l e = cc
-
--- a copy that arrives changes nothing that a mesh never changes
-pub push_behind_setup : (s : State) (b : Behind) (k : McCopy) → (push_behind s b k).setup ≡ s.setup
-push_behind_setup s (input i) k = refl
-push_behind_setup s (core v) k = refl
-push_behind_setup s nowhere k = refl
-
-pub and_true_left : (a b : Bool) → (a && b) ≡ true → a ≡ true
-and_true_left true b e = refl
-and_true_left false b e = e
-
-pub and_true_right : (a b : Bool) → (a && b) ≡ true → b ≡ true
-and_true_right true b e = e
-and_true_right false b e = cc
 
 -- the copy that arrives in an input queue with room
 arrives_at_input : (s : State) (c : Chip) (port : Port) → IsInside s.setup.machine c → (k : McCopy) →
@@ -213,8 +201,8 @@ arrives s c (Core p) k room = arrives_at_vertex s c (Core p) k (λ d same. cc) (
 serves_parts : (s : State) (c : Chip) (o : Out) (h : Held) → serves s c o (Some (Some h)) ≡ true →
     IsInside s.setup.machine c × (list_any (out_eq o) h.outs ≡ true)
 serves_parts s c o h serving = (
-  live_inside s.setup.machine c (and_true_left (is_live_chip s.setup.machine c) (list_any (out_eq o) h.outs) serving),
-  and_true_right (is_live_chip s.setup.machine c) (list_any (out_eq o) h.outs) serving,
+  live_inside s.setup.machine c ((and_parts (is_live_chip s.setup.machine c) (list_any (out_eq o) h.outs) serving).0),
+  (and_parts (is_live_chip s.setup.machine c) (list_any (out_eq o) h.outs) serving).1,
 )
 
 send_by : (s : State) (c : Chip) (o : Out) (h : Held) → slice_get s.hands (index_of s.setup.machine c) ≡ Some (Some h) →

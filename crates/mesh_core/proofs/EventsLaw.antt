@@ -1,7 +1,9 @@
 -- The ledger of copies is kept by every event, by every list of events and by putting a copy back: for a list of nets, for
 -- asked packets and for a job.
-use Rattle.std.proofs.Common.{◌≡◌, ℕ, List, [], ◌∷◌, Bool, true, false, Option, Some, None, refl, sym, ap, ◌∙◌, subst, unwrap_or, if◌then◌else◌}
+use Rattle.std.proofs.Common.{◌≡◌, ℕ, List, [], ◌∷◌, Bool, true, false, Option, Some, None, refl, sym, ◌∙◌, subst, unwrap_or, if◌then◌else◌}
 use Rattle.std.specs.List.{Contains}
+use Rattle.list_laws.proofs.Exchange.{among_taken_out}
+use Rattle.list_laws.proofs.Members.{among_contains}
 use Rattle.spin_base.specs.declared.copies.DumpRec.{DumpRec}
 use Rattle.spin_base.specs.declared.copies.Event.{Event}
 use Rattle.spin_base.specs.declared.copies.Packet.{Packet}
@@ -14,8 +16,8 @@ use Rattle.mesh_core.specs.Trail.{Mark, dumped}
 use Rattle.mesh_core.specs.Ledger.{marks_of, Label, Asked, label_of, MeetsLedger, MeetsLedgerFor}
 use Rattle.mesh_core.specs.Opened.{asked_by, MeetsJobLedger}
 use Rattle.mesh_core.proofs.Changes.{IsMesh-dumped}
-use Rattle.mesh_core.proofs.Events.{event_exchange, arrives, push_behind_setup}
-use Rattle.mesh_core.proofs.Exchange.{among_contains, among_taken_out}
+use Rattle.mesh_core.proofs.Events.{event_exchange, arrives}
+use Rattle.mesh_core.proofs.Fixed.{push_behind_setup}
 use Rattle.mesh_core.proofs.Keeping.{IsMesh-step_of, IsMesh-push_behind, may_wait-behind}
 use Rattle.mesh_core.proofs.LedgerLaw.{Bag, bag_of_event, bag_keeps_ledger, bag_adds_no_packet, bag_keeps_packets, right_before, right_small}
 use Rattle.mesh_core.proofs.Moves.{mark, Exchange, dumped_out}

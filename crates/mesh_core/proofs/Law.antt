@@ -1,6 +1,11 @@
 -- A move keeps what the ledger says of one net: what comes in the place of a mark stands on the same trails.
-use Rattle.std.proofs.Common.{◌≡◌, ℕ, ◌+◌, ◌<◌, ◌≤◌, suc, zero, List, [], ◌∷◌, map, filter, Bool, true, false, ◌==◌, ◌&&◌, if◌then◌else◌, cond, Option, Some, None, refl, ap, sym, ◌∙◌, subst, arith, inl, inr, length, min, count_by, nat_lt}
+use Rattle.std.proofs.Common.{◌≡◌, ℕ, ◌+◌, ◌<◌, ◌≤◌, suc, List, [], ◌∷◌, map, Bool, true, false, ◌==◌, ◌&&◌, if◌then◌else◌, Option, Some, None, refl, ap, sym, ◌∙◌, subst, arith, inl, inr, length, min, count_by, nat_lt}
 use Rattle.std.specs.List.{slice_get, Contains}
+use Rattle.list_laws.proofs.Counts.{count_by-map, count_by-cons, count_by-none}
+use Rattle.list_laws.proofs.Members.{Among, among_filter}
+use Rattle.list_laws.proofs.Pairs.{AllPairs-apart}
+use Rattle.list_laws.proofs.Places.{slice_get_there}
+use Rattle.std.proofs.Math.Nat.{add-zero}
 use Rattle.spin_base.specs.declared.chips.Chip.{Chip}
 use Rattle.spin_base.specs.declared.chips.Dir.{Dir}
 use Rattle.spin_base.specs.declared.chips.Spot.{Spot}
@@ -18,7 +23,7 @@ use Rattle.spin_base.proofs.Equality.{chip_eq_same, chip_eq_true, port_eq_same, 
 use Rattle.spin_base.proofs.Once.{outs_once}
 use Rattle.spin_base.proofs.Outputs.{no_high_bit}
 use Rattle.std.specs.Int.{bit_at}
-use Rattle.std.proofs.lemmas.Bool.{ltb-true, ltb-false}
+use Rattle.std.proofs.lemmas.Bool.{ltb-true, ltb-false, and_parts, eqb-true, eq-eqb, and_from}
 use Rattle.std.proofs.lemmas.List.Elements.{All-contains}
 use Rattle.std.proofs.lemmas.Option.{slice_get_within, get_or_from_slice_get}
 use Rattle.machine_desc.specs.declared.trees.Edge.{Edge}
@@ -28,7 +33,6 @@ use Rattle.machine_desc.proofs.Branches.{ComesBy, comes_by, exit_leads, ExitLead
 use Rattle.machine_desc.proofs.TreeLemmas.{one_edge_into}
 use Rattle.machine_desc.proofs.Sites.{end_is_no_live_link, same_site}
 use Rattle.machine_desc.proofs.Far.{opposite_of-opposite}
-use Rattle.machine_desc.proofs.Live.{count_by-map}
 use Rattle.net_tables.specs.declared.nets.NetPlan.{NetPlan}
 use Rattle.net_tables.specs.Outputs.{is_wanted, ComesIn}
 use Rattle.net_tables.specs.RightTables.{IsKeyOf, table_at}
@@ -36,10 +40,8 @@ use Rattle.mesh_core.specs.State.{State, vertex_behind}
 use Rattle.mesh_core.specs.Step.{last_hop, onward, outputs}
 use Rattle.mesh_core.specs.Trail.{Station, unsent, in_queue, in_hand, at_core, delivered, dumped, Mark, comes_in_there, leaves_there, on_trail, is_on_trail}
 use Rattle.net_tables.specs.NetsOn.{IsWayOn}
-use Rattle.mesh_core.proofs.Events.{and_true_left, and_true_right}
-use Rattle.mesh_core.proofs.Exchange.{Among, count_by-cons}
 use Rattle.mesh_core.proofs.Moves.{mark, Crosses, IsMove, IsMoveOf}
-use Rattle.mesh_core.proofs.Ways.{Stands, nat_true, nat_same, both_true, same_test, vertex_at_stands, vertex_there, vertex_behind_stands, one_index, target_site, short_branch, onward_hop, place_below, one_place, branch_comes_in, exit_wanted, exit_is_output, wanted_on_branch}
+use Rattle.mesh_core.proofs.Ways.{Stands, same_test, vertex_at_stands, vertex_there, vertex_behind_stands, target_site, short_branch, onward_hop, one_place, branch_comes_in, exit_wanted, exit_is_output, wanted_on_branch}
 
 -- ---- what the tests on a trail say
 
@@ -53,15 +55,15 @@ leaves_parts branch hop c o on = by_exit (slice_get branch hop) refl on
 
     by_exit : (x : Option Exit) → slice_get branch hop ≡ x → leaves_there c o x ≡ true → slice_get branch hop ≡ Some (record { chip = c; out = o })
     by_exit (Some x) at on' =
-        let same_c : x.chip ≡ c = chip_eq_true x.chip c (and_true_left (chip_eq x.chip c) (out_eq x.out o) on') in
-        let same_o : x.out ≡ o = out_eq_true x.out o (and_true_right (chip_eq x.chip c) (out_eq x.out o) on') in
+        let same_c : x.chip ≡ c = chip_eq_true x.chip c ((and_parts (chip_eq x.chip c) (out_eq x.out o) on').0) in
+        let same_o : x.out ≡ o = out_eq_true x.out o ((and_parts (chip_eq x.chip c) (out_eq x.out o) on').1) in
         at ∙ ap Some (same_exit x.chip c x.out o same_c same_o)
     by_exit None at on' = cc
 
 -- and the other way round
 pub leaves_from : (branch : List Exit) (hop : ℕ) (c : Chip) (o : Out) → slice_get branch hop ≡ Some (record { chip = c; out = o }) →
     leaves_there c o (slice_get branch hop) ≡ true
-leaves_from branch hop c o at = rw at (both_true (chip_eq c c) (out_eq o o) (chip_eq_same c) (out_eq_same o))
+leaves_from branch hop c o at = rw at (and_from (chip_eq c c) (out_eq o o) (chip_eq_same c) (out_eq_same o))
 
 -- a mark in a queue on a trail: the branch comes in there
 pub record ComesThere (branch : List Exit) (hop : ℕ) (c : Chip) (port : Port) : Type 0 where
@@ -78,8 +80,8 @@ comes_parts branch hop c port on = by_exit (slice_get branch hop) refl on
     by_exit (Some x) at on' = record {
       exit = x;
       at = at;
-      chip = chip_eq_true x.chip c (and_true_left (chip_eq x.chip c) (port_eq (arrival_at branch hop) port) on');
-      port_is = port_eq_true (arrival_at branch hop) port (and_true_right (chip_eq x.chip c) (port_eq (arrival_at branch hop) port) on');
+      chip = chip_eq_true x.chip c ((and_parts (chip_eq x.chip c) (port_eq (arrival_at branch hop) port) on').0);
+      port_is = port_eq_true (arrival_at branch hop) port ((and_parts (chip_eq x.chip c) (port_eq (arrival_at branch hop) port) on').1);
     }
     by_exit None at on' = cc
 
@@ -87,7 +89,7 @@ pub comes_from : (branch : List Exit) (hop : ℕ) (c : Chip) (port : Port) → C
     comes_in_there branch hop c port (slice_get branch hop) ≡ true
 comes_from branch hop c port there =
     rw (there.at)
-    (both_true (chip_eq there.exit.chip c) (port_eq (arrival_at branch hop) port)
+    (and_from (chip_eq there.exit.chip c) (port_eq (arrival_at branch hop) port)
     (ap (λ (d : Chip). chip_eq d c) there.chip ∙ chip_eq_same c)
     (ap (λ (p : Port). port_eq p port) there.port_is ∙ port_eq_same port))
 
@@ -106,22 +108,6 @@ opposite_injective a b e = sym (opposite_of-opposite a) ∙ (ap opposite_of e �
 
 -- ---- one mark comes for one that leaves
 
--- a test that fails counts none
-pub count_none : {X : Type 0} (os : List X) → count_by (λ o. false) os ≡ 0
-count_none [] = refl
-count_none (o ∷ os) = count_by-cons (λ x. false) o os ∙ omega (arith, count_none os)
-
--- what a filter keeps passes its test
-among_filter_by : (p : Out → Bool) (o q : Out) (os : List Out) → (b : Bool) → p q ≡ b → (Among o (filter p os) → p o ≡ true) →
-    Among o (cond b (q ∷ filter p os) (filter p os)) → p o ≡ true
-among_filter_by p o q os true passes later (inl here) = ap p here ∙ passes
-among_filter_by p o q os true passes later (inr rest) = later rest
-among_filter_by p o q os false fails later rest = later rest
-
-among_filter : (p : Out → Bool) (o : Out) (os : List Out) → Among o (filter p os) → p o ≡ true
-among_filter p o [] a = absurd a
-among_filter p o (q ∷ os) a = among_filter_by p o q os (p q) refl (among_filter p o os) a
-
 -- an output that a route has is one that a route can name
 has_is_output : (r : Route) (o : Out) → has r o ≡ true → IsOutput o
 has_is_output r (Link d) yes' = tt
@@ -132,11 +118,8 @@ has_is_output r (Core p) yes' = by_size (nat_lt p 18) refl
     by_size false large =
         let high : 18 ≤ p = ltb-false p 18 large in
         let zero_bit : bit_at r.bits (6 + p) ≡ 0 = no_high_bit r (6 + p) (omega arith) in
-        let one_bit : bit_at r.bits (6 + p) ≡ 1 = nat_true (bit_at r.bits (6 + p)) 1 yes' in
+        let one_bit : bit_at r.bits (6 + p) ≡ 1 = eqb-true (bit_at r.bits (6 + p)) 1 yes' in
         absurd (omega (arith, zero_bit, one_bit))
-
-omega_add : (n : ℕ) → n + 0 ≡ n
-omega_add n = omega arith
 
 module _ (s : State) (net : NetPlan) (stands : Stands s net) where
   -- a way of the net
@@ -150,7 +133,7 @@ module _ (s : State) (net : NetPlan) (stands : Stands s net) where
   -- a hop number on a branch is small
   small_hop : (t : Spot) (xs : List Exit) (from to : ℕ) → Way t xs from to → (hop : ℕ) (x : Exit) → slice_get xs hop ≡ Some x → hop < 4096
   small_hop t xs from to w hop x at =
-      let within : hop < length xs = place_below xs hop x at in
+      let within : hop < length xs = slice_get_within xs hop x at in
       let short : length xs ≤ 4096 = short_branch s net stands t xs w.is_branch in
       omega arith
 
@@ -172,14 +155,14 @@ module _ (s : State) (net : NetPlan) (stands : Stands s net) where
       (v : ℕ) (spot : Spot) (hop : ℕ) → slice_get s.setup.spots v ≡ Some spot → on_trail from to xs hop (unsent v) ≡ true →
       on_trail from' to' ys hop (in_queue spot.chip Local) ≡ on_trail from' to' ys hop (unsent v)
   inject_on t u xs ys from from' to to' w w' v spot hop is_spot on =
-      let is_from : v ≡ from = nat_true v from (and_true_left (v == from) (hop == 0) on) in
-      let is_zero : hop ≡ 0 = nat_true hop 0 (and_true_right (v == from) (hop == 0) on) in
+      let is_from : v ≡ from = eqb-true v from ((and_parts (v == from) (hop == 0) on).0) in
+      let is_zero : hop ≡ 0 = eqb-true hop 0 ((and_parts (v == from) (hop == 0) on).1) in
       let one_from : from ≡ from' = same_source t u xs ys from from' to to' w w' in
       let stands_there : slice_get s.setup.spots from ≡ Some net.source = vertex_at_stands s.setup.spots net.source from w.begins in
       let same_spot : Some spot ≡ Some net.source = sym is_spot ∙ (ap (slice_get s.setup.spots) is_from ∙ stands_there) in
       let spot_is : spot ≡ net.source = cc in
       let right_side : on_trail from' to' ys hop (unsent v) ≡ true =
-      both_true (v == from') (hop == 0) (nat_same v from' (is_from ∙ one_from)) (nat_same hop 0 is_zero)
+      and_from (v == from') (hop == 0) (eq-eqb v from' (is_from ∙ one_from)) (eq-eqb hop 0 is_zero)
       in
       let first = first_exit u ys w'.is_branch in
       let left_side : comes_in_there ys 0 spot.chip Local (slice_get ys 0) ≡ true =
@@ -299,33 +282,28 @@ module _ (s : State) (net : NetPlan) (stands : Stands s net) where
           let same : there.0 ≡ u =
           same_site s.setup.machine there.0 u site (target_site s net stands u w'.is_target) (there.2 ∙ sym chip) (there.3 ∙ out)
           in
-          let same_v : v ≡ to' = one_index s.setup.spots stands.mesh.different v to' u (there.1 ∙ ap Some same) goal in
-          both_true (v == to') (hop + 1 == length ys) (nat_same v to' same_v) (nat_same (hop + 1) (length ys) (omega (arith, last)))
+          let same_v : v ≡ to' = AllPairs-apart s.setup.spots u stands.mesh.different v to' (there.1 ∙ ap Some same) goal in
+          and_from (v == to') (hop + 1 == length ys) (eq-eqb v to' same_v) (eq-eqb (hop + 1) (length ys) (omega (arith, last)))
 
       forth : leaves_there c o (slice_get ys hop) ≡ true → ((v == to') && (hop + 1 == length ys)) ≡ true
       forth on' =
           ends (exit_leads s.setup.machine net.tree.edges u net.tree.root ys hop (record { chip = c; out = o }) w'.is_branch (leaves_parts ys hop c o on'))
 
-      slice_get_there : (zs : List Exit) (i : ℕ) → i < length zs → (x : Exit) × (slice_get zs i ≡ Some x)
-      slice_get_there [] i within = absurd (omega arith)
-      slice_get_there (z ∷ zs) zero within = (z, refl)
-      slice_get_there (z ∷ zs) (suc i) within = slice_get_there zs i (omega arith)
-
       by_end : (x : Exit) → slice_get ys hop ≡ Some x → hop + 1 ≡ length ys → u ≡ there.0 →
           ExitLeads s.setup.machine net.tree.edges u ys hop x → leaves_there c o (slice_get ys hop) ≡ true
       by_end x at last u_is (inl (d, out, in_tree, (y, far, next))) =
-          let past : suc hop < length ys = place_below ys (suc hop) y next in absurd (omega arith)
+          let past : suc hop < length ys = slice_get_within ys (suc hop) y next in absurd (omega arith)
       by_end x at last u_is (inr (chip, out, long)) =
           let same_c : x.chip ≡ c = sym chip ∙ (ap (λ (z : Spot). z.chip) u_is ∙ there.2) in
           let same_o : x.out ≡ o = out ∙ (ap (λ (z : Spot). out_of z.core) u_is ∙ there.3) in
-          rw at (both_true (chip_eq x.chip c) (out_eq x.out o)
+          rw at (and_from (chip_eq x.chip c) (out_eq x.out o)
           (ap (λ (z : Chip). chip_eq z c) same_c ∙ chip_eq_same c)
           (ap (λ (z : Out). out_eq z o) same_o ∙ out_eq_same o))
 
       back : ((v == to') && (hop + 1 == length ys)) ≡ true → leaves_there c o (slice_get ys hop) ≡ true
       back both =
-          let same_v : v ≡ to' = nat_true v to' (and_true_left (v == to') (hop + 1 == length ys) both) in
-          let last : hop + 1 ≡ length ys = nat_true (hop + 1) (length ys) (and_true_right (v == to') (hop + 1 == length ys) both) in
+          let same_v : v ≡ to' = eqb-true v to' ((and_parts (v == to') (hop + 1 == length ys) both).0) in
+          let last : hop + 1 ≡ length ys = eqb-true (hop + 1) (length ys) ((and_parts (v == to') (hop + 1 == length ys) both).1) in
           let target_is : Some u ≡ Some there.0 = sym goal ∙ (ap (slice_get s.setup.spots) (sym same_v) ∙ there.1) in
           let u_is : u ≡ there.0 = cc in
           let within : hop < length ys = omega arith in
@@ -357,7 +335,7 @@ module _ (s : State) (net : NetPlan) (stands : Stands s net) where
 
       by_chip : (x : Exit) → slice_get ys k.hop ≡ Some x → (here : Bool) → chip_eq x.chip c ≡ here →
           count_by (λ o. here && out_eq x.out o) (outs_of route) ≡ (if here && port_eq (arrival_at ys k.hop) port then 1 else 0)
-      by_chip x at false other = count_none (outs_of route)
+      by_chip x at false other = count_by-none (outs_of route)
       by_chip x at true same =
           let x_c : x.chip ≡ c = chip_eq_true x.chip c same in
           let valid : IsOutput x.out = exit_is_output s net u ys w'.is_branch k.hop x at in
@@ -377,11 +355,11 @@ module _ (s : State) (net : NetPlan) (stands : Stands s net) where
       by_exit : (x : Option Exit) → slice_get ys k.hop ≡ x →
           count_by (λ o. leaves_there c o x) (outs_of route) ≡ (if comes_in_there ys k.hop c port x then 1 else 0)
       by_exit (Some x) at = by_chip x at (chip_eq x.chip c) refl
-      by_exit None at = count_none (outs_of route)
+      by_exit None at = count_by-none (outs_of route)
 
   -- one mark in the place of one, with the same test
   one_for_one : (p : Mark → Bool) (x y : Mark) → p y ≡ p x → count_by p (y ∷ []) ≡ (if p x then 1 else 0)
-  one_for_one p x y same = count_by-cons p y [] ∙ (omega_add (if p y then 1 else 0) ∙ ap (λ b. if b then 1 else 0) same)
+  one_for_one p x y same = count_by-cons p y [] ∙ (add-zero (if p y then 1 else 0) ∙ ap (λ b. if b then 1 else 0) same)
 
   -- What comes stands on each trail of the net as often as what leaves.
   pub move_counts : (t u : Spot) (xs ys : List Exit) (from from' to to' : ℕ) → Way t xs from to → Way u ys from' to' →
@@ -437,7 +415,7 @@ module _ (s : State) (net : NetPlan) (stands : Stands s net) where
       let there : ComesThere xs k.hop c port = comes_parts xs k.hop c port on in
       let route : Route = lookup (table_at s.setup.machine s.setup.tables c) k.key port in
       let in_route : Among o (outs_of route) = subst (λ (l : List Out). Among o l) (outputs_are t xs from to w c port k on) given in
-      let has_it : has route o ≡ true = among_filter (has route) o all_outs in_route in
+      let has_it : has route o ≡ true = (among_filter (has route) o all_outs in_route).1 in
       let comes_in : ComesIn s.setup.machine net.tree.root net.tree.edges c port =
       subst (λ (d : Chip). ComesIn s.setup.machine net.tree.root net.tree.edges d port) there.chip
       (subst (λ (p : Port). ComesIn s.setup.machine net.tree.root net.tree.edges there.exit.chip p) there.port_is

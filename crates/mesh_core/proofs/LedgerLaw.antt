@@ -2,8 +2,12 @@
 use Rattle.std.proofs.Common.{◌≡◌, ℕ, ◌+◌, ◌<◌, ◌≤◌, List, [], ◌∷◌, Bool, true, false, ◌==◌, ◌&&◌, if◌then◌else◌, refl, ap, sym, ◌∙◌, subst, arith, inl, inr, ◌⊎◌, length, count_by, suc, zero}
 use Rattle.std.specs.List.{slice_index_or, All, Contains}
 use Rattle.std.proofs.lemmas.List.Elements.{All-contains}
-use Rattle.std.proofs.lemmas.Bool.{cases_order}
+use Rattle.std.proofs.lemmas.Bool.{cases_order, and_parts, eqb-true}
 use Rattle.std.proofs.lemmas.List.{get_or_default}
+use Rattle.std.proofs.lemmas.Option.{slice_get_within}
+use Rattle.list_laws.proofs.Counts.{count_by-cons, count_by-none}
+use Rattle.list_laws.proofs.Exchange.{count_taken_out, count_put_in}
+use Rattle.list_laws.proofs.Members.{Among, among_contains, contains_among}
 use Rattle.spin_base.specs.declared.chips.Spot.{Spot}
 use Rattle.machine_desc.specs.RoutingTree.{IsRoutingTree}
 use Rattle.machine_desc.specs.Branch.{Exit}
@@ -14,12 +18,11 @@ use Rattle.mesh_core.specs.State.{Setup, State, IsMesh}
 use Rattle.mesh_core.specs.Step.{last_hop}
 use Rattle.mesh_core.specs.Trail.{Station, unsent, in_queue, in_hand, at_core, delivered, dumped, Mark, on_trail, is_on_trail, is_packet_on_trail}
 use Rattle.mesh_core.specs.Ledger.{marks_of, Label, MeetsLedger}
-use Rattle.mesh_core.proofs.Exchange.{Among, among_contains, contains_among, count_taken_out, count_put_in, count_by-cons}
+use Rattle.mesh_core.proofs.Counting.{counts_one, count_some, counted, count_agree}
 use Rattle.mesh_core.proofs.Moves.{Exchange, IsMove}
 use Rattle.mesh_core.proofs.MarkTests.{mark_eq, mark_eq_same, mark_eq_true, rank, move_raises}
-use Rattle.mesh_core.proofs.Events.{and_true_left, and_true_right}
-use Rattle.mesh_core.proofs.Ways.{Stands, nat_true, short_branch, place_below}
-use Rattle.mesh_core.proofs.Law.{OnSomeTrail, move_comes, move_counts, count_none, comes_parts, leaves_parts}
+use Rattle.mesh_core.proofs.Ways.{Stands, short_branch}
+use Rattle.mesh_core.proofs.Law.{OnSomeTrail, move_comes, move_counts, comes_parts, leaves_parts}
 
 -- ---- the net of a key
 
@@ -44,13 +47,6 @@ one_net nets disjoint a b in_a in_b key key_a key_b = elim (cases_order in_a.0 i
 
 -- ---- counts of one packet
 
-count_agree : (p q : Mark → Bool) (xs : List Mark) → ((y : Mark) → Among y xs → p y ≡ q y) → count_by p xs ≡ count_by q xs
-count_agree p q [] same = refl
-count_agree p q (x ∷ xs) same =
-    count_by-cons p x xs
-    ∙ (ap (λ b. (if b then 1 else 0) + count_by p xs) (same x (inl refl))
-    ∙ (ap (λ n. (if q x then 1 else 0) + n) (count_agree p q xs (λ y a. same y (inr a))) ∙ sym (count_by-cons q x xs)))
-
 -- marks that are all of one packet, counted by packet and trail
 count_of_packet : (n m from to : ℕ) (branch : List Exit) (come : List Mark) → ((y : Mark) → Among y come → y.copy.packet ≡ m) →
     (same : Bool) → (m == n) ≡ same → (leaves : Mark) → leaves.copy.packet ≡ m →
@@ -63,7 +59,7 @@ count_of_packet n m from to branch come of_m true is leaves leaves_m counts =
 count_of_packet n m from to branch come of_m false is leaves leaves_m counts =
     count_agree (is_packet_on_trail n from to branch) (λ y. false) come
     (λ y a. ap (λ b. b && is_on_trail from to branch y) (ap (λ k. k == n) (of_m y a) ∙ is))
-    ∙ (count_none come ∙ ap (λ b. if b && is_on_trail from to branch leaves then 1 else 0) (sym (ap (λ k. k == n) leaves_m ∙ is)))
+    ∙ (count_by-none come ∙ ap (λ b. if b && is_on_trail from to branch leaves then 1 else 0) (sym (ap (λ k. k == n) leaves_m ∙ is)))
 
 -- ---- bags of moves
 
@@ -102,18 +98,6 @@ bag_of_event s t e small = record {
 }
 
 -- ---- counts and members
-
-counts_one : (b : Bool) → b ≡ true → (let n : ℕ = if b then 1 else 0 in n ≡ 1)
-counts_one true e = refl
-counts_one false e = cc
-
-count_of_among : (p : Mark → Bool) (x : Mark) (xs : List Mark) → p x ≡ true → Among x xs → 1 ≤ count_by p xs
-count_of_among p x [] passes a = absurd a
-count_of_among p x (y ∷ xs) passes (inl here) =
-    let first = counts_one (p y) (ap p (sym here) ∙ passes) in
-    omega (arith, count_by-cons p y xs)
-count_of_among p x (y ∷ xs) passes (inr later) =
-    let rest = count_of_among p x xs passes later in omega (arith, count_by-cons p y xs)
 
 among_of_count_by : (x y : Mark) (xs : List Mark) (b : Bool) → mark_eq x y ≡ b → (1 ≤ count_by (mark_eq x) xs → Among x xs) →
     1 ≤ (if b then 1 else 0) + count_by (mark_eq x) xs → Among x (y ∷ xs)
@@ -192,15 +176,15 @@ module _ (s t : State) (nets : List NetPlan) (labels : ℕ → Label)
       omega arith
     where
       hop_on_trail : (from to : ℕ) (branch : List Exit) (hop : ℕ) (at : Station) → on_trail from to branch hop at ≡ true → hop ≤ length branch
-      hop_on_trail from to branch hop (unsent v) on = let zero_hop = nat_true hop 0 (and_true_right (v == from) (hop == 0) on) in omega arith
+      hop_on_trail from to branch hop (unsent v) on = let zero_hop = eqb-true hop 0 ((and_parts (v == from) (hop == 0) on).1) in omega arith
       hop_on_trail from to branch hop (in_queue c port) on =
-          let there = comes_parts branch hop c port on in let below = place_below branch hop there.exit there.at in omega arith
+          let there = comes_parts branch hop c port on in let below = slice_get_within branch hop there.exit there.at in omega arith
       hop_on_trail from to branch hop (in_hand c o) on =
-          let below = place_below branch hop (record { chip = c; out = o }) (leaves_parts branch hop c o on) in omega arith
-      hop_on_trail from to branch hop (at_core v) on = let last = nat_true hop (length branch) (and_true_right (v == to) (hop == length branch) on) in omega arith
-      hop_on_trail from to branch hop (delivered v) on = let last = nat_true hop (length branch) (and_true_right (v == to) (hop == length branch) on) in omega arith
+          let below = slice_get_within branch hop (record { chip = c; out = o }) (leaves_parts branch hop c o on) in omega arith
+      hop_on_trail from to branch hop (at_core v) on = let last = eqb-true hop (length branch) ((and_parts (v == to) (hop == length branch) on).1) in omega arith
+      hop_on_trail from to branch hop (delivered v) on = let last = eqb-true hop (length branch) ((and_parts (v == to) (hop == length branch) on).1) in omega arith
       hop_on_trail from to branch hop (dumped c o) on =
-          let below = place_below branch hop (record { chip = c; out = o }) (leaves_parts branch hop c o on) in omega arith
+          let below = slice_get_within branch hop (record { chip = c; out = o }) (leaves_parts branch hop c o on) in omega arith
 
   module _ (bag : Bag s t) where
     abbrev AmongMoves : Moved s → List (Moved s) → Type 0
@@ -241,7 +225,7 @@ module _ (s t : State) (nets : List NetPlan) (labels : ℕ → Label)
 
     now_occurs : (k : Mark) → Among k (marks_of t) → Occurs k
     now_occurs k a =
-        let some = count_of_among (mark_eq k) k (marks_of t) (mark_eq_same k) a in
+        let some = count_some (mark_eq k) k (marks_of t) (mark_eq_same k) a in
         let even = bag.balance (mark_eq k) in
         occurs_of_count k (omega arith)
 
@@ -274,7 +258,7 @@ module _ (s t : State) (nets : List NetPlan) (labels : ℕ → Label)
         counted : (v.leaves.copy.packet == n) ≡ true →
             count_by (is_on_trail from to branch) v.come ≡ (if is_on_trail from to branch v.leaves then 1 else 0)
         counted same =
-            let number : v.leaves.copy.packet ≡ n = nat_true v.leaves.copy.packet n same in
+            let number : v.leaves.copy.packet ≡ n = eqb-true v.leaves.copy.packet n same in
             let its_key : v.leaves.copy.key ≡ (labels n).key = r.key ∙ ap (λ i. (labels i).key) number in
             let one : r.net ≡ net =
             one_net nets ledger.nets_stand.disjoint r.net net r.in_nets has v.leaves.copy.key r.is_key (subst (λ i. IsKeyOf net.block i) (sym its_key) key)
@@ -352,14 +336,5 @@ module _ (s t : State) (nets : List NetPlan) (labels : ℕ → Label)
         let even = bag.balance p in
         let moved = all_moves n r.net r.in_nets label_key r.trail.target r.trail.branch r.trail.from r.trail.to r.trail.way bag.moves (λ v a. a) in
         let before = ledger.once_on_each k has r.net r.in_nets r.is_key r.trail.target r.trail.branch r.trail.from r.trail.to r.trail.way in
-        let found = counted_one p (marks_of t) (omega arith) in
-        (found.0, among_contains found.0 (marks_of t) found.1, nat_true found.0.copy.packet n (and_true_left (found.0.copy.packet == n) _ found.2))
-      where
-        counted_by : (q : Mark → Bool) (x : Mark) (xs : List Mark) (b : Bool) → q x ≡ b → (1 ≤ count_by q xs → (y : Mark) × Among y xs × (q y ≡ true)) →
-            1 ≤ (if b then 1 else 0) + count_by q xs → (y : Mark) × Among y (x ∷ xs) × (q y ≡ true)
-        counted_by q x xs true passes later some = (x, inl refl, passes)
-        counted_by q x xs false fails later some = let rest = later (omega arith) in (rest.0, inr rest.1, rest.2)
-
-        counted_one : (q : Mark → Bool) (xs : List Mark) → 1 ≤ count_by q xs → (y : Mark) × Among y xs × (q y ≡ true)
-        counted_one q [] some = absurd (omega arith)
-        counted_one q (x ∷ xs) some = counted_by q x xs (q x) refl (counted_one q xs) (subst (λ i. 1 ≤ i) (count_by-cons q x xs) some)
+        let found = counted p (marks_of t) (omega arith) in
+        (found.0, among_contains found.0 (marks_of t) found.1, eqb-true found.0.copy.packet n ((and_parts (found.0.copy.packet == n) (is_on_trail r.trail.from r.trail.to r.trail.branch found.0) found.2).0))

@@ -1,5 +1,7 @@
 -- A test of equality on marks, and a number that each move raises.
 use Rattle.std.proofs.Common.{◌≡◌, ℕ, ◌+◌, ◌*◌, ◌<◌, ◌≤◌, List, [], ◌∷◌, map, Bool, true, false, ◌==◌, ◌&&◌, if◌then◌else◌, Option, Some, None, refl, ap, sym, arith, inl, inr, min, subst}
+use Rattle.std.proofs.lemmas.Bool.{and_parts, eqb-true, eq-eqb, and_from}
+use Rattle.list_laws.proofs.Members.{Among}
 use Rattle.spin_base.specs.declared.chips.Chip.{Chip}
 use Rattle.spin_base.specs.declared.chips.Port.{Port}
 use Rattle.spin_base.specs.declared.chips.Port.TheVariants.{Link as ByLink, Local}
@@ -14,10 +16,7 @@ use Rattle.spin_base.proofs.Equality.{chip_eq_same, chip_eq_true, port_eq_same, 
 use Rattle.mesh_core.specs.State.{State}
 use Rattle.mesh_core.specs.Step.{onward, last_hop}
 use Rattle.mesh_core.specs.Trail.{Station, unsent, in_queue, in_hand, at_core, delivered, dumped, Mark}
-use Rattle.mesh_core.proofs.Exchange.{Among}
 use Rattle.mesh_core.proofs.Moves.{mark, IsMove, IsMoveOf, Crosses}
-use Rattle.mesh_core.proofs.Events.{and_true_left, and_true_right}
-use Rattle.mesh_core.proofs.Ways.{nat_true, nat_same, both_true}
 
 payload_eq : Option ℕ → Option ℕ → Bool
 payload_eq (Some a) (Some b) = a == b
@@ -27,12 +26,12 @@ payload_eq None None = true
 
 payload_same : (a : Option ℕ) → payload_eq a a ≡ true
 unfolding payload_eq
-payload_same (Some a) = nat_same a a refl
+payload_same (Some a) = eq-eqb a a refl
 payload_same None = refl
 
 payload_true : (a b : Option ℕ) → payload_eq a b ≡ true → a ≡ b
 unfolding payload_eq
-payload_true (Some a) (Some b) e = ap Some (nat_true a b e)
+payload_true (Some a) (Some b) e = ap Some (eqb-true a b e)
 payload_true (Some a) None e = cc
 payload_true None (Some b) e = cc
 payload_true None None e = refl
@@ -48,27 +47,27 @@ station_eq _ _ = false
 
 station_same : (a : Station) → station_eq a a ≡ true
 unfolding station_eq
-station_same (unsent v) = nat_same v v refl
-station_same (in_queue c p) = both_true (chip_eq c c) (port_eq p p) (chip_eq_same c) (port_eq_same p)
-station_same (in_hand c o) = both_true (chip_eq c c) (out_eq o o) (chip_eq_same c) (out_eq_same o)
-station_same (at_core v) = nat_same v v refl
-station_same (delivered v) = nat_same v v refl
-station_same (dumped c o) = both_true (chip_eq c c) (out_eq o o) (chip_eq_same c) (out_eq_same o)
+station_same (unsent v) = eq-eqb v v refl
+station_same (in_queue c p) = and_from (chip_eq c c) (port_eq p p) (chip_eq_same c) (port_eq_same p)
+station_same (in_hand c o) = and_from (chip_eq c c) (out_eq o o) (chip_eq_same c) (out_eq_same o)
+station_same (at_core v) = eq-eqb v v refl
+station_same (delivered v) = eq-eqb v v refl
+station_same (dumped c o) = and_from (chip_eq c c) (out_eq o o) (chip_eq_same c) (out_eq_same o)
 
 two_alike : {A B C : Type 0} (f : A → B → C) (a a' : A) (b b' : B) → a ≡ a' → b ≡ b' → f a b ≡ f a' b'
 two_alike f a a' b b' e e' = cc
 
 station_true : (a b : Station) → station_eq a b ≡ true → a ≡ b
 unfolding station_eq
-station_true (unsent v) (unsent w) e = ap unsent (nat_true v w e)
+station_true (unsent v) (unsent w) e = ap unsent (eqb-true v w e)
 station_true (in_queue c p) (in_queue d q) e =
-    two_alike in_queue c d p q (chip_eq_true c d (and_true_left (chip_eq c d) (port_eq p q) e)) (port_eq_true p q (and_true_right (chip_eq c d) (port_eq p q) e))
+    two_alike in_queue c d p q (chip_eq_true c d ((and_parts (chip_eq c d) (port_eq p q) e).0)) (port_eq_true p q ((and_parts (chip_eq c d) (port_eq p q) e).1))
 station_true (in_hand c o) (in_hand d p) e =
-    two_alike in_hand c d o p (chip_eq_true c d (and_true_left (chip_eq c d) (out_eq o p) e)) (out_eq_true o p (and_true_right (chip_eq c d) (out_eq o p) e))
-station_true (at_core v) (at_core w) e = ap at_core (nat_true v w e)
-station_true (delivered v) (delivered w) e = ap delivered (nat_true v w e)
+    two_alike in_hand c d o p (chip_eq_true c d ((and_parts (chip_eq c d) (out_eq o p) e).0)) (out_eq_true o p ((and_parts (chip_eq c d) (out_eq o p) e).1))
+station_true (at_core v) (at_core w) e = ap at_core (eqb-true v w e)
+station_true (delivered v) (delivered w) e = ap delivered (eqb-true v w e)
 station_true (dumped c o) (dumped d p) e =
-    two_alike dumped c d o p (chip_eq_true c d (and_true_left (chip_eq c d) (out_eq o p) e)) (out_eq_true o p (and_true_right (chip_eq c d) (out_eq o p) e))
+    two_alike dumped c d o p (chip_eq_true c d ((and_parts (chip_eq c d) (out_eq o p) e).0)) (out_eq_true o p ((and_parts (chip_eq c d) (out_eq o p) e).1))
 station_true _ _ e = cc
 
 copy_eq : McCopy → McCopy → Bool
@@ -85,11 +84,11 @@ mark_eq a b = copy_eq a.copy b.copy && station_eq a.station b.station
 pub mark_eq_same : (a : Mark) → mark_eq a a ≡ true
 unfolding mark_eq copy_eq
 mark_eq_same a =
-    both_true (copy_eq a.copy a.copy) (station_eq a.station a.station)
-    (both_true (a.copy.packet == a.copy.packet) ((a.copy.key == a.copy.key) && (payload_eq a.copy.payload a.copy.payload && (a.copy.hop == a.copy.hop)))
-    (nat_same a.copy.packet a.copy.packet refl)
-    (both_true (a.copy.key == a.copy.key) (payload_eq a.copy.payload a.copy.payload && (a.copy.hop == a.copy.hop)) (nat_same a.copy.key a.copy.key refl)
-    (both_true (payload_eq a.copy.payload a.copy.payload) (a.copy.hop == a.copy.hop) (payload_same a.copy.payload) (nat_same a.copy.hop a.copy.hop refl))))
+    and_from (copy_eq a.copy a.copy) (station_eq a.station a.station)
+    (and_from (a.copy.packet == a.copy.packet) ((a.copy.key == a.copy.key) && (payload_eq a.copy.payload a.copy.payload && (a.copy.hop == a.copy.hop)))
+    (eq-eqb a.copy.packet a.copy.packet refl)
+    (and_from (a.copy.key == a.copy.key) (payload_eq a.copy.payload a.copy.payload && (a.copy.hop == a.copy.hop)) (eq-eqb a.copy.key a.copy.key refl)
+    (and_from (payload_eq a.copy.payload a.copy.payload) (a.copy.hop == a.copy.hop) (payload_same a.copy.payload) (eq-eqb a.copy.hop a.copy.hop refl))))
     (station_same a.station)
 
 marks_alike : (c d : McCopy) (a b : Station) → c ≡ d → a ≡ b → mark c a ≡ mark d b
@@ -98,16 +97,16 @@ marks_alike c d a b e f = cc
 pub mark_eq_true : (a b : Mark) → mark_eq a b ≡ true → a ≡ b
 unfolding mark_eq copy_eq
 mark_eq_true a b e =
-    let copies = and_true_left (copy_eq a.copy b.copy) (station_eq a.station b.station) e in
-    let stations = and_true_right (copy_eq a.copy b.copy) (station_eq a.station b.station) e in
-    let later1 = and_true_right (a.copy.packet == b.copy.packet) ((a.copy.key == b.copy.key) && (payload_eq a.copy.payload b.copy.payload && (a.copy.hop == b.copy.hop))) copies in
-    let later2 = and_true_right (a.copy.key == b.copy.key) (payload_eq a.copy.payload b.copy.payload && (a.copy.hop == b.copy.hop)) later1 in
+    let copies = (and_parts (copy_eq a.copy b.copy) (station_eq a.station b.station) e).0 in
+    let stations = (and_parts (copy_eq a.copy b.copy) (station_eq a.station b.station) e).1 in
+    let later1 = (and_parts (a.copy.packet == b.copy.packet) ((a.copy.key == b.copy.key) && (payload_eq a.copy.payload b.copy.payload && (a.copy.hop == b.copy.hop))) copies).1 in
+    let later2 = (and_parts (a.copy.key == b.copy.key) (payload_eq a.copy.payload b.copy.payload && (a.copy.hop == b.copy.hop)) later1).1 in
     let same_copy : a.copy ≡ b.copy =
     copies_alike a.copy.packet b.copy.packet a.copy.key b.copy.key a.copy.hop b.copy.hop a.copy.payload b.copy.payload
-    (nat_true a.copy.packet b.copy.packet (and_true_left (a.copy.packet == b.copy.packet) _ copies))
-    (nat_true a.copy.key b.copy.key (and_true_left (a.copy.key == b.copy.key) _ later1))
-    (payload_true a.copy.payload b.copy.payload (and_true_left (payload_eq a.copy.payload b.copy.payload) (a.copy.hop == b.copy.hop) later2))
-    (nat_true a.copy.hop b.copy.hop (and_true_right (payload_eq a.copy.payload b.copy.payload) (a.copy.hop == b.copy.hop) later2))
+    (eqb-true a.copy.packet b.copy.packet ((and_parts (a.copy.packet == b.copy.packet) _ copies).0))
+    (eqb-true a.copy.key b.copy.key ((and_parts (a.copy.key == b.copy.key) _ later1).0))
+    (payload_true a.copy.payload b.copy.payload ((and_parts (payload_eq a.copy.payload b.copy.payload) (a.copy.hop == b.copy.hop) later2).0))
+    (eqb-true a.copy.hop b.copy.hop ((and_parts (payload_eq a.copy.payload b.copy.payload) (a.copy.hop == b.copy.hop) later2).1))
     in
     marks_alike a.copy b.copy a.station b.station same_copy (station_true a.station b.station stations)
 
@@ -145,9 +144,9 @@ dump_raises false c o = omega arith
 onward_raises : (k : McCopy) (at to : Station) → ((last : Bool) → stage last at ≤ 3) → stage true at ≤ 2 → ((last : Bool) → 1 ≤ stage last to) → stage true to ≡ 3 → k.hop ≤ last_hop →
     (last : Bool) → (k.hop == last_hop) ≡ last → 5 * k.hop + stage last at < 5 * min (k.hop + 1) last_hop + stage (min (k.hop + 1) last_hop == last_hop) to
 onward_raises k at to to_three to_two from_one three within true is =
-    let here : k.hop ≡ last_hop = nat_true k.hop last_hop is in
+    let here : k.hop ≡ last_hop = eqb-true k.hop last_hop is in
     let there : min (k.hop + 1) last_hop ≡ last_hop = omega arith in
-    let test : (min (k.hop + 1) last_hop == last_hop) ≡ true = nat_same (min (k.hop + 1) last_hop) last_hop there in
+    let test : (min (k.hop + 1) last_hop == last_hop) ≡ true = eq-eqb (min (k.hop + 1) last_hop) last_hop there in
     rw (test, three) (omega arith)
 onward_raises k at to to_three to_two from_one three within false is =
     let below : k.hop < last_hop = below_last k.hop within is in

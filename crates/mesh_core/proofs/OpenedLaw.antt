@@ -1,14 +1,19 @@
 -- The opened mesh of a job meets the ledger of the job.
-use Rattle.std.proofs.Common.{◌≡◌, ◌≢◌, ℕ, ◌+◌, ◌*◌, ◌/◌, ◌%◌, ◌<◌, List, [], ◌∷◌, Bool, true, false, ◌==◌, ◌&&◌, IsTrue, if◌then◌else◌, Option, Some, None, refl, ap, sym, ◌∙◌, subst, arith, append-nil, inl, inr, length, count_by, suc, zero}
+use Rattle.std.proofs.Common.{◌≡◌, ◌≢◌, ℕ, ◌+◌, ◌*◌, ◌/◌, ◌%◌, ◌<◌, List, [], ◌∷◌, Bool, true, false, ◌==◌, ◌&&◌, IsTrue, if◌then◌else◌, Option, Some, None, refl, ap, sym, ◌∙◌, subst, arith, append-nil, inl, inr, length, count_by}
 use Rattle.std.specs.List.{slice_get, slice_index_or, range_with_len, All, Contains}
 use Rattle.std.specs.Option.{option_map_or}
 use Rattle.std.proofs.lemmas.List.Elements.{All-contains, All-map}
 use Rattle.std.proofs.lemmas.List.FromFn.{length-map-range_with_len}
 use Rattle.std.proofs.lemmas.List.{length-map}
+use Rattle.std.proofs.lemmas.Bool.{eqb-true, eq-eqb, and_from}
+use Rattle.std.proofs.lemmas.Option.{slice_get_within}
+use Rattle.list_laws.proofs.Counts.{count_by-map}
+use Rattle.list_laws.proofs.Gathering.{gathered_nothing, among_made, made_among, count_made_one, among_chosen, chosen_among, count_chosen_one, count_chosen_none}
+use Rattle.list_laws.proofs.Members.{Among, among_contains, contains_among, among_map, map_among}
+use Rattle.list_laws.proofs.Places.{All-each}
 use Rattle.spin_base.specs.declared.chips.Spot.{Spot}
 use Rattle.spin_base.specs.declared.copies.McCopy.{McCopy}
 use Rattle.spin_base.specs.declared.copies.Packet.{Packet}
-use Rattle.machine_desc.proofs.Live.{count_by-map}
 use Rattle.machine_desc.specs.Description.{Description}
 use Rattle.machine_desc.specs.RoutingTree.{IsRoutingTree}
 use Rattle.machine_desc.specs.Branch.{Exit, IsBranch}
@@ -17,16 +22,14 @@ use Rattle.net_tables.specs.declared.nets.NetPlan.{NetPlan}
 use Rattle.net_tables.specs.RightTables.{IsKeyOf}
 use Rattle.net_tables.specs.NetsOn.{vertex_at, AreNetsOn, IsWayOn}
 use Rattle.mesh_core.specs.State.{Setup, State, IsMesh}
-use Rattle.mesh_core.specs.Trail.{Station, Mark, unsent, in_queue, at_core, on_trail, is_on_trail, is_packet_on_trail}
+use Rattle.mesh_core.specs.Trail.{Mark, unsent, in_queue, at_core, on_trail, is_on_trail, is_packet_on_trail}
 use Rattle.mesh_core.specs.Ledger.{marks_of, marked, hand_marks, port_of, unsent_marks, Label, label_of}
 use Rattle.mesh_core.specs.Opened.{label_in, asked_by, first_copy, copy_from, unsent_of, empty_mesh, opened_mesh, AreOfNets, MeetsJobLedger}
 use Rattle.mesh_core.proofs.AskedPackets.{asked_parts, asked_from, asked_of_net, net_in_list, key_of_net}
 use Rattle.machine_desc.specs.Live.{chip_of}
-use Rattle.mesh_core.proofs.Exchange.{Among, among_contains, contains_among}
 use Rattle.mesh_core.proofs.Moves.{mark}
-use Rattle.mesh_core.proofs.Gathered.{gathered_nothing, among_made, made_among, count_made_one, among_chosen, chosen_among, count_chosen_one, count_chosen_none}
 use Rattle.mesh_core.proofs.LedgerLaw.{one_net}
-use Rattle.mesh_core.proofs.Ways.{nat_true, nat_same, both_true, vertex_at_stands, vertex_there, place_below}
+use Rattle.mesh_core.proofs.Ways.{vertex_at_stands, vertex_there}
 
 -- a copy that a vertex sends, and of what packet it is
 record IsSent (spots : List Spot) (nets : List NetPlan) (p : Packet) (i v : ℕ) (k : McCopy) : Type 0 where
@@ -36,7 +39,7 @@ record IsSent (spots : List Spot) (nets : List NetPlan) (p : Packet) (i v : ℕ)
   copy : k ≡ first_copy i net p
 
 same_vertex : (w : Option ℕ) (v : ℕ) → option_map_or (λ n. n == v) w false ≡ true → w ≡ Some v
-same_vertex (Some w) v e = ap Some (nat_true w v e)
+same_vertex (Some w) v e = ap Some (eqb-true w v e)
 same_vertex None v e = cc
 
 sent_parts : (spots : List Spot) (nets : List NetPlan) (p : Packet) (i v : ℕ) (k : McCopy) (net : Option NetPlan) → slice_get nets p.net ≡ net →
@@ -53,7 +56,7 @@ sent_from : (spots : List Spot) (nets : List NetPlan) (p : Packet) (i v : ℕ) (
     copy_from spots v i p (slice_get nets p.net) ≡ Some (first_copy i net p)
 sent_from spots nets p i v net is vertex =
     ap (copy_from spots v i p) is
-    ∙ ap (λ b. if b then Some (first_copy i net p) else None) (ap (λ w. option_map_or (λ n. n == v) w false) vertex ∙ nat_same v v refl)
+    ∙ ap (λ b. if b then Some (first_copy i net p) else None) (ap (λ w. option_map_or (λ n. n == v) w false) vertex ∙ eq-eqb v v refl)
 
 nat_apart : (a b : ℕ) → a ≢ b → (a == b) ≡ false
 nat_apart a b other = grind arith
@@ -96,21 +99,11 @@ module _ (setup : Setup) (nets : List NetPlan) (packets : List Packet) where
     below : vertex < number
     station : k.station ≡ unsent vertex
 
-  among_marked : (at : Station) (k : Mark) (q : List McCopy) → Among k (marked at q) → (c : McCopy) × Among c q × (k ≡ mark c at)
-  among_marked at k [] a = absurd a
-  among_marked at k (c ∷ q) (inl here) = (c, inl refl, here)
-  among_marked at k (c ∷ q) (inr later) = let rest = among_marked at k q later in (rest.0, inr rest.1, rest.2)
-
-  marked_among : (at : Station) (c : McCopy) (q : List McCopy) → Among c q → Among (mark c at) (marked at q)
-  marked_among at c [] a = absurd a
-  marked_among at c (d ∷ q) (inl here) = inl (ap (λ e. mark e at) here)
-  marked_among at c (d ∷ q) (inr later) = inr (marked_among at c q later)
-
   is_unsent : (k : Mark) → Contains (marks_of opened) k → IsUnsent k
   is_unsent k has =
       let made = among_made (λ v q. marked (unsent v) q) copies k 0 number (contains_among k (unsent_marks opened) (subst (λ l. Contains l k) opened_marks has)) in
       let v : ℕ = made.0 in
-      let in_marked = among_marked (unsent v) k (copies v) made.3 in
+      let in_marked = among_map (λ (c : McCopy). mark c (unsent v)) k (copies v) made.3 in
       let in_list = among_chosen (λ (e : ℕ × Packet). copy_from spots v e.0 e.1 (slice_get nets e.1.net)) in_marked.0 0 packets in_marked.1 in
       let i : ℕ = in_list.0 in
       let zero_more : 0 + i ≡ i = omega arith in
@@ -132,7 +125,7 @@ module _ (setup : Setup) (nets : List NetPlan) (packets : List Packet) where
   has_mark : (i : ℕ) (p : Packet) (net : NetPlan) (v : ℕ) → slice_get packets i ≡ Some p → slice_get nets p.net ≡ Some net → vertex_at spots net.source ≡ Some v →
       Contains (marks_of opened) (mark (first_copy i net p) (unsent v))
   has_mark i p net v at is vertex =
-      let below : v < number = place_below spots v net.source (vertex_at_stands spots net.source v vertex) in
+      let below : v < number = slice_get_within spots v net.source (vertex_at_stands spots net.source v vertex) in
       let zero_more : 0 + i ≡ i = omega arith in
       let in_list : Among (first_copy i net p) (copies v) =
       chosen_among (λ (e : ℕ × Packet). copy_from spots v e.0 e.1 (slice_get nets e.1.net)) (first_copy i net p) 0 packets i p at
@@ -140,22 +133,16 @@ module _ (setup : Setup) (nets : List NetPlan) (packets : List Packet) where
       in
       let there : Among (mark (first_copy i net p) (unsent v)) (unsent_marks opened) =
       made_among (λ w q. marked (unsent w) q) copies (mark (first_copy i net p) (unsent v)) 0 number v (omega arith) (omega arith)
-      (marked_among (unsent v) (first_copy i net p) (copies v) in_list)
+      (map_among (λ (c : McCopy). mark c (unsent v)) (first_copy i net p) (copies v) in_list)
       in
       subst (λ l. Contains l (mark (first_copy i net p) (unsent v))) (sym opened_marks) (among_contains (mark (first_copy i net p) (unsent v)) (unsent_marks opened) there)
 
-  among_at : {X : Type 0} (xs : List X) (k : ℕ) (d : X) → k < length xs → Among (slice_index_or xs k d) xs
-  among_at [] k d below = absurd (omega arith)
-  among_at (x ∷ xs) zero d below = inl refl
-  among_at (x ∷ xs) (suc k) d below = inr (among_at xs k d (omega arith))
-
   -- unsent copies have passed no router
   copies_at_start : (v : ℕ) → All (λ k. k.hop ≡ 0) (copies v)
-  copies_at_start v = λ j d below.
-      let k : McCopy = slice_index_or (copies v) j d in
-      let in_list = among_chosen (λ (e : ℕ × Packet). copy_from spots v e.0 e.1 (slice_get nets e.1.net)) k 0 packets (among_at (copies v) j d below) in
+  copies_at_start v = All-each (λ (k : McCopy). k.hop ≡ 0) (copies v) (λ k has.
+      let in_list = among_chosen (λ (e : ℕ × Packet). copy_from spots v e.0 e.1 (slice_get nets e.1.net)) k 0 packets (contains_among k (copies v) has) in
       let sent = sent_parts spots nets in_list.1 (0 + in_list.0) v k (slice_get nets in_list.1.net) refl in_list.3 in
-      ap (λ (c : McCopy). c.hop) sent.copy
+      ap (λ (c : McCopy). c.hop) sent.copy)
 
   -- The opened mesh of a job is a mesh.
   pub IsMesh-opened : IsMesh (empty_mesh setup) → IsMesh opened
@@ -235,7 +222,7 @@ module _ (setup : Setup) (nets : List NetPlan) (packets : List Packet) where
         let hop : k.copy.hop ≡ 0 = ap (λ (c : McCopy). c.hop) u.sent.copy in
         let on : is_on_trail u.vertex end.0 way.2.0 k ≡ true =
         ap (λ at. on_trail u.vertex end.0 way.2.0 k.copy.hop at) u.station
-        ∙ both_true (u.vertex == u.vertex) (k.copy.hop == 0) (nat_same u.vertex u.vertex refl) (nat_same k.copy.hop 0 hop)
+        ∙ and_from (u.vertex == u.vertex) (k.copy.hop == 0) (eq-eqb u.vertex u.vertex refl) (eq-eqb k.copy.hop 0 hop)
         in (
           net,
           in_list,
@@ -284,7 +271,7 @@ module _ (setup : Setup) (nets : List NetPlan) (packets : List Packet) where
             count_chosen_one (λ (e : ℕ × Packet). copy_from spots from e.0 e.1 (slice_get nets e.1.net)) (counts n from to branch from) 0 packets
             u.number_is u.packet (first_copy u.number_is u.sent.net u.packet) u.at
             (ap (λ j. copy_from spots from j u.packet (slice_get nets u.packet.net)) zero_more ∙ sent_from spots nets u.packet u.number_is from u.sent.net u.sent.is_net vertex)
-            (both_true (u.number_is == n) ((from == from) && true) (nat_same u.number_is n number_same) (both_true (from == from) true (nat_same from from refl) refl))
+            (and_from (u.number_is == n) ((from == from) && true) (eq-eqb u.number_is n number_same) (and_from (from == from) true (eq-eqb from from refl) refl))
             (λ j q c apart at e.
             let zero_j : 0 + j ≡ j = omega arith in
             let sent = sent_parts spots nets q j from c (slice_get nets q.net) refl (ap (λ i. copy_from spots from i q (slice_get nets q.net)) (sym zero_j) ∙ e) in

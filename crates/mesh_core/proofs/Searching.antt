@@ -1,11 +1,8 @@
 -- What the searches of a port, an output and a core find.
-use Rattle.std.proofs.Common.{◌≡◌, ℕ, zero, suc, ◌<◌, ◌≤◌, List, [], ◌∷◌, Bool, true, false, ◌==◌, ◌&&◌, Option, Some, None, refl, ap, sym, ◌∙◌, subst, arith, inl, inr, ◌⊎◌, length, get_or, nat_lt, cond}
+use Rattle.std.proofs.Common.{◌≡◌, ℕ, ◌<◌, List, Bool, true, false, ◌==◌, ◌&&◌, Option, Some, None, refl, ap, sym, ◌∙◌, subst, arith, inl, inr, ◌⊎◌, length, get_or}
 use Rattle.std.proofs.lemmas.List.Elements.{All-contains}
-use Rattle.std.specs.List.{All, slice_get, slice_index_or, list_any, Contains, position, position_or_len}
-use Rattle.std.proofs.lemmas.Bool.{ltb-false}
-use Rattle.std.proofs.lemmas.List.Folds.{Any-from_list_any, list_any_at}
-use Rattle.std.proofs.lemmas.List.Quantifiers.{position-Some}
-use Rattle.std.proofs.lemmas.List.Sums.{fails_before_first}
+use Rattle.std.specs.List.{All, slice_get, slice_index_or, list_any, Contains, position}
+use Rattle.std.proofs.lemmas.Bool.{and_parts, eqb-true, eq-eqb, and_from}
 use Rattle.std.proofs.lemmas.Option.{slice_get-get_or, slice_get_within}
 use Rattle.spin_base.specs.declared.chips.Chip.{Chip}
 use Rattle.spin_base.specs.declared.chips.Spot.{Spot}
@@ -30,52 +27,10 @@ use Rattle.mesh_core.specs.Trail.{Station, in_queue, in_hand, at_core, delivered
 use Rattle.mesh_core.specs.Ledger.{marks_of}
 use Rattle.mesh_core.specs.Whereabouts.{IsTracked}
 use Rattle.mesh_core.specs.Searches.{IsMarkThere, IsFound, IsOfCore, IsOfOutput, IsOfPort, is_held}
-use Rattle.mesh_core.proofs.Exchange.{Among, among_contains, contains_among}
+use Rattle.list_laws.proofs.Members.{Among, among_contains, contains_among, any_among, among_any, position_there, position_nowhere}
 use Rattle.mesh_core.proofs.Moves.{mark}
-use Rattle.mesh_core.proofs.Events.{and_true_left, and_true_right}
-use Rattle.mesh_core.proofs.Ways.{nat_true, nat_same, both_true, vertex_at_stands}
+use Rattle.mesh_core.proofs.Ways.{vertex_at_stands}
 use Rattle.mesh_core.proofs.Standing.{StandsAt, mark_stands, queued_mark, held_mark, core_mark, delivered_mark, dumped_mark, place_of_queue, index_of-chip_of, some_rows}
-
--- ---- tests of lists and their members
-
-pub any_among : {X : Type 0} (p : X → Bool) (xs : List X) → list_any p xs ≡ true → (x : X) × Among x xs × (p x ≡ true)
-any_among p xs e =
-    let found = Any-from_list_any p xs e in
-    (found.1, contains_among found.1 xs (found.0, found.2, found.3), found.4)
-
-pub among_any : {X : Type 0} (p : X → Bool) (x : X) (xs : List X) → Among x xs → p x ≡ true → list_any p xs ≡ true
-among_any p x xs a passes = let has = among_contains x xs a in list_any_at p xs has.0 x has.1 (ap p has.2 ∙ passes)
-
--- the item at the place that is found
-pub position_there : {X : Type 0} (p : X → Bool) (xs : List X) (i : ℕ) (d : X) → position p xs ≡ Some i →
-    (x : X) × (slice_get xs i ≡ Some x) × Among x xs × (p x ≡ true)
-position_there p xs i d is =
-    let found = position-Some p xs i d is in
-    let x = slice_index_or xs i d in
-    let at : slice_get xs i ≡ Some x = slice_get-get_or xs i d found.0 in
-    (x, at, at_place xs i x at, found.1)
-  where
-    at_place : {Y : Type 0} (ys : List Y) (n : ℕ) (y : Y) → slice_get ys n ≡ Some y → Among y ys
-    at_place [] n y e = cc
-    at_place (z ∷ ys) zero y e = inl (let same : y ≡ z = cc in same)
-    at_place (z ∷ ys) (suc n) y e = inr (at_place ys n y e)
-
--- where no place is found, no item passes
-pub position_nowhere : {X : Type 0} (p : X → Bool) (xs : List X) (x : X) → position p xs ≡ None → Among x xs → p x ≡ true → ⊥
-position_nowhere {X} p xs x is a passes = by_size (nat_lt first (length xs)) refl is
-  where
-    first : ℕ
-    first = position_or_len p xs
-
-    by_size : (b : Bool) → nat_lt first (length xs) ≡ b → cond b (Some first) None ≡ None → ⊥
-    by_size true e none = cc
-    by_size false e none =
-        let has = among_contains x xs a in
-        let past : length xs ≤ first = ltb-false first (length xs) e in
-        let before : has.0 < first = let within : has.0 < length xs = has.1 in omega arith in
-        let fails : p (slice_index_or xs has.0 x) ≡ false = fails_before_first p xs has.0 x before in
-        let also : p (slice_index_or xs has.0 x) ≡ true = ap p has.2 ∙ passes in
-        cc
 
 module _ (s : State) (packet : ℕ) where
   -- a mark of the mesh at a station stands there
@@ -92,7 +47,7 @@ module _ (s : State) (packet : ℕ) where
       record {
         mark = y;
         is_mark = among_contains y (marks_of s) (queued_mark s c port inside k.0 q at k.1);
-        is_packet = nat_true k.0.packet packet k.2;
+        is_packet = eqb-true k.0.packet packet k.2;
         there = refl;
         told = refl;
       }
@@ -105,7 +60,7 @@ module _ (s : State) (packet : ℕ) where
       let both : Some stands.1 ≡ Some q = sym stands.2 ∙ (ap (slice_get s.inputs) place ∙ at) in
       let one : stands.1 ≡ q = cc in
       let found : list_any (λ (d : McCopy). d.packet == packet) stands.1 ≡ true =
-      among_any (λ (d : McCopy). d.packet == packet) k.copy stands.1 stands.5 (nat_same k.copy.packet packet is_packet)
+      among_any (λ (d : McCopy). d.packet == packet) k.copy stands.1 stands.5 (eq-eqb k.copy.packet packet is_packet)
       in
       let also : list_any (λ (d : McCopy). d.packet == packet) stands.1 ≡ false = ap (list_any (λ (d : McCopy). d.packet == packet)) one ∙ none in
       cc
@@ -119,14 +74,14 @@ module _ (s : State) (packet : ℕ) where
       by_hand : (x : Option (Option Held)) → slice_get s.hands (index_of s.setup.machine c) ≡ x → is_held packet o x ≡ true →
           IsMarkThere s packet (IsOfOutput c o) (At (HandAt c o))
       by_hand (Some (Some h)) at held =
-          let out = any_among (out_eq o) h.outs (and_true_right (h.copy.packet == packet) (list_any (out_eq o) h.outs) held) in
+          let out = any_among (out_eq o) h.outs ((and_parts (h.copy.packet == packet) (list_any (out_eq o) h.outs) held).1) in
           let same : o ≡ out.0 = out_eq_true o out.0 out.2 in
           let has : Among o h.outs = subst (λ (p : Out). Among p h.outs) (sym same) out.1 in
           let y : Mark = mark h.copy (in_hand c o) in
           record {
             mark = y;
             is_mark = among_contains y (marks_of s) (held_mark s c o inside h at has);
-            is_packet = nat_true h.copy.packet packet (and_true_left (h.copy.packet == packet) (list_any (out_eq o) h.outs) held);
+            is_packet = eqb-true h.copy.packet packet ((and_parts (h.copy.packet == packet) (list_any (out_eq o) h.outs) held).0);
             there = inl refl;
             told = refl;
           }
@@ -144,14 +99,14 @@ module _ (s : State) (packet : ℕ) where
   dump_has c o i is =
       let nothing : DumpRec = record { chip = c; out = o; copy = record { packet = 0; key = 0; payload = None; hop = 0 } } in
       let r = position_there (is_dump c o) s.dumped i nothing is in
-      let place = and_true_left (chip_eq r.0.chip c && out_eq r.0.out o) (r.0.copy.packet == packet) r.3 in
-      let same_c : r.0.chip ≡ c = chip_eq_true r.0.chip c (and_true_left (chip_eq r.0.chip c) (out_eq r.0.out o) place) in
-      let same_o : r.0.out ≡ o = out_eq_true r.0.out o (and_true_right (chip_eq r.0.chip c) (out_eq r.0.out o) place) in
+      let place = (and_parts (chip_eq r.0.chip c && out_eq r.0.out o) (r.0.copy.packet == packet) r.3).0 in
+      let same_c : r.0.chip ≡ c = chip_eq_true r.0.chip c ((and_parts (chip_eq r.0.chip c) (out_eq r.0.out o) place).0) in
+      let same_o : r.0.out ≡ o = out_eq_true r.0.out o ((and_parts (chip_eq r.0.chip c) (out_eq r.0.out o) place).1) in
       let y : Mark = mark r.0.copy (dumped r.0.chip r.0.out) in
       record {
         mark = y;
         is_mark = among_contains y (marks_of s) (dumped_mark s r.0 r.2);
-        is_packet = nat_true r.0.copy.packet packet (and_true_right (chip_eq r.0.chip c && out_eq r.0.out o) (r.0.copy.packet == packet) r.3);
+        is_packet = eqb-true r.0.copy.packet packet ((and_parts (chip_eq r.0.chip c && out_eq r.0.out o) (r.0.copy.packet == packet) r.3).1);
         there = inr (same_dumped r.0.chip c r.0.out o same_c same_o);
         told = (i, r.1, refl);
       }
@@ -166,16 +121,16 @@ module _ (s : State) (packet : ℕ) where
       in
       let at : slice_get s.hands (index_of s.setup.machine c) ≡ Some (Some h) = ap (slice_get s.hands) (sym place) ∙ stands.2 in
       let serves : list_any (out_eq o) h.outs ≡ true = among_any (out_eq o) o h.outs stands.5 (out_eq_same o) in
-      let of_packet : (h.copy.packet == packet) ≡ true = nat_same h.copy.packet packet (ap (λ (d : McCopy). d.packet) stands.4 ∙ is_packet) in
-      let held : is_held packet o (Some (Some h)) ≡ true = both_true (h.copy.packet == packet) (list_any (out_eq o) h.outs) of_packet serves in
+      let of_packet : (h.copy.packet == packet) ≡ true = eq-eqb h.copy.packet packet (ap (λ (d : McCopy). d.packet) stands.4 ∙ is_packet) in
+      let held : is_held packet o (Some (Some h)) ≡ true = and_from (h.copy.packet == packet) (list_any (out_eq o) h.outs) of_packet serves in
       let also : is_held packet o (Some (Some h)) ≡ false = ap (is_held packet o) (sym at) ∙ none in
       cc
   output_lacks c o inside none nowhere k has is_packet (inr there) =
       let r : DumpRec = record { chip = c; out = o; copy = k.copy } in
       let stands : Among r s.dumped = stands_there k has (dumped c o) there in
       position_nowhere (is_dump c o) s.dumped r nowhere stands
-      (both_true (chip_eq c c && out_eq o o) (k.copy.packet == packet)
-      (both_true (chip_eq c c) (out_eq o o) (chip_eq_same c) (out_eq_same o)) (nat_same k.copy.packet packet is_packet))
+      (and_from (chip_eq c c && out_eq o o) (k.copy.packet == packet)
+      (and_from (chip_eq c c) (out_eq o o) (chip_eq_same c) (out_eq_same o)) (eq-eqb k.copy.packet packet is_packet))
 
   -- ---- a core
 
@@ -188,12 +143,12 @@ module _ (s : State) (packet : ℕ) where
   delivery_has spot v i is_vertex is =
       let nothing : Delivery = record { vertex = 0; copy = record { packet = 0; key = 0; payload = None; hop = 0 } } in
       let d = position_there (is_delivery v) s.delivered i nothing is in
-      let same : d.0.vertex ≡ v = nat_true d.0.vertex v (and_true_left (d.0.vertex == v) (d.0.copy.packet == packet) d.3) in
+      let same : d.0.vertex ≡ v = eqb-true d.0.vertex v ((and_parts (d.0.vertex == v) (d.0.copy.packet == packet) d.3).0) in
       let y : Mark = mark d.0.copy (delivered d.0.vertex) in
       record {
         mark = y;
         is_mark = among_contains y (marks_of s) (delivered_mark s d.0 d.2);
-        is_packet = nat_true d.0.copy.packet packet (and_true_right (d.0.vertex == v) (d.0.copy.packet == packet) d.3);
+        is_packet = eqb-true d.0.copy.packet packet ((and_parts (d.0.vertex == v) (d.0.copy.packet == packet) d.3).1);
         there = (v, is_vertex, inr (ap delivered same));
         told = (i, d.1, refl);
       }
@@ -206,7 +161,7 @@ module _ (s : State) (packet : ℕ) where
       record {
         mark = y;
         is_mark = among_contains y (marks_of s) (core_mark s v k.0 q at k.1);
-        is_packet = nat_true k.0.packet packet k.2;
+        is_packet = eqb-true k.0.packet packet k.2;
         there = (v, is_vertex, inl refl);
         told = (spot, vertex_at_stands s.setup.spots spot v is_vertex, refl);
       }
@@ -223,7 +178,7 @@ module _ (s : State) (packet : ℕ) where
           let queues : Some stands.0 ≡ Some q = sym stands.1 ∙ (ap (slice_get s.cores) same ∙ at) in
           let one : stands.0 ≡ q = cc in
           let found : list_any (λ (d : McCopy). d.packet == packet) stands.0 ≡ true =
-          among_any (λ (d : McCopy). d.packet == packet) k.copy stands.0 stands.2 (nat_same k.copy.packet packet is_packet)
+          among_any (λ (d : McCopy). d.packet == packet) k.copy stands.0 stands.2 (eq-eqb k.copy.packet packet is_packet)
           in
           let also : list_any (λ (d : McCopy). d.packet == packet) stands.0 ≡ false = ap (list_any (λ (d : McCopy). d.packet == packet)) one ∙ none in
           cc
@@ -233,7 +188,7 @@ module _ (s : State) (packet : ℕ) where
           let both : Some w ≡ Some v = sym is ∙ is_vertex in
           let same : w ≡ v = cc in
           position_nowhere (is_delivery v) s.delivered d nowhere stands
-          (both_true (w == v) (k.copy.packet == packet) (nat_same w v same) (nat_same k.copy.packet packet is_packet))
+          (and_from (w == v) (k.copy.packet == packet) (eq-eqb w v same) (eq-eqb k.copy.packet packet is_packet))
 
   -- on a core without a vertex there is nothing
   pub no_vertex_lacks : (spot : Spot) → vertex_at s.setup.spots spot ≡ None → IsFound s packet (IsOfCore s spot) None

@@ -31,7 +31,7 @@ use Rattle.mesh_core.specs.State.{State, Held, vertex_behind}
 use Rattle.mesh_core.specs.Step.{in_hand, last_hop, outputs, without}
 use Rattle.mesh_core.specs.Serving.{hands_after}
 use Rattle.mesh_core.specs.VertexTable.{TellsVertices, spot_place}
-use Rattle.mesh_core.proofs.QueueLists.{set-slice_get}
+use Rattle.list_laws.proofs.Places.{set-slice_get}
 use Rattle.mesh_core.proofs.VertexTableLaws.{spot_place-below, vertex_at-from}
 
 -- a hand served an output

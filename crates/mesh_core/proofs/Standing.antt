@@ -1,6 +1,8 @@
 -- Which marks a mesh has, by their stations: those of the lists' items there.
-use Rattle.std.proofs.Common.{◌≡◌, ℕ, ◌+◌, ◌*◌, ◌/◌, ◌%◌, ◌<◌, suc, zero, List, [], ◌∷◌, ◌++◌, map, Option, Some, None, refl, ap, sym, ◌∙◌, subst, arith, inl, inr, ◌⊎◌}
+use Rattle.std.proofs.Common.{◌≡◌, ℕ, ◌+◌, ◌*◌, ◌/◌, ◌%◌, ◌<◌, suc, zero, List, ◌++◌, Option, Some, None, refl, ap, sym, ◌∙◌, subst, arith, inl, inr, ◌⊎◌}
 use Rattle.std.specs.List.{slice_get}
+use Rattle.list_laws.proofs.Members.{Among, among_left, among_right, among_either, among_map, map_among}
+use Rattle.list_laws.proofs.Gathering.{among_gathered, gathered_among_from, gathered_among}
 use Rattle.spin_base.specs.declared.chips.Chip.{Chip}
 use Rattle.spin_base.specs.declared.chips.Port.{Port}
 use Rattle.spin_base.specs.declared.routes.Out.{Out}
@@ -13,58 +15,8 @@ use Rattle.machine_desc.specs.Live.{chip_of, index_of, IsInside}
 use Rattle.machine_desc.proofs.Far.{inside_parts}
 use Rattle.mesh_core.specs.State.{State, Held, queue_at}
 use Rattle.mesh_core.specs.Trail.{Station, unsent, in_queue, in_hand, at_core, delivered, dumped, Mark}
-use Rattle.mesh_core.specs.Ledger.{marks_of, marked, hand_marks, port_of, gathered, unsent_marks, input_marks, all_hand_marks, core_marks, delivered_marks, dumped_marks}
-use Rattle.mesh_core.proofs.Exchange.{Among, among_left, among_right, among_either}
+use Rattle.mesh_core.specs.Ledger.{marks_of, marked, hand_marks, port_of, unsent_marks, input_marks, all_hand_marks, core_marks, delivered_marks, dumped_marks}
 use Rattle.mesh_core.proofs.Moves.{mark, chip_of-index_of, station_of_queue}
-
--- ---- members of what is made of a list
-
-pub among_map : {X Y : Type 0} (f : X → Y) (y : Y) (xs : List X) → Among y (map f xs) → (x : X) × Among x xs × (y ≡ f x)
-among_map f y [] a = absurd a
-among_map f y (x ∷ xs) (inl here) = (x, inl refl, here)
-among_map f y (x ∷ xs) (inr later) = let rest = among_map f y xs later in (rest.0, inr rest.1, rest.2)
-
-pub map_among : {X Y : Type 0} (f : X → Y) (x : X) (xs : List X) → Among x xs → Among (f x) (map f xs)
-map_among f x [] a = absurd a
-map_among f x (y ∷ xs) (inl here) = inl (ap f here)
-map_among f x (y ∷ xs) (inr later) = inr (map_among f x xs later)
-
-among_gathered_from : {X Y : Type 0} (f : ℕ → X → List Y) (y : Y) (i : ℕ) (xs : List X) → Among y (gathered f i xs) →
-    (j : ℕ) × (x : X) × (slice_get xs j ≡ Some x) × Among y (f (i + j) x)
-among_gathered_from f y i [] a = absurd a
-among_gathered_from f y i (x ∷ xs) a = elim (among_either y (f i x) (gathered f (i + 1) xs) a) [
-  | inl here ↦ let n_is : i ≡ i + 0 = omega arith in (0, x, refl, subst (λ n. Among y (f n x)) n_is here)
-  | inr later ↦
-      let rest = among_gathered_from f y (i + 1) xs later in
-      let n_is : i + 1 + rest.0 ≡ i + suc rest.0 = omega arith in
-      (suc rest.0, rest.1, rest.2, subst (λ n. Among y (f n rest.1)) n_is rest.3)
-]
-
-gathered_among_from : {X Y : Type 0} (f : ℕ → X → List Y) (y : Y) (i : ℕ) (xs : List X) (j : ℕ) (x : X) → slice_get xs j ≡ Some x →
-    Among y (f (i + j) x) → Among y (gathered f i xs)
-gathered_among_from f y i [] j x at a = cc
-gathered_among_from {X} {Y} f y i (z ∷ xs) zero x at a =
-    let same : x ≡ z = cc in
-    let n_is : i + 0 ≡ i = omega arith in
-    let P : ℕ → X → Type 0 = λ n v. Among y (f n v) in
-    among_left y (f i z) (gathered f (i + 1) xs) (subst (λ n. P n z) n_is (subst (λ v. P (i + 0) v) same a))
-gathered_among_from f y i (z ∷ xs) (suc j) x at a =
-    let n_is : i + suc j ≡ i + 1 + j = omega arith in
-    among_right y (f i z) (gathered f (i + 1) xs) (gathered_among_from f y (i + 1) xs j x at (subst (λ n. Among y (f n x)) n_is a))
-
--- the list's item of which a member is made
-among_gathered : {X Y : Type 0} (f : ℕ → X → List Y) (y : Y) (xs : List X) → Among y (gathered f 0 xs) →
-    (j : ℕ) × (x : X) × (slice_get xs j ≡ Some x) × Among y (f j x)
-among_gathered f y xs a =
-    let found = among_gathered_from f y 0 xs a in
-    let n_is : 0 + found.0 ≡ found.0 = omega arith in
-    (found.0, found.1, found.2, subst (λ n. Among y (f n found.1)) n_is found.3)
-
-gathered_among : {X Y : Type 0} (f : ℕ → X → List Y) (y : Y) (xs : List X) (j : ℕ) (x : X) → slice_get xs j ≡ Some x →
-    Among y (f j x) → Among y (gathered f 0 xs)
-gathered_among f y xs j x at a =
-    let n_is : j ≡ 0 + j = omega arith in
-    gathered_among_from f y 0 xs j x at (subst (λ n. Among y (f n x)) n_is a)
 
 -- ---- chips and ports by number
 

@@ -1,21 +1,23 @@
 -- Walking up a branch from its target finds the target's copy of a packet.
-use Rattle.std.proofs.Common.{◌≡◌, ◌≢◌, ℕ, ◌+◌, ◌*◌, ◌<◌, ◌≤◌, zero, suc, List, [], ◌∷◌, map, Bool, true, false, ◌==◌, ◌&&◌, if◌then◌else◌, Option, Some, None, refl, ap, sym, ◌∙◌, subst, arith, inl, inr, ◌⊎◌, length, count_by}
+use Rattle.std.proofs.Common.{◌≡◌, ◌≢◌, ℕ, ◌+◌, ◌*◌, ◌<◌, ◌≤◌, zero, suc, List, map, true, ◌==◌, ◌&&◌, Option, Some, None, refl, ap, sym, ◌∙◌, subst, arith, inl, inr, ◌⊎◌, length, count_by}
 use Rattle.std.specs.List.{slice_get, All, Contains}
-use Rattle.std.proofs.lemmas.Bool.{cases_order}
+use Rattle.std.proofs.lemmas.Bool.{cases_order, and_parts, eqb-true, eq-eqb, and_from}
 use Rattle.std.proofs.lemmas.List.Elements.{All-contains}
+use Rattle.std.proofs.lemmas.Option.{slice_get_within}
+use Rattle.list_laws.proofs.Members.{among_contains}
 use Rattle.spin_base.specs.declared.chips.Chip.{Chip}
 use Rattle.spin_base.specs.declared.chips.Spot.{Spot}
 use Rattle.spin_base.specs.declared.chips.Port.{Port}
 use Rattle.spin_base.specs.declared.chips.Port.TheVariants.{Link as ByLink, Local}
 use Rattle.spin_base.specs.declared.routes.Out.{Out}
-use Rattle.spin_base.specs.declared.routes.Out.TheVariants.{Link, Core}
+use Rattle.spin_base.specs.declared.routes.Out.TheVariants.{Link}
 use Rattle.spin_base.specs.declared.copies.McCopy.{McCopy}
 use Rattle.spin_base.specs.Links.{opposite_of}
 use Rattle.machine_desc.specs.declared.trees.Edge.{Edge}
 use Rattle.machine_desc.specs.Live.{IsInside, IsLiveChip, IsSite}
 use Rattle.machine_desc.specs.RoutingTree.{end_of, IsRoutingTree}
 use Rattle.machine_desc.specs.Branch.{Exit, IsBranch, arrival_at}
-use Rattle.machine_desc.proofs.Branches.{ComesBy, comes_by, exit_leads, ExitLeads, way_first, same_place, branch_short, branch_inside, exit_of, last_exit}
+use Rattle.machine_desc.proofs.Branches.{ComesBy, comes_by, way_first, same_place, branch_short, branch_inside, exit_of, last_exit}
 use Rattle.machine_desc.proofs.Sites.{site_parts}
 use Rattle.machine_desc.proofs.TreeLemmas.{one_edge_into}
 use Rattle.spin_base.specs.Outputs.{out_of}
@@ -29,29 +31,11 @@ use Rattle.net_tables.specs.NetsOn.{AreNetsOn, IsWayOn}
 use Rattle.mesh_core.specs.Ledger.{marks_of}
 use Rattle.mesh_core.specs.Whereabouts.{TellsStation, IsTold, IsWhere, IsTracked}
 use Rattle.mesh_core.specs.Searches.{IsMarkThere, IsFound, IsOfCore, IsOfOutput, IsOfPort, port_behind, IsEdgeInto}
-use Rattle.mesh_core.proofs.Exchange.{Among, among_contains, count_by-cons}
-use Rattle.mesh_core.proofs.Events.{and_true_left, and_true_right}
+use Rattle.mesh_core.proofs.Counting.{counted}
 use Rattle.mesh_core.proofs.LedgerLaw.{one_net}
 use Rattle.mesh_core.proofs.Law.{leaves_parts, leaves_from, ComesThere, comes_parts, comes_from}
-use Rattle.mesh_core.proofs.Ways.{nat_true, nat_same, both_true, vertex_at_stands, some_way, place_below}
-
--- ---- lists
-
-at_place : {X : Type 0} (xs : List X) (i : ℕ) → i < length xs → (x : X) × (slice_get xs i ≡ Some x)
-at_place [] i within = absurd (omega arith)
-at_place (x ∷ xs) zero within = (x, refl)
-at_place (x ∷ xs) (suc i) within = at_place xs i (omega arith)
-
--- what is counted once is there
-counted_by : (p : Mark → Bool) (x : Mark) (xs : List Mark) (b : Bool) → p x ≡ b → (count_by p xs ≡ 1 → (y : Mark) × Among y xs × (p y ≡ true)) →
-    (if b then 1 else 0) + count_by p xs ≡ 1 → (y : Mark) × Among y (x ∷ xs) × (p y ≡ true)
-counted_by p x xs true is later once = (x, inl refl, is)
-counted_by p x xs false is later once =
-    let rest = later (omega (arith, once)) in (rest.0, inr rest.1, rest.2)
-
-counted : (p : Mark → Bool) (xs : List Mark) → count_by p xs ≡ 1 → (y : Mark) × Among y xs × (p y ≡ true)
-counted p [] once = absurd (omega (arith, once))
-counted p (x ∷ xs) once = counted_by p x xs (p x) refl (counted p xs) (sym (count_by-cons p x xs) ∙ once)
+use Rattle.mesh_core.proofs.OneWay.{last_place}
+use Rattle.mesh_core.proofs.Ways.{vertex_at_stands, some_way}
 
 -- ---- how far the walk has come
 
@@ -113,26 +97,6 @@ module _ (s : State) (net : NetPlan) (packet : ℕ) (tracked : IsTracked s net p
   a_way : (branch : List Exit) × (from : ℕ) × (to : ℕ) × IsWayOn s.setup.machine s.setup.spots net target branch from to
   a_way = some_way s.setup.machine s.setup.spots tracked.nets stand net tracked.in_nets target is_target
 
-  same_exit : (x : Exit) (c : Chip) (o : Out) → x.chip ≡ c → x.out ≡ o → x ≡ record { chip = c; out = o }
-  same_exit x c o e f = made x.chip c x.out o e f
-    where
-      made : (a b : Chip) (p q : Out) → a ≡ b → p ≡ q → (let y : Exit = record { chip = a; out = p } in let z : Exit = record { chip = b; out = q } in y ≡ z)
-      made a b p q e' f' = cc
-
-  -- the last exit of a branch is by the output that leads to its target
-  last_place : (t : Spot) (xs : List Exit) → IsBranch s.setup.machine net.tree.root net.tree.edges t xs →
-      (i : ℕ) × (slice_get xs i ≡ Some (last_exit t)) × (i + 1 ≡ length xs)
-  last_place t [] is = absurd is
-  last_place t (x ∷ xs) is =
-      let i : ℕ = length xs in
-      let there = at_place (x ∷ xs) i (omega arith) in
-      (i, there.1 ∙ ap Some (by_end there.0 (exit_leads s.setup.machine net.tree.edges t net.tree.root (x ∷ xs) i there.0 is there.1)), omega arith)
-    where
-      by_end : (z : Exit) → ExitLeads s.setup.machine net.tree.edges t (x ∷ xs) (length xs) z → z ≡ last_exit t
-      by_end z (inl (d, out, in_tree, (y, far, next))) =
-          let past : suc (length xs) < length (x ∷ xs) = place_below (x ∷ xs) (suc (length xs)) y next in absurd (omega arith)
-      by_end z (inr (chip, out, long)) = same_exit z t.chip (out_of t.core) (sym chip) out
-
   -- branches that pass a chip pass it at one place and come in at one port
   one_place_of : (t u : Spot) (xs ys : List Exit) → IsBranch s.setup.machine net.tree.root net.tree.edges t xs → IsBranch s.setup.machine net.tree.root net.tree.edges u ys →
       (i j : ℕ) (x y : Exit) → slice_get xs i ≡ Some x → slice_get ys j ≡ Some y → x.chip ≡ y.chip → (i ≡ j) × (arrival_at xs i ≡ arrival_at ys j)
@@ -145,8 +109,8 @@ module _ (s : State) (net : NetPlan) (packet : ℕ) (tracked : IsTracked s net p
       let on_u = vertex_at_stands s.setup.spots u to w'.ends in
       let both : Some t ≡ Some u = sym on_t ∙ on_u in
       let same : t ≡ u = cc in
-      let x = last_place t xs w.is_branch in
-      let y = last_place u ys w'.is_branch in
+      let x = last_place s.setup.machine net tree t xs w.is_branch in
+      let y = last_place s.setup.machine net tree u ys w'.is_branch in
       let place = one_place_of t u xs ys w.is_branch w'.is_branch x.0 y.0 (last_exit t) (last_exit u) x.1 y.1 (ap (λ (z : Spot). z.chip) same)
       in
       sym x.2 ∙ (ap (λ n. n + 1) place.0 ∙ y.2)
@@ -211,7 +175,7 @@ module _ (s : State) (net : NetPlan) (packet : ℕ) (tracked : IsTracked s net p
             let on = sym (ap (on_trail u.from u.to u.branch k.copy.hop) is) ∙ u.on in
             on_by k (dumped c o) is (leaves_from xs k.copy.hop c o (leaves (leaves_parts u.branch k.copy.hop c o on)))
 
-    comes_on : (k : Mark) → Contains (marks_of s) k → k.copy.packet ≡ packet → (i : ℕ) (c : Chip) (o : Out) (port : Port) →
+    pub comes_on : (k : Mark) → Contains (marks_of s) k → k.copy.packet ≡ packet → (i : ℕ) (c : Chip) (o : Out) (port : Port) →
         slice_get xs i ≡ Some (record { chip = c; out = o }) → k.station ≡ in_queue c port → is_on_trail from to xs k ≡ true
     comes_on k has is_packet i c o port at is =
         let u = on_net k has is_packet in
@@ -231,7 +195,7 @@ module _ (s : State) (net : NetPlan) (packet : ℕ) (tracked : IsTracked s net p
         on_by k (in_queue c port) is (comes_from xs k.copy.hop c port here)
 
     -- a mark at the target's vertex
-    ends_on : (k : Mark) → Contains (marks_of s) k → k.copy.packet ≡ packet → IsOfCore s target k.station → is_on_trail from to xs k ≡ true
+    pub ends_on : (k : Mark) → Contains (marks_of s) k → k.copy.packet ≡ packet → IsOfCore s target k.station → is_on_trail from to xs k ≡ true
     ends_on k has is_packet there = by_station there.2
       where
         u : OnNet k
@@ -245,11 +209,11 @@ module _ (s : State) (net : NetPlan) (packet : ℕ) (tracked : IsTracked s net p
 
         at_end : ((v == u.to) && (k.copy.hop == length u.branch)) ≡ true → ((v == to) && (k.copy.hop == length xs)) ≡ true
         at_end on =
-            let its_to : v ≡ u.to = nat_true v u.to (and_true_left (v == u.to) (k.copy.hop == length u.branch) on) in
-            let hop : k.copy.hop ≡ length u.branch = nat_true k.copy.hop (length u.branch) (and_true_right (v == u.to) (k.copy.hop == length u.branch) on) in
+            let its_to : v ≡ u.to = eqb-true v u.to ((and_parts (v == u.to) (k.copy.hop == length u.branch) on).0) in
+            let hop : k.copy.hop ≡ length u.branch = eqb-true k.copy.hop (length u.branch) ((and_parts (v == u.to) (k.copy.hop == length u.branch) on).1) in
             let other : IsWayOn s.setup.machine s.setup.spots net u.goal u.branch u.from to = subst (λ n. IsWayOn s.setup.machine s.setup.spots net u.goal u.branch u.from n) (sym its_to ∙ is_to) u.way in
             let long = one_length u.goal target u.branch xs u.from from to other way in
-            both_true (v == to) (k.copy.hop == length xs) (nat_same v to is_to) (nat_same k.copy.hop (length xs) (hop ∙ long))
+            and_from (v == to) (k.copy.hop == length xs) (eq-eqb v to is_to) (eq-eqb k.copy.hop (length xs) (hop ∙ long))
 
         by_station : (k.station ≡ at_core v) ⊎ (k.station ≡ delivered v) → is_on_trail from to xs k ≡ true
         by_station (inl is) = on_by k (at_core v) is (at_end (sym (ap (on_trail u.from u.to u.branch k.copy.hop) is) ∙ u.on))
@@ -268,7 +232,7 @@ module _ (s : State) (net : NetPlan) (packet : ℕ) (tracked : IsTracked s net p
       only_one = only_one;
       mark = k;
       is_mark = has;
-      on_trail = both_true (k.copy.packet == packet) (is_on_trail from to xs k) (nat_same k.copy.packet packet is_packet) on;
+      on_trail = and_from (k.copy.packet == packet) (is_on_trail from to xs k) (eq-eqb k.copy.packet packet is_packet) on;
       told = told;
     }
 
@@ -276,12 +240,13 @@ module _ (s : State) (net : NetPlan) (packet : ℕ) (tracked : IsTracked s net p
     told_unsent : ((k : Mark) → Contains (marks_of s) k → k.copy.packet ≡ packet → is_on_trail from to xs k ≡ true → IsBefore 0 k.copy.hop k.station) →
         IsTold s packet xs from to Unsent
     told_unsent before =
-        let k = counted (is_packet_on_trail packet from to xs) (marks_of s) only_one in
+        let once = only_one in
+        let k = counted (is_packet_on_trail packet from to xs) (marks_of s) (omega (arith, once)) in
         let has = among_contains k.0 (marks_of s) k.1 in
         let of_packet : k.0.copy.packet ≡ packet =
-        nat_true k.0.copy.packet packet (and_true_left (k.0.copy.packet == packet) (is_on_trail from to xs k.0) k.2)
+        eqb-true k.0.copy.packet packet ((and_parts (k.0.copy.packet == packet) (is_on_trail from to xs k.0) k.2).0)
         in
-        let on = and_true_right (k.0.copy.packet == packet) (is_on_trail from to xs k.0) k.2 in
+        let on = (and_parts (k.0.copy.packet == packet) (is_on_trail from to xs k.0) k.2).1 in
         told_by k.0 has of_packet on Unsent (by_station k.0.copy k.0.station (before k.0 has of_packet on))
       where
         by_station : (d : McCopy) (at : Station) → IsBefore 0 d.hop at → TellsStation s d at Unsent
@@ -321,7 +286,7 @@ module _ (s : State) (net : NetPlan) (packet : ℕ) (tracked : IsTracked s net p
 
   pub walk_begins : IsFound s packet (IsOfCore s target) None → Walked s net packet target 0 target.chip (out_of target.core)
   walk_begins none xs from to way =
-      let last = last_place target xs way.is_branch in
+      let last = last_place s.setup.machine net tree target xs way.is_branch in
       record { place = last.0; is_place = let n = last.2 in omega arith; at = last.1; before = λ k has is_packet on. by_station last.0 last.2 k has is_packet k.station refl on }
     where
       by_station : (i : ℕ) → i + 1 ≡ length xs → (k : Mark) → Contains (marks_of s) k → k.copy.packet ≡ packet → (at : Station) → k.station ≡ at →
@@ -329,19 +294,19 @@ module _ (s : State) (net : NetPlan) (packet : ℕ) (tracked : IsTracked s net p
       by_station i long k has is_packet (unsent v) is on = tt
       by_station i long k has is_packet (in_queue c port) is on =
           let there : ComesThere xs k.copy.hop c port = comes_parts xs k.copy.hop c port on in
-          let within : k.copy.hop < length xs = place_below xs k.copy.hop there.exit there.at in
+          let within : k.copy.hop < length xs = slice_get_within xs k.copy.hop there.exit there.at in
           omega arith
       by_station i long k has is_packet (in_hand c o) is on =
-          let within : k.copy.hop < length xs = place_below xs k.copy.hop (record { chip = c; out = o }) (leaves_parts xs k.copy.hop c o on) in
+          let within : k.copy.hop < length xs = slice_get_within xs k.copy.hop (record { chip = c; out = o }) (leaves_parts xs k.copy.hop c o on) in
           omega arith
       by_station i long k has is_packet (at_core v) is on =
-          let same : v ≡ to = nat_true v to (and_true_left (v == to) (k.copy.hop == length xs) on) in
+          let same : v ≡ to = eqb-true v to ((and_parts (v == to) (k.copy.hop == length xs) on).0) in
           none k has is_packet (v, way.ends ∙ ap Some (sym same), inl is)
       by_station i long k has is_packet (delivered v) is on =
-          let same : v ≡ to = nat_true v to (and_true_left (v == to) (k.copy.hop == length xs) on) in
+          let same : v ≡ to = eqb-true v to ((and_parts (v == to) (k.copy.hop == length xs) on).0) in
           none k has is_packet (v, way.ends ∙ ap Some (sym same), inr is)
       by_station i long k has is_packet (dumped c o) is on =
-          let within : k.copy.hop < length xs = place_below xs k.copy.hop (record { chip = c; out = o }) (leaves_parts xs k.copy.hop c o on) in
+          let within : k.copy.hop < length xs = slice_get_within xs k.copy.hop (record { chip = c; out = o }) (leaves_parts xs k.copy.hop c o on) in
           omega arith
 
   -- the walk is at a chip inside the grid

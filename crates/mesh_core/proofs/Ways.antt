@@ -1,15 +1,13 @@
 -- Facts on the ways of a net: their ends are vertices, their places are few, and each wanted output lies on one.
-use Rattle.std.proofs.Common.{◌≡◌, ◌≢◌, ◌⊎◌, ℕ, ◌+◌, ◌-◌, ◌*◌, ◌<◌, ◌≤◌, suc, zero, List, map, Bool, true, false, not, ◌==◌, ◌&&◌, ◌||◌, Some, None, refl, ap, sym, ◌∙◌, subst, arith, inl, inr, length, min, nat_lt, nat_le, cond}
-use Rattle.std.specs.Prelude.{AllPairs}
-use Rattle.std.specs.List.{position_or_len}
-use Rattle.std.proofs.lemmas.Bool.{ltb-true, ltb-false, leb-true, or_cases, or_left, or_right, cases_order}
-use Rattle.std.proofs.lemmas.List.Sums.{fails_before_first}
+use Rattle.std.proofs.Common.{◌≡◌, ◌⊎◌, ℕ, ◌+◌, ◌-◌, ◌*◌, ◌<◌, ◌≤◌, suc, zero, List, map, Bool, true, false, Option, Some, None, refl, ap, sym, ◌∙◌, subst, arith, inl, inr, length, min, nat_lt, cond}
+use Rattle.std.specs.Prelude.{position}
+use Rattle.std.proofs.lemmas.Bool.{ltb-true, and_from}
 use Rattle.std.proofs.lemmas.List.Elements.{All-contains}
 use Rattle.std.proofs.Math.Nat.{mul-le-mul_left}
-use Rattle.std.specs.List.{slice_get, slice_index_or, list_any, All, Contains}
-use Rattle.std.proofs.lemmas.Option.{slice_get_within, slice_get-get_or, get_or_from_slice_get}
+use Rattle.std.specs.List.{slice_get, slice_index_or, All, Contains}
+use Rattle.std.proofs.lemmas.Option.{slice_get-get_or}
 use Rattle.std.proofs.lemmas.List.Quantifiers.{position-Some}
-use Rattle.std.proofs.lemmas.List.Folds.{Any-from_list_any, list_any_at}
+use Rattle.list_laws.proofs.Members.{contains_among, position_nowhere}
 use Rattle.spin_base.specs.declared.chips.Spot.{Spot}
 use Rattle.spin_base.specs.declared.chips.Chip.{Chip}
 use Rattle.spin_base.specs.declared.chips.Dir.{Dir}
@@ -19,34 +17,23 @@ use Rattle.spin_base.specs.declared.routes.Out.TheVariants.{Link, Core}
 use Rattle.spin_base.specs.Equality.{chip_eq, out_eq, spot_eq}
 use Rattle.spin_base.specs.Links.{dir_at}
 use Rattle.spin_base.specs.Outputs.{IsOutput, out_of}
-use Rattle.spin_base.proofs.Equality.{chip_eq_same, chip_eq_true, out_eq_same, out_eq_true, spot_eq_same, spot_eq_true}
+use Rattle.spin_base.proofs.Equality.{chip_eq_same, out_eq_same, spot_eq_same, spot_eq_true}
 use Rattle.machine_desc.specs.declared.trees.Edge.{Edge}
 use Rattle.machine_desc.specs.Description.{Description}
-use Rattle.machine_desc.specs.Equality.{edge_eq}
 use Rattle.machine_desc.specs.Live.{IsLiveChip, IsSite}
 use Rattle.machine_desc.specs.RoutingTree.{IsRoutingTree}
 use Rattle.machine_desc.specs.Branch.{Exit, IsBranch, arrival_at}
-use Rattle.machine_desc.proofs.Same.{edge_eq-true, edge_eq_self}
 use Rattle.machine_desc.proofs.Sites.{site_parts}
 use Rattle.machine_desc.proofs.Branches.{ComesBy, comes_by, exit_leads, way_first, same_place, branch_short, end_on_branch, link_on_branch, exit_of, last_exit, ExitLeads}
 use Rattle.net_tables.specs.declared.nets.NetPlan.{NetPlan}
-use Rattle.net_tables.specs.Outputs.{is_edge_out, leads_to_spot, is_wanted, ComesIn}
+use Rattle.net_tables.specs.Outputs.{leads_to_spot, is_wanted, ComesIn}
 use Rattle.net_tables.specs.NetsOn.{vertex_at, AreNetsOn, IsWayOn}
 use Rattle.net_tables.specs.RightTables.{RoutesByTree}
+use Rattle.net_tables.proofs.Wanted.{spot_of_out, wanted_cases, edge_wanted, end_wanted}
 use Rattle.mesh_core.specs.State.{State, IsMesh, vertex_behind}
 use Rattle.mesh_core.specs.Step.{last_hop}
-use Rattle.mesh_core.proofs.Events.{and_true_left, and_true_right}
 
 -- ---- tests that say what equality says
-
-pub nat_true : (m n : ℕ) → (m == n) ≡ true → m ≡ n
-nat_true m n e = grind arith
-
-pub nat_same : (m n : ℕ) → m ≡ n → (m == n) ≡ true
-nat_same m n e = grind arith
-
-pub both_true : (a b : Bool) → a ≡ true → b ≡ true → (a && b) ≡ true
-both_true a b x y = rw (x, y) refl
 
 -- tests that follow from each other are the same
 pub same_test : (a b : Bool) → (a ≡ true → b ≡ true) → (b ≡ true → a ≡ true) → a ≡ b
@@ -63,31 +50,21 @@ vertex_at_stands spots t v is =
     let there : t ≡ slice_index_or spots v t = spot_eq_true t (slice_index_or spots v t) found.1 in
     slice_get-get_or spots v t found.0 ∙ ap Some (sym there)
 
--- a core of the list has a vertex
-pub vertex_there : (spots : List Spot) (t : Spot) → Contains spots t → (v : ℕ) × (vertex_at spots t ≡ Some v)
-vertex_there spots t has = found (nat_lt first (length spots)) refl
+-- what passes a test in a list has a first place
+first_place : (p : Spot → Bool) (spots : List Spot) (t : Spot) → Contains spots t → p t ≡ true → (v : ℕ) × (position p spots ≡ Some v)
+first_place p spots t has passes = by_answer (position p spots) refl
   where
-    first : ℕ
-    first = position_or_len (spot_eq t) spots
+    by_answer : (v : Option ℕ) → position p spots ≡ v → (v : ℕ) × (position p spots ≡ Some v)
+    by_answer (Some v) is = (v, is)
+    by_answer None is = absurd (position_nowhere p spots t is (contains_among t spots has) passes)
 
-    found : (b : Bool) → nat_lt first (length spots) ≡ b → (v : ℕ) × (cond b (Some first) None ≡ Some v)
-    found true e = (first, refl)
-    found false e =
-        let past : length spots ≤ first = ltb-false first (length spots) e in
-        let before : has.0 < first = let within : has.0 < length spots = has.1 in omega arith in
-        let fails : spot_eq t (slice_index_or spots has.0 t) ≡ false = fails_before_first (spot_eq t) spots has.0 t before in
-        let passes : spot_eq t (slice_index_or spots has.0 t) ≡ true = ap (spot_eq t) has.2 ∙ spot_eq_same t in
-        cc
+-- a spot of the list has a vertex
+pub vertex_there : (spots : List Spot) (t : Spot) → Contains spots t → (v : ℕ) × (vertex_at spots t ≡ Some v)
+vertex_there spots t has = first_place (spot_eq t) spots t has (spot_eq_same t)
 
--- different items at one place
-pub one_index : (spots : List Spot) → AllPairs (λ a b. a ≢ b) spots → (v w : ℕ) (t : Spot) → slice_get spots v ≡ Some t → slice_get spots w ≡ Some t → v ≡ w
-one_index spots different v w t at at' = elim (cases_order v w) [
-  | inl same ↦ same
-  | inr (inl before) ↦
-      absurd (different v w t before (slice_get_within spots w t at') (get_or_from_slice_get spots v t t at ∙ sym (get_or_from_slice_get spots w t t at')))
-  | inr (inr after) ↦
-      absurd (different w v t after (slice_get_within spots v t at) (get_or_from_slice_get spots w t t at' ∙ sym (get_or_from_slice_get spots v t t at)))
-]
+-- a spot of the list to which an output leads has a vertex behind the output
+pub vertex_behind_there : (spots : List Spot) (c : Chip) (o : Out) (t : Spot) → Contains spots t → leads_to_spot c o t ≡ true → (v : ℕ) × (vertex_behind spots c o ≡ Some v)
+vertex_behind_there spots c o t has leads = first_place (leads_to_spot c o) spots t has leads
 
 -- ---- what is common to all ways of one net
 
@@ -129,10 +106,6 @@ short_branch s net stands t branch is =
 pub onward_hop : (n : ℕ) → n < 4096 → min (n + 1) last_hop ≡ n + 1
 onward_hop n few = omega arith
 
--- a place of a list is below its length
-pub place_below : {X : Type 0} (xs : List X) (i : ℕ) (x : X) → slice_get xs i ≡ Some x → i < length xs
-place_below xs i x at = slice_get_within xs i x at
-
 -- two branches of the net that pass a chip pass it at one place and come in at one port
 pub one_place : (s : State) (net : NetPlan) → Stands s net → (t u : Spot) (xs ys : List Exit) →
     IsBranch s.setup.machine net.tree.root net.tree.edges t xs → IsBranch s.setup.machine net.tree.root net.tree.edges u ys →
@@ -152,15 +125,9 @@ branch_comes_in s net t xs is (suc i) x at =
 -- a spot is one to which an output of its chip leads
 pub leads_to : (c : Chip) (o : Out) (t : Spot) → t.chip ≡ c → o ≡ out_of t.core → leads_to_spot c o t ≡ true
 leads_to c o t at out =
-    both_true (chip_eq t.chip c) (out_eq (out_of t.core) o)
+    and_from (chip_eq t.chip c) (out_eq (out_of t.core) o)
     (ap (chip_eq t.chip) (sym at) ∙ chip_eq_same t.chip)
     (ap (out_eq (out_of t.core)) out ∙ out_eq_same (out_of t.core))
-
-pub leads_parts : (c : Chip) (o : Out) (t : Spot) → leads_to_spot c o t ≡ true → (t.chip ≡ c) × (out_of t.core ≡ o)
-leads_parts c o t leads = (
-  chip_eq_true t.chip c (and_true_left (chip_eq t.chip c) (out_eq (out_of t.core) o) leads),
-  out_eq_true (out_of t.core) o (and_true_right (chip_eq t.chip c) (out_eq (out_of t.core) o) leads),
-)
 
 -- the vertex behind an output stands on a spot to which the output leads
 pub vertex_behind_stands : (spots : List Spot) (c : Chip) (o : Out) (v : ℕ) → vertex_behind spots c o ≡ Some v →
@@ -169,8 +136,8 @@ vertex_behind_stands spots c o v is =
     let nothing : Spot = record { chip = c; core = 0 } in
     let found = position-Some (leads_to_spot c o) spots v nothing is in
     let t : Spot = slice_index_or spots v nothing in
-    let parts = leads_parts c o t found.1 in
-    (t, slice_get-get_or spots v nothing found.0, parts.0, parts.1)
+    let parts = spot_of_out c o t found.1 in
+    (t, slice_get-get_or spots v nothing found.0, parts.0, sym parts.1)
 
 -- the exits of a branch are wanted
 pub exit_wanted : (s : State) (net : NetPlan) → (t : Spot) → Contains net.targets t → (xs : List Exit) →
@@ -180,14 +147,10 @@ exit_wanted s net t has xs is i x at = by_end (exit_leads s.setup.machine net.tr
   where
     by_end : ExitLeads s.setup.machine net.tree.edges t xs i x → is_wanted net.tree.edges net.targets x.chip x.out ≡ true
     by_end (inl (d, out, in_tree, next)) =
-        let e : Edge = record { chip = x.chip; dir = d } in
-        let by_edge : is_edge_out net.tree.edges x.chip (Link d) ≡ true =
-        list_any_at (edge_eq e) net.tree.edges in_tree.0 e in_tree.1 (ap (edge_eq e) in_tree.2 ∙ edge_eq_self e)
-        in
-        or_left (is_edge_out net.tree.edges x.chip x.out) _ (ap (is_edge_out net.tree.edges x.chip) out ∙ by_edge)
+        subst (λ (o : Out). is_wanted net.tree.edges net.targets x.chip o ≡ true) (sym out) (edge_wanted net.tree.edges net.targets (record { chip = x.chip; dir = d }) in_tree)
     by_end (inr (chip, out, last)) =
-        or_right (is_edge_out net.tree.edges x.chip x.out) _
-        (list_any_at (leads_to_spot x.chip x.out) net.targets has.0 t has.1 (ap (leads_to_spot x.chip x.out) has.2 ∙ leads_to x.chip x.out t chip out))
+        subst (λ (c : Chip). is_wanted net.tree.edges net.targets c x.out ≡ true) chip
+        (subst (λ (o : Out). is_wanted net.tree.edges net.targets t.chip o ≡ true) (sym out) (end_wanted net.tree.edges net.targets t has))
 
 -- an output that leads to a spot is one that a route can name
 pub spot_output : (p : ℕ) → IsOutput (out_of p)
@@ -219,48 +182,30 @@ same_exit : (c d : Chip) (o p : Out) → c ≡ d → o ≡ p → (let x : Exit =
 same_exit c d o p e f = cc
 
 pub wanted_on_branch : (s : State) (net : NetPlan) → Stands s net → (x : Exit) → is_wanted net.tree.edges net.targets x.chip x.out ≡ true → OnBranch s net x
-wanted_on_branch s net stands x wanted =
-    elim (or_cases (is_edge_out net.tree.edges x.chip x.out) _ wanted) [
-      | inl edge ↦ by_edge x.out edge
-      | inr target ↦ by_target target
-    ]
+wanted_on_branch s net stands x wanted = by_case (wanted_cases net.tree.edges net.targets x.chip x.out wanted)
   where
-    m : Description
-    m = s.setup.machine
-
-    by_edge : (o : Out) → is_edge_out net.tree.edges x.chip o ≡ true → OnBranch s net (record { chip = x.chip; out = o })
-    by_edge (Link d) yes' =
+    by_case : ((d : Dir) × (x.out ≡ Link d) × Contains net.tree.edges (record { chip = x.chip; dir = d }))
+        ⊎ ((t : Spot) × Contains net.targets t × (t.chip ≡ x.chip) × (x.out ≡ out_of t.core)) → OnBranch s net x
+    by_case (inl (d, out, has)) =
         let e : Edge = record { chip = x.chip; dir = d } in
-        let found = Any-from_list_any (edge_eq e) net.tree.edges yes' in
-        let same : e ≡ found.1 = edge_eq-true e found.1 found.4 in
-        let has : Contains net.tree.edges e =
-        subst (λ (f : Edge). Contains net.tree.edges f) (sym same) (found.0, found.2, found.3)
-        in
-        let way = link_on_branch m net.tree.root net.tree.edges net.targets stands.tree e has in
+        let way = link_on_branch s.setup.machine net.tree.root net.tree.edges net.targets stands.tree e has in
         record {
           target = way.0;
           is_target = way.1;
           branch = way.2.0;
           is_branch = way.2.1;
           place = way.2.2.0;
-          at = slice_get-get_or way.2.0 way.2.2.0 (exit_of e) way.2.2.1 ∙ ap Some way.2.2.2;
+          at = slice_get-get_or way.2.0 way.2.2.0 (exit_of e) way.2.2.1 ∙ ap Some (way.2.2.2 ∙ same_exit x.chip x.chip (Link d) x.out refl (sym out));
         }
-    by_edge (Core p) yes' = cc
-
-    by_target : list_any (leads_to_spot x.chip x.out) net.targets ≡ true → OnBranch s net x
-    by_target yes' =
-        let found = Any-from_list_any (leads_to_spot x.chip x.out) net.targets yes' in
-        let t : Spot = found.1 in
-        let has : Contains net.targets t = (found.0, found.2, found.3) in
-        let parts = leads_parts x.chip x.out t found.4 in
-        let way = end_on_branch m net.tree.root net.tree.edges net.targets stands.tree t has in
+    by_case (inr (t, has, chip, out)) =
+        let way = end_on_branch s.setup.machine net.tree.root net.tree.edges net.targets stands.tree t has in
         record {
           target = t;
           is_target = has;
           branch = way.0;
           is_branch = way.1;
           place = way.2.0;
-          at = slice_get-get_or way.0 way.2.0 (last_exit t) way.2.1 ∙ ap Some (way.2.2 ∙ same_exit t.chip x.chip (out_of t.core) x.out parts.0 parts.1);
+          at = slice_get-get_or way.0 way.2.0 (last_exit t) way.2.1 ∙ ap Some (way.2.2 ∙ same_exit t.chip x.chip (out_of t.core) x.out chip (sym out));
         }
 
 -- each target of a net that stands has a way

@@ -1,5 +1,6 @@
 -- The ledger of copies: each target's copy of each packet is in exactly one place of its trail.
-use Rattle.std.specs.Prelude.{◌≡◌, ◌≢◌, ℕ, ◌+◌, ◌/◌, ◌%◌, IsTrue, List, [], ◌∷◌, ◌++◌, map, All, AllPairs, Contains, Option, Some, None, count_by, slice_index_or}
+use Rattle.std.specs.Prelude.{◌≡◌, ℕ, ◌/◌, ◌%◌, IsTrue, List, [], ◌∷◌, ◌++◌, map, Contains, Option, Some, None, count_by, slice_index_or}
+pub use Rattle.list_laws.specs.Gathered.{gathered}
 use Rattle.spin_base.specs.Links.{all_dirs}
 use Rattle.spin_base.specs.declared.chips.Chip.{Chip}
 use Rattle.spin_base.specs.declared.chips.Spot.{Spot}
@@ -23,11 +24,6 @@ all_ports = map ByLink all_dirs ++ Local ∷ []
 -- the port of a number below 7
 abbrev pub port_of : ℕ → Port
 port_of n = slice_index_or all_ports n Local
-
--- what is made of each item of a list and its place, from a first place on, one after the other
-abbrev pub gathered : {X Y : Type 0} → (ℕ → X → List Y) → ℕ → List X → List Y
-gathered f i [] = []
-gathered f i (x ∷ xs) = f i x ++ gathered f (i + 1) xs
 
 -- a mark for each copy of a list, at one station
 abbrev pub marked : Station → List McCopy → List Mark

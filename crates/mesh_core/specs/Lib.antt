@@ -12,5 +12,6 @@ pub mod Step
 pub mod Tabled
 pub mod Trail
 pub mod VertexTable
+pub mod Waiting
 pub mod Whereabouts
 pub mod Whole

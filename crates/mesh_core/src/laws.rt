@@ -1,7 +1,11 @@
 //! Laws of the core. Each function does nothing: its clauses are the law, for every mesh.
-ghost use Rattle.std.specs.Prelude.{◌≡◌, ◌≢◌, ◌≤◌, ◌*◌, ℕ, List, [], Option, All, AllPairs, Contains, length};
+ghost use Rattle.std.specs.Prelude.{◌≡◌, ◌≢◌, ◌≤◌, ◌+◌, ◌*◌, ◌^◌, ◌==◌, ℕ, List, [], Option, Some, count_by, All, AllPairs, Contains, length};
+ghost use Rattle.spin_base.specs.declared.chips.Chip.{Chip};
 ghost use Rattle.spin_base.specs.declared.chips.Spot.{Spot};
+ghost use Rattle.spin_base.specs.declared.routes.Out.{Out};
+ghost use Rattle.spin_base.specs.declared.copies.McCopy.{McCopy};
 ghost use Rattle.spin_base.specs.declared.copies.Event.{Event};
+ghost use Rattle.spin_base.specs.declared.copies.Event.TheVariants.{Dump};
 ghost use Rattle.spin_base.specs.declared.copies.Packet.{Packet};
 ghost use Rattle.machine_desc.specs.Branch.{Exit};
 ghost use Rattle.machine_desc.specs.Description.{Description, HasSize};
@@ -9,10 +13,13 @@ ghost use Rattle.machine_desc.specs.Live.{IsSite};
 ghost use Rattle.net_tables.specs.declared.nets.NetPlan.{NetPlan};
 ghost use Rattle.net_tables.specs.NetsOn.{AreNetsOn, IsWayOn};
 ghost use Rattle.net_tables.specs.RightTables.{AreRight};
-ghost use Rattle.mesh_core.specs.State.{Setup, State, IsMesh};
-ghost use Rattle.mesh_core.specs.Step.{after_events};
+ghost use Rattle.mesh_core.specs.State.{Setup, State, IsMesh, Behind, behind};
+ghost use Rattle.mesh_core.specs.declared.places.Did.TheVariants.{Idle};
+ghost use Rattle.mesh_core.specs.Step.{after_events, answer};
 ghost use Rattle.mesh_core.specs.PutBack.{after_put_back};
-ghost use Rattle.mesh_core.specs.Ledger.{Label, Asked, MeetsLedger, MeetsLedgerFor};
+ghost use Rattle.mesh_core.specs.Ledger.{marks_of, Label, Asked, MeetsLedger, MeetsLedgerFor};
+ghost use Rattle.mesh_core.specs.Trail.{in_hand};
+ghost use Rattle.mesh_core.specs.Waiting.{queue_of};
 ghost use Rattle.mesh_core.specs.Opened.{opened_mesh, AreOfNets, MeetsJobLedger};
 ghost use Rattle.mesh_core.specs.Expected.{IsAtRest, AreAsExpected};
 
@@ -71,4 +78,43 @@ pub fn opened_mesh_meets_its_ledger()
 pub fn a_mesh_at_rest_has_delivered_all()
     ensures { (s : State) (nets : List NetPlan) (packets : List Packet) →
         MeetsJobLedger s nets packets → IsAtRest s → s.dumped ≡ [] → AreAsExpected s nets packets }
+{}
+
+/// The deliveries and dump records of a mesh that meets the ledger of a job are few: together at most the number of packets
+/// times the greatest number of targets of a net, so at most 2 ^ 30 for 65,536 packets and 16,384 vertices.
+pub fn deliveries_and_records_are_few()
+    ensures few { (s : State) (nets : List NetPlan) (packets : List Packet) (most : ℕ) →
+        MeetsJobLedger s nets packets → All (λ net. length net.targets ≤ most) nets →
+        length s.delivered + length s.dumped ≤ length packets * most }
+    ensures at_limits { (s : State) (nets : List NetPlan) (packets : List Packet) →
+        MeetsJobLedger s nets packets → length packets ≤ 2 ^ 16 → length s.setup.spots ≤ 2 ^ 14 →
+        length s.delivered + length s.dumped ≤ 2 ^ 30 }
+{}
+
+/// In a mesh that meets the ledger of copies a packet waits once: behind each output that a hand still has to serve there is a
+/// queue, without a copy of the hand's packet; and no queue has two copies of one packet.
+pub fn a_packet_waits_once()
+    ensures behind_a_hand { (s : State) (nets : List NetPlan) (labels : ℕ → Label) (c : Chip) (o : Out) (k : McCopy) →
+        IsMesh s → MeetsLedger s nets labels → Contains (marks_of s) (record { copy = k; station = in_hand c o }) →
+        (q : List McCopy) × (queue_of s (behind s.setup c o) ≡ Some q) × All (λ j. j.packet ≢ k.packet) q }
+    ensures in_a_queue { (s : State) (nets : List NetPlan) (labels : ℕ → Label) (b : Behind) (q : List McCopy) (number : ℕ) →
+        MeetsLedger s nets labels → queue_of s b ≡ Some q → count_by (λ j. j.packet == number) q ≤ 1 }
+{}
+
+/// Where a queue has room for a copy of each packet of a job, no Dump is enabled, and no list of events makes a dump record.
+pub fn a_roomy_mesh_drops_nothing()
+    ensures idle { (s : State) (nets : List NetPlan) (packets : List Packet) (c : Chip) (o : Out) →
+        IsMesh s → MeetsJobLedger s nets packets → length packets ≤ s.setup.capacity → answer s (Dump c o) ≡ Idle }
+    ensures no_record { (s : State) (nets : List NetPlan) (packets : List Packet) (events : List Event) →
+        IsMesh s → AreRight s.setup.machine s.setup.tables nets → MeetsJobLedger s nets packets → length packets ≤ s.setup.capacity →
+        (after_events s events).dumped ≡ s.dumped }
+{}
+
+/// So it has delivered all that the job asks for, and nothing else, after every list of events from the opened mesh of the job
+/// that leaves nothing waiting and nothing unsent: in whatever order routers, cores and vertices take their turns.
+pub fn a_roomy_mesh_delivers_all()
+    ensures { (setup : Setup) (nets : List NetPlan) (packets : List Packet) (events : List Event) →
+        IsMesh (opened_mesh setup nets packets) → AreRight setup.machine setup.tables nets → AreNetsOn setup.machine setup.spots nets →
+        AreOfNets nets packets → length packets ≤ setup.capacity → IsAtRest (after_events (opened_mesh setup nets packets) events) →
+        AreAsExpected (after_events (opened_mesh setup nets packets) events) nets packets }
 {}

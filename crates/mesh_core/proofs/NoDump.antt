@@ -1,0 +1,102 @@
+-- Where a queue has room for a copy of each packet of a job, no copy is dumped.
+use Rattle.std.proofs.Common.{◌≡◌, ◌≢◌, ℕ, ◌+◌, ◌*◌, ◌<◌, ◌≤◌, List, ◌∷◌, Bool, true, false, not, ◌==◌, ◌&&◌, if◌then◌else◌, Option, Some, None, is_some, refl, ap, sym, ◌∙◌, subst, arith, inl, inr, length, count_by}
+use Rattle.std.specs.List.{slice_get, list_any, Contains}
+use Rattle.std.proofs.lemmas.Bool.{lt-ltb, and_parts, eqb-true}
+use Rattle.std.proofs.lemmas.List.Elements.{All-contains}
+use Rattle.std.proofs.lemmas.List.Folds.{Any-from_list_any}
+use Rattle.list_laws.proofs.Counts.{count_by-cons, count_by-none}
+use Rattle.list_laws.proofs.Members.{Among, among_contains, contains_among}
+use Rattle.spin_base.specs.declared.chips.Chip.{Chip}
+use Rattle.spin_base.specs.declared.routes.Out.{Out}
+use Rattle.spin_base.specs.declared.copies.McCopy.{McCopy}
+use Rattle.spin_base.specs.declared.copies.Packet.{Packet}
+use Rattle.spin_base.specs.declared.copies.Event.TheVariants.{Dump}
+use Rattle.spin_base.specs.Equality.{out_eq}
+use Rattle.spin_base.proofs.Equality.{out_eq_true}
+use Rattle.machine_desc.specs.Live.{index_of, is_live_chip, IsInside}
+use Rattle.machine_desc.proofs.Far.{live_inside}
+use Rattle.net_tables.specs.declared.nets.NetPlan.{NetPlan}
+use Rattle.mesh_core.specs.declared.places.Did.TheVariants.{Moved, Idle}
+use Rattle.mesh_core.specs.State.{State, Held, IsMesh, Behind, input, core, nowhere, behind}
+use Rattle.mesh_core.specs.Step.{dump_of, serves, has_room, has_room_behind, answer}
+use Rattle.mesh_core.specs.Trail.{in_hand, Mark}
+use Rattle.mesh_core.specs.Ledger.{marks_of, label_of}
+use Rattle.mesh_core.specs.Opened.{asked_by, MeetsJobLedger}
+use Rattle.mesh_core.specs.Waiting.{queue_of}
+use Rattle.mesh_core.proofs.Counting.{count_all, count_le, count_numbered}
+use Rattle.mesh_core.proofs.FewMarks.{number_below}
+use Rattle.mesh_core.proofs.Moves.{mark}
+use Rattle.mesh_core.proofs.Queued.{FreeBehind, free_behind, once_in_queue, waiting_mark}
+use Rattle.mesh_core.proofs.Standing.{held_mark}
+
+-- a queue that is shorter than the capacity has room
+room_of : (s : State) (b : Behind) (q : List McCopy) → queue_of s b ≡ Some q → length q < s.setup.capacity → has_room_behind s b ≡ true
+room_of s (input i) q at short = ap (has_room s.setup.capacity) at ∙ lt-ltb (length q) s.setup.capacity short
+room_of s (core v) q at short = ap (has_room s.setup.capacity) at ∙ lt-ltb (length q) s.setup.capacity short
+room_of s nowhere q at short = cc
+
+one_more : (b : Bool) (n : ℕ) → (b ≡ true → n ≤ 0) → n ≤ 1 → (if b then 1 else 0) + n ≤ 1
+one_more true n none few = let zero_more = none refl in omega arith
+one_more false n none few = omega arith
+
+module _ (s : State) (nets : List NetPlan) (packets : List Packet) (mesh : IsMesh s) (job : MeetsJobLedger s nets packets) (roomy : length packets ≤ s.setup.capacity) where
+  module _ (c : Chip) (o : Out) (k : McCopy) (has : Contains (marks_of s) (mark k (in_hand c o))) where
+    free : FreeBehind s c o k.packet
+    free = free_behind s nets (λ i. label_of (asked_by nets packets i)) job.ledger.ledger mesh c o k has
+
+    -- the packet in hand and those in the queue behind it are different ones of the job
+    short : length free.0 < length packets
+    short =
+        let q : List McCopy = free.0 in
+        let all : count_by (λ (j : McCopy). true) (k ∷ q) ≡ length (k ∷ q) = count_all (λ (j : McCopy). true) (k ∷ q) (λ j a. refl) in
+        let few : count_by (λ (j : McCopy). true) (k ∷ q) ≤ length packets * 1 = count_numbered (λ (j : McCopy). j.packet) (length packets) 1 (λ j. true) (k ∷ q) below each in
+        omega (arith, all, few)
+      where
+        below : (j : McCopy) → Among j (k ∷ free.0) → true ≡ true → j.packet < length packets
+        below j (inl same) yes' =
+            subst (λ (i : McCopy). i.packet < length packets) (sym same) (number_below s nets packets job (mark k (in_hand c o)) has)
+        below j (inr later) yes' =
+            let there = waiting_mark s nets (λ i. label_of (asked_by nets packets i)) job.ledger.ledger (behind s.setup c o) free.0 free.1 j later in
+            number_below s nets packets job _ there
+
+        each : (i : ℕ) → i < length packets → count_by (λ (j : McCopy). j.packet == i) (k ∷ free.0) ≤ 1
+        each i low =
+            subst (λ n. n ≤ 1) (sym (count_by-cons (λ (j : McCopy). j.packet == i) k free.0))
+            (one_more (k.packet == i) (count_by (λ (j : McCopy). j.packet == i) free.0) none
+            (once_in_queue s nets (λ n. label_of (asked_by nets packets n)) job.ledger.ledger (behind s.setup c o) free.0 free.1 i))
+          where
+            none : (k.packet == i) ≡ true → count_by (λ (j : McCopy). j.packet == i) free.0 ≤ 0
+            none is =
+                let number : k.packet ≡ i = eqb-true k.packet i is in
+                let fewer = count_le (λ (j : McCopy). j.packet == i) (λ j. false) free.0 (λ j among same.
+                absurd (All-contains (λ (d : McCopy). d.packet ≢ k.packet) free.0 j free.2 (among_contains j free.0 among) (eqb-true j.packet i same ∙ sym number)))
+                in
+                let zero_count = count_by-none free.0 in
+                omega (arith, fewer, zero_count)
+
+    room : has_room_behind s (behind s.setup c o) ≡ true
+    room = room_of s (behind s.setup c o) free.0 free.1 (omega (arith, short, roomy))
+
+  idle_by : (c : Chip) (o : Out) (h : Held) → slice_get s.hands (index_of s.setup.machine c) ≡ Some (Some h) → (serving has : Bool) →
+      serves s c o (Some (Some h)) ≡ serving → has_room_behind s (behind s.setup c o) ≡ has → (t : State) →
+      (if serving && not has then Some t else None) ≡ None
+  idle_by c o h at false has idle room' t = refl
+  idle_by c o h at true true serving room' t = refl
+  idle_by c o h at true false serving full t =
+      let inside : IsInside s.setup.machine c = live_inside s.setup.machine c ((and_parts (is_live_chip s.setup.machine c) (list_any (out_eq o) h.outs) serving).0) in
+      let found = Any-from_list_any (out_eq o) h.outs ((and_parts (is_live_chip s.setup.machine c) (list_any (out_eq o) h.outs) serving).1) in
+      let is : o ≡ found.1 = out_eq_true o found.1 found.4 in
+      let in_outs : Contains h.outs o = subst (λ (p : Out). Contains h.outs p) (sym is) (found.0, found.2, found.3) in
+      let m : Mark = mark h.copy (in_hand c o) in
+      let there : Contains (marks_of s) m = among_contains m (marks_of s) (held_mark s c o inside h at (contains_among o h.outs in_outs)) in
+      let has_it = room c o h.copy there in
+      cc
+
+  pub dump_none : (c : Chip) (o : Out) (hand : Option (Option Held)) → slice_get s.hands (index_of s.setup.machine c) ≡ hand → dump_of s c o hand ≡ None
+  dump_none c o (Some (Some h)) at = idle_by c o h at (serves s c o (Some (Some h))) (has_room_behind s (behind s.setup c o)) refl refl _
+  dump_none c o (Some None) at = refl
+  dump_none c o None at = refl
+
+  -- No Dump is enabled.
+  pub no_dump : (c : Chip) (o : Out) → answer s (Dump c o) ≡ Idle
+  no_dump c o = ap (λ (t : Option State). if is_some t then Moved else Idle) (dump_none c o (slice_get s.hands (index_of s.setup.machine c)) refl)

@@ -1,0 +1,274 @@
+-- Where a packet waits, in a mesh that meets the ledger: behind each output that a hand still has to serve there is a queue
+-- without a copy of the hand's packet, and no queue has two copies of one packet.
+use Rattle.std.proofs.Common.{◌≡◌, ◌≢◌, ℕ, ◌+◌, ◌/◌, ◌%◌, ◌<◌, ◌≤◌, suc, List, ◌++◌, Bool, true, false, ◌==◌, Some, refl, ap, sym, ◌∙◌, subst, arith, inl, inr, length, count_by}
+use Rattle.std.specs.List.{slice_get, All, Contains}
+use Rattle.std.proofs.lemmas.Bool.{cases_order, and_parts, eqb-true, eq-eqb, and_from}
+use Rattle.std.proofs.lemmas.List.Elements.{All-contains}
+use Rattle.std.proofs.lemmas.Option.{slice_get_within, get_or_from_slice_get}
+use Rattle.list_laws.proofs.Counts.{count_by-map, count_by-append}
+use Rattle.list_laws.proofs.Gathering.{gathered_among}
+use Rattle.list_laws.proofs.Members.{Among, among_left, among_right, among_contains, contains_among, map_among}
+use Rattle.list_laws.proofs.Pairs.{AllPairs-apart}
+use Rattle.list_laws.proofs.Places.{All-each, slice_get_there}
+use Rattle.spin_base.specs.declared.chips.Chip.{Chip}
+use Rattle.spin_base.specs.declared.chips.Dir.{Dir}
+use Rattle.spin_base.specs.declared.chips.Spot.{Spot}
+use Rattle.spin_base.specs.declared.chips.Port.{Port}
+use Rattle.spin_base.specs.declared.chips.Port.TheVariants.{Link as ByLink}
+use Rattle.spin_base.specs.declared.routes.Out.{Out}
+use Rattle.spin_base.specs.declared.routes.Out.TheVariants.{Link, Core}
+use Rattle.spin_base.specs.declared.copies.McCopy.{McCopy}
+use Rattle.spin_base.specs.Links.{opposite_of}
+use Rattle.spin_base.specs.Outputs.{out_of}
+use Rattle.machine_desc.specs.Live.{far_of, chip_of, is_live_link, IsInside, IsLiveLink, IsSite}
+use Rattle.machine_desc.specs.Branch.{Exit}
+use Rattle.machine_desc.proofs.Branches.{exit_leads, ExitLeads}
+use Rattle.machine_desc.proofs.Far.{live_inside, live_ends, far_inside}
+use Rattle.machine_desc.proofs.Sites.{end_is_no_live_link, same_site}
+use Rattle.net_tables.specs.declared.nets.NetPlan.{NetPlan}
+use Rattle.net_tables.specs.NetsOn.{IsWayOn}
+use Rattle.net_tables.specs.RightTables.{IsKeyOf}
+use Rattle.machine_desc.specs.RoutingTree.{IsRoutingTree}
+use Rattle.mesh_core.specs.State.{Setup, State, IsMesh, Behind, input, core, nowhere, queue_at, core_of, behind, behind_link, vertex_behind}
+use Rattle.mesh_core.specs.Trail.{Station, in_queue, in_hand, at_core, Mark, is_on_trail, is_packet_on_trail}
+use Rattle.mesh_core.specs.Ledger.{marks_of, marked, port_of, unsent_marks, input_marks, all_hand_marks, core_marks, delivered_marks, dumped_marks, Label, MeetsLedger}
+use Rattle.mesh_core.specs.Waiting.{queue_of}
+use Rattle.mesh_core.specs.Whereabouts.{IsTracked}
+use Rattle.mesh_core.proofs.Changes.{queue_at-below}
+use Rattle.mesh_core.proofs.Counting.{count_two, count_le, counted, count_gathered_part}
+use Rattle.mesh_core.proofs.Law.{leaves_parts, comes_parts}
+use Rattle.mesh_core.proofs.Moves.{mark}
+use Rattle.mesh_core.proofs.Standing.{queued_mark, core_mark}
+use Rattle.mesh_core.proofs.WalkingUp.{comes_on, ends_on}
+use Rattle.mesh_core.proofs.Ways.{vertex_at_stands, vertex_behind_there, vertex_behind_stands, leads_to}
+
+-- the queue behind an output, which has no copy of this packet
+abbrev pub FreeBehind : State → Chip → Out → ℕ → Type 0
+FreeBehind s c o packet = (q : List McCopy) × (queue_of s (behind s.setup c o) ≡ Some q) × All (λ j. j.packet ≢ packet) q
+
+module _ (s : State) (nets : List NetPlan) (labels : ℕ → Label) (ledger : MeetsLedger s nets labels) where
+  -- the trail of a mark
+  record OnTrail (x : Mark) : Type 0 where
+    net : NetPlan
+    in_nets : Contains nets net
+    is_key : IsKeyOf net.block x.copy.key
+    target : Spot
+    branch : List Exit
+    from : ℕ
+    to : ℕ
+    way : IsWayOn s.setup.machine s.setup.spots net target branch from to
+    on : is_on_trail from to branch x ≡ true
+    tracked : IsTracked s net x.copy.packet
+    once : count_by (is_packet_on_trail x.copy.packet from to branch) (marks_of s) ≡ 1
+
+  trail_of : (x : Mark) → Contains (marks_of s) x → OnTrail x
+  trail_of x has =
+      let on = ledger.on_a_trail x has in
+      record {
+        net = on.0;
+        in_nets = on.1;
+        is_key = on.2;
+        target = on.3.0;
+        branch = on.3.1;
+        from = on.3.2;
+        to = on.3.3;
+        way = on.3.4;
+        on = on.3.5;
+        tracked = record { nets = nets; labels = labels; ledger = ledger; in_nets = on.1; mark = x; is_mark = has; is_packet = refl; is_key = on.2 };
+        once = ledger.once_on_each x has on.0 on.1 on.2 on.3.0 on.3.1 on.3.2 on.3.3 on.3.4;
+      }
+
+  -- another mark of the packet is not on the trail
+  not_twice : (x : Mark) → Contains (marks_of s) x → (t : OnTrail x) → (y : Mark) → Contains (marks_of s) y → y.copy.packet ≡ x.copy.packet →
+      is_on_trail t.from t.to t.branch y ≡ true → x ≢ y → ⊥
+  not_twice x has t y there same on apart =
+      let p : Mark → Bool = is_packet_on_trail x.copy.packet t.from t.to t.branch in
+      let px : p x ≡ true = and_from (x.copy.packet == x.copy.packet) (is_on_trail t.from t.to t.branch x) (eq-eqb x.copy.packet x.copy.packet refl) t.on in
+      let py : p y ≡ true = and_from (y.copy.packet == x.copy.packet) (is_on_trail t.from t.to t.branch y) (eq-eqb y.copy.packet x.copy.packet same) on in
+      let two = count_two p x y (marks_of s) apart px py (contains_among x (marks_of s) has) (contains_among y (marks_of s) there) in
+      let one = t.once in
+      absurd (omega (arith, two, one))
+
+  -- ---- behind a hand
+
+  module _ (mesh : IsMesh s) (c : Chip) (o : Out) (k : McCopy) (has : Contains (marks_of s) (mark k (in_hand c o))) where
+    abbrev x : Mark
+    x = mark k (in_hand c o)
+
+    t : OnTrail (mark k (in_hand c o))
+    t = trail_of (mark k (in_hand c o)) has
+
+    -- where the branch goes on there is an input queue at the far end
+    behind_edge : (d : Dir) → o ≡ Link d → IsLiveLink s.setup.machine c d → (y : Exit) → far_of s.setup.machine c d ≡ Some y.chip → slice_get t.branch (suc k.hop) ≡ Some y →
+        FreeBehind s c o k.packet
+    behind_edge d out live y far next =
+        let u : Setup = s.setup in
+        let port : Port = ByLink (opposite_of d) in
+        let i : ℕ = queue_at u.machine y.chip port in
+        let in_c : IsInside u.machine c = live_inside u.machine c (live_ends u.machine c d live).2 in
+        let inside : IsInside u.machine y.chip = far_inside u.machine c y.chip d in_c far in
+        let low : i < length s.inputs = let below = queue_at-below u.machine y.chip port inside in let long = mesh.input_lists in omega (arith, below, long) in
+        let q = slice_get_there s.inputs i low in
+        let is_behind : behind u c o ≡ input i =
+        ap (behind u c) out ∙ (ap (λ b. behind_link u c d b (far_of u.machine c d)) live ∙ ap (behind_link u c d true) far)
+        in (
+          q.0,
+          ap (queue_of s) is_behind ∙ q.1,
+          All-each (λ j. j.packet ≢ k.packet) q.0 (λ j in_q same.
+              let m : Mark = mark j (in_queue y.chip port) in
+              let there : Contains (marks_of s) m =
+              among_contains m (marks_of s) (queued_mark s y.chip port inside j q.0 q.1 (contains_among j q.0 in_q))
+              in
+              not_twice x has t m there same
+              (comes_on s t.net k.packet t.tracked t.target t.way.is_target t.branch t.from t.to t.way m there same (suc k.hop) y.chip y.out port next refl)
+              (λ e'. let stations : in_hand c o ≡ in_queue y.chip port = ap (λ (z : Mark). z.station) e' in cc)),
+        )
+
+    -- where the branch ends there is the queue of the target's vertex
+    behind_end : t.target.chip ≡ c → o ≡ out_of t.target.core → FreeBehind s c o k.packet
+    behind_end chip out =
+        let u : Setup = s.setup in
+        let on_spot : Contains u.spots t.target =
+        All-contains (Contains u.spots) t.net.targets t.target (All-contains (λ n. All (Contains u.spots) n.targets) nets t.net ledger.nets_stand.targets t.in_nets) t.way.is_target
+        in
+        let site : IsSite u.machine t.target = All-contains (IsSite u.machine) u.spots t.target mesh.sites on_spot in
+        let vertex = vertex_behind_there u.spots c o t.target on_spot (leads_to c o t.target chip out) in
+        let spot = vertex_behind_stands u.spots c o vertex.0 vertex.1 in
+        let its_site : IsSite u.machine spot.0 =
+        subst (IsSite u.machine) (get_or_from_slice_get u.spots vertex.0 spot.0 spot.0 spot.1) (mesh.sites vertex.0 spot.0 (slice_get_within u.spots vertex.0 spot.0 spot.1))
+        in
+        let same_spot : spot.0 ≡ t.target = same_site u.machine spot.0 t.target its_site site (spot.2 ∙ sym chip) (spot.3 ∙ out) in
+        let goal : slice_get u.spots t.to ≡ Some t.target = vertex_at_stands u.spots t.target t.to t.way.ends in
+        let is_to : vertex.0 ≡ t.to = AllPairs-apart u.spots t.target mesh.different vertex.0 t.to (spot.1 ∙ ap Some same_spot) goal in
+        let low : vertex.0 < length s.cores = let below = slice_get_within u.spots vertex.0 spot.0 spot.1 in let long = mesh.core_lists in omega (arith, below, long) in
+        let q = slice_get_there s.cores vertex.0 low in
+        let is_behind : behind u c o ≡ core vertex.0 = to_vertex o out vertex.0 vertex.1 site in (
+          q.0,
+          ap (queue_of s) is_behind ∙ q.1,
+          All-each (λ j. j.packet ≢ k.packet) q.0 (λ j in_q same.
+              let m : Mark = mark j (at_core vertex.0) in
+              let there : Contains (marks_of s) m = among_contains m (marks_of s) (core_mark s vertex.0 j q.0 q.1 (contains_among j q.0 in_q)) in
+              not_twice x has t m there same
+              (ends_on s t.net k.packet t.tracked t.target t.way.is_target t.branch t.from t.to t.way m there same
+              (vertex.0, t.way.ends ∙ ap Some (sym is_to), inl refl))
+              (λ e'. let stations : in_hand c o ≡ at_core vertex.0 = ap (λ (z : Mark). z.station) e' in cc)),
+        )
+      where
+        to_vertex : (p : Out) → p ≡ out_of t.target.core → (v : ℕ) → vertex_behind s.setup.spots c p ≡ Some v → IsSite s.setup.machine t.target → behind s.setup c p ≡ core v
+        to_vertex (Link d) is v vertex site =
+            let dead : is_live_link s.setup.machine c d ≡ false =
+            ap (λ (z : Chip). is_live_link s.setup.machine z d) (sym chip) ∙ end_is_no_live_link s.setup.machine t.target d site (sym is)
+            in
+            ap (λ b. behind_link s.setup c d b (far_of s.setup.machine c d)) dead ∙ ap core_of vertex
+        to_vertex (Core p) is v vertex site = ap core_of vertex
+
+    by_end : ExitLeads s.setup.machine t.net.tree.edges t.target t.branch k.hop (record { chip = c; out = o }) → FreeBehind s c o k.packet
+    by_end (inl (d, out, in_tree, (y, far, next))) =
+        let tree = All-contains (λ n. IsRoutingTree s.setup.machine n.tree.root n.tree.edges n.targets) nets t.net ledger.nets_stand.trees t.in_nets in
+        let live : IsLiveLink s.setup.machine c d = All-contains (λ f. IsLiveLink s.setup.machine f.chip f.dir) t.net.tree.edges (record { chip = c; dir = d }) tree.edges_live in_tree in
+        behind_edge d out live y far next
+    by_end (inr (chip, out, last)) = behind_end chip out
+
+    -- Behind an output that a hand still has to serve there is a queue without a copy of the hand's packet.
+    pub free_behind : FreeBehind s c o k.packet
+    free_behind =
+        by_end (exit_leads s.setup.machine t.net.tree.edges t.target t.net.tree.root t.branch k.hop (record { chip = c; out = o }) t.way.is_branch (leaves_parts t.branch k.hop c o t.on))
+
+  -- ---- in a queue
+
+  -- what is counted in one part is counted in all marks
+  in_input_marks : (p : Mark → Bool) → count_by p (input_marks s) ≤ count_by p (marks_of s)
+  in_input_marks p =
+      let later : List Mark = all_hand_marks s ++ (core_marks s ++ (delivered_marks s ++ dumped_marks s)) in
+      omega (arith, count_by-append p (unsent_marks s) (input_marks s ++ later), count_by-append p (input_marks s) later)
+
+  in_core_marks : (p : Mark → Bool) → count_by p (core_marks s) ≤ count_by p (marks_of s)
+  in_core_marks p =
+      let last : List Mark = delivered_marks s ++ dumped_marks s in
+      omega (
+        arith,
+        count_by-append p (unsent_marks s) (input_marks s ++ (all_hand_marks s ++ (core_marks s ++ last))),
+        count_by-append p (input_marks s) (all_hand_marks s ++ (core_marks s ++ last)),
+        count_by-append p (all_hand_marks s) (core_marks s ++ last),
+        count_by-append p (core_marks s) last,
+      )
+
+  -- a queue whose copies have this station, and whose marks of one packet are on one trail
+  once_at : (at : Station) (q : List McCopy) → ((j : McCopy) → Among j q → Contains (marks_of s) (mark j at)) →
+      ((p : Mark → Bool) → count_by p (marked at q) ≤ count_by p (marks_of s)) →
+      ((x : McCopy) (t : OnTrail (mark x at)) → (j : McCopy) → Among j q → j.packet ≡ x.packet → is_on_trail t.from t.to t.branch (mark j at) ≡ true) →
+      (n : ℕ) → count_by (λ j. j.packet == n) q ≤ 1
+  once_at at q there part same_trail n = elim (cases_order (count_by (λ j. j.packet == n) q) 0) [
+    | inl none ↦ omega arith
+    | inr (inl below) ↦ absurd (omega arith)
+    | inr (inr some) ↦
+        let found = counted (λ (j : McCopy). j.packet == n) q (omega (arith, some)) in
+        let a : McCopy = found.0 in
+        let t : OnTrail (mark a at) = trail_of (mark a at) (there a found.1) in
+        let number : a.packet ≡ n = eqb-true a.packet n found.2 in
+        let p : Mark → Bool = is_packet_on_trail a.packet t.from t.to t.branch in
+        let fewer : count_by (λ j. j.packet == n) q ≤ count_by (λ j. p (mark j at)) q =
+        count_le (λ (j : McCopy). j.packet == n) (λ j. p (mark j at)) q (λ j among passes.
+        let same : j.packet ≡ a.packet = eqb-true j.packet n passes ∙ sym number in
+        and_from (j.packet == a.packet) (is_on_trail t.from t.to t.branch (mark j at)) (eq-eqb j.packet a.packet same) (same_trail a t j among same))
+        in
+        let mapped : count_by p (marked at q) ≡ count_by (λ j. p (mark j at)) q = count_by-map p (λ (j : McCopy). mark j at) q in
+        let all = part p in
+        let one = t.once in
+        omega (arith, fewer, mapped, all, one)
+  ]
+
+  -- the mark of a copy in a queue
+  abbrev queue_station : Behind → Station
+  queue_station (input i) = in_queue (chip_of s.setup.machine (i / 7)) (port_of (i % 7))
+  queue_station (core v) = at_core v
+  queue_station nowhere = at_core 0
+
+  pub waiting_mark : (b : Behind) (q : List McCopy) → queue_of s b ≡ Some q → (j : McCopy) → Among j q → Contains (marks_of s) (mark j (queue_station b))
+  waiting_mark (input i) q at j among =
+      let m : Mark = mark j (in_queue (chip_of s.setup.machine (i / 7)) (port_of (i % 7))) in
+      among_contains m (marks_of s)
+      (among_right m (unsent_marks s) (input_marks s ++ (all_hand_marks s ++ (core_marks s ++ (delivered_marks s ++ dumped_marks s))))
+      (among_left m (input_marks s) (all_hand_marks s ++ (core_marks s ++ (delivered_marks s ++ dumped_marks s)))
+      (gathered_among (λ l copies. marked (in_queue (chip_of s.setup.machine (l / 7)) (port_of (l % 7))) copies) m s.inputs i q at
+      (map_among (λ (d : McCopy). mark d (in_queue (chip_of s.setup.machine (i / 7)) (port_of (i % 7)))) j q among))))
+  waiting_mark (core v) q at j among = let m : Mark = mark j (at_core v) in among_contains m (marks_of s) (core_mark s v j q at among)
+  waiting_mark nowhere q at j among = cc
+
+  -- No queue has two copies of one packet.
+  pub once_in_queue : (b : Behind) (q : List McCopy) → queue_of s b ≡ Some q → (n : ℕ) → count_by (λ j. j.packet == n) q ≤ 1
+  once_in_queue (input i) q at n =
+      let c : Chip = chip_of s.setup.machine (i / 7) in
+      let port : Port = port_of (i % 7) in
+      once_at (in_queue c port) q (waiting_mark (input i) q at)
+      (λ p.
+      let n_is : 0 + i ≡ i = omega arith in
+      let part : count_by p (marked (in_queue c port) q) ≤ count_by p (input_marks s) =
+      subst (λ l. count_by p (marked (in_queue (chip_of s.setup.machine (l / 7)) (port_of (l % 7))) q) ≤ count_by p (input_marks s)) n_is
+      (count_gathered_part (λ l copies. marked (in_queue (chip_of s.setup.machine (l / 7)) (port_of (l % 7))) copies) p 0 s.inputs i q at)
+      in
+      let whole = in_input_marks p in
+      omega (arith, part, whole))
+      (λ x t j among same.
+      let there = comes_parts t.branch x.hop c port t.on in
+      let place : slice_get t.branch x.hop ≡ Some (record { chip = c; out = there.exit.out }) =
+      there.at ∙ ap (λ (d : Chip). let z : Exit = record { chip = d; out = there.exit.out } in Some z) there.chip
+      in
+      comes_on s t.net x.packet t.tracked t.target t.way.is_target t.branch t.from t.to t.way (mark j (in_queue c port)) (waiting_mark (input i) q at j among) same
+      x.hop c there.exit.out port place refl)
+      n
+  once_in_queue (core v) q at n =
+      once_at (at_core v) q (waiting_mark (core v) q at)
+      (λ p.
+      let n_is : 0 + v ≡ v = omega arith in
+      let part : count_by p (marked (at_core v) q) ≤ count_by p (core_marks s) =
+      subst (λ l. count_by p (marked (at_core l) q) ≤ count_by p (core_marks s)) n_is (count_gathered_part (λ l copies. marked (at_core l) copies) p 0 s.cores v q at)
+      in
+      let whole = in_core_marks p in
+      omega (arith, part, whole))
+      (λ x t j among same.
+      let is_to : v ≡ t.to = eqb-true v t.to ((and_parts (v == t.to) (x.hop == length t.branch) t.on).0) in
+      ends_on s t.net x.packet t.tracked t.target t.way.is_target t.branch t.from t.to t.way (mark j (at_core v)) (waiting_mark (core v) q at j among) same
+      (v, t.way.ends ∙ ap Some (sym is_to), inl refl))
+      n
+  once_in_queue nowhere q at n = cc
