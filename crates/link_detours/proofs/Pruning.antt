@@ -5,7 +5,6 @@ use Rattle.std.proofs.lemmas.List.Elements.{Contains-get_or}
 use Rattle.spin_base.specs.declared.chips.Chip.{Chip}
 use Rattle.machine_desc.specs.declared.trees.Edge.{Edge}
 use Rattle.machine_desc.specs.Description.{Description}
-use Rattle.machine_desc.specs.Live.{IsLiveChip}
 use Rattle.machine_desc.specs.RoutingTree.{end_of, IsTreeChip, IsPath, IsTreeTo}
 use Rattle.link_detours.specs.Steps.{Steps}
 use Rattle.link_detours.specs.Usable.{link_place}
@@ -22,7 +21,7 @@ path_more m edges from to c (f ∷ path) e along has at leads =
     (along.0, along.1, (along.2.0, along.2.1, path_more m edges along.2.0 to c path e along.2.2 has at leads))
 
 module _ (m : Description) (root : Chip) (tree : List Edge) (targets : List Chip) (result : List Edge) (is : IsWhole m root tree)
-    (on_tree : (t : Chip) → Contains targets t → IsTreeChip m root tree t) (some : 0 < length targets) (root_lives : IsLiveChip m root)
+    (on_tree : (t : Chip) → Contains targets t → IsTreeChip m root tree t) (some : 0 < length targets)
     (left : (e : Edge) → Contains result e ↔ (Contains tree e × LeadsToTarget m tree targets e)) (ordered : IsInOrder m result) where
   -- the chip is a target or leads to one
   LeadsOn : Chip → Type 0
@@ -79,7 +78,6 @@ module _ (m : Description) (root : Chip) (tree : List Edge) (targets : List Chip
   pub tree_left : IsTreeTo m root result targets
   unfolding LeadsOn
   tree_left = record {
-    root_lives = root_lives;
     edges_live = λ k d h. is.live (get_or result k d) (stayed (get_or result k d) (Contains-get_or result k d h)).0;
     edges_begin = λ k d h.
         let e : Edge = get_or result k d in

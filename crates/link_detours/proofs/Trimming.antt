@@ -8,7 +8,7 @@ use Rattle.spin_base.specs.declared.chips.Chip.{Chip}
 use Rattle.spin_base.specs.declared.chips.Dir.TheVariants.{East}
 use Rattle.machine_desc.specs.declared.trees.Edge.{Edge}
 use Rattle.machine_desc.specs.Description.{Description}
-use Rattle.machine_desc.specs.Live.{IsInside, IsLiveChip}
+use Rattle.machine_desc.specs.Live.{IsInside}
 use Rattle.machine_desc.specs.RoutingTree.{end_of, IsTreeChip, IsPath, IsTreeTo}
 use Rattle.machine_desc.proofs.Far.{live_ends, far_inside}
 use Rattle.link_detours.specs.Steps.{Steps}
@@ -89,11 +89,10 @@ steps_on m tree targets (suc n) c t has walk =
     inl (mine.0, record { chip = c; dir = first.1.0 }, mine.1, mine.2, refl)
 
 -- A whole tree in order whose edges all go on is a tree to its targets.
-lean_tree : (m : Description) (root : Chip) (tree : List Edge) (targets : List Chip) → IsLiveChip m root → IsWhole m root tree → 0 < length targets →
+lean_tree : (m : Description) (root : Chip) (tree : List Edge) (targets : List Chip) → IsWhole m root tree → 0 < length targets →
     All (IsTreeChip m root tree) targets → IsInOrder m tree →
     All (λ e. (c : Chip) → end_of m e ≡ Some c → GoesOnFrom tree targets c) tree → IsTreeTo m root tree targets
-lean_tree m root tree targets root_lives is some on_tree ordered goes = record {
-  root_lives = root_lives;
+lean_tree m root tree targets is some on_tree ordered goes = record {
   edges_live = λ k d h. is.live (get_or tree k d) (Contains-get_or tree k d h);
   edges_begin = λ k d h. is.begins (get_or tree k d) (Contains-get_or tree k d h);
   none_into_root = λ k d h. is.none_into_root (get_or tree k d) (Contains-get_or tree k d h);
@@ -120,11 +119,11 @@ lean_tree m root tree targets root_lives is some on_tree ordered goes = record {
 }
 
 -- and all its edges stay
-pub all_stay : (m : Description) (root : Chip) (tree : List Edge) (targets : List Chip) → IsLiveChip m root → IsWhole m root tree → 0 < length targets →
+pub all_stay : (m : Description) (root : Chip) (tree : List Edge) (targets : List Chip) → IsWhole m root tree → 0 < length targets →
     All (IsTreeChip m root tree) targets → IsInOrder m tree →
     All (λ e. (c : Chip) → end_of m e ≡ Some c → GoesOnFrom tree targets c) tree →
     (e : Edge) → Contains tree e ↔ (Contains tree e × LeadsToTarget m tree targets e)
-all_stay m root tree targets root_lives is some on_tree ordered goes e = (
-  λ has. (has, tree_leads m root tree targets (lean_tree m root tree targets root_lives is some on_tree ordered goes) e has),
+all_stay m root tree targets is some on_tree ordered goes e = (
+  λ has. (has, tree_leads m root tree targets (lean_tree m root tree targets is some on_tree ordered goes) e has),
   λ known. known.0,
 )

@@ -1,11 +1,13 @@
 -- A tree over live parts alone is repaired by itself.
 use Rattle.std.proofs.Common.{◌≡◌, ℕ, zero, suc, ◌<◌, ◌≤◌, List, [], ◌∷◌, length, Some, refl, sym, ap, ◌∙◌, subst, arith, inl, inr, ◌↔◌}
-use Rattle.std.specs.List.{Contains, All, AllPairs}
-use Rattle.std.proofs.lemmas.List.{append-nil, get_or_default}
+use Rattle.std.specs.List.{Contains, All}
+use Rattle.std.proofs.lemmas.List.{append-nil}
 use Rattle.std.proofs.lemmas.List.Elements.{All-contains}
 use Rattle.std.proofs.lemmas.Option.{get_or_from_slice_get, slice_get_within}
 use Rattle.spin_base.specs.declared.chips.Chip.{Chip}
 use Rattle.spin_base.specs.declared.chips.Spot.{Spot}
+use Rattle.spin_base.specs.declared.chips.Dir.{Dir}
+use Rattle.spin_base.specs.Outputs.{out_of}
 use Rattle.spin_base.specs.declared.routes.Out.{Out}
 use Rattle.spin_base.specs.declared.routes.Out.TheVariants.{Link, Core}
 use Rattle.machine_desc.specs.declared.trees.Edge.{Edge}
@@ -21,56 +23,10 @@ use Rattle.link_detours.specs.declared.repairs.RepairErr.TheVariants.{CutOff, Me
 use Rattle.link_detours.specs.Cause.{IsCause}
 use Rattle.link_detours.specs.Repair.{EdgeStep, LiveEdgeStep, Joins, LeadsToTarget, IsInOrder, IsRepaired}
 use Rattle.link_detours.proofs.Stepping.{Steps-map, Steps-cons}
-use Rattle.link_detours.proofs.Turning.{further, head_or_rest}
+use Rattle.list_laws.proofs.Ascending.{same_in_order}
+use Rattle.list_laws.proofs.Members.{Contains-later}
 use Rattle.link_detours.proofs.Walks.{steps_walk}
 use Rattle.link_detours.proofs.Wholes.{tree_end, tree_cases}
-
-module _ {X : Type 0} (place : X → ℕ) where
-  -- the first of a list in order is before all others
-  first : (z : X) (zs : List X) → AllPairs (λ a b. place a < place b) (z ∷ zs) → (w : X) → Contains zs w → place z < place w
-  first z zs rises w has =
-      subst (λ (v : X). place z < place v) has.2
-      (subst (λ (v : X). place z < place v) (get_or_default zs has.0 z w has.1) (rises 0 (suc has.0) z (omega arith) (let within : has.0 < length zs = has.1 in omega arith)))
-
-  rest : (z : X) (zs : List X) → AllPairs (λ a b. place a < place b) (z ∷ zs) → AllPairs (λ a b. place a < place b) zs
-  rest z zs rises i j d lt within = rises (suc i) (suc j) d (omega arith) (omega arith)
-
-  -- it is the same where two such lists have the same items
-  same_first : (x y : X) (xs ys : List X) → AllPairs (λ a b. place a < place b) (x ∷ xs) → AllPairs (λ a b. place a < place b) (y ∷ ys) →
-      Contains (y ∷ ys) x → Contains (x ∷ xs) y → x ≡ y
-  same_first x y xs ys up also into onto = elim (head_or_rest y x ys into) [
-    | inl here ↦ sym here
-    | inr later ↦ elim (head_or_rest x y xs onto) [
-      | inl here ↦ here
-      | inr after ↦
-          let one : place y < place x = first y ys also x later in
-          let two : place x < place y = first x xs up y after in
-          absurd (omega arith)
-    ]
-  ]
-
-  -- and so are the others
-  has_after : (x y : X) (xs ys : List X) → x ≡ y → AllPairs (λ a b. place a < place b) (x ∷ xs) → ((z : X) → Contains (x ∷ xs) z → Contains (y ∷ ys) z) →
-      (z : X) → Contains xs z → Contains ys z
-  has_after x y xs ys same up into z has = elim (head_or_rest y z ys (into z (further x z xs has))) [
-    | inl here ↦
-        let low : place x < place z = first x xs up z has in
-        let place_is : place x ≡ place z = ap place (same ∙ here) in absurd (omega arith)
-    | inr later ↦ later
-  ]
-
-  -- Lists in the order of a number, with the same items, are the same list.
-  pub same_in_order : (xs ys : List X) → AllPairs (λ a b. place a < place b) xs → AllPairs (λ a b. place a < place b) ys →
-      ((x : X) → Contains xs x → Contains ys x) → ((x : X) → Contains ys x → Contains xs x) → xs ≡ ys
-  same_in_order [] [] up also into onto = refl
-  same_in_order [] (y ∷ ys) up also into onto =
-      let has = onto y (0, omega arith, refl) in absurd (let none : has.0 < 0 = has.1 in omega arith)
-  same_in_order (x ∷ xs) [] up also into onto =
-      let has = into x (0, omega arith, refl) in absurd (let none : has.0 < 0 = has.1 in omega arith)
-  same_in_order (x ∷ xs) (y ∷ ys) up also into onto =
-      let heads : x ≡ y = same_first x y xs ys up also (into x (0, omega arith, refl)) (onto y (0, omega arith, refl)) in
-      let tails : xs ≡ ys = same_in_order xs ys (rest x xs up) (rest y ys also) (has_after x y xs ys heads up into) (has_after y x ys xs (sym heads) also onto) in
-      cc
 
 -- a path over live edges is as many steps
 path_steps : (m : Description) (edges : List Edge) → All (λ e. IsLiveLink m e.chip e.dir) edges → (from to : Chip) (path : List Edge) →
@@ -90,36 +46,45 @@ way_steps m edges s from (x ∷ xs) way = by_output (λ c later. way_steps m edg
   where
     by_output : ((c : Chip) → IsWay m edges s c xs → (n : ℕ) × Steps (EdgeStep m edges) n c s.chip) → (o : Out) →
         GoesOn m edges s from o xs (λ c. IsWay m edges s c xs) → (n : ℕ) × Steps (EdgeStep m edges) n from s.chip
-    by_output on (Link d) goes =
-        let after = on goes.1.0 goes.1.2 in
-        (suc after.0, Steps-cons (EdgeStep m edges) after.0 from goes.1.0 s.chip (d, goes.0, goes.1.1) after.1)
-    by_output on (Core p) goes = (0, ap (λ (t : Spot). t.chip) (sym goes.0))
+    by_output on o (inl goes) =
+        let after = on goes.3.0 goes.3.2 in
+        (suc after.0, Steps-cons (EdgeStep m edges) after.0 from goes.3.0 s.chip (goes.0, goes.2, goes.3.1) after.1)
+    by_output on o (inr ends) = (0, sym ends.0)
 
--- so is what is left of it after an edge
-way_after : (m : Description) (edges : List Edge) (s : Spot) (from : Chip) (xs : List Exit) (e : Edge) → IsWay m edges s from xs → Contains xs (exit_of e) →
-    (c : Chip) × (end_of m e ≡ Some c) × ((n : ℕ) × Steps (EdgeStep m edges) n c s.chip)
-way_after m edges s from [] e way has = absurd way
-way_after m edges s from (x ∷ xs) e way (zero, within, same) =
-    let goes : GoesOn m edges s from (Link e.dir) xs (λ c. IsWay m edges s c xs) =
-    subst (λ (y : Exit). GoesOn m edges s from y.out xs (λ c. IsWay m edges s c xs)) same way.1 in
+same_link : (a b : Dir) → Link a ≡ Link b → b ≡ a
+same_link a b same = cc
+
+-- so is what is left of it after an edge, where the target is a core
+way_after : (m : Description) (edges : List Edge) (s : Spot) (from : Chip) (xs : List Exit) (e : Edge) → ((d : Dir) → out_of s.core ≡ Link d → ⊥) → IsWay m edges s from xs →
+    Contains xs (exit_of e) → (c : Chip) × (end_of m e ≡ Some c) × ((n : ℕ) × Steps (EdgeStep m edges) n c s.chip)
+way_after m edges s from [] e core way has = absurd way
+way_after m edges s from (x ∷ xs) e core way (zero, within, same) =
     let at : e.chip ≡ from = ap (λ (y : Exit). y.chip) (sym same) ∙ way.0 in
-    (goes.1.0, subst (λ (c : Chip). far_of m c e.dir ≡ Some goes.1.0) (sym at) goes.1.1, way_steps m edges s goes.1.0 xs goes.1.2)
-way_after m edges s from (x ∷ xs) e way (suc k, longer, same) =
+    by_end at (subst (λ (y : Exit). GoesOn m edges s from y.out xs (λ c. IsWay m edges s c xs)) same way.1)
+  where
+    by_end : e.chip ≡ from → GoesOn m edges s from (Link e.dir) xs (λ c. IsWay m edges s c xs) → (c : Chip) × (end_of m e ≡ Some c) × ((n : ℕ) × Steps (EdgeStep m edges) n c s.chip)
+    by_end at (inl goes) = (
+      goes.3.0,
+      subst (λ (c : Chip). far_of m c e.dir ≡ Some goes.3.0) (sym at) (subst (λ (d : Dir). far_of m from d ≡ Some goes.3.0) (same_link e.dir goes.0 goes.1) goes.3.1),
+      way_steps m edges s goes.3.0 xs goes.3.2,
+    )
+    by_end at (inr ends) = absurd (core e.dir (sym ends.1))
+way_after m edges s from (x ∷ xs) e core way (suc k, longer, same) =
     let within : k < length xs = omega arith in
-    by_output within (λ c later. way_after m edges s c xs e later (k, within, same)) x.out way.1
+    by_output within (λ c later. way_after m edges s c xs e core later (k, within, same)) x.out way.1
   where
     by_output : k < length xs → ((c : Chip) → IsWay m edges s c xs → (b : Chip) × (end_of m e ≡ Some b) × ((n : ℕ) × Steps (EdgeStep m edges) n b s.chip)) →
         (o : Out) → GoesOn m edges s from o xs (λ c. IsWay m edges s c xs) →
         (c : Chip) × (end_of m e ≡ Some c) × ((n : ℕ) × Steps (EdgeStep m edges) n c s.chip)
-    by_output within on (Link d) goes = on goes.1.0 goes.1.2
-    by_output within on (Core p) goes = absurd (let none : k < 0 = subst (λ zs. k < length zs) goes.1 within in omega arith)
+    by_output within on o (inl goes) = on goes.3.0 goes.3.2
+    by_output within on o (inr ends) = absurd (let none : k < 0 = subst (λ zs. k < length zs) ends.2 within in omega arith)
 
 -- a tree that has all targets gets no detour
 none_joined : (m : Description) (root : Chip) (tree : List Edge) (targets : List Chip) (whole : List Edge) →
     ((t : Chip) → Contains targets t → IsTreeChip m root tree t) → Joins m root tree targets whole → tree ≡ whole
 none_joined m root tree [] whole on joins = joins
 none_joined m root tree (t ∷ targets) whole on ([], detour, rest) =
-    none_joined m root tree targets whole (λ u has. on u (further t u targets has)) (subst (λ es. Joins m root es targets whole) (append-nil tree) rest)
+    none_joined m root tree targets whole (λ u has. on u (Contains-later t targets u has)) (subst (λ es. Joins m root es targets whole) (append-nil tree) rest)
 none_joined m root tree (t ∷ targets) whole on (e ∷ walk, detour, rest) =
     let least : suc detour.0.level ≤ 0 = detour.0.here.least 0 (t, on t (0, omega arith, refl), refl) in absurd (omega arith)
 
@@ -130,8 +95,11 @@ tree_leads m root edges targets tree e has =
     let below = edge_on_branch m root edges targets tree e has in
     let s : Spot = record { chip = below.0; core = 0 } in
     let branch = below.2 s refl in
-    let down = way_after m edges s root branch.0 e branch.1 branch.2 in
+    let down = way_after m edges s root branch.0 e core_is_no_link branch.1 branch.2 in
     (down.0, down.1, (below.0, below.1, down.2))
+  where
+    core_is_no_link : (d : Dir) → out_of 0 ≡ Link d → ⊥
+    core_is_no_link d same = let wrong : Core 0 ≡ Link d = same in cc
 
 module _ (m : Description) (root : Chip) (edges : List Edge) (targets : List Chip) (result : List Edge) (tree : IsTreeTo m root edges targets)
     (repaired : IsRepaired m root edges targets result) where

@@ -52,25 +52,25 @@ struct Grown {
 pub fn repair(
     alloc: Global,
     machine: &Machine,
-    tree: Tree,
+    tree: &Tree,
     targets: &Seq<Chip>,
 ) -> Result<Tree, RepairErr>
-    requires root_lives { IsLiveChip machine.now tree.root }
-    requires none_into_root { All (λ e. end_of machine.now e ≢ Some tree.root) tree.edges }
-    requires one_into_each { AllPairs (λ e f. (c : Chip) → end_of machine.now e ≡ Some c → end_of machine.now f ≢ Some c) tree.edges }
+    requires root_lives { IsLiveChip machine.now tree.now.root }
+    requires none_into_root { All (λ e. end_of machine.now e ≢ Some tree.now.root) tree.now.edges }
+    requires one_into_each { AllPairs (λ e f. (c : Chip) → end_of machine.now e ≡ Some c → end_of machine.now f ≢ Some c) tree.now.edges }
     requires some_target { 0 < length targets.now }
     requires targets_inside { All (IsInside machine.now) targets.now }
-    ensures root { IfOk result (λ t. t.root ≡ tree.root) }
-    ensures repaired { IfOk result (λ t. IsRepaired machine.now tree.root tree.edges targets.now t.edges) }
-    ensures routing { IfOk result (λ t. IsTreeTo machine.now tree.root t.edges targets.now) }
-    ensures cut_off { IfErr result (IsCause machine.now tree.root targets.now) }
-    ensures same_edges { IsTreeTo machine.now tree.root tree.edges targets.now →
-        IfOk result (λ t. (e : Edge) → Contains t.edges e ↔ Contains tree.edges e) }
-    ensures unchanged { IsTreeTo machine.now tree.root tree.edges targets.now → IsInOrder machine.now tree.edges → IfOk result (λ t. t ≡ tree) }
-    ensures not_cut_off { IsTreeTo machine.now tree.root tree.edges targets.now → IfErr result (λ e. e ≡ NoMemory) }
+    ensures root { IfOk result (λ t. t.root ≡ tree.now.root) }
+    ensures repaired { IfOk result (λ t. IsRepaired machine.now tree.now.root tree.now.edges targets.now t.edges) }
+    ensures routing { IfOk result (λ t. IsTreeTo machine.now tree.now.root t.edges targets.now) }
+    ensures cut_off { IfErr result (IsCause machine.now tree.now.root targets.now) }
+    ensures same_edges { IsTreeTo machine.now tree.now.root tree.now.edges targets.now →
+        IfOk result (λ t. (e : Edge) → Contains t.edges e ↔ Contains tree.now.edges e) }
+    ensures unchanged { IsTreeTo machine.now tree.now.root tree.now.edges targets.now → IsInOrder machine.now tree.now.edges → IfOk result (λ t. t ≡ tree.now) }
+    ensures not_cut_off { IsTreeTo machine.now tree.now.root tree.now.edges targets.now → IfErr result (λ e. e ≡ NoMemory) }
 {
-    let Tree { root, edges } = tree;
-    let grown = kept_tree(alloc, machine, root, edges.as_slice())?;
+    let root = tree.root;
+    let grown = kept_tree(alloc, machine, root, tree.edges.as_slice())?;
     let whole = join_all(alloc, machine, root, grown, targets.as_slice())?;
     let left = trimmed(alloc, machine, root, whole, targets.as_slice())?;
     Ok(Tree {

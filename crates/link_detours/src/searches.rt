@@ -34,8 +34,7 @@ pub fn seed_table(alloc: Global, machine: &Machine, seeds: &[Chip]) -> Result<Ve
     ensures at_seeds { IfOk result (λ t. (a : Chip) → Contains seeds.now a → number_at machine.now t.items a ≡ 0) }
     ensures elsewhere { IfOk result (λ t. (c : Chip) → IsInside machine.now c → number_at machine.now t.items c < UNREACHED → Contains seeds.now c) }
 {
-    let chips = usize::from(machine.width()) * usize::from(machine.height());
-    let mut table = vec![in alloc; UNREACHED; chips]?;
+    let mut table = vec![in alloc; UNREACHED; machine.chips()]?;
     for seed in seeds {
         table[machine.index(*seed) as usize] = 0;
     }

@@ -72,7 +72,7 @@ fn repaired(
         edges: list_of(alloc, edge)?,
     };
     let targets = list_of(alloc, target)?;
-    let Tree { root: _, edges } = repair(alloc, machine, tree, &targets)?;
+    let Tree { root: _, edges } = repair(alloc, machine, &tree, &targets)?;
     Ok(edges.into_vec())
 }
 

@@ -1,6 +1,6 @@
 // Trees of which nothing has to be taken off: seen from their edges, without a search.
 ghost use Rattle.std.specs.Prelude.{◌≡◌, ℕ, ◌*◌, ◌<◌, ◌↔◌, ◌++◌, true, Some, length, map, All, IfOk, Contains};
-ghost use Rattle.machine_desc.specs.Live.{IsInside, IsLiveChip};
+ghost use Rattle.machine_desc.specs.Live.{IsInside};
 ghost use Rattle.machine_desc.specs.RoutingTree.{end_of, IsTreeChip};
 ghost use Rattle.link_detours.specs.Usable.{number_at};
 ghost use Rattle.link_detours.specs.Repair.{LeadsToTarget, IsInOrder};
@@ -23,7 +23,6 @@ pub fn trimmed(
     whole: Vec<Edge>,
     targets: &[Chip],
 ) -> Result<Vec<Edge>, Memory>
-    requires root_lives { IsLiveChip machine.now root }
     requires is_whole { IsWhole machine.now root whole.items }
     requires some_target { 0 < length targets.now }
     requires targets_inside { All (IsInside machine.now) targets.now }

@@ -301,7 +301,6 @@ finished m root targets joins on whole edges size root_in targets_in so_far perm
       one_into_each = λ i j d less short c p q. apart i j d less short (p ∙ sym q);
       few = omega (arith, long, most, sums);
       routing = λ dead some. record {
-        root_lives = and_from _ _ root_in (rw dead.no_chip refl);
         edges_live = λ k d within.
             let e : Edge = get_or edges k d in
             let leads = out.spans.leads e (at k d within) in

@@ -105,8 +105,7 @@ pub fn ner(
     ensures few_edges { IfOk result (λ g. length g.tree.edges ≤ distance_sum machine.now root targets.now) }
     ensures routing { IfOk result (λ g. IsWithoutDead machine.now → 0 < length targets.now → IsTreeTo machine.now root g.tree.edges targets.now) }
 {
-    let chips = usize::from(machine.width()) * usize::from(machine.height());
-    let mut on = vec![in alloc; false; chips]?;
+    let mut on = vec![in alloc; false; machine.chips()]?;
     on[machine.index(root) as usize] = true;
     let mut edges = Vec::new(alloc);
     let mut joins = Seq::new(alloc);

@@ -1,3 +1,4 @@
+pub mod CutOffLaws
+pub mod Ordering
 pub mod Planning
-pub mod Rising
 pub mod TargetLaws

@@ -1,38 +1,38 @@
 -- What one net's plan gives, and what all plans give.
-use Rattle.std.proofs.Common.{◌≡◌, ℕ, zero, suc, ◌+◌, ◌<◌, List, [], ◌∷◌, ◌++◌, map, take, length, sym, ap, ◌∙◌, subst, arith, inl, inr, Some, Result, Ok, Err, IfOk, nat_le, ◌&&◌, not}
-use Rattle.std.specs.List.{All, AllZip, Contains, list_any, slice_get, slice_index_or, zip}
-use Rattle.std.proofs.lemmas.Bool.{and_parts}
-use Rattle.spin_base.specs.Equality.{chip_eq, spot_eq}
+use Rattle.std.proofs.Common.{◌≡◌, ℕ, ◌+◌, ◌<◌, ◌≤◌, List, [], ◌∷◌, ◌++◌, map, length, refl, sym, ap, ◌∙◌, subst, arith, inl, inr, Some}
+use Rattle.std.specs.List.{All, Contains, slice_get, slice_index_or}
+use Rattle.std.proofs.lemmas.Bool.{cases_order}
+use Rattle.std.proofs.lemmas.List.{length-append}
 use Rattle.std.proofs.lemmas.List.Elements.{All-contains, All-contains_itself}
-use Rattle.std.proofs.lemmas.Option.{slice_get_within, get_or_from_slice_get, slice_get-get_or}
+use Rattle.std.proofs.lemmas.Option.{slice_get_within, slice_get-get_or}
 use Rattle.spin_base.specs.declared.chips.Chip.{Chip}
 use Rattle.spin_base.specs.declared.chips.Spot.{Spot}
+use Rattle.spin_base.specs.declared.blocks.Block.{Block}
 use Rattle.machine_desc.specs.declared.trees.Edge.{Edge}
+use Rattle.machine_desc.specs.declared.trees.Tree.{Tree}
 use Rattle.machine_desc.specs.Description.{Description}
-use Rattle.machine_desc.specs.Live.{is_inside, is_live_chip, IsInside, IsLiveChip, IsUsable}
+use Rattle.machine_desc.specs.Live.{IsInside, IsLiveChip, IsSite}
 use Rattle.machine_desc.specs.RoutingTree.{IsTreeChip, IsTreeTo}
+use Rattle.machine_desc.proofs.Far.{live_inside}
+use Rattle.machine_desc.proofs.Sites.{site_parts}
+use Rattle.app_graph.specs.declared.graphs.Net.{Net}
+use Rattle.net_tables.specs.declared.nets.NetPlan.{NetPlan}
+use Rattle.ner_trees.specs.declared.growths.Grown.{Grown}
+use Rattle.ner_trees.specs.Growth.{IsGrown, distance_sum}
+use Rattle.link_detours.specs.Repair.{IsRepaired}
+use Rattle.list_laws.proofs.Members.{Contains-map, Contains-unmap}
+use Rattle.list_laws.proofs.Places.{All-at, All-each, slice_get-push_cases}
+use Rattle.net_plans.specs.Keys.{nowhere}
+use Rattle.net_plans.specs.CutOffTargets.{HasNoneCutOff}
+use Rattle.net_plans.specs.NetPlans.{joined_chips, IsPlanned, IsEachPlanned}
 use Rattle.net_plans.specs.Targets.{AreTargets, AreTargetChips}
-use Rattle.net_plans.proofs.Rising.{Among, among_contains, contains_among, map_among, among_map}
 
--- an answer of which the value is known
-pub ok_is : {X E : Type 0} (r : Result X E) (P : X → Type 0) (v : X) → IfOk r (λ x. x ≡ v) → P v → IfOk r P
-ok_is (Ok x) P v is holds = subst P (sym is) holds
-ok_is (Err e) P v is holds = tt
+-- sites are on chips of the grid
+pub all_inside : (m : Description) (spots : List Spot) → All (IsSite m) spots → All (λ s. IsInside m s.chip) spots
+all_inside m spots sites k d below = let s : Spot = slice_index_or spots k d in live_inside m s.chip (site_parts m s (sites k d below)).0
 
-pub All-at : {X : Type 0} (P : X → Type 0) (xs : List X) (i : ℕ) (x : X) → All P xs → slice_get xs i ≡ Some x → P x
-All-at P xs i x all at = subst P (get_or_from_slice_get xs i x x at) (all i x (slice_get_within xs i x at))
-
-pub All-each : {X : Type 0} (P : X → Type 0) (xs : List X) → ((x : X) → Contains xs x → P x) → All P xs
-All-each P xs each k d below = each (slice_index_or xs k d) (All-contains_itself xs k d below)
-
--- a usable core is on a live chip
-pub is_live : (m : Description) (s : Spot) → IsUsable m s → IsLiveChip m s.chip
-is_live m s usable = (and_parts (is_live_chip m s.chip) ((nat_le 1 s.core && nat_le s.core 17) && not (list_any (spot_eq s) m.dead_cores)) usable).0
-
-pub all_inside : (m : Description) (spots : List Spot) → All (IsUsable m) spots → All (λ s. IsInside m s.chip) spots
-all_inside m spots usable k d below =
-    let s : Spot = slice_index_or spots k d in
-    (and_parts (is_inside m s.chip) (not (list_any (chip_eq s.chip) m.dead_chips)) (is_live m s (usable k d below))).0
+pub source_lives : (m : Description) (spots : List Spot) (i : ℕ) (s : Spot) → All (IsSite m) spots → slice_get spots i ≡ Some s → IsLiveChip m s.chip
+source_lives m spots i s sites at = (site_parts m s (All-at (IsSite m) spots i s sites at)).0
 
 -- what holds of all vertices' cores holds of all targets
 pub of_targets : (P : Spot → Type 0) (spots : List Spot) (vertices : List ℕ) (targets : List Spot) → AreTargets spots vertices targets → All P spots → All P targets
@@ -48,7 +48,6 @@ of_chips P m root targets chips are all =
 pub same_tree : (m : Description) (root : Chip) (edges : List Edge) (cs ds : List Chip) → IsTreeTo m root edges cs →
     ((c : Chip) → Contains cs c → Contains ds c) → ((c : Chip) → Contains ds c → Contains cs c) → IsTreeTo m root edges ds
 same_tree m root edges cs ds tree there back = record {
-  root_lives = tree.root_lives;
   edges_live = tree.edges_live;
   edges_begin = tree.edges_begin;
   none_into_root = tree.none_into_root;
@@ -68,11 +67,10 @@ routes_targets m from root edges targets chips are tree =
     same_tree m root edges chips (map (λ (s : Spot). s.chip) targets) tree
     (λ c has.
     let from = are.only c has in
-    among_contains c (map (λ (s : Spot). s.chip) targets)
-    (subst (λ x. Among x (map (λ (s : Spot). s.chip) targets)) from.2 (map_among (λ (s : Spot). s.chip) from.0 targets (contains_among from.0 targets from.1))))
+    subst (Contains (map (λ (s : Spot). s.chip) targets)) from.2 (Contains-map (λ (s : Spot). s.chip) targets from.0 from.1))
     (λ c has.
-    let made = among_map (λ (s : Spot). s.chip) c targets (contains_among c (map (λ (s : Spot). s.chip) targets) has) in
-    subst (Contains chips) (sym made.2) (are.each made.0 (among_contains made.0 targets made.1)))
+    let made = Contains-unmap (λ (s : Spot). s.chip) targets c has in
+    subst (Contains chips) made.2 (are.each made.0 made.1))
 
 -- a net with a target has a target chip
 pub some_chip : (m : Description) (root : Chip) (spots : List Spot) (vertices : List ℕ) (targets : List Spot) (chips : List Chip) → AreTargets spots vertices targets → AreTargetChips m root targets chips →
@@ -86,30 +84,80 @@ some_chip m root spots vertices targets chips are are_chips some within =
     let chip = are_chips.each s (are.each v s has at) in
     let inside = chip.1 in
     omega (arith, inside)
-  where
-    nowhere : Spot
-    nowhere = record { chip = record { x = 0; y = 0 }; core = 0 }
 
--- ---- nets side by side with their blocks
+-- the plan of one net, from what the stages give
+pub plan_is : (m : Description) (spots : List Spot) (net : Net) (keys : Block) (source : Spot) (targets : List Spot) (chips : List Chip) (growth : Grown) (tree : Tree) →
+    slice_get spots net.source ≡ Some source → AreTargets spots net.targets targets → AreTargetChips m source.chip targets chips → growth.tree.root ≡ source.chip →
+    IsGrown m source.chip chips growth.joins growth.tree.edges → length growth.tree.edges ≤ distance_sum m source.chip chips → tree.root ≡ growth.tree.root →
+    IsRepaired m growth.tree.root growth.tree.edges chips tree.edges → IsPlanned m spots net keys growth (record { block = keys; source = source; targets = targets; tree = tree })
+plan_is m spots net keys source targets chips growth tree at are are_chips from grown few root repaired =
+    let joined : chips ≡ joined_chips growth = sym grown.each_joined in
+    record {
+      block = refl;
+      source = at;
+      targets = are;
+      chips = subst (AreTargetChips m source.chip targets) joined are_chips;
+      grows_from = from;
+      grown = subst (λ cs. IsGrown m source.chip cs growth.joins growth.tree.edges) joined grown;
+      few_edges = subst (λ cs. length growth.tree.edges ≤ distance_sum m source.chip cs) joined few;
+      root = root ∙ from;
+      repaired = subst (λ cs. IsRepaired m source.chip growth.tree.edges cs tree.edges) joined (subst (λ r. IsRepaired m r growth.tree.edges chips tree.edges) from repaired);
+    }
 
-pair_more : {X Y : Type 0} (xs : List X) (ys : List Y) (i : ℕ) (x : X) (y : Y) → slice_get xs i ≡ Some x → slice_get ys i ≡ Some y →
-    zip (take (i + 1) xs) (take (i + 1) ys) ≡ zip (take i xs) (take i ys) ++ (x, y) ∷ []
-pair_more [] ys i x y ex ey = cc
-pair_more (w ∷ xs) [] i x y ex ey = cc
-pair_more {X} {Y} (w ∷ xs) (z ∷ ys) zero x y ex ey =
-    let a : w ≡ x = cc in let b : z ≡ y = cc in ap {B = List (X × Y)} (λ u. (u, z) ∷ []) a ∙ ap {B = List (X × Y)} (λ u. (x, u) ∷ []) b
-pair_more {X} {Y} (w ∷ xs) (z ∷ ys) (suc i) x y ex ey =
-    let more : suc i + 1 ≡ suc (i + 1) = omega arith in
-    ap {B = List (X × Y)} (λ n. zip (take n (w ∷ xs)) (take n (z ∷ ys))) more ∙ ap {B = List (X × Y)} (λ l. (w, z) ∷ l) (pair_more xs ys i x y ex ey)
+-- ---- nets one after the other
 
-zip_push : {X Y : Type 0} (R : X → Y → Type 0) (xs : List X) (ys : List Y) (x : X) (y : Y) → AllZip R xs ys → R x y → AllZip R (xs ++ x ∷ []) (ys ++ y ∷ [])
-zip_push R [] [] x y h r = (r, tt)
-zip_push R [] (z ∷ ys) x y h r = absurd h
-zip_push R (z ∷ xs) [] x y h r = absurd h
-zip_push R (w ∷ xs) (z ∷ ys) x y h r = (h.0, zip_push R xs ys x y h.1 r)
+pub long_more : {X : Type 0} (xs ys : List X) (x : X) (i : ℕ) → length xs ≡ i → ys ≡ xs ++ x ∷ [] → length ys ≡ i + 1
+long_more xs ys x i long is = ap length is ∙ (length-append xs (x ∷ []) ∙ ap (λ n. n + 1) long)
 
--- one plan more
-pub plan_more : {X Y Z : Type 0} (R : X × Y → Z → Type 0) (xs : List X) (ys : List Y) (zs : List Z) (i : ℕ) (x : X) (y : Y) (z : Z) → slice_get xs i ≡ Some x → slice_get ys i ≡ Some y →
-    AllZip R (zip (take i xs) (take i ys)) zs → R (x, y) z → AllZip R (zip (take (i + 1) xs) (take (i + 1) ys)) (zs ++ z ∷ [])
-plan_more R xs ys zs i x y z ex ey h r =
-    subst (λ l. AllZip R l (zs ++ z ∷ [])) (sym (pair_more xs ys i x y ex ey)) (zip_push R (zip (take i xs) (take i ys)) zs (x, y) z h r)
+module _ (m : Description) (spots : List Spot) (nets : List Net) where
+  -- no target of any net before this place is cut off
+  pub NoneBefore : ℕ → Type 0
+  NoneBefore i = (j : ℕ) (net : Net) → j < i → slice_get nets j ≡ Some net → HasNoneCutOff m spots net
+
+  pub none_before_first : NoneBefore 0
+  unfolding NoneBefore
+  none_before_first j net less at = absurd (omega (arith, less))
+
+  pub none_before_more : (i : ℕ) (net : Net) → NoneBefore i → slice_get nets i ≡ Some net → HasNoneCutOff m spots net → NoneBefore (i + 1)
+  unfolding NoneBefore
+  none_before_more i net before at none j other less other_at = elim (cases_order j i) [
+    | inl same ↦
+        let there : slice_get nets i ≡ Some other = subst (λ k. slice_get nets k ≡ Some other) same other_at in
+        let one : net ≡ other = cc in
+        subst (HasNoneCutOff m spots) one none
+    | inr (inl earlier) ↦ before j other earlier other_at
+    | inr (inr later) ↦ absurd (omega (arith, less, later))
+  ]
+
+  pub none_before_at : (i : ℕ) → NoneBefore i → (j : ℕ) (net : Net) → j < i → slice_get nets j ≡ Some net → HasNoneCutOff m spots net
+  unfolding NoneBefore
+  none_before_at i before = before
+
+  pub none_at_all : (i : ℕ) → length nets ≤ i → NoneBefore i → All (HasNoneCutOff m spots) nets
+  unfolding NoneBefore
+  none_at_all i past before k d below = before k (slice_index_or nets k d) (omega (arith, past, below)) (slice_get-get_or nets k d below)
+
+  pub plans_none : (blocks : List Block) (grown : List Grown) (plans : List NetPlan) → length grown ≡ 0 → IsEachPlanned m spots nets blocks grown plans
+  plans_none blocks grown plans long j n b t p n_at b_at t_at p_at = let within = slice_get_within grown j t t_at in absurd (omega (arith, within, long))
+
+  pub plans_more : (blocks : List Block) (grown : List Grown) (plans : List NetPlan) (i : ℕ) (net : Net) (block : Block) (tree : Grown) (plan : NetPlan) →
+      length grown ≡ i → length plans ≡ i → slice_get nets i ≡ Some net → slice_get blocks i ≡ Some block → IsEachPlanned m spots nets blocks grown plans →
+      IsPlanned m spots net block tree plan → IsEachPlanned m spots nets blocks (grown ++ tree ∷ []) (plans ++ plan ∷ [])
+  plans_more blocks grown plans i net block tree plan trees_long plans_long net_at block_at each new j n b t p n_at b_at t_at p_at =
+      elim (slice_get-push_cases grown tree t j t_at) [
+        | inl old_tree ↦ elim (slice_get-push_cases plans plan p j p_at) [
+          | inl old_plan ↦ each j n b t p n_at b_at old_tree.1 old_plan.1
+          | inr new_plan ↦ (let less = old_tree.0 in let here = new_plan.0 in absurd (omega (arith, less, here, trees_long, plans_long)))
+        ]
+        | inr new_tree ↦ elim (slice_get-push_cases plans plan p j p_at) [
+          | inl old_plan ↦ (let less = old_plan.0 in let here = new_tree.0 in absurd (omega (arith, less, here, trees_long, plans_long)))
+          | inr new_plan ↦
+              let here : j ≡ i = new_tree.0 ∙ trees_long in
+              let n_here : slice_get nets i ≡ Some n = subst (λ k. slice_get nets k ≡ Some n) here n_at in
+              let b_here : slice_get blocks i ≡ Some b = subst (λ k. slice_get blocks k ≡ Some b) here b_at in
+              let same_net : net ≡ n = cc in
+              let same_block : block ≡ b = cc in
+              subst (λ x. IsPlanned m spots x b t p) same_net (subst (λ x. IsPlanned m spots net x t p) same_block
+              (subst (λ x. IsPlanned m spots net block x p) new_tree.1 (subst (IsPlanned m spots net block tree) new_plan.1 new)))
+        ]
+      ]

@@ -1,5 +1,6 @@
-pub mod Ascending
 pub mod Cause
+pub mod CutOffTargets
+pub mod Keys
 pub mod NetPlans
-pub mod Numbers
+pub mod Order
 pub mod Targets

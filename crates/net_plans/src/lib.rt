@@ -6,8 +6,8 @@
 #![tactic(auto)]
 
 mod nets;
-mod sets;
+mod orders;
 mod targets;
 
-pub use nets::{NetErr, net_plans};
+pub use nets::{NetErr, Routed, RoutedNets, net_plan, net_plans};
 pub use targets::{target_chips, targets_of};

@@ -1,11 +1,11 @@
-// The target cores of a net, and their chips.
-ghost use Rattle.std.specs.Prelude.{◌≡◌, ℕ, ◌<◌, All, map, length, slice_index_or, IfOk};
+// The targets of a net, and their chips.
+ghost use Rattle.std.specs.Prelude.{◌≡◌, ◌<◌, ℕ, All, map, length, slice_index_or, IfOk};
 ghost use Rattle.spin_base.specs.declared.chips.Spot.{Spot};
 ghost use Rattle.machine_desc.specs.Live.{IsInside};
-ghost use Rattle.net_plans.specs.Targets.{spot_number, chip_number, AreTargets, AreTargetChips};
-ghost use Rattle.net_plans.specs.Numbers.{nowhere, spot_from, chip_from, IsSmallSpot};
+ghost use Rattle.net_plans.specs.Targets.{spot_key, chip_key, AreTargets, AreTargetChips};
+ghost use Rattle.net_plans.specs.Keys.{nowhere, spot_at, chip_at};
 
-use crate::sets::ascending;
+use crate::orders::each_once;
 use machine_desc::Machine;
 use ner_trees::distance;
 use spin_base::{Chip, Memory, Seq, Spot};
@@ -22,13 +22,12 @@ pub fn targets_of(
     spots: &Seq<Spot>,
     vertices: &Seq<u32>,
 ) -> Result<Seq<Spot>, Memory>
-    requires small { All IsSmallSpot spots.now }
-    requires vertices { All (λ v. v < length spots.now) vertices.now }
+    requires { All (λ v. v < length spots.now) vertices.now }
     ensures { IfOk result (λ targets. AreTargets spots.now vertices.now targets) }
 {
-    let numbers = spot_numbers(alloc, spots, vertices)?;
-    let sorted = ascending(alloc, numbers.as_slice())?;
-    spots_from(alloc, sorted.as_slice())
+    let mut keys = spot_keys(alloc, spots, vertices)?;
+    each_once(&mut keys);
+    spots_at(alloc, &keys)
 }
 
 /// The chips of these targets, each once, in the order of their distance from the root, then x, then y.
@@ -44,102 +43,69 @@ pub fn target_chips(
 ) -> Result<Seq<Chip>, Memory>
     requires root_inside { IsInside machine.now root }
     requires targets_inside { All (λ s. IsInside machine.now s.chip) targets.now }
-    requires small { All IsSmallSpot targets.now }
     ensures { IfOk result (λ chips. AreTargetChips machine.now root targets.now chips) }
 {
-    let numbers = chip_numbers(alloc, machine, root, targets)?;
-    let sorted = ascending(alloc, numbers.as_slice())?;
-    chips_from(alloc, sorted.as_slice())
+    let mut keys = chip_keys(alloc, machine, root, targets)?;
+    each_once(&mut keys);
+    chips_at(alloc, &keys)
 }
 
-// The number of each target vertex's core.
-fn spot_numbers(alloc: Global, spots: &Seq<Spot>, vertices: &Seq<u32>) -> Result<Seq<u32>, Memory>
-    requires vertices { All (λ v. v < length spots.now) vertices.now }
-    ensures { IfOk result (λ numbers. numbers ≡ map (λ v. spot_number (slice_index_or spots.now v nowhere)) vertices.now) }
+// Of each target vertex the x, y and core.
+fn spot_keys(
+    alloc: Global,
+    spots: &Seq<Spot>,
+    vertices: &Seq<u32>,
+) -> Result<Vec<(u8, u8, u8)>, Memory>
+    requires { All (λ v. v < length spots.now) vertices.now }
+    ensures { IfOk result (λ keys. keys.items ≡ map (λ v. spot_key (slice_index_or spots.now v nowhere)) vertices.now) }
 {
-    let mut numbers = Seq::new(alloc);
+    let mut keys = Vec::new(alloc);
     for i in 0..vertices.len() {
         let vertex = *vertices.get(i);
-        numbers.push(spot_number(*spots.get(vertex as usize)))?;
+        let Spot { chip, core } = *spots.get(vertex as usize);
+        keys.push((chip.x, chip.y, core))?;
     }
-    Ok(numbers)
+    Ok(keys)
 }
 
-// A number that rises with x, then with y, then with the core.
-fn spot_number(spot: Spot) -> u32
-    ensures { result ≡ spot_number spot }
-{
-    (u32::from(spot.chip.x) * 64 + u32::from(spot.chip.y)) * 32 + u32::from(spot.core)
-}
-
-// The cores of these numbers.
-fn spots_from(alloc: Global, numbers: &[u32]) -> Result<Seq<Spot>, Memory>
-    ensures { IfOk result (λ spots. spots ≡ map spot_from numbers.now) }
+fn spots_at(alloc: Global, keys: &[(u8, u8, u8)]) -> Result<Seq<Spot>, Memory>
+    ensures { IfOk result (λ spots. spots ≡ map spot_at keys.now) }
 {
     let mut spots = Seq::new(alloc);
-    for number in numbers {
-        spots.push(spot_from(*number))?;
+    for key in keys {
+        let (x, y, core) = *key;
+        let chip = Chip { x, y };
+        spots.push(Spot { chip, core })?;
     }
     Ok(spots)
 }
 
-// The core of a number.
-fn spot_from(number: u32) -> Spot
-    ensures { result ≡ spot_from number }
-{
-    Spot {
-        chip: Chip {
-            x: (number / 2048 % 256) as u8,
-            y: (number / 32 % 64) as u8,
-        },
-        core: (number % 32) as u8,
-    }
-}
-
-// The number of each target's chip.
-fn chip_numbers(
+// Of each target the distance from the root, and its chip's x and y.
+fn chip_keys(
     alloc: Global,
     machine: &Machine,
     root: Chip,
     targets: &Seq<Spot>,
-) -> Result<Seq<u32>, Memory>
+) -> Result<Vec<(u32, u8, u8)>, Memory>
     requires root_inside { IsInside machine.now root }
     requires targets_inside { All (λ s. IsInside machine.now s.chip) targets.now }
-    ensures { IfOk result (λ numbers. numbers ≡ map (λ (s : Spot). chip_number machine.now root s.chip) targets.now) }
+    ensures { IfOk result (λ keys. keys.items ≡ map (λ (s : Spot). chip_key machine.now root s.chip) targets.now) }
 {
-    let mut numbers = Seq::new(alloc);
+    let mut keys = Vec::new(alloc);
     for i in 0..targets.len() {
-        numbers.push(chip_number(machine, root, targets.get(i).chip))?;
+        let chip = targets.get(i).chip;
+        keys.push((distance(machine, root, chip), chip.x, chip.y))?;
     }
-    Ok(numbers)
+    Ok(keys)
 }
 
-// A number that rises with the distance from the root, then with x, then with y.
-fn chip_number(machine: &Machine, root: Chip, chip: Chip) -> u32
-    requires root_inside { IsInside machine.now root }
-    requires inside { IsInside machine.now chip }
-    ensures { result ≡ chip_number machine.now root chip }
-{
-    (distance(machine, root, chip) * 64 + u32::from(chip.x)) * 64 + u32::from(chip.y)
-}
-
-// The chips of these numbers.
-fn chips_from(alloc: Global, numbers: &[u32]) -> Result<Seq<Chip>, Memory>
-    ensures { IfOk result (λ chips. chips ≡ map chip_from numbers.now) }
+fn chips_at(alloc: Global, keys: &[(u32, u8, u8)]) -> Result<Seq<Chip>, Memory>
+    ensures { IfOk result (λ chips. chips ≡ map chip_at keys.now) }
 {
     let mut chips = Seq::new(alloc);
-    for number in numbers {
-        chips.push(chip_from(*number))?;
+    for key in keys {
+        let (_, x, y) = *key;
+        chips.push(Chip { x, y })?;
     }
     Ok(chips)
-}
-
-// The chip of a number.
-fn chip_from(number: u32) -> Chip
-    ensures { result ≡ chip_from number }
-{
-    Chip {
-        x: (number / 64 % 64) as u8,
-        y: (number % 64) as u8,
-    }
 }

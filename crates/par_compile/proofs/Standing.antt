@@ -1,110 +1,98 @@
--- The nets of a plan stand on its mesh.
-use Rattle.std.proofs.Common.{◌≡◌, ◌≢◌, ◌<◌, ℕ, zero, suc, List, [], ◌∷◌, length, refl, sym, ap, ◌∙◌, subst, arith, Some}
-use Rattle.std.specs.List.{All, AllPairs, AllZip, Contains, slice_get, slice_index_or, zip}
-use Rattle.std.proofs.lemmas.List.Elements.{All-cons, All-contains_itself}
-use Rattle.std.proofs.lemmas.List.{length-map}
-use Rattle.std.proofs.lemmas.Option.{slice_get_within, get_or_from_slice_get}
+-- The nets of a plan stand on the machine.
+use Rattle.std.proofs.Common.{◌≡◌, ◌≢◌, ◌<◌, suc, List, [], ◌∷◌, length, refl, sym, ap, ◌∙◌, subst, arith}
+use Rattle.std.specs.List.{All, AllPairs, Contains, slice_index_or}
+use Rattle.std.proofs.lemmas.Option.{slice_get-get_or}
 use Rattle.spin_base.specs.declared.chips.Spot.{Spot}
 use Rattle.spin_base.specs.declared.blocks.Block.{Block}
-use Rattle.machine_desc.specs.Description.{Description, HasSize}
-use Rattle.machine_desc.specs.Live.{IsUsable}
+use Rattle.machine_desc.specs.Description.{Description}
+use Rattle.machine_desc.specs.Live.{IsInside, IsUsable, IsSite}
 use Rattle.machine_desc.specs.RoutingTree.{IsRoutingTree}
-use Rattle.machine_desc.proofs.Far.{inside_parts}
+use Rattle.machine_desc.proofs.Far.{live_inside}
+use Rattle.machine_desc.proofs.Sites.{usable_site, site_parts}
 use Rattle.app_graph.specs.declared.graphs.Net.{Net}
 use Rattle.net_tables.specs.declared.nets.NetPlan.{NetPlan}
+use Rattle.net_tables.specs.NetsOn.{HaveDisjointBlocks, AreNetsOn}
+use Rattle.ner_trees.specs.declared.growths.Grown.{Grown}
 use Rattle.tern_word.specs.Ternary.{Intersects}
-use Rattle.mesh_core.specs.Ledger.{HaveDisjointBlocks}
-use Rattle.mesh_core.proofs.VertexTableLaws.{usable_parts}
-use Rattle.net_plans.specs.NetPlans.{IsPlanned}
-use Rattle.net_plans.specs.Numbers.{IsSmallSpot}
-use Rattle.net_plans.specs.Targets.{spot_number}
+use Rattle.list_laws.proofs.Members.{Contains-at}
+use Rattle.list_laws.proofs.Pairs.{AllPairs-from_map}
+use Rattle.list_laws.proofs.Places.{All-at, All-each, slice_get_there}
+use Rattle.net_plans.specs.NetPlans.{IsPlanned, IsEachPlanned, ArePlanned}
+use Rattle.net_plans.specs.Order.{IsBelow}
+use Rattle.net_plans.specs.Targets.{spot_key}
+use Rattle.net_plans.proofs.Ordering.{not_both}
 use Rattle.plain_tables.specs.PlainTable.{AreRouted}
-use Rattle.par_compile.specs.Compiled.{blocks_of, StandOn}
+use Rattle.par_compile.specs.Compiled.{blocks_of}
 
--- usable cores are those of a grid of at most 64 by 64
-pub small_spots : (m : Description) (spots : List Spot) → HasSize m → All (IsUsable m) spots → All IsSmallSpot spots
-small_spots m spots size usable k d within =
-    let s : Spot = slice_index_or spots k d in
-    let parts = usable_parts m s (usable k d within) in
-    let at = inside_parts m s.chip parts.0 in
-    let x = at.0 in let y = at.1 in let core = parts.1 in
-    let wide = size.width_to_64 in let high = size.height_to_64 in
-    record { x = omega (arith, x, wide); y = omega (arith, y, high); core = omega (arith, core) }
-
-All-each : {X : Type 0} (P : X → Type 0) (xs : List X) → ((x : X) → Contains xs x → P x) → All P xs
-All-each P xs each k d below = each (slice_index_or xs k d) (All-contains_itself xs k d below)
+-- usable cores are sites
+pub sites : (m : Description) (spots : List Spot) → All (IsUsable m) spots → All (IsSite m) spots
+sites m spots usable k d within = usable_site m (slice_index_or spots k d) (usable k d within)
 
 -- ---- plans side by side with what was given
 
 module _ (m : Description) (spots : List Spot) where
   -- the nets' blocks are those that were given
-  pub blocks_same : (gs : List Net) (bs : List Block) (nets : List NetPlan) → length bs ≡ length gs → AllZip (IsPlanned m spots) (zip gs bs) nets → blocks_of nets ≡ bs
-  blocks_same [] [] [] e h = refl
-  blocks_same [] [] (p ∷ ps) e h = absurd h
-  blocks_same [] (b ∷ bs) nets e h = absurd (omega (arith, e))
-  blocks_same (g ∷ gs) [] nets e h = absurd (omega (arith, e))
-  blocks_same (g ∷ gs) (b ∷ bs) [] e h = absurd h
-  blocks_same (g ∷ gs) (b ∷ bs) (p ∷ ps) e h =
-      ap (λ x. x ∷ blocks_of ps) h.0.block ∙ ap (λ l. b ∷ l) (blocks_same gs bs ps (omega (arith, e)) h.1)
+  blocks_each : (ns : List Net) (bs : List Block) (ts : List Grown) (ps : List NetPlan) → length bs ≡ length ns → length ts ≡ length ns → length ps ≡ length ns →
+      IsEachPlanned m spots ns bs ts ps → blocks_of ps ≡ bs
+  blocks_each [] [] ts [] b t p each = refl
+  blocks_each [] (c ∷ bs) ts ps b t p each = absurd (omega (arith, b))
+  blocks_each [] [] ts (q ∷ ps) b t p each = absurd (omega (arith, p))
+  blocks_each (n ∷ ns) [] ts ps b t p each = absurd (omega (arith, b))
+  blocks_each (n ∷ ns) (c ∷ bs) [] ps b t p each = absurd (omega (arith, t))
+  blocks_each (n ∷ ns) (c ∷ bs) (g ∷ ts) [] b t p each = absurd (omega (arith, p))
+  blocks_each (n ∷ ns) (c ∷ bs) (g ∷ ts) (q ∷ ps) b t p each =
+      ap (λ x. x ∷ blocks_of ps) (each 0 n c g q refl refl refl refl).block
+      ∙ ap (λ l. c ∷ l) (blocks_each ns bs ts ps (omega (arith, b)) (omega (arith, t)) (omega (arith, p)) (λ i. each (suc i)))
 
-  -- what holds of each plan
-  each_plan : (P : NetPlan → Type 0) → ((given : Net × Block) (p : NetPlan) → IsPlanned m spots given p → P p) →
-      (given : List (Net × Block)) (nets : List NetPlan) → AllZip (IsPlanned m spots) given nets → All P nets
-  each_plan P from given [] h = λ k d below. absurd (omega (arith, below))
-  each_plan P from [] (p ∷ ps) h = absurd h
-  each_plan P from (g ∷ gs) (p ∷ ps) h = All-cons P p ps (from g p h.0) (each_plan P from gs ps h.1)
-
-  contains_at : (i : ℕ) (s : Spot) → slice_get spots i ≡ Some s → Contains spots s
-  contains_at i s at = (i, slice_get_within spots i s at, get_or_from_slice_get spots i s s at)
-
-  -- different targets
-  differ : (given : Net × Block) (p : NetPlan) → IsPlanned m spots given p → AllPairs (λ a b. a ≢ b) p.targets
-  differ given p plan i j d before within = λ same.
-      let less = plan.targets.ascending i j d before within in
-      let equal : spot_number (slice_index_or p.targets i d) ≡ spot_number (slice_index_or p.targets j d) = ap spot_number same in
-      omega (arith, less, equal)
-
-  map_at : (d : NetPlan) (xs : List NetPlan) (k : ℕ) → slice_index_or (blocks_of xs) k d.block ≡ (slice_index_or xs k d).block
-  map_at d [] k = refl
-  map_at d (x ∷ xs) zero = refl
-  map_at d (x ∷ xs) (suc k) = map_at d xs k
+  pub blocks_same : (ns : List Net) (bs : List Block) (ts : List Grown) (ps : List NetPlan) → length bs ≡ length ns → ArePlanned m spots ns bs ts ps → blocks_of ps ≡ bs
+  blocks_same ns bs ts ps long are = blocks_each ns bs ts ps long are.one_tree_each are.one_plan_each are.each
 
   -- no key is in two blocks
+  blocks_apart : (nets : List NetPlan) → AllPairs (λ a b. Intersects a b → ⊥) (blocks_of nets) → AllPairs (λ (a b : NetPlan). Intersects a.block b.block → ⊥) nets
+  blocks_apart nets apart = AllPairs-from_map (λ (net : NetPlan). net.block) (λ a b. Intersects a b → ⊥) nets apart
+
   disjoint : (nets : List NetPlan) → AllPairs (λ a b. Intersects a b → ⊥) (blocks_of nets) → HaveDisjointBlocks nets
   disjoint nets apart i j d before within = λ key a b.
-      let many = length-map nets (λ (net : NetPlan). net.block) in
-      let left = map_at d nets i in
-      let right = map_at d nets j in
-      apart i j d.block before (omega (arith, within, many)) (subst (λ x. Intersects x (slice_index_or (blocks_of nets) j d.block)) (sym left)
-      (subst (λ x. Intersects (slice_index_or nets i d).block x) (sym right) (record { key = key; small = a.fits; first = a.matches; second = b.matches })))
+      blocks_apart nets apart i j d before within (record { key = key; small = a.fits; first = a.matches; second = b.matches })
 
-  blocks_apart : (nets : List NetPlan) → AllPairs (λ a b. Intersects a b → ⊥) (blocks_of nets) → AllPairs (λ (a b : NetPlan). Intersects a.block b.block → ⊥) nets
-  blocks_apart nets apart i j d before within = λ meets.
-      let many = length-map nets (λ (net : NetPlan). net.block) in
-      apart i j d.block before (omega (arith, within, many)) (subst (λ x. Intersects x (slice_index_or (blocks_of nets) j d.block)) (sym (map_at d nets i))
-      (subst (λ x. Intersects (slice_index_or nets i d).block x) (sym (map_at d nets j)) meets))
+  -- different targets
+  differ : (n : Net) (b : Block) (t : Grown) (p : NetPlan) → IsPlanned m spots n b t p → AllPairs (λ a b. a ≢ b) p.targets
+  differ n b t p plan i j d before within = λ same.
+      let below : IsBelow (spot_key (slice_index_or p.targets j d)) (spot_key (slice_index_or p.targets j d)) =
+      subst (λ (s : Spot). IsBelow (spot_key s) (spot_key (slice_index_or p.targets j d))) same (plan.targets.ascending i j d before within)
+      in
+      not_both (spot_key (slice_index_or p.targets j d)) (spot_key (slice_index_or p.targets j d)) below below
 
-  core_at : (i : ℕ) (s : Spot) → All (IsUsable m) spots → slice_get spots i ≡ Some s → s.core < 18
-  core_at i s usable at =
-      let its = subst (λ (t : Spot). IsUsable m t) (get_or_from_slice_get spots i s s at) (usable i s (slice_get_within spots i s at)) in
-      (usable_parts m s its).1
+  module _ (ns : List Net) (bs : List Block) (ts : List Grown) (ps : List NetPlan) (long : length bs ≡ length ns) (are : ArePlanned m spots ns bs ts ps) where
+    -- what holds of each plan
+    each_plan : (P : NetPlan → Type 0) → ((n : Net) (b : Block) (t : Grown) (p : NetPlan) → IsPlanned m spots n b t p → P p) → All P ps
+    each_plan P from k d below =
+        let plans_long = are.one_plan_each in
+        let trees_long = are.one_tree_each in
+        let n = slice_get_there ns k (omega (arith, below, plans_long)) in
+        let b = slice_get_there bs k (omega (arith, below, plans_long, long)) in
+        let t = slice_get_there ts k (omega (arith, below, plans_long, trees_long)) in
+        from n.0 b.0 t.0 (slice_index_or ps k d) (are.each k n.0 b.0 t.0 (slice_index_or ps k d) n.1 b.1 t.1 (slice_get-get_or ps k d below))
 
-  -- the nets are what plain tables ask for
-  pub routed : (given : List (Net × Block)) (nets : List NetPlan) → AllZip (IsPlanned m spots) given nets → AllPairs (λ a b. Intersects a b → ⊥) (blocks_of nets) →
-      All (λ net. IsRoutingTree m net.tree.root net.tree.edges net.targets) nets → All (IsUsable m) spots → AreRouted m nets
-  routed given nets planned apart routing usable = record {
-    trees = routing;
-    cores = each_plan (λ net. All (λ (s : Spot). s.core < 18) net.targets) (λ g p plan. All-each (λ (s : Spot). s.core < 18) p.targets (λ s has. let from = plan.targets.only s has in core_at from.0 s usable from.2)) given nets planned;
-    apart = blocks_apart nets apart;
-  }
+    -- the nets are what plain tables ask for
+    pub routed : AllPairs (λ a b. Intersects a b → ⊥) (blocks_of ps) → All (λ (net : NetPlan). IsRoutingTree m net.tree.root net.tree.edges net.targets) ps → All (IsSite m) spots →
+        AreRouted m ps
+    routed apart routing on_sites = record {
+      trees = routing;
+      roots = each_plan (λ net. IsInside m net.tree.root) (λ n b t p plan.
+          subst (IsInside m) (sym plan.root) (live_inside m p.source.chip (site_parts m p.source (All-at (IsSite m) spots n.source p.source on_sites plan.source)).0));
+      cores = each_plan (λ net. All (λ (s : Spot). s.core < 24) net.targets) (λ n b t p plan.
+          All-each (λ (s : Spot). s.core < 24) p.targets (λ s has. let from = plan.targets.only s has in (site_parts m s (All-at (IsSite m) spots from.0 s on_sites from.2)).1));
+      apart = blocks_apart ps apart;
+    }
 
-  pub stands : (given : List (Net × Block)) (nets : List NetPlan) → AllZip (IsPlanned m spots) given nets → AllPairs (λ a b. Intersects a b → ⊥) (blocks_of nets) →
-      All (λ net. IsRoutingTree m net.tree.root net.tree.edges net.targets) nets → StandOn m spots nets
-  stands given nets planned apart routing = λ tables capacity packets. record {
-    disjoint = disjoint nets apart;
-    trees = routing;
-    roots = each_plan (λ net. net.tree.root ≡ net.source.chip) (λ g p plan. plan.root) given nets planned;
-    sources = each_plan (λ net. Contains spots net.source) (λ g p plan. contains_at g.0.source p.source plan.source) given nets planned;
-    targets = each_plan (λ net. All (Contains spots) net.targets) (λ g p plan. All-each (Contains spots) p.targets (λ s has. let from = plan.targets.only s has in contains_at from.0 s from.2)) given nets planned;
-    different = each_plan (λ net. AllPairs (λ a b. a ≢ b) net.targets) (λ g p plan. differ g p plan) given nets planned;
-  }
+    pub stands : AllPairs (λ a b. Intersects a b → ⊥) (blocks_of ps) → All (λ (net : NetPlan). IsRoutingTree m net.tree.root net.tree.edges net.targets) ps → AreNetsOn m spots ps
+    stands apart routing = record {
+      disjoint = disjoint ps apart;
+      trees = routing;
+      roots = each_plan (λ net. net.tree.root ≡ net.source.chip) (λ n b t p plan. plan.root);
+      sources = each_plan (λ net. Contains spots net.source) (λ n b t p plan. Contains-at spots n.source p.source plan.source);
+      targets = each_plan (λ net. All (Contains spots) net.targets) (λ n b t p plan.
+          All-each (Contains spots) p.targets (λ s has. let from = plan.targets.only s has in Contains-at spots from.0 s from.2));
+      different = each_plan (λ net. AllPairs (λ a b. a ≢ b) net.targets) differ;
+    }

@@ -1,25 +1,26 @@
 // The stages of compiling, one after the other.
 ghost use Rattle.std.specs.Prelude.{IfOk, IfErr};
-ghost use Rattle.machine_desc.specs.Description.{HasSize};
 ghost use Rattle.app_graph.specs.ValidGraph.{IsValidGraph};
-ghost use Rattle.par_compile.specs.Compiled.{IsCause, IsPlanOf};
+ghost use Rattle.par_compile.specs.Compiled.{IsCause, IsPlanOf, IsRefusedWhere};
 
 use app_graph::Graph;
 use key_alloc::{KeyErr, keys};
 use machine_desc::Machine;
-use net_plans::{NetErr, net_plans};
+use ner_trees::Grown;
+use net_plans::{NetErr, RoutedNets, net_plans};
 use net_tables::NetPlan;
 use place_fit::{PlaceErr, Placement, place};
 use plain_tables::plain_tables;
-use spin_base::{Chip, Seq};
+use spin_base::{Chip, Memory, Seq};
 use std::alloc::Global;
 use tern_word::Table;
 
-/// What a graph needs on a machine: where each vertex stands, of each net its keys, cores and tree, and of each chip, by its
-/// index, its table.
+/// What a graph needs on a machine: where each vertex stands; of each net the tree that grew whatever is dead, and its keys,
+/// cores and tree; and of each chip, by its index, its table.
 #[derive(Debug, Drop)]
 pub struct Plan {
     pub placement: Placement,
+    pub grown: Seq<Grown>,
     pub nets: Seq<NetPlan>,
     pub tables: Seq<Table>,
 }
@@ -37,6 +38,17 @@ pub enum CompileErr {
     Memory,
 }
 
+impl From<Memory> for CompileErr {
+    ghost use Rattle.std.specs.Prelude.{◌≡◌};
+    ghost use Rattle.par_compile.specs.declared.compiling.CompileErr.TheVariants.{Memory as NoMemory};
+
+    ghost from_gives = { λ _ e. e ≡ NoMemory };
+
+    fn from(_: Memory) -> Self {
+        CompileErr::Memory
+    }
+}
+
 /// The plan of a graph on a machine: first fit along the chip order for vertices, the least free aligned range of keys for
 /// each net, for each net the tree that grows from its source's chip to its targets, with detours round what is dead, and
 /// the plain table of each chip. The tables are right for the nets.
@@ -44,12 +56,13 @@ pub enum CompileErr {
 /// # Errors
 ///
 /// `NoRoom` names the first vertex without room, `KeysOut` the first net without keys where all vertices have room, and
-/// `CutOff` the first net with a target that is cut off where all nets have keys, with its first such target.
-/// `Memory` where memory runs out.
+/// `CutOff` the first net with a target that is cut off where all nets have keys, with its first such target. Each comes
+/// exactly where there is such a vertex or net, unless memory runs out before, which `Memory` says.
 pub fn compile(alloc: Global, machine: &Machine, graph: &Graph) -> Result<Plan, CompileErr>
     requires { IsValidGraph graph.now }
     ensures plan { IfOk result (IsPlanOf machine.now graph.now) }
     ensures cause { IfErr result (IsCause machine.now graph.now) }
+    ensures refused { IsRefusedWhere machine.now graph.now result }
 {
     let placement = match place(alloc, machine, graph) {
         Ok(placement) => placement,
@@ -61,25 +74,17 @@ pub fn compile(alloc: Global, machine: &Machine, graph: &Graph) -> Result<Plan, 
         Err(KeyErr::KeysOut { net }) => return Err(CompileErr::KeysOut { net }),
         Err(KeyErr::Memory) => return Err(CompileErr::Memory),
     };
-    has_size(machine);
-    let nets = match net_plans(alloc, machine, graph, &placement.spots, &blocks) {
-        Ok(nets) => nets,
+    let routed = match net_plans(alloc, machine, graph, &placement.spots, &blocks) {
+        Ok(routed) => routed,
         Err(NetErr::CutOff { net, target }) => return Err(CompileErr::CutOff { net, target }),
         Err(NetErr::Memory) => return Err(CompileErr::Memory),
     };
-    match plain_tables(alloc, machine, &nets) {
-        Ok(tables) => Ok(Plan {
-            placement,
-            nets,
-            tables,
-        }),
-        Err(_) => Err(CompileErr::Memory),
-    }
-}
-
-// A machine's size is within its limits. Nothing is done: its clause is for the prover.
-fn has_size(machine: &Machine)
-    ensures { HasSize machine.now }
-{
-    machine.width();
+    let RoutedNets { grown, plans: nets } = routed;
+    let tables = plain_tables(alloc, machine, &nets)?;
+    Ok(Plan {
+        placement,
+        grown,
+        nets,
+        tables,
+    })
 }

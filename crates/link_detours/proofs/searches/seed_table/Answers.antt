@@ -1,15 +1,12 @@
-use Rattle.std.proofs.Common.{◌≡◌, ◌*◌, ◌∙◌, ap, replicate, refl, rules}
+use Rattle.std.proofs.Common.{◌≡◌, ◌∙◌, ap, replicate, rules}
 use Rattle.link_detours.proofs.Seeding.{Seeded-none, Seeded-more}
 use Rattle.link_detours.proofs.searches.seed_table.Goals as goal
 
 pub loop-seed-init : goal.loop-seed-init
 loop-seed-init c =
-    let clear : c.in_ok-table.table.items ≡ replicate (c.from.result * c.from-2.result) 18446744073709551615 =
-    c.in_ok-table.ensures.items_if_clones_equal (search rules) in
-    let chips : c.from.result * c.from-2.result ≡ c.args.machine.now.width * c.args.machine.now.height =
-    rw (c.from.ensures, c.from-2.ensures, c.width.ensures.value, c.height.ensures.value) refl in
+    let clear : c.in_ok-table.table.items ≡ replicate c.chips.result 18446744073709551615 = c.in_ok-table.ensures.items_if_clones_equal (search rules) in
     Seeded-none c.args.machine.now 18446744073709551615 c.in_ok-table.table.items c.args.seeds.now
-    (clear ∙ ap (λ n. replicate n 18446744073709551615) chips)
+    (clear ∙ ap (λ n. replicate n 18446744073709551615) c.chips.ensures.total)
 
 pub loop-seed-preserved : goal.loop-seed-preserved
 loop-seed-preserved c =

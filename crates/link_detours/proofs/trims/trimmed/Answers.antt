@@ -23,7 +23,7 @@ returns-then-branch-clause-left c =
     let ordered : IsInOrder c.args.machine.now c.args.whole.items = rw c.deref.ensures.value at (c.in_ok-is_lean.ensures.in_order c.if-branch.true) in
     let goes : All (λ e. (x : Chip) → end_of c.args.machine.now e ≡ Some x → GoesOnFrom c.args.whole.items c.args.targets.now x) c.args.whole.items =
     rw c.deref.ensures.value at (c.in_ok-is_lean.ensures.goes_on c.if-branch.true) in
-    all_stay c.args.machine.now c.args.root c.args.whole.items c.args.targets.now c.requires.root_lives c.requires.is_whole c.requires.some_target
+    all_stay c.args.machine.now c.args.root c.args.whole.items c.args.targets.now c.requires.is_whole c.requires.some_target
     c.requires.has_targets ordered goes
 
 pub returns-else-branch-clause-left : goal.returns-else-branch-clause-left

@@ -5,11 +5,9 @@ use Rattle.ner_trees.proofs.growths.ner.Goals as goal
 
 pub loop-target-init : goal.loop-target-init
 loop-target-init c =
-    let made : c.in_ok-on.on.items ≡ replicate (c.from.result * c.from-2.result) false = c.in_ok-on.ensures.items_if_clones_equal (λ y h. search rules) in
-    let across : c.from.result ≡ c.args.machine.now.width = c.from.ensures ∙ c.width.ensures.value in
-    let up : c.from-2.result ≡ c.args.machine.now.height = c.from-2.ensures ∙ c.height.ensures.value in
+    let made : c.in_ok-on.on.items ≡ replicate c.chips.result false = c.in_ok-on.ensures.items_if_clones_equal (λ y h. search rules) in
     let clear : c.in_ok-on.on.items ≡ replicate (c.args.machine.now.width * c.args.machine.now.height) false =
-    made ∙ (ap (λ n. replicate (n * c.from-2.result) false) across ∙ ap (λ n. replicate (c.args.machine.now.width * n) false) up) in
+    made ∙ ap (λ n. replicate n false) c.chips.ensures.total in
     rw (c.new-edges.ensures.items, c.new-joins.ensures)
     (so_far_start c.args.machine.now c.args.root c.in_ok-on.on.items c.index.result c.requires.root_inside clear c.index.ensures.value)
 
@@ -28,7 +26,7 @@ pub returns : goal.returns
 returns c =
     let done : Finished c.args.machine.now c.args.root c.args.targets.now c.loop-target.joins c.from_vec.result =
     finished_at c.args.machine.now c.args.root c.args.targets.now c.as_slice-target-items.result.now c.loop-target.joins c.loop-target.on.items c.loop-target.edges.items
-    c.in_ok-in_order.field-0.items c.from_vec.result c.loop-target.target-index c.width.ensures.size c.requires.root_inside c.requires.targets_inside
+    c.in_ok-in_order.field-0.items c.from_vec.result c.loop-target.target-index c.chips.ensures.size c.requires.root_inside c.requires.targets_inside
     c.as_slice-target-items.ensures c.loop-target-test.false c.loop-target.invariant c.in_ok-in_order.ensures.same_edges c.in_ok-in_order.ensures.in_order
     c.from_vec.ensures in
     record {

@@ -1,30 +1,35 @@
-use Rattle.std.proofs.Common.{sym, subst}
-use Rattle.machine_desc.specs.Live.{IsInside}
+use Rattle.std.proofs.Common.{sym, subst, IfOk, IfErr, rules}
+use Rattle.std.proofs.lemmas.Result.{IfErr-weaker}
+use Rattle.machine_desc.specs.Live.{IsInside, IsLiveChip}
 use Rattle.machine_desc.specs.RoutingTree.{IsTreeTo}
-use Rattle.net_plans.specs.Numbers.{IsSmallSpot}
-use Rattle.net_plans.proofs.Planning.{All-at, all_inside, of_targets, of_chips, routes_targets, some_chip}
+use Rattle.link_detours.specs.Cause.{IsCause as IsRepairCause}
+use Rattle.net_plans.specs.Cause.{IsCauseOne}
+use Rattle.net_plans.specs.CutOffTargets.{HasNoneCutOff}
+use Rattle.net_plans.proofs.CutOffLaws.{none_cut_off, cause_one, refused_one}
+use Rattle.net_plans.proofs.Planning.{all_inside, source_lives, of_targets, of_chips, routes_targets, some_chip, plan_is}
+use Rattle.list_laws.proofs.Places.{All-at}
 use Rattle.net_plans.proofs.nets.net_plan.Goals as goal
 
 pub target_chips-requires-clause-root_inside : goal.target_chips-requires-clause-root_inside
 target_chips-requires-clause-root_inside c =
-    All-at (λ s. IsInside c.args.machine.now s.chip) c.args.spots.now c.args.net.now.source c.get-source.result.now (all_inside c.args.machine.now c.args.spots.now c.requires.usable) c.get-source.ensures
+    All-at (λ s. IsInside c.args.machine.now s.chip) c.args.spots.now c.args.net.now.source c.get-source.result.now (all_inside c.args.machine.now c.args.spots.now c.requires.sites) c.get-source.ensures
 
 pub target_chips-requires-clause-targets_inside : goal.target_chips-requires-clause-targets_inside
 target_chips-requires-clause-targets_inside c =
-    of_targets (λ s. IsInside c.args.machine.now s.chip) c.args.spots.now c.args.net.now.targets c.in_ok-targets.targets c.in_ok-targets.ensures (all_inside c.args.machine.now c.args.spots.now c.requires.usable)
-
-pub target_chips-requires-clause-small : goal.target_chips-requires-clause-small
-target_chips-requires-clause-small c =
-    of_targets IsSmallSpot c.args.spots.now c.args.net.now.targets c.in_ok-targets.targets c.in_ok-targets.ensures c.requires.small
+    of_targets (λ s. IsInside c.args.machine.now s.chip) c.args.spots.now c.args.net.now.targets c.in_ok-targets.targets c.in_ok-targets.ensures (all_inside c.args.machine.now c.args.spots.now c.requires.sites)
 
 pub ner-requires-clause-root_inside : goal.ner-requires-clause-root_inside
 ner-requires-clause-root_inside c =
-    All-at (λ s. IsInside c.args.machine.now s.chip) c.args.spots.now c.args.net.now.source c.get-source.result.now (all_inside c.args.machine.now c.args.spots.now c.requires.usable) c.get-source.ensures
+    All-at (λ s. IsInside c.args.machine.now s.chip) c.args.spots.now c.args.net.now.source c.get-source.result.now (all_inside c.args.machine.now c.args.spots.now c.requires.sites) c.get-source.ensures
 
 pub ner-requires-clause-targets_inside : goal.ner-requires-clause-targets_inside
 ner-requires-clause-targets_inside c =
     of_chips (IsInside c.args.machine.now) c.args.machine.now c.get-source.result.now.chip c.in_ok-targets.targets c.in_ok-chips.chips c.in_ok-chips.ensures
-    (of_targets (λ s. IsInside c.args.machine.now s.chip) c.args.spots.now c.args.net.now.targets c.in_ok-targets.targets c.in_ok-targets.ensures (all_inside c.args.machine.now c.args.spots.now c.requires.usable))
+    (of_targets (λ s. IsInside c.args.machine.now s.chip) c.args.spots.now c.args.net.now.targets c.in_ok-targets.targets c.in_ok-targets.ensures (all_inside c.args.machine.now c.args.spots.now c.requires.sites))
+
+pub repair-requires-clause-root_lives : goal.repair-requires-clause-root_lives
+repair-requires-clause-root_lives c =
+    subst (IsLiveChip c.args.machine.now) (sym c.in_ok-grown.ensures.root) (source_lives c.args.machine.now c.args.spots.now c.args.net.now.source c.get-source.result.now c.requires.sites c.get-source.ensures)
 
 pub repair-requires-clause-some_target : goal.repair-requires-clause-some_target
 repair-requires-clause-some_target c =
@@ -34,9 +39,36 @@ repair-requires-clause-some_target c =
 pub repair-requires-clause-targets_inside : goal.repair-requires-clause-targets_inside
 repair-requires-clause-targets_inside c =
     of_chips (IsInside c.args.machine.now) c.args.machine.now c.get-source.result.now.chip c.in_ok-targets.targets c.in_ok-chips.chips c.in_ok-chips.ensures
-    (of_targets (λ s. IsInside c.args.machine.now s.chip) c.args.spots.now c.args.net.now.targets c.in_ok-targets.targets c.in_ok-targets.ensures (all_inside c.args.machine.now c.args.spots.now c.requires.usable))
+    (of_targets (λ s. IsInside c.args.machine.now s.chip) c.args.spots.now c.args.net.now.targets c.in_ok-targets.targets c.in_ok-targets.ensures (all_inside c.args.machine.now c.args.spots.now c.requires.sites))
 
-pub returns-in-Ok-clause-routing : goal.returns-in-Ok-clause-routing
-returns-in-Ok-clause-routing c =
-    routes_targets c.args.machine.now c.get-source.result.now.chip c.in-Ok.tree.root c.in-Ok.tree.edges c.in_ok-targets.targets c.in_ok-chips.chips c.in_ok-chips.ensures
-    (subst (λ root. IsTreeTo c.args.machine.now root c.in-Ok.tree.edges c.in_ok-chips.chips) (sym c.in-Ok.ensures.root) c.in-Ok.ensures.routing)
+pub returns-in_err-tree-clause-cause : goal.returns-in_err-tree-clause-cause
+returns-in_err-tree-clause-cause c =
+    let cause : IfErr c.from_residual-in_err-tree.result (IsRepairCause c.args.machine.now c.in_ok-grown.grown.tree.root c.in_ok-chips.chips) = search rules in
+    IfErr-weaker c.from_residual-in_err-tree.result (IsRepairCause c.args.machine.now c.in_ok-grown.grown.tree.root c.in_ok-chips.chips) (IsCauseOne c.args.machine.now c.args.spots.now c.args.net.now)
+    (λ e found. cause_one c.args.machine.now c.args.spots.now c.args.net.now c.get-source.result.now c.in_ok-targets.targets c.in_ok-chips.chips c.get-source.ensures c.in_ok-targets.ensures c.in_ok-chips.ensures e
+    (subst (λ r. IsRepairCause c.args.machine.now r c.in_ok-chips.chips e) c.in_ok-grown.ensures.root found)) cause
+
+pub returns-in_err-tree-clause-cut_off : goal.returns-in_err-tree-clause-cut_off
+returns-in_err-tree-clause-cut_off c =
+    let none : IfOk c.from_residual-in_err-tree.result (λ _. HasNoneCutOff c.args.machine.now c.args.spots.now c.args.net.now) = search rules in
+    refused_one c.args.machine.now c.args.spots.now c.args.net.now c.from_residual-in_err-tree.result none (returns-in_err-tree-clause-cause c)
+
+pub returns-clause-planned : goal.returns-clause-planned
+returns-clause-planned c =
+    plan_is c.args.machine.now c.args.spots.now c.args.net.now c.args.block c.get-source.result.now c.in_ok-targets.targets c.in_ok-chips.chips c.in_ok-grown.grown c.in_ok-tree.tree
+    c.get-source.ensures c.in_ok-targets.ensures c.in_ok-chips.ensures c.in_ok-grown.ensures.root c.in_ok-grown.ensures.grown c.in_ok-grown.ensures.few_edges
+    c.in_ok-tree.ensures.root c.in_ok-tree.ensures.repaired
+
+pub returns-clause-routing : goal.returns-clause-routing
+returns-clause-routing c =
+    routes_targets c.args.machine.now c.get-source.result.now.chip c.in_ok-tree.tree.root c.in_ok-tree.tree.edges c.in_ok-targets.targets c.in_ok-chips.chips c.in_ok-chips.ensures
+    (subst (λ root. IsTreeTo c.args.machine.now root c.in_ok-tree.tree.edges c.in_ok-chips.chips) (sym c.in_ok-tree.ensures.root) c.in_ok-tree.ensures.routing)
+
+pub returns-clause-reached : goal.returns-clause-reached
+returns-clause-reached c =
+    none_cut_off c.args.machine.now c.args.spots.now c.args.net.now c.get-source.result.now c.in_ok-targets.targets c.in_ok-tree.tree.edges c.get-source.ensures c.in_ok-targets.ensures
+    (routes_targets c.args.machine.now c.get-source.result.now.chip c.get-source.result.now.chip c.in_ok-tree.tree.edges c.in_ok-targets.targets c.in_ok-chips.chips c.in_ok-chips.ensures
+    (subst (λ root. IsTreeTo c.args.machine.now root c.in_ok-tree.tree.edges c.in_ok-chips.chips) c.in_ok-grown.ensures.root c.in_ok-tree.ensures.routing))
+
+pub returns-clause-cut_off : goal.returns-clause-cut_off
+returns-clause-cut_off c = λ target first. absurd (returns-clause-reached c first.source target first.is)

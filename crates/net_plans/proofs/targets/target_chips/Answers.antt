@@ -1,13 +1,14 @@
-use Rattle.std.proofs.Common.{[], map, ap, sym, ◌∙◌, subst}
-use Rattle.net_plans.specs.Ascending.{all_inserted}
-use Rattle.net_plans.specs.Numbers.{chip_from}
+use Rattle.std.proofs.Common.{map, sym, subst}
+use Rattle.net_plans.specs.Keys.{chip_at}
 use Rattle.net_plans.specs.Targets.{AreTargetChips}
-use Rattle.net_plans.proofs.Planning.{ok_is}
-use Rattle.net_plans.proofs.TargetLaws.{are_target_chips}
+use Rattle.net_plans.proofs.TargetLaws.{AreOnce, chip_keys_of, are_target_chips, ok_is}
 use Rattle.net_plans.proofs.targets.target_chips.Goals as goal
 
 pub returns : goal.returns
 returns c =
-    let sorted_is = c.as_slice-2.ensures ∙ (c.in_ok-sorted.ensures ∙ ap (all_inserted []) (c.as_slice.ensures ∙ c.in_ok-numbers.ensures)) in
-    ok_is c.chips_from.result (AreTargetChips c.args.machine.now c.args.root c.args.targets.now) (map chip_from c.as_slice-2.result.now) c.chips_from.ensures
-    (subst (λ l. AreTargetChips c.args.machine.now c.args.root c.args.targets.now (map chip_from l)) (sym sorted_is) (are_target_chips c.args.machine.now c.args.root c.args.targets.now c.requires.small))
+    let once : AreOnce c.in_ok-keys.keys.items c.each_once.new.keys.items = record { ascending = c.each_once.ensures.ascending; each = c.each_once.ensures.each; only = c.each_once.ensures.only } in
+    let once_here : AreOnce (chip_keys_of c.args.machine.now c.args.root c.args.targets.now) c.deref.result.now =
+    subst (AreOnce (chip_keys_of c.args.machine.now c.args.root c.args.targets.now)) (sym c.deref.ensures.value) (subst (λ ks. AreOnce ks c.each_once.new.keys.items) c.in_ok-keys.ensures once)
+    in
+    ok_is c.chips_at.result (AreTargetChips c.args.machine.now c.args.root c.args.targets.now) (map chip_at c.deref.result.now) c.chips_at.ensures
+    (are_target_chips c.args.machine.now c.args.root c.args.targets.now c.deref.result.now once_here)

@@ -1,13 +1,14 @@
-use Rattle.std.proofs.Common.{[], map, ap, sym, ◌∙◌, subst}
-use Rattle.net_plans.specs.Ascending.{all_inserted}
-use Rattle.net_plans.specs.Numbers.{spot_from}
+use Rattle.std.proofs.Common.{map, sym, subst}
+use Rattle.net_plans.specs.Keys.{spot_at}
 use Rattle.net_plans.specs.Targets.{AreTargets}
-use Rattle.net_plans.proofs.Planning.{ok_is}
-use Rattle.net_plans.proofs.TargetLaws.{are_targets}
+use Rattle.net_plans.proofs.TargetLaws.{AreOnce, keys_of, are_targets, ok_is}
 use Rattle.net_plans.proofs.targets.targets_of.Goals as goal
 
 pub returns : goal.returns
 returns c =
-    let sorted_is = c.as_slice-2.ensures ∙ (c.in_ok-sorted.ensures ∙ ap (all_inserted []) (c.as_slice.ensures ∙ c.in_ok-numbers.ensures)) in
-    ok_is c.spots_from.result (AreTargets c.args.spots.now c.args.vertices.now) (map spot_from c.as_slice-2.result.now) c.spots_from.ensures
-    (subst (λ l. AreTargets c.args.spots.now c.args.vertices.now (map spot_from l)) (sym sorted_is) (are_targets c.args.spots.now c.args.vertices.now c.requires.small c.requires.vertices))
+    let once : AreOnce c.in_ok-keys.keys.items c.each_once.new.keys.items = record { ascending = c.each_once.ensures.ascending; each = c.each_once.ensures.each; only = c.each_once.ensures.only } in
+    let once_here : AreOnce (keys_of c.args.spots.now c.args.vertices.now) c.deref.result.now =
+    subst (AreOnce (keys_of c.args.spots.now c.args.vertices.now)) (sym c.deref.ensures.value) (subst (λ ks. AreOnce ks c.each_once.new.keys.items) c.in_ok-keys.ensures once)
+    in
+    ok_is c.spots_at.result (AreTargets c.args.spots.now c.args.vertices.now) (map spot_at c.deref.result.now) c.spots_at.ensures
+    (are_targets c.args.spots.now c.args.vertices.now c.requires c.deref.result.now once_here)

@@ -1,0 +1,77 @@
+-- A graph has one cause of refusal, or a plan.
+use Rattle.std.proofs.Common.{◌≡◌, ℕ, List, refl, ap, subst, arith, inl, inr, Some, Result, Ok, Err, IfOk, IfErr}
+use Rattle.std.specs.List.{slice_get}
+use Rattle.std.proofs.lemmas.Option.{slice_get_within}
+use Rattle.spin_base.specs.declared.chips.Chip.{Chip}
+use Rattle.spin_base.specs.declared.chips.Spot.{Spot}
+use Rattle.machine_desc.specs.Description.{Description}
+use Rattle.machine_desc.specs.RoutingTree.{IsRoutingTree}
+use Rattle.app_graph.specs.declared.graphs.Graph.{Graph}
+use Rattle.app_graph.specs.declared.graphs.Net.{Net}
+use Rattle.net_tables.specs.declared.nets.NetPlan.{NetPlan}
+use Rattle.place_fit.proofs.Determined as places
+use Rattle.key_alloc.proofs.Determined as blocks
+use Rattle.list_laws.proofs.Places.{All-at, slice_get_there}
+use Rattle.net_plans.specs.CutOffTargets.{HasNoneCutOff, IsFirstCutOff}
+use Rattle.net_plans.proofs.CutOffLaws.{none_cut_off, one_first_net}
+use Rattle.par_compile.specs.declared.compiling.Plan.{Plan}
+use Rattle.par_compile.specs.declared.compiling.CompileErr.{CompileErr}
+use Rattle.par_compile.specs.declared.compiling.CompileErr.TheVariants.{NoRoom, KeysOut, CutOff, Memory}
+use Rattle.par_compile.specs.Compiled.{blocks_of, HasCutOff, IsCause, IsPlanOf, IsRefusedWhere}
+
+module _ (m : Description) (graph : Graph) where
+  -- no target of a net of a plan is cut off
+  none_of_plan : (plan : Plan) → IsPlanOf m graph plan → (i : ℕ) (net : Net) → slice_get graph.nets i ≡ Some net → HasNoneCutOff m plan.placement.spots net
+  none_of_plan plan is i net at =
+      let within = slice_get_within graph.nets i net at in
+      let plans_long = is.nets.one_plan_each in
+      let trees_long = is.nets.one_tree_each in
+      let blocks_long = is.blocks.all in
+      let b = slice_get_there (blocks_of plan.nets) i (omega (arith, within, blocks_long)) in
+      let t = slice_get_there plan.grown i (omega (arith, within, trees_long)) in
+      let p = slice_get_there plan.nets i (omega (arith, within, plans_long)) in
+      let planned = is.nets.each i net b.0 t.0 p.0 at b.1 t.1 p.1 in
+      let tree : IsRoutingTree m p.0.tree.root p.0.tree.edges p.0.targets = All-at (λ (n : NetPlan). IsRoutingTree m n.tree.root n.tree.edges n.targets) plan.nets i p.0 is.stand.trees p.1 in
+      none_cut_off m plan.placement.spots net p.0.source p.0.targets p.0.tree.edges planned.source planned.targets
+      (subst (λ r. IsRoutingTree m r p.0.tree.edges p.0.targets) planned.root tree)
+
+  -- the first net that is cut off does not depend on which placement is meant
+  same_first : (i : ℕ) (target : Chip) (has : HasCutOff m graph i target) (spots : List Spot) → has.spots ≡ spots → IsFirstCutOff m spots graph.nets i target
+  same_first i target has spots same = subst (λ s. IsFirstCutOff m s graph.nets i target) same has.first
+
+  -- a graph with a target that is cut off has no plan
+  pub cut_not_planned : (i : ℕ) (target : Chip) (plan : Plan) → HasCutOff m graph i target → IsPlanOf m graph plan → ⊥
+  cut_not_planned i target plan has is =
+      let same = (places.one_placement m graph.vertices has.spots plan.placement.spots has.memory plan.placement.memory has.placed is.placed).0 in
+      let first = same_first i target has plan.placement.spots same in
+      none_of_plan plan is i first.net first.is first.target.source target first.target.is
+
+  -- at most one net and target are the first that are cut off
+  pub one_cut_off : (i j : ℕ) (a b : Chip) → HasCutOff m graph i a → HasCutOff m graph j b → (i ≡ j) × (a ≡ b)
+  one_cut_off i j a b has other =
+      let same = (places.one_placement m graph.vertices has.spots other.spots has.memory other.memory has.placed other.placed).0 in
+      one_first_net m other.spots graph.nets i j a b (same_first i a has other.spots same) other.first
+
+  -- Whatever the answer, if what it says is so, it is the one that the cause asks for.
+  pub refused_where : (result : Result Plan CompileErr) → IfOk result (IsPlanOf m graph) → IfErr result (IsCause m graph) → IsRefusedWhere m graph result
+  refused_where (Ok plan) is cause = record {
+    no_room = λ v room. absurd (places.not_both m graph.vertices plan.placement.spots plan.placement.memory v is.placed room);
+    keys_out = λ n placed out. absurd (blocks.not_both graph.nets (blocks_of plan.nets) n is.blocks out);
+    cut_off = λ n t has. absurd (cut_not_planned n t plan has is);
+  }
+  refused_where (Err (NoRoom w)) is cause = record {
+    no_room = λ v room. inl (ap (λ k. Err (NoRoom k)) (places.one_vertex m graph.vertices w v cause room));
+    keys_out = λ n placed out. absurd (places.not_both m graph.vertices placed.0 placed.1 w placed.2 cause);
+    cut_off = λ n t has. absurd (places.not_both m graph.vertices has.spots has.memory w has.placed cause);
+  }
+  refused_where (Err (KeysOut k)) is cause = record {
+    no_room = λ v room. absurd (places.not_both m graph.vertices cause.0.0 cause.0.1 v cause.0.2 room);
+    keys_out = λ n placed out. inl (ap (λ j. Err (KeysOut j)) (blocks.one_net graph.nets k n cause.1 out));
+    cut_off = λ n t has. absurd (blocks.not_both graph.nets has.blocks k has.keyed cause.1);
+  }
+  refused_where (Err (CutOff i a)) is cause = record {
+    no_room = λ v room. absurd (places.not_both m graph.vertices cause.spots cause.memory v cause.placed room);
+    keys_out = λ n placed out. absurd (blocks.not_both graph.nets cause.blocks n cause.keyed out);
+    cut_off = λ n t has. let one = one_cut_off i n a t cause has in inl (λ k. Err (CutOff (one.0 k) (one.1 k)));
+  }
+  refused_where (Err Memory) is cause = record { no_room = λ v room. inr refl; keys_out = λ n placed out. inr refl; cut_off = λ n t has. inr refl }
