@@ -21,7 +21,7 @@ use Rattle.spin_top.specs.Given.{WhereGiven, WhereRun, GivesAll, IsGiven, IsWrit
 use Rattle.spin_top.specs.Jobs.{IsOfText, job_in}
 use Rattle.spin_top.specs.Outcomes.{line_of, status_at}
 use Rattle.spin_top.specs.Runs.{IsMade, IsOutputOf, IsRunMade, output_text}
-use Rattle.spin_top.proofs.CutOffs.{cut_not_planned}
+use Rattle.par_compile.proofs.Refusing.{cut_not_planned}
 use Rattle.spin_top.proofs.Exclusive.{one_command, serves_built, same_job, IsReady, refused_not_ready, one_refusal, ready_late, ready_made}
 
 -- what each error has, each error has that has more

@@ -8,26 +8,26 @@ use Rattle.job_readers.specs.declared.jobs.Job.{Job}
 use Rattle.run_report.specs.declared.reports.Report.{Report}
 use Rattle.run_report.specs.ReportText.{plan_text, report_text}
 use Rattle.run_report.specs.RunReport.{IsReportOf}
-use Rattle.one_chip_run.specs.HasRun.{HasRun}
+use Rattle.mesh_core.specs.HasRun.{HasRun}
 use Rattle.par_compile.specs.declared.compiling.Plan.{Plan}
 use Rattle.par_compile.specs.Compiled.{IsPlanOf}
-use Rattle.job_runs.specs.OpenedFor.{Fits, loaded, opened_for}
 use Rattle.spin_top.specs.declared.commands.Command.{Command}
 use Rattle.spin_top.specs.declared.commands.Command.TheVariants.{Run, Trace, Compile, Tables, Gen}
 use Rattle.spin_top.specs.Causes.{Serves}
 use Rattle.spin_top.specs.Jobs.{IsReadTo}
+use Rattle.spin_top.specs.Opened.{Fits, memory_of, opened_of}
 
 -- The plan is the one that the definitions give, each table fits into its router, and the tables, loaded, are right for the
 -- nets.
 pub record IsPlanned (job : Job) (plan : Plan) : Type 0 where
   pub as_defined : IsPlanOf job.machine job.graph plan
   pub fit : All Fits plan.tables
-  pub right : AreRight job.machine (map loaded plan.tables) plan.nets
+  pub right : AreRight job.machine (map memory_of plan.tables) plan.nets
 
 -- The mesh was reached from the opened one by events that drop no copy, nothing waits and nothing is unsent, and it has
 -- delivered what the job asks for and nothing else.
 pub record HasRunOut (job : Job) (plan : Plan) (mesh : State) : Type 0 where
-  pub reached : HasRun (opened_for job.machine plan job.run) mesh
+  pub reached : HasRun (opened_of job plan) mesh
   pub delivered : AreAsExpected mesh plan.nets job.run.packets
 
 -- the report of a job's plan and of the mesh after its run

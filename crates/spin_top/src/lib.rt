@@ -14,6 +14,7 @@ mod lines;
 mod outcomes;
 mod outputs;
 mod plans;
+mod runs;
 mod texts;
 mod tops;
 

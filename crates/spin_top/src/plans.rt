@@ -2,7 +2,7 @@
 ghost use Rattle.std.specs.Prelude.{◌≡◌, ◌⊎◌, All, IfOk, IfErr, true};
 ghost use Rattle.app_graph.specs.ValidGraph.{IsValidGraph};
 ghost use Rattle.par_compile.specs.Compiled.{IsCause};
-ghost use Rattle.job_runs.specs.OpenedFor.{Fits};
+ghost use Rattle.spin_top.specs.Opened.{Fits};
 ghost use Rattle.spin_top.specs.Causes.{HasNoBuiltPlan, HasNoPlan};
 ghost use Rattle.spin_top.specs.Runs.{IsPlanned};
 ghost use Rattle.spin_top.specs.declared.outcomes.Refusal.TheVariants.{Memory as NoMemory};

@@ -1,8 +1,6 @@
 // The top call.
-ghost use Rattle.std.specs.Prelude.{◌≡◌, ◌⊎◌, [], Some, None, IfOk, IfErr, IfSome, true};
-ghost use Rattle.serde_json.specs.View.{view};
+ghost use Rattle.std.specs.Prelude.{◌≡◌, ◌⊎◌, Some, None, IfOk, IfErr, IfSome, true};
 ghost use Rattle.app_graph.specs.ValidGraph.{IsValidGraph};
-ghost use Rattle.job_readers.specs.MachinePart.{machine_faults, machine_value};
 ghost use Rattle.app_graph.specs.RunPart.{IsRunOf};
 ghost use Rattle.mesh_core.specs.Opened.{MeetsJobLedger};
 ghost use Rattle.spin_base.specs.Outside.{FaultsRose, Takes, TakesProperPrefix};
@@ -25,7 +23,6 @@ use crate::plans::plan_of;
 use crate::texts::{read_job, read_value};
 use job_readers::Job;
 use par_compile::Plan;
-use serde_json::Value;
 use spin_base::{Gate, Memory, Sink, Source, write_all};
 use std::alloc::Global;
 use std::sync::Wait;
@@ -116,7 +113,7 @@ fn made_by<S: Source>(alloc: Global, command: Command, source: &mut S) -> Result
         return Err(Refusal::Unbuilt);
     }
     let plan = plan_of(alloc, &job)?;
-    match output_of(alloc, command, &value, &job, &plan) {
+    match output_of(alloc, command, &job, &plan) {
         Ok(output) => Ok(Made { job, plan, output }),
         Err(Memory) => Err(Refusal::Memory),
     }
@@ -138,21 +135,18 @@ fn serves(command: Command, job: &Job) -> bool
 fn output_of(
     alloc: Global,
     command: Command,
-    value: &Value,
     job: &Job,
     plan: &Plan,
 ) -> Result<Output, Memory>
     requires built { IsBuilt command }
     requires served { Serves command job.now }
-    requires faultless { machine_faults (view value.now) ≡ [] }
-    requires machine { machine_value (view value.now) ≡ job.now.machine }
     requires graph { IsValidGraph job.now.graph }
     requires run { IsRunOf job.now.graph job.now.run }
     requires planned { IsPlanned job.now plan.now }
     ensures { IfOk result (λ out. IsOutputOf command job.now plan.now out.mesh out.report out.text) }
 {
     if command == Command::Run {
-        return run(alloc, value, job, plan);
+        return run(alloc, job, plan);
     }
     list(alloc, job, plan)
 }
