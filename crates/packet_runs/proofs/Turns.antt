@@ -1,0 +1,265 @@
+-- What the calls of a packet under way leave, as they follow on each other.
+use Rattle.std.proofs.Common.{◌≡◌, ◌≢◌, ◌==◌, true, false, ℕ, suc, ◌+◌, ◌<◌, ◌≤◌, set, get_or, drop, refl, sym, ap, ◌∙◌, subst, arith, List, [], ◌∷◌, ◌++◌, length, Option, Some, None, Bool, inl, inr, ◌⊎◌}
+use Rattle.std.specs.List.{slice_get, All}
+use Rattle.std.specs.Option.{option_to_list}
+use Rattle.std.specs.Prelude.{OnOk, Result, Ok, Err}
+use Rattle.std.proofs.Math.Seq.{drop-cons}
+use Rattle.std.proofs.lemmas.List.{length-append, get_or-set_same, get_or_default, set-get_or}
+use Rattle.std.proofs.lemmas.Option.{slice_get-get_or, slice_get_within, get_or_from_slice_get}
+use Rattle.spin_base.specs.declared.chips.Chip.{Chip}
+use Rattle.spin_base.specs.declared.chips.Dir.{Dir}
+use Rattle.spin_base.specs.declared.chips.Spot.{Spot}
+use Rattle.spin_base.specs.declared.chips.Port.TheVariants.{Link as ByLink, Local}
+use Rattle.spin_base.specs.declared.routes.Out.{Out}
+use Rattle.spin_base.specs.declared.routes.Out.TheVariants.{Link, Core}
+use Rattle.spin_base.specs.declared.copies.McCopy.{McCopy}
+use Rattle.spin_base.specs.declared.copies.Event.TheVariants.{Inject, Take, Send, Collect}
+use Rattle.spin_base.specs.Links.{opposite_of}
+use Rattle.spin_base.proofs.Equality.{nat_eq_true}
+use Rattle.machine_desc.specs.Description.{Description}
+use Rattle.machine_desc.specs.Live.{far_of, index_of, is_live_link}
+use Rattle.mesh_core.specs.State.{Setup, State, Behind, input, core, nowhere, behind, behind_link}
+use Rattle.mesh_core.proofs.Fixed.{after_event_setup}
+use Rattle.packet_runs.proofs.Alone.{Beyond, IsBeyond, beyond}
+use Rattle.mesh_core.specs.Step.{after_event}
+use Rattle.packet_runs.specs.declared.draining.Waiting.{Waiting}
+use Rattle.packet_runs.specs.Draining.{IsKept, IsReached, HasDrained}
+use Rattle.mesh_core.specs.Expected.{NothingWaits}
+use Rattle.packet_runs.specs.UnderWay.{work, weight_in, outs_in, far_port, next_place, IsMapOf, IsUnderWay, IsServing}
+use Rattle.packet_runs.proofs.Frame.{reached_by, reached_then, setup_reached, kept_reached, dumped_reached}
+use Rattle.packet_runs.proofs.Progress.{event_lighter}
+use Rattle.packet_runs.proofs.Packets.{inject_step, inject_unsent, packet_done}
+use Rattle.packet_runs.proofs.Steps.{kept_after, written, set_twice, take_step, has_mark, next, far_queue, behind_far, send_link, send_core, send_link_lighter}
+
+-- what follows where a call went well
+pub on_ok : {T E A B : Type 0} (r : Result T E) → OnOk r A → (A → B) → OnOk r B
+on_ok (Ok x) here then' = then' here
+on_ok (Err e) here then' = tt
+
+-- ---- an output is served
+
+-- what is behind an output depends on machine and spots alone
+same_behind : (u v : Setup) (c : Chip) (o : Out) → u.machine ≡ v.machine → u.spots ≡ v.spots → behind u c o ≡ behind v c o
+same_behind u v c o machine spots = plain u o ∙ (ap (λ m. of m u.spots o) machine ∙ (ap (λ l. of v.machine l o) spots ∙ sym (plain v o)))
+  where
+    of : Description → List Spot → Out → Behind
+    of m l p = behind (record { machine = m; spots = l; tables = []; capacity = 0 }) c p
+
+    by_far : (z : Setup) (d : Dir) (b : Bool) (far : Option Chip) →
+        behind_link z c d b far ≡ behind_link (record { machine = z.machine; spots = z.spots; tables = []; capacity = 0 }) c d b far
+    by_far z d true (Some e) = refl
+    by_far z d true None = refl
+    by_far z d false far = refl
+
+    plain : (z : Setup) (p : Out) → behind z c p ≡ of z.machine z.spots p
+    plain z (Link d) = by_far z d (is_live_link z.machine c d) (far_of z.machine c d)
+    plain z (Core p) = refl
+
+-- the link is the one by which the copy leaves
+module _ (s : State) (w : List Waiting) (c : Chip) where
+  IsFar : Out → List Out → Type 0
+  IsFar o rest = (d : Dir) × (o ≡ Link d) × ((u : IsServing s w c (Link d ∷ rest)) × Beyond s u.kept u.copy c d)
+
+  by_way : (o : Out) (rest : List Out) (u : IsServing s w c (o ∷ rest)) →
+      ((d : Dir) × (o ≡ Link d) × ((r : IsServing s w c (Link d ∷ rest)) × Beyond s r.kept r.copy c d))
+      ⊎ ((v : ℕ) × (v < length s.setup.spots) × (behind s.setup c o ≡ core v))
+  by_way o rest u = by_out o u (beyond s u.kept u.copy c o (has_mark s w c o rest u))
+    where
+      by_out : (p : Out) (r : IsServing s w c (p ∷ rest)) → IsBeyond s r.kept r.copy c p →
+          ((d : Dir) × (p ≡ Link d) × ((q : IsServing s w c (Link d ∷ rest)) × Beyond s q.kept q.copy c d))
+          ⊎ ((v : ℕ) × (v < length s.setup.spots) × (behind s.setup c p ≡ core v))
+      by_out (Link d) r (inl (e, same, b)) = let is : e ≡ d = cc in inl (d, refl, (r, subst (Beyond s r.kept r.copy c) is b))
+      by_out (Core p) r (inl (e, same, b)) = absurd (differ same)
+        where
+          differ : {e : Dir} → Core p ≡ Link e → ⊥
+          differ x = cc
+      by_out p r (inr there) = inr there
+
+module _ (s t : State) (w : List Waiting) (c : Chip) (o : Out) (setup : Setup) (is : t ≡ after_event s (Send c o)) (map : IsMapOf setup s) where
+  here : (q : Behind) → q ≡ behind setup c o → behind s.setup c o ≡ q
+  here q found = sym (found ∙ same_behind setup s.setup c o map.machine map.spots)
+
+  -- by a live link: the packet waits at its far end
+  pub link_served : (i : ℕ) → input i ≡ behind setup c o → (m : Description) → m ≡ t.setup.machine → (w' : List Waiting) → w' ≡ w ++ option_to_list (next_place m c o) →
+      (rest : List Out) → IsServing s w c (o ∷ rest) → IsServing t w' c rest × (work t w' ≤ work s w)
+  link_served i found m machine w' more rest u = by_parts (by_way s w c o rest u)
+    where
+      kept : m ≡ s.setup.machine
+      kept = machine ∙ (ap (λ (x : State). x.setup.machine) is ∙ ap (λ (x : Setup). x.machine) (after_event_setup s (Send c o)))
+
+      by_parts : ((d : Dir) × (o ≡ Link d) × ((r : IsServing s w c (Link d ∷ rest)) × Beyond s r.kept r.copy c d)) ⊎ ((v : ℕ) × (v < length s.setup.spots) × (behind s.setup c o ≡ core v)) →
+          IsServing t w' c rest × (work t w' ≤ work s w)
+      by_parts (inr (v, below, there)) = absurd (differ (sym (here (input i) found) ∙ there))
+        where
+          differ : input i ≡ core v → ⊥
+          differ x = cc
+      by_parts (inl (d, out, (r, b))) =
+          let e : t ≡ after_event s (Send c (Link d)) = is ∙ ap (λ p. after_event s (Send c p)) out in
+          let place : next_place m c o ≡ Some (next s w c d rest r b) =
+          ap (λ n. next_place n c o) kept ∙ (ap (next_place s.setup.machine c) out ∙ ap (far_port d) b.leads)
+          in
+          let list : w' ≡ w ++ next s w c d rest r b ∷ [] = more ∙ ap (λ x. w ++ option_to_list x) place in
+          let long : length w' ≡ length w + 1 = ap length list ∙ length-append w (next s w c d rest r b ∷ []) in
+          let lighter = send_link_lighter s w c d rest r b in
+          let there : weight_in t ≡ weight_in (after_event s (Send c (Link d))) = ap weight_in e in
+          (
+            subst (λ l. IsServing t l c rest) (sym list) (subst (λ x. IsServing x (w ++ next s w c d rest r b ∷ []) c rest) (sym e) (send_link s w c d rest r b)),
+            omega (arith, lighter, there, long),
+          )
+
+  -- to a vertex, which takes it
+  pub core_served : (v : ℕ) → core v ≡ behind setup c o → (end : State) → end ≡ after_event t (Collect v) →
+      (rest : List Out) → IsServing s w c (o ∷ rest) → IsServing end w c rest × (work end w ≤ work s w)
+  core_served v found end last rest u = by_parts (by_way s w c o rest u)
+    where
+      by_parts : ((d : Dir) × (o ≡ Link d) × ((r : IsServing s w c (Link d ∷ rest)) × Beyond s r.kept r.copy c d)) ⊎ ((z : ℕ) × (z < length s.setup.spots) × (behind s.setup c o ≡ core z)) →
+          IsServing end w c rest × (work end w ≤ work s w)
+      by_parts (inl (d, out, (r, b))) = absurd (differ (far_queue s w c d rest r b) (sym (behind_far s w c d rest r b) ∙ (sym (ap (behind s.setup c) out) ∙ here (core v) found)))
+        where
+          differ : (j : ℕ) → input j ≡ core v → ⊥
+          differ j x = cc
+      by_parts (inr (z, below, there)) =
+          let same : z ≡ v = let both : core z ≡ core v = sym there ∙ here (core v) found in cc in
+          let whole : end ≡ after_event (after_event s (Send c o)) (Collect z) =
+          last ∙ (ap (λ x. after_event x (Collect v)) is ∙ ap (λ n. after_event (after_event s (Send c o)) (Collect n)) (sym same))
+          in
+          let first = event_lighter s (Send c o) u.kept in
+          let then' = event_lighter (after_event s (Send c o)) (Collect z) (kept_after s (Send c o) u.kept) in
+          let all : weight_in end ≡ weight_in (after_event (after_event s (Send c o)) (Collect z)) = ap weight_in whole in
+          (subst (λ x. IsServing x w c rest) (sym whole) (send_core s w c o rest u z below there), omega (arith, first, then', all))
+
+  -- never nowhere
+  pub nowhere_served : nowhere ≡ behind setup c o → (rest : List Out) → IsServing s w c (o ∷ rest) → ⊥
+  nowhere_served found rest u = by_parts (by_way s w c o rest u)
+    where
+      by_parts : ((d : Dir) × (o ≡ Link d) × ((r : IsServing s w c (Link d ∷ rest)) × Beyond s r.kept r.copy c d)) ⊎ ((z : ℕ) × (z < length s.setup.spots) × (behind s.setup c o ≡ core z)) → ⊥
+      by_parts (inl (d, out, (r, b))) = differ (far_queue s w c d rest r b) (sym (behind_far s w c d rest r b) ∙ (sym (ap (behind s.setup c) out) ∙ here nowhere found))
+        where
+          differ : (j : ℕ) → input j ≡ nowhere → ⊥
+          differ j x = cc
+      by_parts (inr (z, below, there)) = differ (sym there ∙ here nowhere found)
+        where
+          differ : core z ≡ nowhere → ⊥
+          differ x = cc
+
+-- a setup stays one of the same machine and spots
+pub map_still : (setup : Setup) (s t : State) → IsReached s t → IsMapOf setup s → IsMapOf setup t
+map_still setup s t reached map =
+    let same = setup_reached s t reached in
+    record { machine = map.machine ∙ ap (λ (x : Setup). x.machine) (sym same); spots = map.spots ∙ ap (λ (x : Setup). x.spots) (sym same) }
+
+-- ---- a packet goes on
+
+pub taken_serving : (s t : State) (w : List Waiting) (a : Waiting) (os items : List Out) → t ≡ after_event s (Take a.chip a.port) → IsUnderWay s (w ++ a ∷ []) →
+    os ≡ outs_in (slice_get t.hands (index_of t.setup.machine a.chip)) → items ≡ os → IsServing t w a.chip items
+taken_serving s t w a os items is u held list =
+    subst (IsServing t w a.chip) (sym (list ∙ held))
+    (subst (λ x. IsServing x w a.chip (outs_in (slice_get x.hands (index_of x.setup.machine a.chip)))) (sym is) (take_step s w a u))
+
+pub taken_less : (s t : State) (w v : List Waiting) (a : Waiting) → t ≡ after_event s (Take a.chip a.port) → IsUnderWay s (v ++ a ∷ []) → work t w ≤ work s w
+taken_less s t w v a is u =
+    let lighter = event_lighter s (Take a.chip a.port) u.kept in
+    let there : weight_in t ≡ weight_in (after_event s (Take a.chip a.port)) = ap weight_in is in
+    omega (arith, lighter, there)
+
+pub outs_left : (os : List Out) (i : ℕ) (d : Out) → i < length os → drop i os ≡ get_or os i d ∷ drop (i + 1) os
+outs_left os i d below =
+    let one : suc i ≡ i + 1 = omega arith in
+    drop-cons os i d below ∙ ap (λ n. get_or os i d ∷ drop n os) one
+
+-- ---- a packet begins
+
+has_first : (q : List McCopy) → q ≢ [] → (k : McCopy) × (rest : List McCopy) × (q ≡ k ∷ rest)
+has_first [] some = absurd (some refl)
+has_first (k ∷ rest) some = (k, rest, refl)
+
+pub begins : (s t : State) (v : ℕ) (w items : List Waiting) (spots : List Spot) (d : Spot) → IsKept s → NothingWaits s → v < length s.setup.spots → slice_get s.unsent v ≢ Some [] →
+    t ≡ after_event s (Inject v) → spots ≡ s.setup.spots → w ≡ [] → items ≡ w ++ record { chip = (get_or spots v d).chip; port = Local } ∷ [] → IsUnderWay t items
+begins s t v w items spots d kept quiet below some is list none more =
+    let spot : Spot = get_or s.setup.spots v d in
+    let stands : slice_get s.setup.spots v ≡ Some spot = slice_get-get_or s.setup.spots v d below in
+    let long = kept.mesh.unsent_lists in
+    let there = slice_get-get_or s.unsent v [] (omega (arith, below, long)) in
+    let first = has_first (get_or s.unsent v []) (λ empty. some (there ∙ ap Some empty)) in
+    let at : List Spot → Waiting = λ l. record { chip = (get_or l v d).chip; port = Local } in
+    let same : items ≡ at s.setup.spots ∷ [] = more ∙ (ap (λ l. l ++ at spots ∷ []) none ∙ ap (λ l. at l ∷ []) list) in
+    subst (IsUnderWay t) (sym same)
+    (subst (λ x. IsUnderWay x (at s.setup.spots ∷ [])) (sym is) (inject_step s kept quiet v spot first.0 first.1 stands (there ∙ ap Some first.2)))
+
+pub begins_unsent : (s t : State) (v : ℕ) → IsKept s → NothingWaits s → v < length s.setup.spots → t ≡ after_event s (Inject v) →
+    (k : McCopy) (rest : List McCopy) → slice_get s.unsent v ≡ Some (k ∷ rest) → t.unsent ≡ set s.unsent v rest
+begins_unsent s t v kept quiet below is k rest first =
+    let d : Spot = record { chip = record { x = 0; y = 0 }; core = 0 } in
+    ap (λ (x : State). x.unsent) is ∙ inject_unsent s kept quiet v (get_or s.setup.spots v d) k rest (slice_get-get_or s.setup.spots v d below) first
+
+pub ends_quiet : (s : State) (w : List Waiting) → IsUnderWay s w → w ≡ [] → NothingWaits s
+ends_quiet s w u none = packet_done s (subst (IsUnderWay s) none u)
+
+-- ---- a vertex sends all
+
+pub one_less : (before now after : List (List McCopy)) (v : ℕ) (q items : List McCopy) → now ≡ set before v q → slice_get now v ≡ Some items → items ≢ [] →
+    ((k : McCopy) (rest : List McCopy) → slice_get now v ≡ Some (k ∷ rest) → after ≡ set now v rest) →
+    ((r : List McCopy) × (after ≡ set before v r)) × (length (get_or after v []) < length (get_or now v []))
+one_less before now after v q items is there some next' =
+    let first = has_first items some in
+    let full : slice_get now v ≡ Some (first.0 ∷ first.1) = there ∙ ap Some first.2 in
+    let then' = next' first.0 first.1 full in
+    let within = slice_get_within now v (first.0 ∷ first.1) full in
+    let new : length (get_or after v []) ≡ length first.1 = ap (λ l. length (get_or l v [])) then' ∙ ap length (get_or-set_same now v first.1 [] within) in
+    let old : length (get_or now v []) ≡ suc (length first.1) = ap length (get_or_from_slice_get now v (first.0 ∷ first.1) [] full) in
+    ((first.1, then' ∙ (ap (λ l. set l v first.1) is ∙ set_twice before v q first.1)), omega (arith, new, old))
+
+pub all_sent_there : (before now : List (List McCopy)) (v : ℕ) (q items : List McCopy) → v < length before → now ≡ set before v q → slice_get now v ≡ Some items → items ≡ [] → now ≡ set before v []
+all_sent_there before now v q items below is there none =
+    let here : get_or now v [] ≡ items = get_or_from_slice_get now v items [] there in
+    let written' : get_or now v [] ≡ q = ap (λ l. get_or l v []) is ∙ get_or-set_same before v q [] below in
+    is ∙ ap (set before v) (sym written' ∙ (here ∙ none))
+
+-- ---- all vertices
+
+pub one_vertex_more : (now after : List (List McCopy)) (v : ℕ) → v < length now → after ≡ set now v [] → ((i : ℕ) → i < v → get_or now i [] ≡ []) →
+    (i : ℕ) → i < v + 1 → get_or after i [] ≡ []
+one_vertex_more now after v within is before i below =
+    ap (λ l. get_or l i []) is ∙ written (λ q. q ≡ []) now v i [] within (λ same. refl) (λ other. before i (less other))
+  where
+    less : v ≢ i → i < v
+    less other = omega (arith, below, other)
+
+pub all_vertices : (s : State) (n : ℕ) → IsKept s → length s.setup.spots ≤ n → ((i : ℕ) → i < n → get_or s.unsent i [] ≡ []) → All (λ (q : List McCopy). q ≡ []) s.unsent
+all_vertices s n kept all before = λ i d below.
+    let long = kept.mesh.unsent_lists in
+    get_or_default s.unsent i d [] below ∙ before i (omega (arith, below, long, all))
+
+-- one place less waits, and no more is to be done
+pub popped_smaller : (s t : State) (w left after : List Waiting) (a : Waiting) → w ≡ left ++ a ∷ [] → work t after ≤ work s left → work t after < work s w
+popped_smaller s t w left after a popped less =
+    let long : length w ≡ length left + 1 = ap length popped ∙ length-append left (a ∷ []) in
+    omega (arith, long, less)
+
+pub is_none : (q : List McCopy) → true ≡ (length q == 0) → q ≡ []
+is_none [] e = refl
+is_none (k ∷ q) e = let none = nat_eq_true (length (k ∷ q)) 0 (sym e) in absurd (omega (arith, none))
+
+pub is_some' : (q : List McCopy) → false ≡ (length q == 0) → q ≢ []
+is_some' [] e = cc
+is_some' (k ∷ q) e = λ same. cc
+
+pub as_before : (s : State) (v : ℕ) → (left : List McCopy) × (s.unsent ≡ set s.unsent v left)
+as_before s v = (get_or s.unsent v [], sym (set-get_or s.unsent v []))
+
+pub there_still : (s t : State) (v : ℕ) → IsReached s t → v < length s.setup.spots → v < length t.setup.spots
+there_still s t v reached below = subst (λ (l : List Spot). v < length l) (sym (ap (λ (x : Setup). x.spots) (setup_reached s t reached))) below
+
+pub was_there : (s : State) (v : ℕ) → IsKept s → v < length s.setup.spots → v < length s.unsent
+was_there s v kept below = let long = kept.mesh.unsent_lists in omega (arith, below, long)
+
+-- all is send_of, and nothing waits
+pub drained : (s t : State) (n : ℕ) → IsKept s → IsReached s t → NothingWaits t → length s.setup.spots ≤ n → ((i : ℕ) → i < n → get_or t.unsent i [] ≡ []) → HasDrained s t
+drained s t n kept reached quiet all before = record {
+  reached = reached;
+  at_rest = record {
+    all_sent = all_vertices t n (kept_reached s t kept reached) (subst (λ (l : List Spot). length l ≤ n) (sym (ap (λ (x : Setup). x.spots) (setup_reached s t reached))) all) before;
+    waits = quiet;
+  };
+  no_record = dumped_reached s t reached;
+}

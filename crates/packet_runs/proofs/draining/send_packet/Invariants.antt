@@ -1,0 +1,16 @@
+use Rattle.std.proofs.Common.{◌≡◌, ℕ, ◌∷◌, List, Some}
+use Rattle.std.specs.List.{slice_get, slice_set}
+use Rattle.spin_base.specs.declared.copies.McCopy.{McCopy}
+use Rattle.packet_runs.specs.Draining.{IsReached}
+use Rattle.packet_runs.specs.UnderWay.{work, IsUnderWay}
+use Rattle.packet_runs.proofs.draining.send_packet.Given as goal
+
+abbrev pub invariant-loop-next : goal.invariant-loop-next
+invariant-loop-next l = record {
+  reached : IsReached l.fn.mesh l.mesh;
+  under_way : IsUnderWay l.mesh l.waiting.items;
+  unsent : (copy : McCopy) (rest : List McCopy) → slice_get l.fn.mesh.unsent l.vertex ≡ Some (copy ∷ rest) → l.mesh.unsent ≡ slice_set l.fn.mesh.unsent l.vertex rest;
+}
+
+abbrev pub decreases-loop-next : goal.decreases-loop-next
+decreases-loop-next l = work l.mesh l.waiting.items

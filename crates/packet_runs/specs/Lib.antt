@@ -1,0 +1,3 @@
+pub mod Draining
+pub mod Opening
+pub mod UnderWay

@@ -1,0 +1,98 @@
+// The mesh of a job before its first event.
+ghost use Rattle.std.specs.Prelude.{◌≡◌, ◌≢◌, ◌+◌, ◌*◌, ◌<◌, ◌≤◌, ◌^◌, All, AllPairs, Contains, map, length, IfOk, OnOk, []};
+ghost use Rattle.machine_desc.specs.Live.{IsSite};
+ghost use Rattle.mesh_core.specs.Opened.{opened_mesh, AreOfNets};
+ghost use Rattle.packet_runs.specs.Opening.{vertex_of};
+
+use machine_desc::Machine;
+use mesh_core::{Mesh, MeshSetup};
+use net_tables::NetPlan;
+use spin_base::{Block, McCopy, Memory, Packet, Seq, Spot};
+use std::alloc::Global;
+use tcam_find::Tcam;
+
+/// The mesh of a job before its first event: for vertices on these spots, with one table for each chip index and queues
+/// of at most `queue` copies. Packet number `i` of the list stands unsent at its net's source, with the key that it has
+/// in the net's block. It takes time as vertices, chips, nets and packets.
+///
+/// # Errors
+///
+/// `Memory` where memory runs out.
+pub fn open_mesh(
+    alloc: Global,
+    machine: Machine,
+    spots: Seq<Spot>,
+    tables: Seq<Tcam>,
+    queue: u32,
+    nets: &[NetPlan],
+    packets: &[Packet],
+) -> Result<Mesh, Memory>
+    requires different { AllPairs (λ a b. a ≢ b) spots }
+    requires sites { All (IsSite machine) spots }
+    requires tables { length tables ≡ machine.width * machine.height }
+    requires room { 1 ≤ queue }
+    requires sources { All (λ net. Contains spots net.source) nets.now }
+    requires few { length packets.now < 2 ^ 32 }
+    requires of_nets { AreOfNets nets.now packets.now }
+    ensures { IfOk result (λ mesh. mesh ≡ opened_mesh (record { machine = machine; spots = spots; tables = tables; capacity = queue }) nets.now packets.now) }
+{
+    let parts = Mesh::new(alloc, machine, spots, tables, queue)?.take_apart();
+    let sources = source_vertices(alloc, &parts.setup, nets)?;
+    let mut mesh = Mesh::put_together(parts);
+    add_packets(&mut mesh, nets, sources.as_slice(), packets)?;
+    Ok(mesh)
+}
+
+// Puts each packet of a job to its net's source, which `sources` has for each net.
+fn add_packets(
+    mesh: &mut Mesh,
+    nets: &[NetPlan],
+    sources: &[usize],
+    packets: &[Packet],
+) -> Result<(), Memory>
+    requires none_yet { mesh.old ≡ opened_mesh mesh.old.setup nets.now [] }
+    requires few_vertices { length mesh.old.setup.spots < 2 ^ 32 }
+    requires sources { All (λ net. Contains mesh.old.setup.spots net.source) nets.now }
+    requires vertices { sources.now ≡ map (vertex_of mesh.old.setup.spots) nets.now }
+    requires few { length packets.now < 2 ^ 32 }
+    requires of_nets { AreOfNets nets.now packets.now }
+    ensures { OnOk result (mesh.new ≡ opened_mesh mesh.old.setup nets.now packets.now) }
+{
+    for (number, packet) in packets.iter().enumerate() {
+        let net = packet.net as usize;
+        let copy = first_copy(number as u32, nets[net].block, *packet);
+        mesh.add(sources[net] as u32, copy)?;
+    }
+    Ok(())
+}
+
+// The vertex of each net's source.
+fn source_vertices(
+    alloc: Global,
+    setup: &MeshSetup,
+    nets: &[NetPlan],
+) -> Result<Vec<usize>, Memory>
+    requires sites { All (IsSite setup.now.machine) setup.now.spots }
+    requires sources { All (λ net. Contains setup.now.spots net.source) nets.now }
+    ensures { IfOk result (λ vertices. vertices.items ≡ map (vertex_of setup.now.spots) nets.now) }
+{
+    let mut vertices = Vec::new(alloc);
+    for net in nets {
+        let vertex = setup.vertex_at(net.source).unwrap_or(0);
+        vertices.push(vertex)?;
+    }
+    Ok(vertices)
+}
+
+// The copy of a packet before it is sent.
+fn first_copy(number: u32, block: Block, packet: Packet) -> McCopy
+    requires { block.key + packet.index < 2 ^ 32 }
+    ensures { result ≡ record { packet = number; key = block.key + packet.index; payload = packet.payload; hop = 0 } }
+{
+    McCopy {
+        packet: number,
+        key: block.key + packet.index,
+        payload: packet.payload,
+        hop: 0,
+    }
+}
