@@ -1,14 +1,17 @@
 -- What the mesh of a job asks of its plan.
-use Rattle.std.proofs.Common.{◌≡◌, ℕ, ◌+◌, ◌-◌, ◌<◌, ◌≤◌, List, [], length, map, Option, Some, None, refl, sym, ap, ◌∙◌, subst, arith}
+use Rattle.std.proofs.Common.{◌≡◌, ℕ, ◌+◌, ◌-◌, ◌<◌, ◌≤◌, List, [], ◌∷◌, length, map, Option, Some, None, refl, sym, ap, ◌∙◌, subst, arith}
 use Rattle.std.specs.Option.{option_map}
-use Rattle.std.specs.List.{slice_get, slice_index_or}
+use Rattle.std.specs.List.{All, slice_get, slice_index_or}
 use Rattle.std.proofs.lemmas.Option.{slice_get-get_or, get_or_from_slice_get, slice_get-map}
 use Rattle.list_laws.proofs.Places.{All-at, AllZip-at_first}
 use Rattle.spin_base.specs.declared.blocks.Block.{Block}
 use Rattle.spin_base.specs.declared.blocks.Entry.{Entry}
 use Rattle.spin_base.specs.declared.chips.Spot.{Spot}
 use Rattle.spin_base.specs.declared.copies.Packet.{Packet}
-use Rattle.machine_desc.specs.Description.{Description}
+use Rattle.spin_base.specs.declared.copies.Event.{Event}
+use Rattle.machine_desc.specs.Description.{Description, HasSize}
+use Rattle.machine_desc.specs.Live.{IsSite, IsUsable}
+use Rattle.machine_desc.proofs.Sites.{usable_site}
 use Rattle.app_graph.specs.declared.graphs.Net.{Net}
 use Rattle.app_graph.specs.declared.graphs.Graph.{Graph}
 use Rattle.app_graph.specs.declared.graphs.RunPart.{RunPart}
@@ -16,9 +19,13 @@ use Rattle.app_graph.specs.RunPart.{IsPacketOf, IsRunOf, keys_of}
 use Rattle.key_alloc.specs.KeyBlocks.{HasKeys}
 use Rattle.net_tables.specs.declared.nets.NetPlan.{NetPlan}
 use Rattle.net_tables.specs.RightTables.{IsKeyOf}
+use Rattle.mesh_core.specs.State.{State}
+use Rattle.mesh_core.specs.Step.{after_event, after_events}
 use Rattle.mesh_core.specs.Opened.{opened_mesh, AreOfNets}
+use Rattle.mesh_core.proofs.Fixed.{after_event_setup}
 use Rattle.par_compile.specs.declared.compiling.Plan.{Plan}
 use Rattle.par_compile.specs.Compiled.{blocks_of, IsPlanOf}
+use Rattle.spin_top.specs.Opened.{IsOneChip}
 
 -- how many keys a net has
 key_count : (nets : List Net) (i : ℕ) (net : Net) → slice_get nets i ≡ Some net → keys_of nets i ≡ net.keys
@@ -58,3 +65,21 @@ pub opened_same : (m n : Description) (spots sites : List Spot) (tables memories
     ≡ opened_mesh (record { machine = n; spots = sites; tables = memories; capacity = queue }) plans asked
 opened_same m n spots sites tables memories queue nets plans packets asked em es et en ep =
     λ i. opened_mesh (record { machine = em i; spots = es i; tables = et i; capacity = queue }) (en i) (ep i)
+
+-- a machine of one chip has a size within the limits
+pub one_chip_size : (m : Description) → IsOneChip m → HasSize m
+one_chip_size m one = let wide = one.one_wide in let high = one.one_high in record {
+  width_from_one = omega (arith, wide);
+  width_to_64 = omega (arith, wide);
+  height_from_one = omega (arith, high);
+  height_to_64 = omega (arith, high);
+}
+
+-- events leave what a mesh never changes
+pub after_events_setup : (s : State) (es : List Event) → (after_events s es).setup ≡ s.setup
+after_events_setup s [] = refl
+after_events_setup s (e ∷ es) = after_events_setup (after_event s e) es ∙ after_event_setup s e
+
+-- vertices stand on sites
+pub sites : (m : Description) (spots : List Spot) → All (IsUsable m) spots → All (IsSite m) spots
+sites m spots usable i d within = usable_site m (slice_index_or spots i d) (usable i d within)
