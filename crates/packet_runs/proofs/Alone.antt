@@ -1,13 +1,13 @@
 -- The queue behind an output of a hand exists, and holds no copy of the packet in that hand: a target's copy is in one place
 -- of its trail.
-use Rattle.std.proofs.Common.{◌≡◌, ◌≢◌, ℕ, zero, suc, ◌+◌, ◌<◌, ◌≤◌, ◌==◌, ◌&&◌, refl, sym, ap, ◌∙◌, subst, arith, inl, inr, List, [], ◌∷◌, map, ◌⊎◌, Option, Some, None, Bool, true, false, if◌then◌else◌, count_by, length}
-use Rattle.std.specs.List.{slice_get, All, Contains}
+use Rattle.std.proofs.Common.{◌≡◌, ◌≢◌, ℕ, suc, ◌+◌, ◌<◌, ◌≤◌, ◌==◌, refl, sym, ap, ◌∙◌, subst, arith, inl, inr, List, [], ◌∷◌, ◌⊎◌, Option, Some, None, Bool, true, false, if◌then◌else◌, count_by, length}
+use Rattle.std.specs.List.{slice_get, Contains}
 use Rattle.std.proofs.lemmas.List.Elements.{All-contains}
 use Rattle.spin_base.specs.declared.chips.Chip.{Chip}
 use Rattle.spin_base.specs.declared.chips.Dir.{Dir}
 use Rattle.spin_base.specs.declared.chips.Spot.{Spot}
 use Rattle.spin_base.specs.declared.chips.Port.{Port}
-use Rattle.spin_base.specs.declared.chips.Port.TheVariants.{Link as ByLink, Local}
+use Rattle.spin_base.specs.declared.chips.Port.TheVariants.{Link as ByLink}
 use Rattle.spin_base.specs.declared.routes.Out.{Out}
 use Rattle.spin_base.specs.declared.routes.Out.TheVariants.{Link, Core}
 use Rattle.spin_base.specs.declared.copies.McCopy.{McCopy}
@@ -15,8 +15,8 @@ use Rattle.spin_base.specs.Links.{opposite_of}
 use Rattle.spin_base.specs.Outputs.{out_of}
 use Rattle.machine_desc.specs.declared.trees.Edge.{Edge}
 use Rattle.machine_desc.specs.Live.{far_of, is_live_link, IsLiveChip, IsLiveLink}
-use Rattle.machine_desc.specs.Branch.{Exit, IsBranch, arrival_at}
-use Rattle.machine_desc.proofs.Branches.{ComesBy, comes_by, exit_leads, ExitLeads, exit_of}
+use Rattle.machine_desc.specs.Branch.{Exit, arrival_at}
+use Rattle.machine_desc.proofs.Branches.{exit_leads, ExitLeads}
 use Rattle.machine_desc.proofs.Far.{live_ends}
 use Rattle.machine_desc.proofs.Sites.{end_is_no_live_link}
 use Rattle.std.specs.Prelude.{position}
@@ -27,7 +27,7 @@ use Rattle.net_tables.specs.NetsOn.{IsWayOn}
 use Rattle.net_tables.specs.Outputs.{leads_to_spot}
 use Rattle.mesh_core.specs.State.{State, core, behind, behind_link, core_of, vertex_behind}
 use Rattle.mesh_core.proofs.Searching.{position_nowhere}
-use Rattle.mesh_core.specs.Trail.{Station, in_queue, in_hand, Mark, on_trail, is_on_trail, is_packet_on_trail}
+use Rattle.mesh_core.specs.Trail.{Station, in_queue, in_hand, Mark, is_on_trail, is_packet_on_trail}
 use Rattle.mesh_core.specs.Ledger.{marks_of}
 use Rattle.mesh_core.proofs.Exchange.{Among, contains_among, count_by-cons}
 use Rattle.mesh_core.proofs.LedgerLaw.{IsRight, right_before, stands, one_net}

@@ -3,6 +3,7 @@ pub mod Frame
 pub mod Opened
 pub mod Packets
 pub mod Progress
+pub mod Run
 pub mod Steps
 pub mod Turns
 pub mod Unsent

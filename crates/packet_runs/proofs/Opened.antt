@@ -1,5 +1,5 @@
 -- A packet of a job, its net, and the vertex that sends it.
-use Rattle.std.proofs.Common.{◌≡◌, ℕ, ◌+◌, ◌<◌, ◌≤◌, refl, sym, ap, ◌∙◌, subst, List, [], ◌∷◌, ◌++◌, map, take, length, get_or, Some, arith}
+use Rattle.std.proofs.Common.{◌≡◌, ℕ, ◌+◌, ◌<◌, sym, ap, ◌∙◌, subst, List, [], ◌∷◌, ◌++◌, map, take, length, get_or, Some, arith}
 use Rattle.std.specs.List.{slice_get, slice_index_or, All, Contains}
 use Rattle.std.specs.Prelude.{unwrap_or}
 use Rattle.std.proofs.lemmas.List.{take_more, length-take-le, length-map, get_or-map}
@@ -16,7 +16,6 @@ use Rattle.mesh_core.specs.State.{Setup, State}
 use Rattle.mesh_core.specs.Step.{push_at}
 use Rattle.mesh_core.specs.Opened.{empty_mesh, opened_mesh, first_copy, AreOfNets}
 use Rattle.mesh_core.proofs.ServingLaws.{vertex_at-below}
-use Rattle.mesh_core.proofs.VertexTableLaws.{site_inside}
 use Rattle.mesh_core.proofs.Ways.{vertex_there}
 use Rattle.packet_runs.specs.Opening.{vertex_of}
 use Rattle.packet_runs.proofs.Unsent.{opened_more, opened_none}

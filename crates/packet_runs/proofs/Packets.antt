@@ -1,22 +1,21 @@
 -- A packet is send_of, and at its end nothing waits.
-use Rattle.std.proofs.Common.{◌≡◌, ◌≢◌, ℕ, zero, suc, ◌+◌, ◌*◌, ◌<◌, ◌≤◌, ◌==◌, refl, sym, ap, ◌∙◌, subst, arith, List, [], ◌∷◌, ◌++◌, set, length, map, get_or, Option, Some, None, Bool, true, false, if◌then◌else◌, nat_lt}
-use Rattle.std.specs.List.{slice_get, slice_index_or, slice_set, All, AllPairs}
+use Rattle.std.proofs.Common.{◌≡◌, ℕ, ◌+◌, ◌*◌, ◌<◌, ◌≤◌, ◌==◌, refl, sym, ap, ◌∙◌, subst, arith, List, [], ◌∷◌, length, map, get_or, Option, Some, None, Bool, true, false, if◌then◌else◌, nat_lt}
+use Rattle.std.specs.List.{slice_get, slice_index_or, slice_set, All}
 use Rattle.std.proofs.Math.Nat.{mul-le-mul_left}
 use Rattle.std.proofs.lemmas.Bool.{lt-ltb, ltb-true, ltb-false}
 use Rattle.std.proofs.lemmas.List.{get_or_default, get_or_past, get_or-map, length-map}
-use Rattle.std.proofs.lemmas.List.Elements.{All-nil, All-cons, All-set, All-contains}
-use Rattle.std.proofs.lemmas.Option.{slice_get-get_or}
+use Rattle.std.proofs.lemmas.List.Elements.{All-nil, All-cons, All-set}
 use Rattle.spin_base.specs.declared.chips.Chip.{Chip}
 use Rattle.spin_base.specs.declared.chips.Spot.{Spot}
 use Rattle.spin_base.specs.declared.chips.Port.TheVariants.{Local}
 use Rattle.spin_base.specs.declared.copies.McCopy.{McCopy}
 use Rattle.spin_base.specs.declared.copies.Event.TheVariants.{Inject}
 use Rattle.spin_base.proofs.Equality.{nat_eq_same}
-use Rattle.machine_desc.specs.Live.{index_of, is_live_chip, IsInside, IsLiveChip, IsSite}
+use Rattle.machine_desc.specs.Live.{index_of, IsLiveChip, IsSite}
 use Rattle.machine_desc.proofs.Branches.{length_le_from_apart}
 use Rattle.machine_desc.proofs.Sites.{site_parts}
-use Rattle.mesh_core.specs.State.{State, IsMesh, Held, input, queue_at}
-use Rattle.mesh_core.specs.Step.{has_room, in_hand, inject_of, push_at, step_of, after_event}
+use Rattle.mesh_core.specs.State.{State, IsMesh, Held, queue_at}
+use Rattle.mesh_core.specs.Step.{has_room, inject_of, push_at, after_event}
 use Rattle.mesh_core.specs.VertexTable.{spot_place}
 use Rattle.mesh_core.proofs.Exchange.{count_by-cons}
 use Rattle.mesh_core.proofs.Keeping.{All-slice_get}
@@ -123,17 +122,17 @@ few_in_mesh s mesh =
     let parts = λ (i : ℕ) (below : i < length s.setup.spots). site_inside s.setup.machine (get_or s.setup.spots i nowhere) (mesh.sites i nowhere below) in
     let few = length_le_from_apart places (24 * (s.setup.machine.width * s.setup.machine.height))
     (λ i j d before below same.
-      let below_j : j < length s.setup.spots = omega (arith, below, long) in
-      let below_i : i < length s.setup.spots = omega (arith, before, below_j) in
-      let a = parts i below_i in
-      let b = parts j below_j in
-      mesh.different i j nowhere before below_j
-      (same_spot_place s.setup.machine (get_or s.setup.spots i nowhere) (get_or s.setup.spots j nowhere) a.0 b.0 a.1 b.1
-      (sym (is i d (omega (arith, below_i, long))) ∙ (same ∙ is j d below))))
+    let below_j : j < length s.setup.spots = omega (arith, below, long) in
+    let below_i : i < length s.setup.spots = omega (arith, before, below_j) in
+    let a = parts i below_i in
+    let b = parts j below_j in
+    mesh.different i j nowhere before below_j
+    (same_spot_place s.setup.machine (get_or s.setup.spots i nowhere) (get_or s.setup.spots j nowhere) a.0 b.0 a.1 b.1
+    (sym (is i d (omega (arith, below_i, long))) ∙ (same ∙ is j d below))))
     (λ i d below.
-      let below_i : i < length s.setup.spots = omega (arith, below, long) in
-      let a = parts i below_i in
-      subst (λ n. n < 24 * (s.setup.machine.width * s.setup.machine.height)) (sym (is i d below)) (spot_place-below s.setup.machine (get_or s.setup.spots i nowhere) a.0 a.1))
+    let below_i : i < length s.setup.spots = omega (arith, below, long) in
+    let a = parts i below_i in
+    subst (λ n. n < 24 * (s.setup.machine.width * s.setup.machine.height)) (sym (is i d below)) (spot_place-below s.setup.machine (get_or s.setup.spots i nowhere) a.0 a.1))
     in
     let w = mesh.size.width_to_64 in
     let h = mesh.size.height_to_64 in

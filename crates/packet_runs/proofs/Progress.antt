@@ -1,6 +1,6 @@
 -- Each event that is enabled makes the marks of a mesh lighter.
-use Rattle.std.proofs.Common.{◌≡◌, ℕ, zero, suc, ◌+◌, ◌*◌, ◌-◌, ◌<◌, ◌≤◌, ◌==◌, min, refl, sym, ap, ◌∙◌, subst, arith, inl, inr, List, [], ◌∷◌, ◌++◌, map, filter, length, Option, Some, None, Bool, true, false, if◌then◌else◌, unwrap_or}
-use Rattle.std.specs.List.{Contains, sum_by}
+use Rattle.std.proofs.Common.{◌≡◌, ℕ, zero, suc, ◌+◌, ◌*◌, ◌-◌, ◌<◌, ◌≤◌, ◌==◌, min, refl, sym, ap, ◌∙◌, subst, arith, inl, inr, List, [], ◌∷◌, ◌++◌, map, length, Option, Some, None, Bool, true, false, if◌then◌else◌, unwrap_or}
+use Rattle.std.specs.List.{sum_by}
 use Rattle.std.proofs.Math.Nat.{mul-le-mul_left}
 use Rattle.std.proofs.lemmas.List.{length-map}
 use Rattle.std.proofs.lemmas.List.Sums.{sum_by-append, sum_by-cons, length-filter, count_by-le-length}
@@ -9,11 +9,9 @@ use Rattle.spin_base.specs.declared.copies.McCopy.{McCopy}
 use Rattle.spin_base.specs.declared.chips.Chip.{Chip}
 use Rattle.spin_base.specs.declared.chips.Port.{Port}
 use Rattle.spin_base.specs.declared.routes.Out.{Out}
-use Rattle.spin_base.specs.declared.routes.Out.TheVariants.{Link, Core}
 use Rattle.spin_base.specs.declared.routes.Route.{Route}
 use Rattle.spin_base.specs.Links.{opposite_of}
 use Rattle.spin_base.specs.declared.chips.Port.TheVariants.{Link as ByLink, Local}
-use Rattle.machine_desc.specs.Branch.{Exit}
 use Rattle.spin_base.specs.Lookup.{lookup}
 use Rattle.spin_base.specs.Outputs.{has, outs_of, all_outs, link_outs, core_outs}
 use Rattle.net_tables.specs.RightTables.{table_at}
@@ -24,8 +22,8 @@ use Rattle.mesh_core.specs.Ledger.{marks_of}
 use Rattle.mesh_core.proofs.Events.{event_exchange}
 use Rattle.mesh_core.proofs.Exchange.{Among, among_contains, among_taken_out, TakenOut, PutIn}
 use Rattle.mesh_core.proofs.LedgerLaw.{IsRight, right_before, right_small, stands}
-use Rattle.mesh_core.proofs.Moves.{mark, Exchange, IsMove, IsMoveOf, Crosses}
-use Rattle.mesh_core.proofs.Law.{OnSomeTrail, leaves_parts}
+use Rattle.mesh_core.proofs.Moves.{mark, IsMove, IsMoveOf, Crosses}
+use Rattle.mesh_core.proofs.Law.{leaves_parts}
 use Rattle.mesh_core.proofs.Ways.{short_branch, place_below}
 use Rattle.packet_runs.specs.Draining.{IsKept}
 use Rattle.packet_runs.specs.UnderWay.{heavy, stage, advance, weight_of, weight_in}
@@ -179,9 +177,9 @@ come_lighter s x come small next move = by_bound (4 * last_hop + 4) (advance_bel
         let mine : weight_of x ≡ 25 * heavy n = ap (λ k. heavy (k - advance x)) (sym is) ∙ ap heavy left in
         let each : (y : Mark) → Among y come → weight_of y ≤ heavy n =
         λ y a.
-            let further = move_advances s x come next move y a in
-            let fewer : b - advance y ≤ n = omega (arith, further) in
-            subst (λ k. heavy (k - advance y) ≤ heavy n) is (heavy_grows (b - advance y) n fewer)
+        let further = move_advances s x come next move y a in
+        let fewer : b - advance y ≤ n = omega (arith, further) in
+        subst (λ k. heavy (k - advance y) ≤ heavy n) is (heavy_grows (b - advance y) n fewer)
         in
         let all = light come (heavy n) each in
         let few = mul-le-mul_left (heavy n) (few_come s x come move) in

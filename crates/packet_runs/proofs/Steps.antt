@@ -1,33 +1,32 @@
 -- What each event of the packet under way does.
-use Rattle.std.proofs.Common.{◌≡◌, ◌≢◌, ℕ, zero, suc, ◌+◌, ◌*◌, ◌<◌, ◌≤◌, ◌==◌, ◌&&◌, ◌||◌, refl, sym, ap, ◌∙◌, subst, arith, inl, inr, List, [], ◌∷◌, ◌++◌, set, length, Option, Some, None, Bool, true, false, if◌then◌else◌, count_by, unwrap_or, nat_lt}
+use Rattle.std.proofs.Common.{◌≡◌, ◌≢◌, ℕ, zero, suc, ◌+◌, ◌<◌, ◌≤◌, ◌==◌, ◌&&◌, ◌||◌, refl, sym, ap, ◌∙◌, subst, arith, inl, List, [], ◌∷◌, ◌++◌, set, length, Option, Some, None, Bool, true, false, if◌then◌else◌, unwrap_or, nat_lt}
 use Rattle.std.specs.List.{slice_get, slice_index_or, slice_set, All, list_any, Contains}
 use Rattle.std.proofs.lemmas.Bool.{and_from, lt-ltb}
 use Rattle.std.proofs.lemmas.List.{get_or-set_same, get_or-set_other}
-use Rattle.std.proofs.lemmas.List.Elements.{All-head, All-tail, All-nil, All-cons, All-append, All-set}
+use Rattle.std.proofs.lemmas.List.Elements.{All-head, All-tail, All-nil, All-cons, All-append}
 use Rattle.std.proofs.lemmas.Option.{slice_get-get_or}
 use Rattle.spin_base.specs.declared.chips.Chip.{Chip}
 use Rattle.spin_base.specs.declared.chips.Dir.{Dir}
-use Rattle.spin_base.specs.declared.chips.Spot.{Spot}
 use Rattle.spin_base.specs.declared.chips.Port.{Port}
 use Rattle.spin_base.specs.declared.chips.Port.TheVariants.{Link as ByLink, Local}
 use Rattle.spin_base.specs.declared.routes.Out.{Out}
-use Rattle.spin_base.specs.declared.routes.Out.TheVariants.{Link, Core}
+use Rattle.spin_base.specs.declared.routes.Out.TheVariants.{Link}
 use Rattle.spin_base.specs.declared.copies.McCopy.{McCopy}
 use Rattle.spin_base.specs.declared.copies.Event.{Event}
-use Rattle.spin_base.specs.declared.copies.Event.TheVariants.{Inject, Take, Send, Collect}
+use Rattle.spin_base.specs.declared.copies.Event.TheVariants.{Take, Send, Collect}
 use Rattle.spin_base.specs.Equality.{out_eq}
 use Rattle.spin_base.specs.Links.{opposite_of}
 use Rattle.spin_base.proofs.Equality.{nat_eq_true, nat_eq_same, out_eq_same}
 use Rattle.machine_desc.specs.Description.{Description}
-use Rattle.machine_desc.specs.Live.{far_of, index_of, is_live_chip, is_live_link, IsInside, IsLiveChip}
+use Rattle.machine_desc.specs.Live.{far_of, index_of, IsInside, IsLiveChip}
 use Rattle.machine_desc.proofs.Far.{live_inside, index_below}
 use Rattle.mesh_core.specs.State.{State, Held, Behind, input, core, behind, behind_link, queue_at}
-use Rattle.mesh_core.specs.Step.{has_room, has_room_behind, onward, outputs, in_hand, without, push_at, push_behind, after_serving, serves, take_of, send_of, collect_of, inject_of, step_of, after_event}
+use Rattle.mesh_core.specs.Step.{has_room, has_room_behind, onward, outputs, in_hand, without, push_at, push_behind, after_serving, serves, take_of, send_of, collect_of, step_of, after_event}
 use Rattle.mesh_core.specs.Trail.{in_queue, in_hand as held_at, Mark}
 use Rattle.mesh_core.specs.Ledger.{marks_of}
 use Rattle.mesh_core.proofs.Changes.{queue_at-below}
 use Rattle.mesh_core.proofs.EventsLaw.{event_keeps}
-use Rattle.mesh_core.proofs.Exchange.{Among, among_contains, count_by-append, count_by-cons}
+use Rattle.mesh_core.proofs.Exchange.{among_contains, count_by-append, count_by-cons}
 use Rattle.mesh_core.proofs.Keeping.{All-slice_get}
 use Rattle.mesh_core.proofs.Moves.{mark}
 use Rattle.mesh_core.proofs.QueueLists.{slice_get-set_same}

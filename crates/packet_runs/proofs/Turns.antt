@@ -9,12 +9,11 @@ use Rattle.std.proofs.lemmas.Option.{slice_get-get_or, slice_get_within, get_or_
 use Rattle.spin_base.specs.declared.chips.Chip.{Chip}
 use Rattle.spin_base.specs.declared.chips.Dir.{Dir}
 use Rattle.spin_base.specs.declared.chips.Spot.{Spot}
-use Rattle.spin_base.specs.declared.chips.Port.TheVariants.{Link as ByLink, Local}
+use Rattle.spin_base.specs.declared.chips.Port.TheVariants.{Local}
 use Rattle.spin_base.specs.declared.routes.Out.{Out}
 use Rattle.spin_base.specs.declared.routes.Out.TheVariants.{Link, Core}
 use Rattle.spin_base.specs.declared.copies.McCopy.{McCopy}
 use Rattle.spin_base.specs.declared.copies.Event.TheVariants.{Inject, Take, Send, Collect}
-use Rattle.spin_base.specs.Links.{opposite_of}
 use Rattle.spin_base.proofs.Equality.{nat_eq_true}
 use Rattle.machine_desc.specs.Description.{Description}
 use Rattle.machine_desc.specs.Live.{far_of, index_of, is_live_link}
@@ -26,7 +25,7 @@ use Rattle.packet_runs.specs.declared.draining.Waiting.{Waiting}
 use Rattle.packet_runs.specs.Draining.{IsKept, IsReached, HasDrained}
 use Rattle.mesh_core.specs.Expected.{NothingWaits}
 use Rattle.packet_runs.specs.UnderWay.{work, weight_in, outs_in, far_port, next_place, IsMapOf, IsUnderWay, IsServing}
-use Rattle.packet_runs.proofs.Frame.{reached_by, reached_then, setup_reached, kept_reached, dumped_reached}
+use Rattle.packet_runs.proofs.Frame.{setup_reached, kept_reached, dumped_reached}
 use Rattle.packet_runs.proofs.Progress.{event_lighter}
 use Rattle.packet_runs.proofs.Packets.{inject_step, inject_unsent, packet_done}
 use Rattle.packet_runs.proofs.Steps.{kept_after, written, set_twice, take_step, has_mark, next, far_queue, behind_far, send_link, send_core, send_link_lighter}
@@ -101,8 +100,7 @@ module _ (s t : State) (w : List Waiting) (c : Chip) (o : Out) (setup : Setup) (
           let list : w' ≡ w ++ next s w c d rest r b ∷ [] = more ∙ ap (λ x. w ++ option_to_list x) place in
           let long : length w' ≡ length w + 1 = ap length list ∙ length-append w (next s w c d rest r b ∷ []) in
           let lighter = send_link_lighter s w c d rest r b in
-          let there : weight_in t ≡ weight_in (after_event s (Send c (Link d))) = ap weight_in e in
-          (
+          let there : weight_in t ≡ weight_in (after_event s (Send c (Link d))) = ap weight_in e in (
             subst (λ l. IsServing t l c rest) (sym list) (subst (λ x. IsServing x (w ++ next s w c d rest r b ∷ []) c rest) (sym e) (send_link s w c d rest r b)),
             omega (arith, lighter, there, long),
           )

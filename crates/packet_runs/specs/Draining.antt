@@ -1,5 +1,5 @@
 -- Meshes whose packets reach all their targets, and what is reached by events that drop no copy.
-use Rattle.std.specs.Prelude.{◌≡◌, ℕ, List, [], All, None}
+use Rattle.std.specs.Prelude.{◌≡◌, ℕ, List, All}
 use Rattle.spin_base.specs.declared.copies.Event.{Event}
 use Rattle.net_tables.specs.declared.nets.NetPlan.{NetPlan}
 use Rattle.net_tables.specs.RightTables.{AreRight}

@@ -53,7 +53,12 @@ pub struct Waiting {
 }
 
 // A vertex sends all its packets, and each is brought to its targets before the next.
-fn send_all(mesh: &mut Mesh, setup: &MeshSetup, waiting: &mut Vec<Waiting>, vertex: u32) -> Result<(), Memory>
+fn send_all(
+    mesh: &mut Mesh,
+    setup: &MeshSetup,
+    waiting: &mut Vec<Waiting>,
+    vertex: u32,
+) -> Result<(), Memory>
     requires exists { vertex < length mesh.old.setup.spots }
     requires kept { IsKept mesh.old }
     requires quiet { NothingWaits mesh.old }
@@ -71,7 +76,12 @@ fn send_all(mesh: &mut Mesh, setup: &MeshSetup, waiting: &mut Vec<Waiting>, vert
 }
 
 // A vertex sends its first packet, and the packet is brought to its targets.
-fn send_packet(mesh: &mut Mesh, setup: &MeshSetup, waiting: &mut Vec<Waiting>, vertex: u32) -> Result<(), Memory>
+fn send_packet(
+    mesh: &mut Mesh,
+    setup: &MeshSetup,
+    waiting: &mut Vec<Waiting>,
+    vertex: u32,
+) -> Result<(), Memory>
     requires exists { vertex < length mesh.old.setup.spots }
     requires some { slice_get mesh.old.unsent vertex ≢ Some [] }
     requires kept { IsKept mesh.old }
@@ -86,7 +96,10 @@ fn send_packet(mesh: &mut Mesh, setup: &MeshSetup, waiting: &mut Vec<Waiting>, v
 {
     let chip = mesh.spots()[vertex as usize].chip;
     mesh.step(Event::Inject(vertex))?;
-    let first = Waiting { chip, port: Port::Local };
+    let first = Waiting {
+        chip,
+        port: Port::Local,
+    };
     waiting.push(first)?;
     while let Some(next) = waiting.pop() {
         go_on(mesh, setup, waiting, next)?;
@@ -95,7 +108,12 @@ fn send_packet(mesh: &mut Mesh, setup: &MeshSetup, waiting: &mut Vec<Waiting>, v
 }
 
 // A packet that waits at a port goes on from there to the next routers, or to the vertices of the chip.
-fn go_on(mesh: &mut Mesh, setup: &MeshSetup, waiting: &mut Vec<Waiting>, at: Waiting) -> Result<(), Memory>
+fn go_on(
+    mesh: &mut Mesh,
+    setup: &MeshSetup,
+    waiting: &mut Vec<Waiting>,
+    at: Waiting,
+) -> Result<(), Memory>
     requires under_way { IsUnderWay mesh.old (waiting.old.items ++ at ∷ []) }
     requires map { IsMapOf setup.now mesh.old }
     ensures reached { OnOk result (IsReached mesh.old mesh.new) }

@@ -8,6 +8,8 @@
 
 mod draining;
 mod opening;
+mod running;
 
 pub use draining::drain;
 pub use opening::open_mesh;
+pub use running::run_packets;

@@ -1,6 +1,7 @@
 // The mesh of a job before its first event.
 ghost use Rattle.std.specs.Prelude.{◌≡◌, ◌≢◌, ◌+◌, ◌*◌, ◌<◌, ◌≤◌, ◌^◌, All, AllPairs, Contains, map, length, IfOk, OnOk, []};
 ghost use Rattle.machine_desc.specs.Live.{IsSite};
+ghost use Rattle.mesh_core.specs.State.{IsMesh};
 ghost use Rattle.mesh_core.specs.Opened.{opened_mesh, AreOfNets};
 ghost use Rattle.packet_runs.specs.Opening.{vertex_of};
 
@@ -34,7 +35,8 @@ pub fn open_mesh(
     requires sources { All (λ net. Contains spots net.source) nets.now }
     requires few { length packets.now < 2 ^ 32 }
     requires of_nets { AreOfNets nets.now packets.now }
-    ensures { IfOk result (λ mesh. mesh ≡ opened_mesh (record { machine = machine; spots = spots; tables = tables; capacity = queue }) nets.now packets.now) }
+    ensures opened { IfOk result (λ mesh. mesh ≡ opened_mesh (record { machine = machine; spots = spots; tables = tables; capacity = queue }) nets.now packets.now) }
+    ensures mesh { IfOk result IsMesh }
 {
     let parts = Mesh::new(alloc, machine, spots, tables, queue)?.take_apart();
     let sources = source_vertices(alloc, &parts.setup, nets)?;
@@ -67,11 +69,7 @@ fn add_packets(
 }
 
 // The vertex of each net's source.
-fn source_vertices(
-    alloc: Global,
-    setup: &MeshSetup,
-    nets: &[NetPlan],
-) -> Result<Vec<usize>, Memory>
+fn source_vertices(alloc: Global, setup: &MeshSetup, nets: &[NetPlan]) -> Result<Vec<usize>, Memory>
     requires sites { All (IsSite setup.now.machine) setup.now.spots }
     requires sources { All (λ net. Contains setup.now.spots net.source) nets.now }
     ensures { IfOk result (λ vertices. vertices.items ≡ map (vertex_of setup.now.spots) nets.now) }

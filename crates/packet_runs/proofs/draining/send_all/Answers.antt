@@ -1,6 +1,3 @@
-use Rattle.std.proofs.Common.{◌<◌, length, sym, ap, ◌∙◌, subst, refl, get_or, []}
-use Rattle.std.specs.List.{slice_set}
-use Rattle.spin_base.specs.declared.chips.Spot.{Spot}
 use Rattle.packet_runs.proofs.Frame.{reached_none, reached_then, kept_reached}
 use Rattle.packet_runs.proofs.Turns.{one_less, all_sent_there, as_before, there_still, was_there, is_none, is_some', map_still}
 use Rattle.packet_runs.proofs.draining.send_all.Goals as goal

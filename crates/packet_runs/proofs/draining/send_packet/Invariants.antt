@@ -1,4 +1,4 @@
-use Rattle.std.proofs.Common.{◌≡◌, ℕ, ◌∷◌, List, Some}
+use Rattle.std.proofs.Common.{◌≡◌, ◌∷◌, List, Some}
 use Rattle.std.specs.List.{slice_get, slice_set}
 use Rattle.spin_base.specs.declared.copies.McCopy.{McCopy}
 use Rattle.packet_runs.specs.Draining.{IsReached}

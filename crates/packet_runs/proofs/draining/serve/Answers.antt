@@ -1,4 +1,4 @@
-use Rattle.std.proofs.Common.{ap, ◌∙◌, arith, length, ◌≤◌}
+use Rattle.std.proofs.Common.{ap, ◌∙◌, arith, length}
 use Rattle.mesh_core.specs.State.{State}
 use Rattle.spin_base.specs.declared.copies.Event.TheVariants.{Send, Collect}
 use Rattle.packet_runs.proofs.Frame.{reached_by, reached_then, unsent_stays}

@@ -1,7 +1,6 @@
-use Rattle.std.proofs.Common.{◌+◌, ◌<◌, length, sym, ap, ◌∙◌, subst, None, arith}
+use Rattle.std.proofs.Common.{◌+◌, ◌<◌, length, sym, ap, subst, None, arith}
 use Rattle.std.specs.List.{slice_index_or}
 use Rattle.std.proofs.lemmas.Option.{get_or_from_slice_get}
-use Rattle.spin_base.specs.declared.chips.Spot.{Spot}
 use Rattle.spin_base.specs.declared.copies.Packet.{Packet}
 use Rattle.net_tables.specs.declared.nets.NetPlan.{NetPlan}
 use Rattle.packet_runs.proofs.Opened.{known, listed_source, grows}
