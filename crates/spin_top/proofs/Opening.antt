@@ -1,5 +1,5 @@
 -- What the mesh of a job asks of its plan.
-use Rattle.std.proofs.Common.{◌≡◌, ℕ, ◌+◌, ◌-◌, ◌<◌, ◌≤◌, List, [], ◌∷◌, length, map, Option, Some, None, refl, sym, ap, ◌∙◌, subst, arith}
+use Rattle.std.proofs.Common.{◌≡◌, ℕ, ◌+◌, ◌-◌, ◌<◌, ◌≤◌, List, [], ◌∷◌, length, map, Option, Some, None, Result, Ok, Err, IfOk, refl, sym, ap, ◌∙◌, subst, arith}
 use Rattle.std.specs.Option.{option_map}
 use Rattle.std.specs.List.{All, slice_get, slice_index_or}
 use Rattle.std.proofs.lemmas.Option.{slice_get-get_or, get_or_from_slice_get, slice_get-map}
@@ -8,8 +8,7 @@ use Rattle.spin_base.specs.declared.blocks.Block.{Block}
 use Rattle.spin_base.specs.declared.blocks.Entry.{Entry}
 use Rattle.spin_base.specs.declared.chips.Spot.{Spot}
 use Rattle.spin_base.specs.declared.copies.Packet.{Packet}
-use Rattle.spin_base.specs.declared.copies.Event.{Event}
-use Rattle.machine_desc.specs.Description.{Description, HasSize}
+use Rattle.machine_desc.specs.Description.{Description}
 use Rattle.machine_desc.specs.Live.{IsSite, IsUsable}
 use Rattle.machine_desc.proofs.Sites.{usable_site}
 use Rattle.app_graph.specs.declared.graphs.Net.{Net}
@@ -19,13 +18,12 @@ use Rattle.app_graph.specs.RunPart.{IsPacketOf, IsRunOf, keys_of}
 use Rattle.key_alloc.specs.KeyBlocks.{HasKeys}
 use Rattle.net_tables.specs.declared.nets.NetPlan.{NetPlan}
 use Rattle.net_tables.specs.RightTables.{IsKeyOf}
-use Rattle.mesh_core.specs.State.{State}
-use Rattle.mesh_core.specs.Step.{after_event, after_events}
-use Rattle.mesh_core.specs.Opened.{opened_mesh, AreOfNets}
-use Rattle.mesh_core.proofs.Fixed.{after_event_setup}
+use Rattle.mesh_core.specs.State.{Setup, State}
+use Rattle.mesh_core.specs.Expected.{AreAsExpected}
+use Rattle.mesh_core.specs.HasRun.{HasRun}
+use Rattle.mesh_core.specs.Opened.{opened_mesh, AreOfNets, MeetsJobLedger}
 use Rattle.par_compile.specs.declared.compiling.Plan.{Plan}
 use Rattle.par_compile.specs.Compiled.{blocks_of, IsPlanOf}
-use Rattle.spin_top.specs.Opened.{IsOneChip}
 
 -- how many keys a net has
 key_count : (nets : List Net) (i : ℕ) (net : Net) → slice_get nets i ≡ Some net → keys_of nets i ≡ net.keys
@@ -58,28 +56,25 @@ are_of_nets m graph run plan is_run planned i p at =
     let key : IsKeyOf block.0 (block.0.key + p.index) = record { fits = its.0; matches = its.1 } in
     (of.0, of.1, key_of_same p.index block.0 of.0.block of.2 key)
 
--- the opened meshes of the same parts are the same
-pub opened_same : (m n : Description) (spots sites : List Spot) (tables memories : List (List Entry)) (queue : ℕ) (nets plans : List NetPlan) (packets asked : List Packet) →
-    m ≡ n → spots ≡ sites → tables ≡ memories → nets ≡ plans → packets ≡ asked →
-    opened_mesh (record { machine = m; spots = spots; tables = tables; capacity = queue }) nets packets
-    ≡ opened_mesh (record { machine = n; spots = sites; tables = memories; capacity = queue }) plans asked
-opened_same m n spots sites tables memories queue nets plans packets asked em es et en ep =
-    λ i. opened_mesh (record { machine = em i; spots = es i; tables = et i; capacity = queue }) (en i) (ep i)
-
--- a machine of one chip has a size within the limits
-pub one_chip_size : (m : Description) → IsOneChip m → HasSize m
-one_chip_size m one = let wide = one.one_wide in let high = one.one_high in record {
-  width_from_one = omega (arith, wide);
-  width_to_64 = omega (arith, wide);
-  height_from_one = omega (arith, high);
-  height_to_64 = omega (arith, high);
-}
-
--- events leave what a mesh never changes
-pub after_events_setup : (s : State) (es : List Event) → (after_events s es).setup ≡ s.setup
-after_events_setup s [] = refl
-after_events_setup s (e ∷ es) = after_events_setup (after_event s e) es ∙ after_event_setup s e
-
 -- vertices stand on sites
 pub sites : (m : Description) (spots : List Spot) → All (IsUsable m) spots → All (IsSite m) spots
 sites m spots usable i d within = usable_site m (slice_index_or spots i d) (usable i d within)
+
+-- what was run on some setup, nets and packets was run on the same ones
+pub record RunOn (u : Setup) (nets : List NetPlan) (packets : List Packet) (mesh : State) : Type 0 where
+  pub run : HasRun (opened_mesh u nets packets) mesh
+  pub ledger : MeetsJobLedger mesh nets packets
+  pub delivered : AreAsExpected mesh nets packets
+  pub setup : mesh.setup ≡ u
+
+pub run_on_same : {E : Type 0} (r : Result State E) (u v : Setup) (nets plans : List NetPlan) (packets asked : List Packet) → u ≡ v → nets ≡ plans → packets ≡ asked →
+    IfOk r (HasRun (opened_mesh u nets packets)) → IfOk r (λ mesh. MeetsJobLedger mesh nets packets) → IfOk r (λ mesh. AreAsExpected mesh nets packets) → IfOk r (λ mesh. mesh.setup ≡ u) →
+    IfOk r (RunOn v plans asked)
+run_on_same (Ok mesh) u v nets plans packets asked eu en ep run ledger delivered setup =
+    subst (λ x. RunOn x plans asked mesh) eu (subst (λ x. RunOn u x asked mesh) en (subst (λ x. RunOn u nets x mesh) ep
+    (record { run = run; ledger = ledger; delivered = delivered; setup = setup })))
+run_on_same (Err e) u v nets plans packets asked eu en ep run ledger delivered setup = tt
+
+pub ok_by : {E X : Type 0} (r : Result X E) (P Q : X → Type 0) → ((x : X) → P x → Q x) → IfOk r P → IfOk r Q
+ok_by (Ok x) P Q then is = then x is
+ok_by (Err e) P Q then is = tt

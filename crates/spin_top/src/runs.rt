@@ -2,16 +2,12 @@
 ghost use Rattle.std.specs.Prelude.{◌≡◌, All, IfOk, map};
 ghost use Rattle.app_graph.specs.RunPart.{IsRunOf};
 ghost use Rattle.mesh_core.specs.Opened.{MeetsJobLedger};
-ghost use Rattle.spin_top.specs.Opened.{Fits, IsOneChip, memory_of, opened_of, setup_of};
+ghost use Rattle.spin_top.specs.Opened.{Fits, memory_of, setup_of};
 ghost use Rattle.spin_top.specs.Runs.{HasRunOut, IsPlanned};
 
 use job_readers::Job;
 use mesh_core::Mesh;
-use mesh_core::laws::{
-    a_mesh_at_rest_has_delivered_all, an_opened_mesh_is_a_mesh, events_keep_the_ledger,
-    opened_mesh_meets_its_ledger,
-};
-use packet_runs::{drain, open_mesh};
+use packet_runs::run_packets;
 use par_compile::Plan;
 use spin_base::{Memory, Seq};
 use std::alloc::Global;
@@ -19,37 +15,29 @@ use table_load::memory_of;
 use tcam_find::Tcam;
 use tern_word::Table;
 
-// The mesh of a job after all its packets, one after the other.
-pub(crate) fn run_packets(alloc: Global, job: &Job, plan: &Plan) -> Result<Mesh, Memory>
-    requires one_chip { IsOneChip job.now.machine }
+// The mesh of a job after all its packets.
+pub(crate) fn run_job(alloc: Global, job: &Job, plan: &Plan) -> Result<Mesh, Memory>
     requires run { IsRunOf job.now.graph job.now.run }
     requires planned { IsPlanned job.now plan.now }
     ensures ledger { IfOk result (λ mesh. MeetsJobLedger mesh plan.now.nets job.now.run.packets) }
     ensures run { IfOk result (HasRunOut job.now plan.now) }
     ensures setup { IfOk result (λ mesh. mesh.setup ≡ setup_of job.now plan.now) }
 {
-    an_opened_mesh_is_a_mesh();
-    opened_mesh_meets_its_ledger();
-    events_keep_the_ledger();
-    a_mesh_at_rest_has_delivered_all();
-    let mut mesh = opened(alloc, job, plan)?;
-    drain(alloc, &mut mesh)?;
-    Ok(mesh)
-}
-
-// The mesh of a job before its first event.
-fn opened(alloc: Global, job: &Job, plan: &Plan) -> Result<Mesh, Memory>
-    requires run { IsRunOf job.now.graph job.now.run }
-    requires planned { IsPlanned job.now plan.now }
-    ensures { IfOk result (λ mesh. mesh ≡ opened_of job.now plan.now) }
-{
     let machine = job.machine.copy(alloc)?;
-    let spots = Vec::from_slice(alloc, plan.placement.spots.as_slice())?;
-    let spots = Seq::from_vec(spots);
+    let copied = Vec::from_slice(alloc, plan.placement.spots.as_slice())?;
+    let spots = Seq::from_vec(copied);
     let memories = memories_of(alloc, plan.tables.as_slice())?;
     let nets = plan.nets.as_slice();
     let packets = job.run.packets.as_slice();
-    open_mesh(alloc, machine, spots, memories, job.run.queue, nets, packets)
+    run_packets(
+        alloc,
+        machine,
+        spots,
+        memories,
+        job.run.queue,
+        nets,
+        packets,
+    )
 }
 
 // The lookup memories that are loaded with these tables.

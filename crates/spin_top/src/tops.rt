@@ -132,12 +132,7 @@ fn serves(command: Command, job: &Job) -> bool
 }
 
 // What a command makes of a planned job.
-fn output_of(
-    alloc: Global,
-    command: Command,
-    job: &Job,
-    plan: &Plan,
-) -> Result<Output, Memory>
+fn output_of(alloc: Global, command: Command, job: &Job, plan: &Plan) -> Result<Output, Memory>
     requires built { IsBuilt command }
     requires served { Serves command job.now }
     requires graph { IsValidGraph job.now.graph }
