@@ -59,7 +59,16 @@ fn second(alloc: Global) -> Result<Seq<u64>, Fail> {
 #[test]
 fn a_failing_source_is_a_read_fault(rt: HostRuntime) -> Result<(), Fail> {
     let alloc = rt.alloc();
-    assert!(rt; ends(&rt, alloc, second(alloc)?, Seq::new(alloc), 2, "read fault\n")?);
+    assert!(rt;
+        ends(
+            &rt,
+            alloc,
+            second(alloc)?,
+            Seq::new(alloc),
+            2,
+            "read fault\n"
+        )?
+    );
     Ok(())
 }
 

@@ -1,16 +1,11 @@
 -- What the mesh of a job asks of its plan.
-use Rattle.std.proofs.Common.{◌≡◌, ℕ, ◌+◌, ◌-◌, ◌<◌, ◌≤◌, List, [], ◌∷◌, length, map, Option, Some, None, Result, Ok, Err, IfOk, refl, sym, ap, ◌∙◌, subst, arith}
+use Rattle.std.proofs.Common.{◌≡◌, ℕ, ◌+◌, ◌<◌, List, [], map, Option, Some, None, refl, sym, ap, ◌∙◌, subst}
 use Rattle.std.specs.Option.{option_map}
-use Rattle.std.specs.List.{All, slice_get, slice_index_or}
+use Rattle.std.specs.List.{slice_get, slice_index_or}
 use Rattle.std.proofs.lemmas.Option.{slice_get-get_or, get_or_from_slice_get, slice_get-map}
 use Rattle.list_laws.proofs.Places.{All-at, AllZip-at_first}
 use Rattle.spin_base.specs.declared.blocks.Block.{Block}
-use Rattle.spin_base.specs.declared.blocks.Entry.{Entry}
-use Rattle.spin_base.specs.declared.chips.Spot.{Spot}
-use Rattle.spin_base.specs.declared.copies.Packet.{Packet}
 use Rattle.machine_desc.specs.Description.{Description}
-use Rattle.machine_desc.specs.Live.{IsSite, IsUsable}
-use Rattle.machine_desc.proofs.Sites.{usable_site}
 use Rattle.app_graph.specs.declared.graphs.Net.{Net}
 use Rattle.app_graph.specs.declared.graphs.Graph.{Graph}
 use Rattle.app_graph.specs.declared.graphs.RunPart.{RunPart}
@@ -18,10 +13,7 @@ use Rattle.app_graph.specs.RunPart.{IsPacketOf, IsRunOf, keys_of}
 use Rattle.key_alloc.specs.KeyBlocks.{HasKeys}
 use Rattle.net_tables.specs.declared.nets.NetPlan.{NetPlan}
 use Rattle.net_tables.specs.RightTables.{IsKeyOf}
-use Rattle.mesh_core.specs.State.{Setup, State}
-use Rattle.mesh_core.specs.Expected.{AreAsExpected}
-use Rattle.mesh_core.specs.HasRun.{HasRun}
-use Rattle.mesh_core.specs.Opened.{opened_mesh, AreOfNets, MeetsJobLedger}
+use Rattle.mesh_core.specs.Opened.{AreOfNets}
 use Rattle.par_compile.specs.declared.compiling.Plan.{Plan}
 use Rattle.par_compile.specs.Compiled.{blocks_of, IsPlanOf}
 
@@ -55,26 +47,3 @@ are_of_nets m graph run plan is_run planned i p at =
     let its = block.2 p.index below in
     let key : IsKeyOf block.0 (block.0.key + p.index) = record { fits = its.0; matches = its.1 } in
     (of.0, of.1, key_of_same p.index block.0 of.0.block of.2 key)
-
--- vertices stand on sites
-pub sites : (m : Description) (spots : List Spot) → All (IsUsable m) spots → All (IsSite m) spots
-sites m spots usable i d within = usable_site m (slice_index_or spots i d) (usable i d within)
-
--- what was run on some setup, nets and packets was run on the same ones
-pub record RunOn (u : Setup) (nets : List NetPlan) (packets : List Packet) (mesh : State) : Type 0 where
-  pub run : HasRun (opened_mesh u nets packets) mesh
-  pub ledger : MeetsJobLedger mesh nets packets
-  pub delivered : AreAsExpected mesh nets packets
-  pub setup : mesh.setup ≡ u
-
-pub run_on_same : {E : Type 0} (r : Result State E) (u v : Setup) (nets plans : List NetPlan) (packets asked : List Packet) → u ≡ v → nets ≡ plans → packets ≡ asked →
-    IfOk r (HasRun (opened_mesh u nets packets)) → IfOk r (λ mesh. MeetsJobLedger mesh nets packets) → IfOk r (λ mesh. AreAsExpected mesh nets packets) → IfOk r (λ mesh. mesh.setup ≡ u) →
-    IfOk r (RunOn v plans asked)
-run_on_same (Ok mesh) u v nets plans packets asked eu en ep run ledger delivered setup =
-    subst (λ x. RunOn x plans asked mesh) eu (subst (λ x. RunOn u x asked mesh) en (subst (λ x. RunOn u nets x mesh) ep
-    (record { run = run; ledger = ledger; delivered = delivered; setup = setup })))
-run_on_same (Err e) u v nets plans packets asked eu en ep run ledger delivered setup = tt
-
-pub ok_by : {E X : Type 0} (r : Result X E) (P Q : X → Type 0) → ((x : X) → P x → Q x) → IfOk r P → IfOk r Q
-ok_by (Ok x) P Q then is = then x is
-ok_by (Err e) P Q then is = tt

@@ -9,7 +9,10 @@ returns c =
     let plan = c.args.plan.now in
     let mesh = c.in_ok-mesh.mesh in
     let report = c.in_ok-report.report in (
-      mesh, report, refl, refl,
+      mesh,
+      report,
+      refl,
+      refl,
       record {
         ledger = c.in_ok-mesh.ensures.ledger;
         run_out = c.in_ok-mesh.ensures.run;
