@@ -1,34 +1,22 @@
 -- What is gathered from the items of a list, one item more.
-use Rattle.std.proofs.Common.{◌≡◌, ℕ, zero, suc, ◌+◌, ◌-◌, ◌^◌, ◌<◌, List, [], ◌∷◌, ◌++◌, map, take, length, get_or, min, sum_by, sym, ap, ◌∙◌, arith, append_assoc, append-nil, map-id, add-one, Some}
-use Rattle.std.specs.List.{slice_get, range_with_len}
+use Rattle.std.proofs.Common.{◌≡◌, ap₂, subst, ℕ, zero, suc, ◌+◌, ◌-◌, ◌^◌, ◌<◌, List, [], ◌∷◌, ◌++◌, take, length, get_or, min, sum_by, sym, ap, ◌∙◌, arith, append_assoc, map-id, Some}
+use Rattle.std.specs.List.{slice_get, slice_index_or, range_with_len}
 use Rattle.std.proofs.lemmas.List.FromFn.{sum_by-map-range_with_len_more}
-use Rattle.mesh_core.specs.Ledger.{gathered}
-
-gathered_next : {X Y : Type 0} (f : ℕ → X → List Y) (n : ℕ) (xs : List X) (i j : ℕ) (x : X) → slice_get xs i ≡ Some x → n + i ≡ j → gathered f n (take (suc i) xs) ≡ gathered f n (take i xs) ++ f j x
-gathered_next f n [] i j x here at = cc
-gathered_next {X} {Y} f n (y ∷ ys) zero j x here at =
-    let same : y ≡ x = cc in
-    let place : n ≡ j = omega (arith, at) in
-    append-nil (f n y) ∙ ap (f n) same ∙ ap (λ (m : ℕ). f m x) place
-gathered_next {X} {Y} f n (y ∷ ys) (suc i) j x here at =
-    ap (λ l. f n y ++ l) (gathered_next f (n + 1) ys i j x here (omega (arith, at)))
-    ∙ sym (append_assoc (f n y) (gathered f (n + 1) (take i ys)) (f j x))
-
--- the first items and the next
-pub gathered_more : {X Y : Type 0} (f : ℕ → X → List Y) (n : ℕ) (xs : List X) (i j : ℕ) (x : X) → slice_get xs i ≡ Some x → n + i ≡ j → gathered f n (take (i + 1) xs) ≡ gathered f n (take i xs) ++ f j x
-gathered_more f n xs i j x here at = ap (λ (m : ℕ). gathered f n (take m xs)) (add-one i) ∙ gathered_next f n xs i j x here at
+use Rattle.std.proofs.lemmas.Option.{slice_get-get_or}
+use Rattle.list_laws.specs.Gathered.{gathered}
+use Rattle.list_laws.proofs.Gathering.{gathered_more}
+use Rattle.spin_base.specs.declared.chips.Spot.{Spot}
+use Rattle.spin_base.specs.declared.copies.McCopy.{McCopy}
+use Rattle.mesh_core.specs.declared.places.Place.{Place}
+use Rattle.mesh_core.specs.declared.places.Place.TheVariants.{CoreQueue}
+use Rattle.mesh_core.specs.State.{State}
+use Rattle.run_report.specs.RunReport.{waits_at, copies_at, core_waits}
 
 -- an item that a loop shows is there
 pub shown_there : {X : Type 0} (xs : List X) (i : ℕ) (x : X) → i < length xs → x ≡ get_or xs i x → slice_get xs i ≡ Some x
 shown_there [] i x low is = absurd (omega arith)
 shown_there (y ∷ ys) zero x low is = ap Some (sym is)
 shown_there (y ∷ ys) (suc i) x low is = shown_there ys i x (omega arith) is
-
--- and what a function makes of it is there in the list of what it makes of all
-pub there_mapped : {X Y : Type 0} (f : X → Y) (xs : List X) (i : ℕ) (x : X) → slice_get xs i ≡ Some x → slice_get (map f xs) i ≡ Some (f x)
-there_mapped f [] i x here = cc
-there_mapped f (y ∷ ys) zero x here = let same : y ≡ x = cc in ap (λ z. Some (f z)) same
-there_mapped f (y ∷ ys) (suc i) x here = there_mapped f ys i x here
 
 -- a sum over the numbers from 0 on, and the next
 pub sum_more : (g : ℕ → ℕ) (n : ℕ) → sum_by g (range_with_len 0 (n + 1)) ≡ sum_by g (range_with_len 0 n) + g n
@@ -39,3 +27,16 @@ sum_more g n =
 -- a sum that stands still at its greatest value
 pub capped_more : (total more so_far next all : ℕ) → so_far ≡ min total (2 ^ 32 - 1) → next ≡ min (so_far + more) (2 ^ 32 - 1) → all ≡ total + more → next ≡ min all (2 ^ 32 - 1)
 capped_more total more so_far next all a b c = grind (arith, a, b, c)
+
+-- what waits at the vertices so far, and at the next
+pub cores_more : (s : State) (spots : List Spot) (v : ℕ) (d : Spot) (before sofar new : List (ℕ × Place)) (copies : List McCopy) → spots ≡ s.setup.spots → v < length spots →
+    slice_get s.cores v ≡ Some copies → sofar ≡ before ++ gathered (core_waits s) 0 (take v s.setup.spots) →
+    new ≡ sofar ++ waits_at (CoreQueue (slice_index_or spots v d).chip (slice_index_or spots v d).core) copies →
+    new ≡ before ++ gathered (core_waits s) 0 (take (v + 1) s.setup.spots)
+cores_more s spots v d before sofar new copies is below queue so_far more =
+    let spot : Spot = slice_index_or spots v d in
+    let here : slice_get s.setup.spots v ≡ Some spot = subst (λ l. slice_get l v ≡ Some spot) is (slice_get-get_or spots v d below) in
+    let waits : waits_at (CoreQueue spot.chip spot.core) copies ≡ core_waits s v spot = ap (λ o. waits_at (CoreQueue spot.chip spot.core) (copies_at o)) (sym queue) in
+    more ∙ ap₂ (λ l m. l ++ m) so_far waits
+    ∙ append_assoc before (gathered (core_waits s) 0 (take v s.setup.spots)) (core_waits s v spot)
+    ∙ ap (λ l. before ++ l) (sym (gathered_more (core_waits s) 0 s.setup.spots v v spot here (omega arith)))

@@ -1,22 +1,26 @@
 -- What the report of a run says.
 use Rattle.std.specs.Prelude.{◌≡◌, ℕ, ◌-◌, ◌^◌, List, [], ◌∷◌, ◌++◌, length, map, min, Option, Some, None, slice_get}
+use Rattle.list_laws.specs.Gathered.{gathered}
 use Rattle.std.specs.List.{flat_map, sum_by, range_with_len}
 use Rattle.spin_base.specs.declared.chips.Chip.{Chip}
 use Rattle.spin_base.specs.declared.chips.Spot.{Spot}
 use Rattle.spin_base.specs.declared.chips.Port.{Port}
-use Rattle.spin_base.specs.declared.blocks.Block.{Block}
 use Rattle.spin_base.specs.declared.copies.McCopy.{McCopy}
 use Rattle.spin_base.specs.declared.copies.Delivery.{Delivery}
 use Rattle.spin_base.specs.declared.copies.DumpRec.{DumpRec}
 use Rattle.spin_base.specs.Links.{port_number}
 use Rattle.spin_base.specs.Outputs.{out_number}
+use Rattle.machine_desc.specs.Description.{Description}
 use Rattle.machine_desc.specs.Live.{index_of, grid_chips}
-use Rattle.table_load.specs.declared.tables.ChipTable.{ChipTable}
+use Rattle.app_graph.specs.declared.graphs.Graph.{Graph}
+use Rattle.net_tables.specs.declared.nets.NetPlan.{NetPlan}
+use Rattle.tern_word.specs.declared.tables.Table.{Table}
 use Rattle.mesh_core.specs.declared.places.Place.{Place}
 use Rattle.mesh_core.specs.declared.places.Place.TheVariants.{InQueue, Hand, CoreQueue}
 use Rattle.mesh_core.specs.State.{State, Held, queue_at}
-use Rattle.mesh_core.specs.Ledger.{all_ports, gathered}
+use Rattle.mesh_core.specs.Ledger.{all_ports}
 use Rattle.run_report.specs.declared.reports.Report.{Report}
+use Rattle.run_report.specs.Listed.{placed_of, keys_of, tables_of}
 use Rattle.run_report.specs.Orders.{IsInOrder}
 
 -- ---- deliveries and dump records
@@ -57,7 +61,7 @@ waits_at place copies = map (λ k. (k.packet, place)) copies
 
 -- the copies in the input queue of a port
 abbrev pub queue_waits : State → Chip → Port → List (ℕ × Place)
-queue_waits s c port = waits_at (InQueue c port) (copies_at (slice_get s.inputs (queue_at s.machine c port)))
+queue_waits s c port = waits_at (InQueue c port) (copies_at (slice_get s.inputs (queue_at s.setup.machine c port)))
 
 -- what a router holds: a copy for each output by which it still has to leave
 abbrev pub held_waits : Chip → Option (Option Held) → List (ℕ × Place)
@@ -66,7 +70,7 @@ held_waits c (Some None) = []
 held_waits c None = []
 
 abbrev pub hand_waits : State → Chip → List (ℕ × Place)
-hand_waits s c = held_waits c (slice_get s.hands (index_of s.machine c))
+hand_waits s c = held_waits c (slice_get s.hands (index_of s.setup.machine c))
 
 -- the copies in the input queues of a chip, and those in its router's hand
 abbrev pub chip_waits : State → Chip → List (ℕ × Place)
@@ -78,7 +82,7 @@ core_waits s v spot = waits_at (CoreQueue spot.chip spot.core) (copies_at (slice
 
 -- All waiting copies of a mesh: in the input queues and the hand of each chip, and in the queue of each vertex's core.
 abbrev pub waits_of : State → List (ℕ × Place)
-waits_of s = flat_map (chip_waits s) (grid_chips s.machine) ++ gathered (core_waits s) 0 s.spots
+waits_of s = flat_map (chip_waits s) (grid_chips s.setup.machine) ++ gathered (core_waits s) 0 s.setup.spots
 
 abbrev pub place_chip : Place → Chip
 place_chip (InQueue c port) = c
@@ -109,18 +113,18 @@ unsent_by s v = length (copies_at (slice_get s.unsent v))
 
 -- the number of copies that no vertex has sent
 abbrev pub unsent_total : State → ℕ
-unsent_total s = sum_by (unsent_by s) (range_with_len 0 (length s.spots))
+unsent_total s = sum_by (unsent_by s) (range_with_len 0 (length s.setup.spots))
 
 -- ---- the report
 
--- The report of a plan and of the mesh after the run: placement, keys and tables as the plan has them, the deliveries by
--- packet and position of the vertex, the dump records by packet, chip and output, and the waiting copies by packet and
--- place. The number of unsent copies stands still at 4,294,967,295.
-pub record IsReportOf (placed : List (List ℕ × Spot)) (keys : List (List ℕ × Block)) (tables : List ChipTable) (s : State) (report : Report) : Type 0 where
-  pub same_placed : report.placed ≡ placed
-  pub same_keys : report.keys ≡ keys
-  pub same_tables : report.tables ≡ tables
-  pub delivered : IsDeliveredOf placed s.delivered report.delivered
+-- The report of a graph's plan on a machine and of the mesh after the run: the spots of the vertices, the keys of the nets
+-- and the tables as the plan has them, the deliveries by packet and position of the vertex, the dump records by packet, chip
+-- and output, and the waiting copies by packet and place. The number of unsent copies stands still at 4,294,967,295.
+pub record IsReportOf (m : Description) (graph : Graph) (spots : List Spot) (nets : List NetPlan) (tables : List Table) (s : State) (report : Report) : Type 0 where
+  pub same_placed : report.placed ≡ placed_of graph spots
+  pub same_keys : report.keys ≡ keys_of graph nets
+  pub same_tables : report.tables ≡ tables_of m tables
+  pub delivered : IsDeliveredOf (placed_of graph spots) s.delivered report.delivered
   pub dumped : IsInOrder dump_key s.dumped report.dumped
   pub waiting : IsInOrder wait_key (waits_of s) report.waiting
   pub unsent : report.unsent ≡ min (unsent_total s) (2 ^ 32 - 1)

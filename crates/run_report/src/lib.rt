@@ -1,11 +1,14 @@
-//! The report of a run, and its text.
+//! The report of a run, and the text of a plan that is not run.
 //!
-//! `report_of` gathers what a plan says and what a mesh holds after a run, for every machine, each list in its order.
-//! `text_of` writes a report by lines, and `plan_text` the lines of a plan that is not run. The report and its text are this project's own; placement, keys, tables and routes
-//! are those of the SpiNNaker datasheet.
+//! `report_of` gathers what a plan says and what a mesh holds after a run, for every machine, each list in its order, and
+//! `text_of` writes it by lines. `plan_text` writes the lines of a plan that is not run. A plan is given by its parts: the
+//! graph, and the spots, nets and tables that it has on the machine. The report and its text are this project's own;
+//! placement, keys, tables and routes are those of the SpiNNaker datasheet.
 #![tactic(auto)]
 
+mod lists;
 mod orders;
+mod plans;
 mod reports;
 #[cfg(test)]
 mod tests;
@@ -13,5 +16,6 @@ mod texts;
 mod unsents;
 mod waits;
 
+pub use plans::plan_text;
 pub use reports::{Report, report_of};
-pub use texts::{plan_text, text_of};
+pub use texts::text_of;

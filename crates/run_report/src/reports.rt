@@ -1,15 +1,18 @@
 // What became of a job.
-ghost use Rattle.std.specs.Prelude.{◌≡◌, ◌≤◌, length, map, IfOk};
+ghost use Rattle.std.specs.Prelude.{◌≡◌, ◌*◌, length, IfOk};
+ghost use Rattle.app_graph.specs.ValidGraph.{IsValidGraph};
 ghost use Rattle.run_report.specs.RunReport.{IsReportOf};
 
+use crate::lists::{keys_of, placed_of, tables_of};
 use crate::orders::{delivered_of, dumped_of};
 use crate::unsents::unsent_of;
 use crate::waits::waiting_of;
-use machine_desc::Machine;
+use app_graph::Graph;
 use mesh_core::{Mesh, Place};
-use spin_base::{Block, DumpRec, McCopy, Memory, Name, Seq, Spot};
+use net_tables::NetPlan;
+use spin_base::{Block, ChipTable, DumpRec, McCopy, Memory, Name, Seq, Spot};
 use std::alloc::Global;
-use table_load::ChipTable;
+use tern_word::Table;
 
 /// What a report says.
 #[derive(Debug, Drop)]
@@ -30,30 +33,35 @@ pub struct Report {
     pub unsent: u32,
 }
 
-/// The report of a run on a machine: what the plan says, and what the mesh holds afterwards.
-///
-/// `placed` has each vertex with its core, in the order of the mesh's vertices.
+/// The report of a graph's plan and of the mesh after its run, on the mesh's machine: a line for each vertex, each net, and
+/// each chip whose table has a row, and what the mesh delivered, dumped and still holds. The plan's spots are those of the
+/// mesh, and it has a table for each chip, by its index.
 ///
 /// # Errors
 ///
 /// `Memory` where memory runs out.
 pub fn report_of(
     alloc: Global,
-    placed: Seq<(Name, Spot)>,
-    keys: Seq<(Name, Block)>,
-    tables: Seq<ChipTable>,
-    machine: &Machine,
+    graph: &Graph,
+    spots: &Seq<Spot>,
+    nets: &Seq<NetPlan>,
+    tables: &Seq<Table>,
     mesh: &Mesh,
 ) -> Result<Report, Memory>
-    requires few { length placed ≤ 4294967295 }
-    requires machine { mesh.now.machine ≡ machine.now }
-    requires vertices { mesh.now.spots ≡ map (λ v. v.1) placed }
-    ensures { IfOk result (λ report. IsReportOf placed keys tables mesh.now report) }
+    requires graph { IsValidGraph graph.now }
+    requires spots { length spots.now ≡ length graph.now.vertices }
+    requires nets { length nets.now ≡ length graph.now.nets }
+    requires tables { length tables.now ≡ mesh.now.setup.machine.width * mesh.now.setup.machine.height }
+    requires mesh { mesh.now.setup.spots ≡ spots.now }
+    ensures { IfOk result (λ report. IsReportOf mesh.now.setup.machine graph.now spots.now nets.now tables.now mesh.now report) }
 {
+    let placed = placed_of(alloc, &graph.vertices, spots)?;
+    let keys = keys_of(alloc, &graph.nets, nets)?;
+    let tables = tables_of(alloc, mesh.machine(), tables)?;
     let delivered = delivered_of(alloc, placed.as_slice(), mesh)?;
     let dumped = dumped_of(alloc, mesh)?;
-    let waiting = waiting_of(alloc, placed.as_slice(), machine, mesh)?;
-    let unsent = unsent_of(placed.len(), mesh);
+    let waiting = waiting_of(alloc, mesh)?;
+    let unsent = unsent_of(mesh);
     Ok(Report {
         placed,
         keys,

@@ -4,11 +4,10 @@ ghost use Rattle.std.specs.Prelude.{◌≡◌};
 use super::{Report, text_of};
 use mesh_core::Place;
 use spin_base::{
-    Block, Chip, Dir, DumpRec, Entry, McCopy, Memory, Name, Out, Port, Route, Seq, Spot,
+    Block, Chip, ChipTable, Dir, DumpRec, Entry, McCopy, Memory, Name, Out, Port, Route, Seq, Spot,
 };
 use std::alloc::Global;
 use std::test::Fail;
-use table_load::ChipTable;
 
 const ORIGIN: Chip = Chip { x: 0, y: 0 };
 

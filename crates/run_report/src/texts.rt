@@ -2,15 +2,14 @@
 ghost use Rattle.std.specs.Prelude.{◌≡◌, ◌<◌, ◌^◌, ◌++◌, ◌∷◌, OnOk, IfOk, string_bytes, decimal};
 ghost use Rattle.std.specs.List.{flat_map};
 ghost use Rattle.mesh_core.specs.declared.places.Place.TheVariants.{InQueue, Hand, CoreQueue};
-ghost use Rattle.run_report.specs.ReportText.{report_text, plan_text as text_of_plan, row_total as total_of_rows, word, hex, payload_word, place_line, keys_line, row_line, table_head, table_lines, got_line, dump_line, wait_line, end_line, out_letters, port_letters as letters_of_port, dir_letters};
+ghost use Rattle.run_report.specs.ReportText.{report_text, listed_text, row_total, word, hex, payload_word, place_line, keys_line, row_line, table_head, table_lines, got_line, dump_line, wait_line, end_line, out_letters, port_letters, dir_letters};
 
 use crate::reports::Report;
 use mesh_core::Place;
 use spin_base::{
-    Block, Chip, Dir, DumpRec, Entry, McCopy, Memory, Name, Out, Port, Route, Seq, Spot,
+    Block, Chip, ChipTable, Dir, DumpRec, Entry, McCopy, Memory, Name, Out, Port, Route, Seq, Spot,
 };
 use std::alloc::Global;
-use table_load::ChipTable;
 
 /// The text of a report: one line an item, each ended by a line feed, its words one space apart.
 ///
@@ -36,20 +35,16 @@ pub fn text_of(alloc: Global, report: &Report) -> Result<Seq<u8>, Memory>
     Ok(Seq::from_vec(text.into_bytes()))
 }
 
-/// The text of a plan that is not run: the lines `place`, `keys` and `table` of `text_of`, and as the last line `end rows R`
-/// with the number of rows of all tables.
-///
-/// # Errors
-///
-/// `Memory` where memory runs out.
-pub fn plan_text(
+// The lines `place`, `keys` and `table` of `text_of`, and as the last line `end rows R` with the number of rows of all
+// tables.
+pub(crate) fn listed_text(
     alloc: Global,
     placed: &[(Name, Spot)],
     keys: &[(Name, Block)],
     tables: &[ChipTable],
 ) -> Result<Seq<u8>, Memory>
-    requires { total_of_rows tables.now < 2 ^ 64 }
-    ensures { IfOk result (λ text. text ≡ text_of_plan placed.now keys.now tables.now) }
+    requires { row_total tables.now < 2 ^ 64 }
+    ensures { IfOk result (λ text. text ≡ listed_text placed.now keys.now tables.now) }
 {
     let mut text = String::new(alloc);
     put_places(&mut text, placed)?;
@@ -62,8 +57,8 @@ pub fn plan_text(
 
 // The number of rows of all tables.
 fn row_total(tables: &[ChipTable]) -> u64
-    requires { total_of_rows tables.now < 2 ^ 64 }
-    ensures { result ≡ total_of_rows tables.now }
+    requires { row_total tables.now < 2 ^ 64 }
+    ensures { result ≡ row_total tables.now }
 {
     let mut rows = 0;
     for table in tables {
@@ -313,7 +308,7 @@ fn put_payload(text: &mut String, payload: Option<u32>) -> Result<(), Memory>
 }
 
 fn port_letters(port: Port) -> &'static str
-    ensures { result.now ≡ letters_of_port port }
+    ensures { result.now ≡ port_letters port }
 {
     match port {
         Port::Link(link) => link_letters(link),

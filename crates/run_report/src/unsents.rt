@@ -4,14 +4,13 @@ ghost use Rattle.run_report.specs.RunReport.{unsent_total};
 
 use mesh_core::Mesh;
 
-/// The number of copies that no vertex has sent, for a mesh of so many vertices. It stands still at 4,294,967,295.
-pub fn unsent_of(vertices: usize, mesh: &Mesh) -> u32
-    requires few { vertices ≤ 4294967295 }
-    requires all { length mesh.now.spots ≡ vertices }
+/// The number of copies that no vertex has sent. It stands still at 4,294,967,295.
+pub fn unsent_of(mesh: &Mesh) -> u32
+    requires { length mesh.now.setup.spots ≤ 4294967295 }
     ensures { result ≡ min (unsent_total mesh.now) (2 ^ 32 - 1) }
 {
     let mut unsent: u32 = 0;
-    for vertex in 0..vertices {
+    for vertex in 0..mesh.spots().len() {
         unsent = saturating_sum(unsent, mesh.unsent(vertex as u32).len());
     }
     unsent

@@ -1,66 +1,44 @@
 // The copies that wait in a mesh.
-ghost use Rattle.std.specs.Prelude.{◌≡◌, ◌≤◌, ◌<◌, ◌*◌, ◌++◌, length, map, OnOk, IfOk, Some};
+ghost use Rattle.std.specs.Prelude.{◌≡◌, ◌≤◌, ◌++◌, length, OnOk, IfOk, Some};
 ghost use Rattle.std.specs.Option.{option_copied};
 ghost use Rattle.std.specs.List.{flat_map};
 ghost use Rattle.spin_base.specs.Links.{port_number};
-ghost use Rattle.machine_desc.specs.Live.{IsInside, chip_of, grid_chips};
-ghost use Rattle.mesh_core.specs.Ledger.{gathered};
+ghost use Rattle.machine_desc.specs.Live.{IsInside, grid_chips};
+ghost use Rattle.list_laws.specs.Gathered.{gathered};
 ghost use Rattle.run_report.specs.Orders.{IsInOrder};
 ghost use Rattle.run_report.specs.Keys.{wait_numbers};
 ghost use Rattle.run_report.specs.RunReport.{waits_of, wait_key, waits_at, queue_waits, held_waits, chip_waits, core_waits};
 
-use machine_desc::Machine;
 use mesh_core::{Hand, Mesh, Place};
-use spin_base::{Chip, Dir, McCopy, Memory, Name, Port, Seq, Spot};
+use spin_base::{Chip, Dir, McCopy, Memory, Port, Seq};
 use std::alloc::Global;
 
 /// The waiting copies of a mesh, by packet and place.
-pub fn waiting_of(
-    alloc: Global,
-    placed: &[(Name, Spot)],
-    machine: &Machine,
-    mesh: &Mesh,
-) -> Result<Seq<(u32, Place)>, Memory>
-    requires few { length placed.now ≤ 4294967295 }
-    requires machine { mesh.now.machine ≡ machine.now }
-    requires vertices { mesh.now.spots ≡ map (λ v. v.1) placed.now }
+pub fn waiting_of(alloc: Global, mesh: &Mesh) -> Result<Seq<(u32, Place)>, Memory>
+    requires { length mesh.now.setup.spots ≤ 4294967295 }
     ensures { IfOk result (λ waiting. IsInOrder wait_key (waits_of mesh.now) waiting) }
 {
     let mut waiting = Vec::new(alloc);
-    put_chips(&mut waiting, machine, mesh)?;
-    put_cores(&mut waiting, placed, mesh)?;
+    put_chips(&mut waiting, mesh)?;
+    put_cores(&mut waiting, mesh)?;
     sort_waits(&mut waiting)?;
     Ok(Seq::from_vec(waiting))
 }
 
 // Puts what waits on the chips at the end, chip by chip in the order of their indices.
-fn put_chips(waiting: &mut Vec<(u32, Place)>, machine: &Machine, mesh: &Mesh) -> Result<(), Memory>
-    requires { mesh.now.machine ≡ machine.now }
-    ensures { OnOk result (waiting.new.items ≡ waiting.old.items ++ flat_map (chip_waits mesh.now) (grid_chips machine.now)) }
+fn put_chips(waiting: &mut Vec<(u32, Place)>, mesh: &Mesh) -> Result<(), Memory>
+    ensures { OnOk result (waiting.new.items ≡ waiting.old.items ++ flat_map (chip_waits mesh.now) (grid_chips mesh.now.setup.machine)) }
 {
-    let chips = usize::from(machine.width()) * usize::from(machine.height());
-    for index in 0..chips {
-        put_chip(waiting, chip_at(machine, index), mesh)?;
+    let machine = mesh.machine();
+    for index in 0..machine.chips() as u32 {
+        put_chip(waiting, machine.chip_at(index), mesh)?;
     }
     Ok(())
 }
 
-// The chip of an index.
-fn chip_at(machine: &Machine, index: usize) -> Chip
-    requires { index < machine.now.width * machine.now.height }
-    ensures chip { result ≡ chip_of machine.now index }
-    ensures inside { IsInside machine.now result }
-{
-    let height = usize::from(machine.height());
-    Chip {
-        x: (index / height) as u8,
-        y: (index % height) as u8,
-    }
-}
-
 // Puts what waits on one chip at the end.
 fn put_chip(waiting: &mut Vec<(u32, Place)>, chip: Chip, mesh: &Mesh) -> Result<(), Memory>
-    requires { IsInside mesh.now.machine chip }
+    requires { IsInside mesh.now.setup.machine chip }
     ensures { OnOk result (waiting.new.items ≡ waiting.old.items ++ chip_waits mesh.now chip) }
 {
     put_queues(waiting, chip, &PORTS, mesh)?;
@@ -85,7 +63,7 @@ fn put_queues(
     ports: &[Port],
     mesh: &Mesh,
 ) -> Result<(), Memory>
-    requires { IsInside mesh.now.machine chip }
+    requires { IsInside mesh.now.setup.machine chip }
     ensures { OnOk result (waiting.new.items ≡ waiting.old.items ++ flat_map (queue_waits mesh.now chip) ports.now) }
 {
     for port in ports {
@@ -101,7 +79,7 @@ fn put_queue(
     port: Port,
     mesh: &Mesh,
 ) -> Result<(), Memory>
-    requires { IsInside mesh.now.machine chip }
+    requires { IsInside mesh.now.setup.machine chip }
     ensures { OnOk result (waiting.new.items ≡ waiting.old.items ++ queue_waits mesh.now chip port) }
 {
     put_copies(waiting, Place::InQueue(chip, port), mesh.queue(chip, port))
@@ -140,17 +118,12 @@ fn put_copies(
     Ok(())
 }
 
-// Puts the copies in the queues of the vertices' cores at the end.
-fn put_cores(
-    waiting: &mut Vec<(u32, Place)>,
-    placed: &[(Name, Spot)],
-    mesh: &Mesh,
-) -> Result<(), Memory>
-    requires few { length placed.now ≤ 4294967295 }
-    requires vertices { mesh.now.spots ≡ map (λ v. v.1) placed.now }
-    ensures { OnOk result (waiting.new.items ≡ waiting.old.items ++ gathered (core_waits mesh.now) 0 mesh.now.spots) }
+// Puts the copies in the queues of the vertices at the end.
+fn put_cores(waiting: &mut Vec<(u32, Place)>, mesh: &Mesh) -> Result<(), Memory>
+    requires { length mesh.now.setup.spots ≤ 4294967295 }
+    ensures { OnOk result (waiting.new.items ≡ waiting.old.items ++ gathered (core_waits mesh.now) 0 mesh.now.setup.spots) }
 {
-    for (vertex, (_, spot)) in placed.iter().enumerate() {
+    for (vertex, spot) in mesh.spots().iter().enumerate() {
         put_copies(
             waiting,
             Place::CoreQueue(spot.chip, spot.core),

@@ -20,8 +20,8 @@ use Rattle.spin_top.specs.Ends.{Ends, done, cut, refused, refusal_cut, Makes, Gi
 use Rattle.spin_top.specs.Given.{WhereGiven, WhereRun, GivesAll, IsGiven, IsWritten, IsCaused, IsCalledCutOff, IsRefusedAs, IsRefusedWhere, HasAnswer}
 use Rattle.spin_top.specs.Jobs.{IsOfText, job_in}
 use Rattle.spin_top.specs.Outcomes.{line_of, status_at}
-use Rattle.spin_top.specs.Runs.{IsMade, IsOutputOf, IsRunOf, output_text}
-use Rattle.spin_top.proofs.CutOffs.{cut_not_planned}
+use Rattle.spin_top.specs.Runs.{IsMade, IsOutputOf, IsRunMade, output_text}
+use Rattle.par_compile.proofs.Refusing.{cut_not_planned}
 use Rattle.spin_top.proofs.Exclusive.{one_command, serves_built, same_job, IsReady, refused_not_ready, one_refusal, ready_late, ready_made}
 
 -- what each error has, each error has that has more
@@ -84,7 +84,7 @@ module _ (o : Outcome) where
   nowhere_given P none = subst (λ x. IfSome x (λ job. IfSome o.plan (λ plan. P job plan))) (sym none.0) tt
 
   run_given : (c : Command) (job : Job) (plan : Plan) (text : List ℕ) → IsOutputOf c job plan o.mesh o.report text → (Q : State → Report → Type 0) →
-      ((mesh : State) (report : Report) → IsRunOf job plan mesh report → Q mesh report) → IfSome o.mesh (λ mesh. IfSome o.report (λ report. Q mesh report))
+      ((mesh : State) (report : Report) → IsRunMade job plan mesh report → Q mesh report) → IfSome o.mesh (λ mesh. IfSome o.report (λ report. Q mesh report))
   run_given Run job plan text (m, r, mesh_is, report_is, run, text_is) Q from =
       subst (λ x. IfSome x (λ mesh. IfSome o.report (λ report. Q mesh report))) (sym mesh_is)
       (subst (λ x. IfSome x (λ report. Q m report)) (sym report_is) (from m r run))
@@ -138,7 +138,7 @@ module _ (words : List (String Global)) (left rest : Option (List ℕ)) (reads r
     | refusal_cut r cause is parts takes rose ↦ nowhere_given o P parts
   ]
 
-  pub run_by : (P : Job → Plan → State → Report → Type 0) → ((job : Job) (plan : Plan) (mesh : State) (report : Report) → IsRunOf job plan mesh report → P job plan mesh report) → WhereRun o P
+  pub run_by : (P : Job → Plan → State → Report → Type 0) → ((job : Job) (plan : Plan) (mesh : State) (report : Report) → IsRunMade job plan mesh report → P job plan mesh report) → WhereRun o P
   run_by P from = given_by (λ job plan. IfSome o.mesh (λ mesh. IfSome o.report (λ report. P job plan mesh report)))
       (λ text m. run_given o m.command m.job m.plan text m.made.output (P m.job m.plan) (from m.job m.plan))
 

@@ -10,16 +10,15 @@ use Rattle.app_graph.specs.declared.graphs.Graph.{Graph}
 use Rattle.place_fit.specs.Placement.{HasNoRoom}
 use Rattle.key_alloc.specs.KeyBlocks.{AreKeysOut, AreRightBlocks}
 use Rattle.job_readers.specs.declared.jobs.Job.{Job}
-use Rattle.one_chip_run.specs.OnOneChip.{IsOneChip}
 use Rattle.par_compile.specs.declared.compiling.Plan.{Plan}
 use Rattle.par_compile.specs.Compiled.{HasCutOff, HasPlacement, IsPlanOf}
-use Rattle.job_runs.specs.OpenedFor.{Fits}
 use Rattle.spin_top.specs.declared.commands.Command.{Command}
 use Rattle.spin_top.specs.declared.commands.Command.TheVariants.{Run, Trace, Compile, Tables, Gen}
 use Rattle.spin_top.specs.declared.outcomes.Refusal.{Refusal}
 use Rattle.spin_top.specs.declared.outcomes.Refusal.TheVariants as refusals
 use Rattle.spin_top.specs.Commands.{Spells, texts_of, IsCommand, IsBuilt}
 use Rattle.spin_top.specs.Jobs.{Tells, TellsRefusal, IsOfText}
+use Rattle.spin_top.specs.Opened.{Fits, IsOneChip}
 
 -- Jobs that a command serves today: `run` those whose machine has one chip, `tables` all.
 abbrev pub Serves : Command → Job → Type 0

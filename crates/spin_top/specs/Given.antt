@@ -8,7 +8,6 @@ use Rattle.job_readers.specs.declared.jobs.Job.{Job}
 use Rattle.run_report.specs.declared.reports.Report.{Report}
 use Rattle.par_compile.specs.declared.compiling.Plan.{Plan}
 use Rattle.par_compile.specs.Compiled.{HasCutOff, HasPlacement, IsPlanOf}
-use Rattle.job_runs.specs.OpenedFor.{Fits}
 use Rattle.spin_top.specs.declared.commands.Command.{Command}
 use Rattle.spin_top.specs.declared.outcomes.Outcome.{Outcome}
 use Rattle.spin_top.specs.declared.outcomes.Refusal.{Refusal}
@@ -17,6 +16,7 @@ use Rattle.spin_top.specs.Causes.{HasBlocks, HasCause, IsRefused, Serves}
 use Rattle.spin_top.specs.Commands.{Spells, texts_of, IsCommand, IsBuilt, IsRun, IsTables}
 use Rattle.spin_top.specs.Ends.{GivesNoPart}
 use Rattle.spin_top.specs.Jobs.{job_in}
+use Rattle.spin_top.specs.Opened.{Fits}
 use Rattle.spin_top.specs.Outcomes.{line_of}
 use Rattle.spin_top.specs.Runs.{output_text}
 

@@ -14,8 +14,7 @@ mod lines;
 mod outcomes;
 mod outputs;
 mod plans;
-#[cfg(test)]
-mod tests;
+mod runs;
 mod texts;
 mod tops;
 

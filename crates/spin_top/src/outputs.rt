@@ -1,21 +1,15 @@
 // What a command makes of a planned job.
-ghost use Rattle.std.specs.Prelude.{◌≡◌, [], IfOk};
-ghost use Rattle.serde_json.specs.View.{view};
+ghost use Rattle.std.specs.Prelude.{◌≡◌, IfOk};
+ghost use Rattle.app_graph.specs.RunPart.{IsRunOf};
 ghost use Rattle.app_graph.specs.ValidGraph.{IsValidGraph};
-ghost use Rattle.job_readers.specs.MachinePart.{machine_faults, machine_value};
-ghost use Rattle.app_graph.specs.RunPart.{IsRunOf as IsRunPartOf};
-ghost use Rattle.one_chip_run.specs.OnOneChip.{IsOneChip};
 ghost use Rattle.spin_top.specs.Runs.{IsOutputOf, IsPlanned};
 ghost use Rattle.spin_top.specs.declared.commands.Command.TheVariants.{Run, Tables};
 
-use job_readers::{Job, machine_of};
-use job_runs::run_job;
-use machine_desc::Machine;
+use crate::runs::run_job;
+use job_readers::Job;
 use mesh_core::Mesh;
 use par_compile::Plan;
-use plan_reports::{report_of_run, text_of_plan};
-use run_report::{Report, text_of};
-use serde_json::Value;
+use run_report::{Report, plan_text, report_of, text_of};
 use spin_base::{Memory, Seq};
 use std::alloc::Global;
 
@@ -27,18 +21,15 @@ pub(crate) struct Output {
 }
 
 // The mesh after the run, its report, and the report's text.
-pub(crate) fn run(alloc: Global, value: &Value, job: &Job, plan: &Plan) -> Result<Output, Memory>
-    requires faultless { machine_faults (view value.now) ≡ [] }
-    requires machine { machine_value (view value.now) ≡ job.now.machine }
-    requires one_chip { IsOneChip job.now.machine }
+pub(crate) fn run(alloc: Global, job: &Job, plan: &Plan) -> Result<Output, Memory>
     requires graph { IsValidGraph job.now.graph }
-    requires run { IsRunPartOf job.now.graph job.now.run }
+    requires run { IsRunOf job.now.graph job.now.run }
     requires planned { IsPlanned job.now plan.now }
     ensures { IfOk result (λ out. IsOutputOf Run job.now plan.now out.mesh out.report out.text) }
 {
-    let machine = own_machine(alloc, value)?;
-    let mesh = run_job(alloc, machine, &job.graph, &job.run, plan)?;
-    let report = report_of_run(alloc, &job.machine, &job.graph, plan, &mesh)?;
+    let mesh = run_job(alloc, job, plan)?;
+    let spots = &plan.placement.spots;
+    let report = report_of(alloc, &job.graph, spots, &plan.nets, &plan.tables, &mesh)?;
     let text = text_of(alloc, &report)?;
     Ok(Output {
         mesh: Some(mesh),
@@ -47,24 +38,21 @@ pub(crate) fn run(alloc: Global, value: &Value, job: &Job, plan: &Plan) -> Resul
     })
 }
 
-// The machine once more, for the mesh to keep.
-fn own_machine(alloc: Global, value: &Value) -> Result<Machine, Memory>
-    requires { machine_faults (view value.now) ≡ [] }
-    ensures { IfOk result (λ machine. machine ≡ machine_value (view value.now)) }
-{
-    match machine_of(alloc, value) {
-        Ok(machine) => Ok(machine),
-        Err(_) => Err(Memory),
-    }
-}
-
 // The text of the plan.
 pub(crate) fn list(alloc: Global, job: &Job, plan: &Plan) -> Result<Output, Memory>
-    requires planned { IsPlanned job.now plan.now }
     requires graph { IsValidGraph job.now.graph }
+    requires planned { IsPlanned job.now plan.now }
     ensures { IfOk result (λ out. IsOutputOf Tables job.now plan.now out.mesh out.report out.text) }
 {
-    let text = text_of_plan(alloc, &job.machine, &job.graph, plan)?;
+    let spots = &plan.placement.spots;
+    let text = plan_text(
+        alloc,
+        &job.machine,
+        &job.graph,
+        spots,
+        &plan.nets,
+        &plan.tables,
+    )?;
     Ok(Output {
         mesh: None,
         report: None,

@@ -1,9 +1,8 @@
 // The job that a source's bytes are.
-ghost use Rattle.std.specs.Prelude.{◌≡◌, ◌⊎◌, [], Ok, Err, IfOk, IfErr};
+ghost use Rattle.std.specs.Prelude.{◌≡◌, ◌⊎◌, Ok, Err, IfOk, IfErr};
 ghost use Rattle.serde_json.specs.View.{view};
 ghost use Rattle.app_graph.specs.ValidGraph.{IsValidGraph};
 ghost use Rattle.app_graph.specs.RunPart.{IsRunOf};
-ghost use Rattle.job_readers.specs.MachinePart.{machine_faults, machine_value};
 ghost use Rattle.spin_top.specs.Causes.{IsFailure};
 ghost use Rattle.spin_top.specs.Jobs.{IsOfText, IsValueOf, TellsRefusal, job_of as job_that_is};
 ghost use Rattle.spin_top.specs.declared.outcomes.Refusal.TheVariants.{Memory};
@@ -39,7 +38,6 @@ pub(crate) fn read_value<S: Source>(alloc: Global, source: &mut S) -> Result<Val
 // The job that a value is, or its first fault.
 pub(crate) fn read_job(alloc: Global, value: &Value) -> Result<Job, Refusal>
     ensures job { IfOk result (λ job. job_that_is (view value.now) ≡ Ok job) }
-    ensures machine { IfOk result (λ job. (machine_faults (view value.now) ≡ []) × (machine_value (view value.now) ≡ job.machine)) }
     ensures graph { IfOk result (λ job. IsValidGraph job.graph) }
     ensures run { IfOk result (λ job. IsRunOf job.graph job.run) }
     ensures err { IfErr result (λ r. (IsOfText r × (job_that_is (view value.now) ≡ Err r)) ⊎ (r ≡ Memory)) }

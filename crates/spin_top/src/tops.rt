@@ -1,11 +1,8 @@
 // The top call.
-ghost use Rattle.std.specs.Prelude.{◌≡◌, ◌⊎◌, [], Some, None, IfOk, IfErr, IfSome, true};
-ghost use Rattle.serde_json.specs.View.{view};
+ghost use Rattle.std.specs.Prelude.{◌≡◌, ◌⊎◌, Some, None, IfOk, IfErr, IfSome, true};
 ghost use Rattle.app_graph.specs.ValidGraph.{IsValidGraph};
-ghost use Rattle.job_readers.specs.MachinePart.{machine_faults, machine_value};
-ghost use Rattle.app_graph.specs.RunPart.{IsRunOf as IsRunPartOf};
+ghost use Rattle.app_graph.specs.RunPart.{IsRunOf};
 ghost use Rattle.mesh_core.specs.Opened.{MeetsJobLedger};
-ghost use Rattle.plan_reports.specs.Listed.{IsReported};
 ghost use Rattle.spin_base.specs.Outside.{FaultsRose, Takes, TakesProperPrefix};
 ghost use Rattle.job_readers.specs.declared.jobs.Job.{Job};
 ghost use Rattle.spin_top.specs.Causes.{HasCause, HasCauseFor, Serves};
@@ -15,7 +12,7 @@ ghost use Rattle.spin_top.specs.Ends.{Ends, GivesNoPart, IsLineWritten};
 ghost use Rattle.spin_top.specs.Given.{HasAnswer, IsCaused, IsGiven, IsRefusedWhere, IsWritten, WhereGiven, WhereRun};
 ghost use Rattle.spin_top.specs.Jobs.{IsReadTo};
 ghost use Rattle.spin_top.specs.Outcomes.{line_of as line_of_refusal, status_at};
-ghost use Rattle.spin_top.specs.Runs.{HasRunOut, IsMade, IsOutputOf, IsPlanned};
+ghost use Rattle.spin_top.specs.Runs.{HasRunOut, IsMade, IsOutputOf, IsPlanned, IsReported};
 ghost use Rattle.spin_top.specs.declared.outcomes.Refusal.TheVariants.{Memory as NoMemory, WriteFault};
 
 use crate::commands::{Command, command_of};
@@ -26,7 +23,6 @@ use crate::plans::plan_of;
 use crate::texts::{read_job, read_value};
 use job_readers::Job;
 use par_compile::Plan;
-use serde_json::Value;
 use spin_base::{Gate, Memory, Sink, Source, write_all};
 use std::alloc::Global;
 use std::sync::Wait;
@@ -63,7 +59,7 @@ pub fn spin<Rt: Threads + Wait + Sync, S: Source, K: Sink, G: Gate>(
     ensures plan { WhereGiven result IsPlanned }
     ensures ledger { WhereRun result (λ job plan mesh report. MeetsJobLedger mesh plan.nets job.run.packets) }
     ensures run { WhereRun result (λ job plan mesh report. HasRunOut job plan mesh) }
-    ensures report { WhereRun result (λ job plan mesh report. IsReported job.machine job.graph plan mesh report) }
+    ensures report { WhereRun result (λ job plan mesh report. IsReported job plan mesh report) }
     ensures written { IsWritten words.now (S.left source.old) (S.faults source.old) (S.faults source.new) (K.written sink.old) (K.written sink.new) result }
     ensures cause { IfSome result.refusal (IsCaused words.now (S.left source.old) (S.faults source.old) (S.faults source.new) (K.faults sink.old) (K.faults sink.new)) }
     ensures refused { IsRefusedWhere words.now (S.left source.old) result }
@@ -117,7 +113,7 @@ fn made_by<S: Source>(alloc: Global, command: Command, source: &mut S) -> Result
         return Err(Refusal::Unbuilt);
     }
     let plan = plan_of(alloc, &job)?;
-    match output_of(alloc, command, &value, &job, &plan) {
+    match output_of(alloc, command, &job, &plan) {
         Ok(output) => Ok(Made { job, plan, output }),
         Err(Memory) => Err(Refusal::Memory),
     }
@@ -136,24 +132,16 @@ fn serves(command: Command, job: &Job) -> bool
 }
 
 // What a command makes of a planned job.
-fn output_of(
-    alloc: Global,
-    command: Command,
-    value: &Value,
-    job: &Job,
-    plan: &Plan,
-) -> Result<Output, Memory>
+fn output_of(alloc: Global, command: Command, job: &Job, plan: &Plan) -> Result<Output, Memory>
     requires built { IsBuilt command }
     requires served { Serves command job.now }
-    requires faultless { machine_faults (view value.now) ≡ [] }
-    requires machine { machine_value (view value.now) ≡ job.now.machine }
     requires graph { IsValidGraph job.now.graph }
-    requires run { IsRunPartOf job.now.graph job.now.run }
+    requires run { IsRunOf job.now.graph job.now.run }
     requires planned { IsPlanned job.now plan.now }
     ensures { IfOk result (λ out. IsOutputOf command job.now plan.now out.mesh out.report out.text) }
 {
     if command == Command::Run {
-        return run(alloc, value, job, plan);
+        return run(alloc, job, plan);
     }
     list(alloc, job, plan)
 }

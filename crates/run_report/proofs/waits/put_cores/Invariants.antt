@@ -1,7 +1,7 @@
 use Rattle.std.proofs.Common.{◌≡◌, ◌++◌, take}
-use Rattle.mesh_core.specs.Ledger.{gathered}
+use Rattle.list_laws.specs.Gathered.{gathered}
 use Rattle.run_report.specs.RunReport.{core_waits}
 use Rattle.run_report.proofs.waits.put_cores.Given as goal
 
 abbrev pub invariant-loop-vertex : goal.invariant-loop-vertex
-invariant-loop-vertex l = l.waiting.items ≡ l.fn.waiting.items ++ gathered (core_waits l.mesh) 0 (take l.vertex l.mesh.spots)
+invariant-loop-vertex l = l.waiting.items ≡ l.fn.waiting.items ++ gathered (core_waits l.mesh) 0 (take l.vertex l.mesh.setup.spots)

@@ -2,7 +2,8 @@ use Rattle.std.proofs.Common.{◌-◌, All, length, replicate, refl, sym, ◌∙
 use Rattle.std.proofs.lemmas.Bool.{false≢true}
 use Rattle.tern_word.specs.declared.tables.Table.{Table}
 use Rattle.tcam_find.specs.Memory.{unused}
-use Rattle.job_runs.specs.OpenedFor.{Fits}
+use Rattle.plain_tables.specs.PlainTable.{entries}
+use Rattle.spin_top.specs.Opened.{Fits}
 use Rattle.spin_top.specs.Causes.{long_table}
 use Rattle.spin_top.proofs.plans.plan_of.Goals as goal
 
@@ -15,5 +16,5 @@ pub returns-else-not-fit-clause-plan : goal.returns-else-not-fit-clause-plan
 returns-else-not-fit-clause-plan c = record {
   as_defined = c.in-Ok.ensures.plan;
   fit = subst (All Fits) c.as_slice.ensures (c.fit.ensures.yes c.if-not-fit.false);
-  right = c.in-Ok.ensures.plan.followed (λ (t : Table). replicate (1024 - length t.rows) unused);
+  right = c.in-Ok.ensures.plan.followed (λ (t : Table). replicate (1024 - length (entries t)) unused);
 }

@@ -1,31 +1,21 @@
-use Rattle.std.proofs.Common.{subst, inl, inr}
+use Rattle.std.proofs.Common.{ap, subst, ◌∙◌, inl, inr}
 use Rattle.par_compile.specs.Compiled.{IsCause}
+use Rattle.spin_top.specs.declared.outcomes.Refusal.TheVariants as refusals
 use Rattle.spin_top.specs.Causes.{no_room, keys_out, cut_off}
 use Rattle.spin_top.proofs.plans.refusal_for.Goals as goal
 
-pub returns-in-NoRoom : goal.returns-in-NoRoom
-returns-in-NoRoom c =
+pub returns-in_ok-of-in-NoRoom : goal.returns-in_ok-of-in-NoRoom
+returns-in_ok-of-in-NoRoom c =
     let cause = subst (IsCause c.args.job.now.machine c.args.job.now.graph) c.in-NoRoom.is c.requires in
-    let named = c.no_room.ensures in
-    elim named.2 [
-      | inl is ↦ inl (no_room c.in-NoRoom.vertex named.0 cause named.1 is)
-      | inr memory ↦ inr (inr memory)
-    ]
+    inl (no_room c.in-NoRoom.vertex c.get-vertex.result.now cause c.get-vertex.ensures (ap refusals.NoRoom (c.in_ok-of-in-NoRoom.ensures ∙ c.as_str.ensures)))
 
-pub returns-in-KeysOut : goal.returns-in-KeysOut
-returns-in-KeysOut c =
+pub returns-in_ok-of-in-KeysOut : goal.returns-in_ok-of-in-KeysOut
+returns-in_ok-of-in-KeysOut c =
     let cause = subst (IsCause c.args.job.now.machine c.args.job.now.graph) c.in-KeysOut.is c.requires in
-    let named = c.keys_out.ensures in
-    elim named.2 [
-      | inl is ↦ inl (keys_out c.in-KeysOut.net named.0 cause.0 cause.1 named.1 is)
-      | inr memory ↦ inr (inr memory)
-    ]
+    inl (keys_out c.in-KeysOut.net c.get-net.result.now cause.0 cause.1 c.get-net.ensures (ap refusals.KeysOut (c.in_ok-of-in-KeysOut.ensures ∙ c.as_str-in-KeysOut.ensures)))
 
-pub returns-in-CutOff : goal.returns-in-CutOff
-returns-in-CutOff c =
+pub returns-in_ok-of-in-CutOff : goal.returns-in_ok-of-in-CutOff
+returns-in_ok-of-in-CutOff c =
     let cause = subst (IsCause c.args.job.now.machine c.args.job.now.graph) c.in-CutOff.is c.requires in
-    let named = c.cut_off.ensures in
-    elim named.2 [
-      | inl is ↦ inr (inl (cut_off c.in-CutOff.net named.0 c.in-CutOff.target cause named.1 is))
-      | inr memory ↦ inr (inr memory)
-    ]
+    inr (inl (cut_off c.in-CutOff.net c.get-net-in-CutOff.result.now c.in-CutOff.target cause c.get-net-in-CutOff.ensures
+    (ap (λ name. refusals.CutOff name c.in-CutOff.target) (c.in_ok-of-in-CutOff.ensures ∙ c.as_str-in-CutOff.ensures))))

@@ -2,15 +2,11 @@ use Rattle.std.proofs.Common.{subst, inl}
 use Rattle.serde_json.specs.View.{view}
 use Rattle.job_text.specs.Reading.{Fails}
 use Rattle.job_readers.specs.WholeJob.{job_faults}
-use Rattle.spin_top.proofs.Reading.{is_job, is_fault, machine_faultless, machine_is}
+use Rattle.spin_top.proofs.Reading.{is_job, is_fault}
 use Rattle.spin_top.proofs.texts.read_job.Goals as goal
 
 pub returns-in-Ok-clause-job : goal.returns-in-Ok-clause-job
 returns-in-Ok-clause-job c = is_job (view c.args.value.now) c.in-Ok.job c.in-Ok.ensures.job.0 c.in-Ok.ensures.job.1
-
-pub returns-in-Ok-clause-machine : goal.returns-in-Ok-clause-machine
-returns-in-Ok-clause-machine c =
-    (machine_faultless (view c.args.value.now) c.in-Ok.ensures.job.0, machine_is (view c.args.value.now) c.in-Ok.job c.in-Ok.ensures.job.1)
 
 pub returns-in-Err-Fault-clause-err : goal.returns-in-Err-Fault-clause-err
 returns-in-Err-Fault-clause-err c = inl (

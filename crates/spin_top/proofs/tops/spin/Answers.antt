@@ -1,10 +1,9 @@
 use Rattle.std.proofs.Common.{◌⊎◌}
 use Rattle.spin_top.proofs.EndLaws.{given_by, run_by, named, given_clause, written_clause, cause_clause, refused_clause, complete_clause}
 use Rattle.mesh_core.specs.Opened.{MeetsJobLedger}
-use Rattle.plan_reports.specs.Listed.{IsReported}
 use Rattle.spin_top.specs.Commands.{IsRun, IsTables}
 use Rattle.spin_top.specs.Jobs.{IsReadTo}
-use Rattle.spin_top.specs.Runs.{HasRunOut, IsPlanned}
+use Rattle.spin_top.specs.Runs.{HasRunOut, IsPlanned, IsReported}
 use Rattle.spin_top.proofs.tops.spin.Goals as goal
 
 pub returns-clause-given : goal.returns-clause-given
@@ -45,7 +44,7 @@ pub returns-clause-report : goal.returns-clause-report
 returns-clause-report g c =
     run_by c.args.words.now (g.S.Source.left c.args.source.now) (g.S.Source.left c.answered.new.source) (g.S.Source.faults c.args.source.now) (g.S.Source.faults c.answered.new.source)
     (g.K.Sink.written c.args.sink.now) (g.K.Sink.written c.answered.new.sink) (g.K.Sink.faults c.args.sink.now) (g.K.Sink.faults c.answered.new.sink) c.answered.result c.answered.ensures.ends
-    (λ job plan mesh report. IsReported job.machine job.graph plan mesh report) (λ job plan mesh report run. run.reported)
+    (λ job plan mesh report. IsReported job plan mesh report) (λ job plan mesh report run. run.reported)
 
 pub returns-clause-written : goal.returns-clause-written
 returns-clause-written g c =

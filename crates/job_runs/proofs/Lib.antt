@@ -1,4 +1,0 @@
-pub mod Loading
-pub mod Lone
-pub mod Needs
-pub mod Pairs

@@ -1,3 +1,0 @@
-pub mod DrainEvents
-pub mod HasRun
-pub mod OnOneChip

@@ -1,8 +1,0 @@
-use Rattle.std.proofs.Common.{◌≡◌, map, take}
-use Rattle.std.specs.List.{zip}
-use Rattle.net_tables.specs.declared.nets.NetPlan.{NetPlan}
-use Rattle.app_graph.specs.declared.graphs.Net.{Net}
-use Rattle.plan_reports.proofs.lists.keys_of.Given as goal
-
-abbrev pub invariant-loop-i : goal.invariant-loop-i
-invariant-loop-i l = l.keys ≡ zip (take l.i (map (λ (net : Net). net.name) l.given)) (take l.i (map (λ (net : NetPlan). net.block) l.nets))

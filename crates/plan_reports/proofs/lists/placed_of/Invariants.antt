@@ -1,7 +1,0 @@
-use Rattle.std.proofs.Common.{◌≡◌, take}
-use Rattle.std.specs.List.{zip}
-use Rattle.plan_reports.specs.Listed.{vertex_names}
-use Rattle.plan_reports.proofs.lists.placed_of.Given as goal
-
-abbrev pub invariant-loop-i : goal.invariant-loop-i
-invariant-loop-i l = l.placed ≡ zip (take l.i (vertex_names l.vertices)) (take l.i l.spots)

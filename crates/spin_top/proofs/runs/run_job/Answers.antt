@@ -1,0 +1,22 @@
+use Rattle.std.proofs.Common.{◌≡◌, map, sym, ap, subst, ◌∙◌}
+use Rattle.net_tables.specs.RightTables.{AreRight}
+use Rattle.mesh_core.specs.Opened.{AreOfNets}
+use Rattle.spin_top.specs.Opened.{memory_of}
+use Rattle.spin_top.proofs.Opening.{are_of_nets}
+use Rattle.spin_top.proofs.runs.run_job.Goals as goal
+
+pub run_packets-requires-clause-of_nets : goal.run_packets-requires-clause-of_nets
+run_packets-requires-clause-of_nets c =
+    let job = c.args.job.now in
+    let plan = c.args.plan.now in
+    subst (λ ns. AreOfNets ns c.as_slice-packets.result.now) (sym c.as_slice-nets.ensures)
+    (subst (AreOfNets plan.nets) (sym c.as_slice-packets.ensures) (are_of_nets job.machine job.graph job.run plan c.requires.run c.requires.planned.as_defined))
+
+pub run_packets-requires-clause-right : goal.run_packets-requires-clause-right
+run_packets-requires-clause-right c =
+    let job = c.args.job.now in
+    let plan = c.args.plan.now in
+    let memories : c.in_ok-memories.memories ≡ map memory_of plan.tables = c.in_ok-memories.ensures ∙ ap (map memory_of) c.as_slice-2.ensures in
+    subst (λ m. AreRight m c.in_ok-memories.memories c.as_slice-nets.result.now) (sym c.in_ok-machine.ensures)
+    (subst (λ ts. AreRight job.machine ts c.as_slice-nets.result.now) (sym memories)
+    (subst (AreRight job.machine (map memory_of plan.tables)) (sym c.as_slice-nets.ensures) c.requires.planned.right))
