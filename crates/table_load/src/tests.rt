@@ -2,10 +2,11 @@
 ghost use Rattle.std.specs.Prelude.{◌≡◌, ◌+◌, ◌<◌, ◌≤◌, length, IfOk};
 ghost use Rattle.table_load.specs.Images.{IsTable, IsValid};
 
-use super::{ChipTable, Image, ImageErr, decode, encode, load};
+use super::{ChipTable, Image, ImageErr, decode, encode, load, memory_of};
 use spin_base::{Chip, Dir, Entry, Port, Route, Seq};
 use std::alloc::{AllocError, Global};
 use std::test::Fail;
+use tcam_find::Tcam;
 
 /// One row of one chip, by hand.
 const ONE: [u8; 26] = [
@@ -90,15 +91,37 @@ fn four_chips(alloc: Global) -> Result<Image, AllocError>
 }
 
 #[test]
-fn two_tables_are_forty_two_bytes_and_load_four_memories(rt: HostRuntime) -> Result<(), Fail> {
+fn two_tables_are_forty_two_bytes(rt: HostRuntime) -> Result<(), Fail> {
     let image = four_chips(rt.alloc())?;
     let bytes = encode(rt.alloc(), &image)?;
     assert_eq!(rt; bytes.as_slice(), TWO.as_slice());
-    let memories = load(rt.alloc(), &image)?;
-    assert_eq!(rt; memories.len(), 4);
-    assert_eq!(rt; memories.get(1).find(0, Port::Link(Dir::West)).bits, 0x01);
-    assert_eq!(rt; memories.get(3).find(0, Port::Link(Dir::West)).bits, 0x80);
     Ok(())
+}
+
+/// Where a packet with key 0 goes that came in by the western link.
+fn from_west(memory: &Tcam) -> u32 {
+    memory.find(0, Port::Link(Dir::West)).bits
+}
+
+/// The same in the second and the last of four memories.
+fn second_and_last(memories: &[Tcam]) -> Option<(u32, u32)> {
+    match memories {
+        [_, second, _, last] => Some((from_west(second), from_west(last))),
+        _ => None,
+    }
+}
+
+#[test]
+fn two_tables_of_four_chips_load_four_memories(rt: HostRuntime) -> Result<(), Fail> {
+    let image = four_chips(rt.alloc())?;
+    let memories = load(rt.alloc(), &image)?;
+    assert_eq!(rt; second_and_last(memories.as_slice()), Some((0x01, 0x80)));
+    Ok(())
+}
+
+#[test]
+fn the_memory_of_one_entry_has_it(rt: HostRuntime) {
+    assert_eq!(rt; from_west(&memory_of(&[row(0x80)])), 0x80);
 }
 
 /// The place of a fault: 1000 where there is none, and 2000 without memory.
