@@ -8,18 +8,7 @@ use Rattle.std.proofs.lemmas.List.Elements.{pair_read}
 use Rattle.tern_word.specs.SoundTable.{Misses}
 use Rattle.cover_checks.specs.Merge.{has, IsClear, insert_place, PassesUp, PassesUpCheck}
 use Rattle.cover_checks.proofs.Positions.{has-at, has-place}
-
--- a test that came out false tells that its fact does not hold
-pub fails : (P : Type 0) (b : Bool) → (IsTrue b) ↔ P → b ≡ false → P → ⊥
-fails P b tells came holds = true≢false (sym (tells.1 holds) ∙ came)
-
--- a test does not come out both ways
-pub answers_none : (b : Bool) → b ≡ true → b ≡ false → ⊥
-answers_none b t f = true≢false (sym t ∙ f)
-
--- the answer false, where the fact does not hold
-pub answers_no : (P : Type 0) → (P → ⊥) → (IsTrue false) ↔ P
-answers_no P not = (λ e. absurd (false≢true e), λ holds. absurd (not holds))
+pub use Rattle.list_laws.proofs.Tests.{fails, answers_none, answers_no}
 
 module _ (rows : List Row) (places : List ℕ) (list : List Row) (same : list ≡ rows) (p : ℕ) (place : p ≡ insert_place rows places) where
   -- what a place's check says, of the table's rows and the insertion place

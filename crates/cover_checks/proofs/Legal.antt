@@ -1,8 +1,8 @@
 -- On a sound table both checks are true exactly where the table after the merge is sound.
-use Rattle.std.proofs.Common.{◌≡◌, ℕ, ◌+◌, ◌-◌, ◌<◌, ◌≤◌, ◌⊎◌, inl, inr, Bool, true, false, List, [], ◌∷◌, length, get_or, take, drop, refl, sym, ap, ◌∙◌, subst, length-take, length-drop, get_or-take, get_or-drop, arith}
+use Rattle.std.proofs.Common.{◌≡◌, ℕ, ◌+◌, ◌-◌, ◌<◌, ◌≤◌, ◌⊎◌, inl, inr, true, false, List, [], ◌∷◌, length, get_or, take, drop, refl, sym, ap, ◌∙◌, subst, length-take, length-drop, get_or-take, get_or-drop, arith}
 use Rattle.std.specs.Prelude.{All, not, map}
 use Rattle.std.specs.List.{flat_map}
-use Rattle.std.proofs.lemmas.Bool.{cases_lt}
+use Rattle.std.proofs.lemmas.Bool.{cases_Bool, cases_lt, not-true, not_from_false}
 use Rattle.std.proofs.lemmas.List.{get_or_default}
 use mathlib.Core.Bool.{true≢false}
 use Rattle.std.proofs.lemmas.List.Elements.{All-cons, All-append, All-take, All-drop}
@@ -43,17 +43,6 @@ HoldsItsAliases-merge rows all =
     let each : All (λ (x : Row). All (λ (a : Alias). LiesIn a.block merge) x.aliases) rows = λ k d within j e inside. LiesIn-trans (get_or (get_or rows k d).aliases j e).block (get_or rows k d).block merge (all k d within j e inside) (members k d within) in
     subst (λ (b : Block). All (λ (a : Alias). LiesIn a.block b) (merge_rows rows).aliases) (sym (merge_rows-block_of rows))
     (subst (All (λ (a : Alias). LiesIn a.block merge)) (sym (merge_rows-aliases rows)) (All-flat_map (λ (a : Alias). LiesIn a.block merge) (λ (x : Row). x.aliases) rows each))
-
-bool_cases : (b : Bool) → (b ≡ true) ⊎ (b ≡ false)
-bool_cases true = inl refl
-bool_cases false = inr refl
-
-not_true : (b : Bool) → b ≡ false → not b ≡ true
-not_true b e = ap not e
-
-from_not : (b : Bool) → not b ≡ true → b ≡ false
-from_not true e = sym e
-from_not false e = refl
 
 -- the order of generality
 abbrev pub IsBefore : Row → Row → Type 0
@@ -108,7 +97,7 @@ module _ (rows : List Row) (places : List ℕ) (sound : IsSound rows) (in_range 
   front_clear up = picked-from (λ r. Clears r (merged_row rows places)) (λ k. not (has places k)) 0 (take (insert_place rows places) rows) (λ k j d at within pass.
       let row = front_row k d within in
       let same : k ≡ j = omega arith in
-      subst (λ (r : Row). Clears r (merged_row rows places)) (sym row.1) (clear k d row.0 (from_not (has places k) (ap (λ i. not (has places i)) same ∙ pass))))
+      subst (λ (r : Row). Clears r (merged_row rows places)) (sym row.1) (clear k d row.0 (not-true (has places k) (ap (λ i. not (has places i)) same ∙ pass))))
     where
       clear : (k : ℕ) (d : Row) → k < insert_place rows places → has places k ≡ false → Misses (get_or rows k d).block (merged_row rows places)
       clear k d before out = Misses-merge (get_or rows k d).block (rows_at rows places) (rows_at-from (Misses (get_or rows k d).block) rows places (λ s e found.
@@ -125,7 +114,7 @@ module _ (rows : List Row) (places : List ℕ) (sound : IsSound rows) (in_range 
   pub up_from : All (λ r. Clears r (merged_row rows places)) (kept places 0 (take (insert_place rows places) rows)) → PassesUpCheck rows places
   up_from clear s found r behind before d out =
       let within : r < length (take (insert_place rows places) rows) = omega (arith, length-take (insert_place rows places) rows, place_le) in
-      let at = picked-at (λ r. Clears r (merged_row rows places)) (λ k. not (has places k)) 0 (take (insert_place rows places) rows) clear r r d (omega arith) within (not_true (has places r) out) in
+      let at = picked-at (λ r. Clears r (merged_row rows places)) (λ k. not (has places k)) 0 (take (insert_place rows places) rows) clear r r d (omega arith) within (not_from_false (has places r) out) in
       let misses : Misses (get_or rows r d).block (merged_row rows places) = subst (λ (x : Row). Clears x (merged_row rows places)) (front_row r d within).1 at in
       rows_at-has (Misses (get_or rows r d).block) rows places in_range (Misses-members (get_or rows r d).block (rows_at rows places) misses) s d found
 
@@ -140,11 +129,11 @@ module _ (rows : List Row) (places : List ℕ) (sound : IsSound rows) (in_range 
   pub down_from : All (Clears (merged_row rows places)) (kept places (insert_place rows places) (drop (insert_place rows places) rows)) → PassesDownCheck rows places
   down_from clear r d behind inside =
       let within : r - insert_place rows places < length (drop (insert_place rows places) rows) = omega (arith, length-drop (insert_place rows places) rows) in
-      let out : has places r ≡ false = elim (bool_cases (has places r)) [
+      let out : has places r ≡ false = elim (cases_Bool (has places r)) [
         | inl found ↦ absurd (omega (arith, member_before rows places in_range sound.ordered r d found))
         | inr out ↦ out
       ] in
-      let at = picked-at (Clears (merged_row rows places)) (λ k. not (has places k)) (insert_place rows places) (drop (insert_place rows places) rows) clear (r - insert_place rows places) r d (omega arith) within (not_true (has places r) out) in
+      let at = picked-at (Clears (merged_row rows places)) (λ k. not (has places k)) (insert_place rows places) (drop (insert_place rows places) rows) clear (r - insert_place rows places) r d (omega arith) within (not_from_false (has places r) out) in
       let back : insert_place rows places + (r - insert_place rows places) ≡ r = omega arith in
       subst (λ (b : Block). Misses b (get_or rows r d)) block_is
       (subst (λ i. Clears (merged_row rows places) (get_or rows i d)) back (subst (Clears (merged_row rows places)) (back_row (r - insert_place rows places) d within).1 at))

@@ -1,10 +1,10 @@
 // The insertion place of a merge, and the two checks.
 ghost use Rattle.std.specs.Prelude.{◌≡◌, ◌<◌, ◌≤◌, ◌^◌, ◌↔◌, IsTrue, length, All};
-ghost use Rattle.tern_word.specs.SoundTable.{Misses, IsSound};
+ghost use Rattle.tern_word.specs.SoundTable.{IsSound};
 ghost use Rattle.cover_checks.specs.Merge.{IsLegal, IsMergeSet, merged_block, place_for, insert_place, IsClear, PassesUp, PassesUpCheck, PassesDown, PassesDownCheck};
 
 use spin_base::Block;
-use tern_word::{Row, Table, generality, intersects, merge_two};
+use tern_word::{Row, Table, generality, merge_two, misses};
 
 /// The number of rows of lesser or equal generality than that of the merge of the rows at the places: the merge
 /// goes before the row at that place.
@@ -103,8 +103,8 @@ pub fn passes_up(rows: &[Row], places: &[u32], s: u32, p: u32) -> bool
     true
 }
 
-// Whether row `r` is of the set or its block meets no alias of row `s`.
-fn is_clear(rows: &[Row], places: &[u32], s: u32, r: u32) -> bool
+/// Whether row `r` is of the set or its block meets no alias of row `s`.
+pub fn is_clear(rows: &[Row], places: &[u32], s: u32, r: u32) -> bool
     requires row { r < length rows.now }
     requires member { s < length rows.now }
     ensures { IsTrue result ↔ IsClear rows.now places.now s r }
@@ -118,18 +118,6 @@ pub fn passes_down(rows: &[Row], block: Block, p: u32) -> bool
 {
     for r in p as usize..rows.len() {
         if !misses(block, &rows[r]) {
-            return false;
-        }
-    }
-    true
-}
-
-/// Whether the block meets no alias of the row.
-pub fn misses(block: Block, row: &Row) -> bool
-    ensures { IsTrue result ↔ Misses block row.now }
-{
-    for alias in row.aliases.as_slice() {
-        if intersects(block, alias.block) {
             return false;
         }
     }

@@ -10,9 +10,10 @@
 mod checking;
 
 pub use checking::{
-    down_check, insert_place, is_legal, merged_block, misses, passes_down, passes_up, place_for,
+    down_check, insert_place, is_clear, is_legal, merged_block, passes_down, passes_up, place_for,
     up_check,
 };
+pub use tern_word::misses;
 
 #[cfg(test)]
 mod tests;

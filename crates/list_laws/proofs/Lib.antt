@@ -5,5 +5,6 @@ pub mod Ascending
 pub mod Determined
 pub mod Counts
 pub mod Ranges
+pub mod Tests
 pub mod Gathering
 pub mod Exchange

@@ -1,12 +1,13 @@
 -- The live chips, as the table counts them.
-use Rattle.std.proofs.Common.{◌≡◌, ℕ, zero, suc, ◌+◌, ◌*◌, ◌<◌, Bool, false, not, ◌&&◌, cond, List, [], ◌∷◌, length, get_or, map, refl, sym, ap, ◌∙◌, subst, arith}
+use Rattle.std.proofs.Common.{◌≡◌, ℕ, zero, suc, ◌+◌, ◌*◌, ◌<◌, Bool, false, not, ◌&&◌, List, length, get_or, map, sym, ap, ◌∙◌, subst, arith}
 use Rattle.std.specs.List.{list_any, count_by, All}
 use Rattle.std.proofs.lemmas.List.{ext_get_or, get_or-map, length-map}
 use Rattle.std.proofs.lemmas.List.FromFn.{get_or-map-range_with_len, length-map-range_with_len}
-use Rattle.std.proofs.lemmas.List.Elements.{All-head, All-tail, All-from_get_or, All-weaker}
+use Rattle.std.proofs.lemmas.List.Elements.{All-from_get_or, All-weaker}
 use Rattle.std.proofs.lemmas.Nat.{div_below, mod_below, div-add-mod'}
-use Rattle.std.proofs.lemmas.List.Sums.{sum_by-cons}
 use Rattle.std.proofs.Math.Bool.{true-and}
+pub use Rattle.list_laws.proofs.Counts.{count_by-map}
+use Rattle.list_laws.proofs.Counts.{count_by-agree}
 use Rattle.spin_base.specs.declared.chips.Chip.{Chip}
 use Rattle.spin_base.specs.Equality.{chip_eq}
 use Rattle.machine_desc.specs.Description.{Description}
@@ -26,20 +27,6 @@ chip_of-inside m i h =
 pub index_of-chip_of : (m : Description) (i : ℕ) → index_of m (chip_of m i) ≡ i
 index_of-chip_of m i = div-add-mod' i m.height
 
-pub count_by-map : {A B : Type 0} (p : B → Bool) (f : A → B) (xs : List A) → count_by p (map f xs) ≡ count_by (λ x. p (f x)) xs
-count_by-map p f [] = refl
-count_by-map p f (x ∷ xs) =
-    sum_by-cons (λ b. cond (p b) 1 0) (f x) (map f xs)
-    ∙ (ap (λ n. cond (p (f x)) 1 0 + n) (count_by-map p f xs) ∙ sym (sum_by-cons (λ a. cond (p (f a)) 1 0) x xs))
-
-pub count_by_agree : {A : Type 0} (p q : A → Bool) (xs : List A) → All (λ x. p x ≡ q x) xs → count_by p xs ≡ count_by q xs
-count_by_agree p q [] h = refl
-count_by_agree p q (x ∷ xs) h =
-    let here : p x ≡ q x = All-head (λ y. p y ≡ q y) x xs h in
-    sum_by-cons (λ y. cond (p y) 1 0) x xs
-    ∙ (ap (λ b. cond b 1 0 + count_by p xs) here
-    ∙ (ap (λ n. cond (q x) 1 0 + n) (count_by_agree p q xs (All-tail (λ y. p y ≡ q y) x xs h)) ∙ sym (sum_by-cons (λ y. cond (q y) 1 0) x xs)))
-
 -- the chips of the grid are inside it
 pub grid_chips-inside : (m : Description) → All (IsInside m) (grid_chips m)
 grid_chips-inside m = All-from_get_or (IsInside m) (grid_chips m) (chip_of m 0)
@@ -56,7 +43,7 @@ pub live_counted : (m : Description) (table : List Bool) → length table ≡ m.
 live_counted m table long told =
     ap (λ t. count_by not t) same
     ∙ (count_by-map not (is_listed_dead m) (grid_chips m)
-    ∙ count_by_agree (λ c. not (is_listed_dead m c)) (is_live_chip m) (grid_chips m)
+    ∙ count_by-agree (λ c. not (is_listed_dead m c)) (is_live_chip m) (grid_chips m)
     (All-weaker (IsInside m) (λ c. not (is_listed_dead m c) ≡ is_live_chip m c)
     (λ c h. sym (ap (λ b. b && not (is_listed_dead m c)) h ∙ true-and (not (is_listed_dead m c)))) (grid_chips m) (grid_chips-inside m)))
   where

@@ -1,148 +1,130 @@
-ghost use Rattle.std.specs.Prelude.{◌≡◌, ◌<◌, ◌≤◌};
+ghost use Rattle.std.specs.Prelude.{◌≤◌};
 
-use crate::{Edge, Machine};
+use crate::{Edge, Machine, Tree};
 use spin_base::{Chip, Dir, Memory, Seq, Spot};
 use std::alloc::Global;
-use std::process::Abort;
 use std::test::Fail;
 
-fn chip(x: u8, y: u8) -> Chip {
-    Chip { x, y }
-}
-
-// A machine with one chip listed dead, twice, and core 3 of chip (0, 0) and one link listed dead.
-fn machine(
-    alloc: Global,
-    width: u8,
-    height: u8,
-    wrap: bool,
-    dead: Chip,
-    link: Edge,
-) -> Result<Machine, Memory>
-    requires width_from_one { 1 ≤ width }
-    requires width_to_64 { width ≤ 64 }
-    requires height_from_one { 1 ≤ height }
-    requires height_to_64 { height ≤ 64 }
-    requires chip_across { dead.x < width }
-    requires chip_up { dead.y < height }
-    requires link_across { link.chip.x < width }
-    requires link_up { link.chip.y < height }
+// A machine of height 3 on which chip (0, 1) is listed dead, twice, and core 3 and the West link of chip (0, 0).
+fn machine(alloc: Global, width: u8, wrap: bool) -> Result<Machine, Memory>
+    requires from_one { 1 ≤ width }
+    requires to_64 { width ≤ 64 }
 {
+    let origin = Chip { x: 0, y: 0 };
+    let dead = Chip { x: 0, y: 1 };
     let core = Spot {
-        chip: Chip { x: 0, y: 0 },
+        chip: origin,
         core: 3,
+    };
+    let link = Edge {
+        chip: origin,
+        dir: Dir::West,
     };
     let chips = Seq::from_vec(Vec::from_slice(alloc, &[dead, dead])?);
     let cores = Seq::from_vec(Vec::from_slice(alloc, &[core])?);
     let links = Seq::from_vec(Vec::from_slice(alloc, &[link])?);
-    Machine::new(
-        alloc,
-        width,
-        height,
-        wrap,
-        134_217_728,
-        &chips,
-        &cores,
-        &links,
-    )
+    Machine::new(alloc, width, 3, wrap, 1024, &chips, &cores, &links)
 }
 
-// The far end of a link of a chip inside the grid.
-fn far(rt: &impl Abort, machine: &Machine, c: Chip, d: Dir) -> Option<Chip> {
-    assert!(rt; c.x < machine.width() && c.y < machine.height());
-    machine.far(c, d)
+// The index of the chip to which a link of chip (0, 0) leads.
+fn far_index(machine: &Machine, link: Dir) -> Option<u32> {
+    let origin = Chip { x: 0, y: 0 };
+    if !machine.is_inside(origin) {
+        return None;
+    }
+    let far = machine.far(origin, link)?;
+    if !machine.is_inside(far) {
+        return None;
+    }
+    Some(machine.index(far))
+}
+
+// Whether a link is live, of the chip with that x in the lowest row.
+fn is_live(machine: &Machine, x: u8, link: Dir) -> bool {
+    machine.link_live(Chip { x, y: 0 }, link)
+}
+
+// Whether a core can be used, and whether its spot is a site.
+fn serves(machine: &Machine, x: u8, y: u8, core: u8) -> (bool, bool) {
+    let spot = Spot {
+        chip: Chip { x, y },
+        core,
+    };
+    (machine.usable(spot), machine.site(spot))
+}
+
+// What a copy of the machine says that it was made of.
+fn copied(alloc: Global, machine: &Machine) -> Result<(u8, u8, bool, u32, u32, usize), Memory> {
+    let copy = machine.copy(alloc)?;
+    copy.links_lead_back();
+    Ok((
+        copy.width(),
+        copy.height(),
+        copy.wrap(),
+        copy.sdram(),
+        copy.live_count(),
+        copy.chips(),
+    ))
+}
+
+// The chip of the last index.
+fn last_chip(machine: &Machine) -> Chip {
+    machine.chip_at((machine.chips() - 1) as u32)
 }
 
 #[test]
 fn links_lead_round_a_torus(rt: HostRuntime) -> Result<(), Fail> {
-    let link = Edge {
-        chip: Chip { x: 0, y: 0 },
-        dir: Dir::West,
-    };
-    let torus = machine(rt.alloc(), 2, 2, true, Chip { x: 1, y: 1 }, link)?;
-    assert_eq!(rt; far(&rt, &torus, chip(0, 0), Dir::East), Some(chip(1, 0)));
-    assert_eq!(rt; far(&rt, &torus, chip(0, 0), Dir::West), Some(chip(1, 0)));
-    assert_eq!(rt;
-        far(&rt, &torus, chip(0, 0), Dir::SouthWest),
-        Some(chip(1, 1))
-    );
-    let line = machine(rt.alloc(), 1, 3, true, Chip { x: 0, y: 1 }, link)?;
-    assert_eq!(rt; far(&rt, &line, chip(0, 0), Dir::East), None);
-    assert_eq!(rt; far(&rt, &line, chip(0, 0), Dir::South), Some(chip(0, 2)));
+    let torus = machine(rt.alloc(), 2, true)?;
+    assert_eq!(rt; far_index(&torus, Dir::West), Some(3));
+    assert_eq!(rt; far_index(&torus, Dir::SouthWest), Some(5));
+    Ok(())
+}
+
+#[test]
+fn a_link_that_leads_to_its_own_chip_leads_nowhere(rt: HostRuntime) -> Result<(), Fail> {
+    let ring = machine(rt.alloc(), 1, true)?;
+    assert_eq!(rt; far_index(&ring, Dir::East), None);
+    Ok(())
+}
+
+#[test]
+fn links_end_at_the_edge_of_an_open_grid(rt: HostRuntime) -> Result<(), Fail> {
+    let open = machine(rt.alloc(), 2, false)?;
+    assert_eq!(rt; far_index(&open, Dir::NorthEast), Some(4));
+    assert_eq!(rt; far_index(&open, Dir::South), None);
     Ok(())
 }
 
 #[test]
 fn a_link_listed_at_one_end_is_dead_at_both(rt: HostRuntime) -> Result<(), Fail> {
-    let link = Edge {
-        chip: Chip { x: 0, y: 0 },
-        dir: Dir::West,
-    };
-    let torus = machine(rt.alloc(), 2, 2, true, Chip { x: 1, y: 1 }, link)?;
-    assert_eq!(rt; torus.link_live(chip(0, 0), Dir::West), false);
-    assert_eq!(rt; torus.link_live(chip(1, 0), Dir::East), false);
-    assert_eq!(rt; torus.link_live(chip(0, 0), Dir::East), true);
-    assert_eq!(rt; torus.link_live(chip(1, 0), Dir::West), true);
+    let torus = machine(rt.alloc(), 2, true)?;
+    assert!(rt; !is_live(&torus, 0, Dir::West));
+    assert!(rt; !is_live(&torus, 1, Dir::East));
+    assert!(rt; is_live(&torus, 1, Dir::West));
     Ok(())
 }
 
 #[test]
-fn links_end_at_the_edge_of_an_open_grid_and_at_dead_chips(rt: HostRuntime) -> Result<(), Fail> {
-    let link = Edge {
-        chip: Chip { x: 2, y: 1 },
-        dir: Dir::East,
-    };
-    let open = machine(rt.alloc(), 3, 2, false, Chip { x: 1, y: 0 }, link)?;
-    assert_eq!(rt;
-        far(&rt, &open, chip(1, 1), Dir::SouthWest),
-        Some(chip(0, 0))
-    );
-    assert_eq!(rt; far(&rt, &open, chip(1, 1), Dir::North), None);
-    assert_eq!(rt; far(&rt, &open, chip(0, 1), Dir::West), None);
-    assert_eq!(rt; open.live(chip(1, 0)), false);
-    assert_eq!(rt; open.live(chip(3, 0)), false);
-    assert_eq!(rt; open.link_live(chip(0, 0), Dir::East), false);
-    assert_eq!(rt; open.link_live(chip(0, 0), Dir::NorthEast), true);
+fn sites_are_usable_cores_and_dead_links(rt: HostRuntime) -> Result<(), Fail> {
+    let torus = machine(rt.alloc(), 2, true)?;
+    assert_eq!(rt; serves(&torus, 0, 0, 3), (false, false));
+    assert_eq!(rt; serves(&torus, 1, 0, 17), (true, true));
+    assert_eq!(rt; serves(&torus, 0, 0, 21), (false, true));
     Ok(())
 }
 
 #[test]
-fn core_zero_and_listed_cores_are_not_usable(rt: HostRuntime) -> Result<(), Fail> {
-    let link = Edge {
-        chip: Chip { x: 2, y: 1 },
-        dir: Dir::East,
-    };
-    let open = machine(rt.alloc(), 3, 2, false, Chip { x: 1, y: 0 }, link)?;
-    let spot = |x, y, core| Spot {
-        chip: Chip { x, y },
-        core,
-    };
-    assert_eq!(rt; open.usable(spot(1, 0, 1)), false);
-    assert_eq!(rt; open.usable(spot(0, 0, 3)), false);
-    assert_eq!(rt; open.usable(spot(0, 1, 0)), false);
-    assert_eq!(rt; open.usable(spot(0, 1, 17)), true);
-    assert_eq!(rt; open.usable(spot(0, 1, 18)), false);
+fn a_copy_tells_what_the_machine_was_made_of(rt: HostRuntime) -> Result<(), Fail> {
+    let torus = machine(rt.alloc(), 2, true)?;
+    assert_eq!(rt; copied(rt.alloc(), &torus)?, (2, 3, true, 1024, 5, 6));
+    assert_eq!(rt; last_chip(&torus), Chip { x: 1, y: 2 });
     Ok(())
 }
 
-#[test]
-fn a_machine_tells_what_it_was_made_of(rt: HostRuntime) -> Result<(), Fail> {
-    let link = Edge {
-        chip: Chip { x: 0, y: 0 },
-        dir: Dir::West,
-    };
-    let machine = machine(rt.alloc(), 64, 8, true, Chip { x: 63, y: 7 }, link)?;
-    assert_eq!(rt; machine.width(), 64);
-    assert_eq!(rt; machine.height(), 8);
-    assert_eq!(rt; machine.wrap(), true);
-    assert_eq!(rt; machine.sdram(), 134_217_728);
-    assert_eq!(rt; machine.live_count(), 511);
-    let last = chip(63, 7);
-    assert!(rt; last.x < machine.width() && last.y < machine.height());
-    assert_eq!(rt; machine.index(last), 511);
-    machine.links_lead_back();
-    goes_between_threads(&machine);
-    Ok(())
+// Workers are lent machines and trees.
+fn are_lent(machine: &Machine, tree: &Tree) {
+    goes_between_threads(machine);
+    goes_between_threads(tree);
 }
 
 fn goes_between_threads<T: Send + Sync>(_: &T) {}

@@ -2,7 +2,7 @@
 use machine_desc::Tree;
 use spin_base::{Block, Seq, Spot};
 
-/// What a net needs on the machine: its keys, the core that sends, the cores that receive, and the tree between.
+/// What a net needs on the machine: its keys, the core that sends, the cores and devices that receive, and the tree between.
 /// Targets are different, and in order of x, then y, then core.
 #[derive(Debug, Drop)]
 pub struct NetPlan {

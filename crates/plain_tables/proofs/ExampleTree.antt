@@ -1,8 +1,9 @@
 -- The nets of the example have what plain tables ask.
-use Rattle.std.proofs.Common.{◌≡◌, ◌≢◌, zero, suc, ◌<◌, List, [], ◌∷◌, map, Some, refl, sym, ap, ◌∙◌, arith, inl, inr, ◌⊎◌}
+use Rattle.std.proofs.Common.{◌≡◌, ◌≢◌, ◌<◌, List, [], ◌∷◌, map, Some, refl, sym, ap, ◌∙◌, arith, inl, inr, ◌⊎◌}
 use Rattle.std.specs.List.{All, Any, Contains}
 use Rattle.std.proofs.lemmas.List.Elements.{All-from_recursion}
 use Rattle.std.proofs.lemmas.List.Kept.{AllPairs-cons}
+use Rattle.list_laws.proofs.Members.{Contains-only}
 use Rattle.spin_base.specs.declared.chips.Chip.{Chip}
 use Rattle.spin_base.specs.declared.chips.Spot.{Spot}
 use Rattle.spin_base.specs.declared.blocks.Block.{Block}
@@ -17,14 +18,10 @@ use Rattle.plain_tables.specs.PlainTable.{AreRouted}
 left_is_not_right : left ≢ right
 left_is_not_right e = let f : 0 ≡ 1 = ap (λ (c : Chip). c.x) e in absurd (omega (arith, f))
 
-one_item : {X : Type 0} (x y : X) → Contains (x ∷ []) y → x ≡ y
-one_item x y (zero, below, is) = is
-one_item x y (suc k, below, is) = absurd (omega (arith, below))
-
 chips_of_tree : (c : Chip) → IsTreeChip board left (east ∷ []) c → (c ≡ left) ⊎ (c ≡ right)
 chips_of_tree c (inl at) = inl at
 chips_of_tree c (inr e) =
-    let same : east ≡ e.1 = one_item east e.1 (e.0, e.2, e.3) in
+    let same : east ≡ e.1 = Contains-only east e.1 (e.0, e.2, e.3) in
     let ends : Some right ≡ Some c = ap (end_of board) same ∙ e.4 in
     inr (sym (cc ends))
 

@@ -1,7 +1,6 @@
 pub mod ExampleTree
 pub mod Marking
 pub mod Ordering
-pub mod Permuting
 pub mod Taking
 pub mod Telling
 pub mod Trees

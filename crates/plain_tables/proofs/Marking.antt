@@ -1,6 +1,6 @@
 -- Lists of original blocks, as they grow net by net.
 use Rattle.std.proofs.Common.{◌≡◌, ℕ, ◌+◌, ◌<◌, List, [], ◌∷◌, ◌++◌, length, get_or, take, map, refl, sym, ap, ◌∙◌, subst, inl, inr}
-use Rattle.std.proofs.lemmas.List.{take_more}
+use Rattle.std.proofs.lemmas.List.{map_push, take_more}
 use Rattle.spin_base.specs.declared.chips.Chip.{Chip}
 use Rattle.machine_desc.specs.Description.{Description}
 use Rattle.net_tables.specs.declared.nets.NetPlan.{NetPlan}
@@ -23,14 +23,10 @@ originals_skip m c (n ∷ nets) net os off (inl mine) =
     inl (mine.0, mine.1, mine.2, mine.3, mine.4, originals_skip m c nets net mine.3 off mine.5)
 originals_skip m c (n ∷ nets) net os off (inr none) = inr (none.0, originals_skip m c nets net os off none.1)
 
-map_push : (ks : List Mark) (k : Mark) → map original_of (ks ++ k ∷ []) ≡ map original_of ks ++ original_of k ∷ []
-map_push [] k = refl
-map_push (x ∷ ks) k = ap (λ l. original_of x ∷ l) (map_push ks k)
-
 originals_grown : (m : Description) (c : Chip) (nets : List NetPlan) (net : NetPlan) (before after : List Mark) →
     Grows m net c before after → AreOriginals m c nets (map original_of before) → AreOriginals m c (nets ++ net ∷ []) (map original_of after)
 originals_grown m c nets net before after (inl on) so_far =
-    subst (AreOriginals m c (nets ++ net ∷ [])) (sym (ap (map original_of) on.3 ∙ map_push before on.1))
+    subst (AreOriginals m c (nets ++ net ∷ [])) (sym (ap (map original_of) on.3 ∙ map_push original_of before on.1))
     (originals_push m c nets net (map original_of before) (original_of on.1) on.0 on.2 so_far)
 originals_grown m c nets net before after (inr off) so_far =
     subst (AreOriginals m c (nets ++ net ∷ [])) (sym (ap (map original_of) off.1))

@@ -1,13 +1,15 @@
 -- What tables are, once each has a row for each original block of its chip.
-use Rattle.std.proofs.Common.{◌≡◌, ℕ, zero, suc, ◌*◌, ◌<◌, ◌≤◌, ◌==◌, true, Bool, cond, bit_and, List, [], ◌∷◌, ◌++◌, length, get_or, map, find, Some, refl, sym, ap, ◌∙◌, subst, arith, inl, inr, ◌⊎◌}
+use Rattle.std.proofs.Common.{◌≡◌, ℕ, zero, suc, ◌*◌, ◌<◌, ◌≤◌, true, Bool, cond, bit_and, List, [], ◌∷◌, ◌++◌, length, get_or, map, find, Some, refl, sym, ap, ◌∙◌, subst, arith, inl, inr}
 use Rattle.std.specs.Option.{option_map_or}
 use Rattle.std.specs.List.{All, AllPairs, AllZip, Contains, slice_get, slice_index_or}
 use Rattle.std.specs.List.Sorted.{IsPermutation}
-use Rattle.std.proofs.lemmas.Bool.{cases_Bool, cases_eq, cases_lt, false≢true}
-use Rattle.std.proofs.lemmas.List.{append-nil}
-use Rattle.std.proofs.lemmas.List.Elements.{All-nil, All-cons}
+use Rattle.std.proofs.lemmas.Bool.{cases_Bool, cases_eq, cases_lt, eqb-true, eq-eqb, false≢true}
+use Rattle.std.proofs.lemmas.List.{append-nil, length-map}
+use Rattle.std.proofs.lemmas.List.Elements.{All-nil, All-cons, All-head, All-tail}
 use Rattle.std.proofs.lemmas.List.Kept.{AllPairs-cons}
-use Rattle.std.proofs.lemmas.List.Sorted.{IsPermutation-map, IsPermutation-sym, Contains-permutation}
+use Rattle.std.proofs.lemmas.List.Sorted.{IsPermutation-map, length_permutation, IsPermutation-sym, Contains-permutation}
+use Rattle.list_laws.proofs.Members.{Contains-none, Contains-first, Contains-later, Contains-cases, Contains-map, Contains-unmap}
+use Rattle.list_laws.proofs.Pairs.{AllPairs-head, AllPairs-tail, AllPairs-map, AllPairs-from_map, AllPairs-permutation}
 use Rattle.spin_base.specs.declared.chips.Chip.{Chip}
 use Rattle.spin_base.specs.declared.chips.Port.{Port}
 use Rattle.spin_base.specs.declared.routes.Out.{Out}
@@ -31,8 +33,6 @@ use Rattle.tern_word.proofs.BlockLaws.{Intersects-sym}
 use Rattle.plain_tables.specs.declared.marks.Mark.{Mark}
 use Rattle.plain_tables.specs.PlainTable.{HasChip, IsOriginalOf, AreOriginals, IsNotAfter, IsPlainTable, ServesOriginals, AtEach, AreRouted, row_of, entry_of, entries}
 use Rattle.plain_tables.specs.Marks.{original_of, row_at, IsTableOf}
-use Rattle.plain_tables.proofs.Ordering.{pairs_map, pairs_unmap}
-use Rattle.plain_tables.proofs.Permuting.{pairs_permutation}
 use Rattle.plain_tables.proofs.Trees.{chips_inside, comes_in_tree}
 
 -- ---- lists
@@ -44,45 +44,6 @@ map_twice (k ∷ ks) = ap (λ l. row_at k ∷ l) (map_twice ks)
 entries_twice : (ks : List Mark) → map entry_of (map row_at ks) ≡ map (λ (k : Mark). entry_of (row_at k)) ks
 entries_twice [] = refl
 entries_twice (k ∷ ks) = ap (λ l. entry_of (row_at k) ∷ l) (entries_twice ks)
-
-later : {X : Type 0} (x : X) (xs : List X) (y : X) → Contains xs y → Contains (x ∷ xs) y
-later x xs y (k, below, is) = (suc k, omega (arith, below), is)
-
-first : {X : Type 0} (x : X) (xs : List X) → Contains (x ∷ xs) x
-first x xs = (0, omega arith, refl)
-
-contains_cases : {X : Type 0} (x : X) (xs : List X) (y : X) → Contains (x ∷ xs) y → (x ≡ y) ⊎ Contains xs y
-contains_cases x xs y (zero, below, is) = inl is
-contains_cases x xs y (suc k, below, is) = inr (k, omega (arith, below), is)
-
-none_in : {X : Type 0} {y : X} → Contains [] y → ⊥
-none_in (k, below, is) = omega (arith, below)
-
-contains_map : (ks : List Mark) (k : Mark) → Contains ks k → Contains (map original_of ks) (original_of k)
-contains_map [] k has = absurd (none_in has)
-contains_map (x ∷ ks) k has = elim (contains_cases x ks k has) [
-  | inl is ↦ subst (λ (y : Mark). Contains (map original_of (x ∷ ks)) (original_of y)) is (first (original_of x) (map original_of ks))
-  | inr rest ↦ later (original_of x) (map original_of ks) (original_of k) (contains_map ks k rest)
-]
-
-contains_unmap : (ks : List Mark) (o : Original) → Contains (map original_of ks) o → (k : Mark) × Contains ks k × (original_of k ≡ o)
-contains_unmap [] o has = absurd (none_in has)
-contains_unmap (x ∷ ks) o has = elim (contains_cases (original_of x) (map original_of ks) o has) [
-  | inl is ↦ (x, first x ks, is)
-  | inr rest ↦ let found = contains_unmap ks o rest in (found.0, later x ks found.0 found.1, found.2)
-]
-
-pairs_tail : {X : Type 0} (R : X → X → Type 0) (x : X) (xs : List X) → AllPairs R (x ∷ xs) → AllPairs R xs
-pairs_tail R x xs pairs i j d less below = pairs (suc i) (suc j) d (omega (arith, less)) (omega (arith, below))
-
-pairs_head : {X : Type 0} (R : X → X → Type 0) (x : X) (xs : List X) → AllPairs R (x ∷ xs) → All (R x) xs
-pairs_head R x xs pairs k d below = pairs 0 (suc k) d (omega arith) (omega (arith, below))
-
-all_head : {X : Type 0} (P : X → Type 0) (x : X) (xs : List X) → All P (x ∷ xs) → P x
-all_head P x xs all = all 0 x (omega arith)
-
-all_tail : {X : Type 0} (P : X → Type 0) (x : X) (xs : List X) → All P (x ∷ xs) → All P xs
-all_tail P x xs all k d below = all (suc k) d (omega (arith, below))
 
 -- the list beside the table of a place
 table_of_list : (lists : List (List Mark)) (tables : List Table) → AllZip IsTableOf lists tables → (i : ℕ) (t : Table) → slice_get tables i ≡ Some t →
@@ -113,9 +74,9 @@ module _ (m : Description) (c : Chip) where
   all_originals P [] os are all = subst (All (λ (o : Original). P o.block)) (sym are) (All-nil (λ (o : Original). P o.block))
   all_originals P (n ∷ nets) os (inl on) all =
       subst (All (λ (o : Original). P o.block)) (sym on.4)
-      (All-cons (λ (o : Original). P o.block) on.1 on.3 (subst P (sym on.2.keys) (all_head (λ (n : NetPlan). P n.block) n nets all))
-      (all_originals P nets on.3 on.5 (all_tail (λ (n : NetPlan). P n.block) n nets all)))
-  all_originals P (n ∷ nets) os (inr off) all = all_originals P nets os off.1 (all_tail (λ (n : NetPlan). P n.block) n nets all)
+      (All-cons (λ (o : Original). P o.block) on.1 on.3 (subst P (sym on.2.keys) (All-head (λ (n : NetPlan). P n.block) n nets all))
+      (all_originals P nets on.3 on.5 (All-tail (λ (n : NetPlan). P n.block) n nets all)))
+  all_originals P (n ∷ nets) os (inr off) all = all_originals P nets os off.1 (All-tail (λ (n : NetPlan). P n.block) n nets all)
 
   originals_apart : (nets : List NetPlan) (os : List Original) → AreOriginals m c nets os → AllPairs (λ (a b : NetPlan). ¬ (Intersects a.block b.block)) nets →
       AllPairs (λ (a b : Original). ¬ (Intersects a.block b.block)) os
@@ -124,27 +85,27 @@ module _ (m : Description) (c : Chip) where
       subst (AllPairs (λ (a b : Original). ¬ (Intersects a.block b.block))) (sym on.4)
       (AllPairs-cons (λ (a b : Original). ¬ (Intersects a.block b.block)) on.1 on.3
       (all_originals (λ (b : Block). ¬ (Intersects on.1.block b)) nets on.3 on.5
-      (subst (λ (a : Block). All (λ (k : NetPlan). ¬ (Intersects a k.block)) nets) (sym on.2.keys) (pairs_head (λ (a b : NetPlan). ¬ (Intersects a.block b.block)) n nets pairs)))
-      (originals_apart nets on.3 on.5 (pairs_tail (λ (a b : NetPlan). ¬ (Intersects a.block b.block)) n nets pairs)))
-  originals_apart (n ∷ nets) os (inr off) pairs = originals_apart nets os off.1 (pairs_tail (λ (a b : NetPlan). ¬ (Intersects a.block b.block)) n nets pairs)
+      (subst (λ (a : Block). All (λ (k : NetPlan). ¬ (Intersects a k.block)) nets) (sym on.2.keys) (AllPairs-head (λ (a b : NetPlan). ¬ (Intersects a.block b.block)) n nets pairs)))
+      (originals_apart nets on.3 on.5 (AllPairs-tail (λ (a b : NetPlan). ¬ (Intersects a.block b.block)) n nets pairs)))
+  originals_apart (n ∷ nets) os (inr off) pairs = originals_apart nets os off.1 (AllPairs-tail (λ (a b : NetPlan). ¬ (Intersects a.block b.block)) n nets pairs)
 
   -- each net whose tree has the chip has an original block there
   has_original : (nets : List NetPlan) (os : List Original) → AreOriginals m c nets os → (i : ℕ) (d : NetPlan) → i < length nets → HasChip m (get_or nets i d) c →
       (o : Original) × Contains os o × IsOriginalOf m (get_or nets i d) c o
   has_original [] os are i d below on = absurd (omega (arith, below))
   has_original (n ∷ nets) os (inl mine) zero d below on =
-      (mine.1, subst (λ (l : List Original). Contains l mine.1) (sym mine.4) (first mine.1 mine.3), mine.2)
+      (mine.1, subst (λ (l : List Original). Contains l mine.1) (sym mine.4) (Contains-first mine.1 mine.3), mine.2)
   has_original (n ∷ nets) os (inr off) zero d below on = absurd (off.0 on)
   has_original (n ∷ nets) os (inl mine) (suc i) d below on =
       let rest = has_original nets mine.3 mine.5 i d (omega (arith, below)) on in
-      (rest.0, subst (λ (l : List Original). Contains l rest.0) (sym mine.4) (later mine.1 mine.3 rest.0 rest.1), rest.2)
+      (rest.0, subst (λ (l : List Original). Contains l rest.0) (sym mine.4) (Contains-later mine.1 mine.3 rest.0 rest.1), rest.2)
   has_original (n ∷ nets) os (inr off) (suc i) d below on = has_original nets os off.1 i d (omega (arith, below)) on
 
   -- and each original block is some net's
   from_net : (nets : List NetPlan) (os : List Original) → AreOriginals m c nets os → (o : Original) → Contains os o →
       (j : ℕ) × (j < length nets) × ((d : NetPlan) → IsOriginalOf m (get_or nets j d) c o)
-  from_net [] os are o has = absurd (none_in (subst (λ (l : List Original). Contains l o) are has))
-  from_net (n ∷ nets) os (inl on) o has = elim (contains_cases on.1 on.3 o (subst (λ (l : List Original). Contains l o) on.4 has)) [
+  from_net [] os are o has = absurd (Contains-none o (subst (λ (l : List Original). Contains l o) are has))
+  from_net (n ∷ nets) os (inl on) o has = elim (Contains-cases on.1 on.3 o (subst (λ (l : List Original). Contains l o) on.4 has)) [
     | inl is ↦ (0, omega arith, λ d. subst (IsOriginalOf m n c) is on.2)
     | inr rest ↦ let found = from_net nets on.3 on.5 o rest in (suc found.0, omega (arith, found.1), found.2)
   ]
@@ -170,7 +131,23 @@ each_holds : (ks : List Mark) → All HoldsItsAliases (map row_at ks)
 each_holds [] = All-nil HoldsItsAliases
 each_holds (k ∷ ks) = All-cons HoldsItsAliases (row_at k) (map row_at ks) (holds_own k) (each_holds ks)
 
+few_originals : (m : Description) (c : Chip) (nets : List NetPlan) (os : List Original) → AreOriginals m c nets os → length os ≤ length nets
+few_originals m c [] os are = let none : length os ≡ 0 = ap length are in omega (arith, none)
+few_originals m c (n ∷ nets) os (inl on) =
+    let rest : length on.3 ≤ length nets = few_originals m c nets on.3 on.5 in
+    let long : length os ≡ suc (length on.3) = ap length on.4 in
+    omega (arith, rest, long)
+few_originals m c (n ∷ nets) os (inr off) = let rest : length os ≤ length nets = few_originals m c nets os off.1 in omega (arith, rest)
+
 module _ (m : Description) (nets : List NetPlan) (c : Chip) (marks : List Mark) (t : Table) (are : AreOriginals m c nets (map original_of marks)) (is : IsTableOf marks t) where
+  pub few_rows : length t.rows ≤ length nets
+  few_rows =
+      let few : length (map original_of marks) ≤ length nets = few_originals m c nets (map original_of marks) are in
+      let many : length (map original_of marks) ≡ length marks = length-map marks original_of in
+      let same : length marks ≡ length is.sorted = sym (length_permutation marks is.sorted is.same) in
+      let long : length t.rows ≡ length is.sorted = ap length is.rows_are ∙ length-map is.sorted row_at in
+      omega (arith, few, many, same, long)
+
   pub is_plain : IsPlainTable m nets c t.rows
   is_plain = record {
     originals = map original_of marks;
@@ -191,14 +168,14 @@ module _ (m : Description) (nets : List NetPlan) (c : Chip) (marks : List Mark) 
   pub is_sound : AllPairs (λ (a b : NetPlan). ¬ (Intersects a.block b.block)) nets → IsSound t.rows
   is_sound apart =
       let on_marks : AllPairs (λ (a b : Mark). ¬ (Intersects a.block b.block)) marks =
-      pairs_unmap original_of (λ (a b : Original). ¬ (Intersects a.block b.block)) marks (originals_apart m c nets (map original_of marks) are apart) in
+      AllPairs-from_map original_of (λ (a b : Original). ¬ (Intersects a.block b.block)) marks (originals_apart m c nets (map original_of marks) are apart) in
       let on_sorted : AllPairs (λ (a b : Mark). ¬ (Intersects a.block b.block)) is.sorted =
-      pairs_permutation (λ (a b : Mark). ¬ (Intersects a.block b.block)) (λ a b none meet. none (Intersects-sym b.block a.block meet)) marks is.sorted is.same on_marks in
+      AllPairs-permutation (λ (a b : Mark). ¬ (Intersects a.block b.block)) (λ a b none meet. none (Intersects-sym b.block a.block meet)) marks is.sorted is.same on_marks in
       record {
         ordered = λ i j d less below. not_after (get_or t.rows i d) (get_or t.rows j d) (is.in_order i j d less below);
         inside = subst (All HoldsItsAliases) (sym is.rows_are) (each_holds is.sorted);
         unmet = subst (AllPairs (λ (r s : Row). Misses r.block s)) (sym is.rows_are)
-            (pairs_map row_at (λ (a b : Mark). ¬ (Intersects a.block b.block)) (λ (r s : Row). Misses r.block s) (λ a b none. misses_other a b none) is.sorted on_sorted);
+            (AllPairs-map row_at (λ (a b : Mark). ¬ (Intersects a.block b.block)) (λ (r s : Row). Misses r.block s) (λ a b none. misses_other a b none) is.sorted on_sorted);
       }
 
 -- ---- lookup
@@ -210,24 +187,18 @@ found : (key : ℕ) (o : Out) (other : Route) (w : Bool) (rest : List Entry) (ks
     ((k : Mark) → Contains ks k → matches (entry_at k) key ≡ true → has k.route o ≡ w) →
     has (option_map_or (λ (e : Entry). e.route) (find (λ (e : Entry). matches e key) (map entry_at ks ++ rest)) other) o ≡ w
 unfolding entry_at
-found key o other w rest [] x there hit each = absurd (none_in there)
+found key o other w rest [] x there hit each = absurd (Contains-none x there)
 found key o other w rest (k ∷ ks) x there hit each = elim (cases_Bool (matches (entry_at k) key)) [
   | inl mine ↦
       ap (λ b. has (option_map_or (λ (e : Entry). e.route) (cond b (Some (entry_at k)) (find (λ (e : Entry). matches e key) (map entry_at ks ++ rest))) other) o) mine
-      ∙ each k (first k ks) mine
+      ∙ each k (Contains-first k ks) mine
   | inr not_mine ↦
       ap (λ b. has (option_map_or (λ (e : Entry). e.route) (cond b (Some (entry_at k)) (find (λ (e : Entry). matches e key) (map entry_at ks ++ rest))) other) o) not_mine
-      ∙ found key o other w rest ks x (elim (contains_cases k ks x there) [
+      ∙ found key o other w rest ks x (elim (Contains-cases k ks x there) [
         | inl is ↦ absurd (false≢true (sym not_mine ∙ (ap (λ (y : Mark). matches (entry_at y) key) is ∙ hit)))
         | inr after ↦ after
-      ]) hit (λ l has_l. each l (later k ks l has_l))
+      ]) hit (λ l has_l. each l (Contains-later k ks l has_l))
 ]
-
-nat_same : (a b : ℕ) → a ≡ b → (a == b) ≡ true
-nat_same a b same = grind arith
-
-same_nat : (a b : ℕ) → (a == b) ≡ true → a ≡ b
-same_nat a b same = grind arith
 
 module _ (m : Description) (nets : List NetPlan) (c : Chip) (marks : List Mark) (t : Table) (are : AreOriginals m c nets (map original_of marks)) (is : IsTableOf marks t)
     (apart : AllPairs (λ (a b : NetPlan). ¬ (Intersects a.block b.block)) nets) where
@@ -248,19 +219,19 @@ module _ (m : Description) (nets : List NetPlan) (c : Chip) (marks : List Mark) 
       let net : NetPlan = get_or nets i d in
       let w : Bool = is_wanted net.tree.edges net.targets c o in
       let mine = has_original m c nets (map original_of marks) are i d i_in on in
-      let mark = contains_unmap marks mine.0 mine.1 in
+      let mark = Contains-unmap original_of marks mine.0 mine.1 in
       let there : Contains is.sorted mark.0 = Contains-permutation marks is.sorted mark.0 is.same mark.1 in
       let block_is : mark.0.block ≡ net.block = ap (λ (x : Original). x.block) mark.2 ∙ mine.2.keys in
-      let hit : matches (entry_at mark.0) key ≡ true = nat_same (bit_and key mark.0.block.mask) mark.0.block.key
+      let hit : matches (entry_at mark.0) key ≡ true = eq-eqb (bit_and key mark.0.block.mask) mark.0.block.key
       (ap (λ (b : Block). bit_and key b.mask) block_is ∙ (k.matches ∙ sym (ap (λ (b : Block). b.key) block_is))) in
       let each : (l : Mark) → Contains is.sorted l → matches (entry_at l) key ≡ true → has l.route o ≡ w =
       (λ l l_in l_hit.
       let back : Contains marks l = Contains-permutation is.sorted marks l (IsPermutation-sym marks is.sorted is.same) l_in in
-      let from = from_net m c nets (map original_of marks) are (original_of l) (contains_map marks l back) in
+      let from = from_net m c nets (map original_of marks) are (original_of l) (Contains-map original_of marks l back) in
       let its = from.2 d in
       let its_key : IsKeyOf (get_or nets from.0 d).block key = record {
         fits = k.fits;
-        matches = ap (λ (b : Block). bit_and key b.mask) (sym its.keys) ∙ (same_nat (bit_and key l.block.mask) l.block.key l_hit ∙ ap (λ (b : Block). b.key) its.keys);
+        matches = ap (λ (b : Block). bit_and key b.mask) (sym its.keys) ∙ (eqb-true (bit_and key l.block.mask) l.block.key l_hit ∙ ap (λ (b : Block). b.key) its.keys);
       } in
       let same : from.0 ≡ i = one_net from.0 i d key from.1 i_in its_key k in
       its.outputs o valid ∙ ap (λ n. is_wanted (get_or nets n d).tree.edges (get_or nets n d).targets c o) same) in
@@ -284,6 +255,10 @@ module _ (m : Description) (nets : List NetPlan) (lists : List (List Mark)) (tab
   pub all_serve : AtEach m tables (ServesOriginals m nets)
   all_serve c t inside at =
       serves_them m nets c (get_or lists (index_of m c) []) t (gathered c inside) (table_of_list lists tables each (index_of m c) t at)
+
+  pub all_few : AtEach m tables (λ c rows. length rows ≤ length nets)
+  all_few c t inside at =
+      few_rows m nets c (get_or lists (index_of m c) []) t (gathered c inside) (table_of_list lists tables each (index_of m c) t at)
 
   pub all_sound : AtEach m tables (λ c rows. IsSound rows)
   all_sound c t inside at =

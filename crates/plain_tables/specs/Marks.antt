@@ -1,5 +1,5 @@
 -- What one net wants of each chip, by the chip's index, and the rows that follow.
-use Rattle.std.specs.Prelude.{◌≡◌, ℕ, ◌+◌, ◌*◌, ◌<◌, ◌⊎◌, List, [], ◌∷◌, ◌++◌, Option, Some, None, All, AllPairs, length, map, slice_index_or}
+use Rattle.std.specs.Prelude.{◌≡◌, ℕ, ◌*◌, ◌<◌, ◌⊎◌, List, [], ◌∷◌, ◌++◌, Option, Some, None, All, AllPairs, length, map, slice_index_or}
 use Rattle.std.specs.List.Sorted.{IsPermutation}
 use Rattle.spin_base.specs.declared.chips.Chip.{Chip}
 use Rattle.spin_base.specs.declared.chips.Port.{Port}
@@ -63,9 +63,9 @@ Grows m net c before after =
     (HasChip m net c × (k : Mark) × IsOriginalOf m net c (original_of k) × (after ≡ before ++ k ∷ []))
     ⊎ ((HasChip m net c → ⊥) × (after ≡ before))
 
--- the place of a block in the order of rows: by generality, then by key
-abbrev pub rank : Block → ℕ
-rank b = generality b * 4294967296 + b.key
+-- the numbers by which rows are ordered: the block's generality, then its key
+abbrev pub numbers_of : Mark → ℕ × ℕ
+numbers_of k = (generality k.block, k.block.key)
 
 -- the row of an original block
 abbrev pub row_at : Mark → Row

@@ -14,6 +14,7 @@ use Rattle.net_tables.specs.Outputs.{is_wanted, ComesIn}
 use Rattle.tern_word.specs.declared.tables.Row.{Row}
 use Rattle.tern_word.specs.declared.tables.Table.{Table}
 use Rattle.tern_word.specs.Ternary.{Intersects, generality}
+pub use Rattle.tern_word.specs.Entries.{entry_of}
 use Rattle.tern_word.specs.SoundTable.{Original, Serves}
 
 -- the chip is one of the net's tree
@@ -68,8 +69,5 @@ pub record AreRouted (m : Description) (nets : List NetPlan) : Type 0 where
   pub apart : AllPairs (λ (a b : NetPlan). ¬ (Intersects a.block b.block)) nets
 
 -- the entries of a table's rows, in order
-abbrev pub entry_of : Row → Entry
-entry_of r = record { key = r.block.key; mask = r.block.mask; route = r.route }
-
 abbrev pub entries : Table → List Entry
 entries t = map entry_of t.rows

@@ -1,5 +1,5 @@
 // The plain tables of all chips.
-ghost use Rattle.std.specs.Prelude.{◌≡◌, ◌*◌, ◌++◌, List, IfOk, length, map};
+ghost use Rattle.std.specs.Prelude.{◌≡◌, ◌*◌, ◌≤◌, ◌++◌, List, IfOk, length, map};
 ghost use Rattle.net_tables.specs.RightTables.{AreRight};
 ghost use Rattle.spin_base.specs.declared.blocks.Entry.{Entry};
 ghost use Rattle.tern_word.specs.declared.tables.Table.{Table};
@@ -26,6 +26,7 @@ pub fn plain_tables(
     requires { AreRouted machine.now nets.now }
     ensures long { IfOk result (λ ts. length ts ≡ machine.now.width * machine.now.height) }
     ensures plain { IfOk result (λ ts. AtEach machine.now ts (IsPlainTable machine.now nets.now)) }
+    ensures few { IfOk result (λ ts. AtEach machine.now ts (λ c rows. length rows ≤ length nets.now)) }
     ensures sound { IfOk result (λ ts. AtEach machine.now ts (λ c rows. IsSound rows)) }
     ensures serves { IfOk result (λ ts. AtEach machine.now ts (ServesOriginals machine.now nets.now)) }
     ensures right { IfOk result (λ ts. AreRight machine.now (map entries ts) nets.now) }

@@ -1,12 +1,12 @@
 // The rows of original blocks, in order.
 ghost use Rattle.std.specs.Prelude.{◌≡◌, map, IfOk, OnOk};
-ghost use Rattle.std.specs.List.{AllZip};
-ghost use Rattle.std.specs.List.Sorted.{IsPermutation, IsNonDecreasingBy};
-ghost use Rattle.plain_tables.specs.PlainTable.{row_of};
-ghost use Rattle.plain_tables.specs.Marks.{original_of, row_at, rank, IsTableOf};
+ghost use Rattle.std.specs.List.{AllZip, AllPairs};
+ghost use Rattle.std.specs.List.Sorted.{IsPermutation};
+ghost use Rattle.plain_tables.specs.PlainTable.{row_of, IsNotAfter};
+ghost use Rattle.plain_tables.specs.Marks.{original_of, row_at, IsTableOf};
 
 use crate::marks::Mark;
-use spin_base::{Block, Memory, Seq};
+use spin_base::{Memory, Seq};
 use std::alloc::Global;
 use tern_word::{Alias, Row, Table, generality};
 
@@ -31,19 +31,13 @@ fn table_of(alloc: Global, marks: &[Mark]) -> Result<Table, Memory>
     Ok(Table { rows })
 }
 
+// Sorts original blocks by generality, then by key.
 fn sort_marks(marks: &mut Vec<Mark>) -> Result<(), Memory>
     ensures same { OnOk result (IsPermutation marks.old.items marks.new.items) }
-    ensures in_order { OnOk result (IsNonDecreasingBy (λ k. rank k.block) marks.new.items) }
+    ensures in_order { OnOk result (AllPairs (λ a b. IsNotAfter (row_at a) (row_at b)) marks.new.items) }
 {
-    marks.sort_by_key(|mark| rank(mark.block))?;
+    marks.sort_by_key(|mark| (generality(mark.block), mark.block.key))?;
     Ok(())
-}
-
-// The place of a block in the order of rows: by generality, then by key.
-fn rank(block: Block) -> u64
-    ensures { result ≡ rank block }
-{
-    u64::from(generality(block)) * 4_294_967_296 + u64::from(block.key)
 }
 
 // The rows of the original blocks, in their order.

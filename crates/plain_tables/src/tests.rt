@@ -28,9 +28,14 @@ fn net(alloc: Global, block: Block) -> Result<NetPlan, Memory>
     let left = Chip { x: 0, y: 0 };
     let right = Chip { x: 1, y: 0 };
     let mut targets = Seq::new(alloc);
-    for core in [2, 18] {
-        targets.push(Spot { chip: right, core })?;
-    }
+    targets.push(Spot {
+        chip: right,
+        core: 2,
+    })?;
+    targets.push(Spot {
+        chip: right,
+        core: 18,
+    })?;
     let mut edges = Seq::new(alloc);
     edges.push(Edge {
         chip: left,

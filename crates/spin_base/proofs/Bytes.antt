@@ -3,7 +3,7 @@ use Rattle.std.proofs.Common.{◌≡◌, ℕ, ◌+◌, ◌<◌, ◌≤◌, List,
 use Rattle.std.proofs.Math.Seq.{take-add, take-length}
 use Rattle.std.proofs.lemmas.List.{take-append-le, take-append-drop, drop-drop}
 use Rattle.std.proofs.Common.{inl, inr, ◌-◌}
-use Rattle.spin_base.specs.Outside.{FaultsRose, Gives, GivesAll, HasMoreThan, Takes, Reads}
+use Rattle.spin_base.specs.Outside.{FaultsRose, Gives, GivesAll, HasMoreThan, LosesAtMost, LosesMoreThan, Takes, Reads}
 
 -- before the first read nothing was given
 pub gives_nothing : (a : Option (List ℕ)) → Gives a [] a
@@ -57,11 +57,22 @@ gives_end None None (Some z) g n buffer given reads none = absurd reads.gives
 gives_end None None None g n buffer given reads none = record { gives = tt; at_end = tt }
 
 -- one read past the limit
-pub gives_too_many : (a b c : Option (List ℕ)) (g buffer : List ℕ) (n limit : ℕ) → Gives a g b → Gives b (take n buffer) c → n ≤ length buffer → limit - length g < n → HasMoreThan limit a
-gives_too_many a b c g buffer n limit first second within past =
+pub loses_too_many : (a b c : Option (List ℕ)) (g buffer : List ℕ) (n limit : ℕ) → Gives a g b → Gives b (take n buffer) c → n ≤ length buffer → limit - length g < n → LosesMoreThan limit a c
+loses_too_many a b c g buffer n limit first second within past =
     let both : length (g ++ take n buffer) ≡ length g + n =
     length-append g (take n buffer) ∙ ap (λ k. length g + k) (length-take-le n buffer within)
-    in gives_more a c (g ++ take n buffer) limit (gives_then a b c g (take n buffer) first second) (omega arith)
+    in (g ++ take n buffer, gives_then a b c g (take n buffer) first second, omega arith)
+
+pub gives_too_many : (a b c : Option (List ℕ)) (g buffer : List ℕ) (n limit : ℕ) → Gives a g b → Gives b (take n buffer) c → n ≤ length buffer → limit - length g < n → HasMoreThan limit a
+gives_too_many a b c g buffer n limit first second within past =
+    let lost = loses_too_many a b c g buffer n limit first second within past in gives_more a c lost.0 limit lost.1 lost.2
+
+-- one read that stays within the limit
+pub loses_few : (a b c : Option (List ℕ)) (g buffer : List ℕ) (n limit : ℕ) → Gives a g b → Gives b (take n buffer) c → n ≤ length buffer → length g + n ≤ limit → LosesAtMost limit a c
+loses_few a b c g buffer n limit first second within few =
+    let both : length (g ++ take n buffer) ≡ length g + n =
+    length-append g (take n buffer) ∙ ap (λ k. length g + k) (length-take-le n buffer within)
+    in (g ++ take n buffer, gives_then a b c g (take n buffer) first second, omega arith)
 
 -- what a write takes of the bytes after the first d
 pub takes_from : (a b c : Option (List ℕ)) (s : List ℕ) (d n : ℕ) → Takes a (take d s) b → Takes b (take n (take (length s - d) (drop d s))) c → Takes a (take (d + n) s) c

@@ -1,5 +1,6 @@
 -- The tests of equality say what equality says.
-use Rattle.std.proofs.Common.{◌≡◌, ℕ, Bool, true, false, ◌==◌, ◌&&◌, refl, ap, arith}
+use Rattle.std.proofs.Common.{◌≡◌, ℕ, true, ◌==◌, refl, ap, arith}
+use Rattle.std.proofs.lemmas.Bool.{and_parts, eq-eqb, eqb-true}
 use Rattle.spin_base.specs.declared.chips.Chip.{Chip}
 use Rattle.spin_base.specs.declared.chips.Dir.{Dir}
 use Rattle.spin_base.specs.declared.chips.Port.{Port}
@@ -12,18 +13,7 @@ use Rattle.spin_base.specs.Equality.{chip_eq, spot_eq, dir_eq, port_eq, out_eq}
 use Rattle.spin_base.proofs.Outputs.{dir_number_injective, dir_number_below, out_number_injective}
 
 pub nat_eq_same : (m : ℕ) → (m == m) ≡ true
-nat_eq_same m = grind arith
-
-pub nat_eq_true : (m n : ℕ) → (m == n) ≡ true → m ≡ n
-nat_eq_true m n e = grind arith
-
-and_left : (a b : Bool) → (a && b) ≡ true → a ≡ true
-and_left true b e = refl
-and_left false b e = e
-
-and_right : (a b : Bool) → (a && b) ≡ true → b ≡ true
-and_right true b e = e
-and_right false b e = cc
+nat_eq_same m = eq-eqb m m refl
 
 pub chip_eq_same : (a : Chip) → chip_eq a a ≡ true
 chip_eq_same a = rw (nat_eq_same a.x, nat_eq_same a.y) refl
@@ -36,8 +26,8 @@ same_spots c c' p p' e f = cc
 
 pub chip_eq_true : (a b : Chip) → chip_eq a b ≡ true → a ≡ b
 chip_eq_true a b e =
-    let same_x : a.x ≡ b.x = nat_eq_true a.x b.x (and_left _ _ e) in
-    let same_y : a.y ≡ b.y = nat_eq_true a.y b.y (and_right (a.x == b.x) _ e) in
+    let same_x : a.x ≡ b.x = eqb-true a.x b.x (and_parts _ _ e).0 in
+    let same_y : a.y ≡ b.y = eqb-true a.y b.y (and_parts (a.x == b.x) _ e).1 in
     same_chips a.x a.y b.x b.y same_x same_y
 
 pub spot_eq_same : (a : Spot) → spot_eq a a ≡ true
@@ -45,15 +35,15 @@ spot_eq_same a = rw (nat_eq_same a.chip.x, nat_eq_same a.chip.y, nat_eq_same a.c
 
 pub spot_eq_true : (a b : Spot) → spot_eq a b ≡ true → a ≡ b
 spot_eq_true a b e =
-    let same_chip : a.chip ≡ b.chip = chip_eq_true a.chip b.chip (and_left _ _ e) in
-    let same_core : a.core ≡ b.core = nat_eq_true a.core b.core (and_right (chip_eq a.chip b.chip) _ e) in
+    let same_chip : a.chip ≡ b.chip = chip_eq_true a.chip b.chip (and_parts _ _ e).0 in
+    let same_core : a.core ≡ b.core = eqb-true a.core b.core (and_parts (chip_eq a.chip b.chip) _ e).1 in
     same_spots a.chip b.chip a.core b.core same_chip same_core
 
 pub dir_eq_same : (a : Dir) → dir_eq a a ≡ true
 dir_eq_same a = nat_eq_same (dir_number a)
 
 pub dir_eq_true : (a b : Dir) → dir_eq a b ≡ true → a ≡ b
-dir_eq_true a b e = dir_number_injective a b (nat_eq_true _ _ e)
+dir_eq_true a b e = dir_number_injective a b (eqb-true _ _ e)
 
 -- ports of one number are one port
 pub port_number_injective : (a b : Port) → port_number a ≡ port_number b → a ≡ b
@@ -66,10 +56,10 @@ pub port_eq_same : (a : Port) → port_eq a a ≡ true
 port_eq_same a = nat_eq_same (port_number a)
 
 pub port_eq_true : (a b : Port) → port_eq a b ≡ true → a ≡ b
-port_eq_true a b e = port_number_injective a b (nat_eq_true _ _ e)
+port_eq_true a b e = port_number_injective a b (eqb-true _ _ e)
 
 pub out_eq_same : (a : Out) → out_eq a a ≡ true
 out_eq_same a = nat_eq_same (out_number a)
 
 pub out_eq_true : (a b : Out) → out_eq a b ≡ true → a ≡ b
-out_eq_true a b e = out_number_injective a b (nat_eq_true _ _ e)
+out_eq_true a b e = out_number_injective a b (eqb-true _ _ e)

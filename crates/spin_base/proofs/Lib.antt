@@ -1,4 +1,4 @@
-pub mod Bytes
+mod Bytes
 pub mod Equality
 pub mod Once
 pub mod Outputs

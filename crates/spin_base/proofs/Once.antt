@@ -1,6 +1,7 @@
 -- How often an output stands in what a route names: once where the route has it, else not.
 use Rattle.std.proofs.Common.{◌≡◌, ◌≢◌, ℕ, ◌+◌, ◌<◌, ◌≤◌, List, [], ◌∷◌, map, filter, Bool, true, false, ◌==◌, arith, ap, sym, ◌∙◌, refl, cond, if◌then◌else◌, count_by, suc, zero}
 use Rattle.std.specs.List.{range_with_len}
+use Rattle.std.proofs.lemmas.Bool.{eqb-true, ne_eqb}
 use Rattle.std.proofs.lemmas.List.Sums.{sum_by-append, sum_by-cons}
 use Rattle.spin_base.specs.declared.chips.Dir.{Dir}
 use Rattle.spin_base.specs.Links.{dir_number}
@@ -11,7 +12,7 @@ use Rattle.spin_base.specs.declared.routes.Route.{Route}
 use Rattle.spin_base.specs.Equality.{out_eq}
 use Rattle.spin_base.specs.Outputs.{has, outs_of, all_outs, link_outs, core_outs, IsOutput}
 use Rattle.spin_base.proofs.Outputs.{dir_number_below}
-use Rattle.spin_base.proofs.Equality.{out_eq_true, nat_eq_same, nat_eq_true}
+use Rattle.spin_base.proofs.Equality.{out_eq_true, nat_eq_same}
 
 -- a count of a list, from its first item on
 count_by-cons : (q : Out → Bool) (x : Out) (xs : List Out) → count_by q (x ∷ xs) ≡ cond (q x) 1 0 + count_by q xs
@@ -35,25 +36,22 @@ count_by-filter_same p q b (x ∷ xs) same =
     count_step p q b x xs (filter p xs) (same x) (count_by-filter_same p q b xs same) (p x) (q x) refl refl
     ∙ ap (λ n. cond b n 0) (sym (count_by-cons q x xs))
 
-apart : (m n : ℕ) → m ≢ n → (m == n) ≡ false
-apart m n other = grind arith
-
 cores_none : (d : Dir) (a n : ℕ) → count_by (out_eq (Link d)) (map Core (range_with_len a n)) ≡ 0
 cores_none d a zero = refl
 cores_none d a (suc n) =
-    let no : (dir_number d == 6 + a) ≡ false = apart (dir_number d) (6 + a) (λ e. omega (arith, dir_number_below d)) in
+    let no : (dir_number d == 6 + a) ≡ false = ne_eqb (dir_number d) (6 + a) (λ e. omega (arith, dir_number_below d)) in
     count_by-cons (out_eq (Link d)) (Core a) (map Core (range_with_len (a + 1) n)) ∙ rw no (omega (arith, cores_none d (a + 1) n))
 
 cores_before : (p a n : ℕ) → p < a → count_by (out_eq (Core p)) (map Core (range_with_len a n)) ≡ 0
 cores_before p a zero before = refl
 cores_before p a (suc n) before =
-    let no : (6 + p == 6 + a) ≡ false = apart (6 + p) (6 + a) (λ e. omega arith) in
+    let no : (6 + p == 6 + a) ≡ false = ne_eqb (6 + p) (6 + a) (λ e. omega arith) in
     count_by-cons (out_eq (Core p)) (Core a) (map Core (range_with_len (a + 1) n))
     ∙ rw no (omega (arith, cores_before p (a + 1) n (omega arith)))
 
 cores_once_by : (p a n : ℕ) → a ≤ p → p < a + suc n → (a + 1 ≤ p → count_by (out_eq (Core p)) (map Core (range_with_len (a + 1) n)) ≡ 1) → (b : Bool) → (6 + p == 6 + a) ≡ b → cond b 1 0 + count_by (out_eq (Core p)) (map Core (range_with_len (a + 1) n)) ≡ 1
 cores_once_by p a n after before later true here =
-    let same : 6 + p ≡ 6 + a = nat_eq_true (6 + p) (6 + a) here in
+    let same : 6 + p ≡ 6 + a = eqb-true (6 + p) (6 + a) here in
     omega (arith, cores_before p (a + 1) n (omega arith))
 cores_once_by p a n after before later false here =
     let other : 6 + p ≢ 6 + a = λ e. let yes = nat_eq_same (6 + p) in cc (ap (λ k. 6 + p == k) e) in
@@ -78,12 +76,12 @@ links_none : (p : ℕ) → count_by (out_eq (Core p)) link_outs ≡ 0
 unfolding link_outs
 links_none p =
     rw (
-      apart (6 + p) 0 (λ e. omega arith),
-      apart (6 + p) 1 (λ e. omega arith),
-      apart (6 + p) 2 (λ e. omega arith),
-      apart (6 + p) 3 (λ e. omega arith),
-      apart (6 + p) 4 (λ e. omega arith),
-      apart (6 + p) 5 (λ e. omega arith),
+      ne_eqb (6 + p) 0 (λ e. omega arith),
+      ne_eqb (6 + p) 1 (λ e. omega arith),
+      ne_eqb (6 + p) 2 (λ e. omega arith),
+      ne_eqb (6 + p) 3 (λ e. omega arith),
+      ne_eqb (6 + p) 4 (λ e. omega arith),
+      ne_eqb (6 + p) 5 (λ e. omega arith),
     ) refl
 
 core_outs_none : (d : Dir) → count_by (out_eq (Link d)) core_outs ≡ 0

@@ -1,5 +1,5 @@
 -- What a contract sees of a source and a sink in memory.
-use Rattle.std.specs.Prelude.{ℕ, ◌+◌, ◌-◌, ◌^◌, List, drop, min}
+use Rattle.std.specs.Prelude.{ℕ, List, drop}
 use Rattle.spin_base.specs.declared.memory_ends.MemSource.{MemSource}
 use Rattle.spin_base.specs.declared.memory_ends.MemSink.{MemSink}
 
@@ -10,6 +10,10 @@ source_left s = drop s.place s.bytes
 abbrev pub source_faults : MemSource → ℕ
 source_faults s = s.faults
 
+-- how many bytes it gives at most in one call
+abbrev pub source_piece : MemSource → ℕ
+source_piece s = s.piece
+
 -- how many calls there were
 abbrev pub source_calls : MemSource → ℕ
 source_calls s = s.calls
@@ -18,10 +22,6 @@ source_calls s = s.calls
 abbrev pub source_failing : MemSource → List ℕ
 source_failing s = s.failing
 
--- the number of the next call: numbers stop at the counter's last value
-abbrev pub next_call : ℕ → ℕ
-next_call n = min (n + 1) (2 ^ 64 - 1)
-
 -- the bytes taken so far
 abbrev pub sink_written : MemSink → List ℕ
 sink_written s = s.room.items
@@ -29,6 +29,10 @@ sink_written s = s.room.items
 -- for how many bytes there is room
 abbrev pub sink_spare : MemSink → ℕ
 sink_spare s = s.room.spare
+
+-- how many bytes it takes at most in one call
+abbrev pub sink_piece : MemSink → ℕ
+sink_piece s = s.piece
 
 abbrev pub sink_faults : MemSink → ℕ
 sink_faults s = s.faults

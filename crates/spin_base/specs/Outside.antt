@@ -1,9 +1,13 @@
 -- What reading and writing does to the bytes outside, and when a fault is a real one.
-use Rattle.std.specs.Prelude.{◌≡◌, ◌⊎◌, ℕ, ◌-◌, ◌<◌, ◌^◌, List, [], ◌++◌, length, take, Option, Some, None}
+use Rattle.std.specs.Prelude.{◌≡◌, ◌⊎◌, ℕ, ◌+◌, ◌-◌, ◌<◌, ◌≤◌, ◌^◌, min, List, [], ◌++◌, length, take, Option, Some, None}
 
 -- The counter of faults shows one: it is greater than before, or stands at its last value (this project's own).
 abbrev pub FaultsRose : ℕ → ℕ → Type 0
 FaultsRose before after = (before < after) ⊎ (after ≡ 2 ^ 64 - 1)
+
+-- one more, where the counter does not stand at its last value
+abbrev pub one_more : ℕ → ℕ
+one_more n = min (n + 1) (2 ^ 64 - 1)
 
 -- Of the bytes that were to come these were given, in order, and the others are still to come. A source that
 -- doesn't tell its bytes goes on not telling them.
@@ -26,6 +30,14 @@ pub record Reads (before : Option (List ℕ)) (n : ℕ) (buffer : List ℕ) (aft
 -- some of the bytes that were to come are gone, from the front
 abbrev pub LosesFront : Option (List ℕ) → Option (List ℕ) → Type 0
 LosesFront before after = (given : List ℕ) × Gives before given after
+
+-- more than so many of them are gone
+abbrev pub LosesMoreThan : ℕ → Option (List ℕ) → Option (List ℕ) → Type 0
+LosesMoreThan limit before after = (given : List ℕ) × Gives before given after × (limit < length given)
+
+-- at most so many of them are gone
+abbrev pub LosesAtMost : ℕ → Option (List ℕ) → Option (List ℕ) → Type 0
+LosesAtMost limit before after = (given : List ℕ) × Gives before given after × (length given ≤ limit)
 
 -- all that was left was given, and nothing is left
 pub record GivesAll (before : Option (List ℕ)) (given : List ℕ) (after : Option (List ℕ)) : Type 0 where

@@ -1,6 +1,8 @@
-// Blocks of keys, and entries of a router's table.
+// Blocks of keys, entries of a router's table, and the entries of a chip's.
 ghost use Rattle.std.specs.Prelude.{◌≡◌, ◌<◌, ◌^◌, bit_and};
 
+use crate::chips::Chip;
+use crate::lists::Seq;
 use crate::routes::Route;
 
 /// A block of keys: those `k` for which `k & mask = key`. The key has no bit outside the mask.
@@ -18,4 +20,11 @@ pub struct Entry {
     pub key: u32,
     pub mask: u32,
     pub route: Route,
+}
+
+/// The entries of one chip's table, in order.
+#[derive(Debug, Drop)]
+pub struct ChipTable {
+    pub chip: Chip,
+    pub entries: Seq<Entry>,
 }

@@ -23,7 +23,7 @@ mod tests;
 mod wants;
 mod writing;
 
-pub use blocks::{Block, Entry};
+pub use blocks::{Block, ChipTable, Entry};
 pub use chips::{Chip, Dir, Port, Spot};
 pub use copies::{Delivery, DumpRec, Event, McCopy, Packet};
 pub use fifos::Fifo;

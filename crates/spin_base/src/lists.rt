@@ -104,10 +104,9 @@ impl<T> Seq<T> {
         &mut self.items
     }
 
-    /// The first item leaves the list and is answered. `None` exactly where the list is empty.
+    /// The first item leaves the list and is answered. `None` exactly where the list is empty. All others move up, so
+    /// a queue is better a `Fifo`.
     pub fn pop_front(&mut self) -> Option<T>
-    where
-        T: Copy,
         ensures items { self.old ≡ option_to_list result ++ self.new }
         ensures none { IsNone result ↔ (self.old ≡ []) }
     {

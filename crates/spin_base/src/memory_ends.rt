@@ -1,6 +1,6 @@
 // A source and a sink in memory, whose calls can be made to fail by their numbers.
-ghost use Rattle.std.specs.Prelude.{◌≡◌, ◌<◌, ◌≤◌, ◌↔◌, ◌⊎◌, [], Some, length, take, IfOk, OnErr, Contains, IsErr};
-ghost use Rattle.spin_base.specs.Outside.{FaultsRose, Reads, Takes};
+ghost use Rattle.std.specs.Prelude.{◌≡◌, ◌<◌, ◌≤◌, ◌+◌, ◌↔◌, ◌⊎◌, [], Some, length, take, min, IfOk, OnOk, OnErr, Contains, IsErr};
+ghost use Rattle.spin_base.specs.Outside.{FaultsRose, Reads, Takes, one_more};
 
 use crate::lists::Seq;
 use crate::outside::{Sink, Source};
@@ -21,13 +21,14 @@ pub struct MemSource {
 }
 
 impl MemSource {
-    ghost use Rattle.spin_base.specs.MemoryEnds.{source_left, source_faults, source_calls, source_failing};
+    ghost use Rattle.spin_base.specs.MemoryEnds.{source_left, source_piece, source_faults, source_calls, source_failing};
 
     /// A source of these bytes, which gives at most `piece` of them in one call. Its calls whose numbers, from 1,
     /// stand in `failing` fail.
     pub fn new(bytes: Seq<u8>, piece: u32, failing: Seq<u64>) -> MemSource
         requires { 0 < piece }
         ensures left { source_left result ≡ bytes }
+        ensures piece { source_piece result ≡ piece }
         ensures faults { source_faults result ≡ 0 }
         ensures calls { source_calls result ≡ 0 }
         ensures failing { source_failing result ≡ failing }
@@ -44,7 +45,7 @@ impl MemSource {
 }
 
 impl Source for MemSource {
-    ghost use Rattle.spin_base.specs.MemoryEnds.{source_left, source_faults, source_calls, source_failing, next_call};
+    ghost use Rattle.spin_base.specs.MemoryEnds.{source_left, source_piece, source_faults, source_calls, source_failing};
 
     ghost left = { λ s. Some (source_left s) };
 
@@ -58,8 +59,14 @@ impl Source for MemSource {
         ensures kept { OnErr result (Some (source_left self.new) ≡ Some (source_left self.old)) }
         ensures counted { source_faults self.old ≤ source_faults self.new }
 
+        // A call gives as much as it can, and counts a fault exactly where it fails.
+        ensures gives { IfOk result (λ n. n ≡ min (source_piece self.old) (min (length buffer.old) (length (source_left self.old)))) }
+        ensures no_fault { OnOk result (source_faults self.new ≡ source_faults self.old) }
+        ensures one_fault { OnErr result (source_faults self.new ≡ one_more (source_faults self.old)) }
+
         // A call fails exactly where its number is listed.
-        ensures calls { source_calls self.new ≡ next_call (source_calls self.old) }
+        ensures piece { source_piece self.new ≡ source_piece self.old }
+        ensures calls { source_calls self.new ≡ one_more (source_calls self.old) }
         ensures listed { source_failing self.new ≡ source_failing self.old }
         ensures fails { IsErr result ↔ Contains (source_failing self.old) (source_calls self.new) }
     {
@@ -88,7 +95,7 @@ pub struct MemSink {
 }
 
 impl MemSink {
-    ghost use Rattle.spin_base.specs.MemoryEnds.{sink_written, sink_spare, sink_faults, sink_calls, sink_failing};
+    ghost use Rattle.spin_base.specs.MemoryEnds.{sink_written, sink_spare, sink_piece, sink_faults, sink_calls, sink_failing};
 
     /// A sink into this room, which takes at most `piece` bytes in one call. Its calls whose numbers, from 1, stand
     /// in `failing` fail, and so do all calls once the room has no spare.
@@ -97,6 +104,7 @@ impl MemSink {
         requires empty { room.items ≡ [] }
         ensures written { sink_written result ≡ [] }
         ensures spare { sink_spare result ≡ room.spare }
+        ensures piece { sink_piece result ≡ piece }
         ensures faults { sink_faults result ≡ 0 }
         ensures calls { sink_calls result ≡ 0 }
         ensures failing { sink_failing result ≡ failing }
@@ -119,7 +127,7 @@ impl MemSink {
 }
 
 impl Sink for MemSink {
-    ghost use Rattle.spin_base.specs.MemoryEnds.{sink_written, sink_spare, sink_faults, sink_calls, sink_failing, next_call};
+    ghost use Rattle.spin_base.specs.MemoryEnds.{sink_written, sink_spare, sink_piece, sink_faults, sink_calls, sink_failing};
 
     ghost written = { λ s. Some (sink_written s) };
 
@@ -134,8 +142,16 @@ impl Sink for MemSink {
         ensures kept { OnErr result (Some (sink_written self.new) ≡ Some (sink_written self.old)) }
         ensures counted { sink_faults self.old ≤ sink_faults self.new }
 
+        // A call takes as much as it can, and counts a fault exactly where it fails.
+        ensures gets { IfOk result (λ n. n ≡ min (sink_piece self.old) (min (length piece.now) (sink_spare self.old))) }
+        ensures spare { IfOk result (λ n. sink_spare self.new + n ≡ sink_spare self.old) }
+        ensures same_spare { OnErr result (sink_spare self.new ≡ sink_spare self.old) }
+        ensures no_fault { OnOk result (sink_faults self.new ≡ sink_faults self.old) }
+        ensures one_fault { OnErr result (sink_faults self.new ≡ one_more (sink_faults self.old)) }
+
         // A call fails exactly where its number is listed or there is no spare.
-        ensures calls { sink_calls self.new ≡ next_call (sink_calls self.old) }
+        ensures most { sink_piece self.new ≡ sink_piece self.old }
+        ensures calls { sink_calls self.new ≡ one_more (sink_calls self.old) }
         ensures listed { sink_failing self.new ≡ sink_failing self.old }
         ensures fails { IsErr result ↔ (Contains (sink_failing self.old) (sink_calls self.new) ⊎ (sink_spare self.old ≡ 0)) }
     {

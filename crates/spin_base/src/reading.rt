@@ -1,6 +1,6 @@
 // All the bytes of a source.
-ghost use Rattle.std.specs.Prelude.{◌≡◌, ◌<◌, ◌≤◌, ℕ, length, vec_len, IfOk, OnOk, OnErr, IsErrOf};
-ghost use Rattle.spin_base.specs.Outside.{FaultsRose, LosesFront, GivesAll, HasMoreThan};
+ghost use Rattle.std.specs.Prelude.{◌≡◌, ◌<◌, ◌≤◌, ◌⊎◌, ℕ, length, vec_len, IfOk, OnOk, OnErr, IsErrOf};
+ghost use Rattle.spin_base.specs.Outside.{FaultsRose, LosesFront, LosesMoreThan, LosesAtMost, GivesAll, HasMoreThan};
 ghost use Rattle.spin_base.specs.declared.reading.ReadErr.TheVariants.{OutOfMemory};
 
 use crate::lists::Seq;
@@ -29,13 +29,15 @@ impl From<AllocError> for ReadErr {
 // So many bytes are asked for at once.
 const PIECE: usize = 65536;
 
-/// The bytes up to the end of input, at most `limit` of them. The first byte past the limit is refused, and the
-/// rest is not read into memory. A source has lost just the bytes that it gave.
+/// The bytes up to the end of input, at most `limit` of them. It is `TooLong` exactly where the source gave more, and
+/// those are not read into memory. A source has lost just the bytes that it gave.
 pub fn read_all<S: Source>(alloc: Global, src: &mut S, limit: u64) -> Result<Seq<u8>, ReadErr>
     ensures all { IfOk result (λ bytes. GivesAll (S.left src.old) bytes (S.left src.new)) }
     ensures within { IfOk result (λ bytes. length bytes ≤ limit) }
     ensures too_long { IsErrOf result ReadErr.TooLong → HasMoreThan limit (S.left src.old) }
     ensures fault { IsErrOf result ReadErr.Fault → FaultsRose (S.faults src.old) (S.faults src.new) }
+    ensures past_limit { IsErrOf result ReadErr.TooLong → LosesMoreThan limit (S.left src.old) (S.left src.new) }
+    ensures up_to_limit { IsErrOf result ReadErr.TooLong ⊎ LosesAtMost limit (S.left src.old) (S.left src.new) }
     ensures lost { LosesFront (S.left src.old) (S.left src.new) }
     ensures counted { S.faults src.old ≤ S.faults src.new }
 {

@@ -1,2 +1,4 @@
 pub mod Bits
 pub mod BlockLaws
+pub mod Lying
+pub mod Placing

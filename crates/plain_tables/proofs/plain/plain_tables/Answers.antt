@@ -1,4 +1,4 @@
-use Rattle.plain_tables.proofs.Whole.{all_long, all_plain, all_sound, all_serve, all_right, all_followed}
+use Rattle.plain_tables.proofs.Whole.{all_long, all_plain, all_few, all_sound, all_serve, all_right, all_followed}
 use Rattle.plain_tables.proofs.plain.plain_tables.Goals as goal
 
 pub marks_of-requires : goal.marks_of-requires
@@ -34,4 +34,9 @@ returns-clause-right c =
 pub returns-clause-followed : goal.returns-clause-followed
 returns-clause-followed c =
     all_followed c.args.machine.now c.args.nets.now c.in_ok-marks.marks.items c.in_ok-tables.tables c.requires c.in_ok-marks.ensures.long
+    (rw c.as_slice.ensures at c.in_ok-marks.ensures.gathered) (rw c.as_slice-2.ensures.value at c.in_ok-tables.ensures)
+
+pub returns-clause-few : goal.returns-clause-few
+returns-clause-few c =
+    all_few c.args.machine.now c.args.nets.now c.in_ok-marks.marks.items c.in_ok-tables.tables c.requires c.in_ok-marks.ensures.long
     (rw c.as_slice.ensures at c.in_ok-marks.ensures.gathered) (rw c.as_slice-2.ensures.value at c.in_ok-tables.ensures)

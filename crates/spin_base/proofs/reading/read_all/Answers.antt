@@ -1,5 +1,5 @@
-use Rattle.std.proofs.Common.{◌≡◌, ◌≤◌, length, take, arith, length-take-le}
-use Rattle.spin_base.proofs.Bytes.{gives_nothing, gives_then, gives_end, gives_too_many, rose_since}
+use Rattle.std.proofs.Common.{◌≡◌, ◌≤◌, length, take, arith, inr, length-take-le}
+use Rattle.spin_base.proofs.Bytes.{gives_nothing, gives_then, gives_end, gives_too_many, loses_too_many, loses_few, rose_since}
 use Rattle.spin_base.proofs.reading.read_all.Goals as goal
 
 pub loop-count-init : goal.loop-count-init
@@ -25,6 +25,11 @@ returns-then-count-limit-clause-too_long g c = λ _.
     gives_too_many _ _ _ _ c.read.new.buffer c.in-Ok.count c.args.limit c.loop-count.invariant.gives c.in-Ok.ensures.reads.gives
     (omega (arith, c.in-Ok.ensures.count)) (omega arith)
 
+pub returns-then-count-limit-clause-past_limit : goal.returns-then-count-limit-clause-past_limit
+returns-then-count-limit-clause-past_limit g c = λ _.
+    loses_too_many _ _ _ _ c.read.new.buffer c.in-Ok.count c.args.limit c.loop-count.invariant.gives c.in-Ok.ensures.reads.gives
+    (omega (arith, c.in-Ok.ensures.count)) (omega arith)
+
 pub returns-then-count-limit-clause-lost : goal.returns-then-count-limit-clause-lost
 returns-then-count-limit-clause-lost g c = (_, gives_then _ _ _ _ _ c.loop-count.invariant.gives c.in-Ok.ensures.reads.gives)
 
@@ -45,3 +50,9 @@ loop-count-preserved g c =
 pub returns-in_err-extend_from_slice-clause-lost :
     goal.returns-in_err-extend_from_slice-clause-lost
 returns-in_err-extend_from_slice-clause-lost g c = (_, gives_then _ _ _ _ _ c.loop-count.invariant.gives c.in-Ok.ensures.reads.gives)
+
+pub returns-in_err-extend_from_slice-clause-up_to_limit :
+    goal.returns-in_err-extend_from_slice-clause-up_to_limit
+returns-in_err-extend_from_slice-clause-up_to_limit g c =
+    inr (loses_few _ _ _ _ c.read.new.buffer c.in-Ok.count c.args.limit c.loop-count.invariant.gives c.in-Ok.ensures.reads.gives
+    (omega (arith, c.in-Ok.ensures.count)) (omega arith))

@@ -8,4 +8,5 @@ invariant-loop-byte l = record {
   failing : l.self.failing ≡ l.initial.self.failing;
   calls : l.self.calls ≡ l.initial.self.calls;
   faults : l.self.faults ≡ l.initial.self.faults;
+  piece : l.self.piece ≡ l.initial.self.piece;
 }

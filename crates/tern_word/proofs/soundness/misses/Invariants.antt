@@ -2,7 +2,7 @@
 use Rattle.std.proofs.Common.{ℕ, ◌<◌, get_or}
 use Rattle.tern_word.specs.declared.tables.Alias.{Alias}
 use Rattle.tern_word.specs.Ternary.{Intersects}
-use Rattle.cover_checks.proofs.checking.misses.Given as goal
+use Rattle.tern_word.proofs.soundness.misses.Given as goal
 
 abbrev pub invariant-loop-alias : goal.invariant-loop-alias
 invariant-loop-alias l = (k : ℕ) (d : Alias) → k < l.alias-index → Intersects l.block (get_or l.alias-items k d).block → ⊥
