@@ -1,13 +1,13 @@
 -- What a chosen merge keeps: soundness and the served blocks; and that each merge makes the table shorter.
 use Rattle.std.proofs.Common.{◌≡◌, ℕ, zero, suc, ◌+◌, ◌^◌, ◌<◌, ◌≤◌, List, [], ◌∷◌, ◌++◌, length, get_or, take, drop, inl, inr, ◌⊎◌, refl, sym, ap, ◌∙◌, subst, append_assoc, append-nil, take-append-drop, length-append, length-take, arith}
 use Rattle.std.specs.Prelude.{All, AllPairs, map, not}
-use Rattle.std.specs.List.{flat_map, cons_option}
+use Rattle.std.specs.List.{Contains, flat_map, cons_option}
 use Rattle.std.specs.List.Sorted.{IsPermutation}
 use Rattle.std.proofs.Math.Seq.{drop-cons}
 use Rattle.std.proofs.lemmas.Grind.{flat_map-append}
 use Rattle.std.proofs.lemmas.List.{map-append, get_or_default}
 use Rattle.std.proofs.lemmas.Option.{slice_get-get_or}
-use Rattle.std.proofs.lemmas.List.Elements.{All-nil, All-cons, All-head, All-tail}
+use Rattle.std.proofs.lemmas.List.Elements.{All-nil, All-cons, All-head, All-tail, All-append, All-take, All-drop, All-contains_itself}
 use Rattle.std.proofs.lemmas.List.Sorted.{IsPermutation-refl, IsPermutation-trans, IsPermutation-append_left, IsPermutation-append_comm}
 use Rattle.spin_base.specs.declared.routes.Route.{Route}
 use Rattle.tern_word.specs.declared.tables.Alias.{Alias}
@@ -15,14 +15,14 @@ use Rattle.tern_word.specs.declared.tables.Row.{Row}
 use Rattle.tern_word.specs.Ternary.{generality}
 use Rattle.tern_word.specs.SoundTable.{IsSound, Original, served_by, served}
 use Rattle.cover_checks.specs.Merge.{has, picked, kept, rows_at, merge_rows, merged_row, merged_block, insert_place, after, SameRoute, IsOneRoute, IsMergeSet, IsLegal}
-use Rattle.cover_checks.proofs.Lists.{AllPairs-head, AllPairs-tail}
+use Rattle.cover_checks.proofs.Lists.{All-picked, All-from_map, AllPairs-head, AllPairs-tail}
 use Rattle.cover_checks.proofs.Positions.{has-place, rows_at-from, place_for-le}
 use Rattle.cover_merge.specs.Refinement.{Refines, ends_empty, ends_legal, goes_up, goes_down}
-use Rattle.cover_merge.specs.Covering.{places_of, IsChosen, HasNoChosen, Covers, short, stuck, merged}
+use Rattle.cover_merge.specs.Covering.{places_of, IsChosen, HasNoChosen, HasRoutesOf, Covers, short, stuck, merged}
 use Rattle.cover_merge.specs.declared.covering.Merge.{Merge}
 use Rattle.cover_merge.specs.Merges.{sets_of}
 use Rattle.cover_merge.proofs.RefineLemmas.{one_route_after, legal_here}
-use Rattle.cover_merge.proofs.ApplyLemmas.{kept_none, kept_longer, kept_remove, picked-append, kept_in, first_kept}
+use Rattle.cover_merge.proofs.ApplyLemmas.{kept_none, kept_longer, kept_remove, picked-append, kept_in, first_kept, route_is}
 use Rattle.cover_merge.proofs.ChooseLemmas.{places_of-one_route}
 
 -- ---- a chosen merge is legal
@@ -182,7 +182,26 @@ module _ (rows : List Row) (places : List ℕ) (set : IsMergeSet rows places) wh
       let b = kept places p (drop p rows) in
       omega (arith, set.two, length_out rows places set.set.ascending set.set.in_range, ap length kept_parts, length-append a b, length-append a (merged_row rows places ∷ b))
 
+  -- no other route comes
+  pub routes_after : (start : List Row) → HasRoutesOf start rows → HasRoutesOf start (after rows places)
+  routes_after start from =
+      let P = λ (r : Row). Contains (map (λ (x : Row). x.route) start) r.route in
+      let q = λ (k : ℕ). not (has places k) in
+      let p = insert_place rows places in
+      let d : Row = merge_rows [] in
+      let first : get_or places 0 0 < length rows = set.set.in_range 0 0 (omega (arith, set.two)) in
+      let merged_route = route_is rows places d set.set.in_range (omega (arith, set.two)) in
+      All-append P (kept places 0 (take p rows)) (merged_row rows places ∷ kept places p (drop p rows))
+      (All-picked P q 0 (take p rows) (All-take P p rows from))
+      (All-cons P (merged_row rows places) (kept places p (drop p rows))
+      (subst (Contains (map (λ (x : Row). x.route) start)) (sym merged_route) (from (get_or places 0 0) d first))
+      (All-picked P q p (drop p rows) (All-drop P p rows from)))
+
 -- ---- one merge after another
+
+-- a table has its own routes
+routes_own : (rows : List Row) → HasRoutesOf rows rows
+routes_own rows = All-from_map (Contains (map (λ (x : Row). x.route) rows)) (λ (x : Row). x.route) rows (All-contains_itself (map (λ (x : Row). x.route) rows))
 
 -- one more merge at the end of those that were made
 sets_more : (merges : List Merge) (m : Merge) (sets : List (List ℕ)) → sets_of (merges ++ m ∷ []) ++ sets ≡ sets_of merges ++ m.places ∷ sets
@@ -191,12 +210,14 @@ sets_more merges m sets = ap (λ l. l ++ sets) (map-append (λ (x : Merge). x.pl
 -- what covering keeps from one merge to the next
 pub record IsCoveredSoFar (target : ℕ) (start now : List Row) (merges : List Merge) : Type 0 where
   pub few : length now < 2 ^ 32
+  pub no_more : length now ≤ length start
+  pub routes : HasRoutesOf start now
   pub sound : IsSound now
   pub goes_on : (sets : List (List ℕ)) (covered : List Row) → Covers target now sets covered → Covers target start (sets_of merges ++ sets) covered
   pub serves : IsPermutation (served start) (served now)
 
 pub so_far_first : (target : ℕ) (start : List Row) → length start < 2 ^ 32 → IsSound start → IsCoveredSoFar target start start []
-so_far_first target start few sound = record { few = few; sound = sound; goes_on = λ sets covered h. h; serves = IsPermutation-refl (served start) }
+so_far_first target start few sound = record { few = few; no_more = omega arith; routes = routes_own start; sound = sound; goes_on = λ sets covered h. h; serves = IsPermutation-refl (served start) }
 
 pub so_far_more : (target : ℕ) (start now new : List Row) (merges : List Merge) (m : Merge) → IsCoveredSoFar target start now merges → target < length now → IsChosen now m.places → new ≡ after now m.places
     → IsCoveredSoFar target start new (merges ++ m ∷ [])
@@ -204,6 +225,8 @@ so_far_more target start now new merges m so_far more chosen is =
     let legal = chosen_legal now m.places so_far.sound chosen in
     subst (λ l. IsCoveredSoFar target start l (merges ++ m ∷ [])) (sym is) (record {
       few = omega (arith, shorter now m.places legal.0, so_far.few);
+      no_more = omega (arith, shorter now m.places legal.0, so_far.no_more);
+      routes = routes_after now m.places legal.0 start so_far.routes;
       sound = legal.1;
       goes_on = λ sets covered h. subst (λ l. Covers target start l covered) (sym (sets_more merges m sets)) (so_far.goes_on (m.places ∷ sets) covered (merged now m.places sets covered more chosen h));
       serves = IsPermutation-trans (served start) (served now) (served (after now m.places)) so_far.serves (served_after now m.places legal.0);

@@ -1,9 +1,9 @@
 -- Pairs that were refused stay refused until one of their rows changes.
-use Rattle.std.proofs.Common.{◌≡◌, ℕ, zero, suc, ◌+◌, ◌-◌, ◌<◌, ◌≤◌, ◌⊎◌, ◌↔◌, IsTrue, Bool, true, false, cond, List, [], ◌∷◌, length, get_or, take, drop, inl, inr, refl, sym, ap, ◌∙◌, subst, set, length-append, length-drop, length-take, get_or-take, get_or-drop, arith}
+use Rattle.std.proofs.Common.{◌≡◌, ℕ, zero, suc, ◌+◌, ◌-◌, ◌<◌, ◌≤◌, ◌⊎◌, ◌↔◌, IsTrue, Bool, true, false, cond, List, [], ◌∷◌, length, get_or, take, drop, inl, inr, sym, ap, ◌∙◌, subst, set, length-append, length-drop, length-take, get_or-take, get_or-drop, arith}
 use Rattle.std.specs.Prelude.{All, not, insert, map}
 use Rattle.std.specs.List.{cons_option}
 use Rattle.std.proofs.lemmas.List.Elements.{All-cons, All-append, All-take, All-drop, All-head}
-use Rattle.std.proofs.lemmas.Bool.{cases_lt, cases_order}
+use Rattle.std.proofs.lemmas.Bool.{cases_Bool, cases_lt, cases_order, not-true}
 use Rattle.std.proofs.lemmas.Grind.{get_or-set_at}
 use Rattle.std.proofs.lemmas.List.{get_or_default, get_or-set_other, length-set}
 use Rattle.std.proofs.lemmas.Option.{slice_get-get_or}
@@ -212,10 +212,6 @@ marked_later now rows gs then le marks = record { tried = marks.tried; bound = �
 
 -- ---- the table after a merge
 
-bool_cases : (b : Bool) → (b ≡ true) ⊎ (b ≡ false)
-bool_cases true = inl refl
-bool_cases false = inr refl
-
 module _ (rows : List Row) (places : List ℕ) (ordered : IsOrdered rows) (merge : IsMergeSet rows places) where
   -- what was met is met in the table after the merge
   met_after : (b : Block) → HasMet rows b → HasMet (after rows places) b
@@ -249,7 +245,7 @@ module _ (rows : List Row) (places : List ℕ) (ordered : IsOrdered rows) (merge
           (picked-at P (λ j. not (has places j)) n (drop n rows) (λ i e inside. back (suc i) e (omega (arith, inside))) (k - n) k d (sym at) (omega (arith, length-drop n rows, from, within)) out)
 
       each : All P rows
-      each k d within = by_case (bool_cases (has places k))
+      each k d within = by_case (cases_Bool (has places k))
         where
           by_case : (has places k ≡ true) ⊎ (has places k ≡ false) → P (get_or rows k d)
           by_case (inl found) = member k d found
@@ -382,12 +378,8 @@ module _ (rows : List Row) (i j : ℕ) (set : IsMergeSet rows (i ∷ j ∷ [])) 
 -- where the down-check is false, the merge meets an alias of a row of greater generality
 pub met_read : (list : List Row) (m : Block) (g p : ℕ) (t : Bool) → IsOrdered list → g ≡ generality m → p ≡ place_for list g → (IsTrue t) ↔ (PassesDown list m p) → not t ≡ true → HasMet list m
 met_read list m g p t ordered is_g is_p tells came all =
-    fails (PassesDown list m p) t tells (from_not t came) (λ r d from within. all r d within (above r d from within (cases_lt (generality m) (generality (get_or list r d).block))))
+    fails (PassesDown list m p) t tells (not-true t came) (λ r d from within. all r d within (above r d from within (cases_lt (generality m) (generality (get_or list r d).block))))
   where
-    from_not : (u : Bool) → not u ≡ true → u ≡ false
-    from_not true e = sym e
-    from_not false e = refl
-
     above : (r : ℕ) (d : Row) → p ≤ r → r < length list → (generality m < generality (get_or list r d).block) ⊎ (generality (get_or list r d).block ≤ generality m) → generality m < generality (get_or list r d).block
     above r d from within (inl high) = high
     above r d from within (inr low) = absurd (omega (arith, is_p, from, place_for-above list g ordered r d within (omega (arith, low, is_g))))

@@ -1,6 +1,7 @@
 -- Covering: which merges are made, one after another (after Mundy, Heathcote, Garside, HPSR 2016; the ties and the
 -- pairs are this project's own).
-use Rattle.std.specs.Prelude.{◌≡◌, ◌==◌, ℕ, suc, ◌<◌, ◌≤◌, ◌⊎◌, if◌then◌else◌, List, [], ◌∷◌, length, slice_index_or}
+use Rattle.std.specs.Prelude.{◌≡◌, ◌==◌, ℕ, suc, ◌<◌, ◌≤◌, ◌⊎◌, if◌then◌else◌, List, [], ◌∷◌, All, length, map, slice_index_or}
+use Rattle.std.specs.List.{Contains}
 use Rattle.spin_base.specs.declared.routes.Route.{Route}
 use Rattle.tern_word.specs.declared.tables.Row.{Row}
 use Rattle.cover_checks.specs.Merge.{after, IsMergeSet, IsLegal}
@@ -78,3 +79,7 @@ pub data Covers (target : ℕ) : List Row → List (List ℕ) → List Row → T
   stuck : (rows : List Row) → target < length rows → HasNoChosen rows → Covers target rows [] rows
   merged : (rows : List Row) (set : List ℕ) (sets : List (List ℕ)) (covered : List Row) → target < length rows → IsChosen rows set
       → Covers target (after rows set) sets covered → Covers target rows (set ∷ sets) covered
+
+-- each row's route is that of a row of the table
+abbrev pub HasRoutesOf : List Row → List Row → Type 0
+HasRoutesOf table rows = All (λ (r : Row). Contains (map (λ (x : Row). x.route) table) r.route) rows

@@ -7,9 +7,9 @@ ghost use Rattle.cover_merge.specs.Tried.{AreMarked, IsFresh};
 
 use crate::applying::take_out_all;
 use crate::guards::{Guard, guard_of, place_in, unknown};
-use cover_checks::{merged_block, misses};
+use cover_checks::merged_block;
 use spin_base::{Block, Memory};
-use tern_word::{Row, generality};
+use tern_word::{Row, generality, misses};
 
 /// Carries the guards over to the table after the merge of the rows at the places. What was known of a row with an
 /// alias that the merged block meets is forgotten, and nothing is known of the merged row.

@@ -98,7 +98,7 @@ fn better(
     }
     let rows = table.rows.as_slice();
     let bits = rows[k].route.bits;
-    let set = refine_by(table, guards, places_from(alloc, rows, links, k)?)?;
+    let set = refine_by(alloc, table, guards, places_from(alloc, rows, links, k)?)?;
     if beats(set.len(), bits, best.set.len(), best.bits) {
         return Ok(Best { set, bits });
     }

@@ -5,7 +5,7 @@ ghost use Rattle.std.specs.List.Sorted.{IsPermutation};
 ghost use Rattle.cover_checks.specs.Merge.{IsLegal, IsMergeSet, after};
 ghost use Rattle.cover_merge.specs.Guards.{AreGuards};
 ghost use Rattle.cover_merge.specs.Tried.{AreMarked};
-ghost use Rattle.cover_merge.specs.Covering.{Covers, HasNoLegalPair};
+ghost use Rattle.cover_merge.specs.Covering.{Covers, HasNoLegalPair, HasRoutesOf};
 ghost use Rattle.cover_merge.specs.Merges.{sets_of};
 
 use crate::applying::apply;
@@ -39,6 +39,8 @@ pub fn cover(alloc: Global, mut table: Table, target: u32) -> Result<Covered, Me
     ensures covered { IfOk result (λ c. Covers target table.rows (sets_of c.merges) c.table.rows) }
     ensures sound { IfOk result (λ c. IsSound c.table.rows) }
     ensures serves { IfOk result (λ c. IsPermutation (served table.rows) (served c.table.rows)) }
+    ensures few { IfOk result (λ c. length c.table.rows ≤ length table.rows) }
+    ensures routes { IfOk result (λ c. HasRoutesOf table.rows c.table.rows) }
     ensures ended { IfOk result (λ c. (length c.table.rows ≤ target) ⊎ (HasNoLegalPair c.table.rows)) }
 {
     let mut guards = guards_of(alloc, table.rows.as_slice())?;

@@ -7,10 +7,10 @@ ghost use Rattle.cover_checks.specs.Merge.{has, place_for, IsOneRoute, IsMergeSe
 ghost use Rattle.cover_merge.specs.Guards.{IsRival, HasRival, IsGuardAt, AreGuards, IsSilent};
 ghost use Rattle.cover_merge.specs.Tried.{IsFresh, IsRefusedAt, AreTried, AreMarked, IsMarked};
 
-use cover_checks::{merged_block, misses, passes_down};
+use cover_checks::{is_clear, merged_block, passes_down};
 use spin_base::Memory;
 use std::alloc::Global;
-use tern_word::{Row, Table, generality, merge_two};
+use tern_word::{Row, Table, generality, merge_two, misses};
 
 /// What is known of the rows behind a row: the generality of the first of another route that meets an alias of it, and
 /// that of the first of any route; 33 where there is none. 33 and 0 say nothing. And when the row was last tried with all
@@ -68,7 +68,7 @@ pub(crate) fn guard_of(rows: &[Row], s: usize, now: usize) -> Guard
     ensures guard { IsGuardAt rows.now s result }
     ensures fresh { IsFresh now result }
 {
-    let met = first_met(rows, s);
+    let met = next_to_meet(rows, s);
     Guard {
         rival: first_rival(rows, s, met),
         clear: general_from(rows, met),
@@ -78,7 +78,7 @@ pub(crate) fn guard_of(rows: &[Row], s: usize, now: usize) -> Guard
 }
 
 // The place of the first row behind row `s` that meets an alias of it, and the number of rows where there is none.
-fn first_met(rows: &[Row], s: usize) -> usize
+fn next_to_meet(rows: &[Row], s: usize) -> usize
     requires inside { s < length rows.now }
     ensures behind { s < result }
     ensures missed { (r : ℕ) (d : ARow) → s < r → r < result → Misses (slice_index_or rows.now r d).block (slice_index_or rows.now s d) }
@@ -195,15 +195,6 @@ fn is_clear_behind(rows: &[Row], places: &[u32], s: u32, r: u32) -> bool
         return true;
     }
     is_clear(rows, places, s, r)
-}
-
-// Whether row `r` is of the set or its block meets no alias of row `s`.
-fn is_clear(rows: &[Row], places: &[u32], s: u32, r: u32) -> bool
-    requires row { r < length rows.now }
-    requires member { s < length rows.now }
-    ensures { IsTrue result ↔ IsClear rows.now places.now s r }
-{
-    misses(rows[r as usize].block, &rows[s as usize]) || places.contains(&r)
 }
 
 /// The number of rows whose generality is at most `general`: the place behind them.

@@ -16,18 +16,19 @@ use tern_word::{Alias, Row, Table, generality, intersects, merge_two};
 /// The places of the set that can be merged. With fewer than two places there are none. Where the up-check fails, the
 /// greatest place for which it fails is taken out; where the down-check fails, the first alias that the merge would
 /// meet is kept clear by the bit that keeps most places, the highest on a tie; and so on until the merge is legal.
-pub fn refine(table: &Table, places: Seq<u32>) -> Result<Seq<u32>, Memory>
+pub fn refine(alloc: Global, table: &Table, places: Seq<u32>) -> Result<Seq<u32>, Memory>
     requires few { length table.now.rows < 2 ^ 32 }
     requires sound { IsSound table.now.rows }
     requires set { IsOneRoute table.now.rows places }
     ensures refined { IfOk result (λ answer. Refines table.now.rows places answer) }
     ensures legal { IfOk result (λ answer. (answer ≡ []) ⊎ ((IsMergeSet table.now.rows answer) × (IsLegal table.now.rows answer))) }
 {
-    refine_by(table, &[], places)
+    refine_by(alloc, table, &[], places)
 }
 
 /// The same, by what the guards tell.
 pub(crate) fn refine_by(
+    alloc: Global,
     table: &Table,
     guards: &[Guard],
     places: Seq<u32>,
@@ -41,7 +42,6 @@ pub(crate) fn refine_by(
 {
     let rows = table.rows.as_slice();
     let mut set = places.into_vec();
-    let alloc = *set.allocator();
     while set.len() >= 2 {
         if let Some(merged) = sift(alloc, rows, guards, &mut set)? {
             if narrow(rows, &mut set, merged) {

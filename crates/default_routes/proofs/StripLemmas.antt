@@ -1,31 +1,31 @@
 -- Kept rows route as all rows do.
-use Rattle.std.proofs.Common.{◌≡◌, ℕ, zero, suc, ◌+◌, ◌-◌, ◌^◌, ◌<◌, ◌≤◌, ◌⊎◌, inl, inr, ◌==◌, Bool, true, false, cond, Option, Some, None, List, [], ◌∷◌, ◌++◌, length, get_or, refl, sym, ap, ◌∙◌, subst, arith}
+use Rattle.std.proofs.Common.{◌≡◌, ℕ, suc, ◌+◌, ◌-◌, ◌^◌, ◌<◌, ◌≤◌, ◌⊎◌, inl, inr, ◌==◌, Bool, true, false, cond, Some, List, [], ◌∷◌, length, get_or, refl, sym, ap, ◌∙◌, subst, arith}
 use Rattle.std.specs.Prelude.{All, AllPairs, map, find, slice_get, bit_and, MatchBool, IsTrue, ◌↔◌}
 use Rattle.std.specs.List.{cons_option}
 use Rattle.std.specs.Option.{option_map_or}
-use mathlib.Core.Bool.{false≢true, true≢false}
-use Rattle.std.proofs.lemmas.Bool.{cases_lt, eqb-true, eq-eqb}
+use Rattle.std.proofs.lemmas.Bool.{cases_lt, eq-eqb}
 use Rattle.std.proofs.lemmas.Bool.Decides.{eqb_tells}
 use Rattle.std.proofs.lemmas.List.{get_or_default}
-use Rattle.std.proofs.lemmas.List.Elements.{All-nil, All-cons, All-head, All-tail}
+use Rattle.std.proofs.lemmas.List.Elements.{All-nil, All-cons, All-head, All-tail, All-weaker, All-map}
+use Rattle.std.proofs.lemmas.List.Kept.{AllPairs-cons}
 use Rattle.std.proofs.lemmas.Option.{slice_get_read, get_or_from_slice_get, slice_get_within}
 use Rattle.spin_base.specs.declared.chips.Dir.{Dir}
 use Rattle.spin_base.specs.declared.chips.Dir.TheVariants.{East, NorthEast, North, West, SouthWest, South}
 use Rattle.spin_base.specs.declared.chips.Port.{Port}
-use Rattle.spin_base.specs.declared.chips.Port.TheVariants.{Link, Local}
-use Rattle.spin_base.specs.declared.blocks.Block.{Block}
+use Rattle.spin_base.specs.declared.chips.Port.TheVariants.{Link}
 use Rattle.spin_base.specs.declared.blocks.Entry.{Entry}
 use Rattle.spin_base.specs.declared.routes.Route.{Route}
 use Rattle.spin_base.specs.Lookup.{matches, straight_on, default_route, lookup}
-use Rattle.spin_base.specs.Links.{dir_number}
 use Rattle.tern_word.specs.declared.tables.Alias.{Alias}
 use Rattle.tern_word.specs.declared.tables.Row.{Row}
-use Rattle.tern_word.specs.Ternary.{Matches, Intersects}
-use Rattle.tern_word.specs.SoundTable.{Misses, IsSound}
-use Rattle.cover_checks.specs.Merge.{has, rows_at}
+use Rattle.tern_word.specs.Entries.{entry_of}
+use Rattle.tern_word.specs.Ternary.{Matches}
+use Rattle.tern_word.specs.SoundTable.{Misses, IsSound, Original, served_by, served}
+use Rattle.cover_checks.specs.Merge.{rows_at}
 use Rattle.cover_checks.proofs.Answering.{fails}
+use Rattle.cover_checks.proofs.Lists.{AllPairs-nil, All-flat_map}
 use Rattle.cover_checks.proofs.Positions.{has-at, has-place, rows_at-from, rows_at-has, same_route}
-use Rattle.default_routes.specs.KeptRows.{IsStrippable, KeptFrom, ends, goes, stays, AreKept, entry_of, RoutesAll}
+use Rattle.default_routes.specs.KeptRows.{IsStrippable, KeptFrom, ends, goes, stays, AreKept, ArePlaces, RoutesAll, Routes}
 
 -- ---- lookup, entry by entry
 
@@ -93,6 +93,42 @@ module _ (rows : List Row) (sound : IsSound rows) where
 
   pub kept_routes : (kept : List ℕ) → AreKept rows kept → RoutesAll rows kept
   kept_routes kept are j d within m e inside key small hit = routes_from 0 kept are j d (omega arith) within m e inside key small hit
+
+  -- each original block is an alias of a row
+  pub kept_serve : (kept : List ℕ) → AreKept rows kept → All (λ (o : Original). Routes (rows_at rows kept) o) (served rows)
+  kept_serve kept are =
+      let P = λ (o : Original). Routes (rows_at rows kept) o in
+      All-flat_map P served_by rows (λ j d within.
+      let r = get_or rows j d in
+      All-map P (λ (a : Alias). let o : Original = record { block = a.block; port = a.port; route = r.route } in o) r.aliases (λ m e inside key small hit. kept_routes kept are j d within m e inside key small hit))
+
+-- ---- the kept places
+
+-- those kept from place i on
+record AreFrom (rows : List Row) (i : ℕ) (kept : List ℕ) : Type 0 where
+  pub behind : All (λ s. i ≤ s) kept
+  pub in_range : All (λ s. s < length rows) kept
+  pub ascending : AllPairs (λ s t. s < t) kept
+  pub few : i + length kept ≤ length rows
+
+later_places : (rows : List Row) (i : ℕ) (kept : List ℕ) → AreFrom rows (suc i) kept → All (λ s. i ≤ s) kept
+later_places rows i kept from = All-weaker (λ s. suc i ≤ s) (λ s. i ≤ s) (λ s less. omega (arith, less)) kept from.behind
+
+places_from : (rows : List Row) (i : ℕ) (kept : List ℕ) → KeptFrom rows i kept → AreFrom rows i kept
+places_from rows i kept ends = record { behind = All-nil (λ s. i ≤ s); in_range = All-nil (λ s. s < length rows); ascending = AllPairs-nil (λ s t. s < t); few = omega arith }
+places_from rows i kept (goes n row rest here strip later) =
+    let from = places_from rows (suc n) rest later in record { behind = later_places rows n rest from; in_range = from.in_range; ascending = from.ascending; few = omega (arith, from.few) }
+places_from rows i kept (stays n row rest here keep later) =
+    let from = places_from rows (suc n) rest later in
+    let within : n < length rows = slice_get_within rows n row here in record {
+      behind = All-cons (λ s. n ≤ s) n rest (omega arith) (later_places rows n rest from);
+      in_range = All-cons (λ s. s < length rows) n rest within from.in_range;
+      ascending = AllPairs-cons (λ s t. s < t) n rest from.behind from.ascending;
+      few = omega (arith, from.few);
+    }
+
+pub kept_places : (rows : List Row) (kept : List ℕ) → AreKept rows kept → ArePlaces rows kept
+kept_places rows kept are = let from = places_from rows 0 kept are in record { in_range = from.in_range; ascending = from.ascending; few = omega (arith, from.few) }
 
 -- ---- one arrival for each one-link route
 

@@ -8,3 +8,8 @@
 mod stripping;
 
 pub use stripping::{Final, strip};
+
+#[cfg(test)]
+mod plain_cover;
+#[cfg(test)]
+mod tests;

@@ -1,17 +1,16 @@
 // Leaving out the rows that default routing replaces.
 ghost use Rattle.std.specs.Prelude.{◌≡◌, ◌<◌, ◌^◌, IfOk, All, MatchOption, MatchBool, length};
-ghost use Rattle.tern_word.specs.SoundTable.{IsSound, Misses};
+ghost use Rattle.tern_word.specs.SoundTable.{IsSound, Misses, served};
 ghost use Rattle.cover_checks.specs.Merge.{rows_at};
 ghost use Rattle.spin_base.specs.Lookup.{straight_on};
 ghost use Rattle.spin_base.specs.declared.chips.Dir.{Dir};
 ghost use Rattle.spin_base.specs.declared.chips.Port.TheVariants.{Link};
-ghost use Rattle.default_routes.specs.KeptRows.{IsStrippable, AreKept, RoutesAll};
+ghost use Rattle.default_routes.specs.KeptRows.{IsStrippable, AreKept, ArePlaces, RoutesAll, Routes};
 
-use cover_checks::misses;
 use cover_merge::Covered;
 use spin_base::{Dir, Memory, Port, Seq};
 use std::alloc::Global;
-use tern_word::{Alias, Row};
+use tern_word::{Alias, Row, misses};
 
 /// A covered table, and the places of the rows that are loaded, ascending.
 #[derive(Debug, Drop)]
@@ -27,7 +26,9 @@ pub fn strip(alloc: Global, covered: Covered) -> Result<Final, Memory>
     requires sound { IsSound covered.table.rows }
     ensures covered { IfOk result (λ f. f.covered ≡ covered) }
     ensures kept { IfOk result (λ f. AreKept covered.table.rows f.kept) }
+    ensures places { IfOk result (λ f. ArePlaces covered.table.rows f.kept) }
     ensures routes { IfOk result (λ f. RoutesAll covered.table.rows f.kept) }
+    ensures serves { IfOk result (λ f. All (λ o. Routes (rows_at covered.table.rows f.kept) o) (served covered.table.rows)) }
 {
     let kept = kept_places(alloc, covered.table.rows.as_slice())?;
     Ok(Final { covered, kept })

@@ -1,9 +1,11 @@
 -- Nets have at most one right list of blocks.
-use Rattle.std.proofs.Common.{◌≡◌, ℕ, ◌+◌, ◌^◌, ◌<◌, ◌≤◌, List, ◌++◌, [], ◌∷◌, length, take, refl, sym, ap, ap₂, ◌∙◌, subst, zero, suc, inl, inr, arith}
+use Rattle.std.proofs.Common.{◌≡◌, ℕ, ◌^◌, ◌<◌, ◌≤◌, List, length, take, slice_get, Some, sym, ap, ◌∙◌, subst, inl, inr, arith}
 use Rattle.std.specs.Prelude.{bit_and}
-use Rattle.std.proofs.lemmas.List.{take_more, take_all}
+use Rattle.std.proofs.lemmas.List.{take_all}
 use Rattle.std.proofs.lemmas.Option.{slice_get_cases, slice_get_within}
 use Rattle.std.proofs.lemmas.Bool.{cases_lt}
+use Rattle.list_laws.proofs.Places.{slice_get_there}
+use Rattle.list_laws.proofs.Determined.{EachFollows, determined_begins}
 use Rattle.spin_base.specs.declared.blocks.Block.{Block}
 use Rattle.app_graph.specs.declared.graphs.Net.{Net}
 use Rattle.tern_word.proofs.BlockLaws.{one_block}
@@ -26,33 +28,24 @@ same_block earlier net x y a b =
     let down : y.key ≤ x.key = b.least x.key (subst (λ s. IsOpen earlier s x.key) sizes a.may) in
     same_parts x y (omega arith) masks
 
--- two lists of first blocks agree as far as both go
-agree : (nets : List Net) (xs ys : List Block) → AreFirstBlocks nets xs → AreFirstBlocks nets ys → (n : ℕ) → n ≤ length xs → n ≤ length ys → take n xs ≡ take n ys
-agree nets xs ys a b zero in_xs in_ys = refl
-agree nets xs ys a b (suc n) in_xs in_ys =
-    let before = agree nets xs ys a b n (omega arith) (omega arith) in
-    elim (slice_get_cases xs n).1 [
-      | inl (x, x_in, is_x, got_x) ↦ elim (slice_get_cases ys n).1 [
-        | inl (y, y_in, is_y, got_y) ↦ elim (slice_get_cases nets n).1 [
-          | inl (net, net_in, is_net, got_net) ↦ (
-              let one = same_block (take n ys) net x y (subst (λ e. IsBlockFor e net x) before (a.each n net x is_net is_x)) (b.each n net y is_net is_y) in
-              let up : suc n ≡ n + 1 = omega arith in
-              ap (λ k. take k xs) up
-              ∙ take_more xs n x x_in
-              ∙ ap₂ (λ (e : List Block) (z : Block). e ++ z ∷ []) before (got_x ∙ one ∙ sym got_y)
-              ∙ sym (take_more ys n y y_in)
-              ∙ ap (λ k. take k ys) (sym up)
-              )
-          | inr (past, none) ↦ absurd (omega (arith, a.few))
-        ]
-        | inr (past, none) ↦ absurd (omega arith)
-      ]
-      | inr (past, none) ↦ absurd (omega arith)
-    ]
+-- the block at a place is that of the net there, where these blocks stand before it
+abbrev Follows : List Net → List Block → ℕ → Block → Type 0
+Follows nets before n b = (net : Net) × (slice_get nets n ≡ Some net) × IsBlockFor before net b
+
+same_follower : (nets : List Net) (before : List Block) (n : ℕ) (x y : Block) → Follows nets before n x → Follows nets before n y → x ≡ y
+same_follower nets before n x y a b =
+    let one : Some a.0 ≡ Some b.0 = sym a.1 ∙ b.1 in
+    let net : a.0 ≡ b.0 = cc in
+    same_block before b.0 x y (subst (λ z. IsBlockFor before z x) net a.2) b.2
+
+followed : (nets : List Net) (xs : List Block) → AreFirstBlocks nets xs → EachFollows (Follows nets) (same_follower nets) xs
+followed nets xs first n x is =
+    let net = slice_get_there nets n (omega (arith, slice_get_within xs n x is, first.few)) in
+    (net.0, net.1, first.each n net.0 x net.1 is)
 
 -- the shorter of two lists of first blocks is the beginning of the longer
 begins : (nets : List Net) (xs ys : List Block) → AreFirstBlocks nets xs → AreFirstBlocks nets ys → length xs ≤ length ys → take (length xs) ys ≡ xs
-begins nets xs ys a b le = sym (agree nets xs ys a b (length xs) (omega arith) le) ∙ take_all (length xs) xs (omega arith)
+begins nets xs ys a b le = determined_begins (Follows nets) (same_follower nets) xs ys (followed nets xs a) (followed nets ys b) le
 
 pub one_list : (nets : List Net) (xs ys : List Block) → AreRightBlocks nets xs → AreRightBlocks nets ys → xs ≡ ys
 one_list nets xs ys a b = sym (begins nets xs ys a.first b.first (omega (arith, a.all, b.all))) ∙ take_all (length xs) ys (omega (arith, a.all, b.all))

@@ -1,27 +1,17 @@
 -- One block more; and what right blocks are for: they are apart, and have enough keys.
-use Rattle.std.proofs.Common.{◌≡◌, ℕ, ◌+◌, ◌-◌, ◌%◌, ◌^◌, ◌<◌, ◌≤◌, ◌↔◌, true, List, [], ◌∷◌, ◌++◌, length, take, get_or, refl, sym, ap, ◌∙◌, subst, zero, suc, Some, slice_get, inl, inr, ◌⊎◌, arith, AllPairs}
+use Rattle.std.proofs.Common.{◌≡◌, ℕ, ◌+◌, ◌-◌, ◌%◌, ◌^◌, ◌<◌, ◌≤◌, ◌↔◌, true, List, [], ◌∷◌, ◌++◌, length, take, get_or, refl, sym, ap, ◌∙◌, subst, suc, Some, slice_get, inl, inr, arith, AllPairs}
 use Rattle.std.specs.Prelude.{bit_and}
 use Rattle.std.specs.List.{AllZip}
 use Rattle.std.proofs.lemmas.Bool.Decides.{nat_tests}
 use Rattle.std.proofs.lemmas.List.{length_push, take-append-le, take_at, get_or-take, length-take-le}
 use Rattle.std.proofs.lemmas.Option.{slice_get-get_or, slice_get_cases, slice_get_within}
+use Rattle.list_laws.proofs.Places.{slice_get-push_cases}
 use Rattle.spin_base.specs.declared.blocks.Block.{Block}
 use Rattle.app_graph.specs.declared.graphs.Net.{Net}
 use Rattle.range_store.specs.Regions.{in_range}
 use Rattle.tern_word.specs.Ternary.{Matches, Intersects}
 use Rattle.tern_word.proofs.BlockLaws.{range_keys, exponent_le, key_small}
 use Rattle.key_alloc.specs.KeyBlocks.{size_of, IsBlockFor, AreFirstBlocks, AreRightBlocks, HasKeys}
-
--- an item of a list with one more at its end
-pub get_push : {X : Type 0} (xs : List X) (y x : X) (j : ℕ) → slice_get (xs ++ y ∷ []) j ≡ Some x → ((j < length xs) × (slice_get xs j ≡ Some x)) ⊎ ((j ≡ length xs) × (y ≡ x))
-get_push [] y x zero e = inr (refl, cc)
-get_push [] y x (suc j) e = cc
-get_push (z ∷ zs) y x zero e = inl (omega arith, e)
-get_push (z ∷ zs) y x (suc j) e =
-    elim (get_push zs y x j e) [
-      | inl before ↦ inl (omega (arith, before.0), before.1)
-      | inr last ↦ inr (ap suc last.0, last.1)
-    ]
 
 pub none_yet : (nets : List Net) → AreFirstBlocks nets []
 none_yet nets = record { few = omega arith; each = λ i net b is_net is_block. cc }
@@ -31,7 +21,7 @@ pub one_more : (nets : List Net) (blocks : List Block) (i : ℕ) (net : Net) (b 
 one_more nets blocks i net b first here is right = record {
   few = omega (arith, length_push blocks b, slice_get_within nets i net is);
   each = λ j n c is_net is_block.
-      elim (get_push blocks b c j is_block) [
+      elim (slice_get-push_cases blocks b c j is_block) [
         | inl before ↦ subst (λ e. IsBlockFor e n c) (sym (take-append-le j blocks (b ∷ []) (omega (arith, before.0)))) (first.each j n c is_net before.1)
         | inr last ↦ (
             let same_net : Some net ≡ Some n = sym is ∙ (ap (slice_get nets) (sym (last.0 ∙ here)) ∙ is_net) in

@@ -1,7 +1,7 @@
 -- Which places of the region of keys are free, while blocks are taken from it.
-use Rattle.std.proofs.Common.{◌≡◌, ℕ, ◌+◌, ◌-◌, ◌%◌, ◌<◌, ◌≤◌, Bool, true, false, true≢false, not, ◌&&◌, ◌||◌, ltb, List, [], ◌∷◌, ◌++◌, get_or, refl, sym, ap, ◌∙◌, inl, inr, ◌⊎◌, arith}
+use Rattle.std.proofs.Common.{◌≡◌, ℕ, ◌+◌, ◌-◌, ◌%◌, ◌<◌, ◌≤◌, Bool, true, false, true≢false, not, ◌&&◌, ◌||◌, ltb, List, [], ◌∷◌, ◌++◌, get_or, refl, sym, ap, ◌∙◌, inl, inr, arith}
 use Rattle.std.specs.List.{list_any}
-use Rattle.std.proofs.lemmas.Bool.{cases_lt}
+use Rattle.std.proofs.lemmas.Bool.{and_parts, cases_Bool, cases_lt, lt-ltb, ltb-true, not-true, or_cases, or_left, or_right}
 use Rattle.std.proofs.lemmas.Bool.Decides.{nat_tests}
 use Rattle.std.proofs.lemmas.List.Folds.{list_any-append, list_any_at, list_any_none}
 use Rattle.spin_base.specs.declared.blocks.Block.{Block}
@@ -11,24 +11,8 @@ use Rattle.range_store.specs.Regions.{AreRuns, IsFirstFit, HasNoFit, has_range, 
 use Rattle.key_alloc.specs.KeyBlocks.{size_of, IsSizeFor, IsOpen, IsBlockFor}
 use Rattle.key_alloc.proofs.Sizes.{positive}
 
-bool_cases : (b : Bool) → (b ≡ true) ⊎ (b ≡ false)
-bool_cases true = inl refl
-bool_cases false = inr refl
-
 clash : {A : Type 0} {b : Bool} → b ≡ true → b ≡ false → A
 clash t f = absurd (true≢false (sym t ∙ f))
-
-or_cases : (a b : Bool) → (a || b) ≡ true → (a ≡ true) ⊎ (b ≡ true)
-or_cases true b e = inl refl
-or_cases false b e = inr e
-
-or_left : (a b : Bool) → a ≡ true → (a || b) ≡ true
-or_left true b e = refl
-or_left false b e = clash e refl
-
-or_right : (a b : Bool) → b ≡ true → (a || b) ≡ true
-or_right true b e = refl
-or_right false b e = e
 
 -- ---- holes and free places
 
@@ -95,14 +79,6 @@ pub record IsTaken (blocks : List Block) (holes : List Hole) : Type 0 where
   pub runs : AreRuns 0 4294967296 holes
   pub free : (k : ℕ) → is_free holes k ≡ (ltb k 4294967296 && not (list_any (has_key k) blocks))
 
-and_true : (a b : Bool) → (a && b) ≡ true → (a ≡ true) × (b ≡ true)
-and_true true b e = (refl, e)
-and_true false b e = clash e refl
-
-not_true : (a : Bool) → not a ≡ true → a ≡ false
-not_true true e = clash e refl
-not_true false e = refl
-
 free_of : (a b : Bool) → a ≡ true → b ≡ false → (a && not b) ≡ true
 free_of true false p q = refl
 free_of true true p q = clash refl q
@@ -134,30 +110,24 @@ taken_more blocks b holes after taken runs free = record {
 in_facts : (p s k : ℕ) → in_range p s k ≡ true → (p ≤ k) × (k < p + s)
 in_facts p s k e = (grind (arith, nat_tests), grind (arith, nat_tests))
 
-below_facts : (k n : ℕ) → ltb k n ≡ true → k < n
-below_facts k n e = grind (arith, nat_tests)
-
-below_from : (k n : ℕ) → k < n → ltb k n ≡ true
-below_from k n e = grind (arith, nat_tests)
-
 module _ (blocks : List Block) (holes : List Hole) (taken : IsTaken blocks holes) (s : ℕ) (some : 0 < s) where
   pub open_from_hole : (p : ℕ) → p % s ≡ 0 → is_hole_range holes p s ≡ true → IsOpen blocks s p
   open_from_hole p aligned fits =
       let at : (k : ℕ) → p ≤ k → k < p + s → (ltb k 4294967296 ≡ true) × (not (list_any (has_key k) blocks) ≡ true) =
-      λ k low high. and_true (ltb k 4294967296) (not (list_any (has_key k) blocks)) (sym (taken.free k) ∙ free_in_range holes p s k fits low high) in
-      let last = below_facts (p + s - 1) 4294967296 (at (p + s - 1) (omega arith) (omega arith)).0 in
+      λ k low high. and_parts (ltb k 4294967296) (not (list_any (has_key k) blocks)) (sym (taken.free k) ∙ free_in_range holes p s k fits low high) in
+      let last = ltb-true (p + s - 1) 4294967296 (at (p + s - 1) (omega arith) (omega arith)).0 in
       record {
         aligned = aligned;
         within = omega (arith, last);
         apart = λ j d inside k mine its.
             let f = in_facts p s k its in
-            clash (list_any_at (has_key k) blocks j d inside mine) (not_true (list_any (has_key k) blocks) (at k f.0 f.1).1);
+            clash (list_any_at (has_key k) blocks j d inside mine) (not-true (list_any (has_key k) blocks) (at k f.0 f.1).1);
       }
 
   pub hole_from_open : (p : ℕ) → IsOpen blocks s p → is_hole_range holes p s ≡ true
   hole_from_open p o = range_of_free 0 4294967296 holes p s taken.runs some (λ k low high.
-      taken.free k ∙ free_of (ltb k 4294967296) (list_any (has_key k) blocks) (below_from k 4294967296 (omega (arith, o.within)))
-      (list_any_none (has_key k) blocks (λ j d inside. elim (bool_cases (has_key k (get_or blocks j d))) [
+      taken.free k ∙ free_of (ltb k 4294967296) (list_any (has_key k) blocks) (lt-ltb k 4294967296 (omega (arith, o.within)))
+      (list_any_none (has_key k) blocks (λ j d inside. elim (cases_Bool (has_key k (get_or blocks j d))) [
         | inl mine ↦ absurd (o.apart j d inside k mine (grind (arith, nat_tests)))
         | inr none ↦ none
       ])))

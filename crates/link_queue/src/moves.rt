@@ -7,8 +7,9 @@ use crate::links::{Link, NotesFull, NotesNone, Offered, Offers, Rx, Takes, Tx};
 use spin_base::McCopy;
 use std::sync::Wait;
 
-/// Offers a copy to the link. `Full` hands that copy back, and comes exactly where the queue refused the push of this
-/// call: it then held as many copies as it can, and the end has one note more, of how many copies had entered.
+/// Offers a copy to the link. `Taken` where it entered the queue. `Full` hands it back, comes only where the queue held
+/// as many copies as it can at one moment of the call, and leaves the end one note more, of how many copies had entered.
+/// How often the queue is asked before it refuses, and by which of its calls, is said by no clause.
 pub fn offer<R: Wait>(rt: &R, link: &Link, tx: &mut Tx, copy: McCopy) -> Offered
     requires { IsTx link.now tx.old }
     ensures answer { MatchOffered result (TakesOffer (sending tx.old) copy (sending tx.new)) (λ back. (back ≡ copy) × RefusesOffer (cap_of link.now) (sending tx.old) (sending tx.new)) }
@@ -23,8 +24,9 @@ pub fn offer<R: Wait>(rt: &R, link: &Link, tx: &mut Tx, copy: McCopy) -> Offered
     }
 }
 
-/// Takes the copy at the front. `None` comes exactly where the pop of this call found the queue empty: the whole first
-/// list was then taken, and the end has one note more, of how many copies it took.
+/// Takes the copy at the front. `None` comes only where the queue was empty at one moment of the call: the whole first
+/// list was then taken, and the end has one note more, of how many copies it took. How often the queue is asked before
+/// it is found empty, and by which of its calls, is said by no clause.
 pub fn take<R: Wait>(rt: &R, link: &Link, rx: &mut Rx) -> Option<McCopy>
     requires { IsRx link.now rx.old }
     ensures answer { MatchOption result (FindsNothing (taking rx.old) (taking rx.new)) (λ x. TakesCopy (taking rx.old) x (taking rx.new)) }

@@ -17,50 +17,64 @@ fn copy_of(packet: u32) -> McCopy {
     }
 }
 
+fn may_be_moved<T: Send>() {}
+
+fn may_be_shared<T: Send + Sync>() {}
+
+/// Whether the copies of packets 1 and 2 are taken of offers, and that of 3 comes back.
+fn takes_two_offers<R: Wait>(rt: &R, link: &Link, tx: &mut Tx) -> bool
+    requires { IsTx link.now tx.old }
+    ensures { IsTx link.now tx.new }
+{
+    let first = offer(rt, link, tx, copy_of(1));
+    let second = offer(rt, link, tx, copy_of(2));
+    let third = offer(rt, link, tx, copy_of(3));
+    first == Offered::Taken && second == Offered::Taken && third == Offered::Full(copy_of(3))
+}
+
 #[test]
-fn offers_fill_the_link_and_the_rest_comes_down(rt: HostRuntime) -> Result<(), Fail> {
+fn offers_fill_the_link_and_what_is_held_comes_down(rt: HostRuntime) -> Result<(), Fail> {
+    may_be_moved::<LinkEnds>();
+    may_be_shared::<Link>();
     let Ok(ends) = link_up(&rt, rt.alloc(), Seq::new(rt.alloc()), 2) else {
         return Ok(Err(Memory)?);
     };
     let LinkEnds {
         link,
         mut tx,
-        mut rx,
+        rx,
         room,
     } = ends;
-    assert_eq!(rt; offer(&rt, &link, &mut tx, copy_of(1)), Offered::Taken);
-    assert_eq!(rt; offer(&rt, &link, &mut tx, copy_of(2)), Offered::Taken);
-    assert_eq!(rt;
-        offer(&rt, &link, &mut tx, copy_of(3)),
-        Offered::Full(copy_of(3))
-    );
-    assert_eq!(rt; take(&rt, &link, &mut rx), Some(copy_of(1)));
+    assert!(rt; takes_two_offers(&rt, &link, &mut tx));
     let held = link_down(&rt, link, tx, rx, room);
-    assert_eq!(rt; held.as_slice(), [copy_of(2)].as_slice());
+    assert_eq!(rt; held.as_slice(), [copy_of(1), copy_of(2)].as_slice());
     Ok(())
 }
 
+/// Whether the copies of packets 1 and 2 are taken, and then none.
+fn gives_two<R: Wait>(rt: &R, link: &Link, rx: &mut Rx) -> bool
+    requires { IsRx link.now rx.old }
+    ensures { IsRx link.now rx.new }
+{
+    let first = take(rt, link, rx);
+    let second = take(rt, link, rx);
+    let third = take(rt, link, rx);
+    first == Some(copy_of(1)) && second == Some(copy_of(2)) && third == None
+}
+
 #[test]
-fn a_full_first_list_is_taken_before_the_offers(rt: HostRuntime) -> Result<(), Fail> {
+fn a_full_first_list_is_taken_in_order(rt: HostRuntime) -> Result<(), Fail> {
     let list = Seq::from_vec(vec![in rt.alloc(); copy_of(1), copy_of(2)]?);
     let Ok(ends) = link_up(&rt, rt.alloc(), list, 2) else {
         return Ok(Err(Memory)?);
     };
     let LinkEnds {
         link,
-        mut tx,
+        tx,
         mut rx,
         room,
     } = ends;
-    assert_eq!(rt;
-        offer(&rt, &link, &mut tx, copy_of(3)),
-        Offered::Full(copy_of(3))
-    );
-    assert_eq!(rt; take(&rt, &link, &mut rx), Some(copy_of(1)));
-    assert_eq!(rt; offer(&rt, &link, &mut tx, copy_of(3)), Offered::Taken);
-    assert_eq!(rt; take(&rt, &link, &mut rx), Some(copy_of(2)));
-    assert_eq!(rt; take(&rt, &link, &mut rx), Some(copy_of(3)));
-    assert_eq!(rt; take(&rt, &link, &mut rx), None);
+    assert!(rt; gives_two(&rt, &link, &mut rx));
     let held = link_down(&rt, link, tx, rx, room);
     assert!(rt; held.is_empty());
     Ok(())

@@ -1,10 +1,12 @@
 -- Vertices have at most one placement.
-use Rattle.std.proofs.Common.{◌≡◌, ℕ, ◌+◌, ◌≤◌, true, List, [], ◌∷◌, ◌++◌, length, take, filter, refl, sym, ap, ap₂, ◌∙◌, subst, zero, suc, inl, inr, arith, All}
+use Rattle.std.proofs.Common.{◌≡◌, ℕ, ◌≤◌, true, List, [], ◌∷◌, length, take, slice_get, Some, filter, sym, ap, ◌∙◌, subst, inl, inr, arith, All}
 use Rattle.std.proofs.lemmas.Bool.{cases_lt}
 use Rattle.std.proofs.lemmas.Grind.{same_number_lists}
-use Rattle.std.proofs.lemmas.List.{take_more, take_all}
+use Rattle.std.proofs.lemmas.List.{take_all}
 use Rattle.std.proofs.lemmas.List.Elements.{All-head, All-tail}
 use Rattle.std.proofs.lemmas.Option.{slice_get_cases, slice_get_within, get_or_from_slice_get}
+use Rattle.list_laws.proofs.Places.{slice_get_there}
+use Rattle.list_laws.proofs.Determined.{EachFollows, determined_begins}
 use Rattle.spin_base.specs.declared.chips.Chip.{Chip}
 use Rattle.spin_base.specs.declared.chips.Spot.{Spot}
 use Rattle.machine_desc.specs.Description.{Description}
@@ -45,31 +47,24 @@ one_spot m order vs ss v s t a b =
     same_spot s t chips (omega (arith, up, down))
 
 module _ (m : Description) (order : List Chip) (vertices : List Vertex) where
-  agree : (xs ys : List Spot) → AreFirstSpots m order vertices xs → AreFirstSpots m order vertices ys → (n : ℕ) → n ≤ length xs → n ≤ length ys → take n xs ≡ take n ys
-  agree xs ys a b zero in_xs in_ys = refl
-  agree xs ys a b (suc n) in_xs in_ys =
-      let before = agree xs ys a b n (omega arith) (omega arith) in
-      elim (slice_get_cases xs n).1 [
-        | inl (x, x_in, is_x, got_x) ↦ elim (slice_get_cases ys n).1 [
-          | inl (y, y_in, is_y, got_y) ↦ elim (slice_get_cases vertices n).1 [
-            | inl (v, v_in, is_v, got_v) ↦ (
-                let one = one_spot m order (take n vertices) (take n ys) v x y (subst (λ e. IsSpotFor m order (take n vertices) e v x) before (a.each n v x is_v is_x)) (b.each n v y is_v is_y) in
-                let up : suc n ≡ n + 1 = omega arith in
-                ap (λ k. take k xs) up
-                ∙ take_more xs n x x_in
-                ∙ ap₂ (λ (e : List Spot) (z : Spot). e ++ z ∷ []) before (got_x ∙ one ∙ sym got_y)
-                ∙ sym (take_more ys n y y_in)
-                ∙ ap (λ k. take k ys) (sym up)
-                )
-            | inr (past, none) ↦ absurd (omega (arith, a.few))
-          ]
-          | inr (past, none) ↦ absurd (omega arith)
-        ]
-        | inr (past, none) ↦ absurd (omega arith)
-      ]
+  -- the spot at a place is that of the vertex there, where these stand before it
+  abbrev Follows : List Spot → ℕ → Spot → Type 0
+  Follows before n s = (v : Vertex) × (slice_get vertices n ≡ Some v) × IsSpotFor m order (take n vertices) before v s
 
+  same_follower : (before : List Spot) (n : ℕ) (x y : Spot) → Follows before n x → Follows before n y → x ≡ y
+  same_follower before n x y a b =
+      let one : Some a.0 ≡ Some b.0 = sym a.1 ∙ b.1 in
+      let vertex : a.0 ≡ b.0 = cc in
+      one_spot m order (take n vertices) before b.0 x y (subst (λ z. IsSpotFor m order (take n vertices) before z x) vertex a.2) b.2
+
+  followed : (xs : List Spot) → AreFirstSpots m order vertices xs → EachFollows Follows same_follower xs
+  followed xs first n x is =
+      let v = slice_get_there vertices n (omega (arith, slice_get_within xs n x is, first.few)) in
+      (v.0, v.1, first.each n v.0 x v.1 is)
+
+  -- the shorter of two lists of first spots is the beginning of the longer
   begins : (xs ys : List Spot) → AreFirstSpots m order vertices xs → AreFirstSpots m order vertices ys → length xs ≤ length ys → take (length xs) ys ≡ xs
-  begins xs ys a b le = sym (agree xs ys a b (length xs) (omega arith) le) ∙ take_all (length xs) xs (omega arith)
+  begins xs ys a b le = determined_begins Follows same_follower xs ys (followed xs a) (followed ys b) le
 
 -- where a vertex has no room, no list of first spots goes beyond
 no_further : (m : Description) (order : List Chip) (vertices : List Vertex) (xs : List Spot) (i : ℕ) → IsChipOrder m order → AreFirstSpots m order vertices xs → HasNoRoom m vertices i → length xs ≤ i

@@ -1,10 +1,11 @@
 -- The spots that a board gives are those of the definition.
-use Rattle.std.proofs.Common.{◌≡◌, ◌≢◌, ℕ, ◌+◌, ◌-◌, ◌^◌, ◌<◌, ◌≤◌, ◌==◌, Bool, true, cond, List, [], ◌∷◌, ◌++◌, length, take, filter, get_or, refl, sym, ap, ap₂, ◌∙◌, subst, zero, suc, Option, Some, None, slice_get, MatchOption, inl, inr, ◌⊎◌, arith, All, AllPairs}
+use Rattle.std.proofs.Common.{◌≡◌, ◌≢◌, ℕ, ◌+◌, ◌-◌, ◌^◌, ◌<◌, ◌≤◌, ◌==◌, Bool, true, cond, List, [], ◌∷◌, ◌++◌, length, take, filter, get_or, refl, sym, ap, ap₂, ◌∙◌, subst, zero, suc, Option, Some, None, slice_get, MatchOption, inl, inr, arith, All, AllPairs}
 use Rattle.std.proofs.lemmas.Bool.{cases_Bool, cond-true, cond-false}
 use Rattle.std.proofs.lemmas.List.{length_push, take-append-le, take_at, get_or-take, length-take-le}
 use Rattle.std.proofs.lemmas.List.Folds.{list_any_at}
 use Rattle.std.proofs.lemmas.List.Elements.{All-filter, All-nil, All-cons}
 use Rattle.std.proofs.lemmas.Option.{slice_get_within, slice_get-get_or, slice_get_cases}
+use Rattle.list_laws.proofs.Places.{slice_get-push_cases, slice_get-append_left, slice_get-pushed}
 use Rattle.spin_base.specs.declared.chips.Chip.{Chip}
 use Rattle.spin_base.specs.declared.chips.Spot.{Spot}
 use Rattle.spin_base.specs.Equality.{spot_eq}
@@ -131,27 +132,6 @@ module _ (m : Description) (vs : List Vertex) (ss : List Spot) (b : Board) (stan
 
 -- ---- one more
 
--- an item of a list with one more at its end
-get_push : {X : Type 0} (xs : List X) (y x : X) (j : ℕ) → slice_get (xs ++ y ∷ []) j ≡ Some x → ((j < length xs) × (slice_get xs j ≡ Some x)) ⊎ ((j ≡ length xs) × (y ≡ x))
-get_push [] y x zero e = inr (refl, cc)
-get_push [] y x (suc j) e = cc
-get_push (z ∷ zs) y x zero e = inl (omega arith, e)
-get_push (z ∷ zs) y x (suc j) e =
-    elim (get_push zs y x j e) [
-      | inl before ↦ inl (omega (arith, before.0), before.1)
-      | inr last ↦ inr (ap suc last.0, last.1)
-    ]
-
-get_before : {X : Type 0} (xs : List X) (y x : X) (j : ℕ) → slice_get xs j ≡ Some x → slice_get (xs ++ y ∷ []) j ≡ Some x
-get_before [] y x j e = cc
-get_before (z ∷ zs) y x zero e = e
-get_before (z ∷ zs) y x (suc j) e = get_before zs y x j e
-
-get_last : {X : Type 0} (xs : List X) (y : X) (j : ℕ) → j ≡ length xs → slice_get (xs ++ y ∷ []) j ≡ Some y
-get_last [] y j e = ap (slice_get (y ∷ [])) e
-get_last (z ∷ zs) y zero e = absurd (omega (arith, e))
-get_last (z ∷ zs) y (suc j) e = get_last zs y j (omega (arith, e))
-
 pub none_yet : (m : Description) (order : List Chip) (vertices : List Vertex) → AreFirstSpots m order vertices []
 none_yet m order vertices = record { few = omega arith; each = λ i v s is_v is_s. cc }
 
@@ -163,7 +143,7 @@ module _ (vertices : List Vertex) (i : ℕ) (v : Vertex) (is : slice_get vertice
   spots_more m order first right = record {
     few = omega (arith, length_push spots s, here, slice_get_within vertices i v is);
     each = λ j w t is_w is_t.
-        elim (get_push spots s t j is_t) [
+        elim (slice_get-push_cases spots s t j is_t) [
           | inl before ↦ subst (λ e. IsSpotFor m order (take j vertices) e w t) (sym (take-append-le j spots (s ∷ []) (omega (arith, before.0)))) (first.each j w t is_w before.1)
           | inr last ↦ (
               let at : j ≡ i = last.0 ∙ here in
@@ -181,9 +161,9 @@ module _ (vertices : List Vertex) (i : ℕ) (v : Vertex) (is : slice_get vertice
   memories_more memory n first right = record {
     one_each = length_push memory n ∙ (ap (λ k. k + 1) first.one_each ∙ sym (length_push spots s));
     each = λ j w t is_w is_t.
-        elim (get_push spots s t j is_t) [
+        elim (slice_get-push_cases spots s t j is_t) [
           | inl before ↦ (
-              get_before memory n (memory_of (take j vertices) (take j spots) w t) j (first.each j w t is_w before.1)
+              slice_get-append_left memory (n ∷ []) j (memory_of (take j vertices) (take j spots) w t) (first.each j w t is_w before.1)
               ∙ ap (λ e. Some (memory_of (take j vertices) e w t)) (sym (take-append-le j spots (s ∷ []) (omega (arith, before.0))))
               )
           | inr last ↦ (
@@ -191,7 +171,7 @@ module _ (vertices : List Vertex) (i : ℕ) (v : Vertex) (is : slice_get vertice
               let same : Some v ≡ Some w = sym is ∙ (ap (slice_get vertices) (sym at) ∙ is_w) in
               let one : v ≡ w = cc in
               let all : take j (spots ++ s ∷ []) ≡ spots = take_at spots (s ∷ []) j (sym last.0) in
-              get_last memory n j (last.0 ∙ sym first.one_each)
+              slice_get-pushed memory n j (last.0 ∙ sym first.one_each)
               ∙ ap Some (right
               ∙ (ap₂ (λ (z : Vertex) (u : Spot). memory_of (take i vertices) spots z u) one last.1
               ∙ (ap (λ k. memory_of (take k vertices) spots w t) (sym at) ∙ ap (λ e. memory_of (take j vertices) e w t) (sym all))))

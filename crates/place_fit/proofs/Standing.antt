@@ -1,7 +1,7 @@
 -- What a board tells of the vertices that stand on it.
-use Rattle.std.proofs.Common.{◌≡◌, ◌≢◌, ℕ, ◌+◌, ◌-◌, ◌^◌, ◌<◌, ◌≤◌, ◌==◌, Bool, true, false, not, ◌&&◌, ◌||◌, cond, leb, ltb, List, [], ◌∷◌, ◌++◌, length, set, get_or, refl, sym, ap, ◌∙◌, subst, Some, slice_get, inl, inr, arith}
+use Rattle.std.proofs.Common.{◌≡◌, ◌≢◌, ℕ, ◌+◌, ◌-◌, ◌^◌, ◌<◌, ◌≤◌, ◌==◌, Bool, true, false, not, ◌||◌, cond, leb, ltb, List, [], ◌∷◌, ◌++◌, length, set, get_or, refl, sym, ap, ◌∙◌, subst, Some, slice_get, inl, inr, arith}
 use Rattle.std.specs.List.{list_any}
-use Rattle.std.proofs.lemmas.Bool.{cases_lt, cases_eq, cases_Bool, and_parts, and_from, false≢true, cond-true, cond-false}
+use Rattle.std.proofs.lemmas.Bool.{cases_lt, cases_eq, cases_Bool, and_left, and_parts, and_right, and_from, or_left, or_right, false≢true, cond-true, cond-false}
 use Rattle.std.proofs.lemmas.Bool.Decides.{nat_tests}
 use Rattle.std.proofs.lemmas.List.Folds.{list_any-append}
 use Rattle.std.proofs.lemmas.Option.{get_or_from_slice_get}
@@ -158,27 +158,13 @@ used_push c (w ∷ ws) (t ∷ ts) v s same = let rest = used_push c ws ts v s (o
 taken_push : (ss : List Spot) (s x : Spot) → is_taken (ss ++ s ∷ []) x ≡ (is_taken ss x || (spot_eq x s || false))
 taken_push ss s x = list_any-append (spot_eq x) ss (s ∷ [])
 
-or_left : (a b : Bool) → a ≡ true → (a || b) ≡ true
-or_left true b e = refl
-or_left false b e = clash e refl
-
-or_right : (a b : Bool) → b ≡ true → (a || (b || false)) ≡ true
-or_right true b e = refl
-or_right false true e = refl
-or_right false false e = clash e refl
+or_last : (a b : Bool) → b ≡ true → (a || (b || false)) ≡ true
+or_last a b e = or_right a (b || false) (or_left b false e)
 
 or_neither : (a b : Bool) → b ≡ false → (a || (b || false)) ≡ a
 or_neither true b e = refl
 or_neither false true e = clash refl e
 or_neither false false e = refl
-
-and_left : (a b : Bool) → a ≡ false → (a && b) ≡ false
-and_left false b e = refl
-and_left true b e = clash refl e
-
-and_right : (a b : Bool) → b ≡ false → (a && b) ≡ false
-and_right false b e = refl
-and_right true b e = e
 
 module _ (m : Description) (vs : List Vertex) (ss : List Spot) (same : length vs ≡ length ss) (v : Vertex) (c : Chip) (core room : ℕ) (told : IsTold m vs ss c core room) where
   told_other : (s : Spot) → chip_eq c s.chip ≡ false → IsTold m (vs ++ v ∷ []) (ss ++ s ∷ []) c core room
@@ -206,7 +192,7 @@ module _ (m : Description) (vs : List Vertex) (ss : List Spot) (same : length vs
           | inl lower ↦ or_left (is_taken ss (core_of c p)) (spot_eq (core_of c p) s || false) (told.before p u lower)
           | inr upper ↦ elim (cases_lt core p) [
             | inl above ↦ clash u (is_next.none p (omega (arith, above)) low)
-            | inr here ↦ or_right (is_taken ss (core_of c p)) (spot_eq (core_of c p) s) (and_from (chip_eq c c) (p == core) (chip_eq_same c) (let e : p ≡ core = omega (arith, upper, here) in grind (arith, nat_tests)))
+            | inr here ↦ or_last (is_taken ss (core_of c p)) (spot_eq (core_of c p) s) (and_from (chip_eq c c) (p == core) (chip_eq_same c) (let e : p ≡ core = omega (arith, upper, here) in grind (arith, nat_tests)))
           ]
         ];
         after = λ p u from.

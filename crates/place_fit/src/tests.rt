@@ -7,7 +7,6 @@ use app_graph::{Graph, Vertex};
 use machine_desc::Machine;
 use spin_base::{Chip, Memory, Name, Seq, Spot};
 use std::alloc::Global;
-use std::process::Abort;
 use std::test::Fail;
 
 // A machine of one row of chips, on which core `dead` of chip (0, 0) is dead.
@@ -39,35 +38,44 @@ fn vertex(alloc: Global, sdram: u32, at: Option<Chip>) -> Result<Vertex, Memory>
 }
 
 // So many vertices that need nothing.
-fn vertices(rt: &impl Abort, alloc: Global, count: usize) -> Result<Seq<Vertex>, Memory>
+fn vertices(alloc: Global, count: u8) -> Result<Seq<Vertex>, Memory>
     ensures few { IfOk result (λ vertices. length vertices ≤ 16384) }
     ensures valid { IfOk result (All IsValidVertex) }
 {
-    assert!(rt; count <= 16384);
     let mut vertices = Seq::new(alloc);
-    for n in 0..count {
+    for _ in 0..count {
         vertices.push(vertex(alloc, 0, None)?)?;
     }
     Ok(vertices)
 }
 
 // Places so many vertices on one chip.
-fn crowd(rt: &impl Abort, alloc: Global, count: usize) -> Result<Placement, PlaceErr> {
-    let vertices = vertices(rt, alloc, count)?;
+fn crowd(alloc: Global, count: u8) -> Result<Placement, PlaceErr> {
+    let vertices = vertices(alloc, count)?;
     let nets = Seq::new(alloc);
     place(alloc, &machine(alloc, 1, 18)?, &Graph { vertices, nets })
 }
 
-// Places two vertices.
-fn pair(alloc: Global, machine: &Machine, a: Vertex, b: Vertex) -> Result<Placement, PlaceErr>
-    requires first { IsValidVertex a }
-    requires second { IsValidVertex b }
+// Places two vertices on a row of chips: what each needs, and the chip that the second names.
+fn pair(
+    alloc: Global,
+    machine: &Machine,
+    needs: (u32, u32),
+    at: Option<Chip>,
+) -> Result<Placement, PlaceErr>
+    requires first { needs.0 ≤ 134217728 }
+    requires second { needs.1 ≤ 134217728 }
 {
     let mut vertices = Seq::new(alloc);
-    vertices.push(a)?;
-    vertices.push(b)?;
+    vertices.push(vertex(alloc, needs.0, None)?)?;
+    vertices.push(vertex(alloc, needs.1, at)?)?;
     let nets = Seq::new(alloc);
     place(alloc, machine, &Graph { vertices, nets })
+}
+
+// Whether the vertices stand at these spots and have these places in memory.
+fn are_at(placed: &Placement, spots: &[Spot], memory: &[u64]) -> bool {
+    placed.spots.as_slice() == spots && placed.memory.as_slice() == memory
 }
 
 // The chips of a square of side 4 as digits, each 4 x + y.
@@ -80,6 +88,8 @@ fn spelled(chips: &[Chip]) -> u64 {
     digits
 }
 
+fn may_be_lent<T: Send + Sync>() {}
+
 #[test]
 fn the_curve_of_level_two_goes_through_sixteen_chips(rt: HostRuntime) -> Result<(), Fail> {
     let chips = curve(rt.alloc(), 2)?;
@@ -89,65 +99,38 @@ fn the_curve_of_level_two_goes_through_sixteen_chips(rt: HostRuntime) -> Result<
 
 #[test]
 fn seventeen_vertices_fill_a_chip(rt: HostRuntime) -> Result<(), Fail> {
-    let placed = crowd(&rt, rt.alloc(), 17)?;
+    may_be_lent::<Placement>();
+    let placed = crowd(rt.alloc(), 17)?;
     assert_eq!(rt; placed.spots.as_slice().last(), Some(&spot(0, 17)));
     Ok(())
 }
 
 #[test]
-fn the_eighteenth_vertex_finds_no_room(rt: HostRuntime) -> Result<(), Fail> {
-    let refused = crowd(&rt, rt.alloc(), 18);
+fn the_eighteenth_vertex_finds_no_room(rt: HostRuntime) {
+    let refused = crowd(rt.alloc(), 18);
     assert!(rt; matches!(refused, Err(PlaceErr::NoRoom { vertex: 17 })));
-    Ok(())
 }
 
 #[test]
 fn a_vertex_goes_past_a_chip_whose_memory_is_full(rt: HostRuntime) -> Result<(), Fail> {
-    let alloc = rt.alloc();
-    let machine = machine(alloc, 2, 18)?;
-    let placed = pair(
-        alloc,
-        &machine,
-        vertex(alloc, 134_217_728, None)?,
-        vertex(alloc, 4, None)?,
-    )?;
-    assert_eq!(rt;
-        placed.spots.as_slice(),
-        [spot(0, 1), spot(1, 1)].as_slice()
-    );
-    assert_eq!(rt; placed.memory.as_slice(), [0, 0].as_slice());
+    let machine = machine(rt.alloc(), 2, 18)?;
+    let placed = pair(rt.alloc(), &machine, (134_217_728, 4), None)?;
+    assert!(rt; are_at(&placed, &[spot(0, 1), spot(1, 1)], &[0, 0]));
     Ok(())
 }
 
 #[test]
 fn a_dead_core_takes_no_vertex_and_memory_follows_memory(rt: HostRuntime) -> Result<(), Fail> {
-    let alloc = rt.alloc();
-    let machine = machine(alloc, 1, 1)?;
-    let placed = pair(
-        alloc,
-        &machine,
-        vertex(alloc, 40, None)?,
-        vertex(alloc, 2, None)?,
-    )?;
-    assert_eq!(rt;
-        placed.spots.as_slice(),
-        [spot(0, 2), spot(0, 3)].as_slice()
-    );
-    assert_eq!(rt; placed.memory.as_slice(), [0, 40].as_slice());
+    let machine = machine(rt.alloc(), 1, 1)?;
+    let placed = pair(rt.alloc(), &machine, (40, 2), None)?;
+    assert!(rt; are_at(&placed, &[spot(0, 2), spot(0, 3)], &[0, 40]));
     Ok(())
 }
 
 #[test]
 fn a_vertex_that_names_a_chip_outside_the_grid_finds_no_room(rt: HostRuntime) -> Result<(), Fail> {
-    let alloc = rt.alloc();
-    let machine = machine(alloc, 1, 18)?;
-    let outside = Chip { x: 1, y: 0 };
-    let refused = pair(
-        alloc,
-        &machine,
-        vertex(alloc, 0, None)?,
-        vertex(alloc, 0, Some(outside))?,
-    );
+    let machine = machine(rt.alloc(), 1, 18)?;
+    let refused = pair(rt.alloc(), &machine, (0, 0), Some(Chip { x: 1, y: 0 }));
     assert!(rt; matches!(refused, Err(PlaceErr::NoRoom { vertex: 1 })));
     Ok(())
 }

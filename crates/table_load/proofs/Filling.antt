@@ -1,12 +1,13 @@
 -- Memories that are filled table by table.
-use Rattle.std.proofs.Common.{◌≡◌, ◌≢◌, ℕ, zero, suc, ◌+◌, ◌-◌, ◌*◌, ◌<◌, ◌≤◌, eqb, cond, List, [], ◌∷◌, ◌++◌, length, get_or, set, take, replicate, refl, sym, ap, ◌∙◌, subst, arith, Some, slice_get, append_assoc, inl, inr}
+use Rattle.std.proofs.Common.{◌≡◌, ◌≢◌, ℕ, zero, suc, ◌+◌, ◌*◌, ◌<◌, ◌≤◌, eqb, cond, List, [], ◌∷◌, ◌++◌, length, get_or, set, take, drop, replicate, refl, sym, ap, ◌∙◌, subst, arith, Some, slice_get, append_assoc, take-append-drop, length-append, inl, inr}
 use Rattle.std.proofs.Math.Nat.{mul-le-mul_left}
+use Rattle.std.proofs.Math.Seq.{drop-cons}
 use Rattle.std.proofs.lemmas.Bool.{cases_eq, eq-eqb, ne_eqb}
-use Rattle.std.proofs.lemmas.List.{set_at, length-take-le, take_more, length-set, get_or-take, length-replicate}
+use Rattle.std.proofs.lemmas.List.{set_at, length-take-le, take_more, length-set, get_or-take, length-replicate, drop-replicate}
 use Rattle.spin_base.specs.declared.blocks.Entry.{Entry}
 use Rattle.spin_base.specs.declared.chips.Chip.{Chip}
 use Rattle.tcam_find.specs.Memory.{unused, empty_memory}
-use Rattle.table_load.specs.declared.tables.ChipTable.{ChipTable}
+use Rattle.spin_base.specs.declared.blocks.ChipTable.{ChipTable}
 use Rattle.table_load.specs.declared.tables.Image.{Image}
 use Rattle.table_load.specs.Images.{IsValid, IsBefore}
 use Rattle.table_load.specs.Memories.{index_of, rows_at, loaded}
@@ -15,20 +16,48 @@ pub empty_is : empty_memory ≡ loaded []
 unfolding empty_memory
 empty_is = refl
 
-pub fill_more : (rows : List Entry) (p first : ℕ) (x : Entry) (m n : List Entry) → first ≡ 0 → p < length rows → length rows ≤ 1024 → x ≡ get_or rows p x
-    → m ≡ take p rows ++ replicate (1024 - p) unused → n ≡ set m (first + p) x → n ≡ take (p + 1) rows ++ replicate (1024 - (p + 1)) unused
-fill_more rows p first x m n zeroth inside few is before given =
-    let same : first + p ≡ p = omega arith in
-    let step : n ≡ set m p x = given ∙ ap (λ k. set m k x) same in
-    let left : 1024 - p ≡ suc (1024 - (p + 1)) = omega arith in
-    let r = replicate (1024 - (p + 1)) unused in
-    let rest : replicate (1024 - p) unused ≡ unused ∷ r = ap (λ k. replicate k unused) left in
-    let more : take (p + 1) rows ≡ take p rows ++ x ∷ [] = take_more rows p x inside ∙ ap (λ y. take p rows ++ y ∷ []) (sym is) in
-    step
-    ∙ ap (λ l. set l p x) (before ∙ ap (λ l. take p rows ++ l) rest)
-    ∙ set_at (take p rows) unused r x p (length-take-le p rows (omega arith))
-    ∙ sym (append_assoc (take p rows) (x ∷ []) r)
-    ∙ ap (λ t. t ++ r) (sym more)
+pub empty_long : (old : List Entry) → old ≡ empty_memory → length old ≡ 1024
+unfolding empty_memory
+empty_long old is = ap length is ∙ length-replicate 1024 unused
+
+-- ---- rows from a place on
+
+pub rows_start : (old rows : List Entry) (first : ℕ) → old ≡ take first old ++ (take 0 rows ++ drop (first + 0) old)
+rows_start old rows first =
+    let same : first ≡ first + 0 = omega arith in
+    sym (take-append-drop first old) ∙ ap (λ n. take first old ++ drop n old) same
+
+pub rows_more : (old rows : List Entry) (first p : ℕ) (x : Entry) (m n : List Entry) → length old ≡ 1024 → first + length rows ≤ 1024 → p < length rows → x ≡ get_or rows p x
+    → m ≡ take first old ++ (take p rows ++ drop (first + p) old) → n ≡ set m (first + p) x → n ≡ take first old ++ (take (p + 1) rows ++ drop (first + (p + 1)) old)
+rows_more old rows first p x m n size fits inside is before given =
+    let a = take first old in
+    let b = take p rows in
+    let y = get_or old (first + p) x in
+    let ys = drop (suc (first + p)) old in
+    let rest : drop (first + p) old ≡ y ∷ ys = drop-cons old (first + p) x (omega arith) in
+    let long : length (a ++ b) ≡ first + p = omega (arith, length-append a b, length-take-le first old (omega arith), length-take-le p rows (omega arith)) in
+    let more : take (p + 1) rows ≡ b ++ x ∷ [] = take_more rows p x inside ∙ ap (λ z. b ++ z ∷ []) (sym is) in
+    let next : suc (first + p) ≡ first + (p + 1) = omega arith in
+    given
+    ∙ ap (λ l. set l (first + p) x) (before ∙ ap (λ l. a ++ (b ++ l)) rest ∙ sym (append_assoc a b (y ∷ ys)))
+    ∙ set_at (a ++ b) y ys x (first + p) long
+    ∙ append_assoc a b (x ∷ ys)
+    ∙ ap (λ l. a ++ l) (sym (append_assoc b (x ∷ []) ys))
+    ∙ ap (λ l. a ++ (l ++ ys)) (sym more)
+    ∙ ap (λ k. a ++ (take (p + 1) rows ++ drop k old)) next
+
+-- in an empty memory, from place 0 on
+pub rows_loaded : (rows old new : List Entry) (first : ℕ) → first ≡ 0 → old ≡ empty_memory → new ≡ take first old ++ (rows ++ drop (first + length rows) old) → new ≡ loaded rows
+unfolding empty_memory
+rows_loaded rows old new first zeroth empty put =
+    let behind : first + length rows ≡ length rows = omega (arith, zeroth) in
+    put
+    ∙ ap (λ k. take first old ++ (rows ++ drop k old)) behind
+    ∙ ap (λ k. take k old ++ (rows ++ drop (length rows) old)) zeroth
+    ∙ ap (λ l. rows ++ drop (length rows) l) empty
+    ∙ ap (λ l. rows ++ l) (drop-replicate (length rows) 1024 unused)
+
+-- ---- memories of all chips
 
 get_replicate : (n i : ℕ) (m : List Entry) → i < n → slice_get (replicate n m) i ≡ Some m
 get_replicate zero i m lt = absurd (omega arith)

@@ -10,7 +10,7 @@ use Rattle.std.proofs.lemmas.List.Kept.{AllPairs-cons}
 use Rattle.spin_base.specs.declared.chips.Chip.{Chip}
 use Rattle.table_load.specs.declared.faults.Stop.{Stop}
 use Rattle.table_load.specs.declared.faults.Stop.TheVariants as stops
-use Rattle.table_load.specs.declared.tables.ChipTable.{ChipTable}
+use Rattle.spin_base.specs.declared.blocks.ChipTable.{ChipTable}
 use Rattle.table_load.specs.Images.{IsRow, IsBefore, IsTable, row_bytes, table_bytes}
 use Rattle.table_load.specs.Reading.{◌>>=◌, Fails, AreBytes, field, between, comes_after, chip_at, rows_at, table_at, tables_at}
 use Rattle.table_load.proofs.Numbers.{bind_ok, ok_is, Takes, Takes-then, wide8, wide16, byte_is, field_takes, field_again}

@@ -9,7 +9,7 @@ use Rattle.std.proofs.lemmas.List.{append-nil, nil_from_length, length-append}
 use Rattle.std.proofs.lemmas.List.Elements.{All-from_recursion, recursion_from_All}
 use Rattle.table_load.specs.declared.faults.Stop.{Stop}
 use Rattle.table_load.specs.declared.faults.Stop.TheVariants as stops
-use Rattle.table_load.specs.declared.tables.ChipTable.{ChipTable}
+use Rattle.spin_base.specs.declared.blocks.ChipTable.{ChipTable}
 use Rattle.table_load.specs.declared.tables.Image.{Image}
 use Rattle.table_load.specs.Images.{IsTable, Spells, table_bytes}
 use Rattle.table_load.specs.Reading.{◌>>=◌, Fails, AreBytes, field, between, tables_at, image_at, place_in, fault_of}

@@ -4,7 +4,7 @@ use Rattle.std.specs.Int.{w16, w32, to_le_bytes}
 use Rattle.std.specs.List.{flat_map}
 use Rattle.spin_base.specs.declared.chips.Chip.{Chip}
 use Rattle.spin_base.specs.declared.blocks.Entry.{Entry}
-use Rattle.table_load.specs.declared.tables.ChipTable.{ChipTable}
+use Rattle.spin_base.specs.declared.blocks.ChipTable.{ChipTable}
 use Rattle.table_load.specs.declared.tables.Image.{Image}
 
 -- a row that a table may have: no bit of the key outside the mask, a mask of 32 bits, and some output

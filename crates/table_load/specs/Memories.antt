@@ -2,7 +2,7 @@
 use Rattle.std.specs.Prelude.{◌≡◌, ℕ, ◌+◌, ◌-◌, ◌*◌, ◌<◌, List, [], ◌∷◌, ◌++◌, length, replicate, Some, slice_get, ◌==◌, if◌then◌else◌}
 use Rattle.spin_base.specs.declared.blocks.Entry.{Entry}
 use Rattle.tcam_find.specs.Memory.{unused}
-use Rattle.table_load.specs.declared.tables.ChipTable.{ChipTable}
+use Rattle.spin_base.specs.declared.blocks.ChipTable.{ChipTable}
 use Rattle.table_load.specs.declared.tables.Image.{Image}
 
 -- the index of a table's chip in a grid of that height: x * height + y (this project's own)

@@ -9,7 +9,7 @@ use Rattle.spin_base.specs.declared.routes.Route.{Route}
 use Rattle.spin_base.specs.declared.blocks.Entry.{Entry}
 use Rattle.table_load.specs.declared.faults.Stop.{Stop}
 use Rattle.table_load.specs.declared.faults.Stop.TheVariants as stops
-use Rattle.table_load.specs.declared.tables.ChipTable.{ChipTable}
+use Rattle.spin_base.specs.declared.blocks.ChipTable.{ChipTable}
 use Rattle.table_load.specs.declared.tables.Image.{Image}
 
 infixl 10 ◌>>=◌

@@ -15,9 +15,10 @@ mod writes;
 
 pub use faults::ImageErr;
 pub use laws::{a_fault_is_where_no_image_is_spelled, an_image_has_one_spelling};
-pub use loads::load;
+pub use loads::{load, memory_of};
 pub use reads::decode;
-pub use tables::{ChipTable, Image};
+pub use spin_base::ChipTable;
+pub use tables::Image;
 pub use writes::encode;
 
 #[cfg(test)]

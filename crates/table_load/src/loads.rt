@@ -1,5 +1,5 @@
 // The lookup memories of a grid's chips.
-ghost use Rattle.std.specs.Prelude.{◌≡◌, ◌*◌, ◌<◌, ◌≤◌, length, replicate, IfOk, OnOk};
+ghost use Rattle.std.specs.Prelude.{◌≡◌, ◌+◌, ◌*◌, ◌<◌, ◌≤◌, ◌++◌, length, take, drop, replicate, IfOk, OnOk};
 ghost use Rattle.table_load.specs.Images.{IsValid};
 ghost use Rattle.table_load.specs.Memories.{IsLoaded, loaded};
 ghost use Rattle.tcam_find.specs.Memory.{empty_memory};
@@ -28,6 +28,16 @@ pub fn load(alloc: Global, image: &Image) -> Result<Seq<Tcam>, Memory>
     Ok(Seq::from_vec(memories))
 }
 
+/// The lookup memory that has the entries from place 0 on, and unused entries after them.
+pub fn memory_of(entries: &[Entry]) -> Tcam
+    requires { length entries.now ≤ 1024 }
+    ensures { result ≡ loaded entries.now }
+{
+    let mut memory = Tcam::empty();
+    put_rows(&mut memory, 0, entries);
+    memory
+}
+
 /// Memories of unused entries.
 fn empty_memories(alloc: Global, count: usize) -> Result<Vec<Tcam>, Memory>
     ensures { IfOk result (λ v. v.items ≡ replicate count empty_memory) }
@@ -47,10 +57,19 @@ fn fill(alloc: Global, memory: &mut Tcam, rows: &[Entry]) -> Result<(), Memory>
     ensures { OnOk result (memory.new ≡ loaded rows.now) }
 {
     let first = take_places(alloc, rows.len() as u64)?;
+    put_rows(memory, first, rows);
+    Ok(())
+}
+
+/// Puts rows at the places `first` onwards of a memory.
+fn put_rows(memory: &mut Tcam, first: u32, rows: &[Entry])
+    requires size { length memory.old ≡ 1024 }
+    requires fits { first + length rows.now ≤ 1024 }
+    ensures { memory.new ≡ take first memory.old ++ (rows.now ++ drop (first + length rows.now) memory.old) }
+{
     for (at, row) in rows.iter().enumerate() {
         memory.set(first + at as u32, *row);
     }
-    Ok(())
 }
 
 /// Takes places for so many rows from the region of a memory's places, and answers the first of them, which is 0.

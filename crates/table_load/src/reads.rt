@@ -6,8 +6,8 @@ ghost use Rattle.table_load.specs.Reading.{Gives, row_at, rows_at, table_at, tab
 
 use crate::faults::{ImageErr, Stop};
 use crate::fields::{byte_in, chip_at, mask_at, route_at, short_in, word_at, word_in};
-use crate::tables::{ChipTable, Image};
-use spin_base::{Chip, Entry, Seq};
+use crate::tables::Image;
+use spin_base::{Chip, ChipTable, Entry, Seq};
 use std::alloc::Global;
 
 /// The letters SPNT, as a number whose lowest byte comes first.

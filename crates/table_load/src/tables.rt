@@ -1,12 +1,5 @@
-// The rows of the chips of a machine.
-use spin_base::{Chip, Entry, Seq};
-
-/// The rows of one chip's table, in order.
-#[derive(Debug, Drop)]
-pub struct ChipTable {
-    pub chip: Chip,
-    pub entries: Seq<Entry>,
-}
+// The tables of a grid.
+use spin_base::{ChipTable, Seq};
 
 /// The tables of a grid's chips, in the order of the chips. A chip without rows is not listed.
 #[derive(Debug, Drop)]

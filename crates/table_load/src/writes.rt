@@ -2,8 +2,8 @@
 ghost use Rattle.std.specs.Prelude.{◌≡◌, ◌≤◌, ◌++◌, length, OnOk, IfOk};
 ghost use Rattle.table_load.specs.Images.{IsValid, Spells, head_bytes, table_bytes, row_bytes};
 
-use crate::tables::{ChipTable, Image};
-use spin_base::{Entry, Memory, Seq};
+use crate::tables::Image;
+use spin_base::{ChipTable, Entry, Memory, Seq};
 use std::alloc::Global;
 
 /// The bytes that spell a valid image.

@@ -4,7 +4,7 @@ use Rattle.std.specs.Prelude.{All}
 use Rattle.spin_base.specs.declared.chips.Port.TheVariants.{Link}
 use Rattle.tern_word.specs.declared.tables.Alias.{Alias}
 use Rattle.cover_checks.specs.Merge.{rows_at}
-use Rattle.default_routes.proofs.StripLemmas.{match_strip, strips_by, strips_not}
+use Rattle.default_routes.proofs.StripLemmas.{match_strip}
 use Rattle.default_routes.proofs.stripping.can_go.Goals as goal
 
 pub returns-then-all_arrive : goal.returns-then-all_arrive

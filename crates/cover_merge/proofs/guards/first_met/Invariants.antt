@@ -1,8 +1,0 @@
--- No row passed meets an alias of the row.
-use Rattle.std.proofs.Common.{ℕ, ◌<◌, get_or}
-use Rattle.tern_word.specs.declared.tables.Row.{Row}
-use Rattle.tern_word.specs.SoundTable.{Misses}
-use Rattle.cover_merge.proofs.guards.first_met.Given as goal
-
-abbrev pub invariant-loop-r : goal.invariant-loop-r
-invariant-loop-r l = (k : ℕ) (d : Row) → l.s < k → k < l.r → Misses (get_or l.rows k d).block (get_or l.rows l.s d)

@@ -1,7 +1,0 @@
--- The rows passed are well placed.
-use Rattle.std.proofs.Common.{ℕ, ◌<◌}
-use Rattle.sound_tables.specs.Placed.{IsWellPlaced}
-use Rattle.sound_tables.proofs.soundness.all_well_placed.Given as goal
-
-abbrev pub invariant-loop-at : goal.invariant-loop-at
-invariant-loop-at l = (k : ℕ) → k < l.at → IsWellPlaced l.rows k
