@@ -15,8 +15,9 @@ use mesh_core::{Mesh, MeshSetup, Queue};
 use spin_base::{Chip, Event, Memory, Out, Outs, Port, Seq};
 use std::alloc::Global;
 
-/// Brings all packets to their targets, one after the other, until no event is enabled. It takes no memory but that of the
-/// mesh's own lists and a list of where the packet under way waits, and time for what it moves.
+/// Brings all packets to their targets, one after the other, until no event is enabled. Besides what it moves it takes time
+/// and memory once as the machine's chips and the vertices, for a table of where each vertex stands, and memory for a list of
+/// where the packet under way waits.
 ///
 /// # Errors
 ///
