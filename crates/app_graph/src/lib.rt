@@ -5,5 +5,7 @@
 #![tactic(auto)]
 
 mod graphs;
+#[cfg(test)]
+mod tests;
 
 pub use graphs::{Graph, Net, RunPart, Vertex};
