@@ -1,4 +1,5 @@
 pub mod Gathering
+pub mod GotLines
 pub mod HexDigits
 pub mod Joining
 pub mod Listing

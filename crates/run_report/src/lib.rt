@@ -6,6 +6,7 @@
 //! placement, keys, tables and routes are those of the SpiNNaker datasheet.
 #![tactic(auto)]
 
+pub mod laws;
 mod lists;
 mod orders;
 mod plans;
