@@ -14,7 +14,7 @@ use Rattle.spin_top.specs.declared.commands.Command.TheVariants.{Run, Trace, Com
 use Rattle.spin_top.specs.declared.outcomes.Outcome.{Outcome}
 use Rattle.spin_top.specs.declared.outcomes.Refusal.{Refusal}
 use Rattle.spin_top.specs.declared.outcomes.Refusal.TheVariants as refusals
-use Rattle.spin_top.specs.Causes.{Serves, HasNoBuiltPlan, cut_off, long_table, IsRefused, unread, unserved, no_plan, IsRefusedLate, HasCauseFor, HasCause, no_command, not_built, of_command, no_memory, HasNoPlan, no_room, keys_out}
+use Rattle.spin_top.specs.Causes.{HasNoBuiltPlan, cut_off, long_table, IsRefused, unread, no_plan, IsRefusedLate, HasCauseFor, HasCause, no_command, not_built, of_command, no_memory, HasNoPlan, no_room, keys_out}
 use Rattle.spin_top.specs.Commands.{Spells, texts_of, IsBuilt, IsRun, IsTables}
 use Rattle.spin_top.specs.Ends.{Ends, done, cut, refused, refusal_cut, Makes, GivesNoPart}
 use Rattle.spin_top.specs.Given.{WhereGiven, WhereRun, GivesAll, IsGiven, IsWritten, IsCaused, IsCalledCutOff, IsRefusedAs, IsRefusedWhere, HasAnswer}
@@ -22,7 +22,7 @@ use Rattle.spin_top.specs.Jobs.{IsOfText, job_in}
 use Rattle.spin_top.specs.Outcomes.{line_of, status_at}
 use Rattle.spin_top.specs.Runs.{IsMade, IsOutputOf, IsRunMade, output_text}
 use Rattle.par_compile.proofs.Refusing.{cut_not_planned}
-use Rattle.spin_top.proofs.Exclusive.{one_command, serves_built, same_job, IsReady, refused_not_ready, one_refusal, ready_late, ready_made}
+use Rattle.spin_top.proofs.Exclusive.{one_command, same_job, IsReady, refused_not_ready, one_refusal, ready_late, ready_made}
 
 -- what each error has, each error has that has more
 pub err_weaker : {A E : Type 0} (r : Result A E) (P Q : E → Type 0) → ((e : E) → P e → Q e) → IfErr r P → IfErr r Q
@@ -54,7 +54,6 @@ no_write_late job r none is = elim none [
 no_write_refused : (c : Command) (left : Option (List ℕ)) (r : Refusal) → IsRefused c left r → r ≡ refusals.WriteFault → ⊥
 no_write_refused c left r ref is = elim ref [
   | unread text told ↦ no_text r text is
-  | unserved job tells not e ↦ cc
   | no_plan job tells served none ↦ no_write_no_plan job r none is
 ]
 
@@ -232,13 +231,13 @@ module _ (words : List (String Global)) (left rest : Option (List ℕ)) (reads r
     | long_table plan is_plan long e ↦ absurd (cut_not_planned job.machine job.graph i target plan has is_plan)
   ]
 
-  by_cut_off : (c : Command) (bytes : List ℕ) (job : Job) → job_in bytes ≡ Ok job → Serves c job → (i : ℕ) (target : Chip) → HasCutOff job.machine job.graph i target →
+  by_cut_off : (c : Command) (bytes : List ℕ) (job : Job) → job_in bytes ≡ Ok job → IsBuilt c → (i : ℕ) (target : Chip) → HasCutOff job.machine job.graph i target →
       (s : Refusal) → o.refusal ≡ Some s → HasCauseFor c (Some bytes) reads reads' s → IsCalledCutOff o
   by_cut_off c bytes job job_is served i target has s is (inl ref) =
       absurd (refused_not_ready c bytes s ref (record {
         job = job;
         tells = job_is;
-        served = served;
+        built = served;
         placed = (has.spots, has.memory, has.placed);
         keyed = (has.blocks, has.keyed);
       }))
@@ -262,8 +261,7 @@ module _ (words : List (String Global)) (left rest : Option (List ℕ)) (reads r
     ];
     not_built = λ c spelled un. elim ends [
       | done text m is takes ↦
-          let built : IsBuilt m.command = serves_built m.command m.job m.made.served in
-          absurd (un (subst IsBuilt (one_command (texts_of words) m.command c m.spelled built spelled) built))
+          absurd (un (subst IsBuilt (one_command (texts_of words) m.command c m.spelled m.made.built spelled) m.made.built))
       | cut text m is takes rose ↦ write_fault refusals.Unbuilt is
       | refused r cause is parts takes ↦ elim cause [
         | no_command unspelled e ↦ absurd (unspelled (c, spelled))
@@ -287,8 +285,7 @@ module _ (words : List (String Global)) (left rest : Option (List ℕ)) (reads r
       ]
       | refusal_cut s cause is parts takes rose ↦ write_fault r is
     ];
-    cut_off = λ c spelled bytes told job job_is served i target has.
-        let built : IsBuilt c = serves_built c job served in
+    cut_off = λ c spelled bytes told job job_is built i target has.
         elim ends [
           | done text m is takes ↦
               let made = made_told bytes told text m in
@@ -299,7 +296,7 @@ module _ (words : List (String Global)) (left rest : Option (List ℕ)) (reads r
             | no_command unspelled e ↦ absurd (unspelled (c, spelled))
             | not_built d spelled' un e ↦ absurd (un (subst IsBuilt (one_command (texts_of words) c d spelled built spelled') built))
             | of_command d spelled' built' given ↦
-                by_cut_off c bytes job job_is served i target has s is (cause_told c bytes told s d (one_command (texts_of words) d c spelled' built' spelled) given)
+                by_cut_off c bytes job job_is built i target has s is (cause_told c bytes told s d (one_command (texts_of words) d c spelled' built' spelled) given)
             | no_memory e ↦ inr (inr (inr (is ∙ ap Some e)))
           ]
           | refusal_cut s cause is parts takes rose ↦ inr (inl is)
@@ -308,10 +305,10 @@ module _ (words : List (String Global)) (left rest : Option (List ℕ)) (reads r
 
   module _ (job : Job) (answer : HasAnswer words left job) (quiet_source : FaultsRose reads reads' → ⊥) where
     ready : IsReady answer.command answer.bytes
-    ready = record { job = job; tells = answer.is_job; served = answer.served; placed = answer.placed; keyed = answer.keyed }
+    ready = record { job = job; tells = answer.is_job; built = answer.built; placed = answer.placed; keyed = answer.keyed }
 
     built : IsBuilt answer.command
-    built = serves_built answer.command job answer.served
+    built = answer.built
 
     no_late : (r : Refusal) → IsRefusedLate answer.command (Some answer.bytes) r → ⊥
     no_late r late =

@@ -14,7 +14,7 @@ use Rattle.spin_top.specs.declared.commands.Command.{Command}
 use Rattle.spin_top.specs.declared.commands.Command.TheVariants.{Run, Trace, Compile, Tables, Gen}
 use Rattle.spin_top.specs.declared.outcomes.Refusal.{Refusal}
 use Rattle.spin_top.specs.declared.outcomes.Refusal.TheVariants as refusals
-use Rattle.spin_top.specs.Causes.{Serves, HasBlocks, HasNoPlan, no_room, keys_out, cut_off, long_table, IsRefused, unread, unserved, no_plan, IsRefusedLate}
+use Rattle.spin_top.specs.Causes.{HasBlocks, HasNoPlan, no_room, keys_out, cut_off, long_table, IsRefused, unread, no_plan, IsRefusedLate}
 use Rattle.spin_top.specs.Commands.{Spells, IsBuilt}
 use Rattle.spin_top.specs.Jobs.{job_in}
 use Rattle.spin_top.specs.Runs.{IsMade}
@@ -49,13 +49,6 @@ one_command ws Tables Tables a built b = refl
 one_command ws Tables (Gen n) a built b = absurd (one_word ws _ _ _ a b.0)
 one_command ws (Gen n) d a built b = absurd built
 
-pub serves_built : (c : Command) (job : Job) → Serves c job → IsBuilt c
-serves_built Run job served = tt
-serves_built Trace job served = absurd served
-serves_built Compile job served = absurd served
-serves_built Tables job served = tt
-serves_built (Gen n) job served = absurd served
-
 -- ---- bytes are one job, or refused once
 
 pub same_job : (bytes : List ℕ) (a b : Job) → job_in bytes ≡ Ok a → job_in bytes ≡ Ok b → a ≡ b
@@ -73,7 +66,7 @@ err_err bytes r s is_r is_s = cc
 pub record IsReady (c : Command) (bytes : List ℕ) : Type 0 where
   pub job : Job
   pub tells : job_in bytes ≡ Ok job
-  pub served : Serves c job
+  pub built : IsBuilt c
   pub placed : HasPlacement job.machine job.graph
   pub keyed : HasBlocks job.graph
 
@@ -86,7 +79,6 @@ no_plan_at_all job r none placed keyed = elim none [
 pub refused_not_ready : (c : Command) (bytes : List ℕ) (r : Refusal) → IsRefused c (Some bytes) r → IsReady c bytes → ⊥
 refused_not_ready c bytes r refused ready = elim refused [
   | unread text told ↦ ok_err bytes ready.job r ready.tells told
-  | unserved job tells not is ↦ not (subst (Serves c) (same_job bytes ready.job job ready.tells tells) ready.served)
   | no_plan job tells served none ↦
       let same : ready.job ≡ job = same_job bytes ready.job job ready.tells tells in
       no_plan_at_all job r none (subst (λ (j : Job). HasPlacement j.machine j.graph) same ready.placed) (subst (λ (j : Job). HasBlocks j.graph) same ready.keyed)
@@ -122,26 +114,19 @@ pub one_refusal : (c : Command) (bytes : List ℕ) (r s : Refusal) → IsRefused
 one_refusal c bytes r s a b = elim a [
   | unread text told ↦ elim b [
     | unread text' told' ↦ err_err bytes r s told told'
-    | unserved job tells not is ↦ absurd (ok_err bytes job r tells told)
     | no_plan job tells served none ↦ absurd (ok_err bytes job r tells told)
-  ]
-  | unserved job tells not is ↦ elim b [
-    | unread text' told' ↦ absurd (ok_err bytes job s tells told')
-    | unserved job' tells' not' is' ↦ is ∙ sym is'
-    | no_plan job' tells' served none ↦ absurd (not (subst (Serves c) (same_job bytes job' job tells' tells) served))
   ]
   | no_plan job tells served none ↦ elim b [
     | unread text' told' ↦ absurd (ok_err bytes job s tells told')
-    | unserved job' tells' not is' ↦ absurd (not (subst (Serves c) (same_job bytes job job' tells tells') served))
     | no_plan job' tells' served' none' ↦ one_no_plan job r s none (subst (λ (j : Job). HasNoPlan j s) (same_job bytes job' job tells' tells) none')
   ]
 ]
 
-pub ready_of_plan : (c : Command) (bytes : List ℕ) (job : Job) (plan : Plan) → job_in bytes ≡ Ok job → Serves c job → IsPlanOf job.machine job.graph plan → IsReady c bytes
+pub ready_of_plan : (c : Command) (bytes : List ℕ) (job : Job) (plan : Plan) → job_in bytes ≡ Ok job → IsBuilt c → IsPlanOf job.machine job.graph plan → IsReady c bytes
 ready_of_plan c bytes job plan tells served is = record {
   job = job;
   tells = tells;
-  served = served;
+  built = served;
   placed = (plan.placement.spots, plan.placement.memory, is.placed);
   keyed = (blocks_of plan.nets, is.blocks);
 }
@@ -151,7 +136,7 @@ ready_late c bytes r late = elim late.3 [
   | cut_off i net target has at is ↦ record {
     job = late.0;
     tells = late.1;
-    served = late.2;
+    built = late.2;
     placed = (has.spots, has.memory, has.placed);
     keyed = (has.blocks, has.keyed);
   }
@@ -160,4 +145,4 @@ ready_late c bytes r late = elim late.3 [
 
 pub ready_made : (c : Command) (bytes : List ℕ) (rest : Option (List ℕ)) (job : Job) (plan : Plan) (mesh : Option State) (report : Option Report) (text : List ℕ) →
     IsMade c (Some bytes) rest job plan mesh report text → IsReady c bytes
-ready_made c bytes rest job plan mesh report text made = ready_of_plan c bytes job plan made.read.0 made.served made.planned.as_defined
+ready_made c bytes rest job plan mesh report text made = ready_of_plan c bytes job plan made.read.0 made.built made.planned.as_defined

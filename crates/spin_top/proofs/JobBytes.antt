@@ -9,7 +9,8 @@ use Rattle.job_readers.specs.declared.jobs.Job.{Job}
 use Rattle.spin_top.specs.declared.outcomes.Refusal.{Refusal}
 use Rattle.spin_top.specs.declared.outcomes.Refusal.TheVariants as refusals
 use Rattle.spin_top.specs.declared.commands.Command.{Command}
-use Rattle.spin_top.specs.Causes.{HasCauseFor, HasNoBuiltPlan, HasNoPlan, Serves, unread, no_plan}
+use Rattle.spin_top.specs.Causes.{HasCauseFor, HasNoBuiltPlan, HasNoPlan, unread, no_plan}
+use Rattle.spin_top.specs.Commands.{IsBuilt}
 use Rattle.spin_top.specs.Jobs.{IsOfText, job_in, job_of, job_from, IsValueOf, IsReadTo, Tells, TellsRefusal}
 
 not_long : (bytes : List ℕ) → length bytes ≤ 16777216 → nat_lt 16777216 (length bytes) ≡ false
@@ -72,7 +73,7 @@ pub cause_of_text : (c : Command) (left rest : Option (List ℕ)) (before after 
 cause_of_text c left rest before after d r value (inl text) = inl (unread text.0 (tells-fault left rest d r value text.1))
 cause_of_text c left rest before after d r value (inr memory) = inr (inr (inr memory))
 
-pub cause_of_plan : (c : Command) (left rest : Option (List ℕ)) (before after : ℕ) (d : Data) (job : Job) (r : Refusal) → IsValueOf left d rest → job_of d ≡ Ok job → Serves c job →
+pub cause_of_plan : (c : Command) (left rest : Option (List ℕ)) (before after : ℕ) (d : Data) (job : Job) (r : Refusal) → IsValueOf left d rest → job_of d ≡ Ok job → IsBuilt c →
     HasNoPlan job r ⊎ (HasNoBuiltPlan job r ⊎ (r ≡ refusals.Memory)) → HasCauseFor c left before after r
 cause_of_plan c left rest before after d job r value is served (inl none) = inl (no_plan job (tells-job left rest d job value is) served none)
 cause_of_plan c left rest before after d job r value is served (inr (inl late)) = inr (inl (job, tells-job left rest d job value is, served, late))

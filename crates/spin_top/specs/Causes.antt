@@ -13,20 +13,11 @@ use Rattle.job_readers.specs.declared.jobs.Job.{Job}
 use Rattle.par_compile.specs.declared.compiling.Plan.{Plan}
 use Rattle.par_compile.specs.Compiled.{HasCutOff, HasPlacement, IsPlanOf}
 use Rattle.spin_top.specs.declared.commands.Command.{Command}
-use Rattle.spin_top.specs.declared.commands.Command.TheVariants.{Run, Trace, Compile, Tables, Gen}
 use Rattle.spin_top.specs.declared.outcomes.Refusal.{Refusal}
 use Rattle.spin_top.specs.declared.outcomes.Refusal.TheVariants as refusals
 use Rattle.spin_top.specs.Commands.{Spells, texts_of, IsCommand, IsBuilt}
 use Rattle.spin_top.specs.Jobs.{Tells, TellsRefusal, IsOfText}
-use Rattle.spin_top.specs.Opened.{Fits, IsOneChip}
-
--- Jobs that a command serves today: `run` those whose machine has one chip, `tables` all.
-abbrev pub Serves : Command → Job → Type 0
-Serves Run job = IsOneChip job.machine
-Serves Trace job = ⊥
-Serves Compile job = ⊥
-Serves Tables job = Unit {0}
-Serves (Gen n) job = ⊥
+use Rattle.spin_top.specs.Opened.{Fits}
 
 -- all nets have keys
 abbrev pub HasBlocks : Graph → Type 0
@@ -46,15 +37,14 @@ pub data HasNoBuiltPlan (job : Job) (r : Refusal) : Type 0 where
       r ≡ refusals.CutOff net.name target → HasNoBuiltPlan job r
   long_table : (plan : Plan) → IsPlanOf job.machine job.graph plan → (All Fits plan.tables → ⊥) → r ≡ refusals.Unbuilt → HasNoBuiltPlan job r
 
--- A command is refused for the job's text, for a job that it does not serve yet, or for a job without a plan.
+-- A command that is built is refused for the job's text, or for a job without a plan.
 pub data IsRefused (c : Command) (left : Option (List ℕ)) (r : Refusal) : Type 0 where
   unread : IsOfText r → TellsRefusal left r → IsRefused c left r
-  unserved : (job : Job) → Tells left job → (Serves c job → ⊥) → r ≡ refusals.Unbuilt → IsRefused c left r
-  no_plan : (job : Job) → Tells left job → Serves c job → HasNoPlan job r → IsRefused c left r
+  no_plan : (job : Job) → Tells left job → IsBuilt c → HasNoPlan job r → IsRefused c left r
 
--- the job that it serves has no plan that is built
+-- the command is built, and the job has no plan that is built
 abbrev pub IsRefusedLate : Command → Option (List ℕ) → Refusal → Type 0
-IsRefusedLate c left r = (job : Job) × Tells left job × Serves c job × HasNoBuiltPlan job r
+IsRefusedLate c left r = (job : Job) × Tells left job × IsBuilt c × HasNoBuiltPlan job r
 
 -- The counter of reading faults shows one, or memory ran out, which may come at any time.
 abbrev pub IsFailure : ℕ → ℕ → Refusal → Type 0

@@ -12,7 +12,7 @@ use Rattle.spin_top.specs.declared.commands.Command.{Command}
 use Rattle.spin_top.specs.declared.outcomes.Outcome.{Outcome}
 use Rattle.spin_top.specs.declared.outcomes.Refusal.{Refusal}
 use Rattle.spin_top.specs.declared.outcomes.Refusal.TheVariants.{CutOff, WriteFault, ReadFault, Memory, Usage, Unbuilt}
-use Rattle.spin_top.specs.Causes.{HasBlocks, HasCause, IsRefused, Serves}
+use Rattle.spin_top.specs.Causes.{HasBlocks, HasCause, IsRefused}
 use Rattle.spin_top.specs.Commands.{Spells, texts_of, IsCommand, IsBuilt, IsRun, IsTables}
 use Rattle.spin_top.specs.Ends.{GivesNoPart}
 use Rattle.spin_top.specs.Jobs.{job_in}
@@ -75,15 +75,15 @@ pub record IsRefusedWhere (words : List (String Global)) (left : Option (List �
   pub no_command : (IsCommand words → ⊥) → IsRefusedAs o Usage
   pub not_built : (c : Command) → Spells (texts_of words) c → (IsBuilt c → ⊥) → IsRefusedAs o Unbuilt
   pub refused : (c : Command) → Spells (texts_of words) c → IsBuilt c → (bytes : List ℕ) → left ≡ Some bytes → (r : Refusal) → IsRefused c (Some bytes) r → IsRefusedAs o r
-  pub cut_off : (c : Command) → Spells (texts_of words) c → (bytes : List ℕ) → left ≡ Some bytes → (job : Job) → job_in bytes ≡ Ok job → Serves c job →
+  pub cut_off : (c : Command) → Spells (texts_of words) c → (bytes : List ℕ) → left ≡ Some bytes → (job : Job) → job_in bytes ≡ Ok job → IsBuilt c →
       (i : ℕ) (target : Chip) → HasCutOff job.machine job.graph i target → IsCalledCutOff o
 
--- The source tells the bytes of a job that the words' command serves, its vertices have places, its nets have keys, no
+-- The words' command is built, the source tells the bytes of a job, its vertices have places, its nets have keys, no
 -- target is cut off, and the tables of its plan fit.
 pub record HasAnswer (words : List (String Global)) (left : Option (List ℕ)) (job : Job) : Type 0 where
   pub command : Command
   pub spelled : Spells (texts_of words) command
-  pub served : Serves command job
+  pub built : IsBuilt command
   pub bytes : List ℕ
   pub told : left ≡ Some bytes
   pub is_job : job_in bytes ≡ Ok job

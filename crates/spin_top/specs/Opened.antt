@@ -1,7 +1,6 @@
 -- The mesh of a job before its first event, once the job has a plan.
-use Rattle.std.specs.Prelude.{◌≡◌, ◌≤◌, List, length, map}
+use Rattle.std.specs.Prelude.{◌≤◌, List, length, map}
 use Rattle.spin_base.specs.declared.blocks.Entry.{Entry}
-use Rattle.machine_desc.specs.Description.{Description}
 use Rattle.tern_word.specs.declared.tables.Table.{Table}
 use Rattle.plain_tables.specs.PlainTable.{entries}
 use Rattle.table_load.specs.Memories.{loaded}
@@ -9,11 +8,6 @@ use Rattle.mesh_core.specs.State.{Setup, State}
 use Rattle.mesh_core.specs.Opened.{opened_mesh}
 use Rattle.job_readers.specs.declared.jobs.Job.{Job}
 use Rattle.par_compile.specs.declared.compiling.Plan.{Plan}
-
--- a machine of one chip
-pub record IsOneChip (m : Description) : Type 0 where
-  pub one_wide : m.width ≡ 1
-  pub one_high : m.height ≡ 1
 
 -- A router's lookup memory has 1,024 entries (SpiNNaker datasheet). A table fits where it has no more rows.
 abbrev pub Fits : Table → Type 0

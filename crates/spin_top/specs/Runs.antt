@@ -13,7 +13,7 @@ use Rattle.par_compile.specs.declared.compiling.Plan.{Plan}
 use Rattle.par_compile.specs.Compiled.{IsPlanOf}
 use Rattle.spin_top.specs.declared.commands.Command.{Command}
 use Rattle.spin_top.specs.declared.commands.Command.TheVariants.{Run, Trace, Compile, Tables, Gen}
-use Rattle.spin_top.specs.Causes.{Serves}
+use Rattle.spin_top.specs.Commands.{IsBuilt}
 use Rattle.spin_top.specs.Jobs.{IsReadTo}
 use Rattle.spin_top.specs.Opened.{Fits, memory_of, opened_of}
 
@@ -53,10 +53,10 @@ IsOutputOf Trace job plan mesh report text = ⊥
 IsOutputOf Compile job plan mesh report text = ⊥
 IsOutputOf (Gen n) job plan mesh report text = ⊥
 
--- All that a command makes: the job that the source had left, which the command serves, its plan, and the output.
+-- All that a command that is built makes: the job that the source had left, its plan, and the output.
 pub record IsMade (c : Command) (left rest : Option (List ℕ)) (job : Job) (plan : Plan) (mesh : Option State) (report : Option Report) (text : List ℕ) : Type 0 where
   pub read : IsReadTo left job rest
-  pub served : Serves c job
+  pub built : IsBuilt c
   pub planned : IsPlanned job plan
   pub output : IsOutputOf c job plan mesh report text
 

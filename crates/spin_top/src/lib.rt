@@ -1,7 +1,7 @@
 //! The whole chain: words and bytes in, a report out.
 //!
 //! `spin` reads a job, compiles it, runs it on the mesh or lists its plan, and writes the text or one line that says why
-//! there is none. Built today: `run`, for jobs whose machine has one chip, and `tables`. Each stage is a function from
+//! there is none. Built today: `run` and `tables`. Each stage is a function from
 //! values to values, in a crate of its own: bytes to a JSON value, a value to a job, a job to a plan, a plan to the mesh
 //! after all packets, these to a report, and a report to its text. The clauses of `spin` say what holds of all of them
 //! together.

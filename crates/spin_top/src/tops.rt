@@ -5,7 +5,7 @@ ghost use Rattle.app_graph.specs.RunPart.{IsRunOf};
 ghost use Rattle.mesh_core.specs.Opened.{MeetsJobLedger};
 ghost use Rattle.spin_base.specs.Outside.{FaultsRose, Takes, TakesProperPrefix};
 ghost use Rattle.job_readers.specs.declared.jobs.Job.{Job};
-ghost use Rattle.spin_top.specs.Causes.{HasCause, HasCauseFor, Serves};
+ghost use Rattle.spin_top.specs.Causes.{HasCause, HasCauseFor};
 ghost use Rattle.spin_top.specs.Commands.{IsBuilt, IsRun, IsTables, Spells, texts_of};
 ghost use Rattle.spin_top.specs.declared.commands.Command.{Command};
 ghost use Rattle.spin_top.specs.Ends.{Ends, GivesNoPart, IsLineWritten};
@@ -38,9 +38,9 @@ struct Made {
 /// Does what the words ask for, with the source's bytes as the job, and writes the text or one line to the sink.
 ///
 /// The words are those of the command line without the program's name: `run`, `trace`, `compile`, `tables` or `gen N`.
-/// Built today are `run`, for jobs whose machine has one chip, and `tables`. `run` compiles the job, runs it, and writes
-/// the report; `tables` compiles it and writes where its vertices stand, which keys its nets have, and its tables. The
-/// whole text stands before its first byte is written, and a refusal writes its line and nothing else.
+/// Built today are `run` and `tables`. `run` compiles the job, runs it, and writes the report; `tables` compiles it and
+/// writes where its vertices stand, which keys its nets have, and its tables. The whole text stands before its first byte
+/// is written, and a refusal writes its line and nothing else.
 ///
 /// Statuses: 0, the text was written; 1, the words spell no command; 2, reading failed; 3, writing failed; 4, the bytes are
 /// no job; 5, a vertex has no room; 6, a net has no keys; 7, a target is cut off; 9, memory ran out; 10, the words or the
@@ -103,15 +103,12 @@ fn made_of<S: Source>(alloc: Global, words: &[String], source: &mut S) -> Result
 
 // What a command makes of the source's bytes.
 fn made_by<S: Source>(alloc: Global, command: Command, source: &mut S) -> Result<Made, Refusal>
-    requires { IsBuilt command }
+    requires built { IsBuilt command }
     ensures made { IfOk result (λ made. IsMade command (S.left source.old) (S.left source.new) made.job made.plan made.output.mesh made.output.report made.output.text) }
     ensures err { IfErr result (HasCauseFor command (S.left source.old) (S.faults source.old) (S.faults source.new)) }
 {
     let value = read_value(alloc, source)?;
     let job = read_job(alloc, &value)?;
-    if !serves(command, &job) {
-        return Err(Refusal::Unbuilt);
-    }
     let plan = plan_of(alloc, &job)?;
     match output_of(alloc, command, &job, &plan) {
         Ok(output) => Ok(Made { job, plan, output }),
@@ -119,22 +116,9 @@ fn made_by<S: Source>(alloc: Global, command: Command, source: &mut S) -> Result
     }
 }
 
-// Whether the command serves the job today.
-fn serves(command: Command, job: &Job) -> bool
-    requires { IsBuilt command }
-    ensures yes { result ≡ true → Serves command job.now }
-    ensures no { Serves command job.now → result ≡ true }
-{
-    if command == Command::Run {
-        return job.machine.width() == 1 && job.machine.height() == 1;
-    }
-    true
-}
-
 // What a command makes of a planned job.
 fn output_of(alloc: Global, command: Command, job: &Job, plan: &Plan) -> Result<Output, Memory>
     requires built { IsBuilt command }
-    requires served { Serves command job.now }
     requires graph { IsValidGraph job.now.graph }
     requires run { IsRunOf job.now.graph job.now.run }
     requires planned { IsPlanned job.now plan.now }

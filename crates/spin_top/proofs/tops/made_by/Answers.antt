@@ -1,22 +1,13 @@
-use Rattle.std.proofs.Common.{refl, sym, ◌∙◌, inl}
-use Rattle.std.proofs.lemmas.Bool.{false≢true}
 use Rattle.serde_json.specs.View.{view}
-use Rattle.spin_top.specs.Causes.{unserved}
 use Rattle.spin_top.specs.Causes.{HasCauseFor}
 use Rattle.spin_top.proofs.EndLaws.{err_carried}
 use Rattle.spin_top.proofs.JobBytes.{cause_of_plan, cause_of_text, reads-job, tells-job}
 use Rattle.spin_top.proofs.tops.made_by.Goals as goal
 
-pub returns-then-not-serves-clause-err : goal.returns-then-not-serves-clause-err
-returns-then-not-serves-clause-err g c =
-    let job = c.in_ok-job.job in
-    let told = tells-job (g.S.Source.left c.args.source.now) (g.S.Source.left c.read_value.new.source) (view c.in_ok-value.value) job c.in_ok-value.ensures.value c.in_ok-job.ensures.job in
-    inl (unserved job told (λ served. false≢true (sym c.if-not-serves.true ∙ c.serves.ensures.no served)) refl)
-
 pub returns-in-Ok-clause-made : goal.returns-in-Ok-clause-made
 returns-in-Ok-clause-made g c = record {
   read = reads-job (g.S.Source.left c.args.source.now) (g.S.Source.left c.read_value.new.source) (view c.in_ok-value.value) c.in_ok-job.job c.in_ok-value.ensures.value c.in_ok-job.ensures.job;
-  served = c.serves.ensures.yes c.if-not-serves.false;
+  built = c.requires.built;
   planned = c.in_ok-plan.ensures.plan;
   output = c.in-Ok.ensures;
 }
@@ -40,4 +31,4 @@ returns-in_err-plan-clause-err g c =
     let r = c.in_err-plan.field-0.0 in
     err_carried c.from_residual-in_err-plan.result r (HasCauseFor c.args.command left before after) c.from_residual-in_err-plan.ensures
     (cause_of_plan c.args.command left rest before after (view c.in_ok-value.value) c.in_ok-job.job r c.in_ok-value.ensures.value c.in_ok-job.ensures.job
-    (c.serves.ensures.yes c.if-not-serves.false) c.in_err-plan.ensures.err)
+    c.requires.built c.in_err-plan.ensures.err)
