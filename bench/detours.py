@@ -81,7 +81,7 @@ fn edges_of(alloc: Global, machine: &Machine, count: u32, side: u32, repairing: 
             let targets = targets_of(alloc, root, u32::from(x) * 64 + u32::from(y), count, side)?;
             let Grown { mut tree, joins: _ } = ner(alloc, machine, root, &targets)?;
             if repairing {
-                tree = repair(alloc, machine, tree, &targets)?;
+                tree = repair(alloc, machine, &tree, &targets)?;
             }
             edges = edges.wrapping_add(tree.edges.len() as u32);
         }
