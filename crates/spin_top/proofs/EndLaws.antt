@@ -1,9 +1,11 @@
 -- What follows from how a call ends.
-use Rattle.std.proofs.Common.{◌≡◌, ◌⊎◌, ℕ, List, String, Option, Some, None, Result, Ok, Err, IfErr, IfSome, is_some, refl, sym, ap, ◌∙◌, subst, inl, inr}
+use Rattle.std.proofs.Common.{◌≡◌, ◌⊎◌, ℕ, List, String, Option, Some, None, Result, Ok, Err, IfErr, IfSome, is_some, refl, sym, ap, ap₂, ◌∙◌, subst, inl, inr}
+use Rattle.std.specs.List.{slice_get}
 use Rattle.std.specs.Result.{IsErr, IsErrAnd}
 use Rattle.std.specs.declared.alloc.Global.{Global}
 use Rattle.spin_base.specs.declared.chips.Chip.{Chip}
 use Rattle.spin_base.specs.Outside.{FaultsRose, Takes, TakesProperPrefix}
+use Rattle.app_graph.specs.declared.graphs.Net.{Net}
 use Rattle.mesh_core.specs.State.{State}
 use Rattle.job_readers.specs.declared.jobs.Job.{Job}
 use Rattle.run_report.specs.declared.reports.Report.{Report}
@@ -17,12 +19,12 @@ use Rattle.spin_top.specs.declared.outcomes.Refusal.TheVariants as refusals
 use Rattle.spin_top.specs.Causes.{HasNoBuiltPlan, cut_off, long_table, IsRefused, unread, no_plan, IsRefusedLate, HasCauseFor, HasCause, no_command, not_built, of_command, no_memory, HasNoPlan, no_room, keys_out}
 use Rattle.spin_top.specs.Commands.{Spells, texts_of, IsBuilt, IsRun, IsTables}
 use Rattle.spin_top.specs.Ends.{Ends, done, cut, refused, refusal_cut, Makes, GivesNoPart}
-use Rattle.spin_top.specs.Given.{WhereGiven, WhereRun, GivesAll, IsGiven, IsWritten, IsCaused, IsCalledCutOff, IsRefusedAs, IsRefusedWhere, HasAnswer}
+use Rattle.spin_top.specs.Given.{WhereGiven, WhereRun, GivesAll, IsGiven, IsWritten, IsCaused, IsRefusedAs, IsRefusedWhere, HasAnswer}
 use Rattle.spin_top.specs.Jobs.{IsOfText, job_in}
 use Rattle.spin_top.specs.Outcomes.{line_of, status_at}
 use Rattle.spin_top.specs.Runs.{IsMade, IsOutputOf, IsRunMade, output_text}
-use Rattle.par_compile.proofs.Refusing.{cut_not_planned}
-use Rattle.spin_top.proofs.Exclusive.{one_command, same_job, IsReady, refused_not_ready, one_refusal, ready_late, ready_made}
+use Rattle.par_compile.proofs.Refusing.{cut_not_planned, one_cut_off}
+use Rattle.spin_top.proofs.Exclusive.{one_command, same_job, same_net, IsReady, refused_not_ready, one_refusal, ready_late, ready_made}
 
 -- what each error has, each error has that has more
 pub err_weaker : {A E : Type 0} (r : Result A E) (P Q : E → Type 0) → ((e : E) → P e → Q e) → IfErr r P → IfErr r Q
@@ -225,15 +227,20 @@ module _ (words : List (String Global)) (left rest : Option (List ℕ)) (reads r
   by_cause c bytes r s ref is (inr (inr (inl fault))) = inr (inr (inl (is ∙ ap Some fault.0)))
   by_cause c bytes r s ref is (inr (inr (inr e))) = memory r s is e
 
-  by_late : (job : Job) (i : ℕ) (target : Chip) → HasCutOff job.machine job.graph i target → (s : Refusal) → o.refusal ≡ Some s → HasNoBuiltPlan job s → IsCalledCutOff o
-  by_late job i target has s is none = elim none [
-    | cut_off j net other has' at e ↦ inl (net.name, other, is ∙ ap Some e)
+  by_late : (job : Job) (i : ℕ) (net : Net) (target : Chip) → slice_get job.graph.nets i ≡ Some net → HasCutOff job.machine job.graph i target → (s : Refusal) → o.refusal ≡ Some s →
+      HasNoBuiltPlan job s → IsRefusedAs o (refusals.CutOff net.name target)
+  by_late job i net target here has s is none = elim none [
+    | cut_off j other chip has' at e ↦
+        let one = one_cut_off job.machine job.graph i j target chip has has' in
+        let name : net.name ≡ other.name = same_net job.graph.nets i j net other one.0 here at in
+        let same : refusals.CutOff net.name target ≡ refusals.CutOff other.name chip = ap₂ refusals.CutOff name one.1 in
+        inl (is ∙ ap Some (e ∙ sym same))
     | long_table plan is_plan long e ↦ absurd (cut_not_planned job.machine job.graph i target plan has is_plan)
   ]
 
-  by_cut_off : (c : Command) (bytes : List ℕ) (job : Job) → job_in bytes ≡ Ok job → IsBuilt c → (i : ℕ) (target : Chip) → HasCutOff job.machine job.graph i target →
-      (s : Refusal) → o.refusal ≡ Some s → HasCauseFor c (Some bytes) reads reads' s → IsCalledCutOff o
-  by_cut_off c bytes job job_is served i target has s is (inl ref) =
+  by_cut_off : (c : Command) (bytes : List ℕ) (job : Job) → job_in bytes ≡ Ok job → IsBuilt c → (i : ℕ) (net : Net) (target : Chip) → slice_get job.graph.nets i ≡ Some net →
+      HasCutOff job.machine job.graph i target → (s : Refusal) → o.refusal ≡ Some s → HasCauseFor c (Some bytes) reads reads' s → IsRefusedAs o (refusals.CutOff net.name target)
+  by_cut_off c bytes job job_is served i net target here has s is (inl ref) =
       absurd (refused_not_ready c bytes s ref (record {
         job = job;
         tells = job_is;
@@ -241,10 +248,10 @@ module _ (words : List (String Global)) (left rest : Option (List ℕ)) (reads r
         placed = (has.spots, has.memory, has.placed);
         keyed = (has.blocks, has.keyed);
       }))
-  by_cut_off c bytes job job_is served i target has s is (inr (inl late)) =
-      by_late job i target has s is (subst (λ (j : Job). HasNoBuiltPlan j s) (same_job bytes late.0 job late.1 job_is) late.3)
-  by_cut_off c bytes job job_is served i target has s is (inr (inr (inl fault))) = inr (inr (inl (is ∙ ap Some fault.0)))
-  by_cut_off c bytes job job_is served i target has s is (inr (inr (inr e))) = inr (inr (inr (is ∙ ap Some e)))
+  by_cut_off c bytes job job_is served i net target here has s is (inr (inl late)) =
+      by_late job i net target here has s is (subst (λ (j : Job). HasNoBuiltPlan j s) (same_job bytes late.0 job late.1 job_is) late.3)
+  by_cut_off c bytes job job_is served i net target here has s is (inr (inr (inl fault))) = inr (inr (inl (is ∙ ap Some fault.0)))
+  by_cut_off c bytes job job_is served i net target here has s is (inr (inr (inr e))) = inr (inr (inr (is ∙ ap Some e)))
 
   pub refused_clause : IsRefusedWhere words left o
   refused_clause = record {
@@ -285,7 +292,7 @@ module _ (words : List (String Global)) (left rest : Option (List ℕ)) (reads r
       ]
       | refusal_cut s cause is parts takes rose ↦ write_fault r is
     ];
-    cut_off = λ c spelled bytes told job job_is built i target has.
+    cut_off = λ c spelled bytes told job job_is built i net target here has.
         elim ends [
           | done text m is takes ↦
               let made = made_told bytes told text m in
@@ -296,7 +303,7 @@ module _ (words : List (String Global)) (left rest : Option (List ℕ)) (reads r
             | no_command unspelled e ↦ absurd (unspelled (c, spelled))
             | not_built d spelled' un e ↦ absurd (un (subst IsBuilt (one_command (texts_of words) c d spelled built spelled') built))
             | of_command d spelled' built' given ↦
-                by_cut_off c bytes job job_is built i target has s is (cause_told c bytes told s d (one_command (texts_of words) d c spelled' built' spelled) given)
+                by_cut_off c bytes job job_is built i net target here has s is (cause_told c bytes told s d (one_command (texts_of words) d c spelled' built' spelled) given)
             | no_memory e ↦ inr (inr (inr (is ∙ ap Some e)))
           ]
           | refusal_cut s cause is parts takes rose ↦ inr (inl is)

@@ -90,7 +90,7 @@ same_vertex vs i j v w same at_i at_j =
     let one : v ≡ w = cc in
     ap (λ (x : Vertex). x.name) one
 
-same_net : (ns : List Net) (i j : ℕ) (v w : Net) → i ≡ j → slice_get ns i ≡ Some v → slice_get ns j ≡ Some w → v.name ≡ w.name
+pub same_net : (ns : List Net) (i j : ℕ) (v w : Net) → i ≡ j → slice_get ns i ≡ Some v → slice_get ns j ≡ Some w → v.name ≡ w.name
 same_net ns i j v w same at_i at_j =
     let there : slice_get ns j ≡ Some v = subst (λ k. slice_get ns k ≡ Some v) same at_i in
     let one : v ≡ w = cc in

@@ -1,8 +1,9 @@
 -- What a call of the program promises, part by part (this project's own).
-use Rattle.std.specs.Prelude.{◌≡◌, ◌≢◌, ◌⊎◌, ℕ, List, String, Option, Some, None, IfSome, IsSome, All, Ok}
+use Rattle.std.specs.Prelude.{◌≡◌, ◌≢◌, ◌⊎◌, ℕ, List, String, Option, Some, None, IfSome, IsSome, All, Ok, slice_get}
 use Rattle.std.specs.declared.alloc.Global.{Global}
 use Rattle.spin_base.specs.declared.chips.Chip.{Chip}
 use Rattle.spin_base.specs.Outside.{FaultsRose, Takes, TakesProperPrefix}
+use Rattle.app_graph.specs.declared.graphs.Net.{Net}
 use Rattle.mesh_core.specs.State.{State}
 use Rattle.job_readers.specs.declared.jobs.Job.{Job}
 use Rattle.run_report.specs.declared.reports.Report.{Report}
@@ -64,19 +65,15 @@ IsFailed o = (o.refusal ≡ Some WriteFault) ⊎ ((o.refusal ≡ Some ReadFault)
 abbrev pub IsRefusedAs : Outcome → Refusal → Type 0
 IsRefusedAs o r = (o.refusal ≡ Some r) ⊎ IsFailed o
 
--- the refusal is that of a target that is cut off, or a fault or want of memory stands in its place
-abbrev pub IsCalledCutOff : Outcome → Type 0
-IsCalledCutOff o = ((net : List ℕ) × (target : Chip) × (o.refusal ≡ Some (CutOff net target))) ⊎ IsFailed o
-
 -- Words that spell no command, or one that is not built, are refused so. Where the source tells its bytes, a command that
 -- is built is refused for each cause of their text, their job, its vertices' room and its nets' keys; and where a target of
--- the job is cut off, one is named.
+-- a net is cut off, the first such net is named, with its first such target.
 pub record IsRefusedWhere (words : List (String Global)) (left : Option (List ℕ)) (o : Outcome) : Type 0 where
   pub no_command : (IsCommand words → ⊥) → IsRefusedAs o Usage
   pub not_built : (c : Command) → Spells (texts_of words) c → (IsBuilt c → ⊥) → IsRefusedAs o Unbuilt
   pub refused : (c : Command) → Spells (texts_of words) c → IsBuilt c → (bytes : List ℕ) → left ≡ Some bytes → (r : Refusal) → IsRefused c (Some bytes) r → IsRefusedAs o r
   pub cut_off : (c : Command) → Spells (texts_of words) c → (bytes : List ℕ) → left ≡ Some bytes → (job : Job) → job_in bytes ≡ Ok job → IsBuilt c →
-      (i : ℕ) (target : Chip) → HasCutOff job.machine job.graph i target → IsCalledCutOff o
+      (i : ℕ) (net : Net) (target : Chip) → slice_get job.graph.nets i ≡ Some net → HasCutOff job.machine job.graph i target → IsRefusedAs o (CutOff net.name target)
 
 -- The words' command is built, the source tells the bytes of a job, its vertices have places, its nets have keys, no
 -- target is cut off, and the tables of its plan fit.
