@@ -1,1 +1,2 @@
+pub use Rattle.tern_word.specs.SoundTable
 pub mod Merge

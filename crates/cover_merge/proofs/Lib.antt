@@ -1,9 +1,9 @@
-pub mod ApplyLemmas
-pub mod CarryLemmas
-pub mod ChooseLemmas
-pub mod CoverLemmas
-pub mod GuardLemmas
-pub mod LinkLemmas
-pub mod RefineLemmas
-pub mod SiftLemmas
-pub mod TriedLemmas
+mod ApplyLemmas
+mod CarryLemmas
+mod ChooseLemmas
+mod CoverLemmas
+mod GuardLemmas
+mod LinkLemmas
+mod RefineLemmas
+mod SiftLemmas
+mod TriedLemmas

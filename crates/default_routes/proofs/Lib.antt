@@ -1,1 +1,1 @@
-pub mod StripLemmas
+mod StripLemmas

@@ -1,1 +1,4 @@
+pub use Rattle.spin_base.specs.Lookup
+pub use Rattle.tern_word.specs.SoundTable
+pub use Rattle.cover_checks.specs.Merge
 pub mod KeptRows

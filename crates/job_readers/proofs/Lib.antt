@@ -1,8 +1,8 @@
-pub mod Firsts
-pub mod ItemSteps
-pub mod NamedSteps
-pub mod EntryLengths
-pub mod PlaceSteps
-pub mod GraphSteps
-pub mod RunSteps
-pub mod Parts
+mod Firsts
+mod ItemSteps
+mod NamedSteps
+mod EntryLengths
+mod PlaceSteps
+mod GraphSteps
+mod RunSteps
+mod Parts

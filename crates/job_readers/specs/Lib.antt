@@ -1,3 +1,8 @@
+pub use Rattle.spin_base.specs.Outputs
+pub use Rattle.machine_desc.specs.Live
+pub use Rattle.app_graph.specs.ValidGraph
+pub use Rattle.job_text.specs.Fields
+pub use Rattle.job_text.specs.Reading
 pub mod Places
 pub mod Indexed
 pub mod Items

@@ -1,2 +1,2 @@
-pub mod Readings
+mod Readings
 pub mod Items

@@ -1,4 +1,4 @@
-pub mod Sizes
-pub mod Taking
-pub mod Growing
+mod Sizes
+mod Taking
+mod Growing
 pub mod Determined

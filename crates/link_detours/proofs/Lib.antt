@@ -1,12 +1,12 @@
-pub mod Reaching
-pub mod Keeping
-pub mod Pruning
-pub mod Searching
-pub mod Seeding
-pub mod Stepping
-pub mod Tabling
-pub mod Trimming
-pub mod Turning
-pub mod Unchanged
-pub mod Walks
-pub mod Wholes
+mod Reaching
+mod Keeping
+mod Pruning
+mod Searching
+mod Seeding
+mod Stepping
+mod Tabling
+mod Trimming
+mod Turning
+mod Unchanged
+mod Walks
+mod Wholes

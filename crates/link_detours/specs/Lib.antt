@@ -1,3 +1,5 @@
+pub use Rattle.machine_desc.specs.Live
+pub use Rattle.machine_desc.specs.RoutingTree
 pub mod Cause
 pub mod Descent
 pub mod Repair

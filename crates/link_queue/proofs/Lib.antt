@@ -1,1 +1,1 @@
-pub mod StepLemmas
+mod StepLemmas

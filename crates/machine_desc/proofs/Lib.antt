@@ -1,4 +1,4 @@
-pub mod Axis
+mod Axis
 pub mod Branches
 pub mod Far
 pub mod Listing

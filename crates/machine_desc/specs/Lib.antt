@@ -1,3 +1,4 @@
+pub use Rattle.spin_base.specs.Links
 pub mod Branch
 pub mod Described
 pub mod Description

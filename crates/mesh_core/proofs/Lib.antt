@@ -1,31 +1,31 @@
 pub mod AskedPackets
 pub mod Changes
-pub mod Counting
+mod Counting
 pub mod DeliveredLaw
 pub mod Events
 pub mod EventsLaw
-pub mod ExpectedCount
+mod ExpectedCount
 pub mod ExpectedList
-pub mod FewMarks
+mod FewMarks
 pub mod Fixed
-pub mod HandOutputs
-pub mod Keeping
+mod HandOutputs
+mod Keeping
 pub mod Law
 pub mod LedgerLaw
-pub mod MarkTests
+mod MarkTests
 pub mod Moves
-pub mod NoDump
-pub mod OneWay
+mod NoDump
+mod OneWay
 pub mod OpenedLaw
-pub mod Ordered
-pub mod QueueLists
+mod Ordered
+mod QueueLists
 pub mod Queued
-pub mod RoomyRuns
-pub mod Searching
+mod RoomyRuns
+mod Searching
 pub mod ServingLaws
 pub mod Standing
-pub mod StepLedger
-pub mod StepParts
+mod StepLedger
+mod StepParts
 pub mod VertexTableLaws
-pub mod WalkingUp
+mod WalkingUp
 pub mod Ways

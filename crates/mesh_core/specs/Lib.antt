@@ -1,3 +1,11 @@
+pub use Rattle.spin_base.specs.Equality
+pub use Rattle.spin_base.specs.Lookup
+pub use Rattle.spin_base.specs.Outputs
+pub use Rattle.machine_desc.specs.Branch
+pub use Rattle.machine_desc.specs.Description
+pub use Rattle.machine_desc.specs.Live
+pub use Rattle.net_tables.specs.NetsOn
+pub use Rattle.net_tables.specs.RightTables
 pub mod Expected
 pub mod HasRun
 pub mod InParts

@@ -1,9 +1,9 @@
-pub mod Axis
-pub mod Cutting
-pub mod Growing
-pub mod LongestFirst
-pub mod Searching
-pub mod Signed
-pub mod Torus
-pub mod Trees
-pub mod Walking
+mod Axis
+mod Cutting
+mod Growing
+mod LongestFirst
+mod Searching
+mod Signed
+mod Torus
+mod Trees
+mod Walking

@@ -1,4 +1,4 @@
 pub mod CutOffLaws
 pub mod Ordering
-pub mod Planning
-pub mod TargetLaws
+mod Planning
+mod TargetLaws

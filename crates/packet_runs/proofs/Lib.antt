@@ -1,8 +1,8 @@
-pub mod Frame
-pub mod Opened
-pub mod Packets
-pub mod Progress
-pub mod Run
-pub mod Steps
-pub mod Turns
-pub mod Unsent
+mod Frame
+mod Opened
+mod Packets
+mod Progress
+mod Run
+mod Steps
+mod Turns
+mod Unsent

@@ -1,1 +1,2 @@
+pub use Rattle.app_graph.specs.ValidGraph
 pub mod Compiled

@@ -1,5 +1,5 @@
-pub mod CurveLaws
-pub mod RoomLaws
-pub mod Standing
-pub mod SpotLaws
+mod CurveLaws
+mod RoomLaws
+mod Standing
+mod SpotLaws
 pub mod Determined

@@ -1,3 +1,6 @@
+pub use Rattle.machine_desc.specs.Description
+pub use Rattle.machine_desc.specs.Live
+pub use Rattle.app_graph.specs.ValidGraph
 pub mod Boards
 pub mod Cause
 pub mod Curve

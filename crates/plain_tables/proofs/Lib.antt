@@ -1,7 +1,7 @@
-pub mod ExampleTree
-pub mod Marking
-pub mod Ordering
-pub mod Taking
-pub mod Telling
-pub mod Trees
-pub mod Whole
+mod ExampleTree
+mod Marking
+mod Ordering
+mod Taking
+mod Telling
+mod Trees
+mod Whole

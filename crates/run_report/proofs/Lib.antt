@@ -1,6 +1,6 @@
-pub mod Gathering
-pub mod GotLines
-pub mod HexDigits
-pub mod Joining
-pub mod Listing
-pub mod Sorting
+mod Gathering
+mod GotLines
+mod HexDigits
+mod Joining
+mod Listing
+mod Sorting

@@ -1,3 +1,8 @@
+pub use Rattle.spin_base.specs.Outside
+pub use Rattle.app_graph.specs.RunPart
+pub use Rattle.app_graph.specs.ValidGraph
+pub use Rattle.par_compile.specs.Compiled
+pub use Rattle.run_report.specs.ReportText
 pub mod Causes
 pub mod Commands
 pub mod Ends

@@ -1,7 +1,7 @@
-pub mod Filling
-pub mod Numbers
-pub mod Places
-pub mod Rows
-pub mod Spelling
-pub mod TableReads
-pub mod Whole
+mod Filling
+mod Numbers
+mod Places
+mod Rows
+mod Spelling
+mod TableReads
+mod Whole

@@ -1,2 +1,2 @@
-pub mod LaneLemmas
-pub mod MemoryLemmas
+mod LaneLemmas
+mod MemoryLemmas

@@ -1,4 +1,4 @@
-pub mod Bits
+mod Bits
 pub mod BlockLaws
-pub mod Lying
-pub mod Placing
+mod Lying
+mod Placing

@@ -1,4 +1,4 @@
-pub mod Small
-pub mod Stands
-pub mod Right
-pub mod Tracked
+mod Small
+mod Stands
+mod Right
+mod Tracked
