@@ -1,22 +1,27 @@
 // Vertices, nets, and the run part of a job.
-use spin_base::{Chip, Event, Name, Packet, Seq};
+use machine_desc::Edge;
+use spin_base::{Block, Chip, Event, Name, Packet, Seq};
 
 /// A vertex: its name, the bytes of its chip's shared memory that it needs, and the chip on which it must stand where the
-/// job says one.
+/// job says one. A vertex with a device is no program: it is what hangs on that link of that chip, and takes packets; its
+/// memory and its chip are not used.
 #[derive(Debug, Drop)]
 pub struct Vertex {
     pub name: Name,
     pub sdram: u32,
     pub at: Option<Chip>,
+    pub device: Option<Edge>,
 }
 
-/// A net: its name, the positions of its source and targets in the list of vertices, and how many keys it needs.
+/// A net: its name, the positions of its source and targets in the list of vertices, how many keys it needs, and the block
+/// of keys that it must have where the job says one.
 #[derive(Debug, Drop)]
 pub struct Net {
     pub name: Name,
     pub source: u32,
     pub targets: Seq<u32>,
     pub keys: u64,
+    pub fixed: Option<Block>,
 }
 
 /// Vertices and nets, in the order of the job.
