@@ -58,3 +58,8 @@ def run(job: Job, program: Optional[str] = None) -> Report:
 def tables(job: Job, program: Optional[str] = None) -> Plan:
     """Compiles the job: where its vertices stand, which keys its nets have, and its tables."""
     return read(answer("tables", job, program)).plan
+
+
+def trace(job: Job, program: Optional[str] = None) -> Report:
+    """Compiles the job and takes its events one by one; `moved` of the report says of each whether it was enabled."""
+    return read(answer("trace", job, program))

@@ -101,9 +101,10 @@ class Plan:
 
 @dataclass
 class Report:
-    """A plan, and what became of the packets."""
+    """A plan, of a trace whether each event moved something, and what became of the packets."""
 
     plan: Plan = field(default_factory=Plan)
+    moved: List[bool] = field(default_factory=list)
     deliveries: List[Delivery] = field(default_factory=list)
     dumps: List[Dump] = field(default_factory=list)
     waiting: List[Wait] = field(default_factory=list)
@@ -124,6 +125,8 @@ def read(text: str) -> Report:
             x, y, count = map(int, rest)
             rows = tuple(Row(*(int(it, 16) for it in next(lines).split(" "))) for _ in range(count))
             found.plan.tables[x, y] = Table(x, y, rows)
+        elif word == "event":
+            found.moved.append(rest[1] == "moved")
         elif word == "got":
             payload = None if rest[3] == "-" else int(rest[3], 16)
             found.deliveries.append(Delivery(rest[0], int(rest[1]), int(rest[2], 16), payload))

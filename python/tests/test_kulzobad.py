@@ -3,6 +3,7 @@ import json
 import unittest
 
 from kulzobad import Delivery, Job, Keys, Machine, Net, Packet, Place, Refused, Row, Vertex, cores_of, links_of, run, tables
+from kulzobad import collect, inject, send, take, trace
 from kulzobad.reports import Dump, Wait, read
 
 
@@ -36,6 +37,30 @@ class Jobs(unittest.TestCase):
         with self.assertRaises(Refused) as caught:
             run(Job(Machine(1, 1), [Vertex(f"v{i}") for i in range(18)]))
         self.assertEqual((caught.exception.status, caught.exception.kind, caught.exception.line), (5, "no room", "no room: v17"))
+
+    def test_a_trace_tells_which_events_moved_and_where_the_copy_waits(self):
+        report = trace(pair(events=[take(0, 0, "L"), inject("a"), take(0, 0, "L")]))
+        self.assertEqual(report.moved, [False, True, True])
+        self.assertEqual((report.deliveries, report.waiting, report.unsent), ([], [Wait(0, 0, 0, "hand", "c2")], 0))
+
+    def test_a_trace_to_the_end_delivers(self):
+        report = trace(pair(events=[inject("a"), take(0, 0, "L"), send(0, 0, "c2"), collect("b")]))
+        self.assertEqual((report.moved, report.deliveries, report.waiting), ([True] * 4, [Delivery("b", 0, 0, 7)], []))
+
+    def test_a_device_on_a_link_gets_its_packet(self):
+        job = Job(Machine(1, 1), [Vertex("a"), Vertex("led", device=(0, 0, 0))], [Net("n", "a", ["led"])], [Packet("n")])
+        report = run(job)
+        self.assertEqual(job.version(), 3)
+        self.assertEqual(report.plan.places["led"], Place("led", 0, 0, 18))
+        self.assertEqual(report.plan.tables[0, 0].rows, (Row(0, 0xFFFFFFFF, 1),))
+        self.assertEqual(report.deliveries, [Delivery("led", 0, 0, None)])
+
+    def test_a_net_has_the_keys_that_are_fixed_for_it(self):
+        nets = [Net("n", "a", ["b"]), Net("m", "a", ["b"], fixed=(0, 0xFFFFFFFC)), Net("o", "a", ["b"], keys=3)]
+        job = Job(Machine(1, 1), [Vertex("a"), Vertex("b")], nets)
+        keys = tables(job).keys
+        self.assertEqual(job.version(), 2)
+        self.assertEqual([(it.key, it.mask) for it in keys.values()], [(4, 0xFFFFFFFF), (0, 0xFFFFFFFC), (8, 0xFFFFFFFC)])
 
     def test_a_job_is_text(self):
         self.assertEqual(json.loads(pair(queue=3).text())["run"], {"queue": 3, "packets": [{"net": "n", "index": 0, "payload": 7}]})
