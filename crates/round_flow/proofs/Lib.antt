@@ -1,0 +1,10 @@
+mod Sums
+mod Balance
+mod Ends
+mod Sources
+mod Entered
+mod Parts
+mod Weights
+mod Taken
+mod RoundBag
+mod RoundLaw
