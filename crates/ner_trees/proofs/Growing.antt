@@ -65,7 +65,7 @@ near_on_table m root on tree t near root_in tells (inl found) = (found.0.inside,
 near_on_table m root on tree t near root_in tells (inr none) =
     subst (λ (c : Chip). IsInside m c × (is_on m on c ≡ true)) (sym none.1) (root_in, (tells root root_in).1 (inl refl))
 
-next_inside : (m : Description) (c : Chip) (d : Dir) → IsInside m c → IsInside m (next_of m c d)
+pub next_inside : (m : Description) (c : Chip) (d : Dir) → IsInside m c → IsInside m (next_of m c d)
 next_inside m c d c_in = go (far_of m c d) refl
   where
     go : (o : Option Chip) → far_of m c d ≡ o → IsInside m (or_stay c o)

@@ -1,7 +1,9 @@
 mod Axis
 mod Cutting
+mod Determined
 mod Growing
 mod LongestFirst
+pub mod Ordered
 mod Searching
 mod Signed
 mod Torus
