@@ -3,9 +3,11 @@ mod Cutting
 mod Determined
 mod Growing
 mod LongestFirst
+mod Nearest
 pub mod Ordered
 mod Searching
 mod Signed
+mod Sorting
 mod Torus
 mod Trees
 mod Walking
