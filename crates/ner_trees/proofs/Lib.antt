@@ -1,6 +1,6 @@
 mod Axis
 mod Cutting
-mod Determined
+pub mod Determined
 mod Growing
 mod LongestFirst
 mod Nearest
