@@ -1,6 +1,8 @@
 -- A net has one list of targets, one of target chips, and one plan.
-use Rattle.std.proofs.Common.{◌≡◌, ℕ, List, sym, ap, ◌∙◌, subst, Some}
+use Rattle.std.proofs.Common.{◌≡◌, ℕ, ◌<◌, List, [], ◌∷◌, length, get_or, refl, sym, ap, ◌∙◌, subst, Some}
 use Rattle.std.specs.List.{All, Contains, slice_get}
+use Rattle.std.proofs.lemmas.List.{ext_get_or}
+use Rattle.std.proofs.lemmas.Option.{slice_get_within, slice_get-get_or}
 use Rattle.spin_base.specs.declared.chips.Chip.{Chip}
 use Rattle.spin_base.specs.declared.chips.Spot.{Spot}
 use Rattle.spin_base.specs.declared.blocks.Block.{Block}
@@ -14,8 +16,8 @@ use Rattle.ner_trees.specs.Growth.{IsGrown}
 use Rattle.ner_trees.proofs.Determined.{one_tree}
 use Rattle.ner_trees.proofs.Ordered.{same_list}
 use Rattle.link_detours.specs.Repair.{IsRepaired}
-use Rattle.list_laws.proofs.Places.{All-at}
-use Rattle.net_plans.specs.NetPlans.{joined_chips, IsPlanned}
+use Rattle.list_laws.proofs.Places.{All-at, slice_get_there}
+use Rattle.net_plans.specs.NetPlans.{joined_chips, IsPlanned, ArePlanned}
 use Rattle.net_plans.specs.Order.{IsBelow}
 use Rattle.net_plans.specs.Targets.{spot_key, chip_key, AreTargets, AreTargetChips}
 use Rattle.net_plans.proofs.Ordering.{not_both}
@@ -44,6 +46,16 @@ same_plan p q block source targets root edges = λ i. record { block = block i; 
 abbrev pub OneRepair : Description → Type 0
 OneRepair m = (root : Chip) (tree : List Edge) (targets : List Chip) (es fs : List Edge) → IsRepaired m root tree targets es → IsRepaired m root tree targets fs → es ≡ fs
 
+-- two lists as long as each other that have the same item at each place are the same
+same_places : {X : Type 0} (xs ys : List X) → length xs ≡ length ys → ((i : ℕ) (x y : X) → slice_get xs i ≡ Some x → slice_get ys i ≡ Some y → x ≡ y) → xs ≡ ys
+same_places [] [] long each = refl
+same_places [] (y ∷ ys) long each = cc
+same_places (x ∷ xs) [] long each = cc
+same_places (x ∷ xs) (y ∷ ys) long each =
+    ext_get_or x (x ∷ xs) (y ∷ ys) long (λ i less.
+    let also : i < length (y ∷ ys) = subst (λ n. i < n) long less in
+    each i (get_or (x ∷ xs) i x) (get_or (y ∷ ys) i x) (slice_get-get_or (x ∷ xs) i x less) (slice_get-get_or (y ∷ ys) i x also))
+
 module _ (m : Description) (spots : List Spot) (sites : All (IsSite m) spots) (one_repair : OneRepair m) where
   pub one_plan : (net : Net) (block : Block) (g h : Grown) (p q : NetPlan) → IsPlanned m spots net block g p → IsPlanned m spots net block h q → (g ≡ h) × (p ≡ q)
   one_plan net block g h p q a b =
@@ -64,3 +76,25 @@ module _ (m : Description) (spots : List Spot) (sites : All (IsSite m) spots) (o
         same_plan p q (a.block ∙ sym b.block) source targets (a.root ∙ (root ∙ sym b.root))
             (one_repair q.source.chip h.tree.edges (joined_chips h) p.tree.edges q.tree.edges repaired b.repaired),
       )
+
+  module _ (nets : List Net) (blocks : List Block) (long : length blocks ≡ length nets) (gs hs : List Grown) (ps qs : List NetPlan) (a : ArePlanned m spots nets blocks gs ps)
+      (b : ArePlanned m spots nets blocks hs qs) where
+    at_place : (i : ℕ) → i < length nets → (g h : Grown) (p q : NetPlan) → slice_get gs i ≡ Some g → slice_get hs i ≡ Some h → slice_get ps i ≡ Some p → slice_get qs i ≡ Some q → (g ≡ h) × (p ≡ q)
+    at_place i below g h p q g_at h_at p_at q_at =
+        let net = slice_get_there nets i below in
+        let block = slice_get_there blocks i (subst (λ n. i < n) (sym long) below) in
+        one_plan net.0 block.0 g h p q (a.each i net.0 block.0 g p net.1 block.1 g_at p_at) (b.each i net.0 block.0 h q net.1 block.1 h_at q_at)
+
+    pub one_list_of_plans : (gs ≡ hs) × (ps ≡ qs)
+    one_list_of_plans = (
+      same_places gs hs (a.one_tree_each ∙ sym b.one_tree_each) (λ i g h g_at h_at.
+          let below : i < length nets = subst (λ n. i < n) a.one_tree_each (slice_get_within gs i g g_at) in
+          let p = slice_get_there ps i (subst (λ n. i < n) (sym a.one_plan_each) below) in
+          let q = slice_get_there qs i (subst (λ n. i < n) (sym b.one_plan_each) below) in
+          (at_place i below g h p.0 q.0 g_at h_at p.1 q.1).0),
+      same_places ps qs (a.one_plan_each ∙ sym b.one_plan_each) (λ i p q p_at q_at.
+          let below : i < length nets = subst (λ n. i < n) a.one_plan_each (slice_get_within ps i p p_at) in
+          let g = slice_get_there gs i (subst (λ n. i < n) (sym a.one_tree_each) below) in
+          let h = slice_get_there hs i (subst (λ n. i < n) (sym b.one_tree_each) below) in
+          (at_place i below g.0 h.0 p q g.1 h.1 p_at q_at).1),
+    )
