@@ -1,4 +1,4 @@
--- A net has one list of targets, one of target chips, and one plan.
+-- A net has one list of targets, one of target chips, and one plan, where spots are sites.
 use Rattle.std.proofs.Common.{◌≡◌, ℕ, ◌<◌, List, [], ◌∷◌, length, get_or, refl, sym, ap, ◌∙◌, subst, Some}
 use Rattle.std.specs.List.{All, Contains, slice_get}
 use Rattle.std.proofs.lemmas.List.{ext_get_or}
@@ -6,7 +6,6 @@ use Rattle.std.proofs.lemmas.Option.{slice_get_within, slice_get-get_or}
 use Rattle.spin_base.specs.declared.chips.Chip.{Chip}
 use Rattle.spin_base.specs.declared.chips.Spot.{Spot}
 use Rattle.spin_base.specs.declared.blocks.Block.{Block}
-use Rattle.machine_desc.specs.declared.trees.Edge.{Edge}
 use Rattle.machine_desc.specs.Description.{Description}
 use Rattle.machine_desc.specs.Live.{IsInside, IsSite}
 use Rattle.app_graph.specs.declared.graphs.Net.{Net}
@@ -22,6 +21,7 @@ use Rattle.net_plans.specs.Order.{IsBelow}
 use Rattle.net_plans.specs.Targets.{spot_key, chip_key, AreTargets, AreTargetChips}
 use Rattle.net_plans.proofs.Ordering.{not_both}
 use Rattle.net_plans.proofs.Planning.{all_inside}
+use Rattle.net_plans.proofs.Repairs.{one_repair}
 
 pub one_targets : (spots : List Spot) (vertices : List ℕ) (xs ys : List Spot) → AreTargets spots vertices xs → AreTargets spots vertices ys → xs ≡ ys
 one_targets spots vertices xs ys a b =
@@ -42,10 +42,6 @@ same_grown g h root edges joins = λ i. record { tree = record { root = root i; 
 same_plan : (p q : NetPlan) → p.block ≡ q.block → p.source ≡ q.source → p.targets ≡ q.targets → p.tree.root ≡ q.tree.root → p.tree.edges ≡ q.tree.edges → p ≡ q
 same_plan p q block source targets root edges = λ i. record { block = block i; source = source i; targets = targets i; tree = record { root = root i; edges = edges i } }
 
--- one repaired tree of each tree and targets
-abbrev pub OneRepair : Description → Type 0
-OneRepair m = (root : Chip) (tree : List Edge) (targets : List Chip) (es fs : List Edge) → IsRepaired m root tree targets es → IsRepaired m root tree targets fs → es ≡ fs
-
 -- two lists as long as each other that have the same item at each place are the same
 same_places : {X : Type 0} (xs ys : List X) → length xs ≡ length ys → ((i : ℕ) (x y : X) → slice_get xs i ≡ Some x → slice_get ys i ≡ Some y → x ≡ y) → xs ≡ ys
 same_places [] [] long each = refl
@@ -56,7 +52,7 @@ same_places (x ∷ xs) (y ∷ ys) long each =
     let also : i < length (y ∷ ys) = subst (λ n. i < n) long less in
     each i (get_or (x ∷ xs) i x) (get_or (y ∷ ys) i x) (slice_get-get_or (x ∷ xs) i x less) (slice_get-get_or (y ∷ ys) i x also))
 
-module _ (m : Description) (spots : List Spot) (sites : All (IsSite m) spots) (one_repair : OneRepair m) where
+module _ (m : Description) (spots : List Spot) (sites : All (IsSite m) spots) where
   pub one_plan : (net : Net) (block : Block) (g h : Grown) (p q : NetPlan) → IsPlanned m spots net block g p → IsPlanned m spots net block h q → (g ≡ h) × (p ≡ q)
   one_plan net block g h p q a b =
       let source : p.source ≡ q.source = same_source spots net.source p.source q.source a.source b.source in
@@ -74,7 +70,7 @@ module _ (m : Description) (spots : List Spot) (sites : All (IsSite m) spots) (o
       let root : p.source.chip ≡ q.source.chip = ap (λ (s : Spot). s.chip) source in (
         same_grown g h (a.grows_from ∙ (root ∙ sym b.grows_from)) tree.1 tree.0,
         same_plan p q (a.block ∙ sym b.block) source targets (a.root ∙ (root ∙ sym b.root))
-            (one_repair q.source.chip h.tree.edges (joined_chips h) p.tree.edges q.tree.edges repaired b.repaired),
+            (one_repair m q.source.chip h.tree.edges (joined_chips h) p.tree.edges q.tree.edges repaired b.repaired),
       )
 
   module _ (nets : List Net) (blocks : List Block) (long : length blocks ≡ length nets) (gs hs : List Grown) (ps qs : List NetPlan) (a : ArePlanned m spots nets blocks gs ps)

@@ -2,4 +2,5 @@ pub mod CutOffLaws
 pub mod Ordering
 mod Determined
 mod Planning
+mod Repairs
 mod TargetLaws

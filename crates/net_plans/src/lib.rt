@@ -10,6 +10,6 @@ mod nets;
 mod orders;
 mod targets;
 
-pub use laws::targets_are_determined;
+pub use laws::{plans_are_determined, targets_are_determined};
 pub use nets::{NetErr, Routed, RoutedNets, net_plan, net_plans};
 pub use targets::{target_chips, targets_of};
