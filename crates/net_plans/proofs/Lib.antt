@@ -1,4 +1,6 @@
 pub mod CutOffLaws
 pub mod Ordering
+mod Determined
 mod Planning
+mod Repairs
 mod TargetLaws
