@@ -22,7 +22,7 @@ LINE = "bench_detours: link_detours ner_trees machine_desc spin_base\n"
 PROGRAM = r"""
 #![tactic(auto)]
 
-use link_detours::{RepairErr, repair};
+use link_detours::{RepairErr, Roads, repair};
 use machine_desc::{Edge, Machine, Tree};
 use ner_trees::{Grown, ner};
 use spin_base::{Chip, Dir, Memory, Seq};
@@ -74,6 +74,7 @@ fn targets_of(alloc: Global, root: Chip, first: u32, count: u32, side: u32) -> R
 
 // How many edges the trees have in the end.
 fn edges_of(alloc: Global, machine: &Machine, count: u32, side: u32, repairing: bool) -> Result<u32, RepairErr> {
+    let roads = Roads::of(alloc, machine)?;
     let mut edges: u32 = 0;
     for x in 0..64u8 {
         for y in 0..64u8 {
@@ -81,7 +82,7 @@ fn edges_of(alloc: Global, machine: &Machine, count: u32, side: u32, repairing: 
             let targets = targets_of(alloc, root, u32::from(x) * 64 + u32::from(y), count, side)?;
             let Grown { mut tree, joins: _ } = ner(alloc, machine, root, &targets)?;
             if repairing {
-                tree = repair(alloc, machine, &tree, &targets)?;
+                tree = repair(alloc, machine, &roads, &tree, &targets)?;
             }
             edges = edges.wrapping_add(tree.edges.len() as u32);
         }

@@ -1,5 +1,5 @@
 -- The kept edges are a whole tree, and a whole tree stays one as targets are joined.
-use Rattle.std.proofs.Common.{◌≡◌, ◌≢◌, ℕ, zero, suc, ◌+◌, ◌*◌, ◌<◌, ltb, List, [], ◌∷◌, ◌++◌, length, get_or, take, Some, sym, ap, ◌∙◌, subst, arith, inl, inr, ◌↔◌}
+use Rattle.std.proofs.Common.{◌≡◌, ◌≢◌, ℕ, zero, suc, ◌+◌, ◌<◌, ltb, List, [], ◌∷◌, ◌++◌, length, get_or, take, Some, sym, ap, ◌∙◌, subst, arith, inl, inr, ◌↔◌}
 use Rattle.std.specs.List.{Contains, All, AllPairs, filter, slice_get}
 use Rattle.std.proofs.lemmas.Bool.{cases_order, lt-ltb, ltb-true}
 use Rattle.std.proofs.lemmas.List.{get_or_default, append-nil, take_more, get_or-take, length-take}
@@ -18,6 +18,7 @@ use Rattle.link_detours.proofs.Reaching.{link_inside}
 use Rattle.link_detours.proofs.Stepping.{Steps-map}
 use Rattle.machine_desc.proofs.TreeLemmas.{tree_cases, more_chips}
 use Rattle.list_laws.proofs.Members.{Contains-from_filter, Contains-filter}
+use Rattle.link_detours.proofs.Putting.{TellsTree}
 use Rattle.link_detours.proofs.Walks.{steps_walk}
 use Rattle.link_detours.proofs.Wholes.{steps_on_tree, live_steps, whole_joined, detour_reached, Joins-more}
 
@@ -88,12 +89,6 @@ module _ (m : Description) (root : Chip) (edges : List Edge) (counts : List ℕ)
             absurd (one_into too.0 has.0 f after has.1 c (ap (end_of m) too.2 ∙ also) (ap (end_of m) second ∙ leads))
       ]
 
-  pub kept_reach : (c : Chip) → IsInside m c → (number_at m counts c < top) ↔ IsTreeChip m root (kept_of m root edges counts top) c
-  kept_reach c inside = (
-    λ low. let way = (reach c inside).0 low in steps_on_tree m root (kept_of m root edges counts top) way.0 c (kept_steps way.0 c way.1),
-    λ on. (reach c inside).1 (chip_reached c on),
-  )
-
   pub kept_is : (e : Edge) → Contains (kept_of m root edges counts top) e ↔ IsKept m root edges e
   kept_is e = (
     λ has.
@@ -117,25 +112,25 @@ module _ (m : Description) (root : Chip) (edges : List Edge) (counts : List ℕ)
   )
 
 -- the targets that were taken are joined
-pub record JoinedSoFar (m : Description) (root : Chip) (kept : List Edge) (top : ℕ) (whole : List Edge) (reach : List ℕ) (taken : List Chip) : Type 0 where
+pub record JoinedSoFar (m : Description) (root : Chip) (kept : List Edge) (whole : List Edge) (chips : List ℕ) (taken : List Chip) : Type 0 where
   pub joins : Joins m root kept taken whole
   pub is_whole : IsWhole m root whole
-  pub long : length reach ≡ m.width * m.height
-  pub reach_is : (c : Chip) → IsInside m c → (number_at m reach c < top) ↔ IsTreeChip m root whole c
+  pub long : length chips ≡ m.width
+  pub told : TellsTree m root whole chips
   pub on_tree : All (IsTreeChip m root whole) taken
 
-pub joined_more : (m : Description) (root : Chip) (kept : List Edge) (top : ℕ) (whole after : List Edge) (reach counts : List ℕ) (targets : List Chip) (i : ℕ)
+pub joined_more : (m : Description) (root : Chip) (kept : List Edge) (whole after : List Edge) (chips more : List ℕ) (targets : List Chip) (i : ℕ)
     (d : Chip) (walk : List Edge) → i < length targets → after ≡ whole ++ walk → IsDetour m root whole (get_or targets i d) walk →
-    length counts ≡ m.width * m.height → ((c : Chip) → IsInside m c → (number_at m counts c < top) ↔ IsTreeChip m root after c) →
-    JoinedSoFar m root kept top whole reach (take i targets) → JoinedSoFar m root kept top after counts (take (i + 1) targets)
-joined_more m root kept top whole after reach counts targets i d walk within is detour long reach_is so_far =
+    length more ≡ m.width → TellsTree m root after more →
+    JoinedSoFar m root kept whole chips (take i targets) → JoinedSoFar m root kept after more (take (i + 1) targets)
+joined_more m root kept whole after chips more targets i d walk within is detour long told so_far =
     let t : Chip = get_or targets i d in
     let there = detour_reached m root whole so_far.is_whole walk t walk detour (λ f has. has) in
-    subst (λ ts. JoinedSoFar m root kept top after counts ts) (sym (take_more targets i d within)) (record {
+    subst (λ ts. JoinedSoFar m root kept after more ts) (sym (take_more targets i d within)) (record {
       joins = subst (λ es. Joins m root kept (take i targets ++ t ∷ []) es) (sym is) (Joins-more m root kept (take i targets) whole t walk so_far.joins detour);
       is_whole = subst (λ es. IsWhole m root es) (sym is) (whole_joined m root whole so_far.is_whole t walk detour);
       long = long;
-      reach_is = reach_is;
+      told = told;
       on_tree = subst (λ es. All (IsTreeChip m root es) (take i targets ++ t ∷ [])) (sym is)
           (All-push (IsTreeChip m root (whole ++ walk)) (take i targets) t
           (All-weaker (IsTreeChip m root whole) (IsTreeChip m root (whole ++ walk)) (more_chips m root whole walk) (take i targets) so_far.on_tree)
@@ -143,16 +138,16 @@ joined_more m root kept top whole after reach counts targets i d walk within is 
     })
 
 -- a target that is in the tree is passed over
-pub joined_past : (m : Description) (root : Chip) (kept : List Edge) (top : ℕ) (whole : List Edge) (reach : List ℕ) (targets : List Chip) (i : ℕ)
+pub joined_past : (m : Description) (root : Chip) (kept : List Edge) (whole : List Edge) (chips : List ℕ) (targets : List Chip) (i : ℕ)
     (d : Chip) → i < length targets → IsTreeChip m root whole (get_or targets i d) →
-    JoinedSoFar m root kept top whole reach (take i targets) → JoinedSoFar m root kept top whole reach (take (i + 1) targets)
-joined_past m root kept top whole reach targets i d within on so_far =
-    joined_more m root kept top whole whole reach reach targets i d [] within (sym (append-nil whole)) on so_far.long so_far.reach_is so_far
+    JoinedSoFar m root kept whole chips (take i targets) → JoinedSoFar m root kept whole chips (take (i + 1) targets)
+joined_past m root kept whole chips targets i d within on so_far =
+    joined_more m root kept whole whole chips chips targets i d [] within (sym (append-nil whole)) on so_far.long so_far.told so_far
 
 -- the first target that is cut off
-pub first_cut_off : (m : Description) (root : Chip) (kept : List Edge) (top : ℕ) (whole : List Edge) (reach : List ℕ) (targets : List Chip) (i : ℕ)
-    (t : Chip) → slice_get targets i ≡ Some t → IsCutOff m root t → JoinedSoFar m root kept top whole reach (take i targets) → IsFirstCutOff m root targets t
-first_cut_off m root kept top whole reach targets i t at cut so_far = record {
+pub first_cut_off : (m : Description) (root : Chip) (kept : List Edge) (whole : List Edge) (chips : List ℕ) (targets : List Chip) (i : ℕ)
+    (t : Chip) → slice_get targets i ≡ Some t → IsCutOff m root t → JoinedSoFar m root kept whole chips (take i targets) → IsFirstCutOff m root targets t
+first_cut_off m root kept whole chips targets i t at cut so_far = record {
   place = i;
   at_place = at;
   cut_off = cut;

@@ -1,13 +1,17 @@
 mod Keeping
 mod Pruning
+mod Putting
 mod Reaching
 mod RoadBits
 mod Searching
 mod Seeding
+mod Spreading
 mod Stepping
 mod Tabling
 mod Trimming
+mod TurnedWords
 mod Turning
 mod Unchanged
 mod Walks
+mod Waving
 mod Wholes

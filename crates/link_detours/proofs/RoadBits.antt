@@ -1,5 +1,5 @@
 -- Words whose bits tell which links live.
-use Rattle.std.proofs.Common.{◌≡◌, ◌≢◌, ℕ, ◌+◌, ◌*◌, ◌%◌, ◌^◌, ◌<◌, ◌≤◌, ◌↔◌, Bool, true, false, List, [], ◌∷◌, ◌++◌, length, get_or, refl, sym, ap, ◌∙◌, subst, arith, inl, inr}
+use Rattle.std.proofs.Common.{◌≡◌, ℕ, ◌+◌, ◌*◌, ◌%◌, ◌^◌, ◌<◌, ◌≤◌, ◌↔◌, false, List, [], ◌∷◌, ◌++◌, length, get_or, sym, ap, ◌∙◌, subst, arith, inl, inr}
 use Rattle.std.specs.Int.{bit_at, w64}
 use Rattle.std.specs.Int.RustNames.{bit_or}
 use mir.Val.{bits}
@@ -12,7 +12,7 @@ use Rattle.spin_base.specs.declared.chips.Dir.{Dir}
 use Rattle.spin_base.specs.Links.{dir_number}
 use Rattle.machine_desc.specs.Description.{Description}
 use Rattle.machine_desc.proofs.Same.{same_dir, below_six}
-use Rattle.machine_desc.specs.Live.{IsInside, IsLiveLink, is_live_link}
+use Rattle.machine_desc.specs.Live.{IsLiveLink, is_live_link}
 
 abbrev pub chip_of_column : ℕ → ℕ → Chip
 chip_of_column x y = record { x = x; y = y }

@@ -1,18 +1,19 @@
 // Detours: the shortest way over live links from a tree to a chip that it doesn't have.
-ghost use Rattle.std.specs.Prelude.{◌≡◌, ℕ, ◌+◌, ◌*◌, ◌<◌, ◌≤◌, ◌↔◌, List, ◌++◌, length, All, IfOk, IfSome, IfNone, MatchOption};
-ghost use Rattle.machine_desc.specs.Live.{IsInside};
+ghost use Rattle.std.specs.Prelude.{◌≡◌, ℕ, ◌+◌, ◌*◌, ◌<◌, ◌≤◌, ◌↔◌, List, ◌++◌, length, map, All, IfOk, IfSome, IfNone, IsTrue, false};
+ghost use Rattle.machine_desc.specs.Live.{IsInside, LeadsTo};
 ghost use Rattle.machine_desc.specs.RoutingTree.{IsTreeChip};
-ghost use Rattle.link_detours.specs.Steps.{Steps};
+ghost use Rattle.link_detours.specs.Steps.{Steps, IsReachedBy, IsLevel};
 ghost use Rattle.link_detours.specs.Usable.{number_at};
-ghost use Rattle.link_detours.specs.Repair.{EdgeStep, IsDetour, IsCutOff};
-ghost use Rattle.link_detours.specs.Descent.{IsStepDown, IsBestStep, IsDescent};
-ghost use Rattle.link_detours.specs.Whole.{IsWhole};
+ghost use Rattle.link_detours.specs.Repair.{EdgeStep, IsTreeLevel, IsDetour, IsCutOff};
+ghost use Rattle.link_detours.specs.LiveRoads.{AreRoadsOf};
+ghost use Rattle.link_detours.specs.Waves.{IsIn, AreWaves, IsStepFrom, IsBestStep};
 ghost use Rattle.spin_base.specs.declared.chips.Chip.{Chip};
 ghost use Rattle.machine_desc.specs.declared.trees.Edge.{Edge};
 
-use crate::edges::reached_chips;
+use crate::roads::Roads;
 use crate::searches::{UNREACHED, step_counts};
-use crate::tables::{link_table, live_table};
+use crate::sets::{has, put, same_sets, spread};
+use crate::tables::link_table;
 use machine_desc::{Edge, Machine};
 use spin_base::{Chip, Dir, Memory};
 use std::alloc::Global;
@@ -35,92 +36,127 @@ pub fn tree_reach(
     Ok(reach)
 }
 
-// The chip from which the link `d` leads to `at`, where it is live and the numbers fall by one along it.
-fn step_before(machine: &Machine, counts: &[u64], at: Chip, d: Dir) -> Option<Chip>
+// The waves from the chips of a tree, up to the last without the target: there are as many as live links lead to it.
+// `None` exactly where no walk of live links leads to it.
+fn waves(
+    alloc: Global,
+    machine: &Machine,
+    roads: &Roads,
+    tree: &[u64],
+    target: Chip,
+) -> Result<Option<Vec<Vec<u64>>>, Memory>
+    requires roads_are { AreRoadsOf machine.now roads.now }
+    requires long { length tree.now ≡ machine.now.width }
+    requires inside { IsInside machine.now target }
+    ensures waves { IfOk result (λ o. IfSome o (λ v. AreWaves machine.now (IsIn tree.now) (map (λ w. w.items) v.items))) }
+    ensures level { IfOk result (λ o. IfSome o (λ v. IsLevel (LeadsTo machine.now) (IsIn tree.now) target (length v.items))) }
+    ensures cut_off { IfOk result (λ o. IfNone o ((n : ℕ) → IsReachedBy (LeadsTo machine.now) (IsIn tree.now) n target → ⊥)) }
+{
+    let mut waves = Vec::new(alloc);
+    let mut last = Vec::from_slice(alloc, tree)?;
+    'spreading: while !has(&last, target) {
+        let next = spread(alloc, machine, roads, &last)?;
+        if same_sets(next.as_slice(), last.as_slice()) {
+            return Ok(None);
+        }
+        waves.push(last)?;
+        last = next;
+    }
+    Ok(Some(waves))
+}
+
+// The chip of the set from which the link `d` leads, live, to `at`.
+fn step_before(machine: &Machine, set: &[u64], at: Chip, d: Dir) -> Option<Chip>
+    requires few { machine.now.height ≤ 64 }
     requires inside { IsInside machine.now at }
-    requires long { length counts.now ≡ machine.now.width * machine.now.height }
-    ensures found { IfSome result (λ b. IsStepDown machine.now counts.now at (record { chip = b; dir = d })) }
-    ensures none { IfNone result ((b : Chip) → IsStepDown machine.now counts.now at (record { chip = b; dir = d }) → number_at machine.now counts.now at < UNREACHED → ⊥) }
+    requires long { length set.now ≡ machine.now.width }
+    ensures found { IfSome result (λ b. IsStepFrom machine.now set.now at (record { chip = b; dir = d })) }
+    ensures none { IfNone result ((b : Chip) → IsStepFrom machine.now set.now at (record { chip = b; dir = d }) → ⊥) }
 {
     let back = d.opposite();
     if !machine.link_live(at, back) {
         return None;
     }
     let chip = machine.far(at, back)?;
-    let count = counts[machine.index(chip) as usize];
-    if count < UNREACHED && count + 1 == counts[machine.index(at) as usize] {
-        Some(chip)
-    } else {
-        None
-    }
+    if has(set, chip) { Some(chip) } else { None }
 }
 
-// The last link of a detour to `at`: of the live links along which the numbers fall by one, that of the least number.
-fn last_link(machine: &Machine, counts: &[u64], at: Chip) -> Option<Edge>
+// Of the live links that lead from a chip of the set to `at`, that of the least number.
+fn last_link(machine: &Machine, set: &[u64], at: Chip) -> Option<Edge>
+    requires few { machine.now.height ≤ 64 }
     requires inside { IsInside machine.now at }
-    requires long { length counts.now ≡ machine.now.width * machine.now.height }
-    requires low { number_at machine.now counts.now at < UNREACHED }
-    ensures found { IfSome result (λ e. IsBestStep machine.now counts.now at e) }
-    ensures none { IfNone result ((e : Edge) → IsStepDown machine.now counts.now at e → ⊥) }
+    requires long { length set.now ≡ machine.now.width }
+    ensures found { IfSome result (λ e. IsBestStep machine.now set.now at e) }
+    ensures none { IfNone result ((e : Edge) → IsStepFrom machine.now set.now at e → ⊥) }
 {
     for dir in Dir::ALL {
-        if let Some(chip) = step_before(machine, counts, at, dir) {
+        if let Some(chip) = step_before(machine, set, at, dir) {
             return Some(Edge { chip, dir });
         }
     }
     None
 }
 
-// Adds the links of the way back from a chip to one of number 0, the last first.
+// Adds the links of the way back from a target over the waves, the last first, and the chips into which they lead.
 fn walk_back(
     machine: &Machine,
-    counts: &[u64],
+    mut waves: Vec<Vec<u64>>,
+    root: Chip,
+    tree: &mut [u64],
     whole: &mut Vec<Edge>,
     target: Chip,
 ) -> Result<(), Memory>
+    requires few { machine.now.height ≤ 64 }
     requires inside { IsInside machine.now target }
-    requires long { length counts.now ≡ machine.now.width * machine.now.height }
-    requires low { number_at machine.now counts.now target < UNREACHED }
-    ensures { IfOk result (λ _. (walk : List Edge) × (whole.new.items ≡ whole.old.items ++ walk) × IsDescent machine.now counts.now target walk) }
+    requires waves_are { AreWaves machine.now (IsTreeChip machine.now root whole.old.items) (map (λ w. w.items) waves.items) }
+    requires level { IsTreeLevel machine.now root whole.old.items target (length waves.items) }
+    requires long { length tree.old ≡ machine.now.width }
+    requires chips { (c : Chip) → IsIn tree.old c ↔ IsTreeChip machine.now root whole.old.items c }
+    ensures joined { IfOk result (λ _. (walk : List Edge) × (whole.new.items ≡ whole.old.items ++ walk)
+        × IsDetour machine.now root whole.old.items target walk) }
+    ensures chips { IfOk result (λ _. (c : Chip) → IsIn tree.new c ↔ IsTreeChip machine.now root whole.new.items c) }
 {
     let mut at = target;
-    while let Some(edge) = last_link(machine, counts, at) {
+    while let Some(wave) = waves.pop() {
+        let Some(edge) = last_link(machine, &wave, at) else {
+            unreachable!();
+        };
+        put(tree, at);
         whole.push(edge)?;
         at = edge.chip;
     }
     Ok(())
 }
 
-// Adds the detour to a target, and answers which chips the tree then joins to the root. `None` exactly where no walk of
-// live links joins root and target.
+// Adds the detour to a target that the tree doesn't have, and to the set of the tree's chips those of the detour. `false`
+// exactly where no walk of live links joins root and target.
 pub fn join(
     alloc: Global,
     machine: &Machine,
+    roads: &Roads,
     root: Chip,
-    reach: &[u64],
+    tree: &mut [u64],
     whole: &mut Vec<Edge>,
     target: Chip,
-) -> Result<Option<Vec<u64>>, Memory>
-    requires root_inside { IsInside machine.now root }
+) -> Result<bool, Memory>
+    requires roads_are { AreRoadsOf machine.now roads.now }
     requires inside { IsInside machine.now target }
-    requires long { length reach.now ≡ machine.now.width * machine.now.height }
-    requires is_whole { IsWhole machine.now root whole.old.items }
-    requires reach_is { (c : Chip) → IsInside machine.now c →
-        (number_at machine.now reach.now c < UNREACHED) ↔ IsTreeChip machine.now root whole.old.items c }
-    ensures joined { IfOk result (λ o. IfSome o (λ _. (walk : List Edge) × (whole.new.items ≡ whole.old.items ++ walk)
-        × IsDetour machine.now root whole.old.items target walk)) }
-    ensures long { IfOk result (λ o. IfSome o (λ t. length t.items ≡ machine.now.width * machine.now.height)) }
-    ensures reach { IfOk result (λ o. IfSome o (λ t. (c : Chip) → IsInside machine.now c →
-        (number_at machine.now t.items c < UNREACHED) ↔ IsTreeChip machine.now root whole.new.items c)) }
-    ensures cut_off { IfOk result (λ o. IfNone o (IsCutOff machine.now root target)) }
+    requires long { length tree.old ≡ machine.now.width }
+    requires chips { (c : Chip) → IsIn tree.old c ↔ IsTreeChip machine.now root whole.old.items c }
+    ensures joined { IfOk result (λ b. IsTrue b → (walk : List Edge) × (whole.new.items ≡ whole.old.items ++ walk)
+        × IsDetour machine.now root whole.old.items target walk) }
+    ensures chips { IfOk result (λ b. IsTrue b → (c : Chip) → IsIn tree.new c ↔ IsTreeChip machine.now root whole.new.items c) }
+    ensures cut_off { IfOk result (λ b. (b ≡ false) → IsCutOff machine.now root target) }
 {
-    let table = live_table(alloc, machine)?;
-    let seeds = reached_chips(alloc, machine, reach)?;
-    let counts = step_counts(alloc, machine, &table, &seeds)?;
-    if counts[machine.index(target) as usize] == UNREACHED {
-        return Ok(None);
+    if has(tree, target) {
+        return Ok(true);
     }
-    walk_back(machine, &counts, whole, target)?;
-    let reach = tree_reach(alloc, machine, root, whole)?;
-    Ok(Some(reach))
+    let found = waves(alloc, machine, roads, tree, target)?;
+    match found {
+        None => Ok(false),
+        Some(list) => {
+            walk_back(machine, list, root, tree, whole, target)?;
+            Ok(true)
+        }
+    }
 }

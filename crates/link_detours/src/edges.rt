@@ -60,21 +60,3 @@ pub fn turned_edges(alloc: Global, machine: &Machine, edges: &[Edge]) -> Result<
     }
     Ok(turned)
 }
-
-// The chips that the search reached.
-pub fn reached_chips(alloc: Global, machine: &Machine, counts: &[u64]) -> Result<Vec<Chip>, Memory>
-    requires { length counts.now ≡ machine.now.width * machine.now.height }
-    ensures { IfOk result (λ v. (c : Chip) → Contains v.items c ↔ (IsInside machine.now c × (number_at machine.now counts.now c < UNREACHED))) }
-{
-    let height = usize::from(machine.height());
-    let mut chips = Vec::new(alloc);
-    for (index, count) in counts.iter().enumerate() {
-        if *count < UNREACHED {
-            chips.push(Chip {
-                x: (index / height) as u8,
-                y: (index % height) as u8,
-            })?;
-        }
-    }
-    Ok(chips)
-}

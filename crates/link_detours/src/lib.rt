@@ -10,6 +10,7 @@ mod prunes;
 mod repairs;
 mod roads;
 mod searches;
+mod sets;
 mod tables;
 mod trims;
 

@@ -2,7 +2,6 @@
 ghost use Rattle.std.specs.Prelude.{◌≡◌, ◌≢◌, ℕ, ◌*◌, ◌<◌, ◌↔◌, Some, length, All, AllPairs, IfOk, IfErr, Contains};
 ghost use Rattle.machine_desc.specs.Live.{IsInside, IsLiveChip};
 ghost use Rattle.machine_desc.specs.RoutingTree.{end_of, IsTreeChip, IsTreeTo};
-ghost use Rattle.link_detours.specs.Usable.{number_at};
 ghost use Rattle.link_detours.specs.Repair.{IsKept, Joins, IsRepaired, IsInOrder};
 ghost use Rattle.link_detours.specs.Whole.{IsWhole};
 ghost use Rattle.link_detours.specs.Cause.{IsCause};
@@ -14,7 +13,7 @@ ghost use Rattle.machine_desc.specs.declared.trees.Edge.{Edge};
 use crate::detours::{join, tree_reach};
 use crate::edges::{live_edges, reached_edges};
 use crate::roads::Roads;
-use crate::searches::UNREACHED;
+use crate::sets::{empty_set, put_tree};
 use crate::trims::trimmed;
 use machine_desc::{Edge, Machine, Tree};
 use spin_base::{Chip, Memory, Seq};
@@ -38,13 +37,6 @@ impl From<Memory> for RepairErr {
     fn from(_: Memory) -> Self {
         RepairErr::Memory
     }
-}
-
-// A tree, and the number of edges from its root to each of its chips.
-#[derive(Drop)]
-struct Grown {
-    edges: Vec<Edge>,
-    reach: Vec<u64>,
 }
 
 /// The tree with, of its edges, those that live links of the tree join to the root; with a detour to each target that
@@ -74,8 +66,8 @@ pub fn repair(
     ensures not_cut_off { IsTreeTo machine.now tree.now.root tree.now.edges targets.now → IfErr result (λ e. e ≡ NoMemory) }
 {
     let root = tree.root;
-    let grown = kept_tree(alloc, machine, root, tree.edges.as_slice())?;
-    let whole = join_all(alloc, machine, root, grown, targets.as_slice())?;
+    let kept = kept_edges(alloc, machine, root, tree.edges.as_slice())?;
+    let whole = join_all(alloc, machine, roads, root, kept, targets.as_slice())?;
     let left = trimmed(alloc, machine, root, whole, targets.as_slice())?;
     Ok(Tree {
         root,
@@ -84,51 +76,50 @@ pub fn repair(
 }
 
 // The edges that live links of the tree join to the root.
-fn kept_tree(alloc: Global, machine: &Machine, root: Chip, edges: &[Edge]) -> Result<Grown, Memory>
+fn kept_edges(
+    alloc: Global,
+    machine: &Machine,
+    root: Chip,
+    edges: &[Edge],
+) -> Result<Vec<Edge>, Memory>
     requires root_lives { IsLiveChip machine.now root }
     requires none_into_root { All (λ e. end_of machine.now e ≢ Some root) edges.now }
     requires one_into_each { AllPairs (λ e f. (c : Chip) → end_of machine.now e ≡ Some c → end_of machine.now f ≢ Some c) edges.now }
-    ensures kept { IfOk result (λ g. (e : Edge) → Contains g.edges.items e ↔ IsKept machine.now root edges.now e) }
-    ensures is_whole { IfOk result (λ g. IsWhole machine.now root g.edges.items) }
-    ensures long { IfOk result (λ g. length g.reach.items ≡ machine.now.width * machine.now.height) }
-    ensures reach { IfOk result (λ g. (c : Chip) → IsInside machine.now c →
-        (number_at machine.now g.reach.items c < UNREACHED) ↔ IsTreeChip machine.now root g.edges.items c) }
+    ensures kept { IfOk result (λ v. (e : Edge) → Contains v.items e ↔ IsKept machine.now root edges.now e) }
+    ensures is_whole { IfOk result (λ v. IsWhole machine.now root v.items) }
 {
     let live = live_edges(alloc, machine, edges)?;
     let reach = tree_reach(alloc, machine, root, &live)?;
     let kept = reached_edges(alloc, machine, &reach, &live)?;
-    Ok(Grown { edges: kept, reach })
+    Ok(kept)
 }
 
 // The tree with a detour to each target that it doesn't have, in the order of their list.
 fn join_all(
     alloc: Global,
     machine: &Machine,
+    roads: &Roads,
     root: Chip,
-    grown: Grown,
+    kept: Vec<Edge>,
     targets: &[Chip],
 ) -> Result<Vec<Edge>, RepairErr>
+    requires roads_are { AreRoadsOf machine.now roads.now }
     requires root_lives { IsLiveChip machine.now root }
     requires targets_inside { All (IsInside machine.now) targets.now }
-    requires is_whole { IsWhole machine.now root grown.edges.items }
-    requires long { length grown.reach.items ≡ machine.now.width * machine.now.height }
-    requires reach { (c : Chip) → IsInside machine.now c →
-        (number_at machine.now grown.reach.items c < UNREACHED) ↔ IsTreeChip machine.now root grown.edges.items c }
-    ensures joined { IfOk result (λ v. Joins machine.now root grown.edges.items targets.now v.items) }
+    requires is_whole { IsWhole machine.now root kept.items }
+    ensures joined { IfOk result (λ v. Joins machine.now root kept.items targets.now v.items) }
     ensures is_whole { IfOk result (λ v. IsWhole machine.now root v.items) }
     ensures has_targets { IfOk result (λ v. All (IsTreeChip machine.now root v.items) targets.now) }
     ensures cut_off { IfErr result (IsCause machine.now root targets.now) }
 {
-    let Grown {
-        edges: mut whole,
-        mut reach,
-    } = grown;
+    let mut whole = kept;
+    let mut words = empty_set(alloc, machine)?;
+    let chips: &mut [u64] = &mut words;
+    put_tree(machine, chips, root, &whole);
     for target in targets {
-        if reach[machine.index(*target) as usize] == UNREACHED {
-            match join(alloc, machine, root, &reach, &mut whole, *target)? {
-                Some(joined) => reach = joined,
-                None => return Err(RepairErr::CutOff { target: *target }),
-            }
+        let joined = join(alloc, machine, roads, root, chips, &mut whole, *target)?;
+        if !joined {
+            return Err(RepairErr::CutOff { target: *target });
         }
     }
     Ok(whole)

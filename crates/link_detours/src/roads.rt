@@ -1,5 +1,6 @@
 // The live links of a machine.
-ghost use Rattle.std.specs.Prelude.{◌≡◌, ◌<◌, ◌↔◌, ℕ, IfOk};
+ghost use Rattle.std.specs.Prelude.{◌≡◌, ◌<◌, ◌+◌, ◌*◌, ◌↔◌, ℕ, IfOk, length, slice_index};
+ghost use Rattle.spin_base.specs.Links.{dir_number};
 ghost use Rattle.std.specs.Int.{bit_at};
 ghost use Rattle.machine_desc.specs.Live.{IsLiveLink};
 ghost use Rattle.link_detours.specs.LiveRoads.{AreRoadsOf};
@@ -28,6 +29,14 @@ impl Roads {
             words.push(road_word(machine, (place / 6) as u8, Dir::ALL[place % 6]))?;
         }
         Ok(Roads { words })
+    }
+
+    // The word of a column and a link.
+    pub fn word(&self, x: usize, d: Dir) -> u64
+        requires { x * 6 + dir_number d < length self.now.words.items }
+        ensures { result ≡ slice_index self.now.words.items (x * 6 + dir_number d) }
+    {
+        self.words[x * 6 + usize::from(d.number())]
     }
 }
 

@@ -1,54 +1,41 @@
-use Rattle.std.proofs.Common.{◌<◌, sym, subst, arith, rules}
-use Rattle.std.proofs.lemmas.Grind.{common_steps}
-use Rattle.link_detours.specs.Usable.{number_at}
-use Rattle.link_detours.specs.Repair.{IsDetour}
-use Rattle.link_detours.specs.Whole.{IsWhole}
-use Rattle.link_detours.proofs.Reaching.{cut_off, descent_detour, whole_inside, edges_inside, whole_reach, number_is}
-use Rattle.link_detours.proofs.Wholes.{whole_joined}
+use Rattle.std.proofs.Common.{◌<◌, ◌≤◌, [], refl, sym, subst, arith, inl, append-nil, length, map, Vec, Global, ℕ}
+use Rattle.spin_base.specs.declared.chips.Chip.{Chip}
+use Rattle.machine_desc.specs.Live.{LeadsTo}
+use Rattle.machine_desc.specs.RoutingTree.{IsTreeChip}
+use Rattle.machine_desc.proofs.Far.{inside_parts}
+use Rattle.link_detours.specs.Steps.{Steps}
+use Rattle.link_detours.specs.Waves.{IsIn}
+use Rattle.link_detours.proofs.Stepping.{IsLevel-same}
+use Rattle.link_detours.proofs.Walks.{walk_steps}
+use Rattle.link_detours.proofs.Waving.{AreWaves-same}
 use Rattle.link_detours.proofs.detours.join.Goals as goal
-use Rattle.link_detours.proofs.detours.join.Goals.{After-deref-4}
 
-pub returns-then-index-clause-cut_off : goal.returns-then-index-clause-cut_off
-returns-then-index-clause-cut_off c =
-    let is = number_is c.args.machine.now c.in_ok-counts.counts.items c.args.target c.index.result c.index-2.result.now c.in_ok-counts.ensures.long
-    c.requires.inside c.index.ensures.value c.index-2.ensures in
-    cut_off c.args.machine.now c.args.root c.args.whole.now.items c.args.reach.now c.in_ok-table.table.items c.in_ok-seeds.seeds.items
-    c.in_ok-counts.counts.items 18446744073709551615 c.in_ok-table.ensures.flags c.requires.reach_is
-    (whole_inside c.args.machine.now c.args.root c.args.whole.now.items c.requires.is_whole c.requires.root_inside) c.in_ok-seeds.ensures
-    (rw (c.deref.ensures.value, c.deref-2.ensures.value) at c.in_ok-counts.ensures.levels)
-    (rw (c.deref.ensures.value, c.deref-2.ensures.value) at c.in_ok-counts.ensures.reached)
-    c.args.target (let far = c.if-index.true in omega (arith, far, is))
+pub has-requires-clause-bit : goal.has-requires-clause-bit
+has-requires-clause-bit c =
+    let low : c.args.target.y < c.args.machine.now.height = (inside_parts c.args.machine.now c.args.target c.requires.inside).1 in
+    let few : c.args.machine.now.height ≤ 64 = c.requires.roads_are.few in omega (arith, low, few)
 
-detour : (c : After-deref-4) → IsDetour c.args.machine.now c.args.root c.args.whole.now.items c.args.target c.in_ok-walk_back.ensures.0
-detour c =
-    let low : number_at c.args.machine.now c.in_ok-counts.counts.items c.args.target < 18446744073709551615 = first_of (search rules, grind (arith, common_steps)) in
-    let is = number_is c.args.machine.now c.in_ok-counts.counts.items c.args.target c.index.result c.index-2.result.now c.in_ok-counts.ensures.long
-    c.requires.inside c.index.ensures.value c.index-2.ensures in
-    descent_detour c.args.machine.now c.args.root c.args.whole.now.items c.args.reach.now c.in_ok-table.table.items c.in_ok-seeds.seeds.items
-    c.in_ok-counts.counts.items 18446744073709551615 c.in_ok-table.ensures.flags c.requires.reach_is
-    (whole_inside c.args.machine.now c.args.root c.args.whole.now.items c.requires.is_whole c.requires.root_inside) c.in_ok-seeds.ensures
-    (rw (c.deref.ensures.value, c.deref-2.ensures.value) at c.in_ok-counts.ensures.levels)
-    (rw (c.deref.ensures.value, c.deref-2.ensures.value) at c.in_ok-counts.ensures.reached)
-    c.args.target c.in_ok-walk_back.ensures.0 c.requires.inside low
-    (rw c.deref-3.ensures.value at c.in_ok-walk_back.ensures.2)
+pub returns-then-has-clause-joined : goal.returns-then-has-clause-joined
+returns-then-has-clause-joined c = λ _. ([], sym (append-nil c.args.whole.now.items), (c.requires.chips c.args.target).0 (c.has.ensures.0 c.if-has.true))
 
-whole : (c : After-deref-4) → IsWhole c.args.machine.now c.args.root c.walk_back.new.whole.items
-whole c =
-    subst (λ es. IsWhole c.args.machine.now c.args.root es) (sym c.in_ok-walk_back.ensures.1)
-    (whole_joined c.args.machine.now c.args.root c.args.whole.now.items c.requires.is_whole c.args.target c.in_ok-walk_back.ensures.0 (detour c))
+pub walk_back-requires-clause-waves_are : goal.walk_back-requires-clause-waves_are
+walk_back-requires-clause-waves_are c =
+    AreWaves-same c.args.machine.now (IsIn c.args.tree.now) (IsTreeChip c.args.machine.now c.args.root c.args.whole.now.items)
+    (λ x. (c.requires.chips x).0) (λ x. (c.requires.chips x).1) (map (λ (w : Vec ℕ Global). w.items) c.in-Some.list.items)
+    (rw c.in-Some.is at c.in_ok-found.ensures.waves)
 
-pub tree_reach-requires-clause-inside : goal.tree_reach-requires-clause-inside
-tree_reach-requires-clause-inside c =
-    rw c.deref-4.ensures.value (edges_inside c.args.machine.now c.args.root c.walk_back.new.whole.items (whole c))
+pub walk_back-requires-clause-level : goal.walk_back-requires-clause-level
+walk_back-requires-clause-level c =
+    IsLevel-same (LeadsTo c.args.machine.now) (LeadsTo c.args.machine.now) (IsIn c.args.tree.now)
+    (IsTreeChip c.args.machine.now c.args.root c.args.whole.now.items) (λ a b step. step) (λ a b step. step)
+    (λ x. (c.requires.chips x).0) (λ x. (c.requires.chips x).1) c.args.target (length c.in-Some.list.items)
+    (rw c.in-Some.is at c.in_ok-found.ensures.level)
 
-pub returns-clause-joined : goal.returns-clause-joined
-returns-clause-joined c =
-    let known = (goal.at.returns-clause-joined c).After-deref-4 in
-    (c.in_ok-walk_back.ensures.0, c.in_ok-walk_back.ensures.1, detour known)
-
-pub returns-clause-reach : goal.returns-clause-reach
-returns-clause-reach c = λ e inside.
-    let known = (goal.at.returns-clause-reach c).After-deref-4 in
-    let steps = (rw c.deref-4.ensures.value at c.in_ok-reach.ensures.reach) e inside in
-    let tree = whole_reach c.args.machine.now c.args.root c.walk_back.new.whole.items (whole known) e in
-    (λ low. tree.0 (steps.0 low), λ on. steps.1 (tree.1 on))
+pub returns-in-None-clause-cut_off : goal.returns-in-None-clause-cut_off
+returns-in-None-clause-cut_off c = λ _ walk along.
+    let way = walk_steps c.args.machine.now walk c.args.root along.0 in
+    (rw c.in-None.is at c.in_ok-found.ensures.cut_off) way.0 (
+      c.args.root,
+      (c.requires.chips c.args.root).1 (inl refl),
+      subst (λ (x : Chip). Steps (LeadsTo c.args.machine.now) way.0 c.args.root x) along.1 way.1,
+    )

@@ -1,9 +1,9 @@
 use Rattle.std.proofs.Common.{◌≤◌}
 use Rattle.spin_base.specs.Links.{dir_number}
 use Rattle.machine_desc.specs.declared.trees.Edge.{Edge}
-use Rattle.link_detours.specs.Descent.{IsStepDown}
+use Rattle.link_detours.specs.Waves.{IsStepFrom}
 use Rattle.link_detours.proofs.detours.last_link.Given as goal
 
--- no step down has one of the numbers so far
+-- no step from the set has one of the numbers so far
 abbrev pub invariant-loop-dir : goal.invariant-loop-dir
-invariant-loop-dir l = (e : Edge) → IsStepDown l.machine l.counts l.at e → l.dir-index ≤ dir_number e.dir
+invariant-loop-dir l = (e : Edge) → IsStepFrom l.machine l.set l.at e → l.dir-index ≤ dir_number e.dir

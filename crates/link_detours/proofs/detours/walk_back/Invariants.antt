@@ -1,16 +1,26 @@
-use Rattle.std.proofs.Common.{◌≡◌, ◌<◌, List, ◌++◌}
+use Rattle.std.proofs.Common.{◌≡◌, List, ◌++◌, map, length}
 use Rattle.machine_desc.specs.declared.trees.Edge.{Edge}
 use Rattle.machine_desc.specs.Live.{IsInside}
-use Rattle.link_detours.specs.Usable.{number_at}
-use Rattle.link_detours.specs.Descent.{IsDescent}
+use Rattle.machine_desc.specs.RoutingTree.{IsTreeChip}
+use Rattle.link_detours.specs.Repair.{IsTreeLevel, IsDetour}
+use Rattle.link_detours.specs.Waves.{AreWaves}
+use Rattle.link_detours.proofs.Putting.{TellsTree}
 use Rattle.link_detours.proofs.detours.walk_back.Given as goal
 
--- what was added leads from the target to this chip, and a descent from here completes it
-abbrev pub invariant-loop-edge : goal.invariant-loop-edge
-invariant-loop-edge l =
-    IsInside l.machine l.at × (number_at l.machine l.counts l.at < 18446744073709551615)
-    × ((done : List Edge) × (l.whole.items ≡ l.fn.whole.items ++ done)
-    × ((rest : List Edge) → IsDescent l.machine l.counts l.at rest → IsDescent l.machine l.counts l.fn.target (done ++ rest)))
+-- the waves that are left lead back from this chip; what was added leads from the target to it, and a detour from here
+-- completes it
+abbrev pub invariant-loop-wave : goal.invariant-loop-wave
+invariant-loop-wave l = record {
+  inside : IsInside l.machine l.at;
+  waves : AreWaves l.machine (IsTreeChip l.machine l.fn.root l.fn.whole.items) (map (λ w. w.items) l.waves.items);
+  level : IsTreeLevel l.machine l.fn.root l.fn.whole.items l.at (length l.waves.items);
+  long : length l.tree ≡ l.machine.width;
+  chips : TellsTree l.machine l.fn.root l.whole.items l.tree;
+  done : List Edge;
+  added : l.whole.items ≡ l.fn.whole.items ++ done;
+  way : (rest : List Edge) → IsDetour l.machine l.fn.root l.fn.whole.items l.at rest →
+      IsDetour l.machine l.fn.root l.fn.whole.items l.fn.target (done ++ rest);
+}
 
-abbrev pub decreases-loop-edge : goal.decreases-loop-edge
-decreases-loop-edge l = number_at l.machine l.counts l.at
+abbrev pub decreases-loop-wave : goal.decreases-loop-wave
+decreases-loop-wave l = length l.waves.items

@@ -12,8 +12,8 @@ use Rattle.link_detours.proofs.repairs.repair.Goals as goal
 
 pub returns-clause-repaired : goal.returns-clause-repaired
 returns-clause-repaired c = record {
-  kept = c.in_ok-grown.grown.edges.items;
-  kept_is = rw c.as_slice.ensures at c.in_ok-grown.ensures.kept;
+  kept = c.in_ok-kept.kept.items;
+  kept_is = rw c.as_slice.ensures at c.in_ok-kept.ensures.kept;
   whole = c.in_ok-whole.whole.items;
   joined = rw c.as_slice-2.ensures at c.in_ok-whole.ensures.joined;
   result_is = rw (c.from_vec.ensures, ← c.as_slice-3.ensures) c.in_ok-left.ensures.left;

@@ -1,4 +1,4 @@
-use Rattle.std.proofs.Common.{◌≡◌, ◌+◌, ◌*◌, ◌/◌, ◌%◌, ◌<◌, ap, ◌∙◌, lit<, arith}
+use Rattle.std.proofs.Common.{◌+◌, ◌*◌, ◌/◌, ◌%◌, ◌<◌, ap, ◌∙◌, lit<, arith}
 use Rattle.std.proofs.lemmas.Nat.{mod_below, div-add-mod'}
 use Rattle.spin_base.specs.Links.{dir_number}
 use Rattle.machine_desc.proofs.Far.{inside_parts}
@@ -16,6 +16,7 @@ loop-place-preserved c =
 
 pub returns : goal.returns
 returns c = record {
+  few = c.width.ensures.size.height_to_64;
   long = let long = c.loop-place.invariant.long in omega arith;
   told = λ e d inside.
       let parts = inside_parts c.args.machine.now e inside in

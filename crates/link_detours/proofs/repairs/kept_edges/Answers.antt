@@ -1,6 +1,6 @@
 use Rattle.machine_desc.proofs.Far.{live_inside}
-use Rattle.link_detours.proofs.Keeping.{live_edges_inside, kept_is, kept_whole, kept_reach}
-use Rattle.link_detours.proofs.repairs.kept_tree.Goals as goal
+use Rattle.link_detours.proofs.Keeping.{live_edges_inside, kept_is, kept_whole}
+use Rattle.link_detours.proofs.repairs.kept_edges.Goals as goal
 
 pub tree_reach-requires-clause-inside : goal.tree_reach-requires-clause-inside
 tree_reach-requires-clause-inside c =
@@ -21,12 +21,5 @@ pub returns-clause-is_whole : goal.returns-clause-is_whole
 returns-clause-is_whole c =
     rw (c.in_ok-kept.ensures, c.deref-2.ensures.value, c.deref-3.ensures.value, c.in_ok-live.ensures)
     (kept_whole c.args.machine.now c.args.root c.args.edges.now c.in_ok-reach.reach.items 18446744073709551615
-    (live_inside c.args.machine.now c.args.root c.requires.root_lives) c.requires.none_into_root c.requires.one_into_each
-    (rw (c.deref.ensures.value, c.in_ok-live.ensures) at c.in_ok-reach.ensures.reach))
-
-pub returns-clause-reach : goal.returns-clause-reach
-returns-clause-reach c =
-    rw (c.in_ok-kept.ensures, c.deref-2.ensures.value, c.deref-3.ensures.value, c.in_ok-live.ensures)
-    (kept_reach c.args.machine.now c.args.root c.args.edges.now c.in_ok-reach.reach.items 18446744073709551615
     (live_inside c.args.machine.now c.args.root c.requires.root_lives) c.requires.none_into_root c.requires.one_into_each
     (rw (c.deref.ensures.value, c.in_ok-live.ensures) at c.in_ok-reach.ensures.reach))

@@ -1,0 +1,116 @@
+-- Chips put into a set, one after the other.
+use Rattle.std.proofs.Common.{◌≡◌, ◌≢◌, ℕ, ◌+◌, ◌*◌, ◌%◌, ◌^◌, ◌<◌, ◌≤◌, ◌⊎◌, ◌↔◌, List, [], ◌∷◌, ◌++◌, length, get_or, set, take, replicate, Some, None, sym, ap, ◌∙◌, subst, arith, inl, inr}
+use Rattle.std.specs.Int.{bit_at, w64}
+use Rattle.std.specs.Int.RustNames.{bit_or}
+use mir.Val.{bits}
+use Rattle.std.specs.List.{Contains}
+use Rattle.std.proofs.lemmas.Bool.{cases_eq, cases_lt}
+use Rattle.std.proofs.lemmas.List.{get_or-set_same, get_or-set_other, get_or-replicate, length-replicate, take_more, get_or_past}
+use Rattle.std.proofs.lemmas.List.Elements.{Contains-push, Contains-push_cases}
+use Rattle.std.proofs.lemmas.Nat.Bits.{bit_at_set_same, bit_at_set_other, bit_at-zero}
+use Rattle.spin_base.specs.declared.chips.Chip.{Chip}
+use Rattle.machine_desc.specs.declared.trees.Edge.{Edge}
+use Rattle.machine_desc.specs.Description.{Description}
+use Rattle.machine_desc.specs.RoutingTree.{end_of, IsTreeChip}
+use Rattle.machine_desc.proofs.Same.{same_chip}
+use Rattle.machine_desc.proofs.TreeLemmas.{tree_end, tree_cases, more_chips}
+use Rattle.link_detours.specs.Waves.{IsIn}
+use Rattle.link_detours.proofs.Searching.{cases_chip}
+
+-- the set after a chip is put into it
+pub put_here : (old : List ℕ) (c : Chip) (place : ℕ) → place ≡ c.x → c.x < length old → c.y < 64 →
+    IsIn (set old place (bit_or (get_or old place 0) (1 * 2 ^ c.y % 2 ^ bits w64))) c
+put_here old c place is within few =
+    ap (λ n. bit_at n c.y) (ap (λ k. get_or (set old place (bit_or (get_or old place 0) (1 * 2 ^ c.y % 2 ^ bits w64))) k 0) (sym is)
+    ∙ get_or-set_same old place (bit_or (get_or old place 0) (1 * 2 ^ c.y % 2 ^ bits w64)) 0 (subst (λ k. k < length old) (sym is) within))
+    ∙ bit_at_set_same w64 (get_or old place 0) c.y few
+
+pub put_other : (old : List ℕ) (c : Chip) (place : ℕ) → place ≡ c.x → c.x < length old → c.y < 64 → (e : Chip) → e ≢ c →
+    bit_at (get_or (set old place (bit_or (get_or old place 0) (1 * 2 ^ c.y % 2 ^ bits w64))) e.x 0) e.y ≡ bit_at (get_or old e.x 0) e.y
+put_other old c place is within few e other = elim (cases_eq e.x place) [
+  | inl column ↦
+      let apart : e.y ≢ c.y = λ same. other (same_chip e c (column ∙ is) same) in
+      ap (λ n. bit_at n e.y) (ap (λ k. get_or (set old place (bit_or (get_or old place 0) (1 * 2 ^ c.y % 2 ^ bits w64))) k 0) column
+      ∙ get_or-set_same old place (bit_or (get_or old place 0) (1 * 2 ^ c.y % 2 ^ bits w64)) 0 (subst (λ k. k < length old) (sym is) within))
+      ∙ (bit_at_set_other w64 (get_or old place 0) c.y few e.y apart ∙ ap (λ k. bit_at (get_or old k 0) e.y) (sym column))
+  | inr beside ↦ ap (λ n. bit_at n e.y) (get_or-set_other old place e.x (bit_or (get_or old place 0) (1 * 2 ^ c.y % 2 ^ bits w64)) 0 beside)
+]
+
+-- the set has the chips of a tree
+abbrev pub TellsTree : Description → Chip → List Edge → List ℕ → Type 0
+TellsTree m root edges chips = (c : Chip) → IsIn chips c ↔ IsTreeChip m root edges c
+
+-- no chip is in a set of words that are 0
+pub none_in : (words : List ℕ) (n : ℕ) → words ≡ replicate n 0 → (c : Chip) → IsIn words c → ⊥
+none_in words n e c bit = elim (cases_lt c.x n) [
+  | inl low ↦
+      let zero_word : get_or words c.x 0 ≡ 0 = ap (λ t. get_or t c.x 0) e ∙ get_or-replicate n c.x 0 0 low in
+      let clear : bit_at (get_or words c.x 0) c.y ≡ 0 = ap (λ k. bit_at k c.y) zero_word ∙ bit_at-zero c.y in
+      none (bit_at (get_or words c.x 0) c.y) clear bit
+  | inr high ↦
+      let zero_word : get_or words c.x 0 ≡ 0 =
+      get_or_past words c.x 0 (subst (λ k. k ≤ c.x) (sym (ap length e ∙ length-replicate n 0)) high) in
+      let clear : bit_at (get_or words c.x 0) c.y ≡ 0 = ap (λ k. bit_at k c.y) zero_word ∙ bit_at-zero c.y in
+      none (bit_at (get_or words c.x 0) c.y) clear bit
+]
+  where
+    none : (k : ℕ) → k ≡ 0 → k ≡ 1 → ⊥
+    none k p q = omega (arith, p, q)
+
+-- the root alone
+pub TellsTree-root : (m : Description) (root : Chip) (words chips : List ℕ) → ((c : Chip) → IsIn words c → ⊥) → IsIn chips root →
+    ((e : Chip) → e ≢ root → bit_at (get_or chips e.x 0) e.y ≡ bit_at (get_or words e.x 0) e.y) → TellsTree m root [] chips
+TellsTree-root m root words chips empty here others c = (
+  λ bit. elim (cases_chip c root) [
+    | inl same ↦ inl same
+    | inr other ↦ absurd (empty c (sym (others c other) ∙ bit))
+  ],
+  λ on. elim (tree_cases m root [] c on) [
+    | inl same ↦ subst (λ (x : Chip). IsIn chips x) (sym same) here
+    | inr into ↦ absurd (let none : into.1.0 < 0 = into.1.1 in omega (arith, none))
+  ],
+)
+
+-- one edge more, into this chip
+pub TellsTree-push : (m : Description) (root : Chip) (tree : List Edge) (old chips : List ℕ) (f : Edge) (far : Chip) → end_of m f ≡ Some far →
+    IsIn chips far → ((e : Chip) → e ≢ far → bit_at (get_or chips e.x 0) e.y ≡ bit_at (get_or old e.x 0) e.y) →
+    TellsTree m root tree old → TellsTree m root (tree ++ f ∷ []) chips
+TellsTree-push m root tree old chips f far leads here others told c = (
+  λ bit. elim (cases_chip c far) [
+    | inl same ↦ tree_end m root (tree ++ f ∷ []) f c (Contains-push tree f) (leads ∙ ap Some (sym same))
+    | inr other ↦ more_chips m root tree (f ∷ []) c ((told c).0 (sym (others c other) ∙ bit))
+  ],
+  λ on. elim (cases_chip c far) [
+    | inl same ↦ subst (λ (x : Chip). IsIn chips x) (sym same) here
+    | inr other ↦ others c other ∙ (told c).1 (before other (tree_cases m root (tree ++ f ∷ []) c on))
+  ],
+)
+  where
+    before : c ≢ far → (c ≡ root) ⊎ ((e : Edge) × Contains (tree ++ f ∷ []) e × (end_of m e ≡ Some c)) → IsTreeChip m root tree c
+    before other (inl same) = inl same
+    before other (inr into) = elim (Contains-push_cases tree f into.0 into.1) [
+      | inl old_edge ↦ tree_end m root tree into.0 c old_edge into.2
+      | inr last ↦
+          let at : Some far ≡ Some c = sym leads ∙ (ap (λ (g : Edge). end_of m g) last ∙ into.2) in
+          let same : far ≡ c = cc in absurd (other (sym same))
+    ]
+
+-- one edge more that leads nowhere
+pub TellsTree-skip : (m : Description) (root : Chip) (tree : List Edge) (chips : List ℕ) (f : Edge) → None ≡ end_of m f →
+    TellsTree m root tree chips → TellsTree m root (tree ++ f ∷ []) chips
+TellsTree-skip m root tree chips f leads told c = (
+  λ bit. more_chips m root tree (f ∷ []) c ((told c).0 bit),
+  λ on. (told c).1 (before (tree_cases m root (tree ++ f ∷ []) c on)),
+)
+  where
+    before : (c ≡ root) ⊎ ((e : Edge) × Contains (tree ++ f ∷ []) e × (end_of m e ≡ Some c)) → IsTreeChip m root tree c
+    before (inl same) = inl same
+    before (inr into) = elim (Contains-push_cases tree f into.0 into.1) [
+      | inl old_edge ↦ tree_end m root tree into.0 c old_edge into.2
+      | inr last ↦ let none : None ≡ Some c = leads ∙ (ap (λ (g : Edge). end_of m g) last ∙ into.2) in cc
+    ]
+
+-- a prefix of a list, and one item more
+pub TellsTree-taken : (m : Description) (root : Chip) (edges : List Edge) (i : ℕ) (d : Edge) (chips : List ℕ) → i < length edges →
+    TellsTree m root (take i edges ++ get_or edges i d ∷ []) chips → TellsTree m root (take (i + 1) edges) chips
+TellsTree-taken m root edges i d chips within = subst (λ es. TellsTree m root es chips) (sym (take_more edges i d within))

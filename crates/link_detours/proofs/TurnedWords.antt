@@ -1,0 +1,154 @@
+-- Words turned by one bit, and the coordinates to which links lead.
+use Rattle.std.proofs.Common.{◌≡◌, ℕ, ◌+◌, ◌-◌, ◌*◌, ◌/◌, ◌%◌, ◌^◌, ◌<◌, ◌≤◌, ◌⊎◌, Bool, true, false, ltb, eqb, Some, None, min, max, refl, sym, ap, ◌∙◌, arith, inl, inr, add-one, lit<}
+use Rattle.std.specs.Int.{bit_at}
+use Rattle.std.specs.Int.RustNames.{bit_or}
+use lib.Bits.{bit_and}
+use Rattle.std.proofs.Math.Nat.{add-zero, mod-eq_of_lt, mod_self, add-mod_right}
+use Rattle.std.proofs.lemmas.Bool.{lt-ltb, le-ltb, eq-eqb, ne_eqb, cases_lt, cases_eq, cond-true, cond-false}
+use Rattle.std.proofs.lemmas.Nat.{div-add-mod', pow_pos}
+use Rattle.std.proofs.lemmas.Nat.Bits.{bit_at_and, bit_at_or, bit_at-suc, bit_at-zero, bit_at-lt, bit_at_lowest, bit_at_ones, bit_at_ones_above, bit_at_above, bit_at_cat_low, bit_at_cat_high}
+use Rattle.machine_desc.specs.declared.steps.Step.TheVariants.{Back, Stay, Ahead}
+use Rattle.machine_desc.specs.Live.{stepped}
+
+max_zero : (a b p : ℕ) → a ≡ p → b ≡ 0 → max a b ≡ p
+max_zero a b p h k = omega (arith, h, k)
+
+max_other : (a b p : ℕ) → a ≡ 0 → b ≡ p → max a b ≡ p
+max_other a b p h k = omega (arith, h, k)
+
+min_one : (a b : ℕ) → a < 2 → b ≡ 1 → min a b ≡ a
+min_one a b low k = omega (arith, low, k)
+
+min_zero : (a b : ℕ) → b ≡ 0 → min a b ≡ 0
+min_zero a b k = omega (arith, k)
+
+-- the low bits of a number are those of its remainder
+bit_at-mod : (n w i : ℕ) → i < w → bit_at (n % 2 ^ w) i ≡ bit_at n i
+bit_at-mod n w i h = sym (bit_at_cat_low (n / 2 ^ w) w (n % 2 ^ w) i h) ∙ ap (λ k. bit_at k i) (div-add-mod' n (2 ^ w))
+
+-- the bits of a number that is moved up
+moved_low : (a k i : ℕ) → i < k → bit_at (a * 2 ^ k) i ≡ 0
+moved_low a k i h = ap (λ n. bit_at n i) (sym (add-zero (a * 2 ^ k))) ∙ (bit_at_cat_low a k 0 i h ∙ bit_at-zero i)
+
+moved_high : (a k i : ℕ) → k ≤ i → bit_at (a * 2 ^ k) i ≡ bit_at a (i - k)
+moved_high a k i h = ap (λ n. bit_at n i) (sym (add-zero (a * 2 ^ k))) ∙ bit_at_cat_high a k 0 i (pow_pos k) h
+
+abbrev pub up_word : ℕ → ℕ → ℕ → ℕ
+up_word top word rest = bit_or (bit_and (word / 2 ^ 1) (top - 1)) (bit_and word 1 * 2 ^ rest % 2 ^ 64)
+
+pub up_inside : (top word rest y : ℕ) → rest < 64 → top ≡ 2 ^ rest → y < rest → bit_at (up_word top word rest) y ≡ bit_at word (y + 1)
+up_inside top word rest y few is below =
+    bit_at_or (bit_and (word / 2 ^ 1) (top - 1)) (bit_and word 1 * 2 ^ rest % 2 ^ 64) y
+    ∙ max_zero _ _ (bit_at word (y + 1)) first second
+  where
+    shifted : bit_at (word / 2 ^ 1) y ≡ bit_at word (y + 1)
+    shifted = sym (bit_at-suc word y) ∙ ap (λ k. bit_at word k) (sym (add-one y))
+
+    first : bit_at (bit_and (word / 2 ^ 1) (top - 1)) y ≡ bit_at word (y + 1)
+    first = bit_at_and (word / 2 ^ 1) (top - 1) y
+        ∙ (min_one (bit_at (word / 2 ^ 1) y) (bit_at (top - 1) y) (bit_at-lt (word / 2 ^ 1) y)
+        (ap (λ t. bit_at (t - 1) y) is ∙ bit_at_ones rest y below) ∙ shifted)
+
+    second : bit_at (bit_and word 1 * 2 ^ rest % 2 ^ 64) y ≡ 0
+    second = bit_at-mod (bit_and word 1 * 2 ^ rest) 64 y (omega (arith, few, below)) ∙ moved_low (bit_and word 1) rest y below
+
+pub up_round : (top word rest y : ℕ) → rest < 64 → top ≡ 2 ^ rest → y ≡ rest → bit_at (up_word top word rest) y ≡ bit_at word 0
+up_round top word rest y few is at =
+    bit_at_or (bit_and (word / 2 ^ 1) (top - 1)) (bit_and word 1 * 2 ^ rest % 2 ^ 64) y
+    ∙ max_other _ _ (bit_at word 0) first second
+  where
+    first : bit_at (bit_and (word / 2 ^ 1) (top - 1)) y ≡ 0
+    first = bit_at_and (word / 2 ^ 1) (top - 1) y
+        ∙ min_zero (bit_at (word / 2 ^ 1) y) (bit_at (top - 1) y) (ap (λ t. bit_at (t - 1) y) is ∙ bit_at_ones_above rest y (omega (arith, at)))
+
+    second : bit_at (bit_and word 1 * 2 ^ rest % 2 ^ 64) y ≡ bit_at word 0
+    second = bit_at-mod (bit_and word 1 * 2 ^ rest) 64 y (omega (arith, few, at))
+        ∙ (moved_high (bit_and word 1) rest y (omega (arith, at))
+        ∙ (ap (λ k. bit_at (bit_and word 1) k) (let none : y - rest ≡ 0 = omega (arith, at) in none)
+        ∙ (bit_at_and word 1 0 ∙ min_one (bit_at word 0) (bit_at 1 0) (bit_at-lt word 0) refl)))
+
+abbrev pub down_word : ℕ → ℕ → ℕ
+down_word word rest = bit_or (word * 2 ^ 1 % 2 ^ 64) (bit_and (word / 2 ^ rest) 1)
+
+pub down_inside : (word rest y : ℕ) → 0 < y → y < 64 → bit_at (down_word word rest) y ≡ bit_at word (y - 1)
+down_inside word rest y some few =
+    bit_at_or (word * 2 ^ 1 % 2 ^ 64) (bit_and (word / 2 ^ rest) 1) y ∙ max_zero _ _ (bit_at word (y - 1)) first second
+  where
+    first : bit_at (word * 2 ^ 1 % 2 ^ 64) y ≡ bit_at word (y - 1)
+    first = bit_at-mod (word * 2 ^ 1) 64 y few ∙ moved_high word 1 y (omega (arith, some))
+
+    second : bit_at (bit_and (word / 2 ^ rest) 1) y ≡ 0
+    second = bit_at_and (word / 2 ^ rest) 1 y
+        ∙ min_zero (bit_at (word / 2 ^ rest) y) (bit_at 1 y) (bit_at_above 1 1 y (lit< tt) (omega (arith, some)))
+
+pub down_round : (word rest : ℕ) → bit_at (down_word word rest) 0 ≡ bit_at word rest
+down_round word rest =
+    bit_at_or (word * 2 ^ 1 % 2 ^ 64) (bit_and (word / 2 ^ rest) 1) 0 ∙ max_other _ _ (bit_at word rest) first second
+  where
+    first : bit_at (word * 2 ^ 1 % 2 ^ 64) 0 ≡ 0
+    first = bit_at-mod (word * 2 ^ 1) 64 0 (lit< tt) ∙ moved_low word 1 0 (lit< tt)
+
+    second : bit_at (bit_and (word / 2 ^ rest) 1) 0 ≡ bit_at word rest
+    second = bit_at_and (word / 2 ^ rest) 1 0
+        ∙ (min_one (bit_at (word / 2 ^ rest) 0) (bit_at 1 0) (bit_at-lt (word / 2 ^ rest) 0) refl ∙ bit_at_lowest (word / 2 ^ rest))
+
+-- where a step ahead leads
+pub ahead_cases : (wrap : Bool) (places n k : ℕ) → n < places → stepped wrap places Ahead n ≡ Some k →
+    ((n + 1 < places) × (k ≡ n + 1)) ⊎ ((n + 1 ≡ places) × (k ≡ 0))
+ahead_cases true places n k within leads = elim (cases_lt (n + 1) places) [
+  | inl more ↦ let is : (n + 1) % places ≡ k = cc in inl (more, sym is ∙ mod-eq_of_lt more)
+  | inr last ↦
+      let at : n + 1 ≡ places = omega (arith, last, within) in
+      let is : (n + 1) % places ≡ k = cc in inr (at, sym is ∙ (ap (λ j. j % places) at ∙ mod_self places))
+]
+ahead_cases false places n k within leads = elim (cases_lt (n + 1) places) [
+  | inl more ↦
+      let same : Some (n + 1) ≡ Some k = sym (cond-true (ltb (n + 1) places) (Some (n + 1)) None (lt-ltb _ _ more)) ∙ leads in
+      let is : n + 1 ≡ k = cc in inl (more, sym is)
+  | inr last ↦ let none : None ≡ Some k = sym (cond-false (ltb (n + 1) places) (Some (n + 1)) None (le-ltb _ _ last)) ∙ leads in cc
+]
+
+-- and a step back
+pub back_cases : (wrap : Bool) (places n k : ℕ) → n < places → stepped wrap places Back n ≡ Some k →
+    ((0 < n) × (k ≡ n - 1)) ⊎ ((n ≡ 0) × (k ≡ places - 1))
+back_cases true places n k within leads = elim (cases_eq n 0) [
+  | inl first ↦
+      let is : (n + (places - 1)) % places ≡ k = cc in
+      let low : n + (places - 1) < places = omega (arith, first, within) in
+      inr (first, sym is ∙ (mod-eq_of_lt low ∙ omega (arith, first)))
+  | inr other ↦
+      let is : (n + (places - 1)) % places ≡ k = cc in
+      let sum : n + (places - 1) ≡ (n - 1) + places = omega (arith, other, within) in
+      let low : n - 1 < places = omega (arith, within) in
+      inl (omega (arith, other), sym is ∙ (ap (λ j. j % places) sum ∙ (add-mod_right (n - 1) places ∙ mod-eq_of_lt low)))
+]
+back_cases false places n k within leads = elim (cases_eq n 0) [
+  | inl first ↦ let none : None ≡ Some k = sym (cond-true (eqb n 0) None (Some (n - 1)) (eq-eqb _ _ first)) ∙ leads in cc
+  | inr other ↦
+      let same : Some (n - 1) ≡ Some k = sym (cond-false (eqb n 0) None (Some (n - 1)) (ne_eqb _ _ other)) ∙ leads in
+      let is : n - 1 ≡ k = cc in inl (omega (arith, other), sym is)
+]
+
+pub stay_is : (wrap : Bool) (places n k : ℕ) → stepped wrap places Stay n ≡ Some k → n ≡ k
+stay_is true places n k leads = cc
+stay_is false places n k leads = cc
+
+-- a word turned so that its bits are of the coordinates to which a step leads
+pub turned_ahead : (word result places : ℕ) → ((y : ℕ) → y + 1 < places → bit_at result y ≡ bit_at word (y + 1)) →
+    ((y : ℕ) → y + 1 ≡ places → bit_at result y ≡ bit_at word 0) → (wrap : Bool) (y k : ℕ) → y < places →
+    stepped wrap places Ahead y ≡ Some k → bit_at result y ≡ bit_at word k
+turned_ahead word result places inside round wrap y k within leads = elim (ahead_cases wrap places y k within leads) [
+  | inl more ↦ inside y more.0 ∙ ap (λ n. bit_at word n) (sym more.1)
+  | inr last ↦ round y last.0 ∙ ap (λ n. bit_at word n) (sym last.1)
+]
+
+pub turned_back : (word result places : ℕ) → ((y : ℕ) → 0 < y → y < places → bit_at result y ≡ bit_at word (y - 1)) →
+    bit_at result 0 ≡ bit_at word (places - 1) → (wrap : Bool) (y k : ℕ) → y < places →
+    stepped wrap places Back y ≡ Some k → bit_at result y ≡ bit_at word k
+turned_back word result places inside round wrap y k within leads = elim (back_cases wrap places y k within leads) [
+  | inl more ↦ inside y more.0 within ∙ ap (λ n. bit_at word n) (sym more.1)
+  | inr first ↦ ap (λ n. bit_at result n) first.0 ∙ (round ∙ ap (λ n. bit_at word n) (sym first.1))
+]
+
+pub turned_stay : (word places : ℕ) (wrap : Bool) (y k : ℕ) → stepped wrap places Stay y ≡ Some k → bit_at word y ≡ bit_at word k
+turned_stay word places wrap y k leads = ap (λ n. bit_at word n) (stay_is wrap places y k leads)

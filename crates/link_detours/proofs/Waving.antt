@@ -1,0 +1,249 @@
+-- Waves of chips, and the walks that lead back over them.
+use Rattle.std.proofs.Common.{◌≡◌, ℕ, zero, suc, ◌+◌, ◌*◌, ◌-◌, ◌^◌, ◌<◌, ◌≤◌, ◌↔◌, List, [], ◌∷◌, ◌++◌, length, get_or, map, refl, sym, ap, ◌∙◌, subst, arith, inl, inr, add-one, length-append, append_assoc, append-nil}
+use Rattle.std.specs.List.{All, sum_by}
+use Rattle.std.proofs.lemmas.Bool.{cases_eq, cases_lt}
+use Rattle.std.proofs.lemmas.List.{get_or_at, get_or_append_left, map-append, length-map}
+use Rattle.std.proofs.lemmas.List.Sums.{sum_by-cons, sum_by-le}
+use Rattle.spin_base.specs.declared.chips.Chip.{Chip}
+use Rattle.spin_base.specs.declared.chips.Dir.{Dir}
+use Rattle.spin_base.specs.Links.{dir_number, opposite_of}
+use Rattle.machine_desc.specs.declared.trees.Edge.{Edge}
+use Rattle.machine_desc.specs.Description.{Description}
+use Rattle.machine_desc.specs.Live.{IsInside, LeadsTo}
+use Rattle.machine_desc.specs.RoutingTree.{IsTreeChip}
+use Rattle.machine_desc.proofs.Far.{far_inside}
+use Rattle.machine_desc.proofs.Same.{same_dir}
+use Rattle.link_detours.specs.Steps.{IsReachedBy, IsLevel}
+use Rattle.link_detours.specs.Repair.{IsTreeLevel, IsDetour, IsLastLink}
+use Rattle.link_detours.specs.Waves.{IsIn, IsSpread, IsWithin, IsWave, AreWaves, IsStepFrom, IsBestStep}
+use Rattle.link_detours.proofs.Reaching.{link_inside, link_turned}
+use Rattle.link_detours.proofs.Stepping.{IsReachedBy-map}
+
+module _ (m : Description) (IsStart : Chip → Type 0) where
+  -- the wave of number 0 has the starts
+  pub first_wave : (set : List ℕ) → length set ≡ m.width → ((c : Chip) → (IsIn set c → IsStart c) × (IsStart c → IsIn set c)) → IsWave m IsStart 0 set
+  first_wave set long starts = record {
+    long = long;
+    told = λ c inside. (
+      λ bit. (0, omega arith, (c, (starts c).0 bit, refl)),
+      λ within. (starts c).1 (at_zero c within.0 within.1 within.2),
+    );
+  }
+    where
+      at_zero : (c : Chip) (k : ℕ) → k ≤ 0 → IsReachedBy (LeadsTo m) IsStart k c → IsStart c
+      at_zero c zero low by = subst (λ (x : Chip). IsStart x) by.2 by.1
+      at_zero c (suc k) low by = absurd (omega (arith, low))
+
+  -- the next wave is the last one spread
+  pub next_wave : (n : ℕ) (set more : List ℕ) → IsWave m IsStart n set → length more ≡ m.width →
+      ((c : Chip) → IsInside m c → IsIn more c ↔ IsSpread m set c) → IsWave m IsStart (n + 1) more
+  next_wave n set more wave long spread = record {
+    long = long;
+    told = λ c inside. (λ bit. within c inside ((spread c inside).0 bit), λ near. (spread c inside).1 (came c inside near.0 near.1 near.2));
+  }
+    where
+      within : (c : Chip) → IsInside m c → IsSpread m set c → IsWithin m IsStart (n + 1) c
+      within c inside (inl bit) = let near = (wave.told c inside).0 bit in (near.0, (let low : near.0 ≤ n = near.1 in omega (arith, low)), near.2)
+      within c inside (inr leads) =
+          let d : Dir = leads.0 in
+          let e : Chip = leads.1.0 in
+          let e_inside : IsInside m e = far_inside m c e d inside leads.1.2 in
+          let near = (wave.told e e_inside).0 leads.1.3 in
+          let back = link_turned m e c d leads.1.1 leads.1.2 in
+          (suc near.0, (let low : near.0 ≤ n = near.1 in omega (arith, low)), (near.2.0, near.2.1, (e, near.2.2, (opposite_of d, back.0, back.1))))
+
+      came : (c : Chip) → IsInside m c → (k : ℕ) → k ≤ n + 1 → IsReachedBy (LeadsTo m) IsStart k c → IsSpread m set c
+      came c inside zero low by = inl ((wave.told c inside).1 (0, omega arith, by))
+      came c inside (suc k) low by =
+          let b : Chip = by.2.0 in
+          let link = by.2.2 in
+          let b_inside : IsInside m b = link_inside m b link.0 link.1 in
+          let bit : IsIn set b = (wave.told b b_inside).1 (k, omega (arith, low), (by.0, by.1, by.2.1)) in
+          let back = link_turned m c b link.0 link.1 link.2 in
+          inr (opposite_of link.0, (b, back.0, back.1, bit))
+
+  -- a set that has the starts and spreads no more has all chips that are reached
+  pub dry : (set more : List ℕ) → ((c : Chip) → IsInside m c → IsStart c → IsIn set c) → more ≡ set →
+      ((c : Chip) → IsInside m c → IsIn more c ↔ IsSpread m set c) → (n : ℕ) (c : Chip) → IsInside m c → IsReachedBy (LeadsTo m) IsStart n c → IsIn set c
+  dry set more starts same spread zero c inside by = starts c inside (subst (λ (x : Chip). IsStart x) by.2 by.1)
+  dry set more starts same spread (suc n) c inside by =
+      let b : Chip = by.2.0 in
+      let link = by.2.2 in
+      let b_inside : IsInside m b = link_inside m b link.0 link.1 in
+      let bit : IsIn set b = dry set more starts same spread n b b_inside (by.0, by.1, by.2.1) in
+      let back = link_turned m c b link.0 link.1 link.2 in
+      let came : IsIn more c = (spread c inside).1 (inr (opposite_of link.0, (b, back.0, back.1, bit))) in
+      subst (λ s. IsIn s c) same came
+
+  -- the first wave with a chip has its level as its number
+  pub level_is : (n : ℕ) (set : List ℕ) (c : Chip) → IsInside m c → IsWave m IsStart n set → IsIn set c →
+      ((k : ℕ) → k < n → IsReachedBy (LeadsTo m) IsStart k c → ⊥) → IsLevel (LeadsTo m) IsStart c n
+  level_is n set c inside wave bit off =
+      let near = (wave.told c inside).0 bit in
+      let low : near.0 ≤ n = near.1 in
+      let is : near.0 ≡ n = elim (cases_lt near.0 n) [ inl below ↦ absurd (off near.0 below near.2) | inr from ↦ omega (arith, low, from) ] in
+      record {
+        reached = subst (λ k. IsReachedBy (LeadsTo m) IsStart k c) is near.2;
+        least = λ k by. elim (cases_lt k n) [ inl below ↦ absurd (off k below by) | inr from ↦ from ];
+      }
+
+  -- a chip off the wave is not reached so soon
+  pub off_wave : (n : ℕ) (set : List ℕ) (c : Chip) → IsInside m c → IsWave m IsStart n set → (IsIn set c → ⊥) →
+      (k : ℕ) → k < n + 1 → IsReachedBy (LeadsTo m) IsStart k c → ⊥
+  off_wave n set c inside wave off k below by = off ((wave.told c inside).1 (k, omega (arith, below), by))
+
+  -- no waves, one wave more, and one less
+  pub waves_none : {X : Type 0} (f : X → List ℕ) (xs : List X) → xs ≡ [] → AreWaves m IsStart (map f xs)
+  waves_none f xs e n below = absurd (let none : length xs ≡ 0 = ap length e in let same : length (map f xs) ≡ length xs = length-map xs f in omega (arith, below, none, same))
+
+  pub waves_push : {X : Type 0} (f : X → List ℕ) (xs new : List X) (x : X) → new ≡ xs ++ x ∷ [] → AreWaves m IsStart (map f xs) →
+      IsWave m IsStart (length xs) (f x) → AreWaves m IsStart (map f new)
+  waves_push f xs new x is waves wave = subst (λ sets. AreWaves m IsStart sets) (sym (ap (map f) is ∙ map-append f xs (x ∷ []))) (λ n below. at n below)
+    where
+      at : (n : ℕ) → n < length (map f xs ++ f x ∷ []) → IsWave m IsStart n (get_or (map f xs ++ f x ∷ []) n [])
+      at n below = elim (cases_eq n (length (map f xs))) [
+        | inl here ↦
+            subst (λ set. IsWave m IsStart n set) (sym (get_or_at (map f xs) (f x) [] [] n (sym here)))
+            (subst (λ k. IsWave m IsStart k (f x)) (sym (here ∙ length-map xs f)) wave)
+        | inr other ↦
+            let longer : length (map f xs ++ f x ∷ []) ≡ length (map f xs) + 1 = length-append (map f xs) (f x ∷ []) in
+            let low : n < length (map f xs) = omega (arith, below, longer, other) in
+            subst (λ set. IsWave m IsStart n set) (sym (get_or_append_left (map f xs) (f x ∷ []) [] n low)) (waves n low)
+      ]
+
+  pub waves_pop : {X : Type 0} (f : X → List ℕ) (xs rest : List X) (x : X) → xs ≡ rest ++ x ∷ [] → AreWaves m IsStart (map f xs) →
+      AreWaves m IsStart (map f rest) × IsWave m IsStart (length rest) (f x)
+  waves_pop f xs rest x is waves = (
+    λ n below. subst (λ set. IsWave m IsStart n set) (get_or_append_left (map f rest) (f x ∷ []) [] n below) (all n (omega (arith, longer, below))),
+    subst (λ set. IsWave m IsStart (length rest) set) (get_or_at (map f rest) (f x) [] [] (length rest) (length-map rest f))
+        (all (length rest) (let same : length (map f rest) ≡ length rest = length-map rest f in omega (arith, longer, same))),
+  )
+    where
+      longer : length (map f rest ++ f x ∷ []) ≡ length (map f rest) + 1
+      longer = length-append (map f rest) (f x ∷ [])
+
+      all : AreWaves m IsStart (map f rest ++ f x ∷ [])
+      all = subst (λ sets. AreWaves m IsStart sets) (ap (map f) is ∙ map-append f rest (x ∷ [])) waves
+
+-- over other words for the same starts
+pub AreWaves-same : (m : Description) (P Q : Chip → Type 0) → ((c : Chip) → P c → Q c) → ((c : Chip) → Q c → P c) → (waves : List (List ℕ)) →
+    AreWaves m P waves → AreWaves m Q waves
+AreWaves-same m P Q on back waves are n below = let wave = are n below in record {
+  long = wave.long;
+  told = λ c inside. (
+    λ bit. let near = (wave.told c inside).0 bit in (near.0, near.1, IsReachedBy-map (LeadsTo m) (LeadsTo m) P Q (λ a b step. step) on near.0 c near.2),
+    λ near. (wave.told c inside).1 (near.0, near.1, IsReachedBy-map (LeadsTo m) (LeadsTo m) Q P (λ a b step. step) back near.0 c near.2),
+  );
+}
+
+module _ (m : Description) (root : Chip) (tree : List Edge) where
+  -- the best step from a wave into a chip of the next level comes from a chip of the level before
+  pub step_level : (n : ℕ) (set : List ℕ) (c : Chip) (e : Edge) → IsWave m (IsTreeChip m root tree) n set → IsTreeLevel m root tree c (suc n) →
+      IsBestStep m set c e → IsTreeLevel m root tree e.chip n
+  step_level n set c e wave level best =
+      let inside : IsInside m e.chip = link_inside m e.chip e.dir best.0.0 in
+      let near = (wave.told e.chip inside).0 best.0.2 in
+      let low : near.0 ≤ n = near.1 in
+      let more : (k : ℕ) → IsReachedBy (LeadsTo m) (IsTreeChip m root tree) k e.chip → n ≤ k = λ k by.
+      let far : suc n ≤ suc k = level.least (suc k) (by.0, by.1, (e.chip, by.2, (e.dir, best.0.0, best.0.1))) in omega (arith, far) in
+      let high : n ≤ near.0 = more near.0 near.2 in
+      let is : near.0 ≡ n = omega (arith, low, high) in
+      record { reached = subst (λ k. IsReachedBy (LeadsTo m) (IsTreeChip m root tree) k e.chip) is near.2; least = more }
+
+  -- and it is the last link of its detour
+  pub last_link_is : (n : ℕ) (set : List ℕ) (c : Chip) (e : Edge) → IsWave m (IsTreeChip m root tree) n set → IsTreeLevel m root tree c (suc n) →
+      IsBestStep m set c e → IsLastLink m root tree c e
+  last_link_is n set c e wave level best = record {
+    level = n;
+    here = level;
+    there = step_level n set c e wave level best;
+    lives = best.0.0;
+    leads = best.0.1;
+    least = λ f f_level lives leads.
+        best.1 f (lives, leads, (wave.told f.chip (link_inside m f.chip f.dir lives)).1 (n, omega arith, f_level.reached));
+  }
+
+  -- and there is such a step
+  pub some_step : (n : ℕ) (set : List ℕ) (c : Chip) → IsWave m (IsTreeChip m root tree) n set → IsTreeLevel m root tree c (suc n) →
+      ((e : Edge) → IsStepFrom m set c e → ⊥) → ⊥
+  some_step n set c wave level none =
+      let by = level.reached in
+      let b : Chip = by.2.0 in
+      let link = by.2.2 in
+      let bit : IsIn set b = (wave.told b (link_inside m b link.0 link.1)).1 (n, omega arith, (by.0, by.1, by.2.1)) in
+      none (record { chip = b; dir = link.0 }) (link.1, link.2, bit)
+
+  -- the level, where one wave is taken off
+  pub level_suc : {X : Type 0} (c : Chip) (xs rest : List X) (x : X) → xs ≡ rest ++ x ∷ [] → IsTreeLevel m root tree c (length xs) →
+      IsTreeLevel m root tree c (suc (length rest))
+  level_suc c xs rest x is = subst (λ n. IsTreeLevel m root tree c n) (ap length is ∙ (length-append rest (x ∷ []) ∙ add-one (length rest)))
+
+  -- a chip of level 0 is one of the tree
+  pub on_tree : (c : Chip) → IsTreeLevel m root tree c 0 → IsTreeChip m root tree c
+  on_tree c level = let by = level.reached in subst (λ (x : Chip). IsTreeChip m root tree x) by.2 by.1
+
+  -- the way back so far, and one link more
+  pub way_more : (target at : Chip) (items done : List Edge) (e : Edge) → items ≡ tree ++ done →
+      ((rest : List Edge) → IsDetour m root tree at rest → IsDetour m root tree target (done ++ rest)) → IsLastLink m root tree at e →
+      (items ++ e ∷ [] ≡ tree ++ (done ++ e ∷ []))
+      × ((rest : List Edge) → IsDetour m root tree e.chip rest → IsDetour m root tree target ((done ++ e ∷ []) ++ rest))
+  way_more target at items done e is way last = (
+    ap (λ es. es ++ e ∷ []) is ∙ append_assoc tree done (e ∷ []),
+    λ rest down. subst (λ es. IsDetour m root tree target es) (sym (append_assoc done (e ∷ []) rest)) (way (e ∷ rest) (last, down)),
+  )
+
+  pub way_ends : (target at : Chip) (done : List Edge) →
+      ((rest : List Edge) → IsDetour m root tree at rest → IsDetour m root tree target (done ++ rest)) →
+      IsTreeChip m root tree at → IsDetour m root tree target done
+  way_ends target at done way on = subst (λ es. IsDetour m root tree target es) (append-nil done) (way [] on)
+
+-- a step by the first link that has one is the best
+pub best_step : (m : Description) (set : List ℕ) (at : Chip) (i : ℕ) (e : Edge) → dir_number e.dir ≡ i → IsStepFrom m set at e →
+    ((f : Edge) → IsStepFrom m set at f → i ≤ dir_number f.dir) → IsBestStep m set at e
+best_step m set at i e is step from = (step, λ f f_step. let low : i ≤ dir_number f.dir = from f f_step in omega (arith, is, low))
+
+-- words that rise, and with them their sum
+pub sums_rise : (xs ys : List ℕ) → length xs ≡ length ys → ((k : ℕ) → get_or xs k 0 ≤ get_or ys k 0) →
+    (sum_by (λ n. n) xs ≤ sum_by (λ n. n) ys) × (sum_by (λ n. n) xs ≡ sum_by (λ n. n) ys → xs ≡ ys)
+sums_rise [] [] same rises = (omega arith, λ _. refl)
+sums_rise [] (y ∷ ys) same rises = absurd (omega (arith, same))
+sums_rise (x ∷ xs) [] same rises = absurd (omega (arith, same))
+sums_rise (x ∷ xs) (y ∷ ys) same rises =
+    let rest = sums_rise xs ys (omega (arith, same)) (λ k. rises (suc k)) in
+    let first : x ≤ y = rises 0 in
+    let low : sum_by (λ n. n) xs ≤ sum_by (λ n. n) ys = rest.0 in
+    let left : sum_by (λ n. n) (x ∷ xs) ≡ x + sum_by (λ n. n) xs = sum_by-cons (λ n. n) x xs in
+    let right : sum_by (λ n. n) (y ∷ ys) ≡ y + sum_by (λ n. n) ys = sum_by-cons (λ n. n) y ys in (
+      omega (arith, first, low, left, right),
+      λ e.
+          let head : x ≡ y = omega (arith, first, low, left, right, e) in
+          let tail : xs ≡ ys = rest.1 (omega (arith, first, low, left, right, e)) in
+          ap (λ z. z ∷ xs) head ∙ ap (λ zs. y ∷ zs) tail,
+    )
+
+-- one link more has no step
+pub next_link : (m : Description) (set : List ℕ) (at : Chip) (i : ℕ) (d : Dir) → dir_number d ≡ i →
+    ((b : Chip) → IsStepFrom m set at (record { chip = b; dir = d }) → ⊥) → ((f : Edge) → IsStepFrom m set at f → i ≤ dir_number f.dir) →
+    (f : Edge) → IsStepFrom m set at f → i + 1 ≤ dir_number f.dir
+next_link m set at i d is none from f step = elim (cases_eq (dir_number f.dir) i) [
+  | inr other ↦ (let low : i ≤ dir_number f.dir = from f step in omega (arith, low, other))
+  | inl here ↦
+      let same : f.dir ≡ d = same_dir f.dir d (here ∙ sym is) in
+      absurd (none f.chip (subst (λ (o : Dir). IsStepFrom m set at (record { chip = f.chip; dir = o })) same step))
+]
+
+-- a set that spreads to another has a smaller sum
+pub sum_rises : (m : Description) (last next : List ℕ) → length last ≡ m.width → length next ≡ m.width → All (λ w. w < 2 ^ 64) next →
+    ((k : ℕ) → get_or last k 0 ≤ get_or next k 0) → (next ≡ last → ⊥) →
+    m.width * 18446744073709551615 - sum_by (λ n. n) next < m.width * 18446744073709551615 - sum_by (λ n. n) last
+sum_rises m last next short long fits rises other =
+    let sums = sums_rise last next (short ∙ sym long) rises in
+    let low : sum_by (λ n. n) last ≤ sum_by (λ n. n) next = sums.0 in
+    let most : sum_by (λ n. n) next ≤ length next * 18446744073709551615 =
+    sum_by-le (λ n. n) 18446744073709551615 next
+    (λ k d h. let fit : get_or next k d < 18446744073709551616 = fits k d h in let top : get_or next k d ≤ 18446744073709551615 = omega (arith, fit) in top) in
+    let bound : sum_by (λ n. n) next ≤ m.width * 18446744073709551615 = subst (λ n. sum_by (λ n. n) next ≤ n * 18446744073709551615) long most in
+    elim (cases_eq (sum_by (λ n. n) last) (sum_by (λ n. n) next)) [
+      | inl same ↦ absurd (other (sym (sums.1 same)))
+      | inr apart ↦ omega (arith, low, bound, apart)
+    ]

@@ -1,0 +1,18 @@
+use Rattle.std.proofs.Common.{◌≡◌, ◌<◌, ◌↔◌, Some, refl, subst, sym}
+use Rattle.std.specs.Int.{bit_at}
+use Rattle.machine_desc.specs.Live.{IsLiveLink, x_step, y_step, stepped}
+use Rattle.machine_desc.proofs.Far.{inside_from}
+use Rattle.link_detours.proofs.RoadBits.{chip_of_column}
+use Rattle.link_detours.proofs.Spreading.{leading_told}
+use Rattle.link_detours.proofs.sets.leading.Goals as goal
+
+pub returns : goal.returns
+returns c = λ y high.
+    leading_told c.args.machine.now c.args.set.now c.args.x y c.column_beyond.result _ c.turned.result c.word.result c.args.d
+    (subst (λ w. (bit_at w y ≡ 1) ↔ IsLiveLink c.args.machine.now (chip_of_column c.args.x y) c.args.d) (sym c.word.ensures)
+    (c.requires.roads_are.told (chip_of_column c.args.x y) c.args.d (inside_from c.args.machine.now (chip_of_column c.args.x y) c.requires.column high)))
+    (λ k leads. c.column_beyond.ensures.column c.args.machine.now.wrap k
+    (subst (λ w. stepped c.args.machine.now.wrap w (x_step c.args.d) c.args.x ≡ Some k) (sym c.requires.long) leads))
+    refl
+    (λ k leads. c.turned.ensures c.args.machine.now.wrap y k (subst (λ h. y < h) (sym c.height.ensures.value) high)
+    (subst (λ h. stepped c.args.machine.now.wrap h (y_step c.args.d) y ≡ Some k) (sym c.height.ensures.value) leads))

@@ -1,0 +1,31 @@
+use Rattle.std.proofs.Common.{rules, sym}
+use Rattle.std.proofs.lemmas.List.{take_all}
+use Rattle.link_detours.proofs.Putting.{TellsTree-root, TellsTree-push, TellsTree-skip, TellsTree-taken}
+use Rattle.link_detours.proofs.sets.put_tree.Goals as goal
+use Rattle.link_detours.proofs.sets.put_tree.Goals.{in-Some, in_default}
+
+pub loop-edge-init : goal.loop-edge-init
+loop-edge-init c = record {
+  long = search rules;
+  told = TellsTree-root c.args.machine.now c.args.root c.args.set.now c.put.new.set c.requires.empty c.put.ensures.here c.put.ensures.others;
+}
+
+pub loop-edge-preserved : goal.loop-edge-preserved
+loop-edge-preserved c = elim c.match-far.branch [
+  | in-Some w ↦ record {
+    long = search rules;
+    told = rw w.set-is
+        (TellsTree-taken c.args.machine.now c.args.root c.args.edges.now c.loop-edge.edge-index _ w.put-in-Some.new.set c.loop-edge-test.true
+        (TellsTree-push c.args.machine.now c.args.root _ c.loop-edge.set w.put-in-Some.new.set _ w.in-Some.far (sym (w.in-Some.ensures))
+        w.put-in-Some.ensures.here w.put-in-Some.ensures.others c.loop-edge.invariant.told));
+  }
+  | in_default w ↦ record {
+    long = search rules;
+    told = rw w.set-is
+        (TellsTree-taken c.args.machine.now c.args.root c.args.edges.now c.loop-edge.edge-index _ c.loop-edge.set c.loop-edge-test.true
+        (TellsTree-skip c.args.machine.now c.args.root _ c.loop-edge.set _ w.in_default.ensures c.loop-edge.invariant.told));
+  }
+]
+
+pub returns : goal.returns
+returns c = rw (take_all c.loop-edge.edge-index c.args.edges.now c.loop-edge-test.false) at c.loop-edge.invariant.told

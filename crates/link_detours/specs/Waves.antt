@@ -1,0 +1,44 @@
+-- Sets of chips as bits, and waves: the chips within so many live links of a start.
+use Rattle.std.specs.Prelude.{◌≡◌, ℕ, ◌<◌, ◌≤◌, List, [], length, slice_index, slice_index_or, Some, ◌⊎◌}
+use Rattle.std.specs.Int.{bit_at}
+use Rattle.spin_base.specs.declared.chips.Chip.{Chip}
+use Rattle.spin_base.specs.declared.chips.Dir.{Dir}
+use Rattle.spin_base.specs.Links.{dir_number}
+use Rattle.machine_desc.specs.declared.trees.Edge.{Edge}
+use Rattle.machine_desc.specs.Description.{Description}
+use Rattle.machine_desc.specs.Live.{far_of, IsInside, IsLiveLink, LeadsTo}
+use Rattle.machine_desc.specs.RoutingTree.{end_of}
+use Rattle.link_detours.specs.Steps.{IsReachedBy}
+
+-- A set has one word a column of chips, and bit y of it tells of the chip at y.
+abbrev pub IsIn : List ℕ → Chip → Type 0
+IsIn set c = bit_at (slice_index set c.x) c.y ≡ 1
+
+-- the chip's link leads, live, to a chip of the set
+abbrev pub LeadsInto : Description → List ℕ → Chip → Dir → Type 0
+LeadsInto m set c d = (e : Chip) × IsLiveLink m c d × (far_of m c d ≡ Some e) × IsIn set e
+
+-- the chip is in the set, or some live link leads from it to one that is
+abbrev pub IsSpread : Description → List ℕ → Chip → Type 0
+IsSpread m set c = IsIn set c ⊎ ((d : Dir) × LeadsInto m set c d)
+
+-- at most n live links lead from a start to the chip
+abbrev pub IsWithin : Description → (Chip → Type 0) → ℕ → Chip → Type 0
+IsWithin m IsStart n c = (k : ℕ) × (k ≤ n) × IsReachedBy (LeadsTo m) IsStart k c
+
+-- The wave of number n is the set of the chips within n live links of a start.
+pub record IsWave (m : Description) (IsStart : Chip → Type 0) (n : ℕ) (set : List ℕ) : Type 0 where
+  pub long : length set ≡ m.width
+  pub told : (c : Chip) → IsInside m c → (IsIn set c → IsWithin m IsStart n c) × (IsWithin m IsStart n c → IsIn set c)
+
+-- the waves in the order of their numbers, from 0 on
+abbrev pub AreWaves : Description → (Chip → Type 0) → List (List ℕ) → Type 0
+AreWaves m IsStart waves = (n : ℕ) → n < length waves → IsWave m IsStart n (slice_index_or waves n [])
+
+-- the live link leads into the chip from one of the set
+abbrev pub IsStepFrom : Description → List ℕ → Chip → Edge → Type 0
+IsStepFrom m set c e = IsLiveLink m e.chip e.dir × (end_of m e ≡ Some c) × IsIn set e.chip
+
+-- and of all those that do, it has the least number
+abbrev pub IsBestStep : Description → List ℕ → Chip → Edge → Type 0
+IsBestStep m set c e = IsStepFrom m set c e × ((f : Edge) → IsStepFrom m set c f → dir_number e.dir ≤ dir_number f.dir)

@@ -1,0 +1,166 @@
+// Sets of chips as bits: one word a column of chips, and bit y of it is of the chip at y.
+ghost use Rattle.std.specs.Prelude.{◌≡◌, ◌<◌, ◌≤◌, ◌+◌, ◌*◌, ◌-◌, ◌^◌, ◌↔◌, ℕ, length, All, IfOk, IsTrue, Some, Bool, slice_index};
+ghost use Rattle.std.specs.Int.{bit_at};
+ghost use Rattle.spin_base.specs.declared.chips.Chip.{Chip};
+ghost use Rattle.spin_base.specs.declared.chips.Dir.{Dir};
+ghost use Rattle.spin_base.specs.Links.{dir_number};
+ghost use Rattle.machine_desc.specs.Live.{IsInside, IsLiveLink, far_of, x_step, y_step, stepped};
+ghost use Rattle.machine_desc.specs.RoutingTree.{IsTreeChip};
+ghost use Rattle.link_detours.specs.LiveRoads.{AreRoadsOf};
+ghost use Rattle.link_detours.specs.Waves.{IsIn, LeadsInto, IsSpread};
+
+use crate::roads::Roads;
+use machine_desc::{Edge, Machine};
+use spin_base::{Chip, Dir, Memory};
+use std::alloc::Global;
+
+// Whether the set has the chip.
+pub fn has(set: &[u64], c: Chip) -> bool
+    requires column { c.x < length set.now }
+    requires bit { c.y < 64 }
+    ensures { IsTrue result ↔ IsIn set.now c }
+{
+    (set[usize::from(c.x)] >> c.y) & 1 == 1
+}
+
+// Whether the sets are the same.
+pub fn same_sets(a: &[u64], b: &[u64]) -> bool
+    ensures { IsTrue result ↔ (a.now ≡ b.now) }
+{
+    a == b
+}
+
+// Puts the chip into the set.
+pub fn put(set: &mut [u64], c: Chip)
+    requires column { c.x < length set.old }
+    requires bit { c.y < 64 }
+    ensures here { IsIn set.new c }
+    ensures others { (e : Chip) → (e ≡ c → ⊥) → bit_at (slice_index set.new e.x) e.y ≡ bit_at (slice_index set.old e.x) e.y }
+{
+    set[usize::from(c.x)] |= 1 << c.y;
+}
+
+// A set without chips.
+pub fn empty_set(alloc: Global, machine: &Machine) -> Result<Vec<u64>, Memory>
+    ensures long { IfOk result (λ v. length v.items ≡ machine.now.width) }
+    ensures empty { IfOk result (λ v. (c : Chip) → IsIn v.items c → ⊥) }
+{
+    let words = vec![in alloc; 0; usize::from(machine.width())]?;
+    Ok(words)
+}
+
+// Puts the chips of the tree that these edges make into an empty set.
+pub fn put_tree(machine: &Machine, set: &mut [u64], root: Chip, edges: &[Edge])
+    requires root_inside { IsInside machine.now root }
+    requires inside { All (λ e. IsInside machine.now e.chip) edges.now }
+    requires few { machine.now.height ≤ 64 }
+    requires long { length set.old ≡ machine.now.width }
+    requires empty { (c : Chip) → IsIn set.old c → ⊥ }
+    ensures { (c : Chip) → IsIn set.new c ↔ IsTreeChip machine.now root edges.now c }
+{
+    put(set, root);
+    for edge in edges {
+        if let Some(far) = machine.far(edge.chip, edge.dir) {
+            put(set, far);
+        }
+    }
+}
+
+// The word turned by one: bit y is what bit y + 1 was, and the last what the first was.
+fn up(height: u8, word: u64) -> u64
+    requires some { 0 < height }
+    requires few { height ≤ 64 }
+    ensures inside { (y : ℕ) → y + 1 < height → bit_at result y ≡ bit_at word (y + 1) }
+    ensures round { (y : ℕ) → y + 1 ≡ height → bit_at result y ≡ bit_at word 0 }
+{
+    let top: u64 = 1 << (height - 1);
+    ((word >> 1) & (top - 1)) | ((word & 1) << (height - 1))
+}
+
+// The word turned by one the other way.
+fn down(height: u8, word: u64) -> u64
+    requires some { 0 < height }
+    requires few { height ≤ 64 }
+    ensures inside { (y : ℕ) → 0 < y → y < height → bit_at result y ≡ bit_at word (y - 1) }
+    ensures round { bit_at result 0 ≡ bit_at word (height - 1) }
+{
+    (word << 1) | ((word >> (height - 1)) & 1)
+}
+
+// The word turned so that bit y is of the coordinate to which the link leads from y.
+#[inline(always)]
+fn turned(height: u8, word: u64, d: Dir) -> u64
+    requires some { 0 < height }
+    requires few { height ≤ 64 }
+    ensures { (wrap : Bool) (y k : ℕ) → y < height → stepped wrap height (y_step d) y ≡ Some k → bit_at result y ≡ bit_at word k }
+{
+    match d {
+        Dir::NorthEast | Dir::North => up(height, word),
+        Dir::East | Dir::West => word,
+        Dir::SouthWest | Dir::South => down(height, word),
+    }
+}
+
+// The column to which the link leads.
+#[inline(always)]
+fn column_beyond(width: usize, x: usize, d: Dir) -> usize
+    requires { x < width }
+    ensures below { result < width }
+    ensures column { (wrap : Bool) (k : ℕ) → stepped wrap width (x_step d) x ≡ Some k → result ≡ k }
+{
+    match d {
+        Dir::East | Dir::NorthEast => if x + 1 < width { x + 1 } else { 0 },
+        Dir::North | Dir::South => x,
+        Dir::West | Dir::SouthWest => if x > 0 { x - 1 } else { width - 1 },
+    }
+}
+
+// Of a column's chips those whose link leads, live, to a chip of the set.
+#[inline(always)]
+fn leading(machine: &Machine, roads: &Roads, set: &[u64], x: usize, d: Dir) -> u64
+    requires roads_are { AreRoadsOf machine.now roads.now }
+    requires long { length set.now ≡ machine.now.width }
+    requires column { x < machine.now.width }
+    ensures { (y : ℕ) → y < machine.now.height → (bit_at result y ≡ 1) ↔ LeadsInto machine.now set.now (record { x = x; y = y }) d }
+{
+    let column = set[column_beyond(set.len(), x, d)];
+    turned(machine.height(), column, d) & roads.word(x, d)
+}
+
+// Of a column's chips those of the set, and those from which a live link leads to one of the set.
+fn spread_word(machine: &Machine, roads: &Roads, set: &[u64], x: usize) -> u64
+    requires roads_are { AreRoadsOf machine.now roads.now }
+    requires long { length set.now ≡ machine.now.width }
+    requires column { x < machine.now.width }
+    ensures rises { slice_index set.now x ≤ result }
+    ensures old { (y : ℕ) → bit_at (slice_index set.now x) y ≡ 1 → bit_at result y ≡ 1 }
+    ensures new { (y : ℕ) (d : Dir) → y < machine.now.height → LeadsInto machine.now set.now (record { x = x; y = y }) d → bit_at result y ≡ 1 }
+    ensures only { (y : ℕ) → y < machine.now.height → bit_at result y ≡ 1 → IsSpread machine.now set.now (record { x = x; y = y }) }
+{
+    let mut word = set[x];
+    for d in Dir::ALL {
+        word |= leading(machine, roads, set, x, d);
+    }
+    word
+}
+
+// The set with the chips from which a live link leads to one of it.
+pub fn spread(
+    alloc: Global,
+    machine: &Machine,
+    roads: &Roads,
+    set: &[u64],
+) -> Result<Vec<u64>, Memory>
+    requires roads_are { AreRoadsOf machine.now roads.now }
+    requires long { length set.now ≡ machine.now.width }
+    ensures long { IfOk result (λ t. length t.items ≡ machine.now.width) }
+    ensures fits { IfOk result (λ t. All (λ w. w < 2 ^ 64) t.items) }
+    ensures rises { IfOk result (λ t. (x : ℕ) → slice_index set.now x ≤ slice_index t.items x) }
+    ensures spread { IfOk result (λ t. (c : Chip) → IsInside machine.now c → IsIn t.items c ↔ IsSpread machine.now set.now c) }
+{
+    let mut more = Vec::with_capacity(alloc, set.len())?;
+    for x in 0..set.len() {
+        more.push(spread_word(machine, roads, set, x))?;
+    }
+    Ok(more)
+}
