@@ -200,7 +200,7 @@ module _ (m : Description) (vs : List Vertex) (ss : List Spot) (same : length vs
   told_device s high none =
       let apart : (p : ℕ) → is_usable m (core_of c p) ≡ true → is_taken (ss ++ s ∷ []) (core_of c p) ≡ is_taken ss (core_of c p) =
       λ p u. let low = (usable_parts m (core_of c p) u).1 in
-          taken_push ss s (core_of c p) ∙ or_neither (is_taken ss (core_of c p)) (spot_eq (core_of c p) s) (and_right (chip_eq c s.chip) (p == s.core) (let below : p < s.core = omega (arith, low, high) in grind (arith, nat_tests))) in
+      taken_push ss s (core_of c p) ∙ or_neither (is_taken ss (core_of c p)) (spot_eq (core_of c p) s) (and_right (chip_eq c s.chip) (p == s.core) (let below : p < s.core = omega (arith, low, high) in grind (arith, nat_tests))) in
       let used : used_on c (vs ++ v ∷ []) (ss ++ s ∷ []) ≡ used_on c vs ss + 0 =
       used_push c vs ss v s same ∙ ap (λ b. used_on c vs ss + b) (ap (λ n. cond (chip_eq c s.chip) n 0) none ∙ cond_same (chip_eq c s.chip) 0) in
       record {
