@@ -2,9 +2,12 @@
 
     python3 bench/placement_and_keys.py
 
-`place` puts 16,384 vertices on 4,096 chips, once where they need no memory, and once where the memory of the first half of
-the chips is full while 16 cores of each are free, so that each later vertex is to stand behind them all. `keys` gives keys
-to 4,096 nets that need from 1 to 2^20 each, in mixed order. Each is done at half and at a quarter of the size too.
+`place` puts 16,384 vertices on 4,096 chips: where they need no memory; where the memory of the first half of the chips is
+full while 16 cores of each are free, so that each later vertex is to stand behind them all; and where every fourth is a
+device on the link E of a chip of its own, which is listed dead. `keys` gives keys to 4,096 nets that need from 1 to 2^20
+each, in mixed order: where none has a fixed block; where every second has one of 2^20 keys, one behind the other; and where
+these are as large as the nets need and in mixed order, with a hole behind nearly each.
+Each is done at half and at a quarter of the size too.
 
 The calls are made by a small program that stands below as text. It is compiled as the launcher's program is, without a
 proof, from a copy of the repository that has it as one crate more; the crates that it calls are those that `rt ci` proves.
@@ -27,9 +30,9 @@ PROGRAM = r"""
 
 use app_graph::{Graph, Net, Vertex};
 use key_alloc::{KeyErr, keys};
-use machine_desc::Machine;
+use machine_desc::{Edge, Machine};
 use place_fit::{PlaceErr, curve, place};
-use spin_base::{Memory, Name, Seq};
+use spin_base::{Block, Chip, Dir, Memory, Name, Seq};
 use std::alloc::Global;
 use std::env;
 use std::process::ExitCode;
@@ -51,9 +54,32 @@ struct Task<'a> {
     turns: u32,
 }
 
+// The link E of a chip, by the chip's number in the grid.
+fn link_east(task: &Task, number: u32) -> Edge {
+    let chip = Chip { x: (number / u32::from(task.height)) as u8, y: (number % u32::from(task.height)) as u8 };
+    Edge { chip, dir: Dir::East }
+}
+
+// Where there are devices, the link E of each chip is dead.
 fn machine(alloc: Global, task: &Task) -> Result<Machine, Memory> {
     let none = Seq::new(alloc);
-    Machine::new(alloc, task.width, task.height, false, ALL_MEMORY, &none, &Seq::new(alloc), &Seq::new(alloc))
+    let mut links = Seq::new(alloc);
+    if task.what == "devices" {
+        for number in 0..u32::from(task.width) * u32::from(task.height) {
+            links.push(link_east(task, number))?;
+        }
+    }
+    Machine::new(alloc, task.width, task.height, false, ALL_MEMORY, &none, &Seq::new(alloc), &links)
+}
+
+// So many vertices that need no memory. Every fourth is a device on a chip of its own.
+fn with_devices(alloc: Global, task: &Task) -> Result<Seq<Vertex>, Memory> {
+    let mut vertices = Seq::new(alloc);
+    for i in 0..task.count {
+        let device = if i % 4 == 3 { Some(link_east(task, i / 4)) } else { None };
+        vertices.push(Vertex { name: Name::of(alloc, "v")?, sdram: 0, at: None, device })?;
+    }
+    Ok(vertices)
 }
 
 // So many vertices. The first of them, as many as `full`, need all memory of a chip, and the others `each`.
@@ -61,23 +87,38 @@ fn vertices(alloc: Global, count: u32, full: u32, each: u32) -> Result<Seq<Verte
     let mut vertices = Seq::new(alloc);
     for i in 0..count {
         let sdram = if i < full { ALL_MEMORY } else { each };
-        vertices.push(Vertex { name: Name::of(alloc, "v")?, sdram, at: None })?;
+        vertices.push(Vertex { name: Name::of(alloc, "v")?, sdram, at: None, device: None })?;
     }
     Ok(vertices)
 }
 
+// The block of a net that needs so many keys, at most 2^20, if its number and the kind of nets give it one: every second
+// net's begins at a multiple of 2^20 in the upper half.
+fn fixed_block(task: &Task, i: u32, keys: u64) -> Option<Block> {
+    if i % 2 == 0 || task.what == "keys" {
+        return None;
+    }
+    let at = i / 2;
+    if task.what == "fixed" {
+        return Some(Block { key: (1 << 31) + (at << 20), mask: 4293918720 });
+    }
+    let place = at.wrapping_mul(1031) % (task.count / 2);
+    Some(Block { key: (1 << 31) + (place << 20), mask: (4294967296 - keys.next_power_of_two()) as u32 })
+}
+
 // So many nets from the first vertex to itself. They need from 1 to 2^20 keys: the number of bits is drawn, then the number.
-fn nets(alloc: Global, count: u32) -> Result<Seq<Net>, Memory> {
+fn nets(alloc: Global, task: &Task) -> Result<Seq<Net>, Memory> {
     let mut nets = Seq::new(alloc);
     let mut seed = 5;
-    for _ in 0..count {
+    for i in 0..task.count {
         seed = next(seed);
         let most = 1u32 << ((seed >> 8) % 21);
         seed = next(seed);
         let keys = u64::from(most - (seed >> 8) % (most / 2 + 1));
         let mut targets = Seq::new(alloc);
         targets.push(0)?;
-        nets.push(Net { name: Name::of(alloc, "n")?, source: 0, targets, keys })?;
+        let fixed = fixed_block(task, i, keys);
+        nets.push(Net { name: Name::of(alloc, "n")?, source: 0, targets, keys, fixed })?;
     }
     Ok(nets)
 }
@@ -86,7 +127,8 @@ fn graph(alloc: Global, task: &Task) -> Result<Graph, Memory> {
     let chips = u32::from(task.width) * u32::from(task.height);
     match task.what {
         "short" => Ok(Graph { vertices: vertices(alloc, task.count, chips / 2, 1)?, nets: Seq::new(alloc) }),
-        "keys" => Ok(Graph { vertices: vertices(alloc, 1, 0, 0)?, nets: nets(alloc, task.count)? }),
+        "keys" | "fixed" | "scattered" => Ok(Graph { vertices: vertices(alloc, 1, 0, 0)?, nets: nets(alloc, task)? }),
+        "devices" => Ok(Graph { vertices: with_devices(alloc, task)?, nets: Seq::new(alloc) }),
         _ => Ok(Graph { vertices: vertices(alloc, task.count, 0, 0)?, nets: Seq::new(alloc) }),
     }
 }
@@ -117,7 +159,7 @@ fn given(alloc: Global, graph: &Graph) -> Result<u64, Memory> {
 
 fn once(alloc: Global, task: &Task, machine: &Machine, graph: &Graph) -> Result<u64, Memory> {
     match task.what {
-        "keys" => given(alloc, graph),
+        "keys" | "fixed" | "scattered" => given(alloc, graph),
         "curve" => Ok(curve(alloc, task.count)?.len() as u64),
         _ => placed(alloc, machine, graph),
     }
@@ -208,8 +250,11 @@ def main():
             size = f"{count:,} vertices on {width * height:,} chips"
             show(program, f"place: {size}", 100, "crowded", count, width, height)
             show(program, f"place: {size}, the memory of half of them full", 100, "short", count, width, height)
+            show(program, f"place: {size}, every fourth a device", 100, "devices", count, width, height)
         for count in (1024, 2048, 4096):
             show(program, f"keys: {count:,} nets of mixed sizes", 500, "keys", count, 1, 1)
+            show(program, f"keys: {count:,} nets, half of them fixed, one behind the other", 500, "fixed", count, 1, 1)
+            show(program, f"keys: {count:,} nets, half of them fixed, in mixed order with holes", 500, "scattered", count, 1, 1)
 
 
 if __name__ == "__main__":

@@ -1,12 +1,13 @@
 -- What a plan of a graph on a machine is, and when compiling is refused (this project's own).
-use Rattle.std.specs.Prelude.{◌≡◌, ◌≢◌, ℕ, ◌*◌, ◌++◌, List, length, map, All, AllPairs, Result}
+use Rattle.std.specs.Prelude.{◌≡◌, ◌≢◌, ℕ, ◌*◌, ◌++◌, List, length, map, All, AllPairs, None, Result}
 use Rattle.std.specs.List.{AllZip}
 use Rattle.spin_base.specs.declared.blocks.Block.{Block}
 use Rattle.spin_base.specs.declared.blocks.Entry.{Entry}
 use Rattle.spin_base.specs.declared.chips.Chip.{Chip}
 use Rattle.spin_base.specs.declared.chips.Spot.{Spot}
 use Rattle.machine_desc.specs.Description.{Description}
-use Rattle.machine_desc.specs.Live.{IsUsable}
+use Rattle.machine_desc.specs.Live.{IsUsable, IsSite}
+use Rattle.app_graph.specs.declared.graphs.Vertex.{Vertex}
 use Rattle.app_graph.specs.declared.graphs.Graph.{Graph}
 use Rattle.net_tables.specs.declared.nets.NetPlan.{NetPlan}
 use Rattle.net_tables.specs.NetsOn.{AreNetsOn}
@@ -54,14 +55,15 @@ pub record IsRefusedWhere (m : Description) (graph : Graph) (result : Result Pla
   pub keys_out : (net : ℕ) → HasPlacement m graph → AreKeysOut graph.nets net → IsRefusedBy result (KeysOut net) Memory
   pub cut_off : (net : ℕ) (target : Chip) → HasCutOff m graph net target → IsRefusedBy result (CutOff net target) Memory
 
--- What a plan of a graph on a machine is. Each vertex stands on the first chip with room, each net has the least free
--- aligned range of keys, its targets, the tree that grew, and its tree with the detours round what is dead; each chip has
+-- What a plan of a graph on a machine is. Each vertex stands on the first chip with room, or at its link where it is a
+-- device; each net has its fixed block or the least free aligned range of keys, its targets, the tree that grew, and its tree with the detours round what is dead; each chip has
 -- its plain table. With that the tables are right for the nets, also where other entries follow their rows, and the nets
 -- stand on the machine.
 pub record IsPlanOf (m : Description) (graph : Graph) (plan : Plan) : Type 0 where
   pub placed : IsPlacement m graph.vertices plan.placement.spots plan.placement.memory
   pub different : AllPairs (λ a b. a ≢ b) plan.placement.spots
-  pub usable : All (IsUsable m) plan.placement.spots
+  pub sites : All (IsSite m) plan.placement.spots
+  pub cores : AllZip (λ (v : Vertex) s. v.device ≡ None → IsUsable m s) graph.vertices plan.placement.spots
   pub blocks : AreRightBlocks graph.nets (blocks_of plan.nets)
   pub enough : AllZip HasKeys graph.nets (blocks_of plan.nets)
   pub nets : ArePlanned m plan.placement.spots graph.nets (blocks_of plan.nets) plan.grown plan.nets

@@ -30,6 +30,7 @@ fn vertex(alloc: Global, x: u8) -> Result<Vertex, Memory>
         name: Name::of(alloc, "v")?,
         sdram: 0,
         at: Some(Chip { x, y: 0 }),
+        device: None,
     })
 }
 
@@ -55,6 +56,7 @@ fn net(alloc: Global, keys: u64) -> Result<Net, Memory>
         source: 0,
         targets: Seq::from_vec(Vec::from_slice(alloc, &[1, 2, 1])?),
         keys,
+        fixed: None,
     })
 }
 
