@@ -15,16 +15,23 @@ import sys
 ROOT = os.path.dirname(os.path.dirname(os.path.realpath(__file__)))
 
 # Faults that depend on another member, so that no schema can say them.
-BEYOND = re.compile(r"bad job: range job\.(machine\.dead_(chips|cores|links)\[\d+\]|run\.packets\[\d+\]\.index)$")
+BEYOND = re.compile(r"bad job: range job\.(machine\.dead_(chips|cores|links)\[\d+\]|run\.packets\[\d+\]\.index|graph\.nets\[\d+\]\.fixed)$")
+
+MASKS = [2**32 - 2**zeros for zeros in range(33)]
 
 
-def is_in_grid_of_64(job, line):
-    """Whether a dead part or an index is refused only for the size of the grid or for its net's keys."""
+def is_beyond_a_schema(job, line):
+    """Whether a dead part is refused only for the size of the grid, an index or a block only for its net's keys, or a block for
+    a key outside its mask."""
     found = re.search(r"(dead_\w+)\[(\d+)\]", line)
     if found:
         entry = job["machine"][found[1]][int(found[2])]
         top = {"dead_chips": (63, 63), "dead_cores": (63, 63, 17), "dead_links": (63, 63, 5)}[found[1]]
         return all(0 <= it <= most for it, most in zip(entry, top))
+    found = re.search(r"nets\[(\d+)\]\.fixed", line)
+    if found:
+        key, mask = job["graph"]["nets"][int(found[1])]["fixed"]
+        return key <= 4294967295 and mask in MASKS
     found = re.search(r"packets\[(\d+)\]", line)
     return job["run"]["packets"][int(found[1])]["index"] <= 4294967295
 
@@ -63,7 +70,7 @@ def main():
         if not line or not line.startswith("bad job: "):
             wanted = True
         elif line.startswith(("bad job: shape", "bad job: range")) and not has_odd_number(text):
-            if BEYOND.search(line) and is_in_grid_of_64(job, line):
+            if BEYOND.search(line) and is_beyond_a_schema(job, line):
                 continue
             wanted = False
         else:

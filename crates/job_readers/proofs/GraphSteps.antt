@@ -1,43 +1,99 @@
--- The two parts of a graph together.
-use Rattle.std.proofs.Common.{◌≡◌, ℕ, List, [], ◌∷◌, ◌++◌, map, codes, refl, ap, subst, sym, ◌∙◌}
+-- What vertices and nets so far have, and that the next one has nothing of it.
+use Rattle.std.proofs.Common.{◌≡◌, ℕ, zero, suc, ◌<◌, ◌^◌, List, [], ◌∷◌, ◌++◌, length, map, get_or, Bool, true, false, true≢false, ◌||◌, Option, Some, None, refl, ap, subst, sym, ◌∙◌, arith}
+use Rattle.std.specs.Prelude.{IfSome, AllPairs, option_to_list, bit_and}
+use Rattle.std.specs.List.{list_any, flat_map}
+use Rattle.std.proofs.lemmas.Bool.{eq-eqb, or_left, or_right}
+use Rattle.std.proofs.lemmas.List.{map_push, flat_map_more}
+use Rattle.std.proofs.lemmas.List.Folds.{list_any-append}
+use Rattle.std.proofs.lemmas.List.Quantifiers.{all_pairs_push}
 use Rattle.serde_json.specs.Data.{Data}
+use Rattle.spin_base.specs.declared.blocks.Block.{Block}
+use Rattle.spin_base.proofs.Equality.{chip_eq_same, dir_eq_same}
+use Rattle.machine_desc.specs.declared.trees.Edge.{Edge}
+use Rattle.machine_desc.specs.Equality.{edge_eq}
 use Rattle.app_graph.specs.declared.graphs.Vertex.{Vertex}
 use Rattle.app_graph.specs.declared.graphs.Net.{Net}
-use Rattle.app_graph.specs.declared.graphs.Graph.{Graph}
+use Rattle.app_graph.specs.ValidGraph.{HaveDifferentDevices, AreFixedApart, AreApart}
+use Rattle.tern_word.proofs.BlockLaws.{agree_where_meet}
 use Rattle.job_text.specs.declared.faults.JobFault.{JobFault}
-use Rattle.job_text.specs.declared.faults.TextErr.{TextErr}
-use Rattle.job_text.specs.Reading.{Fails}
-use Rattle.job_readers.specs.Members.{list_member}
-use Rattle.job_readers.specs.GraphPart.{name_of, names_of, vertex_value, vertices_faults, vertices_value, nets_faults, nets_value, vertex_names, graph_members_faults, graph_members}
-use Rattle.job_readers.proofs.Firsts.{fails_before, fails_later}
+use Rattle.job_readers.specs.Blocks.{shares_key}
+use Rattle.job_readers.specs.Hung.{is_among}
+use Rattle.job_readers.specs.GraphPart.{name_of, vertex_faults, vertex_value, next_vertex_faults, vertex_names_of, devices_of, net_faults, net_value, next_net_faults, net_names, blocks_of}
 
-abbrev pub names_in : List Vertex → List (List ℕ)
-names_in vertices = map (λ (v : Vertex). v.name) vertices
+-- what one of the items has, is among what all have
+listed_any : {X A : Type 0} (f : X → Option A) (p : A → Bool) (xs : List X) (k : ℕ) (d : X) (a : A) → k < length xs → f (get_or xs k d) ≡ Some a → p a ≡ true → list_any p (flat_map (λ x. option_to_list (f x)) xs) ≡ true
+listed_any f p [] k d a below is holds = absurd (omega arith)
+listed_any f p (x ∷ xs) zero d a below is holds =
+    list_any-append p (option_to_list (f x)) (flat_map (λ y. option_to_list (f y)) xs)
+    ∙ or_left (list_any p (option_to_list (f x))) (list_any p (flat_map (λ y. option_to_list (f y)) xs)) (ap (λ o. list_any p (option_to_list o)) is ∙ or_left (p a) false holds)
+listed_any f p (x ∷ xs) (suc k) d a below is holds =
+    list_any-append p (option_to_list (f x)) (flat_map (λ y. option_to_list (f y)) xs)
+    ∙ or_right (list_any p (option_to_list (f x))) (list_any p (flat_map (λ y. option_to_list (f y)) xs)) (listed_any f p xs k d a (omega arith) is holds)
 
-names_in-values : (ds : List Data) → names_in (map vertex_value ds) ≡ names_of ds
+-- ---- vertices
+
+edge_eq_same : (e : Edge) → edge_eq e e ≡ true
+edge_eq_same e = rw (chip_eq_same e.chip, dir_eq_same e.dir) refl
+
+pub next_vertex : (version : ℕ) (names : List (List ℕ)) (devices : List Edge) (vs : List Vertex) (at : List ℕ) (d : Data) → names ≡ vertex_names_of vs → devices ≡ devices_of vs → vertex_faults version names devices at d ≡ next_vertex_faults version vs at d
+next_vertex version names devices vs at d named hung = rw (named, hung) refl
+
+pub vertex_name : (version : ℕ) (d : Data) → (vertex_value version d).name ≡ name_of d
 unfolding vertex_value
-names_in-values [] = refl
-names_in-values (d ∷ ds) = ap (λ names. name_of d ∷ names) (names_in-values ds)
+vertex_name version d = refl
 
--- the vertices that were read have the names that the graph lists
-names_in-read : (d : Data) (vs us : List Vertex) → vs ≡ vertices_value d → us ≡ vs → names_in us ≡ vertex_names d
-unfolding vertices_value vertex_names
-names_in-read d vs us read same =
-    ap names_in (same ∙ read) ∙ names_in-values (list_member (codes "vertices") d)
+pub names_more : (vs new : List Vertex) (v : Vertex) (names more : List (List ℕ)) (s : List ℕ) → new ≡ vs ++ v ∷ [] → names ≡ vertex_names_of vs → more ≡ names ++ s ∷ [] → s ≡ v.name → more ≡ vertex_names_of new
+unfolding vertex_names_of
+names_more vs new v names more s pushed named said same = said ∙ rw (named, same, pushed, map_push) refl
 
-pub graph-first : (e : TextErr) (path : List ℕ) (d : Data) → Fails e (vertices_faults path d) → Fails e (graph_members_faults path d)
-unfolding graph_members_faults
-graph-first e path d bad = fails_before e (vertices_faults path d) (nets_faults (vertex_names d) path d) bad
+pub devices_more : (vs new : List Vertex) (v : Vertex) (devices more : List Edge) → new ≡ vs ++ v ∷ [] → devices ≡ devices_of vs → more ≡ devices ++ option_to_list v.device → more ≡ devices_of new
+unfolding devices_of
+devices_more vs new v devices more pushed hung added =
+    added ∙ ap (λ l. l ++ option_to_list v.device) hung ∙ flat_map_more (λ (w : Vertex). option_to_list w.device) [] vs v ∙ ap (flat_map (λ (w : Vertex). option_to_list w.device)) (sym pushed)
 
-pub graph-second : (e : TextErr) (path : List ℕ) (d : Data) (vs us : List Vertex) → vertices_faults path d ≡ [] → vs ≡ vertices_value d → us ≡ vs → Fails e (nets_faults (names_in us) path d) → Fails e (graph_members_faults path d)
-unfolding graph_members_faults
-graph-second e path d vs us none read same bad =
-    fails_later e (vertices_faults path d) (nets_faults (vertex_names d) path d) none (subst (λ names. Fails e (nets_faults names path d)) (names_in-read d vs us read same) bad)
+-- a vertex whose device is none of those before differs from each of them
+differs : (vs : List Vertex) (v : Vertex) → IfSome v.device (λ e. is_among (devices_of vs) e ≡ false) → (k : ℕ) (d : Vertex) → k < length vs → HaveDifferentDevices (get_or vs k d) v
+unfolding devices_of is_among
+differs vs v fresh k d below e mine its =
+    let absent : is_among (devices_of vs) e ≡ false = subst (λ o. IfSome o (λ b. is_among (devices_of vs) b ≡ false)) its fresh in
+    true≢false (sym (listed_any (λ (w : Vertex). w.device) (λ f. edge_eq f e) vs k d e below mine (edge_eq_same e)) ∙ absent)
 
-pub graph-read : (path : List ℕ) (d : Data) (vs us : List Vertex) (ns : List Net) → vertices_faults path d ≡ [] → vs ≡ vertices_value d → us ≡ vs → nets_faults (names_in us) path d ≡ [] → ns ≡ nets_value (names_in us) d → (graph_members_faults path d ≡ []) × (◌≡◌ {A = Graph} (record { vertices = vs; nets = ns }) (graph_members d))
-unfolding graph_members_faults graph_members
-graph-read path d vs us ns none read same fine made =
-    let names = names_in-read d vs us read same in
-    let clear : nets_faults (vertex_names d) path d ≡ [] = ap (λ l. nets_faults l path d) (sym names) ∙ fine in
-    let nets : ns ≡ nets_value (vertex_names d) d = made ∙ ap (λ l. nets_value l d) names in
-    (rw (none, clear) refl, rw (read, nets) refl)
+pub different_more : (vs new : List Vertex) (v : Vertex) (devices : List Edge) → new ≡ vs ++ v ∷ [] → devices ≡ devices_of vs → IfSome v.device (λ e. is_among devices e ≡ false) → AllPairs HaveDifferentDevices vs → AllPairs HaveDifferentDevices new
+different_more vs new v devices pushed hung fresh pairs =
+    subst (AllPairs HaveDifferentDevices) (sym pushed)
+    (all_pairs_push HaveDifferentDevices vs v pairs (differs vs v (subst (λ l. IfSome v.device (λ e. is_among l e ≡ false)) hung fresh)))
+
+-- ---- nets
+
+pub next_net : (version : ℕ) (vertices : List Vertex) (names : List (List ℕ)) (blocks : List Block) (ns : List Net) (at : List ℕ) (d : Data) → names ≡ net_names ns → blocks ≡ blocks_of ns → net_faults version vertices names blocks at d ≡ next_net_faults version vertices ns at d
+next_net version vertices names blocks ns at d named fixed = rw (named, fixed) refl
+
+pub net_name : (version : ℕ) (vertices : List Vertex) (d : Data) → (net_value version vertices d).name ≡ name_of d
+unfolding net_value
+net_name version vertices d = refl
+
+pub net_names_more : (ns new : List Net) (n : Net) (names more : List (List ℕ)) (s : List ℕ) → new ≡ ns ++ n ∷ [] → names ≡ net_names ns → more ≡ names ++ s ∷ [] → s ≡ n.name → more ≡ net_names new
+unfolding net_names
+net_names_more ns new n names more s pushed named said same = said ∙ rw (named, same, pushed, map_push) refl
+
+pub blocks_more : (ns new : List Net) (n : Net) (blocks more : List Block) → new ≡ ns ++ n ∷ [] → blocks ≡ blocks_of ns → more ≡ blocks ++ option_to_list n.fixed → more ≡ blocks_of new
+unfolding blocks_of
+blocks_more ns new n blocks more pushed fixed added =
+    added ∙ ap (λ l. l ++ option_to_list n.fixed) fixed ∙ flat_map_more (λ (m : Net). option_to_list m.fixed) [] ns n ∙ ap (flat_map (λ (m : Net). option_to_list m.fixed)) (sym pushed)
+
+-- blocks that do not agree on the bits for which both care have no key together
+apart : (a b : Block) (key : ℕ) → key < 2 ^ 32 → bit_and key a.mask ≡ a.key → bit_and key b.mask ≡ b.key → shares_key b a ≡ true
+apart a b key small mine its = eq-eqb _ _ (agree_where_meet b a (record { key = key; small = small; first = its; second = mine }))
+
+apart_from : (ns : List Net) (k : ℕ) (d : Net) (o p : Option Block) → k < length ns → (get_or ns k d).fixed ≡ o → IfSome p (λ b. list_any (shares_key b) (blocks_of ns) ≡ false) → IfSome o (λ a. IfSome p (AreApart a))
+unfolding blocks_of
+apart_from ns k d None p below is fresh = tt
+apart_from ns k d (Some a) None below is fresh = tt
+apart_from ns k d (Some a) (Some b) below is fresh = λ key small mine its.
+    true≢false (sym (listed_any (λ (m : Net). m.fixed) (shares_key b) ns k d a below is (apart a b key small mine its)) ∙ fresh)
+
+pub apart_more : (ns new : List Net) (n : Net) (blocks : List Block) → new ≡ ns ++ n ∷ [] → blocks ≡ blocks_of ns → IfSome n.fixed (λ b. list_any (shares_key b) blocks ≡ false) → AllPairs AreFixedApart ns → AllPairs AreFixedApart new
+apart_more ns new n blocks pushed fixed fresh pairs =
+    let free : IfSome n.fixed (λ b. list_any (shares_key b) (blocks_of ns) ≡ false) = subst (λ l. IfSome n.fixed (λ b. list_any (shares_key b) l ≡ false)) fixed fresh in
+    subst (AllPairs AreFixedApart) (sym pushed)
+    (all_pairs_push AreFixedApart ns n pairs (λ k d below. apart_from ns k d (get_or ns k d).fixed n.fixed below refl free))

@@ -1,8 +1,9 @@
 mod Firsts
 mod ItemSteps
-mod NamedSteps
+mod FollowingSteps
 mod EntryLengths
 mod PlaceSteps
+mod BlockSteps
 mod GraphSteps
 mod RunSteps
 mod Parts

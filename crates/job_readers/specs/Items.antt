@@ -9,8 +9,8 @@ unfoldable pub items_faults : (List ℕ → Data → List JobFault) → List ℕ
 items_faults f path i [] = []
 items_faults f path i (d ∷ ds) = f (item_at path i) d ++ items_faults f path (i + 1) ds
 
--- The same of items with names: the faults of each may depend on the names of those before it.
-unfoldable pub named_faults : (List (List ℕ) → List ℕ → Data → List JobFault) → (Data → List ℕ) → List (List ℕ) → List ℕ → ℕ → List Data → List JobFault
-named_faults f name before path i [] = []
-named_faults f name before path i (d ∷ ds) =
-    f before (item_at path i) d ++ named_faults f name (before ++ name d ∷ []) path (i + 1) ds
+-- The same where the faults of each item may depend on what the items before it are.
+unfoldable pub following_faults : {A : Type 0} → (List A → List ℕ → Data → List JobFault) → (Data → A) → List A → List ℕ → ℕ → List Data → List JobFault
+following_faults f value before path i [] = []
+following_faults f value before path i (d ∷ ds) =
+    f before (item_at path i) d ++ following_faults f value (before ++ value d ∷ []) path (i + 1) ds

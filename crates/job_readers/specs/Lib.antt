@@ -1,5 +1,6 @@
 pub use Rattle.spin_base.specs.Outputs
 pub use Rattle.machine_desc.specs.Live
+pub use Rattle.machine_desc.specs.Equality
 pub use Rattle.app_graph.specs.ValidGraph
 pub use Rattle.job_text.specs.Fields
 pub use Rattle.job_text.specs.Reading
@@ -8,6 +9,9 @@ pub mod Indexed
 pub mod Items
 pub mod Members
 pub mod Entries
+pub mod Blocks
+pub mod Hung
+pub mod Listed
 pub mod MachinePart
 pub mod GraphPart
 pub mod RunPart

@@ -1,5 +1,5 @@
 -- The faults and values of members of an object.
-use Rattle.std.specs.Prelude.{ℕ, List, ◌++◌, length, Bool, Option, Some, None, option_map}
+use Rattle.std.specs.Prelude.{ℕ, List, ◌++◌, length, Bool, nat_le, if◌then◌else◌, Option, Some, None, option_map}
 use Rattle.serde_json.specs.Data.{Data}
 use Rattle.job_text.specs.declared.faults.JobFault.{JobFault}
 use Rattle.job_text.specs.Members.{member_of}
@@ -36,3 +36,7 @@ long_list_member_faults path name needed d = list_faults (member_at path name) n
 
 unfoldable pub list_member : List ℕ → Data → List Data
 list_member name d = list_value (member_of name d)
+
+-- A member that is read from a version on. Below that version it counts as absent, whatever it is.
+unfoldable pub member_since : ℕ → List ℕ → ℕ → Data → Option Data
+member_since since name version d = if nat_le since version then member_of name d else None

@@ -1,8 +1,8 @@
 -- Names, and the places at which they stand in a list (this project's own).
-use Rattle.std.specs.Prelude.{ℕ, ◌+◌, List, [], ◌∷◌, Option, Some, None, option_map, unwrap_or, if◌then◌else◌, bytes_eq}
+use Rattle.std.specs.Prelude.{ℕ, ◌+◌, List, [], ◌∷◌, Bool, true, false, Option, Some, None, option_map, unwrap_or, if◌then◌else◌, bytes_eq}
 use Rattle.serde_json.specs.Data.{Data}
 use Rattle.job_text.specs.declared.faults.JobFault.{JobFault}
-use Rattle.job_text.specs.declared.faults.JobFault.TheVariants.{UnknownName, DoubleName}
+use Rattle.job_text.specs.declared.faults.JobFault.TheVariants.{UnknownName, DoubleName, Clash}
 use Rattle.job_text.specs.Reading.{◌▹◌}
 use Rattle.job_text.specs.Fields.{text_faults, text_value}
 
@@ -20,6 +20,11 @@ unknown_faults path (Some i) = []
 abbrev pub double_faults : List ℕ → Option ℕ → List JobFault
 double_faults path None = []
 double_faults path (Some i) = DoubleName path ∷ []
+
+-- Clash where the test holds
+abbrev pub clash_if : Bool → List ℕ → List JobFault
+clash_if false path = []
+clash_if true path = Clash path ∷ []
 
 -- A text that refers to one of the names. It is read as a name first.
 unfoldable pub reference_faults : List (List ℕ) → List ℕ → Option Data → List JobFault

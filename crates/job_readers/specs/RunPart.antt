@@ -30,12 +30,9 @@ use Rattle.job_readers.specs.Items.{items_faults}
 use Rattle.job_readers.specs.Places.{place_in, unknown_faults, reference_faults, reference_value}
 use Rattle.job_readers.specs.Members.{number_member_faults, number_member, optional_number, list_member_faults, long_list_member_faults, list_member}
 use Rattle.job_readers.specs.Entries.{chip_at, link_of}
+use Rattle.job_readers.specs.GraphPart.{vertex_names_of, net_names}
 
 -- ---- packets
-
--- the names of nets
-unfoldable pub net_names : List Net → List (List ℕ)
-net_names nets = map (λ (n : Net). n.name) nets
 
 unfoldable pub packet_net_faults : List Net → List ℕ → Data → List JobFault
 packet_net_faults nets path d = reference_faults (net_names nets) (member_at path (codes "net")) (member_of (codes "net") d)
@@ -186,9 +183,6 @@ event_faults vertices path d = headed_faults vertices path (head_word (items_in 
 unfoldable pub event_value : List (List ℕ) → Data → Event
 event_value vertices d = worded_event vertices (unwrap_or (head_word (items_in d)) []) (after_head (items_in d))
 
-unfoldable pub vertex_names_of : List Vertex → List (List ℕ)
-vertex_names_of vertices = map (λ (v : Vertex). v.name) vertices
-
 unfoldable pub events_faults : List Vertex → List ℕ → Data → List JobFault
 events_faults vertices path d =
     long_list_member_faults path (codes "events") false d
@@ -232,10 +226,10 @@ abbrev pub optional_object_faults : List ℕ → Option Data → List JobFault
 optional_object_faults path None = []
 optional_object_faults path (Some d) = shape_unless (is_object d) path
 
-unfoldable pub run_faults : Description → Graph → Data → List JobFault
-run_faults machine graph job =
-    optional_object_faults (codes "job.run") (member_of (codes "run") job)
-    ▹ run_members_faults (live_count_of machine) graph (codes "job.run") (object_value (member_of (codes "run") job))
+unfoldable pub run_faults : List ℕ → Description → Graph → Data → List JobFault
+run_faults path machine graph job =
+    optional_object_faults (member_at path (codes "run")) (member_of (codes "run") job)
+    ▹ run_members_faults (live_count_of machine) graph (member_at path (codes "run")) (object_value (member_of (codes "run") job))
 
 unfoldable pub run_value : Graph → Data → RunPart
 run_value graph job = run_members graph (object_value (member_of (codes "run") job))

@@ -6,7 +6,7 @@ ghost use Rattle.job_text.specs.Reading.{Gives};
 ghost use Rattle.app_graph.specs.ValidGraph.{IsValidGraph};
 ghost use Rattle.app_graph.specs.RunPart.{IsEventOf};
 ghost use Rattle.job_readers.specs.Items.{items_faults};
-ghost use Rattle.job_readers.specs.RunPart.{link_named, core_named, port_named, out_named, one_text, chip_and_text, items_in, at_vertex_faults, at_vertex, at_chip_faults, chip_of_event, port_of_event, out_of_event, worded_faults, worded_event, event_faults, event_value, vertex_names_of, events_faults, events_value};
+ghost use Rattle.job_readers.specs.RunPart.{link_named, core_named, port_named, out_named, one_text, chip_and_text, items_in, at_vertex_faults, at_vertex, at_chip_faults, chip_of_event, port_of_event, out_of_event, worded_faults, worded_event, event_faults, event_value, events_faults, events_value};
 
 use crate::graph_parts::names_of_vertices;
 use crate::members::long_list_of;
@@ -256,7 +256,7 @@ fn each_event(
 }
 
 // The events of a run part.
-#[tactic(auto, using(crate::proofs::Firsts::firsts), unfolding(crate::specs::RunPart::events_faults, crate::specs::RunPart::events_value, crate::specs::RunPart::vertex_names_of))]
+#[tactic(auto, using(crate::proofs::Firsts::firsts), unfolding(crate::specs::RunPart::events_faults, crate::specs::RunPart::events_value, crate::specs::GraphPart::vertex_names_of))]
 pub(crate) fn events(
     alloc: Global,
     run: &Value,

@@ -1,23 +1,33 @@
 // Reads the graph of a job.
-ghost use Rattle.std.specs.Prelude.{◌≡◌, ◌<◌, ◌≤◌, length, map, codes, option_map, [], IfOk, All};
+ghost use Rattle.std.specs.Prelude.{◌≡◌, ◌<◌, ◌≤◌, false, length, map, option_map, [], IfOk, IfSome, Some, None, All, AllPairs, slice_get};
+ghost use Rattle.std.specs.List.{list_any};
 ghost use Rattle.serde_json.specs.View.{view};
 ghost use Rattle.job_text.specs.Reading.{Gives, ◌▹◌};
 ghost use Rattle.job_text.specs.Fields.{list_value};
-ghost use Rattle.job_text.specs.Members.{member_of};
-ghost use Rattle.app_graph.specs.ValidGraph.{IsValidVertex, IsValidNet, IsValidGraph};
-ghost use Rattle.job_readers.specs.Items.{items_faults, named_faults};
-ghost use Rattle.job_readers.specs.Members.{list_member};
+ghost use Rattle.app_graph.specs.declared.graphs.Vertex.{Vertex};
+ghost use Rattle.app_graph.specs.ValidGraph.{IsValidVertex, IsValidNet, IsValidGraph, IsFixedFor, AreFixedApart, HaveDifferentDevices, HasSendingSource};
+ghost use Rattle.job_readers.specs.Items.{items_faults, following_faults};
+ghost use Rattle.job_readers.specs.Blocks.{shares_key};
+ghost use Rattle.job_readers.specs.Hung.{is_among};
 ghost use Rattle.job_readers.specs.Job.{own_faults};
-ghost use Rattle.job_readers.specs.GraphPart.{name_of, names_of, name_faults, at_faults, at_value, vertex_faults, vertex_value, vertices_faults, vertices_value, source_faults, source_value, target_faults, target_value, some_faults, targets_faults, targets_value, net_faults, net_value, nets_faults, nets_value, vertex_names, graph_members_faults, graph_members, graph_faults, graph_value};
+ghost use Rattle.job_readers.specs.GraphPart.{name_of, name_faults, at_faults, at_value, device_faults, device_value, vertex_faults, vertex_value, next_vertex_faults, vertices_faults, vertices_value, vertex_names_of, sender_in, source_faults, source_value, target_faults, target_value, some_faults, targets_faults, targets_value, fixed_faults, fixed_value, net_faults, net_value, next_net_faults, nets_faults, nets_value, graph_members_faults, graph_members, graph_faults, graph_value};
 
-use crate::entries::pair;
-use crate::members::{list_of, number_of};
-use crate::names::{Names, new_name, reference, said_name};
+use crate::blocks::{block_for, meets_any, put_behind};
+use crate::devices::Devices;
+use crate::entries::{chip_in, link_in, pair};
+use crate::members::{list_of, member_from, number_of};
+use crate::names::{Names, clash, new_name, reference, said_name, unknown};
 use app_graph::{Graph, Net, Vertex};
-use job_text::{TextErr, field, item_path, list, member, member_path, object, range, shape};
+use job_text::{
+    TextErr, field, item_path, list, member, member_path, object, range, shape, text_in,
+};
+use machine_desc::Edge;
 use serde_json::Value;
-use spin_base::{Chip, Memory, Name, Seq};
+use spin_base::{Block, Chip, Memory, Name, Seq};
 use std::alloc::Global;
+
+/// A side of the greatest grid.
+const GRID: u8 = 64;
 
 /// Bytes of shared memory of a chip (SpiNNaker datasheet).
 const CHIP_MEMORY: u64 = 134217728;
@@ -50,67 +60,130 @@ fn vertex_place(alloc: Global, item: &Value, path: &Name) -> Result<Option<Chip>
     let Some(at) = member(item, "at") else {
         return Ok(None);
     };
-    let Some((x, y)) = pair(at) else {
-        return Err(shape(alloc, &path));
+    Ok(Some(chip_in(alloc, at, &path, GRID, GRID)?))
+}
+
+// The device that a vertex is, which no vertex before it is.
+#[tactic(auto, using(crate::proofs::Firsts::firsts), unfolding(crate::specs::GraphPart::device_faults, crate::specs::GraphPart::device_value))]
+fn vertex_device(
+    alloc: Global,
+    item: &Value,
+    path: &Name,
+    version: u32,
+    before: &Devices,
+) -> Result<Option<Edge>, TextErr>
+    ensures read { Gives (λ e. e) result (device_faults version before.now path.now (view item.now)) (device_value version (view item.now)) }
+    ensures fresh { IfOk result (λ o. IfSome o (λ e. is_among before.now e ≡ false)) }
+{
+    let path = member_path(alloc, path, "device")?;
+    let Some(found) = member_from(item, "device", 3, version) else {
+        return Ok(None);
     };
-    if x > 63 {
-        return Err(range(alloc, &path));
+    let device = link_in(alloc, found, &path, GRID, GRID)?;
+    if before.has(device) {
+        return Err(clash(alloc, &path));
     }
-    if y > 63 {
-        return Err(range(alloc, &path));
-    }
-    Ok(Some(Chip {
-        x: x as u8,
-        y: y as u8,
-    }))
+    Ok(Some(device))
 }
 
 #[tactic(auto, using(crate::proofs::Firsts::firsts), unfolding(crate::specs::GraphPart::vertex_faults, crate::specs::GraphPart::vertex_value))]
-fn vertex(alloc: Global, item: &Value, path: &Name, before: &Names) -> Result<Vertex, TextErr>
-    ensures read { Gives (λ v. v) result (vertex_faults before.now path.now (view item.now)) (vertex_value (view item.now)) }
+fn vertex(
+    alloc: Global,
+    item: &Value,
+    path: &Name,
+    version: u32,
+    names: &Names,
+    devices: &Devices,
+) -> Result<Vertex, TextErr>
+    ensures read { Gives (λ v. v) result (vertex_faults version names.now devices.now path.now (view item.now)) (vertex_value version (view item.now)) }
     ensures valid { IfOk result IsValidVertex }
+    ensures fresh { IfOk result (λ v. IfSome v.device (λ e. is_among devices.now e ≡ false)) }
 {
     let item = object(alloc, Some(item), path)?;
-    let name = item_name(alloc, item, path, before)?;
+    let name = item_name(alloc, item, path, names)?;
     let sdram = number_of(alloc, item, path, "sdram", 0, CHIP_MEMORY, Some(0))? as u32;
     let at = vertex_place(alloc, item, path)?;
-    Ok(Vertex { name, sdram, at })
+    let device = vertex_device(alloc, item, path, version, devices)?;
+    Ok(Vertex {
+        name,
+        sdram,
+        at,
+        device,
+    })
 }
 
-fn each_vertex(alloc: Global, items: &[Value], path: &Name) -> Result<Seq<Vertex>, TextErr>
+#[tactic(auto, unfolding(crate::specs::GraphPart::vertex_names_of, crate::specs::GraphPart::devices_of))]
+fn each_vertex(
+    alloc: Global,
+    items: &[Value],
+    path: &Name,
+    version: u32,
+) -> Result<Seq<Vertex>, TextErr>
     requires { length items.now ≤ 16384 }
-    ensures read { Gives (λ v. v) result (named_faults vertex_faults name_of [] path.now 0 (map view items.now)) (map vertex_value (map view items.now)) }
+    ensures read { Gives (λ v. v) result (following_faults (next_vertex_faults version) (vertex_value version) [] path.now 0 (map view items.now)) (map (vertex_value version) (map view items.now)) }
     ensures valid { IfOk result (λ vs. All IsValidVertex vs) }
+    ensures devices { IfOk result (λ vs. AllPairs HaveDifferentDevices vs) }
 {
     let mut names = Names::new(alloc);
+    let mut devices = Devices::new(alloc);
     let mut vertices = Seq::new(alloc);
     for (i, item) in items.iter().enumerate() {
         let path = item_path(alloc, path, i as u64)?;
-        let vertex = vertex(alloc, item, &path, &names)?;
+        let vertex = vertex(alloc, item, &path, version, &names, &devices)?;
         names = names.with(said_name(item))?;
+        devices = devices.and(vertex.device)?;
         vertices.push(vertex)?;
     }
     Ok(vertices)
 }
 
 #[tactic(auto, using(crate::proofs::Firsts::firsts), unfolding(crate::specs::GraphPart::vertices_faults, crate::specs::GraphPart::vertices_value))]
-fn vertices(alloc: Global, graph: &Value, path: &Name) -> Result<Seq<Vertex>, TextErr>
-    ensures read { Gives (λ v. v) result (vertices_faults path.now (view graph.now)) (vertices_value (view graph.now)) }
+fn vertices(alloc: Global, graph: &Value, path: &Name, version: u32) -> Result<Seq<Vertex>, TextErr>
+    ensures read { Gives (λ v. v) result (vertices_faults version path.now (view graph.now)) (vertices_value version (view graph.now)) }
     ensures valid { IfOk result (λ vs. All IsValidVertex vs) }
+    ensures devices { IfOk result (λ vs. AllPairs HaveDifferentDevices vs) }
     ensures few { IfOk result (λ vs. length vs ≤ 16384) }
 {
     let items = list_of(alloc, graph, path, "vertices", true, MOST_VERTICES)?;
     let path = member_path(alloc, path, "vertices")?;
-    each_vertex(alloc, items, &path)
+    each_vertex(alloc, items, &path, version)
 }
 
-#[tactic(auto, unfolding(crate::specs::GraphPart::source_faults, crate::specs::GraphPart::source_value))]
-fn source(alloc: Global, item: &Value, path: &Name, vertices: &Names) -> Result<u32, TextErr>
+// The place of a vertex of that name, where it is no device.
+#[tactic(auto, using(crate::proofs::PlaceSteps::bounds), unfolding(crate::specs::GraphPart::sender_in, crate::specs::GraphPart::sender_at))]
+fn sender(said: &str, names: &Names, vertices: &Seq<Vertex>) -> Option<u32>
+    requires { names.now ≡ vertex_names_of vertices.now }
+    ensures found { result ≡ sender_in vertices.now said.now }
+    ensures below { IfSome result (λ i. i < length vertices.now) }
+    ensures sends { IfSome result (λ i. (v : Vertex) → slice_get vertices.now i ≡ Some v → v.device ≡ None) }
+{
+    let i = names.place(said)?;
+    match vertices.get(i as usize).device {
+        Some(_) => None,
+        None => Some(i),
+    }
+}
+
+// The vertex that a net starts from.
+#[tactic(auto, using(crate::proofs::Firsts::firsts), unfolding(crate::specs::GraphPart::source_faults, crate::specs::GraphPart::source_value))]
+fn source(
+    alloc: Global,
+    item: &Value,
+    path: &Name,
+    names: &Names,
+    vertices: &Seq<Vertex>,
+) -> Result<u32, TextErr>
+    requires { names.now ≡ vertex_names_of vertices.now }
     ensures read { Gives (λ i. i) result (source_faults vertices.now path.now (view item.now)) (source_value vertices.now (view item.now)) }
     ensures below { IfOk result (λ i. i < length vertices.now) }
+    ensures sends { IfOk result (λ i. (v : Vertex) → slice_get vertices.now i ≡ Some v → v.device ≡ None) }
 {
     let path = member_path(alloc, path, "source")?;
-    reference(alloc, member(item, "source"), &path, vertices)
+    let said = text_in(alloc, member(item, "source"), &path)?;
+    match sender(said, names, vertices) {
+        Some(i) => Ok(i),
+        None => Err(unknown(alloc, &path)),
+    }
 }
 
 #[tactic(auto, unfolding(crate::specs::GraphPart::target_faults, crate::specs::GraphPart::target_value))]
@@ -163,69 +236,130 @@ fn targets(alloc: Global, item: &Value, path: &Name, vertices: &Names) -> Result
     each_target(alloc, items, &path, vertices)
 }
 
-#[tactic(auto, using(crate::proofs::Firsts::firsts), unfolding(crate::specs::GraphPart::net_faults, crate::specs::GraphPart::net_value))]
+// The block that a net must have, which shares no key with those before it.
+#[tactic(auto, using(crate::proofs::Firsts::firsts), unfolding(crate::specs::GraphPart::fixed_faults, crate::specs::GraphPart::fixed_value))]
+fn fixed_block(
+    alloc: Global,
+    item: &Value,
+    path: &Name,
+    version: u32,
+    keys: u64,
+    before: &[Block],
+) -> Result<Option<Block>, TextErr>
+    ensures read { Gives (λ b. b) result (fixed_faults version before.now keys path.now (view item.now)) (fixed_value version (view item.now)) }
+    ensures fixed { IfOk result (λ o. IfSome o (IsFixedFor keys)) }
+    ensures fresh { IfOk result (λ o. IfSome o (λ b. list_any (shares_key b) before.now ≡ false)) }
+{
+    let path = member_path(alloc, path, "fixed")?;
+    let Some(found) = member_from(item, "fixed", 2, version) else {
+        return Ok(None);
+    };
+    let Some((key, mask)) = pair(found) else {
+        return Err(shape(alloc, &path));
+    };
+    let Some(block) = block_for(key, mask, keys) else {
+        return Err(range(alloc, &path));
+    };
+    if meets_any(block, before) {
+        return Err(clash(alloc, &path));
+    }
+    Ok(Some(block))
+}
+
+// The net that an item is, after nets with these names and blocks.
+#[tactic(auto, using(crate::proofs::Firsts::firsts), unfolding(crate::specs::GraphPart::net_faults, crate::specs::GraphPart::net_value, crate::specs::GraphPart::keys_value))]
 fn net(
     alloc: Global,
     item: &Value,
     path: &Name,
+    version: u32,
     before: &Names,
-    vertices: &Names,
+    blocks: &[Block],
+    names: &Names,
+    vertices: &Seq<Vertex>,
 ) -> Result<Net, TextErr>
-    ensures read { Gives (λ n. n) result (net_faults vertices.now before.now path.now (view item.now)) (net_value vertices.now (view item.now)) }
+    requires { names.now ≡ vertex_names_of vertices.now }
+    ensures read { Gives (λ n. n) result (net_faults version vertices.now before.now blocks.now path.now (view item.now)) (net_value version vertices.now (view item.now)) }
     ensures valid { IfOk result (IsValidNet (length vertices.now)) }
+    ensures sends { IfOk result (HasSendingSource vertices.now) }
+    ensures fresh { IfOk result (λ n. IfSome n.fixed (λ b. list_any (shares_key b) blocks.now ≡ false)) }
 {
     let item = object(alloc, Some(item), path)?;
     let name = item_name(alloc, item, path, before)?;
-    let source = source(alloc, item, path, vertices)?;
-    let targets = targets(alloc, item, path, vertices)?;
+    let source = source(alloc, item, path, names, vertices)?;
+    let targets = targets(alloc, item, path, names)?;
     let keys = number_of(alloc, item, path, "keys", 1, MOST_KEYS, Some(1))?;
+    let fixed = fixed_block(alloc, item, path, version, keys, blocks)?;
     Ok(Net {
         name,
         source,
         targets,
         keys,
+        fixed,
     })
 }
 
+#[tactic(auto, unfolding(crate::specs::GraphPart::net_names, crate::specs::GraphPart::blocks_of))]
 fn each_net(
     alloc: Global,
     items: &[Value],
     path: &Name,
-    vertices: &Names,
+    version: u32,
+    names: &Names,
+    vertices: &Seq<Vertex>,
 ) -> Result<Seq<Net>, TextErr>
-    requires { length items.now ≤ 4096 }
-    ensures read { Gives (λ n. n) result (named_faults (net_faults vertices.now) name_of [] path.now 0 (map view items.now)) (map (net_value vertices.now) (map view items.now)) }
+    requires few { length items.now ≤ 4096 }
+    requires named { names.now ≡ vertex_names_of vertices.now }
+    ensures read { Gives (λ n. n) result (following_faults (next_net_faults version vertices.now) (net_value version vertices.now) [] path.now 0 (map view items.now)) (map (net_value version vertices.now) (map view items.now)) }
     ensures valid { IfOk result (λ ns. All (IsValidNet (length vertices.now)) ns) }
+    ensures sources { IfOk result (λ ns. All (HasSendingSource vertices.now) ns) }
+    ensures fixed { IfOk result (λ ns. AllPairs AreFixedApart ns) }
 {
-    let mut names = Names::new(alloc);
+    let mut before = Names::new(alloc);
+    let mut blocks = Vec::new(alloc);
     let mut nets = Seq::new(alloc);
     for (i, item) in items.iter().enumerate() {
         let path = item_path(alloc, path, i as u64)?;
-        let net = net(alloc, item, &path, &names, vertices)?;
-        names = names.with(said_name(item))?;
+        let others = blocks.as_slice();
+        let net = net(
+            alloc, item, &path, version, &before, others, names, vertices,
+        )?;
+        before = before.with(said_name(item))?;
+        put_behind(&mut blocks, net.fixed)?;
         nets.push(net)?;
     }
     Ok(nets)
 }
 
 #[tactic(auto, using(crate::proofs::Firsts::firsts), unfolding(crate::specs::GraphPart::nets_faults, crate::specs::GraphPart::nets_value))]
-fn nets(alloc: Global, graph: &Value, path: &Name, vertices: &Names) -> Result<Seq<Net>, TextErr>
-    ensures read { Gives (λ n. n) result (nets_faults vertices.now path.now (view graph.now)) (nets_value vertices.now (view graph.now)) }
+fn nets(
+    alloc: Global,
+    graph: &Value,
+    path: &Name,
+    version: u32,
+    names: &Names,
+    vertices: &Seq<Vertex>,
+) -> Result<Seq<Net>, TextErr>
+    requires { names.now ≡ vertex_names_of vertices.now }
+    ensures read { Gives (λ n. n) result (nets_faults version vertices.now path.now (view graph.now)) (nets_value version vertices.now (view graph.now)) }
     ensures valid { IfOk result (λ ns. All (IsValidNet (length vertices.now)) ns) }
+    ensures sources { IfOk result (λ ns. All (HasSendingSource vertices.now) ns) }
+    ensures fixed { IfOk result (λ ns. AllPairs AreFixedApart ns) }
     ensures few { IfOk result (λ ns. length ns ≤ 4096) }
 {
     let items = list_of(alloc, graph, path, "nets", true, MOST_NETS)?;
     let path = member_path(alloc, path, "nets")?;
-    each_net(alloc, items, &path, vertices)
+    each_net(alloc, items, &path, version, names, vertices)
 }
 
 // The names of vertices.
+#[tactic(auto, unfolding(crate::specs::GraphPart::vertex_names_of))]
 pub(crate) fn names_of_vertices<'a>(
     alloc: Global,
     vertices: &'a [Vertex],
 ) -> Result<Names<'a>, Memory>
     requires { length vertices.now ≤ 16384 }
-    ensures { IfOk result (λ names. names ≡ map (λ v. v.name) vertices.now) }
+    ensures { IfOk result (λ names. names ≡ vertex_names_of vertices.now) }
 {
     let mut names = Names::new(alloc);
     for vertex in vertices {
@@ -239,39 +373,43 @@ fn nets_among(
     alloc: Global,
     graph: &Value,
     path: &Name,
-    vertices: &[Vertex],
+    version: u32,
+    vertices: &Seq<Vertex>,
 ) -> Result<Seq<Net>, TextErr>
     requires { length vertices.now ≤ 16384 }
-    ensures read { Gives (λ n. n) result (nets_faults (map (λ v. v.name) vertices.now) path.now (view graph.now)) (nets_value (map (λ v. v.name) vertices.now) (view graph.now)) }
+    ensures read { Gives (λ n. n) result (nets_faults version vertices.now path.now (view graph.now)) (nets_value version vertices.now (view graph.now)) }
     ensures valid { IfOk result (λ ns. All (IsValidNet (length vertices.now)) ns) }
+    ensures sources { IfOk result (λ ns. All (HasSendingSource vertices.now) ns) }
+    ensures fixed { IfOk result (λ ns. AllPairs AreFixedApart ns) }
     ensures few { IfOk result (λ ns. length ns ≤ 4096) }
 {
-    let names = names_of_vertices(alloc, vertices)?;
-    nets(alloc, graph, path, &names)
+    let names = names_of_vertices(alloc, vertices.as_slice())?;
+    nets(alloc, graph, path, version, &names, vertices)
 }
 
-fn graph_members(alloc: Global, graph: &Value, path: &Name) -> Result<Graph, TextErr>
-    ensures read { Gives (λ g. g) result (graph_members_faults path.now (view graph.now)) (graph_members (view graph.now)) }
+#[tactic(auto, using(crate::proofs::Firsts::firsts), unfolding(crate::specs::GraphPart::graph_members_faults, crate::specs::GraphPart::graph_members))]
+fn graph_members(alloc: Global, graph: &Value, path: &Name, version: u32) -> Result<Graph, TextErr>
+    ensures read { Gives (λ g. g) result (graph_members_faults version path.now (view graph.now)) (graph_members version (view graph.now)) }
     ensures valid { IfOk result IsValidGraph }
 {
-    let vertices = vertices(alloc, graph, path)?;
-    let nets = nets_among(alloc, graph, path, vertices.as_slice())?;
+    let vertices = vertices(alloc, graph, path, version)?;
+    let nets = nets_among(alloc, graph, path, version, &vertices)?;
     Ok(Graph { vertices, nets })
 }
 
-/// The graph of a job, which is valid.
+/// The graph of the job at a path, which is valid. The job's version says which members are read: `fixed` of a net from
+/// version 2 on, `device` of a vertex from version 3 on.
 ///
 /// # Errors
 ///
 /// `Fault` with the first fault of the job's own shape and of its graph; `Memory`.
 #[tactic(auto, using(crate::proofs::Firsts::firsts), unfolding(crate::specs::Job::own_faults, crate::specs::GraphPart::graph_faults, crate::specs::GraphPart::graph_value))]
-pub fn graph_of(alloc: Global, job: &Value) -> Result<Graph, TextErr>
-    ensures graph { Gives (λ g. g) result (own_faults (view job.now) ▹ graph_faults (view job.now)) (graph_value (view job.now)) }
+pub fn graph_of(alloc: Global, job: &Value, path: &Name, version: u32) -> Result<Graph, TextErr>
+    ensures graph { Gives (λ g. g) result (own_faults path.now (view job.now) ▹ graph_faults path.now version (view job.now)) (graph_value version (view job.now)) }
     ensures valid { IfOk result IsValidGraph }
 {
-    let path = Name::of(alloc, "job")?;
-    let found = field(alloc, job, &path, "graph")?;
-    let path = Name::of(alloc, "job.graph")?;
+    let found = field(alloc, job, path, "graph")?;
+    let path = member_path(alloc, path, "graph")?;
     let graph = object(alloc, found, &path)?;
-    graph_members(alloc, graph, &path)
+    graph_members(alloc, graph, &path, version)
 }

@@ -14,6 +14,7 @@ use app_graph::{Graph, RunPart};
 use job_text::TextErr;
 use machine_desc::Machine;
 use serde_json::Value;
+use spin_base::Name;
 use std::alloc::Global;
 
 /// A job: its machine, its graph, and how it is to run.
@@ -24,21 +25,21 @@ pub struct Job {
     pub run: RunPart,
 }
 
-/// The job that a value is.
+/// The job that a value is, which stands at a path. Versions from 1 to the greatest are read.
 ///
 /// # Errors
 ///
 /// `Fault` with the job's first fault in the order of reading; `Memory`.
 #[tactic(auto, using(crate::proofs::Parts::parts), unfolding(crate::specs::WholeJob::job_faults, crate::specs::WholeJob::job_value))]
-pub fn job_of(alloc: Global, value: &Value) -> Result<Job, TextErr>
-    ensures job { Gives (λ j. j) result (job_faults (view value.now)) (job_value (view value.now)) }
+pub fn job_of(alloc: Global, value: &Value, path: &Name, greatest: u32) -> Result<Job, TextErr>
+    ensures job { Gives (λ j. j) result (job_faults path.now greatest (view value.now)) (job_value (view value.now)) }
     ensures graph { IfOk result (λ j. IsValidGraph j.graph) }
     ensures run { IfOk result (λ j. IsRunOf j.graph j.run) }
 {
-    version_of(alloc, value)?;
-    let machine = machine_of(alloc, value)?;
-    let graph = graph_of(alloc, value)?;
-    let run = run_of(alloc, value, &machine, &graph)?;
+    let version = version_of(alloc, value, path, greatest)?;
+    let machine = machine_of(alloc, value, path)?;
+    let graph = graph_of(alloc, value, path, version)?;
+    let run = run_of(alloc, value, path, &machine, &graph)?;
     Ok(Job {
         machine,
         graph,

@@ -1,13 +1,29 @@
 // Reads members of an object. Each has the path of the object, then its own name.
-ghost use Rattle.std.specs.Prelude.{◌≡◌, ◌≤◌, length, map, IfOk, IfSome};
+ghost use Rattle.std.specs.Prelude.{◌≡◌, ◌≤◌, length, map, option_map, IfOk, IfSome};
 ghost use Rattle.serde_json.specs.View.{view};
 ghost use Rattle.job_text.specs.Reading.{Gives};
-ghost use Rattle.job_readers.specs.Members.{number_member_faults, number_member, flag_member_faults, flag_member, list_member_faults, long_list_member_faults, list_member};
+ghost use Rattle.job_readers.specs.Members.{number_member_faults, number_member, flag_member_faults, flag_member, list_member_faults, long_list_member_faults, list_member, member_since};
 
 use job_text::{TextErr, count_to, flag, list, member, member_path, number_in};
 use serde_json::Value;
 use spin_base::Name;
 use std::alloc::Global;
+
+// The member of that name, which is read from version `since` on.
+#[tactic(auto, unfolding(crate::specs::Members::member_since))]
+pub(crate) fn member_from<'a>(
+    object: &'a Value,
+    name: &str,
+    since: u32,
+    version: u32,
+) -> Option<&'a Value>
+    ensures { option_map (λ v. view v.now) result ≡ member_since since name.now version (view object.now) }
+{
+    if version < since {
+        return None;
+    }
+    member(object, name)
+}
 
 // A number from `low` to `high`.
 #[tactic(auto, unfolding(crate::specs::Members::number_member_faults, crate::specs::Members::number_member))]

@@ -3,7 +3,7 @@ ghost use Rattle.std.specs.Prelude.{◌≡◌, ◌<◌, [], ◌∷◌, ◌++◌,
 ghost use Rattle.serde_json.specs.View.{view};
 ghost use Rattle.job_text.specs.Reading.{Gives, Fails};
 ghost use Rattle.job_text.specs.Fields.{text_value};
-ghost use Rattle.job_text.specs.declared.faults.JobFault.TheVariants.{UnknownName, DoubleName};
+ghost use Rattle.job_text.specs.declared.faults.JobFault.TheVariants.{UnknownName, DoubleName, Clash};
 ghost use Rattle.job_readers.specs.Places.{place_in, reference_faults, reference_value, new_name_faults};
 ghost use Rattle.job_readers.specs.GraphPart.{name_of};
 
@@ -86,6 +86,16 @@ fn double(alloc: Global, path: &Name) -> TextErr
 {
     match Name::of(alloc, path.as_str()) {
         Ok(path) => TextErr::Fault(JobFault::DoubleName(path)),
+        Err(_) => TextErr::Memory,
+    }
+}
+
+// The error of what an earlier item has already.
+pub(crate) fn clash(alloc: Global, path: &Name) -> TextErr
+    ensures { Fails result (Clash path.now ∷ []) }
+{
+    match Name::of(alloc, path.as_str()) {
+        Ok(path) => TextErr::Fault(JobFault::Clash(path)),
         Err(_) => TextErr::Memory,
     }
 }

@@ -10,7 +10,8 @@ ghost use Rattle.app_graph.specs.RunPart.{keys_of, IsPacketOf, IsRunOf};
 ghost use Rattle.job_readers.specs.Items.{items_faults};
 ghost use Rattle.job_readers.specs.Members.{number_member_faults, number_member, optional_number};
 ghost use Rattle.job_readers.specs.Job.{own_faults};
-ghost use Rattle.job_readers.specs.RunPart.{net_names, packet_net_faults, packet_net, packet_faults, packet_value, packets_faults, packets_value, vertex_names_of, events_faults, events_value, places_faults, run_members_faults, run_members, optional_object_faults, run_faults, run_value};
+ghost use Rattle.job_readers.specs.GraphPart.{net_names};
+ghost use Rattle.job_readers.specs.RunPart.{packet_net_faults, packet_net, packet_faults, packet_value, packets_faults, packets_value, events_faults, events_value, places_faults, run_members_faults, run_members, optional_object_faults, run_faults, run_value};
 
 use crate::events::events;
 use crate::members::{list_of, number_of};
@@ -119,7 +120,7 @@ fn each_packet(
 }
 
 // The names of nets.
-#[tactic(auto, unfolding(crate::specs::RunPart::net_names))]
+#[tactic(auto, unfolding(crate::specs::GraphPart::net_names))]
 fn names_of_nets<'a>(alloc: Global, nets: &'a [Net]) -> Result<Names<'a>, Memory>
     requires { length nets.now ≤ 4096 }
     ensures { IfOk result (λ names. names ≡ net_names nets.now) }
@@ -219,7 +220,7 @@ fn optional_object<'a>(
     }
 }
 
-/// The run part of a job, for its machine and its graph.
+/// The run part of the job at a path, for its machine and its graph.
 ///
 /// # Errors
 ///
@@ -228,16 +229,16 @@ fn optional_object<'a>(
 pub fn run_of(
     alloc: Global,
     job: &Value,
+    path: &Name,
     machine: &Machine,
     graph: &Graph,
 ) -> Result<RunPart, TextErr>
     requires { IsValidGraph graph.now }
-    ensures run { Gives (λ r. r) result (own_faults (view job.now) ▹ run_faults machine.now graph.now (view job.now)) (run_value graph.now (view job.now)) }
+    ensures run { Gives (λ r. r) result (own_faults path.now (view job.now) ▹ run_faults path.now machine.now graph.now (view job.now)) (run_value graph.now (view job.now)) }
     ensures found { IfOk result (IsRunOf graph.now) }
 {
-    let path = Name::of(alloc, "job")?;
-    let found = field(alloc, job, &path, "run")?;
-    let path = Name::of(alloc, "job.run")?;
+    let found = field(alloc, job, path, "run")?;
+    let path = member_path(alloc, path, "run")?;
     let absent = Value::Null;
     let run = optional_object(alloc, found, &path, &absent)?;
     run_members(alloc, run, &path, machine, graph)

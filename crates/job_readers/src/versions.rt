@@ -1,6 +1,6 @@
 // Reads the version of a job.
 ghost use Rattle.serde_json.specs.View.{view};
-ghost use Rattle.std.specs.Prelude.{◌≡◌, IfOk};
+ghost use Rattle.std.specs.Prelude.{◌≤◌, IfOk};
 ghost use Rattle.job_text.specs.Reading.{Gives, ◌▹◌};
 ghost use Rattle.job_readers.specs.Job.{own_faults, version_faults, version_value};
 
@@ -10,17 +10,17 @@ use serde_json::Value;
 use spin_base::Name;
 use std::alloc::Global;
 
-/// The version of a job, which is 1.
+/// The version of the job at a path: from 1 to the greatest that is read.
 ///
 /// # Errors
 ///
 /// `Fault` with the first fault of the job's own shape and of its version; `Memory`.
 #[tactic(auto, using(crate::proofs::Firsts::firsts), unfolding(crate::specs::Job::own_faults, crate::specs::Job::version_faults, crate::specs::Job::version_value))]
-pub fn version_of(alloc: Global, job: &Value) -> Result<u32, TextErr>
-    ensures version { Gives (λ n. n) result (own_faults (view job.now) ▹ version_faults (view job.now)) (version_value (view job.now)) }
-    ensures one { IfOk result (λ n. n ≡ 1) }
+pub fn version_of(alloc: Global, job: &Value, path: &Name, greatest: u32) -> Result<u32, TextErr>
+    ensures version { Gives (λ n. n) result (own_faults path.now (view job.now) ▹ version_faults path.now greatest (view job.now)) (version_value (view job.now)) }
+    ensures within { IfOk result (λ n. (1 ≤ n) × (n ≤ greatest)) }
 {
-    let path = Name::of(alloc, "job")?;
-    object(alloc, Some(job), &path)?;
-    Ok(number_of(alloc, job, &path, "version", 1, 1, None)? as u32)
+    object(alloc, Some(job), path)?;
+    let greatest = u64::from(greatest);
+    Ok(number_of(alloc, job, path, "version", 1, greatest, None)? as u32)
 }

@@ -19,6 +19,8 @@ pub enum JobFault {
     DoubleName(Name),
     /// So many are too many.
     TooMany(Name, u64),
+    /// An earlier item of the same list has what this part asks for: a device, or a key of a fixed block.
+    Clash(Name),
 }
 
 impl PartialEq for JobFault {
@@ -40,6 +42,7 @@ impl PartialEq for JobFault {
             (JobFault::TooMany(a, m), JobFault::TooMany(b, n)) => {
                 *m == *n && a.as_bytes() == b.as_bytes()
             }
+            (JobFault::Clash(a), JobFault::Clash(b)) => a.as_bytes() == b.as_bytes(),
             _ => false,
         }
     }

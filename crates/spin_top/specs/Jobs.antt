@@ -1,5 +1,5 @@
 -- Which job bytes are, or why they are none (this project's own).
-use Rattle.std.specs.Prelude.{◌≡◌, ℕ, ◌≤◌, List, [], ◌∷◌, length, nat_lt, if◌then◌else◌, Option, Some, None, Result, Ok, Err}
+use Rattle.std.specs.Prelude.{◌≡◌, ℕ, ◌≤◌, List, [], ◌∷◌, length, nat_lt, codes, if◌then◌else◌, Option, Some, None, Result, Ok, Err}
 use Rattle.serde_json.specs.Data.{Data}
 use Rattle.job_text.specs.declared.faults.JobFault.{JobFault}
 use Rattle.job_text.specs.Json.{json_of}
@@ -8,13 +8,14 @@ use Rattle.job_readers.specs.declared.jobs.Job.{Job}
 use Rattle.spin_top.specs.declared.outcomes.Refusal.{Refusal}
 use Rattle.spin_top.specs.declared.outcomes.Refusal.TheVariants as refusals
 
--- A value with a fault is refused for its first one, in the order of reading. One without is a job.
+-- A value with a fault is refused for its first one, in the order of reading. One without is a job. It stands at the path
+-- `job`, and versions 1 to 3 are read.
 abbrev pub job_by : List JobFault → Job → Result Job Refusal
 job_by [] job = Ok job
 job_by (f ∷ fs) job = Err (refusals.Job f)
 
 unfoldable pub job_of : Data → Result Job Refusal
-job_of d = job_by (job_faults d) (job_value d)
+job_of d = job_by (job_faults (codes "job") 3 d) (job_value d)
 
 abbrev pub job_from : Option Data → Result Job Refusal
 job_from None = Err refusals.NotJson

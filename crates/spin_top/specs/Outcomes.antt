@@ -1,7 +1,7 @@
 -- What a call ends with: its status, and the line that stands where there is no report (this project's own).
 use Rattle.std.specs.Prelude.{ℕ, List, [], ◌∷◌, Option, Some, None, codes, decimal}
 use Rattle.job_text.specs.declared.faults.JobFault.{JobFault}
-use Rattle.job_text.specs.declared.faults.JobFault.TheVariants.{Shape, Range, UnknownName, DoubleName, TooMany}
+use Rattle.job_text.specs.declared.faults.JobFault.TheVariants.{Shape, Range, UnknownName, DoubleName, TooMany, Clash}
 use Rattle.run_report.specs.ReportText.{line}
 use Rattle.spin_top.specs.declared.outcomes.Refusal.{Refusal}
 use Rattle.spin_top.specs.declared.outcomes.Refusal.TheVariants.{Usage, ReadFault, WriteFault, TooLong, NotJson, Job, NoRoom, KeysOut, CutOff, Memory, Unbuilt}
@@ -27,6 +27,7 @@ fault_line (Range path) = line (codes "bad" ∷ codes "job:" ∷ codes "range" �
 fault_line (UnknownName path) = line (codes "bad" ∷ codes "job:" ∷ codes "unknown" ∷ codes "name" ∷ path ∷ [])
 fault_line (DoubleName path) = line (codes "bad" ∷ codes "job:" ∷ codes "double" ∷ codes "name" ∷ path ∷ [])
 fault_line (TooMany path count) = line (codes "bad" ∷ codes "job:" ∷ codes "too" ∷ codes "many" ∷ path ∷ decimal count ∷ [])
+fault_line (Clash path) = line (codes "bad" ∷ codes "job:" ∷ codes "clash" ∷ path ∷ [])
 
 -- the line of a refusal, ended by a line feed; a fault of writing has none
 abbrev pub line_of : Refusal → List ℕ

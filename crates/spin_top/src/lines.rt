@@ -46,6 +46,7 @@ fn fault_line(alloc: Global, fault: &JobFault) -> Result<Seq<u8>, Memory>
         JobFault::UnknownName(path) => unknown_name_line(alloc, path.as_str()),
         JobFault::DoubleName(path) => double_name_line(alloc, path.as_str()),
         JobFault::TooMany(path, count) => too_many_line(alloc, path.as_str(), *count),
+        JobFault::Clash(path) => clash_line(alloc, path.as_str()),
     }
 }
 
@@ -86,6 +87,14 @@ fn too_many_line(alloc: Global, path: &str, count: u64) -> Result<Seq<u8>, Memor
 {
     let mut text = String::new(alloc);
     writeln!(text, "bad job: too many {path} {count}")?;
+    Ok(Seq::from_vec(text.into_bytes()))
+}
+
+fn clash_line(alloc: Global, path: &str) -> Result<Seq<u8>, Memory>
+    ensures { IfOk result (λ text. text ≡ line (codes "bad" ∷ codes "job:" ∷ codes "clash" ∷ path.now ∷ [])) }
+{
+    let mut text = String::new(alloc);
+    writeln!(text, "bad job: clash {path}")?;
     Ok(Seq::from_vec(text.into_bytes()))
 }
 

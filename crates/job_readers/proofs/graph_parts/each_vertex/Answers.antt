@@ -1,34 +1,51 @@
-use Rattle.std.proofs.Common.{◌≡◌, ◌+◌, ◌<◌, ◌≤◌, [], length, map, ap, ◌∙◌, arith, rules, length-append}
+use Rattle.std.proofs.Common.{◌≡◌, ◌+◌, ◌<◌, ◌≤◌, [], ◌∷◌, ◌++◌, length, map, ap, sym, subst, ◌∙◌, arith, length-append}
 use Rattle.std.proofs.lemmas.List.Elements.{All-push}
-use Rattle.app_graph.specs.ValidGraph.{IsValidVertex}
 use Rattle.std.proofs.lemmas.Result.{err_from_is_err_and}
 use Rattle.serde_json.specs.View.{view}
-use Rattle.job_readers.specs.Items.{named_faults}
-use Rattle.job_readers.specs.GraphPart.{name_of, vertex_faults, vertex_value}
+use Rattle.app_graph.specs.declared.graphs.Vertex.{Vertex}
+use Rattle.app_graph.specs.ValidGraph.{IsValidVertex}
+use Rattle.job_text.specs.Reading.{Fails}
+use Rattle.job_readers.specs.Items.{following_faults}
+use Rattle.job_readers.specs.GraphPart.{vertex_value, next_vertex_faults}
 use Rattle.job_readers.proofs.ItemSteps.{values-more, values-all}
-use Rattle.job_readers.proofs.NamedSteps.{named-more, named-fail, named-none}
+use Rattle.job_readers.proofs.FollowingSteps.{following-more, following-fail, following-none}
+use Rattle.job_readers.proofs.GraphSteps.{next_vertex, vertex_name, names_more, devices_more, different_more}
 use Rattle.job_readers.proofs.graph_parts.each_vertex.Goals as goal
 
 pub returns-in_err-vertex-clause-read : goal.returns-in_err-vertex-clause-read
 returns-in_err-vertex-clause-read c =
     let p = err_from_is_err_and c.from_residual-in_err-vertex.result c.from_residual-in_err-vertex.ensures.1 in
     let xs = c.args.items.now in
-    let f = vertex_faults in
-    rw (p.1, p.2) (named-fail view xs c.loop-i.i c.index-items-i.result (omega arith) c.index-items-i.is f name_of c.loop-i.names c.args.path.now c.in_ok-path.path (named_faults f name_of [] c.args.path.now 0 (map view xs)) c.in_ok-path.ensures c.in_err-vertex.field-0.0 c.in_err-vertex.ensures.read c.loop-i.invariant.left)
+    let f = next_vertex_faults c.args.version in
+    let value = vertex_value c.args.version in
+    let same = next_vertex c.args.version c.loop-i.names c.loop-i.devices c.loop-i.vertices c.in_ok-path.path (view c.index-items-i.result) c.loop-i.invariant.named c.loop-i.invariant.hung in
+    rw (p.1, p.2) (following-fail view xs c.loop-i.i c.index-items-i.result (omega arith) c.index-items-i.is f value c.loop-i.vertices c.args.path.now c.in_ok-path.path (following_faults f value [] c.args.path.now 0 (map view xs)) c.in_ok-path.ensures c.in_err-vertex.field-0.0 (subst (Fails c.in_err-vertex.field-0.0) same c.in_err-vertex.ensures.read) c.loop-i.invariant.left)
 
 pub loop-i-preserved : goal.loop-i-preserved
 loop-i-preserved c =
     let xs = c.args.items.now in
-    let f = vertex_faults in
+    let f = next_vertex_faults c.args.version in
+    let value = vertex_value c.args.version in
+    let vs = c.loop-i.vertices in
+    let v = c.in_ok-vertex.vertex in
+    let same = next_vertex c.args.version c.loop-i.names c.loop-i.devices vs c.in_ok-path.path (view c.index-items-i.result) c.loop-i.invariant.named c.loop-i.invariant.hung in
+    let is : v ≡ vertex_value c.args.version (view c.index-items-i.result) = c.in_ok-vertex.ensures.read.1 in
+    let pushed : c.push.new.self ≡ vs ++ v ∷ [] = c.in_ok-push.ensures.ok in
+    let pushed_value : c.push.new.self ≡ vs ++ vertex_value c.args.version (view c.index-items-i.result) ∷ [] = rw (← is) pushed in
+    let said = c.said_name.ensures ∙ sym (vertex_name c.args.version (view c.index-items-i.result)) ∙ ap (λ (w : Vertex). w.name) (sym is) in
     record {
-      left = named-more view xs c.loop-i.i c.index-items-i.result (omega arith) c.index-items-i.is f name_of c.loop-i.names c.args.path.now c.in_ok-path.path (named_faults f name_of [] c.args.path.now 0 (map view xs)) c.in_ok-path.ensures c.in_ok-names.names (rw (← c.said_name.ensures) c.in_ok-names.ensures) c.in_ok-vertex.ensures.read.0 c.loop-i.invariant.left;
-      read = values-more view xs c.loop-i.i c.index-items-i.result (omega arith) c.index-items-i.is vertex_value c.loop-i.vertices c.push.new.self c.loop-i.invariant.read (rw (← c.in_ok-vertex.ensures.read.1) c.in_ok-push.ensures.ok);
+      left = following-more view xs c.loop-i.i c.index-items-i.result (omega arith) c.index-items-i.is f value vs c.args.path.now c.in_ok-path.path (following_faults f value [] c.args.path.now 0 (map view xs)) c.in_ok-path.ensures c.push.new.self pushed_value (sym same ∙ c.in_ok-vertex.ensures.read.0) c.loop-i.invariant.left;
+      read = values-more view xs c.loop-i.i c.index-items-i.result (omega arith) c.index-items-i.is value vs c.push.new.self c.loop-i.invariant.read pushed_value;
       counted = rw (c.in_ok-names.ensures, length-append) (omega arith);
-      valid = rw c.in_ok-push.ensures.ok (All-push IsValidVertex c.loop-i.vertices c.in_ok-vertex.vertex c.loop-i.invariant.valid c.in_ok-vertex.ensures.valid);
+      named = names_more vs c.push.new.self v c.loop-i.names c.in_ok-names.names c.said_name.result.now pushed c.loop-i.invariant.named c.in_ok-names.ensures said;
+      hung = devices_more vs c.push.new.self v c.loop-i.devices c.in_ok-devices.devices pushed c.loop-i.invariant.hung c.in_ok-devices.ensures;
+      valid = rw pushed (All-push IsValidVertex vs v c.loop-i.invariant.valid c.in_ok-vertex.ensures.valid);
+      different = different_more vs c.push.new.self v c.loop-i.devices pushed c.loop-i.invariant.hung c.in_ok-vertex.ensures.fresh c.loop-i.invariant.different;
     }
 
 pub returns-clause-read : goal.returns-clause-read
 returns-clause-read c =
     let xs = c.args.items.now in
-    let f = vertex_faults in
-    (named-none view xs c.loop-i.i f name_of c.loop-i.names c.args.path.now (named_faults f name_of [] c.args.path.now 0 (map view xs)) (omega arith) c.loop-i.invariant.left, values-all view xs c.loop-i.i vertex_value c.loop-i.vertices (omega arith) c.loop-i.invariant.read)
+    let f = next_vertex_faults c.args.version in
+    let value = vertex_value c.args.version in
+    (following-none view xs c.loop-i.i f value c.loop-i.vertices c.args.path.now (following_faults f value [] c.args.path.now 0 (map view xs)) (omega arith) c.loop-i.invariant.left, values-all view xs c.loop-i.i value c.loop-i.vertices (omega arith) c.loop-i.invariant.read)

@@ -1,7 +1,7 @@
 use Rattle.std.proofs.Common.{◌≡◌, ◌<◌, length, ap, subst, ◌∙◌}
 use Rattle.std.specs.Prelude.{IfOk}
 use Rattle.std.proofs.lemmas.List.{length-map}
-use Rattle.job_readers.specs.RunPart.{net_names}
+use Rattle.job_readers.specs.GraphPart.{net_names}
 use Rattle.app_graph.specs.declared.graphs.Net.{Net}
 use Rattle.job_readers.proofs.run_parts.net_of_packet.Goals as goal
 

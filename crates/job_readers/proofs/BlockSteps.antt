@@ -1,0 +1,55 @@
+-- Powers of two by their ones, and the block of a key and a mask.
+use Rattle.std.proofs.Common.{◌≡◌, ℕ, zero, suc, ◌+◌, ◌-◌, ◌*◌, ◌/◌, ◌%◌, ◌^◌, ◌<◌, ◌≤◌, true, inl, inr, refl, ap, subst, sym, ◌∙◌, arith}
+use Rattle.std.specs.Prelude.{bit_and}
+use Rattle.std.specs.Int.{IsPowerOfTwo, is_power_of_two}
+use Rattle.std.specs.Int.RustNames.{count_ones}
+use Rattle.std.proofs.lemmas.Bool.{cases_lt, eqb-true}
+use Rattle.std.proofs.lemmas.Nat.{ones-le, ones_cat, zero_from_ones}
+use Rattle.std.proofs.lemmas.Grind.{pow_more}
+use Rattle.std.proofs.Math.Nat.{mod-lt}
+use Rattle.spin_base.specs.declared.blocks.Block.{Block}
+use Rattle.app_graph.specs.ValidGraph.{IsFixedFor}
+use Rattle.tern_word.proofs.BlockLaws.{one_block, exponent_le}
+use Rattle.job_readers.specs.Blocks.{mask_from, block_at}
+
+-- a number with one 1 is a power of two
+power_from_ones : (d n : ℕ) → n < 2 ^ d → count_ones n ≡ 1 → IsPowerOfTwo n
+power_from_ones zero n below one = absurd (omega (arith, ones-le 0 n below))
+power_from_ones (suc d) n below one =
+    let split : n / 2 * 2 ^ 1 + n % 2 ≡ n = omega arith in
+    let counted : count_ones n ≡ count_ones (n / 2) + count_ones (n % 2) = ap count_ones (sym split) ∙ ones_cat 1 (n / 2) (n % 2) (omega arith) in
+    elim (cases_lt 0 (count_ones (n / 2))) [
+      | inl some ↦ (
+          let last : n % 2 ≡ 0 = zero_from_ones (n % 2) (omega (arith, counted)) in
+          let half = power_from_ones d (n / 2) (omega (arith, pow_more 2 d)) (omega (arith, counted)) in
+          (half.0 + 1, omega (arith, half.1, last, pow_more 2 half.0))
+          )
+      | inr none ↦ (
+          let first : n / 2 ≡ 0 = zero_from_ones (n / 2) (omega arith) in
+          let low : 1 ≤ n = elim (cases_lt 0 n) [ inl some ↦ some | inr empty ↦ (let no : n ≡ 0 = omega arith in absurd (omega (arith, ones-le 0 n (omega (arith, no))))) ] in
+          (0, omega arith)
+          )
+    ]
+
+-- a block whose number of keys is a power of two may be fixed
+pub fixed_for : (keys mask : ℕ) → mask ≤ 4294967295 → is_power_of_two (4294967296 - mask) ≡ true → keys ≤ 4294967296 - mask → (zeros : ℕ) × (zeros ≤ 32) × (mask + 2 ^ zeros ≡ 2 ^ 32) × (keys ≤ 2 ^ zeros)
+fixed_for keys mask small power enough =
+    let p = power_from_ones 33 (4294967296 - mask) (omega arith) (eqb-true _ _ power) in
+    let within : 2 ^ p.0 ≤ 2 ^ 32 = omega (arith, p.1) in
+    (p.0, exponent_le p.0 within, omega (arith, p.1), omega (arith, p.1))
+
+-- blocks with the same key and mask are one
+same_parts : (x y : Block) → x.key ≡ y.key → x.mask ≡ y.mask → x ≡ y
+same_parts x y keys masks =
+    let Q : ℕ → Type 0 = λ m. (w : bit_and x.key m ≡ x.key) (s : m < 2 ^ 32) → ◌≡◌ {A = Block} x (record { key = x.key; mask = m; within = w; small = s }) in
+    let q : Q y.mask = subst Q masks (λ w s. one_block x.key x.mask x.within w x.small s) in
+    let R : ℕ → Type 0 = λ k. (w : bit_and k y.mask ≡ k) → ◌≡◌ {A = Block} x (record { key = k; mask = y.mask; within = w; small = y.small }) in
+    let r : R y.key = subst R keys (λ w. q w y.small) in
+    r y.within
+
+-- a block is that of its key and mask
+pub block_is : (b : Block) → b ≡ block_at b.key b.mask
+unfolding block_at
+block_is b =
+    let mask : b.mask ≡ mask_from b.mask = omega (arith, b.small) in
+    same_parts b _ (sym b.within ∙ ap (bit_and b.key) mask) mask

@@ -1,0 +1,33 @@
+-- A loop over items whose faults depend on those before goes on with the faults of those that are left.
+use Rattle.std.proofs.Common.{◌≡◌, ℕ, ◌+◌, ◌<◌, ◌≤◌, List, [], ◌∷◌, ◌++◌, length, map, take, drop, get_or, refl, ap, subst, sym, ◌∙◌, arith, add-one, drop-cons}
+use Rattle.std.proofs.lemmas.List.{drop_all}
+use Rattle.serde_json.specs.Data.{Data}
+use Rattle.job_text.specs.declared.faults.JobFault.{JobFault}
+use Rattle.job_text.specs.declared.faults.TextErr.{TextErr}
+use Rattle.job_text.specs.Reading.{Fails}
+use Rattle.job_text.specs.Paths.{item_at}
+use Rattle.job_readers.specs.Items.{following_faults}
+use Rattle.job_readers.proofs.Firsts.{fails_before}
+
+module _ {V A : Type 0} (g : V → Data) (xs : List V) (i : ℕ) (x : V) (below : i < length xs) (is : x ≡ get_or xs i x) (f : List A → List ℕ → Data → List JobFault) (value : Data → A) (before : List A) (path at : List ℕ) (total : List JobFault) (here : at ≡ item_at path i) where
+  left : map g (drop i xs) ≡ g x ∷ map g (drop (i + 1) xs)
+  left = rw (drop-cons xs i x, ← is, add-one) refl
+
+  -- an item without a fault
+  pub following-more : (new : List A) → new ≡ before ++ value (g x) ∷ [] → f before at (g x) ≡ [] → following_faults f value before path i (map g (drop i xs)) ≡ total → following_faults f value new path (i + 1) (map g (drop (i + 1) xs)) ≡ total
+  unfolding following_faults
+  following-more new pushed good so_far =
+      let none : f before (item_at path i) (g x) ≡ [] = ap (λ p. f before p (g x)) (sym here) ∙ good in
+      ap (λ l. following_faults f value l path (i + 1) (map g (drop (i + 1) xs))) pushed ∙ sym (ap (following_faults f value before path i) left ∙ rw none refl) ∙ so_far
+
+  -- an item with a fault
+  pub following-fail : (e : TextErr) → Fails e (f before at (g x)) → following_faults f value before path i (map g (drop i xs)) ≡ total → Fails e total
+  unfolding following_faults
+  following-fail e bad so_far =
+      let one : Fails e (f before (item_at path i) (g x)) = subst (λ p. Fails e (f before p (g x))) here bad in
+      rw (← so_far, left) (fails_before e (f before (item_at path i) (g x)) (following_faults f value (before ++ value (g x) ∷ []) path (i + 1) (map g (drop (i + 1) xs))) one)
+
+-- no item is left
+pub following-none : {V A : Type 0} (g : V → Data) (xs : List V) (i : ℕ) (f : List A → List ℕ → Data → List JobFault) (value : Data → A) (before : List A) (path : List ℕ) (total : List JobFault) → length xs ≤ i → following_faults f value before path i (map g (drop i xs)) ≡ total → total ≡ []
+unfolding following_faults
+following-none g xs i f value before path total end so_far = sym so_far ∙ rw (drop_all i xs end) refl

@@ -1,0 +1,22 @@
+use Rattle.std.proofs.Common.{◌≡◌, ℕ, ◌<◌, ◌≤◌, List, length, ap, subst, ◌∙◌, arith}
+use Rattle.std.specs.Prelude.{All}
+use Rattle.std.proofs.lemmas.List.{length-map}
+use Rattle.app_graph.specs.declared.graphs.Vertex.{Vertex}
+use Rattle.job_readers.specs.GraphPart.{vertex_names_of}
+use Rattle.job_readers.proofs.graph_parts.net.Goals as goal
+
+as_many : (vs : List Vertex) (names : List (List ℕ)) → names ≡ vertex_names_of vs → length names ≡ length vs
+unfolding vertex_names_of
+as_many vs names named = ap length named ∙ length-map vs (λ (v : Vertex). v.name)
+
+pub returns-clause-valid : goal.returns-clause-valid
+returns-clause-valid c =
+    let keys = c.in_ok-keys.ensures.within (omega arith, omega arith) in
+    record {
+      source = c.in_ok-source.ensures.below;
+      some_target = c.in_ok-targets.ensures.some;
+      targets = subst (λ n. All (λ t. t < n) c.in_ok-targets.targets) (as_many c.args.vertices.now c.args.names.now c.requires) c.in_ok-targets.ensures.below;
+      some_key = keys.0;
+      few_keys = keys.1;
+      fixed = c.in_ok-fixed.ensures.fixed;
+    }
