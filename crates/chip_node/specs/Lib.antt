@@ -1,0 +1,4 @@
+pub mod Ends
+pub mod Offers
+pub mod Routing
+pub mod Serving
