@@ -1,3 +1,7 @@
 mod Beside
+mod GoingRound
+mod LookingFor
 mod Offering
+pub mod RouterFlows
 mod ServingOne
+mod Turning

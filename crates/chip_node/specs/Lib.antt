@@ -1,4 +1,6 @@
 pub mod Ends
+pub mod Looking
 pub mod Offers
+pub mod RouterFlow
 pub mod Routing
 pub mod Serving

@@ -8,6 +8,7 @@
 #![tactic(auto)]
 
 mod ends;
+mod looking;
 mod routers;
 mod serving;
 

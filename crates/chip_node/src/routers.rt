@@ -4,10 +4,12 @@ ghost use Rattle.std.specs.List.{AllZip};
 ghost use Rattle.chip_node.specs.Serving.{ports_of, outs_with_ends, AreInEndsOf, AreOutEndsOf, OffersBy, records_of};
 
 use crate::ends::{InEnd, OutEnd, Served};
-use crate::serving::{onward, send_by};
+use crate::looking::look;
+use crate::serving::{onward, outputs_of, send_by};
 use link_queue::Link;
 use spin_base::{Chip, DumpRec, McCopy, Out, Port, Room, Seq};
 use std::sync::Wait;
+use tcam_find::Tcam;
 
 /// A chip's router: the receiving ends of its input queues, the sending ends of the queues behind its outputs, how often
 /// it offers a copy, and the log of what it dropped. It has no plan and no net.
@@ -26,7 +28,10 @@ pub struct RouterNode {
 }
 
 impl RouterNode {
+    ghost use Rattle.std.specs.Prelude.{◌↔◌, MatchOption};
     ghost use Rattle.chip_node.specs.Routing.{onward};
+    ghost use Rattle.chip_node.specs.Looking.{IsEmptyAt, TakesOne, TakesNone};
+    ghost use Rattle.chip_node.specs.RouterFlow.{RouterFlow, ServesAll};
 
     /// A router of a chip with these ends. An output that isn't listed has no queue behind it.
     pub fn new(
@@ -121,5 +126,58 @@ impl RouterNode {
             }),
         }
         served
+    }
+
+    /// One turn: looks at the input queues, from a start that goes round, until one gives a copy, and serves each output
+    /// that the table gives the copy at its port once, in order; none where its hop number is 4,294,967,295. It takes
+    /// nothing exactly where each of its queues was found empty in this call.
+    pub fn turn<R: Wait>(&mut self, rt: &R, links: &[Link], table: &Tcam)
+        requires input_ends { AreInEndsOf links.now self.old.inputs.items }
+        requires output_ends { AreOutEndsOf links.now self.old.outputs.items }
+        requires spare { 24 ≤ self.old.log.spare }
+        ensures flow { RouterFlow table.now 1 self.old self.new }
+        ensures nothing { TakesNone self.old.inputs.items self.new.inputs.items ↔ AllZip IsEmptyAt self.old.inputs.items self.new.inputs.items }
+        ensures spare { self.old.log.spare ≤ self.new.log.spare + 24 }
+        ensures input_ends { AreInEndsOf links.now self.new.inputs.items }
+        ensures output_ends { AreOutEndsOf links.now self.new.outputs.items }
+    {
+        let Some((port, copy)) = self.take(rt, links) else {
+            return;
+        };
+        let outs = outputs_of(table, port, copy);
+        self.serve_all(rt, links, outs.as_slice(), copy);
+    }
+
+    // Takes a copy from one of the input queues.
+    fn take<R: Wait>(&mut self, rt: &R, links: &[Link]) -> Option<(Port, McCopy)>
+        requires ends { AreInEndsOf links.now self.old.inputs.items }
+        ensures looked { MatchOption result (AllZip IsEmptyAt self.old.inputs.items self.new.inputs.items) (λ t. TakesOne t self.old.inputs.items self.new.inputs.items) }
+        ensures chip { self.new.chip ≡ self.old.chip }
+        ensures outputs { self.new.outputs ≡ self.old.outputs }
+        ensures patience { self.new.patience ≡ self.old.patience }
+        ensures log { self.new.log ≡ self.old.log }
+        ensures ends { AreInEndsOf links.now self.new.inputs.items }
+    {
+        let start = if self.start < self.inputs.len() {
+            self.start
+        } else {
+            0
+        };
+        self.start = start + 1;
+        look(rt, links, &mut self.inputs, start)
+    }
+
+    // Serves a copy at these outputs.
+    fn serve_all<R: Wait>(&mut self, rt: &R, links: &[Link], outs: &[Out], copy: McCopy)
+        requires ends { AreOutEndsOf links.now self.old.outputs.items }
+        requires spare { length outs.now ≤ self.old.log.spare }
+        ensures serves { ServesAll outs.now copy self.old self.new }
+        ensures inputs { self.new.inputs ≡ self.old.inputs }
+        ensures spare { self.old.log.spare ≤ self.new.log.spare + length outs.now }
+        ensures ends { AreOutEndsOf links.now self.new.outputs.items }
+    {
+        for out in outs {
+            let _ = self.serve(rt, links, *out, copy);
+        }
     }
 }

@@ -4,13 +4,14 @@ ghost use Rattle.std.specs.List.{AllZip};
 ghost use Rattle.link_queue.specs.Ends.{sending};
 ghost use Rattle.spin_base.specs.Equality.{out_eq};
 ghost use Rattle.chip_node.specs.Offers.{Fares};
-ghost use Rattle.chip_node.specs.Routing.{onward};
+ghost use Rattle.chip_node.specs.Routing.{onward, outputs_at};
 ghost use Rattle.chip_node.specs.Serving.{outs_with_ends, AreOutEndsOf, OffersBy};
 
 use crate::ends::{OutEnd, Served};
 use link_queue::Link;
-use spin_base::{McCopy, Out};
+use spin_base::{McCopy, Out, Outs, Port};
 use std::sync::Wait;
+use tcam_find::Tcam;
 
 /// The copy behind a router: one hop more, up to the greatest hop number.
 pub fn onward(copy: McCopy) -> McCopy
@@ -22,6 +23,16 @@ pub fn onward(copy: McCopy) -> McCopy
         payload: copy.payload,
         hop: copy.hop.saturating_add(1),
     }
+}
+
+/// The outputs that a table gives a copy that came in at this port: none where it has the greatest hop number.
+pub fn outputs_of(table: &Tcam, port: Port, copy: McCopy) -> Outs
+    ensures { result.items ≡ outputs_at table.now port copy }
+{
+    if copy.hop == u32::MAX {
+        return Outs::new();
+    }
+    table.find(copy.key, port).outs()
 }
 
 /// The place of an output's end.
