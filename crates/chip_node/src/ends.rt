@@ -1,9 +1,9 @@
 // The ends of links that routers and banks hold, each with the place of its link.
 ghost use Rattle.std.specs.Prelude.{◌≡◌, MatchOption};
-ghost use Rattle.link_queue.specs.Ends.{sending, taking, cap_of};
-ghost use Rattle.link_queue.specs.Moves.{MatchOffered, TakesOffer, RefusesOffer, TakesCopy, FindsNothing};
+ghost use Rattle.link_queue.specs.Ends.{sending, taking};
+ghost use Rattle.link_queue.specs.Moves.{MatchOffered, TakesOffer, TakesCopy, FindsNothing};
 ghost use Rattle.chip_node.specs.Ends.{IsInEndOf, IsOutEndOf};
-ghost use Rattle.chip_node.specs.Offers.{Fares};
+ghost use Rattle.chip_node.specs.Offers.{Refuses, Fares};
 
 use link_queue::{Link, Offered, Rx, Tx, offer, take};
 use spin_base::McCopy;
@@ -45,6 +45,16 @@ impl InEnd {
 }
 
 impl OutEnd {
+    // Offers a copy to the end's link once.
+    pub(crate) fn offer<R: Wait>(&mut self, rt: &R, links: &[Link], copy: McCopy) -> Offered
+        requires { IsOutEndOf links.now self.old }
+        ensures answer { MatchOffered result (TakesOffer (sending self.old.tx) copy (sending self.new.tx)) (λ back. (back ≡ copy) × Refuses 1 (sending self.old.tx) (sending self.new.tx)) }
+        ensures link { self.new.link ≡ self.old.link }
+        ensures end { IsOutEndOf links.now self.new }
+    {
+        offer(rt, &links[self.link as usize], &mut self.tx, copy)
+    }
+
     // Offers a copy to the end's link up to `patience` times, until one offer is taken.
     pub(crate) fn send<R: Wait>(
         &mut self,
@@ -59,7 +69,7 @@ impl OutEnd {
         ensures end { IsOutEndOf links.now self.new }
     {
         for _ in 0..patience {
-            match offer(rt, &links[self.link as usize], &mut self.tx, copy) {
+            match self.offer(rt, links, copy) {
                 Offered::Taken => return Served::Sent,
                 Offered::Full(_) => {}
             }
