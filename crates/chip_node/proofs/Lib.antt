@@ -1,3 +1,5 @@
+pub mod BankFlows
+mod BankSteps
 mod Beside
 mod GoingRound
 mod LookingFor

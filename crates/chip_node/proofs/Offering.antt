@@ -8,7 +8,6 @@ use Rattle.link_queue.specs.declared.links.Rx.{Rx}
 use Rattle.link_queue.specs.declared.links.Tx.{Tx}
 use Rattle.link_queue.specs.Ends.{IsRx, IsTx}
 use Rattle.link_queue.specs.TheRule.{put_of}
-use Rattle.link_queue.specs.Steps.{full_noted}
 use Rattle.spin_base.specs.declared.copies.McCopy.{McCopy}
 use Rattle.link_queue.specs.declared.links.Offered.{Offered}
 use Rattle.link_queue.specs.declared.links.Offered.TheVariants.{Taken, Full}

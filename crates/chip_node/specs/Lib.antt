@@ -1,5 +1,8 @@
+pub mod BankFlow
+pub mod Collecting
 pub mod Ends
 pub mod Looking
+pub mod Numbers
 pub mod Offers
 pub mod RouterFlow
 pub mod Routing

@@ -51,6 +51,7 @@ impl OutEnd {
         ensures answer { MatchOffered result (TakesOffer (sending self.old.tx) copy (sending self.new.tx)) (λ back. (back ≡ copy) × Refuses 1 (sending self.old.tx) (sending self.new.tx)) }
         ensures link { self.new.link ≡ self.old.link }
         ensures end { IsOutEndOf links.now self.new }
+        ensures cap { (sending self.new.tx).cap ≡ (sending self.old.tx).cap }
     {
         offer(rt, &links[self.link as usize], &mut self.tx, copy)
     }

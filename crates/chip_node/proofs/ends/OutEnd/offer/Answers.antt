@@ -1,3 +1,4 @@
+use Rattle.std.proofs.Common.{sym, ◌∙◌}
 use Rattle.link_queue.specs.Ends.{cap_of, sending}
 use Rattle.link_queue.specs.Moves.{TakesOffer}
 use Rattle.chip_node.proofs.Offering.{out_end_stays, out_end_read, offer_answer}
@@ -12,3 +13,6 @@ returns-clause-answer g c =
 
 pub returns-clause-end : goal.returns-clause-end
 returns-clause-end g c = out_end_stays _ _ _ _ c.requires c.index-links-self.is c.offer.ensures.end
+
+pub returns-clause-cap : goal.returns-clause-cap
+returns-clause-cap g c = c.offer.ensures.end.cap ∙ sym (out_end_read c.args.links.now c.args.self.now c.index-links-self.result c.requires c.index-links-self.is).cap
