@@ -1,0 +1,132 @@
+-- A ring of places that is gone through from a start: which items were visited, and what became of them.
+use Rattle.std.proofs.Common.{◌≡◌, ◌≢◌, ℕ, zero, suc, ◌+◌, ◌<◌, ◌≤◌, ◌⊎◌, inl, inr, List, [], ◌∷◌, length, set, Option, Some, refl, sym, subst, ap, ◌∙◌, arith}
+use Rattle.std.specs.List.{AllZip, slice_get}
+use Rattle.std.proofs.Math.ListN.{length-set}
+use Rattle.std.proofs.lemmas.Bool.{cases_eq, cases_lt}
+use Rattle.std.proofs.lemmas.Option.{slice_get_within}
+use Rattle.list_laws.proofs.Places.{slice_get_there, slice_get-set_same, slice_get-set_other}
+
+-- the place was gone by within so many steps
+abbrev pub IsBehind : ℕ → ℕ → ℕ → ℕ → Type 0
+IsBehind start count steps j = ((start ≤ j) × (j < start + steps)) ⊎ (j + count < start + steps)
+
+-- the place still lies ahead
+abbrev pub IsAhead : ℕ → ℕ → ℕ → ℕ → Type 0
+IsAhead start count steps j = (start + steps ≤ j) ⊎ ((j < start) × (start + steps ≤ j + count))
+
+-- the place of a step
+abbrev pub IsPlaceOf : ℕ → ℕ → ℕ → ℕ → Type 0
+IsPlaceOf start count steps at = (at ≡ start + steps) ⊎ (at + count ≡ start + steps)
+
+place_ahead : (start count steps at : ℕ) → start ≤ count → steps < count → at < count → IsPlaceOf start count steps at → IsAhead start count steps at
+place_ahead start count steps at s n below (inl e) = inl (omega arith)
+place_ahead start count steps at s n below (inr e) = inr (omega arith, omega arith)
+
+place_gone : (start count steps at : ℕ) → start ≤ count → steps < count → at < count → IsPlaceOf start count steps at → IsAhead start count (steps + 1) at → ⊥
+place_gone start count steps at s n below (inl e) (inl h) = omega arith
+place_gone start count steps at s n below (inl e) (inr h) = omega (arith, h.0, h.1)
+place_gone start count steps at s n below (inr e) (inl h) = omega arith
+place_gone start count steps at s n below (inr e) (inr h) = omega (arith, h.0, h.1)
+
+still_behind : (start count steps at j : ℕ) → start ≤ count → steps < count → at < count → j < count → IsPlaceOf start count steps at → j ≢ at → IsBehind start count (steps + 1) j → IsBehind start count steps j
+still_behind start count steps at j s n below inside (inl e) other (inl h) = inl (h.0, omega (arith, h.1))
+still_behind start count steps at j s n below inside (inl e) other (inr h) = absurd (omega arith)
+still_behind start count steps at j s n below inside (inr e) other (inl h) = inl (h.0, omega (arith, h.1))
+still_behind start count steps at j s n below inside (inr e) other (inr h) = inr (omega arith)
+
+still_ahead : (start count steps j : ℕ) → IsAhead start count (steps + 1) j → IsAhead start count steps j
+still_ahead start count steps j (inl h) = inl (omega arith)
+still_ahead start count steps j (inr h) = inr (h.0, omega (arith, h.1))
+
+all_behind : (start count j : ℕ) → start ≤ count → j < count → IsBehind start count count j
+all_behind start count j s inside = elim (cases_lt j start) [ inl before ↦ inr (omega arith) | inr after ↦ inl (omega arith, omega arith) ]
+
+either_way : (start count steps j : ℕ) → start ≤ count → steps ≤ count → j < count → IsBehind start count steps j ⊎ IsAhead start count steps j
+either_way start count steps j s n inside = elim (cases_lt j start) [
+  | inl before ↦ elim (cases_lt (j + count) (start + steps)) [ inl gone ↦ inl (inr gone) | inr not_yet ↦ inr (inr (before, not_yet)) ]
+  | inr after ↦ elim (cases_lt j (start + steps)) [ inl gone ↦ inl (inl (after, gone)) | inr not_yet ↦ inr (inl not_yet) ]
+]
+
+-- two lists of one length, side by side
+pub AllZip-each : {X : Type 0} (R : X → X → Type 0) (xs ys : List X) → length ys ≡ length xs → ((j : ℕ) (x y : X) → slice_get xs j ≡ Some x → slice_get ys j ≡ Some y → R x y) → AllZip R xs ys
+AllZip-each R [] [] long each = tt
+AllZip-each R [] (y ∷ ys) long each = absurd (omega (arith, long))
+AllZip-each R (x ∷ xs) [] long each = absurd (omega (arith, long))
+AllZip-each R (x ∷ xs) (y ∷ ys) long each = (each zero x y refl refl, AllZip-each R xs ys (omega (arith, long)) (λ j a b ea eb. each (suc j) a b ea eb))
+
+-- E holds of what was gone by, and what is ahead is as it was
+module _ {X : Type 0} (E : X → X → Type 0) where
+  pub record GoneBy (start steps : ℕ) (xs ys : List X) : Type 0 where
+    pub long : length ys ≡ length xs
+    pub each : (j : ℕ) (x y : X) → slice_get xs j ≡ Some x → slice_get ys j ≡ Some y →
+        (IsBehind start (length xs) steps j → E x y) × (IsAhead start (length xs) steps j → y ≡ x)
+
+  pub gone_none : (start : ℕ) (xs : List X) → start ≤ length xs → GoneBy start 0 xs xs
+  gone_none start xs within = record {
+    long = refl;
+    each = λ j x y ex ey. (
+      λ h. absurd (none j (slice_get_within xs j x ex) h),
+      λ _. (let same : Some y ≡ Some x = sym ey ∙ ex in cc),
+    );
+  }
+    where
+      none : (j : ℕ) → j < length xs → IsBehind start (length xs) 0 j → ⊥
+      none j inside (inl h) = omega (arith, h.0, h.1)
+      none j inside (inr h) = omega arith
+
+  -- one place more
+  pub gone_more : (start steps at : ℕ) (xs ys : List X) (old new : X) → start ≤ length xs → steps < length xs → at < length xs → IsPlaceOf start (length xs) steps at → GoneBy start steps xs ys
+      → slice_get ys at ≡ Some old → E old new → GoneBy start (steps + 1) xs (set ys at new)
+  gone_more start steps at xs ys old new s n below place gone there holds = record {
+    long = length-set ys at new ∙ gone.long;
+    each = λ j x y ex ey. here j x y ex ey (cases_eq j at);
+  }
+    where
+      here : (j : ℕ) (x y : X) → slice_get xs j ≡ Some x → slice_get (set ys at new) j ≡ Some y → (j ≡ at) ⊎ (j ≢ at) →
+          (IsBehind start (length xs) (steps + 1) j → E x y) × (IsAhead start (length xs) (steps + 1) j → y ≡ x)
+      here j x y ex ey (inl same) =
+          let at_x : slice_get xs at ≡ Some x = subst (λ i. slice_get xs i ≡ Some x) same ex in
+          let was : old ≡ x = (gone.each at x old at_x there).1 (place_ahead start (length xs) steps at s n below place) in
+          let is : Some new ≡ Some y = sym (slice_get-set_same ys at old new there) ∙ subst (λ i. slice_get (set ys at new) i ≡ Some y) same ey in
+          let now : new ≡ y = cc in (
+            λ _. subst (λ z. E z y) was (subst (E old) now holds),
+            λ ahead. absurd (place_gone start (length xs) steps at s n below place (subst (IsAhead start (length xs) (steps + 1)) same ahead)),
+          )
+      here j x y ex ey (inr other) =
+          let before = gone.each j x y ex (sym (slice_get-set_other ys at j new other) ∙ ey) in (
+            λ behind. before.0 (still_behind start (length xs) steps at j s n below (slice_get_within xs j x ex) place other behind),
+            λ ahead. before.1 (still_ahead start (length xs) steps j ahead),
+          )
+
+  -- all places
+  pub gone_all : (start : ℕ) (xs ys : List X) → start ≤ length xs → GoneBy start (length xs) xs ys → AllZip E xs ys
+  gone_all start xs ys within gone =
+      AllZip-each E xs ys gone.long (λ j x y ex ey. (gone.each j x y ex ey).0 (all_behind start (length xs) j within (slice_get_within xs j x ex)))
+
+  -- what stands at the place of the next step is as it was
+  pub gone_next : (start steps at : ℕ) (xs ys : List X) (old : X) → start ≤ length xs → steps < length xs → at < length xs → IsPlaceOf start (length xs) steps at → GoneBy start steps xs ys
+      → slice_get ys at ≡ Some old → slice_get xs at ≡ Some old
+  gone_next start steps at xs ys old s n below place gone there =
+      let x = slice_get_there xs at below in
+      let was : old ≡ x.0 = (gone.each at x.0 old x.1 there).1 (place_ahead start (length xs) steps at s n below place) in
+      x.1 ∙ ap {B = Option X} (λ z. Some z) (sym was)
+
+  -- at the place of the next step something else happens, and T holds of it as of all others
+  pub gone_found : (T : X → X → Type 0) (start steps at : ℕ) (xs ys : List X) (old new : X) → start ≤ length xs → steps < length xs → at < length xs → IsPlaceOf start (length xs) steps at → GoneBy start steps xs ys
+      → slice_get ys at ≡ Some old → T old new → ((j : ℕ) (x y : X) → j ≢ at → slice_get xs j ≡ Some x → (E x y ⊎ (y ≡ x)) → T x y) → AllZip T xs (set ys at new)
+  gone_found T start steps at xs ys old new s n below place gone there holds others =
+      AllZip-each T xs (set ys at new) (length-set ys at new ∙ gone.long) (λ j x y ex ey. here j x y ex ey (cases_eq j at))
+    where
+      here : (j : ℕ) (x y : X) → slice_get xs j ≡ Some x → slice_get (set ys at new) j ≡ Some y → (j ≡ at) ⊎ (j ≢ at) → T x y
+      here j x y ex ey (inl same) =
+          let was : Some old ≡ Some x = sym (gone_next start steps at xs ys old s n below place gone there) ∙ subst (λ i. slice_get xs i ≡ Some x) same ex in
+          let is : Some new ≡ Some y = sym (slice_get-set_same ys at old new there) ∙ subst (λ i. slice_get (set ys at new) i ≡ Some y) same ey in
+          let then : old ≡ x = cc in
+          let now : new ≡ y = cc in
+          subst (λ z. T z y) then (subst (T old) now holds)
+      here j x y ex ey (inr other) =
+          let before = gone.each j x y ex (sym (slice_get-set_other ys at j new other) ∙ ey) in
+          others j x y other ex (elim (either_way start (length xs) steps j s (omega arith) (slice_get_within xs j x ex)) [
+            | inl behind ↦ inl (before.0 behind)
+            | inr ahead ↦ inr (before.1 ahead)
+          ])

@@ -1,0 +1,63 @@
+-- An end stays an end of its link, and one offer more is refused.
+use Rattle.std.proofs.Common.{◌≡◌, ℕ, ◌+◌, List, [], ◌∷◌, ◌++◌, length, get_or, replicate, append-nil, sym, ap, subst, ◌∙◌, append_assoc, arith}
+use Rattle.std.proofs.lemmas.List.{replicate_more}
+use Rattle.std.proofs.lemmas.Option.{get_or_from_slice_get}
+use Rattle.link_queue.specs.declared.known.Known.{Known}
+use Rattle.link_queue.specs.declared.links.Link.{Link}
+use Rattle.link_queue.specs.declared.links.Rx.{Rx}
+use Rattle.link_queue.specs.declared.links.Tx.{Tx}
+use Rattle.link_queue.specs.Ends.{IsRx, IsTx}
+use Rattle.link_queue.specs.TheRule.{put_of}
+use Rattle.spin_base.specs.declared.copies.McCopy.{McCopy}
+use Rattle.link_queue.specs.declared.links.Offered.{Offered}
+use Rattle.link_queue.specs.declared.links.Offered.TheVariants.{Taken, Full}
+use Rattle.link_queue.specs.Moves.{MatchOffered, RefusesOffer}
+use Rattle.chip_node.specs.declared.ends.InEnd.{InEnd}
+use Rattle.chip_node.specs.declared.ends.OutEnd.{OutEnd}
+use Rattle.chip_node.specs.Ends.{IsInEndOf, IsOutEndOf}
+use Rattle.chip_node.specs.Offers.{full_noted_often, Refuses}
+
+-- the link that is read is the one of which it is an end
+pub in_end_stays : (links : List Link) (e : InEnd) (l : Link) (rx : Rx) → IsInEndOf links e → l ≡ get_or links e.link l → IsRx l rx → IsInEndOf links (record { link = e.link; rx = rx })
+in_end_stays links e l rx h is end = record {
+  of = h.of;
+  stands = h.stands;
+  is_end = subst (λ m. IsRx m rx) (is ∙ get_or_from_slice_get links e.link h.of l h.stands) end;
+}
+
+pub out_end_stays : (links : List Link) (e : OutEnd) (l : Link) (tx : Tx) → IsOutEndOf links e → l ≡ get_or links e.link l → IsTx l tx → IsOutEndOf links (record { link = e.link; tx = tx })
+out_end_stays links e l tx h is end = record {
+  of = h.of;
+  stands = h.stands;
+  is_end = subst (λ m. IsTx m tx) (is ∙ get_or_from_slice_get links e.link h.of l h.stands) end;
+}
+
+pub out_end_read : (links : List Link) (e : OutEnd) (l : Link) → IsOutEndOf links e → l ≡ get_or links e.link l → IsTx l e.tx
+out_end_read links e l h is = subst (λ m. IsTx m e.tx) (sym (is ∙ get_or_from_slice_get links e.link h.of l h.stands)) h.is_end
+
+pub refuses_none : (v : Known) → Refuses 0 v v
+refuses_none v = record {
+  noted = ap (λ (l : List ℕ). record v { fulls = l }) (sym (append-nil v.fulls));
+  looked = λ h. absurd (omega arith);
+  full = λ h. absurd (omega arith);
+}
+
+-- an offer is refused
+refuses_one : (cap : ℕ) (v u : Known) → RefusesOffer cap v u → v.cap ≡ cap → Refuses 1 v u
+refuses_one cap v u r is = record { noted = r.noted; looked = λ _. r.looked; full = λ _. (let full = r.full in omega arith) }
+
+pub offer_answer : (x : Offered) (P : Type 0) (k : McCopy) (cap : ℕ) (v u : Known) → MatchOffered x P (λ back. (back ≡ k) × RefusesOffer cap v u) → v.cap ≡ cap → MatchOffered x P (λ back. (back ≡ k) × Refuses 1 v u)
+offer_answer Taken P k cap v u h is = h
+offer_answer (Full back) P k cap v u h is = (h.0, refuses_one cap v u h.1 is)
+
+-- one offer more is refused
+pub refuses_more : (n : ℕ) (v w u : Known) → Refuses n v w → Refuses 1 w u → Refuses (n + 1) v u
+refuses_more n v w u h r =
+    let entered = length (put_of v) in
+    let often : List ℕ → Known = λ l. record v { fulls = l } in
+    record {
+      noted = r.noted ∙ ap (full_noted_often 1) h.noted
+          ∙ ap often (append_assoc v.fulls (replicate n entered) (entered ∷ []) ∙ ap (λ l. v.fulls ++ l) (replicate_more n entered));
+      looked = λ _. sym (ap (λ (x : Known). x.held) h.noted) ∙ r.looked (omega arith) ∙ ap (λ (x : Known). x.cap) h.noted;
+      full = λ _. (let full = r.full (omega arith) in let same = ap (λ (x : Known). length (put_of x)) h.noted in let cap_is = ap (λ (x : Known). x.cap) h.noted in omega arith);
+    }

@@ -1,0 +1,23 @@
+use Rattle.std.proofs.Common.{sym, subst}
+use Rattle.link_queue.specs.Ends.{sending}
+use Rattle.chip_node.specs.BankFlow.{OffersOne, unsent_of}
+use Rattle.chip_node.proofs.BankFlows.{send_part, collect_part, bank_turn_flow, offers_one, collecting_unsent, empty_collects_nothing, nothing_is_empty}
+use Rattle.chip_node.proofs.banks.CoreBank.turn.Goals as goal
+
+pub returns-clause-flow : goal.returns-clause-flow
+returns-clause-flow g c =
+    bank_turn_flow c.args.self.now c.send.new.self c.collect.new.self (send_part c.args.self.now c.send.new.self c.args.self.now.differ c.send.ensures.offers c.send.ensures.log)
+    (collect_part c.send.new.self c.collect.new.self c.collect.ensures.collects c.collect.ensures.inject)
+
+pub returns-clause-offers : goal.returns-clause-offers
+returns-clause-offers g c =
+    let vs = c.args.self.now.vertices.items in
+    let one = offers_one c.args.self.now.inject c.send.new.self.inject vs c.send.new.self.vertices.items c.send.ensures.offers in
+    subst (λ e. OffersOne (sending c.args.self.now.inject.tx) (sending e.tx) (unsent_of vs) (unsent_of c.collect.new.self.vertices.items)) (sym c.collect.ensures.inject)
+    (subst (λ l. OffersOne (sending c.args.self.now.inject.tx) (sending c.send.new.self.inject.tx) (unsent_of vs) l) (sym (collecting_unsent c.send.new.self c.collect.new.self c.collect.ensures.collects)) one)
+
+pub returns-clause-nothing : goal.returns-clause-nothing
+returns-clause-nothing g c = (
+  nothing_is_empty c.args.self.now.inject c.send.new.self.inject c.args.self.now c.send.new.self c.collect.new.self c.send.ensures.offers c.send.ensures.numbers c.collect.ensures.collects,
+  empty_collects_nothing c.args.self.now.vertices.items c.collect.new.self.vertices.items,
+)

@@ -1,0 +1,9 @@
+pub mod BankFlow
+pub mod Collecting
+pub mod Ends
+pub mod Looking
+pub mod Numbers
+pub mod Offers
+pub mod RouterFlow
+pub mod Routing
+pub mod Serving

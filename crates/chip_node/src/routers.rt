@@ -1,0 +1,183 @@
+// A chip's router between the links.
+ghost use Rattle.std.specs.Prelude.{◌≡◌, ◌≢◌, ◌≤◌, ◌<◌, ◌+◌, ◌++◌, AllPairs, Contains, length};
+ghost use Rattle.std.specs.List.{AllZip};
+ghost use Rattle.chip_node.specs.Serving.{ports_of, outs_with_ends, AreInEndsOf, AreOutEndsOf, OffersBy, records_of};
+
+use crate::ends::{InEnd, OutEnd, Served};
+use crate::looking::look;
+use crate::serving::{onward, outputs_of, send_by};
+use link_queue::Link;
+use spin_base::{Chip, DumpRec, McCopy, Out, Port, Room, Seq};
+use std::sync::Wait;
+use tcam_find::Tcam;
+
+/// A chip's router: the receiving ends of its input queues, the sending ends of the queues behind its outputs, how often
+/// it offers a copy, and the log of what it dropped. It has no plan and no net.
+#[derive(Drop)]
+pub struct RouterNode {
+    chip: Chip,
+    inputs: Vec<(Port, InEnd)>,
+    outputs: Vec<(Out, OutEnd)>,
+    patience: u32,
+    log: Room<DumpRec>,
+    // Where the next look begins.
+    start: usize,
+    ghost patient: { 1 ≤ patience },
+    ghost ports_differ: { AllPairs (λ a b. a ≢ b) (ports_of inputs.items) },
+    ghost outs_differ: { AllPairs (λ a b. a ≢ b) (outs_with_ends outputs.items) },
+}
+
+impl RouterNode {
+    ghost use Rattle.std.specs.Prelude.{◌↔◌, MatchOption};
+    ghost use Rattle.chip_node.specs.Routing.{onward};
+    ghost use Rattle.chip_node.specs.Looking.{IsEmptyAt, TakesOne, TakesNone};
+    ghost use Rattle.chip_node.specs.RouterFlow.{RouterFlow, ServesAll};
+
+    /// A router of a chip with these ends. An output that isn't listed has no queue behind it.
+    pub fn new(
+        chip: Chip,
+        inputs: Seq<(Port, InEnd)>,
+        outputs: Seq<(Out, OutEnd)>,
+        patience: u32,
+        log: Room<DumpRec>,
+    ) -> RouterNode
+        requires ports_differ { AllPairs (λ a b. a ≢ b) (ports_of inputs) }
+        requires outs_differ { AllPairs (λ a b. a ≢ b) (outs_with_ends outputs) }
+        requires patient { 1 ≤ patience }
+        ensures chip { result.chip ≡ chip }
+        ensures inputs { result.inputs.items ≡ inputs }
+        ensures outputs { result.outputs.items ≡ outputs }
+        ensures patience { result.patience ≡ patience }
+        ensures log { result.log ≡ log }
+    {
+        RouterNode {
+            chip,
+            inputs: inputs.into_vec(),
+            outputs: outputs.into_vec(),
+            patience,
+            log,
+            start: 0,
+        }
+    }
+
+    /// What `new` took, in the order of its parameters, as it now is.
+    pub fn into_parts(
+        self,
+    ) -> (
+        Chip,
+        Seq<(Port, InEnd)>,
+        Seq<(Out, OutEnd)>,
+        u32,
+        Room<DumpRec>,
+    )
+        ensures chip { result.0 ≡ self.chip }
+        ensures inputs { result.1 ≡ self.inputs.items }
+        ensures outputs { result.2 ≡ self.outputs.items }
+        ensures patience { result.3 ≡ self.patience }
+        ensures log { result.4 ≡ self.log }
+    {
+        let RouterNode {
+            chip,
+            inputs,
+            outputs,
+            patience,
+            log,
+            start: _start,
+        } = self;
+        (
+            chip,
+            Seq::from_vec(inputs),
+            Seq::from_vec(outputs),
+            patience,
+            log,
+        )
+    }
+
+    /// Serves one output of a copy: offers the copy, with one hop more, up to `patience` times. `Sent` exactly where an
+    /// offer of this call was taken. `Dumped` exactly where all of them were refused: the notes of the output's end then
+    /// grew by as many, and one record of the copy as it was handed in is logged. An output without an end refuses every
+    /// offer.
+    pub fn serve<R: Wait>(&mut self, rt: &R, links: &[Link], out: Out, copy: McCopy) -> Served
+        requires ends { AreOutEndsOf links.now self.old.outputs.items }
+        requires spare { 1 ≤ self.old.log.spare }
+        ensures offers { AllZip (OffersBy self.old.patience out (onward copy) result) self.old.outputs.items self.new.outputs.items }
+        ensures by_an_end { result ≡ Served.Sent → Contains (outs_with_ends self.old.outputs.items) out }
+        ensures logged { self.new.log.items ≡ self.old.log.items ++ records_of self.old.chip out copy result }
+        ensures spare { self.new.log.spare + length (records_of self.old.chip out copy result) ≡ self.old.log.spare }
+        ensures chip { self.new.chip ≡ self.old.chip }
+        ensures inputs { self.new.inputs ≡ self.old.inputs }
+        ensures patience { self.new.patience ≡ self.old.patience }
+        ensures ends { AreOutEndsOf links.now self.new.outputs.items }
+    {
+        let served = send_by(
+            rt,
+            links,
+            &mut self.outputs,
+            out,
+            onward(copy),
+            self.patience,
+        );
+        match served {
+            Served::Sent => {}
+            Served::Dumped => self.log.put(DumpRec {
+                chip: self.chip,
+                out,
+                copy,
+            }),
+        }
+        served
+    }
+
+    /// One turn: looks at the input queues, from a start that goes round, until one gives a copy, and serves each output
+    /// that the table gives the copy at its port once, in order; none where its hop number is 4,294,967,295. It takes
+    /// nothing exactly where each of its queues was found empty in this call.
+    pub fn turn<R: Wait>(&mut self, rt: &R, links: &[Link], table: &Tcam)
+        requires input_ends { AreInEndsOf links.now self.old.inputs.items }
+        requires output_ends { AreOutEndsOf links.now self.old.outputs.items }
+        requires spare { 24 ≤ self.old.log.spare }
+        ensures flow { RouterFlow table.now 1 self.old self.new }
+        ensures nothing { TakesNone self.old.inputs.items self.new.inputs.items ↔ AllZip IsEmptyAt self.old.inputs.items self.new.inputs.items }
+        ensures spare { self.old.log.spare ≤ self.new.log.spare + 24 }
+        ensures input_ends { AreInEndsOf links.now self.new.inputs.items }
+        ensures output_ends { AreOutEndsOf links.now self.new.outputs.items }
+    {
+        let Some((port, copy)) = self.take(rt, links) else {
+            return;
+        };
+        let outs = outputs_of(table, port, copy);
+        self.serve_all(rt, links, outs.as_slice(), copy);
+    }
+
+    // Takes a copy from one of the input queues.
+    fn take<R: Wait>(&mut self, rt: &R, links: &[Link]) -> Option<(Port, McCopy)>
+        requires ends { AreInEndsOf links.now self.old.inputs.items }
+        ensures looked { MatchOption result (AllZip IsEmptyAt self.old.inputs.items self.new.inputs.items) (λ t. TakesOne t self.old.inputs.items self.new.inputs.items) }
+        ensures chip { self.new.chip ≡ self.old.chip }
+        ensures outputs { self.new.outputs ≡ self.old.outputs }
+        ensures patience { self.new.patience ≡ self.old.patience }
+        ensures log { self.new.log ≡ self.old.log }
+        ensures ends { AreInEndsOf links.now self.new.inputs.items }
+    {
+        let start = if self.start < self.inputs.len() {
+            self.start
+        } else {
+            0
+        };
+        self.start = start + 1;
+        look(rt, links, &mut self.inputs, start)
+    }
+
+    // Serves a copy at these outputs.
+    fn serve_all<R: Wait>(&mut self, rt: &R, links: &[Link], outs: &[Out], copy: McCopy)
+        requires ends { AreOutEndsOf links.now self.old.outputs.items }
+        requires spare { length outs.now ≤ self.old.log.spare }
+        ensures serves { ServesAll outs.now copy self.old self.new }
+        ensures inputs { self.new.inputs ≡ self.old.inputs }
+        ensures spare { self.old.log.spare ≤ self.new.log.spare + length outs.now }
+        ensures ends { AreOutEndsOf links.now self.new.outputs.items }
+    {
+        for out in outs {
+            let _ = self.serve(rt, links, *out, copy);
+        }
+    }
+}
