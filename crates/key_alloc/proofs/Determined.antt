@@ -1,5 +1,5 @@
 -- Nets have at most one right list of blocks.
-use Rattle.std.proofs.Common.{◌≡◌, ℕ, ◌^◌, ◌<◌, ◌≤◌, List, length, take, slice_get, Some, sym, ap, ◌∙◌, subst, inl, inr, arith}
+use Rattle.std.proofs.Common.{◌≡◌, ℕ, ◌^◌, ◌<◌, ◌≤◌, List, ◌++◌, length, take, slice_get, Option, None, Some, MatchOption, sym, ap, ◌∙◌, subst, inl, inr, arith}
 use Rattle.std.specs.Prelude.{bit_and}
 use Rattle.std.proofs.lemmas.List.{take_all}
 use Rattle.std.proofs.lemmas.Option.{slice_get_cases, slice_get_within}
@@ -9,7 +9,7 @@ use Rattle.list_laws.proofs.Determined.{EachFollows, determined_begins}
 use Rattle.spin_base.specs.declared.blocks.Block.{Block}
 use Rattle.app_graph.specs.declared.graphs.Net.{Net}
 use Rattle.tern_word.proofs.BlockLaws.{one_block}
-use Rattle.key_alloc.specs.KeyBlocks.{size_of, IsOpen, IsBlockFor, AreFirstBlocks, AreRightBlocks, AreKeysOut}
+use Rattle.key_alloc.specs.KeyBlocks.{size_of, fixed_of, IsOpen, IsLeastBlock, IsBlockFor, AreFirstBlocks, AreRightBlocks, AreKeysOut}
 use Rattle.key_alloc.proofs.Sizes.{one_size}
 
 same_parts : (x y : Block) → x.key ≡ y.key → x.mask ≡ y.mask → x ≡ y
@@ -20,23 +20,30 @@ same_parts x y keys masks =
     let r : R y.key = subst R keys (λ w. q w y.small) in
     r y.within
 
-same_block : (earlier : List Block) (net : Net) (x y : Block) → IsBlockFor earlier net x → IsBlockFor earlier net y → x ≡ y
-same_block earlier net x y a b =
-    let sizes : size_of x ≡ size_of y = one_size net.keys (size_of x) (size_of y) a.size b.size in
+same_least : (taken : List Block) (keys : ℕ) (x y : Block) → IsLeastBlock taken keys x → IsLeastBlock taken keys y → x ≡ y
+same_least taken keys x y a b =
+    let sizes : size_of x ≡ size_of y = one_size keys (size_of x) (size_of y) a.size b.size in
     let masks : x.mask ≡ y.mask = omega (arith, sizes, x.small, y.small) in
-    let up : x.key ≤ y.key = a.least y.key (subst (λ s. IsOpen earlier s y.key) (sym sizes) b.may) in
-    let down : y.key ≤ x.key = b.least x.key (subst (λ s. IsOpen earlier s x.key) sizes a.may) in
+    let up : x.key ≤ y.key = a.least y.key (subst (λ s. IsOpen taken s y.key) (sym sizes) b.may) in
+    let down : y.key ≤ x.key = b.least x.key (subst (λ s. IsOpen taken s x.key) sizes a.may) in
     same_parts x y (omega arith) masks
+
+same_block : (taken : List Block) (net : Net) (x y : Block) → IsBlockFor taken net x → IsBlockFor taken net y → x ≡ y
+same_block taken net x y = by_fixed net.fixed
+  where
+    by_fixed : (o : Option Block) → MatchOption o (IsLeastBlock taken net.keys x) (λ f. x ≡ f) → MatchOption o (IsLeastBlock taken net.keys y) (λ f. y ≡ f) → x ≡ y
+    by_fixed None a b = same_least taken net.keys x y a b
+    by_fixed (Some f) a b = a ∙ sym b
 
 -- the block at a place is that of the net there, where these blocks stand before it
 abbrev Follows : List Net → List Block → ℕ → Block → Type 0
-Follows nets before n b = (net : Net) × (slice_get nets n ≡ Some net) × IsBlockFor before net b
+Follows nets before n b = (net : Net) × (slice_get nets n ≡ Some net) × IsBlockFor (fixed_of nets ++ before) net b
 
 same_follower : (nets : List Net) (before : List Block) (n : ℕ) (x y : Block) → Follows nets before n x → Follows nets before n y → x ≡ y
 same_follower nets before n x y a b =
     let one : Some a.0 ≡ Some b.0 = sym a.1 ∙ b.1 in
     let net : a.0 ≡ b.0 = cc in
-    same_block before b.0 x y (subst (λ z. IsBlockFor before z x) net a.2) b.2
+    same_block (fixed_of nets ++ before) b.0 x y (subst (λ z. IsBlockFor (fixed_of nets ++ before) z x) net a.2) b.2
 
 followed : (nets : List Net) (xs : List Block) → AreFirstBlocks nets xs → EachFollows (Follows nets) (same_follower nets) xs
 followed nets xs first n x is =
@@ -56,9 +63,9 @@ no_further nets xs i first out =
     elim (cases_lt i (length xs)) [
       | inl beyond ↦ elim (slice_get_cases xs i).1 [
         | inl (x, x_in, is_x, got_x) ↦ (
-            let mine = first.each i out.net x out.is is_x in
+            let mine = subst (λ o. MatchOption o (IsLeastBlock (fixed_of nets ++ take i xs) out.net.keys x) (λ f. x ≡ f)) out.free (first.each i out.net x out.is is_x) in
             let same : take i xs ≡ out.blocks = ap (λ n. take n xs) (sym out.here) ∙ begins nets out.blocks xs out.before first (omega (arith, out.here)) in
-            absurd (out.none (size_of x) x.key mine.size (subst (λ e. IsOpen e (size_of x) x.key) same mine.may))
+            absurd (out.none (size_of x) x.key mine.size (subst (λ e. IsOpen (fixed_of nets ++ e) (size_of x) x.key) same mine.may))
             )
         | inr (past, none) ↦ absurd (omega arith)
       ]

@@ -1,51 +1,38 @@
 -- One block more; and what right blocks are for: they are apart, and have enough keys.
-use Rattle.std.proofs.Common.{◌≡◌, ℕ, ◌+◌, ◌-◌, ◌%◌, ◌^◌, ◌<◌, ◌≤◌, ◌↔◌, true, List, [], ◌∷◌, ◌++◌, length, take, get_or, refl, sym, ap, ◌∙◌, subst, suc, Some, slice_get, inl, inr, arith, AllPairs}
-use Rattle.std.specs.Prelude.{bit_and}
+use Rattle.std.proofs.Common.{◌≡◌, ℕ, ◌+◌, ◌^◌, ◌<◌, ◌≤◌, List, [], ◌∷◌, ◌++◌, length, take, get_or, refl, sym, ap, ◌∙◌, subst, suc, Option, None, Some, MatchOption, slice_get, inl, inr, arith, AllPairs, Contains}
 use Rattle.std.specs.List.{AllZip}
-use Rattle.std.proofs.lemmas.Bool.Decides.{nat_tests}
-use Rattle.std.proofs.lemmas.List.{length_push, take-append-le, take_at, get_or-take, length-take-le}
-use Rattle.std.proofs.lemmas.Option.{slice_get-get_or, slice_get_cases, slice_get_within}
-use Rattle.list_laws.proofs.Places.{slice_get-push_cases}
+use Rattle.std.proofs.lemmas.List.{length_push, length-take, take-append-le, take_at, get_or-take}
+use Rattle.std.proofs.lemmas.List.Elements.{All-contains, Contains-append_left, Contains-append_right}
+use Rattle.std.proofs.lemmas.Option.{slice_get-get_or, slice_get_within, get_or_from_slice_get}
+use Rattle.list_laws.proofs.Members.{Contains-at, Contains-filter_map}
+use Rattle.list_laws.proofs.Places.{slice_get-push_cases, slice_get_there}
 use Rattle.spin_base.specs.declared.blocks.Block.{Block}
 use Rattle.app_graph.specs.declared.graphs.Net.{Net}
-use Rattle.range_store.specs.Regions.{in_range}
-use Rattle.tern_word.specs.Ternary.{Matches, Intersects}
-use Rattle.tern_word.proofs.BlockLaws.{range_keys, exponent_le, key_small}
-use Rattle.key_alloc.specs.KeyBlocks.{size_of, IsBlockFor, AreFirstBlocks, AreRightBlocks, HasKeys}
+use Rattle.app_graph.specs.ValidGraph.{AreApart}
+use Rattle.tern_word.specs.Ternary.{Intersects}
+use Rattle.tern_word.proofs.BlockLaws.{Intersects-sym}
+use Rattle.key_alloc.specs.KeyBlocks.{size_of, fixed_of, Misses, IsLeastBlock, IsBlockFor, AreFirstBlocks, AreRightBlocks, HasKeys}
+use Rattle.key_alloc.proofs.BlockRanges.{IsRange, range_of_block, apart_missed}
+use Rattle.key_alloc.proofs.FixedBlocks.{HaveFixed, serves_at, apart_at}
 
 pub none_yet : (nets : List Net) → AreFirstBlocks nets []
 none_yet nets = record { few = omega arith; each = λ i net b is_net is_block. cc }
 
 pub one_more : (nets : List Net) (blocks : List Block) (i : ℕ) (net : Net) (b : Block) → AreFirstBlocks nets blocks → length blocks ≡ i → slice_get nets i ≡ Some net
-    → IsBlockFor blocks net b → AreFirstBlocks nets (blocks ++ b ∷ [])
+    → IsBlockFor (fixed_of nets ++ blocks) net b → AreFirstBlocks nets (blocks ++ b ∷ [])
 one_more nets blocks i net b first here is right = record {
   few = omega (arith, length_push blocks b, slice_get_within nets i net is);
   each = λ j n c is_net is_block.
       elim (slice_get-push_cases blocks b c j is_block) [
-        | inl before ↦ subst (λ e. IsBlockFor e n c) (sym (take-append-le j blocks (b ∷ []) (omega (arith, before.0)))) (first.each j n c is_net before.1)
+        | inl before ↦ subst (λ e. IsBlockFor (fixed_of nets ++ e) n c) (sym (take-append-le j blocks (b ∷ []) (omega (arith, before.0)))) (first.each j n c is_net before.1)
         | inr last ↦ (
             let same_net : Some net ≡ Some n = sym is ∙ (ap (slice_get nets) (sym (last.0 ∙ here)) ∙ is_net) in
             let one_net : net ≡ n = cc in
-            subst (λ e. IsBlockFor e n c) (sym (take_at blocks (b ∷ []) j (sym last.0)))
-            (subst (λ z. IsBlockFor blocks n z) last.1 (subst (λ z. IsBlockFor blocks z b) one_net right))
+            subst (λ e. IsBlockFor (fixed_of nets ++ e) n c) (sym (take_at blocks (b ∷ []) j (sym last.0)))
+            (subst (λ z. IsBlockFor (fixed_of nets ++ blocks) n z) last.1 (subst (λ z. IsBlockFor (fixed_of nets ++ blocks) z b) one_net right))
             )
       ];
 }
-
--- ---- keys of a block
-
--- The keys of a net's block are those of its range.
-pub keys_of_block : (earlier : List Block) (net : Net) (b : Block) → IsBlockFor earlier net b → (k : ℕ) → k < 2 ^ 32 → Matches b k ↔ ((b.key ≤ k) × (k < b.key + size_of b))
-keys_of_block earlier net b right =
-    let e = right.size.power.0 in
-    let is : size_of b ≡ 2 ^ e = right.size.power.1 in
-    let fits = exponent_le e (subst (λ s. s ≤ 2 ^ 32) is (omega arith)) in
-    let aligned = subst (λ s. b.key % s ≡ 0) is right.may.aligned in
-    let mask : b.mask ≡ 2 ^ 32 - size_of b = omega (arith, b.small) in
-    let ranged = range_keys e b.key fits aligned (key_small b) in
-    let P : ℕ → Type 0 = λ m. (k : ℕ) → k < 2 ^ 32 → (bit_and k m ≡ b.key) ↔ ((b.key ≤ k) × (k < b.key + size_of b)) in
-    let Q : ℕ → Type 0 = λ s. (k : ℕ) → k < 2 ^ 32 → (bit_and k (2 ^ 32 - s) ≡ b.key) ↔ ((b.key ≤ k) × (k < b.key + s)) in
-    subst P (sym mask) (subst Q (sym is) ranged)
 
 zip_from_places : (nets : List Net) (blocks : List Block) → length nets ≡ length blocks
     → ((i : ℕ) (net : Net) (b : Block) → slice_get nets i ≡ Some net → slice_get blocks i ≡ Some b → HasKeys net b) → AllZip HasKeys nets blocks
@@ -54,33 +41,63 @@ zip_from_places [] (b ∷ bs) same each = absurd (omega arith)
 zip_from_places (n ∷ ns) [] same each = absurd (omega arith)
 zip_from_places (n ∷ ns) (b ∷ bs) same each = (each 0 n b refl refl, zip_from_places ns bs (omega arith) (λ i net c. each (suc i) net c))
 
-in_from : (p s k : ℕ) → p ≤ k → k < p + s → in_range p s k ≡ true
-in_from p s k a b = grind (arith, nat_tests)
+module _ (nets : List Net) (blocks : List Block) (fixed : HaveFixed nets) (right : AreRightBlocks nets blocks) where
+  -- the net of a block, and what the two are to each other
+  record HasNet (j : ℕ) (b : Block) : Type 0 where
+    net : Net
+    is : slice_get nets j ≡ Some net
+    block : IsBlockFor (fixed_of nets ++ take j blocks) net b
+    range : IsRange b
+    enough : net.keys ≤ size_of b
 
-module _ (nets : List Net) (blocks : List Block) (right : AreRightBlocks nets blocks) where
-  -- the net of a block
-  net_at : (j : ℕ) (d : Block) → j < length blocks → (net : Net) × IsBlockFor (take j blocks) net (get_or blocks j d)
-  net_at j d inside =
-      elim (slice_get_cases nets j).1 [
-        | inl (net, within, is, got) ↦ (net, right.first.each j net (get_or blocks j d) is (slice_get-get_or blocks j d inside))
-        | inr (past, none) ↦ absurd (omega (arith, right.all))
-      ]
+  net_at : (j : ℕ) (b : Block) → slice_get blocks j ≡ Some b → HasNet j b
+  net_at j b is =
+      let net = slice_get_there nets j (omega (arith, slice_get_within blocks j b is, right.all)) in
+      let mine = right.first.each j net.0 b net.1 is in
+      let range = range_of_block (fixed_of nets ++ take j blocks) net.0 b (serves_at nets fixed j net.0 net.1) mine in
+      record { net = net.0; is = net.1; block = mine; range = range.0; enough = range.1 }
+
+  module _ (i j : ℕ) (a b : Block) (ord : i < j) (at_a : slice_get blocks i ≡ Some a) (at_b : slice_get blocks j ≡ Some b) where
+    first : HasNet i a
+    first = net_at i a at_a
+
+    second : HasNet j b
+    second = net_at j b at_b
+
+    a_before : Contains (fixed_of nets ++ take j blocks) a
+    a_before =
+        let within : i < length (take j blocks) = omega (arith, length-take j blocks, slice_get_within blocks j b at_b) in
+        Contains-append_right (fixed_of nets) (take j blocks) a
+        (Contains-at (take j blocks) i a (slice_get-get_or (take j blocks) i a within ∙ ap Some (get_or-take j blocks i a ord ∙ get_or_from_slice_get blocks i a a at_a)))
+
+    fixed_taken : (g : Block) → second.net.fixed ≡ Some g → Contains (fixed_of nets ++ take i blocks) g
+    fixed_taken g is =
+        Contains-append_left (fixed_of nets) (take i blocks) g
+        (Contains-filter_map (λ (n : Net). n.fixed) nets second.net g (Contains-at nets j second.net second.is) is)
+
+    by_fixed : (o p : Option Block) → first.net.fixed ≡ o → second.net.fixed ≡ p → MatchOption o (IsLeastBlock (fixed_of nets ++ take i blocks) first.net.keys a) (λ f. a ≡ f)
+        → MatchOption p (IsLeastBlock (fixed_of nets ++ take j blocks) second.net.keys b) (λ g. b ≡ g) → Intersects a b → ⊥
+    by_fixed o None is_o is_p mine least =
+        apart_missed a b first.range second.range (All-contains (Misses b.key (size_of b)) (fixed_of nets ++ take j blocks) a least.may.apart a_before)
+    by_fixed None (Some g) is_o is_p least its = λ meet.
+        let taken = subst (Contains (fixed_of nets ++ take i blocks)) (sym its) (fixed_taken g is_p) in
+        apart_missed b a second.range first.range (All-contains (Misses a.key (size_of a)) (fixed_of nets ++ take i blocks) b least.may.apart taken) (Intersects-sym a b meet)
+    by_fixed (Some f) (Some g) is_o is_p mine its = λ meet.
+        let apart = subst (λ x. AreApart x b) (sym mine) (subst (AreApart f) (sym its) (apart_at nets fixed i j first.net second.net f g ord first.is second.is is_o is_p)) in
+        apart meet.key meet.small meet.first meet.second
+
+    pub two_apart : Intersects a b → ⊥
+    two_apart = by_fixed first.net.fixed second.net.fixed refl refl first.block second.block
 
   pub blocks_apart : AllPairs (λ a b. Intersects a b → ⊥) blocks
-  blocks_apart i j d ord inside meet =
-      let (n, mine) = net_at j d inside in
-      let (m, its) = net_at i d (omega arith) in
-      let a = (keys_of_block (take i blocks) m (get_or blocks i d) its meet.key meet.small).0 meet.first in
-      let b = (keys_of_block (take j blocks) n (get_or blocks j d) mine meet.key meet.small).0 meet.second in
-      let earlier : get_or (take j blocks) i d ≡ get_or blocks i d = get_or-take j blocks i d ord in
-      let within : i < length (take j blocks) = subst (λ n. i < n) (sym (length-take-le j blocks (omega arith))) ord in
-      let apart = mine.may.apart i d within in
-      apart meet.key
-      (subst (λ (x : Block). in_range x.key (size_of x) meet.key ≡ true) (sym earlier) (in_from (get_or blocks i d).key (size_of (get_or blocks i d)) meet.key a.0 a.1))
-      (in_from (get_or blocks j d).key (size_of (get_or blocks j d)) meet.key b.0 b.1)
+  blocks_apart i j d ord inside =
+      two_apart i j (get_or blocks i d) (get_or blocks j d) ord (slice_get-get_or blocks i d (omega arith)) (slice_get-get_or blocks j d inside)
 
   pub keys_enough : AllZip HasKeys nets blocks
   keys_enough = zip_from_places nets blocks (sym right.all) (λ i net b is_net is_block index few.
-      let mine = right.first.each i net b is_net is_block in
-      let small : b.key + index < 2 ^ 32 = omega (arith, mine.may.within, mine.size.enough) in
-      (small, (keys_of_block (take i blocks) net b mine (b.key + index) small).1 (omega arith, omega (arith, mine.size.enough))))
+      let has = net_at i b is_block in
+      let one : Some has.net ≡ Some net = sym has.is ∙ is_net in
+      let same : has.net ≡ net = cc in
+      let many : net.keys ≤ size_of b = subst (λ (n : Net). n.keys ≤ size_of b) same has.enough in
+      let small : b.key + index < 2 ^ 32 = omega (arith, has.range.within, many) in
+      (small, (has.range.keys (b.key + index) small).1 (omega arith, omega (arith, many))))

@@ -1,4 +1,6 @@
 mod Sizes
 mod Taking
+mod BlockRanges
+mod FixedBlocks
 mod Growing
 pub mod Determined

@@ -1,14 +1,16 @@
 -- Which places of the region of keys are free, while blocks are taken from it.
-use Rattle.std.proofs.Common.{◌≡◌, ℕ, ◌+◌, ◌-◌, ◌%◌, ◌<◌, ◌≤◌, Bool, true, false, true≢false, not, ◌&&◌, ◌||◌, ltb, List, [], ◌∷◌, ◌++◌, get_or, refl, sym, ap, ◌∙◌, inl, inr, arith}
-use Rattle.std.specs.List.{list_any}
+use Rattle.std.proofs.Common.{◌≡◌, ℕ, ◌+◌, ◌-◌, ◌%◌, ◌<◌, ◌≤◌, Bool, true, false, true≢false, not, ◌&&◌, ◌||◌, ◌⊎◌, ltb, List, [], ◌∷◌, ◌++◌, get_or, refl, sym, ap, ◌∙◌, subst, inl, inr, Option, None, Some, MatchOption, IfSome, IfNone, Result, Ok, Err, IfOk, arith}
+use Rattle.std.specs.List.{Contains, list_any}
 use Rattle.std.proofs.lemmas.Bool.{and_parts, cases_Bool, cases_lt, lt-ltb, ltb-true, not-true, or_cases, or_left, or_right}
 use Rattle.std.proofs.lemmas.Bool.Decides.{nat_tests}
 use Rattle.std.proofs.lemmas.List.Folds.{list_any-append, list_any_at, list_any_none}
 use Rattle.spin_base.specs.declared.blocks.Block.{Block}
+use Rattle.spin_base.specs.declared.wants.Memory.{Memory}
 use Rattle.app_graph.specs.declared.graphs.Net.{Net}
 use Rattle.range_store.specs.declared.holes.Hole.{Hole}
 use Rattle.range_store.specs.Regions.{AreRuns, IsFirstFit, HasNoFit, has_range, is_hole_range, is_free, in_range, end_of, hole_of}
-use Rattle.key_alloc.specs.KeyBlocks.{size_of, IsSizeFor, IsOpen, IsBlockFor}
+use Rattle.key_alloc.specs.KeyBlocks.{size_of, IsSizeFor, IsOpen, IsLeastBlock, IsBlockFor}
+use Rattle.key_alloc.specs.FreeKeys.{has_key, AreFreeBeside}
 use Rattle.key_alloc.proofs.Sizes.{positive}
 
 clash : {A : Type 0} {b : Bool} → b ≡ true → b ≡ false → A
@@ -70,15 +72,6 @@ range_of_free from n (h ∷ hs) p s runs some free =
 
 -- ---- the region while blocks are taken
 
--- the key is in the block's range
-abbrev pub has_key : ℕ → Block → Bool
-has_key k b = in_range b.key (size_of b) k
-
--- a key is free where it has 32 bits and is in the range of no block
-pub record IsTaken (blocks : List Block) (holes : List Hole) : Type 0 where
-  pub runs : AreRuns 0 4294967296 holes
-  pub free : (k : ℕ) → is_free holes k ≡ (ltb k 4294967296 && not (list_any (has_key k) blocks))
-
 free_of : (a b : Bool) → a ≡ true → b ≡ false → (a && not b) ≡ true
 free_of true false p q = refl
 free_of true true p q = clash refl q
@@ -90,14 +83,14 @@ regroup true true c = refl
 regroup true false true = refl
 regroup true false false = refl
 
-pub all_free : IsTaken [] (hole_of 0 4294967296)
+pub all_free : AreFreeBeside [] (hole_of 0 4294967296)
 all_free = record {
   runs = (omega arith, omega arith, omega arith, tt);
   free = λ k. grind (arith, nat_tests);
 }
 
-pub taken_more : (blocks : List Block) (b : Block) (holes after : List Hole) → IsTaken blocks holes → AreRuns 0 4294967296 after
-    → ((k : ℕ) → is_free after k ≡ (is_free holes k && not (in_range b.key (size_of b) k))) → IsTaken (blocks ++ b ∷ []) after
+pub taken_more : (blocks : List Block) (b : Block) (holes after : List Hole) → AreFreeBeside blocks holes → AreRuns 0 4294967296 after
+    → ((k : ℕ) → is_free after k ≡ (is_free holes k && not (in_range b.key (size_of b) k))) → AreFreeBeside (blocks ++ b ∷ []) after
 taken_more blocks b holes after taken runs free = record {
   runs = runs;
   free = λ k.
@@ -110,7 +103,7 @@ taken_more blocks b holes after taken runs free = record {
 in_facts : (p s k : ℕ) → in_range p s k ≡ true → (p ≤ k) × (k < p + s)
 in_facts p s k e = (grind (arith, nat_tests), grind (arith, nat_tests))
 
-module _ (blocks : List Block) (holes : List Hole) (taken : IsTaken blocks holes) (s : ℕ) (some : 0 < s) where
+module _ (blocks : List Block) (holes : List Hole) (taken : AreFreeBeside blocks holes) (s : ℕ) (some : 0 < s) where
   pub open_from_hole : (p : ℕ) → p % s ≡ 0 → is_hole_range holes p s ≡ true → IsOpen blocks s p
   open_from_hole p aligned fits =
       let at : (k : ℕ) → p ≤ k → k < p + s → (ltb k 4294967296 ≡ true) × (not (list_any (has_key k) blocks) ≡ true) =
@@ -132,10 +125,10 @@ module _ (blocks : List Block) (holes : List Hole) (taken : IsTaken blocks holes
         | inr none ↦ none
       ])))
 
--- the first fit in the region is the net's block
-pub block_from_fit : (blocks : List Block) (holes : List Hole) (net : Net) (b : Block) → IsTaken blocks holes → IsSizeFor net.keys (size_of b)
-    → IsFirstFit holes (size_of b) (size_of b) b.key → IsBlockFor blocks net b
-block_from_fit blocks holes net b taken size fit =
+-- the first fit in the region is the least block
+pub block_from_fit : (blocks : List Block) (holes : List Hole) (keys : ℕ) (b : Block) → AreFreeBeside blocks holes → IsSizeFor keys (size_of b)
+    → IsFirstFit holes (size_of b) (size_of b) b.key → IsLeastBlock blocks keys b
+block_from_fit blocks holes keys b taken size fit =
     let some = positive (size_of b) size.power in
     record {
       size = size;
@@ -143,7 +136,41 @@ block_from_fit blocks holes net b taken size fit =
       least = λ p o. fit.least p o.aligned (hole_from_open blocks holes taken (size_of b) some p o);
     }
 
-pub none_from_fit : (blocks : List Block) (holes : List Hole) (net : Net) → IsTaken blocks holes → ((s : ℕ) → IsSizeFor net.keys s → HasNoFit holes s s)
-    → (s p : ℕ) → IsSizeFor net.keys s → IsOpen blocks s p → ⊥
-none_from_fit blocks holes net taken none s p size o =
+pub none_from_fit : (blocks : List Block) (holes : List Hole) (keys : ℕ) → AreFreeBeside blocks holes → ((s : ℕ) → IsSizeFor keys s → HasNoFit holes s s)
+    → (s p : ℕ) → IsSizeFor keys s → IsOpen blocks s p → ⊥
+none_from_fit blocks holes keys taken none s p size o =
     clash (hole_from_open blocks holes taken s (positive s size.power) p o) (none s size p o.aligned)
+
+-- a block that is among those that are taken takes no more
+pub taken_again : (blocks : List Block) (b : Block) (holes : List Hole) → AreFreeBeside blocks holes → Contains blocks b → AreFreeBeside (blocks ++ b ∷ []) holes
+taken_again blocks b holes taken has = record {
+  runs = taken.runs;
+  free = λ k. taken.free k ∙ ap (λ z. ltb k 4294967296 && not z) (sym (list_any-append (has_key k) blocks (b ∷ []) ∙ said_twice k (cases_Bool (has_key k b))));
+}
+  where
+    or_neither : (a c : Bool) → c ≡ false → (a || (c || false)) ≡ a
+    or_neither true c e = refl
+    or_neither false true e = clash refl e
+    or_neither false false e = refl
+
+    said_twice : (k : ℕ) → (has_key k b ≡ true) ⊎ (has_key k b ≡ false) → (list_any (has_key k) blocks || (has_key k b || false)) ≡ list_any (has_key k) blocks
+    said_twice k (inl mine) =
+        let any : list_any (has_key k) blocks ≡ true = list_any_at (has_key k) blocks has.0 b has.1 (ap (has_key k) has.2 ∙ mine) in
+        or_left (list_any (has_key k) blocks) (has_key k b || false) any ∙ sym any
+    said_twice k (inr none) = or_neither (list_any (has_key k) blocks) (has_key k b) none
+
+-- ---- the block that a net gets, which is a block of the region or none
+
+module _ (net : Net) (holes : List Hole) (not_fixed : net.fixed ≡ None) where
+  pub right_in : (r : Result (Option Block) Memory) → IfOk r (λ o. IfSome o (λ b. IsSizeFor net.keys (size_of b))) → IfOk r (λ o. IfSome o (λ b. IsFirstFit holes (size_of b) (size_of b) b.key))
+      → IfOk r (λ o. IfSome o (λ b. (taken : List Block) → AreFreeBeside taken holes → IsBlockFor taken net b))
+  right_in (Ok (Some b)) size first = λ taken free.
+      subst (λ o. MatchOption o (IsLeastBlock taken net.keys b) (λ f. b ≡ f)) (sym not_fixed) (block_from_fit taken holes net.keys b free size first)
+  right_in (Ok None) size first = tt
+  right_in (Err e) size first = tt
+
+  pub none_in : (r : Result (Option Block) Memory) → IfOk r (λ o. IfNone o ((s : ℕ) → IsSizeFor net.keys s → HasNoFit holes s s))
+      → IfOk r (λ o. IfNone o ((taken : List Block) → AreFreeBeside taken holes → (s p : ℕ) → IsSizeFor net.keys s → IsOpen taken s p → ⊥))
+  none_in (Ok (Some b)) none = tt
+  none_in (Ok None) none = λ taken free. none_from_fit taken holes net.keys free none
+  none_in (Err e) none = tt

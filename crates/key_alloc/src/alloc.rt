@@ -1,13 +1,16 @@
 // The blocks of all nets.
-ghost use Rattle.std.specs.Prelude.{◌≡◌, ℕ, ◌+◌, ◌^◌, ◌<◌, ◌≤◌, ◌&&◌, ◌↔◌, not, AllPairs, IfOk, IfErr, IfSome, IfNone};
-ghost use Rattle.std.specs.List.{AllZip};
+ghost use Rattle.std.specs.Prelude.{◌≡◌, ℕ, ◌+◌, ◌^◌, ◌<◌, ◌≤◌, ◌&&◌, ◌↔◌, ◌++◌, ◌∷◌, [], List, not, AllPairs, IfOk, IfErr, IfSome, IfNone};
+ghost use Rattle.std.specs.List.{AllZip, Contains};
+ghost use Rattle.spin_base.specs.declared.blocks.Block.{Block};
 ghost use Rattle.app_graph.specs.ValidGraph.{IsValidGraph};
 ghost use Rattle.range_store.specs.Regions.{AreRuns, IsFirstFit, HasNoFit, is_free, in_range};
 ghost use Rattle.tern_word.specs.Ternary.{Matches, Intersects};
-ghost use Rattle.key_alloc.specs.KeyBlocks.{IsSizeFor, AreRightBlocks, HasKeys, size_of};
+ghost use Rattle.key_alloc.specs.KeyBlocks.{IsSizeFor, IsOpen, IsBlockFor, AreRightBlocks, HasKeys, size_of};
+ghost use Rattle.key_alloc.specs.FreeKeys.{AreFreeBeside};
 ghost use Rattle.key_alloc.specs.Cause.{IsCause};
 
-use app_graph::Graph;
+use crate::fixed::keys_not_fixed;
+use app_graph::{Graph, Net};
 use range_store::Ranges;
 use spin_base::{Block, Memory, Seq};
 use std::alloc::Global;
@@ -33,9 +36,10 @@ impl From<Memory> for KeyErr {
     }
 }
 
-/// The blocks of the nets, in their order. A net's block has as many keys as the least power of two that is not below
-/// the keys that the net needs. It begins at the least multiple of that number from which the range meets no block of
-/// an earlier net. `KeysOut` comes exactly where some net has no such range below 2^32, and names the first.
+/// The blocks of the nets, in their order. First the fixed blocks of all nets are taken. Then each net without one, in
+/// order, gets a block of as many keys as the least power of two that is not below the keys that it needs; it begins at the
+/// least multiple of that number from which the range meets no fixed block and no block of an earlier net. `KeysOut` comes
+/// exactly where some net without a fixed block has no such range below 2^32, and names the first.
 pub fn keys(alloc: Global, graph: &Graph) -> Result<Seq<Block>, KeyErr>
     requires { IsValidGraph graph.now }
     ensures blocks { IfOk result (AreRightBlocks graph.now.nets) }
@@ -43,15 +47,33 @@ pub fn keys(alloc: Global, graph: &Graph) -> Result<Seq<Block>, KeyErr>
     ensures apart { IfOk result (AllPairs (λ a b. ¬ Intersects a b)) }
     ensures enough { IfOk result (AllZip HasKeys graph.now.nets) }
 {
-    let mut free = Ranges::new(alloc, 4_294_967_296)?;
+    let mut free = keys_not_fixed(alloc, graph.nets.as_slice())?;
     let mut blocks = Seq::new(alloc);
     for (i, net) in graph.nets.as_slice().iter().enumerate() {
-        let Some(block) = next_block(&mut free, net.keys)? else {
+        let Some(block) = block_for(&mut free, net)? else {
             return Err(KeyErr::KeysOut { net: i as u32 });
         };
         blocks.push(block)?;
     }
     Ok(blocks)
+}
+
+// The block that is fixed for a net, which is taken already, or else the first free range of its size, which it takes.
+fn block_for(free: &mut Ranges, net: &Net) -> Result<Option<Block>, Memory>
+    requires some { 1 ≤ net.now.keys }
+    requires few { net.now.keys ≤ 4294967296 }
+    requires whole { free.old.size ≡ 4294967296 }
+    requires runs { AreRuns 0 4294967296 free.old.holes }
+    ensures right { IfOk result (λ o. IfSome o (λ b. (taken : List Block) → AreFreeBeside taken free.old.holes → IsBlockFor taken net.now b)) }
+    ensures free { IfOk result (λ o. IfSome o (λ b. (taken : List Block) → AreFreeBeside taken free.old.holes → IfSome net.now.fixed (Contains taken) → AreFreeBeside (taken ++ b ∷ []) free.new.holes)) }
+    ensures not_fixed { IfOk result (λ o. IfNone o (net.now.fixed ≡ None)) }
+    ensures none { IfOk result (λ o. IfNone o ((taken : List Block) → AreFreeBeside taken free.old.holes → (size place : ℕ) → IsSizeFor net.now.keys size → IsOpen taken size place → ⊥)) }
+    ensures whole { free.new.size ≡ 4294967296 }
+{
+    match net.fixed {
+        Some(block) => Ok(Some(block)),
+        None => next_block(free, net.keys),
+    }
 }
 
 // Takes the first free range of the size for so many keys, as a block.

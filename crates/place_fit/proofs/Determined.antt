@@ -1,5 +1,5 @@
 -- Vertices have at most one placement.
-use Rattle.std.proofs.Common.{◌≡◌, ℕ, ◌≤◌, true, List, [], ◌∷◌, length, take, slice_get, Some, filter, sym, ap, ◌∙◌, subst, inl, inr, arith, All}
+use Rattle.std.proofs.Common.{◌≡◌, ℕ, ◌≤◌, true, List, [], ◌∷◌, length, take, slice_get, Option, Some, None, MatchOption, filter, sym, ap, ◌∙◌, subst, inl, inr, arith, All}
 use Rattle.std.proofs.lemmas.Bool.{cases_lt}
 use Rattle.std.proofs.lemmas.Grind.{same_number_lists}
 use Rattle.std.proofs.lemmas.List.{take_all}
@@ -9,12 +9,13 @@ use Rattle.list_laws.proofs.Places.{slice_get_there}
 use Rattle.list_laws.proofs.Determined.{EachFollows, determined_begins}
 use Rattle.spin_base.specs.declared.chips.Chip.{Chip}
 use Rattle.spin_base.specs.declared.chips.Spot.{Spot}
+use Rattle.machine_desc.specs.declared.trees.Edge.{Edge}
 use Rattle.machine_desc.specs.Description.{Description}
 use Rattle.machine_desc.specs.Live.{is_live_chip}
 use Rattle.machine_desc.proofs.Same.{same_spot}
 use Rattle.app_graph.specs.declared.graphs.Vertex.{Vertex}
 use Rattle.place_fit.specs.Curve.{hilbert, IsChipOrder}
-use Rattle.place_fit.specs.Placement.{core_of, is_free_core, HasRoom, IsFirst, choices, IsSpotFor, AreFirstSpots, AreFirstMemories, memory_of, IsPlacement, HasNoRoom}
+use Rattle.place_fit.specs.Placement.{core_of, is_free_core, HasRoom, IsFirst, choices, IsCoreFor, HasDeviceRoom, device_spot, IsSpotFor, FindsNoRoom, AreFirstSpots, AreFirstMemories, memory_of, IsPlacement, HasNoRoom}
 
 one_order : (m : Description) (xs ys : List Chip) → IsChipOrder m xs → IsChipOrder m ys → xs ≡ ys
 one_order m xs ys a b =
@@ -39,12 +40,28 @@ none_first P (x ∷ xs) c a none =
       | inr later ↦ none_first P xs c later.1 (All-tail (λ z. P z → ⊥) x xs none)
     ]
 
-one_spot : (m : Description) (order : List Chip) (vs : List Vertex) (ss : List Spot) (v : Vertex) (s t : Spot) → IsSpotFor m order vs ss v s → IsSpotFor m order vs ss v t → s ≡ t
-one_spot m order vs ss v s t a b =
+one_core : (m : Description) (order : List Chip) (vs : List Vertex) (ss : List Spot) (v : Vertex) (s t : Spot) → IsCoreFor m order vs ss v s → IsCoreFor m order vs ss v t → s ≡ t
+one_core m order vs ss v s t a b =
     let chips : s.chip ≡ t.chip = one_first (HasRoom m vs ss v) (choices order v.at) s.chip t.chip a.chip b.chip in
     let up : s.core ≤ t.core = a.least t.core (subst (λ c. is_free_core m ss (core_of c t.core) ≡ true) (sym chips) b.free) in
     let down : t.core ≤ s.core = b.least s.core (subst (λ c. is_free_core m ss (core_of c s.core) ≡ true) chips a.free) in
     same_spot s t chips (omega (arith, up, down))
+
+one_spot : (m : Description) (order : List Chip) (vs : List Vertex) (ss : List Spot) (v : Vertex) (s t : Spot) → IsSpotFor m order vs ss v s → IsSpotFor m order vs ss v t → s ≡ t
+one_spot m order vs ss v s t = by_device v.device
+  where
+    by_device : (o : Option Edge) → MatchOption o (IsCoreFor m order vs ss v s) (λ d. HasDeviceRoom m d × (s ≡ device_spot d)) → MatchOption o (IsCoreFor m order vs ss v t) (λ d. HasDeviceRoom m d × (t ≡ device_spot d)) → s ≡ t
+    by_device None a b = one_core m order vs ss v s t a b
+    by_device (Some d) a b = a.1 ∙ sym b.1
+
+-- a vertex that has a spot finds room
+spot_has_room : (m : Description) (order : List Chip) (vs : List Vertex) (ss : List Spot) (v : Vertex) (s : Spot) → IsSpotFor m order vs ss v s → FindsNoRoom m order vs ss v → ⊥
+spot_has_room m order vs ss v s = by_device v.device
+  where
+    by_device : (o : Option Edge) → MatchOption o (IsCoreFor m order vs ss v s) (λ d. HasDeviceRoom m d × (s ≡ device_spot d))
+        → MatchOption o (All (λ c. HasRoom m vs ss v c → ⊥) (choices order v.at)) (λ d. HasDeviceRoom m d → ⊥) → ⊥
+    by_device None at none = none_first (HasRoom m vs ss v) (choices order v.at) s.chip at.chip none
+    by_device (Some d) at none = none at.0
 
 module _ (m : Description) (order : List Chip) (vertices : List Vertex) where
   -- the spot at a place is that of the vertex there, where these stand before it
@@ -76,9 +93,9 @@ no_further m order vertices xs i is_order first out =
             let mine = first.each i out.vertex x out.is is_x in
             let before = subst (λ o. AreFirstSpots m o vertices out.spots) orders out.before in
             let same : take i xs ≡ out.spots = ap (λ n. take n xs) (sym out.here) ∙ begins m order vertices out.spots xs before first (omega (arith, out.here)) in
-            let chip = subst (λ e. IsFirst (HasRoom m (take i vertices) e out.vertex) (choices order out.vertex.at) x.chip) same mine.chip in
-            let none = subst (λ o. All (λ c. HasRoom m (take i vertices) out.spots out.vertex c → ⊥) (choices o out.vertex.at)) orders out.none in
-            absurd (none_first (HasRoom m (take i vertices) out.spots out.vertex) (choices order out.vertex.at) x.chip chip none)
+            let spot = subst (λ e. IsSpotFor m order (take i vertices) e out.vertex x) same mine in
+            let none = subst (λ o. FindsNoRoom m o (take i vertices) out.spots out.vertex) orders out.none in
+            absurd (spot_has_room m order (take i vertices) out.spots out.vertex x spot none)
             )
         | inr (past, none) ↦ absurd (omega arith)
       ]

@@ -1,26 +1,34 @@
 -- The spots that a board gives are those of the definition.
-use Rattle.std.proofs.Common.{◌≡◌, ◌≢◌, ℕ, ◌+◌, ◌-◌, ◌^◌, ◌<◌, ◌≤◌, ◌==◌, Bool, true, cond, List, [], ◌∷◌, ◌++◌, length, take, filter, get_or, refl, sym, ap, ap₂, ◌∙◌, subst, zero, suc, Option, Some, None, slice_get, MatchOption, inl, inr, arith, All, AllPairs}
-use Rattle.std.proofs.lemmas.Bool.{cases_Bool, cond-true, cond-false}
-use Rattle.std.proofs.lemmas.List.{length_push, take-append-le, take_at, get_or-take, length-take-le}
+use Rattle.std.proofs.Common.{◌≡◌, ◌≢◌, ℕ, ◌+◌, ◌-◌, ◌^◌, ◌<◌, ◌≤◌, ◌==◌, Bool, true, not, leb, ltb, cond, List, [], ◌∷◌, ◌++◌, length, take, filter, get_or, refl, sym, ap, ap₂, ◌∙◌, subst, zero, suc, Option, Some, None, slice_get, MatchOption, inl, inr, arith, All, AllPairs}
+use Rattle.std.proofs.lemmas.Bool.{cases_Bool, cond-true, cond-false, and_from, or_right, le-leb, lt-ltb}
+use Rattle.std.proofs.lemmas.List.{length_push, length-take, take-append-le, take_at, get_or-take}
+use Rattle.std.specs.List.{AllZip}
 use Rattle.std.proofs.lemmas.List.Folds.{list_any_at}
 use Rattle.std.proofs.lemmas.List.Elements.{All-filter, All-nil, All-cons}
-use Rattle.std.proofs.lemmas.Option.{slice_get_within, slice_get-get_or, slice_get_cases}
-use Rattle.list_laws.proofs.Places.{slice_get-push_cases, slice_get-append_left, slice_get-pushed}
+use Rattle.std.proofs.lemmas.Option.{slice_get_within, slice_get-get_or, slice_get_cases, get_or_from_slice_get}
+use Rattle.list_laws.proofs.Places.{slice_get_there, slice_get-push_cases, slice_get-append_left, slice_get-pushed}
 use Rattle.spin_base.specs.declared.chips.Chip.{Chip}
 use Rattle.spin_base.specs.declared.chips.Spot.{Spot}
 use Rattle.spin_base.specs.Equality.{spot_eq}
 use Rattle.spin_base.proofs.Equality.{spot_eq_same}
+use Rattle.spin_base.specs.declared.chips.Dir.{Dir}
+use Rattle.spin_base.specs.Links.{dir_number, dir_at}
+use Rattle.spin_base.proofs.Spots.{dir_at-dir_number}
+use Rattle.machine_desc.specs.declared.trees.Edge.{Edge}
 use Rattle.machine_desc.specs.Description.{Description}
-use Rattle.machine_desc.specs.Live.{is_live_chip, IsUsable}
+use Rattle.machine_desc.specs.Live.{is_live_chip, is_live_link, is_usable, is_device_place, IsUsable, IsSite}
+use Rattle.machine_desc.proofs.Same.{same_edge, same_dir, below_six}
+use Rattle.machine_desc.proofs.Sites.{usable_site}
 use Rattle.app_graph.specs.declared.graphs.Vertex.{Vertex}
+use Rattle.app_graph.specs.ValidGraph.{HaveDifferentDevices}
 use Rattle.place_fit.specs.declared.boards.Board.{Board}
 use Rattle.place_fit.specs.declared.boards.Placed.{Placed}
 use Rattle.place_fit.specs.Curve.{hilbert}
 use Rattle.place_fit.specs.Quarters.{curve_place}
 use Rattle.place_fit.proofs.CurveLaws.{at_place}
-use Rattle.place_fit.specs.Boards.{IsPlaceWithRoom, HasNoRoomAt, HasNoPlace, IsFilled}
-use Rattle.place_fit.specs.Placement.{core_of, used_on, is_free_core, HasRoom, IsFirst, choices, IsSpotFor, AreFirstSpots, AreFirstMemories, memory_of}
-use Rattle.place_fit.proofs.Standing.{live_in, Stands, IsTold, free_parts, free_from, has_room, core_with_room, room_for, least_core, usable_parts, clash}
+use Rattle.place_fit.specs.Boards.{IsPlaceWithRoom, HasNoRoomAt, HasNoPlace, HasFairRooms, IsFilled, IsPutOnCore, IsPutAtLink, IsPut, HasNoSpot}
+use Rattle.place_fit.specs.Placement.{core_of, need_of, used_on, is_free_core, HasRoom, IsFirst, choices, IsCoreFor, HasDeviceRoom, device_spot, IsSpotFor, FindsNoRoom, AreFirstSpots, AreFirstMemories, memory_of}
+use Rattle.place_fit.proofs.Standing.{live_in, Stands, IsTold, free_parts, free_from, has_room, core_with_room, room_for, least_core, usable_parts, clash, is_taken, need_of_core, need_of_device, stands_more as one_stands_more, stands_device}
 
 -- the first item that passes is the first of those that pass a test, if it passes it
 first_from_place : (P : Chip → Type 0) (test : Chip → Bool) (xs : List Chip) (q : ℕ) (c : Chip) → slice_get xs q ≡ Some c → P c → test c ≡ true
@@ -77,7 +85,7 @@ module _ (m : Description) (vs : List Vertex) (ss : List Spot) (b : Board) (stan
         let one : r.spot.chip ≡ c = cc in
         inl (subst (HasRoom m vs ss v) one has, sym one)
 
-    pub spot_for : IsSpotFor m (filter (is_live_chip m) (hilbert b.level)) vs ss v r.spot
+    pub spot_for : IsCoreFor m (filter (is_live_chip m) (hilbert b.level)) vs ss v r.spot
     spot_for =
         let some = core_with_room m vs ss r.spot.chip (get_or b.cores.items place 0) (get_or b.rooms place 0) here v.sdram found.enough in
         let free : is_free_core m ss (core_of r.spot.chip (get_or b.cores.items place 0)) ≡ true =
@@ -88,12 +96,12 @@ module _ (m : Description) (vs : List Vertex) (ss : List Spot) (b : Board) (stan
           least = λ p may. let low = least_core m vs ss r.spot.chip (get_or b.cores.items place 0) (get_or b.rooms place 0) here p may in omega (arith, low, filled.core);
         }
 
-    pub memory_is : r.memory ≡ memory_of vs ss v r.spot
-    memory_is =
+    pub memory_is : need_of v ≡ v.sdram → r.memory ≡ memory_of vs ss v r.spot
+    memory_is plain =
         let some = core_with_room m vs ss r.spot.chip (get_or b.cores.items place 0) (get_or b.rooms place 0) here v.sdram found.enough in
         let left = here.left some in
         let used : m.sdram + 1 - get_or b.rooms place 0 ≡ used_on r.spot.chip vs ss = omega (arith, left) in
-        filled.memory ∙ ap (cond (v.sdram == 0) 0) used
+        filled.memory ∙ (ap (cond (v.sdram == 0) 0) used ∙ ap (λ n. cond (n == 0) 0 (used_on r.spot.chip vs ss)) (sym plain))
 
   none_by : (at : Option Chip) → MatchOption at (All (λ room. room ≤ v.sdram) b.rooms) (HasNoRoomAt m b v.sdram)
       → All (λ c. HasRoom m vs ss v c → ⊥) (choices (filter (is_live_chip m) (hilbert b.level)) at)
@@ -118,17 +126,58 @@ module _ (m : Description) (vs : List Vertex) (ss : List Spot) (b : Board) (stan
   pub none_for : HasNoPlace m b v → All (λ c. HasRoom m vs ss v c → ⊥) (choices (filter (is_live_chip m) (hilbert b.level)) v.at)
   none_for none = none_by v.at none
 
-  -- the place that was found has a free core, and no more room than the chip's memory
-  pub place_facts : (place : ℕ) → IsPlaceWithRoom b v place → (get_or b.cores.items place 0 < 18) × (get_or b.rooms place 0 ≤ m.sdram + 1)
-  place_facts place found =
-      elim (slice_get_cases b.chips place).1 [
-        | inl (c, within, is, got) ↦ (
-            let here = told_at place c is in
-            let some = core_with_room m vs ss c (get_or b.cores.items place 0) (get_or b.rooms place 0) here v.sdram found.enough in
-            (some, (let l = here.left some in omega (arith, l)))
-            )
-        | inr (past, none) ↦ absurd (omega (arith, past, found.within))
-      ]
+  -- where a place has room, it has a free core, and no more room than the chip's memory
+  pub fair : HasFairRooms m b
+  fair q inside some =
+      let (c, at) = slice_get_there b.chips q inside in
+      let here = told_at q c at in
+      let core = core_with_room m vs ss c (get_or b.cores.items q 0) (get_or b.rooms q 0) here 0 some in
+      (core, (let l = here.left core in omega (arith, l)))
+
+  -- what holds of the vertex once it is put at its spot
+  pub record HasStood (new : Board) (r : Placed) : Type 0 where
+    pub spot : IsSpotFor m (filter (is_live_chip m) (hilbert b.level)) vs ss v r.spot
+    pub memory : r.memory ≡ memory_of vs ss v r.spot
+    pub stands_more : Stands m (vs ++ v ∷ []) (ss ++ r.spot ∷ []) new
+    pub level : new.level ≡ b.level
+
+  module _ (new : Board) (r : Placed) where
+    stood_on_core : v.device ≡ None → IsPutOnCore m b new v r → HasStood new r
+    stood_on_core is put =
+        let plain = need_of_core v is in
+        let right = spot_for put.place put.found new r put.filled in
+        record {
+          spot = subst (λ o. MatchOption o (IsCoreFor m (filter (is_live_chip m) (hilbert b.level)) vs ss v r.spot) (λ device. HasDeviceRoom m device × (r.spot ≡ device_spot device))) (sym is) right;
+          memory = memory_is put.place put.found new r put.filled plain;
+          stands_more = one_stands_more m vs ss b new stands v put.place r plain put.found.within put.found.enough put.filled;
+          level = put.filled.level;
+        }
+
+    stood_at_link : (device : Edge) → v.device ≡ Some device → IsPutAtLink m b new device r → HasStood new r
+    stood_at_link device is put =
+        let none = need_of_device v device is in
+        let high : 18 ≤ r.spot.core = subst (λ (s : Spot). 18 ≤ s.core) (sym put.spot) (omega arith) in
+        record {
+          spot = subst (λ o. MatchOption o (IsCoreFor m (filter (is_live_chip m) (hilbert b.level)) vs ss v r.spot) (λ device. HasDeviceRoom m device × (r.spot ≡ device_spot device))) (sym is) (put.room, put.spot);
+          memory = put.memory ∙ sym (ap (λ n. cond (n == 0) 0 (used_on r.spot.chip vs ss)) none);
+          stands_more = subst (Stands m (vs ++ v ∷ []) (ss ++ r.spot ∷ [])) (sym put.same) (stands_device m vs ss b v r.spot stands high none);
+          level = ap (λ (x : Board). x.level) put.same;
+        }
+
+    pub stood : IsPut m b new v r → HasStood new r
+    stood = by_device v.device refl
+      where
+        by_device : (o : Option Edge) → v.device ≡ o → MatchOption o (IsPutOnCore m b new v r) (λ device. IsPutAtLink m b new device r) → HasStood new r
+        by_device None is put = stood_on_core is put
+        by_device (Some device) is put = stood_at_link device is put
+
+  pub finds_none : HasNoSpot m b v → FindsNoRoom m (filter (is_live_chip m) (hilbert b.level)) vs ss v
+  finds_none = by_device v.device
+    where
+      by_device : (o : Option Edge) → MatchOption o (HasNoPlace m b v) (λ device. HasDeviceRoom m device → ⊥)
+          → MatchOption o (All (λ c. HasRoom m vs ss v c → ⊥) (choices (filter (is_live_chip m) (hilbert b.level)) v.at)) (λ device. HasDeviceRoom m device → ⊥)
+      by_device None none = none_for none
+      by_device (Some device) none = none
 
 -- ---- one more
 
@@ -181,23 +230,100 @@ module _ (vertices : List Vertex) (i : ℕ) (v : Vertex) (is : slice_get vertice
 
 -- ---- what follows for the layers above
 
+-- the place of a device that has room is a site
+device_site : (m : Description) (e : Edge) → HasDeviceRoom m e → IsSite m (device_spot e)
+device_site m e room =
+    let number : 18 + dir_number e.dir - 18 ≡ dir_number e.dir = omega arith in
+    let dir : dir_at (18 + dir_number e.dir - 18) ≡ e.dir = ap dir_at number ∙ dir_at-dir_number e.dir in
+    let low : leb 18 (18 + dir_number e.dir) ≡ true = le-leb 18 (18 + dir_number e.dir) (omega arith) in
+    let high : ltb (18 + dir_number e.dir) 24 ≡ true = lt-ltb (18 + dir_number e.dir) 24 (omega (arith, below_six e.dir)) in
+    let link : not (is_live_link m e.chip (dir_at (18 + dir_number e.dir - 18))) ≡ true = ap (λ (d : Dir). not (is_live_link m e.chip d)) dir ∙ ap not room.1 in
+    or_right (is_usable m (device_spot e)) (is_device_place m (device_spot e)) (and_from _ _ room.0 (and_from _ _ (and_from _ _ low high) link))
+
+-- one device has one spot
+same_device : (a b : Edge) → device_spot a ≡ device_spot b → a ≡ b
+same_device a b same =
+    let chip : a.chip ≡ b.chip = ap (λ (s : Spot). s.chip) same in
+    let core : 18 + dir_number a.dir ≡ 18 + dir_number b.dir = ap (λ (s : Spot). s.core) same in
+    same_edge a b chip (same_dir a.dir b.dir (omega (arith, core)))
+
 module _ (m : Description) (order : List Chip) (vertices : List Vertex) (spots : List Spot) (first : AreFirstSpots m order vertices spots) where
-  spot_at : (j : ℕ) (d : Spot) → j < length spots → (v : Vertex) × IsSpotFor m order (take j vertices) (take j spots) v (get_or spots j d)
-  spot_at j d inside =
-      elim (slice_get_cases vertices j).1 [
-        | inl (v, within, is, got) ↦ (v, first.each j v (get_or spots j d) is (slice_get-get_or spots j d inside))
-        | inr (past, none) ↦ absurd (omega (arith, first.few, past, inside))
-      ]
+  -- the vertex of a spot
+  record HasVertex (j : ℕ) (s : Spot) : Type 0 where
+    vertex : Vertex
+    is : slice_get vertices j ≡ Some vertex
+    spot : IsSpotFor m order (take j vertices) (take j spots) vertex s
 
-  pub all_usable : All (IsUsable m) spots
-  all_usable j d inside = let at = spot_at j d inside in (free_parts m (take j spots) (get_or spots j d) at.1.free).0
+  vertex_at : (j : ℕ) (s : Spot) → slice_get spots j ≡ Some s → HasVertex j s
+  vertex_at j s is =
+      let v = slice_get_there vertices j (omega (arith, first.few, slice_get_within spots j s is)) in
+      record { vertex = v.0; is = v.1; spot = first.each j v.0 s v.1 is }
 
-  pub all_differ : AllPairs (λ a b. a ≢ b) spots
-  all_differ i j d ord inside same =
-      let at = spot_at j d inside in
-      let free = (free_parts m (take j spots) (get_or spots j d) at.1.free).1 in
-      let earlier : get_or (take j spots) i d ≡ get_or spots i d = get_or-take j spots i d ord in
-      let within : i < length (take j spots) = subst (λ n. i < n) (sym (length-take-le j spots (omega (arith, inside)))) ord in
-      let met : spot_eq (get_or spots j d) (get_or (take j spots) i d) ≡ true =
-      subst (λ z. spot_eq (get_or spots j d) z ≡ true) (sym (earlier ∙ same)) (spot_eq_same (get_or spots j d)) in
-      clash (list_any_at (spot_eq (get_or spots j d)) (take j spots) i d within met) free
+  core_usable : (vs : List Vertex) (ss : List Spot) (v : Vertex) (s : Spot) → IsCoreFor m order vs ss v s → IsUsable m s
+  core_usable vs ss v s at = (free_parts m ss s at.free).0
+
+  site_of : (vs : List Vertex) (ss : List Spot) (v : Vertex) (s : Spot) (o : Option Edge) → MatchOption o (IsCoreFor m order vs ss v s) (λ device. HasDeviceRoom m device × (s ≡ device_spot device)) → IsSite m s
+  site_of vs ss v s None at = usable_site m s (core_usable vs ss v s at)
+  site_of vs ss v s (Some device) (room, is) = subst (IsSite m) (sym is) (device_site m device room)
+
+  pub all_sites : All (IsSite m) spots
+  all_sites j d inside =
+      let at = vertex_at j (get_or spots j d) (slice_get-get_or spots j d inside) in
+      site_of (take j vertices) (take j spots) at.vertex (get_or spots j d) at.vertex.device at.spot
+
+  module _ (devices : AllPairs HaveDifferentDevices vertices) (i j : ℕ) (s : Spot) (ord : i < j) (at_i : slice_get spots i ≡ Some s) (at_j : slice_get spots j ≡ Some s) where
+    one : HasVertex i s
+    one = vertex_at i s at_i
+
+    other : HasVertex j s
+    other = vertex_at j s at_j
+
+    -- the earlier spot is not free
+    taken : is_taken (take j spots) s ≡ true
+    taken =
+        let within : i < length (take j spots) = omega (arith, length-take j spots, slice_get_within spots j s at_j) in
+        let there : get_or (take j spots) i s ≡ s = get_or-take j spots i s ord ∙ get_or_from_slice_get spots i s s at_i in
+        list_any_at (spot_eq s) (take j spots) i s within (ap (spot_eq s) there ∙ spot_eq_same s)
+
+    two_devices : (d e : Edge) → one.vertex.device ≡ Some d → other.vertex.device ≡ Some e → d ≡ e → ⊥
+    two_devices d e is_d is_e same =
+        let pair = devices i j one.vertex ord (slice_get_within vertices j other.vertex other.is) in
+        let apart : HaveDifferentDevices one.vertex other.vertex =
+        subst (λ (x : Vertex). HaveDifferentDevices x other.vertex) (get_or_from_slice_get vertices i one.vertex one.vertex one.is)
+        (subst (λ (y : Vertex). HaveDifferentDevices (get_or vertices i one.vertex) y) (get_or_from_slice_get vertices j other.vertex one.vertex other.is) pair) in
+        apart d is_d (is_e ∙ ap Some (sym same))
+
+    by_device : (o p : Option Edge) → one.vertex.device ≡ o → other.vertex.device ≡ p
+        → MatchOption o (IsCoreFor m order (take i vertices) (take i spots) one.vertex s) (λ d. HasDeviceRoom m d × (s ≡ device_spot d))
+        → MatchOption p (IsCoreFor m order (take j vertices) (take j spots) other.vertex s) (λ d. HasDeviceRoom m d × (s ≡ device_spot d)) → ⊥
+    by_device o None is_o is_p mine its = clash taken (free_parts m (take j spots) s its.free).1
+    by_device None (Some e) is_o is_p mine its =
+        let low = (usable_parts m s (core_usable (take i vertices) (take i spots) one.vertex s mine)).1 in
+        let core : s.core ≡ 18 + dir_number e.dir = ap (λ (x : Spot). x.core) its.1 in
+        omega (arith, low, core)
+    by_device (Some d) (Some e) is_o is_p mine its = two_devices d e is_o is_p (same_device d e (sym mine.1 ∙ its.1))
+
+    pub not_twice : ⊥
+    not_twice = by_device one.vertex.device other.vertex.device refl refl one.spot other.spot
+
+  pub all_differ : AllPairs HaveDifferentDevices vertices → AllPairs (λ a b. a ≢ b) spots
+  all_differ devices i j d ord inside same =
+      not_twice devices i j (get_or spots i d) ord (slice_get-get_or spots i d (omega arith)) (slice_get-get_or spots j d inside ∙ ap Some (sym same))
+
+-- a vertex that is no device stands on a usable core
+abbrev StandsOnCore : Description → Vertex → Spot → Type 0
+StandsOnCore m v s = v.device ≡ None → IsUsable m s
+
+zip_from_places : (m : Description) (vertices : List Vertex) (spots : List Spot) → length vertices ≡ length spots
+    → ((i : ℕ) (v : Vertex) (s : Spot) → slice_get vertices i ≡ Some v → slice_get spots i ≡ Some s → StandsOnCore m v s) → AllZip (StandsOnCore m) vertices spots
+zip_from_places m [] [] same each = tt
+zip_from_places m [] (s ∷ ss) same each = absurd (omega arith)
+zip_from_places m (v ∷ vs) [] same each = absurd (omega arith)
+zip_from_places m (v ∷ vs) (s ∷ ss) same each = (each 0 v s refl refl, zip_from_places m vs ss (omega arith) (λ i w t. each (suc i) w t))
+
+pub all_on_cores : (m : Description) (order : List Chip) (vertices : List Vertex) (spots : List Spot) → AreFirstSpots m order vertices spots → length vertices ≡ length spots
+    → AllZip (λ (v : Vertex) s. v.device ≡ None → IsUsable m s) vertices spots
+all_on_cores m order vertices spots first all = zip_from_places m vertices spots all (λ i v s is_v is_s none.
+    let at = first.each i v s is_v is_s in
+    let core = subst (λ o. MatchOption o (IsCoreFor m order (take i vertices) (take i spots) v s) (λ device. HasDeviceRoom m device × (s ≡ device_spot device))) none at in
+    (free_parts m (take i spots) s core.free).0)

@@ -1,5 +1,5 @@
 -- What a board tells of the vertices that stand on it.
-use Rattle.std.proofs.Common.{◌≡◌, ◌≢◌, ℕ, ◌+◌, ◌-◌, ◌^◌, ◌<◌, ◌≤◌, ◌==◌, Bool, true, false, not, ◌||◌, cond, leb, ltb, List, [], ◌∷◌, ◌++◌, length, set, get_or, refl, sym, ap, ◌∙◌, subst, Some, slice_get, inl, inr, arith}
+use Rattle.std.proofs.Common.{◌≡◌, ◌≢◌, ℕ, ◌+◌, ◌-◌, ◌^◌, ◌<◌, ◌≤◌, ◌==◌, Bool, true, false, not, ◌||◌, cond, leb, ltb, List, [], ◌∷◌, ◌++◌, length, set, get_or, refl, sym, ap, ◌∙◌, subst, Option, Some, None, is_none, slice_get, inl, inr, arith}
 use Rattle.std.specs.List.{list_any}
 use Rattle.std.proofs.lemmas.Bool.{cases_lt, cases_eq, cases_Bool, and_left, and_parts, and_right, and_from, or_left, or_right, false≢true, cond-true, cond-false}
 use Rattle.std.proofs.lemmas.Bool.Decides.{nat_tests}
@@ -10,6 +10,7 @@ use Rattle.spin_base.specs.declared.chips.Chip.{Chip}
 use Rattle.spin_base.specs.declared.chips.Spot.{Spot}
 use Rattle.spin_base.specs.Equality.{chip_eq, spot_eq}
 use Rattle.spin_base.proofs.Equality.{chip_eq_true, chip_eq_same}
+use Rattle.machine_desc.specs.declared.trees.Edge.{Edge}
 use Rattle.machine_desc.specs.Description.{Description}
 use Rattle.machine_desc.specs.Live.{is_live_chip, is_usable}
 use Rattle.machine_desc.proofs.Far.{live_inside, inside_parts}
@@ -20,7 +21,7 @@ use Rattle.place_fit.specs.declared.boards.Placed.{Placed}
 use Rattle.place_fit.specs.Curve.{hilbert}
 use Rattle.place_fit.specs.Quarters.{curve_place}
 use Rattle.place_fit.specs.Boards.{IsBoard, IsEmptyBoard, IsNextCore, IsFilled, first_room}
-use Rattle.place_fit.specs.Placement.{core_of, used_on, is_free_core, HasRoom}
+use Rattle.place_fit.specs.Placement.{core_of, need_of, used_on, is_free_core, HasRoom}
 use Rattle.place_fit.proofs.CurveLaws.{IsIn, place_at}
 
 pub live_in : (m : Description) (c : Chip) (side : ℕ) → is_live_chip m c ≡ true → m.width ≤ side → m.height ≤ side → IsIn side c
@@ -149,7 +150,7 @@ stands_first m b board empty = record {
 -- ---- one vertex more
 
 used_push : (c : Chip) (vs : List Vertex) (ss : List Spot) (v : Vertex) (s : Spot) → length vs ≡ length ss
-    → used_on c (vs ++ v ∷ []) (ss ++ s ∷ []) ≡ used_on c vs ss + cond (chip_eq c s.chip) v.sdram 0
+    → used_on c (vs ++ v ∷ []) (ss ++ s ∷ []) ≡ used_on c vs ss + cond (chip_eq c s.chip) (need_of v) 0
 used_push c [] [] v s same = omega arith
 used_push c [] (t ∷ ts) v s same = absurd (omega arith)
 used_push c (w ∷ ws) [] v s same = absurd (omega arith)
@@ -166,13 +167,26 @@ or_neither true b e = refl
 or_neither false true e = clash refl e
 or_neither false false e = refl
 
+-- nothing, whether or not it is on this chip
+cond_same : (b : Bool) (n : ℕ) → cond b n n ≡ n
+cond_same true n = refl
+cond_same false n = refl
+
+-- ---- what a vertex needs
+
+pub need_of_core : (v : Vertex) → v.device ≡ None → need_of v ≡ v.sdram
+need_of_core v is = ap (λ (o : Option Edge). cond (is_none o) v.sdram 0) is
+
+pub need_of_device : (v : Vertex) (device : Edge) → v.device ≡ Some device → need_of v ≡ 0
+need_of_device v device is = ap (λ (o : Option Edge). cond (is_none o) v.sdram 0) is
+
 module _ (m : Description) (vs : List Vertex) (ss : List Spot) (same : length vs ≡ length ss) (v : Vertex) (c : Chip) (core room : ℕ) (told : IsTold m vs ss c core room) where
   told_other : (s : Spot) → chip_eq c s.chip ≡ false → IsTold m (vs ++ v ∷ []) (ss ++ s ∷ []) c core room
   told_other s other =
       let taken : (p : ℕ) → is_taken (ss ++ s ∷ []) (core_of c p) ≡ is_taken ss (core_of c p) =
       λ p. taken_push ss s (core_of c p) ∙ or_neither (is_taken ss (core_of c p)) (spot_eq (core_of c p) s) (and_left (chip_eq c s.chip) (p == s.core) other) in
       let used : used_on c (vs ++ v ∷ []) (ss ++ s ∷ []) ≡ used_on c vs ss + 0 =
-      used_push c vs ss v s same ∙ ap (λ b. used_on c vs ss + b) (cond-false (chip_eq c s.chip) v.sdram 0 other) in
+      used_push c vs ss v s same ∙ ap (λ b. used_on c vs ss + b) (cond-false (chip_eq c s.chip) (need_of v) 0 other) in
       record {
         before = λ p u low. taken p ∙ told.before p u low;
         after = λ p u from. taken p ∙ told.after p u from;
@@ -181,12 +195,28 @@ module _ (m : Description) (vs : List Vertex) (ss : List Spot) (same : length vs
         left = λ some. let l = told.left some in omega (arith, l, used);
       }
 
-  told_here : (next : ℕ) → core < 18 → v.sdram < room → IsNextCore m c (core + 1) next
+  -- a device takes no core and no memory
+  told_device : (s : Spot) → 18 ≤ s.core → need_of v ≡ 0 → IsTold m (vs ++ v ∷ []) (ss ++ s ∷ []) c core room
+  told_device s high none =
+      let apart : (p : ℕ) → is_usable m (core_of c p) ≡ true → is_taken (ss ++ s ∷ []) (core_of c p) ≡ is_taken ss (core_of c p) =
+      λ p u. let low = (usable_parts m (core_of c p) u).1 in
+          taken_push ss s (core_of c p) ∙ or_neither (is_taken ss (core_of c p)) (spot_eq (core_of c p) s) (and_right (chip_eq c s.chip) (p == s.core) (let below : p < s.core = omega (arith, low, high) in grind (arith, nat_tests))) in
+      let used : used_on c (vs ++ v ∷ []) (ss ++ s ∷ []) ≡ used_on c vs ss + 0 =
+      used_push c vs ss v s same ∙ ap (λ b. used_on c vs ss + b) (ap (λ n. cond (chip_eq c s.chip) n 0) none ∙ cond_same (chip_eq c s.chip) 0) in
+      record {
+        before = λ p u low. apart p u ∙ told.before p u low;
+        after = λ p u from. apart p u ∙ told.after p u from;
+        next = told.next;
+        full = told.full;
+        left = λ some. let l = told.left some in omega (arith, l, used);
+      }
+
+  told_here : (next : ℕ) → need_of v ≡ v.sdram → core < 18 → v.sdram < room → IsNextCore m c (core + 1) next
       → IsTold m (vs ++ v ∷ []) (ss ++ core_of c core ∷ []) c next (first_room next (room - 1 - v.sdram))
-  told_here next some enough is_next =
+  told_here next plain some enough is_next =
       let s = core_of c core in
       let used : used_on c (vs ++ v ∷ []) (ss ++ s ∷ []) ≡ used_on c vs ss + v.sdram =
-      used_push c vs ss v s same ∙ ap (λ b. used_on c vs ss + b) (cond-true (chip_eq c c) v.sdram 0 (chip_eq_same c)) in
+      used_push c vs ss v s same ∙ ap (λ b. used_on c vs ss + b) (cond-true (chip_eq c c) (need_of v) 0 (chip_eq_same c) ∙ plain) in
       record {
         before = λ p u low. taken_push ss s (core_of c p) ∙ elim (cases_lt p core) [
           | inl lower ↦ or_left (is_taken ss (core_of c p)) (spot_eq (core_of c p) s || false) (told.before p u lower)
@@ -205,7 +235,7 @@ module _ (m : Description) (vs : List Vertex) (ss : List Spot) (same : length vs
       }
 
 module _ (m : Description) (vs : List Vertex) (ss : List Spot) (old new : Board) (stands : Stands m vs ss old) (v : Vertex) (place : ℕ) (r : Placed)
-    (within : place < length old.chips) (enough : v.sdram < get_or old.rooms place 0) (filled : IsFilled m place v.sdram old new r) where
+    (plain : need_of v ≡ v.sdram) (within : place < length old.chips) (enough : v.sdram < get_or old.rooms place 0) (filled : IsFilled m place v.sdram old new r) where
   here_told : IsTold m vs ss r.spot.chip (get_or old.cores.items place 0) (get_or old.rooms place 0)
   here_told = stands.told place r.spot.chip filled.chip
 
@@ -251,7 +281,7 @@ module _ (m : Description) (vs : List Vertex) (ss : List Spot) (old new : Board)
               | inl here ↦ (
                   let same_chip : Some r.spot.chip ≡ Some c = sym filled.chip ∙ (ap (slice_get old.chips) (sym here) ∙ at) in
                   let chip_is : r.spot.chip ≡ c = cc in
-                  let told = told_here m vs ss stands.same v r.spot.chip (get_or old.cores.items place 0) (get_or old.rooms place 0) here_told core here_core enough
+                  let told = told_here m vs ss stands.same v r.spot.chip (get_or old.cores.items place 0) (get_or old.rooms place 0) here_told core plain here_core enough
                   (subst (λ n. IsNextCore m r.spot.chip (n + 1) core) filled.core filled.is_next) in
                   let told_spot = subst (λ s. IsTold m (vs ++ v ∷ []) (ss ++ s ∷ []) r.spot.chip core room) spot_is told in
                   let told_chip = subst (λ z. IsTold m (vs ++ v ∷ []) (ss ++ r.spot ∷ []) z core room) chip_is told_spot in
@@ -267,3 +297,11 @@ module _ (m : Description) (vs : List Vertex) (ss : List Spot) (old new : Board)
                   )
             ];
       }
+
+-- a device more leaves the board as it is
+pub stands_device : (m : Description) (vs : List Vertex) (ss : List Spot) (b : Board) (v : Vertex) (s : Spot) → Stands m vs ss b → 18 ≤ s.core → need_of v ≡ 0 → Stands m (vs ++ v ∷ []) (ss ++ s ∷ []) b
+stands_device m vs ss b v s stands high none = record {
+  board = stands.board;
+  same = length_push vs v ∙ (ap (λ n. n + 1) stands.same ∙ sym (length_push ss s));
+  told = λ q c at. told_device m vs ss stands.same v c (get_or b.cores.items q 0) (get_or b.rooms q 0) (stands.told q c at) s high none;
+}

@@ -1,13 +1,14 @@
 -- How far the chips of a machine are filled, as the private functions say it.
 use Rattle.std.specs.Prelude.{◌≡◌, ℕ, ◌+◌, ◌-◌, ◌^◌, ◌<◌, ◌≤◌, ◌==◌, nat_lt, true, false, length, Some, MatchOption, All, slice_get, slice_set, slice_index, if◌then◌else◌}
 use Rattle.spin_base.specs.declared.chips.Chip.{Chip}
+use Rattle.machine_desc.specs.declared.trees.Edge.{Edge}
 use Rattle.machine_desc.specs.Description.{Description}
 use Rattle.machine_desc.specs.Live.{is_usable, is_live_chip}
 use Rattle.app_graph.specs.declared.graphs.Vertex.{Vertex}
 use Rattle.place_fit.specs.declared.boards.Board.{Board}
 use Rattle.place_fit.specs.declared.boards.Placed.{Placed}
 use Rattle.place_fit.specs.Curve.{hilbert}
-use Rattle.place_fit.specs.Placement.{core_of}
+use Rattle.place_fit.specs.Placement.{core_of, HasDeviceRoom, device_spot}
 
 -- the chips of the curve, whose square holds the grid, with a core and a room beside each
 pub record IsBoard (m : Description) (level : ℕ) (b : Board) : Type 0 where
@@ -59,3 +60,27 @@ pub record IsFilled (m : Description) (place sdram : ℕ) (old new : Board) (r :
   pub is_next : IsNextCore m r.spot.chip (r.spot.core + 1) next
   pub cores : new.cores.items ≡ slice_set old.cores.items place next
   pub rooms : new.rooms ≡ slice_set old.rooms place (first_room next (slice_index old.rooms place - 1 - sdram))
+
+-- where a place has room, its chip has a free core, and the room is at most one more than the chip's memory
+abbrev pub HasFairRooms : Description → Board → Type 0
+HasFairRooms m b = (q : ℕ) → q < length b.chips → 0 < slice_index b.rooms q →
+    (slice_index b.cores.items q < 18) × (slice_index b.rooms q ≤ m.sdram + 1)
+
+-- a vertex that is no device was put on a place with room
+pub record IsPutOnCore (m : Description) (old new : Board) (v : Vertex) (r : Placed) : Type 0 where
+  pub place : ℕ
+  pub found : IsPlaceWithRoom old v place
+  pub filled : IsFilled m place v.sdram old new r
+
+-- a device was put at its link, and the board stays as it was
+pub record IsPutAtLink (m : Description) (old new : Board) (device : Edge) (r : Placed) : Type 0 where
+  pub room : HasDeviceRoom m device
+  pub spot : r.spot ≡ device_spot device
+  pub memory : r.memory ≡ 0
+  pub same : new ≡ old
+
+abbrev pub IsPut : Description → Board → Board → Vertex → Placed → Type 0
+IsPut m old new v r = MatchOption v.device (IsPutOnCore m old new v r) (λ device. IsPutAtLink m old new device r)
+
+abbrev pub HasNoSpot : Description → Board → Vertex → Type 0
+HasNoSpot m b v = MatchOption v.device (HasNoPlace m b v) (λ device. HasDeviceRoom m device → ⊥)

@@ -1,11 +1,12 @@
 // How far the chips of a machine are filled.
 ghost use Rattle.std.specs.Prelude.{◌≡◌, ℕ, ◌+◌, ◌-◌, ◌==◌, ◌^◌, ◌<◌, ◌≤◌, Some, length, slice_get, slice_set, slice_index, if◌then◌else◌, nat_lt, IfOk, IfSome, IfNone};
-ghost use Rattle.place_fit.specs.Boards.{IsBoard, IsEmptyBoard, IsNextCore, IsPlaceWithRoom, HasNoPlace, HasNoRoomAt, IsFilled, first_room};
+ghost use Rattle.place_fit.specs.Boards.{IsBoard, IsEmptyBoard, IsNextCore, IsPlaceWithRoom, HasNoPlace, HasNoRoomAt, HasFairRooms, IsFilled, IsPut, IsPutOnCore, HasNoSpot, first_room};
+ghost use Rattle.place_fit.specs.Placement.{HasDeviceRoom, device_spot};
 
 use crate::curves::{curve, place_on_curve};
 use crate::rooms::Rooms;
 use app_graph::Vertex;
-use machine_desc::Machine;
+use machine_desc::{Edge, Machine};
 use spin_base::{Chip, Memory, Seq, Spot};
 use std::alloc::Global;
 
@@ -71,8 +72,32 @@ fn next_core(machine: &Machine, chip: Chip, from: u8) -> u8
 }
 
 impl Board {
+    // Puts a vertex on the board: a device at its link, and any other on the least free core of the chip that is found.
+    pub fn put(&mut self, machine: &Machine, vertex: &Vertex) -> Option<Placed>
+        requires board { IsBoard machine.now self.old.level self.old }
+        requires rooms { HasFairRooms machine.now self.old }
+        ensures placed { IfSome result (IsPut machine.now self.old self.new vertex.now) }
+        ensures none { IfNone result (HasNoSpot machine.now self.old vertex.now) }
+    {
+        match vertex.device {
+            Some(device) => at_link(machine, device),
+            None => self.put_on_core(machine, vertex),
+        }
+    }
+
+    // Puts a vertex on the least free core of the chip that is found for it.
+    fn put_on_core(&mut self, machine: &Machine, vertex: &Vertex) -> Option<Placed>
+        requires board { IsBoard machine.now self.old.level self.old }
+        requires rooms { HasFairRooms machine.now self.old }
+        ensures placed { IfSome result (IsPutOnCore machine.now self.old self.new vertex.now) }
+        ensures none { IfNone result (HasNoPlace machine.now self.old vertex.now) }
+    {
+        let place = self.find(machine, vertex)?;
+        Some(self.fill(machine, place, vertex.sdram))
+    }
+
     // The place of the chip on which a vertex stands: the first with room, or that of the chip that it names.
-    pub fn find(&self, machine: &Machine, vertex: &Vertex) -> Option<usize>
+    fn find(&self, machine: &Machine, vertex: &Vertex) -> Option<usize>
         requires { IsBoard machine.now self.now.level self.now }
         ensures found { IfSome result (IsPlaceWithRoom self.now vertex.now) }
         ensures none { IfNone result (HasNoPlace machine.now self.now vertex.now) }
@@ -103,7 +128,7 @@ impl Board {
     }
 
     // Puts a vertex that needs so many bytes on the least free core of the chip at a place.
-    pub fn fill(&mut self, machine: &Machine, place: usize, sdram: u32) -> Placed
+    fn fill(&mut self, machine: &Machine, place: usize, sdram: u32) -> Placed
         requires board { IsBoard machine.now self.old.level self.old }
         requires within { place < length self.old.chips }
         requires free { slice_index self.old.cores.items place < 18 }
@@ -124,6 +149,23 @@ impl Board {
             memory: begin_of(sdram, u64::from(total) - left),
         }
     }
+}
+
+// Where a device stands, which has room where its chip is live and its link is not: its number there is 18 + d for link d.
+fn at_link(machine: &Machine, device: Edge) -> Option<Placed>
+    ensures room { IfSome result (λ _. HasDeviceRoom machine.now device) }
+    ensures spot { IfSome result (λ r. r.spot ≡ device_spot device) }
+    ensures memory { IfSome result (λ r. r.memory ≡ 0) }
+    ensures none { IfNone result (¬ HasDeviceRoom machine.now device) }
+{
+    if !machine.live(device.chip) || machine.link_live(device.chip, device.dir) {
+        return None;
+    }
+    let spot = Spot {
+        chip: device.chip,
+        core: 18 + device.dir.number(),
+    };
+    Some(Placed { spot, memory: 0 })
 }
 
 // Where the memory of a vertex begins: behind what earlier vertices need, and at 0 if it needs none.

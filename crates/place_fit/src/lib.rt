@@ -1,7 +1,8 @@
 //! Placement: on which chip and core each vertex stands, and where its memory begins.
 //!
 //! `place` goes through the vertices in the order of the list. Each stands on the first chip with room, in the order of
-//! Hilbert's curve, or on the chip that it names. `curve` gives that curve. The rules are this project's own.
+//! Hilbert's curve, or on the chip that it names; a device stands at its link. `curve` gives that curve. The rules are this
+//! project's own.
 #![tactic(auto)]
 
 mod boards;

@@ -1,11 +1,12 @@
-// Worked examples: the curve of level 2, full cores, full memory, dead cores, and vertices that name their chip.
-ghost use Rattle.std.specs.Prelude.{◌≤◌, All, IfOk, length};
-ghost use Rattle.app_graph.specs.ValidGraph.{IsValidVertex};
+// Worked examples: the curve of level 2, full cores, full memory, dead cores, vertices that name their chip, and devices.
+ghost use Rattle.std.specs.Prelude.{◌≡◌, ◌≤◌, All, AllPairs, IfOk, None, length};
+ghost use Rattle.app_graph.specs.declared.graphs.Vertex.{Vertex};
+ghost use Rattle.app_graph.specs.ValidGraph.{IsValidVertex, HaveDifferentDevices};
 
 use super::*;
 use app_graph::{Graph, Vertex};
-use machine_desc::Machine;
-use spin_base::{Chip, Memory, Name, Seq, Spot};
+use machine_desc::{Edge, Machine};
+use spin_base::{Chip, Dir, Memory, Name, Seq, Spot};
 use std::alloc::Global;
 use std::test::Fail;
 
@@ -29,22 +30,34 @@ fn spot(x: u8, core: u8) -> Spot {
     Spot { chip, core }
 }
 
-fn vertex(alloc: Global, sdram: u32, at: Option<Chip>) -> Result<Vertex, Memory>
+fn vertex(
+    alloc: Global,
+    sdram: u32,
+    at: Option<Chip>,
+    device: Option<Edge>,
+) -> Result<Vertex, Memory>
     requires { sdram ≤ 134217728 }
-    ensures { IfOk result IsValidVertex }
+    ensures valid { IfOk result IsValidVertex }
+    ensures device { IfOk result (λ (v : Vertex). v.device ≡ device) }
 {
     let name = Name::of(alloc, "v")?;
-    Ok(Vertex { name, sdram, at })
+    Ok(Vertex {
+        name,
+        sdram,
+        at,
+        device,
+    })
 }
 
 // So many vertices that need nothing.
 fn vertices(alloc: Global, count: u8) -> Result<Seq<Vertex>, Memory>
     ensures few { IfOk result (λ vertices. length vertices ≤ 16384) }
     ensures valid { IfOk result (All IsValidVertex) }
+    ensures devices { IfOk result (AllPairs HaveDifferentDevices) }
 {
     let mut vertices = Seq::new(alloc);
     for _ in 0..count {
-        vertices.push(vertex(alloc, 0, None)?)?;
+        vertices.push(vertex(alloc, 0, None, None)?)?;
     }
     Ok(vertices)
 }
@@ -54,6 +67,23 @@ fn crowd(alloc: Global, count: u8) -> Result<Placement, PlaceErr> {
     let vertices = vertices(alloc, count)?;
     let nets = Seq::new(alloc);
     place(alloc, &machine(alloc, 1, 18)?, &Graph { vertices, nets })
+}
+
+// Places a vertex, a device and another vertex on a row of chips: what the others need, and the device's link.
+fn beside_device(
+    alloc: Global,
+    machine: &Machine,
+    sdram: u32,
+    device: Edge,
+) -> Result<Placement, PlaceErr>
+    requires { sdram ≤ 134217728 }
+{
+    let mut vertices = Seq::new(alloc);
+    vertices.push(vertex(alloc, 0, None, None)?)?;
+    vertices.push(vertex(alloc, sdram, None, Some(device))?)?;
+    vertices.push(vertex(alloc, sdram, None, None)?)?;
+    let nets = Seq::new(alloc);
+    place(alloc, machine, &Graph { vertices, nets })
 }
 
 // Places two vertices on a row of chips: what each needs, and the chip that the second names.
@@ -67,8 +97,8 @@ fn pair(
     requires second { needs.1 ≤ 134217728 }
 {
     let mut vertices = Seq::new(alloc);
-    vertices.push(vertex(alloc, needs.0, None)?)?;
-    vertices.push(vertex(alloc, needs.1, at)?)?;
+    vertices.push(vertex(alloc, needs.0, None, None)?)?;
+    vertices.push(vertex(alloc, needs.1, at, None)?)?;
     let nets = Seq::new(alloc);
     place(alloc, machine, &Graph { vertices, nets })
 }
@@ -131,6 +161,32 @@ fn a_dead_core_takes_no_vertex_and_memory_follows_memory(rt: HostRuntime) -> Res
 fn a_vertex_that_names_a_chip_outside_the_grid_finds_no_room(rt: HostRuntime) -> Result<(), Fail> {
     let machine = machine(rt.alloc(), 1, 18)?;
     let refused = pair(rt.alloc(), &machine, (0, 0), Some(Chip { x: 1, y: 0 }));
+    assert!(rt; matches!(refused, Err(PlaceErr::NoRoom { vertex: 1 })));
+    Ok(())
+}
+
+#[test]
+fn a_device_stands_at_its_link_and_takes_no_core_and_no_memory(
+    rt: HostRuntime,
+) -> Result<(), Fail> {
+    let machine = machine(rt.alloc(), 2, 18)?;
+    let device = Edge {
+        chip: Chip { x: 0, y: 0 },
+        dir: Dir::North,
+    };
+    let placed = beside_device(rt.alloc(), &machine, 134_217_728, device)?;
+    assert!(rt; are_at(&placed, &[spot(0, 1), spot(0, 20), spot(0, 2)], &[0, 0, 0]));
+    Ok(())
+}
+
+#[test]
+fn a_device_on_a_live_link_finds_no_room(rt: HostRuntime) -> Result<(), Fail> {
+    let machine = machine(rt.alloc(), 2, 18)?;
+    let device = Edge {
+        chip: Chip { x: 0, y: 0 },
+        dir: Dir::East,
+    };
+    let refused = beside_device(rt.alloc(), &machine, 0, device);
     assert!(rt; matches!(refused, Err(PlaceErr::NoRoom { vertex: 1 })));
     Ok(())
 }

@@ -1,13 +1,13 @@
-use Rattle.std.proofs.Common.{◌≡◌, length}
-use Rattle.key_alloc.specs.KeyBlocks.{AreFirstBlocks}
-use Rattle.key_alloc.proofs.Taking.{IsTaken}
+use Rattle.std.proofs.Common.{◌≡◌, ◌++◌, length}
+use Rattle.key_alloc.specs.KeyBlocks.{fixed_of, AreFirstBlocks}
+use Rattle.key_alloc.specs.FreeKeys.{AreFreeBeside}
 use Rattle.key_alloc.proofs.alloc.keys.Given as goal
 
--- the nets so far have their blocks, and the region has all other keys
+-- the nets so far have their blocks, and the region has all other keys but those of fixed blocks
 abbrev pub invariant-loop-i : goal.invariant-loop-i
 invariant-loop-i l = record {
   each_one : length l.blocks ≡ l.i;
   first : AreFirstBlocks l.graph.nets l.blocks;
   whole : l.free.size ≡ 4294967296;
-  taken : IsTaken l.blocks l.free.holes;
+  free : AreFreeBeside (fixed_of l.graph.nets ++ l.blocks) l.free.holes;
 }

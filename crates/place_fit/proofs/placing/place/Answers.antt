@@ -5,8 +5,8 @@ use Rattle.machine_desc.specs.Live.{is_live_chip}
 use Rattle.place_fit.specs.Curve.{hilbert, IsLevel}
 use Rattle.place_fit.specs.Boards.{IsBoard}
 use Rattle.place_fit.specs.Placement.{AreFirstSpots}
-use Rattle.place_fit.proofs.Standing.{Stands, stands_first, stands_more}
-use Rattle.place_fit.proofs.SpotLaws.{spot_for, memory_is, none_for, place_facts, none_yet, no_memory_yet, spots_more, memories_more, all_usable, all_differ}
+use Rattle.place_fit.proofs.Standing.{Stands, stands_first}
+use Rattle.place_fit.proofs.SpotLaws.{fair, stood, finds_none, none_yet, no_memory_yet, spots_more, memories_more, all_sites, all_on_cores, all_differ}
 use Rattle.place_fit.proofs.placing.place.Goals as goal
 
 pub loop-i-init : goal.loop-i-init
@@ -40,31 +40,24 @@ returns-in_default-clause-no_room c =
       vertex = c.vertex-item.result;
       is = sym (ap (λ l. slice_get l c.loop-i.i) c.as_slice-vertex-items.ensures)
           ∙ slice_get_read c.as_slice-vertex-items.result.now _ c.loop-i.i c.vertex-item.result refl c.loop-i-test.true c.vertex-item.is;
-      none = none_for m (take c.loop-i.i vertices) c.loop-i.spots b v.stands c.vertex-item.result c.in_default.ensures.none;
+      none = finds_none m (take c.loop-i.i vertices) c.loop-i.spots b v.stands c.vertex-item.result c.in_default.ensures.none;
     }
 
-pub fill-placed-requires-clause-free : goal.fill-placed-requires-clause-free
-fill-placed-requires-clause-free c =
-    (place_facts c.args.machine.now (take c.loop-i.i c.args.graph.now.vertices) c.loop-i.spots c.loop-i.board c.loop-i.invariant.stands c.vertex-item.result c.in-Some.place c.in-Some.ensures.found).0
-
-pub fill-placed-requires-clause-few : goal.fill-placed-requires-clause-few
-fill-placed-requires-clause-few c =
-    (place_facts c.args.machine.now (take c.loop-i.i c.args.graph.now.vertices) c.loop-i.spots c.loop-i.board c.loop-i.invariant.stands c.vertex-item.result c.in-Some.place c.in-Some.ensures.found).1
+pub put-requires-clause-rooms : goal.put-requires-clause-rooms
+put-requires-clause-rooms c =
+    fair c.args.machine.now (take c.loop-i.i c.args.graph.now.vertices) c.loop-i.spots c.loop-i.board c.loop-i.invariant.stands c.vertex-item.result
 
 pub loop-i-preserved : goal.loop-i-preserved
 loop-i-preserved c =
     let m = c.args.machine.now in
     let old = c.loop-i.board in
-    let new = c.fill-placed.new.self in
+    let new = c.put.new.self in
     let inv = c.loop-i.invariant in
     let i = c.loop-i.i in
     let vertices = c.args.graph.now.vertices in
     let spots = c.loop-i.spots in
     let v = c.vertex-item.result in
-    let r = c.fill-placed.result in
-    let filled = c.fill-placed.ensures in
-    let found = c.in-Some.ensures.found in
-    let place = c.in-Some.place in
+    let r = c.in-Some.placed in
     let is : slice_get vertices i ≡ Some v = sym (ap (λ l. slice_get l i) c.as_slice-vertex-items.ensures)
     ∙ slice_get_read c.as_slice-vertex-items.result.now _ i v refl c.loop-i-test.true c.vertex-item.is in
     let pushed : c.push.new.self ≡ spots ++ r.spot ∷ [] = c.in_ok-push.ensures.ok in
@@ -72,19 +65,22 @@ loop-i-preserved c =
     let taken : take (i + 1) vertices ≡ take i vertices ++ v ∷ [] =
     take_more vertices i v (slice_get_within vertices i v is) ∙ ap (λ w. take i vertices ++ w ∷ []) (get_or_from_slice_get vertices i v v is) in
     let order = filter (is_live_chip m) (hilbert old.level) in
-    let stands = stands_more m (take i vertices) spots old new inv.stands v place r found.within found.enough filled in
-    let right = spot_for m (take i vertices) spots old inv.stands v place found new r filled in
-    let first = spots_more vertices i v is spots inv.each_one r.spot m order inv.first right in
+    let stood = stood m (take i vertices) spots old inv.stands v new r c.in-Some.ensures.placed in
+    let first = spots_more vertices i v is spots inv.each_one r.spot m order inv.first stood.spot in
     record {
-      level = subst (IsLevel m) (sym filled.level) inv.level;
+      level = subst (IsLevel m) (sym stood.level) inv.level;
       each_one = omega (arith, ap length pushed, length_push spots r.spot, inv.each_one);
-      stands = rw (taken, pushed) stands;
-      first = rw (pushed, filled.level) first;
-      memories = rw (pushed, noted) (memories_more vertices i v is spots inv.each_one r.spot c.loop-i.memory r.memory inv.memories (memory_is m (take i vertices) spots old inv.stands v place found new r filled));
+      stands = rw (taken, pushed) stood.stands_more;
+      first = rw (pushed, stood.level) first;
+      memories = rw (pushed, noted) (memories_more vertices i v is spots inv.each_one r.spot c.loop-i.memory r.memory inv.memories stood.memory);
     }
 
 pub returns-clause-different : goal.returns-clause-different
-returns-clause-different c = all_differ c.args.machine.now _ c.args.graph.now.vertices c.loop-i.spots c.loop-i.invariant.first
+returns-clause-different c = all_differ c.args.machine.now _ c.args.graph.now.vertices c.loop-i.spots c.loop-i.invariant.first c.requires.devices
 
-pub returns-clause-usable : goal.returns-clause-usable
-returns-clause-usable c = all_usable c.args.machine.now _ c.args.graph.now.vertices c.loop-i.spots c.loop-i.invariant.first
+pub returns-clause-sites : goal.returns-clause-sites
+returns-clause-sites c = all_sites c.args.machine.now _ c.args.graph.now.vertices c.loop-i.spots c.loop-i.invariant.first
+
+pub returns-clause-cores : goal.returns-clause-cores
+returns-clause-cores c =
+    all_on_cores c.args.machine.now _ c.args.graph.now.vertices c.loop-i.spots c.loop-i.invariant.first (omega (arith, ap length c.as_slice-vertex-items.ensures, c.loop-i.invariant.first.few))

@@ -1,0 +1,91 @@
+-- A net's block has the keys of a range, also where it is fixed.
+use Rattle.std.proofs.Common.{◌≡◌, ℕ, suc, ◌+◌, ◌-◌, ◌*◌, ◌/◌, ◌%◌, ◌^◌, ◌<◌, ◌≤◌, ◌↔◌, true, List, Option, None, Some, IfSome, MatchOption, sym, ap, ◌∙◌, subst, arith}
+use Rattle.std.specs.Prelude.{bit_and}
+use Rattle.std.proofs.Math.Nat.{mul-le-mul_right, suc-mul}
+use Rattle.std.proofs.lemmas.Bool.Decides.{nat_tests}
+use Rattle.std.proofs.lemmas.Nat.{pow-add, pow_pos, shr_split, div_below}
+use Rattle.std.proofs.lemmas.Nat.Bits.{and_high_mask}
+use Rattle.spin_base.specs.declared.blocks.Block.{Block}
+use Rattle.app_graph.specs.declared.graphs.Net.{Net}
+use Rattle.app_graph.specs.ValidGraph.{IsFixedFor, AreApart}
+use Rattle.range_store.specs.Regions.{in_range}
+use Rattle.tern_word.specs.Ternary.{Matches, Intersects}
+use Rattle.tern_word.proofs.BlockLaws.{range_keys, exponent_le, key_small}
+use Rattle.key_alloc.specs.KeyBlocks.{size_of, Misses, IsLeastBlock, IsBlockFor}
+
+-- the block's keys are those from its key on, as many as its size
+pub record IsRange (b : Block) : Type 0 where
+  pub some : 0 < size_of b
+  pub aligned : b.key % size_of b ≡ 0
+  pub within : b.key + size_of b ≤ 2 ^ 32
+  pub keys : (k : ℕ) → k < 2 ^ 32 → Matches b k ↔ ((b.key ≤ k) × (k < b.key + size_of b))
+
+range_from_aligned : (b : Block) (e : ℕ) → size_of b ≡ 2 ^ e → b.key % size_of b ≡ 0 → b.key + size_of b ≤ 2 ^ 32 → IsRange b
+range_from_aligned b e is at_multiple within =
+    let fits = exponent_le e (subst (λ s. s ≤ 2 ^ 32) is (omega arith)) in
+    let aligned = subst (λ s. b.key % s ≡ 0) is at_multiple in
+    let mask : b.mask ≡ 2 ^ 32 - size_of b = omega (arith, b.small) in
+    let ranged = range_keys e b.key fits aligned (key_small b) in
+    let P : ℕ → Type 0 = λ m. (k : ℕ) → k < 2 ^ 32 → (bit_and k m ≡ b.key) ↔ ((b.key ≤ k) × (k < b.key + size_of b)) in
+    let Q : ℕ → Type 0 = λ s. (k : ℕ) → k < 2 ^ 32 → (bit_and k (2 ^ 32 - s) ≡ b.key) ↔ ((b.key ≤ k) × (k < b.key + s)) in
+    record { some = omega (arith, is, pow_pos e); aligned = at_multiple; within = within; keys = subst P (sym mask) (subst Q (sym is) ranged) }
+
+pub range_of_least : (taken : List Block) (keys : ℕ) (b : Block) → IsLeastBlock taken keys b → IsRange b
+range_of_least taken keys b least = range_from_aligned b least.size.power.0 least.size.power.1 least.may.aligned least.may.within
+
+-- a multiple of a power of two below a greater one leaves room for as many
+room_above : (z n : ℕ) → z ≤ 32 → n < 2 ^ 32 → n / 2 ^ z * 2 ^ z ≡ n → n + 2 ^ z ≤ 2 ^ 32
+room_above z n le small whole =
+    let split : 2 ^ 32 ≡ 2 ^ (32 - z) * 2 ^ z = ap (λ (k : ℕ). 2 ^ k) (let both : 32 ≡ (32 - z) + z = omega arith in both) ∙ pow-add 2 (32 - z) z in
+    let below = div_below n (2 ^ z) (2 ^ (32 - z)) (pow_pos z) (subst (λ k. n < k) split small) in
+    let up : suc (n / 2 ^ z) * 2 ^ z ≤ 2 ^ (32 - z) * 2 ^ z = mul-le-mul_right (2 ^ z) (omega (arith, below)) in
+    omega (arith, up, suc-mul (n / 2 ^ z) (2 ^ z), whole, split)
+
+module _ (keys : ℕ) (b : Block) (fixed : IsFixedFor keys b) where
+  size_is : size_of b ≡ 2 ^ fixed.0
+  size_is = let sum = fixed.2 in omega (arith, sum)
+
+  whole_there : b.key / 2 ^ fixed.0 * 2 ^ fixed.0 ≡ b.key
+  whole_there =
+      let mask : 2 ^ 32 - 2 ^ fixed.0 ≡ b.mask = (let sum = fixed.2 in omega (arith, sum)) in
+      sym (and_high_mask 32 fixed.0 fixed.1 b.key (key_small b)) ∙ (ap (bit_and b.key) mask ∙ b.within)
+
+  pub range_of_fixed : IsRange b
+  range_of_fixed =
+      let aligned : b.key % 2 ^ fixed.0 ≡ 0 = omega (arith, shr_split b.key fixed.0, whole_there) in
+      let room = room_above fixed.0 b.key fixed.1 (key_small b) whole_there in
+      range_from_aligned b fixed.0 size_is (subst (λ s. b.key % s ≡ 0) (sym size_is) aligned) (subst (λ s. b.key + s ≤ 2 ^ 32) (sym size_is) room)
+
+  pub fixed_enough : keys ≤ size_of b
+  fixed_enough = let many = fixed.3 in omega (arith, many, size_is)
+
+-- the block of a net is a range of enough keys
+pub range_of_block : (taken : List Block) (net : Net) (b : Block) → IfSome net.fixed (IsFixedFor net.keys) → IsBlockFor taken net b → IsRange b × (net.keys ≤ size_of b)
+range_of_block taken net b = by_fixed net.fixed
+  where
+    by_fixed : (o : Option Block) → IfSome o (IsFixedFor net.keys) → MatchOption o (IsLeastBlock taken net.keys b) (λ f. b ≡ f) → IsRange b × (net.keys ≤ size_of b)
+    by_fixed None fixed least = (range_of_least taken net.keys b least, least.size.enough)
+    by_fixed (Some f) fixed is = subst (λ x. IsRange x × (net.keys ≤ size_of x)) (sym is) (range_of_fixed net.keys f fixed, fixed_enough net.keys f fixed)
+
+-- ---- ranges that share no key
+
+in_facts : (p s k : ℕ) → in_range p s k ≡ true → (p ≤ k) × (k < p + s)
+in_facts p s k e = (grind (arith, nat_tests), grind (arith, nat_tests))
+
+in_from : (p s k : ℕ) → p ≤ k → k < p + s → in_range p s k ≡ true
+in_from p s k a b = grind (arith, nat_tests)
+
+-- blocks that share no key miss each other as ranges
+pub miss_apart : (a b : Block) → IsRange a → IsRange b → AreApart a b → Misses b.key (size_of b) a
+miss_apart a b range_a range_b apart k in_a in_b =
+    let at_a = in_facts a.key (size_of a) k in_a in
+    let at_b = in_facts b.key (size_of b) k in_b in
+    let small : k < 2 ^ 32 = omega (arith, at_a, range_a.within) in
+    apart k small ((range_a.keys k small).1 at_a) ((range_b.keys k small).1 at_b)
+
+-- and the other way round
+pub apart_missed : (a b : Block) → IsRange a → IsRange b → Misses b.key (size_of b) a → Intersects a b → ⊥
+apart_missed a b range_a range_b miss meet =
+    let at_a = (range_a.keys meet.key meet.small).0 meet.first in
+    let at_b = (range_b.keys meet.key meet.small).0 meet.second in
+    miss meet.key (in_from a.key (size_of a) meet.key at_a.0 at_a.1) (in_from b.key (size_of b) meet.key at_b.0 at_b.1)
