@@ -175,7 +175,7 @@ pub best_first : (rows : List Row) (bits : ℕ) → IsBestBefore rows 0 bits []
 best_first rows bits = record { refined = λ some. absurd (omega arith); rivals = λ j d less inside. absurd (omega arith) }
 
 -- a route stands in the table, or has no places
-route_cases : (bits i : ℕ) (rows : List Row) → ((j : ℕ) × (j < length rows) × ((d : Row) → (get_or rows j d).route.bits ≡ bits)) ⊎ (places_of bits i rows ≡ [])
+pub route_cases : (bits i : ℕ) (rows : List Row) → ((j : ℕ) × (j < length rows) × ((d : Row) → (get_or rows j d).route.bits ≡ bits)) ⊎ (places_of bits i rows ≡ [])
 route_cases bits i [] = inr refl
 route_cases bits i (r ∷ rows) = by_test (eqb_tells r.route.bits bits) (route_cases bits (suc i) rows)
   where

@@ -2,6 +2,7 @@ mod ApplyLemmas
 mod CarryLemmas
 mod ChooseLemmas
 mod CoverLemmas
+pub mod Determined
 mod GuardLemmas
 mod LinkLemmas
 mod RefineLemmas

@@ -11,9 +11,11 @@ mod carrying;
 mod choosing;
 mod covering;
 mod guards;
+mod laws;
 mod links;
 mod refining;
 
 pub use applying::apply;
 pub use covering::{Covered, Merge, cover};
+pub use laws::coverings_are_determined;
 pub use refining::refine;

@@ -1,1 +1,3 @@
+pub mod Determined
+mod FinalLemmas
 mod StripLemmas

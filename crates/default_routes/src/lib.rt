@@ -5,8 +5,12 @@
 //! row that is loaded would take its packets.
 #![tactic(auto)]
 
+mod laws;
+mod shortening;
 mod stripping;
 
+pub use laws::final_tables_are_determined;
+pub use shortening::shorten;
 pub use stripping::{Final, strip};
 
 #[cfg(test)]

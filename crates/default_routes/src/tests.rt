@@ -248,16 +248,15 @@ fn nothing_is_left_of_a_pair_that_would_lose_a_key(rt: HostRuntime) -> Result<()
 
 fn may_be_lent<T: Send + Sync>() {}
 
-/// Whether of a sound table the rows at these places are kept.
-fn are_kept(alloc: Global, table: Table, places: &[u32]) -> bool {
+/// Whether a sound table is shortened to the rows at these places.
+fn are_kept(alloc: Global, table: Table, target: u32, places: &[u32]) -> bool {
     if table.rows.len() > 100 {
         return false;
     }
     if !is_sound(&table) {
         return false;
     }
-    let merges = Seq::new(alloc);
-    match strip(alloc, Covered { table, merges }) {
+    match shorten(alloc, table, target) {
         Ok(found) => {
             may_be_lent::<Final>();
             found.kept.as_slice() == places
@@ -294,7 +293,23 @@ fn straight_on(alloc: Global, with_wide: bool) -> Result<Table, Memory> {
 
 #[test]
 fn a_row_stays_where_a_later_row_would_take_its_packets(rt: HostRuntime) -> Result<(), Fail> {
-    assert!(rt; are_kept(rt.alloc(), straight_on(rt.alloc(), true)?, &[0, 1]));
-    assert!(rt; are_kept(rt.alloc(), straight_on(rt.alloc(), false)?, &[]));
+    assert!(rt; are_kept(rt.alloc(), straight_on(rt.alloc(), true)?, 2, &[0, 1]));
+    assert!(rt; are_kept(rt.alloc(), straight_on(rt.alloc(), false)?, 2, &[]));
+    Ok(())
+}
+
+/// The row of key 1, which goes straight on, and behind it two rows of one route.
+fn three_rows(alloc: Global) -> Result<Table, Memory> {
+    let mut rows = Seq::new(alloc);
+    rows.push(row(alloc, 1, A, Port::Link(Dir::West))?)?;
+    rows.push(row(alloc, 4, CORE, Port::Local)?)?;
+    rows.push(row(alloc, 5, CORE, Port::Local)?)?;
+    Ok(Table { rows })
+}
+
+#[test]
+fn rows_are_merged_and_then_left_out(rt: HostRuntime) -> Result<(), Fail> {
+    assert!(rt; are_kept(rt.alloc(), three_rows(rt.alloc())?, 2, &[1]));
+    assert!(rt; are_kept(rt.alloc(), three_rows(rt.alloc())?, 3, &[1, 2]));
     Ok(())
 }

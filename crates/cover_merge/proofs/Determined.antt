@@ -1,0 +1,240 @@
+-- At most one refined set, one chosen merge, one covered table.
+use Rattle.std.proofs.Common.{◌≡◌, ℕ, ◌<◌, ◌≤◌, inl, inr, List, [], ◌∷◌, length, get_or, refl, sym, ap, ◌∙◌, subst, arith}
+use Rattle.std.proofs.lemmas.Bool.{cases_order}
+use Rattle.std.proofs.lemmas.Option.{get_or_from_slice_get, slice_get_within}
+use Rattle.spin_base.specs.declared.blocks.Block.{Block}
+use Rattle.spin_base.specs.declared.routes.Route.{Route}
+use Rattle.tern_word.specs.declared.tables.Alias.{Alias}
+use Rattle.tern_word.specs.declared.tables.Row.{Row}
+use Rattle.tern_word.specs.Ternary.{Intersects}
+use Rattle.tern_word.specs.SoundTable.{Misses}
+use Rattle.cover_checks.specs.Merge.{insert_place, after, merge_rows, merged_block, PassesUpCheck, PassesDown, PassesDownCheck}
+use Rattle.cover_merge.specs.Refinement.{IsLastFailing, without, IsUpStep, IsFirstMet, IsFirstMetFrom, kept_by, IsBestBit, IsNarrowed, IsDownStep, Refines, ends_empty, ends_legal, goes_up, goes_down}
+use Rattle.cover_merge.specs.Covering.{places_of, IsNoRival, IsLargest, HasNoLargest, IsFirstLegalPair, IsChosen, HasNoChosen, Covers, short, stuck, merged}
+use Rattle.cover_merge.specs.Merges.{sets_of}
+use Rattle.cover_merge.specs.declared.covering.Merge.{Merge}
+use Rattle.cover_merge.specs.declared.covering.Covered.{Covered}
+use Rattle.cover_merge.proofs.ChooseLemmas.{route_cases}
+
+-- ---- the first alias that a block meets
+
+first_alias : (b : Block) (aliases : List Alias) (met : Block) (first : IsFirstMet b aliases met) (d : Alias) → (get_or aliases first.at d).block ≡ met
+first_alias b aliases met first d = ap (λ (a : Alias). a.block) (get_or_from_slice_get aliases first.at first.alias d first.found) ∙ first.block
+
+first_not_later : (b : Block) (aliases : List Alias) (met other : Block) (one : IsFirstMet b aliases met) (two : IsFirstMet b aliases other) → one.at < two.at → ⊥
+first_not_later b aliases met other one two less = two.before one.at one.alias less (subst (Intersects b) (sym (first_alias b aliases met one one.alias)) one.meets)
+
+one_first : (b : Block) (aliases : List Alias) (met other : Block) → IsFirstMet b aliases met → IsFirstMet b aliases other → met ≡ other
+one_first b aliases met other one two = elim (cases_order one.at two.at) [
+  | inl same ↦ sym (first_alias b aliases met one one.alias) ∙ ap (λ n. (get_or aliases n one.alias).block) same ∙ first_alias b aliases other two one.alias
+  | inr apart ↦ elim apart [
+    | inl less ↦ absurd (first_not_later b aliases met other one two less)
+    | inr more ↦ absurd (first_not_later b aliases other met two one more)
+  ]
+]
+
+met_not_missed : (b : Block) (row : Row) (met : Block) → IsFirstMet b row.aliases met → Misses b row → ⊥
+met_not_missed b row met first misses =
+    misses first.at first.alias (slice_get_within row.aliases first.at first.alias first.found) (subst (Intersects b) (sym (first_alias b row.aliases met first first.alias)) first.meets)
+
+module _ (rows : List Row) where
+  -- ---- the same in rows
+
+  met_row : (b : Block) (p : ℕ) (met : Block) (first : IsFirstMetFrom rows b p met) (d : Row) → get_or rows first.at d ≡ first.row
+  met_row b p met first d = get_or_from_slice_get rows first.at first.row d first.found
+
+  met_not_later : (b : Block) (p : ℕ) (met other : Block) (one : IsFirstMetFrom rows b p met) (two : IsFirstMetFrom rows b p other) → one.at < two.at → ⊥
+  met_not_later b p met other one two less = met_not_missed b one.row met one.first (subst (Misses b) (met_row b p met one one.row) (two.before one.at one.row one.from less))
+
+  one_met : (b : Block) (p : ℕ) (met other : Block) → IsFirstMetFrom rows b p met → IsFirstMetFrom rows b p other → met ≡ other
+  one_met b p met other one two = elim (cases_order one.at two.at) [
+    | inl same ↦
+        let row : one.row ≡ two.row = sym (met_row b p met one one.row) ∙ ap (λ n. get_or rows n one.row) same ∙ met_row b p other two one.row in
+        one_first b two.row.aliases met other (subst (λ (r : Row). IsFirstMet b r.aliases met) row one.first) two.first
+    | inr apart ↦ elim apart [
+      | inl less ↦ absurd (met_not_later b p met other one two less)
+      | inr more ↦ absurd (met_not_later b p other met two one more)
+    ]
+  ]
+
+  met_fails : (b : Block) (p : ℕ) (met : Block) → IsFirstMetFrom rows b p met → PassesDown rows b p → ⊥
+  met_fails b p met first passes =
+      met_not_missed b first.row met first.first (subst (Misses b) (met_row b p met first first.row) (passes first.at first.row first.from (slice_get_within rows first.at first.row first.found)))
+
+  -- ---- the steps
+
+  one_failing : (places : List ℕ) (p s t : ℕ) → IsLastFailing rows places p s → IsLastFailing rows places p t → s ≡ t
+  one_failing places p s t one two = elim (cases_order s t) [
+    | inl same ↦ same
+    | inr apart ↦ elim apart [
+      | inl less ↦ absurd (two.failing (one.behind t two.member less))
+      | inr more ↦ absurd (one.failing (two.behind s one.member more))
+    ]
+  ]
+
+  one_up : (old xs ys : List ℕ) → IsUpStep rows old xs → IsUpStep rows old ys → xs ≡ ys
+  one_up old xs ys one two = one.result ∙ ap (λ s. without s old) (one_failing old (insert_place rows old) one.place two.place one.last two.last) ∙ sym two.result
+
+  up_fails : (old new : List ℕ) → IsUpStep rows old new → PassesUpCheck rows old → ⊥
+  up_fails old new step up = step.last.failing (up step.place step.last.member)
+
+  one_bit : (old : List ℕ) (joined met : Block) (i j : ℕ) → i < 32 → j < 32 → IsBestBit rows old joined met i → IsBestBit rows old joined met j → i ≡ j
+  one_bit old joined met i j low_i low_j one two = elim (cases_order i j) [
+    | inl same ↦ same
+    | inr apart ↦ elim apart [
+      | inl less ↦ absurd (omega (arith, one.highest j low_j less, two.most i low_i))
+      | inr more ↦ absurd (omega (arith, two.highest i low_i more, one.most j low_j))
+    ]
+  ]
+
+  one_narrowed : (old : List ℕ) (joined met : Block) (xs ys : List ℕ) → IsNarrowed rows old joined met xs → IsNarrowed rows old joined met ys → xs ≡ ys
+  one_narrowed old joined met xs ys (inl (i, low_i, one, is)) (inl (j, low_j, two, too)) = is ∙ ap (λ n. kept_by rows met n old) (one_bit old joined met i j low_i low_j one two) ∙ sym too
+  one_narrowed old joined met xs ys (inl (i, low_i, one, is)) (inr none) = absurd (omega (arith, one.some, none.0 i low_i))
+  one_narrowed old joined met xs ys (inr none) (inl (j, low_j, two, too)) = absurd (omega (arith, two.some, none.0 j low_j))
+  one_narrowed old joined met xs ys (inr none) (inr also) = none.1 ∙ sym also.1
+
+  one_down : (old xs ys : List ℕ) → IsDownStep rows old xs → IsDownStep rows old ys → xs ≡ ys
+  one_down old xs ys one two =
+      let met : one.met ≡ two.met = one_met (merged_block rows old) (insert_place rows old) one.met two.met one.first two.first in
+      one_narrowed old (merged_block rows old) two.met xs ys (subst (λ b. IsNarrowed rows old (merged_block rows old) b xs) met one.narrowed) two.narrowed
+
+  down_fails : (old new : List ℕ) → IsDownStep rows old new → PassesDownCheck rows old → ⊥
+  down_fails old new step down = met_fails (merged_block rows old) (insert_place rows old) step.met step.first down
+
+  -- ---- the refined set
+
+  few_end : (places ys : List ℕ) → length places < 2 → Refines rows places ys → [] ≡ ys
+  few_end places ys few (ends_empty p less) = refl
+  few_end places ys few (ends_legal p two up down) = absurd (omega arith)
+  few_end places ys few (goes_up p next a two step rest) = absurd (omega arith)
+  few_end places ys few (goes_down p next a two step rest) = absurd (omega arith)
+
+  legal_ends : (places ys : List ℕ) → 2 ≤ length places → PassesUpCheck rows places → PassesDownCheck rows places → Refines rows places ys → places ≡ ys
+  legal_ends places ys many up down (ends_empty p less) = absurd (omega arith)
+  legal_ends places ys many up down (ends_legal p two also too) = refl
+  legal_ends places ys many up down (goes_up p next a two step rest) = absurd (up_fails p next step up)
+  legal_ends places ys many up down (goes_down p next a two step rest) = absurd (down_fails p next step down)
+
+  goes_up_alone : (places next ys : List ℕ) → 2 ≤ length places → IsUpStep rows places next → Refines rows places ys → Refines rows next ys
+  goes_up_alone places next ys many step (ends_empty p less) = absurd (omega arith)
+  goes_up_alone places next ys many step (ends_legal p two up down) = absurd (up_fails p next step up)
+  goes_up_alone places next ys many step (goes_up p other a two also rest) = subst (λ l. Refines rows l a) (one_up p other next also step) rest
+  goes_up_alone places next ys many step (goes_down p other a two also rest) = absurd (up_fails p next step also.up)
+
+  goes_down_alone : (places next ys : List ℕ) → 2 ≤ length places → IsDownStep rows places next → Refines rows places ys → Refines rows next ys
+  goes_down_alone places next ys many step (ends_empty p less) = absurd (omega arith)
+  goes_down_alone places next ys many step (ends_legal p two up down) = absurd (down_fails p next step down)
+  goes_down_alone places next ys many step (goes_up p other a two also rest) = absurd (up_fails p other also step.up)
+  goes_down_alone places next ys many step (goes_down p other a two also rest) = subst (λ l. Refines rows l a) (one_down p other next also step) rest
+
+  pub one_refined : (places xs ys : List ℕ) → Refines rows places xs → Refines rows places ys → xs ≡ ys
+  one_refined places xs ys (ends_empty p few) other = few_end p ys few other
+  one_refined places xs ys (ends_legal p two up down) other = legal_ends p ys two up down other
+  one_refined places xs ys (goes_up p next a two step rest) other = one_refined next a ys rest (goes_up_alone p next ys two step other)
+  one_refined places xs ys (goes_down p next a two step rest) other = one_refined next a ys rest (goes_down_alone p next ys two step other)
+
+  -- ---- the chosen merge
+
+  -- a refined set of two places is that of a row's route
+  route_of_set : (bits : ℕ) (set : List ℕ) → Refines rows (places_of bits 0 rows) set → 2 ≤ length set → (route : Route) × (route.bits ≡ bits)
+  route_of_set bits set refined two = elim (route_cases bits 0 rows) [
+    | inl found ↦ ((get_or rows found.0 (merge_rows [])).route, found.2 (merge_rows []))
+    | inr none ↦
+        let empty : [] ≡ set = few_end [] set (omega arith) (subst (λ l. Refines rows l set) none refined) in
+        absurd (omega (arith, two, ap length empty))
+  ]
+
+  largest_bound : (xs ys : List ℕ) (one : IsLargest rows xs) (two : IsLargest rows ys) → (length ys ≤ length xs) × (two.bits < one.bits → length ys < length xs)
+  largest_bound xs ys one two =
+      let route = route_of_set two.bits ys two.refined two.two in
+      let rival : IsNoRival rows two.bits one.bits (length xs) = subst (λ b. IsNoRival rows b one.bits (length xs)) route.1 (one.others route.0) in
+      let same : length rival.set ≡ length ys = ap length (one_refined (places_of two.bits 0 rows) rival.set ys rival.refined two.refined) in
+      (omega (arith, same, rival.no_larger), λ less. omega (arith, same, rival.smaller (omega (arith, one.two)) less))
+
+  one_largest : (xs ys : List ℕ) → IsLargest rows xs → IsLargest rows ys → xs ≡ ys
+  one_largest xs ys one two =
+      let up = largest_bound xs ys one two in
+      let down = largest_bound ys xs two one in
+      elim (cases_order one.bits two.bits) [
+        | inl same ↦ one_refined (places_of two.bits 0 rows) xs ys (subst (λ b. Refines rows (places_of b 0 rows) xs) same one.refined) two.refined
+        | inr apart ↦ elim apart [
+          | inl less ↦ absurd (omega (arith, up.0, down.1 less))
+          | inr more ↦ absurd (omega (arith, down.0, up.1 more))
+        ]
+      ]
+
+  largest_or_none : (set : List ℕ) → IsLargest rows set → HasNoLargest rows → ⊥
+  largest_or_none set largest none =
+      let route = route_of_set largest.bits set largest.refined largest.two in
+      let small = none route.0 in
+      let same : length small.0 ≡ length set = ap length (one_refined (places_of largest.bits 0 rows) small.0 set (subst (λ b. Refines rows (places_of b 0 rows) small.0) route.1 small.1) largest.refined) in
+      omega (arith, same, small.2, largest.two)
+
+  one_pair : (xs ys : List ℕ) → IsFirstLegalPair rows xs → IsFirstLegalPair rows ys → xs ≡ ys
+  one_pair xs ys one two = elim (cases_order one.i two.i) [
+    | inl same ↦ elim (cases_order one.j two.j) [
+      | inl also ↦ one.pair ∙ ap (λ n. n ∷ one.j ∷ []) same ∙ ap (λ n. two.i ∷ n ∷ []) also ∙ sym two.pair
+      | inr apart ↦ elim apart [
+        | inl less ↦ absurd (two.before one.i one.j (inr (same, less)) one.legal)
+        | inr more ↦ absurd (one.before two.i two.j (inr (sym same, more)) two.legal)
+      ]
+    ]
+    | inr apart ↦ elim apart [
+      | inl less ↦ absurd (two.before one.i one.j (inl less) one.legal)
+      | inr more ↦ absurd (one.before two.i two.j (inl more) two.legal)
+    ]
+  ]
+
+  pub one_chosen : (xs ys : List ℕ) → IsChosen rows xs → IsChosen rows ys → xs ≡ ys
+  one_chosen xs ys (inl one) (inl two) = one_largest xs ys one two
+  one_chosen xs ys (inl one) (inr two) = absurd (largest_or_none xs one two.0)
+  one_chosen xs ys (inr one) (inl two) = absurd (largest_or_none ys two one.0)
+  one_chosen xs ys (inr one) (inr two) = one_pair xs ys one.1 two.1
+
+  pub chosen_or_none : (set : List ℕ) → IsChosen rows set → HasNoChosen rows → ⊥
+  chosen_or_none set (inl largest) none = largest_or_none set largest none.0
+  chosen_or_none set (inr pair) none = none.1 pair.1.i pair.1.j pair.1.legal
+
+-- ---- the covered table
+
+module _ (target : ℕ) where
+  short_ends : (rows : List Row) (ys : List (List ℕ)) (b : List Row) → length rows ≤ target → Covers target rows ys b → ([] ≡ ys) × (rows ≡ b)
+  short_ends rows ys b low (short r le) = (refl, refl)
+  short_ends rows ys b low (stuck r high none) = (refl, refl)
+  short_ends rows ys b low (merged r set sets covered high chosen rest) = absurd (omega arith)
+
+  stuck_ends : (rows : List Row) (ys : List (List ℕ)) (b : List Row) → HasNoChosen rows → Covers target rows ys b → ([] ≡ ys) × (rows ≡ b)
+  stuck_ends rows ys b none (short r le) = (refl, refl)
+  stuck_ends rows ys b none (stuck r high also) = (refl, refl)
+  stuck_ends rows ys b none (merged r set sets covered high chosen rest) = absurd (chosen_or_none r set chosen none)
+
+  merges_alone : (rows : List Row) (set : List ℕ) (ys : List (List ℕ)) (b : List Row) → target < length rows → IsChosen rows set → Covers target rows ys b
+      → (rest : List (List ℕ)) × (set ∷ rest ≡ ys) × (Covers target (after rows set) rest b)
+  merges_alone rows set ys b many chosen (short r le) = absurd (omega arith)
+  merges_alone rows set ys b many chosen (stuck r high none) = absurd (chosen_or_none r set chosen none)
+  merges_alone rows set ys b many chosen (merged r other sets covered high also rest) =
+      let same : other ≡ set = one_chosen r other set also chosen in
+      (sets, ap (λ s. s ∷ sets) (sym same), subst (λ s. Covers target (after r s) sets covered) same rest)
+
+  pub one_covering : (rows : List Row) (xs ys : List (List ℕ)) (a b : List Row) → Covers target rows xs a → Covers target rows ys b → (xs ≡ ys) × (a ≡ b)
+  one_covering rows xs ys a b (short r low) other = short_ends r ys b low other
+  one_covering rows xs ys a b (stuck r high none) other = stuck_ends r ys b none other
+  one_covering rows xs ys a b (merged r set sets covered high chosen rest) other =
+      let next = merges_alone r set ys b high chosen other in
+      let later = one_covering (after r set) sets next.0 covered b rest next.2 in
+      (ap (λ l. set ∷ l) later.0 ∙ next.1, later.1)
+
+same_merges : (xs ys : List Merge) → sets_of xs ≡ sets_of ys → xs ≡ ys
+same_merges [] [] same = refl
+same_merges [] (y ∷ ys) same = absurd (omega (arith, ap length same))
+same_merges (x ∷ xs) [] same = absurd (omega (arith, ap length same))
+same_merges (x ∷ xs) (y ∷ ys) same =
+    let first : x.places ≡ y.places = cc in
+    let rest : sets_of xs ≡ sets_of ys = cc in
+    ap (λ (p : List ℕ). let m : Merge = record { places = p } in m ∷ xs) first ∙ ap (λ l. y ∷ l) (same_merges xs ys rest)
+
+pub one_covered : (target : ℕ) (table : List Row) (c e : Covered) → Covers target table (sets_of c.merges) c.table.rows → Covers target table (sets_of e.merges) e.table.rows → c ≡ e
+one_covered target table c e one two =
+    let same = one_covering target table (sets_of c.merges) (sets_of e.merges) c.table.rows e.table.rows one two in
+    ap (λ (l : List Merge). let v : Covered = record { table = c.table; merges = l } in v) (same_merges c.merges e.merges same.0)
+    ∙ ap (λ (l : List Row). let v : Covered = record { table = record { rows = l }; merges = e.merges } in v) same.1

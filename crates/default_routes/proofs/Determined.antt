@@ -1,0 +1,47 @@
+-- At most one list of kept places, and one final table.
+use Rattle.std.proofs.Common.{◌≡◌, ℕ, suc, Some, List, [], ◌∷◌, length, refl, sym, ap, ◌∙◌, subst, arith}
+use Rattle.std.specs.Prelude.{slice_get}
+use Rattle.std.proofs.lemmas.Option.{slice_get_within, same_Some}
+use Rattle.tern_word.specs.declared.tables.Row.{Row}
+use Rattle.cover_checks.specs.Merge.{rows_at}
+use Rattle.cover_merge.specs.declared.covering.Covered.{Covered}
+use Rattle.cover_merge.proofs.Determined.{one_covered}
+use Rattle.default_routes.specs.declared.stripping.Final.{Final}
+use Rattle.default_routes.specs.KeptRows.{IsStrippable, KeptFrom, ends, goes, stays, AreKept}
+use Rattle.default_routes.specs.FinalTable.{IsFinalOf}
+
+module _ (rows : List Row) where
+  none_behind : (i : ℕ) (ys : List ℕ) → length rows ≡ i → KeptFrom rows i ys → [] ≡ ys
+  none_behind i ys at ends = refl
+  none_behind i ys at (goes n row kept here strip later) = absurd (omega (arith, slice_get_within rows n row here))
+  none_behind i ys at (stays n row kept here keep later) = absurd (omega (arith, slice_get_within rows n row here))
+
+  -- the row at a place can go behind one list of kept places, and stays behind another
+  both_ways : (n : ℕ) (r s : Row) (xs ys : List ℕ) → slice_get rows n ≡ Some r → slice_get rows n ≡ Some s → xs ≡ ys → IsStrippable r (rows_at rows xs) → (IsStrippable s (rows_at rows ys) → ⊥) → ⊥
+  both_ways n r s xs ys here there same strip keep =
+      let row : r ≡ s = same_Some r s (sym here ∙ there) in
+      keep (subst (λ l. IsStrippable s (rows_at rows l)) same (subst (λ x. IsStrippable x (rows_at rows xs)) row strip))
+
+  after_going : (n : ℕ) (row : Row) (xs ys : List ℕ) → slice_get rows n ≡ Some row → IsStrippable row (rows_at rows xs) → ((zs : List ℕ) → KeptFrom rows (suc n) zs → xs ≡ zs) → KeptFrom rows n ys → xs ≡ ys
+  after_going n row xs ys here strip one ends = absurd (omega (arith, slice_get_within rows n row here))
+  after_going n row xs ys here strip one (goes m other kept there also later) = one kept later
+  after_going n row xs ys here strip one (stays m other kept there keep later) = absurd (both_ways m row other xs kept here there (one kept later) strip keep)
+
+  after_staying : (n : ℕ) (row : Row) (xs ys : List ℕ) → slice_get rows n ≡ Some row → (IsStrippable row (rows_at rows xs) → ⊥) → ((zs : List ℕ) → KeptFrom rows (suc n) zs → xs ≡ zs) → KeptFrom rows n ys → n ∷ xs ≡ ys
+  after_staying n row xs ys here keep one ends = absurd (omega (arith, slice_get_within rows n row here))
+  after_staying n row xs ys here keep one (goes m other kept there strip later) = absurd (both_ways m other row kept xs there here (sym (one kept later)) strip keep)
+  after_staying n row xs ys here keep one (stays m other kept there also later) = ap (λ l. m ∷ l) (one kept later)
+
+  one_from : (i : ℕ) (xs ys : List ℕ) → KeptFrom rows i xs → KeptFrom rows i ys → xs ≡ ys
+  one_from i xs ys ends other = none_behind (length rows) ys refl other
+  one_from i xs ys (goes n row kept here strip later) other = after_going n row kept ys here strip (λ zs. one_from (suc n) kept zs later) other
+  one_from i xs ys (stays n row kept here keep later) other = after_staying n row kept ys here keep (λ zs. one_from (suc n) kept zs later) other
+
+  pub one_list : (xs ys : List ℕ) → AreKept rows xs → AreKept rows ys → xs ≡ ys
+  one_list xs ys one other = one_from 0 xs ys one other
+
+pub one_table : (target : ℕ) (table : List Row) (f g : Final) → IsFinalOf target table f → IsFinalOf target table g → f ≡ g
+one_table target table f g one other =
+    let same : f.covered ≡ g.covered = one_covered target table f.covered g.covered one.covered other.covered in
+    let places : f.kept ≡ g.kept = one_list g.covered.table.rows f.kept g.kept (subst (λ (c : Covered). AreKept c.table.rows f.kept) same one.kept) other.kept in
+    ap (λ (c : Covered). let v : Final = record { covered = c; kept = f.kept } in v) same ∙ ap (λ (l : List ℕ). let v : Final = record { covered = g.covered; kept = l } in v) places

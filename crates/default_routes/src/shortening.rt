@@ -1,0 +1,33 @@
+// Covering and default routing, one after the other.
+ghost use Rattle.std.specs.Prelude.{◌≡◌, ◌<◌, ◌≤◌, ◌^◌, ◌⊎◌, IfOk, All, length};
+ghost use Rattle.tern_word.specs.SoundTable.{IsSound, served};
+ghost use Rattle.cover_merge.specs.Covering.{HasNoLegalPair, HasRoutesOf};
+ghost use Rattle.default_routes.specs.KeptRows.{ArePlaces};
+ghost use Rattle.default_routes.specs.FinalTable.{IsFinalOf, RoutesAlone, loaded_rows};
+
+use crate::stripping::{Final, strip};
+use cover_merge::cover;
+use spin_base::Memory;
+use std::alloc::Global;
+use tern_word::Table;
+
+/// Merges rows while the table has more than `target`, and leaves out those that default routing replaces. What is loaded
+/// routes each original block of the table given as that table does: alone, and followed by entries that match no key. It
+/// has no more rows than the table given and no route that it has not; where it has more than `target`, no two rows of the
+/// covered table can be merged.
+pub fn shorten(alloc: Global, table: Table, target: u32) -> Result<Final, Memory>
+    requires few { length table.rows < 2 ^ 32 }
+    requires sound { IsSound table.rows }
+    ensures table { IfOk result (λ f. IsFinalOf target table.rows f) }
+    ensures sound { IfOk result (λ f. IsSound f.covered.table.rows) }
+    ensures places { IfOk result (λ f. ArePlaces f.covered.table.rows f.kept) }
+    ensures one_each { IfOk result (λ f. length (loaded_rows f) ≡ length f.kept) }
+    ensures few { IfOk result (λ f. (length f.kept ≤ length f.covered.table.rows) × (length f.covered.table.rows ≤ length table.rows)) }
+    ensures routes { IfOk result (λ f. HasRoutesOf table.rows (loaded_rows f)) }
+    ensures serves { IfOk result (λ f. All (RoutesAlone (loaded_rows f)) (served table.rows)) }
+    ensures ended { IfOk result (λ f. (length f.covered.table.rows ≤ target) ⊎ (HasNoLegalPair f.covered.table.rows)) }
+{
+    let covered = cover(alloc, table, target)?;
+    let shortened = strip(alloc, covered)?;
+    Ok(shortened)
+}
