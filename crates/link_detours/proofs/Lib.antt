@@ -1,6 +1,7 @@
-mod Reaching
 mod Keeping
 mod Pruning
+mod Reaching
+mod RoadBits
 mod Searching
 mod Seeding
 mod Stepping

@@ -2,6 +2,7 @@ pub use Rattle.machine_desc.specs.Live
 pub use Rattle.machine_desc.specs.RoutingTree
 pub mod Cause
 pub mod Descent
+pub mod LiveRoads
 pub mod Repair
 pub mod Steps
 pub mod Usable

@@ -8,11 +8,13 @@ mod detours;
 mod edges;
 mod prunes;
 mod repairs;
+mod roads;
 mod searches;
 mod tables;
 mod trims;
 
 pub use repairs::{RepairErr, repair};
+pub use roads::Roads;
 
 #[cfg(test)]
 mod tests;

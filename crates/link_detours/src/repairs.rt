@@ -6,12 +6,14 @@ ghost use Rattle.link_detours.specs.Usable.{number_at};
 ghost use Rattle.link_detours.specs.Repair.{IsKept, Joins, IsRepaired, IsInOrder};
 ghost use Rattle.link_detours.specs.Whole.{IsWhole};
 ghost use Rattle.link_detours.specs.Cause.{IsCause};
+ghost use Rattle.link_detours.specs.LiveRoads.{AreRoadsOf};
 ghost use Rattle.link_detours.specs.declared.repairs.RepairErr.TheVariants.{Memory as NoMemory};
 ghost use Rattle.spin_base.specs.declared.chips.Chip.{Chip};
 ghost use Rattle.machine_desc.specs.declared.trees.Edge.{Edge};
 
 use crate::detours::{join, tree_reach};
 use crate::edges::{live_edges, reached_edges};
+use crate::roads::Roads;
 use crate::searches::UNREACHED;
 use crate::trims::trimmed;
 use machine_desc::{Edge, Machine, Tree};
@@ -48,13 +50,15 @@ struct Grown {
 /// The tree with, of its edges, those that live links of the tree join to the root; with a detour to each target that
 /// is then not in the tree, in the order of the list, each the shortest over live links from the tree as it is then
 /// (of all, last link first, that of the least link numbers); and without edges that lead to no target. Edges are in
-/// order of (x, y, link). It is refused exactly where some target is cut off from the root.
+/// order of (x, y, link). It is refused exactly where some target is cut off from the root. `roads` are the machine's.
 pub fn repair(
     alloc: Global,
     machine: &Machine,
+    roads: &Roads,
     tree: &Tree,
     targets: &Seq<Chip>,
 ) -> Result<Tree, RepairErr>
+    requires roads_are { AreRoadsOf machine.now roads.now }
     requires root_lives { IsLiveChip machine.now tree.now.root }
     requires none_into_root { All (λ e. end_of machine.now e ≢ Some tree.now.root) tree.now.edges }
     requires one_into_each { AllPairs (λ e f. (c : Chip) → end_of machine.now e ≡ Some c → end_of machine.now f ≢ Some c) tree.now.edges }

@@ -1,7 +1,7 @@
 // Trees of one edge, repaired on small machines with one dead chip and one dead link.
 ghost use Rattle.std.specs.Prelude.{◌≡◌, ◌<◌, ◌≤◌, [], ◌∷◌, IfOk};
 
-use crate::{RepairErr, repair};
+use crate::{RepairErr, Roads, repair};
 use machine_desc::{Edge, Machine, Tree};
 use spin_base::{Chip, Dir, Memory, Seq};
 use std::alloc::Global;
@@ -73,7 +73,9 @@ fn repaired(
     }
     let edges = list_of(alloc, edge).ok()?;
     let targets = list_of(alloc, target).ok()?;
-    Some(repair(alloc, machine, &Tree { root, edges }, &targets))
+    let roads = Roads::of(alloc, machine).ok()?;
+    let tree = Tree { root, edges };
+    Some(repair(alloc, machine, &roads, &tree, &targets))
 }
 
 // Whether it then has these edges.
@@ -83,6 +85,8 @@ fn leads_by(alloc: Global, machine: &Machine, edge: Edge, target: Chip, expected
         _ => false,
     }
 }
+
+fn may_be_lent<T: Send + Sync>() {}
 
 #[test]
 fn a_dead_link_of_a_torus_is_left_for_the_other_way(rt: HostRuntime) {
@@ -96,6 +100,7 @@ fn a_dead_link_of_a_torus_is_left_for_the_other_way(rt: HostRuntime) {
 
 #[test]
 fn a_dead_link_sends_the_tree_round(rt: HostRuntime) {
+    may_be_lent::<Roads>();
     let link = edge(0, 0, Dir::East);
     let square = machine(rt.alloc(), 2, 2, false, Chip { x: 0, y: 1 }, link);
     let round = [edge(0, 0, Dir::NorthEast), edge(1, 1, Dir::South)];

@@ -1,5 +1,6 @@
 -- Where a queue has room for a copy of each packet of a job, no copy is dumped.
 use Rattle.std.proofs.Common.{◌≡◌, ◌≢◌, ℕ, ◌+◌, ◌*◌, ◌<◌, ◌≤◌, List, ◌∷◌, Bool, true, false, not, ◌==◌, ◌&&◌, if◌then◌else◌, Option, Some, None, is_some, refl, ap, sym, ◌∙◌, subst, arith, inl, inr, length, count_by}
+use Rattle.std.specs.Prelude.{Result, Ok, Err, IfOk}
 use Rattle.std.specs.List.{slice_get, list_any, Contains}
 use Rattle.std.proofs.lemmas.Bool.{lt-ltb, and_parts, eqb-true}
 use Rattle.std.proofs.lemmas.List.Elements.{All-contains}
@@ -10,12 +11,14 @@ use Rattle.spin_base.specs.declared.chips.Chip.{Chip}
 use Rattle.spin_base.specs.declared.routes.Out.{Out}
 use Rattle.spin_base.specs.declared.copies.McCopy.{McCopy}
 use Rattle.spin_base.specs.declared.copies.Packet.{Packet}
+use Rattle.spin_base.specs.declared.copies.Event.{Event}
 use Rattle.spin_base.specs.declared.copies.Event.TheVariants.{Dump}
 use Rattle.spin_base.specs.Equality.{out_eq}
 use Rattle.spin_base.proofs.Equality.{out_eq_true}
 use Rattle.machine_desc.specs.Live.{index_of, is_live_chip, IsInside}
 use Rattle.machine_desc.proofs.Far.{live_inside}
 use Rattle.net_tables.specs.declared.nets.NetPlan.{NetPlan}
+use Rattle.mesh_core.specs.declared.places.Did.{Did}
 use Rattle.mesh_core.specs.declared.places.Did.TheVariants.{Moved, Idle}
 use Rattle.mesh_core.specs.State.{State, Held, IsMesh, Behind, input, core, nowhere, behind}
 use Rattle.mesh_core.specs.Step.{dump_of, serves, has_room, has_room_behind, answer}
@@ -100,3 +103,15 @@ module _ (s : State) (nets : List NetPlan) (packets : List Packet) (mesh : IsMes
   -- No Dump is enabled.
   pub no_dump : (c : Chip) (o : Out) → answer s (Dump c o) ≡ Idle
   no_dump c o = ap (λ (t : Option State). if is_some t then Moved else Idle) (dump_none c o (slice_get s.hands (index_of s.setup.machine c)) refl)
+
+-- So an event that is a Dump is answered by Idle, whatever else the call may answer.
+pub idle_answer : (did : Did) (s : State) (e is_e : Event) → e ≡ is_e → IsMesh s → did ≡ answer s is_e →
+    (nets : List NetPlan) (packets : List Packet) (c : Chip) (o : Out) → MeetsJobLedger s nets packets → length packets ≤ s.setup.capacity → e ≡ Dump c o → did ≡ Idle
+idle_answer did s e is_e same mesh told nets packets c o job roomy is =
+    told ∙ (ap (answer s) (sym same ∙ is) ∙ no_dump s nets packets mesh job roomy c o)
+
+pub idle_result : {E : Type 0} (r : Result Did E) (s : State) (e is_e : Event) → e ≡ is_e → IsMesh s → IfOk r (λ did. did ≡ answer s is_e) →
+    (nets : List NetPlan) (packets : List Packet) (c : Chip) (o : Out) → MeetsJobLedger s nets packets → length packets ≤ s.setup.capacity → e ≡ Dump c o →
+    IfOk r (λ did. did ≡ Idle)
+idle_result (Ok did) s e is_e same mesh told = idle_answer did s e is_e same mesh told
+idle_result (Err x) s e is_e same mesh told = λ nets packets c o job roomy is. tt

@@ -14,10 +14,16 @@ use spin_base::{Chip, Delivery, DumpRec, Event, McCopy, Memory, Out, Port};
 
 impl Mesh {
     ghost use Rattle.spin_base.specs.declared.copies.Event.TheVariants.{Inject, Take, Send, Dump, Collect};
+    ghost use Rattle.std.specs.Prelude.{◌≤◌};
+    ghost use Rattle.spin_base.specs.declared.chips.Chip.{Chip};
+    ghost use Rattle.spin_base.specs.declared.routes.Out.{Out};
+    ghost use Rattle.spin_base.specs.declared.copies.Packet.{Packet};
     ghost use Rattle.net_tables.specs.declared.nets.NetPlan.{NetPlan};
     ghost use Rattle.net_tables.specs.RightTables.{AreRight};
+    ghost use Rattle.mesh_core.specs.declared.places.Did.TheVariants.{Idle};
     ghost use Rattle.mesh_core.specs.Step.{after_event, answer};
     ghost use Rattle.mesh_core.specs.Ledger.{Label, MeetsLedger};
+    ghost use Rattle.mesh_core.specs.Opened.{MeetsJobLedger};
 
     /// One event: `Moved` exactly where it is enabled, and `Idle` exactly where it isn't, and then nothing changes.
     ///
@@ -28,7 +34,8 @@ impl Mesh {
     /// `Dump` records the copy and drops it for an output behind which is a full queue or none. `Collect` delivers the
     /// front copy in the queue of a vertex's core. An event of a vertex or a chip that isn't there is not enabled.
     ///
-    /// Where the tables are right for some nets and the mesh met their ledger of copies before, it meets it after.
+    /// Where the tables are right for some nets and the mesh met their ledger of copies before, it meets it after. Where it
+    /// met the ledger of a job and a queue holds as many copies as the job has packets, no `Dump` is enabled.
     ///
     /// It moves what it moves: its cost does not depend on the size of the mesh. After a refusal the mesh is as before.
     #[tactic(auto, using(crate::proofs::Fixed::after_event_setup))]
@@ -39,6 +46,8 @@ impl Mesh {
         ensures setup_stays { self.new.setup ≡ self.old.setup }
         ensures ledger { (nets : List NetPlan) (labels : ℕ → Label) →
             AreRight self.old.setup.machine self.old.setup.tables nets → MeetsLedger self.old nets labels → MeetsLedger self.new nets labels }
+        ensures roomy { (nets : List NetPlan) (packets : List Packet) (c : Chip) (o : Out) → MeetsJobLedger self.old nets packets →
+            length packets ≤ self.old.setup.capacity → e ≡ Dump c o → IfOk result (λ did. did ≡ Idle) }
     {
         let _ = &self.setup;
         match e {

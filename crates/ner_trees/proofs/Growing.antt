@@ -1,7 +1,7 @@
 -- The tree so far: what its table says, and what comes of growing when it is done.
 use Rattle.std.proofs.Common.{◌≡◌, ◌≢◌, ℕ, ◌+◌, ◌*◌, ◌<◌, ◌≤◌, Bool, true, false, List, [], ◌∷◌, ◌++◌, length, map, get_or, take, set, replicate, Option, Some, None, refl, sym, ap, ◌∙◌, subst, arith, inl, inr, ◌⊎◌, ◌↔◌}
 use Rattle.std.specs.List.{Contains, All, AllPairs, Any, sum_by}
-use Rattle.std.specs.List.Sorted.{IsPermutation, IsNonDecreasingBy}
+use Rattle.std.specs.List.Sorted.{IsPermutation}
 use Rattle.std.proofs.lemmas.Bool.{cases_eq, cases_order, true≢false, and_from, eq-eqb}
 use Rattle.std.proofs.lemmas.List.{append-nil, append_assoc, take_more, take_all, map_push, get_or-set_same, get_or-set_other, get_or-replicate, length-replicate}
 use Rattle.std.proofs.Math.ListN.{length-set}
@@ -10,19 +10,18 @@ use Rattle.std.proofs.lemmas.List.Sorted.{IsPermutation-sym, Contains-permutatio
 use Rattle.spin_base.specs.declared.chips.Chip.{Chip}
 use Rattle.spin_base.specs.declared.chips.Dir.{Dir}
 use Rattle.spin_base.specs.Links.{dir_number}
-use Rattle.spin_base.proofs.Outputs.{dir_number_below}
 use Rattle.spin_base.proofs.Equality.{dir_eq_true}
 use Rattle.machine_desc.proofs.Same.{same_edge, same_chip}
 use Rattle.machine_desc.specs.declared.trees.Edge.{Edge}
 use Rattle.machine_desc.specs.Description.{Description, HasSize}
 use Rattle.machine_desc.specs.Live.{far_of, index_of, is_live_between, IsInside, IsLiveLink}
 use Rattle.machine_desc.specs.RoutingTree.{end_of, IsTreeChip, IsPath, IsTreeTo}
-use Rattle.machine_desc.proofs.Far.{same_index, index_below, far_inside, inside_parts}
+use Rattle.machine_desc.proofs.Far.{same_index, index_below, far_inside}
 use Rattle.ner_trees.specs.declared.growths.Join.{Join}
 use Rattle.ner_trees.specs.Geometry.{displacement_of, distance_of}
 use Rattle.ner_trees.specs.LongestFirst.{ldf_of}
 use Rattle.ner_trees.specs.Growth.{or_stay, next_of, IsNear, IsAdded, Grows, IsGrown, IsWithoutDead, distance_sum}
-use Rattle.ner_trees.specs.Order.{IsBefore, order_number}
+use Rattle.ner_trees.specs.Order.{IsBefore}
 use Rattle.ner_trees.specs.Search.{is_on, IsNearestOn, IsNoneOn, IsCutAt}
 use Rattle.ner_trees.proofs.Cutting.{Marked}
 use Rattle.machine_desc.proofs.TreeLemmas.{tree_end, tree_cases, more_chips}
@@ -59,13 +58,14 @@ near_is m root on tree t near root_in inside tells (inr none) =
     )
 
 -- the chip to which a target is joined is one that the table has
-pub near_on_table : (m : Description) (root : Chip) (on : List Bool) (tree : List Edge) (t near : Chip) → IsInside m root → TellsTree m root on tree →
-    IsNearestOn m on t 20 near ⊎ (IsNoneOn m on t 20 × (near ≡ root)) → IsInside m near × (is_on m on near ≡ true)
-near_on_table m root on tree t near root_in tells (inl found) = (found.0.inside, found.0.on_it)
-near_on_table m root on tree t near root_in tells (inr none) =
+pub near_on_table : (m : Description) (root : Chip) (on : List Bool) (tree : List Edge) (t near : Chip) → IsInside m root → All (λ e. IsInside m e.chip) tree → TellsTree m root on tree →
+    IsNear m root tree t near → IsInside m near × (is_on m on near ≡ true)
+near_on_table m root on tree t near root_in inside tells (inl found) =
+    let near_in = on_inside m root tree root_in inside near found.0.0 in (near_in, (tells near near_in).1 found.0.0)
+near_on_table m root on tree t near root_in inside tells (inr none) =
     subst (λ (c : Chip). IsInside m c × (is_on m on c ≡ true)) (sym none.1) (root_in, (tells root root_in).1 (inl refl))
 
-next_inside : (m : Description) (c : Chip) (d : Dir) → IsInside m c → IsInside m (next_of m c d)
+pub next_inside : (m : Description) (c : Chip) (d : Dir) → IsInside m c → IsInside m (next_of m c d)
 next_inside m c d c_in = go (far_of m c d) refl
   where
     go : (o : Option Chip) → far_of m c d ≡ o → IsInside m (or_stay c o)
@@ -157,24 +157,21 @@ so_far_more m root on after edges whole joins more targets i d j within long tel
           (so_far.grows (j ∷ js) end (subst (λ (t : Chip). IsNear m root edges t j.near) (sym target) near, (added.0, added.1, subst (λ es. Grows m root es js end) added.2 g)));
     })
 
--- numbers that rise put edges in order
-before_is : (e f : Edge) → e.chip.y < 256 → f.chip.y < 256 → order_number e ≤ order_number f → (e ≡ f → ⊥) → IsBefore e f
-before_is e f ey fy rises apart =
-    let dn : dir_number e.dir < 6 = dir_number_below e.dir in
-    let fn : dir_number f.dir < 6 = dir_number_below f.dir in
-    elim (cases_order e.chip.x f.chip.x) [
-      | inr (inl less) ↦ inl less
-      | inr (inr more) ↦ absurd (omega arith)
-      | inl same ↦ elim (cases_order e.chip.y f.chip.y) [
-        | inr (inl less) ↦ inr (same, inl less)
-        | inr (inr more) ↦ absurd (omega arith)
-        | inl too ↦ elim (cases_order (dir_number e.dir) (dir_number f.dir)) [
-          | inr (inl less) ↦ inr (same, inr (too, less))
-          | inr (inr more) ↦ absurd (omega arith)
-          | inl all ↦ absurd (apart (same_edge e f (same_chip e.chip f.chip same too) (dir_eq_true e.dir f.dir (eq-eqb _ _ all))))
-        ]
-      ]
+-- of two different edges the one that does not come later comes before
+before_is : (e f : Edge) → (IsBefore f e → ⊥) → (e ≡ f → ⊥) → IsBefore e f
+before_is e f never apart = elim (cases_order e.chip.x f.chip.x) [
+  | inr (inl less) ↦ inl less
+  | inr (inr more) ↦ absurd (never (inl more))
+  | inl same ↦ elim (cases_order e.chip.y f.chip.y) [
+    | inr (inl less) ↦ inr (same, inl less)
+    | inr (inr more) ↦ absurd (never (inr (sym same, inl more)))
+    | inl too ↦ elim (cases_order (dir_number e.dir) (dir_number f.dir)) [
+      | inr (inl less) ↦ inr (same, inr (too, less))
+      | inr (inr more) ↦ absurd (never (inr (sym same, inr (sym too, more))))
+      | inl all ↦ absurd (apart (same_edge e f (same_chip e.chip f.chip same too) (dir_eq_true e.dir f.dir (eq-eqb _ _ all))))
     ]
+  ]
+]
 
 -- on a machine without dead parts each link that leads somewhere is live
 live_link : (m : Description) (c e : Chip) (d : Dir) → IsWithoutDead m → IsInside m c → IsInside m e → far_of m c d ≡ Some e → IsLiveLink m c d
@@ -208,7 +205,7 @@ root_goes m root targets es t [] is has = inr (subst (λ (c : Chip). Contains ta
 root_goes m root targets es t (e ∷ path) is has = inl (is.0.0, e, is.0.1, is.0.2, is.1)
 
 pub finished : (m : Description) (root : Chip) (targets : List Chip) (joins : List Join) (on : List Bool) (whole edges : List Edge) → HasSize m → IsInside m root →
-    All (IsInside m) targets → GrownSoFar m root on whole joins targets → IsPermutation whole edges → IsNonDecreasingBy order_number edges → Finished m root targets joins edges
+    All (IsInside m) targets → GrownSoFar m root on whole joins targets → IsPermutation whole edges → AllPairs (λ e f. IsBefore f e → ⊥) edges → Finished m root targets joins edges
 finished m root targets joins on whole edges size root_in targets_in so_far perm rises =
     let grows : Grows m root [] joins whole = subst (λ js. Grows m root [] js whole) (append-nil joins) (so_far.grows [] whole refl) in
     let wanted : (t : Chip) → Contains (map (λ j. j.target) joins) t → Contains targets t = λ t has. subst (λ ts. Contains ts t) so_far.targets has in
@@ -224,8 +221,6 @@ finished m root targets joins on whole edges size root_in targets_in so_far perm
     let at : (k : ℕ) (d : Edge) → k < length edges → Contains whole (get_or edges k d) = λ k d within. to (get_or edges k d) (Contains-get_or edges k d within) in
     let inside : All (λ e. IsInside m e.chip) edges = λ k d within. out.spans.inside (get_or edges k d) (at k d within) in
     let none_into : All (λ e. end_of m e ≢ Some root) edges = λ k d within. out.spans.none_into_root (get_or edges k d) (at k d within) in
-    let low : (k : ℕ) (d : Edge) → k < length edges → (get_or edges k d).chip.y < 256 = λ k d within.
-    (let parts = inside_parts m (get_or edges k d).chip (inside k d within) in let below : (get_or edges k d).chip.y < m.height = parts.1 in let most : m.height ≤ 64 = size.height_to_64 in omega arith) in
     let has_target : (t : Chip) → Contains targets t → IsTreeChip m root whole t = λ t has. out.has t (subst (λ ts. Contains ts t) (sym so_far.targets) has) in
     let long : length edges ≡ length whole = length_permutation whole edges perm in
     let most : length whole ≤ length {A = Edge} [] + sum_by (distance_of m root) (map (λ j. j.target) joins) = out.few in
@@ -237,9 +232,7 @@ finished m root targets joins on whole edges size root_in targets_in so_far perm
         grows = grows;
         same_edges = λ e. (to e, back' e);
         in_order = λ i j d less short.
-            let il : i < length edges = omega arith in
-            before_is (get_or edges i d) (get_or edges j d) (low i d il) (low j d short) (rises i j d (omega arith) short)
-            (λ same. apart i j d less short (ap (end_of m) same));
+            before_is (get_or edges i d) (get_or edges j d) (rises i j d less short) (λ same. apart i j d less short (ap (end_of m) same));
       };
       inside = inside;
       none_into_root = none_into;
@@ -272,7 +265,7 @@ finished m root targets joins on whole edges size root_in targets_in so_far perm
 
 pub finished_at : (m : Description) (root : Chip) (targets items : List Chip) (joins : List Join) (on : List Bool) (whole edges result : List Edge) (i : ℕ) → HasSize m → IsInside m root →
     All (IsInside m) targets → items ≡ targets → length items ≤ i → GrownSoFar m root on whole joins (take i targets) → IsPermutation whole edges →
-    IsNonDecreasingBy order_number edges → result ≡ edges → Finished m root targets joins result
+    AllPairs (λ e f. IsBefore f e → ⊥) edges → result ≡ edges → Finished m root targets joins result
 finished_at m root targets items joins on whole edges result i size root_in targets_in same past so_far perm rises is =
     let all : take i targets ≡ targets = take_all i targets (subst (λ ts. length ts ≤ i) same past) in
     subst (λ es. Finished m root targets joins es) (sym is)

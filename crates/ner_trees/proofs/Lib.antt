@@ -1,9 +1,13 @@
 mod Axis
 mod Cutting
+pub mod Determined
 mod Growing
 mod LongestFirst
+mod Nearest
+pub mod Ordered
 mod Searching
 mod Signed
+mod Sorting
 mod Torus
 mod Trees
 mod Walking

@@ -1,5 +1,5 @@
 -- The order of a tree's edges.
-use Rattle.std.specs.Prelude.{◌≡◌, ℕ, ◌+◌, ◌*◌, ◌<◌, ◌⊎◌, List, AllPairs}
+use Rattle.std.specs.Prelude.{◌≡◌, ℕ, ◌<◌, ◌⊎◌, List, AllPairs}
 use Rattle.spin_base.specs.Links.{dir_number}
 use Rattle.machine_desc.specs.declared.trees.Edge.{Edge}
 
@@ -12,6 +12,6 @@ IsBefore e f =
 abbrev pub IsInOrder : List Edge → Type 0
 IsInOrder edges = AllPairs IsBefore edges
 
--- a number that rises in that order
-abbrev pub order_number : Edge → ℕ
-order_number e = (e.chip.x * 256 + e.chip.y) * 8 + dir_number e.dir
+-- the numbers of an edge in that order
+abbrev pub edge_key : Edge → ℕ × ℕ × ℕ
+edge_key e = (e.chip.x, e.chip.y, dir_number e.dir)

@@ -1,12 +1,14 @@
 -- The search for the chip of a tree that is nearest to a target, in a window round the target.
-use Rattle.std.specs.Prelude.{◌≡◌, ℕ, ◌+◌, ◌-◌, ◌*◌, ◌/◌, ◌%◌, ◌<◌, ◌≤◌, Bool, true, false, nat_lt, if◌then◌else◌, List, ◌++◌, Option, Some, None, All, slice_index_or}
+use Rattle.std.specs.Prelude.{◌≡◌, ℕ, ◌+◌, ◌-◌, ◌*◌, ◌/◌, ◌%◌, ◌<◌, ◌≤◌, Bool, true, false, nat_lt, if◌then◌else◌, List, ◌++◌, Option, Some, None, All, ◌⊎◌, IfSome, slice_index_or}
+use Rattle.std.specs.Option.{IsSomeAnd}
 use Rattle.spin_base.specs.declared.chips.Chip.{Chip}
 use Rattle.spin_base.specs.declared.chips.Dir.{Dir}
 use Rattle.machine_desc.specs.declared.trees.Edge.{Edge}
 use Rattle.machine_desc.specs.Description.{Description}
 use Rattle.machine_desc.specs.Live.{chip_at, index_of, IsInside}
 use Rattle.ner_trees.specs.Geometry.{distance_of}
-use Rattle.ner_trees.specs.Growth.{IsNotFarther, end_of_walk, links_of, next_of}
+use Rattle.ner_trees.specs.declared.searches.Found.{Found}
+use Rattle.ner_trees.specs.Growth.{IsNotFarther, IsWithin, end_of_walk, links_of, next_of}
 
 -- what a table with a place for each chip says of a chip
 abbrev pub is_on : Description → List Bool → Chip → Bool
@@ -54,3 +56,17 @@ pub record IsCutAt (m : Description) (on : List Bool) (near : Chip) (walk : List
   pub added_is : added ≡ links_of m start rest
   pub added_inside : All (λ e. IsInside m e.chip) added
   pub added_off : All (λ e. is_on m on (next_of m e.chip e.dir) ≡ false) added
+
+-- Of what a search has found and one chip more, what comes first in the order of nearness, of chips at most 20 links from
+-- the target.
+pub record IsCloser (m : Description) (t : Chip) (best : Option Found) (chip : Chip) (result : Option Found) : Type 0 where
+  pub far : IfSome result (λ f. f.far ≡ distance_of m f.chip t)
+  pub one_of : IfSome result (λ f. (best ≡ Some f) ⊎ ((f.chip ≡ chip) × (distance_of m chip t ≤ 20)))
+  pub not_farther : IfSome best (λ b. IsSomeAnd result (λ f. IsNotFarther m t f.chip b.chip))
+  pub than_the_chip : distance_of m chip t ≤ 20 → IsSomeAnd result (λ f. IsNotFarther m t f.chip chip)
+
+-- The nearest of the chips of a tree within 20 links of the target.
+pub record IsLeastFound (m : Description) (root : Chip) (tree : List Edge) (t : Chip) (best : Option Found) : Type 0 where
+  pub far : IfSome best (λ b. b.far ≡ distance_of m b.chip t)
+  pub within : IfSome best (λ b. IsWithin m root tree t 20 b.chip)
+  pub least : (e : Chip) → IsWithin m root tree t 20 e → IsSomeAnd best (λ b. IsNotFarther m t b.chip e)

@@ -1,11 +1,11 @@
 // Trees that grow from target to target.
 ghost use Rattle.std.specs.Prelude.{◌≡◌, ◌≢◌, ℕ, ◌+◌, ◌*◌, ◌<◌, ◌≤◌, ◌⊎◌, ◌↔◌, ◌++◌, List, Some, true, length, IfOk, All, AllPairs};
-ghost use Rattle.std.specs.List.Sorted.{IsPermutation, IsNonDecreasingBy};
+ghost use Rattle.std.specs.List.Sorted.{IsPermutation};
 ghost use Rattle.machine_desc.specs.Description.{HasSize};
 ghost use Rattle.machine_desc.specs.Live.{IsInside};
 ghost use Rattle.machine_desc.specs.RoutingTree.{end_of, IsTreeChip, IsTreeTo};
 ghost use Rattle.ner_trees.specs.Growth.{IsNear, IsAdded, IsGrown, IsWithoutDead, distance_sum};
-ghost use Rattle.ner_trees.specs.Order.{order_number};
+ghost use Rattle.ner_trees.specs.Order.{IsBefore};
 ghost use Rattle.ner_trees.specs.Search.{is_on};
 ghost use Rattle.spin_base.specs.declared.chips.Chip.{Chip};
 ghost use Rattle.machine_desc.specs.declared.trees.Edge.{Edge};
@@ -34,20 +34,13 @@ pub struct Grown {
     pub joins: Seq<Join>,
 }
 
-// A number that rises in the order of (x, y, link).
-fn order_number(edge: Edge) -> u32
-    ensures { result ≡ order_number edge }
-{
-    (u32::from(edge.chip.x) * 256 + u32::from(edge.chip.y)) * 8 + u32::from(edge.dir.number())
-}
-
 // The edges in the order of (x, y, link).
 fn in_order(edges: Vec<Edge>) -> Result<Vec<Edge>, Memory>
     ensures same_edges { IfOk result (λ v. IsPermutation edges.items v.items) }
-    ensures in_order { IfOk result (λ v. IsNonDecreasingBy order_number v.items) }
+    ensures in_order { IfOk result (λ v. AllPairs (λ e f. IsBefore f e → ⊥) v.items) }
 {
     let mut sorted = edges;
-    sorted.sort_by_key(|edge| order_number(*edge))?;
+    sorted.sort_by_key(|edge| (edge.chip.x, edge.chip.y, edge.dir.number()))?;
     Ok(sorted)
 }
 
@@ -73,7 +66,7 @@ fn add_target(
     ensures near { IfOk result (λ j. IsNear machine.now root edges.old.items target j.near) }
     ensures added { IfOk result (λ j. (added : List Edge) × IsAdded machine.now root edges.old.items j added × (edges.new.items ≡ edges.old.items ++ added)) }
 {
-    let near = near_chip(machine, root, on, target);
+    let near = near_chip(machine, root, on, edges, target);
     let walk = ldf(alloc, displacement(machine, near, target))?;
     let branch = new_branch(alloc, machine, on, near, walk.as_slice())?;
     edges.extend_from_slice(&branch.links)?;

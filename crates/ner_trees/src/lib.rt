@@ -9,11 +9,13 @@
 mod cuts;
 mod displacements;
 mod growths;
+mod laws;
 mod searches;
 mod walks;
 
 pub use displacements::{Disp, displacement, distance};
 pub use growths::{Grown, Join, ner};
+pub use laws::grown_trees_are_determined;
 pub use walks::ldf;
 
 #[cfg(test)]

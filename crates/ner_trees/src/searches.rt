@@ -1,13 +1,15 @@
 // The chip of a tree that is nearest to a target.
-ghost use Rattle.std.specs.Prelude.{◌≡◌, ◌+◌, ◌-◌, ◌*◌, ◌/◌, ◌%◌, ◌<◌, ◌≤◌, ◌⊎◌, Some, length, IfSome, IfNone, MatchBool};
+ghost use Rattle.std.specs.Prelude.{◌≡◌, ◌+◌, ◌-◌, ◌*◌, ◌/◌, ◌%◌, ◌<◌, ◌≤◌, ◌⊎◌, ◌↔◌, Some, true, length, All, IfSome, IfNone, MatchBool};
 ghost use Rattle.machine_desc.specs.Description.{HasSize};
 ghost use Rattle.machine_desc.specs.Live.{IsInside, chip_at};
-ghost use Rattle.ner_trees.specs.Growth.{IsNotFarther};
-ghost use Rattle.ner_trees.specs.Search.{is_on, place_at, window_chip, IsOnWithin, IsNearestOn, IsNoneOn};
+ghost use Rattle.machine_desc.specs.RoutingTree.{IsTreeChip};
+ghost use Rattle.ner_trees.specs.Geometry.{distance_of};
+ghost use Rattle.ner_trees.specs.Growth.{IsNotFarther, IsNear};
+ghost use Rattle.ner_trees.specs.Search.{is_on, place_at, window_chip, IsOnWithin, IsNearestOn, IsNoneOn, IsCloser, IsLeastFound};
 ghost use Rattle.spin_base.specs.declared.chips.Chip.{Chip};
 
 use crate::displacements::distance;
-use machine_desc::Machine;
+use machine_desc::{Edge, Machine};
 use spin_base::Chip;
 
 // The place on an axis that is `offset` places past the one that lies `radius` places before the centre. `None` exactly
@@ -134,19 +136,112 @@ fn nearer(machine: &Machine, target: Chip, best: Option<Chip>, chip: Chip) -> Ch
     }
 }
 
-// The chip of the tree to which a target is joined: the nearest within 20 links, and the root where there is none. Near
-// chips are looked for first, so that a tree that has some costs little.
-pub fn near_chip(machine: &Machine, root: Chip, on: &[bool], target: Chip) -> Chip
+// The nearest chip that a search has come to, and how many links it is from the target.
+#[derive(Clone, Copy, Debug)]
+struct Found {
+    chip: Chip,
+    far: u32,
+}
+
+// Of two chips the one that comes first in the order of distance to the target, then x, then y.
+fn first_of(machine: &Machine, target: Chip, old: Found, new: Found) -> Found
+    requires old_inside { IsInside machine.now old.chip }
+    requires new_inside { IsInside machine.now new.chip }
+    requires old_far { old.far ≡ distance_of machine.now old.chip target }
+    requires new_far { new.far ≡ distance_of machine.now new.chip target }
+    ensures { ((result ≡ old) × IsNotFarther machine.now target old.chip new.chip) ⊎ ((result ≡ new) × IsNotFarther machine.now target new.chip old.chip) }
+{
+    if new.far < old.far {
+        return new;
+    }
+    if old.far < new.far {
+        return old;
+    }
+    if machine.index(new.chip) < machine.index(old.chip) {
+        new
+    } else {
+        old
+    }
+}
+
+// The nearest of what was found and one chip more, where the target is at most 20 links from it.
+fn closer(machine: &Machine, target: Chip, best: Option<Found>, chip: Chip) -> Option<Found>
+    requires target_inside { IsInside machine.now target }
+    requires inside { IsInside machine.now chip }
+    requires best_inside { IfSome best (λ b. IsInside machine.now b.chip) }
+    requires best_far { IfSome best (λ b. b.far ≡ distance_of machine.now b.chip target) }
+    ensures { IsCloser machine.now target best chip result }
+{
+    let far = distance(machine, chip, target);
+    if far > 20 {
+        return best;
+    }
+    let found = Found { chip, far };
+    match best {
+        None => Some(found),
+        Some(old) => Some(first_of(machine, target, old, found)),
+    }
+}
+
+// The nearest chip of the tree within 20 links of the target, found by going over the tree's edges.
+fn nearest_of_edges(machine: &Machine, root: Chip, edges: &[Edge], target: Chip) -> Option<Found>
+    requires root_inside { IsInside machine.now root }
+    requires edges_inside { All (λ e. IsInside machine.now e.chip) edges.now }
+    requires target_inside { IsInside machine.now target }
+    ensures { IsLeastFound machine.now root edges.now target result }
+{
+    let mut best = closer(machine, target, None, root);
+    for edge in edges {
+        if let Some(chip) = machine.far(edge.chip, edge.dir) {
+            best = closer(machine, target, best, chip);
+        }
+    }
+    best
+}
+
+// The same as `nearest_within` where the tree has at least as many edges as the window has chips; else nothing.
+fn nearest_if_many(
+    machine: &Machine,
+    on: &[bool],
+    edges: usize,
+    target: Chip,
+    radius: u8,
+) -> Option<Chip>
     requires size { HasSize machine.now }
     requires inside { IsInside machine.now target }
     requires long { length on.now ≡ machine.now.width * machine.now.height }
-    ensures { IsNearestOn machine.now on.now target 20 result ⊎ (IsNoneOn machine.now on.now target 20 × (result ≡ root)) }
+    requires near { radius ≤ 20 }
+    ensures { IfSome result (IsNearestOn machine.now on.now target radius) }
 {
-    if let Some(chip) = nearest_within(machine, on, target, 2) {
+    let side = 2 * usize::from(radius) + 1;
+    if edges < side * side {
+        return None;
+    }
+    nearest_within(machine, on, target, radius)
+}
+
+// The chip of the tree to which a target is joined: the nearest within 20 links, and the root where there is none. What
+// is looked through is never more than the tree: a window only where it has fewer chips, near ones first.
+pub fn near_chip(machine: &Machine, root: Chip, on: &[bool], edges: &[Edge], target: Chip) -> Chip
+    requires size { HasSize machine.now }
+    requires root_inside { IsInside machine.now root }
+    requires edges_inside { All (λ e. IsInside machine.now e.chip) edges.now }
+    requires inside { IsInside machine.now target }
+    requires long { length on.now ≡ machine.now.width * machine.now.height }
+    requires on_is { (c : Chip) → IsInside machine.now c → (is_on machine.now on.now c ≡ true) ↔ IsTreeChip machine.now root edges.now c }
+    ensures { IsNear machine.now root edges.now target result }
+{
+    if let Some(chip) = nearest_if_many(machine, on, edges.len(), target, 2) {
         return chip;
     }
-    if let Some(chip) = nearest_within(machine, on, target, 6) {
+    if let Some(chip) = nearest_if_many(machine, on, edges.len(), target, 6) {
         return chip;
+    }
+    if edges.len() < 1681 {
+        return match nearest_of_edges(machine, root, edges, target) {
+            Some(found) => found.chip,
+            None => root,
+        };
     }
     match nearest_within(machine, on, target, 20) {
         Some(chip) => chip,

@@ -1,4 +1,5 @@
 pub mod CutOffLaws
 pub mod Ordering
+mod Determined
 mod Planning
 mod TargetLaws

@@ -5,9 +5,11 @@
 //! own.
 #![tactic(auto)]
 
+mod laws;
 mod nets;
 mod orders;
 mod targets;
 
+pub use laws::targets_are_determined;
 pub use nets::{NetErr, Routed, RoutedNets, net_plan, net_plans};
 pub use targets::{target_chips, targets_of};

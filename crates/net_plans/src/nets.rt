@@ -4,13 +4,14 @@ ghost use Rattle.spin_base.specs.declared.chips.Chip.{Chip};
 ghost use Rattle.machine_desc.specs.Live.{IsSite};
 ghost use Rattle.machine_desc.specs.RoutingTree.{IsRoutingTree};
 ghost use Rattle.app_graph.specs.ValidGraph.{IsValidGraph, IsValidNet};
+ghost use Rattle.link_detours.specs.LiveRoads.{AreRoadsOf};
 ghost use Rattle.net_plans.specs.Cause.{IsCause, IsCauseOne, IsRefusedBy};
 ghost use Rattle.net_plans.specs.CutOffTargets.{HasNoneCutOff, IsFirstCutOffIn, IsFirstCutOff};
 ghost use Rattle.net_plans.specs.NetPlans.{IsPlanned, ArePlanned};
 
 use crate::targets::{target_chips, targets_of};
 use app_graph::{Graph, Net};
-use link_detours::{RepairErr, repair};
+use link_detours::{RepairErr, Roads, repair};
 use machine_desc::Machine;
 use ner_trees::{Grown, ner};
 use net_tables::NetPlan;
@@ -77,10 +78,12 @@ pub fn net_plans(
     ensures cut_off { (i : ℕ) (target : Chip) → IsFirstCutOff machine.now spots.now graph.now.nets i target →
         IsRefusedBy result (NetErr.CutOff i target) NetErr.Memory }
 {
+    let roads = Roads::of(alloc, machine)?;
     let mut grown = Seq::new(alloc);
     let mut plans = Seq::new(alloc);
     for i in 0..graph.nets.len() {
-        let routed = match net_plan(alloc, machine, spots, graph.nets.get(i), *blocks.get(i)) {
+        let block = *blocks.get(i);
+        let routed = match net_plan(alloc, machine, &roads, spots, graph.nets.get(i), block) {
             Ok(routed) => routed,
             Err(RepairErr::CutOff { target }) => {
                 return Err(NetErr::CutOff {
@@ -97,7 +100,8 @@ pub fn net_plans(
     Ok(RoutedNets { grown, plans })
 }
 
-/// The plan of one net, which has these keys, and the tree that grew for it.
+/// The plan of one net, which has these keys, and the tree that grew for it. `roads` are the machine's live links. All
+/// that it is lent it only reads, so nets may be planned side by side.
 ///
 /// # Errors
 ///
@@ -106,10 +110,12 @@ pub fn net_plans(
 pub fn net_plan(
     alloc: Global,
     machine: &Machine,
+    roads: &Roads,
     spots: &Seq<Spot>,
     net: &Net,
     block: Block,
 ) -> Result<Routed, RepairErr>
+    requires roads_are { AreRoadsOf machine.now roads.now }
     requires valid { IsValidNet (length spots.now) net.now }
     requires sites { All (IsSite machine.now) spots.now }
     ensures planned { IfOk result (λ r. IsPlanned machine.now spots.now net.now block r.grown r.plan) }
@@ -123,7 +129,7 @@ pub fn net_plan(
     let targets = targets_of(alloc, spots, &net.targets)?;
     let chips = target_chips(alloc, machine, source.chip, &targets)?;
     let grown = ner(alloc, machine, source.chip, &chips)?;
-    let tree = repair(alloc, machine, &grown.tree, &chips)?;
+    let tree = repair(alloc, machine, roads, &grown.tree, &chips)?;
     Ok(Routed {
         grown,
         plan: NetPlan {

@@ -1,7 +1,8 @@
 use Rattle.std.proofs.Common.{rules}
-use Rattle.std.proofs.lemmas.List.Sorted.{IsNonDecreasingBy-from_sort_by_key}
-use Rattle.ner_trees.specs.Order.{order_number}
+use Rattle.std.proofs.lemmas.List.Sorted.{answers_always}
+use Rattle.ner_trees.specs.Order.{edge_key}
+use Rattle.ner_trees.proofs.Sorting.{never_falls}
 use Rattle.ner_trees.proofs.growths.in_order.Goals as goal
 
 pub returns-clause-in_order : goal.returns-clause-in_order
-returns-clause-in_order c = IsNonDecreasingBy-from_sort_by_key order_number _ c.in_ok-sort_by_key.ensures.sorted (λ a r q k. search rules)
+returns-clause-in_order c = never_falls _ (c.in_ok-sort_by_key.ensures.sorted edge_key (answers_always _ _ _ (λ f a r g h. search rules)))

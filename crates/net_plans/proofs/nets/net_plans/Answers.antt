@@ -30,8 +30,8 @@ loop-i-preserved c = record {
   plans_long = long_more c.loop-i.plans c.push-in-loop-i.new.self c.in-Ok.routed.plan c.loop-i.i c.loop-i.invariant.plans_long c.in_ok-push-2.ensures.ok;
   each = subst (λ g. IsEachPlanned c.args.machine.now c.args.spots.now c.args.graph.now.nets c.args.blocks.now g c.push-in-loop-i.new.self) (sym c.in_ok-push.ensures.ok)
       (subst (IsEachPlanned c.args.machine.now c.args.spots.now c.args.graph.now.nets c.args.blocks.now (c.loop-i.grown ++ c.in-Ok.routed.grown ∷ [])) (sym c.in_ok-push-2.ensures.ok)
-      (plans_more c.args.machine.now c.args.spots.now c.args.graph.now.nets c.args.blocks.now c.loop-i.grown c.loop-i.plans c.loop-i.i c.get.result.now c.get-in-loop-i.result.now
-      c.in-Ok.routed.grown c.in-Ok.routed.plan c.loop-i.invariant.trees_long c.loop-i.invariant.plans_long c.get.ensures c.get-in-loop-i.ensures c.loop-i.invariant.each c.in-Ok.ensures.planned));
+      (plans_more c.args.machine.now c.args.spots.now c.args.graph.now.nets c.args.blocks.now c.loop-i.grown c.loop-i.plans c.loop-i.i c.get.result.now c.get-block.result.now
+      c.in-Ok.routed.grown c.in-Ok.routed.plan c.loop-i.invariant.trees_long c.loop-i.invariant.plans_long c.get.ensures c.get-block.ensures c.loop-i.invariant.each c.in-Ok.ensures.planned));
   routing = subst (All (λ (p : NetPlan). IsRoutingTree c.args.machine.now p.tree.root p.tree.edges p.targets)) (sym c.in_ok-push-2.ensures.ok)
       (All-push (λ (p : NetPlan). IsRoutingTree c.args.machine.now p.tree.root p.tree.edges p.targets) c.loop-i.plans c.in-Ok.routed.plan c.loop-i.invariant.routing c.in-Ok.ensures.routing);
   reached = none_before_more c.args.machine.now c.args.spots.now c.args.graph.now.nets c.loop-i.i c.get.result.now c.loop-i.invariant.reached c.get.ensures c.in-Ok.ensures.reached;

@@ -1,0 +1,25 @@
+use Rattle.std.proofs.Common.{◌≡◌, ◌+◌, ◌*◌, ◌/◌, ◌%◌, ◌<◌, ap, ◌∙◌, lit<, arith}
+use Rattle.std.proofs.lemmas.Nat.{mod_below, div-add-mod'}
+use Rattle.spin_base.specs.Links.{dir_number}
+use Rattle.machine_desc.proofs.Far.{inside_parts}
+use Rattle.machine_desc.proofs.Same.{below_six}
+use Rattle.link_detours.proofs.RoadBits.{RoadsTo-more}
+use Rattle.link_detours.proofs.Searching.{dir_number_at}
+use Rattle.link_detours.proofs.roads.Roads.of.Goals as goal
+
+pub loop-place-preserved : goal.loop-place-preserved
+loop-place-preserved c =
+    rw c.in_ok-push.ensures.items
+    (RoadsTo-more c.args.machine.now c.loop-place.words.items c.loop-place.place (c.loop-place.place / 6) c.road_word.result _
+    (ap (λ n. c.loop-place.place / 6 * 6 + n) (dir_number_at (c.loop-place.place % 6) _ (mod_below c.loop-place.place 6 (lit< tt))) ∙ div-add-mod' c.loop-place.place 6)
+    c.road_word.ensures c.loop-place.invariant)
+
+pub returns : goal.returns
+returns c = record {
+  long = let long = c.loop-place.invariant.long in omega arith;
+  told = λ e d inside.
+      let parts = inside_parts c.args.machine.now e inside in
+      let column : e.x < c.args.machine.now.width = parts.0 in
+      let six : dir_number d < 6 = below_six d in
+      c.loop-place.invariant.told e.x e.y d (omega arith) parts.1;
+}

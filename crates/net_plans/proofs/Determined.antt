@@ -1,0 +1,100 @@
+-- A net has one list of targets, one of target chips, and one plan.
+use Rattle.std.proofs.Common.{◌≡◌, ℕ, ◌<◌, List, [], ◌∷◌, length, get_or, refl, sym, ap, ◌∙◌, subst, Some}
+use Rattle.std.specs.List.{All, Contains, slice_get}
+use Rattle.std.proofs.lemmas.List.{ext_get_or}
+use Rattle.std.proofs.lemmas.Option.{slice_get_within, slice_get-get_or}
+use Rattle.spin_base.specs.declared.chips.Chip.{Chip}
+use Rattle.spin_base.specs.declared.chips.Spot.{Spot}
+use Rattle.spin_base.specs.declared.blocks.Block.{Block}
+use Rattle.machine_desc.specs.declared.trees.Edge.{Edge}
+use Rattle.machine_desc.specs.Description.{Description}
+use Rattle.machine_desc.specs.Live.{IsInside, IsSite}
+use Rattle.app_graph.specs.declared.graphs.Net.{Net}
+use Rattle.net_tables.specs.declared.nets.NetPlan.{NetPlan}
+use Rattle.ner_trees.specs.declared.growths.Grown.{Grown}
+use Rattle.ner_trees.specs.Growth.{IsGrown}
+use Rattle.ner_trees.proofs.Determined.{one_tree}
+use Rattle.ner_trees.proofs.Ordered.{same_list}
+use Rattle.link_detours.specs.Repair.{IsRepaired}
+use Rattle.list_laws.proofs.Places.{All-at, slice_get_there}
+use Rattle.net_plans.specs.NetPlans.{joined_chips, IsPlanned, ArePlanned}
+use Rattle.net_plans.specs.Order.{IsBelow}
+use Rattle.net_plans.specs.Targets.{spot_key, chip_key, AreTargets, AreTargetChips}
+use Rattle.net_plans.proofs.Ordering.{not_both}
+use Rattle.net_plans.proofs.Planning.{all_inside}
+
+pub one_targets : (spots : List Spot) (vertices : List ℕ) (xs ys : List Spot) → AreTargets spots vertices xs → AreTargets spots vertices ys → xs ≡ ys
+one_targets spots vertices xs ys a b =
+    same_list (λ s t. IsBelow (spot_key s) (spot_key t)) (λ s t. not_both (spot_key s) (spot_key t)) xs ys a.ascending b.ascending
+    (λ s has. let from = a.only s has in b.each from.0 s from.1 from.2) (λ s has. let from = b.only s has in a.each from.0 s from.1 from.2)
+
+pub one_target_chips : (m : Description) (root : Chip) (targets : List Spot) (xs ys : List Chip) → AreTargetChips m root targets xs → AreTargetChips m root targets ys → xs ≡ ys
+one_target_chips m root targets xs ys a b =
+    same_list (λ c d. IsBelow (chip_key m root c) (chip_key m root d)) (λ c d. not_both (chip_key m root c) (chip_key m root d)) xs ys a.ascending b.ascending
+    (λ c has. let from = a.only c has in subst (Contains ys) from.2 (b.each from.0 from.1)) (λ c has. let from = b.only c has in subst (Contains xs) from.2 (a.each from.0 from.1))
+
+same_source : (spots : List Spot) (i : ℕ) (s t : Spot) → slice_get spots i ≡ Some s → slice_get spots i ≡ Some t → s ≡ t
+same_source spots i s t at also = cc
+
+same_grown : (g h : Grown) → g.tree.root ≡ h.tree.root → g.tree.edges ≡ h.tree.edges → g.joins ≡ h.joins → g ≡ h
+same_grown g h root edges joins = λ i. record { tree = record { root = root i; edges = edges i }; joins = joins i }
+
+same_plan : (p q : NetPlan) → p.block ≡ q.block → p.source ≡ q.source → p.targets ≡ q.targets → p.tree.root ≡ q.tree.root → p.tree.edges ≡ q.tree.edges → p ≡ q
+same_plan p q block source targets root edges = λ i. record { block = block i; source = source i; targets = targets i; tree = record { root = root i; edges = edges i } }
+
+-- one repaired tree of each tree and targets
+abbrev pub OneRepair : Description → Type 0
+OneRepair m = (root : Chip) (tree : List Edge) (targets : List Chip) (es fs : List Edge) → IsRepaired m root tree targets es → IsRepaired m root tree targets fs → es ≡ fs
+
+-- two lists as long as each other that have the same item at each place are the same
+same_places : {X : Type 0} (xs ys : List X) → length xs ≡ length ys → ((i : ℕ) (x y : X) → slice_get xs i ≡ Some x → slice_get ys i ≡ Some y → x ≡ y) → xs ≡ ys
+same_places [] [] long each = refl
+same_places [] (y ∷ ys) long each = cc
+same_places (x ∷ xs) [] long each = cc
+same_places (x ∷ xs) (y ∷ ys) long each =
+    ext_get_or x (x ∷ xs) (y ∷ ys) long (λ i less.
+    let also : i < length (y ∷ ys) = subst (λ n. i < n) long less in
+    each i (get_or (x ∷ xs) i x) (get_or (y ∷ ys) i x) (slice_get-get_or (x ∷ xs) i x less) (slice_get-get_or (y ∷ ys) i x also))
+
+module _ (m : Description) (spots : List Spot) (sites : All (IsSite m) spots) (one_repair : OneRepair m) where
+  pub one_plan : (net : Net) (block : Block) (g h : Grown) (p q : NetPlan) → IsPlanned m spots net block g p → IsPlanned m spots net block h q → (g ≡ h) × (p ≡ q)
+  one_plan net block g h p q a b =
+      let source : p.source ≡ q.source = same_source spots net.source p.source q.source a.source b.source in
+      let targets : p.targets ≡ q.targets = one_targets spots net.targets p.targets q.targets a.targets b.targets in
+      let chips : joined_chips g ≡ joined_chips h =
+      one_target_chips m q.source.chip q.targets (joined_chips g) (joined_chips h)
+      (subst (λ (s : Spot). AreTargetChips m s.chip q.targets (joined_chips g)) source (subst (λ ts. AreTargetChips m p.source.chip ts (joined_chips g)) targets a.chips)) b.chips in
+      let inside : IsInside m q.source.chip = All-at (λ (s : Spot). IsInside m s.chip) spots net.source q.source (all_inside m spots sites) b.source in
+      let grown : IsGrown m q.source.chip (joined_chips h) g.joins g.tree.edges =
+      subst (λ (s : Spot). IsGrown m s.chip (joined_chips h) g.joins g.tree.edges) source (subst (λ cs. IsGrown m p.source.chip cs g.joins g.tree.edges) chips a.grown) in
+      let tree = one_tree m q.source.chip (joined_chips h) g.joins h.joins g.tree.edges h.tree.edges inside grown b.grown in
+      let repaired : IsRepaired m q.source.chip h.tree.edges (joined_chips h) p.tree.edges =
+      subst (λ (s : Spot). IsRepaired m s.chip h.tree.edges (joined_chips h) p.tree.edges) source
+      (subst (λ cs. IsRepaired m p.source.chip h.tree.edges cs p.tree.edges) chips (subst (λ es. IsRepaired m p.source.chip es (joined_chips g) p.tree.edges) tree.1 a.repaired)) in
+      let root : p.source.chip ≡ q.source.chip = ap (λ (s : Spot). s.chip) source in (
+        same_grown g h (a.grows_from ∙ (root ∙ sym b.grows_from)) tree.1 tree.0,
+        same_plan p q (a.block ∙ sym b.block) source targets (a.root ∙ (root ∙ sym b.root))
+            (one_repair q.source.chip h.tree.edges (joined_chips h) p.tree.edges q.tree.edges repaired b.repaired),
+      )
+
+  module _ (nets : List Net) (blocks : List Block) (long : length blocks ≡ length nets) (gs hs : List Grown) (ps qs : List NetPlan) (a : ArePlanned m spots nets blocks gs ps)
+      (b : ArePlanned m spots nets blocks hs qs) where
+    at_place : (i : ℕ) → i < length nets → (g h : Grown) (p q : NetPlan) → slice_get gs i ≡ Some g → slice_get hs i ≡ Some h → slice_get ps i ≡ Some p → slice_get qs i ≡ Some q → (g ≡ h) × (p ≡ q)
+    at_place i below g h p q g_at h_at p_at q_at =
+        let net = slice_get_there nets i below in
+        let block = slice_get_there blocks i (subst (λ n. i < n) (sym long) below) in
+        one_plan net.0 block.0 g h p q (a.each i net.0 block.0 g p net.1 block.1 g_at p_at) (b.each i net.0 block.0 h q net.1 block.1 h_at q_at)
+
+    pub one_list_of_plans : (gs ≡ hs) × (ps ≡ qs)
+    one_list_of_plans = (
+      same_places gs hs (a.one_tree_each ∙ sym b.one_tree_each) (λ i g h g_at h_at.
+          let below : i < length nets = subst (λ n. i < n) a.one_tree_each (slice_get_within gs i g g_at) in
+          let p = slice_get_there ps i (subst (λ n. i < n) (sym a.one_plan_each) below) in
+          let q = slice_get_there qs i (subst (λ n. i < n) (sym b.one_plan_each) below) in
+          (at_place i below g h p.0 q.0 g_at h_at p.1 q.1).0),
+      same_places ps qs (a.one_plan_each ∙ sym b.one_plan_each) (λ i p q p_at q_at.
+          let below : i < length nets = subst (λ n. i < n) a.one_plan_each (slice_get_within ps i p p_at) in
+          let g = slice_get_there gs i (subst (λ n. i < n) (sym a.one_tree_each) below) in
+          let h = slice_get_there hs i (subst (λ n. i < n) (sym b.one_tree_each) below) in
+          (at_place i below g.0 h.0 p q g.1 h.1 p_at q_at).1),
+    )

@@ -1,0 +1,6 @@
+use Rattle.net_plans.proofs.CutOffLaws.{one_first_target, one_first_net}
+use Rattle.net_plans.proofs.Determined.{one_targets, one_target_chips}
+use Rattle.net_plans.proofs.laws.targets_are_determined.Goals as goal
+
+pub returns : goal.returns
+returns c = record { one_list = one_targets; one_list_of_chips = one_target_chips; one_target = one_first_target; one_net = one_first_net }
