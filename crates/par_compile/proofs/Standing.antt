@@ -5,10 +5,10 @@ use Rattle.std.proofs.lemmas.Option.{slice_get-get_or}
 use Rattle.spin_base.specs.declared.chips.Spot.{Spot}
 use Rattle.spin_base.specs.declared.blocks.Block.{Block}
 use Rattle.machine_desc.specs.Description.{Description}
-use Rattle.machine_desc.specs.Live.{IsInside, IsUsable, IsSite}
+use Rattle.machine_desc.specs.Live.{IsInside, IsSite}
 use Rattle.machine_desc.specs.RoutingTree.{IsRoutingTree}
 use Rattle.machine_desc.proofs.Far.{live_inside}
-use Rattle.machine_desc.proofs.Sites.{usable_site, site_parts}
+use Rattle.machine_desc.proofs.Sites.{site_parts}
 use Rattle.app_graph.specs.declared.graphs.Net.{Net}
 use Rattle.net_tables.specs.declared.nets.NetPlan.{NetPlan}
 use Rattle.net_tables.specs.NetsOn.{HaveDisjointBlocks, AreNetsOn}
@@ -23,10 +23,6 @@ use Rattle.net_plans.specs.Targets.{spot_key}
 use Rattle.net_plans.proofs.Ordering.{not_both}
 use Rattle.plain_tables.specs.PlainTable.{AreRouted}
 use Rattle.par_compile.specs.Compiled.{blocks_of}
-
--- usable cores are sites
-pub sites : (m : Description) (spots : List Spot) → All (IsUsable m) spots → All (IsSite m) spots
-sites m spots usable k d within = usable_site m (slice_index_or spots k d) (usable k d within)
 
 -- ---- plans side by side with what was given
 

@@ -1,13 +1,14 @@
 -- What a plan of a graph on a machine is, and when compiling is refused (this project's own).
-use Rattle.std.specs.Prelude.{◌≡◌, ◌≢◌, ℕ, ◌*◌, ◌++◌, List, length, map, All, AllPairs, Result}
+use Rattle.std.specs.Prelude.{◌≡◌, ◌≢◌, ℕ, ◌*◌, ◌++◌, List, length, map, All, AllPairs, None, Result}
 use Rattle.std.specs.List.{AllZip}
 use Rattle.spin_base.specs.declared.blocks.Block.{Block}
 use Rattle.spin_base.specs.declared.blocks.Entry.{Entry}
 use Rattle.spin_base.specs.declared.chips.Chip.{Chip}
 use Rattle.spin_base.specs.declared.chips.Spot.{Spot}
 use Rattle.machine_desc.specs.Description.{Description}
-use Rattle.machine_desc.specs.Live.{IsUsable}
+use Rattle.machine_desc.specs.Live.{IsSite, IsUsable}
 use Rattle.app_graph.specs.declared.graphs.Graph.{Graph}
+use Rattle.app_graph.specs.declared.graphs.Vertex.{Vertex}
 use Rattle.net_tables.specs.declared.nets.NetPlan.{NetPlan}
 use Rattle.net_tables.specs.NetsOn.{AreNetsOn}
 use Rattle.net_tables.specs.RightTables.{AreRight}
@@ -61,7 +62,8 @@ pub record IsRefusedWhere (m : Description) (graph : Graph) (result : Result Pla
 pub record IsPlanOf (m : Description) (graph : Graph) (plan : Plan) : Type 0 where
   pub placed : IsPlacement m graph.vertices plan.placement.spots plan.placement.memory
   pub different : AllPairs (λ a b. a ≢ b) plan.placement.spots
-  pub usable : All (IsUsable m) plan.placement.spots
+  pub sites : All (IsSite m) plan.placement.spots
+  pub cores : AllZip (λ (v : Vertex) s. v.device ≡ None → IsUsable m s) graph.vertices plan.placement.spots
   pub blocks : AreRightBlocks graph.nets (blocks_of plan.nets)
   pub enough : AllZip HasKeys graph.nets (blocks_of plan.nets)
   pub nets : ArePlanned m plan.placement.spots graph.nets (blocks_of plan.nets) plan.grown plan.nets

@@ -5,11 +5,8 @@ use Rattle.key_alloc.specs.KeyBlocks.{AreRightBlocks, HasKeys}
 use Rattle.net_plans.specs.NetPlans.{ArePlanned}
 use Rattle.tern_word.specs.Ternary.{Intersects}
 use Rattle.par_compile.proofs.Refusing.{refused_where}
-use Rattle.par_compile.proofs.Standing.{sites, blocks_same, routed, stands}
+use Rattle.par_compile.proofs.Standing.{blocks_same, routed, stands}
 use Rattle.par_compile.proofs.compiling.compile.Goals as goal
-
-pub net_plans-requires-clause-sites : goal.net_plans-requires-clause-sites
-net_plans-requires-clause-sites c = sites c.args.machine.now c.in-Ok.placement.spots c.in-Ok.ensures.usable
 
 pub plain_tables-requires : goal.plain_tables-requires
 plain_tables-requires c =
@@ -18,7 +15,7 @@ plain_tables-requires c =
     in
     routed c.args.machine.now c.in-Ok.placement.spots c.args.graph.now.nets c.in-Ok-keys.blocks c.in-Ok-net_plans.routed.grown c.in-Ok-net_plans.routed.plans c.in-Ok-keys.ensures.blocks.all
     c.in-Ok-net_plans.ensures.planned (subst (AllPairs (λ (a b : Block). Intersects a b → ⊥)) (sym same) c.in-Ok-keys.ensures.apart) c.in-Ok-net_plans.ensures.routing
-    (sites c.args.machine.now c.in-Ok.placement.spots c.in-Ok.ensures.usable)
+    c.in-Ok.ensures.sites
 
 pub returns-clause-plan : goal.returns-clause-plan
 returns-clause-plan c =
@@ -28,7 +25,8 @@ returns-clause-plan c =
     record {
       placed = c.in-Ok.ensures.placed;
       different = c.in-Ok.ensures.different;
-      usable = c.in-Ok.ensures.usable;
+      sites = c.in-Ok.ensures.sites;
+      cores = c.in-Ok.ensures.cores;
       blocks = subst (AreRightBlocks c.args.graph.now.nets) (sym same) c.in-Ok-keys.ensures.blocks;
       enough = subst (AllZip HasKeys c.args.graph.now.nets) (sym same) c.in-Ok-keys.ensures.enough;
       nets = subst (λ bs. ArePlanned c.args.machine.now c.in-Ok.placement.spots c.args.graph.now.nets bs c.in-Ok-net_plans.routed.grown c.in-Ok-net_plans.routed.plans) (sym same) c.in-Ok-net_plans.ensures.planned;
