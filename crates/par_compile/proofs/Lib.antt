@@ -1,2 +1,5 @@
+mod Imaged
 pub mod Refusing
+mod Righted
 mod Standing
+mod Working

@@ -6,9 +6,9 @@ use Rattle.spin_base.specs.declared.blocks.Entry.{Entry}
 use Rattle.spin_base.specs.declared.chips.Chip.{Chip}
 use Rattle.spin_base.specs.declared.chips.Spot.{Spot}
 use Rattle.machine_desc.specs.Description.{Description}
-use Rattle.machine_desc.specs.Live.{IsUsable, IsSite}
-use Rattle.app_graph.specs.declared.graphs.Vertex.{Vertex}
+use Rattle.machine_desc.specs.Live.{IsSite, IsUsable}
 use Rattle.app_graph.specs.declared.graphs.Graph.{Graph}
+use Rattle.app_graph.specs.declared.graphs.Vertex.{Vertex}
 use Rattle.net_tables.specs.declared.nets.NetPlan.{NetPlan}
 use Rattle.net_tables.specs.NetsOn.{AreNetsOn}
 use Rattle.net_tables.specs.RightTables.{AreRight}
@@ -55,8 +55,8 @@ pub record IsRefusedWhere (m : Description) (graph : Graph) (result : Result Pla
   pub keys_out : (net : ℕ) → HasPlacement m graph → AreKeysOut graph.nets net → IsRefusedBy result (KeysOut net) Memory
   pub cut_off : (net : ℕ) (target : Chip) → HasCutOff m graph net target → IsRefusedBy result (CutOff net target) Memory
 
--- What a plan of a graph on a machine is. Each vertex stands on the first chip with room, or at its link where it is a
--- device; each net has its fixed block or the least free aligned range of keys, its targets, the tree that grew, and its tree with the detours round what is dead; each chip has
+-- What a plan of a graph on a machine is. Each vertex stands on the first chip with room, each net has the least free
+-- aligned range of keys, its targets, the tree that grew, and its tree with the detours round what is dead; each chip has
 -- its plain table. With that the tables are right for the nets, also where other entries follow their rows, and the nets
 -- stand on the machine.
 pub record IsPlanOf (m : Description) (graph : Graph) (plan : Plan) : Type 0 where

@@ -1,5 +1,7 @@
 // Graphs of three vertices on a line of three chips, compiled: what stands where, and why others are refused.
-ghost use Rattle.std.specs.Prelude.{◌≡◌, ◌<◌, ◌≤◌, All, IfOk, length};
+ghost use Rattle.std.specs.Prelude.{◌≡◌, ◌<◌, ◌≤◌, All, IfOk, None, length};
+ghost use Rattle.app_graph.specs.declared.graphs.Net.{Net};
+ghost use Rattle.app_graph.specs.declared.graphs.Vertex.{Vertex};
 ghost use Rattle.app_graph.specs.ValidGraph.{IsValidGraph, IsValidNet, IsValidVertex};
 
 use crate::{CompileErr, Plan, compile};
@@ -24,7 +26,8 @@ fn line(alloc: Global, x: u8, dir: Dir) -> Result<Machine, Memory>
 }
 
 fn vertex(alloc: Global, x: u8) -> Result<Vertex, Memory>
-    ensures { IfOk result IsValidVertex }
+    ensures valid { IfOk result IsValidVertex }
+    ensures core { IfOk result (λ (v : Vertex). v.device ≡ None) }
 {
     Ok(Vertex {
         name: Name::of(alloc, "v")?,
@@ -38,6 +41,7 @@ fn vertex(alloc: Global, x: u8) -> Result<Vertex, Memory>
 fn vertices(alloc: Global, x: u8) -> Result<Seq<Vertex>, Memory>
     ensures long { IfOk result (λ vs. length vs ≡ 3) }
     ensures valid { IfOk result (All IsValidVertex) }
+    ensures cores { IfOk result (All (λ (v : Vertex). v.device ≡ None)) }
 {
     let mut vertices = Seq::new(alloc);
     vertices.push(vertex(alloc, 0)?)?;
@@ -49,7 +53,8 @@ fn vertices(alloc: Global, x: u8) -> Result<Seq<Vertex>, Memory>
 fn net(alloc: Global, keys: u64) -> Result<Net, Memory>
     requires some { 1 ≤ keys }
     requires few { keys ≤ 4294967296 }
-    ensures { IfOk result (IsValidNet 3) }
+    ensures valid { IfOk result (IsValidNet 3) }
+    ensures free { IfOk result (λ (n : Net). n.fixed ≡ None) }
 {
     Ok(Net {
         name: Name::of(alloc, "n")?,
@@ -66,6 +71,7 @@ fn nets(alloc: Global, keys: u64) -> Result<Seq<Net>, Memory>
     requires few { keys ≤ 4294967296 }
     ensures long { IfOk result (λ ns. length ns ≡ 2) }
     ensures valid { IfOk result (All (IsValidNet 3)) }
+    ensures free { IfOk result (All (λ (n : Net). n.fixed ≡ None)) }
 {
     let mut nets = Seq::new(alloc);
     nets.push(net(alloc, keys)?)?;
@@ -78,10 +84,9 @@ fn graph(alloc: Global, x: u8, keys: u64) -> Result<Graph, Memory>
     requires few { keys ≤ 4294967296 }
     ensures { IfOk result IsValidGraph }
 {
-    Ok(Graph {
-        vertices: vertices(alloc, x)?,
-        nets: nets(alloc, keys)?,
-    })
+    let vertices = vertices(alloc, x)?;
+    let nets = nets(alloc, keys)?;
+    Ok(Graph { vertices, nets })
 }
 
 // The plan of such a graph on a line whose link is dead at this chip, in this direction.

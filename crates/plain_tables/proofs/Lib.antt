@@ -1,7 +1,8 @@
+pub mod Determined
 mod ExampleTree
 mod Marking
 mod Ordering
 mod Taking
 mod Telling
-mod Trees
-mod Whole
+pub mod Trees
+pub mod Whole

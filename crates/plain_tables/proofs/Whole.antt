@@ -78,7 +78,7 @@ module _ (m : Description) (c : Chip) where
       (all_originals P nets on.3 on.5 (All-tail (λ (n : NetPlan). P n.block) n nets all)))
   all_originals P (n ∷ nets) os (inr off) all = all_originals P nets os off.1 (All-tail (λ (n : NetPlan). P n.block) n nets all)
 
-  originals_apart : (nets : List NetPlan) (os : List Original) → AreOriginals m c nets os → AllPairs (λ (a b : NetPlan). ¬ (Intersects a.block b.block)) nets →
+  pub originals_apart : (nets : List NetPlan) (os : List Original) → AreOriginals m c nets os → AllPairs (λ (a b : NetPlan). ¬ (Intersects a.block b.block)) nets →
       AllPairs (λ (a b : Original). ¬ (Intersects a.block b.block)) os
   originals_apart [] os are pairs = λ i j d less below. absurd (let none : length os ≡ 0 = ap length are in omega (arith, below, none))
   originals_apart (n ∷ nets) os (inl on) pairs =
@@ -90,7 +90,7 @@ module _ (m : Description) (c : Chip) where
   originals_apart (n ∷ nets) os (inr off) pairs = originals_apart nets os off.1 (AllPairs-tail (λ (a b : NetPlan). ¬ (Intersects a.block b.block)) n nets pairs)
 
   -- each net whose tree has the chip has an original block there
-  has_original : (nets : List NetPlan) (os : List Original) → AreOriginals m c nets os → (i : ℕ) (d : NetPlan) → i < length nets → HasChip m (get_or nets i d) c →
+  pub has_original : (nets : List NetPlan) (os : List Original) → AreOriginals m c nets os → (i : ℕ) (d : NetPlan) → i < length nets → HasChip m (get_or nets i d) c →
       (o : Original) × Contains os o × IsOriginalOf m (get_or nets i d) c o
   has_original [] os are i d below on = absurd (omega (arith, below))
   has_original (n ∷ nets) os (inl mine) zero d below on =
@@ -102,7 +102,7 @@ module _ (m : Description) (c : Chip) where
   has_original (n ∷ nets) os (inr off) (suc i) d below on = has_original nets os off.1 i d (omega (arith, below)) on
 
   -- and each original block is some net's
-  from_net : (nets : List NetPlan) (os : List Original) → AreOriginals m c nets os → (o : Original) → Contains os o →
+  pub from_net : (nets : List NetPlan) (os : List Original) → AreOriginals m c nets os → (o : Original) → Contains os o →
       (j : ℕ) × (j < length nets) × ((d : NetPlan) → IsOriginalOf m (get_or nets j d) c o)
   from_net [] os are o has = absurd (Contains-none o (subst (λ (l : List Original). Contains l o) are has))
   from_net (n ∷ nets) os (inl on) o has = elim (Contains-cases on.1 on.3 o (subst (λ (l : List Original). Contains l o) on.4 has)) [

@@ -5,10 +5,12 @@
 #![tactic(auto)]
 
 mod gather;
+mod laws;
 mod marks;
 mod plain;
 mod rows;
 
+pub use laws::plain_tables_are_determined;
 pub use plain::plain_tables;
 
 #[cfg(test)]

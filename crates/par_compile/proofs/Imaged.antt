@@ -1,0 +1,262 @@
+-- The image of final tables is valid, has the kept rows of each chip, and loads them.
+use Rattle.std.proofs.Common.{◌≡◌, ℕ, zero, suc, ◌+◌, ◌*◌, ◌/◌, ◌%◌, ◌<◌, ◌≤◌, ◌==◌, false, List, [], ◌∷◌, ◌++◌, length, get_or, take, map, Some, Result, Ok, refl, sym, ap, ◌∙◌, subst, arith, inl, inr}
+use Rattle.std.specs.List.{All, AllPairs, slice_get}
+use Rattle.std.specs.Prelude.{MatchResult}
+use Rattle.std.proofs.lemmas.Bool.{cases_order, eqb-true, eq-eqb, false_from_ne_true, cond-true, cond-false}
+use Rattle.std.proofs.lemmas.List.{length-append, length-map, map_push, take_all, take_more}
+use Rattle.std.proofs.lemmas.List.Elements.{All-nil, All-cons, All-append, All-map, All-head, All-tail}
+use Rattle.std.proofs.lemmas.List.Kept.{AllPairs-cons}
+use Rattle.std.proofs.lemmas.Nat.{mul-le, mod_below}
+use Rattle.std.proofs.lemmas.Option.{slice_get_within, slice_get-get_or}
+use Rattle.list_laws.proofs.Gathering.{gathered_more}
+use Rattle.list_laws.proofs.Pairs.{AllPairs-nil}
+use Rattle.list_laws.proofs.Places.{slice_get_there, slice_get-mapped}
+use Rattle.spin_base.specs.declared.blocks.ChipTable.{ChipTable}
+use Rattle.spin_base.specs.declared.blocks.Entry.{Entry}
+use Rattle.spin_base.specs.declared.chips.Chip.{Chip}
+use Rattle.machine_desc.specs.Description.{Description, HasSize}
+use Rattle.machine_desc.specs.Live.{chip_of, index_of}
+use Rattle.machine_desc.proofs.Far.{inside_parts}
+use Rattle.machine_desc.proofs.Live.{chip_of-inside, index_of-chip_of}
+use Rattle.tern_word.specs.declared.tables.Row.{Row}
+use Rattle.tern_word.specs.Entries.{entry_of}
+use Rattle.cover_checks.specs.Merge.{rows_at as rows_at_places}
+use Rattle.cover_checks.proofs.Positions.{rows_at-length, rows_at-push}
+use Rattle.default_routes.specs.declared.stripping.Final.{Final}
+use Rattle.default_routes.specs.FinalTable.{loaded_rows}
+use Rattle.table_load.specs.declared.tables.Image.{Image}
+use Rattle.table_load.specs.declared.faults.ImageErr.{ImageErr}
+use Rattle.table_load.specs.declared.faults.ImageErr.TheVariants.{Memory as NoMemory}
+use Rattle.table_load.specs.Images.{IsRow, IsBefore, IsTable, IsValid, Spells}
+use Rattle.table_load.specs.Memories.{IsLoaded, loaded, rows_at}
+use Rattle.par_compile.specs.Finals.{KeepsRows, kept_entries, loaded_of}
+use Rattle.par_compile.specs.Imaging.{listed, tables_from}
+
+abbrev IsShort : Final → Type 0
+IsShort f = length f.kept ≤ 1024
+
+-- ---- one chip's table
+
+entries_long : (f : Final) → KeepsRows f → length (kept_entries f) ≡ length f.kept
+entries_long f keeps = length-map (loaded_rows f) entry_of ∙ rows_at-length f.covered.table.rows f.kept keeps.places
+
+are_rows : (f : Final) → KeepsRows f → All IsRow (kept_entries f)
+are_rows f keeps = All-map IsRow entry_of (loaded_rows f) (λ k d below.
+    let r : Row = get_or (loaded_rows f) k d in (r.block.within, r.block.small, keeps.lead k d below))
+
+-- a chip's table is valid where it has rows
+listed_valid : (w h : ℕ) (c : Chip) (es : List Entry) → c.x < w → c.y < h → length es ≤ 1024 → All IsRow es → All (IsTable w h) (listed c es)
+listed_valid w h c [] across up few rows = All-nil (IsTable w h)
+listed_valid w h c (e ∷ es) across up few rows =
+    All-cons (IsTable w h) (record { chip = c; entries = e ∷ es }) [] (record { inside = (across, up); some_rows = (omega arith, few); rows = rows }) (All-nil (IsTable w h))
+
+few_listed : (c : Chip) (es : List Entry) → length (listed c es) ≤ 1
+few_listed c [] = omega arith
+few_listed c (e ∷ es) = omega arith
+
+-- what is listed is of that chip
+listed_of : (P : ChipTable → Type 0) (c : Chip) (es : List Entry) → ((t : ChipTable) → t.chip ≡ c → P t) → All P (listed c es)
+listed_of P c [] of = All-nil P
+listed_of P c (e ∷ es) of = All-cons P (record { chip = c; entries = e ∷ es }) [] (of (record { chip = c; entries = e ∷ es }) refl) (All-nil P)
+
+-- ---- all tables
+
+-- chips of lesser indices come before
+before : (m : Description) (i j : ℕ) → 0 < m.height → i < j → IsBefore (chip_of m i) (chip_of m j)
+before m i j some less =
+    let first : i / m.height * m.height + i % m.height ≡ i = index_of-chip_of m i in
+    let second : j / m.height * m.height + j % m.height ≡ j = index_of-chip_of m j in
+    let low : i % m.height < m.height = mod_below i m.height some in
+    let high : j % m.height < m.height = mod_below j m.height some in
+    elim (cases_order (i / m.height) (j / m.height)) [
+      | inl same ↦
+          let products : i / m.height * m.height ≡ j / m.height * m.height = ap (λ n. n * m.height) same in
+          inr (same, omega (arith, first, second, products, less))
+      | inr (inl lower) ↦ inl lower
+      | inr (inr higher) ↦
+          let products : suc (j / m.height) * m.height ≤ i / m.height * m.height = mul-le (suc (j / m.height)) m.height (i / m.height) m.height (omega (arith, higher)) (omega arith) in
+          let grown : suc (j / m.height) * m.height ≡ j / m.height * m.height + m.height = omega arith in
+          absurd (omega (arith, first, second, products, grown, less, high))
+    ]
+
+module _ (m : Description) (some : 0 < m.height) where
+  abbrev at_place : ℕ → Final → List ChipTable
+  at_place j f = listed (chip_of m j) (kept_entries f)
+
+  few_tables : (n : ℕ) (fs : List Final) → length (tables_from m n fs) ≤ length fs
+  few_tables n [] = omega arith
+  few_tables n (f ∷ fs) =
+      let here : length (at_place n f) ≤ 1 = few_listed (chip_of m n) (kept_entries f) in
+      let rest : length (tables_from m (n + 1) fs) ≤ length fs = few_tables (n + 1) fs in
+      let whole : length (at_place n f ++ tables_from m (n + 1) fs) ≡ length (at_place n f) + length (tables_from m (n + 1) fs) = length-append (at_place n f) (tables_from m (n + 1) fs) in
+      omega (arith, here, rest, whole)
+
+  valid_tables : (n : ℕ) (fs : List Final) → n + length fs ≤ m.width * m.height → All KeepsRows fs → All IsShort fs → All (IsTable m.width m.height) (tables_from m n fs)
+  valid_tables n [] below keep short = All-nil (IsTable m.width m.height)
+  valid_tables n (f ∷ fs) below keep short =
+      let mine : KeepsRows f = All-head KeepsRows f fs keep in
+      let parts = inside_parts m (chip_of m n) (chip_of-inside m n (omega (arith, below))) in
+      All-append (IsTable m.width m.height) (at_place n f) (tables_from m (n + 1) fs)
+      (listed_valid m.width m.height (chip_of m n) (kept_entries f) parts.0 parts.1
+      (let long = entries_long f mine in let few : length f.kept ≤ 1024 = All-head IsShort f fs short in omega (arith, long, few))
+      (are_rows f mine))
+      (valid_tables (n + 1) fs (omega (arith, below)) (All-tail KeepsRows f fs keep) (All-tail IsShort f fs short))
+
+  -- a chip of a lesser index comes before all tables
+  before_all : (i n : ℕ) (fs : List Final) → i < n → All (λ (t : ChipTable). IsBefore (chip_of m i) t.chip) (tables_from m n fs)
+  before_all i n [] less = All-nil (λ (t : ChipTable). IsBefore (chip_of m i) t.chip)
+  before_all i n (f ∷ fs) less =
+      All-append (λ (t : ChipTable). IsBefore (chip_of m i) t.chip) (at_place n f) (tables_from m (n + 1) fs)
+      (listed_of (λ (t : ChipTable). IsBefore (chip_of m i) t.chip) (chip_of m n) (kept_entries f) (λ t is. subst (IsBefore (chip_of m i)) (sym is) (before m i n some less)))
+      (before_all i (n + 1) fs (omega (arith, less)))
+
+  abbrev Ordered : ChipTable → ChipTable → Type 0
+  Ordered s t = IsBefore s.chip t.chip
+
+  in_order : (n : ℕ) (fs : List Final) → AllPairs Ordered (tables_from m n fs)
+  in_order n [] = AllPairs-nil Ordered
+  in_order n (f ∷ fs) = by (kept_entries f) (in_order (n + 1) fs)
+    where
+      by : (es : List Entry) → AllPairs Ordered (tables_from m (n + 1) fs) → AllPairs Ordered (listed (chip_of m n) es ++ tables_from m (n + 1) fs)
+      by [] rest = rest
+      by (e ∷ es) rest =
+          AllPairs-cons Ordered (record { chip = chip_of m n; entries = e ∷ es }) (tables_from m (n + 1) fs)
+          (before_all n (n + 1) fs (omega arith)) rest
+
+  -- no table is of an earlier chip
+  none_before : (i n : ℕ) (fs : List Final) → i < n → rows_at m.height (tables_from m n fs) i ≡ []
+  none_before i n [] less = refl
+  none_before i n (f ∷ fs) less = by (kept_entries f) (none_before i (n + 1) fs (omega (arith, less)))
+    where
+      by : (es : List Entry) → rows_at m.height (tables_from m (n + 1) fs) i ≡ [] → rows_at m.height (listed (chip_of m n) es ++ tables_from m (n + 1) fs) i ≡ []
+      by [] rest = rest
+      by (e ∷ es) rest =
+          let at : index_of m (chip_of m n) ≡ n = index_of-chip_of m n in
+          let other : (index_of m (chip_of m n) == i) ≡ false = false_from_ne_true (index_of m (chip_of m n) == i) (λ hit. let is : index_of m (chip_of m n) ≡ i = eqb-true (index_of m (chip_of m n)) i hit in omega (arith, at, is, less)) in
+          cond-false (index_of m (chip_of m n) == i) (e ∷ es) (rows_at m.height (tables_from m (n + 1) fs) i) other ∙ rest
+
+  -- the rows of a chip are the kept entries of its final table
+  rows_there : (n k i : ℕ) (fs : List Final) (g : Final) → n + k ≡ i → slice_get fs k ≡ Some g → rows_at m.height (tables_from m n fs) i ≡ kept_entries g
+  rows_there n k i [] g at is = cc
+  rows_there n zero i (f ∷ fs) g at is = by (kept_entries f) (ap kept_entries same)
+    where
+      same : f ≡ g
+      same = cc
+
+      by : (es : List Entry) → es ≡ kept_entries g → rows_at m.height (listed (chip_of m n) es ++ tables_from m (n + 1) fs) i ≡ kept_entries g
+      by [] are = none_before i (n + 1) fs (omega (arith, at)) ∙ are
+      by (e ∷ es) are =
+          let place : index_of m (chip_of m n) ≡ i = index_of-chip_of m n ∙ omega (arith, at) in
+          cond-true (index_of m (chip_of m n) == i) (e ∷ es) (rows_at m.height (tables_from m (n + 1) fs) i) (eq-eqb (index_of m (chip_of m n)) i place) ∙ are
+  rows_there n (suc k) i (f ∷ fs) g at is = by (kept_entries f) (rows_there (n + 1) k i fs g (omega (arith, at)) is)
+    where
+      by : (es : List Entry) → rows_at m.height (tables_from m (n + 1) fs) i ≡ kept_entries g → rows_at m.height (listed (chip_of m n) es ++ tables_from m (n + 1) fs) i ≡ kept_entries g
+      by [] rest = rest
+      by (e ∷ es) rest =
+          let place : index_of m (chip_of m n) ≡ n = index_of-chip_of m n in
+          let other : (index_of m (chip_of m n) == i) ≡ false = false_from_ne_true (index_of m (chip_of m n) == i) (λ hit. let is_i : index_of m (chip_of m n) ≡ i = eqb-true (index_of m (chip_of m n)) i hit in omega (arith, place, is_i, at)) in
+          cond-false (index_of m (chip_of m n) == i) (e ∷ es) (rows_at m.height (tables_from m (n + 1) fs) i) other ∙ rest
+
+-- ---- the image
+
+module _ (m : Description) (size : HasSize m) (finals : List Final) (many : length finals ≡ m.width * m.height) (v : Image)
+    (width : v.width ≡ m.width) (height : v.height ≡ m.height) (tables : v.chips ≡ tables_from m 0 finals) where
+  pub image_valid : All KeepsRows finals → All IsShort finals → IsValid v
+  image_valid keep short = record {
+    across = (let least = size.width_from_one in omega (arith, width, least), let most = size.width_to_64 in omega (arith, width, most));
+    down = (let least = size.height_from_one in omega (arith, height, least), let most = size.height_to_64 in omega (arith, height, most));
+    few =
+        let some : length (tables_from m 0 finals) ≤ m.width * m.height = subst (λ n. length (tables_from m 0 finals) ≤ n) many (few_tables m size.height_from_one 0 finals) in
+        subst (λ n. length v.chips ≤ n) (ap (λ w. w * m.height) (sym width) ∙ ap (λ h. v.width * h) (sym height)) (subst (λ (ts : List ChipTable). length ts ≤ m.width * m.height) (sym tables) some);
+    tables =
+        let all : All (IsTable m.width m.height) (tables_from m 0 finals) = valid_tables m size.height_from_one 0 finals (omega (arith, many)) keep short in
+        subst (λ w. All (IsTable w v.height) v.chips) (sym width) (subst (λ h. All (IsTable m.width h) v.chips) (sym height) (subst (All (IsTable m.width m.height)) (sym tables) all));
+    ordered = subst (AllPairs (λ (s t : ChipTable). IsBefore s.chip t.chip)) (sym tables) (in_order m size.height_from_one 0 finals);
+  }
+
+  pub image_rows : (i : ℕ) (f : Final) → slice_get finals i ≡ Some f → rows_at v.height v.chips i ≡ kept_entries f
+  image_rows i f at =
+      ap (λ h. rows_at h v.chips i) height
+      ∙ (ap (λ (ts : List ChipTable). rows_at m.height ts i) tables
+      ∙ rows_there m size.height_from_one 0 i i finals f (omega arith) at)
+
+-- one more chip
+pub image_more : (m : Description) (finals : List Final) (i : ℕ) (f : Final) (c : Chip) (old new : List ChipTable) → slice_get finals i ≡ Some f → c ≡ chip_of m i →
+    old ≡ tables_from m 0 (take i finals) → new ≡ old ++ listed c (kept_entries f) → new ≡ tables_from m 0 (take (i + 1) finals)
+image_more m finals i f c old new at chip so_far is =
+    is
+    ∙ (ap (λ (k : Chip). old ++ listed k (kept_entries f)) chip
+    ∙ (ap (λ (ts : List ChipTable). ts ++ listed (chip_of m i) (kept_entries f)) so_far
+    ∙ sym (gathered_more (λ j (g : Final). listed (chip_of m j) (kept_entries g)) 0 finals i i f at (omega arith))))
+
+-- ---- what it loads
+
+-- lists of one length with the same item at each place are the same
+same_lists : {X : Type 0} (xs ys : List X) → length xs ≡ length ys → ((i : ℕ) (y : X) → slice_get ys i ≡ Some y → slice_get xs i ≡ Some y) → xs ≡ ys
+same_lists [] [] long each = refl
+same_lists [] (y ∷ ys) long each = absurd (omega (arith, long))
+same_lists (x ∷ xs) [] long each = absurd (omega (arith, long))
+same_lists {X} (x ∷ xs) (y ∷ ys) long each =
+    let heads : Some x ≡ Some y = each 0 y refl in
+    let same : x ≡ y = cc in
+    ap (λ (z : X). z ∷ xs) same ∙ ap (λ (l : List X). y ∷ l) (same_lists xs ys (omega (arith, long)) (λ i. each (suc i)))
+
+pub all_loaded : (m : Description) (finals : List Final) (v : Image) (memories : List (List Entry)) → length finals ≡ m.width * m.height → v.width ≡ m.width → v.height ≡ m.height →
+    ((i : ℕ) (f : Final) → slice_get finals i ≡ Some f → rows_at v.height v.chips i ≡ kept_entries f) → IsLoaded v memories → memories ≡ map loaded_of finals
+all_loaded m finals v memories many width height rows is = same_lists memories (map loaded_of finals) long each
+  where
+    size : v.width * v.height ≡ length finals
+    size = ap (λ w. w * v.height) width ∙ (ap (λ h. m.width * h) height ∙ sym many)
+
+    long : length memories ≡ length (map loaded_of finals)
+    long = is.count ∙ (size ∙ sym (length-map finals loaded_of))
+
+    each : (i : ℕ) (y : List Entry) → slice_get (map loaded_of finals) i ≡ Some y → slice_get memories i ≡ Some y
+    each i y at =
+        let below : i < length finals = subst (λ n. i < n) (length-map finals loaded_of) (slice_get_within (map loaded_of finals) i y at) in
+        let f = slice_get_there finals i below in
+        is.each i (subst (λ n. i < n) (sym size) below)
+        ∙ (ap (λ (es : List Entry). Some (loaded es)) (rows i f.0 f.1)
+        ∙ (sym (slice_get-mapped loaded_of finals i f.0 f.1) ∙ at))
+
+-- ---- the entries of the kept rows
+
+-- one more
+pub entries_more : (rows list : List Row) (places items : List ℕ) (i : ℕ) (r : Row) (e : Entry) (old new : List Entry) → list ≡ rows → items ≡ places →
+    All (λ s. s < length rows) places → i < length items → r ≡ get_or list (get_or items i 0) r → e ≡ entry_of r →
+    old ≡ map entry_of (rows_at_places rows (take i places)) → new ≡ old ++ e ∷ [] → new ≡ map entry_of (rows_at_places rows (take (i + 1) places))
+entries_more rows list places items i r e old new list_is items_are in_range below read entry so_far is =
+    let s : ℕ = get_or places i 0 in
+    let within : i < length places = subst (λ (l : List ℕ). i < length l) items_are below in
+    let found : r ≡ get_or rows s r = read ∙ (ap (λ (l : List Row). get_or l (get_or items i 0) r) list_is ∙ ap (λ (l : List ℕ). get_or rows (get_or l i 0) r) items_are) in
+    let there = slice_get-get_or rows s r (in_range i 0 within) ∙ ap Some (sym found) in
+    is
+    ∙ (ap (λ (x : Entry). old ++ x ∷ []) entry
+    ∙ (ap (λ (l : List Entry). l ++ entry_of r ∷ []) so_far
+    ∙ (sym (map_push entry_of (rows_at_places rows (take i places)) r)
+    ∙ ap (map entry_of) (sym (ap (rows_at_places rows) (take_more places i 0 within) ∙ rows_at-push rows (take i places) s r there)))))
+
+-- ---- the loop over the chips
+
+-- the final table that was read
+pub found_at : (finals items : List Final) (i : ℕ) (f : Final) → items ≡ finals → i < length items → f ≡ get_or items i f → slice_get finals i ≡ Some f
+found_at finals items i f same below read = ap (λ (l : List Final). slice_get l i) (sym same) ∙ (slice_get-get_or items i f below ∙ ap Some (sym read))
+
+-- all were read
+pub all_read : (m : Description) (finals items : List Final) (i : ℕ) (chips : List ChipTable) → items ≡ finals → length items ≤ i → chips ≡ tables_from m 0 (take i finals) →
+    chips ≡ tables_from m 0 finals
+all_read m finals items i chips same past so_far =
+    so_far ∙ ap (tables_from m 0) (take_all i finals (subst (λ (l : List Final). length l ≤ i) same past))
+
+-- a place is a number of 32 bits
+pub small_place : (m : Description) (finals items : List Final) (i chips : ℕ) → chips ≤ 4096 → chips ≡ m.width * m.height → length finals ≡ m.width * m.height → items ≡ finals → i < length items →
+    i < 4294967296
+small_place m finals items i chips few total many same below =
+    let long : length items ≡ chips = ap length same ∙ (many ∙ sym total) in
+    omega (arith, few, long, below)
+
+-- what is read of the bytes that spell an image is the image
+pub read_again : (v : Image) (bytes slice : List ℕ) (result : Result Image ImageErr) (read : Image) → Spells v bytes → slice ≡ bytes → result ≡ Ok read →
+    ((w : Image) → Spells w slice → MatchResult result (λ x. x ≡ w) (λ e. e ≡ NoMemory)) → read ≡ v
+read_again v bytes slice result read spelled same is only =
+    subst (λ (r : Result Image ImageErr). MatchResult r (λ x. x ≡ v) (λ e. e ≡ NoMemory)) is (only v (subst (Spells v) (sym same) spelled))

@@ -1,0 +1,39 @@
+use Rattle.std.proofs.Common.{◌≡◌, ◌*◌, ◌∙◌, List, length, map}
+use Rattle.std.specs.List.{All, AllZip}
+use Rattle.default_routes.specs.declared.stripping.Final.{Final}
+use Rattle.default_routes.specs.FinalTable.{IsFinalOf}
+use Rattle.net_tables.specs.RightTables.{AreRight}
+use Rattle.tern_word.specs.declared.tables.Table.{Table}
+use Rattle.par_compile.specs.Finals.{AreFinals, KeepsRows, StandsFor, loaded_of}
+use Rattle.par_compile.proofs.Righted.{all_final, all_keep, all_right, all_zipped_length, coverable, few_chips}
+use Rattle.par_compile.proofs.Working.{on_ok}
+use Rattle.par_compile.proofs.chip_tables.final_tables.Goals as goal
+
+pub finals-requires-clause-few : goal.finals-requires-clause-few
+finals-requires-clause-few g c κs within = few_chips c.args.machine.now c.chips-chips.ensures.size (length c.in_ok-tables.tables) c.in_ok-tables.ensures.long
+
+pub finals-requires-clause-coverable : goal.finals-requires-clause-coverable
+finals-requires-clause-coverable g c κs within =
+    coverable c.args.machine.now c.args.nets.now c.in_ok-tables.tables c.in_ok-tables.ensures.long c.requires.few c.in_ok-tables.ensures.few c.in_ok-tables.ensures.sound
+
+pub returns-clause-long : goal.returns-clause-long
+returns-clause-long g c =
+    on_ok c.finals.result (AllZip (λ (t : Table) f. StandsFor c.args.target t.rows f) c.in_ok-tables.tables)
+    (λ (fs : List Final). length fs ≡ c.args.machine.now.width * c.args.machine.now.height)
+    (λ fs stand. all_zipped_length (λ (t : Table) f. StandsFor c.args.target t.rows f) c.in_ok-tables.tables fs stand ∙ c.in_ok-tables.ensures.long) c.finals.ensures.stand
+
+pub returns-clause-finals : goal.returns-clause-finals
+returns-clause-finals g c =
+    on_ok c.finals.result (AllZip (λ (t : Table) f. IsFinalOf c.args.target t.rows f) c.in_ok-tables.tables) (AreFinals c.args.machine.now c.args.nets.now c.args.target)
+    (λ fs each. all_final c.args.machine.now c.args.nets.now c.args.target c.in_ok-tables.tables fs c.in_ok-tables.ensures.plain each) c.finals.ensures.finals
+
+pub returns-clause-kept : goal.returns-clause-kept
+returns-clause-kept g c =
+    on_ok c.finals.result (AllZip (λ (t : Table) f. StandsFor c.args.target t.rows f) c.in_ok-tables.tables) (All KeepsRows)
+    (λ fs stand. all_keep c.args.machine.now c.args.nets.now c.args.target c.in_ok-tables.tables fs c.in_ok-tables.ensures.long c.requires.routed c.in_ok-tables.ensures.plain stand) c.finals.ensures.stand
+
+pub returns-clause-right : goal.returns-clause-right
+returns-clause-right g c =
+    on_ok c.finals.result (AllZip (λ (t : Table) f. StandsFor c.args.target t.rows f) c.in_ok-tables.tables)
+    (λ (fs : List Final). AreRight c.args.machine.now (map loaded_of fs) c.args.nets.now)
+    (λ fs stand. all_right c.args.machine.now c.args.nets.now c.args.target c.in_ok-tables.tables fs c.requires.routed c.in_ok-tables.ensures.long c.in_ok-tables.ensures.serves stand) c.finals.ensures.stand

@@ -1,0 +1,35 @@
+use Rattle.std.proofs.Common.{arith}
+use Rattle.list_laws.proofs.Places.{All-at}
+use Rattle.par_compile.specs.Finals.{KeepsRows}
+use Rattle.par_compile.proofs.Imaged.{image_valid, image_rows, image_more, all_read, found_at, small_place}
+use Rattle.par_compile.proofs.images.image_of.Goals as goal
+
+pub overflow_cast-i : goal.overflow_cast-i
+overflow_cast-i c =
+    let small =
+    small_place c.args.machine.now c.args.finals.now c.as_slice-done-items.result.now c.loop-i.i c.chips-count.result c.chips-count.ensures.few c.chips-count.ensures.total c.requires.one_each
+    c.as_slice-done-items.ensures c.loop-i-test.true in
+    omega (arith, small)
+
+pub push_table-requires : goal.push_table-requires
+push_table-requires c =
+    All-at KeepsRows c.args.finals.now c.loop-i.i c.done-item.result c.requires.kept
+    (found_at c.args.finals.now c.as_slice-done-items.result.now c.loop-i.i c.done-item.result c.as_slice-done-items.ensures c.loop-i-test.true c.done-item.is)
+
+pub loop-i-preserved : goal.loop-i-preserved
+loop-i-preserved c =
+    image_more c.args.machine.now c.args.finals.now c.loop-i.i c.done-item.result c.chip_at.result c.loop-i.chips c.push_table.new.chips
+    (found_at c.args.finals.now c.as_slice-done-items.result.now c.loop-i.i c.done-item.result c.as_slice-done-items.ensures c.loop-i-test.true c.done-item.is)
+    c.chip_at.ensures.chip c.loop-i.invariant c.in_ok-push_table.ensures
+
+pub returns-clause-valid : goal.returns-clause-valid
+returns-clause-valid c =
+    image_valid c.args.machine.now c.width.ensures.size c.args.finals.now c.requires.one_each _ c.width.ensures.value c.height.ensures.value
+    (all_read c.args.machine.now c.args.finals.now c.as_slice-done-items.result.now c.loop-i.i c.loop-i.chips c.as_slice-done-items.ensures c.loop-i-test.false c.loop-i.invariant)
+    c.requires.kept c.requires.short
+
+pub returns-clause-rows : goal.returns-clause-rows
+returns-clause-rows c =
+    image_rows c.args.machine.now c.width.ensures.size c.args.finals.now c.requires.one_each
+    (record { width = c.width.result; height = c.height.result; wrap = c.wrap.result; chips = c.loop-i.chips }) c.width.ensures.value c.height.ensures.value
+    (all_read c.args.machine.now c.args.finals.now c.as_slice-done-items.result.now c.loop-i.i c.loop-i.chips c.as_slice-done-items.ensures c.loop-i-test.false c.loop-i.invariant)

@@ -1,0 +1,26 @@
+use Rattle.std.proofs.Common.{◌≡◌, List, map, sym, subst}
+use Rattle.spin_base.specs.declared.blocks.Entry.{Entry}
+use Rattle.net_tables.specs.declared.nets.NetPlan.{NetPlan}
+use Rattle.net_tables.specs.RightTables.{AreRight}
+use Rattle.table_load.specs.declared.tables.Image.{Image}
+use Rattle.table_load.specs.Memories.{IsLoaded}
+use Rattle.par_compile.specs.Finals.{loaded_of}
+use Rattle.par_compile.proofs.Imaged.{all_loaded, read_again}
+use Rattle.par_compile.proofs.Working.{on_ok}
+use Rattle.par_compile.proofs.images.memories_of.Goals as goal
+
+pub returns-in-Ok-clause-loaded : goal.returns-in-Ok-clause-loaded
+returns-in-Ok-clause-loaded c =
+    on_ok c.load.result (IsLoaded c.in-Ok.read) (λ memories. memories ≡ map loaded_of c.args.finals.now)
+    (λ memories is. all_loaded c.args.machine.now c.args.finals.now c.in_ok-image.image memories c.requires.one_each c.in_ok-image.ensures.width c.in_ok-image.ensures.height
+    c.in_ok-image.ensures.rows
+    (subst (λ (v : Image). IsLoaded v memories)
+    (read_again c.in_ok-image.image c.in_ok-bytes.bytes c.as_slice.result.now c.decode.result c.in-Ok.read c.in_ok-bytes.ensures c.as_slice.ensures c.in-Ok.is c.decode.ensures.only) is))
+    c.load.ensures
+
+pub returns-in-Ok-clause-right : goal.returns-in-Ok-clause-right
+returns-in-Ok-clause-right c =
+    on_ok c.load.result (λ memories. memories ≡ map loaded_of c.args.finals.now)
+    (λ memories. (nets : List NetPlan) → AreRight c.args.machine.now (map loaded_of c.args.finals.now) nets → AreRight c.args.machine.now memories nets)
+    (λ memories is nets right. subst (λ (ms : List (List Entry)). AreRight c.args.machine.now ms nets) (sym is) right)
+    (returns-in-Ok-clause-loaded c)

@@ -1,0 +1,19 @@
+-- The image of final tables: the kept rows of each chip that has any.
+use Rattle.std.specs.Prelude.{ℕ, List, [], ◌∷◌}
+use Rattle.list_laws.specs.Gathered.{gathered}
+use Rattle.spin_base.specs.declared.blocks.ChipTable.{ChipTable}
+use Rattle.spin_base.specs.declared.blocks.Entry.{Entry}
+use Rattle.spin_base.specs.declared.chips.Chip.{Chip}
+use Rattle.machine_desc.specs.Description.{Description}
+use Rattle.machine_desc.specs.Live.{chip_of}
+use Rattle.default_routes.specs.declared.stripping.Final.{Final}
+use Rattle.par_compile.specs.Finals.{kept_entries}
+
+-- a chip without entries is not listed
+abbrev pub listed : Chip → List Entry → List ChipTable
+listed c [] = []
+listed c (e ∷ es) = record { chip = c; entries = e ∷ es } ∷ []
+
+-- the tables of the chips whose indices begin at a number
+abbrev pub tables_from : Description → ℕ → List Final → List ChipTable
+tables_from m i finals = gathered (λ j (f : Final). listed (chip_of m j) (kept_entries f)) i finals

@@ -1,0 +1,39 @@
+// From nets to the final tables of all chips.
+ghost use Rattle.std.specs.Prelude.{◌≡◌, ◌*◌, ◌<◌, ◌≤◌, ◌^◌, All, IfOk, length, map};
+ghost use Rattle.net_tables.specs.RightTables.{AreRight};
+ghost use Rattle.plain_tables.specs.PlainTable.{AreRouted};
+ghost use Rattle.par_compile.specs.Finals.{AreFinals, KeepsRows, loaded_of};
+
+use crate::workers::finals;
+use default_routes::Final;
+use machine_desc::Machine;
+use net_tables::NetPlan;
+use plain_tables::plain_tables;
+use spin_base::{Gate, Memory, Seq};
+use std::alloc::Global;
+use std::thread::Threads;
+
+/// The final table of each chip, by the chip's index: that of the nets' plain table there. Loaded, with unused entries after
+/// the kept rows, they are right for the nets. They are the same for every number of workers.
+pub fn final_tables<R: Threads + Sync, G: Gate>(
+    rt: &R,
+    alloc: Global,
+    machine: &Machine,
+    nets: &Seq<NetPlan>,
+    target: u32,
+    workers: u32,
+    gate: &G,
+) -> Result<Seq<Final>, Memory>
+    requires workers { 1 ≤ workers }
+    requires few { length nets.now < 2 ^ 32 }
+    requires routed { AreRouted machine.now nets.now }
+    ensures long { IfOk result (λ finals. length finals ≡ machine.now.width * machine.now.height) }
+    ensures finals { IfOk result (AreFinals machine.now nets.now target) }
+    ensures kept { IfOk result (All KeepsRows) }
+    ensures right { IfOk result (λ finals. AreRight machine.now (map loaded_of finals) nets.now) }
+{
+    let tables = plain_tables(alloc, machine, nets)?;
+    let chips = machine.chips();
+    prove!(tables.len() == chips);
+    finals(rt, alloc, tables, target, workers, gate)
+}

@@ -1,0 +1,94 @@
+// The image of final tables, and what it loads.
+ghost use Rattle.std.specs.Prelude.{◌≡◌, ℕ, ◌*◌, ◌<◌, ◌≤◌, ◌++◌, List, All, IfOk, OnOk, Some, length, map, slice_get};
+ghost use Rattle.net_tables.specs.declared.nets.NetPlan.{NetPlan};
+ghost use Rattle.net_tables.specs.RightTables.{AreRight};
+ghost use Rattle.default_routes.specs.declared.stripping.Final.{Final};
+ghost use Rattle.table_load.specs.Images.{IsValid};
+ghost use Rattle.table_load.specs.Memories.{rows_at};
+ghost use Rattle.par_compile.specs.Finals.{KeepsRows, kept_entries, loaded_of};
+ghost use Rattle.par_compile.specs.Imaging.{listed};
+
+use default_routes::Final;
+use machine_desc::Machine;
+use spin_base::{Chip, ChipTable, Entry, Memory, Seq};
+use std::alloc::Global;
+use table_load::{Image, decode, encode, load};
+use tcam_find::Tcam;
+
+/// The image of the final tables of a machine's chips, one for each chip by the chip's index: the kept rows of each chip
+/// that has any, of which no chip has more than 1,024.
+pub fn image_of(alloc: Global, machine: &Machine, finals: &Seq<Final>) -> Result<Image, Memory>
+    requires one_each { length finals.now ≡ machine.now.width * machine.now.height }
+    requires kept { All KeepsRows finals.now }
+    requires short { All (λ f. length f.kept ≤ 1024) finals.now }
+    ensures valid { IfOk result IsValid }
+    ensures width { IfOk result (λ v. v.width ≡ machine.now.width) }
+    ensures height { IfOk result (λ v. v.height ≡ machine.now.height) }
+    ensures wrap { IfOk result (λ v. v.wrap ≡ machine.now.wrap) }
+    ensures rows { IfOk result (λ v. (i : ℕ) (f : Final) → slice_get finals.now i ≡ Some f → rows_at v.height v.chips i ≡ kept_entries f) }
+{
+    let mut chips = Seq::new(alloc);
+    let count = machine.chips();
+    prove!(finals.len() == count);
+    for (i, done) in finals.as_slice().iter().enumerate() {
+        push_table(alloc, &mut chips, machine.chip_at(i as u32), done)?;
+    }
+    Ok(Image {
+        width: machine.width(),
+        height: machine.height(),
+        wrap: machine.wrap(),
+        chips,
+    })
+}
+
+// Puts a chip's table at the back, where it has rows.
+fn push_table(
+    alloc: Global,
+    chips: &mut Seq<ChipTable>,
+    chip: Chip,
+    done: &Final,
+) -> Result<(), Memory>
+    requires { KeepsRows done.now }
+    ensures { OnOk result (chips.new ≡ chips.old ++ listed chip (kept_entries done.now)) }
+{
+    let entries = kept_entries(alloc, done)?;
+    if entries.is_empty() {
+        return Ok(());
+    }
+    chips.push(ChipTable { chip, entries })
+}
+
+/// The entries of the rows that are loaded, in order.
+pub fn kept_entries(alloc: Global, done: &Final) -> Result<Seq<Entry>, Memory>
+    requires { KeepsRows done.now }
+    ensures { IfOk result (λ entries. entries ≡ kept_entries done.now) }
+{
+    let rows = done.covered.table.rows.as_slice();
+    let mut entries = Seq::new(alloc);
+    for place in done.kept.as_slice() {
+        entries.push(rows[*place as usize].entry())?;
+    }
+    Ok(entries)
+}
+
+/// The lookup memories that a loader fills from the bytes of the image of final tables, one for each chip by the chip's
+/// index: each has the chip's kept rows from place 0 on, and unused entries after them. Where these are right for nets, so
+/// are the memories.
+pub fn memories_of(
+    alloc: Global,
+    machine: &Machine,
+    finals: &Seq<Final>,
+) -> Result<Seq<Tcam>, Memory>
+    requires one_each { length finals.now ≡ machine.now.width * machine.now.height }
+    requires kept { All KeepsRows finals.now }
+    requires short { All (λ f. length f.kept ≤ 1024) finals.now }
+    ensures loaded { IfOk result (λ memories. memories ≡ map loaded_of finals.now) }
+    ensures right { IfOk result (λ memories. (nets : List NetPlan) → AreRight machine.now (map loaded_of finals.now) nets → AreRight machine.now memories nets) }
+{
+    let image = image_of(alloc, machine, finals)?;
+    let bytes = encode(alloc, &image)?;
+    match decode(alloc, bytes.as_slice()) {
+        Ok(read) => load(alloc, &read),
+        Err(_) => Err(Memory),
+    }
+}
