@@ -2,8 +2,9 @@
 
     python3 bench/tables_command.py
 
-`./spin` must have built the program. Nets have four targets anywhere, or eight near their source. Each job is run three
-times; the least processor time and wall-clock time are told, with the greatest memory.
+`./spin` must have built the program. Nets have four targets anywhere, or eight near their source; then some links are dead:
+5% of them and four targets anywhere, and 10% of them and 680 targets anywhere. Each job is run three times; the least
+processor time and wall-clock time are told, with the greatest memory.
 """
 import json
 import os
@@ -23,7 +24,12 @@ def numbers():
         yield seed >> 8
 
 
-def job(nets, targets_of):
+def dead_links(percent, drawn):
+    """So many of the three links E, NE and N of each chip; each link of the torus is one of them."""
+    return [[x, y, d] for x in range(64) for y in range(64) for d in range(3) if next(drawn) % 100 < percent]
+
+
+def job(nets, targets_of, dead=0):
     vertices = [{"name": f"v{i}"} for i in range(16384)]
     drawn = numbers()
     listed = []
@@ -31,11 +37,17 @@ def job(nets, targets_of):
         source = 4 * i % 16384
         listed.append({"name": f"n{i}", "source": f"v{source}", "targets": targets_of(source, drawn), "keys": 16})
     machine = {"width": 64, "height": 64, "wrap": True}
+    if dead:
+        machine["dead_links"] = dead_links(dead, drawn)
     return {"version": 1, "machine": machine, "graph": {"vertices": vertices, "nets": listed}}
 
 
 def anywhere(_, drawn):
     return [f"v{next(drawn) % 16384}" for _ in range(4)]
+
+
+def to_680(_, drawn):
+    return [f"v{next(drawn) % 16384}" for _ in range(680)]
 
 
 def near(source, drawn):
@@ -63,6 +75,10 @@ def main():
         timed(f"{nets} nets, eight targets near their source", job(nets, near))
     for nets in [1024, 2048, 4096]:
         timed(f"{nets} nets, four targets anywhere", job(nets, anywhere))
+    for nets in [1024, 2048, 4096]:
+        timed(f"{nets} nets, four targets anywhere, 5% of the links dead", job(nets, anywhere, 5))
+    for nets in [40, 500, 1000]:
+        timed(f"{nets} nets, 680 targets anywhere, 10% of the links dead", job(nets, to_680, 10))
 
 
 if __name__ == "__main__":
