@@ -1,6 +1,5 @@
 -- Final tables that are loaded route every net's packets by its tree.
-use Rattle.std.proofs.Common.{◌≡◌, ℕ, zero, suc, ◌-◌, ◌*◌, ◌^◌, ◌<◌, ◌≤◌, ◌==◌, Bool, false, cond, bit_and, List, [], ◌∷◌, ◌++◌, length, get_or, map, find, replicate, Some, None, refl, sym, ap, ◌∙◌, subst, arith}
-use Rattle.std.specs.Option.{option_map_or}
+use Rattle.std.proofs.Common.{◌≡◌, ℕ, zero, suc, ◌-◌, ◌*◌, ◌^◌, ◌<◌, ◌≤◌, ◌==◌, false, bit_and, List, [], ◌∷◌, length, get_or, map, replicate, Some, refl, sym, ap, ◌∙◌, subst, arith}
 use Rattle.std.specs.List.{All, AllZip, slice_get, slice_index_or}
 use Rattle.std.proofs.lemmas.List.Elements.{All-nil, All-cons, All-contains, All-map}
 use Rattle.std.proofs.lemmas.List.Sorted.{Contains-permutation}
@@ -12,7 +11,7 @@ use Rattle.spin_base.specs.declared.blocks.Entry.{Entry}
 use Rattle.spin_base.specs.declared.chips.Chip.{Chip}
 use Rattle.spin_base.specs.declared.chips.Port.{Port}
 use Rattle.spin_base.specs.declared.routes.Route.{Route}
-use Rattle.spin_base.specs.Lookup.{lookup, matches, default_route}
+use Rattle.spin_base.specs.Lookup.{lookup, matches}
 use Rattle.spin_base.specs.Outputs.{has}
 use Rattle.std.proofs.lemmas.Nat.{mul-le}
 use Rattle.machine_desc.specs.Description.{Description, HasSize}
@@ -26,8 +25,6 @@ use Rattle.tern_word.specs.declared.tables.Table.{Table}
 use Rattle.tern_word.specs.SoundTable.{IsSound, Original, served}
 use Rattle.tern_word.specs.Ternary.{Matches}
 use Rattle.tcam_find.specs.Memory.{unused}
-use Rattle.table_load.specs.Memories.{loaded}
-use Rattle.cover_checks.proofs.Positions.{All-has, rows_at-from}
 use Rattle.default_routes.specs.declared.stripping.Final.{Final}
 use Rattle.default_routes.specs.FinalTable.{IsFinalOf, MatchesNoKey, RoutesAlone, loaded_rows}
 use Rattle.plain_tables.specs.PlainTable.{AtEach, AreRouted, HasChip, IsPlainTable, ServesOriginals}

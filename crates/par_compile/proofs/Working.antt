@@ -1,21 +1,12 @@
 -- Runs of tables that workers cover, table by table.
-use Rattle.std.proofs.Common.{◌≡◌, ℕ, suc, ◌+◌, ◌<◌, ◌≤◌, List, [], ◌∷◌, length, get_or, set, map, refl, sym, ap, ◌∙◌, subst, arith, inl, inr, ◌⊎◌, Result, Ok, Err, IfOk}
+use Rattle.std.proofs.Common.{◌≡◌, ℕ, suc, ◌+◌, ◌<◌, ◌≤◌, List, [], ◌∷◌, length, get_or, set, map, refl, sym, ap, ◌∙◌, subst, arith, inl, inr, Result, Ok, Err, IfOk}
 use Rattle.std.specs.List.{All, AllZip}
-use Rattle.std.specs.List.Sorted.{IsPermutation}
 use Rattle.std.proofs.Math.ListN.{length-set}
 use Rattle.std.proofs.lemmas.Bool.{cases_eq}
 use Rattle.std.proofs.lemmas.List.{get_or_default, get_or-set_same, get_or-set_other, length-map}
-use Rattle.std.proofs.lemmas.List.Elements.{All-contains, All-map}
-use Rattle.std.proofs.lemmas.List.Sorted.{Contains-permutation}
-use Rattle.list_laws.proofs.Places.{All-each}
-use Rattle.cover_checks.specs.Merge.{rows_at}
-use Rattle.cover_merge.specs.declared.covering.Covered.{Covered}
-use Rattle.cover_merge.specs.Covering.{HasNoLegalPair, HasRoutesOf}
+use Rattle.std.proofs.lemmas.List.Elements.{All-map}
 use Rattle.default_routes.specs.declared.stripping.Final.{Final}
-use Rattle.default_routes.specs.KeptRows.{ArePlaces, Routes}
-use Rattle.tern_word.specs.declared.tables.Row.{Row}
 use Rattle.tern_word.specs.declared.tables.Table.{Table}
-use Rattle.tern_word.specs.SoundTable.{Original, served}
 use Rattle.par_compile.specs.declared.workers.Work.{Work}
 use Rattle.par_compile.specs.declared.workers.Work.TheVariants.{Plain, Done, Refused}
 use Rattle.par_compile.specs.Finals.{IsCoverable, IsReady, IsWorked}
