@@ -1,5 +1,6 @@
 // Trees of one edge, repaired on small machines with one dead chip and one dead link.
 ghost use Rattle.std.specs.Prelude.{◌≡◌, ◌<◌, ◌≤◌, [], ◌∷◌, IfOk};
+ghost use Rattle.link_detours.specs.LiveRoads.{AreRoadsOf};
 
 use crate::{RepairErr, Roads, repair};
 use machine_desc::{Edge, Machine, Tree};
@@ -57,13 +58,16 @@ fn machine(
     )
 }
 
-// The tree of one edge, repaired for one target; nothing where the machine has no such tree.
-fn repaired(
+// The tree of one edge, repaired for one target over the machine's roads; nothing where the machine has no such tree.
+fn repaired_over(
     alloc: Global,
     machine: &Machine,
+    roads: &Roads,
     edge: Edge,
     target: Chip,
-) -> Option<Result<Tree, RepairErr>> {
+) -> Option<Result<Tree, RepairErr>>
+    requires { AreRoadsOf machine.now roads.now }
+{
     let root = edge.chip;
     if !machine.live(root) || !machine.live(target) {
         return None;
@@ -73,9 +77,18 @@ fn repaired(
     }
     let edges = list_of(alloc, edge).ok()?;
     let targets = list_of(alloc, target).ok()?;
+    Some(repair(alloc, machine, roads, &Tree { root, edges }, &targets))
+}
+
+// The same, where the roads can be made.
+fn repaired(
+    alloc: Global,
+    machine: &Machine,
+    edge: Edge,
+    target: Chip,
+) -> Option<Result<Tree, RepairErr>> {
     let roads = Roads::of(alloc, machine).ok()?;
-    let tree = Tree { root, edges };
-    Some(repair(alloc, machine, &roads, &tree, &targets))
+    repaired_over(alloc, machine, &roads, edge, target)
 }
 
 // Whether it then has these edges.
