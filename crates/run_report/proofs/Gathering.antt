@@ -7,9 +7,11 @@ use Rattle.list_laws.specs.Gathered.{gathered}
 use Rattle.list_laws.proofs.Gathering.{gathered_more}
 use Rattle.spin_base.specs.declared.chips.Spot.{Spot}
 use Rattle.spin_base.specs.declared.copies.McCopy.{McCopy}
+use Rattle.mesh_core.specs.declared.places.Did.{Did}
 use Rattle.mesh_core.specs.declared.places.Place.{Place}
 use Rattle.mesh_core.specs.declared.places.Place.TheVariants.{CoreQueue}
 use Rattle.mesh_core.specs.State.{State}
+use Rattle.run_report.specs.ReportText.{event_line}
 use Rattle.run_report.specs.RunReport.{waits_at, copies_at, core_waits}
 
 -- an item that a loop shows is there
@@ -40,3 +42,12 @@ cores_more s spots v d before sofar new copies is below queue so_far more =
     more ∙ ap₂ (λ l m. l ++ m) so_far waits
     ∙ append_assoc before (gathered (core_waits s) 0 (take v s.setup.spots)) (core_waits s v spot)
     ∙ ap (λ l. before ++ l) (sym (gathered_more (core_waits s) 0 s.setup.spots v v spot here (omega arith)))
+
+-- the lines of the events so far, and of the next
+pub events_more : (all : List Did) (i : ℕ) (d : Did) (before sofar new : List ℕ) → i < length all → sofar ≡ before ++ gathered event_line 1 (take i all) →
+    new ≡ sofar ++ event_line (i + 1) (slice_index_or all i d) → new ≡ before ++ gathered event_line 1 (take (i + 1) all)
+events_more all i d before sofar new below so_far more =
+    let did : Did = slice_index_or all i d in
+    more ∙ ap (λ l. l ++ event_line (i + 1) did) so_far
+    ∙ append_assoc before (gathered event_line 1 (take i all)) (event_line (i + 1) did)
+    ∙ ap (λ l. before ++ l) (sym (gathered_more event_line 1 all i (i + 1) did (slice_get-get_or all i d below) (omega arith)))

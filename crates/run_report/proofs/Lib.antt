@@ -1,5 +1,5 @@
 mod Gathering
-mod GotLines
+pub mod GotLines
 mod HexDigits
 mod Joining
 mod Listing

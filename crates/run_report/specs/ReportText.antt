@@ -2,6 +2,7 @@
 use Rattle.std.specs.Prelude.{ℕ, zero, suc, ◌/◌, ◌%◌, List, [], ◌∷◌, ◌++◌, length, false, Option, Some, None, codes, decimal}
 use Rattle.std.specs.List.{flat_map, sum_by}
 use Rattle.std.specs.Fmt.{digit_glyph}
+use Rattle.list_laws.specs.Gathered.{gathered}
 use Rattle.spin_base.specs.declared.chips.Spot.{Spot}
 use Rattle.spin_base.specs.declared.chips.Dir.{Dir}
 use Rattle.spin_base.specs.declared.chips.Dir.TheVariants.{East, NorthEast, North, West, SouthWest, South}
@@ -18,6 +19,8 @@ use Rattle.app_graph.specs.declared.graphs.Graph.{Graph}
 use Rattle.net_tables.specs.declared.nets.NetPlan.{NetPlan}
 use Rattle.tern_word.specs.declared.tables.Table.{Table}
 use Rattle.spin_base.specs.declared.blocks.ChipTable.{ChipTable}
+use Rattle.mesh_core.specs.declared.places.Did.{Did}
+use Rattle.mesh_core.specs.declared.places.Did.TheVariants.{Moved, Idle}
 use Rattle.mesh_core.specs.declared.places.Place.{Place}
 use Rattle.mesh_core.specs.declared.places.Place.TheVariants.{InQueue, Hand, CoreQueue}
 use Rattle.run_report.specs.declared.reports.Report.{Report}
@@ -82,6 +85,19 @@ table_head t = line (codes "table" ∷ decimal t.chip.x ∷ decimal t.chip.y ∷
 abbrev pub table_lines : ChipTable → List ℕ
 table_lines t = table_head t ++ flat_map row_line t.entries
 
+-- whether an event was enabled
+abbrev pub did_word : Did → List ℕ
+did_word Moved = codes "moved"
+did_word Idle = codes "idle"
+
+-- the number of an event, from 1, and whether it was enabled
+abbrev pub event_line : ℕ → Did → List ℕ
+event_line number did = line (codes "event" ∷ decimal number ∷ did_word did ∷ [])
+
+-- a line for each event, in their order
+abbrev pub event_lines : List Did → List ℕ
+event_lines did = gathered event_line 1 did
+
 abbrev pub got_line : List ℕ × McCopy → List ℕ
 got_line d = line (codes "got" ∷ d.0 ∷ decimal d.1.packet ∷ word d.1.key ∷ payload_word d.1.payload ∷ [])
 
@@ -104,11 +120,11 @@ end_line r = line (codes "end" ∷ codes "delivered" ∷ decimal (length r.deliv
 
 -- ---- the text
 
--- The text of a report: a line for each vertex and for each net, the lines of each table, a line for each delivery, each
--- dump record and each waiting copy, and the last line.
+-- The text of a report: a line for each vertex and for each net, the lines of each table, a line for each event, each
+-- delivery, each dump record and each waiting copy, and the last line.
 abbrev pub report_text : Report → List ℕ
 report_text r = flat_map place_line r.placed ++ flat_map keys_line r.keys ++ flat_map table_lines r.tables
-    ++ flat_map got_line r.delivered ++ flat_map dump_line r.dumped ++ flat_map wait_line r.waiting ++ end_line r
+    ++ event_lines r.did ++ flat_map got_line r.delivered ++ flat_map dump_line r.dumped ++ flat_map wait_line r.waiting ++ end_line r
 
 -- ---- the text of a plan
 

@@ -1,4 +1,4 @@
--- What the report of a run says.
+-- What the report of a run or a trace says.
 use Rattle.std.specs.Prelude.{◌≡◌, ℕ, ◌-◌, ◌^◌, List, [], ◌∷◌, ◌++◌, length, map, min, Option, Some, None, slice_get}
 use Rattle.list_laws.specs.Gathered.{gathered}
 use Rattle.std.specs.List.{flat_map, sum_by, range_with_len}
@@ -15,6 +15,7 @@ use Rattle.machine_desc.specs.Live.{index_of, grid_chips}
 use Rattle.app_graph.specs.declared.graphs.Graph.{Graph}
 use Rattle.net_tables.specs.declared.nets.NetPlan.{NetPlan}
 use Rattle.tern_word.specs.declared.tables.Table.{Table}
+use Rattle.mesh_core.specs.declared.places.Did.{Did}
 use Rattle.mesh_core.specs.declared.places.Place.{Place}
 use Rattle.mesh_core.specs.declared.places.Place.TheVariants.{InQueue, Hand, CoreQueue}
 use Rattle.mesh_core.specs.State.{State, Held, queue_at}
@@ -117,13 +118,14 @@ unsent_total s = sum_by (unsent_by s) (range_with_len 0 (length s.setup.spots))
 
 -- ---- the report
 
--- The report of a graph's plan on a machine and of the mesh after the run: the spots of the vertices, the keys of the nets
--- and the tables as the plan has them, the deliveries by packet and position of the vertex, the dump records by packet, chip
+-- The report of a graph's plan on a machine, of a mesh, and of the answers to the events that led there: the spots of the
+-- vertices, the keys of the nets and the tables as the plan has them, the answers in their order, the deliveries by packet and position of the vertex, the dump records by packet, chip
 -- and output, and the waiting copies by packet and place. The number of unsent copies stands still at 4,294,967,295.
-pub record IsReportOf (m : Description) (graph : Graph) (spots : List Spot) (nets : List NetPlan) (tables : List Table) (s : State) (report : Report) : Type 0 where
+pub record IsReportOf (m : Description) (graph : Graph) (spots : List Spot) (nets : List NetPlan) (tables : List Table) (s : State) (did : List Did) (report : Report) : Type 0 where
   pub same_placed : report.placed ≡ placed_of graph spots
   pub same_keys : report.keys ≡ keys_of graph nets
   pub same_tables : report.tables ≡ tables_of m tables
+  pub same_did : report.did ≡ did
   pub delivered : IsDeliveredOf (placed_of graph spots) s.delivered report.delivered
   pub dumped : IsInOrder dump_key s.dumped report.dumped
   pub waiting : IsInOrder wait_key (waits_of s) report.waiting

@@ -8,7 +8,7 @@ use crate::orders::{delivered_of, dumped_of};
 use crate::unsents::unsent_of;
 use crate::waits::waiting_of;
 use app_graph::Graph;
-use mesh_core::{Mesh, Place};
+use mesh_core::{Did, Mesh, Place};
 use net_tables::NetPlan;
 use spin_base::{Block, ChipTable, DumpRec, McCopy, Memory, Name, Seq, Spot};
 use std::alloc::Global;
@@ -23,6 +23,8 @@ pub struct Report {
     pub keys: Seq<(Name, Block)>,
     /// The rows of each router that has any.
     pub tables: Seq<ChipTable>,
+    /// The answers to the events of a trace, in their order; none where the job was run.
+    pub did: Seq<Did>,
     /// The copies that arrived, by packet, then by the position of the vertex.
     pub delivered: Seq<(Name, McCopy)>,
     /// The copies that were dropped, by packet, chip and output.
@@ -33,8 +35,8 @@ pub struct Report {
     pub unsent: u32,
 }
 
-/// The report of a graph's plan and of the mesh after its run, on the mesh's machine: a line for each vertex, each net, and
-/// each chip whose table has a row, and what the mesh delivered, dumped and still holds. The plan's spots are those of the
+/// The report of a graph's plan and of a mesh, on the mesh's machine: a line for each vertex, each net, and each chip whose
+/// table has a row, the answers to the events that were traced, and what the mesh delivered, dumped and still holds. The plan's spots are those of the
 /// mesh, and it has a table for each chip, by its index.
 ///
 /// # Errors
@@ -47,13 +49,14 @@ pub fn report_of(
     nets: &Seq<NetPlan>,
     tables: &Seq<Table>,
     mesh: &Mesh,
+    did: Seq<Did>,
 ) -> Result<Report, Memory>
     requires graph { IsValidGraph graph.now }
     requires spots { length spots.now ≡ length graph.now.vertices }
     requires nets { length nets.now ≡ length graph.now.nets }
     requires tables { length tables.now ≡ mesh.now.setup.machine.width * mesh.now.setup.machine.height }
     requires mesh { mesh.now.setup.spots ≡ spots.now }
-    ensures { IfOk result (λ report. IsReportOf mesh.now.setup.machine graph.now spots.now nets.now tables.now mesh.now report) }
+    ensures { IfOk result (λ report. IsReportOf mesh.now.setup.machine graph.now spots.now nets.now tables.now mesh.now did report) }
 {
     let placed = placed_of(alloc, &graph.vertices, spots)?;
     let keys = keys_of(alloc, &graph.nets, nets)?;
@@ -66,6 +69,7 @@ pub fn report_of(
         placed,
         keys,
         tables,
+        did,
         delivered,
         dumped,
         waiting,

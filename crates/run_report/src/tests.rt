@@ -2,7 +2,7 @@
 ghost use Rattle.std.specs.Prelude.{◌≡◌};
 
 use super::{Report, text_of};
-use mesh_core::Place;
+use mesh_core::{Did, Place};
 use spin_base::{
     Block, Chip, ChipTable, Dir, DumpRec, Entry, McCopy, Memory, Name, Out, Port, Route, Seq, Spot,
 };
@@ -14,7 +14,7 @@ const ORIGIN: Chip = Chip { x: 0, y: 0 };
 const FAR: Chip = Chip { x: 63, y: 7 };
 
 const EACH_LINE: &str =
-    "place a 0 0 1\nplace bb 63 7 17\nkeys n 00000000 ffffffff\nkeys m 00001a00 ffffff00\ntable 0 0 1\n00000000 ffffffff 000101\ntable 63 7 1\n00001a00 ffffff00 800000\ngot bb 0 00001a07 deadbeef\ngot a 12 00000000 -\ndump 1 2 NE 3\ndump 0 10 c17 4\nwait 5 at 0 0 in L\nwait 5 at 0 0 hand S\nwait 6 at 1 0 hand c3\nwait 7 at 63 7 core 17\nwait 8 at 2 3 in SW\nend delivered 2 dumped 2 waiting 5 unsent 9\n";
+    "place a 0 0 1\nplace bb 63 7 17\nkeys n 00000000 ffffffff\nkeys m 00001a00 ffffff00\ntable 0 0 1\n00000000 ffffffff 000101\ntable 63 7 1\n00001a00 ffffff00 800000\nevent 1 moved\nevent 2 idle\ngot bb 0 00001a07 deadbeef\ngot a 12 00000000 -\ndump 1 2 NE 3\ndump 0 10 c17 4\nwait 5 at 0 0 in L\nwait 5 at 0 0 hand S\nwait 6 at 1 0 hand c3\nwait 7 at 63 7 core 17\nwait 8 at 2 3 in SW\nend delivered 2 dumped 2 waiting 5 unsent 9\n";
 
 fn placed(alloc: Global) -> Result<Seq<(Name, Spot)>, Memory> {
     let a = Spot {
@@ -76,6 +76,13 @@ fn copy(packet: u32, key: u32, payload: Option<u32>) -> McCopy
     }
 }
 
+fn did(alloc: Global) -> Result<Seq<Did>, Memory> {
+    let mut did = Seq::new(alloc);
+    did.push(Did::Moved)?;
+    did.push(Did::Idle)?;
+    Ok(did)
+}
+
 fn delivered(alloc: Global) -> Result<Seq<(Name, McCopy)>, Memory> {
     let mut delivered = Seq::new(alloc);
     delivered.push((Name::of(alloc, "bb")?, copy(0, 0x1a07, Some(0xdead_beef))))?;
@@ -116,6 +123,7 @@ fn report(alloc: Global) -> Result<Report, Memory> {
         placed: placed(alloc)?,
         keys: keys(alloc)?,
         tables: tables(alloc)?,
+        did: did(alloc)?,
         delivered: delivered(alloc)?,
         dumped: dumped(alloc)?,
         waiting: waiting(alloc)?,

@@ -2,10 +2,10 @@
 ghost use Rattle.std.specs.Prelude.{◌≡◌, ◌<◌, ◌^◌, ◌++◌, ◌∷◌, OnOk, IfOk, string_bytes, decimal};
 ghost use Rattle.std.specs.List.{flat_map};
 ghost use Rattle.mesh_core.specs.declared.places.Place.TheVariants.{InQueue, Hand, CoreQueue};
-ghost use Rattle.run_report.specs.ReportText.{report_text, listed_text, row_total, word, hex, payload_word, place_line, keys_line, row_line, table_head, table_lines, got_line, dump_line, wait_line, end_line, out_letters, port_letters, dir_letters};
+ghost use Rattle.run_report.specs.ReportText.{report_text, listed_text, row_total, word, hex, payload_word, place_line, keys_line, row_line, table_head, table_lines, did_word, event_line, event_lines, got_line, dump_line, wait_line, end_line, out_letters, port_letters, dir_letters};
 
 use crate::reports::Report;
-use mesh_core::Place;
+use mesh_core::{Did, Place};
 use spin_base::{
     Block, Chip, ChipTable, Dir, DumpRec, Entry, McCopy, Memory, Name, Out, Port, Route, Seq, Spot,
 };
@@ -14,7 +14,7 @@ use std::alloc::Global;
 /// The text of a report: one line an item, each ended by a line feed, its words one space apart.
 ///
 /// The lines are, in this order: `place VERTEX X Y CORE`, `keys NET KEY MASK`, `table X Y N` with N lines
-/// `KEY MASK ROUTE`, `got VERTEX PACKET KEY PAYLOAD`, `dump X Y OUT PACKET`, `wait PACKET at X Y PLACE`, and
+/// `KEY MASK ROUTE`, `event I moved` or `event I idle`, `got VERTEX PACKET KEY PAYLOAD`, `dump X Y OUT PACKET`, `wait PACKET at X Y PLACE`, and
 /// `end delivered D dumped U waiting W unsent N`. Keys, masks and payloads are 8 hexadecimal digits, routes 6, other
 /// numbers decimal; `-` stands for no payload.
 ///
@@ -28,6 +28,7 @@ pub fn text_of(alloc: Global, report: &Report) -> Result<Seq<u8>, Memory>
     put_places(&mut text, report.placed.as_slice())?;
     put_all_keys(&mut text, report.keys.as_slice())?;
     put_tables(&mut text, report.tables.as_slice())?;
+    put_events(&mut text, report.did.as_slice())?;
     put_gots(&mut text, report.delivered.as_slice())?;
     put_dumps(&mut text, report.dumped.as_slice())?;
     put_waits(&mut text, report.waiting.as_slice())?;
@@ -153,6 +154,32 @@ fn put_row(text: &mut String, entry: &Entry) -> Result<(), Memory>
     put_route(text, entry.route)?;
     text.push_str("\n")?;
     Ok(())
+}
+
+fn put_events(text: &mut String, answers: &[Did]) -> Result<(), Memory>
+    ensures { OnOk result (string_bytes text.new ≡ string_bytes text.old ++ event_lines answers.now) }
+{
+    for (before, did) in answers.iter().enumerate() {
+        put_event(text, before + 1, *did)?;
+    }
+    Ok(())
+}
+
+fn put_event(text: &mut String, number: usize, did: Did) -> Result<(), Memory>
+    ensures { OnOk result (string_bytes text.new ≡ string_bytes text.old ++ event_line number did) }
+{
+    let word = did_word(did);
+    writeln!(text, "event {number} {word}")?;
+    Ok(())
+}
+
+fn did_word(did: Did) -> &'static str
+    ensures { result.now ≡ did_word did }
+{
+    match did {
+        Did::Moved => "moved",
+        Did::Idle => "idle",
+    }
 }
 
 fn put_gots(text: &mut String, delivered: &[(Name, McCopy)]) -> Result<(), Memory>

@@ -1,148 +1,97 @@
--- A call has one cause: causes of different commands, of different stages and of different places exclude each other.
-use Rattle.std.proofs.Common.{◌≡◌, ℕ, List, [], ◌∷◌, length, Option, Some, Ok, Err, refl, sym, ap, ◌∙◌, subst, arith}
+-- A call has one cause: words are one command, bytes one job, and the compiler has one answer.
+use Rattle.std.proofs.Common.{◌≡◌, ◌⊎◌, ℕ, List, Some, Result, Ok, Err, sym, ap, ◌∙◌, subst, inl, inr}
 use Rattle.std.specs.List.{slice_get}
-use Rattle.mesh_core.specs.State.{State}
-use Rattle.app_graph.specs.declared.graphs.Vertex.{Vertex}
+use Rattle.spin_base.specs.declared.chips.Chip.{Chip}
+use Rattle.app_graph.specs.declared.graphs.Graph.{Graph}
 use Rattle.app_graph.specs.declared.graphs.Net.{Net}
+use Rattle.app_graph.specs.declared.graphs.Vertex.{Vertex}
+use Rattle.machine_desc.specs.Description.{Description}
 use Rattle.place_fit.proofs.Determined as places
 use Rattle.key_alloc.proofs.Determined as blocks
 use Rattle.job_readers.specs.declared.jobs.Job.{Job}
-use Rattle.run_report.specs.declared.reports.Report.{Report}
 use Rattle.par_compile.specs.declared.compiling.Plan.{Plan}
-use Rattle.par_compile.specs.Compiled.{HasPlacement, IsPlanOf, blocks_of}
-use Rattle.spin_top.specs.declared.commands.Command.{Command}
-use Rattle.spin_top.specs.declared.commands.Command.TheVariants.{Run, Trace, Compile, Tables, Gen}
-use Rattle.spin_top.specs.declared.outcomes.Refusal.{Refusal}
-use Rattle.spin_top.specs.declared.outcomes.Refusal.TheVariants as refusals
-use Rattle.spin_top.specs.Causes.{HasBlocks, HasNoPlan, no_room, keys_out, cut_off, long_table, IsRefused, unread, no_plan, IsRefusedLate}
-use Rattle.spin_top.specs.Commands.{Spells, IsBuilt}
-use Rattle.spin_top.specs.Jobs.{job_in}
-use Rattle.spin_top.specs.Runs.{IsMade}
-
--- ---- words spell one command
-
-first_length : List (List ℕ) → ℕ
-first_length [] = 0
-first_length (w ∷ ws) = length w
-
-differ : (a b : ℕ) → (a ≡ b → ⊥) → (ws : List (List ℕ)) (v w : List ℕ) → length v ≡ a → length w ≡ b → ws ≡ v ∷ [] → ws ≡ w ∷ [] → ⊥
-unfolding first_length
-differ a b apart ws v w va wb is_v is_w =
-    let same : length v ≡ length w = ap first_length (sym is_v ∙ is_w) in
-    apart (sym va ∙ (same ∙ wb))
-
-one_word : (ws : List (List ℕ)) (v w x : List ℕ) → ws ≡ v ∷ [] → ws ≡ w ∷ (x ∷ []) → ⊥
-one_word ws v w x one two = let a : length ws ≡ 1 = ap length one in let b : length ws ≡ 2 = ap length two in omega (arith, a, b)
-
-pub one_command : (ws : List (List ℕ)) (c d : Command) → Spells ws c → IsBuilt c → Spells ws d → c ≡ d
-one_command ws Run Run a built b = refl
-one_command ws Run Trace a built b = absurd (differ 3 5 (λ e. omega (arith, e)) ws _ _ refl refl a b)
-one_command ws Run Compile a built b = absurd (differ 3 7 (λ e. omega (arith, e)) ws _ _ refl refl a b)
-one_command ws Run Tables a built b = absurd (differ 3 6 (λ e. omega (arith, e)) ws _ _ refl refl a b)
-one_command ws Run (Gen n) a built b = absurd (one_word ws _ _ _ a b.0)
-one_command ws Trace d a built b = absurd built
-one_command ws Compile d a built b = absurd built
-one_command ws Tables Run a built b = absurd (differ 6 3 (λ e. omega (arith, e)) ws _ _ refl refl a b)
-one_command ws Tables Trace a built b = absurd (differ 6 5 (λ e. omega (arith, e)) ws _ _ refl refl a b)
-one_command ws Tables Compile a built b = absurd (differ 6 7 (λ e. omega (arith, e)) ws _ _ refl refl a b)
-one_command ws Tables Tables a built b = refl
-one_command ws Tables (Gen n) a built b = absurd (one_word ws _ _ _ a b.0)
-one_command ws (Gen n) d a built b = absurd built
-
--- ---- bytes are one job, or refused once
+use Rattle.par_compile.specs.declared.compiling.CompileErr.{CompileErr}
+use Rattle.par_compile.specs.declared.compiling.CompileErr.TheVariants.{NoRoom, KeysOut, CutOff, Memory}
+use Rattle.par_compile.specs.Compiled.{HasCutOff, HasPlacement, IsCause, IsPlanOf}
+use Rattle.par_compile.proofs.Refusing.{refused_where}
+use Rattle.refusals.specs.declared.causes.Refusal.{Refusal}
+use Rattle.refusals.specs.declared.causes.Refusal.TheVariants as refusals
+use Rattle.job_bytes.specs.Jobs.{job_in}
+use Rattle.spin_top.specs.Causes.{Names, HasNoPlan, AreRefused}
+use Rattle.spin_top.specs.Ends.{HasBlocks}
 
 pub same_job : (bytes : List ℕ) (a b : Job) → job_in bytes ≡ Ok a → job_in bytes ≡ Ok b → a ≡ b
 same_job bytes a b is_a is_b = cc
 
-ok_err : (bytes : List ℕ) (a : Job) (r : Refusal) → job_in bytes ≡ Ok a → job_in bytes ≡ Err r → ⊥
+pub ok_err : (bytes : List ℕ) (a : Job) (r : Refusal) → job_in bytes ≡ Ok a → job_in bytes ≡ Err r → ⊥
 ok_err bytes a r is_a is_r = cc
 
-err_err : (bytes : List ℕ) (r s : Refusal) → job_in bytes ≡ Err r → job_in bytes ≡ Err s → r ≡ s
+pub err_err : (bytes : List ℕ) (r s : Refusal) → job_in bytes ≡ Err r → job_in bytes ≡ Err s → r ≡ s
 err_err bytes r s is_r is_s = cc
 
--- ---- plans
+-- ---- the compiler
 
--- all vertices of the job have places, and all nets keys
-pub record IsReady (c : Command) (bytes : List ℕ) : Type 0 where
-  pub job : Job
-  pub tells : job_in bytes ≡ Ok job
-  pub built : IsBuilt c
-  pub placed : HasPlacement job.machine job.graph
-  pub keyed : HasBlocks job.graph
+not_ok : (plan : Plan) (e f : CompileErr) → (◌≡◌ {A = Result Plan CompileErr} (Ok plan) (Err e)) ⊎ (◌≡◌ {A = Result Plan CompileErr} (Ok plan) (Err f)) → ⊥
+not_ok plan e f (inl is) = cc
+not_ok plan e f (inr is) = cc
 
-no_plan_at_all : (job : Job) (r : Refusal) → HasNoPlan job r → HasPlacement job.machine job.graph → HasBlocks job.graph → ⊥
-no_plan_at_all job r none placed keyed = elim none [
-  | no_room i v room at is ↦ places.not_both job.machine job.graph.vertices placed.0 placed.1 i placed.2 room
-  | keys_out i net here out at is ↦ blocks.not_both job.graph.nets keyed.0 i keyed.1 out
-]
+same_error : (e f m : CompileErr) → (◌≡◌ {A = Result Plan CompileErr} (Err e) (Err f)) ⊎ (◌≡◌ {A = Result Plan CompileErr} (Err e) (Err m)) → (e ≡ f) ⊎ (e ≡ m)
+same_error e f m (inl is) = inl cc
+same_error e f m (inr is) = inr cc
 
-pub refused_not_ready : (c : Command) (bytes : List ℕ) (r : Refusal) → IsRefused c (Some bytes) r → IsReady c bytes → ⊥
-refused_not_ready c bytes r refused ready = elim refused [
-  | unread text told ↦ ok_err bytes ready.job r ready.tells told
-  | no_plan job tells served none ↦
-      let same : ready.job ≡ job = same_job bytes ready.job job ready.tells tells in
-      no_plan_at_all job r none (subst (λ (j : Job). HasPlacement j.machine j.graph) same ready.placed) (subst (λ (j : Job). HasBlocks j.graph) same ready.keyed)
-]
+same_item : {X : Type 0} (xs : List X) (i : ℕ) (a b : X) → slice_get xs i ≡ Some a → slice_get xs i ≡ Some b → a ≡ b
+same_item xs i a b at_a at_b = cc
 
-same_vertex : (vs : List Vertex) (i j : ℕ) (v w : Vertex) → i ≡ j → slice_get vs i ≡ Some v → slice_get vs j ≡ Some w → v.name ≡ w.name
-same_vertex vs i j v w same at_i at_j =
-    let there : slice_get vs j ≡ Some v = subst (λ k. slice_get vs k ≡ Some v) same at_i in
-    let one : v ≡ w = cc in
-    ap (λ (x : Vertex). x.name) one
+-- an error is called what the same error is called
+pub names_same : (graph : Graph) (e f : CompileErr) (r : Refusal) → e ≡ f → Names graph f r → Names graph e r
+names_same graph e f r same names = subst (λ x. Names graph x r) (sym same) names
 
-pub same_net : (ns : List Net) (i j : ℕ) (v w : Net) → i ≡ j → slice_get ns i ≡ Some v → slice_get ns j ≡ Some w → v.name ≡ w.name
-same_net ns i j v w same at_i at_j =
-    let there : slice_get ns j ≡ Some v = subst (λ k. slice_get ns k ≡ Some v) same at_i in
-    let one : v ≡ w = cc in
-    ap (λ (x : Net). x.name) one
+module _ (m : Description) (graph : Graph) where
+  -- a graph with a plan has no cause
+  pub none_of_plan : (plan : Plan) → IsPlanOf m graph plan → (e : CompileErr) → IsCause m graph e → (r : Refusal) → Names graph e r → ⊥
+  none_of_plan plan is (NoRoom v) cause r names = not_ok plan (NoRoom v) Memory ((refused_where m graph (Ok plan) is tt).no_room v cause)
+  none_of_plan plan is (KeysOut n) cause r names = not_ok plan (KeysOut n) Memory ((refused_where m graph (Ok plan) is tt).keys_out n cause.0 cause.1)
+  none_of_plan plan is (CutOff n t) cause r names = not_ok plan (CutOff n t) Memory ((refused_where m graph (Ok plan) is tt).cut_off n t cause)
+  none_of_plan plan is Memory cause r names = absurd names
+
+  one_cause : (e f : CompileErr) → IsCause m graph e → IsCause m graph f → (r : Refusal) → Names graph f r → (e ≡ f) ⊎ (e ≡ Memory)
+  one_cause e (NoRoom v) cause other r names = same_error e (NoRoom v) Memory ((refused_where m graph (Err e) tt cause).no_room v other)
+  one_cause e (KeysOut n) cause other r names = same_error e (KeysOut n) Memory ((refused_where m graph (Err e) tt cause).keys_out n other.0 other.1)
+  one_cause e (CutOff n t) cause other r names = same_error e (CutOff n t) Memory ((refused_where m graph (Err e) tt cause).cut_off n t other)
+  one_cause e Memory cause other r names = absurd names
+
+  -- what an error is called has one name
+  one_name : (e : CompileErr) (r s : Refusal) → Names graph e r → Names graph e s → r ≡ s
+  one_name (NoRoom i) r s a b = let same : a.0 ≡ b.0 = same_item graph.vertices i a.0 b.0 a.1 b.1 in a.2 ∙ (ap (λ (v : Vertex). refusals.NoRoom v.name) same ∙ sym b.2)
+  one_name (KeysOut i) r s a b = let same : a.0 ≡ b.0 = same_item graph.nets i a.0 b.0 a.1 b.1 in a.2 ∙ (ap (λ (n : Net). refusals.KeysOut n.name) same ∙ sym b.2)
+  one_name (CutOff i t) r s a b = let same : a.0 ≡ b.0 = same_item graph.nets i a.0 b.0 a.1 b.1 in a.2 ∙ (ap (λ (n : Net). refusals.CutOff n.name t) same ∙ sym b.2)
+  one_name Memory r s a b = absurd a
+
+  -- a graph whose vertices have places and whose nets have keys, and where no target is cut off, has no cause
+  pub none_served : HasPlacement m graph → HasBlocks graph → ((i : ℕ) (target : Chip) → HasCutOff m graph i target → ⊥) → (e : CompileErr) → IsCause m graph e →
+      (r : Refusal) → Names graph e r → ⊥
+  none_served placed keyed joined (NoRoom v) cause r names = places.not_both m graph.vertices placed.0 placed.1 v placed.2 cause
+  none_served placed keyed joined (KeysOut n) cause r names = blocks.not_both graph.nets keyed.0 n keyed.1 cause.1
+  none_served placed keyed joined (CutOff n t) cause r names = joined n t cause
+  none_served placed keyed joined Memory cause r names = absurd names
+
+-- ---- jobs and bytes
 
 one_no_plan : (job : Job) (r s : Refusal) → HasNoPlan job r → HasNoPlan job s → r ≡ s
-one_no_plan job r s a b = elim a [
-  | no_room i v room at is ↦ elim b [
-    | no_room j w room' at' is' ↦ is
-        ∙ (ap refusals.NoRoom (same_vertex job.graph.vertices i j v w (places.one_vertex job.machine job.graph.vertices i j room room') at at') ∙ sym is')
-    | keys_out j net placed out at' is' ↦ absurd (places.not_both job.machine job.graph.vertices placed.0 placed.1 i placed.2 room)
-  ]
-  | keys_out i net placed out at is ↦ elim b [
-    | no_room j w room' at' is' ↦ absurd (places.not_both job.machine job.graph.vertices placed.0 placed.1 j placed.2 room')
-    | keys_out j other placed' out' at' is' ↦ is
-        ∙ (ap refusals.KeysOut (same_net job.graph.nets i j net other (blocks.one_net job.graph.nets i j out out') at at') ∙ sym is')
-  ]
+one_no_plan job r s a b = elim (one_cause job.machine job.graph a.error b.error a.cause b.cause s b.names) [
+  | inl same ↦ one_name job.machine job.graph b.error r s (subst (λ e. Names job.graph e r) same a.names) b.names
+  | inr memory ↦ absurd (subst (λ e. Names job.graph e r) memory a.names)
 ]
 
-pub one_refusal : (c : Command) (bytes : List ℕ) (r s : Refusal) → IsRefused c (Some bytes) r → IsRefused c (Some bytes) s → r ≡ s
-one_refusal c bytes r s a b = elim a [
-  | unread text told ↦ elim b [
-    | unread text' told' ↦ err_err bytes r s told told'
-    | no_plan job tells served none ↦ absurd (ok_err bytes job r tells told)
-  ]
-  | no_plan job tells served none ↦ elim b [
-    | unread text' told' ↦ absurd (ok_err bytes job s tells told')
-    | no_plan job' tells' served' none' ↦ one_no_plan job r s none (subst (λ (j : Job). HasNoPlan j s) (same_job bytes job' job tells' tells) none')
-  ]
-]
+pub one_refusal : (bytes : List ℕ) (r s : Refusal) → AreRefused bytes r → AreRefused bytes s → r ≡ s
+one_refusal bytes r s (inl a) (inl b) = err_err bytes r s a b
+one_refusal bytes r s (inl a) (inr b) = absurd (ok_err bytes b.0 r b.1 a)
+one_refusal bytes r s (inr a) (inl b) = absurd (ok_err bytes a.0 s a.1 b)
+one_refusal bytes r s (inr a) (inr b) = one_no_plan a.0 r s a.2 (subst (λ j. HasNoPlan j s) (same_job bytes b.0 a.0 b.1 a.1) b.2)
 
-pub ready_of_plan : (c : Command) (bytes : List ℕ) (job : Job) (plan : Plan) → job_in bytes ≡ Ok job → IsBuilt c → IsPlanOf job.machine job.graph plan → IsReady c bytes
-ready_of_plan c bytes job plan tells served is = record {
-  job = job;
-  tells = tells;
-  built = served;
-  placed = (plan.placement.spots, plan.placement.memory, is.placed);
-  keyed = (blocks_of plan.nets, is.blocks);
-}
-
-pub ready_late : (c : Command) (bytes : List ℕ) (r : Refusal) → IsRefusedLate c (Some bytes) r → IsReady c bytes
-ready_late c bytes r late = elim late.3 [
-  | cut_off i net target has at is ↦ record {
-    job = late.0;
-    tells = late.1;
-    built = late.2;
-    placed = (has.spots, has.memory, has.placed);
-    keyed = (has.blocks, has.keyed);
-  }
-  | long_table plan is long e ↦ ready_of_plan c bytes late.0 plan late.1 late.2 is
-]
-
-pub ready_made : (c : Command) (bytes : List ℕ) (rest : Option (List ℕ)) (job : Job) (plan : Plan) (mesh : Option State) (report : Option Report) (text : List ℕ) →
-    IsMade c (Some bytes) rest job plan mesh report text → IsReady c bytes
-ready_made c bytes rest job plan mesh report text made = ready_of_plan c bytes job plan made.read.0 made.built made.planned.as_defined
+-- bytes of a job with a plan are not refused
+pub planned_not_refused : (bytes : List ℕ) (r : Refusal) → AreRefused bytes r → (job : Job) → job_in bytes ≡ Ok job → (plan : Plan) → IsPlanOf job.machine job.graph plan → ⊥
+planned_not_refused bytes r (inl a) job read plan is = ok_err bytes job r read a
+planned_not_refused bytes r (inr a) job read plan is =
+    let none : HasNoPlan job r = subst (λ j. HasNoPlan j r) (same_job bytes a.0 job a.1 read) a.2 in
+    none_of_plan job.machine job.graph plan is none.error none.cause r none.names

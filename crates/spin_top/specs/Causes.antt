@@ -1,63 +1,54 @@
 -- Why a call gives no report (this project's own).
-use Rattle.std.specs.Prelude.{◌≡◌, ◌⊎◌, ℕ, List, String, Option, Some, All, slice_get}
-use Rattle.std.specs.declared.alloc.Global.{Global}
-use Rattle.spin_base.specs.declared.chips.Chip.{Chip}
-use Rattle.spin_base.specs.declared.blocks.Block.{Block}
-use Rattle.spin_base.specs.Outside.{FaultsRose}
+use Rattle.std.specs.Prelude.{◌≡◌, ◌⊎◌, ℕ, List, Some, None, Ok, Err, All, slice_get}
 use Rattle.app_graph.specs.declared.graphs.Vertex.{Vertex}
 use Rattle.app_graph.specs.declared.graphs.Net.{Net}
 use Rattle.app_graph.specs.declared.graphs.Graph.{Graph}
-use Rattle.place_fit.specs.Placement.{HasNoRoom}
-use Rattle.key_alloc.specs.KeyBlocks.{AreKeysOut, AreRightBlocks}
 use Rattle.job_readers.specs.declared.jobs.Job.{Job}
 use Rattle.par_compile.specs.declared.compiling.Plan.{Plan}
-use Rattle.par_compile.specs.Compiled.{HasCutOff, HasPlacement, IsPlanOf}
-use Rattle.spin_top.specs.declared.commands.Command.{Command}
-use Rattle.spin_top.specs.declared.outcomes.Refusal.{Refusal}
-use Rattle.spin_top.specs.declared.outcomes.Refusal.TheVariants as refusals
-use Rattle.spin_top.specs.Commands.{Spells, texts_of, IsCommand, IsBuilt}
-use Rattle.spin_top.specs.Jobs.{Tells, TellsRefusal, IsOfText}
-use Rattle.spin_top.specs.Opened.{Fits}
+use Rattle.par_compile.specs.declared.compiling.CompileErr.{CompileErr}
+use Rattle.par_compile.specs.declared.compiling.CompileErr.TheVariants.{NoRoom, KeysOut, CutOff, Memory}
+use Rattle.par_compile.specs.Compiled.{IsCause, IsPlanOf}
+use Rattle.command_words.specs.declared.commands.Command.{Command}
+use Rattle.command_words.specs.Commands.{spelled, IsBuilt}
+use Rattle.refusals.specs.declared.causes.Refusal.{Refusal}
+use Rattle.refusals.specs.declared.causes.Refusal.TheVariants as refusals
+use Rattle.job_bytes.specs.Inputs.{Reading, IsUntouched, IsReadInPart, IsReadAs, HasNoInput}
+use Rattle.job_bytes.specs.Jobs.{job_in}
+use Rattle.spin_top.specs.Planned.{Fits, tables_in}
 
--- all nets have keys
-abbrev pub HasBlocks : Graph → Type 0
-HasBlocks graph = (blocks : List Block) × AreRightBlocks graph.nets blocks
+-- the refusal names the vertex or net that the compiler's error numbers
+abbrev pub Names : Graph → CompileErr → Refusal → Type 0
+Names graph (NoRoom i) r = (vertex : Vertex) × (slice_get graph.vertices i ≡ Some vertex) × (r ≡ refusals.NoRoom vertex.name)
+Names graph (KeysOut i) r = (net : Net) × (slice_get graph.nets i ≡ Some net) × (r ≡ refusals.KeysOut net.name)
+Names graph (CutOff i target) r = (net : Net) × (slice_get graph.nets i ≡ Some net) × (r ≡ refusals.CutOff net.name target)
+Names graph Memory r = ⊥
 
--- A job has no plan where a vertex has no room, which is named, or where all have, and a net has no keys.
-pub data HasNoPlan (job : Job) (r : Refusal) : Type 0 where
-  no_room : (i : ℕ) (vertex : Vertex) → HasNoRoom job.machine job.graph.vertices i → slice_get job.graph.vertices i ≡ Some vertex →
-      r ≡ refusals.NoRoom vertex.name → HasNoPlan job r
-  keys_out : (i : ℕ) (net : Net) → HasPlacement job.machine job.graph → AreKeysOut job.graph.nets i → slice_get job.graph.nets i ≡ Some net →
-      r ≡ refusals.KeysOut net.name → HasNoPlan job r
+-- Why a job has no plan: a vertex has no room; or all have, and a net has no keys; or all have keys, and a target of a net is
+-- cut off. The refusal names the first.
+pub record HasNoPlan (job : Job) (r : Refusal) : Type 0 where
+  pub error : CompileErr
+  pub cause : IsCause job.machine job.graph error
+  pub names : Names job.graph error r
 
--- A job whose vertices have places and whose nets have keys has no plan that is built where a target of a net is cut off, or
--- where a chip's plain table does not fit into its router.
-pub data HasNoBuiltPlan (job : Job) (r : Refusal) : Type 0 where
-  cut_off : (i : ℕ) (net : Net) (target : Chip) → HasCutOff job.machine job.graph i target → slice_get job.graph.nets i ≡ Some net →
-      r ≡ refusals.CutOff net.name target → HasNoBuiltPlan job r
-  long_table : (plan : Plan) → IsPlanOf job.machine job.graph plan → (All Fits plan.tables → ⊥) → r ≡ refusals.Unbuilt → HasNoBuiltPlan job r
+-- a table of a job's plan does not fit into its router
+abbrev pub HasLongTable : Job → Type 0
+HasLongTable job = (plan : Plan) × IsPlanOf job.machine job.graph plan × (All Fits (tables_in plan) → ⊥)
 
--- A command that is built is refused for the job's text, or for a job without a plan.
-pub data IsRefused (c : Command) (left : Option (List ℕ)) (r : Refusal) : Type 0 where
-  unread : IsOfText r → TellsRefusal left r → IsRefused c left r
-  no_plan : (job : Job) → Tells left job → IsBuilt c → HasNoPlan job r → IsRefused c left r
+-- the words are a command that is built, and so reads a job
+abbrev pub AskForJob : List (List ℕ) → Type 0
+AskForJob words = (c : Command) × (spelled words ≡ Some c) × IsBuilt c
 
--- the command is built, and the job has no plan that is built
-abbrev pub IsRefusedLate : Command → Option (List ℕ) → Refusal → Type 0
-IsRefusedLate c left r = (job : Job) × Tells left job × IsBuilt c × HasNoBuiltPlan job r
+-- Why a call gives no report, with what was read of the source. The words are no command, or one that is not built, and nothing
+-- was read. Or they are one, and there is no job, for which reading has its causes. Or all bytes that the source had left are a
+-- job, and it has no plan, or one with a table that is too long. Or memory ran out, which may come at any time.
+pub data HasCause (words : List (List ℕ)) (reading : Reading) (r : Refusal) : Type 0 where
+  usage : spelled words ≡ None → IsUntouched reading → r ≡ refusals.Usage → HasCause words reading r
+  unbuilt : (c : Command) → spelled words ≡ Some c → (IsBuilt c → ⊥) → IsUntouched reading → r ≡ refusals.Unbuilt → HasCause words reading r
+  no_job : AskForJob words → HasNoInput job_in reading r → HasCause words reading r
+  no_plan : AskForJob words → (job : Job) → IsReadAs job_in reading job → HasNoPlan job r → HasCause words reading r
+  long_table : AskForJob words → (job : Job) → IsReadAs job_in reading job → HasLongTable job → r ≡ refusals.Unbuilt → HasCause words reading r
+  no_memory : IsReadInPart reading → r ≡ refusals.Memory → HasCause words reading r
 
--- The counter of reading faults shows one, or memory ran out, which may come at any time.
-abbrev pub IsFailure : ℕ → ℕ → Refusal → Type 0
-IsFailure before after r = ((r ≡ refusals.ReadFault) × FaultsRose before after) ⊎ (r ≡ refusals.Memory)
-
--- why a command that is built gives no report, but for a fault of writing
-abbrev pub HasCauseFor : Command → Option (List ℕ) → ℕ → ℕ → Refusal → Type 0
-HasCauseFor c left before after r = IsRefused c left r ⊎ (IsRefusedLate c left r ⊎ IsFailure before after r)
-
--- Why a call gives no report, but for a fault of writing: the words spell no command, or one that is not built, or one
--- that has a cause; or memory ran out.
-pub data HasCause (words : List (String Global)) (left : Option (List ℕ)) (before after : ℕ) (r : Refusal) : Type 0 where
-  no_command : (IsCommand words → ⊥) → r ≡ refusals.Usage → HasCause words left before after r
-  not_built : (c : Command) → Spells (texts_of words) c → (IsBuilt c → ⊥) → r ≡ refusals.Unbuilt → HasCause words left before after r
-  of_command : (c : Command) → Spells (texts_of words) c → IsBuilt c → HasCauseFor c left before after r → HasCause words left before after r
-  no_memory : r ≡ refusals.Memory → HasCause words left before after r
+-- why bytes have no plan: they are no job, or one without a plan
+abbrev pub AreRefused : List ℕ → Refusal → Type 0
+AreRefused bytes r = (job_in bytes ≡ Err r) ⊎ ((job : Job) × (job_in bytes ≡ Ok job) × HasNoPlan job r)

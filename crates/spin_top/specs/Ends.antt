@@ -1,45 +1,55 @@
 -- How a call ends (this project's own).
-use Rattle.std.specs.Prelude.{◌≡◌, ◌⊎◌, ℕ, List, String, Option, Some, None}
-use Rattle.std.specs.declared.alloc.Global.{Global}
-use Rattle.spin_base.specs.Outside.{FaultsRose, Takes, TakesProperPrefix}
+use Rattle.std.specs.Prelude.{◌≡◌, ◌⊎◌, ℕ, List, Option, Some, None, Ok, All}
+use Rattle.spin_base.specs.declared.chips.Chip.{Chip}
+use Rattle.spin_base.specs.declared.blocks.Block.{Block}
+use Rattle.app_graph.specs.declared.graphs.Graph.{Graph}
+use Rattle.key_alloc.specs.KeyBlocks.{AreRightBlocks}
 use Rattle.job_readers.specs.declared.jobs.Job.{Job}
 use Rattle.par_compile.specs.declared.compiling.Plan.{Plan}
-use Rattle.spin_top.specs.declared.commands.Command.{Command}
+use Rattle.par_compile.specs.Compiled.{HasCutOff, HasPlacement, IsPlanOf}
+use Rattle.command_words.specs.declared.commands.Command.{Command}
+use Rattle.command_words.specs.Commands.{spelled, IsBuilt}
+use Rattle.refusals.specs.declared.causes.Refusal.{Refusal}
+use Rattle.refusals.specs.declared.causes.Refusal.TheVariants.{WriteFault, ReadFault, Memory, Usage, Unbuilt}
+use Rattle.refusals.specs.Refusals.{line_of}
+use Rattle.job_bytes.specs.Inputs.{Reading}
+use Rattle.job_bytes.specs.Jobs.{job_in}
 use Rattle.spin_top.specs.declared.outcomes.Outcome.{Outcome}
-use Rattle.spin_top.specs.declared.outcomes.Refusal.{Refusal}
-use Rattle.spin_top.specs.declared.outcomes.Refusal.TheVariants as refusals
-use Rattle.spin_top.specs.Causes.{HasCause}
-use Rattle.spin_top.specs.Commands.{Spells, texts_of}
-use Rattle.spin_top.specs.Outcomes.{line_of}
-use Rattle.spin_top.specs.Runs.{IsMade}
+use Rattle.spin_top.specs.Causes.{HasCause, AreRefused, AskForJob}
+use Rattle.spin_top.specs.Made.{no_parts, IsMade}
+use Rattle.spin_top.specs.Planned.{Fits, tables_in}
+use Rattle.spin_top.specs.Writing.{Writing, IsWritten}
 
--- job, plan, mesh and report are absent
-abbrev pub GivesNoPart : Outcome → Type 0
-GivesNoPart o = (o.job ≡ None) × (o.plan ≡ None) × (o.mesh ≡ None) × (o.report ≡ None)
+-- How a call ends. All that the words ask for was made, and its text written. Or there is a refusal with its cause, none of the
+-- parts is given, and the refusal's line was written.
+pub data Ends (words : List (List ℕ)) (reading : Reading) (writing : Writing) (o : Outcome) : Type 0 where
+  made : (text : List ℕ) → IsMade words reading o.parts text → IsWritten writing text None o.refusal → Ends words reading writing o
+  refused : (r : Refusal) → HasCause words reading r → o.parts ≡ no_parts → IsWritten writing (line_of r) (Some r) o.refusal → Ends words reading writing o
 
--- The line of a refusal was written, and the outcome has that refusal; or a proper prefix of it, at a fault of the sink.
-abbrev pub IsLineWritten : Refusal → Option (List ℕ) → Option (List ℕ) → ℕ → ℕ → Option Refusal → Type 0
-IsLineWritten r written more writes writes' said =
-    ((said ≡ Some r) × Takes written (line_of r) more)
-    ⊎ ((said ≡ Some refusals.WriteFault) × TakesProperPrefix written (line_of r) more × FaultsRose writes writes')
+-- the call says this, or a fault or want of memory stands in its place
+abbrev pub Says : Option Refusal → Refusal → Type 0
+Says said r = (said ≡ Some r) ⊎ ((said ≡ Some WriteFault) ⊎ ((said ≡ Some ReadFault) ⊎ (said ≡ Some Memory)))
 
--- The outcome has what the command that the words spell made of the job that the source had left, and this is its text.
-pub record Makes (words : List (String Global)) (left rest : Option (List ℕ)) (o : Outcome) (text : List ℕ) : Type 0 where
-  pub command : Command
-  pub spelled : Spells (texts_of words) command
+-- Each cause has its answer. Words that are no command, or one that is not built, are answered so. Where they are one, and the
+-- source tells its bytes, each refusal that these have is the answer.
+pub record IsExact (words : List (List ℕ)) (left : Option (List ℕ)) (said : Option Refusal) : Type 0 where
+  pub no_command : spelled words ≡ None → Says said Usage
+  pub not_built : (c : Command) → spelled words ≡ Some c → (IsBuilt c → ⊥) → Says said Unbuilt
+  pub of_bytes : AskForJob words → (bytes : List ℕ) → left ≡ Some bytes → (r : Refusal) → AreRefused bytes r → Says said r
+
+-- all nets have keys
+abbrev pub HasBlocks : Graph → Type 0
+HasBlocks graph = (blocks : List Block) × AreRightBlocks graph.nets blocks
+
+-- The words are a command that is built, the source tells the bytes of a job, its vertices have places, its nets have keys, no
+-- target is cut off, and the tables of its plan fit.
+pub record HasAnswer (words : List (List ℕ)) (left : Option (List ℕ)) : Type 0 where
+  pub command : AskForJob words
+  pub bytes : List ℕ
+  pub told : left ≡ Some bytes
   pub job : Job
-  pub plan : Plan
-  pub made : IsMade command left rest job plan o.mesh o.report text
-  pub job_is : o.job ≡ Some job
-  pub plan_is : o.plan ≡ Some plan
-
--- How a call ends. Either all that the words ask for was made, and the whole text was written or, at a fault of the sink, a
--- proper prefix of it. Or there is a refusal with its cause, and its line was written or, at a fault of the sink, a proper
--- prefix of it.
-pub data Ends (words : List (String Global)) (left rest : Option (List ℕ)) (reads reads' : ℕ) (written more : Option (List ℕ)) (writes writes' : ℕ) (o : Outcome) : Type 0 where
-  done : (text : List ℕ) → Makes words left rest o text → o.refusal ≡ None → Takes written text more → Ends words left rest reads reads' written more writes writes' o
-  cut : (text : List ℕ) → Makes words left rest o text → o.refusal ≡ Some refusals.WriteFault → TakesProperPrefix written text more → FaultsRose writes writes' →
-      Ends words left rest reads reads' written more writes writes' o
-  refused : (r : Refusal) → HasCause words left reads reads' r → o.refusal ≡ Some r → GivesNoPart o → Takes written (line_of r) more → Ends words left rest reads reads' written more writes writes' o
-  refusal_cut : (r : Refusal) → HasCause words left reads reads' r → o.refusal ≡ Some refusals.WriteFault → GivesNoPart o → TakesProperPrefix written (line_of r) more → FaultsRose writes writes' →
-      Ends words left rest reads reads' written more writes writes' o
+  pub read : job_in bytes ≡ Ok job
+  pub placed : HasPlacement job.machine job.graph
+  pub keyed : HasBlocks job.graph
+  pub joined : (i : ℕ) (target : Chip) → HasCutOff job.machine job.graph i target → ⊥
+  pub fit : (plan : Plan) → IsPlanOf job.machine job.graph plan → All Fits (tables_in plan)

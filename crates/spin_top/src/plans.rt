@@ -2,14 +2,13 @@
 ghost use Rattle.std.specs.Prelude.{◌≡◌, ◌⊎◌, All, IfOk, IfErr, true};
 ghost use Rattle.app_graph.specs.ValidGraph.{IsValidGraph};
 ghost use Rattle.par_compile.specs.Compiled.{IsCause};
-ghost use Rattle.spin_top.specs.Opened.{Fits};
-ghost use Rattle.spin_top.specs.Causes.{HasNoBuiltPlan, HasNoPlan};
-ghost use Rattle.spin_top.specs.Runs.{IsPlanned};
-ghost use Rattle.spin_top.specs.declared.outcomes.Refusal.TheVariants.{Memory as NoMemory};
+ghost use Rattle.refusals.specs.declared.causes.Refusal.TheVariants.{Memory as NoMemory, Unbuilt as NotBuilt};
+ghost use Rattle.spin_top.specs.Causes.{HasLongTable, HasNoPlan, Names};
+ghost use Rattle.spin_top.specs.Planned.{Fits, IsPlanned};
 
-use crate::outcomes::Refusal;
 use job_readers::Job;
 use par_compile::{CompileErr, Plan, compile};
+use refusals::Refusal;
 use spin_base::{Memory, Name};
 use std::alloc::Global;
 use tern_word::Table;
@@ -18,7 +17,7 @@ use tern_word::Table;
 pub(crate) fn plan_of(alloc: Global, job: &Job) -> Result<Plan, Refusal>
     requires { IsValidGraph job.now.graph }
     ensures plan { IfOk result (IsPlanned job.now) }
-    ensures err { IfErr result (λ r. HasNoPlan job.now r ⊎ (HasNoBuiltPlan job.now r ⊎ (r ≡ NoMemory))) }
+    ensures err { IfErr result (λ r. HasNoPlan job.now r ⊎ ((HasLongTable job.now × (r ≡ NotBuilt)) ⊎ (r ≡ NoMemory))) }
 {
     match compile(alloc, &job.machine, &job.graph) {
         Ok(plan) => {
@@ -42,10 +41,10 @@ fn fit(tables: &[Table]) -> bool
     tables.iter().all(|table| table.rows.len() <= 1024)
 }
 
-// The refusal that names the vertex or net.
+// The refusal that names the vertex or net which the compiler's error numbers.
 fn refusal_for(alloc: Global, job: &Job, error: CompileErr) -> Result<Refusal, Memory>
     requires { IsCause job.now.machine job.now.graph error }
-    ensures { IfOk result (λ r. HasNoPlan job.now r ⊎ (HasNoBuiltPlan job.now r ⊎ (r ≡ NoMemory))) }
+    ensures { IfOk result (λ r. Names job.now.graph error r ⊎ (r ≡ NoMemory)) }
 {
     let graph = &job.graph;
     match error {

@@ -1,43 +1,118 @@
-// The packets of a job, run on its plan.
-ghost use Rattle.std.specs.Prelude.{◌≡◌, All, IfOk, map};
+// The mesh of a job: opened, after all its packets, or after all its events.
+ghost use Rattle.std.specs.Prelude.{◌≡◌, All, IfOk, OnOk, map};
 ghost use Rattle.app_graph.specs.RunPart.{IsRunOf};
+ghost use Rattle.mesh_core.specs.State.{IsMesh};
+ghost use Rattle.mesh_core.specs.Step.{after_events, answers_of};
 ghost use Rattle.mesh_core.specs.Opened.{MeetsJobLedger};
-ghost use Rattle.spin_top.specs.Opened.{Fits, memory_of, setup_of};
-ghost use Rattle.spin_top.specs.Runs.{HasRunOut, IsPlanned};
+ghost use Rattle.mesh_core.specs.Expected.{AreAsExpected};
+ghost use Rattle.mesh_core.specs.HasRun.{HasRun};
+ghost use Rattle.spin_top.specs.Planned.{Fits, memory_of, opened_of, setup_of, tables_in, IsPlanned};
 
 use job_readers::Job;
-use mesh_core::Mesh;
-use packet_runs::run_packets;
+use machine_desc::Machine;
+use mesh_core::{Did, Mesh};
+use packet_runs::{open_mesh, run_packets};
 use par_compile::Plan;
-use spin_base::{Memory, Seq};
+use spin_base::{Event, Memory, Seq, Spot};
 use std::alloc::Global;
 use table_load::memory_of;
 use tcam_find::Tcam;
 use tern_word::Table;
 
+// What a mesh is opened with: the job's machine, the plan's spots, and its tables, loaded.
+#[derive(Drop)]
+struct Pieces {
+    machine: Machine,
+    spots: Seq<Spot>,
+    memories: Seq<Tcam>,
+}
+
 // The mesh of a job after all its packets.
 pub(crate) fn run_job(alloc: Global, job: &Job, plan: &Plan) -> Result<Mesh, Memory>
     requires run { IsRunOf job.now.graph job.now.run }
     requires planned { IsPlanned job.now plan.now }
+    ensures run { IfOk result (HasRun (opened_of job.now plan.now)) }
+    ensures mesh { IfOk result IsMesh }
     ensures ledger { IfOk result (λ mesh. MeetsJobLedger mesh plan.now.nets job.now.run.packets) }
-    ensures run { IfOk result (HasRunOut job.now plan.now) }
+    ensures delivered { IfOk result (λ mesh. AreAsExpected mesh plan.now.nets job.now.run.packets) }
     ensures setup { IfOk result (λ mesh. mesh.setup ≡ setup_of job.now plan.now) }
 {
-    let machine = job.machine.copy(alloc)?;
-    let copied = Vec::from_slice(alloc, plan.placement.spots.as_slice())?;
-    let spots = Seq::from_vec(copied);
-    let memories = memories_of(alloc, plan.tables.as_slice())?;
+    let pieces = pieces_of(alloc, job, plan)?;
     let nets = plan.nets.as_slice();
     let packets = job.run.packets.as_slice();
     run_packets(
         alloc,
-        machine,
-        spots,
-        memories,
+        pieces.machine,
+        pieces.spots,
+        pieces.memories,
         job.run.queue,
         nets,
         packets,
     )
+}
+
+// The mesh of a job after all its events, one by one, and the answers to them.
+pub(crate) fn trace_job(alloc: Global, job: &Job, plan: &Plan) -> Result<(Mesh, Seq<Did>), Memory>
+    requires run { IsRunOf job.now.graph job.now.run }
+    requires planned { IsPlanned job.now plan.now }
+    ensures mesh { IfOk result (λ traced. traced.0 ≡ after_events (opened_of job.now plan.now) job.now.run.events) }
+    ensures did { IfOk result (λ traced. traced.1 ≡ answers_of (opened_of job.now plan.now) job.now.run.events) }
+    ensures setup { IfOk result (λ traced. traced.0.setup ≡ setup_of job.now plan.now) }
+    ensures opened { IfOk result (λ _. IsMesh (opened_of job.now plan.now)) }
+{
+    let mut mesh = open_job(alloc, job, plan)?;
+    let did = take_events(alloc, &mut mesh, job.run.events.as_slice())?;
+    Ok((mesh, did))
+}
+
+// The mesh of a job before its first event.
+fn open_job(alloc: Global, job: &Job, plan: &Plan) -> Result<Mesh, Memory>
+    requires run { IsRunOf job.now.graph job.now.run }
+    requires planned { IsPlanned job.now plan.now }
+    ensures opened { IfOk result (λ mesh. mesh ≡ opened_of job.now plan.now) }
+    ensures mesh { IfOk result IsMesh }
+{
+    let pieces = pieces_of(alloc, job, plan)?;
+    let nets = plan.nets.as_slice();
+    let packets = job.run.packets.as_slice();
+    open_mesh(
+        alloc,
+        pieces.machine,
+        pieces.spots,
+        pieces.memories,
+        job.run.queue,
+        nets,
+        packets,
+    )
+}
+
+// Takes events one by one, and gives the answers to them in their order.
+fn take_events(alloc: Global, mesh: &mut Mesh, events: &[Event]) -> Result<Seq<Did>, Memory>
+    ensures mesh { OnOk result (mesh.new ≡ after_events mesh.old events.now) }
+    ensures did { IfOk result (λ did. did ≡ answers_of mesh.old events.now) }
+    ensures setup { OnOk result (mesh.new.setup ≡ mesh.old.setup) }
+{
+    let mut did = Seq::new(alloc);
+    for event in events {
+        did.push(mesh.step(*event)?)?;
+    }
+    Ok(did)
+}
+
+// What the mesh of a job is opened with.
+fn pieces_of(alloc: Global, job: &Job, plan: &Plan) -> Result<Pieces, Memory>
+    requires { IsPlanned job.now plan.now }
+    ensures machine { IfOk result (λ pieces. pieces.machine ≡ job.now.machine) }
+    ensures spots { IfOk result (λ pieces. pieces.spots ≡ plan.now.placement.spots) }
+    ensures memories { IfOk result (λ pieces. pieces.memories ≡ map memory_of (tables_in plan.now)) }
+{
+    let machine = job.machine.copy(alloc)?;
+    let copied = Vec::from_slice(alloc, plan.placement.spots.as_slice())?;
+    Ok(Pieces {
+        machine,
+        spots: Seq::from_vec(copied),
+        memories: memories_of(alloc, plan.tables.as_slice())?,
+    })
 }
 
 // The lookup memories that are loaded with these tables.

@@ -1,5 +1,5 @@
 use Rattle.std.proofs.Common.{◌≡◌, map, take}
-use Rattle.spin_top.specs.Opened.{memory_of}
+use Rattle.spin_top.specs.Planned.{memory_of}
 use Rattle.spin_top.proofs.runs.memories_of.Given as goal
 
 -- the memories of the tables so far

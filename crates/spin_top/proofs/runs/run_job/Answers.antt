@@ -1,7 +1,7 @@
-use Rattle.std.proofs.Common.{◌≡◌, map, sym, ap, subst, ◌∙◌}
+use Rattle.std.proofs.Common.{map, sym, subst}
 use Rattle.net_tables.specs.RightTables.{AreRight}
 use Rattle.mesh_core.specs.Opened.{AreOfNets}
-use Rattle.spin_top.specs.Opened.{memory_of}
+use Rattle.spin_top.specs.Planned.{memory_of, tables_in}
 use Rattle.spin_top.proofs.Opening.{are_of_nets}
 use Rattle.spin_top.proofs.runs.run_job.Goals as goal
 
@@ -16,7 +16,6 @@ pub run_packets-requires-clause-right : goal.run_packets-requires-clause-right
 run_packets-requires-clause-right c =
     let job = c.args.job.now in
     let plan = c.args.plan.now in
-    let memories : c.in_ok-memories.memories ≡ map memory_of plan.tables = c.in_ok-memories.ensures ∙ ap (map memory_of) c.as_slice-2.ensures in
-    subst (λ m. AreRight m c.in_ok-memories.memories c.as_slice-nets.result.now) (sym c.in_ok-machine.ensures)
-    (subst (λ ts. AreRight job.machine ts c.as_slice-nets.result.now) (sym memories)
-    (subst (AreRight job.machine (map memory_of plan.tables)) (sym c.as_slice-nets.ensures) c.requires.planned.right))
+    subst (λ m. AreRight m c.in_ok-pieces.pieces.memories c.as_slice-nets.result.now) (sym c.in_ok-pieces.ensures.machine)
+    (subst (λ ts. AreRight job.machine ts c.as_slice-nets.result.now) (sym c.in_ok-pieces.ensures.memories)
+    (subst (AreRight job.machine (map memory_of (tables_in plan))) (sym c.as_slice-nets.ensures) c.requires.planned.right))

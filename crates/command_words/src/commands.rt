@@ -1,0 +1,81 @@
+// Words, and the command that they are.
+ghost use Rattle.std.specs.Prelude.{◌≡◌};
+ghost use Rattle.command_words.specs.Commands.{plain_command, numbered_command, spelled, texts_of};
+
+use crate::numbers::number_of;
+
+/// What the words ask for.
+#[derive(Clone, Copy, Debug, PartialEq, Eq)]
+pub enum Command {
+    /// Compiles the job, runs it, and reports.
+    Run,
+    /// Compiles the job, takes its events one by one, and reports.
+    Trace,
+    /// Compiles the job to an image of its tables.
+    Compile,
+    /// Compiles the job and reports its tables.
+    Tables,
+    /// Runs a generated job.
+    Gen(u64),
+}
+
+impl Command {
+    ghost use Rattle.std.specs.Prelude.{true};
+    ghost use Rattle.command_words.specs.Commands.{IsBuilt};
+
+    /// Whether the command is built today.
+    pub fn is_built(self) -> bool
+        ensures yes { result ≡ true → IsBuilt self }
+        ensures no { IsBuilt self → result ≡ true }
+    {
+        match self {
+            Command::Run => true,
+            Command::Trace => true,
+            Command::Compile => false,
+            Command::Tables => true,
+            Command::Gen(_) => false,
+        }
+    }
+}
+
+/// The command that the words are, the program's name left out: `run`, `trace`, `compile`, `tables`, or `gen N` with a number
+/// that is `0`, or digits without a leading 0, below 2^64. `None` where they are none of these.
+pub fn command_of(words: &[String]) -> Option<Command>
+    ensures { result ≡ spelled (texts_of words.now) }
+{
+    match words {
+        [word] => plain_command(word.as_str()),
+        [word, number] => numbered_command(word.as_str(), number.as_str()),
+        _ => None,
+    }
+}
+
+fn plain_command(word: &str) -> Option<Command>
+    ensures { result ≡ plain_command word.now }
+{
+    if word == "run" {
+        return Some(Command::Run);
+    }
+    if word == "trace" {
+        return Some(Command::Trace);
+    }
+    if word == "compile" {
+        return Some(Command::Compile);
+    }
+    if word == "tables" {
+        return Some(Command::Tables);
+    }
+    None
+}
+
+fn numbered_command(word: &str, number: &str) -> Option<Command>
+    ensures { result ≡ numbered_command word.now number.now }
+{
+    if word != "gen" {
+        return None;
+    }
+    match number_of(number) {
+        Some(number) => Some(Command::Gen(number)),
+        None => None,
+    }
+}

@@ -1,0 +1,9 @@
+//! The words of the command line: which command they are, or none.
+//!
+//! The words are this project's own.
+#![tactic(auto)]
+
+mod commands;
+mod numbers;
+
+pub use commands::{Command, command_of};

@@ -1,0 +1,5 @@
+pub use Rattle.spin_base.specs.Outside
+pub use Rattle.app_graph.specs.RunPart
+pub use Rattle.app_graph.specs.ValidGraph
+pub mod Inputs
+pub mod Jobs

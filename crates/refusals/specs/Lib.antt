@@ -1,0 +1,2 @@
+pub use Rattle.run_report.specs.ReportText
+pub mod Refusals

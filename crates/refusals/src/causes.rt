@@ -1,0 +1,55 @@
+// The refusals, and their statuses.
+ghost use Rattle.std.specs.Prelude.{◌≡◌};
+
+use job_text::JobFault;
+use spin_base::{Chip, Name};
+
+/// Why there is no report.
+#[derive(Debug, Drop)]
+pub enum Refusal {
+    /// The words spell no command. Status 1.
+    Usage,
+    /// Reading failed. Status 2.
+    ReadFault,
+    /// Writing failed. Status 3.
+    WriteFault,
+    /// The source gave more than 16,777,216 bytes. Status 4.
+    TooLong,
+    /// The bytes are no JSON. Status 4.
+    NotJson,
+    /// The first fault of the job. Status 4.
+    Job(JobFault),
+    /// The name of the first vertex without room. Status 5.
+    NoRoom(Name),
+    /// The name of the first net without keys. Status 6.
+    KeysOut(Name),
+    /// The name of the first net with a target that is cut off, and the chip of its first such target. Status 7.
+    CutOff(Name, Chip),
+    /// There was not enough memory. Status 9.
+    Memory,
+    /// The command or the job needs a part that is not built yet. Status 10.
+    Unbuilt,
+}
+
+impl Refusal {
+    ghost use Rattle.refusals.specs.Refusals.{status_of};
+
+    /// The status that a call with this refusal ends with.
+    pub fn status(&self) -> u8
+        ensures { result ≡ status_of self.now }
+    {
+        match self {
+            Refusal::Usage => 1,
+            Refusal::ReadFault => 2,
+            Refusal::WriteFault => 3,
+            Refusal::TooLong => 4,
+            Refusal::NotJson => 4,
+            Refusal::Job(_) => 4,
+            Refusal::NoRoom(_) => 5,
+            Refusal::KeysOut(_) => 6,
+            Refusal::CutOff(_, _) => 7,
+            Refusal::Memory => 9,
+            Refusal::Unbuilt => 10,
+        }
+    }
+}

@@ -1,0 +1,10 @@
+//! Why a call of the program gives no report: each refusal with its status and its line.
+//!
+//! Statuses and lines are this project's own.
+#![tactic(auto)]
+
+mod causes;
+mod lines;
+
+pub use causes::Refusal;
+pub use lines::{OUT_OF_MEMORY, line_of};

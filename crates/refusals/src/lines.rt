@@ -1,0 +1,129 @@
+// The lines of refusals.
+ghost use Rattle.std.specs.Prelude.{◌≡◌, ◌∷◌, [], IfOk, codes, decimal};
+ghost use Rattle.run_report.specs.ReportText.{line};
+ghost use Rattle.refusals.specs.Refusals.{fault_line as line_of_fault, line_of as line_of_refusal};
+
+use crate::causes::Refusal;
+use job_text::JobFault;
+use spin_base::{Chip, Memory, Seq};
+use std::alloc::Global;
+
+/// The line where memory runs out.
+pub const OUT_OF_MEMORY: &str = "out of memory\n";
+
+/// The line that a refusal writes, ended by a line feed; nothing where writing failed.
+///
+/// # Errors
+///
+/// `Memory` where memory runs out.
+pub fn line_of(alloc: Global, refusal: &Refusal) -> Result<Seq<u8>, Memory>
+    ensures { IfOk result (λ line. line ≡ line_of_refusal refusal.now) }
+{
+    match refusal {
+        Refusal::Usage => fixed(alloc, "usage: run, trace, compile, tables or gen N\n"),
+        Refusal::ReadFault => fixed(alloc, "read fault\n"),
+        Refusal::WriteFault => Ok(Seq::new(alloc)),
+        Refusal::TooLong => fixed(alloc, "bad job: too long\n"),
+        Refusal::NotJson => fixed(alloc, "bad job: not json\n"),
+        Refusal::Job(fault) => fault_line(alloc, fault),
+        Refusal::NoRoom(vertex) => no_room_line(alloc, vertex.as_str()),
+        Refusal::KeysOut(net) => keys_out_line(alloc, net.as_str()),
+        Refusal::CutOff(net, target) => cut_off_line(alloc, net.as_str(), *target),
+        Refusal::Memory => fixed(alloc, OUT_OF_MEMORY),
+        Refusal::Unbuilt => fixed(alloc, "unbuilt\n"),
+    }
+}
+
+fn fixed(alloc: Global, text: &str) -> Result<Seq<u8>, Memory>
+    ensures { IfOk result (λ line. line ≡ text.now) }
+{
+    Ok(Seq::from_vec(Vec::from_slice(alloc, text.as_bytes())?))
+}
+
+// The kind of the fault, its path, and the count where there are too many.
+fn fault_line(alloc: Global, fault: &JobFault) -> Result<Seq<u8>, Memory>
+    ensures { IfOk result (λ line. line ≡ line_of_fault fault.now) }
+{
+    match fault {
+        JobFault::Shape(path) => shape_line(alloc, path.as_str()),
+        JobFault::Range(path) => range_line(alloc, path.as_str()),
+        JobFault::UnknownName(path) => unknown_name_line(alloc, path.as_str()),
+        JobFault::DoubleName(path) => double_name_line(alloc, path.as_str()),
+        JobFault::TooMany(path, count) => too_many_line(alloc, path.as_str(), *count),
+        JobFault::Clash(path) => clash_line(alloc, path.as_str()),
+    }
+}
+
+fn shape_line(alloc: Global, path: &str) -> Result<Seq<u8>, Memory>
+    ensures { IfOk result (λ text. text ≡ line (codes "bad" ∷ codes "job:" ∷ codes "shape" ∷ path.now ∷ [])) }
+{
+    let mut text = String::new(alloc);
+    writeln!(text, "bad job: shape {path}")?;
+    Ok(Seq::from_vec(text.into_bytes()))
+}
+
+fn range_line(alloc: Global, path: &str) -> Result<Seq<u8>, Memory>
+    ensures { IfOk result (λ text. text ≡ line (codes "bad" ∷ codes "job:" ∷ codes "range" ∷ path.now ∷ [])) }
+{
+    let mut text = String::new(alloc);
+    writeln!(text, "bad job: range {path}")?;
+    Ok(Seq::from_vec(text.into_bytes()))
+}
+
+fn unknown_name_line(alloc: Global, path: &str) -> Result<Seq<u8>, Memory>
+    ensures { IfOk result (λ text. text ≡ line (codes "bad" ∷ codes "job:" ∷ codes "unknown" ∷ codes "name" ∷ path.now ∷ [])) }
+{
+    let mut text = String::new(alloc);
+    writeln!(text, "bad job: unknown name {path}")?;
+    Ok(Seq::from_vec(text.into_bytes()))
+}
+
+fn double_name_line(alloc: Global, path: &str) -> Result<Seq<u8>, Memory>
+    ensures { IfOk result (λ text. text ≡ line (codes "bad" ∷ codes "job:" ∷ codes "double" ∷ codes "name" ∷ path.now ∷ [])) }
+{
+    let mut text = String::new(alloc);
+    writeln!(text, "bad job: double name {path}")?;
+    Ok(Seq::from_vec(text.into_bytes()))
+}
+
+fn too_many_line(alloc: Global, path: &str, count: u64) -> Result<Seq<u8>, Memory>
+    ensures { IfOk result (λ text. text ≡ line (codes "bad" ∷ codes "job:" ∷ codes "too" ∷ codes "many" ∷ path.now ∷ decimal count ∷ [])) }
+{
+    let mut text = String::new(alloc);
+    writeln!(text, "bad job: too many {path} {count}")?;
+    Ok(Seq::from_vec(text.into_bytes()))
+}
+
+fn clash_line(alloc: Global, path: &str) -> Result<Seq<u8>, Memory>
+    ensures { IfOk result (λ text. text ≡ line (codes "bad" ∷ codes "job:" ∷ codes "clash" ∷ path.now ∷ [])) }
+{
+    let mut text = String::new(alloc);
+    writeln!(text, "bad job: clash {path}")?;
+    Ok(Seq::from_vec(text.into_bytes()))
+}
+
+fn no_room_line(alloc: Global, vertex: &str) -> Result<Seq<u8>, Memory>
+    ensures { IfOk result (λ text. text ≡ line (codes "no" ∷ codes "room:" ∷ vertex.now ∷ [])) }
+{
+    let mut text = String::new(alloc);
+    writeln!(text, "no room: {vertex}")?;
+    Ok(Seq::from_vec(text.into_bytes()))
+}
+
+fn keys_out_line(alloc: Global, net: &str) -> Result<Seq<u8>, Memory>
+    ensures { IfOk result (λ text. text ≡ line (codes "keys" ∷ codes "out:" ∷ net.now ∷ [])) }
+{
+    let mut text = String::new(alloc);
+    writeln!(text, "keys out: {net}")?;
+    Ok(Seq::from_vec(text.into_bytes()))
+}
+
+fn cut_off_line(alloc: Global, net: &str, target: Chip) -> Result<Seq<u8>, Memory>
+    ensures { IfOk result (λ text. text ≡ line (codes "cut" ∷ codes "off:" ∷ net.now ∷ decimal target.x ∷ decimal target.y ∷ [])) }
+{
+    let mut text = String::new(alloc);
+    let x = target.x;
+    let y = target.y;
+    writeln!(text, "cut off: {net} {x} {y}")?;
+    Ok(Seq::from_vec(text.into_bytes()))
+}

@@ -1,0 +1,19 @@
+-- What a call writes (this project's own).
+use Rattle.std.specs.Prelude.{◌≡◌, ◌⊎◌, ℕ, List, Option, Some}
+use Rattle.spin_base.specs.Outside.{FaultsRose, Takes, TakesProperPrefix}
+use Rattle.refusals.specs.declared.causes.Refusal.{Refusal}
+use Rattle.refusals.specs.declared.causes.Refusal.TheVariants.{WriteFault}
+
+-- A sink before and after a call: what it had taken and has taken, where it tells that, and its counts of faults.
+pub record Writing : Type 0 where
+  pub written : Option (List ℕ)
+  pub written' : Option (List ℕ)
+  pub faults : ℕ
+  pub faults' : ℕ
+
+-- A text was written whole, and no byte besides; and the call says what it says then. Or, at a fault of the sink, a proper
+-- prefix of it was written, and the call says that.
+abbrev pub IsWritten : Writing → List ℕ → Option Refusal → Option Refusal → Type 0
+IsWritten w text then_said said =
+    ((said ≡ then_said) × Takes w.written text w.written')
+    ⊎ ((said ≡ Some WriteFault) × TakesProperPrefix w.written text w.written' × FaultsRose w.faults w.faults')

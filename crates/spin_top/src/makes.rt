@@ -1,0 +1,133 @@
+// What each word makes of a planned job.
+ghost use Rattle.std.specs.Prelude.{◌≡◌, IfOk};
+ghost use Rattle.app_graph.specs.RunPart.{IsRunOf};
+ghost use Rattle.app_graph.specs.ValidGraph.{IsValidGraph};
+ghost use Rattle.command_words.specs.Commands.{IsBuilt};
+ghost use Rattle.spin_top.specs.Made.{run_parts, HasRunOut, IsReported, IsTraced, Lists, Makes, Reports};
+ghost use Rattle.spin_top.specs.Planned.{setup_of, IsPlanned};
+
+use crate::outcomes::Parts;
+use crate::runs::{run_job, trace_job};
+use command_words::Command;
+use job_readers::Job;
+use mesh_core::{Did, Mesh};
+use par_compile::Plan;
+use run_report::{Report, plan_text, report_of, text_of};
+use spin_base::{Memory, Seq};
+use std::alloc::Global;
+
+// What was made, and the whole text that is to be written.
+pub(crate) struct Made {
+    pub parts: Parts,
+    pub text: Seq<u8>,
+}
+
+// What a command makes of a planned job.
+pub(crate) fn make(alloc: Global, command: Command, job: Job, plan: Plan) -> Result<Made, Memory>
+    requires built { IsBuilt command }
+    requires graph { IsValidGraph job.graph }
+    requires run { IsRunOf job.graph job.run }
+    requires planned { IsPlanned job plan }
+    ensures { IfOk result (λ made. Makes command job plan made.parts made.text) }
+{
+    match command {
+        Command::Run => run(alloc, job, plan),
+        Command::Trace => trace(alloc, job, plan),
+        _ => list(alloc, job, plan),
+    }
+}
+
+// The mesh after all packets of the job, its report, and the report's text.
+fn run(alloc: Global, job: Job, plan: Plan) -> Result<Made, Memory>
+    requires graph { IsValidGraph job.graph }
+    requires run { IsRunOf job.graph job.run }
+    requires planned { IsPlanned job plan }
+    ensures { IfOk result (λ made. Reports HasRunOut job plan made.parts made.text) }
+{
+    let mesh = run_job(alloc, &job, &plan)?;
+    let report = report(alloc, &job, &plan, &mesh, Seq::new(alloc))?;
+    let text = text_of(alloc, &report)?;
+    Ok(Made {
+        parts: parts_of(job, plan, mesh, report),
+        text,
+    })
+}
+
+// The mesh after all events of the job, its report, and the report's text.
+fn trace(alloc: Global, job: Job, plan: Plan) -> Result<Made, Memory>
+    requires graph { IsValidGraph job.graph }
+    requires run { IsRunOf job.graph job.run }
+    requires planned { IsPlanned job plan }
+    ensures { IfOk result (λ made. Reports IsTraced job plan made.parts made.text) }
+{
+    let (mesh, did) = trace_job(alloc, &job, &plan)?;
+    let report = report(alloc, &job, &plan, &mesh, did)?;
+    let text = text_of(alloc, &report)?;
+    Ok(Made {
+        parts: parts_of(job, plan, mesh, report),
+        text,
+    })
+}
+
+// The text of the plan.
+fn list(alloc: Global, job: Job, plan: Plan) -> Result<Made, Memory>
+    requires graph { IsValidGraph job.graph }
+    requires planned { IsPlanned job plan }
+    ensures { IfOk result (λ made. Lists job plan made.parts made.text) }
+{
+    let spots = &plan.placement.spots;
+    let text = plan_text(
+        alloc,
+        &job.machine,
+        &job.graph,
+        spots,
+        &plan.nets,
+        &plan.tables,
+    )?;
+    Ok(Made {
+        parts: Parts {
+            job: Some(job),
+            plan: Some(plan),
+            mesh: None,
+            report: None,
+        },
+        text,
+    })
+}
+
+// The report of a job's plan, of a mesh, and of the answers to the events that led there.
+fn report(
+    alloc: Global,
+    job: &Job,
+    plan: &Plan,
+    mesh: &Mesh,
+    did: Seq<Did>,
+) -> Result<Report, Memory>
+    requires graph { IsValidGraph job.now.graph }
+    requires planned { IsPlanned job.now plan.now }
+    requires setup { mesh.now.setup ≡ setup_of job.now plan.now }
+    ensures { IfOk result (IsReported job.now plan.now mesh.now did) }
+{
+    let spots = &plan.placement.spots;
+    report_of(
+        alloc,
+        &job.graph,
+        spots,
+        &plan.nets,
+        &plan.tables,
+        mesh,
+        did,
+    )
+}
+
+// All four parts.
+fn parts_of(job: Job, plan: Plan, mesh: Mesh, report: Report) -> Parts
+    ensures { result ≡ run_parts job plan mesh report }
+{
+    Parts {
+        job: Some(job),
+        plan: Some(plan),
+        mesh: Some(mesh),
+        report: Some(report),
+    }
+}
