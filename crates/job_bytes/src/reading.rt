@@ -59,12 +59,11 @@ fn job_of_bytes(alloc: Global, bytes: &[u8]) -> Result<Job, Refusal>
     ensures run { IfOk result (λ job. IsRunOf job.graph job.run) }
     ensures err { IfErr result (λ r. (job_in bytes.now ≡ Err r) ⊎ (r ≡ Memory)) }
 {
-    let value = match parse(alloc, bytes) {
-        Ok(value) => value,
-        Err(ParseErr::NotJson) => return Err(Refusal::NotJson),
-        Err(ParseErr::Memory) => return Err(Refusal::Memory),
-    };
-    job_of_value(alloc, &value)
+    match parse(alloc, bytes) {
+        Ok(value) => job_of_value(alloc, &value),
+        Err(ParseErr::NotJson) => Err(Refusal::NotJson),
+        Err(ParseErr::Memory) => Err(Refusal::Memory),
+    }
 }
 
 // The job that a JSON value is, or its first fault.
