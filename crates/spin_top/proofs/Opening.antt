@@ -33,7 +33,7 @@ with_block nets n b (Some net) here e = (net, here, let same : net.block ≡ b =
 with_block nets n b None here e = cc
 
 nothing : Net
-nothing = record { name = []; source = 0; targets = []; keys = 0 }
+nothing = record { name = []; source = 0; targets = []; keys = 0; fixed = None }
 
 -- each packet of a run part has a key of its net's plan
 pub are_of_nets : (m : Description) (graph : Graph) (run : RunPart) (plan : Plan) → IsRunOf graph run → IsPlanOf m graph plan → AreOfNets plan.nets run.packets
