@@ -31,7 +31,7 @@ impl Command {
         match self {
             Command::Run => true,
             Command::Trace => true,
-            Command::Compile => false,
+            Command::Compile => true,
             Command::Tables => true,
             Command::Gen(_) => false,
         }

@@ -43,7 +43,7 @@ same_plan : (p q : NetPlan) → p.block ≡ q.block → p.source ≡ q.source �
 same_plan p q block source targets root edges = λ i. record { block = block i; source = source i; targets = targets i; tree = record { root = root i; edges = edges i } }
 
 -- two lists as long as each other that have the same item at each place are the same
-same_places : {X : Type 0} (xs ys : List X) → length xs ≡ length ys → ((i : ℕ) (x y : X) → slice_get xs i ≡ Some x → slice_get ys i ≡ Some y → x ≡ y) → xs ≡ ys
+pub same_places : {X : Type 0} (xs ys : List X) → length xs ≡ length ys → ((i : ℕ) (x y : X) → slice_get xs i ≡ Some x → slice_get ys i ≡ Some y → x ≡ y) → xs ≡ ys
 same_places [] [] long each = refl
 same_places [] (y ∷ ys) long each = cc
 same_places (x ∷ xs) [] long each = cc

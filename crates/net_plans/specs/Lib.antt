@@ -7,3 +7,4 @@ pub mod Keys
 pub mod NetPlans
 pub mod Order
 pub mod Targets
+pub mod Ways

@@ -8,6 +8,7 @@ ghost use Rattle.link_detours.specs.LiveRoads.{AreRoadsOf};
 ghost use Rattle.net_plans.specs.Cause.{IsCause, IsCauseOne, IsRefusedBy};
 ghost use Rattle.net_plans.specs.CutOffTargets.{HasNoneCutOff, IsFirstCutOffIn, IsFirstCutOff};
 ghost use Rattle.net_plans.specs.NetPlans.{IsPlanned, ArePlanned};
+ghost use Rattle.net_plans.specs.Ways.{AreRouted, CanRoute, IsRoutedNet};
 
 use crate::targets::{target_chips, targets_of};
 use app_graph::{Graph, Net};
@@ -15,8 +16,10 @@ use link_detours::{RepairErr, Roads, repair};
 use machine_desc::Machine;
 use ner_trees::{Grown, ner};
 use net_tables::NetPlan;
+use rayon::prelude::*;
 use spin_base::{Block, Chip, Memory, Seq, Spot};
-use std::alloc::Global;
+use std::alloc::{AllocError, Global};
+use std::thread::Threads;
 
 /// A net on the machine: the tree that grew to its targets, whatever is dead, and its plan, whose tree has the detours.
 #[derive(Debug, Drop)]
@@ -30,6 +33,13 @@ pub struct Routed {
 pub struct RoutedNets {
     pub grown: Seq<Grown>,
     pub plans: Seq<NetPlan>,
+}
+
+// What came of routing a net: the net's place in the list of nets, and its tree and plan, or why it has none.
+#[derive(Debug, Drop)]
+pub struct RoutedNet {
+    pub net: u32,
+    pub way: Result<Routed, RepairErr>,
 }
 
 /// Why nets are not planned.
@@ -54,13 +64,15 @@ impl From<Memory> for NetErr {
 
 /// The plan of each net of a graph: its block, the core of its source, its targets, and the tree that grows from the
 /// source's chip to the target chips, with detours round what is dead; and that tree as it grew. `spots` has the core of
-/// each vertex, and `blocks` the keys of each net.
+/// each vertex, and `blocks` the keys of each net. Threads route the nets side by side. What came of each net is collected
+/// whole, in the order of the nets, before it is looked through: so the answer does not depend on which net was done first.
 ///
 /// # Errors
 ///
 /// `CutOff` exactly where a target of some net is not reached by a walk of live links: it names the first such net, and
 /// its first such target. `Memory` where memory runs out.
-pub fn net_plans(
+pub fn net_plans<R: Threads + Sync>(
+    rt: &R,
     alloc: Global,
     machine: &Machine,
     graph: &Graph,
@@ -79,25 +91,65 @@ pub fn net_plans(
         IsRefusedBy result (NetErr.CutOff i target) NetErr.Memory }
 {
     let roads = Roads::of(alloc, machine)?;
+    let Ok(routed) = routed_nets(rt, alloc, machine, &roads, graph, spots, blocks) else {
+        return Err(NetErr::Memory);
+    };
     let mut grown = Seq::new(alloc);
     let mut plans = Seq::new(alloc);
-    for i in 0..graph.nets.len() {
-        let block = *blocks.get(i);
-        let routed = match net_plan(alloc, machine, &roads, spots, graph.nets.get(i), block) {
+    for item in routed {
+        let RoutedNet { net, way } = item;
+        let Routed { grown: tree, plan } = match way {
             Ok(routed) => routed,
-            Err(RepairErr::CutOff { target }) => {
-                return Err(NetErr::CutOff {
-                    net: i as u32,
-                    target,
-                });
-            }
+            Err(RepairErr::CutOff { target }) => return Err(NetErr::CutOff { net, target }),
             Err(RepairErr::Memory) => return Err(NetErr::Memory),
         };
-        let Routed { grown: tree, plan } = routed;
         grown.push(tree)?;
         plans.push(plan)?;
     }
     Ok(RoutedNets { grown, plans })
+}
+
+// What came of routing each net, in the order of the nets.
+fn routed_nets<R: Threads + Sync>(
+    rt: &R,
+    alloc: Global,
+    machine: &Machine,
+    roads: &Roads,
+    graph: &Graph,
+    spots: &Seq<Spot>,
+    blocks: &Seq<Block>,
+) -> Result<Vec<RoutedNet>, AllocError>
+    requires { CanRoute machine.now roads.now graph.now spots.now blocks.now }
+    ensures { IfOk result (λ routed. AreRouted machine.now spots.now graph.now.nets blocks.now routed.items) }
+{
+    (0..graph.nets.len())
+        .into_par_iter()
+        .map(
+            |i: usize| -> RoutedNet
+                requires { CanRoute machine.now roads.now graph.now spots.now blocks.now × (i < length graph.now.nets) }
+                ensures { IsRoutedNet machine.entry.now spots.entry.now graph.entry.now.nets blocks.entry.now i result }
+            { routed_net(alloc, machine, roads, graph, spots, blocks, i) },
+        )
+        .collect(rt, alloc)
+}
+
+// What came of routing the net at this place.
+fn routed_net(
+    alloc: Global,
+    machine: &Machine,
+    roads: &Roads,
+    graph: &Graph,
+    spots: &Seq<Spot>,
+    blocks: &Seq<Block>,
+    i: usize,
+) -> RoutedNet
+    requires can { CanRoute machine.now roads.now graph.now spots.now blocks.now }
+    requires is_net { i < length graph.now.nets }
+    ensures { IsRoutedNet machine.now spots.now graph.now.nets blocks.now i result }
+{
+    let block = *blocks.get(i);
+    let way = net_plan(alloc, machine, roads, spots, graph.nets.get(i), block);
+    RoutedNet { net: i as u32, way }
 }
 
 /// The plan of one net, which has these keys, and the tree that grew for it. `roads` are the machine's live links. All

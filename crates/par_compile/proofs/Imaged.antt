@@ -159,6 +159,9 @@ module _ (m : Description) (some : 0 < m.height) where
 
 -- ---- the image
 
+pub same_image : (v w : Image) → v.width ≡ w.width → v.height ≡ w.height → v.wrap ≡ w.wrap → v.chips ≡ w.chips → v ≡ w
+same_image v w width height wrap chips = λ i. record { width = width i; height = height i; wrap = wrap i; chips = chips i }
+
 module _ (m : Description) (size : HasSize m) (finals : List Final) (many : length finals ≡ m.width * m.height) (v : Image)
     (width : v.width ≡ m.width) (height : v.height ≡ m.height) (tables : v.chips ≡ tables_from m 0 finals) where
   pub image_valid : All KeepsRows finals → All IsShort finals → IsValid v

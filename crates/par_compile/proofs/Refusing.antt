@@ -9,6 +9,8 @@ use Rattle.machine_desc.specs.RoutingTree.{IsRoutingTree}
 use Rattle.app_graph.specs.declared.graphs.Graph.{Graph}
 use Rattle.app_graph.specs.declared.graphs.Net.{Net}
 use Rattle.net_tables.specs.declared.nets.NetPlan.{NetPlan}
+use Rattle.ner_trees.specs.declared.growths.Grown.{Grown}
+use Rattle.place_fit.specs.declared.placing.Placement.{Placement}
 use Rattle.place_fit.proofs.Determined as places
 use Rattle.key_alloc.proofs.Determined as blocks
 use Rattle.list_laws.proofs.Places.{All-at, slice_get_there}
@@ -16,35 +18,36 @@ use Rattle.net_plans.specs.CutOffTargets.{HasNoneCutOff, IsFirstCutOff}
 use Rattle.net_plans.proofs.CutOffLaws.{none_cut_off, one_first_net}
 use Rattle.par_compile.specs.declared.compiling.Plan.{Plan}
 use Rattle.par_compile.specs.declared.compiling.CompileErr.{CompileErr}
-use Rattle.par_compile.specs.declared.compiling.CompileErr.TheVariants.{NoRoom, KeysOut, CutOff, Memory}
-use Rattle.par_compile.specs.Compiled.{blocks_of, HasCutOff, IsCause, IsPlanOf, IsRefusedWhere}
+use Rattle.par_compile.specs.declared.compiling.CompileErr.TheVariants.{NoRoom, KeysOut, CutOff, TableLong, Memory}
+use Rattle.par_compile.specs.Compiled.{blocks_of, HasCutOff, IsCause, IsPlanOf, IsRefusedWhere, IsRoutingOf}
+use Rattle.par_compile.proofs.Unique.{long_not_planned, one_long}
 
 module _ (m : Description) (graph : Graph) where
-  -- no target of a net of a plan is cut off
-  none_of_plan : (plan : Plan) → IsPlanOf m graph plan → (i : ℕ) (net : Net) → slice_get graph.nets i ≡ Some net → HasNoneCutOff m plan.placement.spots net
-  none_of_plan plan is i net at =
+  -- no target of a net is cut off where all are routed
+  none_routed : (p : Placement) (gs : List Grown) (ns : List NetPlan) → IsRoutingOf m graph p gs ns → (i : ℕ) (net : Net) → slice_get graph.nets i ≡ Some net → HasNoneCutOff m p.spots net
+  none_routed p gs ns is i net at =
       let within = slice_get_within graph.nets i net at in
       let plans_long = is.nets.one_plan_each in
       let trees_long = is.nets.one_tree_each in
       let blocks_long = is.blocks.all in
-      let b = slice_get_there (blocks_of plan.nets) i (omega (arith, within, blocks_long)) in
-      let t = slice_get_there plan.grown i (omega (arith, within, trees_long)) in
-      let p = slice_get_there plan.nets i (omega (arith, within, plans_long)) in
-      let planned = is.nets.each i net b.0 t.0 p.0 at b.1 t.1 p.1 in
-      let tree : IsRoutingTree m p.0.tree.root p.0.tree.edges p.0.targets = All-at (λ (n : NetPlan). IsRoutingTree m n.tree.root n.tree.edges n.targets) plan.nets i p.0 is.stand.trees p.1 in
-      none_cut_off m plan.placement.spots net p.0.source p.0.targets p.0.tree.edges planned.source planned.targets
-      (subst (λ r. IsRoutingTree m r p.0.tree.edges p.0.targets) planned.root tree)
+      let b = slice_get_there (blocks_of ns) i (omega (arith, within, blocks_long)) in
+      let t = slice_get_there gs i (omega (arith, within, trees_long)) in
+      let n = slice_get_there ns i (omega (arith, within, plans_long)) in
+      let planned = is.nets.each i net b.0 t.0 n.0 at b.1 t.1 n.1 in
+      let tree : IsRoutingTree m n.0.tree.root n.0.tree.edges n.0.targets = All-at (λ (x : NetPlan). IsRoutingTree m x.tree.root x.tree.edges x.targets) ns i n.0 is.stand.trees n.1 in
+      none_cut_off m p.spots net n.0.source n.0.targets n.0.tree.edges planned.source planned.targets
+      (subst (λ r. IsRoutingTree m r n.0.tree.edges n.0.targets) planned.root tree)
 
   -- the first net that is cut off does not depend on which placement is meant
   same_first : (i : ℕ) (target : Chip) (has : HasCutOff m graph i target) (spots : List Spot) → has.spots ≡ spots → IsFirstCutOff m spots graph.nets i target
   same_first i target has spots same = subst (λ s. IsFirstCutOff m s graph.nets i target) same has.first
 
-  -- a graph with a target that is cut off has no plan
-  pub cut_not_planned : (i : ℕ) (target : Chip) (plan : Plan) → HasCutOff m graph i target → IsPlanOf m graph plan → ⊥
-  cut_not_planned i target plan has is =
-      let same = (places.one_placement m graph.vertices has.spots plan.placement.spots has.memory plan.placement.memory has.placed is.placed).0 in
-      let first = same_first i target has plan.placement.spots same in
-      none_of_plan plan is i first.net first.is first.target.source target first.target.is
+  -- a graph with a target that is cut off is not routed
+  pub cut_not_routed : (i : ℕ) (target : Chip) (p : Placement) (gs : List Grown) (ns : List NetPlan) → HasCutOff m graph i target → IsRoutingOf m graph p gs ns → ⊥
+  cut_not_routed i target p gs ns has is =
+      let same = (places.one_placement m graph.vertices has.spots p.spots has.memory p.memory has.placed is.placed).0 in
+      let first = same_first i target has p.spots same in
+      none_routed p gs ns is i first.net first.is first.target.source target first.target.is
 
   -- at most one net and target are the first that are cut off
   pub one_cut_off : (i j : ℕ) (a b : Chip) → HasCutOff m graph i a → HasCutOff m graph j b → (i ≡ j) × (a ≡ b)
@@ -52,26 +55,37 @@ module _ (m : Description) (graph : Graph) where
       let same = (places.one_placement m graph.vertices has.spots other.spots has.memory other.memory has.placed other.placed).0 in
       one_first_net m other.spots graph.nets i j a b (same_first i a has other.spots same) other.first
 
-  -- Whatever the answer, if what it says is so, it is the one that the cause asks for.
-  pub refused_where : (result : Result Plan CompileErr) → IfOk result (IsPlanOf m graph) → IfErr result (IsCause m graph) → IsRefusedWhere m graph result
-  refused_where (Ok plan) is cause = record {
-    no_room = λ v room. absurd (places.not_both m graph.vertices plan.placement.spots plan.placement.memory v is.placed room);
-    keys_out = λ n placed out. absurd (blocks.not_both graph.nets (blocks_of plan.nets) n is.blocks out);
-    cut_off = λ n t has. absurd (cut_not_planned n t plan has is);
-  }
-  refused_where (Err (NoRoom w)) is cause = record {
-    no_room = λ v room. inl (ap (λ k. Err (NoRoom k)) (places.one_vertex m graph.vertices w v cause room));
-    keys_out = λ n placed out. absurd (places.not_both m graph.vertices placed.0 placed.1 w placed.2 cause);
-    cut_off = λ n t has. absurd (places.not_both m graph.vertices has.spots has.memory w has.placed cause);
-  }
-  refused_where (Err (KeysOut k)) is cause = record {
-    no_room = λ v room. absurd (places.not_both m graph.vertices cause.0.0 cause.0.1 v cause.0.2 room);
-    keys_out = λ n placed out. inl (ap (λ j. Err (KeysOut j)) (blocks.one_net graph.nets k n cause.1 out));
-    cut_off = λ n t has. absurd (blocks.not_both graph.nets has.blocks k has.keyed cause.1);
-  }
-  refused_where (Err (CutOff i a)) is cause = record {
-    no_room = λ v room. absurd (places.not_both m graph.vertices cause.spots cause.memory v cause.placed room);
-    keys_out = λ n placed out. absurd (blocks.not_both graph.nets cause.blocks n cause.keyed out);
-    cut_off = λ n t has. let one = one_cut_off i n a t cause has in inl (λ k. Err (CutOff (one.0 k) (one.1 k)));
-  }
-  refused_where (Err Memory) is cause = record { no_room = λ v room. inr refl; keys_out = λ n placed out. inr refl; cut_off = λ n t has. inr refl }
+  module _ (target : ℕ) where
+    -- Whatever the answer, if what it says is so, it is the one that the cause asks for.
+    pub refused_where : (result : Result Plan CompileErr) → IfOk result (IsPlanOf m graph target) → IfErr result (IsCause m graph target) → IsRefusedWhere m graph target result
+    refused_where (Ok plan) is cause = record {
+      no_room = λ v room. absurd (places.not_both m graph.vertices plan.placement.spots plan.placement.memory v is.routing.placed room);
+      keys_out = λ n placed out. absurd (blocks.not_both graph.nets (blocks_of plan.nets) n is.routing.blocks out);
+      cut_off = λ n t has. absurd (cut_not_routed n t plan.placement plan.grown plan.nets has is.routing);
+      table_long = λ c t has. absurd (long_not_planned m graph target c t plan has is);
+    }
+    refused_where (Err (NoRoom w)) is cause = record {
+      no_room = λ v room. inl (ap (λ k. Err (NoRoom k)) (places.one_vertex m graph.vertices w v cause room));
+      keys_out = λ n placed out. absurd (places.not_both m graph.vertices placed.0 placed.1 w placed.2 cause);
+      cut_off = λ n t has. absurd (places.not_both m graph.vertices has.spots has.memory w has.placed cause);
+      table_long = λ c t has. absurd (places.not_both m graph.vertices has.placement.spots has.placement.memory w has.routing.placed cause);
+    }
+    refused_where (Err (KeysOut k)) is cause = record {
+      no_room = λ v room. absurd (places.not_both m graph.vertices cause.0.0 cause.0.1 v cause.0.2 room);
+      keys_out = λ n placed out. inl (ap (λ j. Err (KeysOut j)) (blocks.one_net graph.nets k n cause.1 out));
+      cut_off = λ n t has. absurd (blocks.not_both graph.nets has.blocks k has.keyed cause.1);
+      table_long = λ c t has. absurd (blocks.not_both graph.nets (blocks_of has.nets) k has.routing.blocks cause.1);
+    }
+    refused_where (Err (CutOff i a)) is cause = record {
+      no_room = λ v room. absurd (places.not_both m graph.vertices cause.spots cause.memory v cause.placed room);
+      keys_out = λ n placed out. absurd (blocks.not_both graph.nets cause.blocks n cause.keyed out);
+      cut_off = λ n t has. let one = one_cut_off i n a t cause has in inl (λ k. Err (CutOff (one.0 k) (one.1 k)));
+      table_long = λ c t has. absurd (cut_not_routed i a has.placement has.grown has.nets cause has.routing);
+    }
+    refused_where (Err (TableLong c t)) is cause = record {
+      no_room = λ v room. absurd (places.not_both m graph.vertices cause.0.placement.spots cause.0.placement.memory v cause.0.routing.placed room);
+      keys_out = λ n placed out. absurd (blocks.not_both graph.nets (blocks_of cause.0.nets) n cause.0.routing.blocks out);
+      cut_off = λ n a has. absurd (cut_not_routed n a cause.0.placement cause.0.grown cause.0.nets has cause.0.routing);
+      table_long = λ d u has. let one = one_long m graph target c d t u cause.0 has in inl (λ k. Err (TableLong (one.0 k) (one.1 k)));
+    }
+    refused_where (Err Memory) is cause = record { no_room = λ v room. inr refl; keys_out = λ n placed out. inr refl; cut_off = λ n t has. inr refl; table_long = λ c t has. inr refl }

@@ -1,27 +1,29 @@
 -- What a plan of a graph on a machine is, and when compiling is refused (this project's own).
-use Rattle.std.specs.Prelude.{◌≡◌, ◌≢◌, ℕ, ◌*◌, ◌++◌, List, length, map, All, AllPairs, None, Result}
+use Rattle.std.specs.Prelude.{◌≡◌, ◌≢◌, ℕ, ◌*◌, ◌≤◌, List, length, map, All, AllPairs, Some, None, Result, nat_lt, Bool, position, slice_get}
 use Rattle.std.specs.List.{AllZip}
 use Rattle.spin_base.specs.declared.blocks.Block.{Block}
-use Rattle.spin_base.specs.declared.blocks.Entry.{Entry}
 use Rattle.spin_base.specs.declared.chips.Chip.{Chip}
 use Rattle.spin_base.specs.declared.chips.Spot.{Spot}
 use Rattle.machine_desc.specs.Description.{Description}
-use Rattle.machine_desc.specs.Live.{IsSite, IsUsable}
+use Rattle.machine_desc.specs.Live.{IsInside, IsSite, IsUsable, index_of}
 use Rattle.app_graph.specs.declared.graphs.Graph.{Graph}
 use Rattle.app_graph.specs.declared.graphs.Vertex.{Vertex}
 use Rattle.net_tables.specs.declared.nets.NetPlan.{NetPlan}
 use Rattle.net_tables.specs.NetsOn.{AreNetsOn}
 use Rattle.net_tables.specs.RightTables.{AreRight}
+use Rattle.ner_trees.specs.declared.growths.Grown.{Grown}
+use Rattle.place_fit.specs.declared.placing.Placement.{Placement}
 use Rattle.place_fit.specs.Placement.{IsPlacement, HasNoRoom}
 use Rattle.key_alloc.specs.KeyBlocks.{AreKeysOut, AreRightBlocks, HasKeys}
-use Rattle.tern_word.specs.declared.tables.Table.{Table}
 use Rattle.net_plans.specs.Cause.{IsRefusedBy}
 use Rattle.net_plans.specs.CutOffTargets.{IsFirstCutOff}
 use Rattle.net_plans.specs.NetPlans.{ArePlanned}
-use Rattle.plain_tables.specs.PlainTable.{entries, AtEach, IsPlainTable}
+use Rattle.cover_merge.specs.Covering.{HasNoLegalPair}
+use Rattle.default_routes.specs.declared.stripping.Final.{Final}
+use Rattle.par_compile.specs.Finals.{AreFinals, KeepsRows, loaded_of}
 use Rattle.par_compile.specs.declared.compiling.Plan.{Plan}
 use Rattle.par_compile.specs.declared.compiling.CompileErr.{CompileErr}
-use Rattle.par_compile.specs.declared.compiling.CompileErr.TheVariants.{NoRoom, KeysOut, CutOff, Memory}
+use Rattle.par_compile.specs.declared.compiling.CompileErr.TheVariants.{NoRoom, KeysOut, CutOff, TableLong, Memory}
 
 -- the blocks of nets
 abbrev pub blocks_of : List NetPlan → List Block
@@ -41,34 +43,60 @@ pub record HasCutOff (m : Description) (graph : Graph) (net : ℕ) (target : Chi
   pub keyed : AreRightBlocks graph.nets blocks
   pub first : IsFirstCutOff m spots graph.nets net target
 
--- A vertex has no room; or all have, and keys are out at a net; or all have keys, and a target of a net is cut off. Want of
--- memory is free.
-abbrev pub IsCause : Description → Graph → CompileErr → Type 0
-IsCause m graph (NoRoom vertex) = HasNoRoom m graph.vertices vertex
-IsCause m graph (KeysOut net) = HasPlacement m graph × AreKeysOut graph.nets net
-IsCause m graph (CutOff net target) = HasCutOff m graph net target
-IsCause m graph Memory = Unit {0}
+-- A graph placed, keyed and routed on a machine. Each vertex stands on the first chip with room; each net has the least free
+-- aligned range of keys, its targets, the tree that grew, and its tree with the detours round what is dead. With that the nets
+-- stand on the machine.
+pub record IsRoutingOf (m : Description) (graph : Graph) (placement : Placement) (grown : List Grown) (nets : List NetPlan) : Type 0 where
+  pub placed : IsPlacement m graph.vertices placement.spots placement.memory
+  pub different : AllPairs (λ a b. a ≢ b) placement.spots
+  pub sites : All (IsSite m) placement.spots
+  pub cores : AllZip (λ (v : Vertex) s. v.device ≡ None → IsUsable m s) graph.vertices placement.spots
+  pub blocks : AreRightBlocks graph.nets (blocks_of nets)
+  pub enough : AllZip HasKeys graph.nets (blocks_of nets)
+  pub nets : ArePlanned m placement.spots graph.nets (blocks_of nets) grown nets
+  pub stand : AreNetsOn m placement.spots nets
+
+-- A router's lookup memory has 1,024 entries (SpiNNaker datasheet). A final table is long where it keeps more rows.
+abbrev pub is_long : Final → Bool
+is_long f = nat_lt 1024 (length f.kept)
+
+-- The graph is placed, keyed and routed; of the final tables of all chips, this chip's is the first, by the chips' indices, that
+-- is long, and it is this table.
+pub record HasLongTable (m : Description) (graph : Graph) (target : ℕ) (chip : Chip) (table : Final) : Type 0 where
+  pub placement : Placement
+  pub grown : List Grown
+  pub nets : List NetPlan
+  pub routing : IsRoutingOf m graph placement grown nets
+  pub finals : List Final
+  pub one_each : length finals ≡ m.width * m.height
+  pub are : AreFinals m nets target finals
+  pub inside : IsInside m chip
+  pub first : position is_long finals ≡ Some (index_of m chip)
+  pub at : slice_get finals (index_of m chip) ≡ Some table
+
+-- A vertex has no room; or all have, and keys are out at a net; or all have keys, and a target of a net is cut off; or none is,
+-- and a final table is long, of which no two rows can be merged. Want of memory is free.
+abbrev pub IsCause : Description → Graph → ℕ → CompileErr → Type 0
+IsCause m graph target (NoRoom vertex) = HasNoRoom m graph.vertices vertex
+IsCause m graph target (KeysOut net) = HasPlacement m graph × AreKeysOut graph.nets net
+IsCause m graph target (CutOff net chip) = HasCutOff m graph net chip
+IsCause m graph target (TableLong chip table) = HasLongTable m graph target chip table × HasNoLegalPair table.covered.table.rows
+IsCause m graph target Memory = Unit {0}
 
 -- The other way round: where there is a cause, the answer names it, or wants memory.
-pub record IsRefusedWhere (m : Description) (graph : Graph) (result : Result Plan CompileErr) : Type 0 where
+pub record IsRefusedWhere (m : Description) (graph : Graph) (target : ℕ) (result : Result Plan CompileErr) : Type 0 where
   pub no_room : (vertex : ℕ) → HasNoRoom m graph.vertices vertex → IsRefusedBy result (NoRoom vertex) Memory
   pub keys_out : (net : ℕ) → HasPlacement m graph → AreKeysOut graph.nets net → IsRefusedBy result (KeysOut net) Memory
-  pub cut_off : (net : ℕ) (target : Chip) → HasCutOff m graph net target → IsRefusedBy result (CutOff net target) Memory
+  pub cut_off : (net : ℕ) (chip : Chip) → HasCutOff m graph net chip → IsRefusedBy result (CutOff net chip) Memory
+  pub table_long : (chip : Chip) (table : Final) → HasLongTable m graph target chip table → IsRefusedBy result (TableLong chip table) Memory
 
--- What a plan of a graph on a machine is. Each vertex stands on the first chip with room, each net has the least free
--- aligned range of keys, its targets, the tree that grew, and its tree with the detours round what is dead; each chip has
--- its plain table. With that the tables are right for the nets, also where other entries follow their rows, and the nets
--- stand on the machine.
-pub record IsPlanOf (m : Description) (graph : Graph) (plan : Plan) : Type 0 where
-  pub placed : IsPlacement m graph.vertices plan.placement.spots plan.placement.memory
-  pub different : AllPairs (λ a b. a ≢ b) plan.placement.spots
-  pub sites : All (IsSite m) plan.placement.spots
-  pub cores : AllZip (λ (v : Vertex) s. v.device ≡ None → IsUsable m s) graph.vertices plan.placement.spots
-  pub blocks : AreRightBlocks graph.nets (blocks_of plan.nets)
-  pub enough : AllZip HasKeys graph.nets (blocks_of plan.nets)
-  pub nets : ArePlanned m plan.placement.spots graph.nets (blocks_of plan.nets) plan.grown plan.nets
-  pub stand : AreNetsOn m plan.placement.spots plan.nets
+-- What a plan of a graph on a machine is, for a number of rows at which covering stops: the graph is placed, keyed and routed,
+-- and each chip has its final table, whose kept rows fit into its router. Loaded, with unused entries after the kept rows, the
+-- tables are right for the nets.
+pub record IsPlanOf (m : Description) (graph : Graph) (target : ℕ) (plan : Plan) : Type 0 where
+  pub routing : IsRoutingOf m graph plan.placement plan.grown plan.nets
   pub one_table_each : length plan.tables ≡ m.width * m.height
-  pub plain : AtEach m plan.tables (IsPlainTable m plan.nets)
-  pub right : AreRight m (map entries plan.tables) plan.nets
-  pub followed : (rest : Table → List Entry) → AreRight m (map (λ (t : Table). entries t ++ rest t) plan.tables) plan.nets
+  pub tables : AreFinals m plan.nets target plan.tables
+  pub keep : All KeepsRows plan.tables
+  pub short : All (λ (f : Final). length f.kept ≤ 1024) plan.tables
+  pub right : AreRight m (map loaded_of plan.tables) plan.nets

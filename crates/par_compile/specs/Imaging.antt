@@ -7,6 +7,7 @@ use Rattle.spin_base.specs.declared.chips.Chip.{Chip}
 use Rattle.machine_desc.specs.Description.{Description}
 use Rattle.machine_desc.specs.Live.{chip_of}
 use Rattle.default_routes.specs.declared.stripping.Final.{Final}
+use Rattle.table_load.specs.declared.tables.Image.{Image}
 use Rattle.par_compile.specs.Finals.{kept_entries}
 
 -- a chip without entries is not listed
@@ -17,3 +18,8 @@ listed c (e ∷ es) = record { chip = c; entries = e ∷ es } ∷ []
 -- the tables of the chips whose indices begin at a number
 abbrev pub tables_from : Description → ℕ → List Final → List ChipTable
 tables_from m i finals = gathered (λ j (f : Final). listed (chip_of m j) (kept_entries f)) i finals
+
+-- The image of final tables of a machine's chips, one for each chip by the chip's index: the machine's size, whether it wraps, and
+-- the kept rows of each chip that has any, in the order of the chips.
+abbrev pub image_in : Description → List Final → Image
+image_in m finals = record { width = m.width; height = m.height; wrap = m.wrap; chips = tables_from m 0 finals }

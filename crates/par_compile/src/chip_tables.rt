@@ -15,7 +15,7 @@ use std::thread::Threads;
 
 /// The final table of each chip, by the chip's index: that of the nets' plain table there. Loaded, with unused entries after
 /// the kept rows, they are right for the nets. They are the same for every number of workers.
-pub fn final_tables<R: Threads + Sync, G: Gate>(
+pub(crate) fn final_tables<R: Threads + Sync, G: Gate>(
     rt: &R,
     alloc: Global,
     machine: &Machine,
@@ -28,6 +28,7 @@ pub fn final_tables<R: Threads + Sync, G: Gate>(
     requires few { length nets.now < 2 ^ 32 }
     requires routed { AreRouted machine.now nets.now }
     ensures long { IfOk result (λ finals. length finals ≡ machine.now.width * machine.now.height) }
+    ensures few_chips { IfOk result (λ finals. length finals ≤ 4096) }
     ensures finals { IfOk result (AreFinals machine.now nets.now target) }
     ensures kept { IfOk result (All KeepsRows) }
     ensures right { IfOk result (λ finals. AreRight machine.now (map loaded_of finals) nets.now) }

@@ -1,32 +1,37 @@
 // The stages of compiling, one after the other.
-ghost use Rattle.std.specs.Prelude.{IfOk, IfErr};
+ghost use Rattle.std.specs.Prelude.{◌≡◌, ◌<◌, ◌≤◌, IfOk, IfErr, Some, length, position, slice_get};
 ghost use Rattle.app_graph.specs.ValidGraph.{IsValidGraph};
-ghost use Rattle.par_compile.specs.Compiled.{IsCause, IsPlanOf, IsRefusedWhere};
+ghost use Rattle.par_compile.specs.declared.compiling.Plan.{Plan};
+ghost use Rattle.par_compile.specs.Compiled.{IsCause, IsPlanOf, IsRefusedWhere, is_long};
 
+use crate::chip_tables::final_tables;
 use app_graph::Graph;
+use default_routes::Final;
 use key_alloc::{KeyErr, keys};
 use machine_desc::Machine;
 use ner_trees::Grown;
 use net_plans::{NetErr, RoutedNets, net_plans};
 use net_tables::NetPlan;
 use place_fit::{PlaceErr, Placement, place};
-use plain_tables::plain_tables;
-use spin_base::{Chip, Memory, Seq};
+use spin_base::{Chip, Gate, Memory, Seq};
 use std::alloc::Global;
-use tern_word::Table;
+use std::thread::Threads;
+
+// As many entries has the lookup memory of a router (SpiNNaker datasheet).
+const ROUTER_ENTRIES: usize = 1024;
 
 /// What a graph needs on a machine: where each vertex stands; of each net the tree that grew whatever is dead, and its keys,
-/// cores and tree; and of each chip, by its index, its table.
+/// cores and tree; and of each chip, by its index, its final table.
 #[derive(Debug, Drop)]
 pub struct Plan {
     pub placement: Placement,
     pub grown: Seq<Grown>,
     pub nets: Seq<NetPlan>,
-    pub tables: Seq<Table>,
+    pub tables: Seq<Final>,
 }
 
 /// Why a graph is not compiled.
-#[derive(Clone, Copy, Debug, PartialEq, Eq)]
+#[derive(Debug, Drop)]
 pub enum CompileErr {
     /// The first vertex for which no chip has room.
     NoRoom { vertex: u32 },
@@ -34,6 +39,8 @@ pub enum CompileErr {
     KeysOut { net: u32 },
     /// The first net with a target chip that no walk of live links joins to its source's, and its first such target.
     CutOff { net: u32, target: Chip },
+    /// The first chip, by its index, whose final table keeps more than 1,024 rows, and that table.
+    TableLong { chip: Chip, table: Final },
     /// There was not enough memory.
     Memory,
 }
@@ -51,18 +58,38 @@ impl From<Memory> for CompileErr {
 
 /// The plan of a graph on a machine: first fit along the chip order for vertices, the least free aligned range of keys for
 /// each net, for each net the tree that grows from its source's chip to its targets, with detours round what is dead, and
-/// the plain table of each chip. The tables are right for the nets.
+/// for each chip its final table: the plain table, whose rows are merged while it has more than `target`, without the rows
+/// that default routing replaces. The tables, loaded, are right for the nets.
+///
+/// Nets are routed side by side by threads. Tables are covered by `workers` workers, each on a run of chips of equal length,
+/// the last shorter; each worker enters the gate in phase 0, with step 0, before its first chip. The plan is the only one: the
+/// same for every number of workers and every schedule.
+///
+/// It may wait for the gate and for threads; it keeps its promises if it returns.
 ///
 /// # Errors
 ///
-/// `NoRoom` names the first vertex without room, `KeysOut` the first net without keys where all vertices have room, and
-/// `CutOff` the first net with a target that is cut off where all nets have keys, with its first such target. Each comes
-/// exactly where there is such a vertex or net, unless memory runs out before, which `Memory` says.
-pub fn compile(alloc: Global, machine: &Machine, graph: &Graph) -> Result<Plan, CompileErr>
-    requires { IsValidGraph graph.now }
-    ensures plan { IfOk result (IsPlanOf machine.now graph.now) }
-    ensures cause { IfErr result (IsCause machine.now graph.now) }
-    ensures refused { IsRefusedWhere machine.now graph.now result }
+/// `NoRoom` names the first vertex without room; `KeysOut` the first net without keys where all vertices have room; `CutOff`
+/// the first net with a target that is cut off where all nets have keys, with its first such target; `TableLong` the first
+/// chip whose final table keeps more rows than a router has entries where no target is cut off, with that table, of which no
+/// two rows can be merged. Each comes exactly where there is such a vertex, net or chip, unless memory runs out before, which
+/// `Memory` says.
+pub fn compile<R: Threads + Sync, G: Gate>(
+    rt: &R,
+    alloc: Global,
+    machine: &Machine,
+    graph: &Graph,
+    target: u32,
+    workers: u32,
+    gate: &G,
+) -> Result<Plan, CompileErr>
+    requires graph { IsValidGraph graph.now }
+    requires target { target ≤ 1024 }
+    requires workers { 1 ≤ workers }
+    ensures plan { IfOk result (IsPlanOf machine.now graph.now target) }
+    ensures only { IfOk result (λ plan. (other : Plan) → IsPlanOf machine.now graph.now target other → other ≡ plan) }
+    ensures cause { IfErr result (IsCause machine.now graph.now target) }
+    ensures refused { IsRefusedWhere machine.now graph.now target result }
 {
     let placement = match place(alloc, machine, graph) {
         Ok(placement) => placement,
@@ -74,17 +101,41 @@ pub fn compile(alloc: Global, machine: &Machine, graph: &Graph) -> Result<Plan, 
         Err(KeyErr::KeysOut { net }) => return Err(CompileErr::KeysOut { net }),
         Err(KeyErr::Memory) => return Err(CompileErr::Memory),
     };
-    let routed = match net_plans(alloc, machine, graph, &placement.spots, &blocks) {
+    let routed = match net_plans(rt, alloc, machine, graph, &placement.spots, &blocks) {
         Ok(routed) => routed,
         Err(NetErr::CutOff { net, target }) => return Err(CompileErr::CutOff { net, target }),
         Err(NetErr::Memory) => return Err(CompileErr::Memory),
     };
     let RoutedNets { grown, plans: nets } = routed;
-    let tables = plain_tables(alloc, machine, &nets)?;
-    Ok(Plan {
-        placement,
-        grown,
-        nets,
-        tables,
-    })
+    let tables = final_tables(rt, alloc, machine, &nets, target, workers, gate)?;
+    match first_long(tables.as_slice()) {
+        None => Ok(Plan {
+            placement,
+            grown,
+            nets,
+            tables,
+        }),
+        Some(index) => Err(CompileErr::TableLong {
+            chip: machine.chip_at(index as u32),
+            table: table_at(tables, index),
+        }),
+    }
+}
+
+// The place of the first table that keeps more rows than a router has entries.
+fn first_long(tables: &[Final]) -> Option<usize>
+    ensures { result ≡ position is_long tables.now }
+{
+    tables
+        .iter()
+        .position(|table| table.kept.len() > ROUTER_ENTRIES)
+}
+
+// The table at this place.
+fn table_at(tables: Seq<Final>, index: usize) -> Final
+    requires { index < length tables }
+    ensures { slice_get tables index ≡ Some result }
+{
+    let mut tables = tables.into_vec();
+    tables.remove(index)
 }

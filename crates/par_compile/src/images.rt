@@ -6,7 +6,7 @@ ghost use Rattle.default_routes.specs.declared.stripping.Final.{Final};
 ghost use Rattle.table_load.specs.Images.{IsValid};
 ghost use Rattle.table_load.specs.Memories.{rows_at};
 ghost use Rattle.par_compile.specs.Finals.{KeepsRows, kept_entries, loaded_of};
-ghost use Rattle.par_compile.specs.Imaging.{listed};
+ghost use Rattle.par_compile.specs.Imaging.{image_in, listed};
 
 use default_routes::Final;
 use machine_desc::Machine;
@@ -22,9 +22,7 @@ pub fn image_of(alloc: Global, machine: &Machine, finals: &Seq<Final>) -> Result
     requires kept { All KeepsRows finals.now }
     requires short { All (λ f. length f.kept ≤ 1024) finals.now }
     ensures valid { IfOk result IsValid }
-    ensures width { IfOk result (λ v. v.width ≡ machine.now.width) }
-    ensures height { IfOk result (λ v. v.height ≡ machine.now.height) }
-    ensures wrap { IfOk result (λ v. v.wrap ≡ machine.now.wrap) }
+    ensures image { IfOk result (λ v. v ≡ image_in machine.now finals.now) }
     ensures rows { IfOk result (λ v. (i : ℕ) (f : Final) → slice_get finals.now i ≡ Some f → rows_at v.height v.chips i ≡ kept_entries f) }
 {
     let mut chips = Seq::new(alloc);
@@ -59,7 +57,7 @@ fn push_table(
 }
 
 /// The entries of the rows that are loaded, in order.
-pub fn kept_entries(alloc: Global, done: &Final) -> Result<Seq<Entry>, Memory>
+fn kept_entries(alloc: Global, done: &Final) -> Result<Seq<Entry>, Memory>
     requires { KeepsRows done.now }
     ensures { IfOk result (λ entries. entries ≡ kept_entries done.now) }
 {

@@ -1,11 +1,9 @@
 //! Compiles a graph for a machine: where its vertices stand, which keys its nets have, their trees, and the chips' tables.
 //!
-//! `compile` joins the stages, each of which is a crate of its own: placement, keys, targets, trees with their detours, and
-//! plain tables. It says which vertex or net is the first that cannot be served, and promises that the tables are right for
-//! the nets. Rows are not joined there yet, and one thread does it all.
-//!
-//! `final_tables` makes of nets the tables that are loaded: plain tables, which workers cover and strip side by side. `image_of`
-//! is their image, and `memories_of` what a loader fills from its bytes: right tables for the nets.
+//! `compile` joins the stages, each of which is a crate of its own: placement, keys, targets, trees with their detours, plain
+//! tables, and final tables, which workers cover and strip side by side. It says which vertex, net or chip is the first that
+//! cannot be served, and promises that the tables, loaded, are right for the nets. `image_of` is the image of the tables, and
+//! `memories_of` what a loader fills from its bytes: right tables for the nets, too.
 #![tactic(auto)]
 
 mod chip_tables;
@@ -15,7 +13,5 @@ mod images;
 mod tests;
 mod workers;
 
-pub use chip_tables::final_tables;
 pub use compiling::{CompileErr, Plan, compile};
-pub use images::{image_of, kept_entries, memories_of};
-pub use workers::finals;
+pub use images::{image_of, memories_of};

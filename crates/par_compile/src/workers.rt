@@ -25,7 +25,7 @@ enum Work {
 /// without the rows that default routing replaces. The tables are cut in `workers` runs of equal length, the last shorter.
 /// Each worker enters the gate in phase 0, with step 0, before its first table. One worker is this thread alone. The answer
 /// is the same for every number of workers.
-pub fn finals<R: Threads + Sync, G: Gate>(
+pub(crate) fn finals<R: Threads + Sync, G: Gate>(
     rt: &R,
     alloc: Global,
     tables: Seq<Table>,

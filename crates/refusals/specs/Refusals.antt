@@ -1,10 +1,10 @@
 -- The status and the line of each refusal (this project's own).
-use Rattle.std.specs.Prelude.{ℕ, List, [], ◌∷◌, Option, Some, None, codes, decimal}
+use Rattle.std.specs.Prelude.{ℕ, List, [], ◌∷◌, length, Option, Some, None, codes, decimal}
 use Rattle.job_text.specs.declared.faults.JobFault.{JobFault}
 use Rattle.job_text.specs.declared.faults.JobFault.TheVariants.{Shape, Range, UnknownName, DoubleName, TooMany, Clash}
 use Rattle.run_report.specs.ReportText.{line}
 use Rattle.refusals.specs.declared.causes.Refusal.{Refusal}
-use Rattle.refusals.specs.declared.causes.Refusal.TheVariants.{Usage, ReadFault, WriteFault, TooLong, NotJson, Job, NoRoom, KeysOut, CutOff, Memory, Unbuilt}
+use Rattle.refusals.specs.declared.causes.Refusal.TheVariants.{Usage, ReadFault, WriteFault, TooLong, NotJson, Job, NoRoom, KeysOut, CutOff, TableLong, Memory, Unbuilt}
 
 -- the status of a refusal
 abbrev pub status_of : Refusal → ℕ
@@ -17,6 +17,7 @@ status_of (Job fault) = 4
 status_of (NoRoom vertex) = 5
 status_of (KeysOut net) = 6
 status_of (CutOff net target) = 7
+status_of (TableLong chip table) = 8
 status_of Memory = 9
 status_of Unbuilt = 10
 
@@ -40,6 +41,7 @@ line_of (Job fault) = fault_line fault
 line_of (NoRoom vertex) = line (codes "no" ∷ codes "room:" ∷ vertex ∷ [])
 line_of (KeysOut net) = line (codes "keys" ∷ codes "out:" ∷ net ∷ [])
 line_of (CutOff net target) = line (codes "cut" ∷ codes "off:" ∷ net ∷ decimal target.x ∷ decimal target.y ∷ [])
+line_of (TableLong chip table) = line (codes "table" ∷ codes "long:" ∷ decimal chip.x ∷ decimal chip.y ∷ decimal (length table.kept) ∷ [])
 line_of Memory = codes "out of memory\n"
 line_of Unbuilt = codes "unbuilt\n"
 

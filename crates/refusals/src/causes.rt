@@ -1,6 +1,7 @@
 // The refusals, and their statuses.
 ghost use Rattle.std.specs.Prelude.{◌≡◌};
 
+use default_routes::Final;
 use job_text::JobFault;
 use spin_base::{Chip, Name};
 
@@ -25,6 +26,8 @@ pub enum Refusal {
     KeysOut(Name),
     /// The name of the first net with a target that is cut off, and the chip of its first such target. Status 7.
     CutOff(Name, Chip),
+    /// The first chip, by its index, whose final table keeps more rows than a router has entries, and that table. Status 8.
+    TableLong(Chip, Final),
     /// There was not enough memory. Status 9.
     Memory,
     /// The command or the job needs a part that is not built yet. Status 10.
@@ -48,6 +51,7 @@ impl Refusal {
             Refusal::NoRoom(_) => 5,
             Refusal::KeysOut(_) => 6,
             Refusal::CutOff(_, _) => 7,
+            Refusal::TableLong(_, _) => 8,
             Refusal::Memory => 9,
             Refusal::Unbuilt => 10,
         }

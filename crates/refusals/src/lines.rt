@@ -29,6 +29,7 @@ pub fn line_of(alloc: Global, refusal: &Refusal) -> Result<Seq<u8>, Memory>
         Refusal::NoRoom(vertex) => no_room_line(alloc, vertex.as_str()),
         Refusal::KeysOut(net) => keys_out_line(alloc, net.as_str()),
         Refusal::CutOff(net, target) => cut_off_line(alloc, net.as_str(), *target),
+        Refusal::TableLong(chip, table) => table_long_line(alloc, *chip, table.kept.len()),
         Refusal::Memory => fixed(alloc, OUT_OF_MEMORY),
         Refusal::Unbuilt => fixed(alloc, "unbuilt\n"),
     }
@@ -125,5 +126,15 @@ fn cut_off_line(alloc: Global, net: &str, target: Chip) -> Result<Seq<u8>, Memor
     let x = target.x;
     let y = target.y;
     writeln!(text, "cut off: {net} {x} {y}")?;
+    Ok(Seq::from_vec(text.into_bytes()))
+}
+
+fn table_long_line(alloc: Global, chip: Chip, rows: usize) -> Result<Seq<u8>, Memory>
+    ensures { IfOk result (λ text. text ≡ line (codes "table" ∷ codes "long:" ∷ decimal chip.x ∷ decimal chip.y ∷ decimal rows ∷ [])) }
+{
+    let mut text = String::new(alloc);
+    let x = chip.x;
+    let y = chip.y;
+    writeln!(text, "table long: {x} {y} {rows}")?;
     Ok(Seq::from_vec(text.into_bytes()))
 }

@@ -2,7 +2,7 @@ pub use Rattle.list_laws.specs.Gathered
 pub use Rattle.spin_base.specs.Links
 pub use Rattle.machine_desc.specs.Live
 pub use Rattle.app_graph.specs.ValidGraph
-pub use Rattle.tern_word.specs.Entries
+pub use Rattle.table_load.specs.Images
 pub use Rattle.mesh_core.specs.Expected
 pub use Rattle.mesh_core.specs.Opened
 pub use Rattle.mesh_core.specs.State

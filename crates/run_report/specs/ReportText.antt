@@ -14,17 +14,15 @@ use Rattle.spin_base.specs.declared.blocks.Block.{Block}
 use Rattle.spin_base.specs.declared.blocks.Entry.{Entry}
 use Rattle.spin_base.specs.declared.copies.McCopy.{McCopy}
 use Rattle.spin_base.specs.declared.copies.DumpRec.{DumpRec}
-use Rattle.machine_desc.specs.Description.{Description}
 use Rattle.app_graph.specs.declared.graphs.Graph.{Graph}
 use Rattle.net_tables.specs.declared.nets.NetPlan.{NetPlan}
-use Rattle.tern_word.specs.declared.tables.Table.{Table}
 use Rattle.spin_base.specs.declared.blocks.ChipTable.{ChipTable}
 use Rattle.mesh_core.specs.declared.places.Did.{Did}
 use Rattle.mesh_core.specs.declared.places.Did.TheVariants.{Moved, Idle}
 use Rattle.mesh_core.specs.declared.places.Place.{Place}
 use Rattle.mesh_core.specs.declared.places.Place.TheVariants.{InQueue, Hand, CoreQueue}
 use Rattle.run_report.specs.declared.reports.Report.{Report}
-use Rattle.run_report.specs.Listed.{placed_of, keys_of, tables_of}
+use Rattle.run_report.specs.Listed.{placed_of, keys_of}
 
 -- ---- numbers and letters
 
@@ -138,5 +136,5 @@ abbrev pub listed_text : List (List ℕ × Spot) → List (List ℕ × Block) �
 listed_text placed keys tables = flat_map place_line placed ++ flat_map keys_line keys ++ flat_map table_lines tables
     ++ line (codes "end" ∷ codes "rows" ∷ decimal (row_total tables) ∷ [])
 
-abbrev pub plan_text : Description → Graph → List Spot → List NetPlan → List Table → List ℕ
-plan_text m graph spots nets tables = listed_text (placed_of graph spots) (keys_of graph nets) (tables_of m tables)
+abbrev pub plan_text : Graph → List Spot → List NetPlan → List ChipTable → List ℕ
+plan_text graph spots nets tables = listed_text (placed_of graph spots) (keys_of graph nets) tables

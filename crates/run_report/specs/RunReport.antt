@@ -5,23 +5,22 @@ use Rattle.std.specs.List.{flat_map, sum_by, range_with_len}
 use Rattle.spin_base.specs.declared.chips.Chip.{Chip}
 use Rattle.spin_base.specs.declared.chips.Spot.{Spot}
 use Rattle.spin_base.specs.declared.chips.Port.{Port}
+use Rattle.spin_base.specs.declared.blocks.ChipTable.{ChipTable}
 use Rattle.spin_base.specs.declared.copies.McCopy.{McCopy}
 use Rattle.spin_base.specs.declared.copies.Delivery.{Delivery}
 use Rattle.spin_base.specs.declared.copies.DumpRec.{DumpRec}
 use Rattle.spin_base.specs.Links.{port_number}
 use Rattle.spin_base.specs.Outputs.{out_number}
-use Rattle.machine_desc.specs.Description.{Description}
 use Rattle.machine_desc.specs.Live.{index_of, grid_chips}
 use Rattle.app_graph.specs.declared.graphs.Graph.{Graph}
 use Rattle.net_tables.specs.declared.nets.NetPlan.{NetPlan}
-use Rattle.tern_word.specs.declared.tables.Table.{Table}
 use Rattle.mesh_core.specs.declared.places.Did.{Did}
 use Rattle.mesh_core.specs.declared.places.Place.{Place}
 use Rattle.mesh_core.specs.declared.places.Place.TheVariants.{InQueue, Hand, CoreQueue}
 use Rattle.mesh_core.specs.State.{State, Held, queue_at}
 use Rattle.mesh_core.specs.Ledger.{all_ports}
 use Rattle.run_report.specs.declared.reports.Report.{Report}
-use Rattle.run_report.specs.Listed.{placed_of, keys_of, tables_of}
+use Rattle.run_report.specs.Listed.{placed_of, keys_of}
 use Rattle.run_report.specs.Orders.{IsInOrder}
 
 -- ---- deliveries and dump records
@@ -118,13 +117,13 @@ unsent_total s = sum_by (unsent_by s) (range_with_len 0 (length s.setup.spots))
 
 -- ---- the report
 
--- The report of a graph's plan on a machine, of a mesh, and of the answers to the events that led there: the spots of the
--- vertices, the keys of the nets and the tables as the plan has them, the answers in their order, the deliveries by packet and position of the vertex, the dump records by packet, chip
--- and output, and the waiting copies by packet and place. The number of unsent copies stands still at 4,294,967,295.
-pub record IsReportOf (m : Description) (graph : Graph) (spots : List Spot) (nets : List NetPlan) (tables : List Table) (s : State) (did : List Did) (report : Report) : Type 0 where
+-- The report of a graph's plan, of the tables that were loaded, of a mesh, and of the answers to the events that led there: the
+-- spots of the vertices and the keys of the nets as the plan has them, the tables, the answers in their order, the deliveries by
+-- packet and position of the vertex, the dump records by packet, chip and output, and the waiting copies by packet and place. The number of unsent copies stands still at 4,294,967,295.
+pub record IsReportOf (graph : Graph) (spots : List Spot) (nets : List NetPlan) (tables : List ChipTable) (s : State) (did : List Did) (report : Report) : Type 0 where
   pub same_placed : report.placed ≡ placed_of graph spots
   pub same_keys : report.keys ≡ keys_of graph nets
-  pub same_tables : report.tables ≡ tables_of m tables
+  pub same_tables : report.tables ≡ tables
   pub same_did : report.did ≡ did
   pub delivered : IsDeliveredOf (placed_of graph spots) s.delivered report.delivered
   pub dumped : IsInOrder dump_key s.dumped report.dumped

@@ -2,7 +2,7 @@
 //!
 //! `report_of` gathers what a plan says and what a mesh holds after a run, for every machine, each list in its order, and
 //! `text_of` writes it by lines. `plan_text` writes the lines of a plan that is not run. A plan is given by its parts: the
-//! graph, and the spots, nets and tables that it has on the machine. The report and its text are this project's own;
+//! graph, the spots and nets that it has on the machine, and the image of its tables. The report and its text are this project's own;
 //! placement, keys, tables and routes are those of the SpiNNaker datasheet.
 #![tactic(auto)]
 

@@ -1,9 +1,9 @@
 // What became of a job.
-ghost use Rattle.std.specs.Prelude.{◌≡◌, ◌*◌, length, IfOk};
+ghost use Rattle.std.specs.Prelude.{◌≡◌, length, IfOk};
 ghost use Rattle.app_graph.specs.ValidGraph.{IsValidGraph};
 ghost use Rattle.run_report.specs.RunReport.{IsReportOf};
 
-use crate::lists::{keys_of, placed_of, tables_of};
+use crate::lists::{keys_of, placed_of};
 use crate::orders::{delivered_of, dumped_of};
 use crate::unsents::unsent_of;
 use crate::waits::waiting_of;
@@ -12,7 +12,6 @@ use mesh_core::{Did, Mesh, Place};
 use net_tables::NetPlan;
 use spin_base::{Block, ChipTable, DumpRec, McCopy, Memory, Name, Seq, Spot};
 use std::alloc::Global;
-use tern_word::Table;
 
 /// What a report says.
 #[derive(Debug, Drop)]
@@ -35,9 +34,9 @@ pub struct Report {
     pub unsent: u32,
 }
 
-/// The report of a graph's plan and of a mesh, on the mesh's machine: a line for each vertex, each net, and each chip whose
-/// table has a row, the answers to the events that were traced, and what the mesh delivered, dumped and still holds. The plan's spots are those of the
-/// mesh, and it has a table for each chip, by its index.
+/// The report of a graph's plan and of a mesh: a line for each vertex, each net, and each of the tables, which are those of the
+/// image that was loaded; the answers to the events that were traced; and what the mesh delivered, dumped and still holds.
+/// The plan's spots are those of the mesh.
 ///
 /// # Errors
 ///
@@ -47,20 +46,18 @@ pub fn report_of(
     graph: &Graph,
     spots: &Seq<Spot>,
     nets: &Seq<NetPlan>,
-    tables: &Seq<Table>,
+    tables: Seq<ChipTable>,
     mesh: &Mesh,
     did: Seq<Did>,
 ) -> Result<Report, Memory>
     requires graph { IsValidGraph graph.now }
     requires spots { length spots.now ≡ length graph.now.vertices }
     requires nets { length nets.now ≡ length graph.now.nets }
-    requires tables { length tables.now ≡ mesh.now.setup.machine.width * mesh.now.setup.machine.height }
     requires mesh { mesh.now.setup.spots ≡ spots.now }
-    ensures { IfOk result (λ report. IsReportOf mesh.now.setup.machine graph.now spots.now nets.now tables.now mesh.now did report) }
+    ensures { IfOk result (λ report. IsReportOf graph.now spots.now nets.now tables mesh.now did report) }
 {
     let placed = placed_of(alloc, &graph.vertices, spots)?;
     let keys = keys_of(alloc, &graph.nets, nets)?;
-    let tables = tables_of(alloc, mesh.machine(), tables)?;
     let delivered = delivered_of(alloc, placed.as_slice(), mesh)?;
     let dumped = dumped_of(alloc, mesh)?;
     let waiting = waiting_of(alloc, mesh)?;

@@ -1,12 +1,12 @@
 -- How a call ends (this project's own).
-use Rattle.std.specs.Prelude.{◌≡◌, ◌⊎◌, ℕ, List, Option, Some, None, Ok, All}
+use Rattle.std.specs.Prelude.{◌≡◌, ◌⊎◌, ℕ, List, Option, Some, None, Ok}
 use Rattle.spin_base.specs.declared.chips.Chip.{Chip}
 use Rattle.spin_base.specs.declared.blocks.Block.{Block}
 use Rattle.app_graph.specs.declared.graphs.Graph.{Graph}
 use Rattle.key_alloc.specs.KeyBlocks.{AreRightBlocks}
 use Rattle.job_readers.specs.declared.jobs.Job.{Job}
-use Rattle.par_compile.specs.declared.compiling.Plan.{Plan}
-use Rattle.par_compile.specs.Compiled.{HasCutOff, HasPlacement, IsPlanOf}
+use Rattle.default_routes.specs.declared.stripping.Final.{Final}
+use Rattle.par_compile.specs.Compiled.{HasCutOff, HasLongTable, HasPlacement}
 use Rattle.command_words.specs.declared.commands.Command.{Command}
 use Rattle.command_words.specs.Commands.{spelled, IsBuilt}
 use Rattle.refusals.specs.declared.causes.Refusal.{Refusal}
@@ -17,7 +17,6 @@ use Rattle.job_bytes.specs.Jobs.{job_in}
 use Rattle.spin_top.specs.declared.outcomes.Outcome.{Outcome}
 use Rattle.spin_top.specs.Causes.{HasCause, AreRefused, AskForJob}
 use Rattle.spin_top.specs.Made.{no_parts, IsMade}
-use Rattle.spin_top.specs.Planned.{Fits, tables_in}
 use Rattle.spin_top.specs.Writing.{Writing, IsWritten}
 
 -- How a call ends. All that the words ask for was made, and its text written. Or there is a refusal with its cause, none of the
@@ -42,7 +41,7 @@ abbrev pub HasBlocks : Graph → Type 0
 HasBlocks graph = (blocks : List Block) × AreRightBlocks graph.nets blocks
 
 -- The words are a command that is built, the source tells the bytes of a job, its vertices have places, its nets have keys, no
--- target is cut off, and the tables of its plan fit.
+-- target is cut off, and no final table is too long.
 pub record HasAnswer (words : List (List ℕ)) (left : Option (List ℕ)) : Type 0 where
   pub command : AskForJob words
   pub bytes : List ℕ
@@ -52,4 +51,4 @@ pub record HasAnswer (words : List (List ℕ)) (left : Option (List ℕ)) : Type
   pub placed : HasPlacement job.machine job.graph
   pub keyed : HasBlocks job.graph
   pub joined : (i : ℕ) (target : Chip) → HasCutOff job.machine job.graph i target → ⊥
-  pub fit : (plan : Plan) → IsPlanOf job.machine job.graph plan → All Fits (tables_in plan)
+  pub short : (chip : Chip) (table : Final) → HasLongTable job.machine job.graph job.run.target chip table → ⊥

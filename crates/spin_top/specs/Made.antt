@@ -14,13 +14,14 @@ use Rattle.run_report.specs.Listed.{placed_of}
 use Rattle.run_report.specs.ReportText.{got_line, plan_text, report_text}
 use Rattle.run_report.specs.RunReport.{named, IsReportOf}
 use Rattle.par_compile.specs.declared.compiling.Plan.{Plan}
+use Rattle.table_load.specs.Images.{Spells}
 use Rattle.command_words.specs.Commands.{spelled}
 use Rattle.command_words.specs.declared.commands.Command.{Command}
-use Rattle.command_words.specs.declared.commands.Command.TheVariants.{Run, Trace, Tables}
+use Rattle.command_words.specs.declared.commands.Command.TheVariants.{Run, Trace, Compile, Tables}
 use Rattle.job_bytes.specs.Inputs.{Reading, IsReadAs}
 use Rattle.job_bytes.specs.Jobs.{job_in}
 use Rattle.spin_top.specs.declared.outcomes.Parts.{Parts}
-use Rattle.spin_top.specs.Planned.{tables_in, opened_of, IsPlanned}
+use Rattle.spin_top.specs.Planned.{tables_image, opened_of, IsThePlan}
 
 -- ---- parts of an outcome
 
@@ -45,7 +46,7 @@ WhereRun p P = WhereGiven p (λ job plan. IfSome p.mesh (λ mesh. IfSome p.repor
 
 -- the report of a job's plan, of a mesh, and of the answers to events that led there
 abbrev pub IsReported : Job → Plan → State → List Did → Report → Type 0
-IsReported job plan mesh did report = IsReportOf job.machine job.graph plan.placement.spots plan.nets (tables_in plan) mesh did report
+IsReported job plan mesh did report = IsReportOf job.graph plan.placement.spots plan.nets (tables_image job plan).chips mesh did report
 
 -- the deliveries that a job asks for, each with the name of its vertex
 abbrev pub expected_of : Job → Plan → List (List ℕ × McCopy)
@@ -79,12 +80,17 @@ Reports P job plan parts text = (mesh : State) × (report : Report) × IsKept jo
 -- Job and plan are given, and the text is that of the plan.
 abbrev pub Lists : Job → Plan → Parts → List ℕ → Type 0
 Lists job plan parts text = (parts ≡ plan_parts job plan)
-    × (text ≡ plan_text job.machine job.graph plan.placement.spots plan.nets (tables_in plan))
+    × (text ≡ plan_text job.graph plan.placement.spots plan.nets (tables_image job plan).chips)
+
+-- Job and plan are given, and the text is the bytes that spell the image of the plan's tables.
+abbrev pub Images : Job → Plan → Parts → List ℕ → Type 0
+Images job plan parts text = (parts ≡ plan_parts job plan) × Spells (tables_image job plan) text
 
 -- What a command makes of a planned job, a constructor a word: the parts of the outcome, and the whole text.
 pub data Makes (c : Command) (job : Job) (plan : Plan) (parts : Parts) (text : List ℕ) : Type 0 where
   ran : c ≡ Run → Reports HasRunOut job plan parts text → Makes c job plan parts text
   traced : c ≡ Trace → Reports IsTraced job plan parts text → Makes c job plan parts text
+  imaged : c ≡ Compile → Images job plan parts text → Makes c job plan parts text
   listed : c ≡ Tables → Lists job plan parts text → Makes c job plan parts text
 
 -- What a call makes: the words are a command; all bytes that the source had left were read, and are a job; it has a plan; and the
@@ -95,5 +101,5 @@ pub record IsMade (words : List (List ℕ)) (reading : Reading) (parts : Parts) 
   pub job : Job
   pub read : IsReadAs job_in reading job
   pub plan : Plan
-  pub planned : IsPlanned job plan
+  pub planned : IsThePlan job plan
   pub makes : Makes command job plan parts text

@@ -3,7 +3,7 @@ ghost use Rattle.std.specs.Prelude.{◌≡◌, IfOk};
 ghost use Rattle.app_graph.specs.RunPart.{IsRunOf};
 ghost use Rattle.app_graph.specs.ValidGraph.{IsValidGraph};
 ghost use Rattle.command_words.specs.Commands.{IsBuilt};
-ghost use Rattle.spin_top.specs.Made.{run_parts, HasRunOut, IsReported, IsTraced, Lists, Makes, Reports};
+ghost use Rattle.spin_top.specs.Made.{plan_parts, run_parts, HasRunOut, Images, IsReported, IsTraced, Lists, Makes, Reports};
 ghost use Rattle.spin_top.specs.Planned.{setup_of, IsPlanned};
 
 use crate::outcomes::Parts;
@@ -11,10 +11,11 @@ use crate::runs::{run_job, trace_job};
 use command_words::Command;
 use job_readers::Job;
 use mesh_core::{Did, Mesh};
-use par_compile::Plan;
+use par_compile::{Plan, image_of};
 use run_report::{Report, plan_text, report_of, text_of};
 use spin_base::{Memory, Seq};
 use std::alloc::Global;
+use table_load::encode;
 
 // What was made, and the whole text that is to be written.
 pub(crate) struct Made {
@@ -33,6 +34,7 @@ pub(crate) fn make(alloc: Global, command: Command, job: Job, plan: Plan) -> Res
     match command {
         Command::Run => run(alloc, job, plan),
         Command::Trace => trace(alloc, job, plan),
+        Command::Compile => image(alloc, job, plan),
         _ => list(alloc, job, plan),
     }
 }
@@ -75,22 +77,24 @@ fn list(alloc: Global, job: Job, plan: Plan) -> Result<Made, Memory>
     requires planned { IsPlanned job plan }
     ensures { IfOk result (λ made. Lists job plan made.parts made.text) }
 {
+    let image = image_of(alloc, &job.machine, &plan.tables)?;
     let spots = &plan.placement.spots;
-    let text = plan_text(
-        alloc,
-        &job.machine,
-        &job.graph,
-        spots,
-        &plan.nets,
-        &plan.tables,
-    )?;
+    let text = plan_text(alloc, &job.graph, spots, &plan.nets, &image)?;
     Ok(Made {
-        parts: Parts {
-            job: Some(job),
-            plan: Some(plan),
-            mesh: None,
-            report: None,
-        },
+        parts: planned_parts(job, plan),
+        text,
+    })
+}
+
+// The bytes of the image of the plan's tables.
+fn image(alloc: Global, job: Job, plan: Plan) -> Result<Made, Memory>
+    requires planned { IsPlanned job plan }
+    ensures { IfOk result (λ made. Images job plan made.parts made.text) }
+{
+    let image = image_of(alloc, &job.machine, &plan.tables)?;
+    let text = encode(alloc, &image)?;
+    Ok(Made {
+        parts: planned_parts(job, plan),
         text,
     })
 }
@@ -108,16 +112,22 @@ fn report(
     requires setup { mesh.now.setup ≡ setup_of job.now plan.now }
     ensures { IfOk result (IsReported job.now plan.now mesh.now did) }
 {
+    let image = image_of(alloc, &job.machine, &plan.tables)?;
     let spots = &plan.placement.spots;
-    report_of(
-        alloc,
-        &job.graph,
-        spots,
-        &plan.nets,
-        &plan.tables,
-        mesh,
-        did,
-    )
+    let tables = image.chips;
+    report_of(alloc, &job.graph, spots, &plan.nets, tables, mesh, did)
+}
+
+// Job and plan.
+fn planned_parts(job: Job, plan: Plan) -> Parts
+    ensures { result ≡ plan_parts job plan }
+{
+    Parts {
+        job: Some(job),
+        plan: Some(plan),
+        mesh: None,
+        report: None,
+    }
 }
 
 // All four parts.

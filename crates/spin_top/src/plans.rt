@@ -1,31 +1,35 @@
 // The plan of a job.
-ghost use Rattle.std.specs.Prelude.{◌≡◌, ◌⊎◌, All, IfOk, IfErr, true};
+ghost use Rattle.std.specs.Prelude.{◌≡◌, ◌⊎◌, IfOk, IfErr};
+ghost use Rattle.app_graph.specs.RunPart.{IsRunOf};
 ghost use Rattle.app_graph.specs.ValidGraph.{IsValidGraph};
 ghost use Rattle.par_compile.specs.Compiled.{IsCause};
-ghost use Rattle.refusals.specs.declared.causes.Refusal.TheVariants.{Memory as NoMemory, Unbuilt as NotBuilt};
-ghost use Rattle.spin_top.specs.Causes.{HasLongTable, HasNoPlan, Names};
-ghost use Rattle.spin_top.specs.Planned.{Fits, IsPlanned};
+ghost use Rattle.refusals.specs.declared.causes.Refusal.TheVariants.{Memory as NoMemory};
+ghost use Rattle.spin_top.specs.Causes.{HasNoPlan, Names};
+ghost use Rattle.spin_top.specs.Planned.{IsThePlan};
 
 use job_readers::Job;
 use par_compile::{CompileErr, Plan, compile};
 use refusals::Refusal;
-use spin_base::{Memory, Name};
+use spin_base::{Gate, Memory, Name};
 use std::alloc::Global;
-use tern_word::Table;
+use std::thread::Threads;
 
-// The plan of a job, whose tables fit into the routers.
-pub(crate) fn plan_of(alloc: Global, job: &Job) -> Result<Plan, Refusal>
-    requires { IsValidGraph job.now.graph }
-    ensures plan { IfOk result (IsPlanned job.now) }
-    ensures err { IfErr result (λ r. HasNoPlan job.now r ⊎ ((HasLongTable job.now × (r ≡ NotBuilt)) ⊎ (r ≡ NoMemory))) }
+// The plan of a job, made by as many workers as the job says.
+pub(crate) fn plan_of<R: Threads + Sync, G: Gate>(
+    rt: &R,
+    alloc: Global,
+    job: &Job,
+    gate: &G,
+) -> Result<Plan, Refusal>
+    requires graph { IsValidGraph job.now.graph }
+    requires run { IsRunOf job.now.graph job.now.run }
+    ensures plan { IfOk result (IsThePlan job.now) }
+    ensures err { IfErr result (λ r. HasNoPlan job.now r ⊎ (r ≡ NoMemory)) }
 {
-    match compile(alloc, &job.machine, &job.graph) {
-        Ok(plan) => {
-            if !fit(plan.tables.as_slice()) {
-                return Err(Refusal::Unbuilt);
-            }
-            Ok(plan)
-        }
+    let target = job.run.target;
+    let workers = job.run.workers;
+    match compile(rt, alloc, &job.machine, &job.graph, target, workers, gate) {
+        Ok(plan) => Ok(plan),
         Err(error) => match refusal_for(alloc, job, error) {
             Ok(refusal) => Err(refusal),
             Err(Memory) => Err(Refusal::Memory),
@@ -33,17 +37,9 @@ pub(crate) fn plan_of(alloc: Global, job: &Job) -> Result<Plan, Refusal>
     }
 }
 
-// Whether each table has at most as many rows as a router has entries.
-fn fit(tables: &[Table]) -> bool
-    ensures yes { result ≡ true → All Fits tables.now }
-    ensures no { All Fits tables.now → result ≡ true }
-{
-    tables.iter().all(|table| table.rows.len() <= 1024)
-}
-
-// The refusal that names the vertex or net which the compiler's error numbers.
+// The refusal that names the vertex or net which the compiler's error numbers, or has its chip and table.
 fn refusal_for(alloc: Global, job: &Job, error: CompileErr) -> Result<Refusal, Memory>
-    requires { IsCause job.now.machine job.now.graph error }
+    requires { IsCause job.now.machine job.now.graph job.now.run.target error }
     ensures { IfOk result (λ r. Names job.now.graph error r ⊎ (r ≡ NoMemory)) }
 {
     let graph = &job.graph;
@@ -60,6 +56,7 @@ fn refusal_for(alloc: Global, job: &Job, error: CompileErr) -> Result<Refusal, M
             let net = graph.nets.get(net as usize);
             Ok(Refusal::CutOff(Name::of(alloc, net.name.as_str())?, target))
         }
+        CompileErr::TableLong { chip, table } => Ok(Refusal::TableLong(chip, table)),
         CompileErr::Memory => Ok(Refusal::Memory),
     }
 }

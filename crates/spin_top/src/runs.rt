@@ -1,25 +1,25 @@
 // The mesh of a job: opened, after all its packets, or after all its events.
-ghost use Rattle.std.specs.Prelude.{◌≡◌, All, IfOk, OnOk, map};
+ghost use Rattle.std.specs.Prelude.{◌≡◌, IfOk, OnOk, map};
 ghost use Rattle.app_graph.specs.RunPart.{IsRunOf};
 ghost use Rattle.mesh_core.specs.State.{IsMesh};
 ghost use Rattle.mesh_core.specs.Step.{after_events, answers_of};
 ghost use Rattle.mesh_core.specs.Opened.{MeetsJobLedger};
 ghost use Rattle.mesh_core.specs.Expected.{AreAsExpected};
 ghost use Rattle.mesh_core.specs.HasRun.{HasRun};
-ghost use Rattle.spin_top.specs.Planned.{Fits, memory_of, opened_of, setup_of, tables_in, IsPlanned};
+ghost use Rattle.par_compile.specs.Finals.{loaded_of};
+ghost use Rattle.spin_top.specs.Planned.{opened_of, setup_of, IsPlanned};
 
 use job_readers::Job;
 use machine_desc::Machine;
 use mesh_core::{Did, Mesh};
 use packet_runs::{open_mesh, run_packets};
-use par_compile::Plan;
+use par_compile::{Plan, memories_of};
 use spin_base::{Event, Memory, Seq, Spot};
 use std::alloc::Global;
-use table_load::memory_of;
 use tcam_find::Tcam;
-use tern_word::Table;
 
-// What a mesh is opened with: the job's machine, the plan's spots, and its tables, loaded.
+// What a mesh is opened with: the job's machine, the plan's spots, and the lookup memories that are loaded from the image of
+// its tables.
 #[derive(Drop)]
 struct Pieces {
     machine: Machine,
@@ -104,37 +104,13 @@ fn pieces_of(alloc: Global, job: &Job, plan: &Plan) -> Result<Pieces, Memory>
     requires { IsPlanned job.now plan.now }
     ensures machine { IfOk result (λ pieces. pieces.machine ≡ job.now.machine) }
     ensures spots { IfOk result (λ pieces. pieces.spots ≡ plan.now.placement.spots) }
-    ensures memories { IfOk result (λ pieces. pieces.memories ≡ map memory_of (tables_in plan.now)) }
+    ensures memories { IfOk result (λ pieces. pieces.memories ≡ map loaded_of plan.now.tables) }
 {
     let machine = job.machine.copy(alloc)?;
     let copied = Vec::from_slice(alloc, plan.placement.spots.as_slice())?;
     Ok(Pieces {
         machine,
         spots: Seq::from_vec(copied),
-        memories: memories_of(alloc, plan.tables.as_slice())?,
+        memories: memories_of(alloc, &job.machine, &plan.tables)?,
     })
-}
-
-// The lookup memories that are loaded with these tables.
-fn memories_of(alloc: Global, tables: &[Table]) -> Result<Seq<Tcam>, Memory>
-    requires { All Fits tables.now }
-    ensures { IfOk result (λ memories. memories ≡ map memory_of tables.now) }
-{
-    let mut memories = Seq::new(alloc);
-    for table in tables {
-        memories.push(loaded(alloc, table)?)?;
-    }
-    Ok(memories)
-}
-
-// The lookup memory that is loaded with a table.
-fn loaded(alloc: Global, table: &Table) -> Result<Tcam, Memory>
-    requires { Fits table.now }
-    ensures { IfOk result (λ memory. memory ≡ memory_of table.now) }
-{
-    let mut entries = Vec::new(alloc);
-    for row in table.rows.as_slice() {
-        entries.push(row.entry())?;
-    }
-    Ok(memory_of(entries.as_slice()))
 }

@@ -9,7 +9,7 @@ ghost use Rattle.refusals.specs.declared.causes.Refusal.TheVariants.{Memory as N
 ghost use Rattle.spin_top.specs.Causes.{HasCause};
 ghost use Rattle.spin_top.specs.Ends.{Ends, HasAnswer, IsExact};
 ghost use Rattle.spin_top.specs.Made.{no_parts, HasRunOut, IsMade, IsTraced, WhereGiven, WhereRun};
-ghost use Rattle.spin_top.specs.Planned.{IsPlanned};
+ghost use Rattle.spin_top.specs.Planned.{IsThePlan};
 ghost use Rattle.spin_top.specs.Writing.{IsWritten};
 
 use crate::makes::{Made, make};
@@ -26,30 +26,30 @@ use std::thread::Threads;
 /// Does what the words ask for, with the source's bytes as the job, and writes the text or one line to the sink.
 ///
 /// The words are those of the command line without the program's name: `run`, `trace`, `compile`, `tables` or `gen N`.
-/// Built today are `run`, `trace` and `tables`. `run` compiles the job, runs its packets, and writes the report; `trace`
-/// compiles it, takes its events one by one, and writes the report with the answers to them; `tables` compiles it and writes
-/// where its vertices stand, which keys its nets have, and its tables. The whole text stands before its first byte is
-/// written, and a refusal writes its line and nothing else.
+/// All but `gen` are built today. `run` compiles the job, runs its packets, and writes the report; `trace` compiles it, takes
+/// its events one by one, and writes the report with the answers to them; `compile` compiles it and writes the bytes of the
+/// image of its tables; `tables` compiles it and writes where its vertices stand, which keys its nets have, and its tables.
+/// The whole text stands before its first byte is written, and a refusal writes its line and nothing else.
 ///
 /// Statuses: 0, the text was written; 1, the words spell no command; 2, reading failed; 3, writing failed; 4, the bytes are
-/// no job; 5, a vertex has no room; 6, a net has no keys; 7, a target is cut off; 9, memory ran out; 10, the words or the
-/// job need a part that is not built.
+/// no job; 5, a vertex has no room; 6, a net has no keys; 7, a target is cut off; 8, a table is too long; 9, memory ran out;
+/// 10, the words need a part that is not built.
 ///
 /// It may wait for the gate and for threads; it keeps its promises if it returns.
 pub fn spin<Rt: Threads + Wait + Sync, S: Source, K: Sink, G: Gate>(
-    _rt: &Rt,
+    rt: &Rt,
     alloc: Global,
     words: &[String],
     source: &mut S,
     sink: &mut K,
-    _gate: &G,
+    gate: &G,
 ) -> Outcome
     ensures status { result.status ≡ status_at result.refusal }
     ensures ends { Ends (texts_of words.now)
         (record { left = S.left source.old; rest = S.left source.new; faults = S.faults source.old; faults' = S.faults source.new })
         (record { written = K.written sink.old; written' = K.written sink.new; faults = K.faults sink.old; faults' = K.faults sink.new })
         result }
-    ensures plan { WhereGiven result.parts IsPlanned }
+    ensures plan { WhereGiven result.parts IsThePlan }
     ensures ledger { WhereRun result.parts (λ job plan mesh report. MeetsJobLedger mesh plan.nets job.run.packets) }
     ensures run { spelled (texts_of words.now) ≡ Some Run → WhereRun result.parts HasRunOut }
     ensures trace { spelled (texts_of words.now) ≡ Some Trace → WhereRun result.parts IsTraced }
@@ -57,15 +57,17 @@ pub fn spin<Rt: Threads + Wait + Sync, S: Source, K: Sink, G: Gate>(
     ensures complete { HasAnswer (texts_of words.now) (S.left source.old) → ¬ FaultsRose (S.faults source.old) (S.faults source.new) →
         ¬ FaultsRose (K.faults sink.old) (K.faults sink.new) → (result.status ≡ 0) ⊎ (result.status ≡ 9) }
 {
-    answered(alloc, words, source, sink)
+    answered(rt, alloc, words, source, sink, gate)
 }
 
 // What `spin` does, and how it ends.
-fn answered<S: Source, K: Sink>(
+fn answered<R: Threads + Sync, S: Source, K: Sink, G: Gate>(
+    rt: &R,
     alloc: Global,
     words: &[String],
     source: &mut S,
     sink: &mut K,
+    gate: &G,
 ) -> Outcome
     ensures status { result.status ≡ status_at result.refusal }
     ensures ends { Ends (texts_of words.now)
@@ -73,14 +75,20 @@ fn answered<S: Source, K: Sink>(
         (record { written = K.written sink.old; written' = K.written sink.new; faults = K.faults sink.old; faults' = K.faults sink.new })
         result }
 {
-    match made_of(alloc, words, source) {
+    match made_of(rt, alloc, words, source, gate) {
         Ok(made) => write_text(made, sink),
         Err(refusal) => write_refusal(alloc, refusal, sink),
     }
 }
 
 // What the words and the source's bytes give, or why they give nothing.
-fn made_of<S: Source>(alloc: Global, words: &[String], source: &mut S) -> Result<Made, Refusal>
+fn made_of<R: Threads + Sync, S: Source, G: Gate>(
+    rt: &R,
+    alloc: Global,
+    words: &[String],
+    source: &mut S,
+    gate: &G,
+) -> Result<Made, Refusal>
     ensures made { IfOk result (λ made. IsMade (texts_of words.now)
         (record { left = S.left source.old; rest = S.left source.new; faults = S.faults source.old; faults' = S.faults source.new })
         made.parts made.text) }
@@ -94,7 +102,7 @@ fn made_of<S: Source>(alloc: Global, words: &[String], source: &mut S) -> Result
         return Err(Refusal::Unbuilt);
     }
     let job = read_job(alloc, source)?;
-    let plan = plan_of(alloc, &job)?;
+    let plan = plan_of(rt, alloc, &job, gate)?;
     match make(alloc, command, job, plan) {
         Ok(made) => Ok(made),
         Err(Memory) => Err(Refusal::Memory),

@@ -1,7 +1,8 @@
 use Rattle.std.proofs.Common.{arith}
 use Rattle.list_laws.proofs.Places.{All-at}
 use Rattle.par_compile.specs.Finals.{KeepsRows}
-use Rattle.par_compile.proofs.Imaged.{image_valid, image_rows, image_more, all_read, found_at, small_place}
+use Rattle.par_compile.specs.Imaging.{image_in}
+use Rattle.par_compile.proofs.Imaged.{same_image, image_valid, image_rows, image_more, all_read, found_at, small_place}
 use Rattle.par_compile.proofs.images.image_of.Goals as goal
 
 pub overflow_cast-i : goal.overflow_cast-i
@@ -32,4 +33,10 @@ pub returns-clause-rows : goal.returns-clause-rows
 returns-clause-rows c =
     image_rows c.args.machine.now c.width.ensures.size c.args.finals.now c.requires.one_each
     (record { width = c.width.result; height = c.height.result; wrap = c.wrap.result; chips = c.loop-i.chips }) c.width.ensures.value c.height.ensures.value
+    (all_read c.args.machine.now c.args.finals.now c.as_slice-done-items.result.now c.loop-i.i c.loop-i.chips c.as_slice-done-items.ensures c.loop-i-test.false c.loop-i.invariant)
+
+pub returns-clause-image : goal.returns-clause-image
+returns-clause-image c =
+    same_image (record { width = c.width.result; height = c.height.result; wrap = c.wrap.result; chips = c.loop-i.chips }) (image_in c.args.machine.now c.args.finals.now)
+    c.width.ensures.value c.height.ensures.value c.wrap.ensures
     (all_read c.args.machine.now c.args.finals.now c.as_slice-done-items.result.now c.loop-i.i c.loop-i.chips c.as_slice-done-items.ensures c.loop-i-test.false c.loop-i.invariant)

@@ -1,0 +1,52 @@
+-- What threads find when they route nets side by side.
+use Rattle.std.specs.Prelude.{◌≡◌, ℕ, List, length, All, Some, Result, Ok, Err, slice_get}
+use Rattle.spin_base.specs.declared.chips.Spot.{Spot}
+use Rattle.spin_base.specs.declared.blocks.Block.{Block}
+use Rattle.machine_desc.specs.Description.{Description}
+use Rattle.machine_desc.specs.Live.{IsSite}
+use Rattle.machine_desc.specs.RoutingTree.{IsRoutingTree}
+use Rattle.app_graph.specs.declared.graphs.Graph.{Graph}
+use Rattle.app_graph.specs.declared.graphs.Net.{Net}
+use Rattle.app_graph.specs.ValidGraph.{IsValidGraph}
+use Rattle.link_detours.specs.declared.repairs.RepairErr.{RepairErr}
+use Rattle.link_detours.specs.declared.roads.Roads.{Roads}
+use Rattle.link_detours.specs.LiveRoads.{AreRoadsOf}
+use Rattle.net_plans.specs.declared.nets.Routed.{Routed}
+use Rattle.net_plans.specs.declared.nets.RoutedNet.{RoutedNet}
+use Rattle.net_plans.specs.Cause.{IsCauseOne}
+use Rattle.net_plans.specs.CutOffTargets.{HasNoneCutOff}
+use Rattle.net_plans.specs.NetPlans.{IsPlanned}
+
+-- what threads are lent to route nets: a machine with its live links, a graph, and a core or site for each vertex and a block
+-- for each net
+pub record CanRoute (m : Description) (roads : Roads) (graph : Graph) (spots : List Spot) (blocks : List Block) : Type 0 where
+  pub roads_are : AreRoadsOf m roads
+  pub valid : IsValidGraph graph
+  pub a_spot_each : length spots ≡ length graph.vertices
+  pub sites : All (IsSite m) spots
+  pub a_block_each : length blocks ≡ length graph.nets
+
+-- a net's tree and plan, with no target cut off
+pub record IsRouted (m : Description) (spots : List Spot) (net : Net) (block : Block) (r : Routed) : Type 0 where
+  pub planned : IsPlanned m spots net block r.grown r.plan
+  pub routing : IsRoutingTree m r.plan.tree.root r.plan.tree.edges r.plan.targets
+  pub reached : HasNoneCutOff m spots net
+
+-- what routing a net may answer
+abbrev pub IsWay : Description → List Spot → Net → Block → Result Routed RepairErr → Type 0
+IsWay m spots net block (Ok r) = IsRouted m spots net block r
+IsWay m spots net block (Err e) = IsCauseOne m spots net e
+
+-- what came of routing the net at this place
+pub record IsRoutedNet (m : Description) (spots : List Spot) (nets : List Net) (blocks : List Block) (i : ℕ) (item : RoutedNet) : Type 0 where
+  pub names : item.net ≡ i
+  pub net : Net
+  pub at : slice_get nets i ≡ Some net
+  pub block : Block
+  pub keyed : slice_get blocks i ≡ Some block
+  pub way : IsWay m spots net block item.way
+
+-- what came of routing each net, in the order of the nets
+pub record AreRouted (m : Description) (spots : List Spot) (nets : List Net) (blocks : List Block) (items : List RoutedNet) : Type 0 where
+  pub one_each : length items ≡ length nets
+  pub each : (i : ℕ) (item : RoutedNet) → slice_get items i ≡ Some item → IsRoutedNet m spots nets blocks i item

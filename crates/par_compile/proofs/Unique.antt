@@ -1,0 +1,122 @@
+-- A graph has one routing and one list of final tables: so one plan, or one long table.
+use Rattle.std.proofs.Common.{◌≡◌, ℕ, ◌*◌, ◌<◌, ◌≤◌, List, map, length, get_or, true, Option, Some, sym, ap, ◌∙◌, subst, arith}
+use Rattle.std.specs.List.{All, Contains, position, slice_get}
+use Rattle.std.proofs.lemmas.Bool.{ltb-true}
+use Rattle.std.proofs.lemmas.List.Elements.{All-contains}
+use Rattle.std.proofs.lemmas.List.Quantifiers.{position-Some}
+use Rattle.std.proofs.lemmas.Option.{get_or_from_slice_get, slice_get_within}
+use Rattle.spin_base.specs.declared.chips.Chip.{Chip}
+use Rattle.spin_base.specs.declared.chips.Spot.{Spot}
+use Rattle.machine_desc.specs.Description.{Description}
+use Rattle.machine_desc.specs.Live.{IsInside, IsSite, chip_of, index_of}
+use Rattle.machine_desc.proofs.Far.{live_inside, same_index}
+use Rattle.machine_desc.proofs.Live.{chip_of-inside, index_of-chip_of}
+use Rattle.machine_desc.proofs.Sites.{site_parts}
+use Rattle.app_graph.specs.declared.graphs.Graph.{Graph}
+use Rattle.net_tables.specs.declared.nets.NetPlan.{NetPlan}
+use Rattle.net_tables.specs.NetsOn.{AreNetsOn}
+use Rattle.ner_trees.specs.declared.growths.Grown.{Grown}
+use Rattle.list_laws.proofs.Places.{All-at, All-each}
+use Rattle.place_fit.specs.declared.placing.Placement.{Placement}
+use Rattle.place_fit.proofs.Determined as places
+use Rattle.key_alloc.proofs.Determined as keys
+use Rattle.net_plans.specs.NetPlans.{ArePlanned}
+use Rattle.net_plans.proofs.Determined.{one_list_of_plans, same_places}
+use Rattle.plain_tables.specs.PlainTable.{AreRouted}
+use Rattle.plain_tables.proofs.Determined as plain
+use Rattle.default_routes.specs.declared.stripping.Final.{Final}
+use Rattle.default_routes.specs.FinalTable.{IsFinalOf}
+use Rattle.default_routes.proofs.Determined as final
+use Rattle.tern_word.specs.declared.tables.Row.{Row}
+use Rattle.par_compile.specs.declared.compiling.Plan.{Plan}
+use Rattle.par_compile.specs.Compiled.{blocks_of, HasLongTable, IsPlanOf, IsRoutingOf, is_long}
+use Rattle.par_compile.specs.Finals.{AreFinals}
+
+-- nets that stand on sites of a machine are what plain tables ask for
+pub routed_of : (m : Description) (spots : List Spot) (nets : List NetPlan) → All (IsSite m) spots → AreNetsOn m spots nets → AreRouted m nets
+routed_of m spots nets sites stand = record {
+  trees = stand.trees;
+  roots = λ k d below.
+      let net : NetPlan = get_or nets k d in
+      let site : IsSite m net.source = All-contains (IsSite m) spots net.source sites (stand.sources k d below) in
+      subst (IsInside m) (sym (stand.roots k d below)) (live_inside m net.source.chip (site_parts m net.source site).0);
+  cores = λ k d below.
+      let net : NetPlan = get_or nets k d in
+      All-each (λ (s : Spot). s.core < 24) net.targets (λ s has.
+      let on : Contains spots s = All-contains (Contains spots) net.targets s (stand.targets k d below) has in
+      (site_parts m s (All-contains (IsSite m) spots s sites on)).1);
+  apart = λ i j d before within meets.
+      stand.disjoint i j d before within meets.key (record { fits = meets.small; matches = meets.first }) (record { fits = meets.small; matches = meets.second });
+}
+
+same_placement : (p q : Placement) → p.spots ≡ q.spots → p.memory ≡ q.memory → p ≡ q
+same_placement p q spots memory = λ i. record { spots = spots i; memory = memory i }
+
+same_plan : (p q : Plan) → p.placement ≡ q.placement → p.grown ≡ q.grown → p.nets ≡ q.nets → p.tables ≡ q.tables → p ≡ q
+same_plan p q placement grown nets tables = λ i. record { placement = placement i; grown = grown i; nets = nets i; tables = tables i }
+
+-- final tables are determined by the nets
+pub one_finals : (m : Description) (nets : List NetPlan) → AreRouted m nets → (target : ℕ) (fs gs : List Final) → length fs ≡ m.width * m.height → length gs ≡ m.width * m.height →
+    AreFinals m nets target fs → AreFinals m nets target gs → fs ≡ gs
+one_finals m nets routed target fs gs many also are others =
+    same_places fs gs (many ∙ sym also) (λ i f g at_f at_g.
+    let c : Chip = chip_of m i in
+    let inside : IsInside m c = chip_of-inside m i (subst (λ n. i < n) many (slice_get_within fs i f at_f)) in
+    let a = are c f inside (ap (slice_get fs) (index_of-chip_of m i) ∙ at_f) in
+    let b = others c g inside (ap (slice_get gs) (index_of-chip_of m i) ∙ at_g) in
+    let rows : a.rows ≡ b.rows = plain.one_table m nets routed c a.rows b.rows a.plain b.plain in
+    final.one_table target b.rows f g (subst (λ (rs : List Row). IsFinalOf target rs f) rows a.is_final) b.is_final)
+
+same_some : (a b : ℕ) (o : Option ℕ) → o ≡ Some a → o ≡ Some b → a ≡ b
+same_some a b o is also = cc
+
+same_item : (fs : List Final) (i : ℕ) (t u : Final) → slice_get fs i ≡ Some t → slice_get fs i ≡ Some u → t ≡ u
+same_item fs i t u at also = cc
+
+module _ (m : Description) (graph : Graph) where
+  pub one_routing : (p q : Placement) (gs hs : List Grown) (ns os : List NetPlan) → IsRoutingOf m graph p gs ns → IsRoutingOf m graph q hs os → (p ≡ q) × (gs ≡ hs) × (ns ≡ os)
+  one_routing p q gs hs ns os a b =
+      let placed = places.one_placement m graph.vertices p.spots q.spots p.memory q.memory a.placed b.placed in
+      let blocks : blocks_of ns ≡ blocks_of os = keys.one_list graph.nets (blocks_of ns) (blocks_of os) a.blocks b.blocks in
+      let its : ArePlanned m p.spots graph.nets (blocks_of ns) hs os =
+      subst (λ spots. ArePlanned m spots graph.nets (blocks_of ns) hs os) (sym placed.0) (subst (λ bs. ArePlanned m q.spots graph.nets bs hs os) (sym blocks) b.nets)
+      in
+      let both = one_list_of_plans m p.spots a.sites graph.nets (blocks_of ns) a.blocks.all gs hs ns os a.nets its in
+      (same_placement p q placed.0 placed.1, both.0, both.1)
+
+  module _ (target : ℕ) where
+    -- two routings of a graph have the same final tables
+    same_finals : (p q : Placement) (gs hs : List Grown) (ns os : List NetPlan) (fs es : List Final) → IsRoutingOf m graph p gs ns → IsRoutingOf m graph q hs os →
+        length fs ≡ m.width * m.height → length es ≡ m.width * m.height → AreFinals m ns target fs → AreFinals m os target es → fs ≡ es
+    same_finals p q gs hs ns os fs es a b many also are others =
+        let nets : ns ≡ os = (one_routing p q gs hs ns os a b).2 in
+        one_finals m ns (routed_of m p.spots ns a.sites a.stand) target fs es many also are (subst (λ (l : List NetPlan). AreFinals m l target es) (sym nets) others)
+
+    pub one_plan : (p q : Plan) → IsPlanOf m graph target p → IsPlanOf m graph target q → p ≡ q
+    one_plan p q a b =
+        let same = one_routing p.placement q.placement p.grown q.grown p.nets q.nets a.routing b.routing in
+        same_plan p q same.0 same.1 same.2
+        (same_finals p.placement q.placement p.grown q.grown p.nets q.nets p.tables q.tables a.routing b.routing a.one_table_each b.one_table_each a.tables b.tables)
+
+    -- a graph with a long table has no plan
+    pub long_not_planned : (chip : Chip) (table : Final) (plan : Plan) → HasLongTable m graph target chip table → IsPlanOf m graph target plan → ⊥
+    long_not_planned chip table plan has is =
+        let same : plan.tables ≡ has.finals =
+        same_finals plan.placement has.placement plan.grown has.grown plan.nets has.nets plan.tables has.finals is.routing has.routing is.one_table_each has.one_each is.tables has.are
+        in
+        let short : length table.kept ≤ 1024 = All-at (λ (f : Final). length f.kept ≤ 1024) has.finals (index_of m chip) table (subst (All (λ (f : Final). length f.kept ≤ 1024)) same is.short) has.at in
+        let long = (position-Some is_long has.finals (index_of m chip) table has.first).1 in
+        let it : get_or has.finals (index_of m chip) table ≡ table = get_or_from_slice_get has.finals (index_of m chip) table table has.at in
+        let more : 1024 < length table.kept = ltb-true 1024 (length table.kept) (subst (λ (f : Final). is_long f ≡ true) it long) in
+        omega (arith, short, more)
+
+    -- a graph has one first long table
+    pub one_long : (c d : Chip) (t u : Final) → HasLongTable m graph target c t → HasLongTable m graph target d u → (c ≡ d) × (t ≡ u)
+    one_long c d t u a b =
+        let same : a.finals ≡ b.finals =
+        same_finals a.placement b.placement a.grown b.grown a.nets b.nets a.finals b.finals a.routing b.routing a.one_each b.one_each a.are b.are
+        in
+        let first : position is_long b.finals ≡ Some (index_of m c) = subst (λ (fs : List Final). position is_long fs ≡ Some (index_of m c)) same a.first in
+        let place : index_of m c ≡ index_of m d = same_some (index_of m c) (index_of m d) (position is_long b.finals) first b.first in
+        let at : slice_get b.finals (index_of m d) ≡ Some t = subst (λ n. slice_get b.finals n ≡ Some t) place (subst (λ (fs : List Final). slice_get fs (index_of m c) ≡ Some t) same a.at) in
+        (same_index m c d a.inside b.inside place, same_item b.finals (index_of m d) t u at b.at)
