@@ -1,166 +1,134 @@
-// Graphs of three vertices on a line of three chips, compiled: what stands where, and why others are refused.
-ghost use Rattle.std.specs.Prelude.{◌≡◌, ◌<◌, ◌≤◌, All, IfOk, None, length};
+// Two workers compile a net over a line of four chips, each waiting at the gate for the other.
+ghost use Rattle.std.specs.Prelude.{◌≡◌, All, IfOk, None, length};
 ghost use Rattle.app_graph.specs.declared.graphs.Net.{Net};
 ghost use Rattle.app_graph.specs.declared.graphs.Vertex.{Vertex};
 ghost use Rattle.app_graph.specs.ValidGraph.{IsValidGraph, IsValidNet, IsValidVertex};
 
-use crate::{CompileErr, Plan, compile};
+use crate::{Plan, compile, image_of};
 use app_graph::{Graph, Net, Vertex};
-use machine_desc::{Edge, Machine};
+use machine_desc::Machine;
 use net_plans::Routed;
-use spin_base::{Chip, Dir, Memory, Name, Seq};
+use spin_base::{Chip, Gate, Memory, Name, Seq};
 use std::alloc::Global;
+use std::sync::atomic::{AtomicBool, Ordering};
+use std::test::Fail;
+use table_load::encode;
 
-// Three chips in a row, with one link listed dead.
-fn line(alloc: Global, x: u8, dir: Dir) -> Result<Machine, Memory>
-    requires { x < 3 }
-{
-    let dead = Edge {
-        chip: Chip { x, y: 0 },
-        dir,
-    };
-    let chips = Seq::new(alloc);
-    let cores = Seq::new(alloc);
-    let links = Seq::from_vec(Vec::from_slice(alloc, &[dead])?);
-    Machine::new(alloc, 3, 1, false, 134_217_728, &chips, &cores, &links)
+// So often a worker looks whether the other has come.
+const LOOKS: u32 = 100_000_000;
+
+// The image of the line's tables: a row at chip (0,0) that leads East, and one at chip (3,0) that leads to core 1. The chips
+// between pass the net's packets on by default.
+const IMAGE: [u8; 42] = [
+    0x53, 0x50, 0x4e, 0x54, 1, 4, 1, 0, 2, 0, 0, 0, 1, 0, 0, 0, 0, 0, 0xff, 0xff, 0xff, 0xff, 1, 0,
+    0, 0, 3, 0, 1, 0, 0, 0, 0, 0, 0xff, 0xff, 0xff, 0xff, 0x80, 0, 0, 0,
+];
+
+// A gate at which workers 0 and 1 wait for each other before they cover.
+#[derive(Drop)]
+struct Meeting {
+    first: AtomicBool,
+    second: AtomicBool,
+    missed: AtomicBool,
 }
 
-fn vertex(alloc: Global, x: u8) -> Result<Vertex, Memory>
+impl Gate for Meeting {
+    fn enter(&self, phase: u32, worker: u32, _step: u32) {
+        if phase != 0 {
+            return;
+        }
+        let (mine, other) = if worker == 0 {
+            (&self.first, &self.second)
+        } else {
+            (&self.second, &self.first)
+        };
+        mine.store(true, Ordering::SeqCst);
+        for _ in 0..LOOKS {
+            if other.load(Ordering::SeqCst) {
+                return;
+            }
+        }
+        self.missed.store(true, Ordering::SeqCst);
+    }
+}
+
+// Four chips in a row.
+fn line(alloc: Global) -> Result<Machine, Memory> {
+    let chips = Seq::new(alloc);
+    let cores = Seq::new(alloc);
+    let links = Seq::new(alloc);
+    Machine::new(alloc, 4, 1, false, 134_217_728, &chips, &cores, &links)
+}
+
+fn vertex(alloc: Global, name: &str, x: u8) -> Result<Vertex, Memory>
+    requires { (1 ≤ length name.now) × (length name.now ≤ 64) }
     ensures valid { IfOk result IsValidVertex }
     ensures core { IfOk result (λ (v : Vertex). v.device ≡ None) }
 {
     Ok(Vertex {
-        name: Name::of(alloc, "v")?,
+        name: Name::of(alloc, name)?,
         sdram: 0,
         at: Some(Chip { x, y: 0 }),
         device: None,
     })
 }
 
-// The source, a target on the chip of this x, and a target beside the source.
-fn vertices(alloc: Global, x: u8) -> Result<Seq<Vertex>, Memory>
-    ensures long { IfOk result (λ vs. length vs ≡ 3) }
+// A vertex at each end of the line.
+fn ends(alloc: Global) -> Result<Seq<Vertex>, Memory>
+    ensures long { IfOk result (λ vs. length vs ≡ 2) }
     ensures valid { IfOk result (All IsValidVertex) }
     ensures cores { IfOk result (All (λ (v : Vertex). v.device ≡ None)) }
 {
     let mut vertices = Seq::new(alloc);
-    vertices.push(vertex(alloc, 0)?)?;
-    vertices.push(vertex(alloc, x)?)?;
-    vertices.push(vertex(alloc, 0)?)?;
+    vertices.push(vertex(alloc, "a", 0)?)?;
+    vertices.push(vertex(alloc, "b", 3)?)?;
     Ok(vertices)
 }
 
-fn net(alloc: Global, keys: u64) -> Result<Net, Memory>
-    requires some { 1 ≤ keys }
-    requires few { keys ≤ 4294967296 }
-    ensures valid { IfOk result (IsValidNet 3) }
-    ensures free { IfOk result (λ (n : Net). n.fixed ≡ None) }
-{
-    Ok(Net {
-        name: Name::of(alloc, "n")?,
-        source: 0,
-        targets: Seq::from_vec(Vec::from_slice(alloc, &[1, 2, 1])?),
-        keys,
-        fixed: None,
-    })
-}
-
-// Two nets that need so many keys each.
-fn nets(alloc: Global, keys: u64) -> Result<Seq<Net>, Memory>
-    requires some { 1 ≤ keys }
-    requires few { keys ≤ 4294967296 }
-    ensures long { IfOk result (λ ns. length ns ≡ 2) }
-    ensures valid { IfOk result (All (IsValidNet 3)) }
+// One net from end to end, of one key.
+fn nets(alloc: Global) -> Result<Seq<Net>, Memory>
+    ensures long { IfOk result (λ ns. length ns ≡ 1) }
+    ensures valid { IfOk result (All (IsValidNet 2)) }
     ensures free { IfOk result (All (λ (n : Net). n.fixed ≡ None)) }
 {
     let mut nets = Seq::new(alloc);
-    nets.push(net(alloc, keys)?)?;
-    nets.push(net(alloc, keys)?)?;
+    nets.push(Net {
+        name: Name::of(alloc, "n")?,
+        source: 0,
+        targets: Seq::from_vec(Vec::from_slice(alloc, &[1])?),
+        keys: 1,
+        fixed: None,
+    })?;
     Ok(nets)
 }
 
-fn graph(alloc: Global, x: u8, keys: u64) -> Result<Graph, Memory>
-    requires some { 1 ≤ keys }
-    requires few { keys ≤ 4294967296 }
+fn graph(alloc: Global) -> Result<Graph, Memory>
     ensures { IfOk result IsValidGraph }
 {
-    let vertices = vertices(alloc, x)?;
-    let nets = nets(alloc, keys)?;
+    let vertices = ends(alloc)?;
+    let nets = nets(alloc)?;
     Ok(Graph { vertices, nets })
 }
 
-// The plan of such a graph on a line whose link is dead at this chip, in this direction.
-fn compiled(alloc: Global, dead: u8, dir: Dir, x: u8, keys: u64) -> Result<Plan, CompileErr>
-    requires on_line { dead < 3 }
-    requires some { 1 ≤ keys }
-    requires few { keys ≤ 4294967296 }
-{
-    let machine = line(alloc, dead, dir)?;
-    let graph = graph(alloc, x, keys)?;
-    compile(alloc, &machine, &graph)
-}
-
-// Whether the three vertices stand on their chips, on cores 1, 1 and 2.
-fn stands(plan: &Plan) -> bool {
-    match plan.placement.spots.as_slice() {
-        [a, b, c] => a.core == 1 && b.core == 1 && c.core == 2 && a.chip.x == 0 && b.chip.x == 2,
-        _ => false,
-    }
-}
-
-// Whether the second net has four keys behind the first's, its two targets in order, and a tree of two links to the East,
-// as it grew.
-fn is_netted(plan: &Plan) -> bool {
-    match (plan.nets.as_slice(), plan.grown.as_slice()) {
-        ([_, net], [_, grown]) => net.block.key == 4
-            && net.block.mask == 0xffff_fffc
-            && net.targets.len() == 2
-            && net.targets.get(0).core == 2
-            && net.tree.edges.len() == 2
-            && grown.tree.edges.len() == 2
-            && grown.joins.len() == 2,
-        _ => false,
-    }
-}
-
 #[test]
-fn nets_over_three_chips_have_their_keys_targets_and_trees(rt: HostRuntime) {
-    assert!(rt;
-        matches!(&compiled(rt.alloc(), 2, Dir::East, 2, 3), Ok(plan) if stands(plan) && is_netted(plan))
-    );
-}
-
-#[test]
-fn a_vertex_on_a_chip_that_is_not_there_has_no_room(rt: HostRuntime) {
-    assert!(rt;
-        matches!(
-            &compiled(rt.alloc(), 2, Dir::East, 3, 3),
-            Err(CompileErr::NoRoom { vertex: 1 })
-        )
-    );
-}
-
-#[test]
-fn a_net_that_needs_all_keys_leaves_none_for_the_next(rt: HostRuntime) {
-    assert!(rt;
-        matches!(
-            &compiled(rt.alloc(), 2, Dir::East, 2, 4_294_967_296),
-            Err(CompileErr::KeysOut { net: 1 })
-        )
-    );
-}
-
-#[test]
-fn a_target_behind_a_dead_link_is_cut_off(rt: HostRuntime) {
-    assert!(rt;
-        matches!(
-            &compiled(rt.alloc(), 1, Dir::East, 2, 3),
-            Err(CompileErr::CutOff {
-                net: 0,
-                target: Chip { x: 2, y: 0 }
-            })
-        )
-    );
+fn two_workers_meet_at_the_gate_and_the_image_is_that_of_the_line(
+    rt: HostRuntime,
+) -> Result<(), Fail> {
+    let gate = Meeting {
+        first: AtomicBool::new(false),
+        second: AtomicBool::new(false),
+        missed: AtomicBool::new(false),
+    };
+    let machine = line(rt.alloc())?;
+    let graph = graph(rt.alloc())?;
+    let Ok(plan) = compile(&rt, rt.alloc(), &machine, &graph, 1024, 2, &gate) else {
+        return Ok(Err(Memory)?);
+    };
+    assert!(rt; !gate.missed.load(Ordering::SeqCst));
+    let image = image_of(rt.alloc(), &machine, &plan.tables)?;
+    let bytes = encode(rt.alloc(), &image)?;
+    assert_eq!(rt; bytes.as_slice(), IMAGE.as_slice());
+    Ok(())
 }
 
 // A plan is lent to workers, and a worker hands over a net that it routed.

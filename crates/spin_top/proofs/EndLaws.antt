@@ -6,7 +6,6 @@ use Rattle.mesh_core.specs.Opened.{MeetsJobLedger}
 use Rattle.job_readers.specs.declared.jobs.Job.{Job}
 use Rattle.run_report.specs.declared.reports.Report.{Report}
 use Rattle.par_compile.specs.declared.compiling.Plan.{Plan}
-use Rattle.par_compile.specs.Compiled.{IsPlanOf}
 use Rattle.command_words.specs.Commands.{spelled, IsBuilt}
 use Rattle.command_words.specs.declared.commands.Command.{Command}
 use Rattle.command_words.specs.declared.commands.Command.TheVariants.{Run, Trace}
@@ -18,10 +17,10 @@ use Rattle.job_bytes.specs.Jobs.{job_in}
 use Rattle.job_bytes.proofs.JobBytes.{told_bytes, told_long}
 use Rattle.spin_top.specs.declared.outcomes.Outcome.{Outcome}
 use Rattle.spin_top.specs.declared.outcomes.Parts.{Parts}
-use Rattle.spin_top.specs.Causes.{HasCause, usage, unbuilt, no_job, no_plan, long_table, no_memory, AskForJob, AreRefused, HasNoPlan}
+use Rattle.spin_top.specs.Causes.{HasCause, usage, unbuilt, no_job, no_plan, no_memory, AskForJob, AreRefused, HasNoPlan}
 use Rattle.spin_top.specs.Ends.{Ends, made, refused, Says, IsExact, HasAnswer}
-use Rattle.spin_top.specs.Made.{no_parts, plan_parts, run_parts, WhereGiven, WhereRun, HasRunOut, IsTraced, IsKept, Makes, ran, traced, listed, IsMade}
-use Rattle.spin_top.specs.Planned.{IsPlanned}
+use Rattle.spin_top.specs.Made.{no_parts, plan_parts, run_parts, WhereGiven, WhereRun, HasRunOut, IsTraced, IsKept, Makes, ran, traced, imaged, listed, IsMade}
+use Rattle.spin_top.specs.Planned.{IsThePlan}
 use Rattle.spin_top.specs.Writing.{Writing, IsWritten}
 use Rattle.spin_top.proofs.Exclusive.{ok_err, same_job, none_served, one_refusal, planned_not_refused}
 
@@ -49,6 +48,7 @@ makes_built : (c : Command) (job : Job) (plan : Plan) (parts : Parts) (text : Li
 makes_built c job plan parts text makes = elim makes [
   | ran is reports ↦ subst IsBuilt (sym is) tt
   | traced is reports ↦ subst IsBuilt (sym is) tt
+  | imaged is images ↦ subst IsBuilt (sym is) tt
   | listed is lists ↦ subst IsBuilt (sym is) tt
 ]
 
@@ -60,6 +60,7 @@ by_word : (P : Parts → Type 0) (c : Command) (job : Job) (plan : Plan) (parts 
 by_word P c job plan parts text makes on_run on_trace on_tables = elim makes [
   | ran is r ↦ subst P (sym r.4) (on_run is r.0 r.1 r.2 r.3)
   | traced is r ↦ subst P (sym r.4) (on_trace is r.0 r.1 r.2 r.3)
+  | imaged is l ↦ subst P (sym l.0) on_tables
   | listed is l ↦ subst P (sym l.0) on_tables
 ]
 
@@ -92,9 +93,9 @@ module _ {words : List (List ℕ)} {reading : Reading} {writing : Writing} {o : 
     | refused r cause parts written ↦ subst P (sym parts) none
   ]
 
-  pub plan_clause : WhereGiven o.parts IsPlanned
-  plan_clause = of_parts (λ p. WhereGiven p IsPlanned) tt
-      (λ text m. by_word (λ p. WhereGiven p IsPlanned) m.command m.job m.plan o.parts text m.makes
+  pub plan_clause : WhereGiven o.parts IsThePlan
+  plan_clause = of_parts (λ p. WhereGiven p IsThePlan) tt
+      (λ text m. by_word (λ p. WhereGiven p IsThePlan) m.command m.job m.plan o.parts text m.makes
       (λ is mesh report kept run. m.planned) (λ is mesh report kept trace. m.planned) m.planned)
 
   pub ledger_clause : WhereRun o.parts KeepsLedger
@@ -130,7 +131,6 @@ module _ {words : List (List ℕ)} {reading : Reading} {writing : Writing} {o : 
       | unbuilt c asked un untouched is ↦ absurd (none_some (spelled words) c none asked)
       | no_job asks input ↦ absurd (none_some (spelled words) asks.0 none asks.1)
       | no_plan asks job read none' ↦ absurd (none_some (spelled words) asks.0 none asks.1)
-      | long_table asks job read long is ↦ absurd (none_some (spelled words) asks.0 none asks.1)
       | no_memory part is ↦ inr (inr is)
     ])
   ]
@@ -146,7 +146,6 @@ module _ {words : List (List ℕ)} {reading : Reading} {writing : Writing} {o : 
           | unbuilt d asked' un untouched is ↦ inl is
           | no_job asks input ↦ absurd (never_asked asks)
           | no_plan asks job read none ↦ absurd (never_asked asks)
-          | long_table asks job read long is ↦ absurd (never_asked asks)
           | no_memory part is ↦ inr (inr is)
         ])
       ]
@@ -154,7 +153,7 @@ module _ {words : List (List ℕ)} {reading : Reading} {writing : Writing} {o : 
   -- bytes that are refused
   say_refusal : AskForJob words → (bytes : List ℕ) → reading.left ≡ Some bytes → (r : Refusal) → AreRefused bytes r → Says o.refusal r
   say_refusal asks bytes told r are = elim ends [
-    | made text m written ↦ absurd (planned_not_refused bytes r are m.job (read_told reading m.job bytes told m.read) m.plan m.planned.as_defined)
+    | made text m written ↦ absurd (planned_not_refused bytes r are m.job (read_told reading m.job bytes told m.read) m.plan m.planned.0)
     | refused s cause parts written ↦ says r s written (elim cause [
       | usage none untouched is ↦ absurd (none_some (spelled words) asks.0 none asks.1)
       | unbuilt c asked un untouched is ↦ absurd (un (subst IsBuilt (one_command (spelled words) asks.0 c asks.1 asked) asks.2))
@@ -166,7 +165,6 @@ module _ {words : List (List ℕ)} {reading : Reading} {writing : Writing} {o : 
         ]
       ]
       | no_plan asked job read none ↦ inl (one_refusal bytes s r (inr (job, read_told reading job bytes told read, none)) are)
-      | long_table asked job read long is ↦ absurd (planned_not_refused bytes r are job (read_told reading job bytes told read) long.0 long.1)
       | no_memory part is ↦ inr (inr is)
     ])
   ]
@@ -181,7 +179,7 @@ module _ {words : List (List ℕ)} {reading : Reading} {writing : Writing} {o : 
     not_refused r (inl refused') = ok_err answer.bytes answer.job r answer.read refused'
     not_refused r (inr of_job) =
         let none : HasNoPlan answer.job r = subst (λ j. HasNoPlan j r) (same_job answer.bytes of_job.0 answer.job of_job.1 answer.read) of_job.2 in
-        none_served answer.job.machine answer.job.graph answer.placed answer.keyed answer.joined none.error none.cause r none.names
+        none_served answer.job.machine answer.job.graph answer.job.run.target answer.placed answer.keyed answer.joined answer.short none.error none.cause r none.names
 
     only_memory : (r : Refusal) → HasCause words reading r → r ≡ refusals.Memory
     only_memory r cause = elim cause [
@@ -195,9 +193,6 @@ module _ {words : List (List ℕ)} {reading : Reading} {writing : Writing} {o : 
         ]
       ]
       | no_plan asked job read none ↦ absurd (not_refused r (inr (job, read_told reading job answer.bytes answer.told read, none)))
-      | long_table asked job read long is ↦
-          let same : job ≡ answer.job = same_job answer.bytes job answer.job (read_told reading job answer.bytes answer.told read) answer.read in
-          absurd (long.2 (answer.fit long.0 (subst (λ (j : Job). IsPlanOf j.machine j.graph long.0) same long.1)))
       | no_memory part is ↦ is
     ]
 
@@ -234,6 +229,5 @@ read_in_part words reading r cause = elim cause [
     | no_memory_read part is ↦ part
   ]
   | no_plan asks job read none ↦ (read.bytes, read.all.gives)
-  | long_table asks job read long is ↦ (read.bytes, read.all.gives)
   | no_memory part is ↦ part
 ]

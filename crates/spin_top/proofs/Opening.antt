@@ -36,13 +36,13 @@ nothing : Net
 nothing = record { name = []; source = 0; targets = []; keys = 0; fixed = None }
 
 -- each packet of a run part has a key of its net's plan
-pub are_of_nets : (m : Description) (graph : Graph) (run : RunPart) (plan : Plan) → IsRunOf graph run → IsPlanOf m graph plan → AreOfNets plan.nets run.packets
-are_of_nets m graph run plan is_run planned i p at =
+pub are_of_nets : (m : Description) (graph : Graph) (target : ℕ) (run : RunPart) (plan : Plan) → IsRunOf graph run → IsPlanOf m graph target plan → AreOfNets plan.nets run.packets
+are_of_nets m graph target run plan is_run planned i p at =
     let asked : IsPacketOf graph.nets p = All-at (IsPacketOf graph.nets) run.packets i p is_run.packets at in
     let net : Net = slice_index_or graph.nets p.net nothing in
     let there : slice_get graph.nets p.net ≡ Some net = slice_get-get_or graph.nets p.net nothing asked.0 in
     let below : p.index < net.keys = subst (λ k. p.index < k) (key_count graph.nets p.net net there) asked.1 in
-    let block = AllZip-at_first HasKeys graph.nets (blocks_of plan.nets) planned.enough p.net net there in
+    let block = AllZip-at_first HasKeys graph.nets (blocks_of plan.nets) planned.routing.enough p.net net there in
     let of = with_block plan.nets p.net block.0 (slice_get plan.nets p.net) refl (sym (slice_get-map (λ (n : NetPlan). n.block) plan.nets p.net) ∙ block.1) in
     let its = block.2 p.index below in
     let key : IsKeyOf block.0 (block.0.key + p.index) = record { fits = its.0; matches = its.1 } in

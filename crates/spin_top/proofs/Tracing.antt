@@ -70,6 +70,6 @@ told_as_expected job plan mesh did report is_mesh setup ledger run reported =
 pub traced_ledger : (job : Job) (plan : Plan) → IsRunOf job.graph job.run → IsPlanned job plan → IsMesh (opened_of job plan) → (es : List Event) →
     MeetsJobLedger (after_events (opened_of job plan) es) plan.nets job.run.packets
 traced_ledger job plan run planned mesh es =
-    let of_nets : AreOfNets plan.nets job.run.packets = are_of_nets job.machine job.graph job.run plan run planned.as_defined in
+    let of_nets : AreOfNets plan.nets job.run.packets = are_of_nets job.machine job.graph job.run.target job.run plan run planned in
     events_keep_job (opened_of job plan) plan.nets job.run.packets mesh planned.right
-    (opened_meets_ledger (setup_of job plan) plan.nets job.run.packets planned.as_defined.stand of_nets) es
+    (opened_meets_ledger (setup_of job plan) plan.nets job.run.packets planned.routing.stand of_nets) es

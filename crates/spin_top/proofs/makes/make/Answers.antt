@@ -1,5 +1,5 @@
 use Rattle.spin_top.specs.declared.makes.Made.{Made}
-use Rattle.spin_top.specs.Made.{HasRunOut, IsTraced, Makes, Reports, ran, traced}
+use Rattle.spin_top.specs.Made.{HasRunOut, Images, IsTraced, Makes, Reports, imaged, ran, traced}
 use Rattle.spin_top.proofs.EndLaws.{ok_weaker}
 use Rattle.spin_top.proofs.makes.make.Goals as goal
 
@@ -12,3 +12,8 @@ pub returns-in-Trace : goal.returns-in-Trace
 returns-in-Trace c =
     ok_weaker c.trace.result (λ (m : Made). Reports IsTraced c.args.job c.args.plan m.parts m.text) (λ (m : Made). Makes c.args.command c.args.job c.args.plan m.parts m.text)
     (λ m reports. traced c.in-Trace.is reports) c.trace.ensures
+
+pub returns-in-Compile : goal.returns-in-Compile
+returns-in-Compile c =
+    ok_weaker c.image.result (λ (m : Made). Images c.args.job c.args.plan m.parts m.text) (λ (m : Made). Makes c.args.command c.args.job c.args.plan m.parts m.text)
+    (λ m images. imaged c.in-Compile.is images) c.image.ensures

@@ -1,5 +1,5 @@
-use Rattle.std.proofs.Common.{ap, ◌∙◌, inl}
-use Rattle.par_compile.specs.declared.compiling.CompileErr.TheVariants.{NoRoom, KeysOut, CutOff}
+use Rattle.std.proofs.Common.{ap, ◌∙◌, refl, inl}
+use Rattle.par_compile.specs.declared.compiling.CompileErr.TheVariants.{NoRoom, KeysOut, CutOff, TableLong}
 use Rattle.refusals.specs.declared.causes.Refusal.TheVariants as refusals
 use Rattle.spin_top.proofs.Exclusive.{names_same}
 use Rattle.spin_top.proofs.plans.refusal_for.Goals as goal
@@ -15,3 +15,6 @@ returns-in_ok-of-in-KeysOut c = inl (names_same c.args.job.now.graph c.args.erro
 pub returns-in_ok-of-in-CutOff : goal.returns-in_ok-of-in-CutOff
 returns-in_ok-of-in-CutOff c = inl (names_same c.args.job.now.graph c.args.error (CutOff c.in-CutOff.net c.in-CutOff.target) _ c.in-CutOff.is
     (c.get-net-in-CutOff.result.now, c.get-net-in-CutOff.ensures, ap (λ name. refusals.CutOff name c.in-CutOff.target) (c.in_ok-of-in-CutOff.ensures ∙ c.as_str-in-CutOff.ensures)))
+
+pub returns-in-TableLong : goal.returns-in-TableLong
+returns-in-TableLong c = inl (names_same c.args.job.now.graph c.args.error (TableLong c.in-TableLong.chip c.in-TableLong.table) _ c.in-TableLong.is refl)

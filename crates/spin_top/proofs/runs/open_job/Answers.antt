@@ -11,10 +11,10 @@ open_mesh-requires-clause-of_nets c =
     let job = c.args.job.now in
     let plan = c.args.plan.now in
     subst (λ ns. AreOfNets ns c.as_slice-packets.result.now) (sym c.as_slice-nets.ensures)
-    (subst (AreOfNets plan.nets) (sym c.as_slice-packets.ensures) (are_of_nets job.machine job.graph job.run plan c.requires.run c.requires.planned.as_defined))
+    (subst (AreOfNets plan.nets) (sym c.as_slice-packets.ensures) (are_of_nets job.machine job.graph job.run.target job.run plan c.requires.run c.requires.planned))
 
 pub open_mesh-requires-clause-sources : goal.open_mesh-requires-clause-sources
 open_mesh-requires-clause-sources c =
     let plan = c.args.plan.now in
     subst (All (λ (net : NetPlan). Contains c.in_ok-pieces.pieces.spots net.source)) (sym c.as_slice-nets.ensures)
-    (subst (λ (spots : List Spot). All (λ (net : NetPlan). Contains spots net.source) plan.nets) (sym c.in_ok-pieces.ensures.spots) c.requires.planned.as_defined.stand.sources)
+    (subst (λ (spots : List Spot). All (λ (net : NetPlan). Contains spots net.source) plan.nets) (sym c.in_ok-pieces.ensures.spots) c.requires.planned.routing.stand.sources)

@@ -3,7 +3,7 @@ use Rattle.std.proofs.lemmas.Bool.{false≢true}
 use Rattle.command_words.specs.Commands.{texts_of}
 use Rattle.job_bytes.specs.Inputs.{Reading}
 use Rattle.job_bytes.proofs.JobBytes.{err_carried}
-use Rattle.spin_top.specs.Causes.{HasCause, AskForJob, unbuilt, no_job, no_plan, long_table, no_memory}
+use Rattle.spin_top.specs.Causes.{HasCause, AskForJob, unbuilt, no_job, no_plan, no_memory}
 use Rattle.spin_top.proofs.tops.made_of.Goals as goal
 
 pub returns-then-not-is_built-clause-err : goal.returns-then-not-is_built-clause-err
@@ -47,10 +47,7 @@ returns-in_err-plan-clause-err g c =
     let read = c.in_ok-job.ensures.job in
     let cause : HasCause (texts_of c.args.words.now) reading c.in_err-plan.field-0.0 = elim c.in_err-plan.ensures.err [
       | inl none ↦ no_plan asks c.in_ok-job.job read none
-      | inr late ↦ elim late [
-        | inl long ↦ long_table asks c.in_ok-job.job read long.0 long.1
-        | inr memory ↦ no_memory (read.bytes, read.all.gives) memory
-      ]
+      | inr memory ↦ no_memory (read.bytes, read.all.gives) memory
     ]
     in
     err_carried c.from_residual-in_err-plan.result c.in_err-plan.field-0.0 (HasCause (texts_of c.args.words.now) reading) c.from_residual-in_err-plan.ensures cause

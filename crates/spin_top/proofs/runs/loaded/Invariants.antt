@@ -1,7 +1,0 @@
-use Rattle.std.proofs.Common.{◌≡◌, map, take}
-use Rattle.tern_word.specs.Entries.{entry_of}
-use Rattle.spin_top.proofs.runs.loaded.Given as goal
-
--- the entries of the rows so far
-abbrev pub invariant-loop-row : goal.invariant-loop-row
-invariant-loop-row l = l.entries.items ≡ map entry_of (take l.row-index l.table.rows)
