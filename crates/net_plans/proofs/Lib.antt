@@ -1,6 +1,7 @@
 pub mod CutOffLaws
 pub mod Ordering
-mod Determined
+pub mod Determined
 mod Planning
 mod Repairs
+mod Routing
 mod TargetLaws

@@ -1,5 +1,6 @@
 -- What threads find when they route nets side by side.
-use Rattle.std.specs.Prelude.{◌≡◌, ℕ, List, length, All, Some, Result, Ok, Err, slice_get}
+use Rattle.std.specs.Prelude.{◌≡◌, ℕ, ◌<◌, List, length, All, Some, Result, Ok, Err, slice_get}
+use Rattle.spin_base.specs.declared.chips.Chip.{Chip}
 use Rattle.spin_base.specs.declared.chips.Spot.{Spot}
 use Rattle.spin_base.specs.declared.blocks.Block.{Block}
 use Rattle.machine_desc.specs.Description.{Description}
@@ -9,10 +10,15 @@ use Rattle.app_graph.specs.declared.graphs.Graph.{Graph}
 use Rattle.app_graph.specs.declared.graphs.Net.{Net}
 use Rattle.app_graph.specs.ValidGraph.{IsValidGraph}
 use Rattle.link_detours.specs.declared.repairs.RepairErr.{RepairErr}
+use Rattle.link_detours.specs.declared.repairs.RepairErr.TheVariants.{CutOff}
 use Rattle.link_detours.specs.declared.roads.Roads.{Roads}
+use Rattle.ner_trees.specs.declared.growths.Grown.{Grown}
+use Rattle.net_tables.specs.declared.nets.NetPlan.{NetPlan}
 use Rattle.link_detours.specs.LiveRoads.{AreRoadsOf}
 use Rattle.net_plans.specs.declared.nets.Routed.{Routed}
 use Rattle.net_plans.specs.declared.nets.RoutedNet.{RoutedNet}
+use Rattle.net_plans.specs.declared.nets.NetErr.{NetErr}
+use Rattle.net_plans.specs.declared.nets.NetErr.TheVariants as errors
 use Rattle.net_plans.specs.Cause.{IsCauseOne}
 use Rattle.net_plans.specs.CutOffTargets.{HasNoneCutOff}
 use Rattle.net_plans.specs.NetPlans.{IsPlanned}
@@ -50,3 +56,26 @@ pub record IsRoutedNet (m : Description) (spots : List Spot) (nets : List Net) (
 pub record AreRouted (m : Description) (spots : List Spot) (nets : List Net) (blocks : List Block) (items : List RoutedNet) : Type 0 where
   pub one_each : length items ≡ length nets
   pub each : (i : ℕ) (item : RoutedNet) → slice_get items i ≡ Some item → IsRoutedNet m spots nets blocks i item
+
+-- ---- looked through in order
+
+-- each item has a tree and a plan, which stand at its place
+pub record HaveWays (items : List RoutedNet) (grown : List Grown) (plans : List NetPlan) : Type 0 where
+  pub trees_long : length grown ≡ length items
+  pub plans_long : length plans ≡ length items
+  pub each : (i : ℕ) (item : RoutedNet) (tree : Grown) (plan : NetPlan) → slice_get items i ≡ Some item → slice_get grown i ≡ Some tree → slice_get plans i ≡ Some plan →
+      item.way ≡ Ok (record { grown = tree; plan = plan })
+
+-- an item has a target that is cut off, and each before it has a tree and a plan
+pub record IsFirstCut (items : List RoutedNet) (net : ℕ) (target : Chip) : Type 0 where
+  pub place : ℕ
+  pub item : RoutedNet
+  pub at : slice_get items place ≡ Some item
+  pub names : item.net ≡ net
+  pub cut_off : item.way ≡ Err (CutOff target)
+  pub before : (j : ℕ) (other : RoutedNet) → j < place → slice_get items j ≡ Some other → (r : Routed) × (other.way ≡ Ok r)
+
+-- the first item without a tree and a plan has a target that is cut off; want of memory is free
+abbrev pub IsFirstWithout : List RoutedNet → NetErr → Type 0
+IsFirstWithout items (errors.CutOff net target) = IsFirstCut items net target
+IsFirstWithout items errors.Memory = Unit {0}

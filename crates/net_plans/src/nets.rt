@@ -8,7 +8,7 @@ ghost use Rattle.link_detours.specs.LiveRoads.{AreRoadsOf};
 ghost use Rattle.net_plans.specs.Cause.{IsCause, IsCauseOne, IsRefusedBy};
 ghost use Rattle.net_plans.specs.CutOffTargets.{HasNoneCutOff, IsFirstCutOffIn, IsFirstCutOff};
 ghost use Rattle.net_plans.specs.NetPlans.{IsPlanned, ArePlanned};
-ghost use Rattle.net_plans.specs.Ways.{AreRouted, CanRoute, IsRoutedNet};
+ghost use Rattle.net_plans.specs.Ways.{AreRouted, CanRoute, HaveWays, IsFirstWithout, IsRoutedNet};
 
 use crate::targets::{target_chips, targets_of};
 use app_graph::{Graph, Net};
@@ -94,6 +94,14 @@ pub fn net_plans<R: Threads + Sync>(
     let Ok(routed) = routed_nets(rt, alloc, machine, &roads, graph, spots, blocks) else {
         return Err(NetErr::Memory);
     };
+    looked_through(alloc, routed)
+}
+
+// The trees and plans of all nets, or the first net of which a target is cut off, or which wanted memory.
+fn looked_through(alloc: Global, routed: Vec<RoutedNet>) -> Result<RoutedNets, NetErr>
+    ensures all { IfOk result (λ r. HaveWays routed.items r.grown r.plans) }
+    ensures first { IfErr result (IsFirstWithout routed.items) }
+{
     let mut grown = Seq::new(alloc);
     let mut plans = Seq::new(alloc);
     for item in routed {

@@ -27,13 +27,13 @@ module _ (m : Description) (graph : Graph) where
   none_routed : (p : Placement) (gs : List Grown) (ns : List NetPlan) → IsRoutingOf m graph p gs ns → (i : ℕ) (net : Net) → slice_get graph.nets i ≡ Some net → HasNoneCutOff m p.spots net
   none_routed p gs ns is i net at =
       let within = slice_get_within graph.nets i net at in
-      let plans_long = is.nets.one_plan_each in
-      let trees_long = is.nets.one_tree_each in
+      let plans_long = is.planned.one_plan_each in
+      let trees_long = is.planned.one_tree_each in
       let blocks_long = is.blocks.all in
       let b = slice_get_there (blocks_of ns) i (omega (arith, within, blocks_long)) in
       let t = slice_get_there gs i (omega (arith, within, trees_long)) in
       let n = slice_get_there ns i (omega (arith, within, plans_long)) in
-      let planned = is.nets.each i net b.0 t.0 n.0 at b.1 t.1 n.1 in
+      let planned = is.planned.each i net b.0 t.0 n.0 at b.1 t.1 n.1 in
       let tree : IsRoutingTree m n.0.tree.root n.0.tree.edges n.0.targets = All-at (λ (x : NetPlan). IsRoutingTree m x.tree.root x.tree.edges x.targets) ns i n.0 is.stand.trees n.1 in
       none_cut_off m p.spots net n.0.source n.0.targets n.0.tree.edges planned.source planned.targets
       (subst (λ r. IsRoutingTree m r n.0.tree.edges n.0.targets) planned.root tree)

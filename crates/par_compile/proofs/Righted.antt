@@ -1,9 +1,9 @@
 -- Final tables that are loaded route every net's packets by its tree.
-use Rattle.std.proofs.Common.{◌≡◌, ℕ, zero, suc, ◌-◌, ◌*◌, ◌^◌, ◌<◌, ◌≤◌, ◌==◌, false, bit_and, List, [], ◌∷◌, length, get_or, map, replicate, Some, refl, sym, ap, ◌∙◌, subst, arith}
+use Rattle.std.proofs.Common.{◌≡◌, ℕ, zero, suc, ◌-◌, ◌*◌, ◌^◌, ◌<◌, ◌≤◌, ◌==◌, false, bit_and, List, [], ◌∷◌, length, get_or, map, replicate, Some, refl, sym, ap, ◌∙◌, subst, arith, inl, inr}
 use Rattle.std.specs.List.{All, AllZip, slice_get, slice_index_or}
 use Rattle.std.proofs.lemmas.List.Elements.{All-nil, All-cons, All-contains, All-map}
 use Rattle.std.proofs.lemmas.List.Sorted.{Contains-permutation}
-use Rattle.std.proofs.lemmas.Option.{get_or_from_slice_get, slice_get_within}
+use Rattle.std.proofs.lemmas.Option.{get_or_from_slice_get, slice_get-get_or, slice_get_within}
 use lib.Bits.{and_zero_r}
 use Rattle.list_laws.proofs.Places.{All-each, AllZip-at_first, AllZip-at_second, slice_get_there, slice_get-mapped}
 use Rattle.spin_base.specs.declared.blocks.Block.{Block}
@@ -31,7 +31,7 @@ use Rattle.plain_tables.specs.PlainTable.{AtEach, AreRouted, HasChip, IsPlainTab
 use Rattle.plain_tables.proofs.Determined.{one_port, rows_lead}
 use Rattle.plain_tables.proofs.Trees.{chips_inside, comes_in_tree}
 use Rattle.plain_tables.proofs.Whole.{has_original}
-use Rattle.par_compile.specs.Finals.{AreFinals, IsCoverable, KeepsRows, StandsFor, kept_entries, loaded_of}
+use Rattle.par_compile.specs.Finals.{AreFinals, HasEnded, IsCoverable, KeepsRows, StandsFor, kept_entries, loaded_of}
 
 -- ---- unused entries
 
@@ -134,6 +134,16 @@ module _ (m : Description) (nets : List NetPlan) (target : ℕ) (tables : List T
               let chip : Chip = chip_of m j in
               let inside = chip_of-inside m j (subst (λ n. j < n) many (slice_get_within tables j t at)) in
               rows_lead m nets routed chip t.rows (plain chip t inside (ap (slice_get tables) (index_of-chip_of m j) ∙ at))
+
+-- where a table keeps more rows than wanted, covering has come to its end
+pub all_ended : (target : ℕ) (tables : List Table) (finals : List Final) → AllZip (λ (t : Table) f. StandsFor target t.rows f) tables finals → All (HasEnded target) finals
+all_ended target tables finals each k d below =
+    let f : Final = slice_index_or finals k d in
+    let t = AllZip-at_second (λ (u : Table) g. StandsFor target u.rows g) tables finals each k f (slice_get-get_or finals k d below) in
+    elim t.2.ended [
+      | inl short ↦ inl (let few = t.2.few.0 in omega (arith, few, short))
+      | inr none ↦ inr none
+    ]
 
 -- as many stand beside each other
 pub all_zipped_length : {X Y : Type 0} (R : X → Y → Type 0) (xs : List X) (ys : List Y) → AllZip R xs ys → length ys ≡ length xs

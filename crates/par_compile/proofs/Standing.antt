@@ -1,6 +1,6 @@
 -- The nets of a plan stand on the machine.
-use Rattle.std.proofs.Common.{◌≡◌, ◌≢◌, ◌<◌, suc, List, [], ◌∷◌, length, refl, sym, ap, ◌∙◌, subst, arith}
-use Rattle.std.specs.List.{All, AllPairs, Contains, slice_index_or}
+use Rattle.std.proofs.Common.{◌≡◌, ◌≢◌, ◌<◌, suc, None, List, [], ◌∷◌, length, refl, sym, ap, ◌∙◌, subst, arith}
+use Rattle.std.specs.List.{All, AllPairs, AllZip, Contains, slice_index_or}
 use Rattle.std.proofs.lemmas.Option.{slice_get-get_or}
 use Rattle.spin_base.specs.declared.chips.Spot.{Spot}
 use Rattle.spin_base.specs.declared.blocks.Block.{Block}
@@ -22,7 +22,13 @@ use Rattle.net_plans.specs.Order.{IsBelow}
 use Rattle.net_plans.specs.Targets.{spot_key}
 use Rattle.net_plans.proofs.Ordering.{not_both}
 use Rattle.plain_tables.specs.PlainTable.{AreRouted}
-use Rattle.par_compile.specs.Compiled.{blocks_of}
+use Rattle.app_graph.specs.declared.graphs.Graph.{Graph}
+use Rattle.app_graph.specs.declared.graphs.Vertex.{Vertex}
+use Rattle.machine_desc.specs.Live.{IsUsable}
+use Rattle.place_fit.specs.declared.placing.Placement.{Placement}
+use Rattle.place_fit.specs.Placement.{IsPlacement}
+use Rattle.key_alloc.specs.KeyBlocks.{AreRightBlocks, HasKeys}
+use Rattle.par_compile.specs.Compiled.{blocks_of, IsRoutingOf}
 
 -- ---- plans side by side with what was given
 
@@ -91,4 +97,22 @@ module _ (m : Description) (spots : List Spot) where
       targets = each_plan (λ net. All (Contains spots) net.targets) (λ n b t p plan.
           All-each (Contains spots) p.targets (λ s has. let from = plan.targets.only s has in Contains-at spots from.0 s from.2));
       different = each_plan (λ net. AllPairs (λ a b. a ≢ b) net.targets) differ;
+    }
+
+-- the stages together: a graph placed, keyed and routed
+pub routing_is : (m : Description) (graph : Graph) (p : Placement) (bs : List Block) (gs : List Grown) (ns : List NetPlan) → IsPlacement m graph.vertices p.spots p.memory →
+    AllPairs (λ a b. a ≢ b) p.spots → All (IsSite m) p.spots → AllZip (λ (v : Vertex) s. v.device ≡ None → IsUsable m s) graph.vertices p.spots → AreRightBlocks graph.nets bs →
+    AllPairs (λ a b. Intersects a b → ⊥) bs → AllZip HasKeys graph.nets bs → ArePlanned m p.spots graph.nets bs gs ns →
+    All (λ (net : NetPlan). IsRoutingTree m net.tree.root net.tree.edges net.targets) ns → IsRoutingOf m graph p gs ns
+routing_is m graph p bs gs ns placed different sites cores keyed apart enough planned routing =
+    let same : blocks_of ns ≡ bs = blocks_same m p.spots graph.nets bs gs ns keyed.all planned in
+    record {
+      placed = placed;
+      different = different;
+      sites = sites;
+      cores = cores;
+      blocks = subst (AreRightBlocks graph.nets) (sym same) keyed;
+      enough = subst (AllZip HasKeys graph.nets) (sym same) enough;
+      planned = subst (λ l. ArePlanned m p.spots graph.nets l gs ns) (sym same) planned;
+      stand = stands m p.spots graph.nets bs gs ns keyed.all planned (subst (AllPairs (λ (a b : Block). Intersects a b → ⊥)) (sym same) apart) routing;
     }

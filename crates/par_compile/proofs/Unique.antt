@@ -1,9 +1,11 @@
 -- A graph has one routing and one list of final tables: so one plan, or one long table.
-use Rattle.std.proofs.Common.{◌≡◌, ℕ, ◌*◌, ◌<◌, ◌≤◌, List, map, length, get_or, true, Option, Some, sym, ap, ◌∙◌, subst, arith}
-use Rattle.std.specs.List.{All, Contains, position, slice_get}
-use Rattle.std.proofs.lemmas.Bool.{ltb-true}
+use Rattle.std.proofs.Common.{◌≡◌, ℕ, ◌*◌, ◌<◌, ◌≤◌, List, map, length, get_or, nat_lt, true, false, Option, Some, None, inl, inr, sym, ap, ◌∙◌, subst, arith}
+use Rattle.std.specs.List.{All, Contains, position, position_or_len, slice_get}
+use Rattle.std.proofs.lemmas.Bool.{cases_order, lt-ltb, ltb-true, true≢false}
 use Rattle.std.proofs.lemmas.List.Elements.{All-contains}
 use Rattle.std.proofs.lemmas.List.Quantifiers.{position-Some}
+use Rattle.std.proofs.lemmas.List.Sums.{fails_before_first}
+use Rattle.std.proofs.lemmas.Grind.{common_steps}
 use Rattle.std.proofs.lemmas.Option.{get_or_from_slice_get, slice_get_within}
 use Rattle.spin_base.specs.declared.chips.Chip.{Chip}
 use Rattle.spin_base.specs.declared.chips.Spot.{Spot}
@@ -30,7 +32,8 @@ use Rattle.default_routes.proofs.Determined as final
 use Rattle.tern_word.specs.declared.tables.Row.{Row}
 use Rattle.par_compile.specs.declared.compiling.Plan.{Plan}
 use Rattle.par_compile.specs.Compiled.{blocks_of, HasLongTable, IsPlanOf, IsRoutingOf, is_long}
-use Rattle.par_compile.specs.Finals.{AreFinals}
+use Rattle.cover_merge.specs.Covering.{HasNoLegalPair}
+use Rattle.par_compile.specs.Finals.{AreFinals, HasEnded}
 
 -- nets that stand on sites of a machine are what plain tables ask for
 pub routed_of : (m : Description) (spots : List Spot) (nets : List NetPlan) → All (IsSite m) spots → AreNetsOn m spots nets → AreRouted m nets
@@ -67,6 +70,34 @@ one_finals m nets routed target fs gs many also are others =
     let rows : a.rows ≡ b.rows = plain.one_table m nets routed c a.rows b.rows a.plain b.plain in
     final.one_table target b.rows f g (subst (λ (rs : List Row). IsFinalOf target rs f) rows a.is_final) b.is_final)
 
+le_from_ltb : (n : ℕ) → nat_lt 1024 n ≡ false → n ≤ 1024
+le_from_ltb n not = elim (cases_order n 1024) [
+  | inl same ↦ omega (arith, same)
+  | inr (inl less) ↦ omega (arith, less)
+  | inr (inr more) ↦ absurd (true≢false (sym (lt-ltb 1024 n more) ∙ not))
+]
+
+-- where none is long, each is short
+pub none_long : (fs : List Final) → position is_long fs ≡ None → All (λ (f : Final). length f.kept ≤ 1024) fs
+none_long fs none k d below =
+    let past : length fs ≤ position_or_len is_long fs = grind (arith, common_steps) in
+    le_from_ltb (length (get_or fs k d).kept) (fails_before_first is_long fs k d (omega arith))
+
+-- a long table keeps more rows than a router has entries
+is_more : (fs : List Final) (i : ℕ) (t : Final) → position is_long fs ≡ Some i → slice_get fs i ≡ Some t → 1024 < length t.kept
+is_more fs i t first at =
+    let long = (position-Some is_long fs i t first).1 in
+    let it : get_or fs i t ≡ t = get_or_from_slice_get fs i t t at in
+    ltb-true 1024 (length t.kept) (subst (λ (f : Final). is_long f ≡ true) it long)
+
+-- so covering has come to its end there
+pub long_has_no_pair : (target : ℕ) (fs : List Final) (i : ℕ) (t : Final) → target ≤ 1024 → All (HasEnded target) fs → position is_long fs ≡ Some i → slice_get fs i ≡ Some t →
+    HasNoLegalPair t.covered.table.rows
+long_has_no_pair target fs i t small ended first at = elim (All-at (HasEnded target) fs i t ended at) [
+  | inl short ↦ (let more = is_more fs i t first at in absurd (omega (arith, small, short, more)))
+  | inr none ↦ none
+]
+
 same_some : (a b : ℕ) (o : Option ℕ) → o ≡ Some a → o ≡ Some b → a ≡ b
 same_some a b o is also = cc
 
@@ -79,9 +110,9 @@ module _ (m : Description) (graph : Graph) where
       let placed = places.one_placement m graph.vertices p.spots q.spots p.memory q.memory a.placed b.placed in
       let blocks : blocks_of ns ≡ blocks_of os = keys.one_list graph.nets (blocks_of ns) (blocks_of os) a.blocks b.blocks in
       let its : ArePlanned m p.spots graph.nets (blocks_of ns) hs os =
-      subst (λ spots. ArePlanned m spots graph.nets (blocks_of ns) hs os) (sym placed.0) (subst (λ bs. ArePlanned m q.spots graph.nets bs hs os) (sym blocks) b.nets)
+      subst (λ spots. ArePlanned m spots graph.nets (blocks_of ns) hs os) (sym placed.0) (subst (λ bs. ArePlanned m q.spots graph.nets bs hs os) (sym blocks) b.planned)
       in
-      let both = one_list_of_plans m p.spots a.sites graph.nets (blocks_of ns) a.blocks.all gs hs ns os a.nets its in
+      let both = one_list_of_plans m p.spots a.sites graph.nets (blocks_of ns) a.blocks.all gs hs ns os a.planned its in
       (same_placement p q placed.0 placed.1, both.0, both.1)
 
   module _ (target : ℕ) where
@@ -105,9 +136,7 @@ module _ (m : Description) (graph : Graph) where
         same_finals plan.placement has.placement plan.grown has.grown plan.nets has.nets plan.tables has.finals is.routing has.routing is.one_table_each has.one_each is.tables has.are
         in
         let short : length table.kept ≤ 1024 = All-at (λ (f : Final). length f.kept ≤ 1024) has.finals (index_of m chip) table (subst (All (λ (f : Final). length f.kept ≤ 1024)) same is.short) has.at in
-        let long = (position-Some is_long has.finals (index_of m chip) table has.first).1 in
-        let it : get_or has.finals (index_of m chip) table ≡ table = get_or_from_slice_get has.finals (index_of m chip) table table has.at in
-        let more : 1024 < length table.kept = ltb-true 1024 (length table.kept) (subst (λ (f : Final). is_long f ≡ true) it long) in
+        let more = is_more has.finals (index_of m chip) table has.first has.at in
         omega (arith, short, more)
 
     -- a graph has one first long table

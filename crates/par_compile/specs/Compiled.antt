@@ -53,7 +53,7 @@ pub record IsRoutingOf (m : Description) (graph : Graph) (placement : Placement)
   pub cores : AllZip (λ (v : Vertex) s. v.device ≡ None → IsUsable m s) graph.vertices placement.spots
   pub blocks : AreRightBlocks graph.nets (blocks_of nets)
   pub enough : AllZip HasKeys graph.nets (blocks_of nets)
-  pub nets : ArePlanned m placement.spots graph.nets (blocks_of nets) grown nets
+  pub planned : ArePlanned m placement.spots graph.nets (blocks_of nets) grown nets
   pub stand : AreNetsOn m placement.spots nets
 
 -- A router's lookup memory has 1,024 entries (SpiNNaker datasheet). A final table is long where it keeps more rows.

@@ -56,6 +56,10 @@ pub record KeepsRows (f : Final) : Type 0 where
   pub places : All (λ s. s < length f.covered.table.rows) f.kept
   pub lead : All (λ (r : Row). 0 < r.route.bits) (loaded_rows f)
 
+-- A final table that keeps more rows than wanted has no two rows that can be merged.
+abbrev pub HasEnded : ℕ → Final → Type 0
+HasEnded target f = (length f.kept ≤ target) ⊎ HasNoLegalPair f.covered.table.rows
+
 -- ---- what workers find and leave
 
 -- a table that waits to be covered

@@ -1,11 +1,11 @@
-use Rattle.std.proofs.Common.{◌≡◌, ◌*◌, ◌∙◌, List, length, map}
+use Rattle.std.proofs.Common.{◌≡◌, ◌*◌, ◌≤◌, ◌∙◌, List, length, map, sym, subst}
 use Rattle.std.specs.List.{All, AllZip}
 use Rattle.default_routes.specs.declared.stripping.Final.{Final}
 use Rattle.default_routes.specs.FinalTable.{IsFinalOf}
 use Rattle.net_tables.specs.RightTables.{AreRight}
 use Rattle.tern_word.specs.declared.tables.Table.{Table}
-use Rattle.par_compile.specs.Finals.{AreFinals, KeepsRows, StandsFor, loaded_of}
-use Rattle.par_compile.proofs.Righted.{all_final, all_keep, all_right, all_zipped_length, coverable, few_chips}
+use Rattle.par_compile.specs.Finals.{AreFinals, HasEnded, KeepsRows, StandsFor, loaded_of}
+use Rattle.par_compile.proofs.Righted.{all_final, all_keep, all_ended, all_right, all_zipped_length, coverable, few_chips}
 use Rattle.par_compile.proofs.Working.{on_ok}
 use Rattle.par_compile.proofs.chip_tables.final_tables.Goals as goal
 
@@ -37,3 +37,13 @@ returns-clause-right g c =
     on_ok c.finals.result (AllZip (λ (t : Table) f. StandsFor c.args.target t.rows f) c.in_ok-tables.tables)
     (λ (fs : List Final). AreRight c.args.machine.now (map loaded_of fs) c.args.nets.now)
     (λ fs stand. all_right c.args.machine.now c.args.nets.now c.args.target c.in_ok-tables.tables fs c.requires.routed c.in_ok-tables.ensures.long c.in_ok-tables.ensures.serves stand) c.finals.ensures.stand
+
+pub returns-clause-few_chips : goal.returns-clause-few_chips
+returns-clause-few_chips g c =
+    on_ok c.finals.result (λ (fs : List Final). length fs ≡ c.args.machine.now.width * c.args.machine.now.height) (λ (fs : List Final). length fs ≤ 4096)
+    (λ fs long. subst (λ n. n ≤ 4096) (c.chips-chips.ensures.total ∙ sym long) c.chips-chips.ensures.few) (returns-clause-long g c)
+
+pub returns-clause-ended : goal.returns-clause-ended
+returns-clause-ended g c =
+    on_ok c.finals.result (AllZip (λ (t : Table) f. StandsFor c.args.target t.rows f) c.in_ok-tables.tables) (All (HasEnded c.args.target))
+    (λ fs stand. all_ended c.args.target c.in_ok-tables.tables fs stand) c.finals.ensures.stand

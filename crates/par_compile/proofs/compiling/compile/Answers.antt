@@ -1,51 +1,66 @@
-use Rattle.std.proofs.Common.{sym, subst, rules}
-use Rattle.std.specs.List.{AllPairs, AllZip}
-use Rattle.spin_base.specs.declared.blocks.Block.{Block}
-use Rattle.key_alloc.specs.KeyBlocks.{AreRightBlocks, HasKeys}
-use Rattle.net_plans.specs.NetPlans.{ArePlanned}
-use Rattle.tern_word.specs.Ternary.{Intersects}
+use Rattle.std.proofs.Common.{◌≡◌, ◌∙◌, ap, sym, subst, Some, rules}
+use Rattle.std.specs.List.{position, slice_get}
+use Rattle.default_routes.specs.declared.stripping.Final.{Final}
+use Rattle.par_compile.specs.Compiled.{is_long}
 use Rattle.par_compile.proofs.Refusing.{refused_where}
-use Rattle.par_compile.proofs.Standing.{blocks_same, routed, stands}
+use Rattle.par_compile.proofs.Standing.{routing_is}
+use Rattle.par_compile.proofs.Unique.{long_has_no_pair, none_long, one_plan, routed_of}
 use Rattle.par_compile.proofs.compiling.compile.Goals as goal
 
-pub plain_tables-requires : goal.plain_tables-requires
-plain_tables-requires c =
-    let same = blocks_same c.args.machine.now c.in-Ok.placement.spots c.args.graph.now.nets c.in-Ok-keys.blocks c.in-Ok-net_plans.routed.grown c.in-Ok-net_plans.routed.plans
-    c.in-Ok-keys.ensures.blocks.all c.in-Ok-net_plans.ensures.planned
+pub final_tables-requires-clause-routed : goal.final_tables-requires-clause-routed
+final_tables-requires-clause-routed g c κs within =
+    let routing =
+    routing_is c.args.machine.now c.args.graph.now c.in-Ok.placement c.in-Ok-keys.blocks c.in-Ok-net_plans.routed.grown c.in-Ok-net_plans.routed.plans c.in-Ok.ensures.placed c.in-Ok.ensures.different c.in-Ok.ensures.sites
+    c.in-Ok.ensures.cores c.in-Ok-keys.ensures.blocks c.in-Ok-keys.ensures.apart c.in-Ok-keys.ensures.enough c.in-Ok-net_plans.ensures.planned c.in-Ok-net_plans.ensures.routing
     in
-    routed c.args.machine.now c.in-Ok.placement.spots c.args.graph.now.nets c.in-Ok-keys.blocks c.in-Ok-net_plans.routed.grown c.in-Ok-net_plans.routed.plans c.in-Ok-keys.ensures.blocks.all
-    c.in-Ok-net_plans.ensures.planned (subst (AllPairs (λ (a b : Block). Intersects a b → ⊥)) (sym same) c.in-Ok-keys.ensures.apart) c.in-Ok-net_plans.ensures.routing
-    c.in-Ok.ensures.sites
+    routed_of c.args.machine.now c.in-Ok.placement.spots c.in-Ok-net_plans.routed.plans c.in-Ok.ensures.sites routing.stand
 
-pub returns-clause-plan : goal.returns-clause-plan
-returns-clause-plan c =
-    let same = blocks_same c.args.machine.now c.in-Ok.placement.spots c.args.graph.now.nets c.in-Ok-keys.blocks c.in-Ok-net_plans.routed.grown c.in-Ok-net_plans.routed.plans
-    c.in-Ok-keys.ensures.blocks.all c.in-Ok-net_plans.ensures.planned
-    in
-    record {
-      placed = c.in-Ok.ensures.placed;
-      different = c.in-Ok.ensures.different;
-      sites = c.in-Ok.ensures.sites;
-      cores = c.in-Ok.ensures.cores;
-      blocks = subst (AreRightBlocks c.args.graph.now.nets) (sym same) c.in-Ok-keys.ensures.blocks;
-      enough = subst (AllZip HasKeys c.args.graph.now.nets) (sym same) c.in-Ok-keys.ensures.enough;
-      nets = subst (λ bs. ArePlanned c.args.machine.now c.in-Ok.placement.spots c.args.graph.now.nets bs c.in-Ok-net_plans.routed.grown c.in-Ok-net_plans.routed.plans) (sym same) c.in-Ok-net_plans.ensures.planned;
-      stand = stands c.args.machine.now c.in-Ok.placement.spots c.args.graph.now.nets c.in-Ok-keys.blocks c.in-Ok-net_plans.routed.grown c.in-Ok-net_plans.routed.plans c.in-Ok-keys.ensures.blocks.all
-          c.in-Ok-net_plans.ensures.planned (subst (AllPairs (λ (a b : Block). Intersects a b → ⊥)) (sym same) c.in-Ok-keys.ensures.apart) c.in-Ok-net_plans.ensures.routing;
-      one_table_each = c.in_ok-tables.ensures.long;
-      plain = c.in_ok-tables.ensures.plain;
-      right = c.in_ok-tables.ensures.right;
-      followed = c.in_ok-tables.ensures.followed;
-    }
+pub returns-in-None-clause-plan : goal.returns-in-None-clause-plan
+returns-in-None-clause-plan g c = record {
+  routing =
+      routing_is c.args.machine.now c.args.graph.now c.in-Ok.placement c.in-Ok-keys.blocks c.in-Ok-net_plans.routed.grown c.in-Ok-net_plans.routed.plans c.in-Ok.ensures.placed c.in-Ok.ensures.different c.in-Ok.ensures.sites
+      c.in-Ok.ensures.cores c.in-Ok-keys.ensures.blocks c.in-Ok-keys.ensures.apart c.in-Ok-keys.ensures.enough c.in-Ok-net_plans.ensures.planned c.in-Ok-net_plans.ensures.routing;
+  one_table_each = c.in_ok-tables.ensures.long;
+  tables = c.in_ok-tables.ensures.finals;
+  keep = c.in_ok-tables.ensures.kept;
+  short = none_long c.in_ok-tables.tables (ap (position is_long) (sym c.as_slice.ensures) ∙ sym c.in-None.ensures);
+  right = c.in_ok-tables.ensures.right;
+}
 
-pub returns-clause-refused : goal.returns-clause-refused
-returns-clause-refused c = refused_where c.args.machine.now c.args.graph.now _ (returns-clause-plan c) tt
+pub returns-in-None-clause-only : goal.returns-in-None-clause-only
+returns-in-None-clause-only g c = λ other is. one_plan c.args.machine.now c.args.graph.now c.args.target other _ is (returns-in-None-clause-plan g c)
+
+pub returns-in-None-clause-refused : goal.returns-in-None-clause-refused
+returns-in-None-clause-refused g c = refused_where c.args.machine.now c.args.graph.now c.args.target _ (returns-in-None-clause-plan g c) tt
+
+pub returns-in-Some-clause-cause : goal.returns-in-Some-clause-cause
+returns-in-Some-clause-cause g c =
+    let first : position is_long c.in_ok-tables.tables ≡ Some c.in-Some.index = ap (position is_long) (sym c.as_slice.ensures) ∙ sym c.in-Some.ensures in (
+      record {
+        placement = c.in-Ok.placement;
+        grown = c.in-Ok-net_plans.routed.grown;
+        nets = c.in-Ok-net_plans.routed.plans;
+        routing =
+            routing_is c.args.machine.now c.args.graph.now c.in-Ok.placement c.in-Ok-keys.blocks c.in-Ok-net_plans.routed.grown c.in-Ok-net_plans.routed.plans c.in-Ok.ensures.placed c.in-Ok.ensures.different c.in-Ok.ensures.sites
+            c.in-Ok.ensures.cores c.in-Ok-keys.ensures.blocks c.in-Ok-keys.ensures.apart c.in-Ok-keys.ensures.enough c.in-Ok-net_plans.ensures.planned c.in-Ok-net_plans.ensures.routing;
+        finals = c.in_ok-tables.tables;
+        one_each = c.in_ok-tables.ensures.long;
+        are = c.in_ok-tables.ensures.finals;
+        inside = c.chip_at.ensures.inside;
+        first = first ∙ ap Some (sym c.chip_at.ensures.back);
+        at = subst (λ n. slice_get c.in_ok-tables.tables n ≡ Some c.table_at.result) (sym c.chip_at.ensures.back) c.table_at.ensures;
+      },
+      long_has_no_pair c.args.target c.in_ok-tables.tables c.in-Some.index c.table_at.result c.requires.target c.in_ok-tables.ensures.ended first c.table_at.ensures,
+    )
+
+pub returns-in-Some-clause-refused : goal.returns-in-Some-clause-refused
+returns-in-Some-clause-refused g c = refused_where c.args.machine.now c.args.graph.now c.args.target _ tt (returns-in-Some-clause-cause g c)
 
 pub returns-in-Err-NoRoom-clause-refused : goal.returns-in-Err-NoRoom-clause-refused
-returns-in-Err-NoRoom-clause-refused c = refused_where c.args.machine.now c.args.graph.now _ tt (search rules)
+returns-in-Err-NoRoom-clause-refused g c = refused_where c.args.machine.now c.args.graph.now c.args.target _ tt (search rules)
 
 pub returns-in-Err-KeysOut-clause-refused : goal.returns-in-Err-KeysOut-clause-refused
-returns-in-Err-KeysOut-clause-refused c = refused_where c.args.machine.now c.args.graph.now _ tt (search rules)
+returns-in-Err-KeysOut-clause-refused g c = refused_where c.args.machine.now c.args.graph.now c.args.target _ tt (search rules)
 
 pub returns-in-Err-CutOff-clause-refused : goal.returns-in-Err-CutOff-clause-refused
-returns-in-Err-CutOff-clause-refused c = refused_where c.args.machine.now c.args.graph.now _ tt (search rules)
+returns-in-Err-CutOff-clause-refused g c = refused_where c.args.machine.now c.args.graph.now c.args.target _ tt (search rules)

@@ -1,0 +1,208 @@
+-- Nets that were routed side by side, and what is found of them in order.
+use Rattle.std.proofs.Common.{◌≡◌, ℕ, zero, suc, ◌+◌, ◌<◌, ◌≤◌, List, [], ◌∷◌, ◌++◌, drop, get_or, length, refl, sym, ap, ◌∙◌, subst, arith, Some, Result, Ok, Err, IfOk, IfErr, inl, inr}
+use Rattle.std.specs.List.{All, AllZip, slice_get, range_with_len}
+use Rattle.std.proofs.lemmas.List.FromFn.{get_or-range_with_len, length-range_with_len}
+use Rattle.std.proofs.lemmas.Option.{get_or_from_slice_get, slice_get_within, slice_get-get_or}
+use Rattle.spin_base.specs.declared.chips.Chip.{Chip}
+use Rattle.spin_base.specs.declared.chips.Spot.{Spot}
+use Rattle.spin_base.specs.declared.blocks.Block.{Block}
+use Rattle.machine_desc.specs.Description.{Description}
+use Rattle.machine_desc.specs.RoutingTree.{IsRoutingTree}
+use Rattle.app_graph.specs.declared.graphs.Net.{Net}
+use Rattle.net_tables.specs.declared.nets.NetPlan.{NetPlan}
+use Rattle.ner_trees.specs.declared.growths.Grown.{Grown}
+use Rattle.link_detours.specs.declared.repairs.RepairErr.{RepairErr}
+use Rattle.link_detours.specs.declared.repairs.RepairErr.TheVariants as repairs
+use Rattle.list_laws.proofs.Places.{AllZip-at_second, slice_get_there, slice_get-push_cases}
+use Rattle.net_plans.specs.declared.nets.NetErr.{NetErr}
+use Rattle.net_plans.specs.declared.nets.NetErr.TheVariants.{CutOff, Memory}
+use Rattle.net_plans.specs.declared.nets.Routed.{Routed}
+use Rattle.net_plans.specs.declared.nets.RoutedNet.{RoutedNet}
+use Rattle.net_plans.specs.Cause.{IsCause, IsCauseOne}
+use Rattle.net_plans.specs.CutOffTargets.{HasNoneCutOff, IsFirstCutOff}
+use Rattle.net_plans.specs.NetPlans.{ArePlanned, IsPlanned}
+use Rattle.net_plans.proofs.Planning.{long_more}
+use Rattle.net_plans.specs.Ways.{AreRouted, HaveWays, IsFirstCut, IsFirstWithout, IsRouted, IsRoutedNet, IsWay}
+
+-- ---- the items that are left
+
+-- the first of the items that are left stands at the next place
+pub dropped_head : {X : Type 0} (xs : List X) (k : ℕ) (x : X) (rest : List X) → drop k xs ≡ x ∷ rest → (slice_get xs k ≡ Some x) × (drop (k + 1) xs ≡ rest)
+dropped_head [] zero x rest is = cc
+dropped_head [] (suc k) x rest is = cc
+dropped_head (y ∷ ys) zero x rest is = let head : y ≡ x = cc in let tail : ys ≡ rest = cc in (ap Some head, tail)
+dropped_head (y ∷ ys) (suc k) x rest is =
+    let deeper = dropped_head ys k x rest is in
+    let up : suc k + 1 ≡ suc (k + 1) = omega arith in
+    (deeper.0, ap (λ n. drop n (y ∷ ys)) up ∙ deeper.1)
+
+-- where none is left, all places were read
+pub dropped_none : {X : Type 0} (xs : List X) (k : ℕ) → drop k xs ≡ [] → length xs ≤ k
+dropped_none [] k is = omega arith
+dropped_none (x ∷ xs) zero is = cc
+dropped_none (x ∷ xs) (suc k) is = let deeper = dropped_none xs k is in omega (arith, deeper)
+
+-- the trees and plans of the first so many items
+pub record HaveWaysTo (items : List RoutedNet) (grown : List Grown) (plans : List NetPlan) (k : ℕ) : Type 0 where
+  pub within : k ≤ length items
+  pub trees_long : length grown ≡ k
+  pub plans_long : length plans ≡ k
+  pub each : (i : ℕ) (item : RoutedNet) (tree : Grown) (plan : NetPlan) → slice_get items i ≡ Some item → slice_get grown i ≡ Some tree → slice_get plans i ≡ Some plan →
+      item.way ≡ Ok (record { grown = tree; plan = plan })
+
+pub no_ways : (items : List RoutedNet) → HaveWaysTo items [] [] 0
+no_ways items = record { within = omega arith; trees_long = refl; plans_long = refl; each = λ i item tree plan at tree_at plan_at. cc }
+
+pub one_way_more : (items : List RoutedNet) (grown more : List Grown) (plans also : List NetPlan) (k : ℕ) (item : RoutedNet) (tree : Grown) (plan : NetPlan) → HaveWaysTo items grown plans k →
+    slice_get items k ≡ Some item → item.way ≡ Ok (record { grown = tree; plan = plan }) → more ≡ grown ++ tree ∷ [] → also ≡ plans ++ plan ∷ [] → HaveWaysTo items more also (k + 1)
+one_way_more items grown more plans also k item tree plan so_far at way trees_are plans_are = record {
+  within = let below = slice_get_within items k item at in omega (arith, below);
+  trees_long = long_more grown more tree k so_far.trees_long trees_are;
+  plans_long = long_more plans also plan k so_far.plans_long plans_are;
+  each = λ i other g p other_at g_at p_at.
+      let trees_long = so_far.trees_long in
+      let plans_long = so_far.plans_long in
+      elim (slice_get-push_cases grown tree g i (subst (λ l. slice_get l i ≡ Some g) trees_are g_at)) [
+        | inl old_tree ↦ elim (slice_get-push_cases plans plan p i (subst (λ l. slice_get l i ≡ Some p) plans_are p_at)) [
+          | inl old_plan ↦ so_far.each i other g p other_at old_tree.1 old_plan.1
+          | inr new_plan ↦ (let less = old_tree.0 in let here = new_plan.0 in absurd (omega (arith, less, here, trees_long, plans_long)))
+        ]
+        | inr new_tree ↦ elim (slice_get-push_cases plans plan p i (subst (λ l. slice_get l i ≡ Some p) plans_are p_at)) [
+          | inl old_plan ↦ (let less = old_plan.0 in let here = new_tree.0 in absurd (omega (arith, less, here, trees_long, plans_long)))
+          | inr new_plan ↦
+              let here : i ≡ k = new_tree.0 ∙ trees_long in
+              let there : slice_get items k ≡ Some other = subst (λ n. slice_get items n ≡ Some other) here other_at in
+              let same : item ≡ other = cc in
+              let is_tree : tree ≡ g = new_tree.1 in
+              let is_plan : plan ≡ p = new_plan.1 in
+              ap (λ (x : RoutedNet). x.way) (sym same) ∙ (way ∙ (λ n. Ok (record { grown = is_tree n; plan = is_plan n })))
+        ]
+      ];
+}
+
+pub all_ways : (items : List RoutedNet) (grown : List Grown) (plans : List NetPlan) (k : ℕ) → HaveWaysTo items grown plans k → length items ≤ k → HaveWays items grown plans
+all_ways items grown plans k have past =
+    let within = have.within in
+    let trees_long = have.trees_long in
+    let plans_long = have.plans_long in
+    record { trees_long = omega (arith, past, within, trees_long); plans_long = omega (arith, past, within, plans_long); each = have.each }
+
+-- each of the first items has a tree and a plan
+pub ways_before : (items : List RoutedNet) (grown : List Grown) (plans : List NetPlan) (k : ℕ) → HaveWaysTo items grown plans k → (j : ℕ) (other : RoutedNet) → j < k → slice_get items j ≡ Some other →
+    (r : Routed) × (other.way ≡ Ok r)
+ways_before items grown plans k have j other less at =
+    let trees_long = have.trees_long in
+    let plans_long = have.plans_long in
+    let g = slice_get_there grown j (omega (arith, less, trees_long)) in
+    let p = slice_get_there plans j (omega (arith, less, plans_long)) in
+    let r : Routed = record { grown = g.0; plan = p.0 } in
+    (r, have.each j other g.0 p.0 at g.1 p.1)
+
+-- ---- what the items say of the nets
+
+-- what one net's routing answers
+pub way_of : (m : Description) (spots : List Spot) (net : Net) (block : Block) (w : Result Routed RepairErr) → IfOk w (λ r. IsPlanned m spots net block r.grown r.plan) →
+    IfOk w (λ r. IsRoutingTree m r.plan.tree.root r.plan.tree.edges r.plan.targets) → IfOk w (λ _. HasNoneCutOff m spots net) → IfErr w (IsCauseOne m spots net) → IsWay m spots net block w
+way_of m spots net block (Ok r) planned routing reached cause = record { planned = planned; routing = routing; reached = reached }
+way_of m spots net block (Err e) planned routing reached cause = cause
+
+zero_more : (i : ℕ) → 0 + i ≡ i
+zero_more i = omega arith
+
+module _ (m : Description) (spots : List Spot) (nets : List Net) (blocks : List Block) (items : List RoutedNet) where
+  -- the numbers of nets in order, each beside what came of it
+  pub routed_all : (numbers : List ℕ) → numbers ≡ range_with_len 0 (length nets) → AllZip (IsRoutedNet m spots nets blocks) numbers items → AreRouted m spots nets blocks items
+  routed_all numbers are each = record {
+    one_each = long numbers items each ∙ (ap length are ∙ length-range_with_len 0 (length nets));
+    each = λ i item at.
+        let with = AllZip-at_second (IsRoutedNet m spots nets blocks) numbers items each i item at in
+        let there : slice_get (range_with_len 0 (length nets)) i ≡ Some with.0 = subst (λ l. slice_get l i ≡ Some with.0) are with.1 in
+        let small = slice_get_within (range_with_len 0 (length nets)) i with.0 there in
+        let many = length-range_with_len 0 (length nets) in
+        let number : with.0 ≡ i = sym (get_or_from_slice_get (range_with_len 0 (length nets)) i with.0 0 there) ∙ (get_or-range_with_len 0 (length nets) i 0 (omega (arith, small, many)) ∙ zero_more i) in
+        subst (λ n. IsRoutedNet m spots nets blocks n item) number with.2;
+  }
+    where
+      long : (ns : List ℕ) (is : List RoutedNet) → AllZip (IsRoutedNet m spots nets blocks) ns is → length is ≡ length ns
+      long [] [] h = refl
+      long [] (x ∷ is) h = absurd h
+      long (n ∷ ns) [] h = absurd h
+      long (n ∷ ns) (x ∷ is) h = ap suc (long ns is h.1)
+
+  way_is : (net : Net) (block : Block) (w : Result Routed RepairErr) (r : Routed) → w ≡ Ok r → IsWay m spots net block w → IsRouted m spots net block r
+  way_is net block w r is way = subst (IsWay m spots net block) is way
+
+  cut_is : (net : Net) (block : Block) (w : Result Routed RepairErr) (target : Chip) → w ≡ Err (repairs.CutOff target) → IsWay m spots net block w → IsWay m spots net block (Err (repairs.CutOff target))
+  cut_is net block w target is way = subst (IsWay m spots net block) is way
+
+  module _ (are : AreRouted m spots nets blocks items) where
+    -- the net at a place where an item has a tree and a plan
+    routed_at : (i : ℕ) (item : RoutedNet) (r : Routed) (net : Net) (block : Block) → slice_get items i ≡ Some item → item.way ≡ Ok r → slice_get nets i ≡ Some net → slice_get blocks i ≡ Some block →
+        IsRouted m spots net block r
+    routed_at i item r net block at way net_at block_at =
+        let one = are.each i item at in
+        let here = one.at in
+        let keyed = one.keyed in
+        let same_net : one.net ≡ net = cc in
+        let same_block : one.block ≡ block = cc in
+        subst (λ n. IsRouted m spots n block r) same_net (subst (λ b. IsRouted m spots one.net b r) same_block (way_is one.net one.block item.way r way one.way))
+
+    -- no target of a net is cut off where its item has a tree and a plan
+    reached_at : (i : ℕ) (item : RoutedNet) (r : Routed) (net : Net) → slice_get items i ≡ Some item → item.way ≡ Ok r → slice_get nets i ≡ Some net → HasNoneCutOff m spots net
+    reached_at i item r net at way net_at =
+        let one = are.each i item at in
+        let here = one.at in
+        let same_net : one.net ≡ net = cc in
+        subst (HasNoneCutOff m spots) same_net (way_is one.net one.block item.way r way one.way).reached
+
+    module _ (grown : List Grown) (plans : List NetPlan) (have : HaveWays items grown plans) where
+      pub planned_of : ArePlanned m spots nets blocks grown plans
+      planned_of = record {
+        one_tree_each = have.trees_long ∙ are.one_each;
+        one_plan_each = have.plans_long ∙ are.one_each;
+        each = λ i net block tree plan net_at block_at tree_at plan_at.
+            let within = slice_get_within grown i tree tree_at in
+            let trees_long = have.trees_long in
+            let item = slice_get_there items i (omega (arith, within, trees_long)) in
+            (routed_at i item.0 (record { grown = tree; plan = plan }) net block item.1 (have.each i item.0 tree plan item.1 tree_at plan_at) net_at block_at).planned;
+      }
+
+      pub routing_of : All (λ (p : NetPlan). IsRoutingTree m p.tree.root p.tree.edges p.targets) plans
+      routing_of k d below =
+          let plans_long = have.plans_long in
+          let trees_long = have.trees_long in
+          let item = slice_get_there items k (omega (arith, below, plans_long)) in
+          let tree = slice_get_there grown k (omega (arith, below, plans_long, trees_long)) in
+          let plan : NetPlan = get_or plans k d in
+          let way = have.each k item.0 tree.0 plan item.1 tree.1 (slice_get-get_or plans k d below) in
+          let one = are.each k item.0 item.1 in
+          (way_is one.net one.block item.0.way (record { grown = tree.0; plan = plan }) way one.way).routing
+
+      pub reached_of : All (HasNoneCutOff m spots) nets
+      reached_of k d below =
+          let one_each = are.one_each in
+          let plans_long = have.plans_long in
+          let trees_long = have.trees_long in
+          let item = slice_get_there items k (omega (arith, below, one_each)) in
+          let tree = slice_get_there grown k (omega (arith, below, one_each, trees_long)) in
+          let plan = slice_get_there plans k (omega (arith, below, one_each, plans_long)) in
+          reached_at k item.0 (record { grown = tree.0; plan = plan.0 }) (get_or nets k d) item.1 (have.each k item.0 tree.0 plan.0 item.1 tree.1 plan.1) (slice_get-get_or nets k d below)
+
+    cut_of : (net : ℕ) (target : Chip) → IsFirstCut items net target → IsFirstCutOff m spots nets net target
+    cut_of net target first =
+        let one = are.each first.place first.item first.at in
+        let number : first.place ≡ net = sym one.names ∙ first.names in
+        subst (λ n. IsFirstCutOff m spots nets n target) number (record {
+          net = one.net;
+          is = one.at;
+          target = cut_is one.net one.block first.item.way target first.cut_off one.way;
+          before = λ j earlier less at.
+              let place_below = slice_get_within items first.place first.item first.at in
+              let item = slice_get_there items j (omega (arith, less, place_below)) in
+              let way = first.before j item.0 less item.1 in
+              reached_at j item.0 way.0 earlier item.1 way.1 at;
+        })
+
+    pub cause_of : (e : NetErr) → IsFirstWithout items e → IsCause m spots nets e
+    cause_of (CutOff net target) first = cut_of net target first
+    cause_of Memory first = tt
