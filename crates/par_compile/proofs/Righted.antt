@@ -5,7 +5,7 @@ use Rattle.std.proofs.lemmas.List.Elements.{All-nil, All-cons, All-contains, All
 use Rattle.std.proofs.lemmas.List.Sorted.{Contains-permutation}
 use Rattle.std.proofs.lemmas.Option.{get_or_from_slice_get, slice_get-get_or, slice_get_within}
 use lib.Bits.{and_zero_r}
-use Rattle.list_laws.proofs.Places.{All-each, AllZip-at_first, AllZip-at_second, slice_get_there, slice_get-mapped}
+use Rattle.list_laws.proofs.Places.{All-at, All-each, AllZip-at_first, AllZip-at_second, slice_get_there, slice_get-mapped}
 use Rattle.spin_base.specs.declared.blocks.Block.{Block}
 use Rattle.spin_base.specs.declared.blocks.Entry.{Entry}
 use Rattle.spin_base.specs.declared.chips.Chip.{Chip}
@@ -134,6 +134,17 @@ module _ (m : Description) (nets : List NetPlan) (target : ℕ) (tables : List T
               let chip : Chip = chip_of m j in
               let inside = chip_of-inside m j (subst (λ n. j < n) many (slice_get_within tables j t at)) in
               rows_lead m nets routed chip t.rows (plain chip t inside (ap (slice_get tables) (index_of-chip_of m j) ∙ at))
+
+-- no table keeps more rows than there are nets
+pub few_kept : (m : Description) (nets : List NetPlan) (target : ℕ) (tables : List Table) (finals : List Final) → length tables ≡ m.width * m.height →
+    AtEach m tables (λ c rows. length rows ≤ length nets) → AllZip (λ (t : Table) f. StandsFor target t.rows f) tables finals → All (λ (f : Final). length f.kept ≤ length nets) finals
+few_kept m nets target tables finals many few each k d below =
+    let f : Final = slice_index_or finals k d in
+    let t = AllZip-at_second (λ (u : Table) g. StandsFor target u.rows g) tables finals each k f (slice_get-get_or finals k d below) in
+    let plain : length t.0.rows ≤ length nets = All-at (λ (u : Table). length u.rows ≤ length nets) tables k t.0 (each_table m nets tables many (λ rows. length rows ≤ length nets) few) t.1 in
+    let covered = t.2.few.1 in
+    let kept = t.2.few.0 in
+    omega (arith, plain, covered, kept)
 
 -- where a table keeps more rows than wanted, covering has come to its end
 pub all_ended : (target : ℕ) (tables : List Table) (finals : List Final) → AllZip (λ (t : Table) f. StandsFor target t.rows f) tables finals → All (HasEnded target) finals

@@ -90,6 +90,14 @@ is_more fs i t first at =
     let it : get_or fs i t ≡ t = get_or_from_slice_get fs i t t at in
     ltb-true 1024 (length t.kept) (subst (λ (f : Final). is_long f ≡ true) it long)
 
+-- so there are more nets than entries
+pub long_has_many : (nets fits : ℕ) (fs : List Final) (i : ℕ) (t : Final) → nets ≡ fits → All (λ (f : Final). length f.kept ≤ nets) fs → position is_long fs ≡ Some i → slice_get fs i ≡ Some t →
+    1024 < fits
+long_has_many nets fits fs i t same few first at =
+    let more = is_more fs i t first at in
+    let fewer : length t.kept ≤ nets = All-at (λ (f : Final). length f.kept ≤ nets) fs i t few at in
+    omega (arith, more, fewer, same)
+
 -- so covering has come to its end there
 pub long_has_no_pair : (target : ℕ) (fs : List Final) (i : ℕ) (t : Final) → target ≤ 1024 → All (HasEnded target) fs → position is_long fs ≡ Some i → slice_get fs i ≡ Some t →
     HasNoLegalPair t.covered.table.rows

@@ -1,5 +1,5 @@
 -- What a plan of a graph on a machine is, and when compiling is refused (this project's own).
-use Rattle.std.specs.Prelude.{◌≡◌, ◌≢◌, ℕ, ◌*◌, ◌≤◌, List, length, map, All, AllPairs, Some, None, Result, nat_lt, Bool, position, slice_get}
+use Rattle.std.specs.Prelude.{◌≡◌, ◌≢◌, ℕ, ◌*◌, ◌<◌, ◌≤◌, List, length, map, All, AllPairs, Some, None, Result, nat_lt, Bool, position, slice_get}
 use Rattle.std.specs.List.{AllZip}
 use Rattle.spin_base.specs.declared.blocks.Block.{Block}
 use Rattle.spin_base.specs.declared.chips.Chip.{Chip}
@@ -75,12 +75,13 @@ pub record HasLongTable (m : Description) (graph : Graph) (target : ℕ) (chip :
   pub at : slice_get finals (index_of m chip) ≡ Some table
 
 -- A vertex has no room; or all have, and keys are out at a net; or all have keys, and a target of a net is cut off; or none is,
--- and a final table is long, of which no two rows can be merged. Want of memory is free.
+-- and a final table is long, of which no two rows can be merged: then there are more nets than a router has entries. Want of
+-- memory is free.
 abbrev pub IsCause : Description → Graph → ℕ → CompileErr → Type 0
 IsCause m graph target (NoRoom vertex) = HasNoRoom m graph.vertices vertex
 IsCause m graph target (KeysOut net) = HasPlacement m graph × AreKeysOut graph.nets net
 IsCause m graph target (CutOff net chip) = HasCutOff m graph net chip
-IsCause m graph target (TableLong chip table) = HasLongTable m graph target chip table × HasNoLegalPair table.covered.table.rows
+IsCause m graph target (TableLong chip table) = HasLongTable m graph target chip table × HasNoLegalPair table.covered.table.rows × (1024 < length graph.nets)
 IsCause m graph target Memory = Unit {0}
 
 -- The other way round: where there is a cause, the answer names it, or wants memory.

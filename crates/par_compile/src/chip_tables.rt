@@ -2,6 +2,7 @@
 ghost use Rattle.std.specs.Prelude.{◌≡◌, ◌*◌, ◌<◌, ◌≤◌, ◌^◌, All, IfOk, length, map};
 ghost use Rattle.net_tables.specs.RightTables.{AreRight};
 ghost use Rattle.plain_tables.specs.PlainTable.{AreRouted};
+ghost use Rattle.default_routes.specs.declared.stripping.Final.{Final};
 ghost use Rattle.par_compile.specs.Finals.{AreFinals, HasEnded, KeepsRows, loaded_of};
 
 use crate::workers::finals;
@@ -31,6 +32,7 @@ pub(crate) fn final_tables<R: Threads + Sync, G: Gate>(
     ensures few_chips { IfOk result (λ finals. length finals ≤ 4096) }
     ensures finals { IfOk result (AreFinals machine.now nets.now target) }
     ensures kept { IfOk result (All KeepsRows) }
+    ensures few_rows { IfOk result (All (λ (f : Final). length f.kept ≤ length nets.now)) }
     ensures ended { IfOk result (All (HasEnded target)) }
     ensures right { IfOk result (λ finals. AreRight machine.now (map loaded_of finals) nets.now) }
 {

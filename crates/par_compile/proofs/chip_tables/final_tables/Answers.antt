@@ -5,7 +5,7 @@ use Rattle.default_routes.specs.FinalTable.{IsFinalOf}
 use Rattle.net_tables.specs.RightTables.{AreRight}
 use Rattle.tern_word.specs.declared.tables.Table.{Table}
 use Rattle.par_compile.specs.Finals.{AreFinals, HasEnded, KeepsRows, StandsFor, loaded_of}
-use Rattle.par_compile.proofs.Righted.{all_final, all_keep, all_ended, all_right, all_zipped_length, coverable, few_chips}
+use Rattle.par_compile.proofs.Righted.{all_final, all_keep, all_ended, all_right, all_zipped_length, coverable, few_chips, few_kept}
 use Rattle.par_compile.proofs.Working.{on_ok}
 use Rattle.par_compile.proofs.chip_tables.final_tables.Goals as goal
 
@@ -47,3 +47,8 @@ pub returns-clause-ended : goal.returns-clause-ended
 returns-clause-ended g c =
     on_ok c.finals.result (AllZip (λ (t : Table) f. StandsFor c.args.target t.rows f) c.in_ok-tables.tables) (All (HasEnded c.args.target))
     (λ fs stand. all_ended c.args.target c.in_ok-tables.tables fs stand) c.finals.ensures.stand
+
+pub returns-clause-few_rows : goal.returns-clause-few_rows
+returns-clause-few_rows g c =
+    on_ok c.finals.result (AllZip (λ (t : Table) f. StandsFor c.args.target t.rows f) c.in_ok-tables.tables) (All (λ (f : Final). length f.kept ≤ length c.args.nets.now))
+    (λ fs stand. few_kept c.args.machine.now c.args.nets.now c.args.target c.in_ok-tables.tables fs c.in_ok-tables.ensures.long c.in_ok-tables.ensures.few stand) c.finals.ensures.stand

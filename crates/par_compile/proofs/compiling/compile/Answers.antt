@@ -1,10 +1,10 @@
-use Rattle.std.proofs.Common.{◌≡◌, ◌∙◌, ap, sym, subst, Some, rules}
+use Rattle.std.proofs.Common.{◌≡◌, ◌∙◌, length, ap, sym, subst, Some, rules}
 use Rattle.std.specs.List.{position, slice_get}
 use Rattle.default_routes.specs.declared.stripping.Final.{Final}
 use Rattle.par_compile.specs.Compiled.{is_long}
 use Rattle.par_compile.proofs.Refusing.{refused_where}
 use Rattle.par_compile.proofs.Standing.{routing_is}
-use Rattle.par_compile.proofs.Unique.{long_has_no_pair, none_long, one_plan, routed_of}
+use Rattle.par_compile.proofs.Unique.{long_has_many, long_has_no_pair, none_long, one_plan, routed_of}
 use Rattle.par_compile.proofs.compiling.compile.Goals as goal
 
 pub final_tables-requires-clause-routed : goal.final_tables-requires-clause-routed
@@ -51,6 +51,8 @@ returns-in-Some-clause-cause g c =
         at = subst (λ n. slice_get c.in_ok-tables.tables n ≡ Some c.table_at.result) (sym c.chip_at.ensures.back) c.table_at.ensures;
       },
       long_has_no_pair c.args.target c.in_ok-tables.tables c.in-Some.index c.table_at.result c.requires.target c.in_ok-tables.ensures.ended first c.table_at.ensures,
+      long_has_many (length c.in-Ok-net_plans.routed.plans) (length c.args.graph.now.nets) c.in_ok-tables.tables c.in-Some.index c.table_at.result
+          c.in-Ok-net_plans.ensures.planned.one_plan_each c.in_ok-tables.ensures.few_rows first c.table_at.ensures,
     )
 
 pub returns-in-Some-clause-refused : goal.returns-in-Some-clause-refused
