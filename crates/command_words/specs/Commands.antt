@@ -41,10 +41,10 @@ spelled (word ∷ []) = plain_command word
 spelled (word ∷ (number ∷ [])) = numbered_command word number
 spelled (word ∷ (number ∷ (more ∷ words))) = None
 
--- The commands that are built read a job: all but `gen`.
-abbrev pub IsBuilt : Command → Type 0
-IsBuilt Run = Unit {0}
-IsBuilt Trace = Unit {0}
-IsBuilt Compile = Unit {0}
-IsBuilt Tables = Unit {0}
-IsBuilt (Gen n) = ⊥
+-- All commands but `gen` read a job.
+abbrev pub ReadsJob : Command → Type 0
+ReadsJob Run = Unit {0}
+ReadsJob Trace = Unit {0}
+ReadsJob Compile = Unit {0}
+ReadsJob Tables = Unit {0}
+ReadsJob (Gen n) = ⊥

@@ -19,25 +19,6 @@ pub enum Command {
     Gen(u64),
 }
 
-impl Command {
-    ghost use Rattle.std.specs.Prelude.{true};
-    ghost use Rattle.command_words.specs.Commands.{IsBuilt};
-
-    /// Whether the command is built today.
-    pub fn is_built(self) -> bool
-        ensures yes { result ≡ true → IsBuilt self }
-        ensures no { IsBuilt self → result ≡ true }
-    {
-        match self {
-            Command::Run => true,
-            Command::Trace => true,
-            Command::Compile => true,
-            Command::Tables => true,
-            Command::Gen(_) => false,
-        }
-    }
-}
-
 /// The command that the words are, the program's name left out: `run`, `trace`, `compile`, `tables`, or `gen N` with a number
 /// that is `0`, or digits without a leading 0, below 2^64. `None` where they are none of these.
 pub fn command_of(words: &[String]) -> Option<Command>

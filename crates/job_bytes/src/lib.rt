@@ -6,4 +6,4 @@
 
 mod reading;
 
-pub use reading::read_job;
+pub use reading::{job_of_text, read_job};

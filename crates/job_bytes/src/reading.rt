@@ -6,7 +6,8 @@ ghost use Rattle.app_graph.specs.ValidGraph.{IsValidGraph};
 ghost use Rattle.app_graph.specs.RunPart.{IsRunOf};
 ghost use Rattle.refusals.specs.declared.causes.Refusal.TheVariants.{Memory};
 ghost use Rattle.job_bytes.specs.Inputs.{IsReadAs, HasNoInput};
-ghost use Rattle.job_bytes.specs.Jobs.{job_in, job_of as job_that_is};
+ghost use Rattle.job_text.specs.Json.{json_of};
+ghost use Rattle.job_bytes.specs.Jobs.{job_from, job_in, job_of as job_that_is};
 
 use job_readers::{Job, job_of};
 use job_text::{ParseErr, TextErr, parse};
@@ -58,6 +59,20 @@ fn job_of_bytes(alloc: Global, bytes: &[u8]) -> Result<Job, Refusal>
     ensures graph { IfOk result (λ job. IsValidGraph job.graph) }
     ensures run { IfOk result (λ job. IsRunOf job.graph job.run) }
     ensures err { IfErr result (λ r. (job_in bytes.now ≡ Err r) ⊎ (r ≡ Memory)) }
+{
+    job_of_text(alloc, bytes)
+}
+
+/// The job that a text is, however long it is.
+///
+/// # Errors
+///
+/// `NotJson` where the text is no JSON. `Job` with the first fault of the job. `Memory` where memory runs out.
+pub fn job_of_text(alloc: Global, bytes: &[u8]) -> Result<Job, Refusal>
+    ensures job { IfOk result (λ job. job_from (json_of bytes.now) ≡ Ok job) }
+    ensures graph { IfOk result (λ job. IsValidGraph job.graph) }
+    ensures run { IfOk result (λ job. IsRunOf job.graph job.run) }
+    ensures err { IfErr result (λ r. (job_from (json_of bytes.now) ≡ Err r) ⊎ (r ≡ Memory)) }
 {
     match parse(alloc, bytes) {
         Ok(value) => job_of_value(alloc, &value),

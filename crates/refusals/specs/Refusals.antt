@@ -4,7 +4,7 @@ use Rattle.job_text.specs.declared.faults.JobFault.{JobFault}
 use Rattle.job_text.specs.declared.faults.JobFault.TheVariants.{Shape, Range, UnknownName, DoubleName, TooMany, Clash}
 use Rattle.run_report.specs.ReportText.{line}
 use Rattle.refusals.specs.declared.causes.Refusal.{Refusal}
-use Rattle.refusals.specs.declared.causes.Refusal.TheVariants.{Usage, ReadFault, WriteFault, TooLong, NotJson, Job, NoRoom, KeysOut, CutOff, TableLong, Memory, Unbuilt}
+use Rattle.refusals.specs.declared.causes.Refusal.TheVariants.{Usage, ReadFault, WriteFault, TooLong, NotJson, Job, NoRoom, KeysOut, CutOff, TableLong, Memory}
 
 -- the status of a refusal
 abbrev pub status_of : Refusal → ℕ
@@ -19,7 +19,6 @@ status_of (KeysOut net) = 6
 status_of (CutOff net target) = 7
 status_of (TableLong chip table) = 8
 status_of Memory = 9
-status_of Unbuilt = 10
 
 -- the line of a job's fault: its kind, its path, and the count where there are too many
 abbrev pub fault_line : JobFault → List ℕ
@@ -43,7 +42,6 @@ line_of (KeysOut net) = line (codes "keys" ∷ codes "out:" ∷ net ∷ [])
 line_of (CutOff net target) = line (codes "cut" ∷ codes "off:" ∷ net ∷ decimal target.x ∷ decimal target.y ∷ [])
 line_of (TableLong chip table) = line (codes "table" ∷ codes "long:" ∷ decimal chip.x ∷ decimal chip.y ∷ decimal (length table.kept) ∷ [])
 line_of Memory = codes "out of memory\n"
-line_of Unbuilt = codes "unbuilt\n"
 
 -- the status of an outcome: 0 where there is no refusal
 abbrev pub status_at : Option Refusal → ℕ

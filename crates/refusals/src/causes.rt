@@ -30,8 +30,6 @@ pub enum Refusal {
     TableLong(Chip, Final),
     /// There was not enough memory. Status 9.
     Memory,
-    /// The command or the job needs a part that is not built yet. Status 10.
-    Unbuilt,
 }
 
 impl Refusal {
@@ -53,7 +51,6 @@ impl Refusal {
             Refusal::CutOff(_, _) => 7,
             Refusal::TableLong(_, _) => 8,
             Refusal::Memory => 9,
-            Refusal::Unbuilt => 10,
         }
     }
 }

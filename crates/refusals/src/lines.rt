@@ -31,7 +31,6 @@ pub fn line_of(alloc: Global, refusal: &Refusal) -> Result<Seq<u8>, Memory>
         Refusal::CutOff(net, target) => cut_off_line(alloc, net.as_str(), *target),
         Refusal::TableLong(chip, table) => table_long_line(alloc, *chip, table.kept.len()),
         Refusal::Memory => fixed(alloc, OUT_OF_MEMORY),
-        Refusal::Unbuilt => fixed(alloc, "unbuilt\n"),
     }
 }
 

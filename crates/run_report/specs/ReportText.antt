@@ -14,7 +14,10 @@ use Rattle.spin_base.specs.declared.blocks.Block.{Block}
 use Rattle.spin_base.specs.declared.blocks.Entry.{Entry}
 use Rattle.spin_base.specs.declared.copies.McCopy.{McCopy}
 use Rattle.spin_base.specs.declared.copies.DumpRec.{DumpRec}
+use Rattle.machine_desc.specs.Description.{Description}
+use Rattle.machine_desc.specs.Live.{live_count_of}
 use Rattle.app_graph.specs.declared.graphs.Graph.{Graph}
+use Rattle.app_graph.specs.declared.graphs.RunPart.{RunPart}
 use Rattle.net_tables.specs.declared.nets.NetPlan.{NetPlan}
 use Rattle.spin_base.specs.declared.blocks.ChipTable.{ChipTable}
 use Rattle.mesh_core.specs.declared.places.Did.{Did}
@@ -138,3 +141,25 @@ listed_text placed keys tables = flat_map place_line placed ++ flat_map keys_lin
 
 abbrev pub plan_text : Graph → List Spot → List NetPlan → List ChipTable → List ℕ
 plan_text graph spots nets tables = listed_text (placed_of graph spots) (keys_of graph nets) tables
+
+-- ---- the text of a generated job
+
+abbrev pub number_line : ℕ → List ℕ
+number_line number = line (codes "gen" ∷ decimal number ∷ [])
+
+-- the numbers of live chips, vertices, nets and packets
+abbrev pub parts_line : ℕ → ℕ → ℕ → ℕ → List ℕ
+parts_line chips vertices nets packets = line (codes "chips" ∷ decimal chips ∷ codes "vertices" ∷ decimal vertices ∷ codes "nets" ∷ decimal nets ∷ codes "packets" ∷ decimal packets ∷ [])
+
+abbrev pub rows_line : ℕ → List ℕ
+rows_line rows = line (codes "rows" ∷ decimal rows ∷ [])
+
+abbrev pub counts_line : ℕ → ℕ → List ℕ
+counts_line delivered dumped = line (codes "delivered" ∷ decimal delivered ∷ codes "dumped" ∷ decimal dumped ∷ [])
+
+-- The text of a generated job that was run: its number; how many parts it has; the rows of all tables that were loaded; and how
+-- many copies were delivered and dumped.
+abbrev pub summary_text : ℕ → Description → Graph → RunPart → Report → List ℕ
+summary_text number m graph run r =
+    number_line number ++ parts_line (live_count_of m) (length graph.vertices) (length graph.nets) (length run.packets)
+    ++ rows_line (row_total r.tables) ++ counts_line (length r.delivered) (length r.dumped)

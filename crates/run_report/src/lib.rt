@@ -1,7 +1,8 @@
 //! The report of a run, and the text of a plan that is not run.
 //!
 //! `report_of` gathers what a plan says and what a mesh holds after a run, for every machine, each list in its order, and
-//! `text_of` writes it by lines. `plan_text` writes the lines of a plan that is not run. A plan is given by its parts: the
+//! `text_of` writes it by lines. `plan_text` writes the lines of a plan that is not run, and `summary_text` the four
+//! lines of a generated job. A plan is given by its parts: the
 //! graph, the spots and nets that it has on the machine, and the image of its tables. The report and its text are this project's own;
 //! placement, keys, tables and routes are those of the SpiNNaker datasheet.
 #![tactic(auto)]
@@ -11,6 +12,7 @@ mod lists;
 mod orders;
 mod plans;
 mod reports;
+mod summaries;
 #[cfg(test)]
 mod tests;
 mod texts;
@@ -19,4 +21,5 @@ mod waits;
 
 pub use plans::plan_text;
 pub use reports::{Report, report_of};
+pub use summaries::summary_text;
 pub use texts::text_of;

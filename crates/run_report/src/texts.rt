@@ -57,7 +57,7 @@ pub(crate) fn listed_text(
 }
 
 // The number of rows of all tables.
-fn row_total(tables: &[ChipTable]) -> u64
+pub(crate) fn row_total(tables: &[ChipTable]) -> u64
     requires { row_total tables.now < 2 ^ 64 }
     ensures { result ≡ row_total tables.now }
 {

@@ -8,7 +8,7 @@ use Rattle.par_compile.specs.declared.compiling.CompileErr.{CompileErr}
 use Rattle.par_compile.specs.declared.compiling.CompileErr.TheVariants.{NoRoom, KeysOut, CutOff, TableLong, Memory}
 use Rattle.par_compile.specs.Compiled.{IsCause}
 use Rattle.command_words.specs.declared.commands.Command.{Command}
-use Rattle.command_words.specs.Commands.{spelled, IsBuilt}
+use Rattle.command_words.specs.Commands.{spelled, ReadsJob}
 use Rattle.refusals.specs.declared.causes.Refusal.{Refusal}
 use Rattle.refusals.specs.declared.causes.Refusal.TheVariants as refusals
 use Rattle.job_bytes.specs.Inputs.{Reading, IsUntouched, IsReadInPart, IsReadAs, HasNoInput}
@@ -29,19 +29,22 @@ pub record HasNoPlan (job : Job) (r : Refusal) : Type 0 where
   pub cause : IsCause job.machine job.graph job.run.target error
   pub names : Names job.graph error r
 
--- the words are a command that is built, and so reads a job
+-- the words are a command that reads a job
 abbrev pub AskForJob : List (List ℕ) → Type 0
-AskForJob words = (c : Command) × (spelled words ≡ Some c) × IsBuilt c
+AskForJob words = (c : Command) × (spelled words ≡ Some c) × ReadsJob c
 
--- Why a call gives no report, with what was read of the source. The words are no command, or one that is not built, and nothing
--- was read. Or they are one, and there is no job, for which reading has its causes. Or all bytes that the source had left are a
--- job, and it has no plan. Or memory ran out, which may come at any time.
+-- where the words ask for a job, what the source lost it gave; else nothing was read
+abbrev pub IsReadAsAsked : List (List ℕ) → Reading → Type 0
+IsReadAsAsked words reading = (AskForJob words × IsReadInPart reading) ⊎ IsUntouched reading
+
+-- Why a call gives no report, with what was read of the source. The words are no command, and nothing was read. Or they ask for a
+-- job, and there is none, for which reading has its causes. Or all bytes that the source had left are a job, and it has no plan.
+-- Or memory ran out, which may come at any time.
 pub data HasCause (words : List (List ℕ)) (reading : Reading) (r : Refusal) : Type 0 where
   usage : spelled words ≡ None → IsUntouched reading → r ≡ refusals.Usage → HasCause words reading r
-  unbuilt : (c : Command) → spelled words ≡ Some c → (IsBuilt c → ⊥) → IsUntouched reading → r ≡ refusals.Unbuilt → HasCause words reading r
   no_job : AskForJob words → HasNoInput job_in reading r → HasCause words reading r
   no_plan : AskForJob words → (job : Job) → IsReadAs job_in reading job → HasNoPlan job r → HasCause words reading r
-  no_memory : IsReadInPart reading → r ≡ refusals.Memory → HasCause words reading r
+  no_memory : IsReadAsAsked words reading → r ≡ refusals.Memory → HasCause words reading r
 
 -- why bytes have no plan: they are no job, or one without a plan
 abbrev pub AreRefused : List ℕ → Refusal → Type 0

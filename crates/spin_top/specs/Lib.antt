@@ -6,10 +6,10 @@ pub use Rattle.par_compile.specs.Compiled
 pub use Rattle.run_report.specs.ReportText
 pub use Rattle.command_words.specs.Commands
 pub use Rattle.refusals.specs.Refusals
-pub use Rattle.job_bytes.specs.Inputs
 pub use Rattle.job_bytes.specs.Jobs
 pub mod Causes
 pub mod Ends
+pub mod Inputs
 pub mod Made
 pub mod Planned
 pub mod Writing

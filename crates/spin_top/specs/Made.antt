@@ -1,24 +1,25 @@
 -- What is made of a job for each word (this project's own).
-use Rattle.std.specs.Prelude.{◌≡◌, ℕ, List, [], map, take, Some, None, IfSome}
+use Rattle.std.specs.Prelude.{◌≡◌, ℕ, List, [], length, map, take, Some, None, IfSome}
 use Rattle.std.specs.List.{flat_map}
 use Rattle.spin_base.specs.declared.copies.McCopy.{McCopy}
 use Rattle.mesh_core.specs.State.{State}
 use Rattle.mesh_core.specs.Step.{after_events, answers_of}
 use Rattle.mesh_core.specs.Opened.{MeetsJobLedger}
-use Rattle.mesh_core.specs.Expected.{AreAsExpected, expected_deliveries}
+use Rattle.mesh_core.specs.Expected.{AreAsExpected, expected_count, expected_deliveries}
 use Rattle.mesh_core.specs.HasRun.{HasRun}
 use Rattle.mesh_core.specs.declared.places.Did.{Did}
 use Rattle.job_readers.specs.declared.jobs.Job.{Job}
 use Rattle.run_report.specs.declared.reports.Report.{Report}
 use Rattle.run_report.specs.Listed.{placed_of}
-use Rattle.run_report.specs.ReportText.{got_line, plan_text, report_text}
+use Rattle.run_report.specs.ReportText.{got_line, plan_text, report_text, summary_text}
 use Rattle.run_report.specs.RunReport.{named, IsReportOf}
 use Rattle.par_compile.specs.declared.compiling.Plan.{Plan}
 use Rattle.table_load.specs.Images.{Spells}
 use Rattle.command_words.specs.Commands.{spelled}
 use Rattle.command_words.specs.declared.commands.Command.{Command}
-use Rattle.command_words.specs.declared.commands.Command.TheVariants.{Run, Trace, Compile, Tables}
-use Rattle.job_bytes.specs.Inputs.{Reading, IsReadAs}
+use Rattle.command_words.specs.declared.commands.Command.TheVariants.{Run, Trace, Compile, Tables, Gen}
+use Rattle.job_bytes.specs.Inputs.{Reading, IsReadAs, IsUntouched}
+use Rattle.job_gen.specs.Generated.{gen_job}
 use Rattle.job_bytes.specs.Jobs.{job_in}
 use Rattle.spin_top.specs.declared.outcomes.Parts.{Parts}
 use Rattle.spin_top.specs.Planned.{tables_image, opened_of, IsThePlan}
@@ -77,6 +78,17 @@ abbrev pub Reports : (Job → Plan → State → Report → Type 0) → Job → 
 Reports P job plan parts text = (mesh : State) × (report : Report) × IsKept job plan mesh report × P job plan mesh report
     × (parts ≡ run_parts job plan mesh report) × (text ≡ report_text report)
 
+-- The same for the job of a number, and the text is its summary. It tells as many deliveries as the job's packets have
+-- targets, and no dump.
+pub record IsSummary (n : ℕ) (job : Job) (plan : Plan) (report : Report) (text : List ℕ) : Type 0 where
+  pub summary : text ≡ summary_text n job.machine job.graph job.run report
+  pub delivered : length report.delivered ≡ expected_count plan.nets job.run.packets
+  pub dumped : length report.dumped ≡ 0
+
+abbrev pub Summarises : ℕ → Job → Plan → Parts → List ℕ → Type 0
+Summarises n job plan parts text = (mesh : State) × (report : Report) × IsKept job plan mesh report × HasRunOut job plan mesh report
+    × (parts ≡ run_parts job plan mesh report) × IsSummary n job plan report text
+
 -- Job and plan are given, and the text is that of the plan.
 abbrev pub Lists : Job → Plan → Parts → List ℕ → Type 0
 Lists job plan parts text = (parts ≡ plan_parts job plan)
@@ -92,14 +104,23 @@ pub data Makes (c : Command) (job : Job) (plan : Plan) (parts : Parts) (text : L
   traced : c ≡ Trace → Reports IsTraced job plan parts text → Makes c job plan parts text
   imaged : c ≡ Compile → Images job plan parts text → Makes c job plan parts text
   listed : c ≡ Tables → Lists job plan parts text → Makes c job plan parts text
+  generated : (n : ℕ) → c ≡ Gen n → Summarises n job plan parts text → Makes c job plan parts text
 
--- What a call makes: the words are a command; all bytes that the source had left were read, and are a job; it has a plan; and the
--- command makes this of them.
+-- The job of a command: for `gen N` that of the number, and nothing is read; for each other one all bytes that the source had
+-- left are the job.
+abbrev pub IsJobOf : Command → Reading → Job → Type 0
+IsJobOf Run reading job = IsReadAs job_in reading job
+IsJobOf Trace reading job = IsReadAs job_in reading job
+IsJobOf Compile reading job = IsReadAs job_in reading job
+IsJobOf Tables reading job = IsReadAs job_in reading job
+IsJobOf (Gen n) reading job = IsUntouched reading × (job ≡ gen_job n)
+
+-- What a call makes: the words are a command; it has its job; this has a plan; and the command makes this of them.
 pub record IsMade (words : List (List ℕ)) (reading : Reading) (parts : Parts) (text : List ℕ) : Type 0 where
   pub command : Command
   pub is_command : spelled words ≡ Some command
   pub job : Job
-  pub read : IsReadAs job_in reading job
+  pub its_job : IsJobOf command reading job
   pub plan : Plan
   pub planned : IsThePlan job plan
   pub makes : Makes command job plan parts text

@@ -1,9 +1,9 @@
 // What each word makes of a planned job.
-ghost use Rattle.std.specs.Prelude.{◌≡◌, IfOk};
+ghost use Rattle.std.specs.Prelude.{◌≡◌, ◌<◌, ◌^◌, IfOk};
 ghost use Rattle.app_graph.specs.RunPart.{IsRunOf};
 ghost use Rattle.app_graph.specs.ValidGraph.{IsValidGraph};
-ghost use Rattle.command_words.specs.Commands.{IsBuilt};
-ghost use Rattle.spin_top.specs.Made.{plan_parts, run_parts, HasRunOut, Images, IsReported, IsTraced, Lists, Makes, Reports};
+ghost use Rattle.run_report.specs.ReportText.{row_total};
+ghost use Rattle.spin_top.specs.Made.{plan_parts, run_parts, HasRunOut, Images, IsReported, IsTraced, Lists, Makes, Reports, Summarises};
 ghost use Rattle.spin_top.specs.Planned.{setup_of, IsPlanned};
 
 use crate::outcomes::Parts;
@@ -12,7 +12,7 @@ use command_words::Command;
 use job_readers::Job;
 use mesh_core::{Did, Mesh};
 use par_compile::{Plan, image_of};
-use run_report::{Report, plan_text, report_of, text_of};
+use run_report::{Report, plan_text, report_of, summary_text, text_of};
 use spin_base::{Memory, Seq};
 use std::alloc::Global;
 use table_load::encode;
@@ -25,7 +25,6 @@ pub(crate) struct Made {
 
 // What a command makes of a planned job.
 pub(crate) fn make(alloc: Global, command: Command, job: Job, plan: Plan) -> Result<Made, Memory>
-    requires built { IsBuilt command }
     requires graph { IsValidGraph job.graph }
     requires run { IsRunOf job.graph job.run }
     requires planned { IsPlanned job plan }
@@ -35,7 +34,8 @@ pub(crate) fn make(alloc: Global, command: Command, job: Job, plan: Plan) -> Res
         Command::Run => run(alloc, job, plan),
         Command::Trace => trace(alloc, job, plan),
         Command::Compile => image(alloc, job, plan),
-        _ => list(alloc, job, plan),
+        Command::Tables => list(alloc, job, plan),
+        Command::Gen(number) => generated(alloc, number, job, plan),
     }
 }
 
@@ -49,6 +49,22 @@ fn run(alloc: Global, job: Job, plan: Plan) -> Result<Made, Memory>
     let mesh = run_job(alloc, &job, &plan)?;
     let report = report(alloc, &job, &plan, &mesh, Seq::new(alloc))?;
     let text = text_of(alloc, &report)?;
+    Ok(Made {
+        parts: parts_of(job, plan, mesh, report),
+        text,
+    })
+}
+
+// The same, and the summary of the job of a number.
+fn generated(alloc: Global, number: u64, job: Job, plan: Plan) -> Result<Made, Memory>
+    requires graph { IsValidGraph job.graph }
+    requires run { IsRunOf job.graph job.run }
+    requires planned { IsPlanned job plan }
+    ensures { IfOk result (λ made. Summarises number job plan made.parts made.text) }
+{
+    let mesh = run_job(alloc, &job, &plan)?;
+    let report = report(alloc, &job, &plan, &mesh, Seq::new(alloc))?;
+    let text = summary_text(alloc, number, &job.machine, &job.graph, &job.run, &report)?;
     Ok(Made {
         parts: parts_of(job, plan, mesh, report),
         text,
@@ -110,7 +126,8 @@ fn report(
     requires graph { IsValidGraph job.now.graph }
     requires planned { IsPlanned job.now plan.now }
     requires setup { mesh.now.setup ≡ setup_of job.now plan.now }
-    ensures { IfOk result (IsReported job.now plan.now mesh.now did) }
+    ensures reported { IfOk result (IsReported job.now plan.now mesh.now did) }
+    ensures few { IfOk result (λ report. row_total report.tables < 2 ^ 64) }
 {
     let image = image_of(alloc, &job.machine, &plan.tables)?;
     let spots = &plan.placement.spots;

@@ -1,5 +1,5 @@
 use Rattle.spin_top.specs.declared.makes.Made.{Made}
-use Rattle.spin_top.specs.Made.{HasRunOut, Images, IsTraced, Makes, Reports, imaged, ran, traced}
+use Rattle.spin_top.specs.Made.{HasRunOut, Images, IsTraced, Lists, Makes, Reports, Summarises, generated, imaged, listed, ran, traced}
 use Rattle.spin_top.proofs.EndLaws.{ok_weaker}
 use Rattle.spin_top.proofs.makes.make.Goals as goal
 
@@ -17,3 +17,13 @@ pub returns-in-Compile : goal.returns-in-Compile
 returns-in-Compile c =
     ok_weaker c.image.result (λ (m : Made). Images c.args.job c.args.plan m.parts m.text) (λ (m : Made). Makes c.args.command c.args.job c.args.plan m.parts m.text)
     (λ m images. imaged c.in-Compile.is images) c.image.ensures
+
+pub returns-in-Tables : goal.returns-in-Tables
+returns-in-Tables c =
+    ok_weaker c.list.result (λ (m : Made). Lists c.args.job c.args.plan m.parts m.text) (λ (m : Made). Makes c.args.command c.args.job c.args.plan m.parts m.text)
+    (λ m lists. listed c.in-Tables.is lists) c.list.ensures
+
+pub returns-in-Gen : goal.returns-in-Gen
+returns-in-Gen c =
+    ok_weaker c.generated.result (λ (m : Made). Summarises c.in-Gen.number c.args.job c.args.plan m.parts m.text) (λ (m : Made). Makes c.args.command c.args.job c.args.plan m.parts m.text)
+    (λ m summarises. generated c.in-Gen.number c.in-Gen.is summarises) c.generated.ensures

@@ -10,7 +10,7 @@ returns c =
     let plan = c.args.plan in
     let mesh = c.in_ok-mesh.mesh in
     let report = c.in_ok-report.report in
-    let reported = c.in_ok-report.ensures in (
+    let reported = c.in_ok-report.ensures.reported in (
       mesh,
       report,
       record {

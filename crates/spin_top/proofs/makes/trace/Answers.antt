@@ -15,7 +15,7 @@ returns c =
     let plan = c.args.plan in
     let mesh = c.in_ok-mesh.mesh in
     let report = c.in_ok-report.report in
-    let reported = c.in_ok-report.ensures in
+    let reported = c.in_ok-report.ensures.reported in
     let ledger : (es : List Event) → MeetsJobLedger (after_events (opened_of job plan) es) plan.nets job.run.packets =
     traced_ledger job plan c.requires.run c.requires.planned c.in_ok-mesh.ensures.opened
     in (

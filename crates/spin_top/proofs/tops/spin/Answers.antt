@@ -1,4 +1,4 @@
-use Rattle.spin_top.proofs.EndLaws.{plan_clause, ledger_clause, run_clause, trace_clause, exact_clause, complete_clause}
+use Rattle.spin_top.proofs.EndLaws.{plan_clause, ledger_clause, run_clause, trace_clause, generated_clause, exact_clause, complete_clause}
 use Rattle.spin_top.proofs.tops.spin.Goals as goal
 
 pub returns-clause-plan : goal.returns-clause-plan
@@ -18,3 +18,6 @@ returns-clause-exact g c = exact_clause c.answered.ensures.ends
 
 pub returns-clause-complete : goal.returns-clause-complete
 returns-clause-complete g c = λ answer quiet_source quiet_sink. complete_clause c.answered.ensures.ends answer quiet_source c.answered.ensures.status quiet_sink
+
+pub returns-clause-generated : goal.returns-clause-generated
+returns-clause-generated g c = λ n asked. generated_clause c.answered.ensures.ends c.answered.ensures.status n asked
