@@ -46,7 +46,8 @@ def cases():
         for case in json.load(table):
             yield case["why"], case["job"], case.get("line")
     for name in sorted(glob.glob(f"{ROOT}/examples/*.json")):
-        with open(name, encoding="utf-8") as job, open(name[:-5] + ".report", encoding="utf-8") as report:
+        # (the report of `compile` is no text)
+        with open(name, encoding="utf-8") as job, open(name[:-5] + ".report", encoding="utf-8", errors="replace") as report:
             yield os.path.basename(name), job.read(), report.readline().rstrip("\n")
 
 

@@ -8,11 +8,13 @@
 
 The package has no rules of its own: placements, keys, tables and refusals are those of the program.
 """
+from .images import Image, decode
 from .jobs import Job, Machine, Net, Packet, Vertex, collect, dump, inject, send, take
-from .program import Refused, run, tables, trace
+from .program import Refused, compile, run, tables, trace
 from .reports import Delivery, Dump, Keys, Place, Plan, Report, Row, Table, Wait, links_of, cores_of
 
 __all__ = [
-    "Delivery", "Dump", "Job", "Keys", "Machine", "Net", "Packet", "Place", "Plan", "Refused", "Report", "Row", "Table", "Vertex",
-    "Wait", "collect", "cores_of", "dump", "inject", "links_of", "run", "send", "tables", "take", "trace",
+    "Delivery", "Dump", "Image", "Job", "Keys", "Machine", "Net", "Packet", "Place", "Plan", "Refused", "Report", "Row", "Table",
+    "Vertex", "Wait", "collect", "compile", "cores_of", "decode", "dump", "inject", "links_of", "run", "send", "tables", "take",
+    "trace",
 ]

@@ -2,11 +2,13 @@
 from __future__ import annotations
 
 import os
+import re
 import subprocess
 from pathlib import Path
 from typing import Any, Optional
 
-from .jobs import Job
+from .images import Image, decode
+from .jobs import Chip, Job
 from .reports import Plan, Report, read
 
 REPOSITORY = Path(__file__).resolve().parents[2]
@@ -19,7 +21,9 @@ KINDS = {
 
 class Refused(Exception):
     """The program gave no output. `status` is its status and `kind` that status in words; for a bad job `fault` is what is
-    wrong ("shape", "range", ..), `path` where, and `member` the part of the job that stands there."""
+    wrong ("shape", "range", ..), `path` where, and `member` the part of the job that stands there. `name` is the vertex without
+    room, or the net without keys or with a target that is cut off; `chip` the chip of that target, or the one whose table is too
+    long, and `rows` how many rows that has."""
 
     def __init__(self, status: int, line: str, job: Optional[Job] = None) -> None:
         self.status, self.line = status, line
@@ -27,11 +31,21 @@ class Refused(Exception):
         self.fault: Optional[str] = None
         self.path: Optional[str] = None
         self.member: Any = None
+        self.name: Optional[str] = None
+        self.chip: Optional[Chip] = None
+        self.rows: Optional[int] = None
         rest = line[len("bad job: "):].split(" ") if line.startswith("bad job: ") else []
         at = next((i for i, word in enumerate(rest) if word == "job" or word.startswith("job.")), None)
         if at is not None:
             self.fault, self.path = " ".join(rest[:at]), rest[at]
             self.member = job.member(self.path) if job else None
+        named = re.fullmatch(r"(?:no room|keys out|cut off): (\S+)(?: (\d+) (\d+))?", line)
+        if named:
+            self.name = named[1]
+            self.chip = (int(named[2]), int(named[3])) if named[2] else None
+        long = re.fullmatch(r"table long: (\d+) (\d+) (\d+)", line)
+        if long:
+            self.chip, self.rows = (int(long[1]), int(long[2])), int(long[3])
         shown = f", which is {self.member!r}" if self.member is not None else ""
         super().__init__(f"{line or self.kind} (status {status}){shown}")
 
@@ -41,25 +55,29 @@ def program_of(program: Optional[str]) -> str:
     return program or os.environ.get("KULZOBAD_SPIN") or str(REPOSITORY / "spin")
 
 
-def answer(word: str, job: Job, program: Optional[str]) -> str:
+def answer(word: str, job: Job, program: Optional[str]) -> bytes:
     """What the program writes for the job. Refused where its status is not 0."""
     done = subprocess.run([program_of(program), word], input=job.text().encode(), stdout=subprocess.PIPE, check=False)
-    text = done.stdout.decode()
     if done.returncode:
-        raise Refused(done.returncode, text.rstrip("\n"), job)
-    return text
+        raise Refused(done.returncode, done.stdout.decode(errors="replace").rstrip("\n"), job)
+    return done.stdout
 
 
 def run(job: Job, program: Optional[str] = None) -> Report:
     """Compiles the job and runs its packets."""
-    return read(answer("run", job, program))
+    return read(answer("run", job, program).decode())
 
 
 def tables(job: Job, program: Optional[str] = None) -> Plan:
     """Compiles the job: where its vertices stand, which keys its nets have, and its tables."""
-    return read(answer("tables", job, program)).plan
+    return read(answer("tables", job, program).decode()).plan
+
+
+def compile(job: Job, program: Optional[str] = None) -> Image:
+    """Compiles the job: the image of its tables. `data` of the image is its bytes, for a loader."""
+    return decode(answer("compile", job, program))
 
 
 def trace(job: Job, program: Optional[str] = None) -> Report:
     """Compiles the job and takes its events one by one; `moved` of the report says of each whether it was enabled."""
-    return read(answer("trace", job, program))
+    return read(answer("trace", job, program).decode())

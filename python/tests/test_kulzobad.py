@@ -1,10 +1,18 @@
 """python3 -m unittest, in the folder python/. The program is that of KULZOBAD_SPIN, else ./spin of the repository."""
 import json
 import unittest
+from pathlib import Path
 
 from kulzobad import Delivery, Job, Keys, Machine, Net, Packet, Place, Refused, Row, Vertex, cores_of, links_of, run, tables
-from kulzobad import collect, inject, send, take, trace
+from kulzobad import collect, compile, decode, inject, send, take, trace
 from kulzobad.reports import Dump, Wait, read
+
+
+EXAMPLES = Path(__file__).resolve().parents[2] / "examples"
+
+
+def row_of_chips(**more):
+    return Job(Machine(4, 1), [Vertex("a", at=(0, 0)), Vertex("b", at=(3, 0))], [Net("n", "a", ["b"])], **more)
 
 
 def pair(**more):
@@ -19,12 +27,47 @@ class Jobs(unittest.TestCase):
         self.assertEqual(report.deliveries, [Delivery("b", 0, 0, 7)])
         self.assertEqual((report.dumps, report.waiting, report.unsent), ([], [], 0))
 
-    def test_a_row_of_chips_has_tables(self):
-        job = Job(Machine(4, 1), [Vertex("a", at=(0, 0)), Vertex("b", at=(3, 0))], [Net("n", "a", ["b"])])
-        plan = tables(job)
+    def test_a_row_of_chips_has_tables_at_its_ends(self):
+        plan = tables(row_of_chips())
+        self.assertEqual(list(plan.tables), [(0, 0), (3, 0)])
         self.assertEqual(plan.tables[0, 0].rows, (Row(0, 0xFFFFFFFF, 1),))
         self.assertEqual(links_of(plan.tables[0, 0].rows[0].route), ["E"])
         self.assertEqual(cores_of(plan.tables[3, 0].rows[0].route), [1])
+
+    def test_an_image_has_its_bytes_and_its_tables(self):
+        image = compile(row_of_chips(workers=2))
+        self.assertEqual(image.data, (EXAMPLES / "image.report").read_bytes())
+        self.assertEqual((image.width, image.height, image.wrap, image.rows), (4, 1, False, 2))
+        self.assertEqual(image.tables, tables(row_of_chips()).tables)
+        self.assertEqual(image.tables[3, 0].rows, (Row(0, 0xFFFFFFFF, 0x80),))
+
+    def test_rows_are_joined_down_to_the_target(self):
+        def job(target):
+            nets = [Net("n0", "a", ["b"]), Net("n1", "a", ["c"]), Net("n2", "a", ["b"]), Net("n3", "a", ["b"])]
+            return Job(Machine(1, 1), [Vertex("a"), Vertex("b"), Vertex("c")], nets, target=target)
+
+        self.assertEqual(compile(job(0)).tables[0, 0].rows, (Row(1, 0xFFFFFFFF, 0x200), Row(0, 0xFFFFFFFC, 0x100)))
+        self.assertEqual(compile(job(None)).rows, 4)
+
+    def test_a_machine_without_nets_has_an_empty_image(self):
+        image = compile(Job(Machine(64, 2, wrap=True)))
+        self.assertEqual((image.data, image.tables), (bytes.fromhex("53504e54 01 40 02 01 0000"), {}))
+
+    def test_a_table_that_is_too_long(self):
+        names = [f"v{j}" for j in range(11)]
+        nets = [Net(f"n{i}", "v0", [names[j] for j in range(11) if i >> j & 1]) for i in range(1, 1026)]
+        for call in (tables, compile):
+            with self.assertRaises(Refused) as caught:
+                call(Job(Machine(2, 1), [Vertex(it, at=(1, 0)) for it in names], nets))
+            refused = caught.exception
+            self.assertEqual((refused.status, refused.kind, refused.line), (8, "table long", "table long: 1 0 1025"))
+            self.assertEqual((refused.chip, refused.rows, refused.name), ((1, 0), 1025, None))
+
+    def test_a_target_that_is_cut_off(self):
+        with self.assertRaises(Refused) as caught:
+            tables(Job(Machine(2, 1, dead_links=[(0, 0, 0)]), [Vertex("a"), Vertex("b", at=(1, 0))], [Net("n", "a", ["b"])]))
+        refused = caught.exception
+        self.assertEqual((refused.status, refused.kind, refused.name, refused.chip, refused.rows), (7, "cut off", "n", (1, 0), None))
 
     def test_a_refusal_names_what_is_wrong(self):
         with self.assertRaises(Refused) as caught:
@@ -37,6 +80,7 @@ class Jobs(unittest.TestCase):
         with self.assertRaises(Refused) as caught:
             run(Job(Machine(1, 1), [Vertex(f"v{i}") for i in range(18)]))
         self.assertEqual((caught.exception.status, caught.exception.kind, caught.exception.line), (5, "no room", "no room: v17"))
+        self.assertEqual((caught.exception.name, caught.exception.chip), ("v17", None))
 
     def test_a_trace_tells_which_events_moved_and_where_the_copy_waits(self):
         report = trace(pair(events=[take(0, 0, "L"), inject("a"), take(0, 0, "L")]))
@@ -71,6 +115,12 @@ class Reports(unittest.TestCase):
         text = "dump 0 0 c2 1\nwait 0 at 3 4 hand NE\nend delivered 0 dumped 1 waiting 1 unsent 5\n"
         report = read(text)
         self.assertEqual((report.dumps, report.waiting, report.unsent), ([Dump(0, 0, "c2", 1)], [Wait(0, 3, 4, "hand", "NE")], 5))
+
+    def test_bytes_that_are_no_image(self):
+        data = (EXAMPLES / "image.report").read_bytes()
+        for wrong in (b"", data[:9], b"X" + data[1:], data[:4] + b"\x02" + data[5:], data[:-1], data[:12], data + b"\0"):
+            with self.assertRaises(ValueError):
+                decode(wrong)
 
 
 if __name__ == "__main__":

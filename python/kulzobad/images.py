@@ -1,0 +1,46 @@
+"""The image of a job's tables, as objects. docs/formats.md of the repository has its bytes, field by field."""
+from __future__ import annotations
+
+import struct
+from dataclasses import dataclass, field
+from typing import Dict, Tuple
+
+from .reports import Row, Table
+
+MAGIC = b"SPNT"
+
+
+@dataclass
+class Image:
+    """The tables of a machine of `width` by `height` chips, by chip, and the bytes that spell them."""
+
+    width: int
+    height: int
+    wrap: bool
+    data: bytes
+    tables: Dict[Tuple[int, int], Table] = field(default_factory=dict)
+
+    @property
+    def rows(self) -> int:
+        """The number of rows of all tables."""
+        return sum(len(table.rows) for table in self.tables.values())
+
+
+def decode(data: bytes) -> Image:
+    """The image that these bytes spell. It reads what the program writes: a ValueError says of other bytes that they are none,
+    as far as their length and head tell."""
+    if len(data) < 10 or data[:4] != MAGIC or data[4] != 1:
+        raise ValueError("no image of version 1")
+    image = Image(data[5], data[6], data[7] == 1, bytes(data))
+    at = 10
+    try:
+        for _ in range(struct.unpack_from("<H", data, 8)[0]):
+            x, y, count = struct.unpack_from("<BBH", data, at)
+            rows = tuple(Row(*struct.unpack_from("<III", data, at + 4 + 12 * i)) for i in range(count))
+            image.tables[x, y] = Table(x, y, rows)
+            at += 4 + 12 * count
+    except struct.error:
+        raise ValueError(f"the image ends in the middle of a table, at {len(data)}") from None
+    if at != len(data):
+        raise ValueError(f"bytes after the image, at {at}")
+    return image
