@@ -1,4 +1,4 @@
 mod Small
 mod Stands
 mod Right
-mod Tracked
+pub mod Tracked
