@@ -1,6 +1,7 @@
 -- The text of a generated job is short.
-use Rattle.std.proofs.Common.{◌≡◌, ℕ, zero, suc, ◌+◌, ◌*◌, ◌^◌, ◌<◌, ◌≤◌, List, [], ◌∷◌, ◌++◌, length, map, All, codes, decimal, Bool, true, false, cond, refl, sym, ap, ◌∙◌, subst, arith, length-append}
+use Rattle.std.proofs.Common.{◌≡◌, ℕ, zero, suc, ◌+◌, ◌*◌, ◌/◌, ◌%◌, ◌^◌, ◌<◌, ◌≤◌, List, [], ◌∷◌, ◌++◌, length, map, All, codes, decimal, Bool, true, false, cond, refl, sym, ap, ◌∙◌, subst, arith, length-append}
 use Rattle.std.specs.Prelude.{nat_lt, ◌&&◌}
+use Rattle.std.specs.Char.{digit_char}
 use Rattle.std.specs.List.{list_all}
 use Rattle.std.proofs.lemmas.Bool.{cond_both, and_parts, ltb-true}
 use Rattle.std.proofs.lemmas.Fmt.{length-decimal-le}
@@ -23,8 +24,9 @@ use Rattle.job_gen.proofs.DrawnLaws.{is_drawn}
 byte_short : (x : ℕ) → length (escape_byte x) ≤ 6
 unfolding escape_byte
 byte_short x =
-    cond_both _ _ _ (λ (l : List ℕ). length l ≤ 6) (λ e. omega arith)
-    (λ e. cond_both _ _ _ (λ (l : List ℕ). length l ≤ 6) (λ f. omega arith) (λ f. omega arith))
+    cond_both (nat_lt 0 (escape_letter x)) (92 ∷ escape_letter x ∷ []) (cond (nat_lt x 32) (92 ∷ 117 ∷ 48 ∷ 48 ∷ digit_char (x / 16) ∷ digit_char (x % 16) ∷ []) (x ∷ []))
+    (λ (l : List ℕ). length l ≤ 6) (λ e. omega arith)
+    (λ e. cond_both (nat_lt x 32) (92 ∷ 117 ∷ 48 ∷ 48 ∷ digit_char (x / 16) ∷ digit_char (x % 16) ∷ []) (x ∷ []) (λ (l : List ℕ). length l ≤ 6) (λ f. omega arith) (λ f. omega arith))
 
 escape_short : (s : List ℕ) → length (escape s) ≤ 6 * length s
 escape_short [] = omega arith
@@ -45,23 +47,32 @@ comma_short : (later : Bool) → length (comma_if later) ≤ 1
 comma_short true = omega arith
 comma_short false = omega arith
 
-no_member_short : (later : Bool) → length (members_text later no_members) ≤ 1
-no_member_short later = omega arith
+-- the members of an object, with its closing brace, have at most so many bytes
+record AreShort (ms : Members) (n : ℕ) : Type 0 where
+  text : (later : Bool) → length (members_text later ms) ≤ n
 
-member_short : (later : Bool) (k : List ℕ) (d : Data) (ms : Members) (few long rest : ℕ) → length k ≤ few → length (compact_text d) ≤ long → length (members_text true ms) ≤ rest
-    → length (members_text later (member k d ms)) ≤ 6 * few + 4 + long + rest
-member_short later k d ms few long rest name value others =
+none_short : AreShort no_members 1
+none_short = record { text = λ later. omega arith }
+
+member_short : (k : List ℕ) (d : Data) (few long : ℕ) {ms : Members} {rest : ℕ} → length k ≤ few → length (compact_text d) ≤ long → AreShort ms rest → AreShort (member k d ms) (6 * few + 4 + long + rest)
+member_short k d few long {ms} {rest} name value others = record {
+  text = λ later.
+    let after : length (members_text true ms) ≤ rest = others.text true in
     omega (
       arith,
       comma_short later,
       quoted_short k,
       name,
       value,
-      others,
+      after,
       length-append (comma_if later) (quoted k ++ 58 ∷ (compact_text d ++ members_text true ms)),
       length-append (quoted k) (58 ∷ (compact_text d ++ members_text true ms)),
       length-append (compact_text d) (members_text true ms),
-    )
+    );
+}
+
+object_short : {ms : Members} {n : ℕ} (long : ℕ) → AreShort ms n → n < long → length (compact_text (object ms)) ≤ long
+object_short {ms} {n} long short few = let inside : length (members_text false ms) ≤ n = short.text false in omega (arith, inside, few)
 
 item_short : (later : Bool) (d : Data) (ds : Items) (long rest : ℕ) → length (compact_text d) ≤ long → length (items_text true ds) ≤ rest → length (items_text later (item d ds)) ≤ 1 + long + rest
 item_short later d ds long rest value others =
@@ -111,9 +122,9 @@ numbered_short P long f each later i (x ∷ xs) small all =
 vertex_short : (i sdram : ℕ) → i < 10 ^ 10 → sdram ≤ 1048576 → length (compact_text (vertex_data i sdram)) ≤ 4000
 unfolding vertex_data
 vertex_short i sdram small few =
-    let memory = member_short true (codes "sdram") (number (unsigned sdram)) no_members 5 10 1 (omega arith) (decimal_short sdram (omega arith)) (no_member_short true) in
-    let name = member_short false (codes "name") (string (vertex_name i)) (member (codes "sdram") (number (unsigned sdram)) no_members) 4 68 45 (omega arith) (name_short 118 i small) (omega (arith, memory)) in
-    omega (arith, name)
+    let memory = member_short (codes "sdram") (number (unsigned sdram)) 5 10 (omega arith) (decimal_short sdram (omega arith)) none_short in
+    let name = member_short (codes "name") (string (vertex_name i)) 4 68 (omega arith) (name_short 118 i small) memory in
+    object_short 4000 name (omega arith)
 
 target_short : (t : ℕ) → t < 200 → length (compact_text (name_data t)) ≤ 300
 unfolding name_data
@@ -124,20 +135,20 @@ unfolding net_data
 net_short i net small is =
     let list = list_short (λ t. t < 200) 300 name_data target_short false net.targets is.targets in
     let listed : length (compact_text (array (items_of (map name_data net.targets)))) ≤ 2410 = omega (arith, list, weight_300 (length net.targets), is.few_targets) in
-    let named : length (compact_text (name_data net.source)) ≤ 300 = target_short net.source is.source in
-    let targets = member_short true (codes "targets") (array (items_of (map name_data net.targets))) no_members 7 2410 1 (omega arith) listed (no_member_short true) in
-    let source = member_short true (codes "source") (name_data net.source) _ 6 300 2457 (omega arith) named targets in
-    let name = member_short true (codes "name") (string (net_name i)) _ 4 68 2797 (omega arith) (name_short 110 i small) (omega (arith, source)) in
-    let keys = member_short false (codes "keys") (number (unsigned net.keys)) _ 4 10 2893 (omega arith) (decimal_short net.keys (omega (arith, is.few_keys))) (omega (arith, name)) in
-    omega (arith, keys)
+    let source_named : length (compact_text (name_data net.source)) ≤ 300 = target_short net.source is.source in
+    let targets = member_short (codes "targets") (array (items_of (map name_data net.targets))) 7 2410 (omega arith) listed none_short in
+    let source = member_short (codes "source") (name_data net.source) 6 300 (omega arith) source_named targets in
+    let name = member_short (codes "name") (string (net_name i)) 4 68 (omega arith) (name_short 110 i small) source in
+    let keys = member_short (codes "keys") (number (unsigned net.keys)) 4 10 (omega arith) (decimal_short net.keys (omega (arith, is.few_keys))) name in
+    object_short 4000 keys (omega arith)
 
 packet_short : (nets : List DrawnNet) (p : DrawnPacket) → keys_at nets p.net ≤ 16 → IsDrawnPacket nets p → length (compact_text (packet_data p)) ≤ 4000
 unfolding packet_data
 packet_short nets p few is =
-    let payload = member_short true (codes "payload") (number (unsigned p.payload)) no_members 7 10 1 (omega arith) (decimal_short p.payload (omega (arith, is.payload))) (no_member_short true) in
-    let net = member_short true (codes "net") (string (net_name p.net)) _ 3 68 57 (omega arith) (name_short 110 p.net (omega (arith, is.net))) (omega (arith, payload)) in
-    let index = member_short false (codes "index") (number (unsigned p.index)) _ 5 10 147 (omega arith) (decimal_short p.index (omega (arith, is.index, few))) (omega (arith, net)) in
-    omega (arith, index)
+    let payload = member_short (codes "payload") (number (unsigned p.payload)) 7 10 (omega arith) (decimal_short p.payload (omega (arith, is.payload))) none_short in
+    let net = member_short (codes "net") (string (net_name p.net)) 3 68 (omega arith) (name_short 110 p.net (omega (arith, is.net))) payload in
+    let index = member_short (codes "index") (number (unsigned p.index)) 5 10 (omega arith) (decimal_short p.index (omega (arith, is.index, few))) net in
+    object_short 4000 index (omega arith)
 
 keys_few : (nets : List DrawnNet) (i : ℕ) → All IsDrawnNet nets → i < length nets → keys_at nets i ≤ 16
 unfolding keys_at
@@ -180,10 +191,13 @@ unfolding machine_data
 machine_short =
     let list = list_short IsLow 300 pair_data pair_short false dead_pairs pairs_low in
     let listed : length (compact_text (array (items_of (map pair_data dead_pairs)))) ≤ 5000 = omega (arith, list, weight_300 (length dead_pairs), few_pairs) in
-    let width = member_short true (codes "width") (number (unsigned 8)) no_members 5 10 1 (omega arith) (decimal_short 8 (omega arith)) (no_member_short true) in
-    let height = member_short true (codes "height") (number (unsigned 8)) _ 6 10 45 (omega arith) (decimal_short 8 (omega arith)) (omega (arith, width)) in
-    let dead = member_short false (codes "dead_chips") (array (items_of (map pair_data dead_pairs))) _ 10 5000 95 (omega arith) listed (omega (arith, height)) in
-    omega (arith, dead)
+    let width = member_short (codes "width") (number (unsigned 8)) 5 10 (omega arith) (decimal_short 8 (omega arith)) none_short in
+    let height = member_short (codes "height") (number (unsigned 8)) 6 10 (omega arith) (decimal_short 8 (omega arith)) width in
+    let dead = member_short (codes "dead_chips") (array (items_of (map pair_data dead_pairs))) 10 5000 (omega arith) listed height in
+    object_short 10000 dead (omega arith)
+
+low_member : (k : List ℕ) (n : ℕ) {ms : Members} {rest : ℕ} → length k ≤ 10 → n < 2000 → AreShort ms rest → AreShort (member k (number (unsigned n)) ms) (6 * 10 + 4 + 10 + rest)
+low_member k n name small others = member_short k (number (unsigned n)) 10 10 name (decimal_short n (omega arith)) others
 
 module _ (job : Drawn) (is : IsDrawn job) where
   graph_short : length (compact_text (graph_data job)) ≤ 2100000
@@ -193,9 +207,9 @@ module _ (job : Drawn) (is : IsDrawn job) where
       let vertices = numbered_short (λ s. s ≤ 1048576) 4000 vertex_data vertex_short false 0 job.sdrams (omega (arith, is.vertices)) is.sdrams in
       let net_list : length (compact_text (array (items_of (numbered net_data 0 job.nets)))) ≤ 1200400 = omega (arith, nets, weight_4000 (length job.nets), is.number_of_nets) in
       let vertex_list : length (compact_text (array (items_of (numbered vertex_data 0 job.sdrams)))) ≤ 800300 = omega (arith, vertices, weight_4000 (length job.sdrams), is.vertices) in
-      let last = member_short true (codes "vertices") (array (items_of (numbered vertex_data 0 job.sdrams))) no_members 8 800300 1 (omega arith) vertex_list (no_member_short true) in
-      let first = member_short false (codes "nets") (array (items_of (numbered net_data 0 job.nets))) _ 4 1200400 800400 (omega arith) net_list (omega (arith, last)) in
-      omega (arith, first)
+      let last = member_short (codes "vertices") (array (items_of (numbered vertex_data 0 job.sdrams))) 8 800300 (omega arith) vertex_list none_short in
+      let first = member_short (codes "nets") (array (items_of (numbered net_data 0 job.nets))) 4 1200400 (omega arith) net_list last in
+      object_short 2100000 first (omega arith)
 
   packet_low : (p : DrawnPacket) → IsDrawnPacket job.nets p → length (compact_text (packet_data p)) ≤ 4000
   packet_low p of_nets = packet_short job.nets p (keys_few job.nets p.net is.nets (omega (arith, of_nets.net, is.number_of_nets))) of_nets
@@ -205,25 +219,22 @@ module _ (job : Drawn) (is : IsDrawn job) where
   run_short =
       let list = list_short (IsDrawnPacket job.nets) 4000 packet_data packet_low false job.packets is.packets in
       let listed : length (compact_text (array (items_of (map packet_data job.packets)))) ≤ 4801300 = omega (arith, list, weight_4000 (length job.packets), is.number_of_packets) in
-      let workers = number_member true (codes "workers") 4 no_members 1 (omega arith) (omega arith) (no_member_short true) in
-      let turns = number_member true (codes "turns") 64 _ 101 (omega arith) (omega arith) workers in
-      let target = number_member true (codes "target") 0 _ 201 (omega arith) (omega arith) turns in
-      let queue = number_member true (codes "queue") 1200 _ 301 (omega arith) (omega arith) target in
-      let patience = number_member true (codes "patience") 16 _ 401 (omega arith) (omega arith) queue in
-      let first = member_short false (codes "packets") (array (items_of (map packet_data job.packets))) _ 7 4801300 501 (omega arith) listed patience in
-      omega (arith, first)
-    where
-      number_member : (later : Bool) (k : List ℕ) (n : ℕ) (ms : Members) (rest : ℕ) → length k ≤ 10 → n < 2000 → length (members_text true ms) ≤ rest → length (members_text later (member k (number (unsigned n)) ms)) ≤ 100 + rest
-      number_member later k n ms rest name small others = omega (arith, member_short later k (number (unsigned n)) ms 10 10 rest name (decimal_short n (omega arith)) others)
+      let workers = low_member (codes "workers") 4 (omega arith) (omega arith) none_short in
+      let turns = low_member (codes "turns") 64 (omega arith) (omega arith) workers in
+      let target = low_member (codes "target") 0 (omega arith) (omega arith) turns in
+      let queue = low_member (codes "queue") 1200 (omega arith) (omega arith) target in
+      let patience = low_member (codes "patience") 16 (omega arith) (omega arith) queue in
+      let first = member_short (codes "packets") (array (items_of (map packet_data job.packets))) 7 4801300 (omega arith) listed patience in
+      object_short 4900000 first (omega arith)
 
   job_short : length (compact_text (job_data job)) ≤ 16777216
   unfolding job_data
   job_short =
-      let version = member_short true (codes "version") (number (unsigned 1)) no_members 7 10 1 (omega arith) (decimal_short 1 (omega arith)) (no_member_short true) in
-      let run = member_short true (codes "run") (run_data job.packets) _ 3 4900000 57 (omega arith) run_short (omega (arith, version)) in
-      let machine = member_short true (codes "machine") machine_data _ 7 10000 4900100 (omega arith) machine_short (omega (arith, run)) in
-      let graph = member_short false (codes "graph") (graph_data job) _ 5 2100000 4911000 (omega arith) graph_short (omega (arith, machine)) in
-      omega (arith, graph)
+      let version = low_member (codes "version") 1 (omega arith) (omega arith) none_short in
+      let run = member_short (codes "run") (run_data job.packets) 3 4900000 (omega arith) run_short version in
+      let machine = member_short (codes "machine") machine_data 7 10000 (omega arith) machine_short run in
+      let graph = member_short (codes "graph") (graph_data job) 5 2100000 (omega arith) graph_short machine in
+      object_short 16777216 graph (omega arith)
 
 pub text_short : (n : ℕ) → length (gen_text_of n) ≤ 16777216
 unfolding gen_text_of gen_value

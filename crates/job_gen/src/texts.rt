@@ -1,5 +1,5 @@
 // The text of a generated job.
-ghost use Rattle.std.specs.Prelude.{◌≡◌, Some, IfOk};
+ghost use Rattle.std.specs.Prelude.{◌≡◌, ◌≤◌, length, Some, IfOk};
 ghost use Rattle.job_text.specs.Json.{json_of};
 ghost use Rattle.job_gen.specs.Values.{gen_value, gen_text_of};
 
@@ -16,6 +16,7 @@ use std::alloc::Global;
 /// `Memory` where memory runs out.
 pub fn gen_text(alloc: Global, n: u64) -> Result<Seq<u8>, Memory>
     ensures text { IfOk result (λ bytes. bytes ≡ gen_text_of n) }
+    ensures few { IfOk result (λ bytes. length bytes ≤ 16777216) }
     ensures reads_back { IfOk result (λ bytes. json_of bytes ≡ Some (gen_value n)) }
 {
     let job = draw_job(alloc, n)?;
