@@ -13,6 +13,7 @@ use Rattle.app_graph.specs.declared.graphs.Graph.{Graph}
 use Rattle.app_graph.specs.declared.graphs.RunPart.{RunPart}
 use Rattle.app_graph.specs.RunPart.{keys_of}
 use Rattle.job_text.specs.declared.faults.JobFault.{JobFault}
+use Rattle.job_text.specs.declared.faults.JobFault.TheVariants.{TooMany}
 use Rattle.job_text.specs.Fields.{is_within, is_name, count_faults}
 use Rattle.job_text.proofs.Items.{list_of-items_of}
 use Rattle.job_readers.specs.Items.{items_faults, following_faults}
@@ -21,7 +22,7 @@ use Rattle.job_readers.specs.Entries.{chip_faults, chip_value}
 use Rattle.job_readers.specs.Places.{place_in, reference_faults, reference_value}
 use Rattle.job_readers.specs.Job.{own_faults, version_faults, version_value}
 use Rattle.job_readers.specs.MachinePart.{entries_faults, machine_members_faults, machine_members, machine_faults, machine_value}
-use Rattle.job_readers.specs.GraphPart.{vertex_value, next_vertex_faults, vertices_faults, vertices_value, net_value, next_net_faults, net_names, nets_faults, nets_value, graph_members_faults, graph_members, graph_faults, graph_value}
+use Rattle.job_readers.specs.GraphPart.{name_of, vertex_value, next_vertex_faults, vertices_faults, vertices_value, net_value, next_net_faults, net_names, nets_faults, nets_value, graph_members_faults, graph_members, graph_faults, graph_value}
 use Rattle.job_readers.specs.RunPart.{packet_net_faults, packet_net, packet_faults, packet_value, packets_faults, packets_value, events_faults, events_value, places_faults, run_members_faults, run_members, run_faults, run_value}
 use Rattle.job_readers.specs.WholeJob.{job_faults, job_value}
 use Rattle.job_readers.specs.declared.jobs.Job.{Job}
@@ -40,7 +41,7 @@ use Rattle.job_gen.proofs.DrawnLaws.{is_drawn}
 
 -- a list that is no longer than its limit
 few_faults : (path : List ℕ) (limit count : ℕ) → count ≤ limit → count_faults path limit count ≡ []
-few_faults path limit count few = ap (λ (b : Bool). if b then [] else _) (le-leb count limit few)
+few_faults path limit count few = ap (λ (b : Bool). if b then [] else TooMany path count ∷ []) (le-leb count limit few)
 
 -- ---- the machine
 
