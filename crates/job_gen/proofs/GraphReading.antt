@@ -1,0 +1,139 @@
+-- The graph of a generated job is read as it was drawn.
+use Rattle.std.proofs.Common.{◌≡◌, ℕ, zero, suc, ◌+◌, ◌<◌, ◌≤◌, List, [], ◌∷◌, ◌++◌, length, map, All, codes, decimal, Bool, true, false, Option, Some, None, if◌then◌else◌, refl, sym, ap, ◌∙◌, subst, arith}
+use Rattle.std.specs.Prelude.{slice_get, option_and_then, is_some, unwrap_or}
+use Rattle.std.proofs.lemmas.Bool.{le-leb, and_from}
+use Rattle.std.proofs.lemmas.List.{map-id}
+use Rattle.serde_json.specs.Data.{Data, string}
+use Rattle.serde_json.specs.View.{items_of}
+use Rattle.app_graph.specs.declared.graphs.Vertex.{Vertex}
+use Rattle.app_graph.specs.declared.graphs.Net.{Net}
+use Rattle.job_text.specs.declared.faults.JobFault.{JobFault}
+use Rattle.job_text.specs.Fields.{is_within, is_name}
+use Rattle.job_text.specs.Members.{list_of}
+use Rattle.job_text.proofs.Items.{list_of-items_of}
+use Rattle.job_readers.specs.Items.{items_faults}
+use Rattle.job_readers.specs.Members.{number_member_faults, number_member, list_member_faults, list_member, member_since}
+use Rattle.job_readers.specs.Places.{place_in, reference_faults, reference_value, new_name_faults}
+use Rattle.job_readers.specs.GraphPart.{name_of, name_faults, at_faults, at_value, device_faults, device_value, vertex_faults, vertex_value, next_vertex_faults, vertex_names_of, sender_at, sender_in, source_faults, source_value, target_faults, target_value, has_item, some_faults, targets_faults, targets_value, keys_value, fixed_faults, fixed_value, net_faults, net_value, next_net_faults, net_names}
+use Rattle.job_gen.specs.declared.draws.DrawnNet.{DrawnNet}
+use Rattle.job_gen.specs.DrawnFacts.{IsDrawnNet}
+use Rattle.job_gen.specs.Values.{numbered, vertex_name, net_name, vertex_data, name_data, net_data}
+use Rattle.job_gen.specs.Generated.{vertex_of, net_of}
+use Rattle.job_gen.proofs.NameLemmas.{AreBelow, absent, found, named}
+use Rattle.job_gen.proofs.ListReading.{items_clean, items_are}
+
+within : (low high n : ℕ) → low ≤ n → n ≤ high → is_within low high n ≡ true
+within low high n above below = and_from _ _ (le-leb low n above) (le-leb n high below)
+
+-- ---- vertices
+
+pub vertex_clean : (before : List Vertex) (path : List ℕ) (i sdram : ℕ) → AreBelow 118 i (map (λ (v : Vertex). v.name) before) → i < 1000 → sdram ≤ 1048576
+    → next_vertex_faults 1 before path (vertex_data i sdram) ≡ []
+unfolding vertex_faults name_faults new_name_faults number_member_faults at_faults device_faults member_since vertex_names_of vertex_data
+vertex_clean before path i sdram below small few =
+    let name : is_name (118 ∷ decimal i) ≡ true = named 118 i (omega arith) (omega arith) small in
+    let new : place_in (map (λ (v : Vertex). v.name) before) (118 ∷ decimal i) ≡ None = absent 118 i _ small below in
+    let memory : is_within 0 134217728 sdram ≡ true = within 0 134217728 sdram (omega arith) (omega arith) in
+    rw (name, new, memory) refl
+
+pub vertex_is : (i sdram : ℕ) → vertex_value 1 (vertex_data i sdram) ≡ vertex_of i sdram
+unfolding vertex_value name_of number_member at_value device_value member_since vertex_data vertex_of
+vertex_is i sdram = refl
+
+pub vertex_named : (i sdram : ℕ) → (vertex_of i sdram).name ≡ 118 ∷ decimal i
+unfolding vertex_of
+vertex_named i sdram = refl
+
+-- ---- the vertex of a name
+
+module _ (sdrams : List ℕ) (many : length sdrams ≡ 200) where
+  place : (i : ℕ) → i < 200 → place_in (vertex_names_of (numbered vertex_of 0 sdrams)) (vertex_name i) ≡ Some i
+  unfolding vertex_names_of
+  place i below =
+      let number : i ≡ 0 + i = omega arith in
+      ap (λ j. place_in (vertex_names_of (numbered vertex_of 0 sdrams)) (118 ∷ decimal j)) number
+      ∙ found 118 (λ (v : Vertex). v.name) vertex_of vertex_named 0 i sdrams (omega (arith, many)) (omega (arith, many))
+
+  -- none of them is a device
+  no_device : (number i k : ℕ) (xs : List ℕ) → k < length xs → option_and_then (λ (v : Vertex). if is_some v.device then None else Some number) (slice_get (numbered vertex_of i xs) k) ≡ Some number
+  unfolding numbered vertex_of
+  no_device number i k [] below = absurd (omega arith)
+  no_device number i zero (x ∷ xs) below = refl
+  no_device number i (suc k) (x ∷ xs) below = no_device number (i + 1) k xs (omega arith)
+
+  sender : (i : ℕ) → i < 200 → sender_in (numbered vertex_of 0 sdrams) (vertex_name i) ≡ Some i
+  unfolding sender_in sender_at
+  sender i below = ap (option_and_then (sender_at (numbered vertex_of 0 sdrams))) (place i below) ∙ no_device i 0 i sdrams (omega (arith, many))
+
+  target_clean : (path : List ℕ) (t : ℕ) → t < 200 → target_faults (vertex_names_of (numbered vertex_of 0 sdrams)) path (name_data t) ≡ []
+  unfolding target_faults reference_faults name_data
+  target_clean path t below =
+      let name : is_name (118 ∷ decimal t) ≡ true = named 118 t (omega arith) (omega arith) (omega arith) in
+      rw (name, place t below) refl
+
+  target_is : (t : ℕ) → t < 200 → target_value (vertex_names_of (numbered vertex_of 0 sdrams)) (name_data t) ≡ t
+  unfolding target_value reference_value name_data
+  target_is t below = ap (λ o. unwrap_or o 0) (place t below)
+
+  -- ---- nets
+
+  source_clean : (path : List ℕ) (i : ℕ) (net : DrawnNet) → net.source < 200 → source_faults (numbered vertex_of 0 sdrams) path (net_data i net) ≡ []
+  unfolding source_faults net_data name_data
+  source_clean path i net below =
+      let name : is_name (118 ∷ decimal net.source) ≡ true = named 118 net.source (omega arith) (omega arith) (omega arith) in
+      rw (name, sender net.source below) refl
+
+  source_is : (i : ℕ) (net : DrawnNet) → net.source < 200 → source_value (numbered vertex_of 0 sdrams) (net_data i net) ≡ net.source
+  unfolding source_value net_data name_data
+  source_is i net below = ap (λ o. unwrap_or o 0) (sender net.source below)
+
+  has_some : (ts : List ℕ) → 1 ≤ length ts → has_item (map name_data ts) ≡ true
+  has_some [] some = absurd (omega arith)
+  has_some (t ∷ ts) some = refl
+
+  targets_clean : (path : List ℕ) (i : ℕ) (net : DrawnNet) → 1 ≤ length net.targets → All (λ t. t < 200) net.targets
+      → targets_faults (vertex_names_of (numbered vertex_of 0 sdrams)) path (net_data i net) ≡ []
+  unfolding targets_faults some_faults list_member net_data
+  targets_clean path i net some below =
+      rw (
+        list_of-items_of (map name_data net.targets),
+        has_some net.targets some,
+        items_clean (λ t. t < 200) (target_faults (vertex_names_of (numbered vertex_of 0 sdrams))) name_data target_clean _ 0 net.targets below,
+      ) refl
+
+  targets_are : (i : ℕ) (net : DrawnNet) → All (λ t. t < 200) net.targets → targets_value (vertex_names_of (numbered vertex_of 0 sdrams)) (net_data i net) ≡ net.targets
+  unfolding targets_value list_member net_data
+  targets_are i net below =
+      ap (map (target_value (vertex_names_of (numbered vertex_of 0 sdrams)))) (list_of-items_of (map name_data net.targets))
+      ∙ items_are (λ t. t < 200) (target_value (vertex_names_of (numbered vertex_of 0 sdrams))) name_data (λ t. t) target_is net.targets below
+      ∙ map-id net.targets
+
+  own_name : (before : List Net) (path : List ℕ) (i : ℕ) (net : DrawnNet) → AreBelow 110 i (map (λ (n : Net). n.name) before) → i < 1000
+      → name_faults (net_names before) path (net_data i net) ≡ []
+  unfolding name_faults new_name_faults net_names net_data
+  own_name before path i net below small =
+      let name : is_name (110 ∷ decimal i) ≡ true = named 110 i (omega arith) (omega arith) small in
+      rw (name, absent 110 i _ small below) refl
+
+  keys_clean : (path : List ℕ) (i : ℕ) (net : DrawnNet) → 1 ≤ net.keys → net.keys ≤ 16 → number_member_faults path (codes "keys") 1 4294967296 (Some 1) (net_data i net) ≡ []
+  unfolding number_member_faults net_data
+  keys_clean path i net some few = rw (within 1 4294967296 net.keys some (omega arith)) refl
+
+  pub net_clean : (before : List Net) (path : List ℕ) (i : ℕ) (net : DrawnNet) → AreBelow 110 i (map (λ (n : Net). n.name) before) → i < 1000 → IsDrawnNet net
+      → next_net_faults 1 (numbered vertex_of 0 sdrams) before path (net_data i net) ≡ []
+  unfolding net_faults fixed_faults member_since net_data
+  net_clean before path i net below small drawn =
+      rw (
+        own_name before path i net below small,
+        source_clean path i net drawn.source,
+        targets_clean path i net drawn.some_target drawn.targets,
+        keys_clean path i net drawn.some_key drawn.few_keys,
+      ) refl
+
+  pub net_is : (i : ℕ) (net : DrawnNet) → IsDrawnNet net → net_value 1 (numbered vertex_of 0 sdrams) (net_data i net) ≡ net_of i net
+  unfolding net_value name_of keys_value number_member fixed_value member_since net_data net_of
+  net_is i net drawn = rw (source_is i net drawn.source, targets_are i net drawn.targets) refl
+
+pub net_named : (i : ℕ) (net : DrawnNet) → (net_of i net).name ≡ 110 ∷ decimal i
+unfolding net_of
+net_named i net = refl

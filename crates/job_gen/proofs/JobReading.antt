@@ -1,0 +1,251 @@
+-- A generated job is read without a fault, as its definition gives it.
+use Rattle.std.proofs.Common.{◌≡◌, ℕ, zero, suc, ◌+◌, ◌-◌, ◌*◌, ◌<◌, ◌≤◌, List, [], ◌∷◌, ◌++◌, length, map, All, codes, decimal, Bool, true, false, Option, Some, None, if◌then◌else◌, slice_index, refl, sym, ap, ◌∙◌, subst, arith}
+use Rattle.std.specs.Prelude.{unwrap_or, nat_le}
+use Rattle.std.proofs.lemmas.Bool.{le-leb, and_from}
+use Rattle.std.proofs.lemmas.List.{length-map}
+use Rattle.serde_json.specs.Data.{Data}
+use Rattle.serde_json.specs.View.{items_of}
+use Rattle.machine_desc.specs.Description.{Description}
+use Rattle.machine_desc.specs.Live.{live_count_of}
+use Rattle.app_graph.specs.declared.graphs.Vertex.{Vertex}
+use Rattle.app_graph.specs.declared.graphs.Net.{Net}
+use Rattle.app_graph.specs.declared.graphs.Graph.{Graph}
+use Rattle.app_graph.specs.declared.graphs.RunPart.{RunPart}
+use Rattle.app_graph.specs.RunPart.{keys_of}
+use Rattle.job_text.specs.declared.faults.JobFault.{JobFault}
+use Rattle.job_text.specs.declared.faults.JobFault.TheVariants.{TooMany}
+use Rattle.job_text.specs.Fields.{is_within, is_name, count_faults}
+use Rattle.job_text.proofs.Items.{list_of-items_of}
+use Rattle.job_readers.specs.Items.{items_faults, following_faults}
+use Rattle.job_readers.specs.Members.{number_member_faults, number_member, optional_number, flag_member_faults, flag_member, list_member_faults, long_list_member_faults, list_member}
+use Rattle.job_readers.specs.Entries.{chip_faults, chip_value}
+use Rattle.job_readers.specs.Places.{place_in, reference_faults, reference_value}
+use Rattle.job_readers.specs.Job.{own_faults, version_faults, version_value}
+use Rattle.job_readers.specs.MachinePart.{entries_faults, machine_members_faults, machine_members, machine_faults, machine_value}
+use Rattle.job_readers.specs.GraphPart.{name_of, vertex_value, next_vertex_faults, vertices_faults, vertices_value, net_value, next_net_faults, net_names, nets_faults, nets_value, graph_members_faults, graph_members, graph_faults, graph_value}
+use Rattle.job_readers.specs.RunPart.{packet_net_faults, packet_net, packet_faults, packet_value, packets_faults, packets_value, events_faults, events_value, places_faults, run_members_faults, run_members, run_faults, run_value}
+use Rattle.job_readers.specs.WholeJob.{job_faults, job_value}
+use Rattle.job_readers.specs.declared.jobs.Job.{Job}
+use Rattle.job_gen.specs.declared.draws.DrawnNet.{DrawnNet}
+use Rattle.job_gen.specs.declared.draws.DrawnPacket.{DrawnPacket}
+use Rattle.job_gen.specs.declared.draws.Drawn.{Drawn}
+use Rattle.job_gen.specs.Draws.{keys_at, drawn}
+use Rattle.job_gen.specs.DrawnFacts.{IsDrawnNet, IsDrawnPacket, IsDrawn}
+use Rattle.job_gen.specs.Values.{numbered, net_name, vertex_data, net_data, packet_data, dead_pairs, machine_data, graph_data, run_data, job_data, gen_value}
+use Rattle.job_gen.specs.Board.{board}
+use Rattle.job_gen.specs.Generated.{vertex_of, net_of, packet_of, graph_of, run_of, job_of_drawn, gen_job}
+use Rattle.job_gen.proofs.NameLemmas.{found, named}
+use Rattle.job_gen.proofs.ListReading.{items_clean, items_are, numbered_are, length-numbered, following_clean}
+use Rattle.job_gen.proofs.GraphReading.{vertex_clean, vertex_is, vertex_named, net_clean, net_is, net_named}
+use Rattle.job_gen.proofs.DrawnLaws.{is_drawn}
+
+-- a list that is no longer than its limit
+few_faults : (path : List ℕ) (limit count : ℕ) → count ≤ limit → count_faults path limit count ≡ []
+few_faults path limit count few = ap (λ (b : Bool). if b then [] else TooMany path count ∷ []) (le-leb count limit few)
+
+-- ---- the machine
+
+machine_clean : (path : List ℕ) (job : Drawn) → machine_faults path (job_data job) ≡ []
+unfolding machine_faults machine_members_faults entries_faults number_member_faults number_member flag_member_faults long_list_member_faults list_member items_faults chip_faults job_data graph_data machine_data run_data dead_pairs
+machine_clean path job = refl
+
+machine_is : (job : Drawn) → machine_value (job_data job) ≡ board
+unfolding machine_value machine_members number_member flag_member list_member chip_value job_data graph_data machine_data run_data dead_pairs board
+machine_is job = refl
+
+live_chips : live_count_of board ≡ 48
+unfolding board dead_pairs
+live_chips = refl
+
+-- ---- the graph
+
+net_value_named : (vertices : List Vertex) (i : ℕ) (net : DrawnNet) → (net_value 1 vertices (net_data i net)).name ≡ 110 ∷ decimal i
+unfolding net_value name_of net_data
+net_value_named vertices i net = refl
+
+net_keys : (i : ℕ) (net : DrawnNet) → (net_of i net).keys ≡ net.keys
+unfolding net_of
+net_keys i net = refl
+
+keys_numbered : (k : ℕ) (nets : List DrawnNet) → map (λ (n : Net). n.keys) (numbered net_of k nets) ≡ map (λ (n : DrawnNet). n.keys) nets
+unfolding numbered
+keys_numbered k [] = refl
+keys_numbered k (n ∷ nets) = rw (net_keys k n, keys_numbered (k + 1) nets) refl
+
+within : (low high n : ℕ) → low ≤ n → n ≤ high → is_within low high n ≡ true
+within low high n above below = and_from _ _ (le-leb low n above) (le-leb n high below)
+
+module _ (job : Drawn) (drawn : IsDrawn job) where
+  vertices_clean : (path : List ℕ) → vertices_faults 1 path (graph_data job) ≡ []
+  unfolding vertices_faults list_member_faults list_member graph_data
+  vertices_clean path =
+      rw (
+        list_of-items_of (numbered vertex_data 0 job.sdrams),
+        few_faults _ 16384 (length (numbered vertex_data 0 job.sdrams)) (omega (arith, length-numbered vertex_data 0 job.sdrams, drawn.vertices)),
+        following_clean (λ s. s ≤ 1048576) 118 (λ (v : Vertex). v.name) (next_vertex_faults 1) (vertex_value 1) vertex_data vertex_clean
+        (λ i s. ap (λ (v : Vertex). v.name) (vertex_is i s) ∙ vertex_named i s) [] _ 0 0 job.sdrams tt (omega (arith, drawn.vertices)) drawn.sdrams,
+      ) refl
+
+  vertices_are : vertices_value 1 (graph_data job) ≡ numbered vertex_of 0 job.sdrams
+  unfolding vertices_value list_member graph_data
+  vertices_are =
+      ap (map (vertex_value 1)) (list_of-items_of (numbered vertex_data 0 job.sdrams))
+      ∙ numbered_are (λ s. s ≤ 1048576) (vertex_value 1) vertex_data vertex_of (λ i s few. vertex_is i s) 0 job.sdrams drawn.sdrams
+
+  nets_clean : (path : List ℕ) → nets_faults 1 (numbered vertex_of 0 job.sdrams) path (graph_data job) ≡ []
+  unfolding nets_faults list_member_faults list_member graph_data
+  nets_clean path =
+      rw (
+        list_of-items_of (numbered net_data 0 job.nets),
+        few_faults _ 4096 (length (numbered net_data 0 job.nets)) (omega (arith, length-numbered net_data 0 job.nets, drawn.number_of_nets)),
+        following_clean IsDrawnNet 110 (λ (n : Net). n.name) (next_net_faults 1 (numbered vertex_of 0 job.sdrams)) (net_value 1 (numbered vertex_of 0 job.sdrams)) net_data
+        (net_clean job.sdrams drawn.vertices) (net_value_named (numbered vertex_of 0 job.sdrams)) [] _ 0 0 job.nets tt (omega (arith, drawn.number_of_nets)) drawn.nets,
+      ) refl
+
+  nets_are : nets_value 1 (numbered vertex_of 0 job.sdrams) (graph_data job) ≡ numbered net_of 0 job.nets
+  unfolding nets_value list_member graph_data
+  nets_are =
+      ap (map (net_value 1 (numbered vertex_of 0 job.sdrams))) (list_of-items_of (numbered net_data 0 job.nets))
+      ∙ numbered_are IsDrawnNet (net_value 1 (numbered vertex_of 0 job.sdrams)) net_data net_of (net_is job.sdrams drawn.vertices) 0 job.nets drawn.nets
+
+  graph_clean : (path : List ℕ) → graph_members_faults 1 path (graph_data job) ≡ []
+  unfolding graph_members_faults
+  graph_clean path = rw (vertices_clean path, vertices_are, nets_clean path) refl
+
+  graph_is : graph_members 1 (graph_data job) ≡ graph_of job
+  unfolding graph_members graph_of
+  graph_is = rw (vertices_are, nets_are) refl
+
+  -- ---- packets
+
+  net_place : (i : ℕ) → i < 300 → place_in (net_names (numbered net_of 0 job.nets)) (net_name i) ≡ Some i
+  unfolding net_names
+  net_place i below =
+      let number : i ≡ 0 + i = omega arith in
+      ap (λ j. place_in (net_names (numbered net_of 0 job.nets)) (110 ∷ decimal j)) number
+      ∙ found 110 (λ (n : Net). n.name) net_of net_named 0 i job.nets (omega (arith, drawn.number_of_nets)) (omega (arith, drawn.number_of_nets))
+
+  same_keys : (i : ℕ) → keys_of (numbered net_of 0 job.nets) i ≡ keys_at job.nets i
+  unfolding keys_of keys_at
+  same_keys i = ap (λ ks. slice_index ks i) (keys_numbered 0 job.nets)
+
+  packet_net_is : (p : DrawnPacket) → p.net < 300 → packet_net (numbered net_of 0 job.nets) (packet_data p) ≡ p.net
+  unfolding packet_net reference_value packet_data
+  packet_net_is p below = ap (λ o. unwrap_or o 0) (net_place p.net below)
+
+  packet_net_clean : (path : List ℕ) (p : DrawnPacket) → p.net < 300 → packet_net_faults (numbered net_of 0 job.nets) path (packet_data p) ≡ []
+  unfolding packet_net_faults reference_faults packet_data
+  packet_net_clean path p below =
+      let name : is_name (110 ∷ decimal p.net) ≡ true = named 110 p.net (omega arith) (omega arith) (omega arith) in
+      rw (name, net_place p.net below) refl
+
+  index_clean : (path : List ℕ) (p : DrawnPacket) (high : ℕ) → p.index ≤ high → number_member_faults path (codes "index") 0 high None (packet_data p) ≡ []
+  unfolding number_member_faults packet_data
+  index_clean path p high below = rw (within 0 high p.index (omega arith) below) refl
+
+  payload_clean : (path : List ℕ) (p : DrawnPacket) → p.payload ≤ 4294967295 → number_member_faults path (codes "payload") 0 4294967295 (Some 0) (packet_data p) ≡ []
+  unfolding number_member_faults packet_data
+  payload_clean path p below = rw (within 0 4294967295 p.payload (omega arith) below) refl
+
+  packet_clean : (path : List ℕ) (p : DrawnPacket) → IsDrawnPacket job.nets p → packet_faults (numbered net_of 0 job.nets) path (packet_data p) ≡ []
+  unfolding packet_faults packet_data
+  packet_clean path p of_nets =
+      let net : p.net < 300 = of_nets.net in
+      let keys : keys_of (numbered net_of 0 job.nets) (packet_net (numbered net_of 0 job.nets) (packet_data p)) ≡ keys_at job.nets p.net =
+          ap (keys_of (numbered net_of 0 job.nets)) (packet_net_is p net) ∙ same_keys p.net in
+      let index : p.index < keys_at job.nets p.net = of_nets.index in
+      rw (
+        packet_net_clean path p net,
+        index_clean path p (keys_of (numbered net_of 0 job.nets) (packet_net (numbered net_of 0 job.nets) (packet_data p)) - 1) (omega (arith, keys, index)),
+        payload_clean path p of_nets.payload,
+      ) refl
+
+  packet_is : (p : DrawnPacket) → IsDrawnPacket job.nets p → packet_value (numbered net_of 0 job.nets) (packet_data p) ≡ packet_of p
+  unfolding packet_value number_member optional_number packet_data packet_of
+  packet_is p of_nets = rw (packet_net_is p of_nets.net) refl
+
+  packets_clean : (path : List ℕ) → packets_faults (numbered net_of 0 job.nets) path (run_data job.packets) ≡ []
+  unfolding packets_faults list_member_faults list_member run_data
+  packets_clean path =
+      let many : length (map packet_data job.packets) ≡ length job.packets = length-map job.packets packet_data in
+      rw (
+        list_of-items_of (map packet_data job.packets),
+        few_faults _ 65536 (length (map packet_data job.packets)) (omega (arith, many, drawn.number_of_packets)),
+        items_clean (IsDrawnPacket job.nets) (packet_faults (numbered net_of 0 job.nets)) packet_data packet_clean _ 0 job.packets drawn.packets,
+      ) refl
+
+  packets_are : packets_value (numbered net_of 0 job.nets) (run_data job.packets) ≡ map packet_of job.packets
+  unfolding packets_value list_member run_data
+  packets_are =
+      ap (map (packet_value (numbered net_of 0 job.nets))) (list_of-items_of (map packet_data job.packets))
+      ∙ items_are (IsDrawnPacket job.nets) (packet_value (numbered net_of 0 job.nets)) packet_data packet_of packet_is job.packets drawn.packets
+
+  -- ---- the run part
+
+  run_clean : (path : List ℕ) → run_members_faults 48 (graph_of job) path (run_data job.packets) ≡ []
+  unfolding run_members_faults number_member_faults number_member events_faults long_list_member_faults list_member items_faults places_faults graph_of run_data
+  run_clean path =
+      let many : length (numbered vertex_of 0 job.sdrams) ≡ 200 = length-numbered vertex_of 0 job.sdrams ∙ drawn.vertices in
+      rw (packets_clean path, many) refl
+
+  run_is : run_members (graph_of job) (run_data job.packets) ≡ run_of job.packets
+  unfolding run_members number_member events_value list_member graph_of run_of run_data
+  run_is = rw packets_are refl
+
+  -- ---- the whole job
+
+  graph_part_clean : (path : List ℕ) → graph_faults path 1 (job_data job) ≡ []
+  unfolding graph_faults job_data graph_data
+  graph_part_clean path = graph_clean _
+
+  graph_part_is : graph_value 1 (job_data job) ≡ graph_of job
+  unfolding graph_value job_data graph_data
+  graph_part_is = graph_is
+
+  run_part_clean : (path : List ℕ) → run_faults path board (graph_of job) (job_data job) ≡ []
+  unfolding run_faults job_data run_data
+  run_part_clean path = rw live_chips (run_clean _)
+
+  run_part_is : run_value (graph_of job) (job_data job) ≡ run_of job.packets
+  unfolding run_value job_data run_data
+  run_part_is = run_is
+
+  version_is : version_value (job_data job) ≡ 1
+  unfolding version_value number_member job_data
+  version_is = refl
+
+  version_clean : (path : List ℕ) → version_faults path 3 (job_data job) ≡ []
+  unfolding version_faults number_member_faults job_data
+  version_clean path = refl
+
+  own_clean : (path : List ℕ) → own_faults path (job_data job) ≡ []
+  unfolding own_faults job_data
+  own_clean path = refl
+
+  pub drawn_clean : (path : List ℕ) → job_faults path 3 (job_data job) ≡ []
+  unfolding job_faults
+  drawn_clean path =
+      rw (
+        own_clean path,
+        version_clean path,
+        machine_clean path job,
+        version_is,
+        graph_part_clean path,
+        machine_is job,
+        graph_part_is,
+        run_part_clean path,
+      ) refl
+
+  pub drawn_is : job_value (job_data job) ≡ job_of_drawn job
+  unfolding job_value job_of_drawn
+  drawn_is = rw (version_is, machine_is job, graph_part_is, run_part_is) refl
+
+-- ---- generated jobs
+
+pub generated_clean : (n : ℕ) → job_faults (codes "job") 3 (gen_value n) ≡ []
+unfolding gen_value
+generated_clean n = drawn_clean (drawn n) (is_drawn n) (codes "job")
+
+pub generated_is : (n : ℕ) → job_value (gen_value n) ≡ gen_job n
+unfolding gen_value gen_job
+generated_is n = drawn_is (drawn n) (is_drawn n)

@@ -1,0 +1,12 @@
+use Rattle.job_gen.specs.Draws.{drawn_net}
+use Rattle.job_gen.proofs.DrawLemmas.{draws_none, draws_push}
+use Rattle.job_gen.proofs.draws.draw_nets.Goals as goal
+
+pub loop-i-init : goal.loop-i-init
+loop-i-init c = draws_none drawn_net c.args.generator.now c.new-nets.result.items c.new-nets.ensures.items
+
+pub loop-i-preserved : goal.loop-i-preserved
+unfolding drawn_net
+loop-i-preserved c =
+    draws_push drawn_net c.loop-i.i c.args.generator.now c.loop-i.generator c.draw_net.new.generator c.loop-i.nets.items c.push.new.self.items c.in_ok-net.net
+    c.in_ok-push.ensures.items c.loop-i.invariant c.in_ok-net.ensures

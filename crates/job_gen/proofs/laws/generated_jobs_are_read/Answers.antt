@@ -1,0 +1,7 @@
+-- The laws, as the lemmas say them.
+use Rattle.job_gen.proofs.DrawnLaws.{is_drawn}
+use Rattle.job_gen.proofs.JobReading.{generated_clean, generated_is}
+use Rattle.job_gen.proofs.laws.generated_jobs_are_read.Goals as goal
+
+pub returns : goal.returns
+returns c = record { drawn = is_drawn; no_fault = generated_clean; job = generated_is }

@@ -1,0 +1,8 @@
+-- The values of so many.
+use Rattle.std.proofs.Common.{◌≡◌, map, take}
+use Rattle.serde_json.specs.View.{view}
+use Rattle.job_gen.specs.Values.{pair_data, dead_pairs}
+use Rattle.job_gen.proofs.values.dead_chips_value.Given as goal
+
+abbrev pub invariant-loop-x : goal.invariant-loop-x
+invariant-loop-x l = (map view l.values.items ≡ map pair_data (take l.x-index l.x-items)) × (l.x-items ≡ dead_pairs)

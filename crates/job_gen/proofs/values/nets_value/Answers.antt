@@ -1,0 +1,17 @@
+use Rattle.std.proofs.Common.{ap, ◌∙◌}
+use Rattle.serde_json.specs.Data.{array}
+use Rattle.serde_json.proofs.Views.{view-Array}
+use Rattle.job_gen.specs.Values.{net_data}
+use Rattle.job_gen.proofs.ValueLemmas.{numbered_none, numbered_push, numbered_all}
+use Rattle.job_gen.proofs.values.nets_value.Goals as goal
+
+pub loop-i-init : goal.loop-i-init
+loop-i-init c = numbered_none net_data c.args.nets.now c.new-values.result.items c.new-values.ensures.items
+
+pub loop-i-preserved : goal.loop-i-preserved
+loop-i-preserved c =
+    numbered_push net_data c.loop-i.i c.args.nets.now c.index-nets-i.result c.loop-i.values.items c.push.new.self.items c.in_ok-value.value
+    c.loop-i-test.true c.in_ok-push.ensures.items (c.in_ok-value.ensures ∙ ap (net_data c.loop-i.i) c.index-nets-i.is) c.loop-i.invariant
+
+pub returns : goal.returns
+returns c = view-Array c.loop-i.values ∙ ap array (numbered_all net_data c.loop-i.i c.args.nets.now c.loop-i.values.items c.loop-i-test.false c.loop-i.invariant)

@@ -1,0 +1,8 @@
+-- The values of so many.
+use Rattle.std.proofs.Common.{◌≡◌, map, take}
+use Rattle.serde_json.specs.View.{view}
+use Rattle.job_gen.specs.Values.{name_data}
+use Rattle.job_gen.proofs.values.targets_value.Given as goal
+
+abbrev pub invariant-loop-target : goal.invariant-loop-target
+invariant-loop-target l = map view l.values.items ≡ map name_data (take l.target-index l.targets)

@@ -1,0 +1,160 @@
+// What a generated job draws.
+ghost use Rattle.std.specs.Prelude.{◌≡◌, ◌<◌, ◌/◌, ◌+◌, length, All, IfOk};
+ghost use Rattle.job_gen.specs.Draws.{seeded, draw, draws, drawn_sdram, drawn_target, drawn_net, drawn_packet, drawn, HasKeys};
+
+use rand_core::SeedableRng;
+use rand_core::utils::NextWord;
+use rand_xoshiro::Xoshiro256PlusPlus;
+use spin_base::{Memory, Seq};
+use std::alloc::Global;
+
+/// The number of vertices of a generated job.
+pub const VERTICES: u32 = 200;
+
+/// The number of its nets.
+pub const NETS: usize = 300;
+
+/// The number of its packets, four for each net.
+pub const PACKETS: usize = 1200;
+
+/// A net as it was drawn: its source, its targets, and how many keys it needs.
+#[derive(Debug, Drop)]
+pub struct DrawnNet {
+    pub source: u32,
+    pub targets: Seq<u32>,
+    pub keys: u32,
+}
+
+/// A packet as it was drawn: its net, its index in the net's keys, and its payload.
+#[derive(Clone, Copy, Debug, PartialEq, Eq)]
+pub struct DrawnPacket {
+    pub net: u32,
+    pub index: u32,
+    pub payload: u32,
+}
+
+/// All that was drawn: the memory of each vertex, the nets, and the packets.
+#[derive(Debug, Drop)]
+pub struct Drawn {
+    pub sdrams: Seq<u32>,
+    pub nets: Seq<DrawnNet>,
+    pub packets: Seq<DrawnPacket>,
+}
+
+/// What the generator that a number seeds gives for a job.
+///
+/// # Errors
+///
+/// `Memory` where memory runs out.
+pub fn draw_job(alloc: Global, n: u64) -> Result<Drawn, Memory>
+    ensures { IfOk result (λ job. job ≡ drawn n) }
+{
+    let mut generator = Xoshiro256PlusPlus::seed_from_u64(n);
+    let sdrams = draw_sdrams(alloc, &mut generator)?;
+    let nets = draw_nets(alloc, &mut generator)?;
+    let packets = draw_packets(alloc, &mut generator, nets.as_slice())?;
+    Ok(Drawn {
+        sdrams,
+        nets,
+        packets,
+    })
+}
+
+// The next word modulo m.
+fn draw(generator: &mut Xoshiro256PlusPlus, m: u64) -> u64
+    requires { 0 < m }
+    ensures drawn { (result, generator.new) ≡ draw m generator.old }
+    ensures below { result < m }
+{
+    generator.next_word() % m
+}
+
+// The memory of each vertex.
+fn draw_sdrams(alloc: Global, generator: &mut Xoshiro256PlusPlus) -> Result<Seq<u32>, Memory>
+    ensures { IfOk result (λ sdrams. (sdrams, generator.new) ≡ draws drawn_sdram 200 generator.old) }
+{
+    let mut sdrams = Vec::new(alloc);
+    for i in 0..VERTICES {
+        let sdram = draw(generator, 1_048_577) as u32;
+        sdrams.push(sdram)?;
+    }
+    Ok(Seq::from_vec(sdrams))
+}
+
+// The nets.
+fn draw_nets(alloc: Global, generator: &mut Xoshiro256PlusPlus) -> Result<Seq<DrawnNet>, Memory>
+    ensures { IfOk result (λ nets. (nets, generator.new) ≡ draws drawn_net 300 generator.old) }
+{
+    let mut nets = Vec::new(alloc);
+    for i in 0..NETS {
+        let net = draw_net(alloc, generator)?;
+        nets.push(net)?;
+    }
+    Ok(Seq::from_vec(nets))
+}
+
+// One net.
+fn draw_net(alloc: Global, generator: &mut Xoshiro256PlusPlus) -> Result<DrawnNet, Memory>
+    ensures { IfOk result (λ net. (net, generator.new) ≡ drawn_net 0 generator.old) }
+{
+    let source = draw(generator, 200) as u32;
+    let count = 1 + draw(generator, 8) as u32;
+    let targets = draw_targets(alloc, generator, count)?;
+    let keys = 1 + draw(generator, 16) as u32;
+    Ok(DrawnNet {
+        source,
+        targets,
+        keys,
+    })
+}
+
+// So many targets.
+fn draw_targets(
+    alloc: Global,
+    generator: &mut Xoshiro256PlusPlus,
+    count: u32,
+) -> Result<Seq<u32>, Memory>
+    ensures { IfOk result (λ targets. (targets, generator.new) ≡ draws drawn_target count generator.old) }
+{
+    let mut targets = Vec::new(alloc);
+    for i in 0..count {
+        let target = draw(generator, 200) as u32;
+        targets.push(target)?;
+    }
+    Ok(Seq::from_vec(targets))
+}
+
+// The packets of these nets.
+fn draw_packets(
+    alloc: Global,
+    generator: &mut Xoshiro256PlusPlus,
+    nets: &[DrawnNet],
+) -> Result<Seq<DrawnPacket>, Memory>
+    requires nets { length nets.now ≡ 300 }
+    requires keys { All HasKeys nets.now }
+    ensures { IfOk result (λ packets. (packets, generator.new) ≡ draws (drawn_packet nets.now) 1200 generator.old) }
+{
+    let mut packets = Vec::new(alloc);
+    for i in 0..PACKETS {
+        let packet = draw_packet(generator, nets, i);
+        packets.push(packet)?;
+    }
+    Ok(Seq::from_vec(packets))
+}
+
+// The packet of a number.
+fn draw_packet(generator: &mut Xoshiro256PlusPlus, nets: &[DrawnNet], i: usize) -> DrawnPacket
+    requires nets { length nets.now ≡ 300 }
+    requires packet { i < 1200 }
+    requires keys { All HasKeys nets.now }
+    ensures { (result, generator.new) ≡ drawn_packet nets.now i generator.old }
+{
+    let net = i / 4;
+    let index = draw(generator, u64::from(nets[net].keys)) as u32;
+    let payload = draw(generator, 4_294_967_296) as u32;
+    DrawnPacket {
+        net: net as u32,
+        index,
+        payload,
+    }
+}

@@ -1,0 +1,169 @@
+// The JSON value of a generated job.
+ghost use Rattle.std.specs.Prelude.{◌≡◌, ◌<◌, ℕ, length, map, IfOk};
+ghost use Rattle.serde_json.specs.View.{view, items_of};
+ghost use Rattle.serde_json.specs.Data.{string, array};
+ghost use Rattle.job_gen.specs.Values.{vertex_name, net_name, vertex_data, net_data, packet_data, chip_data, dead_pairs, machine_data, graph_data, run_data, job_data, numbered, name_data, pair_data};
+
+use crate::draws::{Drawn, DrawnNet, DrawnPacket};
+use serde_json::{Value, json};
+use std::alloc::{AllocError, Global};
+
+// The dead chips of a grid of 8 by 8 that leave a board of 48 chips, in the order of x, then y.
+const DEAD_CHIPS: [(u8, u8); 16] = [
+    (0, 4),
+    (0, 5),
+    (0, 6),
+    (0, 7),
+    (1, 5),
+    (1, 6),
+    (1, 7),
+    (2, 6),
+    (2, 7),
+    (3, 7),
+    (5, 0),
+    (6, 0),
+    (6, 1),
+    (7, 0),
+    (7, 1),
+    (7, 2),
+];
+
+/// The value of the job that was drawn.
+///
+/// # Errors
+///
+/// `AllocError` where memory runs out.
+#[tactic(auto, unfolding(crate::specs::Values::job_data))]
+pub fn job_value(alloc: Global, job: &Drawn) -> Result<Value, AllocError>
+    ensures { IfOk result (λ v. view v ≡ job_data job.now) }
+{
+    let graph = graph_value(alloc, job)?;
+    let machine = machine_value(alloc)?;
+    let run = run_value(alloc, job.packets.as_slice())?;
+    json!(in alloc; {"graph": graph, "machine": machine, "run": run, "version": 1u32})
+}
+
+// The graph: nets and vertices.
+#[tactic(auto, unfolding(crate::specs::Values::graph_data))]
+fn graph_value(alloc: Global, job: &Drawn) -> Result<Value, AllocError>
+    ensures { IfOk result (λ v. view v ≡ graph_data job.now) }
+{
+    let nets = nets_value(alloc, job.nets.as_slice())?;
+    let vertices = vertices_value(alloc, job.sdrams.as_slice())?;
+    json!(in alloc; {"nets": nets, "vertices": vertices})
+}
+
+// The machine: a board of 48 chips.
+#[tactic(auto, unfolding(crate::specs::Values::machine_data))]
+fn machine_value(alloc: Global) -> Result<Value, AllocError>
+    ensures { IfOk result (λ v. view v ≡ machine_data) }
+{
+    let dead_chips = dead_chips_value(alloc)?;
+    json!(in alloc; {"dead_chips": dead_chips, "height": 8u32, "width": 8u32})
+}
+
+// How it is to run: each queue has room for all packets.
+#[tactic(auto, unfolding(crate::specs::Values::run_data))]
+fn run_value(alloc: Global, packets: &[DrawnPacket]) -> Result<Value, AllocError>
+    ensures { IfOk result (λ v. view v ≡ run_data packets.now) }
+{
+    let packets = packets_value(alloc, packets)?;
+    json!(in alloc; {"packets": packets, "patience": 16u32, "queue": 1200u32, "target": 0u32, "turns": 64u32, "workers": 4u32})
+}
+
+fn dead_chips_value(alloc: Global) -> Result<Value, AllocError>
+    ensures { IfOk result (λ v. view v ≡ array (items_of (map pair_data dead_pairs))) }
+{
+    let mut values = Vec::new(alloc);
+    for (x, y) in DEAD_CHIPS {
+        let value = chip_value(alloc, x, y)?;
+        values.push(value)?;
+    }
+    Ok(Value::Array(values))
+}
+
+fn chip_value(alloc: Global, x: u8, y: u8) -> Result<Value, AllocError>
+    ensures { IfOk result (λ v. view v ≡ chip_data x y) }
+{
+    json!(in alloc; [x, y])
+}
+
+fn vertices_value(alloc: Global, sdrams: &[u32]) -> Result<Value, AllocError>
+    ensures { IfOk result (λ v. view v ≡ array (items_of (numbered vertex_data 0 sdrams.now))) }
+{
+    let mut values = Vec::new(alloc);
+    for (i, sdram) in sdrams.iter().enumerate() {
+        let value = vertex_value(alloc, i, *sdram)?;
+        values.push(value)?;
+    }
+    Ok(Value::Array(values))
+}
+
+#[tactic(auto, unfolding(crate::specs::Values::vertex_data))]
+fn vertex_value(alloc: Global, i: usize, sdram: u32) -> Result<Value, AllocError>
+    ensures { IfOk result (λ v. view v ≡ vertex_data i sdram) }
+{
+    let name = format!(in alloc; "v{i}")?;
+    json!(in alloc; {"name": name, "sdram": sdram})
+}
+
+fn nets_value(alloc: Global, nets: &[DrawnNet]) -> Result<Value, AllocError>
+    ensures { IfOk result (λ v. view v ≡ array (items_of (numbered net_data 0 nets.now))) }
+{
+    let mut values = Vec::new(alloc);
+    for (i, net) in nets.iter().enumerate() {
+        let value = net_value(alloc, i, net)?;
+        values.push(value)?;
+    }
+    Ok(Value::Array(values))
+}
+
+#[tactic(auto, unfolding(crate::specs::Values::net_data))]
+fn net_value(alloc: Global, i: usize, net: &DrawnNet) -> Result<Value, AllocError>
+    ensures { IfOk result (λ v. view v ≡ net_data i net.now) }
+{
+    let name = format!(in alloc; "n{i}")?;
+    let source = vertex_named(alloc, net.source)?;
+    let targets = targets_value(alloc, net.targets.as_slice())?;
+    json!(in alloc; {"keys": net.keys, "name": name, "source": source, "targets": targets})
+}
+
+fn targets_value(alloc: Global, targets: &[u32]) -> Result<Value, AllocError>
+    ensures { IfOk result (λ v. view v ≡ array (items_of (map name_data targets.now))) }
+{
+    let mut values = Vec::new(alloc);
+    for target in targets {
+        let value = vertex_named(alloc, *target)?;
+        values.push(value)?;
+    }
+    Ok(Value::Array(values))
+}
+
+// The name of a vertex.
+#[tactic(auto, unfolding(crate::specs::Values::name_data))]
+fn vertex_named(alloc: Global, i: u32) -> Result<Value, AllocError>
+    ensures { IfOk result (λ v. view v ≡ name_data i) }
+{
+    let name = format!(in alloc; "v{i}")?;
+    Ok(Value::String(name))
+}
+
+fn packets_value(alloc: Global, packets: &[DrawnPacket]) -> Result<Value, AllocError>
+    ensures { IfOk result (λ v. view v ≡ array (items_of (map packet_data packets.now))) }
+{
+    let mut values = Vec::new(alloc);
+    for packet in packets {
+        let value = packet_value(alloc, *packet)?;
+        values.push(value)?;
+    }
+    Ok(Value::Array(values))
+}
+
+#[tactic(auto, unfolding(crate::specs::Values::packet_data))]
+fn packet_value(alloc: Global, packet: DrawnPacket) -> Result<Value, AllocError>
+    ensures { IfOk result (λ v. view v ≡ packet_data packet) }
+{
+    let DrawnPacket { net, index, payload } = packet;
+    let name = format!(in alloc; "n{net}")?;
+    json!(in alloc; {"index": index, "net": name, "payload": payload})
+}
