@@ -11,7 +11,7 @@ use Rattle.std.proofs.Math.Pow.{pow_mono}
 use Rattle.std.proofs.lemmas.Bool.{and_parts, leb-true, ltb-true}
 use Rattle.std.proofs.lemmas.List.{length-take, get_or-take, take_all}
 use Rattle.std.proofs.lemmas.Option.{slice_get_within, slice_get-get_or, get_or_from_slice_get}
-use Rattle.std.proofs.Common.{get_or}
+use Rattle.std.proofs.Common.{get_or, leb, ltb}
 
 -- ---- sizes
 
@@ -21,7 +21,7 @@ powers zero = inl refl
 powers (suc zero) = inr (inl refl)
 powers (suc (suc zero)) = inr (inr (inl refl))
 powers (suc (suc (suc zero))) = inr (inr (inr (inl refl)))
-powers (suc (suc (suc (suc k)))) = inr (inr (inr (inr (let more : 2 ^ 4 ≤ 2 ^ (suc (suc (suc (suc k)))) = pow_mono (omega arith) in omega (arith, more)))))
+powers (suc (suc (suc (suc k)))) = inr (inr (inr (inr (let more : 2 ^ 4 ≤ 2 ^ (suc (suc (suc (suc k)))) = pow_mono {i = 4} {j = suc (suc (suc (suc k)))} (omega arith) in omega (arith, more)))))
 
 power_cases : (p : ℕ) → IsPowerOfTwo p → (p ≡ 1) ⊎ ((p ≡ 2) ⊎ ((p ≡ 4) ⊎ ((p ≡ 8) ⊎ (16 ≤ p))))
 power_cases p (k, is) = subst (λ n. (n ≡ 1) ⊎ ((n ≡ 2) ⊎ ((n ≡ 4) ⊎ ((n ≡ 8) ⊎ (16 ≤ n))))) (sym is) (powers k)
@@ -82,11 +82,16 @@ divides size i power small =
 
 -- ---- blocks
 
+some_at : (xs : List Net) (i : ℕ) → i < length xs → (net : Net) × (slice_get xs i ≡ Some net)
+some_at [] i below = absurd (omega arith)
+some_at (x ∷ xs) zero below = (x, refl)
+some_at (x ∷ xs) (suc i) below = some_at xs i (omega arith)
+
 -- a block that ends at or below a place misses what begins there
 misses : (place size : ℕ) (b : Block) → b.key + size_of b ≤ place → Misses place size b
 misses place size b ends k mine its =
-    let upper = ltb-true k (b.key + size_of b) (and_parts _ _ mine).1 in
-    let lower = leb-true place k (and_parts _ _ its).0 in
+    let upper : k < b.key + size_of b = ltb-true k (b.key + size_of b) (and_parts (leb b.key k) (ltb k (b.key + size_of b)) mine).1 in
+    let lower : place ≤ k = leb-true place k (and_parts (leb place k) (ltb k (place + size)) its).0 in
     omega (arith, upper, lower, ends)
 
 abbrev EndAt : ℕ → List Block → Type 0
@@ -120,21 +125,13 @@ module _ (nets : List Net) (needs : (i : ℕ) (net : Net) → slice_get nets i �
     block_ends i b at ends =
         let below : i < length blocks = slice_get_within blocks i b at in
         let in_nets : i < length nets = omega (arith, below, first.few) in
-        let net = the_net i in_nets in
+        let net = some_at nets i in_nets in
         let need = needs i net.0 net.1 in
         let block : IsLeastBlock (fixed_of nets ++ take i blocks) net.0.keys b =
             subst (λ o. MatchOption o (IsLeastBlock (fixed_of nets ++ take i blocks) net.0.keys b) (λ fixed. b ≡ fixed)) need.free (first.each i net.0 b net.1 at) in
         let small : size_of b ≤ 16 = size_small net.0.keys (size_of b) need.few block.size in
         let low : b.key ≤ 16 * i = block.least (16 * i) (open_behind blocks i (size_of b) (omega arith) block.size.power small ends) in
         omega (arith, small, low)
-      where
-        the_net : (i : ℕ) → i < length nets → (net : Net) × (slice_get nets i ≡ Some net)
-        the_net i below = some_at nets i below
-
-        some_at : (xs : List Net) (i : ℕ) → i < length xs → (net : Net) × (slice_get xs i ≡ Some net)
-        some_at [] i below = absurd (omega arith)
-        some_at (x ∷ xs) zero below = (x, refl)
-        some_at (x ∷ xs) (suc i) below = some_at xs i (omega arith)
 
     all_end : (i : ℕ) → EndAt i blocks
     all_end zero k b below at = absurd (omega arith)
