@@ -1,0 +1,4 @@
+mod Joined
+mod Keyed
+mod Roomy
+mod Fitting

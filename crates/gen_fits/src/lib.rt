@@ -1,0 +1,10 @@
+//! That generated jobs compile: what stands between any of them and a plan, and that none of it does.
+//!
+//! All functions here are laws: they do nothing, and their clauses say what holds whatever the number is. The board of 48 chips
+//! has 816 usable cores for 200 vertices, its chips have memory for seventeen of them each, all nets together need at most 4,800
+//! keys, and walks of live links join its chips.
+#![tactic(auto)]
+
+mod laws;
+
+pub use laws::{generated_jobs_have_room, the_board_is_joined};
