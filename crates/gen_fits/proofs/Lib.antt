@@ -1,4 +1,4 @@
 mod Joined
 mod Keyed
 mod Roomy
-mod Fitting
+pub mod Fitting

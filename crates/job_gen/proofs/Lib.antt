@@ -5,5 +5,5 @@ mod ValueLemmas
 mod NameLemmas
 pub mod ListReading
 mod GraphReading
-mod JobReading
+pub mod JobReading
 mod LengthLemmas

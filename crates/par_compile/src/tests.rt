@@ -1,5 +1,5 @@
 // Two workers compile a net over a line of four chips, each waiting at the gate for the other.
-ghost use Rattle.std.specs.Prelude.{◌≡◌, All, IfOk, None, length};
+ghost use Rattle.std.specs.Prelude.{◌≡◌, ◌≤◌, All, IfOk, None, length};
 ghost use Rattle.app_graph.specs.declared.graphs.Net.{Net};
 ghost use Rattle.app_graph.specs.declared.graphs.Vertex.{Vertex};
 ghost use Rattle.app_graph.specs.ValidGraph.{IsValidGraph, IsValidNet, IsValidVertex};
@@ -14,9 +14,6 @@ use std::sync::atomic::{AtomicBool, Ordering};
 use std::test::Fail;
 use table_load::encode;
 
-// So often a worker looks whether the other has come.
-const LOOKS: u32 = 100_000_000;
-
 // The image of the line's tables: a row at chip (0,0) that leads East, and one at chip (3,0) that leads to core 1. The chips
 // between pass the net's packets on by default.
 const IMAGE: [u8; 42] = [
@@ -24,9 +21,10 @@ const IMAGE: [u8; 42] = [
     0, 0, 3, 0, 1, 0, 0, 0, 0, 0, 0xff, 0xff, 0xff, 0xff, 0x80, 0, 0, 0,
 ];
 
-// A gate at which workers 0 and 1 wait for each other before they cover.
+// A gate at which workers 0 and 1 wait for each other before they cover, each for so many looks at most.
 #[derive(Drop)]
 struct Meeting {
+    looks: u32,
     first: AtomicBool,
     second: AtomicBool,
     missed: AtomicBool,
@@ -43,7 +41,7 @@ impl Gate for Meeting {
             (&self.second, &self.first)
         };
         mine.store(true, Ordering::SeqCst);
-        for _ in 0..LOOKS {
+        for _ in 0..self.looks {
             if other.load(Ordering::SeqCst) {
                 return;
             }
@@ -115,6 +113,7 @@ fn two_workers_meet_at_the_gate_and_the_image_is_that_of_the_line(
     rt: HostRuntime,
 ) -> Result<(), Fail> {
     let gate = Meeting {
+        looks: 100_000_000,
         first: AtomicBool::new(false),
         second: AtomicBool::new(false),
         missed: AtomicBool::new(false),
