@@ -1,0 +1,12 @@
+mod Chips
+mod Covering
+mod KeptBlocks
+mod Lookups
+mod MadeRight
+mod Marking
+mod Meeting
+mod RouteOutputs
+mod Searching
+mod TablePlaces
+mod Telling
+mod TreeLaws

@@ -1,0 +1,104 @@
+-- The image of the final tables of nets gets the verdict that all is right.
+use Rattle.std.proofs.Common.{◌≡◌, ℕ, ◌*◌, ◌<◌, ◌≤◌, List, [], ◌∷◌, length, get_or, map, Some, refl, sym, ap, ◌∙◌, subst, arith, inl, inr}
+use Rattle.std.specs.Prelude.{All, AllPairs, slice_get}
+use Rattle.std.specs.List.{Contains}
+use Rattle.std.specs.List.Sorted.{IsPermutation}
+use Rattle.std.proofs.lemmas.List.Elements.{All-nil, All-cons, All-head, All-map, All-contains}
+use Rattle.std.proofs.lemmas.List.Sorted.{All-permutation, Contains-permutation}
+use Rattle.list_laws.proofs.Members.{Contains-map}
+use Rattle.list_laws.proofs.Pairs.{AllPairs-map, AllPairs-permutation}
+use Rattle.list_laws.proofs.Places.{slice_get_there}
+use Rattle.spin_base.specs.declared.blocks.Block.{Block}
+use Rattle.spin_base.specs.declared.blocks.Entry.{Entry}
+use Rattle.spin_base.specs.declared.chips.Chip.{Chip}
+use Rattle.machine_desc.specs.Description.{Description}
+use Rattle.machine_desc.specs.Live.{IsInside, index_of}
+use Rattle.machine_desc.proofs.Far.{index_below}
+use Rattle.net_tables.specs.declared.nets.NetPlan.{NetPlan}
+use Rattle.tern_word.specs.declared.tables.Alias.{Alias}
+use Rattle.tern_word.specs.declared.tables.Row.{Row}
+use Rattle.tern_word.specs.Entries.{entry_of}
+use Rattle.tern_word.specs.Ternary.{Intersects, LiesIn, generality}
+use Rattle.tern_word.specs.SoundTable.{Misses, HoldsItsAliases, IsSound, Original, served_by, served}
+use Rattle.tern_word.proofs.BlockLaws.{Intersects-sym}
+use Rattle.cover_checks.proofs.Lists.{All-flat_map, All-from_flat_map}
+use Rattle.plain_tables.specs.PlainTable.{IsNotAfter, IsPlainTable, AreRouted, row_of}
+use Rattle.plain_tables.proofs.Trees.{chips_inside}
+use Rattle.plain_tables.proofs.Whole.{originals_apart, has_original}
+use Rattle.default_routes.specs.declared.stripping.Final.{Final}
+use Rattle.default_routes.specs.FinalTable.{IsFinalOf, loaded_rows}
+use Rattle.table_load.specs.declared.tables.Image.{Image}
+use Rattle.table_load.specs.Memories.{rows_at}
+use Rattle.cover_merge.specs.Merges.{sets_of}
+use Rattle.plan_check.specs.declared.verdicts.Verdict.TheVariants.{Right}
+use Rattle.plan_check.specs.MadeImages.{IsFinalAt, IsImageOf}
+use Rattle.plan_check.specs.Verdicts.{GetsRoute, IsVerdict}
+use Rattle.plan_check.proofs.KeptBlocks.{kept_gets}
+use Rattle.plan_check.proofs.Covering.{covered_sound}
+
+-- ---- plain tables are sound
+
+not_after : (r s : Row) → IsNotAfter r s → generality r.block ≤ generality s.block
+not_after r s (inl less) = omega (arith, less)
+not_after r s (inr same) = let is : generality r.block ≡ generality s.block = same.0 in omega (arith, is)
+
+-- each alias of the row is its block
+abbrev IsOwn : Row → Type 0
+IsOwn r = All (λ (a : Alias). r.block ≡ a.block) r.aliases
+
+own_row : (o : Original) → IsOwn (row_of o)
+own_row o = All-cons (λ (a : Alias). o.block ≡ a.block) (record { block = o.block; port = o.port }) [] refl (All-nil (λ (a : Alias). o.block ≡ a.block))
+
+plain_sound : (m : Description) (nets : List NetPlan) (c : Chip) (rows : List Row) → AreRouted m nets → IsPlainTable m nets c rows → IsSound rows
+plain_sound m nets c rows routed is =
+    let own : All IsOwn rows = All-permutation IsOwn (map row_of is.originals) rows is.one_row_each (All-map IsOwn row_of is.originals (λ k d below. own_row (get_or is.originals k d))) in
+    let apart : AllPairs (λ (r s : Row). ¬ (Intersects r.block s.block)) rows =
+    AllPairs-permutation (λ (r s : Row). ¬ (Intersects r.block s.block)) (λ r s none met. none (Intersects-sym s.block r.block met)) (map row_of is.originals) rows is.one_row_each
+    (AllPairs-map row_of (λ (a b : Original). ¬ (Intersects a.block b.block)) (λ (r s : Row). ¬ (Intersects r.block s.block)) (λ a b none. none) is.originals
+    (originals_apart m c nets is.originals is.originals_are routed.apart)) in
+    record {
+      ordered = λ i j d less below. not_after (get_or rows i d) (get_or rows j d) (is.in_order i j d less below);
+      inside = λ k d below i e within. subst (λ (b : Block). LiesIn b (get_or rows k d).block) (own k d below i e within) (λ key small at. at);
+      unmet = λ i j d less below k e within. subst (λ (b : Block). ¬ (Intersects (get_or rows i d).block b)) (own j d below k e within) (apart i j d less below);
+    }
+
+-- ---- what the loaded rows give
+
+module _ (m : Description) (nets : List NetPlan) (routed : AreRouted m nets) (target : ℕ) (c : Chip) (f : Final) (at : IsFinalAt m nets target c f) where
+  -- the block of an original gets its route
+  abbrev Gets : Original → Type 0
+  Gets o = GetsRoute o.block (map entry_of (loaded_rows f)) o.port o.route
+
+  all_get : All Gets (served at.rows)
+  all_get =
+      let covered = covered_sound target at.rows (sets_of f.covered.merges) f.covered.table.rows at.final.covered (plain_sound m nets c at.rows routed at.plain) in
+      covered.1 Gets (All-flat_map Gets served_by f.covered.table.rows (λ j d below.
+      let r : Row = get_or f.covered.table.rows j d in
+      All-map Gets (λ (a : Alias). let o : Original = record { block = a.block; port = a.port; route = r.route } in o) r.aliases
+      (λ k e within. kept_gets f.covered.table.rows covered.0 f.kept at.final.kept j d (omega arith) below k e within)))
+
+  pub original_gets : (o : Original) → Contains at.plain.originals o → Gets o
+  original_gets o mine =
+      let row : Contains at.rows (row_of o) = Contains-permutation (map row_of at.plain.originals) at.rows (row_of o) at.plain.one_row_each (Contains-map row_of at.plain.originals o mine) in
+      let serves : All Gets (served_by (row_of o)) = All-contains (λ (r : Row). All Gets (served_by r)) at.rows (row_of o) (All-from_flat_map Gets served_by at.rows all_get) row in
+      All-head Gets o [] serves
+
+-- ---- the verdict
+
+pub made_right : (m : Description) (nets : List NetPlan) (target : ℕ) (finals : List Final) (v : Image) → AreRouted m nets → IsImageOf m nets target finals v → IsVerdict m nets v Right
+made_right m nets target finals v routed is k d below c on =
+    let net : NetPlan = get_or nets k d in
+    let inside : IsInside m c = chips_inside m net.tree.root net.tree.edges net.targets (routed.trees k d below) (routed.roots k d below) c on in
+    let there = slice_get_there finals (index_of m c) (subst (λ n. index_of m c < n) (sym is.one_each) (index_below m c inside)) in
+    let f : Final = there.0 in
+    let at = is.finals_are c f inside there.1 in
+    let mine = has_original m c nets at.plain.originals at.plain.originals_are k d below on in
+    let o : Original = mine.0 in
+    record {
+      port = o.port;
+      comes_in = mine.2.port;
+      route = o.route;
+      gets = subst (λ (l : List Entry). GetsRoute net.block l o.port o.route) (sym (is.rows_are (index_of m c) f there.1))
+          (subst (λ (b : Block). GetsRoute b (map entry_of (loaded_rows f)) o.port o.route) mine.2.keys (original_gets m nets routed target c f at o mine.1));
+      is = mine.2.outputs;
+    }

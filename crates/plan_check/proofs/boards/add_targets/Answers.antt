@@ -1,0 +1,23 @@
+use Rattle.std.proofs.Common.{◌<◌, ◌∙◌, sym, subst}
+use Rattle.std.proofs.Math.ListN.{length-set}
+use Rattle.plan_check.proofs.Telling.{ends_more}
+use Rattle.plain_tables.proofs.Trees.{target_inside}
+use Rattle.plan_check.proofs.boards.add_targets.Goals as goal
+
+pub index-place-requires : goal.index-place-requires
+index-place-requires c =
+    target_inside c.args.machine.now c.args.net.now.tree.root c.args.net.now.tree.edges c.args.net.now.targets c.requires.routed.tree
+    c.as_slice-target-items.result.now c.as_slice-target-items.ensures c.loop-target.target-index _ c.loop-target-test.true c.requires.routed.root
+
+pub loop-target-preserved : goal.loop-target-preserved
+loop-target-preserved c =
+    let inside =
+    target_inside c.args.machine.now c.args.net.now.tree.root c.args.net.now.tree.edges c.args.net.now.targets c.requires.routed.tree
+    c.as_slice-target-items.result.now c.as_slice-target-items.ensures c.loop-target.target-index _ c.loop-target-test.true c.requires.routed.root in (
+      length-set _ _ _ ∙ c.loop-target.invariant.0,
+      ends_more c.args.machine.now c.args.net.now.tree.edges c.as_slice-target-items.result.now c.args.net.now.targets c.loop-target.target-index _ c.index-place.result
+          c.loop-target.routes c.index-routes-place.result c.with.result c.as_slice-target-items.ensures
+          c.loop-target-test.true inside c.index-place.ensures.value
+          (subst (λ n. c.index-place.result < n) (sym c.loop-target.invariant.0) c.index-place.ensures.below)
+          c.index-routes-place.is (rw c.out_of.ensures at c.with.ensures) c.loop-target.invariant.1,
+    )

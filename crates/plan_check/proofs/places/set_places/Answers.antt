@@ -1,0 +1,15 @@
+use Rattle.std.proofs.Common.{◌≡◌, ◌+◌, ◌*◌, Some, length, sym, ap, ◌∙◌, subst, arith, rules}
+use Rattle.std.specs.Prelude.{slice_get}
+use Rattle.std.proofs.lemmas.Option.{slice_get-get_or}
+use Rattle.plan_check.proofs.TablePlaces.{tells_none, tells_more, chip_has_place, table_read}
+use Rattle.plan_check.proofs.places.set_places.Goals as goal
+
+pub loop-at-init : goal.loop-at-init
+loop-at-init c =
+    tells_none c.args.image.now.height (c.args.image.now.width * c.args.image.now.height) (length c.as_slice-tables.result.now) c.args.image.now.chips c.args.places.now c.fill.new.self
+    c.requires.long (ap length c.as_slice-tables.ensures) (c.fill.ensures.after (search rules))
+
+pub loop-at-preserved : goal.loop-at-preserved
+loop-at-preserved c =
+    table_read c.args.image.now c.as_slice-tables.result.now c.loop-at.places c.loop-at.at _ _ _ c.index-tables-at.result c.requires.valid c.as_slice-tables.ensures
+    c.from.ensures c.from-in-loop-at.ensures c.from-in-loop-at-2.ensures c.loop-at-test.true c.loop-at.invariant

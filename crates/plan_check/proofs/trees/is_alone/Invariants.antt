@@ -1,0 +1,7 @@
+-- The targets passed are on the root.
+use Rattle.std.proofs.Common.{◌≡◌, ℕ, ◌<◌, get_or}
+use Rattle.spin_base.specs.declared.chips.Spot.{Spot}
+use Rattle.plan_check.proofs.trees.is_alone.Given as goal
+
+abbrev pub invariant-loop-target : goal.invariant-loop-target
+invariant-loop-target l = (k : ℕ) (d : Spot) → k < l.target-index → (get_or l.targets k d).chip ≡ l.root

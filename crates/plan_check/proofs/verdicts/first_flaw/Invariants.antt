@@ -1,0 +1,6 @@
+-- The net is fine at the chips passed.
+use Rattle.plan_check.specs.Boards.{IsFineBelow}
+use Rattle.plan_check.proofs.verdicts.first_flaw.Given as goal
+
+abbrev pub invariant-loop-index : goal.invariant-loop-index
+invariant-loop-index l = IsFineBelow l.machine l.image l.net l.index

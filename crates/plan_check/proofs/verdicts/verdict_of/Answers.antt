@@ -1,0 +1,18 @@
+use Rattle.plan_check.proofs.Chips.{verdict_found, nets_more, all_fine}
+use Rattle.plan_check.proofs.verdicts.verdict_of.Goals as goal
+
+pub returns-in-Some : goal.returns-in-Some
+returns-in-Some c =
+    verdict_found c.args.machine.now c.args.image.now c.args.nets.now c.loop-at.at c.index-nets-at.result c.loop-at-test.true c.index-nets-at.is
+    c.first_flaw.result c.in-Some.chip c.in-Some.flaw c.told_of.result c.in-Some.is c.first_flaw.ensures c.loop-at.invariant.0 c.told_of.ensures
+
+pub loop-at-preserved : goal.loop-at-preserved
+loop-at-preserved c = (
+  nets_more c.args.machine.now c.args.image.now c.args.nets.now c.loop-at.at c.index-nets-at.result c.loop-at-test.true c.index-nets-at.is
+      c.first_flaw.result c.in_default.is c.first_flaw.ensures c.loop-at.invariant.0,
+  c.set_ports.ensures.long,
+  c.set_routes.ensures.long,
+)
+
+pub returns : goal.returns
+returns c = all_fine c.args.machine.now c.args.image.now c.args.nets.now c.loop-at.at c.loop-at-test.false c.loop-at.invariant.0

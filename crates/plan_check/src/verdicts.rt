@@ -1,0 +1,152 @@
+// The verdict on the tables of an image.
+ghost use Rattle.std.specs.Prelude.{◌≡◌, ◌*◌, ◌<◌, ◌≤◌, ◌^◌, ℕ, List, All, Some, length, slice_get, slice_index};
+ghost use Rattle.spin_base.specs.declared.blocks.Entry.{Entry};
+ghost use Rattle.spin_base.specs.declared.chips.Chip.{Chip};
+ghost use Rattle.machine_desc.specs.Live.{chip_of};
+ghost use Rattle.net_tables.specs.declared.nets.NetPlan.{NetPlan};
+ghost use Rattle.net_tables.specs.RightTables.{AreRight};
+ghost use Rattle.plain_tables.specs.Marks.{IsRouted, TellsPorts, TellsRoutes};
+ghost use Rattle.table_load.specs.Images.{IsValid, IsRow};
+ghost use Rattle.table_load.specs.Memories.{IsLoaded};
+ghost use Rattle.plan_check.specs.declared.verdicts.Verdict.TheVariants.{Right, Wrong};
+ghost use Rattle.plan_check.specs.Boards.{TellsTables, Fares, IsAmissAt, verdict_on};
+ghost use Rattle.plan_check.specs.Verdicts.{IsVerdict, IsMisrouted};
+
+use crate::boards::{set_ports, set_routes};
+use crate::fares::{Flaw, flaw_in};
+use crate::places::{rows_of, set_places};
+use machine_desc::Machine;
+use net_tables::NetPlan;
+use spin_base::{Block, Chip, Entry, Port, Route, Seq};
+use table_load::Image;
+
+/// What a check says of the tables of an image.
+#[derive(Clone, Copy, Debug, PartialEq, Eq)]
+pub enum Verdict {
+    /// Every key of every net gets the route of the net's tree, at each chip of the tree.
+    Right,
+    /// At this chip the keys of this net get another route: `key` is the first of them.
+    Wrong { net: u32, chip: Chip, key: u32 },
+    /// At this chip the first row that meets the keys of this net matches some of them and not all: the row at place `row`.
+    /// Such tables may still be right; that is not decided.
+    Split { net: u32, chip: Chip, row: u32 },
+}
+
+/// Judges the tables of an image: of the first net, and of its tree's first chip by index, at which the net's keys do not
+/// all get the outputs that the tree wants there, it says what is amiss. `Right` means that the tables are right for the
+/// nets, as they are loaded. The rows of a chip are gone over once for each net whose tree has the chip, at worst. It takes
+/// no memory.
+pub fn check(machine: &Machine, nets: &Seq<NetPlan>, image: &Image) -> Verdict
+    requires few { length nets.now < 2 ^ 32 }
+    requires routed { All (IsRouted machine.now) nets.now }
+    requires valid { IsValid image.now }
+    requires width { image.now.width ≡ machine.now.width }
+    requires height { image.now.height ≡ machine.now.height }
+    ensures verdict { IsVerdict machine.now nets.now image.now result }
+    ensures right { result ≡ Right → (memories : List (List Entry)) → IsLoaded image.now memories → AreRight machine.now memories nets.now }
+    ensures wrong { (i : ℕ) (c : Chip) (key : ℕ) → result ≡ Wrong i c key → (memories : List (List Entry)) → IsLoaded image.now memories
+        → (net : NetPlan) × (slice_get nets.now i ≡ Some net) × IsMisrouted machine.now memories net c key }
+{
+    let mut ports = port_board();
+    let mut routes = route_board();
+    let mut places = place_board();
+    let count = machine.chips();
+    let ports: &mut [Option<Port>] = &mut ports[..count];
+    let routes: &mut [Route] = &mut routes[..count];
+    let places: &mut [usize] = &mut places[..count];
+    set_places(image, places);
+    verdict_of(machine, nets.as_slice(), image, places, ports, routes)
+}
+
+// A board without a port, for as many chips as a machine may have.
+fn port_board() -> [Option<Port>; 4096] {
+    [None; 4096]
+}
+
+// A board without a route.
+fn route_board() -> [Route; 4096] {
+    [Route::nothing(); 4096]
+}
+
+// A board of places.
+fn place_board() -> [usize; 4096] {
+    [0; 4096]
+}
+
+// The verdict, by boards of which two are written anew for each net.
+fn verdict_of(
+    machine: &Machine,
+    nets: &[NetPlan],
+    image: &Image,
+    places: &[usize],
+    ports: &mut [Option<Port>],
+    routes: &mut [Route],
+) -> Verdict
+    requires few { length nets.now < 2 ^ 32 }
+    requires routed { All (IsRouted machine.now) nets.now }
+    requires valid { IsValid image.now }
+    requires height { image.now.height ≡ machine.now.height }
+    requires places_long { length places.now ≡ machine.now.width * machine.now.height }
+    requires told { TellsTables image.now.height image.now.chips places.now }
+    requires ports_long { length ports.old ≡ machine.now.width * machine.now.height }
+    requires routes_long { length routes.old ≡ machine.now.width * machine.now.height }
+    ensures { IsVerdict machine.now nets.now image.now result }
+{
+    for at in 0..nets.len() {
+        let net = &nets[at];
+        set_ports(machine, net, ports);
+        set_routes(machine, net, routes);
+        if let Some((chip, flaw)) = first_flaw(machine, net, image, places, ports, routes) {
+            return told_of(at as u32, chip, net.block.key, flaw);
+        }
+    }
+    Verdict::Right
+}
+
+// What is said of a flaw.
+fn told_of(net: u32, chip: Chip, key: u32, flaw: Flaw) -> Verdict
+    ensures { result ≡ verdict_on net chip key flaw }
+{
+    match flaw {
+        Flaw::Wrong => Verdict::Wrong { net, chip, key },
+        Flaw::Split { row } => Verdict::Split { net, chip, row },
+    }
+}
+
+// The chip of least index at which the net is not fine, and what is amiss there.
+fn first_flaw(
+    machine: &Machine,
+    net: &NetPlan,
+    image: &Image,
+    places: &[usize],
+    ports: &[Option<Port>],
+    routes: &[Route],
+) -> Option<(Chip, Flaw)>
+    requires routed { IsRouted machine.now net.now }
+    requires valid { IsValid image.now }
+    requires height { image.now.height ≡ machine.now.height }
+    requires places_long { length places.now ≡ machine.now.width * machine.now.height }
+    requires tables { TellsTables image.now.height image.now.chips places.now }
+    requires ports_long { length ports.now ≡ machine.now.width * machine.now.height }
+    requires routes_long { length routes.now ≡ machine.now.width * machine.now.height }
+    requires ports { TellsPorts machine.now net.now.tree.root net.now.tree.edges ports.now }
+    requires outputs { TellsRoutes machine.now net.now.tree.edges net.now.targets routes.now }
+    ensures { Fares machine.now image.now net.now result }
+{
+    for index in 0..machine.chips() {
+        let rows = rows_of(image, places, index);
+        if let Some(flaw) = flaw_at(rows, net.block, ports[index], routes[index]) {
+            return Some((machine.chip_at(index as u32), flaw));
+        }
+    }
+    None
+}
+
+// What is amiss with a block at a chip where its packets come in at that port, if they do.
+fn flaw_at(rows: &[Entry], block: Block, port: Option<Port>, wanted: Route) -> Option<Flaw>
+    requires valid { All IsRow rows.now }
+    requires few { length rows.now ≤ 1024 }
+    ensures { IsAmissAt block rows.now port wanted result }
+{
+    flaw_in(rows, block, port?, wanted)
+}
