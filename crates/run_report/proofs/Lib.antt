@@ -2,5 +2,5 @@ mod Gathering
 pub mod GotLines
 mod HexDigits
 mod Joining
-mod Listing
+pub mod Listing
 mod Sorting

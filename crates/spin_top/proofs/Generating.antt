@@ -7,7 +7,6 @@ use Rattle.par_compile.specs.declared.compiling.CompileErr.TheVariants.{NoRoom, 
 use Rattle.par_compile.specs.Compiled.{IsCause}
 use Rattle.refusals.specs.declared.causes.Refusal.{Refusal}
 use Rattle.job_gen.specs.Generated.{gen_job}
-use Rattle.job_gen.specs.declared.draws.DrawnNet.{DrawnNet}
 use Rattle.job_gen.specs.Draws.{drawn}
 use Rattle.job_gen.specs.Values.{gen_value}
 use Rattle.job_gen.specs.Generated.{job_of_drawn, graph_of, net_of}
@@ -24,10 +23,7 @@ use Rattle.spin_top.specs.Causes.{HasNoPlan, Names}
 -- a generated job has 300 nets
 few_nets : (n : ℕ) → length (gen_job n).graph.nets ≤ 1024
 unfolding gen_job job_of_drawn graph_of
-few_nets n = let drawn = is_drawn n in let many = drawn.number_of_nets in let long = length-numbered net_of 0 (drawn' n) in omega (arith, many, long)
-  where
-    abbrev drawn' : ℕ → List DrawnNet
-    drawn' k = (drawn k).nets
+few_nets n = let drawn' = is_drawn n in let many = drawn'.number_of_nets in let long = length-numbered net_of 0 (drawn n).nets in omega (arith, many, long)
 
 -- the text of a number is read as its job
 pub is_generated : (n : ℕ) (text bytes : List ℕ) (job : Job) → json_of text ≡ Some (gen_value n) → bytes ≡ text → job_from (json_of bytes) ≡ Ok job → job ≡ gen_job n

@@ -6,15 +6,13 @@ use Rattle.spin_base.specs.declared.chips.Spot.{Spot}
 use Rattle.spin_base.specs.declared.copies.Event.{Event}
 use Rattle.app_graph.specs.RunPart.{IsRunOf}
 use Rattle.mesh_core.specs.State.{Setup, State, IsMesh}
-use Rattle.mesh_core.specs.Expected.{expected_count, expected_deliveries}
+use Rattle.mesh_core.specs.Expected.{expected_deliveries}
 use Rattle.mesh_core.specs.HasRun.{HasRun}
 use Rattle.mesh_core.specs.Step.{after_event, after_events, answer, answers_of}
 use Rattle.mesh_core.specs.Opened.{AreOfNets, MeetsJobLedger}
 use Rattle.mesh_core.specs.declared.places.Did.{Did}
 use Rattle.std.proofs.lemmas.List.{length-map}
 use Rattle.std.proofs.lemmas.List.Sorted.{length_permutation}
-use Rattle.mesh_core.proofs.DeliveredLaw.{delivered_as_expected}
-use Rattle.mesh_core.proofs.ExpectedCount.{as_many}
 use Rattle.mesh_core.proofs.EventsLaw.{events_keep_job}
 use Rattle.mesh_core.proofs.OpenedLaw.{opened_meets_ledger}
 use Rattle.job_readers.specs.declared.jobs.Job.{Job}
@@ -78,15 +76,13 @@ traced_ledger job plan run planned mesh es =
     events_keep_job (opened_of job plan) plan.nets job.run.packets mesh planned.right
     (opened_meets_ledger (setup_of job plan) plan.nets job.run.packets planned.routing.stand of_nets) es
 
--- and as many as the packets have targets
-pub told_count : (job : Job) (plan : Plan) (mesh : State) (did : List Did) (report : Report) → IsMesh mesh → MeetsJobLedger mesh plan.nets job.run.packets →
-    HasRun (opened_of job plan) mesh → IsReported job plan mesh did report → length report.delivered ≡ expected_count plan.nets job.run.packets
-told_count job plan mesh did report is_mesh ledger run reported =
+-- and as many as were delivered
+pub told_count : (job : Job) (plan : Plan) (mesh : State) (did : List Did) (report : Report) → IsReported job plan mesh did report → length report.delivered ≡ length mesh.delivered
+told_count job plan mesh did report reported =
     let placed : List (List ℕ × Spot) = placed_of job.graph plan.placement.spots in
     ap length reported.delivered.named_each
     ∙ (length-map reported.delivered.sorted (named placed)
-    ∙ (sym (length_permutation mesh.delivered reported.delivered.sorted reported.delivered.in_order.same_items)
-    ∙ as_many mesh plan.nets job.run.packets is_mesh ledger.ledger.ledger.nets_stand (delivered_as_expected mesh plan.nets job.run.packets ledger run.at_rest run.no_record)))
+    ∙ sym (length_permutation mesh.delivered reported.delivered.sorted reported.delivered.in_order.same_items))
 
 -- and no dump
 pub told_none : (job : Job) (plan : Plan) (mesh : State) (did : List Did) (report : Report) → mesh.dumped ≡ [] → IsReported job plan mesh did report → length report.dumped ≡ 0

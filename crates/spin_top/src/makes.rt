@@ -10,6 +10,7 @@ use crate::outcomes::Parts;
 use crate::runs::{run_job, trace_job};
 use command_words::Command;
 use job_readers::Job;
+use mesh_core::laws::deliveries_are_as_many_as_expected;
 use mesh_core::{Did, Mesh};
 use par_compile::{Plan, image_of};
 use run_report::{Report, plan_text, report_of, summary_text, text_of};
@@ -62,6 +63,7 @@ fn generated(alloc: Global, number: u64, job: Job, plan: Plan) -> Result<Made, M
     requires planned { IsPlanned job plan }
     ensures { IfOk result (λ made. Summarises number job plan made.parts made.text) }
 {
+    deliveries_are_as_many_as_expected();
     let mesh = run_job(alloc, &job, &plan)?;
     let report = report(alloc, &job, &plan, &mesh, Seq::new(alloc))?;
     let text = summary_text(alloc, number, &job.machine, &job.graph, &job.run, &report)?;

@@ -27,7 +27,8 @@ returns c =
       c.parts_of.ensures,
       record {
         summary = c.in_ok-text.ensures;
-        delivered = told_count job plan mesh c.new.result report c.in_ok-mesh.ensures.mesh c.in_ok-mesh.ensures.ledger run reported;
+        delivered = told_count job plan mesh c.new.result report reported
+            ∙ c.deliveries_are_as_many_as_expected.ensures mesh plan.nets job.run.packets c.in_ok-mesh.ensures.mesh c.in_ok-mesh.ensures.ledger run.at_rest run.no_record;
         dumped = told_none job plan mesh c.new.result report run.no_record reported;
       },
     )
