@@ -2,3 +2,4 @@ mod Joined
 mod Keyed
 mod Roomy
 mod Fitting
+mod FewRows
