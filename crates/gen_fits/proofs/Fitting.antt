@@ -2,6 +2,7 @@
 use Rattle.std.proofs.Common.{◌≡◌, ℕ, zero, suc, ◌+◌, ◌<◌, ◌≤◌, List, [], ◌∷◌, length, take, All, Option, Some, None, MatchOption, slice_get, refl, sym, ap, ◌∙◌, subst, arith}
 use Rattle.std.specs.List.{filter_map}
 use Rattle.std.proofs.lemmas.Bool.{and_parts}
+use Rattle.std.proofs.lemmas.List.{length-map}
 use Rattle.std.proofs.lemmas.List.Elements.{All-nil, All-cons, All-head, All-tail}
 use Rattle.std.proofs.lemmas.Option.{slice_get_within}
 use Rattle.spin_base.specs.declared.chips.Chip.{Chip}
@@ -19,7 +20,7 @@ use Rattle.job_gen.specs.Draws.{drawn}
 use Rattle.job_gen.specs.DrawnFacts.{IsDrawnNet, IsDrawn}
 use Rattle.job_gen.specs.Values.{numbered}
 use Rattle.job_gen.specs.Board.{board}
-use Rattle.job_gen.specs.Generated.{vertex_of, net_of, graph_of, job_of_drawn, gen_job}
+use Rattle.job_gen.specs.Generated.{vertex_of, net_of, packet_of, graph_of, run_of, job_of_drawn, gen_job}
 use Rattle.job_gen.proofs.DrawnLaws.{is_drawn}
 use Rattle.job_gen.proofs.ListReading.{length-numbered}
 use Rattle.gen_fits.proofs.Joined.{not_cut_off}
@@ -105,3 +106,29 @@ pub gen_joined : (n i : ℕ) (spots : List Spot) (memory : List ℕ) (target : C
     → IsFirstCutOff (gen_job n).machine spots (gen_job n).graph.nets i target → ⊥
 unfolding gen_job job_of_drawn graph_of
 gen_joined n i spots memory target placed = joined (drawn n) (is_drawn n) i spots memory target placed (gen_job n).graph.nets
+
+-- ---- how many there are
+
+pub gen_machine : (n : ℕ) → (gen_job n).machine ≡ board
+unfolding gen_job job_of_drawn
+gen_machine n = refl
+
+pub gen_vertices : (n : ℕ) → length (gen_job n).graph.vertices ≡ 200
+unfolding gen_job job_of_drawn graph_of
+gen_vertices n = length-numbered vertex_of 0 (drawn n).sdrams ∙ (is_drawn n).vertices
+
+pub gen_nets : (n : ℕ) → length (gen_job n).graph.nets ≡ 300
+unfolding gen_job job_of_drawn graph_of
+gen_nets n = length-numbered net_of 0 (drawn n).nets ∙ (is_drawn n).number_of_nets
+
+pub gen_packets : (n : ℕ) → length (gen_job n).run.packets ≡ 1200
+unfolding gen_job job_of_drawn run_of
+gen_packets n = length-map (drawn n).packets packet_of ∙ (is_drawn n).number_of_packets
+
+pub gen_queue : (n : ℕ) → (gen_job n).run.queue ≡ length (gen_job n).run.packets
+unfolding gen_job job_of_drawn run_of
+gen_queue n = sym (gen_packets n)
+
+pub gen_events : (n : ℕ) → (gen_job n).run.events ≡ []
+unfolding gen_job job_of_drawn run_of
+gen_events n = refl

@@ -2,3 +2,4 @@ mod Joined
 mod Keyed
 mod Roomy
 pub mod Fitting
+mod FewRows

@@ -1,11 +1,15 @@
 //! What follows from the definitions alone. The functions do nothing.
-ghost use Rattle.std.specs.Prelude.{◌≡◌, ℕ, ◌*◌, ◌≤◌, List, length, map, sum};
+ghost use Rattle.std.specs.Prelude.{◌≡◌, ℕ, ◌≤◌, List, [], length};
 ghost use Rattle.spin_base.specs.declared.chips.Chip.{Chip};
 ghost use Rattle.spin_base.specs.declared.chips.Spot.{Spot};
-ghost use Rattle.machine_desc.specs.Live.{IsLiveChip, IsLiveLink, live_count_of};
+ghost use Rattle.machine_desc.specs.Description.{Description};
+ghost use Rattle.machine_desc.specs.Live.{IsLiveChip, live_count_of};
 ghost use Rattle.link_detours.specs.Repair.{IsWalkTo};
 ghost use Rattle.place_fit.specs.Placement.{HasNoRoom, IsPlacement};
 ghost use Rattle.key_alloc.specs.KeyBlocks.{AreKeysOut};
+ghost use Rattle.net_tables.specs.declared.nets.NetPlan.{NetPlan};
+ghost use Rattle.tern_word.specs.declared.tables.Row.{Row};
+ghost use Rattle.plain_tables.specs.PlainTable.{IsPlainTable};
 ghost use Rattle.net_plans.specs.CutOffTargets.{IsFirstCutOff};
 ghost use Rattle.job_gen.specs.Board.{board};
 ghost use Rattle.job_gen.specs.Generated.{gen_job};
@@ -14,6 +18,18 @@ ghost use Rattle.job_gen.specs.Generated.{gen_job};
 pub fn the_board_is_joined()
     ensures chips { live_count_of board ≡ 48 }
     ensures joined { (a b : Chip) → IsLiveChip board a → IsLiveChip board b → (walk : List Chip) × IsWalkTo board a b walk }
+{}
+
+/// Whatever the number: the machine is the board; there are 200 vertices, 300 nets, and 1,200 packets, for all of which a queue
+/// has room; no events are listed. And a chip's plain table has no more rows than there are nets, so at most 300.
+pub fn generated_jobs_are_small()
+    ensures machine { (n : ℕ) → (gen_job n).machine ≡ board }
+    ensures vertices { (n : ℕ) → length (gen_job n).graph.vertices ≡ 200 }
+    ensures nets { (n : ℕ) → length (gen_job n).graph.nets ≡ 300 }
+    ensures packets { (n : ℕ) → length (gen_job n).run.packets ≡ 1200 }
+    ensures queue { (n : ℕ) → (gen_job n).run.queue ≡ length (gen_job n).run.packets }
+    ensures events { (n : ℕ) → (gen_job n).run.events ≡ [] }
+    ensures rows { (m : Description) (nets : List NetPlan) (c : Chip) (rows : List Row) → IsPlainTable m nets c rows → length rows ≤ length nets }
 {}
 
 /// Whatever the number: each vertex of the job finds room, each net finds keys, and no target is cut off.

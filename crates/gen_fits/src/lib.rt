@@ -2,9 +2,9 @@
 //!
 //! All functions here are laws: they do nothing, and their clauses say what holds whatever the number is. The board of 48 chips
 //! has 816 usable cores for 200 vertices, its chips have memory for seventeen of them each, all nets together need at most 4,800
-//! keys, and walks of live links join its chips.
+//! keys, walks of live links join its chips, and no table of a router has more than 300 rows.
 #![tactic(auto)]
 
 mod laws;
 
-pub use laws::{generated_jobs_have_room, the_board_is_joined};
+pub use laws::{generated_jobs_are_small, generated_jobs_have_room, the_board_is_joined};

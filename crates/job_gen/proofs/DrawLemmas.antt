@@ -1,5 +1,5 @@
 -- Drawing one thing after another.
-use Rattle.std.proofs.Common.{◌≡◌, ℕ, zero, suc, ◌+◌, ◌/◌, ◌<◌, ◌≤◌, ◌%◌, List, [], ◌∷◌, ◌++◌, length, All, get_or, refl, sym, ap, ◌∙◌, subst, add-one, arith, length-append}
+use Rattle.std.proofs.Common.{◌≡◌, ℕ, zero, suc, ◌+◌, ◌/◌, ◌<◌, ◌%◌, List, [], ◌∷◌, ◌++◌, length, All, get_or, refl, ap, ◌∙◌, add-one, arith, length-append}
 use Rattle.std.proofs.lemmas.List.Elements.{All-nil, All-push}
 use Rattle.std.proofs.lemmas.Nat.{mod_below}
 use Rattle.rand_xoshiro.specs.Xoshiro256.{plus_plus}
@@ -29,8 +29,8 @@ pub draws_more : {A : Type 0} (f : ℕ → List ℕ → A × List ℕ) (n : ℕ)
 unfolding draws
 draws_more {A} f n first before after xs x so_far last =
     rw add-one (
-      ap (λ (q : A × List ℕ). (xs ++ q.0 ∷ [], q.1)) last
-      ∙ ap (λ (p : List A × List ℕ). (p.0 ++ (f n p.1).0 ∷ [], (f n p.1).1)) so_far
+    ap (λ (q : A × List ℕ). (xs ++ q.0 ∷ [], q.1)) last
+    ∙ ap (λ (p : List A × List ℕ). (p.0 ++ (f n p.1).0 ∷ [], (f n p.1).1)) so_far
     )
 
 -- there are as many as were asked for

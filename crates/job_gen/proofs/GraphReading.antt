@@ -1,23 +1,18 @@
 -- The graph of a generated job is read as it was drawn.
-use Rattle.std.proofs.Common.{◌≡◌, ℕ, zero, suc, ◌+◌, ◌<◌, ◌≤◌, List, [], ◌∷◌, ◌++◌, length, map, All, codes, decimal, Bool, true, false, Option, Some, None, if◌then◌else◌, refl, sym, ap, ◌∙◌, subst, arith}
+use Rattle.std.proofs.Common.{◌≡◌, ℕ, zero, suc, ◌+◌, ◌<◌, ◌≤◌, List, [], ◌∷◌, length, map, All, codes, decimal, true, Some, None, if◌then◌else◌, refl, ap, ◌∙◌, arith}
 use Rattle.std.specs.Prelude.{slice_get, option_and_then, is_some, unwrap_or}
 use Rattle.std.proofs.lemmas.Bool.{le-leb, and_from}
 use Rattle.std.proofs.lemmas.List.{map-id}
-use Rattle.serde_json.specs.Data.{Data, string}
-use Rattle.serde_json.specs.View.{items_of}
 use Rattle.app_graph.specs.declared.graphs.Vertex.{Vertex}
 use Rattle.app_graph.specs.declared.graphs.Net.{Net}
-use Rattle.job_text.specs.declared.faults.JobFault.{JobFault}
 use Rattle.job_text.specs.Fields.{is_within, is_name}
-use Rattle.job_text.specs.Members.{list_of}
 use Rattle.job_text.proofs.Items.{list_of-items_of}
-use Rattle.job_readers.specs.Items.{items_faults}
-use Rattle.job_readers.specs.Members.{number_member_faults, number_member, list_member_faults, list_member, member_since}
+use Rattle.job_readers.specs.Members.{number_member_faults, number_member, list_member, member_since}
 use Rattle.job_readers.specs.Places.{place_in, reference_faults, reference_value, new_name_faults}
 use Rattle.job_readers.specs.GraphPart.{name_of, name_faults, at_faults, at_value, device_faults, device_value, vertex_faults, vertex_value, next_vertex_faults, vertex_names_of, sender_at, sender_in, source_faults, source_value, target_faults, target_value, has_item, some_faults, targets_faults, targets_value, keys_value, fixed_faults, fixed_value, net_faults, net_value, next_net_faults, net_names}
 use Rattle.job_gen.specs.declared.draws.DrawnNet.{DrawnNet}
 use Rattle.job_gen.specs.DrawnFacts.{IsDrawnNet}
-use Rattle.job_gen.specs.Values.{numbered, vertex_name, net_name, vertex_data, name_data, net_data}
+use Rattle.job_gen.specs.Values.{numbered, vertex_name, vertex_data, name_data, net_data}
 use Rattle.job_gen.specs.Generated.{vertex_of, net_of}
 use Rattle.job_gen.proofs.NameLemmas.{AreBelow, absent, found, named}
 use Rattle.job_gen.proofs.ListReading.{items_clean, items_are}

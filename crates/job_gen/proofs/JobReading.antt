@@ -1,22 +1,16 @@
 -- A generated job is read without a fault, as its definition gives it.
-use Rattle.std.proofs.Common.{◌≡◌, ℕ, zero, suc, ◌+◌, ◌-◌, ◌*◌, ◌<◌, ◌≤◌, List, [], ◌∷◌, ◌++◌, length, map, All, codes, decimal, Bool, true, false, Option, Some, None, if◌then◌else◌, slice_index, refl, sym, ap, ◌∙◌, subst, arith}
-use Rattle.std.specs.Prelude.{unwrap_or, nat_le}
+use Rattle.std.proofs.Common.{◌≡◌, ℕ, ◌+◌, ◌-◌, ◌<◌, ◌≤◌, List, [], ◌∷◌, length, map, codes, decimal, Bool, true, Some, None, if◌then◌else◌, slice_index, refl, ap, ◌∙◌, arith}
+use Rattle.std.specs.Prelude.{unwrap_or}
 use Rattle.std.proofs.lemmas.Bool.{le-leb, and_from}
 use Rattle.std.proofs.lemmas.List.{length-map}
-use Rattle.serde_json.specs.Data.{Data}
-use Rattle.serde_json.specs.View.{items_of}
-use Rattle.machine_desc.specs.Description.{Description}
 use Rattle.machine_desc.specs.Live.{live_count_of}
 use Rattle.app_graph.specs.declared.graphs.Vertex.{Vertex}
 use Rattle.app_graph.specs.declared.graphs.Net.{Net}
-use Rattle.app_graph.specs.declared.graphs.Graph.{Graph}
-use Rattle.app_graph.specs.declared.graphs.RunPart.{RunPart}
 use Rattle.app_graph.specs.RunPart.{keys_of}
-use Rattle.job_text.specs.declared.faults.JobFault.{JobFault}
 use Rattle.job_text.specs.declared.faults.JobFault.TheVariants.{TooMany}
 use Rattle.job_text.specs.Fields.{is_within, is_name, count_faults}
 use Rattle.job_text.proofs.Items.{list_of-items_of}
-use Rattle.job_readers.specs.Items.{items_faults, following_faults}
+use Rattle.job_readers.specs.Items.{items_faults}
 use Rattle.job_readers.specs.Members.{number_member_faults, number_member, optional_number, flag_member_faults, flag_member, list_member_faults, long_list_member_faults, list_member}
 use Rattle.job_readers.specs.Entries.{chip_faults, chip_value}
 use Rattle.job_readers.specs.Places.{place_in, reference_faults, reference_value}
@@ -25,7 +19,6 @@ use Rattle.job_readers.specs.MachinePart.{entries_faults, machine_members_faults
 use Rattle.job_readers.specs.GraphPart.{name_of, vertex_value, next_vertex_faults, vertices_faults, vertices_value, net_value, next_net_faults, net_names, nets_faults, nets_value, graph_members_faults, graph_members, graph_faults, graph_value}
 use Rattle.job_readers.specs.RunPart.{packet_net_faults, packet_net, packet_faults, packet_value, packets_faults, packets_value, events_faults, events_value, places_faults, run_members_faults, run_members, run_faults, run_value}
 use Rattle.job_readers.specs.WholeJob.{job_faults, job_value}
-use Rattle.job_readers.specs.declared.jobs.Job.{Job}
 use Rattle.job_gen.specs.declared.draws.DrawnNet.{DrawnNet}
 use Rattle.job_gen.specs.declared.draws.DrawnPacket.{DrawnPacket}
 use Rattle.job_gen.specs.declared.draws.Drawn.{Drawn}
@@ -83,7 +76,7 @@ module _ (job : Drawn) (drawn : IsDrawn job) where
         list_of-items_of (numbered vertex_data 0 job.sdrams),
         few_faults _ 16384 (length (numbered vertex_data 0 job.sdrams)) (omega (arith, length-numbered vertex_data 0 job.sdrams, drawn.vertices)),
         following_clean (λ s. s ≤ 1048576) 118 (λ (v : Vertex). v.name) (next_vertex_faults 1) (vertex_value 1) vertex_data vertex_clean
-        (λ i s. ap (λ (v : Vertex). v.name) (vertex_is i s) ∙ vertex_named i s) [] _ 0 0 job.sdrams tt (omega (arith, drawn.vertices)) drawn.sdrams,
+            (λ i s. ap (λ (v : Vertex). v.name) (vertex_is i s) ∙ vertex_named i s) [] _ 0 0 job.sdrams tt (omega (arith, drawn.vertices)) drawn.sdrams,
       ) refl
 
   vertices_are : vertices_value 1 (graph_data job) ≡ numbered vertex_of 0 job.sdrams
@@ -99,7 +92,7 @@ module _ (job : Drawn) (drawn : IsDrawn job) where
         list_of-items_of (numbered net_data 0 job.nets),
         few_faults _ 4096 (length (numbered net_data 0 job.nets)) (omega (arith, length-numbered net_data 0 job.nets, drawn.number_of_nets)),
         following_clean IsDrawnNet 110 (λ (n : Net). n.name) (next_net_faults 1 (numbered vertex_of 0 job.sdrams)) (net_value 1 (numbered vertex_of 0 job.sdrams)) net_data
-        (net_clean job.sdrams drawn.vertices) (net_value_named (numbered vertex_of 0 job.sdrams)) [] _ 0 0 job.nets tt (omega (arith, drawn.number_of_nets)) drawn.nets,
+            (net_clean job.sdrams drawn.vertices) (net_value_named (numbered vertex_of 0 job.sdrams)) [] _ 0 0 job.nets tt (omega (arith, drawn.number_of_nets)) drawn.nets,
       ) refl
 
   nets_are : nets_value 1 (numbered vertex_of 0 job.sdrams) (graph_data job) ≡ numbered net_of 0 job.nets
@@ -152,7 +145,7 @@ module _ (job : Drawn) (drawn : IsDrawn job) where
   packet_clean path p of_nets =
       let net : p.net < 300 = of_nets.net in
       let keys : keys_of (numbered net_of 0 job.nets) (packet_net (numbered net_of 0 job.nets) (packet_data p)) ≡ keys_at job.nets p.net =
-          ap (keys_of (numbered net_of 0 job.nets)) (packet_net_is p net) ∙ same_keys p.net in
+      ap (keys_of (numbered net_of 0 job.nets)) (packet_net_is p net) ∙ same_keys p.net in
       let index : p.index < keys_at job.nets p.net = of_nets.index in
       rw (
         packet_net_clean path p net,

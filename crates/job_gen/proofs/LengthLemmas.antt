@@ -1,5 +1,5 @@
 -- The text of a generated job is short.
-use Rattle.std.proofs.Common.{◌≡◌, ℕ, zero, suc, ◌+◌, ◌*◌, ◌/◌, ◌%◌, ◌^◌, ◌<◌, ◌≤◌, List, [], ◌∷◌, ◌++◌, length, map, All, codes, decimal, Bool, true, false, cond, refl, sym, ap, ◌∙◌, subst, arith, length-append}
+use Rattle.std.proofs.Common.{◌≡◌, ℕ, zero, suc, ◌+◌, ◌*◌, ◌/◌, ◌%◌, ◌^◌, ◌<◌, ◌≤◌, List, [], ◌∷◌, ◌++◌, length, map, All, codes, decimal, Bool, true, false, cond, refl, arith, length-append}
 use Rattle.std.specs.Prelude.{nat_lt, ◌&&◌}
 use Rattle.std.specs.Char.{digit_char}
 use Rattle.std.specs.List.{list_all}
@@ -16,7 +16,7 @@ use Rattle.job_gen.specs.declared.draws.DrawnPacket.{DrawnPacket}
 use Rattle.job_gen.specs.declared.draws.Drawn.{Drawn}
 use Rattle.job_gen.specs.Draws.{keys_at, drawn}
 use Rattle.job_gen.specs.DrawnFacts.{IsDrawnNet, IsDrawnPacket, IsDrawn}
-use Rattle.job_gen.specs.Values.{vertex_name, net_name, vertex_data, name_data, net_data, packet_data, chip_data, pair_data, dead_pairs, machine_data, graph_data, run_data, job_data, gen_value, gen_text_of, numbered}
+use Rattle.job_gen.specs.Values.{vertex_name, net_name, vertex_data, name_data, net_data, packet_data, pair_data, dead_pairs, machine_data, graph_data, run_data, job_data, gen_value, gen_text_of, numbered}
 use Rattle.job_gen.proofs.DrawnLaws.{is_drawn}
 
 -- ---- strings
@@ -57,18 +57,18 @@ none_short = record { text = λ later. omega arith }
 member_short : (k : List ℕ) (d : Data) (few long : ℕ) {ms : Members} {rest : ℕ} → length k ≤ few → length (compact_text d) ≤ long → AreShort ms rest → AreShort (member k d ms) (6 * few + 4 + long + rest)
 member_short k d few long {ms} {rest} name value others = record {
   text = λ later.
-    let after : length (members_text true ms) ≤ rest = others.text true in
-    omega (
-      arith,
-      comma_short later,
-      quoted_short k,
-      name,
-      value,
-      after,
-      length-append (comma_if later) (quoted k ++ 58 ∷ (compact_text d ++ members_text true ms)),
-      length-append (quoted k) (58 ∷ (compact_text d ++ members_text true ms)),
-      length-append (compact_text d) (members_text true ms),
-    );
+      let after : length (members_text true ms) ≤ rest = others.text true in
+      omega (
+        arith,
+        comma_short later,
+        quoted_short k,
+        name,
+        value,
+        after,
+        length-append (comma_if later) (quoted k ++ 58 ∷ (compact_text d ++ members_text true ms)),
+        length-append (quoted k) (58 ∷ (compact_text d ++ members_text true ms)),
+        length-append (compact_text d) (members_text true ms),
+      );
 }
 
 object_short : {ms : Members} {n : ℕ} (long : ℕ) → AreShort ms n → n < long → length (compact_text (object ms)) ≤ long

@@ -1,5 +1,5 @@
 -- Lists of items that have no fault, and what they are.
-use Rattle.std.proofs.Common.{◌≡◌, ℕ, zero, suc, ◌+◌, ◌<◌, ◌≤◌, List, [], ◌∷◌, ◌++◌, length, map, All, Bool, true, false, Option, Some, None, refl, sym, ap, ◌∙◌, subst, arith, decimal}
+use Rattle.std.proofs.Common.{◌≡◌, ℕ, suc, ◌+◌, ◌<◌, ◌≤◌, List, [], ◌∷◌, ◌++◌, length, map, All, refl, sym, ap, ◌∙◌, subst, arith, decimal}
 use Rattle.std.proofs.lemmas.List.{map_push}
 use Rattle.std.proofs.lemmas.List.Elements.{All-head, All-tail}
 use Rattle.serde_json.specs.Data.{Data}
@@ -47,7 +47,7 @@ unfolding following_faults numbered
 following_clean P c name f value g each names before path k i [] below small all = refl
 following_clean P c name f value g each names before path k i (x ∷ xs) below small all =
     let more : AreBelow c (i + 1) (map name (before ++ value (g i x) ∷ [])) =
-        subst (AreBelow c (i + 1)) (sym (map_push name before (value (g i x)) ∙ ap (λ s. map name before ++ s ∷ []) (names i x))) (below_more c i (map name before) below) in
+    subst (AreBelow c (i + 1)) (sym (map_push name before (value (g i x)) ∙ ap (λ s. map name before ++ s ∷ []) (names i x))) (below_more c i (map name before) below) in
     rw (
       each before (item_at path k) i x below (omega arith) (All-head P x xs all),
       following_clean P c name f value g each names (before ++ value (g i x) ∷ []) path (k + 1) (i + 1) xs more (omega arith) (All-tail P x xs all),

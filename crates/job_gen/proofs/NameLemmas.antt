@@ -1,6 +1,6 @@
 -- The names of vertices and nets: a letter and a number. They are names, and different numbers have different ones.
-use Rattle.std.proofs.Common.{◌≡◌, ℕ, zero, suc, ◌+◌, ◌*◌, ◌%◌, ◌^◌, ◌<◌, ◌≤◌, List, [], ◌∷◌, ◌++◌, length, map, decimal, Bool, true, false, ◌&&◌, Option, Some, None, refl, sym, ap, ◌∙◌, subst, arith}
-use Rattle.std.specs.Prelude.{bytes_eq, option_map}
+use Rattle.std.proofs.Common.{◌≡◌, ℕ, zero, suc, ◌+◌, ◌%◌, ◌^◌, ◌<◌, ◌≤◌, List, [], ◌∷◌, ◌++◌, length, map, decimal, true, false, Some, None, refl, ap, ◌∙◌, arith}
+use Rattle.std.specs.Prelude.{bytes_eq}
 use Rattle.std.specs.List.{list_all}
 use Rattle.std.proofs.lemmas.Bool.{and_from, le-leb, lt-ltb, false_from_ne_true}
 use Rattle.std.proofs.lemmas.List.Folds.{list_all-append}
@@ -58,7 +58,7 @@ absent c i [] small below = refl
 absent c i (s ∷ names) small below =
     let less : below.0.0 < i = below.0.1 in
     let differs : bytes_eq s (c ∷ decimal i) ≡ false =
-        ap (λ t. bytes_eq t (c ∷ decimal i)) below.0.2 ∙ other_name c below.0.0 i (omega arith) small (λ same. omega arith) in
+    ap (λ t. bytes_eq t (c ∷ decimal i)) below.0.2 ∙ other_name c below.0.0 i (omega arith) small (λ same. omega arith) in
     rw (differs, absent c i names small below.1) refl
 
 -- the names of numbered things, and where they stand
@@ -69,12 +69,12 @@ found c name f names i k [] below small = absurd (omega arith)
 found c name f names i zero (x ∷ xs) below small =
     let none_more : i + 0 ≡ i = omega arith in
     let same : bytes_eq (name (f i x)) (c ∷ decimal (i + 0)) ≡ true =
-        ap (λ t. bytes_eq t (c ∷ decimal (i + 0))) (names i x) ∙ ap (λ j. bytes_eq (c ∷ decimal i) (c ∷ decimal j)) none_more ∙ same_name (c ∷ decimal i) in
+    ap (λ t. bytes_eq t (c ∷ decimal (i + 0))) (names i x) ∙ ap (λ j. bytes_eq (c ∷ decimal i) (c ∷ decimal j)) none_more ∙ same_name (c ∷ decimal i) in
     rw same refl
 found c name f names i (suc k) (x ∷ xs) below small =
     let differs : bytes_eq (name (f i x)) (c ∷ decimal (i + suc k)) ≡ false =
-        ap (λ t. bytes_eq t (c ∷ decimal (i + suc k))) (names i x) ∙ other_name c i (i + suc k) (omega arith) (omega arith) (λ same. omega arith) in
+    ap (λ t. bytes_eq t (c ∷ decimal (i + suc k))) (names i x) ∙ other_name c i (i + suc k) (omega arith) (omega arith) (λ same. omega arith) in
     let number : i + suc k ≡ i + 1 + k = omega arith in
     let rest : place_in (map name (numbered f (i + 1) xs)) (c ∷ decimal (i + suc k)) ≡ Some k =
-        ap (λ j. place_in (map name (numbered f (i + 1) xs)) (c ∷ decimal j)) number ∙ found c name f names (i + 1) k xs (omega arith) (omega arith) in
+    ap (λ j. place_in (map name (numbered f (i + 1) xs)) (c ∷ decimal j)) number ∙ found c name f names (i + 1) k xs (omega arith) (omega arith) in
     rw (differs, rest) (ap Some (omega arith))

@@ -1,5 +1,5 @@
 -- The machine of a generated job: a grid of 8 by 8 of which 48 chips are there (SpiNNaker's SpiNN-5 board has these chips).
-use Rattle.std.specs.Prelude.{ℕ, List, [], map, false}
+use Rattle.std.specs.Prelude.{ℕ, [], map, false}
 use Rattle.spin_base.specs.declared.chips.Chip.{Chip}
 use Rattle.machine_desc.specs.Description.{Description}
 use Rattle.job_gen.specs.Values.{dead_pairs}

@@ -24,7 +24,7 @@ numbered f i (x ∷ xs) = f i x ∷ numbered f (i + 1) xs
 unfoldable pub vertex_data : ℕ → ℕ → Data
 vertex_data i sdram =
     object (member (codes "name") (string (vertex_name i))
-        (member (codes "sdram") (number (unsigned sdram)) no_members))
+    (member (codes "sdram") (number (unsigned sdram)) no_members))
 
 -- the name of a vertex, as a value
 unfoldable pub name_data : ℕ → Data
@@ -34,16 +34,16 @@ name_data i = string (vertex_name i)
 unfoldable pub net_data : ℕ → DrawnNet → Data
 net_data i net =
     object (member (codes "keys") (number (unsigned net.keys))
-        (member (codes "name") (string (net_name i))
-        (member (codes "source") (name_data net.source)
-        (member (codes "targets") (array (items_of (map name_data net.targets))) no_members))))
+    (member (codes "name") (string (net_name i))
+    (member (codes "source") (name_data net.source)
+    (member (codes "targets") (array (items_of (map name_data net.targets))) no_members))))
 
 -- A packet has its index, its net and its payload.
 unfoldable pub packet_data : DrawnPacket → Data
 packet_data p =
     object (member (codes "index") (number (unsigned p.index))
-        (member (codes "net") (string (net_name p.net))
-        (member (codes "payload") (number (unsigned p.payload)) no_members)))
+    (member (codes "net") (string (net_name p.net))
+    (member (codes "payload") (number (unsigned p.payload)) no_members)))
 
 -- a chip is [x,y]
 abbrev pub chip_data : ℕ → ℕ → Data
@@ -61,30 +61,30 @@ dead_pairs =
 unfoldable pub machine_data : Data
 machine_data =
     object (member (codes "dead_chips") (array (items_of (map pair_data dead_pairs)))
-        (member (codes "height") (number (unsigned 8))
-        (member (codes "width") (number (unsigned 8)) no_members)))
+    (member (codes "height") (number (unsigned 8))
+    (member (codes "width") (number (unsigned 8)) no_members)))
 
 unfoldable pub graph_data : Drawn → Data
 graph_data job =
     object (member (codes "nets") (array (items_of (numbered net_data 0 job.nets)))
-        (member (codes "vertices") (array (items_of (numbered vertex_data 0 job.sdrams))) no_members))
+    (member (codes "vertices") (array (items_of (numbered vertex_data 0 job.sdrams))) no_members))
 
 -- Queues have room for all packets, and tables are joined as far as they can be.
 unfoldable pub run_data : List DrawnPacket → Data
 run_data packets =
     object (member (codes "packets") (array (items_of (map packet_data packets)))
-        (member (codes "patience") (number (unsigned 16))
-        (member (codes "queue") (number (unsigned 1200))
-        (member (codes "target") (number (unsigned 0))
-        (member (codes "turns") (number (unsigned 64))
-        (member (codes "workers") (number (unsigned 4)) no_members))))))
+    (member (codes "patience") (number (unsigned 16))
+    (member (codes "queue") (number (unsigned 1200))
+    (member (codes "target") (number (unsigned 0))
+    (member (codes "turns") (number (unsigned 64))
+    (member (codes "workers") (number (unsigned 4)) no_members))))))
 
 unfoldable pub job_data : Drawn → Data
 job_data job =
     object (member (codes "graph") (graph_data job)
-        (member (codes "machine") machine_data
-        (member (codes "run") (run_data job.packets)
-        (member (codes "version") (number (unsigned 1)) no_members))))
+    (member (codes "machine") machine_data
+    (member (codes "run") (run_data job.packets)
+    (member (codes "version") (number (unsigned 1)) no_members))))
 
 -- the value of the job of a number, and its text: JSON without a space, the members of each object in the order of their names
 unfoldable pub gen_value : ℕ → Data

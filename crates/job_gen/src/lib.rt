@@ -10,8 +10,8 @@ mod laws;
 mod texts;
 mod values;
 
-pub use laws::generated_jobs_are_read;
 pub use draws::{Drawn, DrawnNet, DrawnPacket};
+pub use laws::generated_jobs_are_read;
 pub use texts::gen_text;
 
 #[cfg(test)]

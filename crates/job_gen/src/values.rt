@@ -163,7 +163,11 @@ fn packets_value(alloc: Global, packets: &[DrawnPacket]) -> Result<Value, AllocE
 fn packet_value(alloc: Global, packet: DrawnPacket) -> Result<Value, AllocError>
     ensures { IfOk result (λ v. view v ≡ packet_data packet) }
 {
-    let DrawnPacket { net, index, payload } = packet;
+    let DrawnPacket {
+        net,
+        index,
+        payload,
+    } = packet;
     let name = format!(in alloc; "n{net}")?;
     json!(in alloc; {"index": index, "net": name, "payload": payload})
 }

@@ -1,4 +1,4 @@
-use Rattle.std.proofs.Common.{◌≡◌, ℕ, ◌≤◌, length, ap, ◌∙◌, sym, subst}
+use Rattle.std.proofs.Common.{◌≤◌, length, ap, ◌∙◌, sym, subst}
 use Rattle.job_text.specs.Json.{json_of}
 use Rattle.job_gen.proofs.LengthLemmas.{text_short}
 use Rattle.job_gen.proofs.TextLemmas.{value_drawn, text_written, text_read}
