@@ -1,0 +1,149 @@
+-- Links with all their ends, seen as a list, and brought down from the last one on.
+use Rattle.std.proofs.Common.{◌≡◌, ℕ, suc, zero, ◌+◌, ◌-◌, ◌<◌, ◌≤◌, List, [], ◌∷◌, ◌++◌, length, map, take, get_or, set, Option, Some, refl, sym, ap, ◌∙◌, subst, arith, inl, inr}
+use Rattle.std.specs.List.{All}
+use Rattle.std.proofs.Math.ListN.{length-set}
+use Rattle.std.proofs.lemmas.Bool.{cases_eq}
+use Rattle.std.proofs.lemmas.List.{map-append, length-map, take_all, take_more, same_from_push, get_or-set_same, get_or-set_other}
+use Rattle.spin_base.specs.declared.copies.McCopy.{McCopy}
+use Rattle.link_queue.specs.declared.links.LinkEnds.{LinkEnds}
+use Rattle.link_queue.specs.declared.links.Tx.{Tx}
+use Rattle.link_queue.specs.declared.links.Rx.{Rx}
+use Rattle.mesh_run.specs.declared.standing.Standing.{Standing}
+use Rattle.mesh_run.specs.Standing.{HoldsAll}
+use Rattle.mesh_run.specs.Queues.{AreEnds, IsDown, DownTo}
+
+-- ---- the list is the only one
+
+first_same : {X : Type 0} (x y : X) (xs ys : List X) → x ∷ xs ≡ y ∷ ys → x ≡ y
+first_same x y xs ys e = cc
+
+rest_same : {X : Type 0} (x y : X) (xs ys : List X) → x ∷ xs ≡ y ∷ ys → xs ≡ ys
+rest_same x y xs ys e = cc
+
+some_same : {X : Type 0} (x y : X) → Some x ≡ Some y → x ≡ y
+some_same x y e = cc
+
+equal_ends : (e f : LinkEnds) → e.link ≡ f.link → e.tx ≡ f.tx → e.rx ≡ f.rx → e.room ≡ f.room → e ≡ f
+equal_ends e f links txs rxs rooms = λ i. record { link = links i; tx = txs i; rx = rxs i; room = rooms i }
+
+both_same : {X : Type 0} (x y : X) (xs ys : List X) → x ≡ y → xs ≡ ys → x ∷ xs ≡ y ∷ ys
+both_same x y xs ys first rest = cc
+
+none_is_some : {X : Type 0} (x : X) (xs : List X) → [] ≡ x ∷ xs → ⊥
+none_is_some x xs e = cc
+
+same_ends : (es fs : List LinkEnds) → map (λ (e : LinkEnds). e.link) es ≡ map (λ (e : LinkEnds). e.link) fs →
+    map (λ (e : LinkEnds). Some e.tx) es ≡ map (λ (e : LinkEnds). Some e.tx) fs → map (λ (e : LinkEnds). Some e.rx) es ≡ map (λ (e : LinkEnds). Some e.rx) fs →
+    map (λ (e : LinkEnds). e.room) es ≡ map (λ (e : LinkEnds). e.room) fs → es ≡ fs
+same_ends [] [] a b c d = refl
+same_ends [] (f ∷ fs) a b c d = absurd (none_is_some f.link (map (λ (e : LinkEnds). e.link) fs) a)
+same_ends (e ∷ es) [] a b c d = absurd (none_is_some e.link (map (λ (e : LinkEnds). e.link) es) (sym a))
+same_ends (e ∷ es) (f ∷ fs) a b c d =
+    both_same e f es fs
+    (equal_ends e f (first_same _ _ _ _ a) (some_same e.tx f.tx (first_same _ _ _ _ b)) (some_same e.rx f.rx (first_same _ _ _ _ c)) (first_same _ _ _ _ d))
+    (same_ends es fs (rest_same _ _ _ _ a) (rest_same _ _ _ _ b) (rest_same _ _ _ _ c) (rest_same _ _ _ _ d))
+
+pub only_ends : (es fs : List LinkEnds) (s : Standing) → HoldsAll es s → HoldsAll fs s → es ≡ fs
+only_ends es fs s a b = same_ends es fs (sym a.links ∙ b.links) (sym a.txs ∙ b.txs) (sym a.rxs ∙ b.rxs) (sym a.rooms ∙ b.rooms)
+
+-- how many there are
+pub as_many : (es : List LinkEnds) (s : Standing) → HoldsAll es s → length s.links.items ≡ length es
+as_many es s holds = ap length holds.links ∙ length-map es (λ (e : LinkEnds). e.link)
+
+-- ---- the last one
+
+-- an item at the end of a list that is a map
+map_end : {X Y : Type 0} (f : X → Y) (xs : List X) (x : X) (ys : List Y) (y : Y) → ys ++ y ∷ [] ≡ map f (xs ++ x ∷ []) → (ys ≡ map f xs) × (y ≡ f x)
+map_end f xs x ys y e = same_from_push ys (map f xs) y (f x) (e ∙ map-append f xs (x ∷ []))
+
+-- the ends that leave a list of all
+pub last_leaves : (rest : List LinkEnds) (last e : LinkEnds) (tx : Option Tx) (rx : Option Rx) (s t : Standing) → HoldsAll (rest ++ last ∷ []) s →
+    s.links.items ≡ t.links.items ++ e.link ∷ [] → s.txs.items ≡ t.txs.items ++ tx ∷ [] → tx ≡ Some e.tx → s.rxs.items ≡ t.rxs.items ++ rx ∷ [] → rx ≡ Some e.rx →
+    s.rooms.items ≡ t.rooms.items ++ e.room ∷ [] → (e ≡ last) × HoldsAll rest t
+last_leaves rest last e tx rx s t holds links txs tx_is rxs rx_is rooms =
+    let a = map_end (λ (e : LinkEnds). e.link) rest last t.links.items e.link (sym links ∙ holds.links) in
+    let b = map_end (λ (e : LinkEnds). Some e.tx) rest last t.txs.items tx (sym txs ∙ holds.txs) in
+    let c = map_end (λ (e : LinkEnds). Some e.rx) rest last t.rxs.items rx (sym rxs ∙ holds.rxs) in
+    let d = map_end (λ (e : LinkEnds). e.room) rest last t.rooms.items e.room (sym rooms ∙ holds.rooms) in (
+      equal_ends e last a.1 (some_same e.tx last.tx (sym tx_is ∙ b.1)) (some_same e.rx last.rx (sym rx_is ∙ c.1)) d.1,
+      record { links = a.0; txs = b.0; rxs = c.0; rooms = d.0 },
+    )
+
+-- ---- links brought down, from the last on
+
+-- the last so many are down, the links before them stand, and nothing behind them has changed
+pub record DownFrom (all : List LinkEnds) (gone : ℕ) (s : Standing) (before after : List (List McCopy)) : Type 0 where
+  pub few : gone ≤ length all
+  pub long : length after ≡ length before
+  pub stand : HoldsAll (take (length all - gone) all) s
+  pub down : (i : ℕ) (e : LinkEnds) (q : List McCopy) → length all - gone ≤ i → i < length all → IsDown (get_or all i e) (get_or after i q)
+  pub left : (i : ℕ) (q : List McCopy) → length all ≤ i → get_or after i q ≡ get_or before i q
+
+none_less : (n : ℕ) → n - 0 ≡ n
+none_less n = omega arith
+
+pub down_none : (all : List LinkEnds) (s : Standing) (qs : List (List McCopy)) → HoldsAll all s → DownFrom all 0 s qs qs
+down_none all s qs holds = record {
+  few = omega arith;
+  long = refl;
+  stand = subst (λ l. HoldsAll l s) (sym (ap (λ n. take n all) (none_less (length all)) ∙ take_all (length all) all (omega arith))) holds;
+  down = λ i e q from below. absurd (omega (arith, from, below));
+  left = λ i q past. refl;
+}
+
+-- an item within a list
+there : {X : Type 0} (xs : List X) (i : ℕ) → i < length xs → (x : X) × ((d : X) → get_or xs i d ≡ x)
+there [] i below = absurd (omega arith)
+there (x ∷ xs) zero below = (x, λ d. refl)
+there (x ∷ xs) (suc i) below = there xs i (omega (arith, below))
+
+-- what stands has the next one at its end
+pub record Next (all : List LinkEnds) (gone : ℕ) (s : Standing) : Type 0 where
+  pub ends : LinkEnds
+  pub is : (d : LinkEnds) → get_or all (length all - gone - 1) d ≡ ends
+  pub stands : HoldsAll (take (length all - gone - 1) all ++ ends ∷ []) s
+
+pub stands_next : (all : List LinkEnds) (gone : ℕ) (s : Standing) (before after : List (List McCopy)) → DownFrom all gone s before after → gone < length all → Next all gone s
+stands_next all gone s before after so_far below =
+    let place : ℕ = length all - gone - 1 in
+    let within : place < length all = omega (arith, below) in
+    let next : place + 1 ≡ length all - gone = omega (arith, below) in
+    let x = there all place within in
+    record {
+      ends = x.0;
+      is = x.1;
+      stands = subst (λ l. HoldsAll l s) (ap (λ n. take n all) (sym next) ∙ (take_more all place x.0 within ∙ ap (λ e. take place all ++ e ∷ []) (x.1 x.0))) so_far.stand;
+    }
+
+-- its ends are ends of its link
+pub next_are_ends : (all : List LinkEnds) (gone : ℕ) (s : Standing) (e : LinkEnds) → (n : Next all gone s) → gone < length all → All AreEnds all → e ≡ n.ends → AreEnds e
+next_are_ends all gone s e n below ends is =
+    subst AreEnds (n.is e ∙ sym is) (ends (length all - gone - 1) e (omega (arith, below)))
+
+pub down_more : (all : List LinkEnds) (gone : ℕ) (e : LinkEnds) (s t : Standing) (before after new : List (List McCopy)) (q : List McCopy) → DownFrom all gone s before after → gone < length all →
+    length all ≤ length before → (n : Next all gone s) → e ≡ n.ends → HoldsAll (take (length all - gone - 1) all) t → IsDown e q → new ≡ set after (length all - gone - 1) q → DownFrom all (gone + 1) t before new
+down_more all gone e s t before after new q so_far below fits n e_is stands is_down is = subst (λ l. DownFrom all (gone + 1) t before l) (sym is) (
+    let place : ℕ = length all - gone - 1 in
+    let many = so_far.long in
+    let here : place < length after = omega (arith, below, fits, many) in
+    let up_to : length all - (gone + 1) ≡ place = omega arith in
+    record {
+      few = omega (arith, below);
+      long = length-set after place q ∙ so_far.long;
+      stand = subst (λ n. HoldsAll (take n all) t) (sym up_to) stands;
+      down = λ i d p from inside. elim (cases_eq i place) [
+        | inl same ↦
+            let ends : get_or all i d ≡ e = ap (λ n. get_or all n d) same ∙ (n.is d ∙ sym e_is) in
+            let now : get_or (set after place q) i p ≡ q = ap (λ n. get_or (set after place q) n p) same ∙ get_or-set_same after place q p here in
+            subst (IsDown (get_or all i d)) (sym now) (subst (λ x. IsDown x q) (sym ends) is_down)
+        | inr other ↦
+            subst (IsDown (get_or all i d)) (sym (get_or-set_other after place i q p other)) (so_far.down i d p (omega (arith, from, other, up_to)) inside)
+      ];
+      left = λ i p past. get_or-set_other after place i q p (λ same. omega (arith, same, past, below)) ∙ so_far.left i p past;
+    })
+
+pub down_all : (all : List LinkEnds) (gone : ℕ) (s : Standing) (before after : List (List McCopy)) → DownFrom all gone s before after → length all ≤ gone → DownTo all before after
+down_all all gone s before after so_far past = record {
+  down = λ i e q below. so_far.down i e q (omega (arith, past)) below;
+  left = so_far.left;
+}

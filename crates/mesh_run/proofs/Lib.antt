@@ -1,0 +1,4 @@
+mod Acting
+mod BringingUp
+mod Going
+mod Holding

@@ -1,0 +1,29 @@
+// What takes turns in a round: the router of a chip, or its bank of cores.
+ghost use Rattle.std.specs.Prelude.{◌≡◌, ℕ, ◌+◌};
+
+use chip_node::{CoreBank, RouterNode};
+use link_queue::Link;
+use std::sync::Wait;
+use tcam_find::Tcam;
+
+/// The router of the chip of an index, or a bank of a chip's vertices.
+#[derive(Drop)]
+pub enum Actor {
+    Router(u32, RouterNode),
+    Bank(CoreBank),
+}
+
+impl Actor {
+    ghost use Rattle.mesh_run.specs.Acting.{IsReady, PlaysOn};
+
+    /// One turn.
+    pub(crate) fn turn<R: Wait>(&mut self, rt: &R, links: &[Link], tables: &[Tcam])
+        requires { IsReady links.now tables.now 1 self.old }
+        ensures { PlaysOn links.now tables.now 1 self.old self.new }
+    {
+        match self {
+            Actor::Router(index, node) => node.turn(rt, links, &tables[*index as usize]),
+            Actor::Bank(bank) => bank.turn(rt, links),
+        }
+    }
+}

@@ -1,0 +1,120 @@
+// Links with their ends, of which some may be lent.
+ghost use Rattle.std.specs.Prelude.{◌≡◌, ℕ, ◌+◌, ◌≤◌, ◌++◌, [], ◌∷◌, List, IfOk, IsSome};
+ghost use Rattle.link_queue.specs.declared.links.LinkEnds.{LinkEnds};
+ghost use Rattle.mesh_run.specs.Standing.{RisenTo, HoldsAll};
+
+use link_queue::{Link, LinkEnds, Rx, Tx};
+use spin_base::{McCopy, Memory, Room, Seq};
+use std::alloc::Global;
+
+/// Links that are brought up one after the other.
+#[derive(Drop)]
+pub(crate) struct Rising {
+    links: Room<Link>,
+    txs: Room<Option<Tx>>,
+    rxs: Room<Option<Rx>>,
+    rooms: Room<Room<McCopy>>,
+}
+
+/// Links, and at the same places their ends, as far as they are not lent, and room for what they hold.
+#[derive(Drop)]
+pub struct Standing {
+    pub links: Vec<Link>,
+    pub txs: Vec<Option<Tx>>,
+    pub rxs: Vec<Option<Rx>>,
+    pub rooms: Vec<Room<McCopy>>,
+}
+
+impl Rising {
+    /// No link, with room for so many.
+    pub fn over(alloc: Global, count: usize) -> Result<Rising, Memory>
+        ensures { IfOk result (RisenTo [] count) }
+    {
+        let links = room_for(alloc, count)?;
+        let txs = room_for(alloc, count)?;
+        let rxs = room_for(alloc, count)?;
+        let rooms = room_for(alloc, count)?;
+        Ok(Rising {
+            links,
+            txs,
+            rxs,
+            rooms,
+        })
+    }
+
+    /// One link more.
+    pub fn put(&mut self, ends: LinkEnds)
+        requires { (before : List LinkEnds) × (spare : ℕ) × RisenTo before (spare + 1) self.old }
+        ensures { (before : List LinkEnds) (spare : ℕ) → RisenTo before (spare + 1) self.old → RisenTo (before ++ ends ∷ []) spare self.new }
+    {
+        let LinkEnds { link, tx, rx, room } = ends;
+        self.links.put(link);
+        self.txs.put(Some(tx));
+        self.rxs.put(Some(rx));
+        self.rooms.put(room);
+    }
+
+    /// The links, all of whose ends are there.
+    pub fn into_standing(self) -> Standing
+        ensures { (before : List LinkEnds) (spare : ℕ) → RisenTo before spare self → HoldsAll before result }
+    {
+        let Rising {
+            links,
+            txs,
+            rxs,
+            rooms,
+        } = self;
+        Standing {
+            links: links.into_seq().into_vec(),
+            txs: txs.into_seq().into_vec(),
+            rxs: rxs.into_seq().into_vec(),
+            rooms: rooms.into_seq().into_vec(),
+        }
+    }
+}
+
+impl Standing {
+    /// The last link leaves, with both ends.
+    pub(crate) fn pop(&mut self) -> LinkEnds
+        requires { (rest : List LinkEnds) × (last : LinkEnds) × HoldsAll (rest ++ last ∷ []) self.old }
+        ensures { (rest : List LinkEnds) (last : LinkEnds) → HoldsAll (rest ++ last ∷ []) self.old → (result ≡ last) × HoldsAll rest self.new }
+    {
+        let link = last_of(&mut self.links);
+        let tx = present(last_of(&mut self.txs));
+        let rx = present(last_of(&mut self.rxs));
+        let room = last_of(&mut self.rooms);
+        LinkEnds { link, tx, rx, room }
+    }
+}
+
+// The last item, which leaves the list.
+fn last_of<T>(list: &mut Vec<T>) -> T
+    requires { (rest : List T) × (last : T) × (list.old.items ≡ rest ++ last ∷ []) }
+    ensures { list.old.items ≡ list.new.items ++ result ∷ [] }
+{
+    match list.pop() {
+        Some(last) => last,
+        None => unreachable!(),
+    }
+}
+
+// What is there.
+fn present<T>(there: Option<T>) -> T
+    requires { IsSome there }
+    ensures { there ≡ Some result }
+{
+    match there {
+        Some(x) => x,
+        None => unreachable!(),
+    }
+}
+
+// An empty list, with room for so many items.
+pub(crate) fn room_for<T: Drop>(alloc: Global, count: usize) -> Result<Room<T>, Memory>
+    ensures { IfOk result (λ room. (room.items ≡ []) × (count ≤ room.spare)) }
+{
+    match Room::over(Seq::new(alloc), count as u64) {
+        Ok(room) => Ok(room),
+        Err(_) => Err(Memory),
+    }
+}
