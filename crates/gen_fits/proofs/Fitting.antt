@@ -79,8 +79,8 @@ module _ (job : Drawn) (is : IsDrawn job) where
       let vertex = some_at (numbered vertex_of 0 job.sdrams) i (omega (arith, below, placed.all)) in
       let small : IsSmall vertex.0 = at_place IsSmall (numbered vertex_of 0 job.sdrams) i vertex.0 vertices_small vertex.1 in
       let core : IsCoreFor board placed.order (take i (numbered vertex_of 0 job.sdrams)) (take i spots) vertex.0 s =
-          subst (λ o. MatchOption o (IsCoreFor board placed.order (take i (numbered vertex_of 0 job.sdrams)) (take i spots) vertex.0 s) (λ device. HasDeviceRoom board device × (s ≡ device_spot device)))
-          small.device (placed.first.each i vertex.0 s vertex.1 at) in
+      subst (λ o. MatchOption o (IsCoreFor board placed.order (take i (numbered vertex_of 0 job.sdrams)) (take i spots) vertex.0 s) (λ device. HasDeviceRoom board device × (s ≡ device_spot device)))
+      small.device (placed.first.each i vertex.0 s vertex.1 at) in
       (and_parts (is_live_chip board s.chip) _ (and_parts _ _ core.free).0).0
 
   joined : (i : ℕ) (spots : List Spot) (memory : List ℕ) (target : Chip) → IsPlacement board (numbered vertex_of 0 job.sdrams) spots memory → (nets : List Net) → IsFirstCutOff board spots nets i target → ⊥

@@ -80,13 +80,13 @@ step c live =
     elim (or_cases (not (is_live_chip board c)) _ (goes c live)) [
       | inl dead ↦ absurd (false≢true (sym (not-true (is_live_chip board c) dead) ∙ live))
       | inr rest ↦ elim (or_cases (chip_eq c origin) _ rest) [
-          | inl same ↦ inl (chip_eq_true c origin same)
-          | inr parts ↦ (
-              let both = and_parts (is_live_link board c (toward c)) (is_nearer c (far_of board c (toward c))) parts in
-              let ends = live_ends board c (toward c) both.0 in
-              inr (nearer_at c ends.0 (toward c) live both.0 ends.1 ends.3 both.1)
-              )
-        ]
+        | inl same ↦ inl (chip_eq_true c origin same)
+        | inr parts ↦ (
+            let both = and_parts (is_live_link board c (toward c)) (is_nearer c (far_of board c (toward c))) parts in
+            let ends = live_ends board c (toward c) both.0 in
+            inr (nearer_at c ends.0 (toward c) live both.0 ends.1 ends.3 both.1)
+            )
+      ]
     ]
 
 -- ---- walks
@@ -106,8 +106,10 @@ join : (a b c : Chip) → Joins a b → Joins b c → Joins a c
 unfolding Joins
 join a b c one two = (
   one.0 ++ two.0,
-  (walk_more board a one.0 two.0 one.1.0 (subst (λ e. IsLiveWalk board (e ∷ two.0)) (sym one.1.1) two.1.0),
-    last_more a one.0 two.0 ∙ ap (λ e. last_of e two.0) one.1.1 ∙ two.1.1),
+  (
+    walk_more board a one.0 two.0 one.1.0 (subst (λ e. IsLiveWalk board (e ∷ two.0)) (sym one.1.1) two.1.0),
+    last_more a one.0 two.0 ∙ ap (λ e. last_of e two.0) one.1.1 ∙ two.1.1,
+  ),
 )
 
 by_link : (a b : Chip) → LeadsTo board a b → Joins a b

@@ -34,12 +34,12 @@ least_size keys size power enough which = record {
   least = λ p is above. elim (power_cases p is) [
     | inl one ↦ omega (arith, which)
     | inr more ↦ elim more [
-        | inl two ↦ omega (arith, which)
-        | inr more ↦ elim more [
-            | inl four ↦ omega (arith, which)
-            | inr more ↦ elim more [ inl eight ↦ omega (arith, which) | inr large ↦ omega (arith, which) ]
-          ]
+      | inl two ↦ omega (arith, which)
+      | inr more ↦ elim more [
+        | inl four ↦ omega (arith, which)
+        | inr more ↦ elim more [ inl eight ↦ omega (arith, which) | inr large ↦ omega (arith, which) ]
       ]
+    ]
   ];
 }
 
@@ -49,15 +49,15 @@ some_size keys some few =
     elim (cases_lt keys 2) [
       | inl less ↦ (1, least_size keys 1 (0, refl) (omega arith) (inl (refl, some)))
       | inr from2 ↦ elim (cases_lt keys 3) [
-          | inl less ↦ (2, least_size keys 2 (1, refl) (omega arith) (inr (inl (refl, from2))))
-          | inr from3 ↦ elim (cases_lt keys 5) [
-              | inl less ↦ (4, least_size keys 4 (2, refl) (omega arith) (inr (inr (inl (refl, from3)))))
-              | inr from5 ↦ elim (cases_lt keys 9) [
-                  | inl less ↦ (8, least_size keys 8 (3, refl) (omega arith) (inr (inr (inr (inl (refl, from5))))))
-                  | inr from9 ↦ (16, least_size keys 16 (4, refl) (omega arith) (inr (inr (inr (inr (refl, from9))))))
-                ]
-            ]
+        | inl less ↦ (2, least_size keys 2 (1, refl) (omega arith) (inr (inl (refl, from2))))
+        | inr from3 ↦ elim (cases_lt keys 5) [
+          | inl less ↦ (4, least_size keys 4 (2, refl) (omega arith) (inr (inr (inl (refl, from3)))))
+          | inr from5 ↦ elim (cases_lt keys 9) [
+            | inl less ↦ (8, least_size keys 8 (3, refl) (omega arith) (inr (inr (inr (inl (refl, from5))))))
+            | inr from9 ↦ (16, least_size keys 16 (4, refl) (omega arith) (inr (inr (inr (inr (refl, from9))))))
+          ]
         ]
+      ]
     ]
 
 -- such a size is at most 16, and divides 16
@@ -69,15 +69,15 @@ divides size i power small =
     elim (power_cases size power) [
       | inl one ↦ subst (λ s. (16 * i) % s ≡ 0) (sym one) (omega arith)
       | inr more ↦ elim more [
-          | inl two ↦ subst (λ s. (16 * i) % s ≡ 0) (sym two) (omega arith)
+        | inl two ↦ subst (λ s. (16 * i) % s ≡ 0) (sym two) (omega arith)
+        | inr more ↦ elim more [
+          | inl four ↦ subst (λ s. (16 * i) % s ≡ 0) (sym four) (omega arith)
           | inr more ↦ elim more [
-              | inl four ↦ subst (λ s. (16 * i) % s ≡ 0) (sym four) (omega arith)
-              | inr more ↦ elim more [
-                  | inl eight ↦ subst (λ s. (16 * i) % s ≡ 0) (sym eight) (omega arith)
-                  | inr large ↦ (let same : size ≡ 16 = omega (arith, large, small) in subst (λ s. (16 * i) % s ≡ 0) (sym same) (omega arith))
-                ]
-            ]
+            | inl eight ↦ subst (λ s. (16 * i) % s ≡ 0) (sym eight) (omega arith)
+            | inr large ↦ (let same : size ≡ 16 = omega (arith, large, small) in subst (λ s. (16 * i) % s ≡ 0) (sym same) (omega arith))
+          ]
         ]
+      ]
     ]
 
 -- ---- blocks
@@ -128,7 +128,7 @@ module _ (nets : List Net) (needs : (i : ℕ) (net : Net) → slice_get nets i �
         let net = some_at nets i in_nets in
         let need = needs i net.0 net.1 in
         let block : IsLeastBlock (fixed_of nets ++ take i blocks) net.0.keys b =
-            subst (λ o. MatchOption o (IsLeastBlock (fixed_of nets ++ take i blocks) net.0.keys b) (λ fixed. b ≡ fixed)) need.free (first.each i net.0 b net.1 at) in
+        subst (λ o. MatchOption o (IsLeastBlock (fixed_of nets ++ take i blocks) net.0.keys b) (λ fixed. b ≡ fixed)) need.free (first.each i net.0 b net.1 at) in
         let small : size_of b ≤ 16 = size_small net.0.keys (size_of b) need.few block.size in
         let low : b.key ≤ 16 * i = block.least (16 * i) (open_behind blocks i (size_of b) (omega arith) block.size.power small ends) in
         omega (arith, small, low)
@@ -150,6 +150,6 @@ module _ (nets : List Net) (needs : (i : ℕ) (net : Net) → slice_get nets i �
       let below : i < length nets = slice_get_within nets i out.net out.is in
       let size = some_size out.net.keys need.some need.few in
       let behind : IsOpen (fixed_of nets ++ take i out.blocks) size.0 (16 * i) =
-          open_behind out.blocks i size.0 (omega arith) size.1.power (size_small out.net.keys size.0 need.few size.1) (all_end out.blocks out.before i) in
+      open_behind out.blocks i size.0 (omega arith) size.1.power (size_small out.net.keys size.0 need.few size.1) (all_end out.blocks out.before i) in
       let whole : take i out.blocks ≡ out.blocks = take_all i out.blocks (omega (arith, out.here)) in
       out.none size.0 (16 * i) size.1 (subst (λ l. IsOpen (fixed_of nets ++ l) size.0 (16 * i)) whole behind)

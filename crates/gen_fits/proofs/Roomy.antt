@@ -92,18 +92,18 @@ stays s r [] other there = there
 stays s r (t ∷ ss) other there =
     elim (spot_eq s t) as (λ b. spot_eq s t ≡ b → list_any (spot_eq r) (if b then without s ss else t ∷ without s ss) ≡ true) [
       | true ↦ λ same. elim (or_cases (spot_eq r t) (list_any (spot_eq r) ss) there) [
-          | inl is ↦ (
-              let left : s ≡ t = spot_eq_true s t same in
-              let right : r ≡ t = spot_eq_true r t is in
-              let equal : s ≡ r = left ∙ sym right in
-              absurd (true≢false (sym (ap (spot_eq s) (sym equal) ∙ spot_eq_same s) ∙ other))
-              )
-          | inr later ↦ stays s r ss other later
-        ]
+        | inl is ↦ (
+            let left : s ≡ t = spot_eq_true s t same in
+            let right : r ≡ t = spot_eq_true r t is in
+            let equal : s ≡ r = left ∙ sym right in
+            absurd (true≢false (sym (ap (spot_eq s) (sym equal) ∙ spot_eq_same s) ∙ other))
+            )
+        | inr later ↦ stays s r ss other later
+      ]
       | false ↦ λ differs. elim (or_cases (spot_eq r t) (list_any (spot_eq r) ss) there) [
-          | inl is ↦ or_left (spot_eq r t) _ is
-          | inr later ↦ or_right (spot_eq r t) _ (stays s r ss other later)
-        ]
+        | inl is ↦ or_left (spot_eq r t) _ is
+        | inr later ↦ or_right (spot_eq r t) _ (stays s r ss other later)
+      ]
     ] refl
 
 other_core : (c : Chip) (p q : ℕ) → (p ≡ q → ⊥) → spot_eq (core_of c p) (core_of c q) ≡ false
@@ -115,7 +115,7 @@ taken c zero ss all = omega arith
 taken c (suc n) ss all =
     let one = on_without (core_of c (suc n)) ss (all (suc n) (omega arith) (omega arith)) in
     let rest = taken c n (without (core_of c (suc n)) ss)
-        (λ p some few. stays (core_of c (suc n)) (core_of c p) ss (other_core c (suc n) p (λ same. omega arith)) (all p some (omega arith))) in
+    (λ p some few. stays (core_of c (suc n)) (core_of c p) ss (other_core c (suc n) p (λ same. omega arith)) (all p some (omega arith))) in
     omega (arith, one, rest)
 
 -- one of the cores 1 to n that none of the spots is, or all are taken
@@ -124,9 +124,9 @@ pick c zero ss = inr (λ p some few. absurd (omega arith))
 pick c (suc n) ss = elim (cases_Bool (list_any (spot_eq (core_of c (suc n))) ss)) [
   | inr free ↦ inl (suc n, (omega arith, omega arith), free)
   | inl used ↦ elim (pick c n ss) [
-      | inl found ↦ inl (found.0, (found.1.0, omega (arith, found.1.1)), found.2)
-      | inr all ↦ inr (λ p some few. up_to p some few all used)
-    ]
+    | inl found ↦ inl (found.0, (found.1.0, omega (arith, found.1.1)), found.2)
+    | inr all ↦ inr (λ p some few. up_to p some few all used)
+  ]
 ]
   where
     up_to : (p : ℕ) → 1 ≤ p → p ≤ suc n → ((q : ℕ) → 1 ≤ q → q ≤ n → list_any (spot_eq (core_of c q)) ss ≡ true) → list_any (spot_eq (core_of c (suc n))) ss ≡ true → list_any (spot_eq (core_of c p)) ss ≡ true
@@ -261,9 +261,10 @@ order_live = filter_passes (is_live_chip board) (hilbert 3)
 all_full : (cs : List Chip) (vs : List Vertex) (ss : List Spot) (v : Vertex) → All IsSmall vs → IsSmall v → All (IsLiveChip board) cs → All (λ c. HasRoom board vs ss v c → ⊥) cs → AreFull cs ss
 unfolding AreFull
 all_full [] vs ss v small one live none = tt
-all_full (c ∷ cs) vs ss v small one live none =
-    (full c vs ss v (All-head (IsLiveChip board) c cs live) small one (All-head (λ d. HasRoom board vs ss v d → ⊥) c cs none),
-      all_full cs vs ss v small one (All-tail (IsLiveChip board) c cs live) (All-tail (λ d. HasRoom board vs ss v d → ⊥) c cs none))
+all_full (c ∷ cs) vs ss v small one live none = (
+  full c vs ss v (All-head (IsLiveChip board) c cs live) small one (All-head (λ d. HasRoom board vs ss v d → ⊥) c cs none),
+  all_full cs vs ss v small one (All-tail (IsLiveChip board) c cs live) (All-tail (λ d. HasRoom board vs ss v d → ⊥) c cs none),
+)
 
 no_room_nowhere : (vs : List Vertex) (ss : List Spot) (v : Vertex) → All IsSmall vs → IsSmall v → length ss < 816 → All (λ c. HasRoom board vs ss v c → ⊥) chip_order → ⊥
 no_room_nowhere vs ss v small one few none =
@@ -276,9 +277,9 @@ room_is_left vertices i few small none =
     let below : i < length vertices = slice_get_within vertices i none.vertex none.is in
     let one : IsSmall none.vertex = small_at vertices i none.vertex small none.is in
     let nowhere : All (λ c. HasRoom board (take i vertices) none.spots none.vertex c → ⊥) (choices none.order none.vertex.at) =
-        subst (λ o. MatchOption o (All (λ c. HasRoom board (take i vertices) none.spots none.vertex c → ⊥) (choices none.order none.vertex.at)) (λ device. HasDeviceRoom board device → ⊥)) one.device none.none in
+    subst (λ o. MatchOption o (All (λ c. HasRoom board (take i vertices) none.spots none.vertex c → ⊥) (choices none.order none.vertex.at)) (λ device. HasDeviceRoom board device → ⊥)) one.device none.none in
     let anywhere : All (λ c. HasRoom board (take i vertices) none.spots none.vertex c → ⊥) none.order =
-        subst (λ o. All (λ c. HasRoom board (take i vertices) none.spots none.vertex c → ⊥) (choices none.order o)) one.at nowhere in
+    subst (λ o. All (λ c. HasRoom board (take i vertices) none.spots none.vertex c → ⊥) (choices none.order o)) one.at nowhere in
     no_room_nowhere (take i vertices) none.spots none.vertex (All-take IsSmall i vertices small) one (omega (arith, below, few, none.here))
     (subst (All (λ c. HasRoom board (take i vertices) none.spots none.vertex c → ⊥)) (order_is none.order none.is_order) anywhere)
   where

@@ -27,6 +27,7 @@ few_nets n = let drawn' = is_drawn n in let many = drawn'.number_of_nets in let 
 
 -- the text of a number is read as its job
 pub is_generated : (n : ℕ) (text bytes : List ℕ) (job : Job) → json_of text ≡ Some (gen_value n) → bytes ≡ text → job_from (json_of bytes) ≡ Ok job → job ≡ gen_job n
+unfolding job_of
 is_generated n text bytes job reads same is =
     let value : job_from (json_of bytes) ≡ job_of (gen_value n) = ap (λ b. job_from (json_of b)) same ∙ ap job_from reads in
     let one : job_of (gen_value n) ≡ Ok (gen_job n) = of_value n in
@@ -34,7 +35,6 @@ is_generated n text bytes job reads same is =
     cc
   where
     of_value : (k : ℕ) → job_of (gen_value k) ≡ Ok (gen_job k)
-    unfolding job_of
     of_value k = ap (λ fs. job_by fs (job_value (gen_value k))) (generated_clean k) ∙ ap Ok (generated_is k)
 
 none_for : (n : ℕ) (e : CompileErr) (r : Refusal) → IsCause (gen_job n).machine (gen_job n).graph (gen_job n).run.target e → Names (gen_job n).graph e r → ⊥

@@ -82,8 +82,8 @@ told_count job plan mesh did report reported =
     let placed : List (List ℕ × Spot) = placed_of job.graph plan.placement.spots in
     ap length reported.delivered.named_each
     ∙ (length-map reported.delivered.sorted (named placed)
-    ∙ sym (length_permutation mesh.delivered reported.delivered.sorted reported.delivered.in_order.same_items))
+    ∙ length_permutation mesh.delivered reported.delivered.sorted reported.delivered.in_order.same_items)
 
 -- and no dump
 pub told_none : (job : Job) (plan : Plan) (mesh : State) (did : List Did) (report : Report) → mesh.dumped ≡ [] → IsReported job plan mesh did report → length report.dumped ≡ 0
-told_none job plan mesh did report none reported = sym (length_permutation mesh.dumped report.dumped reported.dumped.same_items) ∙ ap length none
+told_none job plan mesh did report none reported = length_permutation mesh.dumped report.dumped reported.dumped.same_items ∙ ap length none
