@@ -89,11 +89,7 @@ const BEFORE: &str =
 const AFTER: &str = "]}}";
 
 // What `trace` makes of these events.
-fn traced<Rt: Threads + Wait + Sync>(
-    rt: &Rt,
-    alloc: Global,
-    events: &str,
-) -> Result<Outcome, Fail>
+fn traced<Rt: Threads + Wait + Sync>(rt: &Rt, alloc: Global, events: &str) -> Result<Outcome, Fail>
     ensures { IfOk result (λ o. WhereRun o.parts (λ job plan mesh report. MeetsJobLedger mesh plan.nets job.run.packets)) }
 {
     let mut text = String::from_str(alloc, BEFORE)?;
