@@ -1,5 +1,5 @@
 -- Turns of actors, one after the other.
-use Rattle.std.proofs.Common.{◌≡◌, ℕ, ◌+◌, ◌-◌, ◌*◌, ◌<◌, ◌≤◌, List, length, get_or, refl, sym, ap, ◌∙◌, subst, arith}
+use Rattle.std.proofs.Common.{◌≡◌, ℕ, ◌+◌, ◌-◌, ◌<◌, ◌≤◌, List, length, get_or, refl, ◌∙◌, subst, arith}
 use Rattle.std.specs.List.{All}
 use Rattle.spin_base.specs.declared.blocks.Entry.{Entry}
 use Rattle.link_queue.specs.declared.links.Link.{Link}

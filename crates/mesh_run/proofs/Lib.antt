@@ -1,4 +1,6 @@
 mod Acting
 mod BringingUp
+mod ByPorts
 mod Going
 mod Holding
+mod Routed

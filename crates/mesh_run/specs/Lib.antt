@@ -1,3 +1,4 @@
 pub mod Acting
 pub mod Queues
+pub mod Routed
 pub mod Standing

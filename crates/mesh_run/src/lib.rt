@@ -5,6 +5,7 @@
 #![tactic(auto)]
 
 mod actors;
+pub mod laws;
 mod queues;
 mod shares;
 mod standing;
