@@ -80,7 +80,8 @@ impl Apps {
             return false;
         };
         let machine = mesh.machine();
-        machine.usable(s) && !self.taken[SPOTS * machine.index(s.chip) as usize + usize::from(s.core)]
+        machine.usable(s)
+            && !self.taken[SPOTS * machine.index(s.chip) as usize + usize::from(s.core)]
     }
 
     /// Whether an application of that number is loaded. It takes no memory.

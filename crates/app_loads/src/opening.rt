@@ -78,13 +78,23 @@ pub fn open_regions(alloc: Global, machine: &Machine) -> Result<Vec<Ranges>, Mem
 {
     let mut regions = Vec::new(alloc);
     regions.push(Ranges::new(alloc, 4_294_967_296)?)?;
-    push_regions(alloc, &mut regions, machine.chips(), u64::from(machine.sdram()))?;
+    push_regions(
+        alloc,
+        &mut regions,
+        machine.chips(),
+        u64::from(machine.sdram()),
+    )?;
     push_regions(alloc, &mut regions, machine.chips(), 1024)?;
     Ok(regions)
 }
 
 // Puts so many regions of that size at the back of the list.
-fn push_regions(alloc: Global, regions: &mut Vec<Ranges>, count: usize, size: u64) -> Result<(), Memory>
+fn push_regions(
+    alloc: Global,
+    regions: &mut Vec<Ranges>,
+    count: usize,
+    size: u64,
+) -> Result<(), Memory>
     requires { size ≤ 4294967296 }
     ensures { OnOk result (map free_of regions.new.items ≡ map free_of regions.old.items ++ replicate count (all_free size)) }
 {
