@@ -1,9 +1,9 @@
 -- What holds of a host without an application.
-use Rattle.std.proofs.Common.{◌≡◌, ◌≢◌, ℕ, ◌+◌, ◌-◌, ◌*◌, ◌/◌, ◌%◌, ◌^◌, ◌<◌, ◌≤◌, zero, suc, refl, sym, ap, ◌∙◌, subst, arith, inl, inr, ◌⊎◌, List, [], ◌∷◌, ◌++◌, map, length, replicate, Option, Some, None, Bool, true, false, ◌&&◌, ◌||◌, not, get_or, eqb, if◌then◌else◌, ◌==◌}
+use Rattle.std.proofs.Common.{◌≡◌, ℕ, ◌+◌, ◌-◌, ◌*◌, ◌/◌, ◌%◌, ◌<◌, ◌≤◌, zero, suc, refl, sym, ap, ◌∙◌, subst, arith, inl, inr, List, [], ◌∷◌, ◌++◌, length, replicate, Option, Some, None, Bool, true, false, ◌&&◌, not, get_or, if◌then◌else◌, ◌==◌}
 use Rattle.std.proofs.Common.{leb, ltb}
 use Rattle.std.proofs.lemmas.Bool.{cases_lt}
 use Rattle.std.proofs.lemmas.Bool.Decides.{nat_tests}
-use Rattle.std.specs.List.{slice_get, slice_index_or, All, AllPairs, Contains, list_any}
+use Rattle.std.specs.List.{slice_get, Contains}
 use Rattle.std.proofs.lemmas.List.{get_or-replicate, length-replicate, length-append, get_or_append_left, get_or-append_right}
 use Rattle.std.proofs.lemmas.List.Elements.{All-nil}
 use Rattle.std.proofs.lemmas.Option.{slice_get-get_or, slice_get_within, get_or_from_slice_get}
@@ -16,10 +16,8 @@ use Rattle.spin_base.specs.declared.copies.McCopy.{McCopy}
 use Rattle.machine_desc.specs.Description.{Description, HasSize}
 use Rattle.machine_desc.specs.Live.{index_of, chip_of, IsInside}
 use Rattle.machine_desc.proofs.Far.{index_below}
-use Rattle.range_store.specs.declared.holes.Hole.{Hole}
-use Rattle.range_store.specs.Regions.{AreRuns, hole_of, is_free, has_range}
+use Rattle.range_store.specs.Regions.{AreRuns, hole_of, is_free}
 use Rattle.tcam_find.specs.Memory.{empty_memory, unused}
-use Rattle.net_tables.specs.declared.nets.NetPlan.{NetPlan}
 use Rattle.net_tables.specs.NetsOn.{AreNetsOn}
 use Rattle.net_tables.specs.RightTables.{table_at}
 use Rattle.mesh_core.specs.State.{Setup, State, Held, IsMesh}
@@ -30,10 +28,9 @@ use Rattle.mesh_core.specs.VertexTable.{spot_place}
 use Rattle.mesh_core.proofs.Changes.{IsMesh-empty}
 use Rattle.mesh_core.proofs.VertexTableLaws.{spot_place-below}
 use Rattle.app_loads.specs.declared.loaded.LoadedApp.{LoadedApp}
-use Rattle.app_loads.specs.declared.loaded.Range.{Range}
-use Rattle.app_loads.specs.Host.{Free, Host, all_nets, all_ranges, all_spots, asked_of, is_spot_taken}
-use Rattle.app_loads.specs.Regions.{all_free, open_regions, chip_count, region_size, IsFreeBeside, AreApart}
-use Rattle.app_loads.specs.Applications.{AreApps, IsLoadedOn, HaveOtherNumbers, HaveRows}
+use Rattle.app_loads.specs.Host.{Free, Host, asked_of}
+use Rattle.app_loads.specs.Regions.{all_free, open_regions, chip_count, region_size, IsFreeBeside}
+use Rattle.app_loads.specs.Applications.{AreApps}
 use Rattle.app_loads.specs.Inner.{TellsTaken}
 use Rattle.app_loads.specs.Opening.{bare_mesh, bare_host, usable_spots}
 use Rattle.app_loads.proofs.Spots.{usable_different, usable_sites}

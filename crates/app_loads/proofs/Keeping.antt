@@ -1,6 +1,6 @@
 -- What holds of a host holds after events of its mesh.
-use Rattle.std.proofs.Common.{◌≡◌, ℕ, ◌+◌, ◌*◌, refl, sym, ap, ◌∙◌, subst, List, [], ◌∷◌, length, Option, Some, None}
-use Rattle.std.specs.List.{slice_get, All}
+use Rattle.std.proofs.Common.{◌≡◌, refl, sym, ap, ◌∙◌, subst, List, [], ◌∷◌}
+use Rattle.std.specs.List.{All}
 use Rattle.spin_base.specs.declared.copies.Event.{Event}
 use Rattle.mesh_core.specs.State.{Setup, State, IsMesh}
 use Rattle.mesh_core.specs.Step.{after_event, after_events}

@@ -1,29 +1,25 @@
 -- A copy that waits can be moved, and is lighter then.
-use Rattle.std.proofs.Common.{◌≡◌, ℕ, ◌+◌, ◌<◌, refl, sym, ap, ◌∙◌, subst, inl, inr, ◌⊎◌, Bool, true, false, ◌&&◌, not, if◌then◌else◌, List, [], ◌∷◌, ◌++◌, Option, Some, None}
+use Rattle.std.proofs.Common.{◌≡◌, ℕ, ◌<◌, refl, sym, ap, ◌∙◌, subst, inl, inr, Bool, true, false, ◌&&◌, not, if◌then◌else◌, List, [], ◌∷◌, ◌++◌, Option, Some, None}
 use Rattle.std.specs.Prelude.{unwrap_or, is_some}
-use Rattle.std.specs.List.{slice_get, All, Contains, list_any}
+use Rattle.std.specs.List.{slice_get, list_any}
 use Rattle.std.proofs.lemmas.List.Elements.{All-nil, All-append}
-use Rattle.std.proofs.lemmas.Bool.{and_from}
 use Rattle.spin_base.specs.declared.chips.Chip.{Chip}
 use Rattle.spin_base.specs.declared.chips.Port.{Port}
 use Rattle.spin_base.specs.declared.chips.Spot.{Spot}
 use Rattle.spin_base.specs.declared.routes.Out.{Out}
 use Rattle.spin_base.specs.declared.copies.McCopy.{McCopy}
 use Rattle.spin_base.specs.declared.copies.Event.{Event}
-use Rattle.spin_base.specs.declared.copies.Event.TheVariants.{Inject, Take, Send, Dump, Collect}
+use Rattle.spin_base.specs.declared.copies.Event.TheVariants.{Take, Send, Dump, Collect}
 use Rattle.spin_base.specs.Equality.{out_eq}
 use Rattle.spin_base.proofs.Equality.{out_eq_same}
 use Rattle.list_laws.proofs.Members.{Among, among_contains, among_any}
 use Rattle.list_laws.proofs.Places.{All-at}
 use Rattle.machine_desc.specs.Branch.{Exit, IsBranch}
-use Rattle.machine_desc.specs.Live.{index_of, is_live_chip, IsInside, IsLiveChip}
-use Rattle.machine_desc.specs.RoutingTree.{end_of}
-use Rattle.machine_desc.specs.declared.trees.Edge.{Edge}
+use Rattle.machine_desc.specs.Live.{index_of, is_live_chip, IsLiveChip}
 use Rattle.machine_desc.proofs.TreeLemmas.{edge_lives}
 use Rattle.net_tables.specs.declared.nets.NetPlan.{NetPlan}
-use Rattle.mesh_core.specs.State.{State, Held, behind, queue_at, IsMesh}
-use Rattle.mesh_core.specs.Step.{has_room_behind, serves, take_of, send_of, dump_of, collect_of, step_of, after_event, after_events, answer}
-use Rattle.mesh_core.specs.declared.places.Did.{Did}
+use Rattle.mesh_core.specs.State.{State, Held, behind, queue_at}
+use Rattle.mesh_core.specs.Step.{has_room_behind, take_of, send_of, dump_of, collect_of, step_of, after_event, after_events, answer}
 use Rattle.mesh_core.specs.declared.places.Did.TheVariants.{Moved, Idle}
 use Rattle.mesh_core.specs.HasRun.{DropsNone}
 use Rattle.mesh_core.specs.Expected.{NothingWaits}

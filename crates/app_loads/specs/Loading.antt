@@ -14,7 +14,7 @@ use Rattle.app_loads.specs.declared.loaded.LoadedApp.{LoadedApp}
 use Rattle.app_loads.specs.declared.plans.AppPlan.{AppPlan}
 use Rattle.app_loads.specs.Host.{Host, all_ranges, is_loaded, nets_of}
 use Rattle.app_loads.specs.Regions.{rows_region, is_taken}
-use Rattle.app_loads.specs.Claims.{claims_of, AreServed, AreBlocks, IsRefusalDue}
+use Rattle.app_loads.specs.Claims.{claims_of, AreServed, IsRefusalDue}
 
 -- An application's vertex sends the copies of its nets' packets, in the order of the list.
 abbrev pub sent_by : List Spot → LoadedApp → ℕ → List McCopy

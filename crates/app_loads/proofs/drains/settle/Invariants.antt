@@ -1,4 +1,3 @@
-use Rattle.std.proofs.Common.{ℕ}
 use Rattle.mesh_core.specs.Expected.{NothingWaits}
 use Rattle.packet_runs.specs.UnderWay.{weight_in}
 use Rattle.app_loads.specs.Running.{IsMoved}

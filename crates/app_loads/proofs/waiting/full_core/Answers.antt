@@ -1,4 +1,4 @@
-use Rattle.std.proofs.Common.{◌≡◌, ap, arith, length}
+use Rattle.std.proofs.Common.{ap, arith, length}
 use Rattle.app_loads.proofs.Ports.{few_in_mesh, no_core}
 use Rattle.app_loads.proofs.waiting.full_core.Goals as goal
 

@@ -1,4 +1,4 @@
-use Rattle.std.proofs.Common.{◌≡◌, ◌*◌, ap, arith}
+use Rattle.std.proofs.Common.{◌*◌, ap, arith}
 use Rattle.machine_desc.specs.Description.{Description}
 use Rattle.app_loads.proofs.Ports.{no_hand}
 use Rattle.app_loads.proofs.waiting.full_hand.Goals as goal

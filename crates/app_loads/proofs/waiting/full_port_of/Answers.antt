@@ -1,4 +1,4 @@
-use Rattle.std.proofs.Common.{◌≡◌, [], Some, arith, ℕ}
+use Rattle.std.proofs.Common.{◌≡◌, [], Some, arith}
 use Rattle.std.specs.List.{slice_get}
 use Rattle.spin_base.specs.declared.chips.Port.{Port}
 use Rattle.mesh_core.specs.State.{queue_at}

@@ -1,4 +1,4 @@
-use Rattle.std.proofs.Common.{◌≡◌, ap, ◌∙◌, List}
+use Rattle.std.proofs.Common.{ap, ◌∙◌, List}
 use Rattle.std.specs.List.{slice_get}
 use Rattle.spin_base.specs.declared.routes.Out.{Out}
 use Rattle.mesh_core.specs.State.{Held}
