@@ -1,0 +1,241 @@
+-- What holds of a host without an application.
+use Rattle.std.proofs.Common.{◌≡◌, ℕ, ◌+◌, ◌-◌, ◌*◌, ◌/◌, ◌%◌, ◌<◌, ◌≤◌, zero, suc, refl, sym, ap, ◌∙◌, subst, arith, inl, inr, List, [], ◌∷◌, ◌++◌, length, replicate, Option, Some, None, Bool, true, false, ◌&&◌, not, get_or, if◌then◌else◌, ◌==◌}
+use Rattle.std.proofs.Common.{leb, ltb}
+use Rattle.std.proofs.lemmas.Bool.{cases_lt}
+use Rattle.std.proofs.lemmas.Bool.Decides.{nat_tests}
+use Rattle.std.specs.List.{slice_get, Contains}
+use Rattle.std.proofs.lemmas.List.{get_or-replicate, length-replicate, length-append, get_or_append_left, get_or-append_right}
+use Rattle.std.proofs.lemmas.List.Elements.{All-nil}
+use Rattle.std.proofs.lemmas.Option.{slice_get-get_or, slice_get_within, get_or_from_slice_get}
+use Rattle.list_laws.proofs.Members.{Contains-none}
+use Rattle.list_laws.proofs.Gathering.{gathered_nothing}
+use Rattle.spin_base.specs.declared.blocks.Entry.{Entry}
+use Rattle.spin_base.specs.declared.chips.Chip.{Chip}
+use Rattle.spin_base.specs.declared.chips.Spot.{Spot}
+use Rattle.spin_base.specs.declared.copies.McCopy.{McCopy}
+use Rattle.machine_desc.specs.Description.{Description, HasSize}
+use Rattle.machine_desc.specs.Live.{index_of, chip_of, IsInside}
+use Rattle.machine_desc.proofs.Far.{index_below}
+use Rattle.range_store.specs.Regions.{AreRuns, hole_of, is_free}
+use Rattle.tcam_find.specs.Memory.{empty_memory, unused}
+use Rattle.net_tables.specs.NetsOn.{AreNetsOn}
+use Rattle.net_tables.specs.RightTables.{table_at}
+use Rattle.mesh_core.specs.State.{Setup, State, Held, IsMesh}
+use Rattle.mesh_core.specs.Trail.{Mark, unsent, in_queue, at_core}
+use Rattle.mesh_core.specs.Ledger.{marks_of, marked, hand_marks, port_of, unsent_marks, input_marks, all_hand_marks, core_marks, MeetsLedgerFor}
+use Rattle.mesh_core.specs.Opened.{empty_mesh}
+use Rattle.mesh_core.specs.VertexTable.{spot_place}
+use Rattle.mesh_core.proofs.Changes.{IsMesh-empty}
+use Rattle.mesh_core.proofs.VertexTableLaws.{spot_place-below}
+use Rattle.app_loads.specs.declared.loaded.LoadedApp.{LoadedApp}
+use Rattle.app_loads.specs.Host.{Free, Host, asked_of}
+use Rattle.app_loads.specs.Regions.{all_free, open_regions, chip_count, region_size, IsFreeBeside}
+use Rattle.app_loads.specs.Applications.{AreApps}
+use Rattle.app_loads.specs.Inner.{TellsTaken}
+use Rattle.app_loads.specs.Opening.{bare_mesh, bare_host, usable_spots}
+use Rattle.app_loads.proofs.Spots.{usable_different, usable_sites}
+
+-- ---- copies
+
+no_marks : (u : Setup) → marks_of (empty_mesh u) ≡ []
+no_marks u =
+    let first : unsent_marks (empty_mesh u) ≡ [] = gathered_nothing (λ v (copies : List McCopy). marked (unsent v) copies) [] (λ j. refl) 0 (length u.spots) in
+    let second : input_marks (empty_mesh u) ≡ [] =
+    gathered_nothing (λ i (copies : List McCopy). marked (in_queue (chip_of u.machine (i / 7)) (port_of (i % 7))) copies) [] (λ j. refl) 0 (7 * (u.machine.width * u.machine.height)) in
+    let third : all_hand_marks (empty_mesh u) ≡ [] =
+    gathered_nothing (λ i (h : Option Held). hand_marks (chip_of u.machine i) h) None (λ j. refl) 0 (u.machine.width * u.machine.height) in
+    let fourth : core_marks (empty_mesh u) ≡ [] = gathered_nothing (λ v (copies : List McCopy). marked (at_core v) copies) [] (λ j. refl) 0 (length u.spots) in
+    joined (unsent_marks (empty_mesh u)) (input_marks (empty_mesh u)) (all_hand_marks (empty_mesh u)) (core_marks (empty_mesh u)) first second third fourth
+  where
+    joined : (a b c d : List Mark) → a ≡ [] → b ≡ [] → c ≡ [] → d ≡ [] → a ++ (b ++ (c ++ (d ++ ([] ++ [])))) ≡ []
+    joined a b c d ea eb ec ed =
+        ap (λ l. l ++ (b ++ (c ++ (d ++ ([] ++ []))))) ea ∙ (ap (λ l. l ++ (c ++ (d ++ ([] ++ [])))) eb ∙ (ap (λ l. l ++ (d ++ ([] ++ []))) ec ∙ ap (λ l. l ++ ([] ++ [])) ed))
+
+none_marked : (u : Setup) (k : Mark) → Contains (marks_of (empty_mesh u)) k → ⊥
+none_marked u k has = Contains-none k (subst (λ (l : List Mark). Contains l k) (no_marks u) has)
+
+no_nets : (m : Description) (spots : List Spot) → AreNetsOn m spots []
+no_nets m spots = record {
+  disjoint = λ i j d before within. absurd (omega (arith, within));
+  trees = All-nil _;
+  roots = All-nil _;
+  sources = All-nil _;
+  targets = All-nil _;
+  different = All-nil _;
+}
+
+no_ledger : (u : Setup) → MeetsLedgerFor (empty_mesh u) [] (asked_of [])
+no_ledger u = record {
+  ledger = record {
+    nets_stand = no_nets u.machine u.spots;
+    labelled = λ k has. absurd (none_marked u k has);
+    on_a_trail = λ k has. absurd (none_marked u k has);
+    once_on_each = λ k has. absurd (none_marked u k has);
+  };
+  of_its_net = λ i a asked. absurd (cc);
+  was_asked = λ k has. absurd (none_marked u k has);
+  each_asked = λ i a asked. absurd (cc);
+}
+
+-- ---- regions
+
+hole_whole : (size : ℕ) → 0 < size → hole_of 0 size ≡ record { place = 0; len = size - 0 } ∷ []
+hole_whole size some = let t : ltb 0 size ≡ true = grind (arith, nat_tests) in rw t refl
+
+hole_none : (size : ℕ) → size ≤ 0 → hole_of 0 size ≡ []
+hole_none size none = let t : ltb 0 size ≡ false = grind (arith, nat_tests) in rw t refl
+
+free_from_zero : (size k : ℕ) → is_free (hole_of 0 size) k ≡ ltb k size
+free_from_zero size k =
+    elim (cases_lt 0 size) [
+      | inl lt ↦ rw (hole_whole size lt) (grind (arith, nat_tests))
+      | inr ge ↦ rw (hole_none size ge) (grind (arith, nat_tests))
+    ]
+
+and_all : (b : Bool) → b ≡ (b && not false)
+and_all true = refl
+and_all false = refl
+
+all_free_runs : (size : ℕ) → AreRuns 0 size (hole_of 0 size)
+all_free_runs size =
+    elim (cases_lt 0 size) [
+      | inl lt ↦ subst (AreRuns 0 size) (sym (hole_whole size lt)) (omega arith, omega (arith, lt), omega arith, tt)
+      | inr ge ↦ subst (AreRuns 0 size) (sym (hole_none size ge)) tt
+    ]
+
+free_beside_none : (m : Description) (region size : ℕ) → size ≡ region_size m region → IsFreeBeside m [] region (all_free size)
+free_beside_none m region size is = record {
+  size = is;
+  runs = all_free_runs size;
+  free = λ k. free_from_zero size k ∙ and_all (ltb k size);
+}
+
+-- the three kinds of regions
+module _ (m : Description) where
+  abbrev n : ℕ
+  n = chip_count m
+
+  abbrev memories : List Free
+  memories = replicate n (all_free m.sdram)
+
+  abbrev tables : List Free
+  tables = replicate n (all_free 1024)
+
+  long : length (open_regions m) ≡ 1 + (n + n)
+  long =
+      let one = length-replicate n (all_free m.sdram) in
+      let two = length-replicate n (all_free 1024) in
+      let both = length-append memories tables in
+      let whole : length (open_regions m) ≡ suc (length (memories ++ tables)) = refl in
+      omega (arith, one, two, both, whole)
+
+  at_size : (region : ℕ) (f : Free) → slice_get (open_regions m) region ≡ Some f → f ≡ all_free (region_size m region)
+  at_size zero f is = some_same is
+    where
+      some_same : Some (all_free 4294967296) ≡ Some f → f ≡ all_free 4294967296
+      some_same e = cc
+  at_size (suc i) f is = by_kind (leb (suc i) n) refl ∙ ap (λ b. all_free (if b then 4294967296 else (if leb (suc i) n then m.sdram else 1024))) (sym (not_zero i))
+    where
+      not_zero : (j : ℕ) → (suc j == 0) ≡ false
+      not_zero j = grind arith
+
+      d : Free
+      d = all_free 0
+
+      within : suc i < length (open_regions m)
+      within = slice_get_within (open_regions m) (suc i) f is
+
+      got : f ≡ get_or (memories ++ tables) i d
+      got = sym (get_or_from_slice_get (open_regions m) (suc i) f d is)
+
+      one : length memories ≡ n
+      one = length-replicate n (all_free m.sdram)
+
+      le_true : (a b : ℕ) → leb a b ≡ true → a ≤ b
+      le_true a b e = grind (arith, nat_tests)
+
+      le_false : (a b : ℕ) → leb a b ≡ false → b < a
+      le_false a b e = grind (arith, nat_tests)
+
+      by_kind : (b : Bool) → leb (suc i) n ≡ b → f ≡ all_free (if leb (suc i) n then m.sdram else 1024)
+      by_kind true le =
+          subst (λ b. f ≡ all_free (if b then m.sdram else 1024)) (sym le) (
+          let below = le_true (suc i) n le in
+          let e = one in
+          got ∙ (get_or_append_left memories tables d i (omega (arith, e, below)) ∙ get_or-replicate n i (all_free m.sdram) d (omega (arith, below))))
+      by_kind false le =
+          subst (λ b. f ≡ all_free (if b then m.sdram else 1024)) (sym le) (
+          let above = le_false (suc i) n le in
+          let all = long in
+          let w = within in
+          got ∙ (get_or-append_right memories tables n i d one (omega (arith, above)) ∙ get_or-replicate n (i - n) (all_free 1024) d (omega (arith, w, all, above))))
+
+  -- nothing is taken of any region
+  none_taken : (region : ℕ) (f : Free) → slice_get (open_regions m) region ≡ Some f → IsFreeBeside m [] region f
+  none_taken region f is = subst (IsFreeBeside m [] region) (sym (at_size region f is)) (free_beside_none m region (region_size m region) refl)
+
+-- ---- entries and spots
+
+replicated : {X : Type 0} (n i : ℕ) (x : X) → i < n → slice_get (replicate n x) i ≡ Some x
+replicated n i x below =
+    slice_get-get_or (replicate n x) i x (let long = length-replicate n x in omega (arith, long, below)) ∙ ap Some (get_or-replicate n i x x below)
+
+empty_at : (k : ℕ) → k < 1024 → slice_get empty_memory k ≡ Some unused
+unfolding empty_memory
+empty_at k below = replicated 1024 k unused below
+
+no_entries : (m : Description) (c : Chip) (k : ℕ) → IsInside m c → k < 1024 → slice_get (table_at m (replicate (m.width * m.height) empty_memory) c) k ≡ Some unused
+no_entries m c k inside below =
+    ap (λ (l : List Entry). slice_get l k) (get_or-replicate (m.width * m.height) (index_of m c) empty_memory [] (index_below m c inside)) ∙ empty_at k below
+
+pub none_held : (m : Description) → TellsTaken m [] (replicate (24 * (m.width * m.height)) false)
+none_held m = record {
+  long = length-replicate (24 * (m.width * m.height)) false;
+  told = λ s inside few. replicated (24 * (m.width * m.height)) (spot_place m s) false (spot_place-below m s inside few);
+}
+
+-- ---- the host
+
+pub bare_is_mesh : (m : Description) (q : ℕ) → HasSize m → 1 ≤ q → IsMesh (bare_mesh m q)
+bare_is_mesh m q size room =
+    let u : Setup = record { machine = m; spots = usable_spots m; tables = replicate (m.width * m.height) empty_memory; capacity = q } in
+    IsMesh-empty u size (usable_different m) (usable_sites m) room (length-replicate (m.width * m.height) empty_memory)
+
+pub bare_apps : (m : Description) (q : ℕ) → IsMesh (bare_mesh m q) → AreApps (bare_host m q)
+bare_apps m q mesh = record {
+  mesh = mesh;
+  vertices = refl;
+  numbers = λ i j d before within. absurd (omega (arith, within));
+  spots = λ i j d before within. absurd (omega (arith, within));
+  loaded = All-nil _;
+  apart = λ i j d before within. absurd (omega (arith, within));
+  free = record { all = long m; each = none_taken m };
+  disjoint = λ i j d before within. absurd (omega (arith, within));
+  rows = record { rows = All-nil _; others = λ c k inside below free. no_entries m c k inside below };
+  right = All-nil _;
+  ledger = no_ledger (bare_mesh m q).setup;
+  ascending = λ i j d before within. absurd (omega (arith, within));
+  counted = All-nil _;
+  few_packets = omega arith;
+}
+
+-- ---- the same of the parts that were made
+
+pub bare_is : (m : Description) (q : ℕ) (mesh : State) (regions : List Free) (apps : List LoadedApp) → mesh ≡ bare_mesh m q → regions ≡ open_regions m → apps ≡ [] →
+    (let h : Host = record { mesh = mesh; regions = regions; apps = apps; packets = 0 } in h ≡ bare_host m q)
+bare_is m q mesh regions apps is_mesh are_open none =
+    ap (λ x. let h : Host = record { mesh = x; regions = regions; apps = apps; packets = 0 } in h) is_mesh
+    ∙ (ap (λ x. let h : Host = record { mesh = bare_mesh m q; regions = x; apps = apps; packets = 0 } in h) are_open
+    ∙ ap (λ x. let h : Host = record { mesh = bare_mesh m q; regions = open_regions m; apps = x; packets = 0 } in h) none)
+
+pub made_apps : (m : Description) (q : ℕ) (mesh : State) (regions : List Free) (apps : List LoadedApp) → mesh ≡ bare_mesh m q → regions ≡ open_regions m → apps ≡ [] → IsMesh mesh →
+    (let h : Host = record { mesh = mesh; regions = regions; apps = apps; packets = 0 } in AreApps h)
+made_apps m q mesh regions apps is_mesh are_open none whole =
+    subst AreApps (sym (bare_is m q mesh regions apps is_mesh are_open none)) (bare_apps m q (subst IsMesh is_mesh whole))
+
+pub made_taken : (m : Description) (q : ℕ) (mesh : State) (apps : List LoadedApp) (taken : List Bool) → mesh ≡ bare_mesh m q → apps ≡ [] →
+    taken ≡ replicate (24 * (m.width * m.height)) false → TellsTaken mesh.setup.machine apps taken
+made_taken m q mesh apps taken is_mesh none clear =
+    subst (λ (s : State). TellsTaken s.setup.machine apps taken) (sym is_mesh)
+    (subst (λ (l : List LoadedApp). TellsTaken m l taken) (sym none)
+    (subst (λ (l : List Bool). TellsTaken m [] l) (sym clear) (none_held m)))

@@ -1,0 +1,49 @@
+-- The fields of a host are those of one after events of its mesh.
+use Rattle.std.proofs.Common.{◌≡◌, refl, sym, ap, subst, Some, Result, Ok, Err, OnOk, OnErr}
+use Rattle.spin_base.specs.declared.copies.Event.{Event}
+use Rattle.spin_base.specs.declared.wants.Memory.{Memory}
+use Rattle.mesh_core.specs.declared.places.Did.{Did}
+use Rattle.mesh_core.specs.State.{Setup, State}
+use Rattle.mesh_core.specs.Step.{after_event}
+use Rattle.app_loads.specs.declared.apps.Apps.TheInside.{Inside}
+use Rattle.app_loads.specs.Host.{Host}
+use Rattle.app_loads.specs.Applications.{AreApps}
+use Rattle.app_loads.specs.Inner.{mesh_in, host_of, TellsTaken, IsHost}
+use Rattle.app_loads.specs.Running.{IsAfter, IsMoved, HasMoved}
+use Rattle.packet_runs.specs.Draining.{IsKept}
+use Rattle.app_loads.proofs.Keeping.{apps_after, apps_kept, after_setup}
+use Rattle.app_loads.proofs.Moving.{after_none, after_one}
+
+mesh_is : (i : Inside) (m : State) → i.mesh ≡ Some m → (host_of i).mesh ≡ m
+mesh_is i m e = ap mesh_in e
+
+-- the mesh of a host can be drained
+pub host_kept : (i : Inside) (m : State) → IsHost i → i.mesh ≡ Some m → IsKept m
+host_kept i m host e = subst IsKept (mesh_is i m e) (apps_kept (host_of i) host.apps)
+
+after_in : (i : Inside) (m t : State) → i.mesh ≡ Some m → IsAfter m t → IsAfter (host_of i).mesh t
+after_in i m t e after = subst (λ x. IsAfter x t) (sym (mesh_is i m e)) after
+
+pub apps_after_in : (i : Inside) (m t : State) → IsHost i → i.mesh ≡ Some m → IsAfter m t → AreApps (host_of (record i { mesh = Some t }))
+apps_after_in i m t host e after = apps_after (host_of i) t host.apps (after_in i m t e after)
+
+pub host_after : (i : Inside) (m t : State) → IsHost i → i.mesh ≡ Some m → IsAfter m t → IsHost (record i { mesh = Some t })
+host_after i m t host e after = record {
+  there = refl;
+  apps = apps_after_in i m t host e after;
+  taken = subst (λ (u : Setup). TellsTaken u.machine i.apps.items i.taken.items) (sym (after_setup (host_of i).mesh t (after_in i m t e after))) host.taken;
+}
+
+-- what moved in the mesh, moved in the host
+pub host_moved : (i : Inside) (m t : State) (old : Host) → host_of i ≡ old → i.mesh ≡ Some m → IsMoved m t → HasMoved old (host_of (record i { mesh = Some t }))
+host_moved i m t old is e moved =
+    subst (λ h. HasMoved h (host_of (record i { mesh = Some t }))) is
+    (record { mesh = subst (λ x. IsMoved x t) (sym (mesh_is i m e)) moved; others = refl })
+
+pub after_of_moved : (s t : State) → IsMoved s t → IsAfter s t
+after_of_moved s t moved = record { events = moved.events; is = moved.is }
+
+-- whatever a step answers, it is an event or nothing
+pub step_after : (r : Result Did Memory) (s t : State) (e : Event) → OnOk r (t ≡ after_event s e) → OnErr r (t ≡ s) → IsAfter s t
+step_after (Ok did) s t e moves refused = after_one s t e moves
+step_after (Err want) s t e moves refused = subst (IsAfter s) (sym refused) (after_none s)

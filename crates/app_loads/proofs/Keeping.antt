@@ -1,0 +1,55 @@
+-- What holds of a host holds after events of its mesh.
+use Rattle.std.proofs.Common.{◌≡◌, refl, sym, ap, ◌∙◌, subst, List, [], ◌∷◌}
+use Rattle.std.specs.List.{All}
+use Rattle.spin_base.specs.declared.copies.Event.{Event}
+use Rattle.mesh_core.specs.State.{Setup, State, IsMesh}
+use Rattle.mesh_core.specs.Step.{after_event, after_events}
+use Rattle.mesh_core.specs.Ledger.{MeetsLedgerFor, label_of}
+use Rattle.mesh_core.proofs.EventsLaw.{IsMesh-after_events, events_keep_for}
+use Rattle.mesh_core.proofs.Fixed.{after_event_setup}
+use Rattle.net_tables.specs.RightTables.{AreRight}
+use Rattle.packet_runs.specs.Draining.{IsKept}
+use Rattle.app_loads.specs.Host.{Host, all_nets, all_ranges, asked_of}
+use Rattle.app_loads.specs.Regions.{AreFreeBeside}
+use Rattle.app_loads.specs.Applications.{AreApps, IsLoadedOn, HaveRows}
+use Rattle.app_loads.specs.Opening.{usable_spots}
+use Rattle.app_loads.specs.Running.{IsAfter}
+
+pub setup_after : (s : State) (es : List Event) → (after_events s es).setup ≡ s.setup
+setup_after s [] = refl
+setup_after s (e ∷ es) = setup_after (after_event s e) es ∙ after_event_setup s e
+
+pub after_setup : (s t : State) → IsAfter s t → t.setup ≡ s.setup
+after_setup s t after = ap (λ (x : State). x.setup) after.is ∙ setup_after s after.events
+
+-- another mesh of the same setup
+other_mesh : (h : Host) (mesh : State) → mesh.setup ≡ h.mesh.setup → IsMesh mesh → MeetsLedgerFor mesh (all_nets h.apps) (asked_of h.apps) → AreApps h →
+    AreApps (record h { mesh = mesh })
+other_mesh h mesh same is_mesh ledger apps = record {
+  mesh = is_mesh;
+  vertices = subst (λ (u : Setup). u.spots ≡ usable_spots u.machine) (sym same) apps.vertices;
+  numbers = apps.numbers;
+  spots = apps.spots;
+  loaded = subst (λ (u : Setup). All (IsLoadedOn u.machine) h.apps) (sym same) apps.loaded;
+  apart = apps.apart;
+  free = subst (λ (u : Setup). AreFreeBeside u.machine (all_ranges h.apps) h.regions) (sym same) apps.free;
+  disjoint = apps.disjoint;
+  rows = subst (λ (u : Setup). HaveRows u.machine u.tables h.apps) (sym same) apps.rows;
+  right = subst (λ (u : Setup). AreRight u.machine u.tables (all_nets h.apps)) (sym same) apps.right;
+  ledger = ledger;
+  ascending = apps.ascending;
+  counted = apps.counted;
+  few_packets = apps.few_packets;
+}
+
+pub apps_after : (h : Host) (mesh : State) → AreApps h → IsAfter h.mesh mesh → AreApps (record h { mesh = mesh })
+apps_after h mesh apps after =
+    other_mesh h mesh (after_setup h.mesh mesh after)
+    (subst IsMesh (sym after.is) (IsMesh-after_events h.mesh after.events apps.mesh))
+    (subst (λ (s : State). MeetsLedgerFor s (all_nets h.apps) (asked_of h.apps)) (sym after.is)
+    (events_keep_for h.mesh (all_nets h.apps) (asked_of h.apps) apps.mesh apps.right apps.ledger after.events))
+    apps
+
+-- the mesh of a host can be drained
+pub apps_kept : (h : Host) → AreApps h → IsKept h.mesh
+apps_kept h apps = record { mesh = apps.mesh; nets = all_nets h.apps; labels = λ i. label_of (asked_of h.apps i); right = apps.right; ledger = apps.ledger.ledger }

@@ -1,0 +1,7 @@
+mod Bare
+mod Hosts
+mod Keeping
+mod Moving
+mod Ports
+mod Spots
+mod Weights

@@ -1,0 +1,214 @@
+-- A copy that waits can be moved, and is lighter then.
+use Rattle.std.proofs.Common.{◌≡◌, ℕ, ◌<◌, refl, sym, ap, ◌∙◌, subst, inl, inr, Bool, true, false, ◌&&◌, not, if◌then◌else◌, List, [], ◌∷◌, ◌++◌, Option, Some, None}
+use Rattle.std.specs.Prelude.{unwrap_or, is_some}
+use Rattle.std.specs.List.{slice_get, list_any}
+use Rattle.std.proofs.lemmas.List.Elements.{All-nil, All-append}
+use Rattle.spin_base.specs.declared.chips.Chip.{Chip}
+use Rattle.spin_base.specs.declared.chips.Port.{Port}
+use Rattle.spin_base.specs.declared.chips.Spot.{Spot}
+use Rattle.spin_base.specs.declared.routes.Out.{Out}
+use Rattle.spin_base.specs.declared.copies.McCopy.{McCopy}
+use Rattle.spin_base.specs.declared.copies.Event.{Event}
+use Rattle.spin_base.specs.declared.copies.Event.TheVariants.{Take, Send, Dump, Collect}
+use Rattle.spin_base.specs.Equality.{out_eq}
+use Rattle.spin_base.proofs.Equality.{out_eq_same}
+use Rattle.list_laws.proofs.Members.{Among, among_contains, among_any}
+use Rattle.list_laws.proofs.Places.{All-at}
+use Rattle.machine_desc.specs.Branch.{Exit, IsBranch}
+use Rattle.machine_desc.specs.Live.{index_of, is_live_chip, IsLiveChip}
+use Rattle.machine_desc.proofs.TreeLemmas.{edge_lives}
+use Rattle.net_tables.specs.declared.nets.NetPlan.{NetPlan}
+use Rattle.mesh_core.specs.State.{State, Held, behind, queue_at}
+use Rattle.mesh_core.specs.Step.{has_room_behind, take_of, send_of, dump_of, collect_of, step_of, after_event, after_events, answer}
+use Rattle.mesh_core.specs.declared.places.Did.TheVariants.{Moved, Idle}
+use Rattle.mesh_core.specs.HasRun.{DropsNone}
+use Rattle.mesh_core.specs.Expected.{NothingWaits}
+use Rattle.mesh_core.specs.Trail.{in_queue, in_hand}
+use Rattle.mesh_core.specs.Ledger.{marks_of}
+use Rattle.mesh_core.proofs.EventsLaw.{events_keep}
+use Rattle.mesh_core.proofs.Law.{leaves_parts, comes_parts}
+use Rattle.mesh_core.proofs.LedgerLaw.{right_before, stands}
+use Rattle.mesh_core.proofs.Moves.{mark}
+use Rattle.mesh_core.proofs.Standing.{queued_mark, held_mark}
+use Rattle.mesh_core.proofs.Ways.{Stands, root_lives, branch_comes_in}
+use Rattle.packet_runs.specs.Draining.{IsKept, IsReached}
+use Rattle.packet_runs.specs.UnderWay.{weight_in}
+use Rattle.app_loads.specs.declared.waiting.Waits.{Waits}
+use Rattle.app_loads.specs.declared.waiting.Waits.TheVariants.{InCore, InHand, AtPort}
+use Rattle.app_loads.specs.Running.{IsAfter, IsMoved, HasCopies, IsNext, IsWaiting}
+use Rattle.app_loads.proofs.Weights.{moved_lighter}
+
+-- ---- events, one after the other
+
+after_events-append : (s : State) (es fs : List Event) → after_events s (es ++ fs) ≡ after_events (after_events s es) fs
+after_events-append s [] fs = refl
+after_events-append s (e ∷ es) fs = after_events-append (after_event s e) es fs
+
+pub after_none : (s : State) → IsAfter s s
+after_none s = record { events = []; is = refl }
+
+pub after_one : (s t : State) (e : Event) → t ≡ after_event s e → IsAfter s t
+after_one s t e is = record { events = e ∷ []; is = is }
+
+pub after_then : (s t u : State) → IsAfter s t → IsAfter t u → IsAfter s u
+after_then s t u first rest = record {
+  events = first.events ++ rest.events;
+  is = rest.is ∙ (ap (λ x. after_events x rest.events) first.is ∙ sym (after_events-append s first.events rest.events));
+}
+
+pub kept_after : (s t : State) → IsKept s → IsAfter s t → IsKept t
+kept_after s t kept after =
+    let keeps = events_keep s kept.nets kept.labels kept.mesh kept.right kept.ledger after.events in
+    subst IsKept (sym after.is)
+    (record { mesh = keeps.mesh; nets = kept.nets; labels = kept.labels; right = keeps.right; ledger = keeps.ledger })
+
+pub moved_none : (s : State) → IsMoved s s
+moved_none s = record { events = []; is = refl; dropless = λ quiet. All-nil DropsNone }
+
+-- where something waited at the start, whatever comes
+pub moved_on : (s t u : State) → IsMoved s t → (NothingWaits s → ⊥) → IsAfter t u → IsMoved s u
+moved_on s t u first waits rest = record {
+  events = first.events ++ rest.events;
+  is = rest.is ∙ (ap (λ x. after_events x rest.events) first.is ∙ sym (after_events-append s first.events rest.events));
+  dropless = λ quiet. absurd (waits quiet);
+}
+
+-- and then events that drop no copy
+pub moved_then : (s t u : State) → IsMoved s t → IsReached t u → IsMoved s u
+moved_then s t u first rest = record {
+  events = first.events ++ rest.events;
+  is = rest.is ∙ (ap (λ x. after_events x rest.events) first.is ∙ sym (after_events-append s first.events rest.events));
+  dropless = λ quiet. All-append DropsNone first.events rest.events (first.dropless quiet) rest.dropless;
+}
+
+pub kept_moved : (s t : State) → IsKept s → IsMoved s t → IsKept t
+kept_moved s t kept moved = kept_after s t kept (record { events = moved.events; is = moved.is })
+
+-- ---- an event that is enabled
+
+pub lighter : (s t : State) (e : Event) → IsKept s → is_some (step_of s e) ≡ true → t ≡ after_event s e → weight_in t < weight_in s
+lighter s t e kept enabled is = by_step (step_of s e) refl enabled
+  where
+    by_step : (u : Option State) → step_of s e ≡ u → is_some u ≡ true → weight_in t < weight_in s
+    by_step (Some u) at on = subst (λ x. weight_in x < weight_in s) (sym (is ∙ ap (λ o. unwrap_or o s) at)) (moved_lighter s u e kept at)
+    by_step None at on = cc
+
+pub idle_stays : (s : State) (e : Event) → answer s e ≡ Idle → after_event s e ≡ s
+idle_stays s e idle = by_step (step_of s e) refl (idle)
+  where
+    by_step : (u : Option State) → step_of s e ≡ u → (if is_some u then Moved else Idle) ≡ Idle → after_event s e ≡ s
+    by_step (Some u) at on = cc
+    by_step None at on = ap (λ o. unwrap_or o s) at
+
+pub moved_enabled : (s : State) (e : Event) → answer s e ≡ Moved → is_some (step_of s e) ≡ true
+moved_enabled s e moved = by_test (is_some (step_of s e)) refl moved
+  where
+    by_test : (b : Bool) → is_some (step_of s e) ≡ b → (if b then Moved else Idle) ≡ Moved → is_some (step_of s e) ≡ true
+    by_test true at on = at
+    by_test false at on = cc
+
+-- ---- chips where copies wait are live
+
+-- the chips of a branch are live
+branch_lives : (s : State) (net : NetPlan) (st : Stands s net) (t : Spot) (xs : List Exit) → IsBranch s.setup.machine net.tree.root net.tree.edges t xs →
+    (i : ℕ) (x : Exit) → slice_get xs i ≡ Some x → IsLiveChip s.setup.machine x.chip
+branch_lives s net st t xs is i x at = elim (branch_comes_in s net t xs is i x at) [
+  | inl root ↦ subst (λ (c : Chip). IsLiveChip s.setup.machine c) (sym root.0) (root_lives s net st)
+  | inr by ↦
+      let ends = edge_lives s.setup.machine net.tree.root net.tree.edges _ st.tree by.0 by.1 in
+      let same : ends.0 ≡ x.chip = some_same (sym ends.1 ∙ by.2) in
+      subst (λ (c : Chip). IsLiveChip s.setup.machine c) same ends.3
+]
+  where
+    some_same : {a b : Chip} → Some a ≡ Some b → a ≡ b
+    some_same e = cc
+
+held_lives : (s : State) → IsKept s → (k : McCopy) (c : Chip) (o : Out) → Among (mark k (in_hand c o)) (marks_of s) → IsLiveChip s.setup.machine c
+held_lives s kept k c o a =
+    let r = right_before s s kept.nets kept.labels kept.mesh kept.right kept.ledger (mark k (in_hand c o)) (among_contains (mark k (in_hand c o)) (marks_of s) a) in
+    let st = stands s s kept.nets kept.labels kept.mesh kept.right kept.ledger r.net r.in_nets in
+    branch_lives s r.net st r.trail.target r.trail.branch r.trail.way.is_branch k.hop (record { chip = c; out = o }) (leaves_parts r.trail.branch k.hop c o r.trail.on)
+
+queued_lives : (s : State) → IsKept s → (k : McCopy) (c : Chip) (port : Port) → Among (mark k (in_queue c port)) (marks_of s) → IsLiveChip s.setup.machine c
+queued_lives s kept k c port a =
+    let r = right_before s s kept.nets kept.labels kept.mesh kept.right kept.ledger (mark k (in_queue c port)) (among_contains (mark k (in_queue c port)) (marks_of s) a) in
+    let st = stands s s kept.nets kept.labels kept.mesh kept.right kept.ledger r.net r.in_nets in
+    let there = comes_parts r.trail.branch k.hop c port r.trail.on in
+    subst (λ (d : Chip). IsLiveChip s.setup.machine d) there.chip (branch_lives s r.net st r.trail.target r.trail.branch r.trail.way.is_branch k.hop there.exit there.at)
+
+-- ---- what waits can be moved
+
+pub collect_enabled : (s : State) (v : ℕ) → IsWaiting s (InCore v) → is_some (step_of s (Collect v)) ≡ true
+collect_enabled s v waits = by_queue (slice_get s.cores v) waits
+  where
+    by_queue : (q : Option (List McCopy)) → HasCopies q → is_some (collect_of s v q) ≡ true
+    by_queue (Some (k ∷ rest)) has = refl
+    by_queue (Some []) none = absurd none
+    by_queue None none = absurd none
+
+pub take_enabled : (s : State) (c : Chip) (port : Port) → IsKept s → IsWaiting s (AtPort c port) → is_some (step_of s (Take c port)) ≡ true
+take_enabled s c port kept waits =
+    ap (λ h. is_some (take_of s c port h (slice_get s.inputs (queue_at s.setup.machine c port)))) waits.2
+    ∙ by_queue (slice_get s.inputs (queue_at s.setup.machine c port)) refl waits.1
+  where
+    by_live : (b : Bool) (t : State) → b ≡ true → is_some (if b then Some t else None) ≡ true
+    by_live true t on = refl
+    by_live false t on = cc
+
+    by_queue : (q : Option (List McCopy)) → slice_get s.inputs (queue_at s.setup.machine c port) ≡ q → HasCopies q → is_some (take_of s c port (Some None) q) ≡ true
+    by_queue (Some (k ∷ rest)) at has =
+        by_live (is_live_chip s.setup.machine c) _ (queued_lives s kept k c port (queued_mark s c port waits.0 k (k ∷ rest) at (inl refl)))
+    by_queue (Some []) at none = absurd none
+    by_queue None at none = absurd none
+
+-- a hand whose copy cannot be sent by the output can drop it there
+pub dump_enabled : (s : State) (c : Chip) (o : Out) → IsKept s → IsWaiting s (InHand c o) → answer s (Send c o) ≡ Idle → is_some (step_of s (Dump c o)) ≡ true
+dump_enabled s c o kept waits idle = by_hand (slice_get s.hands (index_of s.setup.machine c)) refl waits.1 idle
+  where
+    by_room : (live served room : Bool) (t u : State) → live ≡ true → served ≡ true →
+        (if is_some (if (live && served) && room then Some t else None) then Moved else Idle) ≡ Idle →
+        is_some (if (live && served) && not room then Some u else None) ≡ true
+    by_room true true true t u l v on = cc
+    by_room true true false t u l v on = refl
+    by_room true false room t u l v on = cc
+    by_room false served room t u l v on = cc
+
+    by_hand : (hand : Option (Option Held)) → slice_get s.hands (index_of s.setup.machine c) ≡ hand → IsNext o hand →
+        (if is_some (send_of s c o hand) then Moved else Idle) ≡ Idle → is_some (dump_of s c o hand) ≡ true
+    by_hand (Some (Some h)) at next on =
+        let first : Among o h.outs = subst (λ (l : List Out). Among o l) (sym next.1) (inl refl) in
+        let listed : list_any (out_eq o) h.outs ≡ true = among_any (out_eq o) o h.outs first (out_eq_same o) in
+        by_room (is_live_chip s.setup.machine c) (list_any (out_eq o) h.outs) (has_room_behind s (behind s.setup c o)) _ _
+        (held_lives s kept h.copy c o (held_mark s c o waits.0 h at first)) listed on
+    by_hand (Some None) at none on = absurd none
+    by_hand None at none on = absurd none
+
+-- what waits, waits: not nothing does
+pub waits_somewhere : (s : State) (at : Waits) → IsWaiting s at → NothingWaits s → ⊥
+waits_somewhere s (InCore v) waits quiet = by_queue (slice_get s.cores v) refl waits
+  where
+    by_queue : (q : Option (List McCopy)) → slice_get s.cores v ≡ q → HasCopies q → ⊥
+    by_queue (Some (k ∷ rest)) at has = cons_nil (All-at (λ (l : List McCopy). l ≡ []) s.cores v (k ∷ rest) quiet.cores_empty at)
+      where
+        cons_nil : k ∷ rest ≡ [] → ⊥
+        cons_nil e = cc
+    by_queue (Some []) at none = none
+    by_queue None at none = none
+waits_somewhere s (InHand c o) waits quiet = by_hand (slice_get s.hands (index_of s.setup.machine c)) refl waits.1
+  where
+    by_hand : (h : Option (Option Held)) → slice_get s.hands (index_of s.setup.machine c) ≡ h → IsNext o h → ⊥
+    by_hand (Some (Some h)) at next = some_none (All-at (λ (x : Option Held). x ≡ None) s.hands (index_of s.setup.machine c) (Some h) quiet.hands_empty at)
+      where
+        some_none : Some h ≡ None → ⊥
+        some_none e = cc
+    by_hand (Some None) at none = none
+    by_hand None at none = none
+waits_somewhere s (AtPort c port) waits quiet = by_queue (slice_get s.inputs (queue_at s.setup.machine c port)) refl waits.1
+  where
+    by_queue : (q : Option (List McCopy)) → slice_get s.inputs (queue_at s.setup.machine c port) ≡ q → HasCopies q → ⊥
+    by_queue (Some (k ∷ rest)) at has = cons_nil (All-at (λ (l : List McCopy). l ≡ []) s.inputs (queue_at s.setup.machine c port) (k ∷ rest) quiet.inputs_empty at)
+      where
+        cons_nil : k ∷ rest ≡ [] → ⊥
+        cons_nil e = cc
+    by_queue (Some []) at none = none
+    by_queue None at none = none

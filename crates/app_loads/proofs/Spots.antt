@@ -1,0 +1,51 @@
+-- The usable cores of a machine as a list.
+use Rattle.std.proofs.Common.{◌≡◌, ◌≢◌, ℕ, ◌+◌, ◌*◌, ◌/◌, ◌%◌, refl, sym, ap, ◌∙◌, arith, List, [], ◌∷◌, ◌++◌, map, length, Bool, true, false, cond}
+use Rattle.std.specs.List.{All, AllPairs, filter, range_with_len, slice_index_or}
+use Rattle.std.proofs.lemmas.List.Kept.{AllPairs-filter}
+use Rattle.std.proofs.lemmas.List.FromFn.{filter_of_map_range_with_len_more, get_or-map-range_with_len, length-map-range_with_len}
+use Rattle.list_laws.proofs.Members.{Contains-from_filter}
+use Rattle.list_laws.proofs.Places.{All-each}
+use Rattle.spin_base.specs.declared.chips.Spot.{Spot}
+use Rattle.machine_desc.specs.Description.{Description}
+use Rattle.machine_desc.specs.Live.{index_of, chip_of, is_usable, IsSite}
+use Rattle.machine_desc.proofs.Live.{index_of-chip_of}
+use Rattle.machine_desc.proofs.Sites.{usable_site}
+use Rattle.app_loads.specs.Opening.{spot_of, grid_spots, usable_spots}
+
+-- two numbers of one spot are one number
+same_number : (m : Description) (i j : ℕ) → spot_of m i ≡ spot_of m j → i ≡ j
+same_number m i j same =
+    let chips : chip_of m (i / 17) ≡ chip_of m (j / 17) = ap (λ (s : Spot). s.chip) same in
+    let cores : i % 17 + 1 ≡ j % 17 + 1 = ap (λ (s : Spot). s.core) same in
+    let index : i / 17 ≡ j / 17 = sym (index_of-chip_of m (i / 17)) ∙ (ap (index_of m) chips ∙ index_of-chip_of m (j / 17)) in
+    omega arith
+
+grid_different : (m : Description) → AllPairs (λ a b. a ≢ b) (grid_spots m)
+grid_different m i j d before within same =
+    let n : ℕ = 17 * (m.width * m.height) in
+    let long : length (grid_spots m) ≡ n = length-map-range_with_len (spot_of m) 0 n in
+    let first : slice_index_or (grid_spots m) i d ≡ spot_of m i = get_or-map-range_with_len (spot_of m) 0 n i i d (omega arith) (omega arith) in
+    let second : slice_index_or (grid_spots m) j d ≡ spot_of m j = get_or-map-range_with_len (spot_of m) 0 n j j d (omega arith) (omega arith) in
+    let one : i ≡ j = same_number m i j (sym first ∙ (same ∙ second)) in
+    omega arith
+
+pub usable_different : (m : Description) → AllPairs (λ a b. a ≢ b) (usable_spots m)
+usable_different m = AllPairs-filter (λ a b. a ≢ b) (is_usable m) (grid_spots m) (grid_different m)
+
+pub usable_sites : (m : Description) → All (IsSite m) (usable_spots m)
+usable_sites m = All-each (IsSite m) (usable_spots m) (λ s has. usable_site m s (Contains-from_filter (is_usable m) (grid_spots m) s has).1)
+
+-- the usable ones of one spot more
+pub one_spot_more : (m : Description) (n : ℕ) (spot : Spot) (before after : List Spot) → spot ≡ spot_of m n →
+    before ≡ filter (is_usable m) (map (spot_of m) (range_with_len 0 n)) → after ≡ before ++ filter (is_usable m) (spot ∷ []) →
+    after ≡ filter (is_usable m) (map (spot_of m) (range_with_len 0 (n + 1)))
+one_spot_more m n spot before after is so_far new =
+    new
+    ∙ (ap (λ l. l ++ filter (is_usable m) (spot ∷ [])) so_far
+    ∙ (ap (λ s. filter (is_usable m) (map (spot_of m) (range_with_len 0 n)) ++ filter (is_usable m) (s ∷ [])) is
+    ∙ (ap (λ l. filter (is_usable m) (map (spot_of m) (range_with_len 0 n)) ++ l) (one (is_usable m (spot_of m n)) refl)
+    ∙ sym (filter_of_map_range_with_len_more (is_usable m) (spot_of m) 0 n n (omega arith)))))
+  where
+    one : (b : Bool) → is_usable m (spot_of m n) ≡ b → filter (is_usable m) (spot_of m n ∷ []) ≡ cond (is_usable m (spot_of m n)) (spot_of m n ∷ []) []
+    one true is' = grind arith
+    one false is' = grind arith

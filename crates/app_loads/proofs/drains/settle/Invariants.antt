@@ -1,0 +1,15 @@
+use Rattle.mesh_core.specs.Expected.{NothingWaits}
+use Rattle.packet_runs.specs.UnderWay.{weight_in}
+use Rattle.app_loads.specs.Running.{IsMoved}
+use Rattle.app_loads.proofs.drains.settle.Given as goal
+
+-- where nothing waited, nothing waits
+abbrev pub invariant-events : goal.invariant-events
+invariant-events l = record {
+  moved : IsMoved l.fn.mesh l.mesh;
+  still : NothingWaits l.fn.mesh → NothingWaits l.mesh;
+}
+
+-- what the marks weigh
+abbrev pub decreases-events : goal.decreases-events
+decreases-events l = weight_in l.mesh

@@ -1,0 +1,58 @@
+-- The regions of a machine, and which of their places are taken.
+use Rattle.std.specs.Prelude.{◌≡◌, ℕ, ◌+◌, ◌*◌, ◌==◌, Bool, true, not, ◌&&◌, nat_lt, nat_le, List, ◌∷◌, ◌++◌, length, replicate, Some, slice_get, if◌then◌else◌}
+use Rattle.std.specs.List.{list_any}
+use Rattle.spin_base.specs.declared.chips.Chip.{Chip}
+use Rattle.machine_desc.specs.Description.{Description}
+use Rattle.machine_desc.specs.Live.{index_of}
+use Rattle.range_store.specs.Regions.{hole_of, is_free, in_range, AreRuns}
+use Rattle.app_loads.specs.declared.loaded.Range.{Range}
+use Rattle.app_loads.specs.Host.{Free}
+
+-- Region 0 has the keys of the machine. Then come, by the chips' indices, the shared memory of each chip, and the entries of each
+-- chip's table (this project's own).
+abbrev pub chip_count : Description → ℕ
+chip_count m = m.width * m.height
+
+abbrev pub keys_region : ℕ
+keys_region = 0
+
+abbrev pub memory_region : Description → Chip → ℕ
+memory_region m c = 1 + index_of m c
+
+abbrev pub rows_region : Description → Chip → ℕ
+rows_region m c = 1 + (chip_count m + index_of m c)
+
+-- There are 2^32 keys, each chip has the machine's bytes of memory, and each table has 1,024 entries (SpiNNaker datasheet).
+abbrev pub region_size : Description → ℕ → ℕ
+region_size m region = if region == 0 then 4294967296 else (if nat_le region (chip_count m) then m.sdram else 1024)
+
+-- a region without a place that is taken
+abbrev pub all_free : ℕ → Free
+all_free size = record { size = size; holes = hole_of 0 size }
+
+-- the regions where nothing is taken
+abbrev pub open_regions : Description → List Free
+open_regions m = all_free 4294967296 ∷ (replicate (chip_count m) (all_free m.sdram) ++ replicate (chip_count m) (all_free 1024))
+
+-- whether a range is one of this region and has this place
+abbrev pub has_place : ℕ → ℕ → Range → Bool
+has_place region k range = (range.region == region) && in_range range.place range.size k
+
+-- whether one of the ranges has the place of the region
+abbrev pub is_taken : List Range → ℕ → ℕ → Bool
+is_taken ranges region k = list_any (has_place region k) ranges
+
+-- two ranges share no place
+abbrev pub AreApart : Range → Range → Type 0
+AreApart a b = (region k : ℕ) → has_place region k a ≡ true → has_place region k b ≡ true → ⊥
+
+-- The free places of a region are those below its size that none of the ranges has. Its holes are their longest runs.
+pub record IsFreeBeside (m : Description) (ranges : List Range) (region : ℕ) (f : Free) : Type 0 where
+  pub size : f.size ≡ region_size m region
+  pub runs : AreRuns 0 f.size f.holes
+  pub free : (k : ℕ) → is_free f.holes k ≡ (nat_lt k f.size && not (is_taken ranges region k))
+
+-- the free places of all regions are those that none of the ranges has
+pub record AreFreeBeside (m : Description) (ranges : List Range) (regions : List Free) : Type 0 where
+  pub all : length regions ≡ 1 + (chip_count m + chip_count m)
+  pub each : (region : ℕ) (f : Free) → slice_get regions region ≡ Some f → IsFreeBeside m ranges region f

@@ -1,0 +1,112 @@
+// The parts of a machine on which no application is loaded.
+ghost use Rattle.std.specs.Prelude.{◌≡◌, ◌≢◌, ◌<◌, ◌≤◌, ◌*◌, ◌++◌, ◌∷◌, [], All, AllPairs, false, filter, map, length, replicate, IfOk, OnOk};
+ghost use Rattle.machine_desc.specs.Live.{IsSite, is_usable};
+ghost use Rattle.tcam_find.specs.Memory.{empty_memory};
+ghost use Rattle.app_loads.specs.Opening.{spot_of, usable_spots, bare_mesh};
+ghost use Rattle.app_loads.specs.Regions.{all_free, open_regions};
+ghost use Rattle.app_loads.specs.Taking.{free_of};
+
+use machine_desc::Machine;
+use mesh_core::Mesh;
+use range_store::Ranges;
+use spin_base::{Memory, Seq, Spot};
+use std::alloc::Global;
+use tcam_find::Tcam;
+
+// How many cores of a chip can be usable: 1 to 17.
+const CORES: u32 = 17;
+
+// The mesh with a vertex on each usable core, without a copy.
+pub fn bare_mesh(alloc: Global, machine: &Machine, queue: u32) -> Result<Mesh, Memory>
+    requires { 1 ≤ queue }
+    ensures { IfOk result (λ mesh. mesh ≡ bare_mesh machine.now queue) }
+{
+    let spots = usable_spots(alloc, machine)?;
+    let tables = empty_tables(alloc, machine.chips())?;
+    Mesh::new(alloc, machine.copy(alloc)?, spots, tables, queue)
+}
+
+// The usable cores of the machine, in the order of their chips' indices and their numbers.
+fn usable_spots(alloc: Global, machine: &Machine) -> Result<Seq<Spot>, Memory>
+    ensures spots { IfOk result (λ spots. spots ≡ usable_spots machine.now) }
+    ensures sites { IfOk result (All (IsSite machine.now)) }
+    ensures different { IfOk result (AllPairs (λ a b. a ≢ b)) }
+{
+    let mut spots = Seq::new(alloc);
+    for number in 0..CORES * machine.chips() as u32 {
+        let spot = spot_of(machine, number);
+        push_usable(machine, &mut spots, spot)?;
+    }
+    Ok(spots)
+}
+
+// The spot of a number: 17 a chip, for its cores 1 to 17.
+fn spot_of(machine: &Machine, number: u32) -> Spot
+    requires { number < 17 * (machine.now.width * machine.now.height) }
+    ensures { result ≡ spot_of machine.now number }
+{
+    Spot {
+        chip: machine.chip_at(number / CORES),
+        core: (number % CORES) as u8 + 1,
+    }
+}
+
+// Puts the spot at the back of the list, where it is usable.
+fn push_usable(machine: &Machine, spots: &mut Seq<Spot>, spot: Spot) -> Result<(), Memory>
+    ensures { OnOk result (spots.new ≡ spots.old ++ filter (is_usable machine.now) (spot ∷ [])) }
+{
+    if machine.usable(spot) {
+        spots.push(spot)?;
+    }
+    Ok(())
+}
+
+// So many tables of unused entries.
+fn empty_tables(alloc: Global, count: usize) -> Result<Seq<Tcam>, Memory>
+    ensures { IfOk result (λ tables. tables ≡ replicate count empty_memory) }
+{
+    let mut tables = Vec::with_capacity(alloc, count)?;
+    for _ in 0..count {
+        tables.push(Tcam::empty())?;
+    }
+    Ok(Seq::from_vec(tables))
+}
+
+// All regions of the machine, of which nothing is taken.
+pub fn open_regions(alloc: Global, machine: &Machine) -> Result<Vec<Ranges>, Memory>
+    ensures { IfOk result (λ regions. map free_of regions.items ≡ open_regions machine.now) }
+{
+    let mut regions = Vec::new(alloc);
+    regions.push(Ranges::new(alloc, 4_294_967_296)?)?;
+    push_regions(
+        alloc,
+        &mut regions,
+        machine.chips(),
+        u64::from(machine.sdram()),
+    )?;
+    push_regions(alloc, &mut regions, machine.chips(), 1024)?;
+    Ok(regions)
+}
+
+// Puts so many regions of that size at the back of the list.
+fn push_regions(
+    alloc: Global,
+    regions: &mut Vec<Ranges>,
+    count: usize,
+    size: u64,
+) -> Result<(), Memory>
+    requires { size ≤ 4294967296 }
+    ensures { OnOk result (map free_of regions.new.items ≡ map free_of regions.old.items ++ replicate count (all_free size)) }
+{
+    for _ in 0..count {
+        regions.push(Ranges::new(alloc, size)?)?;
+    }
+    Ok(())
+}
+
+// A table of spots none of which is taken.
+pub fn none_taken(alloc: Global, machine: &Machine) -> Result<Vec<bool>, Memory>
+    ensures { IfOk result (λ taken. taken.items ≡ replicate (24 * (machine.now.width * machine.now.height)) false) }
+{
+    Ok(vec![in alloc; false; 24 * machine.chips()]?)
+}
