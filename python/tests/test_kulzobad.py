@@ -107,6 +107,7 @@ class Jobs(unittest.TestCase):
         self.assertEqual([(it.key, it.mask) for it in keys.values()], [(4, 0xFFFFFFFF), (0, 0xFFFFFFFC), (8, 0xFFFFFFFC)])
 
     def test_a_generated_job_tells_its_numbers(self):
+        # (rows and deliveries are those of `python3 tools/model.py --generated N`)
         self.assertEqual(gen(7), Summary(7, 48, 200, 300, 1200, 1258, 5356, 0))
         self.assertEqual(gen(2**64 - 1), Summary(2**64 - 1, 48, 200, 300, 1200, 1229, 5072, 0))
 
