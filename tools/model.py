@@ -482,9 +482,7 @@ class Dice(random.Random):
     def now_and_then(self, share):
         return self.random() < share
 
-    def machine(self):
-        most = self.choice([5, 5, 12, 12, 30])
-        width, height = self.randint(1, most), self.randint(1, most)
+    def machine(self, width, height):
         part = {"width": width, "height": height, "wrap": self.now_and_then(0.5)}
         chips = Machine(part).chips()
         if self.now_and_then(0.5):
@@ -497,16 +495,15 @@ class Dice(random.Random):
             part["dead_cores"] = [[*chip, self.randint(0, 17)] for chip in chips if self.now_and_then(0.3)]
         return part
 
-    def vertices(self, part):
-        """Vertices for a machine, some or all of them with a chip of their own, and some of them devices. There may be too many for
-        a small machine."""
+    def vertices(self, part, asking):
+        """Vertices for a machine, of which such a share ask for a chip, and some devices. There may be too many for a small
+        machine."""
         machine = Machine(part)
         live = [chip for chip in machine.chips() if machine.is_live(chip)]
-        vertices = [{"name": f"v{i}"} for i in range(self.randint(1, max(1, min(60, 8 * len(live)))))]
-        asking = self.choice([0, 0.2, 1])
+        vertices = [{"name": f"v{i}"} for i in range(self.randint(1, max(1, min(60, 14 * len(live)))))]
         for vertex in vertices:
             if live and self.now_and_then(asking):
-                vertex["at"] = list(self.choice(live if self.now_and_then(0.998) else machine.chips()))
+                vertex["at"] = list(self.choice(live if self.now_and_then(0.995) else machine.chips()))
             if self.now_and_then(0.1):
                 vertex["sdram"] = self.choice([0, 1, 1000000, 60000000])
         links = [[*chip, link] for chip in live for link in range(6) if not machine.is_live_link(chip, link)]
@@ -543,9 +540,18 @@ class Dice(random.Random):
 
     def any_job(self):
         """Any machine, with nets all over it."""
-        machine = self.machine()
-        vertices = self.vertices(machine)
+        most = self.choice([5, 5, 12, 12, 30])
+        machine = self.machine(self.randint(1, most), self.randint(1, most))
+        vertices = self.vertices(machine, self.choice([0, 0.3, 1, 1]))
         return machine, vertices, self.nets(vertices, self.choice([0, 4, 16, 40, 90]))
+
+    def wide_job(self):
+        """A long machine, on which vertices are far from each other."""
+        sides = [self.randint(30, 64), self.randint(1, 4)]
+        self.shuffle(sides)
+        machine = self.machine(*sides)
+        vertices = self.vertices(machine, 1)
+        return machine, vertices, self.nets(vertices, 12)
 
     def crowded_job(self):
         """Many nets on few chips, so that tables are long, and many merges are made or refused."""
@@ -569,9 +575,10 @@ class Dice(random.Random):
         nets = [{"name": f"n{i}", "source": "v0", "targets": [it for j, it in enumerate(names) if route >> j & 1]} for i, route in enumerate(routes)]
         return {"width": 2, "height": 1}, [{"name": name, "at": [1, 0]} for name in names], nets
 
-    def job(self):
-        kinds = {self.any_job: 20, self.crowded_job: 4, self.greedy_job: 2, self.long_job: 1}
-        machine, vertices, nets = self.choices(list(kinds), list(kinds.values()))[0]()
+    def job(self, number):
+        """The job of a number, by which the kinds of jobs take turns."""
+        kinds = [self.any_job] * 8 + [self.wide_job] * 3 + [self.crowded_job] * 2 + [self.greedy_job, self.long_job]
+        machine, vertices, nets = kinds[number % len(kinds)]()
         run = {"packets": self.packets(nets), "queue": self.choice([1, 2, 16]), "workers": self.choice([1, 1, 2, 3, 8, 64])}
         run["target"] = self.choice([0, 0, 0, 1, 5, 20, 1024])
         return {"version": 3, "machine": machine, "graph": {"vertices": vertices, "nets": nets}, "run": run}
@@ -613,7 +620,7 @@ def is_answered(program, what, wanted, text):
 def seeded_cases(seeds):
     """A random job for each seed, with the answers to it."""
     for seed in seeds:
-        job = Dice(seed).job()
+        job = Dice(seed).job(seed)
         yield f"{seed}", answers_to(job)[0], json.dumps(job).encode()
 
 
