@@ -1,8 +1,8 @@
 #!/usr/bin/env python3
-"""The text of the generated job of a number, from its rule alone: a check on `gen_text` from outside.
+"""The text of the generated job of a number, from its rule alone (docs/formats.md): a check on what `gen N` makes from outside.
 
-    tools/gen_reference.py N            writes the text, without a line feed
-    tools/gen_reference.py --sum N..    a line for each N: the number, how many bytes, and their FNV-1a hash of 64 bits
+    python3 tools/gen_reference.py N            writes the text, without a line feed
+    python3 tools/gen_reference.py --sum N..    a line for each N: the number, how many bytes, and their FNV-1a hash of 64 bits
 
 The random words are those of xoshiro256++, whose state SplitMix64 makes of N (Blackman and Vigna, "Scrambled linear
 pseudorandom number generators"; the reference code is in the public domain). Python's standard library alone.

@@ -10,11 +10,11 @@ The package has no rules of its own: placements, keys, tables and refusals are t
 """
 from .images import Image, decode
 from .jobs import Job, Machine, Net, Packet, Vertex, collect, dump, inject, send, take
-from .program import Refused, compile, run, tables, trace
-from .reports import Delivery, Dump, Keys, Place, Plan, Report, Row, Table, Wait, links_of, cores_of
+from .program import Refused, compile, gen, run, tables, trace
+from .reports import Delivery, Dump, Keys, Place, Plan, Report, Row, Summary, Table, Wait, links_of, cores_of
 
 __all__ = [
-    "Delivery", "Dump", "Image", "Job", "Keys", "Machine", "Net", "Packet", "Place", "Plan", "Refused", "Report", "Row", "Table",
-    "Vertex", "Wait", "collect", "compile", "cores_of", "decode", "dump", "inject", "links_of", "run", "send", "tables", "take",
-    "trace",
+    "Delivery", "Dump", "Image", "Job", "Keys", "Machine", "Net", "Packet", "Place", "Plan", "Refused", "Report", "Row", "Summary",
+    "Table", "Vertex", "Wait", "collect", "compile", "cores_of", "decode", "dump", "gen", "inject", "links_of", "run", "send",
+    "tables", "take", "trace",
 ]

@@ -5,17 +5,17 @@ import os
 import re
 import subprocess
 from pathlib import Path
-from typing import Any, Optional
+from typing import Any, List, Optional
 
 from .images import Image, decode
 from .jobs import Chip, Job
-from .reports import Plan, Report, read
+from .reports import Plan, Report, Summary, read, read_summary
 
 REPOSITORY = Path(__file__).resolve().parents[2]
 
 KINDS = {
     1: "usage", 2: "read fault", 3: "write fault", 4: "bad job", 5: "no room", 6: "keys out", 7: "cut off", 8: "table long",
-    9: "out of memory", 10: "unbuilt", 11: "words",
+    9: "out of memory", 11: "words",
 }
 
 
@@ -55,9 +55,10 @@ def program_of(program: Optional[str]) -> str:
     return program or os.environ.get("KULZOBAD_SPIN") or str(REPOSITORY / "spin")
 
 
-def answer(word: str, job: Job, program: Optional[str]) -> bytes:
-    """What the program writes for the job. Refused where its status is not 0."""
-    done = subprocess.run([program_of(program), word], input=job.text().encode(), stdout=subprocess.PIPE, check=False)
+def answer(words: List[str], job: Optional[Job], program: Optional[str]) -> bytes:
+    """What the program writes for the words and the job, if they need one. Refused where its status is not 0."""
+    text = job.text().encode() if job else b""
+    done = subprocess.run([program_of(program), *words], input=text, stdout=subprocess.PIPE, check=False)
     if done.returncode:
         raise Refused(done.returncode, done.stdout.decode(errors="replace").rstrip("\n"), job)
     return done.stdout
@@ -65,19 +66,25 @@ def answer(word: str, job: Job, program: Optional[str]) -> bytes:
 
 def run(job: Job, program: Optional[str] = None) -> Report:
     """Compiles the job and runs its packets."""
-    return read(answer("run", job, program).decode())
+    return read(answer(["run"], job, program).decode())
 
 
 def tables(job: Job, program: Optional[str] = None) -> Plan:
     """Compiles the job: where its vertices stand, which keys its nets have, and its tables."""
-    return read(answer("tables", job, program).decode()).plan
+    return read(answer(["tables"], job, program).decode()).plan
 
 
 def compile(job: Job, program: Optional[str] = None) -> Image:
     """Compiles the job: the image of its tables. `data` of the image is its bytes, for a loader."""
-    return decode(answer("compile", job, program))
+    return decode(answer(["compile"], job, program))
 
 
 def trace(job: Job, program: Optional[str] = None) -> Report:
     """Compiles the job and takes its events one by one; `moved` of the report says of each whether it was enabled."""
-    return read(answer("trace", job, program).decode())
+    return read(answer(["trace"], job, program).decode())
+
+
+def gen(number: int, program: Optional[str] = None) -> Summary:
+    """Compiles and runs the job that the program makes of the number, from 0 to 2**64 - 1: a board of 48 chips with 200 vertices,
+    300 nets and 1,200 packets."""
+    return read_summary(answer(["gen", str(number)], None, program).decode())

@@ -1,10 +1,15 @@
 """What the program writes, as objects."""
 from __future__ import annotations
 
+import re
 from dataclasses import dataclass, field
 from typing import Dict, List, Optional, Tuple
 
 LINKS = ("E", "NE", "N", "W", "SW", "S")
+
+FOUR_LINES = re.compile(
+    r"gen (\d+)\nchips (\d+) vertices (\d+) nets (\d+) packets (\d+)\nrows (\d+)\ndelivered (\d+) dumped (\d+)\n"
+)
 
 
 def links_of(route: int) -> List[str]:
@@ -109,6 +114,29 @@ class Report:
     dumps: List[Dump] = field(default_factory=list)
     waiting: List[Wait] = field(default_factory=list)
     unsent: int = 0
+
+
+@dataclass(frozen=True)
+class Summary:
+    """What the program writes of a job that it makes of a number and runs: the number; how many live chips, vertices, nets and
+    packets the job has; how many rows its tables have together; and how many copies were delivered and dumped."""
+
+    number: int
+    chips: int
+    vertices: int
+    nets: int
+    packets: int
+    rows: int
+    delivered: int
+    dumped: int
+
+
+def read_summary(text: str) -> Summary:
+    """Reads the four lines of a generated job."""
+    found = FOUR_LINES.fullmatch(text)
+    if not found:
+        raise ValueError(f"no four lines of a generated job: {text!r}")
+    return Summary(*map(int, found.groups()))
 
 
 def read(text: str) -> Report:

@@ -3,9 +3,9 @@ import json
 import unittest
 from pathlib import Path
 
-from kulzobad import Delivery, Job, Keys, Machine, Net, Packet, Place, Refused, Row, Vertex, cores_of, links_of, run, tables
-from kulzobad import collect, compile, decode, inject, send, take, trace
-from kulzobad.reports import Dump, Wait, read
+from kulzobad import Delivery, Job, Keys, Machine, Net, Packet, Place, Refused, Row, Summary, Vertex, cores_of, links_of, run, tables
+from kulzobad import collect, compile, decode, gen, inject, send, take, trace
+from kulzobad.reports import Dump, Wait, read, read_summary
 
 
 EXAMPLES = Path(__file__).resolve().parents[2] / "examples"
@@ -106,6 +106,17 @@ class Jobs(unittest.TestCase):
         self.assertEqual(job.version(), 2)
         self.assertEqual([(it.key, it.mask) for it in keys.values()], [(4, 0xFFFFFFFF), (0, 0xFFFFFFFC), (8, 0xFFFFFFFC)])
 
+    def test_a_generated_job_tells_its_numbers(self):
+        # (rows and deliveries are those of `python3 tools/model.py --generated N`)
+        self.assertEqual(gen(7), Summary(7, 48, 200, 300, 1200, 1258, 5356, 0))
+        self.assertEqual(gen(2**64 - 1), Summary(2**64 - 1, 48, 200, 300, 1200, 1229, 5072, 0))
+
+    def test_a_number_that_is_none(self):
+        for number in (-1, 2**64):
+            with self.assertRaises(Refused) as caught:
+                gen(number)
+            self.assertEqual((caught.exception.status, caught.exception.kind, caught.exception.path), (1, "usage", None))
+
     def test_a_job_is_text(self):
         self.assertEqual(json.loads(pair(queue=3).text())["run"], {"queue": 3, "packets": [{"net": "n", "index": 0, "payload": 7}]})
 
@@ -115,6 +126,13 @@ class Reports(unittest.TestCase):
         text = "dump 0 0 c2 1\nwait 0 at 3 4 hand NE\nend delivered 0 dumped 1 waiting 1 unsent 5\n"
         report = read(text)
         self.assertEqual((report.dumps, report.waiting, report.unsent), ([Dump(0, 0, "c2", 1)], [Wait(0, 3, 4, "hand", "NE")], 5))
+
+    def test_four_lines_are_read(self):
+        text = "gen 5\nchips 1 vertices 2 nets 3 packets 4\nrows 6\ndelivered 7 dumped 8\n"
+        self.assertEqual(read_summary(text), Summary(number=5, chips=1, vertices=2, nets=3, packets=4, rows=6, delivered=7, dumped=8))
+        for wrong in ("", text[:-1], text[6:], text + "\n", "out of memory\n"):
+            with self.assertRaises(ValueError):
+                read_summary(wrong)
 
     def test_bytes_that_are_no_image(self):
         data = (EXAMPLES / "image.report").read_bytes()
