@@ -652,6 +652,7 @@ def main():
         statuses[wanted["tables"][0]] += 1
         if not is_answered(asked.program, f"the job of {name}, which is out/model-{name}.json", wanted, text):
             failed += 1
+            os.makedirs(f"{ROOT}/out", exist_ok=True)
             with open(f"{ROOT}/out/model-{name}.json", "wb") as kept:
                 kept.write(text)
     print("; ".join(f"status {status}: {count}" for status, count in sorted(statuses.items())))
