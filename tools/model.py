@@ -491,21 +491,25 @@ class Dice(random.Random):
         if self.now_and_then(0.6):
             share = self.choice([0.02, 0.1, 0.2])
             part["dead_links"] = [[*chip, link] for chip in chips for link in range(6) if self.now_and_then(share)]
+        if self.now_and_then(0.4):
+            part["sdram"] = 100
         if self.now_and_then(0.3):
             part["dead_cores"] = [[*chip, self.randint(0, 17)] for chip in chips if self.now_and_then(0.3)]
         return part
 
     def vertices(self, part, asking):
-        """Vertices for a machine, of which such a share ask for a chip, and some devices. There may be too many for a small
-        machine."""
+        """Vertices for a machine, of which such a share ask for a chip, and some devices. Where memory is small, few of them stand
+        on a chip. There may be too many for a small machine."""
         machine = Machine(part)
         live = [chip for chip in machine.chips() if machine.is_live(chip)]
-        vertices = [{"name": f"v{i}"} for i in range(self.randint(1, max(1, min(60, 14 * len(live)))))]
+        is_small = "sdram" in part
+        most = min(60, len(live) if is_small else 14 * len(live))
+        vertices = [{"name": f"v{i}"} for i in range(self.randint(1, max(1, most)))]
         for vertex in vertices:
-            if live and self.now_and_then(asking):
+            if live and self.now_and_then(asking / 5 if is_small else asking):
                 vertex["at"] = list(self.choice(live if self.now_and_then(0.995) else machine.chips()))
-            if self.now_and_then(0.1):
-                vertex["sdram"] = self.choice([0, 1, 1000000, 60000000])
+            if is_small or self.now_and_then(0.1):
+                vertex["sdram"] = self.choice([0, 1, 50, 51, 100] if is_small else [0, 1, 1000000, 60000000])
         links = [[*chip, link] for chip in live for link in range(6) if not machine.is_live_link(chip, link)]
         for device in self.sample(links, min(len(links), self.choice([0, 0, 1, 3]))):
             vertices.insert(self.randint(0, len(vertices)), {"name": "d%d_%d_%d" % tuple(device), "device": device})
@@ -648,6 +652,7 @@ def main():
         statuses[wanted["tables"][0]] += 1
         if not is_answered(asked.program, f"the job of {name}, which is out/model-{name}.json", wanted, text):
             failed += 1
+            os.makedirs(f"{ROOT}/out", exist_ok=True)
             with open(f"{ROOT}/out/model-{name}.json", "wb") as kept:
                 kept.write(text)
     print("; ".join(f"status {status}: {count}" for status, count in sorted(statuses.items())))
