@@ -5,8 +5,9 @@
 `place` puts 16,384 vertices on 4,096 chips: where they need no memory; where the memory of the first half of the chips is
 full while 16 cores of each are free, so that each later vertex is to stand behind them all; and where every fourth is a
 device on the link E of a chip of its own, which is listed dead. `keys` gives keys to 4,096 nets that need from 1 to 2^20
-each, in mixed order: where none has a fixed block; where every second has one of 2^20 keys, one behind the other; and where
-these are as large as the nets need and in mixed order, with a hole behind nearly each.
+each, in mixed order: where none has a fixed block; where every second has one of 2^20 keys, one behind the other; where
+these are as large as the nets need and in mixed order, with a hole behind nearly each, and begin at 2^31; and where they
+begin at 0, so that other nets stand in these holes.
 Each is done at half and at a quarter of the size too.
 
 The calls are made by a small program that stands below as text. It is compiled as the launcher's program is, without a
@@ -93,7 +94,7 @@ fn vertices(alloc: Global, count: u32, full: u32, each: u32) -> Result<Seq<Verte
 }
 
 // The block of a net that needs so many keys, at most 2^20, if its number and the kind of nets give it one: every second
-// net's begins at a multiple of 2^20 in the upper half.
+// net's begins at a multiple of 2^20, in the upper half or from 0 on.
 fn fixed_block(task: &Task, i: u32, keys: u64) -> Option<Block> {
     if i % 2 == 0 || task.what == "keys" {
         return None;
@@ -103,7 +104,8 @@ fn fixed_block(task: &Task, i: u32, keys: u64) -> Option<Block> {
         return Some(Block { key: (1 << 31) + (at << 20), mask: 4293918720 });
     }
     let place = at.wrapping_mul(1031) % (task.count / 2);
-    Some(Block { key: (1 << 31) + (place << 20), mask: (4294967296 - keys.next_power_of_two()) as u32 })
+    let begin = if task.what == "between" { 0 } else { 1 << 31 };
+    Some(Block { key: begin + (place << 20), mask: (4294967296 - keys.next_power_of_two()) as u32 })
 }
 
 // So many nets from the first vertex to itself. They need from 1 to 2^20 keys: the number of bits is drawn, then the number.
@@ -127,7 +129,7 @@ fn graph(alloc: Global, task: &Task) -> Result<Graph, Memory> {
     let chips = u32::from(task.width) * u32::from(task.height);
     match task.what {
         "short" => Ok(Graph { vertices: vertices(alloc, task.count, chips / 2, 1)?, nets: Seq::new(alloc) }),
-        "keys" | "fixed" | "scattered" => Ok(Graph { vertices: vertices(alloc, 1, 0, 0)?, nets: nets(alloc, task)? }),
+        "keys" | "fixed" | "scattered" | "between" => Ok(Graph { vertices: vertices(alloc, 1, 0, 0)?, nets: nets(alloc, task)? }),
         "devices" => Ok(Graph { vertices: with_devices(alloc, task)?, nets: Seq::new(alloc) }),
         _ => Ok(Graph { vertices: vertices(alloc, task.count, 0, 0)?, nets: Seq::new(alloc) }),
     }
@@ -159,7 +161,7 @@ fn given(alloc: Global, graph: &Graph) -> Result<u64, Memory> {
 
 fn once(alloc: Global, task: &Task, machine: &Machine, graph: &Graph) -> Result<u64, Memory> {
     match task.what {
-        "keys" | "fixed" | "scattered" => given(alloc, graph),
+        "keys" | "fixed" | "scattered" | "between" => given(alloc, graph),
         "curve" => Ok(curve(alloc, task.count)?.len() as u64),
         _ => placed(alloc, machine, graph),
     }
@@ -255,6 +257,7 @@ def main():
             show(program, f"keys: {count:,} nets of mixed sizes", 500, "keys", count, 1, 1)
             show(program, f"keys: {count:,} nets, half of them fixed, one behind the other", 500, "fixed", count, 1, 1)
             show(program, f"keys: {count:,} nets, half of them fixed, in mixed order with holes", 500, "scattered", count, 1, 1)
+            show(program, f"keys: {count:,} nets, half of them fixed, the others in the holes", 500, "between", count, 1, 1)
 
 
 if __name__ == "__main__":

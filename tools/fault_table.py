@@ -3,11 +3,12 @@
     python3 tools/fault_table.py [PROGRAM]
 
 Each job of examples/faults/faults.json, and those that this script makes because they are too long or too many to be
-written down, is given to `PROGRAM run`; PROGRAM is ./spin where none is named. Where the table has a line, the bytes written
-are to be that line and a line feed, and the status 4; elsewhere the status alone is to be the one of the table. Each
-mismatch is printed. The last line is 'N passed, M failed', and the status 1 where one failed.
+written down, is given to `PROGRAM run`, and each request of examples/faults/requests.json to `PROGRAM check`; PROGRAM is ./spin
+where none is named. Where the table has a line, the bytes written are to be that line and a line feed. The status is to be the one
+of the table, and 4 where it has none. Each mismatch is printed. The last line is 'N passed, M failed', and the status 1 where one
+failed.
 
-The lines were worked out by hand from the format of a job, and not taken from what a program wrote.
+The lines were worked out by hand from the formats, and not taken from what a program wrote.
 """
 import json
 import os
@@ -21,11 +22,32 @@ BAD_JOB = 4
 MOST_BYTES = 16777216
 
 
-def written_cases():
-    """Those of the file: what each shows, the bytes of the job, the line and the status."""
-    with open(f"{ROOT}/examples/faults/faults.json", encoding="utf-8") as table:
+def written_cases(name, member):
+    """Those of a file: what each shows, the bytes of the job or request, the line and the status."""
+    with open(f"{ROOT}/examples/faults/{name}", encoding="utf-8") as table:
         for case in json.load(table):
-            yield case["why"], case["job"].encode(), case.get("line"), case.get("status", BAD_JOB)
+            yield case["why"], case[member].encode(), case.get("line"), case.get("status", BAD_JOB)
+
+
+def job_cases():
+    yield from written_cases("faults.json", "job")
+
+
+def request_cases():
+    yield from written_cases("requests.json", "request")
+
+
+def long_request_cases():
+    """A request with as many numbers in its image as 16,777,216 bytes have room for, and one that is a byte longer."""
+    with open(f"{ROOT}/examples/one_chip.json", encoding="utf-8") as example:
+        front = '{"job":%s,"trees":[[]],"image":[' % example.read().rstrip()
+    zeros = (MOST_BYTES - len(front) - 3) // 2
+    longest = f"{front}0{',0' * zeros}]}}".encode().ljust(MOST_BYTES)
+    yield "more than eight million bytes, and no image", longest, "bad image 0", 0
+    yield "one byte more, a blank", longest + b" ", "bad job: too long", BAD_JOB
+    yield "the last of them is no byte", longest.replace(b",0]", b",a]"), "bad job: not json", BAD_JOB
+    last = f"{front}0{',0' * (zeros - 2)},256]}}".encode()
+    yield "the last of them is above 255", last, f"bad job: range in.image[{zeros - 1}]", BAD_JOB
 
 
 def prefix_cases():
@@ -107,9 +129,9 @@ def shown(bytes_given):
     return json.dumps(text) + (" .." if len(bytes_given) > 200 else "")
 
 
-def is_answered(program, why, job, line, status):
+def is_answered(program, word, why, job, line, status):
     """Whether the program gives that line and status. It prints what it gives instead."""
-    done = subprocess.run([program, "run"], input=job, capture_output=True)
+    done = subprocess.run([program, word], input=job, capture_output=True)
     as_wanted = line is None or done.stdout == line.encode() + b"\n"
     if as_wanted and done.returncode == status:
         return True
@@ -122,9 +144,12 @@ def is_answered(program, why, job, line, status):
 def main():
     program = sys.argv[1] if len(sys.argv) > 1 else f"{ROOT}/spin"
     passed = failed = 0
-    for cases in (written_cases, prefix_cases, byte_cases, long_cases, list_cases):
-        for case in cases():
-            if is_answered(program, *case):
+    for word, kinds in (
+        ("run", (job_cases, prefix_cases, byte_cases, long_cases, list_cases)),
+        ("check", (request_cases, long_request_cases)),
+    ):
+        for case in (case for cases in kinds for case in cases()):
+            if is_answered(program, word, *case):
                 passed += 1
             else:
                 failed += 1

@@ -50,7 +50,7 @@ MEMORY = 134217728
 Block = namedtuple("Block", "key mask")
 # A row of a table. Its aliases are blocks for which it stands, each with the port at which their packets come in.
 Row = namedtuple("Row", "block route aliases")
-Plan = namedtuple("Plan", "spots blocks tables")
+Plan = namedtuple("Plan", "spots blocks trees tables")
 
 
 class Refused(Exception):
@@ -374,34 +374,42 @@ def without_defaults(table):
     return kept
 
 
-def wanted_rows(machine, spots, net, block):
-    """The row of a net at each chip of its tree; `net` has the places of its vertices."""
+def tree_of(machine, spots, net):
+    """The edges of a net's tree; `net` has the places of its vertices. LookupError where a target is cut off."""
     root = spots[net["source"]][:2]
-    targets = {spots[i] for i in net["targets"]}
-    chips = sorted({spot[:2] for spot in targets}, key=lambda chip: (machine.distance(root, chip), chip))
-    edges = repaired(machine, root, grown(machine, root, chips), chips)
-    ports = {root: LOCAL, **{machine.far(*edge): opposite(edge[1]) for edge in edges}}
+    chips = sorted({spots[i][:2] for i in net["targets"]}, key=lambda chip: (machine.distance(root, chip), chip))
+    return repaired(machine, root, grown(machine, root, chips), chips)
+
+
+def wanted_rows(machine, spots, net, block, edges):
+    """The row of a net at each chip of its tree, which has these edges."""
+    ports = {spots[net["source"]][:2]: LOCAL, **{machine.far(*edge): opposite(edge[1]) for edge in edges}}
     routes = Counter()
     for chip, link in edges:
         routes[chip] += 1 << link
-    for x, y, number in targets:
+    for x, y, number in {spots[i] for i in net["targets"]}:
         routes[x, y] += 1 << (number - 18 if number >= 18 else 6 + number)
     return {chip: Row(block, routes[chip], [(block, port)]) for chip, port in ports.items()}
 
 
+def placed_nets(job):
+    """The nets of a job with the places of their vertices in its list."""
+    number = {vertex["name"]: i for i, vertex in enumerate(job["graph"]["vertices"])}
+    for net in job["graph"]["nets"]:
+        yield {"name": net["name"], "source": number[net["source"]], "targets": [number[name] for name in net["targets"]]}
+
+
 def plan_of(job):
-    """Spots, blocks and tables of a job; Refused where it has none."""
-    machine, vertices, nets = Machine(job["machine"]), job["graph"]["vertices"], job["graph"]["nets"]
-    spots, blocks = spots_of(machine, vertices), blocks_of(nets)
-    number = {vertex["name"]: i for i, vertex in enumerate(vertices)}
-    plain = defaultdict(list)
-    for net, block in zip(nets, blocks):
-        placed = {"source": number[net["source"]], "targets": [number[name] for name in net["targets"]]}
+    """Spots, blocks, trees and tables of a job; Refused where it has none."""
+    machine, nets = Machine(job["machine"]), job["graph"]["nets"]
+    spots, blocks = spots_of(machine, job["graph"]["vertices"]), blocks_of(nets)
+    plain, trees = defaultdict(list), []
+    for net, block in zip(placed_nets(job), blocks):
         try:
-            rows = wanted_rows(machine, spots, placed, block)
+            trees.append(tree_of(machine, spots, net))
         except LookupError as lost:
             raise Refused(7, f"cut off: {net['name']} {lost.args[0][0]} {lost.args[0][1]}") from None
-        for chip, row in rows.items():
+        for chip, row in wanted_rows(machine, spots, net, block, trees[-1]).items():
             plain[chip].append(row)
     tables = {}
     for chip, rows in sorted(plain.items()):
@@ -409,7 +417,7 @@ def plan_of(job):
         tables[chip] = without_defaults(covered(rows, job["run"].get("target", 1024)))
         if len(tables[chip]) > MOST_ROWS:
             raise Refused(8, f"table long: {chip[0]} {chip[1]} {len(tables[chip])}")
-    return Plan(spots, blocks, {chip: rows for chip, rows in tables.items() if rows})
+    return Plan(spots, blocks, trees, {chip: rows for chip, rows in tables.items() if rows})
 
 
 # ---- what is written
@@ -441,10 +449,9 @@ def got_lines(job, plan):
                 yield f"got {vertex['name']} {i} {block.key + packet['index']:08x} {payload}"
 
 
-def image_of(job, plan):
-    machine = job["machine"]
-    parts = [b"SPNT", struct.pack("<BBBBH", 1, machine["width"], machine["height"], machine.get("wrap", False), len(plan.tables))]
-    for (x, y), rows in plan.tables.items():
+def image_of(machine, tables):
+    parts = [b"SPNT", struct.pack("<BBBBH", 1, machine["width"], machine["height"], machine.get("wrap", False), len(tables))]
+    for (x, y), rows in tables.items():
         parts.append(struct.pack("<BBH", x, y, len(rows)))
         parts += [struct.pack("<III", *row.block, row.route) for row in rows]
     return b"".join(parts)
@@ -464,7 +471,7 @@ def answers_to(job):
     lines, got = list(plan_lines(job, plan)), list(got_lines(job, plan))
     return {
         "tables": (0, text_of([*lines, f"end rows {rows_in_all(plan)}"])),
-        "compile": (0, image_of(job, plan)),
+        "compile": (0, image_of(job["machine"], plan.tables)),
         "run": (0, text_of([*lines, *got, f"end delivered {len(got)} dumped 0 waiting 0 unsent 0"])),
     }, plan
 

@@ -8,13 +8,15 @@
 
 The package has no rules of its own: placements, keys, tables and refusals are those of the program.
 """
-from .images import Image, decode
+from .checks import BadImage, BadTree, OtherMachine, Right, Split, Verdict, Wrong
+from .images import Image, decode, encode
 from .jobs import Job, Machine, Net, Packet, Vertex, collect, dump, inject, send, take
-from .program import Refused, compile, gen, run, tables, trace
+from .program import Refused, check, compile, gen, run, tables, trace
 from .reports import Delivery, Dump, Keys, Place, Plan, Report, Row, Summary, Table, Wait, links_of, cores_of
 
 __all__ = [
-    "Delivery", "Dump", "Image", "Job", "Keys", "Machine", "Net", "Packet", "Place", "Plan", "Refused", "Report", "Row", "Summary",
-    "Table", "Vertex", "Wait", "collect", "compile", "cores_of", "decode", "dump", "gen", "inject", "links_of", "run", "send",
-    "tables", "take", "trace",
+    "BadImage", "BadTree", "Delivery", "Dump", "Image", "Job", "Keys", "Machine", "Net", "OtherMachine", "Packet", "Place",
+    "Plan", "Refused", "Report", "Right", "Row", "Split", "Summary", "Table", "Verdict", "Vertex", "Wait", "Wrong", "check",
+    "collect", "compile", "cores_of", "decode", "dump", "encode", "gen", "inject", "links_of", "run", "send", "tables", "take",
+    "trace",
 ]

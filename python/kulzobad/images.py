@@ -3,8 +3,9 @@ from __future__ import annotations
 
 import struct
 from dataclasses import dataclass, field
-from typing import Dict, Tuple
+from typing import Dict, Iterable, Mapping, Tuple
 
+from .jobs import Chip, Machine
 from .reports import Row, Table
 
 MAGIC = b"SPNT"
@@ -44,3 +45,15 @@ def decode(data: bytes) -> Image:
     if at != len(data):
         raise ValueError(f"bytes after the image, at {at}")
     return image
+
+
+def encode(machine: Machine, tables: Mapping[Chip, Iterable[Tuple[int, int, int]]]) -> bytes:
+    """The bytes that spell tables of a machine. Of each chip it takes the rows in the order in which the router looks, each a key,
+    a mask and a route word (bits 0 to 5 the links, 6 to 23 the cores). A chip without rows may be left out. It spells what it is
+    given: whether that is an image is for `check` to say."""
+    chips = [(chip, rows) for chip, rows in ((chip, list(tables[chip])) for chip in sorted(tables)) if rows]
+    parts = [MAGIC, struct.pack("<BBBBH", 1, machine.width, machine.height, machine.wrap, len(chips))]
+    for (x, y), rows in chips:
+        parts.append(struct.pack("<BBH", x, y, len(rows)))
+        parts += [struct.pack("<III", key, mask, route) for key, mask, route in rows]
+    return b"".join(parts)

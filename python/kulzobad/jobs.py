@@ -146,10 +146,16 @@ class Job:
 
     def member(self, path: str) -> Any:
         """The part of the job at a path of the program's, as `job.graph.nets[0].targets[1]`; None where it has no such part."""
-        part: Any = self.as_json()
-        for step in path.replace("[", ".[").split(".")[1:]:
-            try:
-                part = part[int(step[1:-1])] if step.startswith("[") else part[step]
-            except (KeyError, IndexError, TypeError):
-                return None
-        return part
+        return part_at({"job": self.as_json()}, path)
+
+
+def part_at(whole: Any, path: str) -> Any:
+    """The part of a JSON value at a path, in which names of members and numbers of items follow each other. None where there is
+    no such part."""
+    part = whole
+    for step in path.replace("[", ".[").split("."):
+        try:
+            part = part[int(step[1:-1])] if step.startswith("[") else part[step]
+        except (KeyError, IndexError, TypeError):
+            return None
+    return part

@@ -1,14 +1,16 @@
 """Calls the program."""
 from __future__ import annotations
 
+import json
 import os
 import re
 import subprocess
 from pathlib import Path
-from typing import Any, List, Optional
+from typing import Any, Dict, Iterable, List, Mapping, Optional, Tuple, Union
 
+from .checks import Verdict, read_verdict
 from .images import Image, decode
-from .jobs import Chip, Job
+from .jobs import Chip, Job, part_at
 from .reports import Plan, Report, Summary, read, read_summary
 
 REPOSITORY = Path(__file__).resolve().parents[2]
@@ -21,11 +23,11 @@ KINDS = {
 
 class Refused(Exception):
     """The program gave no output. `status` is its status and `kind` that status in words; for a bad job `fault` is what is
-    wrong ("shape", "range", ..), `path` where, and `member` the part of the job that stands there. `name` is the vertex without
-    room, or the net without keys or with a target that is cut off; `chip` the chip of that target, or the one whose table is too
-    long, and `rows` how many rows that has."""
+    wrong ("shape", "range", ..), `path` where, and `member` the part that stands there, of the job or, where the path begins with
+    `in`, of what is to be checked. `name` is the vertex without room, or the net without keys or with a target that is cut off;
+    `chip` the chip of that target, or the one whose table is too long, and `rows` how many rows that has."""
 
-    def __init__(self, status: int, line: str, job: Optional[Job] = None) -> None:
+    def __init__(self, status: int, line: str, parts: Optional[Mapping[str, Any]] = None) -> None:
         self.status, self.line = status, line
         self.kind = KINDS.get(status, "unknown")
         self.fault: Optional[str] = None
@@ -35,10 +37,10 @@ class Refused(Exception):
         self.chip: Optional[Chip] = None
         self.rows: Optional[int] = None
         rest = line[len("bad job: "):].split(" ") if line.startswith("bad job: ") else []
-        at = next((i for i, word in enumerate(rest) if word == "job" or word.startswith("job.")), None)
+        at = next((i for i, word in enumerate(rest) if word.split(".")[0] in ("job", "in")), None)
         if at is not None:
             self.fault, self.path = " ".join(rest[:at]), rest[at]
-            self.member = job.member(self.path) if job else None
+            self.member = part_at(parts, self.path)
         named = re.fullmatch(r"(?:no room|keys out|cut off): (\S+)(?: (\d+) (\d+))?", line)
         if named:
             self.name = named[1]
@@ -55,36 +57,61 @@ def program_of(program: Optional[str]) -> str:
     return program or os.environ.get("KULZOBAD_SPIN") or str(REPOSITORY / "spin")
 
 
-def answer(words: List[str], job: Optional[Job], program: Optional[str]) -> bytes:
-    """What the program writes for the words and the job, if they need one. Refused where its status is not 0."""
-    text = job.text().encode() if job else b""
+def answer(words: List[str], parts: Mapping[str, Any], program: Optional[str]) -> bytes:
+    """What the program writes for the words and what they read: a request (`in`), else a job (`job`), if they need one. Refused
+    where its status is not 0."""
+    handed_in = parts.get("in", parts.get("job"))
+    text = b"" if handed_in is None else json.dumps(handed_in).encode()
     done = subprocess.run([program_of(program), *words], input=text, stdout=subprocess.PIPE, check=False)
     if done.returncode:
-        raise Refused(done.returncode, done.stdout.decode(errors="replace").rstrip("\n"), job)
+        raise Refused(done.returncode, done.stdout.decode(errors="replace").rstrip("\n"), parts)
     return done.stdout
+
+
+def answer_to(word: str, job: Job, program: Optional[str]) -> bytes:
+    """What the program writes for a word that reads a job."""
+    return answer([word], {"job": job.as_json()}, program)
 
 
 def run(job: Job, program: Optional[str] = None) -> Report:
     """Compiles the job and runs its packets."""
-    return read(answer(["run"], job, program).decode())
+    return read(answer_to("run", job, program).decode())
 
 
 def tables(job: Job, program: Optional[str] = None) -> Plan:
     """Compiles the job: where its vertices stand, which keys its nets have, and its tables."""
-    return read(answer(["tables"], job, program).decode()).plan
+    return read(answer_to("tables", job, program).decode()).plan
 
 
 def compile(job: Job, program: Optional[str] = None) -> Image:
     """Compiles the job: the image of its tables. `data` of the image is its bytes, for a loader."""
-    return decode(answer(["compile"], job, program))
+    return decode(answer_to("compile", job, program))
 
 
 def trace(job: Job, program: Optional[str] = None) -> Report:
     """Compiles the job and takes its events one by one; `moved` of the report says of each whether it was enabled."""
-    return read(answer(["trace"], job, program).decode())
+    return read(answer_to("trace", job, program).decode())
 
 
 def gen(number: int, program: Optional[str] = None) -> Summary:
     """Compiles and runs the job that the program makes of the number, from 0 to 2**64 - 1: a board of 48 chips with 200 vertices,
     300 nets and 1,200 packets."""
-    return read_summary(answer(["gen", str(number)], None, program).decode())
+    return read_summary(answer(["gen", str(number)], {}, program).decode())
+
+
+def check(
+    job: Job,
+    trees: Mapping[str, Iterable[Tuple[int, int, int]]],
+    image: Union[Image, bytes],
+    program: Optional[str] = None,
+) -> Verdict:
+    """Whether the tables of an image, whoever made them, route each key of each net by the net's tree. `trees` has, by the names
+    of nets, the links of each tree in any order, as (x, y, link); a net that it has not is one without links. Vertices and keys are
+    placed as for `tables`; of `run` of the job nothing counts."""
+    unknown = set(trees) - {net.name for net in job.nets}
+    if unknown:
+        raise ValueError(f"trees of nets that the job has not: {', '.join(sorted(unknown))}")
+    data = image.data if isinstance(image, Image) else image
+    request: Dict[str, Any] = {"job": job.as_json(), "image": list(data)}
+    request["trees"] = [[list(link) for link in trees.get(net.name, ())] for net in job.nets]
+    return read_verdict(answer(["check"], {"job": request["job"], "in": request}, program).decode())

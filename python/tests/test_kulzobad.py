@@ -4,7 +4,9 @@ import unittest
 from pathlib import Path
 
 from kulzobad import Delivery, Job, Keys, Machine, Net, Packet, Place, Refused, Row, Summary, Vertex, cores_of, links_of, run, tables
+from kulzobad import BadImage, BadTree, OtherMachine, Right, Split, Wrong, check, encode
 from kulzobad import collect, compile, decode, gen, inject, send, take, trace
+from kulzobad.checks import read_verdict
 from kulzobad.reports import Dump, Wait, read, read_summary
 
 
@@ -119,6 +121,83 @@ class Jobs(unittest.TestCase):
 
     def test_a_job_is_text(self):
         self.assertEqual(json.loads(pair(queue=3).text())["run"], {"queue": 3, "packets": [{"net": "n", "index": 0, "payload": 7}]})
+
+
+class Checks(unittest.TestCase):
+    """The row of chips: a net from (0, 0) to core 1 of (3, 0), with key 0."""
+
+    way = {"n": [(2, 0, 0), (0, 0, 0), (1, 0, 0)]}
+    east, core = (0, 0xFFFFFFFF, 1), (0, 0xFFFFFFFF, 0x80)
+
+    def verdict(self, tables, job=None, way=None):
+        job = job or row_of_chips()
+        return check(job, self.way if way is None else way, encode(job.machine, tables))
+
+    def test_tables_that_are_right(self):
+        for tables in ({(0, 0): [self.east], (3, 0): [self.core]}, {(x, 0): [self.core if x == 3 else self.east] for x in range(4)}):
+            verdict = self.verdict(tables)
+            self.assertEqual(verdict, Right())
+            self.assertTrue(verdict)
+
+    def test_what_is_compiled_is_right(self):
+        job = Job(Machine(1, 1), [Vertex("a"), Vertex("b")], [Net("n", "a", ["b"], keys=3), Net("m", "b", ["a", "b"])], target=0)
+        self.assertEqual(check(job, {}, compile(job)), Right())
+
+    def test_a_row_with_another_route(self):
+        verdict = self.verdict({(0, 0): [self.east], (3, 0): [self.east]})
+        self.assertEqual(verdict, Wrong("n", 3, 0, 0))
+        self.assertFalse(verdict)
+
+    def test_a_row_for_the_second_of_two_keys(self):
+        nets = [Net("n", "a", ["b"], keys=2, fixed=(0xAB0, 0xFFFFFFFE))]
+        job = Job(Machine(4, 1), [Vertex("a", at=(0, 0)), Vertex("b", at=(3, 0))], nets)
+        verdict = self.verdict({(0, 0): [(7, 0xFFFFFFFF, 1), (0xAB1, 0xFFFFFFFF, 1)]}, job)
+        self.assertEqual(verdict, Split("n", 0, 0, 1))
+        self.assertFalse(verdict)
+        self.assertEqual(self.verdict({(0, 0): [(0xAB0, 0xFFFFFFFE, 2)]}, job), Wrong("n", 0, 0, 0xAB0))
+
+    def test_a_tree_that_ends_before_the_target(self):
+        self.assertEqual(self.verdict({}, way={"n": [(0, 0, 0)]}), BadTree("n"))
+        self.assertEqual(self.verdict({}, way={}), BadTree("n"))
+
+    def test_bytes_that_are_no_image(self):
+        self.assertEqual(check(row_of_chips(), self.way, b"SPNT\2"), BadImage(4))
+        # (route 0 in the row of chip (0, 0), which begins at 14)
+        self.assertEqual(self.verdict({(0, 0): [(0, 0xFFFFFFFF, 0)]}), BadImage(22))
+
+    def test_an_image_of_another_machine(self):
+        self.assertEqual(check(row_of_chips(), self.way, encode(Machine(4, 1, wrap=True), {})), OtherMachine())
+
+    def test_the_bytes_of_tables(self):
+        data = encode(Machine(4, 1), {(3, 0): [self.core], (1, 0): [], (0, 0): [self.east]})
+        self.assertEqual(data, (EXAMPLES / "image.report").read_bytes())
+
+    def refused(self, job, way, image=b""):
+        with self.assertRaises(Refused) as caught:
+            check(job, way, image)
+        return caught.exception
+
+    def test_a_link_outside_the_grid(self):
+        refused = self.refused(row_of_chips(), {"n": [(0, 0, 0), (4, 0, 3)]})
+        self.assertEqual((refused.status, refused.kind, refused.fault), (4, "bad job", "range"))
+        self.assertEqual((refused.path, refused.member), ("in.trees[0][1]", [4, 0, 3]))
+
+    def test_a_fault_of_the_job(self):
+        refused = self.refused(Job(Machine(1, 1), [Vertex("a")], [Net("n", "a", ["zoe"])]), {})
+        self.assertEqual((refused.fault, refused.path, refused.member), ("unknown name", "job.graph.nets[0].targets[0]", "zoe"))
+
+    def test_a_vertex_without_room(self):
+        refused = self.refused(Job(Machine(1, 1), [Vertex("a", at=(1, 0))]), {})
+        self.assertEqual((refused.status, refused.kind, refused.name), (5, "no room", "a"))
+
+    def test_the_tree_of_no_net(self):
+        with self.assertRaisesRegex(ValueError, "zoe"):
+            check(row_of_chips(), {"zoe": []}, b"")
+
+    def test_lines_that_are_none(self):
+        for wrong in ("", "right", "right\n\n", "wrong n 0 0\n", "wrong n 0 0 0\n", "split n 0 0\n", "bad tree\n", "bad image x\n"):
+            with self.assertRaises(ValueError):
+                read_verdict(wrong)
 
 
 class Reports(unittest.TestCase):

@@ -188,6 +188,13 @@ no_entries : (m : Description) (c : Chip) (k : ℕ) → IsInside m c → k < 102
 no_entries m c k inside below =
     ap (λ (l : List Entry). slice_get l k) (get_or-replicate (m.width * m.height) (index_of m c) empty_memory [] (index_below m c inside)) ∙ empty_at k below
 
+memory_long : length empty_memory ≡ 1024
+unfolding empty_memory
+memory_long = length-replicate 1024 unused
+
+tables_long : (m : Description) (c : Chip) → IsInside m c → length (table_at m (replicate (m.width * m.height) empty_memory) c) ≡ 1024
+tables_long m c inside = ap (λ (l : List Entry). length l) (get_or-replicate (m.width * m.height) (index_of m c) empty_memory [] (index_below m c inside)) ∙ memory_long
+
 pub none_held : (m : Description) → TellsTaken m [] (replicate (24 * (m.width * m.height)) false)
 none_held m = record {
   long = length-replicate (24 * (m.width * m.height)) false;
@@ -211,7 +218,7 @@ bare_apps m q mesh = record {
   apart = λ i j d before within. absurd (omega (arith, within));
   free = record { all = long m; each = none_taken m };
   disjoint = λ i j d before within. absurd (omega (arith, within));
-  rows = record { rows = All-nil _; others = λ c k inside below free. no_entries m c k inside below };
+  rows = record { long = λ c inside. tables_long m c inside; rows = All-nil _; others = λ c k inside below free. no_entries m c k inside below };
   right = All-nil _;
   ledger = no_ledger (bare_mesh m q).setup;
   ascending = λ i j d before within. absurd (omega (arith, within));

@@ -36,7 +36,7 @@ use Rattle.packet_runs.specs.UnderWay.{weight_in}
 use Rattle.app_loads.specs.declared.waiting.Waits.{Waits}
 use Rattle.app_loads.specs.declared.waiting.Waits.TheVariants.{InCore, InHand, AtPort}
 use Rattle.app_loads.specs.Running.{IsAfter, IsMoved, HasCopies, IsNext, IsWaiting}
-use Rattle.app_loads.proofs.Weights.{moved_lighter}
+use Rattle.packet_runs.proofs.Progress.{moved_lighter}
 
 -- ---- events, one after the other
 

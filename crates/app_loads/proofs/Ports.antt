@@ -68,36 +68,6 @@ no_hand s n long all clear p d within =
 pub no_core : (cores : List (List McCopy)) (n : ℕ) → length cores ≤ n → ((i : ℕ) → i < n → slice_get cores i ≡ Some []) → All (λ (q : List McCopy). q ≡ []) cores
 no_core cores n all clear p d within = get_or_from_slice_get cores p [] d (clear p (omega (arith, within, all)))
 
--- ---- few vertices
-
--- no two vertices stand on one core, so a mesh has fewer than 2 ^ 32
-pub few_in_mesh : (s : State) → IsMesh s → length s.setup.spots ≤ 98304
-few_in_mesh s mesh =
-    let number : Spot → ℕ = spot_place s.setup.machine in
-    let places : List ℕ = map number s.setup.spots in
-    let nowhere : Spot = record { chip = record { x = 0; y = 0 }; core = 0 } in
-    let long : length places ≡ length s.setup.spots = length-map s.setup.spots number in
-    let is : (i d : ℕ) → i < length places → get_or places i d ≡ number (get_or s.setup.spots i nowhere) = λ i d below. get_or-map number s.setup.spots i nowhere d (omega (arith, below, long)) in
-    let parts = λ (i : ℕ) (below : i < length s.setup.spots). site_inside s.setup.machine (get_or s.setup.spots i nowhere) (mesh.sites i nowhere below) in
-    let few = length_le_from_apart places (24 * (s.setup.machine.width * s.setup.machine.height))
-    (λ i j d before below same.
-    let below_j : j < length s.setup.spots = omega (arith, below, long) in
-    let below_i : i < length s.setup.spots = omega (arith, before, below_j) in
-    let a = parts i below_i in
-    let b = parts j below_j in
-    mesh.different i j nowhere before below_j
-    (same_spot_place s.setup.machine (get_or s.setup.spots i nowhere) (get_or s.setup.spots j nowhere) a.0 b.0 a.1 b.1
-    (sym (is i d (omega (arith, below_i, long))) ∙ (same ∙ is j d below))))
-    (λ i d below.
-    let below_i : i < length s.setup.spots = omega (arith, below, long) in
-    let a = parts i below_i in
-    subst (λ n. n < 24 * (s.setup.machine.width * s.setup.machine.height)) (sym (is i d below)) (spot_place-below s.setup.machine (get_or s.setup.spots i nowhere) a.0 a.1))
-    in
-    let w = mesh.size.width_to_64 in
-    let h = mesh.size.height_to_64 in
-    let area : s.setup.machine.width * s.setup.machine.height ≤ s.setup.machine.width * 64 = mul-le-mul_left s.setup.machine.width h in
-    omega (arith, few, long, w, area)
-
 -- ---- a hand's next output
 
 some_same : {X : Type 0} {a b : X} → Some a ≡ Some b → a ≡ b

@@ -39,9 +39,10 @@ pub record HasRows (m : Description) (nets : List NetPlan) (c : Chip) (table : L
   pub plain : IsPlainTable m nets c rows
   pub entries : take range.size (drop range.place table) ≡ map entry_of rows
 
--- The tables have, at each chip, in each application's range of entries the plain rows of its nets, and every entry in no
--- application's range is unused.
+-- The tables have 1,024 entries, at each chip; they have in each application's range of entries the plain rows of its nets, and
+-- every entry in no application's range is unused.
 pub record HaveRows (m : Description) (tables : List (List Entry)) (apps : List LoadedApp) : Type 0 where
+  pub long : (c : Chip) → IsInside m c → length (table_at m tables c) ≡ 1024
   pub rows : All (λ (app : LoadedApp). All (λ (range : Range). (c : Chip) → IsInside m c → range.region ≡ rows_region m c → HasRows m (nets_of app) c (table_at m tables c) range) app.ranges) apps
   pub others : (c : Chip) (k : ℕ) → IsInside m c → k < 1024 → is_taken (all_ranges apps) (rows_region m c) k ≡ false → slice_get (table_at m tables c) k ≡ Some unused
 

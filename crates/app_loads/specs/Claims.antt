@@ -44,11 +44,14 @@ key_claim net keys None = record { region = keys_region; size = size_for keys; a
 abbrev pub has_chip : Description → Chip → AppNet → Bool
 has_chip m c net = chip_eq c net.tree.root || list_any (λ (e : Edge). option_map_or (chip_eq c) (end_of m e) false) net.tree.edges
 
--- A chip is asked for as many entries as nets have it in their trees, where there are any.
-abbrev pub row_claim : Description → List AppNet → ℕ → List Claim
-row_claim m nets i =
-    let rows = count_by (has_chip m (chip_of m i)) nets in
+-- So many entries of the chip of an index are asked for, where there are any.
+abbrev pub entries_claim : Description → ℕ → ℕ → List Claim
+entries_claim m i rows =
     if rows == 0 then [] else record { region = rows_region m (chip_of m i); size = rows; align = 1; fixed = None; refusal = RowsOut (chip_of m i) } ∷ []
+
+-- A chip is asked for as many entries as nets have it in their trees.
+abbrev pub row_claim : Description → List AppNet → ℕ → List Claim
+row_claim m nets i = entries_claim m i (count_by (has_chip m (chip_of m i)) nets)
 
 -- A plan asks for memory vertex by vertex, for the fixed blocks of its nets, for the blocks of its other nets, and for entries
 -- chip by chip, in that order.
@@ -99,9 +102,18 @@ pub record IsRefusalDue (m : Description) (taken : List Range) (claims : List Cl
   pub refused : IsRefused m (taken ++ ranges) claim
   pub refusal_is : claim.refusal ≡ refusal
 
--- The blocks of the nets are the ranges that their claims got: the block of a net begins where its range does, and has as many
--- keys.
+-- The block of a net is the range that its claim got: it begins where the range does, and has as many keys.
+pub record IsBlockOf (claims : List Claim) (ranges : List Range) (net : ℕ) (block : Block) : Type 0 where
+  pub at : ℕ
+  pub claim : Claim
+  pub range : Range
+  pub is : slice_get claims at ≡ Some claim
+  pub its : claim.refusal ≡ KeysOut net
+  pub got : slice_get ranges at ≡ Some range
+  pub key : block.key ≡ range.place
+  pub mask : block.mask + range.size ≡ 2 ^ 32
+
+-- each net has its block
 pub record AreBlocks (claims : List Claim) (ranges : List Range) (nets : List AppNet) (blocks : List Block) : Type 0 where
   pub all : length blocks ≡ length nets
-  pub each : (i j : ℕ) (claim : Claim) (range : Range) (block : Block) → slice_get claims i ≡ Some claim → claim.refusal ≡ KeysOut j →
-      slice_get ranges i ≡ Some range → slice_get blocks j ≡ Some block → (block.key ≡ range.place) × (block.mask + range.size ≡ 2 ^ 32)
+  pub each : (net : ℕ) (block : Block) → slice_get blocks net ≡ Some block → IsBlockOf claims ranges net block

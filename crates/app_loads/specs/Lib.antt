@@ -9,12 +9,17 @@ pub use Rattle.mesh_core.specs.State
 pub use Rattle.mesh_core.specs.Step
 pub mod Applications
 pub mod Claims
+pub mod Counting
 pub mod Host
 pub mod Inner
+pub mod Joining
 pub mod Loading
+pub mod Marking
 pub mod Opening
 pub mod Plans
 pub mod Regions
 pub mod Running
+pub mod Sending
 pub mod Taking
 pub mod Unloading
+pub mod Writing

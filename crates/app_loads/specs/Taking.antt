@@ -1,5 +1,5 @@
 -- How ranges are taken from regions and given back, as the private functions say it.
-use Rattle.std.specs.Prelude.{◌≡◌, ℕ, ◌+◌, ◌*◌, ◌%◌, ◌<◌, ◌≤◌, ◌==◌, ◌⊎◌, List, ◌++◌, All, AllPairs, Some, IfSome, count_by, map, slice_get}
+use Rattle.std.specs.Prelude.{◌≡◌, ℕ, ◌+◌, ◌%◌, ◌<◌, ◌≤◌, ◌==◌, ◌⊎◌, List, [], ◌∷◌, ◌++◌, All, AllPairs, Some, IfSome, count_by, length, map, slice_get}
 use Rattle.machine_desc.specs.Description.{Description}
 use Rattle.range_store.specs.Views.{Region}
 use Rattle.app_loads.specs.declared.loaded.Claim.{Claim}
@@ -7,8 +7,8 @@ use Rattle.app_loads.specs.declared.loaded.Range.{Range}
 use Rattle.app_loads.specs.declared.answers.LoadErr.{LoadErr}
 use Rattle.app_loads.specs.declared.answers.LoadErr.TheVariants.{Memory}
 use Rattle.app_loads.specs.Host.{Free}
-use Rattle.app_loads.specs.Regions.{AreFreeBeside, AreApart, region_size}
-use Rattle.app_loads.specs.Claims.{AreServed, IsRefusalDue}
+use Rattle.app_loads.specs.Regions.{AreFreeBeside, IsFreeBeside, AreApart, region_size}
+use Rattle.app_loads.specs.Claims.{AreFirstServed, AreServed, IsLeastOpen, IsRefused, IsRefusalDue}
 
 -- a region, but for the room that is made in its list of holes
 abbrev pub free_of : Region → Free
@@ -18,15 +18,25 @@ abbrev pub frees : List Region → List Free
 frees regions = map free_of regions
 
 -- A claim is fair where it asks a region that is there for at least one place, and a fixed range lies within the region.
-pub record IsFair (m : Description) (claim : Claim) : Type 0 where
-  pub there : claim.region < 1 + (m.width * m.height + m.width * m.height)
+pub record IsFair (m : Description) (regions : ℕ) (claim : Claim) : Type 0 where
+  pub there : claim.region < regions
   pub some : 0 < claim.size
   pub step : 0 < claim.align
   pub fixed : IfSome claim.fixed (λ p. (p % claim.align ≡ 0) × (p + claim.size ≤ region_size m claim.region))
 
+-- some ranges are taken of the regions, apart from each other
+pub record AreRegionsOf (m : Description) (regions : List Region) : Type 0 where
+  pub taken : List Range
+  pub apart : AllPairs AreApart taken
+  pub free : AreFreeBeside m taken (frees regions)
+
+-- the regions are those of a machine, for which the claims are fair
+abbrev pub CanServe : List Claim → List Region → Type 0
+CanServe claims regions = (m : Description) × AreRegionsOf m regions × All (IsFair m (length regions)) claims
+
 -- a range has at least one place, of a region that is there, and lies within it
-pub record IsWithin (m : Description) (range : Range) : Type 0 where
-  pub there : range.region < 1 + (m.width * m.height + m.width * m.height)
+pub record IsWithin (m : Description) (regions : ℕ) (range : Range) : Type 0 where
+  pub there : range.region < regions
   pub some : 0 < range.size
   pub within : range.place + range.size ≤ region_size m range.region
 
@@ -37,15 +47,26 @@ HaveRoom ranges regions = (i : ℕ) (r : Region) → slice_get regions i ≡ Som
 -- Ranges that were taken beside others: each lies within its region, no two of all share a place, and the regions have the
 -- other places free.
 pub record AreTaken (m : Description) (others ranges : List Range) (regions : List Region) : Type 0 where
-  pub within : All (IsWithin m) ranges
+  pub within : All (IsWithin m (length regions)) ranges
   pub apart : AllPairs AreApart (others ++ ranges)
   pub free : AreFreeBeside m (others ++ ranges) (frees regions)
 
+-- whatever was taken before, these ranges are taken beside it
+abbrev pub AreTakenAlways : List Region → List Range → List Region → Type 0
+AreTakenAlways old ranges new =
+    (m : Description) (taken : List Range) → AllPairs AreApart taken → AreFreeBeside m taken (frees old) → AreTaken m taken ranges new
+
 -- whatever was taken before, the claims got these ranges beside it
-abbrev pub IsServedAlways : List Claim → List Region → List Range → List Region → Type 0
-IsServedAlways claims old ranges new =
-    (m : Description) (taken : List Range) → AllPairs AreApart taken → AreFreeBeside m taken (frees old) →
-    AreServed m taken claims ranges × AreTaken m taken ranges new
+abbrev pub AreServedAlways : List Claim → List Region → List Range → Type 0
+AreServedAlways claims old ranges =
+    (m : Description) (taken : List Range) → AllPairs AreApart taken → AreFreeBeside m taken (frees old) → AreServed m taken claims ranges
+
+-- the same of the first claims
+pub record HaveServed (claims : List Claim) (old : List Region) (ranges : List Range) (new : List Region) : Type 0 where
+  pub served : (m : Description) (taken : List Range) → AllPairs AreApart taken → AreFreeBeside m taken (frees old) → AreFirstServed m taken claims ranges
+  pub taken : AreTakenAlways old ranges new
+  pub room : HaveRoom ranges new
+  pub long : length new ≡ length old
 
 -- whatever was taken before, the refusal is due
 abbrev pub IsDueAlways : List Claim → List Region → LoadErr → Type 0
@@ -53,8 +74,16 @@ IsDueAlways claims old refusal =
     (refusal ≡ Memory)
     ⊎ ((m : Description) (taken : List Range) → AllPairs AreApart taken → AreFreeBeside m taken (frees old) → IsRefusalDue m taken claims refusal)
 
--- some ranges are taken of the regions, apart from each other
-pub record AreRegionsOf (m : Description) (regions : List Region) : Type 0 where
-  pub taken : List Range
-  pub apart : AllPairs AreApart taken
-  pub free : AreFreeBeside m taken (frees regions)
+-- the range of a claim from a place on
+abbrev pub range_at : Claim → ℕ → Range
+range_at claim place = record { region = claim.region; place = place; size = claim.size }
+
+-- whatever else is taken of a region, the range from this place on is the least for the claim, and is taken besides
+abbrev pub Serves : Claim → Region → Region → ℕ → Type 0
+Serves claim before after place =
+    (m : Description) (taken : List Range) → IsFreeBeside m taken claim.region (free_of before) →
+    IsLeastOpen m taken claim (range_at claim place) × IsFreeBeside m (taken ++ range_at claim place ∷ []) claim.region (free_of after)
+
+-- whatever else is taken of a region, it has no range for the claim
+abbrev pub Refuses : Claim → Region → Type 0
+Refuses claim before = (m : Description) (taken : List Range) → IsFreeBeside m taken claim.region (free_of before) → IsRefused m taken claim

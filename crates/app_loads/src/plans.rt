@@ -41,8 +41,8 @@ impl AppPlan {
 }
 
 impl AppNet {
-    // The same net once more.
-    fn copy(&self, alloc: Global) -> Result<AppNet, Memory>
+    /// The same net once more.
+    pub fn copy(&self, alloc: Global) -> Result<AppNet, Memory>
         ensures { IfOk result (λ net. net ≡ self.now) }
     {
         let tree = Tree {

@@ -7,7 +7,9 @@ use Rattle.std.specs.Str.{bytes_eq}
 use Rattle.std.specs.Str.Parse.{digits_value}
 use Rattle.std.specs.declared.alloc.Global.{Global}
 use Rattle.command_words.specs.declared.commands.Command.{Command}
-use Rattle.command_words.specs.declared.commands.Command.TheVariants.{Run, Trace, Compile, Tables, Gen}
+use Rattle.command_words.specs.declared.commands.Command.TheVariants.{OfJob, Check}
+use Rattle.command_words.specs.declared.commands.JobWord.{JobWord}
+use Rattle.command_words.specs.declared.commands.JobWord.TheVariants.{Run, Trace, Compile, Tables, Gen}
 
 -- the words as texts
 abbrev pub texts_of : List (String Global) → List (List ℕ)
@@ -24,25 +26,26 @@ number_in word = if is_numeral word && nat_lt (digits_value 10 word) (2 ^ 64) th
 -- the command of one word
 abbrev pub plain_command : List ℕ → Option Command
 plain_command word =
-    if bytes_eq word (codes "run") then Some Run
-    else if bytes_eq word (codes "trace") then Some Trace
-    else if bytes_eq word (codes "compile") then Some Compile
-    else if bytes_eq word (codes "tables") then Some Tables
+    if bytes_eq word (codes "run") then Some (OfJob Run)
+    else if bytes_eq word (codes "trace") then Some (OfJob Trace)
+    else if bytes_eq word (codes "compile") then Some (OfJob Compile)
+    else if bytes_eq word (codes "tables") then Some (OfJob Tables)
+    else if bytes_eq word (codes "check") then Some Check
     else None
 
 -- the command of a word and a number
 abbrev pub numbered_command : List ℕ → List ℕ → Option Command
-numbered_command word number = if bytes_eq word (codes "gen") then option_map Gen (number_in number) else None
+numbered_command word number = if bytes_eq word (codes "gen") then option_map (λ n. OfJob (Gen n)) (number_in number) else None
 
--- Which command words are: `run`, `trace`, `compile`, `tables`, or `gen` and a number, exactly. Other words are none.
+-- Which command words are: `run`, `trace`, `compile`, `tables`, `check`, or `gen` and a number, exactly. Other words are none.
 abbrev pub spelled : List (List ℕ) → Option Command
 spelled [] = None
 spelled (word ∷ []) = plain_command word
 spelled (word ∷ (number ∷ [])) = numbered_command word number
 spelled (word ∷ (number ∷ (more ∷ words))) = None
 
--- All commands but `gen` read a job.
-abbrev pub ReadsJob : Command → Type 0
+-- All words of a job but `gen` read one.
+abbrev pub ReadsJob : JobWord → Type 0
 ReadsJob Run = Unit {0}
 ReadsJob Trace = Unit {0}
 ReadsJob Compile = Unit {0}

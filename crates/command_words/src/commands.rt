@@ -7,6 +7,15 @@ use crate::numbers::number_of;
 /// What the words ask for.
 #[derive(Clone, Copy, Debug, PartialEq, Eq)]
 pub enum Command {
+    /// Makes something of a job.
+    OfJob(JobWord),
+    /// Checks the tables of an image against the trees of a request.
+    Check,
+}
+
+/// What is made of a job.
+#[derive(Clone, Copy, Debug, PartialEq, Eq)]
+pub enum JobWord {
     /// Compiles the job, runs it, and reports.
     Run,
     /// Compiles the job, takes its events one by one, and reports.
@@ -19,8 +28,8 @@ pub enum Command {
     Gen(u64),
 }
 
-/// The command that the words are, the program's name left out: `run`, `trace`, `compile`, `tables`, or `gen N` with a number
-/// that is `0`, or digits without a leading 0, below 2^64. `None` where they are none of these.
+/// The command that the words are, the program's name left out: `run`, `trace`, `compile`, `tables`, `gen N` with a number that is
+/// `0`, or digits without a leading 0, below 2^64, or `check`. `None` where they are none of these.
 pub fn command_of(words: &[String]) -> Option<Command>
     ensures { result ≡ spelled (texts_of words.now) }
 {
@@ -35,16 +44,19 @@ fn plain_command(word: &str) -> Option<Command>
     ensures { result ≡ plain_command word.now }
 {
     if word == "run" {
-        return Some(Command::Run);
+        return Some(Command::OfJob(JobWord::Run));
     }
     if word == "trace" {
-        return Some(Command::Trace);
+        return Some(Command::OfJob(JobWord::Trace));
     }
     if word == "compile" {
-        return Some(Command::Compile);
+        return Some(Command::OfJob(JobWord::Compile));
     }
     if word == "tables" {
-        return Some(Command::Tables);
+        return Some(Command::OfJob(JobWord::Tables));
+    }
+    if word == "check" {
+        return Some(Command::Check);
     }
     None
 }
@@ -56,7 +68,7 @@ fn numbered_command(word: &str, number: &str) -> Option<Command>
         return None;
     }
     match number_of(number) {
-        Some(number) => Some(Command::Gen(number)),
+        Some(number) => Some(Command::OfJob(JobWord::Gen(number))),
         None => None,
     }
 }

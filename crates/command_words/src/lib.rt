@@ -6,4 +6,4 @@
 mod commands;
 mod numbers;
 
-pub use commands::{Command, command_of};
+pub use commands::{Command, JobWord, command_of};

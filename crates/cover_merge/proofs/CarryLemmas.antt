@@ -5,7 +5,7 @@ use mathlib.Core.Bool.{true≢false}
 use Rattle.std.proofs.lemmas.List.Elements.{All-cons, All-append, All-take, All-drop}
 use Rattle.std.proofs.lemmas.Bool.{cases_lt, cases_order}
 use Rattle.std.proofs.lemmas.Grind.{get_or-set_at}
-use Rattle.std.proofs.lemmas.List.{get_or_default, get_or-set_other, length-set}
+use Rattle.std.proofs.lemmas.List.{get_or-set_other, length-set}
 use Rattle.std.proofs.lemmas.List.Edits.{get_or-insert_below}
 use Rattle.spin_base.specs.declared.blocks.Block.{Block}
 use Rattle.tern_word.specs.declared.tables.Row.{Row}
@@ -16,7 +16,7 @@ use Rattle.cover_checks.specs.Merge.{has, picked, rows_at, merged_row, merged_bl
 use Rattle.cover_checks.proofs.Lists.{All-picked, All-from_map}
 use Rattle.cover_checks.proofs.Positions.{All-has, rows_at-has, place_for-le}
 use Rattle.cover_merge.specs.declared.guards.Guard.{Guard}
-use Rattle.cover_merge.specs.Guards.{HasRival, here, behind, IsGuard, IsGuardAt, AreGuards, IsSilent, AreApart}
+use Rattle.cover_merge.specs.Guards.{HasRival, here, behind, IsGuard, IsGuardAt, AreGuards, AreGuardsBut, IsSilent}
 use Rattle.cover_merge.proofs.ApplyLemmas.{left, members_before, after_is, block_is}
 
 -- what a block misses, a narrower one misses
@@ -46,43 +46,20 @@ module _ (r : Row) (n : ℕ) where
       by_test true rest = behind x (picked q (suc i) xs) rest
       by_test false rest = rest
 
-guard_insert : (b : Block) (m r : Row) (g : Guard) (rows : List Row) (p : ℕ) → m.block ≡ b → (IsSilent g) ⊎ (Misses b r) → IsGuard r rows g → IsGuard r (insert rows p m) g
-guard_insert b m r g rows p is (inl silent) told = record {
-  refuses = λ low. absurd (omega (arith, low, silent.no_rival));
-  passes = λ k d within less. absurd (omega (arith, less, silent.none_clear));
-}
-guard_insert b m r g rows p is (inr misses) told =
+guard_insert : (m r : Row) (g : Guard) (rows : List Row) (p : ℕ) → Misses m.block r → IsGuard r rows g → IsGuard r (insert rows p m) g
+guard_insert m r g rows p misses told =
     let P = λ (x : Row). generality x.block < g.clear → Misses x.block r in record {
       refuses = λ low. rival_insert r g.rival m rows p (told.refuses low);
-      passes = All-append P (take p rows) (m ∷ drop p rows) (All-take P p rows told.passes) (All-cons P m (drop p rows) (λ less. subst (λ x. Misses x r) (sym is) misses) (All-drop P p rows told.passes));
+      passes = All-append P (take p rows) (m ∷ drop p rows) (All-take P p rows told.passes) (All-cons P m (drop p rows) (λ less. misses) (All-drop P p rows told.passes));
     }
 
-guard_picked : (b : Block) (r : Row) (g : Guard) (q : ℕ → Bool) (i : ℕ) (rows : List Row) → ((k j : ℕ) (d : Row) → j ≡ i + k → k < length rows → q j ≡ false → LiesIn (get_or rows k d).block b) → (IsSilent g) ⊎ (Misses b r) → IsGuard r rows g
-    → IsGuard r (picked q i rows) g
-guard_picked b r g q i rows out (inl silent) told = record {
-  refuses = λ low. absurd (omega (arith, low, silent.no_rival));
-  passes = λ k d within less. absurd (omega (arith, less, silent.none_clear));
-}
-guard_picked b r g q i rows out (inr misses) told = record {
+guard_picked : (b : Block) (r : Row) (g : Guard) (q : ℕ → Bool) (i : ℕ) (rows : List Row) → ((k j : ℕ) (d : Row) → j ≡ i + k → k < length rows → q j ≡ false → LiesIn (get_or rows k d).block b) → Misses b r → IsGuard r rows g → IsGuard r (picked q i rows) g
+guard_picked b r g q i rows out misses told = record {
   refuses = λ low. rival_picked r g.rival q i rows (λ k j d at within e. narrower_misses b (get_or rows k d).block r (out k j d at within e) misses) (told.refuses low);
   passes = All-picked (λ (x : Row). generality x.block < g.clear → Misses x.block r) q i rows told.passes;
 }
 
 -- ---- the guards of all rows
-
-guards_tail : (r : Row) (rows : List Row) (g : Guard) (gs : List Guard) → AreGuards (r ∷ rows) (g ∷ gs) → AreGuards rows gs
-guards_tail r rows g gs each s e within = each (suc s) e (omega arith)
-
-apart_tail : (b : Block) (r : Row) (rows : List Row) (g : Guard) (gs : List Guard) → AreApart b (r ∷ rows) (g ∷ gs) → AreApart b rows gs
-apart_tail b r rows g gs each s d e within = each (suc s) d e (omega arith)
-
-guards_cons : (r : Row) (rows : List Row) (g : Guard) (gs : List Guard) → IsGuard r rows g → AreGuards rows gs → AreGuards (r ∷ rows) (g ∷ gs)
-guards_cons r rows g gs first rest zero e within = λ d. first
-guards_cons r rows g gs first rest (suc s) e within = rest s e (omega arith)
-
-apart_cons : (b : Block) (r : Row) (rows : List Row) (g : Guard) (gs : List Guard) → (IsSilent g) ⊎ (Misses b r) → AreApart b rows gs → AreApart b (r ∷ rows) (g ∷ gs)
-apart_cons b r rows g gs first rest zero d e within = first
-apart_cons b r rows g gs first rest (suc s) d e within = rest s d e (omega arith)
 
 silent_guard : (r : Row) (rows : List Row) (g : Guard) → IsSilent g → IsGuard r rows g
 silent_guard r rows g silent = record {
@@ -90,32 +67,39 @@ silent_guard r rows g silent = record {
   passes = λ k d within less. absurd (omega (arith, less, silent.none_clear));
 }
 
-module _ (b : Block) (m : Row) (is : m.block ≡ b) (nothing : Guard) (silent : IsSilent nothing) where
-  insert_guards : (rows : List Row) (gs : List Guard) (p : ℕ) → length gs ≡ length rows → AreGuards rows gs → AreApart b rows gs → (AreGuards (insert rows p m) (insert gs p nothing)) × (AreApart b (insert rows p m) (insert gs p nothing))
-  insert_guards rows gs zero same guards apart = (guards_cons m rows nothing gs (silent_guard m rows nothing silent) guards, apart_cons b m rows nothing gs (inl silent) apart)
-  insert_guards [] [] (suc p) same guards apart = (guards_cons m [] nothing [] (silent_guard m [] nothing silent) guards, apart_cons b m [] nothing [] (inl silent) apart)
-  insert_guards [] (g ∷ gs) (suc p) same guards apart = absurd (omega arith)
-  insert_guards (r ∷ rows) [] (suc p) same guards apart = absurd (omega arith)
-  insert_guards (r ∷ rows) (g ∷ gs) (suc p) same guards apart =
-      let rest = insert_guards rows gs p (omega arith) (guards_tail r rows g gs guards) (apart_tail b r rows g gs apart) in
-      let first = apart 0 r g (omega arith) in (
-        guards_cons r (insert rows p m) g (insert gs p nothing) (guard_insert b m r g rows p is first (guards 0 g (omega arith) r)) rest.0,
-        apart_cons b r (insert rows p m) g (insert gs p nothing) first rest.1,
-      )
+module _ (b : Block) where
+  but_tail : (r : Row) (rows : List Row) (g : Guard) (gs : List Guard) → AreGuardsBut b (r ∷ rows) (g ∷ gs) → AreGuardsBut b rows gs
+  but_tail r rows g gs each s e within misses = each (suc s) e (omega arith) misses
 
-picked_guards : (b : Block) (q : ℕ → Bool) (i : ℕ) (rows : List Row) (gs : List Guard) → length gs ≡ length rows → ((k j : ℕ) (d : Row) → j ≡ i + k → k < length rows → q j ≡ false → LiesIn (get_or rows k d).block b) → AreGuards rows gs → AreApart b rows gs
-    → AreGuards (picked q i rows) (picked q i gs)
-picked_guards b q i [] [] same out guards apart = guards
-picked_guards b q i [] (g ∷ gs) same out guards apart = absurd (omega arith)
-picked_guards b q i (r ∷ rows) [] same out guards apart = absurd (omega arith)
-picked_guards b q i (r ∷ rows) (g ∷ gs) same out guards apart =
-    let later : (k j : ℕ) (d : Row) → j ≡ suc i + k → k < length rows → q j ≡ false → LiesIn (get_or rows k d).block b = λ k j d at within e. out (suc k) j d (omega (arith, at)) (omega (arith, within)) e in
-    by_test (q i) (guard_picked b r g q (suc i) rows later (apart 0 r g (omega arith)) (guards 0 g (omega arith) r)) (picked_guards b q (suc i) rows gs (omega arith) later (guards_tail r rows g gs guards) (apart_tail b r rows g gs apart))
-  where
-    by_test : (t : Bool) → IsGuard r (picked q (suc i) rows) g → AreGuards (picked q (suc i) rows) (picked q (suc i) gs)
-        → AreGuards (cond t (r ∷ picked q (suc i) rows) (picked q (suc i) rows)) (cond t (g ∷ picked q (suc i) gs) (picked q (suc i) gs))
-    by_test true first rest = guards_cons r (picked q (suc i) rows) g (picked q (suc i) gs) first rest
-    by_test false first rest = rest
+  but_head : (r : Row) (rows : List Row) (g : Guard) (gs : List Guard) → AreGuardsBut b (r ∷ rows) (g ∷ gs) → Misses b r → IsGuard r rows g
+  but_head r rows g gs each misses = each 0 g (omega arith) (λ d. misses) r
+
+  but_cons : (r : Row) (rows : List Row) (g : Guard) (gs : List Guard) → (Misses b r → IsGuard r rows g) → AreGuardsBut b rows gs → AreGuardsBut b (r ∷ rows) (g ∷ gs)
+  but_cons r rows g gs first rest zero e within misses = λ d. first (misses r)
+  but_cons r rows g gs first rest (suc s) e within misses = rest s e (omega arith) misses
+
+  insert_guards : (m : Row) → m.block ≡ b → (nothing : Guard) → IsSilent nothing → (rows : List Row) (gs : List Guard) (p : ℕ) → length gs ≡ length rows → AreGuardsBut b rows gs → AreGuardsBut b (insert rows p m) (insert gs p nothing)
+  insert_guards m is nothing silent rows gs zero same guards = but_cons m rows nothing gs (λ misses. silent_guard m rows nothing silent) guards
+  insert_guards m is nothing silent [] [] (suc p) same guards = but_cons m [] nothing [] (λ misses. silent_guard m [] nothing silent) guards
+  insert_guards m is nothing silent [] (g ∷ gs) (suc p) same guards = absurd (omega arith)
+  insert_guards m is nothing silent (r ∷ rows) [] (suc p) same guards = absurd (omega arith)
+  insert_guards m is nothing silent (r ∷ rows) (g ∷ gs) (suc p) same guards =
+      but_cons r (insert rows p m) g (insert gs p nothing) (λ misses. guard_insert m r g rows p (subst (λ x. Misses x r) (sym is) misses) (but_head r rows g gs guards misses))
+      (insert_guards m is nothing silent rows gs p (omega arith) (but_tail r rows g gs guards))
+
+  picked_guards : (q : ℕ → Bool) (i : ℕ) (rows : List Row) (gs : List Guard) → length gs ≡ length rows → ((k j : ℕ) (d : Row) → j ≡ i + k → k < length rows → q j ≡ false → LiesIn (get_or rows k d).block b) → AreGuardsBut b rows gs
+      → AreGuardsBut b (picked q i rows) (picked q i gs)
+  picked_guards q i [] [] same out guards = guards
+  picked_guards q i [] (g ∷ gs) same out guards = absurd (omega arith)
+  picked_guards q i (r ∷ rows) [] same out guards = absurd (omega arith)
+  picked_guards q i (r ∷ rows) (g ∷ gs) same out guards =
+      let later : (k j : ℕ) (d : Row) → j ≡ suc i + k → k < length rows → q j ≡ false → LiesIn (get_or rows k d).block b = λ k j d at within e. out (suc k) j d (omega (arith, at)) (omega (arith, within)) e in
+      by_test (q i) (λ misses. guard_picked b r g q (suc i) rows later misses (but_head r rows g gs guards misses)) (picked_guards q (suc i) rows gs (omega arith) later (but_tail r rows g gs guards))
+    where
+      by_test : (t : Bool) → (Misses b r → IsGuard r (picked q (suc i) rows) g) → AreGuardsBut b (picked q (suc i) rows) (picked q (suc i) gs)
+          → AreGuardsBut b (cond t (r ∷ picked q (suc i) rows) (picked q (suc i) rows)) (cond t (g ∷ picked q (suc i) gs) (picked q (suc i) gs))
+      by_test true first rest = but_cons r (picked q (suc i) rows) g (picked q (suc i) gs) first rest
+      by_test false first rest = rest
 
 picked_lengths : {X Y : Type 0} (q : ℕ → Bool) (i : ℕ) (xs : List X) (ys : List Y) → length ys ≡ length xs → length (picked q i ys) ≡ length (picked q i xs)
 picked_lengths q i [] [] same = refl
@@ -145,26 +129,25 @@ guard_set rows gs new s g inside is each told = subst (AreGuards rows) (sym is) 
 pub length_kept : (gs new : List Guard) (s n : ℕ) (g : Guard) → new ≡ set gs s g → length gs ≡ n → length new ≡ n
 length_kept gs new s n g is same = ap length is ∙ length-set gs s g ∙ same
 
--- the guard of a row that the block meets says nothing
-module _ (b : Block) (rows : List Row) (gs new : List Guard) (s : ℕ) (g old : Guard) (row : Row) (inside : s < length gs) (in_rows : s < length rows) (is : new ≡ set gs s g) (is_old : old ≡ get_or gs s old) (is_row : row ≡ get_or rows s row) (told : ((g ≡ old) × (Misses b row)) ⊎ (IsSilent g)) where
-  pub still_guards : AreGuards rows gs → AreGuards rows new
-  still_guards each = guard_set rows gs new s g inside is each (λ d. by_case told d)
-    where
-      by_case : ((g ≡ old) × (Misses b row)) ⊎ (IsSilent g) → (d : Row) → IsGuard (get_or rows s d) (drop (suc s) rows) g
-      by_case (inl kept) d = subst (IsGuard (get_or rows s d) (drop (suc s) rows)) (sym is_old ∙ sym kept.0) (each s old inside d)
-      by_case (inr silent) d = silent_guard (get_or rows s d) (drop (suc s) rows) g silent
+-- one guard found anew, and the guards before it
+pub done_more : (rows : List Row) (gs new : List Guard) (s : ℕ) (g : Guard) → s < length gs → new ≡ set gs s g → IsGuardAt rows s g → ((k : ℕ) (e : Guard) → k < s → IsGuardAt rows k (get_or gs k e)) → (k : ℕ) (e : Guard) → k < s + 1 → IsGuardAt rows k (get_or new k e)
+done_more rows gs new s g inside is told before k e less = subst (λ l. IsGuardAt rows k (get_or l k e)) (sym is) (elim (cases_lt k s) [
+  | inl earlier ↦ subst (IsGuardAt rows k) (sym (get_or-set_other gs s k g e (λ same. omega (arith, same, earlier)))) (before k e earlier)
+  | inr last ↦
+      let same : k ≡ s = omega arith in
+      subst (IsGuardAt rows k) (sym (get_or-set_at gs s k g e same inside)) (subst (λ i. IsGuardAt rows i g) (sym same) told)
+])
 
-  pub apart_more : ((k : ℕ) (d : Row) (e : Guard) → k < s → (IsSilent (get_or gs k e)) ⊎ (Misses b (get_or rows k d))) → (k : ℕ) (d : Row) (e : Guard) → k < s + 1 → (IsSilent (get_or new k e)) ⊎ (Misses b (get_or rows k d))
-  apart_more before k d e less = elim (cases_lt k s) [
-    | inl earlier ↦ subst (λ (x : Guard). (IsSilent x) ⊎ (Misses b (get_or rows k d))) (sym (ap (λ l. get_or l k e) is ∙ get_or-set_other gs s k g e (λ same. omega (arith, same, earlier)))) (before k d e earlier)
-    | inr last ↦
-        let same : k ≡ s = omega arith in
-        subst (λ (x : Guard). (IsSilent x) ⊎ (Misses b (get_or rows k d))) (sym (ap (λ l. get_or l k e) is ∙ get_or-set_at gs s k g e same inside)) (by_case same told)
-  ]
-    where
-      by_case : k ≡ s → ((g ≡ old) × (Misses b row)) ⊎ (IsSilent g) → (IsSilent g) ⊎ (Misses b (get_or rows k d))
-      by_case same (inl kept) = inr (subst (λ i. Misses b (get_or rows i d)) (sym same) (subst (Misses b) (is_row ∙ get_or_default rows s row d in_rows) kept.1))
-      by_case same (inr silent) = inl silent
+pub but_set : (b : Block) (rows : List Row) (gs new : List Guard) (s : ℕ) (g : Guard) → s < length gs → new ≡ set gs s g → IsGuardAt rows s g → AreGuardsBut b rows gs → AreGuardsBut b rows new
+but_set b rows gs new s g inside is told each k e within misses = subst (λ l. IsGuardAt rows k (get_or l k e)) (sym is) (by_case (cases_order k s))
+  where
+    differs : (k < s) ⊎ (s < k) → k ≡ s → ⊥
+    differs (inl before) same = omega (arith, before, same)
+    differs (inr later) same = omega (arith, later, same)
+
+    by_case : (k ≡ s) ⊎ ((k < s) ⊎ (s < k)) → IsGuardAt rows k (get_or (set gs s g) k e)
+    by_case (inl same) = subst (IsGuardAt rows k) (sym (get_or-set_at gs s k g e same inside)) (subst (λ i. IsGuardAt rows i g) (sym same) told)
+    by_case (inr apart) = subst (IsGuardAt rows k) (sym (get_or-set_other gs s k g e (differs apart))) (each k e (omega (arith, ap length is, length-set gs s g, within)) misses)
 
 -- ---- the table after a merge
 
@@ -190,14 +173,13 @@ module _ (rows : List Row) (places : List ℕ) (ordered : IsOrdered rows) (merge
       from_not_false true e = refl
       from_not_false false e = absurd (true≢false e)
 
-  pub carried : AreGuards rows gs → AreApart b rows gs → AreGuards (after rows places) (left places 0 (insert gs p nothing))
-  carried guards apart =
+  pub carried : AreGuards rows gs → AreGuardsBut b (after rows places) (left places 0 (insert gs p nothing))
+  carried guards =
       let n = insert_place rows places in
       let m = merged_row rows places in
-      let both = insert_guards b m m_block nothing silent rows gs n same guards apart in
-      subst (λ q. AreGuards (after rows places) (left places 0 (insert gs q nothing))) (sym place_is)
-      (subst (λ l. AreGuards l (left places 0 (insert gs n nothing))) (after_is rows places ordered merge)
-      (picked_guards b (λ k. not (has places k)) 0 (insert rows n m) (insert gs n nothing) (longer n) dropped both.0 both.1))
+      subst (λ q. AreGuardsBut b (after rows places) (left places 0 (insert gs q nothing))) (sym place_is)
+      (subst (λ l. AreGuardsBut b l (left places 0 (insert gs n nothing))) (after_is rows places ordered merge)
+      (picked_guards b (λ k. not (has places k)) 0 (insert rows n m) (insert gs n nothing) (longer n) dropped (insert_guards b m m_block nothing silent rows gs n same (λ s e within misses. guards s e within))))
     where
       longer : (n : ℕ) → length (insert gs n nothing) ≡ length (insert rows n (merged_row rows places))
       longer n = omega (arith, same, length-append (take n gs) (nothing ∷ drop n gs), length-append (take n rows) (merged_row rows places ∷ drop n rows), length-take n gs, length-take n rows, length-drop n gs, length-drop n rows)

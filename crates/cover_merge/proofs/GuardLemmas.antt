@@ -1,18 +1,22 @@
 -- What guards tell of the up-check.
-use Rattle.std.proofs.Common.{◌≡◌, ℕ, zero, suc, ◌+◌, ◌-◌, ◌<◌, ◌≤◌, ◌⊎◌, ◌↔◌, IsTrue, Bool, true, false, List, [], ◌∷◌, ◌++◌, length, get_or, drop, sym, ap, subst, ◌∙◌, length-append, length-drop, get_or-drop, arith, inl, inr}
+use Rattle.std.proofs.Common.{◌≡◌, ℕ, zero, suc, ◌+◌, ◌-◌, ◌<◌, ◌≤◌, ◌⊎◌, ◌↔◌, IsTrue, Bool, true, false, List, [], ◌∷◌, ◌++◌, length, get_or, drop, sym, ap, subst, ◌∙◌, length-append, length-drop, get_or-drop, set, arith, inl, inr}
+use Rattle.std.specs.Prelude.{bit_and}
 use Rattle.std.proofs.lemmas.Bool.{cases_order, cases_lt, false_from_ne_true}
 use Rattle.std.proofs.lemmas.List.{get_or_append_left, get_or_default, get_or_push}
+use Rattle.std.proofs.lemmas.Option.{get_or_from_slice_get, slice_get_within}
 use Rattle.std.proofs.lemmas.List.Elements.{pair_read}
 use Rattle.spin_base.specs.declared.blocks.Block.{Block}
+use Rattle.tern_word.specs.declared.tables.Alias.{Alias}
 use Rattle.tern_word.specs.declared.tables.Row.{Row}
-use Rattle.tern_word.specs.Ternary.{generality}
+use Rattle.tern_word.specs.Ternary.{Intersects, LiesIn, generality}
 use Rattle.tern_word.specs.SoundTable.{IsOrdered, IsSound, Misses}
-use Rattle.cover_checks.specs.Merge.{has, merge_rows, merged_block, insert_place, IsOneRoute, IsMergeSet, IsLegal, place_for, IsClear, PassesUp, PassesDown}
+use Rattle.tern_word.proofs.BlockLaws.{Intersects-sym, Intersects-wider}
+use Rattle.cover_checks.specs.Merge.{has, merge_rows, merged_block, insert_place, SameRoute, IsOneRoute, IsMergeSet, IsLegal, place_for, IsClear, PassesUp, PassesDown}
 use Rattle.cover_checks.proofs.Positions.{has-place, place_for-above, place_for-below, place_for-le}
 use Rattle.cover_checks.proofs.Answering.{answers_no, fails}
 use Rattle.cover_checks.proofs.Legal.{up_from_legal, down_from_legal, legal_from_checks}
 use Rattle.cover_merge.specs.declared.guards.Guard.{Guard}
-use Rattle.cover_merge.specs.Guards.{IsRival, HasRival, here, behind, IsGuardAt, AreGuards}
+use Rattle.cover_merge.specs.Guards.{IsRival, HasRival, here, behind, IsGuardAt, AreGuards, IsOriginal, IsNextJoined}
 
 -- ---- rivals by their places
 
@@ -28,8 +32,8 @@ rival_place row n rows (behind x xs later) = let at = rival_place row n xs later
 -- ---- the up-check by a guard
 
 -- the rows of a set have one route
-one_route : (rows : List Row) (places : List ℕ) → IsOneRoute rows places → (s r : ℕ) (d : Row) → has places s ≡ true → has places r ≡ true → s < r → (get_or rows s d).route ≡ (get_or rows r d).route
-one_route rows places set s r d in_s in_r less =
+pub one_route : (rows : List Row) (places : List ℕ) → IsOneRoute rows places → (s r : ℕ) → has places s ≡ true → has places r ≡ true → s < r → SameRoute rows s r
+one_route rows places set s r in_s in_r less d =
     let a = has-place places s in_s in
     let b = has-place places r in_r in
     let one = set.one_route in
@@ -41,7 +45,7 @@ one_route rows places set s r d in_s in_r less =
       ]
     ]
 
-module _ (rows : List Row) (places : List ℕ) (set : IsOneRoute rows places) (ordered : IsOrdered rows) (s : ℕ) (member : has places s ≡ true) (guard : Guard) (guarded : IsGuardAt rows s guard) (g : ℕ) where
+module _ (rows : List Row) (places : List ℕ) (ordered : IsOrdered rows) (s : ℕ) (alike : (r : ℕ) → s < r → has places r ≡ true → SameRoute rows s r) (guard : Guard) (guarded : IsGuardAt rows s guard) (g : ℕ) where
   pub guard_refuses : guard.rival ≤ g → g ≤ 32 → PassesUp rows places s (place_for rows g) → ⊥
   guard_refuses le small up =
       let d : Row = merge_rows [] in
@@ -51,7 +55,7 @@ module _ (rows : List Row) (places : List ℕ) (set : IsOneRoute rows places) (o
       let low : generality (get_or rows (suc s + at.0) d).block ≤ guard.rival = subst (λ (x : Row). generality x.block ≤ guard.rival) same (at.2 d).0 in
       let rival : IsRival (get_or rows s d) (get_or rows (suc s + at.0) d) = subst (IsRival (get_or rows s d)) same (at.2 d).1 in
       let before : suc s + at.0 < place_for rows g = place_for-above rows g ordered (suc s + at.0) d inside (omega (arith, low, le)) in
-      let outside : has places (suc s + at.0) ≡ false = false_from_ne_true (has places (suc s + at.0)) (λ in_set. rival.other (ap (λ x. x.bits) (one_route rows places set s (suc s + at.0) d member in_set (omega arith)))) in
+      let outside : has places (suc s + at.0) ≡ false = false_from_ne_true (has places (suc s + at.0)) (λ in_set. rival.other (ap (λ x. x.bits) (alike (suc s + at.0) (omega arith) in_set d))) in
       rival.meets (up (suc s + at.0) (omega arith) before d outside)
 
   pub guard_passes : g < guard.clear → PassesUp rows places s (place_for rows g)
@@ -106,6 +110,30 @@ guards_more rows done guard each last s e inside =
           subst (IsGuardAt rows s) (sym (get_or_push done guard e s (sym same))) (subst (λ i. IsGuardAt rows i guard) (sym same) last)
     ]
 
+-- ---- rows that are not original
+
+-- a row that is original meets no alias of an earlier one
+pub original_misses : (rows : List Row) → IsSound rows → (s r : ℕ) (d : Row) → s < r → r < length rows → IsOriginal (get_or rows r d) → Misses (get_or rows r d).block (get_or rows s d)
+original_misses rows sound s r d less inside own k e within meets =
+    let first = get_or rows s d in
+    let later = get_or rows r d in
+    let alias = (get_or first.aliases k e).block in
+    let lies : LiesIn alias first.block = sound.inside s d (omega (arith, less, inside)) k e within in
+    let apart : Intersects first.block own.alias.block → ⊥ = subst (λ (a : Alias). Intersects first.block a.block → ⊥) (get_or_from_slice_get later.aliases own.at own.alias own.alias own.found)
+    (sound.unmet s r d less inside own.at own.alias (slice_get_within later.aliases own.at own.alias own.found)) in
+    apart (Intersects-sym own.alias.block first.block (Intersects-wider own.alias.block alias first.block lies (record { key = meets.key; small = meets.small; first = ap (bit_and meets.key) own.mask ∙ meets.first ∙ sym own.key; second = meets.second })))
+
+-- rows up to the next that is not original are missed
+pub missed_next : (rows : List Row) (s r next : ℕ) → IsSound rows → s < r → r < length rows → IsNextJoined rows r next → ((d : Row) → Misses (get_or rows r d).block (get_or rows s d)) → ((k : ℕ) (d : Row) → s < k → k < r → k < length rows → Misses (get_or rows k d).block (get_or rows s d))
+    → (k : ℕ) (d : Row) → s < k → k < next → k < length rows → Misses (get_or rows k d).block (get_or rows s d)
+missed_next rows s r next sound after inside joined missed before k d from less within = elim (cases_order k r) [
+  | inl at ↦ subst (λ i. Misses (get_or rows i d).block (get_or rows s d)) (sym at) (missed d)
+  | inr apart ↦ elim apart [
+    | inl earlier ↦ before k d from earlier within
+    | inr later ↦ original_misses rows sound s k d from within (joined.between k d later less within)
+  ]
+]
+
 -- ---- the place behind the rows of a generality
 
 pub place_found : (rows : List Row) (g p : ℕ) → IsOrdered rows → p ≤ length rows → ((k : ℕ) (d : Row) → k < p → generality (get_or rows k d).block ≤ g) → ((k : ℕ) (d : Row) → p ≤ k → k < length rows → g < generality (get_or rows k d).block) → p ≡ place_for rows g
@@ -121,15 +149,9 @@ place_found rows g p ordered within low high =
 
 -- ---- what the code reads
 
-pub missed_more : (rows : List Row) (s r : ℕ) (first e : Row) (t : Bool) → s < length rows → r < length rows → first ≡ get_or rows s first → (IsTrue t) ↔ (Misses (get_or rows r e).block first) → t ≡ true
-    → ((k : ℕ) (d : Row) → s < k → k < r → Misses (get_or rows k d).block (get_or rows s d))
-    → (k : ℕ) (d : Row) → s < k → k < r + 1 → Misses (get_or rows k d).block (get_or rows s d)
-missed_more rows s r first e t in_s in_r is_first tells came before k d after less = elim (cases_lt k r) [
-  | inl earlier ↦ before k d after earlier
-  | inr last ↦
-      let same : r ≡ k = omega arith in
-      subst (λ i. Misses (get_or rows i d).block (get_or rows s d)) same (pair_read rows (λ (x y : Row). Misses x.block y) r s (get_or rows r e) first in_r in_s (get_or_default rows r e (get_or rows r e) in_r) is_first (tells.0 came) d)
-]
+pub missed_read : (rows : List Row) (s r : ℕ) (first e : Row) (t : Bool) → s < length rows → r < length rows → first ≡ get_or rows s first → (IsTrue t) ↔ (Misses (get_or rows r e).block first) → t ≡ true → (d : Row) → Misses (get_or rows r d).block (get_or rows s d)
+missed_read rows s r first e t in_s in_r is_first tells came d =
+    pair_read rows (λ (x y : Row). Misses x.block y) r s (get_or rows r e) first in_r in_s (get_or_default rows r e (get_or rows r e) in_r) is_first (tells.0 came) d
 
 -- no row behind one that was read is of lesser generality
 pub general_behind : (rows : List Row) (place : ℕ) (a : Row) (g : ℕ) → IsOrdered rows → place < length rows → g ≡ generality (get_or rows place a).block → (k : ℕ) (d : Row) → place ≤ k → k < length rows → g ≤ generality (get_or rows k d).block

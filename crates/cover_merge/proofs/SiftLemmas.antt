@@ -1,23 +1,24 @@
 -- Places taken out one after another, the greatest first.
-use Rattle.std.proofs.Common.{◌≡◌, ◌≢◌, ℕ, zero, suc, ◌+◌, ◌<◌, ◌≤◌, ◌⊎◌, ◌==◌, ◌||◌, IsTrue, Bool, true, false, cond, List, [], ◌∷◌, ◌++◌, length, get_or, take, inl, inr, refl, sym, ap, ◌∙◌, subst, length-append, length-take, arith}
+use Rattle.std.proofs.Common.{◌≡◌, ◌≢◌, ℕ, zero, suc, ◌+◌, ◌<◌, ◌≤◌, ◌⊎◌, ◌==◌, ◌||◌, IsTrue, Bool, true, false, cond, List, [], ◌∷◌, ◌++◌, length, get_or, take, inl, inr, refl, sym, ap, ◌∙◌, subst, length-append, length-take, set, drop, ◌-◌, ◌↔◌, append_assoc, add-one, length-drop, get_or-take, arith}
 use Rattle.std.specs.Prelude.{All, AllPairs, filter, map, not, remove}
 use mathlib.Core.Bool.{true≢false}
 use Rattle.std.proofs.lemmas.Bool.{cases_lt, eq-eqb}
 use Rattle.std.proofs.lemmas.Bool.Decides.{eqb_tells}
-use Rattle.std.proofs.lemmas.List.{get_or_append_left, get_or_default, get_or_push, take_more}
-use Rattle.std.proofs.lemmas.List.Edits.{get_or-remove_above}
-use Rattle.std.proofs.lemmas.List.Elements.{All-filter, All-head, All-map, All-tail, All-take}
+use Rattle.std.proofs.lemmas.List.{get_or_append_left, get_or_default, get_or_push, take_more, take-set-le, drop-set, get_or-append_right}
+use Rattle.std.proofs.lemmas.List.Edits.{get_or-remove_above, remove-append_left}
+use Rattle.std.proofs.lemmas.List.Elements.{All-append, All-filter, All-head, All-map, All-tail, All-take}
 use Rattle.std.proofs.lemmas.Option.{slice_get-get_or}
 use Rattle.spin_base.specs.declared.blocks.Block.{Block}
 use Rattle.tern_word.specs.declared.tables.Row.{Row}
 use Rattle.tern_word.specs.Ternary.{Wants, generality, merge_two}
 use Rattle.tern_word.specs.SoundTable.{IsOrdered}
 use Rattle.tern_word.proofs.BlockLaws.{generality-mono, merge_of-is_merge}
-use Rattle.cover_checks.specs.Merge.{has, merge_rows, rows_at, merged_block, place_for, insert_place, IsOneRoute, PassesUp, PassesUpCheck}
-use Rattle.cover_checks.proofs.Lists.{All-from_map, AllPairs-head, AllPairs-tail}
+use Rattle.cover_checks.specs.Merge.{has, merge_rows, rows_at, merged_block, place_for, insert_place, SameRoute, IsOneRoute, PassesUp, PassesUpCheck}
+use Rattle.cover_checks.proofs.Lists.{All-from_map, All-left, All-right, AllPairs-head, AllPairs-tail}
 use Rattle.cover_checks.proofs.Positions.{All-has, has-at, merged_block-push, place_for-above, place_for-below, place_for-le, rows_at-from, rows_at-has, rows_at-length}
 use Rattle.cover_merge.specs.Refinement.{IsLastFailing, IsUpStep, Refines, goes_up, without}
-use Rattle.cover_merge.proofs.RefineLemmas.{one_route_after}
+use Rattle.cover_merge.proofs.RefineLemmas.{last_found, one_route_after}
+use Rattle.cover_merge.proofs.GuardLemmas.{one_route}
 
 -- ---- merges of the first places
 
@@ -29,6 +30,24 @@ merge_next rows set k x m n in_range some within before now =
     now ∙ ap (λ b. merge_two b (get_or rows s x).block) before
     ∙ sym (merged_block-push rows (take k set) s (get_or rows s x) (All-take (λ t. t < length rows) k set in_range) (omega (arith, length-take k set)) (slice_get-get_or rows s x (in_range k 0 within)))
     ∙ ap (merged_block rows) (sym (take_more set k 0 within))
+
+-- one place more behind others
+pub merge_behind : (rows : List Row) (front back : List ℕ) (k : ℕ) (x : Row) (m n : Block) → All (λ s. s < length rows) (front ++ back) → 0 < length front → k < length back → m ≡ merged_block rows (take (length front + k) (front ++ back))
+    → n ≡ merge_two m (get_or rows (get_or back k 0) x).block → n ≡ merged_block rows (take (length front + (k + 1)) (front ++ back))
+merge_behind rows front back k x m n in_range some within before now =
+    let i = length front + k in
+    let behind : i - length front ≡ k = omega arith in
+    let at : get_or (front ++ back) i 0 ≡ get_or back k 0 = get_or-append_right front back (length front) i 0 refl (omega arith) ∙ ap (λ j. get_or back j 0) behind in
+    let more : i + 1 ≡ length front + (k + 1) = omega arith in
+    subst (λ j. n ≡ merged_block rows (take j (front ++ back))) more
+    (merge_next rows (front ++ back) i x m n in_range (omega (arith, some)) (omega (arith, within, length-append front back)) before (now ∙ ap (λ s. merge_two m (get_or rows s x).block) (sym at)))
+
+-- a place behind others is that of a row
+pub behind_within : (n : ℕ) (front back : List ℕ) (k : ℕ) → All (λ s. s < n) (front ++ back) → k < length back → get_or back k 0 < n
+behind_within n front back k in_range within =
+    let i = length front + k in
+    let behind : i - length front ≡ k = omega arith in
+    subst (λ x. x < n) (get_or-append_right front back (length front) i 0 refl (omega arith) ∙ ap (λ j. get_or back j 0) behind) (in_range i 0 (omega (arith, within, length-append front back)))
 
 pub merges_more : (rows : List Row) (set : List ℕ) (done : List Block) (k : ℕ) (n : Block) → length done ≡ k → ((j : ℕ) (d : Block) → j < length done → get_or done j d ≡ merged_block rows (take (j + 1) set)) → n ≡ merged_block rows (take (k + 1) set)
     → (j : ℕ) (d : Block) → j < length (done ++ n ∷ []) → get_or (done ++ n ∷ []) j d ≡ merged_block rows (take (j + 1) set)
@@ -63,12 +82,6 @@ without_at (x ∷ xs) (suc i) ascending within = by_test (eqb_tells x (get_or xs
         → cond (not (x == get_or xs i 0)) (x ∷ without (get_or xs i 0) xs) (without (get_or xs i 0) xs) ≡ x ∷ remove xs i
     by_test (inl same) rest = absurd (omega (arith, same.1, AllPairs-head (λ s t. s < t) x xs ascending i 0 (omega arith)))
     by_test (inr other) rest = ap (λ b. cond (not b) (x ∷ without (get_or xs i 0) xs) (without (get_or xs i 0) xs)) other.0 ∙ ap (λ l. x ∷ l) rest
-
-take_remove : (xs : List ℕ) (i n : ℕ) → n ≤ i → i < length xs → take n (remove xs i) ≡ take n xs
-take_remove xs i zero le within = refl
-take_remove [] i (suc n) le within = absurd (omega arith)
-take_remove (x ∷ xs) zero (suc n) le within = absurd (omega arith)
-take_remove (x ∷ xs) (suc i) (suc n) le within = ap (λ l. x ∷ l) (take_remove xs i n (omega arith) (omega arith))
 
 -- a place other than that taken out stays
 stays : (s r : ℕ) (xs : List ℕ) → (r ≡ s → ⊥) → has xs r ≡ true → has (without s xs) r ≡ true
@@ -145,9 +158,6 @@ module _ (rows : List Row) (set : List ℕ) (one : IsOneRoute rows set) (ordered
     pub sift_goes : (answer : List ℕ) → Refines rows new answer → Refines rows set answer
     sift_goes answer rest = goes_up set new answer two sift_step rest
 
-    pub sift_before : (start : List ℕ) (from : ℕ) → i < from → ((n : ℕ) → n ≤ from → take n set ≡ take n start) → (n : ℕ) → n ≤ i → take n new ≡ take n start
-    sift_before start from less before n le = ap (take n) now ∙ take_remove set i n le inside ∙ before n (omega (arith, le, less))
-
     pub sift_behind : (m : Block) → m ≡ merged_block rows new → (h : ℕ) → h ≡ generality m → (k : ℕ) → i ≤ k → k < length new → PassesUp rows new (get_or new k 0) (place_for rows h)
     sift_behind m m_is h h_is k from within =
         let s = get_or set i 0 in
@@ -162,3 +172,122 @@ module _ (rows : List Row) (set : List ℕ) (one : IsOneRoute rows set) (ordered
         let le : place_for rows h ≤ place_for rows g = place_mono rows h g ordered (omega (arith, low, mine, theirs)) in
         subst (λ x. PassesUp rows new x (place_for rows h)) at
         (subst (λ l. PassesUp rows l t (place_for rows h)) (sym without_is) (still_passes rows set s t (place_for rows g) (place_for rows h) less le (last.behind t (has-at set (k + 1) later) less)))
+
+-- ---- the places left, in one list with a gap
+
+-- a place that passed moves to those behind
+pub gap_kept : (xs : List ℕ) (i w : ℕ) → i < w → w ≤ length xs → take i (set xs (w - 1) (get_or xs i 0)) ++ drop (w - 1) (set xs (w - 1) (get_or xs i 0)) ≡ take (i + 1) xs ++ drop w xs
+gap_kept xs i w before within =
+    let x = get_or xs i 0 in
+    let at : w - 1 + 1 ≡ w = omega arith in
+    ap (λ l. l ++ drop (w - 1) (set xs (w - 1) x)) (take-set-le i xs (w - 1) x (omega arith))
+    ∙ ap (λ l. take i xs ++ l) (drop-set xs (w - 1) x (omega arith) ∙ ap (λ n. x ∷ drop n xs) at)
+    ∙ sym (append_assoc (take i xs) (x ∷ []) (drop w xs))
+    ∙ ap (λ l. l ++ drop w xs) (sym (take_more xs i 0 (omega arith)))
+
+-- one that failed goes
+pub gap_out : (xs back : List ℕ) (i : ℕ) → i < length xs → take i xs ++ back ≡ remove (take (i + 1) xs ++ back) i
+gap_out xs back i within =
+    sym (remove-append_left (take (i + 1) xs) back i (omega (arith, length-take (i + 1) xs, within)) ∙ ap (λ l. l ++ back) (ap (λ n. remove (take n xs) i) (add-one i) ∙ gone xs i within))
+  where
+    gone : (ys : List ℕ) (j : ℕ) → j < length ys → remove (take (suc j) ys) j ≡ take j ys
+    gone [] j inside = absurd (omega arith)
+    gone (y ∷ ys) zero inside = refl
+    gone (y ∷ ys) (suc j) inside = ap (λ l. y ∷ l) (gone ys j (omega arith))
+
+-- of the places behind row s, only those behind count in its up-check
+has_behind : (front back : List ℕ) (r : ℕ) → All (λ t. t < r) front → has (front ++ back) r ≡ has back r
+has_behind [] back r low = refl
+has_behind (t ∷ front) back r low = ap (λ b. b || has (front ++ back) r) (off (eqb_tells t r)) ∙ has_behind front back r (All-tail (λ x. x < r) t front low)
+  where
+    off : ((t == r) ≡ true) × (t ≡ r) ⊎ ((t == r) ≡ false) × (t ≢ r) → (t == r) ≡ false
+    off (inl same) = absurd (omega (arith, same.1, All-head (λ x. x < r) t front low))
+    off (inr other) = other.0
+
+pub passes_behind : (rows : List Row) (front back : List ℕ) (s p : ℕ) (t : Bool) → All (λ x. x ≤ s) front → (IsTrue t) ↔ (PassesUp rows back s p) → (IsTrue t) ↔ (PassesUp rows (front ++ back) s p)
+passes_behind rows front back s p t low tells = (
+  λ came r after before d outside. tells.0 came r after before d (sym (has_behind front back r (below r after)) ∙ outside),
+  λ up. tells.1 (λ r after before d outside. up r after before d (has_behind front back r (below r after) ∙ outside)),
+)
+  where
+    below : (r : ℕ) → s < r → All (λ x. x < r) front
+    below r after k d inside = omega (arith, low k d inside, after)
+
+-- the places up to an index are no greater than that there
+pub front_low : (front back : List ℕ) (i s : ℕ) → AllPairs (λ x y. x < y) (front ++ back) → length front ≡ i + 1 → s ≡ get_or (front ++ back) i 0 → All (λ x. x ≤ s) front
+front_low front back i s ascending many is k d inside = by_place (cases_lt k i)
+  where
+    within : i < length (front ++ back)
+    within = omega (arith, length-append front back, many)
+
+    here : get_or (front ++ back) k d ≡ get_or front k d
+    here = get_or_append_left front back d k inside
+
+    last : get_or (front ++ back) i d ≡ s
+    last = get_or_default (front ++ back) i d 0 within ∙ sym is
+
+    by_place : (k < i) ⊎ (i ≤ k) → get_or front k d ≤ s
+    by_place (inl before) = omega (arith, here, last, ascending k i d before within)
+    by_place (inr from) = let same : k ≡ i = omega (arith, from, many, inside) in let e = ap (λ n. get_or (front ++ back) n d) same in omega (arith, here, last, e)
+
+pub begins_twice : (n i : ℕ) (xs : List ℕ) → n ≤ i → take n (take i xs) ≡ take n xs
+begins_twice zero i xs le = refl
+begins_twice (suc n) zero xs le = absurd (omega arith)
+begins_twice (suc n) (suc i) [] le = refl
+begins_twice (suc n) (suc i) (x ∷ xs) le = ap (λ l. x ∷ l) (begins_twice n i xs (omega arith))
+
+-- what begins alike begins alike up to less
+pub begins_less : (n i : ℕ) (xs start : List ℕ) → n ≤ i → take i xs ≡ take i start → take n xs ≡ take n start
+begins_less n i xs start le same = sym (begins_twice n i xs le) ∙ ap (take n) same ∙ begins_twice n i start le
+
+module _ (rows : List Row) (xs : List ℕ) (i w : ℕ) (some : 0 < i) (gap : i ≤ w) (inside : w ≤ length xs) (one : IsOneRoute rows (take i xs ++ drop w xs)) where
+  front_many : length (take i xs) ≡ i
+  front_many = omega (arith, length-take i xs, gap, inside)
+
+  at_last : get_or (take i xs ++ drop w xs) (i - 1) 0 ≡ get_or xs (i - 1) 0
+  at_last = get_or_append_left (take i xs) (drop w xs) 0 (i - 1) (omega (arith, front_many, some)) ∙ get_or-take i xs (i - 1) 0 (omega (arith, some))
+
+  pub left_many : length (take i xs ++ drop w xs) ≡ i + (length xs - w)
+  left_many = omega (arith, length-append (take i xs) (drop w xs), front_many, length-drop w xs)
+
+  module _ (s : ℕ) (read : s ≡ get_or xs (i - 1) s) where
+    is : s ≡ get_or xs (i - 1) 0
+    is = read ∙ get_or_default xs (i - 1) s 0 (omega (arith, some, gap, inside))
+
+    low : All (λ x. x ≤ s) (take i xs)
+    low = front_low (take i xs) (drop w xs) (i - 1) s one.ascending (omega (arith, front_many, some)) (is ∙ sym at_last)
+
+    -- those behind have its route
+    pub alike_behind : (r : ℕ) → s < r → has (drop w xs) r ≡ true → SameRoute rows s r
+    alike_behind r less found =
+        let member : has (take i xs ++ drop w xs) s ≡ true = subst (λ x. has (take i xs ++ drop w xs) x ≡ true) (at_last ∙ sym is) (has-at (take i xs ++ drop w xs) (i - 1) (omega (arith, left_many, some))) in
+        one_route rows (take i xs ++ drop w xs) one s r member (has_behind (take i xs) (drop w xs) r (λ k d within. omega (arith, low k d within, less)) ∙ found) less
+
+    -- its up-check by those behind is that by all
+    pub up_of : (p : ℕ) (t : Bool) → (IsTrue t) ↔ (PassesUp rows (drop w xs) s p) → (IsTrue t) ↔ (PassesUp rows (take i xs ++ drop w xs) (get_or (take i xs ++ drop w xs) (i - 1) 0) p)
+    up_of p t tells = subst (λ x. (IsTrue t) ↔ (PassesUp rows (take i xs ++ drop w xs) x p)) (is ∙ sym at_last) (passes_behind rows (take i xs) (drop w xs) s p t low tells)
+
+    -- where it is false, it is the last place that fails
+    pub out_last : (p : ℕ) (t : Bool) → ((k : ℕ) → i ≤ k → k < length (take i xs ++ drop w xs) → PassesUp rows (take i xs ++ drop w xs) (get_or (take i xs ++ drop w xs) k 0) p) → (IsTrue t) ↔ (PassesUp rows (drop w xs) s p) → t ≡ false
+        → IsLastFailing rows (take i xs ++ drop w xs) p (get_or (take i xs ++ drop w xs) (i - 1) 0)
+    out_last p t behind tells came = last_found rows (take i xs ++ drop w xs) p i t one.ascending some (omega (arith, left_many)) behind (up_of p t tells) came
+
+  -- where it goes, those before and behind it are left
+  pub out_now : take (i - 1) xs ++ drop w xs ≡ remove (take i xs ++ drop w xs) (i - 1)
+  out_now = let at : i - 1 + 1 ≡ i = omega (arith, some) in gap_out xs (drop w xs) (i - 1) (omega (arith, some, gap, inside)) ∙ ap (λ n. remove (take n xs ++ drop w xs) (i - 1)) at
+
+  pub out_count : length (take (i - 1) xs ++ drop w xs) + 1 ≡ length (take i xs ++ drop w xs)
+  out_count = omega (arith, left_many, length-append (take (i - 1) xs) (drop w xs), length-take (i - 1) xs, length-drop w xs, some, gap, inside)
+
+  pub out_in_range : All (λ x. x < length rows) (take (i - 1) xs ++ drop w xs)
+  out_in_range =
+      let P : ℕ → Type 0 = λ x. x < length rows in
+      All-append P (take (i - 1) xs) (drop w xs)
+      (subst (All P) (begins_twice (i - 1) i xs (omega arith)) (All-take P (i - 1) (take i xs) (All-left P (take i xs) (drop w xs) one.in_range)))
+      (All-right P (take i xs) (drop w xs) one.in_range)
+
+  -- where it stays, all are left
+  pub kept_now : (x : ℕ) → x ≡ get_or xs (i - 1) x → take (i - 1) (set xs (w - 1) x) ++ drop (w - 1) (set xs (w - 1) x) ≡ take i xs ++ drop w xs
+  kept_now x read =
+      let at : i - 1 + 1 ≡ i = omega (arith, some) in
+      ap (λ y. take (i - 1) (set xs (w - 1) y) ++ drop (w - 1) (set xs (w - 1) y)) (read ∙ get_or_default xs (i - 1) x 0 (omega (arith, some, gap, inside))) ∙ gap_kept xs (i - 1) w (omega (arith, some, gap)) inside ∙ ap (λ n. take n xs ++ drop w xs) at

@@ -21,9 +21,9 @@ use Rattle.cover_merge.specs.declared.guards.Guard.{Guard}
 use Rattle.cover_merge.specs.Guards.{HasRival, IsGuardAt, AreGuards}
 use Rattle.cover_merge.specs.Links.{IsNext}
 use Rattle.cover_merge.specs.Covering.{IsLegalPair}
-use Rattle.cover_merge.specs.Tried.{HasMet, IsRefused, IsRefusedAt, AreTried, AreMarked, IsFresh, IsMarked, IsLatest, AreLatest}
+use Rattle.cover_merge.specs.Tried.{HasMet, IsRefused, IsRefusedAt, AreTried, AreMarked, IsFresh, IsNoLaxer, IsMarked, IsLatest, AreLatest}
 use Rattle.cover_merge.proofs.ApplyLemmas.{left, after_is, block_is}
-use Rattle.cover_merge.proofs.GuardLemmas.{guard_refuses}
+use Rattle.cover_merge.proofs.GuardLemmas.{guard_refuses, one_route}
 use Rattle.cover_merge.proofs.CarryLemmas.{guard_set}
 
 -- ---- pairs in two lists at once
@@ -130,6 +130,18 @@ module _ (K : Row → Guard → Row → Guard → Type 0) where
 abbrev Told : List Row → Row → Guard → Row → Guard → Type 0
 Told rows r g s h = h.changed < g.tried → IsRefused rows r g.rival s h.rival
 
+-- what is refused stays so where rivals are no more general
+nearer : (rows : List Row) (r : Row) (m k : ℕ) (s : Row) (n l : ℕ) → k ≤ m → l ≤ n → IsRefused rows r m s n → IsRefused rows r k s l
+nearer rows r m k s n l first second refused bits = by_case (refused bits)
+  where
+    b : Block
+    b = merge_two r.block s.block
+
+    by_case : (m ≤ generality b) ⊎ ((n ≤ generality b) ⊎ HasMet rows b) → (k ≤ generality b) ⊎ ((l ≤ generality b) ⊎ HasMet rows b)
+    by_case (inl low) = inl (omega (arith, low, first))
+    by_case (inr (inl low)) = inr (inl (omega (arith, low, second)))
+    by_case (inr (inr met)) = inr (inr met)
+
 -- ---- one guard in place of another
 
 bound_put : (now : ℕ) (gs : List Guard) (s : ℕ) (g : Guard) → s < length gs → g.tried ≤ now → All (λ (x : Guard). x.tried ≤ now) gs → All (λ (x : Guard). x.tried ≤ now) (set gs s g)
@@ -147,15 +159,24 @@ module _ (now : ℕ) (rows : List Row) (gs : List Guard) (s : ℕ) (g old : Guar
   old_at : (e : Guard) → old ≡ get_or gs s e
   old_at e = is_old ∙ get_or_default gs s old e inside
 
-  -- the same guard, or that of a row that changed
-  fresh_put : (g ≡ old) ⊎ (IsFresh now g) → AreMarked now rows (set gs s g)
-  fresh_put (inl same) = record {
+  -- a guard whose rival is no more general, or that of a row that changed
+  fresh_put : (IsNoLaxer old g) ⊎ (IsFresh now g) → AreMarked now rows (set gs s g)
+  fresh_put (inl kept) = record {
     tried = pairs_put (Told rows) rows gs s g inside
-        (λ k d e less. subst (λ x. Told rows (get_or rows k d) (get_or gs k e) (get_or rows s d) x) (sym (old_at e) ∙ sym same) (marks.tried k s d e less inside))
-        (λ k d e less within. subst (λ x. Told rows (get_or rows s d) x (get_or rows k d) (get_or gs k e)) (sym (old_at e) ∙ sym same) (marks.tried s k d e less within))
+        (λ k d e less told. nearer rows (get_or rows k d) (get_or gs k e).rival (get_or gs k e).rival (get_or rows s d) (get_or gs s e).rival g.rival (omega arith) (rival_at e) (marks.tried k s d e less inside (omega (arith, told, changed_at e))))
+        (λ k d e less within told. nearer rows (get_or rows s d) (get_or gs s e).rival g.rival (get_or rows k d) (get_or gs k e).rival (get_or gs k e).rival (rival_at e) (omega arith) (marks.tried s k d e less within (omega (arith, told, tried_at e))))
         marks.tried;
-    bound = bound_put now gs s g inside (subst (λ (x : Guard). x.tried ≤ now) (sym (old_at old) ∙ sym same) (marks.bound s old inside)) marks.bound;
+    bound = bound_put now gs s g inside (omega (arith, tried_at old, marks.bound s old inside)) marks.bound;
   }
+    where
+      rival_at : (e : Guard) → g.rival ≤ (get_or gs s e).rival
+      rival_at e = subst (λ (x : Guard). g.rival ≤ x.rival) (old_at e) kept.rival
+
+      tried_at : (e : Guard) → g.tried ≡ (get_or gs s e).tried
+      tried_at e = kept.tried ∙ ap (λ (x : Guard). x.tried) (old_at e)
+
+      changed_at : (e : Guard) → g.changed ≡ (get_or gs s e).changed
+      changed_at e = kept.changed ∙ ap (λ (x : Guard). x.changed) (old_at e)
   fresh_put (inr fresh) = record {
     tried = pairs_put (Told rows) rows gs s g inside
         (λ k d e less told. absurd (omega (arith, told, fresh.changed, marks.bound k e (omega (arith, less, inside)))))
@@ -164,12 +185,15 @@ module _ (now : ℕ) (rows : List Row) (gs : List Guard) (s : ℕ) (g old : Guar
     bound = bound_put now gs s g inside (omega (arith, fresh.tried)) marks.bound;
   }
 
-  pub fresh_set : (new : List Guard) → new ≡ set gs s g → (g ≡ old) ⊎ (IsFresh now g) → AreMarked now rows new
+  pub fresh_set : (new : List Guard) → new ≡ set gs s g → (IsNoLaxer old g) ⊎ (IsFresh now g) → AreMarked now rows new
   fresh_set new is told = subst (AreMarked now rows) (sym is) (fresh_put told)
+
+  same_guard : g ≡ old → IsNoLaxer old g
+  same_guard same = record { rival = omega (arith, ap (λ (x : Guard). x.rival) same); tried = ap (λ (x : Guard). x.tried) same; changed = ap (λ (x : Guard). x.changed) same }
 
   -- the guard of a row that is refused with each later one
   tried_put : (settled : Bool) → (IsTrue settled → (b : ℕ) → s < b → b < length rows → IsRefusedAt rows gs s b) → length gs ≡ length rows → (g ≡ old) ⊎ ((IsTrue settled) × (IsMarked now old g)) → AreMarked now rows (set gs s g)
-  tried_put settled refused same (inl kept) = fresh_put (inl kept)
+  tried_put settled refused same (inl kept) = fresh_put (inl (same_guard kept))
   tried_put settled refused same (inr (yes_settled, mark)) = record {
     tried = pairs_put (Told rows) rows gs s g inside
         (λ k d e less told. subst (λ n. IsRefused rows (get_or rows k d) (get_or gs k e).rival (get_or rows s d) n) (sym (rival_at e)) (marks.tried k s d e less inside (omega (arith, told, changed_at e))))
@@ -323,7 +347,7 @@ module _ (rows : List Row) (i j : ℕ) (set : IsMergeSet rows (i ∷ j ∷ [])) 
       by_guard : (s : ℕ) → has (i ∷ j ∷ []) s ≡ true → s < length gs → (get_or gs s e).rival ≤ generality m → ⊥
       by_guard s member inside low =
           let at : generality (merged_block rows (i ∷ j ∷ [])) ≡ generality m = ap generality (pair_block d) in
-          guard_refuses rows (i ∷ j ∷ []) set.set sound.ordered s member (get_or gs s e) (guards s e inside) (generality (merged_block rows (i ∷ j ∷ []))) (omega (arith, at, low)) (generality_le (merged_block rows (i ∷ j ∷ [])))
+          guard_refuses rows (i ∷ j ∷ []) sound.ordered s (λ r less in_set. one_route rows (i ∷ j ∷ []) set.set s r member in_set less) (get_or gs s e) (guards s e inside) (generality (merged_block rows (i ∷ j ∷ []))) (omega (arith, at, low)) (generality_le (merged_block rows (i ∷ j ∷ [])))
           (up_from_legal rows (i ∷ j ∷ []) sound set.set.in_range legal s member)
 
       met_by : HasMet rows m → ⊥

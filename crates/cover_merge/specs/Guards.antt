@@ -1,6 +1,7 @@
 -- What is known of the rows behind a row. It saves looking at all of them in each up-check.
-use Rattle.std.specs.Prelude.{◌≡◌, ℕ, suc, ◌<◌, ◌≤◌, ◌⊎◌, List, ◌∷◌, All, length, drop, slice_index_or}
+use Rattle.std.specs.Prelude.{◌≡◌, ℕ, suc, ◌<◌, ◌≤◌, List, ◌∷◌, All, length, drop, slice_get, slice_index, slice_index_or, Some}
 use Rattle.spin_base.specs.declared.blocks.Block.{Block}
+use Rattle.tern_word.specs.declared.tables.Alias.{Alias}
 use Rattle.tern_word.specs.declared.tables.Row.{Row}
 use Rattle.tern_word.specs.Ternary.{generality}
 use Rattle.tern_word.specs.SoundTable.{Misses}
@@ -35,6 +36,25 @@ pub record IsSilent (guard : Guard) : Type 0 where
   pub no_rival : 32 < guard.rival
   pub none_clear : guard.clear ≡ 0
 
--- each guard says nothing, or is that of a row with no alias that the block meets
-abbrev pub AreApart : Block → List Row → List Guard → Type 0
-AreApart block rows guards = (s : ℕ) (d : Row) (e : Guard) → s < length guards → (IsSilent (slice_index_or guards s e)) ⊎ (Misses block (slice_index_or rows s d))
+-- each guard tells of the row at its place, unless the block meets an alias of that row
+abbrev pub AreGuardsBut : Block → List Row → List Guard → Type 0
+AreGuardsBut block rows guards = (s : ℕ) (e : Guard) → s < length guards → ((d : Row) → Misses block (slice_index_or rows s d)) → IsGuardAt rows s (slice_index_or guards s e)
+
+-- A row is original where its block is that of an alias, as before any merge. In a sound table it meets no alias of an
+-- earlier row: that row's block would meet this alias.
+pub record IsOriginal (row : Row) : Type 0 where
+  pub at : ℕ
+  pub alias : Alias
+  pub found : slice_get row.aliases at ≡ Some alias
+  pub key : alias.block.key ≡ row.block.key
+  pub mask : alias.block.mask ≡ row.block.mask
+
+-- the next row behind row k that is not original is that at the place or behind it
+pub record IsNextJoined (rows : List Row) (k place : ℕ) : Type 0 where
+  pub behind : k < place
+  pub between : (j : ℕ) (d : Row) → k < j → j < place → j < length rows → IsOriginal (slice_index_or rows j d)
+
+-- for each row such a place
+pub record AreNextJoined (rows : List Row) (places : List ℕ) : Type 0 where
+  pub one_each : length places ≡ length rows
+  pub next : (k : ℕ) → k < length rows → IsNextJoined rows k (slice_index places k)

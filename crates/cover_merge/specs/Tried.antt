@@ -36,6 +36,12 @@ pub record IsFresh (now : ℕ) (guard : Guard) : Type 0 where
   pub tried : guard.tried ≡ 0
   pub changed : guard.changed ≡ now
 
+-- the guard of a row whose first rival is no more general than before
+pub record IsNoLaxer (old new : Guard) : Type 0 where
+  pub rival : new.rival ≤ old.rival
+  pub tried : new.tried ≡ old.tried
+  pub changed : new.changed ≡ old.changed
+
 -- the same guard, of a row that was tried now
 pub record IsMarked (now : ℕ) (old new : Guard) : Type 0 where
   pub rival : new.rival ≡ old.rival

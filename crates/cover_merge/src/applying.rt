@@ -4,7 +4,8 @@ ghost use Rattle.tern_word.specs.SoundTable.{IsOrdered};
 ghost use Rattle.cover_checks.specs.Merge.{IsMergeSet, after, has, kept, merged_row, picked, rows_at};
 ghost use Rattle.cover_merge.specs.Aliases.{aliases_at};
 
-use cover_checks::{merged_block, place_for};
+use crate::guards::place_in;
+use cover_checks::merged_block;
 use spin_base::{Memory, Seq};
 use std::alloc::Global;
 use std::mem;
@@ -21,7 +22,7 @@ pub fn apply(alloc: Global, table: &mut Table, places: &Seq<u32>) -> Result<(), 
 {
     let members = places.as_slice();
     let merged = merged_row(alloc, table.rows.as_slice(), members)?;
-    let place = place_for(table.rows.as_slice(), generality(merged.block));
+    let place = place_in(table.rows.as_slice(), generality(merged.block));
     let mut rows = mem::replace(&mut table.rows, Seq::new(alloc)).into_vec();
     let done = put_in(&mut rows, merged, place, members);
     table.rows = Seq::from_vec(rows);

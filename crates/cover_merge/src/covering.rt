@@ -13,6 +13,7 @@ use crate::carrying::{carry, renew};
 use crate::choosing::chosen;
 use crate::guards::{Guard, guards_of};
 use crate::links::{carry_numbers, links_of, numbers_of};
+use cover_checks::merged_block;
 use spin_base::{Memory, Seq};
 use std::alloc::Global;
 use tern_word::Table;
@@ -87,8 +88,10 @@ fn merge_at(
     ensures guards { OnOk result (AreGuards table.new.rows guards.new.items) }
     ensures marks { OnOk result (AreMarked now table.new.rows guards.new.items) }
 {
-    carry(table.rows.as_slice(), guards, places.as_slice(), now)?;
+    let rows = table.rows.as_slice();
+    let members = places.as_slice();
+    let merged = merged_block(rows, members);
+    carry(rows, guards, members, merged, now)?;
     apply(alloc, table, places)?;
-    renew(table.rows.as_slice(), guards, now);
-    Ok(())
+    renew(alloc, table.rows.as_slice(), guards, merged, now)
 }

@@ -3,8 +3,8 @@ ghost use Rattle.std.specs.Prelude.{◌≡◌, ◌<◌, ◌≤◌, ◌^◌, ◌�
 ghost use Rattle.tern_word.specs.declared.tables.Row.{Row as ARow};
 ghost use Rattle.tern_word.specs.Ternary.{generality};
 ghost use Rattle.tern_word.specs.SoundTable.{IsOrdered, IsSound, Misses};
-ghost use Rattle.cover_checks.specs.Merge.{has, place_for, IsOneRoute, IsMergeSet, IsLegal, IsClear, PassesUp};
-ghost use Rattle.cover_merge.specs.Guards.{IsRival, HasRival, IsGuardAt, AreGuards, IsSilent};
+ghost use Rattle.cover_checks.specs.Merge.{has, place_for, SameRoute, IsMergeSet, IsLegal, IsClear, PassesUp};
+ghost use Rattle.cover_merge.specs.Guards.{IsRival, HasRival, IsGuardAt, AreGuards, IsSilent, IsOriginal, AreNextJoined};
 ghost use Rattle.cover_merge.specs.Tried.{IsFresh, IsRefusedAt, AreTried, AreMarked, IsMarked};
 
 use cover_checks::{is_clear, merged_block, passes_down};
@@ -49,26 +49,61 @@ pub(crate) fn unknown(now: usize) -> Guard
 
 /// The guards of all rows.
 pub(crate) fn guards_of(alloc: Global, rows: &[Row]) -> Result<Vec<Guard>, Memory>
-    requires ordered { IsOrdered rows.now }
+    requires sound { IsSound rows.now }
     ensures guards { IfOk result (λ v. AreGuards rows.now v.items) }
     ensures one_each { IfOk result (λ v. length v.items ≡ length rows.now) }
     ensures marks { IfOk result (λ v. AreMarked 0 rows.now v.items) }
 {
+    let joined = joined_behind(alloc, rows)?;
     let mut guards = Vec::with_capacity(alloc, rows.len())?;
     for s in 0..rows.len() {
-        guards.push(guard_of(rows, s, 0))?;
+        guards.push(guard_of(rows, &joined, s, 0))?;
     }
     Ok(guards)
 }
 
+/// For each row the place of the next one that is not original: no row between meets an alias of it, since the table is
+/// sound.
+pub(crate) fn joined_behind(alloc: Global, rows: &[Row]) -> Result<Vec<usize>, Memory>
+    ensures { IfOk result (λ v. AreNextJoined rows.now v.items) }
+{
+    let mut joined = vec![in alloc; 0usize; rows.len()]?;
+    let mut next = rows.len();
+    let mut k = rows.len();
+    while k > 0 {
+        k -= 1;
+        joined[k] = next;
+        next = joined_from(&rows[k], k, next);
+    }
+    Ok(joined)
+}
+
+// The place of the row where it is not original, and else the next one.
+fn joined_from(row: &Row, place: usize, next: usize) -> usize
+    ensures { (result ≡ place) ⊎ ((result ≡ next) × (IsOriginal row.now)) }
+{
+    if is_original(row) { next } else { place }
+}
+
+// Whether the row's first alias is its block: then the row is original.
+fn is_original(row: &Row) -> bool
+    ensures { IsTrue result → IsOriginal row.now }
+{
+    match row.aliases.as_slice().first() {
+        Some(alias) => alias.block == row.block,
+        None => false,
+    }
+}
+
 /// The guard of row `s`, which changed now.
-pub(crate) fn guard_of(rows: &[Row], s: usize, now: usize) -> Guard
-    requires ordered { IsOrdered rows.now }
+pub(crate) fn guard_of(rows: &[Row], joined: &[usize], s: usize, now: usize) -> Guard
+    requires sound { IsSound rows.now }
+    requires joined { AreNextJoined rows.now joined.now }
     requires inside { s < length rows.now }
     ensures guard { IsGuardAt rows.now s result }
     ensures fresh { IsFresh now result }
 {
-    let met = next_to_meet(rows, s);
+    let met = next_to_meet(rows, joined, s);
     Guard {
         rival: first_rival(rows, s, met),
         clear: general_from(rows, met),
@@ -78,15 +113,19 @@ pub(crate) fn guard_of(rows: &[Row], s: usize, now: usize) -> Guard
 }
 
 // The place of the first row behind row `s` that meets an alias of it, and the number of rows where there is none.
-fn next_to_meet(rows: &[Row], s: usize) -> usize
+fn next_to_meet(rows: &[Row], joined: &[usize], s: usize) -> usize
+    requires sound { IsSound rows.now }
+    requires joined { AreNextJoined rows.now joined.now }
     requires inside { s < length rows.now }
     ensures behind { s < result }
     ensures missed { (r : ℕ) (d : ARow) → s < r → r < result → Misses (slice_index_or rows.now r d).block (slice_index_or rows.now s d) }
 {
-    for r in s + 1..rows.len() {
+    let mut r = joined[s];
+    while r < rows.len() {
         if !misses(rows[r].block, &rows[s]) {
             return r;
         }
+        r = joined[r];
     }
     rows.len()
 }
@@ -136,13 +175,14 @@ fn guard_at(guards: &[Guard], s: u32) -> Guard
     NOTHING
 }
 
-/// Whether no row outside the set, behind row `s` of the set and of generality at most `general`, meets an alias of it.
+/// Whether no row behind row `s`, of generality at most `general` and not at one of the places, meets an alias of it. The
+/// places behind it are of rows of its route.
 pub(crate) fn passes(rows: &[Row], guards: &[Guard], places: &[u32], s: u32, general: u32) -> bool
     requires few { length rows.now < 2 ^ 32 }
     requires ordered { IsOrdered rows.now }
     requires guards { AreGuards rows.now guards.now }
-    requires set { IsOneRoute rows.now places.now }
-    requires member { has places.now s ≡ true }
+    requires inside { s < length rows.now }
+    requires one_route { (r : ℕ) → s < r → has places.now r ≡ true → SameRoute rows.now s r }
     requires low { general ≤ 32 }
     ensures { IsTrue result ↔ PassesUp rows.now places.now s (place_for rows.now general) }
 {

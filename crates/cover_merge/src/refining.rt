@@ -1,5 +1,5 @@
 // The refined set of places of one route.
-ghost use Rattle.std.specs.Prelude.{◌≡◌, ◌<◌, ◌≤◌, ◌^◌, ◌↔◌, ◌⊎◌, [], IsTrue, IfOk, MatchOption, MatchBool, All, length, filter, not, ◌==◌, ◌+◌, ℕ, List, take, slice_index, slice_index_or};
+ghost use Rattle.std.specs.Prelude.{◌≡◌, ◌<◌, ◌≤◌, ◌^◌, ◌↔◌, ◌⊎◌, [], IsTrue, IfOk, MatchOption, MatchBool, All, length, filter, not, ◌==◌, ◌+◌, ℕ, List, take, drop, ◌++◌, slice_index_or};
 ghost use Rattle.spin_base.specs.declared.blocks.Block.{Block as ABlock};
 ghost use Rattle.tern_word.specs.Ternary.{Intersects};
 ghost use Rattle.tern_word.specs.SoundTable.{IsOrdered, IsSound, Misses};
@@ -54,7 +54,8 @@ pub(crate) fn refine_by(
 }
 
 // Takes out the places for which the up-check fails, the greatest first, each time with the merge of those that are
-// left. The merge where two are left.
+// left. The merge where two are left. On the way the places before `i` and those from `kept` on are left, and the latter
+// pass.
 fn sift(
     alloc: Global,
     rows: &[Row],
@@ -72,18 +73,34 @@ fn sift(
 {
     let merges = merges_of(alloc, rows, set)?;
     let mut merged = merges[set.len() - 1];
-    let mut from = set.len();
-    while set.len() >= 2 {
-        match failing_before(rows, guards, set, from, generality(merged)) {
-            Some(i) => {
-                let _ = set.remove(i);
-                merged = merge_from(rows, &merges, set, i);
-                from = i;
-            }
-            None => return Ok(Some(merged)),
+    let mut i = set.len();
+    let mut kept = set.len();
+    while i > 0 && i + (set.len() - kept) >= 2 {
+        i -= 1;
+        if passes(rows, guards, &set[kept..], set[i], generality(merged)) {
+            kept -= 1;
+            set[kept] = set[i];
+        } else {
+            merged = merge_from(rows, &merges, &set[..i], &set[kept..]);
         }
     }
-    Ok(None)
+    take_out_run(set, i, kept);
+    if set.len() < 2 {
+        Ok(None)
+    } else {
+        Ok(Some(merged))
+    }
+}
+
+// Takes out the places from index `from` up to `to`.
+fn take_out_run(set: &mut Vec<u32>, from: usize, to: usize)
+    requires order { from ≤ to }
+    requires inside { to ≤ length set.old.items }
+    ensures { set.new.items ≡ take from set.old.items ++ drop to set.old.items }
+{
+    let len = set.len();
+    set.copy_within(to..len, from);
+    set.truncate(from + (len - to));
 }
 
 // For each place of the set the merge of the rows up to it.
@@ -101,21 +118,20 @@ fn merges_of(alloc: Global, rows: &[Row], set: &[u32]) -> Result<Vec<Block>, Mem
     Ok(merges)
 }
 
-// The merge of the set, where the merges of its places before place `i` are known.
-fn merge_from(rows: &[Row], merges: &[Block], set: &[u32], i: usize) -> Block
-    requires in_range { All (λ s. s < length rows.now) set.now }
-    requires some { 0 < length set.now }
-    requires inside { i ≤ length set.now }
-    requires known { (k : ℕ) (d : ABlock) → k < i → k < length merges.now → slice_index_or merges.now k d ≡ merged_block rows.now (take (k + 1) set.now) }
-    requires many { i ≤ length merges.now }
-    ensures { result ≡ merged_block rows.now set.now }
+// The merge of the rows at both lists of places, where the merges of the first places of the first are known.
+fn merge_from(rows: &[Row], merges: &[Block], front: &[u32], back: &[u32]) -> Block
+    requires in_range { All (λ s. s < length rows.now) (front.now ++ back.now) }
+    requires some { 0 < length (front.now ++ back.now) }
+    requires known { (k : ℕ) (d : ABlock) → k < length front.now → k < length merges.now → slice_index_or merges.now k d ≡ merged_block rows.now (take (k + 1) front.now) }
+    requires many { length front.now ≤ length merges.now }
+    ensures { result ≡ merged_block rows.now (front.now ++ back.now) }
 {
-    if i == 0 {
-        return merged_block(rows, set);
+    if front.is_empty() {
+        return merged_block(rows, back);
     }
-    let mut merged = merges[i - 1];
-    for k in i..set.len() {
-        merged = merge_two(merged, rows[set[k] as usize].block);
+    let mut merged = merges[front.len() - 1];
+    for k in 0..back.len() {
+        merged = merge_two(merged, rows[back[k] as usize].block);
     }
     merged
 }
@@ -136,33 +152,6 @@ fn narrow(rows: &[Row], set: &mut Vec<u32>, merged: Block) -> bool
         }
         None => true,
     }
-}
-
-// The index of the greatest place of the set for which the up-check fails, where those from index `from` on pass it.
-fn failing_before(
-    rows: &[Row],
-    guards: &[Guard],
-    places: &[u32],
-    from: usize,
-    general: u32,
-) -> Option<usize>
-    requires few { length rows.now < 2 ^ 32 }
-    requires ordered { IsOrdered rows.now }
-    requires guards { AreGuards rows.now guards.now }
-    requires set { IsOneRoute rows.now places.now }
-    requires low { general ≤ 32 }
-    requires from { from ≤ length places.now }
-    requires behind { (k : ℕ) → from ≤ k → k < length places.now → PassesUp rows.now places.now (slice_index places.now k) (place_for rows.now general) }
-    ensures { MatchOption result ((s : ℕ) → IsTrue (has places.now s) → PassesUp rows.now places.now s (place_for rows.now general)) (λ i. (i < from) × (IsLastFailing rows.now places.now (place_for rows.now general) (slice_index places.now i))) }
-{
-    let mut i = from;
-    while i > 0 {
-        i -= 1;
-        if !passes(rows, guards, places, places[i], general) {
-            return Some(i);
-        }
-    }
-    None
 }
 
 // The block of the first alias that the block meets, of the first row from place `p` on that has one.

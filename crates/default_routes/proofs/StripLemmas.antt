@@ -1,12 +1,12 @@
 -- Kept rows route as all rows do.
-use Rattle.std.proofs.Common.{◌≡◌, ℕ, suc, ◌+◌, ◌-◌, ◌^◌, ◌<◌, ◌≤◌, ◌⊎◌, inl, inr, ◌==◌, Bool, true, false, cond, Some, List, [], ◌∷◌, length, get_or, refl, sym, ap, ◌∙◌, subst, arith}
+use Rattle.std.proofs.Common.{◌≡◌, ℕ, suc, ◌+◌, ◌-◌, ◌^◌, ◌<◌, ◌≤◌, ◌⊎◌, inl, inr, ◌==◌, Bool, true, false, cond, Some, List, [], ◌∷◌, ◌++◌, reverse, length, get_or, refl, sym, ap, ◌∙◌, subst, arith}
 use Rattle.std.specs.Prelude.{All, AllPairs, map, find, slice_get, bit_and, MatchBool, IsTrue, ◌↔◌}
 use Rattle.std.specs.List.{cons_option}
 use Rattle.std.specs.Option.{option_map_or}
 use Rattle.std.proofs.lemmas.Bool.{cases_lt, eq-eqb}
 use Rattle.std.proofs.lemmas.Bool.Decides.{eqb_tells}
-use Rattle.std.proofs.lemmas.List.{get_or_default}
-use Rattle.std.proofs.lemmas.List.Elements.{All-nil, All-cons, All-head, All-tail, All-weaker, All-map}
+use Rattle.std.proofs.lemmas.List.{get_or_default, get_or-reverse, length-reverse, reverse-append, reverse-reverse}
+use Rattle.std.proofs.lemmas.List.Elements.{All-nil, All-append, All-cons, All-head, All-tail, All-weaker, All-map}
 use Rattle.std.proofs.lemmas.List.Kept.{AllPairs-cons}
 use Rattle.std.proofs.lemmas.Option.{slice_get_read, get_or_from_slice_get, slice_get_within}
 use Rattle.spin_base.specs.declared.chips.Dir.{Dir}
@@ -21,7 +21,7 @@ use Rattle.tern_word.specs.declared.tables.Row.{Row}
 use Rattle.tern_word.specs.Entries.{entry_of}
 use Rattle.tern_word.specs.Ternary.{Matches}
 use Rattle.tern_word.specs.SoundTable.{Misses, IsSound, Original, served_by, served}
-use Rattle.cover_checks.specs.Merge.{rows_at}
+use Rattle.cover_checks.specs.Merge.{has, rows_at}
 use Rattle.cover_checks.proofs.Answering.{fails}
 use Rattle.cover_checks.proofs.Lists.{AllPairs-nil, All-flat_map}
 use Rattle.cover_checks.proofs.Positions.{has-at, has-place, rows_at-from, rows_at-has, same_route}
@@ -217,26 +217,45 @@ misses_all rows places row i all before =
 
 -- ---- one row after another, the last first
 
-module _ (rows : List Row) (i : ℕ) (kept list : List ℕ) (same : list ≡ kept) (row : Row) (read : row ≡ get_or rows (i - 1) row) (some : 0 < i) (within : i ≤ length rows) (later : KeptFrom rows i kept) where
-  behind : KeptFrom rows (suc (i - 1)) kept
-  behind = let next : i ≡ suc (i - 1) = omega arith in subst (λ n. KeptFrom rows n kept) next later
+-- the order of the later rows does not matter
+strippable_turned : (rows : List Row) (row : Row) (places : List ℕ) → All (λ s. s < length rows) places → IsStrippable row (rows_at rows places) → IsStrippable row (rows_at rows (reverse places))
+strippable_turned rows row places in_range strip = record {
+  arrival = strip.arrival;
+  route = strip.route;
+  arrives = strip.arrives;
+  clear = rows_at-from (λ (r : Row). Misses r.block row) rows (reverse places) (λ s d found. rows_at-has (λ (r : Row). Misses r.block row) rows places in_range strip.clear s d (has_turned places s found));
+}
+  where
+    has_turned : (xs : List ℕ) (s : ℕ) → has (reverse xs) s ≡ true → has xs s ≡ true
+    has_turned xs s found =
+        let at = has-place (reverse xs) s found in
+        let count : length (reverse xs) ≡ length xs = length-reverse xs in
+        let there : length xs - 1 - at.0 < length xs = omega (arith, at.1, count) in
+        subst (λ n. has xs n ≡ true) (sym (get_or-reverse xs at.0 0 (omega (arith, at.1, count))) ∙ at.2) (has-at xs (length xs - 1 - at.0) there)
+
+module _ (rows : List Row) (i : ℕ) (kept list : List ℕ) (same : list ≡ kept) (in_range : All (λ s. s < length rows) kept) (row : Row) (read : row ≡ get_or rows (i - 1) row) (some : 0 < i) (within : i ≤ length rows) (later : KeptFrom rows i (reverse kept)) where
+  behind : KeptFrom rows (suc (i - 1)) (reverse kept)
+  behind = let next : i ≡ suc (i - 1) = omega arith in subst (λ n. KeptFrom rows n (reverse kept)) next later
 
   here : slice_get rows (i - 1) ≡ Some row
   here = slice_get_read rows (length rows) (i - 1) row refl (omega arith) read
 
-  pub kept_goes : IsStrippable row (rows_at rows list) → KeptFrom rows (i - 1) kept
-  kept_goes strip = goes (i - 1) row kept here (subst (λ l. IsStrippable row (rows_at rows l)) same strip) behind
+  pub kept_goes : IsStrippable row (rows_at rows list) → KeptFrom rows (i - 1) (reverse kept)
+  kept_goes strip = goes (i - 1) row (reverse kept) here (strippable_turned rows row kept in_range (subst (λ l. IsStrippable row (rows_at rows l)) same strip)) behind
 
-  pub kept_stays : (IsStrippable row (rows_at rows list) → ⊥) → (new : List ℕ) → new ≡ (i - 1) ∷ kept → KeptFrom rows (i - 1) new
+  pub kept_stays : (IsStrippable row (rows_at rows list) → ⊥) → (new : List ℕ) → new ≡ kept ++ (i - 1) ∷ [] → KeptFrom rows (i - 1) (reverse new)
   kept_stays keep new is =
-      subst (KeptFrom rows (i - 1)) (sym is)
-      (stays (i - 1) row kept here (subst (λ l. IsStrippable row (rows_at rows l) → ⊥) same keep) behind)
+      subst (KeptFrom rows (i - 1)) (sym (ap reverse is ∙ reverse-append kept ((i - 1) ∷ [])))
+      (stays (i - 1) row (reverse kept) here (λ strip. keep (subst (λ l. IsStrippable row (rows_at rows l)) (reverse-reverse kept ∙ sym same) (strippable_turned rows row (reverse kept) turned strip))) behind)
+    where
+      turned : All (λ s. s < length rows) (reverse kept)
+      turned k d inside = subst (λ s. s < length rows) (sym (get_or-reverse kept k d (omega (arith, length-reverse kept, inside)))) (in_range (length kept - 1 - k) d (omega (arith, length-reverse kept, inside)))
 
-pub in_range_more : (n i : ℕ) (kept new : List ℕ) → All (λ s. s < n) kept → i < n → new ≡ i ∷ kept → All (λ s. s < n) new
-in_range_more n i kept new all less is = subst (All (λ s. s < n)) (sym is) (All-cons (λ s. s < n) i kept less all)
+pub in_range_more : (n i : ℕ) (kept new : List ℕ) → All (λ s. s < n) kept → i < n → new ≡ kept ++ i ∷ [] → All (λ s. s < n) new
+in_range_more n i kept new all less is = subst (All (λ s. s < n)) (sym is) (All-append (λ s. s < n) kept (i ∷ []) all (All-cons (λ s. s < n) i [] less (All-nil (λ s. s < n))))
 
-pub none_kept : (rows : List Row) (new : List ℕ) → new ≡ [] → KeptFrom rows (length rows) new
-none_kept rows new is = subst (KeptFrom rows (length rows)) (sym is) ends
+pub none_kept : (rows : List Row) (new : List ℕ) → new ≡ [] → KeptFrom rows (length rows) (reverse new)
+none_kept rows new is = subst (λ l. KeptFrom rows (length rows) (reverse l)) (sym is) ends
 
 pub in_range_none : (n : ℕ) (new : List ℕ) → new ≡ [] → All (λ s. s < n) new
 in_range_none n new is = subst (All (λ s. s < n)) (sym is) (All-nil (λ s. s < n))

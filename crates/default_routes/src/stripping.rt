@@ -34,7 +34,7 @@ pub fn strip(alloc: Global, covered: Covered) -> Result<Final, Memory>
     Ok(Final { covered, kept })
 }
 
-// The places of the kept rows, ascending: found from the last row to the first.
+// The places of the kept rows, ascending: found from the last row to the first, and then turned round.
 fn kept_places(alloc: Global, rows: &[Row]) -> Result<Seq<u32>, Memory>
     requires { length rows.now < 2 ^ 32 }
     ensures { IfOk result (λ kept. AreKept rows.now kept) }
@@ -44,9 +44,10 @@ fn kept_places(alloc: Global, rows: &[Row]) -> Result<Seq<u32>, Memory>
     while i > 0 {
         i -= 1;
         if !can_go(&rows[i], rows, &kept) {
-            kept.insert(0, i as u32)?;
+            kept.push(i as u32)?;
         }
     }
+    kept.reverse();
     Ok(Seq::from_vec(kept))
 }
 

@@ -1,37 +1,14 @@
--- Which job bytes are, and what a source that tells its bytes gave.
-use Rattle.std.proofs.Common.{◌≡◌, ℕ, codes, ◌<◌, ◌≤◌, List, [], ◌∷◌, ◌++◌, length, nat_lt, Bool, true, false, Option, Some, None, Result, Ok, Err, IfOk, IfErr, refl, sym, ap, ◌∙◌, subst, arith}
+-- Which input bytes are, and what a source that tells its bytes gave.
+use Rattle.std.proofs.Common.{◌≡◌, ℕ, ◌<◌, ◌≤◌, List, [], ◌++◌, length, nat_lt, Bool, true, false, Option, Some, None, Result, Ok, Err, IfOk, IfErr, refl, sym, ap, ◌∙◌, subst, arith}
 use Rattle.std.specs.Result.{IsErr, IsErrAnd}
 use Rattle.std.proofs.lemmas.Bool.{cond-true, cond-false, lt-ltb, ltb-true}
 use Rattle.std.proofs.lemmas.List.{append-nil, length-append}
 use Rattle.serde_json.specs.Data.{Data}
-use Rattle.job_text.specs.declared.faults.JobFault.{JobFault}
 use Rattle.job_text.specs.Json.{json_of}
-use Rattle.job_text.specs.Reading.{first}
 use Rattle.spin_base.specs.Outside.{GivesAll, LosesMoreThan}
-use Rattle.job_readers.specs.declared.jobs.Job.{Job}
-use Rattle.job_readers.specs.WholeJob.{job_faults, job_value}
+use Rattle.refusals.specs.declared.causes.Refusal.{Refusal}
 use Rattle.refusals.specs.declared.causes.Refusal.TheVariants as refusals
-use Rattle.job_bytes.specs.Jobs.{job_by, job_in, job_of, job_from}
-
--- ---- values
-
-by_none : (fs : List JobFault) (value job : Job) → fs ≡ [] → job ≡ value → job_by fs value ≡ Ok job
-by_none [] value job none is = ap Ok (sym is)
-by_none (f ∷ fs) value job none is = cc
-
-by_first : (fs : List JobFault) (value : Job) (f : JobFault) → first fs ≡ Some f → job_by fs value ≡ Err (refusals.Job f)
-by_first [] value f is = cc
-by_first (g ∷ fs) value f is = let same : g ≡ f = cc in ap (λ x. Err (refusals.Job x)) same
-
--- a value without a fault is the job that was read
-pub is_job : (path : List ℕ) (d : Data) (job : Job) → path ≡ codes "job" → job_faults path 3 d ≡ [] → job ≡ job_value d → job_of d ≡ Ok job
-unfolding job_of
-is_job path d job here none is = by_none (job_faults (codes "job") 3 d) (job_value d) job (ap (λ p. job_faults p 3 d) (sym here) ∙ none) is
-
--- a value with a fault is refused for the first
-pub is_fault : (path : List ℕ) (d : Data) (f : JobFault) → path ≡ codes "job" → first (job_faults path 3 d) ≡ Some f → job_of d ≡ Err (refusals.Job f)
-unfolding job_of
-is_fault path d f here is = by_first (job_faults (codes "job") 3 d) (job_value d) f (ap (λ p. first (job_faults p 3 d)) (sym here) ∙ is)
+use Rattle.job_bytes.specs.Kinds.{input_from, input_in}
 
 -- ---- bytes
 
@@ -43,13 +20,13 @@ not_long bytes few = by_cases (nat_lt 16777216 (length bytes)) refl
     by_cases true e = absurd (let more = ltb-true _ _ e in omega (arith, more, few))
 
 -- bytes within the limit are what their value is
-pub job_in-few : (bytes : List ℕ) → length bytes ≤ 16777216 → job_in bytes ≡ job_from (json_of bytes)
-unfolding job_in
-job_in-few bytes few = cond-false (nat_lt 16777216 (length bytes)) (Err refusals.TooLong) (job_from (json_of bytes)) (not_long bytes few)
+pub input_in-few : {A : Type 0} (kind : Data → Result A Refusal) (bytes : List ℕ) → length bytes ≤ 16777216 → input_in kind bytes ≡ input_from kind (json_of bytes)
+unfolding input_in
+input_in-few kind bytes few = cond-false (nat_lt 16777216 (length bytes)) (Err refusals.TooLong) (input_from kind (json_of bytes)) (not_long bytes few)
 
-job_in-long : (bytes : List ℕ) → 16777216 < length bytes → job_in bytes ≡ Err refusals.TooLong
-unfolding job_in
-job_in-long bytes long = cond-true (nat_lt 16777216 (length bytes)) (Err refusals.TooLong) (job_from (json_of bytes)) (lt-ltb _ _ long)
+input_in-long : {A : Type 0} (kind : Data → Result A Refusal) (bytes : List ℕ) → 16777216 < length bytes → input_in kind bytes ≡ Err refusals.TooLong
+unfolding input_in
+input_in-long kind bytes long = cond-true (nat_lt 16777216 (length bytes)) (Err refusals.TooLong) (input_from kind (json_of bytes)) (lt-ltb _ _ long)
 
 -- ---- sources that tell their bytes
 
@@ -63,12 +40,12 @@ told_bytes (Some b) None given bytes all told = absurd all.gives
 told_bytes (Some b) (Some r) given bytes all told = let same : b ≡ bytes = cc in sym (all_bytes b given r all.gives all.at_end) ∙ same
 
 -- a source that gave more bytes than the limit told more
-pub told_long : (left rest : Option (List ℕ)) (bytes : List ℕ) → LosesMoreThan 16777216 left rest → left ≡ Some bytes → job_in bytes ≡ Err refusals.TooLong
-told_long None rest bytes long told = cc
-told_long (Some b) None bytes long told = absurd long.1
-told_long (Some b) (Some r) bytes long told =
+pub told_long : {A : Type 0} (kind : Data → Result A Refusal) (left rest : Option (List ℕ)) (bytes : List ℕ) → LosesMoreThan 16777216 left rest → left ≡ Some bytes → input_in kind bytes ≡ Err refusals.TooLong
+told_long kind None rest bytes long told = cc
+told_long kind (Some b) None bytes long told = absurd long.1
+told_long kind (Some b) (Some r) bytes long told =
     let same : b ≡ bytes = cc in
-    ap job_in (sym same) ∙ job_in-long b (omega (arith, long.2, ap length long.1, length-append long.0 r))
+    ap (input_in kind) (sym same) ∙ input_in-long kind b (omega (arith, long.2, ap length long.1, length-append long.0 r))
 
 -- an error that is handed on is the same
 pub err_carried : {A E : Type 0} (r : Result A E) (e : E) (P : E → Type 0) → IsErr r × IsErrAnd r (λ f. f ≡ e) → P e → IfErr r P

@@ -1,7 +1,7 @@
-mod Firsts
-mod ItemSteps
+pub mod Firsts
+pub mod ItemSteps
 mod FollowingSteps
-mod EntryLengths
+pub mod EntryLengths
 mod PlaceSteps
 mod BlockSteps
 mod GraphSteps

@@ -213,8 +213,8 @@ fn worded(
     Err(range(alloc, path))
 }
 
-// The items of a value that is a list, and none of any other.
-fn items_in<'a>(item: &'a Value) -> &'a [Value]
+/// The items of a value that is a list, and none of any other.
+pub fn items_in<'a>(item: &'a Value) -> &'a [Value]
     ensures { map view result.now ≡ items_in (view item.now) }
 {
     match item.as_array() {

@@ -18,6 +18,8 @@ mod names;
 mod run_parts;
 mod versions;
 
+pub use entries::link_in;
+pub use events::items_in;
 pub use graph_parts::graph_of;
 pub use jobs::{Job, job_of};
 pub use machine_parts::machine_of;

@@ -1,20 +1,22 @@
 -- The fixed blocks of nets: each is a range of enough keys, and no two share a key.
-use Rattle.std.proofs.Common.{◌≡◌, ℕ, ◌+◌, ◌<◌, true, List, [], ◌∷◌, ◌++◌, length, take, get_or, refl, sym, ap, ◌∙◌, subst, Option, None, Some, IfSome, slice_get, arith, All, AllPairs, Contains}
-use Rattle.std.proofs.lemmas.List.{length-take, get_or-take}
-use Rattle.std.proofs.lemmas.List.Elements.{All-weaker, Contains-append_left, filter_map-append}
-use Rattle.std.proofs.lemmas.Option.{slice_get-get_or, slice_get_within, get_or_from_slice_get}
+use Rattle.std.proofs.Common.{◌≡◌, ℕ, ◌+◌, ◌^◌, ◌<◌, ◌≤◌, inl, inr, List, [], ◌∷◌, ◌++◌, length, take, get_or, refl, ap, ◌∙◌, subst, Option, None, Some, IfSome, slice_get, arith, All, AllPairs, Contains}
+use Rattle.std.proofs.lemmas.List.Elements.{All-weaker, All-contains, Contains-append_left, filter_map-append}
+use Rattle.std.specs.List.{cons_option}
+use Rattle.std.specs.List.Sorted.{IsPermutation}
+use Rattle.std.proofs.lemmas.Bool.{cases_lt}
+use Rattle.std.proofs.lemmas.List.Sorted.{All-permutation}
+use Rattle.list_laws.proofs.Pairs.{AllPairs-nil, AllPairs-head, AllPairs-tail, AllPairs-permutation}
+use Rattle.std.proofs.lemmas.List.Kept.{AllPairs-cons}
+use Rattle.std.proofs.lemmas.Option.{slice_get_within, get_or_from_slice_get}
 use Rattle.list_laws.proofs.Members.{Contains-at, Contains-filter_map, Contains-from_filter_map}
 use Rattle.list_laws.proofs.Places.{All-at, All-each, take_more_at}
 use Rattle.spin_base.specs.declared.blocks.Block.{Block}
 use Rattle.app_graph.specs.declared.graphs.Net.{Net}
 use Rattle.app_graph.specs.declared.graphs.Graph.{Graph}
 use Rattle.app_graph.specs.ValidGraph.{IsValidNet, IsValidGraph, IsFixedFor, AreApart, AreFixedApart}
-use Rattle.range_store.specs.declared.holes.Hole.{Hole}
-use Rattle.range_store.specs.Regions.{is_hole_range}
-use Rattle.key_alloc.specs.KeyBlocks.{size_of, fixed_of, Misses}
-use Rattle.key_alloc.specs.FreeKeys.{AreFreeBeside}
-use Rattle.key_alloc.proofs.BlockRanges.{range_of_fixed, miss_apart}
-use Rattle.key_alloc.proofs.Taking.{hole_from_open}
+use Rattle.key_alloc.specs.KeyBlocks.{size_of, fixed_of}
+use Rattle.key_alloc.specs.FreeKeys.{AreDownwards, HaveRanges}
+use Rattle.key_alloc.proofs.BlockRanges.{IsRange, range_of_fixed}
 
 pub record HaveFixed (nets : List Net) : Type 0 where
   pub serve : All (λ (n : Net). IfSome n.fixed (IsFixedFor n.keys)) nets
@@ -32,30 +34,54 @@ module _ (nets : List Net) (fixed : HaveFixed nets) where
       (subst (λ (y : Net). AreFixedApart (get_or nets i n) y) (get_or_from_slice_get nets j m n is_m) pair) in
       subst (λ (o : Option Block). IfSome o (AreApart f)) is_g (subst (λ (o : Option Block). IfSome o (λ x. IfSome m.fixed (AreApart x))) is_f one)
 
-  -- a net's fixed block is free where those of earlier nets are taken
-  pub open_at : (i : ℕ) (net : Net) (holes : List Hole) → slice_get nets i ≡ Some net → AreFreeBeside (fixed_of (take i nets)) holes
-      → IfSome net.fixed (λ b. is_hole_range holes b.key (size_of b) ≡ true)
-  open_at i net holes is free = by_fixed net.fixed refl
-    where
-      serves : (b : Block) → net.fixed ≡ Some b → IsFixedFor net.keys b
-      serves b is_b = subst (λ (o : Option Block). IfSome o (IsFixedFor net.keys)) is_b (serves_at i net is)
+-- each fixed block is a range of keys
+pub fixed_ranges : (nets : List Net) → HaveFixed nets → All IsRange (fixed_of nets)
+fixed_ranges nets fixed = All-each IsRange (fixed_of nets) (λ b has.
+    let (n, in_nets, is) = Contains-from_filter_map (λ (n : Net). n.fixed) nets b has in
+    let serves = All-contains (λ (n : Net). IfSome n.fixed (IsFixedFor n.keys)) nets n fixed.serve in_nets in
+    range_of_fixed n.keys b (subst (λ (o : Option Block). IfSome o (IsFixedFor n.keys)) is serves))
 
-      missed : (b : Block) → net.fixed ≡ Some b → (d : Block) → Contains (fixed_of (take i nets)) d → Misses b.key (size_of b) d
-      missed b is_b d has =
-          let (n, (k, within, at), is_d) = Contains-from_filter_map (λ (n : Net). n.fixed) (take i nets) d has in
-          let before : k < i = omega (arith, length-take i nets, within) in
-          let there : slice_get nets k ≡ Some n =
-          slice_get-get_or nets k n (omega (arith, length-take i nets, within)) ∙ ap Some (sym (get_or-take i nets k n before) ∙ at) in
-          let apart = apart_at k i n net d b before there is is_d is_b in
-          let serves_n = subst (λ (o : Option Block). IfSome o (IsFixedFor n.keys)) is_d (serves_at k n there) in
-          miss_apart d b (range_of_fixed n.keys d serves_n) (range_of_fixed net.keys b (serves b is_b)) apart
+-- no two fixed blocks share a key
+pub fixed_apart : (nets : List Net) → AllPairs AreFixedApart nets → AllPairs AreApart (fixed_of nets)
+fixed_apart [] apart = AllPairs-nil AreApart
+fixed_apart (n ∷ ns) apart = by_fixed (fixed_apart ns (AllPairs-tail AreFixedApart n ns apart)) n.fixed refl
+  where
+    from_first : (f : Block) → n.fixed ≡ Some f → (g : Block) → Contains (fixed_of ns) g → AreApart f g
+    from_first f is_f g has =
+        let (m, in_ns, is_g) = Contains-from_filter_map (λ (m : Net). m.fixed) ns g has in
+        let one = All-contains (AreFixedApart n) ns m (AllPairs-head AreFixedApart n ns apart) in_ns in
+        subst (λ (o : Option Block). IfSome o (AreApart f)) is_g (subst (λ (o : Option Block). IfSome o (λ x. IfSome m.fixed (AreApart x))) is_f one)
 
-      by_fixed : (o : Option Block) → net.fixed ≡ o → IfSome o (λ b. is_hole_range holes b.key (size_of b) ≡ true)
-      by_fixed None is_o = tt
-      by_fixed (Some b) is_o =
-          let range = range_of_fixed net.keys b (serves b is_o) in
-          hole_from_open (fixed_of (take i nets)) holes free (size_of b) range.some b.key
-          (record { aligned = range.aligned; within = range.within; apart = All-each (Misses b.key (size_of b)) (fixed_of (take i nets)) (missed b is_o) })
+    by_fixed : AllPairs AreApart (fixed_of ns) → (o : Option Block) → n.fixed ≡ o → AllPairs AreApart (cons_option o (fixed_of ns))
+    by_fixed rest None is = rest
+    by_fixed rest (Some f) is = AllPairs-cons AreApart f (fixed_of ns) (All-each (AreApart f) (fixed_of ns) (from_first f is)) rest
+
+apart_back : (a b : Block) → AreApart a b → AreApart b a
+apart_back a b apart k small in_b in_a = apart k small in_a in_b
+
+-- of two blocks that share no key, that of the lesser first key ends before the other
+ends_before : (a b : Block) → IsRange a → IsRange b → AreApart a b → b.key ≤ a.key → b.key + size_of b ≤ a.key
+ends_before a b range_a range_b apart below =
+    elim (cases_lt a.key (b.key + size_of b)) [
+      | inl inside ↦ (
+          let small : a.key < 2 ^ 32 = omega (arith, range_a.within, range_a.some) in
+          absurd (apart a.key small ((range_a.keys a.key small).1 (omega arith, omega (arith, range_a.some))) ((range_b.keys a.key small).1 (below, inside)))
+          )
+      | inr before ↦ before
+    ]
+
+pub record AreSorted (nets : List Net) (blocks : List Block) : Type 0 where
+  pub downwards : AreDownwards blocks
+  pub ranges : HaveRanges blocks
+
+pub sorted_fixed : (nets : List Net) (blocks : List Block) → HaveFixed nets → IsPermutation (fixed_of nets) blocks → AllPairs (λ (a b : Block). b.key ≤ a.key) blocks → AreSorted nets blocks
+sorted_fixed nets blocks fixed moved sorted =
+    let ranges = All-permutation IsRange (fixed_of nets) blocks moved (fixed_ranges nets fixed) in
+    let apart = AllPairs-permutation AreApart apart_back (fixed_of nets) blocks moved (fixed_apart nets fixed.apart) in
+    record {
+      downwards = λ i j d less inside. ends_before (get_or blocks i d) (get_or blocks j d) (ranges i d (omega (arith, less, inside))) (ranges j d inside) (apart i j d less inside) (sorted i j d less inside);
+      ranges = λ i d inside. ((ranges i d inside).some, (ranges i d inside).within);
+    }
 
 -- the fixed blocks of one net more
 pub fixed_more : (nets : List Net) (i : ℕ) (net : Net) → slice_get nets i ≡ Some net → fixed_of (take (i + 1) nets) ≡ fixed_of (take i nets) ++ fixed_of (net ∷ [])

@@ -1,5 +1,6 @@
 mod Sizes
 mod Taking
+mod Frontier
 mod BlockRanges
 mod FixedBlocks
 mod Growing

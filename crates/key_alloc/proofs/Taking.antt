@@ -1,5 +1,5 @@
 -- Which places of the region of keys are free, while blocks are taken from it.
-use Rattle.std.proofs.Common.{◌≡◌, ℕ, ◌+◌, ◌-◌, ◌%◌, ◌<◌, ◌≤◌, Bool, true, false, true≢false, not, ◌&&◌, ◌||◌, ◌⊎◌, ltb, List, [], ◌∷◌, ◌++◌, get_or, refl, sym, ap, ◌∙◌, subst, inl, inr, Option, None, Some, MatchOption, IfSome, IfNone, Result, Ok, Err, IfOk, arith}
+use Rattle.std.proofs.Common.{◌≡◌, ℕ, ◌+◌, ◌-◌, ◌%◌, ◌<◌, ◌≤◌, Bool, true, false, true≢false, not, ◌&&◌, ◌||◌, ◌⊎◌, ltb, List, [], ◌∷◌, ◌++◌, get_or, refl, sym, ap, ◌∙◌, subst, inl, inr, Option, None, Some, MatchOption, IfSome, Result, Ok, Err, IfOk, arith}
 use Rattle.std.specs.List.{Contains, list_any}
 use Rattle.std.proofs.lemmas.Bool.{and_parts, cases_Bool, cases_lt, lt-ltb, ltb-true, not-true, or_cases, or_left, or_right}
 use Rattle.std.proofs.lemmas.Bool.Decides.{nat_tests}
@@ -8,12 +8,14 @@ use Rattle.spin_base.specs.declared.blocks.Block.{Block}
 use Rattle.spin_base.specs.declared.wants.Memory.{Memory}
 use Rattle.app_graph.specs.declared.graphs.Net.{Net}
 use Rattle.range_store.specs.declared.holes.Hole.{Hole}
-use Rattle.range_store.specs.Regions.{AreRuns, IsFirstFit, HasNoFit, has_range, is_hole_range, is_free, in_range, end_of, hole_of}
-use Rattle.key_alloc.specs.KeyBlocks.{size_of, IsSizeFor, IsOpen, IsLeastBlock, IsBlockFor}
-use Rattle.key_alloc.specs.FreeKeys.{has_key, AreFreeBeside}
-use Rattle.key_alloc.proofs.Sizes.{positive}
+use Rattle.range_store.specs.Regions.{AreRuns, IsFirstFit, HasNoFit, has_range, is_hole_range, is_free, in_range, end_of}
+use Rattle.key_alloc.specs.KeyBlocks.{size_of, Misses, IsSizeFor, IsOpen, IsLeastBlock, IsBlockFor}
+use Rattle.list_laws.proofs.Pairs.{All-left}
+use Rattle.std.proofs.lemmas.List.Elements.{All-append, All-cons, All-nil, All-weaker, All-contains, Contains-append_left}
+use Rattle.key_alloc.specs.declared.free.FreeKeys.{FreeKeys}
+use Rattle.key_alloc.specs.FreeKeys.{has_key, AreAhead, AreFreeBeside, IsLeastOpen}
 
-clash : {A : Type 0} {b : Bool} → b ≡ true → b ≡ false → A
+pub clash : {A : Type 0} {b : Bool} → b ≡ true → b ≡ false → A
 clash t f = absurd (true≢false (sym t ∙ f))
 
 -- ---- holes and free places
@@ -70,7 +72,7 @@ range_of_free from n (h ∷ hs) p s runs some free =
           )
     ]
 
--- ---- the region while blocks are taken
+-- ---- the keys that are free while blocks are taken
 
 free_of : (a b : Bool) → a ≡ true → b ≡ false → (a && not b) ≡ true
 free_of true false p q = refl
@@ -83,69 +85,94 @@ regroup true true c = refl
 regroup true false true = refl
 regroup true false false = refl
 
-pub all_free : AreFreeBeside [] (hole_of 0 4294967296)
-all_free = record {
-  runs = (omega arith, omega arith, omega arith, tt);
-  free = λ k. grind (arith, nat_tests);
-}
-
-pub taken_more : (blocks : List Block) (b : Block) (holes after : List Hole) → AreFreeBeside blocks holes → AreRuns 0 4294967296 after
-    → ((k : ℕ) → is_free after k ≡ (is_free holes k && not (in_range b.key (size_of b) k))) → AreFreeBeside (blocks ++ b ∷ []) after
-taken_more blocks b holes after taken runs free = record {
-  runs = runs;
-  free = λ k.
-      free k
-      ∙ ap (λ z. z && not (has_key k b)) (taken.free k)
-      ∙ regroup (ltb k 4294967296) (list_any (has_key k) blocks) (has_key k b)
-      ∙ ap (λ z. ltb k 4294967296 && not z) (sym (list_any-append (has_key k) blocks (b ∷ [])));
-}
-
-in_facts : (p s k : ℕ) → in_range p s k ≡ true → (p ≤ k) × (k < p + s)
+pub in_facts : (p s k : ℕ) → in_range p s k ≡ true → (p ≤ k) × (k < p + s)
 in_facts p s k e = (grind (arith, nat_tests), grind (arith, nat_tests))
 
-module _ (blocks : List Block) (holes : List Hole) (taken : AreFreeBeside blocks holes) (s : ℕ) (some : 0 < s) where
-  pub open_from_hole : (p : ℕ) → p % s ≡ 0 → is_hole_range holes p s ≡ true → IsOpen blocks s p
+module _ (taken : List Block) (free : FreeKeys) (state : AreFreeBeside taken free) (s : ℕ) (some : 0 < s) where
+  -- the places of a range in a hole are below the frontier
+  pub below_frontier : (p : ℕ) → is_hole_range free.below.holes p s ≡ true → p + s ≤ free.frontier
+  below_frontier p fits =
+      let at = and_parts (ltb (p + s - 1) free.frontier) (not (list_any (has_key (p + s - 1)) taken)) (sym (state.free (p + s - 1)) ∙ free_in_range free.below.holes p s (p + s - 1) fits (omega arith) (omega arith)) in
+      let last = ltb-true (p + s - 1) free.frontier at.0 in
+      omega (arith, last)
+
+  pub open_from_hole : (p : ℕ) → p % s ≡ 0 → is_hole_range free.below.holes p s ≡ true → IsOpen taken s p
   open_from_hole p aligned fits =
-      let at : (k : ℕ) → p ≤ k → k < p + s → (ltb k 4294967296 ≡ true) × (not (list_any (has_key k) blocks) ≡ true) =
-      λ k low high. and_parts (ltb k 4294967296) (not (list_any (has_key k) blocks)) (sym (taken.free k) ∙ free_in_range holes p s k fits low high) in
-      let last = ltb-true (p + s - 1) 4294967296 (at (p + s - 1) (omega arith) (omega arith)).0 in
+      let at : (k : ℕ) → p ≤ k → k < p + s → (ltb k free.frontier ≡ true) × (not (list_any (has_key k) taken) ≡ true) =
+      λ k low high. and_parts (ltb k free.frontier) (not (list_any (has_key k) taken)) (sym (state.free k) ∙ free_in_range free.below.holes p s k fits low high) in
       record {
         aligned = aligned;
-        within = omega (arith, last);
+        within = omega (arith, below_frontier p fits, state.limit);
         apart = λ j d inside k mine its.
             let f = in_facts p s k its in
-            clash (list_any_at (has_key k) blocks j d inside mine) (not-true (list_any (has_key k) blocks) (at k f.0 f.1).1);
+            clash (list_any_at (has_key k) taken j d inside mine) (not-true (list_any (has_key k) taken) (at k f.0 f.1).1);
       }
 
-  pub hole_from_open : (p : ℕ) → IsOpen blocks s p → is_hole_range holes p s ≡ true
-  hole_from_open p o = range_of_free 0 4294967296 holes p s taken.runs some (λ k low high.
-      taken.free k ∙ free_of (ltb k 4294967296) (list_any (has_key k) blocks) (lt-ltb k 4294967296 (omega (arith, o.within)))
-      (list_any_none (has_key k) blocks (λ j d inside. elim (cases_Bool (has_key k (get_or blocks j d))) [
+  pub hole_from_open : (p : ℕ) → IsOpen taken s p → p < free.frontier → is_hole_range free.below.holes p s ≡ true
+  hole_from_open p o low = range_of_free 0 4294967296 free.below.holes p s state.runs some (λ k from_p to_end.
+      state.free k ∙ free_of (ltb k free.frontier) (list_any (has_key k) taken) (lt-ltb k free.frontier (omega (arith, state.whole s p o low)))
+      (list_any_none (has_key k) taken (λ j d inside. elim (cases_Bool (has_key k (get_or taken j d))) [
         | inl mine ↦ absurd (o.apart j d inside k mine (grind (arith, nat_tests)))
         | inr none ↦ none
       ])))
 
--- the first fit in the region is the least block
-pub block_from_fit : (blocks : List Block) (holes : List Hole) (keys : ℕ) (b : Block) → AreFreeBeside blocks holes → IsSizeFor keys (size_of b)
-    → IsFirstFit holes (size_of b) (size_of b) b.key → IsLeastBlock blocks keys b
-block_from_fit blocks holes keys b taken size fit =
-    let some = positive (size_of b) size.power in
-    record {
-      size = size;
-      may = open_from_hole blocks holes taken (size_of b) some b.key fit.aligned fit.fits;
-      least = λ p o. fit.least p o.aligned (hole_from_open blocks holes taken (size_of b) some p o);
-    }
+  -- the first fit below the frontier is the least place of all
+  pub least_from_fit : (p : ℕ) → IsFirstFit free.below.holes s s p → IsLeastOpen taken s p
+  least_from_fit p fit = record {
+    may = open_from_hole p fit.aligned fit.fits;
+    least = λ q o. elim (cases_lt q free.frontier) [
+      | inl low ↦ fit.least q o.aligned (hole_from_open q o low)
+      | inr beyond ↦ omega (arith, below_frontier p fit.fits)
+    ];
+  }
 
-pub none_from_fit : (blocks : List Block) (holes : List Hole) (keys : ℕ) → AreFreeBeside blocks holes → ((s : ℕ) → IsSizeFor keys s → HasNoFit holes s s)
-    → (s p : ℕ) → IsSizeFor keys s → IsOpen blocks s p → ⊥
-none_from_fit blocks holes keys taken none s p size o =
-    clash (hole_from_open blocks holes taken s (positive s size.power) p o) (none s size p o.aligned)
+  pub none_from_fit : HasNoFit free.below.holes s s → free.frontier ≡ 4294967296 → (p : ℕ) → IsOpen taken s p → ⊥
+  none_from_fit none all p o = clash (hole_from_open p o (omega (arith, o.within))) (none p o.aligned)
+
+-- one block more is taken, which is behind the frontier or ahead
+pub ahead_more : (taken : List Block) (b : Block) (ahead : List Block) (frontier : ℕ) → AreAhead taken ahead frontier → (b.key + size_of b ≤ frontier) ⊎ Contains ahead b
+    → AreAhead (taken ++ b ∷ []) ahead frontier
+ahead_more taken b ahead frontier state place = record {
+  behind = All-append (λ (c : Block). (c.key + size_of c ≤ frontier) ⊎ Contains ahead c) taken (b ∷ []) state.behind
+      (All-cons (λ (c : Block). (c.key + size_of c ≤ frontier) ⊎ Contains ahead c) b [] place (All-nil (λ (c : Block). (c.key + size_of c ≤ frontier) ⊎ Contains ahead c)));
+  beyond = All-weaker (λ (c : Block). (frontier ≤ c.key) × Contains taken c) (λ (c : Block). (frontier ≤ c.key) × Contains (taken ++ b ∷ []) c)
+      (λ c has. (has.0, Contains-append_left taken (b ∷ []) c has.1)) ahead state.beyond;
+  ranges = state.ranges;
+  downwards = state.downwards;
+}
+
+pub open_before : (taken : List Block) (b : Block) (s p : ℕ) → IsOpen (taken ++ b ∷ []) s p → IsOpen taken s p
+open_before taken b s p o = record { aligned = o.aligned; within = o.within; apart = All-left (Misses p s) taken (b ∷ []) o.apart }
+
+-- a block below the frontier is taken
+pub taken_more : (taken : List Block) (b : Block) (free after : FreeKeys) → AreFreeBeside taken free → 0 < size_of b → is_hole_range free.below.holes b.key (size_of b) ≡ true
+    → AreRuns 0 4294967296 after.below.holes → after.below.size ≡ free.below.size → after.frontier ≡ free.frontier → after.ahead.items ≡ free.ahead.items
+    → ((k : ℕ) → is_free after.below.holes k ≡ (is_free free.below.holes k && not (in_range b.key (size_of b) k))) → AreFreeBeside (taken ++ b ∷ []) after
+taken_more taken b free after state some fits runs size same_frontier same_ahead is_free_now = record {
+  runs = runs;
+  size = size ∙ state.size;
+  limit = omega (arith, state.limit, same_frontier);
+  free = λ k.
+      is_free_now k
+      ∙ ap (λ z. z && not (has_key k b)) (state.free k)
+      ∙ regroup (ltb k free.frontier) (list_any (has_key k) taken) (has_key k b)
+      ∙ ap (λ z. ltb k free.frontier && not z) (sym (list_any-append (has_key k) taken (b ∷ [])))
+      ∙ ap (λ z. ltb k z && not (list_any (has_key k) (taken ++ b ∷ []))) (sym same_frontier);
+  ahead = subst (λ x. AreAhead (taken ++ b ∷ []) x after.frontier) (sym same_ahead) (subst (AreAhead (taken ++ b ∷ []) free.ahead.items) (sym same_frontier)
+      (ahead_more taken b free.ahead.items free.frontier state.ahead (inl (below_frontier taken free state (size_of b) some b.key fits))));
+  whole = λ s p o low. omega (arith, same_frontier, state.whole s p (open_before taken b s p o) (omega (arith, same_frontier, low)));
+}
 
 -- a block that is among those that are taken takes no more
-pub taken_again : (blocks : List Block) (b : Block) (holes : List Hole) → AreFreeBeside blocks holes → Contains blocks b → AreFreeBeside (blocks ++ b ∷ []) holes
-taken_again blocks b holes taken has = record {
-  runs = taken.runs;
-  free = λ k. taken.free k ∙ ap (λ z. ltb k 4294967296 && not z) (sym (list_any-append (has_key k) blocks (b ∷ []) ∙ said_twice k (cases_Bool (has_key k b))));
+pub taken_again : (taken : List Block) (b : Block) (free : FreeKeys) → AreFreeBeside taken free → Contains taken b → AreFreeBeside (taken ++ b ∷ []) free
+taken_again taken b free state has = record {
+  runs = state.runs;
+  size = state.size;
+  limit = state.limit;
+  free = λ k. state.free k ∙ ap (λ z. ltb k free.frontier && not z) (sym (list_any-append (has_key k) taken (b ∷ []) ∙ said_twice k (cases_Bool (has_key k b))));
+  ahead = ahead_more taken b free.ahead.items free.frontier state.ahead
+      (All-contains (λ (c : Block). (c.key + size_of c ≤ free.frontier) ⊎ Contains free.ahead.items c) taken b state.ahead.behind has);
+  whole = λ s p o. state.whole s p (open_before taken b s p o);
 }
   where
     or_neither : (a c : Bool) → c ≡ false → (a || (c || false)) ≡ a
@@ -153,24 +180,31 @@ taken_again blocks b holes taken has = record {
     or_neither false true e = clash refl e
     or_neither false false e = refl
 
-    said_twice : (k : ℕ) → (has_key k b ≡ true) ⊎ (has_key k b ≡ false) → (list_any (has_key k) blocks || (has_key k b || false)) ≡ list_any (has_key k) blocks
+    said_twice : (k : ℕ) → (has_key k b ≡ true) ⊎ (has_key k b ≡ false) → (list_any (has_key k) taken || (has_key k b || false)) ≡ list_any (has_key k) taken
     said_twice k (inl mine) =
-        let any : list_any (has_key k) blocks ≡ true = list_any_at (has_key k) blocks has.0 b has.1 (ap (has_key k) has.2 ∙ mine) in
-        or_left (list_any (has_key k) blocks) (has_key k b || false) any ∙ sym any
-    said_twice k (inr none) = or_neither (list_any (has_key k) blocks) (has_key k b) none
+        let any : list_any (has_key k) taken ≡ true = list_any_at (has_key k) taken has.0 b has.1 (ap (has_key k) has.2 ∙ mine) in
+        or_left (list_any (has_key k) taken) (has_key k b || false) any ∙ sym any
+    said_twice k (inr none) = or_neither (list_any (has_key k) taken) (has_key k b) none
 
--- ---- the block that a net gets, which is a block of the region or none
+-- ---- the block that a net gets, which is the least or none
 
-module _ (net : Net) (holes : List Hole) (not_fixed : net.fixed ≡ None) where
-  pub right_in : (r : Result (Option Block) Memory) → IfOk r (λ o. IfSome o (λ b. IsSizeFor net.keys (size_of b))) → IfOk r (λ o. IfSome o (λ b. IsFirstFit holes (size_of b) (size_of b) b.key))
-      → IfOk r (λ o. IfSome o (λ b. (taken : List Block) → AreFreeBeside taken holes → IsBlockFor taken net b))
-  right_in (Ok (Some b)) size first = λ taken free.
-      subst (λ o. MatchOption o (IsLeastBlock taken net.keys b) (λ f. b ≡ f)) (sym not_fixed) (block_from_fit taken holes net.keys b free size first)
-  right_in (Ok None) size first = tt
-  right_in (Err e) size first = tt
+-- the block of the least place is the least block
+pub block_from_least : (taken : List Block) (keys size place : ℕ) (b : Block) → IsSizeFor keys size → b.key ≡ place → size_of b ≡ size → IsLeastOpen taken size place → IsLeastBlock taken keys b
+block_from_least taken keys size place b for_keys key is least =
+    let at : IsLeastOpen taken (size_of b) b.key = subst (λ s. IsLeastOpen taken s b.key) (sym is) (subst (IsLeastOpen taken size) (sym key) least) in
+    record { size = subst (IsSizeFor keys) (sym is) for_keys; may = at.may; least = at.least }
 
-  pub none_in : (r : Result (Option Block) Memory) → IfOk r (λ o. IfNone o ((s : ℕ) → IsSizeFor net.keys s → HasNoFit holes s s))
-      → IfOk r (λ o. IfNone o ((taken : List Block) → AreFreeBeside taken holes → (s p : ℕ) → IsSizeFor net.keys s → IsOpen taken s p → ⊥))
-  none_in (Ok (Some b)) none = tt
-  none_in (Ok None) none = λ taken free. none_from_fit taken holes net.keys free none
-  none_in (Err e) none = tt
+-- the block that is taken where none is fixed
+pub free_in : (net : Net) (free after : FreeKeys) (r : Result (Option Block) Memory) → IfOk r (λ o. IfSome o (λ b. (taken : List Block) → AreFreeBeside taken free → AreFreeBeside (taken ++ b ∷ []) after))
+    → IfOk r (λ o. IfSome o (λ b. (taken : List Block) → AreFreeBeside taken free → IfSome net.fixed (Contains taken) → AreFreeBeside (taken ++ b ∷ []) after))
+free_in net free after (Ok (Some b)) more = λ taken state among. more taken state
+free_in net free after (Ok None) more = tt
+free_in net free after (Err e) more = tt
+
+module _ (net : Net) (free : FreeKeys) (not_fixed : net.fixed ≡ None) where
+  pub right_in : (r : Result (Option Block) Memory) → IfOk r (λ o. IfSome o (λ b. (taken : List Block) → AreFreeBeside taken free → IsLeastBlock taken net.keys b))
+      → IfOk r (λ o. IfSome o (λ b. (taken : List Block) → AreFreeBeside taken free → IsBlockFor taken net b))
+  right_in (Ok (Some b)) least = λ taken state.
+      subst (λ o. MatchOption o (IsLeastBlock taken net.keys b) (λ f. b ≡ f)) (sym not_fixed) (least taken state)
+  right_in (Ok None) least = tt
+  right_in (Err e) least = tt

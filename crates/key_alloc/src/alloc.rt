@@ -1,17 +1,16 @@
 // The blocks of all nets.
-ghost use Rattle.std.specs.Prelude.{◌≡◌, ℕ, ◌+◌, ◌^◌, ◌<◌, ◌≤◌, ◌&&◌, ◌↔◌, ◌++◌, ◌∷◌, [], List, not, AllPairs, IfOk, IfErr, IfSome, IfNone};
+ghost use Rattle.std.specs.Prelude.{◌≡◌, ℕ, ◌≤◌, ◌++◌, ◌∷◌, [], List, None, AllPairs, IfOk, IfErr, IfSome, IfNone};
 ghost use Rattle.std.specs.List.{AllZip, Contains};
 ghost use Rattle.spin_base.specs.declared.blocks.Block.{Block};
 ghost use Rattle.app_graph.specs.ValidGraph.{IsValidGraph};
-ghost use Rattle.range_store.specs.Regions.{AreRuns, IsFirstFit, HasNoFit, is_free, in_range};
-ghost use Rattle.tern_word.specs.Ternary.{Matches, Intersects};
-ghost use Rattle.key_alloc.specs.KeyBlocks.{IsSizeFor, IsOpen, IsBlockFor, AreRightBlocks, HasKeys, size_of};
-ghost use Rattle.key_alloc.specs.FreeKeys.{AreFreeBeside};
+ghost use Rattle.tern_word.specs.Ternary.{Intersects};
+ghost use Rattle.key_alloc.specs.KeyBlocks.{IsSizeFor, IsOpen, IsLeastBlock, IsBlockFor, AreRightBlocks, HasKeys};
+ghost use Rattle.key_alloc.specs.FreeKeys.{AreFreeBeside, AreFreeBesideSome};
 ghost use Rattle.key_alloc.specs.Cause.{IsCause};
 
 use crate::fixed::keys_not_fixed;
+use crate::free::FreeKeys;
 use app_graph::{Graph, Net};
-use range_store::Ranges;
 use spin_base::{Block, Memory, Seq};
 use std::alloc::Global;
 use tern_word::block_of;
@@ -58,39 +57,33 @@ pub fn keys(alloc: Global, graph: &Graph) -> Result<Seq<Block>, KeyErr>
     Ok(blocks)
 }
 
-// The block that is fixed for a net, which is taken already, or else the first free range of its size, which it takes.
-fn block_for(free: &mut Ranges, net: &Net) -> Result<Option<Block>, Memory>
+// The block that is fixed for a net, which is taken already, or else the least block for its keys, which it takes.
+fn block_for(free: &mut FreeKeys, net: &Net) -> Result<Option<Block>, Memory>
     requires some { 1 ≤ net.now.keys }
     requires few { net.now.keys ≤ 4294967296 }
-    requires whole { free.old.size ≡ 4294967296 }
-    requires runs { AreRuns 0 4294967296 free.old.holes }
-    ensures right { IfOk result (λ o. IfSome o (λ b. (taken : List Block) → AreFreeBeside taken free.old.holes → IsBlockFor taken net.now b)) }
-    ensures free { IfOk result (λ o. IfSome o (λ b. (taken : List Block) → AreFreeBeside taken free.old.holes → IfSome net.now.fixed (Contains taken) → AreFreeBeside (taken ++ b ∷ []) free.new.holes)) }
+    requires state { AreFreeBesideSome free.old }
+    ensures right { IfOk result (λ o. IfSome o (λ b. (taken : List Block) → AreFreeBeside taken free.old → IsBlockFor taken net.now b)) }
+    ensures free { IfOk result (λ o. IfSome o (λ b. (taken : List Block) → AreFreeBeside taken free.old → IfSome net.now.fixed (Contains taken) → AreFreeBeside (taken ++ b ∷ []) free.new)) }
     ensures not_fixed { IfOk result (λ o. IfNone o (net.now.fixed ≡ None)) }
-    ensures none { IfOk result (λ o. IfNone o ((taken : List Block) → AreFreeBeside taken free.old.holes → (size place : ℕ) → IsSizeFor net.now.keys size → IsOpen taken size place → ⊥)) }
-    ensures whole { free.new.size ≡ 4294967296 }
+    ensures none { IfOk result (λ o. IfNone o ((taken : List Block) → AreFreeBeside taken free.old → (size place : ℕ) → IsSizeFor net.now.keys size → IsOpen taken size place → ⊥)) }
 {
     match net.fixed {
         Some(block) => Ok(Some(block)),
-        None => next_block(free, net.keys),
+        None => least_block(free, net.keys),
     }
 }
 
-// Takes the first free range of the size for so many keys, as a block.
-fn next_block(free: &mut Ranges, keys: u64) -> Result<Option<Block>, Memory>
+// Takes the least block for so many keys.
+fn least_block(free: &mut FreeKeys, keys: u64) -> Result<Option<Block>, Memory>
     requires some { 1 ≤ keys }
     requires few { keys ≤ 4294967296 }
-    requires runs { AreRuns 0 4294967296 free.old.holes }
-    ensures size { IfOk result (λ o. IfSome o (λ b. IsSizeFor keys (size_of b))) }
-    ensures first { IfOk result (λ o. IfSome o (λ b. IsFirstFit free.old.holes (size_of b) (size_of b) b.key)) }
-    ensures keys { IfOk result (λ o. IfSome o (λ b. (k : ℕ) → k < 2 ^ 32 → Matches b k ↔ ((b.key ≤ k) × (k < b.key + size_of b)))) }
-    ensures free { IfOk result (λ o. IfSome o (λ b. (k : ℕ) → is_free free.new.holes k ≡ (is_free free.old.holes k && not (in_range b.key (size_of b) k)))) }
-    ensures none { IfOk result (λ o. IfNone o ((s : ℕ) → IsSizeFor keys s → HasNoFit free.old.holes s s)) }
-    ensures runs { AreRuns 0 free.new.size free.new.holes }
-    ensures whole { free.new.size ≡ free.old.size }
+    requires state { AreFreeBesideSome free.old }
+    ensures least { IfOk result (λ o. IfSome o (λ b. (taken : List Block) → AreFreeBeside taken free.old → IsLeastBlock taken keys b)) }
+    ensures free { IfOk result (λ o. IfSome o (λ b. (taken : List Block) → AreFreeBeside taken free.old → AreFreeBeside (taken ++ b ∷ []) free.new)) }
+    ensures none { IfOk result (λ o. IfNone o ((taken : List Block) → AreFreeBeside taken free.old → (size place : ℕ) → IsSizeFor keys size → IsOpen taken size place → ⊥)) }
 {
     let size = keys.next_power_of_two();
-    let Some(place) = free.take(size, size)? else {
+    let Some(place) = free.take(size)? else {
         return Ok(None);
     };
     Ok(Some(block_of(place as u32, size)))

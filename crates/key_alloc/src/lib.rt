@@ -7,6 +7,7 @@
 
 mod alloc;
 mod fixed;
+mod free;
 mod laws;
 
 pub use alloc::{KeyErr, keys};

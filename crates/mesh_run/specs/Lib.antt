@@ -1,4 +1,9 @@
 pub mod Acting
+pub mod Casting
+pub mod Dealing
+pub mod Lending
+pub mod Playing
 pub mod Queues
 pub mod Routed
 pub mod Standing
+pub mod Vertices

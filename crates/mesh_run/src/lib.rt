@@ -5,12 +5,19 @@
 #![tactic(auto)]
 
 mod actors;
+mod casting;
+mod gathering;
+mod kits;
 pub mod laws;
+mod lending;
 mod queues;
+mod returning;
+mod rounds;
 mod shares;
 mod standing;
 
 pub use actors::Actor;
 pub use queues::{bring_down, bring_up};
+pub use rounds::{Pace, play_parts};
 pub use shares::play;
 pub use standing::Standing;

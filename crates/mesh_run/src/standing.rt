@@ -88,7 +88,7 @@ impl Standing {
 }
 
 // The last item, which leaves the list.
-fn last_of<T>(list: &mut Vec<T>) -> T
+pub(crate) fn last_of<T>(list: &mut Vec<T>) -> T
     requires { (rest : List T) × (last : T) × (list.old.items ≡ rest ++ last ∷ []) }
     ensures { list.old.items ≡ list.new.items ++ result ∷ [] }
 {

@@ -7,7 +7,7 @@ mod Nearest
 pub mod Ordered
 mod Searching
 mod Signed
-mod Sorting
+pub mod Sorting
 mod Torus
 mod Trees
 mod Walking

@@ -1,7 +1,7 @@
 mod Frame
 mod Opened
-mod Packets
-mod Progress
+pub mod Packets
+pub mod Progress
 mod Run
 mod Steps
 mod Turns

@@ -3,6 +3,6 @@ mod ExampleTree
 mod Marking
 mod Ordering
 mod Taking
-mod Telling
+pub mod Telling
 pub mod Trees
 pub mod Whole

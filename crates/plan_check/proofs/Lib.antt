@@ -8,5 +8,4 @@ mod Meeting
 mod RouteOutputs
 mod Searching
 mod TablePlaces
-mod Telling
 mod TreeLaws

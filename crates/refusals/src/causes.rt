@@ -5,7 +5,7 @@ use default_routes::Final;
 use job_text::JobFault;
 use spin_base::{Chip, Name};
 
-/// Why there is no report.
+/// Why a call gives no text of its own.
 #[derive(Debug, Drop)]
 pub enum Refusal {
     /// The words spell no command. Status 1.
@@ -18,7 +18,7 @@ pub enum Refusal {
     TooLong,
     /// The bytes are no JSON. Status 4.
     NotJson,
-    /// The first fault of the job. Status 4.
+    /// The first fault of the job, or of the request. Status 4.
     Job(JobFault),
     /// The name of the first vertex without room. Status 5.
     NoRoom(Name),

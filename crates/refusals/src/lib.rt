@@ -1,4 +1,4 @@
-//! Why a call of the program gives no report: each refusal with its status and its line.
+//! Why a call of the program gives no text of its own: each refusal with its status and its line.
 //!
 //! Statuses and lines are this project's own.
 #![tactic(auto)]

@@ -20,7 +20,10 @@ pub fn line_of(alloc: Global, refusal: &Refusal) -> Result<Seq<u8>, Memory>
     ensures { IfOk result (λ line. line ≡ line_of_refusal refusal.now) }
 {
     match refusal {
-        Refusal::Usage => fixed(alloc, "usage: run, trace, compile, tables or gen N\n"),
+        Refusal::Usage => fixed(
+            alloc,
+            "usage: run, trace, compile, tables, gen N or check\n",
+        ),
         Refusal::ReadFault => fixed(alloc, "read fault\n"),
         Refusal::WriteFault => Ok(Seq::new(alloc)),
         Refusal::TooLong => fixed(alloc, "bad job: too long\n"),

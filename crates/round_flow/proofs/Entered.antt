@@ -226,7 +226,7 @@ module _ (p : Mark → Bool) (m : State) (f : Flow) (n : State) (mesh : IsMesh m
       let out : Link (opposite_of g) ≡ o = one.1 in
       cc
 
-  behind_far : (c e : Chip) (g : Dir) → IsLiveLink u.machine e (opposite_of g) → far_of u.machine e (opposite_of g) ≡ Some c → behind u e (Link (opposite_of g)) ≡ at_port u c (ByLink g)
+  pub behind_far : (c e : Chip) (g : Dir) → IsLiveLink u.machine e (opposite_of g) → far_of u.machine e (opposite_of g) ≡ Some c → behind u e (Link (opposite_of g)) ≡ at_port u c (ByLink g)
   behind_far c e g live far =
       ap (λ b. behind_link u e (opposite_of g) b (far_of u.machine e (opposite_of g))) live
       ∙ (ap (behind_link u e (opposite_of g) true) far ∙ ap (λ (d : Dir). at_port u c (ByLink d)) (opposite_of-opposite g))

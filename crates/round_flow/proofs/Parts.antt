@@ -22,13 +22,13 @@ pub record Part (m : State) (leave come : Counts) : Type 0 where
   pub leaving : (p : Mark → Bool) → count_left p moves ≡ leave p
   pub coming : (p : Mark → Bool) → count_come p moves ≡ come p
 
-count_left-append : {m : State} (p : Mark → Bool) (vs ws : List (Moved m)) → count_left p (vs ++ ws) ≡ count_left p vs + count_left p ws
+pub count_left-append : {m : State} (p : Mark → Bool) (vs ws : List (Moved m)) → count_left p (vs ++ ws) ≡ count_left p vs + count_left p ws
 count_left-append p [] ws = omega arith
 count_left-append p (v ∷ vs) ws =
     let rest = count_left-append p vs ws in
     omega arith
 
-count_come-append : {m : State} (p : Mark → Bool) (vs ws : List (Moved m)) → count_come p (vs ++ ws) ≡ count_come p vs + count_come p ws
+pub count_come-append : {m : State} (p : Mark → Bool) (vs ws : List (Moved m)) → count_come p (vs ++ ws) ≡ count_come p vs + count_come p ws
 count_come-append p [] ws = omega arith
 count_come-append p (v ∷ vs) ws =
     let rest = count_come-append p vs ws in
@@ -38,7 +38,7 @@ module _ {m : State} where
   pub no_part : Part m (λ p. 0) (λ p. 0)
   no_part = record { moves = []; leaving = λ p. refl; coming = λ p. refl }
 
-  pub both_parts : {leave come leave' come' : Counts} → Part m leave come → Part m leave' come' → Part m (λ p. leave p + leave' p) (λ p. come p + come' p)
+  unfoldable pub both_parts : {leave come leave' come' : Counts} → Part m leave come → Part m leave' come' → Part m (λ p. leave p + leave' p) (λ p. come p + come' p)
   both_parts a b = record {
     moves = a.moves ++ b.moves;
     leaving = λ p. let both = count_left-append p a.moves b.moves in let one = a.leaving p in let two = b.leaving p in omega (arith, both, one, two);

@@ -1,17 +1,17 @@
 -- What passes the queues of a mesh in a round is a bag of moves.
-use Rattle.std.proofs.Common.{◌≡◌, ℕ, ◌+◌, ◌*◌, ◌/◌, ◌%◌, ◌<◌, ◌≤◌, Bool, true, false, cond, ◌==◌, List, [], ◌∷◌, ◌++◌, map, filter, Some, None, length, suc, refl, ap, ap₂, sym, ◌∙◌, subst, arith, inl, inr, count_by, append-nil}
+use Rattle.std.proofs.Common.{◌≡◌, ◌≢◌, ℕ, ◌+◌, ◌*◌, ◌/◌, ◌%◌, ◌<◌, ◌≤◌, Bool, true, false, cond, ◌==◌, List, [], ◌∷◌, ◌++◌, map, filter, Some, None, length, suc, refl, ap, ap₂, sym, ◌∙◌, subst, arith, inl, inr, count_by, append-nil}
 use Rattle.std.specs.List.{All, sum_by, range_with_len, slice_get, slice_index_or}
 use Rattle.std.proofs.lemmas.Bool.{cases_Bool, eqb-true}
-use Rattle.std.proofs.lemmas.List.{map-append}
+use Rattle.std.proofs.lemmas.List.{map-append, length-append, length-map}
 use Rattle.std.proofs.lemmas.List.Elements.{All-contains}
-use Rattle.std.proofs.lemmas.List.Sums.{sum_by-cons, sum_by-append}
+use Rattle.std.proofs.lemmas.List.Sums.{sum_by-cons, sum_by-append, length-filter, count_by-le-length}
 use Rattle.std.proofs.lemmas.List.Sorted.{sum_by-IsPermutation}
 use Rattle.std.proofs.lemmas.Option.{slice_get_within}
 use Rattle.list_laws.specs.Gathered.{gathered}
 use Rattle.list_laws.proofs.Counts.{count_by-append}
 use Rattle.list_laws.proofs.Gathering.{gathered_of_none}
 use Rattle.list_laws.proofs.Members.{Among, among_contains, among_map, among_left, Contains-filter, map_among, contains_among}
-use Rattle.list_laws.proofs.Places.{All-at}
+use Rattle.list_laws.proofs.Places.{All-at, slice_get_there}
 use Rattle.spin_base.specs.declared.chips.Chip.{Chip}
 use Rattle.spin_base.specs.declared.chips.Spot.{Spot}
 use Rattle.spin_base.specs.declared.chips.Port.TheVariants.{Link as ByLink, Local}
@@ -20,25 +20,27 @@ use Rattle.spin_base.specs.declared.copies.McCopy.{McCopy}
 use Rattle.spin_base.specs.declared.copies.Delivery.{Delivery}
 use Rattle.spin_base.specs.declared.copies.DumpRec.{DumpRec}
 use Rattle.spin_base.specs.Links.{opposite_of}
-use Rattle.spin_base.specs.Equality.{chip_eq}
+use Rattle.spin_base.specs.Equality.{chip_eq, out_eq}
 use Rattle.spin_base.specs.Outputs.{all_outs, IsOutput}
-use Rattle.spin_base.proofs.Equality.{nat_eq_same, chip_eq_true}
+use Rattle.spin_base.proofs.Equality.{nat_eq_same, chip_eq_true, out_eq_true}
+use Rattle.spin_base.proofs.Once.{all_once}
 use Rattle.machine_desc.specs.Live.{chip_of, IsLiveChip, IsSite}
 use Rattle.machine_desc.proofs.Far.{live_inside, far_inside}
 use Rattle.machine_desc.proofs.Sites.{site_parts}
-use Rattle.mesh_core.specs.State.{Setup, State, IsMesh, Behind, input, core, behind, queue_at}
+use Rattle.mesh_core.specs.State.{Setup, State, IsMesh, Behind, input, core, nowhere, behind, queue_at}
 use Rattle.mesh_core.specs.Step.{last_hop, onward, outputs}
-use Rattle.mesh_core.specs.Trail.{unsent, in_queue, in_hand, at_core, delivered, dumped, Mark}
+use Rattle.mesh_core.specs.Trail.{Station, unsent, in_queue, in_hand, at_core, delivered, dumped, Mark}
 use Rattle.mesh_core.specs.Ledger.{marks_of, marked, hand_marks, port_of, unsent_marks, input_marks, all_hand_marks, core_marks, delivered_marks, dumped_marks}
 use Rattle.mesh_core.proofs.Moves.{mark, station_of_queue, Crosses, IsMoveOf}
-use Rattle.mesh_core.proofs.LedgerLaw.{Bag}
-use Rattle.round_flow.specs.RoundFlow.{Flow, Passes, at_port, sent_on, of_chip, delivered_to, HasNoHand}
+use Rattle.mesh_core.proofs.LedgerLaw.{Bag, Moved, count_left, count_come}
+use Rattle.round_flow.specs.RoundFlow.{Flow, Passes, at_port, sent_on, of_chip, delivered_to, HasNoHand, HasMoved}
+use Rattle.round_flow.proofs.CountSums.{part_of_sum, part_of_sum_at, counted}
 use Rattle.round_flow.proofs.Sums.{sum_agree, sum_none, sum_map, sum_filter, sum_swap, sum_plus, sum_gathered, sum_at, sum_at-swap, one_passes}
 use Rattle.round_flow.proofs.Balance.{queues_balance, passing, passing_in}
 use Rattle.round_flow.proofs.Ends.{Leads, by_link, to_vertex, to_none, leads}
 use Rattle.round_flow.proofs.Sources.{once_in_range, range_parts, live_chips, live_of_live_chips, live_chip_once, choices, sum_sources}
 use Rattle.round_flow.proofs.Entered.{from, station_of, came, all_came, has_bit}
-use Rattle.round_flow.proofs.Parts.{Part, both_parts, part_each, part_at, part_of}
+use Rattle.round_flow.proofs.Parts.{Part, both_parts, part_each, part_at, part_of, count_come-append}
 use Rattle.round_flow.proofs.Weights.{one_where, back, entered_is}
 use Rattle.round_flow.proofs.Taken.{weight, taken_from, hands_balance}
 
@@ -381,7 +383,7 @@ module _ (m : State) (f : Flow) (n : State) (mesh : IsMesh m) (after : IsMesh n)
         (sum_map (λ (r : DumpRec). mark r.copy (dumped r.chip r.out)) (λ x. one_where (p x)) f.dumped
         ∙ sum_agree (λ (r : DumpRec). one_where (p (mark r.copy (dumped r.chip r.out)))) (λ (r : DumpRec). count_by p (mark r.copy (dumped r.chip r.out) ∷ [])) f.dumped (λ r a. sym (single (mark r.copy (dumped r.chip r.out)))))))
 
-    in_parts : (s : State) → count_by p (marks_of s) ≡ count_by p (unsent_marks s) + (count_by p (input_marks s) + (count_by p (all_hand_marks s) + (count_by p (core_marks s) + (count_by p (delivered_marks s) + count_by p (dumped_marks s)))))
+    pub in_parts : (s : State) → count_by p (marks_of s) ≡ count_by p (unsent_marks s) + (count_by p (input_marks s) + (count_by p (all_hand_marks s) + (count_by p (core_marks s) + (count_by p (delivered_marks s) + count_by p (dumped_marks s)))))
     in_parts s =
         let a = count_by-append p (unsent_marks s) (input_marks s ++ (all_hand_marks s ++ (core_marks s ++ (delivered_marks s ++ dumped_marks s)))) in
         let b = count_by-append p (input_marks s) (all_hand_marks s ++ (core_marks s ++ (delivered_marks s ++ dumped_marks s))) in
@@ -416,3 +418,103 @@ module _ (m : State) (f : Flow) (n : State) (mesh : IsMesh m) (after : IsMesh n)
             omega (arith, leaving, coming, before, later, hands_m, hands_n, a, b, c, d, e, came_all, injected, crossed, hands, collected);
         setup = passes.setup;
       }
+
+  -- ---- some moves
+
+  abbrev everything : Mark → Bool
+  everything k = true
+
+  all_copies : (at : Station) (ks : List McCopy) → count_by everything (marked at ks) ≡ length ks
+  all_copies at [] = refl
+  all_copies at (k ∷ ks) = let rest = all_copies at ks in let first = sum_by-cons (λ x. one_where (everything x)) (mark k at) (marked at ks) in omega (arith, rest, first)
+
+  some_items : {X : Type 0} (xs : List X) → xs ≢ [] → 1 ≤ length xs
+  some_items [] none = absurd (none refl)
+  some_items (x ∷ xs) some = omega arith
+
+  by_part : (moves : List (Moved m)) (sum part : ℕ) → count_left everything moves ≡ sum → part ≤ sum → 1 ≤ part → 1 ≤ length moves
+  by_part moves sum part left within some = let all = left_all moves in omega (arith, all, left, within, some)
+    where
+      left_all : (vs : List (Moved m)) → count_left everything vs ≡ length vs
+      left_all [] = refl
+      left_all (v ∷ vs) = let rest = left_all vs in omega (arith, rest)
+
+  lengths : length bag_of_round.moves ≡ length sent_part.moves + (length taken_part.moves + (length crossed_part.moves + (length dumped_part.moves + length delivered_part.moves)))
+  unfolding bag_of_round both_parts
+  lengths =
+      let a = length-append sent_part.moves (taken_part.moves ++ (crossed_part.moves ++ (dumped_part.moves ++ delivered_part.moves))) in
+      let b = length-append taken_part.moves (crossed_part.moves ++ (dumped_part.moves ++ delivered_part.moves)) in
+      let c = length-append crossed_part.moves (dumped_part.moves ++ delivered_part.moves) in
+      let d = length-append dumped_part.moves delivered_part.moves in
+      let whole : length bag_of_round.moves ≡ length (sent_part.moves ++ (taken_part.moves ++ (crossed_part.moves ++ (dumped_part.moves ++ delivered_part.moves)))) = refl in
+      omega (arith, a, b, c, d, whole)
+
+  -- where a copy moved there is a move
+  pub some_moves : HasMoved m f → 1 ≤ length bag_of_round.moves
+  some_moves (inl (input i, is, left)) =
+      let below : i < 7 * (u.machine.width * u.machine.height) = omega (arith, is, mesh.input_lists) in
+      let one = once_in_range i 0 (7 * (u.machine.width * u.machine.height)) (omega arith) (omega (arith, below)) in
+      let found = counted (λ j. i == j) (range_with_len 0 (7 * (u.machine.width * u.machine.height))) (omega (arith, one)) in
+      let there : Among i (range_with_len 0 (7 * (u.machine.width * u.machine.height))) = subst (λ j. Among j (range_with_len 0 (7 * (u.machine.width * u.machine.height)))) (sym (eqb-true i found.0 found.2)) found.1 in
+      let some = some_items (f.left (input i)) left in
+      let all = all_copies (station_of u (input i)) (f.left (input i)) in
+      let part = by_part taken_part.moves _ (count_by everything (marked (station_of u (input i)) (f.left (input i)))) (taken_part.leaving everything)
+      (part_of_sum (λ j. count_by everything (marked (station_of u (input j)) (f.left (input j)))) i (range_with_len 0 (7 * (u.machine.width * u.machine.height))) there) (omega (arith, all, some)) in
+      let long = lengths in
+      omega (arith, long, part)
+  some_moves (inl (core v, is, left)) =
+      let below : v < length u.spots = omega (arith, is, mesh.core_lists) in
+      let some = some_items (f.left (core v)) left in
+      let same = ap length (passes.collected v below) in
+      let mapped = length-map (filter (λ (d : Delivery). d.vertex == v) f.delivered) (λ (d : Delivery). d.copy) in
+      let filtered = length-filter (λ (d : Delivery). d.vertex == v) f.delivered in
+      let few = count_by-le-length (λ (d : Delivery). d.vertex == v) f.delivered in
+      let all = sum_ones f.delivered in
+      let part = by_part delivered_part.moves _ (length f.delivered) (delivered_part.leaving everything) (omega (arith, all)) (omega (arith, some, same, mapped, filtered, few)) in
+      let long = lengths in
+      omega (arith, long, part)
+    where
+      sum_ones : (ds : List Delivery) → sum_by (λ (d : Delivery). count_by everything (mark d.copy (at_core d.vertex) ∷ [])) ds ≡ length ds
+      sum_ones [] = refl
+      sum_ones (d ∷ ds) = let rest = sum_ones ds in let first = sum_by-cons (λ (e : Delivery). count_by everything (mark e.copy (at_core e.vertex) ∷ [])) d ds in omega (arith, rest, first)
+  some_moves (inl (nowhere, is, left)) = absurd is
+  some_moves (inr (v, below, sent)) =
+      let some = some_items (f.sent v) sent in
+      let all = all_copies (unsent v) (f.sent v) in
+      let spot = slice_get_there u.spots v below in
+      let part = by_part sent_part.moves _ (count_by everything (marked (unsent (0 + v)) (f.sent (0 + v)))) (sent_part.leaving everything)
+      (part_of_sum_at (λ w (spot : Spot). count_by everything (marked (unsent w) (f.sent w))) 0 u.spots v spot.0 spot.1) (omega (arith, all, some, zero_plus v)) in
+      let long = lengths in
+      omega (arith, long, part)
+    where
+      zero_plus : (w : ℕ) → count_by everything (marked (unsent (0 + w)) (f.sent (0 + w))) ≡ count_by everything (marked (unsent w) (f.sent w))
+      zero_plus w = let same : 0 + w ≡ w = omega arith in ap (λ n. count_by everything (marked (unsent n) (f.sent n))) same
+
+  -- ---- what came behind an output
+
+  there : (c : Chip) → IsLiveChip u.machine c → Among c (live_chips u.machine)
+  there c live =
+      let one = live_chip_once u.machine c live in
+      let found = counted (chip_eq c) (live_chips u.machine) (omega (arith, one)) in
+      subst (λ e. Among e (live_chips u.machine)) (sym (chip_eq_true c found.0 found.2)) found.1
+
+  among_outs : (o : Out) → IsOutput o → Among o all_outs
+  among_outs o is =
+      let one = all_once o is in
+      let found = counted (out_eq o) all_outs (omega (arith, one)) in
+      subst (λ p. Among p all_outs) (sym (out_eq_true o found.0 found.2)) found.1
+
+  -- what entered the queue behind an output is among what came
+  pub crossing_comes : (p : Mark → Bool) (c : Chip) (o : Out) → IsLiveChip u.machine c → IsOutput o →
+      count_by p (marked (station_of u (behind u c o)) (f.entered (behind u c o))) ≤ count_come p bag_of_round.moves
+  unfolding bag_of_round both_parts
+  crossing_comes p c o live is =
+      let a = count_come-append p sent_part.moves (taken_part.moves ++ (crossed_part.moves ++ (dumped_part.moves ++ delivered_part.moves))) in
+      let b = count_come-append p taken_part.moves (crossed_part.moves ++ (dumped_part.moves ++ delivered_part.moves)) in
+      let d = count_come-append p crossed_part.moves (dumped_part.moves ++ delivered_part.moves) in
+      let whole : count_come p bag_of_round.moves ≡ count_come p (sent_part.moves ++ (taken_part.moves ++ (crossed_part.moves ++ (dumped_part.moves ++ delivered_part.moves)))) = refl in
+      let coming = crossed_part.coming p in
+      let crossed = crossed_is p in
+      let of_chip = part_of_sum (λ e. sum_by (λ q. came_in p (behind u e q)) all_outs) c (live_chips u.machine) (there c live) in
+      let of_out = part_of_sum (λ q. came_in p (behind u c q)) o all_outs (among_outs o is) in
+      omega (arith, a, b, d, whole, coming, crossed, of_chip, of_out)

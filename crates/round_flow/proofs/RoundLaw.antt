@@ -36,12 +36,12 @@ module _ (m n : State) (f : Flow) (nets : List NetPlan) (mesh : IsMesh m) (after
   round_keeps_job packets job = record { of_nets = job.of_nets; ledger = round_keeps_for (asked_by nets packets) job.ledger }
 
 -- what holds after rounds
-record Stands (m n : State) (nets : List NetPlan) (packets : List Packet) : Type 0 where
-  mesh : IsMesh n
-  setup : n.setup ≡ m.setup
-  job : MeetsJobLedger n nets packets
+pub record Stands (m n : State) (nets : List NetPlan) (packets : List Packet) : Type 0 where
+  pub mesh : IsMesh n
+  pub setup : n.setup ≡ m.setup
+  pub job : MeetsJobLedger n nets packets
 
-rounds_stand : (patience turns : ℕ) (m n : State) (nets : List NetPlan) (packets : List Packet) → IsMesh m → AreRight m.setup.machine m.setup.tables nets →
+pub rounds_stand : (patience turns : ℕ) (m n : State) (nets : List NetPlan) (packets : List Packet) → IsMesh m → AreRight m.setup.machine m.setup.tables nets →
     MeetsJobLedger m nets packets → HasRounds patience turns m n → Stands m n nets packets
 rounds_stand patience turns m n nets packets mesh right job none = record { mesh = mesh; setup = refl; job = job }
 rounds_stand patience turns m n nets packets mesh right job (more f k n' before after round) =
@@ -51,6 +51,13 @@ rounds_stand patience turns m n nets packets mesh right job (more f k n' before 
       setup = round.passes.setup ∙ was.setup;
       job = round_keeps_job k n' f nets was.mesh after round.passes (subst (λ (s : Setup). AreRight s.machine s.tables nets) (sym was.setup) right) packets was.job;
     }
+
+-- Rounds lead from a mesh to a mesh of the same machine, vertices, tables and capacity.
+pub rounds_keep_mesh : (patience turns : ℕ) (m n : State) → IsMesh m → HasRounds patience turns m n → IsMesh n × (n.setup ≡ m.setup)
+rounds_keep_mesh patience turns m n mesh none = (mesh, refl)
+rounds_keep_mesh patience turns m n mesh (more f k n' before after round) =
+    let was = rounds_keep_mesh patience turns m k mesh before in
+    (after, round.passes.setup ∙ was.1)
 
 pub rounds_keep_job : (patience turns : ℕ) (m n : State) (nets : List NetPlan) (packets : List Packet) → IsMesh m → AreRight m.setup.machine m.setup.tables nets →
     MeetsJobLedger m nets packets → HasRounds patience turns m n → MeetsJobLedger n nets packets

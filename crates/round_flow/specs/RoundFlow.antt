@@ -119,9 +119,15 @@ pub record IsRound (patience turns : ℕ) (m : State) (f : Flow) (n : State) : T
   pub sends : (c : Chip) → IsLiveChip m.setup.machine c → length (sent_on m.setup f c) ≤ turns
   pub gets : (c : Chip) → IsLiveChip m.setup.machine c → length (got_on m.setup f c) ≤ turns
 
--- a round moves a copy where one left a queue or was sent
+-- whether a mesh has this queue
+abbrev pub IsQueueOf : State → Behind → Type 0
+IsQueueOf m (input i) = i < length m.inputs
+IsQueueOf m (core v) = v < length m.cores
+IsQueueOf m nowhere = ⊥
+
+-- a round moves a copy where one left a queue of the mesh or was sent
 abbrev pub HasMoved : State → Flow → Type 0
-HasMoved m f = ((q : Behind) × (f.left q ≢ [])) ⊎ ((v : ℕ) × (v < length m.setup.spots) × (f.sent v ≢ []))
+HasMoved m f = ((q : Behind) × IsQueueOf m q × (f.left q ≢ [])) ⊎ ((v : ℕ) × (v < length m.setup.spots) × (f.sent v ≢ []))
 
 -- A mesh is reached from another by rounds, each from mesh to mesh with its flow.
 pub data HasRounds (patience turns : ℕ) (m : State) : State → Type 0 where

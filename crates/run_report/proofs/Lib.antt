@@ -1,6 +1,6 @@
 mod Gathering
 pub mod GotLines
-mod HexDigits
+pub mod HexDigits
 mod Joining
 pub mod Listing
 mod Sorting

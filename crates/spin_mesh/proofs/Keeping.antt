@@ -5,8 +5,8 @@ use Rattle.mesh_core.specs.State.{State}
 use Rattle.mesh_core.specs.Opened.{MeetsJobLedger}
 use Rattle.par_compile.specs.declared.compiling.Plan.{Plan}
 use Rattle.run_report.specs.declared.reports.Report.{Report}
-use Rattle.spin_top.specs.declared.outcomes.Parts.{Parts}
-use Rattle.spin_top.specs.Made.{WhereRun}
+use Rattle.job_words.specs.declared.outcomes.Parts.{Parts}
+use Rattle.job_words.specs.Parts.{WhereRun}
 
 pub ledger_of : (p : Parts) (job : Job) (plan : Plan) (mesh : State) (report : Report) → p.job ≡ Some job → p.plan ≡ Some plan → p.mesh ≡ Some mesh → p.report ≡ Some report →
     WhereRun p (λ j q s t. MeetsJobLedger s q.nets j.run.packets) → MeetsJobLedger mesh plan.nets job.run.packets

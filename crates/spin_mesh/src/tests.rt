@@ -1,7 +1,7 @@
 // The program over a source and a sink in memory: one fails in mid-stream; and where a packet is after each event of a trace.
 ghost use Rattle.std.specs.Prelude.{◌<◌, IfOk};
 ghost use Rattle.mesh_core.specs.Opened.{MeetsJobLedger};
-ghost use Rattle.spin_top.specs.Made.{WhereRun};
+ghost use Rattle.job_words.specs.Parts.{WhereRun};
 
 use mesh_core::{Place, Where};
 use spin_base::{Chip, Dir, FreeGate, MemSink, MemSource, Out, Port, Room, Seq};

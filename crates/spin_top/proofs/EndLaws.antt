@@ -1,139 +1,93 @@
 -- What follows from how a call ends.
-use Rattle.std.proofs.Common.{◌≡◌, ◌⊎◌, ℕ, List, [], Option, Some, None, Result, Ok, Err, IfOk, refl, sym, ap, ◌∙◌, subst, inl, inr}
+use Rattle.std.proofs.Common.{◌≡◌, ◌⊎◌, ℕ, List, Option, Some, None, Ok, refl, sym, ap, ◌∙◌, subst, inl, inr}
 use Rattle.spin_base.specs.Outside.{FaultsRose}
 use Rattle.mesh_core.specs.State.{State}
 use Rattle.mesh_core.specs.Opened.{MeetsJobLedger}
+use Rattle.check_request.specs.declared.requests.Request.{Request}
 use Rattle.job_readers.specs.declared.jobs.Job.{Job}
 use Rattle.run_report.specs.declared.reports.Report.{Report}
 use Rattle.par_compile.specs.declared.compiling.Plan.{Plan}
 use Rattle.command_words.specs.Commands.{spelled, ReadsJob}
 use Rattle.command_words.specs.declared.commands.Command.{Command}
-use Rattle.command_words.specs.declared.commands.Command.TheVariants.{Run, Trace, Compile, Tables, Gen}
+use Rattle.command_words.specs.declared.commands.Command.TheVariants.{OfJob, Check}
+use Rattle.command_words.specs.declared.commands.JobWord.{JobWord}
+use Rattle.command_words.specs.declared.commands.JobWord.TheVariants.{Run, Trace, Compile, Tables, Gen}
 use Rattle.refusals.specs.declared.causes.Refusal.{Refusal}
 use Rattle.refusals.specs.declared.causes.Refusal.TheVariants as refusals
 use Rattle.refusals.specs.Refusals.{line_of, status_at}
-use Rattle.job_bytes.specs.Inputs.{Reading, IsReadAs, IsUntouched, IsReadInPart, HasNoInput, read_fault, too_long, not_read_as, no_memory as no_memory_read}
-use Rattle.job_bytes.specs.Jobs.{job_in}
-use Rattle.job_bytes.proofs.JobBytes.{told_bytes, told_long}
+use Rattle.job_bytes.specs.Inputs.{Reading, IsReadAs, IsUntouched}
+use Rattle.job_bytes.specs.Jobs.{job_in, job_of}
+use Rattle.job_bytes.specs.Requests.{request_in, request_of}
+use Rattle.job_bytes.proofs.JobBytes.{told_long}
+use Rattle.job_words.specs.declared.outcomes.Parts.{Parts}
+use Rattle.job_words.specs.Parts.{no_parts, WhereGiven, WhereRun}
+use Rattle.job_words.specs.Planned.{IsThePlan}
+use Rattle.job_words.specs.Unplanned.{HasNoPlan}
+use Rattle.job_words.specs.Words.{HasRunOut, IsTraced}
+use Rattle.job_words.proofs.Exclusive.{one_no_plan, planned_has_plan, plannable_has_plan}
+use Rattle.job_words.proofs.Generating.{generated_planned}
+use Rattle.job_words.proofs.WordLaws.{plan_given, ledger_given, run_given, trace_given, generated_given}
 use Rattle.spin_top.specs.declared.outcomes.Outcome.{Outcome}
-use Rattle.spin_top.specs.declared.outcomes.Parts.{Parts}
-use Rattle.spin_top.specs.Causes.{HasCause, usage, no_job, no_plan, no_memory, AskForJob, AreRefused, HasNoPlan, IsReadAsAsked}
-use Rattle.spin_top.specs.Ends.{Ends, made, refused, Says, IsExact, IsGenerated, HasAnswer}
-use Rattle.spin_top.specs.Made.{no_parts, plan_parts, run_parts, WhereGiven, WhereRun, HasRunOut, IsTraced, IsKept, Makes, ran, traced, imaged, listed, generated, IsJobOf, IsMade}
-use Rattle.spin_top.specs.Planned.{IsThePlan}
-use Rattle.spin_top.specs.Inputs.{HasNoJob}
+use Rattle.spin_top.specs.Causes.{HasCause, usage, of_job, of_request, no_memory, AskForCheck, AskForJob, HasNoNets, IsReadAsAsked}
+use Rattle.spin_top.specs.Ends.{Ends, made, refused, Says, IsExact, IsGenerated, IsOfCheck, HasAnswer, has_plan, has_nets}
+use Rattle.spin_top.specs.Inputs.{AreRefused, no_value, no_answer}
+use Rattle.spin_top.specs.Made.{HasNoJob, IsJobOf, from_job, checked, IsMadeOfJob}
 use Rattle.spin_top.specs.Writing.{Writing, IsWritten}
-use Rattle.spin_top.proofs.Generating.{generated_planned}
-use Rattle.spin_top.proofs.Exclusive.{ok_err, same_job, none_served, one_refusal, planned_not_refused}
-
--- what each value has, each value has that has more
-pub ok_weaker : {A E : Type 0} (r : Result A E) (P Q : A → Type 0) → ((x : A) → P x → Q x) → IfOk r P → IfOk r Q
-ok_weaker (Ok x) P Q more has = more x has
-ok_weaker (Err e) P Q more has = has
+use Rattle.spin_top.proofs.CheckLaws.{checked_has_nets, fault_other, IsOther, memory_other, one_due, refused_other, with_nets, zero_other}
+use Rattle.spin_top.proofs.InputLaws.{answered_not_refused, read_told, refusal_due, refused_in_part, served_memory}
 
 -- ---- words
 
+-- words are one command
 none_some : (s : Option Command) (c : Command) → s ≡ None → s ≡ Some c → ⊥
 none_some s c none some = cc
 
-one_command : (s : Option Command) (c d : Command) → s ≡ Some c → s ≡ Some d → c ≡ d
-one_command s c d is_c is_d = cc
+one_word : (s : Option Command) (v w : JobWord) → s ≡ Some (OfJob v) → s ≡ Some (OfJob w) → v ≡ w
+one_word s v w is_v is_w = cc
 
-run_not_trace : (s : Option Command) (c : Command) → s ≡ Some c → c ≡ Trace → s ≡ Some Run → ⊥
-run_not_trace s c is trace run = cc
-
-gen_not_run : (s : Option Command) (c : Command) (n : ℕ) → s ≡ Some c → c ≡ Gen n → s ≡ Some Run → ⊥
-gen_not_run s c n is gen run = cc
-
-gen_not_trace : (s : Option Command) (c : Command) (n : ℕ) → s ≡ Some c → c ≡ Gen n → s ≡ Some Trace → ⊥
-gen_not_trace s c n is gen trace = cc
-
-trace_not_gen : (s : Option Command) (c : Command) (n : ℕ) → s ≡ Some c → c ≡ Trace → s ≡ Some (Gen n) → ⊥
-trace_not_gen s c n is trace gen = cc
+job_not_check : (s : Option Command) (w : JobWord) → s ≡ Some (OfJob w) → s ≡ Some Check → ⊥
+job_not_check s w job check = cc
 
 -- `gen N` reads no job
-gen_reads_none : (s : Option Command) (c : Command) (n : ℕ) → s ≡ Some c → s ≡ Some (Gen n) → ReadsJob c → ⊥
-gen_reads_none s c n is gen reads = let same : c ≡ Gen n = cc in subst ReadsJob same reads
+gen_reads_none : (words : List (List ℕ)) (n : ℕ) → spelled words ≡ Some (OfJob (Gen n)) → AskForJob words → ⊥
+gen_reads_none words n gen asks = subst ReadsJob (one_word (spelled words) asks.0 (Gen n) asks.1 gen) asks.2
 
-trace_not_run : (s : Option Command) (c : Command) → s ≡ Some c → c ≡ Run → s ≡ Some Trace → ⊥
-trace_not_run s c is run trace = cc
-
--- what holds of the parts that each word makes holds of the parts
-by_word : (P : Parts → Type 0) (c : Command) (job : Job) (plan : Plan) (parts : Parts) (text : List ℕ) → Makes c job plan parts text →
-    (c ≡ Run → (mesh : State) (report : Report) → IsKept job plan mesh report → HasRunOut job plan mesh report → P (run_parts job plan mesh report)) →
-    (c ≡ Trace → (mesh : State) (report : Report) → IsKept job plan mesh report → IsTraced job plan mesh report → P (run_parts job plan mesh report)) →
-    ((n : ℕ) → c ≡ Gen n → (mesh : State) (report : Report) → IsKept job plan mesh report → HasRunOut job plan mesh report → P (run_parts job plan mesh report)) →
-    P (plan_parts job plan) → P parts
-by_word P c job plan parts text makes on_run on_trace on_gen on_tables = elim makes [
-  | ran is r ↦ subst P (sym r.4) (on_run is r.0 r.1 r.2 r.3)
-  | traced is r ↦ subst P (sym r.4) (on_trace is r.0 r.1 r.2 r.3)
-  | imaged is l ↦ subst P (sym l.0) on_tables
-  | listed is l ↦ subst P (sym l.0) on_tables
-  | generated n is r ↦ subst P (sym r.4) (on_gen n is r.0 r.1 r.2 r.3)
-]
-
--- ---- what a source that tells its bytes gave
-
-read_told : (reading : Reading) (job : Job) (bytes : List ℕ) → reading.left ≡ Some bytes → IsReadAs job_in reading job → job_in bytes ≡ Ok job
-read_told reading job bytes told read = subst (λ b. job_in b ≡ Ok job) (told_bytes reading.left reading.rest read.bytes bytes read.all told) read.is
-
--- a command that reads a job has that of the bytes
-job_told : (c : Command) (reading : Reading) (job : Job) (bytes : List ℕ) → ReadsJob c → IsJobOf c reading job → reading.left ≡ Some bytes → job_in bytes ≡ Ok job
-job_told Run reading job bytes reads its told = read_told reading job bytes told its
-job_told Trace reading job bytes reads its told = read_told reading job bytes told its
-job_told Compile reading job bytes reads its told = read_told reading job bytes told its
-job_told Tables reading job bytes reads its told = read_told reading job bytes told its
+-- a word that reads a job has that of the bytes
+job_told : (w : JobWord) (reading : Reading) (job : Job) (bytes : List ℕ) → ReadsJob w → IsJobOf w reading job → reading.left ≡ Some bytes → job_in bytes ≡ Ok job
+job_told Run reading job bytes reads its told = read_told job_in reading job bytes told its
+job_told Trace reading job bytes reads its told = read_told job_in reading job bytes told its
+job_told Compile reading job bytes reads its told = read_told job_in reading job bytes told its
+job_told Tables reading job bytes reads its told = read_told job_in reading job bytes told its
 job_told (Gen n) reading job bytes reads its told = absurd reads
-
--- whatever the reason why there is no job, it is a fault, want of memory, or what the bytes are refused for
-unread_told : (reading : Reading) (r : Refusal) (bytes : List ℕ) → reading.left ≡ Some bytes → HasNoInput job_in reading r →
-    AreRefused bytes r ⊎ ((FaultsRose reading.faults reading.faults' × (r ≡ refusals.ReadFault)) ⊎ (r ≡ refusals.Memory))
-unread_told reading r bytes told none = elim none [
-  | read_fault part rose is ↦ inr (inl (rose, is))
-  | too_long long is ↦ inl (inl (told_long reading.left reading.rest bytes long told ∙ ap Err (sym is)))
-  | not_read_as given all is ↦ inl (inl (subst (λ b. job_in b ≡ Err r) (told_bytes reading.left reading.rest given bytes all told) is))
-  | no_memory_read part is ↦ inr (inr is)
-]
 
 -- the mesh of a report keeps the ledger of the job
 abbrev KeepsLedger : Job → Plan → State → Report → Type 0
 KeepsLedger job plan mesh report = MeetsJobLedger mesh plan.nets job.run.packets
 
--- for a generated job nothing is read
-untouched_by : (s : Option Command) (c : Command) (n : ℕ) → s ≡ Some c → s ≡ Some (Gen n) → {reading : Reading} (job : Job) → IsJobOf c reading job → IsUntouched reading
-untouched_by s c n is gen {reading} job its = let same : c ≡ Gen n = cc in (subst (λ x. IsJobOf x reading job) same its).0
-
 -- ---- clauses
 
 module _ {words : List (List ℕ)} {reading : Reading} {writing : Writing} {o : Outcome} (ends : Ends words reading writing o) where
-  -- what holds of no parts, and of those that are made, holds of the parts
-  of_parts : (P : Parts → Type 0) → P no_parts → ((text : List ℕ) → IsMade words reading o.parts text → P o.parts) → P o.parts
-  of_parts P none by_made = elim ends [
-    | made text m written ↦ by_made text m
+  -- what holds of no parts, and of those that are made of a job, holds of the parts
+  of_parts : (P : Parts → Type 0) → P no_parts → ((text : List ℕ) → IsMadeOfJob words reading o.parts text → P o.parts) → P o.parts
+  of_parts P none by_job = elim ends [
+    | made text m written ↦ elim m [
+      | from_job j ↦ by_job text j
+      | checked asks request read is parts ↦ subst P (sym parts) none
+    ]
     | refused r cause parts written ↦ subst P (sym parts) none
   ]
 
   pub plan_clause : WhereGiven o.parts IsThePlan
-  plan_clause = of_parts (λ p. WhereGiven p IsThePlan) tt
-      (λ text m. by_word (λ p. WhereGiven p IsThePlan) m.command m.job m.plan o.parts text m.makes
-      (λ is mesh report kept run. m.planned) (λ is mesh report kept trace. m.planned) (λ n is mesh report kept run. m.planned) m.planned)
+  plan_clause = of_parts (λ p. WhereGiven p IsThePlan) tt (λ text m. plan_given m.made)
 
   pub ledger_clause : WhereRun o.parts KeepsLedger
-  ledger_clause = of_parts (λ p. WhereRun p KeepsLedger) tt
-      (λ text m. by_word (λ p. WhereRun p KeepsLedger) m.command m.job m.plan o.parts text m.makes
-      (λ is mesh report kept run. kept.ledger) (λ is mesh report kept trace. kept.ledger) (λ n is mesh report kept run. kept.ledger) tt)
+  ledger_clause = of_parts (λ p. WhereRun p KeepsLedger) tt (λ text m. ledger_given m.made)
 
-  pub run_clause : spelled words ≡ Some Run → WhereRun o.parts HasRunOut
-  run_clause asked = of_parts (λ p. WhereRun p HasRunOut) tt
-      (λ text m. by_word (λ p. WhereRun p HasRunOut) m.command m.job m.plan o.parts text m.makes
-      (λ is mesh report kept run. run) (λ is mesh report kept trace. absurd (run_not_trace (spelled words) m.command m.is_command is asked))
-      (λ n is mesh report kept run. absurd (gen_not_run (spelled words) m.command n m.is_command is asked)) tt)
+  pub run_clause : spelled words ≡ Some (OfJob Run) → WhereRun o.parts HasRunOut
+  run_clause asked = of_parts (λ p. WhereRun p HasRunOut) tt (λ text m. run_given m.made (one_word (spelled words) m.word Run m.is_word asked))
 
-  pub trace_clause : spelled words ≡ Some Trace → WhereRun o.parts IsTraced
-  trace_clause asked = of_parts (λ p. WhereRun p IsTraced) tt
-      (λ text m. by_word (λ p. WhereRun p IsTraced) m.command m.job m.plan o.parts text m.makes
-      (λ is mesh report kept run. absurd (trace_not_run (spelled words) m.command m.is_command is asked)) (λ is mesh report kept trace. trace)
-      (λ n is mesh report kept run. absurd (gen_not_trace (spelled words) m.command n m.is_command is asked)) tt)
+  pub trace_clause : spelled words ≡ Some (OfJob Trace) → WhereRun o.parts IsTraced
+  trace_clause asked = of_parts (λ p. WhereRun p IsTraced) tt (λ text m. trace_given m.made (one_word (spelled words) m.word Trace m.is_word asked))
 
   -- ---- each cause has its answer
 
@@ -147,59 +101,92 @@ module _ {words : List (List ℕ)} {reading : Reading} {writing : Writing} {o : 
   -- words that are no command
   say_usage : spelled words ≡ None → Says o.refusal refusals.Usage
   say_usage none = elim ends [
-    | made text m written ↦ absurd (none_some (spelled words) m.command none m.is_command)
+    | made text m written ↦ elim m [
+      | from_job j ↦ absurd (none_some (spelled words) (OfJob j.word) none j.is_word)
+      | checked asks request read is parts ↦ absurd (none_some (spelled words) Check none asks)
+    ]
     | refused r cause parts written ↦ says refusals.Usage r written (elim cause [
       | usage asked untouched is ↦ inl is
-      | no_job asks input ↦ absurd (none_some (spelled words) asks.0 none asks.1)
-      | no_plan asks job read none' ↦ absurd (none_some (spelled words) asks.0 none asks.1)
+      | of_job asks none' ↦ absurd (none_some (spelled words) (OfJob asks.0) none asks.1)
+      | of_request asks none' ↦ absurd (none_some (spelled words) Check none asks)
       | no_memory part is ↦ inr (inr is)
     ])
   ]
 
-  -- bytes that are refused
-  say_refusal : AskForJob words → (bytes : List ℕ) → reading.left ≡ Some bytes → (r : Refusal) → AreRefused bytes r → Says o.refusal r
-  say_refusal asks bytes told r are = elim ends [
-    | made text m written ↦
-        let reads : ReadsJob m.command = subst ReadsJob (one_command (spelled words) asks.0 m.command asks.1 m.is_command) asks.2 in
-        absurd (planned_not_refused bytes r are m.job (job_told m.command reading m.job bytes reads m.its_job told) m.plan m.planned.0)
+  -- bytes that are refused as a job
+  say_of_job : AskForJob words → (bytes : List ℕ) → reading.left ≡ Some bytes → (r : Refusal) → AreRefused job_in HasNoPlan bytes r → Says o.refusal r
+  say_of_job asks bytes told r are = elim ends [
+    | made text m written ↦ elim m [
+      | from_job j ↦
+          let reads : ReadsJob j.word = subst ReadsJob (one_word (spelled words) asks.0 j.word asks.1 j.is_word) asks.2 in
+          absurd (answered_not_refused job_in HasNoPlan bytes r j.job (job_told j.word reading j.job bytes reads j.its_job told)
+          (planned_has_plan j.job j.made.plan r j.made.planned.0) are)
+      | checked check request read is parts ↦ absurd (job_not_check (spelled words) asks.0 asks.1 check)
+    ]
     | refused s cause parts written ↦ says r s written (elim cause [
-      | usage none untouched is ↦ absurd (none_some (spelled words) asks.0 none asks.1)
-      | no_job asked input ↦ elim (unread_told reading s bytes told input) [
-        | inl refused' ↦ inl (one_refusal bytes s r refused' are)
-        | inr failed ↦ elim failed [
-          | inl fault ↦ inr (inl fault.1)
-          | inr memory ↦ inr (inr memory)
-        ]
-      ]
-      | no_plan asked job read none ↦ inl (one_refusal bytes s r (inr (job, read_told reading job bytes told read, none)) are)
+      | usage none untouched is ↦ absurd (none_some (spelled words) (OfJob asks.0) none asks.1)
+      | of_job asked none ↦ refusal_due job_in HasNoPlan (told_long job_of) one_no_plan reading bytes told r s are none
+      | of_request check none ↦ absurd (job_not_check (spelled words) asks.0 asks.1 check)
+      | no_memory part is ↦ inr (inr is)
+    ])
+  ]
+
+  -- bytes that are refused as a request
+  say_of_request : AskForCheck words → (bytes : List ℕ) → reading.left ≡ Some bytes → (r : Refusal) → AreRefused request_in HasNoNets bytes r → Says o.refusal r
+  say_of_request asks bytes told r are = elim ends [
+    | made text m written ↦ elim m [
+      | from_job j ↦ absurd (job_not_check (spelled words) j.word j.is_word asks)
+      | checked check request read is parts ↦
+          absurd (answered_not_refused request_in HasNoNets bytes r request (read_told request_in reading request bytes told read) (checked_has_nets request text r is) are)
+    ]
+    | refused s cause parts written ↦ says r s written (elim cause [
+      | usage none untouched is ↦ absurd (none_some (spelled words) Check none asks)
+      | of_job asked none ↦ absurd (job_not_check (spelled words) asked.0 asked.1 asks)
+      | of_request check none ↦ refusal_due request_in HasNoNets (told_long request_of) one_due reading bytes told r s are none
       | no_memory part is ↦ inr (inr is)
     ])
   ]
 
   pub exact_clause : IsExact words reading.left o.refusal
-  exact_clause = record { no_command = say_usage; of_bytes = say_refusal }
+  exact_clause = record { no_command = say_usage; of_job = say_of_job; of_request = say_of_request }
 
   -- ---- generated jobs
 
-  pub generated_clause : o.status ≡ status_at o.refusal → (n : ℕ) → spelled words ≡ Some (Gen n) → IsGenerated reading writing o
+  -- a text that is written, or a line of want of memory
+  status_written : (text : List ℕ) (said : Option Refusal) → o.status ≡ status_at o.refusal → IsWritten writing text said o.refusal →
+      (status_at said ≡ 0) ⊎ (status_at said ≡ 9) → (o.status ≡ 0) ⊎ ((o.status ≡ 9) ⊎ ((o.status ≡ 3) × FaultsRose writing.faults writing.faults'))
+  status_written text said status (inl whole) (inl zero) = inl (status ∙ (ap status_at whole.0 ∙ zero))
+  status_written text said status (inl whole) (inr nine) = inr (inl (status ∙ (ap status_at whole.0 ∙ nine)))
+  status_written text said status (inr part) due = inr (inr (status ∙ ap status_at part.0, part.2))
+
+  -- what is made of the job of a number
+  made_generated : o.status ≡ status_at o.refusal → (n : ℕ) → spelled words ≡ Some (OfJob (Gen n)) → (text : List ℕ) → IsMadeOfJob words reading o.parts text →
+      IsWritten writing text None o.refusal → IsGenerated reading writing o
+  made_generated status n asked text j written =
+      let its : j.word ≡ Gen n = one_word (spelled words) j.word (Gen n) j.is_word asked in
+      record {
+        untouched = (subst (λ w. IsJobOf w reading j.job) its j.its_job).0;
+        ran = generated_given j.made n its;
+        status = status_written text None status written (inl refl);
+      }
+
+  pub generated_clause : o.status ≡ status_at o.refusal → (n : ℕ) → spelled words ≡ Some (OfJob (Gen n)) → IsGenerated reading writing o
   generated_clause status n asked = elim ends [
-    | made text m written ↦ record {
-      untouched = untouched_by (spelled words) m.command n m.is_command asked m.job m.its_job;
-      ran = by_word (λ p. WhereRun p HasRunOut) m.command m.job m.plan o.parts text m.makes (λ is mesh report kept run. run)
-          (λ is mesh report kept trace. absurd (trace_not_gen (spelled words) m.command n m.is_command is asked)) (λ k is mesh report kept run. run) tt;
-      status = elim written [
-        | inl whole ↦ inl (status ∙ ap status_at whole.0)
-        | inr part ↦ inr (inr (status ∙ ap status_at part.0, part.2))
-      ];
-    }
+    | made text m written ↦ elim m [
+      | from_job j ↦ made_generated status n asked text j written
+      | checked check request read is parts ↦ absurd (job_not_check (spelled words) (Gen n) asked check)
+    ]
     | refused r cause parts written ↦
         let failed : IsUntouched reading × (r ≡ refusals.Memory) = elim cause [
-          | usage none untouched is ↦ absurd (none_some (spelled words) (Gen n) none asked)
-          | no_job asks input ↦ absurd (gen_reads_none (spelled words) asks.0 n asks.1 asked asks.2)
-          | no_plan asks job read none ↦ absurd (gen_reads_none (spelled words) asks.0 n asks.1 asked asks.2)
+          | usage none untouched is ↦ absurd (none_some (spelled words) (OfJob (Gen n)) none asked)
+          | of_job asks none ↦ absurd (gen_reads_none words n asked asks)
+          | of_request check none ↦ absurd (job_not_check (spelled words) (Gen n) asked check)
           | no_memory part is ↦ (
             elim part [
-              | inl asks ↦ absurd (gen_reads_none (spelled words) asks.0.0 n asks.0.1 asked asks.0.2)
+              | inl read ↦ elim read.0 [
+                | inl asks ↦ absurd (gen_reads_none words n asked asks)
+                | inr check ↦ absurd (job_not_check (spelled words) (Gen n) asked check)
+              ]
               | inr untouched ↦ untouched
             ],
             is,
@@ -209,47 +196,66 @@ module _ {words : List (List ℕ)} {reading : Reading} {writing : Writing} {o : 
         record {
           untouched = failed.0;
           ran = subst (λ (p : Parts). WhereRun p HasRunOut) (sym parts) tt;
-          status = elim written [
-            | inl whole ↦ inr (inl (status ∙ (ap status_at whole.0 ∙ ap (λ x. status_at (Some x)) failed.1)))
-            | inr part ↦ inr (inr (status ∙ ap status_at part.0, part.2))
-          ];
+          status = status_written (line_of r) (Some r) status written (inr (ap (λ x. status_at (Some x)) failed.1));
         }
+  ]
+
+  -- ---- checks
+
+  -- what a call says has the status of what is written
+  other_said : o.status ≡ status_at o.refusal → (text : List ℕ) (said : Option Refusal) → IsWritten writing text said o.refusal → IsOther (status_at said) → IsOther o.status
+  other_said status text said (inl whole) other = subst IsOther (sym (status ∙ ap status_at whole.0)) other
+  other_said status text said (inr part) other = subst IsOther (sym (status ∙ ap status_at part.0)) fault_other
+
+  with_status : IsOther o.status → o.parts ≡ no_parts → IsOfCheck o
+  with_status other none = record { none_given = none; no_cut_off = other.0; no_long_table = other.1 }
+
+  pub check_clause : o.status ≡ status_at o.refusal → AskForCheck words → IsOfCheck o
+  check_clause status asked = elim ends [
+    | made text m written ↦ elim m [
+      | from_job j ↦ absurd (job_not_check (spelled words) j.word j.is_word asked)
+      | checked check request read is parts ↦ with_status (other_said status text None written zero_other) parts
+    ]
+    | refused r cause parts written ↦
+        with_status (other_said status (line_of r) (Some r) written (elim cause [
+          | usage none untouched is ↦ absurd (none_some (spelled words) Check none asked)
+          | of_job asks none ↦ absurd (job_not_check (spelled words) asks.0 asks.1 asked)
+          | of_request check none ↦ refused_other reading r none
+          | no_memory part is ↦ memory_other r is
+        ])) parts
   ]
 
   -- ---- when a call succeeds
 
-  module _ (answer : HasAnswer words reading.left) (quiet_source : FaultsRose reading.faults reading.faults' → ⊥) where
-    not_refused : (r : Refusal) → AreRefused answer.bytes r → ⊥
-    not_refused r (inl refused') = ok_err answer.bytes answer.job r answer.read refused'
-    not_refused r (inr of_job) =
-        let none : HasNoPlan answer.job r = subst (λ j. HasNoPlan j r) (same_job answer.bytes of_job.0 answer.job of_job.1 answer.read) of_job.2 in
-        none_served answer.job.machine answer.job.graph answer.job.run.target answer.placed answer.keyed answer.joined answer.short none.error none.cause r none.names
-
-    only_memory : (r : Refusal) → HasCause words reading r → r ≡ refusals.Memory
-    only_memory r cause = elim cause [
-      | usage none untouched is ↦ absurd (none_some (spelled words) answer.command.0 none answer.command.1)
-      | no_job asked input ↦ elim (unread_told reading r answer.bytes answer.told input) [
-        | inl refused' ↦ absurd (not_refused r refused')
-        | inr failed ↦ elim failed [
-          | inl fault ↦ absurd (quiet_source fault.0)
-          | inr memory ↦ memory
-        ]
-      ]
-      | no_plan asked job read none ↦ absurd (not_refused r (inr (job, read_told reading job answer.bytes answer.told read, none)))
+  -- where there is an answer, and the source has no fault, want of memory is the only cause
+  only_memory : HasAnswer words reading.left → (FaultsRose reading.faults reading.faults' → ⊥) → (r : Refusal) → HasCause words reading r → r ≡ refusals.Memory
+  only_memory answer quiet r cause = elim answer [
+    | has_plan asks served ↦ elim cause [
+      | usage none untouched is ↦ absurd (none_some (spelled words) (OfJob asks.0) none asks.1)
+      | of_job asked none ↦ served_memory job_in HasNoPlan (told_long job_of) reading served.bytes served.value served.told served.read quiet r (plannable_has_plan served.value r served.can) none
+      | of_request check none ↦ absurd (job_not_check (spelled words) asks.0 asks.1 check)
       | no_memory part is ↦ is
     ]
-
-    pub complete_clause : o.status ≡ status_at o.refusal → (FaultsRose writing.faults writing.faults' → ⊥) → (o.status ≡ 0) ⊎ (o.status ≡ 9)
-    complete_clause status quiet_sink = elim ends [
-      | made text m written ↦ elim written [
-        | inl whole ↦ inl (status ∙ ap status_at whole.0)
-        | inr part ↦ absurd (quiet_sink part.2)
-      ]
-      | refused r cause parts written ↦ elim written [
-        | inl whole ↦ inr (status ∙ (ap status_at whole.0 ∙ ap (λ x. status_at (Some x)) (only_memory r cause)))
-        | inr part ↦ absurd (quiet_sink part.2)
-      ]
+    | has_nets asks served ↦ elim cause [
+      | usage none untouched is ↦ absurd (none_some (spelled words) Check none asks)
+      | of_job asked none ↦ absurd (job_not_check (spelled words) asked.0 asked.1 asks)
+      | of_request check none ↦ served_memory request_in HasNoNets (told_long request_of) reading served.bytes served.value served.told served.read quiet r (with_nets served.value r served.can) none
+      | no_memory part is ↦ is
     ]
+  ]
+
+  pub complete_clause : HasAnswer words reading.left → (FaultsRose reading.faults reading.faults' → ⊥) → o.status ≡ status_at o.refusal →
+      (FaultsRose writing.faults writing.faults' → ⊥) → (o.status ≡ 0) ⊎ (o.status ≡ 9)
+  complete_clause answer quiet_source status quiet_sink = elim ends [
+    | made text m written ↦ elim written [
+      | inl whole ↦ inl (status ∙ ap status_at whole.0)
+      | inr part ↦ absurd (quiet_sink part.2)
+    ]
+    | refused r cause parts written ↦ elim written [
+      | inl whole ↦ inr (status ∙ (ap status_at whole.0 ∙ ap (λ x. status_at (Some x)) (only_memory answer quiet_source r cause)))
+      | inr part ↦ absurd (quiet_sink part.2)
+    ]
+  ]
 
 -- ---- what was read
 
@@ -257,41 +263,44 @@ module _ {words : List (List ℕ)} {reading : Reading} {writing : Writing} {o : 
 pub read_as_asked : (words : List (List ℕ)) (reading : Reading) (r : Refusal) → HasCause words reading r → IsReadAsAsked words reading
 read_as_asked words reading r cause = elim cause [
   | usage none untouched is ↦ inr untouched
-  | no_job asks input ↦ inl (asks, in_part reading r input)
-  | no_plan asks job read none ↦ inl (asks, (read.bytes, read.all.gives))
+  | of_job asks none ↦ inl (inl asks, refused_in_part job_in HasNoPlan reading r none)
+  | of_request asks none ↦ inl (inr asks, refused_in_part request_in HasNoNets reading r none)
   | no_memory part is ↦ part
 ]
-  where
-    in_part : (reading : Reading) (r : Refusal) → HasNoInput job_in reading r → IsReadInPart reading
-    in_part reading r input = elim input [
-      | read_fault part rose is ↦ part
-      | too_long long is ↦ (long.0, long.1)
-      | not_read_as bytes all is ↦ (bytes, all.gives)
-      | no_memory_read part is ↦ part
-    ]
 
--- ---- the job of a command
+-- ---- words of a job
 
--- what was read for the job of a command
-pub read_for_job : (words : List (List ℕ)) (reading : Reading) (c : Command) (job : Job) → spelled words ≡ Some c → IsJobOf c reading job → IsReadAsAsked words reading
-read_for_job words reading Run job is its = inl ((Run, is, tt), (its.bytes, its.all.gives))
-read_for_job words reading Trace job is its = inl ((Trace, is, tt), (its.bytes, its.all.gives))
-read_for_job words reading Compile job is its = inl ((Compile, is, tt), (its.bytes, its.all.gives))
-read_for_job words reading Tables job is its = inl ((Tables, is, tt), (its.bytes, its.all.gives))
-read_for_job words reading (Gen n) job is its = inr its.0
+module _ (words : List (List ℕ)) (reading : Reading) where
+  -- why a word has no job
+  pub cause_without_job : (w : JobWord) → spelled words ≡ Some (OfJob w) → (r : Refusal) → HasNoJob w reading r → HasCause words reading r
+  cause_without_job Run is r none = of_job (Run, is, tt) (no_value none)
+  cause_without_job Trace is r none = of_job (Trace, is, tt) (no_value none)
+  cause_without_job Compile is r none = of_job (Compile, is, tt) (no_value none)
+  cause_without_job Tables is r none = of_job (Tables, is, tt) (no_value none)
+  cause_without_job (Gen n) is r none = no_memory (inr none.0) none.1
 
--- why a command has no job
-pub cause_without_job : (words : List (List ℕ)) (reading : Reading) (c : Command) (r : Refusal) → spelled words ≡ Some c → HasNoJob c reading r → HasCause words reading r
-cause_without_job words reading Run r is none = no_job (Run, is, tt) none
-cause_without_job words reading Trace r is none = no_job (Trace, is, tt) none
-cause_without_job words reading Compile r is none = no_job (Compile, is, tt) none
-cause_without_job words reading Tables r is none = no_job (Tables, is, tt) none
-cause_without_job words reading (Gen n) r is none = no_memory (inr none.0) none.1
+  -- why the job of a word has no plan: that of a number has one
+  without_plan : (w : JobWord) (job : Job) → spelled words ≡ Some (OfJob w) → IsJobOf w reading job → (r : Refusal) → HasNoPlan job r → HasCause words reading r
+  without_plan Run job is its r none = of_job (Run, is, tt) (no_answer job its none)
+  without_plan Trace job is its r none = of_job (Trace, is, tt) (no_answer job its none)
+  without_plan Compile job is its r none = of_job (Compile, is, tt) (no_answer job its none)
+  without_plan Tables job is its r none = of_job (Tables, is, tt) (no_answer job its none)
+  without_plan (Gen n) job is its r none = absurd (generated_planned n r (subst (λ j. HasNoPlan j r) its.1 none))
 
--- why the job of a command has no plan: that of a number has one
-pub cause_without_plan : (words : List (List ℕ)) (reading : Reading) (c : Command) (job : Job) (r : Refusal) → spelled words ≡ Some c → IsJobOf c reading job → HasNoPlan job r → HasCause words reading r
-cause_without_plan words reading Run job r is its none = no_plan (Run, is, tt) job its none
-cause_without_plan words reading Trace job r is its none = no_plan (Trace, is, tt) job its none
-cause_without_plan words reading Compile job r is its none = no_plan (Compile, is, tt) job its none
-cause_without_plan words reading Tables job r is its none = no_plan (Tables, is, tt) job its none
-cause_without_plan words reading (Gen n) job r is its none = absurd (generated_planned n r (subst (λ j. HasNoPlan j r) its.1 none))
+  -- what was read for the job of a word
+  read_for_job : (w : JobWord) (job : Job) → spelled words ≡ Some (OfJob w) → IsJobOf w reading job → IsReadAsAsked words reading
+  read_for_job Run job is its = inl (inl (Run, is, tt), (its.bytes, its.all.gives))
+  read_for_job Trace job is its = inl (inl (Trace, is, tt), (its.bytes, its.all.gives))
+  read_for_job Compile job is its = inl (inl (Compile, is, tt), (its.bytes, its.all.gives))
+  read_for_job Tables job is its = inl (inl (Tables, is, tt), (its.bytes, its.all.gives))
+  read_for_job (Gen n) job is its = inr its.0
+
+  -- why nothing is made of the job of a word
+  pub cause_with_job : (w : JobWord) (job : Job) → spelled words ≡ Some (OfJob w) → IsJobOf w reading job → (r : Refusal) → HasNoPlan job r ⊎ (r ≡ refusals.Memory) → HasCause words reading r
+  cause_with_job w job is its r (inl none) = without_plan w job is its r none
+  cause_with_job w job is its r (inr memory) = no_memory (read_for_job w job is its) memory
+
+  -- why a request has no answer
+  pub cause_with_request : AskForCheck words → (request : Request) → IsReadAs request_in reading request → (r : Refusal) → HasNoNets request r ⊎ (r ≡ refusals.Memory) → HasCause words reading r
+  cause_with_request asks request read r (inl none) = of_request asks (no_answer request read none)
+  cause_with_request asks request read r (inr memory) = no_memory (inl (inr asks, (read.bytes, read.all.gives))) memory

@@ -1,13 +1,7 @@
 -- How a call ends (this project's own).
-use Rattle.std.specs.Prelude.{◌≡◌, ◌⊎◌, ℕ, List, Option, Some, None, Ok}
-use Rattle.spin_base.specs.declared.chips.Chip.{Chip}
-use Rattle.spin_base.specs.declared.blocks.Block.{Block}
-use Rattle.app_graph.specs.declared.graphs.Graph.{Graph}
-use Rattle.key_alloc.specs.KeyBlocks.{AreRightBlocks}
-use Rattle.job_readers.specs.declared.jobs.Job.{Job}
-use Rattle.default_routes.specs.declared.stripping.Final.{Final}
-use Rattle.par_compile.specs.Compiled.{HasCutOff, HasLongTable, HasPlacement}
-use Rattle.command_words.specs.declared.commands.Command.TheVariants.{Gen}
+use Rattle.std.specs.Prelude.{◌≡◌, ◌⊎◌, ℕ, List, Option, Some, None, Result}
+use Rattle.command_words.specs.declared.commands.Command.TheVariants.{OfJob}
+use Rattle.command_words.specs.declared.commands.JobWord.TheVariants.{Gen}
 use Rattle.command_words.specs.Commands.{spelled}
 use Rattle.refusals.specs.declared.causes.Refusal.{Refusal}
 use Rattle.refusals.specs.declared.causes.Refusal.TheVariants.{WriteFault, ReadFault, Memory, Usage}
@@ -15,9 +9,16 @@ use Rattle.refusals.specs.Refusals.{line_of}
 use Rattle.spin_base.specs.Outside.{FaultsRose}
 use Rattle.job_bytes.specs.Inputs.{Reading, IsUntouched}
 use Rattle.job_bytes.specs.Jobs.{job_in}
+use Rattle.job_bytes.specs.Requests.{request_in}
+use Rattle.check_request.specs.declared.requests.Request.{Request}
+use Rattle.par_compile.specs.Compiled.{HasPlacement}
+use Rattle.job_words.specs.Parts.{no_parts, WhereRun}
+use Rattle.job_words.specs.Unplanned.{CanBePlanned, HasBlocks, HasNoPlan}
+use Rattle.job_words.specs.Words.{HasRunOut}
 use Rattle.spin_top.specs.declared.outcomes.Outcome.{Outcome}
-use Rattle.spin_top.specs.Causes.{HasCause, AreRefused, AskForJob}
-use Rattle.spin_top.specs.Made.{no_parts, HasRunOut, IsMade, WhereRun}
+use Rattle.spin_top.specs.Causes.{HasCause, HasNoNets, AskForCheck, AskForJob}
+use Rattle.spin_top.specs.Inputs.{AreRefused, IsServed}
+use Rattle.spin_top.specs.Made.{IsMade}
 use Rattle.spin_top.specs.Writing.{Writing, IsWritten}
 
 -- How a call ends. All that the words ask for was made, and its text written. Or there is a refusal with its cause, none of the
@@ -30,28 +31,26 @@ pub data Ends (words : List (List ℕ)) (reading : Reading) (writing : Writing) 
 abbrev pub Says : Option Refusal → Refusal → Type 0
 Says said r = (said ≡ Some r) ⊎ ((said ≡ Some WriteFault) ⊎ ((said ≡ Some ReadFault) ⊎ (said ≡ Some Memory)))
 
--- Each cause has its answer. Words that are no command are answered so. Where they ask for a job, and the source tells its bytes,
--- each refusal that these have is the answer.
+-- where the source tells its bytes, each refusal that these have is said
+abbrev pub SaysOf : {A : Type 0} → (List ℕ → Result A Refusal) → (A → Refusal → Type 0) → Option (List ℕ) → Option Refusal → Type 0
+SaysOf value_in HasNone left said = (bytes : List ℕ) → left ≡ Some bytes → (r : Refusal) → AreRefused value_in HasNone bytes r → Says said r
+
+-- Each cause has its answer. Words that are no command are answered so. Where they ask for a job, or for a request, and the source
+-- tells its bytes, each refusal that these have is the answer.
 pub record IsExact (words : List (List ℕ)) (left : Option (List ℕ)) (said : Option Refusal) : Type 0 where
   pub no_command : spelled words ≡ None → Says said Usage
-  pub of_bytes : AskForJob words → (bytes : List ℕ) → left ≡ Some bytes → (r : Refusal) → AreRefused bytes r → Says said r
+  pub of_job : AskForJob words → SaysOf job_in HasNoPlan left said
+  pub of_request : AskForCheck words → SaysOf request_in HasNoNets left said
 
--- all nets have keys
-abbrev pub HasBlocks : Graph → Type 0
-HasBlocks graph = (blocks : List Block) × AreRightBlocks graph.nets blocks
+-- all vertices of a request's job have places, and all nets have keys
+abbrev pub HasNets : Request → Type 0
+HasNets request = HasPlacement request.job.machine request.job.graph × HasBlocks request.job.graph
 
--- The words ask for a job, the source tells the bytes of a job, its vertices have places, its nets have keys, no
--- target is cut off, and no final table is too long.
-pub record HasAnswer (words : List (List ℕ)) (left : Option (List ℕ)) : Type 0 where
-  pub command : AskForJob words
-  pub bytes : List ℕ
-  pub told : left ≡ Some bytes
-  pub job : Job
-  pub read : job_in bytes ≡ Ok job
-  pub placed : HasPlacement job.machine job.graph
-  pub keyed : HasBlocks job.graph
-  pub joined : (i : ℕ) (target : Chip) → HasCutOff job.machine job.graph i target → ⊥
-  pub short : (chip : Chip) (table : Final) → HasLongTable job.machine job.graph job.run.target chip table → ⊥
+-- The words ask for a job, and the source tells the bytes of one that can be planned. Or they ask for a request, and it tells the
+-- bytes of one whose job can be placed and has keys.
+pub data HasAnswer (words : List (List ℕ)) (left : Option (List ℕ)) : Type 0 where
+  has_plan : AskForJob words → IsServed job_in CanBePlanned left → HasAnswer words left
+  has_nets : AskForCheck words → IsServed request_in HasNets left → HasAnswer words left
 
 -- How `gen N` ends: nothing is read, and what is given is a run that has come to its end. The status is 0; or 9, where memory ran
 -- out; or 3, at a fault of the sink.
@@ -62,4 +61,10 @@ pub record IsGenerated (reading : Reading) (writing : Writing) (o : Outcome) : T
 
 -- each `gen N` ends so
 abbrev pub EndsGenerated : List (List ℕ) → Reading → Writing → Outcome → Type 0
-EndsGenerated words reading writing o = (n : ℕ) → spelled words ≡ Some (Gen n) → IsGenerated reading writing o
+EndsGenerated words reading writing o = (n : ℕ) → spelled words ≡ Some (OfJob (Gen n)) → IsGenerated reading writing o
+
+-- How `check` ends: no part is given, and the status is none of those of nets that are cut off and tables that are too long.
+pub record IsOfCheck (o : Outcome) : Type 0 where
+  pub none_given : o.parts ≡ no_parts
+  pub no_cut_off : o.status ≡ 7 → ⊥
+  pub no_long_table : o.status ≡ 8 → ⊥

@@ -2,14 +2,12 @@ pub use Rattle.spin_base.specs.Outside
 pub use Rattle.app_graph.specs.RunPart
 pub use Rattle.app_graph.specs.ValidGraph
 pub use Rattle.mesh_core.specs.State
-pub use Rattle.par_compile.specs.Compiled
-pub use Rattle.run_report.specs.ReportText
 pub use Rattle.command_words.specs.Commands
 pub use Rattle.refusals.specs.Refusals
 pub use Rattle.job_bytes.specs.Jobs
+pub use Rattle.job_words.specs.Words
 pub mod Causes
 pub mod Ends
 pub mod Inputs
 pub mod Made
-pub mod Planned
 pub mod Writing

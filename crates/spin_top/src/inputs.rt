@@ -1,13 +1,12 @@
-// The job of a command.
+// The job of a word.
 ghost use Rattle.std.specs.Prelude.{◌≡◌, IfOk, IfErr};
 ghost use Rattle.app_graph.specs.RunPart.{IsRunOf};
 ghost use Rattle.app_graph.specs.ValidGraph.{IsValidGraph};
 ghost use Rattle.job_gen.specs.Generated.{gen_job};
 ghost use Rattle.refusals.specs.declared.causes.Refusal.TheVariants.{Memory as NoMemory};
-ghost use Rattle.spin_top.specs.Inputs.{HasNoJob};
-ghost use Rattle.spin_top.specs.Made.{IsJobOf};
+ghost use Rattle.spin_top.specs.Made.{HasNoJob, IsJobOf};
 
-use command_words::Command;
+use command_words::JobWord;
 use job_bytes::{job_of_text, read_job};
 use job_gen::gen_text;
 use job_readers::Job;
@@ -15,19 +14,19 @@ use refusals::Refusal;
 use spin_base::{Memory, Source};
 use std::alloc::Global;
 
-// The job of a command: that of the number of `gen`, for which nothing is read, or the one that the source's bytes are.
+// The job of a word: that of the number of `gen`, for which nothing is read, or the one that the source's bytes are.
 pub(crate) fn job_for<S: Source>(
     alloc: Global,
-    command: Command,
+    word: JobWord,
     source: &mut S,
 ) -> Result<Job, Refusal>
-    ensures job { IfOk result (IsJobOf command (record { left = S.left source.old; rest = S.left source.new; faults = S.faults source.old; faults' = S.faults source.new })) }
+    ensures job { IfOk result (IsJobOf word (record { left = S.left source.old; rest = S.left source.new; faults = S.faults source.old; faults' = S.faults source.new })) }
     ensures graph { IfOk result (λ job. IsValidGraph job.graph) }
     ensures run { IfOk result (λ job. IsRunOf job.graph job.run) }
-    ensures err { IfErr result (HasNoJob command (record { left = S.left source.old; rest = S.left source.new; faults = S.faults source.old; faults' = S.faults source.new })) }
+    ensures err { IfErr result (HasNoJob word (record { left = S.left source.old; rest = S.left source.new; faults = S.faults source.old; faults' = S.faults source.new })) }
 {
-    match command {
-        Command::Gen(number) => generated_job(alloc, number),
+    match word {
+        JobWord::Gen(number) => generated_job(alloc, number),
         _ => read_job(alloc, source),
     }
 }

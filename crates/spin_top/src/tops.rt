@@ -3,38 +3,41 @@ ghost use Rattle.std.specs.Prelude.{◌≡◌, ◌⊎◌, Some, None, IfOk, IfEr
 ghost use Rattle.mesh_core.specs.Opened.{MeetsJobLedger};
 ghost use Rattle.spin_base.specs.Outside.{FaultsRose};
 ghost use Rattle.command_words.specs.Commands.{spelled, texts_of};
-ghost use Rattle.command_words.specs.declared.commands.Command.TheVariants.{Run, Trace};
+ghost use Rattle.command_words.specs.declared.commands.Command.TheVariants.{OfJob};
+ghost use Rattle.command_words.specs.declared.commands.JobWord.TheVariants.{Run, Trace};
 ghost use Rattle.refusals.specs.Refusals.{line_of as line_of_refusal, status_at};
 ghost use Rattle.refusals.specs.declared.causes.Refusal.TheVariants.{Memory as NoMemory};
-ghost use Rattle.spin_top.specs.Causes.{HasCause};
-ghost use Rattle.spin_top.specs.Ends.{Ends, EndsGenerated, HasAnswer, IsExact};
-ghost use Rattle.spin_top.specs.Made.{no_parts, HasRunOut, IsMade, IsTraced, WhereGiven, WhereRun};
-ghost use Rattle.spin_top.specs.Planned.{IsThePlan};
+ghost use Rattle.job_words.specs.Parts.{no_parts, WhereGiven, WhereRun};
+ghost use Rattle.job_words.specs.Planned.{IsThePlan};
+ghost use Rattle.job_words.specs.Words.{HasRunOut, IsTraced};
+ghost use Rattle.spin_top.specs.Causes.{AskForCheck, HasCause};
+ghost use Rattle.spin_top.specs.Ends.{Ends, EndsGenerated, HasAnswer, IsExact, IsOfCheck};
+ghost use Rattle.spin_top.specs.Made.{IsMade};
 ghost use Rattle.spin_top.specs.Writing.{IsWritten};
 
-use crate::inputs::job_for;
-use crate::makes::{Made, make};
-use crate::outcomes::{Outcome, Parts};
-use crate::plans::plan_of;
-use command_words::command_of;
+use crate::answers::{checked, from_job};
+use crate::outcomes::{Outcome, no_parts};
+use command_words::{Command, command_of};
+use job_words::Made;
 use refusals::{OUT_OF_MEMORY, Refusal, line_of};
 use spin_base::{Gate, Memory, Sink, Source, write_all};
 use std::alloc::Global;
 use std::sync::Wait;
 use std::thread::Threads;
 
-/// Does what the words ask for, with the source's bytes as the job, and writes the text or one line to the sink.
+/// Does what the words ask for, with the source's bytes as the input, and writes the text or one line to the sink.
 ///
-/// The words are those of the command line without the program's name: `run`, `trace`, `compile`, `tables` or `gen N`.
-/// `run` compiles the job, runs its packets, and writes the report; `trace` compiles it, takes
-/// its events one by one, and writes the report with the answers to them; `compile` compiles it and writes the bytes of the
-/// image of its tables; `tables` compiles it and writes where its vertices stand, which keys its nets have, and its tables.
-/// `gen N` reads nothing: it compiles the job of the number, runs it, and writes a summary.
+/// The words are those of the command line without the program's name: `run`, `trace`, `compile`, `tables`, `gen N` or `check`.
+/// `run` compiles the job, runs its packets, and writes the report; `trace` compiles it, takes its events one by one, and writes
+/// the report with the answers to them; `compile` compiles it and writes the bytes of the image of its tables; `tables` compiles
+/// it and writes where its vertices stand, which keys its nets have, and its tables. `gen N` reads nothing: it compiles the job of
+/// the number, runs it, and writes a summary. `check` reads a request, which is a job with a tree for each of its nets and the
+/// bytes of an image, and writes whether the image's tables route the nets by these trees.
 /// The whole text stands before its first byte is written, and a refusal writes its line and nothing else.
 ///
 /// Statuses: 0, the text was written; 1, the words spell no command; 2, reading failed; 3, writing failed; 4, the bytes are
-/// no job; 5, a vertex has no room; 6, a net has no keys; 7, a target is cut off; 8, a table is too long; 9, memory ran out. `gen N`
-/// ends with 0, 3 or 9.
+/// no job or request; 5, a vertex has no room; 6, a net has no keys; 7, a target is cut off; 8, a table is too long; 9, memory ran
+/// out. `gen N` ends with 0, 3 or 9, and `check` with none of 7 and 8.
 ///
 /// It may wait for the gate and for threads; it keeps its promises if it returns.
 pub fn spin<Rt: Threads + Wait + Sync, S: Source, K: Sink, G: Gate>(
@@ -52,12 +55,13 @@ pub fn spin<Rt: Threads + Wait + Sync, S: Source, K: Sink, G: Gate>(
         result }
     ensures plan { WhereGiven result.parts IsThePlan }
     ensures ledger { WhereRun result.parts (λ job plan mesh report. MeetsJobLedger mesh plan.nets job.run.packets) }
-    ensures run { spelled (texts_of words.now) ≡ Some Run → WhereRun result.parts HasRunOut }
-    ensures trace { spelled (texts_of words.now) ≡ Some Trace → WhereRun result.parts IsTraced }
+    ensures run { spelled (texts_of words.now) ≡ Some (OfJob Run) → WhereRun result.parts HasRunOut }
+    ensures trace { spelled (texts_of words.now) ≡ Some (OfJob Trace) → WhereRun result.parts IsTraced }
     ensures generated { EndsGenerated (texts_of words.now)
         (record { left = S.left source.old; rest = S.left source.new; faults = S.faults source.old; faults' = S.faults source.new })
         (record { written = K.written sink.old; written' = K.written sink.new; faults = K.faults sink.old; faults' = K.faults sink.new })
         result }
+    ensures checked { AskForCheck (texts_of words.now) → IsOfCheck result }
     ensures exact { IsExact (texts_of words.now) (S.left source.old) result.refusal }
     ensures complete { HasAnswer (texts_of words.now) (S.left source.old) → ¬ FaultsRose (S.faults source.old) (S.faults source.new) →
         ¬ FaultsRose (K.faults sink.old) (K.faults sink.new) → (result.status ≡ 0) ⊎ (result.status ≡ 9) }
@@ -103,11 +107,9 @@ fn made_of<R: Threads + Sync, S: Source, G: Gate>(
     let Some(command) = command_of(words) else {
         return Err(Refusal::Usage);
     };
-    let job = job_for(alloc, command, source)?;
-    let plan = plan_of(rt, alloc, &job, gate)?;
-    match make(alloc, command, job, plan) {
-        Ok(made) => Ok(made),
-        Err(Memory) => Err(Refusal::Memory),
+    match command {
+        Command::OfJob(word) => from_job(rt, alloc, word, source, gate),
+        Command::Check => checked(alloc, source),
     }
 }
 
@@ -162,12 +164,7 @@ fn write_line<K: Sink>(refusal: Refusal, line: &[u8], sink: &mut K) -> Outcome
     };
     Outcome {
         status: refusal.status(),
-        parts: Parts {
-            job: None,
-            plan: None,
-            mesh: None,
-            report: None,
-        },
+        parts: no_parts(),
         refusal: Some(refusal),
     }
 }

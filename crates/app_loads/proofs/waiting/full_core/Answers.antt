@@ -1,5 +1,6 @@
 use Rattle.std.proofs.Common.{ap, arith, length}
-use Rattle.app_loads.proofs.Ports.{few_in_mesh, no_core}
+use Rattle.packet_runs.proofs.Packets.{few_in_mesh}
+use Rattle.app_loads.proofs.Ports.{no_core}
 use Rattle.app_loads.proofs.waiting.full_core.Goals as goal
 
 pub overflow_cast-vertex : goal.overflow_cast-vertex

@@ -8,16 +8,16 @@ use Rattle.cover_merge.proofs.applying.apply.Goals as goal
 pub put_in-done-requires-clause-before : goal.put_in-done-requires-clause-before
 put_in-done-requires-clause-before c =
     let made : c.in_ok-merged.merged ≡ merged_row c.args.table.now.rows c.args.places.now = c.in_ok-merged.ensures ∙ ap (λ l. merged_row l c.as_slice-members.result.now) c.as_slice.ensures ∙ ap (merged_row c.args.table.now.rows) c.as_slice-members.ensures in
-    subst (All (λ t. t < c.place_for-place.result)) (sym c.as_slice-members.ensures) (found_before c.args.table.now.rows c.args.places.now c.requires.ordered c.requires.set c.as_slice-2.result.now c.as_slice-2.ensures c.in_ok-merged.merged made c.generality.result c.place_for-place.result c.generality.ensures.value c.place_for-place.ensures.value)
+    subst (All (λ t. t < c.place_in-place.result)) (sym c.as_slice-members.ensures) (found_before c.args.table.now.rows c.args.places.now c.requires.ordered c.requires.set c.as_slice-2.result.now c.as_slice-2.ensures c.in_ok-merged.merged made c.generality.result c.place_in-place.result c.generality.ensures.value c.place_in-place.ensures.value)
 
 pub returns-clause-ok : goal.returns-clause-ok
 returns-clause-ok c =
     let rows = c.args.table.now.rows in
     let places = c.args.places.now in
     let made : c.in_ok-merged.merged ≡ merged_row rows places = c.in_ok-merged.ensures ∙ ap (λ l. merged_row l c.as_slice-members.result.now) c.as_slice.ensures ∙ ap (merged_row rows) c.as_slice-members.ensures in
-    on_ok c.put_in-done.result (c.put_in-done.new.rows.items ≡ kept c.as_slice-members.result.now 0 (insert c.into_vec-rows.result.items c.place_for-place.result c.in_ok-merged.merged)) (c.from_vec.result ≡ after rows places)
-    (λ now. after_found c.args.table.now.rows c.args.places.now c.requires.ordered c.requires.set c.as_slice-2.result.now c.as_slice-2.ensures c.in_ok-merged.merged made c.generality.result c.place_for-place.result c.generality.ensures.value c.place_for-place.ensures.value c.from_vec.result
+    on_ok c.put_in-done.result (c.put_in-done.new.rows.items ≡ kept c.as_slice-members.result.now 0 (insert c.into_vec-rows.result.items c.place_in-place.result c.in_ok-merged.merged)) (c.from_vec.result ≡ after rows places)
+    (λ now. after_found c.args.table.now.rows c.args.places.now c.requires.ordered c.requires.set c.as_slice-2.result.now c.as_slice-2.ensures c.in_ok-merged.merged made c.generality.result c.place_in-place.result c.generality.ensures.value c.place_in-place.ensures.value c.from_vec.result
     (c.from_vec.ensures ∙ now
-    ∙ ap (λ l. kept l 0 (insert c.into_vec-rows.result.items c.place_for-place.result c.in_ok-merged.merged)) c.as_slice-members.ensures
-    ∙ ap (λ l. kept places 0 (insert l c.place_for-place.result c.in_ok-merged.merged)) (c.into_vec-rows.ensures ∙ c.replace.ensures.value)))
+    ∙ ap (λ l. kept l 0 (insert c.into_vec-rows.result.items c.place_in-place.result c.in_ok-merged.merged)) c.as_slice-members.ensures
+    ∙ ap (λ l. kept places 0 (insert l c.place_in-place.result c.in_ok-merged.merged)) (c.into_vec-rows.ensures ∙ c.replace.ensures.value)))
     c.put_in-done.ensures.ok

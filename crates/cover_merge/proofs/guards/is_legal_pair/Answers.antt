@@ -2,11 +2,16 @@
 use Rattle.std.proofs.Common.{◌∷◌, [], arith, sym, subst}
 use Rattle.cover_checks.proofs.Positions.{has-at}
 use Rattle.cover_merge.specs.Guards.{AreGuards}
-use Rattle.cover_merge.proofs.GuardLemmas.{pair_refused, pair_told}
+use Rattle.cover_checks.specs.Merge.{SameRoute}
+use Rattle.cover_merge.proofs.GuardLemmas.{one_route, pair_refused, pair_told}
 use Rattle.cover_merge.proofs.guards.is_legal_pair.Goals as goal
 
 pub passes-requires-clause-guards : goal.passes-requires-clause-guards
 passes-requires-clause-guards c = subst (λ l. AreGuards l c.args.guards.now) (sym c.as_slice-rows.ensures) c.requires.guards
+
+pub passes-requires-clause-one_route : goal.passes-requires-clause-one_route
+passes-requires-clause-one_route c r less found =
+    subst (λ l. SameRoute l c.args.i r) (sym c.as_slice-rows.ensures) (one_route c.args.table.now.rows (c.args.i ∷ c.args.j ∷ []) c.requires.set.set c.args.i r (has-at (c.args.i ∷ c.args.j ∷ []) 0 (omega arith)) found less)
 
 pub returns-then-not-passes : goal.returns-then-not-passes
 returns-then-not-passes c =
@@ -15,6 +20,10 @@ returns-then-not-passes c =
 
 pub passes-requires-2-clause-guards : goal.passes-requires-2-clause-guards
 passes-requires-2-clause-guards c = subst (λ l. AreGuards l c.args.guards.now) (sym c.as_slice-rows.ensures) c.requires.guards
+
+pub passes-requires-2-clause-one_route : goal.passes-requires-2-clause-one_route
+passes-requires-2-clause-one_route c r less found =
+    subst (λ l. SameRoute l c.args.j r) (sym c.as_slice-rows.ensures) (one_route c.args.table.now.rows (c.args.i ∷ c.args.j ∷ []) c.requires.set.set c.args.j r (has-at (c.args.i ∷ c.args.j ∷ []) 1 (omega arith)) found less)
 
 pub returns-then-not-passes-2 : goal.returns-then-not-passes-2
 returns-then-not-passes-2 c =

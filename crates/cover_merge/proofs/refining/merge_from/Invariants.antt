@@ -1,7 +1,7 @@
 -- The merge of the places passed.
-use Rattle.std.proofs.Common.{◌≡◌, ◌<◌, ◌≤◌, length, take}
+use Rattle.std.proofs.Common.{◌≡◌, ◌+◌, ◌++◌, length, take}
 use Rattle.cover_checks.specs.Merge.{merged_block}
 use Rattle.cover_merge.proofs.refining.merge_from.Given as goal
 
 abbrev pub invariant-loop-k : goal.invariant-loop-k
-invariant-loop-k l = record { some : 0 < l.k; within : l.k ≤ length l.set; merge : l.merged ≡ merged_block l.rows (take l.k l.set) }
+invariant-loop-k l = record { merge : l.merged ≡ merged_block l.rows (take (length l.front + l.k) (l.front ++ l.back)) }

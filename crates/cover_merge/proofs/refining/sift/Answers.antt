@@ -1,60 +1,132 @@
 -- Each place taken out is a step, and those behind it still pass the up-check.
-use Rattle.std.proofs.Common.{◌≡◌, ◌∙◌, ◌<◌, ◌≤◌, ◌+◌, ℕ, IsTrue, ap, refl, sym, subst, length, get_or, take, arith}
-use Rattle.cover_checks.specs.Merge.{PassesUp, has, merged_block, place_for}
-use Rattle.cover_merge.specs.Refinement.{AreMerges, IsLastFailing}
-use Rattle.cover_merge.proofs.SiftLemmas.{all_pass, sift_one, sift_goes, sift_before, sift_behind}
+use Rattle.std.proofs.Common.{◌≡◌, ◌<◌, ◌≤◌, ◌+◌, ◌-◌, ◌++◌, ◌↔◌, ℕ, List, IsTrue, true, take, drop, ap, sym, subst, refl, ◌∙◌, length, length-set, length-take, get_or, set, arith}
+use Rattle.std.specs.Prelude.{All}
+use Rattle.std.proofs.lemmas.List.{take_rest, take-set-le}
+use Rattle.tern_word.specs.Ternary.{generality}
+use Rattle.cover_checks.specs.Merge.{IsOneRoute, PassesUp, PassesUpCheck, has, merged_block, place_for}
+use Rattle.cover_merge.specs.Refinement.{AreMerges, IsLastFailing, Refines}
+use Rattle.cover_merge.proofs.RefineLemmas.{last_more, none_fails}
+use Rattle.cover_merge.proofs.SiftLemmas.{all_pass, alike_behind, begins_less, begins_twice, kept_now, left_many, out_count, out_in_range, out_last, out_now, sift_behind, sift_goes, sift_one, up_of}
 use Rattle.cover_merge.proofs.refining.sift.Goals as goal
+use Rattle.cover_merge.proofs.refining.sift.Goals.{then-loop-i-test+else-i-len-ge2, else-loop-i-test}
 
-pub failing_before-requires-clause-behind : goal.failing_before-requires-clause-behind
-failing_before-requires-clause-behind c =
+-- the slice of what stands from a place on
+rest_of : (n : ℕ) (ys xs : List ℕ) → ys ≡ xs → take (length ys - n) (drop n ys) ≡ drop n xs
+rest_of n ys xs same = take_rest ys n ∙ ap (drop n) same
+
+pub passes-requires-clause-one_route : goal.passes-requires-clause-one_route
+passes-requires-clause-one_route c r less found =
+    let xs = c.loop-i.set.items in
+    let old = c.loop-i.invariant in
+    alike_behind c.args.rows.now xs c.loop-i.i c.loop-i.kept c.loop-i-test.true old.gap old.within old.set c.index.result.now c.index.ensures r less
+    (subst (λ l. has l r ≡ true) (rest_of c.loop-i.kept c.deref-in-loop-i.result.now xs c.deref-in-loop-i.ensures.value) found)
+
+pub loop-i-preserved-then-passes : goal.loop-i-preserved-then-passes
+loop-i-preserved-then-passes c =
     let rows = c.args.rows.now in
-    subst (λ l. (k : ℕ) → c.loop-merged.from ≤ k → k < length l → PassesUp rows l (get_or l k 0) (place_for rows c.generality.result)) (sym c.deref-in-loop-merged.ensures.value)
-    (subst (λ n. (k : ℕ) → c.loop-merged.from ≤ k → k < length c.loop-merged.set.items → PassesUp rows c.loop-merged.set.items (get_or c.loop-merged.set.items k 0) (place_for rows n)) (sym c.generality.ensures.value) c.loop-merged.invariant.behind)
+    let xs = c.loop-i.set.items in
+    let i = c.loop-i.i in
+    let w = c.loop-i.kept in
+    let some = c.loop-i-test.true in
+    let old = c.loop-i.invariant in
+    let now = take i xs ++ drop w xs in
+    let x = c.index-then-passes.result.now in
+    let new = set xs (w - 1) x in
+    let p = place_for rows (generality c.loop-i.merged) in
+    let same : take (i - 1) new ++ drop (w - 1) new ≡ now = kept_now rows xs i w some old.gap old.within old.set x c.index-then-passes.ensures in
+    let tells : (IsTrue c.passes.result) ↔ (PassesUp rows (drop w xs) c.index.result.now p) =
+    subst (λ l. (IsTrue c.passes.result) ↔ (PassesUp rows l c.index.result.now p)) (rest_of w c.deref-in-loop-i.result.now xs c.deref-in-loop-i.ensures.value)
+    (subst (λ n. (IsTrue c.passes.result) ↔ (PassesUp rows (take (length c.deref-in-loop-i.result.now - w) (drop w c.deref-in-loop-i.result.now)) c.index.result.now (place_for rows n))) c.generality.ensures.value c.passes.ensures) in
+    let behind : (k : ℕ) → i - 1 ≤ k → k < length now → PassesUp rows now (get_or now k 0) p =
+    last_more rows now p i c.passes.result some old.behind (up_of rows xs i w some old.gap old.within old.set c.index.result.now c.index.ensures p c.passes.result tells) c.if-passes.true in record {
+      gap = omega (arith, old.gap, some);
+      within = omega (arith, length-set xs (w - 1) x, old.within);
+      same = length-set xs (w - 1) x ∙ old.same;
+      set = subst (IsOneRoute rows) (sym same) old.set;
+      some = subst (λ l. 0 < length l) (sym same) old.some;
+      merge = old.merge ∙ ap (merged_block rows) (sym same);
+      before = take-set-le (i - 1) xs (w - 1) x (omega (arith, old.gap, some)) ∙ begins_less (i - 1) i xs c.args.set.now.items (omega (arith, some)) old.before;
+      behind = subst (λ l. (k : ℕ) → i - 1 ≤ k → k < length l → PassesUp rows l (get_or l k 0) p) (sym same) behind;
+      goes_on = λ answer rest. old.goes_on answer (subst (λ l. Refines rows l answer) same rest);
+    }
+
+pub merge_from-merged-requires-clause-in_range : goal.merge_from-merged-requires-clause-in_range
+merge_from-merged-requires-clause-in_range c =
+    let rows = c.args.rows.now in
+    let xs = c.loop-i.set.items in
+    let i = c.loop-i.i in
+    let w = c.loop-i.kept in
+    let some = c.loop-i-test.true in
+    let old = c.loop-i.invariant in
+    let read : take (i - 1) c.deref-else-passes-2.result.now ++ take (length c.deref-else-passes-3.result.now - w) (drop w c.deref-else-passes-3.result.now) ≡ take (i - 1) xs ++ drop w xs =
+    ap (λ l. take (i - 1) l ++ take (length c.deref-else-passes-3.result.now - w) (drop w c.deref-else-passes-3.result.now)) c.deref-else-passes-2.ensures.value ∙ ap (λ l. take (i - 1) xs ++ l) (rest_of w c.deref-else-passes-3.result.now xs c.deref-else-passes-3.ensures.value) in
+    subst (All (λ s. s < length rows)) (sym read) (out_in_range rows xs i w some old.gap old.within old.set)
 
 pub merge_from-merged-requires-clause-known : goal.merge_from-merged-requires-clause-known
 merge_from-merged-requires-clause-known c k d before inside =
     let rows = c.args.rows.now in
-    let set = c.loop-merged.set.items in
-    let old = c.loop-merged.invariant in
-    let i = c.in-Some.i in
-    let found = c.in-Some.ensures in
-    let last = subst (λ l. IsLastFailing rows l (place_for rows c.generality.result) (get_or l i 0)) c.deref-in-loop-merged.ensures.value found.1 in
-    let two : 2 ≤ length set = omega (arith, c.len-in-loop-merged.ensures, c.loop-merged-test.true) in
-    let known : AreMerges rows c.args.set.now.items c.in_ok-merges.merges.items = subst (λ l. AreMerges rows l c.in_ok-merges.merges.items) c.deref.ensures.value c.in_ok-merges.ensures in
-    let within : i < length set = omega (arith, found.0, old.within) in
-    ap (λ l. get_or l k d) c.deref-in-Some.ensures.value
-    ∙ known.each k d (subst (λ l. k < length l) c.deref-in-Some.ensures.value inside)
-    ∙ ap (merged_block rows) (sym (sift_before rows set old.set c.requires.ordered c.loop-merged.merged old.merge c.generality.result c.generality.ensures.value i within last c.remove.new.self.items c.remove.ensures.items (omega (arith, c.remove.ensures.len)) two
-    c.args.set.now.items c.loop-merged.from found.0 old.before (k + 1) (omega (arith, before))))
-    ∙ ap (λ l. merged_block rows (take (k + 1) l)) (sym c.deref-in-Some-2.ensures.value)
+    let xs = c.loop-i.set.items in
+    let start = c.args.set.now.items in
+    let i = c.loop-i.i in
+    let known : AreMerges rows start c.in_ok-merges.merges.items = subst (λ l. AreMerges rows l c.in_ok-merges.merges.items) c.deref.ensures.value c.in_ok-merges.ensures in
+    let low : k < i - 1 = omega (arith, before, length-take (i - 1) c.deref-else-passes-2.result.now) in
+    let front : take (i - 1) c.deref-else-passes-2.result.now ≡ take (i - 1) xs = ap (take (i - 1)) c.deref-else-passes-2.ensures.value in
+    ap (λ l. get_or l k d) c.deref-else-passes.ensures.value
+    ∙ known.each k d (subst (λ l. k < length l) c.deref-else-passes.ensures.value inside)
+    ∙ ap (merged_block rows) (sym (ap (take (k + 1)) front ∙ begins_twice (k + 1) (i - 1) xs (omega (arith, low)) ∙ begins_less (k + 1) i xs start (omega (arith, low)) c.loop-i.invariant.before))
 
-pub loop-merged-preserved : goal.loop-merged-preserved
-loop-merged-preserved c =
+pub loop-i-preserved : goal.loop-i-preserved
+loop-i-preserved c =
     let rows = c.args.rows.now in
-    let set = c.loop-merged.set.items in
-    let old = c.loop-merged.invariant in
-    let i = c.in-Some.i in
-    let found = c.in-Some.ensures in
-    let new = c.remove.new.self.items in
-    let last = subst (λ l. IsLastFailing rows l (place_for rows c.generality.result) (get_or l i 0)) c.deref-in-loop-merged.ensures.value found.1 in
-    let two : 2 ≤ length set = omega (arith, c.len-in-loop-merged.ensures, c.loop-merged-test.true) in
-    let within : i < length set = omega (arith, found.0, old.within) in
-    let count : length new + 1 ≡ length set = omega (arith, c.remove.ensures.len) in
-    let merge : c.merge_from-merged.result ≡ merged_block rows new = c.merge_from-merged.ensures ∙ ap (merged_block rows) c.deref-in-Some-2.ensures.value in record {
-      set = sift_one rows set old.set c.requires.ordered c.loop-merged.merged old.merge c.generality.result c.generality.ensures.value i within last new c.remove.ensures.items count two;
+    let xs = c.loop-i.set.items in
+    let i = c.loop-i.i in
+    let w = c.loop-i.kept in
+    let some = c.loop-i-test.true in
+    let old = c.loop-i.invariant in
+    let now = take i xs ++ drop w xs in
+    let new = take (i - 1) xs ++ drop w xs in
+    let g = c.generality.result in
+    let general = c.generality.ensures.value in
+    let p = place_for rows g in
+    let tells : (IsTrue c.passes.result) ↔ (PassesUp rows (drop w xs) c.index.result.now p) =
+    subst (λ l. (IsTrue c.passes.result) ↔ (PassesUp rows l c.index.result.now p)) (rest_of w c.deref-in-loop-i.result.now xs c.deref-in-loop-i.ensures.value) c.passes.ensures in
+    let behind : (k : ℕ) → i ≤ k → k < length now → PassesUp rows now (get_or now k 0) p =
+    subst (λ n. (k : ℕ) → i ≤ k → k < length now → PassesUp rows now (get_or now k 0) (place_for rows n)) (sym general) old.behind in
+    let last : IsLastFailing rows now p (get_or now (i - 1) 0) = out_last rows xs i w some old.gap old.within old.set c.index.result.now c.index.ensures p c.passes.result behind tells c.if-passes.false in
+    let many = left_many rows xs i w some old.gap old.within old.set in
+    let inside : i - 1 < length now = omega (arith, many, some) in
+    let two : 2 ≤ length now = omega (arith, many, c.if-i-len-ge2.true, c.len-in-loop-i.ensures) in
+    let count = out_count rows xs i w some old.gap old.within old.set in
+    let gone = out_now rows xs i w some old.gap old.within old.set in
+    let read : take (i - 1) c.deref-else-passes-2.result.now ++ take (length c.deref-else-passes-3.result.now - w) (drop w c.deref-else-passes-3.result.now) ≡ new =
+    ap (λ l. take (i - 1) l ++ take (length c.deref-else-passes-3.result.now - w) (drop w c.deref-else-passes-3.result.now)) c.deref-else-passes-2.ensures.value ∙ ap (λ l. take (i - 1) xs ++ l) (rest_of w c.deref-else-passes-3.result.now xs c.deref-else-passes-3.ensures.value) in
+    let merge : c.merge_from-merged.result ≡ merged_block rows new = c.merge_from-merged.ensures ∙ ap (merged_block rows) read in record {
+      gap = omega (arith, old.gap);
+      within = old.within;
+      same = old.same;
+      set = sift_one rows now old.set c.requires.ordered c.loop-i.merged old.merge g general (i - 1) inside last new gone count two;
       some = omega (arith, count, two);
-      fewer = omega (arith, count, old.fewer);
-      within = omega (arith, count, within);
       merge = merge;
-      before = sift_before rows set old.set c.requires.ordered c.loop-merged.merged old.merge c.generality.result c.generality.ensures.value i within last new c.remove.ensures.items count two c.args.set.now.items c.loop-merged.from found.0 old.before;
-      behind = sift_behind rows set old.set c.requires.ordered c.loop-merged.merged old.merge c.generality.result c.generality.ensures.value i within last new c.remove.ensures.items count two c.merge_from-merged.result merge _ refl;
-      goes_on = λ answer rest. old.goes_on answer (sift_goes rows set old.set c.requires.ordered c.loop-merged.merged old.merge c.generality.result c.generality.ensures.value i within last new c.remove.ensures.items count two answer rest);
+      before = begins_less (i - 1) i xs c.args.set.now.items (omega (arith, some)) old.before;
+      behind = sift_behind rows now old.set c.requires.ordered c.loop-i.merged old.merge g general (i - 1) inside last new gone count two c.merge_from-merged.result merge _ refl;
+      goes_on = λ answer rest. old.goes_on answer (sift_goes rows now old.set c.requires.ordered c.loop-i.merged old.merge g general (i - 1) inside last new gone count two answer rest);
     }
 
-pub returns-in-None-clause-found : goal.returns-in-None-clause-found
-returns-in-None-clause-found c =
+pub returns-clause-found : goal.returns-clause-found
+returns-clause-found c =
     let rows = c.args.rows.now in
-    let set = c.loop-merged.set.items in
-    let old = c.loop-merged.invariant in
-    let two : 2 ≤ length set = omega (arith, c.len-in-loop-merged.ensures, c.loop-merged-test.true) in
-    (two, old.merge, all_pass rows set old.set c.requires.ordered c.loop-merged.merged old.merge c.generality.result c.generality.ensures.value (subst (λ l. (s : ℕ) → IsTrue (has l s) → PassesUp rows l s (place_for rows c.generality.result)) c.deref-in-loop-merged.ensures.value c.in-None.ensures))
+    let xs = c.loop-i.set.items in
+    let i = c.loop-i.i in
+    let w = c.loop-i.kept in
+    let old = c.loop-i.invariant in
+    let now = take i xs ++ drop w xs in
+    let is : c.take_out_run.new.set.items ≡ now = c.take_out_run.ensures in
+    let two : 2 ≤ length now = subst (λ l. 2 ≤ length l) is (omega (arith, c.len-2.ensures, c.if-len-lt2.false)) in
+    subst (λ l. (2 ≤ length l) × (c.loop-i.merged ≡ merged_block rows l) × (PassesUpCheck rows l)) (sym is)
+    (two, old.merge, all_pass rows now old.set c.requires.ordered c.loop-i.merged old.merge _ refl (none_fails rows now (place_for rows (generality c.loop-i.merged)) i (done two) old.behind))
+  where
+    done : 2 ≤ length (take c.loop-i.i c.loop-i.set.items ++ drop c.loop-i.kept c.loop-i.set.items) → c.loop-i.i ≤ 0
+    done two = elim c.loop-i-test.branch [
+      | then-loop-i-test+else-i-len-ge2 w ↦ absurd (omega (arith, two, left_many c.args.rows.now c.loop-i.set.items c.loop-i.i c.loop-i.kept w.loop-i-test.true c.loop-i.invariant.gap c.loop-i.invariant.within c.loop-i.invariant.set, w.if-i-len-ge2.false, w.len-in-loop-i.ensures))
+      | else-loop-i-test w ↦ w.loop-i-test.false
+    ]

@@ -1,5 +1,5 @@
--- The kept places of the rows passed, the last first.
-use Rattle.std.proofs.Common.{◌≤◌, ◌<◌, length}
+-- The kept places of the rows passed, the last first in the list.
+use Rattle.std.proofs.Common.{◌≤◌, ◌<◌, length, reverse}
 use Rattle.std.specs.Prelude.{All}
 use Rattle.default_routes.specs.KeptRows.{KeptFrom}
 use Rattle.default_routes.proofs.stripping.kept_places.Given as goal
@@ -8,7 +8,7 @@ abbrev pub invariant-loop-i : goal.invariant-loop-i
 invariant-loop-i l = record {
   within : l.i ≤ length l.rows;
   in_range : All (λ s. s < length l.rows) l.kept.items;
-  kept : KeptFrom l.rows l.i l.kept.items;
+  kept : KeptFrom l.rows l.i (reverse l.kept.items);
 }
 
 abbrev pub decreases-loop-i : goal.decreases-loop-i

@@ -1,10 +1,14 @@
-use Rattle.key_alloc.proofs.Taking.{right_in, none_in}
+use Rattle.key_alloc.proofs.Taking.{right_in, taken_again, free_in}
+use Rattle.std.proofs.Common.{subst, IfSome}
+use Rattle.std.specs.List.{Contains}
 use Rattle.key_alloc.proofs.alloc.block_for.Goals as goal
 
-pub returns-in-None-clause-right : goal.returns-in-None-clause-right
-returns-in-None-clause-right c =
-    right_in c.args.net.now c.args.free.now.holes c.in-None.is c.next_block.result c.next_block.ensures.size c.next_block.ensures.first
+pub returns-in-Some-clause-free : goal.returns-in-Some-clause-free
+returns-in-Some-clause-free c taken state among =
+    taken_again taken c.in-Some.block c.args.free.now state (subst (λ o. IfSome o (Contains taken)) c.in-Some.is among)
 
-pub returns-in-None-clause-none : goal.returns-in-None-clause-none
-returns-in-None-clause-none c =
-    none_in c.args.net.now c.args.free.now.holes c.in-None.is c.next_block.result c.next_block.ensures.none
+pub returns-in-None-clause-free : goal.returns-in-None-clause-free
+returns-in-None-clause-free c = free_in c.args.net.now c.args.free.now _ c.least_block.result c.least_block.ensures.free
+
+pub returns-in-None-clause-right : goal.returns-in-None-clause-right
+returns-in-None-clause-right c = right_in c.args.net.now c.args.free.now c.in-None.is c.least_block.result c.least_block.ensures.least

@@ -33,8 +33,7 @@ loop-i-preserved c =
     record {
       each_one = omega (arith, ap length pushed, length_push blocks b, c.loop-i.invariant.each_one);
       first = subst (AreFirstBlocks nets) (sym pushed) (one_more nets blocks c.loop-i.i net b c.loop-i.invariant.first c.loop-i.invariant.each_one is right);
-      whole = c.in_ok-block.ensures.whole;
-      free = subst (λ l. AreFreeBeside l c.block_for.new.free.holes) (append_assoc (fixed_of nets) blocks (b ∷ []) ∙ ap (λ l. fixed_of nets ++ l) (sym pushed)) free;
+      free = subst (λ l. AreFreeBeside l c.block_for.new.free) (append_assoc (fixed_of nets) blocks (b ∷ []) ∙ ap (λ l. fixed_of nets ++ l) (sym pushed)) free;
     }
 
 pub returns-clause-apart : goal.returns-clause-apart

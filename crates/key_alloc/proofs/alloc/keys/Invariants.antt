@@ -8,6 +8,5 @@ abbrev pub invariant-loop-i : goal.invariant-loop-i
 invariant-loop-i l = record {
   each_one : length l.blocks ≡ l.i;
   first : AreFirstBlocks l.graph.nets l.blocks;
-  whole : l.free.size ≡ 4294967296;
-  free : AreFreeBeside (fixed_of l.graph.nets ++ l.blocks) l.free.holes;
+  free : AreFreeBeside (fixed_of l.graph.nets ++ l.blocks) l.free;
 }

@@ -1,6 +1,6 @@
 use Rattle.std.proofs.Common.{◌<◌, ◌∙◌, sym, subst}
 use Rattle.std.proofs.Math.ListN.{length-set}
-use Rattle.plan_check.proofs.Telling.{links_more}
+use Rattle.plain_tables.proofs.Telling.{links_more}
 use Rattle.plain_tables.proofs.Trees.{edge_inside}
 use Rattle.plan_check.proofs.boards.add_links.Goals as goal
 

@@ -1,6 +1,6 @@
 use Rattle.std.proofs.Common.{◌<◌, ◌∙◌, sym, subst}
 use Rattle.std.proofs.Math.ListN.{length-set}
-use Rattle.plan_check.proofs.Telling.{ends_more}
+use Rattle.plain_tables.proofs.Telling.{ends_more}
 use Rattle.plain_tables.proofs.Trees.{target_inside}
 use Rattle.plan_check.proofs.boards.add_targets.Goals as goal
 

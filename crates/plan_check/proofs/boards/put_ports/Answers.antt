@@ -1,7 +1,7 @@
 use Rattle.std.proofs.Common.{◌<◌, ◌∙◌, sym, subst}
 use Rattle.std.proofs.Math.ListN.{length-set}
 use Rattle.machine_desc.proofs.Far.{far_inside}
-use Rattle.plan_check.proofs.Telling.{ports_first, ports_more, ports_same, ports_all}
+use Rattle.plain_tables.proofs.Telling.{ports_first, ports_more, ports_same, ports_all}
 use Rattle.plain_tables.proofs.Trees.{edge_inside}
 use Rattle.plan_check.proofs.boards.put_ports.Goals as goal
 use Rattle.plan_check.proofs.boards.put_ports.Goals.{in-Some, in_default}

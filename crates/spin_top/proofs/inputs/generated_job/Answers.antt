@@ -1,4 +1,3 @@
-use Rattle.std.proofs.Common.{sym}
 use Rattle.spin_top.proofs.Generating.{is_generated}
 use Rattle.spin_top.proofs.inputs.generated_job.Goals as goal
 

@@ -2,7 +2,7 @@ use Rattle.std.proofs.Common.{refl, sym, subst, inl, inr}
 use Rattle.command_words.specs.Commands.{texts_of}
 use Rattle.refusals.specs.declared.causes.Refusal.TheVariants as refusals
 use Rattle.job_bytes.specs.Inputs.{Reading}
-use Rattle.spin_top.specs.declared.outcomes.Parts.{Parts}
+use Rattle.job_words.specs.declared.outcomes.Parts.{Parts}
 use Rattle.spin_top.specs.Causes.{no_memory}
 use Rattle.spin_top.specs.Ends.{made, refused}
 use Rattle.spin_top.specs.Made.{IsMade}

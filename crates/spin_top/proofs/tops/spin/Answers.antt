@@ -1,4 +1,4 @@
-use Rattle.spin_top.proofs.EndLaws.{plan_clause, ledger_clause, run_clause, trace_clause, generated_clause, exact_clause, complete_clause}
+use Rattle.spin_top.proofs.EndLaws.{plan_clause, ledger_clause, run_clause, trace_clause, generated_clause, check_clause, exact_clause, complete_clause}
 use Rattle.spin_top.proofs.tops.spin.Goals as goal
 
 pub returns-clause-plan : goal.returns-clause-plan
@@ -21,3 +21,6 @@ returns-clause-complete g c = λ answer quiet_source quiet_sink. complete_clause
 
 pub returns-clause-generated : goal.returns-clause-generated
 returns-clause-generated g c = λ n asked. generated_clause c.answered.ensures.ends c.answered.ensures.status n asked
+
+pub returns-clause-checked : goal.returns-clause-checked
+returns-clause-checked g c = λ asked. check_clause c.answered.ensures.ends c.answered.ensures.status asked

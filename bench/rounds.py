@@ -1,0 +1,271 @@
+"""Times what rounds on threads cost, and beside them the drain of the same mesh by one thread.
+
+    python3 bench/rounds.py [idle] [board] [chip]
+
+The calls are made by a small program that stands below as text. It is compiled as the launcher's program is, without a
+proof, from a copy of the repository that has it as one crate more; the crates that it calls are those that `rt ci` proves.
+
+    idle     a torus of 64 by 64 chips, 16,384 vertices, no copy: what a round takes beside its moves
+    board    a torus of 8 by 6 chips, one vertex on each: eight vertices send 15,625 packets each along their column, over five
+             links; or six vertices 16,667 each along their row, over seven. That makes 1,000,000 and 1,000,020 moves: into the
+             injection queue, over each link, to the core, to the vertex. A column stands in one worker's share, a row goes
+             through all of them
+    chip     one chip, 17 vertices, 1,024 nets of one target, 65,536 packets
+
+A router offers a copy 1,000 times before it drops it. The program tells the wall-clock time of the rounds or of the drain alone,
+and how many copies were delivered and dumped. Each is run nine times, or once where it takes above five seconds. Told are the
+least wall-clock time; the least processor time of the whole program less what opening the mesh takes; and the least and greatest
+number of copies delivered. Where other programs keep the processors busy, threads wait for one at each round: `chrt -f 1` before
+the command lets these pass first.
+"""
+import os
+import resource
+import subprocess
+import sys
+import tempfile
+
+ROOT = os.path.dirname(os.path.dirname(os.path.realpath(__file__)))
+sys.path.insert(0, f"{ROOT}/tools")
+import compile as launcher  # noqa: E402
+
+LINE = "bench_rounds: mesh_round packet_runs mesh_core machine_desc tcam_find spin_base\n"
+RUNS = 9
+LONG = 5
+IDLE_ROUNDS = 10
+
+PROGRAM = r"""
+#![tactic(auto)]
+
+use machine_desc::Machine;
+use mesh_core::Mesh;
+use mesh_round::{round, run_out};
+use packet_runs::drain;
+use spin_base::{Chip, Entry, FreeGate, McCopy, Memory, Route, Seq, Spot};
+use std::alloc::Global;
+use std::env;
+use std::process::ExitCode;
+use std::sync::Wait;
+use std::thread::Threads;
+use std::time::{Clock, Duration, Instant};
+use tcam_find::Tcam;
+
+const PATIENCE: u32 = 1000;
+
+fn spot(x: u8, y: u8, core: u8) -> Spot {
+    Spot { chip: Chip { x, y }, core }
+}
+
+fn torus(alloc: Global, width: u8, height: u8) -> Result<Machine, Memory> {
+    let (chips, cores, links) = (Seq::new(alloc), Seq::new(alloc), Seq::new(alloc));
+    Machine::new(alloc, width, height, true, 1024, &chips, &cores, &links)
+}
+
+fn send(table: &mut Tcam, place: u32, key: u32, bit: u32) {
+    table.set(place, Entry { key, mask: 0xffff_ffff, route: Route { bits: 1 << bit } });
+}
+
+fn put(mesh: &mut Mesh, vertex: u32, packet: u32, key: u32) -> Result<(), Memory> {
+    mesh.add(vertex, McCopy { packet, key, payload: None, hop: 0 })
+}
+
+// Vertices on the first `cores` cores of each chip.
+fn spots(alloc: Global, width: u8, height: u8, cores: u8) -> Result<Seq<Spot>, Memory> {
+    let mut all = Seq::new(alloc);
+    for x in 0..width {
+        for y in 0..height {
+            for core in 0..cores {
+                all.push(spot(x, y, core + 1))?;
+            }
+        }
+    }
+    Ok(all)
+}
+
+// No copy and no entry.
+fn idle(alloc: Global, capacity: u32) -> Result<Mesh, Memory> {
+    let mut tables = Seq::new(alloc);
+    for _ in 0..4096 {
+        tables.push(Tcam::empty())?;
+    }
+    Mesh::new(alloc, torus(alloc, 64, 64)?, spots(alloc, 64, 64, 4)?, tables, capacity)
+}
+
+// Packets along columns (link 2) or rows (link 0), from the first chip to the last. Chips between have no entry: packets go on.
+fn board(alloc: Global, capacity: u32, rows: bool) -> Result<Mesh, Memory> {
+    let mut tables = Seq::new(alloc);
+    for x in 0..8 {
+        for y in 0..6 {
+            let mut table = Tcam::empty();
+            let (key, step, last, bit) = if rows { (y, x, 7, 0) } else { (x, y, 5, 2) };
+            if step == 0 {
+                send(&mut table, 0, key, bit);
+            } else if step == last {
+                send(&mut table, 0, key, 7);
+            }
+            tables.push(table)?;
+        }
+    }
+    let mut mesh = Mesh::new(alloc, torus(alloc, 8, 6)?, spots(alloc, 8, 6, 1)?, tables, capacity)?;
+    let (senders, packets) = if rows { (6, 16667) } else { (8, 15625) };
+    for key in 0..senders {
+        let vertex = if rows { key } else { 6 * key };
+        for packet in 0..packets {
+            put(&mut mesh, vertex, packets * key + packet, key)?;
+        }
+    }
+    Ok(mesh)
+}
+
+// Packet after packet of 1,024 nets between the 17 vertices of a chip.
+fn chip(alloc: Global, capacity: u32) -> Result<Mesh, Memory> {
+    let mut table = Tcam::empty();
+    for net in 0..1024 {
+        send(&mut table, net, net, 7 + (net + 1) % 17);
+    }
+    let mut tables = Seq::new(alloc);
+    tables.push(table)?;
+    let mut mesh = Mesh::new(alloc, torus(alloc, 1, 1)?, spots(alloc, 1, 1, 17)?, tables, capacity)?;
+    for packet in 0..65536 {
+        let net = packet % 1024;
+        put(&mut mesh, net % 17, packet, net)?;
+    }
+    Ok(mesh)
+}
+
+fn opened(alloc: Global, what: &str, capacity: u32) -> Result<Mesh, Memory> {
+    match what {
+        "idle" => idle(alloc, capacity),
+        "columns" => board(alloc, capacity, false),
+        "rows" => board(alloc, capacity, true),
+        _ => chip(alloc, capacity),
+    }
+}
+
+// No worker: the drain; no turn: nothing.
+fn moved<R: Threads + Wait + Sync>(rt: &R, alloc: Global, mesh: Mesh, what: &str, workers: u32, turns: u32) -> Result<Mesh, Memory> {
+    let mut mesh = mesh;
+    if what == "idle" {
+        for number in 1..11 {
+            mesh = match round(rt, alloc, mesh, PATIENCE, workers, turns, number, &FreeGate) {
+                Ok(after) => after,
+                Err((_, e)) => return Err(e),
+            };
+        }
+        return Ok(mesh);
+    }
+    if workers == 0 {
+        if turns > 0 {
+            drain(alloc, &mut mesh)?;
+        }
+        return Ok(mesh);
+    }
+    match run_out(rt, alloc, mesh, PATIENCE, workers, turns, &FreeGate) {
+        Ok(after) => Ok(after),
+        Err((_, e)) => Err(e),
+    }
+}
+
+fn timed<R: Threads + Wait + Sync + Clock>(
+    rt: &R,
+    alloc: Global,
+    words: &[String],
+    capacity: u32,
+    workers: u32,
+    turns: u32,
+) -> Result<(Duration, u64, u64), Memory> {
+    let mesh = opened(alloc, words[0].as_str(), capacity)?;
+    let Ok(begun) = Instant::now(rt) else { return Err(Memory) };
+    if workers == 0 && turns == 0 {
+        return Ok((Duration::ZERO, 0, 0));
+    }
+    let after = moved(rt, alloc, mesh, words[0].as_str(), workers, turns)?;
+    let Ok(taken) = begun.elapsed(rt) else { return Err(Memory) };
+    Ok((taken, after.delivered().len() as u64, after.dumped().len() as u64))
+}
+
+fn main(rt: HostRuntime) -> ExitCode {
+    let Ok(all) = env::args(&rt) else { return ExitCode::from(1) };
+    let Ok(words) = all.skip(1).collect::<Vec<String>>(rt.alloc()) else { return ExitCode::from(1) };
+    if words.len() < 4 {
+        return ExitCode::from(2);
+    }
+    let Ok(capacity) = words[1].as_str().parse::<u32>() else { return ExitCode::from(3) };
+    let Ok(workers) = words[2].as_str().parse::<u32>() else { return ExitCode::from(3) };
+    let Ok(turns) = words[3].as_str().parse::<u32>() else { return ExitCode::from(3) };
+    let Ok((taken, delivered, dumped)) = timed(&rt, rt.alloc(), words.as_slice(), capacity, workers, turns) else { return ExitCode::from(9) };
+    let micros = taken.as_micros() as u64;
+    let Ok(_) = println!(rt; "{micros} {delivered} {dumped}") else { return ExitCode::from(4) };
+    ExitCode::from(0)
+}
+"""
+
+
+def program_in(room):
+    """Compiles the program in a copy of the repository with one crate more."""
+    os.makedirs(f"{room}/crates/bench_rounds/src")
+    for name in os.listdir(f"{ROOT}/crates"):
+        os.symlink(f"{ROOT}/crates/{name}", f"{room}/crates/{name}")
+    with open(f"{ROOT}/crates.txt", encoding="utf-8") as lines, open(f"{room}/crates.txt", "w", encoding="utf-8") as copy:
+        copy.write(lines.read() + LINE)
+    with open(f"{room}/crates/bench_rounds/src/main.rt", "w", encoding="utf-8") as source:
+        source.write(PROGRAM)
+    launcher.main(room, "bench_rounds")
+    return f"{room}/out/spin"
+
+
+def processor_time():
+    """Of all programs that were run and have ended."""
+    used = resource.getrusage(resource.RUSAGE_CHILDREN)
+    return used.ru_utime + used.ru_stime
+
+
+def one_run(program, *words):
+    """Wall-clock time of the rounds or the drain, processor time of the whole, copies delivered and dumped."""
+    before = processor_time()
+    done = subprocess.run([program, *map(str, words)], capture_output=True, check=True)
+    spent = processor_time() - before
+    micros, delivered, dumped = map(int, done.stdout.split())
+    return micros / 1e6, spent, delivered, dumped
+
+
+def runs(program, *words):
+    found = []
+    while len(found) < RUNS and not (found and found[0][0] > LONG):
+        found.append(one_run(program, *words))
+    return found
+
+
+def show(program, what, capacity, workers, turns, rounds=1):
+    opening = min(spent for _, spent, _, _ in runs(program, what, capacity, 0, 0))
+    found = runs(program, what, capacity, workers, turns)
+    wall, spent = min(it[0] for it in found) / rounds, (min(it[1] for it in found) - opening) / rounds
+    delivered = sorted(it[2] for it in found)
+    how = f"{workers} workers, {turns} turns" if workers else "drain"
+    text = f"{what}, capacity {capacity}, {how}:"
+    times = f"{wall * 1000:10.1f} ms, processors {spent * 1000:10.1f} ms"
+    print(f"{text:50} {times}, {len(found)} runs, delivered {delivered[0]} to {delivered[-1]}", flush=True)
+
+
+def main():
+    parts = sys.argv[1:] or ["idle", "board", "chip"]
+    with tempfile.TemporaryDirectory(prefix="bench-rounds-") as room:
+        program = program_in(room)
+        if "idle" in parts:
+            for capacity in (1, 16, 256):
+                for workers in (1, 4):
+                    show(program, "idle", capacity, workers, 1, IDLE_ROUNDS)
+        if "board" in parts:
+            for what, capacity in (("columns", 16), ("rows", 128), ("rows", 16)):
+                show(program, what, capacity, 0, 1)
+                for turns in (16, 64):
+                    for workers in (1, 4):
+                        show(program, what, capacity, workers, turns)
+        if "chip" in parts:
+            for capacity in (16, 65536):
+                show(program, "chip", capacity, 0, 1)
+                for workers in (1, 2):
+                    show(program, "chip", capacity, workers, 64)
+
+
+if __name__ == "__main__":
+    main()

@@ -1,0 +1,198 @@
+-- The nets of a loaded application: their blocks are ranges of their own, and their trees stand on its spots.
+use Rattle.std.proofs.Common.{◌≡◌, ◌≢◌, ℕ, zero, suc, ◌+◌, ◌^◌, ◌<◌, ◌≤◌, ◌==◌, ◌↔◌, true, List, [], ◌∷◌, get_or, refl, sym, ap, ◌∙◌, subst, inl, inr, arith, Some}
+use Rattle.std.specs.List.{slice_get, All, AllPairs, Contains}
+use Rattle.std.proofs.lemmas.Bool.{cases_eq, cases_lt, and_from, eq-eqb}
+use Rattle.std.proofs.lemmas.Bool.Decides.{nat_tests}
+use Rattle.std.proofs.lemmas.List.Elements.{All-contains, All-weaker}
+use Rattle.std.proofs.lemmas.Option.{slice_get-get_or, slice_get_within, get_or_from_slice_get}
+use Rattle.list_laws.proofs.Members.{Contains-at}
+use Rattle.list_laws.proofs.Places.{All-at, All-each, AllZip-at_first}
+use Rattle.spin_base.specs.declared.blocks.Block.{Block}
+use Rattle.spin_base.specs.declared.chips.Spot.{Spot}
+use Rattle.machine_desc.specs.Description.{Description}
+use Rattle.machine_desc.specs.Live.{IsInside, IsUsable}
+use Rattle.machine_desc.specs.RoutingTree.{IsRoutingTree}
+use Rattle.machine_desc.proofs.Far.{live_inside}
+use Rattle.machine_desc.proofs.Sites.{usable_parts}
+use Rattle.net_tables.specs.declared.nets.NetPlan.{NetPlan}
+use Rattle.net_tables.specs.NetsOn.{HaveDisjointBlocks}
+use Rattle.net_tables.specs.RightTables.{IsKeyOf}
+use Rattle.range_store.specs.Regions.{in_range}
+use Rattle.tern_word.specs.Ternary.{Matches}
+use Rattle.plain_tables.specs.PlainTable.{AreRouted}
+use Rattle.app_loads.specs.declared.answers.LoadErr.TheVariants.{KeysOut}
+use Rattle.app_loads.specs.declared.loaded.Claim.{Claim}
+use Rattle.app_loads.specs.declared.loaded.LoadedApp.{LoadedApp}
+use Rattle.app_loads.specs.declared.loaded.Range.{Range}
+use Rattle.app_loads.specs.declared.plans.AppNet.{AppNet}
+use Rattle.app_loads.specs.Applications.{IsLoadedOn, IsRangeFor}
+use Rattle.app_loads.specs.Claims.{claims_of}
+use Rattle.app_loads.specs.Host.{net_with, nets_with, nets_of}
+use Rattle.app_loads.specs.Plans.{IsAppNet, IsBefore}
+use Rattle.app_loads.specs.Regions.{AreApart, has_place}
+use Rattle.app_loads.proofs.Blocks.{block_keys}
+use Rattle.app_loads.proofs.ClaimCases.{facts}
+
+-- a net with its block is made of the net and the block of its place
+pub nets_with_parts : (nets : List AppNet) (blocks : List Block) (i : ℕ) (x : NetPlan) → slice_get (nets_with nets blocks) i ≡ Some x →
+    (net : AppNet) × (block : Block) × (slice_get nets i ≡ Some net) × (slice_get blocks i ≡ Some block) × (net_with net block ≡ x)
+nets_with_parts [] blocks i x e = cc
+nets_with_parts (n ∷ ns) [] i x e = cc
+nets_with_parts (n ∷ ns) (b ∷ bs) zero x e = (n, b, refl, refl, let w : net_with n b ≡ x = cc in w)
+nets_with_parts (n ∷ ns) (b ∷ bs) (suc i) x e = nets_with_parts ns bs i x e
+
+pub member_at : {X : Type 0} (xs : List X) (x : X) (has : Contains xs x) → slice_get xs has.0 ≡ Some x
+member_at xs x has = slice_get-get_or xs has.0 x has.1 ∙ ap Some has.2
+
+-- what is known of a net of an application
+pub record NetFacts (m : Description) (app : LoadedApp) (x : NetPlan) (j : ℕ) : Type 0 where
+  pub net : AppNet
+  pub block : Block
+  pub at_net : slice_get app.plan.nets j ≡ Some net
+  pub at_block : slice_get app.blocks j ≡ Some block
+  pub is : net_with net block ≡ x
+  pub valid : IsAppNet m app.plan.spots net
+  pub at : ℕ
+  pub claim : Claim
+  pub at_claim : slice_get (claims_of m app.plan) at ≡ Some claim
+  pub its : claim.refusal ≡ KeysOut j
+  pub range : Range
+  pub got : slice_get app.ranges at ≡ Some range
+  pub region : range.region ≡ 0
+  pub place : block.key ≡ range.place
+  pub keys : (k : ℕ) → k < 2 ^ 32 → Matches block k ↔ ((block.key ≤ k) × (k < block.key + range.size))
+  pub enough : net.keys ≤ range.size
+
+module _ (m : Description) (app : LoadedApp) (loaded : IsLoadedOn m app) where
+  pub facts_at : (j : ℕ) (x : NetPlan) → slice_get (nets_of app) j ≡ Some x → NetFacts m app x j
+  facts_at j x e =
+      let parts = nets_with_parts app.plan.nets app.blocks j x e in
+      let b = loaded.blocks.each j parts.1 parts.3 in
+      let f = (facts m app.plan loaded.plan b.claim (Contains-at (claims_of m app.plan) b.at b.claim b.is)).keyed j b.its in
+      let ranged = AllZip-at_first IsRangeFor (claims_of m app.plan) app.ranges loaded.ranges b.at b.claim b.is in
+      let same : ranged.0 ≡ b.range = some_same (sym ranged.1 ∙ b.got) in
+      let region : b.range.region ≡ b.claim.region = ap (λ (r : Range). r.region) (sym same) ∙ ranged.2.0 in
+      let size : b.range.size ≡ b.claim.size = ap (λ (r : Range). r.size) (sym same) ∙ ranged.2.1 in
+      let one_net : f.net ≡ parts.0 = some_same (sym f.is ∙ parts.2) in
+      let mask : parts.1.mask + 2 ^ f.e ≡ 2 ^ 32 = (let w = b.mask in let v = f.size in omega (arith, w, v, size)) in
+      let enough : parts.0.keys ≤ b.claim.size = subst (λ (n : AppNet). n.keys ≤ b.claim.size) one_net f.enough in
+      record {
+        net = parts.0;
+        block = parts.1;
+        at_net = parts.2;
+        at_block = parts.3;
+        is = parts.4;
+        valid = All-at (IsAppNet m app.plan.spots) app.plan.nets j parts.0 loaded.plan.nets parts.2;
+        at = b.at;
+        claim = b.claim;
+        at_claim = b.is;
+        its = b.its;
+        range = b.range;
+        got = b.got;
+        region = region ∙ f.region;
+        place = b.key;
+        keys = subst (λ s. (k : ℕ) → k < 2 ^ 32 → Matches parts.1 k ↔ ((parts.1.key ≤ k) × (k < parts.1.key + s))) (sym (size ∙ f.size)) (block_keys parts.1 f.e f.few mask);
+        enough = omega (arith, enough, size);
+      }
+    where
+      some_same : {A : Type 0} {a b : A} → Some a ≡ Some b → a ≡ b
+      some_same e' = cc
+
+  pub facts_of : (x : NetPlan) (has : Contains (nets_of app) x) → NetFacts m app x has.0
+  facts_of x has = facts_at has.0 x (member_at (nets_of app) x has)
+
+  -- a net's key is a place of its range
+  pub key_place : (x : NetPlan) (j : ℕ) (f : NetFacts m app x j) (key : ℕ) → IsKeyOf x.block key → has_place 0 key f.range ≡ true
+  key_place x j f key k =
+      let block_is : f.block ≡ x.block = ap (λ (n : NetPlan). n.block) f.is in
+      let mine : Matches f.block key = subst (λ (b : Block). Matches b key) (sym block_is) k.matches in
+      let at = (f.keys key k.fits).0 mine in
+      let place = f.place in
+      and_from (f.range.region == 0) (in_range f.range.place f.range.size key) (eq-eqb f.range.region 0 f.region) (in_from f.range.place f.range.size key (omega (arith, at.0, place)) (omega (arith, at.1, place)))
+    where
+      in_from : (p s k' : ℕ) → p ≤ k' → k' < p + s → in_range p s k' ≡ true
+      in_from p s k' low high = grind (arith, nat_tests)
+
+  -- a key of a net for each of its indices
+  pub key_of_index : (x : NetPlan) (j : ℕ) (f : NetFacts m app x j) (index : ℕ) → index < f.net.keys → f.range.place + f.range.size ≤ 2 ^ 32 → (f.block.key + index < 2 ^ 32) × IsKeyOf f.block (f.block.key + index)
+  key_of_index x j f index below room =
+      let place = f.place in
+      let many = f.enough in
+      let small : f.block.key + index < 2 ^ 32 = omega (arith, place, many, below, room) in
+      (small, record { fits = small; matches = (f.keys (f.block.key + index) small).1 (omega arith, omega (arith, many, below)) })
+
+  pub usable_spot : (s : Spot) → Contains app.plan.spots s → IsUsable m s
+  usable_spot s has = All-contains (IsUsable m) app.plan.spots s loaded.plan.usable has
+
+  pub spot_inside : (s : Spot) → Contains app.plan.spots s → IsInside m s.chip
+  spot_inside s has = live_inside m s.chip (usable_parts m s (usable_spot s has)).0
+
+  -- no two nets share a key
+  pub own_disjoint : AllPairs AreApart app.ranges → HaveDisjointBlocks (nets_of app)
+  own_disjoint apart i j d less below key first second =
+      let x : NetPlan = get_or (nets_of app) i d in
+      let y : NetPlan = get_or (nets_of app) j d in
+      let f = facts_at i x (slice_get-get_or (nets_of app) i d (omega (arith, less, below))) in
+      let g = facts_at j y (slice_get-get_or (nets_of app) j d below) in
+      let a = key_place x i f key first in
+      let b = key_place y j g key second in
+      let in_f = slice_get_within app.ranges f.at f.range f.got in
+      let in_g = slice_get_within app.ranges g.at g.range g.got in
+      let f_is : get_or app.ranges f.at f.range ≡ f.range = get_or_from_slice_get app.ranges f.at f.range f.range f.got in
+      let g_is : get_or app.ranges g.at f.range ≡ g.range = get_or_from_slice_get app.ranges g.at g.range f.range g.got in
+      elim (cases_eq f.at g.at) [
+        | inl same ↦
+            let one : f.claim ≡ g.claim = some_same (sym f.at_claim ∙ (ap (slice_get (claims_of m app.plan)) same ∙ g.at_claim)) in
+            let number : i ≡ j = same_number (sym f.its ∙ (ap (λ (c : Claim). c.refusal) one ∙ g.its)) in
+            absurd (omega (arith, number, less))
+        | inr other ↦ elim (cases_lt f.at g.at) [
+          | inl before ↦ subst (λ (r : Range). AreApart r g.range) f_is (subst (λ (r : Range). AreApart (get_or app.ranges f.at f.range) r) g_is (apart f.at g.at f.range before in_g)) 0 key a b
+          | inr after ↦ subst (λ (r : Range). AreApart g.range r) f_is (subst (λ (r : Range). AreApart r (get_or app.ranges f.at f.range)) g_is (apart g.at f.at f.range (omega (arith, after, other)) in_f)) 0 key b a
+        ]
+      ]
+    where
+      some_same : {A : Type 0} {a b : A} → Some a ≡ Some b → a ≡ b
+      some_same e' = cc
+
+      same_number : {p q : ℕ} → KeysOut p ≡ KeysOut q → p ≡ q
+      same_number e' = cc
+
+  pub trees_of : All (λ (x : NetPlan). IsRoutingTree m x.tree.root x.tree.edges x.targets) (nets_of app)
+  trees_of = All-each (λ (x : NetPlan). IsRoutingTree m x.tree.root x.tree.edges x.targets) (nets_of app) (λ x has.
+      let f = facts_of x has in subst (λ (y : NetPlan). IsRoutingTree m y.tree.root y.tree.edges y.targets) f.is f.valid.tree)
+
+  pub roots_of : All (λ (x : NetPlan). x.tree.root ≡ x.source.chip) (nets_of app)
+  roots_of = All-each (λ (x : NetPlan). x.tree.root ≡ x.source.chip) (nets_of app) (λ x has. let f = facts_of x has in subst (λ (y : NetPlan). y.tree.root ≡ y.source.chip) f.is f.valid.root)
+
+  pub sources_in : (spots : List Spot) → ((s : Spot) → Contains app.plan.spots s → Contains spots s) → All (λ (x : NetPlan). Contains spots x.source) (nets_of app)
+  sources_in spots more = All-each (λ (x : NetPlan). Contains spots x.source) (nets_of app) (λ x has. let f = facts_of x has in subst (λ (y : NetPlan). Contains spots y.source) f.is (more f.net.source f.valid.source))
+
+  pub targets_in : (P : Spot → Type 0) → ((s : Spot) → Contains app.plan.spots s → P s) → All (λ (x : NetPlan). All P x.targets) (nets_of app)
+  targets_in P more = All-each (λ (x : NetPlan). All P x.targets) (nets_of app) (λ x has.
+      let f = facts_of x has in subst (λ (y : NetPlan). All P y.targets) f.is (All-weaker (Contains app.plan.spots) P more f.net.targets f.valid.targets))
+
+  pub different_of : All (λ (x : NetPlan). AllPairs (λ a b. a ≢ b) x.targets) (nets_of app)
+  different_of = All-each (λ (x : NetPlan). AllPairs (λ a b. a ≢ b) x.targets) (nets_of app) (λ x has.
+      let f = facts_of x has in subst (λ (y : NetPlan). AllPairs (λ a b. a ≢ b) y.targets) f.is (λ i j d less below same. never (get_or f.net.targets i d) (get_or f.net.targets j d) (f.valid.in_order i j d less below) same))
+    where
+      never : (a b : Spot) → IsBefore a b → a ≡ b → ⊥
+      never a b (inl x) same = let e : a.chip.x ≡ b.chip.x = ap (λ (s : Spot). s.chip.x) same in absurd (omega (arith, x, e))
+      never a b (inr (e, inl y)) same = let e' : a.chip.y ≡ b.chip.y = ap (λ (s : Spot). s.chip.y) same in absurd (omega (arith, y, e'))
+      never a b (inr (e, inr (e', c))) same = let e'' : a.core ≡ b.core = ap (λ (s : Spot). s.core) same in absurd (omega (arith, c, e''))
+
+  pub routed : AllPairs AreApart app.ranges → AreRouted m (nets_of app)
+  routed apart = record {
+    trees = trees_of;
+    roots = All-each (λ (x : NetPlan). IsInside m x.tree.root) (nets_of app) (λ x has.
+        let f = facts_of x has in subst (λ (y : NetPlan). IsInside m y.tree.root) f.is (subst (IsInside m) (sym f.valid.root) (spot_inside f.net.source f.valid.source)));
+    cores = targets_in (λ (s : Spot). s.core < 24) (λ s has. let p = usable_parts m s (usable_spot s has) in let most = p.2 in omega (arith, most));
+    apart = λ i j d less below meet. own_disjoint apart i j d less below meet.key (record { fits = meet.small; matches = meet.first }) (record { fits = meet.small; matches = meet.second });
+  }
+
+-- two applications whose ranges are apart share no key
+pub apps_disjoint : (m : Description) (a b : LoadedApp) → IsLoadedOn m a → IsLoadedOn m b → ((r s : Range) → Contains a.ranges r → Contains b.ranges s → AreApart r s) →
+    (x y : NetPlan) → Contains (nets_of a) x → Contains (nets_of b) y → (key : ℕ) → IsKeyOf x.block key → IsKeyOf y.block key → ⊥
+apps_disjoint m a b on_a on_b apart x y in_a in_b key first second =
+    let f = facts_of m a on_a x in_a in
+    let g = facts_of m b on_b y in_b in
+    apart f.range g.range (Contains-at a.ranges f.at f.range f.got) (Contains-at b.ranges g.at g.range g.got) 0 key (key_place m a on_a x in_a.0 f key first) (key_place m b on_b y in_b.0 g key second)

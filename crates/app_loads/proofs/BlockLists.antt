@@ -1,0 +1,82 @@
+-- The blocks of nets, made of the ranges that their claims got.
+use Rattle.std.proofs.Common.{◌≡◌, ℕ, ◌+◌, ◌^◌, ◌<◌, ◌≤◌, List, length, get_or, sym, ap, ◌∙◌, subst, inl, inr, arith, Some}
+use Rattle.std.specs.List.{slice_get, slice_set}
+use Rattle.std.proofs.lemmas.Bool.{cases_lt}
+use Rattle.std.proofs.lemmas.Option.{slice_get-get_or, slice_get_within}
+use Rattle.spin_base.specs.declared.blocks.Block.{Block}
+use Rattle.app_loads.specs.declared.answers.LoadErr.TheVariants.{KeysOut}
+use Rattle.app_loads.specs.declared.loaded.Claim.{Claim}
+use Rattle.app_loads.specs.declared.loaded.Range.{Range}
+use Rattle.app_loads.specs.Claims.{IsBlockOf}
+use Rattle.app_loads.specs.Joining.{AreKeyed, IsKeyRange, HaveBlocks}
+use Rattle.app_loads.proofs.Serving.{set_cases}
+
+module _ (claims : List Claim) (ranges : List Range) (nets : ℕ) (keyed : AreKeyed claims ranges nets) (at : ℕ) (d : Claim) (e : Range) (below : at < length claims) where
+  abbrev claim : Claim
+  claim = get_or claims at d
+
+  abbrev range : Range
+  range = get_or ranges at e
+
+  is_claim : slice_get claims at ≡ Some claim
+  is_claim = slice_get-get_or claims at d below
+
+  range_below : at < length ranges
+  range_below = let l = keyed.long in omega (arith, below, l)
+
+  is_range : slice_get ranges at ≡ Some range
+  is_range = slice_get-get_or ranges at e range_below
+
+  module _ (net : ℕ) (its : claim.refusal ≡ KeysOut net) where
+    both : IsKeyRange range × (net < nets)
+    both = keyed.each at net claim range is_claim its is_range
+
+    pub key_range : IsKeyRange range
+    key_range = both.0
+
+    pub net_there : net < nets
+    net_there = both.1
+
+    pub block_more : (blocks : List Block) (block : Block) → length blocks ≡ nets → block.key ≡ range.place → block.mask + range.size ≡ 2 ^ 32 →
+        ((i n : ℕ) (c : Claim) (b : Block) → i < at → slice_get claims i ≡ Some c → c.refusal ≡ KeysOut n → slice_get blocks n ≡ Some b → IsBlockOf claims ranges n b) →
+        (i n : ℕ) (c : Claim) (b : Block) → i < at + 1 → slice_get claims i ≡ Some c → c.refusal ≡ KeysOut n → slice_get (slice_set blocks net block) n ≡ Some b → IsBlockOf claims ranges n b
+    block_more blocks block long key mask so_far i n c b less is of_net has =
+        elim (set_cases blocks net n (get_or blocks net block) block b (slice_get-get_or blocks net block (let w = net_there in omega (arith, w, long))) has) [
+          | inl mine ↦ subst (λ (x : Block). IsBlockOf claims ranges n x) (sym mine.1) (subst (λ k. IsBlockOf claims ranges k block) (sym mine.0)
+              (record { at = at; claim = claim; range = range; is = is_claim; its = its; got = is_range; key = key; mask = mask }))
+          | inr other ↦ elim (cases_lt i at) [
+            | inl before ↦ so_far i n c b before is of_net other.1
+            | inr here ↦
+                let same : i ≡ at = omega (arith, less, here) in
+                let one : claim ≡ c = some_same (sym is_claim ∙ (ap (slice_get claims) (sym same) ∙ is)) in
+                absurd (other.0 (same_net n net (sym of_net ∙ (ap (λ (x : Claim). x.refusal) (sym one) ∙ its))))
+          ]
+        ]
+      where
+        some_same : {A : Type 0} {x y : A} → Some x ≡ Some y → x ≡ y
+        some_same e' = cc
+
+        same_net : (j k : ℕ) → KeysOut j ≡ KeysOut k → j ≡ k
+        same_net j k e' = cc
+
+  -- a claim of no net's keys makes no block
+  pub block_skip : (blocks : List Block) → ((net : ℕ) → claim.refusal ≡ KeysOut net → ⊥) →
+      ((i n : ℕ) (c : Claim) (b : Block) → i < at → slice_get claims i ≡ Some c → c.refusal ≡ KeysOut n → slice_get blocks n ≡ Some b → IsBlockOf claims ranges n b) →
+      (i n : ℕ) (c : Claim) (b : Block) → i < at + 1 → slice_get claims i ≡ Some c → c.refusal ≡ KeysOut n → slice_get blocks n ≡ Some b → IsBlockOf claims ranges n b
+  block_skip blocks none so_far i n c b less is of_net has = elim (cases_lt i at) [
+    | inl before ↦ so_far i n c b before is of_net has
+    | inr here ↦
+        let same : i ≡ at = omega (arith, less, here) in
+        let one : claim ≡ c = some_same (sym is_claim ∙ (ap (slice_get claims) (sym same) ∙ is)) in
+        absurd (none n (ap (λ (x : Claim). x.refusal) one ∙ of_net))
+  ]
+    where
+      some_same : {A : Type 0} {x y : A} → Some x ≡ Some y → x ≡ y
+      some_same e' = cc
+
+pub all_blocks : (claims : List Claim) (ranges : List Range) (nets : ℕ) (blocks : List Block) (at : ℕ) → AreKeyed claims ranges nets → length claims ≤ at → length blocks ≡ nets →
+    ((i n : ℕ) (c : Claim) (b : Block) → i < at → slice_get claims i ≡ Some c → c.refusal ≡ KeysOut n → slice_get blocks n ≡ Some b → IsBlockOf claims ranges n b) → HaveBlocks claims ranges blocks
+all_blocks claims ranges nets blocks at keyed end long so_far net block has =
+    let found = keyed.all net (let w = slice_get_within blocks net block has in omega (arith, w, long)) in
+    let inside = slice_get_within claims found.0 found.1 found.2 in
+    so_far found.0 net found.1 block (omega (arith, inside, end)) found.2 found.3 has

@@ -1,0 +1,333 @@
+-- What the claims of a plan are, and that each net and chip has its own.
+use Rattle.std.proofs.Common.{◌≡◌, ◌≢◌, ℕ, zero, suc, ◌+◌, ◌%◌, ◌^◌, ◌<◌, ◌≤◌, ◌==◌, leb, cond, Bool, true, false, List, [], ◌∷◌, ◌++◌, length, map, refl, sym, ap, ◌∙◌, subst, inl, inr, arith, Option, None, Some, IfSome, if◌then◌else◌, count_by}
+use Rattle.std.specs.Prelude.{find, unwrap_or, zip}
+use Rattle.std.specs.List.{slice_get, Contains, flat_map, range_with_len}
+use Rattle.std.proofs.lemmas.Bool.{cases_eq}
+use Rattle.std.proofs.lemmas.Bool.Decides.{nat_tests}
+use Rattle.std.proofs.lemmas.Nat.{pow_pos}
+use Rattle.list_laws.specs.Gathered.{gathered}
+use Rattle.list_laws.proofs.Gathering.{among_gathered, gathered_among}
+use Rattle.list_laws.proofs.Members.{Among, among_contains, contains_among, among_left, among_right, among_either}
+use Rattle.list_laws.proofs.Places.{All-at, slice_get_there, zip-first_at}
+use Rattle.spin_base.specs.declared.blocks.Block.{Block}
+use Rattle.machine_desc.specs.Description.{Description}
+use Rattle.machine_desc.specs.Live.{index_of, chip_of, IsUsable}
+use Rattle.machine_desc.proofs.Far.{index_below, live_inside}
+use Rattle.machine_desc.proofs.Live.{index_of-chip_of}
+use Rattle.machine_desc.proofs.Sites.{usable_parts}
+use Rattle.key_alloc.specs.KeyBlocks.{size_of}
+use Rattle.app_loads.specs.declared.answers.LoadErr.TheVariants.{Loaded, MemoryOut, KeysOut, RowsOut}
+use Rattle.app_loads.specs.declared.loaded.Claim.{Claim}
+use Rattle.app_loads.specs.declared.plans.AppNet.{AppNet}
+use Rattle.app_loads.specs.declared.plans.AppPlan.{AppPlan}
+use Rattle.app_loads.specs.Plans.{IsPlan, IsAppNet}
+use Rattle.app_loads.specs.Regions.{chip_count, keys_region, memory_region, rows_region}
+use Rattle.app_loads.specs.Claims.{claims_of, memory_claim, fixed_claim, key_claim, row_claim, has_chip, size_for}
+use Rattle.app_loads.specs.Taking.{IsFair}
+use Rattle.app_loads.proofs.Blocks.{block_aligned, block_room}
+
+-- ---- the size for a number of keys
+
+find_in_row : (p : ℕ → Bool) (f : ℕ → ℕ) (n a : ℕ) → p (f (a + n)) ≡ true → (k : ℕ) × (k ≤ n) × (find p (map f (range_with_len a (suc n))) ≡ Some (f (a + k))) × (p (f (a + k)) ≡ true)
+find_in_row p f zero a last =
+    (0, omega arith, (let z : a + 0 ≡ a = omega arith in found (p (f a)) (ap (λ i. p (f i)) (sym z) ∙ last) ∙ ap (λ i. Some (f i)) (sym z)), last)
+  where
+    found : (b : Bool) → b ≡ true → cond b (Some (f a)) (find p (map f (range_with_len (a + 1) 0))) ≡ Some (f a)
+    found true e = refl
+    found false e = cc
+find_in_row p f (suc n) a last = by_first (p (f a)) refl (find_in_row p f n (a + 1) (let next : a + 1 + n ≡ a + suc n = omega arith in ap (λ i. p (f i)) next ∙ last))
+  where
+    by_first : (b : Bool) → p (f a) ≡ b → ((k : ℕ) × (k ≤ n) × (find p (map f (range_with_len (a + 1) (suc n))) ≡ Some (f (a + 1 + k))) × (p (f (a + 1 + k)) ≡ true)) → (k : ℕ) × (k ≤ suc n) × (cond (p (f a)) (Some (f a)) (find p (map f (range_with_len (a + 1) (suc n)))) ≡ Some (f (a + k))) × (p (f (a + k)) ≡ true)
+    by_first true e rest =
+        let z : a + 0 ≡ a = omega arith in
+        (0, omega arith, ap (λ b. cond b (Some (f a)) (find p (map f (range_with_len (a + 1) (suc n))))) e ∙ ap (λ i. Some (f i)) (sym z), ap (λ i. p (f i)) z ∙ e)
+    by_first false e rest =
+        let place : a + 1 + rest.0 ≡ a + suc rest.0 = omega arith in
+        let low = rest.1 in
+        (suc rest.0, omega (arith, low), ap (λ b. cond b (Some (f a)) (find p (map f (range_with_len (a + 1) (suc n))))) e ∙ (rest.2 ∙ ap (λ i. Some (f i)) place), ap (λ i. p (f i)) (sym place) ∙ rest.3)
+
+pub size_facts : (keys : ℕ) → keys ≤ 4294967296 → (e : ℕ) × (e ≤ 32) × (size_for keys ≡ 2 ^ e) × (keys ≤ 2 ^ e)
+size_facts keys few =
+    let found = find_in_row (leb keys) (λ n. 2 ^ n) 32 0 (le_true keys (2 ^ (0 + 32)) few) in
+    let z : 0 + found.0 ≡ found.0 = omega arith in
+    (found.0, found.1, ap (λ o. unwrap_or o 0) found.2 ∙ ap (λ n. 2 ^ n) z, le_of keys (2 ^ found.0) (ap (λ n. leb keys (2 ^ n)) (sym z) ∙ found.3))
+  where
+    le_true : (a b : ℕ) → a ≤ b → leb a b ≡ true
+    le_true a b le = grind (arith, nat_tests)
+
+    le_of : (a b : ℕ) → leb a b ≡ true → a ≤ b
+    le_of a b e = grind (arith, nat_tests)
+
+-- ---- members of the parts
+
+pub among_flat : {X Y : Type 0} (f : X → List Y) (y : Y) (xs : List X) → Among y (flat_map f xs) → (x : X) × Among x xs × Among y (f x)
+among_flat f y [] a = absurd a
+among_flat f y (x ∷ xs) a = elim (among_either y (f x) (flat_map f xs) a) [
+  | inl here ↦ (x, inl refl, here)
+  | inr later ↦ (let rest = among_flat f y xs later in (rest.0, inr rest.1, rest.2))
+]
+
+pub flat_among : {X Y : Type 0} (f : X → List Y) (y : Y) (xs : List X) (x : X) → Among x xs → Among y (f x) → Among y (flat_map f xs)
+flat_among f y [] x in_xs a = absurd in_xs
+flat_among f y (z ∷ xs) x (inl here) a = among_left y (f z) (flat_map f xs) (subst (λ w. Among y (f w)) here a)
+flat_among f y (z ∷ xs) x (inr later) a = among_right y (f z) (flat_map f xs) (flat_among f y xs x later a)
+
+among_range : (i a n : ℕ) → Among i (range_with_len a n) → (a ≤ i) × (i < a + n)
+among_range i a zero x = absurd x
+among_range i a (suc n) (inl here) = (omega (arith, here), omega (arith, here))
+among_range i a (suc n) (inr later) = let rest = among_range i (a + 1) n later in (omega (arith, rest.0), omega (arith, rest.1))
+
+range_among : (i a n : ℕ) → a ≤ i → i < a + n → Among i (range_with_len a n)
+range_among i a zero low high = absurd (omega (arith, low, high))
+range_among i a (suc n) low high = elim (cases_eq i a) [
+  | inl same ↦ inl same
+  | inr other ↦ inr (range_among i (a + 1) n (omega (arith, low, other)) (omega (arith, high)))
+]
+
+-- where a list has the item unless a number is 0
+unless_zero : {Y : Type 0} (n : ℕ) (r y : Y) → Among y (if n == 0 then [] else r ∷ []) → (y ≡ r) × (0 < n)
+unless_zero n r y a = by_test (n == 0) refl a
+  where
+    by_test : (b : Bool) → (n == 0) ≡ b → Among y (if b then [] else r ∷ []) → (y ≡ r) × (0 < n)
+    by_test true e a' = absurd a'
+    by_test false e (inl here) = (here, some)
+      where
+        some : 0 < n
+        some = elim (cases_eq n 0) [
+          | inl z ↦ absurd (contra (n == 0) e (eq n z))
+          | inr s ↦ omega (arith, s)
+        ]
+          where
+            eq : (k : ℕ) → k ≡ 0 → (k == 0) ≡ true
+            eq k z = grind arith
+
+            contra : (b : Bool) → b ≡ false → b ≡ true → ⊥
+            contra true f t = cc
+            contra false f t = cc
+    by_test false e (inr none) = absurd none
+
+in_unless : {Y : Type 0} (n : ℕ) (r : Y) → 0 < n → Among r (if n == 0 then [] else r ∷ [])
+in_unless n r some = by_test (n == 0) (not_zero n some)
+  where
+    not_zero : (k : ℕ) → 0 < k → (k == 0) ≡ false
+    not_zero k s = grind arith
+
+    by_test : (b : Bool) → b ≡ false → Among r (if b then [] else r ∷ [])
+    by_test true e = cc
+    by_test false e = inl refl
+
+module _ (m : Description) (plan : AppPlan) (valid : IsPlan m plan) where
+  abbrev n : ℕ
+  n = chip_count m
+
+  abbrev memory : List Claim
+  memory = gathered (memory_claim m) 0 (zip plan.spots plan.sdram)
+
+  abbrev fixed : List Claim
+  fixed = gathered (λ j (net : AppNet). fixed_claim j net.fixed) 0 plan.nets
+
+  abbrev keys : List Claim
+  keys = gathered (λ j (net : AppNet). key_claim j net.keys net.fixed) 0 plan.nets
+
+  abbrev rows : List Claim
+  rows = flat_map (row_claim m plan.nets) (range_with_len 0 n)
+
+  -- a claim of keys is one of a net
+  pub record IsKeyClaim (claim : Claim) (j : ℕ) : Type 0 where
+    pub net : AppNet
+    pub is : slice_get plan.nets j ≡ Some net
+    pub region : claim.region ≡ keys_region
+    pub e : ℕ
+    pub few : e ≤ 32
+    pub size : claim.size ≡ 2 ^ e
+    pub enough : net.keys ≤ claim.size
+    pub aligned : (p : ℕ) → p % claim.align ≡ 0 → IfSome claim.fixed (λ q. p ≡ q) → p % claim.size ≡ 0
+
+  pub record Facts (claim : Claim) : Type 0 where
+    pub fair : IsFair m (1 + (n + n)) claim
+    pub keyed : (j : ℕ) → claim.refusal ≡ KeysOut j → IsKeyClaim claim j
+    pub due : claim.refusal ≢ Loaded
+
+  net_at : (j : ℕ) (net : AppNet) → slice_get plan.nets j ≡ Some net → IsAppNet m plan.spots net
+  net_at j net is = All-at (IsAppNet m plan.spots) plan.nets j net valid.nets is
+
+  of_memory : (claim : Claim) → Among claim memory → Facts claim
+  of_memory claim a =
+      let found = among_gathered (memory_claim m) claim (zip plan.spots plan.sdram) a in
+      let is = unless_zero found.1.1 (record { region = memory_region m found.1.0.chip; size = found.1.1; align = 1; fixed = None; refusal = MemoryOut found.0 }) claim found.3 in
+      let usable = All-at (IsUsable m) plan.spots found.0 found.1.0 valid.usable (zip-first_at plan.spots plan.sdram found.0 found.1 found.2) in
+      let below = index_below m found.1.0.chip (live_inside m found.1.0.chip (usable_parts m found.1.0 usable).0) in
+      subst Facts (sym is.0) (record {
+        fair = record { there = omega (arith, below); some = is.1; step = omega arith; fixed = tt };
+        keyed = λ j e. absurd (never found.0 j e);
+        due = λ e. cc;
+      })
+    where
+      never : (v j : ℕ) → MemoryOut v ≡ KeysOut j → ⊥
+      never v j e = cc
+
+  same_net : (i j : ℕ) → KeysOut i ≡ KeysOut j → i ≡ j
+  same_net i j e = cc
+
+  of_fixed : (claim : Claim) → Among claim fixed → Facts claim
+  of_fixed claim a =
+      let found = among_gathered (λ j (net : AppNet). fixed_claim j net.fixed) claim plan.nets a in
+      by_fixed found.0 found.1 found.2 found.1.fixed refl found.3
+    where
+      by_fixed : (j : ℕ) (net : AppNet) → slice_get plan.nets j ≡ Some net → (o : Option Block) → net.fixed ≡ o → Among claim (fixed_claim j o) → Facts claim
+      by_fixed j net is None e a' = absurd a'
+      by_fixed j net is (Some block) e (inr none) = absurd none
+      by_fixed j net is (Some block) e (inl here) =
+          let f = subst (λ o. IfSome o (λ b. (zeros : ℕ) × (zeros ≤ 32) × (b.mask + 2 ^ zeros ≡ 2 ^ 32) × (net.keys ≤ 2 ^ zeros))) e (net_at j net is).fixed in
+          let sum = f.2 in
+          let size : size_of block ≡ 2 ^ f.0 = omega (arith, sum) in
+          let aligned = block_aligned block f.0 f.1 f.2 in
+          let room = block_room block f.0 f.1 f.2 in
+          let pos = pow_pos f.0 in
+          let many = f.3 in
+          subst Facts (sym here) (record {
+            fair = record { there = omega arith; some = omega (arith, size, pos); step = omega arith; fixed = (omega arith, omega (arith, size, room)) };
+            keyed = λ i e'. record {
+              net = net;
+              is = ap (slice_get plan.nets) (sym (same_net j i e')) ∙ is;
+              region = refl;
+              e = f.0;
+              few = f.1;
+              size = size;
+              enough = omega (arith, many, size);
+              aligned = λ p at p_is. subst (λ q. q % size_of block ≡ 0) (sym p_is) (subst (λ s. block.key % s ≡ 0) (sym size) aligned);
+            };
+            due = λ e'. cc;
+          })
+
+  of_keys : (claim : Claim) → Among claim keys → Facts claim
+  of_keys claim a =
+      let found = among_gathered (λ j (net : AppNet). key_claim j net.keys net.fixed) claim plan.nets a in
+      by_fixed found.0 found.1 found.2 found.1.fixed refl found.3
+    where
+      by_fixed : (j : ℕ) (net : AppNet) → slice_get plan.nets j ≡ Some net → (o : Option Block) → net.fixed ≡ o → Among claim (key_claim j net.keys o) → Facts claim
+      by_fixed j net is (Some block) e a' = absurd a'
+      by_fixed j net is None e (inr none) = absurd none
+      by_fixed j net is None e (inl here) =
+          let s = size_facts net.keys (net_at j net is).few_keys in
+          let size = s.2 in
+          let pos = pow_pos s.0 in
+          let many = s.3 in
+          subst Facts (sym here) (record {
+            fair = record { there = omega arith; some = omega (arith, size, pos); step = omega (arith, size, pos); fixed = tt };
+            keyed = λ i e'. record {
+              net = net;
+              is = ap (slice_get plan.nets) (sym (same_net j i e')) ∙ is;
+              region = refl;
+              e = s.0;
+              few = s.1;
+              size = size;
+              enough = omega (arith, many, size);
+              aligned = λ p at p_is. at;
+            };
+            due = λ e'. cc;
+          })
+
+  of_rows : (claim : Claim) → Among claim rows → Facts claim
+  of_rows claim a =
+      let found = among_flat (row_claim m plan.nets) claim (range_with_len 0 n) a in
+      let i : ℕ = found.0 in
+      let below = (among_range i 0 n found.1).1 in
+      let is = unless_zero (count_by (has_chip m (chip_of m i)) plan.nets) (record { region = rows_region m (chip_of m i); size = count_by (has_chip m (chip_of m i)) plan.nets; align = 1; fixed = None; refusal = RowsOut (chip_of m i) }) claim found.2 in
+      let index = index_of-chip_of m i in
+      subst Facts (sym is.0) (record {
+        fair = record { there = omega (arith, below, index); some = is.1; step = omega arith; fixed = tt };
+        keyed = λ j e. absurd (never (chip_of m i) j e);
+        due = λ e. cc;
+      })
+    where
+      never : (c : _) (j : ℕ) → RowsOut c ≡ KeysOut j → ⊥
+      never c j e = cc
+
+  pub facts : (claim : Claim) → Contains (claims_of m plan) claim → Facts claim
+  facts claim has = elim (among_either claim memory (fixed ++ (keys ++ rows)) (contains_among claim (claims_of m plan) has)) [
+    | inl a ↦ of_memory claim a
+    | inr b ↦ elim (among_either claim fixed (keys ++ rows) b) [
+      | inl a ↦ of_fixed claim a
+      | inr c ↦ elim (among_either claim keys rows c) [
+        | inl a ↦ of_keys claim a
+        | inr a ↦ of_rows claim a
+      ]
+    ]
+  ]
+
+  -- each net has a claim
+  pub net_claim : (j : ℕ) → j < length plan.nets → (claim : Claim) × Contains (claims_of m plan) claim × (claim.refusal ≡ KeysOut j)
+  net_claim j below = let net = slice_get_there plan.nets j below in by_fixed net.0 net.1 net.0.fixed refl
+    where
+      by_fixed : (net : AppNet) → slice_get plan.nets j ≡ Some net → (o : Option Block) → net.fixed ≡ o → (claim : Claim) × Contains (claims_of m plan) claim × (claim.refusal ≡ KeysOut j)
+      by_fixed net is (Some block) e =
+          let claim : Claim = record { region = keys_region; size = size_of block; align = 1; fixed = Some block.key; refusal = KeysOut j } in (
+            claim,
+            among_contains claim (claims_of m plan) (among_right claim memory (fixed ++ (keys ++ rows)) (among_left claim fixed (keys ++ rows)
+                (gathered_among (λ i (x : AppNet). fixed_claim i x.fixed) claim plan.nets j net is (subst (λ o. Among claim (fixed_claim j o)) (sym e) (inl refl))))),
+            refl,
+          )
+      by_fixed net is None e =
+          let claim : Claim = record { region = keys_region; size = size_for net.keys; align = size_for net.keys; fixed = None; refusal = KeysOut j } in (
+            claim,
+            among_contains claim (claims_of m plan) (among_right claim memory (fixed ++ (keys ++ rows)) (among_right claim fixed (keys ++ rows) (among_left claim keys rows
+                (gathered_among (λ i (x : AppNet). key_claim i x.keys x.fixed) claim plan.nets j net is (subst (λ o. Among claim (key_claim j net.keys o)) (sym e) (inl refl)))))),
+            refl,
+          )
+
+  -- each chip of a tree has a claim
+  pub chip_claim : (i : ℕ) → i < n → 0 < count_by (has_chip m (chip_of m i)) plan.nets →
+      (claim : Claim) × Contains (claims_of m plan) claim × (claim.region ≡ rows_region m (chip_of m i)) × (claim.size ≡ count_by (has_chip m (chip_of m i)) plan.nets)
+  chip_claim i below some =
+      let rows_there : ℕ = count_by (has_chip m (chip_of m i)) plan.nets in
+      let claim : Claim = record { region = rows_region m (chip_of m i); size = rows_there; align = 1; fixed = None; refusal = RowsOut (chip_of m i) } in (
+        claim,
+        among_contains claim (claims_of m plan) (among_right claim memory (fixed ++ (keys ++ rows)) (among_right claim fixed (keys ++ rows) (among_right claim keys rows
+            (flat_among (row_claim m plan.nets) claim (range_with_len 0 n) i (range_among i 0 n (omega arith) (omega (arith, below))) (in_unless rows_there claim some))))),
+        refl,
+        refl,
+      )
+
+  -- a claim of entries has as many as nets have the chip
+  pub row_size : (claim : Claim) → Contains (claims_of m plan) claim → (i : ℕ) → i < n → claim.region ≡ 1 + (n + i) → claim.size ≡ count_by (has_chip m (chip_of m i)) plan.nets
+  row_size claim has i below region = elim (among_either claim memory (fixed ++ (keys ++ rows)) (contains_among claim (claims_of m plan) has)) [
+    | inl a ↦ (
+        let found = among_gathered (memory_claim m) claim (zip plan.spots plan.sdram) a in
+        let is = unless_zero found.1.1 (record { region = memory_region m found.1.0.chip; size = found.1.1; align = 1; fixed = None; refusal = MemoryOut found.0 }) claim found.3 in
+        let usable = All-at (IsUsable m) plan.spots found.0 found.1.0 valid.usable (zip-first_at plan.spots plan.sdram found.0 found.1 found.2) in
+        let low = index_below m found.1.0.chip (live_inside m found.1.0.chip (usable_parts m found.1.0 usable).0) in
+        let r : claim.region ≡ 1 + index_of m found.1.0.chip = ap (λ (x : Claim). x.region) is.0 in
+        absurd (omega (arith, r, region, low))
+        )
+    | inr b ↦ elim (among_either claim fixed (keys ++ rows) b) [
+      | inl a ↦ (let k = fixed_region claim a in absurd (omega (arith, k, region)))
+      | inr c ↦ elim (among_either claim keys rows c) [
+        | inl a ↦ (let k = keys_region_of claim a in absurd (omega (arith, k, region)))
+        | inr a ↦ (
+            let found = among_flat (row_claim m plan.nets) claim (range_with_len 0 n) a in
+            let is = unless_zero (count_by (has_chip m (chip_of m found.0)) plan.nets) (record { region = rows_region m (chip_of m found.0); size = count_by (has_chip m (chip_of m found.0)) plan.nets; align = 1; fixed = None; refusal = RowsOut (chip_of m found.0) }) claim found.2 in
+            let r : claim.region ≡ 1 + (n + index_of m (chip_of m found.0)) = ap (λ (x : Claim). x.region) is.0 in
+            let index = index_of-chip_of m found.0 in
+            let same : found.0 ≡ i = omega (arith, r, region, index) in
+            ap (λ (x : Claim). x.size) is.0 ∙ ap (λ k. count_by (has_chip m (chip_of m k)) plan.nets) same
+            )
+      ]
+    ]
+  ]
+    where
+      fixed_region : (claim : Claim) → Among claim fixed → claim.region ≡ 0
+      fixed_region claim a = let found = among_gathered (λ j (net : AppNet). fixed_claim j net.fixed) claim plan.nets a in by_fixed found.0 found.1.fixed found.3
+        where
+          by_fixed : (j : ℕ) (o : Option Block) → Among claim (fixed_claim j o) → claim.region ≡ 0
+          by_fixed j None a' = absurd a'
+          by_fixed j (Some block) (inr none) = absurd none
+          by_fixed j (Some block) (inl here) = ap (λ (x : Claim). x.region) here
+
+      keys_region_of : (claim : Claim) → Among claim keys → claim.region ≡ 0
+      keys_region_of claim a = let found = among_gathered (λ j (net : AppNet). key_claim j net.keys net.fixed) claim plan.nets a in by_fixed found.0 found.1.keys found.1.fixed found.3
+        where
+          by_fixed : (j k : ℕ) (o : Option Block) → Among claim (key_claim j k o) → claim.region ≡ 0
+          by_fixed j k (Some block) a' = absurd a'
+          by_fixed j k None (inr none) = absurd none
+          by_fixed j k None (inl here) = ap (λ (x : Claim). x.region) here

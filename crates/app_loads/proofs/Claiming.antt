@@ -1,0 +1,127 @@
+-- The claims of a plan, item by item, and the least power of two for a number of keys.
+use Rattle.std.proofs.Common.{◌≡◌, ℕ, zero, suc, ◌+◌, ◌/◌, ◌^◌, ◌<◌, ◌≤◌, max, leb, cond, Bool, true, false, inl, inr, refl, sym, ap, ◌∙◌, arith, List, [], ◌∷◌, ◌++◌, map, take, get_or, length, Some, append_assoc}
+use Rattle.std.specs.Prelude.{find, unwrap_or, zip}
+use Rattle.std.specs.Int.{IsPowerOfTwo}
+use Rattle.std.specs.List.{flat_map, range_with_len, slice_get}
+use Rattle.std.proofs.lemmas.Bool.Decides.{nat_tests}
+use Rattle.std.proofs.lemmas.Bool.{cases_lt}
+use Rattle.std.proofs.Math.Pow.{pow_mono}
+use Rattle.std.proofs.lemmas.Grind.{pow_more}
+use Rattle.list_laws.specs.Gathered.{gathered}
+use Rattle.list_laws.proofs.Gathering.{gathered_more}
+use Rattle.spin_base.specs.declared.chips.Spot.{Spot}
+use Rattle.machine_desc.specs.Description.{Description}
+use Rattle.app_loads.specs.declared.loaded.Claim.{Claim}
+use Rattle.app_loads.specs.declared.plans.AppNet.{AppNet}
+use Rattle.app_loads.specs.declared.plans.AppPlan.{AppPlan}
+use Rattle.app_loads.specs.Regions.{chip_count}
+use Rattle.app_loads.specs.Claims.{size_for, memory_claim, fixed_claim, key_claim, row_claim, claims_of}
+
+-- ---- lists gathered item by item
+
+pub one_more : {X Y : Type 0} (f : ℕ → X → List Y) (xs : List X) (i : ℕ) (x : X) (start before after : List Y) → slice_get xs i ≡ Some x →
+    before ≡ start ++ gathered f 0 (take i xs) → after ≡ before ++ f i x → after ≡ start ++ gathered f 0 (take (i + 1) xs)
+one_more f xs i x start before after at so_far new =
+    new ∙ (ap (λ l. l ++ f i x) so_far ∙ (append_assoc start (gathered f 0 (take i xs)) (f i x) ∙ ap (λ l. start ++ l) (sym (gathered_more f 0 xs i i x at (omega arith)))))
+
+pub whole_at : {X Y : Type 0} (f : ℕ → X → List Y) (xs : List X) (i : ℕ) (start l : List Y) → length xs ≤ i → l ≡ start ++ gathered f 0 (take i xs) → l ≡ start ++ gathered f 0 xs
+whole_at f xs i start l end is = is ∙ ap (λ r. start ++ gathered f 0 r) (all_taken xs i end)
+  where
+    all_taken : {A : Type 0} (ys : List A) (n : ℕ) → length ys ≤ n → take n ys ≡ ys
+    all_taken [] zero le = refl
+    all_taken [] (suc n) le = refl
+    all_taken (y ∷ ys) zero le = absurd (omega (arith, le))
+    all_taken (y ∷ ys) (suc n) le = ap (λ r. y ∷ r) (all_taken ys n (omega (arith, le)))
+
+pub joined : {X : Type 0} (a b c d x0 x1 x2 x3 x4 : List X) → x0 ≡ [] → x1 ≡ x0 ++ a → x2 ≡ x1 ++ b → x3 ≡ x2 ++ c → x4 ≡ x3 ++ d → x4 ≡ a ++ (b ++ (c ++ d))
+joined a b c d x0 x1 x2 x3 x4 e0 e1 e2 e3 e4 =
+    e4 ∙ (ap (λ l. l ++ d) (e3 ∙ ap (λ l. l ++ c) (e2 ∙ ap (λ l. l ++ b) (e1 ∙ ap (λ l. l ++ a) e0))) ∙ (append_assoc (a ++ b) c d ∙ append_assoc a b (c ++ d)))
+
+-- ---- two lists side by side
+
+pub zip_at : {X Y : Type 0} (xs : List X) (ys : List Y) (i : ℕ) (d : X) (e : Y) → length ys ≡ length xs → i < length xs → slice_get (zip xs ys) i ≡ Some (get_or xs i d, get_or ys i e)
+zip_at [] ys i d e same below = absurd (omega (arith, below))
+zip_at (x ∷ xs) [] i d e same below = absurd (omega (arith, same))
+zip_at (x ∷ xs) (y ∷ ys) zero d e same below = refl
+zip_at (x ∷ xs) (y ∷ ys) (suc i) d e same below = zip_at xs ys i d e (omega (arith, same)) (omega (arith, below))
+
+pub zip_long : {X Y : Type 0} (xs : List X) (ys : List Y) (i : ℕ) → length xs ≤ i → length (zip xs ys) ≤ i
+zip_long [] ys i end = omega arith
+zip_long (x ∷ xs) [] i end = omega arith
+zip_long (x ∷ xs) (y ∷ ys) zero end = absurd (omega (arith, end))
+zip_long (x ∷ xs) (y ∷ ys) (suc i) end = let w = zip_long xs ys i (omega (arith, end)) in omega (arith, w)
+
+-- ---- powers of two
+
+-- the first of a row of values that passes a test
+first_of_row : {X : Type 0} (p : X → Bool) (f : ℕ → X) (n a k : ℕ) → k < n → ((j : ℕ) → j < k → p (f (a + j)) ≡ false) → p (f (a + k)) ≡ true →
+    find p (map f (range_with_len a n)) ≡ Some (f (a + k))
+first_of_row p f zero a k below none here = absurd (omega (arith, below))
+first_of_row p f (suc n) a zero below none here =
+    let z : a + 0 ≡ a = omega arith in
+    let ok : p (f a) ≡ true = ap (λ i. p (f i)) (sym z) ∙ here in
+    found (p (f a)) ok ∙ ap (λ i. Some (f i)) (sym z)
+  where
+    found : (b : Bool) → b ≡ true → cond b (Some (f a)) (find p (map f (range_with_len (a + 1) n))) ≡ Some (f a)
+    found true e = refl
+    found false e = cc
+first_of_row p f (suc n) a (suc k) below none here =
+    let z : a + 0 ≡ a = omega arith in
+    let no' : p (f a) ≡ false = ap (λ i. p (f i)) (sym z) ∙ none 0 (omega arith) in
+    let move : (j : ℕ) → a + 1 + j ≡ a + suc j = λ j. omega arith in
+    passed (p (f a)) no' ∙ (first_of_row p f n (a + 1) k (omega (arith, below)) (λ j low. ap (λ i. p (f i)) (move j) ∙ none (suc j) (omega (arith, low))) (ap (λ i. p (f i)) (move k) ∙ here)
+    ∙ ap (λ i. Some (f i)) (move k))
+  where
+    passed : (b : Bool) → b ≡ false → cond b (Some (f a)) (find p (map f (range_with_len (a + 1) n))) ≡ find p (map f (range_with_len (a + 1) n))
+    passed true e = cc
+    passed false e = refl
+
+-- a power of two that is not below the number, and whose half is, is the size
+pub size_is : (keys size : ℕ) → 1 ≤ keys → keys ≤ 4294967296 → IsPowerOfTwo size → keys ≤ size → size / 2 < max 1 keys → size ≡ size_for keys
+size_is keys size some few power enough half_below = by_power power.0 power.1
+  where
+    by_power : (k : ℕ) → size ≡ 2 ^ k → size ≡ size_for keys
+    by_power k is = is ∙ sym (ap (λ o. unwrap_or o 0) (first_of_row (leb keys) (λ n. 2 ^ n) 33 0 k small lower here) ∙ ap (λ i. 2 ^ i) zero_k)
+      where
+        zero_k : 0 + k ≡ k
+        zero_k = omega arith
+
+        small : k < 33
+        small = elim (cases_lt k 33) [
+          | inl less ↦ less
+          | inr more ↦
+              let up : 2 ^ 33 ≤ 2 ^ k = pow_mono more in
+              let big : 2 ^ 33 ≡ 8589934592 = refl in
+              absurd (omega (arith, up, big, is, few, half_below))
+        ]
+
+        here : leb keys (2 ^ (0 + k)) ≡ true
+        here = let e : 2 ^ (0 + k) ≡ size = ap (λ i. 2 ^ i) zero_k ∙ sym is in let w : keys ≤ 2 ^ (0 + k) = omega (arith, e, enough) in le_true keys (2 ^ (0 + k)) w
+          where
+            le_true : (a b : ℕ) → a ≤ b → leb a b ≡ true
+            le_true a b le = grind (arith, nat_tests)
+
+        lower : (j : ℕ) → j < k → leb keys (2 ^ (0 + j)) ≡ false
+        lower j less =
+            let z : 0 + j ≡ j = omega arith in
+            let up : 2 ^ (j + 1) ≤ 2 ^ k = pow_mono (omega (arith, less)) in
+            let twice = pow_more 2 j in
+            let w : 2 ^ j < keys = omega (arith, up, twice, is, half_below, some) in
+            ap (λ i. leb keys (2 ^ i)) z ∙ lt_false keys (2 ^ j) w
+          where
+            lt_false : (a b : ℕ) → b < a → leb a b ≡ false
+            lt_false a b lt = grind (arith, nat_tests)
+
+-- ---- all claims
+
+pub claims_joined : (m : Description) (plan : AppPlan) (spots : List Spot) (sdram : List ℕ) (fixed keys rows : List AppNet) (x0 x1 x2 x3 x4 : List Claim) → x0 ≡ [] → spots ≡ plan.spots → sdram ≡ plan.sdram →
+    x1 ≡ x0 ++ gathered (memory_claim m) 0 (zip spots sdram) → fixed ≡ plan.nets → x2 ≡ x1 ++ gathered (λ j (net : AppNet). fixed_claim j net.fixed) 0 fixed → keys ≡ plan.nets →
+    x3 ≡ x2 ++ gathered (λ j (net : AppNet). key_claim j net.keys net.fixed) 0 keys → rows ≡ plan.nets → x4 ≡ x3 ++ flat_map (row_claim m rows) (range_with_len 0 (chip_count m)) →
+    x4 ≡ claims_of m plan
+claims_joined m plan spots sdram fixed keys rows x0 x1 x2 x3 x4 e0 is_spots is_sdram e1 is_fixed e2 is_keys e3 is_rows e4 =
+    joined (gathered (memory_claim m) 0 (zip plan.spots plan.sdram)) (gathered (λ j (net : AppNet). fixed_claim j net.fixed) 0 plan.nets) (gathered (λ j (net : AppNet). key_claim j net.keys net.fixed) 0 plan.nets)
+    (flat_map (row_claim m plan.nets) (range_with_len 0 (chip_count m))) x0 x1 x2 x3 x4 e0
+    (e1 ∙ (ap (λ l. x0 ++ gathered (memory_claim m) 0 (zip l sdram)) is_spots ∙ ap (λ l. x0 ++ gathered (memory_claim m) 0 (zip plan.spots l)) is_sdram))
+    (e2 ∙ ap (λ l. x1 ++ gathered (λ j (net : AppNet). fixed_claim j net.fixed) 0 l) is_fixed)
+    (e3 ∙ ap (λ l. x2 ++ gathered (λ j (net : AppNet). key_claim j net.keys net.fixed) 0 l) is_keys)
+    (e4 ∙ ap (λ l. x3 ++ flat_map (row_claim m l) (range_with_len 0 (chip_count m))) is_rows)

@@ -1,0 +1,344 @@
+-- Rows put into ranges of entries.
+use Rattle.std.proofs.Common.{◌≡◌, ◌≢◌, ℕ, zero, suc, ◌+◌, ◌-◌, ◌<◌, ◌≤◌, Bool, true, false, ◌||◌, ◌&&◌, ◌==◌, List, [], ◌∷◌, ◌++◌, take, drop, get_or, length, map, set, refl, sym, ap, ◌∙◌, subst, inl, inr, ◌⊎◌, arith, Some, append_assoc}
+use Rattle.std.specs.List.{slice_get, slice_set, Contains}
+use Rattle.std.proofs.Math.Seq.{drop-cons}
+use Rattle.std.proofs.lemmas.Bool.{cases_Bool, cases_eq, cases_lt, eq-eqb, and_from}
+use Rattle.std.proofs.lemmas.Bool.Decides.{nat_tests}
+use Rattle.std.proofs.lemmas.List.{length-set, length-append, length-take-le, length-map, length-drop, take-append-drop, set_at, get_or-take}
+use Rattle.std.proofs.lemmas.List.Folds.{list_any-append}
+use Rattle.std.proofs.lemmas.Option.{slice_get_within, slice_get-get_or, get_or_from_slice_get}
+use Rattle.list_laws.proofs.Members.{Among, Contains-at, among_contains, contains_among, among_either}
+use Rattle.list_laws.proofs.Places.{slice_get-set_same, slice_get-set_other, take_more_at, map_more_at}
+use Rattle.spin_base.specs.declared.blocks.Entry.{Entry}
+use Rattle.spin_base.specs.declared.chips.Chip.{Chip}
+use Rattle.machine_desc.specs.Description.{Description}
+use Rattle.machine_desc.specs.Live.{index_of, chip_of, IsInside}
+use Rattle.machine_desc.proofs.Far.{index_below}
+use Rattle.machine_desc.proofs.Live.{index_of-chip_of, chip_of-inside}
+use Rattle.net_tables.specs.RightTables.{table_at}
+use Rattle.range_store.specs.Regions.{in_range}
+use Rattle.tern_word.specs.declared.tables.Row.{Row}
+use Rattle.tern_word.specs.declared.tables.Table.{Table}
+use Rattle.tern_word.specs.Entries.{entry_of}
+use Rattle.app_loads.specs.declared.loaded.Range.{Range}
+use Rattle.app_loads.specs.Regions.{AreApart, chip_count, has_place, is_taken, rows_region}
+use Rattle.app_loads.specs.Writing.{AreCopied, CanCopy}
+use Rattle.app_loads.proofs.Holes.{clash}
+
+-- ---- a list with a part written
+
+pub put_start : {X : Type 0} (old : List X) (first : ℕ) → old ≡ take first old ++ ([] ++ drop (first + 0) old)
+put_start old first = let same : first ≡ first + 0 = omega arith in sym (take-append-drop first old) ∙ ap (λ n. take first old ++ drop n old) same
+
+pub put_more : {X : Type 0} (old b : List X) (first p : ℕ) (x : X) (m n : List X) → length b ≡ p → first + p < length old → m ≡ take first old ++ (b ++ drop (first + p) old) → n ≡ set m (first + p) x →
+    n ≡ take first old ++ ((b ++ x ∷ []) ++ drop (first + (p + 1)) old)
+put_more {X} old b first p x m n many inside before given =
+    let a : List X = take first old in
+    let y : X = get_or old (first + p) x in
+    let ys : List X = drop (suc (first + p)) old in
+    let rest : drop (first + p) old ≡ y ∷ ys = drop-cons old (first + p) x (omega (arith, inside)) in
+    let long : length (a ++ b) ≡ first + p = omega (arith, length-append a b, length-take-le first old (omega (arith, inside)), many) in
+    let next : suc (first + p) ≡ first + (p + 1) = omega arith in
+    given
+    ∙ (ap (λ l. set l (first + p) x) (before ∙ (ap (λ l. a ++ (b ++ l)) rest ∙ sym (append_assoc a b (y ∷ ys))))
+    ∙ (set_at (a ++ b) y ys x (first + p) long
+    ∙ (append_assoc a b (x ∷ ys)
+    ∙ (ap (λ l. a ++ l) (sym (append_assoc b (x ∷ []) ys)) ∙ ap (λ k. a ++ ((b ++ x ∷ []) ++ drop k old)) next))))
+
+-- one row more
+pub rows_more : (old : List Entry) (rows : List Row) (first p : ℕ) (x : Row) (m n : List Entry) → length old ≡ 1024 → first + length rows ≤ 1024 → slice_get rows p ≡ Some x →
+    m ≡ take first old ++ (map entry_of (take p rows) ++ drop (first + p) old) → n ≡ set m (first + p) (entry_of x) →
+    n ≡ take first old ++ (map entry_of (take (p + 1) rows) ++ drop (first + (p + 1)) old)
+rows_more old rows first p x m n size fits at before given =
+    let below = slice_get_within rows p x at in
+    let many : length (map entry_of (take p rows)) ≡ p = length-map (take p rows) entry_of ∙ length-take-le p rows (omega (arith, below)) in
+    put_more old (map entry_of (take p rows)) first p (entry_of x) m n many (omega (arith, below, size, fits)) before given
+    ∙ ap (λ l. take first old ++ (l ++ drop (first + (p + 1)) old)) (sym (map_more_at entry_of rows p x at))
+
+-- the part that was written
+part_of : {X : Type 0} (a b c : List X) (p s : ℕ) → length a ≡ p → s ≡ length b → take s (drop p (a ++ (b ++ c))) ≡ b
+part_of [] b c zero s long is = taken b s is c
+  where
+    taken : {X : Type 0} (l : List X) (n : ℕ) → n ≡ length l → (r : List X) → take n (l ++ r) ≡ l
+    taken [] zero e r = refl
+    taken [] (suc n) e r = absurd (omega (arith, e))
+    taken (x ∷ xs) zero e r = absurd (omega (arith, e))
+    taken (x ∷ xs) (suc n) e r = ap (λ l. x ∷ l) (taken xs n (omega (arith, e)) r)
+part_of [] b c (suc p) s long is = absurd (omega (arith, long))
+part_of (x ∷ xs) b c zero s long is = absurd (omega (arith, long))
+part_of (x ∷ xs) b c (suc p) s long is = part_of xs b c p s (omega (arith, long)) is
+
+-- before the part nothing changes
+before_part : {X : Type 0} (old b c : List X) (p k : ℕ) → p ≤ length old → k < p → slice_get (take p old ++ (b ++ c)) k ≡ slice_get old k
+before_part [] b c p k le less = absurd (omega (arith, le, less))
+before_part (x ∷ xs) b c zero k le less = absurd (omega (arith, less))
+before_part (x ∷ xs) b c (suc p) zero le less = refl
+before_part (x ∷ xs) b c (suc p) (suc k) le less = before_part xs b c p k (omega (arith, le)) (omega (arith, less))
+
+-- nor behind it
+behind_part : {X : Type 0} (old b : List X) (p k : ℕ) → p + length b ≤ length old → p + length b ≤ k → slice_get (take p old ++ (b ++ drop (p + length b) old)) k ≡ slice_get old k
+behind_part old b zero k le more = let z : 0 + length b ≡ length b = omega arith in ap (λ n. slice_get (b ++ drop n old) k) z ∙ after b old k (omega (arith, le)) (omega (arith, more))
+  where
+    after : {X : Type 0} (l o : List X) (j : ℕ) → length l ≤ length o → length l ≤ j → slice_get (l ++ drop (length l) o) j ≡ slice_get o j
+    after [] o j le' more' = refl
+    after (y ∷ ys) [] j le' more' = absurd (omega (arith, le'))
+    after (y ∷ ys) (z ∷ zs) zero le' more' = absurd (omega (arith, more'))
+    after (y ∷ ys) (z ∷ zs) (suc j) le' more' = after ys zs j (omega (arith, le')) (omega (arith, more'))
+behind_part [] b (suc p) k le more = absurd (omega (arith, le))
+behind_part (x ∷ xs) b (suc p) zero le more = absurd (omega (arith, more))
+behind_part (x ∷ xs) b (suc p) (suc k) le more =
+    let n : suc p + length b ≡ suc (p + length b) = omega arith in
+    ap (λ j. slice_get (take p xs ++ (b ++ drop j (x ∷ xs))) k) n ∙ behind_part xs b p k (omega (arith, le)) (omega (arith, more))
+
+-- where two lists agree from a place on up to another, their parts there are the same
+pub same_part : {X : Type 0} (xs ys : List X) (p s : ℕ) → length xs ≡ length ys → ((k : ℕ) → p ≤ k → k < p + s → slice_get xs k ≡ slice_get ys k) → take s (drop p xs) ≡ take s (drop p ys)
+same_part [] [] p s long same = refl
+same_part [] (y ∷ ys) p s long same = absurd (omega (arith, long))
+same_part (x ∷ xs) [] p s long same = absurd (omega (arith, long))
+same_part (x ∷ xs) (y ∷ ys) zero zero long same = refl
+same_part (x ∷ xs) (y ∷ ys) zero (suc s) long same =
+    let first : x ≡ y = some_same (same 0 (omega arith) (omega arith)) in
+    let rest = same_part xs ys 0 s (omega (arith, long)) (λ k low high. same (suc k) (omega arith) (omega (arith, high))) in
+    ap (λ z. z ∷ take s xs) first ∙ ap (λ l. y ∷ l) rest
+  where
+    some_same : {A : Type 0} {a b : A} → Some a ≡ Some b → a ≡ b
+    some_same e = cc
+same_part (x ∷ xs) (y ∷ ys) (suc p) s long same = same_part xs ys p s (omega (arith, long)) (λ k low high. same (suc k) (omega (arith, low)) (omega (arith, high)))
+
+in_from : (p s k : ℕ) → p ≤ k → k < p + s → in_range p s k ≡ true
+in_from p s k low high = grind (arith, nat_tests)
+
+not_in : (p s k : ℕ) → in_range p s k ≡ false → (k < p) ⊎ (p + s ≤ k)
+not_in p s k out = elim (cases_lt k p) [
+  | inl less ↦ inl less
+  | inr more ↦ elim (cases_lt k (p + s)) [
+    | inl inside ↦ clash (in_from p s k more inside) out
+    | inr beyond ↦ inr beyond
+  ]
+]
+
+pub mine_at : (range : Range) (region k : ℕ) → range.region ≡ region → range.place ≤ k → k < range.place + range.size → has_place region k range ≡ true
+mine_at range region k is low high = and_from (range.region == region) (in_range range.place range.size k) (eq-eqb range.region region is) (in_from range.place range.size k low high)
+
+taken_more : (ranges : List Range) (i : ℕ) (range : Range) (region k : ℕ) → slice_get ranges i ≡ Some range → is_taken (take (i + 1) ranges) region k ≡ (is_taken (take i ranges) region k || (has_place region k range || false))
+taken_more ranges i range region k at = ap (λ l. is_taken l region k) (take_more_at ranges i range at) ∙ list_any-append (has_place region k) (take i ranges) (range ∷ [])
+
+or_parts : (a b : Bool) → (a || (b || false)) ≡ false → (a ≡ false) × (b ≡ false)
+or_parts false false e = (refl, refl)
+or_parts false true e = cc
+or_parts true b e = cc
+
+member_more : (ranges : List Range) (i : ℕ) (range other : Range) → slice_get ranges i ≡ Some range → Contains (take (i + 1) ranges) other → Contains (take i ranges) other ⊎ (other ≡ range)
+member_more ranges i range other at has =
+    elim (among_either other (take i ranges) (range ∷ []) (contains_among other (take i ranges ++ range ∷ []) (subst (λ (l : List Range). Contains l other) (take_more_at ranges i range at) has))) [
+      | inl before ↦ inl (among_contains other (take i ranges) before)
+      | inr here ↦ inr (only here)
+    ]
+  where
+    only : Among other (range ∷ []) → other ≡ range
+    only (inl is) = is
+    only (inr none) = absurd none
+
+-- nothing is copied yet
+pub none_copied : (m : Description) (tables : List (List Entry)) (rows : List Table) (ranges : List Range) → CanCopy m tables rows ranges → AreCopied m rows [] tables tables
+none_copied m tables rows ranges can = record {
+  all = refl;
+  long = can.each_long;
+  copied = λ range has c t inside region at. absurd (nothing_in range has);
+  others = λ c k inside free. refl;
+}
+  where
+    nothing_in : (range : Range) → Contains (let l : List Range = [] in l) range → ⊥
+    nothing_in range has = let w = has.1 in absurd (omega (arith, w))
+
+module _ (m : Description) (old : List (List Entry)) (rows : List Table) (ranges : List Range) (can : CanCopy m old rows ranges) (cur : List (List Entry)) (i : ℕ) (d : Range) (below : i < length ranges)
+    (so_far : AreCopied m rows (take i ranges) old cur) where
+  abbrev range : Range
+  range = get_or ranges i d
+
+  abbrev n : ℕ
+  n = chip_count m
+
+  at : slice_get ranges i ≡ Some range
+  at = slice_get-get_or ranges i d below
+
+  there : range.region < 1 + (n + n)
+  there = can.there range (Contains-at ranges i range at)
+
+  -- a range of no table changes nothing
+  pub copied_skip : range.region ≤ n → AreCopied m rows (take (i + 1) ranges) old cur
+  copied_skip none = record {
+    all = so_far.all;
+    long = so_far.long;
+    copied = λ other has c t inside region is. elim (member_more ranges i range other at has) [
+      | inl before ↦ so_far.copied other before c t inside region is
+      | inr same ↦ let r : range.region ≡ rows_region m c = ap (λ (x : Range). x.region) (sym same) ∙ region in absurd (omega (arith, r, none))
+    ];
+    others = λ c k inside free. so_far.others c k inside (or_parts (is_taken (take i ranges) (rows_region m c) k) (has_place (rows_region m c) k range) (sym (taken_more ranges i range (rows_region m c) k at) ∙ free)).0;
+  }
+
+  module _ (chips : ℕ) (total : chips ≡ n) (some : chips < range.region) where
+    abbrev j : ℕ
+    j = range.region - 1 - chips
+
+    pub j_below : j < n
+    j_below = let t = there in omega (arith, t, some, total)
+
+    abbrev c0 : Chip
+    c0 = chip_of m j
+
+    inside0 : IsInside m c0
+    inside0 = chip_of-inside m j j_below
+
+    index0 : index_of m c0 ≡ j
+    index0 = index_of-chip_of m j
+
+    region0 : range.region ≡ rows_region m c0
+    region0 = let e = index0 in let s = some in omega (arith, e, s, total)
+
+    pub j_in_tables : j < length cur
+    j_in_tables = let a = so_far.all in let b = can.tables_long in let c = j_below in omega (arith, a, b, c)
+
+    pub j_in_rows : j < length rows
+    j_in_rows = let b = can.rows_long in let c = j_below in omega (arith, b, c)
+
+    module _ (dt : List Entry) (dr : Table) where
+      abbrev T : List Entry
+      T = get_or cur j dt
+
+      abbrev R : Table
+      R = get_or rows j dr
+
+      T_is : table_at m cur c0 ≡ T
+      T_is = ap (λ k. get_or cur k []) index0 ∙ get_or_from_slice_get cur j T [] (slice_get-get_or cur j dt j_in_tables)
+
+      pub T_long : length T ≡ 1024
+      T_long = ap length (sym T_is) ∙ so_far.long c0 inside0
+
+      R_at : slice_get rows (index_of m c0) ≡ Some R
+      R_at = ap (slice_get rows) index0 ∙ slice_get-get_or rows j dr j_in_rows
+
+      fit : (range.place + length R.rows ≤ 1024) × (range.size ≡ length R.rows)
+      fit = can.fit range (Contains-at ranges i range at) c0 R inside0 region0 R_at
+
+      pub R_fits : range.place + length R.rows ≤ 1024
+      R_fits = fit.0
+
+      pub place_small : range.place < 4294967296
+      place_small = let f = fit.0 in omega (arith, f)
+
+      -- the table with the rows
+      module _ (first : ℕ) (is_first : first ≡ range.place) (table : List Entry) (is : table ≡ take first T ++ (map entry_of R.rows ++ drop (first + length R.rows) T)) where
+        abbrev b : List Entry
+        b = map entry_of R.rows
+
+        b_long : length b ≡ length R.rows
+        b_long = length-map R.rows entry_of
+
+        table_is : table ≡ take range.place T ++ (b ++ drop (range.place + length b) T)
+        table_is = is ∙ (ap (λ f. take f T ++ (b ++ drop (f + length R.rows) T)) is_first ∙ ap (λ k. take range.place T ++ (b ++ drop (range.place + k) T)) (sym b_long))
+
+        table_long : length table ≡ 1024
+        table_long =
+            let f = fit.0 in
+            let t = T_long in
+            let l = ap length table_is in
+            let one = length-append (take range.place T) (b ++ drop (range.place + length b) T) in
+            let two = length-append b (drop (range.place + length b) T) in
+            let three = length-take-le range.place T (omega (arith, f, t)) in
+            let four = length-drop (range.place + length b) T in
+            let five = b_long in
+            omega (arith, f, t, l, one, two, three, four, five)
+
+        outside : (k : ℕ) → in_range range.place range.size k ≡ false → slice_get table k ≡ slice_get T k
+        outside k out =
+            ap (λ l. slice_get l k) table_is
+            ∙ elim (not_in range.place range.size k out) [
+              | inl before ↦ before_part T b (drop (range.place + length b) T) range.place k (let f = fit.0 in let t = T_long in omega (arith, f, t)) before
+              | inr after ↦ behind_part T b range.place k (let f = fit.0 in let t = T_long in let l = b_long in omega (arith, f, t, l)) (let s = fit.1 in let l = b_long in omega (arith, after, s, l))
+            ]
+
+        here_at : (c : Chip) → index_of m c ≡ j → table_at m (slice_set cur j table) c ≡ table
+        here_at c same = ap (λ k. get_or (slice_set cur j table) k []) same ∙ get_or_from_slice_get (slice_set cur j table) j table [] (slice_get-set_same cur j T table (slice_get-get_or cur j dt j_in_tables))
+
+        else_at : (c : Chip) → IsInside m c → index_of m c ≢ j → table_at m (slice_set cur j table) c ≡ table_at m cur c
+        else_at c inside other =
+            let here : index_of m c < length cur = let a = so_far.all in let b' = can.tables_long in let w = index_below m c inside in omega (arith, a, b', w) in
+            let got = slice_get-get_or cur (index_of m c) [] here in
+            get_or_from_slice_get (slice_set cur j table) (index_of m c) (get_or cur (index_of m c) []) [] (slice_get-set_other cur j (index_of m c) table other ∙ got)
+
+        cur_at : (c : Chip) → index_of m c ≡ j → table_at m cur c ≡ T
+        cur_at c same = ap (λ k. get_or cur k []) (same ∙ sym index0) ∙ T_is
+
+        region_of : (c : Chip) → index_of m c ≡ j → range.region ≡ rows_region m c
+        region_of c same = region0 ∙ ap (λ k. 1 + (n + k)) (index0 ∙ sym same)
+
+        -- an earlier range is apart from this one
+        earlier_apart : (other : Range) → Contains (take i ranges) other → AreApart other range
+        earlier_apart other has =
+            let less : has.0 < i = (let w = has.1 in let l = length-take-le i ranges (omega (arith, below)) in omega (arith, w, l)) in
+            let same : get_or ranges has.0 other ≡ other = sym (get_or-take i ranges has.0 other less) ∙ has.2 in
+            let pair = can.apart has.0 i other less below in
+            let here : get_or ranges i other ≡ range = get_or_from_slice_get ranges i range other at in
+            subst (λ (r : Range). AreApart r range) same (subst (λ (r : Range). AreApart (get_or ranges has.0 other) r) here pair)
+
+        pub copied_more : AreCopied m rows (take (i + 1) ranges) old (slice_set cur j table)
+        copied_more = record {
+          all = length-set cur j table ∙ so_far.all;
+          long = λ c inside. elim (cases_eq (index_of m c) j) [
+            | inl same ↦ ap length (here_at c same) ∙ table_long
+            | inr other ↦ ap length (else_at c inside other) ∙ so_far.long c inside
+          ];
+          copied = λ other has c t inside region is_t. elim (cases_eq (index_of m c) j) [
+            | inl same ↦ elim (member_more ranges i range other at has) [
+              | inl before ↦
+                  ap (λ l. take other.size (drop other.place l)) (here_at c same)
+                  ∙ (same_part table T other.place other.size (table_long ∙ sym T_long)
+                  (λ k low high. outside k (apart_here c other before same region k low high))
+                  ∙ (ap (λ l. take other.size (drop other.place l)) (sym (cur_at c same)) ∙ so_far.copied other before c t inside region is_t))
+              | inr mine ↦
+                  let one : t ≡ R = some_same (sym is_t ∙ (ap (slice_get rows) (same ∙ sym index0) ∙ R_at)) in
+                  ap (λ (r : Range). take r.size (drop r.place (table_at m (slice_set cur j table) c))) mine
+                  ∙ (ap (λ l. take range.size (drop range.place l)) (here_at c same ∙ table_is)
+                  ∙ (part_of (take range.place T) b (drop (range.place + length b) T) range.place range.size (length-take-le range.place T (let f = fit.0 in let w = T_long in omega (arith, f, w))) (fit.1 ∙ sym b_long)
+                  ∙ ap (λ (x : Table). map entry_of x.rows) (sym one)))
+            ]
+            | inr differ ↦ elim (member_more ranges i range other at has) [
+              | inl before ↦ ap (λ l. take other.size (drop other.place l)) (else_at c inside differ) ∙ so_far.copied other before c t inside region is_t
+              | inr mine ↦
+                  let r : range.region ≡ rows_region m c = ap (λ (x : Range). x.region) (sym mine) ∙ region in
+                  absurd (differ (let s = some in omega (arith, r, s, total)))
+            ]
+          ];
+          others = λ c k inside free.
+              let parts = or_parts (is_taken (take i ranges) (rows_region m c) k) (has_place (rows_region m c) k range) (sym (taken_more ranges i range (rows_region m c) k at) ∙ free) in
+              elim (cases_eq (index_of m c) j) [
+                | inl same ↦
+                    ap (λ l. slice_get l k) (here_at c same)
+                    ∙ (outside k (out_of (rows_region m c) k (region_of c same) parts.1) ∙ (ap (λ l. slice_get l k) (sym (cur_at c same)) ∙ so_far.others c k inside parts.0))
+                | inr differ ↦ ap (λ l. slice_get l k) (else_at c inside differ) ∙ so_far.others c k inside parts.0
+              ];
+        }
+          where
+            some_same : {A : Type 0} {x y : A} → Some x ≡ Some y → x ≡ y
+            some_same e = cc
+
+            out_of : (region k : ℕ) → range.region ≡ region → has_place region k range ≡ false → in_range range.place range.size k ≡ false
+            out_of region k r f = sym (ap (λ q. q && in_range range.place range.size k) (eq-eqb range.region region r)) ∙ f
+
+            apart_here : (c : Chip) (other : Range) → Contains (take i ranges) other → index_of m c ≡ j → other.region ≡ rows_region m c → (k : ℕ) → other.place ≤ k → k < other.place + other.size → in_range range.place range.size k ≡ false
+            apart_here c other before same region k low high = elim (cases_Bool (in_range range.place range.size k)) [
+              | inr out ↦ out
+              | inl within ↦
+                  absurd (earlier_apart other before (rows_region m c) k (mine_at other (rows_region m c) k region low high)
+                  (and_from (range.region == rows_region m c) (in_range range.place range.size k) (eq-eqb range.region (rows_region m c) (region_of c same)) within))
+            ]
+
+pub all_copied : (m : Description) (rows : List Table) (ranges : List Range) (old cur : List (List Entry)) (i : ℕ) → length ranges ≤ i → AreCopied m rows (take i ranges) old cur → AreCopied m rows ranges old cur
+all_copied m rows ranges old cur i end so_far = subst (λ l. AreCopied m rows l old cur) (all_taken ranges i end) so_far
+  where
+    all_taken : {A : Type 0} (ys : List A) (k : ℕ) → length ys ≤ k → take k ys ≡ ys
+    all_taken [] zero le = refl
+    all_taken [] (suc k) le = refl
+    all_taken (y ∷ ys) zero le = absurd (omega (arith, le))
+    all_taken (y ∷ ys) (suc k) le = ap (λ r. y ∷ r) (all_taken ys k (omega (arith, le)))

@@ -1,0 +1,133 @@
+-- Holes and the places that are free in them: which ranges fit, and that the free places tell the holes.
+use Rattle.std.proofs.Common.{◌≡◌, ℕ, ◌+◌, ◌<◌, ◌≤◌, Bool, true, false, true≢false, List, [], ◌∷◌, refl, sym, ap, ◌∙◌, subst, inl, inr, arith}
+use Rattle.std.proofs.lemmas.Bool.{cases_Bool, cases_lt, or_cases, or_left, or_right}
+use Rattle.std.proofs.lemmas.Bool.Decides.{nat_tests}
+use Rattle.range_store.specs.declared.holes.Hole.{Hole}
+use Rattle.range_store.specs.Regions.{AreRuns, has_range, is_hole_range, is_free, end_of}
+
+pub clash : {A : Type 0} {b : Bool} → b ≡ true → b ≡ false → A
+clash t f = absurd (true≢false (sym t ∙ f))
+
+has_facts : (p s : ℕ) (h : Hole) → has_range p s h ≡ true → (h.place ≤ p) × (p + s ≤ end_of h)
+has_facts p s h e = (grind (arith, nat_tests), grind (arith, nat_tests))
+
+has_from : (p s : ℕ) (h : Hole) → h.place ≤ p → p + s ≤ end_of h → has_range p s h ≡ true
+has_from p s h a b = grind (arith, nat_tests)
+
+-- a free place is not before the first hole, and is below the end
+pub free_within : (from n : ℕ) (hs : List Hole) (k : ℕ) → AreRuns from n hs → is_free hs k ≡ true → (from ≤ k) × (k < n)
+free_within from n [] k runs e = clash e refl
+free_within from n (h ∷ hs) k runs e =
+    elim (or_cases (has_range k 1 h) (is_free hs k) e) [
+      | inl here ↦ (let f = has_facts k 1 h here in (omega (arith, f.0, runs.0), omega (arith, f.1, runs.2)))
+      | inr later ↦ (let f = free_within (end_of h + 1) n hs k runs.3 later in (omega (arith, f.0, runs.0), f.1))
+    ]
+
+-- each place of a range that lies in a hole is free
+pub free_in_range : (hs : List Hole) (p s k : ℕ) → is_hole_range hs p s ≡ true → p ≤ k → k < p + s → is_free hs k ≡ true
+free_in_range [] p s k e low high = clash e refl
+free_in_range (h ∷ hs) p s k e low high =
+    elim (or_cases (has_range p s h) (is_hole_range hs p s) e) [
+      | inl here ↦ (
+          let f = has_facts p s h here in
+          or_left (has_range k 1 h) (is_free hs k) (has_from k 1 h (omega (arith, f.0)) (omega (arith, f.1)))
+          )
+      | inr later ↦ or_right (has_range k 1 h) (is_free hs k) (free_in_range hs p s k later low high)
+    ]
+
+-- a range of free places lies in one hole, since holes do not touch
+pub range_of_free : (from n : ℕ) (hs : List Hole) (p s : ℕ) → AreRuns from n hs → 0 < s → ((k : ℕ) → p ≤ k → k < p + s → is_free hs k ≡ true) → is_hole_range hs p s ≡ true
+range_of_free from n [] p s runs some free = clash (free p (omega arith) (omega arith)) refl
+range_of_free from n (h ∷ hs) p s runs some free =
+    elim (or_cases (has_range p 1 h) (is_free hs p) (free p (omega arith) (omega arith))) [
+      | inl here ↦ (
+          let f = has_facts p 1 h here in
+          elim (cases_lt (end_of h) (p + s)) [
+            | inl beyond ↦ elim (or_cases (has_range (end_of h) 1 h) (is_free hs (end_of h)) (free (end_of h) (omega (arith, f.1)) beyond)) [
+              | inl mine ↦ (let g = has_facts (end_of h) 1 h mine in absurd (omega (arith, g.1)))
+              | inr next ↦ (let g = free_within (end_of h + 1) n hs (end_of h) runs.3 next in absurd (omega (arith, g.0)))
+            ]
+            | inr within ↦ or_left (has_range p s h) (is_hole_range hs p s) (has_from p s h f.0 within)
+          ]
+          )
+      | inr later ↦ (
+          let low = free_within (end_of h + 1) n hs p runs.3 later in
+          let rest : (k : ℕ) → p ≤ k → k < p + s → is_free hs k ≡ true = λ k from_p to_end. elim (or_cases (has_range k 1 h) (is_free hs k) (free k from_p to_end)) [
+            | inl mine ↦ (let g = has_facts k 1 h mine in absurd (omega (arith, g.1, low.0)))
+            | inr there ↦ there
+          ] in
+          or_right (has_range p s h) (is_hole_range hs p s) (range_of_free (end_of h + 1) n hs p s runs.3 some rest)
+          )
+    ]
+
+-- ---- the free places tell the holes
+
+-- the first place of the first hole is free, and no place before it
+first_free : (h : Hole) (hs : List Hole) → 0 < h.len → is_free (h ∷ hs) h.place ≡ true
+first_free h hs some = or_left (has_range h.place 1 h) (is_free hs h.place) (has_from h.place 1 h (omega arith) (omega (arith, some)))
+
+from_first : (from n : ℕ) (h : Hole) (hs : List Hole) (k : ℕ) → AreRuns from n (h ∷ hs) → is_free (h ∷ hs) k ≡ true → h.place ≤ k
+from_first from n h hs k runs e = elim (or_cases (has_range k 1 h) (is_free hs k) e) [
+  | inl here ↦ (let f = has_facts k 1 h here in f.0)
+  | inr later ↦ (let f = free_within (end_of h + 1) n hs k runs.3 later in omega (arith, f.0, runs.1))
+]
+
+-- the place after the first hole is not free
+end_taken : (from n : ℕ) (h : Hole) (hs : List Hole) → AreRuns from n (h ∷ hs) → is_free (h ∷ hs) (end_of h) ≡ false
+end_taken from n h hs runs = elim (cases_Bool (is_free (h ∷ hs) (end_of h))) [
+  | inl yes' ↦ elim (or_cases (has_range (end_of h) 1 h) (is_free hs (end_of h)) yes') [
+    | inl mine ↦ (let g = has_facts (end_of h) 1 h mine in absurd (omega (arith, g.1)))
+    | inr next ↦ (let g = free_within (end_of h + 1) n hs (end_of h) runs.3 next in absurd (omega (arith, g.0)))
+  ]
+  | inr no' ↦ no'
+]
+
+-- one hole ends no later than the other, where the free places are the same
+ends_by : (from n : ℕ) (g h : Hole) (gs hs : List Hole) → AreRuns from n (g ∷ gs) → AreRuns from n (h ∷ hs) → g.place ≡ h.place →
+    ((k : ℕ) → is_free (g ∷ gs) k ≡ is_free (h ∷ hs) k) → end_of h ≤ end_of g
+ends_by from n g h gs hs runs also place same = elim (cases_lt (end_of g) (end_of h)) [
+  | inl before ↦
+      let free : is_free (h ∷ hs) (end_of g) ≡ true = or_left (has_range (end_of g) 1 h) (is_free hs (end_of g)) (has_from (end_of g) 1 h (omega (arith, place)) (omega (arith, before))) in
+      clash free (sym (same (end_of g)) ∙ end_taken from n g gs runs)
+  | inr after ↦ after
+]
+
+same_fields : (a b c d : ℕ) → a ≡ c → b ≡ d → (let x : Hole = record { place = a; len = b } in let y : Hole = record { place = c; len = d } in x ≡ y)
+same_fields a b c d p l = cc
+
+same_hole : (g h : Hole) → g.place ≡ h.place → g.len ≡ h.len → g ≡ h
+same_hole g h p l = same_fields g.place g.len h.place h.len p l
+
+-- what is free behind the first hole
+behind : (from n : ℕ) (g h : Hole) (gs hs : List Hole) → AreRuns from n (g ∷ gs) → g ≡ h →
+    ((k : ℕ) → is_free (g ∷ gs) k ≡ is_free (h ∷ hs) k) → (k : ℕ) → is_free gs k ≡ true → is_free hs k ≡ true
+behind from n g h gs hs runs one same k free =
+    let low = free_within (end_of g + 1) n gs k runs.3 free in
+    let other : is_free (h ∷ hs) k ≡ true = sym (same k) ∙ or_right (has_range k 1 g) (is_free gs k) free in
+    elim (or_cases (has_range k 1 h) (is_free hs k) other) [
+      | inl mine ↦ (let f = has_facts k 1 h mine in let e : end_of g ≡ end_of h = ap end_of one in absurd (omega (arith, f.1, low.0, e)))
+      | inr there ↦ there
+    ]
+
+equal_tests : (a b : Bool) → (a ≡ true → b ≡ true) → (b ≡ true → a ≡ true) → a ≡ b
+equal_tests true b to from = sym (to refl)
+equal_tests false true to from = from refl
+equal_tests false false to from = refl
+
+-- Two lists of holes with the same free places are one list.
+pub same_holes : (from n : ℕ) (xs ys : List Hole) → AreRuns from n xs → AreRuns from n ys → ((k : ℕ) → is_free xs k ≡ is_free ys k) → xs ≡ ys
+same_holes from n [] [] runs also same = refl
+same_holes from n [] (h ∷ hs) runs also same = clash (first_free h hs also.1) (sym (same h.place))
+same_holes from n (g ∷ gs) [] runs also same = clash (first_free g gs runs.1) (same g.place)
+same_holes from n (g ∷ gs) (h ∷ hs) runs also same =
+    let low = from_first from n h hs g.place also (sym (same g.place) ∙ first_free g gs runs.1) in
+    let high = from_first from n g gs h.place runs (same h.place ∙ first_free h hs also.1) in
+    let place : g.place ≡ h.place = omega (arith, low, high) in
+    let one = ends_by from n g h gs hs runs also place same in
+    let two = ends_by from n h g hs gs also runs (sym place) (λ k. sym (same k)) in
+    let heads : g ≡ h = same_hole g h place (omega (arith, place, one, two)) in
+    let e : end_of g ≡ end_of h = ap end_of heads in
+    let rest : (k : ℕ) → is_free gs k ≡ is_free hs k =
+    λ k. equal_tests (is_free gs k) (is_free hs k) (behind from n g h gs hs runs heads same k) (behind from n h g hs gs also (sym heads) (λ j. sym (same j)) k) in
+    let tails : gs ≡ hs = same_holes (end_of g + 1) n gs hs runs.3 (subst (λ i. AreRuns (i + 1) n hs) (sym e) also.3) rest in
+    cc

@@ -1,0 +1,48 @@
+-- An application whose claims were served can be settled.
+use Rattle.std.proofs.Common.{◌≡◌, ℕ, suc, ◌+◌, ◌^◌, ◌<◌, List, [], ◌∷◌, length, refl, sym, ◌∙◌, subst, arith, Some}
+use Rattle.std.specs.List.{slice_get, All, AllZip}
+use Rattle.std.proofs.lemmas.List.{length-map}
+use Rattle.list_laws.proofs.Pairs.{AllPairs-right}
+use Rattle.machine_desc.specs.Description.{Description}
+use Rattle.range_store.specs.Views.{Region}
+use Rattle.mesh_core.specs.State.{State}
+use Rattle.app_loads.specs.declared.loaded.LoadedApp.{LoadedApp}
+use Rattle.app_loads.specs.declared.loaded.Range.{Range}
+use Rattle.app_loads.specs.declared.plans.AppPlan.{AppPlan}
+use Rattle.app_loads.specs.Applications.{IsLoadedOn, IsRangeFor}
+use Rattle.app_loads.specs.Claims.{AreBlocks, AreServed, claims_of}
+use Rattle.app_loads.specs.Joining.{CanJoin, CanSettle, IsServed, NoneUnsent}
+use Rattle.app_loads.specs.Plans.{IsPlan}
+use Rattle.app_loads.specs.Regions.{AreApart, chip_count}
+use Rattle.app_loads.specs.Taking.{IsWithin, free_of}
+
+zipped : {X Y : Type 0} (R : X → Y → Type 0) (xs : List X) (ys : List Y) → length ys ≡ length xs → ((i : ℕ) (x : X) (y : Y) → slice_get xs i ≡ Some x → slice_get ys i ≡ Some y → R x y) → AllZip R xs ys
+zipped R [] [] long each = tt
+zipped R [] (y ∷ ys) long each = absurd (omega (arith, long))
+zipped R (x ∷ xs) [] long each = absurd (omega (arith, long))
+zipped R (x ∷ xs) (y ∷ ys) long each = (each 0 x y refl refl, zipped R xs ys (omega (arith, long)) (λ i a b p q. each (suc i) a b p q))
+
+pub loaded_from : (m : Description) (taken : List Range) (plan : AppPlan) (app : LoadedApp) → IsPlan m plan → app.plan ≡ plan → AreServed m taken (claims_of m plan) app.ranges → AreBlocks (claims_of m plan) app.ranges plan.nets app.blocks → IsLoadedOn m app
+loaded_from m taken plan app valid is served blocks = record {
+  plan = subst (IsPlan m) (sym is) valid;
+  ranges = subst (λ (p : AppPlan). AllZip IsRangeFor (claims_of m p) app.ranges) (sym is)
+      (zipped IsRangeFor (claims_of m plan) app.ranges served.all (λ i claim range p q. let w = served.first.each i claim range p q in (w.region, w.size)));
+  blocks = subst (λ (p : AppPlan). AreBlocks (claims_of m p) app.ranges p.nets app.blocks) (sym is) blocks;
+}
+
+pub can_settle : (s : State) (old new : List Region) (number first : ℕ) (plan : AppPlan) (app : LoadedApp) → CanJoin s old first plan → IsServed s.setup.machine old number first plan app new → CanSettle s app
+can_settle s old new number first plan app can served =
+    let m = s.setup.machine in
+    let own = can.of_machine in
+    let taken = served.taken m own.taken own.apart own.free in
+    let long : length new ≡ 1 + (chip_count m + chip_count m) = sym (length-map new free_of) ∙ taken.free.all in
+    let numbers = can.numbers in
+    record {
+      loaded = loaded_from m own.taken plan app can.valid served.plan_is (served.served m own.taken own.apart own.free) served.blocks;
+      apart = AllPairs-right AreApart own.taken app.ranges taken.apart;
+      within = subst (λ n. All (IsWithin m n) app.ranges) long taken.within;
+      numbers = subst (λ n. n + length app.plan.packets < 2 ^ 32) (sym served.first_is) (subst (λ (p : AppPlan). first + length p.packets < 2 ^ 32) (sym served.plan_is) numbers);
+      vertices = can.vertices;
+      none = subst (λ (p : AppPlan). NoneUnsent s.setup.spots p.nets s.unsent) (sym served.plan_is) can.none;
+      long = can.long;
+    }

@@ -1,0 +1,151 @@
+-- The fields of a host to which an application came, or came not.
+use Rattle.std.proofs.Common.{◌≡◌, ℕ, ◌+◌, ◌*◌, ◌^◌, ◌<◌, Bool, true, false, List, [], ◌∷◌, ◌++◌, length, sym, ap, ◌∙◌, subst, arith, Option, None, Some, Result, Ok, Err, IfOk, IfErr, OnOk, OnErr}
+use Rattle.std.specs.Prelude.{is_err, is_some}
+use Rattle.std.specs.List.{All, AllPairs}
+use Rattle.std.proofs.lemmas.List.Elements.{All-weaker}
+use Rattle.spin_base.specs.declared.chips.Spot.{Spot}
+use Rattle.machine_desc.specs.Description.{Description}
+use Rattle.machine_desc.specs.Live.{IsInside, IsUsable}
+use Rattle.machine_desc.proofs.Far.{live_inside}
+use Rattle.machine_desc.proofs.Sites.{usable_parts}
+use Rattle.range_store.specs.Views.{Region}
+use Rattle.mesh_core.specs.State.{State}
+use Rattle.app_loads.specs.declared.answers.LoadErr.{LoadErr}
+use Rattle.app_loads.specs.declared.apps.Apps.TheInside.{Inside}
+use Rattle.app_loads.specs.declared.loaded.LoadedApp.{LoadedApp}
+use Rattle.app_loads.specs.declared.loaded.Range.{Range}
+use Rattle.app_loads.specs.declared.plans.AppPlan.{AppPlan}
+use Rattle.app_loads.specs.Applications.{AreApps}
+use Rattle.app_loads.specs.Claims.{claims_of}
+use Rattle.app_loads.specs.Host.{Free, Host, all_ranges, is_loaded}
+use Rattle.app_loads.specs.Inner.{host_of, IsHost, mesh_in, TellsTaken}
+use Rattle.app_loads.specs.Joining.{CanJoin, IsServed, IsSettled}
+use Rattle.app_loads.specs.Loading.{HasLoaded, IsWhyNotLoaded}
+use Rattle.app_loads.specs.Marking.{AreMarked}
+use Rattle.app_loads.specs.Plans.{MayLoad}
+use Rattle.app_loads.specs.Regions.{AreApart, AreFreeBeside}
+use Rattle.app_loads.specs.Taking.{IsDueAlways, frees}
+use Rattle.app_loads.proofs.LoadedHost.{apps_now, loaded_host, none_unsent, same_frees, why_not}
+use Rattle.app_loads.proofs.MarkedSpots.{tells_more}
+
+pub one_host : (a b : State) (r s : List Free) (p q : List LoadedApp) (n k : ℕ) → a ≡ b → r ≡ s → p ≡ q → n ≡ k →
+    (let x : Host = record { mesh = a; regions = r; apps = p; packets = n } in let y : Host = record { mesh = b; regions = s; apps = q; packets = k } in x ≡ y)
+one_host a b r s p q n k ea er ep en = cc
+
+-- a host of the same parts
+pub still_host : (i j : Inside) → IsHost i → is_some j.mesh ≡ true → host_of j ≡ host_of i → j.taken.items ≡ i.taken.items → IsHost j
+still_host i j host there same table = record {
+  there = there;
+  apps = subst AreApps (sym same) host.apps;
+  taken = subst (λ (l : List Bool). TellsTaken (host_of j).mesh.setup.machine (host_of j).apps l) (sym table)
+      (subst (λ (h : Host). TellsTaken h.mesh.setup.machine h.apps i.taken.items) (sym same) host.taken);
+}
+
+pub never_none : (o r : Option State) → is_some o ≡ true → r ≡ o → r ≡ None → ⊥
+never_none None r some same none = cc
+never_none (Some x) r some same none = cc
+
+pub of_ok : {A E : Type 0} (P : A → Type 0) (r : Result A E) (x : A) → r ≡ Ok x → IfOk r P → P x
+of_ok P r x is if = subst (λ z. IfOk z P) is if
+
+pub of_err : {A E : Type 0} (P : E → Type 0) (r : Result A E) (x : E) → r ≡ Err x → IfErr r P → P x
+of_err P r x is if = subst (λ z. IfErr z P) is if
+
+pub on_err : {A E : Type 0} (P : Type 0) (r : Result A E) (x : E) → r ≡ Err x → OnErr r P → P
+on_err P r x is if = subst (λ z. OnErr z P) is if
+
+pub on_ok : {A E : Type 0} (P : Type 0) (r : Result A E) → is_err r ≡ false → OnOk r P → P
+on_ok P (Ok x) none on = on
+on_ok P (Err e) none on = cc
+
+module _ (i : Inside) (mesh : State) (is : i.mesh ≡ Some mesh) (host : IsHost i) (number : ℕ) (plan : AppPlan) (may : MayLoad (host_of i) plan) (given : List Region) (given_is : given ≡ i.regions.items) where
+  abbrev h : Host
+  h = host_of i
+
+  mesh_h : h.mesh ≡ mesh
+  mesh_h = ap mesh_in is
+
+  old_is : frees given ≡ h.regions
+  old_is = ap frees given_is
+
+  pub can_join : CanJoin mesh given i.packets plan
+  can_join = subst (λ (s : State). CanJoin s given i.packets plan) mesh_h (record {
+    valid = may.valid;
+    of_machine = record { taken = all_ranges h.apps; apart = host.apps.apart; free = subst (AreFreeBeside h.mesh.setup.machine (all_ranges h.apps)) (sym old_is) host.apps.free };
+    numbers = may.numbers;
+    vertices = host.apps.vertices;
+    none = none_unsent h host.apps plan may;
+    long = host.apps.rows.long;
+  })
+
+  pub spots_inside : (app : LoadedApp) → app.plan ≡ plan → (m : Description) → m ≡ mesh.setup.machine → (lent : List Spot) → lent ≡ app.plan.spots → All (λ (s : Spot). IsInside m s.chip) lent
+  spots_inside app plan_is m m_is lent lent_is =
+      subst (λ (l : List Spot). All (λ (s : Spot). IsInside m s.chip) l) (sym (lent_is ∙ ap (λ (p : AppPlan). p.spots) plan_is))
+      (subst (λ (d : Description). All (λ (s : Spot). IsInside d s.chip) plan.spots) (sym (m_is ∙ ap (λ (s : State). s.setup.machine) (sym mesh_h)))
+      (All-weaker (IsUsable h.mesh.setup.machine) (λ (s : Spot). IsInside h.mesh.setup.machine s.chip) (λ s u. live_inside h.mesh.setup.machine s.chip (usable_parts h.mesh.setup.machine s u).0) plan.spots may.valid.usable))
+
+  pub spots_numbered : (app : LoadedApp) → app.plan ≡ plan → (lent : List Spot) → lent ≡ app.plan.spots → All (λ (s : Spot). s.core < 24) lent
+  spots_numbered app plan_is lent lent_is =
+      subst (All (λ (s : Spot). s.core < 24)) (sym (lent_is ∙ ap (λ (p : AppPlan). p.spots) plan_is))
+      (All-weaker (IsUsable h.mesh.setup.machine) (λ (s : Spot). s.core < 24) (λ s u. let most = (usable_parts h.mesh.setup.machine s u).2 in omega (arith, most)) plan.spots may.valid.usable)
+
+  pub table_long : (m : Description) → m ≡ mesh.setup.machine → (lent : List Bool) → lent ≡ i.taken.items → length lent ≡ 24 * (m.width * m.height)
+  table_long m m_is lent lent_is =
+      ap length lent_is ∙ (host.taken.long ∙ ap (λ (d : Description). 24 * (d.width * d.height)) (ap (λ (s : State). s.setup.machine) mesh_h ∙ sym m_is))
+
+  pub packets_fit : i.packets + length plan.packets < 2 ^ 32
+  packets_fit = may.numbers
+
+  module _ (not_loaded : is_loaded h.apps number ≡ false) (new : List Region) (app : LoadedApp) (result : State) (served : IsServed mesh.setup.machine given number i.packets plan app new) (settled : IsSettled app mesh result)
+      (j : Inside) (j_mesh : j.mesh ≡ Some result) (j_regions : j.regions.items ≡ new) (j_apps : j.apps.items ≡ i.apps.items ++ app ∷ []) (j_packets : j.packets ≡ i.packets + length plan.packets) where
+    served_h : IsServed h.mesh.setup.machine given number h.packets plan app new
+    served_h = subst (λ (s : State). IsServed s.setup.machine given number i.packets plan app new) (sym mesh_h) served
+
+    settled_h : IsSettled app h.mesh result
+    settled_h = subst (λ (s : State). IsSettled app s result) (sym mesh_h) settled
+
+    abbrev now : Host
+    now = record { mesh = result; regions = frees new; apps = h.apps ++ app ∷ []; packets = h.packets + length plan.packets }
+
+    is_now : host_of j ≡ now
+    is_now = one_host (mesh_in j.mesh) result (frees j.regions.items) (frees new) j.apps.items (h.apps ++ app ∷ []) j.packets (h.packets + length plan.packets) (ap mesh_in j_mesh) (ap frees j_regions) j_apps j_packets
+
+    pub ok_apps : AreApps (host_of j)
+    ok_apps = subst AreApps (sym is_now) (apps_now h host.apps number plan may not_loaded given new old_is app result served_h settled_h)
+
+    pub ok_loaded : HasLoaded h number plan (host_of j)
+    ok_loaded = subst (HasLoaded h number plan) (sym is_now) (loaded_host h host.apps number plan may not_loaded given new old_is app result served_h settled_h)
+
+    pub ok_host : (m : Description) (lent : List Bool) (marked : List Bool) (spots : List Spot) → m ≡ mesh.setup.machine → lent ≡ i.taken.items → spots ≡ app.plan.spots → AreMarked m true spots lent marked → j.taken.items ≡ marked → IsHost j
+    ok_host m lent marked spots m_is lent_is spots_is marks j_taken = record {
+      there = ap is_some j_mesh;
+      apps = ok_apps;
+      taken = subst (λ (l : List Bool). TellsTaken (host_of j).mesh.setup.machine j.apps.items l) (sym j_taken)
+          (subst (λ (l : List LoadedApp). TellsTaken (host_of j).mesh.setup.machine l marked) (sym j_apps)
+          (subst (λ (d : Description). TellsTaken d (i.apps.items ++ app ∷ []) marked) (sym same_machine)
+          (tells_more h.mesh.setup.machine i.apps.items app i.taken.items marked host.taken marks_h)));
+    }
+      where
+        same_machine : (host_of j).mesh.setup.machine ≡ h.mesh.setup.machine
+        same_machine = ap (λ (s : State). s.setup.machine) (ap mesh_in j_mesh ∙ settled_h.mesh)
+
+        marks_h : AreMarked h.mesh.setup.machine true app.plan.spots i.taken.items marked
+        marks_h =
+            subst (λ (l : List Bool). AreMarked h.mesh.setup.machine true app.plan.spots l marked) lent_is
+            (subst (λ (l : List Spot). AreMarked h.mesh.setup.machine true l lent marked) spots_is
+            (subst (λ (d : Description). AreMarked d true spots lent marked) (m_is ∙ ap (λ (s : State). s.setup.machine) (sym mesh_h)) marks))
+
+  module _ (j : Inside) (result : State) (refused : result ≡ mesh) (new : List Region)
+      (back : (m : Description) (taken : List Range) → AllPairs AreApart taken → AreFreeBeside m taken (frees given) → AreFreeBeside m taken (frees new))
+      (j_mesh : j.mesh ≡ Some result) (j_regions : j.regions.items ≡ new) (j_apps : j.apps.items ≡ i.apps.items) (j_packets : j.packets ≡ i.packets) where
+    pub err_same : host_of j ≡ host_of i
+    err_same =
+        one_host (mesh_in j.mesh) h.mesh (frees j.regions.items) h.regions j.apps.items h.apps j.packets h.packets (ap mesh_in j_mesh ∙ (refused ∙ sym mesh_h))
+        (ap frees j_regions ∙ same_frees h.mesh.setup.machine (all_ranges h.apps) (frees new) h.regions
+        (back h.mesh.setup.machine (all_ranges h.apps) host.apps.apart (subst (AreFreeBeside h.mesh.setup.machine (all_ranges h.apps)) (sym old_is) host.apps.free)) host.apps.free) j_apps j_packets
+
+    pub err_host : j.taken.items ≡ i.taken.items → IsHost j
+    err_host table = still_host i j host (ap is_some j_mesh) err_same table
+
+  pub err_why : is_loaded h.apps number ≡ false → (err : LoadErr) → IsDueAlways (claims_of mesh.setup.machine plan) given err → IsWhyNotLoaded h number plan err
+  err_why none err due = why_not h host.apps number plan given old_is none may.valid err (subst (λ (s : State). IsDueAlways (claims_of s.setup.machine plan) given err) (sym mesh_h) due)

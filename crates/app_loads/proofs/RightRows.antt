@@ -1,0 +1,230 @@
+-- Tables with the plain rows of all applications are right for their nets.
+use Rattle.std.proofs.Common.{◌≡◌, ℕ, zero, suc, ◌+◌, ◌-◌, ◌<◌, ◌≤◌, ◌==◌, leb, ltb, cond, bit_and, Bool, true, false, List, [], ◌∷◌, map, take, drop, get_or, sym, ap, ◌∙◌, subst, inl, inr, arith, Some, count_by, find}
+use Rattle.std.specs.Int.Bits.{and_zero_r}
+use Rattle.std.specs.Option.{option_map_or}
+use Rattle.std.specs.List.{slice_get, All, Contains}
+use Rattle.std.proofs.lemmas.Bool.{cases_Bool, eqb-true, eq-eqb, and_parts, false≢true, ltb-true}
+use Rattle.std.proofs.lemmas.Bool.Decides.{nat_tests}
+use Rattle.std.proofs.lemmas.List.Elements.{All-contains}
+use Rattle.std.proofs.lemmas.List.Sorted.{IsPermutation-sym, Contains-permutation}
+use Rattle.std.proofs.lemmas.Option.{slice_get-get_or}
+use Rattle.list_laws.proofs.Counts.{count_by-cons}
+use Rattle.list_laws.proofs.Members.{Among, Contains-at, Contains-none, Contains-first, Contains-later, Contains-cases, Contains-map, Contains-unmap, among_contains, contains_among}
+use Rattle.list_laws.proofs.Places.{All-each, AllZip-at_first, slice_get-mapped}
+use Rattle.spin_base.specs.declared.blocks.Block.{Block}
+use Rattle.spin_base.specs.declared.blocks.Entry.{Entry}
+use Rattle.spin_base.specs.declared.chips.Chip.{Chip}
+use Rattle.spin_base.specs.declared.chips.Port.{Port}
+use Rattle.spin_base.specs.declared.routes.Out.{Out}
+use Rattle.spin_base.specs.declared.routes.Route.{Route}
+use Rattle.spin_base.specs.Lookup.{lookup, matches, default_route}
+use Rattle.spin_base.specs.Outputs.{has, IsOutput}
+use Rattle.machine_desc.specs.Description.{Description}
+use Rattle.machine_desc.specs.Live.{index_of, chip_of, IsInside}
+use Rattle.machine_desc.proofs.Far.{index_below}
+use Rattle.machine_desc.specs.RoutingTree.{IsRoutingTree}
+use Rattle.net_tables.specs.declared.nets.NetPlan.{NetPlan}
+use Rattle.net_tables.specs.NetsOn.{HaveDisjointBlocks}
+use Rattle.net_tables.specs.Outputs.{is_wanted}
+use Rattle.net_tables.specs.RightTables.{IsKeyOf, AreRight, RoutesByTree, table_at}
+use Rattle.range_store.specs.Regions.{in_range}
+use Rattle.tcam_find.specs.Memory.{unused}
+use Rattle.tern_word.specs.declared.tables.Row.{Row}
+use Rattle.tern_word.specs.Entries.{entry_of}
+use Rattle.plain_tables.specs.PlainTable.{HasChip, IsPlainTable, row_of}
+use Rattle.plain_tables.proofs.Trees.{chips_inside, comes_in_tree}
+use Rattle.plain_tables.proofs.Whole.{has_original, from_net}
+use Rattle.mesh_core.proofs.LedgerLaw.{one_net}
+use Rattle.app_loads.specs.declared.loaded.LoadedApp.{LoadedApp}
+use Rattle.app_loads.specs.declared.loaded.Range.{Range}
+use Rattle.app_loads.specs.Applications.{HasRows, HaveRows, IsLoadedOn, IsRangeFor}
+use Rattle.app_loads.specs.Claims.{claims_of, has_chip}
+use Rattle.app_loads.specs.Host.{all_nets, all_ranges, nets_of}
+use Rattle.app_loads.specs.Regions.{has_place, is_taken, rows_region}
+use Rattle.app_loads.proofs.AppNets.{facts_of, member_at, spot_inside}
+use Rattle.app_loads.proofs.ClaimCases.{among_flat, flat_among, chip_claim}
+use Rattle.app_loads.proofs.Serving.{by_taken, unmapped}
+use Rattle.app_loads.proofs.Settling.{chip_back, has_chip-true}
+
+-- ---- lookup in a table where all that match agree
+
+found : (key : ℕ) (o : Out) (w : Bool) (other : Route) (es : List Entry) → ((e : Entry) → Contains es e → matches e key ≡ true → has e.route o ≡ w) → (x : Entry) → Contains es x → matches x key ≡ true →
+    has (option_map_or (λ (e : Entry). e.route) (find (λ (e : Entry). matches e key) es) other) o ≡ w
+found key o w other [] each x there hit = absurd (Contains-none x there)
+found key o w other (e ∷ es) each x there hit = elim (cases_Bool (matches e key)) [
+  | inl mine ↦
+      ap (λ b. has (option_map_or (λ (e' : Entry). e'.route) (cond b (Some e) (find (λ (e' : Entry). matches e' key) es)) other) o) mine ∙ each e (Contains-first e es) mine
+  | inr not_mine ↦
+      ap (λ b. has (option_map_or (λ (e' : Entry). e'.route) (cond b (Some e) (find (λ (e' : Entry). matches e' key) es)) other) o) not_mine
+      ∙ found key o w other es (λ l has_l. each l (Contains-later e es l has_l)) x (elim (Contains-cases e es x there) [
+        | inl is ↦ absurd (false≢true (sym not_mine ∙ (ap (λ (y : Entry). matches y key) is ∙ hit)))
+        | inr after ↦ after
+      ]) hit
+]
+
+-- an item of a part of a list
+part_at : {X : Type 0} (xs : List X) (p s k : ℕ) (x : X) → p ≤ k → k < p + s → slice_get xs k ≡ Some x → slice_get (take s (drop p xs)) (k - p) ≡ Some x
+part_at [] p s k x low high e = cc
+part_at (y ∷ ys) zero zero k x low high e = absurd (omega (arith, high))
+part_at (y ∷ ys) zero (suc s) zero x low high e = e
+part_at (y ∷ ys) zero (suc s) (suc k) x low high e =
+    let z : suc k - 0 ≡ suc (k - 0) = omega arith in ap (slice_get (y ∷ take s ys)) z ∙ part_at ys 0 s k x (omega arith) (omega (arith, high)) e
+part_at (y ∷ ys) (suc p) s zero x low high e = absurd (omega (arith, low))
+part_at (y ∷ ys) (suc p) s (suc k) x low high e =
+    let z : suc k - suc p ≡ k - p = omega arith in ap (slice_get (take s (drop p ys))) z ∙ part_at ys p s k x (omega (arith, low)) (omega (arith, high)) e
+
+of_part : {X : Type 0} (xs : List X) (p s j : ℕ) (x : X) → slice_get (take s (drop p xs)) j ≡ Some x → slice_get xs (p + j) ≡ Some x
+of_part [] zero zero j x e = cc
+of_part [] zero (suc s) j x e = cc
+of_part [] (suc p) zero j x e = cc
+of_part [] (suc p) (suc s) j x e = cc
+of_part (y ∷ ys) zero zero j x e = cc
+of_part (y ∷ ys) zero (suc s) zero x e = e
+of_part (y ∷ ys) zero (suc s) (suc j) x e = let z : 0 + suc j ≡ suc (0 + j) = omega arith in ap (slice_get (y ∷ ys)) z ∙ of_part ys 0 s j x e
+of_part (y ∷ ys) (suc p) s j x e = let z : suc p + j ≡ suc (p + j) = omega arith in ap (slice_get (y ∷ ys)) z ∙ of_part ys p s j x e
+
+some_counted : {X : Type 0} (p : X → Bool) (xs : List X) (x : X) → Among x xs → p x ≡ true → 0 < count_by p xs
+some_counted p [] x a hit = absurd a
+some_counted p (y ∷ ys) x (inl here) hit =
+    let cons = count_by-cons p y ys in
+    let one : cond (p y) 1 0 ≡ 1 = ap one_if (ap p (sym here) ∙ hit) in
+    omega (arith, cons, one)
+  where
+    one_if : Bool → ℕ
+    one_if b = cond b 1 0
+some_counted p (y ∷ ys) x (inr later) hit =
+    let rest = some_counted p ys x later hit in
+    let cons = count_by-cons p y ys in
+    omega (arith, cons, rest)
+
+in_parts : (range : Range) (region k : ℕ) → has_place region k range ≡ true → (range.region ≡ region) × (range.place ≤ k) × (k < range.place + range.size)
+in_parts range region k e =
+    let parts = and_parts (range.region == region) (in_range range.place range.size k) e in
+    let inside = and_parts (leb range.place k) (ltb k (range.place + range.size)) parts.1 in
+    (eqb-true range.region region parts.0, le_of range.place k inside.0, ltb-true k (range.place + range.size) inside.1)
+  where
+    le_of : (a b : ℕ) → leb a b ≡ true → a ≤ b
+    le_of a b e' = grind (arith, nat_tests)
+
+module _ (m : Description) (tables : List (List Entry)) (apps : List LoadedApp) (loaded : All (IsLoadedOn m) apps) (disjoint : HaveDisjointBlocks (all_nets apps)) (rows : HaveRows m tables apps) where
+  -- the net of an application
+  record Owned (x : NetPlan) : Type 0 where
+    app : LoadedApp
+    in_apps : Contains apps app
+    in_app : Contains (nets_of app) x
+
+  owner : (x : NetPlan) → Contains (all_nets apps) x → Owned x
+  owner x has' = let f = among_flat nets_of x apps (contains_among x (all_nets apps) has') in record { app = f.0; in_apps = among_contains f.0 apps f.1; in_app = among_contains x (nets_of f.0) f.2 }
+
+  in_all : (app : LoadedApp) (x : NetPlan) → Contains apps app → Contains (nets_of app) x → Contains (all_nets apps) x
+  in_all app x a b = among_contains x (all_nets apps) (flat_among nets_of x apps app (contains_among app apps a) (contains_among x (nets_of app) b))
+
+  loaded_at : (app : LoadedApp) → Contains apps app → IsLoadedOn m app
+  loaded_at app has' = All-contains (IsLoadedOn m) apps app loaded has'
+
+  rows_at : (app : LoadedApp) → Contains apps app → (range : Range) → Contains app.ranges range → (c : Chip) → IsInside m c → range.region ≡ rows_region m c → HasRows m (nets_of app) c (table_at m tables c) range
+  rows_at app in_apps range in_ranges =
+      All-contains (λ (r : Range). (c : Chip) → IsInside m c → r.region ≡ rows_region m c → HasRows m (nets_of app) c (table_at m tables c) r) app.ranges range
+      (All-contains (λ (a : LoadedApp). All (λ (r : Range). (c : Chip) → IsInside m c → r.region ≡ rows_region m c → HasRows m (nets_of a) c (table_at m tables c) r) a.ranges) apps app rows.rows in_apps) in_ranges
+
+  module _ (x : NetPlan) (in_x : Contains (all_nets apps) x) (c : Chip) (inside : IsInside m c) (on : HasChip m x c) (key : ℕ) (keyed : IsKeyOf x.block key) (o : Out) (valid : IsOutput o) where
+    abbrev T : List Entry
+    T = table_at m tables c
+
+    abbrev w : Bool
+    w = is_wanted x.tree.edges x.targets c o
+
+    -- a row that matches is the net's
+    of_row : (app : LoadedApp) → Contains apps app → (r : List Row) → IsPlainTable m (nets_of app) c r → (row : Row) → Contains r row → matches (entry_of row) key ≡ true → has row.route o ≡ w
+    of_row app in_apps r plain row in_r hit =
+        let back = Contains-permutation r (map row_of plain.originals) row (IsPermutation-sym (map row_of plain.originals) r plain.one_row_each) in_r in
+        let made = Contains-unmap row_of plain.originals row back in
+        let from = from_net m c (nets_of app) plain.originals plain.originals_are made.0 made.1 in
+        let its = from.2 x in
+        let y : NetPlan = get_or (nets_of app) from.0 x in
+        let in_y = in_all app y in_apps (Contains-at (nets_of app) from.0 y (slice_get-get_or (nets_of app) from.0 x from.1)) in
+        let block_is : row.block ≡ y.block = ap (λ (z : Row). z.block) (sym made.2) ∙ its.keys in
+        let y_key : IsKeyOf y.block key = record {
+          fits = keyed.fits;
+          matches = ap (λ (b : Block). bit_and key b.mask) (sym block_is) ∙ (eqb-true (bit_and key row.block.mask) row.block.key hit ∙ ap (λ (b : Block). b.key) block_is);
+        } in
+        let same : y ≡ x = one_net (all_nets apps) disjoint y x in_y in_x key y_key keyed in
+        ap (λ (z : Row). has z.route o) (sym made.2) ∙ (its.outputs o valid ∙ ap (λ (n : NetPlan). is_wanted n.tree.edges n.targets c o) same)
+
+    each : (e : Entry) → Contains T e → matches e key ≡ true → has e.route o ≡ w
+    each e has' hit = elim (cases_Bool (is_taken (all_ranges apps) (rows_region m c) k)) [
+      | inl taken ↦ (
+          let owned = by_taken (all_ranges apps) (rows_region m c) k taken in
+          let f = among_flat (λ (a : LoadedApp). a.ranges) owned.0 apps (contains_among owned.0 (all_ranges apps) owned.1) in
+          let in_apps = among_contains f.0 apps f.1 in
+          let parts = in_parts owned.0 (rows_region m c) k owned.2 in
+          let r = rows_at f.0 in_apps owned.0 (among_contains owned.0 f.0.ranges f.2) c inside parts.0 in
+          let there = part_at T owned.0.place owned.0.size k e parts.1 parts.2 at in
+          let row = unmapped entry_of r.rows (k - owned.0.place) e (sym (ap (λ l. slice_get l (k - owned.0.place)) r.entries) ∙ there) in
+          ap (λ (z : Entry). has z.route o) (sym row.2) ∙ of_row f.0 in_apps r.rows r.plain row.0 (Contains-at r.rows (k - owned.0.place) row.0 row.1) (ap (λ (z : Entry). matches z key) row.2 ∙ hit)
+          )
+      | inr free ↦ (
+          let is_unused = rows.others c k inside (let l = rows.long c inside in let b = has'.1 in omega (arith, l, b)) free in
+          let same : unused ≡ e = some_same (sym is_unused ∙ at) in
+          absurd (false≢true (sym (no_match key) ∙ (ap (λ (z : Entry). matches z key) same ∙ hit)))
+          )
+    ]
+      where
+        k : ℕ
+        k = has'.0
+
+        at : slice_get T k ≡ Some e
+        at = member_at T e has'
+
+        some_same : {A : Type 0} {a b : A} → Some a ≡ Some b → a ≡ b
+        some_same e' = cc
+
+        no_match : (n : ℕ) → matches unused n ≡ false
+        no_match n = ap (λ z. z == 4294967295) (and_zero_r n)
+
+    -- the net has a row
+    there_is : (e : Entry) × Contains T e × (matches e key ≡ true)
+    there_is =
+        let own = owner x in_x in
+        let app : LoadedApp = own.app in
+        let load = loaded_at app own.in_apps in
+        let f = facts_of m app load x own.in_app in
+        let net_is = f.is in
+        let on_net : has_chip m c f.net ≡ true = has_chip-true m c f.net (subst (λ (n : NetPlan). HasChip m n c) (sym net_is) on) in
+        let i : ℕ = index_of m c in
+        let back = chip_back m c inside in
+        let counted : 0 < count_by (has_chip m (chip_of m i)) app.plan.nets =
+        subst (λ (d : Chip). 0 < count_by (has_chip m d) app.plan.nets) (sym back) (some_counted (has_chip m c) app.plan.nets f.net (contains_among f.net app.plan.nets (Contains-at app.plan.nets own.in_app.0 f.net f.at_net)) on_net) in
+        let claimed = chip_claim m app.plan load.plan i (index_below m c inside) counted in
+        let ranged = AllZip-at_first IsRangeFor (claims_of m app.plan) app.ranges load.ranges claimed.1.0 claimed.0 (member_at (claims_of m app.plan) claimed.0 claimed.1) in
+        let range : Range = ranged.0 in
+        let region : range.region ≡ rows_region m c = ranged.2.0 ∙ (claimed.2 ∙ ap (rows_region m) back) in
+        let r = rows_at app own.in_apps range (Contains-at app.ranges claimed.1.0 range ranged.1) c inside region in
+        let j : ℕ = own.in_app.0 in
+        let mine = has_original m c (nets_of app) r.plain.originals r.plain.originals_are j x own.in_app.1 (subst (λ (n : NetPlan). HasChip m n c) (sym own.in_app.2) on) in
+        let row : Row = row_of mine.0 in
+        let in_rows = Contains-permutation (map row_of r.plain.originals) r.rows row r.plain.one_row_each (Contains-map row_of r.plain.originals mine.0 mine.1) in
+        let at_row = member_at r.rows row in_rows in
+        let at_part : slice_get (take range.size (drop range.place T)) in_rows.0 ≡ Some (entry_of row) = ap (λ l. slice_get l in_rows.0) r.entries ∙ slice_get-mapped entry_of r.rows in_rows.0 row at_row in
+        let at_table = of_part T range.place range.size in_rows.0 (entry_of row) at_part in
+        let block_is : row.block ≡ x.block = mine.2.keys ∙ ap (λ (n : NetPlan). n.block) own.in_app.2 in (
+          entry_of row,
+          Contains-at T (range.place + in_rows.0) (entry_of row) at_table,
+          eq-eqb (bit_and key row.block.mask) row.block.key (ap (λ (b : Block). bit_and key b.mask) block_is ∙ (keyed.matches ∙ sym (ap (λ (b : Block). b.key) block_is))),
+        )
+
+    pub routed_there : (port : Port) → has (lookup T key port) o ≡ w
+    routed_there port = let t = there_is in found key o w (default_route port) T each t.0 t.1 t.2
+
+  routes : (x : NetPlan) → Contains (all_nets apps) x → RoutesByTree m tables x
+  routes x in_x c port key o comes keyed valid =
+      let own = owner x in_x in
+      let f = facts_of m own.app (loaded_at own.app own.in_apps) x own.in_app in
+      let on = comes_in_tree m x.tree.root x.tree.edges c port comes in
+      let tree = subst (λ (n : NetPlan). IsRoutingTree m n.tree.root n.tree.edges n.targets) f.is f.valid.tree in
+      let root = subst (λ (n : NetPlan). IsInside m n.tree.root) f.is (subst (IsInside m) (sym f.valid.root) (spot_inside m own.app (loaded_at own.app own.in_apps) f.net.source f.valid.source)) in
+      let inside = chips_inside m x.tree.root x.tree.edges x.targets tree root c on in
+      routed_there x in_x c inside on key keyed o valid port
+
+  pub right_rows : AreRight m tables (all_nets apps)
+  right_rows = All-each (RoutesByTree m tables) (all_nets apps) routes

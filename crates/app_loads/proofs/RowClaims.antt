@@ -1,0 +1,388 @@
+-- How many entries nets need of a chip, counted in the list of the chips of their trees.
+use Rattle.std.proofs.Common.{◌≡◌, ◌≢◌, ℕ, zero, suc, ◌+◌, ◌-◌, ◌*◌, ◌<◌, ◌≤◌, Bool, true, false, ◌||◌, ◌==◌, List, [], ◌∷◌, ◌++◌, get_or, length, refl, sym, ap, ◌∙◌, inl, inr, arith, Option, None, Some, Result, Ok, Err, OnOk, append_assoc, append-nil, count_by, if◌then◌else◌}
+use Rattle.std.specs.List.{list_any, slice_get, All, AllPairs, flat_map, range_with_len, sum_by}
+use Rattle.std.specs.List.Sorted.{IsPermutation}
+use Rattle.std.specs.Option.{option_map_or}
+use Rattle.std.proofs.lemmas.Bool.{cases_Bool, cases_eq, cases_lt, eq-eqb}
+use Rattle.std.proofs.lemmas.Grind.{flat_map-append}
+use Rattle.std.proofs.lemmas.List.Elements.{All-nil, All-cons, All-head, All-tail, All-append}
+use Rattle.std.proofs.lemmas.List.Sorted.{All-permutation, sum_by-IsPermutation}
+use Rattle.std.proofs.lemmas.List.Sums.{sum_by-cons}
+use Rattle.std.proofs.lemmas.Option.{slice_get_within, get_or_from_slice_get}
+use Rattle.list_laws.proofs.Counts.{count_by-append, count_by-cons}
+use Rattle.list_laws.proofs.Pairs.{AllPairs-head, AllPairs-tail}
+use Rattle.list_laws.proofs.Places.{All-at, slice_get_there}
+use Rattle.spin_base.specs.declared.chips.Chip.{Chip}
+use Rattle.spin_base.specs.Equality.{chip_eq}
+use Rattle.spin_base.specs.declared.wants.Memory.{Memory}
+use Rattle.machine_desc.specs.declared.trees.Edge.{Edge}
+use Rattle.machine_desc.specs.Description.{Description}
+use Rattle.machine_desc.specs.Live.{index_of, chip_of, IsInside}
+use Rattle.machine_desc.specs.RoutingTree.{end_of}
+use Rattle.machine_desc.proofs.Far.{far_inside, index_below, same_index, live_ends, live_inside}
+use Rattle.machine_desc.proofs.Live.{index_of-chip_of, chip_of-inside}
+use Rattle.machine_desc.proofs.Same.{chip_eq-from_same, same_chip}
+use Rattle.app_loads.specs.declared.loaded.Claim.{Claim}
+use Rattle.app_loads.specs.declared.plans.AppNet.{AppNet}
+use Rattle.app_loads.specs.Regions.{chip_count}
+use Rattle.app_loads.specs.Claims.{has_chip, entries_claim, row_claim}
+use Rattle.app_loads.specs.Counting.{HasTree, IsRunEnd, place_of, end_places, tree_places, run_claim}
+
+abbrev one_if : Bool → ℕ
+one_if b = if b then 1 else 0
+
+not_equal : (m n : ℕ) → m ≢ n → (m == n) ≡ false
+not_equal m n differ = grind arith
+
+-- ---- counts in parts of a list
+
+-- where a test passes exactly from a place up to another, it passes so often
+count_run : {X : Type 0} (p : X → Bool) (xs : List X) (at end : ℕ) → at ≤ end → end ≤ length xs →
+    ((k : ℕ) (x : X) → k < at → slice_get xs k ≡ Some x → p x ≡ false) →
+    ((k : ℕ) (x : X) → at ≤ k → k < end → slice_get xs k ≡ Some x → p x ≡ true) →
+    ((k : ℕ) (x : X) → end ≤ k → slice_get xs k ≡ Some x → p x ≡ false) → count_by p xs ≡ end - at
+count_run p [] at end le within before inside after = omega (arith, le, within)
+count_run p (x ∷ xs) zero zero le within before inside after =
+    let rest = count_run p xs 0 0 (omega arith) (omega arith) (λ k y less e. absurd (omega (arith, less))) (λ k y low less e. absurd (omega (arith, less))) (λ k y low e. after (suc k) y (omega arith) e) in
+    let one = count_by-cons p x xs in
+    let here : one_if (p x) ≡ 0 = ap one_if (after 0 x (omega arith) refl) in
+    omega (arith, rest, one, here)
+count_run p (x ∷ xs) zero (suc end) le within before inside after =
+    let rest = count_run p xs 0 end (omega arith) (omega (arith, within)) (λ k y less e. absurd (omega (arith, less))) (λ k y low less e. inside (suc k) y (omega arith) (omega (arith, less)) e) (λ k y low e. after (suc k) y (omega (arith, low)) e) in
+    let one = count_by-cons p x xs in
+    let here : one_if (p x) ≡ 1 = ap one_if (inside 0 x (omega arith) (omega arith) refl) in
+    omega (arith, rest, one, here)
+count_run p (x ∷ xs) (suc at) zero le within before inside after = absurd (omega (arith, le))
+count_run p (x ∷ xs) (suc at) (suc end) le within before inside after =
+    let rest = count_run p xs at end (omega (arith, le)) (omega (arith, within)) (λ k y less e. before (suc k) y (omega (arith, less)) e) (λ k y low less e. inside (suc k) y (omega (arith, low)) (omega (arith, less)) e) (λ k y low e. after (suc k) y (omega (arith, low)) e) in
+    let one = count_by-cons p x xs in
+    let here : one_if (p x) ≡ 0 = ap one_if (before 0 x (omega arith) refl) in
+    omega (arith, rest, one, here)
+
+-- ---- numbers one after the other
+
+range_parts : (a n m : ℕ) → range_with_len a (n + m) ≡ range_with_len a n ++ range_with_len (a + n) m
+range_parts a zero m =
+    let z : 0 + m ≡ m = omega arith in
+    let w : a + 0 ≡ a = omega arith in
+    ap (range_with_len a) z ∙ ap (λ b. range_with_len b m) (sym w)
+range_parts a (suc n) m =
+    let s : suc n + m ≡ suc (n + m) = omega arith in
+    let w : a + 1 + n ≡ a + suc n = omega arith in
+    ap (range_with_len a) s ∙ (ap (λ l. a ∷ l) (range_parts (a + 1) n m) ∙ ap (λ b. (a ∷ range_with_len (a + 1) n) ++ range_with_len b m) w)
+
+-- nothing comes of numbers of which each gives nothing
+nothing_of : {Y : Type 0} (f : ℕ → List Y) (a n : ℕ) → ((i : ℕ) → a ≤ i → i < a + n → f i ≡ []) → flat_map f (range_with_len a n) ≡ []
+nothing_of f a zero none = refl
+nothing_of f a (suc n) none =
+    ap (λ l. l ++ flat_map f (range_with_len (a + 1) n)) (none a (omega arith) (omega arith)) ∙ nothing_of f (a + 1) n (λ i low high. none i (omega (arith, low)) (omega (arith, high)))
+
+same_of : {Y : Type 0} (f g : ℕ → List Y) (a n : ℕ) → ((i : ℕ) → a ≤ i → i < a + n → f i ≡ g i) → flat_map f (range_with_len a n) ≡ flat_map g (range_with_len a n)
+same_of f g a zero same = refl
+same_of f g a (suc n) same =
+    ap (λ l. l ++ flat_map f (range_with_len (a + 1) n)) (same a (omega arith) (omega arith))
+    ∙ ap (λ l. g a ++ l) (same_of f g (a + 1) n (λ i low high. same i (omega (arith, low)) (omega (arith, high))))
+
+-- one number more that gives something, after some that give nothing
+up_to : {Y : Type 0} (f : ℕ → List Y) (next c : ℕ) → next ≤ c → ((i : ℕ) → next ≤ i → i < c → f i ≡ []) →
+    flat_map f (range_with_len 0 (c + 1)) ≡ flat_map f (range_with_len 0 next) ++ f c
+up_to f next c le none =
+    let gap : ℕ = c - next in
+    let parts : c + 1 ≡ (next + gap) + 1 = omega (arith, le) in
+    let place : 0 + (next + gap) ≡ c = omega (arith, le) in
+    let start : 0 + next ≡ next = omega arith in
+    ap (λ n. flat_map f (range_with_len 0 n)) parts
+    ∙ (ap (flat_map f) (range_parts 0 (next + gap) 1)
+    ∙ (flat_map-append f (range_with_len 0 (next + gap)) (range_with_len (0 + (next + gap)) 1)
+    ∙ (ap (λ l. flat_map f l ++ flat_map f (range_with_len (0 + (next + gap)) 1)) (range_parts 0 next gap)
+    ∙ (ap (λ l. l ++ flat_map f (range_with_len (0 + (next + gap)) 1)) (flat_map-append f (range_with_len 0 next) (range_with_len (0 + next) gap))
+    ∙ (ap (λ l. (flat_map f (range_with_len 0 next) ++ l) ++ flat_map f (range_with_len (0 + (next + gap)) 1)) (nothing_of f (0 + next) gap (λ i low high. none i (omega (arith, low)) (omega (arith, high, le))))
+    ∙ (ap (λ l. l ++ flat_map f (range_with_len (0 + (next + gap)) 1)) (append-nil (flat_map f (range_with_len 0 next)))
+    ∙ (ap (λ n. flat_map f (range_with_len 0 next) ++ flat_map f (range_with_len n 1)) place ∙ ap (λ l. flat_map f (range_with_len 0 next) ++ l) (append-nil (f c)))))))))
+
+-- ---- runs of equal indices
+
+module _ (m : Description) (chips : List ℕ) where
+  -- so far the chips before the next one have their claims
+  pub record HaveRuns (at : ℕ) (start claims : List Claim) : Type 0 where
+    pub next : ℕ
+    pub within : next ≤ chip_count m
+    pub before : (k x : ℕ) → k < at → slice_get chips k ≡ Some x → x < next
+    pub from : (k x : ℕ) → at ≤ k → slice_get chips k ≡ Some x → next ≤ x
+    pub is : claims ≡ start ++ flat_map (run_claim m chips) (range_with_len 0 next)
+
+  none_there : (i : ℕ) → ((k x : ℕ) → slice_get chips k ≡ Some x → x ≢ i) → run_claim m chips i ≡ []
+  none_there i other = ap (entries_claim m i) (count_run (λ k. k == i) chips 0 0 (omega arith) (omega arith) (λ k x less e. absurd (omega (arith, less))) (λ k x low less e. absurd (omega (arith, less))) (λ k x low e. not_equal x i (other k x e)))
+
+  pub no_runs : (start claims : List Claim) → claims ≡ start → HaveRuns 0 start claims
+  no_runs start claims is = record {
+    next = 0;
+    within = omega arith;
+    before = λ k x less e. absurd (omega (arith, less));
+    from = λ k x low e. omega arith;
+    is = is ∙ sym (append-nil start);
+  }
+
+  module _ (sorted : AllPairs (λ a b. a ≤ b) chips) (inside : All (λ i. i < chip_count m) chips) where
+    in_order : (j k x y : ℕ) → j < k → slice_get chips j ≡ Some x → slice_get chips k ≡ Some y → x ≤ y
+    in_order j k x y less at_j at_k =
+        let le = sorted j k x less (slice_get_within chips k y at_k) in
+        let first = get_or_from_slice_get chips j x x at_j in
+        let second = get_or_from_slice_get chips k y x at_k in
+        omega (arith, le, first, second)
+
+    pub run_more : (at end c : ℕ) (start claims after : List Claim) → slice_get chips at ≡ Some c → IsRunEnd chips at end → HaveRuns at start claims →
+        after ≡ claims ++ entries_claim m c (end - at) → HaveRuns end start after
+    run_more at end c start claims after here run so_far new = record {
+      next = c + 1;
+      within = let w = All-at (λ i. i < chip_count m) chips at c inside here in omega (arith, w);
+      before = λ k x less e. elim (cases_lt k at) [
+        | inl earlier ↦ let w = so_far.before k x earlier e in let v = so_far.from at c (omega arith) here in omega (arith, w, v)
+        | inr later ↦ let w = run.same k x c later less e here in omega (arith, w)
+      ];
+      from = λ k x low e. beyond k x low e;
+      is = new
+          ∙ (ap (λ l. l ++ entries_claim m c (end - at)) so_far.is
+          ∙ (append_assoc start (flat_map (run_claim m chips) (range_with_len 0 so_far.next)) (entries_claim m c (end - at))
+          ∙ ap (λ l. start ++ l) (ap (λ n. flat_map (run_claim m chips) (range_with_len 0 so_far.next) ++ entries_claim m c n) (sym counted)
+          ∙ sym (up_to (run_claim m chips) so_far.next c (so_far.from at c (omega arith) here) (λ i low high. none_there i (λ k x e. apart i low high k x e))))));
+    }
+      where
+        after_at : at < end
+        after_at = run.after
+
+        -- the item at the end is greater, and so are all after it
+        at_end : (x : ℕ) → slice_get chips end ≡ Some x → c < x
+        at_end x e =
+            let le = in_order at end c x after_at here e in
+            elim (cases_eq x c) [
+              | inl same ↦ absurd (run.other x c e here same)
+              | inr differ ↦ omega (arith, le, differ)
+            ]
+
+        beyond : (k x : ℕ) → end ≤ k → slice_get chips k ≡ Some x → c + 1 ≤ x
+        beyond k x low e = elim (cases_eq k end) [
+          | inl same ↦ let w = at_end x (ap (slice_get chips) (sym same) ∙ e) in omega (arith, w)
+          | inr more ↦
+              let there = slice_get_there chips end (let w = slice_get_within chips k x e in omega (arith, low, more, w)) in
+              let w = at_end there.0 there.1 in
+              let v = in_order end k there.0 x (omega (arith, low, more)) there.1 e in
+              omega (arith, w, v)
+        ]
+
+        counted : count_by (λ k. k == c) chips ≡ end - at
+        counted = count_run (λ k. k == c) chips at end (omega (arith, after_at)) run.within
+            (λ k x less e. let w = so_far.before k x less e in let v = so_far.from at c (omega arith) here in not_equal x c (λ same. absurd (omega (arith, w, v, same))))
+            (λ k x low high e. eq-eqb x c (run.same k x c low high e here))
+            (λ k x low e. let w = beyond k x low e in not_equal x c (λ same. absurd (omega (arith, w, same))))
+
+        -- no chip between
+        apart : (i : ℕ) → so_far.next ≤ i → i < c → (k x : ℕ) → slice_get chips k ≡ Some x → x ≢ i
+        apart i low high k x e same = elim (cases_lt k at) [
+          | inl earlier ↦ let w = so_far.before k x earlier e in absurd (omega (arith, w, same, low))
+          | inr later ↦ elim (cases_lt k end) [
+            | inl within ↦ let w = run.same k x c later within e here in absurd (omega (arith, w, same, high))
+            | inr past ↦ let w = beyond k x past e in absurd (omega (arith, w, same, high))
+          ]
+        ]
+
+    pub all_runs : (at : ℕ) (start claims : List Claim) → length chips ≤ at → HaveRuns at start claims → claims ≡ start ++ flat_map (run_claim m chips) (range_with_len 0 (chip_count m))
+    all_runs at start claims end so_far =
+        so_far.is
+        ∙ ap (λ l. start ++ l) (
+        let gap : ℕ = chip_count m - so_far.next in
+        let le = so_far.within in
+        let parts : so_far.next + gap ≡ chip_count m = omega (arith, le) in
+        sym (
+        ap (λ n. flat_map (run_claim m chips) (range_with_len 0 n)) (sym parts)
+        ∙ (ap (flat_map (run_claim m chips)) (range_parts 0 so_far.next gap)
+        ∙ (flat_map-append (run_claim m chips) (range_with_len 0 so_far.next) (range_with_len (0 + so_far.next) gap)
+        ∙ (ap (λ l. flat_map (run_claim m chips) (range_with_len 0 so_far.next) ++ l) (nothing_of (run_claim m chips) (0 + so_far.next) gap
+        (λ i low high. none_there i (λ k x e same. let w = so_far.before k x (let v = slice_get_within chips k x e in omega (arith, v, end)) e in absurd (omega (arith, w, same, low)))))
+        ∙ append-nil (flat_map (run_claim m chips) (range_with_len 0 so_far.next)))))))
+
+-- ---- chips of trees
+
+one_case : (m : Description) (i : ℕ) (c d : Chip) → c ≡ chip_of m i → i < m.width * m.height → IsInside m d → (index_of m d == i) ≡ chip_eq c d
+one_case m i c d is below inside = elim (cases_eq (index_of m d) i) [
+  | inl same ↦
+      let equal : c ≡ d = is ∙ same_index m (chip_of m i) d (chip_of-inside m i below) inside (index_of-chip_of m i ∙ sym same) in
+      eq-eqb (index_of m d) i same ∙ sym (chip_eq-from_same c d equal)
+  | inr other ↦ not_equal (index_of m d) i other ∙ sym (not_chip (λ equal. other (ap (index_of m) (sym equal ∙ is) ∙ index_of-chip_of m i)))
+]
+  where
+    not_chip : (c ≡ d → ⊥) → chip_eq c d ≡ false
+    not_chip differ = elim (cases_Bool (chip_eq c d)) [
+      | inr none ↦ none
+      | inl yes' ↦ absurd (differ (chip_eq-to_same c d yes'))
+    ]
+      where
+        chip_eq-to_same : (a b : Chip) → chip_eq a b ≡ true → a ≡ b
+        chip_eq-to_same a b e = same_chip a b (grind arith) (grind arith)
+
+pub edges_in : (m : Description) (net : AppNet) → HasTree m net → All (λ (e : Edge). IsInside m e.chip) net.tree.edges
+edges_in m net has k d less = live_inside m (get_or net.tree.edges k d).chip (live_ends m (get_or net.tree.edges k d).chip (get_or net.tree.edges k d).dir (has.tree.edges_live k d less)).2
+
+module _ (m : Description) (i : ℕ) (below : i < m.width * m.height) where
+  abbrev c : Chip
+  c = chip_of m i
+
+  abbrev hits : Edge → Bool
+  hits e = option_map_or (chip_eq c) (end_of m e) false
+
+  abbrev is_i : ℕ → Bool
+  is_i k = k == i
+
+  -- an edge whose end is inside counts where it leads to the chip
+  one_edge : (e : Edge) → IsInside m e.chip → count_by is_i (end_places m e) ≡ one_if (hits e)
+  one_edge e inside = by_end (end_of m e) refl
+    where
+      by_end : (o : Option Chip) → end_of m e ≡ o → count_by is_i (place_of m o) ≡ one_if (option_map_or (chip_eq c) o false)
+      by_end None is = refl
+      by_end (Some d) is =
+          let one = count_by-cons is_i (index_of m d) [] in
+          let same : one_if (index_of m d == i) ≡ one_if (chip_eq c d) = ap one_if (one_case m i c d refl below (far_inside m e.chip d e.dir inside is)) in
+          let z = zero_rest in
+          omega (arith, one, same, z)
+        where
+          zero_rest : count_by is_i [] ≡ 0
+          zero_rest = refl
+
+  -- of edges that lead to different chips at most one counts
+  edges_count : (es : List Edge) → All (λ (e : Edge). IsInside m e.chip) es → AllPairs (λ e f. end_of m e ≢ end_of m f) es →
+      count_by is_i (flat_map (end_places m) es) ≡ one_if (list_any hits es)
+  edges_count [] inside differ = refl
+  edges_count (e ∷ es) inside differ =
+      let one = one_edge e (All-head (λ (e : Edge). IsInside m e.chip) e es inside) in
+      let rest = edges_count es (All-tail (λ (e : Edge). IsInside m e.chip) e es inside) (AllPairs-tail (λ e f. end_of m e ≢ end_of m f) e es differ) in
+      let both = count_by-append is_i (end_places m e) (flat_map (end_places m) es) in
+      by_hit (hits e) refl one rest both
+    where
+      none_after : hits e ≡ true → list_any hits es ≡ false
+      none_after hit = none_of es (AllPairs-head (λ e f. end_of m e ≢ end_of m f) e es differ)
+        where
+          to_end : (f : Edge) → hits f ≡ true → end_of m f ≡ Some c
+          to_end f h = by_end (end_of m f) refl h
+            where
+              by_end : (o : Option Chip) → end_of m f ≡ o → option_map_or (chip_eq c) o false ≡ true → o ≡ Some c
+              by_end None is e' = cc
+              by_end (Some d) is e' = ap Some (sym (eq_chip c d e'))
+                where
+                  eq_chip : (a b : Chip) → chip_eq a b ≡ true → a ≡ b
+                  eq_chip a b e'' = same_chip a b (grind arith) (grind arith)
+
+          none_of : (fs : List Edge) → All (λ f. end_of m e ≢ end_of m f) fs → list_any hits fs ≡ false
+          none_of [] all = refl
+          none_of (f ∷ fs) all = elim (cases_Bool (hits f)) [
+            | inl also ↦ absurd (All-head (λ f. end_of m e ≢ end_of m f) f fs all (to_end e hit ∙ sym (to_end f also)))
+            | inr not_f ↦ ap (λ b. b || list_any hits fs) not_f ∙ none_of fs (All-tail (λ f. end_of m e ≢ end_of m f) f fs all)
+          ]
+
+      by_hit : (b : Bool) → hits e ≡ b → count_by is_i (end_places m e) ≡ one_if (hits e) → count_by is_i (flat_map (end_places m) es) ≡ one_if (list_any hits es) →
+          count_by is_i (end_places m e ++ flat_map (end_places m) es) ≡ count_by is_i (end_places m e) + count_by is_i (flat_map (end_places m) es) →
+          count_by is_i (end_places m e ++ flat_map (end_places m) es) ≡ one_if (hits e || list_any hits es)
+      by_hit true hit one rest both =
+          let here : one_if (hits e) ≡ 1 = ap one_if hit in
+          let none : one_if (list_any hits es) ≡ 0 = ap one_if (none_after hit) in
+          let all : one_if (hits e || list_any hits es) ≡ 1 = ap (λ b. one_if (b || list_any hits es)) hit in
+          omega (arith, one, rest, both, here, none, all)
+      by_hit false miss one rest both =
+          let here : one_if (hits e) ≡ 0 = ap one_if miss in
+          let all : one_if (hits e || list_any hits es) ≡ one_if (list_any hits es) = ap (λ b. one_if (b || list_any hits es)) miss in
+          omega (arith, one, rest, both, here, all)
+
+  -- a net's tree has the chip at most once
+  net_count : (net : AppNet) → HasTree m net → count_by is_i (tree_places m net) ≡ one_if (has_chip m c net)
+  net_count net has =
+      let rest = edges_count net.tree.edges (edges_in m net has) has.tree.one_into_each in
+      let all = count_by-cons is_i (index_of m net.tree.root) (flat_map (end_places m) net.tree.edges) in
+      let root : one_if (index_of m net.tree.root == i) ≡ one_if (chip_eq c net.tree.root) = ap one_if (one_case m i c net.tree.root refl below has.root) in
+      by_root (chip_eq c net.tree.root) refl rest all root
+    where
+      es : List Edge
+      es = net.tree.edges
+
+      none_into : chip_eq c net.tree.root ≡ true → list_any hits net.tree.edges ≡ false
+      none_into at = none_of net.tree.edges has.tree.none_into_root
+        where
+          eq_chip : (a b : Chip) → chip_eq a b ≡ true → a ≡ b
+          eq_chip a b e'' = same_chip a b (grind arith) (grind arith)
+
+          none_of : (fs : List Edge) → All (λ f. end_of m f ≢ Some net.tree.root) fs → list_any hits fs ≡ false
+          none_of [] all = refl
+          none_of (f ∷ fs) all = elim (cases_Bool (hits f)) [
+            | inl also ↦ absurd (All-head (λ f. end_of m f ≢ Some net.tree.root) f fs all (by_end (end_of m f) also))
+            | inr not_f ↦ ap (λ b. b || list_any hits fs) not_f ∙ none_of fs (All-tail (λ f. end_of m f ≢ Some net.tree.root) f fs all)
+          ]
+            where
+              by_end : (o : Option Chip) → option_map_or (chip_eq c) o false ≡ true → o ≡ Some net.tree.root
+              by_end None e' = cc
+              by_end (Some d) e' = ap Some (sym (eq_chip c d e') ∙ eq_chip c net.tree.root at)
+
+      by_root : (b : Bool) → chip_eq c net.tree.root ≡ b → count_by is_i (flat_map (end_places m) net.tree.edges) ≡ one_if (list_any hits net.tree.edges) →
+          count_by is_i (tree_places m net) ≡ one_if (index_of m net.tree.root == i) + count_by is_i (flat_map (end_places m) net.tree.edges) →
+          one_if (index_of m net.tree.root == i) ≡ one_if (chip_eq c net.tree.root) →
+          count_by is_i (tree_places m net) ≡ one_if (chip_eq c net.tree.root || list_any hits net.tree.edges)
+      by_root true at rest all root =
+          let here : one_if (chip_eq c net.tree.root) ≡ 1 = ap one_if at in
+          let none : one_if (list_any hits net.tree.edges) ≡ 0 = ap one_if (none_into at) in
+          let both : one_if (chip_eq c net.tree.root || list_any hits net.tree.edges) ≡ 1 = ap (λ b. one_if (b || list_any hits net.tree.edges)) at in
+          omega (arith, rest, all, root, here, none, both)
+      by_root false off rest all root =
+          let here : one_if (chip_eq c net.tree.root) ≡ 0 = ap one_if off in
+          let both : one_if (chip_eq c net.tree.root || list_any hits net.tree.edges) ≡ one_if (list_any hits net.tree.edges) = ap (λ b. one_if (b || list_any hits net.tree.edges)) off in
+          omega (arith, rest, all, root, here, both)
+
+  nets_count : (nets : List AppNet) → All (HasTree m) nets → count_by is_i (flat_map (tree_places m) nets) ≡ count_by (has_chip m c) nets
+  nets_count [] all = refl
+  nets_count (net ∷ nets) all =
+      let one = net_count net (All-head (HasTree m) net nets all) in
+      let rest = nets_count nets (All-tail (HasTree m) net nets all) in
+      let both = count_by-append is_i (tree_places m net) (flat_map (tree_places m) nets) in
+      let cons = count_by-cons (has_chip m c) net nets in
+      omega (arith, one, rest, both, cons)
+
+as_sum : {X : Type 0} (p : X → Bool) (xs : List X) → sum_by (λ x. one_if (p x)) xs ≡ count_by p xs
+as_sum p [] = refl
+as_sum p (x ∷ xs) = sum_by-cons (λ y. one_if (p y)) x xs ∙ (ap (λ n. one_if (p x) + n) (as_sum p xs) ∙ sym (count_by-cons p x xs))
+
+-- the same in order
+count_permuted : {X : Type 0} (p : X → Bool) (xs ys : List X) → IsPermutation xs ys → count_by p ys ≡ count_by p xs
+count_permuted p xs ys same = sym (as_sum p ys) ∙ (sum_by-IsPermutation (λ x. one_if (p x)) xs ys same ∙ as_sum p xs)
+
+pub rows_counted : (m : Description) (nets : List AppNet) (chips : List ℕ) (claims start : List Claim) → All (HasTree m) nets → IsPermutation (flat_map (tree_places m) nets) chips →
+    claims ≡ start ++ flat_map (run_claim m chips) (range_with_len 0 (chip_count m)) → claims ≡ start ++ flat_map (row_claim m nets) (range_with_len 0 (chip_count m))
+rows_counted m nets chips claims start trees same is =
+    is ∙ ap (λ l. start ++ l) (same_of (run_claim m chips) (row_claim m nets) 0 (chip_count m)
+    (λ i low high. ap (entries_claim m i) (count_permuted (λ k. k == i) (flat_map (tree_places m) nets) chips same ∙ nets_count m i (omega (arith, high)) nets trees)))
+
+pub rows_counted_in : (m : Description) (nets : List AppNet) (chips lent : List ℕ) (claims start : List Claim) (r : Result (Unit {0}) Memory) → All (HasTree m) nets → IsPermutation (flat_map (tree_places m) nets) chips → lent ≡ chips →
+    OnOk r (claims ≡ start ++ flat_map (run_claim m lent) (range_with_len 0 (chip_count m))) → OnOk r (claims ≡ start ++ flat_map (row_claim m nets) (range_with_len 0 (chip_count m)))
+rows_counted_in m nets chips lent claims start (Ok u) trees same is claimed =
+    rows_counted m nets chips claims start trees same (claimed ∙ ap (λ l. start ++ flat_map (run_claim m l) (range_with_len 0 (chip_count m))) is)
+rows_counted_in m nets chips lent claims start (Err e) trees same is claimed = tt
+
+-- each of the chips is inside the grid
+pub places_inside : (m : Description) (nets : List AppNet) (chips : List ℕ) → All (HasTree m) nets → IsPermutation (flat_map (tree_places m) nets) chips → All (λ i. i < chip_count m) chips
+places_inside m nets chips trees same = All-permutation (λ i. i < chip_count m) (flat_map (tree_places m) nets) chips same (of_nets nets trees)
+  where
+    of_end : (e : Edge) → IsInside m e.chip → All (λ i. i < chip_count m) (end_places m e)
+    of_end e inside = by_end (end_of m e) refl
+      where
+        by_end : (o : Option Chip) → end_of m e ≡ o → All (λ i. i < chip_count m) (place_of m o)
+        by_end None is = All-nil (λ i. i < chip_count m)
+        by_end (Some d) is = All-cons (λ i. i < chip_count m) (index_of m d) [] (index_below m d (far_inside m e.chip d e.dir inside is)) (All-nil (λ i. i < chip_count m))
+
+    of_edges : (es : List Edge) → All (λ (e : Edge). IsInside m e.chip) es → All (λ i. i < chip_count m) (flat_map (end_places m) es)
+    of_edges [] inside = All-nil (λ i. i < chip_count m)
+    of_edges (e ∷ es) inside =
+        All-append (λ i. i < chip_count m) (end_places m e) (flat_map (end_places m) es) (of_end e (All-head (λ (e : Edge). IsInside m e.chip) e es inside))
+        (of_edges es (All-tail (λ (e : Edge). IsInside m e.chip) e es inside))
+
+    of_nets : (ns : List AppNet) → All (HasTree m) ns → All (λ i. i < chip_count m) (flat_map (tree_places m) ns)
+    of_nets [] all = All-nil (λ i. i < chip_count m)
+    of_nets (net ∷ ns) all =
+        let has = All-head (HasTree m) net ns all in
+        All-append (λ i. i < chip_count m) (tree_places m net) (flat_map (tree_places m) ns)
+        (All-cons (λ i. i < chip_count m) (index_of m net.tree.root) (flat_map (end_places m) net.tree.edges) (index_below m net.tree.root has.root) (of_edges net.tree.edges (edges_in m net has)))
+        (of_nets ns (All-tail (HasTree m) net ns all))

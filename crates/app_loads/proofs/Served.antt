@@ -1,0 +1,64 @@
+-- What the claims of a plan ask for can be served, and what follows where they are.
+use Rattle.std.proofs.Common.{◌≡◌, ℕ, ◌+◌, ◌%◌, ◌^◌, ◌≤◌, List, ◌++◌, take, length, sym, ap, ◌∙◌, subst, arith, Some}
+use Rattle.std.specs.List.{slice_get, All, Contains}
+use Rattle.std.proofs.Math.Pow.{pow_mono}
+use Rattle.std.proofs.lemmas.Nat.{pow_pos}
+use Rattle.std.proofs.lemmas.List.{length-map}
+use Rattle.std.proofs.lemmas.Option.{slice_get_within, slice_get-get_or}
+use Rattle.list_laws.proofs.Members.{Contains-at}
+use Rattle.list_laws.proofs.Places.{All-each, slice_get_there}
+use Rattle.machine_desc.specs.Description.{Description}
+use Rattle.range_store.specs.Views.{Region}
+use Rattle.app_loads.specs.declared.loaded.Claim.{Claim}
+use Rattle.app_loads.specs.declared.loaded.Range.{Range}
+use Rattle.app_loads.specs.declared.plans.AppPlan.{AppPlan}
+use Rattle.app_loads.specs.Claims.{AreServed, IsLeastOpen, claims_of}
+use Rattle.app_loads.specs.Joining.{AreKeyed}
+use Rattle.app_loads.specs.Plans.{IsPlan}
+use Rattle.app_loads.specs.Regions.{chip_count, region_size}
+use Rattle.app_loads.specs.Taking.{AreRegionsOf, CanServe, IsFair, free_of}
+use Rattle.app_loads.proofs.ClaimCases.{facts, net_claim}
+
+pub can_serve : (m : Description) (plan : AppPlan) (regions : List Region) (claims : List Claim) → IsPlan m plan → AreRegionsOf m regions → claims ≡ claims_of m plan → CanServe claims regions
+can_serve m plan regions claims valid own is = (m, own, subst (All (IsFair m (length regions))) (sym is) (All-each (IsFair m (length regions)) (claims_of m plan) fair))
+  where
+    long : length regions ≡ 1 + (chip_count m + chip_count m)
+    long = sym (length-map regions free_of) ∙ own.free.all
+
+    fair : (claim : Claim) → Contains (claims_of m plan) claim → IsFair m (length regions) claim
+    fair claim has = subst (λ n. IsFair m n claim) (sym long) (facts m plan valid claim has).fair
+
+module _ (m : Description) (plan : AppPlan) (valid : IsPlan m plan) (taken ranges : List Range) (served : AreServed m taken (claims_of m plan) ranges) where
+  -- a claim, and what it got
+  pub got_at : (i : ℕ) (claim : Claim) → slice_get (claims_of m plan) i ≡ Some claim → (range : Range) × (slice_get ranges i ≡ Some range) × IsLeastOpen m (taken ++ take i ranges) claim range
+  got_at i claim is =
+      let range = slice_get_there ranges i (let w = slice_get_within (claims_of m plan) i claim is in let l = served.all in omega (arith, w, l)) in
+      (range.0, range.1, served.first.each i claim range.0 is range.1)
+
+  pub keyed_from : AreKeyed (claims_of m plan) ranges (length plan.nets)
+  keyed_from = record {
+    each = λ i net claim range is its got.
+        let f = (facts m plan valid claim (Contains-at (claims_of m plan) i claim is)).keyed net its in
+        let open' = served.first.each i claim range is got in
+        let size : range.size ≡ claim.size = open'.size in
+        let least : 2 ^ f.e ≤ 2 ^ 32 = pow_mono f.few in
+        let pos = pow_pos f.e in
+        let claimed = f.size in
+        let within = subst (λ r. range.place + claim.size ≤ r) (ap (region_size m) f.region) open'.may.within in
+        let below = slice_get_within plan.nets net f.net f.is in (
+          record {
+            power = (f.e, size ∙ claimed);
+            few = omega (arith, size, claimed, least);
+            aligned = subst (λ s. range.place % s ≡ 0) (sym size) (f.aligned range.place open'.may.aligned open'.may.fixed);
+            small = omega (arith, within, pos, claimed);
+          },
+          below,
+        );
+    all = λ net below.
+        let found = net_claim m plan valid net below in
+        (found.1.0, found.0, at_place found.0 found.1, found.2);
+    long = served.all;
+  }
+    where
+      at_place : (claim : Claim) (has : Contains (claims_of m plan) claim) → slice_get (claims_of m plan) has.0 ≡ Some claim
+      at_place claim has = slice_get-get_or (claims_of m plan) has.0 claim has.1 ∙ ap Some has.2

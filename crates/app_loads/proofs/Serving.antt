@@ -1,0 +1,539 @@
+-- Ranges taken one after the other for claims, and given back.
+use Rattle.std.proofs.Common.{◌≡◌, ◌≢◌, ℕ, ◌+◌, ◌%◌, ◌<◌, ◌≤◌, zero, suc, Bool, true, false, not, ◌&&◌, ◌||◌, ◌⊎◌, ◌==◌, leb, ltb, List, [], ◌∷◌, ◌++◌, take, drop, get_or, length, map, refl, sym, ap, ◌∙◌, subst, inl, inr, arith, Option, None, Some, IfSome, append_assoc, append-nil, count_by, if◌then◌else◌}
+use Rattle.std.specs.List.{slice_get, slice_set, All, AllPairs, Contains}
+use Rattle.std.proofs.lemmas.Bool.{cases_Bool, cases_eq, eqb-true, eq-eqb, and_parts, and_from, ltb-true, lt-ltb}
+use Rattle.std.proofs.lemmas.List.{length-set, length_push}
+use Rattle.std.proofs.lemmas.List.Elements.{All-nil, All-cons, All-head, All-tail, All-append}
+use Rattle.std.proofs.lemmas.List.Folds.{list_any-append}
+use Rattle.std.proofs.lemmas.List.Sums.{count_by-le-length}
+use Rattle.std.proofs.lemmas.Option.{slice_get_within, slice_get-get_or}
+use Rattle.list_laws.proofs.Counts.{count_by-append, count_by-cons}
+use Rattle.list_laws.proofs.Pairs.{AllPairs-left, AllPairs-right, AllPairs-across, AllPairs-append, AllPairs-head, AllPairs-tail}
+use Rattle.list_laws.proofs.Places.{All-each, slice_get-mapped, slice_get-push_cases, slice_get-set_same, slice_get-set_other}
+use Rattle.list_laws.proofs.Members.{Contains-first, any_among, among_any, contains_among, among_contains, Among}
+use Rattle.machine_desc.specs.Description.{Description}
+use Rattle.range_store.specs.Views.{Region}
+use Rattle.range_store.specs.Regions.{AreRuns, is_free, in_range}
+use Rattle.app_loads.specs.declared.answers.LoadErr.{LoadErr}
+use Rattle.app_loads.specs.declared.answers.LoadErr.TheVariants.{Memory}
+use Rattle.app_loads.specs.declared.loaded.Claim.{Claim}
+use Rattle.app_loads.specs.declared.loaded.Range.{Range}
+use Rattle.app_loads.specs.Host.{Free}
+use Rattle.app_loads.specs.Regions.{AreFreeBeside, IsFreeBeside, AreApart, has_place, is_taken, region_size}
+use Rattle.app_loads.specs.Claims.{IsLeastOpen, IsOpen, IsRefusalDue}
+use Rattle.app_loads.specs.Taking.{free_of, frees, range_at, Serves, Refuses, IsFair, IsWithin, HaveRoom, CanServe, HaveServed, AreTaken, AreTakenAlways, AreServedAlways, IsDueAlways}
+use Rattle.app_loads.proofs.Holes.{clash}
+
+-- ---- lists
+
+set_long : {X : Type 0} (xs : List X) (i : ℕ) (y : X) → length (slice_set xs i y) ≡ length xs
+set_long xs i y = length-set xs i y
+
+pub map_set : {X Y : Type 0} (f : X → Y) (xs : List X) (i : ℕ) (y : X) → map f (slice_set xs i y) ≡ slice_set (map f xs) i (f y)
+map_set f [] i y = refl
+map_set f (x ∷ xs) zero y = refl
+map_set f (x ∷ xs) (suc i) y = ap (λ l. f x ∷ l) (map_set f xs i y)
+
+pub pushed_long : {X : Type 0} (xs ys : List X) (y : X) → ys ≡ xs ++ y ∷ [] → length ys ≡ length xs + 1
+pushed_long xs ys y is = let one = length_push xs y in let all = ap length is in omega (arith, one, all)
+
+-- an item of a list in which one was written
+pub set_cases : {X : Type 0} (xs : List X) (i j : ℕ) (x y z : X) → slice_get xs i ≡ Some x → slice_get (slice_set xs i y) j ≡ Some z →
+    ((j ≡ i) × (z ≡ y)) ⊎ ((j ≢ i) × (slice_get xs j ≡ Some z))
+set_cases xs i j x y z at e = elim (cases_eq j i) [
+  | inl same ↦ inl (same, let w : Some z ≡ Some y = sym e ∙ (ap (slice_get (slice_set xs i y)) same ∙ slice_get-set_same xs i x y at) in some_same w)
+  | inr other ↦ inr (other, sym (slice_get-set_other xs i j y other) ∙ e)
+]
+  where
+    some_same : {A : Type 0} {a b : A} → Some a ≡ Some b → a ≡ b
+    some_same e = cc
+
+-- an item of mapped list
+pub unmapped : {X Y : Type 0} (f : X → Y) (xs : List X) (i : ℕ) (y : Y) → slice_get (map f xs) i ≡ Some y → (x : X) × (slice_get xs i ≡ Some x) × (f x ≡ y)
+unmapped f [] i y e = cc
+unmapped f (x ∷ xs) zero y e = (x, refl, let w : f x ≡ y = cc in w)
+unmapped f (x ∷ xs) (suc i) y e = unmapped f xs i y e
+
+-- ---- what is taken
+
+taken_of_other : (range : Range) (taken : List Range) (region k : ℕ) → range.region ≢ region → is_taken (taken ++ range ∷ []) region k ≡ is_taken taken region k
+taken_of_other range taken region k other =
+    list_any-append (has_place region k) taken (range ∷ [])
+    ∙ (ap (λ b. is_taken taken region k || ((b && in_range range.place range.size k) || false)) (not_equal range.region region other) ∙ or_none (is_taken taken region k))
+  where
+    not_equal : (m n : ℕ) → m ≢ n → (m == n) ≡ false
+    not_equal m n differ = grind arith
+
+    or_none : (b : Bool) → (b || (false || false)) ≡ b
+    or_none true = refl
+    or_none false = refl
+
+-- a place of one of the ranges
+pub taken_by : (ranges : List Range) (region k : ℕ) (range : Range) → Contains ranges range → has_place region k range ≡ true → is_taken ranges region k ≡ true
+taken_by ranges region k range has at = among_any (has_place region k) range ranges (contains_among range ranges has) at
+
+-- and the other way round
+pub by_taken : (ranges : List Range) (region k : ℕ) → is_taken ranges region k ≡ true → (range : Range) × Contains ranges range × (has_place region k range ≡ true)
+by_taken ranges region k e = let found = any_among (has_place region k) ranges e in (found.0, among_contains found.0 ranges found.1, found.2)
+
+-- the free places beside one range more
+free_beside_more : (m : Description) (taken : List Range) (old : List Region) (claim : Claim) (before after : Region) (range : Range) → range.region ≡ claim.region →
+    AreFreeBeside m taken (frees old) → slice_get old claim.region ≡ Some before → IsFreeBeside m (taken ++ range ∷ []) claim.region (free_of after) →
+    AreFreeBeside m (taken ++ range ∷ []) (frees (slice_set old claim.region after))
+free_beside_more m taken old claim before after range its beside at here = record {
+  all = ap length (map_set free_of old claim.region after) ∙ (set_long (frees old) claim.region (free_of after) ∙ beside.all);
+  each = λ region f is.
+      elim (set_cases (frees old) claim.region region (free_of before) (free_of after) f (slice_get-mapped free_of old claim.region before at) (sym (ap (λ l. slice_get l region) (map_set free_of old claim.region after)) ∙ is)) [
+        | inl mine ↦ subst (λ (g : Free). IsFreeBeside m (taken ++ range ∷ []) region g) (sym mine.1) (subst (λ r. IsFreeBeside m (taken ++ range ∷ []) r (free_of after)) (sym mine.0) here)
+        | inr other ↦
+            let was = beside.each region f other.1 in
+            record {
+              size = was.size;
+              runs = was.runs;
+              free = λ k. was.free k ∙ ap (λ b. ltb k f.size && not b) (sym (taken_of_other range taken region k (λ e. other.0 (sym e ∙ its))));
+            }
+      ];
+}
+
+-- a range that is open for a claim shares no place with those that are taken
+apart_from_open : (m : Description) (taken : List Range) (claim : Claim) (place : ℕ) → IsOpen m taken claim place → (other : Range) → Contains taken other → AreApart other (range_at claim place)
+apart_from_open m taken claim place may other has region k in_other in_mine =
+    let parts = and_parts (claim.region == region) (in_range place claim.size k) in_mine in
+    let region_is : claim.region ≡ region = eqb-true claim.region region parts.0 in
+    clash (taken_by taken claim.region k other has (subst (λ r. has_place r k other ≡ true) (sym region_is) in_other)) (may.untaken k parts.1)
+
+-- one item at the back, apart from all
+pairs_more : (taken : List Range) (range : Range) → AllPairs AreApart taken → ((other : Range) → Contains taken other → AreApart other range) → AllPairs AreApart (taken ++ range ∷ [])
+pairs_more taken range pairs apart =
+    AllPairs-append AreApart taken (range ∷ []) pairs (one range) (All-each (λ a. All (AreApart a) (range ∷ [])) taken (λ a has. All-cons (AreApart a) range [] (apart a has) (All-nil (AreApart a))))
+  where
+    one : (r : Range) → AllPairs AreApart (r ∷ [])
+    one r i j d before within = absurd (omega (arith, before, within))
+
+-- ---- one claim more is served
+
+module _ (claims : List Claim) (old mid : List Region) (ranges : List Range) (so_far : HaveServed claims old ranges mid)
+    (claim : Claim) (is : slice_get claims (length ranges) ≡ Some claim) (before : Region) (at : slice_get mid claim.region ≡ Some before) where
+  -- what was taken
+  beside_in : (m : Description) (taken : List Range) → AreFreeBeside m taken (frees mid) → IsFreeBeside m taken claim.region (free_of before)
+  beside_in m taken free = free.each claim.region (free_of before) (slice_get-mapped free_of mid claim.region before at)
+
+  take_whole : (l : List Range) → take (length l) l ≡ l
+  take_whole [] = refl
+  take_whole (x ∷ xs) = ap (λ r. x ∷ r) (take_whole xs)
+
+  take_before : (l : List Range) (x : Range) (i : ℕ) → i ≤ length l → take i (l ++ x ∷ []) ≡ take i l
+  take_before l x zero le = refl
+  take_before [] x (suc i) le = absurd (omega (arith, le))
+  take_before (y ∷ ys) x (suc i) le = ap (λ r. y ∷ r) (take_before ys x i (omega (arith, le)))
+
+  pub served_more : (after : Region) (place : ℕ) (new : List Region) → 0 < claim.size → new ≡ slice_set mid claim.region after → Serves claim before after place → length ranges + 1 ≤ after.spare →
+      HaveServed claims old (ranges ++ range_at claim place ∷ []) new
+  served_more after place new some set serves spare = record {
+    served = λ m taken apart free.
+        let was = so_far.served m taken apart free in
+        let t = so_far.taken m taken apart free in
+        let now = serves m (taken ++ ranges) (beside_in m (taken ++ ranges) t.free) in
+        record {
+          few = let w = slice_get_within claims (length ranges) claim is in omega (arith, w, length_push ranges r);
+          each = λ i c' r' is_c is_r. elim (slice_get-push_cases ranges r r' i is_r) [
+            | inl old_one ↦
+                let below : i < length ranges = old_one.0 in
+                subst (λ l. IsLeastOpen m (taken ++ l) c' r') (sym (take_before ranges r i (omega (arith, below)))) (was.each i c' r' is_c old_one.1)
+            | inr new_one ↦
+                let same_claim : claim ≡ c' = some_same (sym is ∙ (ap (slice_get claims) (sym new_one.0) ∙ is_c)) in
+                let list : take i (ranges ++ r ∷ []) ≡ ranges = ap (λ n. take n (ranges ++ r ∷ [])) new_one.0 ∙ (take_before ranges r (length ranges) (omega arith) ∙ take_whole ranges) in
+                subst (λ l. IsLeastOpen m (taken ++ l) c' r') (sym list)
+                (subst (λ (c'' : Claim). IsLeastOpen m (taken ++ ranges) c'' r') same_claim (subst (λ (r'' : Range). IsLeastOpen m (taken ++ ranges) claim r'') new_one.1 now.0))
+          ];
+        };
+    taken = λ m taken apart free.
+        let t = so_far.taken m taken apart free in
+        let now = serves m (taken ++ ranges) (beside_in m (taken ++ ranges) t.free) in
+        let assoc : (taken ++ ranges) ++ r ∷ [] ≡ taken ++ (ranges ++ r ∷ []) = append_assoc taken ranges (r ∷ []) in
+        let long : length new ≡ length mid = ap length set ∙ set_long mid claim.region after in
+        record {
+          within = All-append (IsWithin m (length new)) ranges (r ∷ []) (subst (λ n. All (IsWithin m n) ranges) (sym long) t.within)
+              (All-cons (IsWithin m (length new)) r [] (record { there = subst (λ n. claim.region < n) (sym long) (slice_get_within mid claim.region before at); some = some; within = now.0.may.within }) (All-nil (IsWithin m (length new))));
+          apart = subst (AllPairs AreApart) assoc (pairs_more (taken ++ ranges) r t.apart (apart_from_open m (taken ++ ranges) claim place now.0.may));
+          free = subst (λ l. AreFreeBeside m l (frees new)) assoc
+              (subst (λ l. AreFreeBeside m ((taken ++ ranges) ++ r ∷ []) (frees l)) (sym set)
+              (free_beside_more m (taken ++ ranges) mid claim before after r refl t.free at now.1));
+        };
+    room = λ i region is_region. elim (set_cases mid claim.region i before after region at (sym (ap (λ l. slice_get l i) set) ∙ is_region)) [
+      | inl mine ↦
+          let most = count_by-le-length (λ (x : Range). x.region == i) (ranges ++ r ∷ []) in
+          let same : region.spare ≡ after.spare = ap (λ (x : Region). x.spare) mine.1 in
+          omega (arith, most, length_push ranges r, spare, same)
+      | inr other ↦
+          let was = so_far.room i region other.1 in
+          let all = count_by-append (λ (x : Range). x.region == i) ranges (r ∷ []) in
+          let one = count_by-cons (λ (x : Range). x.region == i) r [] in
+          let none : one_if (r.region == i) ≡ 0 = ap one_if (not_equal r.region i (λ e. other.0 (sym e))) in
+          omega (arith, was, all, one, none)
+    ];
+    long = ap length set ∙ (set_long mid claim.region after ∙ so_far.long);
+  }
+    where
+      r : Range
+      r = range_at claim place
+
+      some_same : {A : Type 0} {a b : A} → Some a ≡ Some b → a ≡ b
+      some_same e = cc
+
+      not_equal : (m n : ℕ) → m ≢ n → (m == n) ≡ false
+      not_equal m n differ = grind arith
+
+      one_if : Bool → ℕ
+      one_if b = if b then 1 else 0
+
+  -- the claim is refused
+  pub due_here : Refuses claim before → (m : Description) (taken : List Range) → AllPairs AreApart taken → AreFreeBeside m taken (frees old) → IsRefusalDue m taken claims claim.refusal
+  due_here refuses m taken apart free = record {
+    ranges = ranges;
+    before = so_far.served m taken apart free;
+    claim = claim;
+    is = is;
+    refused = refuses m (taken ++ ranges) (beside_in m (taken ++ ranges) (so_far.taken m taken apart free).free);
+    refusal_is = refl;
+  }
+
+  -- and nothing of it is taken
+  pub taken_still : (after : Region) (new : List Region) → new ≡ slice_set mid claim.region after → free_of after ≡ free_of before → AreTakenAlways old ranges new
+  taken_still after new set same m taken apart free =
+      let t = so_far.taken m taken apart free in
+      let long : length new ≡ length mid = ap length set ∙ set_long mid claim.region after in
+      record {
+        within = subst (λ n. All (IsWithin m n) ranges) (sym long) t.within;
+        apart = t.apart;
+        free = subst (λ l. AreFreeBeside m (taken ++ ranges) l) (sym (ap frees set ∙ (map_set free_of mid claim.region after ∙ (ap (slice_set (frees mid) claim.region) same ∙ set_back (frees mid) claim.region (free_of before) (slice_get-mapped free_of mid claim.region before at))))) t.free;
+      }
+    where
+      set_back : {X : Type 0} (xs : List X) (i : ℕ) (x : X) → slice_get xs i ≡ Some x → slice_set xs i x ≡ xs
+      set_back [] i x e = refl
+      set_back (y ∷ ys) zero x e = let w : y ≡ x = cc in ap (λ z. z ∷ ys) (sym w)
+      set_back (y ∷ ys) (suc i) x e = ap (λ l. y ∷ l) (set_back ys i x e)
+
+  pub room_still : (after : Region) (new : List Region) → new ≡ slice_set mid claim.region after → ((n : ℕ) → n ≤ length ranges → n ≤ before.spare → n ≤ after.spare) → HaveRoom ranges new
+  room_still after new set more i region is_region = elim (set_cases mid claim.region i before after region at (sym (ap (λ l. slice_get l i) set) ∙ is_region)) [
+    | inl mine ↦
+        let was = more (count_by (λ (x : Range). x.region == claim.region) ranges) (count_by-le-length (λ (x : Range). x.region == claim.region) ranges) (so_far.room claim.region before at) in
+        let same : region.spare ≡ after.spare = ap (λ (x : Region). x.spare) mine.1 in
+        let counted : count_by (λ (x : Range). x.region == i) ranges ≡ count_by (λ (x : Range). x.region == claim.region) ranges = ap (λ n. count_by (λ (x : Range). x.region == n) ranges) mine.0 in
+        omega (arith, was, same, counted)
+    | inr other ↦ so_far.room i region other.1
+  ]
+
+-- nothing is served yet
+pub none_served : (claims : List Claim) (regions : List Region) (ranges : List Range) → ranges ≡ [] → HaveServed claims regions ranges regions
+none_served claims regions ranges none = subst (λ l. HaveServed claims regions l regions) (sym none) (record {
+  served = λ m taken apart free. record { few = omega arith; each = λ i c r is_c is_r. absurd (nothing_at r is_r) };
+  taken = λ m taken apart free. record {
+    within = All-nil (IsWithin m (length regions));
+    apart = subst (AllPairs AreApart) (sym (append-nil taken)) apart;
+    free = subst (λ l. AreFreeBeside m l (frees regions)) (sym (append-nil taken)) free;
+  };
+  room = λ i r is. omega arith;
+  long = refl;
+})
+  where
+    nothing_at : (r : Range) → None ≡ Some r → ⊥
+    nothing_at r e = cc
+
+-- ---- one range is given back
+
+module _ (m : Description) (others : List Range) (range : Range) (rest : List Range) (old : List Region) (taken : AreTaken m others (range ∷ rest) old) (before : Region) (at : slice_get old range.region ≡ Some before) where
+  beside_here : IsFreeBeside m (others ++ range ∷ rest) range.region (free_of before)
+  beside_here = taken.free.each range.region (free_of before) (slice_get-mapped free_of old range.region before at)
+
+  within_here : IsWithin m (length old) range
+  within_here = All-head (IsWithin m (length old)) range rest taken.within
+
+  pub give_within : range.place + range.size ≤ before.size
+  give_within = let w = within_here.within in let s = beside_here.size in omega (arith, w, s)
+
+  in_middle : Contains (others ++ range ∷ rest) range
+  in_middle = middle others
+    where
+      middle : (l : List Range) → Contains (l ++ range ∷ rest) range
+      middle [] = Contains-first range rest
+      middle (x ∷ xs) = later x (xs ++ range ∷ rest) (middle xs)
+        where
+          later : (x' : Range) (l' : List Range) → Contains l' range → Contains (x' ∷ l') range
+          later x' l' has = among_contains range (x' ∷ l') (inr (contains_among range l' has))
+
+  mine : (k : ℕ) → in_range range.place range.size k ≡ true → has_place range.region k range ≡ true
+  mine k here = and_from (range.region == range.region) (in_range range.place range.size k) (eq-eqb range.region range.region refl) here
+
+  pub give_taken : (k : ℕ) → in_range range.place range.size k ≡ true → is_free before.holes k ≡ false
+  give_taken k here =
+      beside_here.free k ∙ (ap (λ b. ltb k before.size && not b) (taken_by (others ++ range ∷ rest) range.region k range in_middle (mine k here)) ∙ and_none (ltb k before.size))
+    where
+      and_none : (b : Bool) → (b && not true) ≡ false
+      and_none true = refl
+      and_none false = refl
+
+  -- what is left is apart from it
+  not_left : (k : ℕ) → in_range range.place range.size k ≡ true → is_taken (others ++ rest) range.region k ≡ false
+  not_left k here = elim (cases_Bool (is_taken (others ++ rest) range.region k)) [
+    | inr none ↦ none
+    | inl some ↦
+        let found = by_taken (others ++ rest) range.region k some in
+        absurd (either_side found.0 found.1 found.2)
+  ]
+    where
+      across : All (λ a. All (AreApart a) (range ∷ rest)) others
+      across = AllPairs-across AreApart others (range ∷ rest) taken.apart
+
+      after : All (AreApart range) rest
+      after = AllPairs-head AreApart range rest (AllPairs-right AreApart others (range ∷ rest) taken.apart)
+
+      contains_all : {X : Type 0} (P : X → Type 0) (xs : List X) (x : X) → All P xs → Contains xs x → P x
+      contains_all P xs x all has = subst P has.2 (all has.0 x has.1)
+
+      either_side : (other : Range) → Contains (others ++ rest) other → has_place range.region k other ≡ true → ⊥
+      either_side other has there = elim (sides other (contains_among other (others ++ rest) has)) [
+        | inl left ↦ (All-head (AreApart other) range rest (contains_all (λ a. All (AreApart a) (range ∷ rest)) others other across (among_contains other others left))) range.region k there (mine k here)
+        | inr right ↦ (contains_all (AreApart range) rest other after (among_contains other rest right)) range.region k (mine k here) there
+      ]
+        where
+          sides : (o : Range) → Among o (others ++ rest) → Among o others ⊎ Among o rest
+          sides o a = split others a
+            where
+              split : (l : List Range) → Among o (l ++ rest) → Among o l ⊎ Among o rest
+              split [] a' = inr a'
+              split (x ∷ xs) (inl here') = inl (inl here')
+              split (x ∷ xs) (inr later) = elim (split xs later) [
+                | inl l' ↦ inl (inr l')
+                | inr r' ↦ inr r'
+              ]
+
+  pub given_back : (after : Region) (new : List Region) → new ≡ slice_set old range.region after → after.size ≡ before.size → AreRuns 0 after.size after.holes →
+      ((k : ℕ) → is_free after.holes k ≡ (is_free before.holes k || in_range range.place range.size k)) → AreTaken m others rest new
+  given_back after new set size runs free = record {
+    within = subst (λ n. All (IsWithin m n) rest) (sym long) (All-tail (IsWithin m (length old)) range rest taken.within);
+    apart = AllPairs-append AreApart others rest (AllPairs-left AreApart others (range ∷ rest) taken.apart)
+        (AllPairs-tail AreApart range rest (AllPairs-right AreApart others (range ∷ rest) taken.apart))
+        (All-each (λ a. All (AreApart a) rest) others (λ a has. All-tail (AreApart a) range rest (all_at (AllPairs-across AreApart others (range ∷ rest) taken.apart) a has)));
+    free = record {
+      all = ap length (ap frees set ∙ map_set free_of old range.region after) ∙ (set_long (frees old) range.region (free_of after) ∙ taken.free.all);
+      each = λ region f is.
+          elim (set_cases (frees old) range.region region (free_of before) (free_of after) f (slice_get-mapped free_of old range.region before at) (sym (ap (λ l. slice_get l region) (ap frees set ∙ map_set free_of old range.region after)) ∙ is)) [
+            | inl here ↦ subst (λ (g : Free). IsFreeBeside m (others ++ rest) region g) (sym here.1) (subst (λ r. IsFreeBeside m (others ++ rest) r (free_of after)) (sym here.0) back)
+            | inr other ↦
+                let was = taken.free.each region f other.1 in
+                record {
+                  size = was.size;
+                  runs = was.runs;
+                  free = λ k. was.free k ∙ ap (λ b. ltb k f.size && not b) (elsewhere region k (λ e. other.0 (sym e)));
+                }
+          ];
+    };
+  }
+    where
+      long : length new ≡ length old
+      long = ap length set ∙ set_long old range.region after
+
+      all_at : All (λ a. All (AreApart a) (range ∷ rest)) others → (a : Range) → Contains others a → All (AreApart a) (range ∷ rest)
+      all_at all a has = subst (λ (z : Range). All (AreApart z) (range ∷ rest)) has.2 (all has.0 a has.1)
+
+      both : (region k : ℕ) → is_taken (others ++ range ∷ rest) region k ≡ (is_taken others region k || (has_place region k range || is_taken rest region k))
+      both region k = list_any-append (has_place region k) others (range ∷ rest)
+
+      left : (region k : ℕ) → is_taken (others ++ rest) region k ≡ (is_taken others region k || is_taken rest region k)
+      left region k = list_any-append (has_place region k) others rest
+
+      elsewhere : (region k : ℕ) → range.region ≢ region → is_taken (others ++ range ∷ rest) region k ≡ is_taken (others ++ rest) region k
+      elsewhere region k other =
+          both region k ∙ (ap (λ b. is_taken others region k || ((b && in_range range.place range.size k) || is_taken rest region k)) (not_equal range.region region other) ∙ sym (left region k))
+        where
+          not_equal : (m' n : ℕ) → m' ≢ n → (m' == n) ≡ false
+          not_equal m' n differ = grind arith
+
+      back : IsFreeBeside m (others ++ rest) range.region (free_of after)
+      back = record {
+        size = size ∙ beside_here.size;
+        runs = runs;
+        free = λ k. free k ∙ elim (cases_Bool (in_range range.place range.size k)) [
+          | inl inside ↦
+              let facts = in_facts range.place range.size k inside in
+              let w = give_within in
+              let below : ltb k after.size ≡ true = lt-ltb k after.size (omega (arith, facts, w, size)) in
+              ap (λ b. is_free before.holes k || b) inside ∙ (or_true (is_free before.holes k) ∙ sym (ap (λ b. b && not (is_taken (others ++ rest) range.region k)) below ∙ ap (λ b. true && not b) (not_left k inside)))
+          | inr outside ↦
+              ap (λ b. is_free before.holes k || b) outside
+              ∙ (or_false (is_free before.holes k)
+              ∙ (beside_here.free k
+              ∙ (ap (λ b. ltb k before.size && not b) (same_outside k outside) ∙ ap (λ n. ltb k n && not (is_taken (others ++ rest) range.region k)) (sym size))))
+        ];
+      }
+        where
+          in_facts : (p s k : ℕ) → in_range p s k ≡ true → (p ≤ k) × (k < p + s)
+          in_facts p s k e = let parts = and_parts (leb p k) (ltb k (p + s)) e in (le_of p k parts.0, ltb-true k (p + s) parts.1)
+            where
+              le_of : (a b : ℕ) → leb a b ≡ true → a ≤ b
+              le_of a b e' = grind (arith)
+
+          or_true : (b : Bool) → (b || true) ≡ true
+          or_true true = refl
+          or_true false = refl
+
+          or_false : (b : Bool) → (b || false) ≡ b
+          or_false true = refl
+          or_false false = refl
+
+          same_outside : (k : ℕ) → in_range range.place range.size k ≡ false → is_taken (others ++ range ∷ rest) range.region k ≡ is_taken (others ++ rest) range.region k
+          same_outside k outside =
+              both range.region k
+              ∙ (ap (λ b. is_taken others range.region k || (((range.region == range.region) && b) || is_taken rest range.region k)) outside
+              ∙ (ap (λ b. is_taken others range.region k || (b || is_taken rest range.region k)) (and_false (range.region == range.region)) ∙ sym (left range.region k)))
+            where
+              and_false : (b : Bool) → (b && false) ≡ false
+              and_false true = refl
+              and_false false = refl
+
+-- ---- ranges given back in a loop
+
+drop_here : {X : Type 0} (xs : List X) (i : ℕ) (x : X) → slice_get xs i ≡ Some x → drop i xs ≡ x ∷ drop (i + 1) xs
+drop_here [] i x e = cc
+drop_here (y ∷ ys) zero x e = let w : y ≡ x = cc in ap (λ z. z ∷ ys) w
+drop_here (y ∷ ys) (suc i) x e = let next : suc i + 1 ≡ suc (i + 1) = omega arith in drop_here ys i x e ∙ ap (λ n. x ∷ drop n (y ∷ ys)) (sym next)
+
+abbrev one_if' : Bool → ℕ
+one_if' b = if b then 1 else 0
+
+module _ (ranges : List Range) (i : ℕ) (d : Range) (below : i < length ranges) (regions : List Region) (e : Region)
+    (m : Description) (others : List Range) (taken : AreTaken m others (drop i ranges) regions) where
+  abbrev range : Range
+  range = get_or ranges i d
+
+  abbrev before : Region
+  before = get_or regions range.region e
+
+  abbrev rest : List Range
+  rest = drop (i + 1) ranges
+
+  dropped : drop i ranges ≡ range ∷ rest
+  dropped = drop_here ranges i range (slice_get-get_or ranges i d below)
+
+  here : AreTaken m others (range ∷ rest) regions
+  here = subst (λ l. AreTaken m others l regions) dropped taken
+
+  pub there_at : range.region < length regions
+  there_at = (All-head (IsWithin m (length regions)) range rest here.within).there
+
+  at_place : slice_get regions range.region ≡ Some before
+  at_place = slice_get-get_or regions range.region e there_at
+
+  pub within_at : range.place + range.size ≤ before.size
+  within_at = give_within m others range rest regions here before at_place
+
+  pub some_at : 0 < range.size
+  some_at = (All-head (IsWithin m (length regions)) range rest here.within).some
+
+  pub taken_at : (k : ℕ) → in_range range.place range.size k ≡ true → is_free before.holes k ≡ false
+  taken_at = give_taken m others range rest regions here before at_place
+
+  pub back_at : (after : Region) → after.size ≡ before.size → AreRuns 0 after.size after.holes →
+      ((k : ℕ) → is_free after.holes k ≡ (is_free before.holes k || in_range range.place range.size k)) → AreTaken m others rest (slice_set regions range.region after)
+  back_at after size runs free = given_back m others range rest regions here before at_place after (slice_set regions range.region after) refl size runs free
+
+  module _ (room : HaveRoom (drop i ranges) regions) where
+    counted : (n : ℕ) → count_by (λ (x : Range). x.region == n) (drop i ranges) ≡ one_if' (range.region == n) + count_by (λ (x : Range). x.region == n) rest
+    counted n = ap (count_by (λ (x : Range). x.region == n)) dropped ∙ count_by-cons (λ (x : Range). x.region == n) range rest
+
+    pub spare_at : 0 < before.spare
+    spare_at =
+        let most = room range.region before at_place in
+        let all = counted range.region in
+        let one : one_if' (range.region == range.region) ≡ 1 = ap one_if' (eq-eqb range.region range.region refl) in
+        omega (arith, most, all, one)
+
+    pub room_at : (after : Region) → before.spare ≤ after.spare + 1 → HaveRoom rest (slice_set regions range.region after)
+    room_at after spare n region is = elim (set_cases regions range.region n before after region at_place is) [
+      | inl mine ↦
+          let most = room range.region before at_place in
+          let all = counted range.region in
+          let one : one_if' (range.region == range.region) ≡ 1 = ap one_if' (eq-eqb range.region range.region refl) in
+          let same : region.spare ≡ after.spare = ap (λ (x : Region). x.spare) mine.1 in
+          let number : count_by (λ (x : Range). x.region == n) rest ≡ count_by (λ (x : Range). x.region == range.region) rest = ap (λ k. count_by (λ (x : Range). x.region == k) rest) mine.0 in
+          omega (arith, most, all, one, same, number, spare)
+      | inr other ↦
+          let most = room n region other.1 in
+          let all = counted n in
+          omega (arith, most, all)
+    ]
+
+-- where all are given back, none is left
+pub all_back : (m : Description) (others ranges : List Range) (i : ℕ) (regions : List Region) → length ranges ≤ i → AreFreeBeside m (others ++ drop i ranges) (frees regions) → AreFreeBeside m others (frees regions)
+all_back m others ranges i regions end free = subst (λ l. AreFreeBeside m l (frees regions)) (ap (λ l. others ++ l) (none_left ranges i end) ∙ append-nil others) free
+  where
+    none_left : {X : Type 0} (xs : List X) (n : ℕ) → length xs ≤ n → drop n xs ≡ []
+    none_left [] n le = nothing n
+      where
+        nothing : {X : Type 0} (n : ℕ) → drop n (let l : List X = [] in l) ≡ []
+        nothing zero = refl
+        nothing (suc n) = refl
+    none_left (x ∷ xs) zero le = absurd (omega (arith, le))
+    none_left (x ∷ xs) (suc n) le = none_left xs n (omega (arith, le))
+
+-- ---- the claims of a list, in a loop
+
+module _ (claims : List Claim) (old mid : List Region) (ranges : List Range) (i : ℕ) (d : Claim) (e : Region) (below : i < length claims) (each_one : length ranges ≡ i)
+    (so_far : HaveServed claims old ranges mid) (can : CanServe claims old) where
+  abbrev claim : Claim
+  claim = get_or claims i d
+
+  abbrev before' : Region
+  before' = get_or mid claim.region e
+
+  is_claim : slice_get claims (length ranges) ≡ Some claim
+  is_claim = ap (slice_get claims) each_one ∙ slice_get-get_or claims i d below
+
+  fair : IsFair can.0 (length old) claim
+  fair = can.2 i d below
+
+  pub claim_there : claim.region < length mid
+  claim_there = subst (λ n. claim.region < n) (sym so_far.long) fair.there
+
+  at_claim : slice_get mid claim.region ≡ Some before'
+  at_claim = slice_get-get_or mid claim.region e claim_there
+
+  pub claim_some : 0 < claim.size
+  claim_some = fair.some
+
+  pub claim_step : 0 < claim.align
+  claim_step = fair.step
+
+  pub claim_fixed : IfSome claim.fixed (λ p. (p % claim.align ≡ 0) × (p + claim.size ≤ before'.size))
+  claim_fixed =
+      let t = so_far.taken can.0 can.1.taken can.1.apart can.1.free in
+      let size = (beside_in claims old mid ranges so_far claim is_claim before' at_claim can.0 (can.1.taken ++ ranges) t.free).size in
+      within_size claim.fixed size fair.fixed
+    where
+      within_size : (o : Option ℕ) → before'.size ≡ region_size can.0 claim.region → IfSome o (λ p. (p % claim.align ≡ 0) × (p + claim.size ≤ region_size can.0 claim.region)) →
+          IfSome o (λ p. (p % claim.align ≡ 0) × (p + claim.size ≤ before'.size))
+      within_size (Some p) size f = (f.0, let w = f.1 in omega (arith, w, size))
+      within_size None size f = tt
+
+  pub claim_served : (after : Region) (place : ℕ) (list : List Range) → list ≡ ranges ++ range_at claim place ∷ [] → Serves claim before' after place → i + 1 ≤ after.spare →
+      HaveServed claims old list (slice_set mid claim.region after)
+  claim_served after place list pushed serves spare =
+      subst (λ l. HaveServed claims old l (slice_set mid claim.region after)) (sym pushed)
+      (served_more claims old mid ranges so_far claim is_claim before' at_claim after place (slice_set mid claim.region after) claim_some refl serves (omega (arith, spare, each_one)))
+
+  pub claim_due : (err : LoadErr) → (err ≡ Memory) ⊎ ((err ≡ claim.refusal) × Refuses claim before') → IsDueAlways claims old err
+  claim_due err (inl memory) = inl memory
+  claim_due err (inr refused) = inr (λ m taken apart free. subst (IsRefusalDue m taken claims) (sym refused.0) (due_here claims old mid ranges so_far claim is_claim before' at_claim refused.1 m taken apart free))
+
+  pub claim_taken : (after : Region) → free_of after ≡ free_of before' → AreTakenAlways old ranges (slice_set mid claim.region after)
+  claim_taken after same = taken_still claims old mid ranges so_far claim is_claim before' at_claim after (slice_set mid claim.region after) refl same
+
+  pub claim_room : (after : Region) → ((n : ℕ) → n ≤ i → n ≤ before'.spare → n ≤ after.spare) → HaveRoom ranges (slice_set mid claim.region after)
+  claim_room after stays = room_still claims old mid ranges so_far claim is_claim before' at_claim after (slice_set mid claim.region after) refl (λ n le. stays n (omega (arith, le, each_one)))
+
+pub all_served : (claims : List Claim) (old mid : List Region) (ranges : List Range) (i : ℕ) → length claims ≤ i → length ranges ≡ i → HaveServed claims old ranges mid → AreServedAlways claims old ranges
+all_served claims old mid ranges i end each_one so_far m taken apart free =
+    let first = so_far.served m taken apart free in
+    let few = first.few in
+    record { first = first; all = omega (arith, end, each_one, few) }

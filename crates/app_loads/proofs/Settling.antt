@@ -1,0 +1,309 @@
+-- An application's rows and packets on a mesh.
+use Rattle.std.proofs.Common.{◌≡◌, ℕ, zero, suc, ◌+◌, ◌-◌, ◌*◌, ◌/◌, ◌%◌, ◌^◌, ◌<◌, ◌≤◌, ◌==◌, leb, Bool, true, false, List, [], ◌∷◌, ◌++◌, length, map, refl, sym, ap, ◌∙◌, subst, inl, inr, ◌⊎◌, arith, Option, None, Some, count_by, if◌then◌else◌}
+use Rattle.std.specs.Option.{option_map_or}
+use Rattle.std.specs.List.{list_any, slice_get, slice_set, All, Contains}
+use Rattle.std.proofs.lemmas.Bool.{cases_Bool, or_left, or_right, or_cases}
+use Rattle.std.proofs.lemmas.Bool.Decides.{nat_tests}
+use Rattle.std.proofs.lemmas.List.{length-map, length-set}
+use Rattle.std.proofs.lemmas.List.Elements.{All-nil, All-cons, All-head, All-tail, All-append, All-contains}
+use Rattle.std.proofs.lemmas.List.Sorted.{length_permutation}
+use Rattle.std.proofs.lemmas.Option.{slice_get_within}
+use Rattle.list_laws.proofs.Counts.{count_by-cons}
+use Rattle.list_laws.proofs.Members.{Contains-at, Contains-filter, among_any, any_among, among_contains, contains_among}
+use Rattle.list_laws.proofs.Places.{All-at, All-each, AllZip-at_second, slice_get_there}
+use Rattle.list_laws.proofs.Ranges.{slice_get-map_range}
+use Rattle.spin_base.specs.declared.blocks.Block.{Block}
+use Rattle.spin_base.specs.declared.blocks.Entry.{Entry}
+use Rattle.spin_base.specs.declared.chips.Chip.{Chip}
+use Rattle.spin_base.specs.declared.chips.Spot.{Spot}
+use Rattle.spin_base.specs.declared.copies.McCopy.{McCopy}
+use Rattle.spin_base.specs.declared.copies.Packet.{Packet}
+use Rattle.spin_base.specs.Equality.{chip_eq}
+use Rattle.machine_desc.specs.declared.trees.Edge.{Edge}
+use Rattle.machine_desc.specs.Description.{Description}
+use Rattle.machine_desc.specs.Live.{index_of, chip_of, is_usable, IsInside, IsUsable}
+use Rattle.machine_desc.specs.RoutingTree.{end_of, IsTreeChip}
+use Rattle.machine_desc.proofs.Far.{index_below, live_inside, same_index}
+use Rattle.machine_desc.proofs.Live.{index_of-chip_of, chip_of-inside}
+use Rattle.machine_desc.proofs.Same.{chip_eq-from_same, same_chip, same_spot}
+use Rattle.machine_desc.proofs.Sites.{usable_parts}
+use Rattle.machine_desc.proofs.TreeLemmas.{tree_cases, tree_end}
+use Rattle.tern_word.specs.declared.tables.Row.{Row}
+use Rattle.tern_word.specs.declared.tables.Table.{Table}
+use Rattle.tern_word.specs.SoundTable.{Original}
+use Rattle.plain_tables.specs.PlainTable.{AreOriginals, AtEach, IsPlainTable, row_of}
+use Rattle.mesh_core.specs.State.{Setup, State, IsMesh}
+use Rattle.mesh_core.proofs.Ways.{vertex_there}
+use Rattle.app_loads.specs.declared.loaded.LoadedApp.{LoadedApp}
+use Rattle.app_loads.specs.declared.loaded.Range.{Range}
+use Rattle.app_loads.specs.declared.plans.AppNet.{AppNet}
+use Rattle.app_loads.specs.Applications.{IsRangeFor}
+use Rattle.app_loads.specs.Claims.{claims_of, has_chip}
+use Rattle.app_loads.specs.Host.{net_with, nets_with, nets_of}
+use Rattle.app_loads.specs.Joining.{AreSent, AreWritten, CanSettle, IsSettled}
+use Rattle.app_loads.specs.Opening.{grid_spots, spot_of, usable_spots}
+use Rattle.app_loads.specs.Plans.{IsAppNet, IsPacketOf}
+use Rattle.app_loads.specs.Regions.{chip_count, region_size, rows_region}
+use Rattle.app_loads.specs.Sending.{CanSend, IsPacketOn, IsSendingFrom}
+use Rattle.app_loads.specs.Taking.{IsWithin}
+use Rattle.app_loads.specs.Writing.{AreCopied, CanCopy}
+use Rattle.app_loads.proofs.AppNets.{facts_at, key_of_index, member_at, spot_inside, usable_spot}
+use Rattle.app_loads.proofs.ClaimCases.{row_size}
+use Rattle.app_loads.proofs.Unsent.{nets_with_at}
+
+-- the chip of a chip's index is the chip
+pub chip_back : (m : Description) (c : Chip) → IsInside m c → chip_of m (index_of m c) ≡ c
+chip_back m c inside = same_index m (chip_of m (index_of m c)) c (chip_of-inside m (index_of m c) (index_below m c inside)) inside (index_of-chip_of m (index_of m c))
+
+-- each usable core is in the list of them
+pub usable_there : (m : Description) (s : Spot) → IsUsable m s → Contains (usable_spots m) s
+usable_there m s usable =
+    let parts = usable_parts m s usable in
+    let inside = live_inside m s.chip parts.0 in
+    let below = index_below m s.chip inside in
+    let some = parts.1 in
+    let most = parts.2 in
+    let k : ℕ = 17 * index_of m s.chip + (s.core - 1) in
+    let chip_is : k / 17 ≡ index_of m s.chip = omega (arith, some, most) in
+    let core_is : k % 17 + 1 ≡ s.core = omega (arith, some, most) in
+    let same : spot_of m k ≡ s = same_spot (spot_of m k) s (ap (chip_of m) chip_is ∙ chip_back m s.chip inside) core_is in
+    let z : 0 + k ≡ k = omega arith in
+    let at : slice_get (grid_spots m) k ≡ Some s = slice_get-map_range (spot_of m) 0 (17 * (m.width * m.height)) k (omega (arith, below, some, most)) ∙ (ap (λ i. Some (spot_of m i)) z ∙ ap Some same) in
+    Contains-filter (is_usable m) (grid_spots m) s (Contains-at (grid_spots m) k s at) usable
+
+-- ---- rows of a chip
+
+eq_chip : (a b : Chip) → chip_eq a b ≡ true → a ≡ b
+eq_chip a b e = same_chip a b (grind arith) (grind arith)
+
+pub has_chip-true : (m : Description) (c : Chip) (net : AppNet) → IsTreeChip m net.tree.root net.tree.edges c → has_chip m c net ≡ true
+has_chip-true m c net on = elim (tree_cases m net.tree.root net.tree.edges c on) [
+  | inl at ↦ or_left (chip_eq c net.tree.root) (list_any (λ (e : Edge). option_map_or (chip_eq c) (end_of m e) false) net.tree.edges) (chip_eq-from_same c net.tree.root at)
+  | inr into ↦ or_right (chip_eq c net.tree.root) (list_any (λ (e : Edge). option_map_or (chip_eq c) (end_of m e) false) net.tree.edges)
+      (among_any (λ (e : Edge). option_map_or (chip_eq c) (end_of m e) false) into.0 net.tree.edges (contains_among into.0 net.tree.edges into.1) (ap (λ o. option_map_or (chip_eq c) o false) into.2 ∙ chip_eq-from_same c c refl))
+]
+
+pub has_chip-tree : (m : Description) (c : Chip) (net : AppNet) → has_chip m c net ≡ true → IsTreeChip m net.tree.root net.tree.edges c
+has_chip-tree m c net e = elim (or_cases (chip_eq c net.tree.root) (list_any (λ (e : Edge). option_map_or (chip_eq c) (end_of m e) false) net.tree.edges) e) [
+  | inl root ↦ inl (eq_chip c net.tree.root root)
+  | inr edge ↦ (
+      let found = any_among (λ (e : Edge). option_map_or (chip_eq c) (end_of m e) false) net.tree.edges edge in
+      tree_end m net.tree.root net.tree.edges found.0 c (among_contains found.0 net.tree.edges found.1) (by_end (end_of m found.0) found.2)
+      )
+]
+  where
+    by_end : (o : Option Chip) → option_map_or (chip_eq c) o false ≡ true → o ≡ Some c
+    by_end None e' = cc
+    by_end (Some d) e' = ap Some (sym (eq_chip c d e'))
+
+abbrev one_if : Bool → ℕ
+one_if b = if b then 1 else 0
+
+originals_count : (m : Description) (c : Chip) (nets : List AppNet) (blocks : List Block) (os : List Original) → length blocks ≡ length nets → AreOriginals m c (nets_with nets blocks) os → length os ≡ count_by (has_chip m c) nets
+originals_count m c [] [] os long are = ap length are
+originals_count m c [] (b ∷ bs) os long are = absurd (omega (arith, long))
+originals_count m c (n ∷ ns) [] os long are = absurd (omega (arith, long))
+originals_count m c (n ∷ ns) (b ∷ bs) os long (inl on) =
+    let rest = originals_count m c ns bs on.3 (omega (arith, long)) on.5 in
+    let all : length os ≡ suc (length on.3) = ap length on.4 in
+    let cons = count_by-cons (has_chip m c) n ns in
+    let here : one_if (has_chip m c n) ≡ 1 = ap one_if (has_chip-true m c n on.0) in
+    omega (arith, rest, all, cons, here)
+originals_count m c (n ∷ ns) (b ∷ bs) os long (inr off) =
+    let rest = originals_count m c ns bs os (omega (arith, long)) off.1 in
+    let cons = count_by-cons (has_chip m c) n ns in
+    let here : one_if (has_chip m c n) ≡ 0 = ap one_if (not_there (cases_Bool (has_chip m c n))) in
+    omega (arith, rest, cons, here)
+  where
+    not_there : (has_chip m c n ≡ true) ⊎ (has_chip m c n ≡ false) → has_chip m c n ≡ false
+    not_there (inl yes') = absurd (off.0 (has_chip-tree m c n yes'))
+    not_there (inr no') = no'
+
+pub plain_count : (m : Description) (c : Chip) (nets : List AppNet) (blocks : List Block) (rows : List Row) → length blocks ≡ length nets → IsPlainTable m (nets_with nets blocks) c rows → length rows ≡ count_by (has_chip m c) nets
+plain_count m c nets blocks rows long plain =
+    let same = length_permutation (map row_of plain.originals) rows plain.one_row_each in
+    let mapped = length-map plain.originals row_of in
+    let counted = originals_count m c nets blocks plain.originals long plain.originals_are in
+    omega (arith, same, mapped, counted)
+
+pub rows_size : (m : Description) (i : ℕ) → region_size m (1 + (chip_count m + i)) ≡ 1024
+rows_size m i =
+    ap (λ b. if b then 4294967296 else (if leb (1 + (chip_count m + i)) (chip_count m) then m.sdram else 1024)) (not_zero (chip_count m + i))
+    ∙ ap (λ b. if b then m.sdram else 1024) (too_great (chip_count m) i)
+  where
+    not_zero : (k : ℕ) → (1 + k == 0) ≡ false
+    not_zero k = grind arith
+
+    too_great : (n k : ℕ) → leb (1 + (n + k)) n ≡ false
+    too_great n k = grind (arith, nat_tests)
+
+module _ (s : State) (app : LoadedApp) (can : CanSettle s app) (mesh : IsMesh s) where
+  abbrev m : Description
+  m = s.setup.machine
+
+  sending : (net : AppNet) → Contains app.plan.nets net → IsSendingFrom s.setup net
+  sending net has =
+      let valid = All-contains (IsAppNet m app.plan.spots) app.plan.nets net can.loaded.plan.nets has in
+      let usable = usable_spot m app can.loaded net.source valid.source in
+      let there = vertex_there s.setup.spots net.source (subst (λ (l : List Spot). Contains l net.source) (sym can.vertices) (usable_there m net.source usable)) in
+      record {
+        inside = spot_inside m app can.loaded net.source valid.source;
+        core = let most = (usable_parts m net.source usable).2 in omega (arith, most);
+        vertex = there.0;
+        is = there.1;
+      }
+
+  packet_on : (p : Packet) → Contains app.plan.packets p → IsPacketOn app.blocks (length app.plan.nets) p
+  packet_on p has =
+      let of_net = All-contains (IsPacketOf app.plan.nets) app.plan.packets p can.loaded.plan.packets has in
+      let below = slice_get_within app.plan.nets p.net of_net.0 of_net.1 in
+      let block = slice_get_there app.blocks p.net (let l = can.loaded.blocks.all in omega (arith, below, l)) in
+      let x = net_with of_net.0 block.0 in
+      let f = facts_at m app can.loaded p.net x (nets_with_at app.plan.nets app.blocks p.net of_net.0 block.0 of_net.1 block.1) in
+      let within = (All-at (IsWithin m (1 + (chip_count m + chip_count m))) app.ranges f.at f.range can.within f.got).within in
+      let room : f.range.place + f.range.size ≤ 4294967296 = subst (λ r. f.range.place + f.range.size ≤ r) (ap (region_size m) f.region) within in
+      let same_net : f.net ≡ of_net.0 = some_same (sym f.at_net ∙ of_net.1) in
+      let same_block : f.block ≡ block.0 = some_same (sym f.at_block ∙ block.1) in
+      let key = key_of_index m app can.loaded x p.net f p.index (subst (λ (n : AppNet). p.index < n.keys) (sym same_net) of_net.2) room in
+      record { net = below; block = block.0; is = block.1; key = subst (λ (b : Block). b.key + p.index < 2 ^ 32) same_block key.0 }
+    where
+      some_same : {A : Type 0} {a b : A} → Some a ≡ Some b → a ≡ b
+      some_same e = cc
+
+  pub can_send : (q : List (List McCopy)) → q ≡ s.unsent → CanSend s.setup app q
+  can_send q is = record {
+    sources = All-each (IsSendingFrom s.setup) app.plan.nets sending;
+    queues = ap length is ∙ mesh.unsent_lists;
+    packets = All-each (IsPacketOn app.blocks (length app.plan.nets)) app.plan.packets packet_on;
+    blocks = can.loaded.blocks.all;
+    numbers = can.numbers;
+    none = λ net has v vertex. ap (λ (l : List (List McCopy)). slice_get l v) is ∙ can.none net has v vertex;
+  }
+
+  module _ (rows : List Table) (rows_long : length rows ≡ m.width * m.height) (plain : AtEach m rows (IsPlainTable m (nets_of app))) where
+    range_size : (range : Range) → Contains app.ranges range → (c : Chip) → IsInside m c → range.region ≡ rows_region m c → range.size ≡ count_by (has_chip m c) app.plan.nets
+    range_size range has c inside region =
+        let claimed = AllZip-at_second IsRangeFor (claims_of m app.plan) app.ranges can.loaded.ranges has.0 range (member_at app.ranges range has) in
+        let of_region : claimed.0.region ≡ 1 + (chip_count m + index_of m c) = sym claimed.2.0 ∙ region in
+        claimed.2.1
+        ∙ (row_size m app.plan can.loaded.plan claimed.0 (Contains-at (claims_of m app.plan) has.0 claimed.0 claimed.1) (index_of m c) (index_below m c inside) of_region
+        ∙ ap (λ (d : Chip). count_by (has_chip m d) app.plan.nets) (chip_back m c inside))
+
+    pub can_copy : (given : List Table) (ranges : List Range) → given ≡ rows → ranges ≡ app.ranges → CanCopy m s.setup.tables given ranges
+    can_copy given ranges is_rows is_ranges = subst (λ (l : List Table). CanCopy m s.setup.tables l ranges) (sym is_rows) (subst (CanCopy m s.setup.tables rows) (sym is_ranges) (record {
+      tables_long = mesh.table_list;
+      rows_long = rows_long;
+      each_long = can.long;
+      apart = can.apart;
+      there = λ range has. (All-contains (IsWithin m (1 + (chip_count m + chip_count m))) app.ranges range can.within has).there;
+      fit = λ range has c t inside region at.
+          let size = range_size range has c inside region in
+          let many = plain_count m c app.plan.nets app.blocks t.rows can.loaded.blocks.all (plain c t inside at) in
+          let within = (All-contains (IsWithin m (1 + (chip_count m + chip_count m))) app.ranges range can.within has).within in
+          let room : range.place + range.size ≤ 1024 = subst (λ r. range.place + range.size ≤ r) (ap (region_size m) region ∙ rows_size m (index_of m c)) within in
+          (omega (arith, size, many, room), size ∙ sym many);
+    }))
+
+    pub written : (given : List Table) (ranges : List Range) (new : List (List Entry)) → given ≡ rows → ranges ≡ app.ranges → AreCopied m given ranges s.setup.tables new → AreWritten m app s.setup.tables new
+    written given ranges new is_rows is_ranges copied =
+        let c' = subst (λ (l : List Table). AreCopied m l app.ranges s.setup.tables new) is_rows (subst (λ (l : List Range). AreCopied m given l s.setup.tables new) is_ranges copied) in
+        record {
+          all = c'.all;
+          long = c'.long;
+          rows = λ range has c inside region.
+              let t = slice_get_there rows (index_of m c) (let w = index_below m c inside in omega (arith, w, rows_long)) in
+              record { rows = t.0.rows; plain = plain c t.0 inside t.1; entries = c'.copied range has c t.0 inside region t.1 };
+          others = c'.others;
+        }
+
+-- ---- the mesh
+
+sent_long : (spots : List Spot) (app : LoadedApp) (n : ℕ) (before after : List (List McCopy)) → AreSent spots app n before after → length after ≡ length before
+sent_long spots app zero before after sent = ap length sent
+sent_long spots app (suc n) before after sent =
+    let one = sent.4 in
+    ap length one.is ∙ (length-set sent.0 one.vertex (one.queue ++ _ ∷ []) ∙ sent_long spots app n before sent.0 sent.2)
+
+sent_at_start : (spots : List Spot) (app : LoadedApp) (n : ℕ) (before after : List (List McCopy)) → All (λ q. All (λ (k : McCopy). k.hop ≡ 0) q) before → AreSent spots app n before after → All (λ q. All (λ (k : McCopy). k.hop ≡ 0) q) after
+sent_at_start spots app zero before after start sent = subst (All (λ q. All (λ (k : McCopy). k.hop ≡ 0) q)) (sym sent) start
+sent_at_start spots app (suc n) before after start sent =
+    let one = sent.4 in
+    let rest = sent_at_start spots app n before sent.0 start sent.2 in
+    subst (All (λ q. All (λ (k : McCopy). k.hop ≡ 0) q)) (sym one.is)
+    (set_all sent.0 one.vertex (one.queue ++ _ ∷ []) rest (All-append (λ (k : McCopy). k.hop ≡ 0) one.queue (_ ∷ []) (All-at (λ q. All (λ (k : McCopy). k.hop ≡ 0) q) sent.0 one.vertex one.queue rest one.at) (All-cons (λ (k : McCopy). k.hop ≡ 0) _ [] refl (All-nil (λ (k : McCopy). k.hop ≡ 0)))))
+  where
+    set_all : (l : List (List McCopy)) (v : ℕ) (q : List McCopy) → All (λ q. All (λ (k : McCopy). k.hop ≡ 0) q) l → All (λ (k : McCopy). k.hop ≡ 0) q → All (λ q. All (λ (k : McCopy). k.hop ≡ 0) q) (slice_set l v q)
+    set_all [] v q all one = all
+    set_all (x ∷ xs) zero q all one = All-cons (λ q. All (λ (k : McCopy). k.hop ≡ 0) q) q xs one (All-tail (λ q. All (λ (k : McCopy). k.hop ≡ 0) q) x xs all)
+    set_all (x ∷ xs) (suc v) q all one = All-cons (λ q. All (λ (k : McCopy). k.hop ≡ 0) q) x (slice_set xs v q) (All-head (λ q. All (λ (k : McCopy). k.hop ≡ 0) q) x xs all) (set_all xs v q (All-tail (λ q. All (λ (k : McCopy). k.hop ≡ 0) q) x xs all) one)
+
+pub settled_mesh : (s : State) (app : LoadedApp) (n : ℕ) (q : List (List McCopy)) (tables : List (List Entry)) → IsMesh s → AreSent s.setup.spots app n s.unsent q → length tables ≡ length s.setup.tables →
+    IsMesh (record s { setup = record s.setup { tables = tables }; unsent = q })
+settled_mesh s app n q tables mesh sent long = record {
+  size = mesh.size;
+  different = mesh.different;
+  sites = mesh.sites;
+  room = mesh.room;
+  unsent_lists = sent_long s.setup.spots app n s.unsent q sent ∙ mesh.unsent_lists;
+  input_lists = mesh.input_lists;
+  hand_list = mesh.hand_list;
+  core_lists = mesh.core_lists;
+  table_list = long ∙ mesh.table_list;
+  inputs_within = mesh.inputs_within;
+  cores_within = mesh.cores_within;
+  unsent_at_start = sent_at_start s.setup.spots app n s.unsent q mesh.unsent_at_start sent;
+  hands_with_outputs = mesh.hands_with_outputs;
+  none_at_dead_ports = mesh.none_at_dead_ports;
+  none_on_dead_chips = mesh.none_on_dead_chips;
+}
+
+pub with_setup : (s : State) (u : Setup) (q : List (List McCopy)) → u ≡ record s.setup { tables = u.tables } →
+    record s { setup = record s.setup { tables = u.tables }; unsent = q } ≡ record s { setup = u; unsent = q }
+with_setup s u q is = ap (λ (v : Setup). record s { setup = v; unsent = q }) (sym is)
+
+-- ---- the same from the mesh that was taken apart
+
+module _ (s t : State) (same : s ≡ t) (app : LoadedApp) (can : CanSettle t app) (mesh : IsMesh t) where
+  own : CanSettle s app
+  own = subst (λ (x : State). CanSettle x app) (sym same) can
+
+  whole : IsMesh s
+  whole = subst IsMesh (sym same) mesh
+
+  pub parted_send : (q : List (List McCopy)) → q ≡ s.unsent → CanSend s.setup app q
+  parted_send = can_send s app own whole
+
+  pub parted_mesh : (given q written' : List (List McCopy)) → given ≡ s.unsent → q ≡ given → written' ≡ q → IsMesh (record s { unsent = written' })
+  parted_mesh given q written' is kept put = subst (λ (l : List (List McCopy)). IsMesh (record s { unsent = l })) (sym (put ∙ (kept ∙ is))) whole
+
+  pub parted_back : (given q written' : List (List McCopy)) → given ≡ s.unsent → q ≡ given → written' ≡ q → record s { unsent = written' } ≡ t
+  parted_back given q written' is kept put = ap (λ (l : List (List McCopy)). record s { unsent = l }) (put ∙ (kept ∙ is)) ∙ same
+
+  pub sent_as_long : (given q : List (List McCopy)) → given ≡ s.unsent → AreSent s.setup.spots app (length app.plan.packets) given q → length q ≡ length s.unsent
+  sent_as_long given q is sent = sent_long s.setup.spots app (length app.plan.packets) given q sent ∙ ap length is
+
+  pub parted_copy : (rows given : List Table) (ranges : List Range) → length rows ≡ t.setup.machine.width * t.setup.machine.height → AtEach t.setup.machine rows (IsPlainTable t.setup.machine (nets_of app)) → given ≡ rows → ranges ≡ app.ranges →
+      CanCopy s.setup.machine s.setup.tables given ranges
+  parted_copy rows given ranges long plain = subst (λ (x : State). length rows ≡ x.setup.machine.width * x.setup.machine.height → AtEach x.setup.machine rows (IsPlainTable x.setup.machine (nets_of app)) → given ≡ rows → ranges ≡ app.ranges →
+      CanCopy s.setup.machine s.setup.tables given ranges) same (λ long' plain'. can_copy s app own whole rows long' plain' given ranges) long plain
+
+  pub parted_whole : (given q written' : List (List McCopy)) (u : Setup) → written' ≡ q → given ≡ s.unsent → AreSent s.setup.spots app (length app.plan.packets) given q → u ≡ record s.setup { tables = u.tables } → length u.tables ≡ length s.setup.tables → IsMesh (record s { setup = u; unsent = written' })
+  parted_whole given q written' u put is sent setup long =
+      subst (λ (l : List (List McCopy)). IsMesh (record s { setup = u; unsent = l })) (sym put) (subst IsMesh (with_setup s u q setup) (settled_mesh s app (length app.plan.packets) q u.tables whole (subst (λ (l : List (List McCopy)). AreSent s.setup.spots app (length app.plan.packets) l q) is sent) long))
+
+  pub parted_settled : (given q written' : List (List McCopy)) (u : Setup) (rows lent : List Table) (ranges : List Range) (new : State) → written' ≡ q → new ≡ record s { setup = u; unsent = written' } → given ≡ s.unsent → AreSent s.setup.spots app (length app.plan.packets) given q → u ≡ record s.setup { tables = u.tables } →
+      length rows ≡ t.setup.machine.width * t.setup.machine.height → AtEach t.setup.machine rows (IsPlainTable t.setup.machine (nets_of app)) → lent ≡ rows → ranges ≡ app.ranges →
+      AreCopied s.setup.machine lent ranges s.setup.tables u.tables → IsSettled app t new
+  parted_settled given q written' u rows lent ranges new put new_is is sent setup long plain is_rows is_ranges copied =
+      subst (λ (x : State). IsSettled app x new) same (
+      subst (IsSettled app s) (sym (new_is ∙ ap (λ (l : List (List McCopy)). record s { setup = u; unsent = l }) put)) (record {
+        mesh = sym (with_setup s u q setup);
+        sent = subst (λ (l : List (List McCopy)). AreSent s.setup.spots app (length app.plan.packets) l q) is sent;
+        written = written s app own whole rows long' plain' lent ranges u.tables is_rows is_ranges copied;
+      }))
+    where
+      long' : length rows ≡ s.setup.machine.width * s.setup.machine.height
+      long' = subst (λ (x : State). length rows ≡ x.setup.machine.width * x.setup.machine.height) (sym same) long
+
+      plain' : AtEach s.setup.machine rows (IsPlainTable s.setup.machine (nets_of app))
+      plain' = subst (λ (x : State). AtEach x.setup.machine rows (IsPlainTable x.setup.machine (nets_of app))) (sym same) plain

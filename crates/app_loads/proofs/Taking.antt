@@ -1,0 +1,109 @@
+-- What taking a range does to the free places of a region, and which range is the first.
+use Rattle.std.proofs.Common.{◌≡◌, ℕ, ◌+◌, ◌-◌, ◌%◌, ◌<◌, ◌≤◌, Bool, true, false, not, ◌&&◌, ◌||◌, ◌==◌, ltb, List, [], ◌∷◌, ◌++◌, refl, sym, ap, ◌∙◌, subst, arith, None, Some, IfSome}
+use Rattle.std.proofs.lemmas.Bool.{and_parts, lt-ltb, ltb-true, not-true, eq-eqb}
+use Rattle.std.proofs.lemmas.Bool.Decides.{nat_tests}
+use Rattle.std.proofs.lemmas.List.Folds.{list_any-append}
+use Rattle.machine_desc.specs.Description.{Description}
+use Rattle.range_store.specs.Regions.{AreRuns, IsFirstFit, HasNoFit, is_hole_range, is_free, in_range}
+use Rattle.app_loads.specs.declared.loaded.Claim.{Claim}
+use Rattle.app_loads.specs.declared.loaded.Range.{Range}
+use Rattle.app_loads.specs.Host.{Free}
+use Rattle.app_loads.specs.Regions.{IsFreeBeside, has_place, is_taken}
+use Rattle.app_loads.specs.Claims.{IsOpen, IsLeastOpen, IsRefused}
+use Rattle.app_loads.proofs.Holes.{clash, free_in_range, range_of_free}
+
+regroup : (a b c : Bool) → ((a && not b) && not c) ≡ (a && not (b || (c || false)))
+regroup false b c = refl
+regroup true true c = refl
+regroup true false true = refl
+regroup true false false = refl
+
+in_facts : (p s k : ℕ) → in_range p s k ≡ true → (p ≤ k) × (k < p + s)
+in_facts p s k e = (grind (arith, nat_tests), grind (arith, nat_tests))
+
+in_from : (p s k : ℕ) → p ≤ k → k < p + s → in_range p s k ≡ true
+in_from p s k low high = grind (arith, nat_tests)
+
+here_too : (region : ℕ) (b : Bool) → ((region == region) && b) ≡ b
+here_too region b = ap (λ z. z && b) (eq-eqb region region refl)
+
+-- a range more is taken
+pub taken_more : (m : Description) (taken : List Range) (region : ℕ) (before after : Free) (range : Range) → range.region ≡ region →
+    IsFreeBeside m taken region before → after.size ≡ before.size → AreRuns 0 after.size after.holes →
+    ((k : ℕ) → is_free after.holes k ≡ (is_free before.holes k && not (in_range range.place range.size k))) →
+    IsFreeBeside m (taken ++ range ∷ []) region after
+taken_more m taken region before after range its beside size runs free = record {
+  size = size ∙ beside.size;
+  runs = runs;
+  free = λ k.
+      free k
+      ∙ (ap (λ z. z && not (in_range range.place range.size k)) (beside.free k)
+      ∙ (ap (λ n. (ltb k n && not (is_taken taken region k)) && not (in_range range.place range.size k)) (sym size)
+      ∙ (regroup (ltb k after.size) (is_taken taken region k) (in_range range.place range.size k)
+      ∙ (ap (λ z. ltb k after.size && not (is_taken taken region k || (z || false))) (sym (here k))
+      ∙ ap (λ z. ltb k after.size && not z) (sym (list_any-append (has_place region k) taken (range ∷ [])))))));
+}
+  where
+    here : (k : ℕ) → has_place region k range ≡ in_range range.place range.size k
+    here k = ap (λ r. (r == region) && in_range range.place range.size k) its ∙ here_too region (in_range range.place range.size k)
+
+free_test : (a b : Bool) → a ≡ true → b ≡ false → (a && not b) ≡ true
+free_test true false p q = refl
+free_test true true p q = clash refl q
+free_test false b p q = clash p refl
+
+module _ (m : Description) (taken : List Range) (claim : Claim) (f : Free) (beside : IsFreeBeside m taken claim.region f) (some : 0 < claim.size) where
+  -- a range that lies in a hole may be taken
+  pub open_from_hole : (p : ℕ) → p % claim.align ≡ 0 → IfSome claim.fixed (λ q. p ≡ q) → is_hole_range f.holes p claim.size ≡ true → IsOpen m taken claim p
+  open_from_hole p aligned fixed fits =
+      let at : (k : ℕ) → p ≤ k → k < p + claim.size → (ltb k f.size ≡ true) × (not (is_taken taken claim.region k) ≡ true) =
+      λ k low high. and_parts (ltb k f.size) (not (is_taken taken claim.region k)) (sym (beside.free k) ∙ free_in_range f.holes p claim.size k fits low high) in
+      let last = ltb-true (p + claim.size - 1) f.size (at (p + claim.size - 1) (omega (arith, some)) (omega (arith, some))).0 in
+      let size = beside.size in
+      record {
+        aligned = aligned;
+        fixed = fixed;
+        within = omega (arith, last, size, some);
+        untaken = λ k mine. let i = in_facts p claim.size k mine in not-true (is_taken taken claim.region k) (at k i.0 i.1).1;
+      }
+
+  -- and one that may be taken lies in a hole
+  pub hole_from_open : (p : ℕ) → IsOpen m taken claim p → is_hole_range f.holes p claim.size ≡ true
+  hole_from_open p o =
+      let size = beside.size in
+      let within = o.within in
+      range_of_free 0 f.size f.holes p claim.size beside.runs some
+      (λ k low high.
+      beside.free k ∙ free_test (ltb k f.size) (is_taken taken claim.region k) (lt-ltb k f.size (omega (arith, within, size, high)))
+      (o.untaken k (in_from p claim.size k low high)))
+
+-- the first fit is the least range
+pub least_from_fit : (m : Description) (taken : List Range) (claim : Claim) (f : Free) (place : ℕ) → claim.fixed ≡ None → IsFreeBeside m taken claim.region f → 0 < claim.size →
+    IsFirstFit f.holes claim.size claim.align place → IsLeastOpen m taken claim (record { region = claim.region; place = place; size = claim.size })
+least_from_fit m taken claim f place none beside some fit = record {
+  region = refl;
+  size = refl;
+  may = open_from_hole m taken claim f beside some place fit.aligned (subst (λ o. IfSome o (λ q. place ≡ q)) (sym none) tt) fit.fits;
+  least = λ q o. fit.least q o.aligned (hole_from_open m taken claim f beside some q o);
+}
+
+pub refused_from_fit : (m : Description) (taken : List Range) (claim : Claim) (f : Free) → IsFreeBeside m taken claim.region f → 0 < claim.size →
+    HasNoFit f.holes claim.size claim.align → IsRefused m taken claim
+refused_from_fit m taken claim f beside some none q o = clash (hole_from_open m taken claim f beside some q o) (none q o.aligned)
+
+-- the fixed range is the least one
+pub least_from_fixed : (m : Description) (taken : List Range) (claim : Claim) (f : Free) (place : ℕ) → claim.fixed ≡ Some place → place % claim.align ≡ 0 →
+    IsFreeBeside m taken claim.region f → 0 < claim.size → is_hole_range f.holes place claim.size ≡ true →
+    IsLeastOpen m taken claim (record { region = claim.region; place = place; size = claim.size })
+least_from_fixed m taken claim f place is aligned beside some fits = record {
+  region = refl;
+  size = refl;
+  may = open_from_hole m taken claim f beside some place aligned (subst (λ o. IfSome o (λ q. place ≡ q)) (sym is) refl) fits;
+  least = λ q o. let e : q ≡ place = subst (λ o'. IfSome o' (λ p. q ≡ p)) is o.fixed in omega (arith, e);
+}
+
+pub refused_from_fixed : (m : Description) (taken : List Range) (claim : Claim) (f : Free) (place : ℕ) → claim.fixed ≡ Some place →
+    IsFreeBeside m taken claim.region f → 0 < claim.size → is_hole_range f.holes place claim.size ≡ false → IsRefused m taken claim
+refused_from_fixed m taken claim f place is beside some none q o =
+    let e : q ≡ place = subst (λ o'. IfSome o' (λ p. q ≡ p)) is o.fixed in
+    clash (hole_from_open m taken claim f beside some q o) (ap (λ p. is_hole_range f.holes p claim.size) e ∙ none)

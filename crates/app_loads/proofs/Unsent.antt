@@ -1,0 +1,221 @@
+-- Packets put to the vertices of their nets' sources, and queues emptied.
+use Rattle.std.proofs.Common.{◌≡◌, ◌≢◌, ℕ, zero, suc, ◌+◌, ◌^◌, ◌<◌, ◌≤◌, ◌==◌, List, [], ◌∷◌, ◌++◌, take, get_or, length, refl, sym, ap, ◌∙◌, subst, inl, inr, arith, Some}
+use Rattle.std.specs.List.{list_any, slice_get, slice_set, All, Contains}
+use Rattle.std.proofs.lemmas.Bool.{cases_Bool, cases_eq, eqb-true, eq-eqb, false≢true}
+use Rattle.std.proofs.lemmas.List.{length-set}
+use Rattle.std.proofs.lemmas.Option.{slice_get_within, slice_get-get_or}
+use Rattle.list_laws.proofs.Members.{Among, Contains-at, any_among, among_any, among_contains, contains_among}
+use Rattle.list_laws.proofs.Places.{All-at, slice_get_there, slice_get-set_same, slice_get-set_other, slice_get-push_cases, take_more_at}
+use Rattle.spin_base.specs.declared.blocks.Block.{Block}
+use Rattle.spin_base.specs.declared.chips.Spot.{Spot}
+use Rattle.spin_base.specs.declared.copies.McCopy.{McCopy}
+use Rattle.spin_base.specs.declared.copies.Packet.{Packet}
+use Rattle.net_tables.specs.NetsOn.{vertex_at}
+use Rattle.mesh_core.proofs.Ways.{vertex_at_stands}
+use Rattle.app_loads.specs.declared.loaded.LoadedApp.{LoadedApp}
+use Rattle.app_loads.specs.declared.plans.AppNet.{AppNet}
+use Rattle.app_loads.specs.Host.{net_with, nets_with}
+use Rattle.app_loads.specs.Joining.{AreSent, NoneUnsent}
+use Rattle.app_loads.specs.Sending.{AreCleared, AreSources, CanAdd, IsPacketOn, IsSameBeside}
+
+pub all_taken : {A : Type 0} (ys : List A) (n : ℕ) → length ys ≤ n → take n ys ≡ ys
+all_taken [] zero le = refl
+all_taken [] (suc n) le = refl
+all_taken (y ∷ ys) zero le = absurd (omega (arith, le))
+all_taken (y ∷ ys) (suc n) le = ap (λ r. y ∷ r) (all_taken ys n (omega (arith, le)))
+
+-- a net of the application, by its place
+pub nets_with_at : (nets : List AppNet) (blocks : List Block) (i : ℕ) (net : AppNet) (block : Block) → slice_get nets i ≡ Some net → slice_get blocks i ≡ Some block →
+    slice_get (nets_with nets blocks) i ≡ Some (net_with net block)
+nets_with_at [] blocks i net block n b = cc
+nets_with_at (x ∷ xs) [] i net block n b = cc
+nets_with_at (x ∷ xs) (y ∷ ys) zero net block n b = let p : x ≡ net = cc in let q : y ≡ block = cc in ap (λ z. Some (net_with z y)) p ∙ ap (λ z. Some (net_with net z)) q
+nets_with_at (x ∷ xs) (y ∷ ys) (suc i) net block n b = nets_with_at xs ys i net block n b
+
+pub nets_with_long : (nets : List AppNet) (blocks : List Block) → length (nets_with nets blocks) ≤ length nets
+nets_with_long [] blocks = omega arith
+nets_with_long (x ∷ xs) [] = omega arith
+nets_with_long (x ∷ xs) (y ∷ ys) = let w = nets_with_long xs ys in omega (arith, w)
+
+-- two lists with the same items are one
+pub same_at_each : {X : Type 0} (xs ys : List X) → length xs ≡ length ys → ((i : ℕ) → slice_get xs i ≡ slice_get ys i) → xs ≡ ys
+same_at_each [] [] long each = refl
+same_at_each [] (y ∷ ys) long each = absurd (omega (arith, long))
+same_at_each (x ∷ xs) [] long each = absurd (omega (arith, long))
+same_at_each (x ∷ xs) (y ∷ ys) long each =
+    let first : x ≡ y = some_same (each 0) in
+    let rest = same_at_each xs ys (omega (arith, long)) (λ i. each (suc i)) in
+    ap (λ z. z ∷ xs) first ∙ ap (λ l. y ∷ l) rest
+  where
+    some_same : {A : Type 0} {a b : A} → Some a ≡ Some b → a ≡ b
+    some_same e = cc
+
+pub none_sent : (spots : List Spot) (app : LoadedApp) (unsent : List (List McCopy)) → AreSent spots app 0 unsent unsent
+none_sent spots app unsent = refl
+
+pub all_same : (sources : List ℕ) (unsent : List (List McCopy)) → IsSameBeside sources unsent unsent
+all_same sources unsent = record { long = refl; others = λ v other. refl }
+
+-- what is written at one of the vertices leaves the others
+pub same_still : (sources : List ℕ) (old cur : List (List McCopy)) (v : ℕ) (q : List McCopy) → Contains sources v → IsSameBeside sources old cur → IsSameBeside sources old (slice_set cur v q)
+same_still sources old cur v q has same = record {
+  long = length-set cur v q ∙ same.long;
+  others = λ w other. slice_get-set_other cur v w q (λ e. other (subst (Contains sources) (sym e) has)) ∙ same.others w other;
+}
+
+module _ (sources : List ℕ) (app : LoadedApp) (old cur : List (List McCopy)) (can : CanAdd sources app old) (same : IsSameBeside sources old cur)
+    (i : ℕ) (packet : Packet) (at : slice_get app.plan.packets i ≡ Some packet) where
+  on : IsPacketOn app.blocks (length sources) packet
+  on = All-at (IsPacketOn app.blocks (length sources)) app.plan.packets i packet can.packets at
+
+  pub net_below : packet.net < length app.blocks
+  net_below = let n = on.net in let a = can.each_net in let b = can.blocks in omega (arith, n, a, b)
+
+  pub source_below : packet.net < length sources
+  source_below = on.net
+
+  pub queue_below : (d : ℕ) → get_or sources packet.net d < length cur
+  queue_below d = subst (λ n. get_or sources packet.net d < n) (sym same.long) (can.queues packet.net d on.net)
+
+  pub number_fits : app.first + i < 2 ^ 32
+  number_fits = let w = slice_get_within app.plan.packets i packet at in let n = can.numbers in omega (arith, w, n)
+
+  pub key_fits : (block : Block) → slice_get app.blocks packet.net ≡ Some block → block.key + packet.index < 2 ^ 32
+  key_fits block is = subst (λ (b : Block). b.key + packet.index < 2 ^ 32) (some_same (sym on.is ∙ is)) on.key
+    where
+      some_same : {A : Type 0} {a b : A} → Some a ≡ Some b → a ≡ b
+      some_same e = cc
+
+  pub sent_more : (block : Block) (d : ℕ) (e : List McCopy) (after : List (List McCopy)) → slice_get app.blocks packet.net ≡ Some block →
+      (let copy : McCopy = record { packet = app.first + i; key = block.key + packet.index; payload = packet.payload; hop = 0 } in
+      after ≡ slice_set cur (get_or sources packet.net d) (get_or cur (get_or sources packet.net d) e ++ copy ∷ [])) →
+      (spots : List Spot) → AreSources spots app.plan.nets sources → AreSent spots app i old cur → AreSent spots app (i + 1) old after
+  sent_more block d e after is_block is spots are so_far =
+      let net = slice_get_there app.plan.nets packet.net (let n = on.net in let a = can.each_net in omega (arith, n, a)) in
+      let v : ℕ = get_or sources packet.net d in
+      let next : i + 1 ≡ suc i = omega arith in
+      subst (λ n. AreSent spots app n old after) (sym next) (
+        cur,
+        packet,
+        so_far,
+        at,
+        record {
+          net = net_with net.0 block;
+          is_net = nets_with_at app.plan.nets app.blocks packet.net net.0 block net.1 is_block;
+          vertex = v;
+          is_vertex = are.each packet.net v net.0 net.1 (slice_get-get_or sources packet.net d on.net);
+          queue = get_or cur v e;
+          at = slice_get-get_or cur v e (queue_below d);
+          is = is;
+        },
+      )
+
+  pub others_same : (d : ℕ) (q : List McCopy) → IsSameBeside sources old (slice_set cur (get_or sources packet.net d) q)
+  others_same d q = same_still sources old cur (get_or sources packet.net d) q (Contains-at sources packet.net (get_or sources packet.net d) (slice_get-get_or sources packet.net d on.net)) same
+
+-- ---- queues emptied
+
+module _ (sources : List ℕ) (old cur : List (List McCopy)) (queues : All (λ v. v < length old) sources) (same : IsSameBeside sources old cur) (i : ℕ) (d : ℕ) (below : i < length sources) where
+  abbrev v : ℕ
+  v = get_or sources i d
+
+  at_v : slice_get sources i ≡ Some v
+  at_v = slice_get-get_or sources i d below
+
+  pub clear_below : v < length cur
+  clear_below = subst (λ n. v < n) (sym same.long) (queues i d below)
+
+  pub cleared_beside : IsSameBeside sources old (slice_set cur v [])
+  cleared_beside = same_still sources old cur v [] (Contains-at sources i v at_v) same
+
+  pub cleared_more : ((w : ℕ) → Contains (take i sources) w → slice_get cur w ≡ Some []) → (w : ℕ) → Contains (take (i + 1) sources) w → slice_get (slice_set cur v []) w ≡ Some []
+  cleared_more so_far w has = elim (cases_eq w v) [
+    | inl is ↦ ap (slice_get (slice_set cur v [])) is ∙ (let there = slice_get_there cur v clear_below in slice_get-set_same cur v there.0 [] there.1)
+    | inr other ↦ slice_get-set_other cur v w [] other ∙ so_far w (before w other (subst (λ (l : List ℕ). Contains l w) (take_more_at sources i v at_v) has))
+  ]
+    where
+      before : (w : ℕ) → w ≢ v → Contains (take i sources ++ v ∷ []) w → Contains (take i sources) w
+      before w other there = left (take i sources) there
+        where
+          left : (l : List ℕ) → Contains (l ++ v ∷ []) w → Contains l w
+          left l has' = among_contains w l (from_either l (contains_among w (l ++ v ∷ []) has'))
+            where
+              from_either : (ks : List ℕ) → Among w (ks ++ v ∷ []) → Among w ks
+              from_either [] (inl here) = absurd (other here)
+              from_either [] (inr none) = none
+              from_either (k ∷ ks) (inl here) = inl here
+              from_either (k ∷ ks) (inr later) = inr (from_either ks later)
+
+  pub emptied_beside : (q : List McCopy) → q ≡ [] → IsSameBeside sources old (slice_set cur v q)
+  emptied_beside q none = subst (λ (l : List McCopy). IsSameBeside sources old (slice_set cur v l)) (sym none) cleared_beside
+
+  pub emptied_more : (q : List McCopy) → q ≡ [] → ((w : ℕ) → Contains (take i sources) w → slice_get cur w ≡ Some []) → (w : ℕ) → Contains (take (i + 1) sources) w → slice_get (slice_set cur v q) w ≡ Some []
+  emptied_more q none so_far w has = ap (λ (l : List McCopy). slice_get (slice_set cur v l) w) none ∙ cleared_more so_far w has
+
+-- all are emptied
+pub all_cleared : (sources : List ℕ) (old cur : List (List McCopy)) (i : ℕ) → length sources ≤ i → IsSameBeside sources old cur → ((w : ℕ) → Contains (take i sources) w → slice_get cur w ≡ Some []) → AreCleared sources old cur
+all_cleared sources old cur i end same empty = record { beside = same; empty = λ v has. empty v (subst (λ (l : List ℕ). Contains l v) (sym (all_taken sources i end)) has) }
+
+-- Where the sources had nothing unsent, all is as before.
+pub put_back : (spots : List Spot) (nets : List AppNet) (sources : List ℕ) (old mid new : List (List McCopy)) → AreSources spots nets sources → NoneUnsent spots nets old → IsSameBeside sources old mid →
+    AreCleared sources mid new → new ≡ old
+put_back spots nets sources old mid new are none same cleared = same_at_each new old (cleared.beside.long ∙ same.long) each
+  where
+    each : (w : ℕ) → slice_get new w ≡ slice_get old w
+    each w = elim (cases_Bool (list_any (λ k. k == w) sources)) [
+      | inl yes' ↦ (
+          let found = any_among (λ k. k == w) sources yes' in
+          let is : found.0 ≡ w = eqb-true found.0 w found.2 in
+          let has : Contains sources w = subst (Contains sources) is (among_contains found.0 sources found.1) in
+          cleared.empty w has ∙ sym (was_empty has)
+          )
+      | inr no' ↦ (
+          let other : Contains sources w → ⊥ = λ has. false≢true (sym no' ∙ among_any (λ k. k == w) w sources (contains_among w sources has) (eq-eqb w w refl)) in
+          cleared.beside.others w other ∙ same.others w other
+          )
+    ]
+      where
+        was_empty : Contains sources w → slice_get old w ≡ Some []
+        was_empty has =
+            let i : ℕ = has.0 in
+            let at : slice_get sources i ≡ Some w = slice_get-get_or sources i w has.1 ∙ ap Some has.2 in
+            let net = slice_get_there nets i (let n = has.1 in let a = are.all in omega (arith, n, a)) in
+            none net.0 (Contains-at nets i net.0 net.1) w (are.each i w net.0 net.1 at)
+
+-- ---- the sources of nets
+
+pub sources_more : (spots : List Spot) (nets : List AppNet) (vertices after : List ℕ) (i v : ℕ) (net : AppNet) → slice_get nets i ≡ Some net → vertex_at spots net.source ≡ Some v → after ≡ vertices ++ v ∷ [] →
+    length vertices ≡ i → ((j w : ℕ) (n : AppNet) → slice_get nets j ≡ Some n → slice_get vertices j ≡ Some w → vertex_at spots n.source ≡ Some w) →
+    (j w : ℕ) (n : AppNet) → slice_get nets j ≡ Some n → slice_get after j ≡ Some w → vertex_at spots n.source ≡ Some w
+sources_more spots nets vertices after i v net at is pushed long each j w n at_j here = elim (slice_get-push_cases vertices v w j (sym (ap (λ l. slice_get l j) pushed) ∙ here)) [
+  | inl old ↦ each j w n at_j old.1
+  | inr new ↦
+      let same : net ≡ n = some_same (sym at ∙ (ap (slice_get nets) (sym (new.0 ∙ long)) ∙ at_j)) in
+      ap (λ (x : AppNet). vertex_at spots x.source) (sym same) ∙ (is ∙ ap Some new.1)
+]
+  where
+    some_same : {A : Type 0} {a b : A} → Some a ≡ Some b → a ≡ b
+    some_same e = cc
+
+pub sources_of : (spots : List Spot) (nets given : List AppNet) (sources : List ℕ) → given ≡ nets → AreSources spots given sources → AreSources spots nets sources
+sources_of spots nets given sources is are = subst (λ (l : List AppNet). AreSources spots l sources) is are
+
+-- what adding asks of the sources
+pub can_add : (setup_spots : List Spot) (queues : ℕ) (app : LoadedApp) (unsent : List (List McCopy)) (sources : List ℕ) → length unsent ≡ length setup_spots →
+    All (IsPacketOn app.blocks (length app.plan.nets)) app.plan.packets → length app.blocks ≡ length app.plan.nets → app.first + length app.plan.packets < 2 ^ 32 →
+    AreSources setup_spots app.plan.nets sources → CanAdd sources app unsent
+can_add spots queues app unsent sources long packets blocks numbers are = record {
+  queues = λ k d below. (
+      let at = slice_get-get_or sources k d below in
+      let net = slice_get_there app.plan.nets k (let a = are.all in omega (arith, below, a)) in
+      let is = are.each k (get_or sources k d) net.0 net.1 at in
+      subst (λ n. get_or sources k d < n) (sym long) (vertex_below spots net.0.source (get_or sources k d) is)
+      );
+  packets = subst (λ n. All (IsPacketOn app.blocks n) app.plan.packets) (sym are.all) packets;
+  blocks = blocks;
+  each_net = are.all;
+  numbers = numbers;
+}
+  where
+    vertex_below : (ss : List Spot) (s : Spot) (v : ℕ) → vertex_at ss s ≡ Some v → v < length ss
+    vertex_below ss s v is = slice_get_within ss v s (vertex_at_stands ss s v is)

@@ -1,0 +1,8 @@
+use Rattle.std.proofs.Common.{◌≡◌, ◌++◌, take}
+use Rattle.list_laws.specs.Gathered.{gathered}
+use Rattle.app_loads.specs.declared.plans.AppNet.{AppNet}
+use Rattle.app_loads.specs.Claims.{fixed_claim}
+use Rattle.app_loads.proofs.claims.claim_fixed.Given as goal
+
+abbrev pub invariant-loop-net : goal.invariant-loop-net
+invariant-loop-net l = l.claims.items ≡ l.fn.claims.items ++ gathered (λ j (net : AppNet). fixed_claim j net.fixed) 0 (take l.net l.nets)

@@ -1,0 +1,14 @@
+use Rattle.std.specs.Prelude.{zip}
+use Rattle.app_loads.specs.Claims.{memory_claim}
+use Rattle.app_loads.proofs.Claiming.{one_more, whole_at, zip_at, zip_long}
+use Rattle.app_loads.proofs.claims.claim_memory.Goals as goal
+
+pub loop-vertex-preserved : goal.loop-vertex-preserved
+loop-vertex-preserved c =
+    one_more (memory_claim c.args.machine.now) (zip c.args.spots.now c.args.sdram.now) c.loop-vertex.vertex _ c.args.claims.now.items c.loop-vertex.claims.items c.push_memory.new.claims.items
+    (zip_at c.args.spots.now c.args.sdram.now c.loop-vertex.vertex _ _ c.requires.each c.loop-vertex-test.true) c.loop-vertex.invariant c.in_ok-push_memory.ensures
+
+pub returns : goal.returns
+returns c =
+    whole_at (memory_claim c.args.machine.now) (zip c.args.spots.now c.args.sdram.now) c.loop-vertex.vertex c.args.claims.now.items c.loop-vertex.claims.items
+    (zip_long c.args.spots.now c.args.sdram.now c.loop-vertex.vertex c.loop-vertex-test.false) c.loop-vertex.invariant

@@ -1,0 +1,9 @@
+use Rattle.std.proofs.Common.{◌≡◌, ◌++◌, ◌∷◌, take}
+use Rattle.std.specs.List.{flat_map}
+use Rattle.machine_desc.specs.Live.{index_of}
+use Rattle.app_loads.specs.Counting.{end_places}
+use Rattle.app_loads.proofs.claims.push_tree.Given as goal
+
+-- the root, and the ends of the edges so far
+abbrev pub invariant-loop-edge : goal.invariant-loop-edge
+invariant-loop-edge l = l.chips.items ≡ l.fn.chips.items ++ index_of l.machine l.net.tree.root ∷ flat_map (end_places l.machine) (take l.edge-index l.edge-items)

@@ -1,0 +1,8 @@
+use Rattle.std.proofs.Common.{◌≡◌, take}
+use Rattle.std.specs.List.{flat_map}
+use Rattle.app_loads.specs.Counting.{tree_places}
+use Rattle.app_loads.proofs.claims.tree_chips.Given as goal
+
+-- the chips of the nets so far
+abbrev pub invariant-loop-net : goal.invariant-loop-net
+invariant-loop-net l = l.chips.items ≡ flat_map (tree_places l.machine) (take l.net-index l.nets)

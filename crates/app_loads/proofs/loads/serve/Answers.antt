@@ -1,0 +1,49 @@
+use Rattle.std.proofs.Common.{◌∙◌, sym, subst, List, length}
+use Rattle.app_loads.specs.declared.loaded.Claim.{Claim}
+use Rattle.app_loads.specs.declared.loaded.Range.{Range}
+use Rattle.app_loads.specs.Claims.{AreBlocks, AreServed, claims_of}
+use Rattle.app_loads.specs.Joining.{AreKeyed}
+use Rattle.app_loads.specs.Taking.{AreServedAlways, AreTaken, AreTakenAlways}
+use Rattle.app_loads.proofs.Served.{can_serve, keyed_from}
+use Rattle.app_loads.proofs.loads.serve.Goals as goal
+
+pub take_all-requires : goal.take_all-requires
+take_all-requires c = can_serve c.args.machine.now c.args.plan.now c.args.regions.now c.deref.result.now c.requires.plan c.requires.regions (c.deref.ensures.value ∙ c.in-Ok.ensures)
+
+pub app_of-requires : goal.app_of-requires
+app_of-requires c =
+    let own = c.requires.regions in
+    let served = subst (λ (l : List Claim). AreServed c.args.machine.now own.taken l c.in-Ok-take_all.ranges.items) (c.deref.ensures.value ∙ c.in-Ok.ensures)
+    (c.in-Ok-take_all.ensures.served c.args.machine.now own.taken own.apart own.free) in
+    subst (λ (l : List Claim). AreKeyed l c.deref-3.result.now (length c.args.plan.now.nets)) (sym (c.deref-2.ensures.value ∙ c.in-Ok.ensures))
+    (subst (λ (l : List Range). AreKeyed (claims_of c.args.machine.now c.args.plan.now) l (length c.args.plan.now.nets)) (sym c.deref-3.ensures.value)
+    (keyed_from c.args.machine.now c.args.plan.now c.requires.plan own.taken c.in-Ok-take_all.ranges.items served))
+
+pub returns-in-Ok-app_of-clause-served : goal.returns-in-Ok-app_of-clause-served
+returns-in-Ok-app_of-clause-served c =
+    let made = c.in-Ok-app_of.ensures in
+    let claims = c.deref-2.ensures.value ∙ c.in-Ok.ensures in
+    let ranges = made.ranges ∙ c.deref-3.ensures.value in
+    record {
+      number_is = made.number;
+      plan_is = made.plan;
+      first_is = made.first;
+      served = subst (λ (l : List Range). AreServedAlways (claims_of c.args.machine.now c.args.plan.now) c.args.regions.now l) (sym ranges)
+          (subst (λ (l : List Claim). AreServedAlways l c.args.regions.now c.in-Ok-take_all.ranges.items) (c.deref.ensures.value ∙ c.in-Ok.ensures) c.in-Ok-take_all.ensures.served);
+      taken = subst (λ (l : List Range). AreTakenAlways c.args.regions.now l c.take_all.new.regions) (sym ranges) c.in-Ok-take_all.ensures.taken;
+      blocks = subst (λ (l : List Claim). AreBlocks l c.in-Ok-app_of.app.ranges c.args.plan.now.nets c.in-Ok-app_of.app.blocks) claims
+          (subst (λ (l : List Range). AreBlocks c.deref-2.result.now l c.args.plan.now.nets c.in-Ok-app_of.app.blocks) (sym made.ranges) made.blocks);
+    }
+
+pub give_all-requires-clause-taken : goal.give_all-requires-clause-taken
+give_all-requires-clause-taken c =
+    let own = c.requires.regions in (
+      c.args.machine.now,
+      own.taken,
+      subst (λ (l : List Range). AreTaken c.args.machine.now own.taken l c.take_all.new.regions) (sym c.deref-in-Err-app_of.ensures.value)
+          (c.in-Ok-take_all.ensures.taken c.args.machine.now own.taken own.apart own.free),
+    )
+
+pub returns-clause-back : goal.returns-clause-back
+returns-clause-back c m taken apart free =
+    c.give_all.ensures.free m taken (subst (λ (l : List Range). AreTaken m taken l c.take_all.new.regions) (sym c.deref-in-Err-app_of.ensures.value) (c.in-Ok-take_all.ensures.taken m taken apart free))

@@ -1,0 +1,12 @@
+use Rattle.std.proofs.Common.{List}
+use Rattle.spin_base.specs.declared.chips.Spot.{Spot}
+use Rattle.app_loads.specs.Joining.{AreSent}
+use Rattle.app_loads.specs.Sending.{AreSources, IsSameBeside}
+use Rattle.app_loads.proofs.sends.add_packets.Given as goal
+
+-- the packets so far are sent
+abbrev pub invariant-loop-at : goal.invariant-loop-at
+invariant-loop-at l = record {
+  sent : (spots : List Spot) → AreSources spots l.app.plan.nets l.sources → AreSent spots l.app l.at l.fn.unsent l.unsent;
+  same : IsSameBeside l.sources l.fn.unsent l.unsent;
+}

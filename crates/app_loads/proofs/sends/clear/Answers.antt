@@ -1,0 +1,12 @@
+use Rattle.app_loads.proofs.Unsent.{emptied_beside, emptied_more, all_cleared}
+use Rattle.app_loads.proofs.sends.clear.Goals as goal
+
+pub loop-source-preserved : goal.loop-source-preserved
+loop-source-preserved c = record {
+  beside = emptied_beside c.args.sources.now c.args.unsent.now c.loop-source.unsent c.requires c.loop-source.invariant.beside c.loop-source.source-index 0 c.loop-source-test.true c.new.result c.new.ensures;
+  empty = emptied_more c.args.sources.now c.args.unsent.now c.loop-source.unsent c.requires c.loop-source.invariant.beside c.loop-source.source-index 0 c.loop-source-test.true c.new.result c.new.ensures
+      c.loop-source.invariant.empty;
+}
+
+pub returns : goal.returns
+returns c = all_cleared c.args.sources.now c.args.unsent.now c.loop-source.unsent c.loop-source.source-index c.loop-source-test.false c.loop-source.invariant.beside c.loop-source.invariant.empty

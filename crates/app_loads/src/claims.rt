@@ -1,0 +1,260 @@
+// What a plan asks the regions for.
+ghost use Rattle.std.specs.Prelude.{◌≡◌, ◌+◌, ◌*◌, ◌-◌, ◌^◌, ◌<◌, ◌≤◌, ◌++◌, All, AllPairs, IfOk, OnOk, IfSome, length, zip};
+ghost use Rattle.std.specs.List.{flat_map, range_with_len};
+ghost use Rattle.std.specs.List.Sorted.{IsPermutation};
+ghost use Rattle.list_laws.specs.Gathered.{gathered};
+ghost use Rattle.machine_desc.specs.Live.{IsInside, IsUsable};
+ghost use Rattle.app_graph.specs.ValidGraph.{IsFixedFor};
+ghost use Rattle.app_loads.specs.declared.plans.AppNet.{AppNet as ANet};
+ghost use Rattle.app_loads.specs.Claims.{claims_of, memory_claim, fixed_claim, key_claim, entries_claim, row_claim, size_for};
+ghost use Rattle.app_loads.specs.Counting.{HasTree, IsRunEnd, end_places, run_claim, tree_places};
+ghost use Rattle.app_loads.specs.Plans.{IsPlan, IsAppNet};
+ghost use Rattle.app_loads.specs.Regions.{chip_count};
+
+use crate::answers::LoadErr;
+use crate::loaded::Claim;
+use crate::plans::{AppNet, AppPlan};
+use machine_desc::{Edge, Machine};
+use spin_base::{Block, Memory, Spot};
+use std::alloc::Global;
+
+// The region of all keys.
+const KEYS: usize = 0;
+
+// The claims of a plan, in the order in which they are served: memory vertex by vertex, the fixed blocks of its nets, the blocks of
+// its other nets, and entries chip by chip.
+pub fn claims_of(alloc: Global, machine: &Machine, plan: &AppPlan) -> Result<Vec<Claim>, Memory>
+    requires { IsPlan machine.now plan.now }
+    ensures { IfOk result (λ claims. claims.items ≡ claims_of machine.now plan.now) }
+{
+    // So many spots, or nets, have no place in memory.
+    if plan.spots.len() >= 4_294_967_296 {
+        return Err(Memory);
+    }
+    let mut claims = Vec::new(alloc);
+    claim_memory(
+        &mut claims,
+        machine,
+        plan.spots.as_slice(),
+        plan.sdram.as_slice(),
+    )?;
+    claim_fixed(&mut claims, plan.nets.as_slice())?;
+    claim_keys(&mut claims, plan.nets.as_slice())?;
+    claim_rows(alloc, &mut claims, machine, plan.nets.as_slice())?;
+    Ok(claims)
+}
+
+// Each vertex's memory.
+fn claim_memory(
+    claims: &mut Vec<Claim>,
+    machine: &Machine,
+    spots: &[Spot],
+    sdram: &[u32],
+) -> Result<(), Memory>
+    requires usable { All (IsUsable machine.now) spots.now }
+    requires each { length sdram.now ≡ length spots.now }
+    requires few { length spots.now < 2 ^ 32 }
+    ensures { OnOk result (claims.new.items ≡ claims.old.items ++ gathered (memory_claim machine.now) 0 (zip spots.now sdram.now)) }
+{
+    for (vertex, spot) in spots.iter().enumerate() {
+        push_memory(claims, machine, vertex as u32, *spot, sdram[vertex])?;
+    }
+    Ok(())
+}
+
+// A vertex's memory, if it needs some.
+fn push_memory(
+    claims: &mut Vec<Claim>,
+    machine: &Machine,
+    vertex: u32,
+    spot: Spot,
+    bytes: u32,
+) -> Result<(), Memory>
+    requires { IsInside machine.now spot.chip }
+    ensures { OnOk result (claims.new.items ≡ claims.old.items ++ memory_claim machine.now vertex (spot, bytes)) }
+{
+    if bytes > 0 {
+        claims.push(Claim {
+            region: 1 + machine.index(spot.chip) as usize,
+            size: u64::from(bytes),
+            align: 1,
+            fixed: None,
+            refusal: LoadErr::MemoryOut { vertex },
+        })?;
+    }
+    Ok(())
+}
+
+// The fixed blocks.
+fn claim_fixed(claims: &mut Vec<Claim>, nets: &[AppNet]) -> Result<(), Memory>
+    requires { length nets.now < 2 ^ 32 }
+    ensures { OnOk result (claims.new.items ≡ claims.old.items ++ gathered (λ j (net : ANet). fixed_claim j net.fixed) 0 nets.now) }
+{
+    for (net, wanted) in nets.iter().enumerate() {
+        push_fixed(claims, net as u32, wanted.fixed)?;
+    }
+    Ok(())
+}
+
+// A net's fixed block, if it has one.
+fn push_fixed(claims: &mut Vec<Claim>, net: u32, fixed: Option<Block>) -> Result<(), Memory>
+    ensures { OnOk result (claims.new.items ≡ claims.old.items ++ fixed_claim net fixed) }
+{
+    if let Some(block) = fixed {
+        claims.push(Claim {
+            region: KEYS,
+            size: 4_294_967_296 - u64::from(block.mask),
+            align: 1,
+            fixed: Some(u64::from(block.key)),
+            refusal: LoadErr::KeysOut { net },
+        })?;
+    }
+    Ok(())
+}
+
+// The blocks of the nets that have no fixed one.
+fn claim_keys(claims: &mut Vec<Claim>, nets: &[AppNet]) -> Result<(), Memory>
+    requires few { length nets.now < 2 ^ 32 }
+    requires some { All (λ (net : ANet). 1 ≤ net.keys) nets.now }
+    requires small { All (λ (net : ANet). net.keys ≤ 4294967296) nets.now }
+    ensures { OnOk result (claims.new.items ≡ claims.old.items ++ gathered (λ j (net : ANet). key_claim j net.keys net.fixed) 0 nets.now) }
+{
+    for (net, wanted) in nets.iter().enumerate() {
+        push_keys(claims, net as u32, wanted.keys, wanted.fixed)?;
+    }
+    Ok(())
+}
+
+// A net's block, if it has no fixed one.
+fn push_keys(
+    claims: &mut Vec<Claim>,
+    net: u32,
+    keys: u64,
+    fixed: Option<Block>,
+) -> Result<(), Memory>
+    requires some { 1 ≤ keys }
+    requires few { keys ≤ 4294967296 }
+    ensures { OnOk result (claims.new.items ≡ claims.old.items ++ key_claim net keys fixed) }
+{
+    if fixed.is_none() {
+        let size = size_for(keys);
+        claims.push(Claim {
+            region: KEYS,
+            size,
+            align: size,
+            fixed: None,
+            refusal: LoadErr::KeysOut { net },
+        })?;
+    }
+    Ok(())
+}
+
+// The least power of two that is not below a number of keys.
+fn size_for(keys: u64) -> u64
+    requires some { 1 ≤ keys }
+    requires few { keys ≤ 4294967296 }
+    ensures { result ≡ size_for keys }
+{
+    keys.next_power_of_two()
+}
+
+// Entries, chip by chip.
+fn claim_rows(
+    alloc: Global,
+    claims: &mut Vec<Claim>,
+    machine: &Machine,
+    nets: &[AppNet],
+) -> Result<(), Memory>
+    requires { All (HasTree machine.now) nets.now }
+    ensures { OnOk result (claims.new.items ≡ claims.old.items ++ flat_map (row_claim machine.now nets.now) (range_with_len 0 (chip_count machine.now))) }
+{
+    let chips = tree_chips(alloc, machine, nets)?;
+    claim_runs(claims, machine, &chips)
+}
+
+// Entries for each run of equal indices in a list in order: as many as the run is long.
+fn claim_runs(claims: &mut Vec<Claim>, machine: &Machine, chips: &[u32]) -> Result<(), Memory>
+    requires sorted { AllPairs (λ a b. a ≤ b) chips.now }
+    requires inside { All (λ i. i < chip_count machine.now) chips.now }
+    ensures { OnOk result (claims.new.items ≡ claims.old.items ++ flat_map (run_claim machine.now chips.now) (range_with_len 0 (chip_count machine.now))) }
+{
+    let mut at = 0;
+    'runs: while at < chips.len() {
+        let end = run_end(chips, at);
+        push_rows(claims, machine, chips[at], (end - at) as u64)?;
+        at = end;
+    }
+    Ok(())
+}
+
+// So many entries of the chip of an index.
+fn push_rows(
+    claims: &mut Vec<Claim>,
+    machine: &Machine,
+    index: u32,
+    rows: u64,
+) -> Result<(), Memory>
+    requires inside { index < chip_count machine.now }
+    requires some { 0 < rows }
+    ensures { OnOk result (claims.new.items ≡ claims.old.items ++ entries_claim machine.now index rows) }
+{
+    claims.push(Claim {
+        region: 1 + machine.chips() + index as usize,
+        size: rows,
+        align: 1,
+        fixed: None,
+        refusal: LoadErr::RowsOut {
+            chip: machine.chip_at(index),
+        },
+    })?;
+    Ok(())
+}
+
+// The place after the last of the items from a place on that are equal to the one there.
+fn run_end(items: &[u32], at: usize) -> usize
+    requires { at < length items.now }
+    ensures { IsRunEnd items.now at result }
+{
+    let mut end = at + 1;
+    'items: while end < items.len() && items[end] == items[at] {
+        end += 1;
+    }
+    end
+}
+
+// The indices of the chips of all nets' trees, in order: each as often as a net has it.
+fn tree_chips(alloc: Global, machine: &Machine, nets: &[AppNet]) -> Result<Vec<u32>, Memory>
+    requires { All (HasTree machine.now) nets.now }
+    ensures same { IfOk result (λ chips. IsPermutation (flat_map (tree_places machine.now) nets.now) chips.items) }
+    ensures sorted { IfOk result (λ chips. AllPairs (λ a b. a ≤ b) chips.items) }
+{
+    let mut chips = Vec::new(alloc);
+    for net in nets {
+        push_tree(machine, net, &mut chips)?;
+    }
+    chips.sort()?;
+    Ok(chips)
+}
+
+// The indices of the chips of a net's tree: its root, and where its edges lead.
+fn push_tree(machine: &Machine, net: &AppNet, chips: &mut Vec<u32>) -> Result<(), Memory>
+    requires { HasTree machine.now net.now }
+    ensures { OnOk result (chips.new.items ≡ chips.old.items ++ tree_places machine.now net.now) }
+{
+    chips.push(machine.index(net.tree.root))?;
+    for edge in net.tree.edges.as_slice() {
+        push_end(machine, *edge, chips)?;
+    }
+    Ok(())
+}
+
+// The index of the chip into which an edge leads, if there is one.
+fn push_end(machine: &Machine, edge: Edge, chips: &mut Vec<u32>) -> Result<(), Memory>
+    requires { IsInside machine.now edge.chip }
+    ensures { OnOk result (chips.new.items ≡ chips.old.items ++ end_places machine.now edge) }
+{
+    if let Some(chip) = machine.far(edge.chip, edge.dir) {
+        chips.push(machine.index(chip))?;
+    }
+    Ok(())
+}

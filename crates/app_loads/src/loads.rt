@@ -1,0 +1,220 @@
+// An application loaded.
+ghost use Rattle.std.specs.Prelude.{◌≡◌, ◌+◌, ◌^◌, ◌<◌, List, AllPairs, Contains, IfOk, IfErr, OnOk, OnErr, length};
+ghost use Rattle.machine_desc.specs.Description.{Description};
+ghost use Rattle.app_loads.specs.declared.loaded.Range.{Range as ARange};
+ghost use Rattle.app_loads.specs.Applications.{AreApps};
+ghost use Rattle.app_loads.specs.Claims.{AreBlocks, claims_of};
+ghost use Rattle.app_loads.specs.Joining.{AreKeyed, CanJoin, CanSettle, HaveBlocks, IsServed, IsSettled};
+ghost use Rattle.app_loads.specs.Loading.{HasLoaded, IsWhyNotLoaded};
+ghost use Rattle.app_loads.specs.Plans.{IsPlan, MayLoad};
+ghost use Rattle.app_loads.specs.Regions.{AreApart, AreFreeBeside};
+ghost use Rattle.app_loads.specs.Taking.{AreRegionsOf, HaveRoom, IsDueAlways, frees};
+ghost use Rattle.app_loads.specs.Writing.{AreCopied, CanCopy};
+
+use crate::answers::LoadErr;
+use crate::apps::{Apps, mark_spots};
+use crate::claims::claims_of;
+use crate::loaded::{Claim, LoadedApp, Range};
+use crate::plans::AppPlan;
+use crate::regions::{give_all, take_all};
+use crate::rows::{tables_of, write_rows};
+use crate::sends::send;
+use machine_desc::Machine;
+use mesh_core::{Mesh, MeshSetup};
+use range_store::Ranges;
+use spin_base::{Block, Memory, Seq};
+use std::alloc::Global;
+use tern_word::{Table, block_of};
+
+impl Apps {
+    /// Loads an application under a number. Its vertices get their memory, in order; then its nets the blocks that are fixed for
+    /// them, and the other nets blocks of keys; then each chip of its trees so many entries: each time the least range that no
+    /// application has. Its rows go into these entries, and its packets, numbered from `packets_so_far` on, are unsent at the
+    /// vertices of their nets' sources. Nothing of another application changes. It takes time and memory as the plan and the
+    /// holes of the regions that it touches, and as the machine has chips.
+    ///
+    /// # Errors
+    ///
+    /// `Loaded` where the number is loaded; else the refusal of the first of these that no range serves; and `Memory`, at any point,
+    /// where memory runs out. All is then as before.
+    pub fn load(&mut self, alloc: Global, number: u32, plan: &AppPlan) -> Result<(), LoadErr>
+        requires { MayLoad self.old plan.now }
+        ensures loaded { OnOk result (HasLoaded self.old number plan.now self.new) }
+        ensures why { IfErr result (IsWhyNotLoaded self.old number plan.now) }
+        ensures refused { OnErr result (self.new ≡ self.old) }
+        ensures apps { AreApps self.new }
+    {
+        if self.loaded(number) {
+            return Err(LoadErr::Loaded);
+        }
+        if self.apps.reserve(1).is_err() {
+            return Err(LoadErr::Memory);
+        }
+        let Some(mesh) = self.mesh.take() else {
+            return Err(LoadErr::Memory);
+        };
+        let (mesh, joined) = join(alloc, mesh, &mut self.regions, number, self.packets, plan);
+        match joined {
+            Ok(app) => {
+                mark_spots(
+                    mesh.machine(),
+                    &mut self.taken,
+                    app.plan.spots.as_slice(),
+                    true,
+                );
+                self.packets += app.plan.packets.len() as u32;
+                self.mesh = Some(mesh);
+                self.apps.push_reserved(app);
+                Ok(())
+            }
+            Err(refusal) => {
+                self.mesh = Some(mesh);
+                Err(refusal)
+            }
+        }
+    }
+}
+
+// The plan's application, with its ranges taken, and its rows and packets on the mesh. After a refusal all is as before.
+fn join(
+    alloc: Global,
+    mesh: Mesh,
+    regions: &mut [Ranges],
+    number: u32,
+    first: u32,
+    plan: &AppPlan,
+) -> (Mesh, Result<LoadedApp, LoadErr>)
+    requires { CanJoin mesh regions.old first plan.now }
+    ensures served { IfOk result.1 (λ app. IsServed mesh.setup.machine regions.old number first plan.now app regions.new) }
+    ensures settled { IfOk result.1 (λ app. IsSettled app mesh result.0) }
+    ensures due { IfErr result.1 (IsDueAlways (claims_of mesh.setup.machine plan.now) regions.old) }
+    ensures mesh_refused { OnErr result.1 (result.0 ≡ mesh) }
+    ensures back { OnErr result.1 ((m : Description) (taken : List ARange) → AllPairs AreApart taken → AreFreeBeside m taken (frees regions.old) → AreFreeBeside m taken (frees regions.new)) }
+{
+    let app = match serve(alloc, mesh.machine(), regions, number, first, plan) {
+        Ok(app) => app,
+        Err(refusal) => return (mesh, Err(refusal)),
+    };
+    let (mesh, settled) = settle(alloc, mesh, &app);
+    match settled {
+        Ok(()) => (mesh, Ok(app)),
+        Err(_) => {
+            give_all(regions, app.ranges.as_slice());
+            (mesh, Err(LoadErr::Memory))
+        }
+    }
+}
+
+// The plan's application, with its ranges taken. After a refusal none is.
+fn serve(
+    alloc: Global,
+    machine: &Machine,
+    regions: &mut [Ranges],
+    number: u32,
+    first: u32,
+    plan: &AppPlan,
+) -> Result<LoadedApp, LoadErr>
+    requires plan { IsPlan machine.now plan.now }
+    requires regions { AreRegionsOf machine.now regions.old }
+    ensures served { IfOk result (λ app. IsServed machine.now regions.old number first plan.now app regions.new) }
+    ensures room { IfOk result (λ app. HaveRoom app.ranges regions.new) }
+    ensures due { IfErr result (IsDueAlways (claims_of machine.now plan.now) regions.old) }
+    ensures back { OnErr result ((m : Description) (taken : List ARange) → AllPairs AreApart taken → AreFreeBeside m taken (frees regions.old) → AreFreeBeside m taken (frees regions.new)) }
+{
+    let Ok(claims) = claims_of(alloc, machine, plan) else {
+        return Err(LoadErr::Memory);
+    };
+    let ranges = match take_all(alloc, regions, &claims) {
+        Ok(ranges) => ranges,
+        Err(refusal) => return Err(refusal),
+    };
+    match app_of(alloc, number, first, plan, &claims, &ranges) {
+        Ok(app) => Ok(app),
+        Err(_) => {
+            give_all(regions, &ranges);
+            Err(LoadErr::Memory)
+        }
+    }
+}
+
+// The application of a plan whose claims got these ranges.
+fn app_of(
+    alloc: Global,
+    number: u32,
+    first: u32,
+    plan: &AppPlan,
+    claims: &[Claim],
+    ranges: &[Range],
+) -> Result<LoadedApp, Memory>
+    requires { AreKeyed claims.now ranges.now (length plan.now.nets) }
+    ensures number { IfOk result (λ app. app.number ≡ number) }
+    ensures plan { IfOk result (λ app. app.plan ≡ plan.now) }
+    ensures first { IfOk result (λ app. app.first ≡ first) }
+    ensures ranges { IfOk result (λ app. app.ranges ≡ ranges.now) }
+    ensures blocks { IfOk result (λ app. AreBlocks claims.now ranges.now plan.now.nets app.blocks) }
+{
+    let blocks = blocks_of(alloc, plan.nets.len(), claims, ranges)?;
+    Ok(LoadedApp {
+        number,
+        plan: plan.copy(alloc)?,
+        first,
+        ranges: Seq::from_vec(Vec::from_slice(alloc, ranges)?),
+        blocks: Seq::from_vec(blocks),
+    })
+}
+
+// The block of each net: the range that its claim got.
+fn blocks_of(
+    alloc: Global,
+    nets: usize,
+    claims: &[Claim],
+    ranges: &[Range],
+) -> Result<Vec<Block>, Memory>
+    requires { AreKeyed claims.now ranges.now nets }
+    ensures all { IfOk result (λ blocks. length blocks.items ≡ nets) }
+    ensures each { IfOk result (λ blocks. HaveBlocks claims.now ranges.now blocks.items) }
+{
+    let none = Block { key: 0, mask: 0 };
+    let mut blocks = vec![in alloc; none; nets]?;
+    for (at, claim) in claims.iter().enumerate() {
+        if let LoadErr::KeysOut { net } = claim.refusal {
+            blocks[net as usize] = block_of(ranges[at].place as u32, ranges[at].size);
+        }
+    }
+    Ok(blocks)
+}
+
+// Puts the application's rows and packets on the mesh. After a refusal the mesh is as before.
+fn settle(alloc: Global, mesh: Mesh, app: &LoadedApp) -> (Mesh, Result<(), Memory>)
+    requires { CanSettle mesh app.now }
+    ensures settled { OnOk result.1 (IsSettled app.now mesh result.0) }
+    ensures refused { OnErr result.1 (result.0 ≡ mesh) }
+{
+    let Ok(rows) = tables_of(alloc, mesh.machine(), app) else {
+        return (mesh, Err(Memory));
+    };
+    let mut parts = mesh.take_apart();
+    match send(alloc, &parts.setup, &mut parts.unsent, app) {
+        Ok(()) => {
+            install(
+                alloc,
+                &mut parts.setup,
+                rows.as_slice(),
+                app.ranges.as_slice(),
+            );
+            (Mesh::put_together(parts), Ok(()))
+        }
+        Err(refused) => (Mesh::put_together(parts), Err(refused)),
+    }
+}
+
+// Puts the rows into the setup's tables.
+fn install(alloc: Global, setup: &mut MeshSetup, rows: &[Table], ranges: &[Range])
+    requires { CanCopy setup.old.machine setup.old.tables rows.now ranges.now }
+    ensures setup { setup.new ≡ record setup.old { tables = setup.new.tables } }
+    ensures copied { AreCopied setup.old.machine rows.now ranges.now setup.old.tables setup.new.tables }
+{
+    let mut tables = setup.swap_tables(Seq::new(alloc));
+    write_rows(setup.machine(), tables.as_mut_slice(), rows, ranges);
+    setup.swap_tables(tables);
+}

@@ -1,0 +1,138 @@
+// Ranges taken from the regions, and given back.
+ghost use Rattle.std.specs.Prelude.{vec_capacity};
+ghost use Rattle.std.specs.Prelude.{◌≡◌, ◌⊎◌, ℕ, List, ◌+◌, ◌*◌, ◌%◌, ◌<◌, ◌≤◌, ◌∷◌, ◌++◌, ◌&&◌, not, [], All, AllPairs, IfOk, IfErr, IfSome, IfNone, OnOk, OnErr, length, slice_get, slice_set, Some, true, false};
+ghost use Rattle.machine_desc.specs.Description.{Description};
+ghost use Rattle.range_store.specs.Regions.{AreRuns, is_free, is_hole_range, in_range};
+ghost use Rattle.app_loads.specs.declared.loaded.Range.{Range as ARange};
+ghost use Rattle.app_loads.specs.declared.answers.LoadErr.TheVariants.{Memory as NoMemory};
+ghost use Rattle.app_loads.specs.Regions.{AreApart, AreFreeBeside};
+ghost use Rattle.app_loads.specs.Taking.{free_of, frees, Serves, Refuses, CanServe, HaveRoom, HaveServed, AreTaken, AreTakenAlways, AreServedAlways, IsDueAlways};
+
+use crate::answers::LoadErr;
+use crate::loaded::{Claim, Range};
+use range_store::Ranges;
+use spin_base::Memory;
+use std::alloc::Global;
+
+// Serves the claims in order. At the first that cannot be served all is given back.
+pub fn take_all(
+    alloc: Global,
+    regions: &mut [Ranges],
+    claims: &[Claim],
+) -> Result<Vec<Range>, LoadErr>
+    requires { CanServe claims.now regions.old }
+    ensures served { IfOk result (λ ranges. AreServedAlways claims.now regions.old ranges.items) }
+    ensures taken { IfOk result (λ ranges. AreTakenAlways regions.old ranges.items regions.new) }
+    ensures room { IfOk result (λ ranges. HaveRoom ranges.items regions.new) }
+    ensures refused { IfErr result (IsDueAlways claims.now regions.old) }
+    ensures back { OnErr result ((m : Description) (taken : List ARange) → AllPairs AreApart taken → AreFreeBeside m taken (frees regions.old) → AreFreeBeside m taken (frees regions.new)) }
+{
+    let Ok(mut ranges) = Vec::with_capacity(alloc, claims.len()) else {
+        return Err(LoadErr::Memory);
+    };
+    match take_each(regions, claims, &mut ranges) {
+        Ok(()) => Ok(ranges),
+        Err(refusal) => {
+            give_all(regions, &ranges);
+            Err(refusal)
+        }
+    }
+}
+
+// Serves the claims in order, up to the first that cannot be served, and puts their ranges into the list, which has room for all.
+fn take_each(
+    regions: &mut [Ranges],
+    claims: &[Claim],
+    ranges: &mut Vec<Range>,
+) -> Result<(), LoadErr>
+    requires can { CanServe claims.now regions.old }
+    requires none { ranges.old.items ≡ [] }
+    requires room { length claims.now ≤ vec_capacity ranges.old }
+    ensures served { OnOk result (AreServedAlways claims.now regions.old ranges.new.items) }
+    ensures refused { IfErr result (IsDueAlways claims.now regions.old) }
+    ensures taken { AreTakenAlways regions.old ranges.new.items regions.new }
+    ensures room { HaveRoom ranges.new.items regions.new }
+{
+    for claim in claims {
+        match take_claim(&mut regions[claim.region], claim, ranges.len()) {
+            Ok(place) => ranges.push_reserved(Range {
+                region: claim.region,
+                place,
+                size: claim.size,
+            }),
+            Err(refusal) => return Err(refusal),
+        }
+    }
+    Ok(())
+}
+
+// Serves one claim, where so many ranges were taken before: room is made first, so that they can be given back.
+fn take_claim(region: &mut Ranges, claim: &Claim, held: usize) -> Result<u64, LoadErr>
+    requires some { 0 < claim.now.size }
+    requires step { 0 < claim.now.align }
+    requires fixed { IfSome claim.now.fixed (λ p. (p % claim.now.align ≡ 0) × (p + claim.now.size ≤ region.old.size)) }
+    ensures taken { IfOk result (Serves claim.now region.old region.new) }
+    ensures refused { IfErr result (λ e. (e ≡ NoMemory) ⊎ ((e ≡ claim.now.refusal) × Refuses claim.now region.old)) }
+    ensures unchanged { OnErr result (free_of region.new ≡ free_of region.old) }
+    ensures room { OnOk result (held + 1 ≤ region.new.spare) }
+    ensures room_stays { OnErr result ((n : ℕ) → n ≤ held → n ≤ region.old.spare → n ≤ region.new.spare) }
+{
+    // So many claims have no place in memory.
+    if held >= 4_000_000_000 {
+        return Err(LoadErr::Memory);
+    }
+    match take_with_room(region, claim, held as u32 + 2) {
+        Ok(Some(place)) => Ok(place),
+        Ok(None) => Err(claim.refusal),
+        Err(_) => Err(LoadErr::Memory),
+    }
+}
+
+// Makes room for so many holes more, and takes the least range for the claim, if there is one.
+fn take_with_room(region: &mut Ranges, claim: &Claim, room: u32) -> Result<Option<u64>, Memory>
+    requires some { 0 < claim.now.size }
+    requires step { 0 < claim.now.align }
+    requires fixed { IfSome claim.now.fixed (λ p. (p % claim.now.align ≡ 0) × (p + claim.now.size ≤ region.old.size)) }
+    ensures taken { IfOk result (λ o. IfSome o (Serves claim.now region.old region.new)) }
+    ensures none { IfOk result (λ o. IfNone o (Refuses claim.now region.old)) }
+    ensures unchanged { IfOk result (λ o. IfNone o (free_of region.new ≡ free_of region.old)) }
+    ensures refused { OnErr result (free_of region.new ≡ free_of region.old) }
+    ensures room { OnOk result (room ≤ region.new.spare + 1) }
+    ensures room_stays { (n : ℕ) → n + 1 ≤ room → n ≤ region.old.spare → n ≤ region.new.spare }
+{
+    region.reserve(room)?;
+    match claim.fixed {
+        None => region.take(claim.size, claim.align),
+        Some(place) => take_fixed(region, place, claim.size),
+    }
+}
+
+// Takes the range from a place on, if it is free.
+fn take_fixed(region: &mut Ranges, place: u64, size: u64) -> Result<Option<u64>, Memory>
+    requires some { 0 < size }
+    requires within { place + size ≤ region.old.size }
+    ensures found { IfOk result (λ o. IfSome o (λ p. (p ≡ place) × (is_hole_range region.old.holes place size ≡ true))) }
+    ensures free { IfOk result (λ o. IfSome o (λ p. (k : ℕ) → is_free region.new.holes k ≡ (is_free region.old.holes k && not (in_range place size k)))) }
+    ensures none { IfOk result (λ o. IfNone o ((is_hole_range region.old.holes place size ≡ false) × (region.new ≡ region.old))) }
+    ensures refused { OnErr result (region.new.holes ≡ region.old.holes) }
+    ensures size { region.new.size ≡ region.old.size }
+    ensures spare { region.old.spare ≤ region.new.spare + 1 }
+    ensures runs { AreRuns 0 region.new.size region.new.holes }
+{
+    if region.take_at(place, size)? {
+        Ok(Some(place))
+    } else {
+        Ok(None)
+    }
+}
+
+// Gives ranges back, for which room was made.
+pub fn give_all(regions: &mut [Ranges], ranges: &[Range])
+    requires taken { (m : Description) × (others : List ARange) × AreTaken m others ranges.now regions.old }
+    requires room { HaveRoom ranges.now regions.old }
+    ensures free { (m : Description) (others : List ARange) → AreTaken m others ranges.now regions.old → AreFreeBeside m others (frees regions.new) }
+{
+    for range in ranges {
+        regions[range.region].give(range.place, range.size);
+    }
+}

@@ -1,0 +1,79 @@
+// An application's packets put to the vertices that send them.
+ghost use Rattle.std.specs.Prelude.{◌≡◌, ◌+◌, ◌<◌, List, All, IfOk, OnOk, OnErr, length};
+ghost use Rattle.spin_base.specs.declared.chips.Spot.{Spot};
+ghost use Rattle.app_loads.specs.Joining.{AreSent};
+ghost use Rattle.app_loads.specs.Sending.{AreCleared, AreSources, CanAdd, CanSend, IsSameBeside, IsSendingFrom};
+
+use crate::loaded::LoadedApp;
+use crate::plans::AppNet;
+use mesh_core::MeshSetup;
+use spin_base::{Fifo, McCopy, Memory};
+use std::alloc::Global;
+
+// Puts the application's packets to the vertices of their nets' sources. After a refusal these have sent none.
+pub fn send(
+    alloc: Global,
+    setup: &MeshSetup,
+    unsent: &mut [Fifo<McCopy>],
+    app: &LoadedApp,
+) -> Result<(), Memory>
+    requires { CanSend setup.now app.now unsent.old }
+    ensures sent { OnOk result (AreSent setup.now.spots app.now (length app.now.plan.packets) unsent.old unsent.new) }
+    ensures refused { OnErr result (unsent.new ≡ unsent.old) }
+{
+    let sources = source_vertices(alloc, setup, app.plan.nets.as_slice())?;
+    match add_packets(unsent, &sources, app) {
+        Ok(()) => Ok(()),
+        Err(refused) => {
+            clear(alloc, unsent, &sources);
+            Err(refused)
+        }
+    }
+}
+
+// The vertex of each net's source.
+fn source_vertices(alloc: Global, setup: &MeshSetup, nets: &[AppNet]) -> Result<Vec<usize>, Memory>
+    requires { All (IsSendingFrom setup.now) nets.now }
+    ensures { IfOk result (λ sources. AreSources setup.now.spots nets.now sources.items) }
+{
+    let mut vertices = Vec::new(alloc);
+    for net in nets {
+        // Each source has a vertex.
+        let vertex = setup.vertex_at(net.source).unwrap_or(0);
+        vertices.push(vertex)?;
+    }
+    Ok(vertices)
+}
+
+// Puts each packet to its net's source.
+fn add_packets(
+    unsent: &mut [Fifo<McCopy>],
+    sources: &[usize],
+    app: &LoadedApp,
+) -> Result<(), Memory>
+    requires { CanAdd sources.now app.now unsent.old }
+    ensures sent { OnOk result ((spots : List Spot) → AreSources spots app.now.plan.nets sources.now → AreSent spots app.now (length app.now.plan.packets) unsent.old unsent.new) }
+    ensures refused { OnErr result (IsSameBeside sources.now unsent.old unsent.new) }
+{
+    for (at, packet) in app.plan.packets.as_slice().iter().enumerate() {
+        let net = packet.net as usize;
+        let copy = McCopy {
+            packet: app.first + at as u32,
+            key: app.blocks.get(net).key + packet.index,
+            payload: packet.payload,
+            hop: 0,
+        };
+        unsent[sources[net]].push(copy)?;
+    }
+    Ok(())
+}
+
+// Empties the queues of these vertices.
+fn clear(alloc: Global, unsent: &mut [Fifo<McCopy>], sources: &[usize])
+    requires { All (λ v. v < length unsent.old) sources.now }
+    ensures { AreCleared sources.now unsent.old unsent.new }
+{
+    for source in sources {
+        unsent[*source] = Fifo::new(alloc);
+    }
+}

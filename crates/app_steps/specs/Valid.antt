@@ -1,0 +1,17 @@
+-- Steps whose jobs are valid.
+use Rattle.app_graph.specs.ValidGraph.{IsValidGraph}
+use Rattle.app_graph.specs.RunPart.{IsRunOf}
+use Rattle.job_readers.specs.declared.jobs.Job.{Job}
+use Rattle.app_steps.specs.declared.steps.Step.{Step}
+use Rattle.app_steps.specs.declared.steps.Step.TheVariants.{Load, Unload, Run}
+
+-- a job whose graph is valid, and whose run part is one of the graph
+pub record IsValidJob (job : Job) : Type 0 where
+  pub graph : IsValidGraph job.graph
+  pub run : IsRunOf job.graph job.run
+
+-- the job of a load is valid
+abbrev pub IsValidStep : Step → Type 0
+IsValidStep (Load n job) = IsValidJob job
+IsValidStep (Unload n) = Unit {0}
+IsValidStep Run = Unit {0}

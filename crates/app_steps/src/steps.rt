@@ -1,0 +1,143 @@
+// Steps with applications.
+ghost use Rattle.std.specs.Prelude.{◌≡◌, ◌<◌, ◌^◌, All, IfOk, codes, map, option_map};
+ghost use Rattle.serde_json.specs.View.{view};
+ghost use Rattle.job_text.specs.Reading.{Gives};
+ghost use Rattle.job_readers.specs.Items.{items_faults};
+ghost use Rattle.app_steps.specs.Steps.{number_of, numbered_faults, load_faults, load_of, unload_faults, unload_of, run_faults, worded_faults, worded_step, step_faults, step_value, steps_faults, steps_value};
+ghost use Rattle.app_steps.specs.declared.steps.Step.TheVariants.{Run};
+ghost use Rattle.app_steps.specs.Valid.{IsValidStep};
+
+use job_readers::{Job, items_in, job_of};
+use job_text::{TextErr, count_to, item_path, list, range, shape};
+use serde_json::Value;
+use spin_base::{Name, Seq};
+use std::alloc::Global;
+
+/// The most steps.
+const MOST_STEPS: u64 = 65535;
+
+/// The greatest version of a job that may be loaded.
+const GREATEST_VERSION: u32 = 2;
+
+/// A step: an application is loaded under a number, or unloaded, or all are run.
+#[derive(Debug, Drop)]
+pub enum Step {
+    /// The job is loaded under this number.
+    Load(u32, Job),
+    /// The application of this number is unloaded.
+    Unload(u32),
+    /// Events are taken until nothing waits.
+    Run,
+}
+
+/// The steps that a value is.
+///
+/// # Errors
+///
+/// `Fault` with the first fault in the order of reading: those of the list, then those of each step, with the path
+/// `job[i]`, those of a job in it with the path `job[i][2]`; `Memory`.
+#[tactic(auto, unfolding(crate::specs::Steps::steps_faults, crate::specs::Steps::steps_value))]
+pub fn steps_of(alloc: Global, value: &Value) -> Result<Seq<Step>, TextErr>
+    ensures steps { Gives (λ s. s) result (steps_faults (view value.now)) (steps_value (view value.now)) }
+    ensures valid { IfOk result (All IsValidStep) }
+{
+    let path = Name::of(alloc, "job")?;
+    let items = list(alloc, Some(value), &path, true)?;
+    count_to(alloc, &path, MOST_STEPS, items.len() as u64)?;
+    each_step(alloc, items, &path)
+}
+
+fn each_step(alloc: Global, items: &[Value], path: &Name) -> Result<Seq<Step>, TextErr>
+    ensures read { Gives (λ s. s) result (items_faults step_faults path.now 0 (map view items.now)) (map step_value (map view items.now)) }
+    ensures valid { IfOk result (All IsValidStep) }
+{
+    let mut steps = Seq::new(alloc);
+    for (i, item) in items.iter().enumerate() {
+        let path = item_path(alloc, path, i as u64)?;
+        let step = step_in(alloc, item, &path)?;
+        steps.push(step)?;
+    }
+    Ok(steps)
+}
+
+#[tactic(auto, unfolding(crate::specs::Steps::step_faults, crate::specs::Steps::step_value))]
+fn step_in(alloc: Global, item: &Value, path: &Name) -> Result<Step, TextErr>
+    ensures read { Gives (λ s. s) result (step_faults path.now (view item.now)) (step_value (view item.now)) }
+    ensures valid { IfOk result IsValidStep }
+{
+    let [head, rest @ ..] = items_in(item) else {
+        return Err(shape(alloc, path));
+    };
+    let Some(word) = head.as_str() else {
+        return Err(shape(alloc, path));
+    };
+    worded(alloc, word, rest, path)
+}
+
+// The step that begins with a word.
+#[tactic(auto, unfolding(crate::specs::Steps::worded_faults, crate::specs::Steps::worded_step))]
+fn worded(alloc: Global, word: &str, rest: &[Value], path: &Name) -> Result<Step, TextErr>
+    ensures read { Gives (λ s. s) result (worded_faults path.now word.now (map view rest.now)) (worded_step word.now (map view rest.now)) }
+    ensures valid { IfOk result IsValidStep }
+{
+    if word == "load" {
+        return load_in(alloc, rest, path);
+    }
+    if word == "unload" {
+        return unload_in(alloc, rest, path);
+    }
+    if word == "run" {
+        return run_in(alloc, rest, path);
+    }
+    Err(range(alloc, path))
+}
+
+// A number and a job.
+#[tactic(auto, unfolding(crate::specs::Steps::load_faults))]
+fn load_in(alloc: Global, rest: &[Value], path: &Name) -> Result<Step, TextErr>
+    ensures read { Gives (λ s. s) result (load_faults path.now (map view rest.now)) (load_of (map view rest.now)) }
+    ensures valid { IfOk result IsValidStep }
+{
+    let [said, job] = rest else {
+        return Err(shape(alloc, path));
+    };
+    let number = number(alloc, said, path)?;
+    let path = item_path(alloc, path, 2)?;
+    let job = job_of(alloc, job, &path, GREATEST_VERSION)?;
+    Ok(Step::Load(number, job))
+}
+
+// A number alone.
+#[tactic(auto, unfolding(crate::specs::Steps::unload_faults))]
+fn unload_in(alloc: Global, rest: &[Value], path: &Name) -> Result<Step, TextErr>
+    ensures read { Gives (λ s. s) result (unload_faults path.now (map view rest.now)) (unload_of (map view rest.now)) }
+    ensures valid { IfOk result IsValidStep }
+{
+    let [said] = rest else {
+        return Err(shape(alloc, path));
+    };
+    Ok(Step::Unload(number(alloc, said, path)?))
+}
+
+// Nothing.
+#[tactic(auto, unfolding(crate::specs::Steps::run_faults))]
+fn run_in(alloc: Global, rest: &[Value], path: &Name) -> Result<Step, TextErr>
+    ensures read { Gives (λ s. s) result (run_faults path.now (map view rest.now)) Run }
+    ensures valid { IfOk result IsValidStep }
+{
+    if rest.is_empty() {
+        return Ok(Step::Run);
+    }
+    Err(shape(alloc, path))
+}
+
+// The number of an application.
+fn number(alloc: Global, said: &Value, path: &Name) -> Result<u32, TextErr>
+    ensures { Gives (λ n. n) result (numbered_faults path.now (view said.now)) (number_of (view said.now)) }
+{
+    match said.as_u64() {
+        Some(n) if n <= 4294967295 => Ok(n as u32),
+        Some(_) => Err(range(alloc, path)),
+        None => Err(shape(alloc, path)),
+    }
+}

@@ -1,0 +1,10 @@
+mod Compiled
+mod Growing
+mod Meaning
+mod OneAnswer
+mod OneFinding
+mod OneNets
+mod OneTree
+mod OneVerdict
+mod Refusing
+mod Sites

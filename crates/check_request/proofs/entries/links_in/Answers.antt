@@ -1,0 +1,29 @@
+use Rattle.std.proofs.Common.{map, arith}
+use Rattle.std.proofs.lemmas.Result.{err_from_is_err_and}
+use Rattle.serde_json.specs.View.{view}
+use Rattle.job_readers.specs.Items.{items_faults}
+use Rattle.job_readers.specs.Entries.{link_faults, link_value}
+use Rattle.job_readers.proofs.ItemSteps.{items-more, items-fail, values-more, items-none, values-all}
+use Rattle.check_request.proofs.entries.links_in.Goals as goal
+
+pub returns-in_err-edge : goal.returns-in_err-edge
+returns-in_err-edge c =
+    let p = err_from_is_err_and c.from_residual-in_err-edge.result c.from_residual-in_err-edge.ensures.1 in
+    let xs = c.args.items.now in
+    let f = (link_faults c.args.width c.args.height) in
+    rw (p.1, p.2) (items-fail view xs c.loop-i.i c.index-items-i.result (omega arith) c.index-items-i.is f c.args.path.now c.in_ok-path.path (items_faults f c.args.path.now 0 (map view xs)) c.in_err-edge.field-0.0 c.in_ok-path.ensures c.in_err-edge.ensures.read c.loop-i.invariant.left)
+
+pub loop-i-preserved : goal.loop-i-preserved
+loop-i-preserved c =
+    let xs = c.args.items.now in
+    let f = (link_faults c.args.width c.args.height) in
+    record {
+      left = items-more view xs c.loop-i.i c.index-items-i.result (omega arith) c.index-items-i.is f c.args.path.now c.in_ok-path.path (items_faults f c.args.path.now 0 (map view xs)) c.in_ok-path.ensures c.in_ok-edge.ensures.read.0 c.loop-i.invariant.left;
+      read = values-more view xs c.loop-i.i c.index-items-i.result (omega arith) c.index-items-i.is link_value c.loop-i.edges c.push.new.self c.loop-i.invariant.read (rw (← c.in_ok-edge.ensures.read.1) c.in_ok-push.ensures.ok);
+    }
+
+pub returns : goal.returns
+returns c =
+    let xs = c.args.items.now in
+    let f = (link_faults c.args.width c.args.height) in
+    (items-none view xs c.loop-i.i f c.args.path.now (items_faults f c.args.path.now 0 (map view xs)) (omega arith) c.loop-i.invariant.left, values-all view xs c.loop-i.i link_value c.loop-i.edges (omega arith) c.loop-i.invariant.read)

@@ -1,0 +1,89 @@
+-- What a run tells, events one by one, and what a trace keeps.
+use Rattle.std.proofs.Common.{◌≡◌, ℕ, zero, suc, ◌+◌, ◌<◌, length, List, [], ◌∷◌, ◌++◌, map, take, refl, ap, ◌∙◌, sym, Some, add-one}
+use Rattle.std.specs.List.{flat_map, slice_get, slice_index_or}
+use Rattle.std.proofs.lemmas.Option.{slice_get-get_or}
+use Rattle.spin_base.specs.declared.chips.Spot.{Spot}
+use Rattle.spin_base.specs.declared.copies.Event.{Event}
+use Rattle.app_graph.specs.RunPart.{IsRunOf}
+use Rattle.mesh_core.specs.State.{Setup, State, IsMesh}
+use Rattle.mesh_core.specs.Expected.{expected_deliveries}
+use Rattle.mesh_core.specs.HasRun.{HasRun}
+use Rattle.mesh_core.specs.Step.{after_event, after_events, answer, answers_of}
+use Rattle.mesh_core.specs.Opened.{AreOfNets, MeetsJobLedger}
+use Rattle.mesh_core.specs.declared.places.Did.{Did}
+use Rattle.std.proofs.lemmas.List.{length-map}
+use Rattle.std.proofs.lemmas.List.Sorted.{length_permutation}
+use Rattle.mesh_core.proofs.EventsLaw.{events_keep_job}
+use Rattle.mesh_core.proofs.OpenedLaw.{opened_meets_ledger}
+use Rattle.job_readers.specs.declared.jobs.Job.{Job}
+use Rattle.run_report.specs.declared.reports.Report.{Report}
+use Rattle.run_report.specs.Listed.{placed_of}
+use Rattle.run_report.specs.ReportText.{got_line}
+use Rattle.run_report.specs.RunReport.{named}
+use Rattle.run_report.proofs.GotLines.{got_lines}
+use Rattle.par_compile.specs.declared.compiling.Plan.{Plan}
+use Rattle.job_words.specs.Words.{expected_of, IsReported}
+use Rattle.job_words.specs.Planned.{opened_of, setup_of, IsPlanned}
+use Rattle.job_words.proofs.Opening.{are_of_nets}
+
+next_take : {X : Type 0} (xs : List X) (i : ℕ) (x : X) → slice_get xs i ≡ Some x → take (suc i) xs ≡ take i xs ++ x ∷ []
+next_take [] i x at = cc
+next_take (y ∷ ys) zero x at = let same : y ≡ x = cc in ap (λ z. z ∷ []) same
+next_take (y ∷ ys) (suc i) x at = ap (λ l. y ∷ l) (next_take ys i x at)
+
+after_one_more : (s : State) (es : List Event) (e : Event) → after_events s (es ++ e ∷ []) ≡ after_event (after_events s es) e
+after_one_more s [] e = refl
+after_one_more s (f ∷ es) e = after_one_more (after_event s f) es e
+
+answers_one_more : (s : State) (es : List Event) (e : Event) → answers_of s (es ++ e ∷ []) ≡ answers_of s es ++ answer (after_events s es) e ∷ []
+answers_one_more s [] e = refl
+answers_one_more s (f ∷ es) e = ap (λ l. answer s f ∷ l) (answers_one_more (after_event s f) es e)
+
+one_more_taken : {X : Type 0} (xs : List X) (i : ℕ) (x : X) → slice_get xs i ≡ Some x → take (i + 1) xs ≡ take i xs ++ x ∷ []
+one_more_taken xs i x at = ap (λ n. take n xs) (add-one i) ∙ next_take xs i x at
+
+-- the mesh and the answers after the events so far, and after the next
+pub one_event_more : (s now next : State) (did more : List Did) (es : List Event) (i : ℕ) (d : Event) (answered : Did) → i < length es →
+    (now ≡ after_events s (take i es)) × (did ≡ answers_of s (take i es)) × (now.setup ≡ s.setup) →
+    next ≡ after_event now (slice_index_or es i d) → answered ≡ answer now (slice_index_or es i d) → next.setup ≡ now.setup → more ≡ did ++ answered ∷ [] →
+    (next ≡ after_events s (take (i + 1) es)) × (more ≡ answers_of s (take (i + 1) es)) × (next.setup ≡ s.setup)
+one_event_more s now next did more es i d answered below so_far moved told setup pushed =
+    let e : Event = slice_index_or es i d in
+    let taken : take (i + 1) es ≡ take i es ++ e ∷ [] = one_more_taken es i e (slice_get-get_or es i d below) in (
+      moved ∙ (ap (λ m. after_event m e) so_far.0 ∙ (sym (after_one_more s (take i es) e) ∙ sym (ap (after_events s) taken))),
+      pushed
+          ∙ (ap (λ l. l ++ answered ∷ []) so_far.1
+          ∙ (ap (λ a. answers_of s (take i es) ++ a ∷ []) told
+          ∙ (ap (λ m. answers_of s (take i es) ++ answer m e ∷ []) so_far.0
+          ∙ (sym (answers_one_more s (take i es) e) ∙ sym (ap (answers_of s) taken))))),
+      setup ∙ so_far.2,
+    )
+
+-- where a run has come to rest, the report tells the deliveries that the job asks for
+pub told_as_expected : (job : Job) (plan : Plan) (mesh : State) (did : List Did) (report : Report) → IsMesh mesh → mesh.setup ≡ setup_of job plan →
+    MeetsJobLedger mesh plan.nets job.run.packets → HasRun (opened_of job plan) mesh → IsReported job plan mesh did report →
+    flat_map got_line report.delivered ≡ flat_map got_line (expected_of job plan)
+told_as_expected job plan mesh did report is_mesh setup ledger run reported =
+    let placed : List (List ℕ × Spot) = placed_of job.graph plan.placement.spots in
+    got_lines placed mesh plan.nets job.run.packets report.delivered is_mesh ledger run.at_rest run.no_record reported.delivered
+    ∙ ap (λ (u : Setup). flat_map got_line (map (named placed) (expected_deliveries u.spots plan.nets job.run.packets))) setup
+
+-- after each list of events the opened mesh of a planned job keeps the job's ledger
+pub traced_ledger : (job : Job) (plan : Plan) → IsRunOf job.graph job.run → IsPlanned job plan → IsMesh (opened_of job plan) → (es : List Event) →
+    MeetsJobLedger (after_events (opened_of job plan) es) plan.nets job.run.packets
+traced_ledger job plan run planned mesh es =
+    let of_nets : AreOfNets plan.nets job.run.packets = are_of_nets job.machine job.graph job.run.target job.run plan run planned in
+    events_keep_job (opened_of job plan) plan.nets job.run.packets mesh planned.right
+    (opened_meets_ledger (setup_of job plan) plan.nets job.run.packets planned.routing.stand of_nets) es
+
+-- and as many as were delivered
+pub told_count : (job : Job) (plan : Plan) (mesh : State) (did : List Did) (report : Report) → IsReported job plan mesh did report → length report.delivered ≡ length mesh.delivered
+told_count job plan mesh did report reported =
+    let placed : List (List ℕ × Spot) = placed_of job.graph plan.placement.spots in
+    ap length reported.delivered.named_each
+    ∙ (length-map reported.delivered.sorted (named placed)
+    ∙ length_permutation mesh.delivered reported.delivered.sorted reported.delivered.in_order.same_items)
+
+-- and no dump
+pub told_none : (job : Job) (plan : Plan) (mesh : State) (did : List Did) (report : Report) → mesh.dumped ≡ [] → IsReported job plan mesh did report → length report.dumped ≡ 0
+told_none job plan mesh did report none reported = length_permutation mesh.dumped report.dumped reported.dumped.same_items ∙ ap length none

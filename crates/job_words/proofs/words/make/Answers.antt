@@ -1,0 +1,29 @@
+use Rattle.job_words.specs.declared.outcomes.Made.{Made}
+use Rattle.job_words.specs.Words.{HasRunOut, Images, IsTraced, Lists, Makes, Reports, Summarises, generated, imaged, listed, ran, traced}
+use Rattle.job_words.proofs.WordLaws.{ok_weaker}
+use Rattle.job_words.proofs.words.make.Goals as goal
+
+pub returns-in-Run : goal.returns-in-Run
+returns-in-Run c =
+    ok_weaker c.run.result (λ (m : Made). Reports HasRunOut c.args.job c.args.plan m.parts m.text) (λ (m : Made). Makes c.args.word c.args.job c.args.plan m.parts m.text)
+    (λ m reports. ran c.in-Run.is reports) c.run.ensures
+
+pub returns-in-Trace : goal.returns-in-Trace
+returns-in-Trace c =
+    ok_weaker c.trace.result (λ (m : Made). Reports IsTraced c.args.job c.args.plan m.parts m.text) (λ (m : Made). Makes c.args.word c.args.job c.args.plan m.parts m.text)
+    (λ m reports. traced c.in-Trace.is reports) c.trace.ensures
+
+pub returns-in-Compile : goal.returns-in-Compile
+returns-in-Compile c =
+    ok_weaker c.image.result (λ (m : Made). Images c.args.job c.args.plan m.parts m.text) (λ (m : Made). Makes c.args.word c.args.job c.args.plan m.parts m.text)
+    (λ m images. imaged c.in-Compile.is images) c.image.ensures
+
+pub returns-in-Tables : goal.returns-in-Tables
+returns-in-Tables c =
+    ok_weaker c.list.result (λ (m : Made). Lists c.args.job c.args.plan m.parts m.text) (λ (m : Made). Makes c.args.word c.args.job c.args.plan m.parts m.text)
+    (λ m lists. listed c.in-Tables.is lists) c.list.ensures
+
+pub returns-in-Gen : goal.returns-in-Gen
+returns-in-Gen c =
+    ok_weaker c.generated.result (λ (m : Made). Summarises c.in-Gen.number c.args.job c.args.plan m.parts m.text) (λ (m : Made). Makes c.args.word c.args.job c.args.plan m.parts m.text)
+    (λ m summarises. generated c.in-Gen.number c.in-Gen.is summarises) c.generated.ensures

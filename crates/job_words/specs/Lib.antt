@@ -1,0 +1,9 @@
+pub use Rattle.app_graph.specs.RunPart
+pub use Rattle.app_graph.specs.ValidGraph
+pub use Rattle.mesh_core.specs.State
+pub use Rattle.par_compile.specs.Compiled
+pub use Rattle.run_report.specs.ReportText
+pub mod Parts
+pub mod Planned
+pub mod Unplanned
+pub mod Words

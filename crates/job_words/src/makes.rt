@@ -1,0 +1,140 @@
+// What each word makes of a planned job.
+ghost use Rattle.std.specs.Prelude.{◌≡◌, ◌<◌, ◌^◌, IfOk};
+ghost use Rattle.app_graph.specs.RunPart.{IsRunOf};
+ghost use Rattle.app_graph.specs.ValidGraph.{IsValidGraph};
+ghost use Rattle.run_report.specs.ReportText.{row_total};
+ghost use Rattle.job_words.specs.Parts.{plan_parts, run_parts};
+ghost use Rattle.job_words.specs.Planned.{setup_of, IsPlanned};
+ghost use Rattle.job_words.specs.Words.{HasRunOut, Images, IsReported, IsTraced, Lists, Reports, Summarises};
+
+use crate::outcomes::{Made, Parts};
+use crate::runs::{run_job, trace_job};
+use job_readers::Job;
+use mesh_core::laws::deliveries_are_as_many_as_expected;
+use mesh_core::{Did, Mesh};
+use par_compile::{Plan, image_of};
+use run_report::{Report, plan_text, report_of, summary_text, text_of};
+use spin_base::{Memory, Seq};
+use std::alloc::Global;
+use table_load::encode;
+
+// The mesh after all packets of the job, its report, and the report's text.
+pub(crate) fn run(alloc: Global, job: Job, plan: Plan) -> Result<Made, Memory>
+    requires graph { IsValidGraph job.graph }
+    requires run { IsRunOf job.graph job.run }
+    requires planned { IsPlanned job plan }
+    ensures { IfOk result (λ made. Reports HasRunOut job plan made.parts made.text) }
+{
+    let mesh = run_job(alloc, &job, &plan)?;
+    let report = report(alloc, &job, &plan, &mesh, Seq::new(alloc))?;
+    let text = text_of(alloc, &report)?;
+    Ok(Made {
+        parts: parts_of(job, plan, mesh, report),
+        text,
+    })
+}
+
+// The same, and the summary of the job of a number.
+pub(crate) fn generated(alloc: Global, number: u64, job: Job, plan: Plan) -> Result<Made, Memory>
+    requires graph { IsValidGraph job.graph }
+    requires run { IsRunOf job.graph job.run }
+    requires planned { IsPlanned job plan }
+    ensures { IfOk result (λ made. Summarises number job plan made.parts made.text) }
+{
+    deliveries_are_as_many_as_expected();
+    let mesh = run_job(alloc, &job, &plan)?;
+    let report = report(alloc, &job, &plan, &mesh, Seq::new(alloc))?;
+    let text = summary_text(alloc, number, &job.machine, &job.graph, &job.run, &report)?;
+    Ok(Made {
+        parts: parts_of(job, plan, mesh, report),
+        text,
+    })
+}
+
+// The mesh after all events of the job, its report, and the report's text.
+pub(crate) fn trace(alloc: Global, job: Job, plan: Plan) -> Result<Made, Memory>
+    requires graph { IsValidGraph job.graph }
+    requires run { IsRunOf job.graph job.run }
+    requires planned { IsPlanned job plan }
+    ensures { IfOk result (λ made. Reports IsTraced job plan made.parts made.text) }
+{
+    let (mesh, did) = trace_job(alloc, &job, &plan)?;
+    let report = report(alloc, &job, &plan, &mesh, did)?;
+    let text = text_of(alloc, &report)?;
+    Ok(Made {
+        parts: parts_of(job, plan, mesh, report),
+        text,
+    })
+}
+
+// The text of the plan.
+pub(crate) fn list(alloc: Global, job: Job, plan: Plan) -> Result<Made, Memory>
+    requires graph { IsValidGraph job.graph }
+    requires planned { IsPlanned job plan }
+    ensures { IfOk result (λ made. Lists job plan made.parts made.text) }
+{
+    let image = image_of(alloc, &job.machine, &plan.tables)?;
+    let spots = &plan.placement.spots;
+    let text = plan_text(alloc, &job.graph, spots, &plan.nets, &image)?;
+    Ok(Made {
+        parts: planned_parts(job, plan),
+        text,
+    })
+}
+
+// The bytes of the image of the plan's tables.
+pub(crate) fn image(alloc: Global, job: Job, plan: Plan) -> Result<Made, Memory>
+    requires planned { IsPlanned job plan }
+    ensures { IfOk result (λ made. Images job plan made.parts made.text) }
+{
+    let image = image_of(alloc, &job.machine, &plan.tables)?;
+    let text = encode(alloc, &image)?;
+    Ok(Made {
+        parts: planned_parts(job, plan),
+        text,
+    })
+}
+
+// The report of a job's plan, of a mesh, and of the answers to the events that led there.
+fn report(
+    alloc: Global,
+    job: &Job,
+    plan: &Plan,
+    mesh: &Mesh,
+    did: Seq<Did>,
+) -> Result<Report, Memory>
+    requires graph { IsValidGraph job.now.graph }
+    requires planned { IsPlanned job.now plan.now }
+    requires setup { mesh.now.setup ≡ setup_of job.now plan.now }
+    ensures reported { IfOk result (IsReported job.now plan.now mesh.now did) }
+    ensures few { IfOk result (λ report. row_total report.tables < 2 ^ 64) }
+{
+    let image = image_of(alloc, &job.machine, &plan.tables)?;
+    let spots = &plan.placement.spots;
+    let tables = image.chips;
+    report_of(alloc, &job.graph, spots, &plan.nets, tables, mesh, did)
+}
+
+// Job and plan.
+fn planned_parts(job: Job, plan: Plan) -> Parts
+    ensures { result ≡ plan_parts job plan }
+{
+    Parts {
+        job: Some(job),
+        plan: Some(plan),
+        mesh: None,
+        report: None,
+    }
+}
+
+// All four parts.
+fn parts_of(job: Job, plan: Plan, mesh: Mesh, report: Report) -> Parts
+    ensures { result ≡ run_parts job plan mesh report }
+{
+    Parts {
+        job: Some(job),
+        plan: Some(plan),
+        mesh: Some(mesh),
+        report: Some(report),
+    }
+}

@@ -1,0 +1,116 @@
+// The mesh of a job: opened, after all its packets, or after all its events.
+ghost use Rattle.std.specs.Prelude.{◌≡◌, IfOk, OnOk, map};
+ghost use Rattle.app_graph.specs.RunPart.{IsRunOf};
+ghost use Rattle.mesh_core.specs.State.{IsMesh};
+ghost use Rattle.mesh_core.specs.Step.{after_events, answers_of};
+ghost use Rattle.mesh_core.specs.Opened.{MeetsJobLedger};
+ghost use Rattle.mesh_core.specs.Expected.{AreAsExpected};
+ghost use Rattle.mesh_core.specs.HasRun.{HasRun};
+ghost use Rattle.par_compile.specs.Finals.{loaded_of};
+ghost use Rattle.job_words.specs.Planned.{opened_of, setup_of, IsPlanned};
+
+use job_readers::Job;
+use machine_desc::Machine;
+use mesh_core::{Did, Mesh};
+use packet_runs::{open_mesh, run_packets};
+use par_compile::{Plan, memories_of};
+use spin_base::{Event, Memory, Seq, Spot};
+use std::alloc::Global;
+use tcam_find::Tcam;
+
+// What a mesh is opened with: the job's machine, the plan's spots, and the lookup memories that are loaded from the image of
+// its tables.
+#[derive(Drop)]
+struct Pieces {
+    machine: Machine,
+    spots: Seq<Spot>,
+    memories: Seq<Tcam>,
+}
+
+// The mesh of a job after all its packets.
+pub(crate) fn run_job(alloc: Global, job: &Job, plan: &Plan) -> Result<Mesh, Memory>
+    requires run { IsRunOf job.now.graph job.now.run }
+    requires planned { IsPlanned job.now plan.now }
+    ensures run { IfOk result (HasRun (opened_of job.now plan.now)) }
+    ensures mesh { IfOk result IsMesh }
+    ensures ledger { IfOk result (λ mesh. MeetsJobLedger mesh plan.now.nets job.now.run.packets) }
+    ensures delivered { IfOk result (λ mesh. AreAsExpected mesh plan.now.nets job.now.run.packets) }
+    ensures setup { IfOk result (λ mesh. mesh.setup ≡ setup_of job.now plan.now) }
+{
+    let pieces = pieces_of(alloc, job, plan)?;
+    let nets = plan.nets.as_slice();
+    let packets = job.run.packets.as_slice();
+    run_packets(
+        alloc,
+        pieces.machine,
+        pieces.spots,
+        pieces.memories,
+        job.run.queue,
+        nets,
+        packets,
+    )
+}
+
+// The mesh of a job after all its events, one by one, and the answers to them.
+pub(crate) fn trace_job(alloc: Global, job: &Job, plan: &Plan) -> Result<(Mesh, Seq<Did>), Memory>
+    requires run { IsRunOf job.now.graph job.now.run }
+    requires planned { IsPlanned job.now plan.now }
+    ensures mesh { IfOk result (λ traced. traced.0 ≡ after_events (opened_of job.now plan.now) job.now.run.events) }
+    ensures did { IfOk result (λ traced. traced.1 ≡ answers_of (opened_of job.now plan.now) job.now.run.events) }
+    ensures setup { IfOk result (λ traced. traced.0.setup ≡ setup_of job.now plan.now) }
+    ensures opened { IfOk result (λ _. IsMesh (opened_of job.now plan.now)) }
+{
+    let mut mesh = open_job(alloc, job, plan)?;
+    let did = take_events(alloc, &mut mesh, job.run.events.as_slice())?;
+    Ok((mesh, did))
+}
+
+// The mesh of a job before its first event.
+fn open_job(alloc: Global, job: &Job, plan: &Plan) -> Result<Mesh, Memory>
+    requires run { IsRunOf job.now.graph job.now.run }
+    requires planned { IsPlanned job.now plan.now }
+    ensures opened { IfOk result (λ mesh. mesh ≡ opened_of job.now plan.now) }
+    ensures mesh { IfOk result IsMesh }
+{
+    let pieces = pieces_of(alloc, job, plan)?;
+    let nets = plan.nets.as_slice();
+    let packets = job.run.packets.as_slice();
+    open_mesh(
+        alloc,
+        pieces.machine,
+        pieces.spots,
+        pieces.memories,
+        job.run.queue,
+        nets,
+        packets,
+    )
+}
+
+// Takes events one by one, and gives the answers to them in their order.
+fn take_events(alloc: Global, mesh: &mut Mesh, events: &[Event]) -> Result<Seq<Did>, Memory>
+    ensures mesh { OnOk result (mesh.new ≡ after_events mesh.old events.now) }
+    ensures did { IfOk result (λ did. did ≡ answers_of mesh.old events.now) }
+    ensures setup { OnOk result (mesh.new.setup ≡ mesh.old.setup) }
+{
+    let mut did = Seq::new(alloc);
+    for event in events {
+        did.push(mesh.step(*event)?)?;
+    }
+    Ok(did)
+}
+
+// What the mesh of a job is opened with.
+fn pieces_of(alloc: Global, job: &Job, plan: &Plan) -> Result<Pieces, Memory>
+    requires { IsPlanned job.now plan.now }
+    ensures machine { IfOk result (λ pieces. pieces.machine ≡ job.now.machine) }
+    ensures spots { IfOk result (λ pieces. pieces.spots ≡ plan.now.placement.spots) }
+    ensures memories { IfOk result (λ pieces. pieces.memories ≡ map loaded_of plan.now.tables) }
+{
+    let machine = job.machine.copy(alloc)?;
+    let copied = Vec::from_slice(alloc, plan.placement.spots.as_slice())?;
+    Ok(Pieces {
+        machine,
+        spots: Seq::from_vec(copied),
+        memories: memories_of(alloc, &job.machine, &plan.tables)?,
+    })
+}

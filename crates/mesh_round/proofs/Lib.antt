@@ -1,0 +1,16 @@
+mod Ready
+mod Resting
+mod Lists
+mod Spreading
+mod TheFlow
+mod Links
+mod Turns
+mod Services
+mod Routers
+mod Banks
+mod Senders
+mod Dead
+mod Vertices
+mod Still
+mod Moved
+mod RoundLaw

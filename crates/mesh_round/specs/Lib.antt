@@ -1,0 +1,3 @@
+pub use Rattle.round_flow.specs.RoundFlow
+pub use Rattle.mesh_run.specs.Casting
+pub mod OnThreads

@@ -1,0 +1,134 @@
+// Rounds of a mesh on threads: one, and as many as it takes.
+ghost use Rattle.std.specs.Prelude.{◌≡◌, ◌≤◌, IfErr, IfOk};
+ghost use Rattle.std.specs.List.{list_all};
+ghost use Rattle.mesh_core.specs.State.{IsMesh};
+ghost use Rattle.mesh_core.specs.Expected.{IsAtRest};
+ghost use Rattle.round_flow.specs.RoundFlow.{HasNoHand, HasRounds};
+ghost use Rattle.mesh_round.specs.OnThreads.{HopsFit, IsReady, LeadsByRound, has_none, is_empty};
+
+use crate::laws::a_round_on_threads_is_a_round;
+use mesh_core::{Mesh, MeshParts};
+use mesh_run::{Pace, play_parts};
+use round_flow::laws::a_round_leaves_less_to_do;
+use spin_base::{Fifo, Gate, McCopy, Memory};
+use std::alloc::Global;
+use std::sync::Wait;
+use std::thread::Threads;
+
+/// One round: the router and the bank of cores of each live chip take `turns` turns, in `workers` workers, of which each enters
+/// the gate in phase `number`. A router offers a copy `patience` times before it dumps it. A round moves a copy where one waits or
+/// is unsent and turns are given. All memory is taken before the first turn.
+///
+/// # Errors
+///
+/// `Memory` where memory runs out, with the mesh as it was.
+pub fn round<R: Threads + Wait + Sync, G: Gate>(
+    rt: &R,
+    alloc: Global,
+    mesh: Mesh,
+    patience: u32,
+    workers: u32,
+    turns: u32,
+    number: u32,
+    gate: &G,
+) -> Result<Mesh, (Mesh, Memory)>
+    requires no_hand { HasNoHand mesh }
+    requires hops { HopsFit mesh }
+    requires patient { 1 ≤ patience }
+    requires workers { 1 ≤ workers }
+    ensures round { IfOk result (LeadsByRound patience turns mesh) }
+    ensures no_hand { IfOk result HasNoHand }
+    ensures hops { IfOk result HopsFit }
+    ensures back { IfErr result (λ b. b.0 ≡ mesh) }
+{
+    a_round_on_threads_is_a_round();
+    let pace = Pace {
+        patience,
+        workers,
+        turns,
+        number,
+    };
+    match play_parts(rt, alloc, mesh.take_apart(), pace, gate) {
+        Ok(parts) => Ok(Mesh::put_together(parts)),
+        Err((parts, e)) => Err((Mesh::put_together(parts), e)),
+    }
+}
+
+/// Rounds, numbered from 1, until nothing waits and nothing is unsent. Numbers stay at the greatest, should it come to that.
+///
+/// # Errors
+///
+/// `Memory` where memory runs out, with the mesh after the last whole round, which may go on from there.
+pub fn run_out<R: Threads + Wait + Sync, G: Gate>(
+    rt: &R,
+    alloc: Global,
+    mesh: Mesh,
+    patience: u32,
+    workers: u32,
+    turns: u32,
+    gate: &G,
+) -> Result<Mesh, (Mesh, Memory)>
+    requires no_hand { HasNoHand mesh }
+    requires hops { HopsFit mesh }
+    requires patient { 1 ≤ patience }
+    requires workers { 1 ≤ workers }
+    requires turns { 1 ≤ turns }
+    ensures rounds { IfOk result (HasRounds patience turns mesh) }
+    ensures at_rest { IfOk result IsAtRest }
+    ensures refused { IfErr result (λ b. HasRounds patience turns mesh b.0) }
+    ensures ready { IfErr result (λ b. IsReady b.0) }
+{
+    let pace = Pace {
+        patience,
+        workers,
+        turns,
+        number: 0,
+    };
+    match run_parts(rt, alloc, mesh.take_apart(), pace, gate) {
+        Ok(parts) => Ok(Mesh::put_together(parts)),
+        Err((parts, e)) => Err((Mesh::put_together(parts), e)),
+    }
+}
+
+// Rounds on the parts of a mesh, numbered on from the pace's number.
+fn run_parts<R: Threads + Wait + Sync, G: Gate>(
+    rt: &R,
+    alloc: Global,
+    parts: MeshParts,
+    pace: Pace,
+    gate: &G,
+) -> Result<MeshParts, (MeshParts, Memory)>
+    requires ready { IsReady parts }
+    requires patient { 1 ≤ pace.patience }
+    requires workers { 1 ≤ pace.workers }
+    requires turns { 1 ≤ pace.turns }
+    ensures rounds { IfOk result (HasRounds pace.patience pace.turns parts) }
+    ensures ready { IfOk result IsReady }
+    ensures at_rest { IfOk result IsAtRest }
+    ensures refused { IfErr result (λ b. HasRounds pace.patience pace.turns parts b.0) }
+    ensures ready_still { IfErr result (λ b. IsReady b.0) }
+{
+    a_round_on_threads_is_a_round();
+    a_round_leaves_less_to_do();
+    let mut parts = parts;
+    let mut number = pace.number;
+    'rounds: while !is_at_rest(&parts) {
+        number = number.saturating_add(1);
+        parts = play_parts(rt, alloc, parts, Pace { number, ..pace }, gate)?;
+    }
+    Ok(parts)
+}
+
+// Whether no copy waits in a queue and none is unsent.
+fn is_at_rest(parts: &MeshParts) -> bool
+    ensures { result ≡ has_none parts.now }
+{
+    are_empty(&parts.inputs) && are_empty(&parts.cores) && are_empty(&parts.unsent)
+}
+
+// Whether each queue is empty.
+fn are_empty(queues: &[Fifo<McCopy>]) -> bool
+    ensures { result ≡ list_all is_empty queues.now }
+{
+    queues.iter().all(|queue| queue.len() == 0)
+}

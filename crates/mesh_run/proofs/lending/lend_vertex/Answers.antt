@@ -1,0 +1,26 @@
+use Rattle.std.proofs.Common.{◌≡◌, ◌<◌, ◌∷◌, [], Some, List, length, refl, set, sym, ap, ◌∙◌, subst, arith}
+use Rattle.std.specs.List.{slice_get}
+use Rattle.std.proofs.lemmas.Option.{slice_get-get_or}
+use Rattle.spin_base.specs.declared.copies.McCopy.{McCopy}
+use Rattle.mesh_core.proofs.ServingLaws.{vertex_at-below}
+use Rattle.mesh_run.specs.Lending.{Lent}
+use Rattle.mesh_run.proofs.Lent.{lent_one}
+use Rattle.mesh_run.proofs.LendingVertices.{lends_it}
+use Rattle.mesh_run.proofs.lending.lend_vertex.Goals as goal
+
+pub returns-in-Some-clause-lends : goal.returns-in-Some-clause-lends
+returns-in-Some-clause-lends c =
+    let u = c.args.setup.now in
+    let v = c.in-Some.vertex in
+    let unsent = c.args.unsent.now.items in
+    let at = sym c.vertex_at.ensures ∙ c.in-Some.is in
+    let below : v < length unsent = (let within = vertex_at-below u.spots c.args.spot v at in let long = c.requires.unsent_long in omega (arith, within, long)) in
+    let stood : slice_get unsent v ≡ Some c.replace-unsent.result = slice_get-get_or unsent v c.index_mut.result.now below ∙ ap Some (sym (c.replace-unsent.ensures.value ∙ c.index_mut.ensures.value)) in
+    lends_it u c.args.spot v c.args.rxs.now.items c.lend_rx-end.new.rxs.items unsent _ c.args.vertices.now.items c.put.new.self.items at (record {
+      vertex = record { vertex = v; unsent = c.replace-unsent.result; end = c.lend_rx-end.result };
+      is = refl;
+      place = c.lend_rx-end.ensures.place ∙ c.vertex_place.ensures;
+      rx = c.lend_rx-end.ensures.lent;
+      copies = subst (λ (b : List McCopy). Lent [] ((v, c.replace-unsent.result) ∷ []) unsent (set unsent v b)) (sym (c.replace-unsent.ensures.after ∙ c.new.ensures)) (lent_one [] unsent v c.replace-unsent.result stood);
+      put = c.put.ensures.items;
+    })

@@ -1,0 +1,18 @@
+use Rattle.std.specs.Vec.Iter.{into_iter_items}
+use Rattle.mesh_run.specs.Lending.{rx_of, rxs_of}
+use Rattle.mesh_run.specs.Dealing.{put_all}
+use Rattle.mesh_run.proofs.PuttingBack.{put_first, put_more}
+use Rattle.mesh_run.proofs.returning.return_inputs.Goals as goal
+
+pub return_input-requires : goal.return_input-requires
+return_input-requires c =
+    put_first (λ e. rx_of e.1) (put_all c.args.rxs.now.items (rxs_of c.args.inputs)) c.loop-port.rxs.items (into_iter_items c.loop-port._port-iterator) (c.in-Some._port, c.in-Some.end)
+    (into_iter_items c.next.new.self) c.loop-port.invariant.2 c.in-Some.ensures.steps.0
+
+pub loop-port-preserved : goal.loop-port-preserved
+loop-port-preserved c = (
+  tt,
+  tt,
+  put_more (λ e. rx_of e.1) (put_all c.args.rxs.now.items (rxs_of c.args.inputs)) c.loop-port.rxs.items c.return_input.new.rxs.items (into_iter_items c.loop-port._port-iterator) (c.in-Some._port, c.in-Some.end)
+      (into_iter_items c.next.new.self) c.loop-port.invariant.2 c.in-Some.ensures.steps.0 c.return_input.ensures,
+)

@@ -1,0 +1,41 @@
+-- What a round makes of the lists of a mesh.
+use Rattle.std.specs.Prelude.{◌≡◌, ℕ, List, ◌++◌, length, Option, All}
+use Rattle.std.specs.List.{AllZip}
+use Rattle.spin_base.specs.declared.copies.McCopy.{McCopy}
+use Rattle.link_queue.specs.declared.links.LinkEnds.{LinkEnds}
+use Rattle.mesh_core.specs.State.{Setup, State, Held}
+use Rattle.mesh_run.specs.declared.rounds.Lists.{Lists}
+use Rattle.mesh_run.specs.declared.rounds.Logs.{Logs}
+use Rattle.mesh_run.specs.declared.standing.Standing.{Standing}
+use Rattle.mesh_run.specs.Casting.{AreCast, AreLeft, HaveNoLogs, Pair, PairFlow, delivered_by, dumped_by}
+use Rattle.mesh_run.specs.Queues.{AreEnds}
+use Rattle.mesh_run.specs.Standing.{HoldsAll}
+
+-- the mesh with these lists
+abbrev pub with_lists : Setup → List (Option Held) → Lists → State
+with_lists u hands l = record {
+  setup = u;
+  unsent = l.unsent.items;
+  inputs = l.inputs.items;
+  hands = hands;
+  cores = l.cores.items;
+  delivered = l.delivered;
+  dumped = l.dumped;
+}
+
+-- What a round makes of links that are up: their ends were dealt to the pairs of all live chips, each pair had its turns, and all
+-- ends are back.
+pub record IsPlayedOn (u : Setup) (patience turns : ℕ) (up : List LinkEnds) (after : Standing) (unsent left : List (List McCopy)) (before now : Logs) : Type 0 where
+  pub cast : List Pair
+  pub are_cast : AreCast u up unsent patience cast
+  pub no_logs : HaveNoLogs cast
+  pub played : List Pair
+  pub flows : AllZip (PairFlow u.tables turns) cast played
+  pub back : List LinkEnds
+  pub holds : HoldsAll back after
+  pub ends : All AreEnds back
+  pub are_back : AreCast u back left patience played
+  pub kept : AreLeft played up back
+  pub unsent_long : length left ≡ length unsent
+  pub delivered : now.delivered.items ≡ before.delivered.items ++ delivered_by played
+  pub dumped : now.dumped.items ≡ before.dumped.items ++ dumped_by played

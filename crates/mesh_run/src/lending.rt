@@ -1,0 +1,263 @@
+// Ends of links lent to the actors of a chip.
+ghost use Rattle.std.specs.Prelude.{◌≡◌, ◌≢◌, ℕ, ◌+◌, ◌*◌, ◌<◌, ◌≤◌, ◌^◌, [], ◌∷◌, ◌++◌, Some, None, All, AllPairs, Contains, filter, length, map, slice_get};
+ghost use Rattle.spin_base.specs.declared.chips.Spot.{Spot};
+ghost use Rattle.spin_base.specs.declared.chips.Port.{Port};
+ghost use Rattle.spin_base.specs.declared.chips.Port.TheVariants.{Local};
+ghost use Rattle.spin_base.specs.declared.routes.Out.{Out};
+ghost use Rattle.spin_base.specs.Outputs.{all_outs};
+ghost use Rattle.mesh_core.specs.Ledger.{all_ports};
+ghost use Rattle.machine_desc.specs.Live.{IsInside};
+ghost use Rattle.chip_node.specs.Numbers.{numbers_of};
+ghost use Rattle.chip_node.specs.Serving.{ports_of, outs_with_ends};
+ghost use Rattle.mesh_core.specs.State.{queue_at};
+ghost use Rattle.mesh_run.specs.Lending.{place_behind, has_place, vertex_place, IsSetup, IsThere, Lent, LendsOut, tx_of, rx_of, txs_of, rxs_of, vertex_rxs, vertex_unsent, IsBehind, IsAtPort, IsOnChip};
+ghost use Rattle.net_tables.specs.NetsOn.{vertex_at};
+ghost use Rattle.mesh_run.specs.Vertices.{LendsVertex};
+
+use chip_node::{BankVertex, InEnd, OutEnd};
+use link_queue::{Rx, Tx};
+use machine_desc::Machine;
+use mesh_core::{MeshSetup, Queue};
+use spin_base::{Chip, Dir, Fifo, McCopy, Out, Port, Room, Spot};
+use std::alloc::Global;
+use std::mem;
+
+/// The ports of a chip.
+const PORTS: [Port; 7] = [
+    Port::Link(Dir::East),
+    Port::Link(Dir::NorthEast),
+    Port::Link(Dir::North),
+    Port::Link(Dir::West),
+    Port::Link(Dir::SouthWest),
+    Port::Link(Dir::South),
+    Port::Local,
+];
+
+/// The outputs of a chip.
+const OUTS: [Out; 24] = [
+    Out::Link(Dir::East),
+    Out::Link(Dir::NorthEast),
+    Out::Link(Dir::North),
+    Out::Link(Dir::West),
+    Out::Link(Dir::SouthWest),
+    Out::Link(Dir::South),
+    Out::Core(0),
+    Out::Core(1),
+    Out::Core(2),
+    Out::Core(3),
+    Out::Core(4),
+    Out::Core(5),
+    Out::Core(6),
+    Out::Core(7),
+    Out::Core(8),
+    Out::Core(9),
+    Out::Core(10),
+    Out::Core(11),
+    Out::Core(12),
+    Out::Core(13),
+    Out::Core(14),
+    Out::Core(15),
+    Out::Core(16),
+    Out::Core(17),
+];
+
+/// The ports of a chip, in the order of their numbers.
+pub(crate) fn chip_ports() -> [Port; 7]
+    ensures { result ≡ all_ports }
+{
+    PORTS
+}
+
+/// The outputs of a chip, in the order of their bits.
+#[tactic(auto, unfolding(spin_base::specs::Outputs::link_outs, spin_base::specs::Outputs::core_outs))]
+pub(crate) fn chip_outs() -> [Out; 24]
+    ensures { result ≡ all_outs }
+{
+    OUTS
+}
+
+/// The place of the queue behind an output among all queues, where there is one.
+fn place_behind(setup: &MeshSetup, chip: Chip, out: Out) -> Option<u32>
+    requires inside { IsInside setup.now.machine chip }
+    requires setup { IsSetup setup.now }
+    ensures { result ≡ place_behind setup.now chip out }
+{
+    match setup.behind(chip, out) {
+        Queue::Input(place) => Some(place as u32),
+        Queue::Core(vertex) => Some(vertex_place(setup, vertex)),
+        Queue::Nowhere => None,
+    }
+}
+
+/// The sending end of the link at a place.
+fn lend_tx(txs: &mut Vec<Option<Tx>>, place: u32) -> OutEnd
+    requires { IsThere txs.old.items place }
+    ensures place { result.link ≡ place }
+    ensures lent { Lent None (tx_of result ∷ []) txs.old.items txs.new.items }
+{
+    match txs[place as usize].take() {
+        Some(tx) => OutEnd { link: place, tx },
+        None => unreachable!(),
+    }
+}
+
+/// The sending ends of the queues behind these outputs of a chip.
+pub(crate) fn lend_outputs(
+    txs: &mut Vec<Option<Tx>>,
+    setup: &MeshSetup,
+    chip: Chip,
+    outs: &[Out],
+    outputs: &mut Room<(Out, OutEnd)>,
+)
+    requires inside { IsInside setup.now.machine chip }
+    requires setup { IsSetup setup.now }
+    requires none_yet { outputs.old.items ≡ [] }
+    requires spare { length outs.now ≤ outputs.old.spare }
+    requires different { AllPairs (λ a b. a ≢ b) outs.now }
+    requires there { (o : Out) (p : ℕ) → Contains outs.now o → place_behind setup.now chip o ≡ Some p → IsThere txs.old.items p }
+    requires apart { (a b : Out) (p : ℕ) → Contains outs.now a → Contains outs.now b → place_behind setup.now chip a ≡ Some p → place_behind setup.now chip b ≡ Some p → a ≡ b }
+    ensures outs { outs_with_ends outputs.new.items ≡ filter (has_place setup.now chip) outs.now }
+    ensures places { All (IsBehind setup.now chip) outputs.new.items }
+    ensures lent { Lent None (txs_of outputs.new.items) txs.old.items txs.new.items }
+{
+    for out in outs {
+        lend_output(txs, setup, chip, *out, outputs);
+    }
+}
+
+// The sending end of the queue behind an output, where there is one.
+fn lend_output(
+    txs: &mut Vec<Option<Tx>>,
+    setup: &MeshSetup,
+    chip: Chip,
+    out: Out,
+    outputs: &mut Room<(Out, OutEnd)>,
+)
+    requires inside { IsInside setup.now.machine chip }
+    requires setup { IsSetup setup.now }
+    requires spare { 1 ≤ outputs.old.spare }
+    requires there { (p : ℕ) → place_behind setup.now chip out ≡ Some p → IsThere txs.old.items p }
+    ensures lends { LendsOut setup.now chip out txs.old.items txs.new.items outputs.old.items outputs.new.items }
+    ensures spare { outputs.old.spare ≤ outputs.new.spare + 1 }
+{
+    if let Some(place) = place_behind(setup, chip, out) {
+        let end = lend_tx(txs, place);
+        outputs.put((out, end));
+    }
+}
+
+// The place of a port's input queue.
+fn input_place(machine: &Machine, chip: Chip, port: Port) -> u32
+    requires { IsInside machine.now chip }
+    ensures { result ≡ queue_at machine.now chip port }
+{
+    7 * machine.index(chip) + u32::from(port.number())
+}
+
+/// The receiving end of the link at a place.
+fn lend_rx(rxs: &mut Vec<Option<Rx>>, place: u32) -> InEnd
+    requires { IsThere rxs.old.items place }
+    ensures place { result.link ≡ place }
+    ensures lent { Lent None (rx_of result ∷ []) rxs.old.items rxs.new.items }
+{
+    match rxs[place as usize].take() {
+        Some(rx) => InEnd { link: place, rx },
+        None => unreachable!(),
+    }
+}
+
+/// The receiving ends of the input queues of these ports of a chip.
+pub(crate) fn lend_inputs(
+    rxs: &mut Vec<Option<Rx>>,
+    machine: &Machine,
+    chip: Chip,
+    ports: &[Port],
+    inputs: &mut Room<(Port, InEnd)>,
+)
+    requires inside { IsInside machine.now chip }
+    requires none_yet { inputs.old.items ≡ [] }
+    requires spare { length ports.now ≤ inputs.old.spare }
+    requires different { AllPairs (λ a b. a ≢ b) ports.now }
+    requires there { (port : Port) → Contains ports.now port → IsThere rxs.old.items (queue_at machine.now chip port) }
+    ensures ports { ports_of inputs.new.items ≡ ports.now }
+    ensures places { All (IsAtPort machine.now chip) inputs.new.items }
+    ensures lent { Lent None (rxs_of inputs.new.items) rxs.old.items rxs.new.items }
+{
+    for port in ports {
+        let end = lend_rx(rxs, input_place(machine, chip, *port));
+        inputs.put((*port, end));
+    }
+}
+
+/// The sending end of a chip's injection queue.
+pub(crate) fn lend_inject(txs: &mut Vec<Option<Tx>>, machine: &Machine, chip: Chip) -> OutEnd
+    requires inside { IsInside machine.now chip }
+    requires there { IsThere txs.old.items (queue_at machine.now chip Local) }
+    ensures place { result.link ≡ queue_at machine.now chip Local }
+    ensures lent { Lent None (tx_of result ∷ []) txs.old.items txs.new.items }
+{
+    lend_tx(txs, input_place(machine, chip, Port::Local))
+}
+
+/// The vertices of a chip, with what they have not sent yet and the receiving ends of their queues.
+pub(crate) fn lend_vertices(
+    alloc: Global,
+    rxs: &mut Vec<Option<Rx>>,
+    unsent: &mut Vec<Fifo<McCopy>>,
+    setup: &MeshSetup,
+    chip: Chip,
+    vertices: &mut Room<BankVertex>,
+)
+    requires setup { IsSetup setup.now }
+    requires inside { IsInside setup.now.machine chip }
+    requires none_yet { vertices.old.items ≡ [] }
+    requires spare { 24 ≤ vertices.old.spare }
+    requires unsent_long { length unsent.old.items ≡ length setup.now.spots }
+    requires there { (v : ℕ) (spot : Spot) → slice_get setup.now.spots v ≡ Some spot → spot.chip ≡ chip → IsThere rxs.old.items (vertex_place setup.now v) }
+    ensures each { All (IsOnChip setup.now chip) vertices.new.items }
+    ensures all { (v : ℕ) (spot : Spot) → slice_get setup.now.spots v ≡ Some spot → spot.chip ≡ chip → Contains (numbers_of vertices.new.items) v }
+    ensures rxs { Lent None (vertex_rxs vertices.new.items) rxs.old.items rxs.new.items }
+    ensures unsent { Lent [] (vertex_unsent vertices.new.items) unsent.old.items unsent.new.items }
+{
+    for core in 0..24 {
+        lend_vertex(alloc, rxs, unsent, setup, Spot { chip, core }, vertices);
+    }
+}
+
+// The vertex on a spot, where there is one.
+fn lend_vertex(
+    alloc: Global,
+    rxs: &mut Vec<Option<Rx>>,
+    unsent: &mut Vec<Fifo<McCopy>>,
+    setup: &MeshSetup,
+    spot: Spot,
+    vertices: &mut Room<BankVertex>,
+)
+    requires setup { IsSetup setup.now }
+    requires inside { IsInside setup.now.machine spot.chip }
+    requires numbered { spot.core < 24 }
+    requires spare { 1 ≤ vertices.old.spare }
+    requires unsent_long { length unsent.old.items ≡ length setup.now.spots }
+    requires there { (v : ℕ) → vertex_at setup.now.spots spot ≡ Some v → IsThere rxs.old.items (vertex_place setup.now v) }
+    ensures lends { LendsVertex setup.now spot rxs.old.items rxs.new.items unsent.old.items unsent.new.items vertices.old.items vertices.new.items }
+    ensures spare { vertices.old.spare ≤ vertices.new.spare + 1 }
+{
+    if let Some(vertex) = setup.vertex_at(spot) {
+        let end = lend_rx(rxs, vertex_place(setup, vertex));
+        let unsent = mem::replace(&mut unsent[vertex], Fifo::new(alloc));
+        vertices.put(BankVertex {
+            vertex: vertex as u32,
+            unsent,
+            end,
+        });
+    }
+}
+
+// The place of a vertex's queue among all queues.
+fn vertex_place(setup: &MeshSetup, vertex: usize) -> u32
+    requires setup { IsSetup setup.now }
+    requires there { vertex < length setup.now.spots }
+    ensures { result ≡ vertex_place setup.now vertex }
+{
+    (7 * setup.machine().chips() + vertex) as u32
+}

@@ -1,0 +1,143 @@
+// Actors taken apart: ends go back to their links, copies that are not sent to their vertices, and logs to lists.
+ghost use Rattle.std.specs.Prelude.{◌≡◌, ℕ, ◌+◌, ◌<◌, ◌≤◌, ◌++◌, [], ◌∷◌, length};
+ghost use Rattle.std.specs.List.{flat_map};
+ghost use Rattle.mesh_run.specs.Lending.{rx_of, tx_of, rxs_of, txs_of, vertex_rxs, vertex_unsent};
+ghost use Rattle.mesh_run.specs.Dealing.{AreWithin, delivered_in, dumped_in, put_all, rxs_in, txs_in, unsent_in};
+
+use crate::actors::Actor;
+use crate::standing::Standing;
+use chip_node::{BankVertex, CoreBank, InEnd, OutEnd, RouterNode};
+use link_queue::{Rx, Tx};
+use spin_base::{Delivery, DumpRec, Fifo, McCopy, Out, Port, Room, Seq};
+
+/// Takes all actors apart: ends go back to their links, copies that are not sent to their vertices, and logs to the
+/// lists of the mesh, in the order of the actors.
+pub(crate) fn dismiss(
+    actors: Vec<Actor>,
+    standing: &mut Standing,
+    unsent: &mut Vec<Fifo<McCopy>>,
+    delivered: &mut Room<Delivery>,
+    dumped: &mut Room<DumpRec>,
+)
+    requires txs { AreWithin standing.old.txs.items (flat_map txs_in actors.items) }
+    requires rxs { AreWithin standing.old.rxs.items (flat_map rxs_in actors.items) }
+    requires unsent { AreWithin unsent.old.items (flat_map unsent_in actors.items) }
+    requires delivered { length (flat_map delivered_in actors.items) ≤ delivered.old.spare }
+    requires dumped { length (flat_map dumped_in actors.items) ≤ dumped.old.spare }
+    ensures links { standing.new.links ≡ standing.old.links }
+    ensures rooms { standing.new.rooms ≡ standing.old.rooms }
+    ensures txs { standing.new.txs.items ≡ put_all standing.old.txs.items (flat_map txs_in actors.items) }
+    ensures rxs { standing.new.rxs.items ≡ put_all standing.old.rxs.items (flat_map rxs_in actors.items) }
+    ensures unsent { unsent.new.items ≡ put_all unsent.old.items (flat_map unsent_in actors.items) }
+    ensures delivered { delivered.new.items ≡ delivered.old.items ++ flat_map delivered_in actors.items }
+    ensures dumped { dumped.new.items ≡ dumped.old.items ++ flat_map dumped_in actors.items }
+{
+    for actor in actors {
+        dismiss_actor(actor, standing, unsent, delivered, dumped);
+    }
+}
+
+// Takes an actor apart.
+fn dismiss_actor(
+    actor: Actor,
+    standing: &mut Standing,
+    unsent: &mut Vec<Fifo<McCopy>>,
+    delivered: &mut Room<Delivery>,
+    dumped: &mut Room<DumpRec>,
+)
+    requires txs { AreWithin standing.old.txs.items (txs_in actor) }
+    requires rxs { AreWithin standing.old.rxs.items (rxs_in actor) }
+    requires unsent { AreWithin unsent.old.items (unsent_in actor) }
+    requires delivered { length (delivered_in actor) ≤ delivered.old.spare }
+    requires dumped { length (dumped_in actor) ≤ dumped.old.spare }
+    ensures links { standing.new.links ≡ standing.old.links }
+    ensures rooms { standing.new.rooms ≡ standing.old.rooms }
+    ensures txs { standing.new.txs.items ≡ put_all standing.old.txs.items (txs_in actor) }
+    ensures rxs { standing.new.rxs.items ≡ put_all standing.old.rxs.items (rxs_in actor) }
+    ensures unsent { unsent.new.items ≡ put_all unsent.old.items (unsent_in actor) }
+    ensures delivered { delivered.new.items ≡ delivered.old.items ++ delivered_in actor }
+    ensures dumped { dumped.new.items ≡ dumped.old.items ++ dumped_in actor }
+    ensures delivered_spare { delivered.new.spare + length (delivered_in actor) ≡ delivered.old.spare }
+    ensures dumped_spare { dumped.new.spare + length (dumped_in actor) ≡ dumped.old.spare }
+{
+    match actor {
+        Actor::Router(_index, node) => {
+            let (_chip, inputs, outputs, _patience, log) = node.into_parts();
+            return_inputs(&mut standing.rxs, inputs);
+            return_outputs(&mut standing.txs, outputs);
+            put_each(log, dumped);
+        }
+        Actor::Bank(bank) => {
+            let (inject, vertices, log) = bank.into_parts();
+            return_output(&mut standing.txs, inject);
+            return_vertices(&mut standing.rxs, unsent, vertices);
+            put_each(log, delivered);
+        }
+    }
+}
+
+// Puts the items of one list at the end of another.
+fn put_each<T: Drop>(items: Room<T>, list: &mut Room<T>)
+    requires { length items.items ≤ list.old.spare }
+    ensures items { list.new.items ≡ list.old.items ++ items.items }
+    ensures spare { list.new.spare + length items.items ≡ list.old.spare }
+{
+    for item in items.into_seq().into_vec() {
+        list.put(item);
+    }
+}
+
+fn return_input(rxs: &mut Vec<Option<Rx>>, end: InEnd)
+    requires { end.link < length rxs.old.items }
+    ensures { rxs.new.items ≡ put_all rxs.old.items (rx_of end ∷ []) }
+{
+    let InEnd { link, rx } = end;
+    rxs[link as usize] = Some(rx);
+}
+
+fn return_output(txs: &mut Vec<Option<Tx>>, end: OutEnd)
+    requires { end.link < length txs.old.items }
+    ensures { txs.new.items ≡ put_all txs.old.items (tx_of end ∷ []) }
+{
+    let OutEnd { link, tx } = end;
+    txs[link as usize] = Some(tx);
+}
+
+fn return_inputs(rxs: &mut Vec<Option<Rx>>, inputs: Seq<(Port, InEnd)>)
+    requires { AreWithin rxs.old.items (rxs_of inputs) }
+    ensures { rxs.new.items ≡ put_all rxs.old.items (rxs_of inputs) }
+{
+    for (_port, end) in inputs.into_vec() {
+        return_input(rxs, end);
+    }
+}
+
+fn return_outputs(txs: &mut Vec<Option<Tx>>, outputs: Seq<(Out, OutEnd)>)
+    requires { AreWithin txs.old.items (txs_of outputs) }
+    ensures { txs.new.items ≡ put_all txs.old.items (txs_of outputs) }
+{
+    for (_out, end) in outputs.into_vec() {
+        return_output(txs, end);
+    }
+}
+
+fn return_vertices(
+    rxs: &mut Vec<Option<Rx>>,
+    unsent: &mut Vec<Fifo<McCopy>>,
+    vertices: Seq<BankVertex>,
+)
+    requires rxs { AreWithin rxs.old.items (vertex_rxs vertices) }
+    requires unsent { AreWithin unsent.old.items (vertex_unsent vertices) }
+    ensures rxs { rxs.new.items ≡ put_all rxs.old.items (vertex_rxs vertices) }
+    ensures unsent { unsent.new.items ≡ put_all unsent.old.items (vertex_unsent vertices) }
+{
+    for vertex in vertices.into_vec() {
+        let BankVertex {
+            vertex: number,
+            unsent: left,
+            end,
+        } = vertex;
+        unsent[number as usize] = left;
+        return_input(rxs, end);
+    }
+}

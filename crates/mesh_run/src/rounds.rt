@@ -1,0 +1,280 @@
+// One round of a mesh on threads.
+ghost use Rattle.std.specs.Prelude.{◌≡◌, ℕ, ◌+◌, ◌*◌, ◌<◌, ◌≤◌, ◌++◌, [], List, All, IfErr, IfOk, Option, length};
+ghost use Rattle.std.specs.List.{AllZip};
+ghost use Rattle.link_queue.specs.declared.links.LinkEnds.{LinkEnds};
+ghost use Rattle.mesh_core.specs.State.{Held, IsMesh};
+ghost use Rattle.mesh_run.specs.Casting.{IsPlayed, live_chips};
+ghost use Rattle.mesh_run.specs.Dealing.{HasLogs, IsKitOf};
+ghost use Rattle.mesh_run.specs.Lending.{IsSetup, vertex_place};
+ghost use Rattle.mesh_run.specs.Playing.{IsPlayedOn, with_lists};
+ghost use Rattle.mesh_run.specs.Standing.{HoldsAll};
+ghost use Rattle.mesh_run.specs.Queues.{AreEnds};
+
+use crate::actors::Actor;
+use crate::casting::cast;
+use crate::gathering::{links_of, scatter};
+use crate::kits::{Kit, live_kits};
+use crate::queues::bring_down;
+use crate::returning::dismiss;
+use crate::shares::play;
+use crate::standing::{Standing, room_for};
+use mesh_core::{Hand, MeshParts, MeshSetup};
+use spin_base::{Delivery, DumpRec, Fifo, Gate, McCopy, Memory, Room, Seq};
+use std::alloc::Global;
+use std::sync::Wait;
+use std::thread::Threads;
+
+/// How often a router offers a copy, how many workers there are, how many turns each of their actors takes, and the
+/// number of the round.
+#[derive(Clone, Copy)]
+pub struct Pace {
+    pub patience: u32,
+    pub workers: u32,
+    pub turns: u32,
+    pub number: u32,
+}
+
+/// The lists of a mesh that a round changes.
+#[derive(Drop)]
+pub(crate) struct Lists {
+    pub unsent: Vec<Fifo<McCopy>>,
+    pub inputs: Vec<Fifo<McCopy>>,
+    pub cores: Vec<Fifo<McCopy>>,
+    pub delivered: Seq<Delivery>,
+    pub dumped: Fifo<DumpRec>,
+}
+
+/// The lists of deliveries and of dump records, with room for those of a round.
+#[derive(Drop)]
+pub(crate) struct Logs {
+    pub delivered: Room<Delivery>,
+    pub dumped: Room<DumpRec>,
+}
+
+/// One round: the router and the bank of each live chip take `pace.turns` turns, in `pace.workers` workers. All memory is
+/// taken before. After a refusal the mesh is as before.
+pub fn play_parts<R: Threads + Wait + Sync, G: Gate>(
+    rt: &R,
+    alloc: Global,
+    parts: MeshParts,
+    pace: Pace,
+    gate: &G,
+) -> Result<MeshParts, (MeshParts, Memory)>
+    requires mesh { IsMesh parts }
+    requires patient { 1 ≤ pace.patience }
+    requires workers { 1 ≤ pace.workers }
+    ensures played { IfOk result (IsPlayed pace.patience pace.turns parts) }
+    ensures back { IfErr result (λ b. b.0 ≡ parts) }
+{
+    let MeshParts {
+        setup,
+        unsent,
+        inputs,
+        hands,
+        cores,
+        delivered,
+        dumped,
+    } = parts;
+    let lists = Lists {
+        unsent,
+        inputs,
+        cores,
+        delivered,
+        dumped,
+    };
+    match play_lists(rt, alloc, &setup, lists, pace, gate) {
+        Ok(lists) => Ok(lists.with(setup, hands)),
+        Err((lists, e)) => Err((lists.with(setup, hands), e)),
+    }
+}
+
+impl Lists {
+    // The parts of a mesh with these lists.
+    fn with(self, setup: MeshSetup, hands: Vec<Option<Hand>>) -> MeshParts
+        ensures { result ≡ with_lists setup hands.items self }
+    {
+        let Lists {
+            unsent,
+            inputs,
+            cores,
+            delivered,
+            dumped,
+        } = self;
+        MeshParts {
+            setup,
+            unsent,
+            inputs,
+            hands,
+            cores,
+            delivered,
+            dumped,
+        }
+    }
+}
+
+// One round on the lists of a mesh.
+fn play_lists<R: Threads + Wait + Sync, G: Gate>(
+    rt: &R,
+    alloc: Global,
+    setup: &MeshSetup,
+    lists: Lists,
+    pace: Pace,
+    gate: &G,
+) -> Result<Lists, (Lists, Memory)>
+    requires mesh { (hands : List (Option Held)) × IsMesh (with_lists setup.now hands lists) }
+    requires patient { 1 ≤ pace.patience }
+    requires workers { 1 ≤ pace.workers }
+    ensures played { IfOk result (λ l. (hands : List (Option Held)) → IsPlayed pace.patience pace.turns (with_lists setup.now hands lists) (with_lists setup.now hands l)) }
+    ensures back { IfErr result (λ b. (hands : List (Option Held)) → with_lists setup.now hands b.0 ≡ with_lists setup.now hands lists) }
+{
+    let Ok(kits) = live_kits(alloc, setup.machine(), pace.turns) else {
+        return Err((lists, Memory));
+    };
+    let Ok(actors) = room_for(alloc, 2 * kits.len()) else {
+        return Err((lists, Memory));
+    };
+    let Lists {
+        mut unsent,
+        mut inputs,
+        mut cores,
+        delivered,
+        dumped,
+    } = lists;
+    let mut logs = match Logs::over(delivered, dumped, kits.len(), pace.turns) {
+        Ok(logs) => logs,
+        Err((delivered, dumped)) => {
+            let lists = Lists {
+                unsent,
+                inputs,
+                cores,
+                delivered,
+                dumped,
+            };
+            return Err((lists, Memory));
+        }
+    };
+    match links_of(rt, alloc, &mut inputs, &mut cores, setup.capacity()) {
+        Ok(mut standing) => {
+            play_links(
+                rt,
+                alloc,
+                setup,
+                kits,
+                actors,
+                &mut standing,
+                &mut unsent,
+                &mut logs,
+                pace,
+                gate,
+            );
+            bring_down(rt, standing, &mut inputs);
+            scatter(&mut inputs, &mut cores);
+            Ok(logs.with(unsent, inputs, cores))
+        }
+        Err(e) => Err((logs.with(unsent, inputs, cores), e)),
+    }
+}
+
+impl Logs {
+    // The lists with room for so many turns of so many chips. A refusal hands them back.
+    fn over(
+        delivered: Seq<Delivery>,
+        dumped: Fifo<DumpRec>,
+        chips: usize,
+        turns: u32,
+    ) -> Result<Logs, (Seq<Delivery>, Fifo<DumpRec>)>
+        requires few { chips ≤ 4096 }
+        ensures ok { IfOk result (λ l. (l.delivered.items ≡ delivered) × (l.dumped.items ≡ dumped) × (turns * chips ≤ l.delivered.spare) × (24 * turns * chips ≤ l.dumped.spare)) }
+        ensures err { IfErr result (λ b. (b.0 ≡ delivered) × (b.1 ≡ dumped)) }
+    {
+        let count = turns as usize * chips;
+        let delivered = match Room::over(delivered, count as u64) {
+            Ok(room) => room,
+            Err((list, _)) => return Err((list, dumped)),
+        };
+        match Room::over(dumped.into_seq(), (24 * count) as u64) {
+            Ok(dumped) => Ok(Logs { delivered, dumped }),
+            Err((list, _)) => Err((delivered.into_seq(), Fifo::from_seq(list))),
+        }
+    }
+
+    // The lists of a mesh with these and others.
+    fn with(
+        self,
+        unsent: Vec<Fifo<McCopy>>,
+        inputs: Vec<Fifo<McCopy>>,
+        cores: Vec<Fifo<McCopy>>,
+    ) -> Lists
+        ensures unsent { result.unsent ≡ unsent }
+        ensures inputs { result.inputs ≡ inputs }
+        ensures cores { result.cores ≡ cores }
+        ensures delivered { result.delivered ≡ self.delivered.items }
+        ensures dumped { result.dumped ≡ self.dumped.items }
+    {
+        let Logs { delivered, dumped } = self;
+        Lists {
+            unsent,
+            inputs,
+            cores,
+            delivered: delivered.into_seq(),
+            dumped: Fifo::from_seq(dumped.into_seq()),
+        }
+    }
+}
+
+// One round on links that are up.
+fn play_links<R: Threads + Wait + Sync, G: Gate>(
+    rt: &R,
+    alloc: Global,
+    setup: &MeshSetup,
+    kits: Vec<Kit>,
+    mut room: Room<Actor>,
+    standing: &mut Standing,
+    unsent: &mut Vec<Fifo<McCopy>>,
+    logs: &mut Logs,
+    pace: Pace,
+    gate: &G,
+)
+    requires setup { IsSetup setup.now }
+    requires tables { length setup.now.tables ≡ setup.now.machine.width * setup.now.machine.height }
+    requires patient { 1 ≤ pace.patience }
+    requires workers { 1 ≤ pace.workers }
+    requires kits { AllZip (IsKitOf setup.now.machine) (live_chips setup.now.machine) kits.items }
+    requires kit_logs { All (HasLogs pace.turns) kits.items }
+    requires few { length kits.items ≤ 4096 }
+    requires no_actors { room.items ≡ [] }
+    requires spare { 2 * length kits.items ≤ room.spare }
+    requires up { (up : List LinkEnds) × HoldsAll up standing.old × All AreEnds up × (length up ≡ vertex_place setup.now (length setup.now.spots)) }
+    requires unsent_long { length unsent.old.items ≡ length setup.now.spots }
+    requires deliveries { pace.turns * length kits.items ≤ logs.old.delivered.spare }
+    requires dumps { 24 * pace.turns * length kits.items ≤ logs.old.dumped.spare }
+    ensures { (up : List LinkEnds) → HoldsAll up standing.old → IsPlayedOn setup.now pace.patience pace.turns up standing.new unsent.old.items unsent.new.items logs.old logs.new }
+{
+    cast(
+        alloc,
+        kits,
+        standing,
+        unsent,
+        setup,
+        pace.patience,
+        &mut room,
+    );
+    let mut actors = room.into_seq().into_vec();
+    play(
+        rt,
+        &standing.links,
+        setup.tables(),
+        &mut actors,
+        pace.workers,
+        pace.turns,
+        pace.number,
+        gate,
+    );
+    dismiss(
+        actors,
+        standing,
+        unsent,
+        &mut logs.delivered,
+        &mut logs.dumped,
+    );
+}
