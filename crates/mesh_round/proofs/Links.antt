@@ -14,7 +14,7 @@ use Rattle.chip_node.specs.declared.ends.OutEnd.{OutEnd}
 use Rattle.mesh_core.specs.State.{Setup, Behind, input, core, nowhere}
 use Rattle.mesh_run.specs.Casting.{IsTxAt, IsRxAt}
 use Rattle.mesh_run.specs.Lending.{place_of}
-use Rattle.mesh_run.specs.Queues.{IsUp, IsDown}
+use Rattle.mesh_run.specs.Queues.{IsUp, IsDown, places_for}
 use Rattle.round_flow.specs.RoundFlow.{held_in}
 use Rattle.mesh_round.proofs.Lists.{some_same}
 use Rattle.mesh_round.proofs.TheFlow.{Round, ports_many, link_at, told, flow_of, moments}
@@ -39,9 +39,9 @@ module _ (r : Round) where
     pub stood : slice_get r.played.up place ≡ Some old
     pub stands : slice_get r.played.back place ≡ Some new
     pub here : link_at u r.played.back q ≡ Some new
-    pub up : IsUp u.capacity (held_in r.m q) old
+    pub up : IsUp u.capacity r.turns (held_in r.m q) old
     pub down : IsDown new (held_in r.n q)
-    pub cap : cap_of new.link ≡ u.capacity
+    pub cap : cap_of new.link ≡ places_for u.capacity r.turns (held_in r.m q)
 
   all_long : length r.played.up ≡ ports_many u + length u.spots
   all_long =
@@ -63,8 +63,8 @@ module _ (r : Round) where
       let down = r.played.down.1.down place new.0 [] (omega (arith, below, long, back_long)) in
       let same_old : get_or r.played.up place old.0 ≡ old.0 = get_or_from_slice_get r.played.up place old.0 old.0 old.1 in
       let same_new : get_or r.played.back place new.0 ≡ new.0 = get_or_from_slice_get r.played.back place new.0 new.0 new.1 in
-      let is_up : IsUp u.capacity (held_in r.m q) old.0 =
-      subst (λ (l : List McCopy). IsUp u.capacity l old.0) held (subst (λ (e : LinkEnds). IsUp u.capacity (get_or (r.m.inputs ++ r.m.cores) place []) e) same_old up) in
+      let is_up : IsUp u.capacity r.turns (held_in r.m q) old.0 =
+      subst (λ (l : List McCopy). IsUp u.capacity r.turns l old.0) held (subst (λ (e : LinkEnds). IsUp u.capacity r.turns (get_or (r.m.inputs ++ r.m.cores) place []) e) same_old up) in
       let is_down : IsDown new.0 (held_in r.n q) =
       subst (λ (l : List McCopy). IsDown new.0 l) after (subst (λ (e : LinkEnds). IsDown e (get_or (r.n.inputs ++ r.n.cores) place [])) same_new down) in
       let link : LinkEnds → Link = λ e. e.link in

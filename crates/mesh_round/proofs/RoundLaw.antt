@@ -30,7 +30,7 @@ use Rattle.mesh_round.proofs.Dead.{dead_port, dead_chip}
 use Rattle.mesh_round.proofs.Links.{LinkOf, there, none, stands, link_input, entered_is, left_is, fulls_is}
 use Rattle.mesh_round.proofs.Moved.{moved}
 use Rattle.mesh_round.proofs.Routers.{SendsOrDumps, TakenAtOne, link_behind, sent_behind, none_sent, few_taken, routed, served}
-use Rattle.mesh_round.proofs.Senders.{in_order, hops_left, first_is}
+use Rattle.mesh_round.proofs.Senders.{in_order, hops_left, first_is, few_entered}
 use Rattle.mesh_round.proofs.Services.{is_of}
 use Rattle.mesh_round.proofs.TheFlow.{Round, flow_of, told, moment, moments}
 use Rattle.mesh_round.proofs.Turns.{TurnOf, turn_of}
@@ -58,9 +58,9 @@ module _ (r : Round) where
   room_of (core v) l = refl
   room_of nowhere l = let is = l.is_place in cc
 
-  -- a note of Full is such a moment
-  full_note : (q : Behind) (l : LinkOf r q) (x : ℕ) → IsFullNote (cap_of l.new.link) (put_of (sending l.new.tx)) (taking l.new.rx).took x → IsFullAt r.m (flow_of r) q (moment r.m q x)
-  full_note q l x note =
+  -- A note of Full is such a moment: turns cannot fill a link that has fewer places than the capacity.
+  full_note : SendsOrDumps → (q : Behind) (l : LinkOf r q) (x : ℕ) → IsFullNote (cap_of l.new.link) (put_of (sending l.new.tx)) (taking l.new.rx).took x → IsFullAt r.m (flow_of r) q (moment r.m q x)
+  full_note split q l x note =
       let cap = l.cap in
       let from = note.0 in
       let to_put = note.1 in
@@ -70,30 +70,31 @@ module _ (r : Round) where
       let entered = ap length (entered_is r q l) in
       let left = ap length (left_is r q l) in
       let within = held_within q in
-      let room = room_of q l in (
+      let room = room_of q l in
+      let few = few_entered r split q l in (
         omega (arith, to_put, first, both, entered),
         omega (arith, cap, to_took, left),
-        omega (arith, cap, from, within, room),
+        omega (arith, cap, from, within, room, to_put, first, both, few),
       )
 
-  full_there : (q : Behind) (l : LinkOf r q) → All (IsFullAt r.m (flow_of r) q) ((flow_of r).fulls q)
-  full_there q l =
+  full_there : SendsOrDumps → (q : Behind) (l : LinkOf r q) → All (IsFullAt r.m (flow_of r) q) ((flow_of r).fulls q)
+  full_there split q l =
       let notes = (sending l.new.tx).fulls in
       subst (All (IsFullAt r.m (flow_of r) q)) (sym (fulls_is r q l))
       (All-map (IsFullAt r.m (flow_of r) q) (moment r.m q) notes
       (All-each (λ x. IsFullAt r.m (flow_of r) q (moment r.m q x)) notes (λ x has.
-      full_note q l x (All-contains (IsFullNote (cap_of l.new.link) (put_of (sending l.new.tx)) (taking l.new.rx).took) notes x l.down.noted has))))
+      full_note split q l x (All-contains (IsFullNote (cap_of l.new.link) (put_of (sending l.new.tx)) (taking l.new.rx).took) notes x l.down.noted has))))
 
-  full : (q : Behind) → All (IsFullAt r.m (flow_of r) q) ((flow_of r).fulls q)
-  full (input i) = elim (stands r (input i)) [
-    | there l ↦ full_there (input i) l
+  full : SendsOrDumps → (q : Behind) → All (IsFullAt r.m (flow_of r) q) ((flow_of r).fulls q)
+  full split (input i) = elim (stands r (input i)) [
+    | there l ↦ full_there split (input i) l
     | none here held after ↦ subst (All (IsFullAt r.m (flow_of r) (input i))) (sym (ap (told (moments r.m (input i))) here)) (All-nil (IsFullAt r.m (flow_of r) (input i)))
   ]
-  full (core v) = elim (stands r (core v)) [
-    | there l ↦ full_there (core v) l
+  full split (core v) = elim (stands r (core v)) [
+    | there l ↦ full_there split (core v) l
     | none here held after ↦ subst (All (IsFullAt r.m (flow_of r) (core v))) (sym (ap (told (moments r.m (core v))) here)) (All-nil (IsFullAt r.m (flow_of r) (core v)))
   ]
-  full nowhere = All-replicate (IsFullAt r.m (flow_of r) nowhere) (r.patience * length (flow_of r).dumped) (0, 0) (omega arith, omega arith, omega arith)
+  full split nowhere = All-replicate (IsFullAt r.m (flow_of r) nowhere) (r.patience * length (flow_of r).dumped) (0, 0) (omega arith, omega arith, omega arith)
 
   -- behind each dump record stand as many such moments as the patience
   patient : (c : Chip) (o : Out) → IsLiveChip u.machine c → IsOutput o → r.patience * length (dumped_at (flow_of r) c o) ≤ length ((flow_of r).fulls (behind u c o))
@@ -171,7 +172,7 @@ module _ (r : Round) where
     flow = flow_of r;
     round = record {
       passes = passes split at_one;
-      full = full;
+      full = full split;
       patient = patient;
       takes = λ c live. let t = turn_of r c live in few_taken r c t.after t.turn (live_inside u.machine c live);
       sends = λ c live. let t = turn_of r c live in few_sent r c t.after t.turn;

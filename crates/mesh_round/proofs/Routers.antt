@@ -3,11 +3,12 @@ use Rattle.std.proofs.Common.{◌≡◌, ℕ, ◌*◌, ◌<◌, ◌≤◌, Bool,
 use Rattle.std.specs.List.{All, Contains, slice_index_or, filter, sum_by, list_any}
 use Rattle.std.specs.List.Sorted.{IsPermutation}
 use Rattle.std.proofs.lemmas.Bool.{cases_Bool, and_parts}
-use Rattle.std.proofs.lemmas.List.{length-append}
+use Rattle.std.proofs.lemmas.List.{length-append, length-map}
 use Rattle.std.proofs.lemmas.List.Elements.{All-nil, All-cons, All-contains}
-use Rattle.std.proofs.lemmas.List.Sorted.{IsPermutation-map, IsPermutation-trans}
+use Rattle.std.proofs.lemmas.List.Sorted.{IsPermutation-map, IsPermutation-trans, length_permutation}
+use Rattle.std.proofs.lemmas.List.Sums.{length-filter, count_by-le-length}
 use Rattle.list_laws.specs.Gathered.{gathered}
-use Rattle.list_laws.proofs.Members.{Among, among_contains, contains_among, Contains-unmap, Contains-filter, Contains-from_filter}
+use Rattle.list_laws.proofs.Members.{Among, among_contains, contains_among, Contains-map, Contains-unmap, Contains-filter, Contains-from_filter}
 use Rattle.list_laws.proofs.Tests.{answers_none}
 use Rattle.list_laws.proofs.Pairs.{All-flat_map}
 use Rattle.list_laws.proofs.Places.{All-at, All-each, AllZip-at_first}
@@ -46,6 +47,7 @@ use Rattle.mesh_run.specs.Lending.{place_of, place_behind, has_place}
 use Rattle.mesh_run.specs.Routed.{taken_for, dumped_by}
 use Rattle.round_flow.specs.RoundFlow.{held_in, at_port, leaves_by, dumped_at}
 use Rattle.round_flow.specs.RoundFlow as round
+use Rattle.round_flow.proofs.Entered.{has_bit}
 use Rattle.round_flow.proofs.Ends.{leads, by_link, to_vertex, to_none}
 use Rattle.round_flow.proofs.Sums.{sum_agree}
 use Rattle.mesh_core.proofs.Ways.{vertex_behind_stands}
@@ -215,6 +217,26 @@ module _ (r : Round) (c : Chip) (after : Pair) (t : Turn r c after) where
             absurd (answers_none (has_place u c s.out) there.1 none)
         | inr other ↦ other
       ]
+
+  -- an end is of an output that has a bit
+  pub end_is_output : (e : Out × OutEnd) → Contains t.before.router.outputs.items e → IsOutput e.0
+  end_is_output e has =
+      let ends = Contains-map (λ (x : Out × OutEnd). x.0) t.before.router.outputs.items e has in
+      let there = Contains-from_filter (has_place u c) all_outs e.0 (subst (λ (k : List Out). Contains k e.0) t.cast.router.outs ends) in
+      has_bit e.0 (contains_among e.0 all_outs there.0)
+
+  -- each copy that was taken was sent by an output at most once
+  pub few_sent_by : SendsOrDumps → (o : Out) → IsOutput o → length (sent_by o served) ≤ r.turns
+  few_sent_by split o is =
+      let given : Port × McCopy → Bool = λ x. list_any (out_eq o) (outputs_at entries x.0 x.1) in
+      let all = split entries r.turns t.before.router after.router o t.flow.router is in
+      let same = length_permutation (map onward (taken_for entries o taken)) (sent_by o served ++ map onward (dumped_by o served)) all in
+      let both = length-append (sent_by o served) (map onward (dumped_by o served)) in
+      let went = length-map (taken_for entries o taken) onward in
+      let for_output : length (taken_for entries o taken) ≡ count_by given taken = length-map (filter given taken) (λ (x : Port × McCopy). x.1) ∙ length-filter given taken in
+      let within = count_by-le-length given taken in
+      let few = t.flow.router.few in
+      omega (arith, same, both, went, for_output, within, few)
 
   -- ---- what was dumped
 

@@ -1,9 +1,10 @@
 -- What entered each queue: its link was fed by an output of a live chip, by the cores of one, or not at all.
-use Rattle.std.proofs.Common.{◌≡◌, ℕ, ◌+◌, ◌≤◌, min, List, [], ◌++◌, map, Some, sym, ap, ap₂, ◌∙◌, subst, arith, inl, inr, ◌⊎◌}
+use Rattle.std.proofs.Common.{◌≡◌, ℕ, ◌+◌, ◌≤◌, min, List, [], ◌++◌, map, length, Some, sym, ap, ap₂, ◌∙◌, subst, arith, inl, inr, ◌⊎◌}
 use Rattle.std.specs.List.{All, Contains, filter}
 use Rattle.std.proofs.lemmas.Bool.{cases_eq}
+use Rattle.std.proofs.lemmas.List.{length-map}
 use Rattle.std.proofs.lemmas.List.Elements.{All-nil, All-append, All-map}
-use Rattle.list_laws.proofs.Members.{Contains-unmap}
+use Rattle.list_laws.proofs.Members.{Contains-at, Contains-unmap}
 use Rattle.list_laws.proofs.Pairs.{All-left, All-right}
 use Rattle.list_laws.proofs.Places.{All-at, All-each, AllZip-at_second}
 use Rattle.spin_base.specs.declared.chips.Chip.{Chip}
@@ -21,7 +22,7 @@ use Rattle.round_flow.specs.RoundFlow.{held_in}
 use Rattle.mesh_round.proofs.Banks.{sent_here, sent_at_start}
 use Rattle.mesh_round.proofs.Links.{LinkOf, there, none, stands, entered_is, left_is}
 use Rattle.mesh_round.proofs.Lists.{place_in, found_or_none, number_or_none}
-use Rattle.mesh_round.proofs.Routers.{sent_at, served}
+use Rattle.mesh_round.proofs.Routers.{SendsOrDumps, end_is_output, few_sent_by, sent_at, served}
 use Rattle.mesh_round.proofs.TheFlow.{Round, flow_of, told}
 use Rattle.mesh_round.proofs.Turns.{Turn, turn_with}
 
@@ -46,10 +47,11 @@ module _ (r : Round) where
     ]
   ]
 
-  -- A link's sending end knows what the queue held, and what it sent has hop numbers that fit.
+  -- A link's sending end knows what the queue held; what it sent has hop numbers that fit, and is at most one copy a turn.
   record Fed (q : Behind) (l : LinkOf r q) : Type 0 where
     first : (sending l.new.tx).first ≡ held_in r.m q
     hops : All IsSmall (sending l.new.tx).sent
+    few : SendsOrDumps → length (sending l.new.tx).sent ≤ r.turns
 
   fed_by_bank : (q : Behind) (l : LinkOf r q) (c : Chip) (p : Pair) (t : Turn r c p) → p.bank.inject.link ≡ l.place → Fed q l
   fed_by_bank q l c p t place =
@@ -58,6 +60,10 @@ module _ (r : Round) where
       record {
         first = here.first;
         hops = λ i d below. let zero_hop = start i d below in omega (arith, zero_hop);
+        few = λ split.
+            let long = ap length here.sent_all ∙ length-map t.flow.bank.sent (λ (s : ℕ × McCopy). s.1) in
+            let few = t.flow.bank.few_sent in
+            omega (arith, long, few);
       }
 
   fed_by_output : (q : Behind) (l : LinkOf r q) (c : Chip) (p : Pair) (t : Turn r c p) (f : Out × OutEnd) → Contains p.router.outputs.items f → f.1.link ≡ l.place → Fed q l
@@ -73,6 +79,10 @@ module _ (r : Round) where
       record {
         first = sent.first;
         hops = subst (All IsSmall) (sym sent.sent) small;
+        few = λ split.
+            let long = ap length sent.sent in
+            let few = few_sent_by r c p t split beside.0.0 (end_is_output r c p t beside.0 (Contains-at t.before.router.outputs.items at.0 beside.0 beside.1)) in
+            omega (arith, long, few);
       }
     where
       fits : (h : ℕ) → min (h + 1) last_hop ≤ last_hop
@@ -91,6 +101,7 @@ module _ (r : Round) where
       record {
         first = ap (λ (x : Tx). (sending x).first) same ∙ l.up.tx_new.first;
         hops = subst (All IsSmall) (sym none) (All-nil IsSmall);
+        few = λ split. let long = ap length none in omega (arith, long);
       }
 
   fed : (q : Behind) (l : LinkOf r q) → Fed q l
@@ -102,6 +113,10 @@ module _ (r : Round) where
   -- what a link's sending end knows to have been there first
   pub first_is : (q : Behind) (l : LinkOf r q) → (sending l.new.tx).first ≡ held_in r.m q
   first_is q l = (fed q l).first
+
+  -- at most one copy a turn enters a queue
+  pub few_entered : SendsOrDumps → (q : Behind) (l : LinkOf r q) → length (sending l.new.tx).sent ≤ r.turns
+  few_entered split q l = (fed q l).few split
 
   -- ---- the balance of each queue
 

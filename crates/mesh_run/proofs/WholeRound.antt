@@ -18,9 +18,9 @@ pub setup_of_mesh : (u : Setup) (hands : List (Option Held)) (l : Lists) → IsM
 setup_of_mesh u hands l mesh = record { size = mesh.size; different = mesh.different; sites = mesh.sites }
 
 -- the links of all queues of a mesh
-pub links_are_up : (u : Setup) (hands : List (Option Held)) (l : Lists) (cap : ℕ) (up : List LinkEnds) → IsMesh (with_lists u hands l) → AreUp cap (l.inputs.items ++ l.cores.items) up →
+pub links_are_up : (u : Setup) (hands : List (Option Held)) (l : Lists) (cap turns : ℕ) (up : List LinkEnds) → IsMesh (with_lists u hands l) → AreUp cap turns (l.inputs.items ++ l.cores.items) up →
     All AreEnds up × (length up ≡ vertex_place u (length u.spots))
-links_are_up u hands l cap up mesh are =
+links_are_up u hands l cap turns up mesh are =
     let long = are.long in
     let parts = length-append l.inputs.items l.cores.items in
     let inputs = mesh.input_lists in
@@ -28,7 +28,7 @@ links_are_up u hands l cap up mesh are =
     (λ i e below. (are.each i [] e (subst (λ n. i < n) are.long below)).ends, omega (arith, long, parts, inputs, cores))
 
 pub whole_round : (u : Setup) (patience turns cap : ℕ) (hands : List (Option Held)) (m n : Lists) (queues down : List (List McCopy)) (up : List LinkEnds) (after : Standing) (before now : Logs) →
-    cap ≡ u.capacity → AreUp cap (m.inputs.items ++ m.cores.items) up → IsPlayedOn u patience turns up after m.unsent.items n.unsent.items before now →
+    cap ≡ u.capacity → AreUp cap turns (m.inputs.items ++ m.cores.items) up → IsPlayedOn u patience turns up after m.unsent.items n.unsent.items before now →
     ((ends : List LinkEnds) → HoldsAll ends after → DownTo ends queues down) → n.inputs.items ++ n.cores.items ≡ down → length n.cores.items ≡ length m.cores.items →
     length down ≡ length m.inputs.items + length m.cores.items → before.delivered.items ≡ m.delivered → before.dumped.items ≡ m.dumped →
     n.delivered ≡ now.delivered.items → n.dumped ≡ now.dumped.items → IsPlayed patience turns (with_lists u hands m) (with_lists u hands n)
@@ -42,7 +42,7 @@ whole_round u patience turns cap hands m n queues down up after before now cap_i
       cores_long = cores_long;
       unsent_long = p.unsent_long;
       up = up;
-      are_up = subst (λ k. AreUp k (m.inputs.items ++ m.cores.items) up) cap_is are;
+      are_up = subst (λ k. AreUp k turns (m.inputs.items ++ m.cores.items) up) cap_is are;
       cast = p.cast;
       are_cast = p.are_cast;
       no_logs = p.no_logs;

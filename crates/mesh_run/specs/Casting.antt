@@ -141,7 +141,7 @@ pub record IsPlayed (patience turns : ℕ) (m n : State) : Type 0 where
   pub cores_long : length n.cores ≡ length m.cores
   pub unsent_long : length n.unsent ≡ length m.unsent
   pub up : List LinkEnds
-  pub are_up : AreUp m.setup.capacity (m.inputs ++ m.cores) up
+  pub are_up : AreUp m.setup.capacity turns (m.inputs ++ m.cores) up
   pub cast : List Pair
   pub are_cast : AreCast m.setup up m.unsent patience cast
   pub no_logs : HaveNoLogs cast

@@ -11,26 +11,27 @@ use std::alloc::Global;
 use std::mem;
 use std::sync::Wait;
 
-/// A link for each queue, those of ports and then those of vertices, and in `inputs` a place for each of them. After a
-/// refusal the queues are as before.
+/// A link for each queue, those of ports and then those of vertices, for a round of so many turns, and in `inputs` a place for
+/// each of them. After a refusal the queues are as before.
 pub(crate) fn links_of<R: Wait>(
     rt: &R,
     alloc: Global,
     inputs: &mut Vec<Fifo<McCopy>>,
     cores: &mut Vec<Fifo<McCopy>>,
     cap: u32,
+    turns: u32,
 ) -> Result<Standing, Memory>
     requires some { 0 < cap }
     requires inputs_fit { All (λ q. length q ≤ cap) inputs.old.items }
     requires cores_fit { All (λ q. length q ≤ cap) cores.old.items }
     ensures cores_long { length cores.new.items ≡ length cores.old.items }
     ensures long { OnOk result (length inputs.new.items ≡ length inputs.old.items + length cores.old.items) }
-    ensures up { IfOk result (λ s. (ends : List LinkEnds) × HoldsAll ends s × AreUp cap (inputs.old.items ++ cores.old.items) ends) }
+    ensures up { IfOk result (λ s. (ends : List LinkEnds) × HoldsAll ends s × AreUp cap turns (inputs.old.items ++ cores.old.items) ends) }
     ensures inputs_back { OnErr result (inputs.new.items ≡ inputs.old.items) }
     ensures cores_back { OnErr result (cores.new.items ≡ cores.old.items) }
 {
     gather(alloc, inputs, cores)?;
-    match bring_up(rt, alloc, inputs, cap) {
+    match bring_up(rt, alloc, inputs, cap, turns) {
         Ok(standing) => Ok(standing),
         Err(e) => {
             scatter(inputs, cores);

@@ -153,7 +153,14 @@ fn play_lists<R: Threads + Wait + Sync, G: Gate>(
             return Err((lists, Memory));
         }
     };
-    match links_of(rt, alloc, &mut inputs, &mut cores, setup.capacity()) {
+    match links_of(
+        rt,
+        alloc,
+        &mut inputs,
+        &mut cores,
+        setup.capacity(),
+        pace.turns,
+    ) {
         Ok(mut standing) => {
             play_links(
                 rt,

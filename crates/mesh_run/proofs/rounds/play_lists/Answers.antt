@@ -6,7 +6,7 @@ use Rattle.mesh_run.proofs.rounds.play_lists.Goals as goal
 pub play_links-requires-clause-up : goal.play_links-requires-clause-up
 play_links-requires-clause-up g c κs within =
     let up = c.in-Ok-links_of.ensures.up in
-    let are = links_are_up c.args.setup.now c.requires.mesh.0 c.args.lists c.capacity.result up.0 c.requires.mesh.1 up.2 in
+    let are = links_are_up c.args.setup.now c.requires.mesh.0 c.args.lists c.capacity.result c.args.pace.turns up.0 c.requires.mesh.1 up.2 in
     (up.0, up.1, are.0, are.1)
 
 pub returns-in-Ok-links_of-clause-played : goal.returns-in-Ok-links_of-clause-played
