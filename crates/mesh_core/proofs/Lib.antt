@@ -7,6 +7,7 @@ pub mod EventsLaw
 mod ExpectedCount
 pub mod ExpectedList
 mod FewMarks
+pub mod FewMoves
 pub mod Fixed
 mod HandOutputs
 mod Keeping

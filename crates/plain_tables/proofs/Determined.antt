@@ -75,7 +75,7 @@ same_bit_at a b alike i below = elim (cases_lt i 6) [
     at o valid = same_bit (bit_at a.bits (out_number o)) (bit_at b.bits (out_number o)) (bit_at-lt a.bits (out_number o)) (bit_at-lt b.bits (out_number o)) (alike o valid)
 
 -- a route is its outputs
-same_outputs : (a b : Route) → ((o : Out) → IsOutput o → has a o ≡ has b o) → a ≡ b
+pub same_outputs : (a b : Route) → ((o : Out) → IsOutput o → has a o ≡ has b o) → a ≡ b
 same_outputs a b alike = subst (λ n. (w : n < 2 ^ 24) → ◌≡◌ {A = Route} a (record { bits = n; within = w })) bits (λ w. ap (λ (x : a.bits < 2 ^ 24). let r : Route = record { bits = a.bits; within = x } in r) (small a.bits a.within w)) b.within
   where
     small : (n : ℕ) → IsProp (n < 2 ^ 24)

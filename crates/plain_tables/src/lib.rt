@@ -6,7 +6,7 @@
 
 mod gather;
 mod laws;
-mod marks;
+pub mod marks;
 mod plain;
 mod rows;
 

@@ -1,4 +1,4 @@
-// What one net wants of each chip, on boards with a place for each chip, by the chip's index.
+//! What one net wants of each chip, on boards with a place for each chip, by the chip's index.
 ghost use Rattle.std.specs.Prelude.{◌≡◌, ◌*◌, length, IfOk, [], None};
 ghost use Rattle.spin_base.specs.Outputs.{nothing};
 ghost use Rattle.plain_tables.specs.Marks.{IsClear, IsClearOff, IsRouted, TellsPorts, TellsRoutes};
@@ -8,7 +8,7 @@ use net_tables::{NetPlan, out_of};
 use spin_base::{Block, Memory, Out, Port, Route};
 use std::alloc::Global;
 
-// An original block of a chip: the keys of a net, the port at which its packets come in, and their outputs.
+/// An original block of a chip: the keys of a net, the port at which its packets come in, and their outputs.
 #[derive(Clone, Copy, Debug)]
 pub struct Mark {
     pub block: Block,
@@ -16,21 +16,21 @@ pub struct Mark {
     pub route: Route,
 }
 
-// A board without a port.
+/// A board without a port.
 pub fn no_ports(alloc: Global, machine: &Machine) -> Result<Vec<Option<Port>>, Memory>
     ensures { IfOk result (λ v. IsClear machine.now None v.items) }
 {
     Ok(vec![in alloc; None; machine.chips()]?)
 }
 
-// A board without a route.
+/// A board without a route.
 pub fn no_routes(alloc: Global, machine: &Machine) -> Result<Vec<Route>, Memory>
     ensures { IfOk result (λ v. IsClear machine.now nothing v.items) }
 {
     Ok(vec![in alloc; Route::nothing(); machine.chips()]?)
 }
 
-// Writes the port at which packets come in at each chip of the net's tree.
+/// Writes the port at which packets come in at each chip of the net's tree.
 pub fn set_ports(machine: &Machine, net: &NetPlan, ports: &mut [Option<Port>])
     requires routed { IsRouted machine.now net.now }
     requires clear { IsClear machine.now None ports.old }
@@ -45,7 +45,7 @@ pub fn set_ports(machine: &Machine, net: &NetPlan, ports: &mut [Option<Port>])
     }
 }
 
-// Writes the links by which the net's tree goes on from each of its chips.
+/// Writes the links by which the net's tree goes on from each of its chips.
 pub fn set_links(machine: &Machine, net: &NetPlan, routes: &mut [Route])
     requires routed { IsRouted machine.now net.now }
     requires clear { IsClear machine.now nothing routes.old }
@@ -59,7 +59,7 @@ pub fn set_links(machine: &Machine, net: &NetPlan, routes: &mut [Route])
     }
 }
 
-// Adds the outputs of the net's targets to the links.
+/// Adds the outputs of the net's targets to the links.
 pub fn set_targets(machine: &Machine, net: &NetPlan, routes: &mut [Route])
     requires routed { IsRouted machine.now net.now }
     requires long { length routes.old ≡ machine.now.width * machine.now.height }

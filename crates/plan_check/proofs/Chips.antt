@@ -26,7 +26,7 @@ use Rattle.plan_check.specs.declared.fares.Flaw.TheVariants.{Wrong, Split}
 use Rattle.plan_check.specs.declared.verdicts.Verdict.{Verdict}
 use Rattle.plan_check.specs.Boards.{IsAmiss, IsAmissAt, IsFlaw, IsFineBelow, Fares, verdict_on}
 use Rattle.plan_check.specs.Verdicts.{GetsRoute, IsSplitAt, IsChipOf, IsFine, IsWrong, IsFineAll, IsTreeRoute, AreFineBefore, IsVerdict, rows_for}
-use Rattle.plan_check.proofs.RouteOutputs.{same_outputs}
+use Rattle.plain_tables.proofs.Determined.{same_outputs}
 
 -- ---- the rows of a valid image
 

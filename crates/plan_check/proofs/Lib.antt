@@ -5,7 +5,6 @@ mod Lookups
 mod MadeRight
 mod Marking
 mod Meeting
-mod RouteOutputs
 mod Searching
 mod TablePlaces
 mod TreeLaws

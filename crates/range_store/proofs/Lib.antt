@@ -1,2 +1,3 @@
 mod GiveLemmas
+pub mod HolePlaces
 mod RunLemmas

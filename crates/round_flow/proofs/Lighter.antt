@@ -14,7 +14,8 @@ use Rattle.mesh_core.proofs.LedgerLaw.{Bag, Moved, count_left, count_come}
 use Rattle.round_flow.specs.RoundFlow.{Flow, Passes, HasMoved}
 use Rattle.round_flow.specs.Work.{heavy, moves_left, to_go, weight_of, work_in}
 use Rattle.round_flow.proofs.CountSums.{one_if, same_sums}
-use Rattle.round_flow.proofs.Nearer.{few_come, move_nears}
+use Rattle.mesh_core.proofs.FewMoves.{few_come}
+use Rattle.round_flow.proofs.Nearer.{move_nears}
 use Rattle.round_flow.proofs.RoundBag.{bag_of_round, some_moves}
 
 -- ---- powers

@@ -1,9 +1,0 @@
-use Rattle.std.proofs.Common.{◌≡◌, ◌*◌, length, take}
-use Rattle.plain_tables.specs.Marks.{TellsRoutes}
-use Rattle.plan_check.proofs.boards.add_targets.Given as goal
-
--- the routes tell of all edges, and of the targets that were read
-abbrev pub invariant-loop-target : goal.invariant-loop-target
-invariant-loop-target l =
-    (length l.routes ≡ l.machine.width * l.machine.height)
-    × TellsRoutes l.machine l.net.tree.edges (take l.target-index l.net.targets) l.routes
