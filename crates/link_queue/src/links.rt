@@ -19,10 +19,11 @@ pub struct Tx {
     pub(crate) pass: Pass<McCopy, Known>,
 }
 
-/// The receiving end of a link.
+/// The receiving end of a link, with the number of copies that it took.
 #[derive(Drop)]
 pub struct Rx {
     pub(crate) pass: Pass<McCopy, Known>,
+    pub(crate) count: u64,
 }
 
 /// A link with its two ends, and room for all that it can hold.

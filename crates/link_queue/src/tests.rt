@@ -75,6 +75,7 @@ fn a_full_first_list_is_taken_in_order(rt: HostRuntime) -> Result<(), Fail> {
         room,
     } = ends;
     assert!(rt; gives_two(&rt, &link, &mut rx));
+    assert_eq!(rt; rx.taken(), 2);
     let held = link_down(&rt, link, tx, rx, room);
     assert!(rt; held.is_empty());
     Ok(())

@@ -1,96 +1,75 @@
--- Links brought up, from the first queue on, and brought down again where memory was refused.
-use Rattle.std.proofs.Common.{◌≡◌, ℕ, ◌+◌, ◌-◌, ◌<◌, ◌≤◌, List, [], ◌∷◌, ◌++◌, length, get_or, set, refl, sym, ap, ◌∙◌, subst, arith, inl, inr, append-nil}
+-- Links brought up, from the first list on.
+use Rattle.std.proofs.Common.{◌≡◌, ℕ, ◌+◌, ◌-◌, ◌<◌, ◌≤◌, List, [], ◌∷◌, ◌++◌, length, get_or, refl, sym, ap, ◌∙◌, subst, arith, inl, inr}
 use Rattle.std.specs.List.{All}
-use Rattle.std.proofs.Math.ListN.{length-set}
-use Rattle.std.proofs.lemmas.Bool.{cases_eq, cases_lt}
-use Rattle.std.proofs.lemmas.List.{length-append, same_lists, get_or_default, get_or_push, get_or_append_left, get_or-set_same, get_or-set_other}
+use Rattle.std.proofs.lemmas.Bool.{cases_eq}
+use Rattle.std.proofs.lemmas.List.{length-append, length-map, length-take, get_or_default, get_or_push, get_or_append_left, get_or-map}
 use Rattle.spin_base.specs.declared.copies.McCopy.{McCopy}
+use Rattle.spin_base.specs.WithRoom.{WithRoom}
 use Rattle.link_queue.specs.declared.links.LinkEnds.{LinkEnds}
-use Rattle.link_queue.specs.Ends.{sending}
 use Rattle.mesh_run.specs.declared.standing.Rising.{Rising}
 use Rattle.mesh_run.specs.Standing.{RisenTo}
-use Rattle.mesh_run.specs.Queues.{AreEnds, IsUp, AreUp, IsDown, DownTo}
+use Rattle.mesh_run.specs.Queues.{AreKept, AreUp, IsUp, front_of, places_for}
+use Rattle.mesh_run.proofs.Holding.{lists_of}
 
--- the links of the first queues are up, and the other queues are as they were
-pub record UpTo (cap turns : ℕ) (start now : List (List McCopy)) (k : ℕ) (r : Rising) : Type 0 where
+-- the front of a queue has places in its link
+pub front_fits : (cap turns : ℕ) (q : List McCopy) → length q ≤ cap → length (front_of turns q) ≤ places_for cap turns q
+front_fits cap turns q fits = let front = length-take (turns + 1) q in omega (arith, front, fits)
+
+-- the links of the first lists are up
+pub record UpTo (cap turns : ℕ) (lists : List (List McCopy)) (k : ℕ) (r : Rising) : Type 0 where
   pub ends : List LinkEnds
   pub many : length ends ≡ k
-  pub risen : RisenTo ends (length start - k) r
-  pub up : (j : ℕ) (q : List McCopy) (e : LinkEnds) → j < k → IsUp cap turns (get_or start j q) (get_or ends j e)
-  pub long : length now ≡ length start
-  pub left : (j : ℕ) (q : List McCopy) → k ≤ j → get_or now j q ≡ get_or start j q
+  pub risen : RisenTo ends (length lists - k) r
+  pub up : (j : ℕ) (q : List McCopy) (e : LinkEnds) → j < k → IsUp cap turns (get_or lists j q) (get_or ends j e)
 
-pub up_none : (cap turns n : ℕ) (qs : List (List McCopy)) (r : Rising) → n ≡ length qs → RisenTo [] n r → UpTo cap turns qs qs 0 r
-up_none cap turns n qs r is risen = record {
+pub up_none : (cap turns n : ℕ) (lists : List (List McCopy)) (r : Rising) → n ≡ length lists → RisenTo [] n r → UpTo cap turns lists 0 r
+up_none cap turns n lists r is risen = record {
   ends = [];
   many = refl;
-  risen = subst (λ k. RisenTo [] k r) (let e : n ≡ length qs - 0 = omega (arith, is) in e) risen;
+  risen = subst (λ k. RisenTo [] k r) (let e : n ≡ length lists - 0 = omega (arith, is) in e) risen;
   up = λ j q e before. absurd (omega (arith, before));
-  long = refl;
-  left = λ j q from. refl;
 }
 
 -- there is room for one more
-pub may_rise : (cap turns : ℕ) (start now : List (List McCopy)) (k : ℕ) (r : Rising) → (u : UpTo cap turns start now k r) → k < length start → RisenTo u.ends (length start - (k + 1) + 1) r
-may_rise cap turns start now k r u below = subst (λ n. RisenTo u.ends n r) (let e : length start - k ≡ length start - (k + 1) + 1 = omega (arith, below) in e) u.risen
+pub may_rise : (cap turns : ℕ) (lists : List (List McCopy)) (k : ℕ) (r : Rising) → (u : UpTo cap turns lists k r) → k < length lists → RisenTo u.ends (length lists - (k + 1) + 1) r
+may_rise cap turns lists k r u below = subst (λ n. RisenTo u.ends n r) (let e : length lists - k ≡ length lists - (k + 1) + 1 = omega (arith, below) in e) u.risen
 
--- the next queue, as it was
-pub next_queue : (cap turns : ℕ) (start now : List (List McCopy)) (k : ℕ) (r : Rising) (q : List McCopy) → UpTo cap turns start now k r → k < length start → q ≡ get_or now k q → q ≡ get_or start k q
-next_queue cap turns start now k r q u below read = read ∙ u.left k q (omega arith)
+-- the next list
+pub next_list : (kept : List (WithRoom McCopy)) (k : ℕ) (room : WithRoom McCopy) (q : List McCopy) → k < length kept → room ≡ get_or kept k room → q ≡ room.items → q ≡ get_or (lists_of kept) k q
+next_list kept k room q below read is =
+    is ∙ (ap (λ (w : WithRoom McCopy). w.items) read ∙ sym (get_or-map (λ (w : WithRoom McCopy). w.items) kept k room q below))
 
-pub up_more : (cap turns : ℕ) (start now new : List (List McCopy)) (k : ℕ) (r s : Rising) (q rest : List McCopy) (e : LinkEnds) → (u : UpTo cap turns start now k r) → k < length start →
-    q ≡ get_or start k q → IsUp cap turns q e → RisenTo (u.ends ++ e ∷ []) (length start - (k + 1)) s → new ≡ set now k rest → UpTo cap turns start new (k + 1) s
-up_more cap turns start now new k r s q rest e u below read up risen is = subst (λ l. UpTo cap turns start l (k + 1) s) (sym is) (record {
+-- the next list is as long as all are
+pub next_fits : (cap : ℕ) (kept : List (WithRoom McCopy)) (k : ℕ) (room : WithRoom McCopy) (q : List McCopy) → All (λ (w : WithRoom McCopy). length w.items ≤ cap) kept → k < length kept → room ≡ get_or kept k room →
+    q ≡ room.items → length q ≤ cap
+next_fits cap kept k room q fit below read is =
+    subst (λ (l : List McCopy). length l ≤ cap) (sym is) (subst (λ (w : WithRoom McCopy). length w.items ≤ cap) (sym read) (fit k room below))
+
+pub up_more : (cap turns : ℕ) (lists : List (List McCopy)) (k : ℕ) (r s : Rising) (q : List McCopy) (e : LinkEnds) → (u : UpTo cap turns lists k r) → k < length lists →
+    q ≡ get_or lists k q → IsUp cap turns q e → RisenTo (u.ends ++ e ∷ []) (length lists - (k + 1)) s → UpTo cap turns lists (k + 1) s
+up_more cap turns lists k r s q e u below read up risen = record {
   ends = u.ends ++ e ∷ [];
   many = (let many = u.many in length-append u.ends (e ∷ []) ∙ omega (arith, many));
   risen = risen;
   up = λ j p d before. elim (cases_eq j k) [
     | inl here ↦
-        let first : get_or start j p ≡ q = ap (λ n. get_or start n p) here ∙ (get_or_default start k p q below ∙ sym read) in
+        let first : get_or lists j p ≡ q = ap (λ n. get_or lists n p) here ∙ (get_or_default lists k p q below ∙ sym read) in
         let last : get_or (u.ends ++ e ∷ []) j d ≡ e = get_or_push u.ends e d j (u.many ∙ sym here) in
-        subst (IsUp cap turns (get_or start j p)) (sym last) (subst (λ x. IsUp cap turns x e) (sym first) up)
+        subst (IsUp cap turns (get_or lists j p)) (sym last) (subst (λ x. IsUp cap turns x e) (sym first) up)
     | inr other ↦
         let many = u.many in
-        subst (IsUp cap turns (get_or start j p)) (sym (get_or_append_left u.ends (e ∷ []) d j (omega (arith, before, other, many)))) (u.up j p d (omega (arith, before, other)))
+        subst (IsUp cap turns (get_or lists j p)) (sym (get_or_append_left u.ends (e ∷ []) d j (omega (arith, before, other, many)))) (u.up j p d (omega (arith, before, other)))
   ];
-  long = length-set now k rest ∙ u.long;
-  left = λ j p from. get_or-set_other now k j rest p (λ here. omega (arith, from, here)) ∙ u.left j p (omega (arith, from));
-})
+}
 
-pub all_up : (cap turns : ℕ) (start now : List (List McCopy)) (k : ℕ) (r : Rising) → (u : UpTo cap turns start now k r) → k ≡ length start → AreUp cap turns start u.ends
-all_up cap turns start now k r u is = record { long = u.many ∙ is; each = λ i q e below. u.up i q e (omega (arith, below, is)) }
+pub all_up : (cap turns : ℕ) (lists : List (List McCopy)) (k : ℕ) (r : Rising) → (u : UpTo cap turns lists k r) → k ≡ length lists → AreUp cap turns lists u.ends
+all_up cap turns lists k r u is = record { long = u.many ∙ is; each = λ i q e below. u.up i q e (omega (arith, below, is)) }
 
--- both ends of each link that is up
-pub up_are_ends : (cap turns : ℕ) (start now : List (List McCopy)) (k : ℕ) (r : Rising) → (u : UpTo cap turns start now k r) → All AreEnds u.ends
-up_are_ends cap turns start now k r u = λ i e below. let many = u.many in (u.up i [] e (omega (arith, below, many))).ends
-
--- what came down of a link that was never used is its first list
-came_back : (cap turns : ℕ) (q p : List McCopy) (e : LinkEnds) → IsUp cap turns q e → IsDown e p → p ≡ q
-came_back cap turns q p e up down =
-    sym (ap (λ l. l ++ p) up.rx_new.took) ∙ (sym down.held ∙ (ap (λ l. l ++ (sending e.tx).sent) up.tx_new.first ∙ (ap (λ l. q ++ l) up.tx_new.sent ∙ append-nil q)))
-
--- what stands at a place of a list
-get_there : {X : Type 0} (xs : List X) (i : ℕ) → i < length xs → X
-get_there [] i below = absurd (omega arith)
-get_there (x ∷ xs) i below = get_or (x ∷ xs) i x
-
--- the queues are as they were
-pub all_back : (cap turns : ℕ) (start now mid new : List (List McCopy)) (k : ℕ) (r : Rising) (rest q : List McCopy) → (u : UpTo cap turns start now k r) → k < length start → q ≡ get_or start k q →
-    mid ≡ set (set now k rest) k q → length new ≡ length mid → DownTo u.ends mid new → new ≡ start
-all_back cap turns start now mid new k r rest q u below read is long down =
-    let many = u.many in
-    let same = u.long in
-    let lent = length-set now k rest in
-    same_lists new start (long ∙ (ap length is ∙ (length-set (set now k rest) k q ∙ (lent ∙ u.long)))) (λ j d inside. elim (cases_lt j k) [
-      | inl before ↦
-          let there : j < length u.ends = omega (arith, before, many) in
-          let e : LinkEnds = get_there u.ends j there in
-          came_back cap turns (get_or start j d) (get_or new j d) (get_or u.ends j e) (u.up j d e before) (down.down j e d there)
-      | inr from ↦
-          down.left j d (omega (arith, from, many)) ∙ (ap (λ l. get_or l j d) is ∙ (elim (cases_eq j k) [
-            | inl here ↦
-                ap (λ n. get_or (set (set now k rest) k q) n d) here ∙ (get_or-set_same (set now k rest) k q d (omega (arith, below, same, lent))
-                ∙ (read ∙ (get_or_default start k q d below ∙ ap (λ n. get_or start n d) (sym here))))
-            | inr other ↦ get_or-set_other (set now k rest) k j q d other ∙ (get_or-set_other now k j rest d other ∙ u.left j d from)
-          ]))
-    ])
+-- lists that are kept are no longer than the queues were
+pub kept_fit : (cap turns : ℕ) (queues : List (List McCopy)) (kept : List (WithRoom McCopy)) → All (λ (q : List McCopy). length q ≤ cap) queues → AreKept cap turns queues kept →
+    All (λ (w : WithRoom McCopy). length w.items ≤ cap) kept
+kept_fit cap turns queues kept fit are = λ i d below.
+    let many = length-map kept (λ (w : WithRoom McCopy). w.items) in
+    let long : length (lists_of kept) ≡ length queues = ap length are.lists in
+    subst (λ (l : List McCopy). length l ≤ cap) (ap (λ (l : List (List McCopy)). get_or l i []) (sym are.lists) ∙ get_or-map (λ (w : WithRoom McCopy). w.items) kept i d [] below)
+    (fit i [] (omega (arith, below, many, long)))

@@ -10,6 +10,7 @@ mod Feeding
 mod Few
 mod Going
 mod Holding
+mod Keeping
 mod LendingEnds
 mod LendingVertices
 mod Lent

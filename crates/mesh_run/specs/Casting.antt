@@ -131,9 +131,9 @@ pub record PairFlow (tables : List (List Entry)) (turns : ℕ) (before after : P
   pub router : RouterFlow (table_of tables before.index) turns before.router after.router
   pub bank : BankFlow turns before.bank after.bank
 
--- A round on threads leads from one mesh to another. All queues came up as links, those of ports and then those of vertices; their
--- ends were dealt to the pairs of all live chips; each pair had its turns; the pairs gave all ends back; and the links came down to
--- the queues. The pairs' logs are the new deliveries and dump records. Nothing else changed.
+-- A round on threads leads from one mesh to another. All queues came up as links, those of ports and then those of vertices, each
+-- with its front; their ends were dealt to the pairs of all live chips; each pair had its turns; the pairs gave all ends back; and
+-- the links came down to the queues. The pairs' logs are the new deliveries and dump records. Nothing else changed.
 pub record IsPlayed (patience turns : ℕ) (m n : State) : Type 0 where
   pub setup : n.setup ≡ m.setup
   pub hands : n.hands ≡ m.hands
@@ -150,6 +150,6 @@ pub record IsPlayed (patience turns : ℕ) (m n : State) : Type 0 where
   pub back : List LinkEnds
   pub are_back : AreCast m.setup back n.unsent patience played
   pub left : AreLeft played up back
-  pub down : (emptied : List (List McCopy)) × DownTo back emptied (n.inputs ++ n.cores)
+  pub down : DownTo turns back (m.inputs ++ m.cores) (n.inputs ++ n.cores)
   pub delivered : n.delivered ≡ m.delivered ++ delivered_by played
   pub dumped : n.dumped ≡ m.dumped ++ dumped_by played

@@ -2,10 +2,10 @@
 ghost use Rattle.std.specs.Prelude.{◌≡◌, ℕ, ◌<◌, ◌≤◌, ◌+◌, ◌++◌, List, All, OnErr, OnOk, IfOk, length};
 ghost use Rattle.link_queue.specs.declared.links.LinkEnds.{LinkEnds};
 ghost use Rattle.mesh_run.specs.Standing.{HoldsAll};
-ghost use Rattle.mesh_run.specs.Queues.{AreUp};
+ghost use Rattle.mesh_run.specs.Queues.{AreUp, AreKept};
 
-use crate::queues::bring_up;
-use crate::standing::{Standing, last_of};
+use crate::queues::{Raised, bring_up};
+use crate::standing::last_of;
 use spin_base::{Fifo, McCopy, Memory};
 use std::alloc::Global;
 use std::mem;
@@ -20,19 +20,20 @@ pub(crate) fn links_of<R: Wait>(
     cores: &mut Vec<Fifo<McCopy>>,
     cap: u32,
     turns: u32,
-) -> Result<Standing, Memory>
+) -> Result<Raised, Memory>
     requires some { 0 < cap }
     requires inputs_fit { All (λ q. length q ≤ cap) inputs.old.items }
     requires cores_fit { All (λ q. length q ≤ cap) cores.old.items }
     ensures cores_long { length cores.new.items ≡ length cores.old.items }
     ensures long { OnOk result (length inputs.new.items ≡ length inputs.old.items + length cores.old.items) }
-    ensures up { IfOk result (λ s. (ends : List LinkEnds) × HoldsAll ends s × AreUp cap turns (inputs.old.items ++ cores.old.items) ends) }
+    ensures up { IfOk result (λ r. (ends : List LinkEnds) × HoldsAll ends r.standing × AreUp cap turns (inputs.old.items ++ cores.old.items) ends) }
+    ensures kept { IfOk result (λ r. AreKept cap turns (inputs.old.items ++ cores.old.items) r.kept.items) }
     ensures inputs_back { OnErr result (inputs.new.items ≡ inputs.old.items) }
     ensures cores_back { OnErr result (cores.new.items ≡ cores.old.items) }
 {
     gather(alloc, inputs, cores)?;
     match bring_up(rt, alloc, inputs, cap, turns) {
-        Ok(standing) => Ok(standing),
+        Ok(raised) => Ok(raised),
         Err(e) => {
             scatter(inputs, cores);
             Err(e)

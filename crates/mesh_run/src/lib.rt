@@ -17,7 +17,7 @@ mod shares;
 mod standing;
 
 pub use actors::Actor;
-pub use queues::{bring_down, bring_up};
+pub use queues::{Raised, bring_down, bring_up};
 pub use rounds::{Pace, play_parts};
 pub use shares::play;
 pub use standing::Standing;

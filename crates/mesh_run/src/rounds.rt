@@ -161,20 +161,20 @@ fn play_lists<R: Threads + Wait + Sync, G: Gate>(
         setup.capacity(),
         pace.turns,
     ) {
-        Ok(mut standing) => {
+        Ok(mut raised) => {
             play_links(
                 rt,
                 alloc,
                 setup,
                 kits,
                 actors,
-                &mut standing,
+                &mut raised.standing,
                 &mut unsent,
                 &mut logs,
                 pace,
                 gate,
             );
-            bring_down(rt, standing, &mut inputs);
+            bring_down(rt, raised, pace.turns, &mut inputs);
             scatter(&mut inputs, &mut cores);
             Ok(logs.with(unsent, inputs, cores))
         }
