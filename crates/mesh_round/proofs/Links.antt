@@ -1,7 +1,7 @@
 -- The link of each queue: what stood there when the links came up, and what when the ends came back.
-use Rattle.std.proofs.Common.{◌≡◌, ℕ, ◌+◌, ◌<◌, List, [], ◌++◌, nat_lt, length, get_or, Some, None, refl, sym, ap, ◌∙◌, subst, arith, inl, inr}
+use Rattle.std.proofs.Common.{◌≡◌, ℕ, ◌+◌, ◌<◌, ◌≤◌, List, [], ◌++◌, nat_lt, length, get_or, Some, None, refl, sym, ap, ◌∙◌, subst, arith, inl, inr}
 use Rattle.std.specs.List.{slice_get}
-use Rattle.std.proofs.lemmas.Bool.{cases_Bool, cond-true, cond-false, lt-ltb, ltb-true, ltb-false}
+use Rattle.std.proofs.lemmas.Bool.{cases_Bool, cases_lt, cond-true, cond-false, lt-ltb, ltb-true, ltb-false}
 use Rattle.std.proofs.lemmas.List.{length-append, get_or_append_left, get_or-append-add, get_or_past}
 use Rattle.std.proofs.lemmas.Option.{get_or_from_slice_get, slice_get_past}
 use Rattle.list_laws.proofs.Places.{slice_get_there, slice_get-mapped}
@@ -16,6 +16,7 @@ use Rattle.mesh_run.specs.Casting.{IsTxAt, IsRxAt}
 use Rattle.mesh_run.specs.Lending.{place_of}
 use Rattle.mesh_run.specs.Queues.{IsUp, IsDown, places_for}
 use Rattle.round_flow.specs.RoundFlow.{held_in}
+use Rattle.mesh_round.proofs.Fronts.{queue_short}
 use Rattle.mesh_round.proofs.Lists.{some_same}
 use Rattle.mesh_round.proofs.TheFlow.{Round, ports_many, link_at, told, flow_of, moments}
 
@@ -40,7 +41,7 @@ module _ (r : Round) where
     pub stands : slice_get r.played.back place ≡ Some new
     pub here : link_at u r.played.back q ≡ Some new
     pub up : IsUp u.capacity r.turns (held_in r.m q) old
-    pub down : IsDown new (held_in r.n q)
+    pub down : IsDown r.turns new (held_in r.m q) (held_in r.n q)
     pub cap : cap_of new.link ≡ places_for u.capacity r.turns (held_in r.m q)
 
   all_long : length r.played.up ≡ ports_many u + length u.spots
@@ -60,13 +61,15 @@ module _ (r : Round) where
       let old = slice_get_there r.played.up place (omega (arith, below, long)) in
       let new = slice_get_there r.played.back place (omega (arith, below, long, back_long)) in
       let up = r.played.are_up.each place [] old.0 (omega (arith, below, long, up_long)) in
-      let down = r.played.down.1.down place new.0 [] (omega (arith, below, long, back_long)) in
+      let down = r.played.down place new.0 [] [] (omega (arith, below, long, back_long)) in
       let same_old : get_or r.played.up place old.0 ≡ old.0 = get_or_from_slice_get r.played.up place old.0 old.0 old.1 in
       let same_new : get_or r.played.back place new.0 ≡ new.0 = get_or_from_slice_get r.played.back place new.0 new.0 new.1 in
       let is_up : IsUp u.capacity r.turns (held_in r.m q) old.0 =
       subst (λ (l : List McCopy). IsUp u.capacity r.turns l old.0) held (subst (λ (e : LinkEnds). IsUp u.capacity r.turns (get_or (r.m.inputs ++ r.m.cores) place []) e) same_old up) in
-      let is_down : IsDown new.0 (held_in r.n q) =
-      subst (λ (l : List McCopy). IsDown new.0 l) after (subst (λ (e : LinkEnds). IsDown e (get_or (r.n.inputs ++ r.n.cores) place [])) same_new down) in
+      let before : List McCopy = get_or (r.m.inputs ++ r.m.cores) place [] in
+      let is_down : IsDown r.turns new.0 (held_in r.m q) (held_in r.n q) =
+      subst (λ (l : List McCopy). IsDown r.turns new.0 l (held_in r.n q)) held
+      (subst (λ (l : List McCopy). IsDown r.turns new.0 before l) after (subst (λ (e : LinkEnds). IsDown r.turns e before (get_or (r.n.inputs ++ r.n.cores) place [])) same_new down)) in
       let link : LinkEnds → Link = λ e. e.link in
       let links : new.0.link ≡ old.0.link =
       some_same new.0.link old.0.link
@@ -127,6 +130,26 @@ module _ (r : Round) where
   ]
   stands nowhere = none refl refl refl
 
+  -- ---- what a queue holds
+
+  pub held_within : (q : Behind) → length (held_in r.m q) ≤ u.capacity
+  held_within (input i) = elim (cases_lt i (length r.m.inputs)) [
+    | inl below ↦ r.mesh.inputs_within i [] below
+    | inr past ↦ let no_copies = ap length (get_or_past r.m.inputs i [] past) in omega (arith, no_copies)
+  ]
+  held_within (core v) = elim (cases_lt v (length r.m.cores)) [
+    | inl below ↦ r.mesh.cores_within v [] below
+    | inr past ↦ let no_copies = ap length (get_or_past r.m.cores v [] past) in omega (arith, no_copies)
+  ]
+  held_within nowhere = omega arith
+
+  -- no queue holds more than its capacity afterwards
+  pub held_short : (q : Behind) (l : LinkOf q) → length (held_in r.n q) ≤ u.capacity
+  held_short q l =
+      let down = l.down in
+      let bound : length down.held ≤ places_for u.capacity r.turns (held_in r.m q) = subst (λ n. length down.held ≤ n) l.cap down.bound in
+      subst (λ (k : List McCopy). length k ≤ u.capacity) (sym down.stands) (queue_short u.capacity r.turns (length (taking l.new.rx).took) (held_in r.m q) down.held (held_within q) bound)
+
   -- ---- what the flow says of a queue with a link
 
   pub entered_is : (q : Behind) (l : LinkOf q) → (flow_of r).entered q ≡ (sending l.new.tx).sent
@@ -135,7 +158,7 @@ module _ (r : Round) where
   pub left_is : (q : Behind) (l : LinkOf q) → (flow_of r).left q ≡ (taking l.new.rx).took
   left_is q l = ap (told (λ (e : LinkEnds). (taking e.rx).took)) l.here
 
-  pub fulls_is : (q : Behind) (l : LinkOf q) → (flow_of r).fulls q ≡ moments r.m q l.new
-  fulls_is (input i) l = ap (told (moments r.m (input i))) l.here
-  fulls_is (core v) l = ap (told (moments r.m (core v))) l.here
+  pub fulls_is : (q : Behind) (l : LinkOf q) → (flow_of r).fulls q ≡ moments r.m r.turns q l.new
+  fulls_is (input i) l = ap (told (moments r.m r.turns (input i))) l.here
+  fulls_is (core v) l = ap (told (moments r.m r.turns (core v))) l.here
   fulls_is nowhere l = let is = l.is_place in cc

@@ -10,11 +10,11 @@ use Rattle.spin_base.specs.declared.chips.Port.{Port}
 use Rattle.spin_base.specs.declared.chips.Port.TheVariants.{Link as ByLink, Local}
 use Rattle.spin_base.specs.declared.copies.McCopy.{McCopy}
 use Rattle.machine_desc.specs.Live.{IsInside}
-use Rattle.mesh_core.specs.State.{Setup, Held, IsMesh, Behind, input, core, queue_at}
+use Rattle.mesh_core.specs.State.{Setup, Held, IsMesh, input, core, queue_at}
 use Rattle.mesh_core.proofs.Changes.{queue_at-below}
 use Rattle.round_flow.specs.RoundFlow.{held_in, at_port}
 use Rattle.mesh_round.proofs.Dead.{dead_port, dead_chip, still_empty}
-use Rattle.mesh_round.proofs.Links.{LinkOf, link_input, link_core}
+use Rattle.mesh_round.proofs.Links.{link_input, link_core, held_short}
 use Rattle.mesh_round.proofs.TheFlow.{Round, flow_of}
 use Rattle.mesh_round.proofs.Vertices.{unsent_is}
 
@@ -22,21 +22,17 @@ module _ (r : Round) where
   abbrev u : Setup
   u = r.m.setup
 
-  -- no queue holds more than its capacity
-  short : (q : Behind) (l : LinkOf r q) → length (held_in r.n q) ≤ u.capacity
-  short q l = let bound = l.down.bound in let cap = l.cap in omega (arith, bound, cap)
-
   inputs_short : All (λ (q : List McCopy). length q ≤ u.capacity) r.n.inputs
   inputs_short i d below =
       let long = r.played.inputs_long in
       let before = r.mesh.input_lists in
-      subst (λ (q : List McCopy). length q ≤ u.capacity) (get_or_default r.n.inputs i [] d below) (short (input i) (link_input r i (omega (arith, below, long, before))))
+      subst (λ (q : List McCopy). length q ≤ u.capacity) (get_or_default r.n.inputs i [] d below) (held_short r (input i) (link_input r i (omega (arith, below, long, before))))
 
   cores_short : All (λ (q : List McCopy). length q ≤ u.capacity) r.n.cores
   cores_short v d below =
       let long = r.played.cores_long in
       let before = r.mesh.core_lists in
-      subst (λ (q : List McCopy). length q ≤ u.capacity) (get_or_default r.n.cores v [] d below) (short (core v) (link_core r v (omega (arith, below, long, before))))
+      subst (λ (q : List McCopy). length q ≤ u.capacity) (get_or_default r.n.cores v [] d below) (held_short r (core v) (link_core r v (omega (arith, below, long, before))))
 
   -- what is not sent yet has passed no router
   at_start : All (λ (q : List McCopy). All (λ k. k.hop ≡ 0) q) r.n.unsent

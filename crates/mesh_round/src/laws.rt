@@ -1,15 +1,17 @@
 //! Laws of rounds on threads. Each function does nothing: its clauses are the law, for every mesh.
-ghost use Rattle.std.specs.Prelude.{ℕ, List};
+ghost use Rattle.std.specs.Prelude.{◌≡◌, ℕ, List, []};
 ghost use Rattle.spin_base.specs.declared.copies.Packet.{Packet};
 ghost use Rattle.net_tables.specs.declared.nets.NetPlan.{NetPlan};
 ghost use Rattle.net_tables.specs.RightTables.{AreRight};
 ghost use Rattle.mesh_core.specs.State.{State, IsMesh};
 ghost use Rattle.mesh_core.specs.Opened.{MeetsJobLedger};
-ghost use Rattle.mesh_core.specs.Expected.{NothingWaits};
+ghost use Rattle.mesh_core.specs.Expected.{AreAsExpected, IsAtRest, NothingWaits};
 ghost use Rattle.mesh_run.specs.Casting.{IsPlayed};
 ghost use Rattle.round_flow.specs.RoundFlow.{HasNoHand};
 ghost use Rattle.mesh_round.specs.OnThreads.{HopsFit, LeadsByRound};
+ghost use Rattle.mesh_round.specs.Reinjecting.{HasPasses};
 
+use mesh_core::laws::a_mesh_at_rest_has_delivered_all;
 use mesh_run::laws::{a_copy_is_taken_at_one_port, a_router_sends_or_dumps};
 use round_flow::laws::a_round_keeps_the_ledger;
 
@@ -39,3 +41,24 @@ pub fn a_quiet_mesh_is_ready()
     ensures no_hand { (s : State) → NothingWaits s → HasNoHand s }
     ensures hops { (s : State) → NothingWaits s → HopsFit s }
 {}
+
+/// Rounds and copies put back, in any order, lead from a mesh to a mesh of the same machine, vertices, tables and capacity. They
+/// keep the ledger of a job, where the tables are right for its nets.
+pub fn passes_keep_the_ledger()
+    ensures mesh { (patience turns : ℕ) (m n : State) → IsMesh m → HasPasses patience turns m n → IsMesh n × (n.setup ≡ m.setup) }
+    ensures ledger { (patience turns : ℕ) (m n : State) (nets : List NetPlan) (packets : List Packet) → IsMesh m →
+        AreRight m.setup.machine m.setup.tables nets → MeetsJobLedger m nets packets → HasPasses patience turns m n → MeetsJobLedger n nets packets }
+{
+    a_round_keeps_the_ledger();
+}
+
+/// So a mesh that was reached so, with nothing waiting, nothing unsent and no dump record left, has delivered all that the job
+/// asks for and nothing else: each packet once at each target of its net, however often copies were dropped on the way.
+pub fn reinjected_meshes_have_delivered_all()
+    ensures { (patience turns : ℕ) (m n : State) (nets : List NetPlan) (packets : List Packet) → IsMesh m →
+        AreRight m.setup.machine m.setup.tables nets → MeetsJobLedger m nets packets → HasPasses patience turns m n → IsAtRest n →
+        n.dumped ≡ [] → AreAsExpected n nets packets }
+{
+    passes_keep_the_ledger();
+    a_mesh_at_rest_has_delivered_all();
+}

@@ -91,7 +91,7 @@ pub fn run_out<R: Threads + Wait + Sync, G: Gate>(
 }
 
 // Rounds on the parts of a mesh, numbered on from the pace's number.
-fn run_parts<R: Threads + Wait + Sync, G: Gate>(
+pub(crate) fn run_parts<R: Threads + Wait + Sync, G: Gate>(
     rt: &R,
     alloc: Global,
     parts: MeshParts,

@@ -1,0 +1,114 @@
+-- In a mesh of a job at rest the first dumped copy can be put back: behind its output is a queue, and it is empty.
+use Rattle.std.proofs.Common.{◌≡◌, ◌≢◌, ℕ, ◌<◌, List, [], ◌∷◌, length, true, if◌then◌else◌, Option, Some, None, is_some, refl, ap, sym, ◌∙◌, subst, arith, inl, inr}
+use Rattle.std.specs.List.{All, Contains, slice_get}
+use Rattle.std.proofs.lemmas.Bool.{lt-ltb}
+use Rattle.std.proofs.lemmas.List.Elements.{All-contains}
+use Rattle.std.proofs.lemmas.Option.{slice_get_within}
+use Rattle.list_laws.proofs.Members.{Among, among_contains}
+use Rattle.list_laws.proofs.Places.{All-at, slice_get_there}
+use Rattle.spin_base.specs.declared.chips.Chip.{Chip}
+use Rattle.spin_base.specs.declared.chips.Spot.{Spot}
+use Rattle.spin_base.specs.declared.chips.Port.TheVariants.{Link as ByLink}
+use Rattle.spin_base.specs.declared.routes.Out.{Out}
+use Rattle.spin_base.specs.declared.routes.Out.TheVariants.{Link}
+use Rattle.spin_base.specs.declared.copies.McCopy.{McCopy}
+use Rattle.spin_base.specs.declared.copies.DumpRec.{DumpRec}
+use Rattle.spin_base.specs.declared.copies.Packet.{Packet}
+use Rattle.spin_base.specs.Links.{opposite_of}
+use Rattle.machine_desc.specs.Description.{Description}
+use Rattle.machine_desc.specs.Live.{far_of, IsLiveLink}
+use Rattle.machine_desc.specs.Branch.{Exit}
+use Rattle.machine_desc.specs.RoutingTree.{IsRoutingTree}
+use Rattle.machine_desc.proofs.Branches.{exit_leads, ExitLeads}
+use Rattle.machine_desc.proofs.Far.{live_inside, live_ends, far_inside}
+use Rattle.net_tables.specs.declared.nets.NetPlan.{NetPlan}
+use Rattle.mesh_core.specs.declared.places.Did.TheVariants.{Moved, Idle}
+use Rattle.mesh_core.specs.State.{State, IsMesh, input, nowhere, behind, behind_link, queue_at, vertex_behind}
+use Rattle.mesh_core.specs.Step.{has_room, has_room_behind}
+use Rattle.mesh_core.specs.Trail.{Mark, dumped}
+use Rattle.mesh_core.specs.Ledger.{marks_of, Label, MeetsLedger}
+use Rattle.mesh_core.specs.Opened.{asked_by, MeetsJobLedger}
+use Rattle.mesh_core.specs.Expected.{IsAtRest}
+use Rattle.mesh_core.proofs.Changes.{queue_at-below}
+use Rattle.mesh_core.proofs.EventsLaw.{labels_of}
+use Rattle.mesh_core.proofs.Law.{leaves_parts}
+use Rattle.mesh_core.proofs.Moves.{mark}
+use Rattle.mesh_core.proofs.Standing.{dumped_mark}
+use Rattle.mesh_core.proofs.Ways.{leads_to, vertex_behind_stands, vertex_behind_there}
+use Rattle.round_flow.proofs.Ends.{Leads, leads, by_link, to_vertex, to_none}
+use Rattle.mesh_round.specs.Reinjecting.{put_back_answer}
+use Rattle.mesh_round.proofs.PutBackParts.{back_some}
+
+module _ (s : State) (mesh : IsMesh s) (nets : List NetPlan) (labels : ℕ → Label) (ledger : MeetsLedger s nets labels) where
+  abbrev m : Description
+  m = s.setup.machine
+
+  -- an edge's output leads to a queue
+  some_queue : (c : Chip) (o : Out) (e : Chip) (d : _) → o ≡ Link d → IsLiveLink m c d → far_of m c d ≡ Some e → behind s.setup c o ≡ nowhere → ⊥
+  some_queue c o e d out live far gone =
+      let is : behind s.setup c o ≡ input (queue_at m e (ByLink (opposite_of d))) =
+      ap (behind s.setup c) out ∙ (ap (λ b. behind_link s.setup c d b (far_of m c d)) live ∙ ap (behind_link s.setup c d true) far)
+      in
+      cc
+
+  -- where a copy was dumped there is a queue behind the output, or a vertex
+  led_on : (k : McCopy) (c : Chip) (o : Out) → Contains (marks_of s) (mark k (dumped c o)) → behind s.setup c o ≡ nowhere → vertex_behind s.setup.spots c o ≡ None → ⊥
+  led_on k c o has gone no_vertex =
+      let on = ledger.on_a_trail (mark k (dumped c o)) has in
+      by_end on.0 on.1 on.3.0 on.3.1 on.3.4.is_target
+      (exit_leads m on.0.tree.edges on.3.0 on.0.tree.root on.3.1 k.hop (record { chip = c; out = o }) on.3.4.is_branch (leaves_parts on.3.1 k.hop c o on.3.5))
+    where
+      by_end : (net : NetPlan) → Contains nets net → (target : Spot) (branch : List Exit) → Contains net.targets target →
+          ExitLeads m net.tree.edges target branch k.hop (record { chip = c; out = o }) → ⊥
+      by_end net in_nets target branch is_target (inl (d, out, in_tree, next)) =
+          let tree = All-contains (λ n. IsRoutingTree m n.tree.root n.tree.edges n.targets) nets net ledger.nets_stand.trees in_nets in
+          let live : IsLiveLink m c d = All-contains (λ f. IsLiveLink m f.chip f.dir) net.tree.edges (record { chip = c; dir = d }) tree.edges_live in_tree in
+          let far = live_ends m c d live in
+          some_queue c o far.0 d out live far.1 gone
+      by_end net in_nets target branch is_target (inr (chip, out, last)) =
+          let on_spot : Contains s.setup.spots target =
+          All-contains (Contains s.setup.spots) net.targets target (All-contains (λ n. All (Contains s.setup.spots) n.targets) nets net ledger.nets_stand.targets in_nets) is_target
+          in
+          let vertex = vertex_behind_there s.setup.spots c o target on_spot (leads_to c o target chip out) in
+          let there = vertex.1 in
+          cc
+
+  module _ (rest : IsAtRest s) where
+    -- an empty queue has room
+    empty_room : (lists : List (List McCopy)) → All (λ q. q ≡ []) lists → (i : ℕ) → i < length lists → has_room s.setup.capacity (slice_get lists i) ≡ true
+    empty_room lists empty i below =
+        let there = slice_get_there lists i below in
+        let none : there.0 ≡ [] = All-at (λ q. q ≡ []) lists i there.0 empty there.1 in
+        let room = mesh.room in
+        ap (has_room s.setup.capacity) (there.1 ∙ ap Some none) ∙ lt-ltb 0 s.setup.capacity (omega (arith, room))
+
+    room_behind : (c : Chip) (o : Out) → (behind s.setup c o ≡ nowhere → vertex_behind s.setup.spots c o ≡ None → ⊥) → Leads s.setup c o → has_room_behind s (behind s.setup c o) ≡ true
+    room_behind c o on (by_link d e out live far is) =
+        let inside = far_inside m c e d (live_inside m c (live_ends m c d live).2) far in
+        let below = queue_at-below m e (ByLink (opposite_of d)) inside in
+        let long = mesh.input_lists in
+        ap (has_room_behind s) is ∙ empty_room s.inputs rest.waits.inputs_empty (queue_at m e (ByLink (opposite_of d))) (omega (arith, below, long))
+    room_behind c o on (to_vertex v dead vertex is) =
+        let spot = vertex_behind_stands s.setup.spots c o v vertex in
+        let below = slice_get_within s.setup.spots v spot.0 spot.1 in
+        let long = mesh.core_lists in
+        ap (has_room_behind s) is ∙ empty_room s.cores rest.waits.cores_empty v (omega (arith, below, long))
+    room_behind c o on (to_none no_vertex is) = absurd (on is no_vertex)
+
+    by_records : (records : List DumpRec) → s.dumped ≡ records → s.dumped ≢ [] → put_back_answer s ≡ Moved
+    by_records [] is some = absurd (some is)
+    by_records (r ∷ later) is some =
+        let among : Among r s.dumped = subst (λ (l : List DumpRec). Among r l) (sym is) (inl refl) in
+        let x : Mark = mark r.copy (dumped r.chip r.out) in
+        let has = among_contains x (marks_of s) (dumped_mark s r among) in
+        let room = room_behind r.chip r.out (led_on r.copy r.chip r.out has) (leads s.setup r.chip r.out) in
+        ap (λ (t : Option State). if is_some t then Moved else Idle) (back_some s r later is room)
+
+    -- Where a record is left, its copy can be put back.
+    pub first_goes_back : s.dumped ≢ [] → put_back_answer s ≡ Moved
+    first_goes_back some = by_records s.dumped refl some
+
+-- The same of the mesh of a job.
+pub job_goes_back : (s : State) → IsMesh s → (nets : List NetPlan) (packets : List Packet) → MeetsJobLedger s nets packets → IsAtRest s → 0 < length s.dumped → put_back_answer s ≡ Moved
+job_goes_back s mesh nets packets job rest some =
+    first_goes_back s mesh nets (labels_of (asked_by nets packets)) job.ledger.ledger rest (λ none. let no = ap length none in omega (arith, some, no))

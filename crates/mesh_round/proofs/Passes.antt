@@ -1,0 +1,66 @@
+-- What holds after rounds and copies put back: the machine is the same, the ledger is kept, and passes may follow each other.
+use Rattle.std.proofs.Common.{◌≡◌, ◌≤◌, ℕ, List, Option, Some, None, refl, sym, subst, ◌∙◌, unwrap_or, arith}
+use Rattle.spin_base.specs.declared.copies.Packet.{Packet}
+use Rattle.net_tables.specs.declared.nets.NetPlan.{NetPlan}
+use Rattle.net_tables.specs.RightTables.{AreRight}
+use Rattle.mesh_core.specs.State.{Setup, State, IsMesh}
+use Rattle.mesh_core.specs.PutBack.{put_back_of, after_put_back}
+use Rattle.mesh_core.specs.Opened.{MeetsJobLedger}
+use Rattle.mesh_core.proofs.EventsLaw.{put_back_is, IsMesh-after_put_back, put_back_keeps_job}
+use Rattle.round_flow.specs.RoundFlow.{Flow, Passes, HasRounds, none as no_round, more}
+use Rattle.round_flow.specs.Work.{work_in}
+use Rattle.mesh_round.specs.Reinjecting.{HasPasses, none, round, put_back}
+
+put_back_setup : (s : State) → (after_put_back s).setup ≡ s.setup
+put_back_setup s = by_answer (put_back_of s s.dumped) refl
+  where
+    by_answer : (t : Option State) → put_back_of s s.dumped ≡ t → (unwrap_or t s).setup ≡ s.setup
+    by_answer None is = refl
+    by_answer (Some t) is = (put_back_is s s.dumped refl t is).move.setup
+
+pub passes_keep_mesh : (patience turns : ℕ) (m n : State) → IsMesh m → HasPasses patience turns m n → IsMesh n × (n.setup ≡ m.setup)
+passes_keep_mesh patience turns m n mesh none = (mesh, refl)
+passes_keep_mesh patience turns m n mesh (round f k n' before after is) =
+    let was = passes_keep_mesh patience turns m k mesh before in
+    (after, is.passes.setup ∙ was.1)
+passes_keep_mesh patience turns m n mesh (put_back k before) =
+    let was = passes_keep_mesh patience turns m k mesh before in
+    (IsMesh-after_put_back k was.0, put_back_setup k ∙ was.1)
+
+-- that a round keeps the ledger of a job
+abbrev RoundsKeep : Type 0
+RoundsKeep = (m n : State) (f : Flow) (nets : List NetPlan) (packets : List Packet) → IsMesh m → IsMesh n → Passes m f n →
+    AreRight m.setup.machine m.setup.tables nets → MeetsJobLedger m nets packets → MeetsJobLedger n nets packets
+
+pub passes_keep_job : RoundsKeep → (patience turns : ℕ) (m n : State) (nets : List NetPlan) (packets : List Packet) → IsMesh m → AreRight m.setup.machine m.setup.tables nets →
+    MeetsJobLedger m nets packets → HasPasses patience turns m n → MeetsJobLedger n nets packets
+passes_keep_job keep patience turns m n nets packets mesh right job none = job
+passes_keep_job keep patience turns m n nets packets mesh right job (round f k n' before after is) =
+    let was = passes_keep_mesh patience turns m k mesh before in
+    keep k n' f nets packets was.0 after is.passes (subst (λ (u : Setup). AreRight u.machine u.tables nets) (sym was.1) right)
+    (passes_keep_job keep patience turns m k nets packets mesh right job before)
+passes_keep_job keep patience turns m n nets packets mesh right job (put_back k before) =
+    let was = passes_keep_mesh patience turns m k mesh before in
+    put_back_keeps_job k nets packets was.0 (subst (λ (u : Setup). AreRight u.machine u.tables nets) (sym was.1) right)
+    (passes_keep_job keep patience turns m k nets packets mesh right job before)
+
+-- passes may follow each other
+pub passes_then : (patience turns : ℕ) (a b c : State) → HasPasses patience turns a b → HasPasses patience turns b c → HasPasses patience turns a c
+passes_then patience turns a b c first none = first
+passes_then patience turns a b c first (round f k n before after is) = round f k n (passes_then patience turns a b k first before) after is
+passes_then patience turns a b c first (put_back k before) = put_back k (passes_then patience turns a b k first before)
+
+-- rounds alone are passes, too
+pub rounds_pass : (patience turns : ℕ) (m n : State) → HasRounds patience turns m n → HasPasses patience turns m n
+rounds_pass patience turns m n no_round = none
+rounds_pass patience turns m n (more f k n' before after is) = round f k n' (rounds_pass patience turns m k before) after is
+
+-- rounds leave no more to be done, each being from a mesh to a mesh
+pub rounds_no_more : ((m n : State) (f : Flow) → IsMesh m → IsMesh n → Passes m f n → work_in n ≤ work_in m) →
+    (patience turns : ℕ) (m n : State) → IsMesh m → HasRounds patience turns m n → work_in n ≤ work_in m
+rounds_no_more no_more patience turns m n mesh no_round = omega arith
+rounds_no_more no_more patience turns m n mesh (more f k n' before after is) =
+    let first = rounds_no_more no_more patience turns m k mesh before in
+    let was = passes_keep_mesh patience turns m k mesh (rounds_pass patience turns m k before) in
+    let last = no_more k n' f was.0 after is.passes in
+    omega (arith, first, last)

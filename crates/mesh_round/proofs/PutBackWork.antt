@@ -1,0 +1,96 @@
+-- Putting a copy back leaves less to be done: the copy has less far to go.
+use Rattle.std.proofs.Common.{◌≡◌, ◌⊎◌, ℕ, zero, suc, ◌+◌, ◌<◌, List, [], ◌∷◌, ◌++◌, if◌then◌else◌, Option, Some, None, is_some, refl, ap, ◌∙◌, subst, unwrap_or, arith, inl, inr}
+use Rattle.std.specs.List.{sum_by}
+use Rattle.std.proofs.lemmas.List.Sums.{sum_by-append, sum_by-cons}
+use Rattle.list_laws.proofs.Exchange.{TakenOut, PutIn}
+use Rattle.spin_base.specs.declared.chips.Chip.{Chip}
+use Rattle.spin_base.specs.declared.chips.Port.TheVariants.{Link as ByLink}
+use Rattle.spin_base.specs.declared.routes.Out.{Out}
+use Rattle.spin_base.specs.declared.copies.McCopy.{McCopy}
+use Rattle.spin_base.specs.declared.copies.DumpRec.{DumpRec}
+use Rattle.spin_base.specs.Links.{opposite_of}
+use Rattle.mesh_core.specs.declared.places.Did.TheVariants.{Moved, Idle}
+use Rattle.mesh_core.specs.State.{State, Behind, behind}
+use Rattle.mesh_core.specs.Step.{onward, push_behind}
+use Rattle.mesh_core.specs.PutBack.{put_back_of, after_put_back}
+use Rattle.mesh_core.specs.Trail.{in_queue, at_core, dumped, Mark}
+use Rattle.mesh_core.specs.Ledger.{marks_of}
+use Rattle.mesh_core.proofs.Events.{arrives}
+use Rattle.mesh_core.proofs.Moves.{mark, Crosses, dumped_out}
+use Rattle.round_flow.specs.Work.{heavy, to_go, weight_of, work_in}
+use Rattle.mesh_round.specs.Reinjecting.{put_back_answer}
+use Rattle.mesh_round.proofs.PutBackParts.{IsBack, is_back, same_room}
+
+-- ---- weights
+
+heavier : (m n : ℕ) → m < n → heavy m < heavy n
+unfolding heavy
+heavier zero zero below = absurd (omega (arith, below))
+heavier zero (suc zero) below = omega arith
+heavier zero (suc (suc n)) below = let rest = heavier zero (suc n) (omega arith) in omega (arith, rest)
+heavier (suc m) zero below = absurd (omega (arith, below))
+heavier (suc m) (suc n) below = let rest = heavier m n (omega (arith, below)) in omega (arith, rest)
+
+-- a dumped copy that crosses its output is lighter than it was
+lighter_mark : (s : State) (k : McCopy) (c : Chip) (o : Out) (come : List Mark) → Crosses s k c o come →
+    (y : Mark) × (come ≡ y ∷ []) × (weight_of y < weight_of (mark k (dumped c o)))
+unfolding weight_of to_go
+lighter_mark s k c o come (inl (d, e, out, live, far, is)) =
+    let y : Mark = mark (onward k) (in_queue e (ByLink (opposite_of d))) in
+    (y, is, heavier (to_go y) (to_go (mark k (dumped c o))) (omega arith))
+lighter_mark s k c o come (inr (v, dead, vertex, is)) =
+    let y : Mark = mark (onward k) (at_core v) in
+    (y, is, heavier (to_go y) (to_go (mark k (dumped c o))) (omega arith))
+
+-- one item goes out, and one comes in
+sum_exchanged : {X : Type 0} (f : X → ℕ) (x y : X) (before between after : List X) → TakenOut x before between → PutIn (y ∷ []) between after →
+    sum_by f before + f y ≡ sum_by f after + f x
+sum_exchanged f x y before between after out put =
+    let was : sum_by f before ≡ sum_by f (out.front ++ x ∷ out.back) = ap (sum_by f) out.before_is in
+    let left : sum_by f between ≡ sum_by f (out.front ++ out.back) = ap (sum_by f) out.after_is in
+    let still : sum_by f between ≡ sum_by f (put.front ++ put.back) = ap (sum_by f) put.before_is in
+    let now : sum_by f after ≡ sum_by f (put.front ++ y ∷ put.back) = ap (sum_by f) put.after_is in
+    omega (
+      arith,
+      was,
+      left,
+      still,
+      now,
+      sum_by-append f out.front (x ∷ out.back),
+      sum_by-cons f x out.back,
+      sum_by-append f out.front out.back,
+      sum_by-append f put.front put.back,
+      sum_by-append f put.front (y ∷ put.back),
+      sum_by-cons f y put.back,
+    )
+
+-- ---- putting back
+
+back_lighter : (s t : State) → IsBack s t → work_in t < work_in s
+unfolding work_in
+back_lighter s t back =
+    let r : DumpRec = back.first in
+    let between : State = record s { dumped = back.rest } in
+    let to : Behind = behind s.setup r.chip r.out in
+    let next : State = push_behind between to (onward r.copy) in
+    let arrival = arrives between r.chip r.out r.copy (same_room s back.rest to ∙ back.room) in
+    let one = lighter_mark between r.copy r.chip r.out arrival.0 arrival.2 in
+    let x : Mark = mark r.copy (dumped r.chip r.out) in
+    let put : PutIn (one.0 ∷ []) (marks_of between) (marks_of next) = subst (λ (ys : List Mark). PutIn ys (marks_of between) (marks_of next)) one.1 arrival.1 in
+    let sums = sum_exchanged weight_of x one.0 (marks_of s) (marks_of between) (marks_of next) (dumped_out s r back.rest back.records) put in
+    let less = one.2 in
+    let lower : sum_by weight_of (marks_of next) < sum_by weight_of (marks_of s) = omega (arith, sums, less) in
+    subst (λ (u : State). sum_by weight_of (marks_of u) < sum_by weight_of (marks_of s)) back.is lower
+
+-- A copy that is put back leaves less to be done.
+pub put_back_lighter : (s : State) → put_back_answer s ≡ Moved → work_in (after_put_back s) < work_in s
+put_back_lighter s moved = by_answer (put_back_of s s.dumped) refl moved
+  where
+    by_answer : (t : Option State) → put_back_of s s.dumped ≡ t → (if is_some t then Moved else Idle) ≡ Moved → work_in (unwrap_or t s) < work_in s
+    by_answer None is did = cc
+    by_answer (Some t) is did = back_lighter s t (is_back s s.dumped refl t is)
+
+-- and still less than before, if there was less already
+pub still_less : (a b n : State) → (b ≡ a) ⊎ (work_in b < work_in a) → work_in n < work_in b → work_in n < work_in a
+still_less a b n (inl same) less = subst (λ (s : State). work_in n < work_in s) same less
+still_less a b n (inr before) less = omega (arith, before, less)

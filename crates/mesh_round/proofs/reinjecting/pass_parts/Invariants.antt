@@ -1,0 +1,16 @@
+use Rattle.mesh_core.specs.Expected.{IsAtRest}
+use Rattle.round_flow.specs.Work.{work_in}
+use Rattle.mesh_round.specs.OnThreads.{IsReady}
+use Rattle.mesh_round.specs.Reinjecting.{HasPasses}
+use Rattle.mesh_round.proofs.reinjecting.pass_parts.Given as goal
+
+-- the mesh was reached by rounds and copies put back, may go on, and is at rest
+abbrev pub invariant-passes : goal.invariant-passes
+invariant-passes g l = record {
+  passes : HasPasses l.pace.patience l.pace.turns l.fn.parts l.parts;
+  ready : IsReady l.parts;
+  at_rest : IsAtRest l.parts;
+}
+
+abbrev pub decreases-passes : goal.decreases-passes
+decreases-passes g l = work_in l.parts

@@ -1,0 +1,16 @@
+use Rattle.std.proofs.Common.{◌≡◌, ℕ, ◌<◌, ◌⊎◌}
+use Rattle.round_flow.specs.Work.{work_in}
+use Rattle.mesh_round.specs.OnThreads.{IsReady}
+use Rattle.mesh_round.specs.Reinjecting.{HasPasses}
+use Rattle.mesh_round.proofs.reinjecting.put_all_back.Given as goal
+
+-- the mesh was reached by copies put back, may go on, and there is less to be done as soon as one was
+abbrev pub invariant-copies : goal.invariant-copies
+invariant-copies l = record {
+  passes : (patience turns : ℕ) → HasPasses patience turns l.fn.parts l.parts;
+  ready : IsReady l.parts;
+  less : (l.parts ≡ l.fn.parts) ⊎ (work_in l.parts < work_in l.fn.parts);
+}
+
+abbrev pub decreases-copies : goal.decreases-copies
+decreases-copies l = work_in l.parts

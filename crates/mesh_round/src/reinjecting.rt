@@ -1,0 +1,204 @@
+// Dumped copies put back where they were dropped, until every target has its own.
+ghost use Rattle.std.specs.Prelude.{◌≡◌, ◌≤◌, ◌<◌, ℕ, [], length, IfErr, IfOk, OnErr, OnOk};
+ghost use Rattle.mesh_core.specs.declared.places.Did.TheVariants.{Moved};
+ghost use Rattle.mesh_core.specs.State.{IsMesh, behind};
+ghost use Rattle.mesh_core.specs.Step.{has_room_behind, onward, push_behind};
+ghost use Rattle.mesh_core.specs.Serving.{named, IsPlace};
+ghost use Rattle.mesh_core.specs.PutBack.{after_put_back};
+ghost use Rattle.mesh_core.specs.Expected.{IsAtRest};
+ghost use Rattle.round_flow.specs.RoundFlow.{HasNoHand};
+ghost use Rattle.round_flow.specs.Work.{work_in};
+ghost use Rattle.mesh_round.specs.OnThreads.{HopsFit, IsReady};
+ghost use Rattle.mesh_round.specs.Reinjecting.{put_back_answer, HasPasses, IsOfJob};
+
+use crate::laws::passes_keep_the_ledger;
+use crate::rounds::run_parts;
+use mesh_core::laws::a_mesh_stays_a_mesh;
+use mesh_core::{Did, Mesh, MeshParts, Queue};
+use mesh_run::Pace;
+use round_flow::laws::a_round_leaves_less_to_do;
+use spin_base::{Chip, Gate, McCopy, Memory, Out};
+use std::alloc::Global;
+use std::sync::Wait;
+use std::thread::Threads;
+
+/// Puts the first dumped copy back: its record leaves the list, and the copy, one hop on, goes to the back of the queue behind the
+/// record's output. `Moved` exactly where there is a record and that queue isn't full; else `Idle`, and the mesh is as it was. Its
+/// cost does not depend on the size of the mesh.
+///
+/// # Errors
+///
+/// `Memory` where memory runs out, with the mesh as it was.
+pub fn put_back(mesh: Mesh) -> Result<(Mesh, Did), (Mesh, Memory)>
+    ensures moves { IfOk result (λ b. b.0 ≡ after_put_back mesh) }
+    ensures answer { IfOk result (λ b. b.1 ≡ put_back_answer mesh) }
+    ensures back { IfErr result (λ b. b.0 ≡ mesh) }
+{
+    a_mesh_stays_a_mesh();
+    match put_first_back(mesh.take_apart()) {
+        Ok((parts, did)) => Ok((Mesh::put_together(parts), did)),
+        Err((parts, e)) => Err((Mesh::put_together(parts), e)),
+    }
+}
+
+/// Rounds until nothing waits and nothing is unsent, then dumped copies put back, first ones first, until the first one can't be;
+/// and so on until no dump record is left. In the mesh of a job each dumped copy has a queue behind its output, which is empty
+/// after the rounds: so there is an end. Each time rounds are numbered anew, from 1.
+///
+/// # Errors
+///
+/// `Memory` where memory runs out, with the mesh after the last whole round or copy that was put back, which may go on from there.
+pub fn reinject<R: Threads + Wait + Sync, G: Gate>(
+    rt: &R,
+    alloc: Global,
+    mesh: Mesh,
+    patience: u32,
+    workers: u32,
+    turns: u32,
+    gate: &G,
+) -> Result<Mesh, (Mesh, Memory)>
+    requires no_hand { HasNoHand mesh }
+    requires hops { HopsFit mesh }
+    requires patient { 1 ≤ patience }
+    requires workers { 1 ≤ workers }
+    requires turns { 1 ≤ turns }
+    requires ledger { IsOfJob mesh }
+    ensures passes { IfOk result (HasPasses patience turns mesh) }
+    ensures at_rest { IfOk result IsAtRest }
+    ensures no_record { IfOk result (λ n. n.dumped ≡ []) }
+    ensures refused { IfErr result (λ b. HasPasses patience turns mesh b.0) }
+    ensures ready { IfErr result (λ b. IsReady b.0) }
+{
+    let pace = Pace {
+        patience,
+        workers,
+        turns,
+        number: 0,
+    };
+    match pass_parts(rt, alloc, mesh.take_apart(), pace, gate) {
+        Ok(parts) => Ok(Mesh::put_together(parts)),
+        Err((parts, e)) => Err((Mesh::put_together(parts), e)),
+    }
+}
+
+// Rounds and copies put back, in turn, on the parts of a mesh.
+fn pass_parts<R: Threads + Wait + Sync, G: Gate>(
+    rt: &R,
+    alloc: Global,
+    parts: MeshParts,
+    pace: Pace,
+    gate: &G,
+) -> Result<MeshParts, (MeshParts, Memory)>
+    requires ready { IsReady parts }
+    requires patient { 1 ≤ pace.patience }
+    requires workers { 1 ≤ pace.workers }
+    requires turns { 1 ≤ pace.turns }
+    requires ledger { IsOfJob parts }
+    ensures passes { IfOk result (HasPasses pace.patience pace.turns parts) }
+    ensures ready { IfOk result IsReady }
+    ensures at_rest { IfOk result IsAtRest }
+    ensures no_record { IfOk result (λ n. n.dumped ≡ []) }
+    ensures refused { IfErr result (λ b. HasPasses pace.patience pace.turns parts b.0) }
+    ensures ready_still { IfErr result (λ b. IsReady b.0) }
+{
+    passes_keep_the_ledger();
+    a_round_leaves_less_to_do();
+    let mut parts = run_parts(rt, alloc, parts, pace, gate)?;
+    'passes: while parts.dumped.len() > 0 {
+        let filled = put_all_back(parts)?;
+        parts = run_parts(rt, alloc, filled, pace, gate)?;
+    }
+    Ok(parts)
+}
+
+// Puts dumped copies back, first ones first, until the first one can't be.
+fn put_all_back(parts: MeshParts) -> Result<MeshParts, (MeshParts, Memory)>
+    requires ready { IsReady parts }
+    ensures passes { IfOk result (λ n. (patience turns : ℕ) → HasPasses patience turns parts n) }
+    ensures ready { IfOk result IsReady }
+    ensures less { IfOk result (λ n. put_back_answer parts ≡ Moved → work_in n < work_in parts) }
+    ensures refused { IfErr result (λ b. (patience turns : ℕ) → HasPasses patience turns parts b.0) }
+    ensures ready_still { IfErr result (λ b. IsReady b.0) }
+{
+    a_mesh_stays_a_mesh();
+    let mut parts = parts;
+    'copies: loop {
+        let (next, did) = put_first_back(parts)?;
+        parts = next;
+        match did {
+            Did::Moved => {}
+            Did::Idle => return Ok(parts),
+        }
+    }
+}
+
+// Puts the first dumped copy back.
+fn put_first_back(parts: MeshParts) -> Result<(MeshParts, Did), (MeshParts, Memory)>
+    requires { IsMesh parts }
+    ensures moves { IfOk result (λ b. b.0 ≡ after_put_back parts) }
+    ensures answer { IfOk result (λ b. b.1 ≡ put_back_answer parts) }
+    ensures back { IfErr result (λ b. b.0 ≡ parts) }
+{
+    let mut parts = parts;
+    let Some(record) = parts.dumped.as_slice().first().copied() else {
+        return Ok((parts, Did::Idle));
+    };
+    let queue = queue_behind(&parts, record.chip, record.out);
+    if !has_room(&parts, queue) {
+        return Ok((parts, Did::Idle));
+    }
+    if let Err(e) = push_behind(&mut parts, queue, onward(record.copy)) {
+        return Err((parts, e));
+    }
+    let _ = parts.dumped.pop();
+    Ok((parts, Did::Moved))
+}
+
+// The queue behind an output. There is none behind an output of a chip that isn't live.
+fn queue_behind(parts: &MeshParts, chip: Chip, out: Out) -> Queue
+    requires { IsMesh parts.now }
+    ensures queue { named result ≡ behind parts.now.setup chip out }
+    ensures place { IsPlace (length parts.now.inputs) (length parts.now.cores) result }
+{
+    if parts.setup.machine().live(chip) {
+        parts.setup.behind(chip, out)
+    } else {
+        Queue::Nowhere
+    }
+}
+
+// Whether a queue has room.
+fn has_room(parts: &MeshParts, queue: Queue) -> bool
+    requires { IsPlace (length parts.now.inputs) (length parts.now.cores) queue }
+    ensures { result ≡ has_room_behind parts.now (named queue) }
+{
+    let capacity = parts.setup.capacity() as usize;
+    match queue {
+        Queue::Input(place) => parts.inputs[place].len() < capacity,
+        Queue::Core(vertex) => parts.cores[vertex].len() < capacity,
+        Queue::Nowhere => false,
+    }
+}
+
+// Puts a copy at the back of a queue.
+fn push_behind(parts: &mut MeshParts, queue: Queue, copy: McCopy) -> Result<(), Memory>
+    requires { IsPlace (length parts.old.inputs) (length parts.old.cores) queue }
+    ensures ok { OnOk result (parts.new ≡ push_behind parts.old (named queue) copy) }
+    ensures err { OnErr result (parts.new ≡ parts.old) }
+{
+    match queue {
+        Queue::Input(place) => parts.inputs[place].push(copy),
+        Queue::Core(vertex) => parts.cores[vertex].push(copy),
+        Queue::Nowhere => Ok(()),
+    }
+}
+
+// The copy behind a router: one hop more.
+fn onward(copy: McCopy) -> McCopy
+    ensures { result ≡ onward copy }
+{
+    McCopy {
+        hop: copy.hop.saturating_add(1),
+        ..copy
+    }
+}
