@@ -7,9 +7,9 @@ use Rattle.std.specs.Str.{bytes_eq}
 use Rattle.std.specs.Str.Parse.{digits_value}
 use Rattle.std.specs.declared.alloc.Global.{Global}
 use Rattle.command_words.specs.declared.commands.Command.{Command}
-use Rattle.command_words.specs.declared.commands.Command.TheVariants.{OfJob, Check}
+use Rattle.command_words.specs.declared.commands.Command.TheVariants.{OfJob, Check, Apps}
 use Rattle.command_words.specs.declared.commands.JobWord.{JobWord}
-use Rattle.command_words.specs.declared.commands.JobWord.TheVariants.{Run, Trace, Compile, Tables, Gen}
+use Rattle.command_words.specs.declared.commands.JobWord.TheVariants.{Run, Reinject, Trace, Compile, Tables, Gen}
 
 -- the words as texts
 abbrev pub texts_of : List (String Global) → List (List ℕ)
@@ -27,17 +27,20 @@ number_in word = if is_numeral word && nat_lt (digits_value 10 word) (2 ^ 64) th
 abbrev pub plain_command : List ℕ → Option Command
 plain_command word =
     if bytes_eq word (codes "run") then Some (OfJob Run)
+    else if bytes_eq word (codes "reinject") then Some (OfJob Reinject)
     else if bytes_eq word (codes "trace") then Some (OfJob Trace)
     else if bytes_eq word (codes "compile") then Some (OfJob Compile)
     else if bytes_eq word (codes "tables") then Some (OfJob Tables)
     else if bytes_eq word (codes "check") then Some Check
+    else if bytes_eq word (codes "apps") then Some Apps
     else None
 
 -- the command of a word and a number
 abbrev pub numbered_command : List ℕ → List ℕ → Option Command
 numbered_command word number = if bytes_eq word (codes "gen") then option_map (λ n. OfJob (Gen n)) (number_in number) else None
 
--- Which command words are: `run`, `trace`, `compile`, `tables`, `check`, or `gen` and a number, exactly. Other words are none.
+-- Which command words are: `run`, `reinject`, `trace`, `compile`, `tables`, `check`, `apps`, or `gen` and a number, exactly. Other words
+-- are none.
 abbrev pub spelled : List (List ℕ) → Option Command
 spelled [] = None
 spelled (word ∷ []) = plain_command word
@@ -47,6 +50,7 @@ spelled (word ∷ (number ∷ (more ∷ words))) = None
 -- All words of a job but `gen` read one.
 abbrev pub ReadsJob : JobWord → Type 0
 ReadsJob Run = Unit {0}
+ReadsJob Reinject = Unit {0}
 ReadsJob Trace = Unit {0}
 ReadsJob Compile = Unit {0}
 ReadsJob Tables = Unit {0}

@@ -11,6 +11,8 @@ pub enum Command {
     OfJob(JobWord),
     /// Checks the tables of an image against the trees of a request.
     Check,
+    /// Does steps with applications on one machine.
+    Apps,
 }
 
 /// What is made of a job.
@@ -18,6 +20,8 @@ pub enum Command {
 pub enum JobWord {
     /// Compiles the job, runs it, and reports.
     Run,
+    /// Compiles the job, runs it, puts dumped copies back until none is left, and reports.
+    Reinject,
     /// Compiles the job, takes its events one by one, and reports.
     Trace,
     /// Compiles the job to an image of its tables.
@@ -28,8 +32,8 @@ pub enum JobWord {
     Gen(u64),
 }
 
-/// The command that the words are, the program's name left out: `run`, `trace`, `compile`, `tables`, `gen N` with a number that is
-/// `0`, or digits without a leading 0, below 2^64, or `check`. `None` where they are none of these.
+/// The command that the words are, the program's name left out: `run`, `reinject`, `trace`, `compile`, `tables`, `gen N` with a
+/// number that is `0`, or digits without a leading 0, below 2^64, `check` or `apps`. `None` where they are none of these.
 pub fn command_of(words: &[String]) -> Option<Command>
     ensures { result ≡ spelled (texts_of words.now) }
 {
@@ -46,6 +50,9 @@ fn plain_command(word: &str) -> Option<Command>
     if word == "run" {
         return Some(Command::OfJob(JobWord::Run));
     }
+    if word == "reinject" {
+        return Some(Command::OfJob(JobWord::Reinject));
+    }
     if word == "trace" {
         return Some(Command::OfJob(JobWord::Trace));
     }
@@ -57,6 +64,9 @@ fn plain_command(word: &str) -> Option<Command>
     }
     if word == "check" {
         return Some(Command::Check);
+    }
+    if word == "apps" {
+        return Some(Command::Apps);
     }
     None
 }

@@ -1,14 +1,16 @@
 -- Each generated job has a plan.
-use Rattle.std.proofs.Common.{ℕ, ◌≤◌, length, arith}
+use Rattle.std.proofs.Common.{◌≡◌, ℕ, ◌≤◌, length, sym, subst, arith}
 use Rattle.par_compile.specs.declared.compiling.CompileErr.{CompileErr}
 use Rattle.par_compile.specs.declared.compiling.CompileErr.TheVariants.{NoRoom, KeysOut, CutOff, TableLong, Memory}
 use Rattle.par_compile.specs.Compiled.{IsCause}
 use Rattle.refusals.specs.declared.causes.Refusal.{Refusal}
+use Rattle.job_readers.specs.declared.jobs.Job.{Job}
 use Rattle.job_gen.specs.Draws.{drawn}
 use Rattle.job_gen.specs.Generated.{gen_job, job_of_drawn, graph_of, net_of}
 use Rattle.job_gen.proofs.DrawnLaws.{is_drawn}
 use Rattle.job_gen.proofs.ListReading.{length-numbered}
-use Rattle.gen_fits.proofs.Fitting.{gen_room, gen_keys, gen_joined}
+use Rattle.gen_fits.proofs.Fitting.{gen_room, gen_keys, gen_joined, gen_queue}
+use Rattle.job_words.specs.Runs.{IsRoomy}
 use Rattle.job_words.specs.Unplanned.{HasNoPlan, Names}
 
 -- a generated job has 300 nets
@@ -25,3 +27,7 @@ none_for n Memory r cause names = absurd names
 
 pub generated_planned : (n : ℕ) (r : Refusal) → HasNoPlan (gen_job n) r → ⊥
 generated_planned n r none = none_for n none.error r none.cause none.names
+
+-- a generated job has room for all its packets in each queue
+pub generated_roomy : (n : ℕ) (job : Job) → job ≡ gen_job n → IsRoomy job
+generated_roomy n job is = let queue = gen_queue n in let roomy : IsRoomy (gen_job n) = omega (arith, queue) in subst IsRoomy (sym is) roomy

@@ -1,30 +1,25 @@
 -- What a run tells, events one by one, and what a trace keeps.
-use Rattle.std.proofs.Common.{◌≡◌, ℕ, zero, suc, ◌+◌, ◌<◌, length, List, [], ◌∷◌, ◌++◌, map, take, refl, ap, ◌∙◌, sym, Some, add-one}
-use Rattle.std.specs.List.{flat_map, slice_get, slice_index_or}
+use Rattle.std.proofs.Common.{◌≡◌, ℕ, zero, suc, ◌+◌, ◌<◌, length, List, [], ◌∷◌, ◌++◌, take, refl, ap, ◌∙◌, sym, Some, add-one}
+use Rattle.std.specs.List.{slice_get, slice_index_or}
 use Rattle.std.proofs.lemmas.Option.{slice_get-get_or}
 use Rattle.spin_base.specs.declared.chips.Spot.{Spot}
 use Rattle.spin_base.specs.declared.copies.Event.{Event}
 use Rattle.app_graph.specs.RunPart.{IsRunOf}
-use Rattle.mesh_core.specs.State.{Setup, State, IsMesh}
-use Rattle.mesh_core.specs.Expected.{expected_deliveries}
-use Rattle.mesh_core.specs.HasRun.{HasRun}
+use Rattle.mesh_core.specs.State.{State, IsMesh}
 use Rattle.mesh_core.specs.Step.{after_event, after_events, answer, answers_of}
-use Rattle.mesh_core.specs.Opened.{AreOfNets, MeetsJobLedger}
+use Rattle.mesh_core.specs.Opened.{MeetsJobLedger}
 use Rattle.mesh_core.specs.declared.places.Did.{Did}
 use Rattle.std.proofs.lemmas.List.{length-map}
 use Rattle.std.proofs.lemmas.List.Sorted.{length_permutation}
 use Rattle.mesh_core.proofs.EventsLaw.{events_keep_job}
-use Rattle.mesh_core.proofs.OpenedLaw.{opened_meets_ledger}
 use Rattle.job_readers.specs.declared.jobs.Job.{Job}
 use Rattle.run_report.specs.declared.reports.Report.{Report}
 use Rattle.run_report.specs.Listed.{placed_of}
-use Rattle.run_report.specs.ReportText.{got_line}
 use Rattle.run_report.specs.RunReport.{named}
-use Rattle.run_report.proofs.GotLines.{got_lines}
 use Rattle.par_compile.specs.declared.compiling.Plan.{Plan}
-use Rattle.job_words.specs.Words.{expected_of, IsReported}
-use Rattle.job_words.specs.Planned.{opened_of, setup_of, IsPlanned}
-use Rattle.job_words.proofs.Opening.{are_of_nets}
+use Rattle.job_words.specs.Words.{IsReported}
+use Rattle.job_words.specs.Planned.{opened_of, IsPlanned}
+use Rattle.job_words.proofs.Running.{opened_keeps}
 
 next_take : {X : Type 0} (xs : List X) (i : ℕ) (x : X) → slice_get xs i ≡ Some x → take (suc i) xs ≡ take i xs ++ x ∷ []
 next_take [] i x at = cc
@@ -59,24 +54,13 @@ one_event_more s now next did more es i d answered below so_far moved told setup
       setup ∙ so_far.2,
     )
 
--- where a run has come to rest, the report tells the deliveries that the job asks for
-pub told_as_expected : (job : Job) (plan : Plan) (mesh : State) (did : List Did) (report : Report) → IsMesh mesh → mesh.setup ≡ setup_of job plan →
-    MeetsJobLedger mesh plan.nets job.run.packets → HasRun (opened_of job plan) mesh → IsReported job plan mesh did report →
-    flat_map got_line report.delivered ≡ flat_map got_line (expected_of job plan)
-told_as_expected job plan mesh did report is_mesh setup ledger run reported =
-    let placed : List (List ℕ × Spot) = placed_of job.graph plan.placement.spots in
-    got_lines placed mesh plan.nets job.run.packets report.delivered is_mesh ledger run.at_rest run.no_record reported.delivered
-    ∙ ap (λ (u : Setup). flat_map got_line (map (named placed) (expected_deliveries u.spots plan.nets job.run.packets))) setup
-
 -- after each list of events the opened mesh of a planned job keeps the job's ledger
 pub traced_ledger : (job : Job) (plan : Plan) → IsRunOf job.graph job.run → IsPlanned job plan → IsMesh (opened_of job plan) → (es : List Event) →
     MeetsJobLedger (after_events (opened_of job plan) es) plan.nets job.run.packets
 traced_ledger job plan run planned mesh es =
-    let of_nets : AreOfNets plan.nets job.run.packets = are_of_nets job.machine job.graph job.run.target job.run plan run planned in
-    events_keep_job (opened_of job plan) plan.nets job.run.packets mesh planned.right
-    (opened_meets_ledger (setup_of job plan) plan.nets job.run.packets planned.routing.stand of_nets) es
+    events_keep_job (opened_of job plan) plan.nets job.run.packets mesh planned.right (opened_keeps job plan run planned) es
 
--- and as many as were delivered
+-- a report tells as many deliveries as there are
 pub told_count : (job : Job) (plan : Plan) (mesh : State) (did : List Did) (report : Report) → IsReported job plan mesh did report → length report.delivered ≡ length mesh.delivered
 told_count job plan mesh did report reported =
     let placed : List (List ℕ × Spot) = placed_of job.graph plan.placement.spots in
@@ -84,6 +68,6 @@ told_count job plan mesh did report reported =
     ∙ (length-map reported.delivered.sorted (named placed)
     ∙ length_permutation mesh.delivered reported.delivered.sorted reported.delivered.in_order.same_items)
 
--- and no dump
+-- and, where there is no dump record, none
 pub told_none : (job : Job) (plan : Plan) (mesh : State) (did : List Did) (report : Report) → mesh.dumped ≡ [] → IsReported job plan mesh did report → length report.dumped ≡ 0
 told_none job plan mesh did report none reported = length_permutation mesh.dumped report.dumped reported.dumped.same_items ∙ ap length none

@@ -1,9 +1,13 @@
 pub use Rattle.app_graph.specs.RunPart
 pub use Rattle.app_graph.specs.ValidGraph
 pub use Rattle.mesh_core.specs.State
+pub use Rattle.round_flow.specs.RoundFlow
 pub use Rattle.par_compile.specs.Compiled
 pub use Rattle.run_report.specs.ReportText
+pub use Rattle.job_gen.specs.Generated
 pub mod Parts
 pub mod Planned
+pub mod Reinjecting
+pub mod Runs
 pub mod Unplanned
 pub mod Words

@@ -1,41 +1,27 @@
 -- What each word makes of a job (this project's own).
-use Rattle.std.specs.Prelude.{◌≡◌, ℕ, List, [], length, map, take}
-use Rattle.std.specs.List.{flat_map}
-use Rattle.spin_base.specs.declared.copies.McCopy.{McCopy}
+use Rattle.std.specs.Prelude.{◌≡◌, ℕ, List, length, take}
 use Rattle.mesh_core.specs.State.{State}
 use Rattle.mesh_core.specs.Step.{after_events, answers_of}
 use Rattle.mesh_core.specs.Opened.{MeetsJobLedger}
-use Rattle.mesh_core.specs.Expected.{AreAsExpected, expected_count, expected_deliveries}
-use Rattle.mesh_core.specs.HasRun.{HasRun}
+use Rattle.mesh_core.specs.Expected.{expected_count}
 use Rattle.mesh_core.specs.declared.places.Did.{Did}
 use Rattle.job_readers.specs.declared.jobs.Job.{Job}
 use Rattle.run_report.specs.declared.reports.Report.{Report}
-use Rattle.run_report.specs.Listed.{placed_of}
-use Rattle.run_report.specs.ReportText.{got_line, plan_text, report_text, summary_text}
-use Rattle.run_report.specs.RunReport.{named, IsReportOf}
+use Rattle.run_report.specs.ReportText.{plan_text, report_text, summary_text}
+use Rattle.run_report.specs.RunReport.{IsReportOf}
 use Rattle.par_compile.specs.declared.compiling.Plan.{Plan}
 use Rattle.table_load.specs.Images.{Spells}
 use Rattle.command_words.specs.declared.commands.JobWord.{JobWord}
-use Rattle.command_words.specs.declared.commands.JobWord.TheVariants.{Run, Trace, Compile, Tables, Gen}
+use Rattle.command_words.specs.declared.commands.JobWord.TheVariants.{Run, Reinject, Trace, Compile, Tables, Gen}
 use Rattle.job_words.specs.declared.outcomes.Parts.{Parts}
 use Rattle.job_words.specs.Parts.{plan_parts, run_parts}
 use Rattle.job_words.specs.Planned.{tables_image, opened_of, IsThePlan}
+use Rattle.job_words.specs.Reinjecting.{HasReinjected}
+use Rattle.job_words.specs.Runs.{HasRunOut}
 
 -- the report of a job's plan, of a mesh, and of the answers to events that led there
 abbrev pub IsReported : Job → Plan → State → List Did → Report → Type 0
 IsReported job plan mesh did report = IsReportOf job.graph plan.placement.spots plan.nets (tables_image job plan).chips mesh did report
-
--- the deliveries that a job asks for, each with the name of its vertex
-abbrev pub expected_of : Job → Plan → List (List ℕ × McCopy)
-expected_of job plan = map (named (placed_of job.graph plan.placement.spots)) (expected_deliveries plan.placement.spots plan.nets job.run.packets)
-
--- `run`: the mesh was reached from the opened one by events that drop no copy, and nothing waits and nothing is unsent. It has
--- delivered what the job asks for and nothing else, and the report tells just these deliveries, and no events.
-pub record HasRunOut (job : Job) (plan : Plan) (mesh : State) (report : Report) : Type 0 where
-  pub reached : HasRun (opened_of job plan) mesh
-  pub delivered : AreAsExpected mesh plan.nets job.run.packets
-  pub told : flat_map got_line report.delivered ≡ flat_map got_line (expected_of job plan)
-  pub no_event : report.did ≡ []
 
 -- `trace`: the mesh is the opened one after all events of the job, one by one. The report tells the answers to them, and
 -- after each number of them the mesh keeps the ledger.
@@ -77,6 +63,7 @@ Images job plan parts text = (parts ≡ plan_parts job plan) × Spells (tables_i
 -- What a word makes of a planned job, a constructor a word: the parts of the outcome, and the whole text.
 pub data Makes (w : JobWord) (job : Job) (plan : Plan) (parts : Parts) (text : List ℕ) : Type 0 where
   ran : w ≡ Run → Reports HasRunOut job plan parts text → Makes w job plan parts text
+  reinjected : w ≡ Reinject → Reports HasReinjected job plan parts text → Makes w job plan parts text
   traced : w ≡ Trace → Reports IsTraced job plan parts text → Makes w job plan parts text
   imaged : w ≡ Compile → Images job plan parts text → Makes w job plan parts text
   listed : w ≡ Tables → Lists job plan parts text → Makes w job plan parts text

@@ -3,29 +3,40 @@ ghost use Rattle.std.specs.Prelude.{◌≡◌, ◌<◌, ◌^◌, IfOk};
 ghost use Rattle.app_graph.specs.RunPart.{IsRunOf};
 ghost use Rattle.app_graph.specs.ValidGraph.{IsValidGraph};
 ghost use Rattle.run_report.specs.ReportText.{row_total};
+ghost use Rattle.job_gen.specs.Generated.{gen_job};
 ghost use Rattle.job_words.specs.Parts.{plan_parts, run_parts};
 ghost use Rattle.job_words.specs.Planned.{setup_of, IsPlanned};
-ghost use Rattle.job_words.specs.Words.{HasRunOut, Images, IsReported, IsTraced, Lists, Reports, Summarises};
+ghost use Rattle.job_words.specs.Reinjecting.{HasReinjected};
+ghost use Rattle.job_words.specs.Runs.{HasRunOut};
+ghost use Rattle.job_words.specs.Words.{Images, IsReported, IsTraced, Lists, Reports, Summarises};
 
 use crate::outcomes::{Made, Parts};
-use crate::runs::{run_job, trace_job};
+use crate::runs::{reinject_job, run_job, trace_job};
 use job_readers::Job;
 use mesh_core::laws::deliveries_are_as_many_as_expected;
 use mesh_core::{Did, Mesh};
 use par_compile::{Plan, image_of};
 use run_report::{Report, plan_text, report_of, summary_text, text_of};
-use spin_base::{Memory, Seq};
+use spin_base::{Gate, Memory, Seq};
 use std::alloc::Global;
+use std::sync::Wait;
+use std::thread::Threads;
 use table_load::encode;
 
 // The mesh after all packets of the job, its report, and the report's text.
-pub(crate) fn run(alloc: Global, job: Job, plan: Plan) -> Result<Made, Memory>
+pub(crate) fn run<R: Threads + Wait + Sync, G: Gate>(
+    rt: &R,
+    alloc: Global,
+    job: Job,
+    plan: Plan,
+    gate: &G,
+) -> Result<Made, Memory>
     requires graph { IsValidGraph job.graph }
     requires run { IsRunOf job.graph job.run }
     requires planned { IsPlanned job plan }
     ensures { IfOk result (λ made. Reports HasRunOut job plan made.parts made.text) }
 {
-    let mesh = run_job(alloc, &job, &plan)?;
+    let mesh = run_job(rt, alloc, &job, &plan, gate)?;
     let report = report(alloc, &job, &plan, &mesh, Seq::new(alloc))?;
     let text = text_of(alloc, &report)?;
     Ok(Made {
@@ -34,15 +45,45 @@ pub(crate) fn run(alloc: Global, job: Job, plan: Plan) -> Result<Made, Memory>
     })
 }
 
-// The same, and the summary of the job of a number.
-pub(crate) fn generated(alloc: Global, number: u64, job: Job, plan: Plan) -> Result<Made, Memory>
+// The same, with dumped copies put back until none is left.
+pub(crate) fn reinjected<R: Threads + Wait + Sync, G: Gate>(
+    rt: &R,
+    alloc: Global,
+    job: Job,
+    plan: Plan,
+    gate: &G,
+) -> Result<Made, Memory>
+    requires graph { IsValidGraph job.graph }
+    requires run { IsRunOf job.graph job.run }
+    requires planned { IsPlanned job plan }
+    ensures { IfOk result (λ made. Reports HasReinjected job plan made.parts made.text) }
+{
+    let mesh = reinject_job(rt, alloc, &job, &plan, gate)?;
+    let report = report(alloc, &job, &plan, &mesh, Seq::new(alloc))?;
+    let text = text_of(alloc, &report)?;
+    Ok(Made {
+        parts: parts_of(job, plan, mesh, report),
+        text,
+    })
+}
+
+// A run of the job of a number, and its summary.
+pub(crate) fn generated<R: Threads + Wait + Sync, G: Gate>(
+    rt: &R,
+    alloc: Global,
+    number: u64,
+    job: Job,
+    plan: Plan,
+    gate: &G,
+) -> Result<Made, Memory>
+    requires of_number { job ≡ gen_job number }
     requires graph { IsValidGraph job.graph }
     requires run { IsRunOf job.graph job.run }
     requires planned { IsPlanned job plan }
     ensures { IfOk result (λ made. Summarises number job plan made.parts made.text) }
 {
     deliveries_are_as_many_as_expected();
-    let mesh = run_job(alloc, &job, &plan)?;
+    let mesh = run_job(rt, alloc, &job, &plan, gate)?;
     let report = report(alloc, &job, &plan, &mesh, Seq::new(alloc))?;
     let text = summary_text(alloc, number, &job.machine, &job.graph, &job.run, &report)?;
     Ok(Made {

@@ -1,21 +1,27 @@
 // The mesh of a job: opened, after all its packets, or after all its events.
-ghost use Rattle.std.specs.Prelude.{◌≡◌, IfOk, OnOk, map};
+ghost use Rattle.std.specs.Prelude.{◌≡◌, IfOk, OnOk, [], map};
 ghost use Rattle.app_graph.specs.RunPart.{IsRunOf};
 ghost use Rattle.mesh_core.specs.State.{IsMesh};
 ghost use Rattle.mesh_core.specs.Step.{after_events, answers_of};
 ghost use Rattle.mesh_core.specs.Opened.{MeetsJobLedger};
-ghost use Rattle.mesh_core.specs.Expected.{AreAsExpected};
-ghost use Rattle.mesh_core.specs.HasRun.{HasRun};
+ghost use Rattle.mesh_core.specs.Expected.{IsAtRest};
 ghost use Rattle.par_compile.specs.Finals.{loaded_of};
 ghost use Rattle.job_words.specs.Planned.{opened_of, setup_of, IsPlanned};
+ghost use Rattle.job_words.specs.Reinjecting.{HasKeptPasses};
+ghost use Rattle.job_words.specs.Runs.{HasKeptRounds, IsRoomy};
 
 use job_readers::Job;
 use machine_desc::Machine;
 use mesh_core::{Did, Mesh};
-use packet_runs::{open_mesh, run_packets};
+use mesh_round::laws::{a_quiet_mesh_is_ready, passes_keep_the_ledger};
+use mesh_round::{reinject, run_out};
+use packet_runs::open_mesh;
 use par_compile::{Plan, memories_of};
-use spin_base::{Event, Memory, Seq, Spot};
+use round_flow::laws::{roomy_rounds_deliver_all, rounds_keep_the_ledger, rounds_lead_to_a_mesh};
+use spin_base::{Event, Gate, Memory, Seq, Spot};
 use std::alloc::Global;
+use std::sync::Wait;
+use std::thread::Threads;
 use tcam_find::Tcam;
 
 // What a mesh is opened with: the job's machine, the plan's spots, and the lookup memories that are loaded from the image of
@@ -27,28 +33,60 @@ struct Pieces {
     memories: Seq<Tcam>,
 }
 
-// The mesh of a job after all its packets.
-pub(crate) fn run_job(alloc: Global, job: &Job, plan: &Plan) -> Result<Mesh, Memory>
+// The mesh of a job after all its packets: by rounds from the opened one, until nothing waits and nothing is unsent.
+pub(crate) fn run_job<R: Threads + Wait + Sync, G: Gate>(
+    rt: &R,
+    alloc: Global,
+    job: &Job,
+    plan: &Plan,
+    gate: &G,
+) -> Result<Mesh, Memory>
     requires run { IsRunOf job.now.graph job.now.run }
     requires planned { IsPlanned job.now plan.now }
-    ensures run { IfOk result (HasRun (opened_of job.now plan.now)) }
+    ensures reached { IfOk result (HasKeptRounds job.now plan.now) }
+    ensures at_rest { IfOk result IsAtRest }
     ensures mesh { IfOk result IsMesh }
-    ensures ledger { IfOk result (λ mesh. MeetsJobLedger mesh plan.now.nets job.now.run.packets) }
-    ensures delivered { IfOk result (λ mesh. AreAsExpected mesh plan.now.nets job.now.run.packets) }
     ensures setup { IfOk result (λ mesh. mesh.setup ≡ setup_of job.now plan.now) }
+    ensures ledger { IfOk result (λ mesh. MeetsJobLedger mesh plan.now.nets job.now.run.packets) }
+    ensures no_record { IfOk result (λ mesh. IsRoomy job.now → mesh.dumped ≡ []) }
 {
-    let pieces = pieces_of(alloc, job, plan)?;
-    let nets = plan.nets.as_slice();
-    let packets = job.run.packets.as_slice();
-    run_packets(
-        alloc,
-        pieces.machine,
-        pieces.spots,
-        pieces.memories,
-        job.run.queue,
-        nets,
-        packets,
-    )
+    a_quiet_mesh_is_ready();
+    rounds_keep_the_ledger();
+    rounds_lead_to_a_mesh();
+    roomy_rounds_deliver_all();
+    let mesh = open_job(alloc, job, plan)?;
+    let (patience, workers, turns) = (job.run.patience, job.run.workers, job.run.turns);
+    match run_out(rt, alloc, mesh, patience, workers, turns, gate) {
+        Ok(mesh) => Ok(mesh),
+        Err((_, memory)) => Err(memory),
+    }
+}
+
+// The mesh of a job after all its packets, with dumped copies put back between rounds until none is left.
+pub(crate) fn reinject_job<R: Threads + Wait + Sync, G: Gate>(
+    rt: &R,
+    alloc: Global,
+    job: &Job,
+    plan: &Plan,
+    gate: &G,
+) -> Result<Mesh, Memory>
+    requires run { IsRunOf job.now.graph job.now.run }
+    requires planned { IsPlanned job.now plan.now }
+    ensures reached { IfOk result (HasKeptPasses job.now plan.now) }
+    ensures at_rest { IfOk result IsAtRest }
+    ensures mesh { IfOk result IsMesh }
+    ensures setup { IfOk result (λ mesh. mesh.setup ≡ setup_of job.now plan.now) }
+    ensures ledger { IfOk result (λ mesh. MeetsJobLedger mesh plan.now.nets job.now.run.packets) }
+    ensures no_record { IfOk result (λ mesh. mesh.dumped ≡ []) }
+{
+    a_quiet_mesh_is_ready();
+    passes_keep_the_ledger();
+    let mesh = open_job(alloc, job, plan)?;
+    let (patience, workers, turns) = (job.run.patience, job.run.workers, job.run.turns);
+    match reinject(rt, alloc, mesh, patience, workers, turns, gate) {
+        Ok(mesh) => Ok(mesh),
+        Err((_, memory)) => Err(memory),
+    }
 }
 
 // The mesh of a job after all its events, one by one, and the answers to them.

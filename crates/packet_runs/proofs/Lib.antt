@@ -2,7 +2,6 @@ mod Frame
 mod Opened
 pub mod Packets
 pub mod Progress
-mod Run
 mod Steps
 mod Turns
 mod Unsent

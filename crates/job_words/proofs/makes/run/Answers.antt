@@ -1,28 +1,22 @@
-use Rattle.std.proofs.Common.{List, sym, subst, ◌∙◌}
+use Rattle.std.proofs.Common.{List, sym, subst}
 use Rattle.mesh_core.specs.declared.places.Did.{Did}
 use Rattle.job_words.specs.Words.{IsReported}
-use Rattle.job_words.proofs.Tracing.{told_as_expected}
+use Rattle.job_words.proofs.AtRest.{ran_out}
 use Rattle.job_words.proofs.makes.run.Goals as goal
 
 pub returns : goal.returns
-returns c =
+returns g c =
     let job = c.args.job in
     let plan = c.args.plan in
     let mesh = c.in_ok-mesh.mesh in
     let report = c.in_ok-report.report in
-    let reported = c.in_ok-report.ensures.reported in (
+    let reported = subst (λ (did : List Did). IsReported job plan mesh did report) c.new.ensures c.in_ok-report.ensures.reported in
+    let ran = c.in_ok-mesh.ensures in (
       mesh,
       report,
-      record {
-        ledger = c.in_ok-mesh.ensures.ledger;
-        reported = subst (λ (did : List Did). IsReported job plan mesh did report) (sym reported.same_did) reported;
-      },
-      record {
-        reached = c.in_ok-mesh.ensures.run;
-        delivered = c.in_ok-mesh.ensures.delivered;
-        told = told_as_expected job plan mesh c.new.result report c.in_ok-mesh.ensures.mesh c.in_ok-mesh.ensures.setup c.in_ok-mesh.ensures.ledger c.in_ok-mesh.ensures.run reported;
-        no_event = reported.same_did ∙ c.new.ensures;
-      },
+      record { ledger = ran.ledger; reported = subst (λ (did : List Did). IsReported job plan mesh did report) (sym reported.same_did) reported },
+      ran_out job plan mesh report
+          (record { is_mesh = ran.mesh; setup = ran.setup; ledger = ran.ledger; at_rest = ran.at_rest; reported = reported }) ran.reached ran.no_record,
       c.parts_of.ensures,
       c.in_ok-text.ensures,
     )

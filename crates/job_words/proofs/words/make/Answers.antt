@@ -1,29 +1,36 @@
 use Rattle.job_words.specs.declared.outcomes.Made.{Made}
-use Rattle.job_words.specs.Words.{HasRunOut, Images, IsTraced, Lists, Makes, Reports, Summarises, generated, imaged, listed, ran, traced}
+use Rattle.job_words.specs.Reinjecting.{HasReinjected}
+use Rattle.job_words.specs.Runs.{HasRunOut}
+use Rattle.job_words.specs.Words.{Images, IsTraced, Lists, Makes, Reports, Summarises, generated, imaged, listed, ran, reinjected, traced}
 use Rattle.job_words.proofs.WordLaws.{ok_weaker}
 use Rattle.job_words.proofs.words.make.Goals as goal
 
 pub returns-in-Run : goal.returns-in-Run
-returns-in-Run c =
+returns-in-Run g c =
     ok_weaker c.run.result (λ (m : Made). Reports HasRunOut c.args.job c.args.plan m.parts m.text) (λ (m : Made). Makes c.args.word c.args.job c.args.plan m.parts m.text)
     (λ m reports. ran c.in-Run.is reports) c.run.ensures
 
+pub returns-in-Reinject : goal.returns-in-Reinject
+returns-in-Reinject g c =
+    ok_weaker c.reinjected.result (λ (m : Made). Reports HasReinjected c.args.job c.args.plan m.parts m.text) (λ (m : Made). Makes c.args.word c.args.job c.args.plan m.parts m.text)
+    (λ m reports. reinjected c.in-Reinject.is reports) c.reinjected.ensures
+
 pub returns-in-Trace : goal.returns-in-Trace
-returns-in-Trace c =
+returns-in-Trace g c =
     ok_weaker c.trace.result (λ (m : Made). Reports IsTraced c.args.job c.args.plan m.parts m.text) (λ (m : Made). Makes c.args.word c.args.job c.args.plan m.parts m.text)
     (λ m reports. traced c.in-Trace.is reports) c.trace.ensures
 
 pub returns-in-Compile : goal.returns-in-Compile
-returns-in-Compile c =
+returns-in-Compile g c =
     ok_weaker c.image.result (λ (m : Made). Images c.args.job c.args.plan m.parts m.text) (λ (m : Made). Makes c.args.word c.args.job c.args.plan m.parts m.text)
     (λ m images. imaged c.in-Compile.is images) c.image.ensures
 
 pub returns-in-Tables : goal.returns-in-Tables
-returns-in-Tables c =
+returns-in-Tables g c =
     ok_weaker c.list.result (λ (m : Made). Lists c.args.job c.args.plan m.parts m.text) (λ (m : Made). Makes c.args.word c.args.job c.args.plan m.parts m.text)
     (λ m lists. listed c.in-Tables.is lists) c.list.ensures
 
 pub returns-in-Gen : goal.returns-in-Gen
-returns-in-Gen c =
+returns-in-Gen g c =
     ok_weaker c.generated.result (λ (m : Made). Summarises c.in-Gen.number c.args.job c.args.plan m.parts m.text) (λ (m : Made). Makes c.args.word c.args.job c.args.plan m.parts m.text)
     (λ m summarises. generated c.in-Gen.number c.in-Gen.is summarises) c.generated.ensures

@@ -1,77 +1,21 @@
-// Two chips in two workers, each of which a gate holds at its steps until the other has come far enough.
+// One round of two chips in two workers, which a gate holds in an order.
 ghost use Rattle.std.specs.Prelude.{◌≡◌, OnOk, IfOk};
 ghost use Rattle.mesh_core.specs.Expected.{NothingWaits};
 
+use crate::gates::InOrder;
 use machine_desc::Machine;
-use mesh_core::{Mesh, MeshParts};
+use mesh_core::{Did, Mesh, MeshParts};
 use mesh_round::laws::a_quiet_mesh_is_ready;
-use mesh_round::round;
-use spin_base::{Chip, Delivery, Dir, DumpRec, Entry, Fifo, Gate, McCopy, Out, Route, Seq, Spot};
+use mesh_round::{put_back, round};
+use spin_base::{Chip, Delivery, Dir, DumpRec, Entry, Fifo, McCopy, Out, Route, Seq, Spot};
 use std::alloc::Global;
 use std::sync::Wait;
-use std::sync::atomic::{AtomicU64, Ordering};
 use std::test::Fail;
-use std::thread;
 use std::thread::Threads;
 use tcam_find::Tcam;
 
-/// How often a worker looks whether the other has come far enough, before it gives up.
-const LOOKS: u32 = 100_000_000;
-
-/// A gate for two workers of four turns, in phase 1 alone.
-#[derive(Drop)]
-struct InOrder {
-    /// How many steps worker 0 has entered.
-    first: AtomicU64,
-    /// How many steps worker 1 has entered.
-    second: AtomicU64,
-    /// How often a worker gave up.
-    late: AtomicU64,
-    /// For each worker and each of its steps: how many steps the other has to enter first.
-    waits: [[u64; 5]; 2],
-}
-
-impl InOrder {
-    fn new(waits: [[u64; 5]; 2]) -> InOrder {
-        InOrder {
-            first: AtomicU64::new(0),
-            second: AtomicU64::new(0),
-            late: AtomicU64::new(0),
-            waits,
-        }
-    }
-
-    // The steps entered by the worker, and those by the other.
-    fn sides(&self, worker: u32) -> (&AtomicU64, &AtomicU64) {
-        if worker == 0 {
-            (&self.first, &self.second)
-        } else {
-            (&self.second, &self.first)
-        }
-    }
-
-    // Looks until the other has entered so many steps.
-    fn wait_for(&self, other: &AtomicU64, wanted: u64) {
-        for _ in 0..LOOKS {
-            if other.load(Ordering::SeqCst) >= wanted {
-                return;
-            }
-            thread::yield_now();
-        }
-        self.late.fetch_add(1, Ordering::SeqCst);
-    }
-}
-
-impl Gate for InOrder {
-    fn enter(&self, phase: u32, worker: u32, step: u32) {
-        if phase != 1 || worker > 1 || step > 4 {
-            return;
-        }
-        let (own, other) = self.sides(worker);
-        own.store(u64::from(step) + 1, Ordering::SeqCst);
-        self.wait_for(other, self.waits[worker as usize][step as usize]);
-    }
-}
+/// The place of the queue of link West, which is link 3, of the second chip, among queues of seven a chip.
+const WEST_OF_SECOND: usize = 7 + 3;
 
 /// Core 1 of a chip of the row.
 fn spot(x: u8) -> Spot {
@@ -172,16 +116,16 @@ fn mesh(alloc: Global) -> Result<Mesh, &'static str>
     Ok(mesh)
 }
 
-/// What is left of the mesh by a round of four turns in two workers.
+/// The mesh after a round of four turns in two workers.
 fn after_a_round<R: Threads + Wait + Sync>(
     rt: &R,
     alloc: Global,
     gate: &InOrder,
-) -> Result<MeshParts, &'static str> {
+) -> Result<Mesh, &'static str> {
     let before = mesh(alloc)?;
     a_quiet_mesh_is_ready();
     match round(rt, alloc, before, 1, 2, 4, 1, gate) {
-        Ok(after) if gate.late.load(Ordering::SeqCst) == 0 => Ok(after.take_apart()),
+        Ok(after) if gate.held() => Ok(after),
         Ok(_) => Err("a worker waited too long"),
         Err(_) => Err("memory"),
     }
@@ -221,10 +165,29 @@ fn ends_with(parts: &MeshParts, delivered: &[Delivery], dumped: &[DumpRec]) -> b
     delivers && dumps && is_at_rest(parts)
 }
 
+/// Puts the first dumped copy back, twice: what is left, and both answers.
+fn put_back_twice(mesh: Mesh) -> Result<(MeshParts, Did, Did), &'static str> {
+    let Ok((once, first)) = put_back(mesh) else {
+        return Err("memory");
+    };
+    let Ok((twice, second)) = put_back(once) else {
+        return Err("memory");
+    };
+    Ok((twice.take_apart(), first, second))
+}
+
+/// Whether this copy alone waits at the second chip's link to the first.
+fn waits_at_second(parts: &MeshParts, copy: McCopy) -> bool {
+    match parts.inputs.get(WEST_OF_SECOND) {
+        Some(queue) => queue.as_slice() == [copy].as_slice(),
+        None => false,
+    }
+}
+
 #[test]
 fn copies_are_dumped_where_the_second_worker_waits(rt: HostRuntime) -> Result<(), Fail> {
     let gate = InOrder::new([[0, 0, 0, 0, 0], [5, 0, 0, 0, 0]]);
-    let parts = after_a_round(&rt, rt.alloc(), &gate)?;
+    let parts = after_a_round(&rt, rt.alloc(), &gate)?.take_apart();
     assert!(rt; ends_with(&parts, &[arrived(0)], &[lost(1), lost(2)]));
     Ok(())
 }
@@ -232,7 +195,18 @@ fn copies_are_dumped_where_the_second_worker_waits(rt: HostRuntime) -> Result<()
 #[test]
 fn all_copies_arrive_where_the_workers_take_turns(rt: HostRuntime) -> Result<(), Fail> {
     let gate = InOrder::new([[0, 2, 3, 4, 5], [2, 3, 4, 5, 0]]);
-    let parts = after_a_round(&rt, rt.alloc(), &gate)?;
+    let parts = after_a_round(&rt, rt.alloc(), &gate)?.take_apart();
     assert!(rt; ends_with(&parts, &[arrived(0), arrived(1), arrived(2)], &[]));
+    Ok(())
+}
+
+#[test]
+fn a_dumped_copy_is_put_back_where_the_queue_is_empty(rt: HostRuntime) -> Result<(), Fail> {
+    let gate = InOrder::new([[0, 0, 0, 0, 0], [5, 0, 0, 0, 0]]);
+    let mesh = after_a_round(&rt, rt.alloc(), &gate)?;
+    let (parts, first, second) = put_back_twice(mesh)?;
+    let answers = first == Did::Moved && second == Did::Idle;
+    let waits = waits_at_second(&parts, copy(1, 1));
+    assert!(rt; answers && waits && parts.dumped.as_slice() == [lost(2)].as_slice());
     Ok(())
 }
