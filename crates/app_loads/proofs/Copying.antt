@@ -23,7 +23,7 @@ use Rattle.tern_word.specs.Entries.{entry_of}
 use Rattle.app_loads.specs.declared.loaded.Range.{Range}
 use Rattle.app_loads.specs.Regions.{AreApart, chip_count, has_place, is_taken, rows_region}
 use Rattle.app_loads.specs.Writing.{AreCopied, CanCopy}
-use Rattle.app_loads.proofs.Holes.{clash}
+use Rattle.range_store.proofs.HolePlaces.{clash}
 
 -- ---- a list with a part written
 

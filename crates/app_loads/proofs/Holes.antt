@@ -1,66 +1,9 @@
--- Holes and the places that are free in them: which ranges fit, and that the free places tell the holes.
-use Rattle.std.proofs.Common.{◌≡◌, ℕ, ◌+◌, ◌<◌, ◌≤◌, Bool, true, false, true≢false, List, [], ◌∷◌, refl, sym, ap, ◌∙◌, subst, inl, inr, arith}
+-- The free places of a region tell its holes.
+use Rattle.std.proofs.Common.{◌≡◌, ℕ, ◌+◌, ◌<◌, ◌≤◌, Bool, true, false, List, [], ◌∷◌, refl, sym, ap, ◌∙◌, subst, inl, inr, arith}
 use Rattle.std.proofs.lemmas.Bool.{cases_Bool, cases_lt, or_cases, or_left, or_right}
-use Rattle.std.proofs.lemmas.Bool.Decides.{nat_tests}
 use Rattle.range_store.specs.declared.holes.Hole.{Hole}
-use Rattle.range_store.specs.Regions.{AreRuns, has_range, is_hole_range, is_free, end_of}
-
-pub clash : {A : Type 0} {b : Bool} → b ≡ true → b ≡ false → A
-clash t f = absurd (true≢false (sym t ∙ f))
-
-has_facts : (p s : ℕ) (h : Hole) → has_range p s h ≡ true → (h.place ≤ p) × (p + s ≤ end_of h)
-has_facts p s h e = (grind (arith, nat_tests), grind (arith, nat_tests))
-
-has_from : (p s : ℕ) (h : Hole) → h.place ≤ p → p + s ≤ end_of h → has_range p s h ≡ true
-has_from p s h a b = grind (arith, nat_tests)
-
--- a free place is not before the first hole, and is below the end
-pub free_within : (from n : ℕ) (hs : List Hole) (k : ℕ) → AreRuns from n hs → is_free hs k ≡ true → (from ≤ k) × (k < n)
-free_within from n [] k runs e = clash e refl
-free_within from n (h ∷ hs) k runs e =
-    elim (or_cases (has_range k 1 h) (is_free hs k) e) [
-      | inl here ↦ (let f = has_facts k 1 h here in (omega (arith, f.0, runs.0), omega (arith, f.1, runs.2)))
-      | inr later ↦ (let f = free_within (end_of h + 1) n hs k runs.3 later in (omega (arith, f.0, runs.0), f.1))
-    ]
-
--- each place of a range that lies in a hole is free
-pub free_in_range : (hs : List Hole) (p s k : ℕ) → is_hole_range hs p s ≡ true → p ≤ k → k < p + s → is_free hs k ≡ true
-free_in_range [] p s k e low high = clash e refl
-free_in_range (h ∷ hs) p s k e low high =
-    elim (or_cases (has_range p s h) (is_hole_range hs p s) e) [
-      | inl here ↦ (
-          let f = has_facts p s h here in
-          or_left (has_range k 1 h) (is_free hs k) (has_from k 1 h (omega (arith, f.0)) (omega (arith, f.1)))
-          )
-      | inr later ↦ or_right (has_range k 1 h) (is_free hs k) (free_in_range hs p s k later low high)
-    ]
-
--- a range of free places lies in one hole, since holes do not touch
-pub range_of_free : (from n : ℕ) (hs : List Hole) (p s : ℕ) → AreRuns from n hs → 0 < s → ((k : ℕ) → p ≤ k → k < p + s → is_free hs k ≡ true) → is_hole_range hs p s ≡ true
-range_of_free from n [] p s runs some free = clash (free p (omega arith) (omega arith)) refl
-range_of_free from n (h ∷ hs) p s runs some free =
-    elim (or_cases (has_range p 1 h) (is_free hs p) (free p (omega arith) (omega arith))) [
-      | inl here ↦ (
-          let f = has_facts p 1 h here in
-          elim (cases_lt (end_of h) (p + s)) [
-            | inl beyond ↦ elim (or_cases (has_range (end_of h) 1 h) (is_free hs (end_of h)) (free (end_of h) (omega (arith, f.1)) beyond)) [
-              | inl mine ↦ (let g = has_facts (end_of h) 1 h mine in absurd (omega (arith, g.1)))
-              | inr next ↦ (let g = free_within (end_of h + 1) n hs (end_of h) runs.3 next in absurd (omega (arith, g.0)))
-            ]
-            | inr within ↦ or_left (has_range p s h) (is_hole_range hs p s) (has_from p s h f.0 within)
-          ]
-          )
-      | inr later ↦ (
-          let low = free_within (end_of h + 1) n hs p runs.3 later in
-          let rest : (k : ℕ) → p ≤ k → k < p + s → is_free hs k ≡ true = λ k from_p to_end. elim (or_cases (has_range k 1 h) (is_free hs k) (free k from_p to_end)) [
-            | inl mine ↦ (let g = has_facts k 1 h mine in absurd (omega (arith, g.1, low.0)))
-            | inr there ↦ there
-          ] in
-          or_right (has_range p s h) (is_hole_range hs p s) (range_of_free (end_of h + 1) n hs p s runs.3 some rest)
-          )
-    ]
-
--- ---- the free places tell the holes
+use Rattle.range_store.specs.Regions.{AreRuns, has_range, is_free, end_of}
+use Rattle.range_store.proofs.HolePlaces.{clash, has_facts, has_from, free_within}
 
 -- the first place of the first hole is free, and no place before it
 first_free : (h : Hole) (hs : List Hole) → 0 < h.len → is_free (h ∷ hs) h.place ≡ true

@@ -13,8 +13,8 @@ use Rattle.app_loads.specs.Applications.{IsLoadedOn, IsRangeFor}
 use Rattle.app_loads.specs.Claims.{AreBlocks, AreServed, claims_of}
 use Rattle.app_loads.specs.Joining.{CanJoin, CanSettle, IsServed, NoneUnsent}
 use Rattle.app_loads.specs.Plans.{IsPlan}
-use Rattle.app_loads.specs.Regions.{AreApart, chip_count}
-use Rattle.app_loads.specs.Taking.{IsWithin, free_of}
+use Rattle.app_loads.specs.Regions.{AreApart, IsWithin}
+use Rattle.app_loads.specs.Taking.{AreTaken, free_of}
 
 zipped : {X Y : Type 0} (R : X → Y → Type 0) (xs : List X) (ys : List Y) → length ys ≡ length xs → ((i : ℕ) (x : X) (y : Y) → slice_get xs i ≡ Some x → slice_get ys i ≡ Some y → R x y) → AllZip R xs ys
 zipped R [] [] long each = tt
@@ -22,11 +22,12 @@ zipped R [] (y ∷ ys) long each = absurd (omega (arith, long))
 zipped R (x ∷ xs) [] long each = absurd (omega (arith, long))
 zipped R (x ∷ xs) (y ∷ ys) long each = (each 0 x y refl refl, zipped R xs ys (omega (arith, long)) (λ i a b p q. each (suc i) a b p q))
 
-pub loaded_from : (m : Description) (taken : List Range) (plan : AppPlan) (app : LoadedApp) → IsPlan m plan → app.plan ≡ plan → AreServed m taken (claims_of m plan) app.ranges → AreBlocks (claims_of m plan) app.ranges plan.nets app.blocks → IsLoadedOn m app
-loaded_from m taken plan app valid is served blocks = record {
+pub loaded_from : (m : Description) (taken : List Range) (new : List Region) (plan : AppPlan) (app : LoadedApp) → IsPlan m plan → app.plan ≡ plan → AreServed m taken (claims_of m plan) app.ranges → AreTaken m taken app.ranges new → AreBlocks (claims_of m plan) app.ranges plan.nets app.blocks → IsLoadedOn m app
+loaded_from m taken new plan app valid is served have blocks = record {
   plan = subst (IsPlan m) (sym is) valid;
   ranges = subst (λ (p : AppPlan). AllZip IsRangeFor (claims_of m p) app.ranges) (sym is)
       (zipped IsRangeFor (claims_of m plan) app.ranges served.all (λ i claim range p q. let w = served.first.each i claim range p q in (w.region, w.size)));
+  within = subst (λ n. All (IsWithin m n) app.ranges) (sym (length-map new free_of) ∙ have.free.all) have.within;
   blocks = subst (λ (p : AppPlan). AreBlocks (claims_of m p) app.ranges p.nets app.blocks) (sym is) blocks;
 }
 
@@ -35,12 +36,10 @@ can_settle s old new number first plan app can served =
     let m = s.setup.machine in
     let own = can.of_machine in
     let taken = served.taken m own.taken own.apart own.free in
-    let long : length new ≡ 1 + (chip_count m + chip_count m) = sym (length-map new free_of) ∙ taken.free.all in
     let numbers = can.numbers in
     record {
-      loaded = loaded_from m own.taken plan app can.valid served.plan_is (served.served m own.taken own.apart own.free) served.blocks;
+      loaded = loaded_from m own.taken new plan app can.valid served.plan_is (served.served m own.taken own.apart own.free) taken served.blocks;
       apart = AllPairs-right AreApart own.taken app.ranges taken.apart;
-      within = subst (λ n. All (IsWithin m n) app.ranges) long taken.within;
       numbers = subst (λ n. n + length app.plan.packets < 2 ^ 32) (sym served.first_is) (subst (λ (p : AppPlan). first + length p.packets < 2 ^ 32) (sym served.plan_is) numbers);
       vertices = can.vertices;
       none = subst (λ (p : AppPlan). NoneUnsent s.setup.spots p.nets s.unsent) (sym served.plan_is) can.none;

@@ -4,10 +4,18 @@ mod Holes
 mod Hosts
 mod JoinLaws
 mod Keeping
+mod LeavingLeast
+mod LeavingLedger
+mod LeavingLists
 mod Ledgers
+mod LeftHost
+mod LeftMesh
+mod LeftParts
 mod LoadedHost
 mod LoadedParts
 mod MarkedSpots
+mod OnePacket
+mod Others
 mod Moving
 mod PacketLedger
 mod Ports
@@ -25,3 +33,5 @@ mod Blocks
 mod ClaimCases
 mod Claiming
 mod Copying
+mod Clearing
+mod RoomToGive

@@ -44,8 +44,8 @@ use Rattle.app_loads.specs.Host.{Free, Host, all_nets, all_ranges, all_spots, as
 use Rattle.app_loads.specs.Joining.{AreSent, IsSent, IsServed, IsSettled, NoneUnsent}
 use Rattle.app_loads.specs.Loading.{HasLoaded, IsWhyNotLoaded}
 use Rattle.app_loads.specs.Plans.{IsAppNet, IsPlan, IsPacketOf, MayLoad}
-use Rattle.app_loads.specs.Regions.{AreApart, AreFreeBeside, has_place, is_taken, rows_region, region_size}
-use Rattle.app_loads.specs.Taking.{AreTaken, IsDueAlways, IsWithin, frees}
+use Rattle.app_loads.specs.Regions.{AreApart, AreFreeBeside, has_place, is_taken, rows_region, region_size, IsWithin}
+use Rattle.app_loads.specs.Taking.{AreTaken, IsDueAlways, frees}
 use Rattle.app_loads.proofs.AppNets.{apps_disjoint, different_of, facts_at, facts_of, key_of_index, own_disjoint, roots_of, sources_in, targets_in, trees_of, usable_spot}
 use Rattle.app_loads.proofs.ClaimCases.{among_flat, flat_among, facts}
 use Rattle.app_loads.proofs.Copying.{mine_at, same_part}
@@ -196,7 +196,7 @@ module _ (h : Host) (apps : AreApps h) (number : ℕ) (plan : AppPlan) (may : Ma
   served_now = served.served m (all_ranges h.apps) apps.apart before_free
 
   on : IsLoadedOn m app
-  on = loaded_from m (all_ranges h.apps) plan app may.valid served.plan_is served_now served.blocks
+  on = loaded_from m (all_ranges h.apps) new plan app may.valid served.plan_is served_now taken_now served.blocks
 
   own_apart : AllPairs AreApart app.ranges
   own_apart = AllPairs-right AreApart (all_ranges h.apps) app.ranges taken_now.apart

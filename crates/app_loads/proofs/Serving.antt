@@ -19,10 +19,10 @@ use Rattle.app_loads.specs.declared.answers.LoadErr.TheVariants.{Memory}
 use Rattle.app_loads.specs.declared.loaded.Claim.{Claim}
 use Rattle.app_loads.specs.declared.loaded.Range.{Range}
 use Rattle.app_loads.specs.Host.{Free}
-use Rattle.app_loads.specs.Regions.{AreFreeBeside, IsFreeBeside, AreApart, has_place, is_taken, region_size}
+use Rattle.app_loads.specs.Regions.{AreFreeBeside, IsFreeBeside, AreApart, has_place, is_taken, region_size, IsWithin}
 use Rattle.app_loads.specs.Claims.{IsLeastOpen, IsOpen, IsRefusalDue}
-use Rattle.app_loads.specs.Taking.{free_of, frees, range_at, Serves, Refuses, IsFair, IsWithin, HaveRoom, CanServe, HaveServed, AreTaken, AreTakenAlways, AreServedAlways, IsDueAlways}
-use Rattle.app_loads.proofs.Holes.{clash}
+use Rattle.app_loads.specs.Taking.{free_of, frees, range_at, Serves, Refuses, IsFair, HaveRoom, CanServe, HaveServed, AreTaken, AreTakenAlways, AreServedAlways, IsDueAlways}
+use Rattle.range_store.proofs.HolePlaces.{clash}
 
 -- ---- lists
 

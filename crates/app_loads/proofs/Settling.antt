@@ -43,9 +43,8 @@ use Rattle.app_loads.specs.Host.{net_with, nets_with, nets_of}
 use Rattle.app_loads.specs.Joining.{AreSent, AreWritten, CanSettle, IsSettled}
 use Rattle.app_loads.specs.Opening.{grid_spots, spot_of, usable_spots}
 use Rattle.app_loads.specs.Plans.{IsAppNet, IsPacketOf}
-use Rattle.app_loads.specs.Regions.{chip_count, region_size, rows_region}
+use Rattle.app_loads.specs.Regions.{chip_count, region_size, rows_region, IsWithin}
 use Rattle.app_loads.specs.Sending.{CanSend, IsPacketOn, IsSendingFrom}
-use Rattle.app_loads.specs.Taking.{IsWithin}
 use Rattle.app_loads.specs.Writing.{AreCopied, CanCopy}
 use Rattle.app_loads.proofs.AppNets.{facts_at, key_of_index, member_at, spot_inside, usable_spot}
 use Rattle.app_loads.proofs.ClaimCases.{row_size}
@@ -160,7 +159,7 @@ module _ (s : State) (app : LoadedApp) (can : CanSettle s app) (mesh : IsMesh s)
       let block = slice_get_there app.blocks p.net (let l = can.loaded.blocks.all in omega (arith, below, l)) in
       let x = net_with of_net.0 block.0 in
       let f = facts_at m app can.loaded p.net x (nets_with_at app.plan.nets app.blocks p.net of_net.0 block.0 of_net.1 block.1) in
-      let within = (All-at (IsWithin m (1 + (chip_count m + chip_count m))) app.ranges f.at f.range can.within f.got).within in
+      let within = (All-at (IsWithin m (1 + (chip_count m + chip_count m))) app.ranges f.at f.range can.loaded.within f.got).within in
       let room : f.range.place + f.range.size ≤ 4294967296 = subst (λ r. f.range.place + f.range.size ≤ r) (ap (region_size m) f.region) within in
       let same_net : f.net ≡ of_net.0 = some_same (sym f.at_net ∙ of_net.1) in
       let same_block : f.block ≡ block.0 = some_same (sym f.at_block ∙ block.1) in
@@ -195,11 +194,11 @@ module _ (s : State) (app : LoadedApp) (can : CanSettle s app) (mesh : IsMesh s)
       rows_long = rows_long;
       each_long = can.long;
       apart = can.apart;
-      there = λ range has. (All-contains (IsWithin m (1 + (chip_count m + chip_count m))) app.ranges range can.within has).there;
+      there = λ range has. (All-contains (IsWithin m (1 + (chip_count m + chip_count m))) app.ranges range can.loaded.within has).there;
       fit = λ range has c t inside region at.
           let size = range_size range has c inside region in
           let many = plain_count m c app.plan.nets app.blocks t.rows can.loaded.blocks.all (plain c t inside at) in
-          let within = (All-contains (IsWithin m (1 + (chip_count m + chip_count m))) app.ranges range can.within has).within in
+          let within = (All-contains (IsWithin m (1 + (chip_count m + chip_count m))) app.ranges range can.loaded.within has).within in
           let room : range.place + range.size ≤ 1024 = subst (λ r. range.place + range.size ≤ r) (ap (region_size m) region ∙ rows_size m (index_of m c)) within in
           (omega (arith, size, many, room), size ∙ sym many);
     }))

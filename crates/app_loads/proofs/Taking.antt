@@ -10,7 +10,7 @@ use Rattle.app_loads.specs.declared.loaded.Range.{Range}
 use Rattle.app_loads.specs.Host.{Free}
 use Rattle.app_loads.specs.Regions.{IsFreeBeside, has_place, is_taken}
 use Rattle.app_loads.specs.Claims.{IsOpen, IsLeastOpen, IsRefused}
-use Rattle.app_loads.proofs.Holes.{clash, free_in_range, range_of_free}
+use Rattle.range_store.proofs.HolePlaces.{clash, free_in_range, range_of_free}
 
 regroup : (a b c : Bool) → ((a && not b) && not c) ≡ (a && not (b || (c || false)))
 regroup false b c = refl
@@ -18,10 +18,10 @@ regroup true true c = refl
 regroup true false true = refl
 regroup true false false = refl
 
-in_facts : (p s k : ℕ) → in_range p s k ≡ true → (p ≤ k) × (k < p + s)
+pub in_facts : (p s k : ℕ) → in_range p s k ≡ true → (p ≤ k) × (k < p + s)
 in_facts p s k e = (grind (arith, nat_tests), grind (arith, nat_tests))
 
-in_from : (p s k : ℕ) → p ≤ k → k < p + s → in_range p s k ≡ true
+pub in_from : (p s k : ℕ) → p ≤ k → k < p + s → in_range p s k ≡ true
 in_from p s k low high = grind (arith, nat_tests)
 
 here_too : (region : ℕ) (b : Bool) → ((region == region) && b) ≡ b

@@ -18,7 +18,7 @@ use Rattle.app_loads.specs.declared.loaded.LoadedApp.{LoadedApp}
 use Rattle.app_loads.specs.declared.loaded.Range.{Range}
 use Rattle.app_loads.specs.declared.loaded.Claim.{Claim}
 use Rattle.app_loads.specs.Host.{Host, all_nets, all_ranges, all_spots, asked_of, nets_of}
-use Rattle.app_loads.specs.Regions.{AreFreeBeside, AreApart, rows_region, is_taken}
+use Rattle.app_loads.specs.Regions.{AreFreeBeside, AreApart, IsWithin, chip_count, rows_region, is_taken}
 use Rattle.app_loads.specs.Claims.{claims_of, AreBlocks}
 use Rattle.app_loads.specs.Opening.{usable_spots}
 use Rattle.app_loads.specs.Plans.{IsPlan}
@@ -27,10 +27,12 @@ use Rattle.app_loads.specs.Plans.{IsPlan}
 abbrev pub IsRangeFor : Claim → Range → Type 0
 IsRangeFor claim range = (range.region ≡ claim.region) × (range.size ≡ claim.size)
 
--- An application that is loaded has a plan for the machine, a range for each claim of the plan, and a block for each net.
+-- An application that is loaded has a plan for the machine, a range for each claim of the plan, within its region, and a block for
+-- each net.
 pub record IsLoadedOn (m : Description) (app : LoadedApp) : Type 0 where
   pub plan : IsPlan m app.plan
   pub ranges : AllZip IsRangeFor (claims_of m app.plan) app.ranges
+  pub within : All (IsWithin m (1 + (chip_count m + chip_count m))) app.ranges
   pub blocks : AreBlocks (claims_of m app.plan) app.ranges app.plan.nets app.blocks
 
 -- A range of entries of a chip has the plain rows of the nets there, in order.

@@ -1,5 +1,5 @@
 -- What loading an application makes of the parts of a host, as the private functions say it.
-use Rattle.std.specs.Prelude.{◌≡◌, All, AllPairs, ℕ, ◌+◌, ◌%◌, ◌^◌, ◌<◌, ◌≤◌, false, zero, suc, List, [], ◌∷◌, ◌++◌, Contains, Some, length, slice_get, slice_set}
+use Rattle.std.specs.Prelude.{◌≡◌, AllPairs, ℕ, ◌+◌, ◌%◌, ◌^◌, ◌<◌, ◌≤◌, false, zero, suc, List, [], ◌∷◌, ◌++◌, Contains, Some, length, slice_get, slice_set}
 use Rattle.std.specs.Int.{IsPowerOfTwo}
 use Rattle.spin_base.specs.declared.blocks.Block.{Block}
 use Rattle.spin_base.specs.declared.blocks.Entry.{Entry}
@@ -22,9 +22,9 @@ use Rattle.app_loads.specs.declared.loaded.Range.{Range}
 use Rattle.app_loads.specs.declared.plans.AppNet.{AppNet}
 use Rattle.app_loads.specs.declared.plans.AppPlan.{AppPlan}
 use Rattle.app_loads.specs.Host.{nets_of}
-use Rattle.app_loads.specs.Regions.{AreApart, chip_count, rows_region, is_taken}
+use Rattle.app_loads.specs.Regions.{AreApart, rows_region, is_taken}
 use Rattle.app_loads.specs.Claims.{claims_of, AreBlocks, IsBlockOf}
-use Rattle.app_loads.specs.Taking.{AreRegionsOf, AreServedAlways, AreTakenAlways, IsWithin}
+use Rattle.app_loads.specs.Taking.{AreRegionsOf, AreServedAlways, AreTakenAlways}
 use Rattle.app_loads.specs.Applications.{HasRows, IsLoadedOn}
 use Rattle.app_loads.specs.Opening.{usable_spots}
 use Rattle.app_loads.specs.Plans.{IsPlan}
@@ -102,7 +102,6 @@ pub record CanJoin (s : State) (regions : List Region) (first : ℕ) (plan : App
 pub record CanSettle (s : State) (app : LoadedApp) : Type 0 where
   pub loaded : IsLoadedOn s.setup.machine app
   pub apart : AllPairs AreApart app.ranges
-  pub within : All (IsWithin s.setup.machine (1 + (chip_count s.setup.machine + chip_count s.setup.machine))) app.ranges
   pub numbers : app.first + length app.plan.packets < 2 ^ 32
   pub vertices : s.setup.spots ≡ usable_spots s.setup.machine
   pub none : NoneUnsent s.setup.spots app.plan.nets s.unsent

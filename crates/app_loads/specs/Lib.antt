@@ -13,11 +13,13 @@ pub mod Counting
 pub mod Host
 pub mod Inner
 pub mod Joining
+pub mod Leaving
 pub mod Loading
 pub mod Marking
 pub mod Opening
 pub mod Plans
 pub mod Regions
+pub mod Removing
 pub mod Running
 pub mod Sending
 pub mod Taking

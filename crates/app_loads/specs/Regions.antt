@@ -1,5 +1,5 @@
 -- The regions of a machine, and which of their places are taken.
-use Rattle.std.specs.Prelude.{◌≡◌, ℕ, ◌+◌, ◌*◌, ◌==◌, Bool, true, not, ◌&&◌, nat_lt, nat_le, List, ◌∷◌, ◌++◌, length, replicate, Some, slice_get, if◌then◌else◌}
+use Rattle.std.specs.Prelude.{◌≡◌, ℕ, ◌+◌, ◌*◌, ◌<◌, ◌≤◌, ◌==◌, Bool, true, not, ◌&&◌, nat_lt, nat_le, List, ◌∷◌, ◌++◌, length, replicate, Some, slice_get, if◌then◌else◌}
 use Rattle.std.specs.List.{list_any}
 use Rattle.spin_base.specs.declared.chips.Chip.{Chip}
 use Rattle.machine_desc.specs.Description.{Description}
@@ -41,6 +41,12 @@ has_place region k range = (range.region == region) && in_range range.place rang
 -- whether one of the ranges has the place of the region
 abbrev pub is_taken : List Range → ℕ → ℕ → Bool
 is_taken ranges region k = list_any (has_place region k) ranges
+
+-- a range has at least one place, of a region that is there, and lies within it
+pub record IsWithin (m : Description) (regions : ℕ) (range : Range) : Type 0 where
+  pub there : range.region < regions
+  pub some : 0 < range.size
+  pub within : range.place + range.size ≤ region_size m range.region
 
 -- two ranges share no place
 abbrev pub AreApart : Range → Range → Type 0

@@ -7,7 +7,7 @@ use Rattle.app_loads.specs.declared.loaded.Range.{Range}
 use Rattle.app_loads.specs.declared.answers.LoadErr.{LoadErr}
 use Rattle.app_loads.specs.declared.answers.LoadErr.TheVariants.{Memory}
 use Rattle.app_loads.specs.Host.{Free}
-use Rattle.app_loads.specs.Regions.{AreFreeBeside, IsFreeBeside, AreApart, region_size}
+use Rattle.app_loads.specs.Regions.{AreFreeBeside, IsFreeBeside, IsWithin, AreApart, region_size}
 use Rattle.app_loads.specs.Claims.{AreFirstServed, AreServed, IsLeastOpen, IsRefused, IsRefusalDue}
 
 -- a region, but for the room that is made in its list of holes
@@ -33,12 +33,6 @@ pub record AreRegionsOf (m : Description) (regions : List Region) : Type 0 where
 -- the regions are those of a machine, for which the claims are fair
 abbrev pub CanServe : List Claim → List Region → Type 0
 CanServe claims regions = (m : Description) × AreRegionsOf m regions × All (IsFair m (length regions)) claims
-
--- a range has at least one place, of a region that is there, and lies within it
-pub record IsWithin (m : Description) (regions : ℕ) (range : Range) : Type 0 where
-  pub there : range.region < regions
-  pub some : 0 < range.size
-  pub within : range.place + range.size ≤ region_size m range.region
 
 -- the regions' lists of holes have room for so many more as there are ranges of each region
 abbrev pub HaveRoom : List Range → List Region → Type 0

@@ -1,23 +1,16 @@
 -- What unloading an application does to a host (this project's own).
-use Rattle.std.specs.Prelude.{◌≡◌, ℕ, ◌+◌, ◌≤◌, ◌<◌, ◌==◌, Bool, true, false, not, ◌&&◌, nat_le, nat_lt, Contains, Some, length, filter, slice_get}
+use Rattle.std.specs.Prelude.{◌≡◌, ℕ, ◌≤◌, ◌<◌, true, false, Contains, Some, filter, slice_get}
 use Rattle.spin_base.specs.declared.chips.Chip.{Chip}
-use Rattle.spin_base.specs.declared.copies.Delivery.{Delivery}
-use Rattle.spin_base.specs.declared.copies.DumpRec.{DumpRec}
 use Rattle.machine_desc.specs.Live.{IsInside}
 use Rattle.tcam_find.specs.Memory.{unused}
 use Rattle.net_tables.specs.RightTables.{table_at}
-use Rattle.mesh_core.specs.Ledger.{marks_of}
-use Rattle.mesh_core.specs.Trail.{Station, unsent, in_queue, in_hand, at_core, delivered, dumped, Mark}
 use Rattle.app_loads.specs.declared.answers.Ended.{Ended}
 use Rattle.app_loads.specs.declared.answers.UnloadErr.{UnloadErr}
 use Rattle.app_loads.specs.declared.answers.UnloadErr.TheVariants.{NotLoaded, Waiting, Memory}
 use Rattle.app_loads.specs.declared.loaded.LoadedApp.{LoadedApp}
 use Rattle.app_loads.specs.Host.{Host, is_loaded}
+use Rattle.app_loads.specs.Leaving.{is_delivery_of, is_record_of, others_than, mesh_without, WaitsIn}
 use Rattle.app_loads.specs.Regions.{rows_region, is_taken}
-
--- whether a packet number is one of the application's
-abbrev pub is_packet_of : LoadedApp → ℕ → Bool
-is_packet_of app i = nat_le app.first i && nat_lt i (app.first + length app.plan.packets)
 
 -- The host has the application of that number no more. Its deliveries and dump records left the mesh and were handed back, its
 -- entries are unused, and nothing else has changed.
@@ -25,32 +18,19 @@ pub record HasUnloaded (old : Host) (number : ℕ) (ended : Ended) (new : Host) 
   pub app : LoadedApp
   pub is : Contains old.apps app
   pub number_is : app.number ≡ number
-  pub apps : new.apps ≡ filter (λ (other : LoadedApp). not (other.number == number)) old.apps
-  pub delivered : ended.delivered ≡ filter (λ (d : Delivery). is_packet_of app d.copy.packet) old.mesh.delivered
-  pub dumped : ended.dumped ≡ filter (λ (r : DumpRec). is_packet_of app r.copy.packet) old.mesh.dumped
+  pub apps : new.apps ≡ others_than number old.apps
+  pub delivered : ended.delivered ≡ filter (is_delivery_of app) old.mesh.delivered
+  pub dumped : ended.dumped ≡ filter (is_record_of app) old.mesh.dumped
   pub packets : new.packets ≡ old.packets
-  pub mesh : new.mesh ≡ record old.mesh {
-    setup = record old.mesh.setup { tables = new.mesh.setup.tables };
-    delivered = filter (λ (d : Delivery). not (is_packet_of app d.copy.packet)) old.mesh.delivered;
-    dumped = filter (λ (r : DumpRec). not (is_packet_of app r.copy.packet)) old.mesh.dumped;
-  }
+  pub mesh : new.mesh ≡ mesh_without app new.mesh.setup.tables old.mesh
   pub entries : (c : Chip) (k : ℕ) → IsInside old.mesh.setup.machine c → k < 1024 → is_taken app.ranges (rows_region old.mesh.setup.machine c) k ≡ true →
       slice_get (table_at old.mesh.setup.machine new.mesh.setup.tables c) k ≡ Some unused
   pub tables : (c : Chip) (k : ℕ) → IsInside old.mesh.setup.machine c → is_taken app.ranges (rows_region old.mesh.setup.machine c) k ≡ false →
       slice_get (table_at old.mesh.setup.machine new.mesh.setup.tables c) k ≡ slice_get (table_at old.mesh.setup.machine old.mesh.setup.tables c) k
 
--- a copy at this station is unsent, or waits
-abbrev pub IsUnderWay : Station → Type 0
-IsUnderWay (unsent v) = Unit {0}
-IsUnderWay (in_queue c port) = Unit {0}
-IsUnderWay (in_hand c o) = Unit {0}
-IsUnderWay (at_core v) = Unit {0}
-IsUnderWay (delivered v) = ⊥
-IsUnderWay (dumped c o) = ⊥
-
 -- a copy of one of the application's packets, of this number, is unsent or waits
 abbrev pub WaitsFor : Host → LoadedApp → ℕ → Type 0
-WaitsFor h app packet = (is_packet_of app packet ≡ true) × ((k : Mark) × Contains (marks_of h.mesh) k × (k.copy.packet ≡ packet) × IsUnderWay k.station)
+WaitsFor h app packet = WaitsIn h.mesh app packet
 
 -- the packet is the one of the least number that keeps the application of that number from being unloaded
 pub record IsLeastWaiting (h : Host) (number packet : ℕ) : Type 0 where

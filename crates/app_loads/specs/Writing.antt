@@ -1,14 +1,16 @@
--- Rows put into ranges of entries, as the private functions say it.
-use Rattle.std.specs.Prelude.{◌≡◌, ℕ, ◌+◌, ◌<◌, ◌≤◌, false, List, AllPairs, Contains, Some, drop, length, map, slice_get, take}
+-- Rows put into ranges of entries, and taken out of them, as the private functions say it.
+use Rattle.std.specs.Prelude.{◌≡◌, ℕ, ◌+◌, ◌<◌, ◌≤◌, true, false, List, All, AllPairs, Contains, Some, drop, length, map, slice_get, take}
 use Rattle.spin_base.specs.declared.blocks.Entry.{Entry}
 use Rattle.spin_base.specs.declared.chips.Chip.{Chip}
 use Rattle.machine_desc.specs.Description.{Description}
 use Rattle.machine_desc.specs.Live.{index_of, IsInside}
+use Rattle.range_store.specs.Regions.{in_range}
 use Rattle.net_tables.specs.RightTables.{table_at}
+use Rattle.tcam_find.specs.Memory.{unused}
 use Rattle.tern_word.specs.Entries.{entry_of}
 use Rattle.tern_word.specs.declared.tables.Table.{Table}
 use Rattle.app_loads.specs.declared.loaded.Range.{Range}
-use Rattle.app_loads.specs.Regions.{AreApart, chip_count, is_taken, rows_region}
+use Rattle.app_loads.specs.Regions.{AreApart, IsWithin, chip_count, is_taken, rows_region}
 
 -- the range lies within the chip's table, and has as many places as the chip has rows
 abbrev pub Fits : Description → List Table → Range → Type 0
@@ -31,4 +33,23 @@ pub record AreCopied (m : Description) (rows : List Table) (ranges : List Range)
   pub long : (c : Chip) → IsInside m c → length (table_at m new c) ≡ 1024
   pub copied : (range : Range) → Contains ranges range → (c : Chip) (t : Table) → IsInside m c → range.region ≡ rows_region m c → slice_get rows (index_of m c) ≡ Some t →
       take range.size (drop range.place (table_at m new c)) ≡ map entry_of t.rows
+  pub others : (c : Chip) (k : ℕ) → IsInside m c → is_taken ranges (rows_region m c) k ≡ false → slice_get (table_at m new c) k ≡ slice_get (table_at m old c) k
+
+-- so many entries from a place on are unused, and all others as they were
+pub record AreUnusedFrom (first count : ℕ) (old new : List Entry) : Type 0 where
+  pub all : length new ≡ length old
+  pub cleared : (k : ℕ) → k < length old → in_range first count k ≡ true → slice_get new k ≡ Some unused
+  pub others : (k : ℕ) → in_range first count k ≡ false → slice_get new k ≡ slice_get old k
+
+-- there is a table for each chip, and the ranges lie within their regions
+pub record CanClear (m : Description) (tables : List (List Entry)) (ranges : List Range) : Type 0 where
+  pub tables_long : length tables ≡ chip_count m
+  pub each_long : (c : Chip) → IsInside m c → length (table_at m tables c) ≡ 1024
+  pub within : All (IsWithin m (1 + (chip_count m + chip_count m))) ranges
+
+-- the entries of the ranges are unused, and all others as they were
+pub record AreUnused (m : Description) (ranges : List Range) (old new : List (List Entry)) : Type 0 where
+  pub all : length new ≡ length old
+  pub long : (c : Chip) → IsInside m c → length (table_at m new c) ≡ 1024
+  pub cleared : (c : Chip) (k : ℕ) → IsInside m c → k < 1024 → is_taken ranges (rows_region m c) k ≡ true → slice_get (table_at m new c) k ≡ Some unused
   pub others : (c : Chip) (k : ℕ) → IsInside m c → is_taken ranges (rows_region m c) k ≡ false → slice_get (table_at m new c) k ≡ slice_get (table_at m old c) k

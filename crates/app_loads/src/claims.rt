@@ -21,14 +21,19 @@ use std::alloc::Global;
 // The region of all keys.
 const KEYS: usize = 0;
 
+// How many keys there are: those of 32 bits.
+pub const ALL_KEYS: u64 = 4_294_967_296;
+
+// So many spots, or nets, have no place in memory.
+const TOO_MANY: usize = 4_294_967_296;
+
 // The claims of a plan, in the order in which they are served: memory vertex by vertex, the fixed blocks of its nets, the blocks of
 // its other nets, and entries chip by chip.
 pub fn claims_of(alloc: Global, machine: &Machine, plan: &AppPlan) -> Result<Vec<Claim>, Memory>
     requires { IsPlan machine.now plan.now }
     ensures { IfOk result (λ claims. claims.items ≡ claims_of machine.now plan.now) }
 {
-    // So many spots, or nets, have no place in memory.
-    if plan.spots.len() >= 4_294_967_296 {
+    if plan.spots.len() >= TOO_MANY {
         return Err(Memory);
     }
     let mut claims = Vec::new(alloc);
@@ -103,7 +108,7 @@ fn push_fixed(claims: &mut Vec<Claim>, net: u32, fixed: Option<Block>) -> Result
     if let Some(block) = fixed {
         claims.push(Claim {
             region: KEYS,
-            size: 4_294_967_296 - u64::from(block.mask),
+            size: ALL_KEYS - u64::from(block.mask),
             align: 1,
             fixed: Some(u64::from(block.key)),
             refusal: LoadErr::KeysOut { net },

@@ -1,15 +1,16 @@
-//! Applications that share one machine: each is loaded by its number, alone.
+//! Applications that share one machine: each is loaded and unloaded by its number, alone.
 //!
 //! `Apps` has a mesh with a vertex on each usable core of a machine, and regions of keys, of each chip's shared memory and of each
-//! chip's table entries. An application gets ranges of them when it is loaded. (Unloading is defined, and not built yet.) Its
-//! rows are plain, so that none takes a key that another leaves to default routing. Regions, numbers and refusals are this project's
-//! own; routers and tables those of the SpiNNaker datasheet.
+//! chip's table entries. An application gets ranges of them when it is loaded, and leaves them, with all that is its own, when it
+//! is unloaded. Its rows are plain, so that none takes a key that another leaves to default routing. Regions, numbers and refusals
+//! are this project's own; routers and tables those of the SpiNNaker datasheet.
 #![tactic(auto)]
 
 mod answers;
 mod apps;
 mod claims;
 mod drains;
+mod leaving;
 mod loaded;
 mod loads;
 mod opening;
@@ -18,9 +19,13 @@ mod regions;
 mod rows;
 mod sends;
 mod steps;
+mod unloads;
 mod waiting;
 
 pub use answers::{Ended, LoadErr, UnloadErr};
 pub use apps::Apps;
 pub use loaded::{Claim, LoadedApp, Range};
 pub use plans::{AppNet, AppPlan};
+
+#[cfg(test)]
+mod tests;

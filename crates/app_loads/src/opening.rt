@@ -6,6 +6,7 @@ ghost use Rattle.app_loads.specs.Opening.{spot_of, usable_spots, bare_mesh};
 ghost use Rattle.app_loads.specs.Regions.{all_free, open_regions};
 ghost use Rattle.app_loads.specs.Taking.{free_of};
 
+use crate::claims::ALL_KEYS;
 use machine_desc::Machine;
 use mesh_core::Mesh;
 use range_store::Ranges;
@@ -15,6 +16,9 @@ use tcam_find::Tcam;
 
 // How many cores of a chip can be usable: 1 to 17.
 const CORES: u32 = 17;
+
+// How many entries a router's table has.
+const ENTRIES: u64 = 1024;
 
 // The mesh with a vertex on each usable core, without a copy.
 pub fn bare_mesh(alloc: Global, machine: &Machine, queue: u32) -> Result<Mesh, Memory>
@@ -77,14 +81,14 @@ pub fn open_regions(alloc: Global, machine: &Machine) -> Result<Vec<Ranges>, Mem
     ensures { IfOk result (λ regions. map free_of regions.items ≡ open_regions machine.now) }
 {
     let mut regions = Vec::new(alloc);
-    regions.push(Ranges::new(alloc, 4_294_967_296)?)?;
+    regions.push(Ranges::new(alloc, ALL_KEYS)?)?;
     push_regions(
         alloc,
         &mut regions,
         machine.chips(),
         u64::from(machine.sdram()),
     )?;
-    push_regions(alloc, &mut regions, machine.chips(), 1024)?;
+    push_regions(alloc, &mut regions, machine.chips(), ENTRIES)?;
     Ok(regions)
 }
 

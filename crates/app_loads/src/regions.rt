@@ -1,6 +1,6 @@
 // Ranges taken from the regions, and given back.
 ghost use Rattle.std.specs.Prelude.{vec_capacity};
-ghost use Rattle.std.specs.Prelude.{◌≡◌, ◌⊎◌, ℕ, List, ◌+◌, ◌*◌, ◌%◌, ◌<◌, ◌≤◌, ◌∷◌, ◌++◌, ◌&&◌, not, [], All, AllPairs, IfOk, IfErr, IfSome, IfNone, OnOk, OnErr, length, slice_get, slice_set, Some, true, false};
+ghost use Rattle.std.specs.Prelude.{◌≡◌, ◌⊎◌, ℕ, List, ◌+◌, ◌*◌, ◌%◌, ◌<◌, ◌≤◌, ◌∷◌, ◌++◌, ◌&&◌, not, [], All, AllPairs, IfOk, IfErr, IfSome, IfNone, OnOk, OnErr, length, replicate, slice_get, slice_set, Some, true, false};
 ghost use Rattle.machine_desc.specs.Description.{Description};
 ghost use Rattle.range_store.specs.Regions.{AreRuns, is_free, is_hole_range, in_range};
 ghost use Rattle.app_loads.specs.declared.loaded.Range.{Range as ARange};
@@ -13,6 +13,9 @@ use crate::loaded::{Claim, Range};
 use range_store::Ranges;
 use spin_base::Memory;
 use std::alloc::Global;
+
+// No more ranges than these are held of a region: so many have no place in memory.
+const MOST_HELD: u32 = 4_000_000_000;
 
 // Serves the claims in order. At the first that cannot be served all is given back.
 pub fn take_all(
@@ -77,8 +80,7 @@ fn take_claim(region: &mut Ranges, claim: &Claim, held: usize) -> Result<u64, Lo
     ensures room { OnOk result (held + 1 ≤ region.new.spare) }
     ensures room_stays { OnErr result ((n : ℕ) → n ≤ held → n ≤ region.old.spare → n ≤ region.new.spare) }
 {
-    // So many claims have no place in memory.
-    if held >= 4_000_000_000 {
+    if held >= MOST_HELD as usize {
         return Err(LoadErr::Memory);
     }
     match take_with_room(region, claim, held as u32 + 2) {
@@ -124,6 +126,39 @@ fn take_fixed(region: &mut Ranges, place: u64, size: u64) -> Result<Option<u64>,
     } else {
         Ok(None)
     }
+}
+
+// Makes room in each region to give back those of the ranges that are its own. What is free stays as it is.
+pub fn make_room(alloc: Global, regions: &mut [Ranges], ranges: &[Range]) -> Result<(), Memory>
+    requires { All (λ (range : ARange). range.region < length regions.old) ranges.now }
+    ensures room { OnOk result (HaveRoom ranges.now regions.new) }
+    ensures same { frees regions.new ≡ frees regions.old }
+{
+    let mut counts = vec![in alloc; 0u32; regions.len()]?;
+    make_room_for_each(regions, &mut counts, ranges)
+}
+
+// Makes it, and counts the ranges of each region.
+fn make_room_for_each(
+    regions: &mut [Ranges],
+    counts: &mut [u32],
+    ranges: &[Range],
+) -> Result<(), Memory>
+    requires there { All (λ (range : ARange). range.region < length regions.old) ranges.now }
+    requires none { counts.old ≡ replicate (length regions.old) 0 }
+    ensures room { OnOk result (HaveRoom ranges.now regions.new) }
+    ensures same { frees regions.new ≡ frees regions.old }
+{
+    for range in ranges {
+        let at = range.region;
+        let count = counts[at];
+        if count >= MOST_HELD {
+            return Err(Memory);
+        }
+        counts[at] = count + 1;
+        regions[at].reserve(count + 1)?;
+    }
+    Ok(())
 }
 
 // Gives ranges back, for which room was made.

@@ -1,17 +1,18 @@
 // The plain rows of an application, and their ranges in the tables.
 ghost use Rattle.std.specs.Prelude.{◌≡◌, ◌+◌, ◌*◌, ◌<◌, ◌≤◌, ◌++◌, All, IfOk, drop, length, map, take};
 ghost use Rattle.net_tables.specs.declared.nets.NetPlan.{NetPlan as Plan};
+ghost use Rattle.tcam_find.specs.Memory.{unused};
 ghost use Rattle.tern_word.specs.Entries.{entry_of};
 ghost use Rattle.plain_tables.specs.PlainTable.{AreRouted, AtEach, IsPlainTable};
 ghost use Rattle.app_loads.specs.Host.{net_with, nets_of};
-ghost use Rattle.app_loads.specs.Writing.{AreCopied, CanCopy};
+ghost use Rattle.app_loads.specs.Writing.{AreCopied, AreUnused, AreUnusedFrom, CanClear, CanCopy};
 
 use crate::loaded::{LoadedApp, Range};
 use crate::plans::AppNet;
 use machine_desc::Machine;
 use net_tables::NetPlan;
 use plain_tables::plain_tables;
-use spin_base::{Block, Memory, Seq};
+use spin_base::{Block, Entry, Memory, Route, Seq};
 use std::alloc::Global;
 use tcam_find::Tcam;
 use tern_word::{Row, Table};
@@ -84,5 +85,44 @@ fn put_rows(table: &mut Tcam, first: u32, rows: &[Row])
 {
     for (at, row) in rows.iter().enumerate() {
         table.set(first + at as u32, row.entry());
+    }
+}
+
+// Makes the entries of the ranges unused.
+pub fn clear_rows(machine: &Machine, tables: &mut [Tcam], ranges: &[Range])
+    requires { CanClear machine.now tables.old ranges.now }
+    ensures { AreUnused machine.now ranges.now tables.old tables.new }
+{
+    let chips = machine.chips();
+    for range in ranges {
+        if range.region > chips {
+            clear_entries(
+                &mut tables[range.region - 1 - chips],
+                range.place as u32,
+                range.size as u32,
+            );
+        }
+    }
+}
+
+// Makes so many entries unused, from a place on.
+fn clear_entries(table: &mut Tcam, first: u32, count: u32)
+    requires size { length table.old ≡ 1024 }
+    requires fits { first + count ≤ 1024 }
+    ensures { AreUnusedFrom first count table.old table.new }
+{
+    for at in 0..count {
+        table.set(first + at, unused());
+    }
+}
+
+// An entry that no key matches.
+fn unused() -> Entry
+    ensures { result ≡ unused }
+{
+    Entry {
+        key: u32::MAX,
+        mask: 0,
+        route: Route::nothing(),
     }
 }

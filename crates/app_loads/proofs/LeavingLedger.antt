@@ -1,0 +1,329 @@
+-- The ledger of a mesh without the deliveries and dump records of an application of which no packet is under way.
+use Rattle.std.proofs.Common.{◌≡◌, ◌≢◌, ℕ, ◌+◌, ◌-◌, ◌/◌, ◌%◌, ◌<◌, ◌≤◌, ◌==◌, ◌&&◌, leb, ltb, Bool, true, false, not, cond, List, [], ◌∷◌, ◌++◌, length, refl, sym, ap, ◌∙◌, subst, inl, inr, ◌⊎◌, arith, Option, None, Some, if◌then◌else◌, IsTrue, count_by}
+use Rattle.std.specs.List.{filter, All, AllPairs, Contains}
+use Rattle.std.proofs.lemmas.Bool.{cases_Bool, cases_lt, and_from}
+use Rattle.std.proofs.lemmas.Bool.Decides.{nat_tests}
+use Rattle.std.proofs.lemmas.List.Elements.{filter-append, Contains-append_left, Contains-append_right}
+use Rattle.std.proofs.lemmas.Option.{slice_get_past}
+use Rattle.list_laws.proofs.Members.{Among, among_contains, among_left, among_right, among_map, Contains-first, Contains-later, Contains-from_filter, Contains-filter}
+use Rattle.list_laws.proofs.Gathering.{among_gathered}
+use Rattle.spin_base.specs.declared.blocks.Entry.{Entry}
+use Rattle.spin_base.specs.declared.chips.Spot.{Spot}
+use Rattle.spin_base.specs.declared.copies.McCopy.{McCopy}
+use Rattle.spin_base.specs.declared.copies.Delivery.{Delivery}
+use Rattle.spin_base.specs.declared.copies.DumpRec.{DumpRec}
+use Rattle.machine_desc.specs.Description.{Description}
+use Rattle.machine_desc.specs.Live.{chip_of}
+use Rattle.machine_desc.specs.Branch.{Exit}
+use Rattle.machine_desc.specs.RoutingTree.{IsRoutingTree}
+use Rattle.net_tables.specs.declared.nets.NetPlan.{NetPlan}
+use Rattle.net_tables.specs.RightTables.{IsKeyOf}
+use Rattle.net_tables.specs.NetsOn.{AreNetsOn, IsWayOn}
+use Rattle.mesh_core.specs.State.{State, Held}
+use Rattle.mesh_core.specs.Trail.{Station, unsent, in_queue, in_hand, at_core, delivered, dumped, Mark, is_on_trail, is_packet_on_trail}
+use Rattle.mesh_core.specs.Ledger.{marks_of, marked, hand_marks, port_of, unsent_marks, input_marks, all_hand_marks, core_marks, delivered_marks, dumped_marks, Asked, label_of, MeetsLedgerFor}
+use Rattle.mesh_core.specs.Opened.{asked_at, asked_by}
+use Rattle.mesh_core.proofs.AskedPackets.{asked_parts, net_in_list}
+use Rattle.mesh_core.proofs.LedgerLaw.{one_net}
+use Rattle.mesh_core.proofs.Moves.{mark}
+use Rattle.app_loads.specs.declared.loaded.LoadedApp.{LoadedApp}
+use Rattle.app_loads.specs.Host.{Host, all_nets, asked_of, asked_of_app, either, nets_of}
+use Rattle.app_loads.specs.Applications.{AreApps, HaveOtherNumbers}
+use Rattle.app_loads.specs.Leaving.{is_packet_of, IsUnderWay, NoneUnderWay, others_than, mesh_without}
+use Rattle.app_loads.proofs.Ledgers.{own_net}
+use Rattle.app_loads.proofs.LeavingLists.{filter_stays, filter_of_map, count_of_filter, flat_contains, flat_all, flat_pairs, either_pair}
+
+-- a test and its opposite
+opposite_false : (b : Bool) → (b ≡ true → ⊥) → not b ≡ true
+opposite_false true never = absurd (never refl)
+opposite_false false never = refl
+
+opposite_of : (b : Bool) → not b ≡ true → b ≡ false
+opposite_of true e = cc
+opposite_of false e = refl
+
+-- ---- marks
+
+-- the marks at these stations are under way
+module _ (s : State) where
+  under_way_by : (k : Mark) (c : McCopy) (at : Station) → IsUnderWay at → k ≡ mark c at → IsUnderWay k.station
+  under_way_by k c at under is = subst (λ (m : Mark). IsUnderWay m.station) (sym is) under
+
+  pub unsent_under_way : (k : Mark) → Among k (unsent_marks s) → IsUnderWay k.station
+  unsent_under_way k a =
+      let at = among_gathered (λ v (q : List McCopy). marked (unsent v) q) k s.unsent a in
+      let m = among_map (λ (c : McCopy). mark c (unsent at.0)) k at.1 at.3 in
+      under_way_by k m.0 (unsent at.0) tt m.2
+
+  pub inputs_under_way : (k : Mark) → Among k (input_marks s) → IsUnderWay k.station
+  inputs_under_way k a =
+      let at = among_gathered (λ i (q : List McCopy). marked (in_queue (chip_of s.setup.machine (i / 7)) (port_of (i % 7))) q) k s.inputs a in
+      let place : Station = in_queue (chip_of s.setup.machine (at.0 / 7)) (port_of (at.0 % 7)) in
+      let m = among_map (λ (c : McCopy). mark c place) k at.1 at.3 in
+      under_way_by k m.0 place tt m.2
+
+  pub hands_under_way : (k : Mark) → Among k (all_hand_marks s) → IsUnderWay k.station
+  hands_under_way k a =
+      let at = among_gathered (λ i (h : Option Held). hand_marks (chip_of s.setup.machine i) h) k s.hands a in
+      of_hand at.0 at.1 at.3
+    where
+      of_hand : (i : ℕ) (h : Option Held) → Among k (hand_marks (chip_of s.setup.machine i) h) → IsUnderWay k.station
+      of_hand i (Some h) b =
+          let m = among_map (λ o. mark h.copy (in_hand (chip_of s.setup.machine i) o)) k h.outs b in
+          under_way_by k h.copy (in_hand (chip_of s.setup.machine i) m.0) tt m.2
+      of_hand i None b = absurd b
+
+  pub cores_under_way : (k : Mark) → Among k (core_marks s) → IsUnderWay k.station
+  cores_under_way k a =
+      let at = among_gathered (λ v (q : List McCopy). marked (at_core v) q) k s.cores a in
+      let m = among_map (λ (c : McCopy). mark c (at_core at.0)) k at.1 at.3 in
+      under_way_by k m.0 (at_core at.0) tt m.2
+
+-- whether a mark is of no packet of the application
+abbrev is_of_other : LoadedApp → Mark → Bool
+is_of_other app k = not (is_packet_of app k.copy.packet)
+
+module _ (app : LoadedApp) (tables : List (List Entry)) (s : State) (none : NoneUnderWay s app) where
+  -- a part of the marks that are under way stays as it is
+  part_stays : (part rest : List Mark) → ((k : Mark) → Among k part → IsUnderWay k.station) → ((k : Mark) → Among k part → Among k (marks_of s)) →
+      filter (is_of_other app) (part ++ rest) ≡ part ++ filter (is_of_other app) rest
+  part_stays part rest under within =
+      filter-append (is_of_other app) part rest
+      ∙ ap (λ l. l ++ filter (is_of_other app) rest) (filter_stays (is_of_other app) part (λ k a.
+      opposite_false (is_packet_of app k.copy.packet) (λ is. none k.copy.packet (is, (k, among_contains k (marks_of s) (within k a), refl, under k a)))))
+
+  abbrev ended : List Mark
+  ended = delivered_marks s ++ dumped_marks s
+
+  abbrev from_cores : List Mark
+  from_cores = core_marks s ++ ended
+
+  abbrev from_hands : List Mark
+  from_hands = all_hand_marks s ++ from_cores
+
+  abbrev from_inputs : List Mark
+  from_inputs = input_marks s ++ from_hands
+
+  -- the marks that are left are those of other packets
+  pub marks_without : marks_of (mesh_without app tables s) ≡ filter (is_of_other app) (marks_of s)
+  marks_without = sym (
+      part_stays (unsent_marks s) from_inputs (unsent_under_way s) (λ k a. among_left k (unsent_marks s) from_inputs a)
+      ∙ (ap (λ l. unsent_marks s ++ l) (part_stays (input_marks s) from_hands (inputs_under_way s) (λ k a. after_unsent k (among_left k (input_marks s) from_hands a)))
+      ∙ (ap (λ l. unsent_marks s ++ (input_marks s ++ l)) (part_stays (all_hand_marks s) from_cores (hands_under_way s) (λ k a. after_inputs k (among_left k (all_hand_marks s) from_cores a)))
+      ∙ (ap (λ l. unsent_marks s ++ (input_marks s ++ (all_hand_marks s ++ l))) (part_stays (core_marks s) ended (cores_under_way s) (λ k a. after_hands k (among_left k (core_marks s) ended a)))
+      ∙ ap (λ l. unsent_marks s ++ (input_marks s ++ (all_hand_marks s ++ (core_marks s ++ l)))) ended_left))))
+    where
+      after_unsent : (k : Mark) → Among k from_inputs → Among k (marks_of s)
+      after_unsent k a = among_right k (unsent_marks s) from_inputs a
+
+      after_inputs : (k : Mark) → Among k from_hands → Among k (marks_of s)
+      after_inputs k a = after_unsent k (among_right k (input_marks s) from_hands a)
+
+      after_hands : (k : Mark) → Among k from_cores → Among k (marks_of s)
+      after_hands k a = after_inputs k (among_right k (all_hand_marks s) from_cores a)
+
+      ended_left : filter (is_of_other app) ended ≡ delivered_marks (mesh_without app tables s) ++ dumped_marks (mesh_without app tables s)
+      ended_left =
+          filter-append (is_of_other app) (delivered_marks s) (dumped_marks s)
+          ∙ (ap (λ l. l ++ filter (is_of_other app) (dumped_marks s)) (filter_of_map (is_of_other app) (λ (d : Delivery). mark d.copy (delivered d.vertex)) s.delivered)
+          ∙ ap (λ l. delivered_marks (mesh_without app tables s) ++ l) (filter_of_map (is_of_other app) (λ (r : DumpRec). mark r.copy (dumped r.chip r.out)) s.dumped))
+
+-- ---- the ledger of fewer packets
+
+module _ (app : LoadedApp) (tables : List (List Entry)) (s : State) (none : NoneUnderWay s app) (nets fewer : List NetPlan) (asked less : ℕ → Option Asked)
+    (stand : AreNetsOn s.setup.machine s.setup.spots fewer) (within : (x : NetPlan) → Contains fewer x → Contains nets x)
+    (same : (i : ℕ) → is_packet_of app i ≡ false → less i ≡ asked i) (no_more : (i : ℕ) → is_packet_of app i ≡ true → less i ≡ None)
+    (net_of : (i : ℕ) (a : Asked) → less i ≡ Some a → Contains fewer a.net) (l : MeetsLedgerFor s nets asked) where
+  abbrev t : State
+  t = mesh_without app tables s
+
+  -- a mark that is left was there, and is of another packet
+  was : (k : Mark) → Contains (marks_of t) k → Contains (marks_of s) k × (is_packet_of app k.copy.packet ≡ false)
+  was k has =
+      let old = Contains-from_filter (is_of_other app) (marks_of s) k (subst (λ m. Contains m k) (marks_without app tables s none) has) in
+      (old.0, opposite_of (is_packet_of app k.copy.packet) old.1)
+
+  -- what is still asked for is of another packet
+  of_other : (i : ℕ) (a : Asked) → less i ≡ Some a → is_packet_of app i ≡ false
+  of_other i a e = by_test (is_packet_of app i) refl
+    where
+      by_test : (b : Bool) → is_packet_of app i ≡ b → is_packet_of app i ≡ false
+      by_test true is = let gone : less i ≡ None = no_more i is in cc
+      by_test false is = is
+
+  asked_before : (i : ℕ) (a : Asked) → less i ≡ Some a → asked i ≡ Some a
+  asked_before i a e = sym (same i (of_other i a e)) ∙ e
+
+  pub fewer_packets : MeetsLedgerFor t fewer less
+  fewer_packets = record {
+    ledger = record {
+      nets_stand = stand;
+      labelled = labelled';
+      on_a_trail = on_a_trail';
+      once_on_each = once';
+    };
+    of_its_net = λ i a e. (net_of i a e, (l.of_its_net i a (asked_before i a e)).1);
+    was_asked = λ k has. let old = was k has in let a = l.was_asked k old.0 in (a.0, same k.copy.packet old.1 ∙ a.1);
+    each_asked = each_asked';
+  }
+    where
+      labelled' : (k : Mark) → Contains (marks_of t) k → (k.copy.key ≡ (label_of (less k.copy.packet)).key) × (k.copy.payload ≡ (label_of (less k.copy.packet)).payload)
+      labelled' k has =
+          let old = was k has in
+          let e = sym (same k.copy.packet old.1) in
+          let w = l.ledger.labelled k old.0 in
+          (w.0 ∙ ap (λ o. (label_of o).key) e, w.1 ∙ ap (λ o. (label_of o).payload) e)
+
+      on_a_trail' : (k : Mark) → Contains (marks_of t) k → (net : NetPlan) × Contains fewer net × IsKeyOf net.block k.copy.key ×
+          ((d : Spot) × (branch : List Exit) × (from : ℕ) × (to : ℕ) × IsWayOn s.setup.machine s.setup.spots net d branch from to × IsTrue (is_on_trail from to branch k))
+      on_a_trail' k has =
+          let old = was k has in
+          let on = l.ledger.on_a_trail k old.0 in
+          let own = own_net s nets asked l k old.0 in
+          let one : own.0.net ≡ on.0 = one_net nets l.ledger.nets_stand.disjoint own.0.net on.0 own.2 on.1 k.copy.key own.3 on.2 in
+          (on.0, subst (Contains fewer) one (net_of k.copy.packet own.0 (same k.copy.packet old.1 ∙ own.1)), on.2, on.3)
+
+      once' : (k : Mark) → Contains (marks_of t) k → (net : NetPlan) → Contains fewer net → IsKeyOf net.block k.copy.key →
+          (d : Spot) (branch : List Exit) (from to : ℕ) → IsWayOn s.setup.machine s.setup.spots net d branch from to →
+          count_by (is_packet_on_trail k.copy.packet from to branch) (marks_of t) ≡ 1
+      once' k has net in_nets key d branch from to way =
+          let old = was k has in
+          ap (count_by (is_packet_on_trail k.copy.packet from to branch)) (marks_without app tables s none)
+          ∙ (count_of_filter (is_packet_on_trail k.copy.packet from to branch) (is_of_other app) (marks_of s) (λ m passes. other m (first_holds (m.copy.packet == k.copy.packet) (is_on_trail from to branch m) passes) old.1)
+          ∙ l.ledger.once_on_each k old.0 net (within net in_nets) key d branch from to way)
+        where
+          first_holds : (b c : Bool) → (b && c) ≡ true → b ≡ true
+          first_holds true c e = refl
+          first_holds false c e = cc
+
+          equal_numbers : (m n : ℕ) → (m == n) ≡ true → m ≡ n
+          equal_numbers m n e = grind (arith, nat_tests)
+
+          other : (m : Mark) → (m.copy.packet == k.copy.packet) ≡ true → is_packet_of app k.copy.packet ≡ false → is_of_other app m ≡ true
+          other m e is = ap (λ i. not (is_packet_of app i)) (equal_numbers m.copy.packet k.copy.packet e) ∙ ap not is
+
+      each_asked' : (i : ℕ) (a : Asked) → less i ≡ Some a → (k : Mark) × Contains (marks_of t) k × (k.copy.packet ≡ i)
+      each_asked' i a e =
+          let old = l.each_asked i a (asked_before i a e) in
+          let is : is_of_other app old.0 ≡ true = ap (λ j. not (is_packet_of app j)) old.2 ∙ ap not (of_other i a e) in
+          (old.0, subst (λ m. Contains m old.0) (sym (marks_without app tables s none)) (Contains-filter (is_of_other app) (marks_of s) old.0 old.1 is), old.2)
+
+-- ---- the packets of the other applications
+
+le_false : (a b : ℕ) → leb a b ≡ false → b < a
+le_false a b e = grind (arith, nat_tests)
+
+le_true : (a b : ℕ) → leb a b ≡ true → a ≤ b
+le_true a b e = grind (arith, nat_tests)
+
+lt_true : (a b : ℕ) → a < b → ltb a b ≡ true
+lt_true a b lt = grind (arith, nat_tests)
+
+lt_of : (a b : ℕ) → ltb a b ≡ true → a < b
+lt_of a b e = grind (arith, nat_tests)
+
+-- an application asks for no packet of another number
+pub none_of_app : (app : LoadedApp) (i : ℕ) → is_packet_of app i ≡ false → asked_of_app app i ≡ None
+none_of_app app i other = by_first (leb app.first i) refl
+  where
+    by_first : (b : Bool) → leb app.first i ≡ b → (if b then asked_by (nets_of app) app.plan.packets (i - app.first) else None) ≡ None
+    by_first false e = refl
+    by_first true e = elim (cases_lt i (app.first + length app.plan.packets)) [
+      | inl below ↦ (let is : is_packet_of app i ≡ true = and_from (leb app.first i) (ltb i (app.first + length app.plan.packets)) e (lt_true i (app.first + length app.plan.packets) below) in cc)
+      | inr past ↦ (let from = le_true app.first i e in ap (asked_at (nets_of app)) (slice_get_past app.plan.packets (i - app.first) (omega (arith, past, from))))
+    ]
+
+none_of_all : (i : ℕ) (apps : List LoadedApp) → ((b : LoadedApp) → Contains apps b → asked_of_app b i ≡ None) → asked_of apps i ≡ None
+none_of_all i [] none = refl
+none_of_all i (b ∷ apps) none =
+    ap (λ o. either o (asked_of apps i)) (none b (Contains-first b apps)) ∙ none_of_all i apps (λ c has. none c (Contains-later b apps c has))
+
+-- the others ask for the same, where the one that leaves asks for nothing
+same_of_others : (n i : ℕ) (apps : List LoadedApp) → ((b : LoadedApp) → Contains apps b → (b.number == n) ≡ true → asked_of_app b i ≡ None) →
+    asked_of (others_than n apps) i ≡ asked_of apps i
+same_of_others n i [] none = refl
+same_of_others n i (b ∷ apps) none = by_test (b.number == n) refl (same_of_others n i apps (λ c has. none c (Contains-later b apps c has)))
+  where
+    by_test : (t : Bool) → (b.number == n) ≡ t → asked_of (others_than n apps) i ≡ asked_of apps i →
+        asked_of (cond (not t) (b ∷ others_than n apps) (others_than n apps)) i ≡ either (asked_of_app b i) (asked_of apps i)
+    by_test true is e = e ∙ sym (ap (λ o. either o (asked_of apps i)) (none b (Contains-first b apps) is))
+    by_test false is e = ap (either (asked_of_app b i)) e
+
+-- what is asked for is of a net of one of the applications
+pub net_of_asked : (apps : List LoadedApp) (i : ℕ) (a : Asked) → asked_of apps i ≡ Some a → Contains (all_nets apps) a.net
+net_of_asked [] i a e = cc
+net_of_asked (b ∷ apps) i a e = by_first (asked_of_app b i) refl e (net_of_asked apps i a)
+  where
+    own : (leb b.first i ≡ true) ⊎ (leb b.first i ≡ false) → asked_of_app b i ≡ Some a → Contains (nets_of b) a.net
+    own (inl from) is =
+        let parts = asked_parts (nets_of b) b.plan.packets (i - b.first) a (sym (ap (λ t. if t then asked_by (nets_of b) b.plan.packets (i - b.first) else None) from) ∙ is) in
+        subst (λ (c : Asked). Contains (nets_of b) c.net) (sym parts.is_asked) (net_in_list (nets_of b) parts.packet parts.net parts.is_net)
+    own (inr before) is = let never : asked_of_app b i ≡ None = ap (λ t. if t then asked_by (nets_of b) b.plan.packets (i - b.first) else None) before in cc
+
+    by_first : (o : Option Asked) → asked_of_app b i ≡ o → either o (asked_of apps i) ≡ Some a → (asked_of apps i ≡ Some a → Contains (all_nets apps) a.net) → Contains (all_nets (b ∷ apps)) a.net
+    by_first (Some c) is e' rest = Contains-append_left (nets_of b) (all_nets apps) a.net (own (cases_Bool (leb b.first i)) (is ∙ e'))
+    by_first None is e' rest = Contains-append_right (nets_of b) (all_nets apps) a.net (rest e')
+
+-- ---- the ledger without an application
+
+module _ (h : Host) (app : LoadedApp) (apps : AreApps h) (has : Contains h.apps app) where
+  -- an application of the same number is the same one
+  pub same_app : (b : LoadedApp) → Contains h.apps b → (b.number == app.number) ≡ true → b ≡ app
+  same_app b in_b same = elim (either_pair (λ (x y : LoadedApp). x.number ≢ y.number) h.apps b app apps.numbers in_b has) [
+    | inl one ↦ one
+    | inr (inl differ) ↦ absurd (differ (equal_numbers b.number app.number same))
+    | inr (inr differ) ↦ absurd (differ (sym (equal_numbers b.number app.number same)))
+  ]
+    where
+      equal_numbers : (m n : ℕ) → (m == n) ≡ true → m ≡ n
+      equal_numbers m n e = grind (arith, nat_tests)
+
+  -- no other application has the packets of this one
+  pub of_no_other : (b : LoadedApp) → Contains (others_than app.number h.apps) b → (i : ℕ) → is_packet_of app i ≡ true → is_packet_of b i ≡ false
+  of_no_other b in_b i is =
+      let kept = Contains-from_filter (λ (other : LoadedApp). not (other.number == app.number)) h.apps b in_b in
+      elim (either_pair HaveOtherNumbers h.apps b app apps.ascending kept.0 has) [
+        | inl one ↦ absurd (let off : (b.number == app.number) ≡ false = opposite_of (b.number == app.number) kept.1 in let on : (b.number == app.number) ≡ true = ap (λ (x : LoadedApp). x.number == app.number) one ∙ itself app.number in cc)
+        | inr (inl before) ↦ (let in_app = bounds app i is in grind (arith, nat_tests, before, in_app))
+        | inr (inr after) ↦ (let in_app = bounds app i is in grind (arith, nat_tests, after, in_app))
+      ]
+    where
+      itself : (n : ℕ) → (n == n) ≡ true
+      itself n = grind arith
+
+      bounds : (x : LoadedApp) (j : ℕ) → is_packet_of x j ≡ true → (x.first ≤ j) × (j < x.first + length x.plan.packets)
+      bounds x j e = by_tests (leb x.first j) (ltb j (x.first + length x.plan.packets)) refl refl e
+        where
+          by_tests : (p q : Bool) → leb x.first j ≡ p → ltb j (x.first + length x.plan.packets) ≡ q → (p && q) ≡ true → (x.first ≤ j) × (j < x.first + length x.plan.packets)
+          by_tests true true p-is q-is e' = (le_true x.first j p-is, lt_of j (x.first + length x.plan.packets) q-is)
+          by_tests true false p-is q-is e' = cc
+          by_tests false q p-is q-is e' = cc
+
+  -- the nets of the others still stand on the machine
+  pub others_stand : (m : Description) (spots : List Spot) → AreNetsOn m spots (all_nets h.apps) → AreNetsOn m spots (all_nets (others_than app.number h.apps))
+  others_stand m spots stand = record {
+    disjoint = flat_pairs nets_of stays (λ (a b : NetPlan). (key : ℕ) → IsKeyOf a.block key → IsKeyOf b.block key → ⊥) h.apps stand.disjoint;
+    trees = fewer (λ (x : NetPlan). IsRoutingTree m x.tree.root x.tree.edges x.targets) stand.trees;
+    roots = fewer (λ (x : NetPlan). x.tree.root ≡ x.source.chip) stand.roots;
+    sources = fewer (λ (x : NetPlan). Contains spots x.source) stand.sources;
+    targets = fewer (λ (x : NetPlan). All (Contains spots) x.targets) stand.targets;
+    different = fewer (λ (x : NetPlan). AllPairs (λ a b. a ≢ b) x.targets) stand.different;
+  }
+    where
+      stays : LoadedApp → Bool
+      stays other = not (other.number == app.number)
+
+      fewer : (P : NetPlan → Type 0) → All P (all_nets h.apps) → All P (all_nets (others_than app.number h.apps))
+      fewer P all = flat_all nets_of stays P h.apps all
+
+-- The ledger holds of the other applications, on the mesh without what the application leaves, whatever the tables.
+pub the_ledger_without : (h : Host) (app : LoadedApp) (tables : List (List Entry)) → AreApps h → Contains h.apps app → NoneUnderWay h.mesh app →
+    MeetsLedgerFor (mesh_without app tables h.mesh) (all_nets (others_than app.number h.apps)) (asked_of (others_than app.number h.apps))
+the_ledger_without h app tables apps has none =
+    fewer_packets app tables h.mesh none (all_nets h.apps) (all_nets (others_than app.number h.apps)) (asked_of h.apps) (asked_of (others_than app.number h.apps))
+    (others_stand h app apps has h.mesh.setup.machine h.mesh.setup.spots apps.ledger.ledger.nets_stand)
+    (λ x in_x. flat_contains nets_of (λ (other : LoadedApp). not (other.number == app.number)) x h.apps in_x)
+    (λ i other. same_of_others app.number i h.apps (λ b in_b same. none_of_app b i (ap (λ (x : LoadedApp). is_packet_of x i) (same_app h app apps has b in_b same) ∙ other)))
+    (λ i is. none_of_all i (others_than app.number h.apps) (λ b in_b. none_of_app b i (of_no_other h app apps has b in_b i is)))
+    (net_of_asked (others_than app.number h.apps))
+    apps.ledger

@@ -1,0 +1,89 @@
+-- What stays of a list of applications, and of what each of them has, where some leave.
+use Rattle.std.proofs.Common.{◌≡◌, ℕ, ◌+◌, Bool, true, false, cond, List, [], ◌∷◌, map, refl, sym, ap, ◌∙◌, subst, arith, inl, inr, ◌⊎◌, count_by}
+use Rattle.std.specs.List.{All, AllPairs, Contains, filter, flat_map, slice_index_or}
+use Rattle.std.proofs.lemmas.Bool.{cases_order}
+use Rattle.std.proofs.lemmas.List.{get_or_default}
+use Rattle.std.proofs.lemmas.List.Elements.{All-contains}
+use Rattle.list_laws.proofs.Counts.{count_by-cons}
+use Rattle.list_laws.proofs.Members.{Among, among_contains, contains_among, Contains-from_filter}
+use Rattle.list_laws.proofs.Pairs.{AllPairs-append, AllPairs-left, AllPairs-right, AllPairs-across}
+use Rattle.list_laws.proofs.Places.{All-each}
+use Rattle.app_loads.proofs.ClaimCases.{among_flat, flat_among}
+
+-- ---- lists
+
+-- all items stay that pass
+pub filter_stays : {X : Type 0} (p : X → Bool) (xs : List X) → ((x : X) → Among x xs → p x ≡ true) → filter p xs ≡ xs
+filter_stays p [] passes = refl
+filter_stays p (x ∷ xs) passes =
+    ap (λ b. cond b (x ∷ filter p xs) (filter p xs)) (passes x (inl refl)) ∙ ap (λ l. x ∷ l) (filter_stays p xs (λ y a. passes y (inr a)))
+
+-- what passes of what a function makes is made of those of which it passes
+pub filter_of_map : {X Y : Type 0} (p : Y → Bool) (f : X → Y) (xs : List X) → filter p (map f xs) ≡ map f (filter (λ x. p (f x)) xs)
+filter_of_map p f [] = refl
+filter_of_map {X} {Y} p f (x ∷ xs) = by_test (p (f x)) (filter_of_map p f xs)
+  where
+    by_test : (b : Bool) → filter p (map f xs) ≡ map f (filter (λ x. p (f x)) xs) →
+        cond b (f x ∷ filter p (map f xs)) (filter p (map f xs)) ≡ map f (cond b (x ∷ filter (λ x. p (f x)) xs) (filter (λ x. p (f x)) xs))
+    by_test true e = ap (λ l. f x ∷ l) e
+    by_test false e = e
+
+-- one where a test holds
+abbrev one_if : Bool → ℕ
+one_if b = cond b 1 0
+
+-- as many pass a test as before, where all that pass it stay
+pub count_of_filter : {X : Type 0} (p q : X → Bool) (xs : List X) → ((x : X) → p x ≡ true → q x ≡ true) → count_by p (filter q xs) ≡ count_by p xs
+count_of_filter p q [] stays = refl
+count_of_filter {X} p q (x ∷ xs) stays = by_test (q x) refl (count_of_filter p q xs stays)
+  where
+    by_test : (b : Bool) → q x ≡ b → count_by p (filter q xs) ≡ count_by p xs → count_by p (cond b (x ∷ filter q xs) (filter q xs)) ≡ count_by p (x ∷ xs)
+    by_test true is e = count_by-cons p x (filter q xs) ∙ (ap (λ n. one_if (p x) + n) e ∙ sym (count_by-cons p x xs))
+    by_test false is e = e ∙ (by_other (p x) refl ∙ sym (count_by-cons p x xs))
+      where
+        zero_more : (n : ℕ) → n ≡ 0 + n
+        zero_more n = omega arith
+
+        by_other : (b : Bool) → p x ≡ b → count_by p xs ≡ one_if b + count_by p xs
+        by_other true passes = let other : q x ≡ true = stays x passes in cc
+        by_other false fails = zero_more (count_by p xs)
+
+-- ---- what stays of all that the items have
+
+module _ {X Y : Type 0} (f : X → List Y) (p : X → Bool) where
+  pub flat_stays : (y : Y) (xs : List X) → Among y (flat_map f (filter p xs)) → Among y (flat_map f xs)
+  flat_stays y xs a =
+      let found = among_flat f y (filter p xs) a in
+      let kept = Contains-from_filter p xs found.0 (among_contains found.0 (filter p xs) found.1) in
+      flat_among f y xs found.0 (contains_among found.0 xs kept.0) found.2
+
+  pub flat_contains : (y : Y) (xs : List X) → Contains (flat_map f (filter p xs)) y → Contains (flat_map f xs) y
+  flat_contains y xs has = among_contains y (flat_map f xs) (flat_stays y xs (contains_among y (flat_map f (filter p xs)) has))
+
+  pub flat_all : (P : Y → Type 0) (xs : List X) → All P (flat_map f xs) → All P (flat_map f (filter p xs))
+  flat_all P xs all = All-each P (flat_map f (filter p xs)) (λ y has. All-contains P (flat_map f xs) y all (flat_contains y xs has))
+
+  -- pairs that stay were pairs before
+  pub flat_pairs : (R : Y → Y → Type 0) (xs : List X) → AllPairs R (flat_map f xs) → AllPairs R (flat_map f (filter p xs))
+  flat_pairs R [] all = all
+  flat_pairs R (x ∷ xs) all = by_test (p x) (flat_pairs R xs (AllPairs-right R (f x) (flat_map f xs) all))
+    where
+      across : All (λ y. All (R y) (flat_map f (filter p xs))) (f x)
+      across = All-each (λ y. All (R y) (flat_map f (filter p xs))) (f x) (λ y has.
+          flat_all (R y) xs (All-contains (λ z. All (R z) (flat_map f xs)) (f x) y (AllPairs-across R (f x) (flat_map f xs) all) has))
+
+      by_test : (b : Bool) → AllPairs R (flat_map f (filter p xs)) → AllPairs R (flat_map f (cond b (x ∷ filter p xs) (filter p xs)))
+      by_test true rest = AllPairs-append R (f x) (flat_map f (filter p xs)) (AllPairs-left R (f x) (flat_map f xs) all) rest across
+      by_test false rest = rest
+
+-- two different items of a list are a pair one way or the other
+pub either_pair : {X : Type 0} (R : X → X → Type 0) (xs : List X) (x y : X) → AllPairs R xs → Contains xs x → Contains xs y → (x ≡ y) ⊎ (R x y ⊎ R y x)
+either_pair {X} R xs x y all in_x in_y = elim (cases_order in_x.0 in_y.0) [
+  | inl same ↦ inl (sym in_x.2 ∙ (ap (λ k. slice_index_or xs k x) same ∙ (get_or_default xs in_y.0 x y in_y.1 ∙ in_y.2)))
+  | inr (inl before) ↦
+      let second : slice_index_or xs in_y.0 x ≡ y = get_or_default xs in_y.0 x y in_y.1 ∙ in_y.2 in
+      inr (inl (subst (λ (w : X). R w y) in_x.2 (subst (λ (w : X). R (slice_index_or xs in_x.0 x) w) second (all in_x.0 in_y.0 x before in_y.1))))
+  | inr (inr after) ↦
+      let second : slice_index_or xs in_x.0 y ≡ x = get_or_default xs in_x.0 y x in_x.1 ∙ in_x.2 in
+      inr (inr (subst (λ (w : X). R w x) in_y.2 (subst (λ (w : X). R (slice_index_or xs in_y.0 y) w) second (all in_y.0 in_x.0 y after in_x.1))))
+]

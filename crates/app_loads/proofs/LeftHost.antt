@@ -1,0 +1,239 @@
+-- A host that an application left.
+use Rattle.std.proofs.Common.{◌≡◌, ◌≢◌, ℕ, ◌+◌, ◌<◌, ◌≤◌, ◌==◌, ◌||◌, ltb, not, ◌&&◌, Bool, true, false, List, [], ◌∷◌, ◌++◌, length, refl, sym, ap, ◌∙◌, subst, inl, inr, arith, Some, filter}
+use Rattle.std.specs.List.{list_any, slice_get, All, AllPairs, Contains}
+use Rattle.std.proofs.lemmas.Bool.{cases_Bool, eq-eqb, false≢true, not-true}
+use Rattle.std.proofs.lemmas.List.{length-map}
+use Rattle.std.proofs.lemmas.List.Elements.{All-contains, All-filter}
+use Rattle.std.proofs.lemmas.List.Kept.{AllPairs-filter}
+use Rattle.list_laws.proofs.Members.{Among, among_any, among_contains, among_either, among_filter, among_left, among_right, any_among, contains_among}
+use Rattle.list_laws.proofs.Pairs.{AllPairs-append}
+use Rattle.list_laws.proofs.Places.{All-each}
+use Rattle.spin_base.specs.declared.blocks.Entry.{Entry}
+use Rattle.spin_base.specs.declared.chips.Chip.{Chip}
+use Rattle.spin_base.specs.declared.chips.Spot.{Spot}
+use Rattle.spin_base.specs.Equality.{spot_eq}
+use Rattle.spin_base.proofs.Equality.{spot_eq_true}
+use Rattle.machine_desc.specs.Description.{Description}
+use Rattle.machine_desc.specs.Live.{IsInside}
+use Rattle.net_tables.specs.NetsOn.{HaveDisjointBlocks}
+use Rattle.net_tables.specs.RightTables.{IsKeyOf, table_at}
+use Rattle.net_tables.specs.declared.nets.NetPlan.{NetPlan}
+use Rattle.range_store.specs.Views.{Region}
+use Rattle.mesh_core.specs.Ledger.{MeetsLedgerFor}
+use Rattle.mesh_core.specs.State.{State}
+use Rattle.app_loads.specs.declared.answers.Ended.{Ended}
+use Rattle.app_loads.specs.declared.loaded.LoadedApp.{LoadedApp}
+use Rattle.app_loads.specs.declared.loaded.Range.{Range}
+use Rattle.app_loads.specs.Applications.{AreApps, HasRows, HaveOtherNumbers, HaveRows, IsLoadedOn}
+use Rattle.app_loads.specs.Host.{Host, all_nets, all_ranges, all_spots, asked_of, is_spot_taken, nets_of}
+use Rattle.app_loads.specs.Inner.{TellsTaken}
+use Rattle.app_loads.specs.Leaving.{NoneUnderWay, mesh_without, others_than}
+use Rattle.app_loads.specs.Marking.{AreMarked}
+use Rattle.app_loads.specs.Regions.{AreApart, AreFreeBeside, IsWithin, chip_count, has_place, is_taken, rows_region}
+use Rattle.app_loads.specs.Removing.{HasLeft}
+use Rattle.app_loads.specs.Taking.{AreTaken, free_of, frees}
+use Rattle.app_loads.specs.Unloading.{HasUnloaded, NoneWaits}
+use Rattle.app_loads.proofs.Copying.{mine_at, same_part}
+use Rattle.app_loads.proofs.LeftMesh.{mesh_with}
+use Rattle.app_loads.proofs.LeavingLedger.{the_ledger_without}
+use Rattle.app_loads.proofs.Others.{AllPairs-left_in, item_of, mine_or_other, only_one, other_in, others_item, own_item, own_pairs, same_tests, with_mine}
+use Rattle.app_loads.proofs.RightRows.{right_rows}
+use Rattle.app_loads.proofs.Serving.{by_taken, taken_by}
+
+flip_apart : (a b : Range) → AreApart a b → AreApart b a
+flip_apart a b apart region k in_b in_a = apart region k in_a in_b
+
+module _ (h : Host) (apps : AreApps h) (number : ℕ) (app : LoadedApp) (in_apps : Contains h.apps app) (its : app.number ≡ number) where
+  abbrev m : Description
+  m = h.mesh.setup.machine
+
+  abbrev others : List LoadedApp
+  others = others_than number h.apps
+
+  abbrev ranges_in : LoadedApp → List Range
+  ranges_in a = a.ranges
+
+  abbrev spots_in : LoadedApp → List Spot
+  spots_in a = a.plan.spots
+
+  pub loaded_one : IsLoadedOn m app
+  loaded_one = All-contains (IsLoadedOn m) h.apps app apps.loaded in_apps
+
+  -- ---- what is taken
+
+  either_taken : (region k : ℕ) → is_taken (all_ranges others ++ app.ranges) region k ≡ is_taken (all_ranges h.apps) region k
+  either_taken region k = same_tests (is_taken (all_ranges others ++ app.ranges) region k) (is_taken (all_ranges h.apps) region k)
+      (λ hit.
+      let found = by_taken (all_ranges others ++ app.ranges) region k hit in
+      taken_by (all_ranges h.apps) region k found.0 (elim (among_either found.0 (all_ranges others) app.ranges (contains_among found.0 (all_ranges others ++ app.ranges) found.1)) [
+        | inl other ↦ others_item h.apps apps.numbers number app in_apps its ranges_in found.0 (among_contains found.0 (all_ranges others) other)
+        | inr own ↦ own_item h.apps apps.numbers number app in_apps its ranges_in found.0 (among_contains found.0 app.ranges own)
+      ]) found.2)
+      (λ hit.
+      let found = by_taken (all_ranges h.apps) region k hit in
+      taken_by (all_ranges others ++ app.ranges) region k found.0 (among_contains found.0 (all_ranges others ++ app.ranges) (elim (item_of h.apps apps.numbers number app in_apps its ranges_in found.0 found.1) [
+        | inl own ↦ among_right found.0 (all_ranges others) app.ranges (contains_among found.0 app.ranges own)
+        | inr other ↦ among_left found.0 (all_ranges others) app.ranges (contains_among found.0 (all_ranges others) other)
+      ])) found.2)
+
+  others_apart : AllPairs AreApart (all_ranges others)
+  others_apart = AllPairs-left_in ranges_in (λ (a : LoadedApp). not (a.number == number)) AreApart h.apps apps.apart
+
+  apart_from_mine : (r s : Range) → Contains (all_ranges others) r → Contains app.ranges s → AreApart r s
+  apart_from_mine = with_mine h.apps apps.numbers number app in_apps its AreApart flip_apart ranges_in apps.apart
+
+  pub taken_beside : (regions : List Region) → frees regions ≡ h.regions → AreTaken m (all_ranges others) app.ranges regions
+  taken_beside regions same = record {
+    within = subst (λ n. All (IsWithin m n) app.ranges) (sym (sym (length-map regions free_of) ∙ (ap length same ∙ apps.free.all))) loaded_one.within;
+    apart = AllPairs-append AreApart (all_ranges others) app.ranges others_apart (own_pairs AreApart ranges_in h.apps apps.apart app (contains_among app h.apps in_apps))
+        (All-each (λ a. All (AreApart a) app.ranges) (all_ranges others) (λ a in_a. All-each (AreApart a) app.ranges (λ b in_b. apart_from_mine a b in_a in_b)));
+    free = subst (AreFreeBeside m (all_ranges others ++ app.ranges)) (sym same) (record {
+      all = apps.free.all;
+      each = λ region f at.
+          let was = apps.free.each region f at in
+          record { size = was.size; runs = was.runs; free = λ k. was.free k ∙ ap (λ b. ltb k f.size && not b) (sym (either_taken region k)) };
+    });
+  }
+
+  -- ---- the table of taken spots
+
+  pub tells_less : (old new : List Bool) → TellsTaken m h.apps old → AreMarked m false app.plan.spots old new → TellsTaken m others new
+  tells_less old new tells marked = record {
+    long = marked.long ∙ tells.long;
+    told = λ s inside few. elim (cases_Bool (list_any (spot_eq s) app.plan.spots)) [
+      | inl mine ↦ marked.marked s inside few mine ∙ ap Some (sym (nobody s mine))
+      | inr none ↦ marked.others s (is_spot_taken h.apps s) inside few (λ hit. absurd (false≢true (sym none ∙ hit))) (tells.told s inside few) ∙ ap Some (same s none)
+    ];
+  }
+    where
+      nobody : (s : Spot) → list_any (spot_eq s) app.plan.spots ≡ true → is_spot_taken others s ≡ false
+      nobody s mine = elim (cases_Bool (is_spot_taken others s)) [
+        | inr none ↦ none
+        | inl some ↦
+            let other = any_among (λ (a : LoadedApp). list_any (spot_eq s) a.plan.spots) others some in
+            let theirs = any_among (spot_eq s) other.0.plan.spots other.2 in
+            let own = any_among (spot_eq s) app.plan.spots mine in
+            let from = other_in h.apps apps.numbers number app in_apps its other.0 (among_contains other.0 others other.1) in
+            let differ = with_spots other.0 (among_contains other.0 others other.1) theirs.0 own.0 (among_contains theirs.0 other.0.plan.spots theirs.1) (among_contains own.0 app.plan.spots own.1) in
+            absurd (differ (sym (spot_eq_true s theirs.0 theirs.2) ∙ spot_eq_true s own.0 own.2))
+      ]
+        where
+          with_spots : (a : LoadedApp) → Contains others a → (t u : Spot) → Contains a.plan.spots t → Contains app.plan.spots u → t ≢ u
+          with_spots a has t u in_t in_u =
+              with_mine h.apps apps.numbers number app in_apps its (λ x y. x ≢ y) (λ x y differ e. differ (sym e)) spots_in apps.spots t u
+              (own_item others (AllPairs-filter (λ (x y : LoadedApp). x.number ≢ y.number) (λ (x : LoadedApp). not (x.number == number)) h.apps apps.numbers) a.number a has refl spots_in t in_t) in_u
+
+      same : (s : Spot) → list_any (spot_eq s) app.plan.spots ≡ false → is_spot_taken h.apps s ≡ is_spot_taken others s
+      same s none = same_tests (is_spot_taken h.apps s) (is_spot_taken others s)
+          (λ hit.
+          let found = any_among (λ (a : LoadedApp). list_any (spot_eq s) a.plan.spots) h.apps hit in
+          elim (mine_or_other h.apps apps.numbers number app in_apps its found.0 (among_contains found.0 h.apps found.1)) [
+            | inl mine ↦ absurd (false≢true (sym none ∙ (ap (λ (a : LoadedApp). list_any (spot_eq s) a.plan.spots) (sym mine) ∙ found.2)))
+            | inr other ↦ among_any (λ (a : LoadedApp). list_any (spot_eq s) a.plan.spots) found.0 others (contains_among found.0 others other) found.2
+          ])
+          (λ hit.
+          let found = any_among (λ (a : LoadedApp). list_any (spot_eq s) a.plan.spots) others hit in
+          among_any (λ (a : LoadedApp). list_any (spot_eq s) a.plan.spots) found.0 h.apps (among_filter (λ (a : LoadedApp). not (a.number == number)) found.0 h.apps found.1).0 found.2)
+
+  -- none of the application's packets is under way
+  pub none_waits : NoneUnderWay h.mesh app → NoneWaits h number
+  none_waits none other has other_is packet waits =
+      let same = only_one h.apps apps.numbers other app (contains_among other h.apps has) (contains_among app h.apps in_apps) (other_is ∙ sym its) in
+      subst (NoneUnderWay h.mesh) (sym same) none packet waits
+
+  -- ---- the host
+
+  module _ (old new : List Region) (old_is : frees old ≡ h.regions) (given : AreTaken m (all_ranges others) app.ranges old → AreFreeBeside m (all_ranges others) (frees new))
+      (ended : Ended) (mesh : State) (left : HasLeft app h.mesh ended mesh) (none : NoneUnderWay h.mesh app) where
+    abbrev t : List (List Entry)
+    t = mesh.setup.tables
+
+    abbrev now : State → Host
+    now s = record { mesh = s; regions = frees new; apps = others; packets = h.packets }
+
+    -- no place of another's range is one of the application's
+    none_of_mine : (r : Range) → Contains (all_ranges others) r → (region k : ℕ) → has_place region k r ≡ true → is_taken app.ranges region k ≡ false
+    none_of_mine r in_r region k at = elim (cases_Bool (is_taken app.ranges region k)) [
+      | inr no_one ↦ no_one
+      | inl some ↦ (let found = by_taken app.ranges region k some in absurd (apart_from_mine r found.0 in_r found.1 region k at found.2))
+    ]
+
+    loaded_now : All (IsLoadedOn m) others
+    loaded_now = All-filter (λ (a : LoadedApp). not (a.number == number)) (IsLoadedOn m) h.apps apps.loaded
+
+    disjoint_now : HaveDisjointBlocks (all_nets others)
+    disjoint_now = AllPairs-left_in nets_of (λ (a : LoadedApp). not (a.number == number)) (λ (a b : NetPlan). (key : ℕ) → IsKeyOf a.block key → IsKeyOf b.block key → ⊥) h.apps apps.disjoint
+
+    abbrev RowsOf : LoadedApp → List (List Entry) → Range → Type 0
+    RowsOf a tables r = (c : Chip) → IsInside m c → r.region ≡ rows_region m c → HasRows m (nets_of a) c (table_at m tables c) r
+
+    rows_now : HaveRows m t others
+    rows_now = record {
+      long = left.cleared.long;
+      rows = All-each (λ (a : LoadedApp). All (RowsOf a t) a.ranges) others (λ a in_others.
+          All-each (RowsOf a t) a.ranges (λ r in_a c inside region.
+          let from = other_in h.apps apps.numbers number app in_apps its a in_others in
+          let was = All-contains (RowsOf a h.mesh.setup.tables) a.ranges r (All-contains (λ (b : LoadedApp). All (RowsOf b h.mesh.setup.tables) b.ranges) h.apps a apps.rows.rows from.0) in_a c inside region in
+          record {
+            rows = was.rows;
+            plain = was.plain;
+            entries = same_part (table_at m t c) (table_at m h.mesh.setup.tables c) r.place r.size (left.cleared.long c inside ∙ sym (apps.rows.long c inside))
+                (λ k low high. left.cleared.others c k inside (none_of_mine r (of_other a in_others r in_a) (rows_region m c) k (mine_at r (rows_region m c) k region low high))) ∙ was.entries;
+          }));
+      others = λ c k inside below free. elim (cases_Bool (is_taken app.ranges (rows_region m c) k)) [
+        | inl mine ↦ left.cleared.cleared c k inside below mine
+        | inr not_mine ↦ left.cleared.others c k inside not_mine ∙ apps.rows.others c k inside below (nobodys c k free not_mine)
+      ];
+    }
+      where
+        of_other : (a : LoadedApp) → Contains others a → (r : Range) → Contains a.ranges r → Contains (all_ranges others) r
+        of_other a has r in_a = own_item others (AllPairs-filter (λ (x y : LoadedApp). x.number ≢ y.number) (λ (x : LoadedApp). not (x.number == number)) h.apps apps.numbers) a.number a has refl ranges_in r in_a
+
+        nobodys : (c : Chip) (k : ℕ) → is_taken (all_ranges others) (rows_region m c) k ≡ false → is_taken app.ranges (rows_region m c) k ≡ false → is_taken (all_ranges h.apps) (rows_region m c) k ≡ false
+        nobodys c k free not_mine = elim (cases_Bool (is_taken (all_ranges h.apps) (rows_region m c) k)) [
+          | inr no_one ↦ no_one
+          | inl some ↦
+              let found = by_taken (all_ranges h.apps) (rows_region m c) k some in
+              elim (item_of h.apps apps.numbers number app in_apps its ranges_in found.0 found.1) [
+                | inl own ↦ absurd (false≢true (sym not_mine ∙ taken_by app.ranges (rows_region m c) k found.0 own found.2))
+                | inr other ↦ absurd (false≢true (sym free ∙ taken_by (all_ranges others) (rows_region m c) k found.0 other found.2))
+              ]
+        ]
+
+    ledger_now : MeetsLedgerFor (mesh_without app t h.mesh) (all_nets others) (asked_of others)
+    ledger_now = subst (λ n. MeetsLedgerFor (mesh_without app t h.mesh) (all_nets (others_than n h.apps)) (asked_of (others_than n h.apps))) its (the_ledger_without h app t apps in_apps none)
+
+    apps_without : AreApps (now (mesh_without app t h.mesh))
+    apps_without = record {
+      mesh = mesh_with h.mesh t _ _ apps.mesh left.cleared.all;
+      vertices = apps.vertices;
+      numbers = AllPairs-filter (λ (a b : LoadedApp). a.number ≢ b.number) (λ (a : LoadedApp). not (a.number == number)) h.apps apps.numbers;
+      spots = AllPairs-left_in (λ (a : LoadedApp). a.plan.spots) (λ (a : LoadedApp). not (a.number == number)) (λ a b. a ≢ b) h.apps apps.spots;
+      loaded = loaded_now;
+      apart = others_apart;
+      free = given (taken_beside old old_is);
+      disjoint = disjoint_now;
+      rows = rows_now;
+      right = right_rows m t others loaded_now disjoint_now rows_now;
+      ledger = ledger_now;
+      ascending = AllPairs-filter HaveOtherNumbers (λ (a : LoadedApp). not (a.number == number)) h.apps apps.ascending;
+      counted = All-filter (λ (a : LoadedApp). not (a.number == number)) (λ (a : LoadedApp). a.first + length a.plan.packets ≤ h.packets) h.apps apps.counted;
+      few_packets = apps.few_packets;
+    }
+
+    pub apps_left : AreApps (now mesh)
+    apps_left = subst (λ (s : State). AreApps (now s)) (sym left.mesh) apps_without
+
+    pub has_unloaded : HasUnloaded h number ended (now mesh)
+    has_unloaded = record {
+      app = app;
+      is = in_apps;
+      number_is = its;
+      apps = refl;
+      delivered = left.delivered;
+      dumped = left.dumped;
+      packets = refl;
+      mesh = left.mesh;
+      entries = left.cleared.cleared;
+      tables = left.cleared.others;
+    }

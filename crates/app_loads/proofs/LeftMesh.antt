@@ -1,0 +1,58 @@
+-- A mesh and regions that an application leaves.
+use Rattle.std.proofs.Common.{◌≡◌, ◌++◌, List, length, sym, ap, ◌∙◌, subst}
+use Rattle.std.specs.List.{All}
+use Rattle.std.proofs.lemmas.List.{length-map}
+use Rattle.spin_base.specs.declared.blocks.Entry.{Entry}
+use Rattle.spin_base.specs.declared.copies.Delivery.{Delivery}
+use Rattle.spin_base.specs.declared.copies.DumpRec.{DumpRec}
+use Rattle.machine_desc.specs.Description.{Description}
+use Rattle.range_store.specs.Views.{Region}
+use Rattle.mesh_core.specs.State.{Setup, State, IsMesh}
+use Rattle.app_loads.specs.declared.loaded.LoadedApp.{LoadedApp}
+use Rattle.app_loads.specs.declared.loaded.Range.{Range}
+use Rattle.app_loads.specs.Regions.{AreFreeBeside, IsWithin}
+use Rattle.app_loads.specs.Removing.{CanLeave}
+use Rattle.app_loads.specs.Taking.{AreTaken, free_of, frees}
+use Rattle.app_loads.specs.Writing.{CanClear}
+
+-- a mesh with other tables, deliveries and records
+pub mesh_with : (s : State) (tables : List (List Entry)) (delivered : List Delivery) (dumped : List DumpRec) → IsMesh s → length tables ≡ length s.setup.tables →
+    IsMesh (record s { setup = record s.setup { tables = tables }; delivered = delivered; dumped = dumped })
+mesh_with s tables delivered dumped mesh long = record {
+  size = mesh.size;
+  different = mesh.different;
+  sites = mesh.sites;
+  room = mesh.room;
+  unsent_lists = mesh.unsent_lists;
+  input_lists = mesh.input_lists;
+  hand_list = mesh.hand_list;
+  core_lists = mesh.core_lists;
+  table_list = long ∙ mesh.table_list;
+  inputs_within = mesh.inputs_within;
+  cores_within = mesh.cores_within;
+  unsent_at_start = mesh.unsent_at_start;
+  hands_with_outputs = mesh.hands_with_outputs;
+  none_at_dead_ports = mesh.none_at_dead_ports;
+  none_on_dead_chips = mesh.none_on_dead_chips;
+}
+
+pub parted_whole : (s t : State) → s ≡ t → IsMesh t → (u : Setup) (delivered : List Delivery) (dumped : List DumpRec) → u ≡ record s.setup { tables = u.tables } → length u.tables ≡ length s.setup.tables →
+    IsMesh (record s { setup = u; delivered = delivered; dumped = dumped })
+parted_whole s t same mesh u delivered dumped setup long =
+    subst (λ (v : Setup). IsMesh (record s { setup = v; delivered = delivered; dumped = dumped })) (sym setup) (mesh_with s u.tables delivered dumped (subst IsMesh (sym same) mesh) long)
+
+pub can_clear : (s t : State) → s ≡ t → IsMesh t → (regions : List Region) (app : LoadedApp) → CanLeave t regions app → (lent : List Range) → lent ≡ app.ranges → CanClear s.setup.machine s.setup.tables lent
+can_clear s t same mesh regions app can lent lent_is =
+    subst (λ (x : State). CanClear x.setup.machine x.setup.tables lent) (sym same) (subst (CanClear t.setup.machine t.setup.tables) (sym lent_is) (record {
+      tables_long = mesh.table_list;
+      each_long = can.long;
+      within = subst (λ n. All (IsWithin t.setup.machine n) app.ranges) (sym (length-map regions free_of) ∙ can.taken.free.all) can.taken.within;
+    }))
+
+-- ranges are taken as before where room was made for more holes
+pub taken_still : (m : Description) (others ranges lent : List Range) (old new : List Region) → frees new ≡ frees old → lent ≡ ranges → AreTaken m others ranges old → AreTaken m others lent new
+taken_still m others ranges lent old new same lent_is taken = subst (λ (l : List Range). AreTaken m others l new) (sym lent_is) (record {
+  within = subst (λ n. All (IsWithin m n) ranges) (sym (sym (length-map new free_of) ∙ (ap length same ∙ length-map old free_of))) taken.within;
+  apart = taken.apart;
+  free = subst (AreFreeBeside m (others ++ ranges)) (sym same) taken.free;
+})

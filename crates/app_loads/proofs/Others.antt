@@ -1,0 +1,137 @@
+-- Lists of an application's items beside those of all others.
+use Rattle.std.proofs.Common.{◌≡◌, ◌≢◌, ℕ, zero, suc, ◌==◌, Bool, true, false, not, cond, List, [], ◌∷◌, ◌++◌, take, drop, sym, ap, ◌∙◌, refl, subst, inl, inr, ◌⊎◌, arith, Some}
+use Rattle.std.specs.List.{slice_get, All, AllPairs, Contains, filter, flat_map}
+use Rattle.std.proofs.lemmas.Bool.{cases_Bool, cond_both, cond-true, cond-false, eq-eqb, eqb-true, false≢true}
+use Rattle.std.proofs.lemmas.List.Elements.{All-contains, All-weaker}
+use Rattle.list_laws.proofs.Members.{Among, among_at, among_contains, among_filter, contains_among, Contains-filter, Contains-from_filter}
+use Rattle.list_laws.proofs.Pairs.{AllPairs-append, AllPairs-left, AllPairs-right, AllPairs-across, AllPairs-head, AllPairs-tail}
+use Rattle.list_laws.proofs.Places.{All-each}
+use Rattle.app_loads.specs.declared.loaded.LoadedApp.{LoadedApp}
+use Rattle.app_loads.specs.Leaving.{others_than}
+use Rattle.app_loads.proofs.ClaimCases.{among_flat, flat_among}
+
+pub same_tests : (a b : Bool) → (a ≡ true → b ≡ true) → (b ≡ true → a ≡ true) → a ≡ b
+same_tests true b forth back = sym (forth refl)
+same_tests false true forth back = back refl
+same_tests false false forth back = refl
+
+not_equal : (m n : ℕ) → m ≢ n → (m == n) ≡ false
+not_equal m n differ = grind arith
+
+some_same : {A : Type 0} {a b : A} → Some a ≡ Some b → a ≡ b
+some_same e = cc
+
+-- ---- items of lists, where some lists are left out
+
+module _ {X Y : Type 0} (f : X → List Y) (p : X → Bool) where
+  pub among_left_in : (xs : List X) (y : Y) → Among y (flat_map f (filter p xs)) → Among y (flat_map f xs)
+  among_left_in xs y a = let found = among_flat f y (filter p xs) a in flat_among f y xs found.0 (among_filter p found.0 xs found.1).0 found.2
+
+  pub All-left_in : (P : Y → Type 0) (xs : List X) → All P (flat_map f xs) → All P (flat_map f (filter p xs))
+  All-left_in P xs all =
+      All-each P (flat_map f (filter p xs)) (λ y has.
+      All-contains P (flat_map f xs) y all (among_contains y (flat_map f xs) (among_left_in xs y (contains_among y (flat_map f (filter p xs)) has))))
+
+  pub AllPairs-left_in : (R : Y → Y → Type 0) (xs : List X) → AllPairs R (flat_map f xs) → AllPairs R (flat_map f (filter p xs))
+  AllPairs-left_in R [] pairs = pairs
+  AllPairs-left_in R (x ∷ xs) pairs =
+      let rest = AllPairs-left_in R xs (AllPairs-right R (f x) (flat_map f xs) pairs) in
+      cond_both (p x) (x ∷ filter p xs) (filter p xs) (λ l. AllPairs R (flat_map f l))
+      (λ kept. AllPairs-append R (f x) (flat_map f (filter p xs)) (AllPairs-left R (f x) (flat_map f xs) pairs) rest
+      (All-weaker (λ a. All (R a) (flat_map f xs)) (λ a. All (R a) (flat_map f (filter p xs))) (λ a all. All-left_in (R a) xs all) (f x) (AllPairs-across R (f x) (flat_map f xs) pairs)))
+      (λ out. rest)
+
+module _ {X Y : Type 0} (R : Y → Y → Type 0) (f : X → List Y) where
+  -- the pairs of one list
+  pub own_pairs : (xs : List X) → AllPairs R (flat_map f xs) → (x : X) → Among x xs → AllPairs R (f x)
+  own_pairs [] pairs x a = absurd a
+  own_pairs (z ∷ zs) pairs x (inl here) = subst (λ w. AllPairs R (f w)) (sym here) (AllPairs-left R (f z) (flat_map f zs) pairs)
+  own_pairs (z ∷ zs) pairs x (inr later) = own_pairs zs (AllPairs-right R (f z) (flat_map f zs) pairs) x later
+
+  -- the pairs of two different lists
+  pub across_pairs : ((a b : Y) → R a b → R b a) → (xs : List X) → AllPairs R (flat_map f xs) → (x y : X) → Among x xs → Among y xs → x ≢ y → (a b : Y) → Contains (f x) a → Contains (f y) b → R a b
+  across_pairs flip [] pairs x y in_x in_y differ a b has_a has_b = absurd in_x
+  across_pairs flip (z ∷ zs) pairs x y (inl here) (inl here') differ a b has_a has_b = absurd (differ (here ∙ sym here'))
+  across_pairs flip (z ∷ zs) pairs x y (inl here) (inr later) differ a b has_a has_b = with_first flip z zs pairs a b y (subst (λ w. Contains (f w) a) here has_a) later has_b
+    where
+      with_first : ((a b : Y) → R a b → R b a) → (z : X) (zs : List X) → AllPairs R (flat_map f (z ∷ zs)) → (a b : Y) (y : X) → Contains (f z) a → Among y zs → Contains (f y) b → R a b
+      with_first flip z zs pairs a b y has_a in_y has_b =
+          All-contains (R a) (flat_map f zs) b (All-contains (λ c. All (R c) (flat_map f zs)) (f z) a (AllPairs-across R (f z) (flat_map f zs) pairs) has_a)
+          (among_contains b (flat_map f zs) (flat_among f b zs y in_y (contains_among b (f y) has_b)))
+  across_pairs flip (z ∷ zs) pairs x y (inr later) (inl here) differ a b has_a has_b =
+      flip b a
+      (All-contains (R b) (flat_map f zs) a (All-contains (λ c. All (R c) (flat_map f zs)) (f z) b (AllPairs-across R (f z) (flat_map f zs) pairs) (subst (λ w. Contains (f w) b) here has_b))
+      (among_contains a (flat_map f zs) (flat_among f a zs x later (contains_among a (f x) has_a))))
+  across_pairs flip (z ∷ zs) pairs x y (inr later) (inr later') differ a b has_a has_b = across_pairs flip zs (AllPairs-right R (f z) (flat_map f zs) pairs) x y later later' differ a b has_a has_b
+
+-- ---- the application of a number, and the others
+
+abbrev pub HaveNumbers : List LoadedApp → Type 0
+HaveNumbers apps = AllPairs (λ (a b : LoadedApp). a.number ≢ b.number) apps
+
+-- a number has one application
+pub only_one : (apps : List LoadedApp) → HaveNumbers apps → (a b : LoadedApp) → Among a apps → Among b apps → a.number ≡ b.number → a ≡ b
+only_one [] pairs a b in_a in_b same = absurd in_a
+only_one (z ∷ zs) pairs a b (inl here) (inl here') same = here ∙ sym here'
+only_one (z ∷ zs) pairs a b (inl here) (inr later) same =
+    absurd (All-contains (λ (c : LoadedApp). z.number ≢ c.number) zs b (AllPairs-head (λ (c d : LoadedApp). c.number ≢ d.number) z zs pairs) (among_contains b zs later) (ap (λ (c : LoadedApp). c.number) (sym here) ∙ same))
+only_one (z ∷ zs) pairs a b (inr later) (inl here) same =
+    absurd (All-contains (λ (c : LoadedApp). z.number ≢ c.number) zs a (AllPairs-head (λ (c d : LoadedApp). c.number ≢ d.number) z zs pairs) (among_contains a zs later) (ap (λ (c : LoadedApp). c.number) (sym here) ∙ sym same))
+only_one (z ∷ zs) pairs a b (inr later) (inr later') same = only_one zs (AllPairs-tail (λ (c d : LoadedApp). c.number ≢ d.number) z zs pairs) a b later later' same
+
+abbrev is_other : ℕ → LoadedApp → Bool
+is_other number app = not (app.number == number)
+
+-- where none has the number, all are others
+all_others : (number : ℕ) (apps : List LoadedApp) → All (λ (a : LoadedApp). number ≢ a.number) apps → others_than number apps ≡ apps
+all_others number [] none = refl
+all_others number (a ∷ apps) none =
+    cond-true (is_other number a) (a ∷ others_than number apps) (others_than number apps) (ap not (not_equal a.number number (λ e. none 0 a (omega arith) (sym e)))) ∙ ap (λ l. a ∷ l) (all_others number apps (λ k d within. none (suc k) d (omega (arith, within))))
+
+-- those that are left where the application at a place is taken out
+pub without_one : (number : ℕ) (apps : List LoadedApp) (at : ℕ) (app : LoadedApp) → slice_get apps at ≡ Some app → app.number ≡ number → HaveNumbers apps → take at apps ++ drop (suc at) apps ≡ others_than number apps
+without_one number [] at app is its pairs = cc
+without_one number (a ∷ apps) zero app is its pairs =
+    let same : a ≡ app = some_same is in
+    let mine : a.number ≡ number = ap (λ (x : LoadedApp). x.number) same ∙ its in
+    sym (cond-false (is_other number a) (a ∷ others_than number apps) (others_than number apps) (ap not (eq-eqb a.number number mine))
+    ∙ all_others number apps (subst (λ n. All (λ (x : LoadedApp). n ≢ x.number) apps) mine (AllPairs-head (λ (c d : LoadedApp). c.number ≢ d.number) a apps pairs)))
+without_one number (a ∷ apps) (suc at) app is its pairs =
+    let differ = All-contains (λ (c : LoadedApp). a.number ≢ c.number) apps app (AllPairs-head (λ (c d : LoadedApp). c.number ≢ d.number) a apps pairs) (among_contains app apps (among_at apps at app is)) in
+    ap (λ l. a ∷ l) (without_one number apps at app is its (AllPairs-tail (λ (c d : LoadedApp). c.number ≢ d.number) a apps pairs))
+    ∙ sym (cond-true (is_other number a) (a ∷ others_than number apps) (others_than number apps) (ap not (not_equal a.number number (λ e. differ (e ∙ sym its)))))
+
+module _ (apps : List LoadedApp) (numbers : HaveNumbers apps) (number : ℕ) (app : LoadedApp) (in_apps : Contains apps app) (its : app.number ≡ number) where
+  pub other_in : (a : LoadedApp) → Contains (others_than number apps) a → Contains apps a × a ≢ app
+  other_in a has =
+      let found = Contains-from_filter (is_other number) apps a has in
+      (found.0, λ same. false≢true (sym (ap not (eq-eqb a.number number (ap (λ (x : LoadedApp). x.number) same ∙ its))) ∙ found.1))
+
+  pub mine_or_other : (a : LoadedApp) → Contains apps a → (a ≡ app) ⊎ Contains (others_than number apps) a
+  mine_or_other a has = elim (cases_Bool (a.number == number)) [
+    | inl mine ↦ inl (only_one apps numbers a app (contains_among a apps has) (contains_among app apps in_apps) (eqb-true a.number number mine ∙ sym its))
+    | inr other ↦ inr (Contains-filter (is_other number) apps a has (ap not other))
+  ]
+
+  -- an item of an application is one of this one's, or of the others'
+  pub item_of : {Y : Type 0} (f : LoadedApp → List Y) (y : Y) → Contains (flat_map f apps) y → Contains (f app) y ⊎ Contains (flat_map f (others_than number apps)) y
+  item_of f y has =
+      let found = among_flat f y apps (contains_among y (flat_map f apps) has) in
+      elim (mine_or_other found.0 (among_contains found.0 apps found.1)) [
+        | inl mine ↦ inl (subst (λ (a : LoadedApp). Contains (f a) y) mine (among_contains y (f found.0) found.2))
+        | inr other ↦
+            inr (among_contains y (flat_map f (others_than number apps)) (flat_among f y (others_than number apps) found.0 (contains_among found.0 (others_than number apps) other) found.2))
+      ]
+
+  pub own_item : {Y : Type 0} (f : LoadedApp → List Y) (y : Y) → Contains (f app) y → Contains (flat_map f apps) y
+  own_item f y has = among_contains y (flat_map f apps) (flat_among f y apps app (contains_among app apps in_apps) (contains_among y (f app) has))
+
+  pub others_item : {Y : Type 0} (f : LoadedApp → List Y) (y : Y) → Contains (flat_map f (others_than number apps)) y → Contains (flat_map f apps) y
+  others_item f y has = among_contains y (flat_map f apps) (among_left_in f (is_other number) apps y (contains_among y (flat_map f (others_than number apps)) has))
+
+  -- an item of another with one of this one
+  pub with_mine : {Y : Type 0} (R : Y → Y → Type 0) → ((a b : Y) → R a b → R b a) → (f : LoadedApp → List Y) → AllPairs R (flat_map f apps) → (a b : Y) → Contains (flat_map f (others_than number apps)) a → Contains (f app) b → R a b
+  with_mine R flip f pairs a b has_a has_b =
+      let found = among_flat f a (others_than number apps) (contains_among a (flat_map f (others_than number apps)) has_a) in
+      let other = other_in found.0 (among_contains found.0 (others_than number apps) found.1) in
+      across_pairs R f flip apps pairs found.0 app (contains_among found.0 apps other.0) (contains_among app apps in_apps) other.1 a b (among_contains a (f found.0) found.2) has_b

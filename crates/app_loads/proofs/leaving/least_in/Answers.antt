@@ -1,0 +1,18 @@
+use Rattle.std.proofs.Common.{◌∙◌, sym, ap}
+use Rattle.std.proofs.lemmas.List.{take_all}
+use Rattle.app_loads.specs.Leaving.{lesser_of, least_of, packets_of}
+use Rattle.app_loads.proofs.LeavingLeast.{none_right, copy_more}
+use Rattle.app_loads.proofs.leaving.least_in.Goals as goal
+
+pub loop-copy-init : goal.loop-copy-init
+loop-copy-init c = sym (none_right c.args.so_far)
+
+pub loop-copy-preserved : goal.loop-copy-preserved
+loop-copy-preserved c =
+    copy_more c.args.app.now c.args.so_far c.loop-copy.least c.lesser-least.result c.args.copies.now c.loop-copy.copy-index _ c.loop-copy-test.true
+    c.loop-copy.invariant c.lesser-least.ensures
+
+pub returns : goal.returns
+returns c =
+    c.loop-copy.invariant
+    ∙ ap (λ l. lesser_of c.args.so_far (least_of c.args.app.now (packets_of l))) (take_all c.loop-copy.copy-index c.args.copies.now c.loop-copy-test.false)

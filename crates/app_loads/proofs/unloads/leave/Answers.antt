@@ -1,0 +1,29 @@
+use Rattle.std.proofs.Common.{◌∙◌, sym, subst, List}
+use Rattle.mesh_core.specs.InParts.{state_in}
+use Rattle.app_loads.specs.declared.loaded.Range.{Range}
+use Rattle.app_loads.specs.Taking.{HaveRoom}
+use Rattle.app_loads.proofs.LeftMesh.{can_clear, parted_whole, taken_still}
+use Rattle.app_loads.proofs.unloads.leave.Goals as goal
+
+pub give_all-requires-clause-taken : goal.give_all-requires-clause-taken
+give_all-requires-clause-taken c = (
+  c.args.mesh.setup.machine,
+  c.requires.others,
+  taken_still c.args.mesh.setup.machine c.requires.others c.args.app.now.ranges c.as_slice.result.now c.args.regions.now c.make_ready.new.regions c.make_ready.ensures.same c.as_slice.ensures c.requires.taken,
+)
+
+pub give_all-requires-clause-room : goal.give_all-requires-clause-room
+give_all-requires-clause-room c = subst (λ (l : List Range). HaveRoom l c.make_ready.new.regions) (sym c.as_slice.ensures) c.in-Ok.ensures.room
+
+pub uninstall-requires : goal.uninstall-requires
+uninstall-requires c =
+    can_clear (state_in c.parts.inside) c.args.mesh (c.parts.view_is ∙ c.take_apart-parts.ensures.parts) c.take_apart-parts.ensures.mesh c.args.regions.now c.args.app.now c.requires c.as_slice-in-Ok.result.now c.as_slice-in-Ok.ensures
+
+pub put_together-requires-in-Ok : goal.put_together-requires-in-Ok
+put_together-requires-in-Ok c =
+    parted_whole (state_in c.parts.inside) c.args.mesh (c.parts.view_is ∙ c.take_apart-parts.ensures.parts) c.take_apart-parts.ensures.mesh c.uninstall.new.setup c.in-Ok.parted.delivered c.in-Ok.parted.dumped c.uninstall.ensures.setup c.uninstall.ensures.cleared.all
+
+pub returns-in-Ok-clause-given : goal.returns-in-Ok-clause-given
+returns-in-Ok-clause-given c others taken =
+    c.give_all.ensures.free c.args.mesh.setup.machine others
+    (taken_still c.args.mesh.setup.machine others c.args.app.now.ranges c.as_slice.result.now c.args.regions.now c.make_ready.new.regions c.make_ready.ensures.same c.as_slice.ensures taken)

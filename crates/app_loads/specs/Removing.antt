@@ -1,0 +1,34 @@
+-- What unloading an application makes of the parts of a host, as the private functions say it.
+use Rattle.std.specs.Prelude.{◌≡◌, List, filter, length}
+use Rattle.spin_base.specs.declared.chips.Chip.{Chip}
+use Rattle.machine_desc.specs.Live.{IsInside}
+use Rattle.range_store.specs.Views.{Region}
+use Rattle.net_tables.specs.RightTables.{table_at}
+use Rattle.mesh_core.specs.State.{State}
+use Rattle.app_loads.specs.declared.answers.Ended.{Ended}
+use Rattle.app_loads.specs.declared.answers.UnloadErr.{UnloadErr}
+use Rattle.app_loads.specs.declared.answers.UnloadErr.TheVariants.{NotLoaded, Waiting, Memory}
+use Rattle.app_loads.specs.declared.loaded.LoadedApp.{LoadedApp}
+use Rattle.app_loads.specs.declared.loaded.Range.{Range}
+use Rattle.app_loads.specs.Leaving.{IsLeastUnderWay, is_delivery_of, is_record_of, mesh_without}
+use Rattle.app_loads.specs.Taking.{AreTaken}
+use Rattle.app_loads.specs.Writing.{AreUnused}
+
+-- The application's ranges are taken of the regions, beside others, and each table has its entries.
+pub record CanLeave (s : State) (regions : List Region) (app : LoadedApp) : Type 0 where
+  pub others : List Range
+  pub taken : AreTaken s.setup.machine others app.ranges regions
+  pub long : (c : Chip) → IsInside s.setup.machine c → length (table_at s.setup.machine s.setup.tables c) ≡ 1024
+
+-- The mesh has the application's rows, deliveries and dump records no more.
+pub record HasLeft (app : LoadedApp) (old : State) (ended : Ended) (new : State) : Type 0 where
+  pub delivered : ended.delivered ≡ filter (is_delivery_of app) old.delivered
+  pub dumped : ended.dumped ≡ filter (is_record_of app) old.dumped
+  pub mesh : new ≡ mesh_without app new.setup.tables old
+  pub cleared : AreUnused old.setup.machine app.ranges old.setup.tables new.setup.tables
+
+-- why an application does not leave
+abbrev pub IsWhyHere : State → LoadedApp → UnloadErr → Type 0
+IsWhyHere s app NotLoaded = ⊥
+IsWhyHere s app (Waiting packet) = IsLeastUnderWay s app packet
+IsWhyHere s app Memory = Unit {0}

@@ -1,0 +1,153 @@
+// What leaves a mesh with an application: its deliveries and dump records, once none of its packets is under way.
+ghost use Rattle.std.specs.Prelude.{◌≡◌, [], ◌∷◌, ◌++◌, not, if◌then◌else◌, filter, IfOk, IfSome, IfNone, OnOk};
+ghost use Rattle.std.specs.List.{flat_map};
+ghost use Rattle.mesh_core.specs.State.{IsMesh};
+ghost use Rattle.app_loads.specs.Leaving.{is_packet_of, is_delivery_of, is_record_of, IsPartedBy, IsLeastUnderWay, NoneUnderWay, lesser_of, own_packet, least_of, packets_of, held_packets};
+
+use crate::answers::Ended;
+use crate::loaded::LoadedApp;
+use mesh_core::{Hand, MeshParts};
+use spin_base::{Delivery, DumpRec, Fifo, McCopy, Memory, Seq};
+use std::alloc::Global;
+
+/// What an application leaves, and the deliveries and dump records of all others, which stay with the mesh.
+#[derive(Drop)]
+pub struct Parted {
+    pub ended: Ended,
+    pub delivered: Seq<Delivery>,
+    pub dumped: Fifo<DumpRec>,
+}
+
+// The deliveries and dump records of the application's packets, and those of all others.
+pub fn part(alloc: Global, parts: &MeshParts, app: &LoadedApp) -> Result<Parted, Memory>
+    ensures { IfOk result (IsPartedBy app.now parts.now) }
+{
+    let (delivered, others_delivered) = part_deliveries(alloc, parts.delivered.as_slice(), app)?;
+    let (dumped, others_dumped) = part_records(alloc, parts.dumped.as_slice(), app)?;
+    Ok(Parted {
+        ended: Ended { delivered, dumped },
+        delivered: others_delivered,
+        dumped: Fifo::from_seq(others_dumped),
+    })
+}
+
+// The deliveries of the application's packets, and all others.
+fn part_deliveries(
+    alloc: Global,
+    deliveries: &[Delivery],
+    app: &LoadedApp,
+) -> Result<(Seq<Delivery>, Seq<Delivery>), Memory>
+    ensures { IfOk result (λ lists. (lists.0 ≡ filter (is_delivery_of app.now) deliveries.now) × (lists.1 ≡ filter (λ d. not (is_delivery_of app.now d)) deliveries.now)) }
+{
+    let mut own = Seq::new(alloc);
+    let mut others = Seq::new(alloc);
+    for delivery in deliveries {
+        let is_own = is_packet_of(app, delivery.copy.packet);
+        push_where(&mut own, *delivery, is_own)?;
+        push_where(&mut others, *delivery, !is_own)?;
+    }
+    Ok((own, others))
+}
+
+// The dump records of the application's packets, and all others.
+fn part_records(
+    alloc: Global,
+    records: &[DumpRec],
+    app: &LoadedApp,
+) -> Result<(Seq<DumpRec>, Seq<DumpRec>), Memory>
+    ensures { IfOk result (λ lists. (lists.0 ≡ filter (is_record_of app.now) records.now) × (lists.1 ≡ filter (λ r. not (is_record_of app.now r)) records.now)) }
+{
+    let mut own = Seq::new(alloc);
+    let mut others = Seq::new(alloc);
+    for record in records {
+        let is_own = is_packet_of(app, record.copy.packet);
+        push_where(&mut own, *record, is_own)?;
+        push_where(&mut others, *record, !is_own)?;
+    }
+    Ok((own, others))
+}
+
+// Puts an item at the back of a list, where it belongs there.
+fn push_where<T: Copy>(list: &mut Seq<T>, item: T, belongs: bool) -> Result<(), Memory>
+    ensures { OnOk result (list.new ≡ list.old ++ (if belongs then item ∷ [] else [])) }
+{
+    if belongs {
+        list.push(item)?;
+    }
+    Ok(())
+}
+
+// Whether a packet number is one of the application's.
+fn is_packet_of(app: &LoadedApp, packet: u32) -> bool
+    ensures { result ≡ is_packet_of app.now packet }
+{
+    packet >= app.first && ((packet - app.first) as usize) < app.plan.packets.len()
+}
+
+// The least number of a packet of the application of which a copy is unsent or waits, if there is one.
+pub fn least_waiting(parts: &MeshParts, app: &LoadedApp) -> Option<u32>
+    requires { IsMesh parts.now }
+    ensures some { IfSome result (IsLeastUnderWay parts.now app.now) }
+    ensures none { IfNone result (NoneUnderWay parts.now app.now) }
+{
+    let unsent = least_in_queues(parts.unsent.as_slice(), app, None);
+    let inputs = least_in_queues(parts.inputs.as_slice(), app, unsent);
+    let hands = least_in_hands(parts.hands.as_slice(), app, inputs);
+    least_in_queues(parts.cores.as_slice(), app, hands)
+}
+
+// The lesser of the least so far and the least of the application's packets in these queues.
+fn least_in_queues(queues: &[Fifo<McCopy>], app: &LoadedApp, so_far: Option<u32>) -> Option<u32>
+    ensures { result ≡ lesser_of so_far (least_of app.now (flat_map packets_of queues.now)) }
+{
+    let mut least = so_far;
+    for queue in queues {
+        least = least_in(queue.as_slice(), app, least);
+    }
+    least
+}
+
+// The same of the copies of one queue.
+fn least_in(copies: &[McCopy], app: &LoadedApp, so_far: Option<u32>) -> Option<u32>
+    ensures { result ≡ lesser_of so_far (least_of app.now (packets_of copies.now)) }
+{
+    let mut least = so_far;
+    for copy in copies {
+        least = lesser(copy.packet, app, least);
+    }
+    least
+}
+
+// The same of what routers hold in hand.
+fn least_in_hands(hands: &[Option<Hand>], app: &LoadedApp, so_far: Option<u32>) -> Option<u32>
+    ensures { result ≡ lesser_of so_far (least_of app.now (flat_map held_packets hands.now)) }
+{
+    let mut least = so_far;
+    for hand in hands {
+        least = lesser_held(hand, app, least);
+    }
+    least
+}
+
+// The same of what one router holds in hand.
+fn lesser_held(hand: &Option<Hand>, app: &LoadedApp, so_far: Option<u32>) -> Option<u32>
+    ensures { result ≡ lesser_of so_far (least_of app.now (held_packets hand.now)) }
+{
+    match hand {
+        Some(hand) => lesser(hand.copy.packet, app, so_far),
+        None => so_far,
+    }
+}
+
+// The lesser of the least so far and the packet, where this is one of the application's.
+fn lesser(packet: u32, app: &LoadedApp, so_far: Option<u32>) -> Option<u32>
+    ensures { result ≡ lesser_of so_far (own_packet app.now packet) }
+{
+    if !is_packet_of(app, packet) {
+        return so_far;
+    }
+    match so_far {
+        Some(least) => Some(least.min(packet)),
+        None => Some(packet),
+    }
+}
