@@ -1,5 +1,5 @@
 // Steps with applications.
-ghost use Rattle.std.specs.Prelude.{◌≡◌, ◌<◌, ◌^◌, All, IfOk, codes, map, option_map};
+ghost use Rattle.std.specs.Prelude.{◌≡◌, ◌≤◌, All, IfOk, length, map};
 ghost use Rattle.serde_json.specs.View.{view};
 ghost use Rattle.job_text.specs.Reading.{Gives};
 ghost use Rattle.job_readers.specs.Items.{items_faults};
@@ -40,6 +40,7 @@ pub enum Step {
 pub fn steps_of(alloc: Global, value: &Value) -> Result<Seq<Step>, TextErr>
     ensures steps { Gives (λ s. s) result (steps_faults (view value.now)) (steps_value (view value.now)) }
     ensures valid { IfOk result (All IsValidStep) }
+    ensures few { IfOk result (λ s. length s ≤ 65535) }
 {
     let path = Name::of(alloc, "job")?;
     let items = list(alloc, Some(value), &path, true)?;
@@ -50,6 +51,7 @@ pub fn steps_of(alloc: Global, value: &Value) -> Result<Seq<Step>, TextErr>
 fn each_step(alloc: Global, items: &[Value], path: &Name) -> Result<Seq<Step>, TextErr>
     ensures read { Gives (λ s. s) result (items_faults step_faults path.now 0 (map view items.now)) (map step_value (map view items.now)) }
     ensures valid { IfOk result (All IsValidStep) }
+    ensures all { IfOk result (λ s. length s ≡ length items.now) }
 {
     let mut steps = Seq::new(alloc);
     for (i, item) in items.iter().enumerate() {

@@ -64,7 +64,7 @@ impl Input for Request {
 }
 
 impl Input for Seq<Step> {
-    ghost use Rattle.std.specs.Prelude.{All};
+    ghost use Rattle.std.specs.Prelude.{◌≤◌, All, length};
     ghost use Rattle.app_steps.specs.Steps.{steps_faults, steps_value};
     ghost use Rattle.app_steps.specs.Valid.{IsValidStep};
 
@@ -72,7 +72,7 @@ impl Input for Seq<Step> {
 
     ghost value_of = { steps_value };
 
-    ghost IsSound = { All IsValidStep };
+    ghost IsSound = { λ steps. (All IsValidStep steps) × (length steps ≤ 65535) };
 
     fn of_value(alloc: Global, value: &Value) -> Result<Seq<Step>, TextErr> {
         steps_of(alloc, value)

@@ -67,6 +67,7 @@ pub fn read_request<S: Source>(alloc: Global, source: &mut S) -> Result<Request,
 pub fn read_steps<S: Source>(alloc: Global, source: &mut S) -> Result<Seq<Step>, Refusal>
     ensures steps { IfOk result (IsReadAs steps_in (record { left = S.left source.old; rest = S.left source.new; faults = S.faults source.old; faults' = S.faults source.new })) }
     ensures valid { IfOk result (All IsValidStep) }
+    ensures few { IfOk result (λ steps. length steps ≤ 65535) }
     ensures err { IfErr result (HasNoInput steps_in (record { left = S.left source.old; rest = S.left source.new; faults = S.faults source.old; faults' = S.faults source.new })) }
 {
     read_input(alloc, source)

@@ -31,7 +31,7 @@ fault_line (Clash path) = line (codes "bad" ∷ codes "job:" ∷ codes "clash" �
 
 -- the line of a refusal, ended by a line feed; a fault of writing has none
 abbrev pub line_of : Refusal → List ℕ
-line_of Usage = codes "usage: run, trace, compile, tables, gen N or check\n"
+line_of Usage = codes "usage: run, trace, compile, tables, gen N, apps, reinject or check\n"
 line_of ReadFault = codes "read fault\n"
 line_of WriteFault = []
 line_of TooLong = codes "bad job: too long\n"

@@ -22,7 +22,7 @@ pub fn line_of(alloc: Global, refusal: &Refusal) -> Result<Seq<u8>, Memory>
     match refusal {
         Refusal::Usage => fixed(
             alloc,
-            "usage: run, trace, compile, tables, gen N or check\n",
+            "usage: run, trace, compile, tables, gen N, apps, reinject or check\n",
         ),
         Refusal::ReadFault => fixed(alloc, "read fault\n"),
         Refusal::WriteFault => Ok(Seq::new(alloc)),

@@ -1,6 +1,9 @@
 -- What follows from how a call ends.
-use Rattle.std.proofs.Common.{◌≡◌, ◌⊎◌, ℕ, List, Option, Some, None, Ok, refl, sym, ap, ◌∙◌, subst, inl, inr}
+use Rattle.std.proofs.Common.{◌≡◌, ◌⊎◌, ℕ, List, Option, Some, None, Ok, IfSome, refl, sym, ap, ◌∙◌, subst, inl, inr}
 use Rattle.spin_base.specs.Outside.{FaultsRose}
+use Rattle.app_loads.specs.Applications.{AreApps}
+use Rattle.app_loads.specs.Host.{Host}
+use Rattle.app_steps.specs.declared.steps.Step.{Step}
 use Rattle.mesh_core.specs.State.{State}
 use Rattle.mesh_core.specs.Opened.{MeetsJobLedger}
 use Rattle.check_request.specs.declared.requests.Request.{Request}
@@ -9,30 +12,35 @@ use Rattle.run_report.specs.declared.reports.Report.{Report}
 use Rattle.par_compile.specs.declared.compiling.Plan.{Plan}
 use Rattle.command_words.specs.Commands.{spelled, ReadsJob}
 use Rattle.command_words.specs.declared.commands.Command.{Command}
-use Rattle.command_words.specs.declared.commands.Command.TheVariants.{OfJob, Check}
+use Rattle.command_words.specs.declared.commands.Command.TheVariants.{OfJob, Check, Apps}
 use Rattle.command_words.specs.declared.commands.JobWord.{JobWord}
-use Rattle.command_words.specs.declared.commands.JobWord.TheVariants.{Run, Trace, Compile, Tables, Gen}
+use Rattle.command_words.specs.declared.commands.JobWord.TheVariants.{Run, Reinject, Trace, Compile, Tables, Gen}
 use Rattle.refusals.specs.declared.causes.Refusal.{Refusal}
 use Rattle.refusals.specs.declared.causes.Refusal.TheVariants as refusals
 use Rattle.refusals.specs.Refusals.{line_of, status_at}
+use Rattle.job_gen.specs.Generated.{gen_job}
 use Rattle.job_bytes.specs.Inputs.{Reading, IsReadAs, IsUntouched}
 use Rattle.job_bytes.specs.Jobs.{job_in, job_of}
 use Rattle.job_bytes.specs.Requests.{request_in, request_of}
+use Rattle.job_bytes.specs.Steps.{steps_in, steps_of}
 use Rattle.job_bytes.proofs.JobBytes.{told_long}
 use Rattle.job_words.specs.declared.outcomes.Parts.{Parts}
 use Rattle.job_words.specs.Parts.{no_parts, WhereGiven, WhereRun}
 use Rattle.job_words.specs.Planned.{IsThePlan}
+use Rattle.job_words.specs.Reinjecting.{HasReinjected}
+use Rattle.job_words.specs.Runs.{HasRunOut}
 use Rattle.job_words.specs.Unplanned.{HasNoPlan}
-use Rattle.job_words.specs.Words.{HasRunOut, IsTraced}
+use Rattle.job_words.specs.Words.{IsTraced}
 use Rattle.job_words.proofs.Exclusive.{one_no_plan, planned_has_plan, plannable_has_plan}
 use Rattle.job_words.proofs.Generating.{generated_planned}
-use Rattle.job_words.proofs.WordLaws.{plan_given, ledger_given, run_given, trace_given, generated_given}
+use Rattle.job_words.proofs.WordLaws.{plan_given, ledger_given, run_given, reinject_given, trace_given, generated_given}
 use Rattle.spin_top.specs.declared.outcomes.Outcome.{Outcome}
-use Rattle.spin_top.specs.Causes.{HasCause, usage, of_job, of_request, no_memory, AskForCheck, AskForJob, HasNoNets, IsReadAsAsked}
-use Rattle.spin_top.specs.Ends.{Ends, made, refused, Says, IsExact, IsGenerated, IsOfCheck, HasAnswer, has_plan, has_nets}
+use Rattle.spin_top.specs.Causes.{HasCause, usage, of_job, of_request, of_steps, no_memory, AskForApps, AskForCheck, AskForJob, HasNoNets, HaveNoLines, IsReadAsAsked}
+use Rattle.spin_top.specs.Ends.{Ends, made, refused, Says, IsExact, IsGenerated, IsOfApps, IsOfCheck, HasAnswer, has_plan, has_nets, has_steps}
 use Rattle.spin_top.specs.Inputs.{AreRefused, no_value, no_answer}
-use Rattle.spin_top.specs.Made.{HasNoJob, IsJobOf, from_job, checked, IsMadeOfJob}
+use Rattle.spin_top.specs.Made.{HasNoJob, IsJobOf, from_job, checked, done, IsMadeOfJob}
 use Rattle.spin_top.specs.Writing.{Writing, IsWritten}
+use Rattle.spin_top.proofs.AppLaws.{IsSpared, bytes_refused_spared, fault_spared, memory_spared, none_refused, zero_spared}
 use Rattle.spin_top.proofs.CheckLaws.{checked_has_nets, fault_other, IsOther, memory_other, one_due, refused_other, with_nets, zero_other}
 use Rattle.spin_top.proofs.InputLaws.{answered_not_refused, read_told, refusal_due, refused_in_part, served_memory}
 
@@ -48,6 +56,12 @@ one_word s v w is_v is_w = cc
 job_not_check : (s : Option Command) (w : JobWord) → s ≡ Some (OfJob w) → s ≡ Some Check → ⊥
 job_not_check s w job check = cc
 
+job_not_apps : (s : Option Command) (w : JobWord) → s ≡ Some (OfJob w) → s ≡ Some Apps → ⊥
+job_not_apps s w job apps = cc
+
+check_not_apps : (s : Option Command) → s ≡ Some Check → s ≡ Some Apps → ⊥
+check_not_apps s check apps = cc
+
 -- `gen N` reads no job
 gen_reads_none : (words : List (List ℕ)) (n : ℕ) → spelled words ≡ Some (OfJob (Gen n)) → AskForJob words → ⊥
 gen_reads_none words n gen asks = subst ReadsJob (one_word (spelled words) asks.0 (Gen n) asks.1 gen) asks.2
@@ -55,10 +69,15 @@ gen_reads_none words n gen asks = subst ReadsJob (one_word (spelled words) asks.
 -- a word that reads a job has that of the bytes
 job_told : (w : JobWord) (reading : Reading) (job : Job) (bytes : List ℕ) → ReadsJob w → IsJobOf w reading job → reading.left ≡ Some bytes → job_in bytes ≡ Ok job
 job_told Run reading job bytes reads its told = read_told job_in reading job bytes told its
+job_told Reinject reading job bytes reads its told = read_told job_in reading job bytes told its
 job_told Trace reading job bytes reads its told = read_told job_in reading job bytes told its
 job_told Compile reading job bytes reads its told = read_told job_in reading job bytes told its
 job_told Tables reading job bytes reads its told = read_told job_in reading job bytes told its
 job_told (Gen n) reading job bytes reads its told = absurd reads
+
+-- the job of `gen N` is that of the number
+pub job_of_number : (w : JobWord) (reading : Reading) (job : Job) → IsJobOf w reading job → (n : ℕ) → w ≡ Gen n → job ≡ gen_job n
+job_of_number w reading job its n is = (subst (λ v. IsJobOf v reading job) is its).1
 
 -- the mesh of a report keeps the ledger of the job
 abbrev KeepsLedger : Job → Plan → State → Report → Type 0
@@ -71,10 +90,11 @@ module _ {words : List (List ℕ)} {reading : Reading} {writing : Writing} {o : 
   of_parts : (P : Parts → Type 0) → P no_parts → ((text : List ℕ) → IsMadeOfJob words reading o.parts text → P o.parts) → P o.parts
   of_parts P none by_job = elim ends [
     | made text m written ↦ elim m [
-      | from_job j ↦ by_job text j
-      | checked asks request read is parts ↦ subst P (sym parts) none
+      | from_job j unloaded ↦ by_job text j
+      | checked asks request read is parts unloaded ↦ subst P (sym parts) none
+      | done asks steps read are parts ↦ subst P (sym parts) none
     ]
-    | refused r cause parts written ↦ subst P (sym parts) none
+    | refused r cause parts unloaded written ↦ subst P (sym parts) none
   ]
 
   pub plan_clause : WhereGiven o.parts IsThePlan
@@ -85,6 +105,9 @@ module _ {words : List (List ℕ)} {reading : Reading} {writing : Writing} {o : 
 
   pub run_clause : spelled words ≡ Some (OfJob Run) → WhereRun o.parts HasRunOut
   run_clause asked = of_parts (λ p. WhereRun p HasRunOut) tt (λ text m. run_given m.made (one_word (spelled words) m.word Run m.is_word asked))
+
+  pub reinject_clause : spelled words ≡ Some (OfJob Reinject) → WhereRun o.parts HasReinjected
+  reinject_clause asked = of_parts (λ p. WhereRun p HasReinjected) tt (λ text m. reinject_given m.made (one_word (spelled words) m.word Reinject m.is_word asked))
 
   pub trace_clause : spelled words ≡ Some (OfJob Trace) → WhereRun o.parts IsTraced
   trace_clause asked = of_parts (λ p. WhereRun p IsTraced) tt (λ text m. trace_given m.made (one_word (spelled words) m.word Trace m.is_word asked))
@@ -102,13 +125,15 @@ module _ {words : List (List ℕ)} {reading : Reading} {writing : Writing} {o : 
   say_usage : spelled words ≡ None → Says o.refusal refusals.Usage
   say_usage none = elim ends [
     | made text m written ↦ elim m [
-      | from_job j ↦ absurd (none_some (spelled words) (OfJob j.word) none j.is_word)
-      | checked asks request read is parts ↦ absurd (none_some (spelled words) Check none asks)
+      | from_job j unloaded ↦ absurd (none_some (spelled words) (OfJob j.word) none j.is_word)
+      | checked asks request read is parts unloaded ↦ absurd (none_some (spelled words) Check none asks)
+      | done asks steps read are parts ↦ absurd (none_some (spelled words) Apps none asks)
     ]
-    | refused r cause parts written ↦ says refusals.Usage r written (elim cause [
+    | refused r cause parts unloaded written ↦ says refusals.Usage r written (elim cause [
       | usage asked untouched is ↦ inl is
       | of_job asks none' ↦ absurd (none_some (spelled words) (OfJob asks.0) none asks.1)
       | of_request asks none' ↦ absurd (none_some (spelled words) Check none asks)
+      | of_steps asks none' ↦ absurd (none_some (spelled words) Apps none asks)
       | no_memory part is ↦ inr (inr is)
     ])
   ]
@@ -117,16 +142,18 @@ module _ {words : List (List ℕ)} {reading : Reading} {writing : Writing} {o : 
   say_of_job : AskForJob words → (bytes : List ℕ) → reading.left ≡ Some bytes → (r : Refusal) → AreRefused job_in HasNoPlan bytes r → Says o.refusal r
   say_of_job asks bytes told r are = elim ends [
     | made text m written ↦ elim m [
-      | from_job j ↦
+      | from_job j unloaded ↦
           let reads : ReadsJob j.word = subst ReadsJob (one_word (spelled words) asks.0 j.word asks.1 j.is_word) asks.2 in
           absurd (answered_not_refused job_in HasNoPlan bytes r j.job (job_told j.word reading j.job bytes reads j.its_job told)
           (planned_has_plan j.job j.made.plan r j.made.planned.0) are)
-      | checked check request read is parts ↦ absurd (job_not_check (spelled words) asks.0 asks.1 check)
+      | checked check request read is parts unloaded ↦ absurd (job_not_check (spelled words) asks.0 asks.1 check)
+      | done apps steps read are' parts ↦ absurd (job_not_apps (spelled words) asks.0 asks.1 apps)
     ]
-    | refused s cause parts written ↦ says r s written (elim cause [
+    | refused s cause parts unloaded written ↦ says r s written (elim cause [
       | usage none untouched is ↦ absurd (none_some (spelled words) (OfJob asks.0) none asks.1)
       | of_job asked none ↦ refusal_due job_in HasNoPlan (told_long job_of) one_no_plan reading bytes told r s are none
       | of_request check none ↦ absurd (job_not_check (spelled words) asks.0 asks.1 check)
+      | of_steps apps none ↦ absurd (job_not_apps (spelled words) asks.0 asks.1 apps)
       | no_memory part is ↦ inr (inr is)
     ])
   ]
@@ -135,20 +162,40 @@ module _ {words : List (List ℕ)} {reading : Reading} {writing : Writing} {o : 
   say_of_request : AskForCheck words → (bytes : List ℕ) → reading.left ≡ Some bytes → (r : Refusal) → AreRefused request_in HasNoNets bytes r → Says o.refusal r
   say_of_request asks bytes told r are = elim ends [
     | made text m written ↦ elim m [
-      | from_job j ↦ absurd (job_not_check (spelled words) j.word j.is_word asks)
-      | checked check request read is parts ↦
+      | from_job j unloaded ↦ absurd (job_not_check (spelled words) j.word j.is_word asks)
+      | checked check request read is parts unloaded ↦
           absurd (answered_not_refused request_in HasNoNets bytes r request (read_told request_in reading request bytes told read) (checked_has_nets request text r is) are)
+      | done apps steps read are' parts ↦ absurd (check_not_apps (spelled words) asks apps)
     ]
-    | refused s cause parts written ↦ says r s written (elim cause [
+    | refused s cause parts unloaded written ↦ says r s written (elim cause [
       | usage none untouched is ↦ absurd (none_some (spelled words) Check none asks)
       | of_job asked none ↦ absurd (job_not_check (spelled words) asked.0 asked.1 asks)
       | of_request check none ↦ refusal_due request_in HasNoNets (told_long request_of) one_due reading bytes told r s are none
+      | of_steps apps none ↦ absurd (check_not_apps (spelled words) asks apps)
+      | no_memory part is ↦ inr (inr is)
+    ])
+  ]
+
+  -- bytes that are refused as steps
+  say_of_steps : AskForApps words → (bytes : List ℕ) → reading.left ≡ Some bytes → (r : Refusal) → AreRefused steps_in HaveNoLines bytes r → Says o.refusal r
+  say_of_steps asks bytes told r are = elim ends [
+    | made text m written ↦ elim m [
+      | from_job j unloaded ↦ absurd (job_not_apps (spelled words) j.word j.is_word asks)
+      | checked check request read is parts unloaded ↦ absurd (check_not_apps (spelled words) check asks)
+      | done apps steps read are' parts ↦
+          absurd (answered_not_refused steps_in HaveNoLines bytes r steps (read_told steps_in reading steps bytes told read) (λ none. none) are)
+    ]
+    | refused s cause parts unloaded written ↦ says r s written (elim cause [
+      | usage none untouched is ↦ absurd (none_some (spelled words) Apps none asks)
+      | of_job asked none ↦ absurd (job_not_apps (spelled words) asked.0 asked.1 asks)
+      | of_request check none ↦ absurd (check_not_apps (spelled words) check asks)
+      | of_steps apps none ↦ refusal_due steps_in HaveNoLines (told_long steps_of) none_refused reading bytes told r s are none
       | no_memory part is ↦ inr (inr is)
     ])
   ]
 
   pub exact_clause : IsExact words reading.left o.refusal
-  exact_clause = record { no_command = say_usage; of_job = say_of_job; of_request = say_of_request }
+  exact_clause = record { no_command = say_usage; of_job = say_of_job; of_request = say_of_request; of_steps = say_of_steps }
 
   -- ---- generated jobs
 
@@ -173,19 +220,24 @@ module _ {words : List (List ℕ)} {reading : Reading} {writing : Writing} {o : 
   pub generated_clause : o.status ≡ status_at o.refusal → (n : ℕ) → spelled words ≡ Some (OfJob (Gen n)) → IsGenerated reading writing o
   generated_clause status n asked = elim ends [
     | made text m written ↦ elim m [
-      | from_job j ↦ made_generated status n asked text j written
-      | checked check request read is parts ↦ absurd (job_not_check (spelled words) (Gen n) asked check)
+      | from_job j unloaded ↦ made_generated status n asked text j written
+      | checked check request read is parts unloaded ↦ absurd (job_not_check (spelled words) (Gen n) asked check)
+      | done apps steps read are parts ↦ absurd (job_not_apps (spelled words) (Gen n) asked apps)
     ]
-    | refused r cause parts written ↦
+    | refused r cause parts unloaded written ↦
         let failed : IsUntouched reading × (r ≡ refusals.Memory) = elim cause [
           | usage none untouched is ↦ absurd (none_some (spelled words) (OfJob (Gen n)) none asked)
           | of_job asks none ↦ absurd (gen_reads_none words n asked asks)
           | of_request check none ↦ absurd (job_not_check (spelled words) (Gen n) asked check)
+          | of_steps apps none ↦ absurd (job_not_apps (spelled words) (Gen n) asked apps)
           | no_memory part is ↦ (
             elim part [
               | inl read ↦ elim read.0 [
                 | inl asks ↦ absurd (gen_reads_none words n asked asks)
-                | inr check ↦ absurd (job_not_check (spelled words) (Gen n) asked check)
+                | inr others ↦ elim others [
+                  | inl check ↦ absurd (job_not_check (spelled words) (Gen n) asked check)
+                  | inr apps ↦ absurd (job_not_apps (spelled words) (Gen n) asked apps)
+                ]
               ]
               | inr untouched ↦ untouched
             ],
@@ -213,16 +265,44 @@ module _ {words : List (List ℕ)} {reading : Reading} {writing : Writing} {o : 
   pub check_clause : o.status ≡ status_at o.refusal → AskForCheck words → IsOfCheck o
   check_clause status asked = elim ends [
     | made text m written ↦ elim m [
-      | from_job j ↦ absurd (job_not_check (spelled words) j.word j.is_word asked)
-      | checked check request read is parts ↦ with_status (other_said status text None written zero_other) parts
+      | from_job j unloaded ↦ absurd (job_not_check (spelled words) j.word j.is_word asked)
+      | checked check request read is parts unloaded ↦ with_status (other_said status text None written zero_other) parts
+      | done apps steps read are parts ↦ absurd (check_not_apps (spelled words) asked apps)
     ]
-    | refused r cause parts written ↦
+    | refused r cause parts unloaded written ↦
         with_status (other_said status (line_of r) (Some r) written (elim cause [
           | usage none untouched is ↦ absurd (none_some (spelled words) Check none asked)
           | of_job asks none ↦ absurd (job_not_check (spelled words) asks.0 asks.1 asked)
           | of_request check none ↦ refused_other reading r none
+          | of_steps apps none ↦ absurd (check_not_apps (spelled words) asked apps)
           | no_memory part is ↦ memory_other r is
         ])) parts
+  ]
+
+  -- ---- applications
+
+  spared_said : o.status ≡ status_at o.refusal → (text : List ℕ) (said : Option Refusal) → IsWritten writing text said o.refusal → IsSpared (status_at said) → IsSpared o.status
+  spared_said status text said (inl whole) spared = subst IsSpared (sym (status ∙ ap status_at whole.0)) spared
+  spared_said status text said (inr part) spared = subst IsSpared (sym (status ∙ ap status_at part.0)) fault_spared
+
+  of_apps : IsSpared o.status → o.parts ≡ no_parts → IfSome o.apps AreApps → IsOfApps o
+  of_apps spared none hold = record { none_given = none; hold = hold; no_unplanned_job = spared }
+
+  pub apps_clause : o.status ≡ status_at o.refusal → AskForApps words → IsOfApps o
+  apps_clause status asked = elim ends [
+    | made text m written ↦ elim m [
+      | from_job j unloaded ↦ absurd (job_not_apps (spelled words) j.word j.is_word asked)
+      | checked check request read is parts unloaded ↦ absurd (check_not_apps (spelled words) check asked)
+      | done apps steps read are parts ↦ of_apps (spared_said status text None written zero_spared) parts are.hold
+    ]
+    | refused r cause parts unloaded written ↦
+        of_apps (spared_said status (line_of r) (Some r) written (elim cause [
+          | usage none untouched is ↦ absurd (none_some (spelled words) Apps none asked)
+          | of_job asks none ↦ absurd (job_not_apps (spelled words) asks.0 asks.1 asked)
+          | of_request check none ↦ absurd (check_not_apps (spelled words) check asked)
+          | of_steps apps none ↦ bytes_refused_spared reading r none
+          | no_memory part is ↦ memory_spared r is
+        ])) parts (subst (λ (x : Option Host). IfSome x AreApps) (sym unloaded) tt)
   ]
 
   -- ---- when a call succeeds
@@ -234,12 +314,21 @@ module _ {words : List (List ℕ)} {reading : Reading} {writing : Writing} {o : 
       | usage none untouched is ↦ absurd (none_some (spelled words) (OfJob asks.0) none asks.1)
       | of_job asked none ↦ served_memory job_in HasNoPlan (told_long job_of) reading served.bytes served.value served.told served.read quiet r (plannable_has_plan served.value r served.can) none
       | of_request check none ↦ absurd (job_not_check (spelled words) asks.0 asks.1 check)
+      | of_steps apps none ↦ absurd (job_not_apps (spelled words) asks.0 asks.1 apps)
       | no_memory part is ↦ is
     ]
     | has_nets asks served ↦ elim cause [
       | usage none untouched is ↦ absurd (none_some (spelled words) Check none asks)
       | of_job asked none ↦ absurd (job_not_check (spelled words) asked.0 asked.1 asks)
       | of_request check none ↦ served_memory request_in HasNoNets (told_long request_of) reading served.bytes served.value served.told served.read quiet r (with_nets served.value r served.can) none
+      | of_steps apps none ↦ absurd (check_not_apps (spelled words) asks apps)
+      | no_memory part is ↦ is
+    ]
+    | has_steps asks served ↦ elim cause [
+      | usage none untouched is ↦ absurd (none_some (spelled words) Apps none asks)
+      | of_job asked none ↦ absurd (job_not_apps (spelled words) asked.0 asked.1 asks)
+      | of_request check none ↦ absurd (check_not_apps (spelled words) check asks)
+      | of_steps apps none ↦ served_memory steps_in HaveNoLines (told_long steps_of) reading served.bytes served.value served.told served.read quiet r (λ never. never) none
       | no_memory part is ↦ is
     ]
   ]
@@ -251,7 +340,7 @@ module _ {words : List (List ℕ)} {reading : Reading} {writing : Writing} {o : 
       | inl whole ↦ inl (status ∙ ap status_at whole.0)
       | inr part ↦ absurd (quiet_sink part.2)
     ]
-    | refused r cause parts written ↦ elim written [
+    | refused r cause parts unloaded written ↦ elim written [
       | inl whole ↦ inr (status ∙ (ap status_at whole.0 ∙ ap (λ x. status_at (Some x)) (only_memory answer quiet_source r cause)))
       | inr part ↦ absurd (quiet_sink part.2)
     ]
@@ -264,7 +353,8 @@ pub read_as_asked : (words : List (List ℕ)) (reading : Reading) (r : Refusal) 
 read_as_asked words reading r cause = elim cause [
   | usage none untouched is ↦ inr untouched
   | of_job asks none ↦ inl (inl asks, refused_in_part job_in HasNoPlan reading r none)
-  | of_request asks none ↦ inl (inr asks, refused_in_part request_in HasNoNets reading r none)
+  | of_request asks none ↦ inl (inr (inl asks), refused_in_part request_in HasNoNets reading r none)
+  | of_steps asks none ↦ inl (inr (inr asks), refused_in_part steps_in HaveNoLines reading r none)
   | no_memory part is ↦ part
 ]
 
@@ -274,6 +364,7 @@ module _ (words : List (List ℕ)) (reading : Reading) where
   -- why a word has no job
   pub cause_without_job : (w : JobWord) → spelled words ≡ Some (OfJob w) → (r : Refusal) → HasNoJob w reading r → HasCause words reading r
   cause_without_job Run is r none = of_job (Run, is, tt) (no_value none)
+  cause_without_job Reinject is r none = of_job (Reinject, is, tt) (no_value none)
   cause_without_job Trace is r none = of_job (Trace, is, tt) (no_value none)
   cause_without_job Compile is r none = of_job (Compile, is, tt) (no_value none)
   cause_without_job Tables is r none = of_job (Tables, is, tt) (no_value none)
@@ -282,6 +373,7 @@ module _ (words : List (List ℕ)) (reading : Reading) where
   -- why the job of a word has no plan: that of a number has one
   without_plan : (w : JobWord) (job : Job) → spelled words ≡ Some (OfJob w) → IsJobOf w reading job → (r : Refusal) → HasNoPlan job r → HasCause words reading r
   without_plan Run job is its r none = of_job (Run, is, tt) (no_answer job its none)
+  without_plan Reinject job is its r none = of_job (Reinject, is, tt) (no_answer job its none)
   without_plan Trace job is its r none = of_job (Trace, is, tt) (no_answer job its none)
   without_plan Compile job is its r none = of_job (Compile, is, tt) (no_answer job its none)
   without_plan Tables job is its r none = of_job (Tables, is, tt) (no_answer job its none)
@@ -290,6 +382,7 @@ module _ (words : List (List ℕ)) (reading : Reading) where
   -- what was read for the job of a word
   read_for_job : (w : JobWord) (job : Job) → spelled words ≡ Some (OfJob w) → IsJobOf w reading job → IsReadAsAsked words reading
   read_for_job Run job is its = inl (inl (Run, is, tt), (its.bytes, its.all.gives))
+  read_for_job Reinject job is its = inl (inl (Reinject, is, tt), (its.bytes, its.all.gives))
   read_for_job Trace job is its = inl (inl (Trace, is, tt), (its.bytes, its.all.gives))
   read_for_job Compile job is its = inl (inl (Compile, is, tt), (its.bytes, its.all.gives))
   read_for_job Tables job is its = inl (inl (Tables, is, tt), (its.bytes, its.all.gives))
@@ -303,4 +396,8 @@ module _ (words : List (List ℕ)) (reading : Reading) where
   -- why a request has no answer
   pub cause_with_request : AskForCheck words → (request : Request) → IsReadAs request_in reading request → (r : Refusal) → HasNoNets request r ⊎ (r ≡ refusals.Memory) → HasCause words reading r
   cause_with_request asks request read r (inl none) = of_request asks (no_answer request read none)
-  cause_with_request asks request read r (inr memory) = no_memory (inl (inr asks, (read.bytes, read.all.gives))) memory
+  cause_with_request asks request read r (inr memory) = no_memory (inl (inr (inl asks), (read.bytes, read.all.gives))) memory
+
+  -- why steps have no answer
+  pub cause_with_steps : AskForApps words → (steps : List Step) → IsReadAs steps_in reading steps → (r : Refusal) → r ≡ refusals.Memory → HasCause words reading r
+  cause_with_steps asks steps read r memory = no_memory (inl (inr (inr asks), (read.bytes, read.all.gives))) memory

@@ -1,8 +1,9 @@
 -- Why a call gives no text of its own (this project's own).
 use Rattle.std.specs.Prelude.{◌≡◌, ◌⊎◌, ℕ, List, Some, None}
+use Rattle.app_steps.specs.declared.steps.Step.{Step}
 use Rattle.check_request.specs.declared.requests.Request.{Request}
 use Rattle.check_answers.specs.Answers.{IsDue}
-use Rattle.command_words.specs.declared.commands.Command.TheVariants.{OfJob, Check}
+use Rattle.command_words.specs.declared.commands.Command.TheVariants.{OfJob, Check, Apps}
 use Rattle.command_words.specs.declared.commands.JobWord.{JobWord}
 use Rattle.command_words.specs.Commands.{spelled, ReadsJob}
 use Rattle.refusals.specs.declared.causes.Refusal.{Refusal}
@@ -10,6 +11,7 @@ use Rattle.refusals.specs.declared.causes.Refusal.TheVariants as refusals
 use Rattle.job_bytes.specs.Inputs.{Reading, IsUntouched, IsReadInPart}
 use Rattle.job_bytes.specs.Jobs.{job_in}
 use Rattle.job_bytes.specs.Requests.{request_in}
+use Rattle.job_bytes.specs.Steps.{steps_in}
 use Rattle.job_words.specs.Unplanned.{HasNoPlan}
 use Rattle.spin_top.specs.Inputs.{IsRefusedFor}
 
@@ -21,9 +23,13 @@ AskForJob words = (w : JobWord) × (spelled words ≡ Some (OfJob w)) × ReadsJo
 abbrev pub AskForCheck : List (List ℕ) → Type 0
 AskForCheck words = spelled words ≡ Some Check
 
+-- the words are `apps`, which reads steps with applications
+abbrev pub AskForApps : List (List ℕ) → Type 0
+AskForApps words = spelled words ≡ Some Apps
+
 -- the words are a command that reads
 abbrev pub AskToRead : List (List ℕ) → Type 0
-AskToRead words = AskForJob words ⊎ AskForCheck words
+AskToRead words = AskForJob words ⊎ (AskForCheck words ⊎ AskForApps words)
 
 -- where the words are a command that reads, what the source lost it gave; else nothing was read
 abbrev pub IsReadAsAsked : List (List ℕ) → Reading → Type 0
@@ -33,11 +39,16 @@ IsReadAsAsked words reading = (AskToRead words × IsReadInPart reading) ⊎ IsUn
 abbrev pub HasNoNets : Request → Refusal → Type 0
 HasNoNets request r = IsDue request.job.machine request.job.graph r
 
+-- No steps are without an answer: what is refused of a load is told in its line.
+abbrev pub HaveNoLines : List Step → Refusal → Type 0
+HaveNoLines steps r = ⊥
+
 -- Why a call gives no text of its own, with what was read of the source. The words are no command, and nothing was read. Or they
--- ask for a job, and there is none, or one without a plan; or for a request, and there is none, or one without an answer. Or
--- memory ran out, which may come at any time.
+-- ask for a job, and there is none, or one without a plan; or for a request, and there is none, or one without an answer; or for
+-- steps, and there are none. Or memory ran out, which may come at any time.
 pub data HasCause (words : List (List ℕ)) (reading : Reading) (r : Refusal) : Type 0 where
   usage : spelled words ≡ None → IsUntouched reading → r ≡ refusals.Usage → HasCause words reading r
   of_job : AskForJob words → IsRefusedFor job_in HasNoPlan reading r → HasCause words reading r
   of_request : AskForCheck words → IsRefusedFor request_in HasNoNets reading r → HasCause words reading r
+  of_steps : AskForApps words → IsRefusedFor steps_in HaveNoLines reading r → HasCause words reading r
   no_memory : IsReadAsAsked words reading → r ≡ refusals.Memory → HasCause words reading r

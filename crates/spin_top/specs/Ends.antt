@@ -1,5 +1,7 @@
 -- How a call ends (this project's own).
-use Rattle.std.specs.Prelude.{◌≡◌, ◌⊎◌, ℕ, List, Option, Some, None, Result}
+use Rattle.std.specs.Prelude.{◌≡◌, ◌⊎◌, ◌≤◌, ℕ, List, Option, Some, None, IfSome, Result}
+use Rattle.app_loads.specs.Applications.{AreApps}
+use Rattle.app_steps.specs.declared.steps.Step.{Step}
 use Rattle.command_words.specs.declared.commands.Command.TheVariants.{OfJob}
 use Rattle.command_words.specs.declared.commands.JobWord.TheVariants.{Gen}
 use Rattle.command_words.specs.Commands.{spelled}
@@ -10,22 +12,23 @@ use Rattle.spin_base.specs.Outside.{FaultsRose}
 use Rattle.job_bytes.specs.Inputs.{Reading, IsUntouched}
 use Rattle.job_bytes.specs.Jobs.{job_in}
 use Rattle.job_bytes.specs.Requests.{request_in}
+use Rattle.job_bytes.specs.Steps.{steps_in}
 use Rattle.check_request.specs.declared.requests.Request.{Request}
 use Rattle.par_compile.specs.Compiled.{HasPlacement}
 use Rattle.job_words.specs.Parts.{no_parts, WhereRun}
+use Rattle.job_words.specs.Runs.{HasRunOut}
 use Rattle.job_words.specs.Unplanned.{CanBePlanned, HasBlocks, HasNoPlan}
-use Rattle.job_words.specs.Words.{HasRunOut}
 use Rattle.spin_top.specs.declared.outcomes.Outcome.{Outcome}
-use Rattle.spin_top.specs.Causes.{HasCause, HasNoNets, AskForCheck, AskForJob}
+use Rattle.spin_top.specs.Causes.{HasCause, HasNoNets, HaveNoLines, AskForApps, AskForCheck, AskForJob}
 use Rattle.spin_top.specs.Inputs.{AreRefused, IsServed}
 use Rattle.spin_top.specs.Made.{IsMade}
 use Rattle.spin_top.specs.Writing.{Writing, IsWritten}
 
 -- How a call ends. All that the words ask for was made, and its text written. Or there is a refusal with its cause, none of the
--- parts is given, and the refusal's line was written.
+-- parts and no applications are given, and the refusal's line was written.
 pub data Ends (words : List (List ℕ)) (reading : Reading) (writing : Writing) (o : Outcome) : Type 0 where
-  made : (text : List ℕ) → IsMade words reading o.parts text → IsWritten writing text None o.refusal → Ends words reading writing o
-  refused : (r : Refusal) → HasCause words reading r → o.parts ≡ no_parts → IsWritten writing (line_of r) (Some r) o.refusal → Ends words reading writing o
+  made : (text : List ℕ) → IsMade words reading o.parts o.apps text → IsWritten writing text None o.refusal → Ends words reading writing o
+  refused : (r : Refusal) → HasCause words reading r → o.parts ≡ no_parts → o.apps ≡ None → IsWritten writing (line_of r) (Some r) o.refusal → Ends words reading writing o
 
 -- the call says this, or a fault or want of memory stands in its place
 abbrev pub Says : Option Refusal → Refusal → Type 0
@@ -35,22 +38,28 @@ Says said r = (said ≡ Some r) ⊎ ((said ≡ Some WriteFault) ⊎ ((said ≡ S
 abbrev pub SaysOf : {A : Type 0} → (List ℕ → Result A Refusal) → (A → Refusal → Type 0) → Option (List ℕ) → Option Refusal → Type 0
 SaysOf value_in HasNone left said = (bytes : List ℕ) → left ≡ Some bytes → (r : Refusal) → AreRefused value_in HasNone bytes r → Says said r
 
--- Each cause has its answer. Words that are no command are answered so. Where they ask for a job, or for a request, and the source
--- tells its bytes, each refusal that these have is the answer.
+-- Each cause has its answer. Words that are no command are answered so. Where they ask for a job, for a request or for steps, and the
+-- source tells its bytes, each refusal that these have is the answer.
 pub record IsExact (words : List (List ℕ)) (left : Option (List ℕ)) (said : Option Refusal) : Type 0 where
   pub no_command : spelled words ≡ None → Says said Usage
   pub of_job : AskForJob words → SaysOf job_in HasNoPlan left said
   pub of_request : AskForCheck words → SaysOf request_in HasNoNets left said
+  pub of_steps : AskForApps words → SaysOf steps_in HaveNoLines left said
 
 -- all vertices of a request's job have places, and all nets have keys
 abbrev pub HasNets : Request → Type 0
 HasNets request = HasPlacement request.job.machine request.job.graph × HasBlocks request.job.graph
 
+-- steps can always be answered
+abbrev pub CanBeDone : List Step → Type 0
+CanBeDone steps = Unit {0}
+
 -- The words ask for a job, and the source tells the bytes of one that can be planned. Or they ask for a request, and it tells the
--- bytes of one whose job can be placed and has keys.
+-- bytes of one whose job can be placed and has keys. Or they ask for steps, and it tells the bytes of some.
 pub data HasAnswer (words : List (List ℕ)) (left : Option (List ℕ)) : Type 0 where
   has_plan : AskForJob words → IsServed job_in CanBePlanned left → HasAnswer words left
   has_nets : AskForCheck words → IsServed request_in HasNets left → HasAnswer words left
+  has_steps : AskForApps words → IsServed steps_in CanBeDone left → HasAnswer words left
 
 -- How `gen N` ends: nothing is read, and what is given is a run that has come to its end. The status is 0; or 9, where memory ran
 -- out; or 3, at a fault of the sink.
@@ -68,3 +77,10 @@ pub record IsOfCheck (o : Outcome) : Type 0 where
   pub none_given : o.parts ≡ no_parts
   pub no_cut_off : o.status ≡ 7 → ⊥
   pub no_long_table : o.status ≡ 8 → ⊥
+
+-- How `apps` ends: no part is given, all that applications keep holds where they are given, and the status is none of those of a job
+-- without a plan.
+pub record IsOfApps (o : Outcome) : Type 0 where
+  pub none_given : o.parts ≡ no_parts
+  pub hold : IfSome o.apps AreApps
+  pub no_unplanned_job : 5 ≤ o.status → o.status ≤ 8 → ⊥

@@ -2,6 +2,7 @@ pub use Rattle.spin_base.specs.Outside
 pub use Rattle.app_graph.specs.RunPart
 pub use Rattle.app_graph.specs.ValidGraph
 pub use Rattle.mesh_core.specs.State
+pub use Rattle.app_answers.specs.Answers
 pub use Rattle.command_words.specs.Commands
 pub use Rattle.refusals.specs.Refusals
 pub use Rattle.job_bytes.specs.Jobs

@@ -1,5 +1,10 @@
 -- What a call makes (this project's own).
-use Rattle.std.specs.Prelude.{◌≡◌, ◌∷◌, ℕ, List, Some, codes}
+use Rattle.std.specs.Prelude.{◌≡◌, ◌∷◌, ℕ, List, Option, Some, None, IfSome, is_some, codes}
+use Rattle.std.specs.List.{list_any}
+use Rattle.app_answers.specs.Answers.{AreAnswered, is_load}
+use Rattle.app_loads.specs.Applications.{AreApps}
+use Rattle.app_loads.specs.Host.{Host}
+use Rattle.app_steps.specs.declared.steps.Step.{Step}
 use Rattle.check_request.specs.declared.requests.Request.{Request}
 use Rattle.check_answers.specs.Answers.{IsAnswer, NamesMisrouted, RoutesRight}
 use Rattle.check_answers.specs.Findings.{right_line}
@@ -8,17 +13,18 @@ use Rattle.run_report.specs.ReportText.{line}
 use Rattle.command_words.specs.Commands.{spelled}
 use Rattle.command_words.specs.declared.commands.Command.TheVariants.{OfJob}
 use Rattle.command_words.specs.declared.commands.JobWord.{JobWord}
-use Rattle.command_words.specs.declared.commands.JobWord.TheVariants.{Run, Trace, Compile, Tables, Gen}
+use Rattle.command_words.specs.declared.commands.JobWord.TheVariants.{Run, Reinject, Trace, Compile, Tables, Gen}
 use Rattle.refusals.specs.declared.causes.Refusal.{Refusal}
 use Rattle.refusals.specs.declared.causes.Refusal.TheVariants as refusals
 use Rattle.job_bytes.specs.Inputs.{Reading, HasNoInput, IsReadAs, IsUntouched}
 use Rattle.job_bytes.specs.Jobs.{job_in}
 use Rattle.job_bytes.specs.Requests.{request_in}
+use Rattle.job_bytes.specs.Steps.{steps_in}
 use Rattle.job_gen.specs.Generated.{gen_job}
 use Rattle.job_words.specs.declared.outcomes.Parts.{Parts}
 use Rattle.job_words.specs.Parts.{no_parts}
 use Rattle.job_words.specs.Words.{IsMadeOf}
-use Rattle.spin_top.specs.Causes.{AskForCheck}
+use Rattle.spin_top.specs.Causes.{AskForApps, AskForCheck}
 
 -- ---- words of a job
 
@@ -26,6 +32,7 @@ use Rattle.spin_top.specs.Causes.{AskForCheck}
 -- left are the job.
 abbrev pub IsJobOf : JobWord → Reading → Job → Type 0
 IsJobOf Run reading job = IsReadAs job_in reading job
+IsJobOf Reinject reading job = IsReadAs job_in reading job
 IsJobOf Trace reading job = IsReadAs job_in reading job
 IsJobOf Compile reading job = IsReadAs job_in reading job
 IsJobOf Tables reading job = IsReadAs job_in reading job
@@ -34,6 +41,7 @@ IsJobOf (Gen n) reading job = IsUntouched reading × (job ≡ gen_job n)
 -- Why a word has no job: for `gen N` memory ran out, and nothing was read; for each other one reading has its causes.
 abbrev pub HasNoJob : JobWord → Reading → Refusal → Type 0
 HasNoJob Run reading r = HasNoInput job_in reading r
+HasNoJob Reinject reading r = HasNoInput job_in reading r
 HasNoJob Trace reading r = HasNoInput job_in reading r
 HasNoJob Compile reading r = HasNoInput job_in reading r
 HasNoJob Tables reading r = HasNoInput job_in reading r
@@ -57,8 +65,22 @@ pub record IsChecked (request : Request) (text : List ℕ) : Type 0 where
   pub right : text ≡ right_line → RoutesRight request.job.machine request.job.graph request.trees request.image
   pub wrong : (words : List (List ℕ)) → text ≡ line (codes "wrong" ∷ words) → NamesMisrouted request.job.machine request.job.graph request.trees request.image text
 
+-- ---- applications
+
+-- The text is the lines of the steps, each the answer to its step on the state that the steps before it left, and the machine with
+-- its applications is the state after the last. It is given where one of the steps is a load, and all that applications keep
+-- holds of it.
+pub record AreDone (steps : List Step) (apps : Option Host) (text : List ℕ) : Type 0 where
+  pub answers : AreAnswered steps text apps
+  pub given : is_some apps ≡ list_any is_load steps
+  pub hold : IfSome apps AreApps
+
+-- ---- all words
+
 -- What a call makes. The words are one of a job, and it makes this of its job. Or they are `check`; all bytes that the source had
--- left are a request; the text is the answer to it, and no part is given.
-pub data IsMade (words : List (List ℕ)) (reading : Reading) (parts : Parts) (text : List ℕ) : Type 0 where
-  from_job : IsMadeOfJob words reading parts text → IsMade words reading parts text
-  checked : AskForCheck words → (request : Request) → IsReadAs request_in reading request → IsChecked request text → parts ≡ no_parts → IsMade words reading parts text
+-- left are a request; the text is the answer to it, and no part is given. Or they are `apps`; all bytes that the source had left
+-- are steps; they are done, and no part is given. Only then are applications given.
+pub data IsMade (words : List (List ℕ)) (reading : Reading) (parts : Parts) (apps : Option Host) (text : List ℕ) : Type 0 where
+  from_job : IsMadeOfJob words reading parts text → apps ≡ None → IsMade words reading parts apps text
+  checked : AskForCheck words → (request : Request) → IsReadAs request_in reading request → IsChecked request text → parts ≡ no_parts → apps ≡ None → IsMade words reading parts apps text
+  done : AskForApps words → (steps : List Step) → IsReadAs steps_in reading steps → AreDone steps apps text → parts ≡ no_parts → IsMade words reading parts apps text

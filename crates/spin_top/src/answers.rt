@@ -2,58 +2,83 @@
 ghost use Rattle.std.specs.Prelude.{◌≡◌, ℕ, List, Some, IfOk, IfErr};
 ghost use Rattle.command_words.specs.Commands.{spelled};
 ghost use Rattle.command_words.specs.declared.commands.Command.TheVariants.{OfJob};
-ghost use Rattle.spin_top.specs.Causes.{AskForCheck, HasCause};
+ghost use Rattle.spin_top.specs.Causes.{AskForApps, AskForCheck, HasCause};
 ghost use Rattle.spin_top.specs.Made.{IsMade};
 
 use crate::inputs::job_for;
-use crate::outcomes::no_parts;
-use check_answers::answer;
+use crate::outcomes::{Output, no_parts};
 use command_words::JobWord;
-use job_bytes::read_request;
-use job_words::{Made, made_of_job};
+use job_bytes::{read_request, read_steps};
+use job_words::made_of_job;
 use refusals::Refusal;
-use spin_base::{Gate, Source};
+use spin_base::{Gate, Memory, Source};
 use std::alloc::Global;
+use std::sync::Wait;
 use std::thread::Threads;
 
 // What a word makes of its job.
-pub(crate) fn from_job<R: Threads + Sync, S: Source, G: Gate>(
+pub(crate) fn from_job<R: Threads + Wait + Sync, S: Source, G: Gate>(
     rt: &R,
     alloc: Global,
     word: JobWord,
     source: &mut S,
     gate: &G,
-) -> Result<Made, Refusal>
+) -> Result<Output, Refusal>
     ensures made { (words : List (List ℕ)) → spelled words ≡ Some (OfJob word) → IfOk result (λ made. IsMade words
         (record { left = S.left source.old; rest = S.left source.new; faults = S.faults source.old; faults' = S.faults source.new })
-        made.parts made.text) }
+        made.parts made.apps made.text) }
     ensures err { (words : List (List ℕ)) → spelled words ≡ Some (OfJob word) → IfErr result (HasCause words
         (record { left = S.left source.old; rest = S.left source.new; faults = S.faults source.old; faults' = S.faults source.new })) }
 {
     let job = job_for(alloc, word, source)?;
-    made_of_job(rt, alloc, word, job, gate)
+    let made = made_of_job(rt, alloc, word, job, gate)?;
+    Ok(Output {
+        parts: made.parts,
+        apps: None,
+        text: made.text,
+    })
 }
 
 // The answer to the request that the source's bytes are.
-pub(crate) fn checked<S: Source>(alloc: Global, source: &mut S) -> Result<Made, Refusal>
+pub(crate) fn checked<S: Source>(alloc: Global, source: &mut S) -> Result<Output, Refusal>
     ensures made { (words : List (List ℕ)) → AskForCheck words → IfOk result (λ made. IsMade words
         (record { left = S.left source.old; rest = S.left source.new; faults = S.faults source.old; faults' = S.faults source.new })
-        made.parts made.text) }
+        made.parts made.apps made.text) }
     ensures err { (words : List (List ℕ)) → AskForCheck words → IfErr result (HasCause words
         (record { left = S.left source.old; rest = S.left source.new; faults = S.faults source.old; faults' = S.faults source.new })) }
 {
     let request = read_request(alloc, source)?;
     let trees = request.trees.as_slice();
     let image = request.image.as_slice();
-    let text = answer(
+    let text = check_answers::answer(
         alloc,
         &request.job.machine,
         &request.job.graph,
         trees,
         image,
     )?;
-    Ok(Made {
+    Ok(Output {
         parts: no_parts(),
+        apps: None,
         text,
     })
+}
+
+// The answers to the steps that the source's bytes are.
+pub(crate) fn done<S: Source>(alloc: Global, source: &mut S) -> Result<Output, Refusal>
+    ensures made { (words : List (List ℕ)) → AskForApps words → IfOk result (λ made. IsMade words
+        (record { left = S.left source.old; rest = S.left source.new; faults = S.faults source.old; faults' = S.faults source.new })
+        made.parts made.apps made.text) }
+    ensures err { (words : List (List ℕ)) → AskForApps words → IfErr result (HasCause words
+        (record { left = S.left source.old; rest = S.left source.new; faults = S.faults source.old; faults' = S.faults source.new })) }
+{
+    let steps = read_steps(alloc, source)?;
+    match app_answers::answer(alloc, steps.as_slice()) {
+        Ok(answered) => Ok(Output {
+            parts: no_parts(),
+            apps: answered.apps,
+            text: answered.text,
+        }),
+        Err(Memory) => Err(Refusal::Memory),
+    }
 }

@@ -4,21 +4,22 @@ ghost use Rattle.mesh_core.specs.Opened.{MeetsJobLedger};
 ghost use Rattle.spin_base.specs.Outside.{FaultsRose};
 ghost use Rattle.command_words.specs.Commands.{spelled, texts_of};
 ghost use Rattle.command_words.specs.declared.commands.Command.TheVariants.{OfJob};
-ghost use Rattle.command_words.specs.declared.commands.JobWord.TheVariants.{Run, Trace};
+ghost use Rattle.command_words.specs.declared.commands.JobWord.TheVariants.{Run, Reinject, Trace};
 ghost use Rattle.refusals.specs.Refusals.{line_of as line_of_refusal, status_at};
 ghost use Rattle.refusals.specs.declared.causes.Refusal.TheVariants.{Memory as NoMemory};
 ghost use Rattle.job_words.specs.Parts.{no_parts, WhereGiven, WhereRun};
 ghost use Rattle.job_words.specs.Planned.{IsThePlan};
-ghost use Rattle.job_words.specs.Words.{HasRunOut, IsTraced};
-ghost use Rattle.spin_top.specs.Causes.{AskForCheck, HasCause};
-ghost use Rattle.spin_top.specs.Ends.{Ends, EndsGenerated, HasAnswer, IsExact, IsOfCheck};
+ghost use Rattle.job_words.specs.Reinjecting.{HasReinjected};
+ghost use Rattle.job_words.specs.Runs.{HasRunOut};
+ghost use Rattle.job_words.specs.Words.{IsTraced};
+ghost use Rattle.spin_top.specs.Causes.{AskForApps, AskForCheck, HasCause};
+ghost use Rattle.spin_top.specs.Ends.{Ends, EndsGenerated, HasAnswer, IsExact, IsOfApps, IsOfCheck};
 ghost use Rattle.spin_top.specs.Made.{IsMade};
 ghost use Rattle.spin_top.specs.Writing.{IsWritten};
 
-use crate::answers::{checked, from_job};
-use crate::outcomes::{Outcome, no_parts};
+use crate::answers::{checked, done, from_job};
+use crate::outcomes::{Outcome, Output, no_parts};
 use command_words::{Command, command_of};
-use job_words::Made;
 use refusals::{OUT_OF_MEMORY, Refusal, line_of};
 use spin_base::{Gate, Memory, Sink, Source, write_all};
 use std::alloc::Global;
@@ -27,17 +28,20 @@ use std::thread::Threads;
 
 /// Does what the words ask for, with the source's bytes as the input, and writes the text or one line to the sink.
 ///
-/// The words are those of the command line without the program's name: `run`, `trace`, `compile`, `tables`, `gen N` or `check`.
-/// `run` compiles the job, runs its packets, and writes the report; `trace` compiles it, takes its events one by one, and writes
-/// the report with the answers to them; `compile` compiles it and writes the bytes of the image of its tables; `tables` compiles
-/// it and writes where its vertices stand, which keys its nets have, and its tables. `gen N` reads nothing: it compiles the job of
-/// the number, runs it, and writes a summary. `check` reads a request, which is a job with a tree for each of its nets and the
-/// bytes of an image, and writes whether the image's tables route the nets by these trees.
+/// The words are those of the command line without the program's name: `run`, `reinject`, `trace`, `compile`, `tables`, `gen N`,
+/// `check` or `apps`. `run` compiles the job, runs its packets by rounds on threads until none waits, and writes the report;
+/// `reinject` does the same, and puts dumped copies back between rounds until none is left; `trace` compiles it, takes its
+/// events one by one, and writes the report with the answers to them; `compile` compiles it and writes the bytes of the image
+/// of its tables; `tables` compiles it and writes where its vertices stand, which keys its nets have, and its tables. `gen N`
+/// reads nothing: it compiles the job of the number, runs it, and writes a summary. `check` reads a request, which is a job
+/// with a tree for each of its nets and the bytes of an image, and writes whether the image's tables route the nets by these
+/// trees. `apps` reads a list of steps, does them on one machine, each a load or an unload of an application or a run of all, and
+/// writes one line a step.
 /// The whole text stands before its first byte is written, and a refusal writes its line and nothing else.
 ///
 /// Statuses: 0, the text was written; 1, the words spell no command; 2, reading failed; 3, writing failed; 4, the bytes are
-/// no job or request; 5, a vertex has no room; 6, a net has no keys; 7, a target is cut off; 8, a table is too long; 9, memory ran
-/// out. `gen N` ends with 0, 3 or 9, and `check` with none of 7 and 8.
+/// no job, request or steps; 5, a vertex has no room; 6, a net has no keys; 7, a target is cut off; 8, a table is too long; 9, memory ran
+/// out. `gen N` ends with 0, 3 or 9, `check` with none of 7 and 8, and `apps` with none of 5 to 8.
 ///
 /// It may wait for the gate and for threads; it keeps its promises if it returns.
 pub fn spin<Rt: Threads + Wait + Sync, S: Source, K: Sink, G: Gate>(
@@ -56,12 +60,14 @@ pub fn spin<Rt: Threads + Wait + Sync, S: Source, K: Sink, G: Gate>(
     ensures plan { WhereGiven result.parts IsThePlan }
     ensures ledger { WhereRun result.parts (λ job plan mesh report. MeetsJobLedger mesh plan.nets job.run.packets) }
     ensures run { spelled (texts_of words.now) ≡ Some (OfJob Run) → WhereRun result.parts HasRunOut }
+    ensures reinject { spelled (texts_of words.now) ≡ Some (OfJob Reinject) → WhereRun result.parts HasReinjected }
     ensures trace { spelled (texts_of words.now) ≡ Some (OfJob Trace) → WhereRun result.parts IsTraced }
     ensures generated { EndsGenerated (texts_of words.now)
         (record { left = S.left source.old; rest = S.left source.new; faults = S.faults source.old; faults' = S.faults source.new })
         (record { written = K.written sink.old; written' = K.written sink.new; faults = K.faults sink.old; faults' = K.faults sink.new })
         result }
     ensures checked { AskForCheck (texts_of words.now) → IsOfCheck result }
+    ensures apps { AskForApps (texts_of words.now) → IsOfApps result }
     ensures exact { IsExact (texts_of words.now) (S.left source.old) result.refusal }
     ensures complete { HasAnswer (texts_of words.now) (S.left source.old) → ¬ FaultsRose (S.faults source.old) (S.faults source.new) →
         ¬ FaultsRose (K.faults sink.old) (K.faults sink.new) → (result.status ≡ 0) ⊎ (result.status ≡ 9) }
@@ -70,7 +76,7 @@ pub fn spin<Rt: Threads + Wait + Sync, S: Source, K: Sink, G: Gate>(
 }
 
 // What `spin` does, and how it ends.
-fn answered<R: Threads + Sync, S: Source, K: Sink, G: Gate>(
+fn answered<R: Threads + Wait + Sync, S: Source, K: Sink, G: Gate>(
     rt: &R,
     alloc: Global,
     words: &[String],
@@ -91,16 +97,16 @@ fn answered<R: Threads + Sync, S: Source, K: Sink, G: Gate>(
 }
 
 // What the words and the source's bytes give, or why they give nothing.
-fn made_of<R: Threads + Sync, S: Source, G: Gate>(
+fn made_of<R: Threads + Wait + Sync, S: Source, G: Gate>(
     rt: &R,
     alloc: Global,
     words: &[String],
     source: &mut S,
     gate: &G,
-) -> Result<Made, Refusal>
+) -> Result<Output, Refusal>
     ensures made { IfOk result (λ made. IsMade (texts_of words.now)
         (record { left = S.left source.old; rest = S.left source.new; faults = S.faults source.old; faults' = S.faults source.new })
-        made.parts made.text) }
+        made.parts made.apps made.text) }
     ensures err { IfErr result (HasCause (texts_of words.now)
         (record { left = S.left source.old; rest = S.left source.new; faults = S.faults source.old; faults' = S.faults source.new })) }
 {
@@ -110,27 +116,31 @@ fn made_of<R: Threads + Sync, S: Source, G: Gate>(
     match command {
         Command::OfJob(word) => from_job(rt, alloc, word, source, gate),
         Command::Check => checked(alloc, source),
+        Command::Apps => done(alloc, source),
     }
 }
 
 // Writes the text of what was made.
-fn write_text<K: Sink>(made: Made, sink: &mut K) -> Outcome
+fn write_text<K: Sink>(made: Output, sink: &mut K) -> Outcome
     ensures status { result.status ≡ status_at result.refusal }
     ensures parts { result.parts ≡ made.parts }
+    ensures apps { result.apps ≡ made.apps }
     ensures written { IsWritten (record { written = K.written sink.old; written' = K.written sink.new; faults = K.faults sink.old; faults' = K.faults sink.new })
         made.text None result.refusal }
 {
-    let Made { parts, text } = made;
+    let Output { parts, apps, text } = made;
     match write_all(sink, text.as_slice()) {
         Ok(()) => Outcome {
             status: 0,
             parts,
             refusal: None,
+            apps,
         },
         Err(_) => Outcome {
             status: 3,
             parts,
             refusal: Some(Refusal::WriteFault),
+            apps,
         },
     }
 }
@@ -139,6 +149,7 @@ fn write_text<K: Sink>(made: Made, sink: &mut K) -> Outcome
 fn write_refusal<K: Sink>(alloc: Global, refusal: Refusal, sink: &mut K) -> Outcome
     ensures status { result.status ≡ status_at result.refusal }
     ensures parts { result.parts ≡ no_parts }
+    ensures apps { result.apps ≡ None }
     ensures written { IsWritten (record { written = K.written sink.old; written' = K.written sink.new; faults = K.faults sink.old; faults' = K.faults sink.new })
         (line_of_refusal refusal) (Some refusal) result.refusal
         ⊎ IsWritten (record { written = K.written sink.old; written' = K.written sink.new; faults = K.faults sink.old; faults' = K.faults sink.new })
@@ -155,6 +166,7 @@ fn write_line<K: Sink>(refusal: Refusal, line: &[u8], sink: &mut K) -> Outcome
     requires { line.now ≡ line_of_refusal refusal }
     ensures status { result.status ≡ status_at result.refusal }
     ensures parts { result.parts ≡ no_parts }
+    ensures apps { result.apps ≡ None }
     ensures written { IsWritten (record { written = K.written sink.old; written' = K.written sink.new; faults = K.faults sink.old; faults' = K.faults sink.new })
         (line_of_refusal refusal) (Some refusal) result.refusal }
 {
@@ -166,5 +178,6 @@ fn write_line<K: Sink>(refusal: Refusal, line: &[u8], sink: &mut K) -> Outcome
         status: refusal.status(),
         parts: no_parts(),
         refusal: Some(refusal),
+        apps: None,
     }
 }

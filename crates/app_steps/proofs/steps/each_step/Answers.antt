@@ -1,4 +1,5 @@
-use Rattle.std.proofs.Common.{map, arith}
+use Rattle.std.proofs.Common.{◌∙◌, ap, length, map, arith}
+use Rattle.std.proofs.lemmas.List.{length-map}
 use Rattle.std.proofs.lemmas.List.Elements.{All-push}
 use Rattle.std.proofs.lemmas.Result.{err_from_is_err_and}
 use Rattle.serde_json.specs.View.{view}
@@ -27,3 +28,8 @@ pub returns-clause-read : goal.returns-clause-read
 returns-clause-read c =
     let xs = c.args.items.now in
     (items-none view xs c.loop-i.i step_faults c.args.path.now (items_faults step_faults c.args.path.now 0 (map view xs)) (omega arith) c.loop-i.invariant.left, values-all view xs c.loop-i.i step_value c.loop-i.steps (omega arith) c.loop-i.invariant.read)
+
+pub returns-clause-all : goal.returns-clause-all
+returns-clause-all c =
+    let xs = c.args.items.now in
+    ap length (values-all view xs c.loop-i.i step_value c.loop-i.steps (omega arith) c.loop-i.invariant.read) ∙ (length-map (map view xs) step_value ∙ length-map xs view)

@@ -1,4 +1,5 @@
-use Rattle.std.proofs.Common.{refl, sym, subst, inl, inr}
+use Rattle.std.proofs.Common.{Option, refl, sym, subst, inl, inr}
+use Rattle.app_loads.specs.Host.{Host}
 use Rattle.command_words.specs.Commands.{texts_of}
 use Rattle.refusals.specs.declared.causes.Refusal.TheVariants as refusals
 use Rattle.job_bytes.specs.Inputs.{Reading}
@@ -18,7 +19,9 @@ returns-in-Ok-clause-ends g c =
       faults' = g.S.Source.faults c.made_of.new.source;
     }
     in
-    made c.in-Ok.made.text (subst (λ (p : Parts). IsMade (texts_of c.args.words.now) reading p c.in-Ok.made.text) (sym c.write_text.ensures.parts) c.in-Ok.ensures.made)
+    made c.in-Ok.made.text
+    (subst (λ (p : Parts). IsMade (texts_of c.args.words.now) reading p c.write_text.result.apps c.in-Ok.made.text) (sym c.write_text.ensures.parts)
+    (subst (λ (a : Option Host). IsMade (texts_of c.args.words.now) reading c.in-Ok.made.parts a c.in-Ok.made.text) (sym c.write_text.ensures.apps) c.in-Ok.ensures.made))
     c.write_text.ensures.written
 
 pub returns-in-Err-clause-ends : goal.returns-in-Err-clause-ends
@@ -32,6 +35,6 @@ returns-in-Err-clause-ends g c =
     in
     let cause = c.in-Err.ensures.err in
     elim c.write_refusal.ensures.written [
-      | inl line ↦ refused c.in-Err.refusal cause c.write_refusal.ensures.parts line
-      | inr line ↦ refused refusals.Memory (no_memory (read_as_asked (texts_of c.args.words.now) reading c.in-Err.refusal cause) refl) c.write_refusal.ensures.parts line
+      | inl line ↦ refused c.in-Err.refusal cause c.write_refusal.ensures.parts c.write_refusal.ensures.apps line
+      | inr line ↦ refused refusals.Memory (no_memory (read_as_asked (texts_of c.args.words.now) reading c.in-Err.refusal cause) refl) c.write_refusal.ensures.parts c.write_refusal.ensures.apps line
     ]

@@ -13,3 +13,9 @@ returns-in-Check-clause-made g c = c.checked.ensures.made (texts_of c.args.words
 
 pub returns-in-Check-clause-err : goal.returns-in-Check-clause-err
 returns-in-Check-clause-err g c = c.checked.ensures.err (texts_of c.args.words.now) (sym c.in-Some.ensures ∙ ap Some c.in-Check.is)
+
+pub returns-in-Apps-clause-made : goal.returns-in-Apps-clause-made
+returns-in-Apps-clause-made g c = c.done.ensures.made (texts_of c.args.words.now) (sym c.in-Some.ensures ∙ ap Some c.in-Apps.is)
+
+pub returns-in-Apps-clause-err : goal.returns-in-Apps-clause-err
+returns-in-Apps-clause-err g c = c.done.ensures.err (texts_of c.args.words.now) (sym c.in-Some.ensures ∙ ap Some c.in-Apps.is)

@@ -1,4 +1,4 @@
-use Rattle.spin_top.proofs.EndLaws.{plan_clause, ledger_clause, run_clause, trace_clause, generated_clause, check_clause, exact_clause, complete_clause}
+use Rattle.spin_top.proofs.EndLaws.{plan_clause, ledger_clause, run_clause, reinject_clause, trace_clause, generated_clause, check_clause, apps_clause, exact_clause, complete_clause}
 use Rattle.spin_top.proofs.tops.spin.Goals as goal
 
 pub returns-clause-plan : goal.returns-clause-plan
@@ -9,6 +9,9 @@ returns-clause-ledger g c = ledger_clause c.answered.ensures.ends
 
 pub returns-clause-run : goal.returns-clause-run
 returns-clause-run g c = run_clause c.answered.ensures.ends
+
+pub returns-clause-reinject : goal.returns-clause-reinject
+returns-clause-reinject g c = reinject_clause c.answered.ensures.ends
 
 pub returns-clause-trace : goal.returns-clause-trace
 returns-clause-trace g c = trace_clause c.answered.ensures.ends
@@ -24,3 +27,6 @@ returns-clause-generated g c = λ n asked. generated_clause c.answered.ensures.e
 
 pub returns-clause-checked : goal.returns-clause-checked
 returns-clause-checked g c = λ asked. check_clause c.answered.ensures.ends c.answered.ensures.status asked
+
+pub returns-clause-apps : goal.returns-clause-apps
+returns-clause-apps g c = λ asked. apps_clause c.answered.ensures.ends c.answered.ensures.status asked

@@ -1,0 +1,4 @@
+mod Chain
+mod FreeSpots
+mod Planning
+mod Serving

@@ -1,0 +1,37 @@
+-- A host after what was done on it.
+use Rattle.std.proofs.Common.{◌≡◌, ℕ, refl, ap, ◌∙◌, List, [], ◌∷◌, Result, Ok, Err, IfOk, OnOk, OnErr}
+use Rattle.spin_base.specs.declared.copies.Event.{Event}
+use Rattle.mesh_core.specs.State.{Setup, State}
+use Rattle.mesh_core.specs.Step.{after_event, after_events}
+use Rattle.mesh_core.proofs.Fixed.{after_event_setup}
+use Rattle.app_loads.specs.Host.{Host}
+use Rattle.app_loads.specs.Running.{HasMoved}
+use Rattle.app_loads.specs.Loading.{HasLoaded}
+use Rattle.app_loads.specs.Unloading.{HasUnloaded}
+use Rattle.app_loads.specs.declared.answers.Ended.{Ended}
+use Rattle.app_loads.specs.declared.plans.AppPlan.{AppPlan}
+
+setup_after : (s : State) (es : List Event) → (after_events s es).setup ≡ s.setup
+setup_after s [] = refl
+setup_after s (e ∷ es) = setup_after (after_event s e) es ∙ after_event_setup s e
+
+pub moved_machine : (old new : Host) → HasMoved old new → new.mesh.setup.machine ≡ old.mesh.setup.machine
+moved_machine old new moved =
+    ap (λ (s : State). s.setup.machine) moved.mesh.is ∙ ap (λ (u : Setup). u.machine) (setup_after old.mesh moved.mesh.events)
+
+loaded_machine : (old new : Host) (number : ℕ) (plan : AppPlan) → HasLoaded old number plan new → new.mesh.setup.machine ≡ old.mesh.setup.machine
+loaded_machine old new number plan loaded = ap (λ (s : State). s.setup.machine) loaded.mesh
+
+unloaded_machine : (old new : Host) (number : ℕ) (ended : Ended) → HasUnloaded old number ended new → new.mesh.setup.machine ≡ old.mesh.setup.machine
+unloaded_machine old new number ended unloaded = ap (λ (s : State). s.setup.machine) unloaded.mesh
+
+-- whatever a load or an unload answers, the machine is the same
+pub machine_after_load : {X E : Type 0} (r : Result X E) (old new : Host) (number : ℕ) (plan : AppPlan) → OnOk r (HasLoaded old number plan new) → OnErr r (new ≡ old) →
+    new.mesh.setup.machine ≡ old.mesh.setup.machine
+machine_after_load (Ok u) old new number plan loaded refused = loaded_machine old new number plan loaded
+machine_after_load (Err e) old new number plan loaded refused = ap (λ (h : Host). h.mesh.setup.machine) refused
+
+pub machine_after_unload : {E : Type 0} (r : Result Ended E) (old new : Host) (number : ℕ) → IfOk r (λ ended. HasUnloaded old number ended new) → OnErr r (new ≡ old) →
+    new.mesh.setup.machine ≡ old.mesh.setup.machine
+machine_after_unload (Ok ended) old new number unloaded refused = unloaded_machine old new number ended unloaded
+machine_after_unload (Err e) old new number unloaded refused = ap (λ (h : Host). h.mesh.setup.machine) refused
