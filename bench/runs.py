@@ -1,6 +1,8 @@
 """Processor time of `out/spin run` on the largest jobs: 65,536 packets on one chip, and on a torus of 64 by 64 chips.
 
     python3 bench/runs.py [PROGRAM]      least of three runs each; PROGRAM is out/spin where none is named (./spin makes it)
+
+Queues are as long as the job may have them: for all packets on the one chip, and for 372 on the torus, where copies may be dropped.
 """
 import json
 import os
@@ -11,12 +13,15 @@ import sys
 
 ROOT = os.path.dirname(os.path.dirname(os.path.realpath(__file__)))
 PACKETS = 65536
+MOST_PLACES = 16777216
 
 
 def job(width, wrap, count, nets):
     graph = {"vertices": [{"name": f"v{i}"} for i in range(count)], "nets": nets}
     packets = [{"net": f"n{i % len(nets)}", "index": 0} for i in range(PACKETS)]
-    return {"version": 1, "machine": {"width": width, "height": width, "wrap": wrap}, "graph": graph, "run": {"packets": packets}}
+    queue = min(PACKETS, MOST_PLACES // (7 * width * width + count))
+    machine = {"width": width, "height": width, "wrap": wrap}
+    return {"version": 1, "machine": machine, "graph": graph, "run": {"packets": packets, "queue": queue}}
 
 
 def net(i, source, targets):

@@ -3,8 +3,8 @@
     python3 tools/fault_table.py [PROGRAM]
 
 Each job of examples/faults/faults.json, and those that this script makes because they are too long or too many to be
-written down, is given to `PROGRAM run`, and each request of examples/faults/requests.json to `PROGRAM check`; PROGRAM is ./spin
-where none is named. Where the table has a line, the bytes written are to be that line and a line feed. The status is to be the one
+written down, is given to `PROGRAM run`, each request of examples/faults/requests.json to `PROGRAM check`, and each list of steps of
+examples/faults/steps.json to `PROGRAM apps`; PROGRAM is ./spin where none is named. Where the table has a line, the bytes written are to be that line and a line feed. The status is to be the one
 of the table, and 4 where it has none. Each mismatch is printed. The last line is 'N passed, M failed', and the status 1 where one
 failed.
 
@@ -23,7 +23,7 @@ MOST_BYTES = 16777216
 
 
 def written_cases(name, member):
-    """Those of a file: what each shows, the bytes of the job or request, the line and the status."""
+    """Those of a file: what each shows, the bytes of the job, request or steps, the line and the status."""
     with open(f"{ROOT}/examples/faults/{name}", encoding="utf-8") as table:
         for case in json.load(table):
             yield case["why"], case[member].encode(), case.get("line"), case.get("status", BAD_JOB)
@@ -48,6 +48,20 @@ def long_request_cases():
     yield "the last of them is no byte", longest.replace(b",0]", b",a]"), "bad job: not json", BAD_JOB
     last = f"{front}0{',0' * (zeros - 2)},256]}}".encode()
     yield "the last of them is above 255", last, f"bad job: range in.image[{zeros - 1}]", BAD_JOB
+
+
+def step_cases():
+    yield from written_cases("steps.json", "steps")
+
+
+def many_step_cases():
+    """As many steps as may be, and one more, which is told before any fault of a step."""
+    run = '["run"]'
+    most = 65535
+    yield "65,535 runs", f"[{run}{f',{run}' * (most - 1)}]".encode(), "\n".join(["run"] * most), 0
+    yield "the last of 65,535 steps is none", f"[{f'{run},' * (most - 1)}0]".encode(), f"bad job: shape job[{most - 1}]", BAD_JOB
+    yield "65,536 runs", f"[{run}{f',{run}' * most}]".encode(), "bad job: too many job 65536", BAD_JOB
+    yield "70,000 items that are no steps", f"[0{',0' * 69999}]".encode(), "bad job: too many job 70000", BAD_JOB
 
 
 def prefix_cases():
@@ -146,7 +160,10 @@ def main():
     passed = failed = 0
     for word, kinds in (
         ("run", (job_cases, prefix_cases, byte_cases, long_cases, list_cases)),
+        # (what `reinject` reads is read as for `run`)
+        ("reinject", (job_cases,)),
         ("check", (request_cases, long_request_cases)),
+        ("apps", (step_cases, many_step_cases)),
     ):
         for case in (case for cases in kinds for case in cases()):
             if is_answered(program, word, *case):

@@ -12,9 +12,9 @@ PROGRAM is ./spin where none is named. The model works out, from a job's JSON va
   dimension first; then led round what is dead by shortest detours, and without what leads to no target;
 - each chip's table: a row for each net whose tree has the chip, joined by ordered covering as long as there are more than
   `run.target` and two can be, and without the rows that default routing replaces;
-- and of these the text of `tables`, the bytes of `compile`, and the report of `run`, in which each packet reached each target
-  of its net once; or the line and status of a vertex without room, a net without keys, a target that is cut off, a table that
-  is too long, whichever comes first.
+- and of these the text of `tables`, the bytes of `compile`, and the report of `run` with queues for all packets, in which each
+  packet reached each target of its net once, and which is that of `reinject` with queues of one copy, too; or the line and status
+  of a vertex without room, a net without keys, a target that is cut off, a table that is too long, whichever comes first.
 
 It is the rules in their plainest form, over sets, lists and searches of all there is, with nothing kept from one step to the
 next, and shares no code with the program or with python/kulzobad. Faults of a job's text, `trace`, and what fails outside (reading,
@@ -590,7 +590,8 @@ class Dice(random.Random):
         """The job of a number, by which the kinds of jobs take turns."""
         kinds = [self.any_job] * 8 + [self.wide_job] * 3 + [self.crowded_job] * 2 + [self.greedy_job, self.long_job]
         machine, vertices, nets = kinds[number % len(kinds)]()
-        run = {"packets": self.packets(nets), "queue": self.choice([1, 2, 16]), "workers": self.choice([1, 1, 2, 3, 8, 64])}
+        packets = self.packets(nets)
+        run = {"packets": packets, "queue": self.choice([1, 2, 16]) * max(1, len(packets)), "workers": self.choice([1, 1, 2, 3, 8, 64])}
         run["target"] = self.choice([0, 0, 0, 1, 5, 20, 1024])
         return {"version": 3, "machine": machine, "graph": {"vertices": vertices, "nets": nets}, "run": run}
 
@@ -629,10 +630,13 @@ def is_answered(program, what, wanted, text):
 
 
 def seeded_cases(seeds):
-    """A random job for each seed, with the answers to it."""
+    """A random job for each seed, with the answers to it, and the same with the shortest queues, where dropped copies are put back."""
     for seed in seeds:
         job = Dice(seed).job(seed)
-        yield f"{seed}", answers_to(job)[0], json.dumps(job).encode()
+        answers = answers_to(job)[0]
+        yield f"{seed}", answers, json.dumps(job).encode()
+        short = {**job, "run": {**job["run"], "queue": 1, "patience": 1}}
+        yield f"{seed}-short", {"reinject": answers["run"]}, json.dumps(short).encode()
 
 
 def generated_cases(numbers):
@@ -656,7 +660,7 @@ def main():
     cases = generated_cases(asked.generated) if asked.generated else seeded_cases(range(asked.first, asked.first + asked.jobs))
     statuses, failed = Counter(), 0
     for name, wanted, text in cases:
-        statuses[wanted["tables"][0]] += 1
+        statuses[next(iter(wanted.values()))[0]] += 1
         if not is_answered(asked.program, f"the job of {name}, which is out/model-{name}.json", wanted, text):
             failed += 1
             os.makedirs(f"{ROOT}/out", exist_ok=True)

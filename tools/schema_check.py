@@ -47,8 +47,8 @@ def cases():
             yield case["why"], case["job"], case.get("line")
     for name in sorted(glob.glob(f"{ROOT}/examples/*.json")):
         with open(name[:-5] + ".words", encoding="utf-8") as words:
-            if words.read().split() == ["check"]:
-                continue  # a request, and no job
+            if words.read().split() in (["check"], ["apps"]):
+                continue  # a request or steps, and no job
         # (the report of `compile` is no text)
         with open(name, encoding="utf-8") as job, open(name[:-5] + ".report", encoding="utf-8", errors="replace") as report:
             yield os.path.basename(name), job.read(), report.readline().rstrip("\n")

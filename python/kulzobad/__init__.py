@@ -8,15 +8,18 @@
 
 The package has no rules of its own: placements, keys, tables and refusals are those of the program.
 """
+from .applications import RUN, Answer, AlreadyLoaded, CutOff, KeysOut, Loaded, MemoryOut, NoRoom, NotLoaded, Ran, RowsOut, Unloaded
+from .applications import Waiting, load, unload
 from .checks import BadImage, BadTree, OtherMachine, Right, Split, Verdict, Wrong
 from .images import Image, decode, encode
 from .jobs import Job, Machine, Net, Packet, Vertex, collect, dump, inject, send, take
-from .program import Refused, check, compile, gen, run, tables, trace
+from .program import Refused, apps, check, compile, gen, reinject, run, tables, trace
 from .reports import Delivery, Dump, Keys, Place, Plan, Report, Row, Summary, Table, Wait, links_of, cores_of
 
 __all__ = [
-    "BadImage", "BadTree", "Delivery", "Dump", "Image", "Job", "Keys", "Machine", "Net", "OtherMachine", "Packet", "Place",
-    "Plan", "Refused", "Report", "Right", "Row", "Split", "Summary", "Table", "Verdict", "Vertex", "Wait", "Wrong", "check",
-    "collect", "compile", "cores_of", "decode", "dump", "encode", "gen", "inject", "links_of", "run", "send", "tables", "take",
-    "trace",
+    "AlreadyLoaded", "Answer", "BadImage", "BadTree", "CutOff", "Delivery", "Dump", "Image", "Job", "Keys", "KeysOut", "Loaded",
+    "Machine", "MemoryOut", "Net", "NoRoom", "NotLoaded", "OtherMachine", "Packet", "Place", "Plan", "RUN", "Ran", "Refused",
+    "Report", "Right", "Row", "RowsOut", "Split", "Summary", "Table", "Unloaded", "Verdict", "Vertex", "Wait", "Waiting", "Wrong",
+    "apps", "check", "collect", "compile", "cores_of", "decode", "dump", "encode", "gen", "inject", "links_of", "load", "reinject",
+    "run", "send", "tables", "take", "trace", "unload",
 ]

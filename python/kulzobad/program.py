@@ -8,6 +8,7 @@ import subprocess
 from pathlib import Path
 from typing import Any, Dict, Iterable, List, Mapping, Optional, Tuple, Union
 
+from .applications import Answer, Step, read_answers
 from .checks import Verdict, read_verdict
 from .images import Image, decode
 from .jobs import Chip, Job, part_at
@@ -37,7 +38,7 @@ class Refused(Exception):
         self.chip: Optional[Chip] = None
         self.rows: Optional[int] = None
         rest = line[len("bad job: "):].split(" ") if line.startswith("bad job: ") else []
-        at = next((i for i, word in enumerate(rest) if word.split(".")[0] in ("job", "in")), None)
+        at = next((i for i, word in enumerate(rest) if re.match(r"(job|in)\b", word)), None)
         if at is not None:
             self.fault, self.path = " ".join(rest[:at]), rest[at]
             self.member = part_at(parts, self.path)
@@ -58,8 +59,8 @@ def program_of(program: Optional[str]) -> str:
 
 
 def answer(words: List[str], parts: Mapping[str, Any], program: Optional[str]) -> bytes:
-    """What the program writes for the words and what they read: a request (`in`), else a job (`job`), if they need one. Refused
-    where its status is not 0."""
+    """What the program writes for the words and what they read: a request (`in`), else a job or steps (`job`), if they need one.
+    Refused where its status is not 0."""
     handed_in = parts.get("in", parts.get("job"))
     text = b"" if handed_in is None else json.dumps(handed_in).encode()
     done = subprocess.run([program_of(program), *words], input=text, stdout=subprocess.PIPE, check=False)
@@ -74,8 +75,15 @@ def answer_to(word: str, job: Job, program: Optional[str]) -> bytes:
 
 
 def run(job: Job, program: Optional[str] = None) -> Report:
-    """Compiles the job and runs its packets."""
+    """Compiles the job and runs its packets, on as many workers as the job says. Where the job's queues hold fewer copies than there
+    are packets, some may be dropped; `dumps` of the report tells them."""
     return read(answer_to("run", job, program).decode())
+
+
+def reinject(job: Job, program: Optional[str] = None) -> Report:
+    """Compiles the job and runs its packets, and puts copies that were dropped back where they were, until each has arrived. The
+    report is that of a run in which none is dropped."""
+    return read(answer_to("reinject", job, program).decode())
 
 
 def tables(job: Job, program: Optional[str] = None) -> Plan:
@@ -97,6 +105,13 @@ def gen(number: int, program: Optional[str] = None) -> Summary:
     """Compiles and runs the job that the program makes of the number, from 0 to 2**64 - 1: a board of 48 chips with 200 vertices,
     300 nets and 1,200 packets."""
     return read_summary(answer(["gen", str(number)], {}, program).decode())
+
+
+def apps(steps: Iterable[Step], program: Optional[str] = None) -> List[Answer]:
+    """Does steps with applications on one machine (`load`, `unload`, `RUN`), one after the other, and gives the answer to each. A
+    fault of any step is told before the first is done; its path begins with the step's place, as `job[0][2].graph`."""
+    listed = [[part.as_json() if isinstance(part, Job) else part for part in step] for step in steps]
+    return read_answers(answer(["apps"], {"job": listed}, program).decode())
 
 
 def check(

@@ -4,8 +4,10 @@ import unittest
 from pathlib import Path
 
 from kulzobad import Delivery, Job, Keys, Machine, Net, Packet, Place, Refused, Row, Summary, Vertex, cores_of, links_of, run, tables
+from kulzobad import RUN, AlreadyLoaded, CutOff, KeysOut, Loaded, MemoryOut, NoRoom, NotLoaded, Ran, RowsOut, Unloaded, Waiting, apps, load, unload
 from kulzobad import BadImage, BadTree, OtherMachine, Right, Split, Wrong, check, encode
-from kulzobad import collect, compile, decode, gen, inject, send, take, trace
+from kulzobad import collect, compile, decode, gen, inject, reinject, send, take, trace
+from kulzobad.applications import read_answers
 from kulzobad.checks import read_verdict
 from kulzobad.reports import Dump, Wait, read, read_summary
 
@@ -28,6 +30,22 @@ class Jobs(unittest.TestCase):
         self.assertEqual(report.plan.keys, {"n": Keys("n", 0, 0xFFFFFFFF)})
         self.assertEqual(report.deliveries, [Delivery("b", 0, 0, 7)])
         self.assertEqual((report.dumps, report.waiting, report.unsent), ([], [], 0))
+
+    def test_copies_that_were_dropped_are_put_back(self):
+        # (queues of one copy, and ten packets: whatever was dropped on the way, all arrive)
+        job = pair(queue=1, patience=1, workers=2)
+        job.packets = [Packet("n", payload=i) for i in range(10)]
+        report = reinject(job)
+        self.assertEqual(report.deliveries, [Delivery("b", i, 0, i) for i in range(10)])
+        self.assertEqual((report.dumps, report.waiting, report.unsent), ([], [], 0))
+
+    def test_each_packet_of_a_run_arrives_or_is_dropped(self):
+        job = pair(queue=1, patience=1, workers=2, turns=1)
+        job.packets = [Packet("n", payload=i) for i in range(10)]
+        report = run(job)
+        self.assertEqual(sorted([it.packet for it in report.deliveries] + [it.packet for it in report.dumps]), list(range(10)))
+        self.assertTrue(all((it.x, it.y, it.out) == (0, 0, "c2") for it in report.dumps))
+        self.assertEqual((report.waiting, report.unsent), ([], 0))
 
     def test_a_row_of_chips_has_tables_at_its_ends(self):
         plan = tables(row_of_chips())
@@ -198,6 +216,73 @@ class Checks(unittest.TestCase):
         for wrong in ("", "right", "right\n\n", "wrong n 0 0\n", "wrong n 0 0 0\n", "split n 0 0\n", "bad tree\n", "bad image x\n"):
             with self.assertRaises(ValueError):
                 read_verdict(wrong)
+
+
+class Applications(unittest.TestCase):
+    """Each application is two vertices on one chip, a net between them, and a packet."""
+
+    def test_applications_come_and_go(self):
+        steps = [load(1, pair()), load(2, pair()), RUN, unload(1), load(3, pair()), unload(9)]
+        answers = apps(steps)
+        self.assertEqual(answers, [Loaded(1), Loaded(2), Ran(), Unloaded(1, 1, 0), Loaded(3), NotLoaded(9)])
+        self.assertEqual(list(map(bool, answers)), [True, True, True, True, True, False])
+
+    def test_an_application_whose_packet_is_unsent_stays(self):
+        # (packet 0 is that of application 7, and packet 1 that of application 8)
+        self.assertEqual(apps([load(7, pair()), load(8, pair()), unload(8)]), [Loaded(7), Loaded(8), Waiting(8, 1)])
+
+    def test_a_number_is_loaded_once(self):
+        self.assertEqual(apps([load(0, pair()), load(0, Job(Machine(1, 1), []))]), [Loaded(0), AlreadyLoaded(0)])
+
+    def test_cores_are_used_up(self):
+        # (seventeen cores for vertices, and two for each application)
+        self.assertEqual(apps([load(i, pair()) for i in range(1, 10)])[7:], [Loaded(8), NoRoom(9, "b")])
+
+    def test_memory_is_used_up(self):
+        job = Job(Machine(2, 1, sdram=150), [Vertex("a", sdram=100)])
+        elsewhere = Job(Machine(2, 1), [Vertex("a", sdram=100, at=(1, 0))])
+        self.assertEqual(apps([load(1, job), load(2, job), load(2, elsewhere)]), [Loaded(1), MemoryOut(2, "a"), Loaded(2)])
+
+    def test_keys_are_used_up(self):
+        job = Job(Machine(1, 1), [Vertex("a")], [Net("n", "a", ["a"], keys=2**32)])
+        self.assertEqual(apps([load(1, job), load(2, job), unload(1), load(2, job)]), [Loaded(1), KeysOut(2, "n"), Unloaded(1, 0, 0), Loaded(2)])
+
+    def test_entries_are_used_up(self):
+        full = Job(Machine(1, 1), [Vertex("a")], [Net(f"n{i}", "a", ["a"]) for i in range(1024)])
+        self.assertEqual(apps([load(1, full), load(2, pair())]), [Loaded(1), RowsOut(2, 0, 0)])
+
+    def test_a_target_is_cut_off(self):
+        job = Job(Machine(2, 1, dead_links=[(0, 0, 0)]), [Vertex("a", at=(0, 0)), Vertex("b", at=(1, 0))], [Net("n", "a", ["b"])])
+        self.assertEqual(apps([load(1, job)]), [CutOff(1, "n", 1, 0)])
+
+    def test_no_steps(self):
+        self.assertEqual(apps([]), [])
+        self.assertEqual(apps([RUN, unload(4)]), [Ran(), NotLoaded(4)])
+
+    def test_a_fault_of_a_job_has_the_path_of_its_step(self):
+        with self.assertRaises(Refused) as caught:
+            apps([RUN, load(1, Job(Machine(1, 1), [Vertex("a")], [Net("n", "a", ["zoe"])]))])
+        refused = caught.exception
+        self.assertEqual((refused.status, refused.kind, refused.fault), (4, "bad job", "unknown name"))
+        self.assertEqual((refused.path, refused.member), ("job[1][2].graph.nets[0].targets[0]", "zoe"))
+
+    def test_a_step_that_is_none(self):
+        for steps, fault, member in (([RUN, ("jump",)], "range", ["jump"]), ([RUN, ("unload", -1)], "shape", ["unload", -1])):
+            with self.assertRaises(Refused) as caught:
+                apps(steps)
+            self.assertEqual((caught.exception.fault, caught.exception.path, caught.exception.member), (fault, "job[1]", member))
+
+    def test_devices_are_no_part_of_an_application(self):
+        with self.assertRaises(Refused) as caught:
+            apps([load(1, Job(Machine(1, 1), [Vertex("led", device=(0, 0, 0))]))])
+        self.assertEqual((caught.exception.fault, caught.exception.path, caught.exception.member), ("range", "job[0][2].version", 3))
+
+    def test_lines_are_read(self):
+        text = "load 1 cut off 7 3 4\nload 2 rows out 5 6\nunload 3 got 8 dumped 9\n"
+        self.assertEqual(read_answers(text), [CutOff(1, "7", 3, 4), RowsOut(2, 5, 6), Unloaded(3, 8, 9)])
+        for wrong in ("run", "\n", "load 1\n", "load x ok\n", "unload 1 ok\n", "load 1 no room\n", "unload 1 got 1\n", "run 1\n"):
+            with self.assertRaises(ValueError):
+                read_answers(wrong)
 
 
 class Reports(unittest.TestCase):

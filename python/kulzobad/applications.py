@@ -1,0 +1,153 @@
+"""Steps with applications on one machine, and what `apps` says to each, as objects."""
+from __future__ import annotations
+
+import re
+from dataclasses import dataclass, fields
+from typing import Any, List, Tuple
+
+from .jobs import Job
+
+Step = Tuple[Any, ...]
+
+# The fields of answers that are no numbers.
+NAMES = ("vertex", "net")
+
+# All packets that were loaded are brought to their targets.
+RUN: Step = ("run",)
+
+
+def load(number: int, job: Job) -> Step:
+    """The graph and the packets of a job are loaded as the application of this number, beside the others. The first load of a list
+    also gives the machine, and how many copies its queues hold."""
+    return ("load", number, job)
+
+
+def unload(number: int) -> Step:
+    """The application of this number leaves: its cores, memory, keys and entries are free again."""
+    return ("unload", number)
+
+
+class Answer:
+    """What is said to a step: one of the classes below. It counts as true where the step was done, and as false where nothing has
+    changed."""
+
+    def __bool__(self) -> bool:
+        return isinstance(self, (Loaded, Unloaded, Ran))
+
+
+@dataclass(frozen=True)
+class Loaded(Answer):
+    """The application is loaded, and its packets are unsent."""
+
+    number: int
+
+
+@dataclass(frozen=True)
+class AlreadyLoaded(Answer):
+    """The number has an application."""
+
+    number: int
+
+
+@dataclass(frozen=True)
+class NoRoom(Answer):
+    """This vertex finds no chip with a free core, or not on the chip that it asks for; or the application's own vertices before it
+    leave it too little memory there."""
+
+    number: int
+    vertex: str
+
+
+@dataclass(frozen=True)
+class CutOff(Answer):
+    """Chip (x, y) has a target of the net, and no walk of live links leads there from its source."""
+
+    number: int
+    net: str
+    x: int
+    y: int
+
+
+@dataclass(frozen=True)
+class MemoryOut(Answer):
+    """On its chip the other applications leave no range of memory that is long enough for this vertex."""
+
+    number: int
+    vertex: str
+
+
+@dataclass(frozen=True)
+class KeysOut(Answer):
+    """There is no free range of keys for this net, or the keys that are fixed for it are not all free."""
+
+    number: int
+    net: str
+
+
+@dataclass(frozen=True)
+class RowsOut(Answer):
+    """The router of chip (x, y) has no free range of entries that is long enough for the application's rows."""
+
+    number: int
+    x: int
+    y: int
+
+
+@dataclass(frozen=True)
+class Unloaded(Answer):
+    """The application has left. So many copies of its packets had arrived, and so many had been dropped."""
+
+    number: int
+    delivered: int
+    dumped: int
+
+
+@dataclass(frozen=True)
+class NotLoaded(Answer):
+    """The number has no application."""
+
+    number: int
+
+
+@dataclass(frozen=True)
+class Waiting(Answer):
+    """A copy of this packet is unsent or on its way, and it is the application's first such; packets are numbered over all loads that
+    were done."""
+
+    number: int
+    packet: int
+
+
+@dataclass(frozen=True)
+class Ran(Answer):
+    """Every packet has come to rest."""
+
+
+def read_answer(line: str) -> Answer:
+    """Reads a line of `apps`, without its end."""
+    for pattern, made in (
+        (r"load (\d+) ok", Loaded),
+        (r"load (\d+) loaded", AlreadyLoaded),
+        (r"load (\d+) no room (\S+)", NoRoom),
+        (r"load (\d+) cut off (\S+) (\d+) (\d+)", CutOff),
+        (r"load (\d+) memory out (\S+)", MemoryOut),
+        (r"load (\d+) keys out (\S+)", KeysOut),
+        (r"load (\d+) rows out (\d+) (\d+)", RowsOut),
+        (r"unload (\d+) got (\d+) dumped (\d+)", Unloaded),
+        (r"unload (\d+) not loaded", NotLoaded),
+        (r"unload (\d+) waiting (\d+)", Waiting),
+        (r"run", Ran),
+    ):
+        found = re.fullmatch(pattern, line)
+        if found:
+            # (a name may have digits alone)
+            items = zip((it.name for it in fields(made)), found.groups())
+            return made(**{name: item if name in NAMES else int(item) for name, item in items})
+    raise ValueError(f"no line of apps: {line!r}")
+
+
+def read_answers(text: str) -> List[Answer]:
+    """Reads what `apps` writes: a line for each step."""
+    if text and not text.endswith("\n"):
+        raise ValueError(f"the last line has no end: {text!r}")
+    return [read_answer(line) for line in text.splitlines()]
