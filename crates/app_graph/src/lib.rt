@@ -5,7 +5,5 @@
 #![tactic(auto)]
 
 mod graphs;
-#[cfg(test)]
-mod tests;
 
 pub use graphs::{Graph, Net, RunPart, Vertex};

@@ -41,6 +41,7 @@ use Rattle.check_answers.specs.Findings.{HasGoodTree, right_line}
 use Rattle.check_answers.specs.Nets.{AreNetsWith, IsNetWith}
 use Rattle.check_answers.specs.Plans.{HasKeptRows, trees_of}
 use Rattle.check_answers.proofs.Refusing.{none_due}
+use Rattle.check_answers.proofs.Items.{same_item}
 
 -- ---- the trees of plans are in order
 
@@ -101,9 +102,6 @@ module _ (m : Description) (graph : Graph) (target : ℕ) (plan : Plan) (is : Is
         let same : p.tree.edges ≡ edges = same_item (trees_of plan.nets) i p.tree.edges edges (slice_get-mapped (λ (n : NetPlan). n.tree.edges) plan.nets i p p_at) edges_at in
         subst (λ es. IsNetWith plan.placement.spots net block es p) same (net_with i net block growth.0 p planned p_at);
   }
-    where
-      same_item : {X : Type 0} (xs : List X) (i : ℕ) (x y : X) → slice_get xs i ≡ Some x → slice_get xs i ≡ Some y → x ≡ y
-      same_item xs i x y at also = cc
 
   all_good : All (HasGoodTree m) plan.nets
   all_good k d below =

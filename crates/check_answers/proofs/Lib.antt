@@ -1,5 +1,6 @@
 mod Compiled
 mod Growing
+mod Items
 mod Meaning
 mod OneAnswer
 mod OneFinding

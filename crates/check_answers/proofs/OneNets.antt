@@ -1,5 +1,5 @@
 -- Handed-in trees make one list of nets of a graph.
-use Rattle.std.proofs.Common.{◌≡◌, ℕ, ◌<◌, List, length, Some, sym, ◌∙◌, subst}
+use Rattle.std.proofs.Common.{◌≡◌, ◌<◌, List, length, Some, sym, ◌∙◌, subst}
 use Rattle.std.specs.List.{slice_get}
 use Rattle.std.proofs.lemmas.Option.{slice_get_within}
 use Rattle.list_laws.proofs.Places.{slice_get_there}
@@ -12,12 +12,9 @@ use Rattle.app_graph.specs.declared.graphs.Net.{Net}
 use Rattle.net_tables.specs.declared.nets.NetPlan.{NetPlan}
 use Rattle.place_fit.proofs.Determined as places
 use Rattle.key_alloc.proofs.Determined as keys
-use Rattle.net_plans.proofs.Determined.{one_targets, same_places}
+use Rattle.net_plans.proofs.Determined.{one_targets, same_places, same_source}
 use Rattle.check_answers.specs.Nets.{AreNetsWith, IsNetWith, IsTreeOf}
 use Rattle.check_answers.proofs.OneTree.{one_tree}
-
-same_source : (spots : List Spot) (i : ℕ) (s t : Spot) → slice_get spots i ≡ Some s → slice_get spots i ≡ Some t → s ≡ t
-same_source spots i s t at also = cc
 
 same_net : (p q : NetPlan) → p.block ≡ q.block → p.source ≡ q.source → p.targets ≡ q.targets → p.tree ≡ q.tree → p ≡ q
 same_net p q block source targets tree = λ i. record { block = block i; source = source i; targets = targets i; tree = tree i }

@@ -19,11 +19,9 @@ use Rattle.table_load.specs.declared.tables.Image.{Image}
 use Rattle.plan_check.specs.declared.verdicts.Verdict.{Verdict}
 use Rattle.plan_check.specs.declared.verdicts.Verdict.TheVariants.{Right, Wrong, Split}
 use Rattle.plan_check.specs.Verdicts.{AreFineBefore, GetsRoute, GetsRouteThat, IsFine, IsFineAll, IsFirstToMeet, IsSplitAt, IsTreeRoute, IsVerdict, IsWrong, LiesInside, Meets, rows_for}
+use Rattle.check_answers.proofs.Items.{same_item}
 
 -- ---- a block in rows
-
-same_item : {X : Type 0} (xs : List X) (i : ℕ) (x y : X) → slice_get xs i ≡ Some x → slice_get xs i ≡ Some y → x ≡ y
-same_item xs i x y at also = cc
 
 module _ (b : Block) (rows : List Entry) where
   -- one row is the first to meet a block

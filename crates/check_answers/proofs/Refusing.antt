@@ -17,9 +17,7 @@ use Rattle.refusals.specs.declared.causes.Refusal.{Refusal}
 use Rattle.refusals.specs.declared.causes.Refusal.TheVariants.{NoRoom, KeysOut, Memory}
 use Rattle.check_answers.specs.Answers.{HasNoAnswer, IsAnswer, IsDue, keys_out, no_room}
 use Rattle.check_answers.specs.Nets.{AreNetsWith}
-
-same_item : {X : Type 0} (xs : List X) (i : ℕ) (x y : X) → slice_get xs i ≡ Some x → slice_get xs i ≡ Some y → x ≡ y
-same_item xs i x y at also = cc
+use Rattle.check_answers.proofs.Items.{same_item}
 
 module _ (m : Description) (graph : Graph) where
   -- one refusal is due

@@ -11,6 +11,3 @@ mod nets;
 
 pub use answers::answer;
 pub use findings::Finding;
-
-#[cfg(test)]
-mod tests;

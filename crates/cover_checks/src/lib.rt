@@ -14,6 +14,3 @@ pub use checking::{
     up_check,
 };
 pub use tern_word::misses;
-
-#[cfg(test)]
-mod tests;

@@ -241,18 +241,11 @@ fn partner(table: &Table, guards: &[Guard], links: &Links, latest: &[usize], i: 
                 settled: false,
             };
         }
-        settled = both(settled, trial.lasting);
+        settled &= trial.lasting;
         j = links.next[j as usize];
     }
     Search {
         place: None,
         settled,
     }
-}
-
-// Whether both are true.
-fn both(a: bool, b: bool) -> bool
-    ensures { IsTrue result → (IsTrue a) × (IsTrue b) }
-{
-    a && b
 }

@@ -12,8 +12,3 @@ mod stripping;
 pub use laws::final_tables_are_determined;
 pub use shortening::shorten;
 pub use stripping::{Final, strip};
-
-#[cfg(test)]
-mod plain_cover;
-#[cfg(test)]
-mod tests;

@@ -1,10 +1,11 @@
 -- Generated jobs have room, keys and ways.
-use Rattle.std.proofs.Common.{◌≡◌, ℕ, zero, suc, ◌+◌, ◌<◌, ◌≤◌, List, [], ◌∷◌, length, take, All, Option, Some, None, MatchOption, slice_get, refl, sym, ap, ◌∙◌, subst, arith}
+use Rattle.std.proofs.Common.{◌≡◌, ℕ, ◌+◌, ◌<◌, ◌≤◌, List, [], ◌∷◌, length, take, All, Option, Some, None, MatchOption, slice_get, refl, sym, ap, ◌∙◌, subst, arith}
 use Rattle.std.specs.List.{filter_map}
 use Rattle.std.proofs.lemmas.Bool.{and_parts}
 use Rattle.std.proofs.lemmas.List.{length-map}
 use Rattle.std.proofs.lemmas.List.Elements.{All-nil, All-cons, All-head, All-tail}
 use Rattle.std.proofs.lemmas.Option.{slice_get_within}
+use Rattle.list_laws.proofs.Places.{All-at, slice_get_there}
 use Rattle.spin_base.specs.declared.chips.Chip.{Chip}
 use Rattle.spin_base.specs.declared.chips.Spot.{Spot}
 use Rattle.machine_desc.specs.Description.{Description}
@@ -34,16 +35,6 @@ all_numbered P Q f each i [] all = All-nil Q
 all_numbered P Q f each i (x ∷ xs) all =
     All-cons Q (f i x) (numbered f (i + 1) xs) (each i x (All-head P x xs all)) (all_numbered P Q f each (i + 1) xs (All-tail P x xs all))
 
-at_place : {A : Type 0} (Q : A → Type 0) (xs : List A) (k : ℕ) (x : A) → All Q xs → slice_get xs k ≡ Some x → Q x
-at_place Q [] k x all at = absurd cc
-at_place Q (y ∷ xs) zero x all at = let same : y ≡ x = cc in subst Q same (All-head Q y xs all)
-at_place Q (y ∷ xs) (suc k) x all at = at_place Q xs k x (All-tail Q y xs all) at
-
-some_at : {A : Type 0} (xs : List A) (i : ℕ) → i < length xs → (x : A) × (slice_get xs i ≡ Some x)
-some_at [] i below = absurd (omega arith)
-some_at (x ∷ xs) zero below = (x, refl)
-some_at (x ∷ xs) (suc i) below = some_at xs i (omega arith)
-
 -- ---- vertices and nets
 
 small_vertex : (i sdram : ℕ) → sdram ≤ 1048576 → IsSmall (vertex_of i sdram)
@@ -68,7 +59,7 @@ module _ (job : Drawn) (is : IsDrawn job) where
 
   keys : (i : ℕ) → AreKeysOut (numbered net_of 0 job.nets) i → ⊥
   keys = keys_are_left (numbered net_of 0 job.nets)
-      (λ i net at. at_place NeedsFew (numbered net_of 0 job.nets) i net (all_numbered IsDrawnNet NeedsFew net_of few_keys 0 job.nets is.nets) at)
+      (λ i net at. All-at NeedsFew (numbered net_of 0 job.nets) i net (all_numbered IsDrawnNet NeedsFew net_of few_keys 0 job.nets is.nets) at)
       (none_fixed 0 job.nets)
       (omega (arith, length-numbered net_of 0 job.nets, is.number_of_nets))
 
@@ -76,8 +67,8 @@ module _ (job : Drawn) (is : IsDrawn job) where
   live_spot : (spots : List Spot) (memory : List ℕ) → IsPlacement board (numbered vertex_of 0 job.sdrams) spots memory → (i : ℕ) (s : Spot) → slice_get spots i ≡ Some s → IsLiveChip board s.chip
   live_spot spots memory placed i s at =
       let below : i < length spots = slice_get_within spots i s at in
-      let vertex = some_at (numbered vertex_of 0 job.sdrams) i (omega (arith, below, placed.all)) in
-      let small : IsSmall vertex.0 = at_place IsSmall (numbered vertex_of 0 job.sdrams) i vertex.0 vertices_small vertex.1 in
+      let vertex = slice_get_there (numbered vertex_of 0 job.sdrams) i (omega (arith, below, placed.all)) in
+      let small : IsSmall vertex.0 = All-at IsSmall (numbered vertex_of 0 job.sdrams) i vertex.0 vertices_small vertex.1 in
       let core : IsCoreFor board placed.order (take i (numbered vertex_of 0 job.sdrams)) (take i spots) vertex.0 s =
       subst (λ o. MatchOption o (IsCoreFor board placed.order (take i (numbered vertex_of 0 job.sdrams)) (take i spots) vertex.0 s) (λ device. HasDeviceRoom board device × (s ≡ device_spot device)))
       small.device (placed.first.each i vertex.0 s vertex.1 at) in

@@ -13,6 +13,3 @@ mod values;
 pub use draws::{Drawn, DrawnNet, DrawnPacket};
 pub use laws::generated_jobs_are_read;
 pub use texts::gen_text;
-
-#[cfg(test)]
-mod tests;

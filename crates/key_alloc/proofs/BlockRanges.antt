@@ -1,17 +1,15 @@
 -- A net's block has the keys of a range, also where it is fixed.
-use Rattle.std.proofs.Common.{◌≡◌, ℕ, suc, ◌+◌, ◌-◌, ◌*◌, ◌/◌, ◌%◌, ◌^◌, ◌<◌, ◌≤◌, ◌↔◌, true, List, Option, None, Some, IfSome, MatchOption, sym, ap, ◌∙◌, subst, arith}
+use Rattle.std.proofs.Common.{◌≡◌, ℕ, ◌+◌, ◌-◌, ◌*◌, ◌/◌, ◌%◌, ◌^◌, ◌<◌, ◌≤◌, ◌↔◌, List, Option, None, Some, IfSome, MatchOption, sym, ap, ◌∙◌, subst, arith}
 use Rattle.std.specs.Prelude.{bit_and}
-use Rattle.std.proofs.Math.Nat.{mul-le-mul_right, suc-mul}
-use Rattle.std.proofs.lemmas.Bool.Decides.{nat_tests}
-use Rattle.std.proofs.lemmas.Nat.{pow-add, pow_pos, shr_split, div_below}
+use Rattle.std.proofs.lemmas.Nat.{pow_pos, shr_split}
 use Rattle.std.proofs.lemmas.Nat.Bits.{and_high_mask}
 use Rattle.spin_base.specs.declared.blocks.Block.{Block}
 use Rattle.app_graph.specs.declared.graphs.Net.{Net}
 use Rattle.app_graph.specs.ValidGraph.{IsFixedFor, AreApart}
-use Rattle.range_store.specs.Regions.{in_range}
 use Rattle.tern_word.specs.Ternary.{Matches, Intersects}
 use Rattle.tern_word.proofs.BlockLaws.{range_keys, exponent_le, key_small}
 use Rattle.key_alloc.specs.KeyBlocks.{size_of, Misses, IsLeastBlock, IsBlockFor}
+use Rattle.key_alloc.proofs.Ranges.{room_above, in_facts, in_from}
 
 -- the block's keys are those from its key on, as many as its size
 pub record IsRange (b : Block) : Type 0 where
@@ -32,14 +30,6 @@ range_from_aligned b e is at_multiple within =
 
 pub range_of_least : (taken : List Block) (keys : ℕ) (b : Block) → IsLeastBlock taken keys b → IsRange b
 range_of_least taken keys b least = range_from_aligned b least.size.power.0 least.size.power.1 least.may.aligned least.may.within
-
--- a multiple of a power of two below a greater one leaves room for as many
-room_above : (z n : ℕ) → z ≤ 32 → n < 2 ^ 32 → n / 2 ^ z * 2 ^ z ≡ n → n + 2 ^ z ≤ 2 ^ 32
-room_above z n le small whole =
-    let split : 2 ^ 32 ≡ 2 ^ (32 - z) * 2 ^ z = ap (λ (k : ℕ). 2 ^ k) (let both : 32 ≡ (32 - z) + z = omega arith in both) ∙ pow-add 2 (32 - z) z in
-    let below = div_below n (2 ^ z) (2 ^ (32 - z)) (pow_pos z) (subst (λ k. n < k) split small) in
-    let up : suc (n / 2 ^ z) * 2 ^ z ≤ 2 ^ (32 - z) * 2 ^ z = mul-le-mul_right (2 ^ z) (omega (arith, below)) in
-    omega (arith, up, suc-mul (n / 2 ^ z) (2 ^ z), whole, split)
 
 module _ (keys : ℕ) (b : Block) (fixed : IsFixedFor keys b) where
   size_is : size_of b ≡ 2 ^ fixed.0
@@ -68,12 +58,6 @@ range_of_block taken net b = by_fixed net.fixed
     by_fixed (Some f) fixed is = subst (λ x. IsRange x × (net.keys ≤ size_of x)) (sym is) (range_of_fixed net.keys f fixed, fixed_enough net.keys f fixed)
 
 -- ---- ranges that share no key
-
-in_facts : (p s k : ℕ) → in_range p s k ≡ true → (p ≤ k) × (k < p + s)
-in_facts p s k e = (grind (arith, nat_tests), grind (arith, nat_tests))
-
-in_from : (p s k : ℕ) → p ≤ k → k < p + s → in_range p s k ≡ true
-in_from p s k a b = grind (arith, nat_tests)
 
 -- blocks that share no key miss each other as ranges
 pub miss_apart : (a b : Block) → IsRange a → IsRange b → AreApart a b → Misses b.key (size_of b) a

@@ -1,3 +1,4 @@
+pub mod Ranges
 mod Sizes
 mod Taking
 mod Frontier

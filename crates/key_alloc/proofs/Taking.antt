@@ -10,6 +10,7 @@ use Rattle.app_graph.specs.declared.graphs.Net.{Net}
 use Rattle.range_store.specs.declared.holes.Hole.{Hole}
 use Rattle.range_store.specs.Regions.{AreRuns, IsFirstFit, HasNoFit, has_range, is_hole_range, is_free, in_range, end_of}
 use Rattle.range_store.proofs.HolePlaces.{clash, has_facts, free_within, free_in_range, range_of_free}
+use Rattle.key_alloc.proofs.Ranges.{in_facts, free_of, regroup}
 use Rattle.key_alloc.specs.KeyBlocks.{size_of, Misses, IsSizeFor, IsOpen, IsLeastBlock, IsBlockFor}
 use Rattle.list_laws.proofs.Pairs.{All-left}
 use Rattle.std.proofs.lemmas.List.Elements.{All-append, All-cons, All-nil, All-weaker, All-contains, Contains-append_left}
@@ -17,20 +18,6 @@ use Rattle.key_alloc.specs.declared.free.FreeKeys.{FreeKeys}
 use Rattle.key_alloc.specs.FreeKeys.{has_key, AreAhead, AreFreeBeside, IsLeastOpen}
 
 -- ---- the keys that are free while blocks are taken
-
-free_of : (a b : Bool) → a ≡ true → b ≡ false → (a && not b) ≡ true
-free_of true false p q = refl
-free_of true true p q = clash refl q
-free_of false b p q = clash p refl
-
-regroup : (a b c : Bool) → ((a && not b) && not c) ≡ (a && not (b || (c || false)))
-regroup false b c = refl
-regroup true true c = refl
-regroup true false true = refl
-regroup true false false = refl
-
-pub in_facts : (p s k : ℕ) → in_range p s k ≡ true → (p ≤ k) × (k < p + s)
-in_facts p s k e = (grind (arith, nat_tests), grind (arith, nat_tests))
 
 module _ (taken : List Block) (free : FreeKeys) (state : AreFreeBeside taken free) (s : ℕ) (some : 0 < s) where
   -- the places of a range in a hole are below the frontier

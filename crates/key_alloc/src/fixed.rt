@@ -49,6 +49,6 @@ fn sort_downwards(blocks: &mut Vec<Block>) -> Result<(), Memory>
     ensures same { OnOk result (IsPermutation blocks.old.items blocks.new.items) }
     ensures downwards { OnOk result (AllPairs (λ (a b : Block). b.key ≤ a.key) blocks.new.items) }
 {
-    blocks.sort_by_key(|block| 4_294_967_295 - block.key)?;
+    blocks.sort_by_key(|block| u32::MAX - block.key)?;
     Ok(())
 }

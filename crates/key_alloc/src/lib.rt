@@ -12,6 +12,3 @@ mod laws;
 
 pub use alloc::{KeyErr, keys};
 pub use laws::right_blocks_are_determined;
-
-#[cfg(test)]
-mod tests;

@@ -16,6 +16,3 @@ mod trims;
 
 pub use repairs::{RepairErr, repair};
 pub use roads::Roads;
-
-#[cfg(test)]
-mod tests;

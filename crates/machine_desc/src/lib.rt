@@ -14,6 +14,3 @@ mod trees;
 
 pub use machines::Machine;
 pub use trees::{Edge, Tree};
-
-#[cfg(test)]
-mod tests;

@@ -1,5 +1,6 @@
 -- A mesh at rest that meets the ledger of a job, without a dump, has delivered what the job asks for.
 use Rattle.std.proofs.Common.{◌≡◌, ℕ, ◌+◌, ◌/◌, ◌%◌, suc, List, [], ◌∷◌, map, Bool, true, ◌==◌, ◌&&◌, Option, Some, None, refl, ap, sym, ◌∙◌, subst, arith, append-nil, inl, inr, length, count_by}
+use Rattle.std.specs.Cmp.{both_ways}
 use Rattle.std.specs.List.{slice_get, Contains}
 use Rattle.std.proofs.lemmas.List.Elements.{All-contains}
 use Rattle.std.proofs.lemmas.Bool.{and_parts, eqb-true, eq-eqb, and_from}
@@ -28,7 +29,7 @@ use Rattle.mesh_core.proofs.AskedPackets.{asks, asked_parts, asked_from, net_in_
 use Rattle.mesh_core.proofs.Moves.{mark}
 use Rattle.mesh_core.proofs.Counting.{count_agree}
 use Rattle.mesh_core.proofs.LedgerLaw.{one_net}
-use Rattle.mesh_core.proofs.Ways.{same_test, vertex_at_stands}
+use Rattle.mesh_core.proofs.Ways.{vertex_at_stands}
 
 -- the mark of a delivery
 abbrev mark_of : Delivery → Mark
@@ -188,7 +189,7 @@ module _ (s : State) (nets : List NetPlan) (packets : List Packet) (job : MeetsJ
           ∙ job.ledger.ledger.once_on_each k.0 k.1 net in_nets (its_key k.0 k.1 k.2) target branch from to w
 
       agrees : (d : Delivery) → Among d s.delivered → q d ≡ is_packet_on_trail i from to branch (mark_of d)
-      agrees d a = same_test (q d) (is_packet_on_trail i from to branch (mark_of d)) forth back
+      agrees d a = both_ways (q d) (is_packet_on_trail i from to branch (mark_of d)) forth back
         where
           forth : q d ≡ true → is_packet_on_trail i from to branch (mark_of d) ≡ true
           forth yes' =

@@ -96,7 +96,7 @@ IsMesh-after_events s (e ∷ es) mesh = IsMesh-after_events (after_event s e) es
 -- ---- putting a copy back
 
 -- the dump records change no queue
-same_room : (s : State) (rest : List DumpRec) (b : Behind) → has_room_behind (record s { dumped = rest }) b ≡ has_room_behind s b
+pub same_room : (s : State) (rest : List DumpRec) (b : Behind) → has_room_behind (record s { dumped = rest }) b ≡ has_room_behind s b
 same_room s rest (input i) = refl
 same_room s rest (core v) = refl
 same_room s rest nowhere = refl

@@ -1,5 +1,5 @@
--- A step leaves what a mesh never changes.
-use Rattle.std.proofs.Common.{◌≡◌, ℕ, refl, Bool, true, false, ◌&&◌, if◌then◌else◌, List, [], ◌∷◌, Option, Some, None}
+-- A step leaves what a mesh never changes, and so does a list of events.
+use Rattle.std.proofs.Common.{◌≡◌, ℕ, refl, ◌∙◌, Bool, true, false, ◌&&◌, if◌then◌else◌, List, [], ◌∷◌, ◌++◌, Option, Some, None}
 use Rattle.std.specs.Prelude.{unwrap_or}
 use Rattle.std.specs.List.{slice_get}
 use Rattle.spin_base.specs.declared.chips.Chip.{Chip}
@@ -11,7 +11,7 @@ use Rattle.spin_base.specs.declared.copies.Event.{Event}
 use Rattle.spin_base.specs.declared.copies.Event.TheVariants.{Inject, Take, Send, Dump, Collect}
 use Rattle.machine_desc.specs.Live.{index_of}
 use Rattle.mesh_core.specs.State.{State, Held, Behind, input, core, nowhere, behind, queue_at}
-use Rattle.mesh_core.specs.Step.{onward, has_room_behind, serves, after_serving, push_behind, inject_of, take_of, send_of, dump_of, collect_of, after_event}
+use Rattle.mesh_core.specs.Step.{onward, has_room_behind, serves, after_serving, push_behind, inject_of, take_of, send_of, dump_of, collect_of, after_event, after_events}
 
 pub push_behind_setup : (s : State) (b : Behind) (k : McCopy) → (push_behind s b k).setup ≡ s.setup
 push_behind_setup s (input i) k = refl
@@ -59,3 +59,12 @@ after_event_setup s (Take c port) = setup-take_of s c port (slice_get s.hands (i
 after_event_setup s (Send c o) = setup-send_of s c o (slice_get s.hands (index_of s.setup.machine c))
 after_event_setup s (Dump c o) = setup-dumped s c o (slice_get s.hands (index_of s.setup.machine c))
 after_event_setup s (Collect v) = setup-collect_of s v (slice_get s.cores v)
+
+pub setup_after : (s : State) (es : List Event) → (after_events s es).setup ≡ s.setup
+setup_after s [] = refl
+setup_after s (e ∷ es) = setup_after (after_event s e) es ∙ after_event_setup s e
+
+-- events one list after the other
+pub after_events-append : (s : State) (es fs : List Event) → after_events s (es ++ fs) ≡ after_events (after_events s es) fs
+after_events-append s [] fs = refl
+after_events-append s (e ∷ es) fs = after_events-append (after_event s e) es fs

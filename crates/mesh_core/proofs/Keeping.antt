@@ -4,7 +4,7 @@ use Rattle.std.specs.Prelude.{IfSome}
 use Rattle.std.specs.List.{All, slice_get}
 use Rattle.std.proofs.lemmas.List.{length_push}
 use Rattle.std.proofs.lemmas.List.Elements.{All-tail}
-use Rattle.std.proofs.lemmas.Option.{slice_get_within, get_or_from_slice_get}
+use Rattle.list_laws.proofs.Places.{All-at}
 use Rattle.std.proofs.lemmas.Bool.{and_parts, ltb-true}
 use Rattle.spin_base.specs.declared.chips.Chip.{Chip}
 use Rattle.spin_base.specs.declared.chips.Spot.{Spot}
@@ -30,10 +30,6 @@ use Rattle.mesh_core.proofs.Changes.{port_below, IsMesh-unsent, IsMesh-cores, Is
 pub if_some : {X : Type 0} (b : Bool) (u t : X) → (if b then Some u else None) ≡ Some t → (b ≡ true) × (u ≡ t)
 if_some true u t e = (refl, cc)
 if_some false u t e = cc
-
--- what is true of all is true of the one at a place
-pub All-slice_get : {X : Type 0} (P : X → Type 0) (xs : List X) (i : ℕ) (x : X) → All P xs → slice_get xs i ≡ Some x → P x
-All-slice_get P xs i x all here = subst P (get_or_from_slice_get xs i x x here) (all i x (slice_get_within xs i x here))
 
 -- queues of one place are those of one chip and port
 pub same_queue : (m : Description) (c e : Chip) (p q : Port) → IsInside m c → IsInside m e → queue_at m c p ≡ queue_at m e q → (c ≡ e) × (p ≡ q)
@@ -127,8 +123,8 @@ keeps_injected s t v (Some spot) (Some (k ∷ rest)) h at_spot at_unsent moves =
     let queue : Behind = input (queue_at s.setup.machine spot.chip Local) in
     let now : State = record s { unsent = set s.unsent v rest } in
     let parts : (has_room_behind s queue ≡ true) × (push_behind now queue k ≡ t) = if_some (has_room_behind s queue) (push_behind now queue k) t moves in
-    let start : All (λ x. x.hop ≡ 0) rest = All-tail (λ (x : McCopy). x.hop ≡ 0) k rest (All-slice_get (λ (l : List McCopy). All (λ x. x.hop ≡ 0) l) s.unsent v (k ∷ rest) h.unsent_at_start at_unsent) in
-    let site : IsSite s.setup.machine spot = All-slice_get (IsSite s.setup.machine) s.setup.spots v spot h.sites at_spot in
+    let start : All (λ x. x.hop ≡ 0) rest = All-tail (λ (x : McCopy). x.hop ≡ 0) k rest (All-at (λ (l : List McCopy). All (λ x. x.hop ≡ 0) l) s.unsent v (k ∷ rest) h.unsent_at_start at_unsent) in
+    let site : IsSite s.setup.machine spot = All-at (IsSite s.setup.machine) s.setup.spots v spot h.sites at_spot in
     let live : is_live_chip s.setup.machine spot.chip ≡ true = (site_parts s.setup.machine spot site).0 in
     subst IsMesh parts.1 (arrived_input now (queue_at s.setup.machine spot.chip Local) k (slice_get s.inputs (queue_at s.setup.machine spot.chip Local)) (IsMesh-unsent s v rest h start) (may_wait-local s.setup.machine spot.chip live) parts.0)
 keeps_injected s t v (Some spot) (Some []) h at_spot at_unsent moves = cc
@@ -148,7 +144,7 @@ keeps_taken s t c port (Some None) (Some (k ∷ rest)) h at_queue moves =
     let hand : Option Held = in_hand k port (outputs s.setup c port k) in
     let next : State = record now { hands = set s.hands (index_of s.setup.machine c) hand } in
     let parts : (is_live_chip s.setup.machine c ≡ true) × (next ≡ t) = if_some (is_live_chip s.setup.machine c) next t moves in
-    let within : length (k ∷ rest) ≤ s.setup.capacity = All-slice_get (λ (l : List McCopy). length l ≤ s.setup.capacity) s.inputs q (k ∷ rest) h.inputs_within at_queue in
+    let within : length (k ∷ rest) ≤ s.setup.capacity = All-at (λ (l : List McCopy). length l ≤ s.setup.capacity) s.inputs q (k ∷ rest) h.inputs_within at_queue in
     let kept : IsMesh now = IsMesh-inputs s q rest h (omega arith)
     (λ e d dead inside same. nothing_waited s.inputs q (queue_at s.setup.machine e (ByLink d)) k rest at_queue (h.none_at_dead_ports e d dead inside) same)
     (λ e dead inside same. nothing_waited s.inputs q (queue_at s.setup.machine e Local) k rest at_queue (h.none_on_dead_chips e dead inside) same)
@@ -196,7 +192,7 @@ keeps_collected s t v (Some (k ∷ rest)) h at_queue moves =
     let last : State = record now { delivered = s.delivered ++ record { vertex = v; copy = k } ∷ [] } in
     let same : Some last ≡ Some t = moves in
     let is : last ≡ t = cc in
-    let within : length (k ∷ rest) ≤ s.setup.capacity = All-slice_get (λ (l : List McCopy). length l ≤ s.setup.capacity) s.cores v (k ∷ rest) h.cores_within at_queue in
+    let within : length (k ∷ rest) ≤ s.setup.capacity = All-at (λ (l : List McCopy). length l ≤ s.setup.capacity) s.cores v (k ∷ rest) h.cores_within at_queue in
     subst IsMesh is (IsMesh-delivered now last.delivered (IsMesh-cores s v rest h (omega arith)))
 keeps_collected s t v (Some []) h at_queue moves = cc
 keeps_collected s t v None h at_queue moves = cc

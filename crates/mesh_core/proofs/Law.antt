@@ -1,5 +1,6 @@
 -- A move keeps what the ledger says of one net: what comes in the place of a mark stands on the same trails.
 use Rattle.std.proofs.Common.{◌≡◌, ℕ, ◌+◌, ◌<◌, ◌≤◌, suc, List, [], ◌∷◌, map, Bool, true, false, ◌==◌, ◌&&◌, if◌then◌else◌, Option, Some, None, refl, ap, sym, ◌∙◌, subst, arith, inl, inr, length, min, count_by, nat_lt}
+use Rattle.std.specs.Cmp.{both_ways}
 use Rattle.std.specs.List.{slice_get, Contains}
 use Rattle.list_laws.proofs.Counts.{count_by-map, count_by-cons, count_by-none}
 use Rattle.list_laws.proofs.Members.{Among, among_filter}
@@ -41,7 +42,7 @@ use Rattle.mesh_core.specs.Step.{last_hop, onward, outputs}
 use Rattle.mesh_core.specs.Trail.{Station, unsent, in_queue, in_hand, at_core, delivered, dumped, Mark, comes_in_there, leaves_there, on_trail, is_on_trail}
 use Rattle.net_tables.specs.NetsOn.{IsWayOn}
 use Rattle.mesh_core.proofs.Moves.{mark, Crosses, IsMove, IsMoveOf}
-use Rattle.mesh_core.proofs.Ways.{Stands, same_test, vertex_at_stands, vertex_there, vertex_behind_stands, target_site, short_branch, onward_hop, one_place, branch_comes_in, exit_wanted, exit_is_output, wanted_on_branch}
+use Rattle.mesh_core.proofs.Ways.{Stands, same_exit, vertex_at_stands, vertex_there, vertex_behind_stands, target_site, short_branch, onward_hop, one_place, branch_comes_in, exit_wanted, exit_is_output, wanted_on_branch}
 
 -- ---- what the tests on a trail say
 
@@ -50,14 +51,11 @@ pub leaves_parts : (branch : List Exit) (hop : ℕ) (c : Chip) (o : Out) → lea
     slice_get branch hop ≡ Some (record { chip = c; out = o })
 leaves_parts branch hop c o on = by_exit (slice_get branch hop) refl on
   where
-    same_exit : (a b : Chip) (p q : Out) → a ≡ b → p ≡ q → (let x : Exit = record { chip = a; out = p } in let y : Exit = record { chip = b; out = q } in x ≡ y)
-    same_exit a b p q e f = cc
-
     by_exit : (x : Option Exit) → slice_get branch hop ≡ x → leaves_there c o x ≡ true → slice_get branch hop ≡ Some (record { chip = c; out = o })
     by_exit (Some x) at on' =
         let same_c : x.chip ≡ c = chip_eq_true x.chip c ((and_parts (chip_eq x.chip c) (out_eq x.out o) on').0) in
         let same_o : x.out ≡ o = out_eq_true x.out o ((and_parts (chip_eq x.chip c) (out_eq x.out o) on').1) in
-        at ∙ ap Some (same_exit x.chip c x.out o same_c same_o)
+        at ∙ ap Some (same_exit x (record { chip = c; out = o }) same_c same_o)
     by_exit None at on' = cc
 
 -- and the other way round
@@ -210,7 +208,7 @@ module _ (s : State) (net : NetPlan) (stands : Stands s net) where
       let small : hop < 4096 = small_hop t xs from to w hop (record { chip = c; out = Link d }) at in
       let next : min (hop + 1) last_hop ≡ suc hop = onward_hop hop small ∙ plus_one hop in
       ap (λ n. comes_in_there ys n e (ByLink (opposite_of d)) (slice_get ys n)) next
-      ∙ same_test (comes_in_there ys (suc hop) e (ByLink (opposite_of d)) (slice_get ys (suc hop))) (leaves_there c (Link d) (slice_get ys hop))
+      ∙ both_ways (comes_in_there ys (suc hop) e (ByLink (opposite_of d)) (slice_get ys (suc hop))) (leaves_there c (Link d) (slice_get ys hop))
       (back (goes_on t xs from to w c d live hop at).0) forth
     where
       edge : Edge
@@ -258,7 +256,7 @@ module _ (s : State) (net : NetPlan) (stands : Stands s net) where
       let at : slice_get xs hop ≡ Some (record { chip = c; out = o }) = leaves_parts xs hop c o on in
       let small : hop < 4096 = small_hop t xs from to w hop (record { chip = c; out = o }) at in
       ap (λ n. (v == to') && (n == length ys)) (onward_hop hop small)
-      ∙ same_test ((v == to') && (hop + 1 == length ys)) (leaves_there c o (slice_get ys hop)) back forth
+      ∙ both_ways ((v == to') && (hop + 1 == length ys)) (leaves_there c o (slice_get ys hop)) back forth
     where
       -- the spot of the vertex there
       there : (q : Spot) × (slice_get s.setup.spots v ≡ Some q) × (q.chip ≡ c) × (out_of q.core ≡ o)

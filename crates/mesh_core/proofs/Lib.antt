@@ -1,6 +1,6 @@
 pub mod AskedPackets
 pub mod Changes
-mod Counting
+pub mod Counting
 pub mod DeliveredLaw
 pub mod Events
 pub mod EventsLaw
@@ -10,7 +10,8 @@ mod FewMarks
 pub mod FewMoves
 pub mod Fixed
 mod HandOutputs
-mod Keeping
+pub mod Heavy
+pub mod Keeping
 pub mod Law
 pub mod LedgerLaw
 mod MarkTests
@@ -21,7 +22,7 @@ pub mod OpenedLaw
 mod Ordered
 mod QueueLists
 pub mod Queued
-mod RoomyRuns
+pub mod RoomyRuns
 mod Searching
 pub mod ServingLaws
 pub mod Standing

@@ -4,10 +4,8 @@ use Rattle.std.specs.List.{slice_get, Contains}
 use Rattle.std.proofs.lemmas.List.Elements.{All-contains}
 use Rattle.std.proofs.lemmas.Option.{slice_get_within}
 use Rattle.list_laws.proofs.Places.{slice_get_there}
-use Rattle.spin_base.specs.declared.chips.Chip.{Chip}
 use Rattle.spin_base.specs.declared.chips.Port.TheVariants.{Local}
 use Rattle.spin_base.specs.declared.chips.Spot.{Spot}
-use Rattle.spin_base.specs.declared.routes.Out.{Out}
 use Rattle.machine_desc.specs.declared.trees.Edge.{Edge}
 use Rattle.machine_desc.specs.Description.{Description}
 use Rattle.machine_desc.specs.RoutingTree.{IsRoutingTree}
@@ -16,6 +14,7 @@ use Rattle.machine_desc.proofs.Branches.{ComesBy, comes_by, exit_leads, ExitLead
 use Rattle.machine_desc.proofs.TreeLemmas.{one_edge_into}
 use Rattle.net_tables.specs.declared.nets.NetPlan.{NetPlan}
 use Rattle.net_tables.specs.NetsOn.{AreNetsOn, IsWayOn}
+use Rattle.mesh_core.proofs.Ways.{same_exit}
 
 same_items : {X : Type 0} (xs ys : List X) → length xs ≡ length ys → ((i : ℕ) → i < length xs → slice_get xs i ≡ slice_get ys i) → xs ≡ ys
 same_items [] [] long same = refl
@@ -26,12 +25,6 @@ same_items (x ∷ xs) (y ∷ ys) long same =
     let here : x ≡ y = cc in
     let rest : xs ≡ ys = same_items xs ys (let n : suc (length xs) ≡ suc (length ys) = long in omega (arith, n)) (λ i within. same (suc i) (omega arith)) in
     ap (λ z. z ∷ xs) here ∙ ap (λ zs. y ∷ zs) rest
-
-same_exit : (x y : Exit) → x.chip ≡ y.chip → x.out ≡ y.out → x ≡ y
-same_exit x y e f = made x.chip y.chip x.out y.out e f
-  where
-    made : (a b : Chip) (p q : Out) → a ≡ b → p ≡ q → (let v : Exit = record { chip = a; out = p } in let w : Exit = record { chip = b; out = q } in v ≡ w)
-    made a b p q e' f' = cc
 
 module _ (m : Description) (net : NetPlan) (tree : IsRoutingTree m net.tree.root net.tree.edges net.targets) where
   -- the last exit of a branch is by the output that leads to its target

@@ -5,7 +5,8 @@ use Rattle.std.specs.Option.{option_map_or}
 use Rattle.std.proofs.lemmas.List.Elements.{All-contains, All-map}
 use Rattle.std.proofs.lemmas.List.FromFn.{length-map-range_with_len}
 use Rattle.std.proofs.lemmas.List.{length-map}
-use Rattle.std.proofs.lemmas.Bool.{eqb-true, eq-eqb, and_from}
+use Rattle.std.proofs.lemmas.Bool.{eqb-true, eq-eqb, ne_eqb, and_from}
+use Rattle.std.proofs.Math.Bool.{and-false}
 use Rattle.std.proofs.lemmas.Option.{slice_get_within}
 use Rattle.list_laws.proofs.Counts.{count_by-map}
 use Rattle.list_laws.proofs.Gathering.{gathered_nothing, among_made, made_among, count_made_one, among_chosen, chosen_among, count_chosen_one, count_chosen_none}
@@ -57,13 +58,6 @@ sent_from : (spots : List Spot) (nets : List NetPlan) (p : Packet) (i v : ℕ) (
 sent_from spots nets p i v net is vertex =
     ap (copy_from spots v i p) is
     ∙ ap (λ b. if b then Some (first_copy i net p) else None) (ap (λ w. option_map_or (λ n. n == v) w false) vertex ∙ eq-eqb v v refl)
-
-nat_apart : (a b : ℕ) → a ≢ b → (a == b) ≡ false
-nat_apart a b other = grind arith
-
-and_false : (b : Bool) → (b && false) ≡ false
-and_false true = refl
-and_false false = refl
 
 module _ (setup : Setup) (nets : List NetPlan) (packets : List Packet) where
   abbrev m : Description
@@ -261,7 +255,7 @@ module _ (setup : Setup) (nets : List NetPlan) (packets : List Packet) where
             (λ i q c at is. fails v other c)
           where
             fails : (v : ℕ) → v ≢ from → (c : McCopy) → counts n from to branch v c ≡ false
-            fails v other c = ap (λ b. (c.packet == n) && (b && (c.hop == 0))) (nat_apart v from other) ∙ and_false (c.packet == n)
+            fails v other c = ap (λ b. (c.packet == n) && (b && (c.hop == 0))) (ne_eqb v from other) ∙ and-false (c.packet == n)
 
         one_of_source : (u : IsUnsent k) → u.vertex ≡ from → count_by (counts n from to branch from) (copies from) ≡ 1
         one_of_source u is =
@@ -276,7 +270,7 @@ module _ (setup : Setup) (nets : List NetPlan) (packets : List Packet) where
             let zero_j : 0 + j ≡ j = omega arith in
             let sent = sent_parts spots nets q j from c (slice_get nets q.net) refl (ap (λ i. copy_from spots from i q (slice_get nets q.net)) (sym zero_j) ∙ e) in
             let its_number : c.packet ≡ j = ap (λ (d : McCopy). d.packet) sent.copy in
-            ap (λ b. b && ((from == from) && (c.hop == 0))) (nat_apart c.packet n (λ same. apart (sym its_number ∙ (same ∙ sym number_same)))))
+            ap (λ b. b && ((from == from) && (c.hop == 0))) (ne_eqb c.packet n (λ same. apart (sym its_number ∙ (same ∙ sym number_same)))))
 
     -- The opened mesh of a job meets the ledger of the job.
     pub opened_meets_ledger : MeetsJobLedger opened nets packets

@@ -27,7 +27,7 @@ use Rattle.mesh_core.proofs.OpenedLaw.{opened_meets_ledger}
 
 -- ---- only a Dump makes a record
 
-records-push_behind : (s : State) (b : Behind) (k : McCopy) → (push_behind s b k).dumped ≡ s.dumped
+pub records-push_behind : (s : State) (b : Behind) (k : McCopy) → (push_behind s b k).dumped ≡ s.dumped
 records-push_behind s (input i) k = refl
 records-push_behind s (core v) k = refl
 records-push_behind s nowhere k = refl

@@ -1,11 +1,12 @@
 -- Serving an output: the hands after it, and the queue behind it.
 use Rattle.std.proofs.Common.{◌≡◌, ℕ, ◌<◌, ◌≤◌, ◌+◌, ◌-◌, refl, sym, ap, ◌∙◌, subst, arith, Bool, true, false, cond, List, [], ◌∷◌, length, get_or, set, Option, Some, None, ◌==◌, if◌then◌else◌, is_some}
+use Rattle.std.specs.Cmp.{both_ways}
 use Rattle.std.specs.List.{All, slice_get, position_from}
 use Rattle.std.proofs.lemmas.List.{set-set}
 use Rattle.std.proofs.lemmas.List.Elements.{All-head, All-tail}
 use Rattle.std.proofs.lemmas.List.Quantifiers.{position-Some}
 use Rattle.std.proofs.lemmas.Iterator.Adapters.{position_from-zero}
-use Rattle.std.proofs.lemmas.Bool.{and_parts, and_from}
+use Rattle.std.proofs.lemmas.Bool.{and_parts, and_from, false_from_ne_true}
 use Rattle.std.proofs.lemmas.Option.{slice_get-get_or, get_or_from_slice_get}
 use Rattle.spin_base.specs.declared.chips.Chip.{Chip}
 use Rattle.spin_base.specs.declared.chips.Port.{Port}
@@ -55,11 +56,6 @@ position-same t u (x ∷ xs) n same =
     ap (λ b. cond b (Some n) (position_from t (n + 1) xs)) (All-head (λ z. t z ≡ u z) x xs same)
     ∙ ap (λ q. cond (u x) (Some n) q) (position-same t u xs (n + 1) (All-tail (λ z. t z ≡ u z) x xs same))
 
-same_test : (a b : Bool) → (a ≡ true → b ≡ true) → (b ≡ true → a ≡ true) → a ≡ b
-same_test true b there back = sym (there refl)
-same_test false true there back = back refl
-same_test false false there back = refl
-
 vertex_behind-from : (spots : List Spot) (c : Chip) (o : Out) → vertex_behind spots c o ≡ position_from (leads_to_spot c o) 0 spots
 vertex_behind-from spots c o = position_from-zero (leads_to_spot c o) spots
 
@@ -82,7 +78,7 @@ vertex_behind-is : (spots : List Spot) (o : Out) (t : Spot) → o ≡ out_of t.c
 vertex_behind-is spots o t is numbers =
     vertex_behind-from spots t.chip o
     ∙ (position-same (leads_to_spot t.chip o) (spot_eq t) spots 0
-    (λ k d below. same_test _ _ (leads_back o t (get_or spots k d) (numbers k d below)) (leads_there o t (get_or spots k d) is))
+    (λ k d below. both_ways _ _ (leads_back o t (get_or spots k d) (numbers k d below)) (leads_there o t (get_or spots k d) is))
     ∙ sym (vertex_at-from spots t))
 
 pub vertex_behind-core : (spots : List Spot) (t : Spot) → t.core < 18 → vertex_behind spots t.chip (Core t.core) ≡ vertex_at spots t
@@ -100,15 +96,11 @@ no_place : (t : Spot → Bool) (xs : List Spot) (n : ℕ) → All (λ x. t x ≡
 no_place t [] n none = refl
 no_place t (x ∷ xs) n none = rw (All-head (λ z. t z ≡ false) x xs none) (no_place t xs (n + 1) (All-tail (λ z. t z ≡ false) x xs none))
 
-not_true : (b : Bool) → (b ≡ true → ⊥) → b ≡ false
-not_true true never = absurd (never refl)
-not_true false never = refl
-
 -- no vertex is behind a core beyond 17
 pub vertex_behind-beyond : (spots : List Spot) (c : Chip) (p : ℕ) → 18 ≤ p → vertex_behind spots c (Core p) ≡ None
 vertex_behind-beyond spots c p beyond =
     vertex_behind-from spots c (Core p)
-    ∙ no_place (leads_to_spot c (Core p)) spots 0 (λ k d below. not_true _ (λ leads.
+    ∙ no_place (leads_to_spot c (Core p)) spots 0 (λ k d below. false_from_ne_true _ (λ leads.
     let parts = and_parts _ _ leads in
     let same = spot_of_core (get_or spots k d).core p (out_eq_true (out_of (get_or spots k d).core) (Core p) parts.1) in
     omega (arith, same.0, same.1)))

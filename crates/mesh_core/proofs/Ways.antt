@@ -33,14 +33,6 @@ use Rattle.net_tables.proofs.Wanted.{spot_of_out, wanted_cases, edge_wanted, end
 use Rattle.mesh_core.specs.State.{State, IsMesh, vertex_behind}
 use Rattle.mesh_core.specs.Step.{last_hop}
 
--- ---- tests that say what equality says
-
--- tests that follow from each other are the same
-pub same_test : (a b : Bool) → (a ≡ true → b ≡ true) → (b ≡ true → a ≡ true) → a ≡ b
-same_test true b forth back = sym (forth refl)
-same_test false true forth back = back refl
-same_test false false forth back = refl
-
 -- ---- vertices on cores
 
 -- the vertex on a core stands on it
@@ -178,8 +170,12 @@ pub record OnBranch (s : State) (net : NetPlan) (x : Exit) : Type 0 where
   pub place : ℕ
   pub at : slice_get branch place ≡ Some x
 
-same_exit : (c d : Chip) (o p : Out) → c ≡ d → o ≡ p → (let x : Exit = record { chip = c; out = o } in let y : Exit = record { chip = d; out = p } in x ≡ y)
-same_exit c d o p e f = cc
+-- exits of one chip by one output are one
+pub same_exit : (x y : Exit) → x.chip ≡ y.chip → x.out ≡ y.out → x ≡ y
+same_exit x y e f = made x.chip y.chip x.out y.out e f
+  where
+    made : (a b : Chip) (p q : Out) → a ≡ b → p ≡ q → (let v : Exit = record { chip = a; out = p } in let w : Exit = record { chip = b; out = q } in v ≡ w)
+    made a b p q e' f' = cc
 
 pub wanted_on_branch : (s : State) (net : NetPlan) → Stands s net → (x : Exit) → is_wanted net.tree.edges net.targets x.chip x.out ≡ true → OnBranch s net x
 wanted_on_branch s net stands x wanted = by_case (wanted_cases net.tree.edges net.targets x.chip x.out wanted)
@@ -195,7 +191,7 @@ wanted_on_branch s net stands x wanted = by_case (wanted_cases net.tree.edges ne
           branch = way.2.0;
           is_branch = way.2.1;
           place = way.2.2.0;
-          at = slice_get-get_or way.2.0 way.2.2.0 (exit_of e) way.2.2.1 ∙ ap Some (way.2.2.2 ∙ same_exit x.chip x.chip (Link d) x.out refl (sym out));
+          at = slice_get-get_or way.2.0 way.2.2.0 (exit_of e) way.2.2.1 ∙ ap Some (way.2.2.2 ∙ same_exit (exit_of e) x refl (sym out));
         }
     by_case (inr (t, has, chip, out)) =
         let way = end_on_branch s.setup.machine net.tree.root net.tree.edges net.targets stands.tree t has in
@@ -205,7 +201,7 @@ wanted_on_branch s net stands x wanted = by_case (wanted_cases net.tree.edges ne
           branch = way.0;
           is_branch = way.1;
           place = way.2.0;
-          at = slice_get-get_or way.0 way.2.0 (last_exit t) way.2.1 ∙ ap Some (way.2.2 ∙ same_exit t.chip x.chip (out_of t.core) x.out chip (sym out));
+          at = slice_get-get_or way.0 way.2.0 (last_exit t) way.2.1 ∙ ap Some (way.2.2 ∙ same_exit (last_exit t) x chip (sym out));
         }
 
 -- each target of a net that stands has a way

@@ -8,6 +8,7 @@ pub use Rattle.net_tables.specs.NetsOn
 pub use Rattle.net_tables.specs.RightTables
 pub mod Expected
 pub mod HasRun
+pub mod Heavy
 pub mod InParts
 pub mod Ledger
 pub mod Opened

@@ -49,7 +49,7 @@ impl Mesh {
         ensures roomy { (nets : List NetPlan) (packets : List Packet) (c : Chip) (o : Out) → MeetsJobLedger self.old nets packets →
             length packets ≤ self.old.setup.capacity → e ≡ Dump c o → IfOk result (λ did. did ≡ Idle) }
     {
-        let _ = &self.setup;
+        let _ = &self.setup; // Opens the mesh: what every mesh has is then known of the old one.
         match e {
             Event::Inject(vertex) => self.inject(vertex),
             Event::Take(chip, port) => Ok(self.take(chip, port)),

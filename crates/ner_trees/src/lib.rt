@@ -17,6 +17,3 @@ pub use displacements::{Disp, displacement, distance};
 pub use growths::{Grown, Join, ner};
 pub use laws::grown_trees_are_determined;
 pub use walks::ldf;
-
-#[cfg(test)]
-mod tests;

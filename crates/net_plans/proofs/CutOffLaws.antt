@@ -23,6 +23,7 @@ use Rattle.net_plans.specs.Cause.{IsCause, IsCauseOne, IsRefusedBy}
 use Rattle.net_plans.specs.CutOffTargets.{IsCutOffIn, HasNoneCutOff, IsFirstCutOffIn, IsFirstCutOff}
 use Rattle.net_plans.specs.Order.{IsBelow}
 use Rattle.net_plans.specs.Targets.{chip_key, AreTargets, AreTargetChips}
+use Rattle.net_plans.proofs.Determined.{same_source}
 use Rattle.net_plans.proofs.Ordering.{same_from_neither, not_both}
 
 -- a path of live edges is a walk of live links
@@ -35,9 +36,6 @@ path_walk m edges live (e ∷ path) from to (has, begins, (c, ends, rest)) =
     let far : far_of m from e.dir ≡ Some c = subst (λ (x : Chip). far_of m x e.dir ≡ Some c) begins ends in
     (c ∷ further.0, (((e.dir, link, far), further.1.0), further.1.1))
 
-same_spot_there : (spots : List Spot) (v : ℕ) (s t : Spot) → slice_get spots v ≡ Some s → slice_get spots v ≡ Some t → s ≡ t
-same_spot_there spots v s t at_s at_t = cc
-
 same_net_there : (ns : List Net) (v : ℕ) (s t : Net) → slice_get ns v ≡ Some s → slice_get ns v ≡ Some t → s ≡ t
 same_net_there ns v s t at_s at_t = cc
 
@@ -49,7 +47,7 @@ module _ (m : Description) (spots : List Spot) (net : Net) where
   pub none_cut_off : (source : Spot) (targets : List Spot) (edges : List Edge) → slice_get spots net.source ≡ Some source → AreTargets spots net.targets targets →
       IsRoutingTree m source.chip edges targets → HasNoneCutOff m spots net
   none_cut_off source targets edges at are tree = λ other chip cut.
-      let same : source ≡ other = same_spot_there spots net.source source other at cut.from in
+      let same : source ≡ other = same_source spots net.source source other at cut.from in
       let mine : Contains targets cut.spot = are.each cut.vertex cut.spot cut.is_target cut.at in
       let listed : Contains (map (λ (s : Spot). s.chip) targets) cut.spot.chip = Contains-map (λ (s : Spot). s.chip) targets cut.spot mine in
       let in_tree : IsTreeChip m source.chip edges chip =
@@ -102,7 +100,7 @@ module _ (m : Description) (spots : List Spot) (net : Net) where
 
   pub one_first_target : (a b : Chip) → IsFirstCutOffIn m spots net a → IsFirstCutOffIn m spots net b → a ≡ b
   one_first_target a b first_a first_b =
-      let same : first_b.source ≡ first_a.source = same_spot_there spots net.source first_b.source first_a.source first_b.is.from first_a.is.from in
+      let same : first_b.source ≡ first_a.source = same_source spots net.source first_b.source first_a.source first_b.is.from first_a.is.from in
       let is_b : IsCutOffIn m spots net first_a.source b = subst (λ s. IsCutOffIn m spots net s b) same first_b.is in
       let is_a : IsCutOffIn m spots net first_b.source a = subst (λ s. IsCutOffIn m spots net s a) (sym same) first_a.is in
       let parts = same_from_neither (chip_key m first_a.source.chip a) (chip_key m first_a.source.chip b)

@@ -33,7 +33,7 @@ one_target_chips m root targets xs ys a b =
     same_list (λ c d. IsBelow (chip_key m root c) (chip_key m root d)) (λ c d. not_both (chip_key m root c) (chip_key m root d)) xs ys a.ascending b.ascending
     (λ c has. let from = a.only c has in subst (Contains ys) from.2 (b.each from.0 from.1)) (λ c has. let from = b.only c has in subst (Contains xs) from.2 (a.each from.0 from.1))
 
-same_source : (spots : List Spot) (i : ℕ) (s t : Spot) → slice_get spots i ≡ Some s → slice_get spots i ≡ Some t → s ≡ t
+pub same_source : (spots : List Spot) (i : ℕ) (s t : Spot) → slice_get spots i ≡ Some s → slice_get spots i ≡ Some t → s ≡ t
 same_source spots i s t at also = cc
 
 same_grown : (g h : Grown) → g.tree.root ≡ h.tree.root → g.tree.edges ≡ h.tree.edges → g.joins ≡ h.joins → g ≡ h

@@ -8,7 +8,7 @@ use Rattle.spin_base.specs.declared.chips.Dir.{Dir}
 use Rattle.spin_base.specs.Links.{dir_number, opposite_of}
 use Rattle.machine_desc.specs.declared.trees.Edge.{Edge}
 use Rattle.machine_desc.specs.Description.{Description}
-use Rattle.machine_desc.specs.Live.{far_of, IsInside, IsLiveLink}
+use Rattle.machine_desc.specs.Live.{far_of}
 use Rattle.machine_desc.specs.RoutingTree.{IsTreeChip}
 use Rattle.machine_desc.proofs.Far.{far_back, live_ends, live_inside}
 use Rattle.machine_desc.proofs.Same.{same_dir, same_edge}
@@ -21,9 +21,6 @@ use Rattle.list_laws.proofs.Ascending.{same_in_order}
 -- all edges of the first list are in the second
 abbrev pub Has : List Edge → List Edge → Type 0
 Has fs es = (e : Edge) → Contains es e → Contains fs e
-
-live_begin : (m : Description) (c : Chip) (d : Dir) → IsLiveLink m c d → IsInside m c
-live_begin m c d lives = live_inside m c (live_ends m c d lives).2
 
 module _ (m : Description) (root : Chip) where
   chip_too : (tree other : List Edge) → Has other tree → (c : Chip) → IsTreeChip m root tree c → IsTreeChip m root other c
@@ -56,9 +53,9 @@ module _ (m : Description) (root : Chip) where
       let up : dir_number e.dir ≤ dir_number f.dir = x.least f from_f y.lives y.leads in
       let down : dir_number f.dir ≤ dir_number e.dir = y.least e from_e x.lives x.leads in
       let dir : e.dir ≡ f.dir = same_dir e.dir f.dir (omega arith) in
-      let one : far_of m c (opposite_of e.dir) ≡ Some e.chip = far_back m e.chip c e.dir (live_begin m e.chip e.dir x.lives) x.leads in
+      let one : far_of m c (opposite_of e.dir) ≡ Some e.chip = far_back m e.chip c e.dir (live_inside m e.chip (live_ends m e.chip e.dir x.lives).2) x.leads in
       let two : far_of m c (opposite_of e.dir) ≡ Some f.chip =
-      subst (λ (d : Dir). far_of m c (opposite_of d) ≡ Some f.chip) (sym dir) (far_back m f.chip c f.dir (live_begin m f.chip f.dir y.lives) y.leads) in
+      subst (λ (d : Dir). far_of m c (opposite_of d) ≡ Some f.chip) (sym dir) (far_back m f.chip c f.dir (live_inside m f.chip (live_ends m f.chip f.dir y.lives).2) y.leads) in
       same_edge e f (same_Some e.chip f.chip (sym one ∙ two)) dir
 
   -- a chip has one detour

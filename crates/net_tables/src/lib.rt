@@ -10,6 +10,3 @@ mod outputs;
 
 pub use nets::NetPlan;
 pub use outputs::out_of;
-
-#[cfg(test)]
-mod tests;

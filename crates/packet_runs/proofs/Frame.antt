@@ -15,7 +15,8 @@ use Rattle.machine_desc.specs.Live.{index_of}
 use Rattle.mesh_core.specs.State.{State, Held, Behind, input, core, nowhere, behind, queue_at}
 use Rattle.mesh_core.specs.Step.{onward, has_room_behind, serves, after_serving, push_behind, inject_of, take_of, send_of, collect_of, after_event, after_events}
 use Rattle.mesh_core.proofs.EventsLaw.{events_keep}
-use Rattle.mesh_core.proofs.Fixed.{after_event_setup}
+use Rattle.mesh_core.proofs.Fixed.{setup_after, after_events-append}
+use Rattle.mesh_core.proofs.RoomyRuns.{records-push_behind}
 use Rattle.mesh_core.specs.HasRun.{DropsNone}
 use Rattle.packet_runs.specs.Draining.{IsKept, IsReached}
 
@@ -38,11 +39,6 @@ arrived_unsent : (s : State) (b : Behind) (k : McCopy) → (push_behind s b k).u
 arrived_unsent s (input i) k = refl
 arrived_unsent s (core v) k = refl
 arrived_unsent s nowhere k = refl
-
-arrived_dumped : (s : State) (b : Behind) (k : McCopy) → (push_behind s b k).dumped ≡ s.dumped
-arrived_dumped s (input i) k = refl
-arrived_dumped s (core v) k = refl
-arrived_dumped s nowhere k = refl
 
 unsent_of : State → List (List McCopy)
 unsent_of s = s.unsent
@@ -96,21 +92,17 @@ dumped_stays s (Inject v) is = by_parts (slice_get s.setup.spots v) (slice_get s
     by_parts (Some spot) None = refl
     by_parts None unsent = refl
 dumped_stays s (Take c port) is =
-    by_take (λ t. t.dumped) s (λ i h. refl) (λ c o h b k. arrived_dumped (after_serving s c o h) b k) (λ q v k. refl)
+    by_take (λ t. t.dumped) s (λ i h. refl) (λ c o h b k. records-push_behind (after_serving s c o h) b k) (λ q v k. refl)
     c port (slice_get s.hands (index_of s.setup.machine c)) (slice_get s.inputs (queue_at s.setup.machine c port))
 dumped_stays s (Send c o) is =
-    by_send (λ t. t.dumped) s (λ i h. refl) (λ c o h b k. arrived_dumped (after_serving s c o h) b k) (λ q v k. refl)
+    by_send (λ t. t.dumped) s (λ i h. refl) (λ c o h b k. records-push_behind (after_serving s c o h) b k) (λ q v k. refl)
     c o (slice_get s.hands (index_of s.setup.machine c))
 dumped_stays s (Dump c o) none = absurd none
 dumped_stays s (Collect v) is =
-    by_collect (λ t. t.dumped) s (λ i h. refl) (λ c o h b k. arrived_dumped (after_serving s c o h) b k) (λ q v k. refl)
+    by_collect (λ t. t.dumped) s (λ i h. refl) (λ c o h b k. records-push_behind (after_serving s c o h) b k) (λ q v k. refl)
     v (slice_get s.cores v)
 
 -- ---- one after the other
-
-after_events-append : (s : State) (es fs : List Event) → after_events s (es ++ fs) ≡ after_events (after_events s es) fs
-after_events-append s [] fs = refl
-after_events-append s (e ∷ es) fs = after_events-append (after_event s e) es fs
 
 pub reached_none : (s : State) → IsReached s s
 reached_none s = record { events = []; dropless = All-nil DropsNone; is = refl }
@@ -138,10 +130,6 @@ dumped_after s (e ∷ es) drops =
 
 pub dumped_reached : (s t : State) → IsReached s t → t.dumped ≡ s.dumped
 dumped_reached s t reached = ap (λ (x : State). x.dumped) reached.is ∙ dumped_after s reached.events reached.dropless
-
-setup_after : (s : State) (es : List Event) → (after_events s es).setup ≡ s.setup
-setup_after s [] = refl
-setup_after s (e ∷ es) = setup_after (after_event s e) es ∙ after_event_setup s e
 
 pub setup_reached : (s t : State) → IsReached s t → t.setup ≡ s.setup
 setup_reached s t reached = ap (λ (x : State). x.setup) reached.is ∙ setup_after s reached.events

@@ -1,21 +1,16 @@
 -- Each event that is enabled makes the marks of a mesh lighter.
-use Rattle.std.proofs.Common.{◌≡◌, ℕ, zero, suc, ◌+◌, ◌*◌, ◌-◌, ◌<◌, ◌≤◌, ◌==◌, min, refl, sym, ap, ◌∙◌, subst, arith, inl, inr, List, [], ◌∷◌, ◌++◌, map, length, Option, Some, None, Bool, true, false, if◌then◌else◌, unwrap_or}
+use Rattle.std.proofs.Common.{◌≡◌, ℕ, suc, ◌+◌, ◌*◌, ◌-◌, ◌<◌, ◌≤◌, min, refl, sym, ap, ◌∙◌, subst, arith, inl, inr, List, [], ◌∷◌, ◌++◌, map, length, Option, Some, None, true, unwrap_or}
 use Rattle.std.specs.List.{sum_by}
 use Rattle.std.proofs.Math.Nat.{mul-le-mul_left}
-use Rattle.std.proofs.lemmas.List.{length-map}
-use Rattle.std.proofs.lemmas.List.Sums.{sum_by-append, sum_by-cons, length-filter, count_by-le-length}
+use Rattle.std.proofs.lemmas.List.Sums.{sum_by-append, sum_by-cons}
 use Rattle.std.proofs.lemmas.Option.{slice_get_within}
 use Rattle.spin_base.specs.declared.copies.Event.{Event}
 use Rattle.spin_base.specs.declared.copies.McCopy.{McCopy}
 use Rattle.spin_base.specs.declared.chips.Chip.{Chip}
 use Rattle.spin_base.specs.declared.chips.Port.{Port}
 use Rattle.spin_base.specs.declared.routes.Out.{Out}
-use Rattle.spin_base.specs.declared.routes.Route.{Route}
 use Rattle.spin_base.specs.Links.{opposite_of}
 use Rattle.spin_base.specs.declared.chips.Port.TheVariants.{Link as ByLink, Local}
-use Rattle.spin_base.specs.Lookup.{lookup}
-use Rattle.spin_base.specs.Outputs.{has, outs_of, all_outs, link_outs, core_outs}
-use Rattle.net_tables.specs.RightTables.{table_at}
 use Rattle.mesh_core.specs.State.{State}
 use Rattle.mesh_core.specs.Step.{last_hop, onward, outputs, step_of, after_event}
 use Rattle.mesh_core.specs.Trail.{Station, unsent, in_queue, in_hand, at_core, delivered, dumped, Mark, is_on_trail}
@@ -24,35 +19,16 @@ use Rattle.mesh_core.proofs.Events.{event_exchange}
 use Rattle.list_laws.proofs.Exchange.{among_taken_out, TakenOut, PutIn}
 use Rattle.list_laws.proofs.Members.{Among, among_contains}
 use Rattle.mesh_core.proofs.LedgerLaw.{IsRight, right_before, right_small, stands}
+use Rattle.mesh_core.specs.Heavy.{heavy}
 use Rattle.mesh_core.proofs.FewMoves.{few_come}
+use Rattle.mesh_core.proofs.Heavy.{one_heavy, heavy_grows, light}
 use Rattle.mesh_core.proofs.Moves.{mark, IsMove, IsMoveOf, Crosses}
 use Rattle.mesh_core.proofs.Law.{leaves_parts}
 use Rattle.mesh_core.proofs.Ways.{short_branch}
 use Rattle.packet_runs.specs.Draining.{IsKept}
-use Rattle.packet_runs.specs.UnderWay.{heavy, stage, advance, weight_of, weight_in}
-
--- ---- powers
-
-one_heavy : (n : ℕ) → 1 ≤ heavy n
-unfolding heavy
-one_heavy zero = omega arith
-one_heavy (suc n) = let rest = one_heavy n in omega (arith, rest)
-
-heavy_grows : (m n : ℕ) → m ≤ n → heavy m ≤ heavy n
-unfolding heavy
-heavy_grows zero n below = one_heavy n
-heavy_grows (suc m) zero below = absurd (omega (arith, below))
-heavy_grows (suc m) (suc n) below = let rest = heavy_grows m n (omega (arith, below)) in omega (arith, rest)
+use Rattle.packet_runs.specs.UnderWay.{stage, advance, weight_of, weight_in}
 
 -- ---- weights
-
-light : (come : List Mark) (n : ℕ) → ((y : Mark) → Among y come → weight_of y ≤ n) → sum_by weight_of come ≤ n * length come
-light [] n each = omega arith
-light (y ∷ ys) n each =
-    let first = each y (inl refl) in
-    let rest = light ys n (λ z a. each z (inr a)) in
-    let whole = sum_by-cons weight_of y ys in
-    omega (arith, first, rest, whole)
 
 advance_below : (x : Mark) → x.copy.hop ≤ last_hop → advance x < 4 * last_hop + 4
 unfolding advance
@@ -142,7 +118,7 @@ come_lighter s x come small next move = by_bound (4 * last_hop + 4) (advance_bel
         let fewer : b - advance y ≤ n = omega (arith, further) in
         subst (λ k. heavy (k - advance y) ≤ heavy n) is (heavy_grows (b - advance y) n fewer)
         in
-        let all = light come (heavy n) each in
+        let all = light weight_of come (heavy n) each in
         let few = mul-le-mul_left (heavy n) (few_come s x come move) in
         let one = one_heavy n in
         omega (arith, mine, all, few, one)

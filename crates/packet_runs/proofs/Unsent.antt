@@ -2,7 +2,7 @@
 use Rattle.std.proofs.Common.{◌≡◌, ◌≢◌, ℕ, zero, suc, ◌+◌, ◌<◌, ◌==◌, refl, sym, ap, ◌∙◌, false, if◌then◌else◌, List, [], ◌∷◌, ◌++◌, map, length, replicate, Option, Some, None, arith, append-nil}
 use Rattle.std.specs.List.{slice_get, range_with_len, filter_map, enumerate_from, cons_option}
 use Rattle.std.specs.Option.{option_map_or}
-use Rattle.std.proofs.lemmas.Bool.{eq-eqb}
+use Rattle.std.proofs.lemmas.Bool.{eq-eqb, ne_eqb}
 use Rattle.std.proofs.lemmas.List.Elements.{filter_map-append}
 use Rattle.spin_base.specs.declared.chips.Spot.{Spot}
 use Rattle.spin_base.specs.declared.copies.McCopy.{McCopy}
@@ -13,9 +13,6 @@ use Rattle.mesh_core.specs.Opened.{copy_from, first_copy}
 use Rattle.mesh_core.specs.Step.{push_at}
 use Rattle.list_laws.proofs.Places.{enumerate_push}
 use Rattle.list_laws.proofs.Ranges.{slice_get-map_range, set-map_range}
-
-nat_apart : (a b : ℕ) → a ≢ b → (a == b) ≡ false
-nat_apart a b other = grind arith
 
 -- ---- what a vertex has of a list of packets, numbered from i on
 
@@ -35,7 +32,7 @@ pub no_copy : (spots : List Spot) (nets : List NetPlan) (i : ℕ) (p : Packet) (
     copy_from spots w i p (slice_get nets p.net) ≡ None
 no_copy spots nets i p net v w is vertex other =
     ap (copy_from spots w i p) is
-    ∙ ap (λ b. if b then Some (first_copy i net p) else None) (ap (λ x. option_map_or (λ n. n == w) x false) vertex ∙ nat_apart v w (λ same. other (sym same)))
+    ∙ ap (λ b. if b then Some (first_copy i net p) else None) (ap (λ x. option_map_or (λ n. n == w) x false) vertex ∙ ne_eqb v w (λ same. other (sym same)))
 
 -- ---- a mesh is opened packet by packet
 

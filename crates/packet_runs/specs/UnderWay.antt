@@ -1,7 +1,6 @@
 -- One packet under way: where it waits, and how much is still to be done.
 use Rattle.std.specs.Prelude.{◌≡◌, ℕ, ◌+◌, ◌*◌, ◌-◌, ◌<◌, ◌≤◌, ◌==◌, List, [], All, length, count_by, Option, Some, None, slice_set, slice_index_or}
 use Rattle.std.specs.List.{sum_by}
-use Rattle.std.proofs.Common.{zero, suc}
 use Rattle.spin_base.specs.declared.chips.Chip.{Chip}
 use Rattle.spin_base.specs.declared.chips.Dir.{Dir}
 use Rattle.spin_base.specs.declared.chips.Port.{Port}
@@ -16,13 +15,9 @@ use Rattle.mesh_core.specs.State.{Setup, State, Held, queue_at}
 use Rattle.mesh_core.specs.Step.{in_hand as held_for, last_hop}
 use Rattle.mesh_core.specs.Trail.{Station, unsent, in_queue, in_hand, at_core, delivered, dumped, Mark}
 use Rattle.mesh_core.specs.Ledger.{marks_of}
+use Rattle.mesh_core.specs.Heavy.{heavy}
 use Rattle.packet_runs.specs.declared.draining.Waiting.{Waiting}
 use Rattle.packet_runs.specs.Draining.{IsKept}
-
--- powers of 25: more than the 24 marks that come at most where one leaves
-unfoldable pub heavy : ℕ → ℕ
-heavy zero = 1
-heavy (suc n) = 25 * heavy n
 
 -- how far a mark is on: each move of a copy raises it
 abbrev pub stage : Station → ℕ

@@ -1,5 +1,5 @@
 -- Final tables that are loaded route every net's packets by its tree.
-use Rattle.std.proofs.Common.{◌≡◌, ℕ, zero, suc, ◌-◌, ◌*◌, ◌^◌, ◌<◌, ◌≤◌, ◌==◌, false, bit_and, List, [], ◌∷◌, length, get_or, map, replicate, Some, refl, sym, ap, ◌∙◌, subst, arith, inl, inr}
+use Rattle.std.proofs.Common.{◌≡◌, ℕ, zero, suc, ◌-◌, ◌*◌, ◌^◌, ◌<◌, ◌≤◌, ◌==◌, false, bit_and, List, [], length, get_or, map, replicate, Some, sym, ap, ◌∙◌, subst, arith, inl, inr}
 use Rattle.std.specs.List.{All, AllZip, slice_get, slice_index_or}
 use Rattle.std.proofs.lemmas.List.Elements.{All-nil, All-cons, All-contains, All-map}
 use Rattle.std.proofs.lemmas.List.Sorted.{Contains-permutation}
@@ -155,13 +155,6 @@ all_ended target tables finals each k d below =
       | inl short ↦ inl (let few = t.2.few.0 in omega (arith, few, short))
       | inr none ↦ inr none
     ]
-
--- as many stand beside each other
-pub all_zipped_length : {X Y : Type 0} (R : X → Y → Type 0) (xs : List X) (ys : List Y) → AllZip R xs ys → length ys ≡ length xs
-all_zipped_length R [] [] h = refl
-all_zipped_length R [] (y ∷ ys) h = absurd h
-all_zipped_length R (x ∷ xs) [] h = absurd h
-all_zipped_length R (x ∷ xs) (y ∷ ys) h = ap suc (all_zipped_length R xs ys h.1)
 
 -- a machine has few chips
 pub few_chips : (m : Description) → HasSize m → (n : ℕ) → n ≡ m.width * m.height → n < 2 ^ 32

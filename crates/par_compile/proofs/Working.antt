@@ -1,5 +1,5 @@
 -- Runs of tables that workers cover, table by table.
-use Rattle.std.proofs.Common.{◌≡◌, ℕ, suc, ◌+◌, ◌<◌, ◌≤◌, List, [], ◌∷◌, length, get_or, set, map, refl, sym, ap, ◌∙◌, subst, arith, inl, inr, Result, Ok, Err, IfOk}
+use Rattle.std.proofs.Common.{◌≡◌, ℕ, suc, ◌+◌, ◌<◌, ◌≤◌, List, [], ◌∷◌, length, get_or, set, map, refl, sym, ap, ◌∙◌, subst, arith, inl, inr}
 use Rattle.std.specs.List.{All, AllZip}
 use Rattle.std.proofs.Math.ListN.{length-set}
 use Rattle.std.proofs.lemmas.Bool.{cases_eq}
@@ -71,8 +71,3 @@ module _ (target : ℕ) (P : Table → Final → Type 0) (from : (t : Table) (f 
 
       lengths : length fs ≡ length ts
       lengths = sym (length-map fs Done) ∙ (sym (ap length last) ∙ (long ∙ many))
-
--- what holds of an answer, and what follows from it
-pub on_ok : {T E : Type 0} (r : Result T E) (P Q : T → Type 0) → ((x : T) → P x → Q x) → IfOk r P → IfOk r Q
-on_ok (Ok x) P Q from is = from x is
-on_ok (Err e) P Q from is = tt

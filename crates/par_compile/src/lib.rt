@@ -9,8 +9,6 @@
 mod chip_tables;
 mod compiling;
 mod images;
-#[cfg(test)]
-mod tests;
 mod workers;
 
 pub use compiling::{CompileErr, Plan, compile};

@@ -14,6 +14,3 @@ mod rooms;
 pub use curves::curve;
 pub use laws::placements_are_determined;
 pub use placing::{PlaceErr, Placement, place};
-
-#[cfg(test)]
-mod tests;

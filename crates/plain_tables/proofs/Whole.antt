@@ -117,7 +117,7 @@ served_each : (ks : List Mark) → served (map row_at ks) ≡ map original_of ks
 served_each [] = refl
 served_each (k ∷ ks) = ap (λ l. original_of k ∷ l) (served_each ks)
 
-not_after : (r s : Row) → IsNotAfter r s → generality r.block ≤ generality s.block
+pub not_after : (r s : Row) → IsNotAfter r s → generality r.block ≤ generality s.block
 not_after r s (inl less) = omega (arith, less)
 not_after r s (inr same) = let is : generality r.block ≡ generality s.block = same.0 in omega (arith, is)
 
@@ -131,7 +131,7 @@ each_holds : (ks : List Mark) → All HoldsItsAliases (map row_at ks)
 each_holds [] = All-nil HoldsItsAliases
 each_holds (k ∷ ks) = All-cons HoldsItsAliases (row_at k) (map row_at ks) (holds_own k) (each_holds ks)
 
-few_originals : (m : Description) (c : Chip) (nets : List NetPlan) (os : List Original) → AreOriginals m c nets os → length os ≤ length nets
+pub few_originals : (m : Description) (c : Chip) (nets : List NetPlan) (os : List Original) → AreOriginals m c nets os → length os ≤ length nets
 few_originals m c [] os are = let none : length os ≡ 0 = ap length are in omega (arith, none)
 few_originals m c (n ∷ nets) os (inl on) =
     let rest : length on.3 ≤ length nets = few_originals m c nets on.3 on.5 in

@@ -12,6 +12,3 @@ mod rows;
 
 pub use laws::plain_tables_are_determined;
 pub use plain::plain_tables;
-
-#[cfg(test)]
-mod tests;

@@ -1,5 +1,5 @@
 -- The image of the final tables of nets gets the verdict that all is right.
-use Rattle.std.proofs.Common.{◌≡◌, ℕ, ◌*◌, ◌<◌, ◌≤◌, List, [], ◌∷◌, length, get_or, map, Some, refl, sym, ap, ◌∙◌, subst, arith, inl, inr}
+use Rattle.std.proofs.Common.{◌≡◌, ℕ, ◌*◌, ◌<◌, List, [], ◌∷◌, length, get_or, map, Some, refl, sym, ap, ◌∙◌, subst, arith}
 use Rattle.std.specs.Prelude.{All, AllPairs, slice_get}
 use Rattle.std.specs.List.{Contains}
 use Rattle.std.specs.List.Sorted.{IsPermutation}
@@ -18,13 +18,13 @@ use Rattle.net_tables.specs.declared.nets.NetPlan.{NetPlan}
 use Rattle.tern_word.specs.declared.tables.Alias.{Alias}
 use Rattle.tern_word.specs.declared.tables.Row.{Row}
 use Rattle.tern_word.specs.Entries.{entry_of}
-use Rattle.tern_word.specs.Ternary.{Intersects, LiesIn, generality}
+use Rattle.tern_word.specs.Ternary.{Intersects, LiesIn}
 use Rattle.tern_word.specs.SoundTable.{Misses, HoldsItsAliases, IsSound, Original, served_by, served}
 use Rattle.tern_word.proofs.BlockLaws.{Intersects-sym}
 use Rattle.cover_checks.proofs.Lists.{All-flat_map, All-from_flat_map}
-use Rattle.plain_tables.specs.PlainTable.{IsNotAfter, IsPlainTable, AreRouted, row_of}
+use Rattle.plain_tables.specs.PlainTable.{IsPlainTable, AreRouted, row_of}
 use Rattle.plain_tables.proofs.Trees.{chips_inside}
-use Rattle.plain_tables.proofs.Whole.{originals_apart, has_original}
+use Rattle.plain_tables.proofs.Whole.{not_after, originals_apart, has_original}
 use Rattle.default_routes.specs.declared.stripping.Final.{Final}
 use Rattle.default_routes.specs.FinalTable.{IsFinalOf, loaded_rows}
 use Rattle.table_load.specs.declared.tables.Image.{Image}
@@ -37,10 +37,6 @@ use Rattle.plan_check.proofs.KeptBlocks.{kept_gets}
 use Rattle.plan_check.proofs.Covering.{covered_sound}
 
 -- ---- plain tables are sound
-
-not_after : (r s : Row) → IsNotAfter r s → generality r.block ≤ generality s.block
-not_after r s (inl less) = omega (arith, less)
-not_after r s (inr same) = let is : generality r.block ≡ generality s.block = same.0 in omega (arith, is)
 
 -- each alias of the row is its block
 abbrev IsOwn : Row → Type 0

@@ -10,7 +10,6 @@ use Rattle.list_laws.proofs.Tests.{fails, answers_no}
 use Rattle.list_laws.proofs.Members.{Contains-none, Contains-first}
 use Rattle.list_laws.proofs.Pairs.{All-from_map}
 use Rattle.spin_base.specs.declared.chips.Chip.{Chip}
-use Rattle.spin_base.specs.declared.chips.Dir.{Dir}
 use Rattle.spin_base.specs.declared.chips.Spot.{Spot}
 use Rattle.spin_base.specs.Links.{dir_number}
 use Rattle.machine_desc.specs.declared.trees.Edge.{Edge}
@@ -19,7 +18,7 @@ use Rattle.machine_desc.specs.Description.{Description}
 use Rattle.machine_desc.specs.Live.{IsInside, is_inside, IsLiveLink, far_of, index_of, chip_of}
 use Rattle.machine_desc.specs.RoutingTree.{end_of, IsTreeChip, IsPath, IsTreeTo, IsRoutingTree}
 use Rattle.machine_desc.proofs.Far.{index_below, same_index, far_inside, live_inside, live_ends}
-use Rattle.machine_desc.proofs.Same.{same_dir, below_six}
+use Rattle.machine_desc.proofs.Same.{same_dir, same_edge, below_six}
 use Rattle.machine_desc.proofs.Live.{index_of-chip_of, chip_of-inside}
 use Rattle.machine_desc.proofs.TreeLemmas.{tree_cases, path_more, path_in_tree, root_lives_with_edge}
 use Rattle.plan_check.specs.GoodTrees.{IsGood}
@@ -89,9 +88,6 @@ no_flags m flags n is many = record {
       let clear : is_flagged m flags e.chip e.dir ≡ false = ap (λ l. get_or l (link_place m e.chip e.dir) false) is ∙ get_or-replicate n (link_place m e.chip e.dir) false false below in
       (λ hit. absurd (false≢true (sym clear ∙ hit)), λ has. absurd (Contains-none e has));
 }
-
-same_edge : (a b : Edge) → a.chip ≡ b.chip → a.dir ≡ b.dir → a ≡ b
-same_edge a b chips dirs = ap (λ (c : Chip). let e : Edge = record { chip = c; dir = a.dir } in e) chips ∙ ap (λ (d : Dir). let e : Edge = record { chip = b.chip; dir = d } in e) dirs
 
 pub one_flag : (m : Description) (some : List Edge) (f : Edge) (more : List Edge) (flags : List Bool) (p : ℕ) → AreFlags m some flags → IsInside m f.chip → p ≡ link_place m f.chip f.dir →
     Contains more f → ((e : Edge) → Contains some e → Contains more e) → ((e : Edge) → Contains more e → (e ≡ f) ⊎ Contains some e) → AreFlags m more (set flags p true)

@@ -20,6 +20,9 @@ use net_tables::NetPlan;
 use spin_base::{Block, Chip, Entry, Port, Route, Seq};
 use table_load::Image;
 
+// The most chips that a machine has.
+const MOST_CHIPS: usize = 4096;
+
 /// What a check says of the tables of an image.
 #[derive(Clone, Copy, Debug, PartialEq, Eq)]
 pub enum Verdict {
@@ -59,18 +62,18 @@ pub fn check(machine: &Machine, nets: &Seq<NetPlan>, image: &Image) -> Verdict
 }
 
 // A board without a port, for as many chips as a machine may have.
-fn port_board() -> [Option<Port>; 4096] {
-    [None; 4096]
+fn port_board() -> [Option<Port>; MOST_CHIPS] {
+    [None; MOST_CHIPS]
 }
 
 // A board without a route.
-fn route_board() -> [Route; 4096] {
-    [Route::nothing(); 4096]
+fn route_board() -> [Route; MOST_CHIPS] {
+    [Route::nothing(); MOST_CHIPS]
 }
 
 // A board of places.
-fn place_board() -> [usize; 4096] {
-    [0; 4096]
+fn place_board() -> [usize; MOST_CHIPS] {
+    [0; MOST_CHIPS]
 }
 
 // The verdict, by boards of which two are written anew for each net.

@@ -13,6 +13,3 @@ mod ranges;
 
 pub use holes::Hole;
 pub use ranges::Ranges;
-
-#[cfg(test)]
-mod tests;

@@ -38,7 +38,8 @@ use Rattle.mesh_core.proofs.Ways.{Stands, one_place, vertex_at_stands}
 use Rattle.round_flow.specs.RoundFlow.{Flow, Passes, IsRound, IsFullAt, HasRounds, none as no_rounds, more, held_in, capacity_of, dumped_at}
 use Rattle.round_flow.specs.Work.{moves_left, to_go}
 use Rattle.round_flow.proofs.Arrivals.{Right, held_right, arrived_right, crossing_right, on_behind, somewhere}
-use Rattle.round_flow.proofs.CountSums.{one_if, sum_within, part_of_sum_at, counts, counted}
+use Rattle.mesh_core.proofs.Counting.{counted}
+use Rattle.round_flow.proofs.CountSums.{one_if, sum_within, part_of_sum_at, counts}
 use Rattle.round_flow.proofs.Entered.{station_of}
 use Rattle.round_flow.proofs.Nearer.{move_nears}
 use Rattle.round_flow.proofs.PassedOnce.{here, before, passed_once}

@@ -1,7 +1,7 @@
 -- Sums and counts over lists: where all tests count as many, all sums are equal.
 use Rattle.std.proofs.Common.{◌≡◌, ℕ, ◌+◌, ◌-◌, ◌≤◌, zero, suc, Bool, true, cond, nat_lt, List, [], ◌∷◌, refl, ap, sym, ◌∙◌, arith, inl, inr, count_by, Some}
 use Rattle.std.specs.List.{sum_by, slice_get}
-use Rattle.std.proofs.lemmas.Bool.{cases_Bool, lt-ltb}
+use Rattle.std.proofs.lemmas.Bool.{lt-ltb}
 use Rattle.std.proofs.lemmas.List.Sums.{sum_by-cons}
 use Rattle.list_laws.proofs.Members.{Among}
 use Rattle.round_flow.proofs.Sums.{sum_agree, sum_none, sum_plus, sum_at}
@@ -49,18 +49,6 @@ counts p x xs a passes =
     let part = part_of_sum (λ y. one_if (p y)) x xs a in
     let one : one_if (p x) ≡ 1 = ap one_if passes in
     omega arith
-
--- what is counted is there
-pub counted : {X : Type 0} (p : X → Bool) (xs : List X) → 1 ≤ count_by p xs → (x : X) × Among x xs × (p x ≡ true)
-counted p [] some = absurd (omega (arith, some))
-counted p (x ∷ xs) some = elim (cases_Bool (p x)) [
-  | inl is ↦ (x, inl refl, is)
-  | inr not_it ↦
-      let all = sum_by-cons (λ y. one_if (p y)) x xs in
-      let none : one_if (p x) ≡ 0 = ap one_if not_it in
-      let rest = counted p xs (omega (arith, some, all, none)) in
-      (rest.0, inr rest.1, rest.2)
-]
 
 one_and_less : (n : ℕ) → n ≡ one_if (nat_lt 0 n) + (n - 1)
 one_and_less zero = refl

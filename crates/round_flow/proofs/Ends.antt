@@ -1,22 +1,20 @@
 -- Which queue is behind which output: each queue has at most one output that leads to it.
-use Rattle.std.proofs.Common.{◌≡◌, ℕ, Bool, true, false, ◌==◌, Option, Some, None, refl, ap, sym, ◌∙◌, arith}
+use Rattle.std.proofs.Common.{◌≡◌, ℕ, Bool, true, false, ◌==◌, Option, Some, None, refl, ap, sym, ◌∙◌}
 use Rattle.std.specs.List.{slice_get}
 use Rattle.std.proofs.lemmas.Bool.{eqb-true}
 use Rattle.spin_base.specs.declared.chips.Chip.{Chip}
 use Rattle.spin_base.specs.declared.chips.Spot.{Spot}
 use Rattle.spin_base.specs.declared.chips.Dir.{Dir}
-use Rattle.spin_base.specs.declared.chips.Port.{Port}
 use Rattle.spin_base.specs.declared.chips.Port.TheVariants.{Link as ByLink}
 use Rattle.spin_base.specs.declared.routes.Out.{Out}
 use Rattle.spin_base.specs.declared.routes.Out.TheVariants.{Link, Core}
-use Rattle.spin_base.specs.Links.{opposite_of, port_number}
+use Rattle.spin_base.specs.Links.{opposite_of}
 use Rattle.spin_base.specs.Outputs.{out_of}
-use Rattle.spin_base.proofs.Equality.{nat_eq_same, port_number_injective}
-use Rattle.machine_desc.specs.Description.{Description}
-use Rattle.machine_desc.specs.Live.{far_of, index_of, is_live_link, IsInside, IsLiveLink}
-use Rattle.machine_desc.proofs.Far.{far_inside, far_back, live_ends, same_index, opposite_of-opposite}
+use Rattle.spin_base.proofs.Equality.{nat_eq_same}
+use Rattle.machine_desc.specs.Live.{far_of, is_live_link, IsInside, IsLiveLink}
+use Rattle.machine_desc.proofs.Far.{far_inside, far_back, live_ends, opposite_of-opposite}
 use Rattle.mesh_core.specs.State.{Setup, Behind, input, core, nowhere, behind, behind_link, core_of, queue_at, vertex_behind}
-use Rattle.mesh_core.proofs.Changes.{port_below}
+pub use Rattle.mesh_core.proofs.Keeping.{same_queue as one_port}
 use Rattle.mesh_core.proofs.Ways.{vertex_behind_stands}
 
 -- whether two names are of one queue
@@ -76,15 +74,6 @@ leads u c (Link d) = live_or_not u c d (is_live_link u.machine c d) refl
 leads u c (Core p) = vertex_or_none u c (Core p) (λ d same. cc) refl (vertex_behind u.spots c (Core p)) refl
 
 -- ---- numbers of queues
-
--- two ports of chips of the grid have one queue where they are one
-pub one_port : (m : Description) (a b : Chip) (p q : Port) → IsInside m a → IsInside m b → queue_at m a p ≡ queue_at m b q → (a ≡ b) × (p ≡ q)
-one_port m a b p q in_a in_b same =
-    let small = port_below p in
-    let little = port_below q in
-    let index : index_of m a ≡ index_of m b = omega (arith, small, little, same) in
-    let number : port_number p ≡ port_number q = omega (arith, small, little, same) in
-    (same_index m a b in_a in_b index, port_number_injective p q number)
 
 same_input : (i j : ℕ) → input i ≡ input j → i ≡ j
 same_input i j same = cc

@@ -1,5 +1,6 @@
 -- What entered all queues, counted as marks, is what came from all sources: each queue has one, or nothing entered it.
 use Rattle.std.proofs.Common.{◌≡◌, ℕ, ◌*◌, ◌/◌, ◌%◌, ◌<◌, Bool, true, false, cond, ◌==◌, List, [], ◌++◌, map, Option, Some, None, length, refl, ap, ap₂, sym, ◌∙◌, subst, arith, inl, inr, ◌⊎◌, count_by}
+use Rattle.std.specs.Cmp.{both_ways}
 use Rattle.std.specs.List.{slice_get, sum_by, range_with_len}
 use Rattle.std.proofs.lemmas.Bool.{cases_Bool, and_from, and_parts, eqb-true}
 use Rattle.std.proofs.lemmas.List.Sums.{sum_by-append}
@@ -30,7 +31,7 @@ use Rattle.mesh_core.specs.State.{Setup, State, IsMesh, Behind, input, core, now
 use Rattle.mesh_core.specs.Trail.{Station, in_queue, at_core, Mark}
 use Rattle.mesh_core.specs.Ledger.{marked, port_of}
 use Rattle.mesh_core.proofs.Changes.{queue_at-below}
-use Rattle.mesh_core.proofs.Ways.{same_test, vertex_behind_stands, vertex_behind_there, leads_to}
+use Rattle.mesh_core.proofs.Ways.{vertex_behind_stands, vertex_behind_there, leads_to}
 use Rattle.round_flow.specs.RoundFlow.{Flow, Passes, at_port}
 use Rattle.round_flow.proofs.Sums.{sum_agree, sum_none, sum_map, carried}
 use Rattle.round_flow.proofs.Ends.{behind_eq, behind_eq_same, behind_eq_true, by_link, to_vertex, to_none, leads, one_port, one_link, one_end}
@@ -194,7 +195,7 @@ module _ (p : Mark → Bool) (m : State) (f : Flow) (n : State) (mesh : IsMesh m
     where
       same : (s : Chip × Option Out) → Among s (sources u.machine) → feeds s q ≡ source_eq (c, x) s
       same s a =
-          same_test (feeds s q) (source_eq (c, x) s)
+          both_ways (feeds s q) (source_eq (c, x) s)
           (λ feeding. subst (λ t. source_eq (c, x) t ≡ true) (sym (only s (source_parts u.machine s a).0 (behind_eq_true (from u s) q feeding))) (source_eq_same (c, x)))
           (λ equal. subst (λ t. feeds t q ≡ true) (source_eq_true (c, x) s equal) (subst (λ r. behind_eq (from u (c, x)) r ≡ true) into (behind_eq_same (from u (c, x)))))
 

@@ -1,5 +1,5 @@
 -- A round leaves less to be done: each of its moves makes the marks lighter.
-use Rattle.std.proofs.Common.{◌≡◌, ℕ, zero, suc, ◌+◌, ◌*◌, ◌-◌, ◌<◌, ◌≤◌, refl, ap, arith, inl, inr, List, [], ◌∷◌, ◌++◌, length, Bool, count_by}
+use Rattle.std.proofs.Common.{◌≡◌, ℕ, zero, suc, ◌+◌, ◌*◌, ◌-◌, ◌<◌, ◌≤◌, refl, ap, arith, List, [], ◌∷◌, ◌++◌, length, Bool, count_by}
 use Rattle.std.specs.List.{sum_by}
 use Rattle.std.proofs.Math.Nat.{mul-le-mul_left}
 use Rattle.std.proofs.lemmas.List.Sums.{sum_by-append, sum_by-cons}
@@ -9,37 +9,18 @@ use Rattle.spin_base.specs.declared.copies.McCopy.{McCopy}
 use Rattle.mesh_core.specs.State.{State, IsMesh}
 use Rattle.mesh_core.specs.Trail.{Station, unsent, in_queue, in_hand, at_core, delivered, dumped, Mark}
 use Rattle.mesh_core.specs.Ledger.{marks_of}
+use Rattle.mesh_core.specs.Heavy.{heavy}
 use Rattle.mesh_core.proofs.Moves.{IsMoveOf}
 use Rattle.mesh_core.proofs.LedgerLaw.{Bag, Moved, count_left, count_come}
 use Rattle.round_flow.specs.RoundFlow.{Flow, Passes, HasMoved}
-use Rattle.round_flow.specs.Work.{heavy, moves_left, to_go, weight_of, work_in}
+use Rattle.round_flow.specs.Work.{moves_left, to_go, weight_of, work_in}
 use Rattle.round_flow.proofs.CountSums.{one_if, same_sums}
 use Rattle.mesh_core.proofs.FewMoves.{few_come}
+use Rattle.mesh_core.proofs.Heavy.{one_heavy, heavy_grows, light}
 use Rattle.round_flow.proofs.Nearer.{move_nears}
 use Rattle.round_flow.proofs.RoundBag.{bag_of_round, some_moves}
 
--- ---- powers
-
-one_heavy : (n : ℕ) → 1 ≤ heavy n
-unfolding heavy
-one_heavy zero = omega arith
-one_heavy (suc n) = let rest = one_heavy n in omega (arith, rest)
-
-heavy_grows : (m n : ℕ) → m ≤ n → heavy m ≤ heavy n
-unfolding heavy
-heavy_grows zero n below = one_heavy n
-heavy_grows (suc m) zero below = absurd (omega (arith, below))
-heavy_grows (suc m) (suc n) below = let rest = heavy_grows m n (omega (arith, below)) in omega (arith, rest)
-
 -- ---- one move
-
-light : (come : List Mark) (n : ℕ) → ((y : Mark) → Among y come → weight_of y ≤ n) → sum_by weight_of come ≤ n * length come
-light [] n each = omega arith
-light (y ∷ ys) n each =
-    let first = each y (inl refl) in
-    let rest = light ys n (λ z a. each z (inr a)) in
-    let whole = sum_by-cons weight_of y ys in
-    omega (arith, first, rest, whole)
 
 -- a mark that moves has somewhere to go
 some_to_go : {s : State} (v : Moved s) → 1 ≤ to_go v.leaves
@@ -68,7 +49,7 @@ come_lighter {s} v = by_far (to_go v.leaves) refl (some_to_go v)
         let nearer = move_nears s v.leaves v.come v.small v.is_move y a in
         heavy_grows (to_go y) n (omega (arith, nearer, is))
         in
-        let all = light v.come (heavy n) each in
+        let all = light weight_of v.come (heavy n) each in
         let few = mul-le-mul_left (heavy n) (few_come s v.leaves v.come v.is_move) in
         let one = one_heavy n in
         omega (arith, mine, all, few, one)

@@ -1,6 +1,6 @@
 -- In a round a packet passes each place of a trail at most once, and a place that it is still before not at all.
 use Rattle.std.proofs.Common.{◌≡◌, ℕ, ◌+◌, ◌≤◌, ◌==◌, ◌&&◌, not, nat_lt, Bool, true, false, List, [], ◌∷◌, refl, ap, sym, ◌∙◌, subst, arith, inl, inr, count_by}
-use Rattle.std.proofs.lemmas.Bool.{cases_Bool, and_parts, and_from, eqb-true, eq-eqb, ltb-true, ltb-false}
+use Rattle.std.proofs.lemmas.Bool.{cases_Bool, not-true, and_parts, and_from, eqb-true, eq-eqb, ltb-true, ltb-false}
 use Rattle.net_tables.specs.declared.nets.NetPlan.{NetPlan}
 use Rattle.net_tables.specs.NetsOn.{IsWayOn}
 use Rattle.net_tables.specs.RightTables.{IsKeyOf, AreRight}
@@ -12,7 +12,8 @@ use Rattle.mesh_core.proofs.LedgerLaw.{Bag, Moved, count_left, count_come, IsRig
 use Rattle.mesh_core.proofs.Ways.{Stands}
 use Rattle.round_flow.specs.Work.{to_go}
 use Rattle.round_flow.proofs.Sums.{sum_none, sum_plus}
-use Rattle.round_flow.proofs.CountSums.{one_if, sum_within, counts, counted}
+use Rattle.mesh_core.proofs.Counting.{counted}
+use Rattle.round_flow.proofs.CountSums.{one_if, sum_within, counts}
 use Rattle.round_flow.proofs.Nearer.{move_nears}
 
 -- a test that fails or passes, as numbers
@@ -25,14 +26,6 @@ apart_within true true t a b apart = absurd (apart refl refl)
 apart_within true false t a b apart = let one : one_if t ≡ 1 = ap one_if (a refl) in omega (arith, one)
 apart_within false true t a b apart = let one : one_if t ≡ 1 = ap one_if (b refl) in omega (arith, one)
 apart_within false false t a b apart = omega arith
-
-not_false : (b : Bool) → not b ≡ true → b ≡ false
-not_false true e = cc
-not_false false e = refl
-
-not_true : (b : Bool) → b ≡ false → not b ≡ true
-not_true true e = cc
-not_true false e = refl
 
 module _ (m n : State) (nets : List NetPlan) (labels : ℕ → Label) (mesh : IsMesh m) (right : AreRight m.setup.machine m.setup.tables nets)
     (ledger : MeetsLedger m nets labels) (after : MeetsLedger n nets labels) (bag : Bag m n)
@@ -75,7 +68,7 @@ module _ (m n : State) (nets : List NetPlan) (labels : ℕ → Label) (mesh : Is
         key = eqb-true y.copy.key x.copy.key a.0;
         packet = eqb-true y.copy.packet x.copy.packet c.0;
         is_on = c.1;
-        near = let less = ltb-false (to_go x) (to_go y) (not_false (nat_lt (to_go x) (to_go y)) b.1) in omega (arith, less);
+        near = let less = ltb-false (to_go x) (to_go y) (not-true (nat_lt (to_go x) (to_go y)) b.1) in omega (arith, less);
       }
 
   past_from : (y : Mark) → IsPast y → past y ≡ true

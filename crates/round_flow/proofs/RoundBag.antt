@@ -34,7 +34,8 @@ use Rattle.mesh_core.specs.Ledger.{marks_of, marked, hand_marks, port_of, unsent
 use Rattle.mesh_core.proofs.Moves.{mark, station_of_queue, Crosses, IsMoveOf}
 use Rattle.mesh_core.proofs.LedgerLaw.{Bag, Moved, count_left, count_come}
 use Rattle.round_flow.specs.RoundFlow.{Flow, Passes, at_port, sent_on, of_chip, delivered_to, HasNoHand, HasMoved}
-use Rattle.round_flow.proofs.CountSums.{part_of_sum, part_of_sum_at, counted}
+use Rattle.mesh_core.proofs.Counting.{counted}
+use Rattle.round_flow.proofs.CountSums.{part_of_sum, part_of_sum_at}
 use Rattle.round_flow.proofs.Sums.{sum_agree, sum_none, sum_map, sum_filter, sum_swap, sum_plus, sum_gathered, sum_at, sum_at-swap, one_passes}
 use Rattle.round_flow.proofs.Balance.{queues_balance, passing, passing_in}
 use Rattle.round_flow.proofs.Ends.{Leads, by_link, to_vertex, to_none, leads}

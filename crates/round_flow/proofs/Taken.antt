@@ -1,5 +1,6 @@
 -- What all routers took, output by output: it crossed an output or was dumped there.
 use Rattle.std.proofs.Common.{◌≡◌, ℕ, ◌+◌, ◌*◌, ◌/◌, ◌%◌, ◌<◌, Bool, true, false, cond, ◌==◌, ◌&&◌, List, [], ◌∷◌, ◌++◌, map, filter, refl, ap, ap₂, sym, ◌∙◌, subst, arith, inl, inr, ◌⊎◌, count_by}
+use Rattle.std.specs.Cmp.{both_ways}
 use Rattle.std.specs.List.{sum_by, range_with_len}
 use Rattle.std.proofs.lemmas.Bool.{cases_Bool, and_from, and_parts, eqb-true}
 use Rattle.std.proofs.lemmas.Option.{get_or_from_slice_get}
@@ -30,7 +31,6 @@ use Rattle.mesh_core.specs.Trail.{in_hand, Mark}
 use Rattle.mesh_core.specs.Ledger.{all_ports, port_of}
 use Rattle.mesh_core.proofs.Changes.{port_below, queue_at-below}
 use Rattle.mesh_core.proofs.Moves.{mark, chip_of-index_of, port_of-port_number}
-use Rattle.mesh_core.proofs.Ways.{same_test}
 use Rattle.round_flow.specs.RoundFlow.{Flow, Passes, at_port, leaves_by, taken_for, dumped_at, held_in}
 use Rattle.round_flow.proofs.Sums.{sum_agree, sum_none, sum_map, sum_filter, sum_swap, sum_plus, sum_gathered, sum_at-plain, one_passes, carried}
 use Rattle.round_flow.proofs.Ends.{one_port}
@@ -161,7 +161,7 @@ module _ (p : Mark → Bool) (m : State) (f : Flow) (n : State) (mesh : IsMesh m
 
       same : (s : Chip × Port) → IsLiveChip u.machine s.0 → (queue_at u.machine s.0 s.1 == queue_at u.machine c port) ≡ (chip_eq c s.0 && port_eq port s.1)
       same (e, q) lives =
-          same_test (queue_at u.machine e q == queue_at u.machine c port) (chip_eq c e && port_eq port q)
+          both_ways (queue_at u.machine e q == queue_at u.machine c port) (chip_eq c e && port_eq port q)
           (λ equal.
           let one = one_port u.machine e c q port (live_inside u.machine e lives) (live_inside u.machine c live) (eqb-true (queue_at u.machine e q) (queue_at u.machine c port) equal) in
           and_from (chip_eq c e) (port_eq port q) (ap (chip_eq c) one.0 ∙ chip_eq_same c) (ap (port_eq port) one.1 ∙ port_eq_same port))

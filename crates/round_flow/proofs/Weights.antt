@@ -1,5 +1,6 @@
 -- What a router took, by output: each copy that lookup gives an output crosses it or is dumped there.
 use Rattle.std.proofs.Common.{◌≡◌, ℕ, ◌+◌, ◌-◌, ◌<◌, ◌≤◌, Bool, true, false, cond, ◌==◌, ◌&&◌, if◌then◌else◌, List, [], ◌++◌, map, filter, min, refl, ap, sym, ◌∙◌, subst, arith}
+use Rattle.std.specs.Cmp.{both_ways}
 use Rattle.std.specs.List.{All, sum_by, list_any}
 use Rattle.std.proofs.lemmas.List.Elements.{All-contains}
 use Rattle.std.proofs.lemmas.List.Sums.{sum_by-append}
@@ -22,7 +23,6 @@ use Rattle.net_tables.specs.RightTables.{table_at}
 use Rattle.mesh_core.specs.State.{Setup, State, behind}
 use Rattle.mesh_core.specs.Step.{last_hop, onward, outputs}
 use Rattle.mesh_core.specs.Ledger.{all_ports}
-use Rattle.mesh_core.proofs.Ways.{same_test}
 use Rattle.round_flow.specs.RoundFlow.{Flow, Passes, at_port, leaves_by, taken_for, dumped_at}
 use Rattle.round_flow.proofs.Sums.{sum_agree, sum_none, sum_map, sum_filter}
 
@@ -50,7 +50,7 @@ sum_outputs u c port k w = by_hop (k.hop == last_hop) refl
 
     among_outs : (r : _) (o : Out) → Among o all_outs → list_any (out_eq o) (filter (has r) all_outs) ≡ has r o
     among_outs r o a =
-        same_test (list_any (out_eq o) (filter (has r) all_outs)) (has r o)
+        both_ways (list_any (out_eq o) (filter (has r) all_outs)) (has r o)
         (λ any. let found = any_among (out_eq o) (filter (has r) all_outs) any in
         let same = out_eq_true o found.0 found.2 in
         ap (has r) same ∙ (among_filter (has r) found.0 all_outs found.1).1)

@@ -1,16 +1,11 @@
 -- How much is still to be done in a mesh: a number that each round lowers in which a copy moves (this project's own).
 use Rattle.std.specs.Prelude.{ℕ, ◌+◌, ◌*◌, ◌-◌}
 use Rattle.std.specs.List.{sum_by}
-use Rattle.std.proofs.Common.{zero, suc}
 use Rattle.mesh_core.specs.State.{State}
 use Rattle.mesh_core.specs.Step.{last_hop}
 use Rattle.mesh_core.specs.Trail.{Station, unsent, in_queue, in_hand, at_core, delivered, dumped, Mark}
 use Rattle.mesh_core.specs.Ledger.{marks_of}
-
--- powers of 25: more than the 24 marks that come at most where one leaves
-unfoldable pub heavy : ℕ → ℕ
-heavy zero = 1
-heavy (suc n) = 25 * heavy n
+pub use Rattle.mesh_core.specs.Heavy.{heavy}
 
 -- how many moves a copy at a station is from its delivery at most, where its hop number may rise so often
 abbrev pub moves_left : ℕ → Station → ℕ

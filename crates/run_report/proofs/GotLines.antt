@@ -19,7 +19,7 @@ use Rattle.run_report.specs.RunReport.{IsDeliveredOf, delivery_key, named}
 use Rattle.run_report.specs.ReportText.{got_line}
 
 -- what the order of keys tells of two deliveries
-not_after : (x y : Delivery) (r t : Ordering) → MatchOrdering r (y.copy.packet < x.copy.packet) (y.copy.packet ≡ x.copy.packet) (x.copy.packet < y.copy.packet) →
+pub not_after : (x y : Delivery) (r t : Ordering) → MatchOrdering r (y.copy.packet < x.copy.packet) (y.copy.packet ≡ x.copy.packet) (x.copy.packet < y.copy.packet) →
     MatchOrdering t (y.vertex < x.vertex) (y.vertex ≡ x.vertex) (x.vertex < y.vertex) → is_lt (ordering_then r (ordering_then t Equal)) ≡ false → IsNotAfter x y
 not_after x y Less t p v e = absurd (true≢false e)
 not_after x y Greater t p v e = inl p

@@ -13,8 +13,6 @@ mod orders;
 mod plans;
 mod reports;
 mod summaries;
-#[cfg(test)]
-mod tests;
 mod texts;
 mod unsents;
 mod waits;

@@ -18,8 +18,6 @@ mod reading;
 mod rooms;
 mod routes;
 mod std_ends;
-#[cfg(test)]
-mod tests;
 mod wants;
 mod writing;
 

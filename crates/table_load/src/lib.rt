@@ -20,6 +20,3 @@ pub use reads::decode;
 pub use spin_base::ChipTable;
 pub use tables::Image;
 pub use writes::encode;
-
-#[cfg(test)]
-mod tests;

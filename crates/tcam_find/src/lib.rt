@@ -8,6 +8,3 @@ mod lanes;
 mod memory;
 
 pub use memory::Tcam;
-
-#[cfg(test)]
-mod tests;

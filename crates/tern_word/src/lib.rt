@@ -14,6 +14,3 @@ mod tables;
 pub use blocks::{block_of, generality, intersects, matches, merge_of, merge_two};
 pub use soundness::{is_sound, lies_in, misses};
 pub use tables::{Alias, Row, Table};
-
-#[cfg(test)]
-mod tests;

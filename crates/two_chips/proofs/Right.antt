@@ -5,6 +5,7 @@ use Rattle.std.specs.List.{Contains}
 use Rattle.std.proofs.lemmas.Bool.{false≢true}
 use Rattle.std.specs.Prelude.{cond, find}
 use Rattle.std.proofs.lemmas.List.Elements.{All-from_recursion}
+use Rattle.list_laws.proofs.Members.{Contains-only}
 use Rattle.spin_base.specs.declared.chips.Chip.{Chip}
 use Rattle.spin_base.specs.declared.chips.Port.{Port}
 use Rattle.spin_base.specs.declared.chips.Port.TheVariants.{Link as ByLink, Local}
@@ -22,7 +23,7 @@ use Rattle.net_tables.specs.declared.nets.NetPlan.{NetPlan}
 use Rattle.net_tables.specs.Outputs.{is_wanted}
 use Rattle.net_tables.specs.RightTables.{IsKeyOf, RoutesByTree, AreRight, table_at}
 use Rattle.two_chips.specs.Board.{board, left, right, east, targets, device, net, other_net, nets, tables, wrong_tables, right_table, block, other_block, left_route, right_route, east_route, row}
-use Rattle.two_chips.proofs.Small.{one_item, UpTo, below}
+use Rattle.two_chips.proofs.Small.{UpTo, below}
 
 -- a row that matches decides, and one that does not leaves it to those after it
 decides : (e : Entry) (rest : List Entry) (key : ℕ) (port : Port) → matches e key ≡ true → lookup (e ∷ rest) key port ≡ e.route
@@ -117,7 +118,7 @@ right_by n key port o c route is wanted valid = ap (λ r. has r o) is ∙ wanted
 -- where the nets' packets come in: anywhere on the left chip, and by the link west on the right one
 at_end : (c : Chip) (e : Edge) → Contains (east ∷ []) e → end_of board e ≡ Some c → (east ≡ e) × (right ≡ c)
 at_end c e has ends =
-    let same : east ≡ e = one_item east e has in
+    let same : east ≡ e = Contains-only east e has in
     let there : Some right ≡ Some c = ap (end_of board) same ∙ ends in
     (same, cc there)
 

@@ -3,6 +3,7 @@ use Rattle.std.proofs.Common.{◌≡◌, ◌≢◌, ℕ, ◌+◌, ◌*◌, suc, 
 use Rattle.std.specs.List.{All, AllPairs, Any, Contains, slice_get}
 use Rattle.std.proofs.lemmas.List.Elements.{All-from_recursion}
 use Rattle.std.proofs.lemmas.List.Kept.{AllPairs-cons}
+use Rattle.list_laws.proofs.Members.{Contains-only}
 use Rattle.spin_base.specs.declared.chips.Chip.{Chip}
 use Rattle.spin_base.specs.declared.chips.Spot.{Spot}
 use Rattle.spin_base.specs.declared.copies.Packet.{Packet}
@@ -18,7 +19,6 @@ use Rattle.mesh_core.specs.Opened.{AreOfNets}
 use Rattle.mesh_core.proofs.Changes.{IsMesh-empty}
 use Rattle.mesh_core.proofs.OpenedLaw.{IsMesh-opened}
 use Rattle.two_chips.specs.Board.{board, left, right, east, source, targets, device, spots, net, other_net, nets, packets, setup, opened, block, other_block}
-use Rattle.two_chips.proofs.Small.{one_item}
 
 left_is_not_right : left ≢ right
 left_is_not_right e = let f : 0 ≡ 1 = ap (λ (c : Chip). c.x) e in absurd (omega (arith, f))
@@ -26,7 +26,7 @@ left_is_not_right e = let f : 0 ≡ 1 = ap (λ (c : Chip). c.x) e in absurd (ome
 chips_of_tree : (c : Chip) → IsTreeChip board left (east ∷ []) c → (c ≡ left) ⊎ (c ≡ right)
 chips_of_tree c (inl at) = inl at
 chips_of_tree c (inr e) =
-    let same : east ≡ e.1 = one_item east e.1 (e.0, e.2, e.3) in
+    let same : east ≡ e.1 = Contains-only east e.1 (e.0, e.2, e.3) in
     let ends : Some right ≡ Some c = ap (end_of board) same ∙ e.4 in
     inr (sym (cc ends))
 

@@ -1,5 +1,6 @@
 -- The first row of the route that may pair is the first partner.
 use Rattle.std.proofs.Common.{◌<◌, ◌∙◌, ◌∷◌, [], length, refl, sym, arith}
+use Rattle.std.proofs.lemmas.Bool.{and_parts}
 use Rattle.cover_checks.specs.Merge.{merge_rows, IsLegal}
 use Rattle.cover_checks.proofs.Answering.{fails}
 use Rattle.cover_merge.proofs.ChooseLemmas.{link_next, pair_made, none_first, none_next, partner_found, no_partner}
@@ -45,7 +46,7 @@ loop-j-preserved c =
       same = λ d within. next.same d within ∙ old.same d inside;
       none = none_next rows c.args.i c.loop-j.j c.index-j-in-loop-j.result.now (λ d. old.same d inside) next (λ pair. fails (IsLegal rows (c.args.i ∷ c.loop-j.j ∷ [])) c.try_pair-trial.result.legal c.try_pair-trial.ensures.legal c.if-trial.false pair.legal) old.none;
       refused = λ settled.
-          let parts = c.both-settled.ensures settled in
+          let parts = and_parts _ _ settled in
           refused_next rows c.args.guards.now c.args.i c.loop-j.j c.index-j-in-loop-j.result.now inside (λ d. old.same d inside) next (c.try_pair-trial.ensures.lasting parts.1) (old.refused parts.0);
     }
 

@@ -1,4 +1,5 @@
 use Rattle.std.proofs.Common.{◌≡◌, List, map, sym, ap, subst}
+use Rattle.std.proofs.lemmas.Result.{IfOk-weaker}
 use Rattle.spin_base.specs.declared.blocks.Entry.{Entry}
 use Rattle.net_tables.specs.declared.nets.NetPlan.{NetPlan}
 use Rattle.net_tables.specs.RightTables.{AreRight}
@@ -6,12 +7,11 @@ use Rattle.table_load.specs.declared.tables.Image.{Image}
 use Rattle.table_load.specs.Memories.{IsLoaded}
 use Rattle.par_compile.specs.Finals.{loaded_of}
 use Rattle.par_compile.proofs.Imaged.{all_loaded, read_again}
-use Rattle.par_compile.proofs.Working.{on_ok}
 use Rattle.par_compile.proofs.images.memories_of.Goals as goal
 
 pub returns-in-Ok-clause-loaded : goal.returns-in-Ok-clause-loaded
 returns-in-Ok-clause-loaded c =
-    on_ok c.load.result (IsLoaded c.in-Ok.read) (λ memories. memories ≡ map loaded_of c.args.finals.now)
+    IfOk-weaker c.load.result (IsLoaded c.in-Ok.read) (λ memories. memories ≡ map loaded_of c.args.finals.now)
     (λ memories is. all_loaded c.args.machine.now c.args.finals.now c.in_ok-image.image memories c.requires.one_each (ap (λ (v : Image). v.width) c.in_ok-image.ensures.image) (ap (λ (v : Image). v.height) c.in_ok-image.ensures.image)
     c.in_ok-image.ensures.rows
     (subst (λ (v : Image). IsLoaded v memories)
@@ -20,7 +20,7 @@ returns-in-Ok-clause-loaded c =
 
 pub returns-in-Ok-clause-right : goal.returns-in-Ok-clause-right
 returns-in-Ok-clause-right c =
-    on_ok c.load.result (λ memories. memories ≡ map loaded_of c.args.finals.now)
+    IfOk-weaker c.load.result (λ memories. memories ≡ map loaded_of c.args.finals.now)
     (λ memories. (nets : List NetPlan) → AreRight c.args.machine.now (map loaded_of c.args.finals.now) nets → AreRight c.args.machine.now memories nets)
     (λ memories is nets right. subst (λ (ms : List (List Entry)). AreRight c.args.machine.now ms nets) (sym is) right)
     (returns-in-Ok-clause-loaded c)

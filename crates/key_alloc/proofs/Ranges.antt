@@ -1,0 +1,38 @@
+-- Laws for who gives out ranges: which numbers a range has, the room for one more, and what is free once more is taken.
+use Rattle.std.proofs.Common.{◌≡◌, ℕ, suc, ◌+◌, ◌-◌, ◌*◌, ◌/◌, ◌^◌, ◌<◌, ◌≤◌, Bool, true, false, not, ◌&&◌, ◌||◌, refl, ap, ◌∙◌, subst, arith}
+use Rattle.std.proofs.Math.Nat.{mul-le-mul_right, suc-mul}
+use Rattle.std.proofs.lemmas.Bool.Decides.{nat_tests}
+use Rattle.std.proofs.lemmas.Nat.{pow-add, pow_pos, div_below}
+use Rattle.range_store.specs.Regions.{in_range}
+use Rattle.range_store.proofs.HolePlaces.{clash}
+
+-- ---- the numbers of a range
+
+pub in_facts : (p s k : ℕ) → in_range p s k ≡ true → (p ≤ k) × (k < p + s)
+in_facts p s k e = (grind (arith, nat_tests), grind (arith, nat_tests))
+
+pub in_from : (p s k : ℕ) → p ≤ k → k < p + s → in_range p s k ≡ true
+in_from p s k a b = grind (arith, nat_tests)
+
+-- a multiple of a power of two below a greater one leaves room for as many
+pub room_above : (z n : ℕ) → z ≤ 32 → n < 2 ^ 32 → n / 2 ^ z * 2 ^ z ≡ n → n + 2 ^ z ≤ 2 ^ 32
+room_above z n le small whole =
+    let split : 2 ^ 32 ≡ 2 ^ (32 - z) * 2 ^ z = ap (λ (k : ℕ). 2 ^ k) (let both : 32 ≡ (32 - z) + z = omega arith in both) ∙ pow-add 2 (32 - z) z in
+    let below = div_below n (2 ^ z) (2 ^ (32 - z)) (pow_pos z) (subst (λ k. n < k) split small) in
+    let up : suc (n / 2 ^ z) * 2 ^ z ≤ 2 ^ (32 - z) * 2 ^ z = mul-le-mul_right (2 ^ z) (omega (arith, below)) in
+    omega (arith, up, suc-mul (n / 2 ^ z) (2 ^ z), whole, split)
+
+-- ---- what is free
+
+-- what is there and not taken is free
+pub free_of : (a b : Bool) → a ≡ true → b ≡ false → (a && not b) ≡ true
+free_of true false p q = refl
+free_of true true p q = clash refl q
+free_of false b p q = clash p refl
+
+-- what is free of two in turn is free of both
+pub regroup : (a b c : Bool) → ((a && not b) && not c) ≡ (a && not (b || (c || false)))
+regroup false b c = refl
+regroup true true c = refl
+regroup true false true = refl
+regroup true false false = refl
