@@ -1,10 +1,11 @@
 -- Offering a copy by one output.
-use Rattle.std.proofs.Common.{◌≡◌, ◌≢◌, ℕ, true, List, get_or, set, Option, Some, None, position, refl, sym, ap, subst, ◌∙◌}
+use Rattle.std.proofs.Common.{◌≡◌, ◌≢◌, ℕ, ◌<◌, true, List, length, get_or, set, Option, Some, None, position, refl, sym, ap, subst, ◌∙◌}
 use Rattle.std.specs.List.{AllPairs, AllZip, Contains, slice_get}
 use Rattle.std.proofs.Math.Seq.{map-set_same}
-use Rattle.std.proofs.lemmas.Option.{get_or_from_slice_get}
+use Rattle.std.proofs.lemmas.Option.{get_or_from_slice_get, slice_get-get_or}
+use Rattle.std.proofs.lemmas.List.{length-map}
 use Rattle.std.proofs.lemmas.List.Elements.{All-set}
-use Rattle.list_laws.proofs.Places.{All-at, slice_get-mapped}
+use Rattle.list_laws.proofs.Places.{All-at, slice_get_there, slice_get-mapped}
 use Rattle.list_laws.proofs.Members.{Contains-at, position_there, position_nowhere, among_at}
 use Rattle.list_laws.proofs.Pairs.{AllPairs-apart}
 use Rattle.spin_base.specs.declared.routes.Out.{Out}
@@ -59,6 +60,17 @@ module _ (o : Out) (xs : List (Out × OutEnd)) (i : ℕ) (a : Out × OutEnd) (fo
       })
 
 -- no end is of that output
+pub none_listed : (o : Out) (xs : List (Out × OutEnd)) → position (λ (e : Out × OutEnd). out_eq e.0 o) xs ≡ None → Contains (outs_with_ends xs) o → ⊥
+none_listed o xs none has =
+    let k = has.0 in
+    let many : length (outs_with_ends xs) ≡ length xs = length-map xs (λ (e : Out × OutEnd). e.0) in
+    let below : k < length xs = subst (λ n. k < n) many has.1 in
+    let x = slice_get_there xs k below in
+    let out : Some x.0.0 ≡ Some o = sym (slice_get-mapped (λ (e : Out × OutEnd). e.0) xs k x.0 x.1)
+    ∙ (slice_get-get_or (outs_with_ends xs) k o has.1 ∙ ap {B = Option Out} (λ w. Some w) has.2) in
+    let same : x.0.0 ≡ o = cc in
+    position_nowhere (λ (e : Out × OutEnd). out_eq e.0 o) xs x.0 none (among_at xs k x.0 x.1) (ap (λ w. out_eq w o) same ∙ out_eq_same o)
+
 pub offered_by_none : (o : Out) (xs : List (Out × OutEnd)) (patience : ℕ) (k : McCopy) (s : Served) → position (λ (e : Out × OutEnd). out_eq e.0 o) xs ≡ None
     → AllZip (OffersBy patience o k s) xs xs
 offered_by_none o xs patience k s none = AllZip-same (OffersBy patience o k s) xs (λ j z at. record {

@@ -1,10 +1,12 @@
 -- The flow of a bank: what its vertices sent, and what came for them. The definitions are this project's own.
-use Rattle.std.specs.Prelude.{◌≡◌, ◌==◌, ◌⊎◌, ℕ, ◌<◌, ◌≤◌, List, [], ◌∷◌, ◌++◌, map, filter, length, Some, slice_get, slice_set, All, Contains}
+use Rattle.std.specs.Prelude.{◌≡◌, ◌==◌, ◌⊎◌, ℕ, ◌<◌, ◌≤◌, List, [], ◌∷◌, ◌++◌, map, filter, length, Option, None, Some, slice_get, slice_set, All, Contains}
 use Rattle.std.specs.List.{AllZip}
 use Rattle.spin_base.specs.declared.copies.McCopy.{McCopy}
 use Rattle.spin_base.specs.declared.copies.Delivery.{Delivery}
 use Rattle.link_queue.specs.declared.known.Known.{Known}
 use Rattle.link_queue.specs.declared.links.Link.{Link}
+use Rattle.link_queue.specs.declared.links.Offered.{Offered}
+use Rattle.link_queue.specs.declared.links.Offered.TheVariants.{Taken, Full}
 use Rattle.link_queue.specs.Ends.{sending, taking}
 use Rattle.link_queue.specs.Moves.{TakesOffer, FindsNothing}
 use Rattle.link_queue.specs.TheRule.{put_of, StartsWith}
@@ -41,6 +43,13 @@ pub record OffersFirst (v w : Known) (before after : List (List McCopy)) : Type 
 -- One unsent copy is offered where a vertex has one, and nothing where none has.
 abbrev pub OffersOne : Known → Known → List (List McCopy) → List (List McCopy) → Type 0
 OffersOne v w before after = (All (λ q. q ≡ []) before × (w ≡ v) × (after ≡ before)) ⊎ OffersFirst v w before after
+
+-- What became of the offer of a turn. There was none, since no vertex has an unsent copy; or a copy entered the injection queue;
+-- or the queue refused it.
+abbrev pub FaresAs : Option Offered → Known → Known → List BankVertex → Type 0
+FaresAs None v w vertices = All (λ u. u.unsent ≡ []) vertices
+FaresAs (Some Taken) v w vertices = (k : McCopy) × TakesOffer v k w
+FaresAs (Some (Full back)) v w vertices = Refuses 1 v w
 
 -- A vertex whose queue was found empty.
 pub record IsEmptyFor (before after : BankVertex) : Type 0 where

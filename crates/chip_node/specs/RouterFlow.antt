@@ -10,13 +10,14 @@ use Rattle.spin_base.specs.declared.copies.DumpRec.{DumpRec}
 use Rattle.spin_base.specs.Equality.{out_eq}
 use Rattle.link_queue.specs.Ends.{sending, taking}
 use Rattle.link_queue.specs.TheRule.{StartsWith}
+use Rattle.chip_node.specs.declared.ends.InEnd.{InEnd}
 use Rattle.chip_node.specs.declared.ends.OutEnd.{OutEnd}
 use Rattle.chip_node.specs.declared.ends.Served.{Served}
 use Rattle.chip_node.specs.declared.ends.Served.TheVariants.{Sent, Dumped}
 use Rattle.chip_node.specs.declared.routers.RouterNode.{RouterNode}
 use Rattle.chip_node.specs.Routing.{onward, outputs_at}
 use Rattle.chip_node.specs.Serving.{ports_of, outs_with_ends, records_of}
-use Rattle.chip_node.specs.Looking.{TakesAt}
+use Rattle.chip_node.specs.Looking.{TakesAt, TakesOne}
 
 -- One output of a copy, the copy as it was taken, and what became of it there.
 pub record Service : Type 0 where
@@ -71,6 +72,12 @@ pub record ServesAll (outs : List Out) (k : McCopy) (before after : RouterNode) 
   pub served : List Service
   pub each_once : map {B = Out × McCopy} (λ s. (s.out, s.copy)) served ≡ map (λ o. (o, k)) outs
   pub serves : Serves served before after
+
+-- One copy was taken, and these are the outputs that a table of these entries gives it.
+pub record RoutesOne (entries : List Entry) (outs : List Out) (before after : List (Port × InEnd)) : Type 0 where
+  pub copy : Port × McCopy
+  pub taken : TakesOne copy before after
+  pub given : outs ≡ outputs_at entries copy.0 copy.1
 
 -- The flow of a router with a table of these entries over at most so many turns. Some copies were taken at its ports, at
 -- most one a turn. Each of them was served once at each output that lookup gives it, where it was sent or dumped: so for

@@ -1,5 +1,5 @@
 -- What serving one copy at one output does to a router.
-use Rattle.std.specs.Prelude.{◌≡◌, ◌≢◌, ℕ, List, [], ◌∷◌, map, All}
+use Rattle.std.specs.Prelude.{◌≡◌, ◌≢◌, ℕ, List, [], ◌∷◌, map, Option, None, Some, All, Contains}
 use Rattle.spin_base.specs.declared.chips.Chip.{Chip}
 use Rattle.spin_base.specs.declared.chips.Port.{Port}
 use Rattle.spin_base.specs.declared.routes.Out.{Out}
@@ -21,6 +21,11 @@ ports_of ends = map (λ e. e.0) ends
 -- the outputs behind which a queue stands
 abbrev pub outs_with_ends : List (Out × OutEnd) → List Out
 outs_with_ends ends = map (λ e. e.0) ends
+
+-- the place of the link behind an output, and none where no end is of that output
+abbrev pub IsLinkOf : List (Out × OutEnd) → Out → Option ℕ → Type 0
+IsLinkOf ends o None = Contains (outs_with_ends ends) o → ⊥
+IsLinkOf ends o (Some place) = (e : Out × OutEnd) × Contains ends e × (e.0 ≡ o) × (e.1.link ≡ place)
 
 -- each input end is the receiving end of its link
 abbrev pub AreInEndsOf : List Link → List (Port × InEnd) → Type 0

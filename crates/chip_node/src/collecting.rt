@@ -4,7 +4,8 @@ ghost use Rattle.std.specs.List.{AllZip};
 ghost use Rattle.spin_base.specs.declared.copies.McCopy.{McCopy};
 ghost use Rattle.chip_node.specs.Ends.{IsOutEndOf};
 ghost use Rattle.chip_node.specs.Numbers.{numbers_of};
-ghost use Rattle.chip_node.specs.BankFlow.{HaveInEndsOf};
+ghost use Rattle.chip_node.specs.BankFlow.{FaresAs, HaveInEndsOf};
+ghost use Rattle.link_queue.specs.Ends.{sending};
 ghost use Rattle.chip_node.specs.Collecting.{IsWaitingAt, HasNothing, OffersAny, CollectsOne};
 
 use crate::banks::BankVertex;
@@ -36,30 +37,32 @@ fn waiting(vertices: &Vec<BankVertex>, start: usize) -> Option<(usize, McCopy)>
     None
 }
 
-/// Offers the first unsent copy of the first vertex round from `start` that has one.
+/// Offers the first unsent copy of the first vertex round from `start` that has one. It tells what became of the offer.
 pub fn offer_first<R: Wait>(
     rt: &R,
     links: &[Link],
     inject: &mut OutEnd,
     vertices: &mut Vec<BankVertex>,
     start: usize,
-)
+) -> Option<Offered>
     requires start { start ≤ length vertices.old.items }
     requires inject { IsOutEndOf links.now inject.old }
     requires ends { HaveInEndsOf links.now vertices.old.items }
     ensures offers { OffersAny inject.old inject.new vertices.old.items vertices.new.items }
+    ensures told { FaresAs result (sending inject.old.tx) (sending inject.new.tx) vertices.old.items }
     ensures numbers { numbers_of vertices.new.items ≡ numbers_of vertices.old.items }
     ensures inject { IsOutEndOf links.now inject.new }
     ensures ends { HaveInEndsOf links.now vertices.new.items }
 {
     let Some((place, copy)) = waiting(vertices, start) else {
-        return;
+        return None;
     };
     match inject.offer(rt, links, copy) {
         Offered::Taken => {
             let _ = vertices[place].unsent.pop();
+            Some(Offered::Taken)
         }
-        Offered::Full(_) => {}
+        Offered::Full(back) => Some(Offered::Full(back)),
     }
 }
 

@@ -1,5 +1,5 @@
 // Looking for a copy, from a start that goes round.
-ghost use Rattle.std.specs.Prelude.{◌≡◌, ◌≢◌, ◌⊎◌, ◌+◌, ◌<◌, ◌≤◌, MatchOption, AllPairs, length};
+ghost use Rattle.std.specs.Prelude.{◌≡◌, ◌≢◌, ◌⊎◌, ◌+◌, ◌%◌, ◌<◌, ◌≤◌, MatchOption, AllPairs, length};
 ghost use Rattle.std.specs.List.{AllZip};
 ghost use Rattle.chip_node.specs.Serving.{ports_of, AreInEndsOf};
 ghost use Rattle.chip_node.specs.Looking.{IsEmptyAt, TakesOne};
@@ -20,6 +20,18 @@ pub fn place_after(start: usize, step: usize, count: usize) -> usize
         start + step
     } else {
         step - (count - start)
+    }
+}
+
+/// The place at which the look of the turn of this number begins: one further in each turn, round a ring of `count` places.
+pub fn start_of(number: u32, count: usize) -> usize
+    ensures inside { result ≤ count }
+    ensures place { 0 < count → result ≡ number % count }
+{
+    if count == 0 {
+        0
+    } else {
+        number as usize % count
     }
 }
 

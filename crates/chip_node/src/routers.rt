@@ -1,13 +1,13 @@
 // A chip's router between the links.
 ghost use Rattle.std.specs.Prelude.{◌≡◌, ◌≢◌, ◌≤◌, ◌<◌, ◌+◌, ◌++◌, AllPairs, Contains, length};
 ghost use Rattle.std.specs.List.{AllZip};
-ghost use Rattle.chip_node.specs.Serving.{ports_of, outs_with_ends, AreInEndsOf, AreOutEndsOf, OffersBy, records_of};
+ghost use Rattle.chip_node.specs.Serving.{ports_of, outs_with_ends, AreInEndsOf, AreOutEndsOf, IsLinkOf, OffersBy, records_of};
 
 use crate::ends::{InEnd, OutEnd, Served};
-use crate::looking::look;
-use crate::serving::{onward, outputs_of, send_by};
+use crate::looking::{look, start_of};
+use crate::serving::{link_of, onward, outputs_of, send_by};
 use link_queue::Link;
-use spin_base::{Chip, DumpRec, McCopy, Out, Port, Room, Seq};
+use spin_base::{Chip, DumpRec, McCopy, Out, Outs, Port, Room, Seq};
 use std::sync::Wait;
 use tcam_find::Tcam;
 
@@ -20,8 +20,6 @@ pub struct RouterNode {
     outputs: Vec<(Out, OutEnd)>,
     patience: u32,
     log: Room<DumpRec>,
-    // Where the next look begins.
-    start: usize,
     ghost patient: { 1 ≤ patience },
     ghost ports_differ: { AllPairs (λ a b. a ≢ b) (ports_of inputs.items) },
     ghost outs_differ: { AllPairs (λ a b. a ≢ b) (outs_with_ends outputs.items) },
@@ -31,7 +29,7 @@ impl RouterNode {
     ghost use Rattle.std.specs.Prelude.{◌↔◌, MatchOption};
     ghost use Rattle.chip_node.specs.Routing.{onward};
     ghost use Rattle.chip_node.specs.Looking.{IsEmptyAt, TakesOne, TakesNone};
-    ghost use Rattle.chip_node.specs.RouterFlow.{RouterFlow, ServesAll};
+    ghost use Rattle.chip_node.specs.RouterFlow.{RouterFlow, RoutesOne, ServesAll};
 
     /// A router of a chip with these ends. An output that isn't listed has no queue behind it.
     pub fn new(
@@ -56,7 +54,6 @@ impl RouterNode {
             outputs: outputs.into_vec(),
             patience,
             log,
-            start: 0,
         }
     }
 
@@ -82,7 +79,6 @@ impl RouterNode {
             outputs,
             patience,
             log,
-            start: _start,
         } = self;
         (
             chip,
@@ -128,28 +124,43 @@ impl RouterNode {
         served
     }
 
-    /// One turn: looks at the input queues, from a start that goes round, until one gives a copy, and serves each output
-    /// that the table gives the copy at its port once, in order; none where its hop number is 4,294,967,295. It takes
-    /// nothing exactly where each of its queues was found empty in this call.
-    pub fn turn<R: Wait>(&mut self, rt: &R, links: &[Link], table: &Tcam)
+    /// The place of the link behind an output, and `None` exactly where the output has no end.
+    pub fn link_behind(&self, out: Out) -> Option<u32>
+        ensures { IsLinkOf self.now.outputs.items out result }
+    {
+        link_of(&self.outputs, out)
+    }
+
+    /// One turn: looks at the input queues, from a start that goes round with the turn's number, until one gives a copy, and
+    /// serves each output that the table gives the copy at its port once, in order; none where its hop number is 4,294,967,295.
+    /// It answers these outputs, and `None` where it took nothing: exactly where each of its queues was found empty in this call.
+    pub fn turn<R: Wait>(
+        &mut self,
+        rt: &R,
+        links: &[Link],
+        table: &Tcam,
+        number: u32,
+    ) -> Option<Outs>
         requires input_ends { AreInEndsOf links.now self.old.inputs.items }
         requires output_ends { AreOutEndsOf links.now self.old.outputs.items }
         requires spare { 24 ≤ self.old.log.spare }
         ensures flow { RouterFlow table.now 1 self.old self.new }
+        ensures told { MatchOption result (AllZip IsEmptyAt self.old.inputs.items self.new.inputs.items) (λ outs. RoutesOne table.now outs.items self.old.inputs.items self.new.inputs.items) }
         ensures nothing { TakesNone self.old.inputs.items self.new.inputs.items ↔ AllZip IsEmptyAt self.old.inputs.items self.new.inputs.items }
         ensures spare { self.old.log.spare ≤ self.new.log.spare + 24 }
         ensures input_ends { AreInEndsOf links.now self.new.inputs.items }
         ensures output_ends { AreOutEndsOf links.now self.new.outputs.items }
     {
-        let Some((port, copy)) = self.take(rt, links) else {
-            return;
+        let Some((port, copy)) = self.take(rt, links, number) else {
+            return None;
         };
         let outs = outputs_of(table, port, copy);
         self.serve_all(rt, links, outs.as_slice(), copy);
+        Some(outs)
     }
 
     // Takes a copy from one of the input queues.
-    fn take<R: Wait>(&mut self, rt: &R, links: &[Link]) -> Option<(Port, McCopy)>
+    fn take<R: Wait>(&mut self, rt: &R, links: &[Link], number: u32) -> Option<(Port, McCopy)>
         requires ends { AreInEndsOf links.now self.old.inputs.items }
         ensures looked { MatchOption result (AllZip IsEmptyAt self.old.inputs.items self.new.inputs.items) (λ t. TakesOne t self.old.inputs.items self.new.inputs.items) }
         ensures chip { self.new.chip ≡ self.old.chip }
@@ -158,12 +169,7 @@ impl RouterNode {
         ensures log { self.new.log ≡ self.old.log }
         ensures ends { AreInEndsOf links.now self.new.inputs.items }
     {
-        let start = if self.start < self.inputs.len() {
-            self.start
-        } else {
-            0
-        };
-        self.start = start + 1;
+        let start = start_of(number, self.inputs.len());
         look(rt, links, &mut self.inputs, start)
     }
 

@@ -5,7 +5,7 @@ ghost use Rattle.link_queue.specs.Ends.{sending};
 ghost use Rattle.spin_base.specs.Equality.{out_eq};
 ghost use Rattle.chip_node.specs.Offers.{Fares};
 ghost use Rattle.chip_node.specs.Routing.{onward, outputs_at};
-ghost use Rattle.chip_node.specs.Serving.{outs_with_ends, AreOutEndsOf, OffersBy};
+ghost use Rattle.chip_node.specs.Serving.{outs_with_ends, AreOutEndsOf, IsLinkOf, OffersBy};
 
 use crate::ends::{OutEnd, Served};
 use link_queue::Link;
@@ -42,6 +42,16 @@ fn place_of(outputs: &Vec<(Out, OutEnd)>, out: Out) -> Option<usize>
     outputs
         .iter()
         .position(|end| end.0.number() == out.number())
+}
+
+/// The place of the link behind an output.
+pub fn link_of(outputs: &Vec<(Out, OutEnd)>, out: Out) -> Option<u32>
+    ensures { IsLinkOf outputs.now.items out result }
+{
+    match place_of(outputs, out) {
+        Some(place) => Some(outputs[place].1.link),
+        None => None,
+    }
 }
 
 /// Offers a copy by the end of an output, up to `patience` times. An output without an end refuses every offer.

@@ -1,6 +1,6 @@
 -- Each step of a link keeps its rule.
-use Rattle.std.proofs.Common.{◌≡◌, ◌≢◌, ℕ, zero, suc, ◌+◌, ◌<◌, ◌≤◌, true, false, true≢false, List, [], ◌∷◌, ◌++◌, length, set, sym, refl, ap, ◌∙◌, subst, ⊎_elim, append_assoc, arith, inl, inr, ◌⊎◌, All}
-use Rattle.std.proofs.lemmas.List.{append-nil, length-append}
+use Rattle.std.proofs.Common.{◌≡◌, ◌≢◌, ℕ, zero, suc, ◌+◌, ◌<◌, ◌≤◌, true, false, true≢false, List, [], ◌∷◌, ◌++◌, drop, length, set, sym, refl, ap, ◌∙◌, subst, ⊎_elim, append_assoc, arith, inl, inr, ◌⊎◌, All}
+use Rattle.std.proofs.lemmas.List.{append-nil, length-append, drop_at}
 use Rattle.std.proofs.lemmas.List.Elements.{All-push}
 use mathlib.Core.Option.{some, some-ne-none}
 use lib.ListN.{get_elem?}
@@ -9,8 +9,8 @@ use Rattle.crossbeam_queue.proofs.Lists.{at_set}
 use Rattle.spin_base.specs.declared.copies.McCopy.{McCopy}
 use Rattle.link_queue.specs.declared.known.Known.{Known}
 use Rattle.link_queue.specs.TheRule.{put_of, IsFullNote, IsNoneNote, StartsWith, SenderFits, ReceiverFits, Fits, Kept}
-use Rattle.link_queue.specs.Ups.{ListPlaced, Emptied, PoppedTo}
-use Rattle.link_queue.specs.Steps.{blank, newborn, placed, offered, popped, full_noted, none_noted, told, sender_of, receiver_of, joined, SeenFull, SeenEmpty, Balanced}
+use Rattle.link_queue.specs.Ups.{ListPlaced, Emptied, NoNotes, PoppedTo, Rests}
+use Rattle.link_queue.specs.Steps.{blank, newborn, placed, offered, popped, full_noted, none_noted, told, sender_of, receiver_of, joined, renewed, SeenFull, SeenEmpty, Balanced}
 
 abbrev Each : (ℕ → Known → Type 0) → List Known → Type 0
 Each F views = (port : ℕ) (v : Known) → get_elem? views port ≡ some v → F port v
@@ -376,4 +376,52 @@ emptied cap v got u items held p now before all bound =
       balance = sym p.put ∙ now ∙ ap (λ l. u.took ++ l) none ∙ append-nil u.took ∙ p.took_is;
       bound = omega arith;
       noted = before.1;
+    }
+
+-- ---- a link that rests
+
+-- what is held is what entered, less what was taken
+held_is : (put took items : List McCopy) → put ≡ took ++ items → drop (length took) put ≡ items
+held_is put took items balance = ap (drop (length took)) balance ∙ drop_at took items (length took) refl
+
+pub renews : (port : ℕ) (v : Known) → v.sends ≡ true → v.takes ≡ true → Forks Kept port v (sender_of (renewed v)) (receiver_of (renewed v))
+renews port v sends takes items views k at =
+    let f = k.each port v at in
+    let s = f.0 sends in
+    let r = f.1 takes in
+    let w = renewed v in
+    let l = sender_of w in
+    let vs = set views port l in
+    let first : w.first ≡ items = held_is (put_of v) v.took items (s.knows ∙ k.balance ∙ ap (λ l. l ++ items) (sym r.knows)) in
+    let put : w.first ++ [] ≡ items = append-nil w.first ∙ first in
+    let total = ap length k.balance ∙ length-append k.took items in
+    let room = s.room in
+    record {
+      sender = k.sender;
+      receiver = length vs;
+      put = items;
+      took = [];
+      balance = refl;
+      each = each_snoc (Fits k.sender (length vs) items []) vs (receiver_of w)
+          (each_set (Fits k.sender (length vs) items []) views port l
+          (λ _. record { seated = s.seated; knows = put; room = omega (arith, total, room); bound = s.bound; noted = λ i d inside. absurd (omega arith) }, λ p. never p)
+          (λ j u other e. (λ p. absurd (other (((k.each j u e).0 p).seated ∙ sym s.seated)), λ p. absurd (other (((k.each j u e).1 p).seated ∙ sym r.seated)))))
+          (λ j e. (
+            λ p. never p,
+            λ _. record { seated = e; knows = refl; room = omega arith; begins = ([], put); noted = λ i d inside. absurd (omega arith) },
+          ));
+    }
+
+pub rested : (cap count : ℕ) (v w a b : Known) (held : List McCopy) → v.cap ≡ cap → Balanced (joined v w) held → length held ≡ count → count ≤ cap → a ≡ sender_of (renewed (joined v w)) →
+    b ≡ receiver_of (renewed (joined v w)) → Rests cap v w a b count
+rested cap count v w a b held cap_is balanced many bound a_is b_is =
+    let is : drop (length w.took) (put_of v) ≡ held = held_is (put_of v) w.took held balanced.0 in
+    record {
+      held = held;
+      all = balanced.0;
+      bound = omega (arith, many, bound);
+      noted = subst (λ n. All (IsFullNote n (put_of v) w.took) v.fulls) cap_is balanced.1;
+      sender_new = subst (NoNotes held) (sym a_is) (record { first = is; sent = refl; took = refl; fulls = refl; nones = refl });
+      receiver_new = subst (NoNotes held) (sym b_is) (record { first = is; sent = refl; took = refl; fulls = refl; nones = refl });
+      counts = sym many;
     }

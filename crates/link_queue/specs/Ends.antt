@@ -1,5 +1,5 @@
 -- What contracts see of a link and its ends.
-use Rattle.std.specs.Prelude.{◌≡◌, ℕ, true, length, min}
+use Rattle.std.specs.Prelude.{◌≡◌, ℕ, true}
 use Rattle.crossbeam_queue.specs.Passes.{view, IsPassOf, ruled_capacity}
 use Rattle.link_queue.specs.declared.known.Known.{Known}
 use Rattle.link_queue.specs.declared.links.Link.{Link}
@@ -18,10 +18,6 @@ sending tx = view tx.pass
 abbrev pub taking : Rx → Known
 taking rx = view rx.pass
 
--- how many copies the receiving end took, as far as 64 bits count
-abbrev pub counted : Rx → ℕ
-counted rx = min (length (taking rx).took) 18446744073709551615
-
 -- it is the sending end of this link
 pub record IsTx (link : Link) (tx : Tx) : Type 0 where
   pub pass : IsPassOf link.queue tx.pass
@@ -32,4 +28,3 @@ pub record IsTx (link : Link) (tx : Tx) : Type 0 where
 pub record IsRx (link : Link) (rx : Rx) : Type 0 where
   pub pass : IsPassOf link.queue rx.pass
   pub takes : (taking rx).takes ≡ true
-  pub counts : rx.count ≡ counted rx

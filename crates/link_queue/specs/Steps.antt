@@ -1,5 +1,5 @@
 -- What the steps of a link make of the view of the end that takes them.
-use Rattle.std.specs.Prelude.{◌≡◌, ℕ, ◌≤◌, true, false, List, [], ◌∷◌, ◌++◌, length, All}
+use Rattle.std.specs.Prelude.{◌≡◌, ℕ, ◌≤◌, true, false, List, [], ◌∷◌, ◌++◌, drop, length, All}
 use Rattle.spin_base.specs.declared.copies.McCopy.{McCopy}
 use Rattle.link_queue.specs.declared.known.Known.{Known}
 use Rattle.link_queue.specs.TheRule.{put_of, IsFullNote, StartsWith}
@@ -46,6 +46,10 @@ receiver_of v = record blank { takes = true; first = v.first }
 -- both seats in one, which takes no more notes
 abbrev pub joined : Known → Known → Known
 joined v w = record v { takes = true; took = w.took; nones = []; left = 0 }
+
+-- the joined seat, as if what is held had been placed and nothing else had ever entered
+abbrev pub renewed : Known → Known
+renewed v = record v { first = drop (length v.took) (put_of v); sent = []; fulls = []; took = []; nones = []; left = 0 }
 
 -- what a refused push tells: as many are held as may be
 abbrev pub SeenFull : Known → List McCopy → Type 0

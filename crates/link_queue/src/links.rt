@@ -19,11 +19,10 @@ pub struct Tx {
     pub(crate) pass: Pass<McCopy, Known>,
 }
 
-/// The receiving end of a link, with the number of copies that it took.
+/// The receiving end of a link.
 #[derive(Drop)]
 pub struct Rx {
     pub(crate) pass: Pass<McCopy, Known>,
-    pub(crate) count: u64,
 }
 
 /// A link with its two ends, and room for all that it can hold.
@@ -183,4 +182,15 @@ impl Join<Known> for Seats {
     ghost both = { joined };
 
     ghost spent = { blank };
+}
+
+/// The two seats, made anew of one that has both ends: what is held is their first list.
+pub(crate) struct Renews;
+
+impl Split<Known> for Renews {
+    ghost use Rattle.link_queue.specs.Steps.{renewed, sender_of, receiver_of};
+
+    ghost left = { λ v. sender_of (renewed v) };
+
+    ghost right = { λ v. receiver_of (renewed v) };
 }

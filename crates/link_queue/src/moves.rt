@@ -1,7 +1,7 @@
 // An offer of the sender, and a take of the receiver.
 ghost use Rattle.std.specs.Prelude.{◌≡◌, ℕ, MatchOption};
 ghost use Rattle.link_queue.specs.declared.links.Link.{Link};
-ghost use Rattle.link_queue.specs.Ends.{IsTx, IsRx, cap_of, counted, sending, taking};
+ghost use Rattle.link_queue.specs.Ends.{IsTx, IsRx, cap_of, sending, taking};
 ghost use Rattle.link_queue.specs.Moves.{MatchOffered, TakesOffer, RefusesOffer, TakesCopy, FindsNothing};
 
 use crate::links::{Link, NotesFull, NotesNone, Offered, Offers, Rx, Takes, Tx};
@@ -34,22 +34,10 @@ pub fn take<R: Wait>(rt: &R, link: &Link, rx: &mut Rx) -> Option<McCopy>
     ensures end { IsRx link.now rx.new }
 {
     match link.queue.pop_as::<Takes, R>(rt, &mut rx.pass) {
-        Some(copy) => {
-            rx.count = rx.count.saturating_add(1);
-            Some(copy)
-        }
+        Some(copy) => Some(copy),
         None => {
             let _ = link.queue.another::<NotesNone>(&mut rx.pass);
             None
         }
-    }
-}
-
-impl Rx {
-    /// How many copies the end took, or the greatest number of its type where they are more.
-    pub fn taken(&self) -> u64
-        ensures { (link : Link) → IsRx link self.now → result ≡ counted self.now }
-    {
-        self.count
     }
 }

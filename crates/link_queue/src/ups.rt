@@ -42,10 +42,7 @@ pub fn link_up<R: Wait>(
     Ok(LinkEnds {
         link: Link { queue },
         tx: Tx { pass },
-        rx: Rx {
-            pass: taker,
-            count: 0,
-        },
+        rx: Rx { pass: taker },
         room,
     })
 }
@@ -91,7 +88,7 @@ pub fn link_down<R: Wait>(rt: &R, link: Link, tx: Tx, rx: Rx, room: Room<McCopy>
 {
     let Link { queue } = link;
     let Tx { mut pass } = tx;
-    let Rx { pass: taker, .. } = rx;
+    let Rx { pass: taker } = rx;
     queue.absorb::<Seats>(&mut pass, taker);
     empty(rt, &queue, &mut pass, room)
 }

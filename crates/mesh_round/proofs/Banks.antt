@@ -26,7 +26,6 @@ use Rattle.chip_node.specs.BankFlow.{VertexFlow, of_vertex, deliveries}
 use Rattle.chip_node.specs.Numbers.{numbers_of}
 use Rattle.mesh_core.specs.State.{Setup, Behind, core, queue_at}
 use Rattle.mesh_run.specs.Casting.{Pair, IsVertexAt}
-use Rattle.mesh_run.specs.Queues.{front_of as link_front}
 use Rattle.round_flow.specs.RoundFlow.{held_in, at_port, of_chip, sent_on}
 use Rattle.mesh_round.proofs.Lists.{place_in, some_same, front_of, gathered_agree, filter_none, eqb-flip}
 use Rattle.mesh_round.proofs.Spreading.{dealt, all_dealt, among_own}
@@ -140,7 +139,7 @@ module _ (r : Round) (c : Chip) (after : Pair) (t : Turn r c after) where
 
   -- A link to which a bank sent.
   pub record SentHere (q : Behind) (l : LinkOf r q) : Type 0 where
-    pub first : (sending l.new.tx).first ≡ link_front r.turns (held_in r.m q)
+    pub first : (sending l.new.tx).first ≡ held_in r.m q
     pub sent_all : (sending l.new.tx).sent ≡ map (λ (p : ℕ × McCopy). p.1) sent
 
   pub sent_here : (q : Behind) (l : LinkOf r q) → t.before.bank.inject.link ≡ l.place → SentHere q l

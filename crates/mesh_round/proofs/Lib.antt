@@ -3,13 +3,11 @@ mod Resting
 mod Lists
 mod Spreading
 mod TheFlow
-mod Fronts
 mod Links
 mod Turns
 mod Services
 mod Routers
 mod Banks
-mod Receivers
 mod Senders
 mod Dead
 mod Vertices

@@ -14,9 +14,8 @@ use Rattle.chip_node.specs.declared.ends.OutEnd.{OutEnd}
 use Rattle.mesh_core.specs.State.{Setup, Behind, input, core, nowhere}
 use Rattle.mesh_run.specs.Casting.{IsTxAt, IsRxAt}
 use Rattle.mesh_run.specs.Lending.{place_of}
-use Rattle.mesh_run.specs.Queues.{IsUp, IsDown, places_for}
+use Rattle.mesh_run.specs.Queues.{HasPlaces, IsDown, IsUp}
 use Rattle.round_flow.specs.RoundFlow.{held_in}
-use Rattle.mesh_round.proofs.Fronts.{queue_short}
 use Rattle.mesh_round.proofs.Lists.{some_same}
 use Rattle.mesh_round.proofs.TheFlow.{Round, ports_many, link_at, told, flow_of, moments}
 
@@ -40,9 +39,9 @@ module _ (r : Round) where
     pub stood : slice_get r.played.up place ≡ Some old
     pub stands : slice_get r.played.back place ≡ Some new
     pub here : link_at u r.played.back q ≡ Some new
-    pub up : IsUp u.capacity r.turns (held_in r.m q) old
-    pub down : IsDown r.turns new (held_in r.m q) (held_in r.n q)
-    pub cap : cap_of new.link ≡ places_for u.capacity r.turns (held_in r.m q)
+    pub up : IsUp u.capacity (r.turns + 1) (held_in r.m q) old
+    pub down : IsDown new (held_in r.n q)
+    pub cap : HasPlaces u.capacity (r.turns + 1) (length (held_in r.m q)) (cap_of new.link)
 
   all_long : length r.played.up ≡ ports_many u + length u.spots
   all_long =
@@ -61,15 +60,13 @@ module _ (r : Round) where
       let old = slice_get_there r.played.up place (omega (arith, below, long)) in
       let new = slice_get_there r.played.back place (omega (arith, below, long, back_long)) in
       let up = r.played.are_up.each place [] old.0 (omega (arith, below, long, up_long)) in
-      let down = r.played.down place new.0 [] [] (omega (arith, below, long, back_long)) in
+      let down = r.played.down place new.0 [] (omega (arith, below, long, back_long)) in
       let same_old : get_or r.played.up place old.0 ≡ old.0 = get_or_from_slice_get r.played.up place old.0 old.0 old.1 in
       let same_new : get_or r.played.back place new.0 ≡ new.0 = get_or_from_slice_get r.played.back place new.0 new.0 new.1 in
-      let is_up : IsUp u.capacity r.turns (held_in r.m q) old.0 =
-      subst (λ (l : List McCopy). IsUp u.capacity r.turns l old.0) held (subst (λ (e : LinkEnds). IsUp u.capacity r.turns (get_or (r.m.inputs ++ r.m.cores) place []) e) same_old up) in
-      let before : List McCopy = get_or (r.m.inputs ++ r.m.cores) place [] in
-      let is_down : IsDown r.turns new.0 (held_in r.m q) (held_in r.n q) =
-      subst (λ (l : List McCopy). IsDown r.turns new.0 l (held_in r.n q)) held
-      (subst (λ (l : List McCopy). IsDown r.turns new.0 before l) after (subst (λ (e : LinkEnds). IsDown r.turns e before (get_or (r.n.inputs ++ r.n.cores) place [])) same_new down)) in
+      let is_up : IsUp u.capacity (r.turns + 1) (held_in r.m q) old.0 =
+      subst (λ (l : List McCopy). IsUp u.capacity (r.turns + 1) l old.0) held (subst (λ (e : LinkEnds). IsUp u.capacity (r.turns + 1) (get_or (r.m.inputs ++ r.m.cores) place []) e) same_old up) in
+      let is_down : IsDown new.0 (held_in r.n q) =
+      subst (IsDown new.0) after (subst (λ (e : LinkEnds). IsDown e (get_or (r.n.inputs ++ r.n.cores) place [])) same_new down) in
       let link : LinkEnds → Link = λ e. e.link in
       let links : new.0.link ≡ old.0.link =
       some_same new.0.link old.0.link
@@ -84,7 +81,7 @@ module _ (r : Round) where
         here = here ∙ new.1;
         up = is_up;
         down = is_down;
-        cap = ap cap_of links ∙ is_up.holds;
+        cap = subst (λ (k : Link). HasPlaces u.capacity (r.turns + 1) (length (held_in r.m q)) (cap_of k)) (sym links) is_up.holds;
       }
 
   pub link_input : (i : ℕ) → i < ports_many u → LinkOf (input i)
@@ -146,9 +143,9 @@ module _ (r : Round) where
   -- no queue holds more than its capacity afterwards
   pub held_short : (q : Behind) (l : LinkOf q) → length (held_in r.n q) ≤ u.capacity
   held_short q l =
-      let down = l.down in
-      let bound : length down.held ≤ places_for u.capacity r.turns (held_in r.m q) = subst (λ n. length down.held ≤ n) l.cap down.bound in
-      subst (λ (k : List McCopy). length k ≤ u.capacity) (sym down.stands) (queue_short u.capacity r.turns (length (taking l.new.rx).took) (held_in r.m q) down.held (held_within q) bound)
+      let bound = l.down.bound in
+      let few = l.cap.few in
+      omega (arith, bound, few)
 
   -- ---- what the flow says of a queue with a link
 
@@ -158,7 +155,7 @@ module _ (r : Round) where
   pub left_is : (q : Behind) (l : LinkOf q) → (flow_of r).left q ≡ (taking l.new.rx).took
   left_is q l = ap (told (λ (e : LinkEnds). (taking e.rx).took)) l.here
 
-  pub fulls_is : (q : Behind) (l : LinkOf q) → (flow_of r).fulls q ≡ moments r.m r.turns q l.new
-  fulls_is (input i) l = ap (told (moments r.m r.turns (input i))) l.here
-  fulls_is (core v) l = ap (told (moments r.m r.turns (core v))) l.here
+  pub fulls_is : (q : Behind) (l : LinkOf q) → (flow_of r).fulls q ≡ moments r.m q l.new
+  fulls_is (input i) l = ap (told (moments r.m (input i))) l.here
+  fulls_is (core v) l = ap (told (moments r.m (core v))) l.here
   fulls_is nowhere l = let is = l.is_place in cc

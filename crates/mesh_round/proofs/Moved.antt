@@ -2,7 +2,7 @@
 use Rattle.std.proofs.Common.{◌≡◌, ◌≢◌, ℕ, ◌+◌, ◌*◌, ◌/◌, ◌%◌, ◌<◌, ◌≤◌, true, false, List, [], ◌∷◌, ◌++◌, length, refl, sym, ap, ap₂, ◌∙◌, subst, arith, inl, inr}
 use Rattle.std.specs.List.{slice_get, slice_index_or}
 use Rattle.std.proofs.lemmas.Bool.{cases_Bool, cases_lt}
-use Rattle.std.proofs.lemmas.List.{get_or_past, length-append, length-take}
+use Rattle.std.proofs.lemmas.List.{get_or_past, length-append}
 use Rattle.std.proofs.lemmas.List.Elements.{All-contains}
 use Rattle.std.proofs.lemmas.Option.{slice_get_within, get_or_from_slice_get}
 use Rattle.list_laws.proofs.Members.{Among}
@@ -24,12 +24,10 @@ use Rattle.chip_node.specs.BankFlow.{MaySendNone, of_vertex}
 use Rattle.chip_node.specs.Looking.{taken_at}
 use Rattle.mesh_core.specs.State.{Setup, Behind, input, core, nowhere, queue_at}
 use Rattle.mesh_core.proofs.Changes.{queue_at-below}
-use Rattle.mesh_run.specs.Queues.{front_of}
 use Rattle.round_flow.specs.RoundFlow.{held_in, at_port, HasMoved}
 use Rattle.round_flow.proofs.Entered.{numbered_port}
 use Rattle.mesh_round.specs.OnThreads.{HasSome}
 use Rattle.mesh_round.proofs.Banks.{vertex_spot, sender_at, receiver_at, sent_is, collected_is, old_core_rx, inject_place, sent, got}
-use Rattle.mesh_round.proofs.Fronts.{front_none}
 use Rattle.mesh_round.proofs.Links.{LinkOf, link_input, link_core, tx_is}
 use Rattle.mesh_round.proofs.Lists.{both_none}
 use Rattle.mesh_round.proofs.Routers.{port_end, old_rx, left_at, taken}
@@ -52,7 +50,7 @@ module _ (r : Round) (some : 0 < r.turns) where
 
   -- the first list of a link whose end took nothing is empty, where it had been taken before
   was_empty : (q : Behind) (l : LinkOf r q) → StartsWith (taking l.old.rx).took (taking l.old.rx).first → held_in r.m q ≡ []
-  was_empty q l (rest, is) = front_none r.turns (held_in r.m q) (sym l.up.rx_new.first ∙ (both_none (taking l.old.rx).first rest (is ∙ l.up.rx_new.took)).0)
+  was_empty q l (rest, is) = sym l.up.rx_new.first ∙ (both_none (taking l.old.rx).first rest (is ∙ l.up.rx_new.took)).0
 
   by_taken : (c : Chip) → IsInside u.machine c → (t : TurnOf r c) (port : Port) → held_in r.m (at_port u c port) ≢ [] → (ts : List (Port × McCopy)) → taken r c t.after t.turn ≡ ts → HasMoved r.m (flow_of r)
   by_taken c inside t port holds [] none =
@@ -150,15 +148,14 @@ module _ (r : Round) (some : 0 < r.turns) where
           let tx : t.before.bank.inject.tx ≡ l.old.tx = tx_is r.played.up t.before.bank.inject l.place l.old l.stood (inject_place r c w.turn.after t l) t.cast.bank.end in
           let full_old : (sending l.old.tx).cap ≤ length (put_of (sending l.old.tx)) = subst (λ (x : Tx). (sending x).cap ≤ length (put_of (sending x))) tx full in
           let cap : (sending l.old.tx).cap ≡ cap_of l.old.link = l.up.ends.tx.cap in
-          let holds = l.up.holds in
+          let holds = l.up.holds.enough in
           let room = r.mesh.room in
-          let front = length-take (r.turns + 1) (held_in r.m (at_port u c Local)) in
-          let put : put_of (sending l.old.tx) ≡ front_of r.turns (held_in r.m (at_port u c Local)) ++ [] = ap₂ (λ (a b : List McCopy). a ++ b) l.up.tx_new.first l.up.tx_new.sent in
+          let put : put_of (sending l.old.tx) ≡ held_in r.m (at_port u c Local) ++ [] = ap₂ (λ (a b : List McCopy). a ++ b) l.up.tx_new.first l.up.tx_new.sent in
           let long = ap length put in
-          let both = length-append (front_of r.turns (held_in r.m (at_port u c Local))) [] in
+          let both = length-append (held_in r.m (at_port u c Local)) [] in
           from_port c w.live Local (λ none.
           let zero_held = no_items (held_in r.m (at_port u c Local)) none in
-          omega (arith, full_old, cap, holds, front, room, long, both, zero_held))
+          omega (arith, full_old, cap, holds, room, long, both, zero_held))
   by_sent v w has (k ∷ ks) is =
       let all = sent r w.spot.chip w.turn.after w.turn.turn in
       let first : Among k all = subst (λ (l : List (ℕ × McCopy)). Among k l) (sym is) (inl refl) in

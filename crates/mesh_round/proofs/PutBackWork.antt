@@ -15,9 +15,11 @@ use Rattle.mesh_core.specs.Step.{onward, push_behind}
 use Rattle.mesh_core.specs.PutBack.{put_back_of, after_put_back}
 use Rattle.mesh_core.specs.Trail.{in_queue, at_core, dumped, Mark}
 use Rattle.mesh_core.specs.Ledger.{marks_of}
+use Rattle.mesh_core.specs.Heavy.{heavy}
 use Rattle.mesh_core.proofs.Events.{arrives}
+use Rattle.mesh_core.proofs.Heavy.{one_heavy, heavy_grows}
 use Rattle.mesh_core.proofs.Moves.{mark, Crosses, dumped_out}
-use Rattle.round_flow.specs.Work.{heavy, to_go, weight_of, work_in}
+use Rattle.round_flow.specs.Work.{to_go, weight_of, work_in}
 use Rattle.mesh_round.specs.Reinjecting.{put_back_answer}
 use Rattle.mesh_round.proofs.PutBackParts.{IsBack, is_back, same_room}
 
@@ -25,11 +27,11 @@ use Rattle.mesh_round.proofs.PutBackParts.{IsBack, is_back, same_room}
 
 heavier : (m n : ℕ) → m < n → heavy m < heavy n
 unfolding heavy
-heavier zero zero below = absurd (omega (arith, below))
-heavier zero (suc zero) below = omega arith
-heavier zero (suc (suc n)) below = let rest = heavier zero (suc n) (omega arith) in omega (arith, rest)
-heavier (suc m) zero below = absurd (omega (arith, below))
-heavier (suc m) (suc n) below = let rest = heavier m n (omega (arith, below)) in omega (arith, rest)
+heavier m zero below = absurd (omega (arith, below))
+heavier m (suc n) below =
+    let grows = heavy_grows m n (omega (arith, below)) in
+    let one = one_heavy n in
+    omega (arith, grows, one)
 
 -- a dumped copy that crosses its output is lighter than it was
 lighter_mark : (s : State) (k : McCopy) (c : Chip) (o : Out) (come : List Mark) → Crosses s k c o come →

@@ -7,7 +7,9 @@ use Rattle.spin_base.specs.declared.copies.McCopy.{McCopy}
 use Rattle.mesh_core.specs.State.{State, input, core}
 use Rattle.mesh_core.specs.Expected.{IsAtRest}
 use Rattle.round_flow.specs.RoundFlow.{HasNoHand}
-use Rattle.mesh_round.specs.OnThreads.{HasSome, is_empty, has_none}
+use Rattle.mesh_run.specs.Queues.{is_empty}
+use Rattle.mesh_run.specs.Raised.{has_none}
+use Rattle.mesh_round.specs.OnThreads.{HasSome}
 
 no_copies : (q : List McCopy) → is_empty q ≡ true → q ≡ []
 no_copies [] is = refl

@@ -3,7 +3,7 @@ use Rattle.std.proofs.Common.{◌≡◌, ℕ, ◌+◌, ◌*◌, ◌≤◌, List,
 use Rattle.std.specs.List.{All, filter}
 use Rattle.std.specs.List.Sorted.{IsPermutation}
 use Rattle.std.proofs.Math.Nat.{mul-le-mul_left}
-use Rattle.std.proofs.lemmas.List.{length-append, length-map, length-replicate, length-take}
+use Rattle.std.proofs.lemmas.List.{length-append, length-map, length-replicate}
 use Rattle.std.proofs.lemmas.List.Elements.{All-nil, All-map, All-contains, All-replicate}
 use Rattle.std.proofs.lemmas.List.Sums.{length-filter, count_by-le-length}
 use Rattle.list_laws.proofs.Places.{All-each}
@@ -22,7 +22,7 @@ use Rattle.chip_node.specs.Routing.{onward}
 use Rattle.mesh_core.specs.State.{Setup, Held, Behind, input, core, nowhere, behind, queue_at}
 use Rattle.mesh_core.proofs.Changes.{queue_at-below}
 use Rattle.mesh_run.specs.Routed.{dumped_by}
-use Rattle.round_flow.specs.RoundFlow.{Passes, IsFullAt, held_in, capacity_of, at_port, delivered_to, dumped_at, got_on, sent_on, taken_for}
+use Rattle.round_flow.specs.RoundFlow.{Passes, IsFullAt, capacity_of, at_port, delivered_to, dumped_at, got_on, sent_on, taken_for}
 use Rattle.mesh_round.specs.OnThreads.{LeadsByRound}
 use Rattle.mesh_round.proofs.Banks.{injected_is, sent_spread, few_sent, got_spread}
 use Rattle.mesh_round.proofs.Dead.{dead_port, dead_chip}
@@ -46,15 +46,15 @@ module _ (r : Round) where
   room_of (core v) l = refl
   room_of nowhere l = let is = l.is_place in cc
 
-  -- A note of Full is such a moment: turns cannot fill a link that has fewer places than what stays aside leaves of the capacity.
+  -- A note of Full is such a moment: turns cannot fill a link that has fewer places than its queue.
   full_note : SendsOrDumps → (q : Behind) (l : LinkOf r q) (x : ℕ) → IsFullNote (cap_of l.new.link) (put_of (sending l.new.tx)) (taking l.new.rx).took x →
-      IsFullAt r.m (flow_of r) q (moment r.m r.turns q x)
+      IsFullAt r.m (flow_of r) q (moment r.m q x)
   full_note split q l x note =
-      let cap = l.cap in
+      let enough = l.cap.enough in
+      let most = l.cap.few in
       let from = note.0 in
       let to_put = note.1 in
       let to_took = note.2 in
-      let front = length-take (r.turns + 1) (held_in r.m q) in
       let first = ap length (first_is r q l) in
       let both = length-append (sending l.new.tx).first (sending l.new.tx).sent in
       let entered = ap length (entered_is r q l) in
@@ -63,26 +63,26 @@ module _ (r : Round) where
       let room = room_of q l in
       let few = few_entered r split q l in (
         omega (arith, to_put, first, both, entered),
-        omega (arith, cap, front, within, to_took, left),
-        omega (arith, cap, front, from, within, room, to_put, first, both, few),
+        omega (arith, most, to_took, left),
+        omega (arith, enough, most, from, within, room, to_put, first, both, few),
       )
 
   full_there : SendsOrDumps → (q : Behind) (l : LinkOf r q) → All (IsFullAt r.m (flow_of r) q) ((flow_of r).fulls q)
   full_there split q l =
       let notes = (sending l.new.tx).fulls in
       subst (All (IsFullAt r.m (flow_of r) q)) (sym (fulls_is r q l))
-      (All-map (IsFullAt r.m (flow_of r) q) (moment r.m r.turns q) notes
-      (All-each (λ x. IsFullAt r.m (flow_of r) q (moment r.m r.turns q x)) notes (λ x has.
+      (All-map (IsFullAt r.m (flow_of r) q) (moment r.m q) notes
+      (All-each (λ x. IsFullAt r.m (flow_of r) q (moment r.m q x)) notes (λ x has.
       full_note split q l x (All-contains (IsFullNote (cap_of l.new.link) (put_of (sending l.new.tx)) (taking l.new.rx).took) notes x l.down.noted has))))
 
   full : SendsOrDumps → (q : Behind) → All (IsFullAt r.m (flow_of r) q) ((flow_of r).fulls q)
   full split (input i) = elim (stands r (input i)) [
     | there l ↦ full_there split (input i) l
-    | none here held after ↦ subst (All (IsFullAt r.m (flow_of r) (input i))) (sym (ap (told (moments r.m r.turns (input i))) here)) (All-nil (IsFullAt r.m (flow_of r) (input i)))
+    | none here held after ↦ subst (All (IsFullAt r.m (flow_of r) (input i))) (sym (ap (told (moments r.m (input i))) here)) (All-nil (IsFullAt r.m (flow_of r) (input i)))
   ]
   full split (core v) = elim (stands r (core v)) [
     | there l ↦ full_there split (core v) l
-    | none here held after ↦ subst (All (IsFullAt r.m (flow_of r) (core v))) (sym (ap (told (moments r.m r.turns (core v))) here)) (All-nil (IsFullAt r.m (flow_of r) (core v)))
+    | none here held after ↦ subst (All (IsFullAt r.m (flow_of r) (core v))) (sym (ap (told (moments r.m (core v))) here)) (All-nil (IsFullAt r.m (flow_of r) (core v)))
   ]
   full split nowhere = All-replicate (IsFullAt r.m (flow_of r) nowhere) (r.patience * length (flow_of r).dumped) (0, 0) (omega arith, omega arith, omega arith)
 
@@ -95,7 +95,7 @@ module _ (r : Round) where
         let enough = (sent_behind r c t.after t.turn o is l).patient in
         let dumped : length (dumped_at (flow_of r) c o) ≡ count_by (is_dumped_at o) ss =
         ap length (dumped_is r c o live t) ∙ (length-map (filter (is_dumped_at o) ss) (λ (s : Service). s.copy) ∙ length-filter (is_dumped_at o) ss) in
-        let fulls = ap length (fulls_is r (behind u c o) l) ∙ length-map (sending l.new.tx).fulls (moment r.m r.turns (behind u c o)) in
+        let fulls = ap length (fulls_is r (behind u c o) l) ∙ length-map (sending l.new.tx).fulls (moment r.m (behind u c o)) in
         let times = ap (λ k. r.patience * k) dumped in
         omega (arith, enough, fulls, times)
     | inr at ↦

@@ -44,9 +44,8 @@ use Rattle.mesh_core.proofs.Changes.{queue_at-below}
 use Rattle.mesh_run.specs.Acting.{table_of}
 use Rattle.mesh_run.specs.Casting.{Pair, IsRxAt, IsTxAt}
 use Rattle.mesh_run.specs.Lending.{place_of, place_behind, has_place}
-use Rattle.mesh_run.specs.Queues.{front_of}
 use Rattle.mesh_run.specs.Routed.{taken_for, dumped_by}
-use Rattle.round_flow.specs.RoundFlow.{held_in, at_port, leaves_by, dumped_at}
+use Rattle.round_flow.specs.RoundFlow.{held_in, at_port, leaves_by}
 use Rattle.round_flow.specs.RoundFlow as round
 use Rattle.round_flow.proofs.Entered.{has_bit}
 use Rattle.round_flow.proofs.Ends.{leads, by_link, to_vertex, to_none}
@@ -166,7 +165,7 @@ module _ (r : Round) (c : Chip) (after : Pair) (t : Turn r c after) where
 
   -- A link to which a router sent by an output: what it sent, and its notes.
   pub record SentBy (o : Out) (q : Behind) (l : LinkOf r q) : Type 0 where
-    pub first : (sending l.new.tx).first ≡ front_of r.turns (held_in r.m q)
+    pub first : (sending l.new.tx).first ≡ held_in r.m q
     pub sent : (sending l.new.tx).sent ≡ sent_by o served
     pub patient : r.patience * count_by (is_dumped_at o) served ≤ length (sending l.new.tx).fulls
 

@@ -18,13 +18,10 @@ use Rattle.chip_node.specs.Routing.{last_hop, onward}
 use Rattle.mesh_core.specs.State.{Behind}
 use Rattle.mesh_run.specs.Casting.{Pair, IsTxAt}
 use Rattle.mesh_run.specs.Lending.{place_behind}
-use Rattle.mesh_run.specs.Queues.{front_of}
 use Rattle.round_flow.specs.RoundFlow.{held_in}
 use Rattle.mesh_round.proofs.Banks.{sent_here, sent_at_start}
-use Rattle.mesh_round.proofs.Fronts.{queue_balance}
 use Rattle.mesh_round.proofs.Links.{LinkOf, there, none, stands, entered_is, left_is}
 use Rattle.mesh_round.proofs.Lists.{place_in, found_or_none, number_or_none}
-use Rattle.mesh_round.proofs.Receivers.{few_left}
 use Rattle.mesh_round.proofs.Routers.{SendsOrDumps, end_is_output, few_sent_by, sent_at, served}
 use Rattle.mesh_round.proofs.TheFlow.{Round, flow_of, told}
 use Rattle.mesh_round.proofs.Turns.{Turn, turn_with}
@@ -50,9 +47,9 @@ module _ (r : Round) where
     ]
   ]
 
-  -- A link's sending end knows the front of the queue; what it sent has hop numbers that fit, and is at most one copy a turn.
+  -- A link's sending end knows the queue; what it sent has hop numbers that fit, and is at most one copy a turn.
   record Fed (q : Behind) (l : LinkOf r q) : Type 0 where
-    first : (sending l.new.tx).first ≡ front_of r.turns (held_in r.m q)
+    first : (sending l.new.tx).first ≡ held_in r.m q
     hops : All IsSmall (sending l.new.tx).sent
     few : SendsOrDumps → length (sending l.new.tx).sent ≤ r.turns
 
@@ -114,7 +111,7 @@ module _ (r : Round) where
   ]
 
   -- what a link's sending end knows to have been there first
-  pub first_is : (q : Behind) (l : LinkOf r q) → (sending l.new.tx).first ≡ front_of r.turns (held_in r.m q)
+  pub first_is : (q : Behind) (l : LinkOf r q) → (sending l.new.tx).first ≡ held_in r.m q
   first_is q l = (fed q l).first
 
   -- at most one copy a turn enters a queue
@@ -127,13 +124,8 @@ module _ (r : Round) where
   pub in_order : (q : Behind) → held_in r.m q ++ (flow_of r).entered q ≡ (flow_of r).left q ++ held_in r.n q
   in_order q = elim (stands r q) [
     | there l ↦
-        let down = l.down in
-        let entered : List McCopy = (sending l.new.tx).sent in
-        let left : List McCopy = (taking l.new.rx).took in
-        let balance : front_of r.turns (held_in r.m q) ++ entered ≡ left ++ down.held = ap (λ (a : List McCopy). a ++ entered) (sym (first_is q l)) ∙ down.all in
         ap (λ (a : List McCopy). held_in r.m q ++ a) (entered_is r q l)
-        ∙ (queue_balance r.turns (held_in r.m q) entered left down.held balance (few_left r q l)
-        ∙ ap₂ (λ (a b : List McCopy). a ++ b) (sym (left_is r q l)) (sym down.stands))
+        ∙ (ap (λ (a : List McCopy). a ++ (sending l.new.tx).sent) (sym (first_is q l)) ∙ (l.down.all ∙ ap (λ (a : List McCopy). a ++ held_in r.n q) (sym (left_is r q l))))
     | none here held after ↦
         ap₂ (λ (a b : List McCopy). a ++ b) held (ap (told (λ e. (sending e.tx).sent)) here)
         ∙ sym (ap₂ (λ (a b : List McCopy). a ++ b) (ap (told (λ e. (taking e.rx).took)) here) after)

@@ -6,7 +6,6 @@ use Rattle.link_queue.specs.declared.links.LinkEnds.{LinkEnds}
 use Rattle.link_queue.specs.Ends.{sending, taking}
 use Rattle.mesh_core.specs.State.{Setup, State, IsMesh, Behind, input, core, nowhere}
 use Rattle.mesh_run.specs.Casting.{IsPlayed, delivered_by, dumped_by}
-use Rattle.mesh_run.specs.Queues.{front_of}
 use Rattle.round_flow.specs.RoundFlow.{Flow, HasNoHand, held_in}
 use Rattle.mesh_round.specs.OnThreads.{HopsFit}
 
@@ -36,26 +35,25 @@ abbrev pub told : {X : Type 0} → (LinkEnds → List X) → Option LinkEnds →
 told f (Some e) = f e
 told f None = []
 
--- A note of Full, as the numbers of copies that had entered the queue and left it. It counts the front of the queue, and not what
--- stayed aside.
-abbrev pub moment : State → ℕ → Behind → ℕ → ℕ × ℕ
-moment m turns q x = (x - length (front_of turns (held_in m q)), x + (length (held_in m q) - length (front_of turns (held_in m q))) - m.setup.capacity)
+-- A note of Full, as the numbers of copies that had entered the queue and left it.
+abbrev pub moment : State → Behind → ℕ → ℕ × ℕ
+moment m q x = (x - length (held_in m q), x - m.setup.capacity)
 
-abbrev pub moments : State → ℕ → Behind → LinkEnds → List (ℕ × ℕ)
-moments m turns q e = map (moment m turns q) (sending e.tx).fulls
+abbrev pub moments : State → Behind → LinkEnds → List (ℕ × ℕ)
+moments m q e = map (moment m q) (sending e.tx).fulls
 
 -- The moments at which a queue was found full. Where an output leads nowhere there is never room: as many moments as all dumped
 -- copies ask for.
-abbrev pub fulls_of : ℕ → ℕ → State → List LinkEnds → List DumpRec → Behind → List (ℕ × ℕ)
-fulls_of patience turns m ends dumped (input i) = told (moments m turns (input i)) (link_at m.setup ends (input i))
-fulls_of patience turns m ends dumped (core v) = told (moments m turns (core v)) (link_at m.setup ends (core v))
-fulls_of patience turns m ends dumped nowhere = replicate (patience * length dumped) (0, 0)
+abbrev pub fulls_of : ℕ → State → List LinkEnds → List DumpRec → Behind → List (ℕ × ℕ)
+fulls_of patience m ends dumped (input i) = told (moments m (input i)) (link_at m.setup ends (input i))
+fulls_of patience m ends dumped (core v) = told (moments m (core v)) (link_at m.setup ends (core v))
+fulls_of patience m ends dumped nowhere = replicate (patience * length dumped) (0, 0)
 
 abbrev pub flow_of : Round → Flow
 flow_of r = record {
   entered = λ q. told (λ (e : LinkEnds). (sending e.tx).sent) (link_at r.m.setup r.played.back q);
   left = λ q. told (λ (e : LinkEnds). (taking e.rx).took) (link_at r.m.setup r.played.back q);
-  fulls = λ q. fulls_of r.patience r.turns r.m r.played.back (dumped_by r.played.played) q;
+  fulls = λ q. fulls_of r.patience r.m r.played.back (dumped_by r.played.played) q;
   sent = λ v. take (length (slice_index_or r.m.unsent v []) - length (slice_index_or r.n.unsent v [])) (slice_index_or r.m.unsent v []);
   delivered = delivered_by r.played.played;
   dumped = dumped_by r.played.played;

@@ -1,7 +1,5 @@
 -- What a round on threads asks of a mesh, and what it is (this project's own).
-use Rattle.std.specs.Prelude.{◌≢◌, ◌⊎◌, ℕ, ◌<◌, ◌≤◌, ◌==◌, ◌&&◌, Bool, List, [], All, length, slice_index_or}
-use Rattle.std.specs.List.{list_all}
-use Rattle.spin_base.specs.declared.copies.McCopy.{McCopy}
+use Rattle.std.specs.Prelude.{◌≢◌, ◌⊎◌, ℕ, ◌<◌, ◌≤◌, List, [], All, slice_index_or}
 use Rattle.mesh_core.specs.State.{State, Behind, IsMesh}
 use Rattle.mesh_core.specs.Step.{last_hop}
 use Rattle.round_flow.specs.RoundFlow.{Flow, held_in, HasNoHand, IsRound, HasMoved}
@@ -20,14 +18,6 @@ pub record LeadsByRound (patience turns : ℕ) (m n : State) : Type 0 where
   pub flow : Flow
   pub round : IsRound patience turns m flow n
   pub moved : 0 < turns → HasSome m → HasMoved m flow
-
--- a queue without a copy
-abbrev pub is_empty : List McCopy → Bool
-is_empty copies = length copies == 0
-
--- whether no queue holds a copy and no vertex has one that it did not send
-abbrev pub has_none : State → Bool
-has_none s = list_all is_empty s.inputs && (list_all is_empty s.cores && list_all is_empty s.unsent)
 
 -- A mesh may go on by rounds: no router has a copy in hand, and hop numbers fit.
 pub record IsReady (s : State) : Type 0 where

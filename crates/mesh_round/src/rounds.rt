@@ -1,16 +1,15 @@
 // Rounds of a mesh on threads: one, and as many as it takes.
 ghost use Rattle.std.specs.Prelude.{◌≡◌, ◌≤◌, IfErr, IfOk};
-ghost use Rattle.std.specs.List.{list_all};
 ghost use Rattle.mesh_core.specs.State.{IsMesh};
 ghost use Rattle.mesh_core.specs.Expected.{IsAtRest};
 ghost use Rattle.round_flow.specs.RoundFlow.{HasNoHand, HasRounds};
-ghost use Rattle.mesh_round.specs.OnThreads.{HopsFit, IsReady, LeadsByRound, has_none, is_empty};
+ghost use Rattle.mesh_round.specs.OnThreads.{HopsFit, IsReady, LeadsByRound};
 
 use crate::laws::a_round_on_threads_is_a_round;
 use mesh_core::{Mesh, MeshParts};
-use mesh_run::{Pace, play_parts};
+use mesh_run::{Pace, RaisedMesh, play_parts};
 use round_flow::laws::a_round_leaves_less_to_do;
-use spin_base::{Fifo, Gate, McCopy, Memory};
+use spin_base::{Gate, Memory};
 use std::alloc::Global;
 use std::sync::Wait;
 use std::thread::Threads;
@@ -110,25 +109,14 @@ pub(crate) fn run_parts<R: Threads + Wait + Sync, G: Gate>(
 {
     a_round_on_threads_is_a_round();
     a_round_leaves_less_to_do();
-    let mut parts = parts;
+    let mut raised = RaisedMesh::raise(rt, alloc, parts, pace.turns)?;
     let mut number = pace.number;
-    'rounds: while !is_at_rest(&parts) {
+    'rounds: while !raised.is_at_rest() {
         number = number.saturating_add(1);
-        parts = play_parts(rt, alloc, parts, Pace { number, ..pace }, gate)?;
+        match raised.play(rt, alloc, Pace { number, ..pace }, gate) {
+            Ok(next) => raised = next,
+            Err((last, e)) => return Err((last.lower(rt), e)),
+        }
     }
-    Ok(parts)
-}
-
-// Whether no copy waits in a queue and none is unsent.
-fn is_at_rest(parts: &MeshParts) -> bool
-    ensures { result ≡ has_none parts.now }
-{
-    are_empty(&parts.inputs) && are_empty(&parts.cores) && are_empty(&parts.unsent)
-}
-
-// Whether each queue is empty.
-fn are_empty(queues: &[Fifo<McCopy>]) -> bool
-    ensures { result ≡ list_all is_empty queues.now }
-{
-    queues.iter().all(|queue| queue.len() == 0)
+    Ok(raised.lower(rt))
 }

@@ -10,14 +10,15 @@ mod Feeding
 mod Few
 mod Going
 mod Holding
-mod Keeping
 mod LendingEnds
 mod LendingVertices
 mod Lent
 mod LiveKits
 mod Played
 mod PuttingBack
+mod Resting
 mod Routed
+mod Slots
 mod Splitting
 mod Standings
 mod WholeRound

@@ -1,5 +1,5 @@
 -- Turns of actors: the routers and banks of a mesh.
-use Rattle.std.specs.Prelude.{◌≡◌, ℕ, ◌+◌, ◌*◌, ◌<◌, ◌≤◌, List, [], length, slice_index_or}
+use Rattle.std.specs.Prelude.{◌≡◌, ◌⊎◌, ℕ, ◌+◌, ◌*◌, ◌<◌, ◌≤◌, List, [], length, slice_index_or}
 use Rattle.spin_base.specs.declared.blocks.Entry.{Entry}
 use Rattle.link_queue.specs.declared.links.Link.{Link}
 use Rattle.chip_node.specs.Ends.{IsOutEndOf}
@@ -31,3 +31,7 @@ ActorFlow tables turns (Bank a) (Bank b) = BankFlow turns a b
 pub record PlaysOn (links : List Link) (tables : List (List Entry)) (turns : ℕ) (before after : Actor) : Type 0 where
   pub flow : ActorFlow tables turns before after
   pub ready : (more : ℕ) → IsReady links tables (turns + more) before → IsReady links tables more after
+
+-- What a worker's turn of this number does to an actor: one turn, or none where it is not the first.
+abbrev pub MayPlayOn : List Link → List (List Entry) → ℕ → Actor → Actor → Type 0
+MayPlayOn links tables number before after = PlaysOn links tables 1 before after ⊎ ((0 < number) × (after ≡ before))

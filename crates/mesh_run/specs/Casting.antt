@@ -131,9 +131,10 @@ pub record PairFlow (tables : List (List Entry)) (turns : ℕ) (before after : P
   pub router : RouterFlow (table_of tables before.index) turns before.router after.router
   pub bank : BankFlow turns before.bank after.bank
 
--- A round on threads leads from one mesh to another. All queues came up as links, those of ports and then those of vertices, each
--- with its front; their ends were dealt to the pairs of all live chips; each pair had its turns; the pairs gave all ends back; and
--- the links came down to the queues. The pairs' logs are the new deliveries and dump records. Nothing else changed.
+-- A round on threads leads from one mesh to another. All queues stood as links, those of ports and then those of vertices, each with
+-- places for the turns of the round; their ends were dealt to the pairs of all live chips; each pair had its turns; the pairs gave
+-- all ends back; and what the links then held are the queues. The pairs' logs are the new deliveries and dump records. Nothing else
+-- changed.
 pub record IsPlayed (patience turns : ℕ) (m n : State) : Type 0 where
   pub setup : n.setup ≡ m.setup
   pub hands : n.hands ≡ m.hands
@@ -141,7 +142,7 @@ pub record IsPlayed (patience turns : ℕ) (m n : State) : Type 0 where
   pub cores_long : length n.cores ≡ length m.cores
   pub unsent_long : length n.unsent ≡ length m.unsent
   pub up : List LinkEnds
-  pub are_up : AreUp m.setup.capacity turns (m.inputs ++ m.cores) up
+  pub are_up : AreUp m.setup.capacity (turns + 1) (m.inputs ++ m.cores) up
   pub cast : List Pair
   pub are_cast : AreCast m.setup up m.unsent patience cast
   pub no_logs : HaveNoLogs cast
@@ -150,6 +151,6 @@ pub record IsPlayed (patience turns : ℕ) (m n : State) : Type 0 where
   pub back : List LinkEnds
   pub are_back : AreCast m.setup back n.unsent patience played
   pub left : AreLeft played up back
-  pub down : DownTo turns back (m.inputs ++ m.cores) (n.inputs ++ n.cores)
+  pub down : DownTo back (n.inputs ++ n.cores)
   pub delivered : n.delivered ≡ m.delivered ++ delivered_by played
   pub dumped : n.dumped ≡ m.dumped ++ dumped_by played

@@ -4,6 +4,7 @@ pub mod Dealing
 pub mod Lending
 pub mod Playing
 pub mod Queues
+pub mod Raised
 pub mod Routed
 pub mod Standing
 pub mod Vertices

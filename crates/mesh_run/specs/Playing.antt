@@ -1,27 +1,14 @@
--- What a round makes of the lists of a mesh.
-use Rattle.std.specs.Prelude.{◌≡◌, ℕ, List, ◌++◌, length, Option, All}
+-- What a round makes of links that are up.
+use Rattle.std.specs.Prelude.{◌≡◌, ℕ, List, ◌++◌, length, All}
 use Rattle.std.specs.List.{AllZip}
 use Rattle.spin_base.specs.declared.copies.McCopy.{McCopy}
 use Rattle.link_queue.specs.declared.links.LinkEnds.{LinkEnds}
-use Rattle.mesh_core.specs.State.{Setup, State, Held}
-use Rattle.mesh_run.specs.declared.rounds.Lists.{Lists}
+use Rattle.mesh_core.specs.State.{Setup}
 use Rattle.mesh_run.specs.declared.rounds.Logs.{Logs}
 use Rattle.mesh_run.specs.declared.standing.Standing.{Standing}
 use Rattle.mesh_run.specs.Casting.{AreCast, AreLeft, HaveNoLogs, Pair, PairFlow, delivered_by, dumped_by}
 use Rattle.mesh_run.specs.Queues.{AreEnds}
 use Rattle.mesh_run.specs.Standing.{HoldsAll}
-
--- the mesh with these lists
-abbrev pub with_lists : Setup → List (Option Held) → Lists → State
-with_lists u hands l = record {
-  setup = u;
-  unsent = l.unsent.items;
-  inputs = l.inputs.items;
-  hands = hands;
-  cores = l.cores.items;
-  delivered = l.delivered;
-  dumped = l.dumped;
-}
 
 -- What a round makes of links that are up: their ends were dealt to the pairs of all live chips, each pair had its turns, and all
 -- ends are back.

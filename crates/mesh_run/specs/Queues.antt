@@ -1,11 +1,14 @@
--- A queue brought up as a link, and brought down.
-use Rattle.std.specs.Prelude.{◌≡◌, ℕ, ◌+◌, ◌-◌, ◌<◌, ◌≤◌, min, List, [], ◌++◌, take, drop, map, length, All, slice_index_or}
+-- A queue brought up as a link, at rest between rounds, and brought down.
+use Rattle.std.specs.Prelude.{◌≡◌, ℕ, ◌+◌, ◌*◌, ◌-◌, ◌==◌, ◌<◌, ◌≤◌, Bool, min, List, [], ◌++◌, map, length, All, if◌then◌else◌, slice_index_or, slice_set}
+use Rattle.std.specs.List.{list_all}
 use Rattle.spin_base.specs.declared.copies.McCopy.{McCopy}
-use Rattle.spin_base.specs.WithRoom.{WithRoom}
 use Rattle.link_queue.specs.declared.links.LinkEnds.{LinkEnds}
 use Rattle.link_queue.specs.Ends.{IsTx, IsRx, cap_of, sending, taking}
 use Rattle.link_queue.specs.TheRule.{put_of, IsFullNote}
-use Rattle.link_queue.specs.Ups.{NoNotes}
+use Rattle.link_queue.specs.Ups.{NoNotes, Rests}
+use Rattle.mesh_run.specs.declared.queues.Rested.{Rested}
+use Rattle.mesh_run.specs.declared.standing.Standing.{Standing}
+use Rattle.mesh_run.specs.Standing.{HoldsAll}
 
 -- both are ends of the link, and there is room for all that it can hold
 pub record AreEnds (e : LinkEnds) : Type 0 where
@@ -14,58 +17,87 @@ pub record AreEnds (e : LinkEnds) : Type 0 where
   pub empty : e.room.items ≡ []
   pub spare : cap_of e.link ≤ e.room.spare
 
--- The front of a queue: no more copies than these can leave it in so many turns, since its one receiver takes at most one copy a
--- turn, and where not all copies stand in the front, one is left (this project's own).
-abbrev pub front_of : ℕ → List McCopy → List McCopy
-front_of turns queue = take (turns + 1) queue
+-- ---- places
 
--- How many copies a queue of this capacity can hold in a round of so many turns, and one more, up to the capacity: its one
--- sender sends at most one copy a turn. What stays aside, behind the front, has no place (this project's own).
-abbrev pub places_for : ℕ → ℕ → List McCopy → ℕ
-places_for cap turns queue = min cap (length queue + turns + 1) - (length queue - length (front_of turns queue))
+-- A link that holds so many copies of a queue of this capacity has places for so many more, or as many as the queue, and never
+-- more than these. With one place more than a round has turns it is full exactly when the queue is, since its one sender sends at
+-- most one copy a turn (this project's own).
+pub record HasPlaces (cap more held places : ℕ) : Type 0 where
+  pub enough : min cap (held + more) ≤ places
+  pub few : places ≤ cap
 
--- A link of a queue of this capacity, with room for what so many turns can bring, with the queue's front as its first list, and of
--- which nothing was sent, taken or noted yet.
-pub record IsUp (cap turns : ℕ) (queue : List McCopy) (e : LinkEnds) : Type 0 where
+-- how many places a link is made with: twice as many as a round can fill, up to the capacity
+abbrev pub places_for : ℕ → ℕ → ℕ → ℕ
+places_for cap turns held = min cap (2 * (held + turns + 1))
+
+-- how many places a link has left, and as good as endless ones where it has as many as its queue
+abbrev pub free_of : ℕ → ℕ → ℕ → ℕ
+free_of cap places held = if places == cap then 18446744073709551615 else places - held
+
+-- A link of a queue of this capacity, with places for so many copies more, with the whole queue as its first list, and of which
+-- nothing was sent, taken or noted yet.
+pub record IsUp (cap more : ℕ) (queue : List McCopy) (e : LinkEnds) : Type 0 where
   pub ends : AreEnds e
-  pub holds : cap_of e.link ≡ places_for cap turns queue
-  pub tx_new : NoNotes (front_of turns queue) (sending e.tx)
-  pub rx_new : NoNotes (front_of turns queue) (taking e.rx)
+  pub holds : HasPlaces cap more (length queue) (cap_of e.link)
+  pub tx_new : NoNotes queue (sending e.tx)
+  pub rx_new : NoNotes queue (taking e.rx)
 
 -- a link for each queue, at the same places
-pub record AreUp (cap turns : ℕ) (queues : List (List McCopy)) (ends : List LinkEnds) : Type 0 where
+pub record AreUp (cap more : ℕ) (queues : List (List McCopy)) (ends : List LinkEnds) : Type 0 where
   pub long : length ends ≡ length queues
-  pub each : (i : ℕ) (q : List McCopy) (e : LinkEnds) → i < length queues → IsUp cap turns (slice_index_or queues i q) (slice_index_or ends i e)
+  pub each : (i : ℕ) (q : List McCopy) (e : LinkEnds) → i < length queues → IsUp cap more (slice_index_or queues i q) (slice_index_or ends i e)
 
--- the list of a queue beside its link has room for as many copies as the link can hold
-abbrev pub HasRoom : ℕ → ℕ → WithRoom McCopy → Type 0
-HasRoom cap turns kept = places_for cap turns kept.items ≤ kept.spare
+-- ---- after a round
 
--- the lists of queues, each with room for as many copies as its link can hold
-pub record AreKept (cap turns : ℕ) (queues : List (List McCopy)) (kept : List (WithRoom McCopy)) : Type 0 where
-  pub lists : map (λ (k : WithRoom McCopy). k.items) kept ≡ queues
-  pub room : All (HasRoom cap turns) kept
-
--- beside each link stands a list with room for all that it can hold
-pub record HaveRoom (ends : List LinkEnds) (kept : List (WithRoom McCopy)) : Type 0 where
-  pub long : length ends ≡ length kept
-  pub each : (i : ℕ) (e : LinkEnds) (k : WithRoom McCopy) → i < length ends → cap_of (slice_index_or ends i e).link ≤ (slice_index_or kept i k).spare
-
--- What a queue holds after its link came down. Of the copies that the link still held, front first, those behind what is left of
--- the front were sent: they stand behind all others, and of the front as many copies are gone as were taken.
-abbrev pub after_link : ℕ → ℕ → List McCopy → List McCopy → List McCopy
-after_link turns took queue held = drop (min took (length (front_of turns queue))) (queue ++ drop (length (front_of turns queue) - took) held)
-
--- What a link's ends tell of the copies that it still held: the first list and then what was sent is what was taken and then
--- these, at most as many as it can hold, and each note of Full fits. The queue then holds what its copies before and these tell.
-pub record IsDown (turns : ℕ) (e : LinkEnds) (before after : List McCopy) : Type 0 where
-  pub held : List McCopy
-  pub all : (sending e.tx).first ++ (sending e.tx).sent ≡ (taking e.rx).took ++ held
-  pub bound : length held ≤ cap_of e.link
+-- What a link's ends tell of the copies that it holds: the first list and then what was sent is what was taken and then these, at
+-- most as many as it can hold, and each note of Full fits.
+pub record IsDown (e : LinkEnds) (after : List McCopy) : Type 0 where
+  pub all : (sending e.tx).first ++ (sending e.tx).sent ≡ (taking e.rx).took ++ after
+  pub bound : length after ≤ cap_of e.link
   pub noted : All (IsFullNote (cap_of e.link) (put_of (sending e.tx)) (taking e.rx).took) (sending e.tx).fulls
-  pub stands : after ≡ after_link turns (length (taking e.rx).took) before held
 
--- at the places of these links stands what is left of the queues before, with what was sent
-abbrev pub DownTo : ℕ → List LinkEnds → List (List McCopy) → List (List McCopy) → Type 0
-DownTo turns ends before after =
-    (i : ℕ) (e : LinkEnds) (p q : List McCopy) → i < length ends → IsDown turns (slice_index_or ends i e) (slice_index_or before i p) (slice_index_or after i q)
+-- at the places of these links stands what they hold
+abbrev pub DownTo : List LinkEnds → List (List McCopy) → Type 0
+DownTo ends after = (i : ℕ) (e : LinkEnds) (q : List McCopy) → i < length ends → IsDown (slice_index_or ends i e) (slice_index_or after i q)
+
+-- the queue of which a link's ends know that it was there first
+abbrev pub queue_of : LinkEnds → List McCopy
+queue_of e = (sending e.tx).first
+
+-- whether a queue holds no copy
+abbrev pub is_empty : List McCopy → Bool
+is_empty copies = length copies == 0
+
+-- a link that was up and has no more places than its queue
+pub record WasUp (cap : ℕ) (e : LinkEnds) : Type 0 where
+  pub ends : AreEnds e
+  pub few : cap_of e.link ≤ cap
+
+-- the link at a place rests, and holds so many copies
+pub record RestsAt (ends : List LinkEnds) (place : ℕ) (old : LinkEnds) (after : Standing) (held : ℕ) : Type 0 where
+  pub now : LinkEnds
+  pub holds : HoldsAll (slice_set ends place now) after
+  pub link : now.link ≡ old.link
+  pub ends_are : AreEnds now
+  pub rests : Rests (cap_of old.link) (sending old.tx) (taking old.rx) (sending now.tx) (taking now.rx) held
+
+-- all links rest, each with what it holds
+pub record RestAll (cap : ℕ) (before : List LinkEnds) (after : Standing) (rested : Rested) : Type 0 where
+  pub now : List LinkEnds
+  pub holds : HoldsAll now after
+  pub long : length now ≡ length before
+  pub up : AreUp cap rested.free (map queue_of now) now
+  pub down : DownTo before (map queue_of now)
+  pub quiet : rested.quiet ≡ list_all is_empty (map queue_of now)
+
+-- a link at a place of which the queue is the same, with places for so many copies more
+pub record UpAt (cap more : ℕ) (ends : List LinkEnds) (place : ℕ) (queue : List McCopy) (after : Standing) : Type 0 where
+  pub now : LinkEnds
+  pub holds : HoldsAll (slice_set ends place now) after
+  pub up : IsUp cap more queue now
+
+-- links with the same queues, and with places for so many copies more
+pub record StayUp (cap more : ℕ) (before : List LinkEnds) (after : Standing) : Type 0 where
+  pub now : List LinkEnds
+  pub holds : HoldsAll now after
+  pub up : AreUp cap more (map queue_of before) now

@@ -1,5 +1,5 @@
 -- What contracts see of links whose ends may be lent.
-use Rattle.std.specs.Prelude.{◌≡◌, ℕ, ◌≤◌, List, map, Some}
+use Rattle.std.specs.Prelude.{◌≡◌, ℕ, ◌≤◌, List, map, None, Some, slice_set}
 use Rattle.link_queue.specs.declared.links.LinkEnds.{LinkEnds}
 use Rattle.mesh_run.specs.declared.standing.Rising.{Rising}
 use Rattle.mesh_run.specs.declared.standing.Standing.{Standing}
@@ -20,4 +20,11 @@ pub record HoldsAll (ends : List LinkEnds) (s : Standing) : Type 0 where
   pub links : s.links.items ≡ map (λ (e : LinkEnds). e.link) ends
   pub txs : s.txs.items ≡ map (λ (e : LinkEnds). Some e.tx) ends
   pub rxs : s.rxs.items ≡ map (λ (e : LinkEnds). Some e.rx) ends
+  pub rooms : s.rooms.items ≡ map (λ (e : LinkEnds). e.room) ends
+
+-- the links with all their ends, but for those at one place
+pub record LacksEnds (ends : List LinkEnds) (place : ℕ) (s : Standing) : Type 0 where
+  pub links : s.links.items ≡ map (λ (e : LinkEnds). e.link) ends
+  pub txs : s.txs.items ≡ slice_set (map (λ (e : LinkEnds). Some e.tx) ends) place None
+  pub rxs : s.rxs.items ≡ slice_set (map (λ (e : LinkEnds). Some e.rx) ends) place None
   pub rooms : s.rooms.items ≡ map (λ (e : LinkEnds). e.room) ends

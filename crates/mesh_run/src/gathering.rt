@@ -2,17 +2,17 @@
 ghost use Rattle.std.specs.Prelude.{◌≡◌, ℕ, ◌<◌, ◌≤◌, ◌+◌, ◌++◌, List, All, OnErr, OnOk, IfOk, length};
 ghost use Rattle.link_queue.specs.declared.links.LinkEnds.{LinkEnds};
 ghost use Rattle.mesh_run.specs.Standing.{HoldsAll};
-ghost use Rattle.mesh_run.specs.Queues.{AreUp, AreKept};
+ghost use Rattle.mesh_run.specs.Queues.{AreUp};
 
-use crate::queues::{Raised, bring_up};
-use crate::standing::last_of;
+use crate::queues::bring_up;
+use crate::standing::{Standing, last_of};
 use spin_base::{Fifo, McCopy, Memory};
 use std::alloc::Global;
 use std::mem;
 use std::sync::Wait;
 
-/// A link for each queue, those of ports and then those of vertices, for a round of so many turns, and in `inputs` a place for
-/// each of them. After a refusal the queues are as before.
+/// A link for each queue, those of ports and then those of vertices, with places for a round of so many turns, and in `inputs` a
+/// place for each of them. After a refusal the queues are as before.
 pub(crate) fn links_of<R: Wait>(
     rt: &R,
     alloc: Global,
@@ -20,20 +20,22 @@ pub(crate) fn links_of<R: Wait>(
     cores: &mut Vec<Fifo<McCopy>>,
     cap: u32,
     turns: u32,
-) -> Result<Raised, Memory>
+) -> Result<Standing, Memory>
     requires some { 0 < cap }
     requires inputs_fit { All (λ q. length q ≤ cap) inputs.old.items }
     requires cores_fit { All (λ q. length q ≤ cap) cores.old.items }
     ensures cores_long { length cores.new.items ≡ length cores.old.items }
     ensures long { OnOk result (length inputs.new.items ≡ length inputs.old.items + length cores.old.items) }
-    ensures up { IfOk result (λ r. (ends : List LinkEnds) × HoldsAll ends r.standing × AreUp cap turns (inputs.old.items ++ cores.old.items) ends) }
-    ensures kept { IfOk result (λ r. AreKept cap turns (inputs.old.items ++ cores.old.items) r.kept.items) }
+    ensures up { IfOk result (λ s. (ends : List LinkEnds) × HoldsAll ends s × AreUp cap (turns + 1) (inputs.old.items ++ cores.old.items) ends) }
     ensures inputs_back { OnErr result (inputs.new.items ≡ inputs.old.items) }
     ensures cores_back { OnErr result (cores.new.items ≡ cores.old.items) }
 {
     gather(alloc, inputs, cores)?;
     match bring_up(rt, alloc, inputs, cap, turns) {
-        Ok(raised) => Ok(raised),
+        Ok(standing) => {
+            forget(alloc, inputs);
+            Ok(standing)
+        }
         Err(e) => {
             scatter(inputs, cores);
             Err(e)
@@ -57,6 +59,15 @@ fn gather(
         inputs.push_reserved(mem::replace(&mut cores[vertex], Fifo::new(alloc)));
     }
     Ok(())
+}
+
+// Gives the memory of all queues back, whose copies are in their links.
+fn forget(alloc: Global, queues: &mut Vec<Fifo<McCopy>>)
+    ensures { length queues.new.items ≡ length queues.old.items }
+{
+    for place in 0..queues.len() {
+        queues[place] = Fifo::new(alloc);
+    }
 }
 
 /// The queues of vertices, which stand last, in their own list again.

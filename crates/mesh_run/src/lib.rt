@@ -11,13 +11,15 @@ mod kits;
 pub mod laws;
 mod lending;
 mod queues;
+mod raised;
 mod returning;
 mod rounds;
 mod shares;
 mod standing;
+mod waking;
 
 pub use actors::Actor;
-pub use queues::{Raised, bring_down, bring_up};
+pub use raised::RaisedMesh;
 pub use rounds::{Pace, play_parts};
 pub use shares::play;
 pub use standing::Standing;

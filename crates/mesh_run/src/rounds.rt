@@ -1,24 +1,23 @@
 // One round of a mesh on threads.
-ghost use Rattle.std.specs.Prelude.{◌≡◌, ℕ, ◌+◌, ◌*◌, ◌<◌, ◌≤◌, ◌++◌, [], List, All, IfErr, IfOk, Option, length};
+ghost use Rattle.std.specs.Prelude.{◌≡◌, ℕ, ◌+◌, ◌*◌, ◌<◌, ◌≤◌, ◌++◌, [], List, All, IfErr, IfOk, length};
 ghost use Rattle.std.specs.List.{AllZip};
 ghost use Rattle.link_queue.specs.declared.links.LinkEnds.{LinkEnds};
-ghost use Rattle.mesh_core.specs.State.{Held, IsMesh};
+ghost use Rattle.mesh_core.specs.State.{IsMesh};
 ghost use Rattle.mesh_run.specs.Casting.{IsPlayed, live_chips};
 ghost use Rattle.mesh_run.specs.Dealing.{HasLogs, IsKitOf};
 ghost use Rattle.mesh_run.specs.Lending.{IsSetup, vertex_place};
-ghost use Rattle.mesh_run.specs.Playing.{IsPlayedOn, with_lists};
+ghost use Rattle.mesh_run.specs.Playing.{IsPlayedOn};
 ghost use Rattle.mesh_run.specs.Standing.{HoldsAll};
 ghost use Rattle.mesh_run.specs.Queues.{AreEnds};
 
 use crate::actors::Actor;
 use crate::casting::cast;
-use crate::gathering::{links_of, scatter};
-use crate::kits::{Kit, live_kits};
-use crate::queues::bring_down;
+use crate::kits::Kit;
+use crate::raised::RaisedMesh;
 use crate::returning::dismiss;
 use crate::shares::play;
-use crate::standing::{Standing, room_for};
-use mesh_core::{Hand, MeshParts, MeshSetup};
+use crate::standing::Standing;
+use mesh_core::{MeshParts, MeshSetup};
 use spin_base::{Delivery, DumpRec, Fifo, Gate, McCopy, Memory, Room, Seq};
 use std::alloc::Global;
 use std::sync::Wait;
@@ -32,16 +31,6 @@ pub struct Pace {
     pub workers: u32,
     pub turns: u32,
     pub number: u32,
-}
-
-/// The lists of a mesh that a round changes.
-#[derive(Drop)]
-pub(crate) struct Lists {
-    pub unsent: Vec<Fifo<McCopy>>,
-    pub inputs: Vec<Fifo<McCopy>>,
-    pub cores: Vec<Fifo<McCopy>>,
-    pub delivered: Seq<Delivery>,
-    pub dumped: Fifo<DumpRec>,
 }
 
 /// The lists of deliveries and of dump records, with room for those of a round.
@@ -66,125 +55,16 @@ pub fn play_parts<R: Threads + Wait + Sync, G: Gate>(
     ensures played { IfOk result (IsPlayed pace.patience pace.turns parts) }
     ensures back { IfErr result (λ b. b.0 ≡ parts) }
 {
-    let MeshParts {
-        setup,
-        unsent,
-        inputs,
-        hands,
-        cores,
-        delivered,
-        dumped,
-    } = parts;
-    let lists = Lists {
-        unsent,
-        inputs,
-        cores,
-        delivered,
-        dumped,
-    };
-    match play_lists(rt, alloc, &setup, lists, pace, gate) {
-        Ok(lists) => Ok(lists.with(setup, hands)),
-        Err((lists, e)) => Err((lists.with(setup, hands), e)),
-    }
-}
-
-impl Lists {
-    // The parts of a mesh with these lists.
-    fn with(self, setup: MeshSetup, hands: Vec<Option<Hand>>) -> MeshParts
-        ensures { result ≡ with_lists setup hands.items self }
-    {
-        let Lists {
-            unsent,
-            inputs,
-            cores,
-            delivered,
-            dumped,
-        } = self;
-        MeshParts {
-            setup,
-            unsent,
-            inputs,
-            hands,
-            cores,
-            delivered,
-            dumped,
-        }
-    }
-}
-
-// One round on the lists of a mesh.
-fn play_lists<R: Threads + Wait + Sync, G: Gate>(
-    rt: &R,
-    alloc: Global,
-    setup: &MeshSetup,
-    lists: Lists,
-    pace: Pace,
-    gate: &G,
-) -> Result<Lists, (Lists, Memory)>
-    requires mesh { (hands : List (Option Held)) × IsMesh (with_lists setup.now hands lists) }
-    requires patient { 1 ≤ pace.patience }
-    requires workers { 1 ≤ pace.workers }
-    ensures played { IfOk result (λ l. (hands : List (Option Held)) → IsPlayed pace.patience pace.turns (with_lists setup.now hands lists) (with_lists setup.now hands l)) }
-    ensures back { IfErr result (λ b. (hands : List (Option Held)) → with_lists setup.now hands b.0 ≡ with_lists setup.now hands lists) }
-{
-    let Ok(kits) = live_kits(alloc, setup.machine(), pace.turns) else {
-        return Err((lists, Memory));
-    };
-    let Ok(actors) = room_for(alloc, 2 * kits.len()) else {
-        return Err((lists, Memory));
-    };
-    let Lists {
-        mut unsent,
-        mut inputs,
-        mut cores,
-        delivered,
-        dumped,
-    } = lists;
-    let mut logs = match Logs::over(delivered, dumped, kits.len(), pace.turns) {
-        Ok(logs) => logs,
-        Err((delivered, dumped)) => {
-            let lists = Lists {
-                unsent,
-                inputs,
-                cores,
-                delivered,
-                dumped,
-            };
-            return Err((lists, Memory));
-        }
-    };
-    match links_of(
-        rt,
-        alloc,
-        &mut inputs,
-        &mut cores,
-        setup.capacity(),
-        pace.turns,
-    ) {
-        Ok(mut raised) => {
-            play_links(
-                rt,
-                alloc,
-                setup,
-                kits,
-                actors,
-                &mut raised.standing,
-                &mut unsent,
-                &mut logs,
-                pace,
-                gate,
-            );
-            bring_down(rt, raised, pace.turns, &mut inputs);
-            scatter(&mut inputs, &mut cores);
-            Ok(logs.with(unsent, inputs, cores))
-        }
-        Err(e) => Err((logs.with(unsent, inputs, cores), e)),
+    let raised = RaisedMesh::raise(rt, alloc, parts, pace.turns)?;
+    match raised.play(rt, alloc, pace, gate) {
+        Ok(raised) => Ok(raised.lower(rt)),
+        Err((raised, e)) => Err((raised.lower(rt), e)),
     }
 }
 
 impl Logs {
     // The lists with room for so many turns of so many chips. A refusal hands them back.
-    fn over(
+    pub(crate) fn over(
         delivered: Seq<Delivery>,
         dumped: Fifo<DumpRec>,
         chips: usize,
@@ -205,32 +85,18 @@ impl Logs {
         }
     }
 
-    // The lists of a mesh with these and others.
-    fn with(
-        self,
-        unsent: Vec<Fifo<McCopy>>,
-        inputs: Vec<Fifo<McCopy>>,
-        cores: Vec<Fifo<McCopy>>,
-    ) -> Lists
-        ensures unsent { result.unsent ≡ unsent }
-        ensures inputs { result.inputs ≡ inputs }
-        ensures cores { result.cores ≡ cores }
-        ensures delivered { result.delivered ≡ self.delivered.items }
-        ensures dumped { result.dumped ≡ self.dumped.items }
+    // The lists.
+    pub(crate) fn into_lists(self) -> (Seq<Delivery>, Fifo<DumpRec>)
+        ensures delivered { result.0 ≡ self.delivered.items }
+        ensures dumped { result.1 ≡ self.dumped.items }
     {
         let Logs { delivered, dumped } = self;
-        Lists {
-            unsent,
-            inputs,
-            cores,
-            delivered: delivered.into_seq(),
-            dumped: Fifo::from_seq(dumped.into_seq()),
-        }
+        (delivered.into_seq(), Fifo::from_seq(dumped.into_seq()))
     }
 }
 
 // One round on links that are up.
-fn play_links<R: Threads + Wait + Sync, G: Gate>(
+pub(crate) fn play_links<R: Threads + Wait + Sync, G: Gate>(
     rt: &R,
     alloc: Global,
     setup: &MeshSetup,

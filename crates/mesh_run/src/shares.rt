@@ -1,9 +1,10 @@
 // The turns of all actors, by workers.
 ghost use Rattle.std.specs.Prelude.{◌≡◌, ℕ, ◌<◌, ◌≤◌, ◌^◌, All, length, slice_index_or};
 ghost use Rattle.mesh_run.specs.declared.actors.Actor.{Actor};
-ghost use Rattle.mesh_run.specs.Acting.{IsReady, PlaysOn};
+ghost use Rattle.mesh_run.specs.Acting.{IsReady, MayPlayOn, PlaysOn};
 
-use crate::actors::Actor;
+use crate::actors::{Actor, Did};
+use crate::waking::{Awake, Seats};
 use link_queue::Link;
 use spin_base::Gate;
 use std::sync::Wait;
@@ -11,7 +12,7 @@ use std::thread;
 use std::thread::Threads;
 use tcam_find::Tcam;
 
-/// Gives each actor so many turns. The actors are cut in `workers` runs of equal length, the last shorter, one for each
+/// Gives each actor so many turns, of which those in which it is asleep are none. The actors are cut in `workers` runs of equal length, the last shorter, one for each
 /// worker. Each worker enters the gate in phase `phase` before each turn of its actors, and once more after the last.
 pub fn play<R: Threads + Wait + Sync, G: Gate>(
     rt: &R,
@@ -30,6 +31,7 @@ pub fn play<R: Threads + Wait + Sync, G: Gate>(
     ensures each { (i : ℕ) (d : Actor) → i < length actors.old.items → PlaysOn links.now tables.now turns (slice_index_or actors.old.items i d) (slice_index_or actors.new.items i d) }
 {
     let size = actors.len().div_ceil(workers as usize).max(1);
+    let seats = Seats::of(actors.as_slice(), tables.len(), size);
     thread::for_each_chunk_mut(
         rt,
         actors.as_mut_slice(),
@@ -42,7 +44,9 @@ pub fn play<R: Threads + Wait + Sync, G: Gate>(
                 rt,
                 links,
                 tables,
+                &seats,
                 part,
+                start,
                 (start / size) as u32,
                 turns,
                 phase,
@@ -57,7 +61,9 @@ fn play_share<R: Wait, G: Gate>(
     rt: &R,
     links: &[Link],
     tables: &[Tcam],
+    seats: &Seats,
     part: &mut [Actor],
+    start: usize,
     worker: u32,
     turns: u32,
     phase: u32,
@@ -66,19 +72,48 @@ fn play_share<R: Wait, G: Gate>(
     requires { All (IsReady links.now tables.now turns) part.old }
     ensures { (k : ℕ) (d : Actor) → k < length part.old → PlaysOn links.now tables.now turns (slice_index_or part.old k d) (slice_index_or part.new k d) }
 {
+    let mut awake = Awake::all(start);
     for step in 0..turns {
         gate.enter(phase, worker, step);
-        turn_each(rt, links, tables, part);
+        turn_each(rt, links, tables, seats, part, step, &mut awake);
     }
     gate.enter(phase, worker, turns);
 }
 
-// One turn of each actor.
-fn turn_each<R: Wait>(rt: &R, links: &[Link], tables: &[Tcam], part: &mut [Actor])
+// One turn of each actor that is awake.
+fn turn_each<R: Wait>(
+    rt: &R,
+    links: &[Link],
+    tables: &[Tcam],
+    seats: &Seats,
+    part: &mut [Actor],
+    number: u32,
+    awake: &mut Awake,
+)
     requires { All (IsReady links.now tables.now 1) part.old }
-    ensures { (k : ℕ) (d : Actor) → k < length part.old → PlaysOn links.now tables.now 1 (slice_index_or part.old k d) (slice_index_or part.new k d) }
+    ensures { (k : ℕ) (d : Actor) → k < length part.old → MayPlayOn links.now tables.now number (slice_index_or part.old k d) (slice_index_or part.new k d) }
 {
     for k in 0..part.len() {
-        part[k].turn(rt, links, tables);
+        let did = turn_one(rt, links, tables, &mut part[k], number, awake.has(k));
+        awake.note(seats, k, &part[k], did);
+    }
+}
+
+// The turn of an actor, where it is awake. Each has the first turn of a round.
+fn turn_one<R: Wait>(
+    rt: &R,
+    links: &[Link],
+    tables: &[Tcam],
+    actor: &mut Actor,
+    number: u32,
+    awake: bool,
+) -> Did
+    requires { IsReady links.now tables.now 1 actor.old }
+    ensures { MayPlayOn links.now tables.now number actor.old actor.new }
+{
+    if number == 0 || awake {
+        actor.turn(rt, links, tables, number)
+    } else {
+        Did::Slept
     }
 }

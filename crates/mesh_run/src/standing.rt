@@ -1,7 +1,7 @@
 // Links with their ends, of which some may be lent.
-ghost use Rattle.std.specs.Prelude.{◌≡◌, ℕ, ◌+◌, ◌≤◌, ◌++◌, [], ◌∷◌, List, IfOk, IsSome};
+ghost use Rattle.std.specs.Prelude.{◌≡◌, ℕ, ◌+◌, ◌<◌, ◌≤◌, ◌++◌, [], ◌∷◌, List, IfOk, IsSome, None, Some, length, slice_get, slice_set};
 ghost use Rattle.link_queue.specs.declared.links.LinkEnds.{LinkEnds};
-ghost use Rattle.mesh_run.specs.Standing.{RisenTo, HoldsAll};
+ghost use Rattle.mesh_run.specs.Standing.{RisenTo, HoldsAll, LacksEnds};
 
 use link_queue::{Link, LinkEnds, Rx, Tx};
 use spin_base::{McCopy, Memory, Room, Seq};
@@ -84,6 +84,48 @@ impl Standing {
         let rx = present(last_of(&mut self.rxs));
         let room = last_of(&mut self.rooms);
         LinkEnds { link, tx, rx, room }
+    }
+
+    /// Both ends of the link at a place leave.
+    pub(crate) fn take_ends(&mut self, place: usize) -> (Tx, Rx)
+        requires { (ends : List LinkEnds) × (old : LinkEnds) × HoldsAll ends self.old × (slice_get ends place ≡ Some old) }
+        ensures ends { (ends : List LinkEnds) (old : LinkEnds) → HoldsAll ends self.old → slice_get ends place ≡ Some old → (result.0 ≡ old.tx) × (result.1 ≡ old.rx) }
+        ensures left { (ends : List LinkEnds) → HoldsAll ends self.old → LacksEnds ends place self.new }
+    {
+        (take_at(&mut self.txs, place), take_at(&mut self.rxs, place))
+    }
+
+    /// Both ends of the link at a place are there.
+    pub(crate) fn put_ends(&mut self, place: usize, tx: Tx, rx: Rx)
+        requires { (ends : List LinkEnds) × LacksEnds ends place self.old × (place < length ends) }
+        ensures { (ends : List LinkEnds) (old : LinkEnds) → LacksEnds ends place self.old → slice_get ends place ≡ Some old → HoldsAll (slice_set ends place (record old { tx = tx; rx = rx })) self.new }
+    {
+        self.txs[place] = Some(tx);
+        self.rxs[place] = Some(rx);
+    }
+
+    /// Another link stands at a place, with its ends.
+    pub(crate) fn set(&mut self, place: usize, ends: LinkEnds)
+        requires { (before : List LinkEnds) × LacksEnds before place self.old × (place < length before) }
+        ensures { (before : List LinkEnds) → LacksEnds before place self.old → HoldsAll (slice_set before place ends) self.new }
+    {
+        let LinkEnds { link, tx, rx, room } = ends;
+        self.links[place] = link;
+        self.txs[place] = Some(tx);
+        self.rxs[place] = Some(rx);
+        self.rooms[place] = room;
+    }
+}
+
+// The end at a place leaves.
+fn take_at<T>(slots: &mut Vec<Option<T>>, place: usize) -> T
+    requires { (x : T) × (slice_get slots.old.items place ≡ Some (Some x)) }
+    ensures stood { slice_get slots.old.items place ≡ Some (Some result) }
+    ensures left { slots.new.items ≡ slice_set slots.old.items place None }
+{
+    match slots[place].take() {
+        Some(x) => x,
+        None => unreachable!(),
     }
 }
 

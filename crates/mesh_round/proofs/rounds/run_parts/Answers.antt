@@ -1,18 +1,30 @@
 -- Each round moves a copy, so less is to be done, until the mesh is at rest.
-use Rattle.std.proofs.Common.{arith, sym}
-use Rattle.round_flow.specs.RoundFlow.{none, more}
+use Rattle.std.proofs.Common.{rules, ◌≡◌, ◌∙◌, arith, sym, subst}
+use Rattle.std.specs.Prelude.{IfErr}
+use Rattle.std.proofs.lemmas.Result.{IfErr-weaker}
+use Rattle.mesh_core.specs.State.{State}
+use Rattle.mesh_core.specs.Expected.{IsAtRest}
+use Rattle.round_flow.specs.RoundFlow.{HasRounds, none, more}
+use Rattle.mesh_run.specs.Raised.{mesh_of}
+use Rattle.mesh_round.specs.OnThreads.{IsReady}
 use Rattle.mesh_round.proofs.Resting.{rests, has_some}
 use Rattle.mesh_round.proofs.rounds.run_parts.Goals as goal
 
 pub rounds-init : goal.rounds-init
-rounds-init g c = record { rounds = none; ready = c.requires.ready }
+rounds-init g c =
+    let same = sym c.in_ok-raised.ensures.same in
+    record {
+      raised = c.in_ok-raised.ensures.raised;
+      rounds = subst (λ (s : State). HasRounds c.args.pace.patience c.args.pace.turns c.args.parts s) same none;
+      ready = subst IsReady same c.requires.ready;
+    }
 
 pub rounds-smaller : goal.rounds-smaller
 rounds-smaller g c =
-    let m = c.rounds.parts in
-    let n = c.in_ok-parts.parts in
+    let m = mesh_of c.rounds.raised in
+    let n = mesh_of c.in-Ok.next in
     let was = c.rounds.invariant.ready in
-    let played = c.in_ok-parts.ensures.played in
+    let played = c.in-Ok.ensures.played in
     let lead = c.a_round_on_threads_is_a_round.ensures.round c.args.pace.patience c.args.pace.turns m n was.mesh was.no_hand was.hops played in
     let after = c.a_round_on_threads_is_a_round.ensures.mesh c.args.pace.patience c.args.pace.turns m n was.mesh was.no_hand was.hops played in
     let turns = c.requires.turns in
@@ -21,14 +33,15 @@ rounds-smaller g c =
 
 pub rounds-preserved : goal.rounds-preserved
 rounds-preserved g c =
-    let m = c.rounds.parts in
-    let n = c.in_ok-parts.parts in
+    let m = mesh_of c.rounds.raised in
+    let n = mesh_of c.in-Ok.next in
     let was = c.rounds.invariant.ready in
-    let played = c.in_ok-parts.ensures.played in
+    let played = c.in-Ok.ensures.played in
     let law = c.a_round_on_threads_is_a_round.ensures in
     let lead = law.round c.args.pace.patience c.args.pace.turns m n was.mesh was.no_hand was.hops played in
     let after = law.mesh c.args.pace.patience c.args.pace.turns m n was.mesh was.no_hand was.hops played in
     record {
+      raised = c.in-Ok.ensures.raised;
       rounds = more lead.flow m n c.rounds.invariant.rounds after lead.round;
       ready = record {
         mesh = after;
@@ -37,5 +50,12 @@ rounds-preserved g c =
       };
     }
 
+pub returns-in_err-raised-clause-refused : goal.returns-in_err-raised-clause-refused
+returns-in_err-raised-clause-refused g c =
+    let was : IfErr c.from_residual.result (λ b. b.0 ≡ c.args.parts) = search rules in
+    IfErr-weaker c.from_residual.result (λ b. b.0 ≡ c.args.parts) (λ b. HasRounds c.args.pace.patience c.args.pace.turns c.args.parts b.0)
+    (λ b same. subst (λ (s : State). HasRounds c.args.pace.patience c.args.pace.turns c.args.parts s) (sym same) none) was
+
 pub returns-clause-at_rest : goal.returns-clause-at_rest
-returns-clause-at_rest g c = rests c.rounds.parts (sym c.rounds-test.ensures) c.rounds.invariant.ready.no_hand
+returns-clause-at_rest g c =
+    subst IsAtRest (sym c.lower-2.ensures) (rests (mesh_of c.rounds.raised) (sym c.rounds-test.ensures) c.rounds.invariant.ready.no_hand)

@@ -2,13 +2,12 @@ use Rattle.std.proofs.Common.{◌≡◌, ◌≤◌, List, length}
 use Rattle.std.specs.List.{All}
 use Rattle.link_queue.specs.declared.links.LinkEnds.{LinkEnds}
 use Rattle.mesh_run.specs.Standing.{HoldsAll}
-use Rattle.mesh_run.specs.Queues.{AreEnds, HaveRoom}
+use Rattle.mesh_run.specs.Queues.{AreEnds}
 use Rattle.mesh_run.proofs.Holding.{DownFrom}
 use Rattle.mesh_run.proofs.queues.bring_down.Given as goal
 
 -- the last links are down
 abbrev pub invariant-loop-gone : goal.invariant-loop-gone
 invariant-loop-gone g l =
-    (all : List LinkEnds) × HoldsAll all l.fn.raised.standing × All AreEnds all × HaveRoom all l.fn.raised.kept.items
-    × (length l.fn.raised.kept.items ≤ length l.fn.queues.items) × (l.count ≡ length all)
-    × DownFrom l.turns all l.fn.raised.kept.items l.gone l.standing l.kept.items l.fn.queues.items l.queues.items
+    (all : List LinkEnds) × HoldsAll all l.fn.standing × All AreEnds all × (length all ≤ length l.fn.queues.items) × (l.count ≡ length all)
+    × DownFrom all l.gone l.standing l.fn.queues.items l.queues.items

@@ -1,7 +1,7 @@
-use Rattle.mesh_run.specs.Acting.{PlaysOn}
+use Rattle.mesh_run.specs.Acting.{MayPlayOn}
 use Rattle.mesh_run.proofs.Going.{GoneTo}
 use Rattle.mesh_run.proofs.shares.turn_each.Given as goal
 
 -- the actors before place k have had their turn
 abbrev pub invariant-loop-k : goal.invariant-loop-k
-invariant-loop-k g l = GoneTo (PlaysOn l.links l.tables 1) l.fn.part l.part l.k
+invariant-loop-k g l = GoneTo (MayPlayOn l.links l.tables l.number) l.fn.part l.part l.k

@@ -6,18 +6,18 @@ use Rattle.chip_node.proofs.banks.CoreBank.turn.Goals as goal
 
 pub returns-clause-flow : goal.returns-clause-flow
 returns-clause-flow g c =
-    bank_turn_flow c.args.self.now c.send.new.self c.collect.new.self (send_part c.args.self.now c.send.new.self c.args.self.now.differ c.send.ensures.offers c.send.ensures.log)
-    (collect_part c.send.new.self c.collect.new.self c.collect.ensures.collects c.collect.ensures.inject)
+    bank_turn_flow c.args.self.now c.send-offered.new.self c.collect-collected.new.self (send_part c.args.self.now c.send-offered.new.self c.args.self.now.differ c.send-offered.ensures.offers c.send-offered.ensures.log)
+    (collect_part c.send-offered.new.self c.collect-collected.new.self c.collect-collected.ensures.collects c.collect-collected.ensures.inject)
 
 pub returns-clause-offers : goal.returns-clause-offers
 returns-clause-offers g c =
     let vs = c.args.self.now.vertices.items in
-    let one = offers_one c.args.self.now.inject c.send.new.self.inject vs c.send.new.self.vertices.items c.send.ensures.offers in
-    subst (λ e. OffersOne (sending c.args.self.now.inject.tx) (sending e.tx) (unsent_of vs) (unsent_of c.collect.new.self.vertices.items)) (sym c.collect.ensures.inject)
-    (subst (λ l. OffersOne (sending c.args.self.now.inject.tx) (sending c.send.new.self.inject.tx) (unsent_of vs) l) (sym (collecting_unsent c.send.new.self c.collect.new.self c.collect.ensures.collects)) one)
+    let one = offers_one c.args.self.now.inject c.send-offered.new.self.inject vs c.send-offered.new.self.vertices.items c.send-offered.ensures.offers in
+    subst (λ e. OffersOne (sending c.args.self.now.inject.tx) (sending e.tx) (unsent_of vs) (unsent_of c.collect-collected.new.self.vertices.items)) (sym c.collect-collected.ensures.inject)
+    (subst (λ l. OffersOne (sending c.args.self.now.inject.tx) (sending c.send-offered.new.self.inject.tx) (unsent_of vs) l) (sym (collecting_unsent c.send-offered.new.self c.collect-collected.new.self c.collect-collected.ensures.collects)) one)
 
 pub returns-clause-nothing : goal.returns-clause-nothing
 returns-clause-nothing g c = (
-  nothing_is_empty c.args.self.now.inject c.send.new.self.inject c.args.self.now c.send.new.self c.collect.new.self c.send.ensures.offers c.send.ensures.numbers c.collect.ensures.collects,
-  empty_collects_nothing c.args.self.now.vertices.items c.collect.new.self.vertices.items,
+  nothing_is_empty c.args.self.now.inject c.send-offered.new.self.inject c.args.self.now c.send-offered.new.self c.collect-collected.new.self c.send-offered.ensures.offers c.send-offered.ensures.numbers c.collect-collected.ensures.collects,
+  empty_collects_nothing c.args.self.now.vertices.items c.collect-collected.new.self.vertices.items,
 )

@@ -1,0 +1,421 @@
+-- Links that rest or are widened, one after the other.
+use Rattle.std.proofs.Common.{◌≡◌, ℕ, zero, suc, ◌+◌, ◌-◌, ◌*◌, ◌<◌, ◌≤◌, ◌==◌, ◌&&◌, Bool, true, false, cond, nat_eq, min, List, [], ◌∷◌, ◌++◌, length, map, take, get_or, set, Option, Some, Result, Ok, Err, OnErr, refl, sym, ap, ap₂, ◌∙◌, subst, arith, inl, inr}
+use Rattle.std.specs.List.{All, list_all, slice_get}
+use Rattle.std.proofs.lemmas.Bool.{cases_Bool, cases_eq, cases_lt, eqb-true, cond-true, cond-false}
+use Rattle.std.proofs.lemmas.List.{append-nil, length-set, length-map, map-set, take-set-le, take_all, get_or-map, get_or-set_same, get_or-set_other}
+use Rattle.std.proofs.lemmas.List.Folds.{list_all_more}
+use Rattle.std.proofs.lemmas.Option.{get_or_from_slice_get, slice_get_within, slice_get-get_or}
+use Rattle.list_laws.proofs.Places.{slice_get_there}
+use Rattle.spin_base.specs.declared.copies.McCopy.{McCopy}
+use Rattle.link_queue.specs.declared.links.LinkEnds.{LinkEnds}
+use Rattle.link_queue.specs.declared.known.Known.{Known}
+use Rattle.link_queue.specs.declared.links.Link.{Link}
+use Rattle.link_queue.specs.declared.links.Tx.{Tx}
+use Rattle.link_queue.specs.declared.links.Rx.{Rx}
+use Rattle.link_queue.specs.Ends.{IsTx, IsRx, cap_of, sending, taking}
+use Rattle.link_queue.specs.Ups.{NoNotes, Rests}
+use Rattle.mesh_run.specs.declared.queues.Rested.{Rested}
+use Rattle.mesh_run.specs.declared.standing.Standing.{Standing}
+use Rattle.mesh_run.specs.Standing.{HoldsAll, LacksEnds}
+use Rattle.mesh_run.specs.Queues.{AreEnds, AreUp, DownTo, HasPlaces, IsDown, IsUp, RestAll, RestsAt, StayUp, UpAt, WasUp, free_of, is_empty, places_for, queue_of}
+use Rattle.mesh_run.proofs.BringingUp.{fewer_fit, made_with}
+use Rattle.mesh_run.proofs.Holding.{as_many, only_ends}
+use Rattle.mesh_run.proofs.Slots.{in_links, set_again, slot_is}
+
+-- ---- links, of which the first ones are done
+
+-- The first links are as P says of what they were, and the others are as they were.
+pub record SoFar (P : LinkEnds → LinkEnds → Type 0) (back : List LinkEnds) (k : ℕ) (s : Standing) : Type 0 where
+  pub now : List LinkEnds
+  pub long : length now ≡ length back
+  pub holds : HoldsAll now s
+  pub done : (i : ℕ) (d e : LinkEnds) → i < k → P (get_or back i d) (get_or now i e)
+  pub left : (i : ℕ) (d : LinkEnds) → k ≤ i → get_or now i d ≡ get_or back i d
+
+pub none_done : (P : LinkEnds → LinkEnds → Type 0) (back : List LinkEnds) (s : Standing) → HoldsAll back s → SoFar P back 0 s
+none_done P back s holds = record { now = back; long = refl; holds = holds; done = λ i d e before. absurd (omega (arith, before)); left = λ i d from. refl }
+
+-- the next link, as it was and as it stands
+pub record NextLink (back now : List LinkEnds) (k : ℕ) : Type 0 where
+  pub old : LinkEnds
+  pub was : slice_get back k ≡ Some old
+  pub stands : slice_get now k ≡ Some old
+  pub is : (d : LinkEnds) → get_or back k d ≡ old
+
+pub next_link : (P : LinkEnds → LinkEnds → Type 0) (back : List LinkEnds) (k : ℕ) (s : Standing) → (f : SoFar P back k s) → k < length back → NextLink back f.now k
+next_link P back k s f below =
+    let long = f.long in
+    let old = slice_get_there back k below in
+    let new = slice_get_there f.now k (omega (arith, below, long)) in
+    let same : new.0 ≡ old.0 =
+    sym (get_or_from_slice_get f.now k new.0 old.0 new.1) ∙ (f.left k old.0 (omega arith) ∙ get_or_from_slice_get back k old.0 old.0 old.1) in
+    record {
+      old = old.0;
+      was = old.1;
+      stands = new.1 ∙ ap Some same;
+      is = λ d. get_or_from_slice_get back k old.0 d old.1;
+    }
+
+pub one_done : (P : LinkEnds → LinkEnds → Type 0) (back : List LinkEnds) (k : ℕ) (s t : Standing) (new : LinkEnds) → (f : SoFar P back k s) → k < length back → (n : NextLink back f.now k) → P n.old new →
+    HoldsAll (set f.now k new) t → SoFar P back (k + 1) t
+one_done P back k s t new f below n is holds =
+    let long = f.long in
+    record {
+      now = set f.now k new;
+      long = length-set f.now k new ∙ f.long;
+      holds = holds;
+      done = λ i d e before. elim (cases_eq i k) [
+        | inl here ↦
+            let was : get_or back i d ≡ n.old = ap (λ j. get_or back j d) here ∙ n.is d in
+            let now : get_or (set f.now k new) i e ≡ new = ap (λ j. get_or (set f.now k new) j e) here ∙ get_or-set_same f.now k new e (omega (arith, below, long)) in
+            subst (P (get_or back i d)) (sym now) (subst (λ (x : LinkEnds). P x new) (sym was) is)
+        | inr other ↦ subst (P (get_or back i d)) (sym (get_or-set_other f.now k i new e other)) (f.done i d e (omega (arith, before, other)))
+      ];
+      left = λ i d from. elim (cases_eq i k) [
+        | inl here ↦ absurd (omega (arith, from, here))
+        | inr other ↦ get_or-set_other f.now k i new d other ∙ f.left i d (omega (arith, from))
+      ];
+    }
+
+-- ---- links that rest
+
+-- the link rests, and holds some copies
+pub record RestsAs (cap : ℕ) (old new : LinkEnds) : Type 0 where
+  pub few : cap_of new.link ≤ cap
+  pub ends : AreEnds new
+  pub link : new.link ≡ old.link
+  pub held : List McCopy
+  pub down : IsDown old held
+  pub tx_new : NoNotes held (sending new.tx)
+  pub rx_new : NoNotes held (taking new.rx)
+
+pub rests_as : (cap : ℕ) (ends : List LinkEnds) (place : ℕ) (old : LinkEnds) (s : Standing) (held : ℕ) → WasUp cap old → (r : RestsAt ends place old s held) → RestsAs cap old r.now
+rests_as cap ends place old s held was r =
+    let few = was.few in
+    record {
+      few = subst (λ l. cap_of l ≤ cap) (sym r.link) was.few;
+      ends = r.ends_are;
+      link = r.link;
+      held = r.rests.held;
+      down = record { all = r.rests.all; bound = r.rests.bound; noted = r.rests.noted };
+      tx_new = r.rests.sender_new;
+      rx_new = r.rests.receiver_new;
+    }
+
+pub free_fits : (cap places held free : ℕ) → held ≤ places → places ≤ cap → free ≤ free_of cap places held → HasPlaces cap free held places
+free_fits cap places held free fits few within = elim (cases_Bool (nat_eq places cap)) [
+  | inl is ↦ let same = eqb-true places cap is in record { enough = omega (arith, same); few = few }
+  | inr not ↦
+      let left : free_of cap places held ≡ places - held = cond-false (nat_eq places cap) 18446744073709551615 (places - held) not in
+      record { enough = omega (arith, left, within, fits); few = few }
+]
+
+-- The first links rest, each of them has so many places free, and whether they hold a copy is known.
+pub record RestSoFar (cap : ℕ) (back : List LinkEnds) (k : ℕ) (s : Standing) (quiet : Bool) (free : ℕ) : Type 0 where
+  pub so_far : SoFar (RestsAs cap) back k s
+  pub fits : (i : ℕ) (e : LinkEnds) → i < k → HasPlaces cap free (length (queue_of (get_or so_far.now i e))) (cap_of (get_or so_far.now i e).link)
+  pub quiet_is : quiet ≡ list_all is_empty (take k (map queue_of so_far.now))
+
+pub none_rest : (cap : ℕ) (back : List LinkEnds) (s : Standing) (free : ℕ) → HoldsAll back s → RestSoFar cap back 0 s true free
+none_rest cap back s free holds = record { so_far = none_done (RestsAs cap) back s holds; fits = λ i e before. absurd (omega (arith, before)); quiet_is = refl }
+
+pub one_rests : (cap : ℕ) (back : List LinkEnds) (k : ℕ) (s t : Standing) (quiet more : Bool) (free less held places : ℕ) → (f : RestSoFar cap back k s quiet free) → k < length back →
+    (n : NextLink back f.so_far.now k) → WasUp cap n.old → (r : RestsAt f.so_far.now k n.old t held) → places ≡ cap_of r.now.link → less ≡ min free (free_of cap places held) →
+    more ≡ (quiet && nat_eq held 0) → RestSoFar cap back (k + 1) t more less
+unfolding one_done rests_as
+one_rests cap back k s t quiet more free less held places f below n was r places_are less_is more_is =
+    let now = f.so_far.now in
+    let long = f.so_far.long in
+    let here : k < length now = omega (arith, below, long) in
+    let first : queue_of r.now ≡ r.rests.held = r.rests.sender_new.first in
+    let count : held ≡ length (queue_of r.now) = r.rests.counts ∙ ap length (sym first) in
+    let bound = r.rests.bound in
+    let rest_count = r.rests.counts in
+    let caps : cap_of r.now.link ≡ cap_of n.old.link = ap cap_of r.link in
+    let few = was.few in
+    let has : HasPlaces cap less held places = free_fits cap places held less (omega (arith, bound, rest_count, caps, places_are)) (omega (arith, few, caps, places_are)) (omega (arith, less_is)) in
+    let mapped = length-map now queue_of in
+    let qs = map queue_of now in
+    let inside : k < length (set qs k (queue_of r.now)) = (let l = length-set qs k (queue_of r.now) in omega (arith, l, mapped, here)) in
+    let all : list_all is_empty (take (k + 1) (set qs k (queue_of r.now))) ≡ (quiet && nat_eq held 0) =
+    list_all_more is_empty (set qs k (queue_of r.now)) k [] inside
+    ∙ ap₂ (λ (a b : Bool). a && b) (ap (list_all is_empty) (take-set-le k qs k (queue_of r.now) (omega arith)) ∙ sym f.quiet_is)
+    (ap is_empty (get_or-set_same qs k (queue_of r.now) [] (omega (arith, mapped, here))) ∙ ap (λ c. nat_eq c 0) (sym count)) in
+    record {
+      so_far = one_done (RestsAs cap) back k s t r.now f.so_far below n (rests_as cap now k n.old t held was r) r.holds;
+      fits = λ i e before. elim (cases_eq i k) [
+        | inl is ↦
+            let new : get_or (set now k r.now) i e ≡ r.now = ap (λ j. get_or (set now k r.now) j e) is ∙ get_or-set_same now k r.now e here in
+            subst (λ (x : LinkEnds). HasPlaces cap less (length (queue_of x)) (cap_of x.link)) (sym new) (subst (λ (p : ℕ × ℕ). HasPlaces cap less p.0 p.1) (λ j. (count j, places_are j)) has)
+        | inr other ↦
+            subst (λ (x : LinkEnds). HasPlaces cap less (length (queue_of x)) (cap_of x.link)) (sym (get_or-set_other now k i r.now e other))
+            (fewer_fit cap free less _ _ (omega (arith, less_is)) (f.fits i e (omega (arith, before, other))))
+      ];
+      quiet_is = more_is ∙ (sym all ∙ ap (λ l. list_all is_empty (take (k + 1) l)) (sym (map-set queue_of now k r.now)));
+    }
+
+-- a link that rests is up, with what it holds
+rest_is_up : (cap free : ℕ) (old new : LinkEnds) → RestsAs cap old new → HasPlaces cap free (length (queue_of new)) (cap_of new.link) → IsUp cap free (queue_of new) new
+rest_is_up cap free old new r has = record {
+  ends = r.ends;
+  holds = has;
+  tx_new = subst (λ q. NoNotes q (sending new.tx)) (sym r.tx_new.first) r.tx_new;
+  rx_new = subst (λ q. NoNotes q (taking new.rx)) (sym r.tx_new.first) r.rx_new;
+}
+
+-- the queue at a place of links
+queue_at_place : (ends : List LinkEnds) (i : ℕ) (q : List McCopy) (e : LinkEnds) → i < length ends → get_or (map queue_of ends) i q ≡ queue_of (get_or ends i e)
+queue_at_place ends i q e below =
+    let x = slice_get_there ends i below in
+    by_item ends i q e below
+  where
+    by_item : (es : List LinkEnds) (j : ℕ) (p : List McCopy) (d : LinkEnds) → j < length es → get_or (map queue_of es) j p ≡ queue_of (get_or es j d)
+    by_item [] j p d below = absurd (omega (arith, below))
+    by_item (x ∷ es) zero p d below = refl
+    by_item (x ∷ es) (suc j) p d below = by_item es j p d (omega (arith, below))
+
+pub all_rest : (cap : ℕ) (back : List LinkEnds) (k : ℕ) (s : Standing) (rested : Rested) → RestSoFar cap back k s rested.quiet rested.free → length back ≤ k → RestAll cap back s rested
+all_rest cap back k s rested f past =
+    let now = f.so_far.now in
+    let long = f.so_far.long in
+    let mapped = length-map now queue_of in
+    record {
+      now = now;
+      holds = f.so_far.holds;
+      long = long;
+      up = record {
+        long = sym mapped;
+        each = λ i q e below.
+            let inside : i < length now = omega (arith, below, mapped) in
+            let within : i < k = omega (arith, inside, long, past) in
+            subst (λ (l : List McCopy). IsUp cap rested.free l (get_or now i e)) (sym (queue_at_place now i q e inside))
+            (rest_is_up cap rested.free (get_or back i e) (get_or now i e) (f.so_far.done i e e within) (f.fits i e within));
+      };
+      down = λ i e q below.
+          let inside : i < length now = omega (arith, below, long) in
+          let r = f.so_far.done i e e (omega (arith, below, past)) in
+          subst (IsDown (get_or back i e)) (sym (queue_at_place now i q e inside ∙ r.tx_new.first)) r.down;
+      quiet = f.quiet_is ∙ ap (list_all is_empty) (take_all k (map queue_of now) (omega (arith, mapped, long, past)));
+    }
+
+-- ---- links that are widened
+
+-- the link is up with the queue that the old one had
+abbrev pub StaysAs : ℕ → ℕ → LinkEnds → LinkEnds → Type 0
+StaysAs cap more old new = IsUp cap more (queue_of old) new
+
+pub stay_up : (cap more : ℕ) (back now : List LinkEnds) → length now ≡ length back → ((i : ℕ) (d e : LinkEnds) → i < length back → StaysAs cap more (get_or back i d) (get_or now i e)) → AreUp cap more (map queue_of back) now
+stay_up cap more back now long each =
+    let mapped = length-map back queue_of in
+    record {
+      long = omega (arith, long, mapped);
+      each = λ i q e below.
+          let inside : i < length back = omega (arith, below, mapped) in
+          subst (λ (l : List McCopy). IsUp cap more l (get_or now i e)) (sym (queue_at_place back i q e inside)) (each i e e inside);
+    }
+
+fewer : (cap more : ℕ) (queue : List McCopy) (e : LinkEnds) → IsUp cap more queue e → IsUp cap 0 queue e
+fewer cap more queue e up = record { ends = up.ends; holds = fewer_fit cap more 0 _ _ (omega arith) up.holds; tx_new = up.tx_new; rx_new = up.rx_new }
+
+-- all links are widened
+pub all_stay : (cap more : ℕ) (back : List LinkEnds) (k : ℕ) (s : Standing) → SoFar (StaysAs cap more) back k s → length back ≤ k → StayUp cap more back s
+all_stay cap more back k s f past = record {
+  now = f.now;
+  holds = f.holds;
+  up = stay_up cap more back f.now f.long (λ i d e below. f.done i d e (omega (arith, below, past)));
+}
+
+-- the first links are widened, the next one is not, and all hold what they held
+pub some_stay : (cap more : ℕ) (back : List LinkEnds) (k : ℕ) (s t : Standing) → (f : SoFar (StaysAs cap more) back k s) → k < length back → (n : NextLink back f.now k) → AreUp cap 0 (map queue_of back) back →
+    UpAt cap 0 f.now k (queue_of n.old) t → StayUp cap 0 back t
+some_stay cap more back k s t f below n up at =
+    let long = f.long in
+    let mapped = length-map back queue_of in
+    record {
+      now = set f.now k at.now;
+      holds = at.holds;
+      up = stay_up cap 0 back (set f.now k at.now) (length-set f.now k at.now ∙ f.long) (λ i d e inside. elim (cases_eq i k) [
+        | inl here ↦
+            let was : get_or back i d ≡ n.old = ap (λ j. get_or back j d) here ∙ n.is d in
+            let now : get_or (set f.now k at.now) i e ≡ at.now = ap (λ j. get_or (set f.now k at.now) j e) here ∙ get_or-set_same f.now k at.now e (omega (arith, below, long)) in
+            subst (StaysAs cap 0 (get_or back i d)) (sym now) (subst (λ (x : LinkEnds). StaysAs cap 0 x at.now) (sym was) at.up)
+        | inr other ↦
+            subst (StaysAs cap 0 (get_or back i d)) (sym (get_or-set_other f.now k i at.now e other))
+            (elim (cases_lt i k) [
+              | inl before ↦ fewer cap more (queue_of (get_or back i d)) (get_or f.now i e) (f.done i d e before)
+              | inr from ↦
+                  let same : get_or f.now i e ≡ get_or back i e = f.left i e from in
+                  let one : get_or back i d ≡ get_or back i e = (let x = slice_get_there back i inside in get_or_from_slice_get back i x.0 d x.1 ∙ sym (get_or_from_slice_get back i x.0 e x.1)) in
+                  let is : IsUp cap 0 (queue_of (get_or back i e)) (get_or back i e) =
+                  subst (λ (l : List McCopy). IsUp cap 0 l (get_or back i e)) (queue_at_place back i [] e inside) (up.each i [] e (omega (arith, inside, mapped))) in
+                  subst (λ (x : LinkEnds). IsUp cap 0 (queue_of (get_or back i d)) x) (sym same) (subst (λ (x : LinkEnds). IsUp cap 0 (queue_of x) (get_or back i e)) (sym one) is)
+            ])
+      ]);
+    }
+
+-- ---- one link
+
+-- what a link holds of which nothing was sent or taken
+kept_queue : (v w a b : Known) (cap count : ℕ) (queue : List McCopy) → NoNotes queue v → NoNotes queue w → (r : Rests cap v w a b count) → r.held ≡ queue
+kept_queue v w a b cap count queue tx rx r =
+    ap (λ (l : List McCopy). l ++ r.held) (sym rx.took) ∙ (sym r.all ∙ (ap₂ (λ (x y : List McCopy). x ++ y) tx.first tx.sent ∙ append-nil queue))
+
+-- the queue of a link that rests is what it was
+pub same_queue : (cap : ℕ) (ends : List LinkEnds) (place : ℕ) (old : LinkEnds) (s : Standing) (held : ℕ) → IsUp cap 0 (queue_of old) old → (r : RestsAt ends place old s held) → queue_of r.now ≡ queue_of old
+same_queue cap ends place old s held up r = r.rests.sender_new.first ∙ kept_queue (sending old.tx) (taking old.rx) (sending r.now.tx) (taking r.now.rx) (cap_of old.link) held (queue_of old) up.tx_new up.rx_new r.rests
+
+-- a link that rests is up again, where it has places
+pub rested_up : (cap more : ℕ) (ends : List LinkEnds) (place : ℕ) (old : LinkEnds) (s : Standing) (held : ℕ) → IsUp cap 0 (queue_of old) old → (r : RestsAt ends place old s held) →
+    HasPlaces cap more held (cap_of r.now.link) → IsUp cap more (queue_of old) r.now
+rested_up cap more ends place old s held up r has =
+    let same = kept_queue (sending old.tx) (taking old.rx) (sending r.now.tx) (taking r.now.rx) (cap_of old.link) held (queue_of old) up.tx_new up.rx_new r.rests in
+    record {
+      ends = r.ends_are;
+      holds = subst (λ n. HasPlaces cap more n (cap_of r.now.link)) (r.rests.counts ∙ ap length same) has;
+      tx_new = subst (λ q. NoNotes q (sending r.now.tx)) same r.rests.sender_new;
+      rx_new = subst (λ q. NoNotes q (taking r.now.rx)) same r.rests.receiver_new;
+    }
+
+-- as many copies as a link holds have places
+pub held_fits : (cap : ℕ) (ends : List LinkEnds) (place : ℕ) (old : LinkEnds) (s : Standing) (held : ℕ) → (r : RestsAt ends place old s held) → held ≤ cap_of r.now.link
+held_fits cap ends place old s held r =
+    let bound = r.rests.bound in
+    let counts = r.rests.counts in
+    let same : cap_of r.now.link ≡ cap_of old.link = ap cap_of r.link in
+    omega (arith, bound, counts, same)
+
+-- the next link is up
+pub next_up : (cap : ℕ) (back now : List LinkEnds) (k : ℕ) → (n : NextLink back now k) → AreUp cap 0 (map queue_of back) back → k < length back → IsUp cap 0 (queue_of n.old) n.old
+next_up cap back now k n up below =
+    let mapped = length-map back queue_of in
+    let is : IsUp cap 0 (queue_of (get_or back k n.old)) (get_or back k n.old) =
+    subst (λ (l : List McCopy). IsUp cap 0 l (get_or back k n.old)) (queue_at_place back k [] n.old below) (up.each k [] n.old (omega (arith, below, mapped))) in
+    subst (λ (x : LinkEnds). IsUp cap 0 (queue_of x) x) (n.is n.old) is
+
+-- no more copies are held than the queue can hold
+pub held_short : (cap : ℕ) (ends : List LinkEnds) (place : ℕ) (old : LinkEnds) (s : Standing) (held : ℕ) → IsUp cap 0 (queue_of old) old → (r : RestsAt ends place old s held) → held ≤ cap
+held_short cap ends place old s held up r =
+    let fits = held_fits cap ends place old s held r in
+    let few = up.holds.few in
+    let same : cap_of r.now.link ≡ cap_of old.link = ap cap_of r.link in
+    omega (arith, fits, few, same)
+
+-- another link with the same queue stands at the place
+pub widened_up : (cap turns : ℕ) (ends : List LinkEnds) (place : ℕ) (old : LinkEnds) (s t : Standing) (held wider : ℕ) (e : LinkEnds) (q : List McCopy) → IsUp cap 0 (queue_of old) old → (r : RestsAt ends place old s held) →
+    q ≡ queue_of r.now → wider ≡ places_for cap turns held → IsTx e.link e.tx × NoNotes q (sending e.tx) → IsRx e.link e.rx × NoNotes q (taking e.rx) → cap_of e.link ≡ wider →
+    (e.room.items ≡ []) × (wider ≤ e.room.spare) → HoldsAll (set (set ends place r.now) place e) t → UpAt cap (turns + 1) ends place (queue_of old) t
+widened_up cap turns ends place old s t held wider e q up r q_is wider_is tx rx cap_is room holds =
+    let same : q ≡ queue_of old = q_is ∙ same_queue cap ends place old s held up r in
+    let count : held ≡ length (queue_of old) = r.rests.counts ∙ ap length (sym r.rests.sender_new.first ∙ same_queue cap ends place old s held up r) in
+    record {
+      now = e;
+      holds = set_again ends place r.now e t holds;
+      up = record {
+        ends = record { tx = tx.0; rx = rx.0; empty = room.0; spare = subst (λ n. n ≤ e.room.spare) (sym cap_is) room.1 };
+        holds = subst (λ n. HasPlaces cap (turns + 1) n (cap_of e.link)) count (made_with cap turns held (cap_of e.link) (held_short cap ends place old s held up r) (cap_is ∙ wider_is));
+        tx_new = subst (λ l. NoNotes l (sending e.tx)) same tx.1;
+        rx_new = subst (λ l. NoNotes l (taking e.rx)) same rx.1;
+      };
+    }
+
+-- the link that rests stands again
+pub put_again : (cap : ℕ) (ends : List LinkEnds) (place : ℕ) (old : LinkEnds) (s t : Standing) (held : ℕ) (tx : Tx) (rx : Rx) → IsUp cap 0 (queue_of old) old → (r : RestsAt ends place old s held) → tx ≡ r.now.tx → rx ≡ r.now.rx →
+    HoldsAll (set (set ends place r.now) place (record (r.now) { tx = tx; rx = rx })) t → UpAt cap 0 ends place (queue_of old) t
+put_again cap ends place old s t held tx rx up r tx_is rx_is holds =
+    let same : (record (r.now) { tx = tx; rx = rx }) ≡ r.now = λ i. record (r.now) { tx = tx_is i; rx = rx_is i } in
+    let fits = held_fits cap ends place old s held r in
+    let few = up.holds.few in
+    let caps : cap_of r.now.link ≡ cap_of old.link = ap cap_of r.link in
+    record {
+      now = r.now;
+      holds = subst (λ (e : LinkEnds). HoldsAll (set ends place e) t) same (set_again ends place r.now (record (r.now) { tx = tx; rx = rx }) t holds);
+      up = rested_up cap 0 ends place old s held up r (record { enough = omega (arith, fits); few = omega (arith, few, caps) });
+    }
+
+some_same : {X : Type 0} (x y : X) → Some x ≡ Some y → x ≡ y
+some_same x y e = cc
+
+-- the link at a place rests, by what its ends tell
+pub rests_there : (ends es : List LinkEnds) (place : ℕ) (old o : LinkEnds) (s mid t : Standing) (link : Link) (tx sender : Tx) (rx receiver : Rx) (held : ℕ) → HoldsAll ends s → slice_get ends place ≡ Some old →
+    HoldsAll es s → slice_get es place ≡ Some o → AreEnds o → (tx ≡ old.tx) × (rx ≡ old.rx) → LacksEnds ends place mid → link ≡ get_or mid.links.items place link → IsTx link sender → IsRx link receiver →
+    Rests (cap_of link) (sending tx) (taking rx) (sending sender) (taking receiver) held → HoldsAll (set ends place (record old { tx = sender; rx = receiver })) t → RestsAt ends place old t held
+rests_there ends es place old o s mid t link tx sender rx receiver held holds at were stood are taken lacks index is_tx is_rx rests now =
+    let same_old : o ≡ old = some_same o old (sym stood ∙ (ap (λ (l : List LinkEnds). slice_get l place) (only_ends es ends s were holds) ∙ at)) in
+    let here : AreEnds old = subst AreEnds same_old are in
+    let link_is : link ≡ old.link = index ∙ slot_is (λ (e : LinkEnds). e.link) ends mid.links.items place old link lacks.links at in
+    let from_tx : Rests (cap_of link) (sending old.tx) (taking rx) (sending sender) (taking receiver) held =
+    subst (λ (x : Tx). Rests (cap_of link) (sending x) (taking rx) (sending sender) (taking receiver) held) taken.0 rests in
+    let from_rx : Rests (cap_of link) (sending old.tx) (taking old.rx) (sending sender) (taking receiver) held =
+    subst (λ (x : Rx). Rests (cap_of link) (sending old.tx) (taking x) (sending sender) (taking receiver) held) taken.1 from_tx in
+    record {
+      now = record old { tx = sender; rx = receiver };
+      holds = now;
+      link = refl;
+      ends_are = record { tx = subst (λ (l : Link). IsTx l sender) link_is is_tx; rx = subst (λ (l : Link). IsRx l receiver) link_is is_rx; empty = here.empty; spare = here.spare };
+      rests = subst (λ (l : Link). Rests (cap_of l) (sending old.tx) (taking old.rx) (sending sender) (taking receiver) held) link_is from_rx;
+    }
+
+-- the link that rests stands at its place
+pub rest_stands : (ends : List LinkEnds) (place : ℕ) (old : LinkEnds) (s : Standing) (held : ℕ) → slice_get ends place ≡ Some old → (r : RestsAt ends place old s held) → slice_get (set ends place r.now) place ≡ Some r.now
+rest_stands ends place old s held at r =
+    let inside = slice_get_within ends place old at in
+    let many = length-set ends place r.now in
+    slice_get-get_or (set ends place r.now) place r.now (omega (arith, many, inside)) ∙ ap Some (get_or-set_same ends place r.now r.now inside)
+
+pub rest_within : (ends : List LinkEnds) (place : ℕ) (old : LinkEnds) (s : Standing) (held : ℕ) → slice_get ends place ≡ Some old → (r : RestsAt ends place old s held) → place < length (set ends place r.now)
+rest_within ends place old s held at r = slice_get_within (set ends place r.now) place r.now (rest_stands ends place old s held at r)
+
+pub rest_inside : (ends : List LinkEnds) (place : ℕ) (old : LinkEnds) (s : Standing) (held : ℕ) → slice_get ends place ≡ Some old → (r : RestsAt ends place old s held) → place < length s.links.items
+rest_inside ends place old s held at r =
+    let many = as_many (set ends place r.now) s r.holds in
+    let within = rest_within ends place old s held at r in
+    omega (arith, many, within)
+
+-- the link that is read at its place is the one that rests
+pub rest_link : (ends : List LinkEnds) (place : ℕ) (old : LinkEnds) (s : Standing) (held : ℕ) (link : Link) → slice_get ends place ≡ Some old → (r : RestsAt ends place old s held) → link ≡ get_or s.links.items place link → link ≡ r.now.link
+rest_link ends place old s held link at r index =
+    index ∙ slot_is (λ (e : LinkEnds). e.link) (set ends place r.now) s.links.items place r.now link r.holds.links (rest_stands ends place old s held at r)
+
+-- the same without its ends
+pub lent_link : (ends : List LinkEnds) (place : ℕ) (old : LinkEnds) (s mid : Standing) (held : ℕ) (link : Link) → slice_get ends place ≡ Some old → (r : RestsAt ends place old s held) → LacksEnds (set ends place r.now) place mid →
+    link ≡ get_or mid.links.items place link → link ≡ r.now.link
+lent_link ends place old s mid held link at r lacks index =
+    index ∙ slot_is (λ (e : LinkEnds). e.link) (set ends place r.now) mid.links.items place r.now link lacks.links (rest_stands ends place old s held at r)
+
+pub lent_inside : (ends : List LinkEnds) (place : ℕ) (old : LinkEnds) (s mid : Standing) (held : ℕ) → slice_get ends place ≡ Some old → (r : RestsAt ends place old s held) → LacksEnds (set ends place r.now) place mid →
+    place < length mid.links.items
+lent_inside ends place old s mid held at r lacks = in_links (set ends place r.now) place mid lacks (rest_within ends place old s held at r)
+
+-- the link at a place has places for a round already
+pub rest_wide : (cap turns : ℕ) (ends : List LinkEnds) (place : ℕ) (old : LinkEnds) (s : Standing) (held places free : ℕ) (link : Link) → slice_get ends place ≡ Some old → IsUp cap 0 (queue_of old) old →
+    (r : RestsAt ends place old s held) → link ≡ get_or s.links.items place link → places ≡ cap_of link → free ≡ free_of cap places held → turns < free → UpAt cap (turns + 1) ends place (queue_of old) s
+rest_wide cap turns ends place old s held places free link at up r index places_are free_is more =
+    let p : places ≡ cap_of r.now.link = places_are ∙ ap cap_of (rest_link ends place old s held link at r index) in
+    let fits = held_fits cap ends place old s held r in
+    let few = up.holds.few in
+    let caps : cap_of r.now.link ≡ cap_of old.link = ap cap_of r.link in
+    let left : turns + 1 ≤ free = omega (arith, more) in
+    let left_now : turns + 1 ≤ free_of cap (cap_of r.now.link) held = subst (λ (n : ℕ). turns + 1 ≤ free_of cap n held) p (subst (λ (n : ℕ). turns + 1 ≤ n) free_is left) in
+    record {
+      now = r.now;
+      holds = r.holds;
+      up = rested_up cap (turns + 1) ends place old s held up r (free_fits cap (cap_of r.now.link) held (turns + 1) fits (omega (arith, few, caps)) left_now);
+    }
+
+-- the ends of a link that rests are as new
+pub rest_sent : (ends : List LinkEnds) (place : ℕ) (old : LinkEnds) (s : Standing) (held : ℕ) (tx : Tx) → (r : RestsAt ends place old s held) → tx ≡ r.now.tx → NoNotes (sending tx).first (sending tx)
+rest_sent ends place old s held tx r is =
+    subst (λ (x : Tx). NoNotes (sending x).first (sending x)) (sym is) (subst (λ (q : List McCopy). NoNotes q (sending r.now.tx)) (sym r.rests.sender_new.first) r.rests.sender_new)
+
+pub rest_took : (ends : List LinkEnds) (place : ℕ) (old : LinkEnds) (s : Standing) (held : ℕ) (tx : Tx) (rx : Rx) → (r : RestsAt ends place old s held) → tx ≡ r.now.tx → rx ≡ r.now.rx → NoNotes (sending tx).first (taking rx)
+rest_took ends place old s held tx rx r tx_is rx_is =
+    subst (λ (x : Tx). NoNotes (sending x).first (taking rx)) (sym tx_is)
+    (subst (λ (x : Rx). NoNotes (sending r.now.tx).first (taking x)) (sym rx_is) (subst (λ (q : List McCopy). NoNotes q (taking r.now.rx)) (sym r.rests.sender_new.first) r.rests.receiver_new))
+
+pub rest_count : (ends : List LinkEnds) (place : ℕ) (old : LinkEnds) (s : Standing) (held : ℕ) (tx : Tx) → (r : RestsAt ends place old s held) → tx ≡ r.now.tx → held ≡ length (sending tx).first
+rest_count ends place old s held tx r is = r.rests.counts ∙ (ap length (sym r.rests.sender_new.first) ∙ ap (λ (x : Tx). length (sending x).first) (sym is))
+
+-- what holds anyway holds after a refusal
+pub after_refusal : {X E : Type 0} (r : Result X E) (P : Type 0) → P → OnErr r P
+after_refusal (Ok x) P p = tt
+after_refusal (Err e) P p = p

@@ -1,0 +1,9 @@
+use Rattle.mesh_run.proofs.Resting.{rests_there}
+use Rattle.mesh_run.proofs.queues.rest_at.Goals as goal
+
+pub returns : goal.returns
+returns g c = λ ends old holds at.
+    let r = c.requires in
+    let lacks = c.take_ends-tx.ensures.left ends holds in
+    rests_there ends r.0 c.args.place old r.1 c.args.standing.now c.take_ends-tx.new.self c.put_ends.new.self c.index.result.now c.take_ends-tx.result.0 c.rest-tx.result.0 c.take_ends-tx.result.1 c.rest-tx.result.1
+    c.rest-tx.result.2 holds at r.2 r.3 r.4 (c.take_ends-tx.ensures.ends ends old holds at) lacks c.index.ensures c.rest-tx.ensures.sending c.rest-tx.ensures.taking c.rest-tx.ensures.rests (c.put_ends.ensures ends old lacks at)

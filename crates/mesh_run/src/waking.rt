@@ -1,0 +1,193 @@
+// Who takes a turn: the actors for which something can have come.
+//
+// A router that found each of its queues empty, and a bank that had nothing to offer and found each of its queues empty, find the
+// same again until a copy comes for them. Such an actor is asleep until one is sent to a queue of it. An actor with a queue that
+// is fed from another worker's share is always awake: nobody tells its worker what comes.
+ghost use Rattle.std.specs.Prelude.{◌≡◌, ◌<◌, ◌≤◌, true, slice_index_or, slice_set};
+
+use crate::actors::{Actor, Did};
+use spin_base::{Dir, Out};
+
+/// How many chips a machine has at most, and how many actors these have.
+const CHIPS: usize = 4096;
+
+const ACTORS: usize = 8192;
+
+/// The place of a router that isn't there.
+const NOWHERE: usize = usize::MAX;
+
+/// Where the router of each chip stands among the actors, and which actors are always awake.
+#[derive(Drop)]
+pub(crate) struct Seats {
+    chips: usize,
+    routers: [usize; CHIPS],
+    watched: [bool; ACTORS],
+    ghost few: { chips ≤ 4096 },
+}
+
+// No router is there, and nobody is watched.
+fn no_seats(chips: usize) -> Seats {
+    Seats {
+        chips: chips.min(CHIPS),
+        routers: [NOWHERE; CHIPS],
+        watched: [false; ACTORS],
+    }
+}
+
+impl Seats {
+    /// The seats of the actors of so many chips, in shares of so many, the last shorter.
+    pub fn of(actors: &[Actor], chips: usize, share: usize) -> Seats
+        requires { 0 < share }
+    {
+        let mut seats = no_seats(chips);
+        seats.note_routers(actors);
+        if share < actors.len() {
+            seats.watch_all(actors, share);
+        }
+        seats
+    }
+
+    // Notes where routers stand.
+    fn note_routers(&mut self, actors: &[Actor]) {
+        for place in 0..actors.len() {
+            if let Actor::Router(index, _) = &actors[place] {
+                self.note_router(*index as usize, place);
+            }
+        }
+    }
+
+    fn note_router(&mut self, index: usize, place: usize) {
+        if index < CHIPS {
+            self.routers[index] = place;
+        }
+    }
+
+    // Watches the actors with a queue that is fed from another share.
+    fn watch_all(&mut self, actors: &[Actor], share: usize)
+        requires { 0 < share }
+    {
+        for place in 0..actors.len() {
+            self.watch_fed(&actors[place], place, share);
+        }
+    }
+
+    // Watches those to whom a router sends from another share, and the router, where its bank does.
+    fn watch_fed(&mut self, actor: &Actor, place: usize, share: usize)
+        requires { 0 < share }
+    {
+        if let Actor::Router(_, node) = actor {
+            let bank = place.saturating_add(1);
+            self.watch(place, bank, share);
+            self.watch(bank, place, share);
+            for link in Dir::ALL {
+                if let Some(behind) = node.link_behind(Out::Link(link)) {
+                    self.watch(place, self.taker(place, behind), share);
+                }
+            }
+        }
+    }
+
+    // Watches the actor at a place where it stands in another share than one that feeds it.
+    fn watch(&mut self, feeder: usize, taker: usize, share: usize)
+        requires { 0 < share }
+    {
+        if feeder / share != taker / share && taker < ACTORS {
+            self.watched[taker] = true;
+        }
+    }
+
+    /// The place of the actor that takes from a link that the router at a place feeds: the router at the link's far end, or
+    /// the router's own bank.
+    pub fn taker(&self, feeder: usize, link: u32) -> usize {
+        let index = link as usize / 7;
+        if index < self.chips {
+            self.routers[index]
+        } else {
+            feeder.saturating_add(1)
+        }
+    }
+
+    /// Whether the actor at a place is always awake. One that has no flag always is.
+    pub fn watches(&self, place: usize) -> bool
+        ensures { result ≡ slice_index_or self.now.watched place true }
+    {
+        if place < ACTORS {
+            self.watched[place]
+        } else {
+            true
+        }
+    }
+}
+
+/// Who is awake, of a share that begins at a place.
+#[derive(Drop)]
+pub(crate) struct Awake {
+    start: usize,
+    flags: [bool; ACTORS],
+}
+
+impl Awake {
+    /// Everybody is awake.
+    pub fn all(start: usize) -> Awake {
+        Awake {
+            start,
+            flags: [true; ACTORS],
+        }
+    }
+
+    /// Whether an actor of the share is awake. One that has no flag always is.
+    pub fn has(&self, k: usize) -> bool
+        ensures { result ≡ slice_index_or self.now.flags k true }
+    {
+        if k < ACTORS { self.flags[k] } else { true }
+    }
+
+    // From now on an actor of the share is awake, or asleep.
+    fn set(&mut self, k: usize, awake: bool)
+        ensures flags { self.new.flags ≡ slice_set self.old.flags k awake }
+        ensures start { self.new.start ≡ self.old.start }
+    {
+        if k < ACTORS {
+            self.flags[k] = awake;
+        }
+    }
+
+    // Wakes the actor at a place, where it is of this share.
+    fn wake(&mut self, place: usize) {
+        if place >= self.start {
+            self.set(place - self.start, true);
+        }
+    }
+
+    /// An actor of the share had its turn: it falls asleep where it did nothing, and who takes what it sent is awake.
+    pub fn note(&mut self, seats: &Seats, k: usize, actor: &Actor, did: Did) {
+        let place = self.start.saturating_add(k);
+        match did {
+            Did::Slept => {}
+            Did::Nothing => self.set(k, seats.watches(place)),
+            Did::Collected => self.set(k, true),
+            Did::Injected => {
+                self.set(k, true);
+                self.wake(place.saturating_sub(1));
+            }
+            Did::Routed(outs) => {
+                self.set(k, true);
+                for out in outs.as_slice() {
+                    self.wake_taker(seats, place, actor, *out);
+                }
+            }
+        }
+    }
+
+    // Wakes the actor that takes what the router at a place sends by an output.
+    fn wake_taker(&mut self, seats: &Seats, place: usize, actor: &Actor, out: Out) {
+        match actor {
+            Actor::Router(_, node) => {
+                if let Some(link) = node.link_behind(out) {
+                    self.wake(seats.taker(place, link));
+                }
+            }
+            Actor::Bank(_) => {}
+        }
+    }
+}
