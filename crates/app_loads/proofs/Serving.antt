@@ -1,11 +1,10 @@
 -- Ranges taken one after the other for claims, and given back.
-use Rattle.std.proofs.Common.{◌≡◌, ◌≢◌, ℕ, ◌+◌, ◌%◌, ◌<◌, ◌≤◌, zero, suc, Bool, true, false, not, ◌&&◌, ◌||◌, ◌⊎◌, ◌==◌, leb, ltb, List, [], ◌∷◌, ◌++◌, take, drop, get_or, length, map, refl, sym, ap, ◌∙◌, subst, inl, inr, arith, Option, None, Some, IfSome, append_assoc, append-nil, count_by, if◌then◌else◌}
+use Rattle.std.proofs.Common.{◌≡◌, ◌≢◌, ℕ, ◌+◌, ◌%◌, ◌<◌, ◌≤◌, zero, suc, Bool, true, false, not, ◌&&◌, ◌||◌, ◌⊎◌, ◌==◌, leb, ltb, List, [], ◌∷◌, ◌++◌, take, drop, get_or, length, map, refl, sym, ap, ◌∙◌, subst, inl, inr, arith, Option, None, Some, IfSome, append_assoc, append-nil, count_by, replicate, if◌then◌else◌}
 use Rattle.std.specs.List.{slice_get, slice_set, All, AllPairs, Contains}
 use Rattle.std.proofs.lemmas.Bool.{cases_Bool, cases_eq, eqb-true, eq-eqb, and_parts, and_from, ltb-true, lt-ltb}
 use Rattle.std.proofs.lemmas.List.{length-set, length_push}
 use Rattle.std.proofs.lemmas.List.Elements.{All-nil, All-cons, All-head, All-tail, All-append}
 use Rattle.std.proofs.lemmas.List.Folds.{list_any-append}
-use Rattle.std.proofs.lemmas.List.Sums.{count_by-le-length}
 use Rattle.std.proofs.lemmas.Option.{slice_get_within, slice_get-get_or}
 use Rattle.list_laws.proofs.Counts.{count_by-append, count_by-cons}
 use Rattle.list_laws.proofs.Pairs.{AllPairs-left, AllPairs-right, AllPairs-across, AllPairs-append, AllPairs-head, AllPairs-tail}
@@ -54,6 +53,52 @@ unmapped f [] i y e = cc
 unmapped f (x ∷ xs) zero y e = (x, refl, let w : f x ≡ y = cc in w)
 unmapped f (x ∷ xs) (suc i) y e = unmapped f xs i y e
 
+-- ---- how many ranges are of each region
+
+abbrev one_if : Bool → ℕ
+one_if b = if b then 1 else 0
+
+not_equal : (a b : ℕ) → a ≢ b → (a == b) ≡ false
+not_equal a b differ = grind arith
+
+-- how many of the ranges are of a region
+abbrev pub of_region : ℕ → List Range → ℕ
+of_region k ranges = count_by (λ (range : Range). range.region == k) ranges
+
+-- so many counts of no range
+pub none_counted : (n k c : ℕ) → slice_get (replicate n 0) k ≡ Some c → c ≡ 0
+none_counted zero k c e = cc
+none_counted (suc n) zero c e = some_same (sym e)
+  where
+    some_same : {A : Type 0} {a b : A} → Some a ≡ Some b → a ≡ b
+    some_same e' = cc
+none_counted (suc n) (suc k) c e = none_counted n k c e
+
+module _ (ranges : List Range) (range : Range) where
+  one_more : (k : ℕ) → of_region k (ranges ++ range ∷ []) ≡ of_region k ranges + one_if (range.region == k)
+  one_more k =
+      let all = count_by-append (λ (r : Range). r.region == k) ranges (range ∷ []) in
+      let one = count_by-cons (λ (r : Range). r.region == k) range [] in
+      omega (arith, all, one)
+
+  pub more_here : of_region range.region (ranges ++ range ∷ []) ≡ of_region range.region ranges + 1
+  more_here = let more = one_more range.region in let one : one_if (range.region == range.region) ≡ 1 = ap one_if (eq-eqb range.region range.region refl) in omega (arith, more, one)
+
+  pub none_elsewhere : (k : ℕ) → k ≢ range.region → of_region k (ranges ++ range ∷ []) ≡ of_region k ranges
+  none_elsewhere k other = let more = one_more k in let none : one_if (range.region == k) ≡ 0 = ap one_if (not_equal range.region k (λ e. other (sym e))) in omega (arith, more, none)
+
+  -- the counts of all regions, once the range is counted
+  pub counted_push : (counts : List ℕ) (count next : ℕ) → slice_get counts range.region ≡ Some count → ((k n : ℕ) → slice_get counts k ≡ Some n → n ≡ of_region k ranges) → next ≡ count + 1 →
+      (k n : ℕ) → slice_get (slice_set counts range.region next) k ≡ Some n → n ≡ of_region k (ranges ++ range ∷ [])
+  counted_push counts count next there counted is k n at = elim (set_cases counts range.region k count next n there at) [
+    | inl mine ↦
+        let was = counted range.region count there in
+        let more = more_here in
+        let all : n ≡ of_region range.region (ranges ++ range ∷ []) = let value = mine.1 in omega (arith, value, is, was, more) in
+        all ∙ ap (λ r. of_region r (ranges ++ range ∷ [])) (sym mine.0)
+    | inr other ↦ counted k n other.1 ∙ sym (none_elsewhere k other.0)
+  ]
+
 -- ---- what is taken
 
 taken_of_other : (range : Range) (taken : List Range) (region k : ℕ) → range.region ≢ region → is_taken (taken ++ range ∷ []) region k ≡ is_taken taken region k
@@ -61,9 +106,6 @@ taken_of_other range taken region k other =
     list_any-append (has_place region k) taken (range ∷ [])
     ∙ (ap (λ b. is_taken taken region k || ((b && in_range range.place range.size k) || false)) (not_equal range.region region other) ∙ or_none (is_taken taken region k))
   where
-    not_equal : (m n : ℕ) → m ≢ n → (m == n) ≡ false
-    not_equal m n differ = grind arith
-
     or_none : (b : Bool) → (b || (false || false)) ≡ b
     or_none true = refl
     or_none false = refl
@@ -127,7 +169,7 @@ module _ (claims : List Claim) (old mid : List Region) (ranges : List Range) (so
   take_before [] x (suc i) le = absurd (omega (arith, le))
   take_before (y ∷ ys) x (suc i) le = ap (λ r. y ∷ r) (take_before ys x i (omega (arith, le)))
 
-  pub served_more : (after : Region) (place : ℕ) (new : List Region) → 0 < claim.size → new ≡ slice_set mid claim.region after → Serves claim before after place → length ranges + 1 ≤ after.spare →
+  pub served_more : (after : Region) (place : ℕ) (new : List Region) → 0 < claim.size → new ≡ slice_set mid claim.region after → Serves claim before after place → of_region claim.region ranges + 1 ≤ after.spare →
       HaveServed claims old (ranges ++ range_at claim place ∷ []) new
   served_more after place new some set serves spare = record {
     served = λ m taken apart free.
@@ -162,15 +204,14 @@ module _ (claims : List Claim) (old mid : List Region) (ranges : List Range) (so
         };
     room = λ i region is_region. elim (set_cases mid claim.region i before after region at (sym (ap (λ l. slice_get l i) set) ∙ is_region)) [
       | inl mine ↦
-          let most = count_by-le-length (λ (x : Range). x.region == i) (ranges ++ r ∷ []) in
+          let more = more_here ranges r in
           let same : region.spare ≡ after.spare = ap (λ (x : Region). x.spare) mine.1 in
-          omega (arith, most, length_push ranges r, spare, same)
+          let counted : of_region i (ranges ++ r ∷ []) ≡ of_region claim.region (ranges ++ r ∷ []) = ap (λ n. of_region n (ranges ++ r ∷ [])) mine.0 in
+          omega (arith, more, spare, same, counted)
       | inr other ↦
           let was = so_far.room i region other.1 in
-          let all = count_by-append (λ (x : Range). x.region == i) ranges (r ∷ []) in
-          let one = count_by-cons (λ (x : Range). x.region == i) r [] in
-          let none : one_if (r.region == i) ≡ 0 = ap one_if (not_equal r.region i (λ e. other.0 (sym e))) in
-          omega (arith, was, all, one, none)
+          let same = none_elsewhere ranges r i other.0 in
+          omega (arith, was, same)
     ];
     long = ap length set ∙ (set_long mid claim.region after ∙ so_far.long);
   }
@@ -180,12 +221,6 @@ module _ (claims : List Claim) (old mid : List Region) (ranges : List Range) (so
 
       some_same : {A : Type 0} {a b : A} → Some a ≡ Some b → a ≡ b
       some_same e = cc
-
-      not_equal : (m n : ℕ) → m ≢ n → (m == n) ≡ false
-      not_equal m n differ = grind arith
-
-      one_if : Bool → ℕ
-      one_if b = if b then 1 else 0
 
   -- the claim is refused
   pub due_here : Refuses claim before → (m : Description) (taken : List Range) → AllPairs AreApart taken → AreFreeBeside m taken (frees old) → IsRefusalDue m taken claims claim.refusal
@@ -214,12 +249,12 @@ module _ (claims : List Claim) (old mid : List Region) (ranges : List Range) (so
       set_back (y ∷ ys) zero x e = let w : y ≡ x = cc in ap (λ z. z ∷ ys) (sym w)
       set_back (y ∷ ys) (suc i) x e = ap (λ l. y ∷ l) (set_back ys i x e)
 
-  pub room_still : (after : Region) (new : List Region) → new ≡ slice_set mid claim.region after → ((n : ℕ) → n ≤ length ranges → n ≤ before.spare → n ≤ after.spare) → HaveRoom ranges new
+  pub room_still : (after : Region) (new : List Region) → new ≡ slice_set mid claim.region after → ((n : ℕ) → n ≤ of_region claim.region ranges → n ≤ before.spare → n ≤ after.spare) → HaveRoom ranges new
   room_still after new set more i region is_region = elim (set_cases mid claim.region i before after region at (sym (ap (λ l. slice_get l i) set) ∙ is_region)) [
     | inl mine ↦
-        let was = more (count_by (λ (x : Range). x.region == claim.region) ranges) (count_by-le-length (λ (x : Range). x.region == claim.region) ranges) (so_far.room claim.region before at) in
+        let was = more (of_region claim.region ranges) (omega arith) (so_far.room claim.region before at) in
         let same : region.spare ≡ after.spare = ap (λ (x : Region). x.spare) mine.1 in
-        let counted : count_by (λ (x : Range). x.region == i) ranges ≡ count_by (λ (x : Range). x.region == claim.region) ranges = ap (λ n. count_by (λ (x : Range). x.region == n) ranges) mine.0 in
+        let counted : of_region i ranges ≡ of_region claim.region ranges = ap (λ n. of_region n ranges) mine.0 in
         omega (arith, was, same, counted)
     | inr other ↦ so_far.room i region other.1
   ]
@@ -346,9 +381,6 @@ module _ (m : Description) (others : List Range) (range : Range) (rest : List Ra
       elsewhere : (region k : ℕ) → range.region ≢ region → is_taken (others ++ range ∷ rest) region k ≡ is_taken (others ++ rest) region k
       elsewhere region k other =
           both region k ∙ (ap (λ b. is_taken others region k || ((b && in_range range.place range.size k) || is_taken rest region k)) (not_equal range.region region other) ∙ sym (left region k))
-        where
-          not_equal : (m' n : ℕ) → m' ≢ n → (m' == n) ≡ false
-          not_equal m' n differ = grind arith
 
       back : IsFreeBeside m (others ++ rest) range.region (free_of after)
       back = record {
@@ -399,9 +431,6 @@ drop_here [] i x e = cc
 drop_here (y ∷ ys) zero x e = let w : y ≡ x = cc in ap (λ z. z ∷ ys) w
 drop_here (y ∷ ys) (suc i) x e = let next : suc i + 1 ≡ suc (i + 1) = omega arith in drop_here ys i x e ∙ ap (λ n. x ∷ drop n (y ∷ ys)) (sym next)
 
-abbrev one_if' : Bool → ℕ
-one_if' b = if b then 1 else 0
-
 module _ (ranges : List Range) (i : ℕ) (d : Range) (below : i < length ranges) (regions : List Region) (e : Region)
     (m : Description) (others : List Range) (taken : AreTaken m others (drop i ranges) regions) where
   abbrev range : Range
@@ -439,14 +468,14 @@ module _ (ranges : List Range) (i : ℕ) (d : Range) (below : i < length ranges)
   back_at after size runs free = given_back m others range rest regions here before at_place after (slice_set regions range.region after) refl size runs free
 
   module _ (room : HaveRoom (drop i ranges) regions) where
-    counted : (n : ℕ) → count_by (λ (x : Range). x.region == n) (drop i ranges) ≡ one_if' (range.region == n) + count_by (λ (x : Range). x.region == n) rest
+    counted : (n : ℕ) → count_by (λ (x : Range). x.region == n) (drop i ranges) ≡ one_if (range.region == n) + count_by (λ (x : Range). x.region == n) rest
     counted n = ap (count_by (λ (x : Range). x.region == n)) dropped ∙ count_by-cons (λ (x : Range). x.region == n) range rest
 
     pub spare_at : 0 < before.spare
     spare_at =
         let most = room range.region before at_place in
         let all = counted range.region in
-        let one : one_if' (range.region == range.region) ≡ 1 = ap one_if' (eq-eqb range.region range.region refl) in
+        let one : one_if (range.region == range.region) ≡ 1 = ap one_if (eq-eqb range.region range.region refl) in
         omega (arith, most, all, one)
 
     pub room_at : (after : Region) → before.spare ≤ after.spare + 1 → HaveRoom rest (slice_set regions range.region after)
@@ -454,7 +483,7 @@ module _ (ranges : List Range) (i : ℕ) (d : Range) (below : i < length ranges)
       | inl mine ↦
           let most = room range.region before at_place in
           let all = counted range.region in
-          let one : one_if' (range.region == range.region) ≡ 1 = ap one_if' (eq-eqb range.region range.region refl) in
+          let one : one_if (range.region == range.region) ≡ 1 = ap one_if (eq-eqb range.region range.region refl) in
           let same : region.spare ≡ after.spare = ap (λ (x : Region). x.spare) mine.1 in
           let number : count_by (λ (x : Range). x.region == n) rest ≡ count_by (λ (x : Range). x.region == range.region) rest = ap (λ k. count_by (λ (x : Range). x.region == k) rest) mine.0 in
           omega (arith, most, all, one, same, number, spare)
@@ -516,11 +545,24 @@ module _ (claims : List Claim) (old mid : List Region) (ranges : List Range) (i 
       within_size (Some p) size f = (f.0, let w = f.1 in omega (arith, w, size))
       within_size None size f = tt
 
-  pub claim_served : (after : Region) (place : ℕ) (list : List Range) → list ≡ ranges ++ range_at claim place ∷ [] → Serves claim before' after place → i + 1 ≤ after.spare →
-      HaveServed claims old list (slice_set mid claim.region after)
-  claim_served after place list pushed serves spare =
+  -- what is counted of the claim's region
+  module _ (counts : List ℕ) (f : ℕ) (long : length counts ≡ length old) (counted : (k n : ℕ) → slice_get counts k ≡ Some n → n ≡ of_region k ranges) where
+    pub count_there : claim.region < length counts
+    count_there = let there = fair.there in omega (arith, there, long)
+
+    pub count_held : get_or counts claim.region f ≡ of_region claim.region ranges
+    count_held = counted claim.region (get_or counts claim.region f) (slice_get-get_or counts claim.region f count_there)
+
+    pub counts_more : (place : ℕ) (list : List Range) → list ≡ ranges ++ range_at claim place ∷ [] → (next : ℕ) → next ≡ get_or counts claim.region f + 1 →
+        (k n : ℕ) → slice_get (slice_set counts claim.region next) k ≡ Some n → n ≡ of_region k list
+    counts_more place list pushed next is k n at =
+        counted_push ranges (range_at claim place) counts (get_or counts claim.region f) next (slice_get-get_or counts claim.region f count_there) counted is k n at ∙ ap (of_region k) (sym pushed)
+
+  pub claim_served : (after : Region) (place : ℕ) (list : List Range) (held : ℕ) → held ≡ of_region claim.region ranges → list ≡ ranges ++ range_at claim place ∷ [] → Serves claim before' after place →
+      held + 1 ≤ after.spare → HaveServed claims old list (slice_set mid claim.region after)
+  claim_served after place list held counted pushed serves spare =
       subst (λ l. HaveServed claims old l (slice_set mid claim.region after)) (sym pushed)
-      (served_more claims old mid ranges so_far claim is_claim before' at_claim after place (slice_set mid claim.region after) claim_some refl serves (omega (arith, spare, each_one)))
+      (served_more claims old mid ranges so_far claim is_claim before' at_claim after place (slice_set mid claim.region after) claim_some refl serves (omega (arith, spare, counted)))
 
   pub claim_due : (err : LoadErr) → (err ≡ Memory) ⊎ ((err ≡ claim.refusal) × Refuses claim before') → IsDueAlways claims old err
   claim_due err (inl memory) = inl memory
@@ -529,8 +571,9 @@ module _ (claims : List Claim) (old mid : List Region) (ranges : List Range) (i 
   pub claim_taken : (after : Region) → free_of after ≡ free_of before' → AreTakenAlways old ranges (slice_set mid claim.region after)
   claim_taken after same = taken_still claims old mid ranges so_far claim is_claim before' at_claim after (slice_set mid claim.region after) refl same
 
-  pub claim_room : (after : Region) → ((n : ℕ) → n ≤ i → n ≤ before'.spare → n ≤ after.spare) → HaveRoom ranges (slice_set mid claim.region after)
-  claim_room after stays = room_still claims old mid ranges so_far claim is_claim before' at_claim after (slice_set mid claim.region after) refl (λ n le. stays n (omega (arith, le, each_one)))
+  pub claim_room : (after : Region) (held : ℕ) → held ≡ of_region claim.region ranges → ((n : ℕ) → n ≤ held → n ≤ before'.spare → n ≤ after.spare) → HaveRoom ranges (slice_set mid claim.region after)
+  claim_room after held counted stays =
+      room_still claims old mid ranges so_far claim is_claim before' at_claim after (slice_set mid claim.region after) refl (λ n le. stays n (omega (arith, le, counted)))
 
 pub all_served : (claims : List Claim) (old mid : List Region) (ranges : List Range) (i : ℕ) → length claims ≤ i → length ranges ≡ i → HaveServed claims old ranges mid → AreServedAlways claims old ranges
 all_served claims old mid ranges i end each_one so_far m taken apart free =

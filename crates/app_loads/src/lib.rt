@@ -26,6 +26,3 @@ pub use answers::{Ended, LoadErr, UnloadErr};
 pub use apps::Apps;
 pub use loaded::{Claim, LoadedApp, Range};
 pub use plans::{AppNet, AppPlan};
-
-#[cfg(test)]
-mod tests;

@@ -33,7 +33,10 @@ pub fn take_all(
     let Ok(mut ranges) = Vec::with_capacity(alloc, claims.len()) else {
         return Err(LoadErr::Memory);
     };
-    match take_each(regions, claims, &mut ranges) {
+    let Ok(mut counts) = vec![in alloc; 0u32; regions.len()] else {
+        return Err(LoadErr::Memory);
+    };
+    match take_each(regions, &mut counts, claims, &mut ranges) {
         Ok(()) => Ok(ranges),
         Err(refusal) => {
             give_all(regions, &ranges);
@@ -42,13 +45,16 @@ pub fn take_all(
     }
 }
 
-// Serves the claims in order, up to the first that cannot be served, and puts their ranges into the list, which has room for all.
+// Serves the claims in order, up to the first that cannot be served, and puts their ranges into the list, which has room for all. It
+// counts the ranges of each region.
 fn take_each(
     regions: &mut [Ranges],
+    counts: &mut [u32],
     claims: &[Claim],
     ranges: &mut Vec<Range>,
 ) -> Result<(), LoadErr>
     requires can { CanServe claims.now regions.old }
+    requires counts { counts.old ≡ replicate (length regions.old) 0 }
     requires none { ranges.old.items ≡ [] }
     requires room { length claims.now ≤ vec_capacity ranges.old }
     ensures served { OnOk result (AreServedAlways claims.now regions.old ranges.new.items) }
@@ -57,20 +63,25 @@ fn take_each(
     ensures room { HaveRoom ranges.new.items regions.new }
 {
     for claim in claims {
-        match take_claim(&mut regions[claim.region], claim, ranges.len()) {
-            Ok(place) => ranges.push_reserved(Range {
-                region: claim.region,
-                place,
-                size: claim.size,
-            }),
+        let at = claim.region;
+        let held = counts[at];
+        match take_claim(&mut regions[at], claim, held) {
+            Ok(place) => {
+                counts[at] = held + 1;
+                ranges.push_reserved(Range {
+                    region: at,
+                    place,
+                    size: claim.size,
+                });
+            }
             Err(refusal) => return Err(refusal),
         }
     }
     Ok(())
 }
 
-// Serves one claim, where so many ranges were taken before: room is made first, so that they can be given back.
-fn take_claim(region: &mut Ranges, claim: &Claim, held: usize) -> Result<u64, LoadErr>
+// Serves one claim, where so many ranges of its region were taken before: room is made first, so that they can be given back.
+fn take_claim(region: &mut Ranges, claim: &Claim, held: u32) -> Result<u64, LoadErr>
     requires some { 0 < claim.now.size }
     requires step { 0 < claim.now.align }
     requires fixed { IfSome claim.now.fixed (λ p. (p % claim.now.align ≡ 0) × (p + claim.now.size ≤ region.old.size)) }
@@ -78,12 +89,13 @@ fn take_claim(region: &mut Ranges, claim: &Claim, held: usize) -> Result<u64, Lo
     ensures refused { IfErr result (λ e. (e ≡ NoMemory) ⊎ ((e ≡ claim.now.refusal) × Refuses claim.now region.old)) }
     ensures unchanged { OnErr result (free_of region.new ≡ free_of region.old) }
     ensures room { OnOk result (held + 1 ≤ region.new.spare) }
+    ensures few { OnOk result (held < 4000000000) }
     ensures room_stays { OnErr result ((n : ℕ) → n ≤ held → n ≤ region.old.spare → n ≤ region.new.spare) }
 {
-    if held >= MOST_HELD as usize {
+    if held >= MOST_HELD {
         return Err(LoadErr::Memory);
     }
-    match take_with_room(region, claim, held as u32 + 2) {
+    match take_with_room(region, claim, held + 2) {
         Ok(Some(place)) => Ok(place),
         Ok(None) => Err(claim.refusal),
         Err(_) => Err(LoadErr::Memory),

@@ -1,7 +1,7 @@
 use Rattle.std.proofs.Common.{◌≡◌, ℕ, Some, length, take}
 use Rattle.std.specs.List.{slice_get}
 use Rattle.app_loads.specs.Taking.{HaveRoom, frees}
-use Rattle.app_loads.proofs.RoomToGive.{of_region}
+use Rattle.app_loads.proofs.Serving.{of_region}
 use Rattle.app_loads.proofs.regions.make_room_for_each.Given as goal
 
 -- the ranges so far are counted by their regions, which have room for them

@@ -1,43 +1,58 @@
-use Rattle.std.proofs.Common.{arith}
-use Rattle.app_loads.proofs.Serving.{pushed_long, claim_fixed, claim_served, claim_due, claim_taken, claim_room, all_served}
+use Rattle.std.proofs.Common.{◌∙◌, ap, arith, length, refl, rules, sym}
+use Rattle.std.specs.List.{slice_get}
+use Rattle.std.proofs.lemmas.List.{length-replicate, length-set}
+use Rattle.app_loads.proofs.Serving.{pushed_long, claim_fixed, claim_served, claim_due, claim_taken, claim_room, count_held, counts_more, none_counted, none_served, of_region, all_served}
 use Rattle.app_loads.proofs.regions.take_each.Goals as goal
+
+pub loop-claim-init : goal.loop-claim-init
+loop-claim-init c = record {
+  each_one = ap length c.requires.none;
+  room = c.requires.room;
+  served = none_served c.args.claims.now c.args.regions.now c.args.ranges.now.items c.requires.none;
+  counts = ap length c.requires.counts ∙ length-replicate (length c.args.regions.now) 0;
+  counted = λ k n at. none_counted (length c.args.regions.now) k n (ap (λ l. slice_get l k) (sym c.requires.counts) ∙ at) ∙ ap (of_region k) (sym c.requires.none);
+}
 
 pub take_claim-requires-clause-fixed : goal.take_claim-requires-clause-fixed
 take_claim-requires-clause-fixed c =
-    claim_fixed c.args.claims.now c.args.regions.now c.loop-claim.regions c.loop-claim.ranges.items c.loop-claim.claim-index _ c.index-regions-claim.result c.loop-claim-test.true
+    claim_fixed c.args.claims.now c.args.regions.now c.loop-claim.regions c.loop-claim.ranges.items c.loop-claim.claim-index _ c.index-regions-at.result c.loop-claim-test.true
     c.loop-claim.invariant.each_one c.loop-claim.invariant.served c.requires.can
 
 pub returns-in-Err-clause-refused : goal.returns-in-Err-clause-refused
 returns-in-Err-clause-refused c =
-    claim_due c.args.claims.now c.args.regions.now c.loop-claim.regions c.loop-claim.ranges.items c.loop-claim.claim-index _ c.index-regions-claim.result c.loop-claim-test.true
+    claim_due c.args.claims.now c.args.regions.now c.loop-claim.regions c.loop-claim.ranges.items c.loop-claim.claim-index _ c.index-regions-at.result c.loop-claim-test.true
     c.loop-claim.invariant.each_one c.loop-claim.invariant.served c.requires.can c.in-Err.refusal c.in-Err.ensures.refused
 
 pub returns-in-Err-clause-taken : goal.returns-in-Err-clause-taken
 returns-in-Err-clause-taken c =
-    claim_taken c.args.claims.now c.args.regions.now c.loop-claim.regions c.loop-claim.ranges.items c.loop-claim.claim-index _ c.index-regions-claim.result c.loop-claim-test.true
+    claim_taken c.args.claims.now c.args.regions.now c.loop-claim.regions c.loop-claim.ranges.items c.loop-claim.claim-index _ c.index-regions-at.result c.loop-claim-test.true
     c.loop-claim.invariant.each_one c.loop-claim.invariant.served c.requires.can c.take_claim.new.region c.in-Err.ensures.unchanged
 
 pub returns-in-Err-clause-room : goal.returns-in-Err-clause-room
 returns-in-Err-clause-room c =
-    let long = c.loop-claim.invariant.each_one in
-    let len = c.len.ensures in
-    claim_room c.args.claims.now c.args.regions.now c.loop-claim.regions c.loop-claim.ranges.items c.loop-claim.claim-index _ c.index-regions-claim.result c.loop-claim-test.true
-    c.loop-claim.invariant.each_one c.loop-claim.invariant.served c.requires.can c.take_claim.new.region
-    (λ n le. c.in-Err.ensures.room_stays n (omega (arith, le, long, len)))
+    claim_room c.args.claims.now c.args.regions.now c.loop-claim.regions c.loop-claim.ranges.items c.loop-claim.claim-index _ c.index-regions-at.result c.loop-claim-test.true
+    c.loop-claim.invariant.each_one c.loop-claim.invariant.served c.requires.can c.take_claim.new.region _
+    (count_held c.args.claims.now c.args.regions.now c.loop-claim.regions c.loop-claim.ranges.items c.loop-claim.claim-index _ c.index-regions-at.result c.loop-claim-test.true
+    c.loop-claim.invariant.each_one c.loop-claim.invariant.served c.requires.can c.loop-claim.counts _ c.loop-claim.invariant.counts c.loop-claim.invariant.counted)
+    c.in-Err.ensures.room_stays
 
 pub loop-claim-preserved : goal.loop-claim-preserved
 loop-claim-preserved c =
     let long = c.loop-claim.invariant.each_one in
-    let len = c.len.ensures in
-    let spare = c.in-Ok.ensures.room in
     let kept = c.push_reserved.ensures.capacity in
     let room = c.loop-claim.invariant.room in
+    let held = count_held c.args.claims.now c.args.regions.now c.loop-claim.regions c.loop-claim.ranges.items c.loop-claim.claim-index _ c.index-regions-at.result c.loop-claim-test.true
+    c.loop-claim.invariant.each_one c.loop-claim.invariant.served c.requires.can c.loop-claim.counts _ c.loop-claim.invariant.counts c.loop-claim.invariant.counted in
     record {
       each_one = let more = pushed_long c.loop-claim.ranges.items c.push_reserved.new.self.items _ c.push_reserved.ensures.items in omega (arith, more, long);
       room = omega (arith, kept, room);
-      served = claim_served c.args.claims.now c.args.regions.now c.loop-claim.regions c.loop-claim.ranges.items c.loop-claim.claim-index _ c.index-regions-claim.result c.loop-claim-test.true
-          c.loop-claim.invariant.each_one c.loop-claim.invariant.served c.requires.can c.take_claim.new.region c.in-Ok.place c.push_reserved.new.self.items c.push_reserved.ensures.items c.in-Ok.ensures.taken
-          (omega (arith, spare, len, long));
+      served = claim_served c.args.claims.now c.args.regions.now c.loop-claim.regions c.loop-claim.ranges.items c.loop-claim.claim-index _ c.index-regions-at.result c.loop-claim-test.true
+          c.loop-claim.invariant.each_one c.loop-claim.invariant.served c.requires.can c.take_claim.new.region c.in-Ok.place c.push_reserved.new.self.items _ held c.push_reserved.ensures.items c.in-Ok.ensures.taken
+          c.in-Ok.ensures.room;
+      counts = length-set c.loop-claim.counts _ _ ∙ c.loop-claim.invariant.counts;
+      counted = counts_more c.args.claims.now c.args.regions.now c.loop-claim.regions c.loop-claim.ranges.items c.loop-claim.claim-index _ c.index-regions-at.result c.loop-claim-test.true
+          c.loop-claim.invariant.each_one c.loop-claim.invariant.served c.requires.can c.loop-claim.counts _ c.loop-claim.invariant.counts c.loop-claim.invariant.counted
+          c.in-Ok.place c.push_reserved.new.self.items c.push_reserved.ensures.items _ refl;
     }
 
 pub returns-clause-served : goal.returns-clause-served

@@ -1,11 +1,15 @@
-use Rattle.std.proofs.Common.{◌≡◌, ◌≤◌, length}
+use Rattle.std.proofs.Common.{◌≡◌, ◌≤◌, ℕ, Some, length}
+use Rattle.std.specs.List.{slice_get}
 use Rattle.app_loads.specs.Taking.{HaveServed}
+use Rattle.app_loads.proofs.Serving.{of_region}
 use Rattle.app_loads.proofs.regions.take_each.Given as goal
 
--- the claims so far have their ranges
+-- the claims so far have their ranges, which are counted by their regions
 abbrev pub invariant-loop-claim : goal.invariant-loop-claim
 invariant-loop-claim l = record {
   each_one : length l.ranges.items ≡ l.claim-index;
   room : length l.claims ≤ l.ranges.cap;
   served : HaveServed l.claims l.fn.regions l.ranges.items l.regions;
+  counts : length l.counts ≡ length l.fn.regions;
+  counted : (k n : ℕ) → slice_get l.counts k ≡ Some n → n ≡ of_region k l.ranges.items;
 }
