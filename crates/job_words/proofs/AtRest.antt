@@ -1,16 +1,16 @@
 -- The report of a mesh at rest.
-use Rattle.std.proofs.Common.{◌≡◌, ℕ, ◌+◌, ◌<◌, ◌^◌, ◌-◌, List, [], ◌∷◌, ◌++◌, map, length, get_or, false, refl, ap, sym, ◌∙◌, arith, inl, inr, Option, Some, None, Less, Equal, Greater, Ordering, nat_cmp, is_lt, codes, decimal}
+use Rattle.std.proofs.Common.{◌≡◌, ℕ, ◌+◌, ◌<◌, ◌^◌, ◌-◌, List, [], ◌∷◌, ◌++◌, map, length, get_or, false, refl, ap, sym, subst, ◌∙◌, arith, inl, inr, Option, Some, None, Result, Ok, Err, IfOk, Less, Equal, Greater, Ordering, nat_cmp, is_lt, codes, decimal}
 use Rattle.std.specs.Prelude.{min}
 use Rattle.std.specs.Ordering.{ordering_then, MatchOrdering}
-use Rattle.std.specs.List.{All, AllPairs, flat_map, slice_get, sum_by, range_with_len}
+use Rattle.std.specs.List.{All, AllPairs, flat_map, slice_get, range_with_len}
 use Rattle.std.specs.List.Sorted.{IsPermutation}
 use Rattle.std.proofs.lemmas.Cmp.{nat_list_cmp_total, ranked}
-use Rattle.std.proofs.lemmas.List.{length-map}
+use Rattle.std.proofs.lemmas.List.{length-map, nil_from_length}
 use Rattle.std.proofs.lemmas.List.Sorted.{length_permutation, ranks_by, sorted_far}
-use Rattle.std.proofs.lemmas.List.Sums.{sum_by-cons}
 use mathlib.Core.Bool.{true≢false}
 use Rattle.list_laws.specs.Gathered.{gathered}
 use Rattle.list_laws.proofs.Places.{All-at}
+use Rattle.round_flow.proofs.Sums.{sum_none}
 use Rattle.spin_base.specs.declared.blocks.Block.{Block}
 use Rattle.spin_base.specs.declared.blocks.ChipTable.{ChipTable}
 use Rattle.spin_base.specs.declared.chips.Chip.{Chip}
@@ -19,6 +19,7 @@ use Rattle.spin_base.specs.declared.copies.Delivery.{Delivery}
 use Rattle.spin_base.specs.declared.copies.DumpRec.{DumpRec}
 use Rattle.spin_base.specs.declared.copies.McCopy.{McCopy}
 use Rattle.spin_base.specs.declared.copies.Packet.{Packet}
+use Rattle.spin_base.specs.declared.wants.Memory.{Memory}
 use Rattle.machine_desc.specs.Live.{grid_chips, index_of}
 use Rattle.net_tables.specs.declared.nets.NetPlan.{NetPlan}
 use Rattle.mesh_core.specs.State.{Held, Setup, State, IsMesh, queue_at}
@@ -37,20 +38,19 @@ use Rattle.run_report.specs.ReportText.{dump_line, event_lines, got_line, keys_l
 use Rattle.run_report.specs.RunReport.{chip_waits, copies_at, core_waits, delivery_key, hand_waits, held_waits, named, queue_waits, unsent_by, unsent_total, waits_at, waits_of, IsDeliveredOf}
 use Rattle.run_report.proofs.GotLines.{got_lines}
 use Rattle.par_compile.specs.declared.compiling.Plan.{Plan}
-use Rattle.job_words.specs.Planned.{setup_of}
+use Rattle.job_words.specs.declared.outcomes.Told.{Told}
+use Rattle.job_words.specs.declared.outcomes.Parts.{Parts}
+use Rattle.job_words.specs.Parts.{parts_with}
+use Rattle.job_words.specs.Planned.{IsMeshOf}
 use Rattle.job_words.specs.Reinjecting.{HasKeptPasses, HasReinjected}
 use Rattle.job_words.specs.Runs.{HasKeptRounds, HasLostNothing, HasRunOut, IsRoomy, full_report}
-use Rattle.job_words.specs.Words.{IsReported}
+use Rattle.job_words.specs.Words.{IsKept, IsReported, Reports, Tells}
 
 -- ---- lists
 
-pub none_of_length : {X : Type 0} (xs : List X) → length xs ≡ 0 → xs ≡ []
-none_of_length [] long = refl
-none_of_length (x ∷ xs) long = absurd (omega (arith, long))
-
 -- what has no item in another order has none
-pub none_in_order : {X : Type 0} (xs ys : List X) → IsPermutation xs ys → xs ≡ [] → ys ≡ []
-none_in_order xs ys same none = none_of_length ys (length_permutation xs ys same ∙ ap length none)
+none_in_order : {X : Type 0} (xs ys : List X) → IsPermutation xs ys → xs ≡ [] → ys ≡ []
+none_in_order xs ys same none = nil_from_length ys (length_permutation xs ys same ∙ ap length none)
 
 flat_map_none : {X Y : Type 0} (f : X → List Y) → ((x : X) → f x ≡ []) → (xs : List X) → flat_map f xs ≡ []
 flat_map_none f none [] = refl
@@ -59,14 +59,6 @@ flat_map_none f none (x ∷ xs) = ap (λ l. l ++ flat_map f xs) (none x) ∙ fla
 gathered_none : {X Y : Type 0} (f : ℕ → X → List Y) → ((i : ℕ) (x : X) → f i x ≡ []) → (i : ℕ) (xs : List X) → gathered f i xs ≡ []
 gathered_none f none i [] = refl
 gathered_none f none i (x ∷ xs) = ap (λ l. l ++ gathered f (i + 1) xs) (none i x) ∙ gathered_none f none (i + 1) xs
-
-sum_none : {X : Type 0} (f : X → ℕ) → ((x : X) → f x ≡ 0) → (xs : List X) → sum_by f xs ≡ 0
-sum_none f none [] = refl
-sum_none f none (x ∷ xs) =
-    let first = none x in
-    let rest = sum_none f none xs in
-    let whole = sum_by-cons f x xs in
-    omega (arith, first, rest, whole)
 
 -- ---- nothing waits, and nothing is unsent
 
@@ -100,7 +92,7 @@ module _ (s : State) (rest : IsAtRest s) where
 
   pub none_unsent : min (unsent_total s) (2 ^ 32 - 1) ≡ 0
   none_unsent =
-      ap (λ n. min n (2 ^ 32 - 1)) (sum_none (unsent_by s) (λ v. ap length (no_copies s.unsent rest.all_sent v)) (range_with_len 0 (length s.setup.spots)))
+      ap (λ n. min n (2 ^ 32 - 1)) (sum_none (unsent_by s) (range_with_len 0 (length s.setup.spots)) (λ v among. ap length (no_copies s.unsent rest.all_sent v)))
 
 -- ---- as many deliveries as are asked for
 
@@ -130,6 +122,18 @@ as_many s nets packets placed delivered mesh job expected is =
     ∙ (ap length (in_order_is_list s nets packets mesh job.ledger.ledger.nets_stand expected is.sorted is.in_order.same_items pairs)
     ∙ sym (length-map all (named placed)))))
 
+-- a report tells as many deliveries as there are
+pub told_count : (job : Job) (plan : Plan) (mesh : State) (did : List Did) (report : Report) → IsReported job plan mesh did report → length report.delivered ≡ length mesh.delivered
+told_count job plan mesh did report reported =
+    let placed : List (List ℕ × Spot) = placed_of job.graph plan.placement.spots in
+    ap length reported.delivered.named_each
+    ∙ (length-map reported.delivered.sorted (named placed)
+    ∙ length_permutation mesh.delivered reported.delivered.sorted reported.delivered.in_order.same_items)
+
+-- and, where there is no dump record, none
+pub told_none : (job : Job) (plan : Plan) (mesh : State) (did : List Did) (report : Report) → mesh.dumped ≡ [] → IsReported job plan mesh did report → length report.dumped ≡ 0
+told_none job plan mesh did report none reported = length_permutation mesh.dumped report.dumped reported.dumped.same_items ∙ ap length none
+
 -- ---- the text
 
 -- the text of a report, by the lines of its deliveries and how many they are
@@ -153,48 +157,67 @@ same_text r t placed keys tables did got many dumped waiting unsent =
     in
     text_of r ∙ (same ∙ sym (text_of t))
 
+-- ---- what is told
+
 -- what is known of a mesh at rest, and of its report, which tells no events
 pub record IsTold (job : Job) (plan : Plan) (mesh : State) (report : Report) : Type 0 where
-  pub is_mesh : IsMesh mesh
-  pub setup : mesh.setup ≡ setup_of job plan
-  pub ledger : MeetsJobLedger mesh plan.nets job.run.packets
+  pub kept : IsMeshOf job plan mesh
   pub at_rest : IsAtRest mesh
   pub reported : IsReported job plan mesh [] report
 
--- Without a dump record nothing is lost.
-pub lost_nothing : (job : Job) (plan : Plan) (mesh : State) (report : Report) → IsTold job plan mesh report → mesh.dumped ≡ [] → HasLostNothing job plan mesh report
-lost_nothing job plan mesh report told no_record =
-    let placed : List (List ℕ × Spot) = placed_of job.graph plan.placement.spots in
-    let expected : AreAsExpected mesh plan.nets job.run.packets = delivered_as_expected mesh plan.nets job.run.packets told.ledger told.at_rest no_record in
-    let asked_for : Setup → List (List ℕ × McCopy) = λ u. map (named placed) (expected_deliveries u.spots plan.nets job.run.packets) in
-    record {
-      no_record = no_record;
-      delivered = expected;
-      text =
-          same_text report (full_report job.machine job.graph job.run.packets plan) told.reported.same_placed told.reported.same_keys told.reported.same_tables
-          told.reported.same_did
-          (got_lines placed mesh plan.nets job.run.packets report.delivered told.is_mesh told.ledger told.at_rest no_record told.reported.delivered
-          ∙ ap (λ u. flat_map got_line (asked_for u)) told.setup)
-          (as_many mesh plan.nets job.run.packets placed report.delivered told.is_mesh told.ledger expected told.reported.delivered ∙ ap (λ u. length (asked_for u)) told.setup)
-          (none_in_order mesh.dumped report.dumped told.reported.dumped.same_items no_record)
-          (none_in_order (waits_of mesh) report.waiting told.reported.waiting.same_items (none_waits mesh told.at_rest))
-          (told.reported.unsent ∙ none_unsent mesh told.at_rest);
+module _ (job : Job) (plan : Plan) (mesh : State) where
+  -- the report of a mesh that keeps the ledger
+  pub is_kept : (did : List Did) (report : Report) → MeetsJobLedger mesh plan.nets job.run.packets → IsReported job plan mesh did report → IsKept job plan mesh report
+  is_kept did report ledger is = record { ledger = ledger; reported = subst (λ (answers : List Did). IsReported job plan mesh answers report) (sym is.same_did) is }
+
+  -- what is said of each report of the mesh is said of the one that is told
+  pub reports : (P : Job → Plan → State → Report → Type 0) (did : List Did) (parts : Parts) (text : List ℕ) → MeetsJobLedger mesh plan.nets job.run.packets →
+      ((report : Report) → IsReported job plan mesh did report → P job plan mesh report) → Tells job plan mesh did parts text → Reports P job plan parts text
+  reports P did parts text ledger holds tells = (mesh, tells.0, is_kept did tells.0 ledger tells.1, holds tells.0 tells.1, tells.2, tells.3)
+
+  -- the same of a mesh at rest, where no events are told
+  pub reports_at_rest : (P : Job → Plan → State → Report → Type 0) (made : Result Told Memory) (did : List Did) → did ≡ [] → IsMeshOf job plan mesh → IsAtRest mesh →
+      ((report : Report) → IsTold job plan mesh report → P job plan mesh report) → IfOk made (λ t. Tells job plan mesh did (parts_with job plan t.mesh t.report) t.text) →
+      IfOk made (λ t. Reports P job plan (parts_with job plan t.mesh t.report) t.text)
+  reports_at_rest P (Ok t) did none kept rest holds tells =
+      reports P did (parts_with job plan t.mesh t.report) t.text kept.ledger
+      (λ report is. holds report (record { kept = kept; at_rest = rest; reported = subst (λ (answers : List Did). IsReported job plan mesh answers report) none is })) tells
+  reports_at_rest P (Err e) did none kept rest holds tells = tells
+
+  module _ (report : Report) (told : IsTold job plan mesh report) where
+    -- Without a dump record nothing is lost.
+    lost_nothing : mesh.dumped ≡ [] → HasLostNothing job plan mesh report
+    lost_nothing no_record =
+        let placed : List (List ℕ × Spot) = placed_of job.graph plan.placement.spots in
+        let expected : AreAsExpected mesh plan.nets job.run.packets = delivered_as_expected mesh plan.nets job.run.packets told.kept.ledger told.at_rest no_record in
+        let asked_for : Setup → List (List ℕ × McCopy) = λ u. map (named placed) (expected_deliveries u.spots plan.nets job.run.packets) in
+        record {
+          no_record = no_record;
+          delivered = expected;
+          text =
+              same_text report (full_report job.machine job.graph job.run.packets plan) told.reported.same_placed told.reported.same_keys told.reported.same_tables
+              told.reported.same_did
+              (got_lines placed mesh plan.nets job.run.packets report.delivered told.kept.is_mesh told.kept.ledger told.at_rest no_record told.reported.delivered
+              ∙ ap (λ u. flat_map got_line (asked_for u)) told.kept.setup)
+              (as_many mesh plan.nets job.run.packets placed report.delivered told.kept.is_mesh told.kept.ledger expected told.reported.delivered
+              ∙ ap (λ u. length (asked_for u)) told.kept.setup)
+              (none_in_order mesh.dumped report.dumped told.reported.dumped.same_items no_record)
+              (none_in_order (waits_of mesh) report.waiting told.reported.waiting.same_items (none_waits mesh told.at_rest))
+              (told.reported.unsent ∙ none_unsent mesh told.at_rest);
+        }
+
+    pub ran_out : HasKeptRounds job plan mesh → (IsRoomy job → mesh.dumped ≡ []) → HasRunOut job plan mesh report
+    ran_out reached no_record = record {
+      reached = reached;
+      at_rest = told.at_rest;
+      no_event = told.reported.same_did;
+      roomy = λ is_roomy. lost_nothing (no_record is_roomy);
     }
 
-pub ran_out : (job : Job) (plan : Plan) (mesh : State) (report : Report) → IsTold job plan mesh report → HasKeptRounds job plan mesh → (IsRoomy job → mesh.dumped ≡ []) →
-    HasRunOut job plan mesh report
-ran_out job plan mesh report told reached no_record = record {
-  reached = reached;
-  at_rest = told.at_rest;
-  no_event = told.reported.same_did;
-  roomy = λ is_roomy. lost_nothing job plan mesh report told (no_record is_roomy);
-}
-
-pub reinjected_as : (job : Job) (plan : Plan) (mesh : State) (report : Report) → IsTold job plan mesh report → HasKeptPasses job plan mesh → mesh.dumped ≡ [] →
-    HasReinjected job plan mesh report
-reinjected_as job plan mesh report told reached no_record = record {
-  reached = reached;
-  at_rest = told.at_rest;
-  no_event = told.reported.same_did;
-  lost_nothing = lost_nothing job plan mesh report told no_record;
-}
+    pub reinjected_as : HasKeptPasses job plan mesh → mesh.dumped ≡ [] → HasReinjected job plan mesh report
+    reinjected_as reached no_record = record {
+      reached = reached;
+      at_rest = told.at_rest;
+      no_event = told.reported.same_did;
+      lost_nothing = lost_nothing no_record;
+    }

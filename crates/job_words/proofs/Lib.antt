@@ -2,7 +2,6 @@ mod AtRest
 pub mod Exclusive
 pub mod Generating
 mod Opening
-mod Passing
 mod Running
 mod Tracing
 pub mod WordLaws

@@ -1,10 +1,13 @@
--- What the mesh of a job asks of its plan.
-use Rattle.std.proofs.Common.{◌≡◌, ℕ, ◌+◌, ◌<◌, List, [], map, Option, Some, None, refl, sym, ap, ◌∙◌, subst}
+-- The opened mesh of a job: what it asks of the plan, and what it keeps.
+use Rattle.std.proofs.Common.{◌≡◌, ℕ, ◌+◌, ◌*◌, ◌<◌, List, [], length, map, Option, Some, None, Result, Ok, Err, IfOk, refl, sym, ap, ◌∙◌, subst}
 use Rattle.std.specs.Option.{option_map}
 use Rattle.std.specs.List.{slice_get, slice_index_or}
+use Rattle.std.proofs.lemmas.List.Elements.{All-replicate}
 use Rattle.std.proofs.lemmas.Option.{slice_get-get_or, get_or_from_slice_get, slice_get-map}
 use Rattle.list_laws.proofs.Places.{All-at, AllZip-at_first}
 use Rattle.spin_base.specs.declared.blocks.Block.{Block}
+use Rattle.spin_base.specs.declared.copies.McCopy.{McCopy}
+use Rattle.spin_base.specs.declared.copies.Packet.{Packet}
 use Rattle.machine_desc.specs.Description.{Description}
 use Rattle.app_graph.specs.declared.graphs.Net.{Net}
 use Rattle.app_graph.specs.declared.graphs.Graph.{Graph}
@@ -13,9 +16,16 @@ use Rattle.app_graph.specs.RunPart.{IsPacketOf, IsRunOf, keys_of}
 use Rattle.key_alloc.specs.KeyBlocks.{HasKeys}
 use Rattle.net_tables.specs.declared.nets.NetPlan.{NetPlan}
 use Rattle.net_tables.specs.RightTables.{IsKeyOf}
-use Rattle.mesh_core.specs.Opened.{AreOfNets}
+use Rattle.mesh_core.specs.State.{Held, Setup, State, IsMesh}
+use Rattle.mesh_core.specs.Opened.{opened_mesh, AreOfNets, MeetsJobLedger}
+use Rattle.mesh_core.specs.Expected.{NothingWaits}
+use Rattle.mesh_core.proofs.OpenedLaw.{opened_meets_ledger}
+use Rattle.round_flow.specs.RoundFlow.{HasNoHand}
+use Rattle.mesh_round.specs.OnThreads.{HopsFit, IsReady}
 use Rattle.par_compile.specs.declared.compiling.Plan.{Plan}
 use Rattle.par_compile.specs.Compiled.{blocks_of, IsPlanOf}
+use Rattle.job_readers.specs.declared.jobs.Job.{Job}
+use Rattle.job_words.specs.Planned.{opened_of, setup_of, IsPlanned}
 
 -- how many keys a net has
 key_count : (nets : List Net) (i : ℕ) (net : Net) → slice_get nets i ≡ Some net → keys_of nets i ≡ net.keys
@@ -47,3 +57,26 @@ are_of_nets m graph target run plan is_run planned i p at =
     let its = block.2 p.index below in
     let key : IsKeyOf block.0 (block.0.key + p.index) = record { fits = its.0; matches = its.1 } in
     (of.0, of.1, key_of_same p.index block.0 of.0.block of.2 key)
+
+-- nothing waits in an opened mesh
+pub opened_quiet : (u : Setup) (nets : List NetPlan) (packets : List Packet) → NothingWaits (opened_mesh u nets packets)
+opened_quiet u nets packets = record {
+  inputs_empty = All-replicate (λ (q : List McCopy). q ≡ []) (7 * (u.machine.width * u.machine.height)) [] refl;
+  hands_empty = All-replicate (λ (h : Option Held). h ≡ None) (u.machine.width * u.machine.height) None refl;
+  cores_empty = All-replicate (λ (q : List McCopy). q ≡ []) (length u.spots) [] refl;
+}
+
+-- so it may go by rounds, by the law that a mesh in which nothing waits may
+pub opened_ready : {E : Type 0} → ((s : State) → NothingWaits s → HasNoHand s) → ((s : State) → NothingWaits s → HopsFit s) → (u : Setup) (nets : List NetPlan) (packets : List Packet)
+    (mesh : Result State E) → IfOk mesh (λ m. m ≡ opened_mesh u nets packets) → IfOk mesh IsMesh → IfOk mesh IsReady
+opened_ready no_hand hops u nets packets (Ok m) is is_mesh =
+    let waits : NothingWaits m = subst NothingWaits (sym is) (opened_quiet u nets packets) in record { mesh = is_mesh; no_hand = no_hand m waits; hops = hops m waits }
+opened_ready no_hand hops u nets packets (Err e) is is_mesh = is
+
+-- the packets of a planned job are of its nets
+pub job_of_nets : (job : Job) (plan : Plan) → IsRunOf job.graph job.run → IsPlanned job plan → AreOfNets plan.nets job.run.packets
+job_of_nets job plan run planned = are_of_nets job.machine job.graph job.run.target job.run plan run planned
+
+-- the opened mesh of a planned job keeps the job's ledger
+pub opened_keeps : (job : Job) (plan : Plan) → IsRunOf job.graph job.run → IsPlanned job plan → MeetsJobLedger (opened_of job plan) plan.nets job.run.packets
+opened_keeps job plan run planned = opened_meets_ledger (setup_of job plan) plan.nets job.run.packets planned.routing.stand (job_of_nets job plan run planned)

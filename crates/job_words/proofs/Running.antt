@@ -1,58 +1,69 @@
--- Rounds from the opened mesh of a job: what is kept after each of them.
-use Rattle.std.proofs.Common.{◌≡◌, ℕ, ◌*◌, ◌≤◌, List, [], length, Option, None, refl}
-use Rattle.std.proofs.lemmas.List.Elements.{All-replicate}
-use Rattle.spin_base.specs.declared.copies.McCopy.{McCopy}
+-- Rounds from the opened mesh of a job, and copies put back between them: what is kept after each of these.
+use Rattle.std.proofs.Common.{◌≡◌, ℕ, ◌≤◌, List, [], length}
 use Rattle.spin_base.specs.declared.copies.Packet.{Packet}
 use Rattle.app_graph.specs.RunPart.{IsRunOf}
 use Rattle.net_tables.specs.declared.nets.NetPlan.{NetPlan}
 use Rattle.net_tables.specs.NetsOn.{AreNetsOn}
 use Rattle.net_tables.specs.RightTables.{AreRight}
-use Rattle.mesh_core.specs.State.{Held, Setup, State, IsMesh}
+use Rattle.mesh_core.specs.State.{Setup, State, IsMesh}
 use Rattle.mesh_core.specs.Opened.{opened_mesh, AreOfNets, MeetsJobLedger}
-use Rattle.mesh_core.specs.Expected.{NothingWaits}
-use Rattle.mesh_core.proofs.OpenedLaw.{opened_meets_ledger}
+use Rattle.mesh_core.specs.PutBack.{after_put_back}
 use Rattle.round_flow.specs.RoundFlow.{HasRounds, none, more}
+use Rattle.mesh_round.specs.Reinjecting.{HasPasses, none as no_pass, round as by_round, put_back as by_putting_back}
 use Rattle.par_compile.specs.declared.compiling.Plan.{Plan}
 use Rattle.job_readers.specs.declared.jobs.Job.{Job}
-use Rattle.job_words.specs.Planned.{opened_of, setup_of, IsPlanned}
+use Rattle.job_words.specs.Planned.{opened_of, setup_of, IsMeshOf, IsPlanned}
+use Rattle.job_words.specs.Reinjecting.{HasKeptPasses, opened as first_opened, round as then_round, put_back as then_put_back}
 use Rattle.job_words.specs.Runs.{HasKeptRounds, opened, round, IsRoomy}
-use Rattle.job_words.proofs.Opening.{are_of_nets}
+use Rattle.job_words.proofs.Opening.{job_of_nets, opened_keeps}
 
--- nothing waits in an opened mesh
-pub opened_quiet : (u : Setup) (nets : List NetPlan) (packets : List Packet) → NothingWaits (opened_mesh u nets packets)
-opened_quiet u nets packets = record {
-  inputs_empty = All-replicate (λ (q : List McCopy). q ≡ []) (7 * (u.machine.width * u.machine.height)) [] refl;
-  hands_empty = All-replicate (λ (h : Option Held). h ≡ None) (u.machine.width * u.machine.height) None refl;
-  cores_empty = All-replicate (λ (q : List McCopy). q ≡ []) (length u.spots) [] refl;
-}
+-- the law that what leads from mesh to mesh keeps the ledger of a job
+abbrev Keeps : (ℕ → ℕ → State → State → Type 0) → Type 0
+Keeps Leads = (patience turns : ℕ) (m n : State) (nets : List NetPlan) (packets : List Packet) → IsMesh m → AreRight m.setup.machine m.setup.tables nets →
+    MeetsJobLedger m nets packets → Leads patience turns m n → MeetsJobLedger n nets packets
 
--- the law that rounds keep the ledger of a job
-abbrev pub RoundsKeep : Type 0
-RoundsKeep = (patience turns : ℕ) (m n : State) (nets : List NetPlan) (packets : List Packet) → IsMesh m → AreRight m.setup.machine m.setup.tables nets →
-    MeetsJobLedger m nets packets → HasRounds patience turns m n → MeetsJobLedger n nets packets
+-- the law that it leads to a mesh of the same setup
+abbrev LeadsOn : (ℕ → ℕ → State → State → Type 0) → Type 0
+LeadsOn Leads = (patience turns : ℕ) (m n : State) → IsMesh m → Leads patience turns m n → IsMesh n × (n.setup ≡ m.setup)
 
 -- the law that rounds make no dump record where queues have room for all packets
-abbrev pub RoomyRoundsDropNone : Type 0
+abbrev RoomyRoundsDropNone : Type 0
 RoomyRoundsDropNone = (patience turns : ℕ) (setup : Setup) (n : State) (nets : List NetPlan) (packets : List Packet) → 1 ≤ patience →
     IsMesh (opened_mesh setup nets packets) → AreRight setup.machine setup.tables nets → AreNetsOn setup.machine setup.spots nets →
     AreOfNets nets packets → length packets ≤ setup.capacity → HasRounds patience turns (opened_mesh setup nets packets) n → n.dumped ≡ []
 
-module _ (job : Job) (plan : Plan) (run : IsRunOf job.graph job.run) (planned : IsPlanned job plan) where
-  of_nets : AreOfNets plan.nets job.run.packets
-  of_nets = are_of_nets job.machine job.graph job.run.target job.run plan run planned
+module _ (job : Job) (plan : Plan) (run : IsRunOf job.graph job.run) (planned : IsPlanned job plan) (mesh : IsMesh (opened_of job plan)) where
+  -- what leads on from the opened mesh leads to a mesh of the job
+  mesh_of : (Leads : ℕ → ℕ → State → State → Type 0) → Keeps Leads → LeadsOn Leads → (n : State) → Leads job.run.patience job.run.turns (opened_of job plan) n → IsMeshOf job plan n
+  mesh_of Leads keep on n led =
+      let next = on job.run.patience job.run.turns (opened_of job plan) n mesh led in
+      record {
+        is_mesh = next.0;
+        setup = next.1;
+        ledger = keep job.run.patience job.run.turns (opened_of job plan) n plan.nets job.run.packets mesh planned.right (opened_keeps job plan run planned) led;
+      }
 
-  pub opened_keeps : MeetsJobLedger (opened_of job plan) plan.nets job.run.packets
-  opened_keeps = opened_meets_ledger (setup_of job plan) plan.nets job.run.packets planned.routing.stand of_nets
-
-  module _ (mesh : IsMesh (opened_of job plan)) where
-    pub rounds_keep : RoundsKeep → (n : State) → HasRounds job.run.patience job.run.turns (opened_of job plan) n → MeetsJobLedger n plan.nets job.run.packets
-    rounds_keep law n rounds = law job.run.patience job.run.turns (opened_of job plan) n plan.nets job.run.packets mesh planned.right opened_keeps rounds
+  module _ (keep : Keeps HasRounds) (on : LeadsOn HasRounds) where
+    pub by_rounds : (n : State) → HasRounds job.run.patience job.run.turns (opened_of job plan) n → IsMeshOf job plan n
+    by_rounds = mesh_of HasRounds keep on
 
     -- each of the rounds keeps the ledger
-    pub kept_rounds : RoundsKeep → (n : State) → HasRounds job.run.patience job.run.turns (opened_of job plan) n → HasKeptRounds job plan n
-    kept_rounds law n none = opened opened_keeps
-    kept_rounds law n (more f k n' before after passed) = round f k n' (kept_rounds law k before) after passed (rounds_keep law n' (more f k n' before after passed))
+    pub kept_rounds : (n : State) → HasRounds job.run.patience job.run.turns (opened_of job plan) n → HasKeptRounds job plan n
+    kept_rounds n none = opened (opened_keeps job plan run planned)
+    kept_rounds n (more f k n' before after passed) = round f k n' (kept_rounds k before) after passed (by_rounds n' (more f k n' before after passed)).ledger
 
-    pub none_dropped : RoomyRoundsDropNone → (n : State) → HasRounds job.run.patience job.run.turns (opened_of job plan) n → IsRoomy job → n.dumped ≡ []
-    none_dropped law n rounds roomy =
-        law job.run.patience job.run.turns (setup_of job plan) n plan.nets job.run.packets run.patience.0 mesh planned.right planned.routing.stand of_nets roomy rounds
+  pub none_dropped : RoomyRoundsDropNone → (n : State) → HasRounds job.run.patience job.run.turns (opened_of job plan) n → IsRoomy job → n.dumped ≡ []
+  none_dropped law n led roomy =
+      law job.run.patience job.run.turns (setup_of job plan) n plan.nets job.run.packets run.patience.0 mesh planned.right planned.routing.stand
+      (job_of_nets job plan run planned) roomy led
+
+  module _ (keep : Keeps HasPasses) (on : LeadsOn HasPasses) where
+    pub by_passes : (n : State) → HasPasses job.run.patience job.run.turns (opened_of job plan) n → IsMeshOf job plan n
+    by_passes = mesh_of HasPasses keep on
+
+    -- each round, and each copy put back, keeps the ledger
+    pub kept_passes : (n : State) → HasPasses job.run.patience job.run.turns (opened_of job plan) n → HasKeptPasses job plan n
+    kept_passes n no_pass = first_opened (opened_keeps job plan run planned)
+    kept_passes n (by_round f k n' before after passed) =
+        then_round f k n' (kept_passes k before) after passed (by_passes n' (by_round f k n' before after passed)).ledger
+    kept_passes n (by_putting_back k before) = then_put_back k (kept_passes k before) (by_passes (after_put_back k) (by_putting_back k before)).ledger

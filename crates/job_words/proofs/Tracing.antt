@@ -1,30 +1,19 @@
--- What a run tells, events one by one, and what a trace keeps.
-use Rattle.std.proofs.Common.{◌≡◌, ℕ, zero, suc, ◌+◌, ◌<◌, length, List, [], ◌∷◌, ◌++◌, take, refl, ap, ◌∙◌, sym, Some, add-one}
-use Rattle.std.specs.List.{slice_get, slice_index_or}
+-- Events one by one, and what a trace keeps.
+use Rattle.std.proofs.Common.{◌≡◌, ℕ, ◌+◌, ◌<◌, length, List, [], ◌∷◌, ◌++◌, take, refl, ap, ◌∙◌, sym}
+use Rattle.std.specs.List.{slice_index_or}
 use Rattle.std.proofs.lemmas.Option.{slice_get-get_or}
-use Rattle.spin_base.specs.declared.chips.Spot.{Spot}
+use Rattle.list_laws.proofs.Places.{take_more_at}
 use Rattle.spin_base.specs.declared.copies.Event.{Event}
 use Rattle.app_graph.specs.RunPart.{IsRunOf}
 use Rattle.mesh_core.specs.State.{State, IsMesh}
 use Rattle.mesh_core.specs.Step.{after_event, after_events, answer, answers_of}
 use Rattle.mesh_core.specs.Opened.{MeetsJobLedger}
 use Rattle.mesh_core.specs.declared.places.Did.{Did}
-use Rattle.std.proofs.lemmas.List.{length-map}
-use Rattle.std.proofs.lemmas.List.Sorted.{length_permutation}
 use Rattle.mesh_core.proofs.EventsLaw.{events_keep_job}
 use Rattle.job_readers.specs.declared.jobs.Job.{Job}
-use Rattle.run_report.specs.declared.reports.Report.{Report}
-use Rattle.run_report.specs.Listed.{placed_of}
-use Rattle.run_report.specs.RunReport.{named}
 use Rattle.par_compile.specs.declared.compiling.Plan.{Plan}
-use Rattle.job_words.specs.Words.{IsReported}
 use Rattle.job_words.specs.Planned.{opened_of, IsPlanned}
-use Rattle.job_words.proofs.Running.{opened_keeps}
-
-next_take : {X : Type 0} (xs : List X) (i : ℕ) (x : X) → slice_get xs i ≡ Some x → take (suc i) xs ≡ take i xs ++ x ∷ []
-next_take [] i x at = cc
-next_take (y ∷ ys) zero x at = let same : y ≡ x = cc in ap (λ z. z ∷ []) same
-next_take (y ∷ ys) (suc i) x at = ap (λ l. y ∷ l) (next_take ys i x at)
+use Rattle.job_words.proofs.Opening.{opened_keeps}
 
 after_one_more : (s : State) (es : List Event) (e : Event) → after_events s (es ++ e ∷ []) ≡ after_event (after_events s es) e
 after_one_more s [] e = refl
@@ -34,9 +23,6 @@ answers_one_more : (s : State) (es : List Event) (e : Event) → answers_of s (e
 answers_one_more s [] e = refl
 answers_one_more s (f ∷ es) e = ap (λ l. answer s f ∷ l) (answers_one_more (after_event s f) es e)
 
-one_more_taken : {X : Type 0} (xs : List X) (i : ℕ) (x : X) → slice_get xs i ≡ Some x → take (i + 1) xs ≡ take i xs ++ x ∷ []
-one_more_taken xs i x at = ap (λ n. take n xs) (add-one i) ∙ next_take xs i x at
-
 -- the mesh and the answers after the events so far, and after the next
 pub one_event_more : (s now next : State) (did more : List Did) (es : List Event) (i : ℕ) (d : Event) (answered : Did) → i < length es →
     (now ≡ after_events s (take i es)) × (did ≡ answers_of s (take i es)) × (now.setup ≡ s.setup) →
@@ -44,7 +30,7 @@ pub one_event_more : (s now next : State) (did more : List Did) (es : List Event
     (next ≡ after_events s (take (i + 1) es)) × (more ≡ answers_of s (take (i + 1) es)) × (next.setup ≡ s.setup)
 one_event_more s now next did more es i d answered below so_far moved told setup pushed =
     let e : Event = slice_index_or es i d in
-    let taken : take (i + 1) es ≡ take i es ++ e ∷ [] = one_more_taken es i e (slice_get-get_or es i d below) in (
+    let taken : take (i + 1) es ≡ take i es ++ e ∷ [] = take_more_at es i e (slice_get-get_or es i d below) in (
       moved ∙ (ap (λ m. after_event m e) so_far.0 ∙ (sym (after_one_more s (take i es) e) ∙ sym (ap (after_events s) taken))),
       pushed
           ∙ (ap (λ l. l ++ answered ∷ []) so_far.1
@@ -59,15 +45,3 @@ pub traced_ledger : (job : Job) (plan : Plan) → IsRunOf job.graph job.run → 
     MeetsJobLedger (after_events (opened_of job plan) es) plan.nets job.run.packets
 traced_ledger job plan run planned mesh es =
     events_keep_job (opened_of job plan) plan.nets job.run.packets mesh planned.right (opened_keeps job plan run planned) es
-
--- a report tells as many deliveries as there are
-pub told_count : (job : Job) (plan : Plan) (mesh : State) (did : List Did) (report : Report) → IsReported job plan mesh did report → length report.delivered ≡ length mesh.delivered
-told_count job plan mesh did report reported =
-    let placed : List (List ℕ × Spot) = placed_of job.graph plan.placement.spots in
-    ap length reported.delivered.named_each
-    ∙ (length-map reported.delivered.sorted (named placed)
-    ∙ length_permutation mesh.delivered reported.delivered.sorted reported.delivered.in_order.same_items)
-
--- and, where there is no dump record, none
-pub told_none : (job : Job) (plan : Plan) (mesh : State) (did : List Did) (report : Report) → mesh.dumped ≡ [] → IsReported job plan mesh did report → length report.dumped ≡ 0
-told_none job plan mesh did report none reported = length_permutation mesh.dumped report.dumped reported.dumped.same_items ∙ ap length none

@@ -1,5 +1,5 @@
 -- The parts of an outcome (this project's own).
-use Rattle.std.specs.Prelude.{Some, None, IfSome}
+use Rattle.std.specs.Prelude.{Option, Some, None, IfSome}
 use Rattle.mesh_core.specs.State.{State}
 use Rattle.job_readers.specs.declared.jobs.Job.{Job}
 use Rattle.run_report.specs.declared.reports.Report.{Report}
@@ -14,6 +14,10 @@ plan_parts job plan = record { job = Some job; plan = Some plan; mesh = None; re
 
 abbrev pub run_parts : Job → Plan → State → Report → Parts
 run_parts job plan mesh report = record { job = Some job; plan = Some plan; mesh = Some mesh; report = Some report }
+
+-- job and plan, and the mesh and the report that a word made of them
+abbrev pub parts_with : Job → Plan → Option State → Option Report → Parts
+parts_with job plan mesh report = record { job = Some job; plan = Some plan; mesh = mesh; report = report }
 
 -- what holds of the job and plan, where they are given
 abbrev pub WhereGiven : Parts → (Job → Plan → Type 0) → Type 0

@@ -1,8 +1,8 @@
 -- The plan of a job, and what the mesh takes from it.
 use Rattle.std.specs.Prelude.{◌≡◌, map}
 use Rattle.table_load.specs.declared.tables.Image.{Image}
-use Rattle.mesh_core.specs.State.{Setup, State}
-use Rattle.mesh_core.specs.Opened.{opened_mesh}
+use Rattle.mesh_core.specs.State.{Setup, State, IsMesh}
+use Rattle.mesh_core.specs.Opened.{opened_mesh, MeetsJobLedger}
 use Rattle.job_readers.specs.declared.jobs.Job.{Job}
 use Rattle.par_compile.specs.declared.compiling.Plan.{Plan}
 use Rattle.par_compile.specs.Compiled.{IsPlanOf}
@@ -34,3 +34,9 @@ setup_of job plan = record {
 -- the opened mesh of a job: nothing waits, and each packet is unsent at its net's source
 abbrev pub opened_of : Job → Plan → State
 opened_of job plan = opened_mesh (setup_of job plan) plan.nets job.run.packets
+
+-- A mesh of a job: it is a mesh, has the setup of the job's plan, and keeps the job's ledger.
+pub record IsMeshOf (job : Job) (plan : Plan) (mesh : State) : Type 0 where
+  pub is_mesh : IsMesh mesh
+  pub setup : mesh.setup ≡ setup_of job plan
+  pub ledger : MeetsJobLedger mesh plan.nets job.run.packets

@@ -23,6 +23,11 @@ use Rattle.job_words.specs.Runs.{HasRunOut}
 abbrev pub IsReported : Job → Plan → State → List Did → Report → Type 0
 IsReported job plan mesh did report = IsReportOf job.graph plan.placement.spots plan.nets (tables_image job plan).chips mesh did report
 
+-- all four parts are given, with this mesh and its report after events with these answers, and the text is that of the report.
+abbrev pub Tells : Job → Plan → State → List Did → Parts → List ℕ → Type 0
+Tells job plan mesh did parts text = (report : Report) × IsReported job plan mesh did report
+    × (parts ≡ run_parts job plan mesh report) × (text ≡ report_text report)
+
 -- `trace`: the mesh is the opened one after all events of the job, one by one. The report tells the answers to them, and
 -- after each number of them the mesh keeps the ledger.
 pub record IsTraced (job : Job) (plan : Plan) (mesh : State) (report : Report) : Type 0 where

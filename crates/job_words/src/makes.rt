@@ -4,13 +4,13 @@ ghost use Rattle.app_graph.specs.RunPart.{IsRunOf};
 ghost use Rattle.app_graph.specs.ValidGraph.{IsValidGraph};
 ghost use Rattle.run_report.specs.ReportText.{row_total};
 ghost use Rattle.job_gen.specs.Generated.{gen_job};
-ghost use Rattle.job_words.specs.Parts.{plan_parts, run_parts};
+ghost use Rattle.job_words.specs.Parts.{parts_with};
 ghost use Rattle.job_words.specs.Planned.{setup_of, IsPlanned};
 ghost use Rattle.job_words.specs.Reinjecting.{HasReinjected};
 ghost use Rattle.job_words.specs.Runs.{HasRunOut};
-ghost use Rattle.job_words.specs.Words.{Images, IsReported, IsTraced, Lists, Reports, Summarises};
+ghost use Rattle.job_words.specs.Words.{Images, IsReported, IsTraced, Lists, Reports, Summarises, Tells};
 
-use crate::outcomes::{Made, Parts};
+use crate::outcomes::Told;
 use crate::runs::{reinject_job, run_job, trace_job};
 use job_readers::Job;
 use mesh_core::laws::deliveries_are_as_many_as_expected;
@@ -27,44 +27,34 @@ use table_load::encode;
 pub(crate) fn run<R: Threads + Wait + Sync, G: Gate>(
     rt: &R,
     alloc: Global,
-    job: Job,
-    plan: Plan,
+    job: &Job,
+    plan: &Plan,
     gate: &G,
-) -> Result<Made, Memory>
-    requires graph { IsValidGraph job.graph }
-    requires run { IsRunOf job.graph job.run }
-    requires planned { IsPlanned job plan }
-    ensures { IfOk result (λ made. Reports HasRunOut job plan made.parts made.text) }
+) -> Result<Told, Memory>
+    requires graph { IsValidGraph job.now.graph }
+    requires run { IsRunOf job.now.graph job.now.run }
+    requires planned { IsPlanned job.now plan.now }
+    ensures { IfOk result (λ told. Reports HasRunOut job.now plan.now (parts_with job.now plan.now told.mesh told.report) told.text) }
 {
-    let mesh = run_job(rt, alloc, &job, &plan, gate)?;
-    let report = report(alloc, &job, &plan, &mesh, Seq::new(alloc))?;
-    let text = text_of(alloc, &report)?;
-    Ok(Made {
-        parts: parts_of(job, plan, mesh, report),
-        text,
-    })
+    let mesh = run_job(rt, alloc, job, plan, gate)?;
+    reported(alloc, job, plan, mesh, Seq::new(alloc))
 }
 
 // The same, with dumped copies put back until none is left.
 pub(crate) fn reinjected<R: Threads + Wait + Sync, G: Gate>(
     rt: &R,
     alloc: Global,
-    job: Job,
-    plan: Plan,
+    job: &Job,
+    plan: &Plan,
     gate: &G,
-) -> Result<Made, Memory>
-    requires graph { IsValidGraph job.graph }
-    requires run { IsRunOf job.graph job.run }
-    requires planned { IsPlanned job plan }
-    ensures { IfOk result (λ made. Reports HasReinjected job plan made.parts made.text) }
+) -> Result<Told, Memory>
+    requires graph { IsValidGraph job.now.graph }
+    requires run { IsRunOf job.now.graph job.now.run }
+    requires planned { IsPlanned job.now plan.now }
+    ensures { IfOk result (λ told. Reports HasReinjected job.now plan.now (parts_with job.now plan.now told.mesh told.report) told.text) }
 {
-    let mesh = reinject_job(rt, alloc, &job, &plan, gate)?;
-    let report = report(alloc, &job, &plan, &mesh, Seq::new(alloc))?;
-    let text = text_of(alloc, &report)?;
-    Ok(Made {
-        parts: parts_of(job, plan, mesh, report),
-        text,
-    })
+    let mesh = reinject_job(rt, alloc, job, plan, gate)?;
+    reported(alloc, job, plan, mesh, Seq::new(alloc))
 }
 
 // A run of the job of a number, and its summary.
@@ -72,66 +62,86 @@ pub(crate) fn generated<R: Threads + Wait + Sync, G: Gate>(
     rt: &R,
     alloc: Global,
     number: u64,
-    job: Job,
-    plan: Plan,
+    job: &Job,
+    plan: &Plan,
     gate: &G,
-) -> Result<Made, Memory>
-    requires of_number { job ≡ gen_job number }
-    requires graph { IsValidGraph job.graph }
-    requires run { IsRunOf job.graph job.run }
-    requires planned { IsPlanned job plan }
-    ensures { IfOk result (λ made. Summarises number job plan made.parts made.text) }
+) -> Result<Told, Memory>
+    requires of_number { job.now ≡ gen_job number }
+    requires graph { IsValidGraph job.now.graph }
+    requires run { IsRunOf job.now.graph job.now.run }
+    requires planned { IsPlanned job.now plan.now }
+    ensures { IfOk result (λ told. Summarises number job.now plan.now (parts_with job.now plan.now told.mesh told.report) told.text) }
 {
     deliveries_are_as_many_as_expected();
-    let mesh = run_job(rt, alloc, &job, &plan, gate)?;
-    let report = report(alloc, &job, &plan, &mesh, Seq::new(alloc))?;
+    let mesh = run_job(rt, alloc, job, plan, gate)?;
+    let report = report(alloc, job, plan, &mesh, Seq::new(alloc))?;
     let text = summary_text(alloc, number, &job.machine, &job.graph, &job.run, &report)?;
-    Ok(Made {
-        parts: parts_of(job, plan, mesh, report),
+    Ok(Told {
+        mesh: Some(mesh),
+        report: Some(report),
         text,
     })
 }
 
 // The mesh after all events of the job, its report, and the report's text.
-pub(crate) fn trace(alloc: Global, job: Job, plan: Plan) -> Result<Made, Memory>
-    requires graph { IsValidGraph job.graph }
-    requires run { IsRunOf job.graph job.run }
-    requires planned { IsPlanned job plan }
-    ensures { IfOk result (λ made. Reports IsTraced job plan made.parts made.text) }
+pub(crate) fn trace(alloc: Global, job: &Job, plan: &Plan) -> Result<Told, Memory>
+    requires graph { IsValidGraph job.now.graph }
+    requires run { IsRunOf job.now.graph job.now.run }
+    requires planned { IsPlanned job.now plan.now }
+    ensures { IfOk result (λ told. Reports IsTraced job.now plan.now (parts_with job.now plan.now told.mesh told.report) told.text) }
 {
-    let (mesh, did) = trace_job(alloc, &job, &plan)?;
-    let report = report(alloc, &job, &plan, &mesh, did)?;
-    let text = text_of(alloc, &report)?;
-    Ok(Made {
-        parts: parts_of(job, plan, mesh, report),
-        text,
-    })
+    let (mesh, did) = trace_job(alloc, job, plan)?;
+    reported(alloc, job, plan, mesh, did)
 }
 
 // The text of the plan.
-pub(crate) fn list(alloc: Global, job: Job, plan: Plan) -> Result<Made, Memory>
-    requires graph { IsValidGraph job.graph }
-    requires planned { IsPlanned job plan }
-    ensures { IfOk result (λ made. Lists job plan made.parts made.text) }
+pub(crate) fn list(alloc: Global, job: &Job, plan: &Plan) -> Result<Told, Memory>
+    requires graph { IsValidGraph job.now.graph }
+    requires planned { IsPlanned job.now plan.now }
+    ensures { IfOk result (λ told. Lists job.now plan.now (parts_with job.now plan.now told.mesh told.report) told.text) }
 {
     let image = image_of(alloc, &job.machine, &plan.tables)?;
     let spots = &plan.placement.spots;
     let text = plan_text(alloc, &job.graph, spots, &plan.nets, &image)?;
-    Ok(Made {
-        parts: planned_parts(job, plan),
+    Ok(Told {
+        mesh: None,
+        report: None,
         text,
     })
 }
 
 // The bytes of the image of the plan's tables.
-pub(crate) fn image(alloc: Global, job: Job, plan: Plan) -> Result<Made, Memory>
-    requires planned { IsPlanned job plan }
-    ensures { IfOk result (λ made. Images job plan made.parts made.text) }
+pub(crate) fn image(alloc: Global, job: &Job, plan: &Plan) -> Result<Told, Memory>
+    requires planned { IsPlanned job.now plan.now }
+    ensures { IfOk result (λ told. Images job.now plan.now (parts_with job.now plan.now told.mesh told.report) told.text) }
 {
     let image = image_of(alloc, &job.machine, &plan.tables)?;
     let text = encode(alloc, &image)?;
-    Ok(Made {
-        parts: planned_parts(job, plan),
+    Ok(Told {
+        mesh: None,
+        report: None,
+        text,
+    })
+}
+
+// A mesh, its report after events with these answers, and the report's text.
+fn reported(
+    alloc: Global,
+    job: &Job,
+    plan: &Plan,
+    mesh: Mesh,
+    did: Seq<Did>,
+) -> Result<Told, Memory>
+    requires graph { IsValidGraph job.now.graph }
+    requires planned { IsPlanned job.now plan.now }
+    requires setup { mesh.setup ≡ setup_of job.now plan.now }
+    ensures { IfOk result (λ told. Tells job.now plan.now mesh did (parts_with job.now plan.now told.mesh told.report) told.text) }
+{
+    let report = report(alloc, job, plan, &mesh, did)?;
+    let text = text_of(alloc, &report)?;
+    Ok(Told {
+        mesh: Some(mesh),
+        report: Some(report),
         text,
     })
 }
@@ -154,28 +164,4 @@ fn report(
     let spots = &plan.placement.spots;
     let tables = image.chips;
     report_of(alloc, &job.graph, spots, &plan.nets, tables, mesh, did)
-}
-
-// Job and plan.
-fn planned_parts(job: Job, plan: Plan) -> Parts
-    ensures { result ≡ plan_parts job plan }
-{
-    Parts {
-        job: Some(job),
-        plan: Some(plan),
-        mesh: None,
-        report: None,
-    }
-}
-
-// All four parts.
-fn parts_of(job: Job, plan: Plan, mesh: Mesh, report: Report) -> Parts
-    ensures { result ≡ run_parts job plan mesh report }
-{
-    Parts {
-        job: Some(job),
-        plan: Some(plan),
-        mesh: Some(mesh),
-        report: Some(report),
-    }
 }

@@ -25,3 +25,12 @@ pub struct Made {
     pub parts: Parts,
     pub text: Seq<u8>,
 }
+
+// What a word makes of a job and its plan, which stay with the caller: the mesh and the report where the word asks for them, and
+// the whole text.
+#[derive(Drop)]
+pub(crate) struct Told {
+    pub(crate) mesh: Option<Mesh>,
+    pub(crate) report: Option<Report>,
+    pub(crate) text: Seq<u8>,
+}

@@ -1,12 +1,16 @@
 // The mesh of a job: opened, after all its packets, or after all its events.
 ghost use Rattle.std.specs.Prelude.{◌≡◌, IfOk, OnOk, [], map};
 ghost use Rattle.app_graph.specs.RunPart.{IsRunOf};
-ghost use Rattle.mesh_core.specs.State.{IsMesh};
+ghost use Rattle.mesh_core.specs.State.{State, IsMesh};
 ghost use Rattle.mesh_core.specs.Step.{after_events, answers_of};
-ghost use Rattle.mesh_core.specs.Opened.{MeetsJobLedger};
 ghost use Rattle.mesh_core.specs.Expected.{IsAtRest};
+ghost use Rattle.round_flow.specs.RoundFlow.{HasRounds};
+ghost use Rattle.mesh_round.specs.OnThreads.{IsReady};
+ghost use Rattle.mesh_round.specs.Reinjecting.{HasPasses};
+ghost use Rattle.job_readers.specs.declared.jobs.Job.{Job};
+ghost use Rattle.par_compile.specs.declared.compiling.Plan.{Plan};
 ghost use Rattle.par_compile.specs.Finals.{loaded_of};
-ghost use Rattle.job_words.specs.Planned.{opened_of, setup_of, IsPlanned};
+ghost use Rattle.job_words.specs.Planned.{opened_of, setup_of, IsMeshOf, IsPlanned};
 ghost use Rattle.job_words.specs.Reinjecting.{HasKeptPasses};
 ghost use Rattle.job_words.specs.Runs.{HasKeptRounds, IsRoomy};
 
@@ -44,16 +48,11 @@ pub(crate) fn run_job<R: Threads + Wait + Sync, G: Gate>(
     requires run { IsRunOf job.now.graph job.now.run }
     requires planned { IsPlanned job.now plan.now }
     ensures reached { IfOk result (HasKeptRounds job.now plan.now) }
+    ensures kept { IfOk result (IsMeshOf job.now plan.now) }
     ensures at_rest { IfOk result IsAtRest }
-    ensures mesh { IfOk result IsMesh }
-    ensures setup { IfOk result (λ mesh. mesh.setup ≡ setup_of job.now plan.now) }
-    ensures ledger { IfOk result (λ mesh. MeetsJobLedger mesh plan.now.nets job.now.run.packets) }
     ensures no_record { IfOk result (λ mesh. IsRoomy job.now → mesh.dumped ≡ []) }
 {
-    a_quiet_mesh_is_ready();
-    rounds_keep_the_ledger();
-    rounds_lead_to_a_mesh();
-    roomy_rounds_deliver_all();
+    rounds_of_a_job();
     let mesh = open_job(alloc, job, plan)?;
     let (patience, workers, turns) = (job.run.patience, job.run.workers, job.run.turns);
     match run_out(rt, alloc, mesh, patience, workers, turns, gate) {
@@ -73,20 +72,36 @@ pub(crate) fn reinject_job<R: Threads + Wait + Sync, G: Gate>(
     requires run { IsRunOf job.now.graph job.now.run }
     requires planned { IsPlanned job.now plan.now }
     ensures reached { IfOk result (HasKeptPasses job.now plan.now) }
+    ensures kept { IfOk result (IsMeshOf job.now plan.now) }
     ensures at_rest { IfOk result IsAtRest }
-    ensures mesh { IfOk result IsMesh }
-    ensures setup { IfOk result (λ mesh. mesh.setup ≡ setup_of job.now plan.now) }
-    ensures ledger { IfOk result (λ mesh. MeetsJobLedger mesh plan.now.nets job.now.run.packets) }
     ensures no_record { IfOk result (λ mesh. mesh.dumped ≡ []) }
 {
-    a_quiet_mesh_is_ready();
-    passes_keep_the_ledger();
+    passes_of_a_job();
     let mesh = open_job(alloc, job, plan)?;
     let (patience, workers, turns) = (job.run.patience, job.run.workers, job.run.turns);
     match reinject(rt, alloc, mesh, patience, workers, turns, gate) {
         Ok(mesh) => Ok(mesh),
         Err((_, memory)) => Err(memory),
     }
+}
+
+// Rounds from the opened mesh of a planned job, of the job's patience and turns, lead to a mesh of the job and keep its ledger;
+// and where queues have room for all packets, they make no dump record.
+fn rounds_of_a_job()
+    ensures { (job : Job) (plan : Plan) (m n : State) → IsRunOf job.graph job.run → IsPlanned job plan → IsMesh m → m ≡ opened_of job plan →
+        HasRounds job.run.patience job.run.turns m n → HasKeptRounds job plan n × IsMeshOf job plan n × (IsRoomy job → n.dumped ≡ []) }
+{
+    rounds_keep_the_ledger();
+    rounds_lead_to_a_mesh();
+    roomy_rounds_deliver_all();
+}
+
+// The same of rounds and copies put back, in any order.
+fn passes_of_a_job()
+    ensures { (job : Job) (plan : Plan) (m n : State) → IsRunOf job.graph job.run → IsPlanned job plan → IsMesh m → m ≡ opened_of job plan →
+        HasPasses job.run.patience job.run.turns m n → HasKeptPasses job plan n × IsMeshOf job plan n }
+{
+    passes_keep_the_ledger();
 }
 
 // The mesh of a job after all its events, one by one, and the answers to them.
@@ -108,8 +123,9 @@ fn open_job(alloc: Global, job: &Job, plan: &Plan) -> Result<Mesh, Memory>
     requires run { IsRunOf job.now.graph job.now.run }
     requires planned { IsPlanned job.now plan.now }
     ensures opened { IfOk result (λ mesh. mesh ≡ opened_of job.now plan.now) }
-    ensures mesh { IfOk result IsMesh }
+    ensures ready { IfOk result IsReady }
 {
+    a_quiet_mesh_is_ready();
     let pieces = pieces_of(alloc, job, plan)?;
     let nets = plan.nets.as_slice();
     let packets = job.run.packets.as_slice();

@@ -5,12 +5,13 @@ ghost use Rattle.app_graph.specs.ValidGraph.{IsValidGraph};
 ghost use Rattle.job_gen.specs.Generated.{gen_job};
 ghost use Rattle.command_words.specs.declared.commands.JobWord.TheVariants.{Gen};
 ghost use Rattle.refusals.specs.declared.causes.Refusal.TheVariants.{Memory as NoMemory};
+ghost use Rattle.job_words.specs.Parts.{parts_with};
 ghost use Rattle.job_words.specs.Planned.{IsPlanned};
 ghost use Rattle.job_words.specs.Unplanned.{HasNoPlan};
 ghost use Rattle.job_words.specs.Words.{IsMadeOf, Makes};
 
 use crate::makes::{generated, image, list, reinjected, run, trace};
-use crate::outcomes::Made;
+use crate::outcomes::{Made, Parts, Told};
 use crate::plans::plan_of;
 use command_words::JobWord;
 use job_readers::Job;
@@ -41,8 +42,16 @@ pub fn made_of_job<R: Threads + Wait + Sync, G: Gate>(
     ensures err { IfErr result (λ r. HasNoPlan job r ⊎ (r ≡ NoMemory)) }
 {
     let plan = plan_of(rt, alloc, &job, gate)?;
-    match make(rt, alloc, word, job, plan, gate) {
-        Ok(made) => Ok(made),
+    match make(rt, alloc, word, &job, &plan, gate) {
+        Ok(told) => Ok(Made {
+            parts: Parts {
+                job: Some(job),
+                plan: Some(plan),
+                mesh: told.mesh,
+                report: told.report,
+            },
+            text: told.text,
+        }),
         Err(Memory) => Err(Refusal::Memory),
     }
 }
@@ -52,15 +61,15 @@ fn make<R: Threads + Wait + Sync, G: Gate>(
     rt: &R,
     alloc: Global,
     word: JobWord,
-    job: Job,
-    plan: Plan,
+    job: &Job,
+    plan: &Plan,
     gate: &G,
-) -> Result<Made, Memory>
-    requires graph { IsValidGraph job.graph }
-    requires run { IsRunOf job.graph job.run }
-    requires generated { (number : ℕ) → word ≡ Gen number → job ≡ gen_job number }
-    requires planned { IsPlanned job plan }
-    ensures { IfOk result (λ made. Makes word job plan made.parts made.text) }
+) -> Result<Told, Memory>
+    requires graph { IsValidGraph job.now.graph }
+    requires run { IsRunOf job.now.graph job.now.run }
+    requires generated { (number : ℕ) → word ≡ Gen number → job.now ≡ gen_job number }
+    requires planned { IsPlanned job.now plan.now }
+    ensures { IfOk result (λ told. Makes word job.now plan.now (parts_with job.now plan.now told.mesh told.report) told.text) }
 {
     match word {
         JobWord::Run => run(rt, alloc, job, plan, gate),

@@ -1,22 +1,12 @@
-use Rattle.std.proofs.Common.{List, sym, subst}
-use Rattle.mesh_core.specs.declared.places.Did.{Did}
-use Rattle.job_words.specs.Words.{IsReported}
-use Rattle.job_words.proofs.AtRest.{ran_out}
+use Rattle.job_words.specs.Runs.{HasRunOut}
+use Rattle.job_words.proofs.AtRest.{ran_out, reports_at_rest}
 use Rattle.job_words.proofs.makes.run.Goals as goal
 
 pub returns : goal.returns
 returns g c =
-    let job = c.args.job in
-    let plan = c.args.plan in
+    let job = c.args.job.now in
+    let plan = c.args.plan.now in
     let mesh = c.in_ok-mesh.mesh in
-    let report = c.in_ok-report.report in
-    let reported = subst (λ (did : List Did). IsReported job plan mesh did report) c.new.ensures c.in_ok-report.ensures.reported in
-    let ran = c.in_ok-mesh.ensures in (
-      mesh,
-      report,
-      record { ledger = ran.ledger; reported = subst (λ (did : List Did). IsReported job plan mesh did report) (sym reported.same_did) reported },
-      ran_out job plan mesh report
-          (record { is_mesh = ran.mesh; setup = ran.setup; ledger = ran.ledger; at_rest = ran.at_rest; reported = reported }) ran.reached ran.no_record,
-      c.parts_of.ensures,
-      c.in_ok-text.ensures,
-    )
+    let ran = c.in_ok-mesh.ensures in
+    reports_at_rest job plan mesh HasRunOut c.reported.result c.new.result c.new.ensures ran.kept ran.at_rest
+    (λ report told. ran_out job plan mesh report told ran.reached ran.no_record) c.reported.ensures

@@ -1,4 +1,5 @@
-use Rattle.job_words.specs.declared.outcomes.Made.{Made}
+use Rattle.job_words.specs.declared.outcomes.Told.{Told}
+use Rattle.job_words.specs.Parts.{parts_with}
 use Rattle.job_words.specs.Reinjecting.{HasReinjected}
 use Rattle.job_words.specs.Runs.{HasRunOut}
 use Rattle.job_words.specs.Words.{Images, IsTraced, Lists, Makes, Reports, Summarises, generated, imaged, listed, ran, reinjected, traced}
@@ -7,30 +8,30 @@ use Rattle.job_words.proofs.words.make.Goals as goal
 
 pub returns-in-Run : goal.returns-in-Run
 returns-in-Run g c =
-    ok_weaker c.run.result (λ (m : Made). Reports HasRunOut c.args.job c.args.plan m.parts m.text) (λ (m : Made). Makes c.args.word c.args.job c.args.plan m.parts m.text)
-    (λ m reports. ran c.in-Run.is reports) c.run.ensures
+    ok_weaker c.run.result (λ (t : Told). Reports HasRunOut c.args.job.now c.args.plan.now (parts_with c.args.job.now c.args.plan.now t.mesh t.report) t.text) (λ (t : Told). Makes c.args.word c.args.job.now c.args.plan.now (parts_with c.args.job.now c.args.plan.now t.mesh t.report) t.text)
+    (λ t reports. ran c.in-Run.is reports) c.run.ensures
 
 pub returns-in-Reinject : goal.returns-in-Reinject
 returns-in-Reinject g c =
-    ok_weaker c.reinjected.result (λ (m : Made). Reports HasReinjected c.args.job c.args.plan m.parts m.text) (λ (m : Made). Makes c.args.word c.args.job c.args.plan m.parts m.text)
-    (λ m reports. reinjected c.in-Reinject.is reports) c.reinjected.ensures
+    ok_weaker c.reinjected.result (λ (t : Told). Reports HasReinjected c.args.job.now c.args.plan.now (parts_with c.args.job.now c.args.plan.now t.mesh t.report) t.text) (λ (t : Told). Makes c.args.word c.args.job.now c.args.plan.now (parts_with c.args.job.now c.args.plan.now t.mesh t.report) t.text)
+    (λ t reports. reinjected c.in-Reinject.is reports) c.reinjected.ensures
 
 pub returns-in-Trace : goal.returns-in-Trace
 returns-in-Trace g c =
-    ok_weaker c.trace.result (λ (m : Made). Reports IsTraced c.args.job c.args.plan m.parts m.text) (λ (m : Made). Makes c.args.word c.args.job c.args.plan m.parts m.text)
-    (λ m reports. traced c.in-Trace.is reports) c.trace.ensures
+    ok_weaker c.trace.result (λ (t : Told). Reports IsTraced c.args.job.now c.args.plan.now (parts_with c.args.job.now c.args.plan.now t.mesh t.report) t.text) (λ (t : Told). Makes c.args.word c.args.job.now c.args.plan.now (parts_with c.args.job.now c.args.plan.now t.mesh t.report) t.text)
+    (λ t reports. traced c.in-Trace.is reports) c.trace.ensures
 
 pub returns-in-Compile : goal.returns-in-Compile
 returns-in-Compile g c =
-    ok_weaker c.image.result (λ (m : Made). Images c.args.job c.args.plan m.parts m.text) (λ (m : Made). Makes c.args.word c.args.job c.args.plan m.parts m.text)
-    (λ m images. imaged c.in-Compile.is images) c.image.ensures
+    ok_weaker c.image.result (λ (t : Told). Images c.args.job.now c.args.plan.now (parts_with c.args.job.now c.args.plan.now t.mesh t.report) t.text) (λ (t : Told). Makes c.args.word c.args.job.now c.args.plan.now (parts_with c.args.job.now c.args.plan.now t.mesh t.report) t.text)
+    (λ t images. imaged c.in-Compile.is images) c.image.ensures
 
 pub returns-in-Tables : goal.returns-in-Tables
 returns-in-Tables g c =
-    ok_weaker c.list.result (λ (m : Made). Lists c.args.job c.args.plan m.parts m.text) (λ (m : Made). Makes c.args.word c.args.job c.args.plan m.parts m.text)
-    (λ m lists. listed c.in-Tables.is lists) c.list.ensures
+    ok_weaker c.list.result (λ (t : Told). Lists c.args.job.now c.args.plan.now (parts_with c.args.job.now c.args.plan.now t.mesh t.report) t.text) (λ (t : Told). Makes c.args.word c.args.job.now c.args.plan.now (parts_with c.args.job.now c.args.plan.now t.mesh t.report) t.text)
+    (λ t lists. listed c.in-Tables.is lists) c.list.ensures
 
 pub returns-in-Gen : goal.returns-in-Gen
 returns-in-Gen g c =
-    ok_weaker c.generated.result (λ (m : Made). Summarises c.in-Gen.number c.args.job c.args.plan m.parts m.text) (λ (m : Made). Makes c.args.word c.args.job c.args.plan m.parts m.text)
-    (λ m summarises. generated c.in-Gen.number c.in-Gen.is summarises) c.generated.ensures
+    ok_weaker c.generated.result (λ (t : Told). Summarises c.in-Gen.number c.args.job.now c.args.plan.now (parts_with c.args.job.now c.args.plan.now t.mesh t.report) t.text) (λ (t : Told). Makes c.args.word c.args.job.now c.args.plan.now (parts_with c.args.job.now c.args.plan.now t.mesh t.report) t.text)
+    (λ t summarises. generated c.in-Gen.number c.in-Gen.is summarises) c.generated.ensures
