@@ -5,7 +5,8 @@
 The calls are made by a small program that stands below as text. It is compiled as the launcher's program is, without a
 proof, from a copy of the repository that has it as one crate more; the crates that it calls are those that `rt ci` proves.
 
-    idle     a torus of 64 by 64 chips, 16,384 vertices, no copy: what a round takes beside its moves
+    idle     a torus of 64 by 64 chips, 16,384 vertices, no copy: what one call of `round` takes beside its moves: it makes all links,
+             plays, and brings them down. A run makes its links once
     board    a torus of 8 by 6 chips, one vertex on each: eight vertices send 15,625 packets each along their column, over five
              links; or six vertices 16,667 each along their row, over seven. That makes 1,000,000 and 1,000,020 moves: into the
              injection queue, over each link, to the core, to the vertex. A column stands in one worker's share, a row goes

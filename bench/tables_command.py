@@ -15,6 +15,8 @@ import time
 
 ROOT = os.path.dirname(os.path.dirname(os.path.realpath(__file__)))
 
+SIDE, VERTICES = 64, 16384
+
 
 def numbers():
     """Numbers that look random and are the same each time."""
@@ -26,32 +28,32 @@ def numbers():
 
 def dead_links(percent, drawn):
     """So many of the three links E, NE and N of each chip; each link of the torus is one of them."""
-    return [[x, y, d] for x in range(64) for y in range(64) for d in range(3) if next(drawn) % 100 < percent]
+    return [[x, y, d] for x in range(SIDE) for y in range(SIDE) for d in range(3) if next(drawn) % 100 < percent]
 
 
 def job(nets, targets_of, dead=0):
-    vertices = [{"name": f"v{i}"} for i in range(16384)]
+    vertices = [{"name": f"v{i}"} for i in range(VERTICES)]
     drawn = numbers()
     listed = []
     for i in range(nets):
-        source = 4 * i % 16384
+        source = 4 * i % VERTICES
         listed.append({"name": f"n{i}", "source": f"v{source}", "targets": targets_of(source, drawn), "keys": 16})
-    machine = {"width": 64, "height": 64, "wrap": True}
+    machine = {"width": SIDE, "height": SIDE, "wrap": True}
     if dead:
         machine["dead_links"] = dead_links(dead, drawn)
     return {"version": 1, "machine": machine, "graph": {"vertices": vertices, "nets": listed}}
 
 
 def anywhere(_, drawn):
-    return [f"v{next(drawn) % 16384}" for _ in range(4)]
+    return [f"v{next(drawn) % VERTICES}" for _ in range(4)]
 
 
 def to_680(_, drawn):
-    return [f"v{next(drawn) % 16384}" for _ in range(680)]
+    return [f"v{next(drawn) % VERTICES}" for _ in range(680)]
 
 
 def near(source, drawn):
-    return [f"v{(source + next(drawn) % 64) % 16384}" for _ in range(8)]
+    return [f"v{(source + next(drawn) % 64) % VERTICES}" for _ in range(8)]
 
 
 def timed(name, value):

@@ -2,11 +2,11 @@
 
     python3 tools/fault_table.py [PROGRAM]
 
-Each job of examples/faults/faults.json, and those that this script makes because they are too long or too many to be
-written down, is given to `PROGRAM run`, each request of examples/faults/requests.json to `PROGRAM check`, and each list of steps of
-examples/faults/steps.json to `PROGRAM apps`; PROGRAM is ./spin where none is named. Where the table has a line, the bytes written are to be that line and a line feed. The status is to be the one
-of the table, and 4 where it has none. Each mismatch is printed. The last line is 'N passed, M failed', and the status 1 where one
-failed.
+Each job of examples/faults/faults.json is given to `PROGRAM run` and `PROGRAM reinject`, each request of
+examples/faults/requests.json to `PROGRAM check`, and each list of steps of examples/faults/steps.json to `PROGRAM apps`; and so are
+those that this script makes because they are too long or too many to be written down. PROGRAM is ./spin where none is named.
+Where the table has a line, the bytes written are to be that line and a line feed. The status is to be the one of the table, and 4
+where it has none. Each mismatch is printed. The last line is 'N passed, M failed', and the status 1 where one failed.
 
 The lines were worked out by hand from the formats, and not taken from what a program wrote.
 """
@@ -19,7 +19,9 @@ ROOT = os.path.dirname(os.path.dirname(os.path.realpath(__file__)))
 
 BAD_JOB = 4
 
+# the limits of docs/formats.md
 MOST_BYTES = 16777216
+MOST_VERTICES, MOST_NETS, MOST_PACKETS, MOST_STEPS = 16384, 4096, 65536, 65535
 
 
 def written_cases(name, member):
@@ -57,10 +59,10 @@ def step_cases():
 def many_step_cases():
     """As many steps as may be, and one more, which is told before any fault of a step."""
     run = '["run"]'
-    most = 65535
+    most = MOST_STEPS
     yield "65,535 runs", f"[{run}{f',{run}' * (most - 1)}]".encode(), "\n".join(["run"] * most), 0
     yield "the last of 65,535 steps is none", f"[{f'{run},' * (most - 1)}0]".encode(), f"bad job: shape job[{most - 1}]", BAD_JOB
-    yield "65,536 runs", f"[{run}{f',{run}' * most}]".encode(), "bad job: too many job 65536", BAD_JOB
+    yield "65,536 runs", f"[{run}{f',{run}' * most}]".encode(), f"bad job: too many job {most + 1}", BAD_JOB
     yield "70,000 items that are no steps", f"[0{',0' * 69999}]".encode(), "bad job: too many job 70000", BAD_JOB
 
 
@@ -117,21 +119,21 @@ def list_cases():
     def bad(why, job, line):
         return why, job, "bad job: " + line, BAD_JOB
 
-    yield bad("16,384 vertices, then nets", job_of(vertices_of(16384), "0", "{}"), "shape job.graph.nets")
-    yield bad("16,385 vertices", job_of("[0" + ",0" * 16384 + "]", "0", "{}"), "too many job.graph.vertices 16385")
+    yield bad("16,384 vertices, then nets", job_of(vertices_of(MOST_VERTICES), "0", "{}"), "shape job.graph.nets")
+    yield bad("16,385 vertices", job_of("[0" + ",0" * MOST_VERTICES + "]", "0", "{}"), "too many job.graph.vertices 16385")
     yield bad("20,000 vertices", job_of(vertices_of(20000), "0", "{}"), "too many job.graph.vertices 20000")
-    all_nets = "[%s]" % ",".join(net % i for i in range(4096))
+    all_nets = "[%s]" % ",".join(net % i for i in range(MOST_NETS))
     yield bad("4,096 nets, then run", job_of(some, all_nets, "0"), "shape job.run")
-    yield bad("4,097 nets", job_of(some, "[0" + ",0" * 4096 + "]", "0"), "too many job.graph.nets 4097")
+    yield bad("4,097 nets", job_of(some, "[0" + ",0" * MOST_NETS + "]", "0"), "too many job.graph.nets 4097")
     yield bad("5,000 nets", job_of(some, "[%s]" % ",".join(net % i for i in range(5000)), "0"), "too many job.graph.nets 5000")
-    packets = ",".join([packet] * 65536)
+    packets = ",".join([packet] * MOST_PACKETS)
     run = '{"packets":[%s],"events":0}'
     yield bad("65,536 packets, then events", job_of(some, nets, run % packets), "shape job.run.events")
-    yield bad("65,537 packets", job_of(some, nets, run % ("0" + ",0" * 65536)), "too many job.run.packets 65537")
+    yield bad("65,537 packets", job_of(some, nets, run % ("0" + ",0" * MOST_PACKETS)), "too many job.run.packets 65537")
     yield bad("70,000 packets", job_of(some, nets, run % ",".join([packet] * 70000)), "too many job.run.packets 70000")
     late = job_of(some, nets, run % f"{packets[:-len(packet)]}0")
     yield bad("the last of 65,536 packets", late, "shape job.run.packets[65535]")
-    twice = job_of(vertices_of(16384)[:-1] + "]", "[]", "{}").replace(b'"v16383"', b'"v0"')
+    twice = job_of(vertices_of(MOST_VERTICES)[:-1] + "]", "[]", "{}").replace(b'"v16383"', b'"v0"')
     yield bad("the last of 16,384 vertices has the first one's name", twice, "double name job.graph.vertices[16383].name")
     queue = '{"queue":65536}'
     yield bad("65536 * (7 + 250) places", job_of(vertices_of(250), "[]", queue), "too many job.run.queue 16842752")

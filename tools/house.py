@@ -2,8 +2,9 @@
 
     python3 tools/house.py [--check]
 
-With --check it compares the picture with what stands there, and docs/definitions.md with the files of definitions, each of which
-it has to name; the status is 1 where something differs.
+With --check it compares the picture with what stands there; docs/definitions.md with the files of definitions, each of which it has
+to name; and docs/promises.md with the sources: what carries a promise has to be there, with the clauses that are named. The status
+is 1 where something differs.
 
 A crate's layer is one more than the highest layer below it, among the crates of this repository. A chain of crates is as long
 as the number of layers. Lines: code without tests, definitions, proofs.
@@ -63,6 +64,47 @@ def picture():
     return "".join([*rows, END])
 
 
+def text_of(pattern):
+    found = []
+    for file in sorted(glob.glob(f"{ROOT}/{pattern}", recursive=True)):
+        with open(file, encoding="utf-8") as text:
+            found.append(text.read())
+    return "\n".join(found)
+
+
+def clauses():
+    """The labels of the clauses of each function, over all functions of one name."""
+    found, labels = {}, set()
+    for function, label in re.findall(r"\bfn (\w+)|^ *ensures (\w+) \{", text_of("crates/*/src/**/*.rt"), re.M):
+        if function:
+            labels = found.setdefault(function, set())
+        else:
+            labels.add(label)
+    return found
+
+
+def wrong_promises():
+    """What docs/promises.md says of the sources that is not so. The second cell of a row names functions, each with its clauses
+    after the word 'clause' or 'clauses', up to a semicolon; in brackets and elsewhere it names whatever is defined, a lemma too."""
+    labels, defined = clauses(), set(re.findall(r"\w+", text_of("crates/*/src/**/*.rt") + text_of("crates/*/specs/**/*.antt")))
+    defined |= set(re.findall(r"^pub (\w+) :", text_of("crates/*/proofs/**/*.antt"), re.M))
+    with open(f"{ROOT}/docs/promises.md", encoding="utf-8") as text:
+        carriers = [line.split(" | ")[1] for line in text if line.startswith("| ")][1:]
+    for carrier in carriers:
+        function, is_clause, depth = None, False, 0
+        for name, word, mark in re.findall(r"`([^`]+)`|\b(clauses?|of)\b|([();])", carrier):
+            depth += {"(": 1, ")": -1}.get(mark, 0)
+            is_clause = (is_clause or word.startswith("clause")) and word != "of" and mark != ";"
+            last = name.rpartition("::")[2]
+            if name and not depth and is_clause:
+                if name not in labels.get(function, ()):
+                    yield f"docs/promises.md: {function} has no clause {name}"
+            elif name and not set(re.findall(r"\w+", name)) <= defined | set(os.listdir(f"{ROOT}/crates")):
+                yield f"docs/promises.md: there is no {name}"
+            elif name and not depth and last in labels:
+                function = last
+
+
 def main(words):
     file = f"{ROOT}/docs/architecture.md"
     with open(file, encoding="utf-8") as text:
@@ -82,6 +124,7 @@ def main(words):
         named = set(re.findall(r"`(\w+/specs/[\w/]+\.antt)`", text.read()))
     wrong += [f"docs/definitions.md does not name {it}" for it in sorted(files - named)]
     wrong += [f"docs/definitions.md names {it}, which is not there" for it in sorted(named - files)]
+    wrong += wrong_promises()
     print("\n".join(wrong), end="\n" if wrong else "")
     return 1 if wrong else 0
 

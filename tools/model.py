@@ -414,7 +414,7 @@ def plan_of(job):
     tables = {}
     for chip, rows in sorted(plain.items()):
         rows.sort(key=lambda row: (generality(row.block), row.block.key))
-        tables[chip] = without_defaults(covered(rows, job["run"].get("target", 1024)))
+        tables[chip] = without_defaults(covered(rows, job["run"].get("target", MOST_ROWS)))
         if len(tables[chip]) > MOST_ROWS:
             raise Refused(8, f"table long: {chip[0]} {chip[1]} {len(tables[chip])}")
     return Plan(spots, blocks, trees, {chip: rows for chip, rows in tables.items() if rows})
@@ -592,7 +592,7 @@ class Dice(random.Random):
         machine, vertices, nets = kinds[number % len(kinds)]()
         packets = self.packets(nets)
         run = {"packets": packets, "queue": self.choice([1, 2, 16]) * max(1, len(packets)), "workers": self.choice([1, 1, 2, 3, 8, 64])}
-        run["target"] = self.choice([0, 0, 0, 1, 5, 20, 1024])
+        run["target"] = self.choice([0, 0, 0, 1, 5, 20, MOST_ROWS])
         return {"version": 3, "machine": machine, "graph": {"vertices": vertices, "nets": nets}, "run": run}
 
 

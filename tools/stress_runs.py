@@ -251,7 +251,7 @@ class Dice(model.Dice):
             if self.now_and_then(0.3):
                 packets[-1]["payload"] = self.randrange(2**32)
         run = {"packets": packets, "queue": self.randint(1, 3), "patience": 1, "workers": self.randint(1, 8), "turns": self.randint(1, 16)}
-        return {**run, "target": self.choice([0, 1024])}
+        return {**run, "target": self.choice([0, model.MOST_ROWS])}
 
     def planned_job(self):
         """A job with its plan, as the model makes it."""
