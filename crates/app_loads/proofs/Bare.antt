@@ -20,7 +20,7 @@ use Rattle.range_store.specs.Regions.{AreRuns, hole_of, is_free}
 use Rattle.tcam_find.specs.Memory.{empty_memory, unused}
 use Rattle.net_tables.specs.NetsOn.{AreNetsOn}
 use Rattle.net_tables.specs.RightTables.{table_at}
-use Rattle.mesh_core.specs.State.{Setup, State, Held, IsMesh}
+use Rattle.mesh_core.specs.State.{Setup, State, Hand, IsMesh}
 use Rattle.mesh_core.specs.Trail.{Mark, unsent, in_queue, at_core}
 use Rattle.mesh_core.specs.Ledger.{marks_of, marked, hand_marks, port_of, unsent_marks, input_marks, all_hand_marks, core_marks, MeetsLedgerFor}
 use Rattle.mesh_core.specs.Opened.{empty_mesh}
@@ -43,7 +43,7 @@ no_marks u =
     let second : input_marks (empty_mesh u) ≡ [] =
     gathered_nothing (λ i (copies : List McCopy). marked (in_queue (chip_of u.machine (i / 7)) (port_of (i % 7))) copies) [] (λ j. refl) 0 (7 * (u.machine.width * u.machine.height)) in
     let third : all_hand_marks (empty_mesh u) ≡ [] =
-    gathered_nothing (λ i (h : Option Held). hand_marks (chip_of u.machine i) h) None (λ j. refl) 0 (u.machine.width * u.machine.height) in
+    gathered_nothing (λ i (h : Option Hand). hand_marks (chip_of u.machine i) h) None (λ j. refl) 0 (u.machine.width * u.machine.height) in
     let fourth : core_marks (empty_mesh u) ≡ [] = gathered_nothing (λ v (copies : List McCopy). marked (at_core v) copies) [] (λ j. refl) 0 (length u.spots) in
     joined (unsent_marks (empty_mesh u)) (input_marks (empty_mesh u)) (all_hand_marks (empty_mesh u)) (core_marks (empty_mesh u)) first second third fourth
   where

@@ -14,7 +14,7 @@ use Rattle.machine_desc.specs.Live.{chip_of}
 use Rattle.spin_base.specs.declared.chips.Chip.{Chip}
 use Rattle.spin_base.specs.declared.copies.McCopy.{McCopy}
 use Rattle.spin_base.specs.declared.routes.Out.{Out}
-use Rattle.mesh_core.specs.State.{State, Held, IsMesh}
+use Rattle.mesh_core.specs.State.{State, Hand, IsMesh}
 use Rattle.mesh_core.specs.Trail.{Station, unsent, in_queue, in_hand, at_core, delivered, dumped, Mark}
 use Rattle.mesh_core.specs.Ledger.{marks_of, marked, hand_marks, port_of, unsent_marks, input_marks, all_hand_marks, core_marks, delivered_marks, dumped_marks}
 use Rattle.mesh_core.proofs.Moves.{mark}
@@ -173,7 +173,7 @@ module _ (s : State) where
       let found = of_hand (chip_of s.setup.machine at.0) hand.0 (All-at (λ h. IfSome h (λ held. held.outs ≢ [])) s.hands at.0 hand.0 mesh.hands_with_outputs at.1) hand.2 in
       (found.0, gathered_among (λ i h. hand_marks (chip_of s.setup.machine i) h) found.0 s.hands at.0 hand.0 at.1 found.1, found.2, found.3)
     where
-      of_hand : (c : Chip) (h : Option Held) → IfSome h (λ held. held.outs ≢ []) → Among n (held_packets h) → IsMarked n (hand_marks c h)
+      of_hand : (c : Chip) (h : Option Hand) → IfSome h (λ held. held.outs ≢ []) → Among n (held_packets h) → IsMarked n (hand_marks c h)
       of_hand c (Some h) some (inl is) = by_outs h.outs refl
         where
           by_outs : (outs : List Out) → h.outs ≡ outs → IsMarked n (hand_marks c (Some h))
@@ -226,7 +226,7 @@ module _ (s : State) where
   listed_waits mesh app n own a = let m = has_mark mesh n a in (own, (m.0, among_contains m.0 (marks_of s) m.1, m.2, m.3))
 
   -- what a scan of all lists finds
-  pub scanned : (app : LoadedApp) (at_start at_ports at_cores : List (List McCopy)) (of_routers : List (Option Held)) (a b c d : Option ℕ) →
+  pub scanned : (app : LoadedApp) (at_start at_ports at_cores : List (List McCopy)) (of_routers : List (Option Hand)) (a b c d : Option ℕ) →
       at_start ≡ s.unsent → at_ports ≡ s.inputs → of_routers ≡ s.hands → at_cores ≡ s.cores → a ≡ lesser_of None (least_of app (flat_map packets_of at_start)) →
       b ≡ lesser_of a (least_of app (flat_map packets_of at_ports)) → c ≡ lesser_of b (least_of app (flat_map held_packets of_routers)) → d ≡ lesser_of c (least_of app (flat_map packets_of at_cores)) →
       d ≡ least_of app (under_way s)

@@ -19,7 +19,7 @@ use Rattle.machine_desc.specs.RoutingTree.{IsRoutingTree}
 use Rattle.net_tables.specs.declared.nets.NetPlan.{NetPlan}
 use Rattle.net_tables.specs.RightTables.{IsKeyOf}
 use Rattle.net_tables.specs.NetsOn.{AreNetsOn, IsWayOn}
-use Rattle.mesh_core.specs.State.{State, Held}
+use Rattle.mesh_core.specs.State.{State, Hand}
 use Rattle.mesh_core.specs.Trail.{Station, unsent, in_queue, in_hand, at_core, delivered, dumped, Mark, is_on_trail, is_packet_on_trail}
 use Rattle.mesh_core.specs.Ledger.{marks_of, marked, hand_marks, port_of, unsent_marks, input_marks, all_hand_marks, core_marks, delivered_marks, dumped_marks, Asked, label_of, MeetsLedgerFor}
 use Rattle.mesh_core.specs.Opened.{asked_at, asked_by}
@@ -64,10 +64,10 @@ module _ (s : State) where
 
   pub hands_under_way : (k : Mark) → Among k (all_hand_marks s) → IsUnderWay k.station
   hands_under_way k a =
-      let at = among_gathered (λ i (h : Option Held). hand_marks (chip_of s.setup.machine i) h) k s.hands a in
+      let at = among_gathered (λ i (h : Option Hand). hand_marks (chip_of s.setup.machine i) h) k s.hands a in
       of_hand at.0 at.1 at.3
     where
-      of_hand : (i : ℕ) (h : Option Held) → Among k (hand_marks (chip_of s.setup.machine i) h) → IsUnderWay k.station
+      of_hand : (i : ℕ) (h : Option Hand) → Among k (hand_marks (chip_of s.setup.machine i) h) → IsUnderWay k.station
       of_hand i (Some h) b =
           let m = among_map (λ o. mark h.copy (in_hand (chip_of s.setup.machine i) o)) k h.outs b in
           under_way_by k h.copy (in_hand (chip_of s.setup.machine i) m.0) tt m.2

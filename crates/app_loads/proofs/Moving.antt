@@ -18,7 +18,7 @@ use Rattle.machine_desc.specs.Branch.{Exit, IsBranch}
 use Rattle.machine_desc.specs.Live.{index_of, is_live_chip, IsLiveChip}
 use Rattle.machine_desc.proofs.TreeLemmas.{edge_lives}
 use Rattle.net_tables.specs.declared.nets.NetPlan.{NetPlan}
-use Rattle.mesh_core.specs.State.{State, Held, behind, queue_at}
+use Rattle.mesh_core.specs.State.{State, Hand, behind, queue_at}
 use Rattle.mesh_core.specs.Step.{has_room_behind, take_of, send_of, dump_of, collect_of, step_of, after_event, after_events, answer}
 use Rattle.mesh_core.specs.declared.places.Did.TheVariants.{Moved, Idle}
 use Rattle.mesh_core.specs.HasRun.{DropsNone}
@@ -173,7 +173,7 @@ dump_enabled s c o kept waits idle = by_hand (slice_get s.hands (index_of s.setu
     by_room true false room t u l v on = cc
     by_room false served room t u l v on = cc
 
-    by_hand : (hand : Option (Option Held)) → slice_get s.hands (index_of s.setup.machine c) ≡ hand → IsNext o hand →
+    by_hand : (hand : Option (Option Hand)) → slice_get s.hands (index_of s.setup.machine c) ≡ hand → IsNext o hand →
         (if is_some (send_of s c o hand) then Moved else Idle) ≡ Idle → is_some (dump_of s c o hand) ≡ true
     by_hand (Some (Some h)) at next on =
         let first : Among o h.outs = subst (λ (l : List Out). Among o l) (sym next.1) (inl refl) in
@@ -196,8 +196,8 @@ waits_somewhere s (InCore v) waits quiet = by_queue (slice_get s.cores v) refl w
     by_queue None at none = none
 waits_somewhere s (InHand c o) waits quiet = by_hand (slice_get s.hands (index_of s.setup.machine c)) refl waits.1
   where
-    by_hand : (h : Option (Option Held)) → slice_get s.hands (index_of s.setup.machine c) ≡ h → IsNext o h → ⊥
-    by_hand (Some (Some h)) at next = some_none (All-at (λ (x : Option Held). x ≡ None) s.hands (index_of s.setup.machine c) (Some h) quiet.hands_empty at)
+    by_hand : (h : Option (Option Hand)) → slice_get s.hands (index_of s.setup.machine c) ≡ h → IsNext o h → ⊥
+    by_hand (Some (Some h)) at next = some_none (All-at (λ (x : Option Hand). x ≡ None) s.hands (index_of s.setup.machine c) (Some h) quiet.hands_empty at)
       where
         some_none : Some h ≡ None → ⊥
         some_none e = cc

@@ -17,7 +17,7 @@ use Rattle.spin_base.specs.Links.{dir_number, dir_at, port_number}
 use Rattle.machine_desc.specs.Live.{index_of, chip_of, IsInside}
 use Rattle.machine_desc.proofs.Branches.{length_le_from_apart}
 use Rattle.machine_desc.proofs.Live.{index_of-chip_of}
-use Rattle.mesh_core.specs.State.{State, Held, IsMesh, queue_at}
+use Rattle.mesh_core.specs.State.{State, Hand, IsMesh, queue_at}
 use Rattle.mesh_core.specs.VertexTable.{spot_place}
 use Rattle.mesh_core.specs.Ledger.{port_of}
 use Rattle.mesh_core.proofs.Standing.{port_number-port_of}
@@ -59,7 +59,7 @@ no_input s n long all clear p d within =
 
 -- where no chip's router holds a copy, all hands are free
 pub no_hand : (s : State) (n : ℕ) → length s.hands ≡ s.setup.machine.width * s.setup.machine.height → s.setup.machine.width * s.setup.machine.height ≤ n →
-    ((i : ℕ) → i < n → slice_get s.hands (index_of s.setup.machine (chip_of s.setup.machine i)) ≡ Some None) → All (λ (h : Option Held). h ≡ None) s.hands
+    ((i : ℕ) → i < n → slice_get s.hands (index_of s.setup.machine (chip_of s.setup.machine i)) ≡ Some None) → All (λ (h : Option Hand). h ≡ None) s.hands
 no_hand s n long all clear p d within =
     let chip : p < n = omega (arith, within, long, all) in
     get_or_from_slice_get s.hands p None d (ap (λ i. slice_get s.hands i) (sym (index_of-chip_of s.setup.machine p)) ∙ clear p chip)
@@ -73,7 +73,7 @@ no_core cores n all clear p d within = get_or_from_slice_get cores p [] d (clear
 some_same : {X : Type 0} {a b : X} → Some a ≡ Some b → a ≡ b
 some_same e = cc
 
-pub next_some : (s : State) (c : Chip) (h : Held) (r : Option Out) → IsInside s.setup.machine c → slice_get s.hands (index_of s.setup.machine c) ≡ Some (Some h) →
+pub next_some : (s : State) (c : Chip) (h : Hand) (r : Option Out) → IsInside s.setup.machine c → slice_get s.hands (index_of s.setup.machine c) ≡ Some (Some h) →
     r ≡ slice_get h.outs 0 → IfSome r (λ out. IsWaiting s (InHand c out))
 next_some s c h (Some out) inside at is = (inside, subst (IsNext out) (sym at) (by_list h.outs refl is))
   where
@@ -82,13 +82,13 @@ next_some s c h (Some out) inside at is = (inside, subst (IsNext out) (sym at) (
     by_list (o ∷ os) e first = (os, e ∙ ap (λ p. p ∷ os) (sym (some_same first)))
 next_some s c h None inside at is = tt
 
-pub next_none : (s : State) (c : Chip) (h : Held) (r : Option Out) → IsMesh s → slice_get s.hands (index_of s.setup.machine c) ≡ Some (Some h) →
+pub next_none : (s : State) (c : Chip) (h : Hand) (r : Option Out) → IsMesh s → slice_get s.hands (index_of s.setup.machine c) ≡ Some (Some h) →
     r ≡ slice_get h.outs 0 → IfNone r (slice_get s.hands (index_of s.setup.machine c) ≡ Some None)
 next_none s c h (Some out) mesh at is = tt
 next_none s c h None mesh at is = absurd (by_list h.outs refl is)
   where
     some_outs : h.outs ≢ []
-    some_outs = All-at (λ (x : Option Held). IfSome x (λ held. held.outs ≢ [])) s.hands (index_of s.setup.machine c) (Some h) mesh.hands_with_outputs at
+    some_outs = All-at (λ (x : Option Hand). IfSome x (λ held. held.outs ≢ [])) s.hands (index_of s.setup.machine c) (Some h) mesh.hands_with_outputs at
 
     by_list : (l : List Out) → h.outs ≡ l → None ≡ slice_get l 0 → ⊥
     by_list [] e none = some_outs e

@@ -5,7 +5,7 @@ use Rattle.spin_base.specs.declared.blocks.Entry.{Entry}
 use Rattle.spin_base.specs.declared.copies.Delivery.{Delivery}
 use Rattle.spin_base.specs.declared.copies.DumpRec.{DumpRec}
 use Rattle.spin_base.specs.declared.copies.McCopy.{McCopy}
-use Rattle.mesh_core.specs.State.{State, Held}
+use Rattle.mesh_core.specs.State.{State, Hand}
 use Rattle.mesh_core.specs.Ledger.{marks_of}
 use Rattle.mesh_core.specs.Trail.{Station, unsent, in_queue, in_hand, at_core, delivered, dumped, Mark}
 use Rattle.app_loads.specs.declared.leaving.Parted.{Parted}
@@ -56,7 +56,7 @@ abbrev pub packets_of : List McCopy → List ℕ
 packets_of copies = map (λ (k : McCopy). k.packet) copies
 
 -- the packet of the copy in a router's hand, if it has one
-abbrev pub held_packets : Option Held → List ℕ
+abbrev pub held_packets : Option Hand → List ℕ
 held_packets (Some held) = held.copy.packet ∷ []
 held_packets None = []
 

@@ -4,7 +4,7 @@ use Rattle.spin_base.specs.declared.copies.Event.{Event}
 use Rattle.spin_base.specs.declared.copies.McCopy.{McCopy}
 use Rattle.spin_base.specs.declared.routes.Out.{Out}
 use Rattle.machine_desc.specs.Live.{index_of, IsInside}
-use Rattle.mesh_core.specs.State.{State, Held, queue_at}
+use Rattle.mesh_core.specs.State.{State, Hand, queue_at}
 use Rattle.mesh_core.specs.Step.{after_events}
 use Rattle.mesh_core.specs.Expected.{NothingWaits}
 use Rattle.mesh_core.specs.HasRun.{DropsNone}
@@ -35,7 +35,7 @@ HasCopies (Some []) = ⊥
 HasCopies None = ⊥
 
 -- a router's hand has the output as the next by which its copy leaves
-abbrev pub IsNext : Out → Option (Option Held) → Type 0
+abbrev pub IsNext : Out → Option (Option Hand) → Type 0
 IsNext o (Some (Some h)) = (rest : List Out) × (h.outs ≡ o ∷ rest)
 IsNext o (Some None) = ⊥
 IsNext o None = ⊥

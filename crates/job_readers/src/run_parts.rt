@@ -22,7 +22,7 @@ use job_text::{
 };
 use machine_desc::Machine;
 use serde_json::Value;
-use spin_base::{Memory, Name, Packet, Seq};
+use spin_base::{Memory, Name, Packet, Port, Seq};
 use std::alloc::Global;
 
 /// The most packets of a job.
@@ -161,7 +161,7 @@ fn places_to(
     ensures { Gives (λ u. u) result (places_faults live vertices path.now (view run.now)) tt }
 {
     let path = member_path(alloc, path, "queue")?;
-    let places = u64::from(queue) * (7 * u64::from(live) + u64::from(vertices));
+    let places = u64::from(queue) * (u64::from(Port::COUNT) * u64::from(live) + u64::from(vertices));
     count_to(alloc, &path, MOST_PLACES, places)
 }
 

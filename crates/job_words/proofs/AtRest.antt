@@ -22,7 +22,7 @@ use Rattle.spin_base.specs.declared.copies.Packet.{Packet}
 use Rattle.spin_base.specs.declared.wants.Memory.{Memory}
 use Rattle.machine_desc.specs.Live.{grid_chips, index_of}
 use Rattle.net_tables.specs.declared.nets.NetPlan.{NetPlan}
-use Rattle.mesh_core.specs.State.{Held, Setup, State, IsMesh, queue_at}
+use Rattle.mesh_core.specs.State.{Hand, Setup, State, IsMesh, queue_at}
 use Rattle.mesh_core.specs.Ledger.{all_ports}
 use Rattle.mesh_core.specs.Opened.{MeetsJobLedger}
 use Rattle.mesh_core.specs.Expected.{AreAsExpected, IsAtRest, IsNotAfter, expected_deliveries, without_hop}
@@ -69,10 +69,10 @@ no_copies qs empty i = at_place (slice_get qs i) refl
     at_place (Some q) is = All-at (λ x. x ≡ []) qs i q empty is
     at_place None is = refl
 
-no_hand : (c : Chip) (hands : List (Option Held)) → All (λ h. h ≡ None) hands → (i : ℕ) → held_waits c (slice_get hands i) ≡ []
+no_hand : (c : Chip) (hands : List (Option Hand)) → All (λ h. h ≡ None) hands → (i : ℕ) → held_waits c (slice_get hands i) ≡ []
 no_hand c hands empty i = at_place (slice_get hands i) refl
   where
-    at_place : (o : Option (Option Held)) → slice_get hands i ≡ o → held_waits c o ≡ []
+    at_place : (o : Option (Option Hand)) → slice_get hands i ≡ o → held_waits c o ≡ []
     at_place (Some h) is = ap (λ x. held_waits c (Some x)) (All-at (λ x. x ≡ None) hands i h empty is)
     at_place None is = refl
 

@@ -16,7 +16,7 @@ use Rattle.app_graph.specs.RunPart.{IsPacketOf, IsRunOf, keys_of}
 use Rattle.key_alloc.specs.KeyBlocks.{HasKeys}
 use Rattle.net_tables.specs.declared.nets.NetPlan.{NetPlan}
 use Rattle.net_tables.specs.RightTables.{IsKeyOf}
-use Rattle.mesh_core.specs.State.{Held, Setup, State, IsMesh}
+use Rattle.mesh_core.specs.State.{Hand, Setup, State, IsMesh}
 use Rattle.mesh_core.specs.Opened.{opened_mesh, AreOfNets, MeetsJobLedger}
 use Rattle.mesh_core.specs.Expected.{NothingWaits}
 use Rattle.mesh_core.proofs.OpenedLaw.{opened_meets_ledger}
@@ -62,7 +62,7 @@ are_of_nets m graph target run plan is_run planned i p at =
 pub opened_quiet : (u : Setup) (nets : List NetPlan) (packets : List Packet) → NothingWaits (opened_mesh u nets packets)
 opened_quiet u nets packets = record {
   inputs_empty = All-replicate (λ (q : List McCopy). q ≡ []) (7 * (u.machine.width * u.machine.height)) [] refl;
-  hands_empty = All-replicate (λ (h : Option Held). h ≡ None) (u.machine.width * u.machine.height) None refl;
+  hands_empty = All-replicate (λ (h : Option Hand). h ≡ None) (u.machine.width * u.machine.height) None refl;
   cores_empty = All-replicate (λ (q : List McCopy). q ≡ []) (length u.spots) [] refl;
 }
 

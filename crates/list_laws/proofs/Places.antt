@@ -1,9 +1,9 @@
 -- The item at a place of a list, as `slice_get` gives it: after a write, a push, a map, and beside another list.
-use Rattle.std.proofs.Common.{◌≡◌, ◌≢◌, ℕ, zero, suc, ◌+◌, ◌<◌, List, [], ◌∷◌, ◌++◌, map, take, length, set, get_or, Option, Some, refl, sym, ap, ◌∙◌, subst, arith, inl, inr, ◌⊎◌}
+use Rattle.std.proofs.Common.{◌≡◌, ◌≢◌, ℕ, zero, suc, ◌+◌, ◌<◌, ◌≤◌, List, [], ◌∷◌, ◌++◌, map, take, length, set, get_or, Option, Some, refl, sym, ap, ◌∙◌, subst, arith, inl, inr, ◌⊎◌}
 use Rattle.std.specs.List.{All, AllZip, Contains, slice_get, zip, enumerate_from}
 use Rattle.std.proofs.lemmas.List.{take_more}
 use Rattle.std.proofs.lemmas.List.Elements.{All-weaker, All-contains_itself}
-use Rattle.std.proofs.lemmas.Option.{slice_get_within, get_or_from_slice_get}
+use Rattle.std.proofs.lemmas.Option.{slice_get_within, get_or_from_slice_get, same_Some}
 use Rattle.std.proofs.lemmas.Slice.Zip.{all_zipped_more}
 
 -- ---- what holds of each item
@@ -39,6 +39,28 @@ pub slice_get-mapped : {X Y : Type 0} (f : X → Y) (xs : List X) (i : ℕ) (x :
 slice_get-mapped f [] i x here = cc
 slice_get-mapped f (y ∷ ys) zero x here = let same : y ≡ x = cc in ap (λ z. Some (f z)) same
 slice_get-mapped f (y ∷ ys) (suc i) x here = slice_get-mapped f ys i x here
+
+-- and what stands at a place of it was made of the item there
+pub unmapped : {X Y : Type 0} (f : X → Y) (xs : List X) (i : ℕ) (y : Y) → slice_get (map f xs) i ≡ Some y → (x : X) × (slice_get xs i ≡ Some x) × (f x ≡ y)
+unmapped f [] i y at = cc
+unmapped f (x ∷ xs) zero y at = (x, refl, same_Some (f x) y at)
+unmapped f (x ∷ xs) (suc i) y at = unmapped f xs i y at
+
+-- a place has one item
+pub one_item_at : {X : Type 0} (xs : List X) (i j : ℕ) (x y : X) → i ≡ j → slice_get xs i ≡ Some x → slice_get xs j ≡ Some y → x ≡ y
+one_item_at xs i j x y same at also = same_Some x y (sym at ∙ (ap (slice_get xs) same ∙ also))
+
+-- ---- lists with nothing in them
+
+-- two joined lists of which nothing is there
+pub both_none : {X : Type 0} (xs ys : List X) → xs ++ ys ≡ [] → (xs ≡ []) × (ys ≡ [])
+both_none [] ys none = (refl, none)
+both_none (x ∷ xs) ys none = cc
+
+-- a list of no more than no items
+pub none_within : {X : Type 0} (xs : List X) (n : ℕ) → length xs ≤ n → n ≤ 0 → xs ≡ []
+none_within [] n few none = refl
+none_within (x ∷ xs) n few none = absurd (omega arith)
 
 -- ---- after a write
 

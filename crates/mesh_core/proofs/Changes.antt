@@ -18,7 +18,7 @@ use Rattle.spin_base.proofs.Outputs.{dir_number_below}
 use Rattle.machine_desc.specs.Description.{Description, HasSize}
 use Rattle.machine_desc.specs.Live.{is_live_chip, is_live_link, IsInside, IsSite}
 use Rattle.machine_desc.proofs.Far.{index_below}
-use Rattle.mesh_core.specs.State.{Setup, State, Held, IsMesh, queue_at}
+use Rattle.mesh_core.specs.State.{Setup, State, Hand, IsMesh, queue_at}
 use Rattle.mesh_core.specs.Opened.{empty_mesh}
 use Rattle.list_laws.proofs.Places.{slice_get-set_same, slice_get-set_other}
 
@@ -71,7 +71,7 @@ IsMesh-cores s i q h short = record {
 }
 
 -- a hand that isn't without outputs
-pub IsMesh-hands : (s : State) (i : ℕ) (hand : Option Held) → IsMesh s → IfSome hand (λ held. held.outs ≢ []) → IsMesh (record s { hands = set s.hands i hand })
+pub IsMesh-hands : (s : State) (i : ℕ) (hand : Option Hand) → IsMesh s → IfSome hand (λ held. held.outs ≢ []) → IsMesh (record s { hands = set s.hands i hand })
 IsMesh-hands s i hand h some = record {
   size = h.size;
   different = h.different;
@@ -176,24 +176,24 @@ IsMesh-empty u size different sites room long =
       room = room;
       unsent_lists = length-replicate {A = List McCopy} (length u.spots) [];
       input_lists = length-replicate {A = List McCopy} (7 * chips) [];
-      hand_list = length-replicate {A = Option Held} chips None;
+      hand_list = length-replicate {A = Option Hand} chips None;
       core_lists = length-replicate {A = List McCopy} (length u.spots) [];
       table_list = long;
       inputs_within = All-replicate (λ (l : List McCopy). length l ≤ u.capacity) (7 * chips) [] (omega arith);
       cores_within = All-replicate (λ (l : List McCopy). length l ≤ u.capacity) (length u.spots) [] (omega arith);
       unsent_at_start = All-replicate (λ (l : List McCopy). All (λ k. k.hop ≡ 0) l) (length u.spots) [] (λ k d below. absurd (omega arith));
-      hands_with_outputs = All-replicate (λ (x : Option Held). IfSome x (λ held. held.outs ≢ [])) chips None tt;
+      hands_with_outputs = All-replicate (λ (x : Option Hand). IfSome x (λ held. held.outs ≢ [])) chips None tt;
       none_at_dead_ports = λ c d dead inside. empty_at (7 * chips) (queue_at u.machine c (ByLink d)) (queue_at-below u.machine c (ByLink d) inside);
       none_on_dead_chips = λ c dead inside. empty_at (7 * chips) (queue_at u.machine c Local) (queue_at-below u.machine c Local inside);
     }
 
 -- a mesh of lists that have no copy
-pub empty_from : (u : Setup) (unsent inputs cores : List (List McCopy)) (hands : List (Option Held)) →
+pub empty_from : (u : Setup) (unsent inputs cores : List (List McCopy)) (hands : List (Option Hand)) →
     unsent ≡ replicate (length u.spots) [] → inputs ≡ replicate (7 * (u.machine.width * u.machine.height)) [] →
     hands ≡ replicate (u.machine.width * u.machine.height) None → cores ≡ replicate (length u.spots) [] →
     empty_mesh u ≡ record { setup = u; unsent = unsent; inputs = inputs; hands = hands; cores = cores; delivered = []; dumped = [] }
 empty_from u unsent inputs cores hands is_unsent is_inputs is_hands is_cores =
-    let from : List (List McCopy) → List (List McCopy) → List (Option Held) → List (List McCopy) → State =
+    let from : List (List McCopy) → List (List McCopy) → List (Option Hand) → List (List McCopy) → State =
     λ v i h c. record { setup = u; unsent = v; inputs = i; hands = h; cores = c; delivered = []; dumped = [] }
     in
     sym (ap (λ v. from v inputs hands cores) is_unsent

@@ -20,7 +20,7 @@ use Rattle.spin_base.proofs.Equality.{out_eq_true}
 use Rattle.machine_desc.specs.Live.{far_of, index_of, is_live_chip, is_live_link, IsInside, IsSite}
 use Rattle.machine_desc.proofs.Far.{live_ends, live_inside, far_inside}
 use Rattle.machine_desc.proofs.Sites.{site_parts}
-use Rattle.mesh_core.specs.State.{State, Held, IsMesh, Behind, input, core, behind, behind_link, core_of, queue_at, vertex_behind}
+use Rattle.mesh_core.specs.State.{State, Hand, IsMesh, Queue, input, core, behind, behind_link, core_of, queue_at, vertex_behind}
 use Rattle.mesh_core.specs.Step.{step_of, inject_of, take_of, send_of, dump_of, collect_of, has_room, has_room_behind, push_behind, push_at, in_hand as held_for, without, serves, after_serving, outputs, onward}
 use Rattle.mesh_core.specs.Trail.{unsent, in_queue, in_hand, at_core, delivered, dumped, Mark}
 use Rattle.mesh_core.specs.Ledger.{marks_of, hand_marks}
@@ -127,7 +127,7 @@ take_by_life s c port k rest is_free is_queue true live t e =
       setup = refl;
     })
 
-take_exchange : (s : State) (c : Chip) (port : Port) (hand : Option (Option Held)) (queue : Option (List McCopy)) →
+take_exchange : (s : State) (c : Chip) (port : Port) (hand : Option (Option Hand)) (queue : Option (List McCopy)) →
     slice_get s.hands (index_of s.setup.machine c) ≡ hand → slice_get s.inputs (queue_at s.setup.machine c port) ≡ queue →
     (t : State) → take_of s c port hand queue ≡ Some t → Exchange s t
 take_exchange s c port (Some None) (Some (k ∷ rest)) is_free is_queue t e = take_by_life s c port k rest is_free is_queue (is_live_chip s.setup.machine c) refl t e
@@ -156,7 +156,7 @@ without_out f o [] has = cc
 without_out f o (p ∷ os) has = without_out_by f o p os (out_eq o p) refl has (without_out f o os)
 
 -- a hand serves an output: its mark leaves
-hand_serves : (s : State) (c : Chip) (o : Out) (h : Held) → IsInside s.setup.machine c → slice_get s.hands (index_of s.setup.machine c) ≡ Some (Some h) →
+hand_serves : (s : State) (c : Chip) (o : Out) (h : Hand) → IsInside s.setup.machine c → slice_get s.hands (index_of s.setup.machine c) ≡ Some (Some h) →
     list_any (out_eq o) h.outs ≡ true → TakenOut (mark h.copy (in_hand c o)) (marks_of s) (marks_of (after_serving s c o h))
 hand_serves s c o h inside is_hand has =
     hand_out s c inside (Some h) (held_for h.copy h.port (without o h.outs)) (mark h.copy (in_hand c o)) is_hand
@@ -165,7 +165,7 @@ hand_serves s c o h inside is_hand has =
     (without_out (λ q. mark h.copy (in_hand c q)) o h.outs has))
 
 -- a copy that arrives behind an output, and the mark that comes
-abbrev Arrives : State → McCopy → Chip → Out → Behind → Type 0
+abbrev Arrives : State → McCopy → Chip → Out → Queue → Type 0
 Arrives s k c o to = (come : List Mark) × PutIn come (marks_of s) (marks_of (push_behind s to (onward k))) × Crosses s k c o come
 
 -- a copy arrives at a vertex
@@ -198,14 +198,14 @@ arrives s c (Link d) k room = arrives_by_link s c d k (is_live_link s.setup.mach
 arrives s c (Core p) k room = arrives_at_vertex s c (Core p) k (λ d same. cc) (vertex_behind s.setup.spots c (Core p)) refl room
 
 -- what it takes to serve an output
-serves_parts : (s : State) (c : Chip) (o : Out) (h : Held) → serves s c o (Some (Some h)) ≡ true →
+serves_parts : (s : State) (c : Chip) (o : Out) (h : Hand) → serves s c o (Some (Some h)) ≡ true →
     IsInside s.setup.machine c × (list_any (out_eq o) h.outs ≡ true)
 serves_parts s c o h serving = (
   live_inside s.setup.machine c ((and_parts (is_live_chip s.setup.machine c) (list_any (out_eq o) h.outs) serving).0),
   (and_parts (is_live_chip s.setup.machine c) (list_any (out_eq o) h.outs) serving).1,
 )
 
-send_by : (s : State) (c : Chip) (o : Out) (h : Held) → slice_get s.hands (index_of s.setup.machine c) ≡ Some (Some h) →
+send_by : (s : State) (c : Chip) (o : Out) (h : Hand) → slice_get s.hands (index_of s.setup.machine c) ≡ Some (Some h) →
     (serving room : Bool) → serves s c o (Some (Some h)) ≡ serving → has_room_behind s (behind s.setup c o) ≡ room → (t : State) →
     (if serving && room then Some (push_behind (after_serving s c o h) (behind s.setup c o) (onward h.copy)) else None) ≡ Some t →
     Exchange s t
@@ -227,14 +227,14 @@ send_by s c o h is_hand true true serving room t e =
       setup = push_behind_setup between (behind s.setup c o) (onward h.copy);
     })
 
-send_exchange : (s : State) (c : Chip) (o : Out) (hand : Option (Option Held)) → slice_get s.hands (index_of s.setup.machine c) ≡ hand →
+send_exchange : (s : State) (c : Chip) (o : Out) (hand : Option (Option Hand)) → slice_get s.hands (index_of s.setup.machine c) ≡ hand →
     (t : State) → send_of s c o hand ≡ Some t → Exchange s t
 send_exchange s c o (Some (Some h)) is_hand t e =
     send_by s c o h is_hand (serves s c o (Some (Some h))) (has_room_behind s (behind s.setup c o)) refl refl t e
 send_exchange s c o (Some None) is_hand t e = cc
 send_exchange s c o None is_hand t e = cc
 
-dump_by : (s : State) (c : Chip) (o : Out) (h : Held) → slice_get s.hands (index_of s.setup.machine c) ≡ Some (Some h) →
+dump_by : (s : State) (c : Chip) (o : Out) (h : Hand) → slice_get s.hands (index_of s.setup.machine c) ≡ Some (Some h) →
     (serving room : Bool) → serves s c o (Some (Some h)) ≡ serving → (t : State) →
     (if serving && room then Some (record (after_serving s c o h) { dumped = s.dumped ++ record { chip = c; out = o; copy = h.copy } ∷ [] }) else None) ≡ Some t →
     Exchange s t
@@ -255,7 +255,7 @@ dump_by s c o h is_hand true true serving t e =
       setup = refl;
     })
 
-dump_exchange : (s : State) (c : Chip) (o : Out) (hand : Option (Option Held)) → slice_get s.hands (index_of s.setup.machine c) ≡ hand →
+dump_exchange : (s : State) (c : Chip) (o : Out) (hand : Option (Option Hand)) → slice_get s.hands (index_of s.setup.machine c) ≡ hand →
     (t : State) → dump_of s c o hand ≡ Some t → Exchange s t
 dump_exchange s c o (Some (Some h)) is_hand t e =
     dump_by s c o h is_hand (serves s c o (Some (Some h))) (not (has_room_behind s (behind s.setup c o))) refl t e

@@ -9,7 +9,7 @@ use Rattle.spin_base.specs.declared.copies.Event.{Event}
 use Rattle.spin_base.specs.declared.copies.Packet.{Packet}
 use Rattle.net_tables.specs.declared.nets.NetPlan.{NetPlan}
 use Rattle.net_tables.specs.RightTables.{AreRight}
-use Rattle.mesh_core.specs.State.{Setup, State, IsMesh, Behind, input, core, nowhere, behind}
+use Rattle.mesh_core.specs.State.{Setup, State, IsMesh, Queue, input, core, nowhere, behind}
 use Rattle.mesh_core.specs.Step.{step_of, after_event, after_events, has_room_behind, push_behind, onward}
 use Rattle.mesh_core.specs.PutBack.{put_back_of, after_put_back}
 use Rattle.mesh_core.specs.Trail.{Mark, dumped}
@@ -96,7 +96,7 @@ IsMesh-after_events s (e ∷ es) mesh = IsMesh-after_events (after_event s e) es
 -- ---- putting a copy back
 
 -- the dump records change no queue
-pub same_room : (s : State) (rest : List DumpRec) (b : Behind) → has_room_behind (record s { dumped = rest }) b ≡ has_room_behind s b
+pub same_room : (s : State) (rest : List DumpRec) (b : Queue) → has_room_behind (record s { dumped = rest }) b ≡ has_room_behind s b
 same_room s rest (input i) = refl
 same_room s rest (core v) = refl
 same_room s rest nowhere = refl
@@ -112,7 +112,7 @@ put_back_by_room : (s : State) (r : DumpRec) (rest : List DumpRec) → s.dumped 
 put_back_by_room s r rest is false full t e = cc
 put_back_by_room s r rest is true room t e =
     let between : State = record s { dumped = rest } in
-    let to : Behind = behind s.setup r.chip r.out in
+    let to : Queue = behind s.setup r.chip r.out in
     let next : State = push_behind between to (onward r.copy) in
     let same : next ≡ t = cc in
     let still : has_room_behind between to ≡ true = same_room s rest to ∙ room in

@@ -10,10 +10,10 @@ use Rattle.spin_base.specs.declared.copies.McCopy.{McCopy}
 use Rattle.spin_base.specs.declared.copies.Event.{Event}
 use Rattle.spin_base.specs.declared.copies.Event.TheVariants.{Inject, Take, Send, Dump, Collect}
 use Rattle.machine_desc.specs.Live.{index_of}
-use Rattle.mesh_core.specs.State.{State, Held, Behind, input, core, nowhere, behind, queue_at}
+use Rattle.mesh_core.specs.State.{State, Hand, Queue, input, core, nowhere, behind, queue_at}
 use Rattle.mesh_core.specs.Step.{onward, has_room_behind, serves, after_serving, push_behind, inject_of, take_of, send_of, dump_of, collect_of, after_event, after_events}
 
-pub push_behind_setup : (s : State) (b : Behind) (k : McCopy) → (push_behind s b k).setup ≡ s.setup
+pub push_behind_setup : (s : State) (b : Queue) (k : McCopy) → (push_behind s b k).setup ≡ s.setup
 push_behind_setup s (input i) k = refl
 push_behind_setup s (core v) k = refl
 push_behind_setup s nowhere k = refl
@@ -29,21 +29,21 @@ setup-inject_of s v (Some spot) (Some []) = refl
 setup-inject_of s v (Some spot) None = refl
 setup-inject_of s v None unsent = refl
 
-setup-take_of : (s : State) (c : Chip) (port : Port) (hand : Option (Option Held)) (queue : Option (List McCopy)) → (unwrap_or (take_of s c port hand queue) s).setup ≡ s.setup
+setup-take_of : (s : State) (c : Chip) (port : Port) (hand : Option (Option Hand)) (queue : Option (List McCopy)) → (unwrap_or (take_of s c port hand queue) s).setup ≡ s.setup
 setup-take_of s c port (Some None) (Some (k ∷ rest)) = setup-if _ _ s refl
 setup-take_of s c port (Some None) (Some []) = refl
 setup-take_of s c port (Some None) None = refl
 setup-take_of s c port (Some (Some h)) queue = refl
 setup-take_of s c port None queue = refl
 
-setup-send_of : (s : State) (c : Chip) (o : Out) (hand : Option (Option Held)) → (unwrap_or (send_of s c o hand) s).setup ≡ s.setup
+setup-send_of : (s : State) (c : Chip) (o : Out) (hand : Option (Option Hand)) → (unwrap_or (send_of s c o hand) s).setup ≡ s.setup
 setup-send_of s c o (Some (Some h)) =
-    let to : Behind = behind s.setup c o in
+    let to : Queue = behind s.setup c o in
     setup-if (serves s c o (Some (Some h)) && has_room_behind s to) (push_behind (after_serving s c o h) to (onward h.copy)) s (push_behind_setup (after_serving s c o h) to (onward h.copy))
 setup-send_of s c o (Some None) = refl
 setup-send_of s c o None = refl
 
-setup-dumped : (s : State) (c : Chip) (o : Out) (hand : Option (Option Held)) → (unwrap_or (dump_of s c o hand) s).setup ≡ s.setup
+setup-dumped : (s : State) (c : Chip) (o : Out) (hand : Option (Option Hand)) → (unwrap_or (dump_of s c o hand) s).setup ≡ s.setup
 setup-dumped s c o (Some (Some h)) = setup-if _ _ s refl
 setup-dumped s c o (Some None) = refl
 setup-dumped s c o None = refl

@@ -22,7 +22,7 @@ use Rattle.machine_desc.specs.Description.{Description}
 use Rattle.machine_desc.specs.Live.{index_of, far_of, is_live_chip, is_live_link, IsInside, IsSite}
 use Rattle.machine_desc.proofs.Sites.{site_parts}
 use Rattle.machine_desc.proofs.Far.{same_index, live_inside, live_ends, live_back}
-use Rattle.mesh_core.specs.State.{Setup, State, Held, IsMesh, queue_at, vertex_behind, Behind, input, core, nowhere, core_of, behind_link, behind}
+use Rattle.mesh_core.specs.State.{Setup, State, Hand, IsMesh, queue_at, vertex_behind, Queue, input, core, nowhere, core_of, behind_link, behind}
 use Rattle.mesh_core.specs.Step.{onward, outputs, in_hand, without, has_room, has_room_behind, push_at, push_behind, inject_of, take_of, serves, after_serving, send_of, dump_of, collect_of, step_of}
 use Rattle.mesh_core.proofs.Changes.{port_below, IsMesh-unsent, IsMesh-cores, IsMesh-hands, IsMesh-delivered, IsMesh-dumped, IsMesh-inputs}
 
@@ -65,7 +65,7 @@ may_wait-link m c d in_c live = record {
 }
 
 -- a copy may wait in the queue behind an output
-pub MayWaitBehind : Description → Behind → Type 0
+pub MayWaitBehind : Description → Queue → Type 0
 MayWaitBehind m (input i) = MayWait m i
 MayWaitBehind m (core v) = Unit {0}
 MayWaitBehind m nowhere = Unit {0}
@@ -107,7 +107,7 @@ arrived_core s v k (Some q) h room =
 arrived_core s v k None h room = cc
 
 -- a mesh where a copy came into a queue with room, at which copies may wait
-pub IsMesh-push_behind : (s : State) (b : Behind) (k : McCopy) → IsMesh s → MayWaitBehind s.setup.machine b → has_room_behind s b ≡ true → IsMesh (push_behind s b k)
+pub IsMesh-push_behind : (s : State) (b : Queue) (k : McCopy) → IsMesh s → MayWaitBehind s.setup.machine b → has_room_behind s b ≡ true → IsMesh (push_behind s b k)
 unfolding MayWaitBehind
 IsMesh-push_behind s (input i) k h may room = arrived_input s i k (slice_get s.inputs i) h may room
 IsMesh-push_behind s (core v) k h may room = arrived_core s v k (slice_get s.cores v) h room
@@ -120,7 +120,7 @@ in_hand-some k port (o ∷ os) = λ e. cc
 
 keeps_injected : (s t : State) (v : ℕ) (spot : Option Spot) (unsent : Option (List McCopy)) → IsMesh s → slice_get s.setup.spots v ≡ spot → slice_get s.unsent v ≡ unsent → inject_of s v spot unsent ≡ Some t → IsMesh t
 keeps_injected s t v (Some spot) (Some (k ∷ rest)) h at_spot at_unsent moves =
-    let queue : Behind = input (queue_at s.setup.machine spot.chip Local) in
+    let queue : Queue = input (queue_at s.setup.machine spot.chip Local) in
     let now : State = record s { unsent = set s.unsent v rest } in
     let parts : (has_room_behind s queue ≡ true) × (push_behind now queue k ≡ t) = if_some (has_room_behind s queue) (push_behind now queue k) t moves in
     let start : All (λ x. x.hop ≡ 0) rest = All-tail (λ (x : McCopy). x.hop ≡ 0) k rest (All-at (λ (l : List McCopy). All (λ x. x.hop ≡ 0) l) s.unsent v (k ∷ rest) h.unsent_at_start at_unsent) in
@@ -137,11 +137,11 @@ keeps_injected s t v None None h at_spot at_unsent moves = cc
 nothing_waited : {X : Type 0} (xs : List (List X)) (i j : ℕ) (x : X) (rest : List X) → slice_get xs i ≡ Some (x ∷ rest) → slice_get xs j ≡ Some [] → j ≡ i → rest ≡ []
 nothing_waited xs i j x rest here there same = let both : Some (x ∷ rest) ≡ Some [] = sym here ∙ (ap (slice_get xs) (sym same) ∙ there) in cc
 
-keeps_taken : (s t : State) (c : Chip) (port : Port) (hand : Option (Option Held)) (queue : Option (List McCopy)) → IsMesh s → slice_get s.inputs (queue_at s.setup.machine c port) ≡ queue → take_of s c port hand queue ≡ Some t → IsMesh t
+keeps_taken : (s t : State) (c : Chip) (port : Port) (hand : Option (Option Hand)) (queue : Option (List McCopy)) → IsMesh s → slice_get s.inputs (queue_at s.setup.machine c port) ≡ queue → take_of s c port hand queue ≡ Some t → IsMesh t
 keeps_taken s t c port (Some None) (Some (k ∷ rest)) h at_queue moves =
     let q : ℕ = queue_at s.setup.machine c port in
     let now : State = record s { inputs = set s.inputs q rest } in
-    let hand : Option Held = in_hand k port (outputs s.setup c port k) in
+    let hand : Option Hand = in_hand k port (outputs s.setup c port k) in
     let next : State = record now { hands = set s.hands (index_of s.setup.machine c) hand } in
     let parts : (is_live_chip s.setup.machine c ≡ true) × (next ≡ t) = if_some (is_live_chip s.setup.machine c) next t moves in
     let within : length (k ∷ rest) ≤ s.setup.capacity = All-at (λ (l : List McCopy). length l ≤ s.setup.capacity) s.inputs q (k ∷ rest) h.inputs_within at_queue in
@@ -155,13 +155,13 @@ keeps_taken s t c port (Some None) None h at_queue moves = cc
 keeps_taken s t c port (Some (Some held)) queue h at_queue moves = cc
 keeps_taken s t c port None queue h at_queue moves = cc
 
-IsMesh-after_serving : (s : State) (c : Chip) (o : Out) (held : Held) → IsMesh s → IsMesh (after_serving s c o held)
+IsMesh-after_serving : (s : State) (c : Chip) (o : Out) (held : Hand) → IsMesh s → IsMesh (after_serving s c o held)
 IsMesh-after_serving s c o held h =
     IsMesh-hands s (index_of s.setup.machine c) (in_hand held.copy held.port (without o held.outs)) h (in_hand-some held.copy held.port (without o held.outs))
 
-keeps_sent : (s t : State) (c : Chip) (o : Out) (hand : Option (Option Held)) → IsMesh s → send_of s c o hand ≡ Some t → IsMesh t
+keeps_sent : (s t : State) (c : Chip) (o : Out) (hand : Option (Option Hand)) → IsMesh s → send_of s c o hand ≡ Some t → IsMesh t
 keeps_sent s t c o (Some (Some held)) h moves =
-    let to : Behind = behind s.setup c o in
+    let to : Queue = behind s.setup c o in
     let hands : Bool = serves s c o (Some (Some held)) in
     let next : State = push_behind (after_serving s c o held) to (onward held.copy) in
     let parts : ((hands && has_room_behind s to) ≡ true) × (next ≡ t) = if_some (hands && has_room_behind s to) next t moves in
@@ -169,14 +169,14 @@ keeps_sent s t c o (Some (Some held)) h moves =
     subst IsMesh parts.1 (IsMesh-push_behind (after_serving s c o held) to (onward held.copy) (IsMesh-after_serving s c o held h) (may_wait-behind s.setup c o) (room_after s c o held to both.1))
   where
     -- what a hand holds changes no room
-    room_after : (s : State) (c : Chip) (o : Out) (held : Held) (b : Behind) → has_room_behind s b ≡ true → has_room_behind (after_serving s c o held) b ≡ true
+    room_after : (s : State) (c : Chip) (o : Out) (held : Hand) (b : Queue) → has_room_behind s b ≡ true → has_room_behind (after_serving s c o held) b ≡ true
     room_after s c o held (input i) room = room
     room_after s c o held (core v) room = room
     room_after s c o held nowhere room = room
 keeps_sent s t c o (Some None) h moves = cc
 keeps_sent s t c o None h moves = cc
 
-keeps_dumped : (s t : State) (c : Chip) (o : Out) (hand : Option (Option Held)) → IsMesh s → dump_of s c o hand ≡ Some t → IsMesh t
+keeps_dumped : (s t : State) (c : Chip) (o : Out) (hand : Option (Option Hand)) → IsMesh s → dump_of s c o hand ≡ Some t → IsMesh t
 keeps_dumped s t c o (Some (Some held)) h moves =
     let next : State = after_serving s c o held in
     let last : State = record next { dumped = next.dumped ++ record { chip = c; out = o; copy = held.copy } ∷ [] } in

@@ -19,7 +19,7 @@ use Rattle.machine_desc.specs.Description.{Description}
 use Rattle.machine_desc.specs.Live.{far_of, index_of, chip_of, is_live_link, IsInside, IsLiveLink}
 use Rattle.machine_desc.proofs.Far.{same_index, index_below}
 use Rattle.machine_desc.proofs.Live.{chip_of-inside, index_of-chip_of}
-use Rattle.mesh_core.specs.State.{State, Held, queue_at, vertex_behind}
+use Rattle.mesh_core.specs.State.{State, Hand, queue_at, vertex_behind}
 use Rattle.mesh_core.specs.Step.{in_hand as held_for, outputs, onward}
 use Rattle.mesh_core.specs.Trail.{Station, unsent, in_queue, in_hand, at_core, delivered, dumped, Mark}
 use Rattle.mesh_core.specs.Ledger.{marks_of, marked, hand_marks, port_of, unsent_marks, input_marks, all_hand_marks, core_marks, delivered_marks, dumped_marks}
@@ -145,7 +145,7 @@ input_in s c port inside k q at =
     (sym (station_of_queue s.setup.machine c port inside)) (back_in (in_queue c port) k q))))
 
 -- the same for the hands: a hand's marks change as the hand does
-pub hand_out : (s : State) (c : Chip) → IsInside s.setup.machine c → (old new : Option Held) (x : Mark) →
+pub hand_out : (s : State) (c : Chip) → IsInside s.setup.machine c → (old new : Option Hand) (x : Mark) →
     slice_get s.hands (index_of s.setup.machine c) ≡ Some old → TakenOut x (hand_marks c old) (hand_marks c new) →
     TakenOut x (marks_of s) (marks_of (record s { hands = slice_set s.hands (index_of s.setup.machine c) new }))
 hand_out s c inside old new x at t =
@@ -159,7 +159,7 @@ hand_out s c inside old new x at t =
     (taken_out_gathered (λ n h. hand_marks (chip_of s.setup.machine n) h) x 0 s.hands i old new at
     (subst (λ d. TakenOut x (hand_marks d old) (hand_marks d new)) (sym n_is) t))))
 
-pub hand_in : (s : State) (c : Chip) → IsInside s.setup.machine c → (old new : Option Held) (xs : List Mark) →
+pub hand_in : (s : State) (c : Chip) → IsInside s.setup.machine c → (old new : Option Hand) (xs : List Mark) →
     slice_get s.hands (index_of s.setup.machine c) ≡ Some old → PutIn xs (hand_marks c old) (hand_marks c new) →
     PutIn xs (marks_of s) (marks_of (record s { hands = slice_set s.hands (index_of s.setup.machine c) new }))
 hand_in s c inside old new xs at t =

@@ -20,7 +20,7 @@ use Rattle.machine_desc.proofs.Far.{live_inside}
 use Rattle.net_tables.specs.declared.nets.NetPlan.{NetPlan}
 use Rattle.mesh_core.specs.declared.places.Did.{Did}
 use Rattle.mesh_core.specs.declared.places.Did.TheVariants.{Moved, Idle}
-use Rattle.mesh_core.specs.State.{State, Held, IsMesh, Behind, input, core, nowhere, behind}
+use Rattle.mesh_core.specs.State.{State, Hand, IsMesh, Queue, input, core, nowhere, behind}
 use Rattle.mesh_core.specs.Step.{dump_of, serves, has_room, has_room_behind, answer}
 use Rattle.mesh_core.specs.Trail.{in_hand, Mark}
 use Rattle.mesh_core.specs.Ledger.{marks_of, label_of}
@@ -33,7 +33,7 @@ use Rattle.mesh_core.proofs.Queued.{FreeBehind, free_behind, once_in_queue, wait
 use Rattle.mesh_core.proofs.Standing.{held_mark}
 
 -- a queue that is shorter than the capacity has room
-room_of : (s : State) (b : Behind) (q : List McCopy) → queue_of s b ≡ Some q → length q < s.setup.capacity → has_room_behind s b ≡ true
+room_of : (s : State) (b : Queue) (q : List McCopy) → queue_of s b ≡ Some q → length q < s.setup.capacity → has_room_behind s b ≡ true
 room_of s (input i) q at short = ap (has_room s.setup.capacity) at ∙ lt-ltb (length q) s.setup.capacity short
 room_of s (core v) q at short = ap (has_room s.setup.capacity) at ∙ lt-ltb (length q) s.setup.capacity short
 room_of s nowhere q at short = cc
@@ -80,7 +80,7 @@ module _ (s : State) (nets : List NetPlan) (packets : List Packet) (mesh : IsMes
     room : has_room_behind s (behind s.setup c o) ≡ true
     room = room_of s (behind s.setup c o) free.0 free.1 (omega (arith, short, roomy))
 
-  idle_by : (c : Chip) (o : Out) (h : Held) → slice_get s.hands (index_of s.setup.machine c) ≡ Some (Some h) → (serving has : Bool) →
+  idle_by : (c : Chip) (o : Out) (h : Hand) → slice_get s.hands (index_of s.setup.machine c) ≡ Some (Some h) → (serving has : Bool) →
       serves s c o (Some (Some h)) ≡ serving → has_room_behind s (behind s.setup c o) ≡ has → (t : State) →
       (if serving && not has then Some t else None) ≡ None
   idle_by c o h at false has idle room' t = refl
@@ -95,7 +95,7 @@ module _ (s : State) (nets : List NetPlan) (packets : List Packet) (mesh : IsMes
       let has_it = room c o h.copy there in
       cc
 
-  pub dump_none : (c : Chip) (o : Out) (hand : Option (Option Held)) → slice_get s.hands (index_of s.setup.machine c) ≡ hand → dump_of s c o hand ≡ None
+  pub dump_none : (c : Chip) (o : Out) (hand : Option (Option Hand)) → slice_get s.hands (index_of s.setup.machine c) ≡ hand → dump_of s c o hand ≡ None
   dump_none c o (Some (Some h)) at = idle_by c o h at (serves s c o (Some (Some h))) (has_room_behind s (behind s.setup c o)) refl refl _
   dump_none c o (Some None) at = refl
   dump_none c o None at = refl

@@ -29,7 +29,7 @@ use Rattle.net_tables.specs.declared.nets.NetPlan.{NetPlan}
 use Rattle.net_tables.specs.NetsOn.{IsWayOn}
 use Rattle.net_tables.specs.RightTables.{IsKeyOf}
 use Rattle.machine_desc.specs.RoutingTree.{IsRoutingTree}
-use Rattle.mesh_core.specs.State.{Setup, State, IsMesh, Behind, input, core, nowhere, queue_at, core_of, behind, behind_link, vertex_behind}
+use Rattle.mesh_core.specs.State.{Setup, State, IsMesh, Queue, input, core, nowhere, queue_at, core_of, behind, behind_link, vertex_behind}
 use Rattle.mesh_core.specs.Trail.{Station, in_queue, in_hand, at_core, Mark, is_on_trail, is_packet_on_trail}
 use Rattle.mesh_core.specs.Ledger.{marks_of, marked, port_of, unsent_marks, input_marks, all_hand_marks, core_marks, delivered_marks, dumped_marks, Label, MeetsLedger}
 use Rattle.mesh_core.specs.Waiting.{queue_of}
@@ -219,12 +219,12 @@ module _ (s : State) (nets : List NetPlan) (labels : ℕ → Label) (ledger : Me
   ]
 
   -- the mark of a copy in a queue
-  abbrev queue_station : Behind → Station
+  abbrev queue_station : Queue → Station
   queue_station (input i) = in_queue (chip_of s.setup.machine (i / 7)) (port_of (i % 7))
   queue_station (core v) = at_core v
   queue_station nowhere = at_core 0
 
-  pub waiting_mark : (b : Behind) (q : List McCopy) → queue_of s b ≡ Some q → (j : McCopy) → Among j q → Contains (marks_of s) (mark j (queue_station b))
+  pub waiting_mark : (b : Queue) (q : List McCopy) → queue_of s b ≡ Some q → (j : McCopy) → Among j q → Contains (marks_of s) (mark j (queue_station b))
   waiting_mark (input i) q at j among =
       let m : Mark = mark j (in_queue (chip_of s.setup.machine (i / 7)) (port_of (i % 7))) in
       among_contains m (marks_of s)
@@ -236,7 +236,7 @@ module _ (s : State) (nets : List NetPlan) (labels : ℕ → Label) (ledger : Me
   waiting_mark nowhere q at j among = cc
 
   -- No queue has two copies of one packet.
-  pub once_in_queue : (b : Behind) (q : List McCopy) → queue_of s b ≡ Some q → (n : ℕ) → count_by (λ j. j.packet == n) q ≤ 1
+  pub once_in_queue : (b : Queue) (q : List McCopy) → queue_of s b ≡ Some q → (n : ℕ) → count_by (λ j. j.packet == n) q ≤ 1
   once_in_queue (input i) q at n =
       let c : Chip = chip_of s.setup.machine (i / 7) in
       let port : Port = port_of (i % 7) in

@@ -15,7 +15,7 @@ use Rattle.machine_desc.specs.Live.{index_of}
 use Rattle.net_tables.specs.declared.nets.NetPlan.{NetPlan}
 use Rattle.net_tables.specs.NetsOn.{AreNetsOn}
 use Rattle.net_tables.specs.RightTables.{AreRight}
-use Rattle.mesh_core.specs.State.{Setup, State, Held, IsMesh, Behind, input, core, nowhere, behind, queue_at}
+use Rattle.mesh_core.specs.State.{Setup, State, Hand, IsMesh, Queue, input, core, nowhere, behind, queue_at}
 use Rattle.mesh_core.specs.Step.{onward, has_room_behind, serves, after_serving, push_behind, inject_of, take_of, send_of, collect_of, after_event, after_events}
 use Rattle.mesh_core.specs.Opened.{opened_mesh, AreOfNets, MeetsJobLedger}
 use Rattle.mesh_core.specs.Expected.{IsAtRest, AreAsExpected}
@@ -27,7 +27,7 @@ use Rattle.mesh_core.proofs.OpenedLaw.{opened_meets_ledger}
 
 -- ---- only a Dump makes a record
 
-pub records-push_behind : (s : State) (b : Behind) (k : McCopy) → (push_behind s b k).dumped ≡ s.dumped
+pub records-push_behind : (s : State) (b : Queue) (k : McCopy) → (push_behind s b k).dumped ≡ s.dumped
 records-push_behind s (input i) k = refl
 records-push_behind s (core v) k = refl
 records-push_behind s nowhere k = refl
@@ -43,16 +43,16 @@ records-inject_of s v (Some spot) (Some []) = refl
 records-inject_of s v (Some spot) None = refl
 records-inject_of s v None unsent = refl
 
-records-take_of : (s : State) (c : Chip) (port : Port) (hand : Option (Option Held)) (queue : Option (List McCopy)) → (unwrap_or (take_of s c port hand queue) s).dumped ≡ s.dumped
+records-take_of : (s : State) (c : Chip) (port : Port) (hand : Option (Option Hand)) (queue : Option (List McCopy)) → (unwrap_or (take_of s c port hand queue) s).dumped ≡ s.dumped
 records-take_of s c port (Some None) (Some (k ∷ rest)) = records-if _ _ s refl
 records-take_of s c port (Some None) (Some []) = refl
 records-take_of s c port (Some None) None = refl
 records-take_of s c port (Some (Some h)) queue = refl
 records-take_of s c port None queue = refl
 
-records-send_of : (s : State) (c : Chip) (o : Out) (hand : Option (Option Held)) → (unwrap_or (send_of s c o hand) s).dumped ≡ s.dumped
+records-send_of : (s : State) (c : Chip) (o : Out) (hand : Option (Option Hand)) → (unwrap_or (send_of s c o hand) s).dumped ≡ s.dumped
 records-send_of s c o (Some (Some h)) =
-    let to : Behind = behind s.setup c o in
+    let to : Queue = behind s.setup c o in
     records-if (serves s c o (Some (Some h)) && has_room_behind s to) (push_behind (after_serving s c o h) to (onward h.copy)) s
     (records-push_behind (after_serving s c o h) to (onward h.copy))
 records-send_of s c o (Some None) = refl

@@ -23,7 +23,7 @@ use Rattle.net_tables.specs.declared.nets.NetPlan.{NetPlan}
 use Rattle.mesh_core.specs.declared.places.Place.TheVariants.{InQueue, Hand as HandAt, CoreQueue}
 use Rattle.mesh_core.specs.declared.places.Where.TheVariants.{At, Delivered, Dumped}
 use Rattle.net_tables.specs.NetsOn.{vertex_at}
-use Rattle.mesh_core.specs.State.{State, Held, IsMesh, queue_at}
+use Rattle.mesh_core.specs.State.{State, Hand, IsMesh, queue_at}
 use Rattle.mesh_core.specs.Trail.{Station, in_queue, in_hand, at_core, delivered, dumped, Mark}
 use Rattle.mesh_core.specs.Ledger.{marks_of}
 use Rattle.mesh_core.specs.Whereabouts.{IsTracked}
@@ -72,7 +72,7 @@ module _ (s : State) (packet : ℕ) where
       IsMarkThere s packet (IsOfOutput c o) (At (HandAt c o))
   hand_has c o inside yes' = by_hand (slice_get s.hands (index_of s.setup.machine c)) refl yes'
     where
-      by_hand : (x : Option (Option Held)) → slice_get s.hands (index_of s.setup.machine c) ≡ x → is_held packet o x ≡ true →
+      by_hand : (x : Option (Option Hand)) → slice_get s.hands (index_of s.setup.machine c) ≡ x → is_held packet o x ≡ true →
           IsMarkThere s packet (IsOfOutput c o) (At (HandAt c o))
       by_hand (Some (Some h)) at held =
           let out = any_among (out_eq o) h.outs ((and_parts (h.copy.packet == packet) (list_any (out_eq o) h.outs) held).1) in
@@ -116,7 +116,7 @@ module _ (s : State) (packet : ℕ) where
       position (is_dump c o) s.dumped ≡ None → IsFound s packet (IsOfOutput c o) None
   output_lacks c o inside none nowhere k has is_packet (inl there) =
       let stands : StandsAt s k.copy (in_hand c o) = stands_there k has (in_hand c o) there in
-      let h : Held = stands.1 in
+      let h : Hand = stands.1 in
       let place : stands.0 ≡ index_of s.setup.machine c =
       sym (index_of-chip_of s.setup.machine stands.0) ∙ ap (index_of s.setup.machine) stands.3
       in

@@ -28,7 +28,7 @@ use Rattle.machine_desc.proofs.Same.{same_spot}
 use Rattle.machine_desc.proofs.Sites.{site_parts}
 use Rattle.net_tables.specs.NetsOn.{vertex_at}
 use Rattle.net_tables.specs.Outputs.{leads_to_spot}
-use Rattle.mesh_core.specs.State.{State, Held, vertex_behind}
+use Rattle.mesh_core.specs.State.{State, Hand, vertex_behind}
 use Rattle.mesh_core.specs.Step.{in_hand, last_hop, outputs, without}
 use Rattle.mesh_core.specs.Serving.{hands_after}
 use Rattle.mesh_core.specs.VertexTable.{TellsVertices, spot_place}
@@ -36,14 +36,14 @@ use Rattle.list_laws.proofs.Places.{set-slice_get}
 use Rattle.mesh_core.proofs.VertexTableLaws.{spot_place-below, vertex_at-from}
 
 -- a hand served an output
-pub hands_after-some : (hands : List (Option Held)) (i : ℕ) (o : Out) (d x r : Option Held) (h : Held) → i < length hands → get_or hands i d ≡ Some h →
+pub hands_after-some : (hands : List (Option Hand)) (i : ℕ) (o : Out) (d x r : Option Hand) (h : Hand) → i < length hands → get_or hands i d ≡ Some h →
     r ≡ in_hand h.copy h.port (without o h.outs) → set (set hands i x) i r ≡ hands_after hands i o (slice_get hands i)
 hands_after-some hands i o d x r h below here after_serving =
     let at : slice_get hands i ≡ Some (Some h) = slice_get-get_or hands i d below ∙ ap Some here in
     set-set hands i x r ∙ (ap (set hands i) after_serving ∙ ap (hands_after hands i o) (sym at))
 
 -- there was no hand
-pub hands_after-none : (hands : List (Option Held)) (i : ℕ) (o : Out) (d x : Option Held) → i < length hands → get_or hands i d ≡ None → x ≡ None →
+pub hands_after-none : (hands : List (Option Hand)) (i : ℕ) (o : Out) (d x : Option Hand) → i < length hands → get_or hands i d ≡ None → x ≡ None →
     set hands i x ≡ hands_after hands i o (slice_get hands i)
 hands_after-none hands i o d x below here none =
     let at : slice_get hands i ≡ Some None = slice_get-get_or hands i d below ∙ ap Some here in
@@ -135,9 +135,9 @@ outputs_at s c port k n tables table d at same below here =
     outputs_read s c port k n table at (ap (λ l. slice_get l n) (sym same) ∙ (slice_get-get_or tables n d below ∙ ap Some (sym here)))
 
 -- a hand that isn't there
-pub no_hand : (hands : List (Option Held)) (i : ℕ) (x : Option Held) → i < length hands → x ≡ get_or hands i x → is_some x ≡ false → slice_get hands i ≡ Some None
+pub no_hand : (hands : List (Option Hand)) (i : ℕ) (x : Option Hand) → i < length hands → x ≡ get_or hands i x → is_some x ≡ false → slice_get hands i ≡ Some None
 no_hand hands i x below read none = slice_get-get_or hands i x below ∙ ap Some (sym read ∙ is_none_from x none)
   where
-    is_none_from : (x : Option Held) → is_some x ≡ false → x ≡ None
+    is_none_from : (x : Option Hand) → is_some x ≡ false → x ≡ None
     is_none_from None e = refl
     is_none_from (Some h) e = cc

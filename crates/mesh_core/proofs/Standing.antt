@@ -13,7 +13,7 @@ use Rattle.spin_base.specs.Links.{port_number}
 use Rattle.machine_desc.specs.Description.{Description}
 use Rattle.machine_desc.specs.Live.{chip_of, index_of, IsInside}
 use Rattle.machine_desc.proofs.Live.{index_of-chip_of}
-use Rattle.mesh_core.specs.State.{State, Held, queue_at}
+use Rattle.mesh_core.specs.State.{State, Hand, queue_at}
 use Rattle.mesh_core.specs.Trail.{Station, unsent, in_queue, in_hand, at_core, delivered, dumped, Mark}
 use Rattle.mesh_core.specs.Ledger.{marks_of, marked, hand_marks, port_of, unsent_marks, input_marks, all_hand_marks, core_marks, delivered_marks, dumped_marks}
 use Rattle.mesh_core.proofs.Moves.{mark, chip_of-index_of, station_of_queue}
@@ -47,7 +47,7 @@ StandsAt s k (unsent v) = (q : List McCopy) × (slice_get s.unsent v ≡ Some q)
 StandsAt s k (in_queue c port) =
     (i : ℕ) × (q : List McCopy) × (slice_get s.inputs i ≡ Some q) × (chip_of s.setup.machine (i / 7) ≡ c) × (port_of (i % 7) ≡ port) × Among k q
 StandsAt s k (in_hand c o) =
-    (i : ℕ) × (h : Held) × (slice_get s.hands i ≡ Some (Some h)) × (chip_of s.setup.machine i ≡ c) × (h.copy ≡ k) × Among o h.outs
+    (i : ℕ) × (h : Hand) × (slice_get s.hands i ≡ Some (Some h)) × (chip_of s.setup.machine i ≡ c) × (h.copy ≡ k) × Among o h.outs
 StandsAt s k (at_core v) = (q : List McCopy) × (slice_get s.cores v ≡ Some q) × Among k q
 StandsAt s k (delivered v) = Among (record { vertex = v; copy = k }) s.delivered
 StandsAt s k (dumped c o) = Among (record { chip = c; out = o; copy = k }) s.dumped
@@ -71,7 +71,7 @@ mark_stands s k a = first (among_either k (unsent_marks s) later1 a)
     later1 : List Mark
     later1 = input_marks s ++ later3
 
-    of_hand : (i : ℕ) (h : Option Held) → slice_get s.hands i ≡ Some h → Among k (hand_marks (chip_of s.setup.machine i) h) → StandsAt s k.copy k.station
+    of_hand : (i : ℕ) (h : Option Hand) → slice_get s.hands i ≡ Some h → Among k (hand_marks (chip_of s.setup.machine i) h) → StandsAt s k.copy k.station
     of_hand i (Some h) at b =
         let m = among_map (λ o. mark h.copy (in_hand (chip_of s.setup.machine i) o)) k h.outs b in
         as_mark s k h.copy (in_hand (chip_of s.setup.machine i) m.0) m.2 (i, h, at, refl, refl, m.1)
@@ -94,7 +94,7 @@ mark_stands s k a = first (among_either k (unsent_marks s) later1 a)
 
     third : Among k (all_hand_marks s) ⊎ Among k later4 → StandsAt s k.copy k.station
     third (inl b) =
-        let at = among_gathered (λ i (h : Option Held). hand_marks (chip_of s.setup.machine i) h) k s.hands b in
+        let at = among_gathered (λ i (h : Option Hand). hand_marks (chip_of s.setup.machine i) h) k s.hands b in
         of_hand at.0 at.1 at.2 at.3
     third (inr b) = fourth (among_either k (core_marks s) later5 b)
 
@@ -129,7 +129,7 @@ queued_mark s c port inside k q at a =
     (among_left y (input_marks s) (all_hand_marks s ++ (core_marks s ++ (delivered_marks s ++ dumped_marks s)))
     (gathered_among_from (λ n (l : List McCopy). marked (in_queue (chip_of s.setup.machine (n / 7)) (port_of (n % 7))) l) y 0 s.inputs i q at here))
 
-pub held_mark : (s : State) (c : Chip) (o : Out) → IsInside s.setup.machine c → (h : Held) →
+pub held_mark : (s : State) (c : Chip) (o : Out) → IsInside s.setup.machine c → (h : Hand) →
     slice_get s.hands (index_of s.setup.machine c) ≡ Some (Some h) → Among o h.outs → Among (mark h.copy (in_hand c o)) (marks_of s)
 held_mark s c o inside h at a =
     let i : ℕ = index_of s.setup.machine c in
@@ -140,7 +140,7 @@ held_mark s c o inside h at a =
     among_right y (unsent_marks s) (input_marks s ++ (all_hand_marks s ++ (core_marks s ++ (delivered_marks s ++ dumped_marks s))))
     (among_right y (input_marks s) (all_hand_marks s ++ (core_marks s ++ (delivered_marks s ++ dumped_marks s)))
     (among_left y (all_hand_marks s) (core_marks s ++ (delivered_marks s ++ dumped_marks s))
-    (gathered_among (λ n (l : Option Held). hand_marks (chip_of s.setup.machine n) l) y s.hands i (Some h) at here)))
+    (gathered_among (λ n (l : Option Hand). hand_marks (chip_of s.setup.machine n) l) y s.hands i (Some h) at here)))
 
 pub core_mark : (s : State) (v : ℕ) (k : McCopy) (q : List McCopy) → slice_get s.cores v ≡ Some q → Among k q →
     Among (mark k (at_core v)) (marks_of s)

@@ -16,7 +16,7 @@ use Rattle.machine_desc.specs.Live.{index_of, is_live_chip}
 use Rattle.mesh_core.specs.declared.places.Did.TheVariants.{Moved, Idle}
 use Rattle.mesh_core.specs.Queues.{front_of, drop_front}
 use Rattle.mesh_core.specs.Serving.{copy_served, inputs_after, cores_after, hands_after}
-use Rattle.mesh_core.specs.State.{State, Held, Behind, input, core, nowhere, behind, queue_at}
+use Rattle.mesh_core.specs.State.{State, Hand, Queue, input, core, nowhere, behind, queue_at}
 use Rattle.mesh_core.specs.Step.{onward, outputs, in_hand, has_room, has_room_behind, push_at, push_behind, inject_of, take_of, serves, after_serving, send_of, dump_of, step_of, answer, after_event}
 use Rattle.mesh_core.proofs.Keeping.{if_some}
 
@@ -71,7 +71,7 @@ take_by s c port k (Some []) front live = cc
 take_by s c port k None front live = cc
 
 -- the mesh after a copy was taken
-pub step_of-take : (s : State) (c : Chip) (port : Port) (k : McCopy) (inputs : List (List McCopy)) (hands : List (Option Held)) → is_live_chip s.setup.machine c ≡ true →
+pub step_of-take : (s : State) (c : Chip) (port : Port) (k : McCopy) (inputs : List (List McCopy)) (hands : List (Option Hand)) → is_live_chip s.setup.machine c ≡ true →
     slice_get s.hands (index_of s.setup.machine c) ≡ Some None → Some k ≡ front_of (slice_get s.inputs (queue_at s.setup.machine c port)) →
     inputs ≡ drop_front s.inputs (queue_at s.setup.machine c port) (slice_get s.inputs (queue_at s.setup.machine c port)) →
     hands ≡ set s.hands (index_of s.setup.machine c) (in_hand k port (outputs s.setup c port k)) →
@@ -84,12 +84,12 @@ step_of-take s c port k inputs hands live free front is_inputs is_hands =
     ∙ ap (λ h. Some (record s { inputs = inputs; hands = h })) (sym is_hands)))
 
 -- the mesh where a copy came into the queue behind an output
-arrived_is : (s : State) (b : Behind) (k : McCopy) → push_behind s b k ≡ record s { inputs = inputs_after s.inputs b k; cores = cores_after s.cores b k }
+arrived_is : (s : State) (b : Queue) (k : McCopy) → push_behind s b k ≡ record s { inputs = inputs_after s.inputs b k; cores = cores_after s.cores b k }
 arrived_is s (input i) k = refl
 arrived_is s (core v) k = refl
 arrived_is s nowhere k = refl
 
-send_by : (s : State) (c : Chip) (o : Out) (k : McCopy) (hand : Option (Option Held)) → copy_served s c o hand ≡ Some k →
+send_by : (s : State) (c : Chip) (o : Out) (k : McCopy) (hand : Option (Option Hand)) → copy_served s c o hand ≡ Some k →
     has_room_behind s (behind s.setup c o) ≡ true →
     send_of s c o hand ≡ Some (record s {
       inputs = inputs_after s.inputs (behind s.setup c o) (onward k);
@@ -97,7 +97,7 @@ send_by : (s : State) (c : Chip) (o : Out) (k : McCopy) (hand : Option (Option H
       hands = hands_after s.hands (index_of s.setup.machine c) o hand;
     })
 send_by s c o k (Some (Some h)) copy room =
-    let to : Behind = behind s.setup c o in
+    let to : Queue = behind s.setup c o in
     let parts : (serves s c o (Some (Some h)) ≡ true) × (h.copy ≡ k) = if_some (serves s c o (Some (Some h))) h.copy k copy in
     let asked : (serves s c o (Some (Some h)) && has_room_behind s to) ≡ true = and_from _ _ parts.0 room in
     ap (λ b. if b then Some (push_behind (after_serving s c o h) to (onward h.copy)) else None) asked
@@ -107,7 +107,7 @@ send_by s c o k (Some None) copy room = cc
 send_by s c o k None copy room = cc
 
 -- the mesh after a copy was sent by an output
-pub step_of-send : (s : State) (c : Chip) (o : Out) (k : McCopy) (inputs cores : List (List McCopy)) (hands : List (Option Held)) →
+pub step_of-send : (s : State) (c : Chip) (o : Out) (k : McCopy) (inputs cores : List (List McCopy)) (hands : List (Option Hand)) →
     Some k ≡ copy_served s c o (slice_get s.hands (index_of s.setup.machine c)) →
     has_room_behind s (behind s.setup c o) ≡ true →
     inputs ≡ inputs_after s.inputs (behind s.setup c o) (onward k) →
@@ -115,22 +115,22 @@ pub step_of-send : (s : State) (c : Chip) (o : Out) (k : McCopy) (inputs cores :
     hands ≡ hands_after s.hands (index_of s.setup.machine c) o (slice_get s.hands (index_of s.setup.machine c)) →
     step_of s (Send c o) ≡ Some (record s { inputs = inputs; cores = cores; hands = hands })
 step_of-send s c o k inputs cores hands copy room is_inputs is_cores is_hands =
-    let from : List (List McCopy) → List (List McCopy) → List (Option Held) → Option State = λ i q h. Some (record s { inputs = i; cores = q; hands = h }) in
-    let to : Behind = behind s.setup c o in
-    let last : List (Option Held) = hands_after s.hands (index_of s.setup.machine c) o (slice_get s.hands (index_of s.setup.machine c)) in
+    let from : List (List McCopy) → List (List McCopy) → List (Option Hand) → Option State = λ i q h. Some (record s { inputs = i; cores = q; hands = h }) in
+    let to : Queue = behind s.setup c o in
+    let last : List (Option Hand) = hands_after s.hands (index_of s.setup.machine c) o (slice_get s.hands (index_of s.setup.machine c)) in
     send_by s c o k (slice_get s.hands (index_of s.setup.machine c)) (sym copy) room
     ∙ (ap (λ i. from i (cores_after s.cores to (onward k)) last) (sym is_inputs)
     ∙ (ap (λ q. from inputs q last) (sym is_cores)
     ∙ ap (λ h. from inputs cores h) (sym is_hands)))
 
-dump_by : (s : State) (c : Chip) (o : Out) (k : McCopy) (hand : Option (Option Held)) → copy_served s c o hand ≡ Some k →
+dump_by : (s : State) (c : Chip) (o : Out) (k : McCopy) (hand : Option (Option Hand)) → copy_served s c o hand ≡ Some k →
     has_room_behind s (behind s.setup c o) ≡ false →
     dump_of s c o hand ≡ Some (record s {
       hands = hands_after s.hands (index_of s.setup.machine c) o hand;
       dumped = s.dumped ++ record { chip = c; out = o; copy = k } ∷ [];
     })
 dump_by s c o k (Some (Some h)) copy full =
-    let to : Behind = behind s.setup c o in
+    let to : Queue = behind s.setup c o in
     let parts : (serves s c o (Some (Some h)) ≡ true) × (h.copy ≡ k) = if_some (serves s c o (Some (Some h))) h.copy k copy in
     let asked : (serves s c o (Some (Some h)) && not (has_room_behind s to)) ≡ true = and_from _ _ parts.0 (ap not full) in
     let after : McCopy → State = λ x. record (after_serving s c o h) { dumped = s.dumped ++ record { chip = c; out = o; copy = x } ∷ [] } in
@@ -139,7 +139,7 @@ dump_by s c o k (Some None) copy full = cc
 dump_by s c o k None copy full = cc
 
 -- the mesh after a copy was dropped at an output
-pub step_of-dump : (s : State) (c : Chip) (o : Out) (k : McCopy) (hands : List (Option Held)) (dumped : List DumpRec) →
+pub step_of-dump : (s : State) (c : Chip) (o : Out) (k : McCopy) (hands : List (Option Hand)) (dumped : List DumpRec) →
     Some k ≡ copy_served s c o (slice_get s.hands (index_of s.setup.machine c)) →
     has_room_behind s (behind s.setup c o) ≡ false →
     hands ≡ hands_after s.hands (index_of s.setup.machine c) o (slice_get s.hands (index_of s.setup.machine c)) →

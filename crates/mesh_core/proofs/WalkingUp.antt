@@ -329,12 +329,12 @@ module _ (s : State) (net : NetPlan) (packet : ℕ) (tracked : IsTracked s net p
       omega arith
 
   -- the edge into a place's chip tells the port there, and the exit before
-  record Behind (xs : List Exit) (i : ℕ) (edge : Option Edge) : Type 0 where
+  record Queue (xs : List Exit) (i : ℕ) (edge : Option Edge) : Type 0 where
     arrives : arrival_at xs i ≡ port_behind edge
     prior : Prior xs i edge
 
   behind_place : (xs : List Exit) (from to : ℕ) → IsWayOn s.setup.machine s.setup.spots net target xs from to → (i : ℕ) (x : Exit) → slice_get xs i ≡ Some x →
-      (edge : Option Edge) → IsEdgeInto s.setup.machine net.tree.edges x.chip edge → Behind xs i edge
+      (edge : Option Edge) → IsEdgeInto s.setup.machine net.tree.edges x.chip edge → Queue xs i edge
   behind_place xs from to way zero x at None none = record { arrives = refl; prior = tt }
   behind_place xs from to way zero x at (Some e) into =
       let root : x.chip ≡ net.tree.root = way_first s.setup.machine net.tree.edges target net.tree.root xs x way.is_branch at in

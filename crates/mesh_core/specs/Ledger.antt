@@ -14,7 +14,7 @@ use Rattle.machine_desc.specs.Branch.{Exit}
 use Rattle.net_tables.specs.declared.nets.NetPlan.{NetPlan}
 use Rattle.net_tables.specs.RightTables.{IsKeyOf}
 use Rattle.net_tables.specs.NetsOn.{AreNetsOn, IsWayOn}
-use Rattle.mesh_core.specs.State.{State, Held}
+use Rattle.mesh_core.specs.State.{State, Hand}
 use Rattle.mesh_core.specs.Trail.{Station, unsent, in_queue, in_hand, at_core, delivered, dumped, Mark, is_on_trail, is_packet_on_trail}
 
 -- the ports of a chip, in the order of their numbers
@@ -30,7 +30,7 @@ abbrev pub marked : Station → List McCopy → List Mark
 marked station copies = map (λ k. record { copy = k; station = station }) copies
 
 -- a mark for each output that a hand still has to serve
-abbrev pub hand_marks : Chip → Option Held → List Mark
+abbrev pub hand_marks : Chip → Option Hand → List Mark
 hand_marks c (Some h) = map (λ o. record { copy = h.copy; station = in_hand c o }) h.outs
 hand_marks c None = []
 

@@ -13,7 +13,7 @@ use Rattle.machine_desc.specs.Description.{Description}
 use Rattle.machine_desc.specs.RoutingTree.{end_of}
 use Rattle.net_tables.specs.NetsOn.{vertex_at}
 use Rattle.mesh_core.specs.declared.places.Where.{Where}
-use Rattle.mesh_core.specs.State.{State, Held}
+use Rattle.mesh_core.specs.State.{State, Hand}
 use Rattle.mesh_core.specs.Trail.{Station, in_queue, in_hand, at_core, delivered, dumped, Mark}
 use Rattle.mesh_core.specs.Ledger.{marks_of}
 use Rattle.mesh_core.specs.Whereabouts.{TellsStation}
@@ -42,7 +42,7 @@ abbrev pub IsOfPort : Chip → Port → Station → Type 0
 IsOfPort c port station = station ≡ in_queue c port
 
 -- whether a hand has a copy of the packet for an output
-abbrev pub is_held : ℕ → Out → Option (Option Held) → Bool
+abbrev pub is_held : ℕ → Out → Option (Option Hand) → Bool
 is_held packet o (Some (Some h)) = (h.copy.packet == packet) && list_any (out_eq o) h.outs
 is_held packet o (Some None) = false
 is_held packet o None = false

@@ -17,7 +17,7 @@ use Rattle.machine_desc.specs.Live.{far_of, index_of, is_live_chip, is_live_link
 use Rattle.net_tables.specs.Outputs.{leads_to_spot}
 
 -- A copy in a router's hand: where it came in, and the outputs by which it still has to leave.
-pub record Held : Type 0 where
+pub record Hand : Type 0 where
   pub copy : McCopy
   pub port : Port
   pub outs : List Out
@@ -38,7 +38,7 @@ pub record State : Type 0 where
   pub setup : Setup
   pub unsent : List (List McCopy)
   pub inputs : List (List McCopy)
-  pub hands : List (Option Held)
+  pub hands : List (Option Hand)
   pub cores : List (List McCopy)
   pub delivered : List Delivery
   pub dumped : List DumpRec
@@ -52,20 +52,20 @@ abbrev pub vertex_behind : List Spot → Chip → Out → Option ℕ
 vertex_behind spots c o = position (leads_to_spot c o) spots
 
 -- The queue behind an output.
-pub data Behind : Type 0 where
+pub data Queue : Type 0 where
   -- the input queue of this place
-  input : ℕ → Behind
+  input : ℕ → Queue
   -- the queue of this vertex's core or device
-  core : ℕ → Behind
+  core : ℕ → Queue
   -- none: a link that is neither live nor a device's, or a core without a vertex
-  nowhere : Behind
+  nowhere : Queue
 
-abbrev pub core_of : Option ℕ → Behind
+abbrev pub core_of : Option ℕ → Queue
 core_of (Some v) = core v
 core_of None = nowhere
 
 -- the queue behind a link: at the far end where it is live, else that of the vertex whose device hangs on it
-abbrev pub behind_link : Setup → Chip → Dir → Bool → Option Chip → Behind
+abbrev pub behind_link : Setup → Chip → Dir → Bool → Option Chip → Queue
 behind_link u c d true (Some e) = input (queue_at u.machine e (ByLink (opposite_of d)))
 behind_link u c d true None = nowhere
 behind_link u c d false e = core_of (vertex_behind u.spots c (Link d))
@@ -73,7 +73,7 @@ behind_link u c d false e = core_of (vertex_behind u.spots c (Link d))
 -- A copy that a live link carries comes to the chip at its far end, into the queue of the port of the opposite link
 -- (SpiNNaker datasheet). One that goes to a core, or by a link that is not live to a device, comes into the queue of the
 -- vertex there.
-abbrev pub behind : Setup → Chip → Out → Behind
+abbrev pub behind : Setup → Chip → Out → Queue
 behind u c (Link d) = behind_link u c d (is_live_link u.machine c d) (far_of u.machine c d)
 behind u c (Core p) = core_of (vertex_behind u.spots c (Core p))
 

@@ -16,7 +16,7 @@ use Rattle.machine_desc.specs.Live.{index_of, is_live_chip}
 use Rattle.net_tables.specs.RightTables.{table_at}
 use Rattle.mesh_core.specs.declared.places.Did.{Did}
 use Rattle.mesh_core.specs.declared.places.Did.TheVariants.{Moved, Idle}
-use Rattle.mesh_core.specs.State.{Setup, State, Held, Behind, input, core, nowhere, behind, queue_at}
+use Rattle.mesh_core.specs.State.{Setup, State, Hand, Queue, input, core, nowhere, behind, queue_at}
 
 -- the greatest hop number
 abbrev pub last_hop : ℕ
@@ -32,7 +32,7 @@ abbrev pub outputs : Setup → Chip → Port → McCopy → List Out
 outputs u c port k = if k.hop == last_hop then [] else outs_of (lookup (table_at u.machine u.tables c) k.key port)
 
 -- what a router holds once it has these outputs to serve: nothing where there is none
-abbrev pub in_hand : McCopy → Port → List Out → Option Held
+abbrev pub in_hand : McCopy → Port → List Out → Option Hand
 in_hand k port [] = None
 in_hand k port (o ∷ os) = Some (record { copy = k; port = port; outs = o ∷ os })
 
@@ -47,7 +47,7 @@ has_room capacity (Some q) = nat_lt (length q) capacity
 has_room capacity None = false
 
 -- whether the queue behind an output has room. There is none behind an output that leads nowhere.
-abbrev pub has_room_behind : State → Behind → Bool
+abbrev pub has_room_behind : State → Queue → Bool
 has_room_behind s (input i) = has_room s.setup.capacity (slice_get s.inputs i)
 has_room_behind s (core v) = has_room s.setup.capacity (slice_get s.cores v)
 has_room_behind s nowhere = false
@@ -58,7 +58,7 @@ push_at lists i k (Some q) = slice_set lists i (q ++ k ∷ [])
 push_at lists i k None = lists
 
 -- the mesh with a copy at the back of the queue behind an output
-abbrev pub push_behind : State → Behind → McCopy → State
+abbrev pub push_behind : State → Queue → McCopy → State
 push_behind s (input i) k = record s { inputs = push_at s.inputs i k (slice_get s.inputs i) }
 push_behind s (core v) k = record s { cores = push_at s.cores v k (slice_get s.cores v) }
 push_behind s nowhere k = s
@@ -73,7 +73,7 @@ inject_of s v spot unsent = None
 
 -- Take: a live chip without a hand, with a copy at the port, takes the front copy into its hand, with the outputs that
 -- lookup gives. A copy without outputs is gone.
-abbrev pub take_of : State → Chip → Port → Option (Option Held) → Option (List McCopy) → Option State
+abbrev pub take_of : State → Chip → Port → Option (Option Hand) → Option (List McCopy) → Option State
 take_of s c port (Some None) (Some (k ∷ rest)) =
     if is_live_chip s.setup.machine c
     then Some (record s {
@@ -84,18 +84,18 @@ take_of s c port (Some None) (Some (k ∷ rest)) =
 take_of s c port hand queue = None
 
 -- whether a live chip's hand still has this output to serve
-abbrev pub serves : State → Chip → Out → Option (Option Held) → Bool
+abbrev pub serves : State → Chip → Out → Option (Option Hand) → Bool
 serves s c o (Some (Some h)) = is_live_chip s.setup.machine c && list_any (out_eq o) h.outs
 serves s c o (Some None) = false
 serves s c o None = false
 
 -- the mesh where the hand has served an output
-abbrev pub after_serving : State → Chip → Out → Held → State
+abbrev pub after_serving : State → Chip → Out → Hand → State
 after_serving s c o h = record s { hands = slice_set s.hands (index_of s.setup.machine c) (in_hand h.copy h.port (without o h.outs)) }
 
 -- Send: a chip whose hand has the output, and behind it a queue that isn't full, sends the copy with one hop more to
 -- the back of that queue, and the output leaves the hand.
-abbrev pub send_of : State → Chip → Out → Option (Option Held) → Option State
+abbrev pub send_of : State → Chip → Out → Option (Option Hand) → Option State
 send_of s c o (Some (Some h)) =
     if serves s c o (Some (Some h)) && has_room_behind s (behind s.setup c o)
     then Some (push_behind (after_serving s c o h) (behind s.setup c o) (onward h.copy))
@@ -105,7 +105,7 @@ send_of s c o None = None
 
 -- Dump: a chip whose hand has the output, and behind it a full queue or none, records the copy and drops it there, and
 -- the output leaves the hand.
-abbrev pub dump_of : State → Chip → Out → Option (Option Held) → Option State
+abbrev pub dump_of : State → Chip → Out → Option (Option Hand) → Option State
 dump_of s c o (Some (Some h)) =
     if serves s c o (Some (Some h)) && not (has_room_behind s (behind s.setup c o))
     then (let next = after_serving s c o h in Some (record next { dumped = next.dumped ++ record { chip = c; out = o; copy = h.copy } ∷ [] }))

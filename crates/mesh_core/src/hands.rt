@@ -21,9 +21,9 @@ pub struct Hand {
 }
 
 impl Model for Hand {
-    ghost use Rattle.mesh_core.specs.State.{Held};
+    ghost use Rattle.mesh_core.specs.State.{Hand};
 
-    ghost Value = { Held };
+    ghost Value = { Hand };
 
     ghost view = { λ h. record { copy = h.copy; port = h.port; outs = h.outs.items } };
 }

@@ -15,7 +15,7 @@ ghost use Rattle.machine_desc.specs.Live.{IsSite};
 ghost use Rattle.net_tables.specs.declared.nets.NetPlan.{NetPlan};
 ghost use Rattle.net_tables.specs.NetsOn.{AreNetsOn, IsWayOn};
 ghost use Rattle.net_tables.specs.RightTables.{AreRight};
-ghost use Rattle.mesh_core.specs.State.{Setup, State, IsMesh, Behind, behind};
+ghost use Rattle.mesh_core.specs.State.{Setup, State, IsMesh, Queue, behind};
 ghost use Rattle.mesh_core.specs.declared.places.Did.TheVariants.{Idle};
 ghost use Rattle.mesh_core.specs.Step.{after_events, answer};
 ghost use Rattle.mesh_core.specs.PutBack.{after_put_back};
@@ -118,7 +118,7 @@ pub fn a_packet_waits_once()
     ensures behind_a_hand { (s : State) (nets : List NetPlan) (labels : ℕ → Label) (c : Chip) (o : Out) (k : McCopy) →
         IsMesh s → MeetsLedger s nets labels → Contains (marks_of s) (record { copy = k; station = in_hand c o }) →
         (q : List McCopy) × (queue_of s (behind s.setup c o) ≡ Some q) × All (λ j. j.packet ≢ k.packet) q }
-    ensures in_a_queue { (s : State) (nets : List NetPlan) (labels : ℕ → Label) (b : Behind) (q : List McCopy) (number : ℕ) →
+    ensures in_a_queue { (s : State) (nets : List NetPlan) (labels : ℕ → Label) (b : Queue) (q : List McCopy) (number : ℕ) →
         MeetsLedger s nets labels → queue_of s b ≡ Some q → count_by (λ j. j.packet == number) q ≤ 1 }
 {}
 

@@ -66,7 +66,7 @@ impl Mesh {
         let vertices = spots.len();
         let setup = MeshSetup::new(alloc, machine, spots, tables, queue)?;
         let unsent = empty_queues(alloc, vertices)?;
-        let inputs = empty_queues(alloc, 7 * chips)?;
+        let inputs = empty_queues(alloc, Port::COUNT as usize * chips)?;
         let hands = empty_hands(alloc, chips)?;
         let cores = empty_queues(alloc, vertices)?;
         Ok(Mesh {

@@ -166,5 +166,5 @@ pub fn queue_place(machine: &Machine, c: Chip, port: Port) -> usize
     ensures place { result ≡ place_of_queue machine.now c port }
     ensures below { result < 7 * (machine.now.width * machine.now.height) }
 {
-    7 * machine.index(c) as usize + usize::from(port.number())
+    (Port::COUNT * machine.index(c)) as usize + usize::from(port.number())
 }

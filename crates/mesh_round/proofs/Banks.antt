@@ -24,7 +24,7 @@ use Rattle.link_queue.specs.Ends.{sending, taking}
 use Rattle.chip_node.specs.declared.banks.BankVertex.{BankVertex}
 use Rattle.chip_node.specs.BankFlow.{VertexFlow, of_vertex, deliveries}
 use Rattle.chip_node.specs.Numbers.{numbers_of}
-use Rattle.mesh_core.specs.State.{Setup, Behind, core, queue_at}
+use Rattle.mesh_core.specs.State.{Setup, Queue, core, queue_at}
 use Rattle.mesh_run.specs.Casting.{Pair, IsVertexAt}
 use Rattle.round_flow.specs.RoundFlow.{held_in, at_port, of_chip, sent_on}
 use Rattle.mesh_round.proofs.Lists.{place_in, some_same, front_of, gathered_agree, filter_none, eqb-flip}
@@ -138,11 +138,11 @@ module _ (r : Round) (c : Chip) (after : Pair) (t : Turn r c after) where
           All-contains (λ (k : McCopy). k.hop ≡ 0) (of_vertex p.0 sent) p.1 front (among_contains p.1 (of_vertex p.0 sent) (among_own {X = Spot} (λ s. true) p sent a))
 
   -- A link to which a bank sent.
-  pub record SentHere (q : Behind) (l : LinkOf r q) : Type 0 where
+  pub record SentHere (q : Queue) (l : LinkOf r q) : Type 0 where
     pub first : (sending l.new.tx).first ≡ held_in r.m q
     pub sent_all : (sending l.new.tx).sent ≡ map (λ (p : ℕ × McCopy). p.1) sent
 
-  pub sent_here : (q : Behind) (l : LinkOf r q) → t.before.bank.inject.link ≡ l.place → SentHere q l
+  pub sent_here : (q : Queue) (l : LinkOf r q) → t.before.bank.inject.link ≡ l.place → SentHere q l
   sent_here q l place =
       let moves = t.flow.bank.moves in
       let old : t.before.bank.inject.tx ≡ l.old.tx = tx_is r.played.up t.before.bank.inject l.place l.old l.stood place t.cast.bank.end in

@@ -15,7 +15,7 @@ use Rattle.machine_desc.proofs.Far.{live_inside, live_back, far_inside}
 use Rattle.link_queue.specs.declared.links.Tx.{Tx}
 use Rattle.link_queue.specs.Ends.{sending}
 use Rattle.chip_node.specs.declared.ends.OutEnd.{OutEnd}
-use Rattle.mesh_core.specs.State.{Setup, Behind, queue_at}
+use Rattle.mesh_core.specs.State.{Setup, Queue, queue_at}
 use Rattle.mesh_core.proofs.Changes.{queue_at-below}
 use Rattle.mesh_run.specs.Casting.{HoldsTx, IsTxAt}
 use Rattle.mesh_run.specs.Lending.{place_of, place_behind}
@@ -90,6 +90,6 @@ module _ (r : Round) where
   ])
 
   -- a queue that held nothing and that nothing entered holds nothing
-  pub still_empty : (q : Behind) → held_in r.m q ≡ [] → (flow_of r).entered q ≡ [] → held_in r.n q ≡ []
+  pub still_empty : (q : Queue) → held_in r.m q ≡ [] → (flow_of r).entered q ≡ [] → held_in r.n q ≡ []
   still_empty q held entered =
       (both_none ((flow_of r).left q) (held_in r.n q) (sym (in_order r q) ∙ ap₂ (λ (a b : List McCopy). a ++ b) held entered)).1

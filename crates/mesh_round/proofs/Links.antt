@@ -11,7 +11,7 @@ use Rattle.link_queue.specs.declared.links.LinkEnds.{LinkEnds}
 use Rattle.link_queue.specs.Ends.{sending, taking, cap_of}
 use Rattle.chip_node.specs.declared.ends.InEnd.{InEnd}
 use Rattle.chip_node.specs.declared.ends.OutEnd.{OutEnd}
-use Rattle.mesh_core.specs.State.{Setup, Behind, input, core, nowhere}
+use Rattle.mesh_core.specs.State.{Setup, Queue, input, core, nowhere}
 use Rattle.mesh_run.specs.Casting.{IsTxAt, IsRxAt}
 use Rattle.mesh_run.specs.Lending.{place_of}
 use Rattle.mesh_run.specs.Queues.{HasPlaces, IsDown, IsUp}
@@ -31,7 +31,7 @@ module _ (r : Round) where
   u = r.m.setup
 
   -- the link of a queue, as it came up and as its ends came back
-  pub record LinkOf (q : Behind) : Type 0 where
+  pub record LinkOf (q : Queue) : Type 0 where
     pub place : ℕ
     pub is_place : place_of u q ≡ Some place
     pub old : LinkEnds
@@ -51,7 +51,7 @@ module _ (r : Round) where
       let cores = r.mesh.core_lists in
       omega (arith, up, both, inputs, cores)
 
-  link_there : (q : Behind) (place : ℕ) → place_of u q ≡ Some place → place < ports_many u + length u.spots → link_at u r.played.back q ≡ slice_get r.played.back place →
+  link_there : (q : Queue) (place : ℕ) → place_of u q ≡ Some place → place < ports_many u + length u.spots → link_at u r.played.back q ≡ slice_get r.played.back place →
       get_or (r.m.inputs ++ r.m.cores) place [] ≡ held_in r.m q → get_or (r.n.inputs ++ r.n.cores) place [] ≡ held_in r.n q → LinkOf q
   link_there q place is below here held after =
       let long = all_long in
@@ -100,11 +100,11 @@ module _ (r : Round) where
       (ap (λ k. get_or (r.n.inputs ++ r.n.cores) (k + v) []) (sym (after ∙ before)) ∙ get_or-append-add r.n.inputs r.n.cores v [])
 
   -- a queue has a link, or it is none of the mesh
-  pub data Stands (q : Behind) : Type 0 where
+  pub data Stands (q : Queue) : Type 0 where
     there : LinkOf q → Stands q
     none : link_at u r.played.back q ≡ None → held_in r.m q ≡ [] → held_in r.n q ≡ [] → Stands q
 
-  pub stands : (q : Behind) → Stands q
+  pub stands : (q : Queue) → Stands q
   stands (input i) = elim (cases_Bool (nat_lt i (ports_many u))) [
     | inl is ↦ there (link_input i (ltb-true i (ports_many u) is))
     | inr past ↦
@@ -129,7 +129,7 @@ module _ (r : Round) where
 
   -- ---- what a queue holds
 
-  pub held_within : (q : Behind) → length (held_in r.m q) ≤ u.capacity
+  pub held_within : (q : Queue) → length (held_in r.m q) ≤ u.capacity
   held_within (input i) = elim (cases_lt i (length r.m.inputs)) [
     | inl below ↦ r.mesh.inputs_within i [] below
     | inr past ↦ let no_copies = ap length (get_or_past r.m.inputs i [] past) in omega (arith, no_copies)
@@ -141,7 +141,7 @@ module _ (r : Round) where
   held_within nowhere = omega arith
 
   -- no queue holds more than its capacity afterwards
-  pub held_short : (q : Behind) (l : LinkOf q) → length (held_in r.n q) ≤ u.capacity
+  pub held_short : (q : Queue) (l : LinkOf q) → length (held_in r.n q) ≤ u.capacity
   held_short q l =
       let bound = l.down.bound in
       let few = l.cap.few in
@@ -149,13 +149,13 @@ module _ (r : Round) where
 
   -- ---- what the flow says of a queue with a link
 
-  pub entered_is : (q : Behind) (l : LinkOf q) → (flow_of r).entered q ≡ (sending l.new.tx).sent
+  pub entered_is : (q : Queue) (l : LinkOf q) → (flow_of r).entered q ≡ (sending l.new.tx).sent
   entered_is q l = ap (told (λ (e : LinkEnds). (sending e.tx).sent)) l.here
 
-  pub left_is : (q : Behind) (l : LinkOf q) → (flow_of r).left q ≡ (taking l.new.rx).took
+  pub left_is : (q : Queue) (l : LinkOf q) → (flow_of r).left q ≡ (taking l.new.rx).took
   left_is q l = ap (told (λ (e : LinkEnds). (taking e.rx).took)) l.here
 
-  pub fulls_is : (q : Behind) (l : LinkOf q) → (flow_of r).fulls q ≡ moments r.m q l.new
+  pub fulls_is : (q : Queue) (l : LinkOf q) → (flow_of r).fulls q ≡ moments r.m q l.new
   fulls_is (input i) l = ap (told (moments r.m (input i))) l.here
   fulls_is (core v) l = ap (told (moments r.m (core v))) l.here
   fulls_is nowhere l = let is = l.is_place in cc

@@ -22,7 +22,7 @@ use Rattle.chip_node.specs.declared.banks.BankVertex.{BankVertex}
 use Rattle.chip_node.specs.declared.ends.InEnd.{InEnd}
 use Rattle.chip_node.specs.BankFlow.{MaySendNone, of_vertex}
 use Rattle.chip_node.specs.Looking.{taken_at}
-use Rattle.mesh_core.specs.State.{Setup, Behind, input, core, nowhere, queue_at}
+use Rattle.mesh_core.specs.State.{Setup, Queue, input, core, nowhere, queue_at}
 use Rattle.mesh_core.proofs.Changes.{queue_at-below}
 use Rattle.round_flow.specs.RoundFlow.{held_in, at_port, HasMoved}
 use Rattle.round_flow.proofs.Entered.{numbered_port}
@@ -49,7 +49,7 @@ module _ (r : Round) (some : 0 < r.turns) where
   -- ---- a queue of a port
 
   -- the first list of a link whose end took nothing is empty, where it had been taken before
-  was_empty : (q : Behind) (l : LinkOf r q) → StartsWith (taking l.old.rx).took (taking l.old.rx).first → held_in r.m q ≡ []
+  was_empty : (q : Queue) (l : LinkOf r q) → StartsWith (taking l.old.rx).took (taking l.old.rx).first → held_in r.m q ≡ []
   was_empty q l (rest, is) = sym l.up.rx_new.first ∙ (both_none (taking l.old.rx).first rest (is ∙ l.up.rx_new.took)).0
 
   by_taken : (c : Chip) → IsInside u.machine c → (t : TurnOf r c) (port : Port) → held_in r.m (at_port u c port) ≢ [] → (ts : List (Port × McCopy)) → taken r c t.after t.turn ≡ ts → HasMoved r.m (flow_of r)
@@ -122,7 +122,7 @@ module _ (r : Round) (some : 0 < r.turns) where
     | inr past ↦ let long = r.mesh.core_lists in absurd (holds (get_or_past r.m.cores v [] (omega (arith, past, long))))
   ]
 
-  from_queue : (q : Behind) → held_in r.m q ≢ [] → HasMoved r.m (flow_of r)
+  from_queue : (q : Queue) → held_in r.m q ≢ [] → HasMoved r.m (flow_of r)
   from_queue (input i) holds = from_input i holds
   from_queue (core v) holds = from_core v holds
   from_queue nowhere holds = absurd (holds refl)

@@ -14,7 +14,7 @@ use Rattle.spin_base.specs.declared.copies.DumpRec.{DumpRec}
 use Rattle.machine_desc.specs.Live.{is_live_chip, IsLiveChip, IsSite}
 use Rattle.machine_desc.proofs.Far.{live_ends}
 use Rattle.machine_desc.proofs.Sites.{site_parts}
-use Rattle.mesh_core.specs.State.{State, Held, IsMesh, Behind, input, core, nowhere, behind}
+use Rattle.mesh_core.specs.State.{State, Hand, IsMesh, Queue, input, core, nowhere, behind}
 use Rattle.mesh_core.specs.Step.{last_hop, onward, has_room_behind, push_at, push_behind}
 use Rattle.mesh_core.specs.PutBack.{put_back_of, after_put_back}
 use Rattle.mesh_core.proofs.EventsLaw.{IsMesh-after_put_back}
@@ -68,17 +68,17 @@ dead_behind s mesh c o dead = elim (leads s.setup c o) [
 -- ---- what it leaves as it is
 
 -- the dump records change no queue
-pub same_room : (s : State) (rest : List DumpRec) (to : Behind) → has_room_behind (record s { dumped = rest }) to ≡ has_room_behind s to
+pub same_room : (s : State) (rest : List DumpRec) (to : Queue) → has_room_behind (record s { dumped = rest }) to ≡ has_room_behind s to
 same_room s rest (input i) = refl
 same_room s rest (core v) = refl
 same_room s rest nowhere = refl
 
-same_held : (s : State) (rest : List DumpRec) (q : Behind) → held_in (record s { dumped = rest }) q ≡ held_in s q
+same_held : (s : State) (rest : List DumpRec) (q : Queue) → held_in (record s { dumped = rest }) q ≡ held_in s q
 same_held s rest (input i) = refl
 same_held s rest (core v) = refl
 same_held s rest nowhere = refl
 
-same_hands : (s : State) (to : Behind) (k : McCopy) → (push_behind s to k).hands ≡ s.hands
+same_hands : (s : State) (to : Queue) (k : McCopy) → (push_behind s to k).hands ≡ s.hands
 same_hands s (input i) k = refl
 same_hands s (core v) k = refl
 same_hands s nowhere k = refl
@@ -100,7 +100,7 @@ pushed_fit lists i k low fit (Some q) at j = elim (cases_eq j i) [
   | inr other ↦ subst (All IsFit) (sym (get_or-set_other lists i j (q ++ k ∷ []) [] other)) (fit j)
 ]
 
-hops_pushed : (s : State) (to : Behind) (k : McCopy) → IsFit k → HopsFit s → HopsFit (push_behind s to k)
+hops_pushed : (s : State) (to : Queue) (k : McCopy) → IsFit k → HopsFit s → HopsFit (push_behind s to k)
 hops_pushed s (input i) k low fit (input j) = pushed_fit s.inputs i k low (λ n. fit (input n)) (slice_get s.inputs i) refl j
 hops_pushed s (input i) k low fit (core w) = fit (core w)
 hops_pushed s (input i) k low fit nowhere = fit nowhere
@@ -116,10 +116,10 @@ ready_back s ready = by_answer (put_back_of s s.dumped) refl
     goes_on : (t : State) → IsBack s t → HasNoHand t × HopsFit t
     goes_on t back =
         let k : McCopy = onward back.first.copy in
-        let to : Behind = behind s.setup back.first.chip back.first.out in
+        let to : Queue = behind s.setup back.first.chip back.first.out in
         let between : State = record s { dumped = back.rest } in
         let fit : HopsFit between = λ q. subst (All IsFit) (sym (same_held s back.rest q)) (ready.hops q) in
-        let hands : HasNoHand (push_behind between to k) = subst (All (λ (h : Option Held). h ≡ None)) (sym (same_hands between to k)) ready.no_hand in (
+        let hands : HasNoHand (push_behind between to k) = subst (All (λ (h : Option Hand). h ≡ None)) (sym (same_hands between to k)) ready.no_hand in (
           subst HasNoHand back.is hands,
           subst HopsFit back.is (hops_pushed between to k (omega arith) fit),
         )

@@ -10,7 +10,7 @@ use Rattle.spin_base.specs.declared.copies.McCopy.{McCopy}
 use Rattle.spin_base.specs.declared.copies.DumpRec.{DumpRec}
 use Rattle.spin_base.specs.Links.{opposite_of}
 use Rattle.mesh_core.specs.declared.places.Did.TheVariants.{Moved, Idle}
-use Rattle.mesh_core.specs.State.{State, Behind, behind}
+use Rattle.mesh_core.specs.State.{State, Queue, behind}
 use Rattle.mesh_core.specs.Step.{onward, push_behind}
 use Rattle.mesh_core.specs.PutBack.{put_back_of, after_put_back}
 use Rattle.mesh_core.specs.Trail.{in_queue, at_core, dumped, Mark}
@@ -73,7 +73,7 @@ unfolding work_in
 back_lighter s t back =
     let r : DumpRec = back.first in
     let between : State = record s { dumped = back.rest } in
-    let to : Behind = behind s.setup r.chip r.out in
+    let to : Queue = behind s.setup r.chip r.out in
     let next : State = push_behind between to (onward r.copy) in
     let arrival = arrives between r.chip r.out r.copy (same_room s back.rest to ∙ back.room) in
     let one = lighter_mark between r.copy r.chip r.out arrival.0 arrival.2 in

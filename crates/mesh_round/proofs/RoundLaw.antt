@@ -19,7 +19,7 @@ use Rattle.link_queue.specs.Ends.{sending, taking, cap_of}
 use Rattle.link_queue.specs.TheRule.{put_of, IsFullNote}
 use Rattle.chip_node.specs.RouterFlow.{Service, is_dumped_at, sent_by}
 use Rattle.chip_node.specs.Routing.{onward}
-use Rattle.mesh_core.specs.State.{Setup, Held, Behind, input, core, nowhere, behind, queue_at}
+use Rattle.mesh_core.specs.State.{Setup, Hand, Queue, input, core, nowhere, behind, queue_at}
 use Rattle.mesh_core.proofs.Changes.{queue_at-below}
 use Rattle.mesh_run.specs.Routed.{dumped_by}
 use Rattle.round_flow.specs.RoundFlow.{Passes, IsFullAt, capacity_of, at_port, delivered_to, dumped_at, got_on, sent_on, taken_for}
@@ -41,13 +41,13 @@ module _ (r : Round) where
 
   -- ---- moments at which a queue was full
 
-  room_of : (q : Behind) → LinkOf r q → capacity_of u q ≡ u.capacity
+  room_of : (q : Queue) → LinkOf r q → capacity_of u q ≡ u.capacity
   room_of (input i) l = refl
   room_of (core v) l = refl
   room_of nowhere l = let is = l.is_place in cc
 
   -- A note of Full is such a moment: turns cannot fill a link that has fewer places than its queue.
-  full_note : SendsOrDumps → (q : Behind) (l : LinkOf r q) (x : ℕ) → IsFullNote (cap_of l.new.link) (put_of (sending l.new.tx)) (taking l.new.rx).took x →
+  full_note : SendsOrDumps → (q : Queue) (l : LinkOf r q) (x : ℕ) → IsFullNote (cap_of l.new.link) (put_of (sending l.new.tx)) (taking l.new.rx).took x →
       IsFullAt r.m (flow_of r) q (moment r.m q x)
   full_note split q l x note =
       let enough = l.cap.enough in
@@ -67,7 +67,7 @@ module _ (r : Round) where
         omega (arith, enough, most, from, within, room, to_put, first, both, few),
       )
 
-  full_there : SendsOrDumps → (q : Behind) (l : LinkOf r q) → All (IsFullAt r.m (flow_of r) q) ((flow_of r).fulls q)
+  full_there : SendsOrDumps → (q : Queue) (l : LinkOf r q) → All (IsFullAt r.m (flow_of r) q) ((flow_of r).fulls q)
   full_there split q l =
       let notes = (sending l.new.tx).fulls in
       subst (All (IsFullAt r.m (flow_of r) q)) (sym (fulls_is r q l))
@@ -75,7 +75,7 @@ module _ (r : Round) where
       (All-each (λ x. IsFullAt r.m (flow_of r) q (moment r.m q x)) notes (λ x has.
       full_note split q l x (All-contains (IsFullNote (cap_of l.new.link) (put_of (sending l.new.tx)) (taking l.new.rx).took) notes x l.down.noted has))))
 
-  full : SendsOrDumps → (q : Behind) → All (IsFullAt r.m (flow_of r) q) ((flow_of r).fulls q)
+  full : SendsOrDumps → (q : Queue) → All (IsFullAt r.m (flow_of r) q) ((flow_of r).fulls q)
   full split (input i) = elim (stands r (input i)) [
     | there l ↦ full_there split (input i) l
     | none here held after ↦ subst (All (IsFullAt r.m (flow_of r) (input i))) (sym (ap (told (moments r.m (input i))) here)) (All-nil (IsFullAt r.m (flow_of r) (input i)))
@@ -140,7 +140,7 @@ module _ (r : Round) where
   passes split at_one = record {
     setup = r.played.setup;
     none_before = r.no_hand;
-    none_after = subst (All (λ (h : Option Held). h ≡ None)) (sym r.played.hands) r.no_hand;
+    none_after = subst (All (λ (h : Option Hand). h ≡ None)) (sym r.played.hands) r.no_hand;
     in_order = in_order r;
     nowhere_empty = refl;
     hops = hops_left r;

@@ -39,7 +39,7 @@ use Rattle.chip_node.specs.RouterFlow.{Service, is_sent, is_sent_by, is_dumped_a
 use Rattle.chip_node.specs.Routing.{last_hop, onward, outputs_at}
 use Rattle.chip_node.specs.Serving.{outs_with_ends, ports_of, records_of}
 use Rattle.mesh_core.specs.Ledger.{all_ports}
-use Rattle.mesh_core.specs.State.{Setup, Behind, nowhere, behind, queue_at}
+use Rattle.mesh_core.specs.State.{Setup, Queue, nowhere, behind, queue_at}
 use Rattle.mesh_core.proofs.Changes.{queue_at-below}
 use Rattle.mesh_run.specs.Acting.{table_of}
 use Rattle.mesh_run.specs.Casting.{Pair, IsRxAt, IsTxAt}
@@ -80,7 +80,7 @@ link_behind r c o inside = elim (leads r.m.setup c o) [
 ]
 
 -- the place of a queue with a link
-pub has_link : (u : Setup) (q : Behind) (place : ℕ) → place_of u q ≡ Some place → is_some (place_of u q) ≡ true
+pub has_link : (u : Setup) (q : Queue) (place : ℕ) → place_of u q ≡ Some place → is_some (place_of u q) ≡ true
 has_link u q place is = ap is_some is
 
 sent_is : (f : Served) → is_sent f ≡ true → f ≡ Sent
@@ -164,12 +164,12 @@ module _ (r : Round) (c : Chip) (after : Pair) (t : Turn r c after) where
   -- ---- what was sent
 
   -- A link to which a router sent by an output: what it sent, and its notes.
-  pub record SentBy (o : Out) (q : Behind) (l : LinkOf r q) : Type 0 where
+  pub record SentBy (o : Out) (q : Queue) (l : LinkOf r q) : Type 0 where
     pub first : (sending l.new.tx).first ≡ held_in r.m q
     pub sent : (sending l.new.tx).sent ≡ sent_by o served
     pub patient : r.patience * count_by (is_dumped_at o) served ≤ length (sending l.new.tx).fulls
 
-  pub sent_at : (q : Behind) (l : LinkOf r q) (e f : Out × OutEnd) → ServesAt t.before.router.patience served e f → e.1.link ≡ l.place → IsTxAt r.played.up e.1 → IsTxAt r.played.back f.1 → SentBy e.0 q l
+  pub sent_at : (q : Queue) (l : LinkOf r q) (e f : Out × OutEnd) → ServesAt t.before.router.patience served e f → e.1.link ≡ l.place → IsTxAt r.played.up e.1 → IsTxAt r.played.back f.1 → SentBy e.0 q l
   sent_at q l e f serves place was now =
       let old : e.1.tx ≡ l.old.tx = tx_is r.played.up e.1 l.place l.old l.stood place was in
       let new : f.1.tx ≡ l.new.tx = tx_is r.played.back f.1 l.place l.new l.stands (serves.link ∙ place) now in

@@ -15,7 +15,7 @@ use Rattle.link_queue.specs.Ends.{sending, taking}
 use Rattle.chip_node.specs.declared.ends.OutEnd.{OutEnd}
 use Rattle.chip_node.specs.RouterFlow.{Service, is_sent_by, ServesAt}
 use Rattle.chip_node.specs.Routing.{last_hop, onward}
-use Rattle.mesh_core.specs.State.{Behind}
+use Rattle.mesh_core.specs.State.{Queue}
 use Rattle.mesh_run.specs.Casting.{Pair, IsTxAt}
 use Rattle.mesh_run.specs.Lending.{place_behind}
 use Rattle.round_flow.specs.RoundFlow.{held_in}
@@ -48,12 +48,12 @@ module _ (r : Round) where
   ]
 
   -- A link's sending end knows the queue; what it sent has hop numbers that fit, and is at most one copy a turn.
-  record Fed (q : Behind) (l : LinkOf r q) : Type 0 where
+  record Fed (q : Queue) (l : LinkOf r q) : Type 0 where
     first : (sending l.new.tx).first ≡ held_in r.m q
     hops : All IsSmall (sending l.new.tx).sent
     few : SendsOrDumps → length (sending l.new.tx).sent ≤ r.turns
 
-  fed_by_bank : (q : Behind) (l : LinkOf r q) (c : Chip) (p : Pair) (t : Turn r c p) → p.bank.inject.link ≡ l.place → Fed q l
+  fed_by_bank : (q : Queue) (l : LinkOf r q) (c : Chip) (p : Pair) (t : Turn r c p) → p.bank.inject.link ≡ l.place → Fed q l
   fed_by_bank q l c p t place =
       let here = sent_here r c p t q l (sym t.flow.bank.moves.link ∙ place) in
       let start : All (λ (k : McCopy). k.hop ≡ 0) (sending l.new.tx).sent = subst (All (λ (k : McCopy). k.hop ≡ 0)) (sym here.sent_all) (sent_at_start r c p t) in
@@ -66,7 +66,7 @@ module _ (r : Round) where
             omega (arith, long, few);
       }
 
-  fed_by_output : (q : Behind) (l : LinkOf r q) (c : Chip) (p : Pair) (t : Turn r c p) (f : Out × OutEnd) → Contains p.router.outputs.items f → f.1.link ≡ l.place → Fed q l
+  fed_by_output : (q : Queue) (l : LinkOf r q) (c : Chip) (p : Pair) (t : Turn r c p) (f : Out × OutEnd) → Contains p.router.outputs.items f → f.1.link ≡ l.place → Fed q l
   fed_by_output q l c p t f has place =
       let at = place_in p.router.outputs.items f has in
       let beside = AllZip-at_second (ServesAt t.before.router.patience (served r c p t)) t.before.router.outputs.items p.router.outputs.items t.flow.router.serves.outputs at.0 f at.1 in
@@ -88,14 +88,14 @@ module _ (r : Round) where
       fits : (h : ℕ) → min (h + 1) last_hop ≤ last_hop
       fits h = omega arith
 
-  fed_held : (q : Behind) (l : LinkOf r q) (p : Pair) → Contains r.played.played p → Holds l.place p → Fed q l
+  fed_held : (q : Queue) (l : LinkOf r q) (p : Pair) → Contains r.played.played p → Holds l.place p → Fed q l
   fed_held q l p has (inl is) = let t = turn_with r p has in fed_by_bank q l t.0 p t.2 is
   fed_held q l p has (inr out) =
       let t = turn_with r p has in
       let found = Contains-unmap (λ (e : Out × OutEnd). e.1.link) p.router.outputs.items l.place out in
       fed_by_output q l t.0 p t.2 found.0 found.1 found.2
 
-  not_fed : (q : Behind) (l : LinkOf r q) → l.new.tx ≡ l.old.tx → Fed q l
+  not_fed : (q : Queue) (l : LinkOf r q) → l.new.tx ≡ l.old.tx → Fed q l
   not_fed q l same =
       let none : (sending l.new.tx).sent ≡ [] = ap (λ (x : Tx). (sending x).sent) same ∙ l.up.tx_new.sent in
       record {
@@ -104,24 +104,24 @@ module _ (r : Round) where
         few = λ split. let long = ap length none in omega (arith, long);
       }
 
-  fed : (q : Behind) (l : LinkOf r q) → Fed q l
+  fed : (q : Queue) (l : LinkOf r q) → Fed q l
   fed q l = elim (found_or_none (Holds l.place) (whether l.place) r.played.played) [
     | inl found ↦ fed_held q l found.0 found.1 found.2
     | inr nobody ↦ not_fed q l (r.played.left.txs l.place l.old l.new l.stood l.stands (λ h. nobody h.0 h.1 h.2))
   ]
 
   -- what a link's sending end knows to have been there first
-  pub first_is : (q : Behind) (l : LinkOf r q) → (sending l.new.tx).first ≡ held_in r.m q
+  pub first_is : (q : Queue) (l : LinkOf r q) → (sending l.new.tx).first ≡ held_in r.m q
   first_is q l = (fed q l).first
 
   -- at most one copy a turn enters a queue
-  pub few_entered : SendsOrDumps → (q : Behind) (l : LinkOf r q) → length (sending l.new.tx).sent ≤ r.turns
+  pub few_entered : SendsOrDumps → (q : Queue) (l : LinkOf r q) → length (sending l.new.tx).sent ≤ r.turns
   few_entered split q l = (fed q l).few split
 
   -- ---- the balance of each queue
 
   -- each queue gives its copies in the order in which it got them
-  pub in_order : (q : Behind) → held_in r.m q ++ (flow_of r).entered q ≡ (flow_of r).left q ++ held_in r.n q
+  pub in_order : (q : Queue) → held_in r.m q ++ (flow_of r).entered q ≡ (flow_of r).left q ++ held_in r.n q
   in_order q = elim (stands r q) [
     | there l ↦
         ap (λ (a : List McCopy). held_in r.m q ++ a) (entered_is r q l)
@@ -131,17 +131,17 @@ module _ (r : Round) where
         ∙ sym (ap₂ (λ (a b : List McCopy). a ++ b) (ap (told (λ e. (taking e.rx).took)) here) after)
   ]
 
-  hops_entered : (q : Behind) → All IsSmall ((flow_of r).entered q)
+  hops_entered : (q : Queue) → All IsSmall ((flow_of r).entered q)
   hops_entered q = elim (stands r q) [
     | there l ↦ subst (All IsSmall) (sym (entered_is r q l)) (fed q l).hops
     | none here held after ↦ subst (All IsSmall) (sym (ap (told (λ e. (sending e.tx).sent)) here)) (All-nil IsSmall)
   ]
 
-  all_small : (q : Behind) → All IsSmall ((flow_of r).left q ++ held_in r.n q)
+  all_small : (q : Queue) → All IsSmall ((flow_of r).left q ++ held_in r.n q)
   all_small q = subst (All IsSmall) (in_order q) (All-append IsSmall (held_in r.m q) ((flow_of r).entered q) (r.fit q) (hops_entered q))
 
-  pub hops_left : (q : Behind) → All (λ (k : McCopy). k.hop ≤ last_hop) ((flow_of r).left q)
+  pub hops_left : (q : Queue) → All (λ (k : McCopy). k.hop ≤ last_hop) ((flow_of r).left q)
   hops_left q = All-left IsSmall ((flow_of r).left q) (held_in r.n q) (all_small q)
 
-  pub hops_after : (q : Behind) → All (λ (k : McCopy). k.hop ≤ last_hop) (held_in r.n q)
+  pub hops_after : (q : Queue) → All (λ (k : McCopy). k.hop ≤ last_hop) (held_in r.n q)
   hops_after q = All-right IsSmall ((flow_of r).left q) (held_in r.n q) (all_small q)

@@ -10,7 +10,7 @@ use Rattle.spin_base.specs.declared.chips.Port.{Port}
 use Rattle.spin_base.specs.declared.chips.Port.TheVariants.{Link as ByLink, Local}
 use Rattle.spin_base.specs.declared.copies.McCopy.{McCopy}
 use Rattle.machine_desc.specs.Live.{IsInside}
-use Rattle.mesh_core.specs.State.{Setup, Held, IsMesh, input, core, queue_at}
+use Rattle.mesh_core.specs.State.{Setup, Hand, IsMesh, input, core, queue_at}
 use Rattle.mesh_core.proofs.Changes.{queue_at-below}
 use Rattle.round_flow.specs.RoundFlow.{held_in, at_port}
 use Rattle.mesh_round.proofs.Dead.{dead_port, dead_chip, still_empty}
@@ -66,7 +66,7 @@ module _ (r : Round) where
     inputs_within = inputs_short;
     cores_within = cores_short;
     unsent_at_start = at_start;
-    hands_with_outputs = subst (All (λ (h : Option Held). IfSome h (λ held. held.outs ≢ []))) (sym r.played.hands) r.mesh.hands_with_outputs;
+    hands_with_outputs = subst (All (λ (h : Option Hand). IfSome h (λ held. held.outs ≢ []))) (sym r.played.hands) r.mesh.hands_with_outputs;
     none_at_dead_ports = λ c d dead inside.
         let was : held_in r.m (at_port u c (ByLink d)) ≡ [] = get_or_from_slice_get r.m.inputs (queue_at u.machine c (ByLink d)) [] [] (r.mesh.none_at_dead_ports c d dead inside) in
         empty_at c (ByLink d) inside (still_empty r (at_port u c (ByLink d)) was (dead_port r c d inside dead));

@@ -4,7 +4,7 @@ use Rattle.std.specs.List.{slice_get, slice_index_or}
 use Rattle.spin_base.specs.declared.copies.DumpRec.{DumpRec}
 use Rattle.link_queue.specs.declared.links.LinkEnds.{LinkEnds}
 use Rattle.link_queue.specs.Ends.{sending, taking}
-use Rattle.mesh_core.specs.State.{Setup, State, IsMesh, Behind, input, core, nowhere}
+use Rattle.mesh_core.specs.State.{Setup, State, IsMesh, Queue, input, core, nowhere}
 use Rattle.mesh_run.specs.Casting.{IsPlayed, delivered_by, dumped_by}
 use Rattle.round_flow.specs.RoundFlow.{Flow, HasNoHand, held_in}
 use Rattle.mesh_round.specs.OnThreads.{HopsFit}
@@ -25,7 +25,7 @@ abbrev pub ports_many : Setup → ℕ
 ports_many u = 7 * (u.machine.width * u.machine.height)
 
 -- the link of a queue, among links at the places of all queues
-abbrev pub link_at : Setup → List LinkEnds → Behind → Option LinkEnds
+abbrev pub link_at : Setup → List LinkEnds → Queue → Option LinkEnds
 link_at u ends (input i) = cond (nat_lt i (ports_many u)) (slice_get ends i) None
 link_at u ends (core v) = slice_get ends (ports_many u + v)
 link_at u ends nowhere = None
@@ -36,15 +36,15 @@ told f (Some e) = f e
 told f None = []
 
 -- A note of Full, as the numbers of copies that had entered the queue and left it.
-abbrev pub moment : State → Behind → ℕ → ℕ × ℕ
+abbrev pub moment : State → Queue → ℕ → ℕ × ℕ
 moment m q x = (x - length (held_in m q), x - m.setup.capacity)
 
-abbrev pub moments : State → Behind → LinkEnds → List (ℕ × ℕ)
+abbrev pub moments : State → Queue → LinkEnds → List (ℕ × ℕ)
 moments m q e = map (moment m q) (sending e.tx).fulls
 
 -- The moments at which a queue was found full. Where an output leads nowhere there is never room: as many moments as all dumped
 -- copies ask for.
-abbrev pub fulls_of : ℕ → State → List LinkEnds → List DumpRec → Behind → List (ℕ × ℕ)
+abbrev pub fulls_of : ℕ → State → List LinkEnds → List DumpRec → Queue → List (ℕ × ℕ)
 fulls_of patience m ends dumped (input i) = told (moments m (input i)) (link_at m.setup ends (input i))
 fulls_of patience m ends dumped (core v) = told (moments m (core v)) (link_at m.setup ends (core v))
 fulls_of patience m ends dumped nowhere = replicate (patience * length dumped) (0, 0)

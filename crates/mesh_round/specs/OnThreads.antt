@@ -1,16 +1,16 @@
 -- What a round on threads asks of a mesh, and what it is (this project's own).
 use Rattle.std.specs.Prelude.{◌≢◌, ◌⊎◌, ℕ, ◌<◌, ◌≤◌, List, [], All, slice_index_or}
-use Rattle.mesh_core.specs.State.{State, Behind, IsMesh}
+use Rattle.mesh_core.specs.State.{State, Queue, IsMesh}
 use Rattle.mesh_core.specs.Step.{last_hop}
 use Rattle.round_flow.specs.RoundFlow.{Flow, held_in, HasNoHand, IsRound, HasMoved}
 
 -- Hop numbers are of 32 bits: none of a copy that waits is greater than the greatest.
 abbrev pub HopsFit : State → Type 0
-HopsFit s = (q : Behind) → All (λ k. k.hop ≤ last_hop) (held_in s q)
+HopsFit s = (q : Queue) → All (λ k. k.hop ≤ last_hop) (held_in s q)
 
 -- a queue holds a copy, or a vertex has one that it did not send yet
 abbrev pub HasSome : State → Type 0
-HasSome s = ((q : Behind) × (held_in s q ≢ [])) ⊎ ((v : ℕ) × (slice_index_or s.unsent v [] ≢ []))
+HasSome s = ((q : Queue) × (held_in s q ≢ [])) ⊎ ((v : ℕ) × (slice_index_or s.unsent v [] ≢ []))
 
 -- One mesh leads to another by a round, for a patience and a number of turns: with some flow, in which a copy moves where there
 -- is one and turns are given.

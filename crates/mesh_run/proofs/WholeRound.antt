@@ -9,7 +9,7 @@ use Rattle.spin_base.specs.declared.copies.DumpRec.{DumpRec}
 use Rattle.link_queue.specs.declared.links.Link.{Link}
 use Rattle.link_queue.specs.declared.links.LinkEnds.{LinkEnds}
 use Rattle.link_queue.specs.Ends.{cap_of, sending, taking}
-use Rattle.mesh_core.specs.State.{State, Setup, Held, IsMesh}
+use Rattle.mesh_core.specs.State.{State, Setup, Hand, IsMesh}
 use Rattle.mesh_run.specs.declared.queues.Rested.{Rested}
 use Rattle.mesh_run.specs.declared.raised.RaisedMesh.{RaisedMesh}
 use Rattle.mesh_run.specs.declared.rounds.Logs.{Logs}
@@ -26,10 +26,10 @@ pub setup_of_mesh : (m : State) → IsMesh m → IsSetup m.setup
 setup_of_mesh m mesh = record { size = mesh.size; different = mesh.different; sites = mesh.sites }
 
 -- meshes with the same lists
-abbrev state_of : Setup → List (List McCopy) → List (List McCopy) → List (Option Held) → List (List McCopy) → List Delivery → List DumpRec → State
+abbrev state_of : Setup → List (List McCopy) → List (List McCopy) → List (Option Hand) → List (List McCopy) → List Delivery → List DumpRec → State
 state_of u unsent inputs hands cores delivered dumped = record { setup = u; unsent = unsent; inputs = inputs; hands = hands; cores = cores; delivered = delivered; dumped = dumped }
 
-pub same_state : (u : Setup) (unsent inputs inputs' : List (List McCopy)) (hands : List (Option Held)) (cores cores' : List (List McCopy)) (delivered : List Delivery) (dumped : List DumpRec) → inputs ≡ inputs' → cores ≡ cores' →
+pub same_state : (u : Setup) (unsent inputs inputs' : List (List McCopy)) (hands : List (Option Hand)) (cores cores' : List (List McCopy)) (delivered : List Delivery) (dumped : List DumpRec) → inputs ≡ inputs' → cores ≡ cores' →
     state_of u unsent inputs hands cores delivered dumped ≡ state_of u unsent inputs' hands cores' delivered dumped
 same_state u unsent inputs inputs' hands cores cores' delivered dumped a b = λ i. record { setup = u; unsent = unsent; inputs = a i; hands = hands; cores = b i; delivered = delivered; dumped = dumped }
 

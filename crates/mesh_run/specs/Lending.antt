@@ -12,12 +12,12 @@ use Rattle.link_queue.specs.declared.links.Rx.{Rx}
 use Rattle.chip_node.specs.declared.banks.BankVertex.{BankVertex}
 use Rattle.chip_node.specs.declared.ends.InEnd.{InEnd}
 use Rattle.chip_node.specs.declared.ends.OutEnd.{OutEnd}
-use Rattle.mesh_core.specs.State.{Setup, Behind, input, core, nowhere, behind, queue_at}
+use Rattle.mesh_core.specs.State.{Setup, Queue, input, core, nowhere, behind, queue_at}
 
 -- ---- places
 
 -- the place of a queue among all queues: those of ports, by their number, and then those of vertices
-abbrev pub place_of : Setup → Behind → Option ℕ
+abbrev pub place_of : Setup → Queue → Option ℕ
 place_of u (input i) = Some i
 place_of u (core v) = Some (7 * (u.machine.width * u.machine.height) + v)
 place_of u nowhere = None

@@ -151,7 +151,7 @@ fn input_place(machine: &Machine, chip: Chip, port: Port) -> u32
     requires { IsInside machine.now chip }
     ensures { result ≡ queue_at machine.now chip port }
 {
-    7 * machine.index(chip) + u32::from(port.number())
+    Port::COUNT * machine.index(chip) + u32::from(port.number())
 }
 
 /// The receiving end of the link at a place.
@@ -259,5 +259,5 @@ fn vertex_place(setup: &MeshSetup, vertex: usize) -> u32
     requires there { vertex < length setup.now.spots }
     ensures { result ≡ vertex_place setup.now vertex }
 {
-    (7 * setup.machine().chips() + vertex) as u32
+    (Port::COUNT as usize * setup.machine().chips() + vertex) as u32
 }

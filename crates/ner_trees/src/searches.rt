@@ -12,6 +12,9 @@ use crate::displacements::distance;
 use machine_desc::{Edge, Machine};
 use spin_base::Chip;
 
+// How many chips a window of 20 to each side has.
+const WIDEST_WINDOW: usize = 1681;
+
 // The place on an axis that is `offset` places past the one that lies `radius` places before the centre. `None` exactly
 // where the axis is open and has no such place.
 fn place_at(wrap: bool, places: u8, centre: u8, radius: u8, offset: u8) -> Option<u8>
@@ -237,7 +240,7 @@ pub fn near_chip(machine: &Machine, root: Chip, on: &[bool], edges: &[Edge], tar
     if let Some(chip) = nearest_if_many(machine, on, edges.len(), target, 6) {
         return chip;
     }
-    if edges.len() < 1681 {
+    if edges.len() < WIDEST_WINDOW {
         return match nearest_of_edges(machine, root, edges, target) {
             Some(found) => found.chip,
             None => root,

@@ -12,7 +12,7 @@ use Rattle.spin_base.specs.declared.copies.DumpRec.{DumpRec}
 use Rattle.spin_base.specs.declared.copies.Event.{Event}
 use Rattle.spin_base.specs.declared.copies.Event.TheVariants.{Inject, Take, Send, Dump, Collect}
 use Rattle.machine_desc.specs.Live.{index_of}
-use Rattle.mesh_core.specs.State.{State, Held, Behind, input, core, nowhere, behind, queue_at}
+use Rattle.mesh_core.specs.State.{State, Hand, Queue, input, core, nowhere, behind, queue_at}
 use Rattle.mesh_core.specs.Step.{onward, has_room_behind, serves, after_serving, push_behind, inject_of, take_of, send_of, collect_of, after_event, after_events}
 use Rattle.mesh_core.proofs.EventsLaw.{events_keep}
 use Rattle.mesh_core.proofs.Fixed.{setup_after, after_events-append}
@@ -35,7 +35,7 @@ chosen : {X : Type 0} (f : State → X) (b : Bool) (t s : State) → f t ≡ f s
 chosen f true t s same = same
 chosen f false t s same = refl
 
-arrived_unsent : (s : State) (b : Behind) (k : McCopy) → (push_behind s b k).unsent ≡ s.unsent
+arrived_unsent : (s : State) (b : Queue) (k : McCopy) → (push_behind s b k).unsent ≡ s.unsent
 arrived_unsent s (input i) k = refl
 arrived_unsent s (core v) k = refl
 arrived_unsent s nowhere k = refl
@@ -48,19 +48,19 @@ dumped_of s = s.dumped
 
 -- a list that a Take, a Send and a Collect leave
 module _ {X : Type 0} (f : State → X) (s : State)
-    (same_taken : (i : List (List McCopy)) (h : List (Option Held)) → f (record s { inputs = i; hands = h }) ≡ f s)
-    (same_sent : (c : Chip) (o : Out) (h : Held) (b : Behind) (k : McCopy) → f (push_behind (after_serving s c o h) b k) ≡ f s)
+    (same_taken : (i : List (List McCopy)) (h : List (Option Hand)) → f (record s { inputs = i; hands = h }) ≡ f s)
+    (same_sent : (c : Chip) (o : Out) (h : Hand) (b : Queue) (k : McCopy) → f (push_behind (after_serving s c o h) b k) ≡ f s)
     (same_collected : (q : List (List McCopy)) (v : ℕ) (k : McCopy) → f (record s { cores = q; delivered = s.delivered ++ record { vertex = v; copy = k } ∷ [] }) ≡ f s) where
-  by_take : (c : Chip) (port : Port) (hand : Option (Option Held)) (queue : Option (List McCopy)) → f (unwrap_or (take_of s c port hand queue) s) ≡ f s
+  by_take : (c : Chip) (port : Port) (hand : Option (Option Hand)) (queue : Option (List McCopy)) → f (unwrap_or (take_of s c port hand queue) s) ≡ f s
   by_take c port (Some None) (Some (k ∷ rest)) = chosen f _ _ s (same_taken _ _)
   by_take c port (Some None) (Some []) = refl
   by_take c port (Some None) None = refl
   by_take c port (Some (Some h)) queue = refl
   by_take c port None queue = refl
 
-  by_send : (c : Chip) (o : Out) (hand : Option (Option Held)) → f (unwrap_or (send_of s c o hand) s) ≡ f s
+  by_send : (c : Chip) (o : Out) (hand : Option (Option Hand)) → f (unwrap_or (send_of s c o hand) s) ≡ f s
   by_send c o (Some (Some h)) =
-      let to : Behind = behind s.setup c o in
+      let to : Queue = behind s.setup c o in
       chosen f (serves s c o (Some (Some h)) && has_room_behind s to) (push_behind (after_serving s c o h) to (onward h.copy)) s (same_sent c o h to (onward h.copy))
   by_send c o (Some None) = refl
   by_send c o None = refl

@@ -14,7 +14,7 @@ use Rattle.spin_base.proofs.Equality.{nat_eq_same}
 use Rattle.machine_desc.specs.Live.{index_of, IsLiveChip, IsSite}
 use Rattle.machine_desc.proofs.Branches.{length_le_from_apart}
 use Rattle.machine_desc.proofs.Sites.{site_parts}
-use Rattle.mesh_core.specs.State.{State, IsMesh, Held, queue_at}
+use Rattle.mesh_core.specs.State.{State, IsMesh, Hand, queue_at}
 use Rattle.mesh_core.specs.Step.{has_room, inject_of, push_at, after_event}
 use Rattle.mesh_core.specs.VertexTable.{spot_place}
 use Rattle.list_laws.proofs.Counts.{count_by-cons}
@@ -91,7 +91,7 @@ pub serving_done : (s : State) (w : List Waiting) (c : Chip) → IsServing s w c
 serving_done s w c u = record {
   kept = u.kept;
   packet = u.copy.packet;
-  free = subst (All (λ (h : Option Held). h ≡ None)) (sym u.hand) (All-set (λ (h : Option Held). h ≡ None) u.others (index_of s.setup.machine c) None refl u.free);
+  free = subst (All (λ (h : Option Hand). h ≡ None)) (sym u.hand) (All-set (λ (h : Option Hand). h ≡ None) u.others (index_of s.setup.machine c) None refl u.free);
   collected = u.collected;
   live = u.live;
   listed = u.listed;

@@ -20,7 +20,7 @@ use Rattle.spin_base.proofs.Equality.{nat_eq_same, out_eq_same}
 use Rattle.machine_desc.specs.Description.{Description}
 use Rattle.machine_desc.specs.Live.{far_of, index_of, IsInside, IsLiveChip, is_live_link}
 use Rattle.machine_desc.proofs.Far.{live_inside, live_ends, index_below}
-use Rattle.mesh_core.specs.State.{Setup, State, Held, Behind, input, core, nowhere, core_of, behind, behind_link, vertex_behind, queue_at}
+use Rattle.mesh_core.specs.State.{Setup, State, Hand, Queue, input, core, nowhere, core_of, behind, behind_link, vertex_behind, queue_at}
 use Rattle.mesh_core.specs.Step.{has_room, has_room_behind, onward, outputs, in_hand, without, push_at, push_behind, after_serving, serves, take_of, send_of, collect_of, step_of, after_event}
 use Rattle.mesh_core.specs.Trail.{in_hand as held_at}
 use Rattle.mesh_core.specs.Ledger.{marks_of}
@@ -126,7 +126,7 @@ module _ (s : State) (w : List Waiting) (a : Waiting) (u : IsUnderWay s (w ++ a 
   hand_free : slice_get s.hands (index_of s.setup.machine a.chip) ≡ Some None
   hand_free =
       let there = slice_get-get_or s.hands (index_of s.setup.machine a.chip) None hand_within in
-      there ∙ ap Some (All-at (λ (h : Option Held). h ≡ None) s.hands (index_of s.setup.machine a.chip) (slice_index_or s.hands (index_of s.setup.machine a.chip) None) u.free there)
+      there ∙ ap Some (All-at (λ (h : Option Hand). h ≡ None) s.hands (index_of s.setup.machine a.chip) (slice_index_or s.hands (index_of s.setup.machine a.chip) None) u.free there)
 
   there : (i < length s.inputs) × (slice_get s.inputs i ≡ Some queue)
   unfolding i queue
@@ -251,7 +251,7 @@ module _ (s : State) (w : List Waiting) (a : Waiting) (u : IsUnderWay s (w ++ a 
 -- ---- Send
 
 module _ (s : State) (w : List Waiting) (c : Chip) (o : Out) (os : List Out) (u : IsServing s w c (o ∷ os)) where
-  held : Held
+  held : Hand
   held = record { copy = u.copy; port = u.port; outs = o ∷ os }
 
   place : ℕ
@@ -263,7 +263,7 @@ module _ (s : State) (w : List Waiting) (c : Chip) (o : Out) (os : List Out) (u 
   hand_is : slice_get s.hands (index_of s.setup.machine c) ≡ Some (Some held)
   unfolding held
   hand_is =
-      ap (λ (l : List (Option Held)). slice_get l (index_of s.setup.machine c)) u.hand
+      ap (λ (l : List (Option Hand)). slice_get l (index_of s.setup.machine c)) u.hand
       ∙ slice_get-set_same u.others (index_of s.setup.machine c) (slice_index_or u.others (index_of s.setup.machine c) None) (Some held)
       (slice_get-get_or u.others (index_of s.setup.machine c) None u.within)
 
@@ -282,12 +282,12 @@ module _ (s : State) (w : List Waiting) (c : Chip) (o : Out) (os : List Out) (u 
   hands_then : slice_set s.hands (index_of s.setup.machine c) (in_hand u.copy u.port (without o (o ∷ os))) ≡ slice_set u.others (index_of s.setup.machine c) (in_hand u.copy u.port os)
   hands_then =
       let n : ℕ = index_of s.setup.machine c in
-      ap (λ (l : List (Option Held)). set l n (in_hand u.copy u.port (without o (o ∷ os)))) u.hand
+      ap (λ (l : List (Option Hand)). set l n (in_hand u.copy u.port (without o (o ∷ os)))) u.hand
       ∙ (set_twice u.others n (in_hand u.copy u.port (o ∷ os)) (in_hand u.copy u.port (without o (o ∷ os)))
       ∙ ap (λ (l : List Out). set u.others n (in_hand u.copy u.port l)) (ap (λ b. if b then os else o ∷ without o os) (out_eq_same o)))
 
   -- the copy goes to the queue behind the output
-  send_to : (b : Behind) → behind s.setup c o ≡ b → has_room_behind s b ≡ true →
+  send_to : (b : Queue) → behind s.setup c o ≡ b → has_room_behind s b ≡ true →
       step_of s (Send c o) ≡ Some (push_behind (after_serving s c o held) b (onward u.copy))
   unfolding held
   send_to b is has =
@@ -371,7 +371,7 @@ module _ (s : State) (w : List Waiting) (c : Chip) (o : Out) (os : List Out) (u 
   is_linked =
       let n : ℕ = index_of s.setup.machine c in
       let has : has_room_behind s (input i) ≡ true = ap (has_room s.setup.capacity) far_empty ∙ room s w c o os u in
-      let from : List (Option Held) → State = λ hands. record s { inputs = push_at s.inputs i (onward u.copy) (slice_get s.inputs i); hands = hands } in
+      let from : List (Option Hand) → State = λ hands. record s { inputs = push_at s.inputs i (onward u.copy) (slice_get s.inputs i); hands = hands } in
       send_to s w c o os u (input i) is has
       ∙ (ap (λ h. Some (from h)) (hands_then s w c o os u)
       ∙ ap (λ q. Some (record s { inputs = push_at s.inputs i (onward u.copy) q; hands = slice_set u.others n (in_hand u.copy u.port os) })) far_empty)
@@ -421,10 +421,10 @@ module _ (s : State) (w : List Waiting) (c : Chip) (o : Out) (os : List Out) (u 
       let n : ℕ = index_of s.setup.machine c in
       let at : slice_get s.cores v ≡ Some [] = core_empty in
       let has : has_room_behind s (core v) ≡ true = ap (has_room s.setup.capacity) at ∙ room s w c o os u in
-      let hands : List (Option Held) = slice_set u.others n (in_hand u.copy u.port os) in
+      let hands : List (Option Hand) = slice_set u.others n (in_hand u.copy u.port os) in
       let k : McCopy = onward u.copy in
       let t : State = record s { cores = slice_set s.cores v (k ∷ []); hands = hands } in
-      let from : List (Option Held) → State = λ l. record s { cores = push_at s.cores v k (slice_get s.cores v); hands = l } in
+      let from : List (Option Hand) → State = λ l. record s { cores = push_at s.cores v k (slice_get s.cores v); hands = l } in
       let step : step_of s (Send c o) ≡ Some t =
       send_to s w c o os u (core v) is has
       ∙ (ap (λ h. Some (from h)) (hands_then s w c o os u)

@@ -17,7 +17,7 @@ use Rattle.spin_base.specs.declared.copies.Event.TheVariants.{Inject, Take, Send
 use Rattle.std.proofs.lemmas.Bool.{eqb-true}
 use Rattle.machine_desc.specs.Description.{Description}
 use Rattle.machine_desc.specs.Live.{far_of, index_of, is_live_link}
-use Rattle.mesh_core.specs.State.{Setup, State, Behind, input, core, nowhere, behind, behind_link}
+use Rattle.mesh_core.specs.State.{Setup, State, Queue, input, core, nowhere, behind, behind_link}
 use Rattle.mesh_core.proofs.Fixed.{after_event_setup}
 use Rattle.mesh_core.specs.Step.{after_event}
 use Rattle.packet_runs.specs.declared.draining.Waiting.{Waiting}
@@ -40,7 +40,7 @@ on_ok (Err e) here then' = tt
 same_behind : (u v : Setup) (c : Chip) (o : Out) → u.machine ≡ v.machine → u.spots ≡ v.spots → behind u c o ≡ behind v c o
 same_behind u v c o machine spots = plain u o ∙ (ap (λ m. of m u.spots o) machine ∙ (ap (λ l. of v.machine l o) spots ∙ sym (plain v o)))
   where
-    of : Description → List Spot → Out → Behind
+    of : Description → List Spot → Out → Queue
     of m l p = behind (record { machine = m; spots = l; tables = []; capacity = 0 }) c p
 
     by_far : (z : Setup) (d : Dir) (b : Bool) (far : Option Chip) →
@@ -54,7 +54,7 @@ same_behind u v c o machine spots = plain u o ∙ (ap (λ m. of m u.spots o) mac
     plain z (Core p) = refl
 
 module _ (s t : State) (w : List Waiting) (c : Chip) (o : Out) (setup : Setup) (is : t ≡ after_event s (Send c o)) (map : IsMapOf setup s) where
-  here : (q : Behind) → q ≡ behind setup c o → behind s.setup c o ≡ q
+  here : (q : Queue) → q ≡ behind setup c o → behind s.setup c o ≡ q
   here q found = sym (found ∙ same_behind setup s.setup c o map.machine map.spots)
 
   -- by a live link: the packet waits at its far end

@@ -11,7 +11,7 @@ use Rattle.spin_base.specs.declared.routes.Out.TheVariants.{Link, Core}
 use Rattle.spin_base.specs.declared.copies.McCopy.{McCopy}
 use Rattle.machine_desc.specs.Description.{Description}
 use Rattle.machine_desc.specs.Live.{far_of, index_of, IsLiveChip}
-use Rattle.mesh_core.specs.State.{Setup, State, Held, queue_at}
+use Rattle.mesh_core.specs.State.{Setup, State, Hand, queue_at}
 use Rattle.mesh_core.specs.Step.{in_hand as held_for, last_hop}
 use Rattle.mesh_core.specs.Trail.{Station, unsent, in_queue, in_hand, at_core, delivered, dumped, Mark}
 use Rattle.mesh_core.specs.Ledger.{marks_of}
@@ -48,7 +48,7 @@ abbrev pub times : Description → ℕ → List Waiting → ℕ
 times m i waiting = count_by (λ (w : Waiting). queue_at m w.chip w.port == i) waiting
 
 -- the outputs that a router's hand still has to serve
-abbrev pub outs_in : Option (Option Held) → List Out
+abbrev pub outs_in : Option (Option Hand) → List Out
 outs_in (Some (Some h)) = h.outs
 outs_in (Some None) = []
 outs_in None = []
@@ -84,7 +84,7 @@ pub record IsServing (s : State) (waiting : List Waiting) (c : Chip) (outs : Lis
   pub kept : IsKept s
   pub copy : McCopy
   pub port : Port
-  pub others : List (Option Held)
+  pub others : List (Option Hand)
   pub free : All (λ h. h ≡ None) others
   pub within : index_of s.setup.machine c < length others
   pub hand : s.hands ≡ slice_set others (index_of s.setup.machine c) (held_for copy port outs)

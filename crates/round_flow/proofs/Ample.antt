@@ -25,7 +25,7 @@ use Rattle.machine_desc.specs.Branch.{Exit}
 use Rattle.net_tables.specs.declared.nets.NetPlan.{NetPlan}
 use Rattle.net_tables.specs.NetsOn.{AreNetsOn, IsWayOn}
 use Rattle.net_tables.specs.RightTables.{IsKeyOf, AreRight}
-use Rattle.mesh_core.specs.State.{Setup, State, IsMesh, Behind, input, core, nowhere, behind}
+use Rattle.mesh_core.specs.State.{Setup, State, IsMesh, Queue, input, core, nowhere, behind}
 use Rattle.mesh_core.specs.Step.{last_hop, onward}
 use Rattle.mesh_core.specs.Trail.{Station, in_queue, in_hand, at_core, dumped, Mark, on_trail, is_on_trail}
 use Rattle.mesh_core.specs.Ledger.{marks_of, marked, port_of, unsent_marks, input_marks, all_hand_marks, core_marks, delivered_marks, dumped_marks, label_of, Label, MeetsLedger}
@@ -125,7 +125,7 @@ module _ (m : State) (f : Flow) (n : State) (nets : List NetPlan) (packets : Lis
       eqb-true y.hop (length s.trail.branch) b.1 ∙ (ap length branch ∙ sym (eqb-true x.hop (length r.trail.branch) a.1))
 
   -- and so have two in one queue
-  same_hop : (q : Behind) (x y : McCopy) (r : IsRight (mark x (station_of u q))) (s : IsRight (mark y (station_of u q))) → y.packet ≡ x.packet → y.hop ≡ x.hop
+  same_hop : (q : Queue) (x y : McCopy) (r : IsRight (mark x (station_of u q))) (s : IsRight (mark y (station_of u q))) → y.packet ≡ x.packet → y.hop ≡ x.hop
   same_hop (input i) x y r s same =
       let net = (same_net (mark x (station_of u (input i))) (mark y (station_of u (input i))) r s same).0 in
       let way = subst (λ (k : NetPlan). IsWayOn u.machine u.spots k s.trail.target s.trail.branch s.trail.from s.trail.to) net s.trail.way in
@@ -138,7 +138,7 @@ module _ (m : State) (f : Flow) (n : State) (nets : List NetPlan) (packets : Lis
   -- ---- the queue behind an output
 
   -- marks of a queue are among all marks
-  queue_counts : (p : Mark → Bool) (q : Behind) → count_by p (marked (station_of u q) (held_in m q)) ≤ count_by p (marks_of m)
+  queue_counts : (p : Mark → Bool) (q : Queue) → count_by p (marked (station_of u q) (held_in m q)) ≤ count_by p (marks_of m)
   queue_counts p (input i) = elim (cases_lt i (length m.inputs)) [
     | inl below ↦
         let q = slice_get_there m.inputs i below in
@@ -174,7 +174,7 @@ module _ (m : State) (f : Flow) (n : State) (nets : List NetPlan) (packets : Lis
   queue_counts p nowhere = omega arith
 
   module _ (c : Chip) (o : Out) (live : IsLiveChip u.machine c) (is : IsOutput o) where
-    abbrev q : Behind
+    abbrev q : Queue
     q = behind u c o
 
     abbrev at : Station
@@ -346,7 +346,7 @@ module _ (m : State) (f : Flow) (n : State) (nets : List NetPlan) (packets : Lis
           let even = full.2 in
           omega (arith, few, both, room, come, even, roomy)
         where
-          room_of : (b : Behind) → b ≢ nowhere → capacity_of u b ≡ u.capacity
+          room_of : (b : Queue) → b ≢ nowhere → capacity_of u b ≡ u.capacity
           room_of (input i) there = refl
           room_of (core v) there = refl
           room_of nowhere there = absurd (there refl)

@@ -27,7 +27,7 @@ use Rattle.machine_desc.proofs.Branches.{exit_leads, ExitLeads}
 use Rattle.machine_desc.proofs.Far.{live_inside, live_ends, live_back, far_back, far_inside}
 use Rattle.net_tables.specs.declared.nets.NetPlan.{NetPlan}
 use Rattle.net_tables.specs.RightTables.{IsKeyOf, AreRight}
-use Rattle.mesh_core.specs.State.{Setup, State, IsMesh, Behind, input, core, nowhere, behind, behind_link, queue_at, vertex_behind}
+use Rattle.mesh_core.specs.State.{Setup, State, IsMesh, Queue, input, core, nowhere, behind, behind_link, queue_at, vertex_behind}
 use Rattle.mesh_core.specs.Step.{last_hop, onward, outputs}
 use Rattle.mesh_core.specs.Trail.{unsent, in_queue, in_hand, Mark}
 use Rattle.mesh_core.specs.Ledger.{marks_of, marked, port_of, all_ports, unsent_marks, input_marks, all_hand_marks, core_marks, delivered_marks, dumped_marks, Label, MeetsLedger}
@@ -80,7 +80,7 @@ module _ (m : State) (f : Flow) (n : State) (nets : List NetPlan) (labels : ℕ 
       (among_contains (mark k (unsent v)) (marks_of m)
       (among_left (mark k (unsent v)) (unsent_marks m) (input_marks m ++ (all_hand_marks m ++ (core_marks m ++ (delivered_marks m ++ dumped_marks m)))) there))
 
-  pub held_right : (q : Behind) (k : McCopy) → Among k (held_in m q) → Right (mark k (station_of u q))
+  pub held_right : (q : Queue) (k : McCopy) → Among k (held_in m q) → Right (mark k (station_of u q))
   held_right (input i) k a = elim (cases_lt i (length m.inputs)) [
     | inl below ↦
         let q = slice_get_there m.inputs i below in
@@ -206,7 +206,7 @@ module _ (m : State) (f : Flow) (n : State) (nets : List NetPlan) (labels : ℕ 
       plain : (i : ℕ) → i ≡ 0 + i
       plain i = omega arith
 
-  left_came : (q : Behind) (k : McCopy) → Among k (f.left q) → Among k (held_in m q ++ f.entered q)
+  left_came : (q : Queue) (k : McCopy) → Among k (f.left q) → Among k (held_in m q ++ f.entered q)
   left_came q k a = subst (λ xs. Among k xs) (sym (passes.in_order q)) (among_left k (f.left q) (held_in n q) a)
 
   nothing : (k : McCopy) (xs : List McCopy) → xs ≡ [] → Among k xs → ⊥

@@ -13,12 +13,12 @@ use Rattle.spin_base.specs.Outputs.{out_of}
 use Rattle.spin_base.proofs.Equality.{nat_eq_same}
 use Rattle.machine_desc.specs.Live.{far_of, is_live_link, IsInside, IsLiveLink}
 use Rattle.machine_desc.proofs.Far.{far_inside, far_back, live_ends, opposite_of-opposite}
-use Rattle.mesh_core.specs.State.{Setup, Behind, input, core, nowhere, behind, behind_link, core_of, queue_at, vertex_behind}
+use Rattle.mesh_core.specs.State.{Setup, Queue, input, core, nowhere, behind, behind_link, core_of, queue_at, vertex_behind}
 pub use Rattle.mesh_core.proofs.Keeping.{same_queue as one_port}
 use Rattle.mesh_core.proofs.Ways.{vertex_behind_stands}
 
 -- whether two names are of one queue
-abbrev pub behind_eq : Behind → Behind → Bool
+abbrev pub behind_eq : Queue → Queue → Bool
 behind_eq (input i) (input j) = i == j
 behind_eq (core v) (core w) = v == w
 behind_eq nowhere nowhere = true
@@ -29,12 +29,12 @@ behind_eq (core v) nowhere = false
 behind_eq nowhere (input i) = false
 behind_eq nowhere (core v) = false
 
-pub behind_eq_same : (q : Behind) → behind_eq q q ≡ true
+pub behind_eq_same : (q : Queue) → behind_eq q q ≡ true
 behind_eq_same (input i) = nat_eq_same i
 behind_eq_same (core v) = nat_eq_same v
 behind_eq_same nowhere = refl
 
-pub behind_eq_true : (q r : Behind) → behind_eq q r ≡ true → q ≡ r
+pub behind_eq_true : (q r : Queue) → behind_eq q r ≡ true → q ≡ r
 behind_eq_true (input i) (input j) same = ap input (eqb-true i j same)
 behind_eq_true (core v) (core w) same = ap core (eqb-true v w same)
 behind_eq_true nowhere nowhere same = refl

@@ -27,7 +27,7 @@ use Rattle.machine_desc.specs.Live.{far_of, chip_of, is_live_link, is_live_chip,
 use Rattle.machine_desc.proofs.Far.{far_inside, far_back, live_ends, live_back, live_inside, opposite_of-opposite}
 use Rattle.machine_desc.proofs.Live.{chip_of-inside, index_of-chip_of}
 use Rattle.machine_desc.proofs.Sites.{site_parts, end_is_no_live_link, same_site}
-use Rattle.mesh_core.specs.State.{Setup, State, IsMesh, Behind, input, core, nowhere, behind, behind_link, queue_at}
+use Rattle.mesh_core.specs.State.{Setup, State, IsMesh, Queue, input, core, nowhere, behind, behind_link, queue_at}
 use Rattle.mesh_core.specs.Trail.{Station, in_queue, at_core, Mark}
 use Rattle.mesh_core.specs.Ledger.{marked, port_of}
 use Rattle.mesh_core.proofs.Changes.{queue_at-below}
@@ -41,16 +41,16 @@ abbrev one_where : Bool → ℕ
 one_where b = cond b 1 0
 
 -- the queue into which a source's copies go
-abbrev pub from : Setup → Chip × Option Out → Behind
+abbrev pub from : Setup → Chip × Option Out → Queue
 from u (c, None) = at_port u c Local
 from u (c, Some o) = behind u c o
 
 -- all queues of a mesh
-abbrev pub queues : Setup → List Behind
+abbrev pub queues : Setup → List Queue
 queues u = map input (range_with_len 0 (7 * (u.machine.width * u.machine.height))) ++ map core (range_with_len 0 (length u.spots))
 
 -- the station of the copies in a queue
-abbrev pub station_of : Setup → Behind → Station
+abbrev pub station_of : Setup → Queue → Station
 station_of u (input i) = in_queue (chip_of u.machine (i / 7)) (port_of (i % 7))
 station_of u (core v) = at_core v
 station_of u nowhere = at_core 0
@@ -160,13 +160,13 @@ module _ (p : Mark → Bool) (m : State) (f : Flow) (n : State) (mesh : IsMesh m
   u = m.setup
 
   -- how many marks of what entered a queue pass
-  abbrev pub came : Behind → ℕ
+  abbrev pub came : Queue → ℕ
   came q = count_by p (marked (station_of u q) (f.entered q))
 
-  nothing_came : (q : Behind) → f.entered q ≡ [] → came q ≡ 0
+  nothing_came : (q : Queue) → f.entered q ≡ [] → came q ≡ 0
   nothing_came q none = ap (λ copies. count_by p (marked (station_of u q) copies)) none
 
-  abbrev feeds : Chip × Option Out → Behind → Bool
+  abbrev feeds : Chip × Option Out → Queue → Bool
   feeds s q = behind_eq (from u s) q
 
   at_once : (c : Chip) (port : Port) → IsInside u.machine c → count_by (behind_eq (at_port u c port)) (queues u) ≡ 1
@@ -178,16 +178,16 @@ module _ (p : Mark → Bool) (m : State) (f : Flow) (n : State) (mesh : IsMesh m
   into_one (c, Some o) live = elim (leads u c o) [
     | by_link d e out link far is ↦
         let inside = far_inside u.machine c e d (live_inside u.machine c live) far in
-        inr (subst (λ (q : Behind). count_by (behind_eq q) (queues u) ≡ 1) (sym is) (at_once e (ByLink (opposite_of d)) inside))
+        inr (subst (λ (q : Queue). count_by (behind_eq q) (queues u) ≡ 1) (sym is) (at_once e (ByLink (opposite_of d)) inside))
     | to_vertex v dead at is ↦
         let stands = vertex_behind_stands u.spots c o v at in
         let below : v < length u.spots = slice_get_within u.spots v stands.0 stands.1 in
-        inr (subst (λ (q : Behind). count_by (behind_eq q) (queues u) ≡ 1) (sym is) (core_once u v below))
-    | to_none without is ↦ inl (subst (λ (q : Behind). came q ≡ 0) (sym is) (nothing_came nowhere passes.nowhere_empty))
+        inr (subst (λ (q : Queue). count_by (behind_eq q) (queues u) ≡ 1) (sym is) (core_once u v below))
+    | to_none without is ↦ inl (subst (λ (q : Queue). came q ≡ 0) (sym is) (nothing_came nowhere passes.nowhere_empty))
   ]
 
   -- where a queue gets the copies of just one source
-  only_source : (c : Chip) (x : Option Out) (q : Behind) → IsLiveChip u.machine c → IsChoice x → from u (c, x) ≡ q →
+  only_source : (c : Chip) (x : Option Out) (q : Queue) → IsLiveChip u.machine c → IsChoice x → from u (c, x) ≡ q →
       ((s : Chip × Option Out) → IsLiveChip u.machine s.0 → from u s ≡ q → s ≡ (c, x)) → count_by (λ s. feeds s q) (sources u.machine) ≡ 1
   only_source c x q live is into only =
       sum_agree (λ s. one_where (feeds s q)) (λ s. one_where (source_eq (c, x) s)) (sources u.machine) (λ s a. ap one_where (same s a))
@@ -288,17 +288,17 @@ module _ (p : Mark → Bool) (m : State) (f : Flow) (n : State) (mesh : IsMesh m
           let out : o ≡ out_of t.core = sym ends.3 ∙ ap (λ (x : Spot). out_of x.core) same in
           cc
 
-  from_one : (q : Behind) → Among q (queues u) → (came q ≡ 0) ⊎ (count_by (λ s. feeds s q) (sources u.machine) ≡ 1)
+  from_one : (q : Queue) → Among q (queues u) → (came q ≡ 0) ⊎ (count_by (λ s. feeds s q) (sources u.machine) ≡ 1)
   from_one q a = elim (among_either q (map input (range_with_len 0 (7 * (u.machine.width * u.machine.height)))) (map core (range_with_len 0 (length u.spots))) a) [
     | inl there ↦
         let of = among_map input q (range_with_len 0 (7 * (u.machine.width * u.machine.height))) there in
         let below = (range_parts 0 (7 * (u.machine.width * u.machine.height)) of.0 of.1).1 in
-        subst (λ (r : Behind). (came r ≡ 0) ⊎ (count_by (λ s. feeds s r) (sources u.machine) ≡ 1)) (sym of.2) (of_input of.0 (omega (arith, below)))
+        subst (λ (r : Queue). (came r ≡ 0) ⊎ (count_by (λ s. feeds s r) (sources u.machine) ≡ 1)) (sym of.2) (of_input of.0 (omega (arith, below)))
     | inr there ↦
         let of = among_map core q (range_with_len 0 (length u.spots)) there in
         let below : of.0 < length u.spots = omega (arith, (range_parts 0 (length u.spots) of.0 of.1).1) in
         let spot = slice_get_there u.spots of.0 below in
-        subst (λ (r : Behind). (came r ≡ 0) ⊎ (count_by (λ s. feeds s r) (sources u.machine) ≡ 1)) (sym of.2) (inr (at_one_vertex of.0 spot.0 spot.1))
+        subst (λ (r : Queue). (came r ≡ 0) ⊎ (count_by (λ s. feeds s r) (sources u.machine) ≡ 1)) (sym of.2) (inr (at_one_vertex of.0 spot.0 spot.1))
   ]
     where
       of_input : (i : ℕ) → i < 7 * (u.machine.width * u.machine.height) → (came (input i) ≡ 0) ⊎ (count_by (λ s. feeds s (input i)) (sources u.machine) ≡ 1)

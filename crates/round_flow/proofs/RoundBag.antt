@@ -27,7 +27,7 @@ use Rattle.spin_base.proofs.Once.{all_once}
 use Rattle.machine_desc.specs.Live.{chip_of, IsLiveChip, IsSite}
 use Rattle.machine_desc.proofs.Far.{live_inside, far_inside}
 use Rattle.machine_desc.proofs.Sites.{site_parts}
-use Rattle.mesh_core.specs.State.{Setup, State, IsMesh, Behind, input, core, nowhere, behind, queue_at}
+use Rattle.mesh_core.specs.State.{Setup, State, IsMesh, Queue, input, core, nowhere, behind, queue_at}
 use Rattle.mesh_core.specs.Step.{last_hop, onward, outputs}
 use Rattle.mesh_core.specs.Trail.{Station, unsent, in_queue, in_hand, at_core, delivered, dumped, Mark}
 use Rattle.mesh_core.specs.Ledger.{marks_of, marked, hand_marks, port_of, unsent_marks, input_marks, all_hand_marks, core_marks, delivered_marks, dumped_marks}
@@ -94,7 +94,7 @@ module _ (m : State) (f : Flow) (n : State) (mesh : IsMesh m) (after : IsMesh n)
       subst (λ w. Part m (λ p. count_by p (marked (unsent w) (f.sent w))) (λ p. sum_by (λ k. count_by p (mark k (in_queue spot.chip Local) ∷ [])) (f.sent w))) here
       (part_of (unsent v) (λ k. mark k (in_queue spot.chip Local) ∷ []) (f.sent v) (λ k a. ((spot, at, refl), sent_small v (slice_get_within u.spots v spot at) k a))))
 
-  left_small : (q : Behind) (k : McCopy) → Among k (f.left q) → k.hop ≤ last_hop
+  left_small : (q : Queue) (k : McCopy) → Among k (f.left q) → k.hop ≤ last_hop
   left_small q k a = All-contains (λ (j : McCopy). j.hop ≤ last_hop) (f.left q) k (passes.hops q) (among_contains k (f.left q) a)
 
   taken_part : Part m (λ p. sum_by (λ i. count_by p (marked (station_of u (input i)) (f.left (input i)))) (range_with_len 0 (7 * (u.machine.width * u.machine.height))))
@@ -176,7 +176,7 @@ module _ (m : State) (f : Flow) (n : State) (mesh : IsMesh m) (after : IsMesh n)
       collects d k (inr none) small = absurd none
 
   module _ (p : Mark → Bool) where
-    abbrev came_in : Behind → ℕ
+    abbrev came_in : Queue → ℕ
     came_in q = came p m f n mesh passes q
 
     abbrev places : List ℕ

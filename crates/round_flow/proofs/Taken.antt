@@ -25,7 +25,7 @@ use Rattle.spin_base.proofs.Once.{all_once}
 use Rattle.machine_desc.specs.Live.{index_of, chip_of, is_live_chip, is_live_link, IsInside, IsLiveChip}
 use Rattle.machine_desc.proofs.Far.{live_inside, live_ends}
 use Rattle.machine_desc.proofs.Live.{chip_of-inside, index_of-chip_of}
-use Rattle.mesh_core.specs.State.{Setup, State, IsMesh, Behind, input, behind, queue_at}
+use Rattle.mesh_core.specs.State.{Setup, State, IsMesh, Queue, input, behind, queue_at}
 use Rattle.mesh_core.specs.Step.{last_hop, outputs}
 use Rattle.mesh_core.specs.Trail.{in_hand, Mark}
 use Rattle.mesh_core.specs.Ledger.{all_ports, port_of}
@@ -122,7 +122,7 @@ module _ (p : Mark → Bool) (m : State) (f : Flow) (n : State) (mesh : IsMesh m
       ∙ ap (λ (q : Port). sum_by (in_hands c q) (f.left (at_port u c port))) (port_of-port_number port)))
 
   -- nothing leaves a queue of a dead chip
-  none_left : (q : Behind) → held_in m q ≡ [] → f.entered q ≡ [] → f.left q ≡ []
+  none_left : (q : Queue) → held_in m q ≡ [] → f.entered q ≡ [] → f.left q ≡ []
   none_left q held none =
       let all : [] ≡ f.left q ++ held_in n q = sym (ap₂ (λ (a b : List McCopy). a ++ b) held none) ∙ passes.in_order q in
       empty (f.left q) (held_in n q) all

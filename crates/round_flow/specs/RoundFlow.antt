@@ -17,7 +17,7 @@ use Rattle.spin_base.specs.declared.copies.DumpRec.{DumpRec}
 use Rattle.spin_base.specs.Equality.{chip_eq, out_eq}
 use Rattle.spin_base.specs.Outputs.{IsOutput}
 use Rattle.machine_desc.specs.Live.{is_live_chip, is_live_link, IsInside, IsLiveChip}
-use Rattle.mesh_core.specs.State.{Setup, State, IsMesh, Behind, input, core, nowhere, behind, queue_at}
+use Rattle.mesh_core.specs.State.{Setup, State, IsMesh, Queue, input, core, nowhere, behind, queue_at}
 use Rattle.mesh_core.specs.Step.{last_hop, onward, outputs}
 use Rattle.mesh_core.specs.Ledger.{all_ports}
 
@@ -25,27 +25,27 @@ use Rattle.mesh_core.specs.Ledger.{all_ports}
 -- moments at which a push found it full, each as the numbers of copies that had entered and left by then; of each vertex the
 -- copies that it sent; and the new deliveries and dump records.
 pub record Flow : Type 0 where
-  pub entered : Behind → List McCopy
-  pub left : Behind → List McCopy
-  pub fulls : Behind → List (ℕ × ℕ)
+  pub entered : Queue → List McCopy
+  pub left : Queue → List McCopy
+  pub fulls : Queue → List (ℕ × ℕ)
   pub sent : ℕ → List McCopy
   pub delivered : List Delivery
   pub dumped : List DumpRec
 
 -- what a queue holds; where there is no queue, nothing
-abbrev pub held_in : State → Behind → List McCopy
+abbrev pub held_in : State → Queue → List McCopy
 held_in s (input i) = slice_index_or s.inputs i []
 held_in s (core v) = slice_index_or s.cores v []
 held_in s nowhere = []
 
 -- how many copies a queue holds at most; where there is no queue, none
-abbrev pub capacity_of : Setup → Behind → ℕ
+abbrev pub capacity_of : Setup → Queue → ℕ
 capacity_of u (input i) = u.capacity
 capacity_of u (core v) = u.capacity
 capacity_of u nowhere = 0
 
 -- the input queue of a chip's port
-abbrev pub at_port : Setup → Chip → Port → Behind
+abbrev pub at_port : Setup → Chip → Port → Queue
 at_port u c port = input (queue_at u.machine c port)
 
 -- whether a copy that came to a chip by a port leaves by this output, too
@@ -77,7 +77,7 @@ abbrev pub got_on : Setup → Flow → Chip → List McCopy
 got_on u f c = gathered (λ v spot. of_chip c spot (delivered_to f v)) 0 u.spots
 
 -- a moment at which a queue was found full: as many copies had entered and left by then as leave it with its capacity
-abbrev pub IsFullAt : State → Flow → Behind → ℕ × ℕ → Type 0
+abbrev pub IsFullAt : State → Flow → Queue → ℕ × ℕ → Type 0
 IsFullAt m f q e = (e.0 ≤ length (f.entered q)) × (e.1 ≤ length (f.left q)) × (length (held_in m q) + e.0 ≡ e.1 + capacity_of m.setup q)
 
 -- no router holds a copy in hand
@@ -93,9 +93,9 @@ pub record Passes (m : State) (f : Flow) (n : State) : Type 0 where
   pub setup : n.setup ≡ m.setup
   pub none_before : HasNoHand m
   pub none_after : HasNoHand n
-  pub in_order : (q : Behind) → held_in m q ++ f.entered q ≡ f.left q ++ held_in n q
+  pub in_order : (q : Queue) → held_in m q ++ f.entered q ≡ f.left q ++ held_in n q
   pub nowhere_empty : f.entered nowhere ≡ []
-  pub hops : (q : Behind) → All (λ k. k.hop ≤ last_hop) (f.left q)
+  pub hops : (q : Queue) → All (λ k. k.hop ≤ last_hop) (f.left q)
   pub dead_ports : (c : Chip) (d : Dir) → IsInside m.setup.machine c → is_live_link m.setup.machine c d ≡ false → f.entered (at_port m.setup c (ByLink d)) ≡ []
   pub dead_chips : (c : Chip) → IsInside m.setup.machine c → is_live_chip m.setup.machine c ≡ false → f.entered (at_port m.setup c Local) ≡ []
   pub unsent : (v : ℕ) → v < length m.setup.spots → slice_index_or m.unsent v [] ≡ f.sent v ++ slice_index_or n.unsent v []
@@ -113,21 +113,21 @@ pub record Passes (m : State) (f : Flow) (n : State) : Type 0 where
 -- none get more copies than there are turns.
 pub record IsRound (patience turns : ℕ) (m : State) (f : Flow) (n : State) : Type 0 where
   pub passes : Passes m f n
-  pub full : (q : Behind) → All (IsFullAt m f q) (f.fulls q)
+  pub full : (q : Queue) → All (IsFullAt m f q) (f.fulls q)
   pub patient : (c : Chip) (o : Out) → IsLiveChip m.setup.machine c → IsOutput o → patience * length (dumped_at f c o) ≤ length (f.fulls (behind m.setup c o))
   pub takes : (c : Chip) → IsLiveChip m.setup.machine c → sum_by (λ port. length (f.left (at_port m.setup c port))) all_ports ≤ turns
   pub sends : (c : Chip) → IsLiveChip m.setup.machine c → length (sent_on m.setup f c) ≤ turns
   pub gets : (c : Chip) → IsLiveChip m.setup.machine c → length (got_on m.setup f c) ≤ turns
 
 -- whether a mesh has this queue
-abbrev pub IsQueueOf : State → Behind → Type 0
+abbrev pub IsQueueOf : State → Queue → Type 0
 IsQueueOf m (input i) = i < length m.inputs
 IsQueueOf m (core v) = v < length m.cores
 IsQueueOf m nowhere = ⊥
 
 -- a round moves a copy where one left a queue of the mesh or was sent
 abbrev pub HasMoved : State → Flow → Type 0
-HasMoved m f = ((q : Behind) × IsQueueOf m q × (f.left q ≢ [])) ⊎ ((v : ℕ) × (v < length m.setup.spots) × (f.sent v ≢ []))
+HasMoved m f = ((q : Queue) × IsQueueOf m q × (f.left q ≢ [])) ⊎ ((v : ℕ) × (v < length m.setup.spots) × (f.sent v ≢ []))
 
 -- A mesh is reached from another by rounds, each from mesh to mesh with its flow.
 pub data HasRounds (patience turns : ℕ) (m : State) : State → Type 0 where

@@ -16,8 +16,8 @@ use Rattle.app_graph.specs.declared.graphs.Graph.{Graph}
 use Rattle.net_tables.specs.declared.nets.NetPlan.{NetPlan}
 use Rattle.mesh_core.specs.declared.places.Did.{Did}
 use Rattle.mesh_core.specs.declared.places.Place.{Place}
-use Rattle.mesh_core.specs.declared.places.Place.TheVariants.{InQueue, Hand, CoreQueue}
-use Rattle.mesh_core.specs.State.{State, Held, queue_at}
+use Rattle.mesh_core.specs.declared.places.Place.TheVariants.{InQueue, Hand as HandAt, CoreQueue}
+use Rattle.mesh_core.specs.State.{State, Hand, queue_at}
 use Rattle.mesh_core.specs.Ledger.{all_ports}
 use Rattle.run_report.specs.declared.reports.Report.{Report}
 use Rattle.run_report.specs.Listed.{placed_of, keys_of}
@@ -64,8 +64,8 @@ abbrev pub queue_waits : State → Chip → Port → List (ℕ × Place)
 queue_waits s c port = waits_at (InQueue c port) (copies_at (slice_get s.inputs (queue_at s.setup.machine c port)))
 
 -- what a router holds: a copy for each output by which it still has to leave
-abbrev pub held_waits : Chip → Option (Option Held) → List (ℕ × Place)
-held_waits c (Some (Some h)) = map (λ o. (h.copy.packet, Hand c o)) h.outs
+abbrev pub held_waits : Chip → Option (Option Hand) → List (ℕ × Place)
+held_waits c (Some (Some h)) = map (λ o. (h.copy.packet, HandAt c o)) h.outs
 held_waits c (Some None) = []
 held_waits c None = []
 
@@ -86,19 +86,19 @@ waits_of s = flat_map (chip_waits s) (grid_chips s.setup.machine) ++ gathered (c
 
 abbrev pub place_chip : Place → Chip
 place_chip (InQueue c port) = c
-place_chip (Hand c o) = c
+place_chip (HandAt c o) = c
 place_chip (CoreQueue c core) = c
 
 -- input queues, then hands, then queues of cores
 abbrev pub kind_number : Place → ℕ
 kind_number (InQueue c port) = 0
-kind_number (Hand c o) = 1
+kind_number (HandAt c o) = 1
 kind_number (CoreQueue c core) = 2
 
 -- the number of the port, the bit number of the output, or the number of the core
 abbrev pub part_number : Place → ℕ
 part_number (InQueue c port) = port_number port
-part_number (Hand c o) = out_number o
+part_number (HandAt c o) = out_number o
 part_number (CoreQueue c core) = core
 
 -- by packet, then by x, y, kind, and port, output or core

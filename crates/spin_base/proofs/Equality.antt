@@ -52,6 +52,10 @@ port_number_injective (FromLink d) Local e = absurd (omega (arith, dir_number_be
 port_number_injective Local (FromLink d) e = absurd (omega (arith, dir_number_below d))
 port_number_injective Local Local e = refl
 
+-- no link is the chip's own cores
+pub link_is_not_local : (d : Dir) → FromLink d ≡ Local → ⊥
+link_is_not_local d e = cc
+
 pub port_eq_same : (a : Port) → port_eq a a ≡ true
 port_eq_same a = nat_eq_same (port_number a)
 

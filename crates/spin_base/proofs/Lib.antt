@@ -1,5 +1,6 @@
 mod Bytes
 pub mod Equality
+pub mod Lookups
 pub mod Once
 pub mod Outputs
 pub mod Spots

@@ -92,6 +92,9 @@ pub enum Port {
 }
 
 impl Port {
+    /// How many ports a chip has: its six links, and its own cores.
+    pub const COUNT: u32 = 7;
+
     /// The link's number, and 6 for `Local`.
     pub fn number(self) -> u8
         ensures number { result ≡ port_number self }

@@ -1,2 +1,2 @@
 mod LaneLemmas
-mod MemoryLemmas
+pub mod MemoryLemmas

@@ -18,9 +18,9 @@ const GROUPS: usize = 128;
 /// Keys, masks and routes stand in three rows of 1,024 words.
 #[derive(Drop)]
 pub struct Tcam {
-    keys: [u32; 1024],
-    masks: [u32; 1024],
-    routes: [Route; 1024],
+    keys: [u32; SIZE],
+    masks: [u32; SIZE],
+    routes: [Route; SIZE],
 }
 
 impl Model for Tcam {
@@ -45,9 +45,9 @@ impl Tcam {
         ensures unused_matches_no_key { (key : ℕ) → matches unused key ≡ false }
     {
         Tcam {
-            keys: [u32::MAX; 1024],
-            masks: [0; 1024],
-            routes: [Route::nothing(); 1024],
+            keys: [u32::MAX; SIZE],
+            masks: [0; SIZE],
+            routes: [Route::nothing(); SIZE],
         }
     }
 

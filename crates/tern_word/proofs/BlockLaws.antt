@@ -36,6 +36,15 @@ module _ (key mask : ℕ) where
 -- ---- which blocks meet
 
 -- the blocks agree on the bits for which both care
+-- blocks with the same key and mask are one
+pub same_block : (x y : Block) → x.key ≡ y.key → x.mask ≡ y.mask → x ≡ y
+same_block x y keys masks =
+    let Q : ℕ → Type 0 = λ m. (w : bit_and x.key m ≡ x.key) (s : m < 2 ^ 32) → ◌≡◌ {A = Block} x (record { key = x.key; mask = m; within = w; small = s }) in
+    let q : Q y.mask = subst Q masks (λ w s. one_block x.key x.mask x.within w x.small s) in
+    let R : ℕ → Type 0 = λ k. (w : bit_and k y.mask ≡ k) → ◌≡◌ {A = Block} x (record { key = k; mask = y.mask; within = w; small = y.small }) in
+    let r : R y.key = subst R keys (λ w. q w y.small) in
+    r y.within
+
 abbrev pub AgreeAt : Block → Block → ℕ → Type 0
 AgreeAt a b i = min (min ((bit_at a.key i + bit_at b.key i) % 2) (bit_at a.mask i)) (bit_at b.mask i) ≡ 0
 

@@ -1,6 +1,6 @@
 use Rattle.std.proofs.Common.{◌≡◌, Option, None, sym, subst}
 use Rattle.std.specs.List.{All}
-use Rattle.mesh_core.specs.State.{Held}
+use Rattle.mesh_core.specs.State.{Hand}
 use Rattle.mesh_round.proofs.RoundLaw.{leads_by_round}
 use Rattle.mesh_round.proofs.Senders.{hops_after}
 use Rattle.mesh_round.proofs.Still.{is_mesh}
@@ -20,4 +20,4 @@ returns-clause-round c = λ patience turns m n mesh no_hand fit played.
     c.a_router_sends_or_dumps.ensures c.a_copy_is_taken_at_one_port.ensures
 
 pub returns-clause-hands : goal.returns-clause-hands
-returns-clause-hands c = λ patience turns m n no_hand played. subst (All (λ (h : Option Held). h ≡ None)) (sym played.hands) no_hand
+returns-clause-hands c = λ patience turns m n no_hand played. subst (All (λ (h : Option Hand). h ≡ None)) (sym played.hands) no_hand

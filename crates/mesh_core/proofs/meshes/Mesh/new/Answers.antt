@@ -2,7 +2,7 @@
 use Rattle.std.proofs.Common.{ℕ, ◌*◌, ap, sym, ◌∙◌, subst, List, [], Option, None}
 use Rattle.std.specs.Prelude.{replicate}
 use Rattle.spin_base.specs.declared.copies.McCopy.{McCopy}
-use Rattle.mesh_core.specs.State.{Setup, Held, IsMesh}
+use Rattle.mesh_core.specs.State.{Setup, Hand, IsMesh}
 use Rattle.mesh_core.proofs.Changes.{IsMesh-empty, empty_from, IsMesh-delivered, IsMesh-dumped}
 use Rattle.mesh_core.proofs.meshes.Mesh.new.Goals as goal
 
@@ -13,7 +13,7 @@ invariant_of-result c =
     let made = empty_from u c.in_ok-unsent.unsent.items c.in_ok-inputs.inputs.items c.in_ok-cores.cores.items c.in_ok-hands.hands.items
     (c.in_ok-unsent.ensures ∙ ap (λ (n : ℕ). replicate {A = List McCopy} n []) c.len-vertices.ensures)
     (c.in_ok-inputs.ensures ∙ ap (λ (n : ℕ). replicate {A = List McCopy} (7 * n) []) c.chips-chips.ensures.total)
-    (c.in_ok-hands.ensures ∙ ap (λ (n : ℕ). replicate {A = Option Held} n None) c.chips-chips.ensures.total)
+    (c.in_ok-hands.ensures ∙ ap (λ (n : ℕ). replicate {A = Option Hand} n None) c.chips-chips.ensures.total)
     (c.in_ok-cores.ensures ∙ ap (λ (n : ℕ). replicate {A = List McCopy} n []) c.len-vertices.ensures)
     in
     let empty = subst IsMesh made (IsMesh-empty u c.chips-chips.ensures.size c.requires.different c.requires.sites c.requires.room c.requires.tables) in

@@ -7,7 +7,7 @@ use Rattle.spin_base.specs.declared.copies.Event.TheVariants.{Send}
 use Rattle.spin_base.specs.declared.copies.McCopy.{McCopy}
 use Rattle.machine_desc.specs.Live.{index_of}
 use Rattle.mesh_core.specs.Serving.{named, copy_served, inputs_after, cores_after, hands_after}
-use Rattle.mesh_core.specs.State.{State, Behind, behind}
+use Rattle.mesh_core.specs.State.{State, Queue, behind}
 use Rattle.mesh_core.specs.Step.{onward, has_room_behind, step_of, after_event}
 use Rattle.mesh_core.specs.Whole.{state_of}
 use Rattle.mesh_core.proofs.Keeping.{IsMesh-step_of}
@@ -26,7 +26,7 @@ moves : (c : goal.After-self-3-1) → step_of (state_of c.self.inside) (Send c.a
 unfolding after
 moves c =
     let s : State = state_of c.self.inside in
-    let to : Behind = behind s.setup c.args.c c.args.out in
+    let to : Queue = behind s.setup c.args.c c.args.out in
     let k : McCopy = c.in-Some.copy in
     let chip : ℕ = index_of s.setup.machine c.args.c in
     let copy : Some k ≡ copy_served s c.args.c c.args.out (slice_get s.hands chip) =
