@@ -1,5 +1,5 @@
 -- The tests of equality say what equality says.
-use Rattle.std.proofs.Common.{◌≡◌, ℕ, true, ◌==◌, refl, ap, arith}
+use Rattle.std.proofs.Common.{◌≡◌, ◌∙◌, ℕ, true, ◌==◌, refl, ap, arith}
 use Rattle.std.proofs.lemmas.Bool.{and_parts, eq-eqb, eqb-true}
 use Rattle.spin_base.specs.declared.chips.Chip.{Chip}
 use Rattle.spin_base.specs.declared.chips.Dir.{Dir}
@@ -18,26 +18,26 @@ nat_eq_same m = eq-eqb m m refl
 pub chip_eq_same : (a : Chip) → chip_eq a a ≡ true
 chip_eq_same a = rw (nat_eq_same a.x, nat_eq_same a.y) refl
 
-same_chips : (x y x' y' : ℕ) → x ≡ x' → y ≡ y' → (let a : Chip = record { x = x; y = y } in let b : Chip = record { x = x'; y = y' } in a ≡ b)
-same_chips x y x' y' e f = cc
+pub same_chip : (a b : Chip) → a.x ≡ b.x → a.y ≡ b.y → a ≡ b
+same_chip a b p q =
+    let first : a ≡ record { x = b.x; y = a.y } = ap (λ (n : ℕ). let c : Chip = record { x = n; y = a.y } in c) p in
+    first ∙ ap (λ (n : ℕ). let c : Chip = record { x = b.x; y = n } in c) q
 
-same_spots : (c c' : Chip) (p p' : ℕ) → c ≡ c' → p ≡ p' → (let a : Spot = record { chip = c; core = p } in let b : Spot = record { chip = c'; core = p' } in a ≡ b)
-same_spots c c' p p' e f = cc
+pub same_spot : (a b : Spot) → a.chip ≡ b.chip → a.core ≡ b.core → a ≡ b
+same_spot a b p q =
+    let first : a ≡ record { chip = b.chip; core = a.core } =
+    ap (λ (c : Chip). let s : Spot = record { chip = c; core = a.core } in s) p in
+    first ∙ ap (λ (n : ℕ). let s : Spot = record { chip = b.chip; core = n } in s) q
 
 pub chip_eq_true : (a b : Chip) → chip_eq a b ≡ true → a ≡ b
-chip_eq_true a b e =
-    let same_x : a.x ≡ b.x = eqb-true a.x b.x (and_parts _ _ e).0 in
-    let same_y : a.y ≡ b.y = eqb-true a.y b.y (and_parts (a.x == b.x) _ e).1 in
-    same_chips a.x a.y b.x b.y same_x same_y
+chip_eq_true a b e = same_chip a b (eqb-true a.x b.x (and_parts _ _ e).0) (eqb-true a.y b.y (and_parts (a.x == b.x) _ e).1)
 
 pub spot_eq_same : (a : Spot) → spot_eq a a ≡ true
 spot_eq_same a = rw (nat_eq_same a.chip.x, nat_eq_same a.chip.y, nat_eq_same a.core) refl
 
 pub spot_eq_true : (a b : Spot) → spot_eq a b ≡ true → a ≡ b
 spot_eq_true a b e =
-    let same_chip : a.chip ≡ b.chip = chip_eq_true a.chip b.chip (and_parts _ _ e).0 in
-    let same_core : a.core ≡ b.core = eqb-true a.core b.core (and_parts (chip_eq a.chip b.chip) _ e).1 in
-    same_spots a.chip b.chip a.core b.core same_chip same_core
+    same_spot a b (chip_eq_true a.chip b.chip (and_parts _ _ e).0) (eqb-true a.core b.core (and_parts (chip_eq a.chip b.chip) _ e).1)
 
 pub dir_eq_same : (a : Dir) → dir_eq a a ≡ true
 dir_eq_same a = nat_eq_same (dir_number a)

@@ -1,9 +1,10 @@
 -- Lemmas on routes and their outputs.
-use Rattle.std.proofs.Common.{◌≡◌, ◌≢◌, ℕ, ◌+◌, ◌*◌, ◌%◌, ◌<◌, ◌≤◌, ◌^◌, List, [], ◌∷◌, ◌++◌, map, filter, true, false, arith, ap, refl, cond, append_assoc, append-nil, zero-add, w32, bit_or, lit<}
+use Rattle.std.proofs.Common.{◌≡◌, ◌≢◌, ℕ, ◌+◌, ◌*◌, ◌%◌, ◌<◌, ◌≤◌, ◌^◌, List, [], ◌∷◌, ◌++◌, map, filter, take, get_or, length, true, false, arith, ap, refl, cond, append_assoc, append-nil, zero-add, w32, bit_or, lit<}
 use Rattle.std.specs.Int.{bit_at}
 use Rattle.std.specs.List.{range_with_len}
 use Rattle.std.proofs.lemmas.Nat.{or_lt}
 use Rattle.std.proofs.Math.Pow.{pow-lt}
+use Rattle.std.proofs.lemmas.List.{take_more, map-append}
 use Rattle.std.proofs.lemmas.List.Elements.{filter-append}
 use Rattle.std.proofs.lemmas.List.FromFn.{filter_of_map_range_with_len_more}
 use Rattle.std.proofs.lemmas.Nat.Bits.{bit_at_above, bit_at_set_same, bit_at_set_other}
@@ -44,6 +45,17 @@ core_not_had r before items j is not_had =
 pub cores_done : (r : Route) (before items : List Out) (j : ℕ) → j ≡ 18 → items ≡ before ++ cores_below r j → items ≡ before ++ filter (has r) core_outs
 unfolding core_outs
 cores_done r before items j e is = rw e at is
+
+-- one more link of a list, which the route has or has not
+pub link_had : (r : Route) (links : List Dir) (items : List Out) (i : ℕ) (d : Dir) → items ≡ filter (has r) (map Link (take i links)) → i < length links →
+    has r (Link (get_or links i d)) ≡ true → items ++ Link (get_or links i d) ∷ [] ≡ filter (has r) (map Link (take (i + 1) links))
+link_had r links items i d is below had =
+    rw (take_more links i d below, map-append Link (take i links) (get_or links i d ∷ []), filter-append, had, is) refl
+
+pub link_not_had : (r : Route) (links : List Dir) (items : List Out) (i : ℕ) (d : Dir) → items ≡ filter (has r) (map Link (take i links)) → i < length links →
+    has r (Link (get_or links i d)) ≡ false → items ≡ filter (has r) (map Link (take (i + 1) links))
+link_not_had r links items i d is below had =
+    rw (take_more links i d below, map-append Link (take i links) (get_or links i d ∷ []), filter-append, had, append-nil) is
 
 -- a link's number is below 6
 pub dir_number_below : (d : Dir) → dir_number d < 6

@@ -33,6 +33,16 @@ out_of-core p h = cond-true (ltb p 18) (Core p) (Link (dir_at (p - 18))) (lt-ltb
 pub out_of-device : (p : ℕ) → 18 ≤ p → out_of p ≡ Link (dir_at (p - 18))
 out_of-device p h = cond-false (ltb p 18) (Core p) (Link (dir_at (p - 18))) (le-ltb _ _ h)
 
+-- outputs by one link, or by one core, are one, and no link is a core
+pub same_link : (a b : Dir) → Link a ≡ Link b → a ≡ b
+same_link a b e = cc
+
+same_core : {p q : ℕ} → Core p ≡ Core q → p ≡ q
+same_core e = cc
+
+link_is_no_core : {d : Dir} {p : ℕ} → Link d ≡ Core p → ⊥
+link_is_no_core e = cc
+
 -- the output that leads to a spot has a bit
 pub out_of-has_bit : (p : ℕ) → IsOutput (out_of p)
 out_of-has_bit p = elim (cases_lt p 18) [
@@ -54,31 +64,19 @@ out_number-out_of p h = elim (cases_lt p 18) [
 -- an output that is a core leads to the spot of its number, one that is a link to that of 18 and the link's number
 pub spot_of_core : (p q : ℕ) → out_of p ≡ Core q → (p ≡ q) × (p < 18)
 spot_of_core p q e = elim (cases_lt p 18) [
-  | inl core ↦ (same (sym (out_of-core p core) ∙ e), core)
-  | inr device ↦ absurd (other (sym (out_of-device p device) ∙ e))
+  | inl core ↦ (same_core (sym (out_of-core p core) ∙ e), core)
+  | inr device ↦ absurd (link_is_no_core (sym (out_of-device p device) ∙ e))
 ]
-  where
-    same : {a b : ℕ} → Core a ≡ Core b → a ≡ b
-    same e = cc
-
-    other : {d : Dir} {b : ℕ} → Link d ≡ Core b → ⊥
-    other e = cc
 
 pub spot_of_link : (p : ℕ) (d : Dir) → p < 24 → out_of p ≡ Link d → p ≡ 18 + dir_number d
 spot_of_link p d h e = elim (cases_lt p 18) [
-  | inl core ↦ absurd (other (sym (out_of-core p core) ∙ e))
+  | inl core ↦ absurd (link_is_no_core (sym e ∙ out_of-core p core))
   | inr device ↦
       let below : p - 18 < 6 = omega arith in
-      let is : dir_at (p - 18) ≡ d = same (sym (out_of-device p device) ∙ e) in
+      let is : dir_at (p - 18) ≡ d = same_link _ _ (sym (out_of-device p device) ∙ e) in
       let number : p - 18 ≡ dir_number d = sym (dir_number-dir_at (p - 18) below) ∙ ap dir_number is in
       omega arith
 ]
-  where
-    same : {a b : Dir} → Link a ≡ Link b → a ≡ b
-    same e = cc
-
-    other : {d : Dir} {b : ℕ} → Core b ≡ Link d → ⊥
-    other e = cc
 
 -- spots of one chip with one output are one spot
 pub same_number : (p q : ℕ) → p < 24 → q < 24 → out_of p ≡ out_of q → p ≡ q

@@ -15,7 +15,7 @@ pub struct Block {
 }
 
 /// An entry of a router's table: it matches a key `k` where `k & mask = key` (SpiNNaker datasheet).
-#[derive(Clone, Copy, Debug, PartialEq, Eq)]
+#[derive(Clone, Copy, Debug)]
 pub struct Entry {
     pub key: u32,
     pub mask: u32,

@@ -2,15 +2,15 @@
 ghost use Rattle.std.specs.Prelude.{◌≡◌, ◌+◌, ◌%◌, ◌<◌, ◌↔◌, Some, None, IfSome, IsNone, IfNone, ◌≤◌};
 ghost use Rattle.spin_base.specs.Links.{dir_number, opposite_of, port_number};
 
-/// A chip, by its place (x, y) in the grid. Chips are ordered by x, then y.
-#[derive(Clone, Copy, Debug, PartialEq, Eq, PartialOrd, Ord, Hash)]
+/// A chip, by its place (x, y) in the grid.
+#[derive(Clone, Copy, Debug, PartialEq, Eq, Hash)]
 pub struct Chip {
     pub x: u8,
     pub y: u8,
 }
 
 /// A link of a chip, in the order of the links' numbers 0 to 5 (SpiNNaker datasheet).
-#[derive(Clone, Copy, Debug, PartialEq, Eq, PartialOrd, Ord, Hash)]
+#[derive(Clone, Copy, Debug, PartialEq, Eq)]
 pub enum Dir {
     /// Link 0, to (+1, 0).
     East,
@@ -85,7 +85,7 @@ impl Dir {
 }
 
 /// Where a packet comes into a router: by a link, or from a core of the chip.
-#[derive(Clone, Copy, Debug, PartialEq, Eq, PartialOrd, Ord, Hash)]
+#[derive(Clone, Copy, Debug, PartialEq, Eq)]
 pub enum Port {
     Link(Dir),
     Local,
@@ -94,6 +94,17 @@ pub enum Port {
 impl Port {
     /// How many ports a chip has: its six links, and its own cores.
     pub const COUNT: u32 = 7;
+
+    /// The seven ports, in the order of their numbers.
+    pub const ALL: [Port; 7] = [
+        Port::Link(Dir::East),
+        Port::Link(Dir::NorthEast),
+        Port::Link(Dir::North),
+        Port::Link(Dir::West),
+        Port::Link(Dir::SouthWest),
+        Port::Link(Dir::South),
+        Port::Local,
+    ];
 
     /// The link's number, and 6 for `Local`.
     pub fn number(self) -> u8

@@ -30,7 +30,7 @@ pub struct Delivery {
 }
 
 /// A packet of a job: the net by its number, and the key as its place in the net's block.
-#[derive(Clone, Copy, Debug, PartialEq, Eq)]
+#[derive(Clone, Copy, Debug)]
 pub struct Packet {
     pub net: u32,
     pub index: u32,
@@ -38,7 +38,7 @@ pub struct Packet {
 }
 
 /// One step of the machine. The numbers are vertices.
-#[derive(Clone, Copy, Debug, PartialEq, Eq)]
+#[derive(Clone, Copy, Debug)]
 pub enum Event {
     /// The vertex sends its first unsent copy.
     Inject(u32),

@@ -8,7 +8,7 @@ use std::marker::Model;
 
 /// A queue, first in first out: what a contract sees of it is the list of its items, front first. Putting and
 /// taking cost the same however long it is.
-#[derive(Debug, Drop)]
+#[derive(Drop)]
 pub struct Fifo<T> {
     // Those that left still stand in front.
     items: Vec<T>,

@@ -8,7 +8,7 @@ use crate::rooms::Room;
 use crate::wants::Failed;
 
 /// Bytes in memory, as a source that tells what is left.
-#[derive(Debug, Drop)]
+#[derive(Drop)]
 pub struct MemSource {
     bytes: Seq<u8>,
     place: usize,
@@ -84,7 +84,7 @@ impl Source for MemSource {
 }
 
 /// A list in memory with room, as a sink that tells what it took.
-#[derive(Debug, Drop)]
+#[derive(Drop)]
 pub struct MemSink {
     room: Room<u8>,
     piece: u32,

@@ -51,7 +51,7 @@ pub trait Gate: Sync {
 }
 
 /// A gate that stops nobody.
-#[derive(Clone, Copy, Debug)]
+#[derive(Clone, Copy)]
 pub struct FreeGate;
 
 impl Gate for FreeGate {

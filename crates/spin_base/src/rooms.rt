@@ -7,7 +7,7 @@ use std::marker::Model;
 
 /// A list with room for items to come: contracts see it as its `items` and a number `spare`, the number of
 /// later `put`s for which room was made.
-#[derive(Debug, Drop)]
+#[derive(Drop)]
 pub struct Room<T> {
     items: Vec<T>,
 }

@@ -6,7 +6,7 @@ use crate::chips::Dir;
 use arrayvec::ArrayVec;
 
 /// An output of a router: a link, or a core of the chip (0 to 17).
-#[derive(Clone, Copy, Debug, PartialEq, Eq, PartialOrd, Ord, Hash)]
+#[derive(Clone, Copy, Debug, PartialEq, Eq)]
 pub enum Out {
     Link(Dir),
     Core(u8),

@@ -9,7 +9,7 @@ use crate::wants::Failed;
 use std::io::{Read, Write};
 
 /// A reader of std as a source. It counts the reads that failed.
-#[derive(Debug, Drop)]
+#[derive(Drop)]
 pub struct StdSource<R: Read> {
     reader: R,
     faults: u64,
@@ -58,7 +58,7 @@ impl<R: Read> Source for StdSource<R> {
 }
 
 /// A writer of std as a sink. It counts the writes that failed, or took nothing.
-#[derive(Debug, Drop)]
+#[derive(Drop)]
 pub struct StdSink<W: Write> {
     writer: W,
     faults: u64,
