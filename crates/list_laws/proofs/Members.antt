@@ -50,6 +50,10 @@ contains_among x xs has = at xs has.0 has.1 has.2
     at (y ∷ ys) zero within is = inl (sym is)
     at (y ∷ ys) (suc k) within is = inr (at ys k (omega arith) is)
 
+-- a list of one item has that item alone
+pub among_only : {X : Type 0} (x y : X) (xs : List X) → xs ≡ x ∷ [] → Among y xs → y ≡ x
+among_only x y xs is a = elim (subst (λ l. Among y l) is a) [ inl same ↦ same | inr none ↦ absurd none ]
+
 pub among_left : {X : Type 0} (x : X) (xs ys : List X) → Among x xs → Among x (xs ++ ys)
 among_left x [] ys a = absurd a
 among_left x (y ∷ xs) ys (inl here) = inl here

@@ -38,7 +38,8 @@ length_le_from_apart xs n apart below =
 abbrev pub exit_of : Edge → Exit
 exit_of e = record { chip = e.chip; out = Link e.dir }
 
-same_exit : (x y : Exit) → x.chip ≡ y.chip → x.out ≡ y.out → x ≡ y
+-- exits of one chip by one output are one
+pub same_exit : (x y : Exit) → x.chip ≡ y.chip → x.out ≡ y.out → x ≡ y
 same_exit x y p q =
     let first : x ≡ record { chip = y.chip; out = x.out } = ap (λ (c : Chip). let z : Exit = record { chip = c; out = x.out } in z) p in
     first ∙ ap (λ (o : Out). let z : Exit = record { chip = y.chip; out = o } in z) q

@@ -12,7 +12,7 @@ use Rattle.spin_base.specs.declared.chips.Chip.{Chip}
 use Rattle.spin_base.specs.Equality.{chip_eq}
 use Rattle.machine_desc.specs.Description.{Description}
 use Rattle.machine_desc.specs.Live.{is_live_chip, chip_of, grid_chips, live_count_of, IsInside, index_of}
-use Rattle.machine_desc.proofs.Far.{inside_from, inside_parts}
+use Rattle.machine_desc.proofs.Far.{inside_from, inside_parts, same_index, index_below}
 
 -- the chip of an index below width * height is inside the grid, and has that index
 pub chip_of-inside : (m : Description) (i : ℕ) → i < m.width * m.height → IsInside m (chip_of m i)
@@ -26,6 +26,11 @@ chip_of-inside m i h =
 
 pub index_of-chip_of : (m : Description) (i : ℕ) → index_of m (chip_of m i) ≡ i
 index_of-chip_of m i = div-add-mod' i m.height
+
+-- the chip of a chip's index
+pub chip_of-index_of : (m : Description) (c : Chip) → IsInside m c → chip_of m (index_of m c) ≡ c
+chip_of-index_of m c inside =
+    same_index m (chip_of m (index_of m c)) c (chip_of-inside m (index_of m c) (index_below m c inside)) inside (index_of-chip_of m (index_of m c))
 
 -- the chips of the grid are inside it
 pub grid_chips-inside : (m : Description) → All (IsInside m) (grid_chips m)

@@ -2,7 +2,7 @@
 use spin_base::{Chip, Dir, Seq};
 
 /// A link, by the chip that it leaves and its number there.
-#[derive(Clone, Copy, Debug, PartialEq, Eq, Hash)]
+#[derive(Clone, Copy, Debug, PartialEq, Eq)]
 pub struct Edge {
     pub chip: Chip,
     pub dir: Dir,
