@@ -24,7 +24,7 @@ use Rattle.mesh_core.specs.State.{State, Hand, IsMesh, Queue, input, core, behin
 use Rattle.mesh_core.specs.Step.{step_of, inject_of, take_of, send_of, dump_of, collect_of, has_room, has_room_behind, push_behind, push_at, in_hand as held_for, without, serves, after_serving, outputs, onward}
 use Rattle.mesh_core.specs.Trail.{unsent, in_queue, in_hand, at_core, delivered, dumped, Mark}
 use Rattle.mesh_core.specs.Ledger.{marks_of, hand_marks}
-use Rattle.mesh_core.proofs.Fixed.{push_behind_setup}
+use Rattle.mesh_core.proofs.Fixed.{push_behind_leaves}
 use Rattle.mesh_core.proofs.Moves.{mark, Crosses, Exchange, unsent_out, input_out, input_in, hand_out, hand_in, core_out, core_in, delivered_in, dumped_in, hand_marks-held}
 
 -- ---- a queue with room is there
@@ -224,7 +224,7 @@ send_by s c o h is_hand true true serving room t e =
       out = hand_serves s c o h parts.0 is_hand parts.1;
       put = arrival.1;
       move = inr arrival.2;
-      setup = push_behind_setup between (behind s.setup c o) (onward h.copy);
+      setup = (push_behind_leaves between (behind s.setup c o) (onward h.copy)).0;
     })
 
 send_exchange : (s : State) (c : Chip) (o : Out) (hand : Option (Option Hand)) → slice_get s.hands (index_of s.setup.machine c) ≡ hand →

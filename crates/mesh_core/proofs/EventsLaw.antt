@@ -17,7 +17,7 @@ use Rattle.mesh_core.specs.Ledger.{marks_of, Label, Asked, label_of, MeetsLedger
 use Rattle.mesh_core.specs.Opened.{asked_by, MeetsJobLedger}
 use Rattle.mesh_core.proofs.Changes.{IsMesh-dumped}
 use Rattle.mesh_core.proofs.Events.{event_exchange, arrives}
-use Rattle.mesh_core.proofs.Fixed.{push_behind_setup}
+use Rattle.mesh_core.proofs.Fixed.{push_behind_leaves}
 use Rattle.mesh_core.proofs.Keeping.{IsMesh-step_of, IsMesh-push_behind, may_wait-behind}
 use Rattle.mesh_core.proofs.LedgerLaw.{Bag, bag_of_event, bag_keeps_ledger, bag_adds_no_packet, bag_keeps_packets, right_before, right_small}
 use Rattle.mesh_core.proofs.Moves.{mark, Exchange, dumped_out}
@@ -125,7 +125,7 @@ put_back_by_room s r rest is true room t e =
         out = dumped_out s r rest is;
         put = arrival.1;
         move = arrival.2;
-        setup = push_behind_setup between to (onward r.copy);
+        setup = (push_behind_leaves between to (onward r.copy)).0;
       };
       mesh = λ mesh. IsMesh-push_behind between to (onward r.copy) (IsMesh-dumped s rest mesh) (may_wait-behind s.setup r.chip r.out) still;
     })

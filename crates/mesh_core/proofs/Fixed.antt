@@ -1,64 +1,92 @@
 -- A step leaves what a mesh never changes, and so does a list of events.
 use Rattle.std.proofs.Common.{◌≡◌, ℕ, refl, ◌∙◌, Bool, true, false, ◌&&◌, if◌then◌else◌, List, [], ◌∷◌, ◌++◌, Option, Some, None}
-use Rattle.std.specs.Prelude.{unwrap_or}
+use Rattle.std.specs.Prelude.{unwrap_or, slice_set}
 use Rattle.std.specs.List.{slice_get}
 use Rattle.spin_base.specs.declared.chips.Chip.{Chip}
 use Rattle.spin_base.specs.declared.chips.Spot.{Spot}
 use Rattle.spin_base.specs.declared.chips.Port.{Port}
+use Rattle.spin_base.specs.declared.chips.Port.TheVariants.{Local}
 use Rattle.spin_base.specs.declared.routes.Out.{Out}
 use Rattle.spin_base.specs.declared.copies.McCopy.{McCopy}
+use Rattle.spin_base.specs.declared.copies.Delivery.{Delivery}
+use Rattle.spin_base.specs.declared.copies.DumpRec.{DumpRec}
 use Rattle.spin_base.specs.declared.copies.Event.{Event}
 use Rattle.spin_base.specs.declared.copies.Event.TheVariants.{Inject, Take, Send, Dump, Collect}
 use Rattle.machine_desc.specs.Live.{index_of}
+use Rattle.mesh_core.specs.HasRun.{DropsNone}
 use Rattle.mesh_core.specs.State.{State, Hand, Queue, input, core, nowhere, behind, queue_at}
 use Rattle.mesh_core.specs.Step.{onward, has_room_behind, serves, after_serving, push_behind, inject_of, take_of, send_of, dump_of, collect_of, after_event, after_events}
 
-pub push_behind_setup : (s : State) (b : Queue) (k : McCopy) → (push_behind s b k).setup ≡ s.setup
-push_behind_setup s (input i) k = refl
-push_behind_setup s (core v) k = refl
-push_behind_setup s nowhere k = refl
+-- a copy that comes into a queue leaves the setup, the unsent copies and the dump records
+pub push_behind_leaves : (s : State) (b : Queue) (k : McCopy) →
+    ((push_behind s b k).setup ≡ s.setup) × ((push_behind s b k).unsent ≡ s.unsent) × ((push_behind s b k).dumped ≡ s.dumped)
+push_behind_leaves s (input i) k = (refl, refl, refl)
+push_behind_leaves s (core v) k = (refl, refl, refl)
+push_behind_leaves s nowhere k = (refl, refl, refl)
 
--- a choice between a mesh of the same setup and none
-setup-if : (b : Bool) (t s : State) → t.setup ≡ s.setup → (unwrap_or (if b then Some t else None) s).setup ≡ s.setup
-setup-if true t s same = same
-setup-if false t s same = refl
+-- What holds of a mesh, and of all that an event of a kind can make of it, holds after each event of that kind, whether it was
+-- enabled or not.
+module _ (P : State → Type 0) (s : State) (still : P s) where
+  chosen : (b : Bool) (t : State) → P t → P (unwrap_or (if b then Some t else None) s)
+  chosen true t moved = moved
+  chosen false t moved = still
 
-setup-inject_of : (s : State) (v : ℕ) (spot : Option Spot) (unsent : Option (List McCopy)) → (unwrap_or (inject_of s v spot unsent) s).setup ≡ s.setup
-setup-inject_of s v (Some spot) (Some (k ∷ rest)) = setup-if _ _ s refl
-setup-inject_of s v (Some spot) (Some []) = refl
-setup-inject_of s v (Some spot) None = refl
-setup-inject_of s v None unsent = refl
+  pub by_inject : ((unsent : List (List McCopy)) (b : Queue) (k : McCopy) → P (push_behind (record s { unsent = unsent }) b k)) →
+      (v : ℕ) (spot : Option Spot) (unsent : Option (List McCopy)) → P (unwrap_or (inject_of s v spot unsent) s)
+  by_inject moved v (Some spot) (Some (k ∷ rest)) = chosen _ _ (moved (slice_set s.unsent v rest) (input (queue_at s.setup.machine spot.chip Local)) k)
+  by_inject moved v (Some spot) (Some []) = still
+  by_inject moved v (Some spot) None = still
+  by_inject moved v None unsent = still
 
-setup-take_of : (s : State) (c : Chip) (port : Port) (hand : Option (Option Hand)) (queue : Option (List McCopy)) → (unwrap_or (take_of s c port hand queue) s).setup ≡ s.setup
-setup-take_of s c port (Some None) (Some (k ∷ rest)) = setup-if _ _ s refl
-setup-take_of s c port (Some None) (Some []) = refl
-setup-take_of s c port (Some None) None = refl
-setup-take_of s c port (Some (Some h)) queue = refl
-setup-take_of s c port None queue = refl
+  pub by_take : ((inputs : List (List McCopy)) (hands : List (Option Hand)) → P (record s { inputs = inputs; hands = hands })) →
+      (c : Chip) (port : Port) (hand : Option (Option Hand)) (queue : Option (List McCopy)) → P (unwrap_or (take_of s c port hand queue) s)
+  by_take moved c port (Some None) (Some (k ∷ rest)) = chosen _ _ (moved _ _)
+  by_take moved c port (Some None) (Some []) = still
+  by_take moved c port (Some None) None = still
+  by_take moved c port (Some (Some h)) queue = still
+  by_take moved c port None queue = still
 
-setup-send_of : (s : State) (c : Chip) (o : Out) (hand : Option (Option Hand)) → (unwrap_or (send_of s c o hand) s).setup ≡ s.setup
-setup-send_of s c o (Some (Some h)) =
-    let to : Queue = behind s.setup c o in
-    setup-if (serves s c o (Some (Some h)) && has_room_behind s to) (push_behind (after_serving s c o h) to (onward h.copy)) s (push_behind_setup (after_serving s c o h) to (onward h.copy))
-setup-send_of s c o (Some None) = refl
-setup-send_of s c o None = refl
+  pub by_send : ((hands : List (Option Hand)) (b : Queue) (k : McCopy) → P (push_behind (record s { hands = hands }) b k)) →
+      (c : Chip) (o : Out) (hand : Option (Option Hand)) → P (unwrap_or (send_of s c o hand) s)
+  by_send moved c o (Some (Some h)) =
+      chosen (serves s c o (Some (Some h)) && has_room_behind s (behind s.setup c o)) (push_behind (after_serving s c o h) (behind s.setup c o) (onward h.copy))
+      (moved _ (behind s.setup c o) (onward h.copy))
+  by_send moved c o (Some None) = still
+  by_send moved c o None = still
 
-setup-dumped : (s : State) (c : Chip) (o : Out) (hand : Option (Option Hand)) → (unwrap_or (dump_of s c o hand) s).setup ≡ s.setup
-setup-dumped s c o (Some (Some h)) = setup-if _ _ s refl
-setup-dumped s c o (Some None) = refl
-setup-dumped s c o None = refl
+  pub by_dump : ((hands : List (Option Hand)) (dumped : List DumpRec) → P (record s { hands = hands; dumped = dumped })) →
+      (c : Chip) (o : Out) (hand : Option (Option Hand)) → P (unwrap_or (dump_of s c o hand) s)
+  by_dump moved c o (Some (Some h)) = chosen _ _ (moved _ _)
+  by_dump moved c o (Some None) = still
+  by_dump moved c o None = still
 
-setup-collect_of : (s : State) (v : ℕ) (queue : Option (List McCopy)) → (unwrap_or (collect_of s v queue) s).setup ≡ s.setup
-setup-collect_of s v (Some (k ∷ rest)) = refl
-setup-collect_of s v (Some []) = refl
-setup-collect_of s v None = refl
+  pub by_collect : ((cores : List (List McCopy)) (delivered : List Delivery) → P (record s { cores = cores; delivered = delivered })) →
+      (v : ℕ) (queue : Option (List McCopy)) → P (unwrap_or (collect_of s v queue) s)
+  by_collect moved v (Some (k ∷ rest)) = moved _ _
+  by_collect moved v (Some []) = still
+  by_collect moved v None = still
 
+-- no event changes the setup
 pub after_event_setup : (s : State) (e : Event) → (after_event s e).setup ≡ s.setup
-after_event_setup s (Inject v) = setup-inject_of s v (slice_get s.setup.spots v) (slice_get s.unsent v)
-after_event_setup s (Take c port) = setup-take_of s c port (slice_get s.hands (index_of s.setup.machine c)) (slice_get s.inputs (queue_at s.setup.machine c port))
-after_event_setup s (Send c o) = setup-send_of s c o (slice_get s.hands (index_of s.setup.machine c))
-after_event_setup s (Dump c o) = setup-dumped s c o (slice_get s.hands (index_of s.setup.machine c))
-after_event_setup s (Collect v) = setup-collect_of s v (slice_get s.cores v)
+after_event_setup s (Inject v) =
+    by_inject (λ t. t.setup ≡ s.setup) s refl (λ l b k. (push_behind_leaves (record s { unsent = l }) b k).0) v (slice_get s.setup.spots v) (slice_get s.unsent v)
+after_event_setup s (Take c port) =
+    by_take (λ t. t.setup ≡ s.setup) s refl (λ l h. refl) c port (slice_get s.hands (index_of s.setup.machine c)) (slice_get s.inputs (queue_at s.setup.machine c port))
+after_event_setup s (Send c o) =
+    by_send (λ t. t.setup ≡ s.setup) s refl (λ h b k. (push_behind_leaves (record s { hands = h }) b k).0) c o (slice_get s.hands (index_of s.setup.machine c))
+after_event_setup s (Dump c o) = by_dump (λ t. t.setup ≡ s.setup) s refl (λ h l. refl) c o (slice_get s.hands (index_of s.setup.machine c))
+after_event_setup s (Collect v) = by_collect (λ t. t.setup ≡ s.setup) s refl (λ l d. refl) v (slice_get s.cores v)
+
+-- only a Dump makes a dump record
+pub dumped_stays : (s : State) (e : Event) → DropsNone e → (after_event s e).dumped ≡ s.dumped
+dumped_stays s (Inject v) drops =
+    by_inject (λ t. t.dumped ≡ s.dumped) s refl (λ l b k. (push_behind_leaves (record s { unsent = l }) b k).2) v (slice_get s.setup.spots v) (slice_get s.unsent v)
+dumped_stays s (Take c port) drops =
+    by_take (λ t. t.dumped ≡ s.dumped) s refl (λ l h. refl) c port (slice_get s.hands (index_of s.setup.machine c)) (slice_get s.inputs (queue_at s.setup.machine c port))
+dumped_stays s (Send c o) drops =
+    by_send (λ t. t.dumped ≡ s.dumped) s refl (λ h b k. (push_behind_leaves (record s { hands = h }) b k).2) c o (slice_get s.hands (index_of s.setup.machine c))
+dumped_stays s (Dump c o) none = absurd none
+dumped_stays s (Collect v) drops = by_collect (λ t. t.dumped ≡ s.dumped) s refl (λ l d. refl) v (slice_get s.cores v)
 
 pub setup_after : (s : State) (es : List Event) → (after_events s es).setup ≡ s.setup
 setup_after s [] = refl

@@ -31,6 +31,23 @@ pub if_some : {X : Type 0} (b : Bool) (u t : X) → (if b then Some u else None)
 if_some true u t e = (refl, cc)
 if_some false u t e = cc
 
+-- ---- names of queues are told apart
+
+pub same_input : (i j : ℕ) → input i ≡ input j → i ≡ j
+same_input i j same = cc
+
+pub same_core : (v w : ℕ) → core v ≡ core w → v ≡ w
+same_core v w same = cc
+
+pub input_is_no_core : {i v : ℕ} → input i ≡ core v → ⊥
+input_is_no_core same = cc
+
+pub input_is_somewhere : {i : ℕ} → input i ≡ nowhere → ⊥
+input_is_somewhere same = cc
+
+pub core_is_somewhere : {v : ℕ} → core v ≡ nowhere → ⊥
+core_is_somewhere same = cc
+
 -- queues of one place are those of one chip and port
 pub same_queue : (m : Description) (c e : Chip) (p q : Port) → IsInside m c → IsInside m e → queue_at m c p ≡ queue_at m e q → (c ≡ e) × (p ≡ q)
 same_queue m c e p q in_c in_e same =

@@ -3,7 +3,7 @@ use Rattle.std.proofs.Common.{◌≡◌, ℕ, ◌+◌, ◌<◌, ◌≤◌, suc, 
 use Rattle.std.specs.Cmp.{both_ways}
 use Rattle.std.specs.List.{slice_get, Contains}
 use Rattle.list_laws.proofs.Counts.{count_by-map, count_by-cons, count_by-none}
-use Rattle.list_laws.proofs.Members.{Among, among_filter}
+use Rattle.list_laws.proofs.Members.{Among, among_filter, among_only}
 use Rattle.list_laws.proofs.Pairs.{AllPairs-apart}
 use Rattle.list_laws.proofs.Places.{slice_get_there}
 use Rattle.std.proofs.Math.Nat.{add-zero}
@@ -30,7 +30,7 @@ use Rattle.std.proofs.lemmas.Option.{slice_get_within, get_or_from_slice_get}
 use Rattle.machine_desc.specs.declared.trees.Edge.{Edge}
 use Rattle.machine_desc.specs.Live.{far_of, is_live_link, IsLiveLink, IsSite}
 use Rattle.machine_desc.specs.Branch.{Exit, IsBranch, arrival_at}
-use Rattle.machine_desc.proofs.Branches.{ComesBy, comes_by, exit_leads, ExitLeads, exit_of}
+use Rattle.machine_desc.proofs.Branches.{same_exit, ComesBy, comes_by, exit_leads, ExitLeads, exit_of}
 use Rattle.machine_desc.proofs.TreeLemmas.{one_edge_into}
 use Rattle.machine_desc.proofs.Sites.{end_is_no_live_link, same_site}
 use Rattle.machine_desc.proofs.Far.{opposite_of-opposite}
@@ -42,7 +42,7 @@ use Rattle.mesh_core.specs.Step.{last_hop, onward, outputs}
 use Rattle.mesh_core.specs.Trail.{Station, unsent, in_queue, in_hand, at_core, delivered, dumped, Mark, comes_in_there, leaves_there, on_trail, is_on_trail}
 use Rattle.net_tables.specs.NetsOn.{IsWayOn}
 use Rattle.mesh_core.proofs.Moves.{mark, Crosses, IsMove, IsMoveOf}
-use Rattle.mesh_core.proofs.Ways.{Stands, same_exit, vertex_at_stands, vertex_there, vertex_behind_stands, target_site, short_branch, onward_hop, one_place, branch_comes_in, exit_wanted, exit_is_output, wanted_on_branch}
+use Rattle.mesh_core.proofs.Ways.{Stands, vertex_at_stands, vertex_there, vertex_behind_stands, target_site, short_branch, onward_hop, one_place, branch_comes_in, exit_wanted, exit_is_output, wanted_on_branch}
 
 -- ---- what the tests on a trail say
 
@@ -451,14 +451,11 @@ module _ (s : State) (net : NetPlan) (stands : Stands s net) where
       here : (z : Mark) → is_on_trail from to xs z ≡ true → OnSomeTrail z
       here z on' = record { target = t; branch = xs; from = from; to = to; way = w; on = on' }
 
-      only : (z : Mark) → come ≡ z ∷ [] → y ≡ z
-      only z e = elim (subst (λ (l : List Mark). Among y l) e is_come) [ inl same ↦ same | inr none ↦ absurd none ]
-
       -- the one mark that comes is this one
       one : (k : McCopy) (at : Station) (z : Mark) → come ≡ z ∷ [] → z.copy.packet ≡ k.packet → z.copy.key ≡ k.key → z.copy.payload ≡ k.payload →
           is_on_trail from to xs z ≡ true → ComesRight (mark k at) y
       one k at z e packet key payload on' =
-          let same : y ≡ z = only z e in
+          let same : y ≡ z = among_only z y come e is_come in
           subst (λ (m : Mark). ComesRight (mark k at) m) (sym same)
           (record { packet = packet; key = key; payload = payload; trail = here z on' })
 

@@ -14,7 +14,7 @@ pub mod Heavy
 pub mod Keeping
 pub mod Law
 pub mod LedgerLaw
-mod MarkTests
+pub mod MarkTests
 pub mod Moves
 mod NoDump
 mod OneWay

@@ -1,7 +1,7 @@
 -- A test of equality on marks, and a number that each move raises.
 use Rattle.std.proofs.Common.{◌≡◌, ℕ, ◌+◌, ◌*◌, ◌<◌, ◌≤◌, List, [], ◌∷◌, map, Bool, true, false, ◌==◌, ◌&&◌, if◌then◌else◌, Option, Some, None, refl, ap, sym, arith, inl, inr, min, subst}
 use Rattle.std.proofs.lemmas.Bool.{and_parts, eqb-true, eq-eqb, and_from}
-use Rattle.list_laws.proofs.Members.{Among}
+use Rattle.list_laws.proofs.Members.{Among, among_only}
 use Rattle.spin_base.specs.declared.chips.Chip.{Chip}
 use Rattle.spin_base.specs.declared.chips.Port.{Port}
 use Rattle.spin_base.specs.declared.chips.Port.TheVariants.{Link as ByLink, Local}
@@ -140,6 +140,10 @@ dump_raises : (last : Bool) (c : Chip) (o : Out) → stage last (in_hand c o) < 
 dump_raises true c o = omega arith
 dump_raises false c o = omega arith
 
+-- a hop number that is not the greatest is below it
+pub below_last : (n : ℕ) → n ≤ last_hop → (n == last_hop) ≡ false → n < last_hop
+below_last n within other = grind arith
+
 -- a station behind a router, of the copy with one hop more
 onward_raises : (k : McCopy) (at to : Station) → ((last : Bool) → stage last at ≤ 3) → stage true at ≤ 2 → ((last : Bool) → 1 ≤ stage last to) → stage true to ≡ 3 → k.hop ≤ last_hop →
     (last : Bool) → (k.hop == last_hop) ≡ last → 5 * k.hop + stage last at < 5 * min (k.hop + 1) last_hop + stage (min (k.hop + 1) last_hop == last_hop) to
@@ -154,20 +158,14 @@ onward_raises k at to to_three to_two from_one three within false is =
     let low : stage false at ≤ 3 = to_three false in
     let some = from_one (min (k.hop + 1) last_hop == last_hop) in
     omega arith
-  where
-    below_last : (n : ℕ) → n ≤ last_hop → (n == last_hop) ≡ false → n < last_hop
-    below_last n within' e = grind arith
 
 -- each mark that comes is further on than the one that leaves
 pub move_raises : (s : State) (x : Mark) (come : List Mark) → x.copy.hop ≤ last_hop → IsMove s x come → (y : Mark) → Among y come → rank x < rank y
 unfolding rank
 move_raises s x come within move y is_come = by_station x.copy x.station within move
   where
-    only : (z : Mark) → come ≡ z ∷ [] → y ≡ z
-    only z e = elim (subst (λ (l : List Mark). Among y l) e is_come) [ inl same ↦ same | inr none ↦ absurd none ]
-
     one : (k : McCopy) (at to : Station) → come ≡ mark k to ∷ [] → ((last : Bool) → stage last at < stage last to) → rank (mark k at) < rank y
-    one k at to e further = subst (λ (z : Mark). rank (mark k at) < rank z) (sym (only (mark k to) e)) (same_copy_raises k at to further)
+    one k at to e further = subst (λ (z : Mark). rank (mark k at) < rank z) (sym (among_only (mark k to) y come e is_come)) (same_copy_raises k at to further)
 
     in_queue_stage : (last : Bool) (c : Chip) (p : Port) → 1 ≤ stage last (in_queue c p)
     in_queue_stage true c p = omega arith
@@ -177,10 +175,10 @@ move_raises s x come within move y is_come = by_station x.copy x.station within 
         rank (mark k at) < rank y
     crossing k c o at to_three to_two small (inl cross) =
         let to : Station = in_queue cross.1 (ByLink (opposite_of cross.0)) in
-        subst (λ (z : Mark). rank (mark k at) < rank z) (sym (only (mark (onward k) to) cross.5))
+        subst (λ (z : Mark). rank (mark k at) < rank z) (sym (among_only (mark (onward k) to) y come cross.5 is_come))
         (onward_raises k at to to_three to_two (λ last. in_queue_stage last cross.1 (ByLink (opposite_of cross.0))) refl small (k.hop == last_hop) refl)
     crossing k c o at to_three to_two small (inr cross) =
-        subst (λ (z : Mark). rank (mark k at) < rank z) (sym (only (mark (onward k) (at_core cross.0)) cross.3))
+        subst (λ (z : Mark). rank (mark k at) < rank z) (sym (among_only (mark (onward k) (at_core cross.0)) y come cross.3 is_come))
         (onward_raises k at (at_core cross.0) to_three to_two (λ last. omega arith) refl small (k.hop == last_hop) refl)
 
     held_stage : (last : Bool) (c : Chip) (o : Out) → stage last (in_hand c o) ≤ 3

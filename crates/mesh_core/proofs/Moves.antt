@@ -17,8 +17,7 @@ use Rattle.spin_base.specs.declared.copies.DumpRec.{DumpRec}
 use Rattle.spin_base.specs.Links.{opposite_of, port_number}
 use Rattle.machine_desc.specs.Description.{Description}
 use Rattle.machine_desc.specs.Live.{far_of, index_of, chip_of, is_live_link, IsInside, IsLiveLink}
-use Rattle.machine_desc.proofs.Far.{same_index, index_below}
-use Rattle.machine_desc.proofs.Live.{chip_of-inside, index_of-chip_of}
+pub use Rattle.machine_desc.proofs.Live.{chip_of-index_of}
 use Rattle.mesh_core.specs.State.{State, Hand, queue_at, vertex_behind}
 use Rattle.mesh_core.specs.Step.{in_hand as held_for, outputs, onward}
 use Rattle.mesh_core.specs.Trail.{Station, unsent, in_queue, in_hand, at_core, delivered, dumped, Mark}
@@ -62,11 +61,6 @@ pub record Exchange (s t : State) : Type 0 where
   pub setup : t.setup ≡ s.setup
 
 -- ---- the numbers of queues
-
--- the chip of a chip's index
-pub chip_of-index_of : (m : Description) (c : Chip) → IsInside m c → chip_of m (index_of m c) ≡ c
-chip_of-index_of m c inside =
-    same_index m (chip_of m (index_of m c)) c (chip_of-inside m (index_of m c) (index_below m c inside)) inside (index_of-chip_of m (index_of m c))
 
 pub port_of-port_number : (port : Port) → port_of (port_number port) ≡ port
 port_of-port_number (ByLink East) = refl

@@ -1,7 +1,7 @@
 -- Facts on the ways of a net: their ends are vertices, their places are few, and each wanted output lies on one.
-use Rattle.std.proofs.Common.{◌≡◌, ◌⊎◌, ℕ, ◌+◌, ◌-◌, ◌*◌, ◌<◌, ◌≤◌, suc, zero, List, map, Bool, true, false, Option, Some, None, refl, ap, sym, ◌∙◌, subst, arith, inl, inr, length, min, nat_lt, cond}
+use Rattle.std.proofs.Common.{◌≡◌, ◌⊎◌, ℕ, ◌+◌, ◌*◌, ◌<◌, ◌≤◌, suc, zero, List, map, Bool, true, Option, Some, None, refl, ap, sym, ◌∙◌, subst, arith, inl, inr, length, min}
 use Rattle.std.specs.Prelude.{position}
-use Rattle.std.proofs.lemmas.Bool.{ltb-true, and_from}
+use Rattle.std.proofs.lemmas.Bool.{and_from}
 use Rattle.std.proofs.lemmas.List.Elements.{All-contains}
 use Rattle.std.proofs.Math.Nat.{mul-le-mul_left}
 use Rattle.std.specs.List.{slice_get, slice_index_or, All, Contains}
@@ -13,10 +13,10 @@ use Rattle.spin_base.specs.declared.chips.Chip.{Chip}
 use Rattle.spin_base.specs.declared.chips.Dir.{Dir}
 use Rattle.spin_base.specs.declared.chips.Port.TheVariants.{Local}
 use Rattle.spin_base.specs.declared.routes.Out.{Out}
-use Rattle.spin_base.specs.declared.routes.Out.TheVariants.{Link, Core}
+use Rattle.spin_base.specs.declared.routes.Out.TheVariants.{Link}
 use Rattle.spin_base.specs.Equality.{chip_eq, out_eq, spot_eq}
-use Rattle.spin_base.specs.Links.{dir_at}
 use Rattle.spin_base.specs.Outputs.{IsOutput, out_of}
+use Rattle.spin_base.proofs.Spots.{out_of-has_bit}
 use Rattle.spin_base.proofs.Equality.{chip_eq_same, out_eq_same, spot_eq_same, spot_eq_true}
 use Rattle.machine_desc.specs.declared.trees.Edge.{Edge}
 use Rattle.machine_desc.specs.Description.{Description}
@@ -24,7 +24,7 @@ use Rattle.machine_desc.specs.Live.{IsLiveChip, IsSite}
 use Rattle.machine_desc.specs.RoutingTree.{IsRoutingTree}
 use Rattle.machine_desc.specs.Branch.{Exit, IsBranch, arrival_at}
 use Rattle.machine_desc.proofs.Sites.{site_parts}
-use Rattle.machine_desc.proofs.Branches.{ComesBy, comes_by, exit_leads, way_first, same_place, branch_short, end_on_branch, link_on_branch, exit_of, last_exit, ExitLeads}
+use Rattle.machine_desc.proofs.Branches.{same_exit, ComesBy, comes_by, exit_leads, way_first, same_place, branch_short, end_on_branch, link_on_branch, exit_of, last_exit, ExitLeads}
 use Rattle.net_tables.specs.declared.nets.NetPlan.{NetPlan}
 use Rattle.net_tables.specs.Outputs.{leads_to_spot, is_wanted, ComesIn}
 use Rattle.net_tables.specs.NetsOn.{vertex_at, AreNetsOn, IsWayOn}
@@ -144,14 +144,6 @@ exit_wanted s net t has xs is i x at = by_end (exit_leads s.setup.machine net.tr
         subst (λ (c : Chip). is_wanted net.tree.edges net.targets c x.out ≡ true) chip
         (subst (λ (o : Out). is_wanted net.tree.edges net.targets t.chip o ≡ true) (sym out) (end_wanted net.tree.edges net.targets t has))
 
--- an output that leads to a spot is one that a route can name
-pub spot_output : (p : ℕ) → IsOutput (out_of p)
-spot_output p = by_size (nat_lt p 18) refl
-  where
-    by_size : (b : Bool) → nat_lt p 18 ≡ b → IsOutput (cond b (Core p) (Link (dir_at (p - 18))))
-    by_size true low = ltb-true p 18 low
-    by_size false high = tt
-
 -- the exits of a branch are outputs that a route can name
 pub exit_is_output : (s : State) (net : NetPlan) → (t : Spot) → (xs : List Exit) →
     IsBranch s.setup.machine net.tree.root net.tree.edges t xs → (i : ℕ) (x : Exit) → slice_get xs i ≡ Some x → IsOutput x.out
@@ -159,7 +151,7 @@ exit_is_output s net t xs is i x at = by_end (exit_leads s.setup.machine net.tre
   where
     by_end : ExitLeads s.setup.machine net.tree.edges t xs i x → IsOutput x.out
     by_end (inl (d, out, in_tree, next)) = let link : IsOutput (Link d) = tt in subst IsOutput (sym out) link
-    by_end (inr (chip, out, last)) = subst IsOutput (sym out) (spot_output t.core)
+    by_end (inr (chip, out, last)) = subst IsOutput (sym out) (out_of-has_bit t.core)
 
 -- each wanted output lies on a branch, at the chip's place
 pub record OnBranch (s : State) (net : NetPlan) (x : Exit) : Type 0 where
@@ -169,13 +161,6 @@ pub record OnBranch (s : State) (net : NetPlan) (x : Exit) : Type 0 where
   pub is_branch : IsBranch s.setup.machine net.tree.root net.tree.edges target branch
   pub place : ℕ
   pub at : slice_get branch place ≡ Some x
-
--- exits of one chip by one output are one
-pub same_exit : (x y : Exit) → x.chip ≡ y.chip → x.out ≡ y.out → x ≡ y
-same_exit x y e f = made x.chip y.chip x.out y.out e f
-  where
-    made : (a b : Chip) (p q : Out) → a ≡ b → p ≡ q → (let v : Exit = record { chip = a; out = p } in let w : Exit = record { chip = b; out = q } in v ≡ w)
-    made a b p q e' f' = cc
 
 pub wanted_on_branch : (s : State) (net : NetPlan) → Stands s net → (x : Exit) → is_wanted net.tree.edges net.targets x.chip x.out ≡ true → OnBranch s net x
 wanted_on_branch s net stands x wanted = by_case (wanted_cases net.tree.edges net.targets x.chip x.out wanted)

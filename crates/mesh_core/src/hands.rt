@@ -13,7 +13,7 @@ use std::marker::Model;
 use tcam_find::Tcam;
 
 /// A copy in a router's hand: the port at which it came in, and the outputs by which it still has to leave.
-#[derive(Debug, Drop)]
+#[derive(Drop)]
 pub struct Hand {
     pub copy: McCopy,
     pub port: Port,

@@ -2,9 +2,9 @@
 ghost use Rattle.std.specs.Prelude.{◌≡◌, ◌≢◌, ◌+◌, ◌*◌, ◌<◌, ◌≤◌, ◌++◌, [], ◌∷◌, Some, None, All, AllPairs, length, slice_get, slice_set, slice_index_or, replicate, IfOk, OnOk, OnErr};
 ghost use Rattle.std.specs.Option.{option_copied};
 
-use crate::hands::{Hand, empty_hands};
-use crate::parts::MeshParts;
-use crate::queues::{empty_queues, push_at};
+use crate::hands::Hand;
+use crate::parts::{EmptyLists, MeshParts};
+use crate::queues::push_at;
 use crate::setups::{MeshSetup, queue_place};
 use machine_desc::Machine;
 use spin_base::{Chip, Delivery, DumpRec, Fifo, McCopy, Memory, Port, Seq, Spot};
@@ -65,16 +65,13 @@ impl Mesh {
         let chips = machine.chips();
         let vertices = spots.len();
         let setup = MeshSetup::new(alloc, machine, spots, tables, queue)?;
-        let unsent = empty_queues(alloc, vertices)?;
-        let inputs = empty_queues(alloc, Port::COUNT as usize * chips)?;
-        let hands = empty_hands(alloc, chips)?;
-        let cores = empty_queues(alloc, vertices)?;
+        let lists = EmptyLists::new(alloc, vertices, chips)?;
         Ok(Mesh {
             setup,
-            unsent,
-            inputs,
-            hands,
-            cores,
+            unsent: lists.unsent,
+            inputs: lists.inputs,
+            hands: lists.hands,
+            cores: lists.cores,
             delivered: Seq::new(alloc),
             dumped: Fifo::new(alloc),
         })

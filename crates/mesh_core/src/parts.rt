@@ -1,7 +1,11 @@
 // A mesh in its parts.
-use crate::hands::Hand;
+ghost use Rattle.std.specs.Prelude.{◌≡◌, ◌*◌, ◌≤◌, [], None, replicate, IfOk};
+
+use crate::hands::{Hand, empty_hands};
+use crate::queues::empty_queues;
 use crate::setups::MeshSetup;
-use spin_base::{Delivery, DumpRec, Fifo, McCopy, Seq};
+use spin_base::{Delivery, DumpRec, Fifo, McCopy, Memory, Port, Seq};
+use std::alloc::Global;
 use std::marker::Model;
 
 /// A mesh in its parts: what it never changes, and lists. `unsent` and `cores` have an item for each vertex, `hands` one
@@ -25,4 +29,35 @@ impl Model for MeshParts {
     ghost use Rattle.mesh_core.specs.InParts.{state_in};
 
     ghost view = { state_in };
+}
+
+// The lists of a mesh without a copy.
+#[derive(Drop)]
+pub(crate) struct EmptyLists {
+    pub(crate) unsent: Vec<Fifo<McCopy>>,
+    pub(crate) inputs: Vec<Fifo<McCopy>>,
+    pub(crate) hands: Vec<Option<Hand>>,
+    pub(crate) cores: Vec<Fifo<McCopy>>,
+}
+
+impl EmptyLists {
+    // They are made apart from the mesh, so that only they are to be let go where memory runs out.
+    pub(crate) fn new(alloc: Global, vertices: usize, chips: usize) -> Result<EmptyLists, Memory>
+        requires { chips ≤ 4096 }
+        ensures unsent { IfOk result (λ lists. lists.unsent.items ≡ replicate vertices []) }
+        ensures inputs { IfOk result (λ lists. lists.inputs.items ≡ replicate (7 * chips) []) }
+        ensures hands { IfOk result (λ lists. lists.hands.items ≡ replicate chips None) }
+        ensures cores { IfOk result (λ lists. lists.cores.items ≡ replicate vertices []) }
+    {
+        let unsent = empty_queues(alloc, vertices)?;
+        let inputs = empty_queues(alloc, Port::COUNT as usize * chips)?;
+        let hands = empty_hands(alloc, chips)?;
+        let cores = empty_queues(alloc, vertices)?;
+        Ok(EmptyLists {
+            unsent,
+            inputs,
+            hands,
+            cores,
+        })
+    }
 }

@@ -2,14 +2,14 @@
 use spin_base::{Chip, Out, Port};
 
 /// Whether an event was enabled: the mesh moved, or nothing changed.
-#[derive(Clone, Copy, Debug, PartialEq, Eq, Hash)]
+#[derive(Clone, Copy, Debug, PartialEq, Eq)]
 pub enum Did {
     Moved,
     Idle,
 }
 
 /// A place where a copy waits.
-#[derive(Clone, Copy, Debug, PartialEq, Eq, PartialOrd, Ord, Hash)]
+#[derive(Clone, Copy, PartialEq, Eq)]
 pub enum Place {
     /// The input queue of a chip's port.
     InQueue(Chip, Port),
@@ -20,7 +20,7 @@ pub enum Place {
 }
 
 /// Where a target's copy of a packet is.
-#[derive(Clone, Copy, Debug, PartialEq, Eq, Hash)]
+#[derive(Clone, Copy, PartialEq, Eq)]
 pub enum Where {
     Unsent,
     At(Place),

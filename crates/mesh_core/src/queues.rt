@@ -8,7 +8,7 @@ use spin_base::{Fifo, McCopy, Memory};
 use std::alloc::Global;
 
 // The queue behind an output, by its place among the input queues or by the vertex of its core.
-#[derive(Clone, Copy, Debug)]
+#[derive(Clone, Copy)]
 pub enum Queue {
     Input(usize),
     Core(usize),
