@@ -1,24 +1,15 @@
 -- Nets have at most one right list of blocks.
-use Rattle.std.proofs.Common.{◌≡◌, ℕ, ◌^◌, ◌<◌, ◌≤◌, List, ◌++◌, length, take, slice_get, Option, None, Some, MatchOption, sym, ap, ◌∙◌, subst, inl, inr, arith}
-use Rattle.std.specs.Prelude.{bit_and}
+use Rattle.std.proofs.Common.{◌≡◌, ℕ, ◌≤◌, List, ◌++◌, length, take, slice_get, Option, None, Some, MatchOption, refl, sym, ap, ◌∙◌, subst, inl, inr, arith}
 use Rattle.std.proofs.lemmas.List.{take_all}
 use Rattle.std.proofs.lemmas.Option.{slice_get_cases, slice_get_within}
 use Rattle.std.proofs.lemmas.Bool.{cases_lt}
-use Rattle.list_laws.proofs.Places.{slice_get_there}
+use Rattle.list_laws.proofs.Places.{slice_get_there, one_item_at}
 use Rattle.list_laws.proofs.Determined.{EachFollows, determined_begins}
 use Rattle.spin_base.specs.declared.blocks.Block.{Block}
 use Rattle.app_graph.specs.declared.graphs.Net.{Net}
-use Rattle.tern_word.proofs.BlockLaws.{one_block}
+use Rattle.tern_word.proofs.BlockLaws.{same_block}
 use Rattle.key_alloc.specs.KeyBlocks.{size_of, fixed_of, IsOpen, IsLeastBlock, IsBlockFor, AreFirstBlocks, AreRightBlocks, AreKeysOut}
 use Rattle.key_alloc.proofs.Sizes.{one_size}
-
-same_parts : (x y : Block) → x.key ≡ y.key → x.mask ≡ y.mask → x ≡ y
-same_parts x y keys masks =
-    let Q : ℕ → Type 0 = λ m. (w : bit_and x.key m ≡ x.key) (s : m < 2 ^ 32) → ◌≡◌ {A = Block} x (record { key = x.key; mask = m; within = w; small = s }) in
-    let q : Q y.mask = subst Q masks (λ w s. one_block x.key x.mask x.within w x.small s) in
-    let R : ℕ → Type 0 = λ k. (w : bit_and k y.mask ≡ k) → ◌≡◌ {A = Block} x (record { key = k; mask = y.mask; within = w; small = y.small }) in
-    let r : R y.key = subst R keys (λ w. q w y.small) in
-    r y.within
 
 same_least : (taken : List Block) (keys : ℕ) (x y : Block) → IsLeastBlock taken keys x → IsLeastBlock taken keys y → x ≡ y
 same_least taken keys x y a b =
@@ -26,10 +17,10 @@ same_least taken keys x y a b =
     let masks : x.mask ≡ y.mask = omega (arith, sizes, x.small, y.small) in
     let up : x.key ≤ y.key = a.least y.key (subst (λ s. IsOpen taken s y.key) (sym sizes) b.may) in
     let down : y.key ≤ x.key = b.least x.key (subst (λ s. IsOpen taken s x.key) sizes a.may) in
-    same_parts x y (omega arith) masks
+    same_block x y (omega arith) masks
 
-same_block : (taken : List Block) (net : Net) (x y : Block) → IsBlockFor taken net x → IsBlockFor taken net y → x ≡ y
-same_block taken net x y = by_fixed net.fixed
+one_for_net : (taken : List Block) (net : Net) (x y : Block) → IsBlockFor taken net x → IsBlockFor taken net y → x ≡ y
+one_for_net taken net x y = by_fixed net.fixed
   where
     by_fixed : (o : Option Block) → MatchOption o (IsLeastBlock taken net.keys x) (λ f. x ≡ f) → MatchOption o (IsLeastBlock taken net.keys y) (λ f. y ≡ f) → x ≡ y
     by_fixed None a b = same_least taken net.keys x y a b
@@ -41,9 +32,8 @@ Follows nets before n b = (net : Net) × (slice_get nets n ≡ Some net) × IsBl
 
 same_follower : (nets : List Net) (before : List Block) (n : ℕ) (x y : Block) → Follows nets before n x → Follows nets before n y → x ≡ y
 same_follower nets before n x y a b =
-    let one : Some a.0 ≡ Some b.0 = sym a.1 ∙ b.1 in
-    let net : a.0 ≡ b.0 = cc in
-    same_block (fixed_of nets ++ before) b.0 x y (subst (λ z. IsBlockFor (fixed_of nets ++ before) z x) net a.2) b.2
+    let net = one_item_at nets n n a.0 b.0 refl a.1 b.1 in
+    one_for_net (fixed_of nets ++ before) b.0 x y (subst (λ z. IsBlockFor (fixed_of nets ++ before) z x) net a.2) b.2
 
 followed : (nets : List Net) (xs : List Block) → AreFirstBlocks nets xs → EachFollows (Follows nets) (same_follower nets) xs
 followed nets xs first n x is =

@@ -9,6 +9,7 @@ use Rattle.spin_base.specs.declared.wants.Memory.{Memory}
 use Rattle.app_graph.specs.declared.graphs.Net.{Net}
 use Rattle.range_store.specs.declared.holes.Hole.{Hole}
 use Rattle.range_store.specs.Regions.{AreRuns, IsFirstFit, HasNoFit, has_range, is_hole_range, is_free, in_range, end_of}
+use Rattle.list_laws.proofs.Tests.{or_neither}
 use Rattle.range_store.proofs.HolePlaces.{clash, has_facts, free_within, free_in_range, range_of_free}
 use Rattle.key_alloc.proofs.Ranges.{in_facts, free_of, regroup}
 use Rattle.key_alloc.specs.KeyBlocks.{size_of, Misses, IsSizeFor, IsOpen, IsLeastBlock, IsBlockFor}
@@ -106,11 +107,6 @@ taken_again taken b free state has = record {
   whole = λ s p o. state.whole s p (open_before taken b s p o);
 }
   where
-    or_neither : (a c : Bool) → c ≡ false → (a || (c || false)) ≡ a
-    or_neither true c e = refl
-    or_neither false true e = clash refl e
-    or_neither false false e = refl
-
     said_twice : (k : ℕ) → (has_key k b ≡ true) ⊎ (has_key k b ≡ false) → (list_any (has_key k) taken || (has_key k b || false)) ≡ list_any (has_key k) taken
     said_twice k (inl mine) =
         let any : list_any (has_key k) taken ≡ true = list_any_at (has_key k) taken has.0 b has.1 (ap (has_key k) has.2 ∙ mine) in

@@ -8,7 +8,8 @@ use Rattle.std.proofs.lemmas.Option.{slice_get-get_or, slice_get_within}
 use Rattle.range_store.specs.declared.holes.Hole.{Hole}
 use Rattle.range_store.specs.Fits.{AreNeighbours}
 use Rattle.range_store.specs.Regions.{AreRuns, has_range, is_free, in_range, end_of}
-use Rattle.range_store.proofs.RunLemmas.{next, runs_split, runs_join, earlier, range_from, fits_any, drop_got, false_true}
+use Rattle.range_store.proofs.RunLemmas.{next, runs_split, runs_join, earlier, fits_any, drop_got}
+use Rattle.range_store.proofs.HolePlaces.{clash, has_from}
 
 -- one hole in place of some, of which it has the places, and those of a range
 module _ (n p s : ℕ) (pre mid post : List Hole) (m : Hole) (runs : AreRuns 0 n (pre ++ (mid ++ post)))
@@ -72,17 +73,18 @@ module _ (n p s a : ℕ) (xs : List Hole) (some : 0 < s) (within : p + s ≤ n) 
     (before : (k : ℕ) (h : Hole) → k < a → slice_get xs k ≡ Some h → h.place < p)
     (first : (h : Hole) → slice_get xs a ≡ Some h → p ≤ h.place) where
   free_at : (i : ℕ) (h : Hole) (k : ℕ) → slice_get xs i ≡ Some h → h.place ≤ k → k < end_of h → is_free xs k ≡ true
-  free_at i h k e low high = fits_any xs i h 1 k e (range_from k 1 h low (omega arith))
+  free_at i h k e low high = fits_any xs i h 1 k e (has_from k 1 h low (omega arith))
 
-  clash : {A : Type 0} (i : ℕ) (h : Hole) (k : ℕ) → slice_get xs i ≡ Some h → h.place ≤ k → k < end_of h → p ≤ k → k < p + s → A
-  clash {A} i h k e low high from to =
-      let inside : in_range p s k ≡ true = grind (arith, nat_tests) in false_true (sym (taken k inside) ∙ free_at i h k e low high)
+  -- a place is not both free and of the range
+  both : {A : Type 0} (i : ℕ) (h : Hole) (k : ℕ) → slice_get xs i ≡ Some h → h.place ≤ k → k < end_of h → p ≤ k → k < p + s → A
+  both {A} i h k e low high from to =
+      let inside : in_range p s k ≡ true = grind (arith, nat_tests) in clash (free_at i h k e low high) (taken k inside)
 
   right_gap : (r : Hole) → slice_get xs a ≡ Some r → p + s ≤ r.place
   right_gap r e =
       let long = (some_len 0 n xs a r runs e).0 in
       elim (cases_lt r.place (p + s)) [
-        | inl less ↦ clash a r r.place e (omega arith) (omega (arith, long)) (first r e) less
+        | inl less ↦ both a r r.place e (omega arith) (omega (arith, long)) (first r e) less
         | inr more ↦ more
       ]
 
@@ -90,7 +92,7 @@ module _ (n p s a : ℕ) (xs : List Hole) (some : 0 < s) (within : p + s ≤ n) 
   left_gap i l is e =
       let low = before i l (omega arith) e in
       elim (cases_lt p (end_of l)) [
-        | inl less ↦ clash i l p e (omega arith) less (omega arith) (omega arith)
+        | inl less ↦ both i l p e (omega arith) less (omega arith) (omega arith)
         | inr more ↦ more
       ]
 

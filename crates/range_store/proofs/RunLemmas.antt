@@ -1,5 +1,5 @@
 -- Holes as runs of free places, and what a range leaves of them.
-use Rattle.std.proofs.Common.{◌≡◌, ◌≢◌, ℕ, ◌+◌, ◌-◌, ◌%◌, ◌<◌, ◌≤◌, min, max, Bool, true, false, true≢false, not, ◌&&◌, ◌||◌, leb, ltb, List, [], ◌∷◌, ◌++◌, length, get_or, set, take, drop, refl, sym, ap, ap₂, ◌∙◌, ◌*◌, ◌/◌, subst, arith, zero, suc, Some, slice_get, inl, inr, append_assoc}
+use Rattle.std.proofs.Common.{◌≡◌, ◌≢◌, ℕ, ◌+◌, ◌-◌, ◌%◌, ◌<◌, ◌≤◌, min, max, Bool, true, false, not, ◌&&◌, ◌||◌, leb, ltb, List, [], ◌∷◌, ◌++◌, length, get_or, set, take, drop, refl, sym, ap, ap₂, ◌∙◌, ◌*◌, ◌/◌, subst, arith, zero, suc, Some, slice_get, inl, inr, append_assoc}
 use Rattle.std.proofs.lemmas.Bool.{cases_Bool, cases_lt, cases_eq, or_cases, or_parts, or_right}
 use Rattle.std.proofs.lemmas.Option.{get_or_from_slice_get, slice_get_within}
 use Rattle.std.proofs.lemmas.List.{set_split, set_at, length-take-le, length_push, take-append-drop}
@@ -9,13 +9,8 @@ use Rattle.std.proofs.Math.Nat.{mul-le-mul_left, mul-mod_right, mod_self, mod-eq
 use Rattle.range_store.specs.declared.holes.Hole.{Hole}
 use Rattle.std.specs.Int.{next_multiple_of}
 use Rattle.range_store.specs.Fits.{FitsAt, IsLeastIn, NoneIn}
+use Rattle.range_store.proofs.HolePlaces.{clash, has_facts, has_from}
 use Rattle.range_store.specs.Regions.{AreRuns, IsFirstFit, HasNoFit, has_range, is_hole_range, is_free, in_range, end_of, hole_of, rest_of, without}
-
-pub range_facts : (p s : ℕ) (h : Hole) → has_range p s h ≡ true → (h.place ≤ p) × (p + s ≤ end_of h)
-range_facts p s h e = (grind (arith, nat_tests), grind (arith, nat_tests))
-
-pub range_from : (p s : ℕ) (h : Hole) → h.place ≤ p → p + s ≤ end_of h → has_range p s h ≡ true
-range_from p s h a b = grind (arith, nat_tests)
 
 -- an earlier beginning may stand before the same holes
 pub earlier : (from to n : ℕ) (hs : List Hole) → AreRuns from n hs → to ≤ from → AreRuns to n hs
@@ -143,8 +138,8 @@ least_in h s y some low room =
     let m = multiple h.place y some in
     record {
       aligned = m.0;
-      fits = range_from _ s h (omega arith) (omega arith);
-      least = λ q even here. least_multiple h.place y q _ some m.0 m.1 (range_facts q s h here).0 even;
+      fits = has_from _ s h (omega arith) (omega arith);
+      least = λ q even here. least_multiple h.place y q _ some m.0 m.1 (has_facts q s h here).0 even;
     }
 
 pub none_in : (h : Hole) (s y : ℕ) → 0 < s → 0 < y → end_of h - next_multiple_of h.place y < s → NoneIn h s y
@@ -152,7 +147,7 @@ none_in h s y size some short q even =
     elim (cases_Bool (has_range q s h)) [
       | inl here ↦ (
           let m = multiple h.place y some in
-          let facts = range_facts q s h here in
+          let facts = has_facts q s h here in
           let low = least_multiple h.place y q _ some m.0 m.1 facts.0 even in absurd (omega (arith, facts.1))
           )
       | inr none ↦ none
@@ -168,11 +163,8 @@ rest_is p s h low high =
     let x : max h.place (p + s) ≡ p + s = omega arith in
     ap₂ (λ a b. hole_of h.place a ++ hole_of b (end_of h)) m x
 
-pub false_true : {A : Type 0} → false ≡ true → A
-false_true e = absurd (true≢false (sym e))
-
 or_second : (a b : Bool) → a ≡ false → (a || b) ≡ true → b ≡ true
-or_second true b e f = false_true (sym e)
+or_second true b e f = clash refl e
 or_second false b e f = f
 
 pub drop_got : (xs : List Hole) (i : ℕ) (h : Hole) → slice_get xs i ≡ Some h → drop i xs ≡ h ∷ drop (suc i) xs
@@ -219,7 +211,7 @@ pub read_hole : (xs : List Hole) (i p s : ℕ) (r : Hole) → FitsAt xs i p s �
     → (r.place ≤ p) × (p + s ≤ end_of r) × (end_of r ≤ 4294967296) × ((h : Hole) → slice_get xs i ≡ Some h → r ≡ h)
 read_hole xs i p s r f is runs =
     let same : (h : Hole) → slice_get xs i ≡ Some h → r ≡ h = λ h e. is ∙ (got xs i h r e).0 in
-    let facts = range_facts p s f.hole f.fits in
+    let facts = has_facts p s f.hole f.fits in
     let below = end_below 0 4294967296 xs i r runs f.inside in
     subst (λ (z : Hole). (z.place ≤ p) × (p + s ≤ end_of z) × (end_of z ≤ 4294967296) × ((h : Hole) → slice_get xs i ≡ Some h → z ≡ h))
     (sym (same f.hole f.is))
@@ -234,10 +226,10 @@ fits_any (x ∷ xs) (suc i) h size place is fits = let rest = fits_any xs i h si
 
 -- a range in one of these holes begins no earlier than they do
 begins : (from n : ℕ) (xs : List Hole) (q size : ℕ) → AreRuns from n xs → is_hole_range xs q size ≡ true → from ≤ q
-begins from n [] q size runs fits = absurd (false_true fits)
+begins from n [] q size runs fits = clash fits refl
 begins from n (x ∷ xs) q size runs fits =
     elim (or_cases (has_range q size x) _ fits) [
-      | inl here ↦ (let facts = range_facts q size x here in let low = runs.0 in omega (arith, facts.0))
+      | inl here ↦ (let facts = has_facts q size x here in let low = runs.0 in omega (arith, facts.0))
       | inr later ↦ (let rest = begins (end_of x + 1) n xs q size runs.3 later in let low = runs.0 in omega (arith, rest))
     ]
 
@@ -250,7 +242,7 @@ least_of from n (x ∷ xs) zero h size align place q runs is here none even fits
       | inl mine ↦ here.least q even (ap (has_range q size) (sym e) ∙ mine)
       | inr later ↦ (
           let rest = begins (end_of x + 1) n xs q size runs.3 later in
-          let facts = range_facts place size h here.fits in
+          let facts = has_facts place size h here.fits in
           let same = ap end_of e in omega (arith, rest, facts.1, same)
           )
     ]
@@ -306,7 +298,7 @@ pub record IsCut (n p s : ℕ) (xs ys : List Hole) : Type 0 where
 pub cut_is : (n p s i : ℕ) (xs ys : List Hole) → AreRuns 0 n xs → 0 < s → FitsAt xs i p s
     → ((h : Hole) → slice_get xs i ≡ Some h → ys ≡ take i xs ++ (rest_of p s h ++ drop (i + 1) xs)) → IsCut n p s xs ys
 cut_is n p s i xs ys runs some f is =
-    let facts = range_facts p s f.hole f.fits in
+    let facts = has_facts p s f.hole f.fits in
     let up : i + 1 ≡ suc i = omega arith in
     let old : xs ≡ take i xs ++ (f.hole ∷ drop (suc i) xs) = sym (take-append-drop i xs) ∙ ap (λ d. take i xs ++ d) (drop_got xs i f.hole f.is) in
     let new : ys ≡ take i xs ++ (rest_of p s f.hole ++ drop (suc i) xs) = is f.hole f.is ∙ ap (λ j. take i xs ++ (rest_of p s f.hole ++ drop j xs)) up in
