@@ -4,7 +4,7 @@ use Rattle.std.specs.List.{Contains, Any}
 use Rattle.std.proofs.lemmas.Bool.{cases_eq}
 use Rattle.std.proofs.lemmas.List.{append-nil, append_assoc, take_more, get_or-set_same, get_or-set_other}
 use Rattle.std.proofs.lemmas.List.Elements.{All-push, All-nil, Contains-append_left, Contains-push, Contains-push_cases}
-use Rattle.std.proofs.lemmas.Option.{same_Some}
+use Rattle.std.proofs.lemmas.Option.{none-some, same_Some}
 use Rattle.spin_base.specs.declared.chips.Chip.{Chip}
 use Rattle.spin_base.specs.declared.chips.Dir.{Dir}
 use Rattle.machine_desc.specs.declared.trees.Edge.{Edge}
@@ -135,13 +135,10 @@ marked_past m old new links i d within nowhere so_far =
         | inl was ↦ inl was
         | inr any ↦ elim (any_push m (take i links) e c any) [
           | inl before ↦ inr before
-          | inr here ↦ absurd (none_some c (sym nowhere ∙ here))
+          | inr here ↦ absurd (none-some c (sym nowhere ∙ here))
         ]
       ]),
     ))
-  where
-    none_some : (c : Chip) → None ≡ Some c → ⊥
-    none_some c e = cc
 
 -- the same steps along a list of steps
 pub at_more : (m : Description) (near : Chip) (walk : List Dir) (i : ℕ) (d : Dir) (at next : Chip) → i < length walk → at ≡ end_of_walk m near (take i walk) →

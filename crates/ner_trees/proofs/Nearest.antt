@@ -4,7 +4,7 @@ use Rattle.std.specs.Option.{IfSome, IsSomeAnd}
 use Rattle.std.specs.List.{All}
 use Rattle.std.proofs.lemmas.List.{take_more}
 use Rattle.std.proofs.lemmas.List.Elements.{Contains-push, Contains-push_cases}
-use Rattle.std.proofs.lemmas.Option.{same_Some}
+use Rattle.std.proofs.lemmas.Option.{none-some, same_Some}
 use Rattle.spin_base.specs.declared.chips.Chip.{Chip}
 use Rattle.machine_desc.specs.declared.trees.Edge.{Edge}
 use Rattle.machine_desc.specs.Description.{Description}
@@ -23,9 +23,6 @@ some_and_map : {X : Type 0} (o : Option X) (P Q : X → Type 0) → ((x : X) →
 some_and_map None P Q to holds = holds
 some_and_map (Some x) P Q to holds = to x holds
 
-none_some : {X : Type 0} (x : X) → None ≡ Some x → ⊥
-none_some x e = cc
-
 module _ (m : Description) (root t : Chip) where
   -- the root alone
   pub least_start : (result : Option Found) → IsCloser m t None root result → IsLeastFound m root [] t result
@@ -43,7 +40,7 @@ module _ (m : Description) (root t : Chip) where
       found : (r : Option Found) → IsCloser m t None root r → IfSome r (λ b. IsWithin m root [] t 20 b.chip)
       found None is = tt
       found (Some f) is = elim is.one_of [
-        | inl old ↦ absurd (none_some f old)
+        | inl old ↦ absurd (none-some f old)
         | inr new ↦ (inl new.0, subst (λ (c : Chip). distance_of m c t ≤ 20) (sym new.0) new.1)
       ]
 
@@ -97,7 +94,7 @@ module _ (m : Description) (root t : Chip) where
         | inl at ↦ known.least c (inl at, w.1)
         | inr into ↦ elim (Contains-push_cases tree e into.0 into.1) [
           | inl old ↦ known.least c (tree_end m root tree into.0 c old into.2, w.1)
-          | inr new ↦ absurd (none_some c (sym nowhere ∙ (ap (end_of m) new ∙ into.2)))
+          | inr new ↦ absurd (none-some c (sym nowhere ∙ (ap (end_of m) new ∙ into.2)))
         ]
       ];
     }

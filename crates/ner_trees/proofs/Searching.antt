@@ -1,6 +1,7 @@
 -- The search of a window: what it has seen, that it sees enough, and that near windows may be searched first.
 use Rattle.std.proofs.Common.{◌≡◌, ℕ, suc, ◌+◌, ◌-◌, ◌*◌, ◌/◌, ◌%◌, ◌<◌, ◌≤◌, max, Bool, true, false, cond, ltb, List, Option, Some, None, refl, sym, ap, ◌∙◌, subst, arith, inl, inr, ◌⊎◌}
 use Rattle.std.proofs.lemmas.Bool.{cases_lt, cases_eq, cond-true, cond-false, lt-ltb, le-ltb}
+use Rattle.std.proofs.Math.Nat.{lt_of_lt_of_le}
 use Rattle.std.proofs.lemmas.Nat.{mod-mul-add, div-mul-add, mul-add-lt}
 use Rattle.std.specs.Option.{IfSome, IfNone}
 use Rattle.std.specs.Prelude.{ℤ, pos, negsuc}
@@ -32,6 +33,15 @@ window_is m t wrap too w h r k side col row x y ewrap etoo ew eh eside ecol erow
     let fy : y ≡ place_at m.wrap m.height t.y r (k % (2 * r + 1)) = ey ∙ (ap (λ (b : Bool). place_at b h t.y r row) etoo ∙ (ap (λ n. place_at m.wrap n t.y r row) eh
     ∙ ap (λ n. place_at m.wrap m.height t.y r n) (erow ∙ ap (λ n. k % n) eside))) in
     ap (λ (z : Option ℕ). chip_at z y) fx ∙ ap (λ (z : Option ℕ). chip_at (place_at m.wrap m.width t.x r (k / (2 * r + 1))) z) fy
+
+-- a place of a line, from the first of the window
+line : (w p q r i : ℕ) → p < w → q + i ≡ p + r → place_at false w q r i ≡ Some p
+line w p q r i at sum =
+    let low : r ≤ q + i = omega arith in
+    let is : q + i - r ≡ p = omega arith in
+    let high : q + i - r < w = omega arith in
+    cond-false (ltb (q + i) r) None (cond (ltb (q + i - r) w) (Some (q + i - r)) None) (le-ltb (q + i) r low)
+    ∙ (cond-true (ltb (q + i - r) w) (Some (q + i - r)) None (lt-ltb (q + i - r) w high) ∙ ap Some is)
 
 -- the window has each place that is near enough
 place_covers : (wrap : Bool) (w p q r : ℕ) (z : ℤ) → Reaches wrap w p q z → forth z + back z ≤ r → (i : ℕ) × (i < 2 * r + 1) × (place_at wrap w q r i ≡ Some p)
@@ -80,14 +90,6 @@ place_covers false w p q r (pos n) reach near =
             line w p q r (r - n) at (omega arith)
       ],
     )
-  where
-    line : (w p q r i : ℕ) → p < w → q + i ≡ p + r → place_at false w q r i ≡ Some p
-    line w p q r i at sum =
-        let low : r ≤ q + i = omega arith in
-        let is : q + i - r ≡ p = omega arith in
-        let high : q + i - r < w = omega arith in
-        cond-false (ltb (q + i) r) None (cond (ltb (q + i - r) w) (Some (q + i - r)) None) (le-ltb (q + i) r low)
-        ∙ (cond-true (ltb (q + i - r) w) (Some (q + i - r)) None (lt-ltb (q + i - r) w high) ∙ ap Some is)
 place_covers false w p q r (negsuc n) reach near =
     let far : ahead_by w q p ≡ 0 + suc n = reach.far in
     let at : p < w = reach.from_inside in
@@ -101,14 +103,6 @@ place_covers false w p q r (negsuc n) reach near =
             line w p q r (r + suc n) at (omega arith)
       ],
     )
-  where
-    line : (w p q r i : ℕ) → p < w → q + i ≡ p + r → place_at false w q r i ≡ Some p
-    line w p q r i at sum =
-        let low : r ≤ q + i = omega arith in
-        let is : q + i - r ≡ p = omega arith in
-        let high : q + i - r < w = omega arith in
-        cond-false (ltb (q + i) r) None (cond (ltb (q + i - r) w) (Some (q + i - r)) None) (le-ltb (q + i) r low)
-        ∙ (cond-true (ltb (q + i - r) w) (Some (q + i - r)) None (lt-ltb (q + i - r) w high) ∙ ap Some is)
 
 -- no chip is nearer than its displacement along one axis
 axis_low : (d : Disp) (r : ℕ) → length_of d ≤ r → (forth d.a + back d.a ≤ r) × (forth d.b + back d.b ≤ r)
@@ -203,11 +197,8 @@ best_found m on t r k (Some c) size t_in past so_far = (
   λ e is.
       let seen = window_covers m t e r size t_in is.inside is.near in
       let less : seen.0 < (2 * r + 1) * (2 * r + 1) = seen.1 in
-      so_far.1 seen.0 e (below _ _ _ less past) seen.2 is,
+      so_far.1 seen.0 e (lt_of_lt_of_le less past) seen.2 is,
 )
-  where
-    below : (a b c : ℕ) → a < b → b ≤ c → a < c
-    below a b c p q = omega arith
 
 pub best_none : (m : Description) (on : List Bool) (t : Chip) (r k : ℕ) (best : Option Chip) → HasSize m → IsInside m t → (2 * r + 1) * (2 * r + 1) ≤ k →
     IsBestOf m on t r k best → IfNone best (IsNoneOn m on t r)
@@ -215,10 +206,7 @@ best_none m on t r k (Some c) size t_in past so_far = tt
 best_none m on t r k None size t_in past so_far = λ e is.
     let seen = window_covers m t e r size t_in is.inside is.near in
     let less : seen.0 < (2 * r + 1) * (2 * r + 1) = seen.1 in
-    so_far seen.0 e (below _ _ _ less past) seen.2 is
-  where
-    below : (a b c : ℕ) → a < b → b ≤ c → a < c
-    below a b c p q = omega arith
+    so_far seen.0 e (lt_of_lt_of_le less past) seen.2 is
 
 -- the nearest in a small radius is the nearest in a larger one
 pub nearest_wider : (m : Description) (on : List Bool) (t c : Chip) (r s : ℕ) → r ≤ s → IsNearestOn m on t r c → IsNearestOn m on t s c

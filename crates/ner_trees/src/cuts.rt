@@ -11,7 +11,7 @@ use spin_base::{Chip, Dir, Memory};
 use std::alloc::Global;
 
 // A new branch: the chip where it starts, and its links.
-#[derive(Debug, Drop)]
+#[derive(Drop)]
 pub struct Branch {
     pub start: Chip,
     pub links: Vec<Edge>,

@@ -1,7 +1,7 @@
 // How far chips are from each other.
 ghost use Rattle.std.specs.Prelude.{◌≡◌, ◌+◌, ◌-◌, ◌%◌, ◌<◌, ◌≤◌, unsigned_abs, pos, ◌-ℤ◌, max, int_lt};
 ghost use Rattle.machine_desc.specs.Live.{IsInside};
-ghost use Rattle.ner_trees.specs.Geometry.{IsSmall, length_of, is_before, least_of, ahead_by, displacement_of, distance_of, forth, back, on_torus};
+ghost use Rattle.ner_trees.specs.Geometry.{IsSmall, length_of, first_differs, is_before_signed, is_before, least_of, ahead_by, displacement_of, distance_of, forth, back, on_torus};
 
 use machine_desc::Machine;
 use spin_base::Chip;
@@ -41,6 +41,20 @@ fn is_below(m: i32, n: i32) -> bool
     m < n
 }
 
+// Whether a number is below another, or what is so where they are equal.
+fn is_below_or(m: i32, n: i32, if_equal: bool) -> bool
+    ensures { result ≡ is_before_signed m n if_equal }
+{
+    is_below(m, n) || !is_below(n, m) && if_equal
+}
+
+// Whether a size is less than another, or what is so where they are equal.
+fn is_less_or(m: u32, n: u32, if_equal: bool) -> bool
+    ensures { result ≡ first_differs m n if_equal }
+{
+    if m == n { if_equal } else { m < n }
+}
+
 impl Disp {
     // The number of links that it takes: the greatest of a, b and 0 less the least of them.
     fn length(self) -> u32
@@ -57,19 +71,10 @@ impl Disp {
         requires that { IsSmall other }
         ensures { result ≡ is_before self other }
     {
-        let (mine, its) = (self.length(), other.length());
-        if mine != its {
-            return mine < its;
-        }
-        let (mine, its) = (self.a.unsigned_abs(), other.a.unsigned_abs());
-        if mine != its {
-            return mine < its;
-        }
-        let (mine, its) = (self.b.unsigned_abs(), other.b.unsigned_abs());
-        if mine != its {
-            return mine < its;
-        }
-        is_below(self.a, other.a) || !is_below(other.a, self.a) && is_below(self.b, other.b)
+        let rest = is_below_or(self.a, other.a, is_below(self.b, other.b));
+        let rest = is_less_or(self.b.unsigned_abs(), other.b.unsigned_abs(), rest);
+        let rest = is_less_or(self.a.unsigned_abs(), other.a.unsigned_abs(), rest);
+        is_less_or(self.length(), other.length(), rest)
     }
 
     // The one that comes before the other, and this one where neither does.

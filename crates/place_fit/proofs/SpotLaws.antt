@@ -1,6 +1,6 @@
 -- The spots that a board gives are those of the definition.
 use Rattle.std.proofs.Common.{◌≡◌, ◌≢◌, ℕ, ◌+◌, ◌-◌, ◌^◌, ◌<◌, ◌≤◌, ◌==◌, Bool, true, not, leb, ltb, cond, List, [], ◌∷◌, ◌++◌, length, take, filter, get_or, refl, sym, ap, ap₂, ◌∙◌, subst, zero, suc, Option, Some, None, slice_get, MatchOption, inl, inr, arith, All, AllPairs}
-use Rattle.std.proofs.lemmas.Bool.{cases_Bool, cond-true, cond-false, and_from, or_right, le-leb, lt-ltb}
+use Rattle.std.proofs.lemmas.Bool.{cases_Bool, cond-true, cond-false, and_from, or_right, le-leb, lt-ltb, both_ways}
 use Rattle.std.proofs.lemmas.List.{length_push, length-take, take-append-le, take_at, get_or-take}
 use Rattle.std.specs.List.{AllZip}
 use Rattle.std.proofs.lemmas.List.Folds.{list_any_at}
@@ -28,7 +28,7 @@ use Rattle.place_fit.specs.Quarters.{curve_place}
 use Rattle.place_fit.proofs.CurveLaws.{at_place}
 use Rattle.place_fit.specs.Boards.{IsPlaceWithRoom, HasNoRoomAt, HasNoPlace, HasFairRooms, IsFilled, IsPutOnCore, IsPutAtLink, IsPut, HasNoSpot}
 use Rattle.place_fit.specs.Placement.{core_of, need_of, used_on, is_free_core, HasRoom, IsFirst, choices, IsCoreFor, HasDeviceRoom, device_spot, IsSpotFor, FindsNoRoom, AreFirstSpots, AreFirstMemories, memory_of}
-use Rattle.place_fit.proofs.Standing.{live_in, Stands, IsTold, free_parts, free_from, has_room, core_with_room, room_for, least_core, usable_parts, clash, is_taken, need_of_core, need_of_device, stands_more as one_stands_more, stands_device}
+use Rattle.place_fit.proofs.Standing.{live_in, Stands, IsTold, free_parts, free_from, has_room, core_with_room, room_for, least_core, usable_parts, is_taken, need_of_core, need_of_device, stands_more as one_stands_more, stands_device}
 
 -- the first item that passes is the first of those that pass a test, if it passes it
 first_from_place : (P : Chip → Type 0) (test : Chip → Bool) (xs : List Chip) (q : ℕ) (c : Chip) → slice_get xs q ≡ Some c → P c → test c ≡ true
@@ -296,7 +296,7 @@ module _ (m : Description) (order : List Chip) (vertices : List Vertex) (spots :
     by_device : (o p : Option Edge) → one.vertex.device ≡ o → other.vertex.device ≡ p
         → MatchOption o (IsCoreFor m order (take i vertices) (take i spots) one.vertex s) (λ d. HasDeviceRoom m d × (s ≡ device_spot d))
         → MatchOption p (IsCoreFor m order (take j vertices) (take j spots) other.vertex s) (λ d. HasDeviceRoom m d × (s ≡ device_spot d)) → ⊥
-    by_device o None is_o is_p mine its = clash taken (free_parts m (take j spots) s its.free).1
+    by_device o None is_o is_p mine its = absurd (both_ways _ (free_parts m (take j spots) s its.free).1 taken)
     by_device None (Some e) is_o is_p mine its =
         let low = (usable_parts m s (core_usable (take i vertices) (take i spots) one.vertex s mine)).1 in
         let core : s.core ≡ 18 + dir_number e.dir = ap (λ (x : Spot). x.core) its.1 in

@@ -1,11 +1,12 @@
 -- What a board tells of the vertices that stand on it.
 use Rattle.std.proofs.Common.{◌≡◌, ◌≢◌, ℕ, ◌+◌, ◌-◌, ◌^◌, ◌<◌, ◌≤◌, ◌==◌, Bool, true, false, not, ◌||◌, cond, leb, ltb, List, [], ◌∷◌, ◌++◌, length, set, get_or, refl, sym, ap, ◌∙◌, subst, Option, Some, None, is_none, slice_get, inl, inr, arith}
 use Rattle.std.specs.List.{list_any}
-use Rattle.std.proofs.lemmas.Bool.{cases_lt, cases_eq, cases_Bool, and_left, and_parts, and_right, and_from, or_left, or_right, false≢true, cond-true, cond-false}
+use Rattle.std.proofs.lemmas.Bool.{cases_lt, cases_eq, cases_Bool, and_left, and_parts, and_right, and_from, or_left, or_right, both_ways, not-true, cond-true, cond-false}
 use Rattle.std.proofs.lemmas.Bool.Decides.{nat_tests}
 use Rattle.std.proofs.lemmas.List.Folds.{list_any-append}
 use Rattle.std.proofs.lemmas.Option.{get_or_from_slice_get}
 use Rattle.std.proofs.lemmas.List.{get_or-set_same, get_or-set_other, length-set, get_or_append_left, get_or_push, length_push}
+use Rattle.list_laws.proofs.Tests.{or_neither}
 use Rattle.spin_base.specs.declared.chips.Chip.{Chip}
 use Rattle.spin_base.specs.declared.chips.Spot.{Spot}
 use Rattle.spin_base.specs.Equality.{chip_eq, spot_eq}
@@ -26,9 +27,6 @@ use Rattle.place_fit.proofs.CurveLaws.{IsIn, place_at}
 
 pub live_in : (m : Description) (c : Chip) (side : ℕ) → is_live_chip m c ≡ true → m.width ≤ side → m.height ≤ side → IsIn side c
 live_in m c side live wide high = let f = inside_parts m c (live_inside m c live) in (omega (arith, f.0, wide), omega (arith, f.1, high))
-
-pub clash : {A : Type 0} {b : Bool} → b ≡ true → b ≡ false → A
-clash t f = absurd (false≢true (sym f ∙ t))
 
 -- some vertex stands on the core
 abbrev pub is_taken : List Spot → Spot → Bool
@@ -52,7 +50,7 @@ usable_parts m s u =
 pub free_parts : (m : Description) (ss : List Spot) (s : Spot) → is_free_core m ss s ≡ true → (is_usable m s ≡ true) × (is_taken ss s ≡ false)
 free_parts m ss s f =
     let p = and_parts _ _ f in
-    (p.0, elim (cases_Bool (is_taken ss s)) [ inl t ↦ clash p.1 (ap not t) | inr f ↦ f ])
+    (p.0, not-true _ p.1)
 
 pub free_from : (m : Description) (ss : List Spot) (s : Spot) → is_usable m s ≡ true → is_taken ss s ≡ false → is_free_core m ss s ≡ true
 free_from m ss s u f = and_from _ _ u (ap not f)
@@ -82,7 +80,7 @@ module _ (m : Description) (vs : List Vertex) (ss : List Spot) (c : Chip) (core 
       let f = free_parts m ss (core_of c has.core) has.free in
       let small = (usable_parts m (core_of c has.core) f.0).1 in
       elim (cases_lt has.core core) [
-        | inl before ↦ clash (told.before has.core f.0 before) f.1
+        | inl before ↦ absurd (both_ways _ f.1 (told.before has.core f.0 before))
         | inr from ↦ (let l = told.left (omega (arith, from, small)) in omega (arith, l, has.memory))
       ]
 
@@ -90,7 +88,7 @@ module _ (m : Description) (vs : List Vertex) (ss : List Spot) (c : Chip) (core 
   least_core p free =
       let f = free_parts m ss (core_of c p) free in
       elim (cases_lt p core) [
-        | inl before ↦ clash (told.before p f.0 before) f.1
+        | inl before ↦ absurd (both_ways _ f.1 (told.before p f.0 before))
         | inr from ↦ from
       ]
 
@@ -139,7 +137,7 @@ stands_first m b board empty = record {
   told = λ q c at.
       let (next, room) = empty q c at in
       record {
-        before = λ p u low. clash u (next.none p (omega arith) low);
+        before = λ p u low. absurd (both_ways _ (next.none p (omega arith) low) u);
         after = λ p u from. refl;
         next = next.usable;
         full = λ none. room ∙ room_none (get_or b.cores.items q 0) m.sdram none;
@@ -161,11 +159,6 @@ taken_push ss s x = list_any-append (spot_eq x) ss (s ∷ [])
 
 or_last : (a b : Bool) → b ≡ true → (a || (b || false)) ≡ true
 or_last a b e = or_right a (b || false) (or_left b false e)
-
-or_neither : (a b : Bool) → b ≡ false → (a || (b || false)) ≡ a
-or_neither true b e = refl
-or_neither false true e = clash refl e
-or_neither false false e = refl
 
 -- nothing, whether or not it is on this chip
 cond_same : (b : Bool) (n : ℕ) → cond b n n ≡ n
@@ -221,7 +214,7 @@ module _ (m : Description) (vs : List Vertex) (ss : List Spot) (same : length vs
         before = λ p u low. taken_push ss s (core_of c p) ∙ elim (cases_lt p core) [
           | inl lower ↦ or_left (is_taken ss (core_of c p)) (spot_eq (core_of c p) s || false) (told.before p u lower)
           | inr upper ↦ elim (cases_lt core p) [
-            | inl above ↦ clash u (is_next.none p (omega (arith, above)) low)
+            | inl above ↦ absurd (both_ways _ (is_next.none p (omega (arith, above)) low) u)
             | inr here ↦ or_last (is_taken ss (core_of c p)) (spot_eq (core_of c p) s) (and_from (chip_eq c c) (p == core) (chip_eq_same c) (let e : p ≡ core = omega (arith, upper, here) in grind (arith, nat_tests)))
           ]
         ];
