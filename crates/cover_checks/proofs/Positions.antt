@@ -1,5 +1,5 @@
 -- Places of rows: those of a set, and the insertion place of a merge.
-use Rattle.std.proofs.Common.{◌≡◌, ℕ, zero, suc, ◌+◌, ◌-◌, ◌^◌, ◌<◌, ◌≤◌, true, false, cond, ◌||◌, Option, Some, None, List, [], ◌∷◌, ◌++◌, length, get_or, take, drop, refl, sym, ap, ◌∙◌, zero-add, add_comm, length-take, length-drop, get_or-take, get_or-drop, subst, inl, inr, ◌⊎◌, arith}
+use Rattle.std.proofs.Common.{◌≡◌, ℕ, zero, suc, ◌+◌, ◌-◌, ◌<◌, ◌≤◌, true, false, cond, ◌||◌, Option, Some, None, List, [], ◌∷◌, ◌++◌, length, get_or, take, drop, refl, sym, ap, ◌∙◌, zero-add, add_comm, length-take, length-drop, get_or-take, get_or-drop, subst, inl, inr, ◌⊎◌, arith}
 use Rattle.std.specs.Prelude.{All, AllPairs, map, nat_le, ◌==◌, slice_get}
 use Rattle.std.specs.List.{cons_option}
 use Rattle.std.proofs.lemmas.List.{take_more, map-append, get_or_default}
@@ -8,13 +8,12 @@ use Rattle.std.proofs.lemmas.Bool.Decides.{leb_tells, eqb_tells, nat_tests}
 use Rattle.std.proofs.lemmas.List.Elements.{All-take, All-drop, filter_map-append, All-nil, All-cons, All-head, All-tail}
 use Rattle.std.proofs.lemmas.List.Sums.{sum_by-append, count_by-le-length}
 use Rattle.std.proofs.lemmas.Option.{slice_get-get_or, get_or_from_slice_get}
-use Rattle.std.proofs.Props.{props}
 use Rattle.spin_base.specs.declared.blocks.Block.{Block}
-use Rattle.spin_base.specs.declared.routes.Route.{Route}
 use Rattle.tern_word.specs.declared.tables.Row.{Row}
 use Rattle.tern_word.specs.Ternary.{generality, merge_of, merge_two}
 use Rattle.tern_word.specs.SoundTable.{IsOrdered}
 use Rattle.tern_word.proofs.BlockLaws.{generality-merge, merge_of-push}
+use Rattle.tern_word.proofs.RouteBits.{same_route}
 use Rattle.cover_checks.specs.Merge.{SameRoute, has, rows_at, merged_block, place_for, insert_place, IsMergeSet}
 use Rattle.cover_checks.proofs.Lists.{All-from_map, AllPairs-head, AllPairs-tail}
 
@@ -95,7 +94,8 @@ rows_at-length rows (s ∷ places) in_range =
 pub rows_at-push : (rows : List Row) (places : List ℕ) (s : ℕ) (r : Row) → slice_get rows s ≡ Some r → rows_at rows (places ++ s ∷ []) ≡ rows_at rows places ++ r ∷ []
 rows_at-push rows places s r is = filter_map-append (slice_get rows) places (s ∷ []) ∙ ap (λ o. rows_at rows places ++ cons_option o []) is
 
-some_blocks : (xs : List Row) → 0 < length xs → 0 < length (map (λ (x : Row). x.block) xs)
+-- rows have blocks
+pub some_blocks : (xs : List Row) → 0 < length xs → 0 < length (map (λ (x : Row). x.block) xs)
 some_blocks [] some = some
 some_blocks (x ∷ xs) some = omega arith
 
@@ -224,14 +224,7 @@ module _ (rows : List Row) (i j : ℕ) where
       agree (suc a) zero d before in_range = absurd (omega arith)
       agree (suc a) (suc b) d before in_range = absurd (omega arith)
 
--- ---- routes
-
--- a route is its bits
-pub same_route : (a b : Route) → a.bits ≡ b.bits → a ≡ b
-same_route a b e = subst (λ n. (w : n < 2 ^ 24) → ◌≡◌ {A = Route} a (record { bits = n; within = w })) e (λ w. ap (λ (x : a.bits < 2 ^ 24). let r : Route = record { bits = a.bits; within = x } in r) (small a.bits a.within w)) b.within
-  where
-    small : (n : ℕ) → IsProp (n < 2 ^ 24)
-    small n = hlevel props
+-- ---- two rows with one route
 
 -- two rows that were read, whose routes came out equal, are a set
 pub pair_set_read : (list rows : List Row) → list ≡ rows → (i j : ℕ) (d e : Row) → i < j → j < length list → ((get_or list i d).route.bits == (get_or list j e).route.bits) ≡ true → IsMergeSet rows (i ∷ j ∷ [])

@@ -3,9 +3,9 @@ use Rattle.std.proofs.Common.{◌≡◌, ℕ, zero, suc, ◌+◌, ◌-◌, ◌<�
 use Rattle.std.specs.Prelude.{All, AllPairs, not, insert, remove, map}
 use Rattle.std.specs.Prelude.{Result, Ok, Err, OnOk}
 use Rattle.std.specs.List.{flat_map, cons_option}
-use Rattle.std.proofs.lemmas.Bool.{eq-eqb}
+use Rattle.std.proofs.lemmas.Bool.{eq-eqb, ne_eqb, or_from}
 use Rattle.std.proofs.lemmas.Bool.Decides.{eqb_tells}
-use Rattle.std.proofs.lemmas.List.Elements.{All-nil, All-head, All-tail}
+use Rattle.std.proofs.lemmas.List.Elements.{All-nil, All-head, All-tail, All-weaker}
 use Rattle.std.proofs.lemmas.Grind.{flat_map-append}
 use Rattle.std.proofs.lemmas.List.{append-nil, take_more, drop_all, get_or_default}
 use Rattle.std.proofs.Math.Seq.{drop-cons}
@@ -21,23 +21,18 @@ use Rattle.cover_merge.specs.Aliases.{aliases_at}
 
 -- ---- a place that is not of the set
 
+none_of : (places : List ℕ) (k : ℕ) → All (λ t. t ≢ k) places → has places k ≡ false
+none_of [] k apart = refl
+none_of (t ∷ places) k apart =
+    or_from (t == k) (has places k) (ne_eqb t k (All-head (λ t. t ≢ k) t places apart)) (none_of places k (All-tail (λ t. t ≢ k) t places apart))
+
 -- all places above k: k is none of them
 pub none_at : (places : List ℕ) (k : ℕ) → All (λ t. k < t) places → has places k ≡ false
-none_at [] k above = refl
-none_at (t ∷ places) k above = by_head (eqb_tells t k) (none_at places k (All-tail (λ t. k < t) t places above))
-  where
-    by_head : ((t == k) ≡ true) × (t ≡ k) ⊎ ((t == k) ≡ false) × (t ≢ k) → has places k ≡ false → ((t == k) || has places k) ≡ false
-    by_head (inl same) rest = absurd (omega (arith, same.1, All-head (λ t. k < t) t places above))
-    by_head (inr other) rest = ap (λ b. b || has places k) other.0 ∙ rest
+none_at places k above = none_of places k (All-weaker (λ t. k < t) (λ t. t ≢ k) (λ t less same. omega (arith, less, same)) places above)
 
 -- all places below k: k is none of them
 pub none_from : (places : List ℕ) (k : ℕ) → All (λ t. t < k) places → has places k ≡ false
-none_from [] k below = refl
-none_from (t ∷ places) k below = by_head (eqb_tells t k) (none_from places k (All-tail (λ t. t < k) t places below))
-  where
-    by_head : ((t == k) ≡ true) × (t ≡ k) ⊎ ((t == k) ≡ false) × (t ≢ k) → has places k ≡ false → ((t == k) || has places k) ≡ false
-    by_head (inl same) rest = absurd (omega (arith, same.1, All-head (λ t. t < k) t places below))
-    by_head (inr other) rest = ap (λ b. b || has places k) other.0 ∙ rest
+none_from places k below = none_of places k (All-weaker (λ t. t < k) (λ t. t ≢ k) (λ t less same. omega (arith, less, same)) places below)
 
 -- the items whose places, counted from i, are not of the set
 abbrev pub left : {X : Type 0} → List ℕ → ℕ → List X → List X

@@ -1,9 +1,9 @@
 -- What guards tell stays true in the table after a merge.
-use Rattle.std.proofs.Common.{◌≡◌, ℕ, zero, suc, ◌+◌, ◌<◌, ◌⊎◌, Bool, true, false, cond, List, [], ◌∷◌, length, get_or, take, drop, inl, inr, refl, sym, ap, ◌∙◌, subst, set, length-append, length-drop, length-take, arith}
+use Rattle.std.proofs.Common.{◌≡◌, ◌≢◌, ℕ, zero, suc, ◌+◌, ◌<◌, ◌⊎◌, Bool, true, false, cond, List, [], ◌∷◌, length, get_or, take, drop, inl, inr, refl, sym, ap, ◌∙◌, subst, set, length-append, length-drop, length-take, arith}
 use Rattle.std.specs.Prelude.{All, not, insert, map}
 use mathlib.Core.Bool.{true≢false}
 use Rattle.std.proofs.lemmas.List.Elements.{All-cons, All-append, All-take, All-drop}
-use Rattle.std.proofs.lemmas.Bool.{cases_lt, cases_order}
+use Rattle.std.proofs.lemmas.Bool.{cases_lt, cases_eq}
 use Rattle.std.proofs.lemmas.Grind.{get_or-set_at}
 use Rattle.std.proofs.lemmas.List.{get_or-set_other, length-set}
 use Rattle.std.proofs.lemmas.List.Edits.{get_or-insert_below}
@@ -114,14 +114,10 @@ picked_lengths {X = X} {Y = Y} q i (x ∷ xs) (y ∷ ys) same = by_test (q i) (p
 -- ---- one guard in place of another
 
 guard_put : (rows : List Row) (gs : List Guard) (s : ℕ) (g : Guard) → s < length gs → AreGuards rows gs → IsGuardAt rows s g → AreGuards rows (set gs s g)
-guard_put rows gs s g inside each told k e within = elim (cases_order k s) [
+guard_put rows gs s g inside each told k e within = elim (cases_eq k s) [
   | inl same ↦ subst (IsGuardAt rows k) (sym (get_or-set_at gs s k g e same inside)) (subst (λ i. IsGuardAt rows i g) (sym same) told)
-  | inr apart ↦ subst (IsGuardAt rows k) (sym (get_or-set_other gs s k g e (differs apart))) (each k e (omega (arith, length-set gs s g, within)))
+  | inr apart ↦ subst (IsGuardAt rows k) (sym (get_or-set_other gs s k g e apart)) (each k e (omega (arith, length-set gs s g, within)))
 ]
-  where
-    differs : (k < s) ⊎ (s < k) → k ≡ s → ⊥
-    differs (inl before) same = omega (arith, before, same)
-    differs (inr later) same = omega (arith, later, same)
 
 pub guard_set : (rows : List Row) (gs new : List Guard) (s : ℕ) (g : Guard) → s < length gs → new ≡ set gs s g → AreGuards rows gs → IsGuardAt rows s g → AreGuards rows new
 guard_set rows gs new s g inside is each told = subst (AreGuards rows) (sym is) (guard_put rows gs s g inside each told)
@@ -139,15 +135,11 @@ done_more rows gs new s g inside is told before k e less = subst (λ l. IsGuardA
 ])
 
 pub but_set : (b : Block) (rows : List Row) (gs new : List Guard) (s : ℕ) (g : Guard) → s < length gs → new ≡ set gs s g → IsGuardAt rows s g → AreGuardsBut b rows gs → AreGuardsBut b rows new
-but_set b rows gs new s g inside is told each k e within misses = subst (λ l. IsGuardAt rows k (get_or l k e)) (sym is) (by_case (cases_order k s))
+but_set b rows gs new s g inside is told each k e within misses = subst (λ l. IsGuardAt rows k (get_or l k e)) (sym is) (by_case (cases_eq k s))
   where
-    differs : (k < s) ⊎ (s < k) → k ≡ s → ⊥
-    differs (inl before) same = omega (arith, before, same)
-    differs (inr later) same = omega (arith, later, same)
-
-    by_case : (k ≡ s) ⊎ ((k < s) ⊎ (s < k)) → IsGuardAt rows k (get_or (set gs s g) k e)
+    by_case : (k ≡ s) ⊎ (k ≢ s) → IsGuardAt rows k (get_or (set gs s g) k e)
     by_case (inl same) = subst (IsGuardAt rows k) (sym (get_or-set_at gs s k g e same inside)) (subst (λ i. IsGuardAt rows i g) (sym same) told)
-    by_case (inr apart) = subst (IsGuardAt rows k) (sym (get_or-set_other gs s k g e (differs apart))) (each k e (omega (arith, ap length is, length-set gs s g, within)) misses)
+    by_case (inr apart) = subst (IsGuardAt rows k) (sym (get_or-set_other gs s k g e apart)) (each k e (omega (arith, ap length is, length-set gs s g, within)) misses)
 
 -- ---- the table after a merge
 
@@ -173,6 +165,10 @@ module _ (rows : List Row) (places : List ℕ) (ordered : IsOrdered rows) (merge
       from_not_false true e = refl
       from_not_false false e = absurd (true≢false e)
 
+  -- a row and its guard are put in at one place
+  longer : (n : ℕ) → length (insert gs n nothing) ≡ length (insert rows n (merged_row rows places))
+  longer n = omega (arith, same, length-append (take n gs) (nothing ∷ drop n gs), length-append (take n rows) (merged_row rows places ∷ drop n rows), length-take n gs, length-take n rows, length-drop n gs, length-drop n rows)
+
   pub carried : AreGuards rows gs → AreGuardsBut b (after rows places) (left places 0 (insert gs p nothing))
   carried guards =
       let n = insert_place rows places in
@@ -180,9 +176,6 @@ module _ (rows : List Row) (places : List ℕ) (ordered : IsOrdered rows) (merge
       subst (λ q. AreGuardsBut b (after rows places) (left places 0 (insert gs q nothing))) (sym place_is)
       (subst (λ l. AreGuardsBut b l (left places 0 (insert gs n nothing))) (after_is rows places ordered merge)
       (picked_guards b (λ k. not (has places k)) 0 (insert rows n m) (insert gs n nothing) (longer n) dropped (insert_guards b m m_block nothing silent rows gs n same (λ s e within misses. guards s e within))))
-    where
-      longer : (n : ℕ) → length (insert gs n nothing) ≡ length (insert rows n (merged_row rows places))
-      longer n = omega (arith, same, length-append (take n gs) (nothing ∷ drop n gs), length-append (take n rows) (merged_row rows places ∷ drop n rows), length-take n gs, length-take n rows, length-drop n gs, length-drop n rows)
 
   pub carried_length : length (left places 0 (insert gs p nothing)) ≡ length (after rows places)
   carried_length =
@@ -191,6 +184,3 @@ module _ (rows : List Row) (places : List ℕ) (ordered : IsOrdered rows) (merge
       ap (λ q. length (left places 0 (insert gs q nothing))) place_is
       ∙ picked_lengths (λ k. not (has places k)) 0 (insert rows n m) (insert gs n nothing) (longer n)
       ∙ ap length (after_is rows places ordered merge)
-    where
-      longer : (n : ℕ) → length (insert gs n nothing) ≡ length (insert rows n (merged_row rows places))
-      longer n = omega (arith, same, length-append (take n gs) (nothing ∷ drop n gs), length-append (take n rows) (merged_row rows places ∷ drop n rows), length-take n gs, length-take n rows, length-drop n gs, length-drop n rows)

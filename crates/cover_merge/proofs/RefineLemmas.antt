@@ -19,7 +19,8 @@ use Rattle.cover_checks.specs.Merge.{has, rows_at, merged_block, place_for, inse
 use Rattle.tern_word.specs.SoundTable.{IsSound}
 use Rattle.cover_checks.proofs.Legal.{legal_from_checks}
 use Rattle.cover_checks.proofs.Answering.{fails}
-use Rattle.cover_checks.proofs.Positions.{has-at, has-place, All-has, rows_at-from, rows_at-length}
+use Rattle.cover_checks.proofs.Positions.{has-at, has-place, All-has, rows_at-from, rows_at-length, some_blocks}
+use Rattle.tern_word.proofs.RouteBits.{zero_of}
 use Rattle.cover_merge.specs.Refinement.{can_choose, parts, keeps, kept_by, IsLastFailing, IsUpStep, IsFirstMetFrom, IsNarrowed, IsDownStep, Refines, ends_empty, ends_legal, goes_up, goes_down}
 
 -- ---- the tests of bits
@@ -51,11 +52,6 @@ unfolding can_choose
 choose_on merged met i off =
     let zero_bit : bit_at merged.mask i ≡ 0 = zero_of (bit_at merged.mask i) (bit_at-lt merged.mask i) (λ e. off (shr_and_one merged.mask i ∙ e)) in
     rw (zero_bit, shr_and_one met.mask i) refl
-  where
-    zero_of : (n : ℕ) → n < 2 → (n ≡ 1 → ⊥) → n ≡ 0
-    zero_of zero low not_one = refl
-    zero_of (suc zero) low not_one = absurd (not_one refl)
-    zero_of (suc (suc n)) low not_one = absurd (omega arith)
 
 -- a bit that can be chosen is one for which the merge does not care
 pub chosen_off : (merged met : Block) (i : ℕ) → can_choose merged met i ≡ true → bit_at merged.mask i ≡ 0
@@ -106,13 +102,6 @@ drops_or_keeps p (x ∷ xs) = by_head (p x) refl (drops_or_keeps p xs)
     by_head true e (inl less) = let more : suc (length (filter p xs)) < suc (length xs) = omega arith in inl more
     by_head true e (inr all) = inr (All-cons (λ y. p y ≡ true) x xs e all)
 
-not_both : (n : ℕ) → n ≡ 0 → n ≡ 1 → ⊥
-not_both n off on = omega arith
-
-some_blocks : (xs : List Row) → 0 < length xs → 0 < length (map (λ (x : Row). x.block) xs)
-some_blocks [] some = some
-some_blocks (x ∷ xs) some = omega arith
-
 -- a bit cannot keep all places: the merge would care for it
 pub narrowed_shorter : (rows : List Row) (old new : List ℕ) (met : Block) → IsMergeSet rows old → IsNarrowed rows old (merged_block rows old) met new → length new < length old
 narrowed_shorter rows old new met set (inr none) = rw none.1 (omega (arith, set.two))
@@ -133,7 +122,7 @@ narrowed_shorter rows old new met set (inl (i, low, best, is)) = rw is (elim (dr
         (keeps_inside rows met i s d (All-has (λ x. x < length rows) old s set.set.in_range found) ∙ All-has (λ x. keeps rows met i x ≡ true) old s all found)) in
         let some : 0 < length (map (λ (x : Row). x.block) (rows_at rows old)) = some_blocks (rows_at rows old) (omega (arith, rows_at-length rows old set.set.in_range, set.two)) in
         let merged = (merge_of-is_merge (map (λ (x : Row). x.block) (rows_at rows old)) some i (1 - bit_at met.key i)).1 (All-map (λ b. Wants b i (1 - bit_at met.key i)) (λ (x : Row). x.block) (rows_at rows old) wants) in
-        not_both (bit_at (merged_block rows old).mask i) (chosen_off (merged_block rows old) met i chosen) merged.cares
+        let off = chosen_off (merged_block rows old) met i chosen in omega (arith, off, merged.cares)
 
 -- ---- the steps
 

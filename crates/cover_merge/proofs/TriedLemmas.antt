@@ -1,9 +1,9 @@
 -- Pairs that were refused stay refused until one of their rows changes.
-use Rattle.std.proofs.Common.{◌≡◌, ℕ, zero, suc, ◌+◌, ◌-◌, ◌<◌, ◌≤◌, ◌⊎◌, ◌↔◌, IsTrue, Bool, true, false, cond, List, [], ◌∷◌, length, get_or, take, drop, inl, inr, sym, ap, ◌∙◌, subst, set, length-append, length-drop, length-take, get_or-take, get_or-drop, arith}
+use Rattle.std.proofs.Common.{◌≡◌, ◌≢◌, ℕ, zero, suc, ◌+◌, ◌-◌, ◌<◌, ◌≤◌, ◌⊎◌, ◌↔◌, IsTrue, Bool, true, false, cond, List, [], ◌∷◌, length, get_or, take, drop, inl, inr, sym, ap, ◌∙◌, subst, set, length-append, length-drop, length-take, get_or-take, get_or-drop, arith}
 use Rattle.std.specs.Prelude.{All, not, insert, map}
 use Rattle.std.specs.List.{cons_option}
 use Rattle.std.proofs.lemmas.List.Elements.{All-cons, All-append, All-take, All-drop, All-head}
-use Rattle.std.proofs.lemmas.Bool.{cases_Bool, cases_lt, cases_order, not-true}
+use Rattle.std.proofs.lemmas.Bool.{cases_Bool, cases_lt, cases_eq, cases_order, not-true}
 use Rattle.std.proofs.lemmas.Grind.{get_or-set_at}
 use Rattle.std.proofs.lemmas.List.{get_or_default, get_or-set_other, length-set}
 use Rattle.std.proofs.lemmas.Option.{slice_get-get_or}
@@ -98,33 +98,26 @@ module _ (K : Row → Guard → Row → Guard → Type 0) where
 
   -- another guard in place of one
   module _ (rows : List Row) (gs : List Guard) (s : ℕ) (g : Guard) (inside : s < length gs) where
-    other_at : (k : ℕ) (e : Guard) → (k < s) ⊎ (s < k) → get_or (set gs s g) k e ≡ get_or gs k e
-    other_at k e apart = get_or-set_other gs s k g e (differs apart)
-      where
-        differs : (k < s) ⊎ (s < k) → k ≡ s → ⊥
-        differs (inl before) same = omega (arith, before, same)
-        differs (inr later) same = omega (arith, later, same)
-
     pub pairs_put : ((k : ℕ) (d : Row) (e : Guard) → k < s → K (get_or rows k d) (get_or gs k e) (get_or rows s d) g)
         → ((k : ℕ) (d : Row) (e : Guard) → s < k → k < length gs → K (get_or rows s d) g (get_or rows k d) (get_or gs k e))
         → Pairs rows gs → Pairs rows (set gs s g)
-    pairs_put before behind all i j d e less within = first (cases_order i s)
+    pairs_put before behind all i j d e less within = first (cases_eq i s)
       where
         in_gs : j < length gs
         in_gs = omega (arith, length-set gs s g, within)
 
-        second : (i < s) ⊎ (s < i) → (j ≡ s) ⊎ ((j < s) ⊎ (s < j)) → K (get_or rows i d) (get_or gs i e) (get_or rows j d) (get_or (set gs s g) j e)
-        second apart (inl same) =
+        second : (j ≡ s) ⊎ (j ≢ s) → K (get_or rows i d) (get_or gs i e) (get_or rows j d) (get_or (set gs s g) j e)
+        second (inl same) =
             subst (λ x. K (get_or rows i d) (get_or gs i e) (get_or rows j d) x) (sym (get_or-set_at gs s j g e same inside))
             (subst (λ n. K (get_or rows i d) (get_or gs i e) (get_or rows n d) g) (sym same) (before i d e (omega (arith, same, less))))
-        second apart (inr other) = subst (λ x. K (get_or rows i d) (get_or gs i e) (get_or rows j d) x) (sym (other_at j e other)) (all i j d e less in_gs)
+        second (inr other) = subst (λ x. K (get_or rows i d) (get_or gs i e) (get_or rows j d) x) (sym (get_or-set_other gs s j g e other)) (all i j d e less in_gs)
 
-        first : (i ≡ s) ⊎ ((i < s) ⊎ (s < i)) → K (get_or rows i d) (get_or (set gs s g) i e) (get_or rows j d) (get_or (set gs s g) j e)
+        first : (i ≡ s) ⊎ (i ≢ s) → K (get_or rows i d) (get_or (set gs s g) i e) (get_or rows j d) (get_or (set gs s g) j e)
         first (inl same) =
             subst (λ x. K (get_or rows i d) x (get_or rows j d) (get_or (set gs s g) j e)) (sym (get_or-set_at gs s i g e same inside))
-            (subst (λ x. K (get_or rows i d) g (get_or rows j d) x) (sym (other_at j e (inr (omega (arith, same, less)))))
+            (subst (λ x. K (get_or rows i d) g (get_or rows j d) x) (sym (get_or-set_other gs s j g e (λ at. omega (arith, at, same, less))))
             (subst (λ n. K (get_or rows n d) g (get_or rows j d) (get_or gs j e)) (sym same) (behind j d e (omega (arith, same, less)) in_gs)))
-        first (inr apart) = subst (λ x. K (get_or rows i d) x (get_or rows j d) (get_or (set gs s g) j e)) (sym (other_at i e apart)) (second apart (cases_order j s))
+        first (inr apart) = subst (λ x. K (get_or rows i d) x (get_or rows j d) (get_or (set gs s g) j e)) (sym (get_or-set_other gs s i g e apart)) (second (cases_eq j s))
 
 -- what is told of two rows that were tried
 abbrev Told : List Row → Row → Guard → Row → Guard → Type 0
@@ -145,25 +138,24 @@ nearer rows r m k s n l first second refused bits = by_case (refused bits)
 -- ---- one guard in place of another
 
 bound_put : (now : ℕ) (gs : List Guard) (s : ℕ) (g : Guard) → s < length gs → g.tried ≤ now → All (λ (x : Guard). x.tried ≤ now) gs → All (λ (x : Guard). x.tried ≤ now) (set gs s g)
-bound_put now gs s g inside low all k e within = by_case (cases_order k s)
+bound_put now gs s g inside low all k e within = by_case (cases_eq k s)
   where
-    by_case : (k ≡ s) ⊎ ((k < s) ⊎ (s < k)) → (get_or (set gs s g) k e).tried ≤ now
+    by_case : (k ≡ s) ⊎ (k ≢ s) → (get_or (set gs s g) k e).tried ≤ now
     by_case (inl same) = subst (λ (x : Guard). x.tried ≤ now) (sym (get_or-set_at gs s k g e same inside)) low
-    by_case (inr apart) = subst (λ (x : Guard). x.tried ≤ now) (sym (get_or-set_other gs s k g e (differs apart))) (all k e (omega (arith, length-set gs s g, within)))
-      where
-        differs : (k < s) ⊎ (s < k) → k ≡ s → ⊥
-        differs (inl before) same = omega (arith, before, same)
-        differs (inr later) same = omega (arith, later, same)
+    by_case (inr apart) = subst (λ (x : Guard). x.tried ≤ now) (sym (get_or-set_other gs s k g e apart)) (all k e (omega (arith, length-set gs s g, within)))
 
 module _ (now : ℕ) (rows : List Row) (gs : List Guard) (s : ℕ) (g old : Guard) (inside : s < length gs) (is_old : old ≡ get_or gs s old) (marks : AreMarked now rows gs) where
   old_at : (e : Guard) → old ≡ get_or gs s e
   old_at e = is_old ∙ get_or_default gs s old e inside
 
+  changed_at : g.changed ≡ old.changed → (e : Guard) → g.changed ≡ (get_or gs s e).changed
+  changed_at kept e = kept ∙ ap (λ (x : Guard). x.changed) (old_at e)
+
   -- a guard whose rival is no more general, or that of a row that changed
   fresh_put : (IsNoLaxer old g) ⊎ (IsFresh now g) → AreMarked now rows (set gs s g)
   fresh_put (inl kept) = record {
     tried = pairs_put (Told rows) rows gs s g inside
-        (λ k d e less told. nearer rows (get_or rows k d) (get_or gs k e).rival (get_or gs k e).rival (get_or rows s d) (get_or gs s e).rival g.rival (omega arith) (rival_at e) (marks.tried k s d e less inside (omega (arith, told, changed_at e))))
+        (λ k d e less told. nearer rows (get_or rows k d) (get_or gs k e).rival (get_or gs k e).rival (get_or rows s d) (get_or gs s e).rival g.rival (omega arith) (rival_at e) (marks.tried k s d e less inside (omega (arith, told, changed_at kept.changed e))))
         (λ k d e less within told. nearer rows (get_or rows s d) (get_or gs s e).rival g.rival (get_or rows k d) (get_or gs k e).rival (get_or gs k e).rival (rival_at e) (omega arith) (marks.tried s k d e less within (omega (arith, told, tried_at e))))
         marks.tried;
     bound = bound_put now gs s g inside (omega (arith, tried_at old, marks.bound s old inside)) marks.bound;
@@ -174,9 +166,6 @@ module _ (now : ℕ) (rows : List Row) (gs : List Guard) (s : ℕ) (g old : Guar
 
       tried_at : (e : Guard) → g.tried ≡ (get_or gs s e).tried
       tried_at e = kept.tried ∙ ap (λ (x : Guard). x.tried) (old_at e)
-
-      changed_at : (e : Guard) → g.changed ≡ (get_or gs s e).changed
-      changed_at e = kept.changed ∙ ap (λ (x : Guard). x.changed) (old_at e)
   fresh_put (inr fresh) = record {
     tried = pairs_put (Told rows) rows gs s g inside
         (λ k d e less told. absurd (omega (arith, told, fresh.changed, marks.bound k e (omega (arith, less, inside)))))
@@ -196,7 +185,7 @@ module _ (now : ℕ) (rows : List Row) (gs : List Guard) (s : ℕ) (g old : Guar
   tried_put settled refused same (inl kept) = fresh_put (inl (same_guard kept))
   tried_put settled refused same (inr (yes_settled, mark)) = record {
     tried = pairs_put (Told rows) rows gs s g inside
-        (λ k d e less told. subst (λ n. IsRefused rows (get_or rows k d) (get_or gs k e).rival (get_or rows s d) n) (sym (rival_at e)) (marks.tried k s d e less inside (omega (arith, told, changed_at e))))
+        (λ k d e less told. subst (λ n. IsRefused rows (get_or rows k d) (get_or gs k e).rival (get_or rows s d) n) (sym (rival_at e)) (marks.tried k s d e less inside (omega (arith, told, changed_at mark.changed e))))
         (λ k d e less within told. subst (λ n. IsRefused rows (get_or rows s d) n (get_or rows k d) (get_or gs k e).rival) (sym (rival_at e)) (refused yes_settled k less (omega (arith, within, same)) d e))
         marks.tried;
     bound = bound_put now gs s g inside (omega (arith, mark.tried)) marks.bound;
@@ -204,9 +193,6 @@ module _ (now : ℕ) (rows : List Row) (gs : List Guard) (s : ℕ) (g old : Guar
     where
       rival_at : (e : Guard) → g.rival ≡ (get_or gs s e).rival
       rival_at e = mark.rival ∙ ap (λ (x : Guard). x.rival) (old_at e)
-
-      changed_at : (e : Guard) → g.changed ≡ (get_or gs s e).changed
-      changed_at e = mark.changed ∙ ap (λ (x : Guard). x.changed) (old_at e)
 
   pub tried_set : (new : List Guard) → new ≡ set gs s g → (settled : Bool) → (IsTrue settled → (b : ℕ) → s < b → b < length rows → IsRefusedAt rows gs s b) → length gs ≡ length rows → (g ≡ old) ⊎ ((IsTrue settled) × (IsMarked now old g)) → AreMarked now rows new
   tried_set new is settled refused same told = subst (AreMarked now rows) (sym is) (tried_put settled refused same told)
@@ -452,7 +438,7 @@ latest_more rows gs now new k x v same times inside next here later is done j fr
 -- a mark changes no time
 pub latest_kept : (now : ℕ) (rows : List Row) (gs new : List Guard) (latest : List ℕ) (s : ℕ) (g old : Guard) (settled : Bool) → length gs ≡ length rows → s < length gs → old ≡ get_or gs s old → new ≡ set gs s g → (g ≡ old) ⊎ ((IsTrue settled) × (IsMarked now old g))
     → AreLatest rows gs latest → AreLatest rows new latest
-latest_kept now rows gs new latest s g old settled same inside is_old is told each k in_rows b d e behind within bits = subst (λ l. (get_or l b e).changed ≤ get_or latest k 0) (sym is) (by_case (cases_order b s))
+latest_kept now rows gs new latest s g old settled same inside is_old is told each k in_rows b d e behind within bits = subst (λ l. (get_or l b e).changed ≤ get_or latest k 0) (sym is) (by_case (cases_eq b s))
   where
     before : (get_or gs b e).changed ≤ get_or latest k 0
     before = each k in_rows b d e behind within bits
@@ -461,13 +447,9 @@ latest_kept now rows gs new latest s g old settled same inside is_old is told ea
     changed_at (inl kept) = ap (λ (x : Guard). x.changed) (kept ∙ is_old ∙ get_or_default gs s old e inside)
     changed_at (inr (yes_settled, mark)) = mark.changed ∙ ap (λ (x : Guard). x.changed) (is_old ∙ get_or_default gs s old e inside)
 
-    by_case : (b ≡ s) ⊎ ((b < s) ⊎ (s < b)) → (get_or (set gs s g) b e).changed ≤ get_or latest k 0
+    by_case : (b ≡ s) ⊎ (b ≢ s) → (get_or (set gs s g) b e).changed ≤ get_or latest k 0
     by_case (inl at) = subst (λ (x : Guard). x.changed ≤ get_or latest k 0) (sym (get_or-set_at gs s b g e at inside)) (omega (arith, changed_at told, ap (λ n. (get_or gs n e).changed) at, before))
-    by_case (inr apart) = subst (λ (x : Guard). x.changed ≤ get_or latest k 0) (sym (get_or-set_other gs s b g e (differs apart))) before
-      where
-        differs : (b < s) ⊎ (s < b) → b ≡ s → ⊥
-        differs (inl less) at = omega (arith, less, at)
-        differs (inr less) at = omega (arith, less, at)
+    by_case (inr apart) = subst (λ (x : Guard). x.changed ≤ get_or latest k 0) (sym (get_or-set_other gs s b g e apart)) before
 
 -- where none behind it changed since it was tried, a row is still refused with each
 pub still_refused : (rows : List Row) (gs : List Guard) (i t : ℕ) (z : Guard) → length gs ≡ length rows → i < length rows → AreTried rows gs → IsLatest rows gs i t → t < (get_or gs i z).tried → (b : ℕ) → i < b → b < length rows → IsRefusedAt rows gs i b

@@ -3,7 +3,6 @@ use Rattle.std.proofs.Common.{◌≡◌, ℕ, ◌+◌, ◌-◌, ◌*◌, ◌^◌
 use Rattle.std.specs.Int.{bit_at}
 use Rattle.std.specs.List.{All, AllPairs, Contains}
 use Rattle.std.specs.List.Sorted.{IsPermutation}
-use Rattle.std.proofs.Props.{props}
 use Rattle.std.proofs.lemmas.Bool.{cases_eq, cases_lt, eqb-true, false≢true}
 use Rattle.std.proofs.lemmas.Bool.Decides.{eqb_tells}
 use Rattle.std.proofs.lemmas.List.Elements.{All-contains, All-head, All-tail}
@@ -35,6 +34,7 @@ use Rattle.tern_word.specs.declared.tables.Row.{Row}
 use Rattle.tern_word.specs.SoundTable.{Original}
 use Rattle.tern_word.specs.Ternary.{Intersects, generality}
 use Rattle.tern_word.proofs.BlockLaws.{Intersects-sym, key_small}
+use Rattle.tern_word.proofs.RouteBits.{same_route, zero_of}
 use Rattle.plain_tables.specs.PlainTable.{HasChip, IsOriginalOf, AreOriginals, IsNotAfter, IsPlainTable, AreRouted, row_of}
 use Rattle.plain_tables.proofs.Trees.{comes_in_tree}
 use Rattle.plain_tables.proofs.Whole.{originals_apart, from_net}
@@ -48,17 +48,11 @@ same_bit x y first second alike = elim (eqb_tells x 1) [
   | inr none ↦ elim (eqb_tells y 1) [
     | inl one ↦ absurd (none.1 (eqb-true x 1 (alike ∙ one.0)))
     | inr also ↦
-        let x_none : x ≡ 0 = not_one x first none.1 in
-        let y_none : y ≡ 0 = not_one y second also.1 in
+        let x_none : x ≡ 0 = zero_of x first none.1 in
+        let y_none : y ≡ 0 = zero_of y second also.1 in
         x_none ∙ sym y_none
   ]
 ]
-  where
-    not_one : (n : ℕ) → n < 2 → (n ≡ 1 → ⊥) → n ≡ 0
-    not_one n small other = elim (cases_eq n 0) [
-      | inl is ↦ is
-      | inr more ↦ absurd (other (omega (arith, small, more)))
-    ]
 
 same_bit_at : (a b : Route) → ((o : Out) → IsOutput o → has a o ≡ has b o) → (i : ℕ) → i < 24 → bit_at a.bits i ≡ bit_at b.bits i
 same_bit_at a b alike i below = elim (cases_lt i 6) [
@@ -76,13 +70,7 @@ same_bit_at a b alike i below = elim (cases_lt i 6) [
 
 -- a route is its outputs
 pub same_outputs : (a b : Route) → ((o : Out) → IsOutput o → has a o ≡ has b o) → a ≡ b
-same_outputs a b alike = subst (λ n. (w : n < 2 ^ 24) → ◌≡◌ {A = Route} a (record { bits = n; within = w })) bits (λ w. ap (λ (x : a.bits < 2 ^ 24). let r : Route = record { bits = a.bits; within = x } in r) (small a.bits a.within w)) b.within
-  where
-    small : (n : ℕ) → IsProp (n < 2 ^ 24)
-    small n = hlevel props
-
-    bits : a.bits ≡ b.bits
-    bits = same_from_bits_below 24 a.bits b.bits a.within b.within (same_bit_at a b alike)
+same_outputs a b alike = same_route a b (same_from_bits_below 24 a.bits b.bits a.within b.within (same_bit_at a b alike))
 
 -- a route with an output is not 0
 not_zero : (r : Route) (o : Out) → has r o ≡ true → 0 < r.bits

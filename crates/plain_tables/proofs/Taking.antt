@@ -5,6 +5,8 @@ use Rattle.std.proofs.lemmas.Bool.{cases_eq}
 use Rattle.std.proofs.lemmas.List.{get_or-set_same, get_or-set_other, take_all}
 use Rattle.std.proofs.lemmas.List.Elements.{Contains-push_cases}
 use Rattle.std.proofs.Math.ListN.{length-set}
+use Rattle.std.proofs.lemmas.Option.{none-some, same_Some}
+use Rattle.list_laws.proofs.Members.{Contains-none}
 use Rattle.spin_base.specs.declared.chips.Chip.{Chip}
 use Rattle.spin_base.specs.declared.chips.Port.{Port}
 use Rattle.spin_base.specs.declared.blocks.Block.{Block}
@@ -144,15 +146,12 @@ first_after m root edges block from p at within = record {
   each = each_kept block from from p within untouched;
   done = λ c on. done_after block from from p m c within untouched (λ other. elim (tree_cases m root [] c on) [
     | inl is ↦ absurd (other (ap (index_of m) is ∙ sym at))
-    | inr into ↦ absurd (no_edge into.1)
+    | inr into ↦ absurd (Contains-none into.0 into.1)
   ]);
 }
   where
     untouched : (i : ℕ) → IsDone block from from i ⊎ IsLeft from from i
     untouched i = inr (record { port = refl; route = refl; list = refl })
-
-    no_edge : {e : Edge} → Contains [] e → ⊥
-    no_edge (k, below, is) = omega (arith, below)
 
 -- the root's place is taken first
 pub taken_first : (m : Description) (root : Chip) (edges : List Edge) (block : Block) (from s : Stand) (p : ℕ) → p ≡ index_of m root → Has from p →
@@ -175,13 +174,10 @@ taken_push m root es e far block from s p leads at within so_far = record {
       | inl before ↦ so_far.done c (inr (before.0, into.0, before.1, before.2, into.2))
       | inr last ↦
           let same : Some far ≡ Some c = sym leads ∙ subst (λ (x : Edge). end_of m x ≡ Some c) (sym last) into.2 in
-          absurd (other (ap (index_of m) (sym (one same)) ∙ sym at))
+          absurd (other (ap (index_of m) (sym (same_Some far c same)) ∙ sym at))
     ]
   ]);
 }
-  where
-    one : {a b : Chip} → Some a ≡ Some b → a ≡ b
-    one e = cc
 
 -- one more edge leads nowhere
 taken_nowhere : (m : Description) (root : Chip) (es : List Edge) (e : Edge) (block : Block) (from s : Stand) → end_of m e ≡ None →
@@ -195,13 +191,10 @@ taken_nowhere m root es e block from s none so_far = record {
     | inl is ↦ so_far.done c (inl is)
     | inr into ↦ elim (Contains-push_cases es e into.0 into.1) [
       | inl before ↦ so_far.done c (inr (before.0, into.0, before.1, before.2, into.2))
-      | inr last ↦ absurd (differ (sym none ∙ subst (λ (x : Edge). end_of m x ≡ Some c) (sym last) into.2))
+      | inr last ↦ absurd (none-some c (sym none ∙ subst (λ (x : Edge). end_of m x ≡ Some c) (sym last) into.2))
     ]
   ];
 }
-  where
-    differ : {a : Chip} → None ≡ Some a → ⊥
-    differ e = cc
 
 -- the same of an edge that is read from a list that is the tree's
 pub taken_more : (m : Description) (root : Chip) (items edges : List Edge) (i : ℕ) (d : Edge) (far : Chip) (block : Block) (from s t : Stand) (p : ℕ) → items ≡ edges →

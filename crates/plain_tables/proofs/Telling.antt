@@ -8,6 +8,8 @@ use Rattle.std.proofs.lemmas.List.{get_or-set_same, get_or-set_other, get_or_def
 use Rattle.std.proofs.Math.ListN.{length-set}
 use Rattle.std.proofs.lemmas.List.Elements.{Contains-append_left, Contains-push, Contains-push_cases}
 use Rattle.std.proofs.lemmas.List.Folds.{list_any_more}
+use Rattle.std.proofs.lemmas.Option.{none-some, same_Some}
+use Rattle.list_laws.proofs.Members.{Contains-none}
 use Rattle.spin_base.specs.declared.chips.Chip.{Chip}
 use Rattle.spin_base.specs.declared.chips.Spot.{Spot}
 use Rattle.spin_base.specs.declared.chips.Port.{Port}
@@ -44,12 +46,9 @@ ports_start m root edges p ports clear root_in at below c inside = elim (cases_e
       subst (TellsPort m root [] c) (sym (get_or-set_other ports p (index_of m c) (Some Local) None other ∙ clear.clear c inside))
       (λ on. elim (tree_cases m root [] c on) [
         | inl is ↦ other (ap (index_of m) is ∙ sym at)
-        | inr into ↦ no_edge into.1
+        | inr into ↦ Contains-none into.0 into.1
       ])
 ]
-  where
-    no_edge : {e : Edge} → Contains [] e → ⊥
-    no_edge (k, below, is) = omega (arith, below)
 
 pub ports_first : (m : Description) (root : Chip) (edges : List Edge) (p : ℕ) (ports : List (Option Port)) → IsClear m None ports →
     IsInside m root → p ≡ index_of m root → p < m.width * m.height →
@@ -81,21 +80,15 @@ ports_push m root es e far p ports leads far_in at below told c inside = elim (c
       subst (TellsPort m root (es ++ e ∷ []) c) (sym (ap (λ j. get_or (set ports p (Some (ByLink (opposite_of e.dir)))) j None) here ∙ get_or-set_same ports p (Some (ByLink (opposite_of e.dir))) None below))
       (inr (e, Contains-push es e, leads ∙ ap Some (sym is), refl))
   | inr other ↦
-      let elsewhere : end_of m e ≢ Some c = λ same. other (ap (index_of m) (one (sym same ∙ leads)) ∙ sym at) in
+      let elsewhere : end_of m e ≢ Some c = λ same. other (ap (index_of m) (same_Some c far (sym same ∙ leads)) ∙ sym at) in
       subst (TellsPort m root (es ++ e ∷ []) c) (sym (get_or-set_other ports p (index_of m c) (Some (ByLink (opposite_of e.dir))) None other))
       (kept m root es e c (get_or ports (index_of m c) None) elsewhere (told c inside))
 ]
-  where
-    one : {a b : Chip} → Some a ≡ Some b → a ≡ b
-    one e = cc
 
 ports_nowhere : (m : Description) (root : Chip) (es : List Edge) (e : Edge) (ports : List (Option Port)) → end_of m e ≡ None →
     TellsPorts m root es ports → TellsPorts m root (es ++ e ∷ []) ports
 ports_nowhere m root es e ports none told c inside =
-    kept m root es e c (get_or ports (index_of m c) None) (λ same. differ (sym none ∙ same)) (told c inside)
-  where
-    differ : {a : Chip} → None ≡ Some a → ⊥
-    differ e = cc
+    kept m root es e c (get_or ports (index_of m c) None) (λ same. none-some c (sym none ∙ same)) (told c inside)
 
 -- one more thing of a list is read, which is the same as another
 pub reads : {X : Type 0} (items xs : List X) (i : ℕ) (d : X) → items ≡ xs → i < length items → take (i + 1) xs ≡ take i xs ++ get_or items i d ∷ []

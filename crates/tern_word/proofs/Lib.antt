@@ -1,4 +1,5 @@
 mod Bits
 pub mod BlockLaws
+pub mod RouteBits
 mod Lying
 mod Placing
