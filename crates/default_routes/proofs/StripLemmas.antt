@@ -1,6 +1,6 @@
 -- Kept rows route as all rows do.
 use Rattle.std.proofs.Common.{◌≡◌, ℕ, suc, ◌+◌, ◌-◌, ◌^◌, ◌<◌, ◌≤◌, ◌⊎◌, inl, inr, ◌==◌, Bool, true, false, cond, Some, List, [], ◌∷◌, ◌++◌, reverse, length, get_or, refl, sym, ap, ◌∙◌, subst, arith}
-use Rattle.std.specs.Prelude.{All, AllPairs, map, find, slice_get, bit_and, MatchBool, IsTrue, ◌↔◌}
+use Rattle.std.specs.Prelude.{All, AllPairs, map, find, slice_get, bit_and, MatchBool, IsTrue, ◌↔◌, if◌then◌else◌}
 use Rattle.std.specs.List.{cons_option}
 use Rattle.std.specs.Option.{option_map_or}
 use Rattle.std.proofs.lemmas.Bool.{cases_lt, eq-eqb}
@@ -24,7 +24,8 @@ use Rattle.tern_word.specs.SoundTable.{Misses, IsSound, Original, served_by, ser
 use Rattle.cover_checks.specs.Merge.{has, rows_at}
 use Rattle.cover_checks.proofs.Answering.{fails}
 use Rattle.cover_checks.proofs.Lists.{AllPairs-nil, All-flat_map}
-use Rattle.cover_checks.proofs.Positions.{has-at, has-place, rows_at-from, rows_at-has, same_route}
+use Rattle.cover_checks.proofs.Positions.{has-at, has-place, rows_at-from, rows_at-has}
+use Rattle.tern_word.proofs.RouteBits.{same_route}
 use Rattle.default_routes.specs.KeptRows.{IsStrippable, KeptFrom, ends, goes, stays, AreKept, ArePlaces, RoutesAll, Routes}
 
 -- ---- lookup, entry by entry
@@ -132,43 +133,21 @@ kept_places rows kept are = let from = places_from rows 0 kept are in record { i
 
 -- ---- one arrival for each one-link route
 
+-- the way of packets that a route with these bits sends straight on
+abbrev direction : ℕ → Dir
+direction bits =
+    if bits == 8 then East else (if bits == 16 then NorthEast else (if bits == 32 then North else (if bits == 1 then West else (if bits == 2 then SouthWest else South))))
+
+direction_of : (d : Dir) → direction (straight_on d).bits ≡ d
+direction_of East = refl
+direction_of NorthEast = refl
+direction_of North = refl
+direction_of West = refl
+direction_of SouthWest = refl
+direction_of South = refl
+
 pub straight_injective : (d e : Dir) → (straight_on d).bits ≡ (straight_on e).bits → d ≡ e
-straight_injective East East e = refl
-straight_injective East NorthEast e = absurd (omega (arith, e))
-straight_injective East North e = absurd (omega (arith, e))
-straight_injective East West e = absurd (omega (arith, e))
-straight_injective East SouthWest e = absurd (omega (arith, e))
-straight_injective East South e = absurd (omega (arith, e))
-straight_injective NorthEast East e = absurd (omega (arith, e))
-straight_injective NorthEast NorthEast e = refl
-straight_injective NorthEast North e = absurd (omega (arith, e))
-straight_injective NorthEast West e = absurd (omega (arith, e))
-straight_injective NorthEast SouthWest e = absurd (omega (arith, e))
-straight_injective NorthEast South e = absurd (omega (arith, e))
-straight_injective North East e = absurd (omega (arith, e))
-straight_injective North NorthEast e = absurd (omega (arith, e))
-straight_injective North North e = refl
-straight_injective North West e = absurd (omega (arith, e))
-straight_injective North SouthWest e = absurd (omega (arith, e))
-straight_injective North South e = absurd (omega (arith, e))
-straight_injective West East e = absurd (omega (arith, e))
-straight_injective West NorthEast e = absurd (omega (arith, e))
-straight_injective West North e = absurd (omega (arith, e))
-straight_injective West West e = refl
-straight_injective West SouthWest e = absurd (omega (arith, e))
-straight_injective West South e = absurd (omega (arith, e))
-straight_injective SouthWest East e = absurd (omega (arith, e))
-straight_injective SouthWest NorthEast e = absurd (omega (arith, e))
-straight_injective SouthWest North e = absurd (omega (arith, e))
-straight_injective SouthWest West e = absurd (omega (arith, e))
-straight_injective SouthWest SouthWest e = refl
-straight_injective SouthWest South e = absurd (omega (arith, e))
-straight_injective South East e = absurd (omega (arith, e))
-straight_injective South NorthEast e = absurd (omega (arith, e))
-straight_injective South North e = absurd (omega (arith, e))
-straight_injective South West e = absurd (omega (arith, e))
-straight_injective South SouthWest e = absurd (omega (arith, e))
-straight_injective South South e = refl
+straight_injective d e same = sym (direction_of d) ∙ (ap direction same ∙ direction_of e)
 
 -- ---- a row that can go
 
