@@ -1,13 +1,11 @@
 -- Flows of a bank, one after the other.
-use Rattle.std.proofs.Common.{◌≡◌, ◌≢◌, ℕ, ◌+◌, ◌<◌, ◌≤◌, ◌⊎◌, ◌==◌, inl, inr, List, [], ◌∷◌, ◌++◌, map, length, set, replicate, Option, Some, refl, sym, ap, subst, ◌∙◌, append-nil, append_assoc, arith}
-use Rattle.std.specs.List.{All, AllPairs, AllZip, Contains, filter, slice_get}
+use Rattle.std.proofs.Common.{◌≡◌, ◌≢◌, ℕ, ◌+◌, ◌≤◌, ◌⊎◌, ◌==◌, inl, inr, List, [], ◌∷◌, ◌++◌, map, length, set, replicate, Option, Some, refl, sym, ap, subst, ◌∙◌, append-nil, append_assoc, arith}
+use Rattle.std.specs.List.{All, AllPairs, AllZip, Contains, slice_get}
 use Rattle.std.proofs.lemmas.Bool.{cases_lt}
-use Rattle.std.proofs.lemmas.List.{map-append, map-set, length-append, length-map}
-use Rattle.std.proofs.lemmas.Option.{slice_get-get_or}
-use Rattle.std.proofs.lemmas.List.Elements.{All-nil, All-cons, All-head, All-tail, All-append, filter-append}
-use Rattle.list_laws.proofs.Places.{slice_get_there, slice_get-mapped, AllZip-at_first}
+use Rattle.std.proofs.lemmas.List.{map-append, map-set, length-append}
+use Rattle.std.proofs.lemmas.List.Elements.{All-nil, All-cons, All-head, All-tail, All-append}
+use Rattle.list_laws.proofs.Places.{both_none, none_within, slice_get-mapped}
 use Rattle.list_laws.proofs.Members.{Contains-at}
-use Rattle.list_laws.proofs.Pairs.{AllPairs-apart}
 use Rattle.spin_base.specs.declared.copies.McCopy.{McCopy}
 use Rattle.spin_base.specs.declared.copies.Delivery.{Delivery}
 use Rattle.spin_base.specs.WithRoom.{WithRoom}
@@ -23,7 +21,7 @@ use Rattle.chip_node.specs.declared.banks.CoreBank.{CoreBank}
 use Rattle.chip_node.specs.Numbers.{numbers_of}
 use Rattle.chip_node.specs.BankFlow.{unsent_of, of_vertex, deliveries, OffersOne, IsEmptyFor, CollectsNone, VertexFlow, Moves, MaySendNone, BankFlow}
 use Rattle.chip_node.specs.Collecting.{HasNothing, OffersAny, CollectsAny}
-use Rattle.chip_node.proofs.Beside.{AllZip-same, AllZip-set, AllZip-weaker, AllZip-through, AllZip-map_same, AllZip-first, AllZip-back}
+use Rattle.chip_node.proofs.Beside.{AllZip-same, AllZip-set, AllZip-weaker, AllZip-through, AllZip-map_same, AllZip-first, AllZip-back, apart_by, grown, one_grew, values-append}
 use Rattle.chip_node.proofs.BankSteps.{of_vertex_own, of_vertex_other}
 
 -- ---- one vertex
@@ -32,8 +30,7 @@ vertex_stays : (x : BankVertex) → VertexFlow [] [] x x
 vertex_stays x = record { vertex = refl; link = refl; unsent = refl; first = refl; took = sym (append-nil (taking x.end.rx).took) }
 
 of_vertex-append : (n : ℕ) (ss ts : List (ℕ × McCopy)) → of_vertex n (ss ++ ts) ≡ of_vertex n ss ++ of_vertex n ts
-of_vertex-append n ss ts = ap (λ l. map (λ (p : ℕ × McCopy). p.1) l) (filter-append (λ (p : ℕ × McCopy). n == p.0) ss ts)
-    ∙ map-append (λ (p : ℕ × McCopy). p.1) (filter (λ (p : ℕ × McCopy). n == p.0) ss) (filter (λ (p : ℕ × McCopy). n == p.0) ts)
+of_vertex-append n ss ts = values-append (λ (a b : ℕ). a == b) n ss ts
 
 vertex_flow_join : (ss gs ts hs : List (ℕ × McCopy)) (x y z : BankVertex) → VertexFlow ss gs x y → VertexFlow ts hs y z → VertexFlow (ss ++ ts) (gs ++ hs) x z
 vertex_flow_join ss gs ts hs x y z h k = record {
@@ -42,8 +39,8 @@ vertex_flow_join ss gs ts hs x y z h k = record {
   unsent = h.unsent ∙ (ap (λ l. of_vertex x.vertex ss ++ l) (k.unsent ∙ ap (λ n. of_vertex n ts ++ z.unsent) h.vertex)
       ∙ (sym (append_assoc (of_vertex x.vertex ss) (of_vertex x.vertex ts) z.unsent) ∙ ap (λ l. l ++ z.unsent) (sym (of_vertex-append x.vertex ss ts))));
   first = k.first ∙ h.first;
-  took = k.took ∙ (ap (λ l. l ++ of_vertex y.vertex hs) h.took ∙ (append_assoc (taking x.end.rx).took (of_vertex x.vertex gs) (of_vertex y.vertex hs)
-      ∙ ap (λ l. (taking x.end.rx).took ++ l) (ap (λ n. of_vertex x.vertex gs ++ of_vertex n hs) h.vertex ∙ sym (of_vertex-append x.vertex gs hs))));
+  took = grown (taking x.end.rx).took (taking y.end.rx).took (taking z.end.rx).took (of_vertex x.vertex gs) (of_vertex y.vertex hs) (of_vertex x.vertex (gs ++ hs)) h.took k.took
+      (of_vertex-append x.vertex gs hs ∙ ap (λ n. of_vertex x.vertex gs ++ of_vertex n hs) (sym h.vertex));
 }
 
 -- ---- moves, one after the other
@@ -54,13 +51,10 @@ moves_join ss gs ts hs a b c h k = record {
   link = k.link ∙ h.link;
   cap = k.cap ∙ h.cap;
   first = k.first ∙ h.first;
-  injected = k.injected ∙ (ap (λ l. l ++ map (λ (p : ℕ × McCopy). p.1) ts) h.injected
-      ∙ (append_assoc (sending a.inject.tx).sent (map (λ (p : ℕ × McCopy). p.1) ss) (map (λ (p : ℕ × McCopy). p.1) ts)
-      ∙ ap (λ l. (sending a.inject.tx).sent ++ l) (sym (map-append (λ (p : ℕ × McCopy). p.1) ss ts))));
+  injected = grown _ _ _ (map (λ (p : ℕ × McCopy). p.1) ss) (map (λ (p : ℕ × McCopy). p.1) ts) _ h.injected k.injected (map-append (λ (p : ℕ × McCopy). p.1) ss ts);
   notes = h.notes ++ k.notes;
-  fulls = k.fulls ∙ (ap (λ l. l ++ k.notes) h.fulls ∙ append_assoc (sending a.inject.tx).fulls h.notes k.notes);
-  logged = k.logged ∙ (ap (λ l. l ++ deliveries hs) h.logged ∙ (append_assoc a.log.items (deliveries gs) (deliveries hs)
-      ∙ ap (λ l. a.log.items ++ l) (sym (map-append delivery gs hs))));
+  fulls = grown _ _ _ h.notes k.notes _ h.fulls k.fulls refl;
+  logged = grown _ _ _ (deliveries gs) (deliveries hs) _ h.logged k.logged (map-append delivery gs hs);
 }
   where
     delivery : ℕ × McCopy → Delivery
@@ -109,11 +103,6 @@ send_part a b different (inr (place, k, o)) log = by o.answer
     at_number : slice_get (numbers_of a.vertices.items) place ≡ Some v.vertex
     at_number = slice_get-mapped (λ (z : BankVertex). z.vertex) a.vertices.items place v o.waiting.stands
 
-    apart : (j : ℕ) (x : BankVertex) → j ≢ place → slice_get a.vertices.items j ≡ Some x → x.vertex ≢ v.vertex
-    apart j x other ex same =
-        other (AllPairs-apart (numbers_of a.vertices.items) v.vertex different j place
-        (subst (λ w. slice_get (numbers_of a.vertices.items) j ≡ Some w) same (slice_get-mapped (λ (z : BankVertex). z.vertex) a.vertices.items j x ex)) at_number)
-
     own : VertexFlow ((v.vertex, k) ∷ []) [] v now
     own = record {
       vertex = refl;
@@ -140,7 +129,7 @@ send_part a b different (inr (place, k, o)) log = by o.answer
           (All-nil (λ p. Contains (numbers_of a.vertices.items) p.0));
       moves = record {
         vertices = subst (AllZip (VertexFlow ((v.vertex, k) ∷ []) []) a.vertices.items) (sym h.1)
-            (AllZip-set (VertexFlow ((v.vertex, k) ∷ []) []) a.vertices.items place v now o.waiting.stands own (λ j z apart_from at. other z (apart j z apart_from at)));
+            (AllZip-set (VertexFlow ((v.vertex, k) ∷ []) []) a.vertices.items place v now o.waiting.stands own (λ j z others at. other z (apart_by (λ (w : BankVertex). w.vertex) a.vertices.items different place j v z o.waiting.stands others at)));
         link = o.link;
         cap = o.cap;
         first = h.0.first;
@@ -253,14 +242,6 @@ bank_flow_start a = record {
   idle_receivers = λ some none. absurd (omega arith);
 }
 
-nothing_left : {X : Type 0} (xs ys : List X) → xs ++ ys ≡ [] → (xs ≡ []) × (ys ≡ [])
-nothing_left [] ys e = (refl, e)
-nothing_left (x ∷ xs) ys e = cc
-
-none_few : {X : Type 0} (xs : List X) (n : ℕ) → length xs ≤ n → n ≤ 0 → xs ≡ []
-none_few [] n few none = refl
-none_few (x ∷ xs) n few none = absurd (omega arith)
-
 pub bank_flow_join : (n m : ℕ) (a b c : CoreBank) → BankFlow n a b → BankFlow m b c → BankFlow (n + m) a c
 bank_flow_join n m a b c h k = record {
   sent = h.sent ++ k.sent;
@@ -270,8 +251,8 @@ bank_flow_join n m a b c h k = record {
   senders = All-append (λ p. Contains (numbers_of a.vertices.items) p.0) h.sent k.sent h.senders (subst (λ ns. All (λ p. Contains ns p.0) k.sent) same k.senders);
   receivers = All-append (λ p. Contains (numbers_of a.vertices.items) p.0) h.got k.got h.receivers (subst (λ ns. All (λ p. Contains ns p.0) k.got) same k.receivers);
   moves = moves_join h.sent h.got k.sent k.got a b c h.moves k.moves;
-  idle_sender = λ some none. (let left = nothing_left h.sent k.sent none in elim (cases_lt 0 n) [ inl begun ↦ h.idle_sender begun left.0 | inr not ↦ sends_later not (k.idle_sender (omega arith) left.1) ]);
-  idle_receivers = λ some none. (let left = nothing_left h.got k.got none in elim (cases_lt 0 n) [ inl begun ↦ h.idle_receivers begun left.0 | inr not ↦ gets_later not (k.idle_receivers (omega arith) left.1) ]);
+  idle_sender = λ some none. (let left = both_none h.sent k.sent none in elim (cases_lt 0 n) [ inl begun ↦ h.idle_sender begun left.0 | inr not ↦ sends_later not (k.idle_sender (omega arith) left.1) ]);
+  idle_receivers = λ some none. (let left = both_none h.got k.got none in elim (cases_lt 0 n) [ inl begun ↦ h.idle_receivers begun left.0 | inr not ↦ gets_later not (k.idle_receivers (omega arith) left.1) ]);
 }
   where
     same : numbers_of b.vertices.items ≡ numbers_of a.vertices.items
@@ -280,14 +261,14 @@ bank_flow_join n m a b c h k = record {
     gets_later : n ≤ 0 → All IsWhole b.vertices.items → All IsWhole a.vertices.items
     gets_later not all =
         whole_back h.sent a.vertices.items b.vertices.items
-        (subst (λ g. AllZip (VertexFlow h.sent g) a.vertices.items b.vertices.items) (none_few h.got n h.few_got not) h.moves.vertices) all
+        (subst (λ g. AllZip (VertexFlow h.sent g) a.vertices.items b.vertices.items) (none_within h.got n h.few_got not) h.moves.vertices) all
 
     sends_later : n ≤ 0 → MaySendNone b → MaySendNone a
     sends_later not (inl all) = inl (AllZip-back (VertexFlow [] h.got) (λ (v : BankVertex). v.unsent ≡ []) (λ x y r none. r.unsent ∙ none) a.vertices.items b.vertices.items
-        (subst (λ s. AllZip (VertexFlow s h.got) a.vertices.items b.vertices.items) (none_few h.sent n h.few_sent not) h.moves.vertices) all)
+        (subst (λ s. AllZip (VertexFlow s h.got) a.vertices.items b.vertices.items) (none_within h.sent n h.few_sent not) h.moves.vertices) all)
     sends_later not (inr full) =
         let sent : (sending b.inject.tx).sent ≡ (sending a.inject.tx).sent = h.moves.injected
-        ∙ (ap (λ s. (sending a.inject.tx).sent ++ map (λ (p : ℕ × McCopy). p.1) s) (none_few h.sent n h.few_sent not) ∙ append-nil (sending a.inject.tx).sent) in
+        ∙ (ap (λ s. (sending a.inject.tx).sent ++ map (λ (p : ℕ × McCopy). p.1) s) (none_within h.sent n h.few_sent not) ∙ append-nil (sending a.inject.tx).sent) in
         let put : put_of (sending b.inject.tx) ≡ put_of (sending a.inject.tx) = ap (λ l. l ++ (sending b.inject.tx).sent) h.moves.first ∙ ap (λ l. (sending a.inject.tx).first ++ l) sent in
         let long = ap length put in
         let cap = h.moves.cap in
@@ -339,24 +320,6 @@ offering_ends e f vs ws (inr (place, k, o)) = elim o.answer [
   | inr h ↦ subst (AllZip SameEnd vs) (sym h.1) (AllZip-same SameEnd vs (λ j z at. (refl, refl)))
 ]
 
--- where a copy was collected, not nothing was
-one_is_not_none : (p : ℕ × McCopy) (xs ys : List BankVertex) → Contains (numbers_of xs) p.0 → AllZip (λ x z. (taking z.end.rx).took ≡ (taking x.end.rx).took ++ of_vertex x.vertex (p ∷ [])) xs ys → CollectsNone xs ys → ⊥
-one_is_not_none p xs ys there grown none =
-    let k = there.0 in
-    let many : length (numbers_of xs) ≡ length xs = length-map xs (λ (v : BankVertex). v.vertex) in
-    let below : k < length xs = subst (λ n. k < n) many there.1 in
-    let x = slice_get_there xs k below in
-    let number : Some x.0.vertex ≡ Some p.0 = sym (slice_get-mapped (λ (v : BankVertex). v.vertex) xs k x.0 x.1)
-    ∙ (slice_get-get_or (numbers_of xs) k p.0 there.1 ∙ ap {B = Option ℕ} (λ n. Some n) there.2) in
-    let is_number : x.0.vertex ≡ p.0 = cc in
-    let a = AllZip-at_first (λ (v w : BankVertex). (taking w.end.rx).took ≡ (taking v.end.rx).took ++ of_vertex v.vertex (p ∷ [])) xs ys grown k x.0 x.1 in
-    let b = AllZip-at_first (λ (v w : BankVertex). (taking w.end.rx).took ≡ (taking v.end.rx).took) xs ys none k x.0 x.1 in
-    let both : Some a.0 ≡ Some b.0 = sym a.1 ∙ b.1 in
-    let same : a.0 ≡ b.0 = cc in
-    let stayed = ap length (subst (λ (w : BankVertex). (taking w.end.rx).took ≡ (taking x.0.end.rx).took) (sym same) b.2) in
-    let grew = ap length (a.2 ∙ ap (λ l. (taking x.0.end.rx).took ++ l) (ap (λ n. of_vertex n (p ∷ [])) is_number ∙ of_vertex_own p.0 p.1)) in
-    omega (arith, grew, stayed, length-append (taking x.0.end.rx).took (p.1 ∷ []))
-
 -- a turn that collects nothing found each queue empty
 pub nothing_is_empty : (e f : OutEnd) (a b c : CoreBank) → OffersAny e f a.vertices.items b.vertices.items → numbers_of b.vertices.items ≡ numbers_of a.vertices.items → CollectsAny b c → CollectsNone a.vertices.items c.vertices.items
     → AllZip IsEmptyFor a.vertices.items c.vertices.items
@@ -369,7 +332,8 @@ nothing_is_empty e f a b c offers numbers (inl h) none =
     })
     a.vertices.items b.vertices.items c.vertices.items (offering_ends e f a.vertices.items b.vertices.items offers) h.0
 nothing_is_empty e f a b c offers numbers (inr (p, one, logged)) none =
-    absurd (one_is_not_none p a.vertices.items c.vertices.items (subst (λ ns. Contains ns p.0) numbers one.of_a_vertex)
-    (AllZip-through SameEnd (VertexFlow [] (p ∷ [])) (λ (x z : BankVertex). (taking z.end.rx).took ≡ (taking x.end.rx).took ++ of_vertex x.vertex (p ∷ []))
-    (λ x y z s r. r.took ∙ (ap (λ (i : InEnd). (taking i.rx).took ++ of_vertex y.vertex (p ∷ [])) s.1 ∙ ap (λ n. (taking x.end.rx).took ++ of_vertex n (p ∷ [])) s.0))
+    absurd (one_grew (λ (v : BankVertex). v.vertex) (λ (v : BankVertex). (taking v.end.rx).took) p.0 p.1 a.vertices.items c.vertices.items (subst (λ ns. Contains ns p.0) numbers one.of_a_vertex)
+    (AllZip-through SameEnd (VertexFlow [] (p ∷ [])) (λ (x z : BankVertex). x.vertex ≡ p.0 → (taking z.end.rx).took ≡ (taking x.end.rx).took ++ p.1 ∷ [])
+    (λ x y z s r is. r.took ∙ (ap (λ (i : InEnd). (taking i.rx).took ++ of_vertex y.vertex (p ∷ [])) s.1
+    ∙ ap (λ l. (taking x.end.rx).took ++ l) (ap (λ n. of_vertex n (p ∷ [])) (s.0 ∙ is) ∙ of_vertex_own p.0 p.1)))
     a.vertices.items b.vertices.items c.vertices.items (offering_ends e f a.vertices.items b.vertices.items offers) one.vertices) none)

@@ -1,10 +1,13 @@
 -- A ring of places that is gone through from a start: which items were visited, and what became of them.
-use Rattle.std.proofs.Common.{◌≡◌, ◌≢◌, ℕ, zero, suc, ◌+◌, ◌<◌, ◌≤◌, ◌⊎◌, inl, inr, List, [], ◌∷◌, length, set, Option, Some, refl, sym, subst, ap, ◌∙◌, arith}
-use Rattle.std.specs.List.{AllZip, slice_get}
+use Rattle.std.proofs.Common.{◌≡◌, ◌≢◌, ℕ, zero, suc, ◌+◌, ◌<◌, ◌≤◌, ◌⊎◌, inl, inr, List, [], ◌∷◌, length, map, get_or, set, Option, Some, refl, sym, subst, ap, ◌∙◌, arith}
+use Rattle.std.specs.List.{All, AllPairs, AllZip, Contains, slice_get}
 use Rattle.std.proofs.Math.ListN.{length-set}
+use Rattle.std.proofs.Math.Seq.{map-set_same}
 use Rattle.std.proofs.lemmas.Bool.{cases_eq, cases_lt}
-use Rattle.std.proofs.lemmas.Option.{slice_get_within}
-use Rattle.list_laws.proofs.Places.{slice_get_there, slice_get-set_same, slice_get-set_other}
+use Rattle.std.proofs.lemmas.Option.{slice_get_read, slice_get_within}
+use Rattle.list_laws.proofs.Members.{Contains-at}
+use Rattle.list_laws.proofs.Places.{All-at, one_item_at, slice_get_there, slice_get-mapped, slice_get-set_same, slice_get-set_other}
+use Rattle.chip_node.proofs.Beside.{apart_by}
 
 -- the place was gone by within so many steps
 abbrev pub IsBehind : ℕ → ℕ → ℕ → ℕ → Type 0
@@ -74,59 +77,100 @@ module _ {X : Type 0} (E : X → X → Type 0) where
       none j inside (inl h) = omega (arith, h.0, h.1)
       none j inside (inr h) = omega arith
 
-  -- one place more
-  pub gone_more : (start steps at : ℕ) (xs ys : List X) (old new : X) → start ≤ length xs → steps < length xs → at < length xs → IsPlaceOf start (length xs) steps at → GoneBy start steps xs ys
-      → slice_get ys at ≡ Some old → E old new → GoneBy start (steps + 1) xs (set ys at new)
-  gone_more start steps at xs ys old new s n below place gone there holds = record {
-    long = length-set ys at new ∙ gone.long;
-    each = λ j x y ex ey. here j x y ex ey (cases_eq j at);
+  -- the next step looks at a place, where this item stands
+  pub record Step (start steps at : ℕ) (xs ys : List X) (old : X) : Type 0 where
+    pub within : start ≤ length xs
+    pub more : steps < length xs
+    pub inside : at < length xs
+    pub place : IsPlaceOf start (length xs) steps at
+    pub gone : GoneBy start steps xs ys
+    pub is : old ≡ get_or ys at old
+
+  -- the same by a number that is the length
+  pub step_of : (start steps at count : ℕ) (xs ys : List X) (old : X) → count ≡ length xs → start ≤ length xs → steps < count → at < count → IsPlaceOf start count steps at → GoneBy start steps xs ys → old ≡ get_or ys at old →
+      Step start steps at xs ys old
+  step_of start steps at count xs ys old long s n below place gone is = record {
+    within = s;
+    more = omega (arith, long, n);
+    inside = omega (arith, long, below);
+    place = subst (λ m. IsPlaceOf start m steps at) long place;
+    gone = gone;
+    is = is;
   }
-    where
-      here : (j : ℕ) (x y : X) → slice_get xs j ≡ Some x → slice_get (set ys at new) j ≡ Some y → (j ≡ at) ⊎ (j ≢ at) →
-          (IsBehind start (length xs) (steps + 1) j → E x y) × (IsAhead start (length xs) (steps + 1) j → y ≡ x)
-      here j x y ex ey (inl same) =
-          let at_x : slice_get xs at ≡ Some x = subst (λ i. slice_get xs i ≡ Some x) same ex in
-          let was : old ≡ x = (gone.each at x old at_x there).1 (place_ahead start (length xs) steps at s n below place) in
-          let is : Some new ≡ Some y = sym (slice_get-set_same ys at old new there) ∙ subst (λ i. slice_get (set ys at new) i ≡ Some y) same ey in
-          let now : new ≡ y = cc in (
-            λ _. subst (λ z. E z y) was (subst (E old) now holds),
-            λ ahead. absurd (place_gone start (length xs) steps at s n below place (subst (IsAhead start (length xs) (steps + 1)) same ahead)),
-          )
-      here j x y ex ey (inr other) =
-          let before = gone.each j x y ex (sym (slice_get-set_other ys at j new other) ∙ ey) in (
-            λ behind. before.0 (still_behind start (length xs) steps at j s n below (slice_get_within xs j x ex) place other behind),
-            λ ahead. before.1 (still_ahead start (length xs) steps j ahead),
-          )
 
   -- all places
-  pub gone_all : (start : ℕ) (xs ys : List X) → start ≤ length xs → GoneBy start (length xs) xs ys → AllZip E xs ys
-  gone_all start xs ys within gone =
-      AllZip-each E xs ys gone.long (λ j x y ex ey. (gone.each j x y ex ey).0 (all_behind start (length xs) j within (slice_get_within xs j x ex)))
+  pub gone_all : (start steps : ℕ) (xs ys : List X) → start ≤ length xs → steps ≡ length xs → GoneBy start steps xs ys → AllZip E xs ys
+  gone_all start steps xs ys within end gone =
+      AllZip-each E xs ys gone.long (λ j x y ex ey. (gone.each j x y ex ey).0 (subst (λ n. IsBehind start (length xs) n j) (sym end) (all_behind start (length xs) j within (slice_get_within xs j x ex))))
 
-  -- what stands at the place of the next step is as it was
-  pub gone_next : (start steps at : ℕ) (xs ys : List X) (old : X) → start ≤ length xs → steps < length xs → at < length xs → IsPlaceOf start (length xs) steps at → GoneBy start steps xs ys
-      → slice_get ys at ≡ Some old → slice_get xs at ≡ Some old
-  gone_next start steps at xs ys old s n below place gone there =
-      let x = slice_get_there xs at below in
-      let was : old ≡ x.0 = (gone.each at x.0 old x.1 there).1 (place_ahead start (length xs) steps at s n below place) in
-      x.1 ∙ ap {B = Option X} (λ z. Some z) (sym was)
+  module _ {start steps at : ℕ} {xs ys : List X} {old : X} (step : Step start steps at xs ys old) where
+    pub stands : slice_get ys at ≡ Some old
+    stands = slice_get_read ys (length xs) at old (sym step.gone.long) step.inside step.is
 
-  -- at the place of the next step something else happens, and T holds of it as of all others
-  pub gone_found : (T : X → X → Type 0) (start steps at : ℕ) (xs ys : List X) (old new : X) → start ≤ length xs → steps < length xs → at < length xs → IsPlaceOf start (length xs) steps at → GoneBy start steps xs ys
-      → slice_get ys at ≡ Some old → T old new → ((j : ℕ) (x y : X) → j ≢ at → slice_get xs j ≡ Some x → (E x y ⊎ (y ≡ x)) → T x y) → AllZip T xs (set ys at new)
-  gone_found T start steps at xs ys old new s n below place gone there holds others =
-      AllZip-each T xs (set ys at new) (length-set ys at new ∙ gone.long) (λ j x y ex ey. here j x y ex ey (cases_eq j at))
-    where
-      here : (j : ℕ) (x y : X) → slice_get xs j ≡ Some x → slice_get (set ys at new) j ≡ Some y → (j ≡ at) ⊎ (j ≢ at) → T x y
-      here j x y ex ey (inl same) =
-          let was : Some old ≡ Some x = sym (gone_next start steps at xs ys old s n below place gone there) ∙ subst (λ i. slice_get xs i ≡ Some x) same ex in
-          let is : Some new ≡ Some y = sym (slice_get-set_same ys at old new there) ∙ subst (λ i. slice_get (set ys at new) i ≡ Some y) same ey in
-          let then : old ≡ x = cc in
-          let now : new ≡ y = cc in
-          subst (λ z. T z y) then (subst (T old) now holds)
-      here j x y ex ey (inr other) =
-          let before = gone.each j x y ex (sym (slice_get-set_other ys at j new other) ∙ ey) in
-          others j x y other ex (elim (either_way start (length xs) steps j s (omega arith) (slice_get_within xs j x ex)) [
-            | inl behind ↦ inl (before.0 behind)
-            | inr ahead ↦ inr (before.1 ahead)
-          ])
+    -- what stands at the place of the next step is as it was
+    pub stood : slice_get xs at ≡ Some old
+    stood =
+        let x = slice_get_there xs at step.inside in
+        let was : old ≡ x.0 = (step.gone.each at x.0 old x.1 stands).1 (place_ahead start (length xs) steps at step.within step.more step.inside step.place) in
+        x.1 ∙ ap {B = Option X} (λ z. Some z) (sym was)
+
+    -- what is read there
+    pub step_read : (a : X) → a ≡ get_or ys at a → a ≡ old
+    step_read a also = one_item_at ys at at a old refl (slice_get_read ys (length xs) at a (sym step.gone.long) step.inside also) stands
+
+    -- what all items have
+    pub step_has : (P : X → Type 0) → All P ys → P old
+    step_has P all = All-at P ys at old all stands
+
+    -- what an item that is written keeps
+    pub step_keeps : {Y : Type 0} (f : X → Y) (new : X) → f new ≡ f old → map f ys ≡ map f xs → map f (set ys at new) ≡ map f xs
+    step_keeps f new same all = map-set_same f ys at new old (same ∙ ap f step.is) ∙ all
+
+    -- one place more
+    pub gone_more : (new : X) → E old new → GoneBy start (steps + 1) xs (set ys at new)
+    gone_more new holds = record {
+      long = length-set ys at new ∙ step.gone.long;
+      each = λ j x y ex ey. here j x y ex ey (cases_eq j at);
+    }
+      where
+        here : (j : ℕ) (x y : X) → slice_get xs j ≡ Some x → slice_get (set ys at new) j ≡ Some y → (j ≡ at) ⊎ (j ≢ at) →
+            (IsBehind start (length xs) (steps + 1) j → E x y) × (IsAhead start (length xs) (steps + 1) j → y ≡ x)
+        here j x y ex ey (inl same) =
+            let was : Some old ≡ Some x = sym stood ∙ subst (λ i. slice_get xs i ≡ Some x) same ex in
+            let is : Some new ≡ Some y = sym (slice_get-set_same ys at old new stands) ∙ subst (λ i. slice_get (set ys at new) i ≡ Some y) same ey in
+            let then : old ≡ x = cc in
+            let now : new ≡ y = cc in (
+              λ _. subst (λ z. E z y) then (subst (E old) now holds),
+              λ ahead. absurd (place_gone start (length xs) steps at step.within step.more step.inside step.place (subst (IsAhead start (length xs) (steps + 1)) same ahead)),
+            )
+        here j x y ex ey (inr other) =
+            let before = step.gone.each j x y ex (sym (slice_get-set_other ys at j new other) ∙ ey) in (
+              λ behind. before.0 (still_behind start (length xs) steps at j step.within step.more step.inside (slice_get_within xs j x ex) step.place other behind),
+              λ ahead. before.1 (still_ahead start (length xs) steps j ahead),
+            )
+
+    -- At the place of the next step something else happens. Items have keys that differ, and T holds of this one as of all with
+    -- another key.
+    module _ {Y : Type 0} (f : X → Y) (different : AllPairs (λ p q. p ≢ q) (map f xs)) where
+      pub found_key : Contains (map f xs) (f old)
+      found_key = Contains-at (map f xs) at (f old) (slice_get-mapped f xs at old stood)
+
+      pub gone_found : (T : X → X → Type 0) (new : X) → T old new → ((x y : X) → f x ≢ f old → (E x y ⊎ (y ≡ x)) → T x y) → AllZip T xs (set ys at new)
+      gone_found T new holds others =
+          AllZip-each T xs (set ys at new) (length-set ys at new ∙ step.gone.long) (λ j x y ex ey. here j x y ex ey (cases_eq j at))
+        where
+          here : (j : ℕ) (x y : X) → slice_get xs j ≡ Some x → slice_get (set ys at new) j ≡ Some y → (j ≡ at) ⊎ (j ≢ at) → T x y
+          here j x y ex ey (inl same) =
+              let was : Some old ≡ Some x = sym stood ∙ subst (λ i. slice_get xs i ≡ Some x) same ex in
+              let is : Some new ≡ Some y = sym (slice_get-set_same ys at old new stands) ∙ subst (λ i. slice_get (set ys at new) i ≡ Some y) same ey in
+              let then : old ≡ x = cc in
+              let now : new ≡ y = cc in
+              subst (λ z. T z y) then (subst (T old) now holds)
+          here j x y ex ey (inr other) =
+              let before = step.gone.each j x y ex (sym (slice_get-set_other ys at j new other) ∙ ey) in
+              let inside = slice_get_within xs j x ex in
+              let more = step.more in
+              others x y (apart_by f xs different at j old x stood other ex) (elim (either_way start (length xs) steps j step.within (omega (arith, more)) inside) [
+                | inl behind ↦ inl (before.0 behind)
+                | inr ahead ↦ inr (before.1 ahead)
+              ])

@@ -1,11 +1,12 @@
 -- Flows of a router, one after the other.
-use Rattle.std.proofs.Common.{◌≡◌, ℕ, ◌+◌, ◌*◌, ◌<◌, ◌≤◌, inl, inr, Bool, true, false, cond, not, ◌&&◌, List, [], ◌∷◌, ◌++◌, map, length, replicate, Vec, Global, refl, sym, ap, subst, ◌∙◌, append-nil, append_assoc, mul-add, mul-zero, mul-one, arith}
+use Rattle.std.proofs.Common.{◌≡◌, ℕ, ◌+◌, ◌*◌, ◌<◌, ◌≤◌, inl, inr, Bool, true, false, cond, not, ◌&&◌, List, [], ◌∷◌, ◌++◌, map, length, replicate, Vec, Global, refl, sym, ap, subst, ◌∙◌, append-nil, mul-add, mul-zero, mul-one, arith}
 use Rattle.std.specs.List.{All, AllZip, Contains, filter, count_by}
 use Rattle.std.proofs.lemmas.Bool.{cases_lt}
 use Rattle.std.proofs.lemmas.List.{map-append, length-append, length-replicate}
 use Rattle.std.proofs.lemmas.List.Elements.{All-nil, All-cons, All-append, filter-append}
 use Rattle.std.proofs.lemmas.Grind.{flat_map-append}
 use Rattle.list_laws.proofs.Counts.{count_by-append}
+use Rattle.list_laws.proofs.Places.{both_none, none_within}
 use Rattle.spin_base.specs.declared.chips.Port.{Port}
 use Rattle.spin_base.specs.declared.routes.Out.{Out}
 use Rattle.spin_base.specs.declared.blocks.Entry.{Entry}
@@ -27,7 +28,7 @@ use Rattle.chip_node.specs.Serving.{ports_of, outs_with_ends, records_of, Offers
 use Rattle.chip_node.specs.Offers.{Fares, Sends, Refuses}
 use Rattle.chip_node.specs.Looking.{taken_at, TakesAt, IsEmptyAt, TakesOne}
 use Rattle.chip_node.specs.RouterFlow.{Service, owed, is_sent, is_sent_by, is_dumped_at, sent_by, records, ServesAt, Serves, ServesAll, RouterFlow}
-use Rattle.chip_node.proofs.Beside.{AllZip-same, AllZip-weaker, AllZip-through, AllZip-map_same, AllZip-first, AllZip-back}
+use Rattle.chip_node.proofs.Beside.{AllZip-same, AllZip-weaker, AllZip-through, AllZip-map_same, AllZip-first, AllZip-back, grown, values-append}
 
 -- ---- one service, at one end
 
@@ -103,10 +104,9 @@ serves_at_join p ss ts x y z h k = record {
   out = k.out ∙ h.out;
   link = k.link ∙ h.link;
   first = k.first ∙ h.first;
-  sent = k.sent ∙ (ap (λ l. l ++ sent_by y.0 ts) h.sent ∙ (append_assoc (sending x.1.tx).sent (sent_by x.0 ss) (sent_by y.0 ts)
-      ∙ ap (λ l. (sending x.1.tx).sent ++ l) (ap (λ o. sent_by x.0 ss ++ sent_by o ts) h.out ∙ sym (sent_by-append x.0 ss ts))));
+  sent = grown _ _ _ (sent_by x.0 ss) (sent_by y.0 ts) _ h.sent k.sent (sent_by-append x.0 ss ts ∙ ap (λ o. sent_by x.0 ss ++ sent_by o ts) (sym h.out));
   notes = h.notes ++ k.notes;
-  fulls = k.fulls ∙ (ap (λ l. l ++ k.notes) h.fulls ∙ append_assoc (sending x.1.tx).fulls h.notes k.notes);
+  fulls = grown _ _ _ h.notes k.notes _ h.fulls k.fulls refl;
   enough = (
       let more = ap (λ n. p * n) (count_by-append (is_dumped_at x.0) ss ts) in
       let split = mul-add p (count_by (is_dumped_at x.0) ss) (count_by (is_dumped_at x.0) ts) in
@@ -147,8 +147,8 @@ serves_join ss ts a b c h k = record {
       (subst (λ p. AllZip (ServesAt p ts) b.outputs.items c.outputs.items) h.patience k.outputs);
   by_ends = All-append (λ s. s.fate ≡ Sent → Contains (outs_with_ends a.outputs.items) s.out) ss ts h.by_ends
       (subst (λ outs. All (λ s. s.fate ≡ Sent → Contains outs s.out) ts) same k.by_ends);
-  logged = k.logged ∙ (ap (λ l. l ++ records b.chip ts) h.logged ∙ (append_assoc a.log.items (records a.chip ss) (records b.chip ts)
-      ∙ ap (λ l. a.log.items ++ l) (ap (λ n. records a.chip ss ++ records n ts) h.chip ∙ sym (flat_map-append (λ (s : Service). records_of a.chip s.out s.copy s.fate) ss ts))));
+  logged = grown _ _ _ (records a.chip ss) (records b.chip ts) _ h.logged k.logged
+      (flat_map-append (λ (s : Service). records_of a.chip s.out s.copy s.fate) ss ts ∙ ap (λ n. records a.chip ss ++ records n ts) (sym h.chip));
 }
   where
     same : outs_with_ends b.outputs.items ≡ outs_with_ends a.outputs.items
@@ -193,16 +193,14 @@ takes_at_none x y h = record {
 }
 
 taken_at-append : (p : Port) (ss ts : List (Port × McCopy)) → taken_at p (ss ++ ts) ≡ taken_at p ss ++ taken_at p ts
-taken_at-append p ss ts = ap (λ l. map (λ (t : Port × McCopy). t.1) l) (filter-append (λ (t : Port × McCopy). port_eq p t.0) ss ts)
-    ∙ map-append (λ (t : Port × McCopy). t.1) (filter (λ (t : Port × McCopy). port_eq p t.0) ss) (filter (λ (t : Port × McCopy). port_eq p t.0) ts)
+taken_at-append p ss ts = values-append port_eq p ss ts
 
 takes_at_join : (ss ts : List (Port × McCopy)) (x y z : Port × InEnd) → TakesAt ss x y → TakesAt ts y z → TakesAt (ss ++ ts) x z
 takes_at_join ss ts x y z h k = record {
   port = k.port ∙ h.port;
   link = k.link ∙ h.link;
   first = k.first ∙ h.first;
-  took = k.took ∙ (ap (λ l. l ++ taken_at y.0 ts) h.took ∙ (append_assoc (taking x.1.rx).took (taken_at x.0 ss) (taken_at y.0 ts)
-      ∙ ap (λ l. (taking x.1.rx).took ++ l) (ap (λ p. taken_at x.0 ss ++ taken_at p ts) h.port ∙ sym (taken_at-append x.0 ss ts))));
+  took = grown _ _ _ (taken_at x.0 ss) (taken_at y.0 ts) _ h.took k.took (taken_at-append x.0 ss ts ∙ ap (λ p. taken_at x.0 ss ++ taken_at p ts) (sym h.port));
 }
 
 -- ---- a turn
@@ -249,14 +247,6 @@ router_flow_start es a = record {
   idle = λ some none. absurd (omega arith);
 }
 
-nothing_left : {X : Type 0} (xs ys : List X) → xs ++ ys ≡ [] → (xs ≡ []) × (ys ≡ [])
-nothing_left [] ys e = (refl, e)
-nothing_left (x ∷ xs) ys e = cc
-
-none_few : {X : Type 0} (xs : List X) (n : ℕ) → length xs ≤ n → n ≤ 0 → xs ≡ []
-none_few [] n few none = refl
-none_few (x ∷ xs) n few none = absurd (omega arith)
-
 pub router_flow_join : (es : List Entry) (n m : ℕ) (a b c : RouterNode) → RouterFlow es n a b → RouterFlow es m b c → RouterFlow es (n + m) a c
 router_flow_join es n m a b c h k = record {
   taken = h.taken ++ k.taken;
@@ -267,7 +257,7 @@ router_flow_join es n m a b c h k = record {
       ∙ (ap (λ l. owed es h.taken ++ l) k.each_once ∙ sym (flat_map-append (λ (t : Port × McCopy). map {B = Out × McCopy} (λ o. (o, t.1)) (outputs_at es t.0 t.1)) h.taken k.taken)));
   inputs = AllZip-through (TakesAt h.taken) (TakesAt k.taken) (TakesAt (h.taken ++ k.taken)) (takes_at_join h.taken k.taken) a.inputs.items b.inputs.items c.inputs.items h.inputs k.inputs;
   serves = serves_join h.served k.served a b c h.serves k.serves;
-  idle = λ some none. (let left = nothing_left h.taken k.taken none in elim (cases_lt 0 n) [ inl begun ↦ h.idle begun left.0 | inr not ↦ later not left.1 (omega arith) ]);
+  idle = λ some none. (let left = both_none h.taken k.taken none in elim (cases_lt 0 n) [ inl begun ↦ h.idle begun left.0 | inr not ↦ later not left.1 (omega arith) ]);
 }
   where
     Whole : Port × InEnd → Type 0
@@ -278,7 +268,7 @@ router_flow_join es n m a b c h k = record {
 
     later : n ≤ 0 → k.taken ≡ [] → 0 < m → All Whole a.inputs.items
     later not none some =
-        let was : h.taken ≡ [] = none_few h.taken n h.few not in
+        let was : h.taken ≡ [] = none_within h.taken n h.few not in
         AllZip-back (TakesAt h.taken) Whole
         (λ x y r all. (let took : (taking y.1.rx).took ≡ (taking x.1.rx).took = r.took ∙ (ap (λ l. (taking x.1.rx).took ++ taken_at x.0 l) was ∙ append-nil (taking x.1.rx).took) in
         (all.0, ap (λ l. l ++ all.0) (sym r.first) ∙ (all.1 ∙ took))))

@@ -1,13 +1,11 @@
 -- Offering a copy by one output.
-use Rattle.std.proofs.Common.{◌≡◌, ◌≢◌, ℕ, ◌<◌, true, List, length, get_or, set, Option, Some, None, position, refl, sym, ap, subst, ◌∙◌}
+use Rattle.std.proofs.Common.{◌≡◌, ◌≢◌, ℕ, true, List, get_or, set, Option, Some, None, position, refl, sym, ap, subst, ◌∙◌}
 use Rattle.std.specs.List.{AllPairs, AllZip, Contains, slice_get}
 use Rattle.std.proofs.Math.Seq.{map-set_same}
-use Rattle.std.proofs.lemmas.Option.{get_or_from_slice_get, slice_get-get_or}
-use Rattle.std.proofs.lemmas.List.{length-map}
+use Rattle.std.proofs.lemmas.Option.{get_or_from_slice_get}
 use Rattle.std.proofs.lemmas.List.Elements.{All-set}
-use Rattle.list_laws.proofs.Places.{All-at, slice_get_there, slice_get-mapped}
-use Rattle.list_laws.proofs.Members.{Contains-at, position_there, position_nowhere, among_at}
-use Rattle.list_laws.proofs.Pairs.{AllPairs-apart}
+use Rattle.list_laws.proofs.Places.{All-at, slice_get-mapped}
+use Rattle.list_laws.proofs.Members.{Contains-at, Contains-unmap, contains_among, position_there, position_nowhere, among_at}
 use Rattle.spin_base.specs.declared.routes.Out.{Out}
 use Rattle.spin_base.specs.declared.copies.McCopy.{McCopy}
 use Rattle.spin_base.specs.Equality.{out_eq}
@@ -19,7 +17,7 @@ use Rattle.chip_node.specs.declared.ends.Served.{Served}
 use Rattle.chip_node.specs.Ends.{IsOutEndOf}
 use Rattle.chip_node.specs.Offers.{Fares}
 use Rattle.chip_node.specs.Serving.{outs_with_ends, AreOutEndsOf, OffersBy}
-use Rattle.chip_node.proofs.Beside.{AllZip-same, AllZip-set}
+use Rattle.chip_node.proofs.Beside.{AllZip-same, AllZip-set, apart_by}
 
 -- the end that is found: it stands at its place, and is of that output
 module _ (o : Out) (xs : List (Out × OutEnd)) (i : ℕ) (a : Out × OutEnd) (found : position (λ (e : Out × OutEnd). out_eq e.0 o) xs ≡ Some i) (is : a ≡ get_or xs i a) where
@@ -53,23 +51,15 @@ module _ (o : Out) (xs : List (Out × OutEnd)) (i : ℕ) (a : Out × OutEnd) (fo
       (λ j z apart at. record {
         out = refl;
         link = refl;
-        here = λ same. absurd (apart (AllPairs-apart (outs_with_ends xs) o different j i
-            (subst (λ w. slice_get (outs_with_ends xs) j ≡ Some w) same (slice_get-mapped (λ (u : Out × OutEnd). u.0) xs j z at))
-            (subst (λ w. slice_get (outs_with_ends xs) i ≡ Some w) found_out (slice_get-mapped (λ (u : Out × OutEnd). u.0) xs i a found_there))));
+        here = λ same. absurd (apart_by (λ (u : Out × OutEnd). u.0) xs different i j a z found_there apart at (same ∙ sym found_out));
         elsewhere = λ _. refl;
       })
 
 -- no end is of that output
 pub none_listed : (o : Out) (xs : List (Out × OutEnd)) → position (λ (e : Out × OutEnd). out_eq e.0 o) xs ≡ None → Contains (outs_with_ends xs) o → ⊥
 none_listed o xs none has =
-    let k = has.0 in
-    let many : length (outs_with_ends xs) ≡ length xs = length-map xs (λ (e : Out × OutEnd). e.0) in
-    let below : k < length xs = subst (λ n. k < n) many has.1 in
-    let x = slice_get_there xs k below in
-    let out : Some x.0.0 ≡ Some o = sym (slice_get-mapped (λ (e : Out × OutEnd). e.0) xs k x.0 x.1)
-    ∙ (slice_get-get_or (outs_with_ends xs) k o has.1 ∙ ap {B = Option Out} (λ w. Some w) has.2) in
-    let same : x.0.0 ≡ o = cc in
-    position_nowhere (λ (e : Out × OutEnd). out_eq e.0 o) xs x.0 none (among_at xs k x.0 x.1) (ap (λ w. out_eq w o) same ∙ out_eq_same o)
+    let x = Contains-unmap (λ (e : Out × OutEnd). e.0) xs o has in
+    position_nowhere (λ (e : Out × OutEnd). out_eq e.0 o) xs x.0 none (contains_among x.0 xs x.1) (ap (λ w. out_eq w o) x.2 ∙ out_eq_same o)
 
 pub offered_by_none : (o : Out) (xs : List (Out × OutEnd)) (patience : ℕ) (k : McCopy) (s : Served) → position (λ (e : Out × OutEnd). out_eq e.0 o) xs ≡ None
     → AllZip (OffersBy patience o k s) xs xs
