@@ -1,6 +1,6 @@
 -- Lists of values that are made one after the other.
 use Rattle.std.proofs.Common.{◌≡◌, ℕ, zero, suc, ◌+◌, ◌<◌, ◌≤◌, List, [], ◌∷◌, ◌++◌, length, map, take, get_or, sym, ap, ◌∙◌, add-one, arith}
-use Rattle.std.proofs.lemmas.List.{take_all, map_push}
+use Rattle.std.proofs.lemmas.List.{take_all, take_more, map_push}
 use Rattle.serde_json.specs.Data.{Data}
 use Rattle.serde_json.specs.View.{view, items_of}
 use Rattle.serde_json.specs.declared.value.Value.{Value}
@@ -30,3 +30,14 @@ numbered_push f i xs d vs new v below pushed is so_far =
 
 pub numbered_all : {A : Type 0} (f : ℕ → A → Data) (i : ℕ) (xs : List A) (vs : List Value) → length xs ≤ i → map view vs ≡ numbered f 0 (take i xs) → items_of (map view vs) ≡ items_of (numbered f 0 xs)
 numbered_all f i xs vs end is = ap items_of (is ∙ ap (numbered f 0) (take_all i xs end))
+
+-- The same where the value of an item does not depend on its place.
+pub mapped_push : {A : Type 0} (f : A → Data) (i : ℕ) (xs : List A) (d : A) (vs new : List Value) (v : Value) → i < length xs → new ≡ vs ++ v ∷ [] → view v ≡ f (get_or xs i d)
+    → map view vs ≡ map f (take i xs) → map view new ≡ map f (take (i + 1) xs)
+mapped_push f i xs d vs new v below pushed is so_far =
+    ap (map view) pushed ∙ map_push view vs v ∙ ap (λ l. l ++ view v ∷ []) so_far
+    ∙ ap (λ e. map f (take i xs) ++ e ∷ []) is
+    ∙ sym (ap (map f) (take_more xs i d below) ∙ map_push f (take i xs) (get_or xs i d))
+
+pub mapped_all : {A : Type 0} (f : A → Data) (i : ℕ) (xs : List A) (vs : List Value) → length xs ≤ i → map view vs ≡ map f (take i xs) → items_of (map view vs) ≡ items_of (map f xs)
+mapped_all f i xs vs end is = ap items_of (is ∙ ap (map f) (take_all i xs end))
