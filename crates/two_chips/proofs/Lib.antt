@@ -1,4 +1,3 @@
-mod Small
 mod Stands
 mod Right
 pub mod Tracked

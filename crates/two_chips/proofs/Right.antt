@@ -1,11 +1,9 @@
 -- The tables of the example are right for its nets, and tables that lack a row are not.
-use Rattle.std.proofs.Common.{◌≡◌, ℕ, ◌<◌, ◌==◌, List, [], ◌∷◌, Bool, true, false, Some, refl, sym, ap, ◌∙◌, subst, arith, inl, inr}
-use Rattle.std.specs.Option.{option_map_or}
+use Rattle.std.proofs.Common.{◌≡◌, ℕ, ◌==◌, List, [], ◌∷◌, map, Bool, true, false, Some, refl, sym, ap, ◌∙◌, subst, arith, inl, inr}
 use Rattle.std.specs.List.{Contains}
 use Rattle.std.proofs.lemmas.Bool.{false≢true}
-use Rattle.std.specs.Prelude.{cond, find}
 use Rattle.std.proofs.lemmas.List.Elements.{All-from_recursion}
-use Rattle.list_laws.proofs.Members.{Contains-only}
+use Rattle.list_laws.proofs.Members.{Among, Contains-only}
 use Rattle.spin_base.specs.declared.chips.Chip.{Chip}
 use Rattle.spin_base.specs.declared.chips.Port.{Port}
 use Rattle.spin_base.specs.declared.chips.Port.TheVariants.{Link as ByLink, Local}
@@ -14,25 +12,20 @@ use Rattle.spin_base.specs.declared.routes.Out.{Out}
 use Rattle.spin_base.specs.declared.routes.Out.TheVariants.{Link, Core}
 use Rattle.spin_base.specs.declared.routes.Route.{Route}
 use Rattle.spin_base.specs.declared.blocks.Entry.{Entry}
-use Rattle.spin_base.specs.Outputs.{has, IsOutput}
-use Rattle.spin_base.specs.Lookup.{lookup, matches, default_route}
+use Rattle.spin_base.specs.Equality.{out_eq}
+use Rattle.spin_base.specs.Outputs.{has, all_outs, link_outs, core_outs, IsOutput}
+use Rattle.spin_base.specs.Lookup.{lookup, matches}
 use Rattle.spin_base.specs.Links.{opposite_of}
+use Rattle.spin_base.proofs.Equality.{out_eq_true}
+use Rattle.spin_base.proofs.Lookups.{lookup_hit, lookup_miss}
+use Rattle.spin_base.proofs.Once.{all_once}
 use Rattle.machine_desc.specs.declared.trees.Edge.{Edge}
 use Rattle.machine_desc.specs.RoutingTree.{end_of}
 use Rattle.net_tables.specs.declared.nets.NetPlan.{NetPlan}
 use Rattle.net_tables.specs.Outputs.{is_wanted}
 use Rattle.net_tables.specs.RightTables.{IsKeyOf, RoutesByTree, AreRight, table_at}
+use Rattle.mesh_core.proofs.Counting.{counted}
 use Rattle.two_chips.specs.Board.{board, left, right, east, targets, device, net, other_net, nets, tables, wrong_tables, right_table, block, other_block, left_route, right_route, east_route, row}
-use Rattle.two_chips.proofs.Small.{UpTo, below}
-
--- a row that matches decides, and one that does not leaves it to those after it
-decides : (e : Entry) (rest : List Entry) (key : ℕ) (port : Port) → matches e key ≡ true → lookup (e ∷ rest) key port ≡ e.route
-decides e rest key port is =
-    ap (λ (found : Bool). option_map_or (λ (r : Entry). r.route) (cond found (Some e) (find (λ (r : Entry). matches r key) rest)) (default_route port)) is
-
-passes : (e : Entry) (rest : List Entry) (key : ℕ) (port : Port) → matches e key ≡ false → lookup (e ∷ rest) key port ≡ lookup rest key port
-passes e rest key port is =
-    ap (λ (found : Bool). option_map_or (λ (r : Entry). r.route) (cond found (Some e) (find (λ (r : Entry). matches r key) rest)) (default_route port)) is
 
 is_first : (route : Route) (key : ℕ) → IsKeyOf block key → matches (row 0 route) key ≡ true
 is_first route key k = ap (λ (n : ℕ). n == 0) k.matches
@@ -47,65 +40,35 @@ is_second route key k = ap (λ (n : ℕ). n == 1) k.matches
 HasWanted : Route → NetPlan → Chip → Type 0
 HasWanted route n c = (o : Out) → IsOutput o → has route o ≡ is_wanted (east ∷ []) n.targets c o
 
-left_cores : (p : ℕ) → p < 18 → has left_route (Core p) ≡ is_wanted (east ∷ []) targets left (Core p)
-unfolding UpTo
-left_cores = below (λ p. has left_route (Core p) ≡ is_wanted (east ∷ []) targets left (Core p)) 18
-    (refl, (refl, (refl, (refl, (refl, (refl, (refl, (refl, (refl, (refl, (refl, (refl, (refl, (refl, (refl, (refl, (refl, (refl, tt))))))))))))))))))
+-- where two tests give the same list of answers, they agree on each item
+agree_on : {X : Type 0} (f g : X → Bool) (xs : List X) (x : X) → map f xs ≡ map g xs → Among x xs → f x ≡ g x
+agree_on f g [] x same has = absurd has
+agree_on f g (y ∷ xs) x same (inl is) = let heads : f y ≡ g y = cc same in subst (λ z. f z ≡ g z) (sym is) heads
+agree_on f g (y ∷ xs) x same (inr has) = agree_on f g xs x (cc same) has
 
-right_cores : (p : ℕ) → p < 18 → has right_route (Core p) ≡ is_wanted (east ∷ []) targets right (Core p)
-unfolding UpTo
-right_cores = below (λ p. has right_route (Core p) ≡ is_wanted (east ∷ []) targets right (Core p)) 18
-    (refl, (refl, (refl, (refl, (refl, (refl, (refl, (refl, (refl, (refl, (refl, (refl, (refl, (refl, (refl, (refl, (refl, (refl, tt))))))))))))))))))
+wanted_by : (route : Route) (n : NetPlan) (c : Chip) → map (has route) all_outs ≡ map (is_wanted (east ∷ []) n.targets c) all_outs → HasWanted route n c
+unfolding HasWanted
+wanted_by route n c same o valid =
+    let one = all_once o valid in
+    let found = counted (out_eq o) all_outs (omega (arith, one)) in
+    subst (λ p. has route p ≡ is_wanted (east ∷ []) n.targets c p) (sym (out_eq_true o found.0 found.2))
+    (agree_on (has route) (is_wanted (east ∷ []) n.targets c) all_outs found.0 same found.1)
 
 left_outs : HasWanted left_route net left
-unfolding HasWanted
-left_outs (Link East) valid = refl
-left_outs (Link NorthEast) valid = refl
-left_outs (Link North) valid = refl
-left_outs (Link West) valid = refl
-left_outs (Link SouthWest) valid = refl
-left_outs (Link South) valid = refl
-left_outs (Core p) valid = left_cores p valid
+unfolding link_outs core_outs
+left_outs = wanted_by left_route net left refl
 
 right_outs : HasWanted right_route net right
-unfolding HasWanted
-right_outs (Link East) valid = refl
-right_outs (Link NorthEast) valid = refl
-right_outs (Link North) valid = refl
-right_outs (Link West) valid = refl
-right_outs (Link SouthWest) valid = refl
-right_outs (Link South) valid = refl
-right_outs (Core p) valid = right_cores p valid
-
-other_left_cores : (p : ℕ) → p < 18 → has east_route (Core p) ≡ is_wanted (east ∷ []) (device ∷ []) left (Core p)
-unfolding UpTo
-other_left_cores = below (λ p. has east_route (Core p) ≡ is_wanted (east ∷ []) (device ∷ []) left (Core p)) 18
-    (refl, (refl, (refl, (refl, (refl, (refl, (refl, (refl, (refl, (refl, (refl, (refl, (refl, (refl, (refl, (refl, (refl, (refl, tt))))))))))))))))))
+unfolding link_outs core_outs
+right_outs = wanted_by right_route net right refl
 
 other_left_outs : HasWanted east_route other_net left
-unfolding HasWanted
-other_left_outs (Link East) valid = refl
-other_left_outs (Link NorthEast) valid = refl
-other_left_outs (Link North) valid = refl
-other_left_outs (Link West) valid = refl
-other_left_outs (Link SouthWest) valid = refl
-other_left_outs (Link South) valid = refl
-other_left_outs (Core p) valid = other_left_cores p valid
-
-other_right_cores : (p : ℕ) → p < 18 → has east_route (Core p) ≡ is_wanted (east ∷ []) (device ∷ []) right (Core p)
-unfolding UpTo
-other_right_cores = below (λ p. has east_route (Core p) ≡ is_wanted (east ∷ []) (device ∷ []) right (Core p)) 18
-    (refl, (refl, (refl, (refl, (refl, (refl, (refl, (refl, (refl, (refl, (refl, (refl, (refl, (refl, (refl, (refl, (refl, (refl, tt))))))))))))))))))
+unfolding link_outs core_outs
+other_left_outs = wanted_by east_route other_net left refl
 
 other_right_outs : HasWanted east_route other_net right
-unfolding HasWanted
-other_right_outs (Link East) valid = refl
-other_right_outs (Link NorthEast) valid = refl
-other_right_outs (Link North) valid = refl
-other_right_outs (Link West) valid = refl
-other_right_outs (Link SouthWest) valid = refl
-other_right_outs (Link South) valid = refl
-other_right_outs (Core p) valid = other_right_cores p valid
+unfolding link_outs core_outs
+other_right_outs = wanted_by east_route other_net right refl
 
 IsRightAt : NetPlan → ℕ → Port → Out → Chip → Type 0
 IsRightAt n key port o c = has (lookup (table_at board tables c) key port) o ≡ is_wanted (east ∷ []) n.targets c o
@@ -126,21 +89,21 @@ net_right : RoutesByTree board tables net
 unfolding IsRightAt
 net_right c port key o (inl root) k valid =
     subst (IsRightAt net key port o) (sym root.0)
-    (right_by net key port o left left_route (decides (row 0 left_route) (row 1 east_route ∷ []) key port (is_first left_route key k)) left_outs valid)
+    (right_by net key port o left left_route (lookup_hit (row 0 left_route) (row 1 east_route ∷ []) key port (is_first left_route key k)) left_outs valid)
 net_right c port key o (inr h) k valid =
     subst (IsRightAt net key port o) (at_end c h.0 h.1 h.2).1
-    (right_by net key port o right right_route (decides (row 0 right_route) [] key port (is_first right_route key k)) right_outs valid)
+    (right_by net key port o right right_route (lookup_hit (row 0 right_route) [] key port (is_first right_route key k)) right_outs valid)
 
 other_right : RoutesByTree board tables other_net
 unfolding IsRightAt
 other_right c port key o (inl root) k valid =
     subst (IsRightAt other_net key port o) (sym root.0)
     (right_by other_net key port o left east_route
-    (passes (row 0 left_route) (row 1 east_route ∷ []) key port (is_not_first left_route key k) ∙ decides (row 1 east_route) [] key port (is_second east_route key k)) other_left_outs valid)
+    (lookup_miss (row 0 left_route) (row 1 east_route ∷ []) key port (is_not_first left_route key k) ∙ lookup_hit (row 1 east_route) [] key port (is_second east_route key k)) other_left_outs valid)
 other_right c port key o (inr h) k valid =
     let there = at_end c h.0 h.1 h.2 in
     let by_west : port ≡ ByLink West = h.3 ∙ ap (λ (e : Edge). ByLink (opposite_of e.dir)) (sym there.0) in
-    let straight : lookup right_table key (ByLink West) ≡ east_route = passes (row 0 right_route) [] key (ByLink West) (is_not_first right_route key k) in
+    let straight : lookup right_table key (ByLink West) ≡ east_route = lookup_miss (row 0 right_route) [] key (ByLink West) (is_not_first right_route key k) in
     subst (IsRightAt other_net key port o) there.1
     (subst (λ (p : Port). IsRightAt other_net key p o right) (sym by_west) (right_by other_net key (ByLink West) o right east_route straight other_right_outs valid))
 

@@ -1,6 +1,7 @@
 -- The nets of the example stand on its machine.
 use Rattle.std.proofs.Common.{◌≡◌, ◌≢◌, ℕ, ◌+◌, ◌*◌, suc, zero, List, [], ◌∷◌, map, Some, None, refl, sym, ap, ◌∙◌, subst, arith, inl, inr, ◌⊎◌}
 use Rattle.std.specs.List.{All, AllPairs, Any, Contains, slice_get}
+use Rattle.std.proofs.lemmas.Option.{none-some}
 use Rattle.std.proofs.lemmas.List.Elements.{All-from_recursion}
 use Rattle.std.proofs.lemmas.List.Kept.{AllPairs-cons}
 use Rattle.list_laws.proofs.Members.{Contains-only}
@@ -160,7 +161,4 @@ pub packets_of_nets : AreOfNets nets packets
 packets_of_nets zero p at = of_net 0 net p refl (record { fits = omega arith; matches = refl }) (cc at)
 packets_of_nets (suc zero) p at = of_net 0 net p refl (record { fits = omega arith; matches = refl }) (cc at)
 packets_of_nets (suc (suc zero)) p at = of_net 1 other_net p refl (record { fits = omega arith; matches = refl }) (cc at)
-packets_of_nets (suc (suc (suc i))) p at = absurd (nothing at)
-  where
-    nothing : {X : Type 0} {x : X} → None ≡ Some x → ⊥
-    nothing e = cc e
+packets_of_nets (suc (suc (suc i))) p at = absurd (none-some p at)

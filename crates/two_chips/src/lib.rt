@@ -4,9 +4,6 @@
 //! do on it what a reader expects. The example is this project's own.
 #![tactic(auto)]
 
-#[cfg(test)]
-mod tests;
-
 ghost use Rattle.std.specs.Prelude.{◌≡◌, ℕ, ◌<◌, List, [], ◌∷◌, ◌++◌, None, Some};
 ghost use Rattle.spin_base.specs.declared.chips.Dir.TheVariants.{East, West};
 ghost use Rattle.spin_base.specs.declared.chips.Port.TheVariants.{Link as ByLink, Local};
@@ -40,6 +37,7 @@ pub fn the_example_meets_the_definitions()
 /// What is where, worked by hand: the first packet is in hand on the left chip with two outputs to serve; on the right
 /// chip's port after it left by the link; and delivered at last at three vertices, but for vertex 1, where it waits. So the
 /// second packet is dumped there. The packet of the other net is delivered at the device, with no row on the right chip.
+#[tactic(auto, unfolding(spin_base::specs::Outputs::link_outs, spin_base::specs::Outputs::core_outs))]
 pub fn the_events_do_what_is_expected()
     ensures in_hand { (after_events opened (Inject 0 ∷ Take left Local ∷ [])).hands
         ≡ Some (record { copy = copy 0 0; port = Local; outs = Link East ∷ Core 2 ∷ [] }) ∷ None ∷ [] }
