@@ -1,7 +1,7 @@
 -- The packets that a job asks for, each with its net.
 use Rattle.std.proofs.Common.{◌≡◌, ℕ, List, Option, Some, None, refl, ap, sym, ◌∙◌, subst, ◌+◌}
 use Rattle.std.specs.List.{slice_get, Contains}
-use Rattle.std.proofs.lemmas.Option.{get_or_from_slice_get, slice_get_within}
+use Rattle.std.proofs.lemmas.Option.{get_or_from_slice_get, slice_get_within, same_Some, none-some}
 use Rattle.spin_base.specs.declared.copies.Packet.{Packet}
 use Rattle.net_tables.specs.declared.nets.NetPlan.{NetPlan}
 use Rattle.net_tables.specs.RightTables.{IsKeyOf}
@@ -24,12 +24,12 @@ pub asked_parts : (nets : List NetPlan) (packets : List Packet) (i : ℕ) (a : A
 asked_parts nets packets i a asked = by_packet (slice_get packets i) refl asked
   where
     by_net : (p : Packet) → slice_get packets i ≡ Some p → (net : Option NetPlan) → slice_get nets p.net ≡ net → asked_in p net ≡ Some a → IsAsked nets packets i a
-    by_net p at (Some net) is e = record { packet = p; net = net; is_packet = at; is_net = is; is_asked = let same : asks net p ≡ a = cc in sym same }
-    by_net p at None is e = cc
+    by_net p at (Some net) is e = record { packet = p; net = net; is_packet = at; is_net = is; is_asked = sym (same_Some (asks net p) a e) }
+    by_net p at None is e = absurd (none-some a e)
 
     by_packet : (p : Option Packet) → slice_get packets i ≡ p → asked_at nets p ≡ Some a → IsAsked nets packets i a
     by_packet (Some p) at e = by_net p at (slice_get nets p.net) refl e
-    by_packet None at e = cc
+    by_packet None at e = absurd (none-some a e)
 
 -- and the other way round
 pub asked_from : (nets : List NetPlan) (packets : List Packet) (i : ℕ) (p : Packet) (net : NetPlan) → slice_get packets i ≡ Some p → slice_get nets p.net ≡ Some net →
@@ -45,9 +45,7 @@ pub key_of_net : (nets : List NetPlan) (packets : List Packet) → AreOfNets net
     slice_get packets i ≡ Some p → slice_get nets p.net ≡ Some net → IsKeyOf net.block (net.block.key + p.index)
 key_of_net nets packets of_nets i p net at is =
     let of = of_nets i p at in
-    let same : Some of.0 ≡ Some net = sym of.1 ∙ is in
-    let one : of.0 ≡ net = cc in
-    subst (λ (n : NetPlan). IsKeyOf n.block (n.block.key + p.index)) one of.2
+    subst (λ (n : NetPlan). IsKeyOf n.block (n.block.key + p.index)) (same_Some of.0 net (sym of.1 ∙ is)) of.2
 
 -- what is asked for is of one of the nets, and has a key of it
 pub asked_of_net : (nets : List NetPlan) (packets : List Packet) → AreOfNets nets packets → (i : ℕ) (a : Asked) → asked_by nets packets i ≡ Some a →

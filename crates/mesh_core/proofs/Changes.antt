@@ -30,105 +30,59 @@ port_below Local = lit< tt
 pub queue_at-below : (m : Description) (c : Chip) (port : Port) → IsInside m c → queue_at m c port < 7 * (m.width * m.height)
 queue_at-below m c port inside = omega (arith, index_below m c inside, port_below port)
 
--- a list of unsent copies that have passed no router
-pub IsMesh-unsent : (s : State) (i : ℕ) (q : List McCopy) → IsMesh s → All (λ k. k.hop ≡ 0) q → IsMesh (record s { unsent = set s.unsent i q })
-IsMesh-unsent s i q h start = record {
+-- other lists of copies, hands and records, as long as they were and of the same kind
+IsMesh-lists : (s : State) → IsMesh s →
+    (unsent : List (List McCopy)) → length unsent ≡ length s.setup.spots → All (λ q. All (λ k. k.hop ≡ 0) q) unsent →
+    (hands : List (Option Hand)) → length hands ≡ s.setup.machine.width * s.setup.machine.height → All (λ hand. IfSome hand (λ h. h.outs ≢ [])) hands →
+    (cores : List (List McCopy)) → length cores ≡ length s.setup.spots → All (λ q. length q ≤ s.setup.capacity) cores →
+    (delivered : List Delivery) (dumped : List DumpRec) →
+    IsMesh (record s { unsent = unsent; hands = hands; cores = cores; delivered = delivered; dumped = dumped })
+IsMesh-lists s h unsent unsent_long at_start hands hands_long some cores cores_long within delivered dumped = record {
   size = h.size;
   different = h.different;
   sites = h.sites;
   room = h.room;
-  unsent_lists = length-set s.unsent i q ∙ h.unsent_lists;
+  unsent_lists = unsent_long;
   input_lists = h.input_lists;
-  hand_list = h.hand_list;
-  core_lists = h.core_lists;
+  hand_list = hands_long;
+  core_lists = cores_long;
   table_list = h.table_list;
   inputs_within = h.inputs_within;
-  cores_within = h.cores_within;
-  unsent_at_start = All-set (λ l. All (λ k. k.hop ≡ 0) l) s.unsent i q start h.unsent_at_start;
-  hands_with_outputs = h.hands_with_outputs;
+  cores_within = within;
+  unsent_at_start = at_start;
+  hands_with_outputs = some;
   none_at_dead_ports = h.none_at_dead_ports;
   none_on_dead_chips = h.none_on_dead_chips;
 }
+
+-- a list of unsent copies that have passed no router
+pub IsMesh-unsent : (s : State) (i : ℕ) (q : List McCopy) → IsMesh s → All (λ k. k.hop ≡ 0) q → IsMesh (record s { unsent = set s.unsent i q })
+IsMesh-unsent s i q h start =
+    IsMesh-lists s h (set s.unsent i q) (length-set s.unsent i q ∙ h.unsent_lists) (All-set (λ l. All (λ k. k.hop ≡ 0) l) s.unsent i q start h.unsent_at_start)
+    s.hands h.hand_list h.hands_with_outputs s.cores h.core_lists h.cores_within s.delivered s.dumped
 
 -- a core's queue that isn't too long
 pub IsMesh-cores : (s : State) (i : ℕ) (q : List McCopy) → IsMesh s → length q ≤ s.setup.capacity → IsMesh (record s { cores = set s.cores i q })
-IsMesh-cores s i q h short = record {
-  size = h.size;
-  different = h.different;
-  sites = h.sites;
-  room = h.room;
-  unsent_lists = h.unsent_lists;
-  input_lists = h.input_lists;
-  hand_list = h.hand_list;
-  core_lists = length-set s.cores i q ∙ h.core_lists;
-  table_list = h.table_list;
-  inputs_within = h.inputs_within;
-  cores_within = All-set (λ l. length l ≤ s.setup.capacity) s.cores i q short h.cores_within;
-  unsent_at_start = h.unsent_at_start;
-  hands_with_outputs = h.hands_with_outputs;
-  none_at_dead_ports = h.none_at_dead_ports;
-  none_on_dead_chips = h.none_on_dead_chips;
-}
+IsMesh-cores s i q h short =
+    IsMesh-lists s h s.unsent h.unsent_lists h.unsent_at_start s.hands h.hand_list h.hands_with_outputs
+    (set s.cores i q) (length-set s.cores i q ∙ h.core_lists) (All-set (λ l. length l ≤ s.setup.capacity) s.cores i q short h.cores_within) s.delivered s.dumped
 
 -- a hand that isn't without outputs
 pub IsMesh-hands : (s : State) (i : ℕ) (hand : Option Hand) → IsMesh s → IfSome hand (λ held. held.outs ≢ []) → IsMesh (record s { hands = set s.hands i hand })
-IsMesh-hands s i hand h some = record {
-  size = h.size;
-  different = h.different;
-  sites = h.sites;
-  room = h.room;
-  unsent_lists = h.unsent_lists;
-  input_lists = h.input_lists;
-  hand_list = length-set s.hands i hand ∙ h.hand_list;
-  core_lists = h.core_lists;
-  table_list = h.table_list;
-  inputs_within = h.inputs_within;
-  cores_within = h.cores_within;
-  unsent_at_start = h.unsent_at_start;
-  hands_with_outputs = All-set (λ x. IfSome x (λ held. held.outs ≢ [])) s.hands i hand some h.hands_with_outputs;
-  none_at_dead_ports = h.none_at_dead_ports;
-  none_on_dead_chips = h.none_on_dead_chips;
-}
+IsMesh-hands s i hand h some =
+    IsMesh-lists s h s.unsent h.unsent_lists h.unsent_at_start
+    (set s.hands i hand) (length-set s.hands i hand ∙ h.hand_list) (All-set (λ x. IfSome x (λ held. held.outs ≢ [])) s.hands i hand some h.hands_with_outputs)
+    s.cores h.core_lists h.cores_within s.delivered s.dumped
 
 -- whatever was delivered
 pub IsMesh-delivered : (s : State) (d : List Delivery) → IsMesh s → IsMesh (record s { delivered = d })
-IsMesh-delivered s d h = record {
-  size = h.size;
-  different = h.different;
-  sites = h.sites;
-  room = h.room;
-  unsent_lists = h.unsent_lists;
-  input_lists = h.input_lists;
-  hand_list = h.hand_list;
-  core_lists = h.core_lists;
-  table_list = h.table_list;
-  inputs_within = h.inputs_within;
-  cores_within = h.cores_within;
-  unsent_at_start = h.unsent_at_start;
-  hands_with_outputs = h.hands_with_outputs;
-  none_at_dead_ports = h.none_at_dead_ports;
-  none_on_dead_chips = h.none_on_dead_chips;
-}
+IsMesh-delivered s d h =
+    IsMesh-lists s h s.unsent h.unsent_lists h.unsent_at_start s.hands h.hand_list h.hands_with_outputs s.cores h.core_lists h.cores_within d s.dumped
 
 -- whatever was dumped
 pub IsMesh-dumped : (s : State) (d : List DumpRec) → IsMesh s → IsMesh (record s { dumped = d })
-IsMesh-dumped s d h = record {
-  size = h.size;
-  different = h.different;
-  sites = h.sites;
-  room = h.room;
-  unsent_lists = h.unsent_lists;
-  input_lists = h.input_lists;
-  hand_list = h.hand_list;
-  core_lists = h.core_lists;
-  table_list = h.table_list;
-  inputs_within = h.inputs_within;
-  cores_within = h.cores_within;
-  unsent_at_start = h.unsent_at_start;
-  hands_with_outputs = h.hands_with_outputs;
-  none_at_dead_ports = h.none_at_dead_ports;
-  none_on_dead_chips = h.none_on_dead_chips;
-}
+IsMesh-dumped s d h =
+    IsMesh-lists s h s.unsent h.unsent_lists h.unsent_at_start s.hands h.hand_list h.hands_with_outputs s.cores h.core_lists h.cores_within s.delivered d
 
 -- an input queue is empty where no copy may wait
 still_empty : (inputs : List (List McCopy)) (i j : ℕ) (q : List McCopy) → (j ≡ i → q ≡ []) → slice_get inputs j ≡ Some [] → slice_get (set inputs i q) j ≡ Some []

@@ -17,7 +17,7 @@ use Rattle.mesh_core.specs.Trail.{Station, unsent, in_queue, in_hand, at_core, d
 use Rattle.mesh_core.specs.Ledger.{marks_of}
 use Rattle.mesh_core.proofs.Events.{event_exchange}
 use Rattle.list_laws.proofs.Exchange.{among_taken_out, TakenOut, PutIn}
-use Rattle.list_laws.proofs.Members.{Among, among_contains}
+use Rattle.list_laws.proofs.Members.{Among, among_contains, among_only}
 use Rattle.mesh_core.proofs.LedgerLaw.{IsRight, right_before, right_small, stands}
 use Rattle.mesh_core.specs.Heavy.{heavy}
 use Rattle.mesh_core.proofs.FewMoves.{few_come}
@@ -75,11 +75,8 @@ move_advances : (s : State) (x : Mark) (come : List Mark) → HasNext x.copy x.s
 unfolding advance HasNext
 move_advances s x come next move y is_come = by_station x.copy x.station next move
   where
-    only : (z : Mark) → come ≡ z ∷ [] → y ≡ z
-    only z e = elim (subst (λ (l : List Mark). Among y l) e is_come) [ inl same ↦ same | inr none ↦ absurd none ]
-
     one : (k : McCopy) (at : Station) (z : Mark) → come ≡ z ∷ [] → 4 * k.hop + stage at < 4 * z.copy.hop + stage z.station → 4 * k.hop + stage at < 4 * y.copy.hop + stage y.station
-    one k at z is more = subst (λ (u : Mark). 4 * k.hop + stage at < 4 * u.copy.hop + stage u.station) (sym (only z is)) more
+    one k at z is more = subst (λ (u : Mark). 4 * k.hop + stage at < 4 * u.copy.hop + stage u.station) (sym (among_only z y come is is_come)) more
 
     further : (n i : ℕ) → i ≤ 3 → n < last_hop → 4 * n + i < 4 * min (n + 1) last_hop + 1
     further n i low below = omega (arith, low, below)

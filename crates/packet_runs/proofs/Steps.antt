@@ -31,6 +31,7 @@ use Rattle.list_laws.proofs.Members.{among_contains}
 use Rattle.list_laws.proofs.Pairs.{All-left, All-right}
 use Rattle.list_laws.proofs.Places.{All-at, slice_get-set_same, set-slice_get, set_put_back}
 use Rattle.mesh_core.specs.Waiting.{queue_of}
+use Rattle.mesh_core.proofs.Keeping.{input_is_somewhere}
 use Rattle.mesh_core.proofs.Moves.{mark}
 use Rattle.mesh_core.proofs.Queued.{FreeBehind, free_behind}
 use Rattle.mesh_core.proofs.Standing.{held_mark}
@@ -333,10 +334,7 @@ far_behind u c o i is = by_output o refl
         let ends = live_ends u.machine c d live in
         let same : ends.0 ≡ e = let both : Some ends.0 ≡ Some e = sym ends.1 ∙ leads in cc in
         record { link = d; out = out; far = e; leads = leads; live = subst (IsLiveChip u.machine) same ends.3; place = place }
-    by_link d out true live None leads there = absurd (differ there)
-      where
-        differ : nowhere ≡ input i → ⊥
-        differ e = cc
+    by_link d out true live None leads there = absurd (input_is_somewhere (sym there))
     by_link d out false live far leads there = absurd (no_core (vertex_behind u.spots c (Link d)) there)
 
     by_output : (p : Out) → o ≡ p → IsFar u c o i
