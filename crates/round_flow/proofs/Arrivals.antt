@@ -1,12 +1,12 @@
 -- Each copy that came into a queue in a round stands right there: on a trail of its net, with the key and payload of its packet.
 -- By induction on its hop number.
-use Rattle.std.proofs.Common.{◌≡◌, ◌≢◌, ℕ, ◌+◌, ◌/◌, ◌%◌, ◌<◌, ◌≤◌, zero, suc, true, List, [], ◌∷◌, ◌++◌, map, filter, Some, None, length, refl, ap, sym, ◌∙◌, subst, arith, inl, inr}
+use Rattle.std.proofs.Common.{◌≡◌, ◌≢◌, ℕ, ◌+◌, ◌<◌, ◌≤◌, zero, suc, true, List, [], ◌∷◌, ◌++◌, map, filter, Some, None, length, refl, ap, sym, ◌∙◌, subst, arith, inl, inr}
 use Rattle.std.specs.List.{slice_index_or, Contains}
 use Rattle.std.proofs.lemmas.Bool.{cases_Bool, cases_lt}
 use Rattle.std.proofs.lemmas.List.{get_or_past}
 use Rattle.std.proofs.lemmas.List.Elements.{All-contains}
 use Rattle.std.proofs.lemmas.List.Sorted.{All-permutation}
-use Rattle.std.proofs.lemmas.Option.{slice_get_within, get_or_from_slice_get}
+use Rattle.std.proofs.lemmas.Option.{slice_get_within, get_or_from_slice_get, none-some}
 use Rattle.list_laws.proofs.Gathering.{among_gathered, gathered_among}
 use Rattle.list_laws.proofs.Members.{Among, among_contains, contains_among, among_map, map_among, among_filter, any_among, among_left, among_either}
 use Rattle.list_laws.proofs.Places.{All-each, slice_get_there}
@@ -22,23 +22,24 @@ use Rattle.spin_base.specs.Links.{opposite_of}
 use Rattle.spin_base.specs.Equality.{chip_eq, out_eq}
 use Rattle.spin_base.specs.Outputs.{IsOutput}
 use Rattle.spin_base.proofs.Equality.{chip_eq_true, out_eq_true}
-use Rattle.machine_desc.specs.Live.{far_of, chip_of, is_live_chip, is_live_link, IsInside, IsLiveChip, IsLiveLink}
+use Rattle.machine_desc.specs.Live.{far_of, is_live_chip, is_live_link, IsInside, IsLiveChip, IsLiveLink}
 use Rattle.machine_desc.proofs.Branches.{exit_leads, ExitLeads}
-use Rattle.machine_desc.proofs.Far.{live_inside, live_ends, live_back, far_back, far_inside}
+use Rattle.machine_desc.proofs.Far.{live_inside, live_ends, live_back, far_back}
 use Rattle.net_tables.specs.declared.nets.NetPlan.{NetPlan}
 use Rattle.net_tables.specs.RightTables.{IsKeyOf, AreRight}
 use Rattle.mesh_core.specs.State.{Setup, State, IsMesh, Queue, input, core, nowhere, behind, behind_link, queue_at, vertex_behind}
 use Rattle.mesh_core.specs.Step.{last_hop, onward, outputs}
 use Rattle.mesh_core.specs.Trail.{unsent, in_queue, in_hand, Mark}
-use Rattle.mesh_core.specs.Ledger.{marks_of, marked, port_of, all_ports, unsent_marks, input_marks, all_hand_marks, core_marks, delivered_marks, dumped_marks, Label, MeetsLedger}
+use Rattle.mesh_core.specs.Ledger.{marks_of, marked, all_ports, unsent_marks, input_marks, all_hand_marks, core_marks, delivered_marks, dumped_marks, Label, MeetsLedger}
+use Rattle.mesh_core.proofs.Keeping.{input_is_somewhere, core_is_somewhere}
 use Rattle.mesh_core.proofs.Law.{move_comes, leaves_parts}
 use Rattle.mesh_core.proofs.LedgerLaw.{IsRight, right_before, stands}
-use Rattle.mesh_core.proofs.Moves.{mark, station_of_queue, IsMove, Crosses}
+use Rattle.mesh_core.proofs.Moves.{mark, IsMove, Crosses}
 use Rattle.mesh_core.proofs.Queued.{waiting_mark}
 use Rattle.mesh_core.proofs.Ways.{Stands, vertex_behind_there, leads_to}
 use Rattle.round_flow.specs.RoundFlow.{Flow, Passes, at_port, held_in, leaves_by, taken_for, dumped_at, sent_on, of_chip}
 use Rattle.round_flow.proofs.Ends.{by_link, to_vertex, to_none, leads, Leads}
-use Rattle.round_flow.proofs.Entered.{station_of, behind_far}
+use Rattle.round_flow.proofs.Entered.{station_of, station_is, crosses_behind, behind_far}
 use Rattle.round_flow.proofs.Weights.{back, back_onward, not_last}
 
 module _ (m : State) (f : Flow) (n : State) (nets : List NetPlan) (labels : ℕ → Label) (mesh : IsMesh m) (passes : Passes m f n)
@@ -113,10 +114,7 @@ module _ (m : State) (f : Flow) (n : State) (nets : List NetPlan) (labels : ℕ 
         link_there d e out live far =
             let is : behind u c o ≡ input (queue_at u.machine e (ByLink (opposite_of d))) =
             ap (behind u c) out ∙ (ap (λ b. behind_link u c d b (far_of u.machine c d)) live ∙ ap (behind_link u c d true) far) in
-            apart (sym is ∙ none)
-          where
-            apart : {i : ℕ} → input i ≡ nowhere → ⊥
-            apart same = cc
+            input_is_somewhere (sym is ∙ none)
 
         by_exit : ExitLeads u.machine r.net.tree.edges r.trail.target r.trail.branch k.hop (record { chip = c; out = o }) → ⊥
         by_exit (inl (d, out, in_tree, (y, far, next))) =
@@ -124,40 +122,19 @@ module _ (m : State) (f : Flow) (n : State) (nets : List NetPlan) (labels : ℕ 
         by_exit (inr (chip, out, last)) =
             let spot = All-contains (Contains u.spots) r.net.targets r.trail.target st.targets r.trail.way.is_target in
             let there = vertex_behind_there u.spots c o r.trail.target spot (leads_to c o r.trail.target chip out) in
-            no_vertex there.0 (sym without ∙ there.1)
-          where
-            no_vertex : (v : ℕ) → None ≡ Some v → ⊥
-            no_vertex v same = cc
+            none-some there.0 (sym without ∙ there.1)
 
     pub somewhere : (k : McCopy) → Right (mark k (in_hand c o)) → behind u c o ≢ nowhere
     somewhere k r none = by_end (leads u c o)
       where
         by_end : Leads u c o → ⊥
-        by_end (by_link d e out live far at) = apart (sym at ∙ none)
-          where
-            apart : {i : ℕ} → input i ≡ nowhere → ⊥
-            apart same = cc
-        by_end (to_vertex v dead at is_core) = apart (sym is_core ∙ none)
-          where
-            apart : {v : ℕ} → core v ≡ nowhere → ⊥
-            apart same = cc
+        by_end (by_link d e out live far at) = input_is_somewhere (sym at ∙ none)
+        by_end (to_vertex v dead at is_core) = core_is_somewhere (sym is_core ∙ none)
         by_end (to_none without there) = leads_on k r without there
 
     -- a copy in hand goes on to the queue behind the output
     pub on_behind : IsLiveChip u.machine c → (k : McCopy) → Right (mark k (in_hand c o)) → Crosses m k c o (mark (onward k) (station_of u (behind u c o)) ∷ [])
-    on_behind live k r = by_end (leads u c o)
-      where
-        plain : (i : ℕ) → i ≡ 0 + i
-        plain i = omega arith
-
-        by_end : Leads u c o → Crosses m k c o (mark (onward k) (station_of u (behind u c o)) ∷ [])
-        by_end (by_link d e out link far at) =
-            let inside = far_inside u.machine c e d (live_inside u.machine c live) far in
-            let station : station_of u (behind u c o) ≡ in_queue e (ByLink (opposite_of d)) =
-            ap (station_of u) at ∙ (ap (λ i. in_queue (chip_of u.machine (i / 7)) (port_of (i % 7))) (plain (queue_at u.machine e (ByLink (opposite_of d)))) ∙ station_of_queue u.machine e (ByLink (opposite_of d)) inside) in
-            inl (d, e, out, link, far, ap (λ st. mark (onward k) st ∷ []) station)
-        by_end (to_vertex v dead at is_core) = inr (v, dead, at, ap (λ q. mark (onward k) (station_of u q) ∷ []) is_core)
-        by_end (to_none without none) = absurd (leads_on k r without none)
+    on_behind live k r = crosses_behind m k c o live (somewhere k r)
 
     -- what came to an output stands right in the hand, if what left the chip's ports stood right in their queues
     hand_right : (b : ℕ) → ((port : Port) (k : McCopy) → Among k (f.left (at_port u c port)) → k.hop < b → Right (mark k (in_queue c port))) →
@@ -200,12 +177,6 @@ module _ (m : State) (f : Flow) (n : State) (nets : List NetPlan) (labels : ℕ 
 
   -- ---- all input queues
 
-  station_at : (c : Chip) (port : Port) → IsInside u.machine c → station_of u (at_port u c port) ≡ in_queue c port
-  station_at c port inside = ap (λ i. in_queue (chip_of u.machine (i / 7)) (port_of (i % 7))) (plain (queue_at u.machine c port)) ∙ station_of_queue u.machine c port inside
-    where
-      plain : (i : ℕ) → i ≡ 0 + i
-      plain i = omega arith
-
   left_came : (q : Queue) (k : McCopy) → Among k (f.left q) → Among k (held_in m q ++ f.entered q)
   left_came q k a = subst (λ xs. Among k xs) (sym (passes.in_order q)) (among_left k (f.left q) (held_in n q) a)
 
@@ -247,14 +218,14 @@ module _ (m : State) (f : Flow) (n : State) (nets : List NetPlan) (labels : ℕ 
         let in_all : Among k (f.entered (behind u e o) ++ map onward (dumped_at f e o)) =
         among_left k (f.entered (behind u e o)) (map onward (dumped_at f e o)) (subst (λ q. Among k (f.entered q)) (sym is) came) in
         let hand = hand_right e o b (λ p j left small. before e p (live_inside u.machine e ends.3) j (left_came (at_port u e p) j left) small) ends.3 tt k in_all low in
-        subst (λ st. Right (mark k st)) (ap (station_of u) is ∙ station_at c (ByLink g) inside) (queue_right e o ends.3 k hand)
+        subst (λ st. Right (mark k st)) (ap (station_of u) is ∙ station_is u c (ByLink g) inside) (queue_right e o ends.3 k hand)
     | inr dead ↦ absurd (nothing k (f.entered (at_port u c (ByLink g))) (passes.dead_ports c g inside dead) came)
   ]
 
   port_right : (b : ℕ) (c : Chip) (port : Port) → IsInside u.machine c → (k : McCopy) → Among k (held_in m (at_port u c port) ++ f.entered (at_port u c port)) → k.hop < b → Right (mark k (in_queue c port))
   port_right zero c port inside k a low = absurd (omega (arith, low))
   port_right (suc b) c port inside k a low = elim (among_either k (held_in m (at_port u c port)) (f.entered (at_port u c port)) a) [
-    | inl held ↦ subst (λ st. Right (mark k st)) (station_at c port inside) (held_right (at_port u c port) k held)
+    | inl held ↦ subst (λ st. Right (mark k st)) (station_is u c port inside) (held_right (at_port u c port) k held)
     | inr came ↦ came_right b (λ e p in_e j b' small. port_right b e p in_e j b' small) c port inside k came (omega (arith, low))
   ]
 

@@ -15,6 +15,8 @@ use Rattle.machine_desc.specs.Live.{far_of, is_live_link, IsInside, IsLiveLink}
 use Rattle.machine_desc.proofs.Far.{far_inside, far_back, live_ends, opposite_of-opposite}
 use Rattle.mesh_core.specs.State.{Setup, Queue, input, core, nowhere, behind, behind_link, core_of, queue_at, vertex_behind}
 pub use Rattle.mesh_core.proofs.Keeping.{same_queue as one_port}
+use Rattle.mesh_core.proofs.Keeping.{same_input, same_core, input_is_no_core, input_is_somewhere, core_is_somewhere}
+use Rattle.spin_base.proofs.Spots.{same_link}
 use Rattle.mesh_core.proofs.Ways.{vertex_behind_stands}
 
 -- whether two names are of one queue
@@ -52,9 +54,6 @@ pub data Leads (u : Setup) (c : Chip) (o : Out) : Type 0 where
   to_vertex : (v : ℕ) → ((d : Dir) → o ≡ Link d → is_live_link u.machine c d ≡ false) → vertex_behind u.spots c o ≡ Some v → behind u c o ≡ core v → Leads u c o
   to_none : vertex_behind u.spots c o ≡ None → behind u c o ≡ nowhere → Leads u c o
 
-same_dir : (a b : Dir) → Link a ≡ Link b → a ≡ b
-same_dir a b same = cc
-
 vertex_or_none : (u : Setup) (c : Chip) (o : Out) → ((d : Dir) → o ≡ Link d → is_live_link u.machine c d ≡ false) → behind u c o ≡ core_of (vertex_behind u.spots c o) →
     (x : Option ℕ) → vertex_behind u.spots c o ≡ x → Leads u c o
 vertex_or_none u c o dead is (Some v) at = to_vertex v dead at (is ∙ ap core_of at)
@@ -66,20 +65,12 @@ live_or_not u c d true live =
     by_link d ends.0 refl live ends.1
     (ap (λ b. behind_link u c d b (far_of u.machine c d)) live ∙ ap (behind_link u c d true) ends.1)
 live_or_not u c d false dead =
-    vertex_or_none u c (Link d) (λ d' same. ap (is_live_link u.machine c) (sym (same_dir d d' same)) ∙ dead)
+    vertex_or_none u c (Link d) (λ d' same. ap (is_live_link u.machine c) (sym (same_link d d' same)) ∙ dead)
     (ap (λ b. behind_link u c d b (far_of u.machine c d)) dead) (vertex_behind u.spots c (Link d)) refl
 
 pub leads : (u : Setup) (c : Chip) (o : Out) → Leads u c o
 leads u c (Link d) = live_or_not u c d (is_live_link u.machine c d) refl
 leads u c (Core p) = vertex_or_none u c (Core p) (λ d same. cc) refl (vertex_behind u.spots c (Core p)) refl
-
--- ---- numbers of queues
-
-same_input : (i j : ℕ) → input i ≡ input j → i ≡ j
-same_input i j same = cc
-
-same_core : (v w : ℕ) → core v ≡ core w → v ≡ w
-same_core v w same = cc
 
 -- Two outputs of chips of the grid that lead to one input queue are one.
 pub one_link : (u : Setup) (a c : Chip) (d : Dir) (o : Out) (e : Chip) → IsInside u.machine a → IsInside u.machine c →
@@ -95,28 +86,16 @@ one_link u a c d o e in_a in_c far is = elim (leads u c o) [
       let to_c : far_of u.machine h (opposite_of g) ≡ Some c = far_back u.machine c h g in_c far' in
       let same : Some a ≡ Some c = sym to_a ∙ (ap (λ x. far_of u.machine x (opposite_of d)) one.0 ∙ (ap (λ x. far_of u.machine h (opposite_of x)) link ∙ to_c)) in
       (cc, ap Link link ∙ sym out)
-  | to_vertex v dead at is_core ↦ absurd (apart (sym is ∙ is_core))
-  | to_none without none ↦ absurd (gone (sym is ∙ none))
+  | to_vertex v dead at is_core ↦ absurd (input_is_no_core (sym is ∙ is_core))
+  | to_none without none ↦ absurd (input_is_somewhere (sym is ∙ none))
 ]
-  where
-    apart : {i v : ℕ} → input i ≡ core v → ⊥
-    apart same = cc
-
-    gone : {i : ℕ} → input i ≡ nowhere → ⊥
-    gone same = cc
 
 -- An output that leads to a vertex is the one of the vertex's spot.
 pub one_end : (u : Setup) (c : Chip) (o : Out) (v : ℕ) → behind u c o ≡ core v → (t : Spot) × (slice_get u.spots v ≡ Some t) × (t.chip ≡ c) × (out_of t.core ≡ o)
 one_end u c o v is = elim (leads u c o) [
-  | by_link g h out live far' at ↦ absurd (apart (sym at ∙ is))
+  | by_link g h out live far' at ↦ absurd (input_is_no_core (sym at ∙ is))
   | to_vertex w dead at is_core ↦
       let same : w ≡ v = same_core w v (sym is_core ∙ is) in
       vertex_behind_stands u.spots c o v (at ∙ ap Some same)
-  | to_none without none ↦ absurd (gone (sym is ∙ none))
+  | to_none without none ↦ absurd (core_is_somewhere (sym is ∙ none))
 ]
-  where
-    apart : {i v : ℕ} → input i ≡ core v → ⊥
-    apart same = cc
-
-    gone : {v : ℕ} → core v ≡ nowhere → ⊥
-    gone same = cc

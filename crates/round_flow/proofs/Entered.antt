@@ -1,8 +1,8 @@
 -- What entered all queues, counted as marks, is what came from all sources: each queue has one, or nothing entered it.
-use Rattle.std.proofs.Common.{◌≡◌, ℕ, ◌*◌, ◌/◌, ◌%◌, ◌<◌, Bool, true, false, cond, ◌==◌, List, [], ◌++◌, map, Option, Some, None, length, refl, ap, ap₂, sym, ◌∙◌, subst, arith, inl, inr, ◌⊎◌, count_by}
+use Rattle.std.proofs.Common.{◌≡◌, ◌≢◌, ℕ, ◌*◌, ◌/◌, ◌%◌, ◌<◌, Bool, true, cond, ◌==◌, List, [], ◌∷◌, ◌++◌, map, Option, Some, None, length, refl, ap, ap₂, sym, ◌∙◌, subst, arith, inl, inr, ◌⊎◌, count_by, zero-add}
 use Rattle.std.specs.Cmp.{both_ways}
 use Rattle.std.specs.List.{slice_get, sum_by, range_with_len}
-use Rattle.std.proofs.lemmas.Bool.{cases_Bool, and_from, and_parts, eqb-true}
+use Rattle.std.proofs.lemmas.Bool.{cases_Bool, and_from, and_parts, eqb-true, eq-eqb}
 use Rattle.std.proofs.lemmas.List.Sums.{sum_by-append}
 use Rattle.std.proofs.lemmas.Option.{slice_get_within}
 use Rattle.list_laws.proofs.Members.{Among, among_map, among_either, among_at, among_contains}
@@ -15,12 +15,13 @@ use Rattle.spin_base.specs.declared.chips.Spot.{Spot}
 use Rattle.spin_base.specs.declared.chips.Dir.{Dir}
 use Rattle.spin_base.specs.declared.chips.Port.{Port}
 use Rattle.spin_base.specs.declared.chips.Port.TheVariants.{Link as ByLink, Local}
+use Rattle.spin_base.specs.declared.copies.McCopy.{McCopy}
 use Rattle.spin_base.specs.declared.routes.Out.{Out}
 use Rattle.spin_base.specs.declared.routes.Out.TheVariants.{Link, Core}
 use Rattle.spin_base.specs.Links.{opposite_of, port_number, dir_at, all_dirs}
 use Rattle.spin_base.specs.Outputs.{out_of, IsOutput, all_outs, link_outs, core_outs}
 use Rattle.spin_base.specs.Equality.{chip_eq}
-use Rattle.spin_base.proofs.Equality.{chip_eq_same, chip_eq_true}
+use Rattle.spin_base.proofs.Equality.{chip_eq_same, chip_eq_true, link_is_not_local}
 use Rattle.spin_base.proofs.Spots.{out_of-has_bit, dir_number-dir_at}
 use Rattle.machine_desc.specs.Description.{Description}
 use Rattle.machine_desc.specs.Live.{far_of, chip_of, is_live_link, is_live_chip, IsInside, IsLiveLink, IsLiveChip, IsSite}
@@ -28,13 +29,16 @@ use Rattle.machine_desc.proofs.Far.{far_inside, far_back, live_ends, live_back, 
 use Rattle.machine_desc.proofs.Live.{chip_of-inside, index_of-chip_of}
 use Rattle.machine_desc.proofs.Sites.{site_parts, end_is_no_live_link, same_site}
 use Rattle.mesh_core.specs.State.{Setup, State, IsMesh, Queue, input, core, nowhere, behind, behind_link, queue_at}
+use Rattle.mesh_core.specs.Step.{onward}
 use Rattle.mesh_core.specs.Trail.{Station, in_queue, at_core, Mark}
 use Rattle.mesh_core.specs.Ledger.{marked, port_of}
 use Rattle.mesh_core.proofs.Changes.{queue_at-below}
+use Rattle.mesh_core.proofs.Moves.{mark, Crosses, station_of_queue}
+use Rattle.mesh_core.proofs.Keeping.{same_input, input_is_no_core, input_is_somewhere}
 use Rattle.mesh_core.proofs.Ways.{vertex_behind_stands, vertex_behind_there, leads_to}
 use Rattle.round_flow.specs.RoundFlow.{Flow, Passes, at_port}
 use Rattle.round_flow.proofs.Sums.{sum_agree, sum_none, sum_map, carried}
-use Rattle.round_flow.proofs.Ends.{behind_eq, behind_eq_same, behind_eq_true, by_link, to_vertex, to_none, leads, one_port, one_link, one_end}
+use Rattle.round_flow.proofs.Ends.{behind_eq, behind_eq_same, behind_eq_true, Leads, by_link, to_vertex, to_none, leads, one_port, one_link, one_end}
 use Rattle.round_flow.proofs.Sources.{once_in_range, range_parts, live_of_live_chips, live_chips, choices, choice_eq, choice_eq_same, choice_eq_true, IsChoice, sources, source_eq, source_once}
 
 abbrev one_where : Bool → ℕ
@@ -54,6 +58,23 @@ abbrev pub station_of : Setup → Queue → Station
 station_of u (input i) = in_queue (chip_of u.machine (i / 7)) (port_of (i % 7))
 station_of u (core v) = at_core v
 station_of u nowhere = at_core 0
+
+-- the copies in the input queue of a port stand there
+pub station_is : (u : Setup) (c : Chip) (port : Port) → IsInside u.machine c → station_of u (at_port u c port) ≡ in_queue c port
+station_is u c port inside =
+    ap (λ i. in_queue (chip_of u.machine (i / 7)) (port_of (i % 7))) (sym (zero-add (queue_at u.machine c port))) ∙ station_of_queue u.machine c port inside
+
+-- a copy in hand goes on to the queue behind the output, where there is one
+pub crosses_behind : (m : State) (k : McCopy) (c : Chip) (o : Out) → IsLiveChip m.setup.machine c → behind m.setup c o ≢ nowhere →
+    Crosses m k c o (mark (onward k) (station_of m.setup (behind m.setup c o)) ∷ [])
+crosses_behind m k c o live some = by_end (leads m.setup c o)
+  where
+    by_end : Leads m.setup c o → Crosses m k c o (mark (onward k) (station_of m.setup (behind m.setup c o)) ∷ [])
+    by_end (by_link d e out link far at) =
+        let inside = far_inside m.setup.machine c e d (live_inside m.setup.machine c live) far in
+        inl (d, e, out, link, far, ap (λ st. mark (onward k) st ∷ []) (ap (station_of m.setup) at ∙ station_is m.setup e (ByLink (opposite_of d)) inside))
+    by_end (to_vertex v dead at is_core) = inr (v, dead, at, ap (λ q. mark (onward k) (station_of m.setup q) ∷ []) is_core)
+    by_end (to_none without none) = absurd (some none)
 
 -- ---- each queue stands once among the queues
 
@@ -126,32 +147,12 @@ source_eq_true (a, x) (b, y) same =
     let parts = and_parts (chip_eq a b) (choice_eq x y) same in
     ap₂ (λ (c : Chip) (z : Option Out). (c, z)) (chip_eq_true a b parts.0) (choice_eq_true x y parts.1)
 
-input_is : (i j : ℕ) → input i ≡ input j → i ≡ j
-input_is i j same = cc
-
-not_core : {i v : ℕ} → input i ≡ core v → ⊥
-not_core same = cc
-
-not_nowhere : {i : ℕ} → input i ≡ nowhere → ⊥
-not_nowhere same = cc
-
-no_core : {v : ℕ} → core v ≡ nowhere → ⊥
-no_core same = cc
-
-not_local : (d : Dir) → ByLink d ≡ Local → ⊥
-not_local d same = cc
-
 -- the port of a number below 7
 pub numbered_port : (k : ℕ) → k < 7 → (port : Port) × (port_number port ≡ k)
 numbered_port k below = elim (cases_Bool (k == 6)) [
   | inl last ↦ (Local, sym (eqb-true k 6 last))
-  | inr other ↦ (ByLink (dir_at k), dir_number-dir_at k (omega (arith, below, apart other)))
+  | inr other ↦ (ByLink (dir_at k), dir_number-dir_at k (omega (arith, below, (λ (same : k ≡ 6). answers_none (k == 6) (eq-eqb k 6 same) other))))
 ]
-  where
-    apart : (k == 6) ≡ false → k ≡ 6 → ⊥
-    apart other same =
-        let yes' : (k == 6) ≡ true = ap (λ j. j == 6) same in
-        cc
 
 -- ---- what entered
 
@@ -202,23 +203,23 @@ module _ (p : Mark → Bool) (m : State) (f : Flow) (n : State) (mesh : IsMesh m
   -- an injection queue gets the copies of its chip's cores
   only_local : (c : Chip) → IsInside u.machine c → (s : Chip × Option Out) → IsLiveChip u.machine s.0 → from u s ≡ at_port u c Local → s ≡ (c, None)
   only_local c inside (e, None) live is =
-      let one = one_port u.machine e c Local Local (live_inside u.machine e live) inside (input_is _ _ is) in
+      let one = one_port u.machine e c Local Local (live_inside u.machine e live) inside (same_input _ _ is) in
       ap (λ (x : Chip). (x, None)) one.0
   only_local c inside (e, Some o) live is = elim (leads u e o) [
     | by_link d h out link far at ↦
         let in_h = far_inside u.machine e h d (live_inside u.machine e live) far in
-        let one = one_port u.machine h c (ByLink (opposite_of d)) Local in_h inside (input_is _ _ (sym at ∙ is)) in
-        absurd (not_local (opposite_of d) one.1)
-    | to_vertex v dead at is_core ↦ absurd (not_core (sym is ∙ is_core))
-    | to_none without none ↦ absurd (not_nowhere (sym is ∙ none))
+        let one = one_port u.machine h c (ByLink (opposite_of d)) Local in_h inside (same_input _ _ (sym at ∙ is)) in
+        absurd (link_is_not_local (opposite_of d) one.1)
+    | to_vertex v dead at is_core ↦ absurd (input_is_no_core (sym is ∙ is_core))
+    | to_none without none ↦ absurd (input_is_somewhere (sym is ∙ none))
   ]
 
   -- the queue of a port whose link is live gets the copies that the chip at the far end sends by that link
   only_far : (c e : Chip) (g : Dir) → IsInside u.machine c → IsInside u.machine e → far_of u.machine e (opposite_of g) ≡ Some c →
       (s : Chip × Option Out) → IsLiveChip u.machine s.0 → from u s ≡ at_port u c (ByLink g) → s ≡ (e, Some (Link (opposite_of g)))
   only_far c e g inside in_e far (a, None) live is =
-      let one = one_port u.machine a c Local (ByLink g) (live_inside u.machine a live) inside (input_is _ _ is) in
-      absurd (not_local g (sym one.1))
+      let one = one_port u.machine a c Local (ByLink g) (live_inside u.machine a live) inside (same_input _ _ is) in
+      absurd (link_is_not_local g (sym one.1))
   only_far c e g inside in_e far (a, Some o) live is =
       let there : behind u a o ≡ input (queue_at u.machine c (ByLink (opposite_of (opposite_of g)))) =
       is ∙ ap (λ (d : Dir). at_port u c (ByLink d)) (sym (opposite_of-opposite g)) in
@@ -280,7 +281,7 @@ module _ (p : Mark → Bool) (m : State) (f : Flow) (n : State) (mesh : IsMesh m
           no_vertex w same = cc
 
       only : (s : Chip × Option Out) → IsLiveChip u.machine s.0 → from u s ≡ core v → s ≡ (t.chip, Some (out_of t.core))
-      only (c, None) live is = absurd (not_core is)
+      only (c, None) live is = absurd (input_is_no_core is)
       only (c, Some o) live is =
           let ends = one_end u c o v is in
           let same : ends.0 ≡ t = cc in

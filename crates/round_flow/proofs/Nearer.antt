@@ -1,22 +1,19 @@
 -- Each move leaves marks that have less far to go, and few of them.
-use Rattle.std.proofs.Common.{◌≡◌, ℕ, ◌+◌, ◌*◌, ◌-◌, ◌<◌, ◌≤◌, ◌==◌, min, refl, sym, ap, ◌∙◌, subst, arith, inl, inr, List, [], ◌∷◌, map, length, Bool, true, false, if◌then◌else◌}
+use Rattle.std.proofs.Common.{◌≡◌, ℕ, ◌+◌, ◌*◌, ◌-◌, ◌<◌, ◌≤◌, ◌==◌, min, refl, sym, subst, arith, inl, inr, List, [], ◌∷◌, map, Bool, true, false, if◌then◌else◌}
 use Rattle.std.proofs.lemmas.Bool.{eq-eqb}
-use Rattle.std.proofs.lemmas.List.{length-map}
-use Rattle.std.proofs.lemmas.List.Sums.{length-filter, count_by-le-length}
-use Rattle.list_laws.proofs.Members.{Among}
+use Rattle.list_laws.proofs.Members.{Among, among_only}
 use Rattle.list_laws.proofs.Tests.{answers_none}
 use Rattle.spin_base.specs.declared.chips.Chip.{Chip}
 use Rattle.spin_base.specs.declared.chips.Port.{Port}
 use Rattle.spin_base.specs.declared.chips.Port.TheVariants.{Link as ByLink, Local}
 use Rattle.spin_base.specs.declared.routes.Out.{Out}
-use Rattle.spin_base.specs.declared.routes.Route.{Route}
 use Rattle.spin_base.specs.declared.copies.McCopy.{McCopy}
 use Rattle.spin_base.specs.Links.{opposite_of}
 use Rattle.spin_base.specs.Lookup.{lookup}
-use Rattle.spin_base.specs.Outputs.{has, outs_of, all_outs, link_outs, core_outs}
+use Rattle.spin_base.specs.Outputs.{outs_of}
 use Rattle.net_tables.specs.RightTables.{table_at}
 use Rattle.mesh_core.specs.State.{State}
-use Rattle.mesh_core.specs.Step.{last_hop, onward, outputs}
+use Rattle.mesh_core.specs.Step.{last_hop, onward}
 use Rattle.mesh_core.specs.Trail.{Station, unsent, in_queue, in_hand, at_core, delivered, dumped, Mark}
 use Rattle.mesh_core.proofs.Moves.{mark, IsMove, IsMoveOf, Crosses}
 use Rattle.round_flow.specs.Work.{moves_left, to_go}
@@ -30,11 +27,8 @@ move_nears s x come small move y is_come = by_station x.copy x.station small mov
     far : McCopy → Station → ℕ
     far k at = moves_left (last_hop - k.hop) at
 
-    only : (z : Mark) → come ≡ z ∷ [] → y ≡ z
-    only z e = elim (subst (λ (l : List Mark). Among y l) e is_come) [ inl same ↦ same | inr none ↦ absurd none ]
-
     one : (z : Mark) (n : ℕ) → come ≡ z ∷ [] → moves_left (last_hop - z.copy.hop) z.station < n → moves_left (last_hop - y.copy.hop) y.station < n
-    one z n is less = subst (λ (w : Mark). moves_left (last_hop - w.copy.hop) w.station < n) (sym (only z is)) less
+    one z n is less = subst (λ (w : Mark). moves_left (last_hop - w.copy.hop) w.station < n) (sym (among_only z y come is is_come)) less
 
     crossing : (k : McCopy) (c : Chip) (o : Out) (n : ℕ) → 3 * (last_hop - k.hop - 1) + 1 < n → Crosses s k c o come → moves_left (last_hop - y.copy.hop) y.station < n
     crossing k c o n less (inl (d, e, out, live, far', is)) =

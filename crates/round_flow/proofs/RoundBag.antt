@@ -1,5 +1,5 @@
 -- What passes the queues of a mesh in a round is a bag of moves.
-use Rattle.std.proofs.Common.{◌≡◌, ◌≢◌, ℕ, ◌+◌, ◌*◌, ◌/◌, ◌%◌, ◌<◌, ◌≤◌, Bool, true, false, cond, ◌==◌, List, [], ◌∷◌, ◌++◌, map, filter, Some, None, length, suc, refl, ap, ap₂, sym, ◌∙◌, subst, arith, inl, inr, count_by, append-nil}
+use Rattle.std.proofs.Common.{◌≡◌, ◌≢◌, ℕ, ◌+◌, ◌*◌, ◌/◌, ◌%◌, ◌<◌, ◌≤◌, Bool, true, false, cond, ◌==◌, List, [], ◌∷◌, ◌++◌, map, filter, Some, None, length, suc, refl, ap, ap₂, sym, ◌∙◌, subst, arith, inl, inr, count_by, append-nil, zero-add}
 use Rattle.std.specs.List.{All, sum_by, range_with_len, slice_get, slice_index_or}
 use Rattle.std.proofs.lemmas.Bool.{cases_Bool, eqb-true}
 use Rattle.std.proofs.lemmas.List.{map-append, length-append, length-map}
@@ -14,33 +14,31 @@ use Rattle.list_laws.proofs.Members.{Among, among_contains, among_map, among_lef
 use Rattle.list_laws.proofs.Places.{All-at, slice_get_there}
 use Rattle.spin_base.specs.declared.chips.Chip.{Chip}
 use Rattle.spin_base.specs.declared.chips.Spot.{Spot}
-use Rattle.spin_base.specs.declared.chips.Port.TheVariants.{Link as ByLink, Local}
+use Rattle.spin_base.specs.declared.chips.Port.TheVariants.{Local}
 use Rattle.spin_base.specs.declared.routes.Out.{Out}
 use Rattle.spin_base.specs.declared.copies.McCopy.{McCopy}
 use Rattle.spin_base.specs.declared.copies.Delivery.{Delivery}
 use Rattle.spin_base.specs.declared.copies.DumpRec.{DumpRec}
-use Rattle.spin_base.specs.Links.{opposite_of}
 use Rattle.spin_base.specs.Equality.{chip_eq, out_eq}
 use Rattle.spin_base.specs.Outputs.{all_outs, IsOutput}
 use Rattle.spin_base.proofs.Equality.{nat_eq_same, chip_eq_true, out_eq_true}
 use Rattle.spin_base.proofs.Once.{all_once}
 use Rattle.machine_desc.specs.Live.{chip_of, IsLiveChip, IsSite}
-use Rattle.machine_desc.proofs.Far.{live_inside, far_inside}
+use Rattle.machine_desc.proofs.Far.{live_inside}
 use Rattle.machine_desc.proofs.Sites.{site_parts}
-use Rattle.mesh_core.specs.State.{Setup, State, IsMesh, Queue, input, core, nowhere, behind, queue_at}
+use Rattle.mesh_core.specs.State.{Setup, State, IsMesh, Queue, input, core, nowhere, behind}
 use Rattle.mesh_core.specs.Step.{last_hop, onward, outputs}
 use Rattle.mesh_core.specs.Trail.{Station, unsent, in_queue, in_hand, at_core, delivered, dumped, Mark}
 use Rattle.mesh_core.specs.Ledger.{marks_of, marked, hand_marks, port_of, unsent_marks, input_marks, all_hand_marks, core_marks, delivered_marks, dumped_marks}
-use Rattle.mesh_core.proofs.Moves.{mark, station_of_queue, Crosses, IsMoveOf}
+use Rattle.mesh_core.proofs.Moves.{mark, IsMoveOf}
 use Rattle.mesh_core.proofs.LedgerLaw.{Bag, Moved, count_left, count_come}
 use Rattle.round_flow.specs.RoundFlow.{Flow, Passes, at_port, sent_on, of_chip, delivered_to, HasNoHand, HasMoved}
 use Rattle.mesh_core.proofs.Counting.{counted}
 use Rattle.round_flow.proofs.CountSums.{part_of_sum, part_of_sum_at}
 use Rattle.round_flow.proofs.Sums.{sum_agree, sum_none, sum_map, sum_filter, sum_swap, sum_plus, sum_gathered, sum_at, sum_at-swap, one_passes}
 use Rattle.round_flow.proofs.Balance.{queues_balance, passing, passing_in}
-use Rattle.round_flow.proofs.Ends.{Leads, by_link, to_vertex, to_none, leads}
 use Rattle.round_flow.proofs.Sources.{once_in_range, range_parts, live_chips, live_of_live_chips, live_chip_once, choices, sum_sources}
-use Rattle.round_flow.proofs.Entered.{from, station_of, came, all_came, has_bit}
+use Rattle.round_flow.proofs.Entered.{from, station_of, station_is, crosses_behind, came, all_came, has_bit}
 use Rattle.round_flow.proofs.Parts.{Part, both_parts, part_each, part_at, part_of, count_come-append}
 use Rattle.round_flow.proofs.Weights.{one_where, back, entered_is}
 use Rattle.round_flow.proofs.Taken.{weight, taken_from, hands_balance}
@@ -122,19 +120,7 @@ module _ (m : State) (f : Flow) (n : State) (mesh : IsMesh m) (after : IsMesh n)
           let of = among_map back k (f.entered (behind u c o)) a in
           let fits = entered_is m f n passes c o live is of.0 of.1 in
           let small : k.hop ≤ last_hop = subst (λ (j : McCopy). j.hop ≤ last_hop) (sym of.2) (omega (arith, fits.1)) in
-          (inr (by_end k (leads u c o) of), small)
-        where
-          plain : (i : ℕ) → i ≡ 0 + i
-          plain i = omega arith
-
-          by_end : (k : McCopy) → Leads u c o → ((j : McCopy) × Among j (f.entered (behind u c o)) × (k ≡ back j)) → Crosses m k c o (mark (onward k) (station_of u (behind u c o)) ∷ [])
-          by_end k (by_link d e out link far at) of =
-              let inside = far_inside u.machine c e d (live_inside u.machine c live) far in
-              let station : station_of u (behind u c o) ≡ in_queue e (ByLink (opposite_of d)) =
-              ap (station_of u) at ∙ (ap (λ i. in_queue (chip_of u.machine (i / 7)) (port_of (i % 7))) (plain (queue_at u.machine e (ByLink (opposite_of d)))) ∙ station_of_queue u.machine e (ByLink (opposite_of d)) inside) in
-              inl (d, e, out, link, far, ap (λ st. mark (onward k) st ∷ []) station)
-          by_end k (to_vertex v dead at is_core) of = inr (v, dead, at, ap (λ q. mark (onward k) (station_of u q) ∷ []) is_core)
-          by_end k (to_none without none) of = absurd (subst (λ xs. Among of.0 xs) (ap f.entered none ∙ passes.nowhere_empty) of.1)
+          (inr (crosses_behind m k c o live (λ none. subst (λ xs. Among of.0 xs) (ap f.entered none ∙ passes.nowhere_empty) of.1)), small)
 
   dumped_part : Part m (λ p. sum_by (λ (r : DumpRec). count_by p (mark r.copy (in_hand r.chip r.out) ∷ [])) f.dumped) (λ p. sum_by (λ (r : DumpRec). count_by p (mark r.copy (dumped r.chip r.out) ∷ [])) f.dumped)
   dumped_part =
@@ -229,15 +215,12 @@ module _ (m : State) (f : Flow) (n : State) (mesh : IsMesh m) (after : IsMesh n)
         at_chip : (c : Chip) → IsLiveChip u.machine c → came_in (at_port u c Local) ≡ sum_at (λ v (spot : Spot). share c v spot) 0 u.spots
         at_chip c live =
             let station : station_of u (at_port u c Local) ≡ in_queue c Local =
-            ap (λ i. in_queue (chip_of u.machine (i / 7)) (port_of (i % 7))) (plain (queue_at u.machine c Local)) ∙ station_of_queue u.machine c Local (live_inside u.machine c live) in
+            station_is u c Local (live_inside u.machine c live) in
             ap (λ st. count_by p (marked st (f.entered (at_port u c Local)))) station
             ∙ (sum_map (λ k. mark k (in_queue c Local)) (λ x. one_where (p x)) (f.entered (at_port u c Local))
             ∙ (sum_by-IsPermutation (into c) (sent_on u f c) (f.entered (at_port u c Local)) (passes.injected c live)
             ∙ (sum_gathered (into c) (λ v spot. of_chip c spot (f.sent v)) 0 u.spots
             ∙ sum_at-agree (λ v spot. sum_by (into c) (of_chip c spot (f.sent v))) (λ v (spot : Spot). share c v spot) 0 u.spots (λ v spot at. of_copies c spot (f.sent (0 + v))))))
-          where
-            plain : (i : ℕ) → i ≡ 0 + i
-            plain i = omega arith
 
         of_vertex : (v : ℕ) (spot : Spot) → IsLiveChip u.machine spot.chip → sum_by (λ c. share c v spot) (live_chips u.machine) ≡ sum_by (λ k. count_by p (mark k (in_queue spot.chip Local) ∷ [])) (f.sent v)
         of_vertex v spot live =
@@ -324,14 +307,11 @@ module _ (m : State) (f : Flow) (n : State) (mesh : IsMesh m) (after : IsMesh n)
 
     -- ---- lists before and after
 
-    plus_zero : (i : ℕ) → i ≡ 0 + i
-    plus_zero i = omega arith
-
     unsent_even : count_by p (unsent_marks m) ≡ sum_at (λ v spot. count_by p (marked (unsent v) (f.sent v))) 0 u.spots + count_by p (unsent_marks n)
     unsent_even =
         let long : length n.unsent ≡ length m.unsent = length_is in
         let same = queues_balance p (λ v. unsent v) (λ v. []) f.sent 0 m.unsent n.unsent long (λ v low.
-        subst (λ w. slice_index_or m.unsent v [] ++ [] ≡ f.sent w ++ slice_index_or n.unsent v []) (plus_zero v)
+        subst (λ w. slice_index_or m.unsent v [] ++ [] ≡ f.sent w ++ slice_index_or n.unsent v []) (sym (zero-add v))
         (append-nil (slice_index_or m.unsent v []) ∙ passes.unsent v (omega (arith, low, mesh.unsent_lists)))) in
         let none = sum_none (passing p (λ v. unsent v) (λ v. []) f.sent (λ v. [])) (range_with_len 0 (length m.unsent)) (λ v a. refl) in
         let sent_sum : sum_by (λ v. count_by p (marked (unsent v) (f.sent v))) (range_with_len 0 (length m.unsent)) ≡ sum_at (λ v spot. count_by p (marked (unsent v) (f.sent v))) 0 u.spots =
@@ -345,7 +325,7 @@ module _ (m : State) (f : Flow) (n : State) (mesh : IsMesh m) (after : IsMesh n)
     inputs_even =
         let long : length n.inputs ≡ length m.inputs = after.input_lists ∙ (ap (λ (s : Setup). 7 * (s.machine.width * s.machine.height)) passes.setup ∙ sym mesh.input_lists) in
         let same = queues_balance p (λ i. station_of u (input i)) (λ i. f.entered (input i)) (λ i. f.left (input i)) 0 m.inputs n.inputs long (λ i low.
-        subst (λ j. slice_index_or m.inputs i [] ++ f.entered (input j) ≡ f.left (input j) ++ slice_index_or n.inputs i []) (plus_zero i) (passes.in_order (input i))) in
+        subst (λ j. slice_index_or m.inputs i [] ++ f.entered (input j) ≡ f.left (input j) ++ slice_index_or n.inputs i []) (sym (zero-add i)) (passes.in_order (input i))) in
         let came_sum : sum_by (λ i. came_in (input i)) (range_with_len 0 (length m.inputs)) ≡ sum_by (λ i. came_in (input i)) places = ap (λ k. sum_by (λ i. came_in (input i)) (range_with_len 0 k)) mesh.input_lists in
         let left_sum : sum_by (λ i. count_by p (marked (station_of u (input i)) (f.left (input i)))) (range_with_len 0 (length m.inputs)) ≡ sum_by (λ i. count_by p (marked (station_of u (input i)) (f.left (input i)))) places =
         ap (λ k. sum_by (λ i. count_by p (marked (station_of u (input i)) (f.left (input i)))) (range_with_len 0 k)) mesh.input_lists in
@@ -357,7 +337,7 @@ module _ (m : State) (f : Flow) (n : State) (mesh : IsMesh m) (after : IsMesh n)
     cores_even =
         let long : length n.cores ≡ length m.cores = after.core_lists ∙ (ap (λ (s : Setup). length s.spots) passes.setup ∙ sym mesh.core_lists) in
         let same = queues_balance p (λ v. at_core v) (λ v. f.entered (core v)) (λ v. f.left (core v)) 0 m.cores n.cores long (λ v low.
-        subst (λ j. slice_index_or m.cores v [] ++ f.entered (core j) ≡ f.left (core j) ++ slice_index_or n.cores v []) (plus_zero v) (passes.in_order (core v))) in
+        subst (λ j. slice_index_or m.cores v [] ++ f.entered (core j) ≡ f.left (core j) ++ slice_index_or n.cores v []) (sym (zero-add v)) (passes.in_order (core v))) in
         let came_sum : sum_by (λ v. came_in (core v)) (range_with_len 0 (length m.cores)) ≡ sum_by (λ v. came_in (core v)) vertices = ap (λ k. sum_by (λ v. came_in (core v)) (range_with_len 0 k)) mesh.core_lists in
         let left_sum : sum_by (λ v. count_by p (marked (at_core v) (f.left (core v)))) (range_with_len 0 (length m.cores)) ≡ sum_by (λ v. count_by p (marked (at_core v) (f.left (core v)))) vertices =
         ap (λ k. sum_by (λ v. count_by p (marked (at_core v) (f.left (core v)))) (range_with_len 0 k)) mesh.core_lists in

@@ -16,8 +16,7 @@ use Rattle.spin_base.proofs.Once.{all_once}
 use Rattle.machine_desc.specs.Description.{Description}
 use Rattle.machine_desc.specs.Live.{index_of, chip_of, grid_chips, is_live_chip, IsLiveChip}
 use Rattle.machine_desc.proofs.Far.{live_inside, index_below}
-use Rattle.machine_desc.proofs.Live.{index_of-chip_of}
-use Rattle.mesh_core.proofs.Moves.{chip_of-index_of}
+use Rattle.machine_desc.proofs.Live.{index_of-chip_of, chip_of-index_of}
 use Rattle.round_flow.proofs.Sums.{sum_agree, sum_none, sum_filter, sum_map, sum_gathered, sum_at-plain}
 
 -- ---- each number stands once in a range

@@ -24,13 +24,13 @@ use Rattle.spin_base.proofs.Equality.{nat_eq_same, chip_eq_same, chip_eq_true, p
 use Rattle.spin_base.proofs.Once.{all_once}
 use Rattle.machine_desc.specs.Live.{index_of, chip_of, is_live_chip, is_live_link, IsInside, IsLiveChip}
 use Rattle.machine_desc.proofs.Far.{live_inside, live_ends}
-use Rattle.machine_desc.proofs.Live.{chip_of-inside, index_of-chip_of}
+use Rattle.machine_desc.proofs.Live.{chip_of-inside, index_of-chip_of, chip_of-index_of}
 use Rattle.mesh_core.specs.State.{Setup, State, IsMesh, Queue, input, behind, queue_at}
 use Rattle.mesh_core.specs.Step.{last_hop, outputs}
 use Rattle.mesh_core.specs.Trail.{in_hand, Mark}
 use Rattle.mesh_core.specs.Ledger.{all_ports, port_of}
 use Rattle.mesh_core.proofs.Changes.{port_below, queue_at-below}
-use Rattle.mesh_core.proofs.Moves.{mark, chip_of-index_of, port_of-port_number}
+use Rattle.mesh_core.proofs.Moves.{mark, port_of-port_number}
 use Rattle.round_flow.specs.RoundFlow.{Flow, Passes, at_port, leaves_by, taken_for, dumped_at, held_in}
 use Rattle.round_flow.proofs.Sums.{sum_agree, sum_none, sum_map, sum_filter, sum_swap, sum_plus, sum_gathered, sum_at-plain, one_passes, carried}
 use Rattle.round_flow.proofs.Ends.{one_port}
