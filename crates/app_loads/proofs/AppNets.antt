@@ -2,9 +2,9 @@
 use Rattle.std.proofs.Common.{◌≡◌, ◌≢◌, ℕ, zero, suc, ◌+◌, ◌^◌, ◌<◌, ◌≤◌, ◌==◌, ◌↔◌, true, List, [], ◌∷◌, get_or, refl, sym, ap, ◌∙◌, subst, inl, inr, arith, Some}
 use Rattle.std.specs.List.{slice_get, All, AllPairs, Contains}
 use Rattle.std.proofs.lemmas.Bool.{cases_eq, cases_lt, and_from, eq-eqb}
-use Rattle.std.proofs.lemmas.Bool.Decides.{nat_tests}
 use Rattle.std.proofs.lemmas.List.Elements.{All-contains, All-weaker}
-use Rattle.std.proofs.lemmas.Option.{slice_get-get_or, slice_get_within, get_or_from_slice_get}
+use Rattle.std.proofs.lemmas.Option.{slice_get-get_or, slice_get_within, get_or_from_slice_get, same_Some}
+use Rattle.key_alloc.proofs.Ranges.{in_from}
 use Rattle.list_laws.proofs.Members.{Contains-at}
 use Rattle.list_laws.proofs.Places.{All-at, All-each, AllZip-at_first}
 use Rattle.spin_base.specs.declared.blocks.Block.{Block}
@@ -31,14 +31,14 @@ use Rattle.app_loads.specs.Host.{net_with, nets_with, nets_of}
 use Rattle.app_loads.specs.Plans.{IsAppNet, IsBefore}
 use Rattle.app_loads.specs.Regions.{AreApart, has_place}
 use Rattle.app_loads.proofs.Blocks.{block_keys}
-use Rattle.app_loads.proofs.ClaimCases.{facts}
+use Rattle.app_loads.proofs.ClaimCases.{facts, same_net}
 
 -- a net with its block is made of the net and the block of its place
 pub nets_with_parts : (nets : List AppNet) (blocks : List Block) (i : ℕ) (x : NetPlan) → slice_get (nets_with nets blocks) i ≡ Some x →
     (net : AppNet) × (block : Block) × (slice_get nets i ≡ Some net) × (slice_get blocks i ≡ Some block) × (net_with net block ≡ x)
 nets_with_parts [] blocks i x e = cc
 nets_with_parts (n ∷ ns) [] i x e = cc
-nets_with_parts (n ∷ ns) (b ∷ bs) zero x e = (n, b, refl, refl, let w : net_with n b ≡ x = cc in w)
+nets_with_parts (n ∷ ns) (b ∷ bs) zero x e = (n, b, refl, refl, same_Some (net_with n b) x e)
 nets_with_parts (n ∷ ns) (b ∷ bs) (suc i) x e = nets_with_parts ns bs i x e
 
 pub member_at : {X : Type 0} (xs : List X) (x : X) (has : Contains xs x) → slice_get xs has.0 ≡ Some x
@@ -63,6 +63,13 @@ pub record NetFacts (m : Description) (app : LoadedApp) (x : NetPlan) (j : ℕ) 
   pub keys : (k : ℕ) → k < 2 ^ 32 → Matches block k ↔ ((block.key ≤ k) × (k < block.key + range.size))
   pub enough : net.keys ≤ range.size
 
+-- the numbers of an index, apart from all that is known of its net
+index_fits : (key place size keys index most : ℕ) → key ≡ place → keys ≤ size → index < keys → place + size ≤ most → key + index < most
+index_fits key place size keys index most same many below room = omega (arith, same, many, below, room)
+
+within_keys : (key keys size index : ℕ) → keys ≤ size → index < keys → key + index < key + size
+within_keys key keys size index many below = omega (arith, many, below)
+
 module _ (m : Description) (app : LoadedApp) (loaded : IsLoadedOn m app) where
   pub facts_at : (j : ℕ) (x : NetPlan) → slice_get (nets_of app) j ≡ Some x → NetFacts m app x j
   facts_at j x e =
@@ -70,11 +77,11 @@ module _ (m : Description) (app : LoadedApp) (loaded : IsLoadedOn m app) where
       let b = loaded.blocks.each j parts.1 parts.3 in
       let f = (facts m app.plan loaded.plan b.claim (Contains-at (claims_of m app.plan) b.at b.claim b.is)).keyed j b.its in
       let ranged = AllZip-at_first IsRangeFor (claims_of m app.plan) app.ranges loaded.ranges b.at b.claim b.is in
-      let same : ranged.0 ≡ b.range = some_same (sym ranged.1 ∙ b.got) in
+      let same : ranged.0 ≡ b.range = same_Some _ _ (sym ranged.1 ∙ b.got) in
       let region : b.range.region ≡ b.claim.region = ap (λ (r : Range). r.region) (sym same) ∙ ranged.2.0 in
       let size : b.range.size ≡ b.claim.size = ap (λ (r : Range). r.size) (sym same) ∙ ranged.2.1 in
-      let one_net : f.net ≡ parts.0 = some_same (sym f.is ∙ parts.2) in
-      let mask : parts.1.mask + 2 ^ f.e ≡ 2 ^ 32 = (let w = b.mask in let v = f.size in omega (arith, w, v, size)) in
+      let one_net : f.net ≡ parts.0 = same_Some _ _ (sym f.is ∙ parts.2) in
+      let mask : parts.1.mask + 2 ^ f.e ≡ 2 ^ 32 = ap (λ s. parts.1.mask + s) (sym (size ∙ f.size)) ∙ b.mask in
       let enough : parts.0.keys ≤ b.claim.size = subst (λ (n : AppNet). n.keys ≤ b.claim.size) one_net f.enough in
       record {
         net = parts.0;
@@ -92,11 +99,8 @@ module _ (m : Description) (app : LoadedApp) (loaded : IsLoadedOn m app) where
         region = region ∙ f.region;
         place = b.key;
         keys = subst (λ s. (k : ℕ) → k < 2 ^ 32 → Matches parts.1 k ↔ ((parts.1.key ≤ k) × (k < parts.1.key + s))) (sym (size ∙ f.size)) (block_keys parts.1 f.e f.few mask);
-        enough = omega (arith, enough, size);
+        enough = subst (λ s. parts.0.keys ≤ s) (sym size) enough;
       }
-    where
-      some_same : {A : Type 0} {a b : A} → Some a ≡ Some b → a ≡ b
-      some_same e' = cc
 
   pub facts_of : (x : NetPlan) (has : Contains (nets_of app) x) → NetFacts m app x has.0
   facts_of x has = facts_at has.0 x (member_at (nets_of app) x has)
@@ -107,19 +111,13 @@ module _ (m : Description) (app : LoadedApp) (loaded : IsLoadedOn m app) where
       let block_is : f.block ≡ x.block = ap (λ (n : NetPlan). n.block) f.is in
       let mine : Matches f.block key = subst (λ (b : Block). Matches b key) (sym block_is) k.matches in
       let at = (f.keys key k.fits).0 mine in
-      let place = f.place in
-      and_from (f.range.region == 0) (in_range f.range.place f.range.size key) (eq-eqb f.range.region 0 f.region) (in_from f.range.place f.range.size key (omega (arith, at.0, place)) (omega (arith, at.1, place)))
-    where
-      in_from : (p s k' : ℕ) → p ≤ k' → k' < p + s → in_range p s k' ≡ true
-      in_from p s k' low high = grind (arith, nat_tests)
+      and_from (f.range.region == 0) (in_range f.range.place f.range.size key) (eq-eqb f.range.region 0 f.region) (in_from f.range.place f.range.size key (subst (λ p. p ≤ key) f.place at.0) (subst (λ p. key < p + f.range.size) f.place at.1))
 
   -- a key of a net for each of its indices
   pub key_of_index : (x : NetPlan) (j : ℕ) (f : NetFacts m app x j) (index : ℕ) → index < f.net.keys → f.range.place + f.range.size ≤ 2 ^ 32 → (f.block.key + index < 2 ^ 32) × IsKeyOf f.block (f.block.key + index)
   key_of_index x j f index below room =
-      let place = f.place in
-      let many = f.enough in
-      let small : f.block.key + index < 2 ^ 32 = omega (arith, place, many, below, room) in
-      (small, record { fits = small; matches = (f.keys (f.block.key + index) small).1 (omega arith, omega (arith, many, below)) })
+      let small = index_fits f.block.key f.range.place f.range.size f.net.keys index (2 ^ 32) f.place f.enough below room in
+      (small, record { fits = small; matches = (f.keys (f.block.key + index) small).1 (omega arith, within_keys f.block.key f.net.keys f.range.size index f.enough below) })
 
   pub usable_spot : (s : Spot) → Contains app.plan.spots s → IsUsable m s
   usable_spot s has = All-contains (IsUsable m) app.plan.spots s loaded.plan.usable has
@@ -142,20 +140,14 @@ module _ (m : Description) (app : LoadedApp) (loaded : IsLoadedOn m app) where
       let g_is : get_or app.ranges g.at f.range ≡ g.range = get_or_from_slice_get app.ranges g.at g.range f.range g.got in
       elim (cases_eq f.at g.at) [
         | inl same ↦
-            let one : f.claim ≡ g.claim = some_same (sym f.at_claim ∙ (ap (slice_get (claims_of m app.plan)) same ∙ g.at_claim)) in
-            let number : i ≡ j = same_number (sym f.its ∙ (ap (λ (c : Claim). c.refusal) one ∙ g.its)) in
+            let one : f.claim ≡ g.claim = same_Some _ _ (sym f.at_claim ∙ (ap (slice_get (claims_of m app.plan)) same ∙ g.at_claim)) in
+            let number : i ≡ j = same_net i j (sym f.its ∙ (ap (λ (c : Claim). c.refusal) one ∙ g.its)) in
             absurd (omega (arith, number, less))
         | inr other ↦ elim (cases_lt f.at g.at) [
           | inl before ↦ subst (λ (r : Range). AreApart r g.range) f_is (subst (λ (r : Range). AreApart (get_or app.ranges f.at f.range) r) g_is (apart f.at g.at f.range before in_g)) 0 key a b
           | inr after ↦ subst (λ (r : Range). AreApart g.range r) f_is (subst (λ (r : Range). AreApart r (get_or app.ranges f.at f.range)) g_is (apart g.at f.at f.range (omega (arith, after, other)) in_f)) 0 key b a
         ]
       ]
-    where
-      some_same : {A : Type 0} {a b : A} → Some a ≡ Some b → a ≡ b
-      some_same e' = cc
-
-      same_number : {p q : ℕ} → KeysOut p ≡ KeysOut q → p ≡ q
-      same_number e' = cc
 
   pub trees_of : All (λ (x : NetPlan). IsRoutingTree m x.tree.root x.tree.edges x.targets) (nets_of app)
   trees_of = All-each (λ (x : NetPlan). IsRoutingTree m x.tree.root x.tree.edges x.targets) (nets_of app) (λ x has.

@@ -1,19 +1,19 @@
 -- What holds of a host without an application.
 use Rattle.std.proofs.Common.{◌≡◌, ℕ, ◌+◌, ◌-◌, ◌*◌, ◌/◌, ◌%◌, ◌<◌, ◌≤◌, zero, suc, refl, sym, ap, ◌∙◌, subst, arith, inl, inr, List, [], ◌∷◌, ◌++◌, length, replicate, Option, Some, None, Bool, true, false, ◌&&◌, not, get_or, if◌then◌else◌, ◌==◌}
 use Rattle.std.proofs.Common.{leb, ltb}
-use Rattle.std.proofs.lemmas.Bool.{cases_lt}
+use Rattle.std.proofs.lemmas.Bool.{cases_lt, leb-false, leb-true}
 use Rattle.std.proofs.lemmas.Bool.Decides.{nat_tests}
 use Rattle.std.specs.List.{slice_get, Contains}
 use Rattle.std.proofs.lemmas.List.{get_or-replicate, length-replicate, length-append, get_or_append_left, get_or-append_right}
 use Rattle.std.proofs.lemmas.List.Elements.{All-nil}
-use Rattle.std.proofs.lemmas.Option.{slice_get-get_or, slice_get_within, get_or_from_slice_get}
+use Rattle.std.proofs.lemmas.Option.{slice_get-get_or, slice_get_within, get_or_from_slice_get, same_Some}
 use Rattle.list_laws.proofs.Members.{Contains-none}
 use Rattle.list_laws.proofs.Gathering.{gathered_nothing}
 use Rattle.spin_base.specs.declared.blocks.Entry.{Entry}
 use Rattle.spin_base.specs.declared.chips.Chip.{Chip}
 use Rattle.spin_base.specs.declared.chips.Spot.{Spot}
 use Rattle.spin_base.specs.declared.copies.McCopy.{McCopy}
-use Rattle.machine_desc.specs.Description.{Description, HasSize}
+use Rattle.machine_desc.specs.Description.{Description}
 use Rattle.machine_desc.specs.Live.{index_of, chip_of, IsInside}
 use Rattle.machine_desc.proofs.Far.{index_below}
 use Rattle.range_store.specs.Regions.{AreRuns, hole_of, is_free}
@@ -25,15 +25,13 @@ use Rattle.mesh_core.specs.Trail.{Mark, unsent, in_queue, at_core}
 use Rattle.mesh_core.specs.Ledger.{marks_of, marked, hand_marks, port_of, unsent_marks, input_marks, all_hand_marks, core_marks, MeetsLedgerFor}
 use Rattle.mesh_core.specs.Opened.{empty_mesh}
 use Rattle.mesh_core.specs.VertexTable.{spot_place}
-use Rattle.mesh_core.proofs.Changes.{IsMesh-empty}
 use Rattle.mesh_core.proofs.VertexTableLaws.{spot_place-below}
 use Rattle.app_loads.specs.declared.loaded.LoadedApp.{LoadedApp}
 use Rattle.app_loads.specs.Host.{Free, Host, asked_of}
 use Rattle.app_loads.specs.Regions.{all_free, open_regions, chip_count, region_size, IsFreeBeside}
 use Rattle.app_loads.specs.Applications.{AreApps}
 use Rattle.app_loads.specs.Inner.{TellsTaken}
-use Rattle.app_loads.specs.Opening.{bare_mesh, bare_host, usable_spots}
-use Rattle.app_loads.proofs.Spots.{usable_different, usable_sites}
+use Rattle.app_loads.specs.Opening.{bare_mesh, bare_host}
 
 -- ---- copies
 
@@ -130,10 +128,7 @@ module _ (m : Description) where
       omega (arith, one, two, both, whole)
 
   at_size : (region : ℕ) (f : Free) → slice_get (open_regions m) region ≡ Some f → f ≡ all_free (region_size m region)
-  at_size zero f is = some_same is
-    where
-      some_same : Some (all_free 4294967296) ≡ Some f → f ≡ all_free 4294967296
-      some_same e = cc
+  at_size zero f is = sym (same_Some _ _ is)
   at_size (suc i) f is = by_kind (leb (suc i) n) refl ∙ ap (λ b. all_free (if b then 4294967296 else (if leb (suc i) n then m.sdram else 1024))) (sym (not_zero i))
     where
       not_zero : (j : ℕ) → (suc j == 0) ≡ false
@@ -151,21 +146,15 @@ module _ (m : Description) where
       one : length memories ≡ n
       one = length-replicate n (all_free m.sdram)
 
-      le_true : (a b : ℕ) → leb a b ≡ true → a ≤ b
-      le_true a b e = grind (arith, nat_tests)
-
-      le_false : (a b : ℕ) → leb a b ≡ false → b < a
-      le_false a b e = grind (arith, nat_tests)
-
       by_kind : (b : Bool) → leb (suc i) n ≡ b → f ≡ all_free (if leb (suc i) n then m.sdram else 1024)
       by_kind true le =
           subst (λ b. f ≡ all_free (if b then m.sdram else 1024)) (sym le) (
-          let below = le_true (suc i) n le in
+          let below = leb-true (suc i) n le in
           let e = one in
           got ∙ (get_or_append_left memories tables d i (omega (arith, e, below)) ∙ get_or-replicate n i (all_free m.sdram) d (omega (arith, below))))
       by_kind false le =
           subst (λ b. f ≡ all_free (if b then m.sdram else 1024)) (sym le) (
-          let above = le_false (suc i) n le in
+          let above = leb-false (suc i) n le in
           let all = long in
           let w = within in
           got ∙ (get_or-append_right memories tables n i d one (omega (arith, above)) ∙ get_or-replicate n (i - n) (all_free 1024) d (omega (arith, w, all, above))))
@@ -202,11 +191,6 @@ none_held m = record {
 }
 
 -- ---- the host
-
-pub bare_is_mesh : (m : Description) (q : ℕ) → HasSize m → 1 ≤ q → IsMesh (bare_mesh m q)
-bare_is_mesh m q size room =
-    let u : Setup = record { machine = m; spots = usable_spots m; tables = replicate (m.width * m.height) empty_memory; capacity = q } in
-    IsMesh-empty u size (usable_different m) (usable_sites m) room (length-replicate (m.width * m.height) empty_memory)
 
 pub bare_apps : (m : Description) (q : ℕ) → IsMesh (bare_mesh m q) → AreApps (bare_host m q)
 bare_apps m q mesh = record {

@@ -2,7 +2,7 @@
 use Rattle.std.proofs.Common.{◌≡◌, ℕ, ◌+◌, ◌^◌, ◌<◌, ◌≤◌, List, length, get_or, sym, ap, ◌∙◌, subst, inl, inr, arith, Some}
 use Rattle.std.specs.List.{slice_get, slice_set}
 use Rattle.std.proofs.lemmas.Bool.{cases_lt}
-use Rattle.std.proofs.lemmas.Option.{slice_get-get_or, slice_get_within}
+use Rattle.std.proofs.lemmas.Option.{slice_get-get_or, slice_get_within, same_Some}
 use Rattle.spin_base.specs.declared.blocks.Block.{Block}
 use Rattle.app_loads.specs.declared.answers.LoadErr.TheVariants.{KeysOut}
 use Rattle.app_loads.specs.declared.loaded.Claim.{Claim}
@@ -10,6 +10,7 @@ use Rattle.app_loads.specs.declared.loaded.Range.{Range}
 use Rattle.app_loads.specs.Claims.{IsBlockOf}
 use Rattle.app_loads.specs.Joining.{AreKeyed, IsKeyRange, HaveBlocks}
 use Rattle.app_loads.proofs.Serving.{set_cases}
+use Rattle.app_loads.proofs.ClaimCases.{same_net}
 
 module _ (claims : List Claim) (ranges : List Range) (nets : ℕ) (keyed : AreKeyed claims ranges nets) (at : ℕ) (d : Claim) (e : Range) (below : at < length claims) where
   abbrev claim : Claim
@@ -48,16 +49,10 @@ module _ (claims : List Claim) (ranges : List Range) (nets : ℕ) (keyed : AreKe
             | inl before ↦ so_far i n c b before is of_net other.1
             | inr here ↦
                 let same : i ≡ at = omega (arith, less, here) in
-                let one : claim ≡ c = some_same (sym is_claim ∙ (ap (slice_get claims) (sym same) ∙ is)) in
+                let one : claim ≡ c = same_Some _ _ (sym is_claim ∙ (ap (slice_get claims) (sym same) ∙ is)) in
                 absurd (other.0 (same_net n net (sym of_net ∙ (ap (λ (x : Claim). x.refusal) (sym one) ∙ its))))
           ]
         ]
-      where
-        some_same : {A : Type 0} {x y : A} → Some x ≡ Some y → x ≡ y
-        some_same e' = cc
-
-        same_net : (j k : ℕ) → KeysOut j ≡ KeysOut k → j ≡ k
-        same_net j k e' = cc
 
   -- a claim of no net's keys makes no block
   pub block_skip : (blocks : List Block) → ((net : ℕ) → claim.refusal ≡ KeysOut net → ⊥) →
@@ -67,12 +62,9 @@ module _ (claims : List Claim) (ranges : List Range) (nets : ℕ) (keyed : AreKe
     | inl before ↦ so_far i n c b before is of_net has
     | inr here ↦
         let same : i ≡ at = omega (arith, less, here) in
-        let one : claim ≡ c = some_same (sym is_claim ∙ (ap (slice_get claims) (sym same) ∙ is)) in
+        let one : claim ≡ c = same_Some _ _ (sym is_claim ∙ (ap (slice_get claims) (sym same) ∙ is)) in
         absurd (none n (ap (λ (x : Claim). x.refusal) one ∙ of_net))
   ]
-    where
-      some_same : {A : Type 0} {x y : A} → Some x ≡ Some y → x ≡ y
-      some_same e' = cc
 
 pub all_blocks : (claims : List Claim) (ranges : List Range) (nets : ℕ) (blocks : List Block) (at : ℕ) → AreKeyed claims ranges nets → length claims ≤ at → length blocks ≡ nets →
     ((i n : ℕ) (c : Claim) (b : Block) → i < at → slice_get claims i ≡ Some c → c.refusal ≡ KeysOut n → slice_get blocks n ≡ Some b → IsBlockOf claims ranges n b) → HaveBlocks claims ranges blocks

@@ -1,20 +1,12 @@
 -- A block whose mask has the high bits has the keys of a range.
-use Rattle.std.proofs.Common.{◌≡◌, ℕ, suc, ◌+◌, ◌-◌, ◌*◌, ◌/◌, ◌%◌, ◌^◌, ◌<◌, ◌≤◌, ◌↔◌, sym, ap, ◌∙◌, subst, arith}
+use Rattle.std.proofs.Common.{◌≡◌, ℕ, ◌+◌, ◌-◌, ◌*◌, ◌/◌, ◌%◌, ◌^◌, ◌<◌, ◌≤◌, ◌↔◌, sym, ap, ◌∙◌, subst, arith}
 use Rattle.std.specs.Prelude.{bit_and}
-use Rattle.std.proofs.Math.Nat.{mul-le-mul_right, suc-mul}
-use Rattle.std.proofs.lemmas.Nat.{pow-add, pow_pos, shr_split, div_below}
+use Rattle.std.proofs.lemmas.Nat.{shr_split}
 use Rattle.std.proofs.lemmas.Nat.Bits.{and_high_mask}
+use Rattle.key_alloc.proofs.Ranges.{room_above}
 use Rattle.spin_base.specs.declared.blocks.Block.{Block}
 use Rattle.tern_word.specs.Ternary.{Matches}
 use Rattle.tern_word.proofs.BlockLaws.{range_keys, key_small}
-
--- a multiple of a power of two below a greater one leaves room for as many
-room_above : (z n : ℕ) → z ≤ 32 → n < 2 ^ 32 → n / 2 ^ z * 2 ^ z ≡ n → n + 2 ^ z ≤ 2 ^ 32
-room_above z n le small whole =
-    let split : 2 ^ 32 ≡ 2 ^ (32 - z) * 2 ^ z = ap (λ (k : ℕ). 2 ^ k) (let both : 32 ≡ (32 - z) + z = omega arith in both) ∙ pow-add 2 (32 - z) z in
-    let below = div_below n (2 ^ z) (2 ^ (32 - z)) (pow_pos z) (subst (λ k. n < k) split small) in
-    let up : suc (n / 2 ^ z) * 2 ^ z ≤ 2 ^ (32 - z) * 2 ^ z = mul-le-mul_right (2 ^ z) (omega (arith, below)) in
-    omega (arith, up, suc-mul (n / 2 ^ z) (2 ^ z), whole, split)
 
 module _ (b : Block) (z : ℕ) (few : z ≤ 32) (sum : b.mask + 2 ^ z ≡ 2 ^ 32) where
   whole_there : b.key / 2 ^ z * 2 ^ z ≡ b.key

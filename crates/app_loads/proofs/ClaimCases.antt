@@ -2,8 +2,7 @@
 use Rattle.std.proofs.Common.{◌≡◌, ◌≢◌, ℕ, zero, suc, ◌+◌, ◌%◌, ◌^◌, ◌<◌, ◌≤◌, ◌==◌, leb, cond, Bool, true, false, List, [], ◌∷◌, ◌++◌, length, map, refl, sym, ap, ◌∙◌, subst, inl, inr, arith, Option, None, Some, IfSome, if◌then◌else◌, count_by}
 use Rattle.std.specs.Prelude.{find, unwrap_or, zip}
 use Rattle.std.specs.List.{slice_get, Contains, flat_map, range_with_len}
-use Rattle.std.proofs.lemmas.Bool.{cases_eq}
-use Rattle.std.proofs.lemmas.Bool.Decides.{nat_tests}
+use Rattle.std.proofs.lemmas.Bool.{cases_eq, le-leb, leb-true, both_ways, eq-eqb, ne_eqb}
 use Rattle.std.proofs.lemmas.Nat.{pow_pos}
 use Rattle.list_laws.specs.Gathered.{gathered}
 use Rattle.list_laws.proofs.Gathering.{among_gathered, gathered_among}
@@ -48,15 +47,9 @@ find_in_row p f (suc n) a last = by_first (p (f a)) refl (find_in_row p f n (a +
 
 pub size_facts : (keys : ℕ) → keys ≤ 4294967296 → (e : ℕ) × (e ≤ 32) × (size_for keys ≡ 2 ^ e) × (keys ≤ 2 ^ e)
 size_facts keys few =
-    let found = find_in_row (leb keys) (λ n. 2 ^ n) 32 0 (le_true keys (2 ^ (0 + 32)) few) in
+    let found = find_in_row (leb keys) (λ n. 2 ^ n) 32 0 (le-leb keys (2 ^ (0 + 32)) few) in
     let z : 0 + found.0 ≡ found.0 = omega arith in
-    (found.0, found.1, ap (λ o. unwrap_or o 0) found.2 ∙ ap (λ n. 2 ^ n) z, le_of keys (2 ^ found.0) (ap (λ n. leb keys (2 ^ n)) (sym z) ∙ found.3))
-  where
-    le_true : (a b : ℕ) → a ≤ b → leb a b ≡ true
-    le_true a b le = grind (arith, nat_tests)
-
-    le_of : (a b : ℕ) → leb a b ≡ true → a ≤ b
-    le_of a b e = grind (arith, nat_tests)
+    (found.0, found.1, ap (λ o. unwrap_or o 0) found.2 ∙ ap (λ n. 2 ^ n) z, leb-true keys (2 ^ found.0) (ap (λ n. leb keys (2 ^ n)) (sym z) ∙ found.3))
 
 -- ---- members of the parts
 
@@ -94,27 +87,21 @@ unless_zero n r y a = by_test (n == 0) refl a
       where
         some : 0 < n
         some = elim (cases_eq n 0) [
-          | inl z ↦ absurd (contra (n == 0) e (eq n z))
+          | inl z ↦ absurd (both_ways (n == 0) e (eq-eqb n 0 z))
           | inr s ↦ omega (arith, s)
         ]
-          where
-            eq : (k : ℕ) → k ≡ 0 → (k == 0) ≡ true
-            eq k z = grind arith
-
-            contra : (b : Bool) → b ≡ false → b ≡ true → ⊥
-            contra true f t = cc
-            contra false f t = cc
     by_test false e (inr none) = absurd none
 
 in_unless : {Y : Type 0} (n : ℕ) (r : Y) → 0 < n → Among r (if n == 0 then [] else r ∷ [])
-in_unless n r some = by_test (n == 0) (not_zero n some)
+in_unless n r some = by_test (n == 0) (ne_eqb n 0 (λ e. absurd (omega (arith, e, some))))
   where
-    not_zero : (k : ℕ) → 0 < k → (k == 0) ≡ false
-    not_zero k s = grind arith
-
     by_test : (b : Bool) → b ≡ false → Among r (if b then [] else r ∷ [])
     by_test true e = cc
     by_test false e = inl refl
+
+-- a refusal for want of keys names one net
+pub same_net : (i j : ℕ) → KeysOut i ≡ KeysOut j → i ≡ j
+same_net i j e = cc
 
 module _ (m : Description) (plan : AppPlan) (valid : IsPlan m plan) where
   abbrev n : ℕ
@@ -165,9 +152,6 @@ module _ (m : Description) (plan : AppPlan) (valid : IsPlan m plan) where
     where
       never : (v j : ℕ) → MemoryOut v ≡ KeysOut j → ⊥
       never v j e = cc
-
-  same_net : (i j : ℕ) → KeysOut i ≡ KeysOut j → i ≡ j
-  same_net i j e = cc
 
   of_fixed : (claim : Claim) → Among claim fixed → Facts claim
   of_fixed claim a =

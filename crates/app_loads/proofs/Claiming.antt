@@ -3,10 +3,10 @@ use Rattle.std.proofs.Common.{◌≡◌, ℕ, zero, suc, ◌+◌, ◌/◌, ◌^�
 use Rattle.std.specs.Prelude.{find, unwrap_or, zip}
 use Rattle.std.specs.Int.{IsPowerOfTwo}
 use Rattle.std.specs.List.{flat_map, range_with_len, slice_get}
-use Rattle.std.proofs.lemmas.Bool.Decides.{nat_tests}
-use Rattle.std.proofs.lemmas.Bool.{cases_lt}
+use Rattle.std.proofs.lemmas.Bool.{cases_lt, le-leb, lt-leb}
 use Rattle.std.proofs.Math.Pow.{pow_mono}
 use Rattle.std.proofs.lemmas.Grind.{pow_more}
+use Rattle.std.proofs.lemmas.List.{take_all}
 use Rattle.list_laws.specs.Gathered.{gathered}
 use Rattle.list_laws.proofs.Gathering.{gathered_more}
 use Rattle.spin_base.specs.declared.chips.Spot.{Spot}
@@ -25,13 +25,7 @@ one_more f xs i x start before after at so_far new =
     new ∙ (ap (λ l. l ++ f i x) so_far ∙ (append_assoc start (gathered f 0 (take i xs)) (f i x) ∙ ap (λ l. start ++ l) (sym (gathered_more f 0 xs i i x at (omega arith)))))
 
 pub whole_at : {X Y : Type 0} (f : ℕ → X → List Y) (xs : List X) (i : ℕ) (start l : List Y) → length xs ≤ i → l ≡ start ++ gathered f 0 (take i xs) → l ≡ start ++ gathered f 0 xs
-whole_at f xs i start l end is = is ∙ ap (λ r. start ++ gathered f 0 r) (all_taken xs i end)
-  where
-    all_taken : {A : Type 0} (ys : List A) (n : ℕ) → length ys ≤ n → take n ys ≡ ys
-    all_taken [] zero le = refl
-    all_taken [] (suc n) le = refl
-    all_taken (y ∷ ys) zero le = absurd (omega (arith, le))
-    all_taken (y ∷ ys) (suc n) le = ap (λ r. y ∷ r) (all_taken ys n (omega (arith, le)))
+whole_at f xs i start l end is = is ∙ ap (λ r. start ++ gathered f 0 r) (take_all i xs end)
 
 pub joined : {X : Type 0} (a b c d x0 x1 x2 x3 x4 : List X) → x0 ≡ [] → x1 ≡ x0 ++ a → x2 ≡ x1 ++ b → x3 ≡ x2 ++ c → x4 ≡ x3 ++ d → x4 ≡ a ++ (b ++ (c ++ d))
 joined a b c d x0 x1 x2 x3 x4 e0 e1 e2 e3 e4 =
@@ -96,10 +90,7 @@ size_is keys size some few power enough half_below = by_power power.0 power.1
         ]
 
         here : leb keys (2 ^ (0 + k)) ≡ true
-        here = let e : 2 ^ (0 + k) ≡ size = ap (λ i. 2 ^ i) zero_k ∙ sym is in let w : keys ≤ 2 ^ (0 + k) = omega (arith, e, enough) in le_true keys (2 ^ (0 + k)) w
-          where
-            le_true : (a b : ℕ) → a ≤ b → leb a b ≡ true
-            le_true a b le = grind (arith, nat_tests)
+        here = let e : 2 ^ (0 + k) ≡ size = ap (λ i. 2 ^ i) zero_k ∙ sym is in let w : keys ≤ 2 ^ (0 + k) = omega (arith, e, enough) in le-leb keys (2 ^ (0 + k)) w
 
         lower : (j : ℕ) → j < k → leb keys (2 ^ (0 + j)) ≡ false
         lower j less =
@@ -107,10 +98,7 @@ size_is keys size some few power enough half_below = by_power power.0 power.1
             let up : 2 ^ (j + 1) ≤ 2 ^ k = pow_mono (omega (arith, less)) in
             let twice = pow_more 2 j in
             let w : 2 ^ j < keys = omega (arith, up, twice, is, half_below, some) in
-            ap (λ i. leb keys (2 ^ i)) z ∙ lt_false keys (2 ^ j) w
-          where
-            lt_false : (a b : ℕ) → b < a → leb a b ≡ false
-            lt_false a b lt = grind (arith, nat_tests)
+            ap (λ i. leb keys (2 ^ i)) z ∙ lt-leb keys (2 ^ j) w
 
 -- ---- all claims
 

@@ -1,13 +1,13 @@
 -- Rows put into ranges of entries.
-use Rattle.std.proofs.Common.{◌≡◌, ◌≢◌, ℕ, zero, suc, ◌+◌, ◌-◌, ◌<◌, ◌≤◌, Bool, true, false, ◌||◌, ◌&&◌, ◌==◌, List, [], ◌∷◌, ◌++◌, take, drop, get_or, length, map, set, refl, sym, ap, ◌∙◌, subst, inl, inr, ◌⊎◌, arith, Some, append_assoc}
+use Rattle.std.proofs.Common.{◌≡◌, ◌≢◌, ℕ, zero, suc, ◌+◌, ◌-◌, ◌<◌, ◌≤◌, true, false, ◌||◌, ◌&&◌, ◌==◌, List, [], ◌∷◌, ◌++◌, take, drop, get_or, length, map, set, refl, sym, ap, ◌∙◌, subst, inl, inr, ◌⊎◌, arith, Some, append_assoc}
 use Rattle.std.specs.List.{slice_get, slice_set, Contains}
 use Rattle.std.proofs.Math.Seq.{drop-cons}
-use Rattle.std.proofs.lemmas.Bool.{cases_Bool, cases_eq, cases_lt, eq-eqb, and_from}
-use Rattle.std.proofs.lemmas.Bool.Decides.{nat_tests}
-use Rattle.std.proofs.lemmas.List.{length-set, length-append, length-take-le, length-map, length-drop, take-append-drop, set_at, get_or-take}
+use Rattle.std.proofs.lemmas.Bool.{cases_Bool, cases_eq, cases_lt, eq-eqb, and_from, or_parts}
+use Rattle.std.proofs.lemmas.List.{length-set, length-append, length-take-le, length-map, length-drop, set_at, get_or-take, take_all}
 use Rattle.std.proofs.lemmas.List.Folds.{list_any-append}
-use Rattle.std.proofs.lemmas.Option.{slice_get_within, slice_get-get_or, get_or_from_slice_get}
-use Rattle.list_laws.proofs.Members.{Among, Contains-at, among_contains, contains_among, among_either}
+use Rattle.std.proofs.lemmas.Option.{slice_get_within, slice_get-get_or, get_or_from_slice_get, same_Some}
+use Rattle.key_alloc.proofs.Ranges.{in_from}
+use Rattle.list_laws.proofs.Members.{Contains-at, among_contains, contains_among, among_either}
 use Rattle.list_laws.proofs.Places.{slice_get-set_same, slice_get-set_other, take_more_at, map_more_at}
 use Rattle.spin_base.specs.declared.blocks.Entry.{Entry}
 use Rattle.spin_base.specs.declared.chips.Chip.{Chip}
@@ -26,9 +26,6 @@ use Rattle.app_loads.specs.Writing.{AreCopied, CanCopy}
 use Rattle.range_store.proofs.HolePlaces.{clash}
 
 -- ---- a list with a part written
-
-pub put_start : {X : Type 0} (old : List X) (first : ℕ) → old ≡ take first old ++ ([] ++ drop (first + 0) old)
-put_start old first = let same : first ≡ first + 0 = omega arith in sym (take-append-drop first old) ∙ ap (λ n. take first old ++ drop n old) same
 
 pub put_more : {X : Type 0} (old b : List X) (first p : ℕ) (x : X) (m n : List X) → length b ≡ p → first + p < length old → m ≡ take first old ++ (b ++ drop (first + p) old) → n ≡ set m (first + p) x →
     n ≡ take first old ++ ((b ++ x ∷ []) ++ drop (first + (p + 1)) old)
@@ -97,16 +94,10 @@ same_part [] (y ∷ ys) p s long same = absurd (omega (arith, long))
 same_part (x ∷ xs) [] p s long same = absurd (omega (arith, long))
 same_part (x ∷ xs) (y ∷ ys) zero zero long same = refl
 same_part (x ∷ xs) (y ∷ ys) zero (suc s) long same =
-    let first : x ≡ y = some_same (same 0 (omega arith) (omega arith)) in
+    let first : x ≡ y = same_Some _ _ (same 0 (omega arith) (omega arith)) in
     let rest = same_part xs ys 0 s (omega (arith, long)) (λ k low high. same (suc k) (omega arith) (omega (arith, high))) in
     ap (λ z. z ∷ take s xs) first ∙ ap (λ l. y ∷ l) rest
-  where
-    some_same : {A : Type 0} {a b : A} → Some a ≡ Some b → a ≡ b
-    some_same e = cc
 same_part (x ∷ xs) (y ∷ ys) (suc p) s long same = same_part xs ys p s (omega (arith, long)) (λ k low high. same (suc k) (omega (arith, low)) (omega (arith, high)))
-
-in_from : (p s k : ℕ) → p ≤ k → k < p + s → in_range p s k ≡ true
-in_from p s k low high = grind (arith, nat_tests)
 
 not_in : (p s k : ℕ) → in_range p s k ≡ false → (k < p) ⊎ (p + s ≤ k)
 not_in p s k out = elim (cases_lt k p) [
@@ -120,36 +111,41 @@ not_in p s k out = elim (cases_lt k p) [
 pub mine_at : (range : Range) (region k : ℕ) → range.region ≡ region → range.place ≤ k → k < range.place + range.size → has_place region k range ≡ true
 mine_at range region k is low high = and_from (range.region == region) (in_range range.place range.size k) (eq-eqb range.region region is) (in_from range.place range.size k low high)
 
-taken_more : (ranges : List Range) (i : ℕ) (range : Range) (region k : ℕ) → slice_get ranges i ≡ Some range → is_taken (take (i + 1) ranges) region k ≡ (is_taken (take i ranges) region k || (has_place region k range || false))
+pub taken_more : (ranges : List Range) (i : ℕ) (range : Range) (region k : ℕ) → slice_get ranges i ≡ Some range → is_taken (take (i + 1) ranges) region k ≡ (is_taken (take i ranges) region k || (has_place region k range || false))
 taken_more ranges i range region k at = ap (λ l. is_taken l region k) (take_more_at ranges i range at) ∙ list_any-append (has_place region k) (take i ranges) (range ∷ [])
 
-or_parts : (a b : Bool) → (a || (b || false)) ≡ false → (a ≡ false) × (b ≡ false)
-or_parts false false e = (refl, refl)
-or_parts false true e = cc
-or_parts true b e = cc
+-- a place that none of so many ranges and one more has
+pub none_more : (ranges : List Range) (i : ℕ) (range : Range) (region k : ℕ) → slice_get ranges i ≡ Some range → is_taken (take (i + 1) ranges) region k ≡ false →
+    (is_taken (take i ranges) region k ≡ false) × (has_place region k range ≡ false)
+none_more ranges i range region k at free =
+    let parts = or_parts (is_taken (take i ranges) region k) (has_place region k range || false) (sym (taken_more ranges i range region k at) ∙ free) in
+    (parts.0, (or_parts (has_place region k range) false parts.1).0)
 
 member_more : (ranges : List Range) (i : ℕ) (range other : Range) → slice_get ranges i ≡ Some range → Contains (take (i + 1) ranges) other → Contains (take i ranges) other ⊎ (other ≡ range)
 member_more ranges i range other at has =
     elim (among_either other (take i ranges) (range ∷ []) (contains_among other (take i ranges ++ range ∷ []) (subst (λ (l : List Range). Contains l other) (take_more_at ranges i range at) has))) [
       | inl before ↦ inl (among_contains other (take i ranges) before)
-      | inr here ↦ inr (only here)
+      | inr (inl here) ↦ inr here
+      | inr (inr none) ↦ absurd none
     ]
-  where
-    only : Among other (range ∷ []) → other ≡ range
-    only (inl is) = is
-    only (inr none) = absurd none
 
--- nothing is copied yet
-pub none_copied : (m : Description) (tables : List (List Entry)) (rows : List Table) (ranges : List Range) → CanCopy m tables rows ranges → AreCopied m rows [] tables tables
-none_copied m tables rows ranges can = record {
-  all = refl;
-  long = can.each_long;
-  copied = λ range has c t inside region at. absurd (nothing_in range has);
-  others = λ c k inside free. refl;
-}
-  where
-    nothing_in : (range : Range) → Contains (let l : List Range = [] in l) range → ⊥
-    nothing_in range has = let w = has.1 in absurd (omega (arith, w))
+-- ---- a list of tables with one changed
+
+module _ (m : Description) (cur : List (List Entry)) (long : length cur ≡ chip_count m) (j : ℕ) (below : j < chip_count m) (d table : List Entry) where
+  pub changed_here : (c : Chip) → index_of m c ≡ j → table_at m (slice_set cur j table) c ≡ table
+  changed_here c same =
+      ap (λ k. get_or (slice_set cur j table) k []) same
+      ∙ get_or_from_slice_get (slice_set cur j table) j table [] (slice_get-set_same cur j (get_or cur j d) table (slice_get-get_or cur j d (omega (arith, below, long))))
+
+  pub same_elsewhere : (c : Chip) → IsInside m c → index_of m c ≢ j → table_at m (slice_set cur j table) c ≡ table_at m cur c
+  same_elsewhere c inside other =
+      let got = slice_get-get_or cur (index_of m c) [] (let w = index_below m c inside in omega (arith, w, long)) in
+      get_or_from_slice_get (slice_set cur j table) (index_of m c) (get_or cur (index_of m c) []) [] (slice_get-set_other cur j (index_of m c) table other ∙ got)
+
+  pub was_here : (c : Chip) → index_of m c ≡ j → table_at m cur c ≡ get_or cur j d
+  was_here c same = ap (λ k. get_or cur k []) same ∙ get_or_from_slice_get cur j (get_or cur j d) [] (slice_get-get_or cur j d (omega (arith, below, long)))
+
+-- ---- rows copied
 
 module _ (m : Description) (old : List (List Entry)) (rows : List Table) (ranges : List Range) (can : CanCopy m old rows ranges) (cur : List (List Entry)) (i : ℕ) (d : Range) (below : i < length ranges)
     (so_far : AreCopied m rows (take i ranges) old cur) where
@@ -174,7 +170,7 @@ module _ (m : Description) (old : List (List Entry)) (rows : List Table) (ranges
       | inl before ↦ so_far.copied other before c t inside region is
       | inr same ↦ let r : range.region ≡ rows_region m c = ap (λ (x : Range). x.region) (sym same) ∙ region in absurd (omega (arith, r, none))
     ];
-    others = λ c k inside free. so_far.others c k inside (or_parts (is_taken (take i ranges) (rows_region m c) k) (has_place (rows_region m c) k range) (sym (taken_more ranges i range (rows_region m c) k at) ∙ free)).0;
+    others = λ c k inside free. so_far.others c k inside (none_more ranges i range (rows_region m c) k at free).0;
   }
 
   module _ (chips : ℕ) (total : chips ≡ n) (some : chips < range.region) where
@@ -258,17 +254,17 @@ module _ (m : Description) (old : List (List Entry)) (rows : List Table) (ranges
               | inr after ↦ behind_part T b range.place k (let f = fit.0 in let t = T_long in let l = b_long in omega (arith, f, t, l)) (let s = fit.1 in let l = b_long in omega (arith, after, s, l))
             ]
 
+        cur_long : length cur ≡ n
+        cur_long = so_far.all ∙ can.tables_long
+
         here_at : (c : Chip) → index_of m c ≡ j → table_at m (slice_set cur j table) c ≡ table
-        here_at c same = ap (λ k. get_or (slice_set cur j table) k []) same ∙ get_or_from_slice_get (slice_set cur j table) j table [] (slice_get-set_same cur j T table (slice_get-get_or cur j dt j_in_tables))
+        here_at = changed_here m cur cur_long j j_below dt table
 
         else_at : (c : Chip) → IsInside m c → index_of m c ≢ j → table_at m (slice_set cur j table) c ≡ table_at m cur c
-        else_at c inside other =
-            let here : index_of m c < length cur = let a = so_far.all in let b' = can.tables_long in let w = index_below m c inside in omega (arith, a, b', w) in
-            let got = slice_get-get_or cur (index_of m c) [] here in
-            get_or_from_slice_get (slice_set cur j table) (index_of m c) (get_or cur (index_of m c) []) [] (slice_get-set_other cur j (index_of m c) table other ∙ got)
+        else_at = same_elsewhere m cur cur_long j j_below dt table
 
         cur_at : (c : Chip) → index_of m c ≡ j → table_at m cur c ≡ T
-        cur_at c same = ap (λ k. get_or cur k []) (same ∙ sym index0) ∙ T_is
+        cur_at = was_here m cur cur_long j j_below dt table
 
         region_of : (c : Chip) → index_of m c ≡ j → range.region ≡ rows_region m c
         region_of c same = region0 ∙ ap (λ k. 1 + (n + k)) (index0 ∙ sym same)
@@ -297,7 +293,7 @@ module _ (m : Description) (old : List (List Entry)) (rows : List Table) (ranges
                   (λ k low high. outside k (apart_here c other before same region k low high))
                   ∙ (ap (λ l. take other.size (drop other.place l)) (sym (cur_at c same)) ∙ so_far.copied other before c t inside region is_t))
               | inr mine ↦
-                  let one : t ≡ R = some_same (sym is_t ∙ (ap (slice_get rows) (same ∙ sym index0) ∙ R_at)) in
+                  let one : t ≡ R = same_Some _ _ (sym is_t ∙ (ap (slice_get rows) (same ∙ sym index0) ∙ R_at)) in
                   ap (λ (r : Range). take r.size (drop r.place (table_at m (slice_set cur j table) c))) mine
                   ∙ (ap (λ l. take range.size (drop range.place l)) (here_at c same ∙ table_is)
                   ∙ (part_of (take range.place T) b (drop (range.place + length b) T) range.place range.size (length-take-le range.place T (let f = fit.0 in let w = T_long in omega (arith, f, w))) (fit.1 ∙ sym b_long)
@@ -311,7 +307,7 @@ module _ (m : Description) (old : List (List Entry)) (rows : List Table) (ranges
             ]
           ];
           others = λ c k inside free.
-              let parts = or_parts (is_taken (take i ranges) (rows_region m c) k) (has_place (rows_region m c) k range) (sym (taken_more ranges i range (rows_region m c) k at) ∙ free) in
+              let parts = none_more ranges i range (rows_region m c) k at free in
               elim (cases_eq (index_of m c) j) [
                 | inl same ↦
                     ap (λ l. slice_get l k) (here_at c same)
@@ -320,9 +316,6 @@ module _ (m : Description) (old : List (List Entry)) (rows : List Table) (ranges
               ];
         }
           where
-            some_same : {A : Type 0} {x y : A} → Some x ≡ Some y → x ≡ y
-            some_same e = cc
-
             out_of : (region k : ℕ) → range.region ≡ region → has_place region k range ≡ false → in_range range.place range.size k ≡ false
             out_of region k r f = sym (ap (λ q. q && in_range range.place range.size k) (eq-eqb range.region region r)) ∙ f
 
@@ -335,10 +328,4 @@ module _ (m : Description) (old : List (List Entry)) (rows : List Table) (ranges
             ]
 
 pub all_copied : (m : Description) (rows : List Table) (ranges : List Range) (old cur : List (List Entry)) (i : ℕ) → length ranges ≤ i → AreCopied m rows (take i ranges) old cur → AreCopied m rows ranges old cur
-all_copied m rows ranges old cur i end so_far = subst (λ l. AreCopied m rows l old cur) (all_taken ranges i end) so_far
-  where
-    all_taken : {A : Type 0} (ys : List A) (k : ℕ) → length ys ≤ k → take k ys ≡ ys
-    all_taken [] zero le = refl
-    all_taken [] (suc k) le = refl
-    all_taken (y ∷ ys) zero le = absurd (omega (arith, le))
-    all_taken (y ∷ ys) (suc k) le = ap (λ r. y ∷ r) (all_taken ys k (omega (arith, le)))
+all_copied m rows ranges old cur i end so_far = subst (λ l. AreCopied m rows l old cur) (take_all i ranges end) so_far

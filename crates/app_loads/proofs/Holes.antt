@@ -1,9 +1,10 @@
 -- The free places of a region tell its holes.
-use Rattle.std.proofs.Common.{◌≡◌, ℕ, ◌+◌, ◌<◌, ◌≤◌, Bool, true, false, List, [], ◌∷◌, refl, sym, ap, ◌∙◌, subst, inl, inr, arith}
+use Rattle.std.proofs.Common.{◌≡◌, ℕ, ◌+◌, ◌<◌, ◌≤◌, true, false, List, [], ◌∷◌, refl, sym, ap, ◌∙◌, subst, inl, inr, arith}
 use Rattle.std.proofs.lemmas.Bool.{cases_Bool, cases_lt, or_cases, or_left, or_right}
 use Rattle.range_store.specs.declared.holes.Hole.{Hole}
 use Rattle.range_store.specs.Regions.{AreRuns, has_range, is_free, end_of}
 use Rattle.range_store.proofs.HolePlaces.{clash, has_facts, has_from, free_within}
+use Rattle.app_loads.proofs.Others.{same_tests}
 
 -- the first place of the first hole is free, and no place before it
 first_free : (h : Hole) (hs : List Hole) → 0 < h.len → is_free (h ∷ hs) h.place ≡ true
@@ -52,11 +53,6 @@ behind from n g h gs hs runs one same k free =
       | inr there ↦ there
     ]
 
-equal_tests : (a b : Bool) → (a ≡ true → b ≡ true) → (b ≡ true → a ≡ true) → a ≡ b
-equal_tests true b to from = sym (to refl)
-equal_tests false true to from = from refl
-equal_tests false false to from = refl
-
 -- Two lists of holes with the same free places are one list.
 pub same_holes : (from n : ℕ) (xs ys : List Hole) → AreRuns from n xs → AreRuns from n ys → ((k : ℕ) → is_free xs k ≡ is_free ys k) → xs ≡ ys
 same_holes from n [] [] runs also same = refl
@@ -71,6 +67,6 @@ same_holes from n (g ∷ gs) (h ∷ hs) runs also same =
     let heads : g ≡ h = same_hole g h place (omega (arith, place, one, two)) in
     let e : end_of g ≡ end_of h = ap end_of heads in
     let rest : (k : ℕ) → is_free gs k ≡ is_free hs k =
-    λ k. equal_tests (is_free gs k) (is_free hs k) (behind from n g h gs hs runs heads same k) (behind from n h g hs gs also (sym heads) (λ j. sym (same j)) k) in
+    λ k. same_tests (is_free gs k) (is_free hs k) (behind from n g h gs hs runs heads same k) (behind from n h g hs gs also (sym heads) (λ j. sym (same j)) k) in
     let tails : gs ≡ hs = same_holes (end_of g + 1) n gs hs runs.3 (subst (λ i. AreRuns (i + 1) n hs) (sym e) also.3) rest in
     cc

@@ -1,12 +1,10 @@
 -- What holds of a host holds after events of its mesh.
-use Rattle.std.proofs.Common.{◌≡◌, refl, sym, ap, ◌∙◌, subst, List, [], ◌∷◌}
+use Rattle.std.proofs.Common.{◌≡◌, sym, ap, ◌∙◌, subst}
 use Rattle.std.specs.List.{All}
-use Rattle.spin_base.specs.declared.copies.Event.{Event}
 use Rattle.mesh_core.specs.State.{Setup, State, IsMesh}
-use Rattle.mesh_core.specs.Step.{after_event, after_events}
 use Rattle.mesh_core.specs.Ledger.{MeetsLedgerFor, label_of}
 use Rattle.mesh_core.proofs.EventsLaw.{IsMesh-after_events, events_keep_for}
-use Rattle.mesh_core.proofs.Fixed.{after_event_setup}
+use Rattle.mesh_core.proofs.Fixed.{setup_after}
 use Rattle.net_tables.specs.RightTables.{AreRight}
 use Rattle.packet_runs.specs.Draining.{IsKept}
 use Rattle.app_loads.specs.Host.{Host, all_nets, all_ranges, asked_of}
@@ -14,10 +12,6 @@ use Rattle.app_loads.specs.Regions.{AreFreeBeside}
 use Rattle.app_loads.specs.Applications.{AreApps, IsLoadedOn, HaveRows}
 use Rattle.app_loads.specs.Opening.{usable_spots}
 use Rattle.app_loads.specs.Running.{IsAfter}
-
-pub setup_after : (s : State) (es : List Event) → (after_events s es).setup ≡ s.setup
-setup_after s [] = refl
-setup_after s (e ∷ es) = setup_after (after_event s e) es ∙ after_event_setup s e
 
 pub after_setup : (s t : State) → IsAfter s t → t.setup ≡ s.setup
 after_setup s t after = ap (λ (x : State). x.setup) after.is ∙ setup_after s after.events

@@ -1,7 +1,7 @@
 -- The ledger of a mesh without the deliveries and dump records of an application of which no packet is under way.
-use Rattle.std.proofs.Common.{◌≡◌, ◌≢◌, ℕ, ◌+◌, ◌-◌, ◌/◌, ◌%◌, ◌<◌, ◌≤◌, ◌==◌, ◌&&◌, leb, ltb, Bool, true, false, not, cond, List, [], ◌∷◌, ◌++◌, length, refl, sym, ap, ◌∙◌, subst, inl, inr, ◌⊎◌, arith, Option, None, Some, if◌then◌else◌, IsTrue, count_by}
+use Rattle.std.proofs.Common.{◌≡◌, ◌≢◌, ℕ, ◌+◌, ◌-◌, ◌/◌, ◌%◌, ◌<◌, ◌≤◌, ◌==◌, leb, ltb, Bool, true, false, not, cond, List, [], ◌∷◌, ◌++◌, length, refl, sym, ap, ◌∙◌, subst, inl, inr, ◌⊎◌, arith, Option, None, Some, if◌then◌else◌, IsTrue, count_by}
 use Rattle.std.specs.List.{filter, All, AllPairs, Contains}
-use Rattle.std.proofs.lemmas.Bool.{cases_Bool, cases_lt, and_from}
+use Rattle.std.proofs.lemmas.Bool.{cases_Bool, cases_lt, and_from, leb-true, lt-ltb, ltb-true, and_parts, eqb-true, eq-eqb, not-true}
 use Rattle.std.proofs.lemmas.Bool.Decides.{nat_tests}
 use Rattle.std.proofs.lemmas.List.Elements.{filter-append, Contains-append_left, Contains-append_right}
 use Rattle.std.proofs.lemmas.Option.{slice_get_past}
@@ -31,16 +31,13 @@ use Rattle.app_loads.specs.Host.{Host, all_nets, asked_of, asked_of_app, either,
 use Rattle.app_loads.specs.Applications.{AreApps, HaveOtherNumbers}
 use Rattle.app_loads.specs.Leaving.{is_packet_of, IsUnderWay, NoneUnderWay, others_than, mesh_without}
 use Rattle.app_loads.proofs.Ledgers.{own_net}
-use Rattle.app_loads.proofs.LeavingLists.{filter_stays, filter_of_map, count_of_filter, flat_contains, flat_all, flat_pairs, either_pair}
+use Rattle.app_loads.proofs.LeavingLists.{filter_stays, filter_of_map, count_of_filter, either_pair}
+use Rattle.app_loads.proofs.Others.{All-left_in, AllPairs-left_in, Contains-left_in}
 
 -- a test and its opposite
 opposite_false : (b : Bool) → (b ≡ true → ⊥) → not b ≡ true
 opposite_false true never = absurd (never refl)
 opposite_false false never = refl
-
-opposite_of : (b : Bool) → not b ≡ true → b ≡ false
-opposite_of true e = cc
-opposite_of false e = refl
 
 -- ---- marks
 
@@ -141,7 +138,7 @@ module _ (app : LoadedApp) (tables : List (List Entry)) (s : State) (none : None
   was : (k : Mark) → Contains (marks_of t) k → Contains (marks_of s) k × (is_packet_of app k.copy.packet ≡ false)
   was k has =
       let old = Contains-from_filter (is_of_other app) (marks_of s) k (subst (λ m. Contains m k) (marks_without app tables s none) has) in
-      (old.0, opposite_of (is_packet_of app k.copy.packet) old.1)
+      (old.0, not-true (is_packet_of app k.copy.packet) old.1)
 
   -- what is still asked for is of another packet
   of_other : (i : ℕ) (a : Asked) → less i ≡ Some a → is_packet_of app i ≡ false
@@ -189,18 +186,11 @@ module _ (app : LoadedApp) (tables : List (List Entry)) (s : State) (none : None
       once' k has net in_nets key d branch from to way =
           let old = was k has in
           ap (count_by (is_packet_on_trail k.copy.packet from to branch)) (marks_without app tables s none)
-          ∙ (count_of_filter (is_packet_on_trail k.copy.packet from to branch) (is_of_other app) (marks_of s) (λ m passes. other m (first_holds (m.copy.packet == k.copy.packet) (is_on_trail from to branch m) passes) old.1)
+          ∙ (count_of_filter (is_packet_on_trail k.copy.packet from to branch) (is_of_other app) (marks_of s) (λ m passes. other m (and_parts (m.copy.packet == k.copy.packet) (is_on_trail from to branch m) passes).0 old.1)
           ∙ l.ledger.once_on_each k old.0 net (within net in_nets) key d branch from to way)
         where
-          first_holds : (b c : Bool) → (b && c) ≡ true → b ≡ true
-          first_holds true c e = refl
-          first_holds false c e = cc
-
-          equal_numbers : (m n : ℕ) → (m == n) ≡ true → m ≡ n
-          equal_numbers m n e = grind (arith, nat_tests)
-
           other : (m : Mark) → (m.copy.packet == k.copy.packet) ≡ true → is_packet_of app k.copy.packet ≡ false → is_of_other app m ≡ true
-          other m e is = ap (λ i. not (is_packet_of app i)) (equal_numbers m.copy.packet k.copy.packet e) ∙ ap not is
+          other m e is = ap (λ i. not (is_packet_of app i)) (eqb-true m.copy.packet k.copy.packet e) ∙ ap not is
 
       each_asked' : (i : ℕ) (a : Asked) → less i ≡ Some a → (k : Mark) × Contains (marks_of t) k × (k.copy.packet ≡ i)
       each_asked' i a e =
@@ -210,18 +200,6 @@ module _ (app : LoadedApp) (tables : List (List Entry)) (s : State) (none : None
 
 -- ---- the packets of the other applications
 
-le_false : (a b : ℕ) → leb a b ≡ false → b < a
-le_false a b e = grind (arith, nat_tests)
-
-le_true : (a b : ℕ) → leb a b ≡ true → a ≤ b
-le_true a b e = grind (arith, nat_tests)
-
-lt_true : (a b : ℕ) → a < b → ltb a b ≡ true
-lt_true a b lt = grind (arith, nat_tests)
-
-lt_of : (a b : ℕ) → ltb a b ≡ true → a < b
-lt_of a b e = grind (arith, nat_tests)
-
 -- an application asks for no packet of another number
 pub none_of_app : (app : LoadedApp) (i : ℕ) → is_packet_of app i ≡ false → asked_of_app app i ≡ None
 none_of_app app i other = by_first (leb app.first i) refl
@@ -229,8 +207,8 @@ none_of_app app i other = by_first (leb app.first i) refl
     by_first : (b : Bool) → leb app.first i ≡ b → (if b then asked_by (nets_of app) app.plan.packets (i - app.first) else None) ≡ None
     by_first false e = refl
     by_first true e = elim (cases_lt i (app.first + length app.plan.packets)) [
-      | inl below ↦ (let is : is_packet_of app i ≡ true = and_from (leb app.first i) (ltb i (app.first + length app.plan.packets)) e (lt_true i (app.first + length app.plan.packets) below) in cc)
-      | inr past ↦ (let from = le_true app.first i e in ap (asked_at (nets_of app)) (slice_get_past app.plan.packets (i - app.first) (omega (arith, past, from))))
+      | inl below ↦ (let is : is_packet_of app i ≡ true = and_from (leb app.first i) (ltb i (app.first + length app.plan.packets)) e (lt-ltb i (app.first + length app.plan.packets) below) in cc)
+      | inr past ↦ (let from = leb-true app.first i e in ap (asked_at (nets_of app)) (slice_get_past app.plan.packets (i - app.first) (omega (arith, past, from))))
     ]
 
 none_of_all : (i : ℕ) (apps : List LoadedApp) → ((b : LoadedApp) → Contains apps b → asked_of_app b i ≡ None) → asked_of apps i ≡ None
@@ -271,38 +249,29 @@ module _ (h : Host) (app : LoadedApp) (apps : AreApps h) (has : Contains h.apps 
   pub same_app : (b : LoadedApp) → Contains h.apps b → (b.number == app.number) ≡ true → b ≡ app
   same_app b in_b same = elim (either_pair (λ (x y : LoadedApp). x.number ≢ y.number) h.apps b app apps.numbers in_b has) [
     | inl one ↦ one
-    | inr (inl differ) ↦ absurd (differ (equal_numbers b.number app.number same))
-    | inr (inr differ) ↦ absurd (differ (sym (equal_numbers b.number app.number same)))
+    | inr (inl differ) ↦ absurd (differ (eqb-true b.number app.number same))
+    | inr (inr differ) ↦ absurd (differ (sym (eqb-true b.number app.number same)))
   ]
-    where
-      equal_numbers : (m n : ℕ) → (m == n) ≡ true → m ≡ n
-      equal_numbers m n e = grind (arith, nat_tests)
 
   -- no other application has the packets of this one
   pub of_no_other : (b : LoadedApp) → Contains (others_than app.number h.apps) b → (i : ℕ) → is_packet_of app i ≡ true → is_packet_of b i ≡ false
   of_no_other b in_b i is =
       let kept = Contains-from_filter (λ (other : LoadedApp). not (other.number == app.number)) h.apps b in_b in
       elim (either_pair HaveOtherNumbers h.apps b app apps.ascending kept.0 has) [
-        | inl one ↦ absurd (let off : (b.number == app.number) ≡ false = opposite_of (b.number == app.number) kept.1 in let on : (b.number == app.number) ≡ true = ap (λ (x : LoadedApp). x.number == app.number) one ∙ itself app.number in cc)
+        | inl one ↦ absurd (let off : (b.number == app.number) ≡ false = not-true (b.number == app.number) kept.1 in let on : (b.number == app.number) ≡ true = ap (λ (x : LoadedApp). x.number == app.number) one ∙ eq-eqb app.number app.number refl in cc)
         | inr (inl before) ↦ (let in_app = bounds app i is in grind (arith, nat_tests, before, in_app))
         | inr (inr after) ↦ (let in_app = bounds app i is in grind (arith, nat_tests, after, in_app))
       ]
     where
-      itself : (n : ℕ) → (n == n) ≡ true
-      itself n = grind arith
-
       bounds : (x : LoadedApp) (j : ℕ) → is_packet_of x j ≡ true → (x.first ≤ j) × (j < x.first + length x.plan.packets)
-      bounds x j e = by_tests (leb x.first j) (ltb j (x.first + length x.plan.packets)) refl refl e
-        where
-          by_tests : (p q : Bool) → leb x.first j ≡ p → ltb j (x.first + length x.plan.packets) ≡ q → (p && q) ≡ true → (x.first ≤ j) × (j < x.first + length x.plan.packets)
-          by_tests true true p-is q-is e' = (le_true x.first j p-is, lt_of j (x.first + length x.plan.packets) q-is)
-          by_tests true false p-is q-is e' = cc
-          by_tests false q p-is q-is e' = cc
+      bounds x j e =
+          let parts = and_parts (leb x.first j) (ltb j (x.first + length x.plan.packets)) e in
+          (leb-true x.first j parts.0, ltb-true j (x.first + length x.plan.packets) parts.1)
 
   -- the nets of the others still stand on the machine
   pub others_stand : (m : Description) (spots : List Spot) → AreNetsOn m spots (all_nets h.apps) → AreNetsOn m spots (all_nets (others_than app.number h.apps))
   others_stand m spots stand = record {
-    disjoint = flat_pairs nets_of stays (λ (a b : NetPlan). (key : ℕ) → IsKeyOf a.block key → IsKeyOf b.block key → ⊥) h.apps stand.disjoint;
+    disjoint = AllPairs-left_in nets_of stays (λ (a b : NetPlan). (key : ℕ) → IsKeyOf a.block key → IsKeyOf b.block key → ⊥) h.apps stand.disjoint;
     trees = fewer (λ (x : NetPlan). IsRoutingTree m x.tree.root x.tree.edges x.targets) stand.trees;
     roots = fewer (λ (x : NetPlan). x.tree.root ≡ x.source.chip) stand.roots;
     sources = fewer (λ (x : NetPlan). Contains spots x.source) stand.sources;
@@ -314,7 +283,7 @@ module _ (h : Host) (app : LoadedApp) (apps : AreApps h) (has : Contains h.apps 
       stays other = not (other.number == app.number)
 
       fewer : (P : NetPlan → Type 0) → All P (all_nets h.apps) → All P (all_nets (others_than app.number h.apps))
-      fewer P all = flat_all nets_of stays P h.apps all
+      fewer P all = All-left_in nets_of stays P h.apps all
 
 -- The ledger holds of the other applications, on the mesh without what the application leaves, whatever the tables.
 pub the_ledger_without : (h : Host) (app : LoadedApp) (tables : List (List Entry)) → AreApps h → Contains h.apps app → NoneUnderWay h.mesh app →
@@ -322,7 +291,7 @@ pub the_ledger_without : (h : Host) (app : LoadedApp) (tables : List (List Entry
 the_ledger_without h app tables apps has none =
     fewer_packets app tables h.mesh none (all_nets h.apps) (all_nets (others_than app.number h.apps)) (asked_of h.apps) (asked_of (others_than app.number h.apps))
     (others_stand h app apps has h.mesh.setup.machine h.mesh.setup.spots apps.ledger.ledger.nets_stand)
-    (λ x in_x. flat_contains nets_of (λ (other : LoadedApp). not (other.number == app.number)) x h.apps in_x)
+    (λ x in_x. Contains-left_in nets_of (λ (other : LoadedApp). not (other.number == app.number)) h.apps x in_x)
     (λ i other. same_of_others app.number i h.apps (λ b in_b same. none_of_app b i (ap (λ (x : LoadedApp). is_packet_of x i) (same_app h app apps has b in_b same) ∙ other)))
     (λ i is. none_of_all i (others_than app.number h.apps) (λ b in_b. none_of_app b i (of_no_other h app apps has b in_b i is)))
     (net_of_asked (others_than app.number h.apps))

@@ -1,14 +1,10 @@
 -- What stays of a list of applications, and of what each of them has, where some leave.
 use Rattle.std.proofs.Common.{◌≡◌, ℕ, ◌+◌, Bool, true, false, cond, List, [], ◌∷◌, map, refl, sym, ap, ◌∙◌, subst, arith, inl, inr, ◌⊎◌, count_by}
-use Rattle.std.specs.List.{All, AllPairs, Contains, filter, flat_map, slice_index_or}
+use Rattle.std.specs.List.{AllPairs, Contains, filter, slice_index_or}
 use Rattle.std.proofs.lemmas.Bool.{cases_order}
 use Rattle.std.proofs.lemmas.List.{get_or_default}
-use Rattle.std.proofs.lemmas.List.Elements.{All-contains}
 use Rattle.list_laws.proofs.Counts.{count_by-cons}
-use Rattle.list_laws.proofs.Members.{Among, among_contains, contains_among, Contains-from_filter}
-use Rattle.list_laws.proofs.Pairs.{AllPairs-append, AllPairs-left, AllPairs-right, AllPairs-across}
-use Rattle.list_laws.proofs.Places.{All-each}
-use Rattle.app_loads.proofs.ClaimCases.{among_flat, flat_among}
+use Rattle.list_laws.proofs.Members.{Among}
 
 -- ---- lists
 
@@ -47,34 +43,6 @@ count_of_filter {X} p q (x ∷ xs) stays = by_test (q x) refl (count_of_filter p
         by_other : (b : Bool) → p x ≡ b → count_by p xs ≡ one_if b + count_by p xs
         by_other true passes = let other : q x ≡ true = stays x passes in cc
         by_other false fails = zero_more (count_by p xs)
-
--- ---- what stays of all that the items have
-
-module _ {X Y : Type 0} (f : X → List Y) (p : X → Bool) where
-  pub flat_stays : (y : Y) (xs : List X) → Among y (flat_map f (filter p xs)) → Among y (flat_map f xs)
-  flat_stays y xs a =
-      let found = among_flat f y (filter p xs) a in
-      let kept = Contains-from_filter p xs found.0 (among_contains found.0 (filter p xs) found.1) in
-      flat_among f y xs found.0 (contains_among found.0 xs kept.0) found.2
-
-  pub flat_contains : (y : Y) (xs : List X) → Contains (flat_map f (filter p xs)) y → Contains (flat_map f xs) y
-  flat_contains y xs has = among_contains y (flat_map f xs) (flat_stays y xs (contains_among y (flat_map f (filter p xs)) has))
-
-  pub flat_all : (P : Y → Type 0) (xs : List X) → All P (flat_map f xs) → All P (flat_map f (filter p xs))
-  flat_all P xs all = All-each P (flat_map f (filter p xs)) (λ y has. All-contains P (flat_map f xs) y all (flat_contains y xs has))
-
-  -- pairs that stay were pairs before
-  pub flat_pairs : (R : Y → Y → Type 0) (xs : List X) → AllPairs R (flat_map f xs) → AllPairs R (flat_map f (filter p xs))
-  flat_pairs R [] all = all
-  flat_pairs R (x ∷ xs) all = by_test (p x) (flat_pairs R xs (AllPairs-right R (f x) (flat_map f xs) all))
-    where
-      across : All (λ y. All (R y) (flat_map f (filter p xs))) (f x)
-      across = All-each (λ y. All (R y) (flat_map f (filter p xs))) (f x) (λ y has.
-          flat_all (R y) xs (All-contains (λ z. All (R z) (flat_map f xs)) (f x) y (AllPairs-across R (f x) (flat_map f xs) all) has))
-
-      by_test : (b : Bool) → AllPairs R (flat_map f (filter p xs)) → AllPairs R (flat_map f (cond b (x ∷ filter p xs) (filter p xs)))
-      by_test true rest = AllPairs-append R (f x) (flat_map f (filter p xs)) (AllPairs-left R (f x) (flat_map f xs) all) rest across
-      by_test false rest = rest
 
 -- two different items of a list are a pair one way or the other
 pub either_pair : {X : Type 0} (R : X → X → Type 0) (xs : List X) (x y : X) → AllPairs R xs → Contains xs x → Contains xs y → (x ≡ y) ⊎ (R x y ⊎ R y x)

@@ -1,8 +1,9 @@
 -- The ledger of asked packets, where nets or a packet come.
 use Rattle.std.proofs.Common.{◌≡◌, ◌≢◌, ℕ, ◌+◌, ◌==◌, ◌&&◌, Bool, true, false, refl, sym, ap, ◌∙◌, subst, arith, inl, inr, ◌⊎◌, List, [], ◌∷◌, ◌++◌, Option, Some, None, if◌then◌else◌, count_by, IsTrue}
 use Rattle.std.specs.List.{slice_get, slice_set, Contains}
-use Rattle.std.proofs.lemmas.Bool.{cases_eq, eq-eqb, and_from}
+use Rattle.std.proofs.lemmas.Bool.{cases_eq, eq-eqb, and_from, ne_eqb, and_left}
 use Rattle.std.proofs.lemmas.List.Elements.{Contains-append_left}
+use Rattle.std.proofs.lemmas.Option.{same_Some, none-some}
 use Rattle.list_laws.proofs.Counts.{count_by-cons}
 use Rattle.list_laws.proofs.Exchange.{PutIn, put_in_before, put_in_gathered, count_put_in}
 use Rattle.list_laws.proofs.Members.{Among, among_contains, contains_among, among_left, among_right, among_either, Contains-first, Contains-later}
@@ -75,10 +76,7 @@ also_here : (asked : ℕ → Option Asked) (i j : ℕ) (a : Asked) → j ≡ i �
 also_here asked i j a same = ap (λ b. if b then Some a else asked j) (eq-eqb j i same)
 
 also_else : (asked : ℕ → Option Asked) (i j : ℕ) (a : Asked) → j ≢ i → also asked i a j ≡ asked j
-also_else asked i j a other = ap (λ b. if b then Some a else asked j) (not_equal j i other)
-  where
-    not_equal : (m n : ℕ) → m ≢ n → (m == n) ≡ false
-    not_equal m n differ = grind arith
+also_else asked i j a other = ap (λ b. if b then Some a else asked j) (ne_eqb j i other)
 
 -- a copy more at the back of a vertex's unsent ones is a mark more
 pub unsent_in : (s : State) (v : ℕ) (k : McCopy) (q : List McCopy) → slice_get s.unsent v ≡ Some q →
@@ -140,20 +138,14 @@ module _ (s : State) (nets : List NetPlan) (asked : ℕ → Option Asked) (i : �
 
   -- no mark had the number
   other_number : (k : Mark) → Contains (marks_of s) k → k.copy.packet ≢ i
-  other_number k has same = let was = l.was_asked k has in some_none was.0 (sym was.1 ∙ (ap asked same ∙ none))
-    where
-      some_none : (b : Asked) → Some b ≡ None → ⊥
-      some_none b e = cc
+  other_number k has same = let was = l.was_asked k has in none-some was.0 (sym none ∙ (sym (ap asked same) ∙ was.1))
 
   here_asked : also asked i a i ≡ Some a
   here_asked = also_here asked i i a refl
 
   -- the new mark is on each way of its net
   on_way : (branch : List Exit) (from to : ℕ) → vertex_at s.setup.spots a.net.source ≡ Some from → is_on_trail from to branch x ≡ true
-  on_way branch from to begins = and_from (v == from) (0 == 0) (eq-eqb v from (some_same (sym vertex ∙ begins))) refl
-    where
-      some_same : {m n : ℕ} → Some m ≡ Some n → m ≡ n
-      some_same e = cc
+  on_way branch from to begins = and_from (v == from) (0 == 0) (eq-eqb v from (same_Some _ _ (sym vertex ∙ begins))) refl
 
   -- how many marks more pass a test
   counted : (p : Mark → Bool) → count_by p (marks_of t) ≡ count_by p (marks_of s) + (if p x then 1 else 0)
@@ -206,7 +198,7 @@ module _ (s : State) (nets : List NetPlan) (asked : ℕ → Option Asked) (i : �
             let one : one_if (is_packet_on_trail i from to branch x) ≡ 1 = ap one_if passes in
             subst (λ (m : Mark). count_by (is_packet_on_trail m.copy.packet from to branch) (marks_of t) ≡ 1) (sym new) (omega (arith, all, before, one))
         | inr old ↦
-            let differs : (i == k.copy.packet) ≡ false = not_equal i k.copy.packet (λ e. other_number k old (sym e)) in
+            let differs : (i == k.copy.packet) ≡ false = ne_eqb i k.copy.packet (λ e. other_number k old (sym e)) in
             let fails : is_packet_on_trail k.copy.packet from to branch x ≡ false = ap (λ b. b && is_on_trail from to branch x) differs in
             let was = l.ledger.once_on_each k old net in_nets net_key d branch from to way in
             let all = counted (is_packet_on_trail k.copy.packet from to branch) in
@@ -214,26 +206,16 @@ module _ (s : State) (nets : List NetPlan) (asked : ℕ → Option Asked) (i : �
             omega (arith, all, was, one)
       ]
         where
-          not_equal : (m n : ℕ) → m ≢ n → (m == n) ≡ false
-          not_equal m n differ = grind arith
-
           none_before : (f u : ℕ) (b : List Exit) → count_by (is_packet_on_trail i f u b) (marks_of s) ≡ 0
-          none_before f u b = none_passes (is_packet_on_trail i f u b) (marks_of s) (λ k' has'. other (k'.copy.packet == i) (is_on_trail f u b k') (not_equal k'.copy.packet i (other_number k' has')))
-            where
-              other : (c d' : Bool) → c ≡ false → (c && d') ≡ false
-              other true d' e = cc
-              other false d' e = refl
+          none_before f u b = none_passes (is_packet_on_trail i f u b) (marks_of s) (λ k' has'. and_left (k'.copy.packet == i) (is_on_trail f u b k') (ne_eqb k'.copy.packet i (other_number k' has')))
 
       of_its_net' : (j : ℕ) (b : Asked) → also asked i a j ≡ Some b → Contains nets b.net × IsKeyOf b.net.block b.label.key
       of_its_net' j b e = elim (cases_eq j i) [
         | inl same ↦
-            let one : a ≡ b = some_same (sym (also_here asked i j a same) ∙ e) in
+            let one : a ≡ b = same_Some _ _ (sym (also_here asked i j a same) ∙ e) in
             subst (λ (c : Asked). Contains nets c.net × IsKeyOf c.net.block c.label.key) one (of_nets, key)
         | inr other ↦ l.of_its_net j b (sym (also_else asked i j a other) ∙ e)
       ]
-        where
-          some_same : {b' c' : Asked} → Some b' ≡ Some c' → b' ≡ c'
-          some_same e' = cc
 
       was_asked' : (k : Mark) → Contains (marks_of t) k → (b : Asked) × (also asked i a k.copy.packet ≡ Some b)
       was_asked' k has = elim (cases k has) [

@@ -1,11 +1,11 @@
 -- A host that an application left.
-use Rattle.std.proofs.Common.{◌≡◌, ◌≢◌, ℕ, ◌+◌, ◌<◌, ◌≤◌, ◌==◌, ◌||◌, ltb, not, ◌&&◌, Bool, true, false, List, [], ◌∷◌, ◌++◌, length, refl, sym, ap, ◌∙◌, subst, inl, inr, arith, Some, filter}
-use Rattle.std.specs.List.{list_any, slice_get, All, AllPairs, Contains}
-use Rattle.std.proofs.lemmas.Bool.{cases_Bool, eq-eqb, false≢true, not-true}
+use Rattle.std.proofs.Common.{◌≡◌, ◌≢◌, ℕ, ◌+◌, ◌≤◌, ◌==◌, ltb, not, ◌&&◌, Bool, true, false, List, ◌++◌, length, refl, sym, ap, ◌∙◌, subst, inl, inr, Some}
+use Rattle.std.specs.List.{list_any, All, AllPairs, Contains}
+use Rattle.std.proofs.lemmas.Bool.{cases_Bool, false≢true}
 use Rattle.std.proofs.lemmas.List.{length-map}
 use Rattle.std.proofs.lemmas.List.Elements.{All-contains, All-filter}
 use Rattle.std.proofs.lemmas.List.Kept.{AllPairs-filter}
-use Rattle.list_laws.proofs.Members.{Among, among_any, among_contains, among_either, among_filter, among_left, among_right, any_among, contains_among}
+use Rattle.list_laws.proofs.Members.{among_any, among_contains, among_either, among_filter, among_left, among_right, any_among, contains_among}
 use Rattle.list_laws.proofs.Pairs.{AllPairs-append}
 use Rattle.list_laws.proofs.Places.{All-each}
 use Rattle.spin_base.specs.declared.blocks.Entry.{Entry}
@@ -25,11 +25,11 @@ use Rattle.app_loads.specs.declared.answers.Ended.{Ended}
 use Rattle.app_loads.specs.declared.loaded.LoadedApp.{LoadedApp}
 use Rattle.app_loads.specs.declared.loaded.Range.{Range}
 use Rattle.app_loads.specs.Applications.{AreApps, HasRows, HaveOtherNumbers, HaveRows, IsLoadedOn}
-use Rattle.app_loads.specs.Host.{Host, all_nets, all_ranges, all_spots, asked_of, is_spot_taken, nets_of}
+use Rattle.app_loads.specs.Host.{Host, all_nets, all_ranges, asked_of, is_spot_taken, nets_of}
 use Rattle.app_loads.specs.Inner.{TellsTaken}
 use Rattle.app_loads.specs.Leaving.{NoneUnderWay, mesh_without, others_than}
 use Rattle.app_loads.specs.Marking.{AreMarked}
-use Rattle.app_loads.specs.Regions.{AreApart, AreFreeBeside, IsWithin, chip_count, has_place, is_taken, rows_region}
+use Rattle.app_loads.specs.Regions.{AreApart, AreFreeBeside, IsWithin, has_place, is_taken, rows_region}
 use Rattle.app_loads.specs.Removing.{HasLeft}
 use Rattle.app_loads.specs.Taking.{AreTaken, free_of, frees}
 use Rattle.app_loads.specs.Unloading.{HasUnloaded, NoneWaits}

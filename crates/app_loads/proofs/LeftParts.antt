@@ -1,10 +1,10 @@
 -- The fields of a host that an application left, or left not.
-use Rattle.std.proofs.Common.{◌≡◌, ℕ, suc, ◌+◌, ◌*◌, ◌<◌, ◌==◌, Bool, true, false, List, ◌++◌, length, take, drop, get_or, sym, ap, ◌∙◌, subst, arith, Option, None, Some, Result, Ok, OnOk, inl, inr}
+use Rattle.std.proofs.Common.{◌≡◌, ℕ, suc, ◌+◌, ◌<◌, ◌==◌, Bool, false, List, ◌++◌, length, take, drop, get_or, sym, ap, ◌∙◌, subst, arith, None, Some, Result, Ok, OnOk, inl, inr}
 use Rattle.std.specs.Prelude.{is_some, position}
-use Rattle.std.specs.List.{slice_get, list_any, All, Contains}
+use Rattle.std.specs.List.{slice_get, All, Contains}
 use Rattle.std.proofs.lemmas.Bool.{cases_Bool, eqb-true}
 use Rattle.std.proofs.lemmas.List.Elements.{All-weaker}
-use Rattle.std.proofs.lemmas.Option.{slice_get-get_or, slice_get_within}
+use Rattle.std.proofs.lemmas.Option.{slice_get-get_or, slice_get_within, same_Some}
 use Rattle.list_laws.proofs.Members.{Contains-at, any_among, position_nowhere, position_there}
 use Rattle.spin_base.specs.declared.chips.Spot.{Spot}
 use Rattle.machine_desc.specs.Description.{Description}
@@ -39,9 +39,6 @@ not_loaded apps number none = elim (cases_Bool (is_loaded apps number)) [
   | inl some ↦ (let found = any_among (λ (app : LoadedApp). app.number == number) apps some in absurd (position_nowhere (λ (app : LoadedApp). app.number == number) apps found.0 none found.1 found.2))
 ]
 
-some_same : {A : Type 0} {a b : A} → Some a ≡ Some b → a ≡ b
-some_same e = cc
-
 -- the place that is found is one of the list
 found_below : (apps : List LoadedApp) (number at : ℕ) (d : LoadedApp) → position (λ (app : LoadedApp). app.number == number) apps ≡ Some at → at < length apps
 found_below apps number at d is = let found = position_there (λ (a : LoadedApp). a.number == number) apps at d is in slice_get_within apps at found.0 found.1
@@ -53,10 +50,10 @@ found_there apps number at app is value = slice_get-get_or apps at app (found_be
 found_number : (apps : List LoadedApp) (number at : ℕ) (app : LoadedApp) → position (λ (app : LoadedApp). app.number == number) apps ≡ Some at → slice_get apps at ≡ Some app → app.number ≡ number
 found_number apps number at app is here =
     let found = position_there (λ (a : LoadedApp). a.number == number) apps at app is in
-    ap (λ (a : LoadedApp). a.number) (some_same (sym here ∙ found.1)) ∙ eqb-true found.0.number number found.3
+    ap (λ (a : LoadedApp). a.number) (same_Some _ _ (sym here ∙ found.1)) ∙ eqb-true found.0.number number found.3
 
 one_app : (apps : List LoadedApp) (at : ℕ) (a b : LoadedApp) → slice_get apps at ≡ Some a → slice_get apps at ≡ Some b → b ≡ a
-one_app apps at a b first second = some_same (sym second ∙ first)
+one_app apps at a b first second = same_Some _ _ (sym second ∙ first)
 
 -- what a call answered where it succeeded
 pub on_ok_is : {A E : Type 0} (P : Type 0) (r : Result A E) (x : A) → r ≡ Ok x → OnOk r P → P
@@ -112,9 +109,6 @@ module _ (i : Inside) (mesh : State) (is : i.mesh ≡ Some mesh) (host : IsHost 
   spots_numbered lent lent_is =
       subst (All (λ (s : Spot). s.core < 24)) (sym lent_is)
       (All-weaker (IsUsable h.mesh.setup.machine) (λ (s : Spot). s.core < 24) (λ s u. let most = (usable_parts h.mesh.setup.machine s u).2 in omega (arith, most)) app.plan.spots usable)
-
-  pub table_long : (m : Description) → m ≡ mesh.setup.machine → (lent : List Bool) → lent ≡ i.taken.items → length lent ≡ 24 * (m.width * m.height)
-  table_long m m_is lent lent_is = ap length lent_is ∙ (host.taken.long ∙ ap (λ (d : Description). 24 * (d.width * d.height)) (machine_h ∙ sym m_is))
 
   module _ (new : List Region) (back : (others : List Range) → AreTaken mesh.setup.machine others app.ranges given → AreFreeBeside mesh.setup.machine others (frees new))
       (ended : Ended) (result : State) (left : HasLeft app mesh ended result) (none : NoneUnderWay mesh app)

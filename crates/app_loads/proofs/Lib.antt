@@ -14,7 +14,6 @@ mod LeftParts
 mod LoadedHost
 mod LoadedParts
 mod MarkedSpots
-mod OnePacket
 mod Others
 mod Moving
 mod PacketLedger

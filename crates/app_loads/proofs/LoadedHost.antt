@@ -1,12 +1,13 @@
 -- A host to which an application came.
-use Rattle.std.proofs.Common.{◌≡◌, ◌≢◌, ℕ, zero, suc, ◌+◌, ◌<◌, ◌≤◌, ◌==◌, ◌||◌, Bool, true, false, List, [], ◌∷◌, ◌++◌, length, take, refl, sym, ap, ◌∙◌, subst, inl, inr, arith, Option, None, Some, append-nil, append_assoc, ltb, not, ◌&&◌, if◌then◌else◌}
+use Rattle.std.proofs.Common.{◌≡◌, ◌≢◌, ℕ, zero, suc, ◌+◌, ◌<◌, ◌≤◌, ◌==◌, true, false, List, [], ◌∷◌, ◌++◌, length, take, refl, sym, ap, ◌∙◌, subst, inl, inr, arith, Option, None, Some, append-nil, append_assoc, ltb, not, ◌&&◌, if◌then◌else◌, get_or}
 use Rattle.std.specs.Option.{option_map_or}
 use Rattle.std.specs.List.{list_any, slice_get, slice_set, All, AllPairs, Contains, flat_map, filter_map, enumerate_from, cons_option}
-use Rattle.std.proofs.lemmas.Bool.{cases_Bool, cases_eq, eq-eqb, eqb-true, false≢true, and_parts}
+use Rattle.std.proofs.lemmas.Bool.{cases_Bool, cases_eq, eq-eqb, eqb-true, false≢true, and_parts, ne_eqb, or_parts}
 use Rattle.std.proofs.lemmas.Grind.{flat_map-append}
-use Rattle.std.proofs.lemmas.List.Elements.{All-nil, All-cons, All-append, All-contains, All-weaker, filter_map-append}
+use Rattle.std.proofs.lemmas.List.Elements.{All-append, All-contains, All-weaker, filter_map-append, All-push}
 use Rattle.std.proofs.lemmas.List.Folds.{list_any-append}
-use Rattle.std.proofs.lemmas.Option.{slice_get_within}
+use Rattle.std.proofs.lemmas.Option.{slice_get_within, same_Some, none-some, slice_get-get_or}
+use Rattle.std.proofs.lemmas.List.{take_all, same_lists}
 use Rattle.list_laws.proofs.Members.{Among, Contains-at, among_any, among_left, among_right, among_contains, contains_among}
 use Rattle.list_laws.proofs.Pairs.{AllPairs-append, AllPairs-right, AllPairs-across}
 use Rattle.list_laws.proofs.Places.{All-each, enumerate_more, slice_get_there, slice_get-set_same, slice_get-set_other}
@@ -21,7 +22,6 @@ use Rattle.machine_desc.specs.Description.{Description}
 use Rattle.machine_desc.specs.Live.{IsInside}
 use Rattle.machine_desc.specs.RoutingTree.{IsRoutingTree}
 use Rattle.range_store.specs.Views.{Region}
-use Rattle.range_store.specs.declared.holes.Hole.{Hole}
 use Rattle.range_store.specs.Regions.{AreRuns}
 use Rattle.net_tables.specs.declared.nets.NetPlan.{NetPlan}
 use Rattle.net_tables.specs.NetsOn.{AreNetsOn, HaveDisjointBlocks, vertex_at}
@@ -56,55 +56,29 @@ use Rattle.app_loads.proofs.PacketLedger.{asked_is, none_past, other_tables, sam
 use Rattle.app_loads.proofs.RightRows.{right_rows}
 use Rattle.app_loads.proofs.Serving.{by_taken}
 use Rattle.app_loads.proofs.Settling.{settled_mesh, usable_there}
-use Rattle.app_loads.proofs.Unsent.{all_taken, same_at_each}
+use Rattle.app_loads.proofs.Others.{pairs_with_last}
+use Rattle.app_loads.proofs.RegionLaws.{one_free}
 
 -- one item more at the end of a list made of lists
 flat_more : {X Y : Type 0} (f : X → List Y) (xs : List X) (x : X) → flat_map f (xs ++ x ∷ []) ≡ flat_map f xs ++ f x
 flat_more f xs x = flat_map-append f xs (x ∷ []) ∙ ap (λ l. flat_map f xs ++ l) (append-nil (f x))
 
-one_pair : {X : Type 0} (R : X → X → Type 0) (x : X) → AllPairs R (x ∷ [])
-one_pair R x i j d before within = absurd (omega (arith, before, within))
-
--- a pair of each with the last
-with_last : {X : Type 0} (R : X → X → Type 0) (xs : List X) (x : X) → AllPairs R xs → ((a : X) → Contains xs a → R a x) → AllPairs R (xs ++ x ∷ [])
-with_last R xs x pairs each = AllPairs-append R xs (x ∷ []) pairs (one_pair R x) (All-each (λ a. All (R a) (x ∷ [])) xs (λ a has. All-cons (R a) x [] (each a has) (All-nil (R a))))
-
-all_last : {X : Type 0} (P : X → Type 0) (xs : List X) (x : X) → All P xs → P x → All P (xs ++ x ∷ [])
-all_last P xs x all one = All-append P xs (x ∷ []) all (All-cons P x [] one (All-nil P))
-
 -- regions with the same free places are the same
 pub same_frees : (m : Description) (taken : List Range) (xs ys : List Free) → AreFreeBeside m taken xs → AreFreeBeside m taken ys → xs ≡ ys
-same_frees m taken xs ys one other = same_at_each xs ys (one.all ∙ sym other.all) each
+same_frees m taken xs ys one other = same_lists xs ys long each
   where
-    one_free : (s t : ℕ) (hs gs : List Hole) → s ≡ t → hs ≡ gs → (let a : Free = record { size = s; holes = hs } in let b : Free = record { size = t; holes = gs } in a ≡ b)
-    one_free s t hs gs p q = cc
+    long : length xs ≡ length ys
+    long = one.all ∙ sym other.all
 
-    each : (i : ℕ) → slice_get xs i ≡ slice_get ys i
-    each i = by_first (slice_get xs i) refl
-      where
-        by_first : (o : Option Free) → slice_get xs i ≡ o → o ≡ slice_get ys i
-        by_first None e = sym (past e)
-          where
-            past : slice_get xs i ≡ None → slice_get ys i ≡ None
-            past e' = by_other (slice_get ys i) refl
-              where
-                by_other : (o : Option Free) → slice_get ys i ≡ o → o ≡ None
-                by_other None f = refl
-                by_other (Some g) f =
-                    let w = slice_get_within ys i g f in
-                    let there = slice_get_there xs i (let a = one.all in let b = other.all in omega (arith, w, a, b)) in
-                    absurd (none_some (sym e' ∙ there.1))
-                  where
-                    none_some : {A : Type 0} {x : A} → None ≡ Some x → ⊥
-                    none_some z = cc
-        by_first (Some f) e =
-            let w = slice_get_within xs i f e in
-            let there = slice_get_there ys i (let a = one.all in let b = other.all in omega (arith, w, a, b)) in
-            let p = one.each i f e in
-            let q = other.each i there.0 there.1 in
-            let size : f.size ≡ there.0.size = p.size ∙ sym q.size in
-            let holes = same_holes 0 f.size f.holes there.0.holes p.runs (subst (λ n. AreRuns 0 n there.0.holes) (sym size) q.runs) (λ k. p.free k ∙ (ap (λ n. ltb k n && not (is_taken taken i k)) size ∙ sym (q.free k))) in
-            ap Some (one_free f.size there.0.size f.holes there.0.holes size holes) ∙ sym there.1
+    each : (k : ℕ) (d : Free) → k < length xs → get_or xs k d ≡ get_or ys k d
+    each k d below =
+        let f = get_or xs k d in
+        let g = get_or ys k d in
+        let p = one.each k f (slice_get-get_or xs k d below) in
+        let q = other.each k g (slice_get-get_or ys k d (omega (arith, below, long))) in
+        let size : f.size ≡ g.size = p.size ∙ sym q.size in
+        let holes = same_holes 0 f.size f.holes g.holes p.runs (subst (λ n. AreRuns 0 n g.holes) (sym size) q.runs) (λ z. p.free z ∙ (ap (λ n. ltb z n && not (is_taken taken k z)) size ∙ sym (q.free z))) in
+        one_free f.size g.size f.holes g.holes holes size
 
 -- what vertices have unsent
 sent_unsent : (spots : List Spot) (app : LoadedApp) (n : ℕ) (before after : List (List McCopy)) → AreSent spots app n before after → n ≤ length app.plan.packets → (v : ℕ) (q : List McCopy) → slice_get before v ≡ Some q →
@@ -120,7 +94,7 @@ sent_unsent spots app (suc n) before after sent le v q at =
     elim (cases_eq v one.vertex) [
       | inl same ↦
           let mine : slice_get sent.0 v ≡ Some one.queue = ap (slice_get sent.0) same ∙ one.at in
-          let queue : one.queue ≡ q ++ filter_map (sends v) (enumerate_from app.first (take n app.plan.packets)) = some_same (sym mine ∙ was) in
+          let queue : one.queue ≡ q ++ filter_map (sends v) (enumerate_from app.first (take n app.plan.packets)) = same_Some _ _ (sym mine ∙ was) in
           ap (λ l. slice_get l v) one.is
           ∙ (ap (λ k. slice_get (slice_set sent.0 k (one.queue ++ first_copy (app.first + n) one.net sent.1 ∷ [])) v) (sym same)
           ∙ (slice_get-set_same sent.0 v one.queue (one.queue ++ first_copy (app.first + n) one.net sent.1 ∷ []) mine
@@ -135,9 +109,6 @@ sent_unsent spots app (suc n) before after sent le v q at =
   where
     sends : ℕ → ℕ × Packet → Option McCopy
     sends w e = copy_from spots w e.0 e.1 (slice_get (nets_of app) e.1.net)
-
-    some_same : {A : Type 0} {a b : A} → Some a ≡ Some b → a ≡ b
-    some_same e = cc
 
     one' : IsSent spots (nets_of app) (app.first + n) sent.1 sent.0 after
     one' = sent.4
@@ -156,11 +127,8 @@ sent_unsent spots app (suc n) before after sent le v q at =
     is_elsewhere other =
         let chosen : sends v (app.first + n, sent.1) ≡ None =
         ap (copy_from spots v (app.first + n) sent.1) one'.is_net
-        ∙ ap (λ b. if b then Some (first_copy (app.first + n) one'.net sent.1) else None) (ap (λ o. option_map_or (λ w. w == v) o false) one'.is_vertex ∙ not_equal one'.vertex v (λ e. other (sym e)))
+        ∙ ap (λ b. if b then Some (first_copy (app.first + n) one'.net sent.1) else None) (ap (λ o. option_map_or (λ w. w == v) o false) one'.is_vertex ∙ ne_eqb one'.vertex v (λ e. other (sym e)))
         in ap (λ z. cons_option z []) chosen
-      where
-        not_equal : (a b : ℕ) → a ≢ b → (a == b) ≡ false
-        not_equal a b differ = grind arith
 
 module _ (h : Host) (apps : AreApps h) (number : ℕ) (plan : AppPlan) (may : MayLoad h plan) (not_loaded : is_loaded h.apps number ≡ false) (old new : List Region) (old_is : frees old ≡ h.regions)
     (app : LoadedApp) (mesh : State) (served : IsServed h.mesh.setup.machine old number h.packets plan app new) (settled : IsSettled app h.mesh mesh) where
@@ -241,7 +209,7 @@ module _ (h : Host) (apps : AreApps h) (number : ℕ) (plan : AppPlan) (may : Ma
   rows_now : HaveRows m t all
   rows_now = record {
     long = settled.written.long;
-    rows = all_last (λ (a : LoadedApp). All (λ (r : Range). (c : Chip) → IsInside m c → r.region ≡ rows_region m c → HasRows m (nets_of a) c (table_at m t c) r) a.ranges) h.apps app
+    rows = All-push (λ (a : LoadedApp). All (λ (r : Range). (c : Chip) → IsInside m c → r.region ≡ rows_region m c → HasRows m (nets_of a) c (table_at m t c) r) a.ranges) h.apps app
         (All-each (λ (a : LoadedApp). All (λ (r : Range). (c : Chip) → IsInside m c → r.region ≡ rows_region m c → HasRows m (nets_of a) c (table_at m t c) r) a.ranges) h.apps (λ a in_apps.
         All-each (λ (r : Range). (c : Chip) → IsInside m c → r.region ≡ rows_region m c → HasRows m (nets_of a) c (table_at m t c) r) a.ranges (λ r in_a c inside region.
         let was = All-contains (λ (r' : Range). (d : Chip) → IsInside m d → r'.region ≡ rows_region m d → HasRows m (nets_of a) d (table_at m h.mesh.setup.tables d) r') a.ranges r
@@ -254,17 +222,13 @@ module _ (h : Host) (apps : AreApps h) (number : ℕ) (plan : AppPlan) (may : Ma
         })))
         (All-each (λ (r : Range). (c : Chip) → IsInside m c → r.region ≡ rows_region m c → HasRows m (nets_of app) c (table_at m t c) r) app.ranges (λ r in_app. settled.written.rows r in_app));
     others = λ c k inside below free.
-        let parts = or_false (is_taken (all_ranges h.apps) (rows_region m c) k) (is_taken app.ranges (rows_region m c) k)
+        let parts = or_parts (is_taken (all_ranges h.apps) (rows_region m c) k) (is_taken app.ranges (rows_region m c) k)
         (sym (list_any-append (has_place (rows_region m c) k) (all_ranges h.apps) app.ranges) ∙ (ap (λ l. is_taken l (rows_region m c) k) (sym ranges_are) ∙ free)) in
         settled.written.others c k inside parts.1 ∙ apps.rows.others c k inside below parts.0;
   }
-    where
-      or_false : (a b : Bool) → (a || b) ≡ false → (a ≡ false) × (b ≡ false)
-      or_false false b e = (refl, e)
-      or_false true b e = cc
 
   loaded_now : All (IsLoadedOn m) all
-  loaded_now = all_last (IsLoadedOn m) h.apps app apps.loaded on
+  loaded_now = All-push (IsLoadedOn m) h.apps app apps.loaded on
 
   first_is : app.first ≡ h.packets
   first_is = served.first_is
@@ -273,14 +237,11 @@ module _ (h : Host) (apps : AreApps h) (number : ℕ) (plan : AppPlan) (may : Ma
   keyed j p x at is =
       let of_net = All-contains (IsPacketOf app.plan.nets) app.plan.packets p on.plan.packets (Contains-at app.plan.packets j p at) in
       let f = facts_at m app on p.net x is in
-      let same : f.net ≡ of_net.0 = some_same (sym f.at_net ∙ of_net.1) in
+      let same : f.net ≡ of_net.0 = same_Some _ _ (sym f.at_net ∙ of_net.1) in
       let within = (All-contains (IsWithin m (length new)) app.ranges f.range taken_now.within (Contains-at app.ranges f.at f.range f.got)).within in
       let room : f.range.place + f.range.size ≤ 4294967296 = subst (λ r. f.range.place + f.range.size ≤ r) (ap (region_size m) f.region) within in
       let key = key_of_index m app on x p.net f p.index (subst (λ (n : AppNet). p.index < n.keys) (sym same) of_net.2) room in
       subst (λ (n : NetPlan). IsKeyOf n.block (n.block.key + p.index)) f.is key.1
-    where
-      some_same : {A : Type 0} {a b : A} → Some a ≡ Some b → a ≡ b
-      some_same e = cc
 
   none_yet : (i : ℕ) → app.first ≤ i → asked_of h.apps i ≡ None
   none_yet i past = none_past h.apps h.packets i apps.counted (let f = first_is in omega (arith, past, f))
@@ -308,7 +269,7 @@ module _ (h : Host) (apps : AreApps h) (number : ℕ) (plan : AppPlan) (may : Ma
   apps_of_after = record {
     mesh = settled_mesh h.mesh app (length app.plan.packets) q t apps.mesh settled.sent settled.written.all;
     vertices = apps.vertices;
-    numbers = with_last (λ (a b : LoadedApp). a.number ≢ b.number) h.apps app apps.numbers (λ a in_apps same.
+    numbers = pairs_with_last (λ (a b : LoadedApp). a.number ≢ b.number) h.apps app apps.numbers (λ a in_apps same.
         false≢true (sym not_loaded ∙ among_any (λ (x : LoadedApp). x.number == number) a h.apps (contains_among a h.apps in_apps) (eq-eqb a.number number (same ∙ served.number_is))));
     spots = subst (AllPairs (λ a b. a ≢ b)) (sym (flat_more (λ (a : LoadedApp). a.plan.spots) h.apps app))
         (AllPairs-append (λ a b. a ≢ b) (all_spots h.apps) app.plan.spots apps.spots on.plan.different
@@ -321,8 +282,8 @@ module _ (h : Host) (apps : AreApps h) (number : ℕ) (plan : AppPlan) (may : Ma
     rows = rows_now;
     right = right_rows m t all loaded_now (subst HaveDisjointBlocks (sym nets_are) disjoint_now) rows_now;
     ledger = subst (λ l. MeetsLedgerFor after l (asked_of all)) (sym nets_are) ledger_now;
-    ascending = with_last HaveOtherNumbers h.apps app apps.ascending (λ a in_apps. subst (λ n. a.first + length a.plan.packets ≤ n) (sym first_is) (All-contains (λ (x : LoadedApp). x.first + length x.plan.packets ≤ h.packets) h.apps a apps.counted in_apps));
-    counted = all_last (λ (a : LoadedApp). a.first + length a.plan.packets ≤ h.packets + length plan.packets) h.apps app
+    ascending = pairs_with_last HaveOtherNumbers h.apps app apps.ascending (λ a in_apps. subst (λ n. a.first + length a.plan.packets ≤ n) (sym first_is) (All-contains (λ (x : LoadedApp). x.first + length x.plan.packets ≤ h.packets) h.apps a apps.counted in_apps));
+    counted = All-push (λ (a : LoadedApp). a.first + length a.plan.packets ≤ h.packets + length plan.packets) h.apps app
         (All-weaker (λ (a : LoadedApp). a.first + length a.plan.packets ≤ h.packets) (λ (a : LoadedApp). a.first + length a.plan.packets ≤ h.packets + length plan.packets) (λ a le. omega (arith, le)) h.apps apps.counted)
         (let f = first_is in let p = plan_packets in omega (arith, f, p));
     few_packets = may.numbers;
@@ -348,7 +309,7 @@ module _ (h : Host) (apps : AreApps h) (number : ℕ) (plan : AppPlan) (may : Ma
     packets = refl;
     mesh = settled.mesh;
     unsent = λ v before at. sent_unsent h.mesh.setup.spots app (length app.plan.packets) h.mesh.unsent q settled.sent (omega arith) v before at
-        ∙ ap (λ l. Some (before ++ filter_map (λ (e : ℕ × Packet). copy_from h.mesh.setup.spots v e.0 e.1 (slice_get (nets_of app) e.1.net)) (enumerate_from app.first l))) (all_taken app.plan.packets (length app.plan.packets) (omega arith));
+        ∙ ap (λ l. Some (before ++ filter_map (λ (e : ℕ × Packet). copy_from h.mesh.setup.spots v e.0 e.1 (slice_get (nets_of app) e.1.net)) (enumerate_from app.first l))) (take_all (length app.plan.packets) app.plan.packets (omega arith));
     tables = λ c k inside free. settled.written.others c k inside free;
   }
 
@@ -379,10 +340,7 @@ none_unsent h apps plan may net has v vertex = by_queue (slice_get h.mesh.unsent
     below = let w = slice_get_within h.mesh.setup.spots v net.source spot_at in let l = apps.mesh.unsent_lists in omega (arith, w, l)
 
     by_queue : (o : Option (List McCopy)) → slice_get h.mesh.unsent v ≡ o → o ≡ Some []
-    by_queue None e = absurd (let there = slice_get_there h.mesh.unsent v below in none_some (sym e ∙ there.1))
-      where
-        none_some : {A : Type 0} {x : A} → None ≡ Some x → ⊥
-        none_some z = cc
+    by_queue None e = absurd (let there = slice_get_there h.mesh.unsent v below in none-some _ (sym e ∙ there.1))
     by_queue (Some []) e = refl
     by_queue (Some (k ∷ ks)) e =
         let mark' : Mark = record { copy = k; station = unsent v } in
@@ -393,7 +351,7 @@ none_unsent h apps plan may net has v vertex = by_queue (slice_get h.mesh.unsent
         let parts = and_parts (v == from) (k.hop == 0) on.3.5 in
         let same_vertex : v ≡ from = eqb-true v from parts.0 in
         let other_at : slice_get h.mesh.setup.spots v ≡ Some on.0.source = ap (slice_get h.mesh.setup.spots) same_vertex ∙ vertex_at_stands h.mesh.setup.spots on.0.source from on.3.4.begins in
-        let same : on.0.source ≡ net.source = some_same (sym other_at ∙ spot_at) in
+        let same : on.0.source ≡ net.source = same_Some _ _ (sym other_at ∙ spot_at) in
         let f = among_flat nets_of on.0 h.apps (contains_among on.0 (all_nets h.apps) on.1) in
         let facts' = facts_of m' f.0 (All-contains (IsLoadedOn m') h.apps f.0 apps.loaded (among_contains f.0 h.apps f.1)) on.0 (among_contains on.0 (nets_of f.0) f.2) in
         let its : facts'.net.source ≡ net.source = ap (λ (x : NetPlan). x.source) facts'.is ∙ same in
@@ -403,8 +361,5 @@ none_unsent h apps plan may net has v vertex = by_queue (slice_get h.mesh.unsent
         let is_free = All-contains (λ z. is_spot_taken h.apps z ≡ false) plan.spots net.source may.free own.source in
         absurd (false≢true (sym is_free ∙ is_taken'))
       where
-        some_same : {A : Type 0} {x y : A} → Some x ≡ Some y → x ≡ y
-        some_same z = cc
-
         behind : State → List Mark
         behind s = input_marks s ++ (all_hand_marks s ++ (core_marks s ++ (delivered_marks s ++ dumped_marks s)))

@@ -1,5 +1,5 @@
 -- The fields of a host to which an application came, or came not.
-use Rattle.std.proofs.Common.{◌≡◌, ℕ, ◌+◌, ◌*◌, ◌^◌, ◌<◌, Bool, true, false, List, [], ◌∷◌, ◌++◌, length, sym, ap, ◌∙◌, subst, arith, Option, None, Some, Result, Ok, Err, IfOk, IfErr, OnOk, OnErr}
+use Rattle.std.proofs.Common.{◌≡◌, ℕ, ◌+◌, ◌*◌, ◌^◌, ◌<◌, Bool, true, false, List, [], ◌∷◌, ◌++◌, length, sym, ap, ◌∙◌, subst, arith, Option, None, Some, Result, Ok, Err, OnOk, OnErr}
 use Rattle.std.specs.Prelude.{is_err, is_some}
 use Rattle.std.specs.List.{All, AllPairs}
 use Rattle.std.proofs.lemmas.List.Elements.{All-weaker}
@@ -44,12 +44,6 @@ still_host i j host there same table = record {
 pub never_none : (o r : Option State) → is_some o ≡ true → r ≡ o → r ≡ None → ⊥
 never_none None r some same none = cc
 never_none (Some x) r some same none = cc
-
-pub of_ok : {A E : Type 0} (P : A → Type 0) (r : Result A E) (x : A) → r ≡ Ok x → IfOk r P → P x
-of_ok P r x is if = subst (λ z. IfOk z P) is if
-
-pub of_err : {A E : Type 0} (P : E → Type 0) (r : Result A E) (x : E) → r ≡ Err x → IfErr r P → P x
-of_err P r x is if = subst (λ z. IfErr z P) is if
 
 pub on_err : {A E : Type 0} (P : Type 0) (r : Result A E) (x : E) → r ≡ Err x → OnErr r P → P
 on_err P r x is if = subst (λ z. OnErr z P) is if

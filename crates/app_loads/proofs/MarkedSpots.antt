@@ -1,5 +1,5 @@
 -- Spots marked in the table of those that are taken.
-use Rattle.std.proofs.Common.{◌≡◌, ◌≢◌, ℕ, ◌+◌, ◌*◌, ◌<◌, ◌≤◌, ◌||◌, Bool, true, false, List, [], ◌∷◌, ◌++◌, take, get_or, length, refl, sym, ap, ◌∙◌, subst, inl, inr, arith, Some}
+use Rattle.std.proofs.Common.{◌≡◌, ◌≢◌, ℕ, ◌+◌, ◌*◌, ◌<◌, ◌||◌, Bool, true, false, List, [], ◌∷◌, ◌++◌, take, get_or, length, sym, ap, ◌∙◌, inl, inr, arith, Some}
 use Rattle.std.specs.List.{list_any, slice_get, slice_set, All}
 use Rattle.std.proofs.lemmas.Bool.{cases_Bool, or_cases, or_left, or_right, false≢true}
 use Rattle.std.proofs.lemmas.List.{length-set}
@@ -17,14 +17,7 @@ use Rattle.app_loads.specs.declared.loaded.LoadedApp.{LoadedApp}
 use Rattle.app_loads.specs.Host.{is_spot_taken}
 use Rattle.app_loads.specs.Inner.{TellsTaken}
 use Rattle.app_loads.specs.Marking.{AreMarked}
-use Rattle.app_loads.proofs.Unsent.{all_taken}
-
-pub none_marked : (m : Description) (now : Bool) (taken : List Bool) → AreMarked m now [] taken taken
-none_marked m now taken = record { long = refl; marked = λ s inside few hit. absurd (false≢true hit); others = λ s b inside few none is. is }
-
-or_nothing : (b : Bool) → (b || false) ≡ b
-or_nothing true = refl
-or_nothing false = refl
+use Rattle.app_loads.proofs.Others.{or-false}
 
 module _ (m : Description) (now : Bool) (spots : List Spot) (old cur : List Bool) (i : ℕ) (d : Spot) (below : i < length spots) (so_far : AreMarked m now (take i spots) old cur)
     (inside : All (λ (s : Spot). IsInside m s.chip) spots) (few : All (λ (s : Spot). s.core < 24) spots) (long : length old ≡ 24 * (m.width * m.height)) where
@@ -34,7 +27,7 @@ module _ (m : Description) (now : Bool) (spots : List Spot) (old cur : List Bool
   more : (s : Spot) → list_any (spot_eq s) (take (i + 1) spots) ≡ (list_any (spot_eq s) (take i spots) || spot_eq s spot)
   more s =
       ap (list_any (spot_eq s)) (take_more_at spots i spot (slice_get-get_or spots i d below))
-      ∙ (list_any-append (spot_eq s) (take i spots) (spot ∷ []) ∙ ap (λ b. list_any (spot_eq s) (take i spots) || b) (or_nothing (spot_eq s spot)))
+      ∙ (list_any-append (spot_eq s) (take i spots) (spot ∷ []) ∙ ap (λ b. list_any (spot_eq s) (take i spots) || b) (or-false (spot_eq s spot)))
 
   pub marked_more : (p : ℕ) → p ≡ spot_place m spot → AreMarked m now (take (i + 1) spots) old (slice_set cur p now)
   marked_more p place = record {
@@ -68,9 +61,6 @@ module _ (m : Description) (now : Bool) (spots : List Spot) (old cur : List Bool
           let same = same_spot_place m s spot in_s (inside i d below) small (few i d below) (e ∙ place) in
           false≢true (sym other ∙ (ap (spot_eq s) (sym same) ∙ spot_eq_same s))
 
-pub all_marked : (m : Description) (now : Bool) (spots : List Spot) (old cur : List Bool) (i : ℕ) → length spots ≤ i → AreMarked m now (take i spots) old cur → AreMarked m now spots old cur
-all_marked m now spots old cur i end = subst (λ (l : List Spot). AreMarked m now l old cur) (all_taken spots i end)
-
 -- the table tells the spots of one application more
 pub tells_more : (m : Description) (apps : List LoadedApp) (app : LoadedApp) (old new : List Bool) → TellsTaken m apps old → AreMarked m true app.plan.spots old new → TellsTaken m (apps ++ app ∷ []) new
 tells_more m apps app old new tells marked = record {
@@ -79,11 +69,11 @@ tells_more m apps app old new tells marked = record {
     | inl mine ↦ marked.marked s inside few mine ∙ ap Some (sym (both s ∙ or_right (is_spot_taken apps s) (list_any (spot_eq s) app.plan.spots) mine))
     | inr other ↦
         marked.others s (is_spot_taken apps s) inside few (λ hit. absurd (false≢true (sym other ∙ hit))) (tells.told s inside few)
-        ∙ ap Some (sym (both s ∙ (ap (λ b. is_spot_taken apps s || b) other ∙ or_nothing (is_spot_taken apps s))))
+        ∙ ap Some (sym (both s ∙ (ap (λ b. is_spot_taken apps s || b) other ∙ or-false (is_spot_taken apps s))))
   ];
 }
   where
     both : (s : Spot) → is_spot_taken (apps ++ app ∷ []) s ≡ (is_spot_taken apps s || list_any (spot_eq s) app.plan.spots)
     both s =
         list_any-append (λ (a : LoadedApp). list_any (spot_eq s) a.plan.spots) apps (app ∷ [])
-        ∙ ap (λ b. is_spot_taken apps s || b) (or_nothing (list_any (spot_eq s) app.plan.spots))
+        ∙ ap (λ b. is_spot_taken apps s || b) (or-false (list_any (spot_eq s) app.plan.spots))

@@ -2,14 +2,15 @@
 use Rattle.std.proofs.Common.{◌≡◌, ℕ, ◌<◌, refl, sym, ap, ◌∙◌, subst, inl, inr, Bool, true, false, ◌&&◌, not, if◌then◌else◌, List, [], ◌∷◌, ◌++◌, Option, Some, None}
 use Rattle.std.specs.Prelude.{unwrap_or, is_some}
 use Rattle.std.specs.List.{slice_get, list_any}
-use Rattle.std.proofs.lemmas.List.Elements.{All-nil, All-append}
+use Rattle.std.proofs.lemmas.List.Elements.{All-append}
+use Rattle.std.proofs.lemmas.Option.{same_Some, none-some}
+use Rattle.mesh_core.proofs.Fixed.{after_events-append}
 use Rattle.spin_base.specs.declared.chips.Chip.{Chip}
-use Rattle.spin_base.specs.declared.chips.Port.{Port}
 use Rattle.spin_base.specs.declared.chips.Spot.{Spot}
 use Rattle.spin_base.specs.declared.routes.Out.{Out}
 use Rattle.spin_base.specs.declared.copies.McCopy.{McCopy}
 use Rattle.spin_base.specs.declared.copies.Event.{Event}
-use Rattle.spin_base.specs.declared.copies.Event.TheVariants.{Take, Send, Dump, Collect}
+use Rattle.spin_base.specs.declared.copies.Event.TheVariants.{Send, Dump}
 use Rattle.spin_base.specs.Equality.{out_eq}
 use Rattle.spin_base.proofs.Equality.{out_eq_same}
 use Rattle.list_laws.proofs.Members.{Among, among_contains, among_any}
@@ -19,17 +20,17 @@ use Rattle.machine_desc.specs.Live.{index_of, is_live_chip, IsLiveChip}
 use Rattle.machine_desc.proofs.TreeLemmas.{edge_lives}
 use Rattle.net_tables.specs.declared.nets.NetPlan.{NetPlan}
 use Rattle.mesh_core.specs.State.{State, Hand, behind, queue_at}
-use Rattle.mesh_core.specs.Step.{has_room_behind, take_of, send_of, dump_of, collect_of, step_of, after_event, after_events, answer}
+use Rattle.mesh_core.specs.Step.{has_room_behind, send_of, dump_of, step_of, after_event, after_events, answer}
 use Rattle.mesh_core.specs.declared.places.Did.TheVariants.{Moved, Idle}
 use Rattle.mesh_core.specs.HasRun.{DropsNone}
 use Rattle.mesh_core.specs.Expected.{NothingWaits}
-use Rattle.mesh_core.specs.Trail.{in_queue, in_hand}
+use Rattle.mesh_core.specs.Trail.{in_hand}
 use Rattle.mesh_core.specs.Ledger.{marks_of}
 use Rattle.mesh_core.proofs.EventsLaw.{events_keep}
-use Rattle.mesh_core.proofs.Law.{leaves_parts, comes_parts}
+use Rattle.mesh_core.proofs.Law.{leaves_parts}
 use Rattle.mesh_core.proofs.LedgerLaw.{right_before, stands}
 use Rattle.mesh_core.proofs.Moves.{mark}
-use Rattle.mesh_core.proofs.Standing.{queued_mark, held_mark}
+use Rattle.mesh_core.proofs.Standing.{held_mark}
 use Rattle.mesh_core.proofs.Ways.{Stands, root_lives, branch_comes_in}
 use Rattle.packet_runs.specs.Draining.{IsKept, IsReached}
 use Rattle.packet_runs.specs.UnderWay.{weight_in}
@@ -40,30 +41,17 @@ use Rattle.packet_runs.proofs.Progress.{moved_lighter}
 
 -- ---- events, one after the other
 
-after_events-append : (s : State) (es fs : List Event) → after_events s (es ++ fs) ≡ after_events (after_events s es) fs
-after_events-append s [] fs = refl
-after_events-append s (e ∷ es) fs = after_events-append (after_event s e) es fs
-
 pub after_none : (s : State) → IsAfter s s
 after_none s = record { events = []; is = refl }
 
 pub after_one : (s t : State) (e : Event) → t ≡ after_event s e → IsAfter s t
 after_one s t e is = record { events = e ∷ []; is = is }
 
-pub after_then : (s t u : State) → IsAfter s t → IsAfter t u → IsAfter s u
-after_then s t u first rest = record {
-  events = first.events ++ rest.events;
-  is = rest.is ∙ (ap (λ x. after_events x rest.events) first.is ∙ sym (after_events-append s first.events rest.events));
-}
-
 pub kept_after : (s t : State) → IsKept s → IsAfter s t → IsKept t
 kept_after s t kept after =
     let keeps = events_keep s kept.nets kept.labels kept.mesh kept.right kept.ledger after.events in
     subst IsKept (sym after.is)
     (record { mesh = keeps.mesh; nets = kept.nets; labels = kept.labels; right = keeps.right; ledger = keeps.ledger })
-
-pub moved_none : (s : State) → IsMoved s s
-moved_none s = record { events = []; is = refl; dropless = λ quiet. All-nil DropsNone }
 
 -- where something waited at the start, whatever comes
 pub moved_on : (s t u : State) → IsMoved s t → (NothingWaits s → ⊥) → IsAfter t u → IsMoved s u
@@ -116,12 +104,9 @@ branch_lives s net st t xs is i x at = elim (branch_comes_in s net t xs is i x a
   | inl root ↦ subst (λ (c : Chip). IsLiveChip s.setup.machine c) (sym root.0) (root_lives s net st)
   | inr by ↦
       let ends = edge_lives s.setup.machine net.tree.root net.tree.edges _ st.tree by.0 by.1 in
-      let same : ends.0 ≡ x.chip = some_same (sym ends.1 ∙ by.2) in
+      let same : ends.0 ≡ x.chip = same_Some _ _ (sym ends.1 ∙ by.2) in
       subst (λ (c : Chip). IsLiveChip s.setup.machine c) same ends.3
 ]
-  where
-    some_same : {a b : Chip} → Some a ≡ Some b → a ≡ b
-    some_same e = cc
 
 held_lives : (s : State) → IsKept s → (k : McCopy) (c : Chip) (o : Out) → Among (mark k (in_hand c o)) (marks_of s) → IsLiveChip s.setup.machine c
 held_lives s kept k c o a =
@@ -129,37 +114,7 @@ held_lives s kept k c o a =
     let st = stands s s kept.nets kept.labels kept.mesh kept.right kept.ledger r.net r.in_nets in
     branch_lives s r.net st r.trail.target r.trail.branch r.trail.way.is_branch k.hop (record { chip = c; out = o }) (leaves_parts r.trail.branch k.hop c o r.trail.on)
 
-queued_lives : (s : State) → IsKept s → (k : McCopy) (c : Chip) (port : Port) → Among (mark k (in_queue c port)) (marks_of s) → IsLiveChip s.setup.machine c
-queued_lives s kept k c port a =
-    let r = right_before s s kept.nets kept.labels kept.mesh kept.right kept.ledger (mark k (in_queue c port)) (among_contains (mark k (in_queue c port)) (marks_of s) a) in
-    let st = stands s s kept.nets kept.labels kept.mesh kept.right kept.ledger r.net r.in_nets in
-    let there = comes_parts r.trail.branch k.hop c port r.trail.on in
-    subst (λ (d : Chip). IsLiveChip s.setup.machine d) there.chip (branch_lives s r.net st r.trail.target r.trail.branch r.trail.way.is_branch k.hop there.exit there.at)
-
 -- ---- what waits can be moved
-
-pub collect_enabled : (s : State) (v : ℕ) → IsWaiting s (InCore v) → is_some (step_of s (Collect v)) ≡ true
-collect_enabled s v waits = by_queue (slice_get s.cores v) waits
-  where
-    by_queue : (q : Option (List McCopy)) → HasCopies q → is_some (collect_of s v q) ≡ true
-    by_queue (Some (k ∷ rest)) has = refl
-    by_queue (Some []) none = absurd none
-    by_queue None none = absurd none
-
-pub take_enabled : (s : State) (c : Chip) (port : Port) → IsKept s → IsWaiting s (AtPort c port) → is_some (step_of s (Take c port)) ≡ true
-take_enabled s c port kept waits =
-    ap (λ h. is_some (take_of s c port h (slice_get s.inputs (queue_at s.setup.machine c port)))) waits.2
-    ∙ by_queue (slice_get s.inputs (queue_at s.setup.machine c port)) refl waits.1
-  where
-    by_live : (b : Bool) (t : State) → b ≡ true → is_some (if b then Some t else None) ≡ true
-    by_live true t on = refl
-    by_live false t on = cc
-
-    by_queue : (q : Option (List McCopy)) → slice_get s.inputs (queue_at s.setup.machine c port) ≡ q → HasCopies q → is_some (take_of s c port (Some None) q) ≡ true
-    by_queue (Some (k ∷ rest)) at has =
-        by_live (is_live_chip s.setup.machine c) _ (queued_lives s kept k c port (queued_mark s c port waits.0 k (k ∷ rest) at (inl refl)))
-    by_queue (Some []) at none = absurd none
-    by_queue None at none = absurd none
 
 -- a hand whose copy cannot be sent by the output can drop it there
 pub dump_enabled : (s : State) (c : Chip) (o : Out) → IsKept s → IsWaiting s (InHand c o) → answer s (Send c o) ≡ Idle → is_some (step_of s (Dump c o)) ≡ true
@@ -197,10 +152,7 @@ waits_somewhere s (InCore v) waits quiet = by_queue (slice_get s.cores v) refl w
 waits_somewhere s (InHand c o) waits quiet = by_hand (slice_get s.hands (index_of s.setup.machine c)) refl waits.1
   where
     by_hand : (h : Option (Option Hand)) → slice_get s.hands (index_of s.setup.machine c) ≡ h → IsNext o h → ⊥
-    by_hand (Some (Some h)) at next = some_none (All-at (λ (x : Option Hand). x ≡ None) s.hands (index_of s.setup.machine c) (Some h) quiet.hands_empty at)
-      where
-        some_none : Some h ≡ None → ⊥
-        some_none e = cc
+    by_hand (Some (Some h)) at next = none-some h (sym (All-at (λ (x : Option Hand). x ≡ None) s.hands (index_of s.setup.machine c) (Some h) quiet.hands_empty at))
     by_hand (Some None) at none = none
     by_hand None at none = none
 waits_somewhere s (AtPort c port) waits quiet = by_queue (slice_get s.inputs (queue_at s.setup.machine c port)) refl waits.1

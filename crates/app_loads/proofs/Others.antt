@@ -1,9 +1,11 @@
 -- Lists of an application's items beside those of all others.
-use Rattle.std.proofs.Common.{◌≡◌, ◌≢◌, ℕ, zero, suc, ◌==◌, Bool, true, false, not, cond, List, [], ◌∷◌, ◌++◌, take, drop, sym, ap, ◌∙◌, refl, subst, inl, inr, ◌⊎◌, arith, Some}
+use Rattle.std.proofs.Common.{◌≡◌, ◌≢◌, ℕ, zero, suc, ◌==◌, Bool, true, false, not, List, [], ◌∷◌, ◌++◌, take, drop, sym, ap, ◌∙◌, refl, subst, inl, inr, ◌⊎◌, arith, Some, get_or, ◌||◌}
 use Rattle.std.specs.List.{slice_get, All, AllPairs, Contains, filter, flat_map}
-use Rattle.std.proofs.lemmas.Bool.{cases_Bool, cond_both, cond-true, cond-false, eq-eqb, eqb-true, false≢true}
+use Rattle.std.proofs.lemmas.Bool.{cases_Bool, cond_both, cond-true, cond-false, eq-eqb, eqb-true, false≢true, ne_eqb}
 use Rattle.std.proofs.lemmas.List.Elements.{All-contains, All-weaker}
-use Rattle.list_laws.proofs.Members.{Among, among_at, among_contains, among_filter, contains_among, Contains-filter, Contains-from_filter}
+use Rattle.std.proofs.lemmas.Option.{same_Some, slice_get-get_or}
+use Rattle.std.proofs.lemmas.List.Quantifiers.{all_pairs_push}
+use Rattle.list_laws.proofs.Members.{Among, among_at, among_contains, among_filter, contains_among, Contains-filter, Contains-from_filter, Contains-at}
 use Rattle.list_laws.proofs.Pairs.{AllPairs-append, AllPairs-left, AllPairs-right, AllPairs-across, AllPairs-head, AllPairs-tail}
 use Rattle.list_laws.proofs.Places.{All-each}
 use Rattle.app_loads.specs.declared.loaded.LoadedApp.{LoadedApp}
@@ -15,11 +17,13 @@ same_tests true b forth back = sym (forth refl)
 same_tests false true forth back = back refl
 same_tests false false forth back = refl
 
-not_equal : (m n : ℕ) → m ≢ n → (m == n) ≡ false
-not_equal m n differ = grind arith
+pub or-false : (b : Bool) → (b || false) ≡ b
+or-false true = refl
+or-false false = refl
 
-some_same : {A : Type 0} {a b : A} → Some a ≡ Some b → a ≡ b
-some_same e = cc
+-- a pair of each with the last
+pub pairs_with_last : {X : Type 0} (R : X → X → Type 0) (xs : List X) (x : X) → AllPairs R xs → ((a : X) → Contains xs a → R a x) → AllPairs R (xs ++ x ∷ [])
+pairs_with_last R xs x pairs each = all_pairs_push R xs x pairs (λ k d below. each (get_or xs k d) (Contains-at xs k (get_or xs k d) (slice_get-get_or xs k d below)))
 
 -- ---- items of lists, where some lists are left out
 
@@ -27,10 +31,12 @@ module _ {X Y : Type 0} (f : X → List Y) (p : X → Bool) where
   pub among_left_in : (xs : List X) (y : Y) → Among y (flat_map f (filter p xs)) → Among y (flat_map f xs)
   among_left_in xs y a = let found = among_flat f y (filter p xs) a in flat_among f y xs found.0 (among_filter p found.0 xs found.1).0 found.2
 
+  pub Contains-left_in : (xs : List X) (y : Y) → Contains (flat_map f (filter p xs)) y → Contains (flat_map f xs) y
+  Contains-left_in xs y has = among_contains y (flat_map f xs) (among_left_in xs y (contains_among y (flat_map f (filter p xs)) has))
+
   pub All-left_in : (P : Y → Type 0) (xs : List X) → All P (flat_map f xs) → All P (flat_map f (filter p xs))
   All-left_in P xs all =
-      All-each P (flat_map f (filter p xs)) (λ y has.
-      All-contains P (flat_map f xs) y all (among_contains y (flat_map f xs) (among_left_in xs y (contains_among y (flat_map f (filter p xs)) has))))
+      All-each P (flat_map f (filter p xs)) (λ y has. All-contains P (flat_map f xs) y all (Contains-left_in xs y has))
 
   pub AllPairs-left_in : (R : Y → Y → Type 0) (xs : List X) → AllPairs R (flat_map f xs) → AllPairs R (flat_map f (filter p xs))
   AllPairs-left_in R [] pairs = pairs
@@ -86,20 +92,20 @@ is_other number app = not (app.number == number)
 all_others : (number : ℕ) (apps : List LoadedApp) → All (λ (a : LoadedApp). number ≢ a.number) apps → others_than number apps ≡ apps
 all_others number [] none = refl
 all_others number (a ∷ apps) none =
-    cond-true (is_other number a) (a ∷ others_than number apps) (others_than number apps) (ap not (not_equal a.number number (λ e. none 0 a (omega arith) (sym e)))) ∙ ap (λ l. a ∷ l) (all_others number apps (λ k d within. none (suc k) d (omega (arith, within))))
+    cond-true (is_other number a) (a ∷ others_than number apps) (others_than number apps) (ap not (ne_eqb a.number number (λ e. none 0 a (omega arith) (sym e)))) ∙ ap (λ l. a ∷ l) (all_others number apps (λ k d within. none (suc k) d (omega (arith, within))))
 
 -- those that are left where the application at a place is taken out
 pub without_one : (number : ℕ) (apps : List LoadedApp) (at : ℕ) (app : LoadedApp) → slice_get apps at ≡ Some app → app.number ≡ number → HaveNumbers apps → take at apps ++ drop (suc at) apps ≡ others_than number apps
 without_one number [] at app is its pairs = cc
 without_one number (a ∷ apps) zero app is its pairs =
-    let same : a ≡ app = some_same is in
+    let same : a ≡ app = same_Some _ _ is in
     let mine : a.number ≡ number = ap (λ (x : LoadedApp). x.number) same ∙ its in
     sym (cond-false (is_other number a) (a ∷ others_than number apps) (others_than number apps) (ap not (eq-eqb a.number number mine))
     ∙ all_others number apps (subst (λ n. All (λ (x : LoadedApp). n ≢ x.number) apps) mine (AllPairs-head (λ (c d : LoadedApp). c.number ≢ d.number) a apps pairs)))
 without_one number (a ∷ apps) (suc at) app is its pairs =
     let differ = All-contains (λ (c : LoadedApp). a.number ≢ c.number) apps app (AllPairs-head (λ (c d : LoadedApp). c.number ≢ d.number) a apps pairs) (among_contains app apps (among_at apps at app is)) in
     ap (λ l. a ∷ l) (without_one number apps at app is its (AllPairs-tail (λ (c d : LoadedApp). c.number ≢ d.number) a apps pairs))
-    ∙ sym (cond-true (is_other number a) (a ∷ others_than number apps) (others_than number apps) (ap not (not_equal a.number number (λ e. differ (e ∙ sym its)))))
+    ∙ sym (cond-true (is_other number a) (a ∷ others_than number apps) (others_than number apps) (ap not (ne_eqb a.number number (λ e. differ (e ∙ sym its)))))
 
 module _ (apps : List LoadedApp) (numbers : HaveNumbers apps) (number : ℕ) (app : LoadedApp) (in_apps : Contains apps app) (its : app.number ≡ number) where
   pub other_in : (a : LoadedApp) → Contains (others_than number apps) a → Contains apps a × a ≢ app
@@ -126,8 +132,8 @@ module _ (apps : List LoadedApp) (numbers : HaveNumbers apps) (number : ℕ) (ap
   pub own_item : {Y : Type 0} (f : LoadedApp → List Y) (y : Y) → Contains (f app) y → Contains (flat_map f apps) y
   own_item f y has = among_contains y (flat_map f apps) (flat_among f y apps app (contains_among app apps in_apps) (contains_among y (f app) has))
 
-  pub others_item : {Y : Type 0} (f : LoadedApp → List Y) (y : Y) → Contains (flat_map f (others_than number apps)) y → Contains (flat_map f apps) y
-  others_item f y has = among_contains y (flat_map f apps) (among_left_in f (is_other number) apps y (contains_among y (flat_map f (others_than number apps)) has))
+  pub others_item : {Y : Type 0} (f : LoadedApp → List Y) → (y : Y) → Contains (flat_map f (others_than number apps)) y → Contains (flat_map f apps) y
+  others_item f = Contains-left_in f (is_other number) apps
 
   -- an item of another with one of this one
   pub with_mine : {Y : Type 0} (R : Y → Y → Type 0) → ((a b : Y) → R a b → R b a) → (f : LoadedApp → List Y) → AllPairs R (flat_map f apps) → (a b : Y) → Contains (flat_map f (others_than number apps)) a → Contains (f app) b → R a b

@@ -1,8 +1,7 @@
 -- The ledger of a mesh to which an application's packets came.
-use Rattle.std.proofs.Common.{◌≡◌, ◌≢◌, ℕ, zero, suc, ◌+◌, ◌-◌, ◌<◌, ◌≤◌, ◌==◌, leb, true, false, List, [], ◌∷◌, ◌++◌, length, refl, sym, ap, ◌∙◌, subst, inl, inr, arith, Option, None, Some, if◌then◌else◌}
+use Rattle.std.proofs.Common.{◌≡◌, ℕ, zero, suc, ◌+◌, ◌-◌, ◌<◌, ◌≤◌, ◌==◌, List, [], ◌∷◌, ◌++◌, length, refl, sym, ap, ◌∙◌, subst, inl, inr, arith, Option, None, Some, if◌then◌else◌}
 use Rattle.std.specs.List.{slice_get, slice_set, All, Contains}
-use Rattle.std.proofs.lemmas.Bool.{cases_eq, cases_lt, eq-eqb}
-use Rattle.std.proofs.lemmas.Bool.Decides.{nat_tests}
+use Rattle.std.proofs.lemmas.Bool.{cases_eq, cases_lt, eq-eqb, le-leb, lt-leb, ne_eqb}
 use Rattle.std.proofs.lemmas.List.{length-map}
 use Rattle.std.proofs.lemmas.List.Elements.{All-head, All-tail}
 use Rattle.std.proofs.lemmas.Option.{slice_get_within, slice_get_past, get_or_from_slice_get}
@@ -35,9 +34,6 @@ some_target m net tree = elim (tree.ends_are_targets net.tree.root (inl refl)) [
     target_of [] k within = absurd (omega (arith, within))
     target_of (t ∷ ts) k within = (t, (0, omega arith, refl))
 
-not_equal : (m n : ℕ) → m ≢ n → (m == n) ≡ false
-not_equal m n differ = grind arith
-
 module _ (app : LoadedApp) (asked : ℕ → Option Asked) where
   -- the packets, and the first n of the application's
   abbrev pub upto : ℕ → ℕ → Option Asked
@@ -47,12 +43,12 @@ module _ (app : LoadedApp) (asked : ℕ → Option Asked) where
   upto_before : (n j : ℕ) → j < app.first → upto n j ≡ asked j
   upto_before zero j less = refl
   upto_before (suc n) j less =
-      ap (λ b. if b then asked_by (nets_of app) app.plan.packets n else upto n j) (not_equal j (app.first + n) (λ e. absurd (omega (arith, e, less)))) ∙ upto_before n j less
+      ap (λ b. if b then asked_by (nets_of app) app.plan.packets n else upto n j) (ne_eqb j (app.first + n) (λ e. absurd (omega (arith, e, less)))) ∙ upto_before n j less
 
   upto_past : (n j : ℕ) → app.first + n ≤ j → upto n j ≡ asked j
   upto_past zero j more = refl
   upto_past (suc n) j more =
-      ap (λ b. if b then asked_by (nets_of app) app.plan.packets n else upto n j) (not_equal j (app.first + n) (λ e. absurd (omega (arith, e, more)))) ∙ upto_past n j (omega (arith, more))
+      ap (λ b. if b then asked_by (nets_of app) app.plan.packets n else upto n j) (ne_eqb j (app.first + n) (λ e. absurd (omega (arith, e, more)))) ∙ upto_past n j (omega (arith, more))
 
   upto_at : (n j : ℕ) → app.first ≤ j → j < app.first + n → upto n j ≡ asked_by (nets_of app) app.plan.packets (j - app.first)
   upto_at zero j low high = absurd (omega (arith, low, high))
@@ -61,7 +57,7 @@ module _ (app : LoadedApp) (asked : ℕ → Option Asked) where
         let place : j - app.first ≡ n = omega (arith, same) in
         ap (λ b. if b then asked_by (nets_of app) app.plan.packets n else upto n j) (eq-eqb j (app.first + n) same) ∙ ap (asked_by (nets_of app) app.plan.packets) (sym place)
     | inr other ↦
-        ap (λ b. if b then asked_by (nets_of app) app.plan.packets n else upto n j) (not_equal j (app.first + n) other) ∙ upto_at n j low (omega (arith, high, other))
+        ap (λ b. if b then asked_by (nets_of app) app.plan.packets n else upto n j) (ne_eqb j (app.first + n) other) ∙ upto_at n j low (omega (arith, high, other))
   ]
 
   module _ (s : State) (nets : List NetPlan) (ledger : MeetsLedgerFor s nets asked) (none : (i : ℕ) → app.first ≤ i → asked i ≡ None)
@@ -99,11 +95,8 @@ asked_more (a ∷ apps) app j = ap (either (asked_of_app a j)) (asked_more apps 
 
 past_app : (app : LoadedApp) (j : ℕ) → app.first + length app.plan.packets ≤ j → asked_of_app app j ≡ None
 past_app app j past =
-    ap (λ b. if b then asked_by (nets_of app) app.plan.packets (j - app.first) else None) (le_true app.first j (omega (arith, past)))
+    ap (λ b. if b then asked_by (nets_of app) app.plan.packets (j - app.first) else None) (le-leb app.first j (omega (arith, past)))
     ∙ ap (asked_at (nets_of app)) (slice_get_past app.plan.packets (j - app.first) (omega (arith, past)))
-  where
-    le_true : (a b : ℕ) → a ≤ b → leb a b ≡ true
-    le_true a b le = grind (arith, nat_tests)
 
 pub none_past : (apps : List LoadedApp) (packets j : ℕ) → All (λ (app : LoadedApp). app.first + length app.plan.packets ≤ packets) apps → packets ≤ j → asked_of apps j ≡ None
 none_past [] packets j counted past = refl
@@ -115,22 +108,16 @@ pub asked_is : (apps : List LoadedApp) (app : LoadedApp) → ((i : ℕ) → app.
 asked_is apps app none j = elim (cases_lt j app.first) [
   | inl before ↦
       upto_before app (asked_of apps) (length app.plan.packets) j before
-      ∙ (sym (either_none (asked_of apps j)) ∙ (ap (either (asked_of apps j)) (sym (ap (λ b. if b then asked_by (nets_of app) app.plan.packets (j - app.first) else None) (le_false app.first j before))) ∙ sym (asked_more apps app j)))
+      ∙ (sym (either_none (asked_of apps j)) ∙ (ap (either (asked_of apps j)) (sym (ap (λ b. if b then asked_by (nets_of app) app.plan.packets (j - app.first) else None) (lt-leb app.first j before))) ∙ sym (asked_more apps app j)))
   | inr after ↦
       let no_other : asked_of (apps ++ app ∷ []) j ≡ asked_of_app app j = asked_more apps app j ∙ ap (λ o. either o (asked_of_app app j)) (none j after) in
       elim (cases_lt j (app.first + length app.plan.packets)) [
         | inl within ↦
             upto_at app (asked_of apps) (length app.plan.packets) j after within
-            ∙ (sym (ap (λ b. if b then asked_by (nets_of app) app.plan.packets (j - app.first) else None) (le_true app.first j after)) ∙ sym no_other)
+            ∙ (sym (ap (λ b. if b then asked_by (nets_of app) app.plan.packets (j - app.first) else None) (le-leb app.first j after)) ∙ sym no_other)
         | inr past ↦ upto_past app (asked_of apps) (length app.plan.packets) j past ∙ (none j after ∙ (sym (past_app app j past) ∙ sym no_other))
       ]
 ]
-  where
-    le_true : (a b : ℕ) → a ≤ b → leb a b ≡ true
-    le_true a b le = grind (arith, nat_tests)
-
-    le_false : (a b : ℕ) → b < a → leb a b ≡ false
-    le_false a b lt = grind (arith, nat_tests)
 
 -- the ledger holds of the same packets, whatever the tables
 pub same_packets : (s : State) (nets : List NetPlan) (f g : ℕ → Option Asked) → ((j : ℕ) → f j ≡ g j) → MeetsLedgerFor s nets f → MeetsLedgerFor s nets g

@@ -1,50 +1,28 @@
 -- What holds at every port, every chip and every vertex.
-use Rattle.std.proofs.Common.{◌≡◌, ◌≢◌, ℕ, ◌*◌, ◌/◌, ◌%◌, ◌<◌, ◌≤◌, refl, sym, ap, ◌∙◌, subst, arith, List, [], ◌∷◌, map, length, Option, Some, None, IfSome, IfNone, get_or}
+use Rattle.std.proofs.Common.{◌≡◌, ◌≢◌, ℕ, ◌*◌, ◌/◌, ◌%◌, ◌<◌, ◌≤◌, refl, sym, ap, ◌∙◌, subst, arith, List, [], ◌∷◌, length, Option, Some, None, IfSome, IfNone}
 use Rattle.std.specs.List.{slice_get, All}
-use Rattle.std.proofs.lemmas.Option.{get_or_from_slice_get}
-use Rattle.std.proofs.Math.Nat.{mul-le-mul_left}
-use Rattle.std.proofs.lemmas.List.{get_or-map, length-map}
+use Rattle.std.proofs.lemmas.Option.{get_or_from_slice_get, same_Some}
+use Rattle.spin_base.proofs.Spots.{dir_at-dir_number}
+use Rattle.spin_base.proofs.Outputs.{dir_number_below}
 use Rattle.list_laws.proofs.Places.{All-at}
 use Rattle.spin_base.specs.declared.chips.Chip.{Chip}
-use Rattle.spin_base.specs.declared.chips.Dir.{Dir}
-use Rattle.spin_base.specs.declared.chips.Dir.TheVariants.{East, NorthEast, North, West, SouthWest, South}
 use Rattle.spin_base.specs.declared.chips.Port.{Port}
 use Rattle.spin_base.specs.declared.chips.Port.TheVariants.{Link, Local}
-use Rattle.spin_base.specs.declared.chips.Spot.{Spot}
 use Rattle.spin_base.specs.declared.routes.Out.{Out}
 use Rattle.spin_base.specs.declared.copies.McCopy.{McCopy}
 use Rattle.spin_base.specs.Links.{dir_number, dir_at, port_number}
 use Rattle.machine_desc.specs.Live.{index_of, chip_of, IsInside}
-use Rattle.machine_desc.proofs.Branches.{length_le_from_apart}
 use Rattle.machine_desc.proofs.Live.{index_of-chip_of}
 use Rattle.mesh_core.specs.State.{State, Hand, IsMesh, queue_at}
-use Rattle.mesh_core.specs.VertexTable.{spot_place}
 use Rattle.mesh_core.specs.Ledger.{port_of}
 use Rattle.mesh_core.proofs.Standing.{port_number-port_of}
-use Rattle.mesh_core.proofs.VertexTableLaws.{site_inside, same_spot_place, spot_place-below}
 use Rattle.app_loads.specs.declared.waiting.Waits.TheVariants.{InHand}
 use Rattle.app_loads.specs.Running.{IsNext, IsWaiting}
-
-dir_below : (d : Dir) → dir_number d < 6
-dir_below East = omega arith
-dir_below NorthEast = omega arith
-dir_below North = omega arith
-dir_below West = omega arith
-dir_below SouthWest = omega arith
-dir_below South = omega arith
-
-dir_at-dir_number : (d : Dir) → dir_at (dir_number d) ≡ d
-dir_at-dir_number East = refl
-dir_at-dir_number NorthEast = refl
-dir_at-dir_number North = refl
-dir_at-dir_number West = refl
-dir_at-dir_number SouthWest = refl
-dir_at-dir_number South = refl
 
 -- what holds at the chip's own port and at the links by number holds at each port
 pub at_each_port : (P : Port → Type 0) (n : ℕ) → 6 ≤ n → P Local → ((i : ℕ) → i < n → P (Link (dir_at i))) → (port : Port) → P port
 at_each_port P n all own links Local = own
-at_each_port P n all own links (Link d) = let below = dir_below d in subst (λ e. P (Link e)) (dir_at-dir_number d) (links (dir_number d) (omega (arith, all, below)))
+at_each_port P n all own links (Link d) = let below = dir_number_below d in subst (λ e. P (Link e)) (dir_at-dir_number d) (links (dir_number d) (omega (arith, all, below)))
 
 -- where nothing waits at any port of any chip, all input queues are empty
 pub no_input : (s : State) (n : ℕ) → length s.inputs ≡ 7 * (s.setup.machine.width * s.setup.machine.height) → s.setup.machine.width * s.setup.machine.height ≤ n →
@@ -70,16 +48,13 @@ no_core cores n all clear p d within = get_or_from_slice_get cores p [] d (clear
 
 -- ---- a hand's next output
 
-some_same : {X : Type 0} {a b : X} → Some a ≡ Some b → a ≡ b
-some_same e = cc
-
 pub next_some : (s : State) (c : Chip) (h : Hand) (r : Option Out) → IsInside s.setup.machine c → slice_get s.hands (index_of s.setup.machine c) ≡ Some (Some h) →
     r ≡ slice_get h.outs 0 → IfSome r (λ out. IsWaiting s (InHand c out))
 next_some s c h (Some out) inside at is = (inside, subst (IsNext out) (sym at) (by_list h.outs refl is))
   where
     by_list : (l : List Out) → h.outs ≡ l → Some out ≡ slice_get l 0 → (rest : List Out) × (h.outs ≡ out ∷ rest)
     by_list [] e none = cc
-    by_list (o ∷ os) e first = (os, e ∙ ap (λ p. p ∷ os) (sym (some_same first)))
+    by_list (o ∷ os) e first = (os, e ∙ ap (λ p. p ∷ os) (sym (same_Some _ _ first)))
 next_some s c h None inside at is = tt
 
 pub next_none : (s : State) (c : Chip) (h : Hand) (r : Option Out) → IsMesh s → slice_get s.hands (index_of s.setup.machine c) ≡ Some (Some h) →

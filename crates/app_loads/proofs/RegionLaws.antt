@@ -49,11 +49,11 @@ module _ (claim : Claim) (before after : Region) (some : 0 < claim.size) (size :
   none_by_fixed (Ok None) place is none = λ m taken beside. refused_from_fixed m taken claim (free_of before) place is beside some none.0
   none_by_fixed (Err e) place is none = tt
 
+pub one_free : (s t : ℕ) (hs gs : List Hole) → hs ≡ gs → s ≡ t → (let a : Free = record { size = s; holes = hs } in let b : Free = record { size = t; holes = gs } in a ≡ b)
+one_free s t hs gs p q = cc
+
 -- the same of a region with other room for holes
 module _ (claim : Claim) (before other : Region) (same : (other.holes ≡ before.holes) × (other.size ≡ before.size)) where
-  one_free : (s t : ℕ) (hs gs : List Hole) → hs ≡ gs → s ≡ t → (let a : Free = record { size = s; holes = hs } in let b : Free = record { size = t; holes = gs } in a ≡ b)
-  one_free s t hs gs p q = cc
-
   pub same_free : free_of other ≡ free_of before
   same_free = one_free other.size before.size other.holes before.holes same.0 same.1
 

@@ -3,14 +3,14 @@ use Rattle.std.proofs.Common.{◌≡◌, ℕ, zero, suc, ◌+◌, ◌-◌, ◌<�
 use Rattle.std.specs.Int.Bits.{and_zero_r}
 use Rattle.std.specs.Option.{option_map_or}
 use Rattle.std.specs.List.{slice_get, All, Contains}
-use Rattle.std.proofs.lemmas.Bool.{cases_Bool, eqb-true, eq-eqb, and_parts, false≢true, ltb-true}
-use Rattle.std.proofs.lemmas.Bool.Decides.{nat_tests}
+use Rattle.std.proofs.lemmas.Bool.{cases_Bool, eqb-true, eq-eqb, and_parts, false≢true, ltb-true, leb-true}
 use Rattle.std.proofs.lemmas.List.Elements.{All-contains}
 use Rattle.std.proofs.lemmas.List.Sorted.{IsPermutation-sym, Contains-permutation}
-use Rattle.std.proofs.lemmas.Option.{slice_get-get_or}
+use Rattle.std.proofs.lemmas.Option.{slice_get-get_or, same_Some}
+use Rattle.mesh_core.proofs.Moves.{chip_of-index_of}
 use Rattle.list_laws.proofs.Counts.{count_by-cons}
 use Rattle.list_laws.proofs.Members.{Among, Contains-at, Contains-none, Contains-first, Contains-later, Contains-cases, Contains-map, Contains-unmap, among_contains, contains_among}
-use Rattle.list_laws.proofs.Places.{All-each, AllZip-at_first, slice_get-mapped}
+use Rattle.list_laws.proofs.Places.{All-each, AllZip-at_first, slice_get-mapped, unmapped}
 use Rattle.spin_base.specs.declared.blocks.Block.{Block}
 use Rattle.spin_base.specs.declared.blocks.Entry.{Entry}
 use Rattle.spin_base.specs.declared.chips.Chip.{Chip}
@@ -43,8 +43,8 @@ use Rattle.app_loads.specs.Host.{all_nets, all_ranges, nets_of}
 use Rattle.app_loads.specs.Regions.{has_place, is_taken, rows_region}
 use Rattle.app_loads.proofs.AppNets.{facts_of, member_at, spot_inside}
 use Rattle.app_loads.proofs.ClaimCases.{among_flat, flat_among, chip_claim}
-use Rattle.app_loads.proofs.Serving.{by_taken, unmapped}
-use Rattle.app_loads.proofs.Settling.{chip_back, has_chip-true}
+use Rattle.app_loads.proofs.Serving.{by_taken}
+use Rattle.app_loads.proofs.Settling.{has_chip-true}
 
 -- ---- lookup in a table where all that match agree
 
@@ -101,10 +101,7 @@ in_parts : (range : Range) (region k : ℕ) → has_place region k range ≡ tru
 in_parts range region k e =
     let parts = and_parts (range.region == region) (in_range range.place range.size k) e in
     let inside = and_parts (leb range.place k) (ltb k (range.place + range.size)) parts.1 in
-    (eqb-true range.region region parts.0, le_of range.place k inside.0, ltb-true k (range.place + range.size) inside.1)
-  where
-    le_of : (a b : ℕ) → leb a b ≡ true → a ≤ b
-    le_of a b e' = grind (arith, nat_tests)
+    (eqb-true range.region region parts.0, leb-true range.place k inside.0, ltb-true k (range.place + range.size) inside.1)
 
 module _ (m : Description) (tables : List (List Entry)) (apps : List LoadedApp) (loaded : All (IsLoadedOn m) apps) (disjoint : HaveDisjointBlocks (all_nets apps)) (rows : HaveRows m tables apps) where
   -- the net of an application
@@ -165,7 +162,7 @@ module _ (m : Description) (tables : List (List Entry)) (apps : List LoadedApp) 
           )
       | inr free ↦ (
           let is_unused = rows.others c k inside (let l = rows.long c inside in let b = has'.1 in omega (arith, l, b)) free in
-          let same : unused ≡ e = some_same (sym is_unused ∙ at) in
+          let same : unused ≡ e = same_Some _ _ (sym is_unused ∙ at) in
           absurd (false≢true (sym (no_match key) ∙ (ap (λ (z : Entry). matches z key) same ∙ hit)))
           )
     ]
@@ -175,9 +172,6 @@ module _ (m : Description) (tables : List (List Entry)) (apps : List LoadedApp) 
 
         at : slice_get T k ≡ Some e
         at = member_at T e has'
-
-        some_same : {A : Type 0} {a b : A} → Some a ≡ Some b → a ≡ b
-        some_same e' = cc
 
         no_match : (n : ℕ) → matches unused n ≡ false
         no_match n = ap (λ z. z == 4294967295) (and_zero_r n)
@@ -192,7 +186,7 @@ module _ (m : Description) (tables : List (List Entry)) (apps : List LoadedApp) 
         let net_is = f.is in
         let on_net : has_chip m c f.net ≡ true = has_chip-true m c f.net (subst (λ (n : NetPlan). HasChip m n c) (sym net_is) on) in
         let i : ℕ = index_of m c in
-        let back = chip_back m c inside in
+        let back = chip_of-index_of m c inside in
         let counted : 0 < count_by (has_chip m (chip_of m i)) app.plan.nets =
         subst (λ (d : Chip). 0 < count_by (has_chip m d) app.plan.nets) (sym back) (some_counted (has_chip m c) app.plan.nets f.net (contains_among f.net app.plan.nets (Contains-at app.plan.nets own.in_app.0 f.net f.at_net)) on_net) in
         let claimed = chip_claim m app.plan load.plan i (index_below m c inside) counted in

@@ -1,18 +1,14 @@
 -- Room made in regions for ranges that are to be given back.
-use Rattle.std.proofs.Common.{◌≡◌, ◌≢◌, ℕ, ◌+◌, ◌<◌, ◌≤◌, List, [], ◌∷◌, ◌++◌, take, get_or, length, sym, ap, ◌∙◌, subst, inl, inr, arith, Some}
+use Rattle.std.proofs.Common.{◌≡◌, ◌≢◌, ℕ, ◌+◌, ◌<◌, ◌≤◌, List, [], ◌∷◌, ◌++◌, take, get_or, length, sym, ap, ◌∙◌, inl, inr, arith, Some}
 use Rattle.std.specs.List.{slice_get, slice_set, All}
 use Rattle.std.proofs.lemmas.Option.{slice_get-get_or}
+use Rattle.std.proofs.lemmas.List.{map-set}
 use Rattle.list_laws.proofs.Places.{slice_get-mapped, set-slice_get, take_more_at}
-use Rattle.range_store.specs.declared.holes.Hole.{Hole}
 use Rattle.range_store.specs.Views.{Region}
 use Rattle.app_loads.specs.declared.loaded.Range.{Range}
-use Rattle.app_loads.specs.Host.{Free}
 use Rattle.app_loads.specs.Taking.{free_of, frees, HaveRoom}
-use Rattle.app_loads.proofs.Serving.{counted_push, map_set, more_here, none_elsewhere, of_region, set_cases}
-use Rattle.app_loads.proofs.Unsent.{all_taken}
-
-one_free : (s t : ℕ) (hs gs : List Hole) → hs ≡ gs → s ≡ t → (let a : Free = record { size = s; holes = hs } in let b : Free = record { size = t; holes = gs } in a ≡ b)
-one_free s t hs gs p q = cc
+use Rattle.app_loads.proofs.Serving.{counted_push, more_here, none_elsewhere, of_region, set_cases}
+use Rattle.app_loads.proofs.RegionLaws.{one_free}
 
 module _ (ranges : List Range) (i : ℕ) (d : Range) (below : i < length ranges) where
   abbrev range : Range
@@ -47,7 +43,7 @@ module _ (ranges : List Range) (i : ℕ) (d : Range) (below : i < length ranges)
 
     pub frees_still : frees (slice_set regions range.region after) ≡ frees regions
     frees_still =
-        map_set free_of regions range.region after
+        map-set free_of regions range.region after
         ∙ (ap (slice_set (frees regions) range.region) (one_free after.size before.size after.holes before.holes same.0 same.1)
         ∙ set-slice_get (frees regions) range.region (free_of before) (slice_get-mapped free_of regions range.region before at_place))
 
@@ -59,9 +55,3 @@ module _ (ranges : List Range) (i : ℕ) (d : Range) (below : i < length ranges)
           omega (arith, spare, number, enough)
       | inr other ↦ let was = room k region other.1 in let count = elsewhere k other.0 in omega (arith, was, count)
     ]
-
-pub room_for_none : (regions : List Region) → HaveRoom [] regions
-room_for_none regions k region at = omega arith
-
-pub room_for_all : (ranges : List Range) (i : ℕ) (regions : List Region) → length ranges ≤ i → HaveRoom (take i ranges) regions → HaveRoom ranges regions
-room_for_all ranges i regions end = subst (λ l. HaveRoom l regions) (all_taken ranges i end)

@@ -3,12 +3,13 @@ use Rattle.std.proofs.Common.{◌≡◌, ◌≢◌, ℕ, zero, suc, ◌+◌, ◌
 use Rattle.std.specs.List.{list_any, slice_get, All, AllPairs, flat_map, range_with_len, sum_by}
 use Rattle.std.specs.List.Sorted.{IsPermutation}
 use Rattle.std.specs.Option.{option_map_or}
-use Rattle.std.proofs.lemmas.Bool.{cases_Bool, cases_eq, cases_lt, eq-eqb}
+use Rattle.std.proofs.lemmas.Bool.{cases_Bool, cases_eq, cases_lt, eq-eqb, ne_eqb}
 use Rattle.std.proofs.lemmas.Grind.{flat_map-append}
 use Rattle.std.proofs.lemmas.List.Elements.{All-nil, All-cons, All-head, All-tail, All-append}
 use Rattle.std.proofs.lemmas.List.Sorted.{All-permutation, sum_by-IsPermutation}
 use Rattle.std.proofs.lemmas.List.Sums.{sum_by-cons}
 use Rattle.std.proofs.lemmas.Option.{slice_get_within, get_or_from_slice_get}
+use Rattle.spin_base.proofs.Equality.{chip_eq_true}
 use Rattle.list_laws.proofs.Counts.{count_by-append, count_by-cons}
 use Rattle.list_laws.proofs.Pairs.{AllPairs-head, AllPairs-tail}
 use Rattle.list_laws.proofs.Places.{All-at, slice_get_there}
@@ -21,7 +22,7 @@ use Rattle.machine_desc.specs.Live.{index_of, chip_of, IsInside}
 use Rattle.machine_desc.specs.RoutingTree.{end_of}
 use Rattle.machine_desc.proofs.Far.{far_inside, index_below, same_index, live_ends, live_inside}
 use Rattle.machine_desc.proofs.Live.{index_of-chip_of, chip_of-inside}
-use Rattle.machine_desc.proofs.Same.{chip_eq-from_same, same_chip}
+use Rattle.machine_desc.proofs.Same.{chip_eq-from_same}
 use Rattle.app_loads.specs.declared.loaded.Claim.{Claim}
 use Rattle.app_loads.specs.declared.plans.AppNet.{AppNet}
 use Rattle.app_loads.specs.Regions.{chip_count}
@@ -30,9 +31,6 @@ use Rattle.app_loads.specs.Counting.{HasTree, IsRunEnd, place_of, end_places, tr
 
 abbrev one_if : Bool → ℕ
 one_if b = if b then 1 else 0
-
-not_equal : (m n : ℕ) → m ≢ n → (m == n) ≡ false
-not_equal m n differ = grind arith
 
 -- ---- counts in parts of a list
 
@@ -112,16 +110,7 @@ module _ (m : Description) (chips : List ℕ) where
     pub is : claims ≡ start ++ flat_map (run_claim m chips) (range_with_len 0 next)
 
   none_there : (i : ℕ) → ((k x : ℕ) → slice_get chips k ≡ Some x → x ≢ i) → run_claim m chips i ≡ []
-  none_there i other = ap (entries_claim m i) (count_run (λ k. k == i) chips 0 0 (omega arith) (omega arith) (λ k x less e. absurd (omega (arith, less))) (λ k x low less e. absurd (omega (arith, less))) (λ k x low e. not_equal x i (other k x e)))
-
-  pub no_runs : (start claims : List Claim) → claims ≡ start → HaveRuns 0 start claims
-  no_runs start claims is = record {
-    next = 0;
-    within = omega arith;
-    before = λ k x less e. absurd (omega (arith, less));
-    from = λ k x low e. omega arith;
-    is = is ∙ sym (append-nil start);
-  }
+  none_there i other = ap (entries_claim m i) (count_run (λ k. k == i) chips 0 0 (omega arith) (omega arith) (λ k x less e. absurd (omega (arith, less))) (λ k x low less e. absurd (omega (arith, less))) (λ k x low e. ne_eqb x i (other k x e)))
 
   module _ (sorted : AllPairs (λ a b. a ≤ b) chips) (inside : All (λ i. i < chip_count m) chips) where
     in_order : (j k x y : ℕ) → j < k → slice_get chips j ≡ Some x → slice_get chips k ≡ Some y → x ≤ y
@@ -172,9 +161,9 @@ module _ (m : Description) (chips : List ℕ) where
 
         counted : count_by (λ k. k == c) chips ≡ end - at
         counted = count_run (λ k. k == c) chips at end (omega (arith, after_at)) run.within
-            (λ k x less e. let w = so_far.before k x less e in let v = so_far.from at c (omega arith) here in not_equal x c (λ same. absurd (omega (arith, w, v, same))))
+            (λ k x less e. let w = so_far.before k x less e in let v = so_far.from at c (omega arith) here in ne_eqb x c (λ same. absurd (omega (arith, w, v, same))))
             (λ k x low high e. eq-eqb x c (run.same k x c low high e here))
-            (λ k x low e. let w = beyond k x low e in not_equal x c (λ same. absurd (omega (arith, w, same))))
+            (λ k x low e. let w = beyond k x low e in ne_eqb x c (λ same. absurd (omega (arith, w, same))))
 
         -- no chip between
         apart : (i : ℕ) → so_far.next ≤ i → i < c → (k x : ℕ) → slice_get chips k ≡ Some x → x ≢ i
@@ -208,17 +197,14 @@ one_case m i c d is below inside = elim (cases_eq (index_of m d) i) [
   | inl same ↦
       let equal : c ≡ d = is ∙ same_index m (chip_of m i) d (chip_of-inside m i below) inside (index_of-chip_of m i ∙ sym same) in
       eq-eqb (index_of m d) i same ∙ sym (chip_eq-from_same c d equal)
-  | inr other ↦ not_equal (index_of m d) i other ∙ sym (not_chip (λ equal. other (ap (index_of m) (sym equal ∙ is) ∙ index_of-chip_of m i)))
+  | inr other ↦ ne_eqb (index_of m d) i other ∙ sym (not_chip (λ equal. other (ap (index_of m) (sym equal ∙ is) ∙ index_of-chip_of m i)))
 ]
   where
     not_chip : (c ≡ d → ⊥) → chip_eq c d ≡ false
     not_chip differ = elim (cases_Bool (chip_eq c d)) [
       | inr none ↦ none
-      | inl yes' ↦ absurd (differ (chip_eq-to_same c d yes'))
+      | inl yes' ↦ absurd (differ (chip_eq_true c d yes'))
     ]
-      where
-        chip_eq-to_same : (a b : Chip) → chip_eq a b ≡ true → a ≡ b
-        chip_eq-to_same a b e = same_chip a b (grind arith) (grind arith)
 
 pub edges_in : (m : Description) (net : AppNet) → HasTree m net → All (λ (e : Edge). IsInside m e.chip) net.tree.edges
 edges_in m net has k d less = live_inside m (get_or net.tree.edges k d).chip (live_ends m (get_or net.tree.edges k d).chip (get_or net.tree.edges k d).dir (has.tree.edges_live k d less)).2
@@ -266,10 +252,7 @@ module _ (m : Description) (i : ℕ) (below : i < m.width * m.height) where
             where
               by_end : (o : Option Chip) → end_of m f ≡ o → option_map_or (chip_eq c) o false ≡ true → o ≡ Some c
               by_end None is e' = cc
-              by_end (Some d) is e' = ap Some (sym (eq_chip c d e'))
-                where
-                  eq_chip : (a b : Chip) → chip_eq a b ≡ true → a ≡ b
-                  eq_chip a b e'' = same_chip a b (grind arith) (grind arith)
+              by_end (Some d) is e' = ap Some (sym (chip_eq_true c d e'))
 
           none_of : (fs : List Edge) → All (λ f. end_of m e ≢ end_of m f) fs → list_any hits fs ≡ false
           none_of [] all = refl
@@ -305,9 +288,6 @@ module _ (m : Description) (i : ℕ) (below : i < m.width * m.height) where
       none_into : chip_eq c net.tree.root ≡ true → list_any hits net.tree.edges ≡ false
       none_into at = none_of net.tree.edges has.tree.none_into_root
         where
-          eq_chip : (a b : Chip) → chip_eq a b ≡ true → a ≡ b
-          eq_chip a b e'' = same_chip a b (grind arith) (grind arith)
-
           none_of : (fs : List Edge) → All (λ f. end_of m f ≢ Some net.tree.root) fs → list_any hits fs ≡ false
           none_of [] all = refl
           none_of (f ∷ fs) all = elim (cases_Bool (hits f)) [
@@ -317,7 +297,7 @@ module _ (m : Description) (i : ℕ) (below : i < m.width * m.height) where
             where
               by_end : (o : Option Chip) → option_map_or (chip_eq c) o false ≡ true → o ≡ Some net.tree.root
               by_end None e' = cc
-              by_end (Some d) e' = ap Some (sym (eq_chip c d e') ∙ eq_chip c net.tree.root at)
+              by_end (Some d) e' = ap Some (sym (chip_eq_true c d e') ∙ chip_eq_true c net.tree.root at)
 
       by_root : (b : Bool) → chip_eq c net.tree.root ≡ b → count_by is_i (flat_map (end_places m) net.tree.edges) ≡ one_if (list_any hits net.tree.edges) →
           count_by is_i (tree_places m net) ≡ one_if (index_of m net.tree.root == i) + count_by is_i (flat_map (end_places m) net.tree.edges) →

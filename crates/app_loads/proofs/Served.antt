@@ -1,18 +1,18 @@
 -- What the claims of a plan ask for can be served, and what follows where they are.
-use Rattle.std.proofs.Common.{◌≡◌, ℕ, ◌+◌, ◌%◌, ◌^◌, ◌≤◌, List, ◌++◌, take, length, sym, ap, ◌∙◌, subst, arith, Some}
+use Rattle.std.proofs.Common.{◌≡◌, ◌+◌, ◌%◌, ◌^◌, ◌≤◌, List, length, sym, ap, ◌∙◌, subst, arith, Some}
 use Rattle.std.specs.List.{slice_get, All, Contains}
 use Rattle.std.proofs.Math.Pow.{pow_mono}
 use Rattle.std.proofs.lemmas.Nat.{pow_pos}
 use Rattle.std.proofs.lemmas.List.{length-map}
 use Rattle.std.proofs.lemmas.Option.{slice_get_within, slice_get-get_or}
 use Rattle.list_laws.proofs.Members.{Contains-at}
-use Rattle.list_laws.proofs.Places.{All-each, slice_get_there}
+use Rattle.list_laws.proofs.Places.{All-each}
 use Rattle.machine_desc.specs.Description.{Description}
 use Rattle.range_store.specs.Views.{Region}
 use Rattle.app_loads.specs.declared.loaded.Claim.{Claim}
 use Rattle.app_loads.specs.declared.loaded.Range.{Range}
 use Rattle.app_loads.specs.declared.plans.AppPlan.{AppPlan}
-use Rattle.app_loads.specs.Claims.{AreServed, IsLeastOpen, claims_of}
+use Rattle.app_loads.specs.Claims.{AreServed, claims_of}
 use Rattle.app_loads.specs.Joining.{AreKeyed}
 use Rattle.app_loads.specs.Plans.{IsPlan}
 use Rattle.app_loads.specs.Regions.{chip_count, region_size}
@@ -29,12 +29,6 @@ can_serve m plan regions claims valid own is = (m, own, subst (All (IsFair m (le
     fair claim has = subst (λ n. IsFair m n claim) (sym long) (facts m plan valid claim has).fair
 
 module _ (m : Description) (plan : AppPlan) (valid : IsPlan m plan) (taken ranges : List Range) (served : AreServed m taken (claims_of m plan) ranges) where
-  -- a claim, and what it got
-  pub got_at : (i : ℕ) (claim : Claim) → slice_get (claims_of m plan) i ≡ Some claim → (range : Range) × (slice_get ranges i ≡ Some range) × IsLeastOpen m (taken ++ take i ranges) claim range
-  got_at i claim is =
-      let range = slice_get_there ranges i (let w = slice_get_within (claims_of m plan) i claim is in let l = served.all in omega (arith, w, l)) in
-      (range.0, range.1, served.first.each i claim range.0 is range.1)
-
   pub keyed_from : AreKeyed (claims_of m plan) ranges (length plan.nets)
   keyed_from = record {
     each = λ i net claim range is its got.

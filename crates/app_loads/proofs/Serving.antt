@@ -1,15 +1,16 @@
 -- Ranges taken one after the other for claims, and given back.
-use Rattle.std.proofs.Common.{◌≡◌, ◌≢◌, ℕ, ◌+◌, ◌%◌, ◌<◌, ◌≤◌, zero, suc, Bool, true, false, not, ◌&&◌, ◌||◌, ◌⊎◌, ◌==◌, leb, ltb, List, [], ◌∷◌, ◌++◌, take, drop, get_or, length, map, refl, sym, ap, ◌∙◌, subst, inl, inr, arith, Option, None, Some, IfSome, append_assoc, append-nil, count_by, replicate, if◌then◌else◌}
+use Rattle.std.proofs.Common.{◌≡◌, ◌≢◌, ℕ, ◌+◌, ◌%◌, ◌<◌, ◌≤◌, zero, suc, Bool, true, false, not, ◌&&◌, ◌||◌, ◌⊎◌, ◌==◌, ltb, List, [], ◌∷◌, ◌++◌, take, drop, get_or, length, refl, sym, ap, ◌∙◌, subst, inl, inr, arith, Option, None, Some, IfSome, append_assoc, append-nil, count_by, replicate, if◌then◌else◌}
 use Rattle.std.specs.List.{slice_get, slice_set, All, AllPairs, Contains}
-use Rattle.std.proofs.lemmas.Bool.{cases_Bool, cases_eq, eqb-true, eq-eqb, and_parts, and_from, ltb-true, lt-ltb}
-use Rattle.std.proofs.lemmas.List.{length-set, length_push}
-use Rattle.std.proofs.lemmas.List.Elements.{All-nil, All-cons, All-head, All-tail, All-append}
+use Rattle.std.proofs.lemmas.Bool.{cases_Bool, cases_eq, eqb-true, eq-eqb, and_parts, and_from, lt-ltb, ne_eqb, and_right, or_right}
+use Rattle.std.proofs.lemmas.List.{length-set, length_push, take_at, take-append-le, map-set, drop_more}
+use Rattle.std.proofs.lemmas.List.Elements.{All-nil, All-cons, All-head, All-tail, All-append, All-contains}
 use Rattle.std.proofs.lemmas.List.Folds.{list_any-append}
-use Rattle.std.proofs.lemmas.Option.{slice_get_within, slice_get-get_or}
+use Rattle.std.proofs.lemmas.Option.{slice_get_within, slice_get-get_or, same_Some, none-some}
+use Rattle.key_alloc.proofs.Ranges.{in_facts}
 use Rattle.list_laws.proofs.Counts.{count_by-append, count_by-cons}
 use Rattle.list_laws.proofs.Pairs.{AllPairs-left, AllPairs-right, AllPairs-across, AllPairs-append, AllPairs-head, AllPairs-tail}
-use Rattle.list_laws.proofs.Places.{All-each, slice_get-mapped, slice_get-push_cases, slice_get-set_same, slice_get-set_other}
-use Rattle.list_laws.proofs.Members.{Contains-first, any_among, among_any, contains_among, among_contains, Among}
+use Rattle.list_laws.proofs.Places.{All-each, slice_get-mapped, slice_get-push_cases, slice_get-set_same, slice_get-set_other, set-slice_get}
+use Rattle.list_laws.proofs.Members.{any_among, among_any, contains_among, among_contains, among_right, among_either}
 use Rattle.machine_desc.specs.Description.{Description}
 use Rattle.range_store.specs.Views.{Region}
 use Rattle.range_store.specs.Regions.{AreRuns, is_free, in_range}
@@ -21,17 +22,10 @@ use Rattle.app_loads.specs.Host.{Free}
 use Rattle.app_loads.specs.Regions.{AreFreeBeside, IsFreeBeside, AreApart, has_place, is_taken, region_size, IsWithin}
 use Rattle.app_loads.specs.Claims.{IsLeastOpen, IsOpen, IsRefusalDue}
 use Rattle.app_loads.specs.Taking.{free_of, frees, range_at, Serves, Refuses, IsFair, HaveRoom, CanServe, HaveServed, AreTaken, AreTakenAlways, AreServedAlways, IsDueAlways}
+use Rattle.app_loads.proofs.Others.{or-false, pairs_with_last}
 use Rattle.range_store.proofs.HolePlaces.{clash}
 
 -- ---- lists
-
-set_long : {X : Type 0} (xs : List X) (i : ℕ) (y : X) → length (slice_set xs i y) ≡ length xs
-set_long xs i y = length-set xs i y
-
-pub map_set : {X Y : Type 0} (f : X → Y) (xs : List X) (i : ℕ) (y : X) → map f (slice_set xs i y) ≡ slice_set (map f xs) i (f y)
-map_set f [] i y = refl
-map_set f (x ∷ xs) zero y = refl
-map_set f (x ∷ xs) (suc i) y = ap (λ l. f x ∷ l) (map_set f xs i y)
 
 pub pushed_long : {X : Type 0} (xs ys : List X) (y : X) → ys ≡ xs ++ y ∷ [] → length ys ≡ length xs + 1
 pushed_long xs ys y is = let one = length_push xs y in let all = ap length is in omega (arith, one, all)
@@ -40,26 +34,14 @@ pushed_long xs ys y is = let one = length_push xs y in let all = ap length is in
 pub set_cases : {X : Type 0} (xs : List X) (i j : ℕ) (x y z : X) → slice_get xs i ≡ Some x → slice_get (slice_set xs i y) j ≡ Some z →
     ((j ≡ i) × (z ≡ y)) ⊎ ((j ≢ i) × (slice_get xs j ≡ Some z))
 set_cases xs i j x y z at e = elim (cases_eq j i) [
-  | inl same ↦ inl (same, let w : Some z ≡ Some y = sym e ∙ (ap (slice_get (slice_set xs i y)) same ∙ slice_get-set_same xs i x y at) in some_same w)
+  | inl same ↦ inl (same, let w : Some z ≡ Some y = sym e ∙ (ap (slice_get (slice_set xs i y)) same ∙ slice_get-set_same xs i x y at) in same_Some _ _ w)
   | inr other ↦ inr (other, sym (slice_get-set_other xs i j y other) ∙ e)
 ]
-  where
-    some_same : {A : Type 0} {a b : A} → Some a ≡ Some b → a ≡ b
-    some_same e = cc
-
--- an item of mapped list
-pub unmapped : {X Y : Type 0} (f : X → Y) (xs : List X) (i : ℕ) (y : Y) → slice_get (map f xs) i ≡ Some y → (x : X) × (slice_get xs i ≡ Some x) × (f x ≡ y)
-unmapped f [] i y e = cc
-unmapped f (x ∷ xs) zero y e = (x, refl, let w : f x ≡ y = cc in w)
-unmapped f (x ∷ xs) (suc i) y e = unmapped f xs i y e
 
 -- ---- how many ranges are of each region
 
 abbrev one_if : Bool → ℕ
 one_if b = if b then 1 else 0
-
-not_equal : (a b : ℕ) → a ≢ b → (a == b) ≡ false
-not_equal a b differ = grind arith
 
 -- how many of the ranges are of a region
 abbrev pub of_region : ℕ → List Range → ℕ
@@ -68,10 +50,7 @@ of_region k ranges = count_by (λ (range : Range). range.region == k) ranges
 -- so many counts of no range
 pub none_counted : (n k c : ℕ) → slice_get (replicate n 0) k ≡ Some c → c ≡ 0
 none_counted zero k c e = cc
-none_counted (suc n) zero c e = some_same (sym e)
-  where
-    some_same : {A : Type 0} {a b : A} → Some a ≡ Some b → a ≡ b
-    some_same e' = cc
+none_counted (suc n) zero c e = same_Some _ _ (sym e)
 none_counted (suc n) (suc k) c e = none_counted n k c e
 
 module _ (ranges : List Range) (range : Range) where
@@ -85,7 +64,7 @@ module _ (ranges : List Range) (range : Range) where
   more_here = let more = one_more range.region in let one : one_if (range.region == range.region) ≡ 1 = ap one_if (eq-eqb range.region range.region refl) in omega (arith, more, one)
 
   pub none_elsewhere : (k : ℕ) → k ≢ range.region → of_region k (ranges ++ range ∷ []) ≡ of_region k ranges
-  none_elsewhere k other = let more = one_more k in let none : one_if (range.region == k) ≡ 0 = ap one_if (not_equal range.region k (λ e. other (sym e))) in omega (arith, more, none)
+  none_elsewhere k other = let more = one_more k in let none : one_if (range.region == k) ≡ 0 = ap one_if (ne_eqb range.region k (λ e. other (sym e))) in omega (arith, more, none)
 
   -- the counts of all regions, once the range is counted
   pub counted_push : (counts : List ℕ) (count next : ℕ) → slice_get counts range.region ≡ Some count → ((k n : ℕ) → slice_get counts k ≡ Some n → n ≡ of_region k ranges) → next ≡ count + 1 →
@@ -104,11 +83,7 @@ module _ (ranges : List Range) (range : Range) where
 taken_of_other : (range : Range) (taken : List Range) (region k : ℕ) → range.region ≢ region → is_taken (taken ++ range ∷ []) region k ≡ is_taken taken region k
 taken_of_other range taken region k other =
     list_any-append (has_place region k) taken (range ∷ [])
-    ∙ (ap (λ b. is_taken taken region k || ((b && in_range range.place range.size k) || false)) (not_equal range.region region other) ∙ or_none (is_taken taken region k))
-  where
-    or_none : (b : Bool) → (b || (false || false)) ≡ b
-    or_none true = refl
-    or_none false = refl
+    ∙ (ap (λ b. is_taken taken region k || ((b && in_range range.place range.size k) || false)) (ne_eqb range.region region other) ∙ or-false (is_taken taken region k))
 
 -- a place of one of the ranges
 pub taken_by : (ranges : List Range) (region k : ℕ) (range : Range) → Contains ranges range → has_place region k range ≡ true → is_taken ranges region k ≡ true
@@ -123,9 +98,9 @@ free_beside_more : (m : Description) (taken : List Range) (old : List Region) (c
     AreFreeBeside m taken (frees old) → slice_get old claim.region ≡ Some before → IsFreeBeside m (taken ++ range ∷ []) claim.region (free_of after) →
     AreFreeBeside m (taken ++ range ∷ []) (frees (slice_set old claim.region after))
 free_beside_more m taken old claim before after range its beside at here = record {
-  all = ap length (map_set free_of old claim.region after) ∙ (set_long (frees old) claim.region (free_of after) ∙ beside.all);
+  all = ap length (map-set free_of old claim.region after) ∙ (length-set (frees old) claim.region (free_of after) ∙ beside.all);
   each = λ region f is.
-      elim (set_cases (frees old) claim.region region (free_of before) (free_of after) f (slice_get-mapped free_of old claim.region before at) (sym (ap (λ l. slice_get l region) (map_set free_of old claim.region after)) ∙ is)) [
+      elim (set_cases (frees old) claim.region region (free_of before) (free_of after) f (slice_get-mapped free_of old claim.region before at) (sym (ap (λ l. slice_get l region) (map-set free_of old claim.region after)) ∙ is)) [
         | inl mine ↦ subst (λ (g : Free). IsFreeBeside m (taken ++ range ∷ []) region g) (sym mine.1) (subst (λ r. IsFreeBeside m (taken ++ range ∷ []) r (free_of after)) (sym mine.0) here)
         | inr other ↦
             let was = beside.each region f other.1 in
@@ -144,14 +119,6 @@ apart_from_open m taken claim place may other has region k in_other in_mine =
     let region_is : claim.region ≡ region = eqb-true claim.region region parts.0 in
     clash (taken_by taken claim.region k other has (subst (λ r. has_place r k other ≡ true) (sym region_is) in_other)) (may.untaken k parts.1)
 
--- one item at the back, apart from all
-pairs_more : (taken : List Range) (range : Range) → AllPairs AreApart taken → ((other : Range) → Contains taken other → AreApart other range) → AllPairs AreApart (taken ++ range ∷ [])
-pairs_more taken range pairs apart =
-    AllPairs-append AreApart taken (range ∷ []) pairs (one range) (All-each (λ a. All (AreApart a) (range ∷ [])) taken (λ a has. All-cons (AreApart a) range [] (apart a has) (All-nil (AreApart a))))
-  where
-    one : (r : Range) → AllPairs AreApart (r ∷ [])
-    one r i j d before within = absurd (omega (arith, before, within))
-
 -- ---- one claim more is served
 
 module _ (claims : List Claim) (old mid : List Region) (ranges : List Range) (so_far : HaveServed claims old ranges mid)
@@ -159,15 +126,6 @@ module _ (claims : List Claim) (old mid : List Region) (ranges : List Range) (so
   -- what was taken
   beside_in : (m : Description) (taken : List Range) → AreFreeBeside m taken (frees mid) → IsFreeBeside m taken claim.region (free_of before)
   beside_in m taken free = free.each claim.region (free_of before) (slice_get-mapped free_of mid claim.region before at)
-
-  take_whole : (l : List Range) → take (length l) l ≡ l
-  take_whole [] = refl
-  take_whole (x ∷ xs) = ap (λ r. x ∷ r) (take_whole xs)
-
-  take_before : (l : List Range) (x : Range) (i : ℕ) → i ≤ length l → take i (l ++ x ∷ []) ≡ take i l
-  take_before l x zero le = refl
-  take_before [] x (suc i) le = absurd (omega (arith, le))
-  take_before (y ∷ ys) x (suc i) le = ap (λ r. y ∷ r) (take_before ys x i (omega (arith, le)))
 
   pub served_more : (after : Region) (place : ℕ) (new : List Region) → 0 < claim.size → new ≡ slice_set mid claim.region after → Serves claim before after place → of_region claim.region ranges + 1 ≤ after.spare →
       HaveServed claims old (ranges ++ range_at claim place ∷ []) new
@@ -181,10 +139,10 @@ module _ (claims : List Claim) (old mid : List Region) (ranges : List Range) (so
           each = λ i c' r' is_c is_r. elim (slice_get-push_cases ranges r r' i is_r) [
             | inl old_one ↦
                 let below : i < length ranges = old_one.0 in
-                subst (λ l. IsLeastOpen m (taken ++ l) c' r') (sym (take_before ranges r i (omega (arith, below)))) (was.each i c' r' is_c old_one.1)
+                subst (λ l. IsLeastOpen m (taken ++ l) c' r') (sym (take-append-le i ranges (r ∷ []) (omega (arith, below)))) (was.each i c' r' is_c old_one.1)
             | inr new_one ↦
-                let same_claim : claim ≡ c' = some_same (sym is ∙ (ap (slice_get claims) (sym new_one.0) ∙ is_c)) in
-                let list : take i (ranges ++ r ∷ []) ≡ ranges = ap (λ n. take n (ranges ++ r ∷ [])) new_one.0 ∙ (take_before ranges r (length ranges) (omega arith) ∙ take_whole ranges) in
+                let same_claim : claim ≡ c' = same_Some _ _ (sym is ∙ (ap (slice_get claims) (sym new_one.0) ∙ is_c)) in
+                let list : take i (ranges ++ r ∷ []) ≡ ranges = ap (λ n. take n (ranges ++ r ∷ [])) new_one.0 ∙ take_at ranges (r ∷ []) (length ranges) refl in
                 subst (λ l. IsLeastOpen m (taken ++ l) c' r') (sym list)
                 (subst (λ (c'' : Claim). IsLeastOpen m (taken ++ ranges) c'' r') same_claim (subst (λ (r'' : Range). IsLeastOpen m (taken ++ ranges) claim r'') new_one.1 now.0))
           ];
@@ -193,11 +151,11 @@ module _ (claims : List Claim) (old mid : List Region) (ranges : List Range) (so
         let t = so_far.taken m taken apart free in
         let now = serves m (taken ++ ranges) (beside_in m (taken ++ ranges) t.free) in
         let assoc : (taken ++ ranges) ++ r ∷ [] ≡ taken ++ (ranges ++ r ∷ []) = append_assoc taken ranges (r ∷ []) in
-        let long : length new ≡ length mid = ap length set ∙ set_long mid claim.region after in
+        let long : length new ≡ length mid = ap length set ∙ length-set mid claim.region after in
         record {
           within = All-append (IsWithin m (length new)) ranges (r ∷ []) (subst (λ n. All (IsWithin m n) ranges) (sym long) t.within)
               (All-cons (IsWithin m (length new)) r [] (record { there = subst (λ n. claim.region < n) (sym long) (slice_get_within mid claim.region before at); some = some; within = now.0.may.within }) (All-nil (IsWithin m (length new))));
-          apart = subst (AllPairs AreApart) assoc (pairs_more (taken ++ ranges) r t.apart (apart_from_open m (taken ++ ranges) claim place now.0.may));
+          apart = subst (AllPairs AreApart) assoc (pairs_with_last AreApart (taken ++ ranges) r t.apart (apart_from_open m (taken ++ ranges) claim place now.0.may));
           free = subst (λ l. AreFreeBeside m l (frees new)) assoc
               (subst (λ l. AreFreeBeside m ((taken ++ ranges) ++ r ∷ []) (frees l)) (sym set)
               (free_beside_more m (taken ++ ranges) mid claim before after r refl t.free at now.1));
@@ -213,14 +171,11 @@ module _ (claims : List Claim) (old mid : List Region) (ranges : List Range) (so
           let same = none_elsewhere ranges r i other.0 in
           omega (arith, was, same)
     ];
-    long = ap length set ∙ (set_long mid claim.region after ∙ so_far.long);
+    long = ap length set ∙ (length-set mid claim.region after ∙ so_far.long);
   }
     where
       r : Range
       r = range_at claim place
-
-      some_same : {A : Type 0} {a b : A} → Some a ≡ Some b → a ≡ b
-      some_same e = cc
 
   -- the claim is refused
   pub due_here : Refuses claim before → (m : Description) (taken : List Range) → AllPairs AreApart taken → AreFreeBeside m taken (frees old) → IsRefusalDue m taken claims claim.refusal
@@ -237,17 +192,12 @@ module _ (claims : List Claim) (old mid : List Region) (ranges : List Range) (so
   pub taken_still : (after : Region) (new : List Region) → new ≡ slice_set mid claim.region after → free_of after ≡ free_of before → AreTakenAlways old ranges new
   taken_still after new set same m taken apart free =
       let t = so_far.taken m taken apart free in
-      let long : length new ≡ length mid = ap length set ∙ set_long mid claim.region after in
+      let long : length new ≡ length mid = ap length set ∙ length-set mid claim.region after in
       record {
         within = subst (λ n. All (IsWithin m n) ranges) (sym long) t.within;
         apart = t.apart;
-        free = subst (λ l. AreFreeBeside m (taken ++ ranges) l) (sym (ap frees set ∙ (map_set free_of mid claim.region after ∙ (ap (slice_set (frees mid) claim.region) same ∙ set_back (frees mid) claim.region (free_of before) (slice_get-mapped free_of mid claim.region before at))))) t.free;
+        free = subst (λ l. AreFreeBeside m (taken ++ ranges) l) (sym (ap frees set ∙ (map-set free_of mid claim.region after ∙ (ap (slice_set (frees mid) claim.region) same ∙ set-slice_get (frees mid) claim.region (free_of before) (slice_get-mapped free_of mid claim.region before at))))) t.free;
       }
-    where
-      set_back : {X : Type 0} (xs : List X) (i : ℕ) (x : X) → slice_get xs i ≡ Some x → slice_set xs i x ≡ xs
-      set_back [] i x e = refl
-      set_back (y ∷ ys) zero x e = let w : y ≡ x = cc in ap (λ z. z ∷ ys) (sym w)
-      set_back (y ∷ ys) (suc i) x e = ap (λ l. y ∷ l) (set_back ys i x e)
 
   pub room_still : (after : Region) (new : List Region) → new ≡ slice_set mid claim.region after → ((n : ℕ) → n ≤ of_region claim.region ranges → n ≤ before.spare → n ≤ after.spare) → HaveRoom ranges new
   room_still after new set more i region is_region = elim (set_cases mid claim.region i before after region at (sym (ap (λ l. slice_get l i) set) ∙ is_region)) [
@@ -262,7 +212,7 @@ module _ (claims : List Claim) (old mid : List Region) (ranges : List Range) (so
 -- nothing is served yet
 pub none_served : (claims : List Claim) (regions : List Region) (ranges : List Range) → ranges ≡ [] → HaveServed claims regions ranges regions
 none_served claims regions ranges none = subst (λ l. HaveServed claims regions l regions) (sym none) (record {
-  served = λ m taken apart free. record { few = omega arith; each = λ i c r is_c is_r. absurd (nothing_at r is_r) };
+  served = λ m taken apart free. record { few = omega arith; each = λ i c r is_c is_r. absurd (none-some r is_r) };
   taken = λ m taken apart free. record {
     within = All-nil (IsWithin m (length regions));
     apart = subst (AllPairs AreApart) (sym (append-nil taken)) apart;
@@ -271,9 +221,6 @@ none_served claims regions ranges none = subst (λ l. HaveServed claims regions 
   room = λ i r is. omega arith;
   long = refl;
 })
-  where
-    nothing_at : (r : Range) → None ≡ Some r → ⊥
-    nothing_at r e = cc
 
 -- ---- one range is given back
 
@@ -288,25 +235,14 @@ module _ (m : Description) (others : List Range) (range : Range) (rest : List Ra
   give_within = let w = within_here.within in let s = beside_here.size in omega (arith, w, s)
 
   in_middle : Contains (others ++ range ∷ rest) range
-  in_middle = middle others
-    where
-      middle : (l : List Range) → Contains (l ++ range ∷ rest) range
-      middle [] = Contains-first range rest
-      middle (x ∷ xs) = later x (xs ++ range ∷ rest) (middle xs)
-        where
-          later : (x' : Range) (l' : List Range) → Contains l' range → Contains (x' ∷ l') range
-          later x' l' has = among_contains range (x' ∷ l') (inr (contains_among range l' has))
+  in_middle = among_contains range (others ++ range ∷ rest) (among_right range others (range ∷ rest) (inl refl))
 
   mine : (k : ℕ) → in_range range.place range.size k ≡ true → has_place range.region k range ≡ true
   mine k here = and_from (range.region == range.region) (in_range range.place range.size k) (eq-eqb range.region range.region refl) here
 
   pub give_taken : (k : ℕ) → in_range range.place range.size k ≡ true → is_free before.holes k ≡ false
   give_taken k here =
-      beside_here.free k ∙ (ap (λ b. ltb k before.size && not b) (taken_by (others ++ range ∷ rest) range.region k range in_middle (mine k here)) ∙ and_none (ltb k before.size))
-    where
-      and_none : (b : Bool) → (b && not true) ≡ false
-      and_none true = refl
-      and_none false = refl
+      beside_here.free k ∙ (ap (λ b. ltb k before.size && not b) (taken_by (others ++ range ∷ rest) range.region k range in_middle (mine k here)) ∙ and_right (ltb k before.size) (not true) refl)
 
   -- what is left is apart from it
   not_left : (k : ℕ) → in_range range.place range.size k ≡ true → is_taken (others ++ rest) range.region k ≡ false
@@ -323,25 +259,11 @@ module _ (m : Description) (others : List Range) (range : Range) (rest : List Ra
       after : All (AreApart range) rest
       after = AllPairs-head AreApart range rest (AllPairs-right AreApart others (range ∷ rest) taken.apart)
 
-      contains_all : {X : Type 0} (P : X → Type 0) (xs : List X) (x : X) → All P xs → Contains xs x → P x
-      contains_all P xs x all has = subst P has.2 (all has.0 x has.1)
-
       either_side : (other : Range) → Contains (others ++ rest) other → has_place range.region k other ≡ true → ⊥
-      either_side other has there = elim (sides other (contains_among other (others ++ rest) has)) [
-        | inl left ↦ (All-head (AreApart other) range rest (contains_all (λ a. All (AreApart a) (range ∷ rest)) others other across (among_contains other others left))) range.region k there (mine k here)
-        | inr right ↦ (contains_all (AreApart range) rest other after (among_contains other rest right)) range.region k (mine k here) there
+      either_side other has there = elim (among_either other others rest (contains_among other (others ++ rest) has)) [
+        | inl left ↦ (All-head (AreApart other) range rest (All-contains (λ a. All (AreApart a) (range ∷ rest)) others other across (among_contains other others left))) range.region k there (mine k here)
+        | inr right ↦ (All-contains (AreApart range) rest other after (among_contains other rest right)) range.region k (mine k here) there
       ]
-        where
-          sides : (o : Range) → Among o (others ++ rest) → Among o others ⊎ Among o rest
-          sides o a = split others a
-            where
-              split : (l : List Range) → Among o (l ++ rest) → Among o l ⊎ Among o rest
-              split [] a' = inr a'
-              split (x ∷ xs) (inl here') = inl (inl here')
-              split (x ∷ xs) (inr later) = elim (split xs later) [
-                | inl l' ↦ inl (inr l')
-                | inr r' ↦ inr r'
-              ]
 
   pub given_back : (after : Region) (new : List Region) → new ≡ slice_set old range.region after → after.size ≡ before.size → AreRuns 0 after.size after.holes →
       ((k : ℕ) → is_free after.holes k ≡ (is_free before.holes k || in_range range.place range.size k)) → AreTaken m others rest new
@@ -349,11 +271,11 @@ module _ (m : Description) (others : List Range) (range : Range) (rest : List Ra
     within = subst (λ n. All (IsWithin m n) rest) (sym long) (All-tail (IsWithin m (length old)) range rest taken.within);
     apart = AllPairs-append AreApart others rest (AllPairs-left AreApart others (range ∷ rest) taken.apart)
         (AllPairs-tail AreApart range rest (AllPairs-right AreApart others (range ∷ rest) taken.apart))
-        (All-each (λ a. All (AreApart a) rest) others (λ a has. All-tail (AreApart a) range rest (all_at (AllPairs-across AreApart others (range ∷ rest) taken.apart) a has)));
+        (All-each (λ a. All (AreApart a) rest) others (λ a has. All-tail (AreApart a) range rest (All-contains (λ z. All (AreApart z) (range ∷ rest)) others a (AllPairs-across AreApart others (range ∷ rest) taken.apart) has)));
     free = record {
-      all = ap length (ap frees set ∙ map_set free_of old range.region after) ∙ (set_long (frees old) range.region (free_of after) ∙ taken.free.all);
+      all = ap length (ap frees set ∙ map-set free_of old range.region after) ∙ (length-set (frees old) range.region (free_of after) ∙ taken.free.all);
       each = λ region f is.
-          elim (set_cases (frees old) range.region region (free_of before) (free_of after) f (slice_get-mapped free_of old range.region before at) (sym (ap (λ l. slice_get l region) (ap frees set ∙ map_set free_of old range.region after)) ∙ is)) [
+          elim (set_cases (frees old) range.region region (free_of before) (free_of after) f (slice_get-mapped free_of old range.region before at) (sym (ap (λ l. slice_get l region) (ap frees set ∙ map-set free_of old range.region after)) ∙ is)) [
             | inl here ↦ subst (λ (g : Free). IsFreeBeside m (others ++ rest) region g) (sym here.1) (subst (λ r. IsFreeBeside m (others ++ rest) r (free_of after)) (sym here.0) back)
             | inr other ↦
                 let was = taken.free.each region f other.1 in
@@ -367,10 +289,7 @@ module _ (m : Description) (others : List Range) (range : Range) (rest : List Ra
   }
     where
       long : length new ≡ length old
-      long = ap length set ∙ set_long old range.region after
-
-      all_at : All (λ a. All (AreApart a) (range ∷ rest)) others → (a : Range) → Contains others a → All (AreApart a) (range ∷ rest)
-      all_at all a has = subst (λ (z : Range). All (AreApart z) (range ∷ rest)) has.2 (all has.0 a has.1)
+      long = ap length set ∙ length-set old range.region after
 
       both : (region k : ℕ) → is_taken (others ++ range ∷ rest) region k ≡ (is_taken others region k || (has_place region k range || is_taken rest region k))
       both region k = list_any-append (has_place region k) others (range ∷ rest)
@@ -380,7 +299,7 @@ module _ (m : Description) (others : List Range) (range : Range) (rest : List Ra
 
       elsewhere : (region k : ℕ) → range.region ≢ region → is_taken (others ++ range ∷ rest) region k ≡ is_taken (others ++ rest) region k
       elsewhere region k other =
-          both region k ∙ (ap (λ b. is_taken others region k || ((b && in_range range.place range.size k) || is_taken rest region k)) (not_equal range.region region other) ∙ sym (left region k))
+          both region k ∙ (ap (λ b. is_taken others region k || ((b && in_range range.place range.size k) || is_taken rest region k)) (ne_eqb range.region region other) ∙ sym (left region k))
 
       back : IsFreeBeside m (others ++ rest) range.region (free_of after)
       back = record {
@@ -391,45 +310,22 @@ module _ (m : Description) (others : List Range) (range : Range) (rest : List Ra
               let facts = in_facts range.place range.size k inside in
               let w = give_within in
               let below : ltb k after.size ≡ true = lt-ltb k after.size (omega (arith, facts, w, size)) in
-              ap (λ b. is_free before.holes k || b) inside ∙ (or_true (is_free before.holes k) ∙ sym (ap (λ b. b && not (is_taken (others ++ rest) range.region k)) below ∙ ap (λ b. true && not b) (not_left k inside)))
+              ap (λ b. is_free before.holes k || b) inside ∙ (or_right (is_free before.holes k) true refl ∙ sym (ap (λ b. b && not (is_taken (others ++ rest) range.region k)) below ∙ ap (λ b. true && not b) (not_left k inside)))
           | inr outside ↦
               ap (λ b. is_free before.holes k || b) outside
-              ∙ (or_false (is_free before.holes k)
+              ∙ (or-false (is_free before.holes k)
               ∙ (beside_here.free k
               ∙ (ap (λ b. ltb k before.size && not b) (same_outside k outside) ∙ ap (λ n. ltb k n && not (is_taken (others ++ rest) range.region k)) (sym size))))
         ];
       }
         where
-          in_facts : (p s k : ℕ) → in_range p s k ≡ true → (p ≤ k) × (k < p + s)
-          in_facts p s k e = let parts = and_parts (leb p k) (ltb k (p + s)) e in (le_of p k parts.0, ltb-true k (p + s) parts.1)
-            where
-              le_of : (a b : ℕ) → leb a b ≡ true → a ≤ b
-              le_of a b e' = grind (arith)
-
-          or_true : (b : Bool) → (b || true) ≡ true
-          or_true true = refl
-          or_true false = refl
-
-          or_false : (b : Bool) → (b || false) ≡ b
-          or_false true = refl
-          or_false false = refl
-
           same_outside : (k : ℕ) → in_range range.place range.size k ≡ false → is_taken (others ++ range ∷ rest) range.region k ≡ is_taken (others ++ rest) range.region k
           same_outside k outside =
               both range.region k
               ∙ (ap (λ b. is_taken others range.region k || (((range.region == range.region) && b) || is_taken rest range.region k)) outside
-              ∙ (ap (λ b. is_taken others range.region k || (b || is_taken rest range.region k)) (and_false (range.region == range.region)) ∙ sym (left range.region k)))
-            where
-              and_false : (b : Bool) → (b && false) ≡ false
-              and_false true = refl
-              and_false false = refl
+              ∙ (ap (λ b. is_taken others range.region k || (b || is_taken rest range.region k)) (and_right (range.region == range.region) false refl) ∙ sym (left range.region k)))
 
 -- ---- ranges given back in a loop
-
-drop_here : {X : Type 0} (xs : List X) (i : ℕ) (x : X) → slice_get xs i ≡ Some x → drop i xs ≡ x ∷ drop (i + 1) xs
-drop_here [] i x e = cc
-drop_here (y ∷ ys) zero x e = let w : y ≡ x = cc in ap (λ z. z ∷ ys) w
-drop_here (y ∷ ys) (suc i) x e = let next : suc i + 1 ≡ suc (i + 1) = omega arith in drop_here ys i x e ∙ ap (λ n. x ∷ drop n (y ∷ ys)) (sym next)
 
 module _ (ranges : List Range) (i : ℕ) (d : Range) (below : i < length ranges) (regions : List Region) (e : Region)
     (m : Description) (others : List Range) (taken : AreTaken m others (drop i ranges) regions) where
@@ -443,7 +339,7 @@ module _ (ranges : List Range) (i : ℕ) (d : Range) (below : i < length ranges)
   rest = drop (i + 1) ranges
 
   dropped : drop i ranges ≡ range ∷ rest
-  dropped = drop_here ranges i range (slice_get-get_or ranges i d below)
+  dropped = drop_more ranges i d below
 
   here : AreTaken m others (range ∷ rest) regions
   here = subst (λ l. AreTaken m others l regions) dropped taken
@@ -456,9 +352,6 @@ module _ (ranges : List Range) (i : ℕ) (d : Range) (below : i < length ranges)
 
   pub within_at : range.place + range.size ≤ before.size
   within_at = give_within m others range rest regions here before at_place
-
-  pub some_at : 0 < range.size
-  some_at = (All-head (IsWithin m (length regions)) range rest here.within).some
 
   pub taken_at : (k : ℕ) → in_range range.place range.size k ≡ true → is_free before.holes k ≡ false
   taken_at = give_taken m others range rest regions here before at_place
@@ -530,9 +423,6 @@ module _ (claims : List Claim) (old mid : List Region) (ranges : List Range) (i 
 
   pub claim_some : 0 < claim.size
   claim_some = fair.some
-
-  pub claim_step : 0 < claim.align
-  claim_step = fair.step
 
   pub claim_fixed : IfSome claim.fixed (λ p. (p % claim.align ≡ 0) × (p + claim.size ≤ before'.size))
   claim_fixed =

@@ -7,7 +7,9 @@ use Rattle.std.proofs.lemmas.Bool.Decides.{nat_tests}
 use Rattle.std.proofs.lemmas.List.{length-map, length-set}
 use Rattle.std.proofs.lemmas.List.Elements.{All-nil, All-cons, All-head, All-tail, All-append, All-contains}
 use Rattle.std.proofs.lemmas.List.Sorted.{length_permutation}
-use Rattle.std.proofs.lemmas.Option.{slice_get_within}
+use Rattle.std.proofs.lemmas.Option.{slice_get_within, same_Some}
+use Rattle.mesh_core.proofs.Moves.{chip_of-index_of}
+use Rattle.spin_base.proofs.Equality.{chip_eq_true}
 use Rattle.list_laws.proofs.Counts.{count_by-cons}
 use Rattle.list_laws.proofs.Members.{Contains-at, Contains-filter, among_any, any_among, among_contains, contains_among}
 use Rattle.list_laws.proofs.Places.{All-at, All-each, AllZip-at_second, slice_get_there}
@@ -23,9 +25,8 @@ use Rattle.machine_desc.specs.declared.trees.Edge.{Edge}
 use Rattle.machine_desc.specs.Description.{Description}
 use Rattle.machine_desc.specs.Live.{index_of, chip_of, is_usable, IsInside, IsUsable}
 use Rattle.machine_desc.specs.RoutingTree.{end_of, IsTreeChip}
-use Rattle.machine_desc.proofs.Far.{index_below, live_inside, same_index}
-use Rattle.machine_desc.proofs.Live.{index_of-chip_of, chip_of-inside}
-use Rattle.machine_desc.proofs.Same.{chip_eq-from_same, same_chip, same_spot}
+use Rattle.machine_desc.proofs.Far.{index_below, live_inside}
+use Rattle.machine_desc.proofs.Same.{chip_eq-from_same, same_spot}
 use Rattle.machine_desc.proofs.Sites.{usable_parts}
 use Rattle.machine_desc.proofs.TreeLemmas.{tree_cases, tree_end}
 use Rattle.tern_word.specs.declared.tables.Row.{Row}
@@ -50,10 +51,6 @@ use Rattle.app_loads.proofs.AppNets.{facts_at, key_of_index, member_at, spot_ins
 use Rattle.app_loads.proofs.ClaimCases.{row_size}
 use Rattle.app_loads.proofs.Unsent.{nets_with_at}
 
--- the chip of a chip's index is the chip
-pub chip_back : (m : Description) (c : Chip) → IsInside m c → chip_of m (index_of m c) ≡ c
-chip_back m c inside = same_index m (chip_of m (index_of m c)) c (chip_of-inside m (index_of m c) (index_below m c inside)) inside (index_of-chip_of m (index_of m c))
-
 -- each usable core is in the list of them
 pub usable_there : (m : Description) (s : Spot) → IsUsable m s → Contains (usable_spots m) s
 usable_there m s usable =
@@ -65,15 +62,12 @@ usable_there m s usable =
     let k : ℕ = 17 * index_of m s.chip + (s.core - 1) in
     let chip_is : k / 17 ≡ index_of m s.chip = omega (arith, some, most) in
     let core_is : k % 17 + 1 ≡ s.core = omega (arith, some, most) in
-    let same : spot_of m k ≡ s = same_spot (spot_of m k) s (ap (chip_of m) chip_is ∙ chip_back m s.chip inside) core_is in
+    let same : spot_of m k ≡ s = same_spot (spot_of m k) s (ap (chip_of m) chip_is ∙ chip_of-index_of m s.chip inside) core_is in
     let z : 0 + k ≡ k = omega arith in
     let at : slice_get (grid_spots m) k ≡ Some s = slice_get-map_range (spot_of m) 0 (17 * (m.width * m.height)) k (omega (arith, below, some, most)) ∙ (ap (λ i. Some (spot_of m i)) z ∙ ap Some same) in
     Contains-filter (is_usable m) (grid_spots m) s (Contains-at (grid_spots m) k s at) usable
 
 -- ---- rows of a chip
-
-eq_chip : (a b : Chip) → chip_eq a b ≡ true → a ≡ b
-eq_chip a b e = same_chip a b (grind arith) (grind arith)
 
 pub has_chip-true : (m : Description) (c : Chip) (net : AppNet) → IsTreeChip m net.tree.root net.tree.edges c → has_chip m c net ≡ true
 has_chip-true m c net on = elim (tree_cases m net.tree.root net.tree.edges c on) [
@@ -84,7 +78,7 @@ has_chip-true m c net on = elim (tree_cases m net.tree.root net.tree.edges c on)
 
 pub has_chip-tree : (m : Description) (c : Chip) (net : AppNet) → has_chip m c net ≡ true → IsTreeChip m net.tree.root net.tree.edges c
 has_chip-tree m c net e = elim (or_cases (chip_eq c net.tree.root) (list_any (λ (e : Edge). option_map_or (chip_eq c) (end_of m e) false) net.tree.edges) e) [
-  | inl root ↦ inl (eq_chip c net.tree.root root)
+  | inl root ↦ inl (chip_eq_true c net.tree.root root)
   | inr edge ↦ (
       let found = any_among (λ (e : Edge). option_map_or (chip_eq c) (end_of m e) false) net.tree.edges edge in
       tree_end m net.tree.root net.tree.edges found.0 c (among_contains found.0 net.tree.edges found.1) (by_end (end_of m found.0) found.2)
@@ -93,7 +87,7 @@ has_chip-tree m c net e = elim (or_cases (chip_eq c net.tree.root) (list_any (λ
   where
     by_end : (o : Option Chip) → option_map_or (chip_eq c) o false ≡ true → o ≡ Some c
     by_end None e' = cc
-    by_end (Some d) e' = ap Some (sym (eq_chip c d e'))
+    by_end (Some d) e' = ap Some (sym (chip_eq_true c d e'))
 
 abbrev one_if : Bool → ℕ
 one_if b = if b then 1 else 0
@@ -161,13 +155,10 @@ module _ (s : State) (app : LoadedApp) (can : CanSettle s app) (mesh : IsMesh s)
       let f = facts_at m app can.loaded p.net x (nets_with_at app.plan.nets app.blocks p.net of_net.0 block.0 of_net.1 block.1) in
       let within = (All-at (IsWithin m (1 + (chip_count m + chip_count m))) app.ranges f.at f.range can.loaded.within f.got).within in
       let room : f.range.place + f.range.size ≤ 4294967296 = subst (λ r. f.range.place + f.range.size ≤ r) (ap (region_size m) f.region) within in
-      let same_net : f.net ≡ of_net.0 = some_same (sym f.at_net ∙ of_net.1) in
-      let same_block : f.block ≡ block.0 = some_same (sym f.at_block ∙ block.1) in
+      let same_net : f.net ≡ of_net.0 = same_Some _ _ (sym f.at_net ∙ of_net.1) in
+      let same_block : f.block ≡ block.0 = same_Some _ _ (sym f.at_block ∙ block.1) in
       let key = key_of_index m app can.loaded x p.net f p.index (subst (λ (n : AppNet). p.index < n.keys) (sym same_net) of_net.2) room in
       record { net = below; block = block.0; is = block.1; key = subst (λ (b : Block). b.key + p.index < 2 ^ 32) same_block key.0 }
-    where
-      some_same : {A : Type 0} {a b : A} → Some a ≡ Some b → a ≡ b
-      some_same e = cc
 
   pub can_send : (q : List (List McCopy)) → q ≡ s.unsent → CanSend s.setup app q
   can_send q is = record {
@@ -186,7 +177,7 @@ module _ (s : State) (app : LoadedApp) (can : CanSettle s app) (mesh : IsMesh s)
         let of_region : claimed.0.region ≡ 1 + (chip_count m + index_of m c) = sym claimed.2.0 ∙ region in
         claimed.2.1
         ∙ (row_size m app.plan can.loaded.plan claimed.0 (Contains-at (claims_of m app.plan) has.0 claimed.0 claimed.1) (index_of m c) (index_below m c inside) of_region
-        ∙ ap (λ (d : Chip). count_by (has_chip m d) app.plan.nets) (chip_back m c inside))
+        ∙ ap (λ (d : Chip). count_by (has_chip m d) app.plan.nets) (chip_of-index_of m c inside))
 
     pub can_copy : (given : List Table) (ranges : List Range) → given ≡ rows → ranges ≡ app.ranges → CanCopy m s.setup.tables given ranges
     can_copy given ranges is_rows is_ranges = subst (λ (l : List Table). CanCopy m s.setup.tables l ranges) (sym is_rows) (subst (CanCopy m s.setup.tables rows) (sym is_ranges) (record {
@@ -274,9 +265,6 @@ module _ (s t : State) (same : s ≡ t) (app : LoadedApp) (can : CanSettle t app
 
   pub parted_mesh : (given q written' : List (List McCopy)) → given ≡ s.unsent → q ≡ given → written' ≡ q → IsMesh (record s { unsent = written' })
   parted_mesh given q written' is kept put = subst (λ (l : List (List McCopy)). IsMesh (record s { unsent = l })) (sym (put ∙ (kept ∙ is))) whole
-
-  pub parted_back : (given q written' : List (List McCopy)) → given ≡ s.unsent → q ≡ given → written' ≡ q → record s { unsent = written' } ≡ t
-  parted_back given q written' is kept put = ap (λ (l : List (List McCopy)). record s { unsent = l }) (put ∙ (kept ∙ is)) ∙ same
 
   pub sent_as_long : (given q : List (List McCopy)) → given ≡ s.unsent → AreSent s.setup.spots app (length app.plan.packets) given q → length q ≡ length s.unsent
   sent_as_long given q is sent = sent_long s.setup.spots app (length app.plan.packets) given q sent ∙ ap length is

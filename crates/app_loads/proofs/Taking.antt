@@ -1,8 +1,8 @@
 -- What taking a range does to the free places of a region, and which range is the first.
 use Rattle.std.proofs.Common.{◌≡◌, ℕ, ◌+◌, ◌-◌, ◌%◌, ◌<◌, ◌≤◌, Bool, true, false, not, ◌&&◌, ◌||◌, ◌==◌, ltb, List, [], ◌∷◌, ◌++◌, refl, sym, ap, ◌∙◌, subst, arith, None, Some, IfSome}
 use Rattle.std.proofs.lemmas.Bool.{and_parts, lt-ltb, ltb-true, not-true, eq-eqb}
-use Rattle.std.proofs.lemmas.Bool.Decides.{nat_tests}
 use Rattle.std.proofs.lemmas.List.Folds.{list_any-append}
+use Rattle.key_alloc.proofs.Ranges.{in_facts, in_from, regroup, free_of}
 use Rattle.machine_desc.specs.Description.{Description}
 use Rattle.range_store.specs.Regions.{AreRuns, IsFirstFit, HasNoFit, is_hole_range, is_free, in_range}
 use Rattle.app_loads.specs.declared.loaded.Claim.{Claim}
@@ -11,18 +11,6 @@ use Rattle.app_loads.specs.Host.{Free}
 use Rattle.app_loads.specs.Regions.{IsFreeBeside, has_place, is_taken}
 use Rattle.app_loads.specs.Claims.{IsOpen, IsLeastOpen, IsRefused}
 use Rattle.range_store.proofs.HolePlaces.{clash, free_in_range, range_of_free}
-
-regroup : (a b c : Bool) → ((a && not b) && not c) ≡ (a && not (b || (c || false)))
-regroup false b c = refl
-regroup true true c = refl
-regroup true false true = refl
-regroup true false false = refl
-
-pub in_facts : (p s k : ℕ) → in_range p s k ≡ true → (p ≤ k) × (k < p + s)
-in_facts p s k e = (grind (arith, nat_tests), grind (arith, nat_tests))
-
-pub in_from : (p s k : ℕ) → p ≤ k → k < p + s → in_range p s k ≡ true
-in_from p s k low high = grind (arith, nat_tests)
 
 here_too : (region : ℕ) (b : Bool) → ((region == region) && b) ≡ b
 here_too region b = ap (λ z. z && b) (eq-eqb region region refl)
@@ -47,11 +35,6 @@ taken_more m taken region before after range its beside size runs free = record 
     here : (k : ℕ) → has_place region k range ≡ in_range range.place range.size k
     here k = ap (λ r. (r == region) && in_range range.place range.size k) its ∙ here_too region (in_range range.place range.size k)
 
-free_test : (a b : Bool) → a ≡ true → b ≡ false → (a && not b) ≡ true
-free_test true false p q = refl
-free_test true true p q = clash refl q
-free_test false b p q = clash p refl
-
 module _ (m : Description) (taken : List Range) (claim : Claim) (f : Free) (beside : IsFreeBeside m taken claim.region f) (some : 0 < claim.size) where
   -- a range that lies in a hole may be taken
   pub open_from_hole : (p : ℕ) → p % claim.align ≡ 0 → IfSome claim.fixed (λ q. p ≡ q) → is_hole_range f.holes p claim.size ≡ true → IsOpen m taken claim p
@@ -74,7 +57,7 @@ module _ (m : Description) (taken : List Range) (claim : Claim) (f : Free) (besi
       let within = o.within in
       range_of_free 0 f.size f.holes p claim.size beside.runs some
       (λ k low high.
-      beside.free k ∙ free_test (ltb k f.size) (is_taken taken claim.region k) (lt-ltb k f.size (omega (arith, within, size, high)))
+      beside.free k ∙ free_of (ltb k f.size) (is_taken taken claim.region k) (lt-ltb k f.size (omega (arith, within, size, high)))
       (o.untaken k (in_from p claim.size k low high)))
 
 -- the first fit is the least range

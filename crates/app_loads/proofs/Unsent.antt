@@ -1,9 +1,11 @@
 -- Packets put to the vertices of their nets' sources, and queues emptied.
-use Rattle.std.proofs.Common.{◌≡◌, ◌≢◌, ℕ, zero, suc, ◌+◌, ◌^◌, ◌<◌, ◌≤◌, ◌==◌, List, [], ◌∷◌, ◌++◌, take, get_or, length, refl, sym, ap, ◌∙◌, subst, inl, inr, arith, Some}
+use Rattle.std.proofs.Common.{◌≡◌, ◌≢◌, ℕ, zero, suc, ◌+◌, ◌^◌, ◌<◌, ◌≤◌, ◌==◌, List, [], ◌∷◌, ◌++◌, take, get_or, length, refl, sym, ap, ◌∙◌, subst, inl, inr, arith, Option, Some}
+use Rattle.std.specs.Prelude.{unwrap_or}
 use Rattle.std.specs.List.{list_any, slice_get, slice_set, All, Contains}
 use Rattle.std.proofs.lemmas.Bool.{cases_Bool, cases_eq, eqb-true, eq-eqb, false≢true}
-use Rattle.std.proofs.lemmas.List.{length-set}
-use Rattle.std.proofs.lemmas.Option.{slice_get_within, slice_get-get_or}
+use Rattle.std.proofs.lemmas.List.{length-set, take_all, same_lists}
+use Rattle.std.proofs.lemmas.Option.{slice_get_within, slice_get-get_or, same_Some, unwrap_or-slice_get}
+use Rattle.mesh_core.proofs.ServingLaws.{vertex_at-below}
 use Rattle.list_laws.proofs.Members.{Among, Contains-at, any_among, among_any, among_contains, contains_among}
 use Rattle.list_laws.proofs.Places.{All-at, slice_get_there, slice_get-set_same, slice_get-set_other, slice_get-push_cases, take_more_at}
 use Rattle.spin_base.specs.declared.blocks.Block.{Block}
@@ -11,18 +13,12 @@ use Rattle.spin_base.specs.declared.chips.Spot.{Spot}
 use Rattle.spin_base.specs.declared.copies.McCopy.{McCopy}
 use Rattle.spin_base.specs.declared.copies.Packet.{Packet}
 use Rattle.net_tables.specs.NetsOn.{vertex_at}
-use Rattle.mesh_core.proofs.Ways.{vertex_at_stands}
+use Rattle.mesh_core.specs.State.{Setup}
 use Rattle.app_loads.specs.declared.loaded.LoadedApp.{LoadedApp}
 use Rattle.app_loads.specs.declared.plans.AppNet.{AppNet}
 use Rattle.app_loads.specs.Host.{net_with, nets_with}
 use Rattle.app_loads.specs.Joining.{AreSent, NoneUnsent}
-use Rattle.app_loads.specs.Sending.{AreCleared, AreSources, CanAdd, IsPacketOn, IsSameBeside}
-
-pub all_taken : {A : Type 0} (ys : List A) (n : ℕ) → length ys ≤ n → take n ys ≡ ys
-all_taken [] zero le = refl
-all_taken [] (suc n) le = refl
-all_taken (y ∷ ys) zero le = absurd (omega (arith, le))
-all_taken (y ∷ ys) (suc n) le = ap (λ r. y ∷ r) (all_taken ys n (omega (arith, le)))
+use Rattle.app_loads.specs.Sending.{AreCleared, AreSources, CanAdd, IsPacketOn, IsSameBeside, IsSendingFrom}
 
 -- a net of the application, by its place
 pub nets_with_at : (nets : List AppNet) (blocks : List Block) (i : ℕ) (net : AppNet) (block : Block) → slice_get nets i ≡ Some net → slice_get blocks i ≡ Some block →
@@ -36,19 +32,6 @@ pub nets_with_long : (nets : List AppNet) (blocks : List Block) → length (nets
 nets_with_long [] blocks = omega arith
 nets_with_long (x ∷ xs) [] = omega arith
 nets_with_long (x ∷ xs) (y ∷ ys) = let w = nets_with_long xs ys in omega (arith, w)
-
--- two lists with the same items are one
-pub same_at_each : {X : Type 0} (xs ys : List X) → length xs ≡ length ys → ((i : ℕ) → slice_get xs i ≡ slice_get ys i) → xs ≡ ys
-same_at_each [] [] long each = refl
-same_at_each [] (y ∷ ys) long each = absurd (omega (arith, long))
-same_at_each (x ∷ xs) [] long each = absurd (omega (arith, long))
-same_at_each (x ∷ xs) (y ∷ ys) long each =
-    let first : x ≡ y = some_same (each 0) in
-    let rest = same_at_each xs ys (omega (arith, long)) (λ i. each (suc i)) in
-    ap (λ z. z ∷ xs) first ∙ ap (λ l. y ∷ l) rest
-  where
-    some_same : {A : Type 0} {a b : A} → Some a ≡ Some b → a ≡ b
-    some_same e = cc
 
 pub none_sent : (spots : List Spot) (app : LoadedApp) (unsent : List (List McCopy)) → AreSent spots app 0 unsent unsent
 none_sent spots app unsent = refl
@@ -81,10 +64,7 @@ module _ (sources : List ℕ) (app : LoadedApp) (old cur : List (List McCopy)) (
   number_fits = let w = slice_get_within app.plan.packets i packet at in let n = can.numbers in omega (arith, w, n)
 
   pub key_fits : (block : Block) → slice_get app.blocks packet.net ≡ Some block → block.key + packet.index < 2 ^ 32
-  key_fits block is = subst (λ (b : Block). b.key + packet.index < 2 ^ 32) (some_same (sym on.is ∙ is)) on.key
-    where
-      some_same : {A : Type 0} {a b : A} → Some a ≡ Some b → a ≡ b
-      some_same e = cc
+  key_fits block is = subst (λ (b : Block). b.key + packet.index < 2 ^ 32) (same_Some _ _ (sym on.is ∙ is)) on.key
 
   pub sent_more : (block : Block) (d : ℕ) (e : List McCopy) (after : List (List McCopy)) → slice_get app.blocks packet.net ≡ Some block →
       (let copy : McCopy = record { packet = app.first + i; key = block.key + packet.index; payload = packet.payload; hop = 0 } in
@@ -154,12 +134,13 @@ module _ (sources : List ℕ) (old cur : List (List McCopy)) (queues : All (λ v
 
 -- all are emptied
 pub all_cleared : (sources : List ℕ) (old cur : List (List McCopy)) (i : ℕ) → length sources ≤ i → IsSameBeside sources old cur → ((w : ℕ) → Contains (take i sources) w → slice_get cur w ≡ Some []) → AreCleared sources old cur
-all_cleared sources old cur i end same empty = record { beside = same; empty = λ v has. empty v (subst (λ (l : List ℕ). Contains l v) (sym (all_taken sources i end)) has) }
+all_cleared sources old cur i end same empty = record { beside = same; empty = λ v has. empty v (subst (λ (l : List ℕ). Contains l v) (sym (take_all i sources end)) has) }
 
 -- Where the sources had nothing unsent, all is as before.
 pub put_back : (spots : List Spot) (nets : List AppNet) (sources : List ℕ) (old mid new : List (List McCopy)) → AreSources spots nets sources → NoneUnsent spots nets old → IsSameBeside sources old mid →
     AreCleared sources mid new → new ≡ old
-put_back spots nets sources old mid new are none same cleared = same_at_each new old (cleared.beside.long ∙ same.long) each
+put_back spots nets sources old mid new are none same cleared =
+    same_lists new old (cleared.beside.long ∙ same.long) (λ k d below. sym (unwrap_or-slice_get new k d) ∙ (ap (λ o. unwrap_or o d) (each k) ∙ unwrap_or-slice_get old k d))
   where
     each : (w : ℕ) → slice_get new w ≡ slice_get old w
     each w = elim (cases_Bool (list_any (λ k. k == w) sources)) [
@@ -184,18 +165,22 @@ put_back spots nets sources old mid new are none same cleared = same_at_each new
 
 -- ---- the sources of nets
 
+-- what looking the source up gives
+pub source_is : (u : Setup) (nets : List AppNet) (i : ℕ) (net : AppNet) → All (IsSendingFrom u) nets → slice_get nets i ≡ Some net → (o : Option ℕ) → o ≡ vertex_at u.spots net.source → (v : ℕ) → v ≡ unwrap_or o 0 →
+    vertex_at u.spots net.source ≡ Some v
+source_is u nets i net all at o found v is =
+    let sending = All-at (IsSendingFrom u) nets i net all at in
+    sending.is ∙ ap Some (sym (is ∙ ap (λ p. unwrap_or p 0) (found ∙ sending.is)))
+
 pub sources_more : (spots : List Spot) (nets : List AppNet) (vertices after : List ℕ) (i v : ℕ) (net : AppNet) → slice_get nets i ≡ Some net → vertex_at spots net.source ≡ Some v → after ≡ vertices ++ v ∷ [] →
     length vertices ≡ i → ((j w : ℕ) (n : AppNet) → slice_get nets j ≡ Some n → slice_get vertices j ≡ Some w → vertex_at spots n.source ≡ Some w) →
     (j w : ℕ) (n : AppNet) → slice_get nets j ≡ Some n → slice_get after j ≡ Some w → vertex_at spots n.source ≡ Some w
 sources_more spots nets vertices after i v net at is pushed long each j w n at_j here = elim (slice_get-push_cases vertices v w j (sym (ap (λ l. slice_get l j) pushed) ∙ here)) [
   | inl old ↦ each j w n at_j old.1
   | inr new ↦
-      let same : net ≡ n = some_same (sym at ∙ (ap (slice_get nets) (sym (new.0 ∙ long)) ∙ at_j)) in
+      let same : net ≡ n = same_Some _ _ (sym at ∙ (ap (slice_get nets) (sym (new.0 ∙ long)) ∙ at_j)) in
       ap (λ (x : AppNet). vertex_at spots x.source) (sym same) ∙ (is ∙ ap Some new.1)
 ]
-  where
-    some_same : {A : Type 0} {a b : A} → Some a ≡ Some b → a ≡ b
-    some_same e = cc
 
 pub sources_of : (spots : List Spot) (nets given : List AppNet) (sources : List ℕ) → given ≡ nets → AreSources spots given sources → AreSources spots nets sources
 sources_of spots nets given sources is are = subst (λ (l : List AppNet). AreSources spots l sources) is are
@@ -209,13 +194,10 @@ can_add spots queues app unsent sources long packets blocks numbers are = record
       let at = slice_get-get_or sources k d below in
       let net = slice_get_there app.plan.nets k (let a = are.all in omega (arith, below, a)) in
       let is = are.each k (get_or sources k d) net.0 net.1 at in
-      subst (λ n. get_or sources k d < n) (sym long) (vertex_below spots net.0.source (get_or sources k d) is)
+      subst (λ n. get_or sources k d < n) (sym long) (vertex_at-below spots net.0.source (get_or sources k d) is)
       );
   packets = subst (λ n. All (IsPacketOn app.blocks n) app.plan.packets) (sym are.all) packets;
   blocks = blocks;
   each_net = are.all;
   numbers = numbers;
 }
-  where
-    vertex_below : (ss : List Spot) (s : Spot) (v : ℕ) → vertex_at ss s ≡ Some v → v < length ss
-    vertex_below ss s v is = slice_get_within ss v s (vertex_at_stands ss s v is)

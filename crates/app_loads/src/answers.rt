@@ -9,7 +9,7 @@ pub struct Ended {
 }
 
 /// Why an application was not loaded.
-#[derive(Clone, Copy, Debug)]
+#[derive(Clone, Copy)]
 pub enum LoadErr {
     /// An application of that number is loaded.
     Loaded,
@@ -24,7 +24,7 @@ pub enum LoadErr {
 }
 
 /// Why an application was not unloaded.
-#[derive(Clone, Copy, Debug)]
+#[derive(Clone, Copy)]
 pub enum UnloadErr {
     /// No application of that number is loaded.
     NotLoaded,

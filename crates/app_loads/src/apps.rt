@@ -1,5 +1,5 @@
 // The applications of a machine, and what can be asked of them.
-ghost use Rattle.std.specs.Prelude.{◌≡◌, ◌*◌, ◌<◌, ◌≤◌, All, IfOk, length};
+ghost use Rattle.std.specs.Prelude.{◌≡◌, ◌*◌, ◌<◌, ◌≤◌, All, IfOk, Some, length};
 ghost use Rattle.spin_base.specs.declared.chips.Spot.{Spot as ASpot};
 ghost use Rattle.machine_desc.specs.Live.{IsInside as IsInsideGrid};
 ghost use Rattle.app_loads.specs.Applications.{AreApps};
@@ -60,9 +60,10 @@ impl Apps {
         ensures bare { IfOk result (λ apps. apps ≡ bare_host machine.now queue) }
         ensures apps { IfOk result AreApps }
     {
-        let mesh = bare_mesh(alloc, machine, queue)?;
+        // The mesh comes last: no refusal after it has to drop it.
         let regions = open_regions(alloc, machine)?;
         let taken = none_taken(alloc, machine)?;
+        let mesh = bare_mesh(alloc, machine, queue)?;
         Ok(Apps {
             mesh: Some(mesh),
             regions,
@@ -100,6 +101,13 @@ impl Apps {
     {
         self.packets
     }
+}
+
+// Puts an item in its place. What was there is dropped here, where its type is any, so that no caller takes a whole mesh apart.
+pub fn put<T: Drop>(held: &mut Option<T>, item: T)
+    ensures { held.new ≡ Some item }
+{
+    *held = Some(item);
 }
 
 // Writes for each spot whether a loaded application has it.

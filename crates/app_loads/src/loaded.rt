@@ -5,7 +5,7 @@ use spin_base::{Block, Seq};
 
 /// So many places of a region, from a place on. Region 0 has the keys of the machine; region 1 + i the shared memory of the chip of
 /// index i; and region 1 + n + i, on a machine of n chips, the entries of that chip's table.
-#[derive(Clone, Copy, Debug)]
+#[derive(Clone, Copy)]
 pub struct Range {
     pub region: usize,
     pub place: u64,
@@ -14,7 +14,7 @@ pub struct Range {
 
 /// What a plan asks a region for: so many places from a multiple of `align` on, or from the fixed place on; and the refusal where
 /// the region has none.
-#[derive(Clone, Copy, Debug)]
+#[derive(Clone, Copy)]
 pub struct Claim {
     pub region: usize,
     pub size: u64,

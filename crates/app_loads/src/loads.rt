@@ -12,7 +12,7 @@ ghost use Rattle.app_loads.specs.Taking.{AreRegionsOf, HaveRoom, IsDueAlways, fr
 ghost use Rattle.app_loads.specs.Writing.{AreCopied, CanCopy};
 
 use crate::answers::LoadErr;
-use crate::apps::{Apps, mark_spots};
+use crate::apps::{Apps, mark_spots, put};
 use crate::claims::claims_of;
 use crate::loaded::{Claim, LoadedApp, Range};
 use crate::plans::AppPlan;
@@ -63,12 +63,12 @@ impl Apps {
                     true,
                 );
                 self.packets += app.plan.packets.len() as u32;
-                self.mesh = Some(mesh);
+                put(&mut self.mesh, mesh);
                 self.apps.push_reserved(app);
                 Ok(())
             }
             Err(refusal) => {
-                self.mesh = Some(mesh);
+                put(&mut self.mesh, mesh);
                 Err(refusal)
             }
         }

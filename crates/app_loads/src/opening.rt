@@ -2,6 +2,7 @@
 ghost use Rattle.std.specs.Prelude.{◌≡◌, ◌≢◌, ◌<◌, ◌≤◌, ◌*◌, ◌++◌, ◌∷◌, [], All, AllPairs, false, filter, map, length, replicate, IfOk, OnOk};
 ghost use Rattle.machine_desc.specs.Live.{IsSite, is_usable};
 ghost use Rattle.tcam_find.specs.Memory.{empty_memory};
+ghost use Rattle.mesh_core.specs.State.{IsMesh};
 ghost use Rattle.app_loads.specs.Opening.{spot_of, usable_spots, bare_mesh};
 ghost use Rattle.app_loads.specs.Regions.{all_free, open_regions};
 ghost use Rattle.app_loads.specs.Taking.{free_of};
@@ -23,7 +24,8 @@ const ENTRIES: u64 = 1024;
 // The mesh with a vertex on each usable core, without a copy.
 pub fn bare_mesh(alloc: Global, machine: &Machine, queue: u32) -> Result<Mesh, Memory>
     requires { 1 ≤ queue }
-    ensures { IfOk result (λ mesh. mesh ≡ bare_mesh machine.now queue) }
+    ensures bare { IfOk result (λ mesh. mesh ≡ bare_mesh machine.now queue) }
+    ensures valid { IfOk result IsMesh }
 {
     let spots = usable_spots(alloc, machine)?;
     let tables = empty_tables(alloc, machine.chips())?;
@@ -81,7 +83,7 @@ pub fn open_regions(alloc: Global, machine: &Machine) -> Result<Vec<Ranges>, Mem
     ensures { IfOk result (λ regions. map free_of regions.items ≡ open_regions machine.now) }
 {
     let mut regions = Vec::new(alloc);
-    regions.push(Ranges::new(alloc, ALL_KEYS)?)?;
+    push_regions(alloc, &mut regions, 1, ALL_KEYS)?;
     push_regions(
         alloc,
         &mut regions,

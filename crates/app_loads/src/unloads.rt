@@ -11,7 +11,7 @@ ghost use Rattle.app_loads.specs.Unloading.{HasUnloaded, IsWhyNotUnloaded, NoneW
 ghost use Rattle.app_loads.specs.Writing.{AreUnused, CanClear};
 
 use crate::answers::{Ended, UnloadErr};
-use crate::apps::{Apps, mark_spots};
+use crate::apps::{Apps, mark_spots, put};
 use crate::leaving::{Parted, least_waiting, part};
 use crate::loaded::{LoadedApp, Range};
 use crate::regions::{give_all, make_room};
@@ -53,11 +53,11 @@ impl Apps {
                     app.plan.spots.as_slice(),
                     false,
                 );
-                self.mesh = Some(mesh);
+                put(&mut self.mesh, mesh);
                 Ok(ended)
             }
             Err(cause) => {
-                self.mesh = Some(mesh);
+                put(&mut self.mesh, mesh);
                 Err(cause)
             }
         }

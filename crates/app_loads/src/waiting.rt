@@ -11,7 +11,7 @@ use spin_base::{Chip, Dir, Out, Port};
 
 /// Where a copy waits: in the queue of a vertex's core, in a router's hand for an output, or at a port of a router whose hand is
 /// free.
-#[derive(Clone, Copy, Debug)]
+#[derive(Clone, Copy)]
 pub enum Waits {
     InCore(u32),
     InHand(Chip, Out),

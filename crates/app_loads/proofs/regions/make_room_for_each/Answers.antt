@@ -1,6 +1,5 @@
 use Rattle.std.proofs.Common.{◌∙◌, ◌≤◌, refl, subst, length}
 use Rattle.std.proofs.lemmas.List.{length-set}
-use Rattle.app_loads.proofs.Serving.{none_counted}
 use Rattle.app_loads.proofs.RoomToGive.{count_here, counted_more, frees_still, region_there, room_more}
 use Rattle.app_loads.proofs.regions.make_room_for_each.Goals as goal
 

@@ -1,10 +1,11 @@
 use Rattle.std.proofs.Common.{◌∙◌, ◌++◌, ◌∷◌, [], List, ap, sym, refl, arith, length, take}
 use Rattle.std.specs.List.{slice_get}
 use Rattle.std.proofs.lemmas.Option.{slice_get_read}
+use Rattle.std.proofs.lemmas.List.{take_all}
 use Rattle.list_laws.proofs.Places.{take_more_at}
 use Rattle.net_tables.specs.declared.nets.NetPlan.{NetPlan}
 use Rattle.app_loads.specs.Host.{net_with, nets_of}
-use Rattle.app_loads.proofs.Unsent.{all_taken, nets_with_at, nets_with_long}
+use Rattle.app_loads.proofs.Unsent.{nets_with_at, nets_with_long}
 use Rattle.app_loads.proofs.rows.nets_of.Goals as goal
 
 pub loop-at-preserved : goal.loop-at-preserved
@@ -22,4 +23,4 @@ returns c =
     let long = nets_with_long c.args.app.now.plan.nets c.args.app.now.blocks in
     let end = c.loop-at-test.false in
     let same = ap length c.as_slice-net-items.ensures in
-    c.loop-at.invariant ∙ all_taken (nets_of c.args.app.now) c.loop-at.at (omega (arith, long, end, same))
+    c.loop-at.invariant ∙ take_all c.loop-at.at (nets_of c.args.app.now) (omega (arith, long, end, same))
