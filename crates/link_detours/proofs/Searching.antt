@@ -70,10 +70,11 @@ module _ (m : Description) (table : List Bool) (seeds : List Chip) (top : ℕ) w
   number_other levels e c n at inside other =
       get_or-set_other levels (index_of m e) (index_of m c) n 0 (λ same. other (same_index m c e inside at same))
 
-  -- the first link of the chip at next
-  pub start_links : (levels : List ℕ) (queue : List Chip) (next : ℕ) (at : Chip) → next < length queue → get_or queue next at ≡ at →
-      Ongoing levels queue (λ c j. Waits queue next c) → Ongoing levels queue (WaitsFrom queue next at 0)
-  start_links levels queue next at within is now = record {
+  -- other links wait: each that waited does, or leads to no number more than one greater
+  others_wait : (levels : List ℕ) (queue : List Chip) (Was Now : Chip → ℕ → Type 0) →
+      ((c e : Chip) (d : Dir) → is_flagged m table c d ≡ true → far_of m c d ≡ Some e → Was c (dir_number d) →
+      Now c (dir_number d) ⊎ (number_at m levels e ≤ number_at m levels c + 1)) → Ongoing levels queue Was → Ongoing levels queue Now
+  others_wait levels queue Was Now to now = record {
     long = now.long;
     inside = now.inside;
     known = now.known;
@@ -82,58 +83,48 @@ module _ (m : Description) (table : List Bool) (seeds : List Chip) (top : ℕ) w
     few = now.few;
     near = λ c e d inside low flagged leads. elim (now.near c e d inside low flagged leads) [
       | inr done ↦ inr done
-      | inl waits ↦ elim (cases_eq waits.0 next) [
+      | inl waits ↦ to c e d flagged leads waits
+    ];
+  }
+
+  -- the first link of the chip at next
+  pub start_links : (levels : List ℕ) (queue : List Chip) (next : ℕ) (at : Chip) → next < length queue → get_or queue next at ≡ at →
+      Ongoing levels queue (λ c j. Waits queue next c) → Ongoing levels queue (WaitsFrom queue next at 0)
+  start_links levels queue next at within is = others_wait levels queue (λ c j. Waits queue next c) (WaitsFrom queue next at 0) (λ c e d flagged leads waits.
+      elim (cases_eq waits.0 next) [
         | inl here ↦
             let same : c ≡ at = sym waits.3 ∙ (ap (λ k. get_or queue k c) here ∙ (get_or_default queue next c at within ∙ is)) in
             inl (inr (same, omega arith))
         | inr behind ↦ inl (inl (waits.0, (let low : next ≤ waits.0 = waits.1 in omega arith), waits.2, waits.3))
-      ]
-    ];
-  }
+      ])
 
   -- all six links of the chip at next were looked at
   pub end_links : (levels : List ℕ) (queue : List Chip) (next : ℕ) (at : Chip) (i : ℕ) → 6 ≤ i → ((d : Dir) → dir_number d < 6) →
       Ongoing levels queue (WaitsFrom queue next at i) → Ongoing levels queue (λ c j. Waits queue (next + 1) c)
-  end_links levels queue next at i past six now = record {
-    long = now.long;
-    inside = now.inside;
-    known = now.known;
-    at_seeds = now.at_seeds;
-    walks = now.walks;
-    few = now.few;
-    near = λ c e d inside low flagged leads. elim (now.near c e d inside low flagged leads) [
-      | inr done ↦ inr done
-      | inl (inl waits) ↦ inl waits
-      | inl (inr here) ↦ absurd (let below : dir_number d < 6 = six d in let beyond : i ≤ dir_number d = here.1 in omega arith)
-    ];
-  }
+  end_links levels queue next at i past six = others_wait levels queue (WaitsFrom queue next at i) (λ c j. Waits queue (next + 1) c) (λ c e d flagged leads waits.
+      elim waits [
+        | inl waits ↦ inl waits
+        | inr here ↦ absurd (let below : dir_number d < 6 = six d in let beyond : i ≤ dir_number d = here.1 in omega arith)
+      ])
 
   -- a link that leads to no number more than one greater
   pub pass_link : (levels : List ℕ) (queue : List Chip) (next : ℕ) (at : Chip) (d : Dir) →
       ((e : Chip) → is_flagged m table at d ≡ true → far_of m at d ≡ Some e → number_at m levels e ≤ number_at m levels at + 1) →
       Ongoing levels queue (WaitsFrom queue next at (dir_number d)) → Ongoing levels queue (WaitsFrom queue next at (dir_number d + 1))
-  pass_link levels queue next at d fine now = record {
-    long = now.long;
-    inside = now.inside;
-    known = now.known;
-    at_seeds = now.at_seeds;
-    walks = now.walks;
-    few = now.few;
-    near = λ c e f inside low flagged leads. elim (now.near c e f inside low flagged leads) [
-      | inr done ↦ inr done
-      | inl (inl waits) ↦ inl (inl waits)
-      | inl (inr here) ↦ elim (cases_eq (dir_number f) (dir_number d)) [
-        | inr other ↦ inl (inr (here.0, (let from : dir_number d ≤ dir_number f = here.1 in omega arith)))
-        | inl same ↦
-            let link : f ≡ d = same_dir f d same in
-            let flagged_here : is_flagged m table at d ≡ true =
-            ap (λ (o : Dir). is_flagged m table at o) (sym link) ∙ (ap (λ (x : Chip). is_flagged m table x f) (sym here.0) ∙ flagged) in
-            let leads_here : far_of m at d ≡ Some e =
-            ap (λ (o : Dir). far_of m at o) (sym link) ∙ (ap (λ (x : Chip). far_of m x f) (sym here.0) ∙ leads) in
-            inr (subst (λ (x : Chip). number_at m levels e ≤ number_at m levels x + 1) (sym here.0) (fine e flagged_here leads_here))
-      ]
-    ];
-  }
+  pass_link levels queue next at d fine = others_wait levels queue (WaitsFrom queue next at (dir_number d)) (WaitsFrom queue next at (dir_number d + 1)) (λ c e f flagged leads waits.
+      elim waits [
+        | inl waits ↦ inl (inl waits)
+        | inr here ↦ elim (cases_eq (dir_number f) (dir_number d)) [
+          | inr other ↦ inl (inr (here.0, (let from : dir_number d ≤ dir_number f = here.1 in omega arith)))
+          | inl same ↦
+              let link : f ≡ d = same_dir f d same in
+              let flagged_here : is_flagged m table at d ≡ true =
+              ap (λ (o : Dir). is_flagged m table at o) (sym link) ∙ (ap (λ (x : Chip). is_flagged m table x f) (sym here.0) ∙ flagged) in
+              let leads_here : far_of m at d ≡ Some e =
+              ap (λ (o : Dir). far_of m at o) (sym link) ∙ (ap (λ (x : Chip). far_of m x f) (sym here.0) ∙ leads) in
+              inr (subst (λ (x : Chip). number_at m levels e ≤ number_at m levels x + 1) (sym here.0) (fine e flagged_here leads_here))
+        ]
+      ])
 
   -- a link that leads to a greater number: that number is lowered, and its chip waits
   pub lower : (levels : List ℕ) (queue : List Chip) (next : ℕ) (at e : Chip) (d : Dir) → IsInside m at →
