@@ -26,12 +26,12 @@ use Rattle.app_loads.specs.declared.loaded.LoadedApp.{LoadedApp}
 use Rattle.app_loads.specs.declared.loaded.Range.{Range}
 use Rattle.app_loads.specs.declared.plans.AppNet.{AppNet}
 use Rattle.app_loads.specs.Applications.{IsLoadedOn, IsRangeFor}
-use Rattle.app_loads.specs.Claims.{claims_of}
+use Rattle.app_loads.specs.Claims.{claims_of, IsBlockOf}
 use Rattle.app_loads.specs.Host.{net_with, nets_with, nets_of}
 use Rattle.app_loads.specs.Plans.{IsAppNet, IsBefore}
 use Rattle.app_loads.specs.Regions.{AreApart, has_place}
 use Rattle.app_loads.proofs.Blocks.{block_keys}
-use Rattle.app_loads.proofs.ClaimCases.{facts, same_net}
+use Rattle.app_loads.proofs.ClaimCases.{facts, same_net, IsKeyClaim}
 
 -- a net with its block is made of the net and the block of its place
 pub nets_with_parts : (nets : List AppNet) (blocks : List Block) (i : ℕ) (x : NetPlan) → slice_get (nets_with nets blocks) i ≡ Some x →
@@ -71,25 +71,21 @@ within_keys : (key keys size index : ℕ) → keys ≤ size → index < keys →
 within_keys key keys size index many below = omega (arith, many, below)
 
 module _ (m : Description) (app : LoadedApp) (loaded : IsLoadedOn m app) where
-  pub facts_at : (j : ℕ) (x : NetPlan) → slice_get (nets_of app) j ≡ Some x → NetFacts m app x j
-  facts_at j x e =
-      let parts = nets_with_parts app.plan.nets app.blocks j x e in
-      let b = loaded.blocks.each j parts.1 parts.3 in
-      let f = (facts m app.plan loaded.plan b.claim (Contains-at (claims_of m app.plan) b.at b.claim b.is)).keyed j b.its in
-      let ranged = AllZip-at_first IsRangeFor (claims_of m app.plan) app.ranges loaded.ranges b.at b.claim b.is in
-      let same : ranged.0 ≡ b.range = same_Some _ _ (sym ranged.1 ∙ b.got) in
-      let region : b.range.region ≡ b.claim.region = ap (λ (r : Range). r.region) (sym same) ∙ ranged.2.0 in
-      let size : b.range.size ≡ b.claim.size = ap (λ (r : Range). r.size) (sym same) ∙ ranged.2.1 in
-      let one_net : f.net ≡ parts.0 = same_Some _ _ (sym f.is ∙ parts.2) in
-      let mask : parts.1.mask + 2 ^ f.e ≡ 2 ^ 32 = ap (λ s. parts.1.mask + s) (sym (size ∙ f.size)) ∙ b.mask in
-      let enough : parts.0.keys ≤ b.claim.size = subst (λ (n : AppNet). n.keys ≤ b.claim.size) one_net f.enough in
+  -- from the net, its block, and the claim and range of these
+  made_of : (j : ℕ) (x : NetPlan) (net : AppNet) (block : Block) → slice_get app.plan.nets j ≡ Some net → slice_get app.blocks j ≡ Some block → net_with net block ≡ x →
+      (b : IsBlockOf (claims_of m app.plan) app.ranges j block) → IsKeyClaim m app.plan loaded.plan b.claim j → (r : Range) → slice_get app.ranges b.at ≡ Some r → IsRangeFor b.claim r → NetFacts m app x j
+  made_of j x net block at_net at_block is b f r got for =
+      let same : r ≡ b.range = same_Some r b.range (sym got ∙ b.got) in
+      let region : b.range.region ≡ b.claim.region = ap (λ (z : Range). z.region) (sym same) ∙ for.0 in
+      let size : b.range.size ≡ b.claim.size = ap (λ (z : Range). z.size) (sym same) ∙ for.1 in
+      let one_net : f.net ≡ net = same_Some f.net net (sym f.is ∙ at_net) in
       record {
-        net = parts.0;
-        block = parts.1;
-        at_net = parts.2;
-        at_block = parts.3;
-        is = parts.4;
-        valid = All-at (IsAppNet m app.plan.spots) app.plan.nets j parts.0 loaded.plan.nets parts.2;
+        net = net;
+        block = block;
+        at_net = at_net;
+        at_block = at_block;
+        is = is;
+        valid = All-at (IsAppNet m app.plan.spots) app.plan.nets j net loaded.plan.nets at_net;
         at = b.at;
         claim = b.claim;
         at_claim = b.is;
@@ -98,9 +94,20 @@ module _ (m : Description) (app : LoadedApp) (loaded : IsLoadedOn m app) where
         got = b.got;
         region = region ∙ f.region;
         place = b.key;
-        keys = subst (λ s. (k : ℕ) → k < 2 ^ 32 → Matches parts.1 k ↔ ((parts.1.key ≤ k) × (k < parts.1.key + s))) (sym (size ∙ f.size)) (block_keys parts.1 f.e f.few mask);
-        enough = subst (λ s. parts.0.keys ≤ s) (sym size) enough;
+        keys = subst (λ s. (k : ℕ) → k < 2 ^ 32 → Matches block k ↔ ((block.key ≤ k) × (k < block.key + s))) (sym (size ∙ f.size)) (block_keys block f.e f.few (ap (λ s. block.mask + s) (sym (size ∙ f.size)) ∙ b.mask));
+        enough = subst (λ s. net.keys ≤ s) (sym size) (subst (λ (n : AppNet). n.keys ≤ b.claim.size) one_net f.enough);
       }
+
+  pub facts_at : (j : ℕ) (x : NetPlan) → slice_get (nets_of app) j ≡ Some x → NetFacts m app x j
+  facts_at j x e = by_parts (nets_with_parts app.plan.nets app.blocks j x e)
+    where
+      by_claim : (net : AppNet) (block : Block) → slice_get app.plan.nets j ≡ Some net → slice_get app.blocks j ≡ Some block → net_with net block ≡ x → IsBlockOf (claims_of m app.plan) app.ranges j block → NetFacts m app x j
+      by_claim net block at_net at_block is b =
+          let ranged = AllZip-at_first IsRangeFor (claims_of m app.plan) app.ranges loaded.ranges b.at b.claim b.is in
+          made_of j x net block at_net at_block is b ((facts m app.plan loaded.plan b.claim (Contains-at (claims_of m app.plan) b.at b.claim b.is)).keyed j b.its) ranged.0 ranged.1 ranged.2
+
+      by_parts : ((net : AppNet) × (block : Block) × (slice_get app.plan.nets j ≡ Some net) × (slice_get app.blocks j ≡ Some block) × (net_with net block ≡ x)) → NetFacts m app x j
+      by_parts (net, block, at_net, at_block, is) = by_claim net block at_net at_block is (loaded.blocks.each j block at_block)
 
   pub facts_of : (x : NetPlan) (has : Contains (nets_of app) x) → NetFacts m app x has.0
   facts_of x has = facts_at has.0 x (member_at (nets_of app) x has)

@@ -1,5 +1,5 @@
 -- How many entries nets need of a chip, counted in the list of the chips of their trees.
-use Rattle.std.proofs.Common.{◌≡◌, ◌≢◌, ℕ, zero, suc, ◌+◌, ◌-◌, ◌*◌, ◌<◌, ◌≤◌, Bool, true, false, ◌||◌, ◌==◌, List, [], ◌∷◌, ◌++◌, get_or, length, refl, sym, ap, ◌∙◌, inl, inr, arith, Option, None, Some, Result, Ok, Err, OnOk, append_assoc, append-nil, count_by, if◌then◌else◌}
+use Rattle.std.proofs.Common.{◌≡◌, ◌≢◌, ℕ, zero, suc, ◌+◌, ◌-◌, ◌*◌, ◌<◌, ◌≤◌, Bool, true, false, ◌||◌, ◌==◌, List, [], ◌∷◌, ◌++◌, get_or, length, refl, sym, ap, ◌∙◌, inl, inr, arith, Option, None, Some, Result, Ok, Err, OnOk, append_assoc, append-nil, count_by, if◌then◌else◌, take}
 use Rattle.std.specs.List.{list_any, slice_get, All, AllPairs, flat_map, range_with_len, sum_by}
 use Rattle.std.specs.List.Sorted.{IsPermutation}
 use Rattle.std.specs.Option.{option_map_or}
@@ -9,10 +9,11 @@ use Rattle.std.proofs.lemmas.List.Elements.{All-nil, All-cons, All-head, All-tai
 use Rattle.std.proofs.lemmas.List.Sorted.{All-permutation, sum_by-IsPermutation}
 use Rattle.std.proofs.lemmas.List.Sums.{sum_by-cons}
 use Rattle.std.proofs.lemmas.Option.{slice_get_within, get_or_from_slice_get}
+use Rattle.std.proofs.lemmas.List.{flat_map_more}
 use Rattle.spin_base.proofs.Equality.{chip_eq_true}
 use Rattle.list_laws.proofs.Counts.{count_by-append, count_by-cons}
 use Rattle.list_laws.proofs.Pairs.{AllPairs-head, AllPairs-tail}
-use Rattle.list_laws.proofs.Places.{All-at, slice_get_there}
+use Rattle.list_laws.proofs.Places.{All-at, slice_get_there, take_more_at}
 use Rattle.spin_base.specs.declared.chips.Chip.{Chip}
 use Rattle.spin_base.specs.Equality.{chip_eq}
 use Rattle.spin_base.specs.declared.wants.Memory.{Memory}
@@ -191,6 +192,15 @@ module _ (m : Description) (chips : List ℕ) where
         ∙ append-nil (flat_map (run_claim m chips) (range_with_len 0 so_far.next)))))))
 
 -- ---- chips of trees
+
+-- the ends of one edge more, behind the root
+pub ends_more : {X Y : Type 0} (f : X → List Y) (xs : List X) (i : ℕ) (x : X) (start before after : List Y) (y : Y) → slice_get xs i ≡ Some x →
+    before ≡ start ++ y ∷ flat_map f (take i xs) → after ≡ before ++ f x → after ≡ start ++ y ∷ flat_map f (take (i + 1) xs)
+ends_more f xs i x start before after y at so_far new =
+    new
+    ∙ (ap (λ l. l ++ f x) so_far
+    ∙ (append_assoc start (y ∷ flat_map f (take i xs)) (f x)
+    ∙ ap (λ l. start ++ l) (flat_map_more f (y ∷ []) (take i xs) x ∙ ap (λ l. y ∷ flat_map f l) (sym (take_more_at xs i x at)))))
 
 one_case : (m : Description) (i : ℕ) (c d : Chip) → c ≡ chip_of m i → i < m.width * m.height → IsInside m d → (index_of m d == i) ≡ chip_eq c d
 one_case m i c d is below inside = elim (cases_eq (index_of m d) i) [

@@ -1,11 +1,25 @@
-use Rattle.std.proofs.Common.{subst, sym, List}
-use Rattle.std.specs.List.{All}
+use Rattle.std.proofs.Common.{◌∙◌, ◌++◌, ◌∷◌, ap, subst, sym, List}
+use Rattle.std.specs.List.{All, flat_map}
+use Rattle.std.proofs.lemmas.List.{take_all}
+use Rattle.std.proofs.lemmas.Option.{slice_get-get_or}
 use Rattle.machine_desc.specs.declared.trees.Edge.{Edge}
-use Rattle.machine_desc.specs.Live.{IsInside}
-use Rattle.app_loads.proofs.RowClaims.{edges_in}
+use Rattle.machine_desc.specs.Live.{index_of, IsInside}
+use Rattle.app_loads.specs.Counting.{end_places}
+use Rattle.app_loads.proofs.RowClaims.{edges_in, ends_more}
 use Rattle.app_loads.proofs.claims.push_tree.Goals as goal
 
 pub push_end-requires : goal.push_end-requires
 push_end-requires c =
     subst (λ (l : List Edge). All (λ (e : Edge). IsInside c.args.machine.now e.chip) l) (sym c.as_slice-edge-items.ensures) (edges_in c.args.machine.now c.args.net.now c.requires)
     c.loop-edge.edge-index _ c.loop-edge-test.true
+
+pub loop-edge-preserved : goal.loop-edge-preserved
+loop-edge-preserved c =
+    ends_more (end_places c.args.machine.now) c.as_slice-edge-items.result.now c.loop-edge.edge-index _ c.args.chips.now.items c.loop-edge.chips.items c.push_end.new.chips.items (index_of c.args.machine.now c.args.net.now.tree.root)
+    (slice_get-get_or c.as_slice-edge-items.result.now c.loop-edge.edge-index _ c.loop-edge-test.true) c.loop-edge.invariant c.in_ok-push_end.ensures
+
+pub returns : goal.returns
+returns c =
+    c.loop-edge.invariant
+    ∙ ap (λ (l : List Edge). c.args.chips.now.items ++ index_of c.args.machine.now c.args.net.now.tree.root ∷ flat_map (end_places c.args.machine.now) l)
+    (take_all c.loop-edge.edge-index c.as_slice-edge-items.result.now c.loop-edge-test.false ∙ c.as_slice-edge-items.ensures)

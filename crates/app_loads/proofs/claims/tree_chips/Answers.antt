@@ -1,6 +1,30 @@
-use Rattle.std.proofs.Common.{arith}
+use Rattle.std.proofs.Common.{◌∙◌, ap, subst, sym, arith, take, List, [], ◌++◌, Some, ℕ}
+use Rattle.std.specs.List.{flat_map}
+use Rattle.std.specs.List.Sorted.{IsPermutation}
+use Rattle.std.proofs.lemmas.List.{flat_map_more, take_all}
 use Rattle.std.proofs.lemmas.List.Sorted.{IsNonDecreasingBy-from_sort}
+use Rattle.std.proofs.lemmas.Option.{slice_get-get_or}
+use Rattle.list_laws.proofs.Places.{take_more_at}
+use Rattle.app_loads.specs.Counting.{HasTree, tree_places}
+use Rattle.app_loads.specs.declared.plans.AppNet.{AppNet}
 use Rattle.app_loads.proofs.claims.tree_chips.Goals as goal
+
+pub push_tree-requires : goal.push_tree-requires
+push_tree-requires c = subst (HasTree c.args.machine.now) (sym c.net-item.is) (c.requires c.loop-net.net-index c.net-item.result c.loop-net-test.true)
+
+pub loop-net-preserved : goal.loop-net-preserved
+loop-net-preserved c =
+    let f : AppNet → List ℕ = tree_places c.args.machine.now in
+    let i = c.loop-net.net-index in
+    let net = c.net-item.result in
+    let at = slice_get-get_or c.args.nets.now i net c.loop-net-test.true ∙ ap Some (sym c.net-item.is) in
+    c.in_ok-push_tree.ensures
+    ∙ (ap (λ l. l ++ f net) c.loop-net.invariant ∙ (flat_map_more f [] (take i c.args.nets.now) net ∙ ap (flat_map f) (sym (take_more_at c.args.nets.now i net at))))
+
+pub returns-clause-same : goal.returns-clause-same
+returns-clause-same c =
+    subst (λ (l : List ℕ). IsPermutation l c.sort.new.self.items)
+    (c.loop-net.invariant ∙ ap (flat_map (tree_places c.args.machine.now)) (take_all c.loop-net.net-index c.args.nets.now c.loop-net-test.false)) c.in_ok-sort.ensures.permutation
 
 pub returns-clause-sorted : goal.returns-clause-sorted
 returns-clause-sorted c i j d before within =

@@ -1,15 +1,39 @@
-use Rattle.std.proofs.Common.{subst, sym, List}
+use Rattle.std.proofs.Common.{subst, sym, List, refl, inl}
 use Rattle.machine_desc.specs.Description.{Description}
 use Rattle.app_loads.specs.declared.loaded.Range.{Range}
+use Rattle.app_loads.specs.Claims.{claims_of}
 use Rattle.app_loads.specs.Joining.{IsServed}
-use Rattle.app_loads.specs.Taking.{AreTaken, HaveRoom}
+use Rattle.app_loads.specs.Plans.{IsPlan}
+use Rattle.app_loads.specs.Taking.{AreRegionsOf, AreTaken, HaveRoom, IsDueAlways}
 use Rattle.app_loads.proofs.JoinLaws.{can_settle}
 use Rattle.app_loads.proofs.loads.join.Goals as goal
+
+pub serve-requires-clause-plan : goal.serve-requires-clause-plan
+serve-requires-clause-plan c = subst (λ (m : Description). IsPlan m c.args.plan.now) (sym c.machine.ensures) c.requires.valid
+
+pub serve-requires-clause-regions : goal.serve-requires-clause-regions
+serve-requires-clause-regions c = subst (λ (m : Description). AreRegionsOf m c.args.regions.now) (sym c.machine.ensures) c.requires.of_machine
+
+pub returns-in-Err-clause-due : goal.returns-in-Err-clause-due
+returns-in-Err-clause-due c = subst (λ (m : Description). IsDueAlways (claims_of m c.args.plan.now) c.args.regions.now c.in-Err.refusal) c.machine.ensures c.in-Err.ensures.due
+
+pub returns-in-Err-clause-mesh_refused : goal.returns-in-Err-clause-mesh_refused
+returns-in-Err-clause-mesh_refused c = refl
+
+pub returns-in-Err-clause-back : goal.returns-in-Err-clause-back
+returns-in-Err-clause-back c = c.in-Err.ensures.back
 
 pub settle-mesh-requires : goal.settle-mesh-requires
 settle-mesh-requires c =
     can_settle c.args.mesh c.args.regions.now c.serve.new.regions c.args.number c.args.first c.args.plan.now c.in-Ok.app c.requires
     (subst (λ (m : Description). IsServed m c.args.regions.now c.args.number c.args.first c.args.plan.now c.in-Ok.app c.serve.new.regions) c.machine.ensures c.in-Ok.ensures.served)
+
+pub returns-in-Ok-settled-clause-served : goal.returns-in-Ok-settled-clause-served
+returns-in-Ok-settled-clause-served c =
+    subst (λ (m : Description). IsServed m c.args.regions.now c.args.number c.args.first c.args.plan.now c.in-Ok.app c.serve.new.regions) c.machine.ensures c.in-Ok.ensures.served
+
+pub returns-in-Err-settled-clause-due : goal.returns-in-Err-settled-clause-due
+returns-in-Err-settled-clause-due c = inl refl
 
 pub give_all-requires-clause-taken : goal.give_all-requires-clause-taken
 give_all-requires-clause-taken c =

@@ -1,9 +1,35 @@
-use Rattle.std.proofs.Common.{◌∙◌, sym, subst, List}
+use Rattle.std.proofs.Common.{◌∙◌, ◌<◌, sym, subst, List, length}
+use Rattle.std.proofs.lemmas.List.Elements.{All-weaker}
 use Rattle.mesh_core.specs.InParts.{state_in}
+use Rattle.mesh_core.specs.State.{State, IsMesh}
 use Rattle.app_loads.specs.declared.loaded.Range.{Range}
+use Rattle.app_loads.specs.Leaving.{IsLeastUnderWay}
+use Rattle.app_loads.specs.Regions.{IsWithin}
 use Rattle.app_loads.specs.Taking.{HaveRoom}
 use Rattle.app_loads.proofs.LeftMesh.{can_clear, parted_whole, taken_still}
 use Rattle.app_loads.proofs.unloads.leave.Goals as goal
+
+pub least_waiting-requires : goal.least_waiting-requires
+least_waiting-requires c = subst IsMesh (sym c.take_apart-parts.ensures.parts) c.take_apart-parts.ensures.mesh
+
+pub put_together-requires : goal.put_together-requires
+put_together-requires c = subst IsMesh (sym c.take_apart-parts.ensures.parts) c.take_apart-parts.ensures.mesh
+
+pub put_together-requires-in-Err : goal.put_together-requires-in-Err
+put_together-requires-in-Err c = subst IsMesh (sym c.take_apart-parts.ensures.parts) c.take_apart-parts.ensures.mesh
+
+pub returns-in-Some-clause-why : goal.returns-in-Some-clause-why
+returns-in-Some-clause-why c = subst (λ (s : State). IsLeastUnderWay s c.args.app.now c.in-Some.packet) c.take_apart-parts.ensures.parts c.in-Some.ensures.some
+
+pub returns-in-Some-clause-mesh_refused : goal.returns-in-Some-clause-mesh_refused
+returns-in-Some-clause-mesh_refused c = c.put_together.ensures ∙ c.take_apart-parts.ensures.parts
+
+pub make_ready-requires : goal.make_ready-requires
+make_ready-requires c =
+    All-weaker (IsWithin c.args.mesh.setup.machine (length c.args.regions.now)) (λ (r : Range). r.region < length c.args.regions.now) (λ r within. within.there) c.args.app.now.ranges c.requires.taken.within
+
+pub returns-in-Err-clause-back : goal.returns-in-Err-clause-back
+returns-in-Err-clause-back c = c.make_ready.ensures.same
 
 pub give_all-requires-clause-taken : goal.give_all-requires-clause-taken
 give_all-requires-clause-taken c = (
