@@ -5,8 +5,8 @@ ghost use Rattle.app_graph.specs.ValidGraph.{IsValidGraph};
 ghost use Rattle.job_text.specs.Reading.{Gives};
 ghost use Rattle.check_request.specs.Requests.{own_faults, job_member, one_each_faults, trees_faults, trees_value, image_faults, image_value, request_faults, request_value};
 
-use crate::entries::{bytes_in, trees_in};
-use job_readers::{Job, job_of};
+use crate::entries::{Trees, bytes_in};
+use job_readers::{Job, each_item, job_of};
 use job_text::{TextErr, list, member, member_path, range, shape};
 use machine_desc::Edge;
 use serde_json::Value;
@@ -76,13 +76,11 @@ fn trees_of(alloc: Global, value: &Value, path: &Name, job: &Job) -> Result<Seq<
     let path = member_path(alloc, path, "trees")?;
     let items = list(alloc, member(value, "trees"), &path, true)?;
     one_each(alloc, items, job.graph.nets.len() as u64, &path)?;
-    trees_in(
-        alloc,
-        items,
-        &path,
-        job.machine.width(),
-        job.machine.height(),
-    )
+    let trees = Trees {
+        width: job.machine.width(),
+        height: job.machine.height(),
+    };
+    each_item(alloc, items, &path, &trees)
 }
 
 // The bytes of the image of a request.

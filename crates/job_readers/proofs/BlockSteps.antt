@@ -9,7 +9,7 @@ use Rattle.std.proofs.lemmas.Grind.{pow_more}
 use Rattle.std.proofs.Math.Nat.{mod-lt}
 use Rattle.spin_base.specs.declared.blocks.Block.{Block}
 use Rattle.app_graph.specs.ValidGraph.{IsFixedFor}
-use Rattle.tern_word.proofs.BlockLaws.{one_block, exponent_le}
+use Rattle.tern_word.proofs.BlockLaws.{same_block, exponent_le}
 use Rattle.job_readers.specs.Blocks.{mask_from, block_at}
 
 -- a number with one 1 is a power of two
@@ -38,18 +38,9 @@ fixed_for keys mask small power enough =
     let within : 2 ^ p.0 ≤ 2 ^ 32 = omega (arith, p.1) in
     (p.0, exponent_le p.0 within, omega (arith, p.1), omega (arith, p.1))
 
--- blocks with the same key and mask are one
-same_parts : (x y : Block) → x.key ≡ y.key → x.mask ≡ y.mask → x ≡ y
-same_parts x y keys masks =
-    let Q : ℕ → Type 0 = λ m. (w : bit_and x.key m ≡ x.key) (s : m < 2 ^ 32) → ◌≡◌ {A = Block} x (record { key = x.key; mask = m; within = w; small = s }) in
-    let q : Q y.mask = subst Q masks (λ w s. one_block x.key x.mask x.within w x.small s) in
-    let R : ℕ → Type 0 = λ k. (w : bit_and k y.mask ≡ k) → ◌≡◌ {A = Block} x (record { key = k; mask = y.mask; within = w; small = y.small }) in
-    let r : R y.key = subst R keys (λ w. q w y.small) in
-    r y.within
-
 -- a block is that of its key and mask
 pub block_is : (b : Block) → b ≡ block_at b.key b.mask
 unfolding block_at
 block_is b =
     let mask : b.mask ≡ mask_from b.mask = omega (arith, b.small) in
-    same_parts b _ (sym b.within ∙ ap (bit_and b.key) mask) mask
+    same_block b _ (sym b.within ∙ ap (bit_and b.key) mask) mask

@@ -8,9 +8,9 @@ use Rattle.std.proofs.lemmas.List.Folds.{list_any-append}
 use Rattle.std.proofs.lemmas.List.Quantifiers.{all_pairs_push}
 use Rattle.serde_json.specs.Data.{Data}
 use Rattle.spin_base.specs.declared.blocks.Block.{Block}
-use Rattle.spin_base.proofs.Equality.{chip_eq_same, dir_eq_same}
 use Rattle.machine_desc.specs.declared.trees.Edge.{Edge}
 use Rattle.machine_desc.specs.Equality.{edge_eq}
+use Rattle.machine_desc.proofs.Same.{edge_eq_self}
 use Rattle.app_graph.specs.declared.graphs.Vertex.{Vertex}
 use Rattle.app_graph.specs.declared.graphs.Net.{Net}
 use Rattle.app_graph.specs.ValidGraph.{HaveDifferentDevices, AreFixedApart, AreApart}
@@ -31,9 +31,6 @@ listed_any f p (x ∷ xs) (suc k) d a below is holds =
     ∙ or_right (list_any p (option_to_list (f x))) (list_any p (flat_map (λ y. option_to_list (f y)) xs)) (listed_any f p xs k d a (omega arith) is holds)
 
 -- ---- vertices
-
-edge_eq_same : (e : Edge) → edge_eq e e ≡ true
-edge_eq_same e = rw (chip_eq_same e.chip, dir_eq_same e.dir) refl
 
 pub next_vertex : (version : ℕ) (names : List (List ℕ)) (devices : List Edge) (vs : List Vertex) (at : List ℕ) (d : Data) → names ≡ vertex_names_of vs → devices ≡ devices_of vs → vertex_faults version names devices at d ≡ next_vertex_faults version vs at d
 next_vertex version names devices vs at d named hung = rw (named, hung) refl
@@ -56,7 +53,7 @@ differs : (vs : List Vertex) (v : Vertex) → IfSome v.device (λ e. is_among (d
 unfolding devices_of is_among
 differs vs v fresh k d below e mine its =
     let absent : is_among (devices_of vs) e ≡ false = subst (λ o. IfSome o (λ b. is_among (devices_of vs) b ≡ false)) its fresh in
-    true≢false (sym (listed_any (λ (w : Vertex). w.device) (λ f. edge_eq f e) vs k d e below mine (edge_eq_same e)) ∙ absent)
+    true≢false (sym (listed_any (λ (w : Vertex). w.device) (λ f. edge_eq f e) vs k d e below mine (edge_eq_self e)) ∙ absent)
 
 pub different_more : (vs new : List Vertex) (v : Vertex) (devices : List Edge) → new ≡ vs ++ v ∷ [] → devices ≡ devices_of vs → IfSome v.device (λ e. is_among devices e ≡ false) → AllPairs HaveDifferentDevices vs → AllPairs HaveDifferentDevices new
 different_more vs new v devices pushed hung fresh pairs =

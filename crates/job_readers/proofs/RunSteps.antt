@@ -1,6 +1,7 @@
 -- The nets at their places, and the items of an event.
 use Rattle.std.proofs.Common.{◌≡◌, ℕ, zero, suc, ◌-◌, ◌<◌, ◌≤◌, List, [], ◌∷◌, length, map, get_or, Option, Some, None, refl, ap, sym, subst, ◌∙◌}
 use Rattle.std.specs.Prelude.{slice_get, All}
+use Rattle.std.proofs.lemmas.Option.{get_or_from_slice_get}
 use Rattle.serde_json.specs.Data.{Data}
 use Rattle.serde_json.specs.Find.{as_array}
 use Rattle.serde_json.specs.View.{items_of}
@@ -9,15 +10,9 @@ use Rattle.job_text.proofs.Items.{list_of-items_of}
 use Rattle.app_graph.specs.RunPart.{keys_of}
 use Rattle.job_readers.specs.RunPart.{items_in}
 
--- what stands at a place
-pub at_place : {A : Type 0} (xs : List A) (i : ℕ) (x : A) → slice_get xs i ≡ Some x → get_or xs i x ≡ x
-at_place [] i x e = absurd cc
-at_place (y ∷ ys) zero x e = cc
-at_place (y ∷ ys) (suc i) x e = at_place ys i x e
-
 -- what holds of all items holds of the one at a place
 pub holds_at : {A : Type 0} (P : A → Type 0) (xs : List A) (i : ℕ) (x : A) → All P xs → i < length xs → slice_get xs i ≡ Some x → P x
-holds_at P xs i x all below e = subst P (at_place xs i x e) (all i x below)
+holds_at P xs i x all below e = subst P (get_or_from_slice_get xs i x x e) (all i x below)
 
 -- how many keys the net at a place has
 pub keys_at : (nets : List Net) (i : ℕ) (n : Net) → slice_get nets i ≡ Some n → n.keys ≡ keys_of nets i

@@ -104,13 +104,9 @@ pub(crate) fn core_in(
     })
 }
 
-/// The link of a chip of a grid that an item is: `[x,y,d]`, with `d` from 0 (East) anticlockwise.
-///
-/// # Errors
-///
-/// `Shape` where it is no list of three whole numbers, `Range` where the chip is outside or there is no such link; `Memory`.
+// A link of a chip of a grid: its number is from 0 (East) anticlockwise.
 #[tactic(auto, unfolding(crate::specs::Entries::link_faults, crate::specs::Entries::link_value))]
-pub fn link_in(
+pub(crate) fn link_in(
     alloc: Global,
     item: &Value,
     path: &Name,

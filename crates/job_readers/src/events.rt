@@ -5,14 +5,14 @@ ghost use Rattle.spin_base.specs.Outputs.{IsOutput};
 ghost use Rattle.job_text.specs.Reading.{Gives};
 ghost use Rattle.app_graph.specs.ValidGraph.{IsValidGraph};
 ghost use Rattle.app_graph.specs.RunPart.{IsEventOf};
-ghost use Rattle.job_readers.specs.Items.{items_faults};
-ghost use Rattle.job_readers.specs.RunPart.{link_named, core_named, port_named, out_named, one_text, chip_and_text, items_in, at_vertex_faults, at_vertex, at_chip_faults, chip_of_event, port_of_event, out_of_event, worded_faults, worded_event, event_faults, event_value, events_faults, events_value};
+ghost use Rattle.job_readers.specs.RunPart.{link_named, core_named, port_named, out_named, one_text, chip_and_text, items_in, at_vertex_faults, at_vertex, at_chip_faults, chip_of_event, port_of_event, out_of_event, worded_faults, worded_event, events_faults, events_value};
 
 use crate::graph_parts::names_of_vertices;
+use crate::items::{ItemReader, each_item};
 use crate::members::long_list_of;
 use crate::names::{Names, unknown};
 use app_graph::Graph;
-use job_text::{TextErr, item_path, may_name, member_path, range, shape};
+use job_text::{TextErr, may_name, member_path, range, shape};
 use serde_json::Value;
 use spin_base::{Chip, Dir, Event, Name, Out, Port, Seq};
 use std::alloc::Global;
@@ -223,36 +223,37 @@ pub fn items_in<'a>(item: &'a Value) -> &'a [Value]
     }
 }
 
-#[tactic(auto, unfolding(crate::specs::RunPart::event_faults, crate::specs::RunPart::event_value))]
-fn event(alloc: Global, item: &Value, path: &Name, vertices: &Names) -> Result<Event, TextErr>
-    ensures read { Gives (λ e. e) result (event_faults vertices.now path.now (view item.now)) (event_value vertices.now (view item.now)) }
-    ensures valid { IfOk result (IsEventOf (length vertices.now)) }
-{
-    let [head, rest @ ..] = items_in(item) else {
-        return Err(shape(alloc, path));
-    };
-    let Some(word) = head.as_str() else {
-        return Err(shape(alloc, path));
-    };
-    worded(alloc, word, rest, path, vertices)
+// The vertices, by whose names events are read.
+#[derive(Clone, Copy)]
+struct Listed<'a, 'b> {
+    vertices: &'a Names<'b>,
 }
 
-fn each_event(
-    alloc: Global,
-    items: &[Value],
-    path: &Name,
-    vertices: &Names,
-) -> Result<Seq<Event>, TextErr>
-    ensures read { Gives (λ e. e) result (items_faults (event_faults vertices.now) path.now 0 (map view items.now)) (map (event_value vertices.now) (map view items.now)) }
-    ensures valid { IfOk result (λ es. All (IsEventOf (length vertices.now)) es) }
-{
-    let mut events = Seq::new(alloc);
-    for (i, item) in items.iter().enumerate() {
-        let path = item_path(alloc, path, i as u64)?;
-        let event = event(alloc, item, &path, vertices)?;
-        events.push(event)?;
+impl<'a, 'b> ItemReader for Listed<'a, 'b> {
+    ghost use Rattle.std.specs.Prelude.{⊤, length};
+    ghost use Rattle.app_graph.specs.RunPart.{IsEventOf};
+    ghost use Rattle.job_readers.specs.RunPart.{event_faults, event_value};
+
+    type Item = Event;
+
+    ghost IsReady = { λ _. ⊤ };
+
+    ghost faults = { λ among. event_faults among.vertices.now };
+
+    ghost value = { λ among. event_value among.vertices.now };
+
+    ghost Holds = { λ among. IsEventOf (length among.vertices.now) };
+
+    #[tactic(auto, unfolding(crate::specs::RunPart::event_faults, crate::specs::RunPart::event_value))]
+    fn read(&self, alloc: Global, item: &Value, path: &Name) -> Result<Event, TextErr> {
+        let [head, rest @ ..] = items_in(item) else {
+            return Err(shape(alloc, path));
+        };
+        let Some(word) = head.as_str() else {
+            return Err(shape(alloc, path));
+        };
+        worded(alloc, word, rest, path, self.vertices)
     }
-    Ok(events)
 }
 
 // The events of a run part.
@@ -270,5 +271,5 @@ pub(crate) fn events(
     let items = long_list_of(alloc, run, path, "events", false)?;
     let path = member_path(alloc, path, "events")?;
     let names = names_of_vertices(alloc, graph.vertices.as_slice())?;
-    each_event(alloc, items, &path, &names)
+    each_item(alloc, items, &path, &Listed { vertices: &names })
 }

@@ -6,15 +6,16 @@ ghost use Rattle.job_text.specs.Reading.{Gives, ◌▹◌};
 ghost use Rattle.job_text.specs.Fields.{list_value};
 ghost use Rattle.app_graph.specs.declared.graphs.Vertex.{Vertex};
 ghost use Rattle.app_graph.specs.ValidGraph.{IsValidVertex, IsValidNet, IsValidGraph, IsFixedFor, AreFixedApart, HaveDifferentDevices, HasSendingSource};
-ghost use Rattle.job_readers.specs.Items.{items_faults, following_faults};
+ghost use Rattle.job_readers.specs.Items.{following_faults};
 ghost use Rattle.job_readers.specs.Blocks.{shares_key};
 ghost use Rattle.job_readers.specs.Hung.{is_among};
 ghost use Rattle.job_readers.specs.Job.{own_faults};
-ghost use Rattle.job_readers.specs.GraphPart.{name_of, name_faults, at_faults, at_value, device_faults, device_value, vertex_faults, vertex_value, next_vertex_faults, vertices_faults, vertices_value, vertex_names_of, sender_in, source_faults, source_value, target_faults, target_value, some_faults, targets_faults, targets_value, fixed_faults, fixed_value, net_faults, net_value, next_net_faults, nets_faults, nets_value, graph_members_faults, graph_members, graph_faults, graph_value};
+ghost use Rattle.job_readers.specs.GraphPart.{name_of, name_faults, at_faults, at_value, device_faults, device_value, vertex_faults, vertex_value, next_vertex_faults, vertices_faults, vertices_value, vertex_names_of, sender_in, source_faults, source_value, some_faults, targets_faults, targets_value, fixed_faults, fixed_value, net_faults, net_value, next_net_faults, nets_faults, nets_value, graph_members_faults, graph_members, graph_faults, graph_value};
 
 use crate::blocks::{block_for, meets_any, put_behind};
 use crate::devices::Devices;
 use crate::entries::{chip_in, link_in, pair};
+use crate::items::{ItemReader, each_item};
 use crate::members::{list_of, member_from, number_of};
 use crate::names::{Names, clash, new_name, reference, said_name, unknown};
 use app_graph::{Graph, Net, Vertex};
@@ -43,12 +44,16 @@ const MOST_KEYS: u64 = 4294967296;
 
 // The name of an item, which no item before it has.
 #[tactic(auto, unfolding(crate::specs::GraphPart::name_faults, crate::specs::GraphPart::name_of))]
-fn item_name(alloc: Global, item: &Value, path: &Name, before: &Names) -> Result<Name, TextErr>
-    ensures { Gives (λ s. s) result (name_faults before.now path.now (view item.now)) (name_of (view item.now)) }
+fn item_name<'a>(
+    alloc: Global,
+    item: &'a Value,
+    path: &Name,
+    before: &Names,
+) -> Result<&'a str, TextErr>
+    ensures { Gives (λ s. s.now) result (name_faults before.now path.now (view item.now)) (name_of (view item.now)) }
 {
     let path = member_path(alloc, path, "name")?;
-    let said = new_name(alloc, member(item, "name"), &path, before)?;
-    Ok(Name::of(alloc, said)?)
+    new_name(alloc, member(item, "name"), &path, before)
 }
 
 // The chip on which a vertex must stand.
@@ -100,12 +105,12 @@ fn vertex(
     ensures fresh { IfOk result (λ v. IfSome v.device (λ e. is_among devices.now e ≡ false)) }
 {
     let item = object(alloc, Some(item), path)?;
-    let name = item_name(alloc, item, path, names)?;
+    let said = item_name(alloc, item, path, names)?;
     let sdram = number_of(alloc, item, path, "sdram", 0, CHIP_MEMORY, Some(0))? as u32;
     let at = vertex_place(alloc, item, path)?;
     let device = vertex_device(alloc, item, path, version, devices)?;
     Ok(Vertex {
-        name,
+        name: Name::of(alloc, said)?,
         sdram,
         at,
         device,
@@ -186,30 +191,30 @@ fn source(
     }
 }
 
-#[tactic(auto, unfolding(crate::specs::GraphPart::target_faults, crate::specs::GraphPart::target_value))]
-fn target(alloc: Global, item: &Value, path: &Name, vertices: &Names) -> Result<u32, TextErr>
-    ensures read { Gives (λ i. i) result (target_faults vertices.now path.now (view item.now)) (target_value vertices.now (view item.now)) }
-    ensures below { IfOk result (λ i. i < length vertices.now) }
-{
-    reference(alloc, Some(item), path, vertices)
+// The vertices, by whose names targets are read.
+#[derive(Clone, Copy)]
+struct Named<'a, 'b> {
+    vertices: &'a Names<'b>,
 }
 
-fn each_target(
-    alloc: Global,
-    items: &[Value],
-    path: &Name,
-    vertices: &Names,
-) -> Result<Seq<u32>, TextErr>
-    ensures read { Gives (λ t. t) result (items_faults (target_faults vertices.now) path.now 0 (map view items.now)) (map (target_value vertices.now) (map view items.now)) }
-    ensures below { IfOk result (λ ts. All (λ t. t < length vertices.now) ts) }
-{
-    let mut targets = Seq::new(alloc);
-    for (i, item) in items.iter().enumerate() {
-        let path = item_path(alloc, path, i as u64)?;
-        let target = target(alloc, item, &path, vertices)?;
-        targets.push(target)?;
+impl<'a, 'b> ItemReader for Named<'a, 'b> {
+    ghost use Rattle.std.specs.Prelude.{◌<◌, ⊤, length};
+    ghost use Rattle.job_readers.specs.GraphPart.{target_faults, target_value};
+
+    type Item = u32;
+
+    ghost IsReady = { λ _. ⊤ };
+
+    ghost faults = { λ among. target_faults among.vertices.now };
+
+    ghost value = { λ among. target_value among.vertices.now };
+
+    ghost Holds = { λ among t. t < length among.vertices.now };
+
+    #[tactic(auto, unfolding(crate::specs::GraphPart::target_faults, crate::specs::GraphPart::target_value))]
+    fn read(&self, alloc: Global, item: &Value, path: &Name) -> Result<u32, TextErr> {
+        reference(alloc, Some(item), path, self.vertices)
     }
-    Ok(targets)
 }
 
 // The list of a net's targets, which has an item.
@@ -233,7 +238,7 @@ fn targets(alloc: Global, item: &Value, path: &Name, vertices: &Names) -> Result
 {
     let path = member_path(alloc, path, "targets")?;
     let items = some_items(alloc, member(item, "targets"), &path)?;
-    each_target(alloc, items, &path, vertices)
+    each_item(alloc, items, &path, &Named { vertices })
 }
 
 // The block that a net must have, which shares no key with those before it.
@@ -285,13 +290,13 @@ fn net(
     ensures fresh { IfOk result (λ n. IfSome n.fixed (λ b. list_any (shares_key b) blocks.now ≡ false)) }
 {
     let item = object(alloc, Some(item), path)?;
-    let name = item_name(alloc, item, path, before)?;
+    let said = item_name(alloc, item, path, before)?;
     let source = source(alloc, item, path, names, vertices)?;
     let targets = targets(alloc, item, path, names)?;
     let keys = number_of(alloc, item, path, "keys", 1, MOST_KEYS, Some(1))?;
     let fixed = fixed_block(alloc, item, path, version, keys, blocks)?;
     Ok(Net {
-        name,
+        name: Name::of(alloc, said)?,
         source,
         targets,
         keys,

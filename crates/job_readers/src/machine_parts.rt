@@ -1,141 +1,114 @@
 // Reads the machine of a job.
-ghost use Rattle.std.specs.Prelude.{◌<◌, ℕ, List, map, IfOk, All};
+ghost use Rattle.std.specs.Prelude.{map, IfOk, All};
 ghost use Rattle.serde_json.specs.View.{view};
-ghost use Rattle.serde_json.specs.Data.{Data};
-ghost use Rattle.job_text.specs.declared.faults.JobFault.{JobFault};
 ghost use Rattle.job_text.specs.Reading.{Gives, ◌▹◌};
-ghost use Rattle.job_readers.specs.Items.{items_faults};
 ghost use Rattle.job_readers.specs.MachinePart.{machine_members_faults, machine_members, entries_faults, machine_faults, machine_value};
 ghost use Rattle.job_readers.specs.Members.{list_member};
 ghost use Rattle.job_readers.specs.Job.{own_faults};
 
 use crate::entries::{chip_in, core_in, link_in};
+use crate::items::{ItemReader, each_item};
 use crate::members::{flag_of, long_list_of, number_of};
-use job_text::{TextErr, field, item_path, member_path, object};
+use job_text::{TextErr, field, member_path, object};
 use machine_desc::{Edge, Machine};
 use serde_json::Value;
 use spin_base::{Chip, Name, Seq, Spot};
 use std::alloc::Global;
 
-// What a list of dead parts may have as its items: the faults of an item for a grid, what it is, and when that is inside.
-trait Part: Drop {
-    ghost faults: { ℕ → ℕ → List ℕ → Data → List JobFault };
-
-    ghost value: { Data → Self };
-
-    ghost IsInside: { ℕ → ℕ → Self → Type 0 };
-
-    // The part that an item is, inside a grid.
-    fn read(
-        alloc: Global,
-        item: &Value,
-        path: &Name,
-        width: u8,
-        height: u8,
-    ) -> Result<Self, TextErr>
-        ensures read { Gives (λ p. p) result (faults width height path.now (view item.now)) (value (view item.now)) }
-        ensures inside { IfOk result (IsInside width height) };
-}
-
-impl Part for Chip {
-    ghost use Rattle.std.specs.Prelude.{◌<◌};
-    ghost use Rattle.job_readers.specs.Entries.{chip_faults, chip_value};
-
-    ghost faults = { chip_faults };
-
-    ghost value = { chip_value };
-
-    ghost IsInside = { λ width height c. (c.x < width) × (c.y < height) };
-
-    fn read(
-        alloc: Global,
-        item: &Value,
-        path: &Name,
-        width: u8,
-        height: u8,
-    ) -> Result<Chip, TextErr> {
-        chip_in(alloc, item, path, width, height)
-    }
-}
-
-impl Part for Spot {
-    ghost use Rattle.std.specs.Prelude.{◌<◌};
-    ghost use Rattle.job_readers.specs.Entries.{core_faults, core_value};
-
-    ghost faults = { core_faults };
-
-    ghost value = { core_value };
-
-    ghost IsInside = { λ width height s. (s.chip.x < width) × (s.chip.y < height) };
-
-    fn read(
-        alloc: Global,
-        item: &Value,
-        path: &Name,
-        width: u8,
-        height: u8,
-    ) -> Result<Spot, TextErr> {
-        core_in(alloc, item, path, width, height)
-    }
-}
-
-impl Part for Edge {
-    ghost use Rattle.std.specs.Prelude.{◌<◌};
-    ghost use Rattle.job_readers.specs.Entries.{link_faults, link_value};
-
-    ghost faults = { link_faults };
-
-    ghost value = { link_value };
-
-    ghost IsInside = { λ width height e. (e.chip.x < width) × (e.chip.y < height) };
-
-    fn read(
-        alloc: Global,
-        item: &Value,
-        path: &Name,
-        width: u8,
-        height: u8,
-    ) -> Result<Edge, TextErr> {
-        link_in(alloc, item, path, width, height)
-    }
-}
-
-// The parts that the items of a list are.
-fn each_part<P: Part>(
-    alloc: Global,
-    items: &[Value],
-    path: &Name,
+// A grid, whose chips are read.
+#[derive(Clone, Copy)]
+struct Chips {
     width: u8,
     height: u8,
-) -> Result<Seq<P>, TextErr>
-    ensures read { Gives (λ ps. ps) result (items_faults (P.faults width height) path.now 0 (map view items.now)) (map P.value (map view items.now)) }
-    ensures inside { IfOk result (λ ps. All (P.IsInside width height) ps) }
-{
-    let mut parts = Seq::new(alloc);
-    for (i, item) in items.iter().enumerate() {
-        let path = item_path(alloc, path, i as u64)?;
-        let part = P::read(alloc, item, &path, width, height)?;
-        parts.push(part)?;
-    }
-    Ok(parts)
 }
 
-// The dead parts that a machine lists under a name.
+impl ItemReader for Chips {
+    ghost use Rattle.std.specs.Prelude.{◌<◌, ⊤};
+    ghost use Rattle.job_readers.specs.Entries.{chip_faults, chip_value};
+
+    type Item = Chip;
+
+    ghost IsReady = { λ _. ⊤ };
+
+    ghost faults = { λ grid. chip_faults grid.width grid.height };
+
+    ghost value = { λ _. chip_value };
+
+    ghost Holds = { λ grid c. (c.x < grid.width) × (c.y < grid.height) };
+
+    fn read(&self, alloc: Global, item: &Value, path: &Name) -> Result<Chip, TextErr> {
+        chip_in(alloc, item, path, self.width, self.height)
+    }
+}
+
+// A grid, whose cores are read.
+#[derive(Clone, Copy)]
+struct Cores {
+    width: u8,
+    height: u8,
+}
+
+impl ItemReader for Cores {
+    ghost use Rattle.std.specs.Prelude.{◌<◌, ⊤};
+    ghost use Rattle.job_readers.specs.Entries.{core_faults, core_value};
+
+    type Item = Spot;
+
+    ghost IsReady = { λ _. ⊤ };
+
+    ghost faults = { λ grid. core_faults grid.width grid.height };
+
+    ghost value = { λ _. core_value };
+
+    ghost Holds = { λ grid s. (s.chip.x < grid.width) × (s.chip.y < grid.height) };
+
+    fn read(&self, alloc: Global, item: &Value, path: &Name) -> Result<Spot, TextErr> {
+        core_in(alloc, item, path, self.width, self.height)
+    }
+}
+
+/// A grid, whose links are read: each is `[x,y,d]`, with a chip of the grid and `d` from 0 (East) anticlockwise.
+#[derive(Clone, Copy)]
+pub struct Links {
+    pub width: u8,
+    pub height: u8,
+}
+
+impl ItemReader for Links {
+    ghost use Rattle.std.specs.Prelude.{◌<◌, ⊤};
+    ghost use Rattle.job_readers.specs.Entries.{link_faults, link_value};
+
+    type Item = Edge;
+
+    ghost IsReady = { λ _. ⊤ };
+
+    ghost faults = { λ grid. link_faults grid.width grid.height };
+
+    ghost value = { λ _. link_value };
+
+    ghost Holds = { λ grid e. (e.chip.x < grid.width) × (e.chip.y < grid.height) };
+
+    fn read(&self, alloc: Global, item: &Value, path: &Name) -> Result<Edge, TextErr> {
+        link_in(alloc, item, path, self.width, self.height)
+    }
+}
+
+// The parts that a machine lists under a name.
 #[tactic(auto, using(crate::proofs::Firsts::firsts), unfolding(crate::specs::MachinePart::entries_faults))]
-fn listed<P: Part>(
+fn listed<R: ItemReader>(
     alloc: Global,
     machine: &Value,
     path: &Name,
     name: &str,
-    width: u8,
-    height: u8,
-) -> Result<Seq<P>, TextErr>
-    ensures read { Gives (λ ps. ps) result (entries_faults (P.faults width height) path.now name.now (view machine.now)) (map P.value (list_member name.now (view machine.now))) }
-    ensures inside { IfOk result (λ ps. All (P.IsInside width height) ps) }
+    reader: &R,
+) -> Result<Seq<R::Item>, TextErr>
+    requires { R.IsReady reader.now }
+    ensures read { Gives (λ ps. ps) result (entries_faults (R.faults reader.now) path.now name.now (view machine.now)) (map (R.value reader.now) (list_member name.now (view machine.now))) }
+    ensures holds { IfOk result (λ ps. All (R.Holds reader.now) ps) }
 {
     let items = long_list_of(alloc, machine, path, name, false)?;
     let path = member_path(alloc, path, name)?;
-    each_part(alloc, items, &path, width, height)
+    each_item(alloc, items, &path, reader)
 }
 
 /// Bytes of shared memory of a chip (SpiNNaker datasheet).
@@ -157,9 +130,9 @@ fn machine_members(alloc: Global, machine: &Value, path: &Name) -> Result<Machin
         CHIP_MEMORY,
         Some(CHIP_MEMORY),
     )? as u32;
-    let dead_chips: Seq<Chip> = listed(alloc, machine, path, "dead_chips", width, height)?;
-    let dead_cores: Seq<Spot> = listed(alloc, machine, path, "dead_cores", width, height)?;
-    let dead_links: Seq<Edge> = listed(alloc, machine, path, "dead_links", width, height)?;
+    let dead_chips = listed(alloc, machine, path, "dead_chips", &Chips { width, height })?;
+    let dead_cores = listed(alloc, machine, path, "dead_cores", &Cores { width, height })?;
+    let dead_links = listed(alloc, machine, path, "dead_links", &Links { width, height })?;
     Ok(Machine::new(
         alloc,
         width,

@@ -7,19 +7,17 @@ ghost use Rattle.job_text.specs.Reading.{Gives, ◌▹◌};
 ghost use Rattle.machine_desc.specs.Live.{live_count_of};
 ghost use Rattle.app_graph.specs.ValidGraph.{IsValidGraph};
 ghost use Rattle.app_graph.specs.RunPart.{keys_of, IsPacketOf, IsRunOf};
-ghost use Rattle.job_readers.specs.Items.{items_faults};
 ghost use Rattle.job_readers.specs.Members.{number_member_faults, number_member, optional_number};
 ghost use Rattle.job_readers.specs.Job.{own_faults};
 ghost use Rattle.job_readers.specs.GraphPart.{net_names};
-ghost use Rattle.job_readers.specs.RunPart.{packet_net_faults, packet_net, packet_faults, packet_value, packets_faults, packets_value, events_faults, events_value, places_faults, run_members_faults, run_members, optional_object_faults, run_faults, run_value};
+ghost use Rattle.job_readers.specs.RunPart.{packet_net_faults, packet_net, packets_faults, packets_value, events_faults, events_value, places_faults, run_members_faults, run_members, optional_object_faults, run_faults, run_value};
 
 use crate::events::events;
+use crate::items::{ItemReader, each_item};
 use crate::members::{list_of, number_of};
 use crate::names::{Names, reference};
 use app_graph::{Graph, Net, RunPart};
-use job_text::{
-    TextErr, count_to, field, item_path, member, member_path, number_in, object, shape,
-};
+use job_text::{TextErr, count_to, field, member, member_path, number_in, object, shape};
 use machine_desc::Machine;
 use serde_json::Value;
 use spin_base::{Memory, Name, Packet, Port, Seq};
@@ -72,51 +70,43 @@ fn payload_of(alloc: Global, item: &Value, path: &Name) -> Result<Option<u32>, T
     Ok(Some(payload as u32))
 }
 
-#[tactic(auto, using(crate::proofs::Firsts::firsts), unfolding(crate::specs::RunPart::packet_faults, crate::specs::RunPart::packet_value))]
-fn packet(
-    alloc: Global,
-    item: &Value,
-    path: &Name,
-    names: &Names,
-    graph: &Graph,
-) -> Result<Packet, TextErr>
-    requires named { names.now ≡ net_names graph.now.nets }
-    requires valid { IsValidGraph graph.now }
-    ensures read { Gives (λ p. p) result (packet_faults graph.now.nets path.now (view item.now)) (packet_value graph.now.nets (view item.now)) }
-    ensures found { IfOk result (IsPacketOf graph.now.nets) }
-{
-    let item = object(alloc, Some(item), path)?;
-    let net = net_of_packet(alloc, item, path, names, graph)?;
-    let last = last_key(graph, net);
-    let index = number_of(alloc, item, path, "index", 0, last, None)? as u32;
-    let payload = payload_of(alloc, item, path)?;
-    Ok(Packet {
-        net,
-        index,
-        payload,
-    })
+// The nets, by whose names packets are read.
+#[derive(Clone, Copy)]
+struct Senders<'a, 'b> {
+    names: &'a Names<'b>,
+    graph: &'a Graph,
 }
 
-fn each_packet(
-    alloc: Global,
-    items: &[Value],
-    path: &Name,
-    names: &Names,
-    graph: &Graph,
-) -> Result<Seq<Packet>, TextErr>
-    requires named { names.now ≡ net_names graph.now.nets }
-    requires valid { IsValidGraph graph.now }
-    ensures read { Gives (λ p. p) result (items_faults (packet_faults graph.now.nets) path.now 0 (map view items.now)) (map (packet_value graph.now.nets) (map view items.now)) }
-    ensures found { IfOk result (λ ps. All (IsPacketOf graph.now.nets) ps) }
-    ensures count { IfOk result (λ ps. length ps ≡ length items.now) }
-{
-    let mut packets = Seq::new(alloc);
-    for (i, item) in items.iter().enumerate() {
-        let path = item_path(alloc, path, i as u64)?;
-        let packet = packet(alloc, item, &path, names, graph)?;
-        packets.push(packet)?;
+impl<'a, 'b> ItemReader for Senders<'a, 'b> {
+    ghost use Rattle.std.specs.Prelude.{◌≡◌};
+    ghost use Rattle.app_graph.specs.ValidGraph.{IsValidGraph};
+    ghost use Rattle.app_graph.specs.RunPart.{IsPacketOf};
+    ghost use Rattle.job_readers.specs.GraphPart.{net_names};
+    ghost use Rattle.job_readers.specs.RunPart.{packet_faults, packet_value};
+
+    type Item = Packet;
+
+    ghost IsReady = { λ among. (among.names.now ≡ net_names among.graph.now.nets) × IsValidGraph among.graph.now };
+
+    ghost faults = { λ among. packet_faults among.graph.now.nets };
+
+    ghost value = { λ among. packet_value among.graph.now.nets };
+
+    ghost Holds = { λ among. IsPacketOf among.graph.now.nets };
+
+    #[tactic(auto, using(crate::proofs::Firsts::firsts), unfolding(crate::specs::RunPart::packet_faults, crate::specs::RunPart::packet_value))]
+    fn read(&self, alloc: Global, item: &Value, path: &Name) -> Result<Packet, TextErr> {
+        let item = object(alloc, Some(item), path)?;
+        let net = net_of_packet(alloc, item, path, self.names, self.graph)?;
+        let last = last_key(self.graph, net);
+        let index = number_of(alloc, item, path, "index", 0, last, None)? as u32;
+        let payload = payload_of(alloc, item, path)?;
+        Ok(Packet {
+            net,
+            index,
+            payload,
+        })
     }
-    Ok(packets)
 }
 
 // The names of nets.
@@ -142,7 +132,11 @@ fn packets(alloc: Global, run: &Value, path: &Name, graph: &Graph) -> Result<Seq
     let items = list_of(alloc, run, path, "packets", false, MOST_PACKETS)?;
     let path = member_path(alloc, path, "packets")?;
     let names = names_of_nets(alloc, graph.nets.as_slice())?;
-    each_packet(alloc, items, &path, &names, graph)
+    let senders = Senders {
+        names: &names,
+        graph,
+    };
+    each_item(alloc, items, &path, &senders)
 }
 
 // Tests that the places of all queues are not too many.
@@ -161,7 +155,8 @@ fn places_to(
     ensures { Gives (λ u. u) result (places_faults live vertices path.now (view run.now)) tt }
 {
     let path = member_path(alloc, path, "queue")?;
-    let places = u64::from(queue) * (u64::from(Port::COUNT) * u64::from(live) + u64::from(vertices));
+    let places = u64::from(queue)
+        * (u64::from(Port::COUNT) * u64::from(live) + u64::from(vertices));
     count_to(alloc, &path, MOST_PLACES, places)
 }
 
