@@ -2,12 +2,11 @@
 ghost use Rattle.std.specs.Prelude.{◌≡◌, ◌≤◌, All, IfOk, length, map};
 ghost use Rattle.serde_json.specs.View.{view};
 ghost use Rattle.job_text.specs.Reading.{Gives};
-ghost use Rattle.job_readers.specs.Items.{items_faults};
-ghost use Rattle.app_steps.specs.Steps.{number_of, numbered_faults, load_faults, load_of, unload_faults, unload_of, run_faults, worded_faults, worded_step, step_faults, step_value, steps_faults, steps_value};
+ghost use Rattle.app_steps.specs.Steps.{number_of, numbered_faults, load_faults, load_of, unload_faults, unload_of, run_faults, worded_faults, worded_step, steps_faults, steps_value};
 ghost use Rattle.app_steps.specs.declared.steps.Step.TheVariants.{Run};
 ghost use Rattle.app_steps.specs.Valid.{IsValidStep};
 
-use job_readers::{Job, items_in, job_of};
+use job_readers::{ItemReader, Job, each_item, items_in, job_of};
 use job_text::{TextErr, count_to, item_path, list, range, shape};
 use serde_json::Value;
 use spin_base::{Name, Seq};
@@ -45,35 +44,38 @@ pub fn steps_of(alloc: Global, value: &Value) -> Result<Seq<Step>, TextErr>
     let path = Name::of(alloc, "job")?;
     let items = list(alloc, Some(value), &path, true)?;
     count_to(alloc, &path, MOST_STEPS, items.len() as u64)?;
-    each_step(alloc, items, &path)
+    each_item(alloc, items, &path, &StepReader)
 }
 
-fn each_step(alloc: Global, items: &[Value], path: &Name) -> Result<Seq<Step>, TextErr>
-    ensures read { Gives (λ s. s) result (items_faults step_faults path.now 0 (map view items.now)) (map step_value (map view items.now)) }
-    ensures valid { IfOk result (All IsValidStep) }
-    ensures all { IfOk result (λ s. length s ≡ length items.now) }
-{
-    let mut steps = Seq::new(alloc);
-    for (i, item) in items.iter().enumerate() {
-        let path = item_path(alloc, path, i as u64)?;
-        let step = step_in(alloc, item, &path)?;
-        steps.push(step)?;
+// What reads steps.
+#[derive(Clone, Copy)]
+struct StepReader;
+
+impl ItemReader for StepReader {
+    ghost use Rattle.std.specs.Prelude.{⊤};
+    ghost use Rattle.app_steps.specs.Steps.{step_faults, step_value};
+    ghost use Rattle.app_steps.specs.Valid.{IsValidStep};
+
+    type Item = Step;
+
+    ghost IsReady = { λ _. ⊤ };
+
+    ghost faults = { λ _. step_faults };
+
+    ghost value = { λ _. step_value };
+
+    ghost Holds = { λ _. IsValidStep };
+
+    #[tactic(auto, unfolding(crate::specs::Steps::step_faults, crate::specs::Steps::step_value))]
+    fn read(&self, alloc: Global, item: &Value, path: &Name) -> Result<Step, TextErr> {
+        let [head, rest @ ..] = items_in(item) else {
+            return Err(shape(alloc, path));
+        };
+        let Some(word) = head.as_str() else {
+            return Err(shape(alloc, path));
+        };
+        worded(alloc, word, rest, path)
     }
-    Ok(steps)
-}
-
-#[tactic(auto, unfolding(crate::specs::Steps::step_faults, crate::specs::Steps::step_value))]
-fn step_in(alloc: Global, item: &Value, path: &Name) -> Result<Step, TextErr>
-    ensures read { Gives (λ s. s) result (step_faults path.now (view item.now)) (step_value (view item.now)) }
-    ensures valid { IfOk result IsValidStep }
-{
-    let [head, rest @ ..] = items_in(item) else {
-        return Err(shape(alloc, path));
-    };
-    let Some(word) = head.as_str() else {
-        return Err(shape(alloc, path));
-    };
-    worded(alloc, word, rest, path)
 }
 
 // The step that begins with a word.
