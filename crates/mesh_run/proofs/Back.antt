@@ -2,7 +2,7 @@
 use Rattle.std.proofs.Common.{◌≡◌, ◌≢◌, ℕ, zero, suc, ◌<◌, List, [], ◌∷◌, ◌++◌, map, length, get_or, Option, Some, None, refl, sym, ap, ap₂, ◌∙◌, subst, arith, inl, inr}
 use Rattle.std.specs.List.{All, AllPairs, AllZip, Contains, flat_map, slice_get}
 use Rattle.std.proofs.lemmas.List.Elements.{All-nil, All-cons, All-head, All-tail, All-append, All-map, AllZip-get_or, length_all_zip, Contains-get_or}
-use Rattle.std.proofs.lemmas.Option.{slice_get_within}
+use Rattle.std.proofs.lemmas.Option.{slice_get_within, same_Some}
 use Rattle.list_laws.proofs.Members.{Contains-first, Contains-later, Contains-map}
 use Rattle.list_laws.proofs.Places.{slice_get-mapped}
 use Rattle.spin_base.specs.declared.chips.Port.{Port}
@@ -26,9 +26,6 @@ use Rattle.mesh_run.specs.Queues.{AreEnds}
 use Rattle.mesh_run.proofs.Played.{IsAtSame}
 use Rattle.mesh_run.proofs.PuttingBack.{at_or_not, put_long, put_other, put_stands}
 use Rattle.mesh_run.proofs.Standings.{Stand, rx_slots, tx_slots}
-
-some_same : {X : Type 0} (x y : X) → Some x ≡ Some y → x ≡ y
-some_same x y e = cc
 
 -- ---- items lent, and others given back at the same places
 
@@ -83,7 +80,7 @@ module _ {T : Type 0} (P : Link → T → Type 0) (end : LinkEnds → T) (up : L
         let is = ends some.0 some.1 some.2 in
         let stands : slice_get (put_all mid kept) h.0 ≡ Some h.1 = back_stands None (map (λ (e : LinkEnds). Some (end e)) up) mid held kept lent same some.0 some.1 some.2 in
         let of_here : slice_get links p ≡ Some e.link = subst (λ l. slice_get l p ≡ Some e.link) (sym are) (slice_get-mapped (λ (e : LinkEnds). e.link) up p e at) in
-        let link : is.0 ≡ e.link = some_same is.0 e.link (sym is.1 ∙ (ap (slice_get links) some.3 ∙ of_here)) in (
+        let link : is.0 ≡ e.link = same_Some is.0 e.link (sym is.1 ∙ (ap (slice_get links) some.3 ∙ of_here)) in (
           is.2,
           ap (slice_get (put_all mid kept)) (sym some.3) ∙ (stands ∙ ap Some is.3),
           subst (λ (l : Link). P l is.2) link is.4,
@@ -114,8 +111,8 @@ all_back (e ∷ up) (t ∷ txs) (r ∷ rxs) long_t long_r each tx rx =
     let first : LinkEnds = record { link = e.link; tx = x.0; rx = y.0; room = e.room } in (
       first ∷ more.0,
       record {
-        txs_are = ap₂ (λ z zs. z ∷ zs) (some_same t (Some x.0) x.1) more.1.txs_are;
-        rxs_are = ap₂ (λ z zs. z ∷ zs) (some_same r (Some y.0) y.1) more.1.rxs_are;
+        txs_are = ap₂ (λ z zs. z ∷ zs) (same_Some t (Some x.0) x.1) more.1.txs_are;
+        rxs_are = ap₂ (λ z zs. z ∷ zs) (same_Some r (Some y.0) y.1) more.1.rxs_are;
         links_are = ap (λ l. e.link ∷ l) more.1.links_are;
         rooms_are = ap (λ l. e.room ∷ l) more.1.rooms_are;
         ends = All-cons AreEnds first more.0 (record { tx = x.2; rx = y.2; empty = old.empty; spare = old.spare }) more.1.ends;
@@ -194,4 +191,4 @@ pub left_as_it_was : {T : Type 0} (end : LinkEnds → T) (up back : List LinkEnd
 left_as_it_was {T} end up back slots p old new are same at_up at_back =
     let one : slice_get slots p ≡ Some (Some (end old)) = same ∙ slice_get-mapped (λ (e : LinkEnds). Some (end e)) up p old at_up in
     let two : slice_get slots p ≡ Some (Some (end new)) = ap (λ l. slice_get l p) are ∙ slice_get-mapped (λ (e : LinkEnds). Some (end e)) back p new at_back in
-    some_same (end new) (end old) (some_same (Some (end new)) (Some (end old)) (sym two ∙ one))
+    same_Some (end new) (end old) (same_Some (Some (end new)) (Some (end old)) (sym two ∙ one))

@@ -6,7 +6,7 @@ use Rattle.std.proofs.lemmas.List.Concat.{flat_map-append}
 use Rattle.std.proofs.lemmas.List.Elements.{All-nil, All-cons, All-head, All-tail, All-append, All-map, All-weaker, filter_passes}
 use Rattle.std.proofs.lemmas.List.FromFn.{get_or-map-range_with_len, length-map-range_with_len}
 use Rattle.std.proofs.lemmas.List.Kept.{AllPairs-filter}
-use Rattle.std.proofs.lemmas.Option.{slice_get_within}
+use Rattle.std.proofs.lemmas.Option.{slice_get_within, none-some}
 use Rattle.list_laws.proofs.Pairs.{All-left, All-right, AllPairs-across}
 use Rattle.spin_base.specs.declared.chips.Chip.{Chip}
 use Rattle.spin_base.specs.declared.chips.Port.{Port}
@@ -25,6 +25,7 @@ use Rattle.chip_node.specs.declared.ends.InEnd.{InEnd}
 use Rattle.chip_node.specs.declared.ends.OutEnd.{OutEnd}
 use Rattle.mesh_core.specs.State.{Setup, queue_at}
 use Rattle.mesh_core.proofs.Changes.{queue_at-below}
+use Rattle.mesh_core.proofs.Keeping.{same_queue}
 use Rattle.mesh_run.specs.declared.actors.Actor.{Actor}
 use Rattle.mesh_run.specs.declared.actors.Actor.TheVariants.{Router, Bank}
 use Rattle.mesh_run.specs.declared.kits.Kit.{Kit}
@@ -32,30 +33,27 @@ use Rattle.mesh_run.specs.declared.standing.Standing.{Standing}
 use Rattle.mesh_run.specs.Casting.{Pair, actors_of, live_chips}
 use Rattle.mesh_run.specs.Lending.{IsOnChip, IsThere, Lent, NotAt, place_behind, vertex_place, tx_of, rx_of, txs_of, rxs_of, vertex_rxs, vertex_unsent}
 use Rattle.mesh_run.specs.Dealing.{AreThere, txs_in, rxs_in, unsent_in, Casts, Deals, HasLogsOf, IsKitOf, IsPairOf}
-use Rattle.mesh_run.proofs.Feeding.{leads, no_injection, on_one_chip, one_output, one_port, one_vertex, place_below, port_is_no_vertex}
+use Rattle.mesh_run.proofs.Feeding.{leads, no_injection, on_one_chip, one_output, one_vertex, place_below, port_is_no_vertex}
 use Rattle.mesh_run.proofs.Lent.{AreApart, ends_join, lent_join, lent_none, still_there}
 use Rattle.mesh_run.proofs.Zipped.{zip_push}
 
 -- ---- no end is a blank
 
-no_end : {T : Type 0} (x : T) → Some x ≡ None → ⊥
-no_end x same = cc
-
 pub full_txs : (list : List Actor) → All (λ (h : ℕ × Option Tx). h.1 ≢ None) (flat_map txs_in list)
 full_txs [] = All-nil (λ (h : ℕ × Option Tx). h.1 ≢ None)
 full_txs (Router i r ∷ list) =
     All-append (λ (h : ℕ × Option Tx). h.1 ≢ None) (txs_of r.outputs.items) (flat_map txs_in list)
-    (All-map (λ (h : ℕ × Option Tx). h.1 ≢ None) (λ (e : Out × OutEnd). tx_of e.1) r.outputs.items (λ k e below same. no_end (get_or r.outputs.items k e).1.tx same)) (full_txs list)
-full_txs (Bank b ∷ list) = All-cons (λ (h : ℕ × Option Tx). h.1 ≢ None) (tx_of b.inject) (flat_map txs_in list) (λ same. no_end b.inject.tx same) (full_txs list)
+    (All-map (λ (h : ℕ × Option Tx). h.1 ≢ None) (λ (e : Out × OutEnd). tx_of e.1) r.outputs.items (λ k e below same. none-some (get_or r.outputs.items k e).1.tx (sym same))) (full_txs list)
+full_txs (Bank b ∷ list) = All-cons (λ (h : ℕ × Option Tx). h.1 ≢ None) (tx_of b.inject) (flat_map txs_in list) (λ same. none-some b.inject.tx (sym same)) (full_txs list)
 
 pub full_rxs : (list : List Actor) → All (λ (h : ℕ × Option Rx). h.1 ≢ None) (flat_map rxs_in list)
 full_rxs [] = All-nil (λ (h : ℕ × Option Rx). h.1 ≢ None)
 full_rxs (Router i r ∷ list) =
     All-append (λ (h : ℕ × Option Rx). h.1 ≢ None) (rxs_of r.inputs.items) (flat_map rxs_in list)
-    (All-map (λ (h : ℕ × Option Rx). h.1 ≢ None) (λ (e : Port × InEnd). rx_of e.1) r.inputs.items (λ k e below same. no_end (get_or r.inputs.items k e).1.rx same)) (full_rxs list)
+    (All-map (λ (h : ℕ × Option Rx). h.1 ≢ None) (λ (e : Port × InEnd). rx_of e.1) r.inputs.items (λ k e below same. none-some (get_or r.inputs.items k e).1.rx (sym same))) (full_rxs list)
 full_rxs (Bank b ∷ list) =
     All-append (λ (h : ℕ × Option Rx). h.1 ≢ None) (vertex_rxs b.vertices.items) (flat_map rxs_in list)
-    (All-map (λ (h : ℕ × Option Rx). h.1 ≢ None) (λ (v : BankVertex). rx_of v.end) b.vertices.items (λ k v below same. no_end (get_or b.vertices.items k v).end.rx same)) (full_rxs list)
+    (All-map (λ (h : ℕ × Option Rx). h.1 ≢ None) (λ (v : BankVertex). rx_of v.end) b.vertices.items (λ k v below same. none-some (get_or b.vertices.items k v).end.rx (sym same))) (full_rxs list)
 
 -- ---- live chips
 
@@ -112,14 +110,14 @@ module _ (u : Setup) (patience : ℕ) (c : Chip) (in_c : IsInside u.machine c) w
     All-map (λ (h : ℕ × Option Tx). h.0 ≢ queue_at u.machine c Local) (λ (e : Out × OutEnd). tx_of e.1) x.router.outputs.items (λ i e below same.
         let end : Out × OutEnd = get_or x.router.outputs.items i e in
         no_injection u d c end.0 end.1.link other.0 in_c (leads u d end.0 end.1.link (is.router.outputs i e below)) same),
-    one_place x.bank.inject.link (queue_at u.machine c Local) (Some x.bank.inject.tx) (λ same. other.1 (one_port u.machine d c Local Local other.0 in_c (sym is.bank.place ∙ same)).0),
+    one_place x.bank.inject.link (queue_at u.machine c Local) (Some x.bank.inject.tx) (λ same. other.1 (same_queue u.machine d c Local Local other.0 in_c (sym is.bank.place ∙ same)).0),
   ))
 
   pub port_is_free : (port : Port) → (ds : List Chip) (pairs : List Pair) → AllZip (IsPairOf u patience) ds pairs → All (IsOther u.machine c) ds → NotAt (flat_map rxs_in (actors_of pairs)) (queue_at u.machine c port)
   port_is_free port = of_all rxs_in (queue_at u.machine c port) (λ d x other is. (
     All-map (λ (h : ℕ × Option Rx). h.0 ≢ queue_at u.machine c port) (λ (e : Port × InEnd). rx_of e.1) x.router.inputs.items (λ i e below same.
         let end : Port × InEnd = get_or x.router.inputs.items i e in
-        other.1 (one_port u.machine d c end.0 port other.0 in_c (sym (is.router.inputs i e below) ∙ same)).0),
+        other.1 (same_queue u.machine d c end.0 port other.0 in_c (sym (is.router.inputs i e below) ∙ same)).0),
     All-map (λ (h : ℕ × Option Rx). h.0 ≢ queue_at u.machine c port) (λ (v : BankVertex). rx_of v.end) x.bank.vertices.items (λ i v below same.
         let w : BankVertex = get_or x.bank.vertices.items i v in
         port_is_no_vertex u c port w.vertex in_c (sym same ∙ (is.bank.vertices i v below).place)),
@@ -210,8 +208,8 @@ next_kit u done (c ∷ later) kit rest split each =
       left = each.1;
     }
 
-module _ (u : Setup) (patience : ℕ) (kits : List Kit) (start now : Standing) (unsent left : List (List McCopy)) (actors : List Actor) (spare : ℕ) (kit : Kit) (rest items : List Kit)
-    (next : items ≡ kit ∷ rest) (so_far : CastTo u patience kits start now unsent left actors spare items) where
+module _ {u : Setup} {patience : ℕ} {kits : List Kit} {start now : Standing} {unsent left : List (List McCopy)} {actors : List Actor} {spare : ℕ} {kit : Kit} {rest items : List Kit} (next : items ≡ kit ∷ rest)
+    (so_far : CastTo u patience kits start now unsent left actors spare items) where
   pub the_kit : NextKit u so_far.done so_far.after kit rest
   the_kit = next_kit u so_far.done so_far.after kit rest so_far.split (subst (AllZip (IsKitOf u.machine) so_far.after) next so_far.kits_left)
 
@@ -288,9 +286,10 @@ module _ (u : Setup) (patience : ℕ) (kits : List Kit) (start now : Standing) (
       })
 
 -- where no kit is left, the pairs are those of all live chips
-pub cast_all : (u : Setup) (patience : ℕ) (kits : List Kit) (start now : Standing) (unsent left : List (List McCopy)) (actors : List Actor) (spare : ℕ) (rest : List Kit) → CastTo u patience kits start now unsent left actors spare rest → rest ≡ [] →
+pub cast_all : {u : Setup} {patience : ℕ} {kits : List Kit} {start now : Standing} {unsent left : List (List McCopy)} {actors : List Actor} {spare : ℕ} {rest : List Kit} → CastTo u patience kits start now unsent left actors spare rest →
+    rest ≡ [] →
     (pairs : List Pair) × (actors ≡ actors_of pairs) × AllZip (IsPairOf u patience) (live_chips u.machine) pairs × AllZip HasLogsOf kits pairs
-cast_all u patience kits start now unsent left actors spare rest so_far none = (
+cast_all {u} {patience} {kits} so_far none = (
   so_far.pairs,
   so_far.are,
   subst (λ l. AllZip (IsPairOf u patience) l so_far.pairs) (sym (so_far.split ∙ (ap (λ l. so_far.done ++ l) (gone so_far.after (subst (AllZip (IsKitOf u.machine) so_far.after) none so_far.kits_left)) ∙ append-nil so_far.done))) so_far.placed,

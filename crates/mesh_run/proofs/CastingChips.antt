@@ -1,5 +1,6 @@
 -- The actors of a chip, and of one chip after the other.
-use Rattle.std.proofs.Common.{◌≡◌, ◌≢◌, ℕ, List, [], ◌∷◌, ◌++◌, get_or, Option, Some, None, sym, ap, ◌∙◌, subst, append-nil}
+use Rattle.std.proofs.Common.{◌≡◌, ◌≢◌, ℕ, List, [], ◌∷◌, ◌++◌, get_or, Option, None, sym, ap, ◌∙◌, subst, append-nil}
+use Rattle.std.proofs.lemmas.Option.{none-some}
 use Rattle.std.proofs.lemmas.List.{append_assoc as assoc}
 use Rattle.std.proofs.lemmas.List.Elements.{All-map}
 use Rattle.spin_base.specs.declared.copies.McCopy.{McCopy}
@@ -25,12 +26,9 @@ deals_both i r b before mid after unsent left links rooms txs rxs links' rooms' 
   txs = ends_join (txs_of r.outputs.items) (tx_of b.inject ∷ []) before.txs.items mid.txs.items after.txs.items txs txs' (full_one b.inject.link b.inject.tx);
   rxs = subst (λ l. Lent None (rxs_of r.inputs.items ++ l) before.rxs.items after.rxs.items) (sym (append-nil (vertex_rxs b.vertices.items)))
       (ends_join (rxs_of r.inputs.items) (vertex_rxs b.vertices.items) before.rxs.items mid.rxs.items after.rxs.items rxs rxs'
-      (All-map (λ (h : ℕ × Option Rx). h.1 ≢ None) (λ (v : BankVertex). rx_of v.end) b.vertices.items (λ k d below same. no_end (get_or b.vertices.items k d).end.rx same)));
+      (All-map (λ (h : ℕ × Option Rx). h.1 ≢ None) (λ (v : BankVertex). rx_of v.end) b.vertices.items (λ k d below same. none-some (get_or b.vertices.items k d).end.rx (sym same))));
   copies = subst (λ l. Lent [] l unsent left) (sym (append-nil (vertex_unsent b.vertices.items))) copies;
 }
-  where
-    no_end : (x : Rx) → Some x ≡ None → ⊥
-    no_end x same = cc
 
 pub put_both : (old mid new : List Actor) (a b : Actor) → mid ≡ old ++ a ∷ [] → new ≡ mid ++ b ∷ [] → new ≡ old ++ a ∷ b ∷ []
 put_both old mid new a b first second = second ∙ (ap (λ l. l ++ b ∷ []) first ∙ assoc old (a ∷ []) (b ∷ []))

@@ -3,6 +3,7 @@ use Rattle.std.proofs.Common.{◌≡◌, ℕ, ◌+◌, ◌*◌, ◌<◌, ◌≤�
 use Rattle.std.specs.List.{All, AllZip, filter, flat_map, slice_get}
 use Rattle.std.proofs.lemmas.List.{length-append, length-map}
 use Rattle.std.proofs.lemmas.List.Elements.{All-nil, All-cons, All-head, All-tail, All-weaker}
+use Rattle.std.proofs.lemmas.Slice.Zip.{AllZip-long}
 use Rattle.list_laws.proofs.Places.{All-at, slice_get-mapped, slice_get_there}
 use Rattle.spin_base.specs.declared.blocks.Entry.{Entry}
 use Rattle.spin_base.specs.declared.chips.Chip.{Chip}
@@ -43,7 +44,7 @@ use Rattle.mesh_run.proofs.Back.{AreBack, all_back, back_long, back_other, back_
 use Rattle.mesh_run.proofs.CastingAll.{live_are_inside}
 use Rattle.mesh_run.proofs.Played.{all_delivered, all_dumped, all_rxs_same, all_txs_same, all_unsent_same, pair_of_still, played_pairs}
 use Rattle.mesh_run.proofs.Standings.{Stand, are_cast, in_end_of, out_end_of, rx_slots, tx_slots}
-use Rattle.mesh_run.proofs.Zipped.{zip_carries, zip_from_each, zip_join, zip_long}
+use Rattle.mesh_run.proofs.Zipped.{zip_carries, zip_from_each, zip_join}
 
 -- ---- before
 
@@ -176,19 +177,23 @@ few_dumps es turns a b flow none =
     let long = ap length logged in
     omega (arith, long, dumped, served, owed_few, few)
 
--- the turns of actors, with the names that the lists have in a program
-pub turned : (links mid : List Link) (tables given : List (List Entry)) (turns : ℕ) (items actors new : List Actor) → items ≡ actors → links ≡ mid → tables ≡ given → length new ≡ length items →
-    ((i : ℕ) (d : Actor) → i < length items → PlaysOn links tables turns (get_or items i d) (get_or new i d)) →
-    (length new ≡ length actors) × ((i : ℕ) (d : Actor) → i < length actors → PlaysOn mid given turns (get_or actors i d) (get_or new i d))
-turned links mid tables given turns items actors new are links_are tables_are long each = (
-  long ∙ ap length are,
-  λ i d below.
+-- what turns make of actors
+pub record AreTurned (links : List Link) (tables : List (List Entry)) (turns : ℕ) (actors new : List Actor) : Type 0 where
+  pub long : length new ≡ length actors
+  pub each : (i : ℕ) (d : Actor) → i < length actors → PlaysOn links tables turns (get_or actors i d) (get_or new i d)
+
+-- the same with the names that the lists have in a program
+pub turned : {links mid : List Link} {tables given : List (List Entry)} {turns : ℕ} {items actors new : List Actor} → items ≡ actors → links ≡ mid → tables ≡ given → length new ≡ length items →
+    ((i : ℕ) (d : Actor) → i < length items → PlaysOn links tables turns (get_or items i d) (get_or new i d)) → AreTurned mid given turns actors new
+turned {links} {mid} {tables} {given} {turns} {items} {actors} {new} are links_are tables_are long each = record {
+  long = long ∙ ap length are;
+  each = λ i d below.
       subst (λ t. PlaysOn mid t turns (get_or actors i d) (get_or new i d)) tables_are
       (subst (λ l. PlaysOn l tables turns (get_or actors i d) (get_or new i d)) links_are
-      (subst (λ l. PlaysOn links tables turns (get_or l i d) (get_or new i d)) are (each i d (subst (λ l. i < length l) (sym are) below)))),
-)
+      (subst (λ l. PlaysOn links tables turns (get_or l i d) (get_or new i d)) are (each i d (subst (λ l. i < length l) (sym are) below))));
+}
 
-module _ (u : Setup) (patience turns : ℕ) (up : List LinkEnds) (start mid : Standing) (unsent left : List (List McCopy)) (kits : List Kit) (actors : List Actor)
+module _ {u : Setup} {patience turns : ℕ} {up : List LinkEnds} {start mid : Standing} {unsent left : List (List McCopy)} {kits : List Kit} {actors : List Actor}
     (dealt : AreDealt u patience turns up start mid unsent left kits actors) where
   lent_txs : Lent None (flat_map txs_in actors) (tx_slots up) mid.txs.items
   lent_txs = subst (λ l. Lent None (flat_map txs_in actors) l mid.txs.items) dealt.holds.txs dealt.deals.txs
@@ -211,20 +216,20 @@ module _ (u : Setup) (patience turns : ℕ) (up : List LinkEnds) (start mid : St
       (pair_ready u up unsent patience turns mid.links.items the_links dealt.ends dealt.tables (live_chips u.machine) dealt.pairs cast_pairs (live_are_inside u.machine) rooms)
 
   pub few_actors : length actors ≡ 2 * length kits
-  few_actors = ap length dealt.are ∙ (two_each dealt.pairs ∙ ap (λ n. 2 * n) (zip_long HasLogsOf kits dealt.pairs dealt.of_kits))
+  few_actors = ap length dealt.are ∙ (two_each dealt.pairs ∙ ap (λ n. 2 * n) (AllZip-long HasLogsOf kits dealt.pairs dealt.of_kits))
 
   -- ---- after the turns
 
-  module _ (new : List Actor) (long : length new ≡ length actors)
-      (each : (i : ℕ) (d : Actor) → i < length actors → PlaysOn mid.links.items u.tables turns (get_or actors i d) (get_or new i d)) where
+  module _ {new : List Actor} (turn : AreTurned mid.links.items u.tables turns actors new) where
     flows : AllZip (ActorFlow u.tables turns) actors new
-    flows = zip_from_each (ActorFlow u.tables turns) actors new long (λ i d below. (each i d below).flow)
+    flows = zip_from_each (ActorFlow u.tables turns) actors new turn.long (λ i d below. (turn.each i d below).flow)
 
     ready_after : All (IsReady mid.links.items u.tables 0) new
     ready_after i d below =
+        let long = turn.long in
         let inside : i < length actors = omega (arith, below, long) in
         let same : turns ≡ turns + 0 = omega arith in
-        (each i d inside).ready 0 (subst (λ n. IsReady mid.links.items u.tables n (get_or actors i d)) same (actors_ready i d inside))
+        (turn.each i d inside).ready 0 (subst (λ n. IsReady mid.links.items u.tables n (get_or actors i d)) same (actors_ready i d inside))
 
     played : (played : List Pair) × (new ≡ actors_of played) × AllZip (PairFlow u.tables turns) dealt.pairs played
     played = played_pairs u.tables turns dealt.pairs new (subst (λ l. AllZip (ActorFlow u.tables turns) l new) dealt.are flows)
@@ -239,7 +244,7 @@ module _ (u : Setup) (patience turns : ℕ) (up : List LinkEnds) (start mid : St
     within_unsent = kept_within [] unsent left (flat_map unsent_in actors) (flat_map unsent_in new) dealt.deals.copies (all_unsent_same u.tables turns actors new flows)
 
     as_many : length played.0 ≡ length kits
-    as_many = zip_long (PairFlow u.tables turns) dealt.pairs played.0 played.2 ∙ zip_long HasLogsOf kits dealt.pairs dealt.of_kits
+    as_many = AllZip-long (PairFlow u.tables turns) dealt.pairs played.0 played.2 ∙ AllZip-long HasLogsOf kits dealt.pairs dealt.of_kits
 
     pub deliveries_fit : length (flat_map delivered_in new) ≤ turns * length kits
     deliveries_fit =

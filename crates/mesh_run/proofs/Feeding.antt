@@ -1,7 +1,7 @@
 -- Which queue is at which place: each place is fed by one output, or by the vertices of one chip, and emptied at one port or by one vertex.
 use Rattle.std.proofs.Common.{◌≡◌, ℕ, ◌<◌, Bool, true, false, length, Option, Some, None, refl, ap, sym, ◌∙◌, arith}
 use Rattle.std.specs.List.{slice_get}
-use Rattle.std.proofs.lemmas.Option.{slice_get_within}
+use Rattle.std.proofs.lemmas.Option.{slice_get_within, none-some, same_Some}
 use Rattle.spin_base.specs.declared.chips.Chip.{Chip}
 use Rattle.spin_base.specs.declared.chips.Spot.{Spot}
 use Rattle.spin_base.specs.declared.chips.Dir.{Dir}
@@ -9,22 +9,16 @@ use Rattle.spin_base.specs.declared.chips.Port.{Port}
 use Rattle.spin_base.specs.declared.chips.Port.TheVariants.{Link as ByLink, Local}
 use Rattle.spin_base.specs.declared.routes.Out.{Out}
 use Rattle.spin_base.specs.declared.routes.Out.TheVariants.{Link, Core}
-use Rattle.spin_base.specs.Links.{opposite_of, port_number}
+use Rattle.spin_base.specs.Links.{opposite_of}
 use Rattle.spin_base.specs.Outputs.{out_of}
-use Rattle.spin_base.proofs.Equality.{port_number_injective}
-use Rattle.machine_desc.specs.Description.{Description}
-use Rattle.machine_desc.specs.Live.{far_of, index_of, is_live_link, IsInside}
-use Rattle.machine_desc.proofs.Far.{far_inside, far_back, live_ends, same_index, opposite_of-opposite}
+use Rattle.spin_base.proofs.Equality.{link_is_not_local}
+use Rattle.machine_desc.specs.Live.{far_of, is_live_link, IsInside}
+use Rattle.machine_desc.proofs.Far.{far_inside, far_back, live_ends, opposite_of-opposite}
 use Rattle.mesh_core.specs.State.{Setup, behind_link, core_of, queue_at, vertex_behind}
-use Rattle.mesh_core.proofs.Changes.{port_below, queue_at-below}
+use Rattle.mesh_core.proofs.Changes.{queue_at-below}
+use Rattle.mesh_core.proofs.Keeping.{same_queue}
 use Rattle.mesh_core.proofs.Ways.{vertex_behind_stands}
 use Rattle.mesh_run.specs.Lending.{place_of, place_behind, vertex_place}
-
-some_is : {X : Type 0} (x y : X) → Some x ≡ Some y → x ≡ y
-some_is x y e = cc
-
-none_some : {X : Type 0} (x : X) → None ≡ Some x → ⊥
-none_some x e = cc
 
 -- Where an output leads: by a link to the port at the far end, or to a vertex on a spot of the chip.
 pub data LeadsTo (u : Setup) (c : Chip) (o : Out) (p : ℕ) : Type 0 where
@@ -34,27 +28,18 @@ pub data LeadsTo (u : Setup) (c : Chip) (o : Out) (p : ℕ) : Type 0 where
 vertex_or_none : (u : Setup) (c : Chip) (o : Out) (p : ℕ) → (x : Option ℕ) → vertex_behind u.spots c o ≡ x → place_of u (core_of x) ≡ Some p → LeadsTo u c o p
 vertex_or_none u c o p (Some v) at is =
     let t = vertex_behind_stands u.spots c o v at in
-    to_vertex v t.0 t.1 t.2 t.3 (sym (some_is (vertex_place u v) p is))
-vertex_or_none u c o p None at is = absurd (none_some p is)
+    to_vertex v t.0 t.1 t.2 t.3 (sym (same_Some (vertex_place u v) p is))
+vertex_or_none u c o p None at is = absurd (none-some p is)
 
 live_or_not : (u : Setup) (c : Chip) (d : Dir) (p : ℕ) (b : Bool) → is_live_link u.machine c d ≡ b → place_of u (behind_link u c d b (far_of u.machine c d)) ≡ Some p → LeadsTo u c (Link d) p
 live_or_not u c d p true live is =
     let ends = live_ends u.machine c d live in
-    by_link d ends.0 refl ends.1 (sym (some_is (queue_at u.machine ends.0 (ByLink (opposite_of d))) p (sym (ap (λ x. place_of u (behind_link u c d true x)) ends.1) ∙ is)))
+    by_link d ends.0 refl ends.1 (sym (same_Some (queue_at u.machine ends.0 (ByLink (opposite_of d))) p (sym (ap (λ x. place_of u (behind_link u c d true x)) ends.1) ∙ is)))
 live_or_not u c d p false dead is = vertex_or_none u c (Link d) p (vertex_behind u.spots c (Link d)) refl is
 
 pub leads : (u : Setup) (c : Chip) (o : Out) (p : ℕ) → place_behind u c o ≡ Some p → LeadsTo u c o p
 leads u c (Link d) p is = live_or_not u c d p (is_live_link u.machine c d) refl is
 leads u c (Core n) p is = vertex_or_none u c (Core n) p (vertex_behind u.spots c (Core n)) refl is
-
--- two ports of chips of the grid have one queue where they are one
-pub one_port : (m : Description) (a b : Chip) (p q : Port) → IsInside m a → IsInside m b → queue_at m a p ≡ queue_at m b q → (a ≡ b) × (p ≡ q)
-one_port m a b p q in_a in_b same =
-    let small = port_below p in
-    let little = port_below q in
-    let index : index_of m a ≡ index_of m b = omega (arith, small, little, same) in
-    let number : port_number p ≡ port_number q = omega (arith, small, little, same) in
-    (same_index m a b in_a in_b index, port_number_injective p q number)
 
 -- a port's queue is no vertex's
 pub port_is_no_vertex : (u : Setup) (c : Chip) (port : Port) (v : ℕ) → IsInside u.machine c → queue_at u.machine c port ≡ vertex_place u v → ⊥
@@ -67,7 +52,7 @@ one_vertex u v w same = omega (arith, same)
 -- a vertex stands on one chip
 pub on_one_chip : (u : Setup) (v w : ℕ) (s t : Spot) (a b : Chip) → slice_get u.spots v ≡ Some s → slice_get u.spots w ≡ Some t → s.chip ≡ a → t.chip ≡ b → v ≡ w → (a ≡ b) × (s ≡ t)
 on_one_chip u v w s t a b at also here there same =
-    let spot : s ≡ t = some_is s t (sym at ∙ (ap (slice_get u.spots) same ∙ also)) in
+    let spot : s ≡ t = same_Some s t (sym at ∙ (ap (slice_get u.spots) same ∙ also)) in
     (sym here ∙ (ap (λ (x : Spot). x.chip) spot ∙ there), spot)
 
 -- Two outputs of chips of the grid that lead to one place are one.
@@ -75,13 +60,13 @@ pub one_output : (u : Setup) (a c : Chip) (o q : Out) (p : ℕ) → IsInside u.m
 one_output u a c o q p in_a in_c (by_link d e out far at) (by_link g h also far' is) =
     let in_e = far_inside u.machine a e d in_a far in
     let in_h = far_inside u.machine c h g in_c far' in
-    let one = one_port u.machine e h (ByLink (opposite_of d)) (ByLink (opposite_of g)) in_e in_h (sym at ∙ is) in
+    let one = same_queue u.machine e h (ByLink (opposite_of d)) (ByLink (opposite_of g)) in_e in_h (sym at ∙ is) in
     let back : opposite_of d ≡ opposite_of g = same_dir (opposite_of d) (opposite_of g) one.1 in
     let link : d ≡ g = sym (opposite_of-opposite d) ∙ (ap opposite_of back ∙ opposite_of-opposite g) in
     let to_a : far_of u.machine e (opposite_of d) ≡ Some a = far_back u.machine a e d in_a far in
     let to_c : far_of u.machine h (opposite_of g) ≡ Some c = far_back u.machine c h g in_c far' in
     let same : Some a ≡ Some c = sym to_a ∙ (ap (λ x. far_of u.machine x (opposite_of d)) one.0 ∙ (ap (λ x. far_of u.machine h (opposite_of x)) link ∙ to_c)) in
-    (some_is a c same, out ∙ (ap Link link ∙ sym also))
+    (same_Some a c same, out ∙ (ap Link link ∙ sym also))
   where
     same_dir : (x y : Dir) → ByLink x ≡ ByLink y → x ≡ y
     same_dir x y e = cc
@@ -96,10 +81,7 @@ one_output u a c o q p in_a in_c (to_vertex v t stands here leads is) (to_vertex
 -- no output leads to an injection queue
 pub no_injection : (u : Setup) (a c : Chip) (o : Out) (p : ℕ) → IsInside u.machine a → IsInside u.machine c → LeadsTo u a o p → p ≡ queue_at u.machine c Local → ⊥
 no_injection u a c o p in_a in_c (by_link d e out far at) is =
-    local_is_no_link (opposite_of d) (one_port u.machine e c (ByLink (opposite_of d)) Local (far_inside u.machine a e d in_a far) in_c (sym at ∙ is)).1
-  where
-    local_is_no_link : (x : Dir) → ByLink x ≡ Local → ⊥
-    local_is_no_link x e = cc
+    link_is_not_local (opposite_of d) (same_queue u.machine e c (ByLink (opposite_of d)) Local (far_inside u.machine a e d in_a far) in_c (sym at ∙ is)).1
 no_injection u a c o p in_a in_c (to_vertex v t stands here leads at) is = port_is_no_vertex u c Local v in_c (sym is ∙ at)
 
 -- a place behind an output is one of all places

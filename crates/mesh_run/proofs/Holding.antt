@@ -1,9 +1,10 @@
 -- Links with all their ends, seen as a list, and brought down from the last one on.
-use Rattle.std.proofs.Common.{◌≡◌, ℕ, suc, zero, ◌+◌, ◌-◌, ◌<◌, ◌≤◌, List, [], ◌∷◌, ◌++◌, length, map, min, take, drop, get_or, set, Option, Some, refl, sym, ap, ◌∙◌, subst, arith, inl, inr}
+use Rattle.std.proofs.Common.{◌≡◌, ℕ, suc, zero, ◌+◌, ◌-◌, ◌<◌, ◌≤◌, List, [], ◌∷◌, ◌++◌, length, map, take, get_or, set, Option, Some, refl, sym, ap, ◌∙◌, subst, arith, inl, inr}
+use Rattle.std.proofs.lemmas.Option.{same_Some}
 use Rattle.std.specs.List.{All}
 use Rattle.std.proofs.Math.ListN.{length-set}
 use Rattle.std.proofs.lemmas.Bool.{cases_eq}
-use Rattle.std.proofs.lemmas.List.{map-append, length-map, take_all, take_more, same_from_push, get_or-map, get_or-set_same, get_or-set_other}
+use Rattle.std.proofs.lemmas.List.{map-append, length-map, take_all, take_more, same_from_push, get_or-set_same, get_or-set_other}
 use Rattle.spin_base.specs.declared.copies.McCopy.{McCopy}
 use Rattle.link_queue.specs.declared.links.LinkEnds.{LinkEnds}
 use Rattle.link_queue.specs.declared.links.Tx.{Tx}
@@ -19,9 +20,6 @@ first_same x y xs ys e = cc
 
 rest_same : {X : Type 0} (x y : X) (xs ys : List X) → x ∷ xs ≡ y ∷ ys → xs ≡ ys
 rest_same x y xs ys e = cc
-
-some_same : {X : Type 0} (x y : X) → Some x ≡ Some y → x ≡ y
-some_same x y e = cc
 
 equal_ends : (e f : LinkEnds) → e.link ≡ f.link → e.tx ≡ f.tx → e.rx ≡ f.rx → e.room ≡ f.room → e ≡ f
 equal_ends e f links txs rxs rooms = λ i. record { link = links i; tx = txs i; rx = rxs i; room = rooms i }
@@ -40,7 +38,7 @@ same_ends [] (f ∷ fs) a b c d = absurd (none_is_some f.link (map (λ (e : Link
 same_ends (e ∷ es) [] a b c d = absurd (none_is_some e.link (map (λ (e : LinkEnds). e.link) es) (sym a))
 same_ends (e ∷ es) (f ∷ fs) a b c d =
     both_same e f es fs
-    (equal_ends e f (first_same _ _ _ _ a) (some_same e.tx f.tx (first_same _ _ _ _ b)) (some_same e.rx f.rx (first_same _ _ _ _ c)) (first_same _ _ _ _ d))
+    (equal_ends e f (first_same _ _ _ _ a) (same_Some e.tx f.tx (first_same _ _ _ _ b)) (same_Some e.rx f.rx (first_same _ _ _ _ c)) (first_same _ _ _ _ d))
     (same_ends es fs (rest_same _ _ _ _ a) (rest_same _ _ _ _ b) (rest_same _ _ _ _ c) (rest_same _ _ _ _ d))
 
 pub only_ends : (es fs : List LinkEnds) (s : Standing) → HoldsAll es s → HoldsAll fs s → es ≡ fs
@@ -65,7 +63,7 @@ last_leaves rest last e tx rx s t holds links txs tx_is rxs rx_is rooms =
     let b = map_end (λ (e : LinkEnds). Some e.tx) rest last t.txs.items tx (sym txs ∙ holds.txs) in
     let c = map_end (λ (e : LinkEnds). Some e.rx) rest last t.rxs.items rx (sym rxs ∙ holds.rxs) in
     let d = map_end (λ (e : LinkEnds). e.room) rest last t.rooms.items e.room (sym rooms ∙ holds.rooms) in (
-      equal_ends e last a.1 (some_same e.tx last.tx (sym tx_is ∙ b.1)) (some_same e.rx last.rx (sym rx_is ∙ c.1)) d.1,
+      equal_ends e last a.1 (same_Some e.tx last.tx (sym tx_is ∙ b.1)) (same_Some e.rx last.rx (sym rx_is ∙ c.1)) d.1,
       record { links = a.0; txs = b.0; rxs = c.0; rooms = d.0 },
     )
 

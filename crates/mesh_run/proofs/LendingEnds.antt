@@ -18,9 +18,6 @@ use Rattle.mesh_core.specs.State.{Setup, queue_at}
 use Rattle.mesh_run.specs.Lending.{place_behind, has_place, IsThere, NotAt, Lent, LendsOut, tx_of, rx_of, txs_of, rxs_of, IsBehind, IsAtPort}
 use Rattle.mesh_run.proofs.Lent.{lent_none, ends_join, still_there, full_one}
 
-some_is : {X : Type 0} (x y : X) → Some x ≡ Some y → x ≡ y
-some_is x y e = cc
-
 -- an earlier item of a list is none of the later ones
 before_differs : {X : Type 0} (xs : List X) (i : ℕ) (x a : X) → i < length xs → x ≡ get_or xs i x → AllPairs (λ a b. a ≢ b) xs → Contains (take i xs) a → a ≡ x → ⊥
 before_differs xs i x a below read differ has same =

@@ -1,5 +1,6 @@
 -- The vertices of a chip, lent one core after the other.
 use Rattle.std.proofs.Common.{◌≡◌, ◌≢◌, ℕ, ◌+◌, ◌<◌, ◌≤◌, List, [], ◌∷◌, ◌++◌, get_or, Option, Some, None, MatchOption, refl, sym, ap, ◌∙◌, subst, arith, inl, inr}
+use Rattle.std.proofs.lemmas.Option.{none-some}
 use Rattle.std.specs.List.{All, Contains, slice_get}
 use Rattle.std.proofs.lemmas.Bool.{cases_eq}
 use Rattle.std.proofs.lemmas.List.{map-append}
@@ -20,9 +21,6 @@ use Rattle.mesh_run.specs.Lending.{vertex_place, IsSetup, IsThere, NotAt, Lent, 
 use Rattle.mesh_run.specs.Vertices.{LendsOne, LendsVertex}
 use Rattle.mesh_run.proofs.Feeding.{one_vertex, on_one_chip}
 use Rattle.mesh_run.proofs.Lent.{AreApart, lent_none, lent_join, ends_join, still_there, full_one}
-
-none_some : {X : Type 0} (x : X) → None ≡ Some x → ⊥
-none_some x e = cc
 
 abbrev core_spot : Chip → ℕ → Spot
 core_spot c k = record { chip = c; core = k }
@@ -90,7 +88,7 @@ vertices_more u c rxs now new unsent here next vs more begun spare left k so_far
           all = λ w spot at there early. elim (cases_eq spot.core k) [
             | inl this ↦
                 let found = vertex_there u.spots (core_spot c k) (Contains-at u.spots w (core_spot c k) (is_it w spot at there this)) in
-                absurd (none_some found.0 (sym none ∙ found.1))
+                absurd (none-some found.0 (sym none ∙ found.1))
             | inr other ↦ so_far.all w spot at there (omega (arith, early, other))
           ];
           ends = so_far.ends;

@@ -1,5 +1,6 @@
 -- Items that are lent, one after the other.
 use Rattle.std.proofs.Common.{◌≡◌, ◌≢◌, ℕ, List, [], ◌∷◌, ◌++◌, get_or, set, Option, Some, None, refl, sym, ap, ◌∙◌}
+use Rattle.std.proofs.lemmas.Option.{none-some, same_Some}
 use Rattle.std.specs.List.{All, slice_get}
 use Rattle.std.proofs.Math.ListN.{length-set}
 use Rattle.std.proofs.lemmas.List.Elements.{All-nil, All-cons, All-head, All-append}
@@ -7,12 +8,6 @@ use Rattle.std.proofs.lemmas.List.Kept.{AllPairs-cons}
 use Rattle.list_laws.proofs.Pairs.{All-left, All-right, AllPairs-nil, AllPairs-append}
 use Rattle.list_laws.proofs.Places.{slice_get-set_same, slice_get-set_other}
 use Rattle.mesh_run.specs.Lending.{IsThere, NotAt, Lent}
-
-some_same : {X : Type 0} (x y : X) → Some x ≡ Some y → x ≡ y
-some_same x y e = cc
-
-none_some : {X : Type 0} (x : X) → None ≡ Some x → ⊥
-none_some x e = cc
 
 -- no place of the first items is one of the others
 abbrev pub AreApart : {X : Type 0} → List (ℕ × X) → List (ℕ × X) → Type 0
@@ -54,7 +49,7 @@ module _ {X : Type 0} (blank : X) where
   -- items that stood where a blank stands are none of the others
   pub lent_apart : (gs hs : List (ℕ × X)) (xs ys zs : List X) → Lent blank gs xs ys → Lent blank hs ys zs → All (λ (h : ℕ × X). h.1 ≢ blank) hs → AreApart gs hs
   lent_apart gs hs xs ys zs first second full = λ i d below j e inside same.
-      full j e inside (some_same (get_or hs j e).1 blank (sym (second.stood j e inside) ∙ (ap (slice_get ys) (sym same) ∙ first.gone i d below)))
+      full j e inside (same_Some (get_or hs j e).1 blank (sym (second.stood j e inside) ∙ (ap (slice_get ys) (sym same) ∙ first.gone i d below)))
 
   -- an item at another place still stands
   pub stands_still : (hs : List (ℕ × X)) (xs ys : List X) (p : ℕ) (x : X) → Lent blank hs xs ys → NotAt hs p → slice_get xs p ≡ Some x → slice_get ys p ≡ Some x
@@ -70,4 +65,4 @@ module _ {T : Type 0} where
 
   -- an end is no blank
   pub full_one : (p : ℕ) (x : T) → All (λ (h : ℕ × Option T). h.1 ≢ None) ((p, Some x) ∷ [])
-  full_one p x = All-cons (λ (h : ℕ × Option T). h.1 ≢ None) (p, Some x) [] (λ same. none_some x (sym same)) (All-nil (λ (h : ℕ × Option T). h.1 ≢ None))
+  full_one p x = All-cons (λ (h : ℕ × Option T). h.1 ≢ None) (p, Some x) [] (λ same. none-some x (sym same)) (All-nil (λ (h : ℕ × Option T). h.1 ≢ None))

@@ -1,11 +1,11 @@
 -- Links that rest or are widened, one after the other.
-use Rattle.std.proofs.Common.{◌≡◌, ℕ, zero, suc, ◌+◌, ◌-◌, ◌*◌, ◌<◌, ◌≤◌, ◌==◌, ◌&&◌, Bool, true, false, cond, nat_eq, min, List, [], ◌∷◌, ◌++◌, length, map, take, get_or, set, Option, Some, Result, Ok, Err, OnErr, refl, sym, ap, ap₂, ◌∙◌, subst, arith, inl, inr}
+use Rattle.std.proofs.Common.{◌≡◌, ℕ, ◌+◌, ◌-◌, ◌<◌, ◌≤◌, ◌&&◌, Bool, true, nat_eq, min, List, [], ◌++◌, length, map, take, get_or, set, Some, Result, Ok, Err, OnErr, refl, sym, ap, ap₂, ◌∙◌, subst, arith, inl, inr}
 use Rattle.std.specs.List.{All, list_all, slice_get}
-use Rattle.std.proofs.lemmas.Bool.{cases_Bool, cases_eq, cases_lt, eqb-true, cond-true, cond-false}
+use Rattle.std.proofs.lemmas.Bool.{cases_Bool, cases_eq, cases_lt, eqb-true, cond-false}
 use Rattle.std.proofs.lemmas.List.{append-nil, length-set, length-map, map-set, take-set-le, take_all, get_or-map, get_or-set_same, get_or-set_other}
 use Rattle.std.proofs.lemmas.List.Folds.{list_all_more}
-use Rattle.std.proofs.lemmas.Option.{get_or_from_slice_get, slice_get_within, slice_get-get_or}
-use Rattle.list_laws.proofs.Places.{slice_get_there}
+use Rattle.std.proofs.lemmas.Option.{get_or_from_slice_get, slice_get_within, same_Some}
+use Rattle.list_laws.proofs.Places.{All-at, slice_get_there, slice_get-set_same}
 use Rattle.spin_base.specs.declared.copies.McCopy.{McCopy}
 use Rattle.link_queue.specs.declared.links.LinkEnds.{LinkEnds}
 use Rattle.link_queue.specs.declared.known.Known.{Known}
@@ -17,7 +17,7 @@ use Rattle.link_queue.specs.Ups.{NoNotes, Rests}
 use Rattle.mesh_run.specs.declared.queues.Rested.{Rested}
 use Rattle.mesh_run.specs.declared.standing.Standing.{Standing}
 use Rattle.mesh_run.specs.Standing.{HoldsAll, LacksEnds}
-use Rattle.mesh_run.specs.Queues.{AreEnds, AreUp, DownTo, HasPlaces, IsDown, IsUp, RestAll, RestsAt, StayUp, UpAt, WasUp, free_of, is_empty, places_for, queue_of}
+use Rattle.mesh_run.specs.Queues.{AreEnds, AreUp, HasPlaces, IsDown, IsUp, RestAll, RestsAt, StayUp, UpAt, WasUp, free_of, is_empty, places_for, queue_of}
 use Rattle.mesh_run.proofs.BringingUp.{fewer_fit, made_with}
 use Rattle.mesh_run.proofs.Holding.{as_many, only_ends}
 use Rattle.mesh_run.proofs.Slots.{in_links, set_again, slot_is}
@@ -42,7 +42,7 @@ pub record NextLink (back now : List LinkEnds) (k : ℕ) : Type 0 where
   pub stands : slice_get now k ≡ Some old
   pub is : (d : LinkEnds) → get_or back k d ≡ old
 
-pub next_link : (P : LinkEnds → LinkEnds → Type 0) (back : List LinkEnds) (k : ℕ) (s : Standing) → (f : SoFar P back k s) → k < length back → NextLink back f.now k
+next_link : (P : LinkEnds → LinkEnds → Type 0) (back : List LinkEnds) (k : ℕ) (s : Standing) → (f : SoFar P back k s) → k < length back → NextLink back f.now k
 next_link P back k s f below =
     let long = f.long in
     let old = slice_get_there back k below in
@@ -56,9 +56,18 @@ next_link P back k s f below =
       is = λ d. get_or_from_slice_get back k old.0 d old.1;
     }
 
-pub one_done : (P : LinkEnds → LinkEnds → Type 0) (back : List LinkEnds) (k : ℕ) (s t : Standing) (new : LinkEnds) → (f : SoFar P back k s) → k < length back → (n : NextLink back f.now k) → P n.old new →
-    HoldsAll (set f.now k new) t → SoFar P back (k + 1) t
-one_done P back k s t new f below n is holds =
+-- the same of the links that stood at first, as many as were counted
+module _ {P : LinkEnds → LinkEnds → Type 0} {back : List LinkEnds} {k count : ℕ} {s start : Standing} (f : SoFar P back k s) (holds : HoldsAll back start) (many : count ≡ length start.links.items) where
+  pub next_at : k < count → NextLink back f.now k
+  next_at below = let all = as_many back start holds in next_link P back k s f (omega (arith, below, many, all))
+
+  pub links_past : count ≤ k → length back ≤ k
+  links_past past = let all = as_many back start holds in omega (arith, past, many, all)
+
+pub one_done : {P : LinkEnds → LinkEnds → Type 0} {back : List LinkEnds} {k : ℕ} {s t : Standing} (new : LinkEnds) → (f : SoFar P back k s) → (n : NextLink back f.now k) → P n.old new → HoldsAll (set f.now k new) t →
+    SoFar P back (k + 1) t
+one_done {P} {back} {k} {s} {t} new f n is holds =
+    let below = slice_get_within back k n.old n.was in
     let long = f.long in
     record {
       now = set f.now k new;
@@ -89,20 +98,18 @@ pub record RestsAs (cap : ℕ) (old new : LinkEnds) : Type 0 where
   pub tx_new : NoNotes held (sending new.tx)
   pub rx_new : NoNotes held (taking new.rx)
 
-pub rests_as : (cap : ℕ) (ends : List LinkEnds) (place : ℕ) (old : LinkEnds) (s : Standing) (held : ℕ) → WasUp cap old → (r : RestsAt ends place old s held) → RestsAs cap old r.now
-rests_as cap ends place old s held was r =
-    let few = was.few in
-    record {
-      few = subst (λ l. cap_of l ≤ cap) (sym r.link) was.few;
-      ends = r.ends_are;
-      link = r.link;
-      held = r.rests.held;
-      down = record { all = r.rests.all; bound = r.rests.bound; noted = r.rests.noted };
-      tx_new = r.rests.sender_new;
-      rx_new = r.rests.receiver_new;
-    }
+rests_as : {cap : ℕ} {ends : List LinkEnds} {place : ℕ} {old : LinkEnds} {s : Standing} {held : ℕ} → WasUp cap old → (r : RestsAt ends place old s held) → RestsAs cap old r.now
+rests_as {cap} was r = record {
+  few = subst (λ l. cap_of l ≤ cap) (sym r.link) was.few;
+  ends = r.ends_are;
+  link = r.link;
+  held = r.rests.held;
+  down = record { all = r.rests.all; bound = r.rests.bound; noted = r.rests.noted };
+  tx_new = r.rests.sender_new;
+  rx_new = r.rests.receiver_new;
+}
 
-pub free_fits : (cap places held free : ℕ) → held ≤ places → places ≤ cap → free ≤ free_of cap places held → HasPlaces cap free held places
+free_fits : (cap places held free : ℕ) → held ≤ places → places ≤ cap → free ≤ free_of cap places held → HasPlaces cap free held places
 free_fits cap places held free fits few within = elim (cases_Bool (nat_eq places cap)) [
   | inl is ↦ let same = eqb-true places cap is in record { enough = omega (arith, same); few = few }
   | inr not ↦
@@ -119,11 +126,16 @@ pub record RestSoFar (cap : ℕ) (back : List LinkEnds) (k : ℕ) (s : Standing)
 pub none_rest : (cap : ℕ) (back : List LinkEnds) (s : Standing) (free : ℕ) → HoldsAll back s → RestSoFar cap back 0 s true free
 none_rest cap back s free holds = record { so_far = none_done (RestsAs cap) back s holds; fits = λ i e before. absurd (omega (arith, before)); quiet_is = refl }
 
-pub one_rests : (cap : ℕ) (back : List LinkEnds) (k : ℕ) (s t : Standing) (quiet more : Bool) (free less held places : ℕ) → (f : RestSoFar cap back k s quiet free) → k < length back →
-    (n : NextLink back f.so_far.now k) → WasUp cap n.old → (r : RestsAt f.so_far.now k n.old t held) → places ≡ cap_of r.now.link → less ≡ min free (free_of cap places held) →
-    more ≡ (quiet && nat_eq held 0) → RestSoFar cap back (k + 1) t more less
+-- what held of the link at first
+pub next_was : (P : LinkEnds → Type 0) {back now : List LinkEnds} {k : ℕ} → All P back → (n : NextLink back now k) → P n.old
+next_was P {back} {k = k} all n = All-at P back k n.old all n.was
+
+pub one_rests : {cap : ℕ} {back : List LinkEnds} {k : ℕ} {s t : Standing} {quiet more : Bool} {free less held places : ℕ} (f : RestSoFar cap back k s quiet free) → (n : NextLink back f.so_far.now k) → All (WasUp cap) back →
+    (r : RestsAt f.so_far.now k n.old t held) → places ≡ cap_of r.now.link → less ≡ min free (free_of cap places held) → more ≡ (quiet && nat_eq held 0) → RestSoFar cap back (k + 1) t more less
 unfolding one_done rests_as
-one_rests cap back k s t quiet more free less held places f below n was r places_are less_is more_is =
+one_rests {cap} {back} {k} {s} {t} {quiet} {more} {free} {less} {held} {places} f n were r places_are less_is more_is =
+    let was = next_was (WasUp cap) were n in
+    let below = slice_get_within back k n.old n.was in
     let now = f.so_far.now in
     let long = f.so_far.long in
     let here : k < length now = omega (arith, below, long) in
@@ -142,7 +154,7 @@ one_rests cap back k s t quiet more free less held places f below n was r places
     ∙ ap₂ (λ (a b : Bool). a && b) (ap (list_all is_empty) (take-set-le k qs k (queue_of r.now) (omega arith)) ∙ sym f.quiet_is)
     (ap is_empty (get_or-set_same qs k (queue_of r.now) [] (omega (arith, mapped, here))) ∙ ap (λ c. nat_eq c 0) (sym count)) in
     record {
-      so_far = one_done (RestsAs cap) back k s t r.now f.so_far below n (rests_as cap now k n.old t held was r) r.holds;
+      so_far = one_done r.now f.so_far n (rests_as was r) r.holds;
       fits = λ i e before. elim (cases_eq i k) [
         | inl is ↦
             let new : get_or (set now k r.now) i e ≡ r.now = ap (λ j. get_or (set now k r.now) j e) is ∙ get_or-set_same now k r.now e here in
@@ -163,19 +175,8 @@ rest_is_up cap free old new r has = record {
   rx_new = subst (λ q. NoNotes q (taking new.rx)) (sym r.tx_new.first) r.rx_new;
 }
 
--- the queue at a place of links
-queue_at_place : (ends : List LinkEnds) (i : ℕ) (q : List McCopy) (e : LinkEnds) → i < length ends → get_or (map queue_of ends) i q ≡ queue_of (get_or ends i e)
-queue_at_place ends i q e below =
-    let x = slice_get_there ends i below in
-    by_item ends i q e below
-  where
-    by_item : (es : List LinkEnds) (j : ℕ) (p : List McCopy) (d : LinkEnds) → j < length es → get_or (map queue_of es) j p ≡ queue_of (get_or es j d)
-    by_item [] j p d below = absurd (omega (arith, below))
-    by_item (x ∷ es) zero p d below = refl
-    by_item (x ∷ es) (suc j) p d below = by_item es j p d (omega (arith, below))
-
-pub all_rest : (cap : ℕ) (back : List LinkEnds) (k : ℕ) (s : Standing) (rested : Rested) → RestSoFar cap back k s rested.quiet rested.free → length back ≤ k → RestAll cap back s rested
-all_rest cap back k s rested f past =
+pub all_rest : {cap : ℕ} {back : List LinkEnds} {k : ℕ} {s : Standing} (rested : Rested) → RestSoFar cap back k s rested.quiet rested.free → length back ≤ k → RestAll cap back s rested
+all_rest {cap} {back} {k} rested f past =
     let now = f.so_far.now in
     let long = f.so_far.long in
     let mapped = length-map now queue_of in
@@ -188,13 +189,13 @@ all_rest cap back k s rested f past =
         each = λ i q e below.
             let inside : i < length now = omega (arith, below, mapped) in
             let within : i < k = omega (arith, inside, long, past) in
-            subst (λ (l : List McCopy). IsUp cap rested.free l (get_or now i e)) (sym (queue_at_place now i q e inside))
+            subst (λ (l : List McCopy). IsUp cap rested.free l (get_or now i e)) (sym (get_or-map queue_of now i e q inside))
             (rest_is_up cap rested.free (get_or back i e) (get_or now i e) (f.so_far.done i e e within) (f.fits i e within));
       };
       down = λ i e q below.
           let inside : i < length now = omega (arith, below, long) in
           let r = f.so_far.done i e e (omega (arith, below, past)) in
-          subst (IsDown (get_or back i e)) (sym (queue_at_place now i q e inside ∙ r.tx_new.first)) r.down;
+          subst (IsDown (get_or back i e)) (sym (get_or-map queue_of now i e q inside ∙ r.tx_new.first)) r.down;
       quiet = f.quiet_is ∙ ap (list_all is_empty) (take_all k (map queue_of now) (omega (arith, mapped, long, past)));
     }
 
@@ -211,24 +212,25 @@ stay_up cap more back now long each =
       long = omega (arith, long, mapped);
       each = λ i q e below.
           let inside : i < length back = omega (arith, below, mapped) in
-          subst (λ (l : List McCopy). IsUp cap more l (get_or now i e)) (sym (queue_at_place back i q e inside)) (each i e e inside);
+          subst (λ (l : List McCopy). IsUp cap more l (get_or now i e)) (sym (get_or-map queue_of back i e q inside)) (each i e e inside);
     }
 
 fewer : (cap more : ℕ) (queue : List McCopy) (e : LinkEnds) → IsUp cap more queue e → IsUp cap 0 queue e
 fewer cap more queue e up = record { ends = up.ends; holds = fewer_fit cap more 0 _ _ (omega arith) up.holds; tx_new = up.tx_new; rx_new = up.rx_new }
 
 -- all links are widened
-pub all_stay : (cap more : ℕ) (back : List LinkEnds) (k : ℕ) (s : Standing) → SoFar (StaysAs cap more) back k s → length back ≤ k → StayUp cap more back s
-all_stay cap more back k s f past = record {
+pub all_stay : {cap more : ℕ} {back : List LinkEnds} {k : ℕ} {s : Standing} → SoFar (StaysAs cap more) back k s → length back ≤ k → StayUp cap more back s
+all_stay {cap} {more} {back} f past = record {
   now = f.now;
   holds = f.holds;
   up = stay_up cap more back f.now f.long (λ i d e below. f.done i d e (omega (arith, below, past)));
 }
 
 -- the first links are widened, the next one is not, and all hold what they held
-pub some_stay : (cap more : ℕ) (back : List LinkEnds) (k : ℕ) (s t : Standing) → (f : SoFar (StaysAs cap more) back k s) → k < length back → (n : NextLink back f.now k) → AreUp cap 0 (map queue_of back) back →
+pub some_stay : {cap more : ℕ} {back : List LinkEnds} {k : ℕ} {s t : Standing} (f : SoFar (StaysAs cap more) back k s) → (n : NextLink back f.now k) → AreUp cap 0 (map queue_of back) back →
     UpAt cap 0 f.now k (queue_of n.old) t → StayUp cap 0 back t
-some_stay cap more back k s t f below n up at =
+some_stay {cap} {more} {back} {k} f n up at =
+    let below = slice_get_within back k n.old n.was in
     let long = f.long in
     let mapped = length-map back queue_of in
     record {
@@ -247,11 +249,20 @@ some_stay cap more back k s t f below n up at =
                   let same : get_or f.now i e ≡ get_or back i e = f.left i e from in
                   let one : get_or back i d ≡ get_or back i e = (let x = slice_get_there back i inside in get_or_from_slice_get back i x.0 d x.1 ∙ sym (get_or_from_slice_get back i x.0 e x.1)) in
                   let is : IsUp cap 0 (queue_of (get_or back i e)) (get_or back i e) =
-                  subst (λ (l : List McCopy). IsUp cap 0 l (get_or back i e)) (queue_at_place back i [] e inside) (up.each i [] e (omega (arith, inside, mapped))) in
+                  subst (λ (l : List McCopy). IsUp cap 0 l (get_or back i e)) (get_or-map queue_of back i e [] inside) (up.each i [] e (omega (arith, inside, mapped))) in
                   subst (λ (x : LinkEnds). IsUp cap 0 (queue_of (get_or back i d)) x) (sym same) (subst (λ (x : LinkEnds). IsUp cap 0 (queue_of x) (get_or back i e)) (sym one) is)
             ])
       ]);
     }
+
+-- the next link is up
+pub next_up : {cap : ℕ} {back now : List LinkEnds} {k : ℕ} (n : NextLink back now k) → AreUp cap 0 (map queue_of back) back → IsUp cap 0 (queue_of n.old) n.old
+next_up {cap} {back} {k = k} n up =
+    let below = slice_get_within back k n.old n.was in
+    let mapped = length-map back queue_of in
+    let is : IsUp cap 0 (queue_of (get_or back k n.old)) (get_or back k n.old) =
+    subst (λ (l : List McCopy). IsUp cap 0 l (get_or back k n.old)) (get_or-map queue_of back k n.old [] below) (up.each k [] n.old (omega (arith, below, mapped))) in
+    subst (λ (x : LinkEnds). IsUp cap 0 (queue_of x) x) (n.is n.old) is
 
 -- ---- one link
 
@@ -260,87 +271,12 @@ kept_queue : (v w a b : Known) (cap count : ℕ) (queue : List McCopy) → NoNot
 kept_queue v w a b cap count queue tx rx r =
     ap (λ (l : List McCopy). l ++ r.held) (sym rx.took) ∙ (sym r.all ∙ (ap₂ (λ (x y : List McCopy). x ++ y) tx.first tx.sent ∙ append-nil queue))
 
--- the queue of a link that rests is what it was
-pub same_queue : (cap : ℕ) (ends : List LinkEnds) (place : ℕ) (old : LinkEnds) (s : Standing) (held : ℕ) → IsUp cap 0 (queue_of old) old → (r : RestsAt ends place old s held) → queue_of r.now ≡ queue_of old
-same_queue cap ends place old s held up r = r.rests.sender_new.first ∙ kept_queue (sending old.tx) (taking old.rx) (sending r.now.tx) (taking r.now.rx) (cap_of old.link) held (queue_of old) up.tx_new up.rx_new r.rests
-
--- a link that rests is up again, where it has places
-pub rested_up : (cap more : ℕ) (ends : List LinkEnds) (place : ℕ) (old : LinkEnds) (s : Standing) (held : ℕ) → IsUp cap 0 (queue_of old) old → (r : RestsAt ends place old s held) →
-    HasPlaces cap more held (cap_of r.now.link) → IsUp cap more (queue_of old) r.now
-rested_up cap more ends place old s held up r has =
-    let same = kept_queue (sending old.tx) (taking old.rx) (sending r.now.tx) (taking r.now.rx) (cap_of old.link) held (queue_of old) up.tx_new up.rx_new r.rests in
-    record {
-      ends = r.ends_are;
-      holds = subst (λ n. HasPlaces cap more n (cap_of r.now.link)) (r.rests.counts ∙ ap length same) has;
-      tx_new = subst (λ q. NoNotes q (sending r.now.tx)) same r.rests.sender_new;
-      rx_new = subst (λ q. NoNotes q (taking r.now.rx)) same r.rests.receiver_new;
-    }
-
--- as many copies as a link holds have places
-pub held_fits : (cap : ℕ) (ends : List LinkEnds) (place : ℕ) (old : LinkEnds) (s : Standing) (held : ℕ) → (r : RestsAt ends place old s held) → held ≤ cap_of r.now.link
-held_fits cap ends place old s held r =
-    let bound = r.rests.bound in
-    let counts = r.rests.counts in
-    let same : cap_of r.now.link ≡ cap_of old.link = ap cap_of r.link in
-    omega (arith, bound, counts, same)
-
--- the next link is up
-pub next_up : (cap : ℕ) (back now : List LinkEnds) (k : ℕ) → (n : NextLink back now k) → AreUp cap 0 (map queue_of back) back → k < length back → IsUp cap 0 (queue_of n.old) n.old
-next_up cap back now k n up below =
-    let mapped = length-map back queue_of in
-    let is : IsUp cap 0 (queue_of (get_or back k n.old)) (get_or back k n.old) =
-    subst (λ (l : List McCopy). IsUp cap 0 l (get_or back k n.old)) (queue_at_place back k [] n.old below) (up.each k [] n.old (omega (arith, below, mapped))) in
-    subst (λ (x : LinkEnds). IsUp cap 0 (queue_of x) x) (n.is n.old) is
-
--- no more copies are held than the queue can hold
-pub held_short : (cap : ℕ) (ends : List LinkEnds) (place : ℕ) (old : LinkEnds) (s : Standing) (held : ℕ) → IsUp cap 0 (queue_of old) old → (r : RestsAt ends place old s held) → held ≤ cap
-held_short cap ends place old s held up r =
-    let fits = held_fits cap ends place old s held r in
-    let few = up.holds.few in
-    let same : cap_of r.now.link ≡ cap_of old.link = ap cap_of r.link in
-    omega (arith, fits, few, same)
-
--- another link with the same queue stands at the place
-pub widened_up : (cap turns : ℕ) (ends : List LinkEnds) (place : ℕ) (old : LinkEnds) (s t : Standing) (held wider : ℕ) (e : LinkEnds) (q : List McCopy) → IsUp cap 0 (queue_of old) old → (r : RestsAt ends place old s held) →
-    q ≡ queue_of r.now → wider ≡ places_for cap turns held → IsTx e.link e.tx × NoNotes q (sending e.tx) → IsRx e.link e.rx × NoNotes q (taking e.rx) → cap_of e.link ≡ wider →
-    (e.room.items ≡ []) × (wider ≤ e.room.spare) → HoldsAll (set (set ends place r.now) place e) t → UpAt cap (turns + 1) ends place (queue_of old) t
-widened_up cap turns ends place old s t held wider e q up r q_is wider_is tx rx cap_is room holds =
-    let same : q ≡ queue_of old = q_is ∙ same_queue cap ends place old s held up r in
-    let count : held ≡ length (queue_of old) = r.rests.counts ∙ ap length (sym r.rests.sender_new.first ∙ same_queue cap ends place old s held up r) in
-    record {
-      now = e;
-      holds = set_again ends place r.now e t holds;
-      up = record {
-        ends = record { tx = tx.0; rx = rx.0; empty = room.0; spare = subst (λ n. n ≤ e.room.spare) (sym cap_is) room.1 };
-        holds = subst (λ n. HasPlaces cap (turns + 1) n (cap_of e.link)) count (made_with cap turns held (cap_of e.link) (held_short cap ends place old s held up r) (cap_is ∙ wider_is));
-        tx_new = subst (λ l. NoNotes l (sending e.tx)) same tx.1;
-        rx_new = subst (λ l. NoNotes l (taking e.rx)) same rx.1;
-      };
-    }
-
--- the link that rests stands again
-pub put_again : (cap : ℕ) (ends : List LinkEnds) (place : ℕ) (old : LinkEnds) (s t : Standing) (held : ℕ) (tx : Tx) (rx : Rx) → IsUp cap 0 (queue_of old) old → (r : RestsAt ends place old s held) → tx ≡ r.now.tx → rx ≡ r.now.rx →
-    HoldsAll (set (set ends place r.now) place (record (r.now) { tx = tx; rx = rx })) t → UpAt cap 0 ends place (queue_of old) t
-put_again cap ends place old s t held tx rx up r tx_is rx_is holds =
-    let same : (record (r.now) { tx = tx; rx = rx }) ≡ r.now = λ i. record (r.now) { tx = tx_is i; rx = rx_is i } in
-    let fits = held_fits cap ends place old s held r in
-    let few = up.holds.few in
-    let caps : cap_of r.now.link ≡ cap_of old.link = ap cap_of r.link in
-    record {
-      now = r.now;
-      holds = subst (λ (e : LinkEnds). HoldsAll (set ends place e) t) same (set_again ends place r.now (record (r.now) { tx = tx; rx = rx }) t holds);
-      up = rested_up cap 0 ends place old s held up r (record { enough = omega (arith, fits); few = omega (arith, few, caps) });
-    }
-
-some_same : {X : Type 0} (x y : X) → Some x ≡ Some y → x ≡ y
-some_same x y e = cc
-
 -- the link at a place rests, by what its ends tell
 pub rests_there : (ends es : List LinkEnds) (place : ℕ) (old o : LinkEnds) (s mid t : Standing) (link : Link) (tx sender : Tx) (rx receiver : Rx) (held : ℕ) → HoldsAll ends s → slice_get ends place ≡ Some old →
     HoldsAll es s → slice_get es place ≡ Some o → AreEnds o → (tx ≡ old.tx) × (rx ≡ old.rx) → LacksEnds ends place mid → link ≡ get_or mid.links.items place link → IsTx link sender → IsRx link receiver →
     Rests (cap_of link) (sending tx) (taking rx) (sending sender) (taking receiver) held → HoldsAll (set ends place (record old { tx = sender; rx = receiver })) t → RestsAt ends place old t held
 rests_there ends es place old o s mid t link tx sender rx receiver held holds at were stood are taken lacks index is_tx is_rx rests now =
-    let same_old : o ≡ old = some_same o old (sym stood ∙ (ap (λ (l : List LinkEnds). slice_get l place) (only_ends es ends s were holds) ∙ at)) in
+    let same_old : o ≡ old = same_Some o old (sym stood ∙ (ap (λ (l : List LinkEnds). slice_get l place) (only_ends es ends s were holds) ∙ at)) in
     let here : AreEnds old = subst AreEnds same_old are in
     let link_is : link ≡ old.link = index ∙ slot_is (λ (e : LinkEnds). e.link) ends mid.links.items place old link lacks.links at in
     let from_tx : Rests (cap_of link) (sending old.tx) (taking rx) (sending sender) (taking receiver) held =
@@ -355,65 +291,114 @@ rests_there ends es place old o s mid t link tx sender rx receiver held holds at
       rests = subst (λ (l : Link). Rests (cap_of l) (sending old.tx) (taking old.rx) (sending sender) (taking receiver) held) link_is from_rx;
     }
 
--- the link that rests stands at its place
-pub rest_stands : (ends : List LinkEnds) (place : ℕ) (old : LinkEnds) (s : Standing) (held : ℕ) → slice_get ends place ≡ Some old → (r : RestsAt ends place old s held) → slice_get (set ends place r.now) place ≡ Some r.now
-rest_stands ends place old s held at r =
-    let inside = slice_get_within ends place old at in
-    let many = length-set ends place r.now in
-    slice_get-get_or (set ends place r.now) place r.now (omega (arith, many, inside)) ∙ ap Some (get_or-set_same ends place r.now r.now inside)
+-- a link that rests at its place
+module _ {ends : List LinkEnds} {place : ℕ} {old : LinkEnds} {s : Standing} {held : ℕ} (at : slice_get ends place ≡ Some old) (r : RestsAt ends place old s held) where
+  -- as many copies as it holds have places
+  held_fits : held ≤ cap_of r.now.link
+  held_fits =
+      let bound = r.rests.bound in
+      let counts = r.rests.counts in
+      let same : cap_of r.now.link ≡ cap_of old.link = ap cap_of r.link in
+      omega (arith, bound, counts, same)
 
-pub rest_within : (ends : List LinkEnds) (place : ℕ) (old : LinkEnds) (s : Standing) (held : ℕ) → slice_get ends place ≡ Some old → (r : RestsAt ends place old s held) → place < length (set ends place r.now)
-rest_within ends place old s held at r = slice_get_within (set ends place r.now) place r.now (rest_stands ends place old s held at r)
+  -- it stands there
+  pub rest_stands : slice_get (set ends place r.now) place ≡ Some r.now
+  rest_stands = slice_get-set_same ends place old r.now at
 
-pub rest_inside : (ends : List LinkEnds) (place : ℕ) (old : LinkEnds) (s : Standing) (held : ℕ) → slice_get ends place ≡ Some old → (r : RestsAt ends place old s held) → place < length s.links.items
-rest_inside ends place old s held at r =
-    let many = as_many (set ends place r.now) s r.holds in
-    let within = rest_within ends place old s held at r in
-    omega (arith, many, within)
+  pub rest_within : place < length (set ends place r.now)
+  rest_within = slice_get_within (set ends place r.now) place r.now rest_stands
 
--- the link that is read at its place is the one that rests
-pub rest_link : (ends : List LinkEnds) (place : ℕ) (old : LinkEnds) (s : Standing) (held : ℕ) (link : Link) → slice_get ends place ≡ Some old → (r : RestsAt ends place old s held) → link ≡ get_or s.links.items place link → link ≡ r.now.link
-rest_link ends place old s held link at r index =
-    index ∙ slot_is (λ (e : LinkEnds). e.link) (set ends place r.now) s.links.items place r.now link r.holds.links (rest_stands ends place old s held at r)
+  pub rest_inside : place < length s.links.items
+  rest_inside = let many = as_many (set ends place r.now) s r.holds in let within = rest_within in omega (arith, many, within)
 
--- the same without its ends
-pub lent_link : (ends : List LinkEnds) (place : ℕ) (old : LinkEnds) (s mid : Standing) (held : ℕ) (link : Link) → slice_get ends place ≡ Some old → (r : RestsAt ends place old s held) → LacksEnds (set ends place r.now) place mid →
-    link ≡ get_or mid.links.items place link → link ≡ r.now.link
-lent_link ends place old s mid held link at r lacks index =
-    index ∙ slot_is (λ (e : LinkEnds). e.link) (set ends place r.now) mid.links.items place r.now link lacks.links (rest_stands ends place old s held at r)
+  -- the link that is read at its place is the one that rests, and has room for what it holds
+  module _ {link : Link} {places : ℕ} (index : link ≡ get_or s.links.items place link) (are : places ≡ cap_of link) where
+    pub rest_places : places ≡ cap_of r.now.link
+    rest_places = are ∙ ap cap_of (index ∙ slot_is (λ (e : LinkEnds). e.link) (set ends place r.now) s.links.items place r.now link r.holds.links rest_stands)
 
-pub lent_inside : (ends : List LinkEnds) (place : ℕ) (old : LinkEnds) (s mid : Standing) (held : ℕ) → slice_get ends place ≡ Some old → (r : RestsAt ends place old s held) → LacksEnds (set ends place r.now) place mid →
-    place < length mid.links.items
-lent_inside ends place old s mid held at r lacks = in_links (set ends place r.now) place mid lacks (rest_within ends place old s held at r)
+    pub rest_fits : held ≤ places
+    rest_fits = let fits = held_fits in let same = rest_places in omega (arith, fits, same)
 
--- the link at a place has places for a round already
-pub rest_wide : (cap turns : ℕ) (ends : List LinkEnds) (place : ℕ) (old : LinkEnds) (s : Standing) (held places free : ℕ) (link : Link) → slice_get ends place ≡ Some old → IsUp cap 0 (queue_of old) old →
-    (r : RestsAt ends place old s held) → link ≡ get_or s.links.items place link → places ≡ cap_of link → free ≡ free_of cap places held → turns < free → UpAt cap (turns + 1) ends place (queue_of old) s
-rest_wide cap turns ends place old s held places free link at up r index places_are free_is more =
-    let p : places ≡ cap_of r.now.link = places_are ∙ ap cap_of (rest_link ends place old s held link at r index) in
-    let fits = held_fits cap ends place old s held r in
-    let few = up.holds.few in
-    let caps : cap_of r.now.link ≡ cap_of old.link = ap cap_of r.link in
-    let left : turns + 1 ≤ free = omega (arith, more) in
-    let left_now : turns + 1 ≤ free_of cap (cap_of r.now.link) held = subst (λ (n : ℕ). turns + 1 ≤ free_of cap n held) p (subst (λ (n : ℕ). turns + 1 ≤ n) free_is left) in
-    record {
-      now = r.now;
-      holds = r.holds;
-      up = rested_up cap (turns + 1) ends place old s held up r (free_fits cap (cap_of r.now.link) held (turns + 1) fits (omega (arith, few, caps)) left_now);
+  -- the same without its ends
+  module _ {mid : Standing} (lacks : LacksEnds (set ends place r.now) place mid) where
+    pub lent_link : {link : Link} → link ≡ get_or mid.links.items place link → link ≡ r.now.link
+    lent_link {link} index = index ∙ slot_is (λ (e : LinkEnds). e.link) (set ends place r.now) mid.links.items place r.now link lacks.links rest_stands
+
+    pub lent_inside : place < length mid.links.items
+    lent_inside = in_links (set ends place r.now) place mid lacks rest_within
+
+  -- its ends are as new
+  module _ {tx : Tx} (tx_is : tx ≡ r.now.tx) where
+    pub rest_sent : NoNotes (sending tx).first (sending tx)
+    rest_sent = subst (λ (x : Tx). NoNotes (sending x).first (sending x)) (sym tx_is) (subst (λ (q : List McCopy). NoNotes q (sending r.now.tx)) (sym r.rests.sender_new.first) r.rests.sender_new)
+
+    pub rest_took : {rx : Rx} → rx ≡ r.now.rx → NoNotes (sending tx).first (taking rx)
+    rest_took {rx} rx_is =
+        subst (λ (x : Tx). NoNotes (sending x).first (taking rx)) (sym tx_is)
+        (subst (λ (x : Rx). NoNotes (sending r.now.tx).first (taking x)) (sym rx_is) (subst (λ (q : List McCopy). NoNotes q (taking r.now.rx)) (sym r.rests.sender_new.first) r.rests.receiver_new))
+
+    pub rest_count : held ≡ length (sending tx).first
+    rest_count = r.rests.counts ∙ (ap length (sym r.rests.sender_new.first) ∙ ap (λ (x : Tx). length (sending x).first) (sym tx_is))
+
+  -- a link that was up
+  module _ {cap : ℕ} (up : IsUp cap 0 (queue_of old) old) where
+    -- the queue is what it was
+    held_same : r.rests.held ≡ queue_of old
+    held_same = kept_queue (sending old.tx) (taking old.rx) (sending r.now.tx) (taking r.now.rx) (cap_of old.link) held (queue_of old) up.tx_new up.rx_new r.rests
+
+    few_places : cap_of r.now.link ≤ cap
+    few_places = subst (λ (l : Link). cap_of l ≤ cap) (sym r.link) up.holds.few
+
+    -- it is up again, where it has places
+    rested_up : (more : ℕ) → HasPlaces cap more held (cap_of r.now.link) → IsUp cap more (queue_of old) r.now
+    rested_up more has = record {
+      ends = r.ends_are;
+      holds = subst (λ n. HasPlaces cap more n (cap_of r.now.link)) (r.rests.counts ∙ ap length held_same) has;
+      tx_new = subst (λ q. NoNotes q (sending r.now.tx)) held_same r.rests.sender_new;
+      rx_new = subst (λ q. NoNotes q (taking r.now.rx)) held_same r.rests.receiver_new;
     }
 
--- the ends of a link that rests are as new
-pub rest_sent : (ends : List LinkEnds) (place : ℕ) (old : LinkEnds) (s : Standing) (held : ℕ) (tx : Tx) → (r : RestsAt ends place old s held) → tx ≡ r.now.tx → NoNotes (sending tx).first (sending tx)
-rest_sent ends place old s held tx r is =
-    subst (λ (x : Tx). NoNotes (sending x).first (sending x)) (sym is) (subst (λ (q : List McCopy). NoNotes q (sending r.now.tx)) (sym r.rests.sender_new.first) r.rests.sender_new)
+    -- no more copies are held than the queue can hold
+    pub held_short : held ≤ cap
+    held_short = let fits = held_fits in let few = few_places in omega (arith, fits, few)
 
-pub rest_took : (ends : List LinkEnds) (place : ℕ) (old : LinkEnds) (s : Standing) (held : ℕ) (tx : Tx) (rx : Rx) → (r : RestsAt ends place old s held) → tx ≡ r.now.tx → rx ≡ r.now.rx → NoNotes (sending tx).first (taking rx)
-rest_took ends place old s held tx rx r tx_is rx_is =
-    subst (λ (x : Tx). NoNotes (sending x).first (taking rx)) (sym tx_is)
-    (subst (λ (x : Rx). NoNotes (sending r.now.tx).first (taking x)) (sym rx_is) (subst (λ (q : List McCopy). NoNotes q (taking r.now.rx)) (sym r.rests.sender_new.first) r.rests.receiver_new))
+    -- another link with the same queue stands at the place
+    pub widened_up : (turns : ℕ) {wider : ℕ} {t : Standing} {e : LinkEnds} {q : List McCopy} → q ≡ queue_of r.now → wider ≡ places_for cap turns held → IsTx e.link e.tx × NoNotes q (sending e.tx) →
+        IsRx e.link e.rx × NoNotes q (taking e.rx) → cap_of e.link ≡ wider → (e.room.items ≡ []) × (wider ≤ e.room.spare) → HoldsAll (set (set ends place r.now) place e) t → UpAt cap (turns + 1) ends place (queue_of old) t
+    widened_up turns {wider} {t} {e} {q} q_is wider_is tx rx cap_is room holds =
+        let same : q ≡ queue_of old = q_is ∙ (r.rests.sender_new.first ∙ held_same) in
+        let count : held ≡ length (queue_of old) = r.rests.counts ∙ ap length held_same in
+        record {
+          now = e;
+          holds = set_again ends place r.now e t holds;
+          up = record {
+            ends = record { tx = tx.0; rx = rx.0; empty = room.0; spare = subst (λ n. n ≤ e.room.spare) (sym cap_is) room.1 };
+            holds = subst (λ n. HasPlaces cap (turns + 1) n (cap_of e.link)) count (made_with cap turns held (cap_of e.link) held_short (cap_is ∙ wider_is));
+            tx_new = subst (λ l. NoNotes l (sending e.tx)) same tx.1;
+            rx_new = subst (λ l. NoNotes l (taking e.rx)) same rx.1;
+          };
+        }
 
-pub rest_count : (ends : List LinkEnds) (place : ℕ) (old : LinkEnds) (s : Standing) (held : ℕ) (tx : Tx) → (r : RestsAt ends place old s held) → tx ≡ r.now.tx → held ≡ length (sending tx).first
-rest_count ends place old s held tx r is = r.rests.counts ∙ (ap length (sym r.rests.sender_new.first) ∙ ap (λ (x : Tx). length (sending x).first) (sym is))
+    -- the link that rests stands again
+    pub put_again : {t : Standing} {tx : Tx} {rx : Rx} → tx ≡ r.now.tx → rx ≡ r.now.rx → HoldsAll (set (set ends place r.now) place (record (r.now) { tx = tx; rx = rx })) t → UpAt cap 0 ends place (queue_of old) t
+    put_again {t} {tx} {rx} tx_is rx_is holds =
+        let same : (record (r.now) { tx = tx; rx = rx }) ≡ r.now = λ i. record (r.now) { tx = tx_is i; rx = rx_is i } in
+        let fits = held_fits in
+        record {
+          now = r.now;
+          holds = subst (λ (e : LinkEnds). HoldsAll (set ends place e) t) same (set_again ends place r.now (record (r.now) { tx = tx; rx = rx }) t holds);
+          up = rested_up 0 (record { enough = omega (arith, fits); few = few_places });
+        }
+
+    -- it has places for a round already
+    pub rest_wide : {turns places free : ℕ} → places ≡ cap_of r.now.link → free ≡ free_of cap places held → turns < free → UpAt cap (turns + 1) ends place (queue_of old) s
+    rest_wide {turns} {places} {free} are free_is more =
+        let left : turns + 1 ≤ free = omega (arith, more) in
+        record {
+          now = r.now;
+          holds = r.holds;
+          up = rested_up (turns + 1) (free_fits cap (cap_of r.now.link) held (turns + 1) held_fits few_places (subst (λ (n : ℕ). turns + 1 ≤ free_of cap n held) are (subst (λ (n : ℕ). turns + 1 ≤ n) free_is left)));
+        }
 
 -- what holds anyway holds after a refusal
 pub after_refusal : {X E : Type 0} (r : Result X E) (P : Type 0) → P → OnErr r P

@@ -2,10 +2,9 @@
 use Rattle.std.proofs.Common.{◌≡◌, ℕ, ◌<◌, List, length, map, get_or, set, Option, None, Some, refl, sym, ap, ◌∙◌, subst, arith}
 use Rattle.std.specs.List.{slice_get}
 use Rattle.std.proofs.lemmas.List.{length-map, length-set, map-set, set-set}
-use Rattle.std.proofs.lemmas.Option.{get_or_from_slice_get, slice_get_within}
+use Rattle.std.proofs.lemmas.Option.{get_or_from_slice_get, same_Some}
 use Rattle.list_laws.proofs.Places.{slice_get-mapped, set-slice_get}
 use Rattle.link_queue.specs.declared.links.LinkEnds.{LinkEnds}
-use Rattle.link_queue.specs.declared.links.Link.{Link}
 use Rattle.link_queue.specs.declared.links.Tx.{Tx}
 use Rattle.link_queue.specs.declared.links.Rx.{Rx}
 use Rattle.mesh_run.specs.declared.standing.Standing.{Standing}
@@ -26,13 +25,10 @@ pub slot_stands : {X : Type 0} (end : LinkEnds → X) (ends : List LinkEnds) (sl
     slice_get slots place ≡ Some (Some (end old))
 slot_stands end ends slots place old are at = ap (λ l. slice_get l place) are ∙ slice_get-mapped (λ (e : LinkEnds). Some (end e)) ends place old at
 
-some_same : {X : Type 0} (x y : X) → Some x ≡ Some y → x ≡ y
-some_same x y e = cc
-
 -- the end that was taken
 pub end_taken : {X : Type 0} (end : LinkEnds → X) (ends : List LinkEnds) (slots : List (Option X)) (place : ℕ) (old : LinkEnds) (x : X) → slots ≡ map (λ (e : LinkEnds). Some (end e)) ends → slice_get ends place ≡ Some old →
     slice_get slots place ≡ Some (Some x) → x ≡ end old
-end_taken end ends slots place old x are at is = some_same x (end old) (some_same (Some x) (Some (end old)) (sym is ∙ slot_stands end ends slots place old are at))
+end_taken end ends slots place old x are at is = same_Some x (end old) (same_Some (Some x) (Some (end old)) (sym is ∙ slot_stands end ends slots place old are at))
 
 -- what stands in a list that is a map, with one item set
 same_slot : {X : Type 0} (f : LinkEnds → X) (ends : List LinkEnds) (slots : List X) (place : ℕ) (old new : LinkEnds) → slots ≡ map f ends → slice_get ends place ≡ Some old → f new ≡ f old → slots ≡ map f (set ends place new)

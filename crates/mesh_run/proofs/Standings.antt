@@ -1,9 +1,10 @@
 -- Whose ends are whose, by what stands at the places of links.
-use Rattle.std.proofs.Common.{◌≡◌, ℕ, zero, suc, List, [], ◌∷◌, ◌++◌, map, get_or, Option, Some, refl, sym, subst}
+use Rattle.std.proofs.Common.{◌≡◌, ℕ, List, [], ◌∷◌, ◌++◌, map, get_or, Option, Some, sym, subst}
+use Rattle.std.proofs.lemmas.Option.{same_Some}
 use Rattle.std.specs.List.{All, AllZip, flat_map, slice_get}
 use Rattle.std.proofs.lemmas.List.Elements.{All-head}
 use Rattle.list_laws.proofs.Pairs.{All-left, All-right, All-from_map}
-use Rattle.list_laws.proofs.Places.{slice_get-mapped, All-at}
+use Rattle.list_laws.proofs.Places.{slice_get-mapped, All-at, unmapped}
 use Rattle.spin_base.specs.declared.chips.Chip.{Chip}
 use Rattle.spin_base.specs.declared.chips.Port.{Port}
 use Rattle.spin_base.specs.declared.copies.McCopy.{McCopy}
@@ -23,15 +24,6 @@ use Rattle.mesh_run.specs.Dealing.{IsPairOf, rxs_in, txs_in, unsent_in}
 use Rattle.mesh_run.specs.Lending.{tx_of, rx_of, txs_of, rxs_of, vertex_rxs, vertex_unsent}
 use Rattle.mesh_run.specs.Queues.{AreEnds}
 
-some_same : {X : Type 0} (x y : X) → Some x ≡ Some y → x ≡ y
-some_same x y e = cc
-
--- what stands in a list that is a map was made of what stands there
-pub unmapped : {X Y : Type 0} (f : X → Y) (xs : List X) (i : ℕ) (y : Y) → slice_get (map f xs) i ≡ Some y → (x : X) × (slice_get xs i ≡ Some x) × (f x ≡ y)
-unmapped f [] i y at = cc
-unmapped f (x ∷ xs) zero y at = (x, refl, some_same (f x) y at)
-unmapped f (x ∷ xs) (suc i) y at = unmapped f xs i y at
-
 -- the items stand at their places
 abbrev pub Stand : {X : Type 0} → List X → List (ℕ × X) → Type 0
 Stand {X} xs held = All (λ (h : ℕ × X). slice_get xs h.0 ≡ Some h.1) held
@@ -45,12 +37,12 @@ rx_slots ends = map (λ (e : LinkEnds). Some e.rx) ends
 tx_at : (ends : List LinkEnds) (e : OutEnd) → slice_get (tx_slots ends) e.link ≡ Some (Some e.tx) → IsTxAt ends e
 tx_at ends e at =
     let x = unmapped (λ (f : LinkEnds). Some f.tx) ends e.link (Some e.tx) at in
-    record { of = x.0; stands = x.1; is_end = some_same e.tx x.0.tx (sym x.2) }
+    record { of = x.0; stands = x.1; is_end = same_Some e.tx x.0.tx (sym x.2) }
 
 rx_at : (ends : List LinkEnds) (e : InEnd) → slice_get (rx_slots ends) e.link ≡ Some (Some e.rx) → IsRxAt ends e
 rx_at ends e at =
     let x = unmapped (λ (f : LinkEnds). Some f.rx) ends e.link (Some e.rx) at in
-    record { of = x.0; stands = x.1; is_end = some_same e.rx x.0.rx (sym x.2) }
+    record { of = x.0; stands = x.1; is_end = same_Some e.rx x.0.rx (sym x.2) }
 
 module _ (u : Setup) (ends : List LinkEnds) (unsent : List (List McCopy)) (patience : ℕ) where
   pair_at : (c : Chip) (p : Pair) → IsPairOf u patience c p → Stand (tx_slots ends) (txs_of p.router.outputs.items) → Stand (tx_slots ends) (tx_of p.bank.inject ∷ []) →

@@ -1,14 +1,14 @@
 -- A mesh whose links stay up: raised, played, and lowered.
-use Rattle.std.proofs.Common.{◌≡◌, ℕ, suc, ◌+◌, ◌-◌, ◌*◌, ◌<◌, ◌≤◌, ◌&&◌, Bool, true, false, List, [], ◌∷◌, ◌++◌, length, map, take, drop, get_or, Option, Some, refl, sym, ap, ap₂, ◌∙◌, subst, arith, append-nil}
+use Rattle.std.proofs.Common.{◌≡◌, ℕ, suc, ◌+◌, ◌*◌, ◌<◌, ◌≤◌, ◌&&◌, Bool, true, false, List, [], ◌∷◌, ◌++◌, length, map, take, drop, get_or, Option, Some, refl, sym, ap, ap₂, ◌∙◌, subst, arith, append-nil}
 use Rattle.std.specs.List.{All, list_all}
-use Rattle.std.proofs.lemmas.List.{length-append, length-map, length-take, length-drop, take-append-drop, take_at, drop_at, get_or-map, ext_get_or}
+use Rattle.std.proofs.lemmas.List.{length-append, length-map, length-take, length-drop, take-append-drop, take_at, drop_at, get_or-map}
 use Rattle.std.proofs.lemmas.List.Folds.{list_all-append}
 use Rattle.spin_base.specs.declared.copies.McCopy.{McCopy}
 use Rattle.spin_base.specs.declared.copies.Delivery.{Delivery}
 use Rattle.spin_base.specs.declared.copies.DumpRec.{DumpRec}
 use Rattle.link_queue.specs.declared.links.Link.{Link}
 use Rattle.link_queue.specs.declared.links.LinkEnds.{LinkEnds}
-use Rattle.link_queue.specs.Ends.{cap_of, sending, taking}
+use Rattle.link_queue.specs.Ends.{cap_of}
 use Rattle.mesh_core.specs.State.{State, Setup, Hand, IsMesh}
 use Rattle.mesh_run.specs.declared.queues.Rested.{Rested}
 use Rattle.mesh_run.specs.declared.raised.RaisedMesh.{RaisedMesh}
@@ -17,7 +17,7 @@ use Rattle.mesh_run.specs.declared.standing.Standing.{Standing}
 use Rattle.mesh_run.specs.Casting.{IsPlayed, delivered_by, dumped_by}
 use Rattle.mesh_run.specs.Lending.{IsSetup, vertex_place}
 use Rattle.mesh_run.specs.Playing.{IsPlayedOn}
-use Rattle.mesh_run.specs.Queues.{AreEnds, AreUp, DownTo, IsDown, IsUp, RestAll, StayUp, WasUp, is_empty, queue_of}
+use Rattle.mesh_run.specs.Queues.{AreEnds, AreUp, DownTo, RestAll, StayUp, WasUp, is_empty, queue_of}
 use Rattle.mesh_run.specs.Raised.{IsRaised, first_of, has_none, mesh_of, ports_of, queues_of}
 use Rattle.mesh_run.specs.Standing.{HoldsAll}
 use Rattle.mesh_run.proofs.BringingUp.{fewer_up}

@@ -1,5 +1,5 @@
 -- Two lists whose items belong together, one by one.
-use Rattle.std.proofs.Common.{◌≡◌, ℕ, suc, ◌<◌, List, [], ◌∷◌, ◌++◌, map, length, get_or, refl, ap, ap₂, arith}
+use Rattle.std.proofs.Common.{◌≡◌, ℕ, suc, ◌<◌, List, [], ◌∷◌, ◌++◌, map, length, get_or, refl, ap₂, arith}
 use Rattle.std.specs.List.{All, AllZip, flat_map}
 use Rattle.std.proofs.lemmas.List.Elements.{All-nil, All-cons, All-head, All-tail}
 
@@ -9,12 +9,6 @@ module _ {X Y : Type 0} (R : X → Y → Type 0) where
   zip_push [] (b ∷ ys) x y all one = absurd all
   zip_push (a ∷ xs) [] x y all one = absurd all
   zip_push (a ∷ xs) (b ∷ ys) x y all one = (all.0, zip_push xs ys x y all.1 one)
-
-  pub zip_long : (xs : List X) (ys : List Y) → AllZip R xs ys → length ys ≡ length xs
-  zip_long [] [] all = refl
-  zip_long [] (b ∷ ys) all = absurd all
-  zip_long (a ∷ xs) [] all = absurd all
-  zip_long (a ∷ xs) (b ∷ ys) all = ap suc (zip_long xs ys all.1)
 
   -- what holds of the first items holds of the second ones
   pub zip_carries : (P : X → Type 0) (Q : Y → Type 0) → ((x : X) (y : Y) → R x y → P x → Q y) → (xs : List X) (ys : List Y) → AllZip R xs ys → All P xs → All Q ys

@@ -52,21 +52,20 @@ impl RaisedMesh {
         ensures same { IfOk result (λ r. mesh_of r ≡ parts) }
         ensures back { IfErr result (λ b. b.0 ≡ parts) }
     {
-        let MeshParts {
-            setup,
-            unsent,
-            inputs,
-            hands,
-            cores,
-            delivered,
-            dumped,
-        } = parts;
-        let cap = setup.capacity();
-        let mut queues = inputs;
-        let mut cores = cores;
-        match links_of(rt, alloc, &mut queues, &mut cores, cap, turns) {
+        let mut parts = parts;
+        let cap = parts.setup.capacity();
+        match links_of(rt, alloc, &mut parts.inputs, &mut parts.cores, cap, turns) {
             Ok(mut standing) => {
                 let rested = rest_all(rt, &mut standing, cap);
+                let MeshParts {
+                    setup,
+                    unsent,
+                    inputs: queues,
+                    hands,
+                    cores,
+                    delivered,
+                    dumped,
+                } = parts;
                 Ok(RaisedMesh {
                     setup,
                     hands,
@@ -80,18 +79,7 @@ impl RaisedMesh {
                     free: rested.free,
                 })
             }
-            Err(e) => {
-                let parts = MeshParts {
-                    setup,
-                    unsent,
-                    inputs: queues,
-                    hands,
-                    cores,
-                    delivered,
-                    dumped,
-                };
-                Err((parts, e))
-            }
+            Err(e) => Err((parts, e)),
         }
     }
 
@@ -117,68 +105,37 @@ impl RaisedMesh {
         ensures still_raised { IfErr result (λ b. IsRaised b.0) }
         ensures back { IfErr result (λ b. mesh_of b.0 ≡ mesh_of self) }
     {
-        let raised = self.with_places(rt, alloc, pace.turns)?;
+        let mut raised = self.with_places(rt, alloc, pace.turns)?;
         let Ok(kits) = live_kits(alloc, raised.setup.machine(), pace.turns) else {
             return Err((raised, Memory));
         };
         let Ok(actors) = room_for(alloc, 2 * kits.len()) else {
             return Err((raised, Memory));
         };
-        let RaisedMesh {
-            setup,
-            hands,
-            mut unsent,
-            mut standing,
-            delivered,
-            dumped,
-            queues,
-            cores,
-            quiet,
-            free,
-        } = raised;
-        let cap = setup.capacity();
-        match Logs::over(delivered, dumped, kits.len(), pace.turns) {
+        let cap = raised.setup.capacity();
+        match Logs::over(raised.delivered, raised.dumped, kits.len(), pace.turns) {
             Ok(mut logs) => {
                 play_links(
                     rt,
                     alloc,
-                    &setup,
+                    &raised.setup,
                     kits,
                     actors,
-                    &mut standing,
-                    &mut unsent,
+                    &mut raised.standing,
+                    &mut raised.unsent,
                     &mut logs,
                     pace,
                     gate,
                 );
-                let rested = rest_all(rt, &mut standing, cap);
-                let (delivered, dumped) = logs.into_lists();
-                Ok(RaisedMesh {
-                    setup,
-                    hands,
-                    unsent,
-                    standing,
-                    delivered,
-                    dumped,
-                    queues,
-                    cores,
-                    quiet: rested.quiet,
-                    free: rested.free,
-                })
+                let rested = rest_all(rt, &mut raised.standing, cap);
+                (raised.delivered, raised.dumped) = logs.into_lists();
+                raised.quiet = rested.quiet;
+                raised.free = rested.free;
+                Ok(raised)
             }
             Err((delivered, dumped)) => {
-                let raised = RaisedMesh {
-                    setup,
-                    hands,
-                    unsent,
-                    standing,
-                    delivered,
-                    dumped,
-                    queues,
-                    cores,
-                    quiet,
-                    free,
-                };
+                raised.delivered = delivered;
+                raised.dumped = dumped;
                 Err((raised, Memory))
             }
         }

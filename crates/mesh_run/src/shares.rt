@@ -3,7 +3,7 @@ ghost use Rattle.std.specs.Prelude.{◌≡◌, ℕ, ◌<◌, ◌≤◌, ◌^◌,
 ghost use Rattle.mesh_run.specs.declared.actors.Actor.{Actor};
 ghost use Rattle.mesh_run.specs.Acting.{IsReady, MayPlayOn, PlaysOn};
 
-use crate::actors::{Actor, Did};
+use crate::actors::Actor;
 use crate::waking::{Awake, Seats};
 use link_queue::Link;
 use spin_base::Gate;
@@ -12,8 +12,9 @@ use std::thread;
 use std::thread::Threads;
 use tcam_find::Tcam;
 
-/// Gives each actor so many turns, of which those in which it is asleep are none. The actors are cut in `workers` runs of equal length, the last shorter, one for each
-/// worker. Each worker enters the gate in phase `phase` before each turn of its actors, and once more after the last.
+/// Gives each actor so many turns, of which those in which it is asleep are none. The actors are cut in `workers` runs of equal
+/// length, the last shorter, one for each worker. Each worker enters the gate in phase `phase` before each turn of its actors, and
+/// once more after the last.
 pub fn play<R: Threads + Wait + Sync, G: Gate>(
     rt: &R,
     links: &[Link],
@@ -94,8 +95,7 @@ fn turn_each<R: Wait>(
     ensures { (k : ℕ) (d : Actor) → k < length part.old → MayPlayOn links.now tables.now number (slice_index_or part.old k d) (slice_index_or part.new k d) }
 {
     for k in 0..part.len() {
-        let did = turn_one(rt, links, tables, &mut part[k], number, awake.has(k));
-        awake.note(seats, k, &part[k], did);
+        turn_one(rt, links, tables, seats, &mut part[k], number, k, awake);
     }
 }
 
@@ -104,16 +104,16 @@ fn turn_one<R: Wait>(
     rt: &R,
     links: &[Link],
     tables: &[Tcam],
+    seats: &Seats,
     actor: &mut Actor,
     number: u32,
-    awake: bool,
-) -> Did
+    k: usize,
+    awake: &mut Awake,
+)
     requires { IsReady links.now tables.now 1 actor.old }
     ensures { MayPlayOn links.now tables.now number actor.old actor.new }
 {
-    if number == 0 || awake {
-        actor.turn(rt, links, tables, number)
-    } else {
-        Did::Slept
+    if number == 0 || awake.has(k) {
+        actor.turn(rt, links, tables, number, seats, k, awake);
     }
 }

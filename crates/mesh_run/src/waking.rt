@@ -5,8 +5,10 @@
 // is fed from another worker's share is always awake: nobody tells its worker what comes.
 ghost use Rattle.std.specs.Prelude.{◌≡◌, ◌<◌, ◌≤◌, true, slice_index_or, slice_set};
 
-use crate::actors::{Actor, Did};
-use spin_base::{Dir, Out};
+use crate::actors::Actor;
+use chip_node::{BankTurn, RouterNode};
+use link_queue::Offered;
+use spin_base::{Dir, Out, Outs};
 
 /// How many chips a machine has at most, and how many actors these have.
 const CHIPS: usize = 4096;
@@ -159,35 +161,37 @@ impl Awake {
         }
     }
 
-    /// An actor of the share had its turn: it falls asleep where it did nothing, and who takes what it sent is awake.
-    pub fn note(&mut self, seats: &Seats, k: usize, actor: &Actor, did: Did) {
+    /// A router of the share had its turn, and served a copy at these outputs, or took none: then it falls asleep. Who takes what it
+    /// sent is awake.
+    pub fn note_router(
+        &mut self,
+        seats: &Seats,
+        k: usize,
+        node: &RouterNode,
+        served: &Option<Outs>,
+    ) {
         let place = self.start.saturating_add(k);
-        match did {
-            Did::Slept => {}
-            Did::Nothing => self.set(k, seats.watches(place)),
-            Did::Collected => self.set(k, true),
-            Did::Injected => {
-                self.set(k, true);
-                self.wake(place.saturating_sub(1));
-            }
-            Did::Routed(outs) => {
+        match served {
+            Some(outs) => {
                 self.set(k, true);
                 for out in outs.as_slice() {
-                    self.wake_taker(seats, place, actor, *out);
+                    if let Some(link) = node.link_behind(*out) {
+                        self.wake(seats.taker(place, link));
+                    }
                 }
             }
+            None => self.set(k, seats.watches(place)),
         }
     }
 
-    // Wakes the actor that takes what the router at a place sends by an output.
-    fn wake_taker(&mut self, seats: &Seats, place: usize, actor: &Actor, out: Out) {
-        match actor {
-            Actor::Router(_, node) => {
-                if let Some(link) = node.link_behind(out) {
-                    self.wake(seats.taker(place, link));
-                }
-            }
-            Actor::Bank(_) => {}
+    /// A bank of the share had its turn: it falls asleep where it took nothing and had nothing to offer. The router that takes what
+    /// it sent is awake.
+    pub fn note_bank(&mut self, seats: &Seats, k: usize, turn: BankTurn) {
+        let place = self.start.saturating_add(k);
+        let busy = turn.collected || turn.offered.is_some();
+        self.set(k, busy || seats.watches(place));
+        if let Some(Offered::Taken) = turn.offered {
+            self.wake(place.saturating_sub(1));
         }
     }
 }

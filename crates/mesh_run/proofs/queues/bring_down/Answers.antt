@@ -1,4 +1,4 @@
-use Rattle.std.proofs.Common.{◌≡◌, ◌-◌, ◌<◌, ◌≤◌, length, take, set, sym, ap, ◌∙◌, subst, arith}
+use Rattle.std.proofs.Common.{◌≡◌, ◌-◌, ◌<◌, ◌≤◌, length, take, set, ap, subst, arith}
 use Rattle.mesh_run.specs.Queues.{DownTo}
 use Rattle.mesh_run.proofs.Holding.{as_many, only_ends, down_none, stands_next, next_are_ends, down_more, down_all}
 use Rattle.mesh_run.proofs.queues.bring_down.Goals as goal

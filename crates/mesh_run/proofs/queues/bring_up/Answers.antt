@@ -1,6 +1,5 @@
 use Rattle.std.proofs.Common.{◌≡◌, ◌+◌, ◌-◌, ◌<◌, ◌≤◌, List, length, get_or, refl, sym, ap, ◌∙◌, subst, arith}
 use Rattle.spin_base.specs.declared.copies.McCopy.{McCopy}
-use Rattle.link_queue.specs.Ends.{sending, taking}
 use Rattle.mesh_run.specs.Queues.{places_for}
 use Rattle.mesh_run.proofs.BringingUp.{made_with, up_none, may_rise, up_more, all_up}
 use Rattle.mesh_run.proofs.queues.bring_up.Goals as goal

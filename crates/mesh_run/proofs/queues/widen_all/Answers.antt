@@ -1,9 +1,9 @@
-use Rattle.std.proofs.Common.{◌≡◌, ◌+◌, ◌<◌, ◌≤◌, List, length, map, sym, ap, ◌∙◌, subst, arith}
+use Rattle.std.proofs.Common.{◌+◌, List, ◌∙◌, subst}
 use Rattle.link_queue.specs.declared.links.LinkEnds.{LinkEnds}
 use Rattle.mesh_run.specs.Queues.{StayUp}
 use Rattle.mesh_run.specs.Standing.{HoldsAll}
-use Rattle.mesh_run.proofs.Holding.{as_many, only_ends}
-use Rattle.mesh_run.proofs.Resting.{StaysAs, after_refusal, all_stay, next_link, next_up, none_done, one_done, some_stay}
+use Rattle.mesh_run.proofs.Holding.{only_ends}
+use Rattle.mesh_run.proofs.Resting.{StaysAs, after_refusal, all_stay, links_past, next_at, next_up, none_done, one_done, some_stay}
 use Rattle.mesh_run.proofs.queues.widen_all.Goals as goal
 
 pub loop-place-init : goal.loop-place-init
@@ -12,53 +12,26 @@ loop-place-init g c = let r = c.requires.up in (r.0, r.1, r.2, none_done (StaysA
 pub widen_at-requires-clause-up : goal.widen_at-requires-clause-up
 widen_at-requires-clause-up g c =
     let h = c.loop-place.invariant in
-    let k = c.loop-place.place in
-    let many = as_many h.0 c.args.standing.now h.1 in
-    let ok = c.args.standing.now.links.ok.0 in
-    let end = c.len-place-end.ensures in
-    let test = c.loop-place-test.true in
-    let below : k < length h.0 = omega (arith, many, ok, end, test) in
-    let n = next_link (StaysAs c.args.cap (c.args.turns + 1)) h.0 k c.loop-place.standing h.3 below in
-    let up = next_up c.args.cap h.0 h.3.now k n h.2 below in
-    (h.3.now, n.old, h.3.holds, n.stands, up)
+    let n = next_at h.3 h.1 (c.len-place-end.ensures ∙ c.args.standing.now.links.ok.0) c.loop-place-test.true in
+    (h.3.now, n.old, h.3.holds, n.stands, next_up n h.2)
 
 pub returns-in_err-widen_at-clause-back : goal.returns-in_err-widen_at-clause-back
 returns-in_err-widen_at-clause-back g c =
     let h = c.loop-place.invariant in
-    let k = c.loop-place.place in
-    let many = as_many h.0 c.args.standing.now h.1 in
-    let ok = c.args.standing.now.links.ok.0 in
-    let end = c.len-place-end.ensures in
-    let test = c.loop-place-test.true in
-    let below : k < length h.0 = omega (arith, many, ok, end, test) in
-    let n = next_link (StaysAs c.args.cap (c.args.turns + 1)) h.0 k c.loop-place.standing h.3 below in
-    let up = next_up c.args.cap h.0 h.3.now k n h.2 below in
+    let n = next_at h.3 h.1 (c.len-place-end.ensures ∙ c.args.standing.now.links.ok.0) c.loop-place-test.true in
     after_refusal c.from_residual.result ((ends : List LinkEnds) → HoldsAll ends c.args.standing.now → StayUp c.args.cap 0 ends c.widen_at.new.standing) (λ ends holds.
     subst (λ (l : List LinkEnds). StayUp c.args.cap 0 l c.widen_at.new.standing) (only_ends h.0 ends c.args.standing.now h.1 holds)
-    (some_stay c.args.cap (c.args.turns + 1) h.0 k c.loop-place.standing c.widen_at.new.standing h.3 below n h.2 (c.in_err-widen_at.ensures.back h.3.now n.old h.3.holds n.stands up)))
+    (some_stay h.3 n h.2 (c.in_err-widen_at.ensures.back h.3.now n.old h.3.holds n.stands (next_up n h.2))))
 
 pub loop-place-preserved : goal.loop-place-preserved
 loop-place-preserved g c =
     let h = c.loop-place.invariant in
-    let k = c.loop-place.place in
-    let many = as_many h.0 c.args.standing.now h.1 in
-    let ok = c.args.standing.now.links.ok.0 in
-    let end = c.len-place-end.ensures in
-    let test = c.loop-place-test.true in
-    let below : k < length h.0 = omega (arith, many, ok, end, test) in
-    let n = next_link (StaysAs c.args.cap (c.args.turns + 1)) h.0 k c.loop-place.standing h.3 below in
-    let up = next_up c.args.cap h.0 h.3.now k n h.2 below in
-    let at = c.in_ok-widen_at.ensures.wide h.3.now n.old h.3.holds n.stands up in
-    (h.0, h.1, h.2, one_done (StaysAs c.args.cap (c.args.turns + 1)) h.0 k c.loop-place.standing c.widen_at.new.standing at.now h.3 below n at.up at.holds)
+    let n = next_at h.3 h.1 (c.len-place-end.ensures ∙ c.args.standing.now.links.ok.0) c.loop-place-test.true in
+    let at = c.in_ok-widen_at.ensures.wide h.3.now n.old h.3.holds n.stands (next_up n h.2) in
+    (h.0, h.1, h.2, one_done at.now h.3 n at.up at.holds)
 
 pub returns-clause-wide : goal.returns-clause-wide
 returns-clause-wide g c = λ ends holds.
     let h = c.loop-place.invariant in
-    let k = c.loop-place.place in
-    let many = as_many h.0 c.args.standing.now h.1 in
-    let ok = c.args.standing.now.links.ok.0 in
-    let end = c.len-place-end.ensures in
-    let test = c.loop-place-test.false in
-    let past : length h.0 ≤ k = omega (arith, many, ok, end, test) in
     subst (λ (l : List LinkEnds). StayUp c.args.cap (c.args.turns + 1) l c.loop-place.standing) (only_ends h.0 ends c.args.standing.now h.1 holds)
-    (all_stay c.args.cap (c.args.turns + 1) h.0 k c.loop-place.standing h.3 past)
+    (all_stay h.3 (links_past h.3 h.1 (c.len-place-end.ensures ∙ c.args.standing.now.links.ok.0) c.loop-place-test.false))

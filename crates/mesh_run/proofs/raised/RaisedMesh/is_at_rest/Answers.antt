@@ -1,4 +1,4 @@
-use Rattle.std.proofs.Common.{◌≡◌, ◌&&◌, Bool, sym, ap, ◌∙◌}
+use Rattle.std.proofs.Common.{◌&&◌, Bool, sym, ap, ◌∙◌}
 use Rattle.std.specs.List.{list_all}
 use Rattle.mesh_run.specs.Queues.{is_empty}
 use Rattle.mesh_run.proofs.WholeRound.{none_waits}

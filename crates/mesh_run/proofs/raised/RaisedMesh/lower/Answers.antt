@@ -1,4 +1,4 @@
-use Rattle.std.proofs.Common.{◌≡◌, ◌≤◌, length, sym, ◌∙◌, subst, arith}
+use Rattle.std.proofs.Common.{arith}
 use Rattle.mesh_run.proofs.WholeRound.{all_ends, lowered, same_state}
 use Rattle.mesh_run.proofs.raised.RaisedMesh.lower.Goals as goal
 

@@ -1,4 +1,4 @@
-use Rattle.std.proofs.Common.{◌+◌, List, map, sym, subst}
+use Rattle.std.proofs.Common.{◌+◌, map, sym, subst}
 use Rattle.mesh_run.specs.Queues.{AreUp, StayUp, queue_of}
 use Rattle.mesh_run.proofs.WholeRound.{can_widen, stays_raised}
 use Rattle.mesh_run.proofs.raised.RaisedMesh.with_places.Goals as goal

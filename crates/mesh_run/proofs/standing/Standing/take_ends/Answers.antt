@@ -1,5 +1,4 @@
-use Rattle.std.proofs.Common.{Some, refl, sym, ap, ◌∙◌}
-use Rattle.list_laws.proofs.Places.{slice_get-mapped}
+use Rattle.std.proofs.Common.{refl}
 use Rattle.link_queue.specs.declared.links.LinkEnds.{LinkEnds}
 use Rattle.mesh_run.proofs.Slots.{slot_stands, end_taken, ends_gone}
 use Rattle.mesh_run.proofs.standing.Standing.take_ends.Goals as goal
