@@ -1,11 +1,12 @@
 // Covering a table.
-ghost use Rattle.std.specs.Prelude.{◌≡◌, ◌<◌, ◌≤◌, ◌^◌, ◌⊎◌, IfOk, OnOk, length, map};
+ghost use Rattle.std.specs.Prelude.{◌≡◌, ◌<◌, ◌≤◌, ◌^◌, ◌⊎◌, IfOk, OnOk, MatchOption, length, map};
 ghost use Rattle.tern_word.specs.SoundTable.{IsOrdered, IsSound, served};
 ghost use Rattle.std.specs.List.Sorted.{IsPermutation};
 ghost use Rattle.cover_checks.specs.Merge.{IsLegal, IsMergeSet, after};
 ghost use Rattle.cover_merge.specs.Guards.{AreGuards};
+ghost use Rattle.cover_merge.specs.Links.{AreNumbers};
 ghost use Rattle.cover_merge.specs.Tried.{AreMarked};
-ghost use Rattle.cover_merge.specs.Covering.{Covers, HasNoLegalPair, HasRoutesOf};
+ghost use Rattle.cover_merge.specs.Covering.{Covers, HasNoChosen, HasNoLegalPair, HasRoutesOf, IsChosen};
 ghost use Rattle.cover_merge.specs.Merges.{sets_of};
 
 use crate::applying::apply;
@@ -49,23 +50,46 @@ pub fn cover(alloc: Global, mut table: Table, target: u32) -> Result<Covered, Me
     let mut numbers = numbers_of(alloc, table.rows.as_slice())?;
     let mut merges = Seq::new(alloc);
     'merging: while table.rows.len() > target as usize {
-        let links = links_of(alloc, table.rows.as_slice(), &numbers, limit)?;
         let now = merges.len();
-        match chosen(alloc, &table, &mut guards, &links, now)? {
-            Some(places) => {
-                carry_numbers(
-                    table.rows.as_slice(),
-                    &mut numbers,
-                    places.as_slice(),
-                    limit,
-                )?;
-                merge_at(alloc, &mut table, &mut guards, &places, now)?;
-                merges.push(Merge { places })?;
-            }
+        match merge_next(alloc, &mut table, &mut guards, &mut numbers, limit, now)? {
+            Some(places) => merges.push(Merge { places })?,
             None => return Ok(Covered { table, merges }),
         }
     }
     Ok(Covered { table, merges })
+}
+
+// Makes the next merge, where there is one, and says which places it took.
+fn merge_next(
+    alloc: Global,
+    table: &mut Table,
+    guards: &mut Vec<Guard>,
+    numbers: &mut Vec<u32>,
+    limit: usize,
+    now: usize,
+) -> Result<Option<Seq<u32>>, Memory>
+    requires few { length table.old.rows < 2 ^ 32 }
+    requires sound { IsSound table.old.rows }
+    requires one_each { length guards.old.items ≡ length table.old.rows }
+    requires guards { AreGuards table.old.rows guards.old.items }
+    requires marks { AreMarked now table.old.rows guards.old.items }
+    requires numbers { AreNumbers limit table.old.rows numbers.old.items }
+    ensures found { IfOk result (λ made. MatchOption made (HasNoChosen table.old.rows) (IsChosen table.old.rows)) }
+    ensures table { IfOk result (λ made. MatchOption made (table.new.rows ≡ table.old.rows) (λ places. table.new.rows ≡ after table.old.rows places)) }
+    ensures one_each { OnOk result (length guards.new.items ≡ length table.new.rows) }
+    ensures guards { OnOk result (AreGuards table.new.rows guards.new.items) }
+    ensures marks { OnOk result (AreMarked now table.new.rows guards.new.items) }
+    ensures numbers { OnOk result (AreNumbers limit table.new.rows numbers.new.items) }
+{
+    let links = links_of(alloc, table.rows.as_slice(), numbers, limit)?;
+    match chosen(alloc, table, guards, &links, now)? {
+        Some(places) => {
+            carry_numbers(table.rows.as_slice(), numbers, places.as_slice(), limit)?;
+            merge_at(alloc, table, guards, &places, now)?;
+            Ok(Some(places))
+        }
+        None => Ok(None),
+    }
 }
 
 // Merges the rows at the places, and finds the guards of the table after it.

@@ -1,13 +1,16 @@
 -- Each round makes a chosen merge, which is legal.
-use Rattle.std.proofs.Common.{◌<◌, ◌≤◌, ◌++◌, ◌∷◌, [], ap, length, length-append, sym, subst, ◌∙◌, arith}
+use Rattle.std.proofs.Common.{◌≡◌, ◌<◌, ◌≤◌, ◌++◌, ◌∷◌, [], ap, length, length-append, sym, subst, inr, ◌⊎◌, ◌∙◌, arith}
 use Rattle.std.specs.Prelude.{MatchOption}
-use Rattle.cover_merge.specs.Covering.{IsChosen, HasNoChosen}
-use Rattle.cover_checks.specs.Merge.{IsMergeSet, after}
+use Rattle.std.specs.List.Sorted.{IsPermutation}
+use Rattle.tern_word.specs.SoundTable.{IsSound, served}
+use Rattle.cover_merge.specs.Covering.{Covers, IsChosen, HasNoChosen, HasNoLegalPair, HasRoutesOf}
+use Rattle.cover_merge.specs.Merges.{sets_of}
+use Rattle.cover_checks.specs.Merge.{after}
 use Rattle.cover_merge.specs.Guards.{AreGuards}
 use Rattle.cover_merge.specs.Links.{AreNumbers}
 use Rattle.cover_merge.specs.Tried.{AreMarked}
 use Rattle.cover_merge.proofs.TriedLemmas.{marked_later}
-use Rattle.cover_merge.proofs.CoverLemmas.{IsCoveredSoFar, chosen_legal, chosen_shorter, so_far_first, so_far_more, covered_short, covered_stuck}
+use Rattle.cover_merge.proofs.CoverLemmas.{IsCoveredSoFar, chosen_shorter, so_far_first, so_far_more, covered_short, covered_stuck}
 use Rattle.cover_merge.proofs.covering.cover.Goals as goal
 
 pub merging-init : goal.merging-init
@@ -19,52 +22,47 @@ merging-init c = record {
   numbers = subst (λ n. AreNumbers n c.args.table.rows c.in_ok-numbers.numbers.items) (sym c.len-limit.ensures) (subst (λ l. AreNumbers (length l) l c.in_ok-numbers.numbers.items) c.as_slice-2.ensures c.in_ok-numbers.ensures);
 }
 
-pub carry_numbers-requires-clause-set : goal.carry_numbers-requires-clause-set
-carry_numbers-requires-clause-set c =
-    let rows = c.merging.table.rows in
-    let chosen : IsChosen rows c.in-Some.places = subst (λ o. MatchOption o (HasNoChosen rows) (IsChosen rows)) c.in-Some.is c.in_ok-places.ensures.found in
-    subst (λ l. IsMergeSet l c.as_slice-in-Some-2.result.now) (sym c.as_slice-in-Some.ensures) (subst (IsMergeSet rows) (sym c.as_slice-in-Some-2.ensures) (chosen_legal rows c.in-Some.places c.merging.invariant.so_far.sound chosen).0)
-
-pub merge_at-requires-clause-set : goal.merge_at-requires-clause-set
-merge_at-requires-clause-set c =
-    let rows = c.merging.table.rows in
-    let chosen : IsChosen rows c.in-Some.places = subst (λ o. MatchOption o (HasNoChosen rows) (IsChosen rows)) c.in-Some.is c.in_ok-places.ensures.found in
-    (chosen_legal rows c.in-Some.places c.merging.invariant.so_far.sound chosen).0
-
-pub merge_at-requires-clause-legal : goal.merge_at-requires-clause-legal
-merge_at-requires-clause-legal c =
-    let rows = c.merging.table.rows in
-    let chosen : IsChosen rows c.in-Some.places = subst (λ o. MatchOption o (HasNoChosen rows) (IsChosen rows)) c.in-Some.is c.in_ok-places.ensures.found in
-    (chosen_legal rows c.in-Some.places c.merging.invariant.so_far.sound chosen).1
-
 pub merging-smaller : goal.merging-smaller
 merging-smaller c =
     let rows = c.merging.table.rows in
     let chosen : IsChosen rows c.in-Some.places = subst (λ o. MatchOption o (HasNoChosen rows) (IsChosen rows)) c.in-Some.is c.in_ok-places.ensures.found in
-    chosen_shorter rows c.merge_at.new.table.rows c.in-Some.places c.merging.invariant.so_far.sound chosen c.in_ok-merge_at-in-Some.ensures.table
+    let next : c.merge_next.new.table.rows ≡ after rows c.in-Some.places =
+    subst (λ o. MatchOption o (c.merge_next.new.table.rows ≡ rows) (λ p. c.merge_next.new.table.rows ≡ after rows p)) c.in-Some.is c.in_ok-places.ensures.table in
+    chosen_shorter rows c.merge_next.new.table.rows c.in-Some.places c.merging.invariant.so_far.sound chosen next
 
 pub merging-preserved : goal.merging-preserved
 merging-preserved c =
     let rows = c.merging.table.rows in
     let chosen : IsChosen rows c.in-Some.places = subst (λ o. MatchOption o (HasNoChosen rows) (IsChosen rows)) c.in-Some.is c.in_ok-places.ensures.found in
+    let next : c.merge_next.new.table.rows ≡ after rows c.in-Some.places =
+    subst (λ o. MatchOption o (c.merge_next.new.table.rows ≡ rows) (λ p. c.merge_next.new.table.rows ≡ after rows p)) c.in-Some.is c.in_ok-places.ensures.table in
     let more : c.args.target < length rows = omega (arith, c.len.ensures) in record {
-      so_far = subst (IsCoveredSoFar c.args.target c.args.table.rows c.merge_at.new.table.rows) (sym c.in_ok-push-in-Some.ensures.ok)
-          (so_far_more c.args.target c.args.table.rows rows c.merge_at.new.table.rows c.merging.merges (record { places = c.in-Some.places }) c.merging.invariant.so_far more chosen c.in_ok-merge_at-in-Some.ensures.table);
-      one_each = c.in_ok-merge_at-in-Some.ensures.one_each;
-      guards = c.in_ok-merge_at-in-Some.ensures.guards;
-      marks = subst (λ l. AreMarked (length l) c.merge_at.new.table.rows c.merge_at.new.guards.items) (sym c.in_ok-push-in-Some.ensures.ok)
-          (marked_later c.len-now.result c.merge_at.new.table.rows c.merge_at.new.guards.items (length (c.merging.merges ++ record { places = c.in-Some.places } ∷ []))
-          (omega (arith, c.len-now.ensures, length-append c.merging.merges (record { places = c.in-Some.places } ∷ []))) c.in_ok-merge_at-in-Some.ensures.marks);
-      numbers = subst (λ l. AreNumbers c.len-limit.result l c.carry_numbers.new.numbers.items)
-          (ap (λ l. after l c.as_slice-in-Some-2.result.now) c.as_slice-in-Some.ensures ∙ ap (after rows) c.as_slice-in-Some-2.ensures ∙ sym c.in_ok-merge_at-in-Some.ensures.table) c.in_ok-carry_numbers-in-Some.ensures;
+      so_far = subst (IsCoveredSoFar c.args.target c.args.table.rows c.merge_next.new.table.rows) (sym c.in_ok-push-in-Some.ensures.ok)
+          (so_far_more c.args.target c.args.table.rows rows c.merge_next.new.table.rows c.merging.merges (record { places = c.in-Some.places }) c.merging.invariant.so_far more chosen next);
+      one_each = c.in_ok-places.ensures.one_each;
+      guards = c.in_ok-places.ensures.guards;
+      marks = subst (λ l. AreMarked (length l) c.merge_next.new.table.rows c.merge_next.new.guards.items) (sym c.in_ok-push-in-Some.ensures.ok)
+          (marked_later c.len-now.result c.merge_next.new.table.rows c.merge_next.new.guards.items (length (c.merging.merges ++ record { places = c.in-Some.places } ∷ []))
+          (omega (arith, c.len-now.ensures, length-append c.merging.merges (record { places = c.in-Some.places } ∷ []))) c.in_ok-places.ensures.marks);
+      numbers = c.in_ok-places.ensures.numbers;
     }
 
-pub returns-in-None-clause-covered : goal.returns-in-None-clause-covered
-returns-in-None-clause-covered c =
+pub returns-in-None : goal.returns-in-None
+returns-in-None c =
+    let start = c.args.table.rows in
     let rows = c.merging.table.rows in
+    let so_far = c.merging.invariant.so_far in
     let none : HasNoChosen rows = subst (λ o. MatchOption o (HasNoChosen rows) (IsChosen rows)) c.in-None.is c.in_ok-places.ensures.found in
-    let more : c.args.target < length rows = omega (arith, c.len.ensures) in
-    covered_stuck c.args.target c.args.table.rows rows c.merging.merges c.merging.invariant.so_far more none
+    let same : c.merge_next.new.table.rows ≡ rows =
+    subst (λ o. MatchOption o (c.merge_next.new.table.rows ≡ rows) (λ p. c.merge_next.new.table.rows ≡ after rows p)) c.in-None.is c.in_ok-places.ensures.table in
+    let more : c.args.target < length rows = omega (arith, c.len.ensures) in record {
+      covered = subst (Covers c.args.target start (sets_of c.merging.merges)) (sym same) (covered_stuck c.args.target start rows c.merging.merges so_far more none);
+      sound = subst IsSound (sym same) so_far.sound;
+      serves = subst (λ l. IsPermutation (served start) (served l)) (sym same) so_far.serves;
+      few = subst (λ l. length l ≤ length start) (sym same) so_far.no_more;
+      routes = subst (HasRoutesOf start) (sym same) so_far.routes;
+      ended = subst (λ l. (length l ≤ c.args.target) ⊎ HasNoLegalPair l) (sym same) (inr none.1);
+    }
 
 pub returns-clause-covered : goal.returns-clause-covered
 returns-clause-covered c =
