@@ -4,7 +4,7 @@ use Rattle.std.specs.Prelude.{All, slice_get}
 use Rattle.std.proofs.lemmas.Bool.{cases_lt, cases_Bool}
 use Rattle.std.proofs.lemmas.List.{get_or_default}
 use Rattle.std.proofs.lemmas.List.Elements.{All-nil, All-head, All-tail}
-use Rattle.std.proofs.lemmas.Option.{slice_get-get_or}
+use Rattle.std.proofs.lemmas.Option.{none-some, slice_get-get_or}
 use Rattle.spin_base.specs.declared.blocks.ChipTable.{ChipTable}
 use Rattle.spin_base.specs.declared.blocks.Entry.{Entry}
 use Rattle.spin_base.specs.declared.chips.Chip.{Chip}
@@ -50,15 +50,12 @@ rows_few v rows i valid is = subst (λ (l : List Entry). length l ≤ 1024) (sym
 
 -- ---- one chip
 
-not_both : {X : Type 0} (x : X) → Some x ≡ None → ⊥
-not_both x never = cc
-
 module _ (m : Description) (v : Image) (net : NetPlan) (routed : IsRouted m net) (ports : List (Option Port)) (routes : List Route)
     (told : TellsPorts m net.tree.root net.tree.edges ports) (outputs : TellsRoutes m net.tree.edges net.targets routes) where
   -- a flaw that is found at a chip is one of the net there
   flawed : (c : Chip) (inside : IsInside m c) (o : Option Port) → TellsPort m net.tree.root net.tree.edges c o → (flaw : Flaw) →
       IsAmissAt net.block (rows_for m v c) o (get_or routes (index_of m c) nothing) (Some flaw) → IsChipOf m net c × IsFlaw m v net c flaw
-  flawed c inside None off flaw none = absurd (not_both flaw none)
+  flawed c inside None off flaw none = absurd (none-some flaw (sym none))
   flawed c inside (Some port) comes Wrong amiss = (
     comes_in_tree m net.tree.root net.tree.edges c port comes,
     record {

@@ -1,5 +1,4 @@
 -- What lookup gives the keys of a block that get one route, and what a verdict means for the tables that are loaded.
-use lib.Bits.{and_zero_r}
 use Rattle.std.proofs.Common.{◌≡◌, ℕ, zero, suc, ◌-◌, ◌*◌, ◌<◌, ◌==◌, Bool, true, false, cond, List, [], ◌∷◌, ◌++◌, length, get_or, Some, replicate, refl, sym, ap, ◌∙◌, subst, arith, inl, inr}
 use Rattle.std.specs.Prelude.{All, find, slice_get}
 use Rattle.std.specs.Option.{option_map_or}
@@ -15,6 +14,7 @@ use Rattle.spin_base.specs.declared.routes.Out.{Out}
 use Rattle.spin_base.specs.declared.routes.Route.{Route}
 use Rattle.spin_base.specs.Lookup.{matches, default_route, lookup}
 use Rattle.spin_base.specs.Outputs.{has, IsOutput}
+use Rattle.spin_base.proofs.Lookups.{lookup_hit, lookup_miss}
 use Rattle.machine_desc.specs.Description.{Description}
 use Rattle.machine_desc.specs.Live.{IsInside, index_of}
 use Rattle.machine_desc.proofs.Far.{index_below}
@@ -23,6 +23,7 @@ use Rattle.net_tables.specs.Outputs.{is_wanted, ComesIn}
 use Rattle.net_tables.specs.RightTables.{IsKeyOf, AreRight, table_at}
 use Rattle.tern_word.proofs.BlockLaws.{key_small}
 use Rattle.tcam_find.specs.Memory.{unused}
+use Rattle.tcam_find.proofs.MemoryLemmas.{unused_matches}
 use Rattle.table_load.specs.declared.tables.Image.{Image}
 use Rattle.table_load.specs.Memories.{loaded, IsLoaded}
 use Rattle.plain_tables.specs.Marks.{IsRouted}
@@ -33,14 +34,6 @@ use Rattle.plan_check.specs.declared.verdicts.Verdict.TheVariants.{Right, Wrong,
 use Rattle.plan_check.specs.Verdicts.{Meets, LiesInside, NoneMeets, IsFirstToMeet, GetsRoute, GetsRouteThat, IsFine, IsFineAll, IsWrong, IsTreeRoute, IsChipOf, IsVerdict, IsMisrouted, AreFineBefore, rows_for}
 
 -- ---- lookup, entry by entry
-
-lookup_hit : (e : Entry) (rows : List Entry) (key : ℕ) (port : Port) → matches e key ≡ true → lookup (e ∷ rows) key port ≡ e.route
-lookup_hit e rows key port hit =
-    ap (λ b. option_map_or (λ (x : Entry). x.route) (cond b (Some e) (find (λ (x : Entry). matches x key) rows)) (default_route port)) hit
-
-lookup_miss : (e : Entry) (rows : List Entry) (key : ℕ) (port : Port) → matches e key ≡ false → lookup (e ∷ rows) key port ≡ lookup rows key port
-lookup_miss e rows key port miss =
-    ap (λ b. option_map_or (λ (x : Entry). x.route) (cond b (Some e) (find (λ (x : Entry). matches x key) rows)) (default_route port)) miss
 
 -- a row that does not meet a block matches none of its keys
 misses : (b : Block) (e : Entry) (key : ℕ) → (Meets b e → ⊥) → IsKeyOf b key → matches e key ≡ false
@@ -70,12 +63,9 @@ route_found b rows port r key (inr none) of = none_found b rows key port none.0 
 
 -- ---- unused entries behind the rows
 
-unused_misses : (key : ℕ) → matches unused key ≡ false
-unused_misses key = ap (λ n. n == 4294967295) (and_zero_r key)
-
 past_unused : (n key : ℕ) (port : Port) → lookup (replicate n unused) key port ≡ default_route port
 past_unused zero key port = refl
-past_unused (suc n) key port = lookup_miss unused (replicate n unused) key port (unused_misses key) ∙ past_unused n key port
+past_unused (suc n) key port = lookup_miss unused (replicate n unused) key port (unused_matches key) ∙ past_unused n key port
 
 lookup_loaded : (rows : List Entry) (n key : ℕ) (port : Port) → lookup (rows ++ replicate n unused) key port ≡ lookup rows key port
 lookup_loaded [] n key port = past_unused n key port

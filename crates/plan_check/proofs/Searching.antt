@@ -7,6 +7,7 @@ use Rattle.std.proofs.lemmas.List.{get_or-set_same, get_or-set_other, get_or-rep
 use Rattle.std.proofs.lemmas.List.Elements.{All-nil, All-cons, All-push}
 use Rattle.std.proofs.lemmas.List.Folds.{sum_by-replicate}
 use Rattle.std.proofs.lemmas.List.Sums.{sum_by-set}
+use Rattle.std.proofs.lemmas.Option.{none-some}
 use Rattle.spin_base.specs.declared.chips.Chip.{Chip}
 use Rattle.spin_base.specs.declared.chips.Dir.{Dir}
 use Rattle.spin_base.specs.Links.{dir_number, dir_at}
@@ -226,18 +227,12 @@ pub flagged_goes : (m : Description) (flags : List Bool) (c : Chip) (d : Dir) (o
     (is_flagged m flags c d ≡ true) × (far_of m c d ≡ Some e)
 flagged_goes m flags c d o e is some = elim (cases_Bool (is_flagged m flags c d)) [
   | inl hit ↦ (hit, sym (cond-true (is_flagged m flags c d) (far_of m c d) None hit) ∙ (sym is ∙ some))
-  | inr miss ↦ absurd (nothing (sym (cond-false (is_flagged m flags c d) (far_of m c d) None miss) ∙ (sym is ∙ some)))
+  | inr miss ↦ absurd (none-some e (sym (cond-false (is_flagged m flags c d) (far_of m c d) None miss) ∙ (sym is ∙ some)))
 ]
-  where
-    nothing : {x : Chip} → None ≡ Some x → ⊥
-    nothing never = cc
 
 pub flagged_nowhere : (m : Description) (flags : List Bool) (c : Chip) (d : Dir) (o : Option Chip) (e : Chip) → o ≡ (if is_flagged m flags c d then far_of m c d else None) → o ≡ None →
     is_flagged m flags c d ≡ true → far_of m c d ≡ Some e → ⊥
-flagged_nowhere m flags c d o e is none hit leads = nothing (sym none ∙ (is ∙ (cond-true (is_flagged m flags c d) (far_of m c d) None hit ∙ leads)))
-  where
-    nothing : {x : Chip} → None ≡ Some x → ⊥
-    nothing never = cc
+flagged_nowhere m flags c d o e is none hit leads = none-some e (sym none ∙ (is ∙ (cond-true (is_flagged m flags c d) (far_of m c d) None hit ∙ leads)))
 
 -- a mark that was read
 pub mark_read : (marks : List Bool) (p : ℕ) (r b : Bool) → p < length marks → r ≡ get_or marks p r → r ≡ b → get_or marks p false ≡ b

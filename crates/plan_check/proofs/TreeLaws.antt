@@ -134,6 +134,11 @@ flag_more m edges i d flags p below inside at are =
 abbrev BeginsOr : List Edge → List Chip → Chip → Type 0
 BeginsOr edges chips c = Any (λ (e : Edge). e.chip ≡ c) edges ⊎ Contains chips c
 
+-- of no edges and no targets
+pub none_goes : (c : Chip) → GoesOn [] [] c → ⊥
+none_goes c (inl any) = let none : any.0 < 0 = any.2 in omega arith
+none_goes c (inr has) = Contains-none c has
+
 begins : (edges : List Edge) (c : Chip) (e : Edge) → Contains edges e → e.chip ≡ c → Any (λ (x : Edge). x.chip ≡ c) edges
 begins edges c e has is = (has.0, e, has.1, has.2, is)
 

@@ -4,9 +4,25 @@ use Rattle.list_laws.proofs.Tests.{fails, answers_no}
 use Rattle.spin_base.specs.declared.chips.Spot.{Spot}
 use Rattle.machine_desc.specs.declared.trees.Edge.{Edge}
 use Rattle.machine_desc.specs.RoutingTree.{IsRoutingTree}
-use Rattle.plan_check.specs.Marks.{AreFlags, AreMarks, IsMarked, IsReached}
-use Rattle.plan_check.proofs.TreeLaws.{begins_marked, targets_marked, is_tree_tells}
+use Rattle.plan_check.specs.Marks.{AreFlags, AreMarks, EntersOnce, IsMarked, IsReached}
+use Rattle.plan_check.proofs.TreeLaws.{begins_marked, targets_marked, is_tree_tells, once_of, once_inside, has_inside}
 use Rattle.plan_check.proofs.trees.is_routed.Goals as goal
+
+pub returns-then-not-branch : goal.returns-then-not-branch
+returns-then-not-branch c =
+    answers_no (IsRoutingTree c.args.machine.now c.args.root c.args.edges.now c.args.targets.now) (λ tree.
+    fails (EntersOnce c.args.machine.now c.args.root c.args.edges.now) _ c.in_ok-enters_once.ensures c.if-not-branch.true
+    (once_of c.args.machine.now c.args.root c.args.edges.now c.args.targets.now tree))
+
+pub flags_of-requires : goal.flags_of-requires
+flags_of-requires c = once_inside c.args.machine.now c.args.root c.args.edges.now (c.in_ok-enters_once.ensures.0 c.if-not-branch.false)
+
+pub going_on-requires-clause-edges : goal.going_on-requires-clause-edges
+going_on-requires-clause-edges c = once_inside c.args.machine.now c.args.root c.args.edges.now (c.in_ok-enters_once.ensures.0 c.if-not-branch.false)
+
+pub going_on-requires-clause-targets : goal.going_on-requires-clause-targets
+going_on-requires-clause-targets c =
+    has_inside c.args.machine.now c.deref-3.result.now c.args.targets.now (c.has_all.ensures.0 c.if-not-has_all.false)
 
 pub returns-then-not-all_begin : goal.returns-then-not-all_begin
 returns-then-not-all_begin c =
