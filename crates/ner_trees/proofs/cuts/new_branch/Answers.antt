@@ -1,4 +1,5 @@
-use Rattle.std.proofs.Common.{false, get_or, sym, ap, ◌∙◌}
+use Rattle.std.proofs.Common.{false, get_or, take_all, sym, ap, subst, ◌∙◌}
+use Rattle.ner_trees.specs.Search.{IsCutAt}
 use Rattle.ner_trees.proofs.Cutting.{at_more, cut_again_at, cut_more_at}
 use Rattle.ner_trees.proofs.cuts.new_branch.Goals as goal
 use Rattle.ner_trees.proofs.cuts.new_branch.Goals.{then-on-index, else-on-index}
@@ -24,3 +25,14 @@ loop-dir-preserved c = elim c.if-on-index.branch [
             (ap (λ k. get_or c.args.on.now k false) (sym c.index.ensures.value) ∙ w.if-on-index.false) c.in_ok-push.ensures.items c.loop-dir.invariant.cut;
       }
 ]
+
+pub next-at-requires : goal.next-at-requires
+next-at-requires c = c.loop-dir.invariant.at_inside
+
+pub index-requires : goal.index-requires
+index-requires c = c.next-at.ensures.inside
+
+pub returns : goal.returns
+returns c =
+    subst (λ ds. IsCutAt c.args.machine.now c.args.on.now c.args.near ds c.loop-dir.start c.loop-dir.links.items) (take_all c.loop-dir.dir-index c.args.walk.now c.loop-dir-test.false)
+    c.loop-dir.invariant.cut
