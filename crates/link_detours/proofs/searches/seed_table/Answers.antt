@@ -1,5 +1,5 @@
-use Rattle.std.proofs.Common.{◌≡◌, ◌∙◌, ap, replicate, rules}
-use Rattle.link_detours.proofs.Seeding.{Seeded-none, Seeded-more}
+use Rattle.std.proofs.Common.{◌≡◌, ◌∙◌, ap, subst, replicate, take_all, arith, rules}
+use Rattle.link_detours.proofs.Seeding.{Seeded, Seeded-none, Seeded-more}
 use Rattle.link_detours.proofs.searches.seed_table.Goals as goal
 
 pub loop-seed-init : goal.loop-seed-init
@@ -12,3 +12,14 @@ pub loop-seed-preserved : goal.loop-seed-preserved
 loop-seed-preserved c =
     Seeded-more c.args.machine.now 18446744073709551615 c.loop-seed.table.items c.args.seeds.now c.loop-seed.seed-index _ _ c.loop-seed-test.true
     c.index.ensures.value (c.requires _ _ c.loop-seed-test.true) c.loop-seed.invariant
+
+pub index-requires : goal.index-requires
+index-requires c = c.requires _ _ c.loop-seed-test.true
+
+pub index_mut-requires : goal.index_mut-requires
+index_mut-requires c = omega (arith, c.index.ensures.below, c.loop-seed.invariant.long)
+
+pub returns : goal.returns
+returns c =
+    let all = subst (Seeded c.args.machine.now 18446744073709551615 c.loop-seed.table.items) (take_all c.loop-seed.seed-index c.args.seeds.now c.loop-seed-test.false) c.loop-seed.invariant in
+    record { long = all.long; at_seeds = all.at_seeds; elsewhere = all.elsewhere }

@@ -92,3 +92,14 @@ pub returns-clause-reached : goal.returns-clause-reached
 returns-clause-reached c =
     reached_known c.args.machine.now c.args.flags.now c.args.seeds.now _ c.loop-next.counts.items c.loop-next.queue.items c.loop-next.next
     (omega arith) (omega arith) c.requires.inside c.loop-next.invariant
+
+pub index-requires : goal.index-requires
+index-requires c =
+    subst (IsInside c.args.machine.now) (sym c.index-from.ensures)
+    (c.loop-next.invariant.inside c.loop-next.next c.index-from.result.now (omega (arith, c.loop-next-test.true, c.len.ensures)))
+
+pub index-requires-in-loop-next : goal.index-requires-in-loop-next
+index-requires-in-loop-next c = omega (arith, c.index.ensures.below, c.loop-next.invariant.long)
+
+pub flagged_far-requires-clause-inside : goal.flagged_far-requires-clause-inside
+flagged_far-requires-clause-inside c = c.loop-link.invariant.0.at_inside

@@ -29,3 +29,6 @@ loop-edge-preserved c = elim c.match-far.branch [
 
 pub returns : goal.returns
 returns c = rw (take_all c.loop-edge.edge-index c.args.edges.now c.loop-edge-test.false) at c.loop-edge.invariant.told
+
+pub far-requires : goal.far-requires
+far-requires c = c.requires.inside _ _ c.loop-edge-test.true
