@@ -1,7 +1,7 @@
-use Rattle.std.proofs.Common.{ℕ, [], ◌∷◌, ◌++◌, map, take, sym, ap, ◌∙◌}
+use Rattle.std.proofs.Common.{ℕ, ◌<◌, [], ◌∷◌, ◌++◌, length, map, take, take_all, sym, ap, ◌∙◌, arith}
 use Rattle.std.specs.List.{slice_index_or}
 use Rattle.std.proofs.lemmas.Option.{get_or_from_slice_get}
-use Rattle.list_laws.proofs.Places.{map_more_at}
+use Rattle.list_laws.proofs.Places.{All-at, map_more_at}
 use Rattle.net_plans.specs.Keys.{nowhere}
 use Rattle.net_plans.specs.Targets.{spot_key}
 use Rattle.net_plans.proofs.targets.spot_keys.Goals as goal
@@ -15,3 +15,11 @@ loop-i-preserved c =
     ∙ (ap (λ l. l ++ spot_key c.get.result.now ∷ []) c.loop-i.invariant
     ∙ (ap (λ s. map key (take c.loop-i.i c.args.vertices.now) ++ spot_key s ∷ []) (sym at)
     ∙ sym (map_more_at key c.args.vertices.now c.loop-i.i v c.get-vertex.ensures)))
+
+pub returns : goal.returns
+returns c =
+    c.loop-i.invariant
+    ∙ ap (map (λ v. spot_key (slice_index_or c.args.spots.now v nowhere))) (take_all c.loop-i.i c.args.vertices.now (omega (arith, c.loop-i-test.false, c.len-i-end.ensures)))
+
+pub get-requires : goal.get-requires
+get-requires c = All-at (λ v. v < length c.args.spots.now) c.args.vertices.now c.loop-i.i c.get-vertex.result.now c.requires c.get-vertex.ensures
