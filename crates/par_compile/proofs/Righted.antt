@@ -4,7 +4,6 @@ use Rattle.std.specs.List.{All, AllZip, slice_get, slice_index_or}
 use Rattle.std.proofs.lemmas.List.Elements.{All-nil, All-cons, All-contains, All-map}
 use Rattle.std.proofs.lemmas.List.Sorted.{Contains-permutation}
 use Rattle.std.proofs.lemmas.Option.{get_or_from_slice_get, slice_get-get_or, slice_get_within}
-use lib.Bits.{and_zero_r}
 use Rattle.list_laws.proofs.Places.{All-at, All-each, AllZip-at_first, AllZip-at_second, slice_get_there, slice_get-mapped}
 use Rattle.spin_base.specs.declared.blocks.Block.{Block}
 use Rattle.spin_base.specs.declared.blocks.Entry.{Entry}
@@ -25,6 +24,7 @@ use Rattle.tern_word.specs.declared.tables.Table.{Table}
 use Rattle.tern_word.specs.SoundTable.{IsSound, Original, served}
 use Rattle.tern_word.specs.Ternary.{Matches}
 use Rattle.tcam_find.specs.Memory.{unused}
+use Rattle.tcam_find.proofs.MemoryLemmas.{unused_matches}
 use Rattle.default_routes.specs.declared.stripping.Final.{Final}
 use Rattle.default_routes.specs.FinalTable.{IsFinalOf, MatchesNoKey, RoutesAlone, loaded_rows}
 use Rattle.plain_tables.specs.PlainTable.{AtEach, AreRouted, HasChip, IsPlainTable, ServesOriginals}
@@ -35,12 +35,9 @@ use Rattle.par_compile.specs.Finals.{AreFinals, HasEnded, IsCoverable, KeepsRows
 
 -- ---- unused entries
 
-unused_misses : (key : ℕ) → matches unused key ≡ false
-unused_misses key = ap (λ n. n == 4294967295) (and_zero_r key)
-
 all_unused : (n : ℕ) → All MatchesNoKey (replicate n unused)
 all_unused zero = All-nil MatchesNoKey
-all_unused (suc n) = All-cons MatchesNoKey unused (replicate n unused) unused_misses (all_unused n)
+all_unused (suc n) = All-cons MatchesNoKey unused (replicate n unused) unused_matches (all_unused n)
 
 -- ---- right tables
 
