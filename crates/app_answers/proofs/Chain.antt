@@ -1,8 +1,10 @@
 -- Steps answered one after the other.
-use Rattle.std.proofs.Common.{◌≡◌, ℕ, zero, suc, ◌+◌, ◌^◌, ◌<◌, ◌≤◌, refl, sym, ap, ◌∙◌, subst, arith, List, [], ◌∷◌, ◌++◌, length, drop, Bool, true, false, ◌||◌, Option, Some, None}
-use Rattle.std.specs.List.{list_any, slice_get}
+use Rattle.std.proofs.Common.{◌≡◌, ℕ, zero, suc, ◌+◌, ◌≤◌, refl, sym, ap, ◌∙◌, subst, arith, List, [], ◌∷◌, ◌++◌, length, drop, ◌||◌, Option, Some, None, Result, Ok, Err, IfOk, IfSome, OnOk}
+use Rattle.std.specs.List.{All, list_any, slice_get}
 use Rattle.std.specs.Prelude.{is_some}
-use Rattle.std.proofs.lemmas.List.{append_assoc}
+use Rattle.std.proofs.lemmas.Bool.{false≢true}
+use Rattle.std.proofs.Math.Bool.{or_assoc, or-false, or-true}
+use Rattle.std.proofs.lemmas.List.{append-nil, append_assoc, drop_all}
 use Rattle.app_steps.specs.declared.steps.Step.{Step}
 use Rattle.app_steps.specs.declared.steps.Step.TheVariants.{Load, Unload, Run}
 use Rattle.app_steps.specs.Valid.{IsValidJob, IsValidStep}
@@ -13,16 +15,20 @@ use Rattle.app_answers.specs.declared.hosts.LoadAnswer.{LoadAnswer}
 use Rattle.app_answers.specs.declared.hosts.LoadAnswer.TheVariants.{Done, Loaded, NoRoom, CutOff, MemoryOut, KeysOut, RowsOut}
 use Rattle.app_answers.specs.declared.hosts.UnloadAnswer.{UnloadAnswer}
 use Rattle.app_answers.specs.declared.hosts.UnloadAnswer.TheVariants.{Got, NotLoaded, Waiting}
-use Rattle.app_answers.specs.Answers.{Answers, AreAnsweredFrom, IsLoadAnswer, IsUnloadAnswer, host_at, is_load}
-use Rattle.app_answers.specs.Hosting.{IsTold, packets_of}
+use Rattle.app_answers.specs.Answers.{Answers, AreAnswered, AreAnsweredFrom, AreAnsweredThrough, IsLoadAnswer, IsUnloadAnswer, host_at, is_load}
+use Rattle.app_answers.specs.Hosting.{IsAnsweredBy, IsTold, packets_of}
 use Rattle.app_answers.specs.Lines.{load_line}
+use Rattle.app_answers.specs.declared.answers.Answered.{Answered}
+use Rattle.app_answers.proofs.OneLine.{one_text}
+use Rattle.spin_base.specs.declared.wants.Memory.{Memory}
 
 -- What the steps that are left are answered, behind the text so far, is what all steps are answered.
 abbrev pub GoesOn : List Step → Option Host → List Step → List ℕ → Type 0
 GoesOn all state left text = (more : List ℕ) (last : Option Host) → AreAnsweredFrom state left more last → AreAnsweredFrom None all (text ++ more) last
 
-pub goes_first : (all : List Step) (text : List ℕ) → text ≡ [] → GoesOn all None all text
-goes_first all text none more last answered = subst (λ t. AreAnsweredFrom None all (t ++ more) last) (sym none) answered
+pub goes_first : (all : List Step) (state : Option Host) (text : List ℕ) → state ≡ None → text ≡ [] → GoesOn all state all text
+goes_first all state text fresh none more last answered =
+    subst (λ t. AreAnsweredFrom None all (t ++ more) last) (sym none) (subst (λ (o : Option Host). AreAnsweredFrom o all more last) fresh answered)
 
 dropped : (all : List Step) (i : ℕ) (step : Step) → slice_get all i ≡ Some step → drop i all ≡ step ∷ drop (i + 1) all
 dropped [] i step at = cc
@@ -38,38 +44,16 @@ goes_more all i step before after old new at told goes more last answered =
     subst (λ l. AreAnsweredFrom before l (told.told ++ more) last) (sym (dropped all i step at)) (told.told, more, after, told.answers, told.apps, refl, answered) in
     subst (λ t. AreAnsweredFrom None all t last) (sym (append_assoc old told.told more) ∙ ap (λ t. t ++ more) (sym told.longer)) (goes (told.told ++ more) last left)
 
-nothing_left : (all : List Step) (i : ℕ) → length all ≤ i → drop i all ≡ []
-nothing_left [] zero past = refl
-nothing_left [] (suc i) past = refl
-nothing_left (x ∷ xs) zero past = absurd (omega (arith, past))
-nothing_left (x ∷ xs) (suc i) past = nothing_left xs i (omega (arith, past))
-
-append_nil : (xs : List ℕ) → xs ++ [] ≡ xs
-append_nil [] = refl
-append_nil (x ∷ xs) = ap (λ l. x ∷ l) (append_nil xs)
-
 pub goes_all : (all : List Step) (i : ℕ) (state : Option Host) (text : List ℕ) → length all ≤ i → GoesOn all state (drop i all) text → AreAnsweredFrom None all text state
 goes_all all i state text past goes =
-    subst (λ t. AreAnsweredFrom None all t state) (append_nil text)
-    (goes [] state (subst (λ l. AreAnsweredFrom state l [] state) (sym (nothing_left all i past)) (refl, refl)))
+    subst (λ t. AreAnsweredFrom None all t state) (append-nil text)
+    (goes [] state (subst (λ l. AreAnsweredFrom state l [] state) (sym (drop_all i all past)) (refl, refl)))
 
 -- ---- where there is a state
 
-or_assoc : (a b c : Bool) → ((a || b) || c) ≡ (a || (b || c))
-or_assoc true b c = refl
-or_assoc false b c = refl
-
-or_false : (a : Bool) → a ≡ (a || false)
-or_false true = refl
-or_false false = refl
-
-or_true : (a : Bool) → true ≡ (a || true)
-or_true true = refl
-or_true false = refl
-
 -- a step leaves a state where one was before, and where it is a load
 one_given : (step : Step) (before : Option Host) (told : List ℕ) (between : Option Host) → Answers step before told between → is_some between ≡ (is_some before || is_load step)
-one_given (Load number job) before told between is = ap is_some is.left ∙ or_true (is_some before)
+one_given (Load number job) before told between is = ap is_some is.left ∙ sym (or-true (is_some before))
 one_given (Unload number) None told between is = ap is_some is.1
 one_given (Unload number) (Some h) told between is = ap is_some is.left
 one_given Run None told between is = ap is_some is.1
@@ -77,17 +61,38 @@ one_given Run (Some h) told between is = ap is_some is.1.1
 
 given_from : (before : Option Host) (steps : List Step) (text : List ℕ) (after : Option Host) → AreAnsweredFrom before steps text after →
     is_some after ≡ (is_some before || list_any is_load steps)
-given_from before [] text after is = ap is_some is.1 ∙ or_false (is_some before)
+given_from before [] text after is = ap is_some is.1 ∙ sym (or-false (is_some before))
 given_from before (step ∷ steps) text after is =
     given_from is.2 steps is.1 after is.6
     ∙ (ap (λ b. b || list_any is_load steps) (one_given step before is.0 is.2 is.3) ∙ or_assoc (is_some before) (is_load step) (list_any is_load steps))
 
-pub given_all : (steps : List Step) (text : List ℕ) (after : Option Host) → AreAnsweredFrom None steps text after → is_some after ≡ list_any is_load steps
-given_all steps text after is = given_from None steps text after is
+-- ---- all steps
+
+-- what is answered where all steps were done
+pub all_told : (steps : List Step) (taken : Result Unit Memory) (text : List ℕ) (apps : Option Host) (r : Result Answered Memory) → OnOk taken (AreAnswered steps text apps) →
+    IfOk r (IsAnsweredBy taken text apps) → IfOk r (λ a. AreAnswered steps a.text a.apps)
+all_told steps (Ok u) text apps (Ok a) told is = subst (λ t. AreAnswered steps t a.apps) (sym is.text_is) (subst (AreAnswered steps text) (sym is.apps_is) told)
+all_told steps (Err e) text apps (Ok a) told is = absurd (false≢true is.done)
+all_told steps taken text apps (Err e) told is = is
+
+pub all_given : (steps : List Step) (r : Result Answered Memory) → IfOk r (λ a. AreAnswered steps a.text a.apps) → IfOk r (λ a. is_some a.apps ≡ list_any is_load steps)
+all_given steps (Ok a) is = given_from None steps a.text a.apps is
+all_given steps (Err e) is = is
+
+pub all_apps : (taken : Result Unit Memory) (text : List ℕ) (apps : Option Host) (r : Result Answered Memory) → IfSome apps AreApps → IfOk r (IsAnsweredBy taken text apps) →
+    IfOk r (λ a. IfSome a.apps AreApps)
+all_apps taken text apps (Ok a) hold is = subst (λ (o : Option Host). IfSome o AreApps) (sym is.apps_is) hold
+all_apps taken text apps (Err e) hold is = is
+
+-- no other text is their answer
+pub all_only : (steps : List Step) (r : Result Answered Memory) → All IsValidStep steps →
+    IfOk r (λ a. (states : List (Option Host)) (other : List ℕ) → AreAnsweredThrough None steps states a.text → AreAnsweredThrough None steps states other → other ≡ a.text)
+all_only steps (Ok a) valid = λ states other through also. one_text steps states a.text other valid through also
+all_only steps (Err e) valid = tt
 
 -- ---- how many packets there are
 
-pub at_load : (before : Option Host) (job : Job) → (host_at before job).packets ≡ packets_of before
+at_load : (before : Option Host) (job : Job) → (host_at before job).packets ≡ packets_of before
 at_load None job = refl
 at_load (Some h) job = refl
 
@@ -133,17 +138,13 @@ packets_more Run (Some h) old new after valid told =
 
 -- ---- one step told
 
-pub load_numbers : (before : Option Host) (job : Job) (h : Host) → IsValidJob job → h ≡ host_at before job → packets_of before + 65536 < 2 ^ 32 → h.packets + length job.run.packets < 2 ^ 32
-load_numbers before job h valid is numbers =
-    let same : h.packets ≡ packets_of before = ap (λ (x : Host). x.packets) is ∙ at_load before job in
-    let few = valid.run.few_packets in
-    omega (arith, same, few, numbers)
-
-pub told_load : (before : Option Host) (number : ℕ) (job : Job) (old new : List ℕ) (h : Host) (answer : LoadAnswer) (after : Host) → h ≡ host_at before job →
-    IsLoadAnswer h number job answer after → AreApps after → new ≡ old ++ load_line number job.graph answer → IsTold (Load number job) before old new (Some after)
-told_load before number job old new h answer after is answers apps longer = record {
+-- where a load's line was put at the end
+pub told_load : {E : Type 0} (put : Result Unit E) (before : Option Host) (number : ℕ) (job : Job) (old new : List ℕ) (h : Host) (answer : LoadAnswer) (after : Host) → h ≡ host_at before job →
+    IsLoadAnswer h number job answer after → AreApps after → OnOk put (new ≡ old ++ load_line number job.graph answer) → OnOk put (IsTold (Load number job) before old new (Some after))
+told_load (Ok u) before number job old new h answer after is answers apps longer = record {
   told = load_line number job.graph answer;
   longer = longer;
   answers = record { new = after; left = refl; answer = answer; is = subst (λ (x : Host). IsLoadAnswer x number job answer after) is answers; told = refl };
   apps = apps;
 }
+told_load (Err e) before number job old new h answer after is answers apps longer = longer

@@ -1,16 +1,18 @@
 -- The cores that are free, as a machine.
-use Rattle.std.proofs.Common.{◌≡◌, ℕ, ◌+◌, ◌-◌, ◌*◌, ◌/◌, ◌%◌, ◌<◌, ◌≤◌, refl, sym, ap, ◌∙◌, subst, arith, inl, inr, List, [], ◌∷◌, ◌++◌, map, Bool, true, false, not, cond, Some, None}
-use Rattle.std.specs.List.{All, AllZip, Contains, filter, list_any, range_with_len, slice_get}
+use Rattle.std.proofs.Common.{◌≡◌, ℕ, ◌+◌, ◌-◌, ◌*◌, ◌/◌, ◌%◌, ◌<◌, ◌≤◌, refl, sym, ap, ◌∙◌, subst, arith, inl, inr, List, [], ◌∷◌, ◌++◌, map, take, Bool, true, false, not, cond, Option, Some, None}
+use Rattle.std.specs.Prelude.{MatchOption}
+use Rattle.std.specs.List.{All, Contains, filter, list_any, range_with_len, slice_get}
 use Rattle.std.proofs.lemmas.Bool.{and_parts, cases_Bool, leb-true, not-true}
 use Rattle.std.proofs.lemmas.List.FromFn.{filter_of_map_range_with_len_more, get_or-map-range_with_len, length-map-range_with_len}
 use Rattle.std.proofs.lemmas.List.Elements.{All-weaker}
 use Rattle.std.proofs.lemmas.Option.{slice_get-get_or}
 use Rattle.list_laws.proofs.Members.{Contains-at, Contains-filter, Contains-from_filter, among_any, contains_among}
-use Rattle.list_laws.proofs.Places.{All-at, All-each, AllZip-at_second}
+use Rattle.list_laws.proofs.Places.{All-at, All-each, slice_get_there}
 use Rattle.list_laws.proofs.Ranges.{slice_get-map_range}
 use Rattle.spin_base.specs.declared.chips.Spot.{Spot}
 use Rattle.spin_base.specs.Equality.{spot_eq}
 use Rattle.spin_base.proofs.Equality.{spot_eq_same}
+use Rattle.machine_desc.specs.declared.trees.Edge.{Edge}
 use Rattle.machine_desc.specs.Description.{Description}
 use Rattle.machine_desc.specs.Live.{index_of, chip_of, IsInside, IsSite, IsUsable}
 use Rattle.machine_desc.proofs.Far.{index_below}
@@ -19,6 +21,7 @@ use Rattle.machine_desc.proofs.Same.{same_spot}
 use Rattle.machine_desc.proofs.Sites.{usable_site}
 use Rattle.app_graph.specs.declared.graphs.Vertex.{Vertex}
 use Rattle.mesh_core.proofs.Moves.{chip_of-index_of}
+use Rattle.place_fit.specs.Placement.{HasDeviceRoom, IsCoreFor, IsPlacement, device_spot}
 use Rattle.app_loads.specs.Host.{Host, is_free_spot, is_spot_taken}
 use Rattle.app_loads.specs.Opening.{spot_of, grid_spots}
 use Rattle.app_answers.specs.Free.{free_machine}
@@ -94,15 +97,18 @@ usable_free h s usable =
 pub free_parts : (h : Host) (s : Spot) → is_free_spot h s ≡ true → IsUsable h.mesh.setup.machine s × (is_spot_taken h.apps s ≡ false)
 free_parts h s free = let parts = and_parts _ _ free in (parts.0, not-true _ parts.1)
 
--- vertices that are no devices stand on free cores
-pub on_free_cores : (h : Host) (free : Description) (vertices : List Vertex) (spots : List Spot) → free ≡ free_machine h →
-    AllZip (λ (v : Vertex) s. v.device ≡ None → IsUsable free s) vertices spots → All (λ (v : Vertex). v.device ≡ None) vertices → All (λ s. is_free_spot h s ≡ true) spots
-on_free_cores h free vertices spots is cores none =
+-- vertices that are no devices are placed on free cores
+pub placed_free : (h : Host) (vertices : List Vertex) (spots : List Spot) (memory : List ℕ) → IsPlacement (free_machine h) vertices spots memory →
+    All (λ (v : Vertex). v.device ≡ None) vertices → All (λ s. is_free_spot h s ≡ true) spots
+placed_free h vertices spots memory placed none =
     All-each (λ s. is_free_spot h s ≡ true) spots (λ s has.
     let at : slice_get spots has.0 ≡ Some s = slice_get-get_or spots has.0 s has.1 ∙ ap Some has.2 in
-    let of = AllZip-at_second (λ (v : Vertex) t. v.device ≡ None → IsUsable free t) vertices spots cores has.0 s at in
-    let usable : IsUsable free s = of.2 (All-at (λ (v : Vertex). v.device ≡ None) vertices has.0 of.0 none of.1) in
-    usable_free h s (subst (λ (m : Description). IsUsable m s) is usable))
+    let of = slice_get_there vertices has.0 (subst (λ n. has.0 < n) placed.all has.1) in
+    let core : IsCoreFor (free_machine h) placed.order (take has.0 vertices) (take has.0 spots) of.0 s =
+    subst (λ (o : Option Edge). MatchOption o (IsCoreFor (free_machine h) placed.order (take has.0 vertices) (take has.0 spots) of.0 s) (λ device. HasDeviceRoom (free_machine h) device × (s ≡ device_spot device)))
+    (All-at (λ (v : Vertex). v.device ≡ None) vertices has.0 of.0 none of.1) (placed.first.each has.0 of.0 s of.1 at)
+    in
+    usable_free h s (and_parts _ _ core.free).0)
 
 -- so they are usable on the host's machine, and no loaded application's
 pub free_usable : (h : Host) (spots : List Spot) → All (λ s. is_free_spot h s ≡ true) spots → All (IsUsable h.mesh.setup.machine) spots

@@ -1,11 +1,12 @@
 -- The plan of a job on free cores.
-use Rattle.std.proofs.Common.{◌≡◌, ◌≢◌, ℕ, zero, suc, ◌+◌, ◌^◌, ◌<◌, refl, sym, ap, ◌∙◌, subst, arith, inl, inr, List, [], ◌∷◌, ◌++◌, length, take, false, Some}
-use Rattle.std.specs.List.{All, AllPairs, AllZip, Contains, slice_get}
+use Rattle.std.proofs.Common.{◌≡◌, ℕ, zero, suc, ◌+◌, ◌^◌, ◌<◌, refl, sym, ap, ◌∙◌, subst, arith, inl, inr, List, [], ◌∷◌, ◌++◌, length, map, take, false, Some}
+use Rattle.std.specs.List.{All, AllZip, Contains, slice_get}
 use Rattle.std.proofs.lemmas.Bool.{cases_lt}
 use Rattle.std.proofs.lemmas.List.{length-map}
 use Rattle.std.proofs.lemmas.List.Elements.{All-push, All-weaker}
+use Rattle.std.proofs.lemmas.Slice.Zip.{AllZip-long, all_zipped_more}
 use Rattle.list_laws.proofs.Members.{Contains-at}
-use Rattle.list_laws.proofs.Places.{All-each, AllZip-at_first, slice_get_there, take_more_at}
+use Rattle.list_laws.proofs.Places.{All-each, AllZip-at_first, one_item_at, slice_get_there, take_more_at}
 use Rattle.spin_base.specs.declared.blocks.Block.{Block}
 use Rattle.spin_base.specs.declared.chips.Spot.{Spot}
 use Rattle.spin_base.specs.declared.copies.Packet.{Packet}
@@ -31,15 +32,16 @@ use Rattle.app_answers.specs.declared.hosts.LoadAnswer.TheVariants.{Done, Loaded
 use Rattle.app_answers.specs.Answers.{IsLoadAnswer}
 use Rattle.app_answers.specs.Hosting.{IsTaken}
 use Rattle.app_answers.specs.Free.{free_machine}
-use Rattle.app_answers.specs.Making.{plan_with, unplaced, unrouted, unrouted_net}
+use Rattle.app_answers.specs.Making.{IsPlaced, unplaced, unrouted, unrouted_net}
 use Rattle.app_answers.specs.Plans.{IsNetFor, IsPlanFor, IsWhyUnplanned}
+use Rattle.app_answers.proofs.FreeSpots.{free_usable, placed_free}
 use Rattle.link_detours.specs.declared.repairs.RepairErr.{RepairErr}
 use Rattle.link_detours.specs.declared.repairs.RepairErr.TheVariants as repairs
 use Rattle.net_plans.specs.Cause.{IsCause, IsCauseOne}
 use Rattle.net_plans.specs.declared.nets.NetErr.{NetErr}
 use Rattle.net_plans.specs.declared.nets.NetErr.TheVariants as nets
 use Rattle.place_fit.specs.Cause.{IsCause as IsPlaceCause}
-use Rattle.place_fit.specs.Placement.{HasNoRoom, IsPlacement}
+use Rattle.place_fit.specs.Placement.{HasNoRoom}
 use Rattle.place_fit.specs.declared.placing.PlaceErr.{PlaceErr}
 use Rattle.place_fit.specs.declared.placing.PlaceErr.TheVariants as places
 
@@ -80,16 +82,10 @@ net_valid m spots net block g p valid planned routing = record {
 
 -- ---- nets one by one
 
-AllZip-more : {X Y : Type 0} (R : X → Y → Type 0) (xs : List X) (ys : List Y) (x : X) (y : Y) → AllZip R xs ys → R x y → AllZip R (xs ++ x ∷ []) (ys ++ y ∷ [])
-AllZip-more R [] [] x y all more = (more, tt)
-AllZip-more R [] (b ∷ bs) x y all more = absurd all
-AllZip-more R (c ∷ cs) [] x y all more = absurd all
-AllZip-more R (c ∷ cs) (b ∷ bs) x y all more = (all.0, AllZip-more R cs bs x y all.1 more)
-
 pub nets_more : (m : Description) (spots : List Spot) (nets : List Net) (i : ℕ) (net : Net) (old new : List AppNet) (app : AppNet) → slice_get nets i ≡ Some net →
     AllZip (IsNetFor m spots) (take i nets) old → IsNetFor m spots net app → new ≡ old ++ app ∷ [] → AllZip (IsNetFor m spots) (take (i + 1) nets) new
 nets_more m spots nets i net old new app at so_far is pushed =
-    rw (pushed, take_more_at nets i net at) (AllZip-more (IsNetFor m spots) (take i nets) old net app so_far is)
+    rw (pushed, take_more_at nets i net at) (all_zipped_more (IsNetFor m spots) (take i nets) old net app so_far is)
 
 pub valid_more : (m : Description) (spots : List Spot) (old new : List AppNet) (app : AppNet) → All (IsAppNet m spots) old → IsAppNet m spots app → new ≡ old ++ app ∷ [] → All (IsAppNet m spots) new
 valid_more m spots old new app so_far is pushed = rw pushed (All-push (IsAppNet m spots) old app so_far is)
@@ -104,12 +100,9 @@ reached_more m spots nets i net before at reached j other less there = elim (cas
   | inl earlier ↦ before j other earlier there
   | inr later ↦
       let here : i ≡ j = omega (arith, less, later) in
-      let same : net ≡ other = same_item nets i j net other here at there in
+      let same : net ≡ other = one_item_at nets i j net other here at there in
       subst (HasNoneCutOff m spots) same reached
 ]
-  where
-    same_item : {X : Type 0} (xs : List X) (i j : ℕ) (x y : X) → i ≡ j → slice_get xs i ≡ Some x → slice_get xs j ≡ Some y → x ≡ y
-    same_item xs i j x y same at also = cc
 
 -- ---- the whole plan
 
@@ -135,32 +128,29 @@ packets_are m spots nets apps packets are all = All-weaker (IsRunPacket nets) (I
 pub nets_on : (n : ℕ) (spots : List Spot) (nets : List Net) → length spots ≡ n → All (IsValidNet n) nets → All (IsValidNet (length spots)) nets
 nets_on n spots nets same valid = subst (λ k. All (IsValidNet k) nets) (sym same) valid
 
-AllZip-length : {X Y : Type 0} (R : X → Y → Type 0) (xs : List X) (ys : List Y) → AllZip R xs ys → length ys ≡ length xs
-AllZip-length R [] [] all = refl
-AllZip-length R [] (y ∷ ys) all = absurd all
-AllZip-length R (x ∷ xs) [] all = absurd all
-AllZip-length R (x ∷ xs) (y ∷ ys) all = ap suc (AllZip-length R xs ys all.1)
+module _ (h : Host) (m : Description) (job : Job) (spots : List Spot) (sdram : List ℕ) (apps : List AppNet) (packets : List Packet) (machine : h.mesh.setup.machine ≡ m) (placed : IsPlaced h job spots)
+    (bytes : sdram ≡ map (λ (v : Vertex). v.sdram) job.graph.vertices) (are : AllZip (IsNetFor m spots) job.graph.nets apps) (copied : packets ≡ job.run.packets) where
+  abbrev made : AppPlan
+  made = record { spots = spots; sdram = sdram; nets = apps; packets = packets }
 
-pub plan_valid : (m : Description) (job : Job) (spots : List Spot) (apps : List AppNet) → IsValidJob job → AllPairs (λ a b. a ≢ b) spots → All (IsUsable m) spots →
-    length spots ≡ length job.graph.vertices → AllZip (IsNetFor m spots) job.graph.nets apps → All (IsAppNet m spots) apps → IsPlan m (plan_with job spots apps)
-plan_valid m job spots apps valid different usable long are nets = record {
-  different = different;
-  usable = usable;
-  sdram = length-map job.graph.vertices (λ (v : Vertex). v.sdram) ∙ sym long;
-  few_nets = (let few = valid.graph.few_nets in let as_many = AllZip-length (IsNetFor m spots) job.graph.nets apps are in omega (arith, few, as_many));
-  nets = nets;
-  packets = packets_are m spots job.graph.nets apps job.run.packets are valid.run.packets;
-}
+  pub plan_for : IsPlanFor h job made
+  plan_for = record {
+    memory = placed.memory;
+    placed = placed.is;
+    sdram = bytes;
+    nets = subst (λ (x : Description). AllZip (IsNetFor x spots) job.graph.nets apps) (sym machine) are;
+    packets = copied;
+  }
 
-pub plan_for : (h : Host) (m free : Description) (job : Job) (spots : List Spot) (memory : List ℕ) (apps : List AppNet) → h.mesh.setup.machine ≡ m → free ≡ free_machine h →
-    IsPlacement free job.graph.vertices spots memory → AllZip (IsNetFor m spots) job.graph.nets apps → IsPlanFor h job (plan_with job spots apps)
-plan_for h m free job spots memory apps machine is placed are = record {
-  memory = memory;
-  placed = subst (λ (x : Description). IsPlacement x job.graph.vertices spots memory) is placed;
-  sdram = refl;
-  nets = subst (λ (x : Description). AllZip (IsNetFor x spots) job.graph.nets apps) (sym machine) are;
-  packets = refl;
-}
+  pub plan_valid : IsValidJob job → All (IsAppNet m spots) apps → IsPlan m made
+  plan_valid valid nets = record {
+    different = placed.different;
+    usable = subst (λ (x : Description). All (IsUsable x) spots) machine (free_usable h spots (placed_free h job.graph.vertices spots placed.memory placed.is valid.cores));
+    sdram = ap length bytes ∙ (length-map job.graph.vertices (λ (v : Vertex). v.sdram) ∙ sym placed.is.all);
+    few_nets = (let few = valid.graph.few_nets in let as_many = AllZip-long (IsNetFor m spots) job.graph.nets apps are in omega (arith, few, as_many));
+    nets = nets;
+    packets = subst (All (IsPacketOf apps)) (sym copied) (packets_are m spots job.graph.nets apps job.run.packets are valid.run.packets);
+  }
 
 -- ---- refusals
 
@@ -168,15 +158,15 @@ pub why_unplaced : (h : Host) (free : Description) (job : Job) (e : PlaceErr) �
 why_unplaced h free job (places.NoRoom vertex) is none = subst (λ (x : Description). HasNoRoom x job.graph.vertices vertex) is none
 why_unplaced h free job places.Memory is none = tt
 
-pub why_unrouted : (h : Host) (m free : Description) (job : Job) (spots : List Spot) (memory : List ℕ) (e : NetErr) → h.mesh.setup.machine ≡ m → free ≡ free_machine h →
-    IsPlacement free job.graph.vertices spots memory → IsCause m spots job.graph.nets e → IsWhyUnplanned h job (unrouted e)
-why_unrouted h m free job spots memory (nets.CutOff net target) machine is placed first = record {
+pub why_unrouted : (h : Host) (m : Description) (job : Job) (spots : List Spot) (e : NetErr) → h.mesh.setup.machine ≡ m → IsPlaced h job spots → IsCause m spots job.graph.nets e →
+    IsWhyUnplanned h job (unrouted e)
+why_unrouted h m job spots (nets.CutOff net target) machine placed first = record {
   spots = spots;
-  memory = memory;
-  placed = subst (λ (x : Description). IsPlacement x job.graph.vertices spots memory) is placed;
+  memory = placed.memory;
+  placed = placed.is;
   first = subst (λ (x : Description). IsFirstCutOff x spots job.graph.nets net target) (sym machine) first;
 }
-why_unrouted h m free job spots memory nets.Memory machine is placed first = tt
+why_unrouted h m job spots nets.Memory machine placed first = tt
 
 pub why_net : (m : Description) (spots : List Spot) (all : List Net) (i : ℕ) (net : Net) (e : RepairErr) → slice_get all i ≡ Some net → AreReachedBelow m spots all i →
     IsCauseOne m spots net e → IsCause m spots all (unrouted_net i e)

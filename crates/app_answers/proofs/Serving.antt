@@ -1,19 +1,13 @@
 -- A host after what was done on it.
-use Rattle.std.proofs.Common.{◌≡◌, ℕ, refl, ap, ◌∙◌, List, [], ◌∷◌, Result, Ok, Err, IfOk, OnOk, OnErr}
-use Rattle.spin_base.specs.declared.copies.Event.{Event}
+use Rattle.std.proofs.Common.{◌≡◌, ℕ, ap, ◌∙◌, Result, Ok, Err, IfOk, OnOk, OnErr}
 use Rattle.mesh_core.specs.State.{Setup, State}
-use Rattle.mesh_core.specs.Step.{after_event, after_events}
-use Rattle.mesh_core.proofs.Fixed.{after_event_setup}
+use Rattle.mesh_core.proofs.Fixed.{setup_after}
 use Rattle.app_loads.specs.Host.{Host}
 use Rattle.app_loads.specs.Running.{HasMoved}
 use Rattle.app_loads.specs.Loading.{HasLoaded}
 use Rattle.app_loads.specs.Unloading.{HasUnloaded}
 use Rattle.app_loads.specs.declared.answers.Ended.{Ended}
 use Rattle.app_loads.specs.declared.plans.AppPlan.{AppPlan}
-
-setup_after : (s : State) (es : List Event) → (after_events s es).setup ≡ s.setup
-setup_after s [] = refl
-setup_after s (e ∷ es) = setup_after (after_event s e) es ∙ after_event_setup s e
 
 pub moved_machine : (old new : Host) → HasMoved old new → new.mesh.setup.machine ≡ old.mesh.setup.machine
 moved_machine old new moved =

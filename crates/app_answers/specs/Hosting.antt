@@ -1,5 +1,5 @@
 -- A machine with its applications, as the private functions say it.
-use Rattle.std.specs.Prelude.{◌≡◌, ℕ, ◌++◌, List, Option, Some, None, IfSome, true}
+use Rattle.std.specs.Prelude.{◌≡◌, ℕ, ◌++◌, List, Option, Some, None, IfSome, IsOk, Result, true}
 use Rattle.link_detours.specs.LiveRoads.{AreRoadsOf}
 use Rattle.app_steps.specs.declared.steps.Step.{Step}
 use Rattle.app_loads.specs.Applications.{AreApps}
@@ -7,6 +7,8 @@ use Rattle.app_loads.specs.declared.answers.LoadErr.TheVariants as refusals
 use Rattle.app_loads.specs.declared.plans.AppPlan.{AppPlan}
 use Rattle.app_loads.specs.Host.{Host, is_loaded}
 use Rattle.app_loads.specs.Loading.{HasLoaded, IsWhyNotLoaded}
+use Rattle.spin_base.specs.declared.wants.Memory.{Memory}
+use Rattle.app_answers.specs.declared.answers.Answered.{Answered}
 use Rattle.app_answers.specs.declared.hosts.Hosted.TheInside.{Inside}
 use Rattle.app_answers.specs.declared.hosts.LoadAnswer.{LoadAnswer}
 use Rattle.app_answers.specs.declared.hosts.LoadAnswer.TheVariants.{Done, Loaded, NoRoom, CutOff, MemoryOut, KeysOut, RowsOut}
@@ -43,3 +45,9 @@ pub record IsTold (step : Step) (before : Option Host) (old new : List ℕ) (aft
 abbrev pub packets_of : Option Host → ℕ
 packets_of None = 0
 packets_of (Some h) = h.packets
+
+-- what was answered, where all steps were done
+pub record IsAnsweredBy (taken : Result Unit Memory) (text : List ℕ) (apps : Option Host) (a : Answered) : Type 0 where
+  pub done : IsOk taken
+  pub text_is : a.text ≡ text
+  pub apps_is : a.apps ≡ apps

@@ -1,11 +1,12 @@
 // The answers of steps, one after the other.
-ghost use Rattle.std.specs.Prelude.{◌≡◌, ◌≤◌, ◌<◌, ◌+◌, ◌^◌, All, IfOk, IfSome, Some, is_some, length, string_bytes};
+ghost use Rattle.std.specs.Prelude.{◌≡◌, ◌≤◌, ◌<◌, ◌+◌, ◌^◌, ℕ, List, [], All, IfOk, IfSome, OnOk, Option, Some, None, is_some, length, string_bytes};
 ghost use Rattle.std.specs.List.{list_any};
 ghost use Rattle.app_steps.specs.declared.steps.Step.TheVariants.{Load, Unload, Run};
 ghost use Rattle.app_steps.specs.Valid.{IsValidJob, IsValidStep};
 ghost use Rattle.app_loads.specs.Applications.{AreApps};
-ghost use Rattle.app_answers.specs.Answers.{AreAnswered, host_at, is_load};
-ghost use Rattle.app_answers.specs.Hosting.{IsTold, packets_of};
+ghost use Rattle.app_loads.specs.Host.{Host};
+ghost use Rattle.app_answers.specs.Answers.{AreAnswered, AreAnsweredThrough, host_at, is_load};
+ghost use Rattle.app_answers.specs.Hosting.{IsAnsweredBy, IsTold, packets_of};
 
 use crate::hosts::{Hosted, UnloadAnswer};
 use crate::lines::{put_load, put_run, put_unload};
@@ -28,7 +29,8 @@ pub struct Answered {
 /// and the chip of its first such target; `load N memory out VERTEX`, `load N keys out NET` and `load N rows out X Y`, for what
 /// could not be taken first. An unload is answered `unload N got G dumped U`, with how many deliveries and dump records were
 /// handed back, `unload N not loaded`, or `unload N waiting P`, with the application's least packet that has not arrived. A run
-/// brings all packets to their targets, and is answered `run`. What was refused has changed nothing.
+/// brings all packets to their targets, and is answered `run`. What was refused has changed nothing. On the state that the steps before
+/// it left, each step has one line: so where the steps lead through the same states, no other text is their answer.
 ///
 /// # Errors
 ///
@@ -39,16 +41,13 @@ pub fn answer(alloc: Global, steps: &[Step]) -> Result<Answered, Memory>
     ensures answered { IfOk result (λ a. AreAnswered steps.now a.text a.apps) }
     ensures given { IfOk result (λ a. is_some a.apps ≡ list_any is_load steps.now) }
     ensures apps { IfOk result (λ a. IfSome a.apps AreApps) }
+    ensures only { IfOk result (λ a. (states : List (Option Host)) (other : List ℕ) → AreAnsweredThrough None steps.now states a.text
+        → AreAnsweredThrough None steps.now states other → other ≡ a.text) }
 {
     let mut text = String::new(alloc);
     let mut hosted = None;
-    for step in steps {
-        hosted = take(alloc, hosted, step, &mut text)?;
-    }
-    Ok(Answered {
-        text: Seq::from_vec(text.into_bytes()),
-        apps: apps_of(hosted),
-    })
+    let taken = take_all(alloc, &mut hosted, steps, &mut text);
+    finished(taken, text, apps_of(hosted))
 }
 
 // The applications alone.
@@ -62,77 +61,129 @@ fn apps_of(hosted: Option<Hosted>) -> Option<Apps>
     }
 }
 
+// What was answered, where all steps were done.
+fn finished(taken: Result<(), Memory>, text: String, apps: Option<Apps>) -> Result<Answered, Memory>
+    ensures { IfOk result (λ a. IsAnsweredBy taken (string_bytes text) apps a) }
+{
+    match taken {
+        Ok(()) => Ok(Answered {
+            text: Seq::from_vec(text.into_bytes()),
+            apps,
+        }),
+        Err(memory) => {
+            end(apps);
+            Err(memory)
+        }
+    }
+}
+
+// Lets the applications go. Each case by itself: so no drop of an `Option` of them is proved.
+fn end(apps: Option<Apps>) {
+    let Some(_apps) = apps else {
+        return;
+    };
+}
+
+// Does each step, and puts their lines at the end.
+fn take_all(
+    alloc: Global,
+    hosted: &mut Option<Hosted>,
+    steps: &[Step],
+    text: &mut String,
+) -> Result<(), Memory>
+    requires valid { All IsValidStep steps.now }
+    requires few { length steps.now ≤ 65535 }
+    requires none { hosted.old ≡ None }
+    requires no_text { string_bytes text.old ≡ [] }
+    ensures { OnOk result (AreAnswered steps.now (string_bytes text.new) hosted.new) }
+{
+    for step in steps {
+        take(alloc, hosted, step, text)?;
+    }
+    Ok(())
+}
+
 // Does a step, and puts its line at the end.
 fn take(
     alloc: Global,
-    hosted: Option<Hosted>,
+    hosted: &mut Option<Hosted>,
     step: &Step,
     text: &mut String,
-) -> Result<Option<Hosted>, Memory>
+) -> Result<(), Memory>
     requires valid { IsValidStep step.now }
-    requires numbers { packets_of hosted + 65536 < 2 ^ 32 }
-    ensures { IfOk result (λ after. IsTold step.now hosted (string_bytes text.old) (string_bytes text.new) after) }
+    requires numbers { packets_of hosted.old + 65536 < 2 ^ 32 }
+    ensures { OnOk result (IsTold step.now hosted.old (string_bytes text.old) (string_bytes text.new) hosted.new) }
 {
     match step {
-        Step::Load(number, job) => Ok(Some(load(alloc, hosted, *number, job, text)?)),
+        Step::Load(number, job) => load(alloc, hosted, *number, job, text),
         Step::Unload(number) => unload(alloc, hosted, *number, text),
         Step::Run => run(alloc, hosted, text),
     }
 }
 
+// A load, on the machine of the job where there was none before.
 fn load(
     alloc: Global,
-    hosted: Option<Hosted>,
+    hosted: &mut Option<Hosted>,
     number: u32,
     job: &Job,
     text: &mut String,
-) -> Result<Hosted, Memory>
+) -> Result<(), Memory>
     requires valid { IsValidJob job.now }
-    requires numbers { packets_of hosted + 65536 < 2 ^ 32 }
-    ensures { IfOk result (λ after. IsTold (Load number job.now) hosted (string_bytes text.old) (string_bytes text.new) (Some after)) }
-{
-    let mut host = host_at(alloc, hosted, job)?;
-    let answer = host.load(alloc, number, job)?;
-    put_load(text, number, &job.graph, answer)?;
-    Ok(host)
-}
-
-// The machine at a load: that of the job, where there was none before.
-fn host_at(alloc: Global, hosted: Option<Hosted>, job: &Job) -> Result<Hosted, Memory>
-    requires { IsValidJob job.now }
-    ensures { IfOk result (λ host. host ≡ host_at hosted job.now) }
+    requires numbers { packets_of hosted.old + 65536 < 2 ^ 32 }
+    ensures { OnOk result (IsTold (Load number job.now) hosted.old (string_bytes text.old) (string_bytes text.new) hosted.new) }
 {
     match hosted {
-        Some(host) => Ok(host),
-        None => Hosted::bare(alloc, &job.machine, job.run.queue),
+        Some(host) => load_on(alloc, host, number, job, text),
+        None => {
+            let bare = Hosted::bare(alloc, &job.machine, job.run.queue)?;
+            load_on(alloc, hosted.insert(bare), number, job, text)
+        }
     }
+}
+
+// A load on a machine: the one that the state before it has, or gives.
+fn load_on(
+    alloc: Global,
+    host: &mut Hosted,
+    number: u32,
+    job: &Job,
+    text: &mut String,
+) -> Result<(), Memory>
+    requires valid { IsValidJob job.now }
+    requires numbers { host.old.packets + 65536 < 2 ^ 32 }
+    ensures { (before : Option Host) → host.old ≡ host_at before job.now →
+        OnOk result (IsTold (Load number job.now) before (string_bytes text.old) (string_bytes text.new) (Some host.new)) }
+{
+    let answer = host.load(alloc, number, job)?;
+    put_load(text, number, &job.graph, answer)
 }
 
 fn unload(
     alloc: Global,
-    hosted: Option<Hosted>,
+    hosted: &mut Option<Hosted>,
     number: u32,
     text: &mut String,
-) -> Result<Option<Hosted>, Memory>
-    ensures { IfOk result (λ after. IsTold (Unload number) hosted (string_bytes text.old) (string_bytes text.new) after) }
+) -> Result<(), Memory>
+    ensures { OnOk result (IsTold (Unload number) hosted.old (string_bytes text.old) (string_bytes text.new) hosted.new) }
 {
-    let Some(mut hosted) = hosted else {
-        put_unload(text, number, UnloadAnswer::NotLoaded)?;
-        return Ok(None);
-    };
-    let answer = hosted.unload(alloc, number)?;
-    put_unload(text, number, answer)?;
-    Ok(Some(hosted))
+    match hosted {
+        Some(host) => {
+            let answer = host.unload(alloc, number)?;
+            put_unload(text, number, answer)
+        }
+        None => put_unload(text, number, UnloadAnswer::NotLoaded),
+    }
 }
 
-fn run(alloc: Global, hosted: Option<Hosted>, text: &mut String) -> Result<Option<Hosted>, Memory>
-    ensures { IfOk result (λ after. IsTold Run hosted (string_bytes text.old) (string_bytes text.new) after) }
+fn run(alloc: Global, hosted: &mut Option<Hosted>, text: &mut String) -> Result<(), Memory>
+    ensures { OnOk result (IsTold Run hosted.old (string_bytes text.old) (string_bytes text.new) hosted.new) }
 {
-    let Some(mut hosted) = hosted else {
-        put_run(text)?;
-        return Ok(None);
-    };
-    hosted.run(alloc)?;
-    put_run(text)?;
-    Ok(Some(hosted))
+    match hosted {
+        Some(host) => {
+            host.run(alloc)?;
+            put_run(text)
+        }
+        None => put_run(text),
+    }
 }

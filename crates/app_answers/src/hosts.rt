@@ -17,7 +17,7 @@ use std::alloc::Global;
 use std::marker::Model;
 
 /// What a load is answered.
-#[derive(Clone, Copy, Debug, PartialEq, Eq)]
+#[derive(Clone, Copy)]
 pub enum LoadAnswer {
     /// The application is loaded.
     Done,
@@ -36,7 +36,7 @@ pub enum LoadAnswer {
 }
 
 /// What an unload is answered.
-#[derive(Clone, Copy, Debug, PartialEq, Eq)]
+#[derive(Clone, Copy)]
 pub enum UnloadAnswer {
     /// The application is unloaded, and so many deliveries and dump records were handed back.
     Got { delivered: usize, dumped: usize },
@@ -73,9 +73,10 @@ impl Hosted {
         ensures { IfOk result (λ hosted. hosted ≡ bare_host machine.now queue) }
     {
         let roads = Roads::of(alloc, machine)?;
-        let apps = Apps::new(alloc, machine, queue)?;
+        let machine = machine.copy(alloc)?;
+        let apps = Apps::new(alloc, &machine, queue)?;
         Ok(Hosted {
-            machine: machine.copy(alloc)?,
+            machine,
             roads,
             apps,
         })

@@ -10,7 +10,7 @@ ghost use Rattle.net_plans.specs.CutOffTargets.{HasNoneCutOff};
 ghost use Rattle.app_steps.specs.Valid.{IsValidJob};
 ghost use Rattle.app_loads.specs.Plans.{IsAppNet, IsPlan};
 ghost use Rattle.app_loads.specs.Host.{is_spot_taken};
-ghost use Rattle.app_answers.specs.Making.{plan_with, unplaced, unrouted, unrouted_net};
+ghost use Rattle.app_answers.specs.Making.{IsPlaced, unplaced, unrouted, unrouted_net};
 ghost use Rattle.app_answers.specs.Plans.{IsNetFor, IsPlanFor, IsWhyUnplanned};
 
 use crate::free::free_machine;
@@ -29,7 +29,7 @@ use std::alloc::Global;
 const NO_KEYS: Block = Block { key: 0, mask: 0 };
 
 // Why a job has no plan.
-#[derive(Clone, Copy, Debug)]
+#[derive(Clone, Copy)]
 pub(crate) enum PlanErr {
     // No chip on which this vertex may stand has room for it, the first such.
     NoRoom { vertex: u32 },
@@ -65,18 +65,32 @@ pub(crate) fn plan_of(
     ensures free { IfOk result (λ plan. All (λ s. is_spot_taken apps.now.apps s ≡ false) plan.spots) }
     ensures why { IfErr result (IsWhyUnplanned apps.now job.now) }
 {
+    let sdram = bytes_of(alloc, &job.graph.vertices)?;
+    let packets = copied(alloc, &job.run.packets)?;
+    let spots = placed(alloc, machine, apps, job)?;
+    match app_nets(alloc, machine, roads, &spots, &job.graph.nets) {
+        Ok(nets) => Ok(AppPlan {
+            spots,
+            sdram,
+            nets,
+            packets,
+        }),
+        Err(e) => Err(unrouted(e)),
+    }
+}
+
+// The cores of a job's vertices, of those that are free.
+fn placed(alloc: Global, machine: &Machine, apps: &Apps, job: &Job) -> Result<Seq<Spot>, PlanErr>
+    requires machine { apps.now.mesh.setup.machine ≡ machine.now }
+    requires valid { IsValidJob job.now }
+    ensures placed { IfOk result (IsPlaced apps.now job.now) }
+    ensures why { IfErr result (IsWhyUnplanned apps.now job.now) }
+{
     let free = free_machine(alloc, machine, apps)?;
-    let placement = match place(alloc, &free, &job.graph) {
-        Ok(placement) => placement,
-        Err(e) => return Err(unplaced(e)),
-    };
-    let spots = placement.spots;
-    let nets = match app_nets(alloc, machine, roads, &spots, &job.graph.nets) {
-        Ok(nets) => nets,
-        Err(e) => return Err(unrouted(e)),
-    };
-    let plan = plan_with(alloc, job, spots, nets)?;
-    Ok(plan)
+    match place(alloc, &free, &job.graph) {
+        Ok(placement) => Ok(placement.spots),
+        Err(e) => Err(unplaced(e)),
+    }
 }
 
 // Why there is no plan where vertices are not placed.
@@ -97,23 +111,6 @@ fn unrouted(e: NetErr) -> PlanErr
         NetErr::CutOff { net, target } => PlanErr::CutOff { net, target },
         NetErr::Memory => PlanErr::Memory,
     }
-}
-
-// The plan of a job with these cores and nets.
-fn plan_with(
-    alloc: Global,
-    job: &Job,
-    spots: Seq<Spot>,
-    nets: Seq<AppNet>,
-) -> Result<AppPlan, Memory>
-    ensures { IfOk result (λ plan. plan ≡ plan_with job.now spots nets) }
-{
-    Ok(AppPlan {
-        spots,
-        sdram: bytes_of(alloc, &job.graph.vertices)?,
-        nets,
-        packets: copied(alloc, &job.run.packets)?,
-    })
 }
 
 // The same packets once more.

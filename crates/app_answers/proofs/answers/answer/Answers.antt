@@ -1,44 +1,18 @@
-use Rattle.std.proofs.Common.{◌≡◌, refl, ap, ◌∙◌, arith, Some, string_bytes, rules}
-use Rattle.std.specs.List.{slice_get}
-use Rattle.std.specs.Prelude.{is_some}
-use Rattle.std.proofs.lemmas.Option.{slice_get_read}
-use Rattle.list_laws.proofs.Places.{All-at}
-use Rattle.app_steps.specs.Valid.{IsValidStep}
-use Rattle.app_answers.proofs.Chain.{given_all, goes_all, goes_first, goes_more, packets_more}
+use Rattle.std.proofs.Common.{Option, OnOk, sym, subst, string_bytes}
+use Rattle.app_loads.specs.Host.{Host}
+use Rattle.app_answers.specs.Answers.{AreAnswered}
+use Rattle.app_answers.proofs.Chain.{all_apps, all_given, all_only, all_told}
 use Rattle.app_answers.proofs.answers.answer.Goals as goal
 
-pub loop-step-init : goal.loop-step-init
-loop-step-init c = record { goes = goes_first c.args.steps.now (string_bytes c.new-text.result) c.new-text.ensures.bytes; few = omega arith }
-
-pub take-requires-clause-numbers : goal.take-requires-clause-numbers
-take-requires-clause-numbers c =
-    let few = c.loop-step.invariant.few in
-    let below = c.loop-step-test.true in
-    let most = c.requires.few in
-    omega (arith, few, below, most)
-
-pub loop-step-preserved : goal.loop-step-preserved
-loop-step-preserved c =
+pub returns : goal.returns
+returns c =
     let steps = c.args.steps.now in
-    let i = c.loop-step.step-index in
-    let step = c.step-item.result in
-    let at : slice_get steps i ≡ Some step = slice_get_read steps _ i step refl c.loop-step-test.true c.step-item.is in
-    let valid = All-at IsValidStep steps i step c.requires.valid at in
-    let told = c.in_ok-hosted.ensures in
-    let more = packets_more step c.loop-step.hosted (string_bytes c.loop-step.text) (string_bytes c.take.new.text) c.in_ok-hosted.hosted valid told in
-    let few = c.loop-step.invariant.few in
+    let text = string_bytes c.take_all-taken.new.text in
+    let told = subst (λ (o : Option Host). OnOk c.take_all-taken.result (AreAnswered steps text o)) (sym c.apps_of.ensures.same) c.take_all-taken.ensures in
+    let answered = all_told steps c.take_all-taken.result text c.apps_of.result c.finished.result told c.finished.ensures in
     record {
-      goes = goes_more steps i step c.loop-step.hosted c.in_ok-hosted.hosted (string_bytes c.loop-step.text) (string_bytes c.take.new.text) at told c.loop-step.invariant.goes;
-      few = omega (arith, more, few);
+      answered = answered;
+      given = all_given steps c.finished.result answered;
+      apps = all_apps c.take_all-taken.result text c.apps_of.result c.finished.result c.apps_of.ensures.apps c.finished.ensures;
+      only = all_only steps c.finished.result c.requires.valid;
     }
-
-pub returns-clause-answered : goal.returns-clause-answered
-returns-clause-answered c =
-    rw (c.from_vec.ensures, c.into_bytes.ensures.value, c.apps_of.ensures.same)
-    (goes_all c.args.steps.now c.loop-step.step-index c.loop-step.hosted (string_bytes c.loop-step.text) (search rules) c.loop-step.invariant.goes)
-
-pub returns-clause-given : goal.returns-clause-given
-returns-clause-given c =
-    ap is_some c.apps_of.ensures.same
-    ∙ given_all c.args.steps.now (string_bytes c.loop-step.text) c.loop-step.hosted
-    (goes_all c.args.steps.now c.loop-step.step-index c.loop-step.hosted (string_bytes c.loop-step.text) (search rules) c.loop-step.invariant.goes)

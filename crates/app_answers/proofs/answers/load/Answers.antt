@@ -1,11 +1,11 @@
-use Rattle.std.proofs.Common.{string_bytes}
-use Rattle.app_answers.proofs.Chain.{load_numbers, told_load}
+use Rattle.std.proofs.Common.{Option, sym, ap, ◌∙◌}
+use Rattle.app_loads.specs.Host.{Host}
+use Rattle.app_answers.specs.Answers.{host_at}
 use Rattle.app_answers.proofs.answers.load.Goals as goal
 
-pub load-requires-clause-numbers : goal.load-requires-clause-numbers
-load-requires-clause-numbers c = load_numbers c.args.hosted c.args.job.now c.in_ok-host.host c.requires.valid c.in_ok-host.ensures c.requires.numbers
+pub returns-in-Some : goal.returns-in-Some
+returns-in-Some c = c.load_on.ensures c.args.hosted.now (sym (ap (λ (o : Option Host). host_at o c.args.job.now) c.in-Some.is))
 
-pub returns : goal.returns
-returns c =
-    told_load c.args.hosted c.args.number c.args.job.now (string_bytes c.args.text.now) (string_bytes c.put_load.new.text) c.in_ok-host.host c.in_ok-answer.answer c.load.new.self c.in_ok-host.ensures
-    c.in_ok-answer.ensures.answer c.load.ensures.apps c.in_ok-put_load.ensures
+pub returns-in_ok-bare-in-None : goal.returns-in_ok-bare-in-None
+returns-in_ok-bare-in-None c =
+    c.load_on-in-None.ensures c.args.hosted.now (c.insert.ensures.value ∙ (c.in_ok-bare-in-None.ensures ∙ sym (ap (λ (o : Option Host). host_at o c.args.job.now) c.in-None.is)))
