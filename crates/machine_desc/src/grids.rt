@@ -2,7 +2,7 @@
 ghost use Rattle.std.specs.Prelude.{◌≡◌, ◌+◌, ◌*◌, ◌<◌, ◌≤◌, length, All, IfOk};
 
 use crate::trees::Edge;
-use spin_base::{Chip, Memory, Spot};
+use spin_base::{CORES, Chip, Memory, Spot};
 use std::alloc::Global;
 
 // A grid of so many chips along each axis, at most 64.
@@ -40,7 +40,7 @@ impl Grid {
         ensures place { result ≡ spot_place self spot }
         ensures below { result < chip_total self * 18 }
     {
-        self.chip_place(spot.chip) * 18 + usize::from(spot.core)
+        self.chip_place(spot.chip) * CORES as usize + usize::from(spot.core)
     }
 
     // The place of a link in a table with six places for each chip.
@@ -71,9 +71,9 @@ impl Grid {
         ensures told { IfOk result (λ t. TellsCores self t.items listed.now) }
         ensures long { IfOk result (λ t. length t.items ≡ chip_total self * 18) }
     {
-        let mut table = vec![in alloc; false; self.chips() * 18]?;
+        let mut table = vec![in alloc; false; self.chips() * CORES as usize]?;
         for spot in listed {
-            if spot.core < 18 {
+            if spot.core < CORES {
                 table[self.spot_place(*spot)] = true;
             }
         }

@@ -4,7 +4,7 @@ ghost use Rattle.std.specs.Prelude.{◌≡◌, ◌+◌, ◌*◌, ◌<◌, ◌≤
 use crate::grids::Grid;
 use crate::steps::Step;
 use crate::trees::Edge;
-use spin_base::{Chip, Dir, Memory, Seq, Spot};
+use spin_base::{CORES, Chip, Dir, Memory, Seq, Spot};
 use std::alloc::Global;
 use std::marker::Model;
 
@@ -250,10 +250,10 @@ impl Machine {
     fn is_device_place(&self, s: Spot) -> bool
         ensures { result ≡ is_device_place self.now s }
     {
-        if s.core < 18 {
+        if s.core < CORES {
             return false;
         }
-        match Dir::from_number(s.core - 18) {
+        match Dir::from_number(s.core - CORES) {
             None => false,
             Some(d) => self.live(s.chip) && !self.link_live(s.chip, d),
         }

@@ -6,7 +6,7 @@ ghost use Rattle.mesh_core.specs.State.{queue_at as place_of_queue};
 use crate::queues::Queue;
 use crate::tables::{spot_place, vertex_table};
 use machine_desc::Machine;
-use spin_base::{Chip, Dir, Memory, Out, Port, Seq, Spot};
+use spin_base::{CORES, Chip, Dir, Memory, Out, Port, Seq, Spot};
 use std::alloc::Global;
 use std::marker::Model;
 use tcam_find::Tcam;
@@ -119,7 +119,7 @@ impl MeshSetup {
         match out {
             Out::Link(link) => self.behind_link(c, link),
             Out::Core(core) => {
-                if core < 18 {
+                if core < CORES {
                     self.queue_on(Spot { chip: c, core })
                 } else {
                     Queue::Nowhere
@@ -137,7 +137,7 @@ impl MeshSetup {
         if !self.machine.link_live(c, link) {
             return self.queue_on(Spot {
                 chip: c,
-                core: 18 + link.number(),
+                core: CORES + link.number(),
             });
         }
         match self.machine.far(c, link) {

@@ -2,7 +2,7 @@
 ghost use Rattle.std.specs.Prelude.{◌≡◌, ◌<◌};
 ghost use Rattle.spin_base.specs.Outputs.{out_of};
 
-use spin_base::{Dir, Out};
+use spin_base::{CORES, Dir, Out};
 
 /// The output of a chip that leads to its spot of that number: the core's own for a core 0 to 17, and link d for the
 /// device on link d, whose number is 18 + d.
@@ -10,8 +10,8 @@ pub fn out_of(core: u8) -> Out
     requires { core < 24 }
     ensures { result ≡ out_of core }
 {
-    if core < 18 {
+    if core < CORES {
         return Out::Core(core);
     }
-    Out::Link(Dir::ALL[usize::from(core - 18)])
+    Out::Link(Dir::ALL[usize::from(core - CORES)])
 }

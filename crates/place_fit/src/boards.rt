@@ -7,7 +7,7 @@ use crate::curves::{curve, place_on_curve};
 use crate::rooms::Rooms;
 use app_graph::Vertex;
 use machine_desc::{Edge, Machine};
-use spin_base::{Chip, Memory, Seq, Spot};
+use spin_base::{CORES, Chip, Memory, Seq, Spot};
 use std::alloc::Global;
 
 // The chips of the curve of a level. Beside each, its least free core, or 18; and how much room it has, which is one
@@ -55,7 +55,7 @@ pub fn empty_board(alloc: Global, machine: &Machine, level: u32) -> Result<Board
 fn room_with(core: u8, left: u32) -> u64
     ensures { result ≡ first_room core left }
 {
-    if core < 18 { u64::from(left) + 1 } else { 0 }
+    if core < CORES { u64::from(left) + 1 } else { 0 }
 }
 
 // The least usable core of a chip from a number on, or 18.
@@ -63,12 +63,12 @@ fn next_core(machine: &Machine, chip: Chip, from: u8) -> u8
     requires { from ≤ 18 }
     ensures { IsNextCore machine.now chip from result }
 {
-    for core in from..18 {
+    for core in from..CORES {
         if machine.usable(Spot { chip, core }) {
             return core;
         }
     }
-    18
+    CORES
 }
 
 impl Board {
@@ -163,7 +163,7 @@ fn at_link(machine: &Machine, device: Edge) -> Option<Placed>
     }
     let spot = Spot {
         chip: device.chip,
-        core: 18 + device.dir.number(),
+        core: CORES + device.dir.number(),
     };
     Some(Placed { spot, memory: 0 })
 }

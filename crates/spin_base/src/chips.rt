@@ -118,6 +118,9 @@ impl Port {
     }
 }
 
+/// How many cores a chip has (SpiNNaker datasheet). What hangs on link d of a chip counts as its number `CORES` + d.
+pub const CORES: u8 = 18;
+
 /// A core of a chip, by its number.
 #[derive(Clone, Copy, Debug, PartialEq, Eq)]
 pub struct Spot {

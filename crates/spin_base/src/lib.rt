@@ -22,7 +22,7 @@ mod wants;
 mod writing;
 
 pub use blocks::{Block, ChipTable, Entry};
-pub use chips::{Chip, Dir, Port, Spot};
+pub use chips::{CORES, Chip, Dir, Port, Spot};
 pub use copies::{Delivery, DumpRec, Event, McCopy, Packet};
 pub use fifos::Fifo;
 pub use lists::Seq;

@@ -2,7 +2,7 @@
 ghost use Rattle.std.specs.Prelude.{◌≡◌, ◌<◌, ◌≤◌, ◌^◌, ◌++◌, filter, count_by, if◌then◌else◌};
 ghost use Rattle.arrayvec.specs.ArrayVec.{array_vec_len};
 
-use crate::chips::Dir;
+use crate::chips::{CORES, Dir};
 use arrayvec::ArrayVec;
 
 /// An output of a router: a link, or a core of the chip (0 to 17).
@@ -60,7 +60,7 @@ impl Route {
     {
         match out {
             Out::Link(link) => (self.bits >> link.number()) & 1 == 1,
-            Out::Core(core) => core < 18 && (self.bits >> (6 + core)) & 1 == 1,
+            Out::Core(core) => core < CORES && (self.bits >> (6 + core)) & 1 == 1,
         }
     }
 
@@ -108,7 +108,7 @@ impl Route {
         requires { array_vec_len outs.old ≤ 6 }
         ensures { outs.new.items ≡ outs.old.items ++ filter (has self) core_outs }
     {
-        for core in 0..18 {
+        for core in 0..CORES {
             if self.has(Out::Core(core)) {
                 outs.push(Out::Core(core));
             }
