@@ -14,7 +14,7 @@ use spin_base::{Block, ChipTable, DumpRec, McCopy, Memory, Name, Seq, Spot};
 use std::alloc::Global;
 
 /// What a report says.
-#[derive(Debug, Drop)]
+#[derive(Drop)]
 pub struct Report {
     /// Where each vertex stands.
     pub placed: Seq<(Name, Spot)>,

@@ -25,15 +25,39 @@ pub fn text_of(alloc: Global, report: &Report) -> Result<Seq<u8>, Memory>
     ensures { IfOk result (λ text. text ≡ report_text report.now) }
 {
     let mut text = String::new(alloc);
-    put_places(&mut text, report.placed.as_slice())?;
-    put_all_keys(&mut text, report.keys.as_slice())?;
-    put_tables(&mut text, report.tables.as_slice())?;
-    put_events(&mut text, report.did.as_slice())?;
-    put_gots(&mut text, report.delivered.as_slice())?;
-    put_dumps(&mut text, report.dumped.as_slice())?;
-    put_waits(&mut text, report.waiting.as_slice())?;
-    put_end(&mut text, report)?;
+    put_report(&mut text, report)?;
     Ok(Seq::from_vec(text.into_bytes()))
+}
+
+fn put_report(text: &mut String, report: &Report) -> Result<(), Memory>
+    ensures { OnOk result (string_bytes text.new ≡ string_bytes text.old ++ report_text report.now) }
+{
+    put_listed(
+        text,
+        report.placed.as_slice(),
+        report.keys.as_slice(),
+        report.tables.as_slice(),
+    )?;
+    put_events(text, report.did.as_slice())?;
+    put_gots(text, report.delivered.as_slice())?;
+    put_dumps(text, report.dumped.as_slice())?;
+    put_waits(text, report.waiting.as_slice())?;
+    put_end(text, report)?;
+    Ok(())
+}
+
+// Puts the lines of vertices, nets and tables at the end.
+fn put_listed(
+    text: &mut String,
+    placed: &[(Name, Spot)],
+    keys: &[(Name, Block)],
+    tables: &[ChipTable],
+) -> Result<(), Memory>
+    ensures { OnOk result (string_bytes text.new ≡ string_bytes text.old ++ (flat_map place_line placed.now ++ flat_map keys_line keys.now ++ flat_map table_lines tables.now)) }
+{
+    put_places(text, placed)?;
+    put_all_keys(text, keys)?;
+    put_tables(text, tables)
 }
 
 // The lines `place`, `keys` and `table` of `text_of`, and as the last line `end rows R` with the number of rows of all
@@ -48,9 +72,7 @@ pub(crate) fn listed_text(
     ensures { IfOk result (λ text. text ≡ listed_text placed.now keys.now tables.now) }
 {
     let mut text = String::new(alloc);
-    put_places(&mut text, placed)?;
-    put_all_keys(&mut text, keys)?;
-    put_tables(&mut text, tables)?;
+    put_listed(&mut text, placed, keys, tables)?;
     let rows = row_total(tables);
     writeln!(text, "end rows {rows}")?;
     Ok(Seq::from_vec(text.into_bytes()))

@@ -10,7 +10,7 @@ ghost use Rattle.run_report.specs.Keys.{wait_numbers};
 ghost use Rattle.run_report.specs.RunReport.{waits_of, wait_key, waits_at, queue_waits, held_waits, chip_waits, core_waits};
 
 use mesh_core::{Hand, Mesh, Place};
-use spin_base::{Chip, Dir, McCopy, Memory, Port, Seq};
+use spin_base::{Chip, McCopy, Memory, Port, Seq};
 use std::alloc::Global;
 
 /// The waiting copies of a mesh, by packet and place.
@@ -41,20 +41,9 @@ fn put_chip(waiting: &mut Vec<(u32, Place)>, chip: Chip, mesh: &Mesh) -> Result<
     requires { IsInside mesh.now.setup.machine chip }
     ensures { OnOk result (waiting.new.items ≡ waiting.old.items ++ chip_waits mesh.now chip) }
 {
-    put_queues(waiting, chip, &PORTS, mesh)?;
+    put_queues(waiting, chip, &Port::ALL, mesh)?;
     put_hand(waiting, chip, mesh.hand(chip))
 }
-
-// The ports of a chip, in the order of their numbers.
-const PORTS: [Port; 7] = [
-    Port::Link(Dir::East),
-    Port::Link(Dir::NorthEast),
-    Port::Link(Dir::North),
-    Port::Link(Dir::West),
-    Port::Link(Dir::SouthWest),
-    Port::Link(Dir::South),
-    Port::Local,
-];
 
 // Puts the copies of a chip's input queues at the end, port by port.
 fn put_queues(
