@@ -1,6 +1,6 @@
 -- The nets of a loaded application: their blocks are ranges of their own, and their trees stand on its spots.
 use Rattle.std.proofs.Common.{◌≡◌, ◌≢◌, ℕ, zero, suc, ◌+◌, ◌^◌, ◌<◌, ◌≤◌, ◌==◌, ◌↔◌, true, List, [], ◌∷◌, get_or, refl, sym, ap, ◌∙◌, subst, inl, inr, arith, Some}
-use Rattle.std.specs.List.{slice_get, All, AllPairs, Contains}
+use Rattle.std.specs.List.{slice_get, All, AllPairs, AllZip, Contains}
 use Rattle.std.proofs.lemmas.Bool.{cases_eq, cases_lt, and_from, eq-eqb}
 use Rattle.std.proofs.lemmas.List.Elements.{All-contains, All-weaker}
 use Rattle.std.proofs.lemmas.Option.{slice_get-get_or, slice_get_within, get_or_from_slice_get, same_Some}
@@ -70,14 +70,18 @@ index_fits key place size keys index most same many below room = omega (arith, s
 within_keys : (key keys size index : ℕ) → keys ≤ size → index < keys → key + index < key + size
 within_keys key keys size index many below = omega (arith, many, below)
 
+-- the range of a block is one for its claim
+range_of : (claims : List Claim) (ranges : List Range) → AllZip IsRangeFor claims ranges → (j : ℕ) (block : Block) (b : IsBlockOf claims ranges j block) → IsRangeFor b.claim b.range
+range_of claims ranges pairs j block b =
+    let ranged = AllZip-at_first IsRangeFor claims ranges pairs b.at b.claim b.is in
+    subst (IsRangeFor b.claim) (same_Some ranged.0 b.range (sym ranged.1 ∙ b.got)) ranged.2
+
 module _ (m : Description) (app : LoadedApp) (loaded : IsLoadedOn m app) where
   -- from the net, its block, and the claim and range of these
   made_of : (j : ℕ) (x : NetPlan) (net : AppNet) (block : Block) → slice_get app.plan.nets j ≡ Some net → slice_get app.blocks j ≡ Some block → net_with net block ≡ x →
-      (b : IsBlockOf (claims_of m app.plan) app.ranges j block) → IsKeyClaim m app.plan loaded.plan b.claim j → (r : Range) → slice_get app.ranges b.at ≡ Some r → IsRangeFor b.claim r → NetFacts m app x j
-  made_of j x net block at_net at_block is b f r got for =
-      let same : r ≡ b.range = same_Some r b.range (sym got ∙ b.got) in
-      let region : b.range.region ≡ b.claim.region = ap (λ (z : Range). z.region) (sym same) ∙ for.0 in
-      let size : b.range.size ≡ b.claim.size = ap (λ (z : Range). z.size) (sym same) ∙ for.1 in
+      (b : IsBlockOf (claims_of m app.plan) app.ranges j block) → IsKeyClaim m app.plan loaded.plan b.claim j → IsRangeFor b.claim b.range → NetFacts m app x j
+  made_of j x net block at_net at_block is b f for =
+      let size : b.range.size ≡ 2 ^ f.e = for.1 ∙ f.size in
       let one_net : f.net ≡ net = same_Some f.net net (sym f.is ∙ at_net) in
       record {
         net = net;
@@ -92,10 +96,10 @@ module _ (m : Description) (app : LoadedApp) (loaded : IsLoadedOn m app) where
         its = b.its;
         range = b.range;
         got = b.got;
-        region = region ∙ f.region;
+        region = for.0 ∙ f.region;
         place = b.key;
-        keys = subst (λ s. (k : ℕ) → k < 2 ^ 32 → Matches block k ↔ ((block.key ≤ k) × (k < block.key + s))) (sym (size ∙ f.size)) (block_keys block f.e f.few (ap (λ s. block.mask + s) (sym (size ∙ f.size)) ∙ b.mask));
-        enough = subst (λ s. net.keys ≤ s) (sym size) (subst (λ (n : AppNet). n.keys ≤ b.claim.size) one_net f.enough);
+        keys = subst (λ s. (k : ℕ) → k < 2 ^ 32 → Matches block k ↔ ((block.key ≤ k) × (k < block.key + s))) (sym size) (block_keys block f.e f.few (ap (λ s. block.mask + s) (sym size) ∙ b.mask));
+        enough = subst (λ s. net.keys ≤ s) (sym for.1) (subst (λ (n : AppNet). n.keys ≤ b.claim.size) one_net f.enough);
       }
 
   pub facts_at : (j : ℕ) (x : NetPlan) → slice_get (nets_of app) j ≡ Some x → NetFacts m app x j
@@ -103,8 +107,7 @@ module _ (m : Description) (app : LoadedApp) (loaded : IsLoadedOn m app) where
     where
       by_claim : (net : AppNet) (block : Block) → slice_get app.plan.nets j ≡ Some net → slice_get app.blocks j ≡ Some block → net_with net block ≡ x → IsBlockOf (claims_of m app.plan) app.ranges j block → NetFacts m app x j
       by_claim net block at_net at_block is b =
-          let ranged = AllZip-at_first IsRangeFor (claims_of m app.plan) app.ranges loaded.ranges b.at b.claim b.is in
-          made_of j x net block at_net at_block is b ((facts m app.plan loaded.plan b.claim (Contains-at (claims_of m app.plan) b.at b.claim b.is)).keyed j b.its) ranged.0 ranged.1 ranged.2
+          made_of j x net block at_net at_block is b ((facts m app.plan loaded.plan b.claim (Contains-at (claims_of m app.plan) b.at b.claim b.is)).keyed j b.its) (range_of (claims_of m app.plan) app.ranges loaded.ranges j block b)
 
       by_parts : ((net : AppNet) × (block : Block) × (slice_get app.plan.nets j ≡ Some net) × (slice_get app.blocks j ≡ Some block) × (net_with net block ≡ x)) → NetFacts m app x j
       by_parts (net, block, at_net, at_block, is) = by_claim net block at_net at_block is (loaded.blocks.each j block at_block)

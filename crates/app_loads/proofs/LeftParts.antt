@@ -1,5 +1,5 @@
 -- The fields of a host that an application left, or left not.
-use Rattle.std.proofs.Common.{◌≡◌, ℕ, suc, ◌+◌, ◌<◌, ◌==◌, Bool, false, List, ◌++◌, length, take, drop, get_or, sym, ap, ◌∙◌, subst, arith, None, Some, Result, Ok, OnOk, inl, inr}
+use Rattle.std.proofs.Common.{◌≡◌, ℕ, suc, ◌+◌, ◌*◌, ◌<◌, ◌==◌, Bool, false, List, ◌++◌, length, take, drop, get_or, sym, ap, ◌∙◌, subst, arith, None, Some, Result, Ok, OnOk, inl, inr}
 use Rattle.std.specs.Prelude.{is_some, position}
 use Rattle.std.specs.List.{slice_get, All, Contains}
 use Rattle.std.proofs.lemmas.Bool.{cases_Bool, eqb-true}
@@ -109,6 +109,9 @@ module _ (i : Inside) (mesh : State) (is : i.mesh ≡ Some mesh) (host : IsHost 
   spots_numbered lent lent_is =
       subst (All (λ (s : Spot). s.core < 24)) (sym lent_is)
       (All-weaker (IsUsable h.mesh.setup.machine) (λ (s : Spot). s.core < 24) (λ s u. let most = (usable_parts h.mesh.setup.machine s u).2 in omega (arith, most)) app.plan.spots usable)
+
+  pub table_long : (m : Description) → m ≡ mesh.setup.machine → (lent : List Bool) → lent ≡ i.taken.items → length lent ≡ 24 * (m.width * m.height)
+  table_long m m_is lent lent_is = ap length lent_is ∙ (host.taken.long ∙ ap (λ (d : Description). 24 * (d.width * d.height)) (machine_h ∙ sym m_is))
 
   module _ (new : List Region) (back : (others : List Range) → AreTaken mesh.setup.machine others app.ranges given → AreFreeBeside mesh.setup.machine others (frees new))
       (ended : Ended) (result : State) (left : HasLeft app mesh ended result) (none : NoneUnderWay mesh app)

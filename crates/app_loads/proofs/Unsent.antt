@@ -33,12 +33,6 @@ nets_with_long [] blocks = omega arith
 nets_with_long (x ∷ xs) [] = omega arith
 nets_with_long (x ∷ xs) (y ∷ ys) = let w = nets_with_long xs ys in omega (arith, w)
 
-pub none_sent : (spots : List Spot) (app : LoadedApp) (unsent : List (List McCopy)) → AreSent spots app 0 unsent unsent
-none_sent spots app unsent = refl
-
-pub all_same : (sources : List ℕ) (unsent : List (List McCopy)) → IsSameBeside sources unsent unsent
-all_same sources unsent = record { long = refl; others = λ v other. refl }
-
 -- what is written at one of the vertices leaves the others
 pub same_still : (sources : List ℕ) (old cur : List (List McCopy)) (v : ℕ) (q : List McCopy) → Contains sources v → IsSameBeside sources old cur → IsSameBeside sources old (slice_set cur v q)
 same_still sources old cur v q has same = record {

@@ -100,6 +100,7 @@ fn join(
         Ok(()) => (mesh, Ok(app)),
         Err(_) => {
             give_all(regions, app.ranges.as_slice());
+            drop(app);
             (mesh, Err(LoadErr::Memory))
         }
     }
@@ -154,11 +155,14 @@ fn app_of(
     ensures blocks { IfOk result (λ app. AreBlocks claims.now ranges.now plan.now.nets app.blocks) }
 {
     let blocks = blocks_of(alloc, plan.nets.len(), claims, ranges)?;
+    let ranges = Vec::from_slice(alloc, ranges)?;
+    // The plan comes last: no refusal after it has to drop it.
+    let plan = plan.copy(alloc)?;
     Ok(LoadedApp {
         number,
-        plan: plan.copy(alloc)?,
+        plan,
         first,
-        ranges: Seq::from_vec(Vec::from_slice(alloc, ranges)?),
+        ranges: Seq::from_vec(ranges),
         blocks: Seq::from_vec(blocks),
     })
 }

@@ -31,11 +31,16 @@ impl AppPlan {
     pub fn copy(&self, alloc: Global) -> Result<AppPlan, Memory>
         ensures { IfOk result (λ plan. plan ≡ self.now) }
     {
+        let spots = copied(alloc, &self.spots)?;
+        let sdram = copied(alloc, &self.sdram)?;
+        let packets = copied(alloc, &self.packets)?;
+        // The nets come last: no refusal after them has to drop them.
+        let nets = copied_nets(alloc, self.nets.as_slice())?;
         Ok(AppPlan {
-            spots: copied(alloc, &self.spots)?,
-            sdram: copied(alloc, &self.sdram)?,
-            nets: copied_nets(alloc, self.nets.as_slice())?,
-            packets: copied(alloc, &self.packets)?,
+            spots,
+            sdram,
+            nets,
+            packets,
         })
     }
 }
@@ -45,14 +50,15 @@ impl AppNet {
     pub fn copy(&self, alloc: Global) -> Result<AppNet, Memory>
         ensures { IfOk result (λ net. net ≡ self.now) }
     {
-        let tree = Tree {
-            root: self.tree.root,
-            edges: copied(alloc, &self.tree.edges)?,
-        };
+        let targets = copied(alloc, &self.targets)?;
+        let edges = copied(alloc, &self.tree.edges)?;
         Ok(AppNet {
             source: self.source,
-            targets: copied(alloc, &self.targets)?,
-            tree,
+            targets,
+            tree: Tree {
+                root: self.tree.root,
+                edges,
+            },
             keys: self.keys,
             fixed: self.fixed,
         })

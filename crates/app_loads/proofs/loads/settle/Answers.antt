@@ -1,4 +1,4 @@
-use Rattle.std.proofs.Common.{◌≡◌, ◌∙◌, ◌*◌, subst, sym, ap, arith, length}
+use Rattle.std.proofs.Common.{refl, ◌≡◌, ◌∙◌, ◌*◌, subst, sym, ap, arith, length}
 use Rattle.std.specs.Vec.{with_items}
 use Rattle.std.proofs.lemmas.List.{with_items_is}
 use Rattle.machine_desc.specs.Description.{Description}
@@ -12,6 +12,9 @@ use Rattle.app_loads.proofs.loads.settle.Goals as goal
 pub tables_of-requires-clause-routed : goal.tables_of-requires-clause-routed
 tables_of-requires-clause-routed c =
     subst (λ (m : Description). AreRouted m (nets_of c.args.app.now)) (sym c.machine.ensures) (routed c.args.mesh.setup.machine c.args.app.now c.requires.loaded c.requires.apart)
+
+pub returns-in_default-clause-refused : goal.returns-in_default-clause-refused
+returns-in_default-clause-refused c = refl
 
 pub send-requires : goal.send-requires
 send-requires c = parted_send (state_in c.parts.inside) c.args.mesh (c.parts.view_is ∙ c.take_apart-parts.ensures.parts) c.args.app.now c.requires c.take_apart-parts.ensures.mesh c.deref_mut.result.now c.deref_mut.ensures.value

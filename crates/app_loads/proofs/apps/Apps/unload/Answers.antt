@@ -15,8 +15,8 @@ use Rattle.app_loads.specs.Regions.{AreFreeBeside}
 use Rattle.app_loads.specs.Removing.{HasLeft, IsWhyHere}
 use Rattle.app_loads.specs.Taking.{AreTaken, frees}
 use Rattle.app_loads.specs.Unloading.{HasUnloaded, IsWhyNotUnloaded, NoneWaits}
-use Rattle.app_loads.proofs.LeftParts.{can_leave, gone, not_loaded, ok_apps, ok_host, ok_none, ok_unloaded, on_ok_is, spots_inside, spots_numbered, stays_host, stays_same, why_stays}
-use Rattle.app_loads.proofs.LoadedParts.{on_err}
+use Rattle.app_loads.proofs.LeftParts.{can_leave, gone, not_loaded, ok_apps, ok_host, ok_none, ok_unloaded, on_ok_is, spots_inside, spots_numbered, stays_host, stays_same, table_long, why_stays}
+use Rattle.app_loads.proofs.LoadedParts.{never_none, on_err}
 use Rattle.app_loads.proofs.apps.Apps.unload.Goals as goal
 
 pub returns-in_default-clause-why : goal.returns-in_default-clause-why
@@ -24,6 +24,18 @@ returns-in_default-clause-why c = not_loaded c.args.self.now.apps c.args.number 
 
 pub leave-mesh-requires : goal.leave-mesh-requires
 leave-mesh-requires c = can_leave c.self.inside c.in-Some-take.mesh (sym c.take.ensures.value ∙ c.in-Some-take.is) c.self.invariant c.args.number c.in-Some.at (ap (λ (x : Host). position (λ (app : LoadedApp). app.number == c.args.number) x.apps) c.self.view_is ∙ (sym c.place_of.ensures ∙ c.in-Some.is)) c.index.result.now c.index.ensures c.deref_mut.result.now c.deref_mut.ensures.value
+
+pub invariant_of-self : goal.invariant_of-self
+invariant_of-self c = absurd (never_none c.self.inside.mesh c.take.result c.self.invariant.there c.take.ensures.value c.in_default-take.is)
+
+pub returns-in_default-take-clause-refused : goal.returns-in_default-take-clause-refused
+returns-in_default-take-clause-refused c = absurd (never_none c.self.inside.mesh c.take.result c.self.invariant.there c.take.ensures.value c.in_default-take.is)
+
+pub returns-in_default-take-clause-apps : goal.returns-in_default-take-clause-apps
+returns-in_default-take-clause-apps c = absurd (never_none c.self.inside.mesh c.take.result c.self.invariant.there c.take.ensures.value c.in_default-take.is)
+
+pub mark_spots-requires-clause-long : goal.mark_spots-requires-clause-long
+mark_spots-requires-clause-long c = table_long c.self.inside c.in-Some-take.mesh (sym c.take.ensures.value ∙ c.in-Some-take.is) c.self.invariant c.args.number c.in-Some.at (ap (λ (x : Host). position (λ (app : LoadedApp). app.number == c.args.number) x.apps) c.self.view_is ∙ (sym c.place_of.ensures ∙ c.in-Some.is)) c.index.result.now c.index.ensures c.deref_mut.result.now c.deref_mut.ensures.value c.machine.result.now (c.machine.ensures ∙ ap (λ (s : State). s.setup.machine) (IfOk-at_ok (λ (e : Ended). HasLeft c.index.result.now c.in-Some-take.mesh e c.leave-mesh.result.0) c.in-Ok.is c.leave-mesh.ensures.left).mesh) c.deref_mut-in-Ok.result.now c.deref_mut-in-Ok.ensures.value
 
 pub mark_spots-requires-clause-inside : goal.mark_spots-requires-clause-inside
 mark_spots-requires-clause-inside c = spots_inside c.self.inside c.in-Some-take.mesh (sym c.take.ensures.value ∙ c.in-Some-take.is) c.self.invariant c.args.number c.in-Some.at (ap (λ (x : Host). position (λ (app : LoadedApp). app.number == c.args.number) x.apps) c.self.view_is ∙ (sym c.place_of.ensures ∙ c.in-Some.is)) c.index.result.now c.index.ensures c.deref_mut.result.now c.deref_mut.ensures.value c.machine.result.now (c.machine.ensures ∙ ap (λ (s : State). s.setup.machine) (IfOk-at_ok (λ (e : Ended). HasLeft c.index.result.now c.in-Some-take.mesh e c.leave-mesh.result.0) c.in-Ok.is c.leave-mesh.ensures.left).mesh) c.as_slice.result.now (c.as_slice.ensures ∙ ap (λ (a : LoadedApp). a.plan.spots) (gone c.self.inside c.in-Some-take.mesh (sym c.take.ensures.value ∙ c.in-Some-take.is) c.self.invariant c.args.number c.in-Some.at (ap (λ (x : Host). position (λ (app : LoadedApp). app.number == c.args.number) x.apps) c.self.view_is ∙ (sym c.place_of.ensures ∙ c.in-Some.is)) c.index.result.now c.index.ensures c.deref_mut.result.now c.deref_mut.ensures.value c.remove-app.result c.remove-app.ensures.value))
@@ -48,6 +60,9 @@ returns-in-Ok-clause-apps c = ok_apps c.self.inside c.in-Some-take.mesh (sym c.t
 
 pub returns-in-Err-clause-why : goal.returns-in-Err-clause-why
 returns-in-Err-clause-why c = subst (λ (x : Host). IsWhyNotUnloaded x c.args.number c.in-Err.cause) c.self.view_is (why_stays c.self.inside c.in-Some-take.mesh (sym c.take.ensures.value ∙ c.in-Some-take.is) c.self.invariant c.args.number c.in-Some.at (ap (λ (x : Host). position (λ (app : LoadedApp). app.number == c.args.number) x.apps) c.self.view_is ∙ (sym c.place_of.ensures ∙ c.in-Some.is)) c.index.result.now c.index.ensures c.deref_mut.result.now c.deref_mut.ensures.value c.in-Err.cause (IfErr-at_err (IsWhyHere c.in-Some-take.mesh c.index.result.now) c.in-Err.is c.leave-mesh.ensures.why))
+
+pub returns-in-Err-clause-refused : goal.returns-in-Err-clause-refused
+returns-in-Err-clause-refused c = (stays_same c.self.inside c.in-Some-take.mesh (sym c.take.ensures.value ∙ c.in-Some-take.is) c.self.invariant c.args.number c.in-Some.at (ap (λ (x : Host). position (λ (app : LoadedApp). app.number == c.args.number) x.apps) c.self.view_is ∙ (sym c.place_of.ensures ∙ c.in-Some.is)) c.index.result.now c.index.ensures c.deref_mut.result.now c.deref_mut.ensures.value (record { mesh = c.put-in-Err.new.held; regions = with_items c.self.inside.regions c.leave-mesh.new.regions; apps = c.self.inside.apps; packets = c.self.inside.packets; taken = c.self.inside.taken }) c.leave-mesh.result.0 (on_err (c.leave-mesh.result.0 ≡ c.in-Some-take.mesh) c.leave-mesh.result.1 c.in-Err.cause c.in-Err.is c.leave-mesh.ensures.mesh_refused) c.leave-mesh.new.regions (on_err (frees c.leave-mesh.new.regions ≡ frees c.deref_mut.result.now) c.leave-mesh.result.1 c.in-Err.cause c.in-Err.is c.leave-mesh.ensures.back) c.put-in-Err.ensures (with_items_is c.self.inside.regions c.leave-mesh.new.regions (let a = c.leave-mesh.auto.regions in let b = ap length c.deref_mut.ensures.value in let d = c.self.inside.regions.ok in omega (arith, a, b, d))) refl refl) ∙ c.self.view_is
 
 pub returns-in-Err-clause-apps : goal.returns-in-Err-clause-apps
 returns-in-Err-clause-apps c = subst AreApps (sym (stays_same c.self.inside c.in-Some-take.mesh (sym c.take.ensures.value ∙ c.in-Some-take.is) c.self.invariant c.args.number c.in-Some.at (ap (λ (x : Host). position (λ (app : LoadedApp). app.number == c.args.number) x.apps) c.self.view_is ∙ (sym c.place_of.ensures ∙ c.in-Some.is)) c.index.result.now c.index.ensures c.deref_mut.result.now c.deref_mut.ensures.value (record { mesh = c.put-in-Err.new.held; regions = with_items c.self.inside.regions c.leave-mesh.new.regions; apps = c.self.inside.apps; packets = c.self.inside.packets; taken = c.self.inside.taken }) c.leave-mesh.result.0 (on_err (c.leave-mesh.result.0 ≡ c.in-Some-take.mesh) c.leave-mesh.result.1 c.in-Err.cause c.in-Err.is c.leave-mesh.ensures.mesh_refused) c.leave-mesh.new.regions (on_err (frees c.leave-mesh.new.regions ≡ frees c.deref_mut.result.now) c.leave-mesh.result.1 c.in-Err.cause c.in-Err.is c.leave-mesh.ensures.back) c.put-in-Err.ensures (with_items_is c.self.inside.regions c.leave-mesh.new.regions (let a = c.leave-mesh.auto.regions in let b = ap length c.deref_mut.ensures.value in let d = c.self.inside.regions.ok in omega (arith, a, b, d))) refl refl)) c.self.invariant.apps
