@@ -17,7 +17,7 @@ use Rattle.job_gen.specs.Generated.{vertex_of, net_of}
 use Rattle.job_gen.proofs.NameLemmas.{AreBelow, absent, found, named}
 use Rattle.job_gen.proofs.ListReading.{items_clean, items_are}
 
-within : (low high n : ℕ) → low ≤ n → n ≤ high → is_within low high n ≡ true
+pub within : (low high n : ℕ) → low ≤ n → n ≤ high → is_within low high n ≡ true
 within low high n above below = and_from _ _ (le-leb low n above) (le-leb n high below)
 
 -- ---- vertices

@@ -1,14 +1,14 @@
 -- A generated job is read without a fault, as its definition gives it.
 use Rattle.std.proofs.Common.{◌≡◌, ℕ, ◌+◌, ◌-◌, ◌<◌, ◌≤◌, List, [], ◌∷◌, length, map, codes, decimal, Bool, true, Some, None, if◌then◌else◌, slice_index, refl, ap, ◌∙◌, arith}
 use Rattle.std.specs.Prelude.{unwrap_or}
-use Rattle.std.proofs.lemmas.Bool.{le-leb, and_from}
+use Rattle.std.proofs.lemmas.Bool.{le-leb}
 use Rattle.std.proofs.lemmas.List.{length-map}
 use Rattle.machine_desc.specs.Live.{live_count_of}
 use Rattle.app_graph.specs.declared.graphs.Vertex.{Vertex}
 use Rattle.app_graph.specs.declared.graphs.Net.{Net}
 use Rattle.app_graph.specs.RunPart.{keys_of}
 use Rattle.job_text.specs.declared.faults.JobFault.TheVariants.{TooMany}
-use Rattle.job_text.specs.Fields.{is_within, is_name, count_faults}
+use Rattle.job_text.specs.Fields.{is_name, count_faults}
 use Rattle.job_text.proofs.Items.{list_of-items_of}
 use Rattle.job_readers.specs.Items.{items_faults}
 use Rattle.job_readers.specs.Members.{number_member_faults, number_member, optional_number, flag_member_faults, flag_member, list_member_faults, long_list_member_faults, list_member}
@@ -29,7 +29,7 @@ use Rattle.job_gen.specs.Board.{board}
 use Rattle.job_gen.specs.Generated.{vertex_of, net_of, packet_of, graph_of, run_of, job_of_drawn, gen_job}
 use Rattle.job_gen.proofs.NameLemmas.{found, named}
 use Rattle.job_gen.proofs.ListReading.{items_clean, items_are, numbered_are, length-numbered, following_clean}
-use Rattle.job_gen.proofs.GraphReading.{vertex_clean, vertex_is, vertex_named, net_clean, net_is, net_named}
+use Rattle.job_gen.proofs.GraphReading.{within, vertex_clean, vertex_is, vertex_named, net_clean, net_is, net_named}
 use Rattle.job_gen.proofs.DrawnLaws.{is_drawn}
 
 -- a list that is no longer than its limit
@@ -64,9 +64,6 @@ keys_numbered : (k : ℕ) (nets : List DrawnNet) → map (λ (n : Net). n.keys) 
 unfolding numbered
 keys_numbered k [] = refl
 keys_numbered k (n ∷ nets) = rw (net_keys k n, keys_numbered (k + 1) nets) refl
-
-within : (low high n : ℕ) → low ≤ n → n ≤ high → is_within low high n ≡ true
-within low high n above below = and_from _ _ (le-leb low n above) (le-leb n high below)
 
 module _ (job : Drawn) (drawn : IsDrawn job) where
   vertices_clean : (path : List ℕ) → vertices_faults 1 path (graph_data job) ≡ []

@@ -37,10 +37,12 @@ const DEAD_CHIPS: [(u8, u8); 16] = [
 pub fn job_value(alloc: Global, job: &Drawn) -> Result<Value, AllocError>
     ensures { IfOk result (λ v. view v ≡ job_data job.now) }
 {
-    let graph = graph_value(alloc, job)?;
-    let machine = machine_value(alloc)?;
-    let run = run_value(alloc, job.packets.as_slice())?;
-    json!(in alloc; {"graph": graph, "machine": machine, "run": run, "version": 1u32})
+    json!(in alloc; {
+        "graph": graph_value(alloc, job)?,
+        "machine": machine_value(alloc)?,
+        "run": run_value(alloc, job.packets.as_slice())?,
+        "version": 1u32
+    })
 }
 
 // The graph: nets and vertices.
@@ -48,9 +50,10 @@ pub fn job_value(alloc: Global, job: &Drawn) -> Result<Value, AllocError>
 fn graph_value(alloc: Global, job: &Drawn) -> Result<Value, AllocError>
     ensures { IfOk result (λ v. view v ≡ graph_data job.now) }
 {
-    let nets = nets_value(alloc, job.nets.as_slice())?;
-    let vertices = vertices_value(alloc, job.sdrams.as_slice())?;
-    json!(in alloc; {"nets": nets, "vertices": vertices})
+    json!(in alloc; {
+        "nets": nets_value(alloc, job.nets.as_slice())?,
+        "vertices": vertices_value(alloc, job.sdrams.as_slice())?
+    })
 }
 
 // The machine: a board of 48 chips.
@@ -122,10 +125,12 @@ fn nets_value(alloc: Global, nets: &[DrawnNet]) -> Result<Value, AllocError>
 fn net_value(alloc: Global, i: usize, net: &DrawnNet) -> Result<Value, AllocError>
     ensures { IfOk result (λ v. view v ≡ net_data i net.now) }
 {
-    let name = format!(in alloc; "n{i}")?;
-    let source = vertex_named(alloc, net.source)?;
-    let targets = targets_value(alloc, net.targets.as_slice())?;
-    json!(in alloc; {"keys": net.keys, "name": name, "source": source, "targets": targets})
+    json!(in alloc; {
+        "keys": net.keys,
+        "name": format!(in alloc; "n{i}")?,
+        "source": vertex_named(alloc, net.source)?,
+        "targets": targets_value(alloc, net.targets.as_slice())?
+    })
 }
 
 fn targets_value(alloc: Global, targets: &[u32]) -> Result<Value, AllocError>
@@ -168,6 +173,5 @@ fn packet_value(alloc: Global, packet: DrawnPacket) -> Result<Value, AllocError>
         index,
         payload,
     } = packet;
-    let name = format!(in alloc; "n{net}")?;
-    json!(in alloc; {"index": index, "net": name, "payload": payload})
+    json!(in alloc; {"index": index, "net": format!(in alloc; "n{net}")?, "payload": payload})
 }

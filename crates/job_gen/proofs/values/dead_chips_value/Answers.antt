@@ -12,9 +12,11 @@ loop-x-init c = (ap (map view) c.new-values.ensures.items, refl)
 
 pub loop-x-preserved : goal.loop-x-preserved
 unfolding dead_pairs
-loop-x-preserved c =
-    (mapped_push pair_data c.loop-x.x-index dead_pairs _ c.loop-x.values.items c.push.new.self.items c.in_ok-value.value
-    c.loop-x-test.true c.in_ok-push.ensures.items c.in_ok-value.ensures c.loop-x.invariant.0, refl)
+loop-x-preserved c = (
+  mapped_push pair_data c.loop-x.x-index dead_pairs _ c.loop-x.values.items c.push.new.self.items c.in_ok-value.value
+      c.loop-x-test.true c.in_ok-push.ensures.items c.in_ok-value.ensures c.loop-x.invariant.0,
+  refl,
+)
 
 pub returns : goal.returns
 unfolding dead_pairs
