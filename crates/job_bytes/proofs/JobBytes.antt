@@ -1,5 +1,5 @@
 -- Which input bytes are, and what a source that tells its bytes gave.
-use Rattle.std.proofs.Common.{◌≡◌, ℕ, ◌<◌, ◌≤◌, List, [], ◌++◌, length, nat_lt, Bool, true, false, Option, Some, None, Result, Ok, Err, IfOk, IfErr, refl, sym, ap, ◌∙◌, subst, arith}
+use Rattle.std.proofs.Common.{◌≡◌, ℕ, ◌<◌, ◌≤◌, List, [], ◌++◌, length, nat_lt, Bool, true, false, Option, Some, None, Result, Ok, Err, IfErr, refl, sym, ap, ◌∙◌, subst, arith}
 use Rattle.std.specs.Result.{IsErr, IsErrAnd}
 use Rattle.std.proofs.lemmas.Bool.{cond-true, cond-false, lt-ltb, ltb-true}
 use Rattle.std.proofs.lemmas.List.{append-nil, length-append}
@@ -51,13 +51,3 @@ told_long kind (Some b) (Some r) bytes long told =
 pub err_carried : {A E : Type 0} (r : Result A E) (e : E) (P : E → Type 0) → IsErr r × IsErrAnd r (λ f. f ≡ e) → P e → IfErr r P
 err_carried (Ok x) e P carried has = tt
 err_carried (Err f) e P carried has = subst P (sym carried.1) has
-
--- what each error has, each error has that has more
-pub err_weaker : {A E : Type 0} (r : Result A E) (P Q : E → Type 0) → ((e : E) → P e → Q e) → IfErr r P → IfErr r Q
-err_weaker (Ok x) P Q more has = has
-err_weaker (Err e) P Q more has = more e has
-
--- where a value is what two readings give, and they are one, it is what the other gives
-pub ok_carried : {A E : Type 0} (r : Result A E) (x y : Result A E) → y ≡ x → IfOk r (λ a. x ≡ Ok a) → IfOk r (λ a. y ≡ Ok a)
-ok_carried (Ok a) x y same is = same ∙ is
-ok_carried (Err e) x y same is = tt

@@ -3,7 +3,7 @@ use Rattle.refusals.specs.declared.causes.Refusal.{Refusal}
 use Rattle.refusals.specs.declared.causes.Refusal.TheVariants as refusals
 use Rattle.job_bytes.specs.Inputs.{Reading, HasNoInput, not_read_as, no_memory}
 use Rattle.job_bytes.specs.Kinds.{input_of, input_in}
-use Rattle.job_bytes.proofs.JobBytes.{err_weaker}
+use Rattle.std.proofs.lemmas.Result.{IfErr-weaker}
 use Rattle.job_bytes.proofs.reading.read_input.Goals as goal
 
 pub returns-in-Ok-clause-err : goal.returns-in-Ok-clause-err
@@ -16,7 +16,7 @@ returns-in-Ok-clause-err g c =
       faults' = g.S.Source.faults c.read_all.new.src;
     }
     in
-    err_weaker c.input_of_bytes.result (λ (r : Refusal). (input_in kind c.as_slice.result.now ≡ Err r) ⊎ (r ≡ refusals.Memory)) (HasNoInput (input_in kind) reading)
+    IfErr-weaker c.input_of_bytes.result (λ (r : Refusal). (input_in kind c.as_slice.result.now ≡ Err r) ⊎ (r ≡ refusals.Memory)) (HasNoInput (input_in kind) reading)
     (λ r why. elim why [
       | inl is ↦ not_read_as c.in-Ok.bytes c.in-Ok.ensures.all (subst (λ b. input_in kind b ≡ Err r) c.as_slice.ensures is)
       | inr memory ↦ no_memory (c.in-Ok.bytes, c.in-Ok.ensures.all.gives) memory
