@@ -29,8 +29,8 @@ pub fn line_of(alloc: Global, refusal: &Refusal) -> Result<Seq<u8>, Memory>
         Refusal::TooLong => fixed(alloc, "bad job: too long\n"),
         Refusal::NotJson => fixed(alloc, "bad job: not json\n"),
         Refusal::Job(fault) => fault_line(alloc, fault),
-        Refusal::NoRoom(vertex) => no_room_line(alloc, vertex.as_str()),
-        Refusal::KeysOut(net) => keys_out_line(alloc, net.as_str()),
+        Refusal::NoRoom(vertex) => line_about(alloc, "no room:", vertex.as_str()),
+        Refusal::KeysOut(net) => line_about(alloc, "keys out:", net.as_str()),
         Refusal::CutOff(net, target) => cut_off_line(alloc, net.as_str(), *target),
         Refusal::TableLong(chip, table) => table_long_line(alloc, *chip, table.kept.len()),
         Refusal::Memory => fixed(alloc, OUT_OF_MEMORY),
@@ -48,44 +48,21 @@ fn fault_line(alloc: Global, fault: &JobFault) -> Result<Seq<u8>, Memory>
     ensures { IfOk result (λ line. line ≡ line_of_fault fault.now) }
 {
     match fault {
-        JobFault::Shape(path) => shape_line(alloc, path.as_str()),
-        JobFault::Range(path) => range_line(alloc, path.as_str()),
-        JobFault::UnknownName(path) => unknown_name_line(alloc, path.as_str()),
-        JobFault::DoubleName(path) => double_name_line(alloc, path.as_str()),
+        JobFault::Shape(path) => line_about(alloc, "bad job: shape", path.as_str()),
+        JobFault::Range(path) => line_about(alloc, "bad job: range", path.as_str()),
+        JobFault::UnknownName(path) => line_about(alloc, "bad job: unknown name", path.as_str()),
+        JobFault::DoubleName(path) => line_about(alloc, "bad job: double name", path.as_str()),
         JobFault::TooMany(path, count) => too_many_line(alloc, path.as_str(), *count),
-        JobFault::Clash(path) => clash_line(alloc, path.as_str()),
+        JobFault::Clash(path) => line_about(alloc, "bad job: clash", path.as_str()),
     }
 }
 
-fn shape_line(alloc: Global, path: &str) -> Result<Seq<u8>, Memory>
-    ensures { IfOk result (λ text. text ≡ line (codes "bad" ∷ codes "job:" ∷ codes "shape" ∷ path.now ∷ [])) }
+// What is wrong, and the path or the name of what is wrong.
+fn line_about(alloc: Global, what: &str, name: &str) -> Result<Seq<u8>, Memory>
+    ensures { IfOk result (λ text. text ≡ line (what.now ∷ name.now ∷ [])) }
 {
     let mut text = String::new(alloc);
-    writeln!(text, "bad job: shape {path}")?;
-    Ok(Seq::from_vec(text.into_bytes()))
-}
-
-fn range_line(alloc: Global, path: &str) -> Result<Seq<u8>, Memory>
-    ensures { IfOk result (λ text. text ≡ line (codes "bad" ∷ codes "job:" ∷ codes "range" ∷ path.now ∷ [])) }
-{
-    let mut text = String::new(alloc);
-    writeln!(text, "bad job: range {path}")?;
-    Ok(Seq::from_vec(text.into_bytes()))
-}
-
-fn unknown_name_line(alloc: Global, path: &str) -> Result<Seq<u8>, Memory>
-    ensures { IfOk result (λ text. text ≡ line (codes "bad" ∷ codes "job:" ∷ codes "unknown" ∷ codes "name" ∷ path.now ∷ [])) }
-{
-    let mut text = String::new(alloc);
-    writeln!(text, "bad job: unknown name {path}")?;
-    Ok(Seq::from_vec(text.into_bytes()))
-}
-
-fn double_name_line(alloc: Global, path: &str) -> Result<Seq<u8>, Memory>
-    ensures { IfOk result (λ text. text ≡ line (codes "bad" ∷ codes "job:" ∷ codes "double" ∷ codes "name" ∷ path.now ∷ [])) }
-{
-    let mut text = String::new(alloc);
-    writeln!(text, "bad job: double name {path}")?;
+    writeln!(text, "{what} {name}")?;
     Ok(Seq::from_vec(text.into_bytes()))
 }
 
@@ -94,30 +71,6 @@ fn too_many_line(alloc: Global, path: &str, count: u64) -> Result<Seq<u8>, Memor
 {
     let mut text = String::new(alloc);
     writeln!(text, "bad job: too many {path} {count}")?;
-    Ok(Seq::from_vec(text.into_bytes()))
-}
-
-fn clash_line(alloc: Global, path: &str) -> Result<Seq<u8>, Memory>
-    ensures { IfOk result (λ text. text ≡ line (codes "bad" ∷ codes "job:" ∷ codes "clash" ∷ path.now ∷ [])) }
-{
-    let mut text = String::new(alloc);
-    writeln!(text, "bad job: clash {path}")?;
-    Ok(Seq::from_vec(text.into_bytes()))
-}
-
-fn no_room_line(alloc: Global, vertex: &str) -> Result<Seq<u8>, Memory>
-    ensures { IfOk result (λ text. text ≡ line (codes "no" ∷ codes "room:" ∷ vertex.now ∷ [])) }
-{
-    let mut text = String::new(alloc);
-    writeln!(text, "no room: {vertex}")?;
-    Ok(Seq::from_vec(text.into_bytes()))
-}
-
-fn keys_out_line(alloc: Global, net: &str) -> Result<Seq<u8>, Memory>
-    ensures { IfOk result (λ text. text ≡ line (codes "keys" ∷ codes "out:" ∷ net.now ∷ [])) }
-{
-    let mut text = String::new(alloc);
-    writeln!(text, "keys out: {net}")?;
     Ok(Seq::from_vec(text.into_bytes()))
 }
 
