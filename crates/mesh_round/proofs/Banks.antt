@@ -6,7 +6,7 @@ use Rattle.std.proofs.lemmas.Bool.{cases_Bool, cond-false, ne_eqb}
 use Rattle.std.proofs.lemmas.List.{length-map}
 use Rattle.std.proofs.lemmas.List.Elements.{All-contains, All-map}
 use Rattle.std.proofs.lemmas.List.Sorted.{length_permutation}
-use Rattle.std.proofs.lemmas.Option.{slice_get_within, get_or_from_slice_get}
+use Rattle.std.proofs.lemmas.Option.{slice_get_within, get_or_from_slice_get, same_Some}
 use Rattle.list_laws.specs.Gathered.{gathered}
 use Rattle.list_laws.proofs.Members.{Among, among_contains, contains_among, Contains-unmap}
 use Rattle.list_laws.proofs.Pairs.{All-left}
@@ -27,7 +27,7 @@ use Rattle.chip_node.specs.Numbers.{numbers_of}
 use Rattle.mesh_core.specs.State.{Setup, Queue, core, queue_at}
 use Rattle.mesh_run.specs.Casting.{Pair, IsVertexAt}
 use Rattle.round_flow.specs.RoundFlow.{held_in, at_port, of_chip, sent_on}
-use Rattle.mesh_round.proofs.Lists.{place_in, some_same, front_of, gathered_agree, filter_none, eqb-flip}
+use Rattle.mesh_round.proofs.Lists.{place_in, front_of, gathered_agree, filter_none, eqb-flip}
 use Rattle.mesh_round.proofs.Spreading.{dealt, all_dealt, among_own}
 use Rattle.mesh_round.proofs.TheFlow.{Round, flow_of, ports_many}
 use Rattle.mesh_round.proofs.Links.{LinkOf, link_core, left_is, entered_is, tx_is, rx_is}
@@ -155,7 +155,7 @@ module _ (r : Round) (c : Chip) (after : Pair) (t : Turn r c after) where
       }
 
   pub inject_place : (l : LinkOf r (at_port u c Local)) → t.before.bank.inject.link ≡ l.place
-  inject_place l = t.cast.bank.place ∙ some_same (queue_at u.machine c Local) l.place l.is_place
+  inject_place l = t.cast.bank.place ∙ same_Some (queue_at u.machine c Local) l.place l.is_place
 
   pub injected_is : (l : LinkOf r (at_port u c Local)) → (flow_of r).entered (at_port u c Local) ≡ map (λ (p : ℕ × McCopy). p.1) sent
   injected_is l = entered_is r (at_port u c Local) l ∙ (sent_here (at_port u c Local) l (inject_place l)).sent_all
@@ -205,7 +205,7 @@ module _ (r : Round) (c : Chip) (after : Pair) (t : Turn r c after) where
   -- ---- what came
 
   core_place : (v : ℕ) (l : LinkOf r (core v)) → ports_many u + v ≡ l.place
-  core_place v l = some_same (ports_many u + v) l.place l.is_place
+  core_place v l = same_Some (ports_many u + v) l.place l.is_place
 
   -- a vertex's end came up as the end of its link
   pub old_core_rx : (v : ℕ) (l : LinkOf r (core v)) (w : VertexTurn v) → w.old.end.rx ≡ l.old.rx

@@ -1,5 +1,7 @@
 -- Nothing enters a queue of a dead chip or port: no pair has the sending end of its link.
 use Rattle.std.proofs.Common.{◌≡◌, ℕ, ◌+◌, false, List, [], ◌++◌, Some, None, sym, ap, ap₂, ◌∙◌, subst, arith, inl, inr}
+use Rattle.list_laws.proofs.Places.{both_none}
+use Rattle.std.proofs.lemmas.Option.{same_Some}
 use Rattle.std.proofs.lemmas.List.Elements.{All-contains}
 use Rattle.list_laws.proofs.Members.{Contains-unmap}
 use Rattle.list_laws.proofs.Tests.{answers_none}
@@ -22,7 +24,6 @@ use Rattle.mesh_run.specs.Lending.{place_of, place_behind}
 use Rattle.round_flow.specs.RoundFlow.{held_in, at_port}
 use Rattle.round_flow.proofs.Ends.{leads, by_link, to_vertex, to_none, one_port}
 use Rattle.mesh_round.proofs.Links.{link_input, entered_is}
-use Rattle.mesh_round.proofs.Lists.{some_same, both_none}
 use Rattle.mesh_round.proofs.Senders.{in_order}
 use Rattle.mesh_round.proofs.TheFlow.{Round, flow_of, ports_many}
 use Rattle.mesh_round.proofs.Turns.{turn_with}
@@ -40,11 +41,11 @@ module _ (r : Round) where
   of_output e c o port live inside is = elim (leads u e o) [
     | by_link d far out lives leads_to at ↦
         let in_e = live_inside u.machine e live in
-        let place : queue_at u.machine far (ByLink (opposite_of d)) ≡ queue_at u.machine c port = some_same (queue_at u.machine far (ByLink (opposite_of d))) (queue_at u.machine c port) (sym (ap (place_of u) at) ∙ is) in
+        let place : queue_at u.machine far (ByLink (opposite_of d)) ≡ queue_at u.machine c port = same_Some (queue_at u.machine far (ByLink (opposite_of d))) (queue_at u.machine c port) (sym (ap (place_of u) at) ∙ is) in
         let one = one_port u.machine far c (ByLink (opposite_of d)) port (far_inside u.machine e far d in_e leads_to) inside place in
         by_wire (opposite_of d) (sym one.1) (subst (λ (x : Chip). IsLiveLink u.machine x (opposite_of d)) one.0 (live_back u.machine e far d leads_to lives))
     | to_vertex v dead stands at ↦
-        let place : ports_many u + v ≡ queue_at u.machine c port = some_same (ports_many u + v) (queue_at u.machine c port) (sym (ap (place_of u) at) ∙ is) in
+        let place : ports_many u + v ≡ queue_at u.machine c port = same_Some (ports_many u + v) (queue_at u.machine c port) (sym (ap (place_of u) at) ∙ is) in
         absurd (omega (arith, place, queue_at-below u.machine c port inside))
     | to_none none at ↦ absurd (nothing (sym (ap (place_of u) at) ∙ is))
   ]
@@ -67,7 +68,7 @@ module _ (r : Round) where
   none_entered : (c : Chip) (port : Port) → IsInside u.machine c → (Feeds c port → ⊥) → (flow_of r).entered (at_port u c port) ≡ []
   none_entered c port inside none =
       let l = link_input r (queue_at u.machine c port) (queue_at-below u.machine c port inside) in
-      let place : queue_at u.machine c port ≡ l.place = some_same (queue_at u.machine c port) l.place l.is_place in
+      let place : queue_at u.machine c port ≡ l.place = same_Some (queue_at u.machine c port) l.place l.is_place in
       let same = r.played.left.txs l.place l.old l.new l.stood l.stands (λ h. none (feeds c port inside (subst (HoldsTx r.played.played) (sym place) h))) in
       entered_is r (at_port u c port) l ∙ (ap (λ (x : Tx). (sending x).sent) same ∙ l.up.tx_new.sent)
 

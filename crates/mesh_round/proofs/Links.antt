@@ -3,7 +3,7 @@ use Rattle.std.proofs.Common.{◌≡◌, ℕ, ◌+◌, ◌<◌, ◌≤◌, List,
 use Rattle.std.specs.List.{slice_get}
 use Rattle.std.proofs.lemmas.Bool.{cases_Bool, cases_lt, cond-true, cond-false, lt-ltb, ltb-true, ltb-false}
 use Rattle.std.proofs.lemmas.List.{length-append, get_or_append_left, get_or-append-add, get_or_past}
-use Rattle.std.proofs.lemmas.Option.{get_or_from_slice_get, slice_get_past}
+use Rattle.std.proofs.lemmas.Option.{get_or_from_slice_get, slice_get_past, same_Some}
 use Rattle.list_laws.proofs.Places.{slice_get_there, slice_get-mapped}
 use Rattle.spin_base.specs.declared.copies.McCopy.{McCopy}
 use Rattle.link_queue.specs.declared.links.Link.{Link}
@@ -16,15 +16,14 @@ use Rattle.mesh_run.specs.Casting.{IsTxAt, IsRxAt}
 use Rattle.mesh_run.specs.Lending.{place_of}
 use Rattle.mesh_run.specs.Queues.{HasPlaces, IsDown, IsUp}
 use Rattle.round_flow.specs.RoundFlow.{held_in}
-use Rattle.mesh_round.proofs.Lists.{some_same}
 use Rattle.mesh_round.proofs.TheFlow.{Round, ports_many, link_at, told, flow_of, moments}
 
 -- the end at a place, where the link there is known
 pub tx_is : (ends : List LinkEnds) (e : OutEnd) (place : ℕ) (x : LinkEnds) → slice_get ends place ≡ Some x → e.link ≡ place → IsTxAt ends e → e.tx ≡ x.tx
-tx_is ends e place x at is h = h.is_end ∙ ap (λ (y : LinkEnds). y.tx) (some_same h.of x (sym h.stands ∙ (ap (slice_get ends) is ∙ at)))
+tx_is ends e place x at is h = h.is_end ∙ ap (λ (y : LinkEnds). y.tx) (same_Some h.of x (sym h.stands ∙ (ap (slice_get ends) is ∙ at)))
 
 pub rx_is : (ends : List LinkEnds) (e : InEnd) (place : ℕ) (x : LinkEnds) → slice_get ends place ≡ Some x → e.link ≡ place → IsRxAt ends e → e.rx ≡ x.rx
-rx_is ends e place x at is h = h.is_end ∙ ap (λ (y : LinkEnds). y.rx) (some_same h.of x (sym h.stands ∙ (ap (slice_get ends) is ∙ at)))
+rx_is ends e place x at is h = h.is_end ∙ ap (λ (y : LinkEnds). y.rx) (same_Some h.of x (sym h.stands ∙ (ap (slice_get ends) is ∙ at)))
 
 module _ (r : Round) where
   abbrev u : Setup
@@ -69,7 +68,7 @@ module _ (r : Round) where
       subst (IsDown new.0) after (subst (λ (e : LinkEnds). IsDown e (get_or (r.n.inputs ++ r.n.cores) place [])) same_new down) in
       let link : LinkEnds → Link = λ e. e.link in
       let links : new.0.link ≡ old.0.link =
-      some_same new.0.link old.0.link
+      same_Some new.0.link old.0.link
       (sym (slice_get-mapped link r.played.back place new.0 new.1) ∙ (ap (λ (l : List Link). slice_get l place) r.played.left.links ∙ slice_get-mapped link r.played.up place old.0 old.1)) in
       record {
         place = place;

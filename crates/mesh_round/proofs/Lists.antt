@@ -133,11 +133,6 @@ front_of {X} zs xs ys is =
     let long : length zs - length ys ≡ length xs = (let a = ap length is in let b = length-append xs ys in omega (arith, a, b)) in
     ap (λ k. take k zs) long ∙ (ap (λ (l : List X). take (length xs) l) is ∙ take-append_seam xs ys)
 
--- two joined lists of which nothing is there
-pub both_none : {X : Type 0} (xs ys : List X) → xs ++ ys ≡ [] → (xs ≡ []) × (ys ≡ [])
-both_none [] ys none = (refl, none)
-both_none (x ∷ xs) ys none = cc
-
 -- ---- what is made of each item and its place
 
 pub gathered_agree : {X Y : Type 0} (f g : ℕ → X → List Y) (a : ℕ) (xs : List X) → ((i : ℕ) (x : X) → slice_get xs i ≡ Some x → f (a + i) x ≡ g (a + i) x) → gathered f a xs ≡ gathered g a xs
@@ -177,9 +172,6 @@ among_flat {X} {Y} g y (x ∷ xs) a = elim (among_either y (g x) (flat_map g xs)
 pub sum_ones : {X : Type 0} (xs : List X) → sum_by (λ x. 1) xs ≡ length xs
 sum_ones [] = refl
 sum_ones (x ∷ xs) = let head = sum_by-cons (λ y. 1) x xs in let rest = sum_ones xs in omega arith
-
-pub some_same : {X : Type 0} (x y : X) → Some x ≡ Some y → x ≡ y
-some_same x y same = cc
 
 pub filter_none : {X : Type 0} (p : X → Bool) (xs : List X) → ((x : X) → Among x xs → p x ≡ false) → filter p xs ≡ []
 filter_none p [] none = refl

@@ -1,5 +1,5 @@
 -- Where a queue holds a copy or a vertex has one unsent, a round with turns moves a copy.
-use Rattle.std.proofs.Common.{◌≡◌, ◌≢◌, ℕ, ◌+◌, ◌*◌, ◌/◌, ◌%◌, ◌<◌, ◌≤◌, true, false, List, [], ◌∷◌, ◌++◌, length, refl, sym, ap, ap₂, ◌∙◌, subst, arith, inl, inr}
+use Rattle.std.proofs.Common.{◌≡◌, ◌≢◌, ℕ, ◌*◌, ◌/◌, ◌%◌, ◌<◌, ◌≤◌, true, false, List, [], ◌∷◌, ◌++◌, length, refl, sym, ap, ap₂, ◌∙◌, subst, arith, inl, inr}
 use Rattle.std.specs.List.{slice_get, slice_index_or}
 use Rattle.std.proofs.lemmas.Bool.{cases_Bool, cases_lt}
 use Rattle.std.proofs.lemmas.List.{get_or_past, length-append}
@@ -29,7 +29,7 @@ use Rattle.round_flow.proofs.Entered.{numbered_port}
 use Rattle.mesh_round.specs.OnThreads.{HasSome}
 use Rattle.mesh_round.proofs.Banks.{vertex_spot, sender_at, receiver_at, sent_is, collected_is, old_core_rx, inject_place, sent, got}
 use Rattle.mesh_round.proofs.Links.{LinkOf, link_input, link_core, tx_is}
-use Rattle.mesh_round.proofs.Lists.{both_none}
+use Rattle.list_laws.proofs.Places.{both_none}
 use Rattle.mesh_round.proofs.Routers.{port_end, old_rx, left_at, taken}
 use Rattle.mesh_round.proofs.Services.{among_taken}
 use Rattle.mesh_round.proofs.Spreading.{among_own}

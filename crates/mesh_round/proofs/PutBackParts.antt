@@ -68,11 +68,6 @@ dead_behind s mesh c o dead = elim (leads s.setup c o) [
 -- ---- what it leaves as it is
 
 -- the dump records change no queue
-pub same_room : (s : State) (rest : List DumpRec) (to : Queue) → has_room_behind (record s { dumped = rest }) to ≡ has_room_behind s to
-same_room s rest (input i) = refl
-same_room s rest (core v) = refl
-same_room s rest nowhere = refl
-
 same_held : (s : State) (rest : List DumpRec) (q : Queue) → held_in (record s { dumped = rest }) q ≡ held_in s q
 same_held s rest (input i) = refl
 same_held s rest (core v) = refl

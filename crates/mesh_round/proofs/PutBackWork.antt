@@ -10,6 +10,7 @@ use Rattle.spin_base.specs.declared.copies.McCopy.{McCopy}
 use Rattle.spin_base.specs.declared.copies.DumpRec.{DumpRec}
 use Rattle.spin_base.specs.Links.{opposite_of}
 use Rattle.mesh_core.specs.declared.places.Did.TheVariants.{Moved, Idle}
+use Rattle.mesh_core.proofs.EventsLaw.{same_room}
 use Rattle.mesh_core.specs.State.{State, Queue, behind}
 use Rattle.mesh_core.specs.Step.{onward, push_behind}
 use Rattle.mesh_core.specs.PutBack.{put_back_of, after_put_back}
@@ -21,7 +22,7 @@ use Rattle.mesh_core.proofs.Heavy.{one_heavy, heavy_grows}
 use Rattle.mesh_core.proofs.Moves.{mark, Crosses, dumped_out}
 use Rattle.round_flow.specs.Work.{to_go, weight_of, work_in}
 use Rattle.mesh_round.specs.Reinjecting.{put_back_answer}
-use Rattle.mesh_round.proofs.PutBackParts.{IsBack, is_back, same_room}
+use Rattle.mesh_round.proofs.PutBackParts.{IsBack, is_back}
 
 -- ---- weights
 

@@ -1,5 +1,5 @@
 -- A round on threads is a round.
-use Rattle.std.proofs.Common.{◌≡◌, ℕ, ◌+◌, ◌*◌, ◌≤◌, List, ◌++◌, map, length, Option, None, refl, sym, ap, ap₂, ◌∙◌, subst, arith, inl, inr, count_by}
+use Rattle.std.proofs.Common.{◌≡◌, ℕ, ◌*◌, ◌≤◌, List, ◌++◌, map, length, Option, None, refl, sym, ap, ap₂, ◌∙◌, subst, arith, inl, inr, count_by}
 use Rattle.std.specs.List.{All, filter}
 use Rattle.std.specs.List.Sorted.{IsPermutation}
 use Rattle.std.proofs.Math.Nat.{mul-le-mul_left}

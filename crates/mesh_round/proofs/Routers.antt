@@ -51,8 +51,8 @@ use Rattle.round_flow.proofs.Entered.{has_bit}
 use Rattle.round_flow.proofs.Ends.{leads, by_link, to_vertex, to_none}
 use Rattle.round_flow.proofs.Sums.{sum_agree}
 use Rattle.mesh_core.proofs.Ways.{vertex_behind_stands}
-use Rattle.std.proofs.lemmas.Option.{slice_get_within}
-use Rattle.mesh_round.proofs.Lists.{place_in, counted, some_same, gathered_agree, filter_none}
+use Rattle.std.proofs.lemmas.Option.{slice_get_within, same_Some}
+use Rattle.mesh_round.proofs.Lists.{place_in, counted, gathered_agree, filter_none}
 use Rattle.mesh_round.proofs.TheFlow.{Round, flow_of}
 use Rattle.mesh_round.proofs.Links.{LinkOf, link_input, link_core, left_is, tx_is, rx_is}
 use Rattle.mesh_round.proofs.Services.{port_once, port_among, among_taken, taken_at_all, output_given, served_from}
@@ -130,7 +130,7 @@ module _ (r : Round) (c : Chip) (after : Pair) (t : Turn r c after) where
 
   -- where the link of a port's queue stands
   port_place : (port : Port) (l : LinkOf r (at_port u c port)) → queue_at u.machine c port ≡ l.place
-  port_place port l = some_same (queue_at u.machine c port) l.place l.is_place
+  port_place port l = same_Some (queue_at u.machine c port) l.place l.is_place
 
   -- a port's end came up as the end of its link
   pub old_rx : (port : Port) (l : LinkOf r (at_port u c port)) (e : PortEnd port) → e.old.1.rx ≡ l.old.rx
@@ -199,7 +199,7 @@ module _ (r : Round) (c : Chip) (after : Pair) (t : Turn r c after) where
       let beside = AllZip-at_first (ServesAt t.before.router.patience served) t.before.router.outputs.items after.router.outputs.items t.flow.router.serves.outputs at.0 found.0 at.1 in
       let was = All-at (λ (e : Out × OutEnd). (place_behind u c e.0 ≡ Some e.1.link) × IsTxAt r.played.up e.1) t.before.router.outputs.items at.0 found.0 t.cast.router.outputs at.1 in
       let now = All-at (λ (e : Out × OutEnd). (place_behind u c e.0 ≡ Some e.1.link) × IsTxAt r.played.back e.1) after.router.outputs.items at.0 beside.0 t.back.router.outputs beside.1 in
-      let place : found.0.1.link ≡ l.place = some_same found.0.1.link l.place (sym was.0 ∙ (ap (place_behind u c) found.2 ∙ l.is_place)) in
+      let place : found.0.1.link ≡ l.place = same_Some found.0.1.link l.place (sym was.0 ∙ (ap (place_behind u c) found.2 ∙ l.is_place)) in
       subst (λ (x : Out). SentBy x (behind u c o) l) found.2 (sent_at (behind u c o) l found.0 beside.0 beside.2 place was.1 now.1)
 
   -- nothing was sent by an output behind which no queue stands

@@ -150,10 +150,7 @@ output_given entries port k o a small = elim (cases_Bool (k.hop == last_hop)) [
 ]
   where
     below : (h : ℕ) → h ≤ last_hop → (h == last_hop) ≡ false → h < last_hop
-    below h small more = omega (arith, small, apart more)
-      where
-        apart : (h == last_hop) ≡ false → h ≡ last_hop → ⊥
-        apart other same = answers_none (h == last_hop) (ap (λ i. i == last_hop) same) other
+    below h small more = grind arith
 
 -- what was served is an output of a copy that was taken
 pub served_from : (entries : List Entry) (taken : List (Port × McCopy)) (served : List Service) → map {B = Out × McCopy} (λ s. (s.out, s.copy)) served ≡ owed entries taken →

@@ -2,7 +2,7 @@
 use Rattle.std.proofs.Common.{◌≡◌, ℕ, ◌<◌, ◌≤◌, false, List, [], ◌++◌, map, length, Some, refl, sym, ap, ◌∙◌, subst}
 use Rattle.std.specs.List.{All, slice_get, slice_index_or, filter}
 use Rattle.std.proofs.lemmas.List.Elements.{All-map}
-use Rattle.std.proofs.lemmas.Option.{slice_get_within}
+use Rattle.std.proofs.lemmas.Option.{slice_get_within, same_Some}
 use Rattle.list_laws.proofs.Members.{contains_among}
 use Rattle.list_laws.proofs.Pairs.{All-flat_map}
 use Rattle.list_laws.proofs.Places.{All-at, All-each, slice_get_there}
@@ -27,7 +27,7 @@ use Rattle.mesh_run.specs.Routed.{dumped_by}
 use Rattle.round_flow.specs.RoundFlow.{at_port, delivered_to, dumped_at}
 use Rattle.round_flow.proofs.Sources.{live_chip_once}
 use Rattle.mesh_round.proofs.Banks.{VertexTurn, vertex_turn, vertex_spot, receiver_at, unsent_parts, sent_is, collected_is, deliveries_are, delivered_of, none_delivered, is_to, got}
-use Rattle.mesh_round.proofs.Lists.{filter-flat, flat_one, some_same}
+use Rattle.mesh_round.proofs.Lists.{filter-flat, flat_one}
 use Rattle.mesh_round.proofs.Routers.{served, log_is, left_at, records_fit}
 use Rattle.mesh_round.proofs.Senders.{hops_left}
 use Rattle.mesh_round.proofs.Services.{is_of, none_of_another, records_at}
@@ -84,7 +84,7 @@ module _ (r : Round) where
           ∙ none_delivered v (got r e x s) (λ p a same.
           let here = vertex_spot r c t.after t.turn v w in
           let there = vertex_spot r e x s p.0 (receiver_at r e x s p a) in
-          let spots : here.0 ≡ there.0 = some_same here.0 there.0 (sym here.1 ∙ (ap (slice_get u.spots) (sym same) ∙ there.1)) in
+          let spots : here.0 ≡ there.0 = same_Some here.0 there.0 (sym here.1 ∙ (ap (slice_get u.spots) (sym same) ∙ there.1)) in
           let chips : c ≡ e = sym here.2 ∙ (ap (λ (k : Spot). k.chip) spots ∙ there.2) in
           answers_none (chip_eq c e) (ap (chip_eq c) (sym chips) ∙ chip_eq_same c) apart)
 

@@ -1,5 +1,5 @@
 -- What a round on threads asks of a mesh, and what it is (this project's own).
-use Rattle.std.specs.Prelude.{◌≢◌, ◌⊎◌, ℕ, ◌<◌, ◌≤◌, List, [], All, slice_index_or}
+use Rattle.std.specs.Prelude.{◌≢◌, ◌⊎◌, ℕ, ◌<◌, ◌≤◌, [], All, slice_index_or}
 use Rattle.mesh_core.specs.State.{State, Queue, IsMesh}
 use Rattle.mesh_core.specs.Step.{last_hop}
 use Rattle.round_flow.specs.RoundFlow.{Flow, held_in, HasNoHand, IsRound, HasMoved}

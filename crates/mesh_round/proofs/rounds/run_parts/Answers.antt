@@ -1,5 +1,5 @@
 -- Each round moves a copy, so less is to be done, until the mesh is at rest.
-use Rattle.std.proofs.Common.{rules, ◌≡◌, ◌∙◌, arith, sym, subst}
+use Rattle.std.proofs.Common.{rules, ◌≡◌, arith, sym, subst}
 use Rattle.std.specs.Prelude.{IfErr}
 use Rattle.std.proofs.lemmas.Result.{IfErr-weaker}
 use Rattle.mesh_core.specs.State.{State}
