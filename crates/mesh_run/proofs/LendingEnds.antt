@@ -68,19 +68,33 @@ not_at_outs u c outs start now ends begun spare i p o so_far below read differ a
     (apart end.0 o p (taken_is_in outs i end.0 below early) (i, below, sym read) (so_far.places k e inside ∙ ap Some same) at))
 
 -- the end of the next output is there
-pub next_there : (u : Setup) (c : Chip) (outs : List Out) (start now : List (Option Tx)) (ends : List (Out × OutEnd)) (begun spare i p : ℕ) (o : Out) → OutsLent u c outs start now ends begun spare i →
-    i < length outs → o ≡ get_or outs i o → AllPairs (λ a b. a ≢ b) outs →
+pub next_there : {u : Setup} {c : Chip} {outs : List Out} {start now : List (Option Tx)} {ends : List (Out × OutEnd)} {begun spare i : ℕ} (first : Out) → OutsLent u c outs start now ends begun spare i → i < length outs →
+    AllPairs (λ a b. a ≢ b) outs →
     ((a b : Out) (q : ℕ) → Contains outs a → Contains outs b → place_behind u c a ≡ Some q → place_behind u c b ≡ Some q → a ≡ b) →
-    ((a : Out) (q : ℕ) → Contains outs a → place_behind u c a ≡ Some q → IsThere start q) → place_behind u c o ≡ Some p → IsThere now p
-next_there u c outs start now ends begun spare i p o so_far below read differ apart there at =
+    ((a : Out) (q : ℕ) → Contains outs a → place_behind u c a ≡ Some q → IsThere start q) → (p : ℕ) → place_behind u c (get_or outs i first) ≡ Some p → IsThere now p
+next_there {u} {c} {outs} {start} {now} {ends} {begun} {spare} {i} first so_far below differ apart there p at =
+    let o : Out = get_or outs i first in
+    let read : o ≡ get_or outs i o = get_or_default outs i first o below in
     still_there (txs_of ends) start now p so_far.lent (not_at_outs u c outs start now ends begun spare i p o so_far below read differ apart at) (there o p (i, below, sym read) at)
 
+-- the end behind an output is lent
+pub lends_one : (u : Setup) (c : Chip) (o : Out) {p : ℕ} {now new : List (Option Tx)} (ends : List (Out × OutEnd)) {more : List (Out × OutEnd)} (e : OutEnd) → place_behind u c o ≡ Some p → e.link ≡ p → Lent None (tx_of e ∷ []) now new →
+    more ≡ ends ++ (o, e) ∷ [] → LendsOut u c o now new ends more
+lends_one u c o {now = now} {new = new} ends {more} e at link lent put =
+    subst (λ (a : Option ℕ). MatchOption a ((more ≡ ends) × (new ≡ now)) (λ p. (f : OutEnd) × (f.link ≡ p) × Lent None (tx_of f ∷ []) now new × (more ≡ ends ++ (o, f) ∷ []))) (sym at) (e, link, lent, put)
+
 -- one output more
-pub outs_more : (u : Setup) (c : Chip) (outs : List Out) (start now new : List (Option Tx)) (ends more : List (Out × OutEnd)) (begun spare left i : ℕ) (o : Out) → OutsLent u c outs start now ends begun spare i →
-    i < length outs → o ≡ get_or outs i o → LendsOut u c o now new ends more → spare ≤ left + 1 → OutsLent u c outs start new more begun left (i + 1)
-outs_more u c outs start now new ends more begun spare left i o so_far below read lends falls =
+pub outs_more : {u : Setup} {c : Chip} {outs : List Out} {start now new : List (Option Tx)} {ends more : List (Out × OutEnd)} {begun spare left i : ℕ} (first : Out) → OutsLent u c outs start now ends begun spare i → i < length outs →
+    LendsOut u c (get_or outs i first) now new ends more → spare ≤ left + 1 → OutsLent u c outs start new more begun left (i + 1)
+outs_more {u} {c} {outs} {start} {now} {new} {ends} {more} {begun} {left = left} {i = i} first so_far below lends falls =
     by_place (place_behind u c o) refl lends
   where
+    o : Out
+    o = get_or outs i first
+
+    read : o ≡ get_or outs i o
+    read = get_or_default outs i first o below
+
     more_labels : (b : Bool) → has_place u c o ≡ b → filter (has_place u c) (take (i + 1) outs) ≡ filter (has_place u c) (take i outs) ++ cond b (o ∷ []) []
     more_labels b is =
         ap (filter (has_place u c)) (take_more outs i o below ∙ ap (λ a. take i outs ++ a ∷ []) (sym read))
@@ -131,19 +145,24 @@ not_at_ports m c ports start now ends begun spare i o so_far below read differ =
     let queue : queue_at m c end.0 ≡ queue_at m c o = sym (so_far.places k e inside) ∙ same in
     before_differs ports i o end.0 below read differ (subst (λ l. Contains l end.0) so_far.labels label) (port_number_injective end.0 o (omega (arith, queue))))
 
-pub port_there : (m : Description) (c : Chip) (ports : List Port) (start now : List (Option Rx)) (ends : List (Port × InEnd)) (begun spare i : ℕ) (o : Port) → PortsLent m c ports start now ends begun spare i →
-    i < length ports → o ≡ get_or ports i o → AllPairs (λ a b. a ≢ b) ports → ((port : Port) → Contains ports port → IsThere start (queue_at m c port)) → IsThere now (queue_at m c o)
-port_there m c ports start now ends begun spare i o so_far below read differ there =
+pub port_there : {m : Description} {c : Chip} {ports : List Port} {start now : List (Option Rx)} {ends : List (Port × InEnd)} {begun spare i : ℕ} (first : Port) → PortsLent m c ports start now ends begun spare i → i < length ports →
+    AllPairs (λ a b. a ≢ b) ports → ((port : Port) → Contains ports port → IsThere start (queue_at m c port)) → IsThere now (queue_at m c (get_or ports i first))
+port_there {m} {c} {ports} {start} {now} {ends} {begun} {spare} {i} first so_far below differ there =
+    let o : Port = get_or ports i first in
+    let read : o ≡ get_or ports i o = get_or_default ports i first o below in
     still_there (rxs_of ends) start now (queue_at m c o) so_far.lent (not_at_ports m c ports start now ends begun spare i o so_far below read differ) (there o (i, below, sym read))
 
-pub ports_more : (m : Description) (c : Chip) (ports : List Port) (start now new : List (Option Rx)) (ends more : List (Port × InEnd)) (begun spare left i : ℕ) (o : Port) (e : InEnd) → PortsLent m c ports start now ends begun spare i →
-    i < length ports → o ≡ get_or ports i o → e.link ≡ queue_at m c o → Lent None (rx_of e ∷ []) now new → more ≡ ends ++ (o, e) ∷ [] → spare ≤ left + 1 → PortsLent m c ports start new more begun left (i + 1)
-ports_more m c ports start now new ends more begun spare left i o e so_far below read at lent put falls = record {
-  labels =
-      ap ports_of put ∙ (map-append (λ (x : Port × InEnd). x.0) ends ((o, e) ∷ []) ∙ (ap (λ ls. ls ++ o ∷ []) so_far.labels
-      ∙ sym (take_more ports i o below ∙ ap (λ a. take i ports ++ a ∷ []) (sym read))));
-  places = subst (All (IsAtPort m c)) (sym put) (All-append (IsAtPort m c) ends ((o, e) ∷ []) so_far.places (All-cons (IsAtPort m c) (o, e) [] at (All-nil (IsAtPort m c))));
-  lent = subst (λ l. Lent None l start new) (sym (ap rxs_of put ∙ map-append (λ (x : Port × InEnd). rx_of x.1) ends ((o, e) ∷ [])))
-      (ends_join (rxs_of ends) (rx_of e ∷ []) start now new so_far.lent lent (full_one e.link e.rx));
-  room = (let begun_is = so_far.room in omega (arith, begun_is, falls));
-}
+pub ports_more : {m : Description} {c : Chip} {ports : List Port} {start now new : List (Option Rx)} {ends more : List (Port × InEnd)} {begun spare left i : ℕ} (first : Port) (e : InEnd) → PortsLent m c ports start now ends begun spare i →
+    i < length ports → e.link ≡ queue_at m c (get_or ports i first) → Lent None (rx_of e ∷ []) now new → more ≡ ends ++ (get_or ports i first, e) ∷ [] → spare ≤ left + 1 → PortsLent m c ports start new more begun left (i + 1)
+ports_more {m} {c} {ports} {start} {now} {new} {ends} {i = i} first e so_far below at lent put falls =
+    let o : Port = get_or ports i first in
+    let read : o ≡ get_or ports i o = get_or_default ports i first o below in
+    record {
+      labels =
+          ap ports_of put ∙ (map-append (λ (x : Port × InEnd). x.0) ends ((o, e) ∷ []) ∙ (ap (λ ls. ls ++ o ∷ []) so_far.labels
+          ∙ sym (take_more ports i o below ∙ ap (λ a. take i ports ++ a ∷ []) (sym read))));
+      places = subst (All (IsAtPort m c)) (sym put) (All-append (IsAtPort m c) ends ((o, e) ∷ []) so_far.places (All-cons (IsAtPort m c) (o, e) [] at (All-nil (IsAtPort m c))));
+      lent = subst (λ l. Lent None l start new) (sym (ap rxs_of put ∙ map-append (λ (x : Port × InEnd). rx_of x.1) ends ((o, e) ∷ [])))
+          (ends_join (rxs_of ends) (rx_of e ∷ []) start now new so_far.lent lent (full_one e.link e.rx));
+      room = (let begun_is = so_far.room in omega (arith, begun_is, falls));
+    }

@@ -14,6 +14,7 @@ ghost use Rattle.mesh_run.specs.Lending.{place_behind, has_place, vertex_place, 
 ghost use Rattle.net_tables.specs.NetsOn.{vertex_at};
 ghost use Rattle.mesh_run.specs.Vertices.{LendsVertex};
 
+use crate::standing::take_at;
 use chip_node::{BankVertex, InEnd, OutEnd};
 use link_queue::{Rx, Tx};
 use machine_desc::Machine;
@@ -89,16 +90,12 @@ fn place_behind(setup: &MeshSetup, chip: Chip, out: Out) -> Option<u32>
     }
 }
 
-/// The sending end of the link at a place.
-fn lend_tx(txs: &mut Vec<Option<Tx>>, place: u32) -> OutEnd
-    requires { IsThere txs.old.items place }
-    ensures place { result.link ≡ place }
-    ensures lent { Lent None (tx_of result ∷ []) txs.old.items txs.new.items }
+/// The end at a place is lent.
+fn lend_end<T>(ends: &mut Vec<Option<T>>, place: u32) -> T
+    requires { IsThere ends.old.items place }
+    ensures { Lent None ((place, Some result) ∷ []) ends.old.items ends.new.items }
 {
-    match txs[place as usize].take() {
-        Some(tx) => OutEnd { link: place, tx },
-        None => unreachable!(),
-    }
+    take_at(ends, place as usize)
 }
 
 /// The sending ends of the queues behind these outputs of a chip.
@@ -141,8 +138,8 @@ fn lend_output(
     ensures spare { outputs.old.spare ≤ outputs.new.spare + 1 }
 {
     if let Some(place) = place_behind(setup, chip, out) {
-        let end = lend_tx(txs, place);
-        outputs.put((out, end));
+        let tx = lend_end(txs, place);
+        outputs.put((out, OutEnd { link: place, tx }));
     }
 }
 
@@ -152,18 +149,6 @@ fn input_place(machine: &Machine, chip: Chip, port: Port) -> u32
     ensures { result ≡ queue_at machine.now chip port }
 {
     Port::COUNT * machine.index(chip) + u32::from(port.number())
-}
-
-/// The receiving end of the link at a place.
-fn lend_rx(rxs: &mut Vec<Option<Rx>>, place: u32) -> InEnd
-    requires { IsThere rxs.old.items place }
-    ensures place { result.link ≡ place }
-    ensures lent { Lent None (rx_of result ∷ []) rxs.old.items rxs.new.items }
-{
-    match rxs[place as usize].take() {
-        Some(rx) => InEnd { link: place, rx },
-        None => unreachable!(),
-    }
 }
 
 /// The receiving ends of the input queues of these ports of a chip.
@@ -184,8 +169,9 @@ pub(crate) fn lend_inputs(
     ensures lent { Lent None (rxs_of inputs.new.items) rxs.old.items rxs.new.items }
 {
     for port in ports {
-        let end = lend_rx(rxs, input_place(machine, chip, *port));
-        inputs.put((*port, end));
+        let link = input_place(machine, chip, *port);
+        let rx = lend_end(rxs, link);
+        inputs.put((*port, InEnd { link, rx }));
     }
 }
 
@@ -196,7 +182,9 @@ pub(crate) fn lend_inject(txs: &mut Vec<Option<Tx>>, machine: &Machine, chip: Ch
     ensures place { result.link ≡ queue_at machine.now chip Local }
     ensures lent { Lent None (tx_of result ∷ []) txs.old.items txs.new.items }
 {
-    lend_tx(txs, input_place(machine, chip, Port::Local))
+    let link = input_place(machine, chip, Port::Local);
+    let tx = lend_end(txs, link);
+    OutEnd { link, tx }
 }
 
 /// The vertices of a chip, with what they have not sent yet and the receiving ends of their queues.
@@ -243,12 +231,13 @@ fn lend_vertex(
     ensures spare { vertices.old.spare ≤ vertices.new.spare + 1 }
 {
     if let Some(vertex) = setup.vertex_at(spot) {
-        let end = lend_rx(rxs, vertex_place(setup, vertex));
+        let link = vertex_place(setup, vertex);
+        let rx = lend_end(rxs, link);
         let unsent = mem::replace(&mut unsent[vertex], Fifo::new(alloc));
         vertices.put(BankVertex {
             vertex: vertex as u32,
             unsent,
-            end,
+            end: InEnd { link, rx },
         });
     }
 }

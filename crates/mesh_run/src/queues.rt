@@ -4,8 +4,8 @@
 // a round leaves with fewer gets twice as many. So between rounds no copy moves, and a round costs what it moves.
 ghost use Rattle.std.specs.Prelude.{◌≡◌, ℕ, ◌+◌, ◌<◌, ◌≤◌, List, All, OnErr, OnOk, IfOk, Some, length, map, slice_get};
 ghost use Rattle.link_queue.specs.declared.links.LinkEnds.{LinkEnds};
-ghost use Rattle.mesh_run.specs.Standing.{HoldsAll};
-ghost use Rattle.mesh_run.specs.Queues.{AreUp, AreEnds, DownTo, IsDown, IsUp, RestAll, RestsAt, StayUp, UpAt, WasUp, free_of, places_for, queue_of};
+ghost use Rattle.mesh_run.specs.Standing.{HoldsAll, RisenTo};
+ghost use Rattle.mesh_run.specs.Queues.{AreUp, AreEnds, DownTo, IsDown, IsUp, RaisesLink, RestAll, RestsAt, StayUp, UpAt, WasUp, free_of, places_for, queue_of};
 
 use crate::standing::{Rising, Standing};
 use link_queue::{LinkEnds, link_down, link_up, rest, widened};
@@ -34,14 +34,34 @@ pub(crate) fn bring_up<R: Wait>(
 {
     let mut rising = Rising::over(alloc, queues.len())?;
     for place in 0..queues.len() {
-        let list = copied(alloc, queues[place].as_slice())?;
-        let places = link_places(cap, turns, list.len());
-        match link_up(rt, alloc, list, places) {
-            Ok(ends) => rising.put(ends),
-            Err(_) => return Err(Memory),
-        }
+        raise_link(rt, alloc, &mut rising, queues[place].as_slice(), cap, turns)?;
     }
     Ok(rising.into_standing())
+}
+
+// One link more, for a queue.
+fn raise_link<R: Wait>(
+    rt: &R,
+    alloc: Global,
+    rising: &mut Rising,
+    queue: &[McCopy],
+    cap: u32,
+    turns: u32,
+) -> Result<(), Memory>
+    requires some { 0 < cap }
+    requires fits { length queue.now ≤ cap }
+    requires room { (before : List LinkEnds) × (spare : ℕ) × RisenTo before (spare + 1) rising.old }
+    ensures { OnOk result (RaisesLink cap (turns + 1) queue.now rising.old rising.new) }
+{
+    let list = copied(alloc, queue)?;
+    let places = link_places(cap, turns, list.len());
+    match link_up(rt, alloc, list, places) {
+        Ok(ends) => {
+            rising.put(ends);
+            Ok(())
+        }
+        Err(_) => Err(Memory),
+    }
 }
 
 // A copy of a list.

@@ -1,7 +1,7 @@
 // Actors taken apart: ends go back to their links, copies that are not sent to their vertices, and logs to lists.
-ghost use Rattle.std.specs.Prelude.{◌≡◌, ℕ, ◌+◌, ◌<◌, ◌≤◌, ◌++◌, [], ◌∷◌, length};
+ghost use Rattle.std.specs.Prelude.{◌≡◌, ℕ, ◌+◌, ◌<◌, ◌≤◌, ◌++◌, [], ◌∷◌, Some, length};
 ghost use Rattle.std.specs.List.{flat_map};
-ghost use Rattle.mesh_run.specs.Lending.{rx_of, tx_of, rxs_of, txs_of, vertex_rxs, vertex_unsent};
+ghost use Rattle.mesh_run.specs.Lending.{rxs_of, txs_of, vertex_rxs, vertex_unsent};
 ghost use Rattle.mesh_run.specs.Dealing.{AreWithin, delivered_in, dumped_in, put_all, rxs_in, txs_in, unsent_in};
 
 use crate::actors::Actor;
@@ -69,7 +69,8 @@ fn dismiss_actor(
         }
         Actor::Bank(bank) => {
             let (inject, vertices, log) = bank.into_parts();
-            return_output(&mut standing.txs, inject);
+            let OutEnd { link, tx } = inject;
+            return_end(&mut standing.txs, link, tx);
             return_vertices(&mut standing.rxs, unsent, vertices);
             put_each(log, delivered);
         }
@@ -87,20 +88,12 @@ fn put_each<T: Drop>(items: Room<T>, list: &mut Room<T>)
     }
 }
 
-fn return_input(rxs: &mut Vec<Option<Rx>>, end: InEnd)
-    requires { end.link < length rxs.old.items }
-    ensures { rxs.new.items ≡ put_all rxs.old.items (rx_of end ∷ []) }
+// Puts an end back at its place.
+fn return_end<T: Drop>(ends: &mut Vec<Option<T>>, place: u32, end: T)
+    requires { place < length ends.old.items }
+    ensures { ends.new.items ≡ put_all ends.old.items ((place, Some end) ∷ []) }
 {
-    let InEnd { link, rx } = end;
-    rxs[link as usize] = Some(rx);
-}
-
-fn return_output(txs: &mut Vec<Option<Tx>>, end: OutEnd)
-    requires { end.link < length txs.old.items }
-    ensures { txs.new.items ≡ put_all txs.old.items (tx_of end ∷ []) }
-{
-    let OutEnd { link, tx } = end;
-    txs[link as usize] = Some(tx);
+    ends[place as usize] = Some(end);
 }
 
 fn return_inputs(rxs: &mut Vec<Option<Rx>>, inputs: Seq<(Port, InEnd)>)
@@ -108,7 +101,8 @@ fn return_inputs(rxs: &mut Vec<Option<Rx>>, inputs: Seq<(Port, InEnd)>)
     ensures { rxs.new.items ≡ put_all rxs.old.items (rxs_of inputs) }
 {
     for (_port, end) in inputs.into_vec() {
-        return_input(rxs, end);
+        let InEnd { link, rx } = end;
+        return_end(rxs, link, rx);
     }
 }
 
@@ -117,7 +111,8 @@ fn return_outputs(txs: &mut Vec<Option<Tx>>, outputs: Seq<(Out, OutEnd)>)
     ensures { txs.new.items ≡ put_all txs.old.items (txs_of outputs) }
 {
     for (_out, end) in outputs.into_vec() {
-        return_output(txs, end);
+        let OutEnd { link, tx } = end;
+        return_end(txs, link, tx);
     }
 }
 
@@ -138,6 +133,7 @@ fn return_vertices(
             end,
         } = vertex;
         unsent[number as usize] = left;
-        return_input(rxs, end);
+        let InEnd { link, rx } = end;
+        return_end(rxs, link, rx);
     }
 }

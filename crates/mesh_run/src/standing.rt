@@ -118,7 +118,7 @@ impl Standing {
 }
 
 // The end at a place leaves.
-fn take_at<T>(slots: &mut Vec<Option<T>>, place: usize) -> T
+pub(crate) fn take_at<T>(slots: &mut Vec<Option<T>>, place: usize) -> T
     requires { (x : T) × (slice_get slots.old.items place ≡ Some (Some x)) }
     ensures stood { slice_get slots.old.items place ≡ Some (Some result) }
     ensures left { slots.new.items ≡ slice_set slots.old.items place None }

@@ -16,11 +16,11 @@ returns-in-Some-clause-lends c =
     let at = sym c.vertex_at.ensures ∙ c.in-Some.is in
     let below : v < length unsent = (let within = vertex_at-below u.spots c.args.spot v at in let long = c.requires.unsent_long in omega (arith, within, long)) in
     let stood : slice_get unsent v ≡ Some c.replace-unsent.result = slice_get-get_or unsent v c.index_mut.result.now below ∙ ap Some (sym (c.replace-unsent.ensures.value ∙ c.index_mut.ensures.value)) in
-    lends_it u c.args.spot v c.args.rxs.now.items c.lend_rx-end.new.rxs.items unsent _ c.args.vertices.now.items c.put.new.self.items at (record {
-      vertex = record { vertex = v; unsent = c.replace-unsent.result; end = c.lend_rx-end.result };
+    lends_it u c.args.spot v c.args.rxs.now.items c.lend_end-rx.new.ends.items unsent _ c.args.vertices.now.items c.put.new.self.items at (record {
+      vertex = record { vertex = v; unsent = c.replace-unsent.result; end = record { link = c.vertex_place-link.result; rx = c.lend_end-rx.result } };
       is = refl;
-      place = c.lend_rx-end.ensures.place ∙ c.vertex_place.ensures;
-      rx = c.lend_rx-end.ensures.lent;
+      place = c.vertex_place-link.ensures;
+      rx = c.lend_end-rx.ensures;
       copies = subst (λ (b : List McCopy). Lent [] ((v, c.replace-unsent.result) ∷ []) unsent (set unsent v b)) (sym (c.replace-unsent.ensures.after ∙ c.new.ensures)) (lent_one [] unsent v c.replace-unsent.result stood);
       put = c.put.ensures.items;
     })

@@ -1,6 +1,9 @@
 use Rattle.mesh_run.proofs.Resting.{rests_there}
 use Rattle.mesh_run.proofs.queues.rest_at.Goals as goal
 
+pub take_ends-tx-requires : goal.take_ends-tx-requires
+take_ends-tx-requires g c = let r = c.requires in (r.0, r.1, r.2, r.3)
+
 pub returns : goal.returns
 returns g c = λ ends old holds at.
     let r = c.requires in

@@ -6,8 +6,8 @@ use Rattle.mesh_run.specs.Lending.{tx_of}
 use Rattle.mesh_run.specs.Dealing.{AreWithin, txs_in}
 use Rattle.mesh_run.proofs.returning.dismiss_actor.Goals as goal
 
-pub return_output-requires : goal.return_output-requires
-return_output-requires c =
+pub return_end-requires : goal.return_end-requires
+return_end-requires c =
     let txs = c.args.standing.now.txs.items in
     subst (λ n. n < length txs) (sym (ap (λ (e : OutEnd). e.link) c.into_parts-inject.ensures.inject))
     (All-head (λ h. h.0 < length txs) (tx_of c.in-Bank.bank.inject) [] (subst (λ (a : Actor). AreWithin txs (txs_in a)) c.in-Bank.is c.requires.txs))

@@ -4,8 +4,8 @@ use Rattle.mesh_run.specs.Dealing.{put_all}
 use Rattle.mesh_run.proofs.PuttingBack.{put_first, put_more}
 use Rattle.mesh_run.proofs.returning.return_inputs.Goals as goal
 
-pub return_input-requires : goal.return_input-requires
-return_input-requires c =
+pub return_end-requires : goal.return_end-requires
+return_end-requires c =
     put_first (λ e. rx_of e.1) (put_all c.args.rxs.now.items (rxs_of c.args.inputs)) c.loop-port.rxs.items (into_iter_items c.loop-port._port-iterator) (c.in-Some._port, c.in-Some.end)
     (into_iter_items c.next.new.self) c.loop-port.invariant.2 c.in-Some.ensures.steps.0
 
@@ -13,6 +13,6 @@ pub loop-port-preserved : goal.loop-port-preserved
 loop-port-preserved c = (
   tt,
   tt,
-  put_more (λ e. rx_of e.1) (put_all c.args.rxs.now.items (rxs_of c.args.inputs)) c.loop-port.rxs.items c.return_input.new.rxs.items (into_iter_items c.loop-port._port-iterator) (c.in-Some._port, c.in-Some.end)
-      (into_iter_items c.next.new.self) c.loop-port.invariant.2 c.in-Some.ensures.steps.0 c.return_input.ensures,
+  put_more (λ e. rx_of e.1) (put_all c.args.rxs.now.items (rxs_of c.args.inputs)) c.loop-port.rxs.items c.return_end.new.ends.items (into_iter_items c.loop-port._port-iterator) (c.in-Some._port, c.in-Some.end)
+      (into_iter_items c.next.new.self) c.loop-port.invariant.2 c.in-Some.ensures.steps.0 c.return_end.ensures,
 )

@@ -4,8 +4,8 @@ use Rattle.mesh_run.specs.Dealing.{put_all}
 use Rattle.mesh_run.proofs.PuttingBack.{put_first, put_more}
 use Rattle.mesh_run.proofs.returning.return_outputs.Goals as goal
 
-pub return_output-requires : goal.return_output-requires
-return_output-requires c =
+pub return_end-requires : goal.return_end-requires
+return_end-requires c =
     put_first (λ e. tx_of e.1) (put_all c.args.txs.now.items (txs_of c.args.outputs)) c.loop-out.txs.items (into_iter_items c.loop-out._out-iterator) (c.in-Some._out, c.in-Some.end)
     (into_iter_items c.next.new.self) c.loop-out.invariant.2 c.in-Some.ensures.steps.0
 
@@ -13,6 +13,6 @@ pub loop-out-preserved : goal.loop-out-preserved
 loop-out-preserved c = (
   tt,
   tt,
-  put_more (λ e. tx_of e.1) (put_all c.args.txs.now.items (txs_of c.args.outputs)) c.loop-out.txs.items c.return_output.new.txs.items (into_iter_items c.loop-out._out-iterator) (c.in-Some._out, c.in-Some.end)
-      (into_iter_items c.next.new.self) c.loop-out.invariant.2 c.in-Some.ensures.steps.0 c.return_output.ensures,
+  put_more (λ e. tx_of e.1) (put_all c.args.txs.now.items (txs_of c.args.outputs)) c.loop-out.txs.items c.return_end.new.ends.items (into_iter_items c.loop-out._out-iterator) (c.in-Some._out, c.in-Some.end)
+      (into_iter_items c.next.new.self) c.loop-out.invariant.2 c.in-Some.ensures.steps.0 c.return_end.ensures,
 )

@@ -13,8 +13,8 @@ index_mut-requires c =
     let many : vec_len c.loop-vertex.unsent ≡ length c.loop-vertex.unsent.items = c.loop-vertex.unsent.ok.0 in
     omega (arith, below, many)
 
-pub return_input-requires : goal.return_input-requires
-return_input-requires c =
+pub return_end-requires : goal.return_end-requires
+return_end-requires c =
     put_first (λ v. rx_of v.end) (put_all c.args.rxs.now.items (vertex_rxs c.args.vertices)) c.loop-vertex.rxs.items (into_iter_items c.loop-vertex.vertex-iterator) c.in-Some.vertex
     (into_iter_items c.next.new.self) c.loop-vertex.invariant.2 c.in-Some.ensures.steps.0
 
@@ -22,8 +22,8 @@ pub loop-vertex-preserved : goal.loop-vertex-preserved
 loop-vertex-preserved c = (
   tt,
   tt,
-  put_more (λ v. rx_of v.end) (put_all c.args.rxs.now.items (vertex_rxs c.args.vertices)) c.loop-vertex.rxs.items c.return_input.new.rxs.items (into_iter_items c.loop-vertex.vertex-iterator) c.in-Some.vertex
-      (into_iter_items c.next.new.self) c.loop-vertex.invariant.2 c.in-Some.ensures.steps.0 c.return_input.ensures,
+  put_more (λ v. rx_of v.end) (put_all c.args.rxs.now.items (vertex_rxs c.args.vertices)) c.loop-vertex.rxs.items c.return_end.new.ends.items (into_iter_items c.loop-vertex.vertex-iterator) c.in-Some.vertex
+      (into_iter_items c.next.new.self) c.loop-vertex.invariant.2 c.in-Some.ensures.steps.0 c.return_end.ensures,
   put_more (λ v. (v.vertex, v.unsent)) (put_all c.args.unsent.now.items (vertex_unsent c.args.vertices)) c.loop-vertex.unsent.items _ (into_iter_items c.loop-vertex.vertex-iterator) c.in-Some.vertex
       (into_iter_items c.next.new.self) c.loop-vertex.invariant.3 c.in-Some.ensures.steps.0 refl,
 )

@@ -1,0 +1,22 @@
+use Rattle.std.proofs.Common.{◌+◌, ◌≤◌, ◌∙◌, List, length, sym, ap, subst}
+use Rattle.spin_base.specs.declared.copies.McCopy.{McCopy}
+use Rattle.mesh_run.specs.Queues.{IsUp, places_for}
+use Rattle.mesh_run.proofs.BringingUp.{made_with}
+use Rattle.mesh_run.proofs.queues.raise_link.Goals as goal
+
+pub returns-in-Ok : goal.returns-in-Ok
+returns-in-Ok g c = λ ends spare risen.
+    let e = c.in-Ok.ends in
+    let q = c.in_ok-list.list in
+    let made = c.in-Ok.ensures in
+    let fits : length q ≤ c.args.cap = subst (λ (p : List McCopy). length p ≤ c.args.cap) (sym c.in_ok-list.ensures) c.requires.fits in
+    let places = c.link_places-places.ensures ∙ ap (places_for c.args.cap c.args.turns) c.len.ensures in (
+      e,
+      subst (λ (p : List McCopy). IsUp c.args.cap (c.args.turns + 1) p e) c.in_ok-list.ensures (record {
+        ends = record { tx = made.sending.0; rx = made.taking.0; empty = made.room.0; spare = subst (λ n. n ≤ e.room.spare) (sym made.cap) made.room.1 };
+        holds = made_with c.args.cap c.args.turns (length q) _ fits (made.cap ∙ places);
+        tx_new = made.sending.1;
+        rx_new = made.taking.1;
+      }),
+      c.put.ensures ends spare risen,
+    )
