@@ -15,7 +15,7 @@ use Rattle.tern_word.specs.SoundTable.{IsOrdered}
 use Rattle.tern_word.proofs.BlockLaws.{generality-mono, merge_of-is_merge}
 use Rattle.cover_checks.specs.Merge.{has, merge_rows, rows_at, merged_block, place_for, insert_place, SameRoute, IsOneRoute, PassesUp, PassesUpCheck}
 use Rattle.cover_checks.proofs.Lists.{All-from_map, All-left, All-right, AllPairs-head, AllPairs-tail}
-use Rattle.cover_checks.proofs.Positions.{All-has, has-at, merged_block-push, place_for-above, place_for-below, place_for-le, rows_at-from, rows_at-has, rows_at-length}
+use Rattle.cover_checks.proofs.Positions.{All-has, has-at, merged_block-push, place_for-above, place_for-below, place_for-le, rows_at-from, rows_at-has, rows_at-length, some_blocks}
 use Rattle.cover_merge.specs.Refinement.{IsLastFailing, IsUpStep, Refines, goes_up, without}
 use Rattle.cover_merge.proofs.RefineLemmas.{last_found, one_route_after}
 use Rattle.cover_merge.proofs.GuardLemmas.{one_route}
@@ -103,11 +103,7 @@ module _ (rows : List Row) (set : List ℕ) (in_range : All (λ s. s < length ro
       All-has (λ t. has set t ≡ true) (filter p set) s (All-filter p (λ t. has set t ≡ true) set (λ k d within. subst (λ t. has set t ≡ true) (get_or_default set k 0 d within) (has-at set k within))) found
 
   blocks_some : (places : List ℕ) → All (λ s. s < length rows) places → 0 < length places → 0 < length (map (λ (x : Row). x.block) (rows_at rows places))
-  blocks_some places within few = many (rows_at rows places) (omega (arith, rows_at-length rows places within))
-    where
-      many : (xs : List Row) → 0 < length xs → 0 < length (map (λ (x : Row). x.block) xs)
-      many [] h = h
-      many (x ∷ xs) h = omega arith
+  blocks_some places within few = some_blocks (rows_at rows places) (omega (arith, rows_at-length rows places within))
 
   set_some : (places : List ℕ) → 0 < length (filter p places) → 0 < length places
   set_some [] h = h
@@ -256,6 +252,10 @@ module _ (rows : List Row) (xs : List ℕ) (i w : ℕ) (some : 0 < i) (gap : i �
 
     low : All (λ x. x ≤ s) (take i xs)
     low = front_low (take i xs) (drop w xs) (i - 1) s one.ascending (omega (arith, front_many, some)) (is ∙ sym at_last)
+
+    -- it is a row's place
+    pub last_within : s < length rows
+    last_within = subst (λ x. x < length rows) (at_last ∙ sym is) (one.in_range (i - 1) 0 (omega (arith, left_many, some)))
 
     -- those behind have its route
     pub alike_behind : (r : ℕ) → s < r → has (drop w xs) r ≡ true → SameRoute rows s r

@@ -1,18 +1,52 @@
 -- Each place taken out is a step, and those behind it still pass the up-check.
 use Rattle.std.proofs.Common.{◌≡◌, ◌<◌, ◌≤◌, ◌+◌, ◌-◌, ◌++◌, ◌↔◌, ℕ, List, IsTrue, true, take, drop, ap, sym, subst, refl, ◌∙◌, length, length-set, length-take, get_or, set, arith}
 use Rattle.std.specs.Prelude.{All}
-use Rattle.std.proofs.lemmas.List.{take_rest, take-set-le}
+use Rattle.std.proofs.lemmas.List.{take_all, take-append-drop, take_rest, take-set-le}
 use Rattle.tern_word.specs.Ternary.{generality}
 use Rattle.cover_checks.specs.Merge.{IsOneRoute, PassesUp, PassesUpCheck, has, merged_block, place_for}
 use Rattle.cover_merge.specs.Refinement.{AreMerges, IsLastFailing, Refines}
 use Rattle.cover_merge.proofs.RefineLemmas.{last_more, none_fails}
-use Rattle.cover_merge.proofs.SiftLemmas.{all_pass, alike_behind, begins_less, begins_twice, kept_now, left_many, out_count, out_in_range, out_last, out_now, sift_behind, sift_goes, sift_one, up_of}
+use Rattle.cover_merge.proofs.SiftLemmas.{all_pass, alike_behind, begins_less, begins_twice, kept_now, last_within, left_many, out_count, out_in_range, out_last, out_now, sift_behind, sift_goes, sift_one, up_of}
 use Rattle.cover_merge.proofs.refining.sift.Goals as goal
 use Rattle.cover_merge.proofs.refining.sift.Goals.{then-loop-i-test+else-i-len-ge2, else-loop-i-test}
 
 -- the slice of what stands from a place on
 rest_of : (n : ℕ) (ys xs : List ℕ) → ys ≡ xs → take (length ys - n) (drop n ys) ≡ drop n xs
 rest_of n ys xs same = take_rest ys n ∙ ap (drop n) same
+
+pub merges_of-requires-clause-in_range : goal.merges_of-requires-clause-in_range
+merges_of-requires-clause-in_range c = subst (All (λ s. s < length c.args.rows.now)) (sym c.deref.ensures.value) c.requires.set.set.in_range
+
+pub merges_of-requires-clause-some : goal.merges_of-requires-clause-some
+merges_of-requires-clause-some c = subst (λ l. 0 < length l) (sym c.deref.ensures.value) (omega (arith, c.requires.set.two))
+
+pub loop-i-init : goal.loop-i-init
+loop-i-init c =
+    let rows = c.args.rows.now in
+    let xs = c.args.set.now.items in
+    let known : AreMerges rows xs c.in_ok-merges.merges.items = subst (λ l. AreMerges rows l c.in_ok-merges.merges.items) c.deref.ensures.value c.in_ok-merges.ensures in
+    let whole : take c.len-i.result xs ++ drop c.len-kept.result xs ≡ xs =
+    ap (λ n. take c.len-i.result xs ++ drop n xs) (c.len-kept.ensures ∙ sym c.len-i.ensures) ∙ take-append-drop c.len-i.result xs in record {
+      gap = omega (arith, c.len-i.ensures, c.len-kept.ensures);
+      within = omega (arith, c.len-kept.ensures);
+      same = refl;
+      set = subst (IsOneRoute rows) (sym whole) c.requires.set.set;
+      some = subst (λ l. 0 < length l) (sym whole) (omega (arith, c.requires.set.two));
+      merge = c.index-merged.ensures
+      ∙ known.each (c.len.result - 1) c.index-merged.result.now (omega (arith, known.one_each, c.len.ensures, c.requires.set.two))
+      ∙ ap (merged_block rows) (take_all (c.len.result - 1 + 1) xs (omega (arith, c.len.ensures)) ∙ sym whole);
+      before = refl;
+      behind = λ k low high. absurd (omega (arith, low, subst (λ l. k < length l) whole high, c.len-i.ensures));
+      goes_on = λ answer rest. subst (λ l. Refines rows l answer) whole rest;
+    }
+
+pub passes-requires-clause-inside : goal.passes-requires-clause-inside
+passes-requires-clause-inside c =
+    let old = c.loop-i.invariant in
+    last_within c.args.rows.now c.loop-i.set.items c.loop-i.i c.loop-i.kept c.loop-i-test.true old.gap old.within old.set c.index.result.now c.index.ensures
+
+pub index-requires : goal.index-requires
+index-requires c = omega (arith, c.loop-i-test.true, c.loop-i.invariant.gap, c.loop-i.invariant.within)
 
 pub passes-requires-clause-one_route : goal.passes-requires-clause-one_route
 passes-requires-clause-one_route c r less found =
