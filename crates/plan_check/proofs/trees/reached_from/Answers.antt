@@ -1,7 +1,7 @@
 use Rattle.std.proofs.Common.{◌≡◌, ◌+◌, ◌*◌, ◌<◌, ◌≤◌, ◌++◌, ◌∷◌, [], Some, true, false, length, get_or, refl, sym, ap, ◌∙◌, subst, arith, rules}
 use Rattle.spin_base.specs.declared.chips.Chip.{Chip}
 use Rattle.plan_check.specs.Marks.{mark_at}
-use Rattle.plan_check.proofs.Searching.{search_first, search_past, search_push, search_ended, to_inside, flagged_goes, flagged_nowhere, mark_read}
+use Rattle.plan_check.proofs.Searching.{search_first, search_past, search_push, search_ended, from_inside, to_inside, flagged_goes, flagged_nowhere, mark_read}
 use Rattle.plan_check.proofs.trees.reached_from.Goals as goal
 use Rattle.plan_check.proofs.trees.reached_from.Goals.{in-Some+then-not-index+in_ok-push-2, in-Some+else-not-index, in_default}
 
@@ -56,3 +56,9 @@ pub returns : goal.returns
 returns c =
     search_ended c.args.machine.now c.args.flags.now c.args.root c.loop-next.marks.items c.loop-next.queue.items c.loop-next.next
     (omega (arith, c.loop-next-test.false, c.len.ensures, c.loop-next.queue.ok)) c.requires.inside c.loop-next.invariant
+
+pub flagged_far-requires-clause-inside : goal.flagged_far-requires-clause-inside
+flagged_far-requires-clause-inside c =
+    let within : c.loop-next.next < length c.loop-next.queue.items * 6 = omega (arith, c.loop-next-test.true, c.len.ensures, c.loop-next.queue.ok) in
+    from_inside c.args.machine.now c.args.flags.now c.args.root c.loop-next.marks.items c.loop-next.queue.items c.loop-next.next c.index-from.result.now c.link_at-link.result within
+    c.index-from.ensures c.link_at-link.ensures c.loop-next.invariant
