@@ -1,5 +1,7 @@
 use Rattle.std.proofs.Common.{◌≡◌, ◌+◌, ◌*◌, List, false, replicate, take, refl, sym, ap, ◌∙◌, subst, rules}
+use Rattle.std.specs.List.{All}
 use Rattle.spin_base.specs.declared.chips.Chip.{Chip}
+use Rattle.machine_desc.specs.Live.{IsInside}
 use Rattle.ner_trees.proofs.Growing.{GrownSoFar, Finished, so_far_start, so_far_more, finished_at}
 use Rattle.ner_trees.proofs.growths.ner.Goals as goal
 
@@ -38,3 +40,13 @@ returns c =
       few_edges = done.few;
       routing = done.routing;
     }
+
+pub add_target-requires-clause-target_inside : goal.add_target-requires-clause-target_inside
+add_target-requires-clause-target_inside c =
+    subst (All (IsInside c.args.machine.now)) (sym c.as_slice-target-items.ensures) c.requires.targets_inside c.loop-target.target-index _ c.loop-target-test.true
+
+pub add_target-requires-clause-on_is : goal.add_target-requires-clause-on_is
+add_target-requires-clause-on_is c = c.loop-target.invariant.on_is
+
+pub add_target-requires-clause-edges_inside : goal.add_target-requires-clause-edges_inside
+add_target-requires-clause-edges_inside c = c.loop-target.invariant.inside
