@@ -1,5 +1,4 @@
 pub mod Determined
-mod ExampleTree
 mod Marking
 mod Ordering
 mod Taking
