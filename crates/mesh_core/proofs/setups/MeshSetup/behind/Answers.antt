@@ -5,16 +5,16 @@ use Rattle.mesh_core.specs.State.{Setup, core_of, behind}
 use Rattle.mesh_core.proofs.ServingLaws.{vertex_behind-core, vertex_behind-beyond}
 use Rattle.mesh_core.proofs.setups.MeshSetup.behind.Goals as goal
 
-pub returns-then-core-lt18-clause-queue : goal.returns-then-core-lt18-clause-queue
-returns-then-core-lt18-clause-queue c =
+pub returns-then-core-lt-CORES-clause-queue : goal.returns-then-core-lt-CORES-clause-queue
+returns-then-core-lt-CORES-clause-queue c =
     let u : Setup = c.args.self.now in
     let spot : Spot = record { chip = c.args.c; core = c.in-Core.core } in
     c.queue_on.ensures.queue
-    ∙ (ap core_of (sym (vertex_behind-core u.spots spot c.if-core-lt18.true))
+    ∙ (ap core_of (sym (vertex_behind-core u.spots spot c.if-core-lt-CORES.true))
     ∙ ap (behind u c.args.c) (sym c.in-Core.is))
 
-pub returns-else-core-lt18-clause-queue : goal.returns-else-core-lt18-clause-queue
-returns-else-core-lt18-clause-queue c =
+pub returns-else-core-lt-CORES-clause-queue : goal.returns-else-core-lt-CORES-clause-queue
+returns-else-core-lt-CORES-clause-queue c =
     let u : Setup = c.args.self.now in
     sym (ap (behind u c.args.c) c.in-Core.is
-    ∙ ap core_of (vertex_behind-beyond u.spots c.args.c c.in-Core.core c.if-core-lt18.false))
+    ∙ ap core_of (vertex_behind-beyond u.spots c.args.c c.in-Core.core c.if-core-lt-CORES.false))
