@@ -16,12 +16,13 @@ use Rattle.spin_base.specs.declared.copies.McCopy.{McCopy}
 use Rattle.spin_base.specs.declared.routes.Out.{Out}
 use Rattle.mesh_core.specs.State.{State, Hand, IsMesh}
 use Rattle.mesh_core.specs.Trail.{Station, unsent, in_queue, in_hand, at_core, delivered, dumped, Mark}
-use Rattle.mesh_core.specs.Ledger.{marks_of, marked, hand_marks, port_of, unsent_marks, input_marks, all_hand_marks, core_marks, delivered_marks, dumped_marks}
+use Rattle.mesh_core.specs.Ledger.{marks_of, marked, hand_marks, port_of, unsent_marks, input_marks, all_hand_marks, core_marks}
 use Rattle.mesh_core.proofs.Moves.{mark}
 use Rattle.mesh_core.proofs.Standing.{mark_stands, StandsAt}
 use Rattle.app_loads.proofs.ClaimCases.{among_flat, flat_among}
 use Rattle.app_loads.specs.declared.loaded.LoadedApp.{LoadedApp}
 use Rattle.app_loads.specs.Leaving.{is_packet_of, IsUnderWay, WaitsIn, NoneUnderWay, IsLeastUnderWay, own_packet, lesser_of, least_of, packets_of, held_packets}
+use Rattle.app_loads.proofs.LeavingLists.{after_cores, after_hands, after_inputs, after_unsent}
 
 -- ---- the least of some numbers
 
@@ -183,39 +184,27 @@ module _ (s : State) where
       of_hand c (Some h) some (inr none) = absurd none
       of_hand c None some a' = absurd a'
 
-  abbrev after_cores : List Mark
-  after_cores = delivered_marks s ++ dumped_marks s
-
-  abbrev after_hands : List Mark
-  after_hands = core_marks s ++ after_cores
-
-  abbrev after_inputs : List Mark
-  after_inputs = all_hand_marks s ++ after_hands
-
-  abbrev after_unsent : List Mark
-  after_unsent = input_marks s ++ after_inputs
-
   -- each of the packets under way has a mark
   has_mark : IsMesh s → (n : ℕ) → Among n (under_way s) → IsMarked n (marks_of s)
   has_mark mesh n a = by_cores (among_either n ((flat_map packets_of s.unsent ++ flat_map packets_of s.inputs) ++ flat_map held_packets s.hands) (flat_map packets_of s.cores) a)
     where
       by_unsent : Among n (flat_map packets_of s.unsent) ⊎ Among n (flat_map packets_of s.inputs) → IsMarked n (marks_of s)
-      by_unsent (inl b) = let m = queue_marked unsent (λ i. tt) s.unsent n b in (m.0, among_left m.0 (unsent_marks s) after_unsent m.1, m.2, m.3)
+      by_unsent (inl b) = let m = queue_marked unsent (λ i. tt) s.unsent n b in (m.0, among_left m.0 (unsent_marks s) (after_unsent s) m.1, m.2, m.3)
       by_unsent (inr b) =
           let m = queue_marked (λ i. in_queue (chip_of s.setup.machine (i / 7)) (port_of (i % 7))) (λ i. tt) s.inputs n b in
-          (m.0, among_right m.0 (unsent_marks s) after_unsent (among_left m.0 (input_marks s) after_inputs m.1), m.2, m.3)
+          (m.0, among_right m.0 (unsent_marks s) (after_unsent s) (among_left m.0 (input_marks s) (after_inputs s) m.1), m.2, m.3)
 
       by_hands : Among n (flat_map packets_of s.unsent ++ flat_map packets_of s.inputs) ⊎ Among n (flat_map held_packets s.hands) → IsMarked n (marks_of s)
       by_hands (inl b) = by_unsent (among_either n (flat_map packets_of s.unsent) (flat_map packets_of s.inputs) b)
       by_hands (inr b) =
           let m = hand_marked mesh n b in
-          (m.0, among_right m.0 (unsent_marks s) after_unsent (among_right m.0 (input_marks s) after_inputs (among_left m.0 (all_hand_marks s) after_hands m.1)), m.2, m.3)
+          (m.0, among_right m.0 (unsent_marks s) (after_unsent s) (among_right m.0 (input_marks s) (after_inputs s) (among_left m.0 (all_hand_marks s) (after_hands s) m.1)), m.2, m.3)
 
       by_cores : Among n ((flat_map packets_of s.unsent ++ flat_map packets_of s.inputs) ++ flat_map held_packets s.hands) ⊎ Among n (flat_map packets_of s.cores) → IsMarked n (marks_of s)
       by_cores (inl b) = by_hands (among_either n (flat_map packets_of s.unsent ++ flat_map packets_of s.inputs) (flat_map held_packets s.hands) b)
       by_cores (inr b) =
           let m = queue_marked at_core (λ i. tt) s.cores n b in
-          (m.0, among_right m.0 (unsent_marks s) after_unsent (among_right m.0 (input_marks s) after_inputs (among_right m.0 (all_hand_marks s) after_hands (among_left m.0 (core_marks s) after_cores m.1))), m.2, m.3)
+          (m.0, among_right m.0 (unsent_marks s) (after_unsent s) (among_right m.0 (input_marks s) (after_inputs s) (among_right m.0 (all_hand_marks s) (after_hands s) (among_left m.0 (core_marks s) (after_cores s) m.1))), m.2, m.3)
 
   -- the application's packets of which a copy waits are those of its own among all that are under way
   waits_listed : (app : LoadedApp) (n : ℕ) → WaitsIn s app n → Among n (under_way s)

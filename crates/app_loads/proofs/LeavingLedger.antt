@@ -31,7 +31,7 @@ use Rattle.app_loads.specs.Host.{Host, all_nets, asked_of, asked_of_app, either,
 use Rattle.app_loads.specs.Applications.{AreApps, HaveOtherNumbers}
 use Rattle.app_loads.specs.Leaving.{is_packet_of, IsUnderWay, NoneUnderWay, others_than, mesh_without}
 use Rattle.app_loads.proofs.Ledgers.{own_net}
-use Rattle.app_loads.proofs.LeavingLists.{filter_stays, filter_of_map, count_of_filter, either_pair}
+use Rattle.app_loads.proofs.LeavingLists.{after_cores, after_hands, after_inputs, after_unsent, filter_stays, filter_of_map, count_of_filter, either_pair}
 use Rattle.app_loads.proofs.Others.{All-left_in, AllPairs-left_in, Contains-left_in}
 
 -- a test and its opposite
@@ -89,37 +89,25 @@ module _ (app : LoadedApp) (tables : List (List Entry)) (s : State) (none : None
       ∙ ap (λ l. l ++ filter (is_of_other app) rest) (filter_stays (is_of_other app) part (λ k a.
       opposite_false (is_packet_of app k.copy.packet) (λ is. none k.copy.packet (is, (k, among_contains k (marks_of s) (within k a), refl, under k a)))))
 
-  abbrev ended : List Mark
-  ended = delivered_marks s ++ dumped_marks s
-
-  abbrev from_cores : List Mark
-  from_cores = core_marks s ++ ended
-
-  abbrev from_hands : List Mark
-  from_hands = all_hand_marks s ++ from_cores
-
-  abbrev from_inputs : List Mark
-  from_inputs = input_marks s ++ from_hands
-
   -- the marks that are left are those of other packets
   pub marks_without : marks_of (mesh_without app tables s) ≡ filter (is_of_other app) (marks_of s)
   marks_without = sym (
-      part_stays (unsent_marks s) from_inputs (unsent_under_way s) (λ k a. among_left k (unsent_marks s) from_inputs a)
-      ∙ (ap (λ l. unsent_marks s ++ l) (part_stays (input_marks s) from_hands (inputs_under_way s) (λ k a. after_unsent k (among_left k (input_marks s) from_hands a)))
-      ∙ (ap (λ l. unsent_marks s ++ (input_marks s ++ l)) (part_stays (all_hand_marks s) from_cores (hands_under_way s) (λ k a. after_inputs k (among_left k (all_hand_marks s) from_cores a)))
-      ∙ (ap (λ l. unsent_marks s ++ (input_marks s ++ (all_hand_marks s ++ l))) (part_stays (core_marks s) ended (cores_under_way s) (λ k a. after_hands k (among_left k (core_marks s) ended a)))
+      part_stays (unsent_marks s) (after_unsent s) (unsent_under_way s) (λ k a. among_left k (unsent_marks s) (after_unsent s) a)
+      ∙ (ap (λ l. unsent_marks s ++ l) (part_stays (input_marks s) (after_inputs s) (inputs_under_way s) (λ k a. within_unsent k (among_left k (input_marks s) (after_inputs s) a)))
+      ∙ (ap (λ l. unsent_marks s ++ (input_marks s ++ l)) (part_stays (all_hand_marks s) (after_hands s) (hands_under_way s) (λ k a. within_inputs k (among_left k (all_hand_marks s) (after_hands s) a)))
+      ∙ (ap (λ l. unsent_marks s ++ (input_marks s ++ (all_hand_marks s ++ l))) (part_stays (core_marks s) (after_cores s) (cores_under_way s) (λ k a. within_hands k (among_left k (core_marks s) (after_cores s) a)))
       ∙ ap (λ l. unsent_marks s ++ (input_marks s ++ (all_hand_marks s ++ (core_marks s ++ l)))) ended_left))))
     where
-      after_unsent : (k : Mark) → Among k from_inputs → Among k (marks_of s)
-      after_unsent k a = among_right k (unsent_marks s) from_inputs a
+      within_unsent : (k : Mark) → Among k (after_unsent s) → Among k (marks_of s)
+      within_unsent k a = among_right k (unsent_marks s) (after_unsent s) a
 
-      after_inputs : (k : Mark) → Among k from_hands → Among k (marks_of s)
-      after_inputs k a = after_unsent k (among_right k (input_marks s) from_hands a)
+      within_inputs : (k : Mark) → Among k (after_inputs s) → Among k (marks_of s)
+      within_inputs k a = within_unsent k (among_right k (input_marks s) (after_inputs s) a)
 
-      after_hands : (k : Mark) → Among k from_cores → Among k (marks_of s)
-      after_hands k a = after_inputs k (among_right k (all_hand_marks s) from_cores a)
+      within_hands : (k : Mark) → Among k (after_hands s) → Among k (marks_of s)
+      within_hands k a = within_inputs k (among_right k (all_hand_marks s) (after_hands s) a)
 
-      ended_left : filter (is_of_other app) ended ≡ delivered_marks (mesh_without app tables s) ++ dumped_marks (mesh_without app tables s)
+      ended_left : filter (is_of_other app) (after_cores s) ≡ delivered_marks (mesh_without app tables s) ++ dumped_marks (mesh_without app tables s)
       ended_left =
           filter-append (is_of_other app) (delivered_marks s) (dumped_marks s)
           ∙ (ap (λ l. l ++ filter (is_of_other app) (dumped_marks s)) (filter_of_map (is_of_other app) (λ (d : Delivery). mark d.copy (delivered d.vertex)) s.delivered)

@@ -1,10 +1,13 @@
 -- What stays of a list of applications, and of what each of them has, where some leave.
-use Rattle.std.proofs.Common.{◌≡◌, ℕ, ◌+◌, Bool, true, false, cond, List, [], ◌∷◌, map, refl, sym, ap, ◌∙◌, subst, arith, inl, inr, ◌⊎◌, count_by}
+use Rattle.std.proofs.Common.{◌≡◌, ℕ, ◌+◌, Bool, true, false, cond, List, [], ◌∷◌, map, refl, sym, ap, ◌∙◌, subst, arith, inl, inr, ◌⊎◌, count_by, ◌++◌}
 use Rattle.std.specs.List.{AllPairs, Contains, filter, slice_index_or}
 use Rattle.std.proofs.lemmas.Bool.{cases_order}
 use Rattle.std.proofs.lemmas.List.{get_or_default}
 use Rattle.list_laws.proofs.Counts.{count_by-cons}
 use Rattle.list_laws.proofs.Members.{Among}
+use Rattle.mesh_core.specs.State.{State}
+use Rattle.mesh_core.specs.Trail.{Mark}
+use Rattle.mesh_core.specs.Ledger.{all_hand_marks, core_marks, delivered_marks, dumped_marks, input_marks}
 
 -- ---- lists
 
@@ -43,6 +46,22 @@ count_of_filter {X} p q (x ∷ xs) stays = by_test (q x) refl (count_of_filter p
         by_other : (b : Bool) → p x ≡ b → count_by p xs ≡ one_if b + count_by p xs
         by_other true passes = let other : q x ≡ true = stays x passes in cc
         by_other false fails = zero_more (count_by p xs)
+
+-- ---- the marks of a mesh that come after those of a kind of place
+
+abbrev pub after_cores : State → List Mark
+after_cores s = delivered_marks s ++ dumped_marks s
+
+abbrev pub after_hands : State → List Mark
+after_hands s = core_marks s ++ after_cores s
+
+abbrev pub after_inputs : State → List Mark
+after_inputs s = all_hand_marks s ++ after_hands s
+
+abbrev pub after_unsent : State → List Mark
+after_unsent s = input_marks s ++ after_inputs s
+
+-- ---- pairs
 
 -- two different items of a list are a pair one way or the other
 pub either_pair : {X : Type 0} (R : X → X → Type 0) (xs : List X) (x y : X) → AllPairs R xs → Contains xs x → Contains xs y → (x ≡ y) ⊎ (R x y ⊎ R y x)

@@ -1,5 +1,5 @@
 -- A mesh and regions that an application leaves.
-use Rattle.std.proofs.Common.{◌≡◌, ◌++◌, List, length, sym, ap, ◌∙◌, subst}
+use Rattle.std.proofs.Common.{◌≡◌, ◌++◌, List, length, sym, ap, ◌∙◌, subst, refl}
 use Rattle.std.specs.List.{All}
 use Rattle.std.proofs.lemmas.List.{length-map}
 use Rattle.spin_base.specs.declared.blocks.Entry.{Entry}
@@ -14,27 +14,12 @@ use Rattle.app_loads.specs.Regions.{AreFreeBeside, IsWithin}
 use Rattle.app_loads.specs.Removing.{CanLeave}
 use Rattle.app_loads.specs.Taking.{AreTaken, free_of, frees}
 use Rattle.app_loads.specs.Writing.{CanClear}
+use Rattle.app_loads.proofs.Settling.{changed_mesh}
 
 -- a mesh with other tables, deliveries and records
 pub mesh_with : (s : State) (tables : List (List Entry)) (delivered : List Delivery) (dumped : List DumpRec) → IsMesh s → length tables ≡ length s.setup.tables →
     IsMesh (record s { setup = record s.setup { tables = tables }; delivered = delivered; dumped = dumped })
-mesh_with s tables delivered dumped mesh long = record {
-  size = mesh.size;
-  different = mesh.different;
-  sites = mesh.sites;
-  room = mesh.room;
-  unsent_lists = mesh.unsent_lists;
-  input_lists = mesh.input_lists;
-  hand_list = mesh.hand_list;
-  core_lists = mesh.core_lists;
-  table_list = long ∙ mesh.table_list;
-  inputs_within = mesh.inputs_within;
-  cores_within = mesh.cores_within;
-  unsent_at_start = mesh.unsent_at_start;
-  hands_with_outputs = mesh.hands_with_outputs;
-  none_at_dead_ports = mesh.none_at_dead_ports;
-  none_on_dead_chips = mesh.none_on_dead_chips;
-}
+mesh_with s tables delivered dumped mesh long = changed_mesh s tables s.unsent delivered dumped mesh long refl mesh.unsent_at_start
 
 pub parted_whole : (s t : State) → s ≡ t → IsMesh t → (u : Setup) (delivered : List Delivery) (dumped : List DumpRec) → u ≡ record s.setup { tables = u.tables } → length u.tables ≡ length s.setup.tables →
     IsMesh (record s { setup = u; delivered = delivered; dumped = dumped })

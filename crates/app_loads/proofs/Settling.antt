@@ -1,11 +1,11 @@
 -- An application's rows and packets on a mesh.
 use Rattle.std.proofs.Common.{◌≡◌, ℕ, zero, suc, ◌+◌, ◌-◌, ◌*◌, ◌/◌, ◌%◌, ◌^◌, ◌<◌, ◌≤◌, ◌==◌, leb, Bool, true, false, List, [], ◌∷◌, ◌++◌, length, map, refl, sym, ap, ◌∙◌, subst, inl, inr, ◌⊎◌, arith, Option, None, Some, count_by, if◌then◌else◌}
 use Rattle.std.specs.Option.{option_map_or}
-use Rattle.std.specs.List.{list_any, slice_get, slice_set, All, Contains}
+use Rattle.std.specs.List.{list_any, slice_get, All, Contains}
 use Rattle.std.proofs.lemmas.Bool.{cases_Bool, or_left, or_right, or_cases}
 use Rattle.std.proofs.lemmas.Bool.Decides.{nat_tests}
 use Rattle.std.proofs.lemmas.List.{length-map, length-set}
-use Rattle.std.proofs.lemmas.List.Elements.{All-nil, All-cons, All-head, All-tail, All-append, All-contains}
+use Rattle.std.proofs.lemmas.List.Elements.{All-contains, All-set, All-push}
 use Rattle.std.proofs.lemmas.List.Sorted.{length_permutation}
 use Rattle.std.proofs.lemmas.Option.{slice_get_within, same_Some}
 use Rattle.mesh_core.proofs.Moves.{chip_of-index_of}
@@ -18,6 +18,8 @@ use Rattle.spin_base.specs.declared.blocks.Block.{Block}
 use Rattle.spin_base.specs.declared.blocks.Entry.{Entry}
 use Rattle.spin_base.specs.declared.chips.Chip.{Chip}
 use Rattle.spin_base.specs.declared.chips.Spot.{Spot}
+use Rattle.spin_base.specs.declared.copies.Delivery.{Delivery}
+use Rattle.spin_base.specs.declared.copies.DumpRec.{DumpRec}
 use Rattle.spin_base.specs.declared.copies.McCopy.{McCopy}
 use Rattle.spin_base.specs.declared.copies.Packet.{Packet}
 use Rattle.spin_base.specs.Equality.{chip_eq}
@@ -220,32 +222,33 @@ sent_at_start spots app (suc n) before after start sent =
     let one = sent.4 in
     let rest = sent_at_start spots app n before sent.0 start sent.2 in
     subst (All (λ q. All (λ (k : McCopy). k.hop ≡ 0) q)) (sym one.is)
-    (set_all sent.0 one.vertex (one.queue ++ _ ∷ []) rest (All-append (λ (k : McCopy). k.hop ≡ 0) one.queue (_ ∷ []) (All-at (λ q. All (λ (k : McCopy). k.hop ≡ 0) q) sent.0 one.vertex one.queue rest one.at) (All-cons (λ (k : McCopy). k.hop ≡ 0) _ [] refl (All-nil (λ (k : McCopy). k.hop ≡ 0)))))
-  where
-    set_all : (l : List (List McCopy)) (v : ℕ) (q : List McCopy) → All (λ q. All (λ (k : McCopy). k.hop ≡ 0) q) l → All (λ (k : McCopy). k.hop ≡ 0) q → All (λ q. All (λ (k : McCopy). k.hop ≡ 0) q) (slice_set l v q)
-    set_all [] v q all one = all
-    set_all (x ∷ xs) zero q all one = All-cons (λ q. All (λ (k : McCopy). k.hop ≡ 0) q) q xs one (All-tail (λ q. All (λ (k : McCopy). k.hop ≡ 0) q) x xs all)
-    set_all (x ∷ xs) (suc v) q all one = All-cons (λ q. All (λ (k : McCopy). k.hop ≡ 0) q) x (slice_set xs v q) (All-head (λ q. All (λ (k : McCopy). k.hop ≡ 0) q) x xs all) (set_all xs v q (All-tail (λ q. All (λ (k : McCopy). k.hop ≡ 0) q) x xs all) one)
+    (All-set (λ q. All (λ (k : McCopy). k.hop ≡ 0) q) sent.0 one.vertex (one.queue ++ _ ∷ []) (All-push (λ (k : McCopy). k.hop ≡ 0) one.queue _ (All-at (λ q. All (λ (k : McCopy). k.hop ≡ 0) q) sent.0 one.vertex one.queue rest one.at) refl) rest)
 
-pub settled_mesh : (s : State) (app : LoadedApp) (n : ℕ) (q : List (List McCopy)) (tables : List (List Entry)) → IsMesh s → AreSent s.setup.spots app n s.unsent q → length tables ≡ length s.setup.tables →
-    IsMesh (record s { setup = record s.setup { tables = tables }; unsent = q })
-settled_mesh s app n q tables mesh sent long = record {
+-- a mesh with other tables, unsent copies, deliveries and records
+pub changed_mesh : (s : State) (tables : List (List Entry)) (q : List (List McCopy)) (delivered : List Delivery) (dumped : List DumpRec) → IsMesh s → length tables ≡ length s.setup.tables → length q ≡ length s.unsent →
+    All (λ l. All (λ (k : McCopy). k.hop ≡ 0) l) q → IsMesh (record s { setup = record s.setup { tables = tables }; unsent = q; delivered = delivered; dumped = dumped })
+changed_mesh s tables q delivered dumped mesh long as_long at_start = record {
   size = mesh.size;
   different = mesh.different;
   sites = mesh.sites;
   room = mesh.room;
-  unsent_lists = sent_long s.setup.spots app n s.unsent q sent ∙ mesh.unsent_lists;
+  unsent_lists = as_long ∙ mesh.unsent_lists;
   input_lists = mesh.input_lists;
   hand_list = mesh.hand_list;
   core_lists = mesh.core_lists;
   table_list = long ∙ mesh.table_list;
   inputs_within = mesh.inputs_within;
   cores_within = mesh.cores_within;
-  unsent_at_start = sent_at_start s.setup.spots app n s.unsent q mesh.unsent_at_start sent;
+  unsent_at_start = at_start;
   hands_with_outputs = mesh.hands_with_outputs;
   none_at_dead_ports = mesh.none_at_dead_ports;
   none_on_dead_chips = mesh.none_on_dead_chips;
 }
+
+pub settled_mesh : (s : State) (app : LoadedApp) (n : ℕ) (q : List (List McCopy)) (tables : List (List Entry)) → IsMesh s → AreSent s.setup.spots app n s.unsent q → length tables ≡ length s.setup.tables →
+    IsMesh (record s { setup = record s.setup { tables = tables }; unsent = q })
+settled_mesh s app n q tables mesh sent long =
+    changed_mesh s tables q s.delivered s.dumped mesh long (sent_long s.setup.spots app n s.unsent q sent) (sent_at_start s.setup.spots app n s.unsent q mesh.unsent_at_start sent)
 
 pub with_setup : (s : State) (u : Setup) (q : List (List McCopy)) → u ≡ record s.setup { tables = u.tables } →
     record s { setup = record s.setup { tables = u.tables }; unsent = q } ≡ record s { setup = u; unsent = q }

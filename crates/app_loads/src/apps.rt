@@ -103,7 +103,7 @@ impl Apps {
     }
 }
 
-// Puts an item in its place. What was there is dropped here, where its type is any, so that no caller takes a whole mesh apart.
+// Puts an item in its place. What was there is dropped here, as a value of any type: so no caller drops a whole mesh.
 pub fn put<T: Drop>(held: &mut Option<T>, item: T)
     ensures { held.new ≡ Some item }
 {

@@ -53,6 +53,7 @@ impl Apps {
                     app.plan.spots.as_slice(),
                     false,
                 );
+                drop(app);
                 put(&mut self.mesh, mesh);
                 Ok(ended)
             }
