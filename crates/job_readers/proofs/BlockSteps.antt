@@ -1,14 +1,12 @@
 -- Powers of two by their ones, and the block of a key and a mask.
-use Rattle.std.proofs.Common.{◌≡◌, ℕ, zero, suc, ◌+◌, ◌-◌, ◌*◌, ◌/◌, ◌%◌, ◌^◌, ◌<◌, ◌≤◌, true, inl, inr, refl, ap, subst, sym, ◌∙◌, arith}
+use Rattle.std.proofs.Common.{◌≡◌, ℕ, zero, suc, ◌+◌, ◌-◌, ◌*◌, ◌/◌, ◌%◌, ◌^◌, ◌<◌, ◌≤◌, true, inl, inr, ap, sym, ◌∙◌, arith}
 use Rattle.std.specs.Prelude.{bit_and}
 use Rattle.std.specs.Int.{IsPowerOfTwo, is_power_of_two}
 use Rattle.std.specs.Int.RustNames.{count_ones}
 use Rattle.std.proofs.lemmas.Bool.{cases_lt, eqb-true}
 use Rattle.std.proofs.lemmas.Nat.{ones-le, ones_cat, zero_from_ones}
 use Rattle.std.proofs.lemmas.Grind.{pow_more}
-use Rattle.std.proofs.Math.Nat.{mod-lt}
 use Rattle.spin_base.specs.declared.blocks.Block.{Block}
-use Rattle.app_graph.specs.ValidGraph.{IsFixedFor}
 use Rattle.tern_word.proofs.BlockLaws.{same_block, exponent_le}
 use Rattle.job_readers.specs.Blocks.{mask_from, block_at}
 

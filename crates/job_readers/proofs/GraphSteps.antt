@@ -1,5 +1,5 @@
 -- What vertices and nets so far have, and that the next one has nothing of it.
-use Rattle.std.proofs.Common.{◌≡◌, ℕ, zero, suc, ◌<◌, ◌^◌, List, [], ◌∷◌, ◌++◌, length, map, get_or, Bool, true, false, true≢false, ◌||◌, Option, Some, None, refl, ap, subst, sym, ◌∙◌, arith}
+use Rattle.std.proofs.Common.{◌≡◌, ℕ, zero, suc, ◌<◌, ◌^◌, List, [], ◌∷◌, ◌++◌, length, get_or, Bool, true, false, true≢false, Option, Some, None, refl, ap, subst, sym, ◌∙◌, arith}
 use Rattle.std.specs.Prelude.{IfSome, AllPairs, option_to_list, bit_and}
 use Rattle.std.specs.List.{list_any, flat_map}
 use Rattle.std.proofs.lemmas.Bool.{eq-eqb, or_left, or_right}
@@ -15,7 +15,6 @@ use Rattle.app_graph.specs.declared.graphs.Vertex.{Vertex}
 use Rattle.app_graph.specs.declared.graphs.Net.{Net}
 use Rattle.app_graph.specs.ValidGraph.{HaveDifferentDevices, AreFixedApart, AreApart}
 use Rattle.tern_word.proofs.BlockLaws.{agree_where_meet}
-use Rattle.job_text.specs.declared.faults.JobFault.{JobFault}
 use Rattle.job_readers.specs.Blocks.{shares_key}
 use Rattle.job_readers.specs.Hung.{is_among}
 use Rattle.job_readers.specs.GraphPart.{name_of, vertex_faults, vertex_value, next_vertex_faults, vertex_names_of, devices_of, net_faults, net_value, next_net_faults, net_names, blocks_of}

@@ -3,7 +3,8 @@
 //! `version_of`, `machine_of`, `graph_of` and `run_of` read one part each of the job that stands at a path. Called in this
 //! order, as `job_of` does, they give the job, or the first of its faults in the order of reading, with its path. Which
 //! versions are read is the caller's to say, and which members a graph has follows from its job's version. `specs/` lists
-//! all faults of a part in that order, and what the part is. The format is this project's own.
+//! all faults of a part in that order, and what the part is. `each_item` is the loop over a list whose items are of one kind,
+//! which an `ItemReader` reads. The format is this project's own.
 #![tactic(auto)]
 
 mod blocks;

@@ -17,7 +17,7 @@ use crate::items::{ItemReader, each_item};
 use crate::members::{list_of, number_of};
 use crate::names::{Names, reference};
 use app_graph::{Graph, Net, RunPart};
-use job_text::{TextErr, count_to, field, member, member_path, number_in, object, shape};
+use job_text::{TextErr, count_to, field, member, member_path, number_in, object};
 use machine_desc::Machine;
 use serde_json::Value;
 use spin_base::{Memory, Name, Packet, Port, Seq};
@@ -204,13 +204,7 @@ fn optional_object<'a>(
     ensures { Gives (λ d. view d.now) result (optional_object_faults path.now (option_map (λ d. view d.now) v.entry)) (object_value (option_map (λ d. view d.now) v.entry)) }
 {
     match v {
-        Some(found) => {
-            if found.is_object() {
-                Ok(found)
-            } else {
-                Err(shape(alloc, path))
-            }
-        }
+        Some(found) => object(alloc, Some(found), path),
         None => Ok(absent),
     }
 }

@@ -1,5 +1,4 @@
 pub mod Json
-pub mod Equality
 pub mod Paths
 pub mod Members
 pub mod Reading

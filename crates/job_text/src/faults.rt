@@ -23,33 +23,8 @@ pub enum JobFault {
     Clash(Name),
 }
 
-impl PartialEq for JobFault {
-    ghost use Rattle.std.specs.Prelude.{bytes_eq};
-    ghost use Rattle.std.specs.Cmp.{on_per, partial_equiv_from_equiv};
-    ghost use Rattle.std.specs.Cmp.Lexicographic.{nat_list_eq_equiv};
-    ghost use Rattle.job_text.specs.Equality.{code_of};
-
-    ghost eq = { λ a b. bytes_eq (code_of a) (code_of b) };
-
-    ghost laws = { on_per code_of (partial_equiv_from_equiv nat_list_eq_equiv) };
-
-    fn eq(&self, other: &JobFault) -> bool {
-        match (self, other) {
-            (JobFault::Shape(a), JobFault::Shape(b)) => a.as_bytes() == b.as_bytes(),
-            (JobFault::Range(a), JobFault::Range(b)) => a.as_bytes() == b.as_bytes(),
-            (JobFault::UnknownName(a), JobFault::UnknownName(b)) => a.as_bytes() == b.as_bytes(),
-            (JobFault::DoubleName(a), JobFault::DoubleName(b)) => a.as_bytes() == b.as_bytes(),
-            (JobFault::TooMany(a, m), JobFault::TooMany(b, n)) => {
-                *m == *n && a.as_bytes() == b.as_bytes()
-            }
-            (JobFault::Clash(a), JobFault::Clash(b)) => a.as_bytes() == b.as_bytes(),
-            _ => false,
-        }
-    }
-}
-
 /// Why a part of a job was not read.
-#[derive(Debug, Drop, PartialEq)]
+#[derive(Debug, Drop)]
 pub enum TextErr {
     /// The part's first fault.
     Fault(JobFault),
