@@ -5,7 +5,7 @@ use Rattle.std.proofs.lemmas.List.{length_push, length-take, take-append-le, tak
 use Rattle.std.specs.List.{AllZip}
 use Rattle.std.proofs.lemmas.List.Folds.{list_any_at}
 use Rattle.std.proofs.lemmas.List.Elements.{All-filter, All-nil, All-cons}
-use Rattle.std.proofs.lemmas.Option.{slice_get_within, slice_get-get_or, slice_get_cases, get_or_from_slice_get}
+use Rattle.std.proofs.lemmas.Option.{slice_get_within, slice_get-get_or, get_or_from_slice_get}
 use Rattle.list_laws.proofs.Places.{slice_get_there, slice_get-push_cases, slice_get-append_left, slice_get-pushed}
 use Rattle.spin_base.specs.declared.chips.Chip.{Chip}
 use Rattle.spin_base.specs.declared.chips.Spot.{Spot}

@@ -71,3 +71,8 @@ returns-clause-grown c =
     (taken_all c.args.machine.now c.args.net.now.tree.root c.as_slice-edge-items.result.now c.args.net.now.tree.edges c.loop-edge.edge-index c.args.net.now.block _ _
     c.as_slice-edge-items.ensures c.loop-edge-test.false c.loop-edge.invariant)
     c.requires.routes_told
+
+pub far-requires : goal.far-requires
+far-requires c =
+    edge_inside c.args.machine.now c.args.net.now.tree.root c.args.net.now.tree.edges c.args.net.now.targets c.requires.routed.tree
+    c.as_slice-edge-items.result.now c.as_slice-edge-items.ensures c.loop-edge.edge-index _ c.loop-edge-test.true

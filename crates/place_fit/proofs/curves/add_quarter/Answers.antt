@@ -1,0 +1,8 @@
+use Rattle.std.proofs.Common.{◌++◌, ap, map, take_all, ◌∙◌}
+use Rattle.place_fit.specs.Quarters.{in_quarter}
+use Rattle.place_fit.proofs.curves.add_quarter.Goals as goal
+
+pub returns : goal.returns
+returns c =
+    c.loop-chip.invariant
+    ∙ ap (λ cs. c.args.all.now.items ++ map (in_quarter c.args.quarter c.args.side) cs) (take_all c.loop-chip.chip-index c.args.chips.now c.loop-chip-test.false)
