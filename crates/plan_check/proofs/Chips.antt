@@ -1,7 +1,7 @@
 -- What is amiss with a net, chip by chip in the order of their indices, and net by net.
 use Rattle.std.proofs.Common.{◌≡◌, ℕ, ◌+◌, ◌*◌, ◌<◌, ◌≤◌, List, [], ◌∷◌, length, get_or, Option, Some, None, refl, sym, ap, ◌∙◌, subst, arith, inl, inr, cond, true, false, Bool, ◌==◌}
 use Rattle.std.specs.Prelude.{All, slice_get}
-use Rattle.std.proofs.lemmas.Bool.{cases_lt, cases_Bool}
+use Rattle.std.proofs.lemmas.Bool.{cases_lt}
 use Rattle.std.proofs.lemmas.List.{get_or_default}
 use Rattle.std.proofs.lemmas.List.Elements.{All-nil, All-head, All-tail}
 use Rattle.std.proofs.lemmas.Option.{none-some, slice_get-get_or}
@@ -24,8 +24,8 @@ use Rattle.plain_tables.proofs.Trees.{chips_inside, comes_in_tree}
 use Rattle.plan_check.specs.declared.fares.Flaw.{Flaw}
 use Rattle.plan_check.specs.declared.fares.Flaw.TheVariants.{Wrong, Split}
 use Rattle.plan_check.specs.declared.verdicts.Verdict.{Verdict}
-use Rattle.plan_check.specs.Boards.{IsAmiss, IsAmissAt, IsFlaw, IsFineBelow, Fares, verdict_on}
-use Rattle.plan_check.specs.Verdicts.{GetsRoute, IsSplitAt, IsChipOf, IsFine, IsWrong, IsFineAll, IsTreeRoute, AreFineBefore, IsVerdict, rows_for}
+use Rattle.plan_check.specs.Boards.{IsAmissAt, IsFlaw, IsFineBelow, Fares, verdict_on}
+use Rattle.plan_check.specs.Verdicts.{IsChipOf, IsFine, IsFineAll, AreFineBefore, IsVerdict, rows_for}
 use Rattle.plain_tables.proofs.Determined.{same_outputs}
 
 -- ---- the rows of a valid image

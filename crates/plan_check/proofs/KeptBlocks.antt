@@ -1,25 +1,25 @@
 -- In the kept rows of a sound table, all keys of an alias get its row's route: by its row, inside which it lies, or by default.
-use Rattle.std.proofs.Common.{◌≡◌, ℕ, zero, suc, ◌+◌, ◌<◌, ◌≤◌, ◌==◌, true, List, [], ◌∷◌, length, get_or, map, Some, refl, sym, ap, ◌∙◌, subst, arith, inl, inr}
-use Rattle.std.specs.Prelude.{All, AllPairs, slice_get, bit_and}
+use Rattle.std.proofs.Common.{◌≡◌, ℕ, zero, suc, ◌<◌, ◌≤◌, List, ◌∷◌, length, get_or, map, Some, refl, sym, ap, ◌∙◌, subst, arith, inl, inr}
+use Rattle.std.specs.Prelude.{slice_get, bit_and}
 use Rattle.std.specs.List.{cons_option}
 use Rattle.std.proofs.lemmas.Bool.{cases_lt, eqb-true, eq-eqb}
-use Rattle.std.proofs.lemmas.List.Elements.{All-nil, All-cons, All-map, All-weaker}
+use Rattle.std.proofs.lemmas.List.Elements.{All-cons, All-map}
 use Rattle.std.proofs.lemmas.Option.{get_or_from_slice_get}
 use Rattle.spin_base.specs.declared.blocks.Block.{Block}
 use Rattle.spin_base.specs.declared.blocks.Entry.{Entry}
 use Rattle.spin_base.specs.declared.chips.Port.{Port}
 use Rattle.spin_base.specs.declared.routes.Route.{Route}
-use Rattle.spin_base.specs.Lookup.{matches, default_route}
+use Rattle.spin_base.specs.Lookup.{default_route}
 use Rattle.net_tables.specs.RightTables.{IsKeyOf}
 use Rattle.tern_word.specs.declared.tables.Alias.{Alias}
 use Rattle.tern_word.specs.declared.tables.Row.{Row}
 use Rattle.tern_word.specs.Entries.{entry_of}
-use Rattle.tern_word.specs.Ternary.{Matches, Intersects, LiesIn}
-use Rattle.tern_word.specs.SoundTable.{Misses, IsSound}
+use Rattle.tern_word.specs.Ternary.{Intersects, LiesIn}
+use Rattle.tern_word.specs.SoundTable.{IsSound}
 use Rattle.tern_word.proofs.BlockLaws.{key_small}
 use Rattle.cover_checks.specs.Merge.{rows_at}
 use Rattle.default_routes.specs.KeptRows.{IsStrippable, KeptFrom, ends, goes, stays, AreKept}
-use Rattle.plan_check.specs.Verdicts.{Meets, LiesInside, NoneMeets, IsFirstToMeet, GetsRoute}
+use Rattle.plan_check.specs.Verdicts.{Meets, LiesInside, GetsRoute}
 
 -- a row's entry meets a block where the blocks meet
 entry_meets : (r : Row) (b : Block) → Meets b (entry_of r) → Intersects r.block b

@@ -1,25 +1,23 @@
 -- What lookup gives the keys of a block that get one route, and what a verdict means for the tables that are loaded.
-use Rattle.std.proofs.Common.{◌≡◌, ℕ, zero, suc, ◌-◌, ◌*◌, ◌<◌, ◌==◌, Bool, true, false, cond, List, [], ◌∷◌, ◌++◌, length, get_or, Some, replicate, refl, sym, ap, ◌∙◌, subst, arith, inl, inr}
+use Rattle.std.proofs.Common.{◌≡◌, ℕ, zero, suc, ◌-◌, ◌*◌, ◌<◌, Bool, true, false, cond, List, [], ◌∷◌, ◌++◌, length, get_or, Some, replicate, refl, sym, ap, ◌∙◌, subst, arith, inl, inr}
 use Rattle.std.specs.Prelude.{All, find, slice_get}
 use Rattle.std.specs.Option.{option_map_or}
 use Rattle.std.proofs.lemmas.Bool.{false_from_ne_true}
-use Rattle.std.proofs.lemmas.List.Elements.{All-nil, All-cons, All-head, All-tail}
+use Rattle.std.proofs.lemmas.List.Elements.{All-head, All-tail}
 use Rattle.std.proofs.lemmas.Option.{get_or_from_slice_get, slice_get_within}
 use Rattle.list_laws.proofs.Places.{All-at}
 use Rattle.spin_base.specs.declared.blocks.Block.{Block}
 use Rattle.spin_base.specs.declared.blocks.Entry.{Entry}
 use Rattle.spin_base.specs.declared.chips.Chip.{Chip}
 use Rattle.spin_base.specs.declared.chips.Port.{Port}
-use Rattle.spin_base.specs.declared.routes.Out.{Out}
 use Rattle.spin_base.specs.declared.routes.Route.{Route}
 use Rattle.spin_base.specs.Lookup.{matches, default_route, lookup}
-use Rattle.spin_base.specs.Outputs.{has, IsOutput}
+use Rattle.spin_base.specs.Outputs.{has}
 use Rattle.spin_base.proofs.Lookups.{lookup_hit, lookup_miss}
 use Rattle.machine_desc.specs.Description.{Description}
 use Rattle.machine_desc.specs.Live.{IsInside, index_of}
 use Rattle.machine_desc.proofs.Far.{index_below}
 use Rattle.net_tables.specs.declared.nets.NetPlan.{NetPlan}
-use Rattle.net_tables.specs.Outputs.{is_wanted, ComesIn}
 use Rattle.net_tables.specs.RightTables.{IsKeyOf, AreRight, table_at}
 use Rattle.tern_word.proofs.BlockLaws.{key_small}
 use Rattle.tcam_find.specs.Memory.{unused}
@@ -30,8 +28,8 @@ use Rattle.plain_tables.specs.Marks.{IsRouted}
 use Rattle.plain_tables.proofs.Determined.{one_port}
 use Rattle.plain_tables.proofs.Trees.{chips_inside, comes_in_tree}
 use Rattle.plan_check.specs.declared.verdicts.Verdict.{Verdict}
-use Rattle.plan_check.specs.declared.verdicts.Verdict.TheVariants.{Right, Wrong, Split}
-use Rattle.plan_check.specs.Verdicts.{Meets, LiesInside, NoneMeets, IsFirstToMeet, GetsRoute, GetsRouteThat, IsFine, IsFineAll, IsWrong, IsTreeRoute, IsChipOf, IsVerdict, IsMisrouted, AreFineBefore, rows_for}
+use Rattle.plan_check.specs.declared.verdicts.Verdict.TheVariants.{Right, Wrong}
+use Rattle.plan_check.specs.Verdicts.{Meets, LiesInside, NoneMeets, IsFirstToMeet, GetsRoute, GetsRouteThat, IsFineAll, IsWrong, IsTreeRoute, IsChipOf, IsVerdict, IsMisrouted, rows_for}
 
 -- ---- lookup, entry by entry
 

@@ -1,8 +1,7 @@
 -- The image of the final tables of nets gets the verdict that all is right.
-use Rattle.std.proofs.Common.{◌≡◌, ℕ, ◌*◌, ◌<◌, List, [], ◌∷◌, length, get_or, map, Some, refl, sym, ap, ◌∙◌, subst, arith}
-use Rattle.std.specs.Prelude.{All, AllPairs, slice_get}
+use Rattle.std.proofs.Common.{◌≡◌, ℕ, ◌<◌, List, [], get_or, map, refl, sym, subst, arith}
+use Rattle.std.specs.Prelude.{All, AllPairs}
 use Rattle.std.specs.List.{Contains}
-use Rattle.std.specs.List.Sorted.{IsPermutation}
 use Rattle.std.proofs.lemmas.List.Elements.{All-nil, All-cons, All-head, All-map, All-contains}
 use Rattle.std.proofs.lemmas.List.Sorted.{All-permutation, Contains-permutation}
 use Rattle.list_laws.proofs.Members.{Contains-map}
@@ -19,16 +18,15 @@ use Rattle.tern_word.specs.declared.tables.Alias.{Alias}
 use Rattle.tern_word.specs.declared.tables.Row.{Row}
 use Rattle.tern_word.specs.Entries.{entry_of}
 use Rattle.tern_word.specs.Ternary.{Intersects, LiesIn}
-use Rattle.tern_word.specs.SoundTable.{Misses, HoldsItsAliases, IsSound, Original, served_by, served}
+use Rattle.tern_word.specs.SoundTable.{IsSound, Original, served_by, served}
 use Rattle.tern_word.proofs.BlockLaws.{Intersects-sym}
 use Rattle.cover_checks.proofs.Lists.{All-flat_map, All-from_flat_map}
 use Rattle.plain_tables.specs.PlainTable.{IsPlainTable, AreRouted, row_of}
 use Rattle.plain_tables.proofs.Trees.{chips_inside}
 use Rattle.plain_tables.proofs.Whole.{not_after, originals_apart, has_original}
 use Rattle.default_routes.specs.declared.stripping.Final.{Final}
-use Rattle.default_routes.specs.FinalTable.{IsFinalOf, loaded_rows}
+use Rattle.default_routes.specs.FinalTable.{loaded_rows}
 use Rattle.table_load.specs.declared.tables.Image.{Image}
-use Rattle.table_load.specs.Memories.{rows_at}
 use Rattle.cover_merge.specs.Merges.{sets_of}
 use Rattle.plan_check.specs.declared.verdicts.Verdict.TheVariants.{Right}
 use Rattle.plan_check.specs.MadeImages.{IsFinalAt, IsImageOf}

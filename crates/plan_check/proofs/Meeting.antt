@@ -1,5 +1,5 @@
 -- Going over the rows of a chip until one meets a block, and what is amiss with the route that it gives.
-use Rattle.std.proofs.Common.{◌≡◌, ◌≢◌, ℕ, ◌+◌, ◌<◌, ◌≤◌, ◌↔◌, IsTrue, Bool, true, false, List, length, get_or, Option, Some, None, refl, sym, ap, ◌∙◌, subst, arith, inl, inr}
+use Rattle.std.proofs.Common.{◌≡◌, ℕ, ◌+◌, ◌<◌, ◌≤◌, ◌↔◌, IsTrue, Bool, true, false, List, length, get_or, Option, Some, None, refl, sym, ap, ◌∙◌, subst, arith, inl, inr}
 use Rattle.std.specs.Prelude.{slice_get}
 use Rattle.std.proofs.lemmas.Bool.{cases_lt}
 use Rattle.std.proofs.lemmas.Option.{slice_get-get_or, slice_get_within}
@@ -12,7 +12,7 @@ use Rattle.spin_base.specs.Lookup.{default_route}
 use Rattle.plan_check.specs.declared.fares.Flaw.{Flaw}
 use Rattle.plan_check.specs.declared.fares.Flaw.TheVariants.{Wrong, Split}
 use Rattle.plan_check.specs.Boards.{IsAmiss, IsFlawBy}
-use Rattle.plan_check.specs.Verdicts.{Meets, LiesInside, NoneMeets, IsFirstToMeet, GetsRoute}
+use Rattle.plan_check.specs.Verdicts.{Meets, LiesInside, NoneMeets, IsFirstToMeet}
 
 -- no row before place i meets the block
 abbrev pub NoneBefore : Block → List Entry → ℕ → Type 0

@@ -1,29 +1,25 @@
 -- What was found of edges and targets by marks and flags is what a routing tree has.
-use Rattle.std.proofs.Common.{◌≡◌, ℕ, zero, suc, ◌+◌, ◌*◌, ◌<◌, ◌≤◌, ◌↔◌, ◌⊎◌, IsTrue, Bool, true, false, List, [], ◌∷◌, ◌++◌, length, get_or, set, take, map, replicate, Some, refl, sym, ap, ◌∙◌, subst, arith, inl, inr}
+use Rattle.std.proofs.Common.{◌≡◌, ℕ, ◌+◌, ◌*◌, ◌<◌, ◌↔◌, ◌⊎◌, IsTrue, Bool, true, false, List, [], ◌∷◌, ◌++◌, length, get_or, set, take, map, replicate, Some, refl, sym, ap, ◌∙◌, subst, arith, inl, inr}
 use Rattle.std.specs.Prelude.{All, Any, Contains}
-use Rattle.std.proofs.lemmas.Bool.{cases_eq, cases_lt, false≢true}
+use Rattle.std.proofs.lemmas.Bool.{cases_eq, false≢true}
 use Rattle.std.proofs.lemmas.Nat.{same_from_place}
-use Rattle.std.proofs.lemmas.List.{get_or-set_same, get_or-set_other, get_or-replicate, length-replicate, length-set, get_or_default, length-map, map_push, take_more}
-use Rattle.std.proofs.Math.ListN.{get_or-map}
-use Rattle.std.proofs.lemmas.List.Elements.{All-nil, All-cons, All-head, All-map, All-contains, Contains-append_left, Contains-push, Contains-push_cases}
-use Rattle.list_laws.proofs.Tests.{fails, answers_no}
+use Rattle.std.proofs.lemmas.List.{get_or-set_same, get_or-set_other, get_or-replicate, length-replicate, length-set, length-map, map_push, take_more}
+use Rattle.std.proofs.lemmas.List.Elements.{All-nil, All-head, All-map, All-contains, Contains-append_left, Contains-push, Contains-push_cases}
 use Rattle.list_laws.proofs.Members.{Contains-none, Contains-first}
 use Rattle.list_laws.proofs.Pairs.{All-from_map}
 use Rattle.spin_base.specs.declared.chips.Chip.{Chip}
 use Rattle.spin_base.specs.declared.chips.Spot.{Spot}
 use Rattle.spin_base.specs.Links.{dir_number}
 use Rattle.machine_desc.specs.declared.trees.Edge.{Edge}
-use Rattle.machine_desc.specs.declared.trees.Tree.{Tree}
 use Rattle.machine_desc.specs.Description.{Description}
-use Rattle.machine_desc.specs.Live.{IsInside, is_inside, IsLiveLink, far_of, index_of, chip_of}
-use Rattle.machine_desc.specs.RoutingTree.{end_of, IsTreeChip, IsPath, IsTreeTo, IsRoutingTree}
+use Rattle.machine_desc.specs.Live.{IsInside, is_inside, IsLiveLink, index_of, chip_of}
+use Rattle.machine_desc.specs.RoutingTree.{end_of, IsTreeChip, IsPath, IsRoutingTree}
 use Rattle.machine_desc.proofs.Far.{index_below, same_index, far_inside, live_inside, live_ends}
 use Rattle.machine_desc.proofs.Same.{same_dir, same_edge, below_six}
 use Rattle.machine_desc.proofs.Live.{index_of-chip_of, chip_of-inside}
 use Rattle.machine_desc.proofs.TreeLemmas.{tree_cases, path_more, path_in_tree, root_lives_with_edge}
-use Rattle.plan_check.specs.GoodTrees.{IsGood}
 use Rattle.plan_check.specs.Marks.{IsAlone, EntersOnce, IsMarked, AreMarks, AreFlags, IsReached, at_root, by_link, GoesOn, is_flagged, mark_at, link_place}
-use Rattle.plan_check.proofs.Marking.{no_marks, one_mark}
+use Rattle.plan_check.proofs.Marking.{one_mark}
 
 -- ---- a root outside the grid
 

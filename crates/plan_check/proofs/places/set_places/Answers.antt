@@ -1,7 +1,5 @@
-use Rattle.std.proofs.Common.{◌≡◌, ◌+◌, ◌*◌, Some, length, sym, ap, ◌∙◌, subst, arith, rules}
-use Rattle.std.specs.Prelude.{slice_get}
-use Rattle.std.proofs.lemmas.Option.{slice_get-get_or}
-use Rattle.plan_check.proofs.TablePlaces.{tells_none, tells_more, chip_has_place, table_read}
+use Rattle.std.proofs.Common.{◌*◌, length, ap, rules}
+use Rattle.plan_check.proofs.TablePlaces.{tells_none, table_read}
 use Rattle.plan_check.proofs.places.set_places.Goals as goal
 
 pub loop-at-init : goal.loop-at-init

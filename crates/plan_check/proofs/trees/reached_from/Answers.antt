@@ -1,4 +1,4 @@
-use Rattle.std.proofs.Common.{◌≡◌, ◌+◌, ◌*◌, ◌<◌, ◌≤◌, ◌++◌, ◌∷◌, [], Some, true, false, length, get_or, refl, sym, ap, ◌∙◌, subst, arith, rules}
+use Rattle.std.proofs.Common.{◌≡◌, ◌*◌, ◌<◌, ◌++◌, ◌∷◌, [], Some, true, false, length, get_or, refl, sym, ap, ◌∙◌, subst, arith, rules}
 use Rattle.spin_base.specs.declared.chips.Chip.{Chip}
 use Rattle.plan_check.specs.Marks.{mark_at}
 use Rattle.plan_check.proofs.Searching.{search_first, search_past, search_push, search_ended, from_inside, to_inside, flagged_goes, flagged_nowhere, mark_read}
