@@ -1,16 +1,15 @@
 -- Which places of the region of keys are free, while blocks are taken from it.
-use Rattle.std.proofs.Common.{◌≡◌, ℕ, ◌+◌, ◌-◌, ◌%◌, ◌<◌, ◌≤◌, Bool, true, false, true≢false, not, ◌&&◌, ◌||◌, ◌⊎◌, ltb, List, [], ◌∷◌, ◌++◌, get_or, refl, sym, ap, ◌∙◌, subst, inl, inr, Option, None, Some, MatchOption, IfSome, Result, Ok, Err, IfOk, arith}
+use Rattle.std.proofs.Common.{◌≡◌, ℕ, ◌+◌, ◌-◌, ◌%◌, ◌<◌, ◌≤◌, true, false, not, ◌&&◌, ◌||◌, ◌⊎◌, ltb, List, [], ◌∷◌, ◌++◌, get_or, sym, ap, ◌∙◌, subst, inl, inr, Option, None, Some, MatchOption, IfSome, Result, Ok, Err, IfOk, arith}
 use Rattle.std.specs.List.{Contains, list_any}
-use Rattle.std.proofs.lemmas.Bool.{and_parts, cases_Bool, cases_lt, lt-ltb, ltb-true, not-true, or_cases, or_left, or_right}
+use Rattle.std.proofs.lemmas.Bool.{and_parts, cases_Bool, cases_lt, lt-ltb, ltb-true, not-true, or_left}
 use Rattle.std.proofs.lemmas.Bool.Decides.{nat_tests}
 use Rattle.std.proofs.lemmas.List.Folds.{list_any-append, list_any_at, list_any_none}
 use Rattle.spin_base.specs.declared.blocks.Block.{Block}
 use Rattle.spin_base.specs.declared.wants.Memory.{Memory}
 use Rattle.app_graph.specs.declared.graphs.Net.{Net}
-use Rattle.range_store.specs.declared.holes.Hole.{Hole}
-use Rattle.range_store.specs.Regions.{AreRuns, IsFirstFit, HasNoFit, has_range, is_hole_range, is_free, in_range, end_of}
+use Rattle.range_store.specs.Regions.{AreRuns, IsFirstFit, HasNoFit, is_hole_range, is_free, in_range}
 use Rattle.list_laws.proofs.Tests.{or_neither}
-use Rattle.range_store.proofs.HolePlaces.{clash, has_facts, free_within, free_in_range, range_of_free}
+use Rattle.range_store.proofs.HolePlaces.{clash, free_in_range, range_of_free}
 use Rattle.key_alloc.proofs.Ranges.{in_facts, free_of, regroup}
 use Rattle.key_alloc.specs.KeyBlocks.{size_of, Misses, IsSizeFor, IsOpen, IsLeastBlock, IsBlockFor}
 use Rattle.list_laws.proofs.Pairs.{All-left}
