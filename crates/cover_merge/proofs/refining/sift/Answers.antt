@@ -33,8 +33,8 @@ loop-i-init c =
       set = subst (IsOneRoute rows) (sym whole) c.requires.set.set;
       some = subst (λ l. 0 < length l) (sym whole) (omega (arith, c.requires.set.two));
       merge = c.index-merged.ensures
-      ∙ known.each (c.len.result - 1) c.index-merged.result.now (omega (arith, known.one_each, c.len.ensures, c.requires.set.two))
-      ∙ ap (merged_block rows) (take_all (c.len.result - 1 + 1) xs (omega (arith, c.len.ensures)) ∙ sym whole);
+          ∙ known.each (c.len.result - 1) c.index-merged.result.now (omega (arith, known.one_each, c.len.ensures, c.requires.set.two))
+          ∙ ap (merged_block rows) (take_all (c.len.result - 1 + 1) xs (omega (arith, c.len.ensures)) ∙ sym whole);
       before = refl;
       behind = λ k low high. absurd (omega (arith, low, subst (λ l. k < length l) whole high, c.len-i.ensures));
       goes_on = λ answer rest. subst (λ l. Refines rows l answer) whole rest;
