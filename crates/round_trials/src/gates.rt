@@ -1,4 +1,4 @@
-// Gates that hold workers in an order, and that keep what they are told.
+// A gate that holds workers in an order.
 use spin_base::Gate;
 use std::sync::atomic::{AtomicU64, Ordering};
 use std::thread;
@@ -63,30 +63,5 @@ impl Gate for InOrder {
         let (own, other) = self.sides(worker);
         own.store(u64::from(step) + 1, Ordering::SeqCst);
         self.wait_for(other, self.waits[worker as usize][step as usize]);
-    }
-}
-
-/// A gate that keeps the greatest phase that it was told.
-#[derive(Drop)]
-pub struct Greatest {
-    phase: AtomicU64,
-}
-
-impl Greatest {
-    pub fn new() -> Greatest {
-        Greatest {
-            phase: AtomicU64::new(0),
-        }
-    }
-
-    /// The greatest phase so far.
-    pub fn phase(&self) -> u64 {
-        self.phase.load(Ordering::SeqCst)
-    }
-}
-
-impl Gate for Greatest {
-    fn enter(&self, phase: u32, _worker: u32, _step: u32) {
-        self.phase.fetch_max(u64::from(phase), Ordering::SeqCst);
     }
 }

@@ -1,5 +1,5 @@
-// What `run` writes where a gate holds its workers, or counts its rounds.
-use crate::gates::{Greatest, InOrder};
+// What `run` writes where a gate holds its workers in an order.
+use crate::gates::InOrder;
 use command_words::JobWord;
 use job_bytes::job_of_text;
 use job_words::made_of_job;
@@ -16,10 +16,6 @@ const THREE_PACKETS: &str =
 
 const PLAN: &str =
     "place a 0 0 1\nplace b 1 0 1\nkeys n 00000000 ffffffff\ntable 0 0 1\n00000000 ffffffff 000001\ntable 1 0 1\n00000000 ffffffff 000080\n";
-
-/// The front of a job of two vertices on one chip, whose workers take one turn a round.
-const ONE_TURN: &str =
-    "{\"version\":1,\"machine\":{\"width\":1,\"height\":1},\"graph\":{\"vertices\":[{\"name\":\"a\"},{\"name\":\"b\"}],\"nets\":[{\"name\":\"n\",\"source\":\"a\",\"targets\":[\"b\"]}]},\"run\":{\"workers\":2,\"turns\":1,\"packets\":[{\"net\":\"n\",\"index\":0}";
 
 /// What `run` writes for a job.
 fn written<R: Threads + Wait + Sync, G: Gate>(
@@ -65,19 +61,5 @@ fn a_run_delivers_all_where_the_workers_take_turns(rt: HostRuntime) -> Result<()
     let lines =
         "got b 0 00000000 -\ngot b 1 00000000 -\ngot b 2 00000000 -\nend delivered 3 dumped 0 waiting 0 unsent 0\n";
     assert!(rt; ends_with(&rt, rt.alloc(), &gate, lines)?);
-    Ok(())
-}
-
-#[test]
-fn a_vertex_sends_one_packet_a_round_of_one_turn(rt: HostRuntime) -> Result<(), Fail> {
-    let alloc = rt.alloc();
-    let mut text = String::from_str(alloc, ONE_TURN)?;
-    for _ in 0..39 {
-        text.push_str(",{\"net\":\"n\",\"index\":0}")?;
-    }
-    text.push_str("]}}")?;
-    let gate = Greatest::new();
-    written(&rt, alloc, text.as_str(), &gate)?;
-    assert!(rt; gate.phase() >= 40);
     Ok(())
 }
