@@ -1,13 +1,11 @@
 -- The report of a mesh at rest.
-use Rattle.std.proofs.Common.{◌≡◌, ℕ, ◌+◌, ◌<◌, ◌^◌, ◌-◌, List, [], ◌∷◌, ◌++◌, map, length, get_or, false, refl, ap, sym, subst, ◌∙◌, arith, inl, inr, Option, Some, None, Result, Ok, Err, IfOk, Less, Equal, Greater, Ordering, nat_cmp, is_lt, codes, decimal}
+use Rattle.std.proofs.Common.{◌≡◌, ℕ, ◌+◌, ◌^◌, ◌-◌, List, [], ◌∷◌, ◌++◌, map, length, get_or, refl, ap, sym, subst, ◌∙◌, arith, Option, Some, None, Result, Ok, Err, IfOk, nat_cmp, codes, decimal}
 use Rattle.std.specs.Prelude.{min}
-use Rattle.std.specs.Ordering.{ordering_then, MatchOrdering}
 use Rattle.std.specs.List.{All, AllPairs, flat_map, slice_get, range_with_len}
 use Rattle.std.specs.List.Sorted.{IsPermutation}
 use Rattle.std.proofs.lemmas.Cmp.{nat_list_cmp_total, ranked}
 use Rattle.std.proofs.lemmas.List.{length-map, nil_from_length}
 use Rattle.std.proofs.lemmas.List.Sorted.{length_permutation, ranks_by, sorted_far}
-use mathlib.Core.Bool.{true≢false}
 use Rattle.list_laws.specs.Gathered.{gathered}
 use Rattle.list_laws.proofs.Places.{All-at}
 use Rattle.round_flow.proofs.Sums.{sum_none}
@@ -36,7 +34,7 @@ use Rattle.run_report.specs.declared.reports.Report.{Report}
 use Rattle.run_report.specs.Listed.{placed_of}
 use Rattle.run_report.specs.ReportText.{dump_line, event_lines, got_line, keys_line, line, place_line, report_text, table_lines, wait_line}
 use Rattle.run_report.specs.RunReport.{chip_waits, copies_at, core_waits, delivery_key, hand_waits, held_waits, named, queue_waits, unsent_by, unsent_total, waits_at, waits_of, IsDeliveredOf}
-use Rattle.run_report.proofs.GotLines.{got_lines}
+use Rattle.run_report.proofs.GotLines.{got_lines, not_after}
 use Rattle.par_compile.specs.declared.compiling.Plan.{Plan}
 use Rattle.job_words.specs.declared.outcomes.Told.{Told}
 use Rattle.job_words.specs.declared.outcomes.Parts.{Parts}
@@ -95,15 +93,6 @@ module _ (s : State) (rest : IsAtRest s) where
       ap (λ n. min n (2 ^ 32 - 1)) (sum_none (unsent_by s) (range_with_len 0 (length s.setup.spots)) (λ v among. ap length (no_copies s.unsent rest.all_sent v)))
 
 -- ---- as many deliveries as are asked for
-
--- what the order of keys tells of two deliveries
-not_after : (x y : Delivery) (r t : Ordering) → MatchOrdering r (y.copy.packet < x.copy.packet) (y.copy.packet ≡ x.copy.packet) (x.copy.packet < y.copy.packet) →
-    MatchOrdering t (y.vertex < x.vertex) (y.vertex ≡ x.vertex) (x.vertex < y.vertex) → is_lt (ordering_then r (ordering_then t Equal)) ≡ false → IsNotAfter x y
-not_after x y Less t p v e = absurd (true≢false e)
-not_after x y Greater t p v e = inl p
-not_after x y Equal Less p v e = absurd (true≢false e)
-not_after x y Equal Equal p v e = inr (sym p, omega (arith, v))
-not_after x y Equal Greater p v e = inr (sym p, omega (arith, v))
 
 as_many : (s : State) (nets : List NetPlan) (packets : List Packet) (placed : List (List ℕ × Spot)) (delivered : List (List ℕ × McCopy)) → IsMesh s → MeetsJobLedger s nets packets →
     AreAsExpected s nets packets → IsDeliveredOf placed s.delivered delivered → length delivered ≡ length (map (named placed) (expected_deliveries s.setup.spots nets packets))
@@ -176,13 +165,12 @@ module _ (job : Job) (plan : Plan) (mesh : State) where
   reports P did parts text ledger holds tells = (mesh, tells.0, is_kept did tells.0 ledger tells.1, holds tells.0 tells.1, tells.2, tells.3)
 
   -- the same of a mesh at rest, where no events are told
-  pub reports_at_rest : (P : Job → Plan → State → Report → Type 0) (made : Result Told Memory) (did : List Did) → did ≡ [] → IsMeshOf job plan mesh → IsAtRest mesh →
-      ((report : Report) → IsTold job plan mesh report → P job plan mesh report) → IfOk made (λ t. Tells job plan mesh did (parts_with job plan t.mesh t.report) t.text) →
+  pub reports_at_rest : (P : Job → Plan → State → Report → Type 0) (made : Result Told Memory) → IsMeshOf job plan mesh → IsAtRest mesh →
+      ((report : Report) → IsTold job plan mesh report → P job plan mesh report) → IfOk made (λ t. Tells job plan mesh [] (parts_with job plan t.mesh t.report) t.text) →
       IfOk made (λ t. Reports P job plan (parts_with job plan t.mesh t.report) t.text)
-  reports_at_rest P (Ok t) did none kept rest holds tells =
-      reports P did (parts_with job plan t.mesh t.report) t.text kept.ledger
-      (λ report is. holds report (record { kept = kept; at_rest = rest; reported = subst (λ (answers : List Did). IsReported job plan mesh answers report) none is })) tells
-  reports_at_rest P (Err e) did none kept rest holds tells = tells
+  reports_at_rest P (Ok t) kept rest holds tells =
+      reports P [] (parts_with job plan t.mesh t.report) t.text kept.ledger (λ report is. holds report (record { kept = kept; at_rest = rest; reported = is })) tells
+  reports_at_rest P (Err e) kept rest holds tells = tells
 
   module _ (report : Report) (told : IsTold job plan mesh report) where
     -- Without a dump record nothing is lost.

@@ -1,6 +1,6 @@
 -- A job has a plan or one reason why it has none, since the compiler has one answer.
-use Rattle.std.proofs.Common.{◌≡◌, ◌⊎◌, ℕ, List, Some, Result, Ok, Err, sym, ap, ◌∙◌, subst, inl, inr}
-use Rattle.std.specs.List.{slice_get}
+use Rattle.std.proofs.Common.{◌≡◌, ◌⊎◌, ℕ, Result, Ok, Err, refl, sym, ap, ◌∙◌, subst, inl, inr}
+use Rattle.list_laws.proofs.Places.{one_item_at}
 use Rattle.spin_base.specs.declared.chips.Chip.{Chip}
 use Rattle.app_graph.specs.declared.graphs.Graph.{Graph}
 use Rattle.app_graph.specs.declared.graphs.Net.{Net}
@@ -30,9 +30,6 @@ same_error : (e f m : CompileErr) → (◌≡◌ {A = Result Plan CompileErr} (E
 same_error e f m (inl is) = inl cc
 same_error e f m (inr is) = inr cc
 
-same_item : {X : Type 0} (xs : List X) (i : ℕ) (a b : X) → slice_get xs i ≡ Some a → slice_get xs i ≡ Some b → a ≡ b
-same_item xs i a b at_a at_b = cc
-
 -- an error is called what the same error is called
 pub names_same : (graph : Graph) (e f : CompileErr) (r : Refusal) → e ≡ f → Names graph f r → Names graph e r
 names_same graph e f r same names = subst (λ x. Names graph x r) (sym same) names
@@ -55,9 +52,9 @@ module _ (m : Description) (graph : Graph) (target : ℕ) where
 
   -- what an error is called has one name
   one_name : (e : CompileErr) (r s : Refusal) → Names graph e r → Names graph e s → r ≡ s
-  one_name (NoRoom i) r s a b = let same : a.0 ≡ b.0 = same_item graph.vertices i a.0 b.0 a.1 b.1 in a.2 ∙ (ap (λ (v : Vertex). refusals.NoRoom v.name) same ∙ sym b.2)
-  one_name (KeysOut i) r s a b = let same : a.0 ≡ b.0 = same_item graph.nets i a.0 b.0 a.1 b.1 in a.2 ∙ (ap (λ (n : Net). refusals.KeysOut n.name) same ∙ sym b.2)
-  one_name (CutOff i t) r s a b = let same : a.0 ≡ b.0 = same_item graph.nets i a.0 b.0 a.1 b.1 in a.2 ∙ (ap (λ (n : Net). refusals.CutOff n.name t) same ∙ sym b.2)
+  one_name (NoRoom i) r s a b = let same : a.0 ≡ b.0 = one_item_at graph.vertices i i a.0 b.0 refl a.1 b.1 in a.2 ∙ (ap (λ (v : Vertex). refusals.NoRoom v.name) same ∙ sym b.2)
+  one_name (KeysOut i) r s a b = let same : a.0 ≡ b.0 = one_item_at graph.nets i i a.0 b.0 refl a.1 b.1 in a.2 ∙ (ap (λ (n : Net). refusals.KeysOut n.name) same ∙ sym b.2)
+  one_name (CutOff i t) r s a b = let same : a.0 ≡ b.0 = one_item_at graph.nets i i a.0 b.0 refl a.1 b.1 in a.2 ∙ (ap (λ (n : Net). refusals.CutOff n.name t) same ∙ sym b.2)
   one_name (TableLong c t) r s a b = a ∙ sym b
   one_name Memory r s a b = absurd a
 

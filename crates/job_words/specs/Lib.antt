@@ -5,6 +5,7 @@ pub use Rattle.round_flow.specs.RoundFlow
 pub use Rattle.par_compile.specs.Compiled
 pub use Rattle.run_report.specs.ReportText
 pub use Rattle.job_gen.specs.Generated
+pub mod Making
 pub mod Parts
 pub mod Planned
 pub mod Reinjecting

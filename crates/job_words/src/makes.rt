@@ -1,17 +1,16 @@
 // What each word makes of a planned job.
-ghost use Rattle.std.specs.Prelude.{◌≡◌, ◌<◌, ◌^◌, IfOk};
+ghost use Rattle.std.specs.Prelude.{◌≡◌, ◌<◌, ◌^◌, [], IfOk};
 ghost use Rattle.app_graph.specs.RunPart.{IsRunOf};
 ghost use Rattle.app_graph.specs.ValidGraph.{IsValidGraph};
 ghost use Rattle.run_report.specs.ReportText.{row_total};
 ghost use Rattle.job_gen.specs.Generated.{gen_job};
 ghost use Rattle.job_words.specs.Parts.{parts_with};
+ghost use Rattle.job_words.specs.Making.{IsReportedAs, IsSummarised, IsToldOf, IsTracedTo};
 ghost use Rattle.job_words.specs.Planned.{setup_of, IsPlanned};
-ghost use Rattle.job_words.specs.Reinjecting.{HasReinjected};
-ghost use Rattle.job_words.specs.Runs.{HasRunOut};
 ghost use Rattle.job_words.specs.Words.{Images, IsReported, IsTraced, Lists, Reports, Summarises, Tells};
 
-use crate::outcomes::Told;
-use crate::runs::{reinject_job, run_job, trace_job};
+use crate::outcomes::{Reported, Told};
+use crate::runs::{open_job, run_job, take_events};
 use job_readers::Job;
 use mesh_core::laws::deliveries_are_as_many_as_expected;
 use mesh_core::{Did, Mesh};
@@ -22,40 +21,6 @@ use std::alloc::Global;
 use std::sync::Wait;
 use std::thread::Threads;
 use table_load::encode;
-
-// The mesh after all packets of the job, its report, and the report's text.
-pub(crate) fn run<R: Threads + Wait + Sync, G: Gate>(
-    rt: &R,
-    alloc: Global,
-    job: &Job,
-    plan: &Plan,
-    gate: &G,
-) -> Result<Told, Memory>
-    requires graph { IsValidGraph job.now.graph }
-    requires run { IsRunOf job.now.graph job.now.run }
-    requires planned { IsPlanned job.now plan.now }
-    ensures { IfOk result (λ told. Reports HasRunOut job.now plan.now (parts_with job.now plan.now told.mesh told.report) told.text) }
-{
-    let mesh = run_job(rt, alloc, job, plan, gate)?;
-    reported(alloc, job, plan, mesh, Seq::new(alloc))
-}
-
-// The same, with dumped copies put back until none is left.
-pub(crate) fn reinjected<R: Threads + Wait + Sync, G: Gate>(
-    rt: &R,
-    alloc: Global,
-    job: &Job,
-    plan: &Plan,
-    gate: &G,
-) -> Result<Told, Memory>
-    requires graph { IsValidGraph job.now.graph }
-    requires run { IsRunOf job.now.graph job.now.run }
-    requires planned { IsPlanned job.now plan.now }
-    ensures { IfOk result (λ told. Reports HasReinjected job.now plan.now (parts_with job.now plan.now told.mesh told.report) told.text) }
-{
-    let mesh = reinject_job(rt, alloc, job, plan, gate)?;
-    reported(alloc, job, plan, mesh, Seq::new(alloc))
-}
 
 // A run of the job of a number, and its summary.
 pub(crate) fn generated<R: Threads + Wait + Sync, G: Gate>(
@@ -74,13 +39,27 @@ pub(crate) fn generated<R: Threads + Wait + Sync, G: Gate>(
 {
     deliveries_are_as_many_as_expected();
     let mesh = run_job(rt, alloc, job, plan, gate)?;
-    let report = report(alloc, job, plan, &mesh, Seq::new(alloc))?;
+    let made = summarised(alloc, number, job, plan, &mesh);
+    told(mesh, made)
+}
+
+// The report of a mesh to which no event led, and its summary.
+fn summarised(
+    alloc: Global,
+    number: u64,
+    job: &Job,
+    plan: &Plan,
+    mesh: &Mesh,
+) -> Result<Reported, Memory>
+    requires graph { IsValidGraph job.now.graph }
+    requires run { IsRunOf job.now.graph job.now.run }
+    requires planned { IsPlanned job.now plan.now }
+    requires setup { mesh.now.setup ≡ setup_of job.now plan.now }
+    ensures { IfOk result (IsSummarised number job.now plan.now mesh.now) }
+{
+    let report = report(alloc, job, plan, mesh, Seq::new(alloc))?;
     let text = summary_text(alloc, number, &job.machine, &job.graph, &job.run, &report)?;
-    Ok(Told {
-        mesh: Some(mesh),
-        report: Some(report),
-        text,
-    })
+    Ok(Reported { report, text })
 }
 
 // The mesh after all events of the job, its report, and the report's text.
@@ -90,7 +69,19 @@ pub(crate) fn trace(alloc: Global, job: &Job, plan: &Plan) -> Result<Told, Memor
     requires planned { IsPlanned job.now plan.now }
     ensures { IfOk result (λ told. Reports IsTraced job.now plan.now (parts_with job.now plan.now told.mesh told.report) told.text) }
 {
-    let (mesh, did) = trace_job(alloc, job, plan)?;
+    let mut mesh = open_job(alloc, job, plan)?;
+    let made = traced(alloc, job, plan, &mut mesh);
+    told(mesh, made)
+}
+
+// The report of a mesh after all events of the job, one by one, and the report's text.
+fn traced(alloc: Global, job: &Job, plan: &Plan, mesh: &mut Mesh) -> Result<Reported, Memory>
+    requires graph { IsValidGraph job.now.graph }
+    requires planned { IsPlanned job.now plan.now }
+    requires setup { mesh.old.setup ≡ setup_of job.now plan.now }
+    ensures { IfOk result (IsTracedTo job.now plan.now mesh.old mesh.new) }
+{
+    let did = take_events(alloc, mesh, job.run.events.as_slice())?;
     reported(alloc, job, plan, mesh, did)
 }
 
@@ -124,26 +115,52 @@ pub(crate) fn image(alloc: Global, job: &Job, plan: &Plan) -> Result<Told, Memor
     })
 }
 
-// A mesh, its report after events with these answers, and the report's text.
-fn reported(
+// The mesh after all packets of the job, its report, and the report's text.
+pub(crate) fn told_at_rest(
     alloc: Global,
     job: &Job,
     plan: &Plan,
     mesh: Mesh,
-    did: Seq<Did>,
 ) -> Result<Told, Memory>
     requires graph { IsValidGraph job.now.graph }
     requires planned { IsPlanned job.now plan.now }
     requires setup { mesh.setup ≡ setup_of job.now plan.now }
-    ensures { IfOk result (λ told. Tells job.now plan.now mesh did (parts_with job.now plan.now told.mesh told.report) told.text) }
+    ensures { IfOk result (λ told. Tells job.now plan.now mesh [] (parts_with job.now plan.now told.mesh told.report) told.text) }
 {
-    let report = report(alloc, job, plan, &mesh, did)?;
+    let made = reported(alloc, job, plan, &mesh, Seq::new(alloc));
+    told(mesh, made)
+}
+
+// The report of a mesh after events with these answers, and the report's text.
+fn reported(
+    alloc: Global,
+    job: &Job,
+    plan: &Plan,
+    mesh: &Mesh,
+    did: Seq<Did>,
+) -> Result<Reported, Memory>
+    requires graph { IsValidGraph job.now.graph }
+    requires planned { IsPlanned job.now plan.now }
+    requires setup { mesh.now.setup ≡ setup_of job.now plan.now }
+    ensures { IfOk result (IsReportedAs job.now plan.now mesh.now did) }
+{
+    let report = report(alloc, job, plan, mesh, did)?;
     let text = text_of(alloc, &report)?;
-    Ok(Told {
-        mesh: Some(mesh),
-        report: Some(report),
-        text,
-    })
+    Ok(Reported { report, text })
+}
+
+// The mesh with what was made of it.
+fn told(mesh: Mesh, made: Result<Reported, Memory>) -> Result<Told, Memory>
+    ensures { IfOk result (IsToldOf mesh made) }
+{
+    match made {
+        Ok(made) => Ok(Told {
+            mesh: Some(mesh),
+            report: Some(made.report),
+            text: made.text,
+        }),
+        Err(memory) => Err(memory),
+    }
 }
 
 // The report of a job's plan, of a mesh, and of the answers to the events that led there.

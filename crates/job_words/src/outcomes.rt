@@ -34,3 +34,10 @@ pub(crate) struct Told {
     pub(crate) report: Option<Report>,
     pub(crate) text: Seq<u8>,
 }
+
+// A report, and the text that is written of it.
+#[derive(Drop)]
+pub(crate) struct Reported {
+    pub(crate) report: Report,
+    pub(crate) text: Seq<u8>,
+}

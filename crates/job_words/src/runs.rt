@@ -1,5 +1,5 @@
 // The mesh of a job: opened, after all its packets, or after all its events.
-ghost use Rattle.std.specs.Prelude.{◌≡◌, IfOk, OnOk, [], map};
+ghost use Rattle.std.specs.Prelude.{◌≡◌, IfOk, Ok, OnOk, [], map};
 ghost use Rattle.app_graph.specs.RunPart.{IsRunOf};
 ghost use Rattle.mesh_core.specs.State.{State, IsMesh};
 ghost use Rattle.mesh_core.specs.Step.{after_events, answers_of};
@@ -55,10 +55,8 @@ pub(crate) fn run_job<R: Threads + Wait + Sync, G: Gate>(
     rounds_of_a_job();
     let mesh = open_job(alloc, job, plan)?;
     let (patience, workers, turns) = (job.run.patience, job.run.workers, job.run.turns);
-    match run_out(rt, alloc, mesh, patience, workers, turns, gate) {
-        Ok(mesh) => Ok(mesh),
-        Err((_, memory)) => Err(memory),
-    }
+    let ran = run_out(rt, alloc, mesh, patience, workers, turns, gate);
+    mesh_alone(ran)
 }
 
 // The mesh of a job after all its packets, with dumped copies put back between rounds until none is left.
@@ -79,7 +77,15 @@ pub(crate) fn reinject_job<R: Threads + Wait + Sync, G: Gate>(
     passes_of_a_job();
     let mesh = open_job(alloc, job, plan)?;
     let (patience, workers, turns) = (job.run.patience, job.run.workers, job.run.turns);
-    match reinject(rt, alloc, mesh, patience, workers, turns, gate) {
+    let ran = reinject(rt, alloc, mesh, patience, workers, turns, gate);
+    mesh_alone(ran)
+}
+
+// The mesh of a run that came to its end.
+fn mesh_alone(ran: Result<Mesh, (Mesh, Memory)>) -> Result<Mesh, Memory>
+    ensures { IfOk result (λ mesh. ran ≡ Ok mesh) }
+{
+    match ran {
         Ok(mesh) => Ok(mesh),
         Err((_, memory)) => Err(memory),
     }
@@ -104,22 +110,8 @@ fn passes_of_a_job()
     passes_keep_the_ledger();
 }
 
-// The mesh of a job after all its events, one by one, and the answers to them.
-pub(crate) fn trace_job(alloc: Global, job: &Job, plan: &Plan) -> Result<(Mesh, Seq<Did>), Memory>
-    requires run { IsRunOf job.now.graph job.now.run }
-    requires planned { IsPlanned job.now plan.now }
-    ensures mesh { IfOk result (λ traced. traced.0 ≡ after_events (opened_of job.now plan.now) job.now.run.events) }
-    ensures did { IfOk result (λ traced. traced.1 ≡ answers_of (opened_of job.now plan.now) job.now.run.events) }
-    ensures setup { IfOk result (λ traced. traced.0.setup ≡ setup_of job.now plan.now) }
-    ensures opened { IfOk result (λ _. IsMesh (opened_of job.now plan.now)) }
-{
-    let mut mesh = open_job(alloc, job, plan)?;
-    let did = take_events(alloc, &mut mesh, job.run.events.as_slice())?;
-    Ok((mesh, did))
-}
-
 // The mesh of a job before its first event.
-fn open_job(alloc: Global, job: &Job, plan: &Plan) -> Result<Mesh, Memory>
+pub(crate) fn open_job(alloc: Global, job: &Job, plan: &Plan) -> Result<Mesh, Memory>
     requires run { IsRunOf job.now.graph job.now.run }
     requires planned { IsPlanned job.now plan.now }
     ensures opened { IfOk result (λ mesh. mesh ≡ opened_of job.now plan.now) }
@@ -141,7 +133,11 @@ fn open_job(alloc: Global, job: &Job, plan: &Plan) -> Result<Mesh, Memory>
 }
 
 // Takes events one by one, and gives the answers to them in their order.
-fn take_events(alloc: Global, mesh: &mut Mesh, events: &[Event]) -> Result<Seq<Did>, Memory>
+pub(crate) fn take_events(
+    alloc: Global,
+    mesh: &mut Mesh,
+    events: &[Event],
+) -> Result<Seq<Did>, Memory>
     ensures mesh { OnOk result (mesh.new ≡ after_events mesh.old events.now) }
     ensures did { IfOk result (λ did. did ≡ answers_of mesh.old events.now) }
     ensures setup { OnOk result (mesh.new.setup ≡ mesh.old.setup) }
@@ -160,11 +156,11 @@ fn pieces_of(alloc: Global, job: &Job, plan: &Plan) -> Result<Pieces, Memory>
     ensures spots { IfOk result (λ pieces. pieces.spots ≡ plan.now.placement.spots) }
     ensures memories { IfOk result (λ pieces. pieces.memories ≡ map loaded_of plan.now.tables) }
 {
-    let machine = job.machine.copy(alloc)?;
-    let copied = Vec::from_slice(alloc, plan.placement.spots.as_slice())?;
+    let spots = Vec::from_slice(alloc, plan.placement.spots.as_slice())?;
+    let memories = memories_of(alloc, &job.machine, &plan.tables)?;
     Ok(Pieces {
-        machine,
-        spots: Seq::from_vec(copied),
-        memories: memories_of(alloc, &job.machine, &plan.tables)?,
+        machine: job.machine.copy(alloc)?,
+        spots: Seq::from_vec(spots),
+        memories,
     })
 }

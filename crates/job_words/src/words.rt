@@ -1,18 +1,20 @@
 // What a word makes of a job.
-ghost use Rattle.std.specs.Prelude.{◌≡◌, ◌⊎◌, ℕ, IfOk, IfErr};
+ghost use Rattle.std.specs.Prelude.{◌≡◌, ◌⊎◌, ℕ, Err, IfOk, IfErr};
 ghost use Rattle.app_graph.specs.RunPart.{IsRunOf};
 ghost use Rattle.app_graph.specs.ValidGraph.{IsValidGraph};
 ghost use Rattle.job_gen.specs.Generated.{gen_job};
 ghost use Rattle.command_words.specs.declared.commands.JobWord.TheVariants.{Gen};
 ghost use Rattle.refusals.specs.declared.causes.Refusal.TheVariants.{Memory as NoMemory};
+ghost use Rattle.job_words.specs.Making.{IsMadeFrom, IsMadeWith};
 ghost use Rattle.job_words.specs.Parts.{parts_with};
 ghost use Rattle.job_words.specs.Planned.{IsPlanned};
 ghost use Rattle.job_words.specs.Unplanned.{HasNoPlan};
 ghost use Rattle.job_words.specs.Words.{IsMadeOf, Makes};
 
-use crate::makes::{generated, image, list, reinjected, run, trace};
+use crate::makes::{generated, image, list, told_at_rest, trace};
 use crate::outcomes::{Made, Parts, Told};
 use crate::plans::plan_of;
+use crate::runs::{reinject_job, run_job};
 use command_words::JobWord;
 use job_readers::Job;
 use par_compile::Plan;
@@ -41,9 +43,38 @@ pub fn made_of_job<R: Threads + Wait + Sync, G: Gate>(
     ensures made { IfOk result (λ made. IsMadeOf word job made.parts made.text) }
     ensures err { IfErr result (λ r. HasNoPlan job r ⊎ (r ≡ NoMemory)) }
 {
-    let plan = plan_of(rt, alloc, &job, gate)?;
-    match make(rt, alloc, word, &job, &plan, gate) {
-        Ok(told) => Ok(Made {
+    let planned = planned(rt, alloc, word, &job, gate);
+    made(job, planned)
+}
+
+// The plan of a job, and what a word makes of it.
+fn planned<R: Threads + Wait + Sync, G: Gate>(
+    rt: &R,
+    alloc: Global,
+    word: JobWord,
+    job: &Job,
+    gate: &G,
+) -> Result<(Plan, Told), Refusal>
+    requires graph { IsValidGraph job.now.graph }
+    requires run { IsRunOf job.now.graph job.now.run }
+    requires generated { (number : ℕ) → word ≡ Gen number → job.now ≡ gen_job number }
+    ensures made { IfOk result (IsMadeWith word job.now) }
+    ensures err { IfErr result (λ r. HasNoPlan job.now r ⊎ (r ≡ NoMemory)) }
+{
+    let plan = plan_of(rt, alloc, job, gate)?;
+    match make(rt, alloc, word, job, &plan, gate) {
+        Ok(told) => Ok((plan, told)),
+        Err(Memory) => Err(Refusal::Memory),
+    }
+}
+
+// A job with its plan and what was made of it.
+fn made(job: Job, planned: Result<(Plan, Told), Refusal>) -> Result<Made, Refusal>
+    ensures made { IfOk result (IsMadeFrom job planned) }
+    ensures err { IfErr result (λ r. planned ≡ Err r) }
+{
+    match planned {
+        Ok((plan, told)) => Ok(Made {
             parts: Parts {
                 job: Some(job),
                 plan: Some(plan),
@@ -52,7 +83,7 @@ pub fn made_of_job<R: Threads + Wait + Sync, G: Gate>(
             },
             text: told.text,
         }),
-        Err(Memory) => Err(Refusal::Memory),
+        Err(refusal) => Err(refusal),
     }
 }
 
@@ -72,8 +103,14 @@ fn make<R: Threads + Wait + Sync, G: Gate>(
     ensures { IfOk result (λ told. Makes word job.now plan.now (parts_with job.now plan.now told.mesh told.report) told.text) }
 {
     match word {
-        JobWord::Run => run(rt, alloc, job, plan, gate),
-        JobWord::Reinject => reinjected(rt, alloc, job, plan, gate),
+        JobWord::Run => {
+            let mesh = run_job(rt, alloc, job, plan, gate)?;
+            told_at_rest(alloc, job, plan, mesh)
+        }
+        JobWord::Reinject => {
+            let mesh = reinject_job(rt, alloc, job, plan, gate)?;
+            told_at_rest(alloc, job, plan, mesh)
+        }
         JobWord::Trace => trace(alloc, job, plan),
         JobWord::Compile => image(alloc, job, plan),
         JobWord::Tables => list(alloc, job, plan),

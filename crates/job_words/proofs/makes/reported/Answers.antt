@@ -1,5 +1,4 @@
-use Rattle.std.proofs.Common.{refl}
 use Rattle.job_words.proofs.makes.reported.Goals as goal
 
 pub returns : goal.returns
-returns c = (c.in_ok-report.report, c.in_ok-report.ensures.reported, refl, c.in_ok-text.ensures)
+returns c = record { reported = c.in_ok-report.ensures.reported; text = c.in_ok-text.ensures }

@@ -1,32 +1,39 @@
-use Rattle.std.proofs.Common.{List, take, sym, subst, ◌∙◌}
+use Rattle.std.proofs.Common.{List, take, refl, sym, ap, subst, ◌∙◌}
 use Rattle.spin_base.specs.declared.copies.Event.{Event}
-use Rattle.mesh_core.specs.State.{State}
-use Rattle.mesh_core.specs.Step.{after_events}
+use Rattle.mesh_core.specs.State.{State, IsMesh}
+use Rattle.mesh_core.specs.Step.{after_events, answers_of}
 use Rattle.mesh_core.specs.Opened.{MeetsJobLedger}
 use Rattle.job_words.specs.declared.outcomes.Told.{Told}
+use Rattle.job_words.specs.Making.{IsTracedTo}
 use Rattle.job_words.specs.Parts.{parts_with}
 use Rattle.job_words.specs.Planned.{opened_of}
-use Rattle.job_words.specs.Words.{IsTraced, Reports, Tells}
+use Rattle.job_words.specs.Words.{IsTraced, Reports}
 use Rattle.job_words.proofs.AtRest.{reports}
+use Rattle.job_words.proofs.Making.{told_as}
 use Rattle.job_words.proofs.Tracing.{traced_ledger}
-use Rattle.job_words.proofs.WordLaws.{ok_weaker}
 use Rattle.job_words.proofs.makes.trace.Goals as goal
+
+pub traced-made-requires-clause-setup : goal.traced-made-requires-clause-setup
+traced-made-requires-clause-setup c = ap (λ (s : State). s.setup) c.in_ok-mesh.ensures.opened
 
 pub returns : goal.returns
 returns c =
     let job = c.args.job.now in
     let plan = c.args.plan.now in
-    let mesh = c.in_ok-mesh.mesh in
-    let did = c.in_ok-mesh.did in
+    let before = c.in_ok-mesh.mesh in
+    let mesh = c.traced-made.new.mesh in
+    let opened = c.in_ok-mesh.ensures.opened in
+    let is_mesh : IsMesh (opened_of job plan) = subst IsMesh opened c.in_ok-mesh.ensures.ready.mesh in
     let ledger : (es : List Event) → MeetsJobLedger (after_events (opened_of job plan) es) plan.nets job.run.packets =
-    traced_ledger job plan c.requires.run c.requires.planned c.in_ok-mesh.ensures.opened
+    traced_ledger job plan c.requires.run c.requires.planned is_mesh
     in
-    ok_weaker c.reported.result (λ (t : Told). Tells job plan mesh did (parts_with job plan t.mesh t.report) t.text) (λ (t : Told). Reports IsTraced job plan (parts_with job plan t.mesh t.report) t.text)
-    (λ t. reports job plan mesh IsTraced did (parts_with job plan t.mesh t.report) t.text
-    (subst (λ (s : State). MeetsJobLedger s plan.nets job.run.packets) (sym c.in_ok-mesh.ensures.mesh) (ledger job.run.events))
-    (λ report is. record {
-      reached = c.in_ok-mesh.ensures.mesh;
-      answered = is.same_did ∙ c.in_ok-mesh.ensures.did;
+    told_as mesh c.traced-made.result c.told.result (IsTracedTo job plan before mesh) (λ (t : Told). Reports IsTraced job plan (parts_with job plan t.mesh t.report) t.text) c.told.ensures c.traced-made.ensures
+    (λ x is.
+    let reached = is.moved ∙ ap (λ (s : State). after_events s job.run.events) opened in
+    reports job plan mesh IsTraced (answers_of before job.run.events) _ x.text (subst (λ (s : State). MeetsJobLedger s plan.nets job.run.packets) (sym reached) (ledger job.run.events))
+    (λ report told. record {
+      reached = reached;
+      answered = told.same_did ∙ ap (λ (s : State). answers_of s job.run.events) opened;
       each = λ n. ledger (take n job.run.events);
-    }))
-    c.reported.ensures
+    })
+    (x.report, is.reported.reported, refl, is.reported.text))
