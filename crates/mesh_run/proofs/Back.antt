@@ -155,34 +155,20 @@ of_pairs f p (x ∷ pairs) one =
     All-append (λ h. h.0 ≢ p) (f (Router x.index x.router)) (f (Bank x.bank) ++ flat_map f (actors_of pairs)) both.0
     (All-append (λ h. h.0 ≢ p) (f (Bank x.bank)) (flat_map f (actors_of pairs)) both.1 (of_pairs f p pairs (λ y has. one y (Contains-later x pairs y has))))
 
+-- where no item is of a place, what is made of them is not there
+none_at : {X Y : Type 0} (f : Y → ℕ × X) (ys : List Y) (p : ℕ) → (Contains (map (λ y. (f y).0) ys) p → ⊥) → NotAt (map f ys) p
+none_at {X} f ys p free = All-map (λ (h : ℕ × X). h.0 ≢ p) f ys (λ i d below same. free (subst (Contains (map (λ y. (f y).0) ys)) same (Contains-map (λ y. (f y).0) ys (get_or ys i d) (Contains-get_or ys i d below))))
+
 pub free_tx : (pairs : List Pair) (p : ℕ) → (HoldsTx pairs p → ⊥) → NotAt (flat_map txs_in (actors_of pairs)) p
 free_tx pairs p free = of_pairs txs_in p pairs (λ x has. (
-  All-map (λ (h : ℕ × Option Tx). h.0 ≢ p) (λ (e : Out × OutEnd). tx_of e.1) x.router.outputs.items (λ i d below same.
-      free (
-        x,
-        has,
-        inr (subst (Contains (map (λ (e : Out × OutEnd). e.1.link) x.router.outputs.items)) same
-            (Contains-map (λ (e : Out × OutEnd). e.1.link) x.router.outputs.items (get_or x.router.outputs.items i d) (Contains-get_or x.router.outputs.items i d below))),
-      )),
+  none_at (λ (e : Out × OutEnd). tx_of e.1) x.router.outputs.items p (λ there. free (x, has, inr there)),
   All-cons (λ (h : ℕ × Option Tx). h.0 ≢ p) (tx_of x.bank.inject) [] (λ same. free (x, has, inl same)) (All-nil (λ (h : ℕ × Option Tx). h.0 ≢ p)),
 ))
 
 pub free_rx : (pairs : List Pair) (p : ℕ) → (HoldsRx pairs p → ⊥) → NotAt (flat_map rxs_in (actors_of pairs)) p
 free_rx pairs p free = of_pairs rxs_in p pairs (λ x has. (
-  All-map (λ (h : ℕ × Option Rx). h.0 ≢ p) (λ (e : Port × InEnd). rx_of e.1) x.router.inputs.items (λ i d below same.
-      free (
-        x,
-        has,
-        inr (subst (Contains (map (λ (e : Port × InEnd). e.1.link) x.router.inputs.items)) same
-            (Contains-map (λ (e : Port × InEnd). e.1.link) x.router.inputs.items (get_or x.router.inputs.items i d) (Contains-get_or x.router.inputs.items i d below))),
-      )),
-  All-map (λ (h : ℕ × Option Rx). h.0 ≢ p) (λ (v : BankVertex). rx_of v.end) x.bank.vertices.items (λ i d below same.
-      free (
-        x,
-        has,
-        inl (subst (Contains (map (λ (v : BankVertex). v.end.link) x.bank.vertices.items)) same
-            (Contains-map (λ (v : BankVertex). v.end.link) x.bank.vertices.items (get_or x.bank.vertices.items i d) (Contains-get_or x.bank.vertices.items i d below))),
-      )),
+  none_at (λ (e : Port × InEnd). rx_of e.1) x.router.inputs.items p (λ there. free (x, has, inr there)),
+  none_at (λ (v : BankVertex). rx_of v.end) x.bank.vertices.items p (λ there. free (x, has, inl there)),
 ))
 
 -- an end that no pair holds is as it was

@@ -60,12 +60,12 @@ module _ {X Y : Type 0} (f : Y → ℕ × X) where
     pub goes_on : put_all now (map f rest) ≡ total
     pub within : AreWithin now (map f rest)
 
-  pub put_first : (total now : List X) (ys : List Y) (y : Y) (rest : List Y) → PutOn total now ys → ys ≡ y ∷ rest → (f y).0 < length now
-  put_first total now ys y rest so_far next =
+  pub put_first : {total now : List X} {ys : List Y} {y : Y} {rest : List Y} → PutOn total now ys → ys ≡ y ∷ rest → (f y).0 < length now
+  put_first {now = now} {y = y} {rest = rest} so_far next =
       All-head (λ (g : ℕ × X). g.0 < length now) (f y) (map f rest) (subst (λ l. AreWithin now (map f l)) next so_far.within)
 
-  pub put_more : (total now new : List X) (ys : List Y) (y : Y) (rest : List Y) → PutOn total now ys → ys ≡ y ∷ rest → new ≡ put_all now (f y ∷ []) → PutOn total new rest
-  put_more total now new ys y rest so_far next is = record {
+  pub put_more : {total now new : List X} {ys : List Y} {y : Y} {rest : List Y} → PutOn total now ys → ys ≡ y ∷ rest → new ≡ put_all now (f y ∷ []) → PutOn total new rest
+  put_more {now = now} {new = new} {y = y} {rest = rest} so_far next is = record {
     goes_on = ap (λ l. put_all l (map f rest)) is ∙ (sym (ap (λ l. put_all now (map f l)) next) ∙ so_far.goes_on);
     within = within_as_long now new (map f rest) (ap length is ∙ put_long now (f y ∷ []))
         (All-tail (λ (g : ℕ × X). g.0 < length now) (f y) (map f rest) (subst (λ l. AreWithin now (map f l)) next so_far.within));
@@ -81,12 +81,12 @@ module _ {X Y : Type 0} (f : Y → List (ℕ × X)) where
     pub goes_on : put_all now (flat_map f rest) ≡ total
     pub within : AreWithin now (flat_map f rest)
 
-  pub all_put_first : (total now : List X) (ys : List Y) (y : Y) (rest : List Y) → AllPutOn total now ys → ys ≡ y ∷ rest → AreWithin now (f y)
-  all_put_first total now ys y rest so_far next =
+  pub all_put_first : {total now : List X} {ys : List Y} {y : Y} {rest : List Y} → AllPutOn total now ys → ys ≡ y ∷ rest → AreWithin now (f y)
+  all_put_first {now = now} {y = y} {rest = rest} so_far next =
       All-left (λ (g : ℕ × X). g.0 < length now) (f y) (flat_map f rest) (subst (λ l. AreWithin now (flat_map f l)) next so_far.within)
 
-  pub all_put_more : (total now new : List X) (ys : List Y) (y : Y) (rest : List Y) → AllPutOn total now ys → ys ≡ y ∷ rest → new ≡ put_all now (f y) → AllPutOn total new rest
-  all_put_more total now new ys y rest so_far next is = record {
+  pub all_put_more : {total now new : List X} {ys : List Y} {y : Y} {rest : List Y} → AllPutOn total now ys → ys ≡ y ∷ rest → new ≡ put_all now (f y) → AllPutOn total new rest
+  all_put_more {now = now} {new = new} {y = y} {rest = rest} so_far next is = record {
     goes_on = ap (λ l. put_all l (flat_map f rest)) is ∙ (sym (put_append now (f y) (flat_map f rest)) ∙ (sym (ap (λ l. put_all now (flat_map f l)) next) ∙ so_far.goes_on));
     within = within_as_long now new (flat_map f rest) (ap length is ∙ put_long now (f y))
         (All-right (λ (g : ℕ × X). g.0 < length now) (f y) (flat_map f rest) (subst (λ l. AreWithin now (flat_map f l)) next so_far.within));
@@ -102,14 +102,14 @@ module _ {X Y : Type 0} (f : Y → List X) where
     pub goes_on : now ++ flat_map f rest ≡ total
     pub room : length (flat_map f rest) ≤ spare
 
-  split_long : (now : List X) (ys : List Y) (y : Y) (rest : List Y) → ys ≡ y ∷ rest → length (flat_map f ys) ≡ length (f y) + length (flat_map f rest)
-  split_long now ys y rest next = ap (λ l. length (flat_map f l)) next ∙ length-append (f y) (flat_map f rest)
+  split_long : (ys : List Y) (y : Y) (rest : List Y) → ys ≡ y ∷ rest → length (flat_map f ys) ≡ length (f y) + length (flat_map f rest)
+  split_long ys y rest next = ap (λ l. length (flat_map f l)) next ∙ length-append (f y) (flat_map f rest)
 
-  pub logged_first : (total now : List X) (spare : ℕ) (ys : List Y) (y : Y) (rest : List Y) → LoggedOn total now spare ys → ys ≡ y ∷ rest → length (f y) ≤ spare
-  logged_first total now spare ys y rest so_far next = let long = split_long now ys y rest next in let room = so_far.room in omega (arith, long, room)
+  pub logged_first : {total now : List X} {spare : ℕ} {ys : List Y} {y : Y} {rest : List Y} → LoggedOn total now spare ys → ys ≡ y ∷ rest → length (f y) ≤ spare
+  logged_first {ys = ys} {y = y} {rest = rest} so_far next = let long = split_long ys y rest next in let room = so_far.room in omega (arith, long, room)
 
-  pub logged_more : (total now new : List X) (spare less : ℕ) (ys : List Y) (y : Y) (rest : List Y) → LoggedOn total now spare ys → ys ≡ y ∷ rest → new ≡ now ++ f y → less + length (f y) ≡ spare → LoggedOn total new less rest
-  logged_more total now new spare less ys y rest so_far next is falls = record {
+  pub logged_more : {total now new : List X} {spare less : ℕ} {ys : List Y} {y : Y} {rest : List Y} → LoggedOn total now spare ys → ys ≡ y ∷ rest → new ≡ now ++ f y → less + length (f y) ≡ spare → LoggedOn total new less rest
+  logged_more {now = now} {ys = ys} {y = y} {rest = rest} so_far next is falls = record {
     goes_on = ap (λ l. l ++ flat_map f rest) is ∙ (append_assoc now (f y) (flat_map f rest) ∙ (sym (ap (λ l. now ++ flat_map f l) next) ∙ so_far.goes_on));
-    room = (let long = split_long now ys y rest next in let room = so_far.room in omega (arith, long, room, falls));
+    room = (let long = split_long ys y rest next in let room = so_far.room in omega (arith, long, room, falls));
   }

@@ -1,3 +1,4 @@
+use Rattle.std.proofs.Common.{◌≡◌, ◌∷◌}
 use Rattle.std.specs.Vec.Iter.{into_iter_items}
 use Rattle.mesh_run.specs.Lending.{rx_of, rxs_of}
 use Rattle.mesh_run.specs.Dealing.{put_all}
@@ -6,13 +7,10 @@ use Rattle.mesh_run.proofs.returning.return_inputs.Goals as goal
 
 pub return_end-requires : goal.return_end-requires
 return_end-requires c =
-    put_first (λ e. rx_of e.1) (put_all c.args.rxs.now.items (rxs_of c.args.inputs)) c.loop-port.rxs.items (into_iter_items c.loop-port._port-iterator) (c.in-Some._port, c.in-Some.end)
-    (into_iter_items c.next.new.self) c.loop-port.invariant.2 c.in-Some.ensures.steps.0
+    let next : into_iter_items c.loop-port._port-iterator ≡ (c.in-Some._port, c.in-Some.end) ∷ into_iter_items c.next.new.self = c.in-Some.ensures.steps.0 in
+    put_first (λ e. rx_of e.1) c.loop-port.invariant.2 next
 
 pub loop-port-preserved : goal.loop-port-preserved
-loop-port-preserved c = (
-  tt,
-  tt,
-  put_more (λ e. rx_of e.1) (put_all c.args.rxs.now.items (rxs_of c.args.inputs)) c.loop-port.rxs.items c.return_end.new.ends.items (into_iter_items c.loop-port._port-iterator) (c.in-Some._port, c.in-Some.end)
-      (into_iter_items c.next.new.self) c.loop-port.invariant.2 c.in-Some.ensures.steps.0 c.return_end.ensures,
-)
+loop-port-preserved c =
+    let next : into_iter_items c.loop-port._port-iterator ≡ (c.in-Some._port, c.in-Some.end) ∷ into_iter_items c.next.new.self = c.in-Some.ensures.steps.0 in
+    (tt, tt, put_more (λ e. rx_of e.1) c.loop-port.invariant.2 next c.return_end.ensures)

@@ -1,4 +1,4 @@
-use Rattle.std.proofs.Common.{◌≡◌, length, vec_len, arith, refl}
+use Rattle.std.proofs.Common.{◌≡◌, length, vec_len, arith, refl, ◌∷◌}
 use Rattle.std.specs.Vec.Iter.{into_iter_items}
 use Rattle.mesh_run.specs.Lending.{rx_of, vertex_rxs, vertex_unsent}
 use Rattle.mesh_run.specs.Dealing.{put_all}
@@ -7,23 +7,17 @@ use Rattle.mesh_run.proofs.returning.return_vertices.Goals as goal
 
 pub index_mut-requires : goal.index_mut-requires
 index_mut-requires c =
-    let below = put_first (λ v. (v.vertex, v.unsent)) (put_all c.args.unsent.now.items (vertex_unsent c.args.vertices)) c.loop-vertex.unsent.items (into_iter_items c.loop-vertex.vertex-iterator) c.in-Some.vertex
-    (into_iter_items c.next.new.self) c.loop-vertex.invariant.3 c.in-Some.ensures.steps.0
-    in
-    let many : vec_len c.loop-vertex.unsent ≡ length c.loop-vertex.unsent.items = c.loop-vertex.unsent.ok.0 in
+    let next : into_iter_items c.loop-vertex.vertex-iterator ≡ c.in-Some.vertex ∷ into_iter_items c.next.new.self = c.in-Some.ensures.steps.0 in
+    let below = put_first (λ v. (v.vertex, v.unsent)) c.loop-vertex.invariant.3 next in
+    let many = c.loop-vertex.unsent.ok.0 in
     omega (arith, below, many)
 
 pub return_end-requires : goal.return_end-requires
 return_end-requires c =
-    put_first (λ v. rx_of v.end) (put_all c.args.rxs.now.items (vertex_rxs c.args.vertices)) c.loop-vertex.rxs.items (into_iter_items c.loop-vertex.vertex-iterator) c.in-Some.vertex
-    (into_iter_items c.next.new.self) c.loop-vertex.invariant.2 c.in-Some.ensures.steps.0
+    let next : into_iter_items c.loop-vertex.vertex-iterator ≡ c.in-Some.vertex ∷ into_iter_items c.next.new.self = c.in-Some.ensures.steps.0 in
+    put_first (λ v. rx_of v.end) c.loop-vertex.invariant.2 next
 
 pub loop-vertex-preserved : goal.loop-vertex-preserved
-loop-vertex-preserved c = (
-  tt,
-  tt,
-  put_more (λ v. rx_of v.end) (put_all c.args.rxs.now.items (vertex_rxs c.args.vertices)) c.loop-vertex.rxs.items c.return_end.new.ends.items (into_iter_items c.loop-vertex.vertex-iterator) c.in-Some.vertex
-      (into_iter_items c.next.new.self) c.loop-vertex.invariant.2 c.in-Some.ensures.steps.0 c.return_end.ensures,
-  put_more (λ v. (v.vertex, v.unsent)) (put_all c.args.unsent.now.items (vertex_unsent c.args.vertices)) c.loop-vertex.unsent.items _ (into_iter_items c.loop-vertex.vertex-iterator) c.in-Some.vertex
-      (into_iter_items c.next.new.self) c.loop-vertex.invariant.3 c.in-Some.ensures.steps.0 refl,
-)
+loop-vertex-preserved c =
+    let next : into_iter_items c.loop-vertex.vertex-iterator ≡ c.in-Some.vertex ∷ into_iter_items c.next.new.self = c.in-Some.ensures.steps.0 in
+    (tt, tt, put_more (λ v. rx_of v.end) c.loop-vertex.invariant.2 next c.return_end.ensures, put_more (λ v. (v.vertex, v.unsent)) c.loop-vertex.invariant.3 next refl)
