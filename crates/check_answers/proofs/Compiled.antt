@@ -6,7 +6,7 @@ use Rattle.std.proofs.lemmas.List.{length-map}
 use Rattle.std.proofs.lemmas.List.Sorted.{IsPermutation-refl}
 use Rattle.std.proofs.lemmas.Nat.{mul-le}
 use Rattle.std.proofs.lemmas.Option.{slice_get_within}
-use Rattle.list_laws.proofs.Places.{All-at, slice_get_there, slice_get-mapped}
+use Rattle.list_laws.proofs.Places.{All-at, one_item_at, slice_get_there, slice_get-mapped}
 use Rattle.spin_base.specs.declared.blocks.Block.{Block}
 use Rattle.spin_base.specs.Links.{dir_number}
 use Rattle.machine_desc.specs.declared.trees.Edge.{Edge}
@@ -41,7 +41,6 @@ use Rattle.check_answers.specs.Findings.{HasGoodTree, right_line}
 use Rattle.check_answers.specs.Nets.{AreNetsWith, IsNetWith}
 use Rattle.check_answers.specs.Plans.{HasKeptRows, trees_of}
 use Rattle.check_answers.proofs.Refusing.{none_due}
-use Rattle.check_answers.proofs.Items.{same_item}
 
 -- ---- the trees of plans are in order
 
@@ -99,7 +98,7 @@ module _ (m : Description) (graph : Graph) (target : ℕ) (plan : Plan) (is : Is
         let below : i < length graph.nets = slice_get_within graph.nets i net net_at in
         let growth = slice_get_there plan.grown i (subst (λ n. i < n) (sym is.routing.planned.one_tree_each) below) in
         let planned = is.routing.planned.each i net block growth.0 p net_at block_at growth.1 p_at in
-        let same : p.tree.edges ≡ edges = same_item (trees_of plan.nets) i p.tree.edges edges (slice_get-mapped (λ (n : NetPlan). n.tree.edges) plan.nets i p p_at) edges_at in
+        let same : p.tree.edges ≡ edges = one_item_at (trees_of plan.nets) i i p.tree.edges edges refl (slice_get-mapped (λ (n : NetPlan). n.tree.edges) plan.nets i p p_at) edges_at in
         subst (λ es. IsNetWith plan.placement.spots net block es p) same (net_with i net block growth.0 p planned p_at);
   }
 

@@ -4,7 +4,7 @@ use Rattle.std.specs.List.{All, slice_get}
 use Rattle.std.proofs.lemmas.Bool.{cases_lt}
 use Rattle.std.proofs.lemmas.List.{length_push}
 use Rattle.std.proofs.lemmas.Option.{slice_get-get_or}
-use Rattle.list_laws.proofs.Places.{slice_get-push_cases}
+use Rattle.list_laws.proofs.Places.{one_item_at, slice_get-push_cases}
 use Rattle.spin_base.specs.declared.blocks.Block.{Block}
 use Rattle.spin_base.specs.declared.chips.Spot.{Spot}
 use Rattle.machine_desc.specs.declared.trees.Edge.{Edge}
@@ -13,9 +13,6 @@ use Rattle.app_graph.specs.declared.graphs.Net.{Net}
 use Rattle.net_tables.specs.declared.nets.NetPlan.{NetPlan}
 use Rattle.check_answers.specs.Findings.{HasGoodTree}
 use Rattle.check_answers.specs.Nets.{IsEachNetWith, IsNetWith}
-
-same_item : {X : Type 0} (xs : List X) (i j : ℕ) (x y : X) → i ≡ j → slice_get xs i ≡ Some x → slice_get xs j ≡ Some y → x ≡ y
-same_item xs i j x y same at also = cc
 
 -- one plan more
 module _ (spots : List Spot) (nets : List Net) (blocks : List Block) (trees : List (List Edge)) (old new : List NetPlan) (i : ℕ) (net : Net) (block : Block) (edges : List Edge) (plan : NetPlan)
@@ -26,9 +23,9 @@ module _ (spots : List Spot) (nets : List Net) (blocks : List Block) (trees : Li
     | inl before ↦ each j n b es p n_at b_at es_at before.1
     | inr last ↦
         let here : i ≡ j = sym long ∙ sym last.0 in
-        let net_is : net ≡ n = same_item nets i j net n here net_at n_at in
-        let block_is : block ≡ b = same_item blocks i j block b here block_at b_at in
-        let edges_are : edges ≡ es = same_item trees i j edges es here edges_at es_at in
+        let net_is : net ≡ n = one_item_at nets i j net n here net_at n_at in
+        let block_is : block ≡ b = one_item_at blocks i j block b here block_at b_at in
+        let edges_are : edges ≡ es = one_item_at trees i j edges es here edges_at es_at in
         subst (IsNetWith spots n b es) last.1
         (subst (λ l. IsNetWith spots n b l plan) edges_are (subst (λ x. IsNetWith spots n x edges plan) block_is (subst (λ x. IsNetWith spots x block edges plan) net_is is)))
   ]
@@ -43,7 +40,7 @@ AreGoodBelow m nets i = (j : ℕ) (other : NetPlan) → j < i → slice_get nets
 pub good_more : (m : Description) (nets : List NetPlan) (i : ℕ) (net : NetPlan) → AreGoodBelow m nets i → slice_get nets i ≡ Some net → HasGoodTree m net → AreGoodBelow m nets (i + 1)
 good_more m nets i net before at good j other less there = elim (cases_lt j i) [
   | inl earlier ↦ before j other earlier there
-  | inr later ↦ (let here : i ≡ j = omega (arith, less, later) in subst (HasGoodTree m) (same_item nets i j net other here at there) good)
+  | inr later ↦ (let here : i ≡ j = omega (arith, less, later) in subst (HasGoodTree m) (one_item_at nets i j net other here at there) good)
 ]
 
 pub all_good : (m : Description) (nets : List NetPlan) (i : ℕ) → length nets ≤ i → AreGoodBelow m nets i → All (HasGoodTree m) nets

@@ -1,6 +1,5 @@
 mod Compiled
 mod Growing
-mod Items
 mod Meaning
 mod OneAnswer
 mod OneFinding

@@ -2,7 +2,7 @@
 use Rattle.std.proofs.Common.{◌≡◌, ℕ, List, Some, refl, sym, ap, ◌∙◌, subst, inl, inr}
 use Rattle.std.specs.List.{All, slice_get}
 use Rattle.std.proofs.lemmas.Bool.{cases_order}
-use Rattle.list_laws.proofs.Places.{All-at}
+use Rattle.list_laws.proofs.Places.{All-at, one_item_at}
 use Rattle.spin_base.specs.declared.blocks.Block.{Block}
 use Rattle.spin_base.specs.declared.blocks.Entry.{Entry}
 use Rattle.spin_base.specs.declared.chips.Chip.{Chip}
@@ -19,7 +19,6 @@ use Rattle.table_load.specs.declared.tables.Image.{Image}
 use Rattle.plan_check.specs.declared.verdicts.Verdict.{Verdict}
 use Rattle.plan_check.specs.declared.verdicts.Verdict.TheVariants.{Right, Wrong, Split}
 use Rattle.plan_check.specs.Verdicts.{AreFineBefore, GetsRoute, GetsRouteThat, IsFine, IsFineAll, IsFirstToMeet, IsSplitAt, IsTreeRoute, IsVerdict, IsWrong, LiesInside, Meets, rows_for}
-use Rattle.check_answers.proofs.Items.{same_item}
 
 -- ---- a block in rows
 
@@ -27,7 +26,7 @@ module _ (b : Block) (rows : List Entry) where
   -- one row is the first to meet a block
   one_first : (p q : ℕ) (e f : Entry) → IsFirstToMeet b rows p e → IsFirstToMeet b rows q f → (p ≡ q) × (e ≡ f)
   one_first p q e f x y = elim (cases_order p q) [
-    | inl same ↦ (same, same_item rows q e f (subst (λ k. slice_get rows k ≡ Some e) same x.there) y.there)
+    | inl same ↦ (same, one_item_at rows p q e f same x.there y.there)
     | inr (inl less) ↦ absurd (y.first p e less x.there x.meets)
     | inr (inr more) ↦ absurd (x.first q f more y.there y.meets)
   ]
@@ -77,7 +76,7 @@ module _ (m : Description) (v : Image) where
         (i ≡ j) × (n ≡ o) × (c ≡ d)
     same_pair i j n o c d x bad y also = elim (cases_order i j) [
       | inl same ↦
-          let nets_are : n ≡ o = same_item nets j n o (subst (λ k. slice_get nets k ≡ Some n) same x.there) y.there in
+          let nets_are : n ≡ o = one_item_at nets i j n o same x.there y.there in
           let z : AreFineBefore m v nets i o c = subst (λ p. AreFineBefore m v nets i p c) nets_are x in
           let w : AreFineBefore m v nets i o d = subst (λ k. AreFineBefore m v nets k o d) (sym same) y in
           let worse : IsFine m v o c → ⊥ = subst (λ p. IsFine m v p c → ⊥) nets_are bad in
@@ -130,4 +129,4 @@ pub wrong_named : (m : Description) (v : Image) (nets : List NetPlan) (verdict :
     (net : NetPlan) × (slice_get nets i ≡ Some net) × ((memories : List (List Entry)) → Loaded memories → Is memories net)
 wrong_named m v nets verdict i c key Is Loaded told is each =
     let known : IsVerdict m nets v (Wrong i c key) = subst (IsVerdict m nets v) is told in
-    (known.0, known.1.there, λ memories loaded. let of = each memories loaded in subst (Is memories) (same_item nets i of.0 known.0 of.1 known.1.there) of.2)
+    (known.0, known.1.there, λ memories loaded. let of = each memories loaded in subst (Is memories) (one_item_at nets i i of.0 known.0 refl of.1 known.1.there) of.2)

@@ -1,6 +1,7 @@
 -- A graph has at most one refusal that is due, and none where it has nets with trees.
-use Rattle.std.proofs.Common.{◌≡◌, ◌⊎◌, ℕ, List, Some, Result, Ok, Err, IfOk, IfErr, sym, ap, ◌∙◌, subst, inl, inr}
+use Rattle.std.proofs.Common.{◌≡◌, ◌⊎◌, ℕ, List, Some, Result, Ok, Err, IfOk, IfErr, sym, ap, ◌∙◌, inl, inr}
 use Rattle.std.specs.List.{slice_get}
+use Rattle.list_laws.proofs.Places.{one_item_at}
 use Rattle.spin_base.specs.declared.chips.Spot.{Spot}
 use Rattle.machine_desc.specs.declared.trees.Edge.{Edge}
 use Rattle.machine_desc.specs.Description.{Description}
@@ -17,20 +18,19 @@ use Rattle.refusals.specs.declared.causes.Refusal.{Refusal}
 use Rattle.refusals.specs.declared.causes.Refusal.TheVariants.{NoRoom, KeysOut, Memory}
 use Rattle.check_answers.specs.Answers.{HasNoAnswer, IsAnswer, IsDue, keys_out, no_room}
 use Rattle.check_answers.specs.Nets.{AreNetsWith}
-use Rattle.check_answers.proofs.Items.{same_item}
 
 module _ (m : Description) (graph : Graph) where
   -- one refusal is due
   one_due : (r s : Refusal) → IsDue m graph r → IsDue m graph s → r ≡ s
   one_due r s (no_room i v room at is) (no_room j w other there also) =
       let place : i ≡ j = places.one_vertex m graph.vertices i j room other in
-      let vertex : v ≡ w = same_item graph.vertices j v w (subst (λ k. slice_get graph.vertices k ≡ Some v) place at) there in
+      let vertex : v ≡ w = one_item_at graph.vertices i j v w place at there in
       is ∙ (ap (λ (x : Vertex). NoRoom x.name) vertex ∙ sym also)
   one_due r s (no_room i v room at is) (keys_out spots memory placed j w out there also) = absurd (places.not_both m graph.vertices spots memory i placed room)
   one_due r s (keys_out spots memory placed i v out at is) (no_room j w room there also) = absurd (places.not_both m graph.vertices spots memory j placed room)
   one_due r s (keys_out spots memory placed i v out at is) (keys_out spots' memory' placed' j w other there also) =
       let place : i ≡ j = keys.one_net graph.nets i j out other in
-      let net : v ≡ w = same_item graph.nets j v w (subst (λ k. slice_get graph.nets k ≡ Some v) place at) there in
+      let net : v ≡ w = one_item_at graph.nets i j v w place at there in
       is ∙ (ap (λ (x : Net). KeysOut x.name) net ∙ sym also)
 
   -- none is where there are nets with trees
