@@ -15,7 +15,7 @@ use Rattle.app_loads.specs.declared.loaded.Range.{Range}
 use Rattle.app_loads.specs.Regions.{IsWithin, chip_count, has_place, is_taken, rows_region}
 use Rattle.app_loads.specs.Writing.{AreUnused, AreUnusedFrom, CanClear}
 use Rattle.app_loads.proofs.Copying.{changed_here, same_elsewhere, was_here, none_more, taken_more}
-use Rattle.app_loads.proofs.Others.{or-false}
+use Rattle.std.proofs.Math.Bool.{or-false}
 
 -- ---- entries of one table
 

@@ -17,7 +17,7 @@ use Rattle.app_loads.specs.declared.loaded.LoadedApp.{LoadedApp}
 use Rattle.app_loads.specs.Host.{is_spot_taken}
 use Rattle.app_loads.specs.Inner.{TellsTaken}
 use Rattle.app_loads.specs.Marking.{AreMarked}
-use Rattle.app_loads.proofs.Others.{or-false}
+use Rattle.std.proofs.Math.Bool.{or-false}
 
 module _ (m : Description) (now : Bool) (spots : List Spot) (old cur : List Bool) (i : ℕ) (d : Spot) (below : i < length spots) (so_far : AreMarked m now (take i spots) old cur)
     (inside : All (λ (s : Spot). IsInside m s.chip) spots) (few : All (λ (s : Spot). s.core < 24) spots) (long : length old ≡ 24 * (m.width * m.height)) where

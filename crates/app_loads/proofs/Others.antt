@@ -17,10 +17,6 @@ same_tests true b forth back = sym (forth refl)
 same_tests false true forth back = back refl
 same_tests false false forth back = refl
 
-pub or-false : (b : Bool) → (b || false) ≡ b
-or-false true = refl
-or-false false = refl
-
 -- a pair of each with the last
 pub pairs_with_last : {X : Type 0} (R : X → X → Type 0) (xs : List X) (x : X) → AllPairs R xs → ((a : X) → Contains xs a → R a x) → AllPairs R (xs ++ x ∷ [])
 pairs_with_last R xs x pairs each = all_pairs_push R xs x pairs (λ k d below. each (get_or xs k d) (Contains-at xs k (get_or xs k d) (slice_get-get_or xs k d below)))

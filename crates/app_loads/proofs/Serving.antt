@@ -22,7 +22,8 @@ use Rattle.app_loads.specs.Host.{Free}
 use Rattle.app_loads.specs.Regions.{AreFreeBeside, IsFreeBeside, AreApart, has_place, is_taken, region_size, IsWithin}
 use Rattle.app_loads.specs.Claims.{IsLeastOpen, IsOpen, IsRefusalDue}
 use Rattle.app_loads.specs.Taking.{free_of, frees, range_at, Serves, Refuses, IsFair, HaveRoom, CanServe, HaveServed, AreTaken, AreTakenAlways, AreServedAlways, IsDueAlways}
-use Rattle.app_loads.proofs.Others.{or-false, pairs_with_last}
+use Rattle.std.proofs.Math.Bool.{or-false}
+use Rattle.app_loads.proofs.Others.{pairs_with_last}
 use Rattle.range_store.proofs.HolePlaces.{clash}
 
 -- ---- lists

@@ -13,7 +13,7 @@ use Rattle.tern_word.specs.declared.tables.Row.{Row}
 use Rattle.tern_word.specs.Ternary.{generality, merge_of, merge_two}
 use Rattle.tern_word.specs.SoundTable.{IsOrdered}
 use Rattle.tern_word.proofs.BlockLaws.{generality-merge, merge_of-push}
-use Rattle.tern_word.proofs.RouteBits.{same_route}
+use Rattle.spin_base.proofs.RouteBits.{same_route}
 use Rattle.cover_checks.specs.Merge.{SameRoute, has, rows_at, merged_block, place_for, insert_place, IsMergeSet}
 use Rattle.cover_checks.proofs.Lists.{All-from_map, AllPairs-head, AllPairs-tail}
 

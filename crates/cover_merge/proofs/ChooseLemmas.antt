@@ -10,7 +10,7 @@ use Rattle.spin_base.specs.declared.routes.Route.{Route}
 use Rattle.tern_word.specs.declared.tables.Row.{Row}
 use Rattle.cover_checks.specs.Merge.{IsOneRoute, IsMergeSet, merge_rows}
 use Rattle.cover_checks.proofs.Positions.{pair_set_read}
-use Rattle.tern_word.proofs.RouteBits.{same_route}
+use Rattle.spin_base.proofs.RouteBits.{same_route}
 use Rattle.cover_checks.proofs.Lists.{AllPairs-nil}
 use Rattle.cover_merge.specs.Refinement.{Refines, ends_empty}
 use Rattle.cover_merge.specs.Links.{AreLinks, IsNext, IsFirst}

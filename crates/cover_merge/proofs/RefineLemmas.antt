@@ -20,7 +20,7 @@ use Rattle.tern_word.specs.SoundTable.{IsSound}
 use Rattle.cover_checks.proofs.Legal.{legal_from_checks}
 use Rattle.cover_checks.proofs.Answering.{fails}
 use Rattle.cover_checks.proofs.Positions.{has-at, has-place, All-has, rows_at-from, rows_at-length, some_blocks}
-use Rattle.tern_word.proofs.RouteBits.{zero_of}
+use Rattle.spin_base.proofs.RouteBits.{zero_of}
 use Rattle.cover_merge.specs.Refinement.{can_choose, parts, keeps, kept_by, IsLastFailing, IsUpStep, IsFirstMetFrom, IsNarrowed, IsDownStep, Refines, ends_empty, ends_legal, goes_up, goes_down}
 
 -- ---- the tests of bits

@@ -25,7 +25,7 @@ use Rattle.cover_checks.specs.Merge.{has, rows_at}
 use Rattle.cover_checks.proofs.Answering.{fails}
 use Rattle.cover_checks.proofs.Lists.{AllPairs-nil, All-flat_map}
 use Rattle.cover_checks.proofs.Positions.{has-at, has-place, rows_at-from, rows_at-has}
-use Rattle.tern_word.proofs.RouteBits.{same_route}
+use Rattle.spin_base.proofs.RouteBits.{same_route}
 use Rattle.default_routes.specs.KeptRows.{IsStrippable, KeptFrom, ends, goes, stays, AreKept, ArePlaces, RoutesAll, Routes}
 
 -- ---- lookup, entry by entry

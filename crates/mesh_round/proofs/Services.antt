@@ -25,6 +25,7 @@ use Rattle.chip_node.specs.Looking.{taken_at}
 use Rattle.chip_node.specs.RouterFlow.{Service, owed, is_sent, is_dumped_at, records}
 use Rattle.chip_node.specs.Routing.{last_hop, outputs_at}
 use Rattle.chip_node.specs.Serving.{records_of}
+use Rattle.mesh_core.proofs.MarkTests.{below_last}
 use Rattle.mesh_core.specs.Ledger.{all_ports}
 use Rattle.mesh_run.specs.Routed.{dumped_by}
 use Rattle.round_flow.proofs.Entered.{has_bit}
@@ -146,11 +147,8 @@ output_given entries port k o a small = elim (cases_Bool (k.hop == last_hop)) [
   | inr more ↦
       let some : outputs_at entries port k ≡ outs_of (lookup entries k.key port) = ap (λ b. if b then [] else outs_of (lookup entries k.key port)) more in
       let there = among_filter (has (lookup entries k.key port)) o all_outs (subst (λ (l : List Out). Among o l) some a) in
-      (has_bit o there.0, below k.hop small more)
+      (has_bit o there.0, below_last k.hop small more)
 ]
-  where
-    below : (h : ℕ) → h ≤ last_hop → (h == last_hop) ≡ false → h < last_hop
-    below h small more = grind arith
 
 -- what was served is an output of a copy that was taken
 pub served_from : (entries : List Entry) (taken : List (Port × McCopy)) (served : List Service) → map {B = Out × McCopy} (λ s. (s.out, s.copy)) served ≡ owed entries taken →

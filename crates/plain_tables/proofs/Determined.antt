@@ -34,7 +34,7 @@ use Rattle.tern_word.specs.declared.tables.Row.{Row}
 use Rattle.tern_word.specs.SoundTable.{Original}
 use Rattle.tern_word.specs.Ternary.{Intersects, generality}
 use Rattle.tern_word.proofs.BlockLaws.{Intersects-sym, key_small}
-use Rattle.tern_word.proofs.RouteBits.{same_route, zero_of}
+use Rattle.spin_base.proofs.RouteBits.{same_route, zero_of}
 use Rattle.plain_tables.specs.PlainTable.{HasChip, IsOriginalOf, AreOriginals, IsNotAfter, IsPlainTable, AreRouted, row_of}
 use Rattle.plain_tables.proofs.Trees.{comes_in_tree}
 use Rattle.plain_tables.proofs.Whole.{originals_apart, from_net}

@@ -13,7 +13,7 @@ use Rattle.cover_checks.specs.Merge.{has, kept, rows_at, merge_rows, merged_row,
 use Rattle.cover_checks.proofs.Legal.{legal_from_checks}
 use Rattle.cover_checks.proofs.Lists.{All-left, All-right, All-from_map, All-flat_map, All-from_flat_map, picked-at}
 use Rattle.cover_checks.proofs.Positions.{All-has, rows_at-from, rows_at-has}
-use Rattle.tern_word.proofs.RouteBits.{same_route}
+use Rattle.spin_base.proofs.RouteBits.{same_route}
 use Rattle.cover_merge.specs.Refinement.{Refines, ends_empty, ends_legal, goes_up, goes_down, keeps}
 use Rattle.cover_merge.specs.Covering.{places_of, IsChosen, Covers, short, stuck, merged}
 

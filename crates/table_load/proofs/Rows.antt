@@ -1,5 +1,4 @@
 -- A row that is read is spelled so, and what is spelled so is read.
-use Rattle.std.proofs.Props.{props}
 use Rattle.std.proofs.Common.{◌≡◌, ℕ, zero, suc, ◌+◌, ◌-◌, ◌%◌, ◌^◌, ◌<◌, ◌≤◌, true, leb, List, [], ◌∷◌, ◌++◌, length, Result, Ok, Err, refl, sym, ap, subst, ◌∙◌, append_assoc, arith, eq-eqb}
 use Rattle.std.specs.List.{flat_map, AllByRecursion}
 use Rattle.std.specs.Int.{w32, to_le_bytes}
@@ -12,6 +11,7 @@ use Rattle.spin_base.specs.declared.routes.Route.{Route}
 use Rattle.spin_base.specs.declared.blocks.Entry.{Entry}
 use Rattle.table_load.specs.declared.faults.Stop.{Stop}
 use Rattle.table_load.specs.declared.faults.Stop.TheVariants as stops
+use Rattle.spin_base.proofs.RouteBits.{same_route}
 use Rattle.table_load.specs.Images.{IsRow, row_bytes}
 use Rattle.table_load.specs.Reading.{◌>>=◌, Fails, AreBytes, number, field, between, covers, route_of, route_at, row_at, rows_at}
 use Rattle.table_load.proofs.Numbers.{bind_ok, ok_is, Takes, Takes-then, wide32, number_takes, number_again, field_takes, field_again, field_allows}
@@ -28,10 +28,7 @@ between_from least most n low high = and_from (leb least n) (leb n most) (le-leb
 
 -- a route is its number
 pub one_route : (a b : ℕ) (s : a < 2 ^ 24) (t : b < 2 ^ 24) → a ≡ b → ◌≡◌ {A = Route} (record { bits = a; within = s }) (record { bits = b; within = t })
-one_route a b s t e = subst (λ (n : ℕ). (u : n < 2 ^ 24) → ◌≡◌ {A = Route} (record { bits = a; within = s }) (record { bits = n; within = u })) e (λ u. ap (λ (x : a < 2 ^ 24). let r : Route = record { bits = a; within = x } in r) (small a s u)) t
-  where
-    small : (n : ℕ) → IsProp (n < 2 ^ 24)
-    small n = hlevel props
+one_route a b s t e = same_route (record { bits = a; within = s }) (record { bits = b; within = t }) e
 
 pub route_again_of : (r : Route) → route_of r.bits ≡ r
 route_again_of r = one_route (r.bits % 2 ^ 24) r.bits _ r.within (mod-eq_of_lt r.within)

@@ -1,5 +1,4 @@
 mod Bits
 pub mod BlockLaws
-pub mod RouteBits
 mod Lying
 mod Placing
