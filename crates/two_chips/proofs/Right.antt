@@ -25,15 +25,15 @@ use Rattle.net_tables.specs.declared.nets.NetPlan.{NetPlan}
 use Rattle.net_tables.specs.Outputs.{is_wanted}
 use Rattle.net_tables.specs.RightTables.{IsKeyOf, RoutesByTree, AreRight, table_at}
 use Rattle.mesh_core.proofs.Counting.{counted}
-use Rattle.two_chips.specs.Board.{board, left, right, east, targets, device, net, other_net, nets, tables, wrong_tables, right_table, block, other_block, left_route, right_route, east_route, row}
+use Rattle.two_chips.specs.Board.{board, left, right, east, targets, device, net, other_net, nets, tables, wrong_tables, right_table, block, other_block, left_route, right_route, east_route, entry_of_key}
 
-is_first : (route : Route) (key : ℕ) → IsKeyOf block key → matches (row 0 route) key ≡ true
+is_first : (route : Route) (key : ℕ) → IsKeyOf block key → matches (entry_of_key 0 route) key ≡ true
 is_first route key k = ap (λ (n : ℕ). n == 0) k.matches
 
-is_not_first : (route : Route) (key : ℕ) → IsKeyOf other_block key → matches (row 0 route) key ≡ false
+is_not_first : (route : Route) (key : ℕ) → IsKeyOf other_block key → matches (entry_of_key 0 route) key ≡ false
 is_not_first route key k = ap (λ (n : ℕ). n == 0) k.matches
 
-is_second : (route : Route) (key : ℕ) → IsKeyOf other_block key → matches (row 1 route) key ≡ true
+is_second : (route : Route) (key : ℕ) → IsKeyOf other_block key → matches (entry_of_key 1 route) key ≡ true
 is_second route key k = ap (λ (n : ℕ). n == 1) k.matches
 
 -- a route has the outputs that a tree of the one link wants at a chip
@@ -89,21 +89,21 @@ net_right : RoutesByTree board tables net
 unfolding IsRightAt
 net_right c port key o (inl root) k valid =
     subst (IsRightAt net key port o) (sym root.0)
-    (right_by net key port o left left_route (lookup_hit (row 0 left_route) (row 1 east_route ∷ []) key port (is_first left_route key k)) left_outs valid)
+    (right_by net key port o left left_route (lookup_hit (entry_of_key 0 left_route) (entry_of_key 1 east_route ∷ []) key port (is_first left_route key k)) left_outs valid)
 net_right c port key o (inr h) k valid =
     subst (IsRightAt net key port o) (at_end c h.0 h.1 h.2).1
-    (right_by net key port o right right_route (lookup_hit (row 0 right_route) [] key port (is_first right_route key k)) right_outs valid)
+    (right_by net key port o right right_route (lookup_hit (entry_of_key 0 right_route) [] key port (is_first right_route key k)) right_outs valid)
 
 other_right : RoutesByTree board tables other_net
 unfolding IsRightAt
 other_right c port key o (inl root) k valid =
     subst (IsRightAt other_net key port o) (sym root.0)
     (right_by other_net key port o left east_route
-    (lookup_miss (row 0 left_route) (row 1 east_route ∷ []) key port (is_not_first left_route key k) ∙ lookup_hit (row 1 east_route) [] key port (is_second east_route key k)) other_left_outs valid)
+    (lookup_miss (entry_of_key 0 left_route) (entry_of_key 1 east_route ∷ []) key port (is_not_first left_route key k) ∙ lookup_hit (entry_of_key 1 east_route) [] key port (is_second east_route key k)) other_left_outs valid)
 other_right c port key o (inr h) k valid =
     let there = at_end c h.0 h.1 h.2 in
     let by_west : port ≡ ByLink West = h.3 ∙ ap (λ (e : Edge). ByLink (opposite_of e.dir)) (sym there.0) in
-    let straight : lookup right_table key (ByLink West) ≡ east_route = lookup_miss (row 0 right_route) [] key (ByLink West) (is_not_first right_route key k) in
+    let straight : lookup right_table key (ByLink West) ≡ east_route = lookup_miss (entry_of_key 0 right_route) [] key (ByLink West) (is_not_first right_route key k) in
     subst (IsRightAt other_net key port o) there.1
     (subst (λ (p : Port). IsRightAt other_net key p o right) (sym by_west) (right_by other_net key (ByLink West) o right east_route straight other_right_outs valid))
 

@@ -78,21 +78,21 @@ right_route = record { bits = 384; within = lit< tt }
 abbrev pub east_route : Route
 east_route = record { bits = 1; within = lit< tt }
 
-abbrev pub row : ℕ → Route → Entry
-row key route = record { key = key; mask = 4_294_967_295; route = route }
+abbrev pub entry_of_key : ℕ → Route → Entry
+entry_of_key key route = record { key = key; mask = 4_294_967_295; route = route }
 
 abbrev pub left_table : List Entry
-left_table = row 0 left_route ∷ row 1 east_route ∷ []
+left_table = entry_of_key 0 left_route ∷ entry_of_key 1 east_route ∷ []
 
 abbrev pub right_table : List Entry
-right_table = row 0 right_route ∷ []
+right_table = entry_of_key 0 right_route ∷ []
 
 abbrev pub tables : List (List Entry)
 tables = left_table ∷ right_table ∷ []
 
 -- tables that are not right: the left chip has no row for key 1
 abbrev pub wrong_tables : List (List Entry)
-wrong_tables = (row 0 left_route ∷ []) ∷ right_table ∷ []
+wrong_tables = (entry_of_key 0 left_route ∷ []) ∷ right_table ∷ []
 
 -- a packet of the first net is sent twice, and one of the other net once
 abbrev pub packets : List Packet
