@@ -1,10 +1,10 @@
-"""Runs the commands of docs/guide.md and docs/refusals.md, and compares what they write with what stands there.
+"""Runs the commands of README.md, docs/guide.md and docs/refusals.md, and compares what they write with what stands there.
 
     python3 tools/doc_check.py [--write] [PROGRAM]
 
 PROGRAM is ./spin where none is named. With --write the outputs in docs/guide.md, and its pictures, are made anew. Those of
-docs/refusals.md are worked out by hand from docs/formats.md, and always only compared. Each difference is printed. The last line
-is 'N passed, M failed', and the status 1 where one failed.
+README.md and docs/refusals.md are worked out by hand from docs/formats.md, and always only compared. Each difference is printed.
+The last line is 'N passed, M failed', and the status 1 where one failed.
 
 Each document has a folder of its own, in which `spin` is PROGRAM and all else is the repository's. Its parts that count, in order:
 
@@ -24,7 +24,7 @@ import sys
 import tempfile
 
 ROOT = os.path.dirname(os.path.dirname(os.path.realpath(__file__)))
-MADE, BY_HAND = "docs/guide.md", "docs/refusals.md"
+MADE, BY_HAND = "docs/guide.md", ("README.md", "docs/refusals.md")
 CUT = "..."
 MOST_SECONDS = 100
 # What the launcher needs beside the toolchain.
@@ -156,7 +156,7 @@ def main(words):
     is_made = "--write" in words
     program = os.path.realpath(next((it for it in words if not it.startswith("--")), f"{ROOT}/spin"))
     passed = failed = 0
-    for file in (MADE, BY_HAND):
+    for file in (MADE, *BY_HAND):
         with tempfile.TemporaryDirectory(prefix="doc-check-") as room:
             document = Document(file, room, program, is_made and file == MADE)
             document.go()

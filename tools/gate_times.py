@@ -1,7 +1,7 @@
 #!/usr/bin/env python3
 """Runs the gate, and tells what each crate's proof, tests and must-fail edits cost in processor seconds.
 
-    tools/gate_times.py [COMMAND ..]      from the top of the repository; without a command it is `rt ci`
+    tools/gate_times.py [COMMAND ..]      from the top of the repository; without a command it is `rt ci --anew`
 
 It looks twice a second at the processes of the prover, and adds up what each had used when it was last seen, so that a figure
 is short by at most half a second a process. An edit is told by its place in the order in which `rt ci` tries a crate's edits,
@@ -70,4 +70,4 @@ def main(command):
 
 
 if __name__ == "__main__":
-    sys.exit(main(sys.argv[1:] or ["rt", "ci"]))
+    sys.exit(main(sys.argv[1:] or ["rt", "ci", "--anew"]))

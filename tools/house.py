@@ -84,12 +84,13 @@ def clauses():
 
 
 def wrong_promises():
-    """What docs/promises.md says of the sources that is not so. The second cell of a row names functions, each with its clauses
+    """What the first table of docs/promises.md says of the sources that is not so. The second cell of a row names functions, each with its clauses
     after the word 'clause' or 'clauses', up to a semicolon; in brackets and elsewhere it names whatever is defined, a lemma too."""
     labels, defined = clauses(), set(re.findall(r"\w+", text_of("crates/*/src/**/*.rt") + text_of("crates/*/specs/**/*.antt")))
     defined |= set(re.findall(r"^pub (\w+) :", text_of("crates/*/proofs/**/*.antt"), re.M))
     with open(f"{ROOT}/docs/promises.md", encoding="utf-8") as text:
-        carriers = [line.split(" | ")[1] for line in text if line.startswith("| ")][1:]
+        table = text.read().partition("\n## ")[0].splitlines()
+    carriers = [line.split(" | ")[1] for line in table if line.startswith("| ")][1:]
     for carrier in carriers:
         function, is_clause, depth = None, False, 0
         for name, word, mark in re.findall(r"`([^`]+)`|\b(clauses?|of)\b|([();])", carrier):
