@@ -39,7 +39,10 @@ def statements(path):
             text = f"{found[2]} {found[3] or ''}"
             while end < len(lines) and (not lines[end].strip() or depth(lines[end]) > here):
                 text, end = f"{text} {lines[end].strip()}", end + 1
-            if end < len(lines) and lines[end].strip().startswith(found[1]):
+            after = end
+            while after < len(lines) and lines[after].strip().startswith("unfolding "):
+                after += 1
+            if after < len(lines) and lines[after].strip().startswith(found[1]):
                 yield found[1], " ".join(it[1] for it in around), text, at + 1
         at = end
 

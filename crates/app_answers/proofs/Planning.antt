@@ -15,6 +15,7 @@ use Rattle.machine_desc.specs.Live.{IsUsable}
 use Rattle.machine_desc.specs.RoutingTree.{IsRoutingTree}
 use Rattle.app_graph.specs.declared.graphs.Net.{Net}
 use Rattle.app_graph.specs.declared.graphs.Vertex.{Vertex}
+use Rattle.app_graph.proofs.Keys.{keys_of-at}
 use Rattle.app_graph.specs.RunPart.{IsPacketOf as IsRunPacket, keys_of}
 use Rattle.app_graph.specs.ValidGraph.{IsValidNet}
 use Rattle.net_tables.specs.declared.nets.NetPlan.{NetPlan}
@@ -106,12 +107,6 @@ reached_more m spots nets i net before at reached j other less there = elim (cas
 
 -- ---- the whole plan
 
-keys_at : (nets : List Net) (i : ℕ) (n : Net) → slice_get nets i ≡ Some n → n.keys ≡ keys_of nets i
-unfolding keys_of
-keys_at [] i n e = absurd cc
-keys_at (m ∷ nets) zero n e = let same : m ≡ n = cc in ap (λ (k : Net). k.keys) (sym same)
-keys_at (m ∷ nets) (suc i) n e = keys_at nets i n e
-
 pub packets_are : (m : Description) (spots : List Spot) (nets : List Net) (apps : List AppNet) (packets : List Packet) → AllZip (IsNetFor m spots) nets apps →
     All (IsRunPacket nets) packets → All (IsPacketOf apps) packets
 packets_are m spots nets apps packets are all = All-weaker (IsRunPacket nets) (IsPacketOf apps) one packets all
@@ -120,7 +115,7 @@ packets_are m spots nets apps packets are all = All-weaker (IsRunPacket nets) (I
     one p is =
         let net = slice_get_there nets p.net is.0 in
         let app = AllZip-at_first (IsNetFor m spots) nets apps are p.net net.0 net.1 in
-        let keys : app.0.keys ≡ keys_of nets p.net = app.2.keys ∙ keys_at nets p.net net.0 net.1 in
+        let keys : app.0.keys ≡ keys_of nets p.net = app.2.keys ∙ keys_of-at nets p.net net.0 net.1 in
         let below = is.1 in
         (app.0, app.1, omega (arith, keys, below))
 

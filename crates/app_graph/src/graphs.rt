@@ -1,11 +1,11 @@
 // Vertices, nets, and the run part of a job.
 use machine_desc::Edge;
-use spin_base::{Block, Chip, Event, Name, Packet, Seq};
+use spin_base::{Block, Chip, Event, Name, Packet, Seq, Shared};
 
 /// A vertex: its name, the bytes of its chip's shared memory that it needs, and the chip on which it must stand where the
 /// job says one. A vertex with a device is no program: it is what hangs on that link of that chip, and takes packets; its
 /// memory and its chip are not used.
-#[derive(Debug, Drop)]
+#[derive(Drop)]
 pub struct Vertex {
     pub name: Name,
     pub sdram: u32,
@@ -15,7 +15,7 @@ pub struct Vertex {
 
 /// A net: its name, the positions of its source and targets in the list of vertices, how many keys it needs, and the block
 /// of keys that it must have where the job says one.
-#[derive(Debug, Drop)]
+#[derive(Drop)]
 pub struct Net {
     pub name: Name,
     pub source: u32,
@@ -25,16 +25,18 @@ pub struct Net {
 }
 
 /// Vertices and nets, in the order of the job.
-#[derive(Debug, Drop)]
+#[derive(Drop)]
 pub struct Graph {
     pub vertices: Seq<Vertex>,
     pub nets: Seq<Net>,
 }
 
+impl Shared for Graph {}
+
 /// How a job is to run: the capacity of each queue, how many refused offers a copy waits before it is dumped, the number
 /// of worker threads, the turns of a round, the rows that a table may keep before rows are merged, the packets, and the
 /// events of a trace.
-#[derive(Debug, Drop)]
+#[derive(Drop)]
 pub struct RunPart {
     pub queue: u32,
     pub patience: u32,

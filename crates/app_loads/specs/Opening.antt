@@ -1,4 +1,4 @@
--- A machine on which no application is loaded.
+-- A machine on which no application is loaded (this project's own).
 use Rattle.std.specs.Prelude.{ℕ, ◌+◌, ◌*◌, ◌/◌, ◌%◌, List, [], map, filter, replicate}
 use Rattle.std.specs.List.{range_with_len}
 use Rattle.spin_base.specs.declared.chips.Spot.{Spot}

@@ -1,4 +1,4 @@
--- Which plans can be loaded.
+-- Which plans can be loaded (this project's own).
 use Rattle.std.specs.Prelude.{◌≡◌, ◌≢◌, ◌+◌, ◌^◌, ◌<◌, ◌≤◌, ◌⊎◌, false, List, All, AllPairs, Contains, IfSome, Some, length, slice_get}
 use Rattle.spin_base.specs.declared.chips.Spot.{Spot}
 use Rattle.spin_base.specs.declared.copies.Packet.{Packet}

@@ -1,4 +1,4 @@
--- Steps whose jobs are valid.
+-- Steps whose jobs are valid (this project's own).
 use Rattle.std.specs.Prelude.{◌≡◌, None, All}
 use Rattle.app_graph.specs.declared.graphs.Vertex.{Vertex}
 use Rattle.app_graph.specs.ValidGraph.{IsValidGraph}

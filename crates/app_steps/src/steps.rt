@@ -19,7 +19,7 @@ const MOST_STEPS: u64 = 65535;
 const GREATEST_VERSION: u32 = 2;
 
 /// A step: an application is loaded under a number, or unloaded, or all are run.
-#[derive(Debug, Drop)]
+#[derive(Drop)]
 pub enum Step {
     /// The job is loaded under this number.
     Load(u32, Job),

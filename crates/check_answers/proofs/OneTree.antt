@@ -2,18 +2,17 @@
 use Rattle.std.proofs.Common.{◌≡◌, ℕ, ◌+◌, ◌≤◌, Bool, true, false, List, [], ◌∷◌, get_or, refl, sym, ap, ◌∙◌, subst, arith, inl, inr}
 use Rattle.std.specs.List.{All, AllPairs, sum_by}
 use Rattle.std.specs.List.Sorted.{IsPermutation}
-use Rattle.std.proofs.lemmas.Bool.{cases_order}
 use Rattle.std.proofs.lemmas.List.Elements.{All-cons}
 use Rattle.std.proofs.lemmas.List.Sorted.{IsPermutation-sym, IsPermutation-trans, sum_by-IsPermutation}
 use Rattle.std.proofs.lemmas.List.Sums.{sum_by-cons, sum_by-le}
 use Rattle.list_laws.proofs.Pairs.{AllPairs-head, AllPairs-tail}
-use Rattle.spin_base.specs.Links.{dir_number}
 use Rattle.spin_base.specs.declared.chips.Chip.{Chip}
 use Rattle.machine_desc.specs.declared.trees.Edge.{Edge}
 use Rattle.machine_desc.specs.declared.trees.Tree.{Tree}
 use Rattle.machine_desc.specs.Equality.{edge_eq}
 use Rattle.machine_desc.proofs.Same.{edge_eq-true, edge_eq_self, same_chip, same_dir, same_edge}
-use Rattle.ner_trees.specs.Order.{IsBefore}
+use Rattle.ner_trees.specs.Order.{IsBefore, edge_key}
+use Rattle.net_plans.proofs.Ordering.{same_from_neither}
 use Rattle.check_answers.specs.Nets.{IsTreeOf}
 
 -- no edge is before itself
@@ -24,19 +23,7 @@ not_before_itself e (inr (same, inr (also, d))) = omega (arith, d)
 
 -- two edges of which none is before the other are the same
 level : (e f : Edge) → (IsBefore e f → ⊥) → (IsBefore f e → ⊥) → e ≡ f
-level e f one other = elim (cases_order e.chip.x f.chip.x) [
-  | inl xs ↦ elim (cases_order e.chip.y f.chip.y) [
-    | inl ys ↦ elim (cases_order (dir_number e.dir) (dir_number f.dir)) [
-      | inl ds ↦ same_edge e f (same_chip e.chip f.chip xs ys) (same_dir e.dir f.dir ds)
-      | inr (inl less) ↦ absurd (one (inr (xs, inr (ys, less))))
-      | inr (inr more) ↦ absurd (other (inr (sym xs, inr (sym ys, more))))
-    ]
-    | inr (inl less) ↦ absurd (one (inr (xs, inl less)))
-    | inr (inr more) ↦ absurd (other (inr (sym xs, inl more)))
-  ]
-  | inr (inl less) ↦ absurd (one (inl less))
-  | inr (inr more) ↦ absurd (other (inl more))
-]
+level e f one other = let same = same_from_neither (edge_key e) (edge_key f) one other in same_edge e f (same_chip e.chip f.chip same.0 same.1) (same_dir e.dir f.dir same.2)
 
 -- how often an edge stands in a list
 abbrev count_at : Bool → ℕ

@@ -1,4 +1,4 @@
--- What is answered of a graph on a machine, with trees and the bytes of an image, and when there is no answer.
+-- What is answered of a graph on a machine, with trees and the bytes of an image, and when there is no answer (this project's own).
 use Rattle.std.specs.Prelude.{◌≡◌, ◌⊎◌, ℕ, List, Some, slice_get}
 use Rattle.spin_base.specs.declared.blocks.Entry.{Entry}
 use Rattle.spin_base.specs.declared.chips.Chip.{Chip}

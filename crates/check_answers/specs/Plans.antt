@@ -1,4 +1,4 @@
--- The trees and the image of a plan that the compiler makes.
+-- The trees and the image of a plan that the compiler makes (this project's own).
 use Rattle.std.specs.Prelude.{◌≡◌, ℕ, List, Some, map, slice_get}
 use Rattle.machine_desc.specs.declared.trees.Edge.{Edge}
 use Rattle.machine_desc.specs.Description.{Description}

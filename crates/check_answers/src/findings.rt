@@ -20,7 +20,7 @@ use std::alloc::Global;
 use table_load::{Image, ImageErr, decode};
 
 /// What is found of nets, each with the tree that was handed in for it, and of bytes of tables.
-#[derive(Clone, Copy, Debug, PartialEq, Eq)]
+#[derive(Clone, Copy)]
 pub enum Finding {
     /// This net is the first whose edges are no routing tree from the chip of its source to its targets.
     BadTree { net: u32 },

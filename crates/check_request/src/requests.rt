@@ -6,18 +6,15 @@ ghost use Rattle.job_text.specs.Reading.{Gives};
 ghost use Rattle.check_request.specs.Requests.{own_faults, job_member, one_each_faults, trees_faults, trees_value, image_faults, image_value, request_faults, request_value};
 
 use crate::entries::{Trees, bytes_in};
-use job_readers::{Job, each_item, job_of};
+use job_readers::{GREATEST_VERSION, Job, each_item, job_of};
 use job_text::{TextErr, list, member, member_path, range, shape};
 use machine_desc::Edge;
 use serde_json::Value;
 use spin_base::{Name, Seq};
 use std::alloc::Global;
 
-/// The greatest version of a job that is read.
-const GREATEST_VERSION: u32 = 3;
-
 /// What is to be checked: a job, the links of a tree for each of its nets, and the bytes of an image.
-#[derive(Debug, Drop)]
+#[derive(Drop)]
 pub struct Request {
     pub job: Job,
     pub trees: Seq<Seq<Edge>>,

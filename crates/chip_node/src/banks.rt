@@ -33,7 +33,7 @@ pub struct CoreBank {
 
 /// What a bank did in a turn: what became of the unsent copy that it offered, where there was one, and whether it took a
 /// copy for a vertex.
-#[derive(Clone, Copy, Debug, PartialEq, Eq)]
+#[derive(Clone, Copy, PartialEq, Eq)]
 pub struct BankTurn {
     pub offered: Option<Offered>,
     pub collected: bool,

@@ -5,7 +5,7 @@ ghost use Rattle.command_words.specs.Commands.{plain_command, numbered_command, 
 use crate::numbers::number_of;
 
 /// What the words ask for.
-#[derive(Clone, Copy, Debug, PartialEq, Eq)]
+#[derive(Clone, Copy)]
 pub enum Command {
     /// Makes something of a job.
     OfJob(JobWord),
@@ -16,7 +16,7 @@ pub enum Command {
 }
 
 /// What is made of a job.
-#[derive(Clone, Copy, Debug, PartialEq, Eq)]
+#[derive(Clone, Copy)]
 pub enum JobWord {
     /// Compiles the job, runs it, and reports.
     Run,

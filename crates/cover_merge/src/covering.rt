@@ -15,22 +15,24 @@ use crate::choosing::chosen;
 use crate::guards::{Guard, guards_of};
 use crate::links::{carry_numbers, links_of, numbers_of};
 use cover_checks::merged_block;
-use spin_base::{Memory, Seq};
+use spin_base::{Memory, Seq, Shared};
 use std::alloc::Global;
 use tern_word::Table;
 
 /// A merge that was made: the places of the rows in the table before it.
-#[derive(Debug, Drop)]
+#[derive(Drop)]
 pub struct Merge {
     pub places: Seq<u32>,
 }
 
 /// A covered table, and the merges that led to it, in order.
-#[derive(Debug, Drop)]
+#[derive(Drop)]
 pub struct Covered {
     pub table: Table,
     pub merges: Seq<Merge>,
 }
+
+impl Shared for Covered {}
 
 /// Merges rows while the table has more than `target`: the largest refined set of the rows of a route, of equal ones
 /// that of the least route; where none has two places, the first legal pair; where no pair is legal, covering ends.

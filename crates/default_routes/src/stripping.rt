@@ -8,16 +8,18 @@ ghost use Rattle.spin_base.specs.declared.chips.Port.TheVariants.{Link};
 ghost use Rattle.default_routes.specs.KeptRows.{IsStrippable, AreKept, ArePlaces, RoutesAll, Routes};
 
 use cover_merge::Covered;
-use spin_base::{Dir, Memory, Port, Seq};
+use spin_base::{Dir, Memory, Port, Seq, Shared};
 use std::alloc::Global;
 use tern_word::{Alias, Row, misses};
 
 /// A covered table, and the places of the rows that are loaded, ascending.
-#[derive(Debug, Drop)]
+#[derive(Drop)]
 pub struct Final {
     pub covered: Covered,
     pub kept: Seq<u32>,
 }
+
+impl Shared for Final {}
 
 /// Leaves out the rows that default routing replaces. From the last row to the first, a row goes where its route is
 /// one link, each alias arrives at the opposite link, and no later kept row meets an alias of it.

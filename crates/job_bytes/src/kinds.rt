@@ -7,14 +7,11 @@ ghost use Rattle.job_text.specs.Reading.{Gives};
 
 use app_steps::{Step, steps_of};
 use check_request::{Request, request_of};
-use job_readers::{Job, job_of};
+use job_readers::{GREATEST_VERSION, Job, job_of};
 use job_text::TextErr;
 use serde_json::Value;
 use spin_base::{Name, Seq};
 use std::alloc::Global;
-
-/// The greatest version of a job that is read.
-const GREATEST_VERSION: u32 = 3;
 
 // What a source may be read as: the faults of a value, which input it is, and what holds of each input.
 pub(crate) trait Input: Drop {

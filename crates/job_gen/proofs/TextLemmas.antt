@@ -1,12 +1,12 @@
 -- How deep the value of a generated job nests, and that no number of it is a float.
 use Rattle.std.proofs.Common.{◌≡◌, ℕ, ◌+◌, ◌≤◌, List, [], ◌∷◌, map, false, Some, refl, sym, ap, ◌∙◌, subst, arith}
 use Rattle.std.specs.Str.{IsUtf8}
-use Rattle.std.proofs.lemmas.Str.{is_utf8-from_IsUtf8}
 use Rattle.serde_json.specs.Data.{Data, depth, items_depth}
 use Rattle.serde_json.specs.Read.{read}
 use Rattle.serde_json.specs.View.{items_of}
 use Rattle.serde_json.specs.Written.{has_float, items_have_float, compact_text}
 use Rattle.job_text.specs.Json.{json_of}
+use Rattle.job_text.proofs.Readings.{json_of-utf8}
 use Rattle.job_gen.specs.declared.draws.DrawnNet.{DrawnNet}
 use Rattle.job_gen.specs.declared.draws.DrawnPacket.{DrawnPacket}
 use Rattle.job_gen.specs.declared.draws.Drawn.{Drawn}
@@ -124,11 +124,6 @@ float-gen n = float-job (drawn n)
 
 -- ---- bytes
 
--- text is read by serde_json
-pub read_text : (bytes : List ℕ) → IsUtf8 bytes → json_of bytes ≡ read bytes
-unfolding json_of
-read_text bytes text = rw (is_utf8-from_IsUtf8 bytes text) refl
-
 -- the value of what was drawn is that of the number
 pub value_drawn : (d : Data) (job : Drawn) (n : ℕ) → d ≡ job_data job → job ≡ drawn n → d ≡ gen_value n
 unfolding gen_value
@@ -143,4 +138,4 @@ text_written bytes d n is written = written (ap has_float is ∙ float-gen n) �
 pub text_read : (bytes : List ℕ) (d : Data) (n : ℕ) → d ≡ gen_value n → IsUtf8 bytes → (depth d ≤ 127 → read bytes ≡ Some d) → json_of bytes ≡ Some (gen_value n)
 text_read bytes d n is text reads =
     let shallow : depth d ≤ 127 = subst (λ e. depth e ≤ 127) (sym is) (depth-gen n) in
-    read_text bytes text ∙ reads shallow ∙ ap Some is
+    json_of-utf8 bytes text ∙ reads shallow ∙ ap Some is

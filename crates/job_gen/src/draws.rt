@@ -18,7 +18,7 @@ pub const NETS: usize = 300;
 pub const PACKETS: usize = 1200;
 
 /// A net as it was drawn: its source, its targets, and how many keys it needs.
-#[derive(Debug, Drop)]
+#[derive(Drop)]
 pub struct DrawnNet {
     pub source: u32,
     pub targets: Seq<u32>,
@@ -26,7 +26,7 @@ pub struct DrawnNet {
 }
 
 /// A packet as it was drawn: its net, its index in the net's keys, and its payload.
-#[derive(Clone, Copy, Debug, PartialEq, Eq)]
+#[derive(Clone, Copy)]
 pub struct DrawnPacket {
     pub net: u32,
     pub index: u32,
@@ -34,7 +34,7 @@ pub struct DrawnPacket {
 }
 
 /// All that was drawn: the memory of each vertex, the nets, and the packets.
-#[derive(Debug, Drop)]
+#[derive(Drop)]
 pub struct Drawn {
     pub sdrams: Seq<u32>,
     pub nets: Seq<DrawnNet>,

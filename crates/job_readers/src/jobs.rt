@@ -17,8 +17,11 @@ use serde_json::Value;
 use spin_base::Name;
 use std::alloc::Global;
 
+/// The greatest version of the text of a job.
+pub const GREATEST_VERSION: u32 = 3;
+
 /// A job: its machine, its graph, and how it is to run.
-#[derive(Debug, Drop)]
+#[derive(Drop)]
 pub struct Job {
     pub machine: Machine,
     pub graph: Graph,

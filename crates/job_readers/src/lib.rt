@@ -23,7 +23,7 @@ mod versions;
 pub use events::items_in;
 pub use graph_parts::graph_of;
 pub use items::{ItemReader, each_item};
-pub use jobs::{Job, job_of};
+pub use jobs::{GREATEST_VERSION, Job, job_of};
 pub use machine_parts::{Links, machine_of};
 pub use run_parts::run_of;
 pub use versions::version_of;

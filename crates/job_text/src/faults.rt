@@ -7,7 +7,7 @@ use std::alloc::{AllocError, AllocFailed};
 
 /// A fault of a job's text, with the path of the part that has it: `job`, then `.name` for a member and `[i]` for an
 /// item of a list, counted from 0.
-#[derive(Debug, Drop)]
+#[derive(Drop)]
 pub enum JobFault {
     /// The part is absent and has no default, or is of another JSON type.
     Shape(Name),
@@ -24,7 +24,7 @@ pub enum JobFault {
 }
 
 /// Why a part of a job was not read.
-#[derive(Debug, Drop)]
+#[derive(Drop)]
 pub enum TextErr {
     /// The part's first fault.
     Fault(JobFault),

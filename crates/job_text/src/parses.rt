@@ -7,7 +7,7 @@ use serde_json::Value;
 use std::alloc::Global;
 
 /// Why bytes gave no value.
-#[derive(Clone, Copy, Debug, PartialEq, Eq)]
+#[derive(Clone, Copy)]
 pub enum ParseErr {
     /// The bytes are no JSON: not UTF-8, not by the grammar, or nested more than 127 deep.
     NotJson,

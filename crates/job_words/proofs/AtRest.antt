@@ -1,11 +1,10 @@
 -- The report of a mesh at rest.
-use Rattle.std.proofs.Common.{◌≡◌, ℕ, ◌+◌, ◌^◌, ◌-◌, List, [], ◌∷◌, ◌++◌, map, length, get_or, refl, ap, sym, subst, ◌∙◌, arith, Option, Some, None, Result, Ok, Err, IfOk, nat_cmp, codes, decimal}
+use Rattle.std.proofs.Common.{◌≡◌, ℕ, ◌+◌, ◌^◌, ◌-◌, List, [], ◌∷◌, ◌++◌, map, length, refl, ap, sym, subst, ◌∙◌, Option, Some, None, Result, Ok, Err, IfOk, codes, decimal}
 use Rattle.std.specs.Prelude.{min}
-use Rattle.std.specs.List.{All, AllPairs, flat_map, slice_get, range_with_len}
+use Rattle.std.specs.List.{All, flat_map, slice_get, range_with_len}
 use Rattle.std.specs.List.Sorted.{IsPermutation}
-use Rattle.std.proofs.lemmas.Cmp.{nat_list_cmp_total, ranked}
 use Rattle.std.proofs.lemmas.List.{length-map, nil_from_length}
-use Rattle.std.proofs.lemmas.List.Sorted.{length_permutation, ranks_by, sorted_far}
+use Rattle.std.proofs.lemmas.List.Sorted.{length_permutation}
 use Rattle.list_laws.specs.Gathered.{gathered}
 use Rattle.list_laws.proofs.Places.{All-at}
 use Rattle.round_flow.proofs.Sums.{sum_none}
@@ -23,7 +22,7 @@ use Rattle.net_tables.specs.declared.nets.NetPlan.{NetPlan}
 use Rattle.mesh_core.specs.State.{Hand, Setup, State, IsMesh, queue_at}
 use Rattle.mesh_core.specs.Ledger.{all_ports}
 use Rattle.mesh_core.specs.Opened.{MeetsJobLedger}
-use Rattle.mesh_core.specs.Expected.{AreAsExpected, IsAtRest, IsNotAfter, expected_deliveries, without_hop}
+use Rattle.mesh_core.specs.Expected.{AreAsExpected, IsAtRest, expected_deliveries, without_hop}
 use Rattle.mesh_core.specs.declared.places.Did.{Did}
 use Rattle.mesh_core.specs.declared.places.Place.{Place}
 use Rattle.mesh_core.specs.declared.places.Place.TheVariants.{InQueue, CoreQueue}
@@ -33,8 +32,8 @@ use Rattle.job_readers.specs.declared.jobs.Job.{Job}
 use Rattle.run_report.specs.declared.reports.Report.{Report}
 use Rattle.run_report.specs.Listed.{placed_of}
 use Rattle.run_report.specs.ReportText.{dump_line, event_lines, got_line, keys_line, line, place_line, report_text, table_lines, wait_line}
-use Rattle.run_report.specs.RunReport.{chip_waits, copies_at, core_waits, delivery_key, hand_waits, held_waits, named, queue_waits, unsent_by, unsent_total, waits_at, waits_of, IsDeliveredOf}
-use Rattle.run_report.proofs.GotLines.{got_lines, not_after}
+use Rattle.run_report.specs.RunReport.{chip_waits, copies_at, core_waits, hand_waits, held_waits, named, queue_waits, unsent_by, unsent_total, waits_at, waits_of, IsDeliveredOf}
+use Rattle.run_report.proofs.GotLines.{got_lines, none_after}
 use Rattle.par_compile.specs.declared.compiling.Plan.{Plan}
 use Rattle.job_words.specs.declared.outcomes.Told.{Told}
 use Rattle.job_words.specs.declared.outcomes.Parts.{Parts}
@@ -97,18 +96,11 @@ module _ (s : State) (rest : IsAtRest s) where
 as_many : (s : State) (nets : List NetPlan) (packets : List Packet) (placed : List (List ℕ × Spot)) (delivered : List (List ℕ × McCopy)) → IsMesh s → MeetsJobLedger s nets packets →
     AreAsExpected s nets packets → IsDeliveredOf placed s.delivered delivered → length delivered ≡ length (map (named placed) (expected_deliveries s.setup.spots nets packets))
 as_many s nets packets placed delivered mesh job expected is =
-    let pairs : AllPairs IsNotAfter is.sorted = λ i j d less within.
-    let x : Delivery = get_or is.sorted i d in
-    let y : Delivery = get_or is.sorted j d in
-    not_after x y (nat_cmp y.copy.packet x.copy.packet) (nat_cmp y.vertex x.vertex)
-    (ranked y.copy.packet x.copy.packet _ refl) (ranked y.vertex x.vertex _ refl)
-    (sorted_far _ (ranks_by (nat_list_cmp_total) delivery_key) is.sorted is.in_order.ascending i j d (omega arith) within)
-    in
     let all : List Delivery = expected_deliveries s.setup.spots nets packets in
     ap length is.named_each
     ∙ (length-map is.sorted (named placed)
     ∙ (sym (length-map is.sorted without_hop)
-    ∙ (ap length (in_order_is_list s nets packets mesh job.ledger.ledger.nets_stand expected is.sorted is.in_order.same_items pairs)
+    ∙ (ap length (in_order_is_list s nets packets mesh job.ledger.ledger.nets_stand expected is.sorted is.in_order.same_items (none_after placed s.delivered delivered is))
     ∙ sym (length-map all (named placed)))))
 
 -- a report tells as many deliveries as there are

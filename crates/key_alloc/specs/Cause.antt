@@ -1,4 +1,4 @@
--- Why nets have no keys.
+-- Why nets have no keys (this project's own).
 use Rattle.std.specs.Prelude.{List}
 use Rattle.app_graph.specs.declared.graphs.Net.{Net}
 use Rattle.key_alloc.specs.declared.alloc.KeyErr.{KeyErr}

@@ -16,7 +16,7 @@ use std::alloc::Global;
 use tern_word::block_of;
 
 /// Why nets have no keys.
-#[derive(Clone, Copy, Debug, PartialEq, Eq)]
+#[derive(Clone, Copy, PartialEq, Eq)]
 pub enum KeyErr {
     /// There is no free range of keys for this net, the first such of the list.
     KeysOut { net: u32 },

@@ -1,4 +1,4 @@
--- When a repair is refused.
+-- When a repair is refused (this project's own).
 use Rattle.std.specs.Prelude.{List}
 use Rattle.spin_base.specs.declared.chips.Chip.{Chip}
 use Rattle.machine_desc.specs.Description.{Description}

@@ -20,7 +20,7 @@ use spin_base::{Chip, Memory, Seq};
 use std::alloc::Global;
 
 /// Why a tree is not repaired.
-#[derive(Clone, Copy, Debug, PartialEq, Eq)]
+#[derive(Clone, Copy, PartialEq, Eq)]
 pub enum RepairErr {
     /// No walk of live links joins the root and this target, the first such of the list.
     CutOff { target: Chip },

@@ -6,14 +6,16 @@ ghost use Rattle.machine_desc.specs.Live.{IsLiveLink};
 ghost use Rattle.link_detours.specs.LiveRoads.{AreRoadsOf};
 
 use machine_desc::Machine;
-use spin_base::{Chip, Dir, Memory};
+use spin_base::{Chip, Dir, Memory, Shared};
 use std::alloc::Global;
 
 /// The live links of a machine, as bits: made once a machine, and lent to the repair of each tree.
-#[derive(Debug, Drop)]
+#[derive(Drop)]
 pub struct Roads {
     words: Vec<u64>,
 }
+
+impl Shared for Roads {}
 
 impl Roads {
     /// The live links of this machine: six words for each column of chips, each bit one link.
@@ -32,7 +34,7 @@ impl Roads {
     }
 
     // The word of a column and a link.
-    pub fn word(&self, x: usize, d: Dir) -> u64
+    pub(crate) fn word(&self, x: usize, d: Dir) -> u64
         requires { x * 6 + dir_number d < length self.now.words.items }
         ensures { result ≡ slice_index self.now.words.items (x * 6 + dir_number d) }
     {

@@ -6,7 +6,7 @@ use spin_base::{CORES, Chip, Memory, Spot};
 use std::alloc::Global;
 
 // A grid of so many chips along each axis, at most 64.
-#[derive(Clone, Copy, Debug)]
+#[derive(Clone, Copy)]
 pub struct Grid {
     pub width: u8,
     pub height: u8,

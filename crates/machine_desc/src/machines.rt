@@ -4,13 +4,13 @@ ghost use Rattle.std.specs.Prelude.{◌≡◌, ◌+◌, ◌*◌, ◌<◌, ◌≤
 use crate::grids::Grid;
 use crate::steps::Step;
 use crate::trees::Edge;
-use spin_base::{CORES, Chip, Dir, Memory, Seq, Spot};
+use spin_base::{CORES, Chip, Dir, Memory, Seq, Shared, Spot};
 use std::alloc::Global;
 use std::marker::Model;
 
 /// A machine: its grid of chips, the shared memory of each, and what of it is dead. Each query takes constant time and
 /// no memory.
-#[derive(Debug, Drop)]
+#[derive(Drop)]
 pub struct Machine {
     grid: Grid,
     wrap: bool,
@@ -23,6 +23,8 @@ pub struct Machine {
     link_listed: Vec<bool>,
     live_count: u32,
 }
+
+impl Shared for Machine {}
 
 impl Model for Machine {
     ghost use Rattle.machine_desc.specs.Description.{Description};

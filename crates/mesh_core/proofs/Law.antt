@@ -1,5 +1,5 @@
 -- A move keeps what the ledger says of one net: what comes in the place of a mark stands on the same trails.
-use Rattle.std.proofs.Common.{◌≡◌, ℕ, ◌+◌, ◌<◌, ◌≤◌, suc, List, [], ◌∷◌, map, Bool, true, false, ◌==◌, ◌&&◌, if◌then◌else◌, Option, Some, None, refl, ap, sym, ◌∙◌, subst, arith, inl, inr, length, min, count_by, nat_lt}
+use Rattle.std.proofs.Common.{◌≡◌, ℕ, ◌+◌, ◌<◌, ◌≤◌, suc, List, [], ◌∷◌, map, Bool, true, false, ◌==◌, ◌&&◌, if◌then◌else◌, Option, Some, None, refl, ap, sym, subst, arith, inl, inr, length, min, count_by, nat_lt}
 use Rattle.std.specs.Cmp.{both_ways}
 use Rattle.std.specs.List.{slice_get, Contains}
 use Rattle.list_laws.proofs.Counts.{count_by-map, count_by-cons, count_by-none}
@@ -33,7 +33,6 @@ use Rattle.machine_desc.specs.Branch.{Exit, IsBranch, arrival_at}
 use Rattle.machine_desc.proofs.Branches.{same_exit, ComesBy, comes_by, exit_leads, ExitLeads, exit_of}
 use Rattle.machine_desc.proofs.TreeLemmas.{one_edge_into}
 use Rattle.machine_desc.proofs.Sites.{end_is_no_live_link, same_site}
-use Rattle.machine_desc.proofs.Far.{opposite_of-opposite}
 use Rattle.net_tables.specs.declared.nets.NetPlan.{NetPlan}
 use Rattle.net_tables.specs.Outputs.{is_wanted, ComesIn}
 use Rattle.net_tables.specs.RightTables.{IsKeyOf, table_at}
@@ -99,10 +98,6 @@ out_of_first None = None
 same_dir : (f : Edge) (c : Chip) (d : Dir) → Some (exit_of f) ≡ Some (record { chip = c; out = Link d }) → f.dir ≡ d
 unfolding out_of_first
 same_dir f c d e = let outs : Some (Link f.dir) ≡ Some (Link d) = ap out_of_first e in cc
-
--- opposite links of one link are one
-opposite_injective : (a b : Dir) → opposite_of a ≡ opposite_of b → a ≡ b
-opposite_injective a b e = sym (opposite_of-opposite a) ∙ (ap opposite_of e ∙ opposite_of-opposite b)
 
 -- ---- one mark comes for one that leaves
 

@@ -152,7 +152,8 @@ module _ (s t : State) (nets : List NetPlan) (labels : ℕ → Label)
         same_packet = refl;
       }
 
-  right_come : (x : Mark) → IsRight x → (come : List Mark) → IsMove s x come → (y : Mark) → Among y come → IsRight y
+  -- what the ledger asks of a mark it asks of those that come of it by a move
+  pub right_come : (x : Mark) → IsRight x → (come : List Mark) → IsMove s x come → (y : Mark) → Among y come → IsRight y
   right_come x r come move y a =
       let comes = move_comes s r.net (stands r.net r.in_nets) r.trail.target r.trail.branch r.trail.from r.trail.to r.trail.way x come move r.is_key r.trail.on y a in
       record {
@@ -187,9 +188,6 @@ module _ (s t : State) (nets : List NetPlan) (labels : ℕ → Label)
           let below = slice_get_within branch hop (record { chip = c; out = o }) (leaves_parts branch hop c o on) in omega arith
 
   module _ (bag : Bag s t) where
-    abbrev AmongMoves : Moved s → List (Moved s) → Type 0
-    AmongMoves v moves = Among v moves
-
     -- a mark that was there, or came
     abbrev Occurs : Mark → Type 0
     Occurs k = Among k (marks_of s) ⊎ ((v : Moved s) × Among v bag.moves × Among k v.come)

@@ -1,4 +1,4 @@
--- Where a copy can be on its way to one target.
+-- Where a copy can be on its way to one target (this project's own).
 use Rattle.std.specs.Prelude.{ℕ, ◌==◌, Bool, false, ◌&&◌, length, List, Option, Some, None, slice_get}
 use Rattle.spin_base.specs.declared.chips.Chip.{Chip}
 use Rattle.spin_base.specs.declared.chips.Port.{Port}

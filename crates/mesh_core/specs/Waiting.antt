@@ -1,4 +1,4 @@
--- The copies that wait behind an output.
+-- The copies that wait behind an output (this project's own).
 use Rattle.std.specs.Prelude.{List, Option, None, slice_get}
 use Rattle.spin_base.specs.declared.copies.McCopy.{McCopy}
 use Rattle.mesh_core.specs.State.{State, Queue, input, core, nowhere}

@@ -2,7 +2,7 @@
 use spin_base::{Chip, Out, Port};
 
 /// Whether an event was enabled: the mesh moved, or nothing changed.
-#[derive(Clone, Copy, Debug, PartialEq, Eq)]
+#[derive(Clone, Copy, PartialEq, Eq)]
 pub enum Did {
     Moved,
     Idle,

@@ -7,7 +7,7 @@ ghost use Rattle.mesh_core.specs.Serving.{named, IsPlace, inputs_after, cores_af
 use spin_base::{Fifo, McCopy, Memory};
 use std::alloc::Global;
 
-// The queue behind an output, by its place among the input queues or by the vertex of its core.
+/// The queue behind an output, by its place among the input queues or by the vertex of its core.
 #[derive(Clone, Copy)]
 pub enum Queue {
     Input(usize),

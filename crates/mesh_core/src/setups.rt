@@ -6,7 +6,7 @@ ghost use Rattle.mesh_core.specs.State.{queue_at as place_of_queue};
 use crate::queues::Queue;
 use crate::tables::{spot_place, vertex_table};
 use machine_desc::Machine;
-use spin_base::{CORES, Chip, Dir, Memory, Out, Port, Seq, Spot};
+use spin_base::{CORES, Chip, Dir, Memory, Out, Port, Seq, Shared, Spot};
 use std::alloc::Global;
 use std::marker::Model;
 use tcam_find::Tcam;
@@ -22,6 +22,8 @@ pub struct MeshSetup {
     // The vertex on each spot, at the spot's place.
     vertices: Vec<Option<usize>>,
 }
+
+impl Shared for MeshSetup {}
 
 impl Model for MeshSetup {
     ghost use Rattle.mesh_core.specs.State.{Setup};

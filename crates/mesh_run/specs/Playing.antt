@@ -1,4 +1,4 @@
--- What a round makes of links that are up.
+-- What a round makes of links that are up (this project's own).
 use Rattle.std.specs.Prelude.{◌≡◌, ℕ, List, ◌++◌, length, All}
 use Rattle.std.specs.List.{AllZip}
 use Rattle.spin_base.specs.declared.copies.McCopy.{McCopy}

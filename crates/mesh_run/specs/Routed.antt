@@ -1,4 +1,4 @@
--- What a router took for an output, and what it dumped there.
+-- What a router took for an output, and what it dumped there (this project's own).
 use Rattle.std.specs.Prelude.{List, map, filter}
 use Rattle.std.specs.List.{list_any}
 use Rattle.spin_base.specs.declared.chips.Port.{Port}

@@ -7,7 +7,7 @@ use machine_desc::Machine;
 use spin_base::Chip;
 
 /// A displacement: so many chips along x, and so many along y. Negative numbers lead to lower coordinates.
-#[derive(Clone, Copy, Debug, PartialEq, Eq)]
+#[derive(Clone, Copy, PartialEq, Eq)]
 pub struct Disp {
     pub a: i32,
     pub b: i32,

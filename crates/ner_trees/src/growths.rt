@@ -15,12 +15,12 @@ use crate::displacements::displacement;
 use crate::searches::near_chip;
 use crate::walks::ldf;
 use machine_desc::{Edge, Machine, Tree};
-use spin_base::{Chip, Memory, Seq};
+use spin_base::{Chip, Memory, Seq, Shared};
 use std::alloc::Global;
 
 /// How a target came to a tree: the chip of the tree that is near it, and the chip where its branch starts, which is the
 /// last chip of the walk from the near chip that was in the tree.
-#[derive(Clone, Copy, Debug, PartialEq, Eq)]
+#[derive(Clone, Copy, PartialEq, Eq)]
 pub struct Join {
     pub target: Chip,
     pub near: Chip,
@@ -28,11 +28,13 @@ pub struct Join {
 }
 
 /// A tree, and how each of its targets came to it, in their order.
-#[derive(Debug, Drop)]
+#[derive(Drop)]
 pub struct Grown {
     pub tree: Tree,
     pub joins: Seq<Join>,
 }
+
+impl Shared for Grown {}
 
 // The edges in the order of (x, y, link).
 fn in_order(edges: Vec<Edge>) -> Result<Vec<Edge>, Memory>

@@ -140,7 +140,7 @@ fn nearer(machine: &Machine, target: Chip, best: Option<Chip>, chip: Chip) -> Ch
 }
 
 // The nearest chip that a search has come to, and how many links it is from the target.
-#[derive(Clone, Copy, Debug)]
+#[derive(Clone, Copy)]
 struct Found {
     chip: Chip,
     far: u32,

@@ -8,7 +8,7 @@ use spin_base::{Dir, Memory, Seq};
 use std::alloc::Global;
 
 // So many steps by one link.
-#[derive(Clone, Copy, Debug)]
+#[derive(Clone, Copy)]
 struct Run {
     dir: Dir,
     count: u32,

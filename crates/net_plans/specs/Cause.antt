@@ -1,4 +1,4 @@
--- Why nets are not planned.
+-- Why nets are not planned (this project's own).
 use Rattle.std.specs.Prelude.{◌≡◌, ◌⊎◌, List, Result, Err}
 use Rattle.spin_base.specs.declared.chips.Spot.{Spot}
 use Rattle.machine_desc.specs.Description.{Description}

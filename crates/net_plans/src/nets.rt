@@ -17,33 +17,35 @@ use machine_desc::Machine;
 use ner_trees::{Grown, ner};
 use net_tables::NetPlan;
 use rayon::prelude::*;
-use spin_base::{Block, Chip, Memory, Seq, Spot};
+use spin_base::{Block, Chip, Memory, Seq, Shared, Spot};
 use std::alloc::{AllocError, Global};
 use std::thread::Threads;
 
 /// A net on the machine: the tree that grew to its targets, whatever is dead, and its plan, whose tree has the detours.
-#[derive(Debug, Drop)]
+#[derive(Drop)]
 pub struct Routed {
     pub grown: Grown,
     pub plan: NetPlan,
 }
 
 /// Of each net, by its place in their list, the tree that grew and the plan.
-#[derive(Debug, Drop)]
+#[derive(Drop)]
 pub struct RoutedNets {
     pub grown: Seq<Grown>,
     pub plans: Seq<NetPlan>,
 }
 
 // What came of routing a net: the net's place in the list of nets, and its tree and plan, or why it has none.
-#[derive(Debug, Drop)]
+#[derive(Drop)]
 pub struct RoutedNet {
     pub net: u32,
     pub way: Result<Routed, RepairErr>,
 }
 
+impl Shared for RoutedNet {}
+
 /// Why nets are not planned.
-#[derive(Clone, Copy, Debug, PartialEq, Eq)]
+#[derive(Clone, Copy, PartialEq, Eq)]
 pub enum NetErr {
     /// No walk of live links joins the source's chip and this target chip of the net, the first such net and target.
     CutOff { net: u32, target: Chip },

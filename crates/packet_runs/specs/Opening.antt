@@ -1,4 +1,4 @@
--- The vertices that send the packets of a job.
+-- The vertices that send the packets of a job (this project's own).
 use Rattle.std.specs.Prelude.{ℕ, List, unwrap_or}
 use Rattle.spin_base.specs.declared.chips.Spot.{Spot}
 use Rattle.net_tables.specs.declared.nets.NetPlan.{NetPlan}

@@ -1,4 +1,4 @@
--- One packet under way: where it waits, and how much is still to be done.
+-- One packet under way: where it waits, and how much is still to be done (this project's own).
 use Rattle.std.specs.Prelude.{◌≡◌, ℕ, ◌+◌, ◌*◌, ◌-◌, ◌<◌, ◌≤◌, ◌==◌, List, [], All, length, count_by, Option, Some, None, slice_set, slice_index_or}
 use Rattle.std.specs.List.{sum_by}
 use Rattle.spin_base.specs.declared.chips.Chip.{Chip}

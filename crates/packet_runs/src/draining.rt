@@ -48,7 +48,7 @@ fn map_of(alloc: Global, mesh: &Mesh) -> Result<MeshSetup, Memory>
 }
 
 /// A port at which the packet under way waits.
-#[derive(Clone, Copy, Debug)]
+#[derive(Clone, Copy)]
 pub struct Waiting {
     pub chip: Chip,
     pub port: Port,

@@ -1,4 +1,4 @@
--- The final tables of chips: each chip's plain table, covered, and the places of the rows that are loaded.
+-- The final tables of chips: each chip's plain table, covered, and the places of the rows that are loaded (this project's own).
 use Rattle.std.specs.Prelude.{◌≡◌, ℕ, ◌<◌, ◌≤◌, ◌^◌, ◌⊎◌, List, All, Some, length, map, slice_get}
 use Rattle.spin_base.specs.declared.blocks.Entry.{Entry}
 use Rattle.spin_base.specs.declared.chips.Chip.{Chip}

@@ -1,4 +1,4 @@
--- The image of final tables: the kept rows of each chip that has any.
+-- The image of final tables: the kept rows of each chip that has any (this project's own).
 use Rattle.std.specs.Prelude.{ℕ, List, [], ◌∷◌}
 use Rattle.list_laws.specs.Gathered.{gathered}
 use Rattle.spin_base.specs.declared.blocks.ChipTable.{ChipTable}

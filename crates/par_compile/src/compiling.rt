@@ -22,7 +22,7 @@ const ROUTER_ENTRIES: usize = 1024;
 
 /// What a graph needs on a machine: where each vertex stands; of each net the tree that grew whatever is dead, and its keys,
 /// cores and tree; and of each chip, by its index, its final table.
-#[derive(Debug, Drop)]
+#[derive(Drop)]
 pub struct Plan {
     pub placement: Placement,
     pub grown: Seq<Grown>,
@@ -31,7 +31,7 @@ pub struct Plan {
 }
 
 /// Why a graph is not compiled.
-#[derive(Debug, Drop)]
+#[derive(Drop)]
 pub enum CompileErr {
     /// The first vertex for which no chip has room.
     NoRoom { vertex: u32 },

@@ -1,4 +1,4 @@
--- Why vertices are not placed.
+-- Why vertices are not placed (this project's own).
 use Rattle.std.specs.Prelude.{List}
 use Rattle.machine_desc.specs.Description.{Description}
 use Rattle.app_graph.specs.declared.graphs.Vertex.{Vertex}

@@ -11,18 +11,20 @@ ghost use Rattle.place_fit.specs.Cause.{IsCause};
 use crate::boards::empty_board;
 use app_graph::Graph;
 use machine_desc::Machine;
-use spin_base::{Memory, Seq, Spot};
+use spin_base::{Memory, Seq, Shared, Spot};
 use std::alloc::Global;
 
 /// Where each vertex stands, and at which byte of its chip's shared memory its own begins, in the order of the vertices.
-#[derive(Debug, Drop)]
+#[derive(Drop)]
 pub struct Placement {
     pub spots: Seq<Spot>,
     pub memory: Seq<u64>,
 }
 
+impl Shared for Placement {}
+
 /// Why vertices are not placed.
-#[derive(Clone, Copy, Debug, PartialEq, Eq)]
+#[derive(Clone, Copy, PartialEq, Eq)]
 pub enum PlaceErr {
     /// No chip has room for this vertex, the first such of the list.
     NoRoom { vertex: u32 },

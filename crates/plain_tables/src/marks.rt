@@ -9,7 +9,7 @@ use spin_base::{Block, Memory, Out, Port, Route};
 use std::alloc::Global;
 
 /// An original block of a chip: the keys of a net, the port at which its packets come in, and their outputs.
-#[derive(Clone, Copy, Debug)]
+#[derive(Clone, Copy)]
 pub struct Mark {
     pub block: Block,
     pub port: Port,

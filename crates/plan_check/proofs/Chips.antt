@@ -21,11 +21,12 @@ use Rattle.table_load.specs.Memories.{rows_at}
 use Rattle.table_load.specs.Memories.{index_of as table_index}
 use Rattle.plain_tables.specs.Marks.{IsRouted, TellsPort, TellsPorts, TellsRoutes}
 use Rattle.plain_tables.proofs.Trees.{chips_inside, comes_in_tree}
+use Rattle.plain_tables.specs.PlainTable.{HasChip}
 use Rattle.plan_check.specs.declared.fares.Flaw.{Flaw}
 use Rattle.plan_check.specs.declared.fares.Flaw.TheVariants.{Wrong, Split}
 use Rattle.plan_check.specs.declared.verdicts.Verdict.{Verdict}
 use Rattle.plan_check.specs.Boards.{IsAmissAt, IsFlaw, IsFineBelow, Fares, verdict_on}
-use Rattle.plan_check.specs.Verdicts.{IsChipOf, IsFine, IsFineAll, AreFineBefore, IsVerdict, rows_for}
+use Rattle.plan_check.specs.Verdicts.{IsFine, IsFineAll, AreFineBefore, IsVerdict, rows_for}
 use Rattle.plain_tables.proofs.Determined.{same_outputs}
 
 -- ---- the rows of a valid image
@@ -54,7 +55,7 @@ module _ (m : Description) (v : Image) (net : NetPlan) (routed : IsRouted m net)
     (told : TellsPorts m net.tree.root net.tree.edges ports) (outputs : TellsRoutes m net.tree.edges net.targets routes) where
   -- a flaw that is found at a chip is one of the net there
   flawed : (c : Chip) (inside : IsInside m c) (o : Option Port) → TellsPort m net.tree.root net.tree.edges c o → (flaw : Flaw) →
-      IsAmissAt net.block (rows_for m v c) o (get_or routes (index_of m c) nothing) (Some flaw) → IsChipOf m net c × IsFlaw m v net c flaw
+      IsAmissAt net.block (rows_for m v c) o (get_or routes (index_of m c) nothing) (Some flaw) → HasChip m net c × IsFlaw m v net c flaw
   flawed c inside None off flaw none = absurd (none-some flaw (sym none))
   flawed c inside (Some port) comes Wrong amiss = (
     comes_in_tree m net.tree.root net.tree.edges c port comes,
@@ -70,7 +71,7 @@ module _ (m : Description) (v : Image) (net : NetPlan) (routed : IsRouted m net)
 
   -- where none is found the net is fine, if its tree has the chip
   fine : (c : Chip) (inside : IsInside m c) (o : Option Port) → TellsPort m net.tree.root net.tree.edges c o →
-      IsAmissAt net.block (rows_for m v c) o (get_or routes (index_of m c) nothing) None → IsChipOf m net c → IsFine m v net c
+      IsAmissAt net.block (rows_for m v c) o (get_or routes (index_of m c) nothing) None → HasChip m net c → IsFine m v net c
   fine c inside None off none on = absurd (off on)
   fine c inside (Some port) comes gets on = record {
     port = port;
@@ -80,7 +81,7 @@ module _ (m : Description) (v : Image) (net : NetPlan) (routed : IsRouted m net)
     is = λ o valid. outputs c o inside valid;
   }
 
-  on_grid : (c : Chip) → IsChipOf m net c → IsInside m c
+  on_grid : (c : Chip) → HasChip m net c → IsInside m c
   on_grid c on = chips_inside m net.tree.root net.tree.edges net.targets routed.tree routed.root c on
 
   -- the port, the route and the rows at an index are those of the chip of that index
@@ -97,7 +98,7 @@ module _ (m : Description) (v : Image) (net : NetPlan) (routed : IsRouted m net)
         (subst (λ l. IsAmissAt net.block l port wanted o) first amiss))
 
     pub flaw_found : (c : Chip) (flaw : Flaw) → IsInside m c → index_of m c ≡ i → IsAmissAt net.block rows port wanted (Some flaw) → IsFineBelow m v net i →
-        IsChipOf m net c × IsFlaw m v net c flaw × IsFineBelow m v net (index_of m c)
+        HasChip m net c × IsFlaw m v net c flaw × IsFineBelow m v net (index_of m c)
     flaw_found c flaw inside at amiss before =
         let found = flawed c inside (get_or ports (index_of m c) None) (told c inside) flaw (at_chip (Some flaw) c at amiss) in
         (found.0, found.1, subst (IsFineBelow m v net) (sym at) before)

@@ -27,9 +27,10 @@ use Rattle.table_load.specs.Memories.{loaded, IsLoaded}
 use Rattle.plain_tables.specs.Marks.{IsRouted}
 use Rattle.plain_tables.proofs.Determined.{one_port}
 use Rattle.plain_tables.proofs.Trees.{chips_inside, comes_in_tree}
+use Rattle.plain_tables.specs.PlainTable.{HasChip}
 use Rattle.plan_check.specs.declared.verdicts.Verdict.{Verdict}
 use Rattle.plan_check.specs.declared.verdicts.Verdict.TheVariants.{Right, Wrong}
-use Rattle.plan_check.specs.Verdicts.{Meets, LiesInside, NoneMeets, IsFirstToMeet, GetsRoute, GetsRouteThat, IsFineAll, IsWrong, IsTreeRoute, IsChipOf, IsVerdict, IsMisrouted, rows_for}
+use Rattle.plan_check.specs.Verdicts.{Meets, LiesInside, NoneMeets, IsFirstToMeet, GetsRoute, GetsRouteThat, IsFineAll, IsWrong, IsTreeRoute, IsVerdict, IsMisrouted, rows_for}
 
 -- ---- lookup, entry by entry
 
@@ -98,7 +99,7 @@ module _ (m : Description) (v : Image) (memories : List (List Entry)) (width : v
   right_loaded nets routed fine k d below c port key o comes of valid =
       let net : NetPlan = get_or nets k d in
       let tree = routed k d below in
-      let on : IsChipOf m net c = comes_in_tree m net.tree.root net.tree.edges c port comes in
+      let on : HasChip m net c = comes_in_tree m net.tree.root net.tree.edges c port comes in
       let inside : IsInside m c = chips_inside m net.tree.root net.tree.edges net.targets tree.tree tree.root c on in
       let mine = fine k d below c on in
       let same : port ≡ mine.port = one_port m net.tree.root net.tree.edges net.targets tree.tree c port mine.port comes mine.comes_in in

@@ -12,11 +12,12 @@ use Rattle.machine_desc.specs.Live.{index_of}
 use Rattle.net_tables.specs.declared.nets.NetPlan.{NetPlan}
 use Rattle.table_load.specs.declared.tables.Image.{Image}
 use Rattle.table_load.specs.Memories.{rows_at}
+use Rattle.plain_tables.specs.PlainTable.{HasChip}
 use Rattle.plan_check.specs.declared.fares.Flaw.{Flaw}
 use Rattle.plan_check.specs.declared.fares.Flaw.TheVariants.{Wrong, Split}
 use Rattle.plan_check.specs.declared.verdicts.Verdict.{Verdict}
 use Rattle.plan_check.specs.declared.verdicts.Verdict.TheVariants as verdicts
-use Rattle.plan_check.specs.Verdicts.{GetsRoute, IsSplitAt, IsChipOf, IsFine, IsWrong, IsFineAll, rows_for}
+use Rattle.plan_check.specs.Verdicts.{GetsRoute, IsSplitAt, IsFine, IsWrong, IsFineAll, rows_for}
 
 -- the entries of the table at a place, and none where there is no table
 abbrev pub entries_at : List ChipTable → ℕ → List Entry
@@ -51,12 +52,12 @@ IsFlaw m v net c (Split place) = IsSplitAt net.block (rows_for m v c) place
 
 -- the net is fine at the chips of its tree of lesser indices
 abbrev pub IsFineBelow : Description → Image → NetPlan → ℕ → Type 0
-IsFineBelow m v net index = (d : Chip) → IsChipOf m net d → index_of m d < index → IsFine m v net d
+IsFineBelow m v net index = (d : Chip) → HasChip m net d → index_of m d < index → IsFine m v net d
 
 -- What is amiss with a net at the chip of the least index at which it is not fine.
 abbrev pub Fares : Description → Image → NetPlan → Option (Chip × Flaw) → Type 0
 Fares m v net None = IsFineAll m v net
-Fares m v net (Some (c, flaw)) = IsChipOf m net c × IsFlaw m v net c flaw × IsFineBelow m v net (index_of m c)
+Fares m v net (Some (c, flaw)) = HasChip m net c × IsFlaw m v net c flaw × IsFineBelow m v net (index_of m c)
 
 -- what a verdict says of a flaw
 abbrev pub verdict_on : ℕ → Chip → ℕ → Flaw → Verdict

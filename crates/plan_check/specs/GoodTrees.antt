@@ -1,4 +1,4 @@
--- Trees that are handed in.
+-- Trees that are handed in (this project's own).
 use Rattle.std.specs.Prelude.{◌≡◌, List}
 use Rattle.spin_base.specs.declared.chips.Chip.{Chip}
 use Rattle.spin_base.specs.declared.chips.Spot.{Spot}

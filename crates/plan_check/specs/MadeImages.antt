@@ -1,4 +1,4 @@
--- Images of final tables: those that a compiler makes.
+-- Images of final tables: those that a compiler makes (this project's own).
 use Rattle.std.specs.Prelude.{◌≡◌, ℕ, ◌*◌, List, Some, length, map, slice_get}
 use Rattle.spin_base.specs.declared.chips.Chip.{Chip}
 use Rattle.machine_desc.specs.Description.{Description}

@@ -11,12 +11,12 @@ use Rattle.spin_base.specs.Lookup.{matches, default_route, lookup}
 use Rattle.spin_base.specs.Outputs.{has, IsOutput}
 use Rattle.machine_desc.specs.Description.{Description}
 use Rattle.machine_desc.specs.Live.{index_of}
-use Rattle.machine_desc.specs.RoutingTree.{IsTreeChip}
 use Rattle.net_tables.specs.declared.nets.NetPlan.{NetPlan}
 use Rattle.net_tables.specs.Outputs.{is_wanted, ComesIn}
 use Rattle.net_tables.specs.RightTables.{IsKeyOf, table_at}
 use Rattle.table_load.specs.declared.tables.Image.{Image}
 use Rattle.table_load.specs.Memories.{rows_at}
+use Rattle.plain_tables.specs.PlainTable.{HasChip}
 use Rattle.plan_check.specs.declared.verdicts.Verdict.{Verdict}
 use Rattle.plan_check.specs.declared.verdicts.Verdict.TheVariants.{Right, Wrong, Split}
 
@@ -59,10 +59,6 @@ IsSplitAt b rows place = (e : Entry) × IsFirstToMeet b rows place e × (LiesIns
 abbrev pub rows_for : Description → Image → Chip → List Entry
 rows_for m v c = rows_at v.height v.chips (index_of m c)
 
--- the chip is one of the net's tree
-abbrev pub IsChipOf : Description → NetPlan → Chip → Type 0
-IsChipOf m net c = IsTreeChip m net.tree.root net.tree.edges c
-
 -- the route has exactly the outputs that the net's tree wants at the chip
 abbrev pub IsTreeRoute : NetPlan → Chip → Route → Type 0
 IsTreeRoute net c r = (o : Out) → IsOutput o → has r o ≡ is_wanted net.tree.edges net.targets c o
@@ -85,7 +81,7 @@ IsWrong m v net c = GetsRouteThat m v net c (λ r. IsTreeRoute net c r → ⊥)
 
 -- the net is fine at each chip of its tree
 abbrev pub IsFineAll : Description → Image → NetPlan → Type 0
-IsFineAll m v net = (c : Chip) → IsChipOf m net c → IsFine m v net c
+IsFineAll m v net = (c : Chip) → HasChip m net c → IsFine m v net c
 
 -- ---- the verdict
 
@@ -93,9 +89,9 @@ IsFineAll m v net = (c : Chip) → IsChipOf m net c → IsFine m v net c
 -- and this net at each chip of its tree of a lesser index.
 pub record AreFineBefore (m : Description) (v : Image) (nets : List NetPlan) (i : ℕ) (net : NetPlan) (c : Chip) : Type 0 where
   pub there : slice_get nets i ≡ Some net
-  pub on_tree : IsChipOf m net c
+  pub on_tree : HasChip m net c
   pub nets_before : (j : ℕ) (other : NetPlan) → j < i → slice_get nets j ≡ Some other → IsFineAll m v other
-  pub chips_before : (d : Chip) → IsChipOf m net d → index_of m d < index_of m c → IsFine m v net d
+  pub chips_before : (d : Chip) → HasChip m net d → index_of m d < index_of m c → IsFine m v net d
 
 -- The verdict tells of the first net and chip that are not fine: wrong at the first key of the net's block, or split at a
 -- row's place. It is right where all are fine.

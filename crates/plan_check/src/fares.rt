@@ -10,7 +10,7 @@ use spin_base::{Block, Dir, Entry, Port, Route};
 use tern_word::{intersects, lies_in};
 
 // What is amiss with a net at a chip.
-#[derive(Clone, Copy, Debug, PartialEq, Eq)]
+#[derive(Clone, Copy, PartialEq, Eq)]
 pub enum Flaw {
     // All its keys get one route, which is not the tree's.
     Wrong,

@@ -24,7 +24,7 @@ use table_load::Image;
 const MOST_CHIPS: usize = 4096;
 
 /// What a check says of the tables of an image.
-#[derive(Clone, Copy, Debug, PartialEq, Eq)]
+#[derive(Clone, Copy, PartialEq, Eq)]
 pub enum Verdict {
     /// Every key of every net gets the route of the net's tree, at each chip of the tree.
     Right,

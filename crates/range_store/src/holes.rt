@@ -1,7 +1,7 @@
 // A run of free places.
 
 /// A longest run of free places: `len` places from `place` on.
-#[derive(Clone, Copy, Debug, PartialEq, Eq)]
+#[derive(Clone, Copy, PartialEq, Eq)]
 pub struct Hole {
     pub place: u64,
     pub len: u64,

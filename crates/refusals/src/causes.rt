@@ -6,7 +6,7 @@ use job_text::JobFault;
 use spin_base::{Chip, Name};
 
 /// Why a call gives no text of its own.
-#[derive(Debug, Drop)]
+#[derive(Drop)]
 pub enum Refusal {
     /// The words spell no command. Status 1.
     Usage,

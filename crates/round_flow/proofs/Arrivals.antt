@@ -26,14 +26,14 @@ use Rattle.machine_desc.specs.Live.{far_of, is_live_chip, is_live_link, IsInside
 use Rattle.machine_desc.proofs.Branches.{exit_leads, ExitLeads}
 use Rattle.machine_desc.proofs.Far.{live_inside, live_ends, live_back, far_back}
 use Rattle.net_tables.specs.declared.nets.NetPlan.{NetPlan}
-use Rattle.net_tables.specs.RightTables.{IsKeyOf, AreRight}
+use Rattle.net_tables.specs.RightTables.{AreRight}
 use Rattle.mesh_core.specs.State.{Setup, State, IsMesh, Queue, input, core, nowhere, behind, behind_link, queue_at, vertex_behind}
 use Rattle.mesh_core.specs.Step.{last_hop, onward, outputs}
 use Rattle.mesh_core.specs.Trail.{unsent, in_queue, in_hand, Mark}
 use Rattle.mesh_core.specs.Ledger.{marks_of, marked, all_ports, unsent_marks, input_marks, all_hand_marks, core_marks, delivered_marks, dumped_marks, Label, MeetsLedger}
 use Rattle.mesh_core.proofs.Keeping.{input_is_somewhere, core_is_somewhere}
-use Rattle.mesh_core.proofs.Law.{move_comes, leaves_parts}
-use Rattle.mesh_core.proofs.LedgerLaw.{IsRight, right_before, stands}
+use Rattle.mesh_core.proofs.Law.{leaves_parts}
+use Rattle.mesh_core.proofs.LedgerLaw.{IsRight, right_before, right_come, stands}
 use Rattle.mesh_core.proofs.Moves.{mark, IsMove, Crosses}
 use Rattle.mesh_core.proofs.Queued.{waiting_mark}
 use Rattle.mesh_core.proofs.Ways.{Stands, vertex_behind_there, leads_to}
@@ -55,19 +55,7 @@ module _ (m : State) (f : Flow) (n : State) (nets : List NetPlan) (labels : ℕ 
   stand = stands m n nets labels mesh right ledger
 
   come_right : (x : Mark) → Right x → (come : List Mark) → IsMove m x come → (y : Mark) → Among y come → Right y
-  come_right x r come move y a =
-      let comes = move_comes m r.net (stand r.net r.in_nets) r.trail.target r.trail.branch r.trail.from r.trail.to r.trail.way x come move r.is_key r.trail.on y a in
-      record {
-        key = comes.key ∙ (r.key ∙ ap (λ i. (labels i).key) (sym comes.packet));
-        payload = comes.payload ∙ (r.payload ∙ ap (λ i. (labels i).payload) (sym comes.packet));
-        net = r.net;
-        in_nets = r.in_nets;
-        is_key = subst (λ i. IsKeyOf r.net.block i) (sym comes.key) r.is_key;
-        trail = comes.trail;
-        origin = r.origin;
-        was_there = r.was_there;
-        same_packet = r.same_packet ∙ sym comes.packet;
-      }
+  come_right = right_come m n nets labels mesh right ledger
 
   -- ---- what was there before
 

@@ -19,7 +19,7 @@ use Rattle.run_report.specs.RunReport.{IsDeliveredOf, delivery_key, named}
 use Rattle.run_report.specs.ReportText.{got_line}
 
 -- what the order of keys tells of two deliveries
-pub not_after : (x y : Delivery) (r t : Ordering) → MatchOrdering r (y.copy.packet < x.copy.packet) (y.copy.packet ≡ x.copy.packet) (x.copy.packet < y.copy.packet) →
+not_after : (x y : Delivery) (r t : Ordering) → MatchOrdering r (y.copy.packet < x.copy.packet) (y.copy.packet ≡ x.copy.packet) (x.copy.packet < y.copy.packet) →
     MatchOrdering t (y.vertex < x.vertex) (y.vertex ≡ x.vertex) (x.vertex < y.vertex) → is_lt (ordering_then r (ordering_then t Equal)) ≡ false → IsNotAfter x y
 not_after x y Less t p v e = absurd (true≢false e)
 not_after x y Greater t p v e = inl p
@@ -28,6 +28,15 @@ not_after x y Equal Equal p v e = inr (sym p, omega (arith, v))
 not_after x y Equal Greater p v e = inr (sym p, omega (arith, v))
 
 module _ (placed : List (List ℕ × Spot)) where
+  -- deliveries that are told in order stand so that none belongs before an earlier one
+  pub none_after : (ds : List Delivery) (delivered : List (List ℕ × McCopy)) → (is : IsDeliveredOf placed ds delivered) → AllPairs IsNotAfter is.sorted
+  none_after ds delivered is = λ i j d less within.
+      let x : Delivery = get_or is.sorted i d in
+      let y : Delivery = get_or is.sorted j d in
+      not_after x y (nat_cmp y.copy.packet x.copy.packet) (nat_cmp y.vertex x.vertex)
+      (ranked y.copy.packet x.copy.packet _ refl) (ranked y.vertex x.vertex _ refl)
+      (sorted_far _ (ranks_by (nat_list_cmp_total) delivery_key) is.sorted is.in_order.ascending i j d (omega arith) within)
+
   -- a got line tells no hop number
   lines_alike : (ds : List Delivery) → flat_map got_line (map (named placed) (map without_hop ds)) ≡ flat_map got_line (map (named placed) ds)
   lines_alike [] = refl
@@ -37,14 +46,7 @@ module _ (placed : List (List ℕ × Spot)) where
       IsAtRest s → s.dumped ≡ [] → IsDeliveredOf placed s.delivered delivered →
       flat_map got_line delivered ≡ flat_map got_line (map (named placed) (expected_deliveries s.setup.spots nets packets))
   got_lines s nets packets delivered mesh job rest no_dump is =
-      let pairs : AllPairs IsNotAfter is.sorted = λ i j d less within.
-      let x : Delivery = get_or is.sorted i d in
-      let y : Delivery = get_or is.sorted j d in
-      not_after x y (nat_cmp y.copy.packet x.copy.packet) (nat_cmp y.vertex x.vertex)
-      (ranked y.copy.packet x.copy.packet _ refl) (ranked y.vertex x.vertex _ refl)
-      (sorted_far _ (ranks_by (nat_list_cmp_total) delivery_key) is.sorted is.in_order.ascending i j d (omega arith) within)
-      in
       ap (flat_map got_line) is.named_each
       ∙ (sym (lines_alike is.sorted)
       ∙ ap (λ (l : List Delivery). flat_map got_line (map (named placed) l))
-      (in_order_is_list s nets packets mesh job.ledger.ledger.nets_stand (delivered_as_expected s nets packets job rest no_dump) is.sorted is.in_order.same_items pairs))
+      (in_order_is_list s nets packets mesh job.ledger.ledger.nets_stand (delivered_as_expected s nets packets job rest no_dump) is.sorted is.in_order.same_items (none_after s.delivered delivered is)))

@@ -1,4 +1,4 @@
--- What a report says of a plan: its vertices and nets, by name.
+-- What a report says of a plan: its vertices and nets, by name (this project's own).
 use Rattle.std.specs.Prelude.{ℕ, List, map}
 use Rattle.std.specs.List.{zip}
 use Rattle.spin_base.specs.declared.chips.Spot.{Spot}

@@ -1,4 +1,4 @@
--- Lists in the order of their items' keys.
+-- Lists in the order of their items' keys (this project's own).
 use Rattle.std.specs.Prelude.{ℕ, List}
 use Rattle.std.specs.Ordering.{nat_cmp}
 use Rattle.std.specs.Cmp.Lexicographic.{slice_cmp}

@@ -1,4 +1,4 @@
--- What the report of a run or a trace says.
+-- What the report of a run or a trace says (this project's own).
 use Rattle.std.specs.Prelude.{◌≡◌, ℕ, ◌-◌, ◌^◌, List, [], ◌∷◌, ◌++◌, length, map, min, Option, Some, None, slice_get}
 use Rattle.list_laws.specs.Gathered.{gathered}
 use Rattle.std.specs.List.{flat_map, sum_by, range_with_len}

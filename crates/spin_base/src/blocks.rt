@@ -6,7 +6,7 @@ use crate::lists::Seq;
 use crate::routes::Route;
 
 /// A block of keys: those `k` for which `k & mask = key`. The key has no bit outside the mask.
-#[derive(Clone, Copy, Debug, PartialEq, Eq)]
+#[derive(Clone, Copy, PartialEq, Eq)]
 pub struct Block {
     pub key: u32,
     pub mask: u32,
@@ -15,7 +15,7 @@ pub struct Block {
 }
 
 /// An entry of a router's table: it matches a key `k` where `k & mask = key` (SpiNNaker datasheet).
-#[derive(Clone, Copy, Debug)]
+#[derive(Clone, Copy)]
 pub struct Entry {
     pub key: u32,
     pub mask: u32,
@@ -23,7 +23,7 @@ pub struct Entry {
 }
 
 /// The entries of one chip's table, in order.
-#[derive(Debug, Drop)]
+#[derive(Drop)]
 pub struct ChipTable {
     pub chip: Chip,
     pub entries: Seq<Entry>,

@@ -3,14 +3,14 @@ ghost use Rattle.std.specs.Prelude.{◌≡◌, ◌+◌, ◌%◌, ◌<◌, ◌↔
 ghost use Rattle.spin_base.specs.Links.{dir_number, opposite_of, port_number};
 
 /// A chip, by its place (x, y) in the grid.
-#[derive(Clone, Copy, Debug, PartialEq, Eq, Hash)]
+#[derive(Clone, Copy, PartialEq, Eq, Hash)]
 pub struct Chip {
     pub x: u8,
     pub y: u8,
 }
 
 /// A link of a chip, in the order of the links' numbers 0 to 5 (SpiNNaker datasheet).
-#[derive(Clone, Copy, Debug, PartialEq, Eq)]
+#[derive(Clone, Copy, PartialEq, Eq)]
 pub enum Dir {
     /// Link 0, to (+1, 0).
     East,
@@ -85,7 +85,7 @@ impl Dir {
 }
 
 /// Where a packet comes into a router: by a link, or from a core of the chip.
-#[derive(Clone, Copy, Debug, PartialEq, Eq)]
+#[derive(Clone, Copy, PartialEq, Eq)]
 pub enum Port {
     Link(Dir),
     Local,
@@ -122,7 +122,7 @@ impl Port {
 pub const CORES: u8 = 18;
 
 /// A core of a chip, by its number.
-#[derive(Clone, Copy, Debug, PartialEq, Eq)]
+#[derive(Clone, Copy, PartialEq, Eq)]
 pub struct Spot {
     pub chip: Chip,
     pub core: u8,

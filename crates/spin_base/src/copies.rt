@@ -3,7 +3,7 @@ use crate::chips::{Chip, Port};
 use crate::routes::Out;
 
 /// One copy of a packet.
-#[derive(Clone, Copy, Debug, PartialEq, Eq)]
+#[derive(Clone, Copy, PartialEq, Eq)]
 pub struct McCopy {
     /// The packet's number in the job. Records alone use it: a router looks at the key.
     pub packet: u32,
@@ -15,7 +15,7 @@ pub struct McCopy {
 }
 
 /// A copy that could not leave by an output, and was dropped there.
-#[derive(Clone, Copy, Debug, PartialEq, Eq)]
+#[derive(Clone, Copy, PartialEq, Eq)]
 pub struct DumpRec {
     pub chip: Chip,
     pub out: Out,
@@ -23,14 +23,14 @@ pub struct DumpRec {
 }
 
 /// A copy that a vertex took, by the vertex's number.
-#[derive(Clone, Copy, Debug, PartialEq, Eq)]
+#[derive(Clone, Copy, PartialEq, Eq)]
 pub struct Delivery {
     pub vertex: u32,
     pub copy: McCopy,
 }
 
 /// A packet of a job: the net by its number, and the key as its place in the net's block.
-#[derive(Clone, Copy, Debug)]
+#[derive(Clone, Copy)]
 pub struct Packet {
     pub net: u32,
     pub index: u32,
@@ -38,7 +38,7 @@ pub struct Packet {
 }
 
 /// One step of the machine. The numbers are vertices.
-#[derive(Clone, Copy, Debug)]
+#[derive(Clone, Copy)]
 pub enum Event {
     /// The vertex sends its first unsent copy.
     Inject(u32),

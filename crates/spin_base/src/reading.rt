@@ -9,7 +9,7 @@ use crate::wants::Failed;
 use std::alloc::{AllocError, Global};
 
 /// Why not all bytes of a source were read.
-#[derive(Clone, Copy, Debug, PartialEq, Eq)]
+#[derive(Clone, Copy, PartialEq, Eq)]
 pub enum ReadErr {
     /// A read failed.
     Fault,

@@ -6,7 +6,7 @@ use crate::chips::{CORES, Dir};
 use arrayvec::ArrayVec;
 
 /// An output of a router: a link, or a core of the chip (0 to 17).
-#[derive(Clone, Copy, Debug, PartialEq, Eq)]
+#[derive(Clone, Copy, PartialEq, Eq)]
 pub enum Out {
     Link(Dir),
     Core(u8),
@@ -36,7 +36,7 @@ impl Out {
 pub type Outs = ArrayVec<Out, 24>;
 
 /// The links and cores that get a copy of a packet, as 24 bits (SpiNNaker datasheet).
-#[derive(Clone, Copy, Debug, PartialEq, Eq)]
+#[derive(Clone, Copy, PartialEq, Eq)]
 pub struct Route {
     pub bits: u32,
     ghost within: { bits < 2 ^ 24 },

@@ -2,7 +2,7 @@
 use std::alloc::{AllocError, AllocFailed};
 
 /// There was not enough memory. It is the one free answer: no clause says when it comes.
-#[derive(Clone, Copy, Debug, PartialEq, Eq)]
+#[derive(Clone, Copy, PartialEq, Eq)]
 pub struct Memory;
 
 impl From<AllocError> for Memory {
@@ -18,5 +18,5 @@ impl<T: Drop> From<AllocFailed<T>> for Memory {
 }
 
 /// A read or a write outside the process failed.
-#[derive(Clone, Copy, Debug, PartialEq, Eq)]
+#[derive(Clone, Copy, PartialEq, Eq)]
 pub struct Failed;

@@ -6,7 +6,7 @@ use crate::outside::Sink;
 use crate::wants::Failed;
 
 /// Why not all bytes were written: a write failed.
-#[derive(Clone, Copy, Debug)]
+#[derive(Clone, Copy)]
 pub enum WriteErr {
     Fault,
 }

@@ -5,7 +5,7 @@ ghost use Rattle.table_load.specs.declared.faults.Stop.TheVariants.{Memory};
 use std::alloc::{AllocError, AllocFailed};
 
 /// Why bytes were not decoded.
-#[derive(Clone, Copy, Debug, PartialEq, Eq)]
+#[derive(Clone, Copy, PartialEq, Eq)]
 pub enum ImageErr {
     /// The bytes spell no image: at this place, counted from 0, stands the first byte of the first field that is not
     /// there whole or is not allowed.
@@ -15,7 +15,7 @@ pub enum ImageErr {
 }
 
 /// Why reading ended early.
-#[derive(Clone, Copy, Debug)]
+#[derive(Clone, Copy)]
 pub(crate) enum Stop {
     /// There was not enough memory.
     Memory,

@@ -1,8 +1,8 @@
 // The tables of a grid.
-use spin_base::{ChipTable, Seq};
+use spin_base::{ChipTable, Seq, Shared};
 
 /// The tables of a grid's chips, in the order of the chips. A chip without rows is not listed.
-#[derive(Debug, Drop)]
+#[derive(Drop)]
 pub struct Image {
     /// Chips in a row, 1 to 64.
     pub width: u8,
@@ -12,3 +12,5 @@ pub struct Image {
     pub wrap: bool,
     pub chips: Seq<ChipTable>,
 }
+
+impl Shared for Image {}

@@ -4,7 +4,7 @@ ghost use Rattle.spin_base.specs.Lookup.{default_route};
 ghost use Rattle.std.specs.Prelude.{◌≡◌, ◌^◌, []};
 
 use crate::lanes::{LANES, first_match};
-use spin_base::{Dir, Entry, Port, Route};
+use spin_base::{Dir, Entry, Port, Route, Shared};
 use std::marker::Model;
 
 /// How many entries a router has (SpiNNaker datasheet).
@@ -22,6 +22,8 @@ pub struct Tcam {
     masks: [u32; SIZE],
     routes: [Route; SIZE],
 }
+
+impl Shared for Tcam {}
 
 impl Model for Tcam {
     ghost use Rattle.std.specs.Prelude.{List};

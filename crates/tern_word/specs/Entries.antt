@@ -1,4 +1,4 @@
--- The entries of a router's table that rows are.
+-- The entries of a router's table that rows are (entries: SpiNNaker datasheet; rows: this project's own).
 use Rattle.spin_base.specs.declared.blocks.Entry.{Entry}
 use Rattle.tern_word.specs.declared.tables.Row.{Row}
 

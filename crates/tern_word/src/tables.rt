@@ -2,17 +2,17 @@
 ghost use Rattle.std.specs.Prelude.{◌≡◌};
 ghost use Rattle.tern_word.specs.Entries.{entry_of};
 
-use spin_base::{Block, Entry, Port, Route, Seq};
+use spin_base::{Block, Entry, Port, Route, Seq, Shared};
 
 /// An original block of the chip that a row stands for: the keys of a net, and the port at which its packets arrive.
-#[derive(Clone, Copy, Debug, PartialEq, Eq)]
+#[derive(Clone, Copy, PartialEq, Eq)]
 pub struct Alias {
     pub block: Block,
     pub port: Port,
 }
 
 /// A row: packets whose key lies in `block` go out by `route`. It stands for the original blocks `aliases`.
-#[derive(Debug, Drop)]
+#[derive(Drop)]
 pub struct Row {
     pub block: Block,
     pub route: Route,
@@ -33,7 +33,9 @@ impl Row {
 }
 
 /// The rows of one chip; the first that matches a key routes it.
-#[derive(Debug, Drop)]
+#[derive(Drop)]
 pub struct Table {
     pub rows: Seq<Row>,
 }
+
+impl Shared for Table {}
