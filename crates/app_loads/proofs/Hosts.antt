@@ -9,10 +9,10 @@ use Rattle.app_loads.specs.declared.apps.Apps.TheInside.{Inside}
 use Rattle.app_loads.specs.Host.{Host}
 use Rattle.app_loads.specs.Applications.{AreApps}
 use Rattle.app_loads.specs.Inner.{mesh_in, host_of, TellsTaken, IsHost}
-use Rattle.app_loads.specs.Running.{IsAfter, IsMoved, HasMoved}
-use Rattle.packet_runs.specs.Draining.{IsKept}
+use Rattle.app_loads.specs.Running.{HasMoved}
+use Rattle.packet_runs.specs.Draining.{IsKept, IsAfter, IsMoved}
 use Rattle.app_loads.proofs.Keeping.{apps_after, apps_kept, after_setup}
-use Rattle.app_loads.proofs.Moving.{after_none, after_one}
+use Rattle.packet_runs.proofs.Moving.{after_none, after_one}
 
 mesh_is : (i : Inside) (m : State) → i.mesh ≡ Some m → (host_of i).mesh ≡ m
 mesh_is i m e = ap mesh_in e

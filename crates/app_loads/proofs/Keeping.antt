@@ -6,12 +6,11 @@ use Rattle.mesh_core.specs.Ledger.{MeetsLedgerFor, label_of}
 use Rattle.mesh_core.proofs.EventsLaw.{IsMesh-after_events, events_keep_for}
 use Rattle.mesh_core.proofs.Fixed.{setup_after}
 use Rattle.net_tables.specs.RightTables.{AreRight}
-use Rattle.packet_runs.specs.Draining.{IsKept}
+use Rattle.packet_runs.specs.Draining.{IsKept, IsAfter}
 use Rattle.app_loads.specs.Host.{Host, all_nets, all_ranges, asked_of}
 use Rattle.app_loads.specs.Regions.{AreFreeBeside}
 use Rattle.app_loads.specs.Applications.{AreApps, IsLoadedOn, HaveRows}
 use Rattle.app_loads.specs.Opening.{usable_spots}
-use Rattle.app_loads.specs.Running.{IsAfter}
 
 pub after_setup : (s t : State) → IsAfter s t → t.setup ≡ s.setup
 after_setup s t after = ap (λ (x : State). x.setup) after.is ∙ setup_after s after.events

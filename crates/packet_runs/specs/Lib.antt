@@ -9,3 +9,4 @@ pub use Rattle.mesh_core.specs.Step
 pub mod Draining
 pub mod Opening
 pub mod UnderWay
+pub mod Waiting

@@ -3,7 +3,7 @@ use Rattle.std.specs.List.{slice_get}
 use Rattle.spin_base.specs.declared.chips.Port.{Port}
 use Rattle.machine_desc.specs.Live.{chip_of}
 use Rattle.mesh_core.specs.State.{queue_at}
-use Rattle.app_loads.proofs.waiting.full_port.Given as goal
+use Rattle.packet_runs.proofs.waiting.full_port.Given as goal
 
 -- nothing waits at the ports of the chips before this one
 abbrev pub invariant-loop-index : goal.invariant-loop-index

@@ -1,6 +1,6 @@
 use Rattle.std.proofs.Common.{◌≡◌, ◌<◌, ℕ, [], Some}
 use Rattle.std.specs.List.{slice_get}
-use Rattle.app_loads.proofs.waiting.full_core.Given as goal
+use Rattle.packet_runs.proofs.waiting.full_core.Given as goal
 
 -- nothing waits for the vertices before this one
 abbrev pub invariant-loop-vertex : goal.invariant-loop-vertex

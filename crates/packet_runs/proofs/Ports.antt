@@ -16,8 +16,8 @@ use Rattle.machine_desc.proofs.Live.{index_of-chip_of}
 use Rattle.mesh_core.specs.State.{State, Hand, IsMesh, queue_at}
 use Rattle.mesh_core.specs.Ledger.{port_of}
 use Rattle.mesh_core.proofs.Standing.{port_number-port_of}
-use Rattle.app_loads.specs.declared.waiting.Waits.TheVariants.{InHand}
-use Rattle.app_loads.specs.Running.{IsNext, IsWaiting}
+use Rattle.packet_runs.specs.declared.waiting.Waits.TheVariants.{InHand}
+use Rattle.packet_runs.specs.Waiting.{IsNext, IsWaiting}
 
 -- what holds at the chip's own port and at the links by number holds at each port
 pub at_each_port : (P : Port → Type 0) (n : ℕ) → 6 ≤ n → P Local → ((i : ℕ) → i < n → P (Link (dir_at i))) → (port : Port) → P port

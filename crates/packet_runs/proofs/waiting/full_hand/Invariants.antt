@@ -1,7 +1,7 @@
 use Rattle.std.proofs.Common.{◌≡◌, ◌<◌, ℕ, Some, None}
 use Rattle.std.specs.List.{slice_get}
 use Rattle.machine_desc.specs.Live.{index_of, chip_of}
-use Rattle.app_loads.proofs.waiting.full_hand.Given as goal
+use Rattle.packet_runs.proofs.waiting.full_hand.Given as goal
 
 -- the hands of the chips before this one are free
 abbrev pub invariant-loop-index : goal.invariant-loop-index

@@ -3,8 +3,8 @@ use Rattle.std.specs.Prelude.{is_some}
 use Rattle.spin_base.specs.declared.copies.Event.TheVariants.{Send, Dump}
 use Rattle.mesh_core.specs.State.{State}
 use Rattle.mesh_core.specs.Step.{step_of}
-use Rattle.app_loads.proofs.Moving.{after_one, lighter, moved_enabled, dump_enabled, idle_stays, kept_after}
-use Rattle.app_loads.proofs.drains.serve.Goals as goal
+use Rattle.packet_runs.proofs.Moving.{after_one, lighter, moved_enabled, dump_enabled, idle_stays, kept_after}
+use Rattle.packet_runs.proofs.settling.serve.Goals as goal
 
 pub returns-in-Moved-clause-after : goal.returns-in-Moved-clause-after
 returns-in-Moved-clause-after c = after_one c.args.mesh.now c.step.new.self (Send c.args.chip c.args.out) c.in_ok-step.ensures.moves

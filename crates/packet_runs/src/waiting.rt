@@ -4,7 +4,7 @@ ghost use Rattle.spin_base.specs.declared.chips.Port.{Port as APort};
 ghost use Rattle.machine_desc.specs.Live.{index_of, IsInside};
 ghost use Rattle.mesh_core.specs.State.{queue_at, IsMesh};
 ghost use Rattle.mesh_core.specs.Expected.{NothingWaits};
-ghost use Rattle.app_loads.specs.Running.{HasCopies, IsWaiting};
+ghost use Rattle.packet_runs.specs.Waiting.{HasCopies, IsWaiting};
 
 use mesh_core::Mesh;
 use spin_base::{Chip, Dir, Out, Port};

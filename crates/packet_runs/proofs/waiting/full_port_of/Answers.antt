@@ -2,8 +2,8 @@ use Rattle.std.proofs.Common.{◌≡◌, [], Some, arith}
 use Rattle.std.specs.List.{slice_get}
 use Rattle.spin_base.specs.declared.chips.Port.{Port}
 use Rattle.mesh_core.specs.State.{queue_at}
-use Rattle.app_loads.proofs.Ports.{at_each_port}
-use Rattle.app_loads.proofs.waiting.full_port_of.Goals as goal
+use Rattle.packet_runs.proofs.Ports.{at_each_port}
+use Rattle.packet_runs.proofs.waiting.full_port_of.Goals as goal
 
 pub returns-clause-none : goal.returns-clause-none
 returns-clause-none c =

@@ -2,8 +2,8 @@ use Rattle.std.proofs.Common.{ap, ◌∙◌, List}
 use Rattle.std.specs.List.{slice_get}
 use Rattle.spin_base.specs.declared.routes.Out.{Out}
 use Rattle.mesh_core.specs.State.{Hand}
-use Rattle.app_loads.proofs.Ports.{next_some, next_none}
-use Rattle.app_loads.proofs.waiting.next_output.Goals as goal
+use Rattle.packet_runs.proofs.Ports.{next_some, next_none}
+use Rattle.packet_runs.proofs.waiting.next_output.Goals as goal
 
 pub returns-clause-some : goal.returns-clause-some
 returns-clause-some c =

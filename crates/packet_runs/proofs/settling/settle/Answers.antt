@@ -1,6 +1,6 @@
 use Rattle.mesh_core.specs.Expected.{NothingWaits}
-use Rattle.app_loads.proofs.Moving.{moved_on, kept_moved, waits_somewhere}
-use Rattle.app_loads.proofs.drains.settle.Goals as goal
+use Rattle.packet_runs.proofs.Moving.{moved_on, kept_moved, waits_somewhere}
+use Rattle.packet_runs.proofs.settling.settle.Goals as goal
 
 pub waiting-requires : goal.waiting-requires
 waiting-requires c = (kept_moved c.args.mesh.now c.events.mesh c.requires c.events.invariant.moved).mesh

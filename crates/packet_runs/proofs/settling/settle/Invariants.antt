@@ -1,7 +1,7 @@
 use Rattle.mesh_core.specs.Expected.{NothingWaits}
 use Rattle.packet_runs.specs.UnderWay.{weight_in}
-use Rattle.app_loads.specs.Running.{IsMoved}
-use Rattle.app_loads.proofs.drains.settle.Given as goal
+use Rattle.packet_runs.specs.Draining.{IsMoved}
+use Rattle.packet_runs.proofs.settling.settle.Given as goal
 
 -- where nothing waited, nothing waits
 abbrev pub invariant-events : goal.invariant-events

@@ -3,7 +3,7 @@ use Rattle.std.specs.List.{slice_get}
 use Rattle.spin_base.specs.declared.chips.Port.TheVariants.{Link, Local}
 use Rattle.spin_base.specs.Links.{dir_at}
 use Rattle.mesh_core.specs.State.{queue_at}
-use Rattle.app_loads.proofs.waiting.full_port_of.Given as goal
+use Rattle.packet_runs.proofs.waiting.full_port_of.Given as goal
 
 -- nothing waits from the chip's own cores, nor at the links of lower numbers
 abbrev pub invariant-loop-number : goal.invariant-loop-number

@@ -1,7 +1,7 @@
 use Rattle.std.proofs.Common.{sym, subst}
-use Rattle.app_loads.specs.Running.{IsAfter}
-use Rattle.app_loads.proofs.Moving.{after_none, after_one, lighter}
-use Rattle.app_loads.proofs.drains.take_event.Goals as goal
+use Rattle.packet_runs.specs.Draining.{IsAfter}
+use Rattle.packet_runs.proofs.Moving.{after_none, after_one, lighter}
+use Rattle.packet_runs.proofs.settling.take_event.Goals as goal
 
 pub returns-clause-after : goal.returns-clause-after
 returns-clause-after c = after_one c.args.mesh.now c.step.new.self c.args.e c.in_ok-step.ensures.moves

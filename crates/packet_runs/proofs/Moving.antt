@@ -2,9 +2,9 @@
 use Rattle.std.proofs.Common.{◌≡◌, ℕ, ◌<◌, refl, sym, ap, ◌∙◌, subst, inl, inr, Bool, true, false, ◌&&◌, not, if◌then◌else◌, List, [], ◌∷◌, ◌++◌, Option, Some, None}
 use Rattle.std.specs.Prelude.{unwrap_or, is_some}
 use Rattle.std.specs.List.{slice_get, list_any}
-use Rattle.std.proofs.lemmas.List.Elements.{All-append}
+use Rattle.std.proofs.lemmas.List.Elements.{All-append, All-nil}
 use Rattle.std.proofs.lemmas.Option.{same_Some, none-some}
-use Rattle.mesh_core.proofs.Fixed.{after_events-append}
+use Rattle.mesh_core.proofs.Fixed.{after_events-append, setup_after}
 use Rattle.spin_base.specs.declared.chips.Chip.{Chip}
 use Rattle.spin_base.specs.declared.chips.Spot.{Spot}
 use Rattle.spin_base.specs.declared.routes.Out.{Out}
@@ -19,7 +19,7 @@ use Rattle.machine_desc.specs.Branch.{Exit, IsBranch}
 use Rattle.machine_desc.specs.Live.{index_of, is_live_chip, IsLiveChip}
 use Rattle.machine_desc.proofs.TreeLemmas.{edge_lives}
 use Rattle.net_tables.specs.declared.nets.NetPlan.{NetPlan}
-use Rattle.mesh_core.specs.State.{State, Hand, behind, queue_at}
+use Rattle.mesh_core.specs.State.{Setup, State, Hand, behind, queue_at}
 use Rattle.mesh_core.specs.Step.{has_room_behind, send_of, dump_of, step_of, after_event, after_events, answer}
 use Rattle.mesh_core.specs.declared.places.Did.TheVariants.{Moved, Idle}
 use Rattle.mesh_core.specs.HasRun.{DropsNone}
@@ -32,11 +32,12 @@ use Rattle.mesh_core.proofs.LedgerLaw.{right_before, stands}
 use Rattle.mesh_core.proofs.Moves.{mark}
 use Rattle.mesh_core.proofs.Standing.{held_mark}
 use Rattle.mesh_core.proofs.Ways.{Stands, root_lives, branch_comes_in}
-use Rattle.packet_runs.specs.Draining.{IsKept, IsReached}
-use Rattle.packet_runs.specs.UnderWay.{weight_in}
-use Rattle.app_loads.specs.declared.waiting.Waits.{Waits}
-use Rattle.app_loads.specs.declared.waiting.Waits.TheVariants.{InCore, InHand, AtPort}
-use Rattle.app_loads.specs.Running.{IsAfter, IsMoved, HasCopies, IsNext, IsWaiting}
+use Rattle.packet_runs.specs.Draining.{IsKept, IsReached, IsAfter, IsMoved}
+use Rattle.packet_runs.specs.UnderWay.{weight_in, IsMapOf}
+use Rattle.packet_runs.specs.declared.waiting.Waits.{Waits}
+use Rattle.packet_runs.specs.declared.waiting.Waits.TheVariants.{InCore, InHand, AtPort}
+use Rattle.packet_runs.specs.Waiting.{HasCopies, IsNext, IsWaiting}
+use Rattle.packet_runs.proofs.Frame.{dumped_reached}
 use Rattle.packet_runs.proofs.Progress.{moved_lighter}
 
 -- ---- events, one after the other
@@ -59,6 +60,7 @@ moved_on s t u first waits rest = record {
   events = first.events ++ rest.events;
   is = rest.is ∙ (ap (λ x. after_events x rest.events) first.is ∙ sym (after_events-append s first.events rest.events));
   dropless = λ quiet. absurd (waits quiet);
+  no_record = λ quiet. absurd (waits quiet);
 }
 
 -- and then events that drop no copy
@@ -67,7 +69,17 @@ moved_then s t u first rest = record {
   events = first.events ++ rest.events;
   is = rest.is ∙ (ap (λ x. after_events x rest.events) first.is ∙ sym (after_events-append s first.events rest.events));
   dropless = λ quiet. All-append DropsNone first.events rest.events (first.dropless quiet) rest.dropless;
+  no_record = λ quiet. dumped_reached t u rest ∙ first.no_record quiet;
 }
+
+pub moved_none : (s : State) → IsMoved s s
+moved_none s = record { events = []; is = refl; dropless = λ quiet. All-nil DropsNone; no_record = λ quiet. refl }
+
+-- a map of the mesh is one of it still
+pub map_moved : (setup : Setup) (s t : State) → IsMoved s t → IsMapOf setup s → IsMapOf setup t
+map_moved setup s t moved map =
+    let same = ap (λ (x : State). x.setup) moved.is ∙ setup_after s moved.events in
+    record { machine = map.machine ∙ ap (λ (x : Setup). x.machine) (sym same); spots = map.spots ∙ ap (λ (x : Setup). x.spots) (sym same) }
 
 pub kept_moved : (s t : State) → IsKept s → IsMoved s t → IsKept t
 kept_moved s t kept moved = kept_after s t kept (record { events = moved.events; is = moved.is })

@@ -1,7 +1,7 @@
 use Rattle.std.proofs.Common.{◌≡◌, ◌<◌, ℕ, [], get_or}
 use Rattle.packet_runs.specs.Draining.{IsReached}
 use Rattle.mesh_core.specs.Expected.{NothingWaits}
-use Rattle.packet_runs.proofs.draining.drain.Given as goal
+use Rattle.packet_runs.proofs.draining.send_each.Given as goal
 
 -- the vertices before this one have sent all
 abbrev pub invariant-loop-vertex : goal.invariant-loop-vertex

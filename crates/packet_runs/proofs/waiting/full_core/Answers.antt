@@ -1,7 +1,7 @@
 use Rattle.std.proofs.Common.{ap, arith, length}
 use Rattle.packet_runs.proofs.Packets.{few_in_mesh}
-use Rattle.app_loads.proofs.Ports.{no_core}
-use Rattle.app_loads.proofs.waiting.full_core.Goals as goal
+use Rattle.packet_runs.proofs.Ports.{no_core}
+use Rattle.packet_runs.proofs.waiting.full_core.Goals as goal
 
 pub overflow_cast-vertex : goal.overflow_cast-vertex
 overflow_cast-vertex c =
