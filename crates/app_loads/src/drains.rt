@@ -11,7 +11,8 @@ use std::alloc::Global;
 
 impl Apps {
     /// Brings all packets to their targets, until nothing waits and nothing is unsent. No copy is dropped where nothing waited
-    /// before. Besides what it moves it takes time as the machine for each copy that waited before, and once.
+    /// before. Besides what it moves it takes time as the machine once, and for each link of the longest way that a copy still
+    /// had to go which waited before.
     ///
     /// # Errors
     ///

@@ -1,6 +1,7 @@
 -- A copy that waits can be moved, and is lighter then.
-use Rattle.std.proofs.Common.{◌≡◌, ℕ, ◌<◌, refl, sym, ap, ◌∙◌, subst, inl, inr, Bool, true, false, ◌&&◌, not, if◌then◌else◌, List, [], ◌∷◌, ◌++◌, Option, Some, None}
-use Rattle.std.specs.Prelude.{unwrap_or, is_some}
+use Rattle.std.proofs.Common.{◌≡◌, ℕ, ◌<◌, ◌≤◌, arith, length, refl, sym, ap, ◌∙◌, subst, inl, inr, Bool, true, false, ◌&&◌, not, if◌then◌else◌, List, [], ◌∷◌, ◌++◌, Option, Some, None}
+use Rattle.std.specs.Prelude.{unwrap_or, is_some, OnOk, Result, Ok, Err}
+use Rattle.spin_base.specs.declared.wants.Memory.{Memory}
 use Rattle.std.specs.List.{slice_get, list_any}
 use Rattle.std.proofs.lemmas.List.Elements.{All-append, All-nil}
 use Rattle.std.proofs.lemmas.Option.{same_Some, none-some}
@@ -16,7 +17,7 @@ use Rattle.spin_base.proofs.Equality.{out_eq_same}
 use Rattle.list_laws.proofs.Members.{Among, among_contains, among_any}
 use Rattle.list_laws.proofs.Places.{All-at}
 use Rattle.machine_desc.specs.Branch.{Exit, IsBranch}
-use Rattle.machine_desc.specs.Live.{index_of, is_live_chip, IsLiveChip}
+use Rattle.machine_desc.specs.Live.{index_of, is_live_chip, IsInside, IsLiveChip}
 use Rattle.machine_desc.proofs.TreeLemmas.{edge_lives}
 use Rattle.net_tables.specs.declared.nets.NetPlan.{NetPlan}
 use Rattle.mesh_core.specs.State.{Setup, State, Hand, behind, queue_at}
@@ -38,7 +39,7 @@ use Rattle.packet_runs.specs.declared.waiting.Waits.{Waits}
 use Rattle.packet_runs.specs.declared.waiting.Waits.TheVariants.{InCore, InHand, AtPort}
 use Rattle.packet_runs.specs.Waiting.{HasCopies, IsNext, IsWaiting}
 use Rattle.packet_runs.proofs.Frame.{dumped_reached}
-use Rattle.packet_runs.proofs.Progress.{moved_lighter}
+use Rattle.packet_runs.proofs.Progress.{moved_lighter, event_lighter}
 
 -- ---- events, one after the other
 
@@ -53,6 +54,41 @@ kept_after s t kept after =
     let keeps = events_keep s kept.nets kept.labels kept.mesh kept.right kept.ledger after.events in
     subst IsKept (sym after.is)
     (record { mesh = keeps.mesh; nets = kept.nets; labels = kept.labels; right = keeps.right; ledger = keeps.ledger })
+
+pub after_then : (s t u : State) → IsAfter s t → IsAfter t u → IsAfter s u
+after_then s t u first rest = record {
+  events = first.events ++ rest.events;
+  is = rest.is ∙ (ap (λ x. after_events x rest.events) first.is ∙ sym (after_events-append s first.events rest.events));
+}
+
+pub after_reached : (s t : State) → IsReached s t → IsAfter s t
+after_reached s t reached = record { events = reached.events; is = reached.is }
+
+pub after_setup : (s t : State) → IsAfter s t → t.setup ≡ s.setup
+after_setup s t after = ap (λ (x : State). x.setup) after.is ∙ setup_after s after.events
+
+-- a map of the mesh is one of it still
+pub map_after : (setup : Setup) (s t : State) → IsAfter s t → IsMapOf setup s → IsMapOf setup t
+map_after setup s t after map =
+    let same = after_setup s t after in
+    record { machine = map.machine ∙ ap (λ (x : Setup). x.machine) (sym same); spots = map.spots ∙ ap (λ (x : Setup). x.spots) (sym same) }
+
+pub inside_after : (s t : State) (c : Chip) → IsAfter s t → IsInside s.setup.machine c → IsInside t.setup.machine c
+inside_after s t c after inside = subst (λ (u : Setup). IsInside u.machine c) (sym (after_setup s t after)) inside
+
+pub there_after : (s t : State) (v : ℕ) → IsAfter s t → v < length s.setup.spots → v < length t.setup.spots
+there_after s t v after below = subst (λ (u : Setup). v < length u.spots) (sym (after_setup s t after)) below
+
+-- events never make the marks heavier
+pub after_lighter : (s t : State) → IsKept s → IsAfter s t → weight_in t ≤ weight_in s
+after_lighter s t kept after = subst (λ x. weight_in x ≤ weight_in s) (sym after.is) (by_events s kept after.events)
+  where
+    by_events : (u : State) → IsKept u → (es : List Event) → weight_in (after_events u es) ≤ weight_in u
+    by_events u own [] = omega arith
+    by_events u own (e ∷ es) =
+        let one = event_lighter u e own in
+        let rest = by_events (after_event u e) (kept_after u (after_event u e) own (after_one u (after_event u e) e refl)) es in
+        omega (arith, one, rest)
 
 -- where something waited at the start, whatever comes
 pub moved_on : (s t u : State) → IsMoved s t → (NothingWaits s → ⊥) → IsAfter t u → IsMoved s u
@@ -75,14 +111,19 @@ moved_then s t u first rest = record {
 pub moved_none : (s : State) → IsMoved s s
 moved_none s = record { events = []; is = refl; dropless = λ quiet. All-nil DropsNone; no_record = λ quiet. refl }
 
--- a map of the mesh is one of it still
+pub after_moved : (s t : State) → IsMoved s t → IsAfter s t
+after_moved s t moved = record { events = moved.events; is = moved.is }
+
 pub map_moved : (setup : Setup) (s t : State) → IsMoved s t → IsMapOf setup s → IsMapOf setup t
-map_moved setup s t moved map =
-    let same = ap (λ (x : State). x.setup) moved.is ∙ setup_after s moved.events in
-    record { machine = map.machine ∙ ap (λ (x : Setup). x.machine) (sym same); spots = map.spots ∙ ap (λ (x : Setup). x.spots) (sym same) }
+map_moved setup s t moved map = map_after setup s t (after_moved s t moved) map
 
 pub kept_moved : (s t : State) → IsKept s → IsMoved s t → IsKept t
-kept_moved s t kept moved = kept_after s t kept (record { events = moved.events; is = moved.is })
+kept_moved s t kept moved = kept_after s t kept (after_moved s t moved)
+
+-- what holds whatever the answer
+pub always : {A : Type 0} {P : Type 0} (r : Result A Memory) → P → OnOk r P
+always (Ok x) holds = holds
+always (Err want) holds = tt
 
 -- ---- an event that is enabled
 

@@ -18,8 +18,8 @@ use std::alloc::Global;
 
 /// Empties what waits, and then brings all packets to their targets, one after the other, until no event is enabled. No copy is
 /// dropped where nothing waited before. Besides what it moves it takes time and memory once as the machine's chips and the
-/// vertices, for a table of where each vertex stands, and memory for a list of where the packet under way waits; and for each
-/// event that empties what waited before, time as the machine.
+/// vertices, for a table of where each vertex stands, and memory for a list of where the packet under way waits; and time as
+/// chips and vertices for each link of the longest way that a copy still had to go which waited before.
 ///
 /// # Errors
 ///
@@ -30,7 +30,7 @@ pub fn drain(alloc: Global, mesh: &mut Mesh) -> Result<(), Memory>
     ensures moved { IsMoved mesh.old mesh.new }
 {
     let setup = map_of(alloc, mesh)?;
-    settle(mesh)?;
+    settle(mesh, &setup)?;
     send_each(alloc, mesh, &setup)
 }
 
@@ -180,7 +180,7 @@ fn serve(
 }
 
 // The vertex takes the packet.
-fn collect(mesh: &mut Mesh, vertex: u32) -> Result<(), Memory>
+pub fn collect(mesh: &mut Mesh, vertex: u32) -> Result<(), Memory>
     ensures taken { OnOk result (mesh.new ≡ after_event mesh.old (Collect vertex)) }
     ensures reached { IsReached mesh.old mesh.new }
 {

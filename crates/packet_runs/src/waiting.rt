@@ -34,6 +34,19 @@ pub fn waiting(mesh: &Mesh) -> Option<Waits>
     Some(Waits::AtPort(chip, port))
 }
 
+// Where a copy waits in the hand or at a port of the chip's router, if one does.
+pub fn waiting_on(mesh: &Mesh, chip: Chip) -> Option<Waits>
+    requires mesh { IsMesh mesh.now }
+    requires inside { IsInside mesh.now.setup.machine chip }
+    ensures { IfSome result (IsWaiting mesh.now) }
+{
+    if let Some(out) = next_output(mesh, chip) {
+        return Some(Waits::InHand(chip, out));
+    }
+    let port = full_port_of(mesh, chip)?;
+    Some(Waits::AtPort(chip, port))
+}
+
 // A vertex for which a copy waits, if there is one.
 fn full_core(mesh: &Mesh) -> Option<u32>
     requires { IsMesh mesh.now }
@@ -120,7 +133,7 @@ fn waits_at(mesh: &Mesh, chip: Chip, port: Port) -> bool
 }
 
 // Whether a copy waits for a vertex.
-fn waits_for(mesh: &Mesh, vertex: u32) -> bool
+pub fn waits_for(mesh: &Mesh, vertex: u32) -> bool
     requires { vertex < length mesh.now.setup.spots }
     ensures waits { result ≡ true → HasCopies (slice_get mesh.now.cores vertex) }
     ensures clear { result ≡ false → slice_get mesh.now.cores vertex ≡ Some [] }

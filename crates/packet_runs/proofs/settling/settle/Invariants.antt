@@ -4,12 +4,12 @@ use Rattle.packet_runs.specs.Draining.{IsMoved}
 use Rattle.packet_runs.proofs.settling.settle.Given as goal
 
 -- where nothing waited, nothing waits
-abbrev pub invariant-events : goal.invariant-events
-invariant-events l = record {
+abbrev pub invariant-sweeps : goal.invariant-sweeps
+invariant-sweeps l = record {
   moved : IsMoved l.fn.mesh l.mesh;
   still : NothingWaits l.fn.mesh → NothingWaits l.mesh;
 }
 
 -- what the marks weigh
-abbrev pub decreases-events : goal.decreases-events
-decreases-events l = weight_in l.mesh
+abbrev pub decreases-sweeps : goal.decreases-sweeps
+decreases-sweeps l = weight_in l.mesh

@@ -1,4 +1,5 @@
-use Rattle.app_loads.proofs.Hosts.{apps_after_in, host_after, host_kept, host_moved, after_of_moved}
+use Rattle.app_loads.proofs.Hosts.{apps_after_in, host_after, host_kept, host_moved}
+use Rattle.packet_runs.proofs.Moving.{after_moved}
 use Rattle.app_loads.proofs.apps.Apps.drain.Goals as goal
 
 pub drain-requires : goal.drain-requires
@@ -7,7 +8,7 @@ drain-requires c = host_kept c.self.inside c.in-Some.mesh c.self.invariant c.in-
 pub invariant_of-self-2 : goal.invariant_of-self-2
 invariant_of-self-2 c =
     host_after c.self.inside c.in-Some.mesh c.drain.new.mesh c.self.invariant c.in-Some.is
-    (after_of_moved c.in-Some.mesh c.drain.new.mesh c.drain.ensures.moved)
+    (after_moved c.in-Some.mesh c.drain.new.mesh c.drain.ensures.moved)
 
 pub returns-clause-moved : goal.returns-clause-moved
 returns-clause-moved c =
@@ -16,4 +17,4 @@ returns-clause-moved c =
 pub returns-clause-apps : goal.returns-clause-apps
 returns-clause-apps c =
     apps_after_in c.self.inside c.in-Some.mesh c.drain.new.mesh c.self.invariant c.in-Some.is
-    (after_of_moved c.in-Some.mesh c.drain.new.mesh c.drain.ensures.moved)
+    (after_moved c.in-Some.mesh c.drain.new.mesh c.drain.ensures.moved)
