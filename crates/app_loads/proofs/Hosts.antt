@@ -9,10 +9,10 @@ use Rattle.app_loads.specs.declared.apps.Apps.TheInside.{Inside}
 use Rattle.app_loads.specs.Host.{Host}
 use Rattle.app_loads.specs.Applications.{AreApps}
 use Rattle.app_loads.specs.Inner.{mesh_in, host_of, TellsTaken, IsHost}
-use Rattle.app_loads.specs.Running.{IsAfter, IsMoved, HasMoved}
-use Rattle.packet_runs.specs.Draining.{IsKept}
-use Rattle.app_loads.proofs.Keeping.{apps_after, apps_kept, after_setup}
-use Rattle.app_loads.proofs.Moving.{after_none, after_one}
+use Rattle.app_loads.specs.Running.{HasMoved}
+use Rattle.packet_runs.specs.Draining.{IsKept, IsAfter, IsMoved}
+use Rattle.app_loads.proofs.Keeping.{apps_after, apps_kept}
+use Rattle.packet_runs.proofs.Moving.{after_none, after_one, after_setup}
 
 mesh_is : (i : Inside) (m : State) → i.mesh ≡ Some m → (host_of i).mesh ≡ m
 mesh_is i m e = ap mesh_in e
@@ -39,9 +39,6 @@ pub host_moved : (i : Inside) (m t : State) (old : Host) → host_of i ≡ old �
 host_moved i m t old is e moved =
     subst (λ h. HasMoved h (host_of (record i { mesh = Some t }))) is
     (record { mesh = subst (λ x. IsMoved x t) (sym (mesh_is i m e)) moved; others = refl })
-
-pub after_of_moved : (s t : State) → IsMoved s t → IsAfter s t
-after_of_moved s t moved = record { events = moved.events; is = moved.is }
 
 -- whatever a step answers, it is an event or nothing
 pub step_after : (r : Result Did Memory) (s t : State) (e : Event) → OnOk r (t ≡ after_event s e) → OnErr r (t ≡ s) → IsAfter s t

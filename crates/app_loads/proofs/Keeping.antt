@@ -1,20 +1,16 @@
 -- What holds of a host holds after events of its mesh.
-use Rattle.std.proofs.Common.{◌≡◌, sym, ap, ◌∙◌, subst}
+use Rattle.std.proofs.Common.{◌≡◌, sym, subst}
 use Rattle.std.specs.List.{All}
 use Rattle.mesh_core.specs.State.{Setup, State, IsMesh}
 use Rattle.mesh_core.specs.Ledger.{MeetsLedgerFor, label_of}
 use Rattle.mesh_core.proofs.EventsLaw.{IsMesh-after_events, events_keep_for}
-use Rattle.mesh_core.proofs.Fixed.{setup_after}
 use Rattle.net_tables.specs.RightTables.{AreRight}
-use Rattle.packet_runs.specs.Draining.{IsKept}
+use Rattle.packet_runs.specs.Draining.{IsKept, IsAfter}
+use Rattle.packet_runs.proofs.Moving.{after_setup}
 use Rattle.app_loads.specs.Host.{Host, all_nets, all_ranges, asked_of}
 use Rattle.app_loads.specs.Regions.{AreFreeBeside}
 use Rattle.app_loads.specs.Applications.{AreApps, IsLoadedOn, HaveRows}
 use Rattle.app_loads.specs.Opening.{usable_spots}
-use Rattle.app_loads.specs.Running.{IsAfter}
-
-pub after_setup : (s t : State) → IsAfter s t → t.setup ≡ s.setup
-after_setup s t after = ap (λ (x : State). x.setup) after.is ∙ setup_after s after.events
 
 -- another mesh of the same setup
 other_mesh : (h : Host) (mesh : State) → mesh.setup ≡ h.mesh.setup → IsMesh mesh → MeetsLedgerFor mesh (all_nets h.apps) (asked_of h.apps) → AreApps h →

@@ -15,9 +15,7 @@ mod LoadedHost
 mod LoadedParts
 mod MarkedSpots
 mod Others
-mod Moving
 mod PacketLedger
-mod Ports
 mod RegionLaws
 mod RightRows
 mod RowClaims

@@ -7,6 +7,7 @@ pub use Rattle.mesh_core.specs.Ledger
 pub use Rattle.mesh_core.specs.Opened
 pub use Rattle.mesh_core.specs.State
 pub use Rattle.mesh_core.specs.Step
+pub use Rattle.packet_runs.specs.Draining
 pub mod Applications
 pub mod Claims
 pub mod Counting

@@ -20,7 +20,6 @@ mod rows;
 mod sends;
 mod steps;
 mod unloads;
-mod waiting;
 
 pub use answers::{Ended, LoadErr, UnloadErr};
 pub use apps::Apps;

@@ -1,6 +1,8 @@
 mod Frame
+pub mod Moving
 mod Opened
 pub mod Packets
+mod Ports
 pub mod Progress
 mod Steps
 mod Turns

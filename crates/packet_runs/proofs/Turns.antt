@@ -21,10 +21,11 @@ use Rattle.mesh_core.specs.State.{Setup, State, Queue, input, core, nowhere, beh
 use Rattle.mesh_core.proofs.Fixed.{after_event_setup}
 use Rattle.mesh_core.specs.Step.{after_event}
 use Rattle.packet_runs.specs.declared.draining.Waiting.{Waiting}
-use Rattle.packet_runs.specs.Draining.{IsKept, IsReached, HasDrained}
-use Rattle.mesh_core.specs.Expected.{NothingWaits}
+use Rattle.packet_runs.specs.Draining.{IsKept, IsReached}
+use Rattle.mesh_core.specs.Expected.{IsAtRest, NothingWaits}
 use Rattle.packet_runs.specs.UnderWay.{work, weight_in, outs_in, next_place, IsMapOf, IsUnderWay, IsServing}
-use Rattle.packet_runs.proofs.Frame.{setup_reached, kept_reached, dumped_reached}
+use Rattle.packet_runs.proofs.Frame.{setup_reached, kept_reached}
+use Rattle.packet_runs.proofs.Moving.{after_reached, map_after, there_after}
 use Rattle.packet_runs.proofs.Progress.{event_lighter}
 use Rattle.packet_runs.proofs.Packets.{inject_step, inject_unsent, packet_done}
 use Rattle.packet_runs.proofs.Steps.{kept_after, written, set_twice, take_step, next, next_is, send_link, send_link_lighter, send_core, send_nowhere}
@@ -88,9 +89,7 @@ module _ (s t : State) (w : List Waiting) (c : Chip) (o : Out) (setup : Setup) (
 
 -- a setup stays one of the same machine and spots
 pub map_still : (setup : Setup) (s t : State) → IsReached s t → IsMapOf setup s → IsMapOf setup t
-map_still setup s t reached map =
-    let same = setup_reached s t reached in
-    record { machine = map.machine ∙ ap (λ (x : Setup). x.machine) (sym same); spots = map.spots ∙ ap (λ (x : Setup). x.spots) (sym same) }
+map_still setup s t reached map = map_after setup s t (after_reached s t reached) map
 
 -- ---- a packet goes on
 
@@ -192,18 +191,14 @@ pub as_before : (s : State) (v : ℕ) → (left : List McCopy) × (s.unsent ≡ 
 as_before s v = (get_or s.unsent v [], sym (set-get_or s.unsent v []))
 
 pub there_still : (s t : State) (v : ℕ) → IsReached s t → v < length s.setup.spots → v < length t.setup.spots
-there_still s t v reached below = subst (λ (l : List Spot). v < length l) (sym (ap (λ (x : Setup). x.spots) (setup_reached s t reached))) below
+there_still s t v reached below = there_after s t v (after_reached s t reached) below
 
 pub was_there : (s : State) (v : ℕ) → IsKept s → v < length s.setup.spots → v < length s.unsent
 was_there s v kept below = let long = kept.mesh.unsent_lists in omega (arith, below, long)
 
--- all is send_of, and nothing waits
-pub drained : (s t : State) (n : ℕ) → IsKept s → IsReached s t → NothingWaits t → length s.setup.spots ≤ n → ((i : ℕ) → i < n → get_or t.unsent i [] ≡ []) → HasDrained s t
-drained s t n kept reached quiet all before = record {
-  reached = reached;
-  at_rest = record {
-    all_sent = all_vertices t n (kept_reached s t kept reached) (subst (λ (l : List Spot). length l ≤ n) (sym (ap (λ (x : Setup). x.spots) (setup_reached s t reached))) all) before;
-    waits = quiet;
-  };
-  no_record = dumped_reached s t reached;
+-- all is sent, and nothing waits
+pub at_rest : (s t : State) (n : ℕ) → IsKept s → IsReached s t → NothingWaits t → length s.setup.spots ≤ n → ((i : ℕ) → i < n → get_or t.unsent i [] ≡ []) → IsAtRest t
+at_rest s t n kept reached quiet all before = record {
+  all_sent = all_vertices t n (kept_reached s t kept reached) (subst (λ (l : List Spot). length l ≤ n) (sym (ap (λ (x : Setup). x.spots) (setup_reached s t reached))) all) before;
+  waits = quiet;
 }

@@ -1,4 +1,4 @@
--- Meshes whose packets reach all their targets, and what is reached by events that drop no copy.
+-- Meshes that can be drained, and what is reached by events.
 use Rattle.std.specs.Prelude.{◌≡◌, ℕ, List, All}
 use Rattle.spin_base.specs.declared.copies.Event.{Event}
 use Rattle.net_tables.specs.declared.nets.NetPlan.{NetPlan}
@@ -6,7 +6,7 @@ use Rattle.net_tables.specs.RightTables.{AreRight}
 use Rattle.mesh_core.specs.State.{State, IsMesh}
 use Rattle.mesh_core.specs.Step.{after_events}
 use Rattle.mesh_core.specs.Ledger.{Label, MeetsLedger}
-use Rattle.mesh_core.specs.Expected.{IsAtRest}
+use Rattle.mesh_core.specs.Expected.{NothingWaits}
 use Rattle.mesh_core.specs.HasRun.{DropsNone}
 
 -- The mesh meets the ledger of some nets, for which its tables are right.
@@ -23,9 +23,14 @@ pub record IsReached (before after : State) : Type 0 where
   pub dropless : All DropsNone events
   pub is : after ≡ after_events before events
 
--- The mesh was brought to rest: by events of which none drops a copy, so that nothing waits, nothing is unsent, and no
--- dump record has come.
-pub record HasDrained (before after : State) : Type 0 where
-  pub reached : IsReached before after
-  pub at_rest : IsAtRest after
-  pub no_record : after.dumped ≡ before.dumped
+-- A mesh is reached from another by events.
+pub record IsAfter (before after : State) : Type 0 where
+  pub events : List Event
+  pub is : after ≡ after_events before events
+
+-- It is reached so, and where nothing waited before, none of the events drops a copy, and no dump record has come.
+pub record IsMoved (before after : State) : Type 0 where
+  pub events : List Event
+  pub is : after ≡ after_events before events
+  pub dropless : NothingWaits before → All DropsNone events
+  pub no_record : NothingWaits before → after.dumped ≡ before.dumped

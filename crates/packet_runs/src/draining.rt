@@ -6,33 +6,46 @@ ghost use Rattle.std.specs.Option.{option_to_list};
 ghost use Rattle.spin_base.specs.declared.copies.Event.TheVariants.{Collect};
 ghost use Rattle.machine_desc.specs.Live.{index_of, IsInside};
 ghost use Rattle.mesh_core.specs.Step.{after_event};
-ghost use Rattle.mesh_core.specs.Expected.{NothingWaits};
-ghost use Rattle.packet_runs.specs.Draining.{IsKept, IsReached, HasDrained};
+ghost use Rattle.mesh_core.specs.Expected.{IsAtRest, NothingWaits};
+ghost use Rattle.packet_runs.specs.Draining.{IsKept, IsReached, IsMoved};
 ghost use Rattle.packet_runs.specs.UnderWay.{work, outs_in, next_place, IsMapOf, IsUnderWay, IsServing};
 
+use crate::settling::settle;
 use machine_desc::Machine;
 use mesh_core::{Mesh, MeshSetup, Queue};
 use spin_base::{Chip, Event, Memory, Out, Outs, Port, Seq};
 use std::alloc::Global;
 
-/// Brings all packets to their targets, one after the other, until no event is enabled. Besides what it moves it takes time
-/// and memory once as the machine's chips and the vertices, for a table of where each vertex stands, and memory for a list of
-/// where the packet under way waits.
+/// Empties what waits, and then brings all packets to their targets, one after the other, until no event is enabled. No copy is
+/// dropped where nothing waited before. Besides what it moves it takes time and memory once as the machine's chips and the
+/// vertices, for a table of where each vertex stands, and memory for a list of where the packet under way waits; and time as
+/// chips and vertices for each link of the longest way that a copy still had to go which waited before.
 ///
 /// # Errors
 ///
-/// `Memory` where memory runs out. Each packet is then unsent, delivered, or on its way.
+/// `Memory` where memory runs out. Each copy is then where some events brought it.
 pub fn drain(alloc: Global, mesh: &mut Mesh) -> Result<(), Memory>
-    requires kept { IsKept mesh.old }
-    requires quiet { NothingWaits mesh.old }
-    ensures drained { OnOk result (HasDrained mesh.old mesh.new) }
-    ensures reached { IsReached mesh.old mesh.new }
+    requires { IsKept mesh.old }
+    ensures at_rest { OnOk result (IsAtRest mesh.new) }
+    ensures moved { IsMoved mesh.old mesh.new }
 {
     let setup = map_of(alloc, mesh)?;
+    settle(mesh, &setup)?;
+    send_each(alloc, mesh, &setup)
+}
+
+// All vertices send all their packets, one after the other.
+fn send_each(alloc: Global, mesh: &mut Mesh, setup: &MeshSetup) -> Result<(), Memory>
+    requires kept { IsKept mesh.old }
+    requires quiet { NothingWaits mesh.old }
+    requires map { IsMapOf setup.now mesh.old }
+    ensures at_rest { OnOk result (IsAtRest mesh.new) }
+    ensures reached { IsReached mesh.old mesh.new }
+{
     let mut waiting = Vec::new(alloc);
     let count = mesh.spots().len();
     for vertex in 0..count {
-        send_all(mesh, &setup, &mut waiting, vertex as u32)?;
+        send_all(mesh, setup, &mut waiting, vertex as u32)?;
     }
     Ok(())
 }
@@ -167,7 +180,7 @@ fn serve(
 }
 
 // The vertex takes the packet.
-fn collect(mesh: &mut Mesh, vertex: u32) -> Result<(), Memory>
+pub fn collect(mesh: &mut Mesh, vertex: u32) -> Result<(), Memory>
     ensures taken { OnOk result (mesh.new ≡ after_event mesh.old (Collect vertex)) }
     ensures reached { IsReached mesh.old mesh.new }
 {
