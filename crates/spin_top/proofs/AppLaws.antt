@@ -18,12 +18,12 @@ use Rattle.refusals.specs.declared.causes.Refusal.{Refusal}
 use Rattle.refusals.specs.declared.causes.Refusal.TheVariants as refusals
 use Rattle.spin_top.specs.Causes.{HaveNoLines}
 use Rattle.spin_top.specs.Inputs.{IsRefusedFor, no_value, no_answer}
-use Rattle.spin_top.specs.Made.{AreDone}
+use Rattle.spin_top.specs.Made.{AreDone, HaveOneText}
 
 -- what is answered to the steps that were read
 pub done_of : (steps given : List Step) (apps : Option Host) (text : List ℕ) → given ≡ steps → AreAnswered given text apps → is_some apps ≡ list_any is_load given →
-    IfSome apps AreApps → AreDone steps apps text
-done_of steps given apps text same answers is hold = subst (λ s. AreDone s apps text) same (record { answers = answers; given = is; hold = hold })
+    IfSome apps AreApps → HaveOneText given text → AreDone steps apps text
+done_of steps given apps text same answers is hold only = subst (λ s. AreDone s apps text) same (record { answers = answers; given = is; hold = hold; only = only })
 
 pub none_refused : (steps : List Step) (r s : Refusal) → HaveNoLines steps r → HaveNoLines steps s → r ≡ s
 none_refused steps r s a b = absurd a

@@ -1,6 +1,6 @@
 -- A request has an answer or one reason why it has none.
 use Rattle.std.proofs.Common.{◌≡◌, ℕ, List, [], ◌∷◌, length, nat_lt, Bool, true, false, if◌then◌else◌, codes, arith, Option, Some, None, Err, sym, ap, ◌∙◌, subst}
-use Rattle.std.specs.List.{slice_get}
+use Rattle.list_laws.proofs.Places.{one_item_at}
 use Rattle.app_graph.specs.declared.graphs.Net.{Net}
 use Rattle.app_graph.specs.declared.graphs.Vertex.{Vertex}
 use Rattle.place_fit.proofs.Determined as places
@@ -8,6 +8,11 @@ use Rattle.key_alloc.proofs.Determined as blocks
 use Rattle.check_request.specs.declared.requests.Request.{Request}
 use Rattle.check_answers.specs.Answers.{IsAnswer, NamesMisrouted, RoutesRight, no_room, keys_out}
 use Rattle.check_answers.specs.Findings.{right_line}
+use Rattle.check_answers.specs.Plans.{HasKeptRows, trees_of}
+use Rattle.par_compile.specs.Compiled.{IsPlanOf}
+use Rattle.par_compile.specs.declared.compiling.Plan.{Plan}
+use Rattle.table_load.specs.Images.{Spells}
+use Rattle.table_load.specs.declared.tables.Image.{Image}
 use Rattle.machine_desc.specs.declared.trees.Edge.{Edge}
 use Rattle.run_report.specs.ReportText.{line}
 use Rattle.job_bytes.specs.Inputs.{Reading, read_fault, too_long, not_read_as, no_memory}
@@ -25,9 +30,6 @@ use Rattle.spin_top.specs.Ends.{HasNets}
 use Rattle.spin_top.specs.Inputs.{IsRefusedFor, no_value, no_answer}
 use Rattle.spin_top.specs.Made.{IsChecked}
 
-same_item : {X : Type 0} (xs : List X) (i j : ℕ) (a b : X) → slice_get xs i ≡ Some a → slice_get xs j ≡ Some b → i ≡ j → a ≡ b
-same_item xs i j a b at_a at_b same = cc
-
 -- where all vertices have places and all nets have keys, no refusal is due
 pub with_nets : (request : Request) (r : Refusal) → HasNets request → HasNoNets request r → ⊥
 with_nets request r has due = elim due [
@@ -44,14 +46,14 @@ pub one_due : (request : Request) (r s : Refusal) → HasNoNets request r → Ha
 one_due request r s a b = elim a [
   | no_room i vertex none at is ↦ elim b [
     | no_room j other none' at' is' ↦
-        let same : vertex ≡ other = same_item request.job.graph.vertices i j vertex other at at' (places.one_vertex request.job.machine request.job.graph.vertices i j none none') in
+        let same : vertex ≡ other = one_item_at request.job.graph.vertices i j vertex other (places.one_vertex request.job.machine request.job.graph.vertices i j none none') at at' in
         is ∙ (ap (λ (v : Vertex). refusals.NoRoom v.name) same ∙ sym is')
     | keys_out spots memory placed j net none' at' is' ↦ absurd (places.not_both request.job.machine request.job.graph.vertices spots memory i placed none)
   ]
   | keys_out spots memory placed i net none at is ↦ elim b [
     | no_room j other none' at' is' ↦ absurd (places.not_both request.job.machine request.job.graph.vertices spots memory j placed none')
     | keys_out spots' memory' placed' j other none' at' is' ↦
-        let same : net ≡ other = same_item request.job.graph.nets i j net other at at' (blocks.one_net request.job.graph.nets i j none none') in
+        let same : net ≡ other = one_item_at request.job.graph.nets i j net other (blocks.one_net request.job.graph.nets i j none none') at at' in
         is ∙ (ap (λ (n : Net). refusals.KeysOut n.name) same ∙ sym is')
   ]
 ]
@@ -61,8 +63,10 @@ pub checked_of : (request : Request) (trees : List (List Edge)) (image text : Li
     IsAnswer request.job.machine request.job.graph trees image text →
     ((other : List ℕ) → IsAnswer request.job.machine request.job.graph trees image other → other ≡ text) →
     (text ≡ right_line → RoutesRight request.job.machine request.job.graph trees image) →
-    ((words : List (List ℕ)) → text ≡ line (codes "wrong" ∷ words) → NamesMisrouted request.job.machine request.job.graph trees image text) → IsChecked request text
-checked_of request trees image text same_trees same_image answer only right wrong =
+    ((words : List (List ℕ)) → text ≡ line (codes "wrong" ∷ words) → NamesMisrouted request.job.machine request.job.graph trees image text) →
+    ((target : ℕ) (plan : Plan) (v : Image) → IsPlanOf request.job.machine request.job.graph target plan → HasKeptRows request.job.machine plan.tables v →
+    trees ≡ trees_of plan.nets → Spells v image → text ≡ right_line) → IsChecked request text
+checked_of request trees image text same_trees same_image answer only right wrong made =
     let m = request.job.machine in
     let graph = request.job.graph in
     record {
@@ -70,6 +74,7 @@ checked_of request trees image text same_trees same_image answer only right wron
       only = λ other is. only other (subst (λ ts. IsAnswer m graph ts image other) (sym same_trees) (subst (λ bs. IsAnswer m graph request.trees bs other) (sym same_image) is));
       right = λ says. subst (λ ts. RoutesRight m graph ts request.image) same_trees (subst (RoutesRight m graph trees) same_image (right says));
       wrong = λ words says. subst (λ ts. NamesMisrouted m graph ts request.image text) same_trees (subst (λ bs. NamesMisrouted m graph trees bs text) same_image (wrong words says));
+      made = λ target plan v is kept trees_are spells. made target plan v is kept (same_trees ∙ trees_are) (subst (Spells v) (sym same_image) spells);
     }
 
 -- ---- statuses that do not come

@@ -1,13 +1,18 @@
 -- What a call makes (this project's own).
 use Rattle.std.specs.Prelude.{◌≡◌, ◌∷◌, ℕ, List, Option, Some, None, IfSome, is_some, codes}
 use Rattle.std.specs.List.{list_any}
-use Rattle.app_answers.specs.Answers.{AreAnswered, is_load}
+use Rattle.app_answers.specs.Answers.{AreAnswered, AreAnsweredThrough, is_load}
 use Rattle.app_loads.specs.Applications.{AreApps}
 use Rattle.app_loads.specs.Host.{Host}
 use Rattle.app_steps.specs.declared.steps.Step.{Step}
 use Rattle.check_request.specs.declared.requests.Request.{Request}
 use Rattle.check_answers.specs.Answers.{IsAnswer, NamesMisrouted, RoutesRight}
 use Rattle.check_answers.specs.Findings.{right_line}
+use Rattle.check_answers.specs.Plans.{HasKeptRows, trees_of}
+use Rattle.par_compile.specs.Compiled.{IsPlanOf}
+use Rattle.par_compile.specs.declared.compiling.Plan.{Plan}
+use Rattle.table_load.specs.Images.{Spells}
+use Rattle.table_load.specs.declared.tables.Image.{Image}
 use Rattle.job_readers.specs.declared.jobs.Job.{Job}
 use Rattle.run_report.specs.ReportText.{line}
 use Rattle.command_words.specs.Commands.{spelled}
@@ -57,23 +62,35 @@ pub record IsMadeOfJob (words : List (List ℕ)) (reading : Reading) (parts : Pa
 
 -- ---- checks
 
+-- Where the request's trees and image are those of a plan that the compiler makes of its job, the text is `right`.
+abbrev pub IsRightOfPlans : Request → List ℕ → Type 0
+IsRightOfPlans request text = (target : ℕ) (plan : Plan) (v : Image) → IsPlanOf request.job.machine request.job.graph target plan →
+    HasKeptRows request.job.machine plan.tables v → request.trees ≡ trees_of plan.nets → Spells v request.image → text ≡ right_line
+
 -- The text is the answer to a request, and the only one. Where it says `right`, the tables that the image loads route each key of
--- each net by the net's tree; where it says `wrong`, they give a key that it names another route.
+-- each net by the net's tree; where it says `wrong`, they give a key that it names another route. What the compiler makes is
+-- answered `right`.
 pub record IsChecked (request : Request) (text : List ℕ) : Type 0 where
   pub answer : IsAnswer request.job.machine request.job.graph request.trees request.image text
   pub only : (other : List ℕ) → IsAnswer request.job.machine request.job.graph request.trees request.image other → other ≡ text
   pub right : text ≡ right_line → RoutesRight request.job.machine request.job.graph request.trees request.image
   pub wrong : (words : List (List ℕ)) → text ≡ line (codes "wrong" ∷ words) → NamesMisrouted request.job.machine request.job.graph request.trees request.image text
+  pub made : IsRightOfPlans request text
 
 -- ---- applications
 
+-- where the steps lead through some states with this text as their lines, they lead through the same ones with no other
+abbrev pub HaveOneText : List Step → List ℕ → Type 0
+HaveOneText steps text = (states : List (Option Host)) (other : List ℕ) → AreAnsweredThrough None steps states text → AreAnsweredThrough None steps states other → other ≡ text
+
 -- The text is the lines of the steps, each the answer to its step on the state that the steps before it left, and the machine with
 -- its applications is the state after the last. It is given where one of the steps is a load, and all that applications keep
--- holds of it.
+-- holds of it. Whatever states the steps lead through, no other text is their lines.
 pub record AreDone (steps : List Step) (apps : Option Host) (text : List ℕ) : Type 0 where
   pub answers : AreAnswered steps text apps
   pub given : is_some apps ≡ list_any is_load steps
   pub hold : IfSome apps AreApps
+  pub only : HaveOneText steps text
 
 -- ---- all words
 

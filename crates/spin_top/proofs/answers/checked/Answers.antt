@@ -13,7 +13,7 @@ returns-clause-made g c = λ words asks.
     let request = c.in_ok-request.request in
     checked asks request c.in_ok-request.ensures.request
     (checked_of request c.as_slice-trees.result.now c.as_slice-image.result.now c.in_ok-text.text c.as_slice-trees.ensures c.as_slice-image.ensures
-    c.in_ok-text.ensures.answer c.in_ok-text.ensures.only c.in_ok-text.ensures.right c.in_ok-text.ensures.wrong) c.no_parts.ensures refl
+    c.in_ok-text.ensures.answer c.in_ok-text.ensures.only c.in_ok-text.ensures.right c.in_ok-text.ensures.wrong c.in_ok-text.ensures.made) c.no_parts.ensures refl
 
 pub returns-in_err-request-clause-err : goal.returns-in_err-request-clause-err
 returns-in_err-request-clause-err g c = λ words asks.
