@@ -1,4 +1,4 @@
--- What draining does to a host.
+-- What draining does to a host (this project's own).
 use Rattle.std.specs.Prelude.{◌≡◌}
 use Rattle.packet_runs.specs.Draining.{IsMoved}
 use Rattle.app_loads.specs.Host.{Host}

@@ -1,4 +1,4 @@
--- Meshes that can be drained, and what is reached by events.
+-- Meshes that can be drained, and what is reached by events (this project's own).
 use Rattle.std.specs.Prelude.{◌≡◌, ℕ, List, All}
 use Rattle.spin_base.specs.declared.copies.Event.{Event}
 use Rattle.net_tables.specs.declared.nets.NetPlan.{NetPlan}

@@ -1,4 +1,4 @@
--- Where copies wait that can be moved.
+-- Where copies wait that can be moved (this project's own).
 use Rattle.std.specs.Prelude.{◌≡◌, List, ◌∷◌, [], Option, Some, None, slice_get}
 use Rattle.spin_base.specs.declared.copies.McCopy.{McCopy}
 use Rattle.spin_base.specs.declared.routes.Out.{Out}

@@ -14,7 +14,7 @@ returns-in-Ok-clause-made g c = λ words asks.
     let steps = c.in_ok-steps.steps in
     done asks steps c.in_ok-steps.ensures.steps
     (done_of steps c.as_slice.result.now c.in-Ok.answered.apps c.in-Ok.answered.text c.as_slice.ensures c.in-Ok.ensures.answered c.in-Ok.ensures.given c.in-Ok.ensures.apps
-        c.in-Ok.ensures.only)
+    c.in-Ok.ensures.only)
     c.no_parts.ensures
 
 pub returns-clause-err : goal.returns-clause-err
