@@ -1,13 +1,18 @@
 -- A host after what was done on it.
-use Rattle.std.proofs.Common.{◌≡◌, ℕ, ap, ◌∙◌, Result, Ok, Err, IfOk, OnOk, OnErr}
+use Rattle.std.proofs.Common.{◌≡◌, ℕ, List, ◌++◌, Option, Some, refl, sym, subst, ap, ◌∙◌, Result, Ok, Err, IfOk, OnOk, OnErr}
 use Rattle.mesh_core.specs.State.{Setup, State}
 use Rattle.mesh_core.proofs.Fixed.{setup_after}
+use Rattle.app_loads.specs.Applications.{AreApps}
 use Rattle.app_loads.specs.Host.{Host}
 use Rattle.app_loads.specs.Running.{HasMoved}
 use Rattle.app_loads.specs.Loading.{HasLoaded}
 use Rattle.app_loads.specs.Unloading.{HasUnloaded}
 use Rattle.app_loads.specs.declared.answers.Ended.{Ended}
 use Rattle.app_loads.specs.declared.plans.AppPlan.{AppPlan}
+use Rattle.app_steps.specs.declared.steps.Step.TheVariants.{Run}
+use Rattle.app_answers.specs.Answers.{HasDrained}
+use Rattle.app_answers.specs.Hosting.{IsTold}
+use Rattle.app_answers.specs.Lines.{run_line}
 
 pub moved_machine : (old new : Host) → HasMoved old new → new.mesh.setup.machine ≡ old.mesh.setup.machine
 moved_machine old new moved =
@@ -29,3 +34,10 @@ pub machine_after_unload : {E : Type 0} (r : Result Ended E) (old new : Host) (n
     new.mesh.setup.machine ≡ old.mesh.setup.machine
 machine_after_unload (Ok ended) old new number unloaded refused = unloaded_machine old new number ended unloaded
 machine_after_unload (Err e) old new number unloaded refused = ap (λ (h : Host). h.mesh.setup.machine) refused
+
+-- a run that was told
+pub told_run : {X E : Type 0} (r : Result X E) (before : Option Host) (old new : Host) (text longer : List ℕ) → before ≡ Some old → HasDrained old new → AreApps new →
+    OnOk r (longer ≡ text ++ run_line) → OnOk r (IsTold Run before text longer (Some new))
+told_run (Ok u) before old new text longer is drained apps told =
+    subst (λ (h : Option Host). IsTold Run h text longer (Some new)) (sym is) (record { told = run_line; longer = told; answers = (refl, (new, refl, drained)); apps = apps })
+told_run (Err e) before old new text longer is drained apps told = tt
