@@ -8,7 +8,7 @@ ghost use Rattle.chip_node.specs.Numbers.{numbers_of};
 use crate::collecting::{look_for, offer_first};
 use crate::ends::{InEnd, OutEnd};
 use crate::looking::start_of;
-use link_queue::{Link, Offered};
+use link_queue::Link;
 use spin_base::{Delivery, Fifo, McCopy, Room, Seq};
 use std::sync::Wait;
 
@@ -31,11 +31,20 @@ pub struct CoreBank {
     ghost differ: { AllPairs (λ a b. a ≢ b) (numbers_of vertices.items) },
 }
 
+/// What became of an unsent copy that a bank offered to its chip's injection queue.
+#[derive(Clone, Copy)]
+pub enum Injection {
+    /// The copy stands in the queue.
+    Entered,
+    /// The queue refused it, and it is the first unsent copy of its vertex still.
+    Refused,
+}
+
 /// What a bank did in a turn: what became of the unsent copy that it offered, where there was one, and whether it took a
 /// copy for a vertex.
-#[derive(Clone, Copy, Debug, PartialEq, Eq)]
+#[derive(Clone, Copy)]
 pub struct BankTurn {
-    pub offered: Option<Offered>,
+    pub offered: Option<Injection>,
     pub collected: bool,
 }
 
@@ -95,7 +104,7 @@ impl CoreBank {
     }
 
     // Offers the first unsent copy of a vertex, and tells what became of the offer.
-    fn send<R: Wait>(&mut self, rt: &R, links: &[Link], start: usize) -> Option<Offered>
+    fn send<R: Wait>(&mut self, rt: &R, links: &[Link], start: usize) -> Option<Injection>
         requires start { start ≤ length self.old.vertices.items }
         requires inject { IsOutEndOf links.now self.old.inject }
         requires ends { HaveInEndsOf links.now self.old.vertices.items }

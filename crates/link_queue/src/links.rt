@@ -35,7 +35,7 @@ pub struct LinkEnds {
 }
 
 /// What became of an offer.
-#[derive(Clone, Copy, Debug, PartialEq, Eq)]
+#[derive(Clone, Copy)]
 pub enum Offered {
     /// The copy stands in the queue.
     Taken,
