@@ -5,13 +5,13 @@ use Rattle.spin_base.specs.declared.copies.McCopy.{McCopy}
 use Rattle.spin_base.specs.declared.copies.Delivery.{Delivery}
 use Rattle.link_queue.specs.declared.known.Known.{Known}
 use Rattle.link_queue.specs.declared.links.Link.{Link}
-use Rattle.link_queue.specs.declared.links.Offered.{Offered}
-use Rattle.link_queue.specs.declared.links.Offered.TheVariants.{Taken, Full}
 use Rattle.link_queue.specs.Ends.{sending, taking}
 use Rattle.link_queue.specs.Moves.{TakesOffer, FindsNothing}
 use Rattle.link_queue.specs.TheRule.{put_of, StartsWith}
 use Rattle.chip_node.specs.declared.banks.BankVertex.{BankVertex}
 use Rattle.chip_node.specs.declared.banks.CoreBank.{CoreBank}
+use Rattle.chip_node.specs.declared.banks.Injection.{Injection}
+use Rattle.chip_node.specs.declared.banks.Injection.TheVariants.{Entered, Refused}
 use Rattle.chip_node.specs.Ends.{IsInEndOf}
 use Rattle.chip_node.specs.Numbers.{numbers_of}
 use Rattle.chip_node.specs.Offers.{Refuses}
@@ -46,10 +46,10 @@ OffersOne v w before after = (All (λ q. q ≡ []) before × (w ≡ v) × (after
 
 -- What became of the offer of a turn. There was none, since no vertex has an unsent copy; or a copy entered the injection queue;
 -- or the queue refused it.
-abbrev pub FaresAs : Option Offered → Known → Known → List BankVertex → Type 0
+abbrev pub FaresAs : Option Injection → Known → Known → List BankVertex → Type 0
 FaresAs None v w vertices = All (λ u. u.unsent ≡ []) vertices
-FaresAs (Some Taken) v w vertices = (k : McCopy) × TakesOffer v k w
-FaresAs (Some (Full back)) v w vertices = Refuses 1 v w
+FaresAs (Some Entered) v w vertices = (k : McCopy) × TakesOffer v k w
+FaresAs (Some Refused) v w vertices = Refuses 1 v w
 
 -- A vertex whose queue was found empty.
 pub record IsEmptyFor (before after : BankVertex) : Type 0 where

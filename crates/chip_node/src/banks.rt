@@ -8,8 +8,8 @@ ghost use Rattle.chip_node.specs.Numbers.{numbers_of};
 use crate::collecting::{look_for, offer_first};
 use crate::ends::{InEnd, OutEnd};
 use crate::looking::start_of;
-use link_queue::{Link, Offered};
-use spin_base::{Delivery, Fifo, McCopy, Room, Seq};
+use link_queue::Link;
+use spin_base::{Delivery, Fifo, McCopy, Room, Seq, Shared};
 use std::sync::Wait;
 
 /// A vertex on one of a chip's cores, or a device on one of its links: its number, its copies that are not sent yet, and
@@ -31,11 +31,22 @@ pub struct CoreBank {
     ghost differ: { AllPairs (λ a b. a ≢ b) (numbers_of vertices.items) },
 }
 
+impl Shared for CoreBank {}
+
+/// What became of an unsent copy that a bank offered to its chip's injection queue.
+#[derive(Clone, Copy)]
+pub enum Injection {
+    /// The copy stands in the queue.
+    Entered,
+    /// The queue refused it, and it is the first unsent copy of its vertex still.
+    Refused,
+}
+
 /// What a bank did in a turn: what became of the unsent copy that it offered, where there was one, and whether it took a
 /// copy for a vertex.
-#[derive(Clone, Copy, PartialEq, Eq)]
+#[derive(Clone, Copy)]
 pub struct BankTurn {
-    pub offered: Option<Offered>,
+    pub offered: Option<Injection>,
     pub collected: bool,
 }
 
@@ -95,7 +106,7 @@ impl CoreBank {
     }
 
     // Offers the first unsent copy of a vertex, and tells what became of the offer.
-    fn send<R: Wait>(&mut self, rt: &R, links: &[Link], start: usize) -> Option<Offered>
+    fn send<R: Wait>(&mut self, rt: &R, links: &[Link], start: usize) -> Option<Injection>
         requires start { start ≤ length self.old.vertices.items }
         requires inject { IsOutEndOf links.now self.old.inject }
         requires ends { HaveInEndsOf links.now self.old.vertices.items }

@@ -8,7 +8,7 @@ ghost use Rattle.chip_node.specs.BankFlow.{FaresAs, HaveInEndsOf};
 ghost use Rattle.link_queue.specs.Ends.{sending};
 ghost use Rattle.chip_node.specs.Collecting.{IsWaitingAt, HasNothing, OffersAny, CollectsOne};
 
-use crate::banks::BankVertex;
+use crate::banks::{BankVertex, Injection};
 use crate::ends::OutEnd;
 use crate::looking::place_after;
 use link_queue::{Link, Offered};
@@ -44,7 +44,7 @@ pub fn offer_first<R: Wait>(
     inject: &mut OutEnd,
     vertices: &mut Vec<BankVertex>,
     start: usize,
-) -> Option<Offered>
+) -> Option<Injection>
     requires start { start ≤ length vertices.old.items }
     requires inject { IsOutEndOf links.now inject.old }
     requires ends { HaveInEndsOf links.now vertices.old.items }
@@ -60,9 +60,9 @@ pub fn offer_first<R: Wait>(
     match inject.offer(rt, links, copy) {
         Offered::Taken => {
             let _ = vertices[place].unsent.pop();
-            Some(Offered::Taken)
+            Some(Injection::Entered)
         }
-        Offered::Full(back) => Some(Offered::Full(back)),
+        Offered::Full(_) => Some(Injection::Refused),
     }
 }
 

@@ -24,7 +24,7 @@ pub struct OutEnd {
 }
 
 /// What became of a copy at an output.
-#[derive(Clone, Copy, PartialEq, Eq)]
+#[derive(Clone, Copy)]
 pub enum Served {
     /// It entered the queue behind the output.
     Sent,

@@ -14,6 +14,6 @@ mod looking;
 mod routers;
 mod serving;
 
-pub use banks::{BankTurn, BankVertex, CoreBank};
+pub use banks::{BankTurn, BankVertex, CoreBank, Injection};
 pub use ends::{InEnd, OutEnd, Served};
 pub use routers::RouterNode;

@@ -7,7 +7,7 @@ use crate::ends::{InEnd, OutEnd, Served};
 use crate::looking::{look, start_of};
 use crate::serving::{link_of, onward, outputs_of, send_by};
 use link_queue::Link;
-use spin_base::{Chip, DumpRec, McCopy, Out, Outs, Port, Room, Seq};
+use spin_base::{Chip, DumpRec, McCopy, Out, Outs, Port, Room, Seq, Shared};
 use std::sync::Wait;
 use tcam_find::Tcam;
 
@@ -24,6 +24,8 @@ pub struct RouterNode {
     ghost ports_differ: { AllPairs (λ a b. a ≢ b) (ports_of inputs.items) },
     ghost outs_differ: { AllPairs (λ a b. a ≢ b) (outs_with_ends outputs.items) },
 }
+
+impl Shared for RouterNode {}
 
 impl RouterNode {
     ghost use Rattle.std.specs.Prelude.{◌↔◌, MatchOption};

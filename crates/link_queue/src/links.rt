@@ -2,7 +2,7 @@
 use crate::known::Known;
 use crossbeam_queue::protocol::{Join, Lesson, Outcome, Protocol, Split};
 use crossbeam_queue::{Pass, RuledArrayQueue};
-use spin_base::{McCopy, Room};
+use spin_base::{McCopy, Room, Shared};
 use std::marker::{Brand, PhantomData};
 
 pub(crate) type Queue = RuledArrayQueue<McCopy, Known, InOrder>;
@@ -13,17 +13,23 @@ pub struct Link {
     pub(crate) queue: Queue,
 }
 
+impl Shared for Link {}
+
 /// The sending end of a link.
 #[derive(Drop)]
 pub struct Tx {
     pub(crate) pass: Pass<McCopy, Known>,
 }
 
+impl Shared for Tx {}
+
 /// The receiving end of a link.
 #[derive(Drop)]
 pub struct Rx {
     pub(crate) pass: Pass<McCopy, Known>,
 }
+
+impl Shared for Rx {}
 
 /// A link with its two ends, and room for all that it can hold.
 #[derive(Drop)]
@@ -35,7 +41,7 @@ pub struct LinkEnds {
 }
 
 /// What became of an offer.
-#[derive(Clone, Copy, PartialEq, Eq)]
+#[derive(Clone, Copy)]
 pub enum Offered {
     /// The copy stands in the queue.
     Taken,

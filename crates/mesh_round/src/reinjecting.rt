@@ -105,14 +105,14 @@ fn pass_parts<R: Threads + Wait + Sync, G: Gate>(
     a_round_leaves_less_to_do();
     let mut parts = run_parts(rt, alloc, parts, pace, gate)?;
     'passes: while parts.dumped.len() > 0 {
-        let filled = put_all_back(parts)?;
+        let filled = put_parts_back(parts)?;
         parts = run_parts(rt, alloc, filled, pace, gate)?;
     }
     Ok(parts)
 }
 
-// Puts dumped copies back, first ones first, until the first one can't be.
-fn put_all_back(parts: MeshParts) -> Result<MeshParts, (MeshParts, Memory)>
+// Puts dumped copies back, first ones first, until the first one can't be, on the parts of a mesh.
+fn put_parts_back(parts: MeshParts) -> Result<MeshParts, (MeshParts, Memory)>
     requires ready { IsReady parts }
     ensures passes { IfOk result (λ n. (patience turns : ℕ) → HasPasses patience turns parts n) }
     ensures ready { IfOk result IsReady }
@@ -120,14 +120,28 @@ fn put_all_back(parts: MeshParts) -> Result<MeshParts, (MeshParts, Memory)>
     ensures refused { IfErr result (λ b. (patience turns : ℕ) → HasPasses patience turns parts b.0) }
     ensures ready_still { IfErr result (λ b. IsReady b.0) }
 {
-    a_mesh_stays_a_mesh();
-    let mut parts = parts;
+    match put_all_back(Mesh::put_together(parts)) {
+        Ok(mesh) => Ok(mesh.take_apart()),
+        Err((mesh, e)) => Err((mesh.take_apart(), e)),
+    }
+}
+
+// Puts dumped copies back, first ones first, until the first one can't be.
+fn put_all_back(mesh: Mesh) -> Result<Mesh, (Mesh, Memory)>
+    requires ready { IsReady mesh }
+    ensures passes { IfOk result (λ n. (patience turns : ℕ) → HasPasses patience turns mesh n) }
+    ensures ready { IfOk result IsReady }
+    ensures less { IfOk result (λ n. put_back_answer mesh ≡ Moved → work_in n < work_in mesh) }
+    ensures refused { IfErr result (λ b. (patience turns : ℕ) → HasPasses patience turns mesh b.0) }
+    ensures ready_still { IfErr result (λ b. IsReady b.0) }
+{
+    let mut mesh = mesh;
     'copies: loop {
-        let (next, did) = put_first_back(parts)?;
-        parts = next;
+        let (next, did) = put_back(mesh)?;
+        mesh = next;
         match did {
             Did::Moved => {}
-            Did::Idle => return Ok(parts),
+            Did::Idle => return Ok(mesh),
         }
     }
 }

@@ -4,6 +4,7 @@ ghost use Rattle.std.specs.Prelude.{◌≡◌, ℕ, ◌+◌};
 use crate::waking::{Awake, Seats};
 use chip_node::{CoreBank, RouterNode};
 use link_queue::Link;
+use spin_base::Shared;
 use std::sync::Wait;
 use tcam_find::Tcam;
 
@@ -13,6 +14,8 @@ pub enum Actor {
     Router(u32, RouterNode),
     Bank(CoreBank),
 }
+
+impl Shared for Actor {}
 
 impl Actor {
     ghost use Rattle.mesh_run.specs.Acting.{IsReady, PlaysOn};

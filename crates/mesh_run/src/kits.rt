@@ -6,6 +6,7 @@ ghost use Rattle.machine_desc.specs.Live.{index_of, IsInside};
 ghost use Rattle.mesh_run.specs.Casting.{live_chips};
 ghost use Rattle.mesh_run.specs.Dealing.{AddsKit, HasLogs, IsKitOf};
 
+use crate::lending::{OUT_COUNT, VERTEX_COUNT};
 use crate::standing::room_for;
 use chip_node::{BankVertex, InEnd, OutEnd};
 use machine_desc::Machine;
@@ -42,10 +43,10 @@ impl Kit {
         ensures kit { IfOk result (λ k. (m : Description) → index ≡ index_of m chip → IsKitOf m chip k) }
         ensures logs { IfOk result (HasLogs turns) }
     {
-        let inputs = room_for(alloc, 7)?;
-        let outputs = room_for(alloc, 24)?;
-        let vertices = room_for(alloc, 24)?;
-        let dumps = room_for(alloc, 24 * turns as usize)?;
+        let inputs = room_for(alloc, Port::COUNT as usize)?;
+        let outputs = room_for(alloc, OUT_COUNT)?;
+        let vertices = room_for(alloc, VERTEX_COUNT as usize)?;
+        let dumps = room_for(alloc, OUT_COUNT * turns as usize)?;
         let deliveries = room_for(alloc, turns as usize)?;
         Ok(Kit {
             chip,

@@ -23,19 +23,14 @@ use spin_base::{Chip, Dir, Fifo, McCopy, Out, Port, Room, Spot};
 use std::alloc::Global;
 use std::mem;
 
-/// The ports of a chip.
-const PORTS: [Port; 7] = [
-    Port::Link(Dir::East),
-    Port::Link(Dir::NorthEast),
-    Port::Link(Dir::North),
-    Port::Link(Dir::West),
-    Port::Link(Dir::SouthWest),
-    Port::Link(Dir::South),
-    Port::Local,
-];
+/// How many outputs a chip has: its six links, and its eighteen cores.
+pub(crate) const OUT_COUNT: usize = 24;
+
+/// How many vertices a chip has at most: one on each core, and one device on each link.
+pub(crate) const VERTEX_COUNT: u8 = 24;
 
 /// The outputs of a chip.
-const OUTS: [Out; 24] = [
+const OUTS: [Out; OUT_COUNT] = [
     Out::Link(Dir::East),
     Out::Link(Dir::NorthEast),
     Out::Link(Dir::North),
@@ -66,12 +61,12 @@ const OUTS: [Out; 24] = [
 pub(crate) fn chip_ports() -> [Port; 7]
     ensures { result ≡ all_ports }
 {
-    PORTS
+    Port::ALL
 }
 
 /// The outputs of a chip, in the order of their bits.
 #[tactic(auto, unfolding(spin_base::specs::Outputs::link_outs, spin_base::specs::Outputs::core_outs))]
-pub(crate) fn chip_outs() -> [Out; 24]
+pub(crate) fn chip_outs() -> [Out; OUT_COUNT]
     ensures { result ≡ all_outs }
 {
     OUTS
@@ -207,7 +202,7 @@ pub(crate) fn lend_vertices(
     ensures rxs { Lent None (vertex_rxs vertices.new.items) rxs.old.items rxs.new.items }
     ensures unsent { Lent [] (vertex_unsent vertices.new.items) unsent.old.items unsent.new.items }
 {
-    for core in 0..24 {
+    for core in 0..VERTEX_COUNT {
         lend_vertex(alloc, rxs, unsent, setup, Spot { chip, core }, vertices);
     }
 }

@@ -13,6 +13,7 @@ ghost use Rattle.mesh_run.specs.Queues.{AreEnds};
 use crate::actors::Actor;
 use crate::casting::cast;
 use crate::kits::Kit;
+use crate::lending::OUT_COUNT;
 use crate::raised::RaisedMesh;
 use crate::returning::dismiss;
 use crate::shares::play;
@@ -79,7 +80,7 @@ impl Logs {
             Ok(room) => room,
             Err((list, _)) => return Err((list, dumped)),
         };
-        match Room::over(dumped.into_seq(), (24 * count) as u64) {
+        match Room::over(dumped.into_seq(), (OUT_COUNT * count) as u64) {
             Ok(dumped) => Ok(Logs { delivered, dumped }),
             Err((list, _)) => Err((delivered.into_seq(), Fifo::from_seq(list))),
         }

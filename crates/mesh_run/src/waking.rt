@@ -6,9 +6,8 @@
 ghost use Rattle.std.specs.Prelude.{◌≡◌, ◌<◌, ◌≤◌, true, slice_index_or, slice_set};
 
 use crate::actors::Actor;
-use chip_node::{BankTurn, RouterNode};
-use link_queue::Offered;
-use spin_base::{Dir, Out, Outs};
+use chip_node::{BankTurn, Injection, RouterNode};
+use spin_base::{Dir, Out, Outs, Port};
 
 /// How many chips a machine has at most, and how many actors these have.
 const CHIPS: usize = 4096;
@@ -101,7 +100,7 @@ impl Seats {
     /// The place of the actor that takes from a link that the router at a place feeds: the router at the link's far end, or
     /// the router's own bank.
     pub fn taker(&self, feeder: usize, link: u32) -> usize {
-        let index = link as usize / 7;
+        let index = link as usize / Port::COUNT as usize;
         if index < self.chips {
             self.routers[index]
         } else {
@@ -190,7 +189,7 @@ impl Awake {
         let place = self.start.saturating_add(k);
         let busy = turn.collected || turn.offered.is_some();
         self.set(k, busy || seats.watches(place));
-        if let Some(Offered::Taken) = turn.offered {
+        if let Some(Injection::Entered) = turn.offered {
             self.wake(place.saturating_sub(1));
         }
     }

@@ -7,10 +7,10 @@ use Rattle.mesh_round.proofs.reinjecting.put_all_back.Given as goal
 -- the mesh was reached by copies put back, may go on, and there is less to be done as soon as one was
 abbrev pub invariant-copies : goal.invariant-copies
 invariant-copies l = record {
-  passes : (patience turns : ℕ) → HasPasses patience turns l.fn.parts l.parts;
-  ready : IsReady l.parts;
-  less : (l.parts ≡ l.fn.parts) ⊎ (work_in l.parts < work_in l.fn.parts);
+  passes : (patience turns : ℕ) → HasPasses patience turns l.fn.mesh l.mesh;
+  ready : IsReady l.mesh;
+  less : (l.mesh ≡ l.fn.mesh) ⊎ (work_in l.mesh < work_in l.fn.mesh);
 }
 
 abbrev pub decreases-copies : goal.decreases-copies
-decreases-copies l = work_in l.parts
+decreases-copies l = work_in l.mesh
