@@ -1,5 +1,5 @@
 -- A move keeps what the ledger says of one net: what comes in the place of a mark stands on the same trails.
-use Rattle.std.proofs.Common.{◌≡◌, ℕ, ◌+◌, ◌<◌, ◌≤◌, suc, List, [], ◌∷◌, map, Bool, true, false, ◌==◌, ◌&&◌, if◌then◌else◌, Option, Some, None, refl, ap, sym, subst, arith, inl, inr, length, min, count_by, nat_lt}
+use Rattle.std.proofs.Common.{◌≡◌, ℕ, ◌+◌, ◌<◌, ◌≤◌, suc, List, [], ◌∷◌, map, ◌∙◌, Bool, true, false, ◌==◌, ◌&&◌, if◌then◌else◌, Option, Some, None, refl, ap, sym, subst, arith, inl, inr, length, min, count_by, nat_lt}
 use Rattle.std.specs.Cmp.{both_ways}
 use Rattle.std.specs.List.{slice_get, Contains}
 use Rattle.list_laws.proofs.Counts.{count_by-map, count_by-cons, count_by-none}
