@@ -9,12 +9,12 @@ use Rattle.app_graph.specs.declared.graphs.Graph.{Graph}
 use Rattle.app_graph.specs.declared.graphs.RunPart.{RunPart}
 
 -- how many keys the net at a position has
-unfoldable pub keys_of : List Net → ℕ → ℕ
-keys_of nets i = slice_index (map (λ (n : Net). n.keys) nets) i
+unfoldable pub key_count_of : List Net → ℕ → ℕ
+key_count_of nets i = slice_index (map (λ (n : Net). n.keys) nets) i
 
 -- A packet's net is one of the nets, and its index below the net's number of keys.
 abbrev pub IsPacketOf : List Net → Packet → Type 0
-IsPacketOf nets p = (p.net < length nets) × (p.index < keys_of nets p.net)
+IsPacketOf nets p = (p.net < length nets) × (p.index < key_count_of nets p.net)
 
 -- A vertex of an event is one of n, and an output of an event is a link or a core.
 abbrev pub IsEventOf : ℕ → Event → Type 0

@@ -26,12 +26,12 @@ pub record IsValidNet (n : ℕ) (net : Net) : Type 0 where
   pub fixed : IfSome net.fixed (IsFixedFor net.keys)
 
 -- no key of 32 bits is in both blocks
-abbrev pub AreApart : Block → Block → Type 0
-AreApart a b = (key : ℕ) → key < 2 ^ 32 → bit_and key a.mask ≡ a.key → bit_and key b.mask ≡ b.key → ⊥
+abbrev pub ShareNoKey : Block → Block → Type 0
+ShareNoKey a b = (key : ℕ) → key < 2 ^ 32 → bit_and key a.mask ≡ a.key → bit_and key b.mask ≡ b.key → ⊥
 
 -- the fixed blocks of two nets, where both have one, are apart
 abbrev pub AreFixedApart : Net → Net → Type 0
-AreFixedApart one other = IfSome one.fixed (λ a. IfSome other.fixed (AreApart a))
+AreFixedApart one other = IfSome one.fixed (λ a. IfSome other.fixed (ShareNoKey a))
 
 -- two vertices do not have one device
 abbrev pub HaveDifferentDevices : Vertex → Vertex → Type 0

@@ -5,8 +5,8 @@ use Rattle.std.proofs.lemmas.Bool.{cases_eq, cases_lt, and_from, eq-eqb}
 use Rattle.std.proofs.lemmas.List.Elements.{All-contains, All-weaker}
 use Rattle.std.proofs.lemmas.Option.{slice_get-get_or, slice_get_within, get_or_from_slice_get, same_Some}
 use Rattle.key_alloc.proofs.Ranges.{in_from}
-use Rattle.list_laws.proofs.Members.{Contains-at}
-use Rattle.list_laws.proofs.Places.{All-at, All-each, AllZip-at_first}
+use Rattle.spin_base.proofs.Members.{Contains-at}
+use Rattle.spin_base.proofs.Places.{All-at, All-each, AllZip-at_first}
 use Rattle.spin_base.specs.declared.blocks.Block.{Block}
 use Rattle.spin_base.specs.declared.chips.Spot.{Spot}
 use Rattle.machine_desc.specs.Description.{Description}
@@ -14,12 +14,12 @@ use Rattle.machine_desc.specs.Live.{IsInside, IsUsable}
 use Rattle.machine_desc.specs.RoutingTree.{IsRoutingTree}
 use Rattle.machine_desc.proofs.Far.{live_inside}
 use Rattle.machine_desc.proofs.Sites.{usable_parts}
-use Rattle.net_tables.specs.declared.nets.NetPlan.{NetPlan}
-use Rattle.net_tables.specs.NetsOn.{HaveDisjointBlocks}
-use Rattle.net_tables.specs.RightTables.{IsKeyOf}
+use Rattle.machine_desc.specs.declared.nets.NetPlan.{NetPlan}
+use Rattle.machine_desc.specs.NetsOn.{HaveDisjointBlocks}
+use Rattle.machine_desc.specs.RightTables.{IsKeyOf}
 use Rattle.range_store.specs.Regions.{in_range}
 use Rattle.tern_word.specs.Ternary.{Matches}
-use Rattle.plain_tables.specs.PlainTable.{AreRouted}
+use Rattle.net_tables.specs.PlainTable.{AreRoutedApart}
 use Rattle.app_loads.specs.declared.answers.LoadErr.TheVariants.{KeysOut}
 use Rattle.app_loads.specs.declared.loaded.Claim.{Claim}
 use Rattle.app_loads.specs.declared.loaded.LoadedApp.{LoadedApp}
@@ -28,8 +28,8 @@ use Rattle.app_loads.specs.declared.plans.AppNet.{AppNet}
 use Rattle.app_loads.specs.Applications.{IsLoadedOn, IsRangeFor}
 use Rattle.app_loads.specs.Claims.{claims_of, IsBlockOf}
 use Rattle.app_loads.specs.Host.{net_with, nets_with, nets_of}
-use Rattle.app_loads.specs.Plans.{IsAppNet, IsBefore}
-use Rattle.app_loads.specs.Regions.{AreApart, has_place}
+use Rattle.app_loads.specs.Plans.{IsAppNet, IsSpotBefore}
+use Rattle.app_loads.specs.Regions.{ShareNoPlace, range_has}
 use Rattle.app_loads.proofs.Blocks.{block_keys}
 use Rattle.app_loads.proofs.ClaimCases.{facts, same_net, IsKeyClaim}
 
@@ -116,7 +116,7 @@ module _ (m : Description) (app : LoadedApp) (loaded : IsLoadedOn m app) where
   facts_of x has = facts_at has.0 x (member_at (nets_of app) x has)
 
   -- a net's key is a place of its range
-  pub key_place : (x : NetPlan) (j : ℕ) (f : NetFacts m app x j) (key : ℕ) → IsKeyOf x.block key → has_place 0 key f.range ≡ true
+  pub key_place : (x : NetPlan) (j : ℕ) (f : NetFacts m app x j) (key : ℕ) → IsKeyOf x.block key → range_has 0 key f.range ≡ true
   key_place x j f key k =
       let block_is : f.block ≡ x.block = ap (λ (n : NetPlan). n.block) f.is in
       let mine : Matches f.block key = subst (λ (b : Block). Matches b key) (sym block_is) k.matches in
@@ -136,7 +136,7 @@ module _ (m : Description) (app : LoadedApp) (loaded : IsLoadedOn m app) where
   spot_inside s has = live_inside m s.chip (usable_parts m s (usable_spot s has)).0
 
   -- no two nets share a key
-  pub own_disjoint : AllPairs AreApart app.ranges → HaveDisjointBlocks (nets_of app)
+  pub own_disjoint : AllPairs ShareNoPlace app.ranges → HaveDisjointBlocks (nets_of app)
   own_disjoint apart i j d less below key first second =
       let x : NetPlan = get_or (nets_of app) i d in
       let y : NetPlan = get_or (nets_of app) j d in
@@ -154,8 +154,8 @@ module _ (m : Description) (app : LoadedApp) (loaded : IsLoadedOn m app) where
             let number : i ≡ j = same_net i j (sym f.its ∙ (ap (λ (c : Claim). c.refusal) one ∙ g.its)) in
             absurd (omega (arith, number, less))
         | inr other ↦ elim (cases_lt f.at g.at) [
-          | inl before ↦ subst (λ (r : Range). AreApart r g.range) f_is (subst (λ (r : Range). AreApart (get_or app.ranges f.at f.range) r) g_is (apart f.at g.at f.range before in_g)) 0 key a b
-          | inr after ↦ subst (λ (r : Range). AreApart g.range r) f_is (subst (λ (r : Range). AreApart r (get_or app.ranges f.at f.range)) g_is (apart g.at f.at f.range (omega (arith, after, other)) in_f)) 0 key b a
+          | inl before ↦ subst (λ (r : Range). ShareNoPlace r g.range) f_is (subst (λ (r : Range). ShareNoPlace (get_or app.ranges f.at f.range) r) g_is (apart f.at g.at f.range before in_g)) 0 key a b
+          | inr after ↦ subst (λ (r : Range). ShareNoPlace g.range r) f_is (subst (λ (r : Range). ShareNoPlace r (get_or app.ranges f.at f.range)) g_is (apart g.at f.at f.range (omega (arith, after, other)) in_f)) 0 key b a
         ]
       ]
 
@@ -177,12 +177,12 @@ module _ (m : Description) (app : LoadedApp) (loaded : IsLoadedOn m app) where
   different_of = All-each (λ (x : NetPlan). AllPairs (λ a b. a ≢ b) x.targets) (nets_of app) (λ x has.
       let f = facts_of x has in subst (λ (y : NetPlan). AllPairs (λ a b. a ≢ b) y.targets) f.is (λ i j d less below same. never (get_or f.net.targets i d) (get_or f.net.targets j d) (f.valid.in_order i j d less below) same))
     where
-      never : (a b : Spot) → IsBefore a b → a ≡ b → ⊥
+      never : (a b : Spot) → IsSpotBefore a b → a ≡ b → ⊥
       never a b (inl x) same = let e : a.chip.x ≡ b.chip.x = ap (λ (s : Spot). s.chip.x) same in absurd (omega (arith, x, e))
       never a b (inr (e, inl y)) same = let e' : a.chip.y ≡ b.chip.y = ap (λ (s : Spot). s.chip.y) same in absurd (omega (arith, y, e'))
       never a b (inr (e, inr (e', c))) same = let e'' : a.core ≡ b.core = ap (λ (s : Spot). s.core) same in absurd (omega (arith, c, e''))
 
-  pub routed : AllPairs AreApart app.ranges → AreRouted m (nets_of app)
+  pub routed : AllPairs ShareNoPlace app.ranges → AreRoutedApart m (nets_of app)
   routed apart = record {
     trees = trees_of;
     roots = All-each (λ (x : NetPlan). IsInside m x.tree.root) (nets_of app) (λ x has.
@@ -192,7 +192,7 @@ module _ (m : Description) (app : LoadedApp) (loaded : IsLoadedOn m app) where
   }
 
 -- two applications whose ranges are apart share no key
-pub apps_disjoint : (m : Description) (a b : LoadedApp) → IsLoadedOn m a → IsLoadedOn m b → ((r s : Range) → Contains a.ranges r → Contains b.ranges s → AreApart r s) →
+pub apps_disjoint : (m : Description) (a b : LoadedApp) → IsLoadedOn m a → IsLoadedOn m b → ((r s : Range) → Contains a.ranges r → Contains b.ranges s → ShareNoPlace r s) →
     (x y : NetPlan) → Contains (nets_of a) x → Contains (nets_of b) y → (key : ℕ) → IsKeyOf x.block key → IsKeyOf y.block key → ⊥
 apps_disjoint m a b on_a on_b apart x y in_a in_b key first second =
     let f = facts_of m a on_a x in_a in

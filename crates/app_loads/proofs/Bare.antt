@@ -7,8 +7,8 @@ use Rattle.std.specs.List.{slice_get, Contains}
 use Rattle.std.proofs.lemmas.List.{get_or-replicate, length-replicate, length-append, get_or_append_left, get_or-append_right}
 use Rattle.std.proofs.lemmas.List.Elements.{All-nil}
 use Rattle.std.proofs.lemmas.Option.{slice_get-get_or, slice_get_within, get_or_from_slice_get, same_Some}
-use Rattle.list_laws.proofs.Members.{Contains-none}
-use Rattle.list_laws.proofs.Gathering.{gathered_nothing}
+use Rattle.spin_base.proofs.Members.{Contains-none}
+use Rattle.spin_base.proofs.Gathering.{gathered_nothing}
 use Rattle.spin_base.specs.declared.blocks.Entry.{Entry}
 use Rattle.spin_base.specs.declared.chips.Chip.{Chip}
 use Rattle.spin_base.specs.declared.chips.Spot.{Spot}
@@ -18,11 +18,11 @@ use Rattle.machine_desc.specs.Live.{index_of, chip_of, IsInside}
 use Rattle.machine_desc.proofs.Far.{index_below}
 use Rattle.range_store.specs.Regions.{AreRuns, hole_of, is_free}
 use Rattle.tcam_find.specs.Memory.{empty_memory, unused}
-use Rattle.net_tables.specs.NetsOn.{AreNetsOn}
-use Rattle.net_tables.specs.RightTables.{table_at}
+use Rattle.machine_desc.specs.NetsOn.{AreNetsOn}
+use Rattle.machine_desc.specs.RightTables.{table_at}
 use Rattle.mesh_core.specs.State.{Setup, State, Hand, IsMesh}
 use Rattle.mesh_core.specs.Trail.{Mark, unsent, in_queue, at_core}
-use Rattle.mesh_core.specs.Ledger.{marks_of, marked, hand_marks, port_of, unsent_marks, input_marks, all_hand_marks, core_marks, MeetsLedgerFor}
+use Rattle.mesh_core.specs.Ledger.{marks_of, marks_at, hand_marks, port_of, unsent_marks, input_marks, all_hand_marks, core_marks, MeetsLedgerFor}
 use Rattle.mesh_core.specs.Opened.{empty_mesh}
 use Rattle.mesh_core.specs.VertexTable.{spot_place}
 use Rattle.mesh_core.proofs.VertexTableLaws.{spot_place-below}
@@ -37,12 +37,12 @@ use Rattle.app_loads.specs.Opening.{bare_mesh, bare_host}
 
 no_marks : (u : Setup) → marks_of (empty_mesh u) ≡ []
 no_marks u =
-    let first : unsent_marks (empty_mesh u) ≡ [] = gathered_nothing (λ v (copies : List McCopy). marked (unsent v) copies) [] (λ j. refl) 0 (length u.spots) in
+    let first : unsent_marks (empty_mesh u) ≡ [] = gathered_nothing (λ v (copies : List McCopy). marks_at (unsent v) copies) [] (λ j. refl) 0 (length u.spots) in
     let second : input_marks (empty_mesh u) ≡ [] =
-    gathered_nothing (λ i (copies : List McCopy). marked (in_queue (chip_of u.machine (i / 7)) (port_of (i % 7))) copies) [] (λ j. refl) 0 (7 * (u.machine.width * u.machine.height)) in
+    gathered_nothing (λ i (copies : List McCopy). marks_at (in_queue (chip_of u.machine (i / 7)) (port_of (i % 7))) copies) [] (λ j. refl) 0 (7 * (u.machine.width * u.machine.height)) in
     let third : all_hand_marks (empty_mesh u) ≡ [] =
     gathered_nothing (λ i (h : Option Hand). hand_marks (chip_of u.machine i) h) None (λ j. refl) 0 (u.machine.width * u.machine.height) in
-    let fourth : core_marks (empty_mesh u) ≡ [] = gathered_nothing (λ v (copies : List McCopy). marked (at_core v) copies) [] (λ j. refl) 0 (length u.spots) in
+    let fourth : core_marks (empty_mesh u) ≡ [] = gathered_nothing (λ v (copies : List McCopy). marks_at (at_core v) copies) [] (λ j. refl) 0 (length u.spots) in
     joined (unsent_marks (empty_mesh u)) (input_marks (empty_mesh u)) (all_hand_marks (empty_mesh u)) (core_marks (empty_mesh u)) first second third fourth
   where
     joined : (a b c d : List Mark) → a ≡ [] → b ≡ [] → c ≡ [] → d ≡ [] → a ++ (b ++ (c ++ (d ++ ([] ++ [])))) ≡ []

@@ -4,10 +4,10 @@ use Rattle.std.specs.Prelude.{find, unwrap_or, zip}
 use Rattle.std.specs.List.{slice_get, Contains, flat_map, range_with_len}
 use Rattle.std.proofs.lemmas.Bool.{cases_eq, le-leb, leb-true, both_ways, eq-eqb, ne_eqb}
 use Rattle.std.proofs.lemmas.Nat.{pow_pos}
-use Rattle.list_laws.specs.Gathered.{gathered}
-use Rattle.list_laws.proofs.Gathering.{among_gathered, gathered_among}
-use Rattle.list_laws.proofs.Members.{Among, among_contains, contains_among, among_left, among_right, among_either}
-use Rattle.list_laws.proofs.Places.{All-at, slice_get_there, zip-first_at}
+use Rattle.spin_base.specs.Gathered.{gathered}
+use Rattle.spin_base.proofs.Gathering.{among_gathered, gathered_among}
+use Rattle.spin_base.proofs.Members.{Among, among_contains, contains_among, among_left, among_right, among_either}
+use Rattle.spin_base.proofs.Places.{All-at, slice_get_there, zip-first_at}
 use Rattle.spin_base.specs.declared.blocks.Block.{Block}
 use Rattle.machine_desc.specs.Description.{Description}
 use Rattle.machine_desc.specs.Live.{index_of, chip_of, IsUsable}

@@ -9,10 +9,10 @@ use Rattle.spin_base.specs.declared.chips.Chip.{Chip}
 use Rattle.machine_desc.specs.Description.{Description}
 use Rattle.machine_desc.specs.Live.{index_of, chip_of, IsInside}
 use Rattle.machine_desc.proofs.Live.{index_of-chip_of, chip_of-inside}
-use Rattle.net_tables.specs.RightTables.{table_at}
+use Rattle.machine_desc.specs.RightTables.{table_at}
 use Rattle.range_store.specs.Regions.{in_range}
 use Rattle.app_loads.specs.declared.loaded.Range.{Range}
-use Rattle.app_loads.specs.Regions.{IsWithin, chip_count, has_place, is_taken, rows_region}
+use Rattle.app_loads.specs.Regions.{IsRangeWithin, chip_count, range_has, is_taken, rows_region}
 use Rattle.app_loads.specs.Writing.{AreUnused, AreUnusedFrom, CanClear}
 use Rattle.app_loads.proofs.Copying.{changed_here, same_elsewhere, was_here, none_more, taken_more}
 use Rattle.std.proofs.Math.Bool.{or-false}
@@ -32,13 +32,13 @@ module _ (m : Description) (old : List (List Entry)) (ranges : List Range) (can 
   at : slice_get ranges i ≡ Some range
   at = slice_get-get_or ranges i d below
 
-  within : IsWithin m (1 + (n + n)) range
+  within : IsRangeWithin m (1 + (n + n)) range
   within = can.within i d below
 
-  before : (region k : ℕ) → is_taken (take (i + 1) ranges) region k ≡ true → has_place region k range ≡ false → is_taken (take i ranges) region k ≡ true
+  before : (region k : ℕ) → is_taken (take (i + 1) ranges) region k ≡ true → range_has region k range ≡ false → is_taken (take i ranges) region k ≡ true
   before region k hit not_mine = sym (or-false (is_taken (take i ranges) region k)) ∙ (ap (λ b. is_taken (take i ranges) region k || (b || false)) (sym not_mine) ∙ (sym (taken_more ranges i range region k at) ∙ hit))
 
-  of_other : (region k : ℕ) → range.region ≢ region → has_place region k range ≡ false
+  of_other : (region k : ℕ) → range.region ≢ region → range_has region k range ≡ false
   of_other region k other = ap (λ b. b && in_range range.place range.size k) (ne_eqb range.region region other)
 
   -- a range of no table changes nothing
@@ -115,8 +115,8 @@ module _ (m : Description) (old : List (List Entry)) (ranges : List Range) (can 
           and_false true = refl
           and_false false = refl
 
-          out_of : (c : Chip) (k : ℕ) → index_of m c ≡ j → in_range range.place range.size k ≡ false → has_place (rows_region m c) k range ≡ false
+          out_of : (c : Chip) (k : ℕ) → index_of m c ≡ j → in_range range.place range.size k ≡ false → range_has (rows_region m c) k range ≡ false
           out_of c k same out = ap (λ q. (range.region == rows_region m c) && q) out ∙ and_false (range.region == rows_region m c)
 
-          in_of : (c : Chip) (k : ℕ) → index_of m c ≡ j → has_place (rows_region m c) k range ≡ false → in_range range.place range.size k ≡ false
+          in_of : (c : Chip) (k : ℕ) → index_of m c ≡ j → range_has (rows_region m c) k range ≡ false → in_range range.place range.size k ≡ false
           in_of c k same free = sym (ap (λ q. q && in_range range.place range.size k) (eq-eqb range.region (rows_region m c) (region_of c same))) ∙ free

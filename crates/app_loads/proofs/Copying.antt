@@ -7,21 +7,21 @@ use Rattle.std.proofs.lemmas.List.{length-set, length-append, length-take-le, le
 use Rattle.std.proofs.lemmas.List.Folds.{list_any-append}
 use Rattle.std.proofs.lemmas.Option.{slice_get_within, slice_get-get_or, get_or_from_slice_get, same_Some}
 use Rattle.key_alloc.proofs.Ranges.{in_from}
-use Rattle.list_laws.proofs.Members.{Contains-at, among_contains, contains_among, among_either}
-use Rattle.list_laws.proofs.Places.{slice_get-set_same, slice_get-set_other, take_more_at, map_more_at}
+use Rattle.spin_base.proofs.Members.{Contains-at, among_contains, contains_among, among_either}
+use Rattle.spin_base.proofs.Places.{slice_get-set_same, slice_get-set_other, take_more_at, map_more_at}
 use Rattle.spin_base.specs.declared.blocks.Entry.{Entry}
 use Rattle.spin_base.specs.declared.chips.Chip.{Chip}
 use Rattle.machine_desc.specs.Description.{Description}
 use Rattle.machine_desc.specs.Live.{index_of, chip_of, IsInside}
 use Rattle.machine_desc.proofs.Far.{index_below}
 use Rattle.machine_desc.proofs.Live.{index_of-chip_of, chip_of-inside}
-use Rattle.net_tables.specs.RightTables.{table_at}
+use Rattle.machine_desc.specs.RightTables.{table_at}
 use Rattle.range_store.specs.Regions.{in_range}
 use Rattle.tern_word.specs.declared.tables.Row.{Row}
 use Rattle.tern_word.specs.declared.tables.Table.{Table}
 use Rattle.tern_word.specs.Entries.{entry_of}
 use Rattle.app_loads.specs.declared.loaded.Range.{Range}
-use Rattle.app_loads.specs.Regions.{AreApart, chip_count, has_place, is_taken, rows_region}
+use Rattle.app_loads.specs.Regions.{ShareNoPlace, chip_count, range_has, is_taken, rows_region}
 use Rattle.app_loads.specs.Writing.{AreCopied, CanCopy}
 use Rattle.range_store.proofs.HolePlaces.{clash}
 
@@ -108,18 +108,18 @@ not_in p s k out = elim (cases_lt k p) [
   ]
 ]
 
-pub mine_at : (range : Range) (region k : ℕ) → range.region ≡ region → range.place ≤ k → k < range.place + range.size → has_place region k range ≡ true
+pub mine_at : (range : Range) (region k : ℕ) → range.region ≡ region → range.place ≤ k → k < range.place + range.size → range_has region k range ≡ true
 mine_at range region k is low high = and_from (range.region == region) (in_range range.place range.size k) (eq-eqb range.region region is) (in_from range.place range.size k low high)
 
-pub taken_more : (ranges : List Range) (i : ℕ) (range : Range) (region k : ℕ) → slice_get ranges i ≡ Some range → is_taken (take (i + 1) ranges) region k ≡ (is_taken (take i ranges) region k || (has_place region k range || false))
-taken_more ranges i range region k at = ap (λ l. is_taken l region k) (take_more_at ranges i range at) ∙ list_any-append (has_place region k) (take i ranges) (range ∷ [])
+pub taken_more : (ranges : List Range) (i : ℕ) (range : Range) (region k : ℕ) → slice_get ranges i ≡ Some range → is_taken (take (i + 1) ranges) region k ≡ (is_taken (take i ranges) region k || (range_has region k range || false))
+taken_more ranges i range region k at = ap (λ l. is_taken l region k) (take_more_at ranges i range at) ∙ list_any-append (range_has region k) (take i ranges) (range ∷ [])
 
 -- a place that none of so many ranges and one more has
 pub none_more : (ranges : List Range) (i : ℕ) (range : Range) (region k : ℕ) → slice_get ranges i ≡ Some range → is_taken (take (i + 1) ranges) region k ≡ false →
-    (is_taken (take i ranges) region k ≡ false) × (has_place region k range ≡ false)
+    (is_taken (take i ranges) region k ≡ false) × (range_has region k range ≡ false)
 none_more ranges i range region k at free =
-    let parts = or_parts (is_taken (take i ranges) region k) (has_place region k range || false) (sym (taken_more ranges i range region k at) ∙ free) in
-    (parts.0, (or_parts (has_place region k range) false parts.1).0)
+    let parts = or_parts (is_taken (take i ranges) region k) (range_has region k range || false) (sym (taken_more ranges i range region k at) ∙ free) in
+    (parts.0, (or_parts (range_has region k range) false parts.1).0)
 
 member_more : (ranges : List Range) (i : ℕ) (range other : Range) → slice_get ranges i ≡ Some range → Contains (take (i + 1) ranges) other → Contains (take i ranges) other ⊎ (other ≡ range)
 member_more ranges i range other at has =
@@ -270,13 +270,13 @@ module _ (m : Description) (old : List (List Entry)) (rows : List Table) (ranges
         region_of c same = region0 ∙ ap (λ k. 1 + (n + k)) (index0 ∙ sym same)
 
         -- an earlier range is apart from this one
-        earlier_apart : (other : Range) → Contains (take i ranges) other → AreApart other range
+        earlier_apart : (other : Range) → Contains (take i ranges) other → ShareNoPlace other range
         earlier_apart other has =
             let less : has.0 < i = (let w = has.1 in let l = length-take-le i ranges (omega (arith, below)) in omega (arith, w, l)) in
             let same : get_or ranges has.0 other ≡ other = sym (get_or-take i ranges has.0 other less) ∙ has.2 in
             let pair = can.apart has.0 i other less below in
             let here : get_or ranges i other ≡ range = get_or_from_slice_get ranges i range other at in
-            subst (λ (r : Range). AreApart r range) same (subst (λ (r : Range). AreApart (get_or ranges has.0 other) r) here pair)
+            subst (λ (r : Range). ShareNoPlace r range) same (subst (λ (r : Range). ShareNoPlace (get_or ranges has.0 other) r) here pair)
 
         pub copied_more : AreCopied m rows (take (i + 1) ranges) old (slice_set cur j table)
         copied_more = record {
@@ -316,7 +316,7 @@ module _ (m : Description) (old : List (List Entry)) (rows : List Table) (ranges
               ];
         }
           where
-            out_of : (region k : ℕ) → range.region ≡ region → has_place region k range ≡ false → in_range range.place range.size k ≡ false
+            out_of : (region k : ℕ) → range.region ≡ region → range_has region k range ≡ false → in_range range.place range.size k ≡ false
             out_of region k r f = sym (ap (λ q. q && in_range range.place range.size k) (eq-eqb range.region region r)) ∙ f
 
             apart_here : (c : Chip) (other : Range) → Contains (take i ranges) other → index_of m c ≡ j → other.region ≡ rows_region m c → (k : ℕ) → other.place ≤ k → k < other.place + other.size → in_range range.place range.size k ≡ false

@@ -2,7 +2,7 @@
 use Rattle.std.proofs.Common.{◌≡◌, ℕ, ◌+◌, ◌<◌, ◌≤◌, true, false, List, [], ◌∷◌, refl, sym, ap, ◌∙◌, subst, inl, inr, arith}
 use Rattle.std.proofs.lemmas.Bool.{cases_Bool, cases_lt, or_cases, or_left, or_right}
 use Rattle.range_store.specs.declared.holes.Hole.{Hole}
-use Rattle.range_store.specs.Regions.{AreRuns, has_range, is_free, end_of}
+use Rattle.range_store.specs.Regions.{AreRuns, has_range, is_free, hole_end}
 use Rattle.range_store.proofs.HolePlaces.{clash, has_facts, has_from, free_within}
 use Rattle.app_loads.proofs.Others.{same_tests}
 
@@ -13,26 +13,26 @@ first_free h hs some = or_left (has_range h.place 1 h) (is_free hs h.place) (has
 from_first : (from n : ℕ) (h : Hole) (hs : List Hole) (k : ℕ) → AreRuns from n (h ∷ hs) → is_free (h ∷ hs) k ≡ true → h.place ≤ k
 from_first from n h hs k runs e = elim (or_cases (has_range k 1 h) (is_free hs k) e) [
   | inl here ↦ (let f = has_facts k 1 h here in f.0)
-  | inr later ↦ (let f = free_within (end_of h + 1) n hs k runs.3 later in omega (arith, f.0, runs.1))
+  | inr later ↦ (let f = free_within (hole_end h + 1) n hs k runs.3 later in omega (arith, f.0, runs.1))
 ]
 
 -- the place after the first hole is not free
-end_taken : (from n : ℕ) (h : Hole) (hs : List Hole) → AreRuns from n (h ∷ hs) → is_free (h ∷ hs) (end_of h) ≡ false
-end_taken from n h hs runs = elim (cases_Bool (is_free (h ∷ hs) (end_of h))) [
-  | inl yes' ↦ elim (or_cases (has_range (end_of h) 1 h) (is_free hs (end_of h)) yes') [
-    | inl mine ↦ (let g = has_facts (end_of h) 1 h mine in absurd (omega (arith, g.1)))
-    | inr next ↦ (let g = free_within (end_of h + 1) n hs (end_of h) runs.3 next in absurd (omega (arith, g.0)))
+end_taken : (from n : ℕ) (h : Hole) (hs : List Hole) → AreRuns from n (h ∷ hs) → is_free (h ∷ hs) (hole_end h) ≡ false
+end_taken from n h hs runs = elim (cases_Bool (is_free (h ∷ hs) (hole_end h))) [
+  | inl yes' ↦ elim (or_cases (has_range (hole_end h) 1 h) (is_free hs (hole_end h)) yes') [
+    | inl mine ↦ (let g = has_facts (hole_end h) 1 h mine in absurd (omega (arith, g.1)))
+    | inr next ↦ (let g = free_within (hole_end h + 1) n hs (hole_end h) runs.3 next in absurd (omega (arith, g.0)))
   ]
   | inr no' ↦ no'
 ]
 
 -- one hole ends no later than the other, where the free places are the same
 ends_by : (from n : ℕ) (g h : Hole) (gs hs : List Hole) → AreRuns from n (g ∷ gs) → AreRuns from n (h ∷ hs) → g.place ≡ h.place →
-    ((k : ℕ) → is_free (g ∷ gs) k ≡ is_free (h ∷ hs) k) → end_of h ≤ end_of g
-ends_by from n g h gs hs runs also place same = elim (cases_lt (end_of g) (end_of h)) [
+    ((k : ℕ) → is_free (g ∷ gs) k ≡ is_free (h ∷ hs) k) → hole_end h ≤ hole_end g
+ends_by from n g h gs hs runs also place same = elim (cases_lt (hole_end g) (hole_end h)) [
   | inl before ↦
-      let free : is_free (h ∷ hs) (end_of g) ≡ true = or_left (has_range (end_of g) 1 h) (is_free hs (end_of g)) (has_from (end_of g) 1 h (omega (arith, place)) (omega (arith, before))) in
-      clash free (sym (same (end_of g)) ∙ end_taken from n g gs runs)
+      let free : is_free (h ∷ hs) (hole_end g) ≡ true = or_left (has_range (hole_end g) 1 h) (is_free hs (hole_end g)) (has_from (hole_end g) 1 h (omega (arith, place)) (omega (arith, before))) in
+      clash free (sym (same (hole_end g)) ∙ end_taken from n g gs runs)
   | inr after ↦ after
 ]
 
@@ -46,10 +46,10 @@ same_hole g h p l = same_fields g.place g.len h.place h.len p l
 behind : (from n : ℕ) (g h : Hole) (gs hs : List Hole) → AreRuns from n (g ∷ gs) → g ≡ h →
     ((k : ℕ) → is_free (g ∷ gs) k ≡ is_free (h ∷ hs) k) → (k : ℕ) → is_free gs k ≡ true → is_free hs k ≡ true
 behind from n g h gs hs runs one same k free =
-    let low = free_within (end_of g + 1) n gs k runs.3 free in
+    let low = free_within (hole_end g + 1) n gs k runs.3 free in
     let other : is_free (h ∷ hs) k ≡ true = sym (same k) ∙ or_right (has_range k 1 g) (is_free gs k) free in
     elim (or_cases (has_range k 1 h) (is_free hs k) other) [
-      | inl mine ↦ (let f = has_facts k 1 h mine in let e : end_of g ≡ end_of h = ap end_of one in absurd (omega (arith, f.1, low.0, e)))
+      | inl mine ↦ (let f = has_facts k 1 h mine in let e : hole_end g ≡ hole_end h = ap hole_end one in absurd (omega (arith, f.1, low.0, e)))
       | inr there ↦ there
     ]
 
@@ -65,8 +65,8 @@ same_holes from n (g ∷ gs) (h ∷ hs) runs also same =
     let one = ends_by from n g h gs hs runs also place same in
     let two = ends_by from n h g hs gs also runs (sym place) (λ k. sym (same k)) in
     let heads : g ≡ h = same_hole g h place (omega (arith, place, one, two)) in
-    let e : end_of g ≡ end_of h = ap end_of heads in
+    let e : hole_end g ≡ hole_end h = ap hole_end heads in
     let rest : (k : ℕ) → is_free gs k ≡ is_free hs k =
     λ k. same_tests (is_free gs k) (is_free hs k) (behind from n g h gs hs runs heads same k) (behind from n h g hs gs also (sym heads) (λ j. sym (same j)) k) in
-    let tails : gs ≡ hs = same_holes (end_of g + 1) n gs hs runs.3 (subst (λ i. AreRuns (i + 1) n hs) (sym e) also.3) rest in
+    let tails : gs ≡ hs = same_holes (hole_end g + 1) n gs hs runs.3 (subst (λ i. AreRuns (i + 1) n hs) (sym e) also.3) rest in
     cc

@@ -9,17 +9,17 @@ use Rattle.app_loads.specs.declared.apps.Apps.TheInside.{Inside}
 use Rattle.app_loads.specs.Host.{Host}
 use Rattle.app_loads.specs.Applications.{AreApps}
 use Rattle.app_loads.specs.Inner.{mesh_in, host_of, TellsTaken, IsHost}
-use Rattle.app_loads.specs.Running.{HasMoved}
-use Rattle.packet_runs.specs.Draining.{IsKept, IsAfter, IsMoved}
+use Rattle.app_loads.specs.Running.{HasMovedMesh}
+use Rattle.mesh_drain.specs.Draining.{MeetsSomeLedger, IsAfter, IsMoved}
 use Rattle.app_loads.proofs.Keeping.{apps_after, apps_kept}
-use Rattle.packet_runs.proofs.Moving.{after_none, after_one, after_setup}
+use Rattle.mesh_drain.proofs.Moving.{after_none, after_one, after_setup}
 
 mesh_is : (i : Inside) (m : State) → i.mesh ≡ Some m → (host_of i).mesh ≡ m
 mesh_is i m e = ap mesh_in e
 
 -- the mesh of a host can be drained
-pub host_kept : (i : Inside) (m : State) → IsHost i → i.mesh ≡ Some m → IsKept m
-host_kept i m host e = subst IsKept (mesh_is i m e) (apps_kept (host_of i) host.apps)
+pub host_kept : (i : Inside) (m : State) → IsHost i → i.mesh ≡ Some m → MeetsSomeLedger m
+host_kept i m host e = subst MeetsSomeLedger (mesh_is i m e) (apps_kept (host_of i) host.apps)
 
 after_in : (i : Inside) (m t : State) → i.mesh ≡ Some m → IsAfter m t → IsAfter (host_of i).mesh t
 after_in i m t e after = subst (λ x. IsAfter x t) (sym (mesh_is i m e)) after
@@ -35,9 +35,9 @@ host_after i m t host e after = record {
 }
 
 -- what moved in the mesh, moved in the host
-pub host_moved : (i : Inside) (m t : State) (old : Host) → host_of i ≡ old → i.mesh ≡ Some m → IsMoved m t → HasMoved old (host_of (record i { mesh = Some t }))
+pub host_moved : (i : Inside) (m t : State) (old : Host) → host_of i ≡ old → i.mesh ≡ Some m → IsMoved m t → HasMovedMesh old (host_of (record i { mesh = Some t }))
 host_moved i m t old is e moved =
-    subst (λ h. HasMoved h (host_of (record i { mesh = Some t }))) is
+    subst (λ h. HasMovedMesh h (host_of (record i { mesh = Some t }))) is
     (record { mesh = subst (λ x. IsMoved x t) (sym (mesh_is i m e)) moved; others = refl })
 
 -- whatever a step answers, it is an event or nothing

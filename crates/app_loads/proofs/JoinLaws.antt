@@ -2,7 +2,7 @@
 use Rattle.std.proofs.Common.{◌≡◌, ℕ, suc, ◌+◌, ◌^◌, ◌<◌, List, [], ◌∷◌, length, refl, sym, ◌∙◌, subst, arith, Some}
 use Rattle.std.specs.List.{slice_get, All, AllZip}
 use Rattle.std.proofs.lemmas.List.{length-map}
-use Rattle.list_laws.proofs.Pairs.{AllPairs-right}
+use Rattle.spin_base.proofs.Pairs.{AllPairs-right}
 use Rattle.machine_desc.specs.Description.{Description}
 use Rattle.range_store.specs.Views.{Region}
 use Rattle.mesh_core.specs.State.{State}
@@ -11,10 +11,10 @@ use Rattle.app_loads.specs.declared.loaded.Range.{Range}
 use Rattle.app_loads.specs.declared.plans.AppPlan.{AppPlan}
 use Rattle.app_loads.specs.Applications.{IsLoadedOn, IsRangeFor}
 use Rattle.app_loads.specs.Claims.{AreBlocks, AreServed, claims_of}
-use Rattle.app_loads.specs.Joining.{CanJoin, CanSettle, IsServed, NoneUnsent}
+use Rattle.app_loads.specs.Joining.{CanJoin, CanSettle, IsServedApp, NoneUnsent}
 use Rattle.app_loads.specs.Plans.{IsPlan}
-use Rattle.app_loads.specs.Regions.{AreApart, IsWithin}
-use Rattle.app_loads.specs.Taking.{AreTaken, free_of}
+use Rattle.app_loads.specs.Regions.{ShareNoPlace, IsRangeWithin}
+use Rattle.app_loads.specs.Taking.{AreTaken, free_places_in}
 
 zipped : {X Y : Type 0} (R : X → Y → Type 0) (xs : List X) (ys : List Y) → length ys ≡ length xs → ((i : ℕ) (x : X) (y : Y) → slice_get xs i ≡ Some x → slice_get ys i ≡ Some y → R x y) → AllZip R xs ys
 zipped R [] [] long each = tt
@@ -27,11 +27,11 @@ loaded_from m taken new plan app valid is served have blocks = record {
   plan = subst (IsPlan m) (sym is) valid;
   ranges = subst (λ (p : AppPlan). AllZip IsRangeFor (claims_of m p) app.ranges) (sym is)
       (zipped IsRangeFor (claims_of m plan) app.ranges served.all (λ i claim range p q. let w = served.first.each i claim range p q in (w.region, w.size)));
-  within = subst (λ n. All (IsWithin m n) app.ranges) (sym (length-map new free_of) ∙ have.free.all) have.within;
+  within = subst (λ n. All (IsRangeWithin m n) app.ranges) (sym (length-map new free_places_in) ∙ have.free.all) have.within;
   blocks = subst (λ (p : AppPlan). AreBlocks (claims_of m p) app.ranges p.nets app.blocks) (sym is) blocks;
 }
 
-pub can_settle : (s : State) (old new : List Region) (number first : ℕ) (plan : AppPlan) (app : LoadedApp) → CanJoin s old first plan → IsServed s.setup.machine old number first plan app new → CanSettle s app
+pub can_settle : (s : State) (old new : List Region) (number first : ℕ) (plan : AppPlan) (app : LoadedApp) → CanJoin s old first plan → IsServedApp s.setup.machine old number first plan app new → CanSettle s app
 can_settle s old new number first plan app can served =
     let m = s.setup.machine in
     let own = can.of_machine in
@@ -39,7 +39,7 @@ can_settle s old new number first plan app can served =
     let numbers = can.numbers in
     record {
       loaded = loaded_from m own.taken new plan app can.valid served.plan_is (served.served m own.taken own.apart own.free) taken served.blocks;
-      apart = AllPairs-right AreApart own.taken app.ranges taken.apart;
+      apart = AllPairs-right ShareNoPlace own.taken app.ranges taken.apart;
       numbers = subst (λ n. n + length app.plan.packets < 2 ^ 32) (sym served.first_is) (subst (λ (p : AppPlan). first + length p.packets < 2 ^ 32) (sym served.plan_is) numbers);
       vertices = can.vertices;
       none = subst (λ (p : AppPlan). NoneUnsent s.setup.spots p.nets s.unsent) (sym served.plan_is) can.none;

@@ -4,9 +4,9 @@ use Rattle.std.specs.List.{All}
 use Rattle.mesh_core.specs.State.{Setup, State, IsMesh}
 use Rattle.mesh_core.specs.Ledger.{MeetsLedgerFor, label_of}
 use Rattle.mesh_core.proofs.EventsLaw.{IsMesh-after_events, events_keep_for}
-use Rattle.net_tables.specs.RightTables.{AreRight}
-use Rattle.packet_runs.specs.Draining.{IsKept, IsAfter}
-use Rattle.packet_runs.proofs.Moving.{after_setup}
+use Rattle.machine_desc.specs.RightTables.{AreRight}
+use Rattle.mesh_drain.specs.Draining.{MeetsSomeLedger, IsAfter}
+use Rattle.mesh_drain.proofs.Moving.{after_setup}
 use Rattle.app_loads.specs.Host.{Host, all_nets, all_ranges, asked_of}
 use Rattle.app_loads.specs.Regions.{AreFreeBeside}
 use Rattle.app_loads.specs.Applications.{AreApps, IsLoadedOn, HaveRows}
@@ -41,5 +41,5 @@ apps_after h mesh apps after =
     apps
 
 -- the mesh of a host can be drained
-pub apps_kept : (h : Host) → AreApps h → IsKept h.mesh
+pub apps_kept : (h : Host) → AreApps h → MeetsSomeLedger h.mesh
 apps_kept h apps = record { mesh = apps.mesh; nets = all_nets h.apps; labels = λ i. label_of (asked_of h.apps i); right = apps.right; ledger = apps.ledger.ledger }

@@ -6,22 +6,22 @@ use Rattle.std.proofs.lemmas.Bool.{cases_lt}
 use Rattle.std.proofs.lemmas.List.{take_more, take_all}
 use Rattle.std.proofs.lemmas.List.Concat.{flat_map-append}
 use Rattle.std.proofs.lemmas.Option.{slice_get-get_or}
-use Rattle.list_laws.specs.Gathered.{gathered}
-use Rattle.list_laws.proofs.Members.{Among, among_contains, contains_among, among_left, among_right, among_either, among_map, map_among, among_at}
-use Rattle.list_laws.proofs.Gathering.{gathered_among}
-use Rattle.list_laws.proofs.Places.{map_more_at, All-at}
+use Rattle.spin_base.specs.Gathered.{gathered}
+use Rattle.spin_base.proofs.Members.{Among, among_contains, contains_among, among_left, among_right, among_either, among_map, map_among, among_at}
+use Rattle.spin_base.proofs.Gathering.{gathered_among}
+use Rattle.spin_base.proofs.Places.{map_more_at, All-at}
 use Rattle.machine_desc.specs.Live.{chip_of}
 use Rattle.spin_base.specs.declared.chips.Chip.{Chip}
 use Rattle.spin_base.specs.declared.copies.McCopy.{McCopy}
 use Rattle.spin_base.specs.declared.routes.Out.{Out}
-use Rattle.mesh_core.specs.State.{State, Hand, IsMesh}
+use Rattle.mesh_core.specs.State.{State, Hand, FitsHand, IsMesh}
 use Rattle.mesh_core.specs.Trail.{Station, unsent, in_queue, in_hand, at_core, delivered, dumped, Mark}
-use Rattle.mesh_core.specs.Ledger.{marks_of, marked, hand_marks, port_of, unsent_marks, input_marks, all_hand_marks, core_marks}
+use Rattle.mesh_core.specs.Ledger.{marks_of, marks_at, hand_marks, port_of, unsent_marks, input_marks, all_hand_marks, core_marks}
 use Rattle.mesh_core.proofs.Moves.{mark}
 use Rattle.mesh_core.proofs.Standing.{mark_stands, StandsAt}
 use Rattle.app_loads.proofs.ClaimCases.{among_flat, flat_among}
 use Rattle.app_loads.specs.declared.loaded.LoadedApp.{LoadedApp}
-use Rattle.app_loads.specs.Leaving.{is_packet_of, IsUnderWay, WaitsIn, NoneUnderWay, IsLeastUnderWay, own_packet, lesser_of, least_of, packets_of, held_packets}
+use Rattle.app_loads.specs.Leaving.{is_packet_of, IsUnderWayAt, WaitsIn, NoneUnderWay, IsLeastUnderWay, own_packet, lesser_of, least_own_packet, packet_numbers_of, held_packets}
 use Rattle.app_loads.proofs.LeavingLists.{after_cores, after_hands, after_inputs, after_unsent}
 
 -- ---- the least of some numbers
@@ -40,26 +40,26 @@ lesser_assoc (Some x) (Some y) (Some z) = ap Some (three x y z)
     three m n o = omega arith
 
 module _ (app : LoadedApp) where
-  pub least_append : (xs ys : List ℕ) → least_of app (xs ++ ys) ≡ lesser_of (least_of app xs) (least_of app ys)
+  pub least_append : (xs ys : List ℕ) → least_own_packet app (xs ++ ys) ≡ lesser_of (least_own_packet app xs) (least_own_packet app ys)
   least_append [] ys = refl
   least_append (x ∷ xs) ys =
-      ap (lesser_of (own_packet app x)) (least_append xs ys) ∙ sym (lesser_assoc (own_packet app x) (least_of app xs) (least_of app ys))
+      ap (lesser_of (own_packet app x)) (least_append xs ys) ∙ sym (lesser_assoc (own_packet app x) (least_own_packet app xs) (least_own_packet app ys))
 
   -- the least so far, where more numbers come
-  pub least_more : (so_far least next : Option ℕ) (xs ys more : List ℕ) → least ≡ lesser_of so_far (least_of app xs) → next ≡ lesser_of least (least_of app ys) → more ≡ xs ++ ys →
-      next ≡ lesser_of so_far (least_of app more)
+  pub least_more : (so_far least next : Option ℕ) (xs ys more : List ℕ) → least ≡ lesser_of so_far (least_own_packet app xs) → next ≡ lesser_of least (least_own_packet app ys) → more ≡ xs ++ ys →
+      next ≡ lesser_of so_far (least_own_packet app more)
   least_more so_far least next xs ys more was is all =
-      is ∙ (ap (λ o. lesser_of o (least_of app ys)) was ∙ (lesser_assoc so_far (least_of app xs) (least_of app ys)
-      ∙ (ap (lesser_of so_far) (sym (least_append xs ys)) ∙ ap (λ l. lesser_of so_far (least_of app l)) (sym all))))
+      is ∙ (ap (λ o. lesser_of o (least_own_packet app ys)) was ∙ (lesser_assoc so_far (least_own_packet app xs) (least_own_packet app ys)
+      ∙ (ap (lesser_of so_far) (sym (least_append xs ys)) ∙ ap (λ l. lesser_of so_far (least_own_packet app l)) (sym all))))
 
   -- the least of the application's numbers in a list, if it has one
   abbrev IsLeastIn : List ℕ → Option ℕ → Type 0
   IsLeastIn xs (Some p) = Among p xs × (is_packet_of app p ≡ true) × ((q : ℕ) → Among q xs → is_packet_of app q ≡ true → p ≤ q)
   IsLeastIn xs None = (q : ℕ) → Among q xs → is_packet_of app q ≡ true → ⊥
 
-  least_is : (xs : List ℕ) → IsLeastIn xs (least_of app xs)
+  least_is : (xs : List ℕ) → IsLeastIn xs (least_own_packet app xs)
   least_is [] = λ q a is. absurd a
-  least_is (x ∷ xs) = by_parts (is_packet_of app x) refl (least_of app xs) (least_is xs)
+  least_is (x ∷ xs) = by_parts (is_packet_of app x) refl (least_own_packet app xs) (least_is xs)
     where
       at_head : (q : ℕ) → q ≡ x → is_packet_of app q ≡ true → is_packet_of app x ≡ true
       at_head q e is = ap (is_packet_of app) (sym e) ∙ is
@@ -85,62 +85,62 @@ module _ (app : LoadedApp) where
 
 module _ (app : LoadedApp) (so_far least next : Option ℕ) where
   -- one list more of those that a function makes
-  pub list_more : {X : Type 0} (f : X → List ℕ) (xs : List X) (i : ℕ) (x : X) → i < length xs → x ≡ get_or xs i x → least ≡ lesser_of so_far (least_of app (flat_map f (take i xs))) →
-      next ≡ lesser_of least (least_of app (f x)) → next ≡ lesser_of so_far (least_of app (flat_map f (take (i + 1) xs)))
+  pub list_more : {X : Type 0} (f : X → List ℕ) (xs : List X) (i : ℕ) (x : X) → i < length xs → x ≡ get_or xs i x → least ≡ lesser_of so_far (least_own_packet app (flat_map f (take i xs))) →
+      next ≡ lesser_of least (least_own_packet app (f x)) → next ≡ lesser_of so_far (least_own_packet app (flat_map f (take (i + 1) xs)))
   list_more {X} f xs i x below is was found =
       least_more app so_far least next (flat_map f (take i xs)) (f x) (flat_map f (take (i + 1) xs)) was found
       (ap (flat_map f) (take_more xs i x below)
       ∙ (flat_map-append f (take i xs) (get_or xs i x ∷ []) ∙ (ap (λ l. flat_map f (take i xs) ++ l) (append-nil (f (get_or xs i x))) ∙ ap (λ (y : X). flat_map f (take i xs) ++ f y) (sym is))))
 
   -- one copy more
-  pub copy_more : (copies : List McCopy) (i : ℕ) (d : McCopy) → i < length copies → least ≡ lesser_of so_far (least_of app (packets_of (take i copies))) →
-      next ≡ lesser_of least (own_packet app (get_or copies i d).packet) → next ≡ lesser_of so_far (least_of app (packets_of (take (i + 1) copies)))
+  pub copy_more : (copies : List McCopy) (i : ℕ) (d : McCopy) → i < length copies → least ≡ lesser_of so_far (least_own_packet app (packet_numbers_of (take i copies))) →
+      next ≡ lesser_of least (own_packet app (get_or copies i d).packet) → next ≡ lesser_of so_far (least_own_packet app (packet_numbers_of (take (i + 1) copies)))
   copy_more copies i d below was found =
-      least_more app so_far least next (packets_of (take i copies)) ((get_or copies i d).packet ∷ []) (packets_of (take (i + 1) copies)) was
+      least_more app so_far least next (packet_numbers_of (take i copies)) ((get_or copies i d).packet ∷ []) (packet_numbers_of (take (i + 1) copies)) was
       (found ∙ ap (lesser_of least) (sym (none_right (own_packet app (get_or copies i d).packet))))
       (map_more_at (λ (k : McCopy). k.packet) copies i (get_or copies i d) (slice_get-get_or copies i d below))
 
   -- all of them
-  pub all_lists : {X : Type 0} (f : X → List ℕ) (xs : List X) (i : ℕ) → length xs ≤ i → least ≡ lesser_of so_far (least_of app (flat_map f (take i xs))) →
-      least ≡ lesser_of so_far (least_of app (flat_map f xs))
-  all_lists f xs i all was = was ∙ ap (λ l. lesser_of so_far (least_of app (flat_map f l))) (take_all i xs all)
+  pub all_lists : {X : Type 0} (f : X → List ℕ) (xs : List X) (i : ℕ) → length xs ≤ i → least ≡ lesser_of so_far (least_own_packet app (flat_map f (take i xs))) →
+      least ≡ lesser_of so_far (least_own_packet app (flat_map f xs))
+  all_lists f xs i all was = was ∙ ap (λ l. lesser_of so_far (least_own_packet app (flat_map f l))) (take_all i xs all)
 
 -- ---- the packets under way
 
 -- the packets of all copies that are unsent or wait
 abbrev pub under_way : State → List ℕ
-under_way s = ((flat_map packets_of s.unsent ++ flat_map packets_of s.inputs) ++ flat_map held_packets s.hands) ++ flat_map packets_of s.cores
+under_way s = ((flat_map packet_numbers_of s.unsent ++ flat_map packet_numbers_of s.inputs) ++ flat_map held_packets s.hands) ++ flat_map packet_numbers_of s.cores
 
 module _ (s : State) where
-  in_unsent : (n : ℕ) → Among n (flat_map packets_of s.unsent) → Among n (under_way s)
+  in_unsent : (n : ℕ) → Among n (flat_map packet_numbers_of s.unsent) → Among n (under_way s)
   in_unsent n a =
-      among_left n ((flat_map packets_of s.unsent ++ flat_map packets_of s.inputs) ++ flat_map held_packets s.hands) (flat_map packets_of s.cores)
-      (among_left n (flat_map packets_of s.unsent ++ flat_map packets_of s.inputs) (flat_map held_packets s.hands)
-      (among_left n (flat_map packets_of s.unsent) (flat_map packets_of s.inputs) a))
+      among_left n ((flat_map packet_numbers_of s.unsent ++ flat_map packet_numbers_of s.inputs) ++ flat_map held_packets s.hands) (flat_map packet_numbers_of s.cores)
+      (among_left n (flat_map packet_numbers_of s.unsent ++ flat_map packet_numbers_of s.inputs) (flat_map held_packets s.hands)
+      (among_left n (flat_map packet_numbers_of s.unsent) (flat_map packet_numbers_of s.inputs) a))
 
-  in_inputs : (n : ℕ) → Among n (flat_map packets_of s.inputs) → Among n (under_way s)
+  in_inputs : (n : ℕ) → Among n (flat_map packet_numbers_of s.inputs) → Among n (under_way s)
   in_inputs n a =
-      among_left n ((flat_map packets_of s.unsent ++ flat_map packets_of s.inputs) ++ flat_map held_packets s.hands) (flat_map packets_of s.cores)
-      (among_left n (flat_map packets_of s.unsent ++ flat_map packets_of s.inputs) (flat_map held_packets s.hands)
-      (among_right n (flat_map packets_of s.unsent) (flat_map packets_of s.inputs) a))
+      among_left n ((flat_map packet_numbers_of s.unsent ++ flat_map packet_numbers_of s.inputs) ++ flat_map held_packets s.hands) (flat_map packet_numbers_of s.cores)
+      (among_left n (flat_map packet_numbers_of s.unsent ++ flat_map packet_numbers_of s.inputs) (flat_map held_packets s.hands)
+      (among_right n (flat_map packet_numbers_of s.unsent) (flat_map packet_numbers_of s.inputs) a))
 
   in_hands : (n : ℕ) → Among n (flat_map held_packets s.hands) → Among n (under_way s)
   in_hands n a =
-      among_left n ((flat_map packets_of s.unsent ++ flat_map packets_of s.inputs) ++ flat_map held_packets s.hands) (flat_map packets_of s.cores)
-      (among_right n (flat_map packets_of s.unsent ++ flat_map packets_of s.inputs) (flat_map held_packets s.hands) a)
+      among_left n ((flat_map packet_numbers_of s.unsent ++ flat_map packet_numbers_of s.inputs) ++ flat_map held_packets s.hands) (flat_map packet_numbers_of s.cores)
+      (among_right n (flat_map packet_numbers_of s.unsent ++ flat_map packet_numbers_of s.inputs) (flat_map held_packets s.hands) a)
 
-  in_cores : (n : ℕ) → Among n (flat_map packets_of s.cores) → Among n (under_way s)
-  in_cores n a = among_right n ((flat_map packets_of s.unsent ++ flat_map packets_of s.inputs) ++ flat_map held_packets s.hands) (flat_map packets_of s.cores) a
+  in_cores : (n : ℕ) → Among n (flat_map packet_numbers_of s.cores) → Among n (under_way s)
+  in_cores n a = among_right n ((flat_map packet_numbers_of s.unsent ++ flat_map packet_numbers_of s.inputs) ++ flat_map held_packets s.hands) (flat_map packet_numbers_of s.cores) a
 
   place_of : {X : Type 0} (x : X) (xs : List X) → Among x xs → (i : ℕ) × (slice_get xs i ≡ Some x)
   place_of x xs a = let has = among_contains x xs a in (has.0, slice_get-get_or xs has.0 x has.1 ∙ ap Some has.2)
 
   -- the packet of a copy in a list of queues
-  of_queue : (queues : List (List McCopy)) (i : ℕ) (q : List McCopy) (c : McCopy) → slice_get queues i ≡ Some q → Among c q → Among c.packet (flat_map packets_of queues)
-  of_queue queues i q c at a = flat_among packets_of c.packet queues q (among_at queues i q at) (map_among (λ (k : McCopy). k.packet) c q a)
+  of_queue : (queues : List (List McCopy)) (i : ℕ) (q : List McCopy) (c : McCopy) → slice_get queues i ≡ Some q → Among c q → Among c.packet (flat_map packet_numbers_of queues)
+  of_queue queues i q c at a = flat_among packet_numbers_of c.packet queues q (among_at queues i q at) (map_among (λ (k : McCopy). k.packet) c q a)
 
   -- a copy that stands there is of one of the packets under way
-  listed : (c : McCopy) (at : Station) → IsUnderWay at → StandsAt s c at → Among c.packet (under_way s)
+  listed : (c : McCopy) (at : Station) → IsUnderWayAt at → StandsAt s c at → Among c.packet (under_way s)
   listed c (unsent v) under (q, at, a) = in_unsent c.packet (of_queue s.unsent v q c at a)
   listed c (in_queue chip port) under (i, q, at, is_chip, is_port, a) = in_inputs c.packet (of_queue s.inputs i q c at a)
   listed c (in_hand chip out) under (i, h, at, is_chip, is, a) =
@@ -151,17 +151,17 @@ module _ (s : State) where
 
   -- a mark of this packet that is under way
   abbrev IsMarked : ℕ → List Mark → Type 0
-  IsMarked n marks = (k : Mark) × Among k marks × (k.copy.packet ≡ n) × IsUnderWay k.station
+  IsMarked n marks = (k : Mark) × Among k marks × (k.copy.packet ≡ n) × IsUnderWayAt k.station
 
   -- a copy in a list of queues has a mark, at the station of its queue
-  queue_marked : (st : ℕ → Station) → ((i : ℕ) → IsUnderWay (st i)) → (queues : List (List McCopy)) (n : ℕ) → Among n (flat_map packets_of queues) →
-      IsMarked n (gathered (λ i copies. marked (st i) copies) 0 queues)
+  queue_marked : (st : ℕ → Station) → ((i : ℕ) → IsUnderWayAt (st i)) → (queues : List (List McCopy)) (n : ℕ) → Among n (flat_map packet_numbers_of queues) →
+      IsMarked n (gathered (λ i copies. marks_at (st i) copies) 0 queues)
   queue_marked st under queues n a =
-      let queue = among_flat packets_of n queues a in
+      let queue = among_flat packet_numbers_of n queues a in
       let copy = among_map (λ (c : McCopy). c.packet) n queue.0 queue.2 in
       let at = place_of queue.0 queues queue.1 in (
         mark copy.0 (st at.0),
-        gathered_among (λ i copies. marked (st i) copies) (mark copy.0 (st at.0)) queues at.0 queue.0 at.1 (map_among (λ (c : McCopy). mark c (st at.0)) copy.0 queue.0 copy.1),
+        gathered_among (λ i copies. marks_at (st i) copies) (mark copy.0 (st at.0)) queues at.0 queue.0 at.1 (map_among (λ (c : McCopy). mark c (st at.0)) copy.0 queue.0 copy.1),
         sym copy.2,
         under at.0,
       )
@@ -171,14 +171,14 @@ module _ (s : State) where
   hand_marked mesh n a =
       let hand = among_flat held_packets n s.hands a in
       let at = place_of hand.0 s.hands hand.1 in
-      let found = of_hand (chip_of s.setup.machine at.0) hand.0 (All-at (λ h. IfSome h (λ held. held.outs ≢ [])) s.hands at.0 hand.0 mesh.hands_with_outputs at.1) hand.2 in
+      let found = of_hand (chip_of s.setup.machine at.0) hand.0 (All-at (λ h. IfSome h FitsHand) s.hands at.0 hand.0 mesh.hands_fit at.1) hand.2 in
       (found.0, gathered_among (λ i h. hand_marks (chip_of s.setup.machine i) h) found.0 s.hands at.0 hand.0 at.1 found.1, found.2, found.3)
     where
-      of_hand : (c : Chip) (h : Option Hand) → IfSome h (λ held. held.outs ≢ []) → Among n (held_packets h) → IsMarked n (hand_marks c h)
+      of_hand : (c : Chip) (h : Option Hand) → IfSome h FitsHand → Among n (held_packets h) → IsMarked n (hand_marks c h)
       of_hand c (Some h) some (inl is) = by_outs h.outs refl
         where
           by_outs : (outs : List Out) → h.outs ≡ outs → IsMarked n (hand_marks c (Some h))
-          by_outs [] none = absurd (some none)
+          by_outs [] none = absurd (some.outputs none)
           by_outs (o ∷ outs) has =
               (mark h.copy (in_hand c o), map_among (λ (out : Out). mark h.copy (in_hand c out)) o h.outs (subst (λ l. Among o l) (sym has) (inl refl)), sym is, tt)
       of_hand c (Some h) some (inr none) = absurd none
@@ -186,22 +186,22 @@ module _ (s : State) where
 
   -- each of the packets under way has a mark
   has_mark : IsMesh s → (n : ℕ) → Among n (under_way s) → IsMarked n (marks_of s)
-  has_mark mesh n a = by_cores (among_either n ((flat_map packets_of s.unsent ++ flat_map packets_of s.inputs) ++ flat_map held_packets s.hands) (flat_map packets_of s.cores) a)
+  has_mark mesh n a = by_cores (among_either n ((flat_map packet_numbers_of s.unsent ++ flat_map packet_numbers_of s.inputs) ++ flat_map held_packets s.hands) (flat_map packet_numbers_of s.cores) a)
     where
-      by_unsent : Among n (flat_map packets_of s.unsent) ⊎ Among n (flat_map packets_of s.inputs) → IsMarked n (marks_of s)
+      by_unsent : Among n (flat_map packet_numbers_of s.unsent) ⊎ Among n (flat_map packet_numbers_of s.inputs) → IsMarked n (marks_of s)
       by_unsent (inl b) = let m = queue_marked unsent (λ i. tt) s.unsent n b in (m.0, among_left m.0 (unsent_marks s) (after_unsent s) m.1, m.2, m.3)
       by_unsent (inr b) =
           let m = queue_marked (λ i. in_queue (chip_of s.setup.machine (i / 7)) (port_of (i % 7))) (λ i. tt) s.inputs n b in
           (m.0, among_right m.0 (unsent_marks s) (after_unsent s) (among_left m.0 (input_marks s) (after_inputs s) m.1), m.2, m.3)
 
-      by_hands : Among n (flat_map packets_of s.unsent ++ flat_map packets_of s.inputs) ⊎ Among n (flat_map held_packets s.hands) → IsMarked n (marks_of s)
-      by_hands (inl b) = by_unsent (among_either n (flat_map packets_of s.unsent) (flat_map packets_of s.inputs) b)
+      by_hands : Among n (flat_map packet_numbers_of s.unsent ++ flat_map packet_numbers_of s.inputs) ⊎ Among n (flat_map held_packets s.hands) → IsMarked n (marks_of s)
+      by_hands (inl b) = by_unsent (among_either n (flat_map packet_numbers_of s.unsent) (flat_map packet_numbers_of s.inputs) b)
       by_hands (inr b) =
           let m = hand_marked mesh n b in
           (m.0, among_right m.0 (unsent_marks s) (after_unsent s) (among_right m.0 (input_marks s) (after_inputs s) (among_left m.0 (all_hand_marks s) (after_hands s) m.1)), m.2, m.3)
 
-      by_cores : Among n ((flat_map packets_of s.unsent ++ flat_map packets_of s.inputs) ++ flat_map held_packets s.hands) ⊎ Among n (flat_map packets_of s.cores) → IsMarked n (marks_of s)
-      by_cores (inl b) = by_hands (among_either n (flat_map packets_of s.unsent ++ flat_map packets_of s.inputs) (flat_map held_packets s.hands) b)
+      by_cores : Among n ((flat_map packet_numbers_of s.unsent ++ flat_map packet_numbers_of s.inputs) ++ flat_map held_packets s.hands) ⊎ Among n (flat_map packet_numbers_of s.cores) → IsMarked n (marks_of s)
+      by_cores (inl b) = by_hands (among_either n (flat_map packet_numbers_of s.unsent ++ flat_map packet_numbers_of s.inputs) (flat_map held_packets s.hands) b)
       by_cores (inr b) =
           let m = queue_marked at_core (λ i. tt) s.cores n b in
           (m.0, among_right m.0 (unsent_marks s) (after_unsent s) (among_right m.0 (input_marks s) (after_inputs s) (among_right m.0 (all_hand_marks s) (after_hands s) (among_left m.0 (core_marks s) (after_cores s) m.1))), m.2, m.3)
@@ -216,29 +216,29 @@ module _ (s : State) where
 
   -- what a scan of all lists finds
   pub scanned : (app : LoadedApp) (at_start at_ports at_cores : List (List McCopy)) (of_routers : List (Option Hand)) (a b c d : Option ℕ) →
-      at_start ≡ s.unsent → at_ports ≡ s.inputs → of_routers ≡ s.hands → at_cores ≡ s.cores → a ≡ lesser_of None (least_of app (flat_map packets_of at_start)) →
-      b ≡ lesser_of a (least_of app (flat_map packets_of at_ports)) → c ≡ lesser_of b (least_of app (flat_map held_packets of_routers)) → d ≡ lesser_of c (least_of app (flat_map packets_of at_cores)) →
-      d ≡ least_of app (under_way s)
+      at_start ≡ s.unsent → at_ports ≡ s.inputs → of_routers ≡ s.hands → at_cores ≡ s.cores → a ≡ lesser_of None (least_own_packet app (flat_map packet_numbers_of at_start)) →
+      b ≡ lesser_of a (least_own_packet app (flat_map packet_numbers_of at_ports)) → c ≡ lesser_of b (least_own_packet app (flat_map held_packets of_routers)) → d ≡ lesser_of c (least_own_packet app (flat_map packet_numbers_of at_cores)) →
+      d ≡ least_own_packet app (under_way s)
   scanned app at_start at_ports at_cores of_routers a b c d is_unsent is_inputs is_hands is_cores is_a is_b is_c is_d =
-      let two = least_more app None a b (flat_map packets_of at_start) (flat_map packets_of at_ports) (flat_map packets_of at_start ++ flat_map packets_of at_ports) is_a is_b refl in
-      let three = least_more app None b c (flat_map packets_of at_start ++ flat_map packets_of at_ports) (flat_map held_packets of_routers)
-      ((flat_map packets_of at_start ++ flat_map packets_of at_ports) ++ flat_map held_packets of_routers) two is_c refl in
-      least_more app None c d ((flat_map packets_of at_start ++ flat_map packets_of at_ports) ++ flat_map held_packets of_routers) (flat_map packets_of at_cores) (under_way s) three is_d
-      (sym (ap (λ l. ((flat_map packets_of l ++ flat_map packets_of at_ports) ++ flat_map held_packets of_routers) ++ flat_map packets_of at_cores) is_unsent
-      ∙ (ap (λ l. ((flat_map packets_of s.unsent ++ flat_map packets_of l) ++ flat_map held_packets of_routers) ++ flat_map packets_of at_cores) is_inputs
-      ∙ (ap (λ l. ((flat_map packets_of s.unsent ++ flat_map packets_of s.inputs) ++ flat_map held_packets l) ++ flat_map packets_of at_cores) is_hands
-      ∙ ap (λ l. ((flat_map packets_of s.unsent ++ flat_map packets_of s.inputs) ++ flat_map held_packets s.hands) ++ flat_map packets_of l) is_cores))))
+      let two = least_more app None a b (flat_map packet_numbers_of at_start) (flat_map packet_numbers_of at_ports) (flat_map packet_numbers_of at_start ++ flat_map packet_numbers_of at_ports) is_a is_b refl in
+      let three = least_more app None b c (flat_map packet_numbers_of at_start ++ flat_map packet_numbers_of at_ports) (flat_map held_packets of_routers)
+      ((flat_map packet_numbers_of at_start ++ flat_map packet_numbers_of at_ports) ++ flat_map held_packets of_routers) two is_c refl in
+      least_more app None c d ((flat_map packet_numbers_of at_start ++ flat_map packet_numbers_of at_ports) ++ flat_map held_packets of_routers) (flat_map packet_numbers_of at_cores) (under_way s) three is_d
+      (sym (ap (λ l. ((flat_map packet_numbers_of l ++ flat_map packet_numbers_of at_ports) ++ flat_map held_packets of_routers) ++ flat_map packet_numbers_of at_cores) is_unsent
+      ∙ (ap (λ l. ((flat_map packet_numbers_of s.unsent ++ flat_map packet_numbers_of l) ++ flat_map held_packets of_routers) ++ flat_map packet_numbers_of at_cores) is_inputs
+      ∙ (ap (λ l. ((flat_map packet_numbers_of s.unsent ++ flat_map packet_numbers_of s.inputs) ++ flat_map held_packets l) ++ flat_map packet_numbers_of at_cores) is_hands
+      ∙ ap (λ l. ((flat_map packet_numbers_of s.unsent ++ flat_map packet_numbers_of s.inputs) ++ flat_map held_packets s.hands) ++ flat_map packet_numbers_of l) is_cores))))
 
   -- so the least found is the least that waits, and where none is found, none waits
-  pub least_waits : IsMesh s → (app : LoadedApp) (o : Option ℕ) → o ≡ least_of app (under_way s) → IfSome o (IsLeastUnderWay s app)
-  least_waits mesh app o is = subst (λ (r : Option ℕ). IfSome r (IsLeastUnderWay s app)) (sym is) (by_least (least_of app (under_way s)) (least_is app (under_way s)))
+  pub least_waits : IsMesh s → (app : LoadedApp) (o : Option ℕ) → o ≡ least_own_packet app (under_way s) → IfSome o (IsLeastUnderWay s app)
+  least_waits mesh app o is = subst (λ (r : Option ℕ). IfSome r (IsLeastUnderWay s app)) (sym is) (by_least (least_own_packet app (under_way s)) (least_is app (under_way s)))
     where
       by_least : (r : Option ℕ) → IsLeastIn app (under_way s) r → IfSome r (IsLeastUnderWay s app)
       by_least None none = tt
       by_least (Some p) least = (listed_waits mesh app p least.1 least.0, λ q waits. least.2 q (waits_listed app q waits) waits.0)
 
-  pub none_waits : (app : LoadedApp) (o : Option ℕ) → o ≡ least_of app (under_way s) → IfNone o (NoneUnderWay s app)
-  none_waits app o is = subst (λ (r : Option ℕ). IfNone r (NoneUnderWay s app)) (sym is) (by_least (least_of app (under_way s)) (least_is app (under_way s)))
+  pub none_waits : (app : LoadedApp) (o : Option ℕ) → o ≡ least_own_packet app (under_way s) → IfNone o (NoneUnderWay s app)
+  none_waits app o is = subst (λ (r : Option ℕ). IfNone r (NoneUnderWay s app)) (sym is) (by_least (least_own_packet app (under_way s)) (least_is app (under_way s)))
     where
       by_least : (r : Option ℕ) → IsLeastIn app (under_way s) r → IfNone r (NoneUnderWay s app)
       by_least None none = λ q waits. none q (waits_listed app q waits) waits.0

@@ -5,8 +5,8 @@ use Rattle.std.proofs.lemmas.Bool.{cases_Bool, cases_lt, and_from, leb-true, lt-
 use Rattle.std.proofs.lemmas.Bool.Decides.{nat_tests}
 use Rattle.std.proofs.lemmas.List.Elements.{filter-append, Contains-append_left, Contains-append_right}
 use Rattle.std.proofs.lemmas.Option.{slice_get_past}
-use Rattle.list_laws.proofs.Members.{Among, among_contains, among_left, among_right, among_map, Contains-first, Contains-later, Contains-from_filter, Contains-filter}
-use Rattle.list_laws.proofs.Gathering.{among_gathered}
+use Rattle.spin_base.proofs.Members.{Among, among_contains, among_left, among_right, among_map, Contains-first, Contains-later, Contains-from_filter, Contains-filter}
+use Rattle.spin_base.proofs.Gathering.{among_gathered}
 use Rattle.spin_base.specs.declared.blocks.Entry.{Entry}
 use Rattle.spin_base.specs.declared.chips.Spot.{Spot}
 use Rattle.spin_base.specs.declared.copies.McCopy.{McCopy}
@@ -16,12 +16,12 @@ use Rattle.machine_desc.specs.Description.{Description}
 use Rattle.machine_desc.specs.Live.{chip_of}
 use Rattle.machine_desc.specs.Branch.{Exit}
 use Rattle.machine_desc.specs.RoutingTree.{IsRoutingTree}
-use Rattle.net_tables.specs.declared.nets.NetPlan.{NetPlan}
-use Rattle.net_tables.specs.RightTables.{IsKeyOf}
-use Rattle.net_tables.specs.NetsOn.{AreNetsOn, IsWayOn}
+use Rattle.machine_desc.specs.declared.nets.NetPlan.{NetPlan}
+use Rattle.machine_desc.specs.RightTables.{IsKeyOf}
+use Rattle.machine_desc.specs.NetsOn.{AreNetsOn, IsWayOn}
 use Rattle.mesh_core.specs.State.{State, Hand}
 use Rattle.mesh_core.specs.Trail.{Station, unsent, in_queue, in_hand, at_core, delivered, dumped, Mark, is_on_trail, is_packet_on_trail}
-use Rattle.mesh_core.specs.Ledger.{marks_of, marked, hand_marks, port_of, unsent_marks, input_marks, all_hand_marks, core_marks, delivered_marks, dumped_marks, Asked, label_of, MeetsLedgerFor}
+use Rattle.mesh_core.specs.Ledger.{marks_of, marks_at, hand_marks, port_of, unsent_marks, input_marks, all_hand_marks, core_marks, delivered_marks, dumped_marks, Asked, label_of, MeetsLedgerFor}
 use Rattle.mesh_core.specs.Opened.{asked_at, asked_by}
 use Rattle.mesh_core.proofs.AskedPackets.{asked_parts, net_in_list}
 use Rattle.mesh_core.proofs.LedgerLaw.{one_net}
@@ -29,7 +29,7 @@ use Rattle.mesh_core.proofs.Moves.{mark}
 use Rattle.app_loads.specs.declared.loaded.LoadedApp.{LoadedApp}
 use Rattle.app_loads.specs.Host.{Host, all_nets, asked_of, asked_of_app, either, nets_of}
 use Rattle.app_loads.specs.Applications.{AreApps, HaveOtherNumbers}
-use Rattle.app_loads.specs.Leaving.{is_packet_of, IsUnderWay, NoneUnderWay, others_than, mesh_without}
+use Rattle.app_loads.specs.Leaving.{is_packet_of, IsUnderWayAt, NoneUnderWay, others_than, mesh_without}
 use Rattle.app_loads.proofs.Ledgers.{own_net}
 use Rattle.app_loads.proofs.LeavingLists.{after_cores, after_hands, after_inputs, after_unsent, filter_stays, filter_of_map, count_of_filter, either_pair}
 use Rattle.app_loads.proofs.Others.{All-left_in, AllPairs-left_in, Contains-left_in}
@@ -43,36 +43,36 @@ opposite_false false never = refl
 
 -- the marks at these stations are under way
 module _ (s : State) where
-  under_way_by : (k : Mark) (c : McCopy) (at : Station) → IsUnderWay at → k ≡ mark c at → IsUnderWay k.station
-  under_way_by k c at under is = subst (λ (m : Mark). IsUnderWay m.station) (sym is) under
+  under_way_by : (k : Mark) (c : McCopy) (at : Station) → IsUnderWayAt at → k ≡ mark c at → IsUnderWayAt k.station
+  under_way_by k c at under is = subst (λ (m : Mark). IsUnderWayAt m.station) (sym is) under
 
-  pub unsent_under_way : (k : Mark) → Among k (unsent_marks s) → IsUnderWay k.station
+  pub unsent_under_way : (k : Mark) → Among k (unsent_marks s) → IsUnderWayAt k.station
   unsent_under_way k a =
-      let at = among_gathered (λ v (q : List McCopy). marked (unsent v) q) k s.unsent a in
+      let at = among_gathered (λ v (q : List McCopy). marks_at (unsent v) q) k s.unsent a in
       let m = among_map (λ (c : McCopy). mark c (unsent at.0)) k at.1 at.3 in
       under_way_by k m.0 (unsent at.0) tt m.2
 
-  pub inputs_under_way : (k : Mark) → Among k (input_marks s) → IsUnderWay k.station
+  pub inputs_under_way : (k : Mark) → Among k (input_marks s) → IsUnderWayAt k.station
   inputs_under_way k a =
-      let at = among_gathered (λ i (q : List McCopy). marked (in_queue (chip_of s.setup.machine (i / 7)) (port_of (i % 7))) q) k s.inputs a in
+      let at = among_gathered (λ i (q : List McCopy). marks_at (in_queue (chip_of s.setup.machine (i / 7)) (port_of (i % 7))) q) k s.inputs a in
       let place : Station = in_queue (chip_of s.setup.machine (at.0 / 7)) (port_of (at.0 % 7)) in
       let m = among_map (λ (c : McCopy). mark c place) k at.1 at.3 in
       under_way_by k m.0 place tt m.2
 
-  pub hands_under_way : (k : Mark) → Among k (all_hand_marks s) → IsUnderWay k.station
+  pub hands_under_way : (k : Mark) → Among k (all_hand_marks s) → IsUnderWayAt k.station
   hands_under_way k a =
       let at = among_gathered (λ i (h : Option Hand). hand_marks (chip_of s.setup.machine i) h) k s.hands a in
       of_hand at.0 at.1 at.3
     where
-      of_hand : (i : ℕ) (h : Option Hand) → Among k (hand_marks (chip_of s.setup.machine i) h) → IsUnderWay k.station
+      of_hand : (i : ℕ) (h : Option Hand) → Among k (hand_marks (chip_of s.setup.machine i) h) → IsUnderWayAt k.station
       of_hand i (Some h) b =
           let m = among_map (λ o. mark h.copy (in_hand (chip_of s.setup.machine i) o)) k h.outs b in
           under_way_by k h.copy (in_hand (chip_of s.setup.machine i) m.0) tt m.2
       of_hand i None b = absurd b
 
-  pub cores_under_way : (k : Mark) → Among k (core_marks s) → IsUnderWay k.station
+  pub cores_under_way : (k : Mark) → Among k (core_marks s) → IsUnderWayAt k.station
   cores_under_way k a =
-      let at = among_gathered (λ v (q : List McCopy). marked (at_core v) q) k s.cores a in
+      let at = among_gathered (λ v (q : List McCopy). marks_at (at_core v) q) k s.cores a in
       let m = among_map (λ (c : McCopy). mark c (at_core at.0)) k at.1 at.3 in
       under_way_by k m.0 (at_core at.0) tt m.2
 
@@ -82,7 +82,7 @@ is_of_other app k = not (is_packet_of app k.copy.packet)
 
 module _ (app : LoadedApp) (tables : List (List Entry)) (s : State) (none : NoneUnderWay s app) where
   -- a part of the marks that are under way stays as it is
-  part_stays : (part rest : List Mark) → ((k : Mark) → Among k part → IsUnderWay k.station) → ((k : Mark) → Among k part → Among k (marks_of s)) →
+  part_stays : (part rest : List Mark) → ((k : Mark) → Among k part → IsUnderWayAt k.station) → ((k : Mark) → Among k part → Among k (marks_of s)) →
       filter (is_of_other app) (part ++ rest) ≡ part ++ filter (is_of_other app) rest
   part_stays part rest under within =
       filter-append (is_of_other app) part rest

@@ -4,18 +4,18 @@ use Rattle.std.specs.List.{slice_get, slice_set, Contains}
 use Rattle.std.proofs.lemmas.Bool.{cases_eq, eq-eqb, and_from, ne_eqb, and_left}
 use Rattle.std.proofs.lemmas.List.Elements.{Contains-append_left}
 use Rattle.std.proofs.lemmas.Option.{same_Some, none-some}
-use Rattle.list_laws.proofs.Counts.{count_by-cons}
-use Rattle.list_laws.proofs.Exchange.{PutIn, put_in_before, put_in_gathered, count_put_in}
-use Rattle.list_laws.proofs.Members.{Among, among_contains, contains_among, among_left, among_right, among_either, Contains-first, Contains-later}
+use Rattle.spin_base.proofs.Counts.{count_by-cons}
+use Rattle.spin_base.proofs.Exchange.{PutIn, put_in_before, put_in_gathered, count_put_in}
+use Rattle.spin_base.proofs.Members.{Among, among_contains, contains_among, among_left, among_right, among_either, Contains-first, Contains-later}
 use Rattle.spin_base.specs.declared.chips.Spot.{Spot}
 use Rattle.spin_base.specs.declared.copies.McCopy.{McCopy}
 use Rattle.machine_desc.specs.Branch.{Exit}
-use Rattle.net_tables.specs.declared.nets.NetPlan.{NetPlan}
-use Rattle.net_tables.specs.RightTables.{IsKeyOf}
-use Rattle.net_tables.specs.NetsOn.{vertex_at, AreNetsOn, IsWayOn}
+use Rattle.machine_desc.specs.declared.nets.NetPlan.{NetPlan}
+use Rattle.machine_desc.specs.RightTables.{IsKeyOf}
+use Rattle.machine_desc.specs.NetsOn.{vertex_at, AreNetsOn, IsWayOn}
 use Rattle.mesh_core.specs.State.{State}
 use Rattle.mesh_core.specs.Trail.{Station, unsent, Mark, is_on_trail, is_packet_on_trail}
-use Rattle.mesh_core.specs.Ledger.{marks_of, marked, unsent_marks, input_marks, all_hand_marks, core_marks, delivered_marks, dumped_marks, Asked, label_of, MeetsLedgerFor}
+use Rattle.mesh_core.specs.Ledger.{marks_of, marks_at, unsent_marks, input_marks, all_hand_marks, core_marks, delivered_marks, dumped_marks, Asked, label_of, MeetsLedgerFor}
 use Rattle.mesh_core.proofs.LedgerLaw.{one_net}
 use Rattle.mesh_core.proofs.Moves.{mark}
 use Rattle.mesh_core.proofs.Ways.{some_way}
@@ -84,17 +84,17 @@ pub unsent_in : (s : State) (v : ℕ) (k : McCopy) (q : List McCopy) → slice_g
 unsent_in s v k q at =
     let n_is : v ≡ 0 + v = omega arith in
     put_in_before (mark k (unsent v) ∷ []) (unsent_marks s) (unsent_marks (record s { unsent = slice_set s.unsent v (q ++ k ∷ []) })) (behind_unsent s)
-    (put_in_gathered (λ w copies. marked (unsent w) copies) (mark k (unsent v) ∷ []) 0 s.unsent v q (q ++ k ∷ []) at
-    (subst (λ n. PutIn (mark k (unsent v) ∷ []) (marked (unsent n) q) (marked (unsent n) (q ++ k ∷ []))) n_is (at_back (unsent v) q)))
+    (put_in_gathered (λ w copies. marks_at (unsent w) copies) (mark k (unsent v) ∷ []) 0 s.unsent v q (q ++ k ∷ []) at
+    (subst (λ n. PutIn (mark k (unsent v) ∷ []) (marks_at (unsent n) q) (marks_at (unsent n) (q ++ k ∷ []))) n_is (at_back (unsent v) q)))
   where
-    at_back : (p : Station) (l : List McCopy) → PutIn (mark k p ∷ []) (marked p l) (marked p (l ++ k ∷ []))
-    at_back p l = record { front = marked p l; back = []; before_is = sym (nil_right (marked p l)); after_is = mapped p l }
+    at_back : (p : Station) (l : List McCopy) → PutIn (mark k p ∷ []) (marks_at p l) (marks_at p (l ++ k ∷ []))
+    at_back p l = record { front = marks_at p l; back = []; before_is = sym (nil_right (marks_at p l)); after_is = mapped p l }
       where
         nil_right : (m : List Mark) → m ++ [] ≡ m
         nil_right [] = refl
         nil_right (y ∷ ys) = ap (λ r. y ∷ r) (nil_right ys)
 
-        mapped : (p' : Station) (l' : List McCopy) → marked p' (l' ++ k ∷ []) ≡ marked p' l' ++ (mark k p' ∷ [] ++ [])
+        mapped : (p' : Station) (l' : List McCopy) → marks_at p' (l' ++ k ∷ []) ≡ marks_at p' l' ++ (mark k p' ∷ [] ++ [])
         mapped p' [] = refl
         mapped p' (y ∷ ys) = ap (λ r. mark y p' ∷ r) (mapped p' ys)
 

@@ -5,9 +5,9 @@ use Rattle.std.proofs.lemmas.Bool.{cases_Bool, false≢true}
 use Rattle.std.proofs.lemmas.List.{length-map}
 use Rattle.std.proofs.lemmas.List.Elements.{All-contains, All-filter}
 use Rattle.std.proofs.lemmas.List.Kept.{AllPairs-filter}
-use Rattle.list_laws.proofs.Members.{among_any, among_contains, among_either, among_filter, among_left, among_right, any_among, contains_among}
-use Rattle.list_laws.proofs.Pairs.{AllPairs-append}
-use Rattle.list_laws.proofs.Places.{All-each}
+use Rattle.spin_base.proofs.Members.{among_any, among_contains, among_either, among_filter, among_left, among_right, any_among, contains_among}
+use Rattle.spin_base.proofs.Pairs.{AllPairs-append}
+use Rattle.spin_base.proofs.Places.{All-each}
 use Rattle.spin_base.specs.declared.blocks.Entry.{Entry}
 use Rattle.spin_base.specs.declared.chips.Chip.{Chip}
 use Rattle.spin_base.specs.declared.chips.Spot.{Spot}
@@ -15,9 +15,9 @@ use Rattle.spin_base.specs.Equality.{spot_eq}
 use Rattle.spin_base.proofs.Equality.{spot_eq_true}
 use Rattle.machine_desc.specs.Description.{Description}
 use Rattle.machine_desc.specs.Live.{IsInside}
-use Rattle.net_tables.specs.NetsOn.{HaveDisjointBlocks}
-use Rattle.net_tables.specs.RightTables.{IsKeyOf, table_at}
-use Rattle.net_tables.specs.declared.nets.NetPlan.{NetPlan}
+use Rattle.machine_desc.specs.NetsOn.{HaveDisjointBlocks}
+use Rattle.machine_desc.specs.RightTables.{IsKeyOf, table_at}
+use Rattle.machine_desc.specs.declared.nets.NetPlan.{NetPlan}
 use Rattle.range_store.specs.Views.{Region}
 use Rattle.mesh_core.specs.Ledger.{MeetsLedgerFor}
 use Rattle.mesh_core.specs.State.{State}
@@ -28,10 +28,10 @@ use Rattle.app_loads.specs.Applications.{AreApps, HasRows, HaveOtherNumbers, Hav
 use Rattle.app_loads.specs.Host.{Host, all_nets, all_ranges, asked_of, is_spot_taken, nets_of}
 use Rattle.app_loads.specs.Inner.{TellsTaken}
 use Rattle.app_loads.specs.Leaving.{NoneUnderWay, mesh_without, others_than}
-use Rattle.app_loads.specs.Marking.{AreMarked}
-use Rattle.app_loads.specs.Regions.{AreApart, AreFreeBeside, IsWithin, has_place, is_taken, rows_region}
+use Rattle.app_loads.specs.Marking.{AreSpotsMarked}
+use Rattle.app_loads.specs.Regions.{ShareNoPlace, AreFreeBeside, IsRangeWithin, range_has, is_taken, rows_region}
 use Rattle.app_loads.specs.Removing.{HasLeft}
-use Rattle.app_loads.specs.Taking.{AreTaken, free_of, frees}
+use Rattle.app_loads.specs.Taking.{AreTaken, free_places_in, frees}
 use Rattle.app_loads.specs.Unloading.{HasUnloaded, NoneWaits}
 use Rattle.app_loads.proofs.Copying.{mine_at, same_part}
 use Rattle.app_loads.proofs.LeftMesh.{mesh_with}
@@ -40,7 +40,7 @@ use Rattle.app_loads.proofs.Others.{AllPairs-left_in, item_of, mine_or_other, on
 use Rattle.app_loads.proofs.RightRows.{right_rows}
 use Rattle.app_loads.proofs.Serving.{by_taken, taken_by}
 
-flip_apart : (a b : Range) → AreApart a b → AreApart b a
+flip_apart : (a b : Range) → ShareNoPlace a b → ShareNoPlace b a
 flip_apart a b apart region k in_b in_a = apart region k in_a in_b
 
 module _ (h : Host) (apps : AreApps h) (number : ℕ) (app : LoadedApp) (in_apps : Contains h.apps app) (its : app.number ≡ number) where
@@ -76,17 +76,17 @@ module _ (h : Host) (apps : AreApps h) (number : ℕ) (app : LoadedApp) (in_apps
         | inr other ↦ among_left found.0 (all_ranges others) app.ranges (contains_among found.0 (all_ranges others) other)
       ])) found.2)
 
-  others_apart : AllPairs AreApart (all_ranges others)
-  others_apart = AllPairs-left_in ranges_in (λ (a : LoadedApp). not (a.number == number)) AreApart h.apps apps.apart
+  others_apart : AllPairs ShareNoPlace (all_ranges others)
+  others_apart = AllPairs-left_in ranges_in (λ (a : LoadedApp). not (a.number == number)) ShareNoPlace h.apps apps.apart
 
-  apart_from_mine : (r s : Range) → Contains (all_ranges others) r → Contains app.ranges s → AreApart r s
-  apart_from_mine = with_mine h.apps apps.numbers number app in_apps its AreApart flip_apart ranges_in apps.apart
+  apart_from_mine : (r s : Range) → Contains (all_ranges others) r → Contains app.ranges s → ShareNoPlace r s
+  apart_from_mine = with_mine h.apps apps.numbers number app in_apps its ShareNoPlace flip_apart ranges_in apps.apart
 
   pub taken_beside : (regions : List Region) → frees regions ≡ h.regions → AreTaken m (all_ranges others) app.ranges regions
   taken_beside regions same = record {
-    within = subst (λ n. All (IsWithin m n) app.ranges) (sym (sym (length-map regions free_of) ∙ (ap length same ∙ apps.free.all))) loaded_one.within;
-    apart = AllPairs-append AreApart (all_ranges others) app.ranges others_apart (own_pairs AreApart ranges_in h.apps apps.apart app (contains_among app h.apps in_apps))
-        (All-each (λ a. All (AreApart a) app.ranges) (all_ranges others) (λ a in_a. All-each (AreApart a) app.ranges (λ b in_b. apart_from_mine a b in_a in_b)));
+    within = subst (λ n. All (IsRangeWithin m n) app.ranges) (sym (sym (length-map regions free_places_in) ∙ (ap length same ∙ apps.free.all))) loaded_one.within;
+    apart = AllPairs-append ShareNoPlace (all_ranges others) app.ranges others_apart (own_pairs ShareNoPlace ranges_in h.apps apps.apart app (contains_among app h.apps in_apps))
+        (All-each (λ a. All (ShareNoPlace a) app.ranges) (all_ranges others) (λ a in_a. All-each (ShareNoPlace a) app.ranges (λ b in_b. apart_from_mine a b in_a in_b)));
     free = subst (AreFreeBeside m (all_ranges others ++ app.ranges)) (sym same) (record {
       all = apps.free.all;
       each = λ region f at.
@@ -97,7 +97,7 @@ module _ (h : Host) (apps : AreApps h) (number : ℕ) (app : LoadedApp) (in_apps
 
   -- ---- the table of taken spots
 
-  pub tells_less : (old new : List Bool) → TellsTaken m h.apps old → AreMarked m false app.plan.spots old new → TellsTaken m others new
+  pub tells_less : (old new : List Bool) → TellsTaken m h.apps old → AreSpotsMarked m false app.plan.spots old new → TellsTaken m others new
   tells_less old new tells marked = record {
     long = marked.long ∙ tells.long;
     told = λ s inside few. elim (cases_Bool (list_any (spot_eq s) app.plan.spots)) [
@@ -152,7 +152,7 @@ module _ (h : Host) (apps : AreApps h) (number : ℕ) (app : LoadedApp) (in_apps
     now s = record { mesh = s; regions = frees new; apps = others; packets = h.packets }
 
     -- no place of another's range is one of the application's
-    none_of_mine : (r : Range) → Contains (all_ranges others) r → (region k : ℕ) → has_place region k r ≡ true → is_taken app.ranges region k ≡ false
+    none_of_mine : (r : Range) → Contains (all_ranges others) r → (region k : ℕ) → range_has region k r ≡ true → is_taken app.ranges region k ≡ false
     none_of_mine r in_r region k at = elim (cases_Bool (is_taken app.ranges region k)) [
       | inr no_one ↦ no_one
       | inl some ↦ (let found = by_taken app.ranges region k some in absurd (apart_from_mine r found.0 in_r found.1 region k at found.2))

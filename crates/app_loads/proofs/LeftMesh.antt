@@ -10,9 +10,9 @@ use Rattle.range_store.specs.Views.{Region}
 use Rattle.mesh_core.specs.State.{Setup, State, IsMesh}
 use Rattle.app_loads.specs.declared.loaded.LoadedApp.{LoadedApp}
 use Rattle.app_loads.specs.declared.loaded.Range.{Range}
-use Rattle.app_loads.specs.Regions.{AreFreeBeside, IsWithin}
+use Rattle.app_loads.specs.Regions.{AreFreeBeside, IsRangeWithin}
 use Rattle.app_loads.specs.Removing.{CanLeave}
-use Rattle.app_loads.specs.Taking.{AreTaken, free_of, frees}
+use Rattle.app_loads.specs.Taking.{AreTaken, free_places_in, frees}
 use Rattle.app_loads.specs.Writing.{CanClear}
 use Rattle.app_loads.proofs.Settling.{changed_mesh}
 
@@ -31,13 +31,13 @@ can_clear s t same mesh regions app can lent lent_is =
     subst (λ (x : State). CanClear x.setup.machine x.setup.tables lent) (sym same) (subst (CanClear t.setup.machine t.setup.tables) (sym lent_is) (record {
       tables_long = mesh.table_list;
       each_long = can.long;
-      within = subst (λ n. All (IsWithin t.setup.machine n) app.ranges) (sym (length-map regions free_of) ∙ can.taken.free.all) can.taken.within;
+      within = subst (λ n. All (IsRangeWithin t.setup.machine n) app.ranges) (sym (length-map regions free_places_in) ∙ can.taken.free.all) can.taken.within;
     }))
 
 -- ranges are taken as before where room was made for more holes
 pub taken_still : (m : Description) (others ranges lent : List Range) (old new : List Region) → frees new ≡ frees old → lent ≡ ranges → AreTaken m others ranges old → AreTaken m others lent new
 taken_still m others ranges lent old new same lent_is taken = subst (λ (l : List Range). AreTaken m others l new) (sym lent_is) (record {
-  within = subst (λ n. All (IsWithin m n) ranges) (sym (sym (length-map new free_of) ∙ (ap length same ∙ length-map old free_of))) taken.within;
+  within = subst (λ n. All (IsRangeWithin m n) ranges) (sym (sym (length-map new free_places_in) ∙ (ap length same ∙ length-map old free_places_in))) taken.within;
   apart = taken.apart;
   free = subst (AreFreeBeside m (others ++ ranges)) (sym same) taken.free;
 })

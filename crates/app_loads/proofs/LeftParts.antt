@@ -5,7 +5,7 @@ use Rattle.std.specs.List.{slice_get, All, Contains}
 use Rattle.std.proofs.lemmas.Bool.{cases_Bool, eqb-true}
 use Rattle.std.proofs.lemmas.List.Elements.{All-weaker}
 use Rattle.std.proofs.lemmas.Option.{slice_get-get_or, slice_get_within, same_Some}
-use Rattle.list_laws.proofs.Members.{Contains-at, any_among, position_nowhere, position_there}
+use Rattle.spin_base.proofs.Members.{Contains-at, any_among, position_nowhere, position_there}
 use Rattle.spin_base.specs.declared.chips.Spot.{Spot}
 use Rattle.machine_desc.specs.Description.{Description}
 use Rattle.machine_desc.specs.Live.{IsInside, IsUsable}
@@ -23,7 +23,7 @@ use Rattle.app_loads.specs.Applications.{AreApps}
 use Rattle.app_loads.specs.Host.{Host, all_ranges, is_loaded}
 use Rattle.app_loads.specs.Inner.{host_of, IsHost, mesh_in, TellsTaken}
 use Rattle.app_loads.specs.Leaving.{NoneUnderWay, others_than}
-use Rattle.app_loads.specs.Marking.{AreMarked}
+use Rattle.app_loads.specs.Marking.{AreSpotsMarked}
 use Rattle.app_loads.specs.Regions.{AreFreeBeside}
 use Rattle.app_loads.specs.Removing.{CanLeave, HasLeft, IsWhyHere}
 use Rattle.app_loads.specs.Taking.{AreTaken, frees}
@@ -137,7 +137,7 @@ module _ (i : Inside) (mesh : State) (is : i.mesh ≡ Some mesh) (host : IsHost 
     pub ok_unloaded : HasUnloaded h number ended (host_of j)
     ok_unloaded = subst (HasUnloaded h number ended) (sym is_now) (has_unloaded h host.apps number app in_apps its given new old_is back_h ended result left_h none_h)
 
-    pub ok_host : (m : Description) (lent marked : List Bool) (spots : List Spot) → m ≡ mesh.setup.machine → lent ≡ i.taken.items → spots ≡ app.plan.spots → AreMarked m false spots lent marked → j.taken.items ≡ marked → IsHost j
+    pub ok_host : (m : Description) (lent marked : List Bool) (spots : List Spot) → m ≡ mesh.setup.machine → lent ≡ i.taken.items → spots ≡ app.plan.spots → AreSpotsMarked m false spots lent marked → j.taken.items ≡ marked → IsHost j
     ok_host m lent marked spots m_is lent_is spots_is marks j_taken = record {
       there = ap is_some j_mesh;
       apps = ok_apps;
@@ -150,11 +150,11 @@ module _ (i : Inside) (mesh : State) (is : i.mesh ≡ Some mesh) (host : IsHost 
         same_machine : (host_of j).mesh.setup.machine ≡ h.mesh.setup.machine
         same_machine = ap (λ (s : State). s.setup.machine) (ap mesh_in j_mesh ∙ left_h.mesh)
 
-        marks_h : AreMarked h.mesh.setup.machine false app.plan.spots i.taken.items marked
+        marks_h : AreSpotsMarked h.mesh.setup.machine false app.plan.spots i.taken.items marked
         marks_h =
-            subst (λ (l : List Bool). AreMarked h.mesh.setup.machine false app.plan.spots l marked) lent_is
-            (subst (λ (l : List Spot). AreMarked h.mesh.setup.machine false l lent marked) spots_is
-            (subst (λ (d : Description). AreMarked d false spots lent marked) (m_is ∙ sym machine_h) marks))
+            subst (λ (l : List Bool). AreSpotsMarked h.mesh.setup.machine false app.plan.spots l marked) lent_is
+            (subst (λ (l : List Spot). AreSpotsMarked h.mesh.setup.machine false l lent marked) spots_is
+            (subst (λ (d : Description). AreSpotsMarked d false spots lent marked) (m_is ∙ sym machine_h) marks))
 
   module _ (j : Inside) (result : State) (refused : result ≡ mesh) (new : List Region) (same : frees new ≡ frees given)
       (j_mesh : j.mesh ≡ Some result) (j_regions : j.regions.items ≡ new) (j_apps : j.apps.items ≡ i.apps.items) (j_packets : j.packets ≡ i.packets) where

@@ -1,5 +1,6 @@
 mod AppNets
 mod Bare
+mod FewSpots
 mod Holes
 mod Hosts
 mod JoinLaws

@@ -8,9 +8,9 @@ use Rattle.std.proofs.lemmas.List.Elements.{All-append, All-contains, All-weaker
 use Rattle.std.proofs.lemmas.List.Folds.{list_any-append}
 use Rattle.std.proofs.lemmas.Option.{slice_get_within, same_Some, none-some, slice_get-get_or}
 use Rattle.std.proofs.lemmas.List.{take_all, same_lists}
-use Rattle.list_laws.proofs.Members.{Among, Contains-at, among_any, among_left, among_right, among_contains, contains_among}
-use Rattle.list_laws.proofs.Pairs.{AllPairs-append, AllPairs-right, AllPairs-across}
-use Rattle.list_laws.proofs.Places.{All-each, enumerate_more, slice_get_there, slice_get-set_same, slice_get-set_other}
+use Rattle.spin_base.proofs.Members.{Among, Contains-at, among_any, among_left, among_right, among_contains, contains_among}
+use Rattle.spin_base.proofs.Pairs.{AllPairs-append, AllPairs-right, AllPairs-across}
+use Rattle.spin_base.proofs.Places.{All-each, enumerate_more, slice_get_there, slice_get-set_same, slice_get-set_other}
 use Rattle.spin_base.specs.declared.blocks.Entry.{Entry}
 use Rattle.spin_base.specs.declared.chips.Chip.{Chip}
 use Rattle.spin_base.specs.declared.chips.Spot.{Spot}
@@ -23,14 +23,14 @@ use Rattle.machine_desc.specs.Live.{IsInside}
 use Rattle.machine_desc.specs.RoutingTree.{IsRoutingTree}
 use Rattle.range_store.specs.Views.{Region}
 use Rattle.range_store.specs.Regions.{AreRuns}
-use Rattle.net_tables.specs.declared.nets.NetPlan.{NetPlan}
-use Rattle.net_tables.specs.NetsOn.{AreNetsOn, HaveDisjointBlocks, vertex_at}
-use Rattle.net_tables.specs.RightTables.{IsKeyOf, table_at}
+use Rattle.machine_desc.specs.declared.nets.NetPlan.{NetPlan}
+use Rattle.machine_desc.specs.NetsOn.{AreNetsOn, HaveDisjointBlocks, vertex_at}
+use Rattle.machine_desc.specs.RightTables.{IsKeyOf, table_at}
 use Rattle.mesh_core.specs.State.{State}
 use Rattle.mesh_core.specs.Trail.{Mark, unsent}
-use Rattle.mesh_core.specs.Ledger.{MeetsLedgerFor, marks_of, marked, unsent_marks, input_marks, all_hand_marks, core_marks, delivered_marks, dumped_marks}
+use Rattle.mesh_core.specs.Ledger.{MeetsLedgerFor, marks_of, marks_at, unsent_marks, input_marks, all_hand_marks, core_marks, delivered_marks, dumped_marks}
 use Rattle.mesh_core.proofs.Ways.{vertex_at_stands}
-use Rattle.list_laws.proofs.Gathering.{gathered_among}
+use Rattle.spin_base.proofs.Gathering.{gathered_among}
 use Rattle.mesh_core.specs.Opened.{copy_from, first_copy}
 use Rattle.app_loads.specs.declared.answers.LoadErr.{LoadErr}
 use Rattle.app_loads.specs.declared.answers.LoadErr.TheVariants.{Loaded, MemoryOut, KeysOut, RowsOut, Memory}
@@ -41,10 +41,10 @@ use Rattle.app_loads.specs.declared.plans.AppPlan.{AppPlan}
 use Rattle.app_loads.specs.Applications.{AreApps, HasRows, HaveOtherNumbers, HaveRows, IsLoadedOn}
 use Rattle.app_loads.specs.Claims.{AreServed, claims_of, IsRefusalDue}
 use Rattle.app_loads.specs.Host.{Free, Host, all_nets, all_ranges, all_spots, asked_of, is_loaded, is_spot_taken, nets_of}
-use Rattle.app_loads.specs.Joining.{AreSent, IsSent, IsServed, IsSettled, NoneUnsent}
+use Rattle.app_loads.specs.Joining.{AreSent, IsSent, IsServedApp, IsSettled, NoneUnsent}
 use Rattle.app_loads.specs.Loading.{HasLoaded, IsWhyNotLoaded}
-use Rattle.app_loads.specs.Plans.{IsAppNet, IsPlan, IsPacketOf, MayLoad}
-use Rattle.app_loads.specs.Regions.{AreApart, AreFreeBeside, has_place, is_taken, rows_region, region_size, IsWithin}
+use Rattle.app_loads.specs.Plans.{IsAppNet, IsPlan, IsPacketOfApp, MayLoad}
+use Rattle.app_loads.specs.Regions.{ShareNoPlace, AreFreeBeside, range_has, is_taken, rows_region, region_size, IsRangeWithin}
 use Rattle.app_loads.specs.Taking.{AreTaken, IsDueAlways, frees}
 use Rattle.app_loads.proofs.AppNets.{apps_disjoint, different_of, facts_at, facts_of, key_of_index, own_disjoint, roots_of, sources_in, targets_in, trees_of, usable_spot}
 use Rattle.app_loads.proofs.ClaimCases.{among_flat, flat_among, facts}
@@ -131,7 +131,7 @@ sent_unsent spots app (suc n) before after sent le v q at =
         in ap (λ z. cons_option z []) chosen
 
 module _ (h : Host) (apps : AreApps h) (number : ℕ) (plan : AppPlan) (may : MayLoad h plan) (not_loaded : is_loaded h.apps number ≡ false) (old new : List Region) (old_is : frees old ≡ h.regions)
-    (app : LoadedApp) (mesh : State) (served : IsServed h.mesh.setup.machine old number h.packets plan app new) (settled : IsSettled app h.mesh mesh) where
+    (app : LoadedApp) (mesh : State) (served : IsServedApp h.mesh.setup.machine old number h.packets plan app new) (settled : IsSettled app h.mesh mesh) where
   abbrev m : Description
   m = h.mesh.setup.machine
 
@@ -166,14 +166,14 @@ module _ (h : Host) (apps : AreApps h) (number : ℕ) (plan : AppPlan) (may : Ma
   on : IsLoadedOn m app
   on = loaded_from m (all_ranges h.apps) new plan app may.valid served.plan_is served_now taken_now served.blocks
 
-  own_apart : AllPairs AreApart app.ranges
-  own_apart = AllPairs-right AreApart (all_ranges h.apps) app.ranges taken_now.apart
+  own_apart : AllPairs ShareNoPlace app.ranges
+  own_apart = AllPairs-right ShareNoPlace (all_ranges h.apps) app.ranges taken_now.apart
 
   in_ranges : (a : LoadedApp) → Contains h.apps a → (r : Range) → Contains a.ranges r → Contains (all_ranges h.apps) r
   in_ranges a in_apps r in_a = among_contains r (all_ranges h.apps) (flat_among (λ (x : LoadedApp). x.ranges) r h.apps a (contains_among a h.apps in_apps) (contains_among r a.ranges in_a))
 
-  across : (r s : Range) → Contains (all_ranges h.apps) r → Contains app.ranges s → AreApart r s
-  across r s in_r in_s = All-contains (AreApart r) app.ranges s (All-contains (λ a. All (AreApart a) app.ranges) (all_ranges h.apps) r (AllPairs-across AreApart (all_ranges h.apps) app.ranges taken_now.apart) in_r) in_s
+  across : (r s : Range) → Contains (all_ranges h.apps) r → Contains app.ranges s → ShareNoPlace r s
+  across r s in_r in_s = All-contains (ShareNoPlace r) app.ranges s (All-contains (λ a. All (ShareNoPlace a) app.ranges) (all_ranges h.apps) r (AllPairs-across ShareNoPlace (all_ranges h.apps) app.ranges taken_now.apart) in_r) in_s
 
   spots_free : (s : Spot) → Contains app.plan.spots s → is_spot_taken h.apps s ≡ false
   spots_free s has = All-contains (λ z. is_spot_taken h.apps z ≡ false) plan.spots s may.free (subst (λ (p : AppPlan). Contains p.spots s) served.plan_is has)
@@ -200,7 +200,7 @@ module _ (h : Host) (apps : AreApps h) (number : ℕ) (plan : AppPlan) (may : Ma
   }
 
   -- no place of another's range is one of the application's
-  none_of_others : (r : Range) → Contains (all_ranges h.apps) r → (region k : ℕ) → has_place region k r ≡ true → is_taken app.ranges region k ≡ false
+  none_of_others : (r : Range) → Contains (all_ranges h.apps) r → (region k : ℕ) → range_has region k r ≡ true → is_taken app.ranges region k ≡ false
   none_of_others r in_r region k mine = elim (cases_Bool (is_taken app.ranges region k)) [
     | inr none ↦ none
     | inl some ↦ (let found = by_taken app.ranges region k some in absurd (across r found.0 in_r found.1 region k mine found.2))
@@ -223,7 +223,7 @@ module _ (h : Host) (apps : AreApps h) (number : ℕ) (plan : AppPlan) (may : Ma
         (All-each (λ (r : Range). (c : Chip) → IsInside m c → r.region ≡ rows_region m c → HasRows m (nets_of app) c (table_at m t c) r) app.ranges (λ r in_app. settled.written.rows r in_app));
     others = λ c k inside below free.
         let parts = or_parts (is_taken (all_ranges h.apps) (rows_region m c) k) (is_taken app.ranges (rows_region m c) k)
-        (sym (list_any-append (has_place (rows_region m c) k) (all_ranges h.apps) app.ranges) ∙ (ap (λ l. is_taken l (rows_region m c) k) (sym ranges_are) ∙ free)) in
+        (sym (list_any-append (range_has (rows_region m c) k) (all_ranges h.apps) app.ranges) ∙ (ap (λ l. is_taken l (rows_region m c) k) (sym ranges_are) ∙ free)) in
         settled.written.others c k inside parts.1 ∙ apps.rows.others c k inside below parts.0;
   }
 
@@ -235,10 +235,10 @@ module _ (h : Host) (apps : AreApps h) (number : ℕ) (plan : AppPlan) (may : Ma
 
   keyed : (j : ℕ) (p : Packet) (x : NetPlan) → slice_get app.plan.packets j ≡ Some p → slice_get (nets_of app) p.net ≡ Some x → IsKeyOf x.block (x.block.key + p.index)
   keyed j p x at is =
-      let of_net = All-contains (IsPacketOf app.plan.nets) app.plan.packets p on.plan.packets (Contains-at app.plan.packets j p at) in
+      let of_net = All-contains (IsPacketOfApp app.plan.nets) app.plan.packets p on.plan.packets (Contains-at app.plan.packets j p at) in
       let f = facts_at m app on p.net x is in
       let same : f.net ≡ of_net.0 = same_Some _ _ (sym f.at_net ∙ of_net.1) in
-      let within = (All-contains (IsWithin m (length new)) app.ranges f.range taken_now.within (Contains-at app.ranges f.at f.range f.got)).within in
+      let within = (All-contains (IsRangeWithin m (length new)) app.ranges f.range taken_now.within (Contains-at app.ranges f.at f.range f.got)).within in
       let room : f.range.place + f.range.size ≤ 4294967296 = subst (λ r. f.range.place + f.range.size ≤ r) (ap (region_size m) f.region) within in
       let key = key_of_index m app on x p.net f p.index (subst (λ (n : AppNet). p.index < n.keys) (sym same) of_net.2) room in
       subst (λ (n : NetPlan). IsKeyOf n.block (n.block.key + p.index)) f.is key.1
@@ -276,7 +276,7 @@ module _ (h : Host) (apps : AreApps h) (number : ℕ) (plan : AppPlan) (may : Ma
         (All-each (λ a. All (λ b. a ≢ b) app.plan.spots) (all_spots h.apps) (λ a in_a. All-each (λ b. a ≢ b) app.plan.spots (λ b in_b same.
         false≢true (sym (spots_free b in_b) ∙ subst (λ z. is_spot_taken h.apps z ≡ true) same (is_there a in_a))))));
     loaded = loaded_now;
-    apart = subst (AllPairs AreApart) (sym ranges_are) taken_now.apart;
+    apart = subst (AllPairs ShareNoPlace) (sym ranges_are) taken_now.apart;
     free = subst (λ l. AreFreeBeside m l (frees new)) (sym ranges_are) taken_now.free;
     disjoint = subst HaveDisjointBlocks (sym nets_are) disjoint_now;
     rows = rows_now;
@@ -344,7 +344,7 @@ none_unsent h apps plan may net has v vertex = by_queue (slice_get h.mesh.unsent
     by_queue (Some []) e = refl
     by_queue (Some (k ∷ ks)) e =
         let mark' : Mark = record { copy = k; station = unsent v } in
-        let in_unsent : Among mark' (unsent_marks h.mesh) = gathered_among (λ w copies. marked (unsent w) copies) mark' h.mesh.unsent v (k ∷ ks) e (inl refl) in
+        let in_unsent : Among mark' (unsent_marks h.mesh) = gathered_among (λ w copies. marks_at (unsent w) copies) mark' h.mesh.unsent v (k ∷ ks) e (inl refl) in
         let has' : Contains (marks_of h.mesh) mark' = among_contains mark' (marks_of h.mesh) (among_left mark' (unsent_marks h.mesh) (behind h.mesh) in_unsent) in
         let on = apps.ledger.ledger.on_a_trail mark' has' in
         let from : ℕ = on.3.2 in

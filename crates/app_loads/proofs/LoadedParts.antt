@@ -19,11 +19,11 @@ use Rattle.app_loads.specs.Applications.{AreApps}
 use Rattle.app_loads.specs.Claims.{claims_of}
 use Rattle.app_loads.specs.Host.{Free, Host, all_ranges, is_loaded}
 use Rattle.app_loads.specs.Inner.{host_of, IsHost, mesh_in, TellsTaken}
-use Rattle.app_loads.specs.Joining.{CanJoin, IsServed, IsSettled}
+use Rattle.app_loads.specs.Joining.{CanJoin, IsServedApp, IsSettled}
 use Rattle.app_loads.specs.Loading.{HasLoaded, IsWhyNotLoaded}
-use Rattle.app_loads.specs.Marking.{AreMarked}
+use Rattle.app_loads.specs.Marking.{AreSpotsMarked}
 use Rattle.app_loads.specs.Plans.{MayLoad}
-use Rattle.app_loads.specs.Regions.{AreApart, AreFreeBeside}
+use Rattle.app_loads.specs.Regions.{ShareNoPlace, AreFreeBeside}
 use Rattle.app_loads.specs.Taking.{IsDueAlways, frees}
 use Rattle.app_loads.proofs.LoadedHost.{apps_now, loaded_host, none_unsent, same_frees, why_not}
 use Rattle.app_loads.proofs.MarkedSpots.{tells_more}
@@ -90,10 +90,10 @@ module _ (i : Inside) (mesh : State) (is : i.mesh ≡ Some mesh) (host : IsHost 
   pub packets_fit : i.packets + length plan.packets < 2 ^ 32
   packets_fit = may.numbers
 
-  module _ (not_loaded : is_loaded h.apps number ≡ false) (new : List Region) (app : LoadedApp) (result : State) (served : IsServed mesh.setup.machine given number i.packets plan app new) (settled : IsSettled app mesh result)
+  module _ (not_loaded : is_loaded h.apps number ≡ false) (new : List Region) (app : LoadedApp) (result : State) (served : IsServedApp mesh.setup.machine given number i.packets plan app new) (settled : IsSettled app mesh result)
       (j : Inside) (j_mesh : j.mesh ≡ Some result) (j_regions : j.regions.items ≡ new) (j_apps : j.apps.items ≡ i.apps.items ++ app ∷ []) (j_packets : j.packets ≡ i.packets + length plan.packets) where
-    served_h : IsServed h.mesh.setup.machine given number h.packets plan app new
-    served_h = subst (λ (s : State). IsServed s.setup.machine given number i.packets plan app new) (sym mesh_h) served
+    served_h : IsServedApp h.mesh.setup.machine given number h.packets plan app new
+    served_h = subst (λ (s : State). IsServedApp s.setup.machine given number i.packets plan app new) (sym mesh_h) served
 
     settled_h : IsSettled app h.mesh result
     settled_h = subst (λ (s : State). IsSettled app s result) (sym mesh_h) settled
@@ -110,7 +110,7 @@ module _ (i : Inside) (mesh : State) (is : i.mesh ≡ Some mesh) (host : IsHost 
     pub ok_loaded : HasLoaded h number plan (host_of j)
     ok_loaded = subst (HasLoaded h number plan) (sym is_now) (loaded_host h host.apps number plan may not_loaded given new old_is app result served_h settled_h)
 
-    pub ok_host : (m : Description) (lent : List Bool) (marked : List Bool) (spots : List Spot) → m ≡ mesh.setup.machine → lent ≡ i.taken.items → spots ≡ app.plan.spots → AreMarked m true spots lent marked → j.taken.items ≡ marked → IsHost j
+    pub ok_host : (m : Description) (lent : List Bool) (marked : List Bool) (spots : List Spot) → m ≡ mesh.setup.machine → lent ≡ i.taken.items → spots ≡ app.plan.spots → AreSpotsMarked m true spots lent marked → j.taken.items ≡ marked → IsHost j
     ok_host m lent marked spots m_is lent_is spots_is marks j_taken = record {
       there = ap is_some j_mesh;
       apps = ok_apps;
@@ -123,14 +123,14 @@ module _ (i : Inside) (mesh : State) (is : i.mesh ≡ Some mesh) (host : IsHost 
         same_machine : (host_of j).mesh.setup.machine ≡ h.mesh.setup.machine
         same_machine = ap (λ (s : State). s.setup.machine) (ap mesh_in j_mesh ∙ settled_h.mesh)
 
-        marks_h : AreMarked h.mesh.setup.machine true app.plan.spots i.taken.items marked
+        marks_h : AreSpotsMarked h.mesh.setup.machine true app.plan.spots i.taken.items marked
         marks_h =
-            subst (λ (l : List Bool). AreMarked h.mesh.setup.machine true app.plan.spots l marked) lent_is
-            (subst (λ (l : List Spot). AreMarked h.mesh.setup.machine true l lent marked) spots_is
-            (subst (λ (d : Description). AreMarked d true spots lent marked) (m_is ∙ ap (λ (s : State). s.setup.machine) (sym mesh_h)) marks))
+            subst (λ (l : List Bool). AreSpotsMarked h.mesh.setup.machine true app.plan.spots l marked) lent_is
+            (subst (λ (l : List Spot). AreSpotsMarked h.mesh.setup.machine true l lent marked) spots_is
+            (subst (λ (d : Description). AreSpotsMarked d true spots lent marked) (m_is ∙ ap (λ (s : State). s.setup.machine) (sym mesh_h)) marks))
 
   module _ (j : Inside) (result : State) (refused : result ≡ mesh) (new : List Region)
-      (back : (m : Description) (taken : List Range) → AllPairs AreApart taken → AreFreeBeside m taken (frees given) → AreFreeBeside m taken (frees new))
+      (back : (m : Description) (taken : List Range) → AllPairs ShareNoPlace taken → AreFreeBeside m taken (frees given) → AreFreeBeside m taken (frees new))
       (j_mesh : j.mesh ≡ Some result) (j_regions : j.regions.items ≡ new) (j_apps : j.apps.items ≡ i.apps.items) (j_packets : j.packets ≡ i.packets) where
     pub err_same : host_of j ≡ host_of i
     err_same =

@@ -5,7 +5,7 @@ use Rattle.std.proofs.lemmas.Bool.{cases_Bool, or_cases, or_left, or_right, fals
 use Rattle.std.proofs.lemmas.List.{length-set}
 use Rattle.std.proofs.lemmas.List.Folds.{list_any-append}
 use Rattle.std.proofs.lemmas.Option.{slice_get-get_or}
-use Rattle.list_laws.proofs.Places.{slice_get_there, slice_get-set_same, slice_get-set_other, take_more_at}
+use Rattle.spin_base.proofs.Places.{slice_get_there, slice_get-set_same, slice_get-set_other, take_more_at}
 use Rattle.spin_base.specs.declared.chips.Spot.{Spot}
 use Rattle.spin_base.specs.Equality.{spot_eq}
 use Rattle.spin_base.proofs.Equality.{spot_eq_same, spot_eq_true}
@@ -16,10 +16,10 @@ use Rattle.mesh_core.proofs.VertexTableLaws.{same_spot_place, spot_place-below}
 use Rattle.app_loads.specs.declared.loaded.LoadedApp.{LoadedApp}
 use Rattle.app_loads.specs.Host.{is_spot_taken}
 use Rattle.app_loads.specs.Inner.{TellsTaken}
-use Rattle.app_loads.specs.Marking.{AreMarked}
+use Rattle.app_loads.specs.Marking.{AreSpotsMarked}
 use Rattle.std.proofs.Math.Bool.{or-false}
 
-module _ (m : Description) (now : Bool) (spots : List Spot) (old cur : List Bool) (i : ℕ) (d : Spot) (below : i < length spots) (so_far : AreMarked m now (take i spots) old cur)
+module _ (m : Description) (now : Bool) (spots : List Spot) (old cur : List Bool) (i : ℕ) (d : Spot) (below : i < length spots) (so_far : AreSpotsMarked m now (take i spots) old cur)
     (inside : All (λ (s : Spot). IsInside m s.chip) spots) (few : All (λ (s : Spot). s.core < 24) spots) (long : length old ≡ 24 * (m.width * m.height)) where
   abbrev spot : Spot
   spot = get_or spots i d
@@ -29,7 +29,7 @@ module _ (m : Description) (now : Bool) (spots : List Spot) (old cur : List Bool
       ap (list_any (spot_eq s)) (take_more_at spots i spot (slice_get-get_or spots i d below))
       ∙ (list_any-append (spot_eq s) (take i spots) (spot ∷ []) ∙ ap (λ b. list_any (spot_eq s) (take i spots) || b) (or-false (spot_eq s spot)))
 
-  pub marked_more : (p : ℕ) → p ≡ spot_place m spot → AreMarked m now (take (i + 1) spots) old (slice_set cur p now)
+  pub marked_more : (p : ℕ) → p ≡ spot_place m spot → AreSpotsMarked m now (take (i + 1) spots) old (slice_set cur p now)
   marked_more p place = record {
     long = length-set cur p now ∙ so_far.long;
     marked = λ s in_s small hit. elim (cases_Bool (spot_eq s spot)) [
@@ -62,7 +62,7 @@ module _ (m : Description) (now : Bool) (spots : List Spot) (old cur : List Bool
           false≢true (sym other ∙ (ap (spot_eq s) (sym same) ∙ spot_eq_same s))
 
 -- the table tells the spots of one application more
-pub tells_more : (m : Description) (apps : List LoadedApp) (app : LoadedApp) (old new : List Bool) → TellsTaken m apps old → AreMarked m true app.plan.spots old new → TellsTaken m (apps ++ app ∷ []) new
+pub tells_more : (m : Description) (apps : List LoadedApp) (app : LoadedApp) (old new : List Bool) → TellsTaken m apps old → AreSpotsMarked m true app.plan.spots old new → TellsTaken m (apps ++ app ∷ []) new
 tells_more m apps app old new tells marked = record {
   long = marked.long ∙ tells.long;
   told = λ s inside few. elim (cases_Bool (list_any (spot_eq s) app.plan.spots)) [

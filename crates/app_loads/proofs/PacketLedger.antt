@@ -12,8 +12,8 @@ use Rattle.spin_base.specs.declared.copies.Packet.{Packet}
 use Rattle.machine_desc.specs.Description.{Description}
 use Rattle.machine_desc.specs.RoutingTree.{IsRoutingTree}
 use Rattle.machine_desc.proofs.Branches.{link_on_branch}
-use Rattle.net_tables.specs.declared.nets.NetPlan.{NetPlan}
-use Rattle.net_tables.specs.RightTables.{IsKeyOf}
+use Rattle.machine_desc.specs.declared.nets.NetPlan.{NetPlan}
+use Rattle.machine_desc.specs.RightTables.{IsKeyOf}
 use Rattle.mesh_core.specs.State.{State}
 use Rattle.mesh_core.specs.Ledger.{Asked, MeetsLedgerFor}
 use Rattle.mesh_core.specs.Opened.{asked_at, asked_by, label_in}

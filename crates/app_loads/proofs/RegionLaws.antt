@@ -8,45 +8,45 @@ use Rattle.app_loads.specs.declared.loaded.Claim.{Claim}
 use Rattle.app_loads.specs.declared.loaded.Range.{Range}
 use Rattle.app_loads.specs.Host.{Free}
 use Rattle.app_loads.specs.Regions.{IsFreeBeside}
-use Rattle.app_loads.specs.Claims.{IsLeastOpen}
-use Rattle.app_loads.specs.Taking.{free_of, Serves, Refuses}
+use Rattle.app_loads.specs.Claims.{IsLeastOpenRange}
+use Rattle.app_loads.specs.Taking.{free_places_in, ServesClaim, RefusesClaim}
 use Rattle.app_loads.proofs.Taking.{taken_more, least_from_fit, refused_from_fit, least_from_fixed, refused_from_fixed}
 
 module _ (claim : Claim) (before after : Region) (some : 0 < claim.size) (size : after.size ≡ before.size) (runs : AreRuns 0 after.size after.holes) where
   pub by_take : (r : Result (Option ℕ) Memory) → claim.fixed ≡ None →
       IfOk r (λ o. IfSome o (λ place. IsFirstFit before.holes claim.size claim.align place)) →
       IfOk r (λ o. IfSome o (λ place. (k : ℕ) → is_free after.holes k ≡ (is_free before.holes k && not (in_range place claim.size k)))) →
-      IfOk r (λ o. IfSome o (Serves claim before after))
+      IfOk r (λ o. IfSome o (ServesClaim claim before after))
   by_take (Ok (Some place)) none found free = λ m taken beside. (
-    least_from_fit m taken claim (free_of before) place none beside some found,
-    taken_more m taken claim.region (free_of before) (free_of after) (record { region = claim.region; place = place; size = claim.size }) refl beside size runs free,
+    least_from_fit m taken claim (free_places_in before) place none beside some found,
+    taken_more m taken claim.region (free_places_in before) (free_places_in after) (record { region = claim.region; place = place; size = claim.size }) refl beside size runs free,
   )
   by_take (Ok None) none found free = tt
   by_take (Err e) none found free = tt
 
   pub none_by_take : (r : Result (Option ℕ) Memory) →
-      IfOk r (λ o. IfNone o (HasNoFit before.holes claim.size claim.align × (after ≡ before))) → IfOk r (λ o. IfNone o (Refuses claim before))
+      IfOk r (λ o. IfNone o (HasNoFit before.holes claim.size claim.align × (after ≡ before))) → IfOk r (λ o. IfNone o (RefusesClaim claim before))
   none_by_take (Ok (Some place)) none = tt
-  none_by_take (Ok None) none = λ m taken beside. refused_from_fit m taken claim (free_of before) beside some none.0
+  none_by_take (Ok None) none = λ m taken beside. refused_from_fit m taken claim (free_places_in before) beside some none.0
   none_by_take (Err e) none = tt
 
   pub by_fixed : (r : Result (Option ℕ) Memory) (place : ℕ) → claim.fixed ≡ Some place → place % claim.align ≡ 0 →
       IfOk r (λ o. IfSome o (λ p. (p ≡ place) × (is_hole_range before.holes place claim.size ≡ true))) →
       IfOk r (λ o. IfSome o (λ p. (k : ℕ) → is_free after.holes k ≡ (is_free before.holes k && not (in_range place claim.size k)))) →
-      IfOk r (λ o. IfSome o (Serves claim before after))
+      IfOk r (λ o. IfSome o (ServesClaim claim before after))
   by_fixed (Ok (Some p)) place is aligned found free = λ m taken beside.
       subst (λ q. (let range : Range = record { region = claim.region; place = q; size = claim.size } in
-      IsLeastOpen m taken claim range × IsFreeBeside m (taken ++ range ∷ []) claim.region (free_of after))) (sym found.0) (
-        least_from_fixed m taken claim (free_of before) place is aligned beside some found.1,
-        taken_more m taken claim.region (free_of before) (free_of after) (record { region = claim.region; place = place; size = claim.size }) refl beside size runs free,
+      IsLeastOpenRange m taken claim range × IsFreeBeside m (taken ++ range ∷ []) claim.region (free_places_in after))) (sym found.0) (
+        least_from_fixed m taken claim (free_places_in before) place is aligned beside some found.1,
+        taken_more m taken claim.region (free_places_in before) (free_places_in after) (record { region = claim.region; place = place; size = claim.size }) refl beside size runs free,
       )
   by_fixed (Ok None) place is aligned found free = tt
   by_fixed (Err e) place is aligned found free = tt
 
   pub none_by_fixed : (r : Result (Option ℕ) Memory) (place : ℕ) → claim.fixed ≡ Some place →
-      IfOk r (λ o. IfNone o ((is_hole_range before.holes place claim.size ≡ false) × (after ≡ before))) → IfOk r (λ o. IfNone o (Refuses claim before))
+      IfOk r (λ o. IfNone o ((is_hole_range before.holes place claim.size ≡ false) × (after ≡ before))) → IfOk r (λ o. IfNone o (RefusesClaim claim before))
   none_by_fixed (Ok (Some p)) place is none = tt
-  none_by_fixed (Ok None) place is none = λ m taken beside. refused_from_fixed m taken claim (free_of before) place is beside some none.0
+  none_by_fixed (Ok None) place is none = λ m taken beside. refused_from_fixed m taken claim (free_places_in before) place is beside some none.0
   none_by_fixed (Err e) place is none = tt
 
 pub one_free : (s t : ℕ) (hs gs : List Hole) → hs ≡ gs → s ≡ t → (let a : Free = record { size = s; holes = hs } in let b : Free = record { size = t; holes = gs } in a ≡ b)
@@ -54,15 +54,15 @@ one_free s t hs gs p q = cc
 
 -- the same of a region with other room for holes
 module _ (claim : Claim) (before other : Region) (same : (other.holes ≡ before.holes) × (other.size ≡ before.size)) where
-  pub same_free : free_of other ≡ free_of before
+  pub same_free : free_places_in other ≡ free_places_in before
   same_free = one_free other.size before.size other.holes before.holes same.0 same.1
 
-  pub serves_same : (r : Result (Option ℕ) Memory) (after : Region) → IfOk r (λ o. IfSome o (Serves claim other after)) → IfOk r (λ o. IfSome o (Serves claim before after))
+  pub serves_same : (r : Result (Option ℕ) Memory) (after : Region) → IfOk r (λ o. IfSome o (ServesClaim claim other after)) → IfOk r (λ o. IfSome o (ServesClaim claim before after))
   serves_same (Ok (Some place)) after serves = λ m taken beside. serves m taken (subst (IsFreeBeside m taken claim.region) (sym same_free) beside)
   serves_same (Ok None) after serves = tt
   serves_same (Err e) after serves = tt
 
-  pub refuses_same : (r : Result (Option ℕ) Memory) → IfOk r (λ o. IfNone o (Refuses claim other)) → IfOk r (λ o. IfNone o (Refuses claim before))
+  pub refuses_same : (r : Result (Option ℕ) Memory) → IfOk r (λ o. IfNone o (RefusesClaim claim other)) → IfOk r (λ o. IfNone o (RefusesClaim claim before))
   refuses_same (Ok (Some place)) refuses = tt
   refuses_same (Ok None) refuses = λ m taken beside. refuses m taken (subst (IsFreeBeside m taken claim.region) (sym same_free) beside)
   refuses_same (Err e) refuses = tt

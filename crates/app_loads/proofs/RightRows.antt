@@ -8,9 +8,9 @@ use Rattle.std.proofs.lemmas.List.Elements.{All-contains}
 use Rattle.std.proofs.lemmas.List.Sorted.{IsPermutation-sym, Contains-permutation}
 use Rattle.std.proofs.lemmas.Option.{slice_get-get_or, same_Some}
 use Rattle.mesh_core.proofs.Moves.{chip_of-index_of}
-use Rattle.list_laws.proofs.Counts.{count_by-cons}
-use Rattle.list_laws.proofs.Members.{Among, Contains-at, Contains-none, Contains-first, Contains-later, Contains-cases, Contains-map, Contains-unmap, among_contains, contains_among}
-use Rattle.list_laws.proofs.Places.{All-each, AllZip-at_first, slice_get-mapped, unmapped}
+use Rattle.spin_base.proofs.Counts.{count_by-cons}
+use Rattle.spin_base.proofs.Members.{Among, Contains-at, Contains-none, Contains-first, Contains-later, Contains-cases, Contains-map, Contains-unmap, among_contains, contains_among}
+use Rattle.spin_base.proofs.Places.{All-each, AllZip-at_first, slice_get-mapped, unmapped}
 use Rattle.spin_base.specs.declared.blocks.Block.{Block}
 use Rattle.spin_base.specs.declared.blocks.Entry.{Entry}
 use Rattle.spin_base.specs.declared.chips.Chip.{Chip}
@@ -23,24 +23,24 @@ use Rattle.machine_desc.specs.Description.{Description}
 use Rattle.machine_desc.specs.Live.{index_of, chip_of, IsInside}
 use Rattle.machine_desc.proofs.Far.{index_below}
 use Rattle.machine_desc.specs.RoutingTree.{IsRoutingTree}
-use Rattle.net_tables.specs.declared.nets.NetPlan.{NetPlan}
-use Rattle.net_tables.specs.NetsOn.{HaveDisjointBlocks}
-use Rattle.net_tables.specs.Outputs.{is_wanted}
-use Rattle.net_tables.specs.RightTables.{IsKeyOf, AreRight, RoutesByTree, table_at}
+use Rattle.machine_desc.specs.declared.nets.NetPlan.{NetPlan}
+use Rattle.machine_desc.specs.NetsOn.{HaveDisjointBlocks}
+use Rattle.machine_desc.specs.Outputs.{is_wanted}
+use Rattle.machine_desc.specs.RightTables.{IsKeyOf, AreRight, RoutesByTree, table_at}
 use Rattle.range_store.specs.Regions.{in_range}
 use Rattle.tcam_find.specs.Memory.{unused}
 use Rattle.tern_word.specs.declared.tables.Row.{Row}
 use Rattle.tern_word.specs.Entries.{entry_of}
-use Rattle.plain_tables.specs.PlainTable.{HasChip, IsPlainTable, row_of}
-use Rattle.plain_tables.proofs.Trees.{chips_inside, comes_in_tree}
-use Rattle.plain_tables.proofs.Whole.{has_original, from_net}
+use Rattle.net_tables.specs.PlainTable.{HasChip, IsPlainTable, row_of}
+use Rattle.net_tables.proofs.Trees.{chips_inside, comes_in_tree}
+use Rattle.net_tables.proofs.Whole.{has_original, from_net}
 use Rattle.mesh_core.proofs.LedgerLaw.{one_net}
 use Rattle.app_loads.specs.declared.loaded.LoadedApp.{LoadedApp}
 use Rattle.app_loads.specs.declared.loaded.Range.{Range}
 use Rattle.app_loads.specs.Applications.{HasRows, HaveRows, IsLoadedOn, IsRangeFor}
 use Rattle.app_loads.specs.Claims.{claims_of, has_chip}
 use Rattle.app_loads.specs.Host.{all_nets, all_ranges, nets_of}
-use Rattle.app_loads.specs.Regions.{has_place, is_taken, rows_region}
+use Rattle.app_loads.specs.Regions.{range_has, is_taken, rows_region}
 use Rattle.app_loads.proofs.AppNets.{facts_of, member_at, spot_inside}
 use Rattle.app_loads.proofs.ClaimCases.{among_flat, flat_among, chip_claim}
 use Rattle.app_loads.proofs.Serving.{by_taken}
@@ -97,7 +97,7 @@ some_counted p (y ∷ ys) x (inr later) hit =
     let cons = count_by-cons p y ys in
     omega (arith, cons, rest)
 
-in_parts : (range : Range) (region k : ℕ) → has_place region k range ≡ true → (range.region ≡ region) × (range.place ≤ k) × (k < range.place + range.size)
+in_parts : (range : Range) (region k : ℕ) → range_has region k range ≡ true → (range.region ≡ region) × (range.place ≤ k) × (k < range.place + range.size)
 in_parts range region k e =
     let parts = and_parts (range.region == region) (in_range range.place range.size k) e in
     let inside = and_parts (leb range.place k) (ltb k (range.place + range.size)) parts.1 in

@@ -3,10 +3,10 @@ use Rattle.std.proofs.Common.{◌≡◌, ◌≢◌, ℕ, ◌+◌, ◌<◌, ◌�
 use Rattle.std.specs.List.{slice_get, slice_set, All}
 use Rattle.std.proofs.lemmas.Option.{slice_get-get_or}
 use Rattle.std.proofs.lemmas.List.{map-set}
-use Rattle.list_laws.proofs.Places.{slice_get-mapped, set-slice_get, take_more_at}
+use Rattle.spin_base.proofs.Places.{slice_get-mapped, set-slice_get, take_more_at}
 use Rattle.range_store.specs.Views.{Region}
 use Rattle.app_loads.specs.declared.loaded.Range.{Range}
-use Rattle.app_loads.specs.Taking.{free_of, frees, HaveRoom}
+use Rattle.app_loads.specs.Taking.{free_places_in, frees, HaveRoom}
 use Rattle.app_loads.proofs.Serving.{counted_push, more_here, none_elsewhere, of_region, set_cases}
 use Rattle.app_loads.proofs.RegionLaws.{one_free}
 
@@ -43,9 +43,9 @@ module _ (ranges : List Range) (i : ℕ) (d : Range) (below : i < length ranges)
 
     pub frees_still : frees (slice_set regions range.region after) ≡ frees regions
     frees_still =
-        map-set free_of regions range.region after
+        map-set free_places_in regions range.region after
         ∙ (ap (slice_set (frees regions) range.region) (one_free after.size before.size after.holes before.holes same.0 same.1)
-        ∙ set-slice_get (frees regions) range.region (free_of before) (slice_get-mapped free_of regions range.region before at_place))
+        ∙ set-slice_get (frees regions) range.region (free_places_in before) (slice_get-mapped free_places_in regions range.region before at_place))
 
     pub room_more : HaveRoom (take i ranges) regions → of_region range.region (take (i + 1) ranges) ≤ after.spare → HaveRoom (take (i + 1) ranges) (slice_set regions range.region after)
     room_more room enough k region at = elim (set_cases regions range.region k before after region at_place at) [

@@ -11,9 +11,9 @@ use Rattle.std.proofs.lemmas.List.Sums.{sum_by-cons}
 use Rattle.std.proofs.lemmas.Option.{slice_get_within, get_or_from_slice_get}
 use Rattle.std.proofs.lemmas.List.{flat_map_more}
 use Rattle.spin_base.proofs.Equality.{chip_eq_true}
-use Rattle.list_laws.proofs.Counts.{count_by-append, count_by-cons}
-use Rattle.list_laws.proofs.Pairs.{AllPairs-head, AllPairs-tail}
-use Rattle.list_laws.proofs.Places.{All-at, slice_get_there, take_more_at}
+use Rattle.spin_base.proofs.Counts.{count_by-append, count_by-cons}
+use Rattle.spin_base.proofs.Pairs.{AllPairs-head, AllPairs-tail}
+use Rattle.spin_base.proofs.Places.{All-at, slice_get_there, take_more_at}
 use Rattle.spin_base.specs.declared.chips.Chip.{Chip}
 use Rattle.spin_base.specs.Equality.{chip_eq}
 use Rattle.spin_base.specs.declared.wants.Memory.{Memory}
@@ -28,7 +28,7 @@ use Rattle.app_loads.specs.declared.loaded.Claim.{Claim}
 use Rattle.app_loads.specs.declared.plans.AppNet.{AppNet}
 use Rattle.app_loads.specs.Regions.{chip_count}
 use Rattle.app_loads.specs.Claims.{has_chip, entries_claim, row_claim}
-use Rattle.app_loads.specs.Counting.{HasTree, IsRunEnd, place_of, end_places, tree_places, run_claim}
+use Rattle.app_loads.specs.Counting.{HasTree, IsRunEnd, chip_places, end_places, tree_places, run_claim}
 
 abbrev one_if : Bool → ℕ
 one_if b = if b then 1 else 0
@@ -233,7 +233,7 @@ module _ (m : Description) (i : ℕ) (below : i < m.width * m.height) where
   one_edge : (e : Edge) → IsInside m e.chip → count_by is_i (end_places m e) ≡ one_if (hits e)
   one_edge e inside = by_end (end_of m e) refl
     where
-      by_end : (o : Option Chip) → end_of m e ≡ o → count_by is_i (place_of m o) ≡ one_if (option_map_or (chip_eq c) o false)
+      by_end : (o : Option Chip) → end_of m e ≡ o → count_by is_i (chip_places m o) ≡ one_if (option_map_or (chip_eq c) o false)
       by_end None is = refl
       by_end (Some d) is =
           let one = count_by-cons is_i (index_of m d) [] in
@@ -359,7 +359,7 @@ places_inside m nets chips trees same = All-permutation (λ i. i < chip_count m)
     of_end : (e : Edge) → IsInside m e.chip → All (λ i. i < chip_count m) (end_places m e)
     of_end e inside = by_end (end_of m e) refl
       where
-        by_end : (o : Option Chip) → end_of m e ≡ o → All (λ i. i < chip_count m) (place_of m o)
+        by_end : (o : Option Chip) → end_of m e ≡ o → All (λ i. i < chip_count m) (chip_places m o)
         by_end None is = All-nil (λ i. i < chip_count m)
         by_end (Some d) is = All-cons (λ i. i < chip_count m) (index_of m d) [] (index_below m d (far_inside m e.chip d e.dir inside is)) (All-nil (λ i. i < chip_count m))
 

@@ -5,8 +5,8 @@ use Rattle.std.proofs.Math.Pow.{pow_mono}
 use Rattle.std.proofs.lemmas.Nat.{pow_pos}
 use Rattle.std.proofs.lemmas.List.{length-map}
 use Rattle.std.proofs.lemmas.Option.{slice_get_within, slice_get-get_or}
-use Rattle.list_laws.proofs.Members.{Contains-at}
-use Rattle.list_laws.proofs.Places.{All-each}
+use Rattle.spin_base.proofs.Members.{Contains-at}
+use Rattle.spin_base.proofs.Places.{All-each}
 use Rattle.machine_desc.specs.Description.{Description}
 use Rattle.range_store.specs.Views.{Region}
 use Rattle.app_loads.specs.declared.loaded.Claim.{Claim}
@@ -16,14 +16,14 @@ use Rattle.app_loads.specs.Claims.{AreServed, claims_of}
 use Rattle.app_loads.specs.Joining.{AreKeyed}
 use Rattle.app_loads.specs.Plans.{IsPlan}
 use Rattle.app_loads.specs.Regions.{chip_count, region_size}
-use Rattle.app_loads.specs.Taking.{AreRegionsOf, CanServe, IsFair, free_of}
+use Rattle.app_loads.specs.Taking.{AreRegionsOf, CanServe, IsFair, free_places_in}
 use Rattle.app_loads.proofs.ClaimCases.{facts, net_claim}
 
 pub can_serve : (m : Description) (plan : AppPlan) (regions : List Region) (claims : List Claim) → IsPlan m plan → AreRegionsOf m regions → claims ≡ claims_of m plan → CanServe claims regions
 can_serve m plan regions claims valid own is = (m, own, subst (All (IsFair m (length regions))) (sym is) (All-each (IsFair m (length regions)) (claims_of m plan) fair))
   where
     long : length regions ≡ 1 + (chip_count m + chip_count m)
-    long = sym (length-map regions free_of) ∙ own.free.all
+    long = sym (length-map regions free_places_in) ∙ own.free.all
 
     fair : (claim : Claim) → Contains (claims_of m plan) claim → IsFair m (length regions) claim
     fair claim has = subst (λ n. IsFair m n claim) (sym long) (facts m plan valid claim has).fair

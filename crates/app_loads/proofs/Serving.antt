@@ -7,10 +7,10 @@ use Rattle.std.proofs.lemmas.List.Elements.{All-nil, All-cons, All-head, All-tai
 use Rattle.std.proofs.lemmas.List.Folds.{list_any-append}
 use Rattle.std.proofs.lemmas.Option.{slice_get_within, slice_get-get_or, same_Some, none-some}
 use Rattle.key_alloc.proofs.Ranges.{in_facts}
-use Rattle.list_laws.proofs.Counts.{count_by-append, count_by-cons}
-use Rattle.list_laws.proofs.Pairs.{AllPairs-left, AllPairs-right, AllPairs-across, AllPairs-append, AllPairs-head, AllPairs-tail}
-use Rattle.list_laws.proofs.Places.{All-each, slice_get-mapped, slice_get-push_cases, slice_get-set_same, slice_get-set_other, set-slice_get}
-use Rattle.list_laws.proofs.Members.{any_among, among_any, contains_among, among_contains, among_right, among_either}
+use Rattle.spin_base.proofs.Counts.{count_by-append, count_by-cons}
+use Rattle.spin_base.proofs.Pairs.{AllPairs-left, AllPairs-right, AllPairs-across, AllPairs-append, AllPairs-head, AllPairs-tail}
+use Rattle.spin_base.proofs.Places.{All-each, slice_get-mapped, slice_get-push_cases, slice_get-set_same, slice_get-set_other, set-slice_get}
+use Rattle.spin_base.proofs.Members.{any_among, among_any, contains_among, among_contains, among_right, among_either}
 use Rattle.machine_desc.specs.Description.{Description}
 use Rattle.range_store.specs.Views.{Region}
 use Rattle.range_store.specs.Regions.{AreRuns, is_free, in_range}
@@ -19,9 +19,9 @@ use Rattle.app_loads.specs.declared.answers.LoadErr.TheVariants.{Memory}
 use Rattle.app_loads.specs.declared.loaded.Claim.{Claim}
 use Rattle.app_loads.specs.declared.loaded.Range.{Range}
 use Rattle.app_loads.specs.Host.{Free}
-use Rattle.app_loads.specs.Regions.{AreFreeBeside, IsFreeBeside, AreApart, has_place, is_taken, region_size, IsWithin}
-use Rattle.app_loads.specs.Claims.{IsLeastOpen, IsOpen, IsRefusalDue}
-use Rattle.app_loads.specs.Taking.{free_of, frees, range_at, Serves, Refuses, IsFair, HaveRoom, CanServe, HaveServed, AreTaken, AreTakenAlways, AreServedAlways, IsDueAlways}
+use Rattle.app_loads.specs.Regions.{AreFreeBeside, IsFreeBeside, ShareNoPlace, range_has, is_taken, region_size, IsRangeWithin}
+use Rattle.app_loads.specs.Claims.{IsLeastOpenRange, IsOpenRange, IsRefusalDue}
+use Rattle.app_loads.specs.Taking.{free_places_in, frees, range_at, ServesClaim, RefusesClaim, IsFair, IsFairFor, HaveRoom, CanServe, HaveServed, AreTaken, AreTakenAlways, AreServedAlways, IsDueAlways}
 use Rattle.std.proofs.Math.Bool.{or-false}
 use Rattle.app_loads.proofs.Others.{pairs_with_last}
 use Rattle.range_store.proofs.HolePlaces.{clash}
@@ -83,26 +83,26 @@ module _ (ranges : List Range) (range : Range) where
 
 taken_of_other : (range : Range) (taken : List Range) (region k : ℕ) → range.region ≢ region → is_taken (taken ++ range ∷ []) region k ≡ is_taken taken region k
 taken_of_other range taken region k other =
-    list_any-append (has_place region k) taken (range ∷ [])
+    list_any-append (range_has region k) taken (range ∷ [])
     ∙ (ap (λ b. is_taken taken region k || ((b && in_range range.place range.size k) || false)) (ne_eqb range.region region other) ∙ or-false (is_taken taken region k))
 
 -- a place of one of the ranges
-pub taken_by : (ranges : List Range) (region k : ℕ) (range : Range) → Contains ranges range → has_place region k range ≡ true → is_taken ranges region k ≡ true
-taken_by ranges region k range has at = among_any (has_place region k) range ranges (contains_among range ranges has) at
+pub taken_by : (ranges : List Range) (region k : ℕ) (range : Range) → Contains ranges range → range_has region k range ≡ true → is_taken ranges region k ≡ true
+taken_by ranges region k range has at = among_any (range_has region k) range ranges (contains_among range ranges has) at
 
 -- and the other way round
-pub by_taken : (ranges : List Range) (region k : ℕ) → is_taken ranges region k ≡ true → (range : Range) × Contains ranges range × (has_place region k range ≡ true)
-by_taken ranges region k e = let found = any_among (has_place region k) ranges e in (found.0, among_contains found.0 ranges found.1, found.2)
+pub by_taken : (ranges : List Range) (region k : ℕ) → is_taken ranges region k ≡ true → (range : Range) × Contains ranges range × (range_has region k range ≡ true)
+by_taken ranges region k e = let found = any_among (range_has region k) ranges e in (found.0, among_contains found.0 ranges found.1, found.2)
 
 -- the free places beside one range more
 free_beside_more : (m : Description) (taken : List Range) (old : List Region) (claim : Claim) (before after : Region) (range : Range) → range.region ≡ claim.region →
-    AreFreeBeside m taken (frees old) → slice_get old claim.region ≡ Some before → IsFreeBeside m (taken ++ range ∷ []) claim.region (free_of after) →
+    AreFreeBeside m taken (frees old) → slice_get old claim.region ≡ Some before → IsFreeBeside m (taken ++ range ∷ []) claim.region (free_places_in after) →
     AreFreeBeside m (taken ++ range ∷ []) (frees (slice_set old claim.region after))
 free_beside_more m taken old claim before after range its beside at here = record {
-  all = ap length (map-set free_of old claim.region after) ∙ (length-set (frees old) claim.region (free_of after) ∙ beside.all);
+  all = ap length (map-set free_places_in old claim.region after) ∙ (length-set (frees old) claim.region (free_places_in after) ∙ beside.all);
   each = λ region f is.
-      elim (set_cases (frees old) claim.region region (free_of before) (free_of after) f (slice_get-mapped free_of old claim.region before at) (sym (ap (λ l. slice_get l region) (map-set free_of old claim.region after)) ∙ is)) [
-        | inl mine ↦ subst (λ (g : Free). IsFreeBeside m (taken ++ range ∷ []) region g) (sym mine.1) (subst (λ r. IsFreeBeside m (taken ++ range ∷ []) r (free_of after)) (sym mine.0) here)
+      elim (set_cases (frees old) claim.region region (free_places_in before) (free_places_in after) f (slice_get-mapped free_places_in old claim.region before at) (sym (ap (λ l. slice_get l region) (map-set free_places_in old claim.region after)) ∙ is)) [
+        | inl mine ↦ subst (λ (g : Free). IsFreeBeside m (taken ++ range ∷ []) region g) (sym mine.1) (subst (λ r. IsFreeBeside m (taken ++ range ∷ []) r (free_places_in after)) (sym mine.0) here)
         | inr other ↦
             let was = beside.each region f other.1 in
             record {
@@ -114,21 +114,21 @@ free_beside_more m taken old claim before after range its beside at here = recor
 }
 
 -- a range that is open for a claim shares no place with those that are taken
-apart_from_open : (m : Description) (taken : List Range) (claim : Claim) (place : ℕ) → IsOpen m taken claim place → (other : Range) → Contains taken other → AreApart other (range_at claim place)
+apart_from_open : (m : Description) (taken : List Range) (claim : Claim) (place : ℕ) → IsOpenRange m taken claim place → (other : Range) → Contains taken other → ShareNoPlace other (range_at claim place)
 apart_from_open m taken claim place may other has region k in_other in_mine =
     let parts = and_parts (claim.region == region) (in_range place claim.size k) in_mine in
     let region_is : claim.region ≡ region = eqb-true claim.region region parts.0 in
-    clash (taken_by taken claim.region k other has (subst (λ r. has_place r k other ≡ true) (sym region_is) in_other)) (may.untaken k parts.1)
+    clash (taken_by taken claim.region k other has (subst (λ r. range_has r k other ≡ true) (sym region_is) in_other)) (may.untaken k parts.1)
 
 -- ---- one claim more is served
 
 module _ (claims : List Claim) (old mid : List Region) (ranges : List Range) (so_far : HaveServed claims old ranges mid)
     (claim : Claim) (is : slice_get claims (length ranges) ≡ Some claim) (before : Region) (at : slice_get mid claim.region ≡ Some before) where
   -- what was taken
-  beside_in : (m : Description) (taken : List Range) → AreFreeBeside m taken (frees mid) → IsFreeBeside m taken claim.region (free_of before)
-  beside_in m taken free = free.each claim.region (free_of before) (slice_get-mapped free_of mid claim.region before at)
+  beside_in : (m : Description) (taken : List Range) → AreFreeBeside m taken (frees mid) → IsFreeBeside m taken claim.region (free_places_in before)
+  beside_in m taken free = free.each claim.region (free_places_in before) (slice_get-mapped free_places_in mid claim.region before at)
 
-  pub served_more : (after : Region) (place : ℕ) (new : List Region) → 0 < claim.size → new ≡ slice_set mid claim.region after → Serves claim before after place → of_region claim.region ranges + 1 ≤ after.spare →
+  pub served_more : (after : Region) (place : ℕ) (new : List Region) → 0 < claim.size → new ≡ slice_set mid claim.region after → ServesClaim claim before after place → of_region claim.region ranges + 1 ≤ after.spare →
       HaveServed claims old (ranges ++ range_at claim place ∷ []) new
   served_more after place new some set serves spare = record {
     served = λ m taken apart free.
@@ -140,12 +140,12 @@ module _ (claims : List Claim) (old mid : List Region) (ranges : List Range) (so
           each = λ i c' r' is_c is_r. elim (slice_get-push_cases ranges r r' i is_r) [
             | inl old_one ↦
                 let below : i < length ranges = old_one.0 in
-                subst (λ l. IsLeastOpen m (taken ++ l) c' r') (sym (take-append-le i ranges (r ∷ []) (omega (arith, below)))) (was.each i c' r' is_c old_one.1)
+                subst (λ l. IsLeastOpenRange m (taken ++ l) c' r') (sym (take-append-le i ranges (r ∷ []) (omega (arith, below)))) (was.each i c' r' is_c old_one.1)
             | inr new_one ↦
                 let same_claim : claim ≡ c' = same_Some _ _ (sym is ∙ (ap (slice_get claims) (sym new_one.0) ∙ is_c)) in
                 let list : take i (ranges ++ r ∷ []) ≡ ranges = ap (λ n. take n (ranges ++ r ∷ [])) new_one.0 ∙ take_at ranges (r ∷ []) (length ranges) refl in
-                subst (λ l. IsLeastOpen m (taken ++ l) c' r') (sym list)
-                (subst (λ (c'' : Claim). IsLeastOpen m (taken ++ ranges) c'' r') same_claim (subst (λ (r'' : Range). IsLeastOpen m (taken ++ ranges) claim r'') new_one.1 now.0))
+                subst (λ l. IsLeastOpenRange m (taken ++ l) c' r') (sym list)
+                (subst (λ (c'' : Claim). IsLeastOpenRange m (taken ++ ranges) c'' r') same_claim (subst (λ (r'' : Range). IsLeastOpenRange m (taken ++ ranges) claim r'') new_one.1 now.0))
           ];
         };
     taken = λ m taken apart free.
@@ -154,9 +154,9 @@ module _ (claims : List Claim) (old mid : List Region) (ranges : List Range) (so
         let assoc : (taken ++ ranges) ++ r ∷ [] ≡ taken ++ (ranges ++ r ∷ []) = append_assoc taken ranges (r ∷ []) in
         let long : length new ≡ length mid = ap length set ∙ length-set mid claim.region after in
         record {
-          within = All-append (IsWithin m (length new)) ranges (r ∷ []) (subst (λ n. All (IsWithin m n) ranges) (sym long) t.within)
-              (All-cons (IsWithin m (length new)) r [] (record { there = subst (λ n. claim.region < n) (sym long) (slice_get_within mid claim.region before at); some = some; within = now.0.may.within }) (All-nil (IsWithin m (length new))));
-          apart = subst (AllPairs AreApart) assoc (pairs_with_last AreApart (taken ++ ranges) r t.apart (apart_from_open m (taken ++ ranges) claim place now.0.may));
+          within = All-append (IsRangeWithin m (length new)) ranges (r ∷ []) (subst (λ n. All (IsRangeWithin m n) ranges) (sym long) t.within)
+              (All-cons (IsRangeWithin m (length new)) r [] (record { there = subst (λ n. claim.region < n) (sym long) (slice_get_within mid claim.region before at); some = some; within = now.0.may.within }) (All-nil (IsRangeWithin m (length new))));
+          apart = subst (AllPairs ShareNoPlace) assoc (pairs_with_last ShareNoPlace (taken ++ ranges) r t.apart (apart_from_open m (taken ++ ranges) claim place now.0.may));
           free = subst (λ l. AreFreeBeside m l (frees new)) assoc
               (subst (λ l. AreFreeBeside m ((taken ++ ranges) ++ r ∷ []) (frees l)) (sym set)
               (free_beside_more m (taken ++ ranges) mid claim before after r refl t.free at now.1));
@@ -179,7 +179,7 @@ module _ (claims : List Claim) (old mid : List Region) (ranges : List Range) (so
       r = range_at claim place
 
   -- the claim is refused
-  pub due_here : Refuses claim before → (m : Description) (taken : List Range) → AllPairs AreApart taken → AreFreeBeside m taken (frees old) → IsRefusalDue m taken claims claim.refusal
+  pub due_here : RefusesClaim claim before → (m : Description) (taken : List Range) → AllPairs ShareNoPlace taken → AreFreeBeside m taken (frees old) → IsRefusalDue m taken claims claim.refusal
   due_here refuses m taken apart free = record {
     ranges = ranges;
     before = so_far.served m taken apart free;
@@ -190,14 +190,14 @@ module _ (claims : List Claim) (old mid : List Region) (ranges : List Range) (so
   }
 
   -- and nothing of it is taken
-  pub taken_still : (after : Region) (new : List Region) → new ≡ slice_set mid claim.region after → free_of after ≡ free_of before → AreTakenAlways old ranges new
+  pub taken_still : (after : Region) (new : List Region) → new ≡ slice_set mid claim.region after → free_places_in after ≡ free_places_in before → AreTakenAlways old ranges new
   taken_still after new set same m taken apart free =
       let t = so_far.taken m taken apart free in
       let long : length new ≡ length mid = ap length set ∙ length-set mid claim.region after in
       record {
-        within = subst (λ n. All (IsWithin m n) ranges) (sym long) t.within;
+        within = subst (λ n. All (IsRangeWithin m n) ranges) (sym long) t.within;
         apart = t.apart;
-        free = subst (λ l. AreFreeBeside m (taken ++ ranges) l) (sym (ap frees set ∙ (map-set free_of mid claim.region after ∙ (ap (slice_set (frees mid) claim.region) same ∙ set-slice_get (frees mid) claim.region (free_of before) (slice_get-mapped free_of mid claim.region before at))))) t.free;
+        free = subst (λ l. AreFreeBeside m (taken ++ ranges) l) (sym (ap frees set ∙ (map-set free_places_in mid claim.region after ∙ (ap (slice_set (frees mid) claim.region) same ∙ set-slice_get (frees mid) claim.region (free_places_in before) (slice_get-mapped free_places_in mid claim.region before at))))) t.free;
       }
 
   pub room_still : (after : Region) (new : List Region) → new ≡ slice_set mid claim.region after → ((n : ℕ) → n ≤ of_region claim.region ranges → n ≤ before.spare → n ≤ after.spare) → HaveRoom ranges new
@@ -215,8 +215,8 @@ pub none_served : (claims : List Claim) (regions : List Region) (ranges : List R
 none_served claims regions ranges none = subst (λ l. HaveServed claims regions l regions) (sym none) (record {
   served = λ m taken apart free. record { few = omega arith; each = λ i c r is_c is_r. absurd (none-some r is_r) };
   taken = λ m taken apart free. record {
-    within = All-nil (IsWithin m (length regions));
-    apart = subst (AllPairs AreApart) (sym (append-nil taken)) apart;
+    within = All-nil (IsRangeWithin m (length regions));
+    apart = subst (AllPairs ShareNoPlace) (sym (append-nil taken)) apart;
     free = subst (λ l. AreFreeBeside m l (frees regions)) (sym (append-nil taken)) free;
   };
   room = λ i r is. omega arith;
@@ -226,11 +226,11 @@ none_served claims regions ranges none = subst (λ l. HaveServed claims regions 
 -- ---- one range is given back
 
 module _ (m : Description) (others : List Range) (range : Range) (rest : List Range) (old : List Region) (taken : AreTaken m others (range ∷ rest) old) (before : Region) (at : slice_get old range.region ≡ Some before) where
-  beside_here : IsFreeBeside m (others ++ range ∷ rest) range.region (free_of before)
-  beside_here = taken.free.each range.region (free_of before) (slice_get-mapped free_of old range.region before at)
+  beside_here : IsFreeBeside m (others ++ range ∷ rest) range.region (free_places_in before)
+  beside_here = taken.free.each range.region (free_places_in before) (slice_get-mapped free_places_in old range.region before at)
 
-  within_here : IsWithin m (length old) range
-  within_here = All-head (IsWithin m (length old)) range rest taken.within
+  within_here : IsRangeWithin m (length old) range
+  within_here = All-head (IsRangeWithin m (length old)) range rest taken.within
 
   pub give_within : range.place + range.size ≤ before.size
   give_within = let w = within_here.within in let s = beside_here.size in omega (arith, w, s)
@@ -238,7 +238,7 @@ module _ (m : Description) (others : List Range) (range : Range) (rest : List Ra
   in_middle : Contains (others ++ range ∷ rest) range
   in_middle = among_contains range (others ++ range ∷ rest) (among_right range others (range ∷ rest) (inl refl))
 
-  mine : (k : ℕ) → in_range range.place range.size k ≡ true → has_place range.region k range ≡ true
+  mine : (k : ℕ) → in_range range.place range.size k ≡ true → range_has range.region k range ≡ true
   mine k here = and_from (range.region == range.region) (in_range range.place range.size k) (eq-eqb range.region range.region refl) here
 
   pub give_taken : (k : ℕ) → in_range range.place range.size k ≡ true → is_free before.holes k ≡ false
@@ -254,30 +254,30 @@ module _ (m : Description) (others : List Range) (range : Range) (rest : List Ra
         absurd (either_side found.0 found.1 found.2)
   ]
     where
-      across : All (λ a. All (AreApart a) (range ∷ rest)) others
-      across = AllPairs-across AreApart others (range ∷ rest) taken.apart
+      across : All (λ a. All (ShareNoPlace a) (range ∷ rest)) others
+      across = AllPairs-across ShareNoPlace others (range ∷ rest) taken.apart
 
-      after : All (AreApart range) rest
-      after = AllPairs-head AreApart range rest (AllPairs-right AreApart others (range ∷ rest) taken.apart)
+      after : All (ShareNoPlace range) rest
+      after = AllPairs-head ShareNoPlace range rest (AllPairs-right ShareNoPlace others (range ∷ rest) taken.apart)
 
-      either_side : (other : Range) → Contains (others ++ rest) other → has_place range.region k other ≡ true → ⊥
+      either_side : (other : Range) → Contains (others ++ rest) other → range_has range.region k other ≡ true → ⊥
       either_side other has there = elim (among_either other others rest (contains_among other (others ++ rest) has)) [
-        | inl left ↦ (All-head (AreApart other) range rest (All-contains (λ a. All (AreApart a) (range ∷ rest)) others other across (among_contains other others left))) range.region k there (mine k here)
-        | inr right ↦ (All-contains (AreApart range) rest other after (among_contains other rest right)) range.region k (mine k here) there
+        | inl left ↦ (All-head (ShareNoPlace other) range rest (All-contains (λ a. All (ShareNoPlace a) (range ∷ rest)) others other across (among_contains other others left))) range.region k there (mine k here)
+        | inr right ↦ (All-contains (ShareNoPlace range) rest other after (among_contains other rest right)) range.region k (mine k here) there
       ]
 
   pub given_back : (after : Region) (new : List Region) → new ≡ slice_set old range.region after → after.size ≡ before.size → AreRuns 0 after.size after.holes →
       ((k : ℕ) → is_free after.holes k ≡ (is_free before.holes k || in_range range.place range.size k)) → AreTaken m others rest new
   given_back after new set size runs free = record {
-    within = subst (λ n. All (IsWithin m n) rest) (sym long) (All-tail (IsWithin m (length old)) range rest taken.within);
-    apart = AllPairs-append AreApart others rest (AllPairs-left AreApart others (range ∷ rest) taken.apart)
-        (AllPairs-tail AreApart range rest (AllPairs-right AreApart others (range ∷ rest) taken.apart))
-        (All-each (λ a. All (AreApart a) rest) others (λ a has. All-tail (AreApart a) range rest (All-contains (λ z. All (AreApart z) (range ∷ rest)) others a (AllPairs-across AreApart others (range ∷ rest) taken.apart) has)));
+    within = subst (λ n. All (IsRangeWithin m n) rest) (sym long) (All-tail (IsRangeWithin m (length old)) range rest taken.within);
+    apart = AllPairs-append ShareNoPlace others rest (AllPairs-left ShareNoPlace others (range ∷ rest) taken.apart)
+        (AllPairs-tail ShareNoPlace range rest (AllPairs-right ShareNoPlace others (range ∷ rest) taken.apart))
+        (All-each (λ a. All (ShareNoPlace a) rest) others (λ a has. All-tail (ShareNoPlace a) range rest (All-contains (λ z. All (ShareNoPlace z) (range ∷ rest)) others a (AllPairs-across ShareNoPlace others (range ∷ rest) taken.apart) has)));
     free = record {
-      all = ap length (ap frees set ∙ map-set free_of old range.region after) ∙ (length-set (frees old) range.region (free_of after) ∙ taken.free.all);
+      all = ap length (ap frees set ∙ map-set free_places_in old range.region after) ∙ (length-set (frees old) range.region (free_places_in after) ∙ taken.free.all);
       each = λ region f is.
-          elim (set_cases (frees old) range.region region (free_of before) (free_of after) f (slice_get-mapped free_of old range.region before at) (sym (ap (λ l. slice_get l region) (ap frees set ∙ map-set free_of old range.region after)) ∙ is)) [
-            | inl here ↦ subst (λ (g : Free). IsFreeBeside m (others ++ rest) region g) (sym here.1) (subst (λ r. IsFreeBeside m (others ++ rest) r (free_of after)) (sym here.0) back)
+          elim (set_cases (frees old) range.region region (free_places_in before) (free_places_in after) f (slice_get-mapped free_places_in old range.region before at) (sym (ap (λ l. slice_get l region) (ap frees set ∙ map-set free_places_in old range.region after)) ∙ is)) [
+            | inl here ↦ subst (λ (g : Free). IsFreeBeside m (others ++ rest) region g) (sym here.1) (subst (λ r. IsFreeBeside m (others ++ rest) r (free_places_in after)) (sym here.0) back)
             | inr other ↦
                 let was = taken.free.each region f other.1 in
                 record {
@@ -292,17 +292,17 @@ module _ (m : Description) (others : List Range) (range : Range) (rest : List Ra
       long : length new ≡ length old
       long = ap length set ∙ length-set old range.region after
 
-      both : (region k : ℕ) → is_taken (others ++ range ∷ rest) region k ≡ (is_taken others region k || (has_place region k range || is_taken rest region k))
-      both region k = list_any-append (has_place region k) others (range ∷ rest)
+      both : (region k : ℕ) → is_taken (others ++ range ∷ rest) region k ≡ (is_taken others region k || (range_has region k range || is_taken rest region k))
+      both region k = list_any-append (range_has region k) others (range ∷ rest)
 
       left : (region k : ℕ) → is_taken (others ++ rest) region k ≡ (is_taken others region k || is_taken rest region k)
-      left region k = list_any-append (has_place region k) others rest
+      left region k = list_any-append (range_has region k) others rest
 
       elsewhere : (region k : ℕ) → range.region ≢ region → is_taken (others ++ range ∷ rest) region k ≡ is_taken (others ++ rest) region k
       elsewhere region k other =
           both region k ∙ (ap (λ b. is_taken others region k || ((b && in_range range.place range.size k) || is_taken rest region k)) (ne_eqb range.region region other) ∙ sym (left region k))
 
-      back : IsFreeBeside m (others ++ rest) range.region (free_of after)
+      back : IsFreeBeside m (others ++ rest) range.region (free_places_in after)
       back = record {
         size = size ∙ beside_here.size;
         runs = runs;
@@ -346,7 +346,7 @@ module _ (ranges : List Range) (i : ℕ) (d : Range) (below : i < length ranges)
   here = subst (λ l. AreTaken m others l regions) dropped taken
 
   pub there_at : range.region < length regions
-  there_at = (All-head (IsWithin m (length regions)) range rest here.within).there
+  there_at = (All-head (IsRangeWithin m (length regions)) range rest here.within).there
 
   at_place : slice_get regions range.region ≡ Some before
   at_place = slice_get-get_or regions range.region e there_at
@@ -436,6 +436,9 @@ module _ (claims : List Claim) (old mid : List Region) (ranges : List Range) (i 
       within_size (Some p) size f = (f.0, let w = f.1 in omega (arith, w, size))
       within_size None size f = tt
 
+  pub claim_fair : IsFairFor claim before'
+  claim_fair = record { some = fair.some; step = fair.step; fixed = claim_fixed }
+
   -- what is counted of the claim's region
   module _ (counts : List ℕ) (f : ℕ) (long : length counts ≡ length old) (counted : (k n : ℕ) → slice_get counts k ≡ Some n → n ≡ of_region k ranges) where
     pub count_there : claim.region < length counts
@@ -449,17 +452,17 @@ module _ (claims : List Claim) (old mid : List Region) (ranges : List Range) (i 
     counts_more place list pushed next is k n at =
         counted_push ranges (range_at claim place) counts (get_or counts claim.region f) next (slice_get-get_or counts claim.region f count_there) counted is k n at ∙ ap (of_region k) (sym pushed)
 
-  pub claim_served : (after : Region) (place : ℕ) (list : List Range) (held : ℕ) → held ≡ of_region claim.region ranges → list ≡ ranges ++ range_at claim place ∷ [] → Serves claim before' after place →
+  pub claim_served : (after : Region) (place : ℕ) (list : List Range) (held : ℕ) → held ≡ of_region claim.region ranges → list ≡ ranges ++ range_at claim place ∷ [] → ServesClaim claim before' after place →
       held + 1 ≤ after.spare → HaveServed claims old list (slice_set mid claim.region after)
   claim_served after place list held counted pushed serves spare =
       subst (λ l. HaveServed claims old l (slice_set mid claim.region after)) (sym pushed)
       (served_more claims old mid ranges so_far claim is_claim before' at_claim after place (slice_set mid claim.region after) claim_some refl serves (omega (arith, spare, counted)))
 
-  pub claim_due : (err : LoadErr) → (err ≡ Memory) ⊎ ((err ≡ claim.refusal) × Refuses claim before') → IsDueAlways claims old err
+  pub claim_due : (err : LoadErr) → (err ≡ Memory) ⊎ ((err ≡ claim.refusal) × RefusesClaim claim before') → IsDueAlways claims old err
   claim_due err (inl memory) = inl memory
   claim_due err (inr refused) = inr (λ m taken apart free. subst (IsRefusalDue m taken claims) (sym refused.0) (due_here claims old mid ranges so_far claim is_claim before' at_claim refused.1 m taken apart free))
 
-  pub claim_taken : (after : Region) → free_of after ≡ free_of before' → AreTakenAlways old ranges (slice_set mid claim.region after)
+  pub claim_taken : (after : Region) → free_places_in after ≡ free_places_in before' → AreTakenAlways old ranges (slice_set mid claim.region after)
   claim_taken after same = taken_still claims old mid ranges so_far claim is_claim before' at_claim after (slice_set mid claim.region after) refl same
 
   pub claim_room : (after : Region) (held : ℕ) → held ≡ of_region claim.region ranges → ((n : ℕ) → n ≤ held → n ≤ before'.spare → n ≤ after.spare) → HaveRoom ranges (slice_set mid claim.region after)

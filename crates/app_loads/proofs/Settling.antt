@@ -10,10 +10,10 @@ use Rattle.std.proofs.lemmas.List.Sorted.{length_permutation}
 use Rattle.std.proofs.lemmas.Option.{slice_get_within, same_Some}
 use Rattle.mesh_core.proofs.Moves.{chip_of-index_of}
 use Rattle.spin_base.proofs.Equality.{chip_eq_true}
-use Rattle.list_laws.proofs.Counts.{count_by-cons}
-use Rattle.list_laws.proofs.Members.{Contains-at, Contains-filter, among_any, any_among, among_contains, contains_among}
-use Rattle.list_laws.proofs.Places.{All-at, All-each, AllZip-at_second, slice_get_there}
-use Rattle.list_laws.proofs.Ranges.{slice_get-map_range}
+use Rattle.spin_base.proofs.Counts.{count_by-cons}
+use Rattle.spin_base.proofs.Members.{Contains-at, Contains-filter, among_any, any_among, among_contains, contains_among}
+use Rattle.spin_base.proofs.Places.{All-at, All-each, AllZip-at_second, slice_get_there}
+use Rattle.spin_base.proofs.Ranges.{slice_get-map_range}
 use Rattle.spin_base.specs.declared.blocks.Block.{Block}
 use Rattle.spin_base.specs.declared.blocks.Entry.{Entry}
 use Rattle.spin_base.specs.declared.chips.Chip.{Chip}
@@ -34,7 +34,7 @@ use Rattle.machine_desc.proofs.TreeLemmas.{tree_cases, tree_end}
 use Rattle.tern_word.specs.declared.tables.Row.{Row}
 use Rattle.tern_word.specs.declared.tables.Table.{Table}
 use Rattle.tern_word.specs.SoundTable.{Original}
-use Rattle.plain_tables.specs.PlainTable.{AreOriginals, AtEach, IsPlainTable, row_of}
+use Rattle.net_tables.specs.PlainTable.{AreOriginals, AtEach, IsPlainTable, row_of}
 use Rattle.mesh_core.specs.State.{Setup, State, IsMesh}
 use Rattle.mesh_core.proofs.Ways.{vertex_there}
 use Rattle.app_loads.specs.declared.loaded.LoadedApp.{LoadedApp}
@@ -45,8 +45,8 @@ use Rattle.app_loads.specs.Claims.{claims_of, has_chip}
 use Rattle.app_loads.specs.Host.{net_with, nets_with, nets_of}
 use Rattle.app_loads.specs.Joining.{AreSent, AreWritten, CanSettle, IsSettled}
 use Rattle.app_loads.specs.Opening.{grid_spots, spot_of, usable_spots}
-use Rattle.app_loads.specs.Plans.{IsAppNet, IsPacketOf}
-use Rattle.app_loads.specs.Regions.{chip_count, region_size, rows_region, IsWithin}
+use Rattle.app_loads.specs.Plans.{IsAppNet, IsPacketOfApp}
+use Rattle.app_loads.specs.Regions.{chip_count, region_size, rows_region, IsRangeWithin}
 use Rattle.app_loads.specs.Sending.{CanSend, IsPacketOn, IsSendingFrom}
 use Rattle.app_loads.specs.Writing.{AreCopied, CanCopy}
 use Rattle.app_loads.proofs.AppNets.{facts_at, key_of_index, member_at, spot_inside, usable_spot}
@@ -150,12 +150,12 @@ module _ (s : State) (app : LoadedApp) (can : CanSettle s app) (mesh : IsMesh s)
 
   packet_on : (p : Packet) → Contains app.plan.packets p → IsPacketOn app.blocks (length app.plan.nets) p
   packet_on p has =
-      let of_net = All-contains (IsPacketOf app.plan.nets) app.plan.packets p can.loaded.plan.packets has in
+      let of_net = All-contains (IsPacketOfApp app.plan.nets) app.plan.packets p can.loaded.plan.packets has in
       let below = slice_get_within app.plan.nets p.net of_net.0 of_net.1 in
       let block = slice_get_there app.blocks p.net (let l = can.loaded.blocks.all in omega (arith, below, l)) in
       let x = net_with of_net.0 block.0 in
       let f = facts_at m app can.loaded p.net x (nets_with_at app.plan.nets app.blocks p.net of_net.0 block.0 of_net.1 block.1) in
-      let within = (All-at (IsWithin m (1 + (chip_count m + chip_count m))) app.ranges f.at f.range can.loaded.within f.got).within in
+      let within = (All-at (IsRangeWithin m (1 + (chip_count m + chip_count m))) app.ranges f.at f.range can.loaded.within f.got).within in
       let room : f.range.place + f.range.size ≤ 4294967296 = subst (λ r. f.range.place + f.range.size ≤ r) (ap (region_size m) f.region) within in
       let same_net : f.net ≡ of_net.0 = same_Some _ _ (sym f.at_net ∙ of_net.1) in
       let same_block : f.block ≡ block.0 = same_Some _ _ (sym f.at_block ∙ block.1) in
@@ -187,11 +187,11 @@ module _ (s : State) (app : LoadedApp) (can : CanSettle s app) (mesh : IsMesh s)
       rows_long = rows_long;
       each_long = can.long;
       apart = can.apart;
-      there = λ range has. (All-contains (IsWithin m (1 + (chip_count m + chip_count m))) app.ranges range can.loaded.within has).there;
+      there = λ range has. (All-contains (IsRangeWithin m (1 + (chip_count m + chip_count m))) app.ranges range can.loaded.within has).there;
       fit = λ range has c t inside region at.
           let size = range_size range has c inside region in
           let many = plain_count m c app.plan.nets app.blocks t.rows can.loaded.blocks.all (plain c t inside at) in
-          let within = (All-contains (IsWithin m (1 + (chip_count m + chip_count m))) app.ranges range can.loaded.within has).within in
+          let within = (All-contains (IsRangeWithin m (1 + (chip_count m + chip_count m))) app.ranges range can.loaded.within has).within in
           let room : range.place + range.size ≤ 1024 = subst (λ r. range.place + range.size ≤ r) (ap (region_size m) region ∙ rows_size m (index_of m c)) within in
           (omega (arith, size, many, room), size ∙ sym many);
     }))
@@ -240,9 +240,10 @@ changed_mesh s tables q delivered dumped mesh long as_long at_start = record {
   inputs_within = mesh.inputs_within;
   cores_within = mesh.cores_within;
   unsent_at_start = at_start;
-  hands_with_outputs = mesh.hands_with_outputs;
+  hands_fit = mesh.hands_fit;
   none_at_dead_ports = mesh.none_at_dead_ports;
   none_on_dead_chips = mesh.none_on_dead_chips;
+  no_hand_on_dead_chips = mesh.no_hand_on_dead_chips;
 }
 
 pub settled_mesh : (s : State) (app : LoadedApp) (n : ℕ) (q : List (List McCopy)) (tables : List (List Entry)) → IsMesh s → AreSent s.setup.spots app n s.unsent q → length tables ≡ length s.setup.tables →

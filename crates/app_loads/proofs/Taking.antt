@@ -8,8 +8,8 @@ use Rattle.range_store.specs.Regions.{AreRuns, IsFirstFit, HasNoFit, is_hole_ran
 use Rattle.app_loads.specs.declared.loaded.Claim.{Claim}
 use Rattle.app_loads.specs.declared.loaded.Range.{Range}
 use Rattle.app_loads.specs.Host.{Free}
-use Rattle.app_loads.specs.Regions.{IsFreeBeside, has_place, is_taken}
-use Rattle.app_loads.specs.Claims.{IsOpen, IsLeastOpen, IsRefused}
+use Rattle.app_loads.specs.Regions.{IsFreeBeside, range_has, is_taken}
+use Rattle.app_loads.specs.Claims.{IsOpenRange, IsLeastOpenRange, IsRefusedClaim}
 use Rattle.range_store.proofs.HolePlaces.{clash, free_in_range, range_of_free}
 
 here_too : (region : ℕ) (b : Bool) → ((region == region) && b) ≡ b
@@ -29,15 +29,15 @@ taken_more m taken region before after range its beside size runs free = record 
       ∙ (ap (λ n. (ltb k n && not (is_taken taken region k)) && not (in_range range.place range.size k)) (sym size)
       ∙ (regroup (ltb k after.size) (is_taken taken region k) (in_range range.place range.size k)
       ∙ (ap (λ z. ltb k after.size && not (is_taken taken region k || (z || false))) (sym (here k))
-      ∙ ap (λ z. ltb k after.size && not z) (sym (list_any-append (has_place region k) taken (range ∷ [])))))));
+      ∙ ap (λ z. ltb k after.size && not z) (sym (list_any-append (range_has region k) taken (range ∷ [])))))));
 }
   where
-    here : (k : ℕ) → has_place region k range ≡ in_range range.place range.size k
+    here : (k : ℕ) → range_has region k range ≡ in_range range.place range.size k
     here k = ap (λ r. (r == region) && in_range range.place range.size k) its ∙ here_too region (in_range range.place range.size k)
 
 module _ (m : Description) (taken : List Range) (claim : Claim) (f : Free) (beside : IsFreeBeside m taken claim.region f) (some : 0 < claim.size) where
   -- a range that lies in a hole may be taken
-  pub open_from_hole : (p : ℕ) → p % claim.align ≡ 0 → IfSome claim.fixed (λ q. p ≡ q) → is_hole_range f.holes p claim.size ≡ true → IsOpen m taken claim p
+  pub open_from_hole : (p : ℕ) → p % claim.align ≡ 0 → IfSome claim.fixed (λ q. p ≡ q) → is_hole_range f.holes p claim.size ≡ true → IsOpenRange m taken claim p
   open_from_hole p aligned fixed fits =
       let at : (k : ℕ) → p ≤ k → k < p + claim.size → (ltb k f.size ≡ true) × (not (is_taken taken claim.region k) ≡ true) =
       λ k low high. and_parts (ltb k f.size) (not (is_taken taken claim.region k)) (sym (beside.free k) ∙ free_in_range f.holes p claim.size k fits low high) in
@@ -51,7 +51,7 @@ module _ (m : Description) (taken : List Range) (claim : Claim) (f : Free) (besi
       }
 
   -- and one that may be taken lies in a hole
-  pub hole_from_open : (p : ℕ) → IsOpen m taken claim p → is_hole_range f.holes p claim.size ≡ true
+  pub hole_from_open : (p : ℕ) → IsOpenRange m taken claim p → is_hole_range f.holes p claim.size ≡ true
   hole_from_open p o =
       let size = beside.size in
       let within = o.within in
@@ -62,7 +62,7 @@ module _ (m : Description) (taken : List Range) (claim : Claim) (f : Free) (besi
 
 -- the first fit is the least range
 pub least_from_fit : (m : Description) (taken : List Range) (claim : Claim) (f : Free) (place : ℕ) → claim.fixed ≡ None → IsFreeBeside m taken claim.region f → 0 < claim.size →
-    IsFirstFit f.holes claim.size claim.align place → IsLeastOpen m taken claim (record { region = claim.region; place = place; size = claim.size })
+    IsFirstFit f.holes claim.size claim.align place → IsLeastOpenRange m taken claim (record { region = claim.region; place = place; size = claim.size })
 least_from_fit m taken claim f place none beside some fit = record {
   region = refl;
   size = refl;
@@ -71,13 +71,13 @@ least_from_fit m taken claim f place none beside some fit = record {
 }
 
 pub refused_from_fit : (m : Description) (taken : List Range) (claim : Claim) (f : Free) → IsFreeBeside m taken claim.region f → 0 < claim.size →
-    HasNoFit f.holes claim.size claim.align → IsRefused m taken claim
+    HasNoFit f.holes claim.size claim.align → IsRefusedClaim m taken claim
 refused_from_fit m taken claim f beside some none q o = clash (hole_from_open m taken claim f beside some q o) (none q o.aligned)
 
 -- the fixed range is the least one
 pub least_from_fixed : (m : Description) (taken : List Range) (claim : Claim) (f : Free) (place : ℕ) → claim.fixed ≡ Some place → place % claim.align ≡ 0 →
     IsFreeBeside m taken claim.region f → 0 < claim.size → is_hole_range f.holes place claim.size ≡ true →
-    IsLeastOpen m taken claim (record { region = claim.region; place = place; size = claim.size })
+    IsLeastOpenRange m taken claim (record { region = claim.region; place = place; size = claim.size })
 least_from_fixed m taken claim f place is aligned beside some fits = record {
   region = refl;
   size = refl;
@@ -86,7 +86,7 @@ least_from_fixed m taken claim f place is aligned beside some fits = record {
 }
 
 pub refused_from_fixed : (m : Description) (taken : List Range) (claim : Claim) (f : Free) (place : ℕ) → claim.fixed ≡ Some place →
-    IsFreeBeside m taken claim.region f → 0 < claim.size → is_hole_range f.holes place claim.size ≡ false → IsRefused m taken claim
+    IsFreeBeside m taken claim.region f → 0 < claim.size → is_hole_range f.holes place claim.size ≡ false → IsRefusedClaim m taken claim
 refused_from_fixed m taken claim f place is beside some none q o =
     let e : q ≡ place = subst (λ o'. IfSome o' (λ p. q ≡ p)) is o.fixed in
     clash (hole_from_open m taken claim f beside some q o) (ap (λ p. is_hole_range f.holes p claim.size) e ∙ none)

@@ -3,22 +3,23 @@ use Rattle.std.specs.Prelude.{◌≡◌, ◌≢◌, ℕ, ◌+◌, ◌^◌, ◌<�
 use Rattle.std.specs.List.{AllZip}
 use Rattle.spin_base.specs.declared.blocks.Entry.{Entry}
 use Rattle.spin_base.specs.declared.chips.Chip.{Chip}
+use Rattle.spin_base.specs.declared.sizes.TheConstants.{ROUTER_ENTRIES}
 use Rattle.machine_desc.specs.Description.{Description}
 use Rattle.machine_desc.specs.Live.{IsInside}
 use Rattle.tern_word.specs.declared.tables.Row.{Row}
 use Rattle.tern_word.specs.Entries.{entry_of}
 use Rattle.tcam_find.specs.Memory.{unused}
-use Rattle.net_tables.specs.declared.nets.NetPlan.{NetPlan}
-use Rattle.net_tables.specs.NetsOn.{HaveDisjointBlocks}
-use Rattle.net_tables.specs.RightTables.{AreRight, table_at}
-use Rattle.plain_tables.specs.PlainTable.{IsPlainTable}
+use Rattle.machine_desc.specs.declared.nets.NetPlan.{NetPlan}
+use Rattle.machine_desc.specs.NetsOn.{HaveDisjointBlocks}
+use Rattle.machine_desc.specs.RightTables.{AreRight, table_at}
+use Rattle.net_tables.specs.PlainTable.{IsPlainTable}
 use Rattle.mesh_core.specs.Ledger.{MeetsLedgerFor}
 use Rattle.mesh_core.specs.State.{IsMesh}
 use Rattle.app_loads.specs.declared.loaded.LoadedApp.{LoadedApp}
 use Rattle.app_loads.specs.declared.loaded.Range.{Range}
 use Rattle.app_loads.specs.declared.loaded.Claim.{Claim}
 use Rattle.app_loads.specs.Host.{Host, all_nets, all_ranges, all_spots, asked_of, nets_of}
-use Rattle.app_loads.specs.Regions.{AreFreeBeside, AreApart, IsWithin, chip_count, rows_region, is_taken}
+use Rattle.app_loads.specs.Regions.{AreFreeBeside, ShareNoPlace, IsRangeWithin, chip_count, rows_region, is_taken}
 use Rattle.app_loads.specs.Claims.{claims_of, AreBlocks}
 use Rattle.app_loads.specs.Opening.{usable_spots}
 use Rattle.app_loads.specs.Plans.{IsPlan}
@@ -32,7 +33,7 @@ IsRangeFor claim range = (range.region ≡ claim.region) × (range.size ≡ clai
 pub record IsLoadedOn (m : Description) (app : LoadedApp) : Type 0 where
   pub plan : IsPlan m app.plan
   pub ranges : AllZip IsRangeFor (claims_of m app.plan) app.ranges
-  pub within : All (IsWithin m (1 + (chip_count m + chip_count m))) app.ranges
+  pub within : All (IsRangeWithin m (1 + (chip_count m + chip_count m))) app.ranges
   pub blocks : AreBlocks (claims_of m app.plan) app.ranges app.plan.nets app.blocks
 
 -- A range of entries of a chip has the plain rows of the nets there, in order.
@@ -44,9 +45,9 @@ pub record HasRows (m : Description) (nets : List NetPlan) (c : Chip) (table : L
 -- The tables have 1,024 entries, at each chip; they have in each application's range of entries the plain rows of its nets, and
 -- every entry in no application's range is unused.
 pub record HaveRows (m : Description) (tables : List (List Entry)) (apps : List LoadedApp) : Type 0 where
-  pub long : (c : Chip) → IsInside m c → length (table_at m tables c) ≡ 1024
+  pub long : (c : Chip) → IsInside m c → length (table_at m tables c) ≡ ROUTER_ENTRIES
   pub rows : All (λ (app : LoadedApp). All (λ (range : Range). (c : Chip) → IsInside m c → range.region ≡ rows_region m c → HasRows m (nets_of app) c (table_at m tables c) range) app.ranges) apps
-  pub others : (c : Chip) (k : ℕ) → IsInside m c → k < 1024 → is_taken (all_ranges apps) (rows_region m c) k ≡ false → slice_get (table_at m tables c) k ≡ Some unused
+  pub others : (c : Chip) (k : ℕ) → IsInside m c → k < ROUTER_ENTRIES → is_taken (all_ranges apps) (rows_region m c) k ≡ false → slice_get (table_at m tables c) k ≡ Some unused
 
 -- the packets of two applications have no number in common
 abbrev pub HaveOtherNumbers : LoadedApp → LoadedApp → Type 0
@@ -62,7 +63,7 @@ pub record AreApps (h : Host) : Type 0 where
   pub spots : AllPairs (λ a b. a ≢ b) (all_spots h.apps)
   pub loaded : All (IsLoadedOn h.mesh.setup.machine) h.apps
   -- no two of their ranges share a place, and the free places of each region are those that no application has
-  pub apart : AllPairs AreApart (all_ranges h.apps)
+  pub apart : AllPairs ShareNoPlace (all_ranges h.apps)
   pub free : AreFreeBeside h.mesh.setup.machine (all_ranges h.apps) h.regions
   -- the blocks of all their nets are disjoint
   pub disjoint : HaveDisjointBlocks (all_nets h.apps)

@@ -2,7 +2,7 @@
 use Rattle.std.specs.Prelude.{◌≡◌, ℕ, ◌+◌, ◌%◌, ◌^◌, ◌≤◌, ◌==◌, Bool, true, false, ◌||◌, nat_le, List, [], ◌∷◌, ◌++◌, Option, Some, None, IfSome, length, map, take, zip, find, unwrap_or, count_by, slice_get, if◌then◌else◌}
 use Rattle.std.specs.Option.{option_map_or}
 use Rattle.std.specs.List.{list_any, flat_map, range_with_len}
-use Rattle.list_laws.specs.Gathered.{gathered}
+use Rattle.spin_base.specs.Gathered.{gathered}
 use Rattle.spin_base.specs.declared.blocks.Block.{Block}
 use Rattle.spin_base.specs.declared.chips.Chip.{Chip}
 use Rattle.spin_base.specs.declared.chips.Spot.{Spot}
@@ -64,29 +64,29 @@ claims_of m plan =
 
 -- A claim may get the range from a place on, where other ranges are taken, if the place is a multiple of the claim's alignment and the
 -- fixed one, if one is fixed, and the range lies in its region and shares no place with those.
-pub record IsOpen (m : Description) (taken : List Range) (claim : Claim) (place : ℕ) : Type 0 where
+pub record IsOpenRange (m : Description) (taken : List Range) (claim : Claim) (place : ℕ) : Type 0 where
   pub aligned : place % claim.align ≡ 0
   pub fixed : IfSome claim.fixed (λ p. place ≡ p)
   pub within : place + claim.size ≤ region_size m claim.region
   pub untaken : (k : ℕ) → in_range place claim.size k ≡ true → is_taken taken claim.region k ≡ false
 
 -- It gets the least such range.
-pub record IsLeastOpen (m : Description) (taken : List Range) (claim : Claim) (range : Range) : Type 0 where
+pub record IsLeastOpenRange (m : Description) (taken : List Range) (claim : Claim) (range : Range) : Type 0 where
   pub region : range.region ≡ claim.region
   pub size : range.size ≡ claim.size
-  pub may : IsOpen m taken claim range.place
-  pub least : (q : ℕ) → IsOpen m taken claim q → range.place ≤ q
+  pub may : IsOpenRange m taken claim range.place
+  pub least : (q : ℕ) → IsOpenRange m taken claim q → range.place ≤ q
 
 -- and is refused where there is none
-abbrev pub IsRefused : Description → List Range → Claim → Type 0
-IsRefused m taken claim = (q : ℕ) → IsOpen m taken claim q → ⊥
+abbrev pub IsRefusedClaim : Description → List Range → Claim → Type 0
+IsRefusedClaim m taken claim = (q : ℕ) → IsOpenRange m taken claim q → ⊥
 
 -- The first claims, as many as there are ranges, got these ranges: each the least one beside those that were taken and those of
 -- the claims before it.
 pub record AreFirstServed (m : Description) (taken : List Range) (claims : List Claim) (ranges : List Range) : Type 0 where
   pub few : length ranges ≤ length claims
   pub each : (i : ℕ) (claim : Claim) (range : Range) → slice_get claims i ≡ Some claim → slice_get ranges i ≡ Some range →
-      IsLeastOpen m (taken ++ take i ranges) claim range
+      IsLeastOpenRange m (taken ++ take i ranges) claim range
 
 -- all claims got these ranges
 pub record AreServed (m : Description) (taken : List Range) (claims : List Claim) (ranges : List Range) : Type 0 where
@@ -99,7 +99,7 @@ pub record IsRefusalDue (m : Description) (taken : List Range) (claims : List Cl
   pub before : AreFirstServed m taken claims ranges
   pub claim : Claim
   pub is : slice_get claims (length ranges) ≡ Some claim
-  pub refused : IsRefused m (taken ++ ranges) claim
+  pub refused : IsRefusedClaim m (taken ++ ranges) claim
   pub refusal_is : claim.refusal ≡ refusal
 
 -- The block of a net is the range that its claim got: it begins where the range does, and has as many keys.

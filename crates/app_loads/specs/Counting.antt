@@ -10,18 +10,23 @@ use Rattle.app_loads.specs.declared.loaded.Claim.{Claim}
 use Rattle.app_loads.specs.declared.plans.AppNet.{AppNet}
 use Rattle.app_loads.specs.Claims.{entries_claim}
 
+-- a net can need so many keys: at least one, and at most all of 32 bits
+pub record IsKeyCount (keys : ℕ) : Type 0 where
+  pub some : 1 ≤ keys
+  pub few : keys ≤ 4294967296
+
 -- the net has a routing tree, whose root is inside the grid
 pub record HasTree (m : Description) (net : AppNet) : Type 0 where
   pub root : IsInside m net.tree.root
   pub tree : IsRoutingTree m net.tree.root net.tree.edges net.targets
 
-abbrev pub place_of : Description → Option Chip → List ℕ
-place_of m (Some c) = index_of m c ∷ []
-place_of m None = []
+abbrev pub chip_places : Description → Option Chip → List ℕ
+chip_places m (Some c) = index_of m c ∷ []
+chip_places m None = []
 
 -- the index of the chip into which an edge leads
 abbrev pub end_places : Description → Edge → List ℕ
-end_places m e = place_of m (end_of m e)
+end_places m e = chip_places m (end_of m e)
 
 -- the indices of the chips of a net's tree
 abbrev pub tree_places : Description → AppNet → List ℕ

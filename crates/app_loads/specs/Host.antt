@@ -6,7 +6,7 @@ use Rattle.spin_base.specs.declared.chips.Spot.{Spot}
 use Rattle.spin_base.specs.Equality.{spot_eq}
 use Rattle.machine_desc.specs.Live.{is_usable}
 use Rattle.range_store.specs.declared.holes.Hole.{Hole}
-use Rattle.net_tables.specs.declared.nets.NetPlan.{NetPlan}
+use Rattle.machine_desc.specs.declared.nets.NetPlan.{NetPlan}
 use Rattle.mesh_core.specs.State.{State}
 use Rattle.mesh_core.specs.Ledger.{Asked}
 use Rattle.mesh_core.specs.Opened.{asked_by}

@@ -7,12 +7,13 @@ use Rattle.spin_base.specs.declared.chips.Chip.{Chip}
 use Rattle.spin_base.specs.declared.chips.Spot.{Spot}
 use Rattle.spin_base.specs.declared.copies.McCopy.{McCopy}
 use Rattle.spin_base.specs.declared.copies.Packet.{Packet}
+use Rattle.spin_base.specs.declared.sizes.TheConstants.{ROUTER_ENTRIES}
 use Rattle.machine_desc.specs.Description.{Description}
 use Rattle.machine_desc.specs.Live.{IsInside}
 use Rattle.range_store.specs.Views.{Region}
-use Rattle.net_tables.specs.declared.nets.NetPlan.{NetPlan}
-use Rattle.net_tables.specs.NetsOn.{vertex_at}
-use Rattle.net_tables.specs.RightTables.{table_at}
+use Rattle.machine_desc.specs.declared.nets.NetPlan.{NetPlan}
+use Rattle.machine_desc.specs.NetsOn.{vertex_at}
+use Rattle.machine_desc.specs.RightTables.{table_at}
 use Rattle.mesh_core.specs.State.{State}
 use Rattle.mesh_core.specs.Opened.{first_copy}
 use Rattle.app_loads.specs.declared.answers.LoadErr.TheVariants.{KeysOut}
@@ -22,7 +23,7 @@ use Rattle.app_loads.specs.declared.loaded.Range.{Range}
 use Rattle.app_loads.specs.declared.plans.AppNet.{AppNet}
 use Rattle.app_loads.specs.declared.plans.AppPlan.{AppPlan}
 use Rattle.app_loads.specs.Host.{nets_of}
-use Rattle.app_loads.specs.Regions.{AreApart, rows_region, is_taken}
+use Rattle.app_loads.specs.Regions.{ShareNoPlace, rows_region, is_taken}
 use Rattle.app_loads.specs.Claims.{claims_of, AreBlocks, IsBlockOf}
 use Rattle.app_loads.specs.Taking.{AreRegionsOf, AreServedAlways, AreTakenAlways}
 use Rattle.app_loads.specs.Applications.{HasRows, IsLoadedOn}
@@ -59,15 +60,19 @@ AreSent spots app (suc n) before after =
     (mid : List (List McCopy)) × (packet : Packet) × AreSent spots app n before mid × (slice_get app.plan.packets n ≡ Some packet) ×
     IsSent spots (nets_of app) (app.first + n) packet mid after
 
+-- all packets of an application are
+abbrev pub AreAllSent : List Spot → LoadedApp → List (List McCopy) → List (List McCopy) → Type 0
+AreAllSent spots app before after = AreSent spots app (length app.plan.packets) before after
+
 -- the application's rows stand in its ranges of entries, and all other entries are as they were
 pub record AreWritten (m : Description) (app : LoadedApp) (old new : List (List Entry)) : Type 0 where
   pub all : length new ≡ length old
-  pub long : (c : Chip) → IsInside m c → length (table_at m new c) ≡ 1024
+  pub long : (c : Chip) → IsInside m c → length (table_at m new c) ≡ ROUTER_ENTRIES
   pub rows : (range : Range) → Contains app.ranges range → (c : Chip) → IsInside m c → range.region ≡ rows_region m c → HasRows m (nets_of app) c (table_at m new c) range
   pub others : (c : Chip) (k : ℕ) → IsInside m c → is_taken app.ranges (rows_region m c) k ≡ false → slice_get (table_at m new c) k ≡ slice_get (table_at m old c) k
 
 -- The plan's application has its ranges and blocks.
-pub record IsServed (m : Description) (old : List Region) (number first : ℕ) (plan : AppPlan) (app : LoadedApp) (new : List Region) : Type 0 where
+pub record IsServedApp (m : Description) (old : List Region) (number first : ℕ) (plan : AppPlan) (app : LoadedApp) (new : List Region) : Type 0 where
   pub number_is : app.number ≡ number
   pub plan_is : app.plan ≡ plan
   pub first_is : app.first ≡ first
@@ -96,13 +101,13 @@ pub record CanJoin (s : State) (regions : List Region) (first : ℕ) (plan : App
   pub numbers : first + length plan.packets < 2 ^ 32
   pub vertices : s.setup.spots ≡ usable_spots s.setup.machine
   pub none : NoneUnsent s.setup.spots plan.nets s.unsent
-  pub long : (c : Chip) → IsInside s.setup.machine c → length (table_at s.setup.machine s.setup.tables c) ≡ 1024
+  pub long : (c : Chip) → IsInside s.setup.machine c → length (table_at s.setup.machine s.setup.tables c) ≡ ROUTER_ENTRIES
 
 -- the application is a loaded one, whose ranges are its own
 pub record CanSettle (s : State) (app : LoadedApp) : Type 0 where
   pub loaded : IsLoadedOn s.setup.machine app
-  pub apart : AllPairs AreApart app.ranges
+  pub apart : AllPairs ShareNoPlace app.ranges
   pub numbers : app.first + length app.plan.packets < 2 ^ 32
   pub vertices : s.setup.spots ≡ usable_spots s.setup.machine
   pub none : NoneUnsent s.setup.spots app.plan.nets s.unsent
-  pub long : (c : Chip) → IsInside s.setup.machine c → length (table_at s.setup.machine s.setup.tables c) ≡ 1024
+  pub long : (c : Chip) → IsInside s.setup.machine c → length (table_at s.setup.machine s.setup.tables c) ≡ ROUTER_ENTRIES

@@ -16,17 +16,17 @@ abbrev pub is_packet_of : LoadedApp → ℕ → Bool
 is_packet_of app i = nat_le app.first i && nat_lt i (app.first + length app.plan.packets)
 
 -- a copy at this station is unsent, or waits
-abbrev pub IsUnderWay : Station → Type 0
-IsUnderWay (unsent v) = Unit {0}
-IsUnderWay (in_queue c port) = Unit {0}
-IsUnderWay (in_hand c o) = Unit {0}
-IsUnderWay (at_core v) = Unit {0}
-IsUnderWay (delivered v) = ⊥
-IsUnderWay (dumped c o) = ⊥
+abbrev pub IsUnderWayAt : Station → Type 0
+IsUnderWayAt (unsent v) = Unit {0}
+IsUnderWayAt (in_queue c port) = Unit {0}
+IsUnderWayAt (in_hand c o) = Unit {0}
+IsUnderWayAt (at_core v) = Unit {0}
+IsUnderWayAt (delivered v) = ⊥
+IsUnderWayAt (dumped c o) = ⊥
 
 -- a copy of one of the application's packets, of this number, is unsent or waits in the mesh
 abbrev pub WaitsIn : State → LoadedApp → ℕ → Type 0
-WaitsIn s app packet = (is_packet_of app packet ≡ true) × ((k : Mark) × Contains (marks_of s) k × (k.copy.packet ≡ packet) × IsUnderWay k.station)
+WaitsIn s app packet = (is_packet_of app packet ≡ true) × ((k : Mark) × Contains (marks_of s) k × (k.copy.packet ≡ packet) × IsUnderWayAt k.station)
 
 -- no copy of the application's packets is unsent or waits
 abbrev pub NoneUnderWay : State → LoadedApp → Type 0
@@ -47,13 +47,13 @@ lesser_of (Some a) None = Some a
 lesser_of (Some a) (Some b) = Some (min a b)
 
 -- the least of those of the packet numbers that are the application's
-abbrev pub least_of : LoadedApp → List ℕ → Option ℕ
-least_of app [] = None
-least_of app (packet ∷ packets) = lesser_of (own_packet app packet) (least_of app packets)
+abbrev pub least_own_packet : LoadedApp → List ℕ → Option ℕ
+least_own_packet app [] = None
+least_own_packet app (packet ∷ packets) = lesser_of (own_packet app packet) (least_own_packet app packets)
 
 -- the packets of the copies of a queue
-abbrev pub packets_of : List McCopy → List ℕ
-packets_of copies = map (λ (k : McCopy). k.packet) copies
+abbrev pub packet_numbers_of : List McCopy → List ℕ
+packet_numbers_of copies = map (λ (k : McCopy). k.packet) copies
 
 -- the packet of the copy in a router's hand, if it has one
 abbrev pub held_packets : Option Hand → List ℕ

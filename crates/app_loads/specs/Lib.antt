@@ -1,13 +1,13 @@
-pub use Rattle.net_tables.specs.NetsOn
-pub use Rattle.net_tables.specs.RightTables
-pub use Rattle.plain_tables.specs.PlainTable
+pub use Rattle.machine_desc.specs.NetsOn
+pub use Rattle.machine_desc.specs.RightTables
+pub use Rattle.net_tables.specs.PlainTable
 pub use Rattle.mesh_core.specs.Expected
 pub use Rattle.mesh_core.specs.HasRun
 pub use Rattle.mesh_core.specs.Ledger
 pub use Rattle.mesh_core.specs.Opened
 pub use Rattle.mesh_core.specs.State
 pub use Rattle.mesh_core.specs.Step
-pub use Rattle.packet_runs.specs.Draining
+pub use Rattle.mesh_drain.specs.Draining
 pub mod Applications
 pub mod Claims
 pub mod Counting

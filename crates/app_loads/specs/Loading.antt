@@ -6,7 +6,7 @@ use Rattle.spin_base.specs.declared.chips.Spot.{Spot}
 use Rattle.spin_base.specs.declared.copies.McCopy.{McCopy}
 use Rattle.spin_base.specs.declared.copies.Packet.{Packet}
 use Rattle.machine_desc.specs.Live.{IsInside}
-use Rattle.net_tables.specs.RightTables.{table_at}
+use Rattle.machine_desc.specs.RightTables.{table_at}
 use Rattle.mesh_core.specs.Opened.{copy_from}
 use Rattle.app_loads.specs.declared.answers.LoadErr.{LoadErr}
 use Rattle.app_loads.specs.declared.answers.LoadErr.TheVariants.{Loaded, MemoryOut, KeysOut, RowsOut, Memory}
@@ -17,8 +17,8 @@ use Rattle.app_loads.specs.Regions.{rows_region, is_taken}
 use Rattle.app_loads.specs.Claims.{claims_of, AreServed, IsRefusalDue}
 
 -- An application's vertex sends the copies of its nets' packets, in the order of the list.
-abbrev pub sent_by : List Spot → LoadedApp → ℕ → List McCopy
-sent_by spots app v = filter_map (λ (e : ℕ × Packet). copy_from spots v e.0 e.1 (slice_get (nets_of app) e.1.net)) (enumerate_from app.first app.plan.packets)
+abbrev pub sent_by_vertex : List Spot → LoadedApp → ℕ → List McCopy
+sent_by_vertex spots app v = filter_map (λ (e : ℕ × Packet). copy_from spots v e.0 e.1 (slice_get (nets_of app) e.1.net)) (enumerate_from app.first app.plan.packets)
 
 -- The host has one application more. Its claims got the least ranges beside those of the others, its packets are numbered from the number of
 -- packets so far and are unsent, and nothing else has changed: no other application's range, entry, copy, delivery or record.
@@ -32,18 +32,18 @@ pub record HasLoaded (old : Host) (number : ℕ) (plan : AppPlan) (new : Host) :
   pub apps : new.apps ≡ old.apps ++ app ∷ []
   pub packets : new.packets ≡ old.packets + length plan.packets
   pub mesh : new.mesh ≡ record old.mesh { setup = record old.mesh.setup { tables = new.mesh.setup.tables }; unsent = new.mesh.unsent }
-  pub unsent : (v : ℕ) (q : List McCopy) → slice_get old.mesh.unsent v ≡ Some q → slice_get new.mesh.unsent v ≡ Some (q ++ sent_by old.mesh.setup.spots app v)
+  pub unsent : (v : ℕ) (q : List McCopy) → slice_get old.mesh.unsent v ≡ Some q → slice_get new.mesh.unsent v ≡ Some (q ++ sent_by_vertex old.mesh.setup.spots app v)
   pub tables : (c : Chip) (k : ℕ) → IsInside old.mesh.setup.machine c → is_taken app.ranges (rows_region old.mesh.setup.machine c) k ≡ false →
       slice_get (table_at old.mesh.setup.machine new.mesh.setup.tables c) k ≡ slice_get (table_at old.mesh.setup.machine old.mesh.setup.tables c) k
 
 -- why an application is not loaded: its number is loaded, or else the first of its claims that cannot be served is refused
-abbrev pub IsDue : Host → ℕ → AppPlan → LoadErr → Type 0
-IsDue h number plan refusal =
+abbrev pub IsLoadRefusal : Host → ℕ → AppPlan → LoadErr → Type 0
+IsLoadRefusal h number plan refusal =
     (is_loaded h.apps number ≡ false) × IsRefusalDue h.mesh.setup.machine (all_ranges h.apps) (claims_of h.mesh.setup.machine plan) refusal
 
 abbrev pub IsWhyNotLoaded : Host → ℕ → AppPlan → LoadErr → Type 0
 IsWhyNotLoaded h number plan Loaded = is_loaded h.apps number ≡ true
-IsWhyNotLoaded h number plan (MemoryOut vertex) = IsDue h number plan (MemoryOut vertex)
-IsWhyNotLoaded h number plan (KeysOut net) = IsDue h number plan (KeysOut net)
-IsWhyNotLoaded h number plan (RowsOut chip) = IsDue h number plan (RowsOut chip)
+IsWhyNotLoaded h number plan (MemoryOut vertex) = IsLoadRefusal h number plan (MemoryOut vertex)
+IsWhyNotLoaded h number plan (KeysOut net) = IsLoadRefusal h number plan (KeysOut net)
+IsWhyNotLoaded h number plan (RowsOut chip) = IsLoadRefusal h number plan (RowsOut chip)
 IsWhyNotLoaded h number plan Memory = Unit {0}

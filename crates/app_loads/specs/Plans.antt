@@ -11,8 +11,8 @@ use Rattle.app_loads.specs.declared.plans.AppPlan.{AppPlan}
 use Rattle.app_loads.specs.Host.{Host, is_spot_taken}
 
 -- spots are ordered by x, then y, then core
-abbrev pub IsBefore : Spot → Spot → Type 0
-IsBefore a b =
+abbrev pub IsSpotBefore : Spot → Spot → Type 0
+IsSpotBefore a b =
     (a.chip.x < b.chip.x)
     ⊎ ((a.chip.x ≡ b.chip.x) × ((a.chip.y < b.chip.y) ⊎ ((a.chip.y ≡ b.chip.y) × (a.core < b.core))))
 
@@ -22,7 +22,7 @@ IsBefore a b =
 pub record IsAppNet (m : Description) (spots : List Spot) (net : AppNet) : Type 0 where
   pub source : Contains spots net.source
   pub targets : All (Contains spots) net.targets
-  pub in_order : AllPairs IsBefore net.targets
+  pub in_order : AllPairs IsSpotBefore net.targets
   pub root : net.tree.root ≡ net.source.chip
   pub tree : IsRoutingTree m net.tree.root net.tree.edges net.targets
   pub some_key : 1 ≤ net.keys
@@ -30,8 +30,8 @@ pub record IsAppNet (m : Description) (spots : List Spot) (net : AppNet) : Type 
   pub fixed : IfSome net.fixed (IsFixedFor net.keys)
 
 -- a packet is of one of the nets, and its index is below the net's keys
-abbrev pub IsPacketOf : List AppNet → Packet → Type 0
-IsPacketOf nets p = (net : AppNet) × (slice_get nets p.net ≡ Some net) × (p.index < net.keys)
+abbrev pub IsPacketOfApp : List AppNet → Packet → Type 0
+IsPacketOfApp nets p = (net : AppNet) × (slice_get nets p.net ≡ Some net) × (p.index < net.keys)
 
 -- A plan is one for the machine where its spots are different usable cores, with the bytes of memory for each, and each of its nets and
 -- packets is as above.
@@ -41,7 +41,7 @@ pub record IsPlan (m : Description) (plan : AppPlan) : Type 0 where
   pub sdram : length plan.sdram ≡ length plan.spots
   pub few_nets : length plan.nets < 2 ^ 32
   pub nets : All (IsAppNet m plan.spots) plan.nets
-  pub packets : All (IsPacketOf plan.nets) plan.packets
+  pub packets : All (IsPacketOfApp plan.nets) plan.packets
 
 -- It can be loaded where, besides, no loaded application has one of its spots, and the numbers of packets do not run out.
 pub record MayLoad (h : Host) (plan : AppPlan) : Type 0 where

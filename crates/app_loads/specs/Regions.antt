@@ -2,6 +2,7 @@
 use Rattle.std.specs.Prelude.{◌≡◌, ℕ, ◌+◌, ◌*◌, ◌<◌, ◌≤◌, ◌==◌, Bool, true, not, ◌&&◌, nat_lt, nat_le, List, ◌∷◌, ◌++◌, length, replicate, Some, slice_get, if◌then◌else◌}
 use Rattle.std.specs.List.{list_any}
 use Rattle.spin_base.specs.declared.chips.Chip.{Chip}
+use Rattle.spin_base.specs.declared.sizes.TheConstants.{ROUTER_ENTRIES}
 use Rattle.machine_desc.specs.Description.{Description}
 use Rattle.machine_desc.specs.Live.{index_of}
 use Rattle.range_store.specs.Regions.{hole_of, is_free, in_range, AreRuns}
@@ -24,7 +25,7 @@ rows_region m c = 1 + (chip_count m + index_of m c)
 
 -- There are 2^32 keys, each chip has the machine's bytes of memory, and each table has 1,024 entries (SpiNNaker datasheet).
 abbrev pub region_size : Description → ℕ → ℕ
-region_size m region = if region == 0 then 4294967296 else (if nat_le region (chip_count m) then m.sdram else 1024)
+region_size m region = if region == 0 then 4294967296 else (if nat_le region (chip_count m) then m.sdram else ROUTER_ENTRIES)
 
 -- a region without a place that is taken
 abbrev pub all_free : ℕ → Free
@@ -32,25 +33,25 @@ all_free size = record { size = size; holes = hole_of 0 size }
 
 -- the regions where nothing is taken
 abbrev pub open_regions : Description → List Free
-open_regions m = all_free 4294967296 ∷ (replicate (chip_count m) (all_free m.sdram) ++ replicate (chip_count m) (all_free 1024))
+open_regions m = all_free 4294967296 ∷ (replicate (chip_count m) (all_free m.sdram) ++ replicate (chip_count m) (all_free ROUTER_ENTRIES))
 
 -- whether a range is one of this region and has this place
-abbrev pub has_place : ℕ → ℕ → Range → Bool
-has_place region k range = (range.region == region) && in_range range.place range.size k
+abbrev pub range_has : ℕ → ℕ → Range → Bool
+range_has region k range = (range.region == region) && in_range range.place range.size k
 
 -- whether one of the ranges has the place of the region
 abbrev pub is_taken : List Range → ℕ → ℕ → Bool
-is_taken ranges region k = list_any (has_place region k) ranges
+is_taken ranges region k = list_any (range_has region k) ranges
 
 -- a range has at least one place, of a region that is there, and lies within it
-pub record IsWithin (m : Description) (regions : ℕ) (range : Range) : Type 0 where
+pub record IsRangeWithin (m : Description) (regions : ℕ) (range : Range) : Type 0 where
   pub there : range.region < regions
   pub some : 0 < range.size
   pub within : range.place + range.size ≤ region_size m range.region
 
 -- two ranges share no place
-abbrev pub AreApart : Range → Range → Type 0
-AreApart a b = (region k : ℕ) → has_place region k a ≡ true → has_place region k b ≡ true → ⊥
+abbrev pub ShareNoPlace : Range → Range → Type 0
+ShareNoPlace a b = (region k : ℕ) → range_has region k a ≡ true → range_has region k b ≡ true → ⊥
 
 -- The free places of a region are those below its size that none of the ranges has. Its holes are their longest runs.
 pub record IsFreeBeside (m : Description) (ranges : List Range) (region : ℕ) (f : Free) : Type 0 where

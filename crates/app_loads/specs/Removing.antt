@@ -1,9 +1,10 @@
 -- What unloading an application makes of the parts of a host, as the private functions say it.
 use Rattle.std.specs.Prelude.{◌≡◌, List, filter, length}
 use Rattle.spin_base.specs.declared.chips.Chip.{Chip}
+use Rattle.spin_base.specs.declared.sizes.TheConstants.{ROUTER_ENTRIES}
 use Rattle.machine_desc.specs.Live.{IsInside}
 use Rattle.range_store.specs.Views.{Region}
-use Rattle.net_tables.specs.RightTables.{table_at}
+use Rattle.machine_desc.specs.RightTables.{table_at}
 use Rattle.mesh_core.specs.State.{State}
 use Rattle.app_loads.specs.declared.answers.Ended.{Ended}
 use Rattle.app_loads.specs.declared.answers.UnloadErr.{UnloadErr}
@@ -18,7 +19,7 @@ use Rattle.app_loads.specs.Writing.{AreUnused}
 pub record CanLeave (s : State) (regions : List Region) (app : LoadedApp) : Type 0 where
   pub others : List Range
   pub taken : AreTaken s.setup.machine others app.ranges regions
-  pub long : (c : Chip) → IsInside s.setup.machine c → length (table_at s.setup.machine s.setup.tables c) ≡ 1024
+  pub long : (c : Chip) → IsInside s.setup.machine c → length (table_at s.setup.machine s.setup.tables c) ≡ ROUTER_ENTRIES
 
 -- The mesh has the application's rows, deliveries and dump records no more.
 pub record HasLeft (app : LoadedApp) (old : State) (ended : Ended) (new : State) : Type 0 where

@@ -5,7 +5,7 @@ use Rattle.spin_base.specs.declared.chips.Spot.{Spot}
 use Rattle.spin_base.specs.declared.copies.McCopy.{McCopy}
 use Rattle.spin_base.specs.declared.copies.Packet.{Packet}
 use Rattle.machine_desc.specs.Live.{IsInside}
-use Rattle.net_tables.specs.NetsOn.{vertex_at}
+use Rattle.machine_desc.specs.NetsOn.{vertex_at}
 use Rattle.mesh_core.specs.State.{Setup}
 use Rattle.app_loads.specs.declared.loaded.LoadedApp.{LoadedApp}
 use Rattle.app_loads.specs.declared.plans.AppNet.{AppNet}

@@ -7,15 +7,15 @@ use Rattle.app_loads.specs.declared.loaded.Range.{Range}
 use Rattle.app_loads.specs.declared.answers.LoadErr.{LoadErr}
 use Rattle.app_loads.specs.declared.answers.LoadErr.TheVariants.{Memory}
 use Rattle.app_loads.specs.Host.{Free}
-use Rattle.app_loads.specs.Regions.{AreFreeBeside, IsFreeBeside, IsWithin, AreApart, region_size}
-use Rattle.app_loads.specs.Claims.{AreFirstServed, AreServed, IsLeastOpen, IsRefused, IsRefusalDue}
+use Rattle.app_loads.specs.Regions.{AreFreeBeside, IsFreeBeside, IsRangeWithin, ShareNoPlace, region_size}
+use Rattle.app_loads.specs.Claims.{AreFirstServed, AreServed, IsLeastOpenRange, IsRefusedClaim, IsRefusalDue}
 
 -- a region, but for the room that is made in its list of holes
-abbrev pub free_of : Region → Free
-free_of r = record { size = r.size; holes = r.holes }
+abbrev pub free_places_in : Region → Free
+free_places_in r = record { size = r.size; holes = r.holes }
 
 abbrev pub frees : List Region → List Free
-frees regions = map free_of regions
+frees regions = map free_places_in regions
 
 -- A claim is fair where it asks a region that is there for at least one place, and a fixed range lies within the region.
 pub record IsFair (m : Description) (regions : ℕ) (claim : Claim) : Type 0 where
@@ -27,8 +27,14 @@ pub record IsFair (m : Description) (regions : ℕ) (claim : Claim) : Type 0 whe
 -- some ranges are taken of the regions, apart from each other
 pub record AreRegionsOf (m : Description) (regions : List Region) : Type 0 where
   pub taken : List Range
-  pub apart : AllPairs AreApart taken
+  pub apart : AllPairs ShareNoPlace taken
   pub free : AreFreeBeside m taken (frees regions)
+
+-- a claim asks the region for at least one place, and a fixed range lies within the region
+pub record IsFairFor (claim : Claim) (region : Region) : Type 0 where
+  pub some : 0 < claim.size
+  pub step : 0 < claim.align
+  pub fixed : IfSome claim.fixed (λ p. (p % claim.align ≡ 0) × (p + claim.size ≤ region.size))
 
 -- the regions are those of a machine, for which the claims are fair
 abbrev pub CanServe : List Claim → List Region → Type 0
@@ -41,23 +47,36 @@ HaveRoom ranges regions = (i : ℕ) (r : Region) → slice_get regions i ≡ Som
 -- Ranges that were taken beside others: each lies within its region, no two of all share a place, and the regions have the
 -- other places free.
 pub record AreTaken (m : Description) (others ranges : List Range) (regions : List Region) : Type 0 where
-  pub within : All (IsWithin m (length regions)) ranges
-  pub apart : AllPairs AreApart (others ++ ranges)
+  pub within : All (IsRangeWithin m (length regions)) ranges
+  pub apart : AllPairs ShareNoPlace (others ++ ranges)
   pub free : AreFreeBeside m (others ++ ranges) (frees regions)
 
 -- whatever was taken before, these ranges are taken beside it
 abbrev pub AreTakenAlways : List Region → List Range → List Region → Type 0
 AreTakenAlways old ranges new =
-    (m : Description) (taken : List Range) → AllPairs AreApart taken → AreFreeBeside m taken (frees old) → AreTaken m taken ranges new
+    (m : Description) (taken : List Range) → AllPairs ShareNoPlace taken → AreFreeBeside m taken (frees old) → AreTaken m taken ranges new
+
+-- whatever was taken before, and nothing besides, is taken again
+abbrev pub AreFreeAgain : List Region → List Region → Type 0
+AreFreeAgain old new =
+    (m : Description) (taken : List Range) → AllPairs ShareNoPlace taken → AreFreeBeside m taken (frees old) → AreFreeBeside m taken (frees new)
+
+-- whatever the ranges were taken beside is taken still, and nothing besides
+abbrev pub AreGivenBack : Description → List Range → List Region → List Region → Type 0
+AreGivenBack m ranges old new = (others : List Range) → AreTaken m others ranges old → AreFreeBeside m others (frees new)
+
+-- the ranges are taken beside some others
+abbrev pub AreTakenBesideSome : List Range → List Region → Type 0
+AreTakenBesideSome ranges regions = (m : Description) × (others : List Range) × AreTaken m others ranges regions
 
 -- whatever was taken before, the claims got these ranges beside it
 abbrev pub AreServedAlways : List Claim → List Region → List Range → Type 0
 AreServedAlways claims old ranges =
-    (m : Description) (taken : List Range) → AllPairs AreApart taken → AreFreeBeside m taken (frees old) → AreServed m taken claims ranges
+    (m : Description) (taken : List Range) → AllPairs ShareNoPlace taken → AreFreeBeside m taken (frees old) → AreServed m taken claims ranges
 
 -- the same of the first claims
 pub record HaveServed (claims : List Claim) (old : List Region) (ranges : List Range) (new : List Region) : Type 0 where
-  pub served : (m : Description) (taken : List Range) → AllPairs AreApart taken → AreFreeBeside m taken (frees old) → AreFirstServed m taken claims ranges
+  pub served : (m : Description) (taken : List Range) → AllPairs ShareNoPlace taken → AreFreeBeside m taken (frees old) → AreFirstServed m taken claims ranges
   pub taken : AreTakenAlways old ranges new
   pub room : HaveRoom ranges new
   pub long : length new ≡ length old
@@ -66,18 +85,22 @@ pub record HaveServed (claims : List Claim) (old : List Region) (ranges : List R
 abbrev pub IsDueAlways : List Claim → List Region → LoadErr → Type 0
 IsDueAlways claims old refusal =
     (refusal ≡ Memory)
-    ⊎ ((m : Description) (taken : List Range) → AllPairs AreApart taken → AreFreeBeside m taken (frees old) → IsRefusalDue m taken claims refusal)
+    ⊎ ((m : Description) (taken : List Range) → AllPairs ShareNoPlace taken → AreFreeBeside m taken (frees old) → IsRefusalDue m taken claims refusal)
 
 -- the range of a claim from a place on
 abbrev pub range_at : Claim → ℕ → Range
 range_at claim place = record { region = claim.region; place = place; size = claim.size }
 
 -- whatever else is taken of a region, the range from this place on is the least for the claim, and is taken besides
-abbrev pub Serves : Claim → Region → Region → ℕ → Type 0
-Serves claim before after place =
-    (m : Description) (taken : List Range) → IsFreeBeside m taken claim.region (free_of before) →
-    IsLeastOpen m taken claim (range_at claim place) × IsFreeBeside m (taken ++ range_at claim place ∷ []) claim.region (free_of after)
+abbrev pub ServesClaim : Claim → Region → Region → ℕ → Type 0
+ServesClaim claim before after place =
+    (m : Description) (taken : List Range) → IsFreeBeside m taken claim.region (free_places_in before) →
+    IsLeastOpenRange m taken claim (range_at claim place) × IsFreeBeside m (taken ++ range_at claim place ∷ []) claim.region (free_places_in after)
 
 -- whatever else is taken of a region, it has no range for the claim
-abbrev pub Refuses : Claim → Region → Type 0
-Refuses claim before = (m : Description) (taken : List Range) → IsFreeBeside m taken claim.region (free_of before) → IsRefused m taken claim
+abbrev pub RefusesClaim : Claim → Region → Type 0
+RefusesClaim claim before = (m : Description) (taken : List Range) → IsFreeBeside m taken claim.region (free_places_in before) → IsRefusedClaim m taken claim
+
+-- the refusal of one claim is due: no memory is left, or the region has no range for the claim
+abbrev pub IsDueOf : Claim → Region → LoadErr → Type 0
+IsDueOf claim before refusal = (refusal ≡ Memory) ⊎ ((refusal ≡ claim.refusal) × RefusesClaim claim before)

@@ -1,9 +1,10 @@
 -- What unloading an application does to a host (this project's own).
 use Rattle.std.specs.Prelude.{◌≡◌, ℕ, ◌≤◌, ◌<◌, true, false, Contains, Some, filter, slice_get}
 use Rattle.spin_base.specs.declared.chips.Chip.{Chip}
+use Rattle.spin_base.specs.declared.sizes.TheConstants.{ROUTER_ENTRIES}
 use Rattle.machine_desc.specs.Live.{IsInside}
 use Rattle.tcam_find.specs.Memory.{unused}
-use Rattle.net_tables.specs.RightTables.{table_at}
+use Rattle.machine_desc.specs.RightTables.{table_at}
 use Rattle.app_loads.specs.declared.answers.Ended.{Ended}
 use Rattle.app_loads.specs.declared.answers.UnloadErr.{UnloadErr}
 use Rattle.app_loads.specs.declared.answers.UnloadErr.TheVariants.{NotLoaded, Waiting, Memory}
@@ -23,7 +24,7 @@ pub record HasUnloaded (old : Host) (number : ℕ) (ended : Ended) (new : Host) 
   pub dumped : ended.dumped ≡ filter (is_record_of app) old.mesh.dumped
   pub packets : new.packets ≡ old.packets
   pub mesh : new.mesh ≡ mesh_without app new.mesh.setup.tables old.mesh
-  pub entries : (c : Chip) (k : ℕ) → IsInside old.mesh.setup.machine c → k < 1024 → is_taken app.ranges (rows_region old.mesh.setup.machine c) k ≡ true →
+  pub entries : (c : Chip) (k : ℕ) → IsInside old.mesh.setup.machine c → k < ROUTER_ENTRIES → is_taken app.ranges (rows_region old.mesh.setup.machine c) k ≡ true →
       slice_get (table_at old.mesh.setup.machine new.mesh.setup.tables c) k ≡ Some unused
   pub tables : (c : Chip) (k : ℕ) → IsInside old.mesh.setup.machine c → is_taken app.ranges (rows_region old.mesh.setup.machine c) k ≡ false →
       slice_get (table_at old.mesh.setup.machine new.mesh.setup.tables c) k ≡ slice_get (table_at old.mesh.setup.machine old.mesh.setup.tables c) k

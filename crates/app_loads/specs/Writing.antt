@@ -2,35 +2,36 @@
 use Rattle.std.specs.Prelude.{◌≡◌, ℕ, ◌+◌, ◌<◌, ◌≤◌, true, false, List, All, AllPairs, Contains, Some, drop, length, map, slice_get, take}
 use Rattle.spin_base.specs.declared.blocks.Entry.{Entry}
 use Rattle.spin_base.specs.declared.chips.Chip.{Chip}
+use Rattle.spin_base.specs.declared.sizes.TheConstants.{ROUTER_ENTRIES}
 use Rattle.machine_desc.specs.Description.{Description}
 use Rattle.machine_desc.specs.Live.{index_of, IsInside}
 use Rattle.range_store.specs.Regions.{in_range}
-use Rattle.net_tables.specs.RightTables.{table_at}
+use Rattle.machine_desc.specs.RightTables.{table_at}
 use Rattle.tcam_find.specs.Memory.{unused}
 use Rattle.tern_word.specs.Entries.{entry_of}
 use Rattle.tern_word.specs.declared.tables.Table.{Table}
 use Rattle.app_loads.specs.declared.loaded.Range.{Range}
-use Rattle.app_loads.specs.Regions.{AreApart, IsWithin, chip_count, is_taken, rows_region}
+use Rattle.app_loads.specs.Regions.{ShareNoPlace, IsRangeWithin, chip_count, is_taken, rows_region}
 
 -- the range lies within the chip's table, and has as many places as the chip has rows
-abbrev pub Fits : Description → List Table → Range → Type 0
-Fits m rows range =
+abbrev pub FitsTable : Description → List Table → Range → Type 0
+FitsTable m rows range =
     (c : Chip) (t : Table) → IsInside m c → range.region ≡ rows_region m c → slice_get rows (index_of m c) ≡ Some t →
-    (range.place + length t.rows ≤ 1024) × (range.size ≡ length t.rows)
+    (range.place + length t.rows ≤ ROUTER_ENTRIES) × (range.size ≡ length t.rows)
 
 -- there are a table and rows for each chip, and the ranges share no entry and fit
 pub record CanCopy (m : Description) (tables : List (List Entry)) (rows : List Table) (ranges : List Range) : Type 0 where
   pub tables_long : length tables ≡ chip_count m
   pub rows_long : length rows ≡ chip_count m
-  pub each_long : (c : Chip) → IsInside m c → length (table_at m tables c) ≡ 1024
-  pub apart : AllPairs AreApart ranges
+  pub each_long : (c : Chip) → IsInside m c → length (table_at m tables c) ≡ ROUTER_ENTRIES
+  pub apart : AllPairs ShareNoPlace ranges
   pub there : (range : Range) → Contains ranges range → range.region < 1 + (chip_count m + chip_count m)
-  pub fit : (range : Range) → Contains ranges range → Fits m rows range
+  pub fit : (range : Range) → Contains ranges range → FitsTable m rows range
 
 -- each range of entries has the rows of its chip, and all other entries are as they were
 pub record AreCopied (m : Description) (rows : List Table) (ranges : List Range) (old new : List (List Entry)) : Type 0 where
   pub all : length new ≡ length old
-  pub long : (c : Chip) → IsInside m c → length (table_at m new c) ≡ 1024
+  pub long : (c : Chip) → IsInside m c → length (table_at m new c) ≡ ROUTER_ENTRIES
   pub copied : (range : Range) → Contains ranges range → (c : Chip) (t : Table) → IsInside m c → range.region ≡ rows_region m c → slice_get rows (index_of m c) ≡ Some t →
       take range.size (drop range.place (table_at m new c)) ≡ map entry_of t.rows
   pub others : (c : Chip) (k : ℕ) → IsInside m c → is_taken ranges (rows_region m c) k ≡ false → slice_get (table_at m new c) k ≡ slice_get (table_at m old c) k
@@ -44,12 +45,12 @@ pub record AreUnusedFrom (first count : ℕ) (old new : List Entry) : Type 0 whe
 -- there is a table for each chip, and the ranges lie within their regions
 pub record CanClear (m : Description) (tables : List (List Entry)) (ranges : List Range) : Type 0 where
   pub tables_long : length tables ≡ chip_count m
-  pub each_long : (c : Chip) → IsInside m c → length (table_at m tables c) ≡ 1024
-  pub within : All (IsWithin m (1 + (chip_count m + chip_count m))) ranges
+  pub each_long : (c : Chip) → IsInside m c → length (table_at m tables c) ≡ ROUTER_ENTRIES
+  pub within : All (IsRangeWithin m (1 + (chip_count m + chip_count m))) ranges
 
 -- the entries of the ranges are unused, and all others as they were
 pub record AreUnused (m : Description) (ranges : List Range) (old new : List (List Entry)) : Type 0 where
   pub all : length new ≡ length old
-  pub long : (c : Chip) → IsInside m c → length (table_at m new c) ≡ 1024
-  pub cleared : (c : Chip) (k : ℕ) → IsInside m c → k < 1024 → is_taken ranges (rows_region m c) k ≡ true → slice_get (table_at m new c) k ≡ Some unused
+  pub long : (c : Chip) → IsInside m c → length (table_at m new c) ≡ ROUTER_ENTRIES
+  pub cleared : (c : Chip) (k : ℕ) → IsInside m c → k < ROUTER_ENTRIES → is_taken ranges (rows_region m c) k ≡ true → slice_get (table_at m new c) k ≡ Some unused
   pub others : (c : Chip) (k : ℕ) → IsInside m c → is_taken ranges (rows_region m c) k ≡ false → slice_get (table_at m new c) k ≡ slice_get (table_at m old c) k

@@ -1,10 +1,8 @@
 // The applications of a machine, and what can be asked of them.
-ghost use Rattle.std.specs.Prelude.{◌≡◌, ◌*◌, ◌<◌, ◌≤◌, All, IfOk, Some, length};
-ghost use Rattle.spin_base.specs.declared.chips.Spot.{Spot as ASpot};
-ghost use Rattle.machine_desc.specs.Live.{IsInside as IsInsideGrid};
+ghost use Rattle.std.specs.Prelude.{◌≡◌, ◌≤◌, IfOk, Some};
 ghost use Rattle.app_loads.specs.Applications.{AreApps};
 ghost use Rattle.app_loads.specs.Host.{is_free_spot, is_loaded};
-ghost use Rattle.app_loads.specs.Marking.{AreMarked};
+ghost use Rattle.app_loads.specs.Marking.{AreSpotsMarked, CanMark};
 ghost use Rattle.app_loads.specs.Opening.{bare_host};
 
 use crate::loaded::LoadedApp;
@@ -112,10 +110,8 @@ pub fn put<T: Drop>(held: &mut Option<T>, item: T)
 
 // Writes for each spot whether a loaded application has it.
 pub fn mark_spots(machine: &Machine, taken: &mut [bool], spots: &[Spot], now: bool)
-    requires long { length taken.old ≡ 24 * (machine.now.width * machine.now.height) }
-    requires inside { All (λ (s : ASpot). IsInsideGrid machine.now s.chip) spots.now }
-    requires numbered { All (λ (s : ASpot). s.core < 24) spots.now }
-    ensures { AreMarked machine.now now spots.now taken.old taken.new }
+    requires { CanMark machine.now spots.now taken.old }
+    ensures { AreSpotsMarked machine.now now spots.now taken.old taken.new }
 {
     for spot in spots {
         taken[SPOTS * machine.index(spot.chip) as usize + usize::from(spot.core)] = now;

@@ -2,12 +2,12 @@
 ghost use Rattle.std.specs.Prelude.{◌≡◌, ◌+◌, ◌*◌, ◌-◌, ◌^◌, ◌<◌, ◌≤◌, ◌++◌, All, AllPairs, IfOk, OnOk, IfSome, length, zip};
 ghost use Rattle.std.specs.List.{flat_map, range_with_len};
 ghost use Rattle.std.specs.List.Sorted.{IsPermutation};
-ghost use Rattle.list_laws.specs.Gathered.{gathered};
+ghost use Rattle.spin_base.specs.Gathered.{gathered};
 ghost use Rattle.machine_desc.specs.Live.{IsInside, IsUsable};
 ghost use Rattle.app_graph.specs.ValidGraph.{IsFixedFor};
 ghost use Rattle.app_loads.specs.declared.plans.AppNet.{AppNet as ANet};
 ghost use Rattle.app_loads.specs.Claims.{claims_of, memory_claim, fixed_claim, key_claim, entries_claim, row_claim, size_for};
-ghost use Rattle.app_loads.specs.Counting.{HasTree, IsRunEnd, end_places, run_claim, tree_places};
+ghost use Rattle.app_loads.specs.Counting.{HasTree, IsKeyCount, IsRunEnd, end_places, run_claim, tree_places};
 ghost use Rattle.app_loads.specs.Plans.{IsPlan, IsAppNet};
 ghost use Rattle.app_loads.specs.Regions.{chip_count};
 
@@ -24,18 +24,15 @@ const KEYS: usize = 0;
 // How many keys there are: those of 32 bits.
 pub const ALL_KEYS: u64 = 4_294_967_296;
 
-// So many spots, or nets, have no place in memory.
-const TOO_MANY: usize = 4_294_967_296;
-
 // The claims of a plan, in the order in which they are served: memory vertex by vertex, the fixed blocks of its nets, the blocks of
 // its other nets, and entries chip by chip.
 pub fn claims_of(alloc: Global, machine: &Machine, plan: &AppPlan) -> Result<Vec<Claim>, Memory>
     requires { IsPlan machine.now plan.now }
     ensures { IfOk result (λ claims. claims.items ≡ claims_of machine.now plan.now) }
 {
-    if plan.spots.len() >= TOO_MANY {
-        return Err(Memory);
-    }
+    // Its spots are different, so that each vertex has a number of 32 bits.
+    let chips = machine.chips();
+    prove!(plan.spots.len() <= 24 * chips);
     let mut claims = Vec::new(alloc);
     claim_memory(
         &mut claims,
@@ -59,7 +56,8 @@ fn claim_memory(
     requires usable { All (IsUsable machine.now) spots.now }
     requires each { length sdram.now ≡ length spots.now }
     requires few { length spots.now < 2 ^ 32 }
-    ensures { OnOk result (claims.new.items ≡ claims.old.items ++ gathered (memory_claim machine.now) 0 (zip spots.now sdram.now)) }
+    ensures { OnOk result (claims.new.items ≡ claims.old.items
+        ++ gathered (memory_claim machine.now) 0 (zip spots.now sdram.now)) }
 {
     for (vertex, spot) in spots.iter().enumerate() {
         push_memory(claims, machine, vertex as u32, *spot, sdram[vertex])?;
@@ -76,7 +74,8 @@ fn push_memory(
     bytes: u32,
 ) -> Result<(), Memory>
     requires { IsInside machine.now spot.chip }
-    ensures { OnOk result (claims.new.items ≡ claims.old.items ++ memory_claim machine.now vertex (spot, bytes)) }
+    ensures { OnOk result (claims.new.items ≡ claims.old.items
+        ++ memory_claim machine.now vertex (spot, bytes)) }
 {
     if bytes > 0 {
         claims.push(Claim {
@@ -93,7 +92,8 @@ fn push_memory(
 // The fixed blocks.
 fn claim_fixed(claims: &mut Vec<Claim>, nets: &[AppNet]) -> Result<(), Memory>
     requires { length nets.now < 2 ^ 32 }
-    ensures { OnOk result (claims.new.items ≡ claims.old.items ++ gathered (λ j (net : ANet). fixed_claim j net.fixed) 0 nets.now) }
+    ensures { OnOk result (claims.new.items ≡ claims.old.items
+        ++ gathered (λ j (net : ANet). fixed_claim j net.fixed) 0 nets.now) }
 {
     for (net, wanted) in nets.iter().enumerate() {
         push_fixed(claims, net as u32, wanted.fixed)?;
@@ -120,9 +120,9 @@ fn push_fixed(claims: &mut Vec<Claim>, net: u32, fixed: Option<Block>) -> Result
 // The blocks of the nets that have no fixed one.
 fn claim_keys(claims: &mut Vec<Claim>, nets: &[AppNet]) -> Result<(), Memory>
     requires few { length nets.now < 2 ^ 32 }
-    requires some { All (λ (net : ANet). 1 ≤ net.keys) nets.now }
-    requires small { All (λ (net : ANet). net.keys ≤ 4294967296) nets.now }
-    ensures { OnOk result (claims.new.items ≡ claims.old.items ++ gathered (λ j (net : ANet). key_claim j net.keys net.fixed) 0 nets.now) }
+    requires keys { All (λ (net : ANet). IsKeyCount net.keys) nets.now }
+    ensures { OnOk result (claims.new.items ≡ claims.old.items
+        ++ gathered (λ j (net : ANet). key_claim j net.keys net.fixed) 0 nets.now) }
 {
     for (net, wanted) in nets.iter().enumerate() {
         push_keys(claims, net as u32, wanted.keys, wanted.fixed)?;
@@ -137,8 +137,7 @@ fn push_keys(
     keys: u64,
     fixed: Option<Block>,
 ) -> Result<(), Memory>
-    requires some { 1 ≤ keys }
-    requires few { keys ≤ 4294967296 }
+    requires { IsKeyCount keys }
     ensures { OnOk result (claims.new.items ≡ claims.old.items ++ key_claim net keys fixed) }
 {
     if fixed.is_none() {
@@ -156,8 +155,7 @@ fn push_keys(
 
 // The least power of two that is not below a number of keys.
 fn size_for(keys: u64) -> u64
-    requires some { 1 ≤ keys }
-    requires few { keys ≤ 4294967296 }
+    requires { IsKeyCount keys }
     ensures { result ≡ size_for keys }
 {
     keys.next_power_of_two()
@@ -171,7 +169,8 @@ fn claim_rows(
     nets: &[AppNet],
 ) -> Result<(), Memory>
     requires { All (HasTree machine.now) nets.now }
-    ensures { OnOk result (claims.new.items ≡ claims.old.items ++ flat_map (row_claim machine.now nets.now) (range_with_len 0 (chip_count machine.now))) }
+    ensures { OnOk result (claims.new.items ≡ claims.old.items
+        ++ flat_map (row_claim machine.now nets.now) (range_with_len 0 (chip_count machine.now))) }
 {
     let chips = tree_chips(alloc, machine, nets)?;
     claim_runs(claims, machine, &chips)
@@ -181,7 +180,8 @@ fn claim_rows(
 fn claim_runs(claims: &mut Vec<Claim>, machine: &Machine, chips: &[u32]) -> Result<(), Memory>
     requires sorted { AllPairs (λ a b. a ≤ b) chips.now }
     requires inside { All (λ i. i < chip_count machine.now) chips.now }
-    ensures { OnOk result (claims.new.items ≡ claims.old.items ++ flat_map (run_claim machine.now chips.now) (range_with_len 0 (chip_count machine.now))) }
+    ensures { OnOk result (claims.new.items ≡ claims.old.items
+        ++ flat_map (run_claim machine.now chips.now) (range_with_len 0 (chip_count machine.now))) }
 {
     let mut at = 0;
     'runs: while at < chips.len() {
@@ -201,7 +201,8 @@ fn push_rows(
 ) -> Result<(), Memory>
     requires inside { index < chip_count machine.now }
     requires some { 0 < rows }
-    ensures { OnOk result (claims.new.items ≡ claims.old.items ++ entries_claim machine.now index rows) }
+    ensures { OnOk result (claims.new.items ≡ claims.old.items
+        ++ entries_claim machine.now index rows) }
 {
     claims.push(Claim {
         region: 1 + machine.chips() + index as usize,
@@ -230,7 +231,8 @@ fn run_end(items: &[u32], at: usize) -> usize
 // The indices of the chips of all nets' trees, in order: each as often as a net has it.
 fn tree_chips(alloc: Global, machine: &Machine, nets: &[AppNet]) -> Result<Vec<u32>, Memory>
     requires { All (HasTree machine.now) nets.now }
-    ensures same { IfOk result (λ chips. IsPermutation (flat_map (tree_places machine.now) nets.now) chips.items) }
+    ensures same { IfOk result (λ chips.
+        IsPermutation (flat_map (tree_places machine.now) nets.now) chips.items) }
     ensures sorted { IfOk result (λ chips. AllPairs (λ a b. a ≤ b) chips.items) }
 {
     let mut chips = Vec::new(alloc);

@@ -2,10 +2,10 @@
 ghost use Rattle.std.specs.Prelude.{OnOk};
 ghost use Rattle.mesh_core.specs.Expected.{IsAtRest};
 ghost use Rattle.app_loads.specs.Applications.{AreApps};
-ghost use Rattle.app_loads.specs.Running.{HasMoved};
+ghost use Rattle.app_loads.specs.Running.{HasMovedMesh};
 
 use crate::apps::Apps;
-use packet_runs::drain;
+use mesh_drain::drain;
 use spin_base::Memory;
 use std::alloc::Global;
 
@@ -19,7 +19,7 @@ impl Apps {
     /// `Memory` where memory runs out. Each copy is then where some events brought it.
     pub fn drain(&mut self, alloc: Global) -> Result<(), Memory>
         ensures at_rest { OnOk result (IsAtRest self.new.mesh) }
-        ensures moved { HasMoved self.old self.new }
+        ensures moved { HasMovedMesh self.old self.new }
         ensures apps { AreApps self.new }
     {
         let Some(mesh) = &mut self.mesh else {

@@ -2,7 +2,7 @@
 ghost use Rattle.std.specs.Prelude.{◌≡◌, [], ◌∷◌, ◌++◌, not, if◌then◌else◌, filter, IfOk, IfSome, IfNone, OnOk};
 ghost use Rattle.std.specs.List.{flat_map};
 ghost use Rattle.mesh_core.specs.State.{IsMesh};
-ghost use Rattle.app_loads.specs.Leaving.{is_packet_of, is_delivery_of, is_record_of, IsPartedBy, IsLeastUnderWay, NoneUnderWay, lesser_of, own_packet, least_of, packets_of, held_packets};
+ghost use Rattle.app_loads.specs.Leaving.{is_packet_of, is_delivery_of, is_record_of, IsPartedBy, IsLeastUnderWay, NoneUnderWay, lesser_of, own_packet, least_own_packet, packet_numbers_of, held_packets};
 
 use crate::answers::Ended;
 use crate::loaded::LoadedApp;
@@ -37,7 +37,9 @@ fn part_deliveries(
     deliveries: &[Delivery],
     app: &LoadedApp,
 ) -> Result<(Seq<Delivery>, Seq<Delivery>), Memory>
-    ensures { IfOk result (λ lists. (lists.0 ≡ filter (is_delivery_of app.now) deliveries.now) × (lists.1 ≡ filter (λ d. not (is_delivery_of app.now d)) deliveries.now)) }
+    ensures { IfOk result (λ lists.
+        (lists.0 ≡ filter (is_delivery_of app.now) deliveries.now)
+        × (lists.1 ≡ filter (λ d. not (is_delivery_of app.now d)) deliveries.now)) }
 {
     let mut own = Seq::new(alloc);
     let mut others = Seq::new(alloc);
@@ -55,7 +57,9 @@ fn part_records(
     records: &[DumpRec],
     app: &LoadedApp,
 ) -> Result<(Seq<DumpRec>, Seq<DumpRec>), Memory>
-    ensures { IfOk result (λ lists. (lists.0 ≡ filter (is_record_of app.now) records.now) × (lists.1 ≡ filter (λ r. not (is_record_of app.now r)) records.now)) }
+    ensures { IfOk result (λ lists.
+        (lists.0 ≡ filter (is_record_of app.now) records.now)
+        × (lists.1 ≡ filter (λ r. not (is_record_of app.now r)) records.now)) }
 {
     let mut own = Seq::new(alloc);
     let mut others = Seq::new(alloc);
@@ -98,7 +102,8 @@ pub fn least_waiting(parts: &MeshParts, app: &LoadedApp) -> Option<u32>
 
 // The lesser of the least so far and the least of the application's packets in these queues.
 fn least_in_queues(queues: &[Fifo<McCopy>], app: &LoadedApp, so_far: Option<u32>) -> Option<u32>
-    ensures { result ≡ lesser_of so_far (least_of app.now (flat_map packets_of queues.now)) }
+    ensures { result
+        ≡ lesser_of so_far (least_own_packet app.now (flat_map packet_numbers_of queues.now)) }
 {
     let mut least = so_far;
     for queue in queues {
@@ -109,7 +114,7 @@ fn least_in_queues(queues: &[Fifo<McCopy>], app: &LoadedApp, so_far: Option<u32>
 
 // The same of the copies of one queue.
 fn least_in(copies: &[McCopy], app: &LoadedApp, so_far: Option<u32>) -> Option<u32>
-    ensures { result ≡ lesser_of so_far (least_of app.now (packets_of copies.now)) }
+    ensures { result ≡ lesser_of so_far (least_own_packet app.now (packet_numbers_of copies.now)) }
 {
     let mut least = so_far;
     for copy in copies {
@@ -120,7 +125,8 @@ fn least_in(copies: &[McCopy], app: &LoadedApp, so_far: Option<u32>) -> Option<u
 
 // The same of what routers hold in hand.
 fn least_in_hands(hands: &[Option<Hand>], app: &LoadedApp, so_far: Option<u32>) -> Option<u32>
-    ensures { result ≡ lesser_of so_far (least_of app.now (flat_map held_packets hands.now)) }
+    ensures { result
+        ≡ lesser_of so_far (least_own_packet app.now (flat_map held_packets hands.now)) }
 {
     let mut least = so_far;
     for hand in hands {
@@ -131,7 +137,7 @@ fn least_in_hands(hands: &[Option<Hand>], app: &LoadedApp, so_far: Option<u32>) 
 
 // The same of what one router holds in hand.
 fn lesser_held(hand: &Option<Hand>, app: &LoadedApp, so_far: Option<u32>) -> Option<u32>
-    ensures { result ≡ lesser_of so_far (least_of app.now (held_packets hand.now)) }
+    ensures { result ≡ lesser_of so_far (least_own_packet app.now (held_packets hand.now)) }
 {
     match hand {
         Some(hand) => lesser(hand.copy.packet, app, so_far),

@@ -1,14 +1,11 @@
 // An application loaded.
-ghost use Rattle.std.specs.Prelude.{◌≡◌, ◌+◌, ◌^◌, ◌<◌, List, AllPairs, Contains, IfOk, IfErr, OnOk, OnErr, length};
-ghost use Rattle.machine_desc.specs.Description.{Description};
-ghost use Rattle.app_loads.specs.declared.loaded.Range.{Range as ARange};
+ghost use Rattle.std.specs.Prelude.{◌≡◌, ◌+◌, ◌<◌, IfOk, IfErr, OnOk, OnErr, length};
 ghost use Rattle.app_loads.specs.Applications.{AreApps};
 ghost use Rattle.app_loads.specs.Claims.{AreBlocks, claims_of};
-ghost use Rattle.app_loads.specs.Joining.{AreKeyed, CanJoin, CanSettle, HaveBlocks, IsServed, IsSettled};
+ghost use Rattle.app_loads.specs.Joining.{AreKeyed, CanJoin, CanSettle, HaveBlocks, IsServedApp, IsSettled};
 ghost use Rattle.app_loads.specs.Loading.{HasLoaded, IsWhyNotLoaded};
 ghost use Rattle.app_loads.specs.Plans.{IsPlan, MayLoad};
-ghost use Rattle.app_loads.specs.Regions.{AreApart, AreFreeBeside};
-ghost use Rattle.app_loads.specs.Taking.{AreRegionsOf, HaveRoom, IsDueAlways, frees};
+ghost use Rattle.app_loads.specs.Taking.{AreFreeAgain, AreRegionsOf, HaveRoom, IsDueAlways};
 ghost use Rattle.app_loads.specs.Writing.{AreCopied, CanCopy};
 
 use crate::answers::LoadErr;
@@ -85,11 +82,12 @@ fn join(
     plan: &AppPlan,
 ) -> (Mesh, Result<LoadedApp, LoadErr>)
     requires { CanJoin mesh regions.old first plan.now }
-    ensures served { IfOk result.1 (λ app. IsServed mesh.setup.machine regions.old number first plan.now app regions.new) }
+    ensures served { IfOk result.1 (λ app.
+        IsServedApp mesh.setup.machine regions.old number first plan.now app regions.new) }
     ensures settled { IfOk result.1 (λ app. IsSettled app mesh result.0) }
     ensures due { IfErr result.1 (IsDueAlways (claims_of mesh.setup.machine plan.now) regions.old) }
     ensures mesh_refused { OnErr result.1 (result.0 ≡ mesh) }
-    ensures back { OnErr result.1 ((m : Description) (taken : List ARange) → AllPairs AreApart taken → AreFreeBeside m taken (frees regions.old) → AreFreeBeside m taken (frees regions.new)) }
+    ensures back { OnErr result.1 (AreFreeAgain regions.old regions.new) }
 {
     let app = match serve(alloc, mesh.machine(), regions, number, first, plan) {
         Ok(app) => app,
@@ -117,10 +115,11 @@ fn serve(
 ) -> Result<LoadedApp, LoadErr>
     requires plan { IsPlan machine.now plan.now }
     requires regions { AreRegionsOf machine.now regions.old }
-    ensures served { IfOk result (λ app. IsServed machine.now regions.old number first plan.now app regions.new) }
+    ensures served { IfOk result (λ app.
+        IsServedApp machine.now regions.old number first plan.now app regions.new) }
     ensures room { IfOk result (λ app. HaveRoom app.ranges regions.new) }
     ensures due { IfErr result (IsDueAlways (claims_of machine.now plan.now) regions.old) }
-    ensures back { OnErr result ((m : Description) (taken : List ARange) → AllPairs AreApart taken → AreFreeBeside m taken (frees regions.old) → AreFreeBeside m taken (frees regions.new)) }
+    ensures back { OnErr result (AreFreeAgain regions.old regions.new) }
 {
     let Ok(claims) = claims_of(alloc, machine, plan) else {
         return Err(LoadErr::Memory);
@@ -152,7 +151,8 @@ fn app_of(
     ensures plan { IfOk result (λ app. app.plan ≡ plan.now) }
     ensures first { IfOk result (λ app. app.first ≡ first) }
     ensures ranges { IfOk result (λ app. app.ranges ≡ ranges.now) }
-    ensures blocks { IfOk result (λ app. AreBlocks claims.now ranges.now plan.now.nets app.blocks) }
+    ensures blocks { IfOk result (λ app.
+        AreBlocks claims.now ranges.now plan.now.nets app.blocks) }
 {
     let blocks = blocks_of(alloc, plan.nets.len(), claims, ranges)?;
     let ranges = Vec::from_slice(alloc, ranges)?;
@@ -216,7 +216,8 @@ fn settle(alloc: Global, mesh: Mesh, app: &LoadedApp) -> (Mesh, Result<(), Memor
 fn install(alloc: Global, setup: &mut MeshSetup, rows: &[Table], ranges: &[Range])
     requires { CanCopy setup.old.machine setup.old.tables rows.now ranges.now }
     ensures setup { setup.new ≡ record setup.old { tables = setup.new.tables } }
-    ensures copied { AreCopied setup.old.machine rows.now ranges.now setup.old.tables setup.new.tables }
+    ensures copied { AreCopied
+        setup.old.machine rows.now ranges.now setup.old.tables setup.new.tables }
 {
     let mut tables = setup.swap_tables(Seq::new(alloc));
     write_rows(setup.machine(), tables.as_mut_slice(), rows, ranges);

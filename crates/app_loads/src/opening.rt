@@ -5,21 +5,19 @@ ghost use Rattle.tcam_find.specs.Memory.{empty_memory};
 ghost use Rattle.mesh_core.specs.State.{IsMesh};
 ghost use Rattle.app_loads.specs.Opening.{spot_of, usable_spots, bare_mesh};
 ghost use Rattle.app_loads.specs.Regions.{all_free, open_regions};
-ghost use Rattle.app_loads.specs.Taking.{free_of};
+ghost use Rattle.app_loads.specs.Taking.{free_places_in};
 
 use crate::claims::ALL_KEYS;
 use machine_desc::Machine;
-use mesh_core::Mesh;
+use mesh_core::laws::every_mesh_is_one;
+use mesh_core::{Mesh, MeshSetup};
 use range_store::Ranges;
-use spin_base::{Memory, Seq, Spot};
+use spin_base::{Memory, ROUTER_ENTRIES, Seq, Spot};
 use std::alloc::Global;
 use tcam_find::Tcam;
 
 // How many cores of a chip can be usable: 1 to 17.
 const CORES: u32 = 17;
-
-// How many entries a router's table has.
-const ENTRIES: u64 = 1024;
 
 // The mesh with a vertex on each usable core, without a copy.
 pub fn bare_mesh(alloc: Global, machine: &Machine, queue: u32) -> Result<Mesh, Memory>
@@ -29,7 +27,10 @@ pub fn bare_mesh(alloc: Global, machine: &Machine, queue: u32) -> Result<Mesh, M
 {
     let spots = usable_spots(alloc, machine)?;
     let tables = empty_tables(alloc, machine.chips())?;
-    Mesh::new(alloc, machine.copy(alloc)?, spots, tables, queue)
+    let setup = MeshSetup::new(alloc, machine.copy(alloc)?, spots, tables, queue)?;
+    let mesh = Mesh::new(alloc, setup)?;
+    every_mesh_is_one(&mesh);
+    Ok(mesh)
 }
 
 // The usable cores of the machine, in the order of their chips' indices and their numbers.
@@ -59,7 +60,8 @@ fn spot_of(machine: &Machine, number: u32) -> Spot
 
 // Puts the spot at the back of the list, where it is usable.
 fn push_usable(machine: &Machine, spots: &mut Seq<Spot>, spot: Spot) -> Result<(), Memory>
-    ensures { OnOk result (spots.new ≡ spots.old ++ filter (is_usable machine.now) (spot ∷ [])) }
+    ensures { OnOk result (spots.new ≡ spots.old
+        ++ filter (is_usable machine.now) (spot ∷ [])) }
 {
     if machine.usable(spot) {
         spots.push(spot)?;
@@ -80,7 +82,7 @@ fn empty_tables(alloc: Global, count: usize) -> Result<Seq<Tcam>, Memory>
 
 // All regions of the machine, of which nothing is taken.
 pub fn open_regions(alloc: Global, machine: &Machine) -> Result<Vec<Ranges>, Memory>
-    ensures { IfOk result (λ regions. map free_of regions.items ≡ open_regions machine.now) }
+    ensures { IfOk result (λ regions. map free_places_in regions.items ≡ open_regions machine.now) }
 {
     let mut regions = Vec::new(alloc);
     push_regions(alloc, &mut regions, 1, ALL_KEYS)?;
@@ -90,7 +92,7 @@ pub fn open_regions(alloc: Global, machine: &Machine) -> Result<Vec<Ranges>, Mem
         machine.chips(),
         u64::from(machine.sdram()),
     )?;
-    push_regions(alloc, &mut regions, machine.chips(), ENTRIES)?;
+    push_regions(alloc, &mut regions, machine.chips(), ROUTER_ENTRIES as u64)?;
     Ok(regions)
 }
 
@@ -102,7 +104,9 @@ fn push_regions(
     size: u64,
 ) -> Result<(), Memory>
     requires { size ≤ 4294967296 }
-    ensures { OnOk result (map free_of regions.new.items ≡ map free_of regions.old.items ++ replicate count (all_free size)) }
+    ensures { OnOk result (map free_places_in regions.new.items
+        ≡ map free_places_in regions.old.items
+        ++ replicate count (all_free size)) }
 {
     for _ in 0..count {
         regions.push(Ranges::new(alloc, size)?)?;
@@ -112,7 +116,8 @@ fn push_regions(
 
 // A table of spots none of which is taken.
 pub fn none_taken(alloc: Global, machine: &Machine) -> Result<Vec<bool>, Memory>
-    ensures { IfOk result (λ taken. taken.items ≡ replicate (24 * (machine.now.width * machine.now.height)) false) }
+    ensures { IfOk result (λ taken.
+        taken.items ≡ replicate (24 * (machine.now.width * machine.now.height)) false) }
 {
     Ok(vec![in alloc; false; 24 * machine.chips()]?)
 }

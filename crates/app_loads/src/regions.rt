@@ -1,12 +1,10 @@
 // Ranges taken from the regions, and given back.
 ghost use Rattle.std.specs.Prelude.{vec_capacity};
-ghost use Rattle.std.specs.Prelude.{◌≡◌, ◌⊎◌, ℕ, List, ◌+◌, ◌*◌, ◌%◌, ◌<◌, ◌≤◌, ◌∷◌, ◌++◌, ◌&&◌, not, [], All, AllPairs, IfOk, IfErr, IfSome, IfNone, OnOk, OnErr, length, replicate, slice_get, slice_set, Some, true, false};
+ghost use Rattle.std.specs.Prelude.{◌≡◌, ℕ, ◌+◌, ◌<◌, ◌≤◌, ◌&&◌, not, [], All, IfOk, IfErr, IfSome, IfNone, OnOk, OnErr, length, replicate, Some, true, false};
 ghost use Rattle.machine_desc.specs.Description.{Description};
 ghost use Rattle.range_store.specs.Regions.{AreRuns, is_free, is_hole_range, in_range};
 ghost use Rattle.app_loads.specs.declared.loaded.Range.{Range as ARange};
-ghost use Rattle.app_loads.specs.declared.answers.LoadErr.TheVariants.{Memory as NoMemory};
-ghost use Rattle.app_loads.specs.Regions.{AreApart, AreFreeBeside};
-ghost use Rattle.app_loads.specs.Taking.{free_of, frees, Serves, Refuses, CanServe, HaveRoom, HaveServed, AreTaken, AreTakenAlways, AreServedAlways, IsDueAlways};
+ghost use Rattle.app_loads.specs.Taking.{free_places_in, frees, ServesClaim, RefusesClaim, CanServe, IsDueOf, IsFairFor, HaveRoom, AreFreeAgain, AreGivenBack, AreTakenAlways, AreTakenBesideSome, AreServedAlways, IsDueAlways};
 
 use crate::answers::LoadErr;
 use crate::loaded::{Claim, Range};
@@ -28,7 +26,7 @@ pub fn take_all(
     ensures taken { IfOk result (λ ranges. AreTakenAlways regions.old ranges.items regions.new) }
     ensures room { IfOk result (λ ranges. HaveRoom ranges.items regions.new) }
     ensures refused { IfErr result (IsDueAlways claims.now regions.old) }
-    ensures back { OnErr result ((m : Description) (taken : List ARange) → AllPairs AreApart taken → AreFreeBeside m taken (frees regions.old) → AreFreeBeside m taken (frees regions.new)) }
+    ensures back { OnErr result (AreFreeAgain regions.old regions.new) }
 {
     let Ok(mut ranges) = Vec::with_capacity(alloc, claims.len()) else {
         return Err(LoadErr::Memory);
@@ -82,15 +80,14 @@ fn take_each(
 
 // Serves one claim, where so many ranges of its region were taken before: room is made first, so that they can be given back.
 fn take_claim(region: &mut Ranges, claim: &Claim, held: u32) -> Result<u64, LoadErr>
-    requires some { 0 < claim.now.size }
-    requires step { 0 < claim.now.align }
-    requires fixed { IfSome claim.now.fixed (λ p. (p % claim.now.align ≡ 0) × (p + claim.now.size ≤ region.old.size)) }
-    ensures taken { IfOk result (Serves claim.now region.old region.new) }
-    ensures refused { IfErr result (λ e. (e ≡ NoMemory) ⊎ ((e ≡ claim.now.refusal) × Refuses claim.now region.old)) }
-    ensures unchanged { OnErr result (free_of region.new ≡ free_of region.old) }
+    requires { IsFairFor claim.now region.old }
+    ensures taken { IfOk result (ServesClaim claim.now region.old region.new) }
+    ensures refused { IfErr result (IsDueOf claim.now region.old) }
+    ensures unchanged { OnErr result (free_places_in region.new ≡ free_places_in region.old) }
     ensures room { OnOk result (held + 1 ≤ region.new.spare) }
     ensures few { OnOk result (held < 4000000000) }
-    ensures room_stays { OnErr result ((n : ℕ) → n ≤ held → n ≤ region.old.spare → n ≤ region.new.spare) }
+    ensures room_stays { OnErr result ((n : ℕ) →
+        n ≤ held → n ≤ region.old.spare → n ≤ region.new.spare) }
 {
     if held >= MOST_HELD {
         return Err(LoadErr::Memory);
@@ -104,15 +101,15 @@ fn take_claim(region: &mut Ranges, claim: &Claim, held: u32) -> Result<u64, Load
 
 // Makes room for so many holes more, and takes the least range for the claim, if there is one.
 fn take_with_room(region: &mut Ranges, claim: &Claim, room: u32) -> Result<Option<u64>, Memory>
-    requires some { 0 < claim.now.size }
-    requires step { 0 < claim.now.align }
-    requires fixed { IfSome claim.now.fixed (λ p. (p % claim.now.align ≡ 0) × (p + claim.now.size ≤ region.old.size)) }
-    ensures taken { IfOk result (λ o. IfSome o (Serves claim.now region.old region.new)) }
-    ensures none { IfOk result (λ o. IfNone o (Refuses claim.now region.old)) }
-    ensures unchanged { IfOk result (λ o. IfNone o (free_of region.new ≡ free_of region.old)) }
-    ensures refused { OnErr result (free_of region.new ≡ free_of region.old) }
+    requires { IsFairFor claim.now region.old }
+    ensures taken { IfOk result (λ o. IfSome o (ServesClaim claim.now region.old region.new)) }
+    ensures none { IfOk result (λ o. IfNone o (RefusesClaim claim.now region.old)) }
+    ensures unchanged { IfOk result (λ o. IfNone o (free_places_in region.new
+        ≡ free_places_in region.old)) }
+    ensures refused { OnErr result (free_places_in region.new ≡ free_places_in region.old) }
     ensures room { OnOk result (room ≤ region.new.spare + 1) }
-    ensures room_stays { (n : ℕ) → n + 1 ≤ room → n ≤ region.old.spare → n ≤ region.new.spare }
+    ensures room_stays { (n : ℕ) →
+        n + 1 ≤ room → n ≤ region.old.spare → n ≤ region.new.spare }
 {
     region.reserve(room)?;
     match claim.fixed {
@@ -125,9 +122,13 @@ fn take_with_room(region: &mut Ranges, claim: &Claim, room: u32) -> Result<Optio
 fn take_fixed(region: &mut Ranges, place: u64, size: u64) -> Result<Option<u64>, Memory>
     requires some { 0 < size }
     requires within { place + size ≤ region.old.size }
-    ensures found { IfOk result (λ o. IfSome o (λ p. (p ≡ place) × (is_hole_range region.old.holes place size ≡ true))) }
-    ensures free { IfOk result (λ o. IfSome o (λ p. (k : ℕ) → is_free region.new.holes k ≡ (is_free region.old.holes k && not (in_range place size k)))) }
-    ensures none { IfOk result (λ o. IfNone o ((is_hole_range region.old.holes place size ≡ false) × (region.new ≡ region.old))) }
+    ensures found { IfOk result (λ o. IfSome o (λ p.
+        (p ≡ place) × (is_hole_range region.old.holes place size ≡ true))) }
+    ensures free { IfOk result (λ o. IfSome o (λ p. (k : ℕ) →
+        is_free region.new.holes k
+        ≡ (is_free region.old.holes k && not (in_range place size k)))) }
+    ensures none { IfOk result (λ o. IfNone o
+        ((is_hole_range region.old.holes place size ≡ false) × (region.new ≡ region.old))) }
     ensures refused { OnErr result (region.new.holes ≡ region.old.holes) }
     ensures size { region.new.size ≡ region.old.size }
     ensures spare { region.old.spare ≤ region.new.spare + 1 }
@@ -175,9 +176,9 @@ fn make_room_for_each(
 
 // Gives ranges back, for which room was made.
 pub fn give_all(regions: &mut [Ranges], ranges: &[Range])
-    requires taken { (m : Description) × (others : List ARange) × AreTaken m others ranges.now regions.old }
+    requires taken { AreTakenBesideSome ranges.now regions.old }
     requires room { HaveRoom ranges.now regions.old }
-    ensures free { (m : Description) (others : List ARange) → AreTaken m others ranges.now regions.old → AreFreeBeside m others (frees regions.new) }
+    ensures free { (m : Description) → AreGivenBack m ranges.now regions.old regions.new }
 {
     for range in ranges {
         regions[range.region].give(range.place, range.size);

@@ -1,7 +1,7 @@
 // An application's packets put to the vertices that send them.
 ghost use Rattle.std.specs.Prelude.{◌≡◌, ◌+◌, ◌<◌, List, All, IfOk, OnOk, OnErr, length};
 ghost use Rattle.spin_base.specs.declared.chips.Spot.{Spot};
-ghost use Rattle.app_loads.specs.Joining.{AreSent};
+ghost use Rattle.app_loads.specs.Joining.{AreAllSent};
 ghost use Rattle.app_loads.specs.Sending.{AreCleared, AreSources, CanAdd, CanSend, IsSameBeside, IsSendingFrom};
 
 use crate::loaded::LoadedApp;
@@ -18,7 +18,7 @@ pub fn send(
     app: &LoadedApp,
 ) -> Result<(), Memory>
     requires { CanSend setup.now app.now unsent.old }
-    ensures sent { OnOk result (AreSent setup.now.spots app.now (length app.now.plan.packets) unsent.old unsent.new) }
+    ensures sent { OnOk result (AreAllSent setup.now.spots app.now unsent.old unsent.new) }
     ensures refused { OnErr result (unsent.new ≡ unsent.old) }
 {
     let sources = source_vertices(alloc, setup, app.plan.nets.as_slice())?;
@@ -52,7 +52,9 @@ fn add_packets(
     app: &LoadedApp,
 ) -> Result<(), Memory>
     requires { CanAdd sources.now app.now unsent.old }
-    ensures sent { OnOk result ((spots : List Spot) → AreSources spots app.now.plan.nets sources.now → AreSent spots app.now (length app.now.plan.packets) unsent.old unsent.new) }
+    ensures sent { OnOk result ((spots : List Spot) →
+        AreSources spots app.now.plan.nets sources.now
+        → AreAllSent spots app.now unsent.old unsent.new) }
     ensures refused { OnErr result (IsSameBeside sources.now unsent.old unsent.new) }
 {
     for (at, packet) in app.plan.packets.as_slice().iter().enumerate() {

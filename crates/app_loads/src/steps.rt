@@ -16,7 +16,8 @@ impl Apps {
     /// `Memory` where memory runs out.
     pub fn step(&mut self, e: Event) -> Result<Did, Memory>
         ensures answer { IfOk result (λ did. did ≡ answer self.old.mesh e) }
-        ensures moves { OnOk result (self.new ≡ record self.old { mesh = after_event self.old.mesh e }) }
+        ensures moves { OnOk result (
+            self.new ≡ record self.old { mesh = after_event self.old.mesh e }) }
         ensures err { OnErr result (self.new ≡ self.old) }
         ensures apps { AreApps self.new }
     {

@@ -1,12 +1,11 @@
 // An application unloaded.
-ghost use Rattle.std.specs.Prelude.{◌≡◌, ◌==◌, ◌<◌, List, All, IfOk, IfErr, OnOk, OnErr, length, position};
+ghost use Rattle.std.specs.Prelude.{◌≡◌, ◌==◌, ◌<◌, All, IfOk, IfErr, OnOk, OnErr, length, position};
 ghost use Rattle.app_loads.specs.declared.loaded.LoadedApp.{LoadedApp as AnApp};
 ghost use Rattle.app_loads.specs.declared.loaded.Range.{Range as ARange};
 ghost use Rattle.app_loads.specs.Applications.{AreApps};
 ghost use Rattle.app_loads.specs.Leaving.{IsPartedBy, NoneUnderWay};
-ghost use Rattle.app_loads.specs.Regions.{AreFreeBeside};
 ghost use Rattle.app_loads.specs.Removing.{CanLeave, HasLeft, IsWhyHere};
-ghost use Rattle.app_loads.specs.Taking.{AreTaken, HaveRoom, frees};
+ghost use Rattle.app_loads.specs.Taking.{AreGivenBack, HaveRoom, frees};
 ghost use Rattle.app_loads.specs.Unloading.{HasUnloaded, IsWhyNotUnloaded, NoneWaits};
 ghost use Rattle.app_loads.specs.Writing.{AreUnused, CanClear};
 
@@ -82,7 +81,8 @@ fn leave(
     requires { CanLeave mesh regions.old app.now }
     ensures left { IfOk result.1 (λ ended. HasLeft app.now mesh ended result.0) }
     ensures none { OnOk result.1 (NoneUnderWay mesh app.now) }
-    ensures given { OnOk result.1 ((others : List ARange) → AreTaken mesh.setup.machine others app.now.ranges regions.old → AreFreeBeside mesh.setup.machine others (frees regions.new)) }
+    ensures given { OnOk result.1
+        (AreGivenBack mesh.setup.machine app.now.ranges regions.old regions.new) }
     ensures why { IfErr result.1 (IsWhyHere mesh app.now) }
     ensures mesh_refused { OnErr result.1 (result.0 ≡ mesh) }
     ensures back { OnErr result.1 (frees regions.new ≡ frees regions.old) }

@@ -4,8 +4,8 @@ use Rattle.std.specs.List.{All, AllPairs, AllZip, Contains, slice_get}
 use Rattle.std.proofs.lemmas.Bool.{cases_lt}
 use Rattle.std.proofs.lemmas.List.{map-append, map-set, length-append}
 use Rattle.std.proofs.lemmas.List.Elements.{All-nil, All-cons, All-head, All-tail, All-append}
-use Rattle.list_laws.proofs.Places.{both_none, none_within, slice_get-mapped}
-use Rattle.list_laws.proofs.Members.{Contains-at}
+use Rattle.spin_base.proofs.Places.{both_none, none_within, slice_get-mapped}
+use Rattle.spin_base.proofs.Members.{Contains-at}
 use Rattle.spin_base.specs.declared.copies.McCopy.{McCopy}
 use Rattle.spin_base.specs.declared.copies.Delivery.{Delivery}
 use Rattle.spin_base.specs.WithRoom.{WithRoom}
@@ -15,12 +15,12 @@ use Rattle.link_queue.specs.TheRule.{put_of, StartsWith}
 use Rattle.link_queue.specs.Moves.{TakesOffer, FindsNothing}
 use Rattle.chip_node.specs.declared.ends.InEnd.{InEnd}
 use Rattle.chip_node.specs.declared.ends.OutEnd.{OutEnd}
-use Rattle.chip_node.specs.Offers.{Refuses}
+use Rattle.chip_node.specs.Offers.{RefusesOffers}
 use Rattle.chip_node.specs.declared.banks.BankVertex.{BankVertex}
 use Rattle.chip_node.specs.declared.banks.CoreBank.{CoreBank}
-use Rattle.chip_node.specs.Numbers.{numbers_of}
-use Rattle.chip_node.specs.BankFlow.{unsent_of, of_vertex, deliveries, OffersOne, IsEmptyFor, CollectsNone, VertexFlow, Moves, MaySendNone, BankFlow}
-use Rattle.chip_node.specs.Collecting.{HasNothing, OffersAny, CollectsAny}
+use Rattle.chip_node.specs.Numbers.{vertex_numbers_of}
+use Rattle.chip_node.specs.BankFlow.{bank_unsent_of, of_vertex, deliveries, OffersOne, IsEmptyFor, CollectsNone, VertexFlow, Moves, MaySendNone, BankFlow}
+use Rattle.chip_node.specs.BankFlow.{HasNothing, OffersAny, CollectsAny}
 use Rattle.chip_node.proofs.Beside.{AllZip-same, AllZip-set, AllZip-weaker, AllZip-through, AllZip-map_same, AllZip-first, AllZip-back, apart_by, grown, one_grew, values-append}
 use Rattle.chip_node.proofs.BankSteps.{of_vertex_own, of_vertex_other}
 
@@ -65,7 +65,7 @@ moves_join ss gs ts hs a b c h k = record {
 pub record SendPart (a b : CoreBank) : Type 0 where
   pub sent : List (ℕ × McCopy)
   pub few : length sent ≤ 1
-  pub senders : All (λ p. Contains (numbers_of a.vertices.items) p.0) sent
+  pub senders : All (λ p. Contains (vertex_numbers_of a.vertices.items) p.0) sent
   pub moves : Moves sent [] a b
   pub idle : sent ≡ [] → MaySendNone a
 
@@ -75,11 +75,11 @@ same_vertices xs ys e = subst (AllZip (VertexFlow [] []) xs) (sym e) (AllZip-sam
 same_log : (a b : CoreBank) → b.log ≡ a.log → b.log.items ≡ a.log.items ++ []
 same_log a b e = ap (λ (r : WithRoom Delivery). r.items) e ∙ sym (append-nil a.log.items)
 
-pub send_part : (a b : CoreBank) → AllPairs (λ n m. n ≢ m) (numbers_of a.vertices.items) → OffersAny a.inject b.inject a.vertices.items b.vertices.items → b.log ≡ a.log → SendPart a b
+pub send_part : (a b : CoreBank) → AllPairs (λ n m. n ≢ m) (vertex_numbers_of a.vertices.items) → OffersAny a.inject b.inject a.vertices.items b.vertices.items → b.log ≡ a.log → SendPart a b
 send_part a b different (inl h) log = record {
   sent = [];
   few = omega arith;
-  senders = All-nil (λ p. Contains (numbers_of a.vertices.items) p.0);
+  senders = All-nil (λ p. Contains (vertex_numbers_of a.vertices.items) p.0);
   moves = record {
     vertices = same_vertices a.vertices.items b.vertices.items h.2;
     link = ap (λ (e : OutEnd). e.link) h.1;
@@ -100,7 +100,7 @@ send_part a b different (inr (place, k, o)) log = by o.answer
     now : BankVertex
     now = record { vertex = v.vertex; unsent = o.waiting.rest; end = v.end }
 
-    at_number : slice_get (numbers_of a.vertices.items) place ≡ Some v.vertex
+    at_number : slice_get (vertex_numbers_of a.vertices.items) place ≡ Some v.vertex
     at_number = slice_get-mapped (λ (z : BankVertex). z.vertex) a.vertices.items place v o.waiting.stands
 
     own : VertexFlow ((v.vertex, k) ∷ []) [] v now
@@ -121,12 +121,12 @@ send_part a b different (inr (place, k, o)) log = by o.answer
       took = sym (append-nil (taking x.end.rx).took);
     }
 
-    by : (TakesOffer (sending a.inject.tx) k (sending b.inject.tx) × (b.vertices.items ≡ set a.vertices.items place now)) ⊎ (Refuses 1 (sending a.inject.tx) (sending b.inject.tx) × (b.vertices.items ≡ a.vertices.items)) → SendPart a b
+    by : (TakesOffer (sending a.inject.tx) k (sending b.inject.tx) × (b.vertices.items ≡ set a.vertices.items place now)) ⊎ (RefusesOffers 1 (sending a.inject.tx) (sending b.inject.tx) × (b.vertices.items ≡ a.vertices.items)) → SendPart a b
     by (inl h) = record {
       sent = (v.vertex, k) ∷ [];
       few = omega arith;
-      senders = All-cons (λ p. Contains (numbers_of a.vertices.items) p.0) (v.vertex, k) [] (Contains-at (numbers_of a.vertices.items) place v.vertex at_number)
-          (All-nil (λ p. Contains (numbers_of a.vertices.items) p.0));
+      senders = All-cons (λ p. Contains (vertex_numbers_of a.vertices.items) p.0) (v.vertex, k) [] (Contains-at (vertex_numbers_of a.vertices.items) place v.vertex at_number)
+          (All-nil (λ p. Contains (vertex_numbers_of a.vertices.items) p.0));
       moves = record {
         vertices = subst (AllZip (VertexFlow ((v.vertex, k) ∷ []) []) a.vertices.items) (sym h.1)
             (AllZip-set (VertexFlow ((v.vertex, k) ∷ []) []) a.vertices.items place v now o.waiting.stands own (λ j z others at. other z (apart_by (λ (w : BankVertex). w.vertex) a.vertices.items different place j v z o.waiting.stands others at)));
@@ -143,7 +143,7 @@ send_part a b different (inr (place, k, o)) log = by o.answer
     by (inr h) = record {
       sent = [];
       few = omega arith;
-      senders = All-nil (λ p. Contains (numbers_of a.vertices.items) p.0);
+      senders = All-nil (λ p. Contains (vertex_numbers_of a.vertices.items) p.0);
       moves = record {
         vertices = same_vertices a.vertices.items b.vertices.items h.1;
         link = o.link;
@@ -165,7 +165,7 @@ IsWhole v = StartsWith (taking v.end.rx).took (taking v.end.rx).first
 pub record CollectPart (b c : CoreBank) : Type 0 where
   pub got : List (ℕ × McCopy)
   pub few : length got ≤ 1
-  pub receivers : All (λ p. Contains (numbers_of b.vertices.items) p.0) got
+  pub receivers : All (λ p. Contains (vertex_numbers_of b.vertices.items) p.0) got
   pub moves : Moves [] got b c
   pub idle : got ≡ [] → All IsWhole b.vertices.items
 
@@ -185,7 +185,7 @@ pub collect_part : (b c : CoreBank) → CollectsAny b c → c.inject ≡ b.injec
 collect_part b c (inl h) inject = record {
   got = [];
   few = omega arith;
-  receivers = All-nil (λ p. Contains (numbers_of b.vertices.items) p.0);
+  receivers = All-nil (λ p. Contains (vertex_numbers_of b.vertices.items) p.0);
   moves = collect_moves [] b c inject
       (AllZip-weaker HasNothing (VertexFlow [] []) (λ x y r. record {
         vertex = r.vertex;
@@ -199,7 +199,7 @@ collect_part b c (inl h) inject = record {
 collect_part b c (inr (p, one, logged)) inject = record {
   got = p ∷ [];
   few = omega arith;
-  receivers = All-cons (λ q. Contains (numbers_of b.vertices.items) q.0) p [] one.of_a_vertex (All-nil (λ q. Contains (numbers_of b.vertices.items) q.0));
+  receivers = All-cons (λ q. Contains (vertex_numbers_of b.vertices.items) q.0) p [] one.of_a_vertex (All-nil (λ q. Contains (vertex_numbers_of b.vertices.items) q.0));
   moves = collect_moves (p ∷ []) b c inject one.vertices logged;
   idle = λ none. cc;
 }
@@ -210,7 +210,7 @@ whole_back : (ss : List (ℕ × McCopy)) (xs ys : List BankVertex) → AllZip (V
 whole_back ss xs ys h all = AllZip-back (VertexFlow ss []) IsWhole
     (λ x y r w. (w.0, ap (λ l. l ++ w.0) (sym r.first) ∙ (w.1 ∙ (r.took ∙ append-nil (taking x.end.rx).took)))) xs ys h all
 
-same_numbers : (ss gs : List (ℕ × McCopy)) (xs ys : List BankVertex) → AllZip (VertexFlow ss gs) xs ys → numbers_of ys ≡ numbers_of xs
+same_numbers : (ss gs : List (ℕ × McCopy)) (xs ys : List BankVertex) → AllZip (VertexFlow ss gs) xs ys → vertex_numbers_of ys ≡ vertex_numbers_of xs
 same_numbers ss gs xs ys h = AllZip-map_same (VertexFlow ss gs) (λ (v : BankVertex). v.vertex) (λ x y r. r.vertex) xs ys h
 
 pub bank_turn_flow : (a b c : CoreBank) → SendPart a b → CollectPart b c → BankFlow 1 a c
@@ -235,8 +235,8 @@ bank_flow_start a = record {
   got = [];
   few_sent = omega arith;
   few_got = omega arith;
-  senders = All-nil (λ p. Contains (numbers_of a.vertices.items) p.0);
-  receivers = All-nil (λ p. Contains (numbers_of a.vertices.items) p.0);
+  senders = All-nil (λ p. Contains (vertex_numbers_of a.vertices.items) p.0);
+  receivers = All-nil (λ p. Contains (vertex_numbers_of a.vertices.items) p.0);
   moves = collect_moves [] a a refl (same_vertices a.vertices.items a.vertices.items refl) (same_log a a refl);
   idle_sender = λ some none. absurd (omega arith);
   idle_receivers = λ some none. absurd (omega arith);
@@ -248,14 +248,14 @@ bank_flow_join n m a b c h k = record {
   got = h.got ++ k.got;
   few_sent = (let f = h.few_sent in let g = k.few_sent in omega (arith, length-append h.sent k.sent));
   few_got = (let f = h.few_got in let g = k.few_got in omega (arith, length-append h.got k.got));
-  senders = All-append (λ p. Contains (numbers_of a.vertices.items) p.0) h.sent k.sent h.senders (subst (λ ns. All (λ p. Contains ns p.0) k.sent) same k.senders);
-  receivers = All-append (λ p. Contains (numbers_of a.vertices.items) p.0) h.got k.got h.receivers (subst (λ ns. All (λ p. Contains ns p.0) k.got) same k.receivers);
+  senders = All-append (λ p. Contains (vertex_numbers_of a.vertices.items) p.0) h.sent k.sent h.senders (subst (λ ns. All (λ p. Contains ns p.0) k.sent) same k.senders);
+  receivers = All-append (λ p. Contains (vertex_numbers_of a.vertices.items) p.0) h.got k.got h.receivers (subst (λ ns. All (λ p. Contains ns p.0) k.got) same k.receivers);
   moves = moves_join h.sent h.got k.sent k.got a b c h.moves k.moves;
   idle_sender = λ some none. (let left = both_none h.sent k.sent none in elim (cases_lt 0 n) [ inl begun ↦ h.idle_sender begun left.0 | inr not ↦ sends_later not (k.idle_sender (omega arith) left.1) ]);
   idle_receivers = λ some none. (let left = both_none h.got k.got none in elim (cases_lt 0 n) [ inl begun ↦ h.idle_receivers begun left.0 | inr not ↦ gets_later not (k.idle_receivers (omega arith) left.1) ]);
 }
   where
-    same : numbers_of b.vertices.items ≡ numbers_of a.vertices.items
+    same : vertex_numbers_of b.vertices.items ≡ vertex_numbers_of a.vertices.items
     same = same_numbers h.sent h.got a.vertices.items b.vertices.items h.moves.vertices
 
     gets_later : n ≤ 0 → All IsWhole b.vertices.items → All IsWhole a.vertices.items
@@ -276,13 +276,13 @@ bank_flow_join n m a b c h k = record {
 
 -- ---- what a turn tells besides
 
-all_unsent : (vs : List BankVertex) → All (λ (v : BankVertex). v.unsent ≡ []) vs → All (λ (q : List McCopy). q ≡ []) (unsent_of vs)
+all_unsent : (vs : List BankVertex) → All (λ (v : BankVertex). v.unsent ≡ []) vs → All (λ (q : List McCopy). q ≡ []) (bank_unsent_of vs)
 all_unsent [] all = All-nil (λ (q : List McCopy). q ≡ [])
-all_unsent (v ∷ vs) all = All-cons (λ (q : List McCopy). q ≡ []) v.unsent (unsent_of vs) (All-head (λ (w : BankVertex). w.unsent ≡ []) v vs all)
+all_unsent (v ∷ vs) all = All-cons (λ (q : List McCopy). q ≡ []) v.unsent (bank_unsent_of vs) (All-head (λ (w : BankVertex). w.unsent ≡ []) v vs all)
     (all_unsent vs (All-tail (λ (w : BankVertex). w.unsent ≡ []) v vs all))
 
-pub offers_one : (e f : OutEnd) (vs ws : List BankVertex) → OffersAny e f vs ws → OffersOne (sending e.tx) (sending f.tx) (unsent_of vs) (unsent_of ws)
-offers_one e f vs ws (inl h) = inl (all_unsent vs h.0, ap (λ (x : OutEnd). sending x.tx) h.1, ap unsent_of h.2)
+pub offers_one : (e f : OutEnd) (vs ws : List BankVertex) → OffersAny e f vs ws → OffersOne (sending e.tx) (sending f.tx) (bank_unsent_of vs) (bank_unsent_of ws)
+offers_one e f vs ws (inl h) = inl (all_unsent vs h.0, ap (λ (x : OutEnd). sending x.tx) h.1, ap bank_unsent_of h.2)
 offers_one e f vs ws (inr (place, k, o)) = inr (record {
   place = place;
   copy = k;
@@ -294,13 +294,13 @@ offers_one e f vs ws (inr (place, k, o)) = inr (record {
     now : BankVertex
     now = record { vertex = o.waiting.vertex.vertex; unsent = o.waiting.rest; end = o.waiting.vertex.end }
 
-    by : (TakesOffer (sending e.tx) k (sending f.tx) × (ws ≡ set vs place now)) ⊎ (Refuses 1 (sending e.tx) (sending f.tx) × (ws ≡ vs))
-        → (TakesOffer (sending e.tx) k (sending f.tx) × (unsent_of ws ≡ set (unsent_of vs) place o.waiting.rest)) ⊎ (Refuses 1 (sending e.tx) (sending f.tx) × (unsent_of ws ≡ unsent_of vs))
-    by (inl h) = inl (h.0, ap unsent_of h.1 ∙ map-set (λ (v : BankVertex). v.unsent) vs place now)
-    by (inr h) = inr (h.0, ap unsent_of h.1)
+    by : (TakesOffer (sending e.tx) k (sending f.tx) × (ws ≡ set vs place now)) ⊎ (RefusesOffers 1 (sending e.tx) (sending f.tx) × (ws ≡ vs))
+        → (TakesOffer (sending e.tx) k (sending f.tx) × (bank_unsent_of ws ≡ set (bank_unsent_of vs) place o.waiting.rest)) ⊎ (RefusesOffers 1 (sending e.tx) (sending f.tx) × (bank_unsent_of ws ≡ bank_unsent_of vs))
+    by (inl h) = inl (h.0, ap bank_unsent_of h.1 ∙ map-set (λ (v : BankVertex). v.unsent) vs place now)
+    by (inr h) = inr (h.0, ap bank_unsent_of h.1)
 
 -- collecting leaves the unsent copies
-pub collecting_unsent : (b c : CoreBank) → CollectsAny b c → unsent_of c.vertices.items ≡ unsent_of b.vertices.items
+pub collecting_unsent : (b c : CoreBank) → CollectsAny b c → bank_unsent_of c.vertices.items ≡ bank_unsent_of b.vertices.items
 collecting_unsent b c (inl h) = AllZip-map_same HasNothing (λ (v : BankVertex). v.unsent) (λ x y r. r.unsent) b.vertices.items c.vertices.items h.0
 collecting_unsent b c (inr (p, one, logged)) = AllZip-map_same (VertexFlow [] (p ∷ [])) (λ (v : BankVertex). v.unsent) (λ x y r. sym r.unsent) b.vertices.items c.vertices.items one.vertices
 
@@ -321,7 +321,7 @@ offering_ends e f vs ws (inr (place, k, o)) = elim o.answer [
 ]
 
 -- a turn that collects nothing found each queue empty
-pub nothing_is_empty : (e f : OutEnd) (a b c : CoreBank) → OffersAny e f a.vertices.items b.vertices.items → numbers_of b.vertices.items ≡ numbers_of a.vertices.items → CollectsAny b c → CollectsNone a.vertices.items c.vertices.items
+pub nothing_is_empty : (e f : OutEnd) (a b c : CoreBank) → OffersAny e f a.vertices.items b.vertices.items → vertex_numbers_of b.vertices.items ≡ vertex_numbers_of a.vertices.items → CollectsAny b c → CollectsNone a.vertices.items c.vertices.items
     → AllZip IsEmptyFor a.vertices.items c.vertices.items
 nothing_is_empty e f a b c offers numbers (inl h) none =
     AllZip-through SameEnd HasNothing IsEmptyFor

@@ -5,7 +5,7 @@ use Rattle.std.proofs.Math.Seq.{map-set_same}
 use Rattle.std.proofs.lemmas.Bool.{eqb-true}
 use Rattle.std.proofs.lemmas.Option.{slice_get_read, slice_get_within}
 use Rattle.std.proofs.lemmas.List.Elements.{All-set}
-use Rattle.list_laws.proofs.Places.{All-at, set-slice_get}
+use Rattle.spin_base.proofs.Places.{All-at, set-slice_get}
 use Rattle.spin_base.specs.declared.copies.McCopy.{McCopy}
 use Rattle.spin_base.proofs.Equality.{nat_eq_same}
 use Rattle.link_queue.specs.declared.links.Link.{Link}
@@ -15,10 +15,10 @@ use Rattle.link_queue.specs.Moves.{TakesCopy, TakesOffer}
 use Rattle.chip_node.specs.declared.ends.InEnd.{InEnd}
 use Rattle.chip_node.specs.declared.ends.OutEnd.{OutEnd}
 use Rattle.chip_node.specs.declared.banks.BankVertex.{BankVertex}
+use Rattle.chip_node.specs.declared.rings.Ring.{Ring}
 use Rattle.chip_node.specs.Ends.{IsInEndOf}
-use Rattle.chip_node.specs.Numbers.{numbers_of}
-use Rattle.chip_node.specs.BankFlow.{HaveInEndsOf, of_vertex, VertexFlow}
-use Rattle.chip_node.specs.Collecting.{IsWaitingAt, HasNothing, OffersAny, CollectsOne}
+use Rattle.chip_node.specs.Numbers.{vertex_numbers_of}
+use Rattle.chip_node.specs.BankFlow.{HaveInEndsOf, of_vertex, VertexFlow, IsWaitingAt, HasNothing, OffersAny, CollectsOne}
 use Rattle.chip_node.proofs.Beside.{AllZip-first, took_none, values_other, values_own}
 use Rattle.chip_node.proofs.GoingRound.{GoneBy, Step, found_key, gone_all, gone_found, gone_more, stands, step_read}
 
@@ -46,7 +46,7 @@ either_gets_none p x y other (inr e) = record {
 }
 
 -- for the vertex at the place of the next step a copy is taken
-pub next_collects : {start step place : ℕ} {xs ys : List BankVertex} {b : BankVertex} → Step HasNothing start step place xs ys b → (a : BankVertex) (k : McCopy) (e : InEnd) → AllPairs (λ p q. p ≢ q) (numbers_of xs) →
+pub next_collects : {start step place : ℕ} {xs ys : List BankVertex} {b : BankVertex} → Step HasNothing start step place xs ys b → (a : BankVertex) (k : McCopy) (e : InEnd) → AllPairs (λ p q. p ≢ q) (vertex_numbers_of xs) →
     a ≡ get_or ys place a → TakesCopy (taking b.end.rx) k (taking e.rx) → e.link ≡ b.end.link → CollectsOne (a.vertex, k) xs (set ys place (record { vertex = b.vertex; unsent = b.unsent; end = e }))
 next_collects {place = place} {xs = xs} {ys = ys} {b = b} step a k e different also takes link =
     let number : BankVertex → ℕ = λ z. z.vertex in
@@ -68,8 +68,8 @@ pub none_waiting_there : {start step place : ℕ} {xs : List BankVertex} {b : Ba
 none_waiting_there {start} {step} {place} {xs} {b} at none = subst (GoneBy HasNoneUnsent start (step + 1) xs) (set-slice_get xs place b (stands HasNoneUnsent at)) (gone_more HasNoneUnsent at b none)
 
 -- none has one
-pub none_waiting : (start step : ℕ) (xs : List BankVertex) → start ≤ length xs → step ≡ length xs → GoneBy HasNoneUnsent start step xs xs → All (λ (v : BankVertex). v.unsent ≡ []) xs
-none_waiting start step xs s end gone = AllZip-first HasNoneUnsent (λ (v : BankVertex). v.unsent ≡ []) (λ v w h. h) xs xs (gone_all HasNoneUnsent start step xs xs s end gone)
+pub none_waiting : (ring : Ring) (step : ℕ) (xs : List BankVertex) → ring.count ≡ length xs → step ≡ length xs → GoneBy HasNoneUnsent ring.start step xs xs → All (λ (v : BankVertex). v.unsent ≡ []) xs
+none_waiting ring step xs long end gone = AllZip-first HasNoneUnsent (λ (v : BankVertex). v.unsent ≡ []) (λ v w h. h) xs xs (gone_all HasNoneUnsent ring step xs xs long end gone)
 
 -- the front copy leaves its list
 left_behind : (r : Option McCopy) (old new rest : List McCopy) (k : McCopy) → old ≡ option_to_list r ++ new → ((IsNone r) ↔ (old ≡ [])) → old ≡ k ∷ rest → new ≡ rest
@@ -85,7 +85,7 @@ module _ (place : ℕ) (k : McCopy) (vs : List BankVertex) (w : IsWaitingAt vs p
   same_vertex : b ≡ w.vertex
   same_vertex = (let both : Some b ≡ Some w.vertex = sym there ∙ w.stands in cc)
 
-  pub sent_numbers : numbers_of (set vs place (record { vertex = b.vertex; unsent = new; end = b.end })) ≡ numbers_of vs
+  pub sent_numbers : vertex_numbers_of (set vs place (record { vertex = b.vertex; unsent = new; end = b.end })) ≡ vertex_numbers_of vs
   sent_numbers = map-set_same (λ (z : BankVertex). z.vertex) vs place (record { vertex = b.vertex; unsent = new; end = b.end }) b (ap (λ (z : BankVertex). z.vertex) is)
 
   pub sent_vertex_ends : (links : List Link) → HaveInEndsOf links vs → HaveInEndsOf links (set vs place (record { vertex = b.vertex; unsent = new; end = b.end }))

@@ -4,9 +4,9 @@ use Rattle.std.specs.List.{All, AllPairs, AllZip, Contains, filter, slice_get}
 use Rattle.std.proofs.lemmas.Bool.{cases_Bool}
 use Rattle.std.proofs.lemmas.List.{length-append, map-append}
 use Rattle.std.proofs.lemmas.List.Elements.{All-nil, All-cons, All-head, All-tail, filter-append}
-use Rattle.list_laws.proofs.Members.{Contains-cases, Contains-none}
-use Rattle.list_laws.proofs.Pairs.{AllPairs-apart}
-use Rattle.list_laws.proofs.Places.{slice_get-mapped}
+use Rattle.spin_base.proofs.Members.{Contains-cases, Contains-none}
+use Rattle.spin_base.proofs.Pairs.{AllPairs-apart}
+use Rattle.spin_base.proofs.Places.{slice_get-mapped}
 
 module _ {X : Type 0} (R : X → X → Type 0) where
   -- each item is beside itself

@@ -5,8 +5,9 @@ use Rattle.std.proofs.Math.ListN.{length-set}
 use Rattle.std.proofs.Math.Seq.{map-set_same}
 use Rattle.std.proofs.lemmas.Bool.{cases_eq, cases_lt}
 use Rattle.std.proofs.lemmas.Option.{slice_get_read, slice_get_within}
-use Rattle.list_laws.proofs.Members.{Contains-at}
-use Rattle.list_laws.proofs.Places.{All-at, one_item_at, slice_get_there, slice_get-mapped, slice_get-set_same, slice_get-set_other}
+use Rattle.spin_base.proofs.Members.{Contains-at}
+use Rattle.spin_base.proofs.Places.{All-at, one_item_at, slice_get_there, slice_get-mapped, slice_get-set_same, slice_get-set_other}
+use Rattle.chip_node.specs.declared.rings.Ring.{Ring}
 use Rattle.chip_node.proofs.Beside.{apart_by}
 
 -- the place was gone by within so many steps
@@ -87,7 +88,7 @@ module _ {X : Type 0} (E : X → X → Type 0) where
     pub is : old ≡ get_or ys at old
 
   -- the same by a number that is the length
-  pub step_of : (start steps at count : ℕ) (xs ys : List X) (old : X) → count ≡ length xs → start ≤ length xs → steps < count → at < count → IsPlaceOf start count steps at → GoneBy start steps xs ys → old ≡ get_or ys at old →
+  step_of : (start steps at count : ℕ) (xs ys : List X) (old : X) → count ≡ length xs → start ≤ length xs → steps < count → at < count → IsPlaceOf start count steps at → GoneBy start steps xs ys → old ≡ get_or ys at old →
       Step start steps at xs ys old
   step_of start steps at count xs ys old long s n below place gone is = record {
     within = s;
@@ -98,10 +99,17 @@ module _ {X : Type 0} (E : X → X → Type 0) where
     is = is;
   }
 
+  -- the same round a ring
+  pub step_in : (ring : Ring) (steps at n : ℕ) (xs ys : List X) (old : X) → ring.count ≡ n → n ≡ length xs → steps < n → at < ring.count → IsPlaceOf ring.start ring.count steps at → GoneBy ring.start steps xs ys
+      → old ≡ get_or ys at old → Step ring.start steps at xs ys old
+  step_in ring steps at n xs ys old is long low below place gone read =
+      step_of ring.start steps at ring.count xs ys old (is ∙ long) (omega (arith, ring.inside, is, long)) (omega (arith, low, is)) below place gone read
+
   -- all places
-  pub gone_all : (start steps : ℕ) (xs ys : List X) → start ≤ length xs → steps ≡ length xs → GoneBy start steps xs ys → AllZip E xs ys
-  gone_all start steps xs ys within end gone =
-      AllZip-each E xs ys gone.long (λ j x y ex ey. (gone.each j x y ex ey).0 (subst (λ n. IsBehind start (length xs) n j) (sym end) (all_behind start (length xs) j within (slice_get_within xs j x ex))))
+  pub gone_all : (ring : Ring) (steps : ℕ) (xs ys : List X) → ring.count ≡ length xs → steps ≡ length xs → GoneBy ring.start steps xs ys → AllZip E xs ys
+  gone_all ring steps xs ys long end gone =
+      AllZip-each E xs ys gone.long (λ j x y ex ey. (gone.each j x y ex ey).0 (subst (λ n. IsBehind ring.start (length xs) n j) (sym end)
+      (all_behind ring.start (length xs) j (omega (arith, ring.inside, long)) (slice_get_within xs j x ex))))
 
   module _ {start steps at : ℕ} {xs ys : List X} {old : X} (step : Step start steps at xs ys old) where
     pub stands : slice_get ys at ≡ Some old

@@ -15,7 +15,7 @@ use Rattle.link_queue.specs.Moves.{MatchOffered, RefusesOffer}
 use Rattle.chip_node.specs.declared.ends.InEnd.{InEnd}
 use Rattle.chip_node.specs.declared.ends.OutEnd.{OutEnd}
 use Rattle.chip_node.specs.Ends.{IsInEndOf, IsOutEndOf}
-use Rattle.chip_node.specs.Offers.{full_noted_often, Refuses}
+use Rattle.chip_node.specs.Offers.{full_noted_often, RefusesOffers}
 
 -- the link that is read is the one of which it is an end
 pub in_end_stays : (links : List Link) (e : InEnd) (l : Link) (rx : Rx) → IsInEndOf links e → l ≡ get_or links e.link l → IsRx l rx → IsInEndOf links (record { link = e.link; rx = rx })
@@ -35,7 +35,7 @@ out_end_stays links e l tx h is end = record {
 pub out_end_read : (links : List Link) (e : OutEnd) (l : Link) → IsOutEndOf links e → l ≡ get_or links e.link l → IsTx l e.tx
 out_end_read links e l h is = subst (λ m. IsTx m e.tx) (sym (is ∙ get_or_from_slice_get links e.link h.of l h.stands)) h.is_end
 
-pub refuses_none : (v : Known) → Refuses 0 v v
+pub refuses_none : (v : Known) → RefusesOffers 0 v v
 refuses_none v = record {
   noted = ap (λ (l : List ℕ). record v { fulls = l }) (sym (append-nil v.fulls));
   looked = λ h. absurd (omega arith);
@@ -43,15 +43,15 @@ refuses_none v = record {
 }
 
 -- an offer is refused
-refuses_one : (cap : ℕ) (v u : Known) → RefusesOffer cap v u → v.cap ≡ cap → Refuses 1 v u
+refuses_one : (cap : ℕ) (v u : Known) → RefusesOffer cap v u → v.cap ≡ cap → RefusesOffers 1 v u
 refuses_one cap v u r is = record { noted = r.noted; looked = λ _. r.looked; full = λ _. (let full = r.full in omega arith) }
 
-pub offer_answer : (x : Offered) (P : Type 0) (k : McCopy) (cap : ℕ) (v u : Known) → MatchOffered x P (λ back. (back ≡ k) × RefusesOffer cap v u) → v.cap ≡ cap → MatchOffered x P (λ back. (back ≡ k) × Refuses 1 v u)
+pub offer_answer : (x : Offered) (P : Type 0) (k : McCopy) (cap : ℕ) (v u : Known) → MatchOffered x P (λ back. (back ≡ k) × RefusesOffer cap v u) → v.cap ≡ cap → MatchOffered x P (λ back. (back ≡ k) × RefusesOffers 1 v u)
 offer_answer Taken P k cap v u h is = h
 offer_answer (Full back) P k cap v u h is = (h.0, refuses_one cap v u h.1 is)
 
 -- one offer more is refused
-pub refuses_more : (n : ℕ) (v w u : Known) → Refuses n v w → Refuses 1 w u → Refuses (n + 1) v u
+pub refuses_more : (n : ℕ) (v w u : Known) → RefusesOffers n v w → RefusesOffers 1 w u → RefusesOffers (n + 1) v u
 refuses_more n v w u h r =
     let entered = length (put_of v) in
     let often : List ℕ → Known = λ l. record v { fulls = l } in

@@ -5,8 +5,8 @@ use Rattle.std.proofs.lemmas.Bool.{cases_lt}
 use Rattle.std.proofs.lemmas.List.{map-append, length-append, length-replicate}
 use Rattle.std.proofs.lemmas.List.Elements.{All-nil, All-cons, All-append, filter-append}
 use Rattle.std.proofs.lemmas.Grind.{flat_map-append}
-use Rattle.list_laws.proofs.Counts.{count_by-append}
-use Rattle.list_laws.proofs.Places.{both_none, none_within}
+use Rattle.spin_base.proofs.Counts.{count_by-append}
+use Rattle.spin_base.proofs.Places.{both_none, none_within}
 use Rattle.spin_base.specs.declared.chips.Port.{Port}
 use Rattle.spin_base.specs.declared.routes.Out.{Out}
 use Rattle.spin_base.specs.declared.blocks.Entry.{Entry}
@@ -15,6 +15,7 @@ use Rattle.spin_base.specs.declared.copies.DumpRec.{DumpRec}
 use Rattle.spin_base.specs.WithRoom.{WithRoom}
 use Rattle.spin_base.specs.Equality.{out_eq, port_eq}
 use Rattle.spin_base.proofs.Equality.{out_eq_true, out_eq_same}
+use Rattle.spin_base.specs.Hops.{onward}
 use Rattle.link_queue.specs.declared.known.Known.{Known}
 use Rattle.link_queue.specs.Ends.{sending, taking}
 use Rattle.link_queue.specs.TheRule.{put_of, StartsWith}
@@ -23,11 +24,11 @@ use Rattle.chip_node.specs.declared.ends.OutEnd.{OutEnd}
 use Rattle.chip_node.specs.declared.ends.Served.{Served}
 use Rattle.chip_node.specs.declared.ends.Served.TheVariants.{Sent, Dumped}
 use Rattle.chip_node.specs.declared.routers.RouterNode.{RouterNode}
-use Rattle.chip_node.specs.Routing.{onward, outputs_at}
+use Rattle.chip_node.specs.Routing.{outputs_at}
 use Rattle.chip_node.specs.Serving.{ports_of, outs_with_ends, records_of, OffersBy}
-use Rattle.chip_node.specs.Offers.{Fares, Sends, Refuses}
+use Rattle.chip_node.specs.Offers.{IsServedAs, Sends, RefusesOffers}
 use Rattle.chip_node.specs.Looking.{taken_at, TakesAt, IsEmptyAt, TakesOne}
-use Rattle.chip_node.specs.RouterFlow.{Service, owed, is_sent, is_sent_by, is_dumped_at, sent_by, records, ServesAt, Serves, ServesAll, RouterFlow}
+use Rattle.chip_node.specs.RouterFlow.{Service, owed, is_sent, is_sent_by, is_dumped_at, sent_by, records, ServesAt, ServesCopies, ServesAll, RouterFlow}
 use Rattle.chip_node.proofs.Beside.{AllZip-same, AllZip-weaker, AllZip-through, AllZip-map_same, AllZip-first, AllZip-back, grown, values-append}
 
 -- ---- one service, at one end
@@ -64,7 +65,7 @@ own_sent p o k x y out link h own =
           let e = ap (λ n. p * n) none in let z = mul-zero p in omega arith);
     }
 
-own_dumped : (p : ℕ) (o : Out) (k : McCopy) (x y : Out × OutEnd) → y.0 ≡ x.0 → y.1.link ≡ x.1.link → Refuses p (sending x.1.tx) (sending y.1.tx) → out_eq x.0 o ≡ true →
+own_dumped : (p : ℕ) (o : Out) (k : McCopy) (x y : Out × OutEnd) → y.0 ≡ x.0 → y.1.link ≡ x.1.link → RefusesOffers p (sending x.1.tx) (sending y.1.tx) → out_eq x.0 o ≡ true →
     ServesAt p (record { out = o; copy = k; fate = Dumped } ∷ []) x y
 own_dumped p o k x y out link h own =
     let s : Service = record { out = o; copy = k; fate = Dumped } in
@@ -80,7 +81,7 @@ own_dumped p o k x y out link h own =
           let e = ap (λ n. p * n) one in let z = mul-one p in let l = length-replicate p (length (put_of (sending x.1.tx))) in omega arith);
     }
 
-own_end : (p : ℕ) (o : Out) (k : McCopy) (f : Served) (x y : Out × OutEnd) → y.0 ≡ x.0 → y.1.link ≡ x.1.link → Fares p (onward k) f (sending x.1.tx) (sending y.1.tx) → out_eq x.0 o ≡ true →
+own_end : (p : ℕ) (o : Out) (k : McCopy) (f : Served) (x y : Out × OutEnd) → y.0 ≡ x.0 → y.1.link ≡ x.1.link → IsServedAs p (onward k) f (sending x.1.tx) (sending y.1.tx) → out_eq x.0 o ≡ true →
     ServesAt p (record { out = o; copy = k; fate = f } ∷ []) x y
 own_end p o k Sent x y out link h own = own_sent p o k x y out link h own
 own_end p o k Dumped x y out link h own = own_dumped p o k x y out link h own
@@ -129,7 +130,7 @@ serves_at_none p x = record {
 }
 
 -- nothing is served, and what serving touches is as it was
-pub serves_none : (a b : RouterNode) → b.chip ≡ a.chip → b.patience ≡ a.patience → b.outputs ≡ a.outputs → b.log ≡ a.log → Serves [] a b
+pub serves_none : (a b : RouterNode) → b.chip ≡ a.chip → b.patience ≡ a.patience → b.outputs ≡ a.outputs → b.log ≡ a.log → ServesCopies [] a b
 serves_none a b chip patience outputs log = record {
   chip = chip;
   patience = patience;
@@ -139,7 +140,7 @@ serves_none a b chip patience outputs log = record {
   logged = ap (λ (r : WithRoom DumpRec). r.items) log ∙ sym (append-nil a.log.items);
 }
 
-pub serves_join : (ss ts : List Service) (a b c : RouterNode) → Serves ss a b → Serves ts b c → Serves (ss ++ ts) a c
+pub serves_join : (ss ts : List Service) (a b c : RouterNode) → ServesCopies ss a b → ServesCopies ts b c → ServesCopies (ss ++ ts) a c
 serves_join ss ts a b c h k = record {
   chip = k.chip ∙ h.chip;
   patience = k.patience ∙ h.patience;
@@ -156,7 +157,7 @@ serves_join ss ts a b c h k = record {
 
 -- one copy at one output
 serves_one : (o : Out) (k : McCopy) (f : Served) (a b : RouterNode) → AllZip (OffersBy a.patience o (onward k) f) a.outputs.items b.outputs.items → (f ≡ Sent → Contains (outs_with_ends a.outputs.items) o)
-    → b.log.items ≡ a.log.items ++ records_of a.chip o k f → b.chip ≡ a.chip → b.patience ≡ a.patience → Serves (record { out = o; copy = k; fate = f } ∷ []) a b
+    → b.log.items ≡ a.log.items ++ records_of a.chip o k f → b.chip ≡ a.chip → b.patience ≡ a.patience → ServesCopies (record { out = o; copy = k; fate = f } ∷ []) a b
 serves_one o k f a b offers by_end logged chip patience = record {
   chip = chip;
   patience = patience;

@@ -4,8 +4,8 @@ use Rattle.std.specs.List.{AllPairs, AllZip, Contains, slice_get}
 use Rattle.std.proofs.Math.Seq.{map-set_same}
 use Rattle.std.proofs.lemmas.Option.{get_or_from_slice_get}
 use Rattle.std.proofs.lemmas.List.Elements.{All-set}
-use Rattle.list_laws.proofs.Places.{All-at, slice_get-mapped}
-use Rattle.list_laws.proofs.Members.{Contains-at, Contains-unmap, contains_among, position_there, position_nowhere, among_at}
+use Rattle.spin_base.proofs.Places.{All-at, slice_get-mapped}
+use Rattle.spin_base.proofs.Members.{Contains-at, Contains-unmap, contains_among, position_there, position_nowhere, among_at}
 use Rattle.spin_base.specs.declared.routes.Out.{Out}
 use Rattle.spin_base.specs.declared.copies.McCopy.{McCopy}
 use Rattle.spin_base.specs.Equality.{out_eq}
@@ -15,7 +15,7 @@ use Rattle.link_queue.specs.Ends.{sending}
 use Rattle.chip_node.specs.declared.ends.OutEnd.{OutEnd}
 use Rattle.chip_node.specs.declared.ends.Served.{Served}
 use Rattle.chip_node.specs.Ends.{IsOutEndOf}
-use Rattle.chip_node.specs.Offers.{Fares}
+use Rattle.chip_node.specs.Offers.{IsServedAs}
 use Rattle.chip_node.specs.Serving.{outs_with_ends, AreOutEndsOf, OffersBy}
 use Rattle.chip_node.proofs.Beside.{AllZip-same, AllZip-set, apart_by}
 
@@ -43,7 +43,7 @@ module _ (o : Out) (xs : List (Out × OutEnd)) (i : ℕ) (a : Out × OutEnd) (fo
   found_ends links e all end = All-set (λ (z : Out × OutEnd). IsOutEndOf links z.1) xs i (a.0, e) end all
 
   -- the end was offered the copy, and no other
-  pub offered_by : (patience : ℕ) (k : McCopy) (s : Served) (e : OutEnd) → AllPairs (λ x y. x ≢ y) (outs_with_ends xs) → Fares patience k s (sending a.1.tx) (sending e.tx) → e.link ≡ a.1.link
+  pub offered_by : (patience : ℕ) (k : McCopy) (s : Served) (e : OutEnd) → AllPairs (λ x y. x ≢ y) (outs_with_ends xs) → IsServedAs patience k s (sending a.1.tx) (sending e.tx) → e.link ≡ a.1.link
       → AllZip (OffersBy patience o k s) xs (set xs i (a.0, e))
   offered_by patience k s e different fares link =
       AllZip-set (OffersBy patience o k s) xs i a (a.0, e) found_there

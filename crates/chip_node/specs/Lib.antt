@@ -1,5 +1,4 @@
 pub mod BankFlow
-pub mod Collecting
 pub mod Ends
 pub mod Looking
 pub mod Numbers

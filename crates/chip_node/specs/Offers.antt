@@ -12,7 +12,7 @@ abbrev pub full_noted_often : ℕ → Known → Known
 full_noted_often n v = record v { fulls = v.fulls ++ replicate n (length (put_of v)) }
 
 -- The queue refused n offers, each at a moment when it held all that it can, and left a note of each.
-pub record Refuses (n : ℕ) (v w : Known) : Type 0 where
+pub record RefusesOffers (n : ℕ) (v w : Known) : Type 0 where
   pub noted : w ≡ full_noted_often n v
   pub looked : 0 < n → v.held ≡ v.cap
   pub full : 0 < n → v.cap ≤ length (put_of v)
@@ -22,11 +22,11 @@ pub record Sends (patience : ℕ) (k : McCopy) (v w : Known) : Type 0 where
   pub refusals : ℕ
   pub few : refusals < patience
   pub between : Known
-  pub refused : Refuses refusals v between
+  pub refused : RefusesOffers refusals v between
   pub taken : TakesOffer between k w
 
 -- A copy is sent where one of the offers was taken, and dumped where all that the patience allows were refused (this
 -- project's own; a router of the SpiNNaker datasheet waits for a time that can be set).
-abbrev pub Fares : ℕ → McCopy → Served → Known → Known → Type 0
-Fares patience k Sent v w = Sends patience k v w
-Fares patience k Dumped v w = Refuses patience v w
+abbrev pub IsServedAs : ℕ → McCopy → Served → Known → Known → Type 0
+IsServedAs patience k Sent v w = Sends patience k v w
+IsServedAs patience k Dumped v w = RefusesOffers patience v w

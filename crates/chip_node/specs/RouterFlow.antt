@@ -8,6 +8,7 @@ use Rattle.spin_base.specs.declared.blocks.Entry.{Entry}
 use Rattle.spin_base.specs.declared.copies.McCopy.{McCopy}
 use Rattle.spin_base.specs.declared.copies.DumpRec.{DumpRec}
 use Rattle.spin_base.specs.Equality.{out_eq}
+use Rattle.spin_base.specs.Hops.{onward}
 use Rattle.link_queue.specs.Ends.{sending, taking}
 use Rattle.link_queue.specs.TheRule.{StartsWith}
 use Rattle.chip_node.specs.declared.ends.InEnd.{InEnd}
@@ -15,7 +16,7 @@ use Rattle.chip_node.specs.declared.ends.OutEnd.{OutEnd}
 use Rattle.chip_node.specs.declared.ends.Served.{Served}
 use Rattle.chip_node.specs.declared.ends.Served.TheVariants.{Sent, Dumped}
 use Rattle.chip_node.specs.declared.routers.RouterNode.{RouterNode}
-use Rattle.chip_node.specs.Routing.{onward, outputs_at}
+use Rattle.chip_node.specs.Routing.{outputs_at}
 use Rattle.chip_node.specs.Serving.{ports_of, outs_with_ends, records_of}
 use Rattle.chip_node.specs.Looking.{TakesAt, TakesOne}
 
@@ -60,7 +61,7 @@ pub record ServesAt (patience : ℕ) (served : List Service) (before after : Out
   pub enough : patience * count_by (is_dumped_at before.0) served ≤ length notes
 
 -- What serving some copies does to a router. A copy is sent only by an output that has an end.
-pub record Serves (served : List Service) (before after : RouterNode) : Type 0 where
+pub record ServesCopies (served : List Service) (before after : RouterNode) : Type 0 where
   pub chip : after.chip ≡ before.chip
   pub patience : after.patience ≡ before.patience
   pub outputs : AllZip (ServesAt before.patience served) before.outputs.items after.outputs.items
@@ -71,7 +72,7 @@ pub record Serves (served : List Service) (before after : RouterNode) : Type 0 w
 pub record ServesAll (outs : List Out) (k : McCopy) (before after : RouterNode) : Type 0 where
   pub served : List Service
   pub each_once : map {B = Out × McCopy} (λ s. (s.out, s.copy)) served ≡ map (λ o. (o, k)) outs
-  pub serves : Serves served before after
+  pub serves : ServesCopies served before after
 
 -- One copy was taken, and these are the outputs that a table of these entries gives it.
 pub record RoutesOne (entries : List Entry) (outs : List Out) (before after : List (Port × InEnd)) : Type 0 where
@@ -90,5 +91,5 @@ pub record RouterFlow (entries : List Entry) (turns : ℕ) (before after : Route
   pub at_ports : All (λ t. Contains (ports_of before.inputs.items) t.0) taken
   pub each_once : map (λ s. (s.out, s.copy)) served ≡ owed entries taken
   pub inputs : AllZip (TakesAt taken) before.inputs.items after.inputs.items
-  pub serves : Serves served before after
+  pub serves : ServesCopies served before after
   pub idle : 0 < turns → taken ≡ [] → All (λ e. StartsWith (taking e.1.rx).took (taking e.1.rx).first) before.inputs.items

@@ -1,19 +1,12 @@
--- Where a router sends a copy, and what it counts.
-use Rattle.std.specs.Prelude.{ℕ, ◌+◌, ◌-◌, ◌^◌, ◌==◌, min, if◌then◌else◌, List, []}
+-- Where a router sends a copy.
+use Rattle.std.specs.Prelude.{◌==◌, if◌then◌else◌, List, []}
 use Rattle.spin_base.specs.declared.chips.Port.{Port}
 use Rattle.spin_base.specs.declared.routes.Out.{Out}
 use Rattle.spin_base.specs.declared.blocks.Entry.{Entry}
 use Rattle.spin_base.specs.declared.copies.McCopy.{McCopy}
+use Rattle.spin_base.specs.Hops.{last_hop}
 use Rattle.spin_base.specs.Lookup.{lookup}
 use Rattle.spin_base.specs.Outputs.{outs_of}
-
--- the greatest hop number
-abbrev pub last_hop : ℕ
-last_hop = 2 ^ 32 - 1
-
--- the copy behind a router: one hop more, up to the greatest hop number
-abbrev pub onward : McCopy → McCopy
-onward k = record k { hop = min (k.hop + 1) last_hop }
 
 -- The outputs that a router with these entries gives a copy that came in at this port: those that lookup gives its key
 -- (SpiNNaker datasheet), and none where it has the greatest hop number (this project's own).

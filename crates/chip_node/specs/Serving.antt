@@ -12,7 +12,7 @@ use Rattle.chip_node.specs.declared.ends.OutEnd.{OutEnd}
 use Rattle.chip_node.specs.declared.ends.Served.{Served}
 use Rattle.chip_node.specs.declared.ends.Served.TheVariants.{Sent, Dumped}
 use Rattle.chip_node.specs.Ends.{IsInEndOf, IsOutEndOf}
-use Rattle.chip_node.specs.Offers.{Fares}
+use Rattle.chip_node.specs.Offers.{IsServedAs}
 
 -- the ports at which a router takes copies
 abbrev pub ports_of : List (Port × InEnd) → List Port
@@ -39,7 +39,7 @@ AreOutEndsOf links ends = All (λ e. IsOutEndOf links e.1) ends
 pub record OffersBy (patience : ℕ) (o : Out) (k : McCopy) (s : Served) (before after : Out × OutEnd) : Type 0 where
   pub out : after.0 ≡ before.0
   pub link : after.1.link ≡ before.1.link
-  pub here : before.0 ≡ o → Fares patience k s (sending before.1.tx) (sending after.1.tx)
+  pub here : before.0 ≡ o → IsServedAs patience k s (sending before.1.tx) (sending after.1.tx)
   pub elsewhere : before.0 ≢ o → after.1 ≡ before.1
 
 -- The record of a copy that was dumped at an output, with the hop number that it came with. A copy that was sent has none.

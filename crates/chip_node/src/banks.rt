@@ -1,14 +1,14 @@
 // The bank of a chip's vertices between the links.
-ghost use Rattle.std.specs.Prelude.{◌≡◌, ◌≢◌, ◌≤◌, ◌+◌, ◌↔◌, if◌then◌else◌, AllPairs, length};
+ghost use Rattle.std.specs.Prelude.{◌≡◌, ◌≢◌, ◌≤◌, ◌+◌, ◌↔◌, if◌then◌else◌, [], ◌∷◌, List, All, AllPairs, IfNone, IfSome, length};
+ghost use Rattle.spin_base.specs.declared.copies.McCopy.{McCopy};
 ghost use Rattle.std.specs.List.{AllZip};
 ghost use Rattle.link_queue.specs.Ends.{sending};
 ghost use Rattle.chip_node.specs.Ends.{IsOutEndOf};
-ghost use Rattle.chip_node.specs.Numbers.{numbers_of};
+ghost use Rattle.chip_node.specs.Numbers.{vertex_numbers_of};
 
-use crate::collecting::{look_for, offer_first};
 use crate::ends::{InEnd, OutEnd};
-use crate::looking::start_of;
-use link_queue::Link;
+use crate::rings::Ring;
+use link_queue::{Link, Offered};
 use spin_base::{Delivery, Fifo, McCopy, Room, Seq, Shared};
 use std::sync::Wait;
 
@@ -28,7 +28,7 @@ pub struct CoreBank {
     inject: OutEnd,
     vertices: Vec<BankVertex>,
     log: Room<Delivery>,
-    ghost differ: { AllPairs (λ a b. a ≢ b) (numbers_of vertices.items) },
+    ghost differ: { AllPairs (λ a b. a ≢ b) (vertex_numbers_of vertices.items) },
 }
 
 impl Shared for CoreBank {}
@@ -51,12 +51,11 @@ pub struct BankTurn {
 }
 
 impl CoreBank {
-    ghost use Rattle.chip_node.specs.BankFlow.{FaresAs, HaveInEndsOf, unsent_of, OffersOne, IsEmptyFor, CollectsNone, BankFlow};
-    ghost use Rattle.chip_node.specs.Collecting.{OffersAny, CollectsAny};
+    ghost use Rattle.chip_node.specs.BankFlow.{AnswersOffer, HaveInEndsOf, bank_unsent_of, OffersOne, IsEmptyFor, CollectsNone, BankFlow, IsWaitingAt, OffersAny, CollectsAny};
 
     /// A bank of these vertices.
     pub fn new(inject: OutEnd, vertices: Seq<BankVertex>, log: Room<Delivery>) -> CoreBank
-        requires { AllPairs (λ a b. a ≢ b) (numbers_of vertices) }
+        requires { AllPairs (λ a b. a ≢ b) (vertex_numbers_of vertices) }
         ensures inject { result.inject ≡ inject }
         ensures vertices { result.vertices.items ≡ vertices }
         ensures log { result.log ≡ log }
@@ -91,52 +90,94 @@ impl CoreBank {
         requires ends { HaveInEndsOf links.now self.old.vertices.items }
         requires spare { 1 ≤ self.old.log.spare }
         ensures flow { BankFlow 1 self.old self.new }
-        ensures offered { FaresAs result.offered (sending self.old.inject.tx) (sending self.new.inject.tx) self.old.vertices.items }
-        ensures collected { length self.new.log.items ≡ length self.old.log.items + (if result.collected then 1 else 0) }
-        ensures offers { OffersOne (sending self.old.inject.tx) (sending self.new.inject.tx) (unsent_of self.old.vertices.items) (unsent_of self.new.vertices.items) }
-        ensures nothing { CollectsNone self.old.vertices.items self.new.vertices.items ↔ AllZip IsEmptyFor self.old.vertices.items self.new.vertices.items }
+        ensures offered { AnswersOffer result.offered (sending self.old.inject.tx)
+            (sending self.new.inject.tx) self.old.vertices.items }
+        ensures collected { length self.new.log.items
+            ≡ length self.old.log.items + (if result.collected then 1 else 0) }
+        ensures offers { OffersOne (sending self.old.inject.tx) (sending self.new.inject.tx)
+            (bank_unsent_of self.old.vertices.items) (bank_unsent_of self.new.vertices.items) }
+        ensures nothing { CollectsNone self.old.vertices.items self.new.vertices.items
+            ↔ AllZip IsEmptyFor self.old.vertices.items self.new.vertices.items }
         ensures spare { self.old.log.spare ≤ self.new.log.spare + 1 }
         ensures inject { IsOutEndOf links.now self.new.inject }
         ensures ends { HaveInEndsOf links.now self.new.vertices.items }
     {
-        let start = start_of(number, self.vertices.len());
-        let offered = self.send(rt, links, start);
-        let collected = self.collect(rt, links, start);
+        let offered = self.send(rt, links, number);
+        let collected = self.collect(rt, links, number);
         BankTurn { offered, collected }
     }
 
-    // Offers the first unsent copy of a vertex, and tells what became of the offer.
-    fn send<R: Wait>(&mut self, rt: &R, links: &[Link], start: usize) -> Option<Injection>
-        requires start { start ≤ length self.old.vertices.items }
+    // Offers the first unsent copy of the first vertex that has one, and tells what became of the offer.
+    fn send<R: Wait>(&mut self, rt: &R, links: &[Link], number: u32) -> Option<Injection>
         requires inject { IsOutEndOf links.now self.old.inject }
         requires ends { HaveInEndsOf links.now self.old.vertices.items }
-        ensures offers { OffersAny self.old.inject self.new.inject self.old.vertices.items self.new.vertices.items }
-        ensures told { FaresAs result (sending self.old.inject.tx) (sending self.new.inject.tx) self.old.vertices.items }
-        ensures numbers { numbers_of self.new.vertices.items ≡ numbers_of self.old.vertices.items }
+        ensures offers { OffersAny self.old.inject self.new.inject
+            self.old.vertices.items self.new.vertices.items }
+        ensures told { AnswersOffer result (sending self.old.inject.tx) (sending self.new.inject.tx)
+            self.old.vertices.items }
+        ensures numbers { vertex_numbers_of self.new.vertices.items
+            ≡ vertex_numbers_of self.old.vertices.items }
         ensures log { self.new.log ≡ self.old.log }
         ensures inject { IsOutEndOf links.now self.new.inject }
         ensures ends { HaveInEndsOf links.now self.new.vertices.items }
     {
-        offer_first(rt, links, &mut self.inject, &mut self.vertices, start)
+        let Some((place, copy)) = self.waiting(number) else {
+            return None;
+        };
+        match self.inject.offer(rt, links, copy) {
+            Offered::Taken => {
+                let _ = self.vertices[place].unsent.pop();
+                Some(Injection::Entered)
+            }
+            Offered::Full(_) => Some(Injection::Refused),
+        }
     }
 
-    // Takes a copy from the queue of a vertex, and logs it. It tells whether there was one.
-    fn collect<R: Wait>(&mut self, rt: &R, links: &[Link], start: usize) -> bool
-        requires start { start ≤ length self.old.vertices.items }
+    // Looks at the queues of the vertices, one after the other, until one gives a copy, and logs it. It tells whether one did.
+    fn collect<R: Wait>(&mut self, rt: &R, links: &[Link], number: u32) -> bool
         requires ends { HaveInEndsOf links.now self.old.vertices.items }
         requires spare { 1 ≤ self.old.log.spare }
         ensures collects { CollectsAny self.old self.new }
-        ensures told { length self.new.log.items ≡ length self.old.log.items + (if result then 1 else 0) }
+        ensures told { length self.new.log.items ≡ length self.old.log.items
+            + (if result then 1 else 0) }
         ensures inject { self.new.inject ≡ self.old.inject }
         ensures spare { self.old.log.spare ≤ self.new.log.spare + 1 }
         ensures ends { HaveInEndsOf links.now self.new.vertices.items }
     {
-        match look_for(rt, links, &mut self.vertices, start) {
-            Some((vertex, copy)) => {
+        let count = self.vertices.len();
+        let ring = Ring::of_turn(number, count);
+        for step in 0..count {
+            let place = ring.place_after(step);
+            let vertex = self.vertices[place].vertex;
+            if let Some(copy) = self.vertices[place].end.take(rt, links) {
                 self.log.put(Delivery { vertex, copy });
-                true
+                return true;
             }
-            None => false,
         }
+        false
     }
+
+    // The first vertex round the ring that has an unsent copy, and its first one.
+    fn waiting(&self, number: u32) -> Option<(usize, McCopy)>
+        ensures none { IfNone result (All (λ v. v.unsent ≡ []) self.now.vertices.items) }
+        ensures first { IfSome result (λ p. IsWaitingAt self.now.vertices.items p.0 p.1) }
+    {
+        let count = self.vertices.len();
+        let ring = Ring::of_turn(number, count);
+        for step in 0..count {
+            let place = ring.place_after(step);
+            if let Some(copy) = front(&self.vertices[place].unsent) {
+                return Some((place, copy));
+            }
+        }
+        None
+    }
+}
+
+// The front of a list of unsent copies.
+fn front(unsent: &Fifo<McCopy>) -> Option<McCopy>
+    ensures none { IfNone result (unsent.now ≡ []) }
+    ensures first { IfSome result (λ k. (rest : List McCopy) × (unsent.now ≡ k ∷ rest)) }
+{
+    unsent.as_slice().first().copied()
 }

@@ -3,7 +3,7 @@ ghost use Rattle.std.specs.Prelude.{◌≡◌, MatchOption};
 ghost use Rattle.link_queue.specs.Ends.{sending, taking};
 ghost use Rattle.link_queue.specs.Moves.{MatchOffered, TakesOffer, TakesCopy, FindsNothing};
 ghost use Rattle.chip_node.specs.Ends.{IsInEndOf, IsOutEndOf};
-ghost use Rattle.chip_node.specs.Offers.{Refuses, Fares};
+ghost use Rattle.chip_node.specs.Offers.{RefusesOffers, IsServedAs};
 
 use link_queue::{Link, Offered, Rx, Tx, offer, take};
 use spin_base::McCopy;
@@ -36,7 +36,8 @@ impl InEnd {
     // Takes the copy at the front of the end's link.
     pub(crate) fn take<R: Wait>(&mut self, rt: &R, links: &[Link]) -> Option<McCopy>
         requires { IsInEndOf links.now self.old }
-        ensures answer { MatchOption result (FindsNothing (taking self.old.rx) (taking self.new.rx)) (λ k. TakesCopy (taking self.old.rx) k (taking self.new.rx)) }
+        ensures answer { MatchOption result (FindsNothing (taking self.old.rx) (taking self.new.rx))
+            (λ k. TakesCopy (taking self.old.rx) k (taking self.new.rx)) }
         ensures link { self.new.link ≡ self.old.link }
         ensures end { IsInEndOf links.now self.new }
     {
@@ -48,7 +49,9 @@ impl OutEnd {
     // Offers a copy to the end's link once.
     pub(crate) fn offer<R: Wait>(&mut self, rt: &R, links: &[Link], copy: McCopy) -> Offered
         requires { IsOutEndOf links.now self.old }
-        ensures answer { MatchOffered result (TakesOffer (sending self.old.tx) copy (sending self.new.tx)) (λ back. (back ≡ copy) × Refuses 1 (sending self.old.tx) (sending self.new.tx)) }
+        ensures answer { MatchOffered result
+            (TakesOffer (sending self.old.tx) copy (sending self.new.tx))
+            (λ back. (back ≡ copy) × RefusesOffers 1 (sending self.old.tx) (sending self.new.tx)) }
         ensures link { self.new.link ≡ self.old.link }
         ensures end { IsOutEndOf links.now self.new }
         ensures cap { (sending self.new.tx).cap ≡ (sending self.old.tx).cap }
@@ -65,7 +68,8 @@ impl OutEnd {
         patience: u32,
     ) -> Served
         requires { IsOutEndOf links.now self.old }
-        ensures fares { Fares patience copy result (sending self.old.tx) (sending self.new.tx) }
+        ensures fares { IsServedAs patience copy result (sending self.old.tx)
+            (sending self.new.tx) }
         ensures link { self.new.link ≡ self.old.link }
         ensures end { IsOutEndOf links.now self.new }
     {

@@ -8,11 +8,10 @@
 #![tactic(auto)]
 
 mod banks;
-mod collecting;
 mod ends;
-mod looking;
+mod rings;
 mod routers;
-mod serving;
+mod routing;
 
 pub use banks::{BankTurn, BankVertex, CoreBank, Injection};
 pub use ends::{InEnd, OutEnd, Served};

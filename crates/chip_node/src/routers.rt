@@ -1,11 +1,13 @@
 // A chip's router between the links.
-ghost use Rattle.std.specs.Prelude.{◌≡◌, ◌≢◌, ◌≤◌, ◌<◌, ◌+◌, ◌++◌, AllPairs, Contains, length};
+ghost use Rattle.std.specs.Prelude.{◌≡◌, ◌≢◌, ◌≤◌, ◌<◌, ◌+◌, ◌++◌, AllPairs, Contains, length, position};
 ghost use Rattle.std.specs.List.{AllZip};
+ghost use Rattle.spin_base.specs.Equality.{out_eq};
+ghost use Rattle.spin_base.specs.Hops.{onward};
 ghost use Rattle.chip_node.specs.Serving.{ports_of, outs_with_ends, AreInEndsOf, AreOutEndsOf, IsLinkOf, OffersBy, records_of};
 
 use crate::ends::{InEnd, OutEnd, Served};
-use crate::looking::{look, start_of};
-use crate::serving::{link_of, onward, outputs_of, send_by};
+use crate::rings::Ring;
+use crate::routing::{onward, outputs_of};
 use link_queue::Link;
 use spin_base::{Chip, DumpRec, McCopy, Out, Outs, Port, Room, Seq, Shared};
 use std::sync::Wait;
@@ -29,7 +31,6 @@ impl Shared for RouterNode {}
 
 impl RouterNode {
     ghost use Rattle.std.specs.Prelude.{◌↔◌, MatchOption};
-    ghost use Rattle.chip_node.specs.Routing.{onward};
     ghost use Rattle.chip_node.specs.Looking.{IsEmptyAt, TakesOne, TakesNone};
     ghost use Rattle.chip_node.specs.RouterFlow.{RouterFlow, RoutesOne, ServesAll};
 
@@ -98,23 +99,20 @@ impl RouterNode {
     pub fn serve<R: Wait>(&mut self, rt: &R, links: &[Link], out: Out, copy: McCopy) -> Served
         requires ends { AreOutEndsOf links.now self.old.outputs.items }
         requires spare { 1 ≤ self.old.log.spare }
-        ensures offers { AllZip (OffersBy self.old.patience out (onward copy) result) self.old.outputs.items self.new.outputs.items }
-        ensures by_an_end { result ≡ Served.Sent → Contains (outs_with_ends self.old.outputs.items) out }
-        ensures logged { self.new.log.items ≡ self.old.log.items ++ records_of self.old.chip out copy result }
-        ensures spare { self.new.log.spare + length (records_of self.old.chip out copy result) ≡ self.old.log.spare }
+        ensures offers { AllZip (OffersBy self.old.patience out (onward copy) result)
+            self.old.outputs.items self.new.outputs.items }
+        ensures by_an_end { result ≡ Served.Sent
+            → Contains (outs_with_ends self.old.outputs.items) out }
+        ensures logged { self.new.log.items ≡ self.old.log.items
+            ++ records_of self.old.chip out copy result }
+        ensures spare { self.new.log.spare + length (records_of self.old.chip out copy result)
+            ≡ self.old.log.spare }
         ensures chip { self.new.chip ≡ self.old.chip }
         ensures inputs { self.new.inputs ≡ self.old.inputs }
         ensures patience { self.new.patience ≡ self.old.patience }
         ensures ends { AreOutEndsOf links.now self.new.outputs.items }
     {
-        let served = send_by(
-            rt,
-            links,
-            &mut self.outputs,
-            out,
-            onward(copy),
-            self.patience,
-        );
+        let served = self.send_by(rt, links, out, onward(copy));
         match served {
             Served::Sent => {}
             Served::Dumped => self.log.put(DumpRec {
@@ -130,7 +128,10 @@ impl RouterNode {
     pub fn link_behind(&self, out: Out) -> Option<u32>
         ensures { IsLinkOf self.now.outputs.items out result }
     {
-        link_of(&self.outputs, out)
+        match place_of(&self.outputs, out) {
+            Some(place) => Some(self.outputs[place].1.link),
+            None => None,
+        }
     }
 
     /// One turn: looks at the input queues, from a start that goes round with the turn's number, until one gives a copy, and
@@ -147,8 +148,11 @@ impl RouterNode {
         requires output_ends { AreOutEndsOf links.now self.old.outputs.items }
         requires spare { 24 ≤ self.old.log.spare }
         ensures flow { RouterFlow table.now 1 self.old self.new }
-        ensures told { MatchOption result (AllZip IsEmptyAt self.old.inputs.items self.new.inputs.items) (λ outs. RoutesOne table.now outs.items self.old.inputs.items self.new.inputs.items) }
-        ensures nothing { TakesNone self.old.inputs.items self.new.inputs.items ↔ AllZip IsEmptyAt self.old.inputs.items self.new.inputs.items }
+        ensures told { MatchOption result
+            (AllZip IsEmptyAt self.old.inputs.items self.new.inputs.items)
+            (λ outs. RoutesOne table.now outs.items self.old.inputs.items self.new.inputs.items) }
+        ensures nothing { TakesNone self.old.inputs.items self.new.inputs.items
+            ↔ AllZip IsEmptyAt self.old.inputs.items self.new.inputs.items }
         ensures spare { self.old.log.spare ≤ self.new.log.spare + 24 }
         ensures input_ends { AreInEndsOf links.now self.new.inputs.items }
         ensures output_ends { AreOutEndsOf links.now self.new.outputs.items }
@@ -161,18 +165,28 @@ impl RouterNode {
         Some(outs)
     }
 
-    // Takes a copy from one of the input queues.
+    // Looks at the input queues, one after the other, until one gives a copy: that copy with its port.
     fn take<R: Wait>(&mut self, rt: &R, links: &[Link], number: u32) -> Option<(Port, McCopy)>
         requires ends { AreInEndsOf links.now self.old.inputs.items }
-        ensures looked { MatchOption result (AllZip IsEmptyAt self.old.inputs.items self.new.inputs.items) (λ t. TakesOne t self.old.inputs.items self.new.inputs.items) }
+        ensures looked { MatchOption result
+            (AllZip IsEmptyAt self.old.inputs.items self.new.inputs.items)
+            (λ t. TakesOne t self.old.inputs.items self.new.inputs.items) }
         ensures chip { self.new.chip ≡ self.old.chip }
         ensures outputs { self.new.outputs ≡ self.old.outputs }
         ensures patience { self.new.patience ≡ self.old.patience }
         ensures log { self.new.log ≡ self.old.log }
         ensures ends { AreInEndsOf links.now self.new.inputs.items }
     {
-        let start = start_of(number, self.inputs.len());
-        look(rt, links, &mut self.inputs, start)
+        let count = self.inputs.len();
+        let ring = Ring::of_turn(number, count);
+        for step in 0..count {
+            let place = ring.place_after(step);
+            let port = self.inputs[place].0;
+            if let Some(copy) = self.inputs[place].1.take(rt, links) {
+                return Some((port, copy));
+            }
+        }
+        None
     }
 
     // Serves a copy at these outputs.
@@ -188,4 +202,35 @@ impl RouterNode {
             let _ = self.serve(rt, links, *out, copy);
         }
     }
+
+    // Offers a copy by the end of an output, up to `patience` times. An output without an end refuses every offer.
+    fn send_by<R: Wait>(&mut self, rt: &R, links: &[Link], out: Out, copy: McCopy) -> Served
+        requires ends { AreOutEndsOf links.now self.old.outputs.items }
+        ensures offers { AllZip (OffersBy self.old.patience out copy result)
+            self.old.outputs.items self.new.outputs.items }
+        ensures by_an_end { result ≡ Served.Sent
+            → Contains (outs_with_ends self.old.outputs.items) out }
+        ensures chip { self.new.chip ≡ self.old.chip }
+        ensures inputs { self.new.inputs ≡ self.old.inputs }
+        ensures patience { self.new.patience ≡ self.old.patience }
+        ensures log { self.new.log ≡ self.old.log }
+        ensures ends { AreOutEndsOf links.now self.new.outputs.items }
+    {
+        match place_of(&self.outputs, out) {
+            Some(place) => {
+                let patience = self.patience;
+                self.outputs[place].1.send(rt, links, copy, patience)
+            }
+            None => Served::Dumped,
+        }
+    }
+}
+
+// The place of an output's end.
+fn place_of(outputs: &Vec<(Out, OutEnd)>, out: Out) -> Option<usize>
+    ensures { result ≡ position (λ e. out_eq e.0 out) outputs.now.items }
+{
+    outputs
+        .iter()
+        .position(|end| end.0.number() == out.number())
 }

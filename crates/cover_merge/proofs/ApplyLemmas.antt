@@ -15,33 +15,33 @@ use Rattle.tern_word.specs.declared.tables.Alias.{Alias}
 use Rattle.tern_word.specs.declared.tables.Row.{Row}
 use Rattle.tern_word.specs.SoundTable.{IsOrdered}
 use Rattle.tern_word.specs.Ternary.{generality, merge_of}
-use Rattle.cover_checks.specs.Merge.{has, rows_at, picked, kept, merge_rows, merged_row, merged_block, place_for, insert_place, after, IsMergeSet}
-use Rattle.cover_checks.proofs.Positions.{rows_at-push, member_before, has-at, place_for-le}
+use Rattle.cover_merge.specs.Merge.{has_row, rows_at, picked, kept, merge_rows, merged_row, merged_block, place_for, insert_place, after, IsMergeSet}
+use Rattle.cover_merge.proofs.Positions.{rows_at-push, member_before, has-at, place_for-le}
 use Rattle.cover_merge.specs.Aliases.{aliases_at}
 
 -- ---- a place that is not of the set
 
-none_of : (places : List ℕ) (k : ℕ) → All (λ t. t ≢ k) places → has places k ≡ false
+none_of : (places : List ℕ) (k : ℕ) → All (λ t. t ≢ k) places → has_row places k ≡ false
 none_of [] k apart = refl
 none_of (t ∷ places) k apart =
-    or_from (t == k) (has places k) (ne_eqb t k (All-head (λ t. t ≢ k) t places apart)) (none_of places k (All-tail (λ t. t ≢ k) t places apart))
+    or_from (t == k) (has_row places k) (ne_eqb t k (All-head (λ t. t ≢ k) t places apart)) (none_of places k (All-tail (λ t. t ≢ k) t places apart))
 
 -- all places above k: k is none of them
-pub none_at : (places : List ℕ) (k : ℕ) → All (λ t. k < t) places → has places k ≡ false
+pub none_at : (places : List ℕ) (k : ℕ) → All (λ t. k < t) places → has_row places k ≡ false
 none_at places k above = none_of places k (All-weaker (λ t. k < t) (λ t. t ≢ k) (λ t less same. omega (arith, less, same)) places above)
 
 -- all places below k: k is none of them
-pub none_from : (places : List ℕ) (k : ℕ) → All (λ t. t < k) places → has places k ≡ false
+pub none_from : (places : List ℕ) (k : ℕ) → All (λ t. t < k) places → has_row places k ≡ false
 none_from places k below = none_of places k (All-weaker (λ t. t < k) (λ t. t ≢ k) (λ t less same. omega (arith, less, same)) places below)
 
 -- the items whose places, counted from i, are not of the set
 abbrev pub left : {X : Type 0} → List ℕ → ℕ → List X → List X
-left places i xs = picked (λ k. not (has places k)) i xs
+left places i xs = picked (λ k. not (has_row places k)) i xs
 
-pub kept_in : {X : Type 0} (places : List ℕ) (j : ℕ) (x : X) (xs : List X) → has places j ≡ false → left places j (x ∷ xs) ≡ x ∷ left places (suc j) xs
+pub kept_in : {X : Type 0} (places : List ℕ) (j : ℕ) (x : X) (xs : List X) → has_row places j ≡ false → left places j (x ∷ xs) ≡ x ∷ left places (suc j) xs
 kept_in places j x xs e = ap (λ b. cond (not b) (x ∷ left places (suc j) xs) (left places (suc j) xs)) e
 
-kept_out : {X : Type 0} (places : List ℕ) (j : ℕ) (x : X) (xs : List X) → has places j ≡ true → left places j (x ∷ xs) ≡ left places (suc j) xs
+kept_out : {X : Type 0} (places : List ℕ) (j : ℕ) (x : X) (xs : List X) → has_row places j ≡ true → left places j (x ∷ xs) ≡ left places (suc j) xs
 kept_out places j x xs e = ap (λ b. cond (not b) (x ∷ left places (suc j) xs) (left places (suc j) xs)) e
 
 -- where no place is left, all are kept
@@ -55,8 +55,8 @@ kept_none places j (x ∷ xs) below =
 kept_passed : {X : Type 0} (s : ℕ) (rest : List ℕ) (j : ℕ) (xs : List X) → s < j → left (s ∷ rest) j xs ≡ left rest j xs
 kept_passed s rest j [] behind = refl
 kept_passed s rest j (x ∷ xs) behind =
-    ap (λ b. cond (not (b || has rest j)) (x ∷ left (s ∷ rest) (suc j) xs) (left (s ∷ rest) (suc j) xs)) (differs (eqb_tells s j))
-    ∙ ap (λ ys. cond (not (has rest j)) (x ∷ ys) ys) (kept_passed s rest (suc j) xs (omega arith))
+    ap (λ b. cond (not (b || has_row rest j)) (x ∷ left (s ∷ rest) (suc j) xs) (left (s ∷ rest) (suc j) xs)) (differs (eqb_tells s j))
+    ∙ ap (λ ys. cond (not (has_row rest j)) (x ∷ ys) ys) (kept_passed s rest (suc j) xs (omega arith))
   where
     differs : ((s == j) ≡ true) × (s ≡ j) ⊎ ((s == j) ≡ false) × (s ≢ j) → (s == j) ≡ false
     differs (inl same) = absurd (omega (arith, same.1))
@@ -65,7 +65,7 @@ kept_passed s rest j (x ∷ xs) behind =
 -- ---- taking out one place after another, the last first
 
 module _ (s : ℕ) (rest : List ℕ) (above : All (λ t. s < t) rest) where
-  pub first_kept : (j : ℕ) → j ≤ s → has rest j ≡ false
+  pub first_kept : (j : ℕ) → j ≤ s → has_row rest j ≡ false
   first_kept j le = none_at rest j (λ k d within. omega (arith, above k d within))
 
   pub kept_longer : {X : Type 0} (j m : ℕ) (xs : List X) → s ≡ j + m → m < length xs → m < length (left rest j xs)
@@ -79,11 +79,11 @@ module _ (s : ℕ) (rest : List ℕ) (above : All (λ t. s < t) rest) where
   kept_remove j m [] at within = absurd (omega arith)
   kept_remove j zero (x ∷ xs) at within =
       let here : s ≡ j = omega arith in
-      let found : has (s ∷ rest) j ≡ true = ap (λ b. b || has rest j) (eq-eqb s j here) in
+      let found : has_row (s ∷ rest) j ≡ true = ap (λ b. b || has_row rest j) (eq-eqb s j here) in
       ap (λ ys. remove ys 0) (kept_in rest j x xs (first_kept j (omega arith)))
       ∙ sym (kept_out (s ∷ rest) j x xs found ∙ kept_passed s rest (suc j) xs (omega arith))
   kept_remove j (suc m) (x ∷ xs) at within =
-      let later : has (s ∷ rest) j ≡ false = ap (λ b. b || has rest j) (not_here (eqb_tells s j)) ∙ first_kept j (omega arith) in
+      let later : has_row (s ∷ rest) j ≡ false = ap (λ b. b || has_row rest j) (not_here (eqb_tells s j)) ∙ first_kept j (omega arith) in
       ap (λ ys. remove ys (suc m)) (kept_in rest j x xs (first_kept j (omega arith)))
       ∙ ap (λ ys. x ∷ ys) (kept_remove (suc j) m xs (omega arith) (omega arith))
       ∙ sym (kept_in (s ∷ rest) j x xs later)
@@ -143,7 +143,7 @@ module _ (rows : List Row) (places : List ℕ) (ordered : IsOrdered rows) (set :
   after_is =
       let p = insert_place rows places in
       let m = merged_row rows places in
-      let q = λ (k : ℕ). not (has places k) in
+      let q = λ (k : ℕ). not (has_row places k) in
       let front_length : 0 + length (take p rows) ≡ p = omega (arith, length-take p rows, place_for-le rows (generality (merged_block rows places))) in
       picked-append q 0 (take p rows) (m ∷ drop p rows)
       ∙ ap (λ n. picked q 0 (take p rows) ++ picked q n (m ∷ drop p rows)) front_length

@@ -12,9 +12,9 @@ use Rattle.tern_word.specs.declared.tables.Row.{Row}
 use Rattle.tern_word.specs.Ternary.{generality, LiesIn}
 use Rattle.tern_word.specs.SoundTable.{IsOrdered, Misses}
 use Rattle.tern_word.proofs.BlockLaws.{Intersects-sym, Intersects-wider, LiesIn-merge}
-use Rattle.cover_checks.specs.Merge.{has, picked, rows_at, merged_row, merged_block, insert_place, place_for, after, IsMergeSet}
-use Rattle.cover_checks.proofs.Lists.{All-picked, All-from_map}
-use Rattle.cover_checks.proofs.Positions.{All-has, rows_at-has, place_for-le}
+use Rattle.cover_merge.specs.Merge.{has_row, picked, rows_at, merged_row, merged_block, insert_place, place_for, after, IsMergeSet}
+use Rattle.cover_merge.proofs.Lists.{All-picked, All-from_map}
+use Rattle.cover_merge.proofs.Positions.{All-has, rows_at-has, place_for-le}
 use Rattle.cover_merge.specs.declared.guards.Guard.{Guard}
 use Rattle.cover_merge.specs.Guards.{HasRival, here, behind, IsGuard, IsGuardAt, AreGuards, AreGuardsBut, IsSilent}
 use Rattle.cover_merge.proofs.ApplyLemmas.{left, members_before, after_is, block_is}
@@ -150,14 +150,14 @@ module _ (rows : List Row) (places : List ℕ) (ordered : IsOrdered rows) (merge
   m_block : (merged_row rows places).block ≡ b
   m_block = block_is rows places ordered merge ∙ sym is
 
-  member_lies : (s : ℕ) (d : Row) → has places s ≡ true → LiesIn (get_or rows s d).block b
+  member_lies : (s : ℕ) (d : Row) → has_row places s ≡ true → LiesIn (get_or rows s d).block b
   member_lies = rows_at-has (λ (r : Row). LiesIn r.block b) rows places merge.set.in_range
       (subst (λ x. All (λ (r : Row). LiesIn r.block x) (rows_at rows places)) (sym is) (All-from_map (λ x. LiesIn x (merged_block rows places)) (λ (x : Row). x.block) (rows_at rows places) (LiesIn-merge (map (λ (x : Row). x.block) (rows_at rows places)))))
 
-  dropped : (k j : ℕ) (d : Row) → j ≡ 0 + k → k < length (insert rows (insert_place rows places) (merged_row rows places)) → not (has places j) ≡ false → LiesIn (get_or (insert rows (insert_place rows places) (merged_row rows places)) k d).block b
+  dropped : (k j : ℕ) (d : Row) → j ≡ 0 + k → k < length (insert rows (insert_place rows places) (merged_row rows places)) → not (has_row places j) ≡ false → LiesIn (get_or (insert rows (insert_place rows places) (merged_row rows places)) k d).block b
   dropped k j d at within out =
       let here : j ≡ k = omega (arith, at) in
-      let member : has places k ≡ true = ap (has places) (sym here) ∙ from_not_false (has places j) out in
+      let member : has_row places k ≡ true = ap (has_row places) (sym here) ∙ from_not_false (has_row places j) out in
       let before : k < insert_place rows places = All-has (λ t. t < insert_place rows places) places k (members_before rows places ordered merge) member in
       subst (λ (x : Row). LiesIn x.block b) (sym (get_or-insert_below rows (insert_place rows places) (merged_row rows places) d k before (place_for-le rows (generality (merged_block rows places))))) (member_lies k d member)
     where
@@ -175,12 +175,12 @@ module _ (rows : List Row) (places : List ℕ) (ordered : IsOrdered rows) (merge
       let m = merged_row rows places in
       subst (λ q. AreGuardsBut b (after rows places) (left places 0 (insert gs q nothing))) (sym place_is)
       (subst (λ l. AreGuardsBut b l (left places 0 (insert gs n nothing))) (after_is rows places ordered merge)
-      (picked_guards b (λ k. not (has places k)) 0 (insert rows n m) (insert gs n nothing) (longer n) dropped (insert_guards b m m_block nothing silent rows gs n same (λ s e within misses. guards s e within))))
+      (picked_guards b (λ k. not (has_row places k)) 0 (insert rows n m) (insert gs n nothing) (longer n) dropped (insert_guards b m m_block nothing silent rows gs n same (λ s e within misses. guards s e within))))
 
   pub carried_length : length (left places 0 (insert gs p nothing)) ≡ length (after rows places)
   carried_length =
       let n = insert_place rows places in
       let m = merged_row rows places in
       ap (λ q. length (left places 0 (insert gs q nothing))) place_is
-      ∙ picked_lengths (λ k. not (has places k)) 0 (insert rows n m) (insert gs n nothing) (longer n)
+      ∙ picked_lengths (λ k. not (has_row places k)) 0 (insert rows n m) (insert gs n nothing) (longer n)
       ∙ ap length (after_is rows places ordered merge)

@@ -8,12 +8,12 @@ use Rattle.std.proofs.lemmas.List.Elements.{All-nil, All-cons}
 use Rattle.std.proofs.lemmas.List.Kept.{AllPairs-cons}
 use Rattle.spin_base.specs.declared.routes.Route.{Route}
 use Rattle.tern_word.specs.declared.tables.Row.{Row}
-use Rattle.cover_checks.specs.Merge.{IsOneRoute, IsMergeSet, merge_rows}
-use Rattle.cover_checks.proofs.Positions.{pair_set_read}
+use Rattle.cover_merge.specs.Merge.{IsOneRoute, IsMergeSet, merge_rows}
+use Rattle.cover_merge.proofs.Positions.{pair_set_read}
 use Rattle.spin_base.proofs.RouteBits.{same_route}
-use Rattle.cover_checks.proofs.Lists.{AllPairs-nil}
+use Rattle.cover_merge.proofs.Lists.{AllPairs-nil}
 use Rattle.cover_merge.specs.Refinement.{Refines, ends_empty}
-use Rattle.cover_merge.specs.Links.{AreLinks, IsNext, IsFirst}
+use Rattle.cover_merge.specs.Links.{AreLinks, IsNextOfRoute, IsFirstOfRoute}
 use Rattle.cover_merge.specs.Covering.{places_of, IsNoRival, IsBestBefore, StandsBefore, IsLargest, HasNoLargest, IsLegalPair, IsFirstPartner, HasNoLegalPair, IsFirstLegalPair}
 
 -- ---- the places of a route
@@ -235,14 +235,14 @@ no_pair rows i all none a b other = none a (omega (arith, pair_order rows a b ot
 -- ---- links
 
 module _ (rows : List Row) (nexts firsts : List ℕ) (links : AreLinks rows nexts firsts) (k x : ℕ) (inside : k < length rows) where
-  pub link_next : x ≡ get_or nexts k x → IsNext rows k x
-  link_next is = subst (IsNext rows k) (get_or_default nexts k 0 x (omega (arith, links.one_next, inside)) ∙ sym is) (links.next k inside)
+  pub link_next : x ≡ get_or nexts k x → IsNextOfRoute rows k x
+  link_next is = subst (IsNextOfRoute rows k) (get_or_default nexts k 0 x (omega (arith, links.one_next, inside)) ∙ sym is) (links.next k inside)
 
-  pub link_first : x ≡ get_or firsts k x → IsFirst rows k x
-  link_first is = subst (IsFirst rows k) (get_or_default firsts k 0 x (omega (arith, links.one_first, inside)) ∙ sym is) (links.first k inside)
+  pub link_first : x ≡ get_or firsts k x → IsFirstOfRoute rows k x
+  link_first is = subst (IsFirstOfRoute rows k) (get_or_default firsts k 0 x (omega (arith, links.one_first, inside)) ∙ sym is) (links.first k inside)
 
 -- a row that is not the first of its route stands behind that
-pub first_stands : (rows : List Row) (k x : ℕ) (d : Row) → k < length rows → IsFirst rows k x → x < k → StandsBefore rows (get_or rows k d).route.bits k
+pub first_stands : (rows : List Row) (k x : ℕ) (d : Row) → k < length rows → IsFirstOfRoute rows k x → x < k → StandsBefore rows (get_or rows k d).route.bits k
 first_stands rows k x d inside first less = record {
   at = x;
   before = less;
@@ -264,7 +264,7 @@ places_gap bits rows i (suc n) none =
     one_more (inr all) = ap (places_of bits 0) (take_all (i + n + 1) rows (omega (arith, all)) ∙ sym (take_all (i + n) rows all))
 
 -- the first row of a route begins its places
-pub places_begin : (rows : List Row) (k x : ℕ) (d : Row) → k < length rows → IsFirst rows k x → k ≤ x → [] ≡ places_of (get_or rows k d).route.bits 0 (take k rows)
+pub places_begin : (rows : List Row) (k x : ℕ) (d : Row) → k < length rows → IsFirstOfRoute rows k x → k ≤ x → [] ≡ places_of (get_or rows k d).route.bits 0 (take k rows)
 places_begin rows k x d inside first from =
     let bits = (get_or rows k d).route.bits in
     let whole : 0 + k ≡ k = omega arith in
@@ -273,7 +273,7 @@ places_begin rows k x d inside first from =
     first.before m e (omega (arith, less, from)) (same ∙ ap (λ (r : Row). r.route.bits) (get_or_default rows k d e inside))))
 
 -- one row of the route more, and then on to the next
-pub places_next : (rows : List Row) (k place x : ℕ) (d : Row) (old new : List ℕ) → k < length rows → place < length rows → ((e : Row) → (get_or rows place e).route.bits ≡ (get_or rows k e).route.bits) → IsNext rows place x
+pub places_next : (rows : List Row) (k place x : ℕ) (d : Row) (old new : List ℕ) → k < length rows → place < length rows → ((e : Row) → (get_or rows place e).route.bits ≡ (get_or rows k e).route.bits) → IsNextOfRoute rows place x
     → old ≡ places_of (get_or rows k d).route.bits 0 (take place rows) → new ≡ old ++ place ∷ [] → new ≡ places_of (get_or rows k d).route.bits 0 (take x rows)
 places_next rows k place x d old new in_k inside same next before now =
     let bits = (get_or rows k d).route.bits in
@@ -292,10 +292,10 @@ pair_bits : (rows : List Row) (i b : ℕ) (d : Row) → IsLegalPair rows i b →
 pair_bits rows i b d pair = sym (ap (λ (r : Route). r.bits) (pair.set.set.one_route 0 1 0 (omega arith) (omega arith) d))
 
 -- up to the next row of the route none is a partner
-pub none_first : (rows : List Row) (i j : ℕ) → IsNext rows i j → (b : ℕ) → i < b → b < j → IsLegalPair rows i b → ⊥
+pub none_first : (rows : List Row) (i j : ℕ) → IsNextOfRoute rows i j → (b : ℕ) → i < b → b < j → IsLegalPair rows i b → ⊥
 none_first rows i j next b from before pair = next.between b (merge_rows []) from before (pair_inside rows i b pair) (pair_bits rows i b (merge_rows []) pair)
 
-pub none_next : (rows : List Row) (i j x : ℕ) → ((d : Row) → (get_or rows j d).route.bits ≡ (get_or rows i d).route.bits) → IsNext rows j x → (IsLegalPair rows i j → ⊥) → ((b : ℕ) → i < b → b < j → IsLegalPair rows i b → ⊥)
+pub none_next : (rows : List Row) (i j x : ℕ) → ((d : Row) → (get_or rows j d).route.bits ≡ (get_or rows i d).route.bits) → IsNextOfRoute rows j x → (IsLegalPair rows i j → ⊥) → ((b : ℕ) → i < b → b < j → IsLegalPair rows i b → ⊥)
     → (b : ℕ) → i < b → b < x → IsLegalPair rows i b → ⊥
 none_next rows i j x same next refused none b from before pair = elim (cases_order b j) [
   | inl here ↦ refused (subst (IsLegalPair rows i) here pair)

@@ -14,9 +14,9 @@ use Rattle.tern_word.specs.declared.tables.Alias.{Alias}
 use Rattle.tern_word.specs.declared.tables.Row.{Row}
 use Rattle.tern_word.specs.Ternary.{generality}
 use Rattle.tern_word.specs.SoundTable.{IsSound, Original, served_by, served}
-use Rattle.cover_checks.specs.Merge.{has, picked, kept, rows_at, merge_rows, merged_row, merged_block, insert_place, after, SameRoute, IsOneRoute, IsMergeSet, IsLegal}
-use Rattle.cover_checks.proofs.Lists.{All-picked, All-from_map, AllPairs-head, AllPairs-tail}
-use Rattle.cover_checks.proofs.Positions.{has-place, rows_at-from, place_for-le}
+use Rattle.cover_merge.specs.Merge.{has_row, picked, kept, rows_at, merge_rows, merged_row, merged_block, insert_place, after, SameRoute, IsOneRoute, IsMergeSet, IsLegal}
+use Rattle.cover_merge.proofs.Lists.{All-picked, All-from_map, AllPairs-head, AllPairs-tail}
+use Rattle.cover_merge.proofs.Positions.{has-place, rows_at-from, place_for-le}
 use Rattle.cover_merge.specs.Refinement.{Refines, ends_empty, ends_legal, goes_up, goes_down}
 use Rattle.cover_merge.specs.Covering.{places_of, IsChosen, HasNoChosen, HasRoutesOf, Covers, short, stuck, merged}
 use Rattle.cover_merge.specs.declared.covering.Merge.{Merge}
@@ -154,7 +154,7 @@ module _ (rows : List Row) (places : List ℕ) (set : IsMergeSet rows places) wh
   kept_parts : kept places 0 rows ≡ kept places 0 (take (insert_place rows places) rows) ++ kept places (insert_place rows places) (drop (insert_place rows places) rows)
   kept_parts =
       let p = insert_place rows places in
-      let q = λ (k : ℕ). not (has places k) in
+      let q = λ (k : ℕ). not (has_row places k) in
       let front_length : 0 + length (take p rows) ≡ p = omega (arith, length-take p rows, place_for-le rows (generality (merged_block rows places))) in
       ap (λ l. picked q 0 l) (sym (take-append-drop p rows)) ∙ picked-append q 0 (take p rows) (drop p rows) ∙ ap (λ n. picked q 0 (take p rows) ++ picked q n (drop p rows)) front_length
 
@@ -186,7 +186,7 @@ module _ (rows : List Row) (places : List ℕ) (set : IsMergeSet rows places) wh
   pub routes_after : (start : List Row) → HasRoutesOf start rows → HasRoutesOf start (after rows places)
   routes_after start from =
       let P = λ (r : Row). Contains (map (λ (x : Row). x.route) start) r.route in
-      let q = λ (k : ℕ). not (has places k) in
+      let q = λ (k : ℕ). not (has_row places k) in
       let p = insert_place rows places in
       let d : Row = merge_rows [] in
       let first : get_or places 0 0 < length rows = set.set.in_range 0 0 (omega (arith, set.two)) in

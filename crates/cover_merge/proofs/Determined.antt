@@ -8,8 +8,8 @@ use Rattle.tern_word.specs.declared.tables.Alias.{Alias}
 use Rattle.tern_word.specs.declared.tables.Row.{Row}
 use Rattle.tern_word.specs.Ternary.{Intersects}
 use Rattle.tern_word.specs.SoundTable.{Misses}
-use Rattle.cover_checks.specs.Merge.{insert_place, after, merge_rows, merged_block, PassesUpCheck, PassesDown, PassesDownCheck}
-use Rattle.cover_merge.specs.Refinement.{IsLastFailing, without, IsUpStep, IsFirstMet, IsFirstMetFrom, kept_by, IsBestBit, IsNarrowed, IsDownStep, Refines, ends_empty, ends_legal, goes_up, goes_down}
+use Rattle.cover_merge.specs.Merge.{insert_place, after, merge_rows, merged_block, PassesUpCheck, PassesDown, PassesDownCheck}
+use Rattle.cover_merge.specs.Refinement.{IsLastFailing, set_without, IsUpStep, IsFirstMet, IsFirstMetFrom, kept_by, IsBestBit, IsNarrowed, IsDownStep, Refines, ends_empty, ends_legal, goes_up, goes_down}
 use Rattle.cover_merge.specs.Covering.{places_of, IsNoRival, IsLargest, HasNoLargest, IsFirstLegalPair, IsChosen, HasNoChosen, Covers, short, stuck, merged}
 use Rattle.cover_merge.specs.Merges.{sets_of}
 use Rattle.cover_merge.specs.declared.covering.Merge.{Merge}
@@ -73,7 +73,7 @@ module _ (rows : List Row) where
   ]
 
   one_up : (old xs ys : List ℕ) → IsUpStep rows old xs → IsUpStep rows old ys → xs ≡ ys
-  one_up old xs ys one two = one.result ∙ ap (λ s. without s old) (one_failing old (insert_place rows old) one.place two.place one.last two.last) ∙ sym two.result
+  one_up old xs ys one two = one.result ∙ ap (λ s. set_without s old) (one_failing old (insert_place rows old) one.place two.place one.last two.last) ∙ sym two.result
 
   up_fails : (old new : List ℕ) → IsUpStep rows old new → PassesUpCheck rows old → ⊥
   up_fails old new step up = step.last.failing (up step.place step.last.member)

@@ -11,10 +11,10 @@ use Rattle.tern_word.specs.declared.tables.Row.{Row}
 use Rattle.tern_word.specs.Ternary.{Intersects, LiesIn, generality}
 use Rattle.tern_word.specs.SoundTable.{IsOrdered, IsSound, Misses}
 use Rattle.tern_word.proofs.BlockLaws.{Intersects-sym, Intersects-wider}
-use Rattle.cover_checks.specs.Merge.{has, merge_rows, merged_block, insert_place, SameRoute, IsOneRoute, IsMergeSet, IsLegal, place_for, IsClear, PassesUp, PassesDown}
-use Rattle.cover_checks.proofs.Positions.{has-place, place_for-above, place_for-below, place_for-le}
-use Rattle.cover_checks.proofs.Answering.{answers_no, fails}
-use Rattle.cover_checks.proofs.Legal.{up_from_legal, down_from_legal, legal_from_checks}
+use Rattle.cover_merge.specs.Merge.{has_row, merge_rows, merged_block, insert_place, SameRoute, IsOneRoute, IsMergeSet, IsLegal, place_for, IsClearOf, PassesUp, PassesDown}
+use Rattle.cover_merge.proofs.Positions.{has-place, place_for-above, place_for-below, place_for-le}
+use Rattle.cover_merge.proofs.Answering.{answers_no, fails}
+use Rattle.cover_merge.proofs.Legal.{up_from_legal, down_from_legal, legal_from_checks}
 use Rattle.cover_merge.specs.declared.guards.Guard.{Guard}
 use Rattle.cover_merge.specs.Guards.{IsRival, HasRival, here, behind, IsGuardAt, AreGuards, IsOriginal, IsNextJoined}
 
@@ -32,7 +32,7 @@ rival_place row n rows (behind x xs later) = let at = rival_place row n xs later
 -- ---- the up-check by a guard
 
 -- the rows of a set have one route
-pub one_route : (rows : List Row) (places : List ℕ) → IsOneRoute rows places → (s r : ℕ) → has places s ≡ true → has places r ≡ true → s < r → SameRoute rows s r
+pub one_route : (rows : List Row) (places : List ℕ) → IsOneRoute rows places → (s r : ℕ) → has_row places s ≡ true → has_row places r ≡ true → s < r → SameRoute rows s r
 one_route rows places set s r in_s in_r less d =
     let a = has-place places s in_s in
     let b = has-place places r in_r in
@@ -45,7 +45,7 @@ one_route rows places set s r in_s in_r less d =
       ]
     ]
 
-module _ (rows : List Row) (places : List ℕ) (ordered : IsOrdered rows) (s : ℕ) (alike : (r : ℕ) → s < r → has places r ≡ true → SameRoute rows s r) (guard : Guard) (guarded : IsGuardAt rows s guard) (g : ℕ) where
+module _ (rows : List Row) (places : List ℕ) (ordered : IsOrdered rows) (s : ℕ) (alike : (r : ℕ) → s < r → has_row places r ≡ true → SameRoute rows s r) (guard : Guard) (guarded : IsGuardAt rows s guard) (g : ℕ) where
   pub guard_refuses : guard.rival ≤ g → g ≤ 32 → PassesUp rows places s (place_for rows g) → ⊥
   guard_refuses le small up =
       let d : Row = merge_rows [] in
@@ -55,7 +55,7 @@ module _ (rows : List Row) (places : List ℕ) (ordered : IsOrdered rows) (s : �
       let low : generality (get_or rows (suc s + at.0) d).block ≤ guard.rival = subst (λ (x : Row). generality x.block ≤ guard.rival) same (at.2 d).0 in
       let rival : IsRival (get_or rows s d) (get_or rows (suc s + at.0) d) = subst (IsRival (get_or rows s d)) same (at.2 d).1 in
       let before : suc s + at.0 < place_for rows g = place_for-above rows g ordered (suc s + at.0) d inside (omega (arith, low, le)) in
-      let outside : has places (suc s + at.0) ≡ false = false_from_ne_true (has places (suc s + at.0)) (λ in_set. rival.other (ap (λ x. x.bits) (alike (suc s + at.0) (omega arith) in_set d))) in
+      let outside : has_row places (suc s + at.0) ≡ false = false_from_ne_true (has_row places (suc s + at.0)) (λ in_set. rival.other (ap (λ x. x.bits) (alike (suc s + at.0) (omega arith) in_set d))) in
       rival.meets (up (suc s + at.0) (omega arith) before d outside)
 
   pub guard_passes : g < guard.clear → PassesUp rows places s (place_for rows g)
@@ -66,7 +66,7 @@ module _ (rows : List Row) (places : List ℕ) (ordered : IsOrdered rows) (s : �
       subst (λ (x : Row). generality x.block < guard.clear → Misses x.block (get_or rows s d)) same ((guarded d).passes (r - suc s) d inside) (omega (arith, place_for-below rows g ordered r d before, less))
 
   -- no row of a generality below the second number meets the row
-  pub guard_clears : (from : ℕ) → from ≤ length rows → ((k : ℕ) (d : Row) → k < from → generality (get_or rows k d).block < guard.clear) → (r : ℕ) → s < r → r < from → IsClear rows places s r
+  pub guard_clears : (from : ℕ) → from ≤ length rows → ((k : ℕ) (d : Row) → k < from → generality (get_or rows k d).block < guard.clear) → (r : ℕ) → s < r → r < from → IsClearOf rows places s r
   guard_clears from within low r after before d outside =
       let at : suc s + (r - suc s) ≡ r = omega arith in
       let same : get_or (drop (suc s) rows) (r - suc s) d ≡ get_or rows r d = get_or-drop (suc s) rows (r - suc s) d ∙ ap (λ i. get_or rows i d) at in
@@ -178,7 +178,7 @@ module _ (list rows : List Row) (same : list ≡ rows) (i j : ℕ) (set : IsMerg
   up_there s up = subst (λ n. PassesUp list (i ∷ j ∷ []) s n) (sym place_is) (subst (λ l. PassesUp l (i ∷ j ∷ []) s (insert_place rows (i ∷ j ∷ []))) (sym same) up)
 
   -- where the up-check of one of them fails, the pair is not legal
-  pub pair_refused : (s : ℕ) (t : Bool) → has (i ∷ j ∷ []) s ≡ true → (IsTrue t) ↔ (PassesUp list (i ∷ j ∷ []) s (place_for list g)) → t ≡ false → (IsTrue false) ↔ (IsLegal rows (i ∷ j ∷ []))
+  pub pair_refused : (s : ℕ) (t : Bool) → has_row (i ∷ j ∷ []) s ≡ true → (IsTrue t) ↔ (PassesUp list (i ∷ j ∷ []) s (place_for list g)) → t ≡ false → (IsTrue false) ↔ (IsLegal rows (i ∷ j ∷ []))
   pair_refused s t member tells came =
       answers_no (IsLegal rows (i ∷ j ∷ [])) (λ legal. fails (PassesUp list (i ∷ j ∷ []) s (place_for list g)) t tells came (up_there s (up_from_legal rows (i ∷ j ∷ []) sound set.set.in_range legal s member)))
 
@@ -186,7 +186,7 @@ module _ (list rows : List Row) (same : list ≡ rows) (i j : ℕ) (set : IsMerg
   pub pair_told : (t : Bool) (p : ℕ) → PassesUp list (i ∷ j ∷ []) i (place_for list g) → PassesUp list (i ∷ j ∷ []) j (place_for list g) → p ≡ place_for list g → (IsTrue t) ↔ (PassesDown list b p) → (IsTrue t) ↔ (IsLegal rows (i ∷ j ∷ []))
   pair_told t p first second place tells = (λ yes. legal_from_checks rows (i ∷ j ∷ []) sound set.set.in_range up (down_here (tells.0 yes)), λ legal. tells.1 (down_there (down_from_legal rows (i ∷ j ∷ []) sound set.set.in_range legal)))
     where
-      up : (s : ℕ) → has (i ∷ j ∷ []) s ≡ true → PassesUp rows (i ∷ j ∷ []) s (insert_place rows (i ∷ j ∷ []))
+      up : (s : ℕ) → has_row (i ∷ j ∷ []) s ≡ true → PassesUp rows (i ∷ j ∷ []) s (insert_place rows (i ∷ j ∷ []))
       up s found = by_place (has-place (i ∷ j ∷ []) s found)
         where
           by_place : (k : ℕ) × (k < length (i ∷ j ∷ [])) × (get_or (i ∷ j ∷ []) k 0 ≡ s) → PassesUp rows (i ∷ j ∷ []) s (insert_place rows (i ∷ j ∷ []))

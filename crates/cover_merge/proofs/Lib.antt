@@ -1,3 +1,7 @@
+pub mod Answering
+pub mod Legal
+pub mod Lists
+pub mod Positions
 mod ApplyLemmas
 mod CarryLemmas
 mod ChooseLemmas

@@ -9,9 +9,9 @@ use Rattle.std.proofs.lemmas.List.Elements.{All-cons, All-append, All-take, All-
 use Rattle.spin_base.specs.declared.routes.Route.{Route}
 use Rattle.tern_word.specs.declared.tables.Row.{Row}
 use Rattle.tern_word.specs.SoundTable.{IsOrdered}
-use Rattle.cover_checks.specs.Merge.{has, picked, merged_row, insert_place, after, IsMergeSet, merge_rows}
-use Rattle.cover_checks.proofs.Lists.{All-picked}
-use Rattle.cover_merge.specs.Links.{place_of_route, AreNumbers, IsAhead, IsNext, IsFirst, AreLinks}
+use Rattle.cover_merge.specs.Merge.{has_row, picked, merged_row, insert_place, after, IsMergeSet, merge_rows}
+use Rattle.cover_merge.proofs.Lists.{All-picked}
+use Rattle.cover_merge.specs.Links.{place_of_route, AreNumbers, IsAhead, IsNextOfRoute, IsFirstOfRoute, AreLinks}
 use Rattle.cover_merge.proofs.ApplyLemmas.{left, after_is, route_is}
 
 -- ---- the place of a route
@@ -119,14 +119,14 @@ module _ (limit : ℕ) (rows : List Row) (numbers : List ℕ) (are : AreNumbers 
   pub same_number : (j k : ℕ) (d : Row) → j < length rows → k < length rows → (get_or rows j d).route.bits ≡ (get_or rows k d).route.bits → get_or numbers j 0 ≡ get_or numbers k 0
   same_number j k d in_j in_k same = number_at j d in_j ∙ ap (place_of_route are.start) same ∙ sym (number_at k d in_k)
 
-  pub next_from : (k x : ℕ) → k < length rows → IsAhead numbers (k + 1) (get_or numbers k 0) x → IsNext rows k x
+  pub next_from : (k x : ℕ) → k < length rows → IsAhead numbers (k + 1) (get_or numbers k 0) x → IsNextOfRoute rows k x
   next_from k x inside ahead = record {
     behind = omega (arith, ahead.reached);
     same = λ d within. same_route x k d within inside (ahead.same (omega (arith, as_many, within)));
     between = λ j d after before within same. ahead.none j (omega (arith, after)) before (omega (arith, as_many, within)) (same_number j k d within inside same);
   }
 
-  pub first_from : (k x : ℕ) → k < length rows → IsAhead numbers 0 (get_or numbers k 0) x → IsFirst rows k x
+  pub first_from : (k x : ℕ) → k < length rows → IsAhead numbers 0 (get_or numbers k 0) x → IsFirstOfRoute rows k x
   first_from k x inside ahead =
       let up : x ≤ k = not_after (cases_lt k x) in record {
         up_to = up;
@@ -151,7 +151,7 @@ links_made limit rows numbers are heads nexts firsts one_next one_first first ne
       next = λ k inside. next_from limit rows numbers are k (get_or nexts k 0) inside (next k (omega (arith, many, inside)));
       first = λ k inside.
           let within : k < length numbers = omega (arith, many, inside) in
-          subst (IsFirst rows k) (sym (read k within)) (first_from limit rows numbers are k (get_or heads (get_or numbers k 0) 0) inside (first (get_or numbers k 0) (are.below k 0 within)));
+          subst (IsFirstOfRoute rows k) (sym (read k within)) (first_from limit rows numbers are k (get_or heads (get_or numbers k 0) 0) inside (first (get_or numbers k 0) (are.below k 0 within)));
     }
 
 -- ---- the loop that links
@@ -216,7 +216,7 @@ module _ (limit : ℕ) (rows : List Row) (numbers : List ℕ) (are : AreNumbers 
   numbers_after =
       let n = insert_place rows places in
       let m = merged_row rows places in
-      let q = λ (k : ℕ). not (has places k) in
+      let q = λ (k : ℕ). not (has_row places k) in
       let low : number < limit = subst (λ x. x < limit) (sym first) (are.below (get_or places 0 0) 0 (omega (arith, as_many limit rows numbers are, member_inside))) in record {
         start = are.start;
         many = are.many;

@@ -15,11 +15,11 @@ use Rattle.spin_base.specs.declared.blocks.Block.{Block}
 use Rattle.tern_word.specs.declared.tables.Row.{Row}
 use Rattle.tern_word.specs.Ternary.{Wants, generality}
 use Rattle.tern_word.proofs.BlockLaws.{merge_of-is_merge}
-use Rattle.cover_checks.specs.Merge.{has, rows_at, merged_block, place_for, insert_place, SameRoute, IsOneRoute, IsMergeSet, IsLegal, PassesUp, PassesUpCheck, PassesDownCheck}
+use Rattle.cover_merge.specs.Merge.{has_row, rows_at, merged_block, place_for, insert_place, SameRoute, IsOneRoute, IsMergeSet, IsLegal, PassesUp, PassesUpCheck, PassesDownCheck}
 use Rattle.tern_word.specs.SoundTable.{IsSound}
-use Rattle.cover_checks.proofs.Legal.{legal_from_checks}
-use Rattle.cover_checks.proofs.Answering.{fails}
-use Rattle.cover_checks.proofs.Positions.{has-at, has-place, All-has, rows_at-from, rows_at-length, some_blocks}
+use Rattle.cover_merge.proofs.Legal.{legal_from_checks}
+use Rattle.cover_merge.proofs.Answering.{fails}
+use Rattle.cover_merge.proofs.Positions.{has-at, has-place, All-has, rows_at-from, rows_at-length, some_blocks}
 use Rattle.spin_base.proofs.RouteBits.{zero_of}
 use Rattle.cover_merge.specs.Refinement.{can_choose, parts, keeps, kept_by, IsLastFailing, IsUpStep, IsFirstMetFrom, IsNarrowed, IsDownStep, Refines, ends_empty, ends_legal, goes_up, goes_down}
 
@@ -169,7 +169,7 @@ last_more rows places p i b some behind tells came k from within = elim (cases_l
   | inr later ↦ behind k later within
 ]
 
-pub none_fails : (rows : List Row) (places : List ℕ) (p i : ℕ) → i ≤ 0 → ((k : ℕ) → i ≤ k → k < length places → PassesUp rows places (get_or places k 0) p) → (s : ℕ) → has places s ≡ true → PassesUp rows places s p
+pub none_fails : (rows : List Row) (places : List ℕ) (p i : ℕ) → i ≤ 0 → ((k : ℕ) → i ≤ k → k < length places → PassesUp rows places (get_or places k 0) p) → (s : ℕ) → has_row places s ≡ true → PassesUp rows places s p
 none_fails rows places p i done behind s found = let at = has-place places s found in subst (λ x. PassesUp rows places x p) at.2 (behind at.0 (omega arith) at.1)
 
 -- ---- the rounds

@@ -13,10 +13,10 @@ use Rattle.tern_word.specs.declared.tables.Row.{Row}
 use Rattle.tern_word.specs.Ternary.{Wants, generality, merge_two}
 use Rattle.tern_word.specs.SoundTable.{IsOrdered}
 use Rattle.tern_word.proofs.BlockLaws.{generality-mono, merge_of-is_merge}
-use Rattle.cover_checks.specs.Merge.{has, merge_rows, rows_at, merged_block, place_for, insert_place, SameRoute, IsOneRoute, PassesUp, PassesUpCheck}
-use Rattle.cover_checks.proofs.Lists.{All-from_map, All-left, All-right, AllPairs-head, AllPairs-tail}
-use Rattle.cover_checks.proofs.Positions.{All-has, has-at, merged_block-push, place_for-above, place_for-below, place_for-le, rows_at-from, rows_at-has, rows_at-length, some_blocks}
-use Rattle.cover_merge.specs.Refinement.{IsLastFailing, IsUpStep, Refines, goes_up, without}
+use Rattle.cover_merge.specs.Merge.{has_row, merge_rows, rows_at, merged_block, place_for, insert_place, SameRoute, IsOneRoute, PassesUp, PassesUpCheck}
+use Rattle.cover_merge.proofs.Lists.{All-from_map, All-left, All-right, AllPairs-head, AllPairs-tail}
+use Rattle.cover_merge.proofs.Positions.{All-has, has-at, merged_block-push, place_for-above, place_for-below, place_for-le, rows_at-from, rows_at-has, rows_at-length, some_blocks}
+use Rattle.cover_merge.specs.Refinement.{IsLastFailing, IsUpStep, Refines, goes_up, set_without}
 use Rattle.cover_merge.proofs.RefineLemmas.{last_found, one_route_after}
 use Rattle.cover_merge.proofs.GuardLemmas.{one_route}
 
@@ -72,35 +72,35 @@ all_other s (x ∷ xs) above = by_test (eqb_tells x s) (all_other s xs (All-tail
     by_test (inr other) rest = ap (λ b. cond (not b) (x ∷ filter (λ t. not (t == s)) xs) (filter (λ t. not (t == s)) xs)) other.0 ∙ ap (λ l. x ∷ l) rest
 
 -- the set without the place at an index is the list without its item
-pub without_at : (xs : List ℕ) (i : ℕ) → AllPairs (λ s t. s < t) xs → i < length xs → without (get_or xs i 0) xs ≡ remove xs i
+pub without_at : (xs : List ℕ) (i : ℕ) → AllPairs (λ s t. s < t) xs → i < length xs → set_without (get_or xs i 0) xs ≡ remove xs i
 without_at [] i ascending within = absurd (omega arith)
 without_at (x ∷ xs) zero ascending within =
     ap (λ b. cond (not b) (x ∷ filter (λ t. not (t == x)) xs) (filter (λ t. not (t == x)) xs)) (eq-eqb x x refl) ∙ all_other x xs (AllPairs-head (λ s t. s < t) x xs ascending)
 without_at (x ∷ xs) (suc i) ascending within = by_test (eqb_tells x (get_or xs i 0)) (without_at xs i (AllPairs-tail (λ s t. s < t) x xs ascending) (omega arith))
   where
-    by_test : ((x == get_or xs i 0) ≡ true) × (x ≡ get_or xs i 0) ⊎ ((x == get_or xs i 0) ≡ false) × (x ≢ get_or xs i 0) → without (get_or xs i 0) xs ≡ remove xs i
-        → cond (not (x == get_or xs i 0)) (x ∷ without (get_or xs i 0) xs) (without (get_or xs i 0) xs) ≡ x ∷ remove xs i
+    by_test : ((x == get_or xs i 0) ≡ true) × (x ≡ get_or xs i 0) ⊎ ((x == get_or xs i 0) ≡ false) × (x ≢ get_or xs i 0) → set_without (get_or xs i 0) xs ≡ remove xs i
+        → cond (not (x == get_or xs i 0)) (x ∷ set_without (get_or xs i 0) xs) (set_without (get_or xs i 0) xs) ≡ x ∷ remove xs i
     by_test (inl same) rest = absurd (omega (arith, same.1, AllPairs-head (λ s t. s < t) x xs ascending i 0 (omega arith)))
-    by_test (inr other) rest = ap (λ b. cond (not b) (x ∷ without (get_or xs i 0) xs) (without (get_or xs i 0) xs)) other.0 ∙ ap (λ l. x ∷ l) rest
+    by_test (inr other) rest = ap (λ b. cond (not b) (x ∷ set_without (get_or xs i 0) xs) (set_without (get_or xs i 0) xs)) other.0 ∙ ap (λ l. x ∷ l) rest
 
 -- a place other than that taken out stays
-stays : (s r : ℕ) (xs : List ℕ) → (r ≡ s → ⊥) → has xs r ≡ true → has (without s xs) r ≡ true
+stays : (s r : ℕ) (xs : List ℕ) → (r ≡ s → ⊥) → has_row xs r ≡ true → has_row (set_without s xs) r ≡ true
 stays s r [] differ found = found
 stays s r (x ∷ xs) differ found = by_test (eqb_tells x r) (eqb_tells x s) (stays s r xs differ)
   where
-    by_test : ((x == r) ≡ true) × (x ≡ r) ⊎ ((x == r) ≡ false) × (x ≢ r) → ((x == s) ≡ true) × (x ≡ s) ⊎ ((x == s) ≡ false) × (x ≢ s) → (has xs r ≡ true → has (without s xs) r ≡ true)
-        → has (cond (not (x == s)) (x ∷ without s xs) (without s xs)) r ≡ true
+    by_test : ((x == r) ≡ true) × (x ≡ r) ⊎ ((x == r) ≡ false) × (x ≢ r) → ((x == s) ≡ true) × (x ≡ s) ⊎ ((x == s) ≡ false) × (x ≢ s) → (has_row xs r ≡ true → has_row (set_without s xs) r ≡ true)
+        → has_row (cond (not (x == s)) (x ∷ set_without s xs) (set_without s xs)) r ≡ true
     by_test (inl same) (inl gone) rest = absurd (differ (sym same.1 ∙ gone.1))
-    by_test (inl same) (inr kept) rest = ap (λ b. has (cond (not b) (x ∷ without s xs) (without s xs)) r) kept.0 ∙ ap (λ b. b || has (without s xs) r) same.0
-    by_test (inr other) (inl gone) rest = ap (λ b. has (cond (not b) (x ∷ without s xs) (without s xs)) r) gone.0 ∙ rest (ap (λ b. b || has xs r) (sym other.0) ∙ found)
+    by_test (inl same) (inr kept) rest = ap (λ b. has_row (cond (not b) (x ∷ set_without s xs) (set_without s xs)) r) kept.0 ∙ ap (λ b. b || has_row (set_without s xs) r) same.0
+    by_test (inr other) (inl gone) rest = ap (λ b. has_row (cond (not b) (x ∷ set_without s xs) (set_without s xs)) r) gone.0 ∙ rest (ap (λ b. b || has_row xs r) (sym other.0) ∙ found)
     by_test (inr other) (inr kept) rest =
-        ap (λ b. has (cond (not b) (x ∷ without s xs) (without s xs)) r) kept.0 ∙ ap (λ b. b || has (without s xs) r) other.0 ∙ rest (ap (λ b. b || has xs r) (sym other.0) ∙ found)
+        ap (λ b. has_row (cond (not b) (x ∷ set_without s xs) (set_without s xs)) r) kept.0 ∙ ap (λ b. b || has_row (set_without s xs) r) other.0 ∙ rest (ap (λ b. b || has_row xs r) (sym other.0) ∙ found)
 
 -- a merge of fewer rows is no more general
 module _ (rows : List Row) (set : List ℕ) (in_range : All (λ s. s < length rows) set) (p : ℕ → Bool) (some : 0 < length (filter p set)) where
-  of_set : (s : ℕ) → has (filter p set) s ≡ true → has set s ≡ true
+  of_set : (s : ℕ) → has_row (filter p set) s ≡ true → has_row set s ≡ true
   of_set s found =
-      All-has (λ t. has set t ≡ true) (filter p set) s (All-filter p (λ t. has set t ≡ true) set (λ k d within. subst (λ t. has set t ≡ true) (get_or_default set k 0 d within) (has-at set k within))) found
+      All-has (λ t. has_row set t ≡ true) (filter p set) s (All-filter p (λ t. has_row set t ≡ true) set (λ k d within. subst (λ t. has_row set t ≡ true) (get_or_default set k 0 d within) (has-at set k within))) found
 
   blocks_some : (places : List ℕ) → All (λ s. s < length rows) places → 0 < length places → 0 < length (map (λ (x : Row). x.block) (rows_at rows places))
   blocks_some places within few = some_blocks (rows_at rows places) (omega (arith, rows_at-length rows places within))
@@ -127,10 +127,10 @@ place_mono rows g h ordered le = elim (cases_lt (place_for rows h) (place_for ro
 ]
 
 -- a place behind that taken out still passes the up-check, with a merge no more general
-still_passes : (rows : List Row) (set : List ℕ) (s t p q : ℕ) → s < t → q ≤ p → PassesUp rows set t p → PassesUp rows (without s set) t q
-still_passes rows set s t p q less le up r after before d outside = up r after (omega (arith, before, le)) d (by_case (has set r) refl)
+still_passes : (rows : List Row) (set : List ℕ) (s t p q : ℕ) → s < t → q ≤ p → PassesUp rows set t p → PassesUp rows (set_without s set) t q
+still_passes rows set s t p q less le up r after before d outside = up r after (omega (arith, before, le)) d (by_case (has_row set r) refl)
   where
-    by_case : (b : Bool) → has set r ≡ b → has set r ≡ false
+    by_case : (b : Bool) → has_row set r ≡ b → has_row set r ≡ false
     by_case false e = e
     by_case true e = absurd (true≢false (sym (stays s r set (λ same. omega (arith, same, less, after)) e) ∙ outside))
 
@@ -138,11 +138,11 @@ module _ (rows : List Row) (set : List ℕ) (one : IsOneRoute rows set) (ordered
   place_is : place_for rows g ≡ insert_place rows set
   place_is = ap (place_for rows) (general ∙ ap generality is)
 
-  pub all_pass : ((s : ℕ) → IsTrue (has set s) → PassesUp rows set s (place_for rows g)) → PassesUpCheck rows set
+  pub all_pass : ((s : ℕ) → IsTrue (has_row set s) → PassesUp rows set s (place_for rows g)) → PassesUpCheck rows set
   all_pass passes s found = subst (PassesUp rows set s) place_is (passes s found)
 
   module _ (i : ℕ) (inside : i < length set) (last : IsLastFailing rows set (place_for rows g) (get_or set i 0)) (new : List ℕ) (now : new ≡ remove set i) (count : length new + 1 ≡ length set) (two : 2 ≤ length set) where
-    without_is : new ≡ without (get_or set i 0) set
+    without_is : new ≡ set_without (get_or set i 0) set
     without_is = now ∙ sym (without_at set i one.ascending inside)
 
     pub sift_step : IsUpStep rows set new
@@ -161,9 +161,9 @@ module _ (rows : List Row) (set : List ℕ) (one : IsOneRoute rows set) (ordered
         let later : k + 1 < length set = omega (arith, within, count) in
         let at : get_or set (k + 1) 0 ≡ get_or new k 0 = sym (ap (λ l. get_or l k 0) now ∙ get_or-remove_above set i 0 k from inside) in
         let less : s < t = one.ascending i (k + 1) 0 (omega (arith, from)) later in
-        let some : 0 < length (without s set) = subst (λ l. 0 < length l) without_is (omega (arith, count, two)) in
-        let low : generality (merged_block rows (without s set)) ≤ generality (merged_block rows set) = fewer_general rows set one.in_range (λ x. not (x == s)) some in
-        let mine : h ≡ generality (merged_block rows (without s set)) = h_is ∙ ap generality (m_is ∙ ap (merged_block rows) without_is) in
+        let some : 0 < length (set_without s set) = subst (λ l. 0 < length l) without_is (omega (arith, count, two)) in
+        let low : generality (merged_block rows (set_without s set)) ≤ generality (merged_block rows set) = fewer_general rows set one.in_range (λ x. not (x == s)) some in
+        let mine : h ≡ generality (merged_block rows (set_without s set)) = h_is ∙ ap generality (m_is ∙ ap (merged_block rows) without_is) in
         let theirs : g ≡ generality (merged_block rows set) = general ∙ ap generality is in
         let le : place_for rows h ≤ place_for rows g = place_mono rows h g ordered (omega (arith, low, mine, theirs)) in
         subst (λ x. PassesUp rows new x (place_for rows h)) at
@@ -192,9 +192,9 @@ gap_out xs back i within =
     gone (y ∷ ys) (suc j) inside = ap (λ l. y ∷ l) (gone ys j (omega arith))
 
 -- of the places behind row s, only those behind count in its up-check
-has_behind : (front back : List ℕ) (r : ℕ) → All (λ t. t < r) front → has (front ++ back) r ≡ has back r
+has_behind : (front back : List ℕ) (r : ℕ) → All (λ t. t < r) front → has_row (front ++ back) r ≡ has_row back r
 has_behind [] back r low = refl
-has_behind (t ∷ front) back r low = ap (λ b. b || has (front ++ back) r) (off (eqb_tells t r)) ∙ has_behind front back r (All-tail (λ x. x < r) t front low)
+has_behind (t ∷ front) back r low = ap (λ b. b || has_row (front ++ back) r) (off (eqb_tells t r)) ∙ has_behind front back r (All-tail (λ x. x < r) t front low)
   where
     off : ((t == r) ≡ true) × (t ≡ r) ⊎ ((t == r) ≡ false) × (t ≢ r) → (t == r) ≡ false
     off (inl same) = absurd (omega (arith, same.1, All-head (λ x. x < r) t front low))
@@ -258,9 +258,9 @@ module _ (rows : List Row) (xs : List ℕ) (i w : ℕ) (some : 0 < i) (gap : i �
     last_within = subst (λ x. x < length rows) (at_last ∙ sym is) (one.in_range (i - 1) 0 (omega (arith, left_many, some)))
 
     -- those behind have its route
-    pub alike_behind : (r : ℕ) → s < r → has (drop w xs) r ≡ true → SameRoute rows s r
+    pub alike_behind : (r : ℕ) → s < r → has_row (drop w xs) r ≡ true → SameRoute rows s r
     alike_behind r less found =
-        let member : has (take i xs ++ drop w xs) s ≡ true = subst (λ x. has (take i xs ++ drop w xs) x ≡ true) (at_last ∙ sym is) (has-at (take i xs ++ drop w xs) (i - 1) (omega (arith, left_many, some))) in
+        let member : has_row (take i xs ++ drop w xs) s ≡ true = subst (λ x. has_row (take i xs ++ drop w xs) x ≡ true) (at_last ∙ sym is) (has-at (take i xs ++ drop w xs) (i - 1) (omega (arith, left_many, some))) in
         one_route rows (take i xs ++ drop w xs) one s r member (has_behind (take i xs) (drop w xs) r (λ k d within. omega (arith, low k d within, less)) ∙ found) less
 
     -- its up-check by those behind is that by all

@@ -12,16 +12,16 @@ use Rattle.tern_word.specs.declared.tables.Row.{Row}
 use Rattle.tern_word.specs.Ternary.{generality, merge_two, merge_of}
 use Rattle.tern_word.specs.SoundTable.{IsOrdered, IsSound, Misses}
 use Rattle.tern_word.proofs.BlockLaws.{generality-merge, generality_le}
-use Rattle.cover_checks.specs.Merge.{has, picked, kept, rows_at, merge_rows, merged_row, merged_block, insert_place, place_for, after, IsMergeSet, IsLegal, PassesDown}
-use Rattle.cover_checks.proofs.Lists.{All-picked, All-left, All-right, picked-at, All-from_map}
-use Rattle.cover_checks.proofs.Positions.{has-at, rows_at-has, place_for-below, place_for-above}
-use Rattle.cover_checks.proofs.Answering.{fails}
-use Rattle.cover_checks.proofs.Legal.{Misses-members, up_from_legal, down_from_legal}
+use Rattle.cover_merge.specs.Merge.{has_row, picked, kept, rows_at, merge_rows, merged_row, merged_block, insert_place, place_for, after, IsMergeSet, IsLegal, PassesDown}
+use Rattle.cover_merge.proofs.Lists.{All-picked, All-left, All-right, picked-at, All-from_map}
+use Rattle.cover_merge.proofs.Positions.{has-at, rows_at-has, place_for-below, place_for-above}
+use Rattle.cover_merge.proofs.Answering.{fails}
+use Rattle.cover_merge.proofs.Legal.{Misses-members, up_from_legal, down_from_legal}
 use Rattle.cover_merge.specs.declared.guards.Guard.{Guard}
 use Rattle.cover_merge.specs.Guards.{HasRival, IsGuardAt, AreGuards}
-use Rattle.cover_merge.specs.Links.{IsNext}
+use Rattle.cover_merge.specs.Links.{IsNextOfRoute}
 use Rattle.cover_merge.specs.Covering.{IsLegalPair}
-use Rattle.cover_merge.specs.Tried.{HasMet, IsRefused, IsRefusedAt, AreTried, AreMarked, IsFresh, IsNoLaxer, IsMarked, IsLatest, AreLatest}
+use Rattle.cover_merge.specs.Tried.{HasMet, IsRefusedPair, IsRefusedAt, AreTried, AreTriedUpTo, IsFresh, IsNoLaxer, IsTriedNow, IsLatest, AreLatest}
 use Rattle.cover_merge.proofs.ApplyLemmas.{left, after_is, block_is}
 use Rattle.cover_merge.proofs.GuardLemmas.{guard_refuses, one_route}
 use Rattle.cover_merge.proofs.CarryLemmas.{guard_set}
@@ -121,10 +121,10 @@ module _ (K : Row → Guard → Row → Guard → Type 0) where
 
 -- what is told of two rows that were tried
 abbrev Told : List Row → Row → Guard → Row → Guard → Type 0
-Told rows r g s h = h.changed < g.tried → IsRefused rows r g.rival s h.rival
+Told rows r g s h = h.changed < g.tried → IsRefusedPair rows r g.rival s h.rival
 
 -- what is refused stays so where rivals are no more general
-nearer : (rows : List Row) (r : Row) (m k : ℕ) (s : Row) (n l : ℕ) → k ≤ m → l ≤ n → IsRefused rows r m s n → IsRefused rows r k s l
+nearer : (rows : List Row) (r : Row) (m k : ℕ) (s : Row) (n l : ℕ) → k ≤ m → l ≤ n → IsRefusedPair rows r m s n → IsRefusedPair rows r k s l
 nearer rows r m k s n l first second refused bits = by_case (refused bits)
   where
     b : Block
@@ -144,7 +144,7 @@ bound_put now gs s g inside low all k e within = by_case (cases_eq k s)
     by_case (inl same) = subst (λ (x : Guard). x.tried ≤ now) (sym (get_or-set_at gs s k g e same inside)) low
     by_case (inr apart) = subst (λ (x : Guard). x.tried ≤ now) (sym (get_or-set_other gs s k g e apart)) (all k e (omega (arith, length-set gs s g, within)))
 
-module _ (now : ℕ) (rows : List Row) (gs : List Guard) (s : ℕ) (g old : Guard) (inside : s < length gs) (is_old : old ≡ get_or gs s old) (marks : AreMarked now rows gs) where
+module _ (now : ℕ) (rows : List Row) (gs : List Guard) (s : ℕ) (g old : Guard) (inside : s < length gs) (is_old : old ≡ get_or gs s old) (marks : AreTriedUpTo now rows gs) where
   old_at : (e : Guard) → old ≡ get_or gs s e
   old_at e = is_old ∙ get_or_default gs s old e inside
 
@@ -152,7 +152,7 @@ module _ (now : ℕ) (rows : List Row) (gs : List Guard) (s : ℕ) (g old : Guar
   changed_at kept e = kept ∙ ap (λ (x : Guard). x.changed) (old_at e)
 
   -- a guard whose rival is no more general, or that of a row that changed
-  fresh_put : (IsNoLaxer old g) ⊎ (IsFresh now g) → AreMarked now rows (set gs s g)
+  fresh_put : (IsNoLaxer old g) ⊎ (IsFresh now g) → AreTriedUpTo now rows (set gs s g)
   fresh_put (inl kept) = record {
     tried = pairs_put (Told rows) rows gs s g inside
         (λ k d e less told. nearer rows (get_or rows k d) (get_or gs k e).rival (get_or gs k e).rival (get_or rows s d) (get_or gs s e).rival g.rival (omega arith) (rival_at e) (marks.tried k s d e less inside (omega (arith, told, changed_at kept.changed e))))
@@ -174,19 +174,19 @@ module _ (now : ℕ) (rows : List Row) (gs : List Guard) (s : ℕ) (g old : Guar
     bound = bound_put now gs s g inside (omega (arith, fresh.tried)) marks.bound;
   }
 
-  pub fresh_set : (new : List Guard) → new ≡ set gs s g → (IsNoLaxer old g) ⊎ (IsFresh now g) → AreMarked now rows new
-  fresh_set new is told = subst (AreMarked now rows) (sym is) (fresh_put told)
+  pub fresh_set : (new : List Guard) → new ≡ set gs s g → (IsNoLaxer old g) ⊎ (IsFresh now g) → AreTriedUpTo now rows new
+  fresh_set new is told = subst (AreTriedUpTo now rows) (sym is) (fresh_put told)
 
   same_guard : g ≡ old → IsNoLaxer old g
   same_guard same = record { rival = omega (arith, ap (λ (x : Guard). x.rival) same); tried = ap (λ (x : Guard). x.tried) same; changed = ap (λ (x : Guard). x.changed) same }
 
   -- the guard of a row that is refused with each later one
-  tried_put : (settled : Bool) → (IsTrue settled → (b : ℕ) → s < b → b < length rows → IsRefusedAt rows gs s b) → length gs ≡ length rows → (g ≡ old) ⊎ ((IsTrue settled) × (IsMarked now old g)) → AreMarked now rows (set gs s g)
+  tried_put : (settled : Bool) → (IsTrue settled → (b : ℕ) → s < b → b < length rows → IsRefusedAt rows gs s b) → length gs ≡ length rows → (g ≡ old) ⊎ ((IsTrue settled) × (IsTriedNow now old g)) → AreTriedUpTo now rows (set gs s g)
   tried_put settled refused same (inl kept) = fresh_put (inl (same_guard kept))
   tried_put settled refused same (inr (yes_settled, mark)) = record {
     tried = pairs_put (Told rows) rows gs s g inside
-        (λ k d e less told. subst (λ n. IsRefused rows (get_or rows k d) (get_or gs k e).rival (get_or rows s d) n) (sym (rival_at e)) (marks.tried k s d e less inside (omega (arith, told, changed_at mark.changed e))))
-        (λ k d e less within told. subst (λ n. IsRefused rows (get_or rows s d) n (get_or rows k d) (get_or gs k e).rival) (sym (rival_at e)) (refused yes_settled k less (omega (arith, within, same)) d e))
+        (λ k d e less told. subst (λ n. IsRefusedPair rows (get_or rows k d) (get_or gs k e).rival (get_or rows s d) n) (sym (rival_at e)) (marks.tried k s d e less inside (omega (arith, told, changed_at mark.changed e))))
+        (λ k d e less within told. subst (λ n. IsRefusedPair rows (get_or rows s d) n (get_or rows k d) (get_or gs k e).rival) (sym (rival_at e)) (refused yes_settled k less (omega (arith, within, same)) d e))
         marks.tried;
     bound = bound_put now gs s g inside (omega (arith, mark.tried)) marks.bound;
   }
@@ -194,30 +194,30 @@ module _ (now : ℕ) (rows : List Row) (gs : List Guard) (s : ℕ) (g old : Guar
       rival_at : (e : Guard) → g.rival ≡ (get_or gs s e).rival
       rival_at e = mark.rival ∙ ap (λ (x : Guard). x.rival) (old_at e)
 
-  pub tried_set : (new : List Guard) → new ≡ set gs s g → (settled : Bool) → (IsTrue settled → (b : ℕ) → s < b → b < length rows → IsRefusedAt rows gs s b) → length gs ≡ length rows → (g ≡ old) ⊎ ((IsTrue settled) × (IsMarked now old g)) → AreMarked now rows new
-  tried_set new is settled refused same told = subst (AreMarked now rows) (sym is) (tried_put settled refused same told)
+  pub tried_set : (new : List Guard) → new ≡ set gs s g → (settled : Bool) → (IsTrue settled → (b : ℕ) → s < b → b < length rows → IsRefusedAt rows gs s b) → length gs ≡ length rows → (g ≡ old) ⊎ ((IsTrue settled) × (IsTriedNow now old g)) → AreTriedUpTo now rows new
+  tried_set new is settled refused same told = subst (AreTriedUpTo now rows) (sym is) (tried_put settled refused same told)
 
 -- a mark changes nothing that a guard tells
-pub marked_guard : (now : ℕ) (rows : List Row) (gs new : List Guard) (s : ℕ) (g old : Guard) (settled : Bool) → s < length gs → old ≡ get_or gs s old → new ≡ set gs s g → (g ≡ old) ⊎ ((IsTrue settled) × (IsMarked now old g)) → AreGuards rows gs → AreGuards rows new
+pub marked_guard : (now : ℕ) (rows : List Row) (gs new : List Guard) (s : ℕ) (g old : Guard) (settled : Bool) → s < length gs → old ≡ get_or gs s old → new ≡ set gs s g → (g ≡ old) ⊎ ((IsTrue settled) × (IsTriedNow now old g)) → AreGuards rows gs → AreGuards rows new
 marked_guard now rows gs new s g old settled inside is_old is told each = guard_set rows gs new s g inside is each (by_case told)
   where
     here : IsGuardAt rows s old
     here = subst (IsGuardAt rows s) (sym is_old) (each s old inside)
 
-    by_case : (g ≡ old) ⊎ ((IsTrue settled) × (IsMarked now old g)) → IsGuardAt rows s g
+    by_case : (g ≡ old) ⊎ ((IsTrue settled) × (IsTriedNow now old g)) → IsGuardAt rows s g
     by_case (inl same) = subst (IsGuardAt rows s) (sym same) here
     by_case (inr (yes_settled, mark)) = λ d. record {
       refuses = subst (λ n. n ≤ 32 → HasRival (get_or rows s d) n (drop (suc s) rows)) (sym mark.rival) (here d).refuses;
       passes = subst (λ n. All (λ (x : Row). generality x.block < n → Misses x.block (get_or rows s d)) (drop (suc s) rows)) (sym mark.clear) (here d).passes;
     }
 
-pub fresh_marked : (rows : List Row) (gs : List Guard) → All (IsFresh 0) gs → AreMarked 0 rows gs
+pub fresh_marked : (rows : List Row) (gs : List Guard) → All (IsFresh 0) gs → AreTriedUpTo 0 rows gs
 fresh_marked rows gs all = record {
   tried = λ i j d e less within told. absurd (omega (arith, told, (all i e (omega (arith, less, within))).tried));
   bound = λ k e within. omega (arith, (all k e within).tried);
 }
 
-pub marked_later : (now : ℕ) (rows : List Row) (gs : List Guard) (then : ℕ) → now ≤ then → AreMarked now rows gs → AreMarked then rows gs
+pub marked_later : (now : ℕ) (rows : List Row) (gs : List Guard) (then : ℕ) → now ≤ then → AreTriedUpTo now rows gs → AreTriedUpTo then rows gs
 marked_later now rows gs then le marks = record { tried = marks.tried; bound = λ k e within. omega (arith, le, marks.bound k e within) }
 
 -- ---- the table after a merge
@@ -239,29 +239,29 @@ module _ (rows : List Row) (places : List ℕ) (ordered : IsOrdered rows) (merge
       back : All P (merged_row rows places ∷ kept places n (drop n rows))
       back = All-right P (kept places 0 (take n rows)) (merged_row rows places ∷ kept places n (drop n rows)) all
 
-      member : (k : ℕ) (d : Row) → has places k ≡ true → P (get_or rows k d)
+      member : (k : ℕ) (d : Row) → has_row places k ≡ true → P (get_or rows k d)
       member k d found above =
           let lower = rows_at-has (λ (r : Row). generality r.block ≤ generality (merged_block rows places)) rows places merge.set.in_range
           (All-from_map (λ x. generality x ≤ generality (merged_block rows places)) (λ (x : Row). x.block) (rows_at rows places) (generality-merge (map (λ (x : Row). x.block) (rows_at rows places)))) k d found in
           rows_at-has (Misses b) rows places merge.set.in_range
           (Misses-members b (rows_at rows places) (All-head P (merged_row rows places) (kept places n (drop n rows)) back (omega (arith, above, lower, ap generality (block_is rows places ordered merge))))) k d found
 
-      outside : (k : ℕ) (d : Row) → k < length rows → not (has places k) ≡ true → (k < n) ⊎ (n ≤ k) → P (get_or rows k d)
+      outside : (k : ℕ) (d : Row) → k < length rows → not (has_row places k) ≡ true → (k < n) ⊎ (n ≤ k) → P (get_or rows k d)
       outside k d within out (inl before) =
-          subst P (get_or-take n rows k d before) (picked-at P (λ j. not (has places j)) 0 (take n rows) front k k d (omega arith) (omega (arith, length-take n rows, before, within)) out)
+          subst P (get_or-take n rows k d before) (picked-at P (λ j. not (has_row places j)) 0 (take n rows) front k k d (omega arith) (omega (arith, length-take n rows, before, within)) out)
       outside k d within out (inr from) =
           let at : n + (k - n) ≡ k = omega (arith, from) in
           subst P (get_or-drop n rows (k - n) d ∙ ap (λ i. get_or rows i d) at)
-          (picked-at P (λ j. not (has places j)) n (drop n rows) (λ i e inside. back (suc i) e (omega (arith, inside))) (k - n) k d (sym at) (omega (arith, length-drop n rows, from, within)) out)
+          (picked-at P (λ j. not (has_row places j)) n (drop n rows) (λ i e inside. back (suc i) e (omega (arith, inside))) (k - n) k d (sym at) (omega (arith, length-drop n rows, from, within)) out)
 
       each : All P rows
-      each k d within = by_case (cases_Bool (has places k))
+      each k d within = by_case (cases_Bool (has_row places k))
         where
-          by_case : (has places k ≡ true) ⊎ (has places k ≡ false) → P (get_or rows k d)
+          by_case : (has_row places k ≡ true) ⊎ (has_row places k ≡ false) → P (get_or rows k d)
           by_case (inl found) = member k d found
           by_case (inr out) = outside k d within (ap not out) (cases_lt k n)
 
-  refused_after : (r : Row) (m : ℕ) (s : Row) (n : ℕ) → IsRefused rows r m s n → IsRefused (after rows places) r m s n
+  refused_after : (r : Row) (m : ℕ) (s : Row) (n : ℕ) → IsRefusedPair rows r m s n → IsRefusedPair (after rows places) r m s n
   refused_after r m s n refused bits = by_case (refused bits)
     where
       by_case : (m ≤ generality (merge_two r.block s.block)) ⊎ ((n ≤ generality (merge_two r.block s.block)) ⊎ HasMet rows (merge_two r.block s.block))
@@ -270,11 +270,11 @@ module _ (rows : List Row) (places : List ℕ) (ordered : IsOrdered rows) (merge
       by_case (inr (inl low)) = inr (inl low)
       by_case (inr (inr met)) = inr (inr (met_after (merge_two r.block s.block) met))
 
-  pub marks_carried : (now p : ℕ) (nothing : Guard) (gs new : List Guard) → p ≡ insert_place rows places → IsFresh now nothing → length gs ≡ length rows → AreMarked now rows gs → new ≡ left places 0 (insert gs p nothing) → AreMarked now (after rows places) new
+  pub marks_carried : (now p : ℕ) (nothing : Guard) (gs new : List Guard) → p ≡ insert_place rows places → IsFresh now nothing → length gs ≡ length rows → AreTriedUpTo now rows gs → new ≡ left places 0 (insert gs p nothing) → AreTriedUpTo now (after rows places) new
   marks_carried now p nothing gs new place fresh same marks is =
-      subst (AreMarked now (after rows places)) (sym (is ∙ ap (λ q. left places 0 (insert gs q nothing)) place)) (record {
+      subst (AreTriedUpTo now (after rows places)) (sym (is ∙ ap (λ q. left places 0 (insert gs q nothing)) place)) (record {
         tried = λ i j d e less within told. refused_after (get_or (after rows places) i d) (get_or kept_gs i e).rival (get_or (after rows places) j d) (get_or kept_gs j e).rival (moved i j d e less within told);
-        bound = All-picked (λ (x : Guard). x.tried ≤ now) (λ k. not (has places k)) 0 (insert gs n nothing)
+        bound = All-picked (λ (x : Guard). x.tried ≤ now) (λ k. not (has_row places k)) 0 (insert gs n nothing)
             (All-append (λ (x : Guard). x.tried ≤ now) (take n gs) (nothing ∷ drop n gs) (All-take (λ (x : Guard). x.tried ≤ now) n gs marks.bound)
             (All-cons (λ (x : Guard). x.tried ≤ now) nothing (drop n gs) (omega (arith, fresh.tried)) (All-drop (λ (x : Guard). x.tried ≤ now) n gs marks.bound)));
       })
@@ -295,7 +295,7 @@ module _ (rows : List Row) (places : List ℕ) (ordered : IsOrdered rows) (merge
           marks.tried
 
       moved : Pairs (Told rows) (after rows places) kept_gs
-      moved = subst (λ l. Pairs (Told rows) l kept_gs) (after_is rows places ordered merge) (pairs_picked (Told rows) (λ k. not (has places k)) 0 (insert rows n (merged_row rows places)) (insert gs n nothing) longer inserted)
+      moved = subst (λ l. Pairs (Told rows) l kept_gs) (after_is rows places ordered merge) (pairs_picked (Told rows) (λ k. not (has_row places k)) 0 (insert rows n (merged_row rows places)) (insert gs n nothing) longer inserted)
 
 -- ---- a pair
 
@@ -330,7 +330,7 @@ module _ (rows : List Row) (i j : ℕ) (set : IsMergeSet rows (i ∷ j ∷ [])) 
       m : Block
       m = merge_two (get_or rows i d).block (get_or rows j d).block
 
-      by_guard : (s : ℕ) → has (i ∷ j ∷ []) s ≡ true → s < length gs → (get_or gs s e).rival ≤ generality m → ⊥
+      by_guard : (s : ℕ) → has_row (i ∷ j ∷ []) s ≡ true → s < length gs → (get_or gs s e).rival ≤ generality m → ⊥
       by_guard s member inside low =
           let at : generality (merged_block rows (i ∷ j ∷ [])) ≡ generality m = ap generality (pair_block d) in
           guard_refuses rows (i ∷ j ∷ []) sound.ordered s (λ r less in_set. one_route rows (i ∷ j ∷ []) set.set s r member in_set less) (get_or gs s e) (guards s e inside) (generality (merged_block rows (i ∷ j ∷ []))) (omega (arith, at, low)) (generality_le (merged_block rows (i ∷ j ∷ [])))
@@ -397,10 +397,10 @@ met_read list m g p t ordered is_g is_p tells came all =
 -- ---- the pairs of a row
 
 -- up to the next row of the route there is none of it
-pub refused_first : (rows : List Row) (gs : List Guard) (i j : ℕ) → IsNext rows i j → (b : ℕ) → i < b → b < j → b < length rows → IsRefusedAt rows gs i b
+pub refused_first : (rows : List Row) (gs : List Guard) (i j : ℕ) → IsNextOfRoute rows i j → (b : ℕ) → i < b → b < j → b < length rows → IsRefusedAt rows gs i b
 refused_first rows gs i j next b from before within d e bits = absurd (next.between b d from before within (sym bits))
 
-pub refused_next : (rows : List Row) (gs : List Guard) (i j x : ℕ) → j < length rows → ((d : Row) → (get_or rows j d).route.bits ≡ (get_or rows i d).route.bits) → IsNext rows j x → IsRefusedAt rows gs i j
+pub refused_next : (rows : List Row) (gs : List Guard) (i j x : ℕ) → j < length rows → ((d : Row) → (get_or rows j d).route.bits ≡ (get_or rows i d).route.bits) → IsNextOfRoute rows j x → IsRefusedAt rows gs i j
     → ((b : ℕ) → i < b → b < j → b < length rows → IsRefusedAt rows gs i b) → (b : ℕ) → i < b → b < x → b < length rows → IsRefusedAt rows gs i b
 refused_next rows gs i j x inside same next here before b from to within = elim (cases_order b j) [
   | inl at ↦ subst (IsRefusedAt rows gs i) (sym at) here
@@ -413,7 +413,7 @@ refused_next rows gs i j x inside same next here before b from to within = elim 
 -- ---- the rows that changed last
 
 -- one row more, by the next of its route
-latest_here : (rows : List Row) (gs : List Guard) (k x v t : ℕ) → length gs ≡ length rows → IsNext rows k x → ((e : Guard) → x < length gs → (get_or gs x e).changed ≤ v) → (x < length gs → t ≤ v) → (x < length rows → IsLatest rows gs x t) → IsLatest rows gs k v
+latest_here : (rows : List Row) (gs : List Guard) (k x v t : ℕ) → length gs ≡ length rows → IsNextOfRoute rows k x → ((e : Guard) → x < length gs → (get_or gs x e).changed ≤ v) → (x < length gs → t ≤ v) → (x < length rows → IsLatest rows gs x t) → IsLatest rows gs k v
 latest_here rows gs k x v t same next here later rest b d e behind within bits = elim (cases_order b x) [
   | inl at ↦ subst (λ n. (get_or gs n e).changed ≤ v) (sym at) (here e (omega (arith, at, same, within)))
   | inr apart ↦ elim apart [
@@ -424,7 +424,7 @@ latest_here rows gs k x v t same next here later rest b d e behind within bits =
   ]
 ]
 
-pub latest_more : (rows : List Row) (gs : List Guard) (now new : List ℕ) (k x v : ℕ) → length gs ≡ length rows → length now ≡ length rows → k < length rows → IsNext rows k x → ((e : Guard) → x < length gs → (get_or gs x e).changed ≤ v) → (x < length gs → get_or now x 0 ≤ v)
+pub latest_more : (rows : List Row) (gs : List Guard) (now new : List ℕ) (k x v : ℕ) → length gs ≡ length rows → length now ≡ length rows → k < length rows → IsNextOfRoute rows k x → ((e : Guard) → x < length gs → (get_or gs x e).changed ≤ v) → (x < length gs → get_or now x 0 ≤ v)
     → new ≡ set now k v → ((j : ℕ) → k + 1 ≤ j → j < length rows → IsLatest rows gs j (get_or now j 0)) → (j : ℕ) → k ≤ j → j < length rows → IsLatest rows gs j (get_or new j 0)
 latest_more rows gs now new k x v same times inside next here later is done j from within = subst (λ l. IsLatest rows gs j (get_or l j 0)) (sym is) (by_case (cases_order j k))
   where
@@ -436,14 +436,14 @@ latest_more rows gs now new k x v same times inside next here later is done j fr
     by_case (inr (inr after)) = subst (IsLatest rows gs j) (sym (get_or-set_other now k j v 0 (λ at. omega (arith, at, after)))) (done j (omega (arith, after)) within)
 
 -- a mark changes no time
-pub latest_kept : (now : ℕ) (rows : List Row) (gs new : List Guard) (latest : List ℕ) (s : ℕ) (g old : Guard) (settled : Bool) → length gs ≡ length rows → s < length gs → old ≡ get_or gs s old → new ≡ set gs s g → (g ≡ old) ⊎ ((IsTrue settled) × (IsMarked now old g))
+pub latest_kept : (now : ℕ) (rows : List Row) (gs new : List Guard) (latest : List ℕ) (s : ℕ) (g old : Guard) (settled : Bool) → length gs ≡ length rows → s < length gs → old ≡ get_or gs s old → new ≡ set gs s g → (g ≡ old) ⊎ ((IsTrue settled) × (IsTriedNow now old g))
     → AreLatest rows gs latest → AreLatest rows new latest
 latest_kept now rows gs new latest s g old settled same inside is_old is told each k in_rows b d e behind within bits = subst (λ l. (get_or l b e).changed ≤ get_or latest k 0) (sym is) (by_case (cases_eq b s))
   where
     before : (get_or gs b e).changed ≤ get_or latest k 0
     before = each k in_rows b d e behind within bits
 
-    changed_at : (g ≡ old) ⊎ ((IsTrue settled) × (IsMarked now old g)) → g.changed ≡ (get_or gs s e).changed
+    changed_at : (g ≡ old) ⊎ ((IsTrue settled) × (IsTriedNow now old g)) → g.changed ≡ (get_or gs s e).changed
     changed_at (inl kept) = ap (λ (x : Guard). x.changed) (kept ∙ is_old ∙ get_or_default gs s old e inside)
     changed_at (inr (yes_settled, mark)) = mark.changed ∙ ap (λ (x : Guard). x.changed) (is_old ∙ get_or_default gs s old e inside)
 

@@ -4,7 +4,7 @@ use Rattle.std.specs.Prelude.{◌≡◌, ◌==◌, ℕ, suc, ◌<◌, ◌≤◌,
 use Rattle.std.specs.List.{Contains}
 use Rattle.spin_base.specs.declared.routes.Route.{Route}
 use Rattle.tern_word.specs.declared.tables.Row.{Row}
-use Rattle.cover_checks.specs.Merge.{after, IsMergeSet, IsLegal}
+use Rattle.cover_merge.specs.Merge.{after, IsMergeSet, IsLegal}
 use Rattle.cover_merge.specs.Refinement.{Refines}
 
 -- the places of all rows of the route, which has these bits; places are counted from i

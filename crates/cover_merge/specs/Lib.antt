@@ -1,6 +1,6 @@
 pub use Rattle.tern_word.specs.SoundTable
 pub use Rattle.tern_word.specs.Ternary
-pub use Rattle.cover_checks.specs.Merge
+pub mod Merge
 pub mod Aliases
 pub mod Covering
 pub mod Guards

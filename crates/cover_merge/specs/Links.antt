@@ -21,13 +21,13 @@ pub record IsAhead (numbers : List ℕ) (from number place : ℕ) : Type 0 where
   pub none : (j : ℕ) → from ≤ j → j < place → j < length numbers → slice_index numbers j ≡ number → ⊥
 
 -- the next row of the route of row k is that at the place, and there is none where the place is not in the table
-pub record IsNext (rows : List Row) (k place : ℕ) : Type 0 where
+pub record IsNextOfRoute (rows : List Row) (k place : ℕ) : Type 0 where
   pub behind : k < place
   pub same : (d : Row) → place < length rows → (slice_index_or rows place d).route.bits ≡ (slice_index_or rows k d).route.bits
   pub between : (j : ℕ) (d : Row) → k < j → j < place → j < length rows → (slice_index_or rows j d).route.bits ≡ (slice_index_or rows k d).route.bits → ⊥
 
 -- the first row of the route of row k is that at the place
-pub record IsFirst (rows : List Row) (k place : ℕ) : Type 0 where
+pub record IsFirstOfRoute (rows : List Row) (k place : ℕ) : Type 0 where
   pub up_to : place ≤ k
   pub same : (d : Row) → (slice_index_or rows place d).route.bits ≡ (slice_index_or rows k d).route.bits
   pub before : (j : ℕ) (d : Row) → j < place → (slice_index_or rows j d).route.bits ≡ (slice_index_or rows k d).route.bits → ⊥
@@ -36,5 +36,5 @@ pub record IsFirst (rows : List Row) (k place : ℕ) : Type 0 where
 pub record AreLinks (rows : List Row) (nexts firsts : List ℕ) : Type 0 where
   pub one_next : length nexts ≡ length rows
   pub one_first : length firsts ≡ length rows
-  pub next : (k : ℕ) → k < length rows → IsNext rows k (slice_index nexts k)
-  pub first : (k : ℕ) → k < length rows → IsFirst rows k (slice_index firsts k)
+  pub next : (k : ℕ) → k < length rows → IsNextOfRoute rows k (slice_index nexts k)
+  pub first : (k : ℕ) → k < length rows → IsFirstOfRoute rows k (slice_index firsts k)

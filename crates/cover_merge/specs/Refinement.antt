@@ -8,13 +8,13 @@ use Rattle.tern_word.specs.declared.tables.Alias.{Alias}
 use Rattle.tern_word.specs.declared.tables.Row.{Row}
 use Rattle.tern_word.specs.Ternary.{Intersects}
 use Rattle.tern_word.specs.SoundTable.{Misses}
-use Rattle.cover_checks.specs.Merge.{has, merged_block, insert_place, PassesUp, PassesUpCheck, PassesDownCheck}
+use Rattle.cover_merge.specs.Merge.{has_row, merged_block, insert_place, PassesUp, PassesUpCheck, PassesDownCheck}
 
 -- the greatest place of the set for which the up-check with insertion place p fails
 pub record IsLastFailing (rows : List Row) (places : List ℕ) (p s : ℕ) : Type 0 where
-  pub member : has places s ≡ true
+  pub member : has_row places s ≡ true
   pub failing : PassesUp rows places s p → ⊥
-  pub behind : (t : ℕ) → has places t ≡ true → s < t → PassesUp rows places t p
+  pub behind : (t : ℕ) → has_row places t ≡ true → s < t → PassesUp rows places t p
 
 -- for each place of the set the merge of the rows up to it
 pub record AreMerges (rows : List Row) (places : List ℕ) (merges : List Block) : Type 0 where
@@ -22,14 +22,14 @@ pub record AreMerges (rows : List Row) (places : List ℕ) (merges : List Block)
   pub each : (k : ℕ) (d : Block) → k < length merges → slice_index_or merges k d ≡ merged_block rows (take (k + 1) places)
 
 -- the set without the place
-abbrev pub without : ℕ → List ℕ → List ℕ
-without s places = filter (λ t. not (t == s)) places
+abbrev pub set_without : ℕ → List ℕ → List ℕ
+set_without s places = filter (λ t. not (t == s)) places
 
 -- Where the up-check fails, the greatest place for which it fails is taken out.
 pub record IsUpStep (rows : List Row) (old new : List ℕ) : Type 0 where
   pub place : ℕ
   pub last : IsLastFailing rows old (insert_place rows old) place
-  pub result : new ≡ without place old
+  pub result : new ≡ set_without place old
 
 -- the block of the first of the aliases that the block b meets
 pub record IsFirstMet (b : Block) (aliases : List Alias) (met : Block) : Type 0 where

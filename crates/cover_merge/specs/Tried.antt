@@ -12,22 +12,22 @@ HasMet rows b = All (λ (x : Row). generality b < generality x.block → Misses 
 
 -- Two rows of one route are refused where one of them has a rival of at most the generality of their merge, or where
 -- the merge meets an alias of a row of greater generality. The numbers are the generalities of their first rivals.
-abbrev pub IsRefused : List Row → Row → ℕ → Row → ℕ → Type 0
-IsRefused rows r m s n =
+abbrev pub IsRefusedPair : List Row → Row → ℕ → Row → ℕ → Type 0
+IsRefusedPair rows r m s n =
     r.route.bits ≡ s.route.bits → (m ≤ generality (merge_two r.block s.block)) ⊎ ((n ≤ generality (merge_two r.block s.block)) ⊎ HasMet rows (merge_two r.block s.block))
 
 -- the same of the rows at two places, by what their guards tell
 abbrev pub IsRefusedAt : List Row → List Guard → ℕ → ℕ → Type 0
-IsRefusedAt rows guards i j = (d : Row) (e : Guard) → IsRefused rows (slice_index_or rows i d) (slice_index_or guards i e).rival (slice_index_or rows j d) (slice_index_or guards j e).rival
+IsRefusedAt rows guards i j = (d : Row) (e : Guard) → IsRefusedPair rows (slice_index_or rows i d) (slice_index_or guards i e).rival (slice_index_or rows j d) (slice_index_or guards j e).rival
 
 -- a row is refused with each later one that has not changed since the row was tried
 abbrev pub AreTried : List Row → List Guard → Type 0
 AreTried rows guards =
     (i j : ℕ) (d : Row) (e : Guard) → i < j → j < length guards → (slice_index_or guards j e).changed < (slice_index_or guards i e).tried
-    → IsRefused rows (slice_index_or rows i d) (slice_index_or guards i e).rival (slice_index_or rows j d) (slice_index_or guards j e).rival
+    → IsRefusedPair rows (slice_index_or rows i d) (slice_index_or guards i e).rival (slice_index_or rows j d) (slice_index_or guards j e).rival
 
 -- and no row was tried later than now
-pub record AreMarked (now : ℕ) (rows : List Row) (guards : List Guard) : Type 0 where
+pub record AreTriedUpTo (now : ℕ) (rows : List Row) (guards : List Guard) : Type 0 where
   pub tried : AreTried rows guards
   pub bound : All (λ (g : Guard). g.tried ≤ now) guards
 
@@ -43,7 +43,7 @@ pub record IsNoLaxer (old new : Guard) : Type 0 where
   pub changed : new.changed ≡ old.changed
 
 -- the same guard, of a row that was tried now
-pub record IsMarked (now : ℕ) (old new : Guard) : Type 0 where
+pub record IsTriedNow (now : ℕ) (old new : Guard) : Type 0 where
   pub rival : new.rival ≡ old.rival
   pub clear : new.clear ≡ old.clear
   pub changed : new.changed ≡ old.changed

@@ -1,11 +1,11 @@
 // The table after a merge.
 ghost use Rattle.std.specs.Prelude.{◌≡◌, ◌<◌, ◌≤◌, ◌^◌, All, AllPairs, IfOk, OnOk, OnErr, length, insert, not};
 ghost use Rattle.tern_word.specs.SoundTable.{IsOrdered};
-ghost use Rattle.cover_checks.specs.Merge.{IsMergeSet, after, has, kept, merged_row, picked, rows_at};
+ghost use Rattle.cover_merge.specs.Merge.{IsMergeSet, after, has_row, kept, merged_row, picked, rows_at};
 ghost use Rattle.cover_merge.specs.Aliases.{aliases_at};
 
 use crate::guards::place_in;
-use cover_checks::merged_block;
+use crate::merged_block;
 use spin_base::{Memory, Seq};
 use std::alloc::Global;
 use std::mem;
@@ -60,7 +60,8 @@ fn put_in(rows: &mut Vec<Row>, merged: Row, place: u32, places: &[u32]) -> Resul
     requires place { place ≤ length rows.old.items }
     requires ascending { AllPairs (λ s t. s < t) places.now }
     requires before { All (λ s. s < place) places.now }
-    ensures ok { OnOk result (rows.new.items ≡ kept places.now 0 (insert rows.old.items place merged)) }
+    ensures ok { OnOk result (rows.new.items
+        ≡ kept places.now 0 (insert rows.old.items place merged)) }
     ensures err { OnErr result (rows.new.items ≡ rows.old.items) }
 {
     rows.insert(place as usize, merged)?;
@@ -72,7 +73,7 @@ fn put_in(rows: &mut Vec<Row>, merged: Row, place: u32, places: &[u32]) -> Resul
 pub(crate) fn take_out_all<T: Drop>(items: &mut Vec<T>, places: &[u32])
     requires ascending { AllPairs (λ s t. s < t) places.now }
     requires in_range { All (λ s. s < length items.old.items) places.now }
-    ensures { items.new.items ≡ picked (λ k. not (has places.now k)) 0 items.old.items }
+    ensures { items.new.items ≡ picked (λ k. not (has_row places.now k)) 0 items.old.items }
 {
     let mut i = places.len();
     while i > 0 {

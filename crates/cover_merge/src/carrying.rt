@@ -2,9 +2,9 @@
 ghost use Rattle.std.specs.Prelude.{◌≡◌, ◌<◌, ◌≤◌, ◌^◌, ◌⊎◌, OnOk, length, slice_index_or};
 ghost use Rattle.tern_word.specs.declared.tables.Row.{Row as ARow};
 ghost use Rattle.tern_word.specs.SoundTable.{IsOrdered, IsSound, Misses};
-ghost use Rattle.cover_checks.specs.Merge.{IsMergeSet, after, merged_block};
+ghost use Rattle.cover_merge.specs.Merge.{IsMergeSet, after, merged_block};
 ghost use Rattle.cover_merge.specs.Guards.{AreGuards, AreGuardsBut, AreNextJoined, IsGuardAt};
-ghost use Rattle.cover_merge.specs.Tried.{AreMarked, IsFresh, IsNoLaxer};
+ghost use Rattle.cover_merge.specs.Tried.{AreTriedUpTo, IsFresh, IsNoLaxer};
 
 use crate::applying::take_out_all;
 use crate::guards::{Guard, guard_of, joined_behind, place_in, unknown};
@@ -25,12 +25,13 @@ pub(crate) fn carry(
     requires ordered { IsOrdered rows.now }
     requires one_each { length guards.old.items ≡ length rows.now }
     requires guards { AreGuards rows.now guards.old.items }
-    requires marks { AreMarked now rows.now guards.old.items }
+    requires marks { AreTriedUpTo now rows.now guards.old.items }
     requires set { IsMergeSet rows.now places.now }
     requires merged { merged ≡ merged_block rows.now places.now }
-    ensures guards { OnOk result (AreGuardsBut merged (after rows.now places.now) guards.new.items) }
+    ensures guards { OnOk result (AreGuardsBut merged
+        (after rows.now places.now) guards.new.items) }
     ensures one_each { OnOk result (length guards.new.items ≡ length (after rows.now places.now)) }
-    ensures marks { OnOk result (AreMarked now (after rows.now places.now) guards.new.items) }
+    ensures marks { OnOk result (AreTriedUpTo now (after rows.now places.now) guards.new.items) }
 {
     let place = place_in(rows, generality(merged));
     guards.insert(place as usize, unknown(now))?;
@@ -49,10 +50,10 @@ pub(crate) fn renew(
     requires sound { IsSound rows.now }
     requires one_each { length guards.old.items ≡ length rows.now }
     requires guards { AreGuardsBut merged rows.now guards.old.items }
-    requires marks { AreMarked now rows.now guards.old.items }
+    requires marks { AreTriedUpTo now rows.now guards.old.items }
     ensures one_each { OnOk result (length guards.new.items ≡ length rows.now) }
     ensures guards { OnOk result (AreGuards rows.now guards.new.items) }
-    ensures marks { OnOk result (AreMarked now rows.now guards.new.items) }
+    ensures marks { OnOk result (AreTriedUpTo now rows.now guards.new.items) }
 {
     let joined = joined_behind(alloc, rows)?;
     for s in 0..rows.len() {
@@ -74,7 +75,8 @@ fn renewed(
     requires sound { IsSound rows.now }
     requires joined { AreNextJoined rows.now joined.now }
     requires inside { s < length rows.now }
-    requires guard { ((d : ARow) → Misses merged (slice_index_or rows.now s d)) → IsGuardAt rows.now s guard }
+    requires guard { ((d : ARow) → Misses merged (slice_index_or rows.now s d))
+        → IsGuardAt rows.now s guard }
     ensures guard { IsGuardAt rows.now s result }
     ensures marks { (IsNoLaxer guard result) ⊎ (IsFresh now result) }
 {

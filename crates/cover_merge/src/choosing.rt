@@ -3,7 +3,7 @@ ghost use Rattle.std.specs.Prelude.{◌≡◌, ◌+◌, ◌<◌, ◌≤◌, ◌^
 ghost use Rattle.tern_word.specs.SoundTable.{IsSound};
 ghost use Rattle.tern_word.specs.declared.tables.Row.{Row as ARow};
 ghost use Rattle.cover_merge.specs.Guards.{AreGuards};
-ghost use Rattle.cover_merge.specs.Tried.{IsRefusedAt, AreTried, AreMarked, AreLatest};
+ghost use Rattle.cover_merge.specs.Tried.{IsRefusedAt, AreTried, AreTriedUpTo, AreLatest};
 ghost use Rattle.cover_merge.specs.declared.guards.Guard.{Guard as AGuard};
 ghost use Rattle.cover_merge.specs.Links.{AreLinks};
 ghost use Rattle.cover_merge.specs.Covering.{places_of, IsBestBefore, StandsBefore, IsFirstPartner, IsLargest, HasNoLargest, IsLegalPair, HasNoLegalPair, IsFirstLegalPair, IsChosen, HasNoChosen};
@@ -28,12 +28,13 @@ pub(crate) fn chosen(
     requires sound { IsSound table.now.rows }
     requires one_each { length guards.old.items ≡ length table.now.rows }
     requires guards { AreGuards table.now.rows guards.old.items }
-    requires marks { AreMarked now table.now.rows guards.old.items }
+    requires marks { AreTriedUpTo now table.now.rows guards.old.items }
     requires links { AreLinks table.now.rows links.now.next.items links.now.first.items }
-    ensures found { IfOk result (λ found. MatchOption found (HasNoChosen table.now.rows) (λ set. IsChosen table.now.rows set)) }
+    ensures found { IfOk result (λ found. MatchOption found (HasNoChosen table.now.rows) (λ set.
+        IsChosen table.now.rows set)) }
     ensures one_each { OnOk result (length guards.new.items ≡ length table.now.rows) }
     ensures guards { OnOk result (AreGuards table.now.rows guards.new.items) }
-    ensures marks { OnOk result (AreMarked now table.now.rows guards.new.items) }
+    ensures marks { OnOk result (AreTriedUpTo now table.now.rows guards.new.items) }
 {
     match largest(alloc, table, guards, links)? {
         Some(set) => Ok(Some(set)),
@@ -59,7 +60,8 @@ fn largest(
     requires sound { IsSound table.now.rows }
     requires guards { AreGuards table.now.rows guards.now }
     requires links { AreLinks table.now.rows links.now.next.items links.now.first.items }
-    ensures { IfOk result (λ found. MatchOption found (HasNoLargest table.now.rows) (λ set. IsLargest table.now.rows set)) }
+    ensures { IfOk result (λ found. MatchOption found (HasNoLargest table.now.rows) (λ set.
+        IsLargest table.now.rows set)) }
 {
     let mut best = Best {
         set: Seq::new(alloc),
@@ -107,7 +109,8 @@ fn better(
 
 // Whether n places of one route are more than m of another, or as many and of the lesser route.
 fn beats(n: usize, bits: u32, m: usize, other: u32) -> bool
-    ensures { MatchBool result ((m < n) ⊎ ((n ≡ m) × (bits < other))) ((n < m) ⊎ ((n ≡ m) × (other ≤ bits))) }
+    ensures { MatchBool result ((m < n) ⊎ ((n ≡ m) × (bits < other))) ((n < m)
+        ⊎ ((n ≡ m) × (other ≤ bits))) }
 {
     m < n || (n == m && bits < other)
 }
@@ -118,7 +121,8 @@ fn places_from(alloc: Global, rows: &[Row], links: &Links, k: usize) -> Result<S
     requires links { AreLinks rows.now links.now.next.items links.now.first.items }
     requires inside { k < length rows.now }
     requires first { k ≤ slice_index links.now.first.items k }
-    ensures { IfOk result (λ places. (d : ARow) → places ≡ places_of (slice_index_or rows.now k d).route.bits 0 rows.now) }
+    ensures { IfOk result (λ places. (d : ARow)
+        → places ≡ places_of (slice_index_or rows.now k d).route.bits 0 rows.now) }
 {
     let mut places = Vec::new(alloc);
     let mut place = k;
@@ -141,12 +145,13 @@ fn first_pair(
     requires sound { IsSound table.now.rows }
     requires one_each { length guards.old.items ≡ length table.now.rows }
     requires guards { AreGuards table.now.rows guards.old.items }
-    requires marks { AreMarked now table.now.rows guards.old.items }
+    requires marks { AreTriedUpTo now table.now.rows guards.old.items }
     requires links { AreLinks table.now.rows links.now.next.items links.now.first.items }
-    ensures found { IfOk result (λ found. MatchOption found (HasNoLegalPair table.now.rows) (λ set. IsFirstLegalPair table.now.rows set)) }
+    ensures found { IfOk result (λ found. MatchOption found (HasNoLegalPair table.now.rows) (λ set.
+        IsFirstLegalPair table.now.rows set)) }
     ensures one_each { OnOk result (length guards.new.items ≡ length table.now.rows) }
     ensures guards { OnOk result (AreGuards table.now.rows guards.new.items) }
-    ensures marks { OnOk result (AreMarked now table.now.rows guards.new.items) }
+    ensures marks { OnOk result (AreTriedUpTo now table.now.rows guards.new.items) }
 {
     let latest = latest_of(alloc, table, guards, links)?;
     for i in 0..table.rows.len() {
@@ -183,7 +188,8 @@ fn latest_of(
 // When the row at the place or one behind it of its route last changed, where there is a row.
 fn latest_from(guards: &[Guard], latest: &[usize], place: u32) -> usize
     requires times { length latest.now ≡ length guards.now }
-    ensures here { (e : AGuard) → place < length guards.now → (slice_index_or guards.now place e).changed ≤ result }
+    ensures here { (e : AGuard) → place < length guards.now
+        → (slice_index_or guards.now place e).changed ≤ result }
     ensures behind { place < length guards.now → slice_index latest.now place ≤ result }
 {
     if (place as usize) >= guards.len() {
@@ -222,8 +228,10 @@ fn partner(table: &Table, guards: &[Guard], links: &Links, latest: &[usize], i: 
     requires latest { AreLatest table.now.rows guards.now latest.now }
     requires times { length latest.now ≡ length table.now.rows }
     requires inside { i < length table.now.rows }
-    ensures place { MatchOption result.place ((b : ℕ) → IsLegalPair table.now.rows i b → ⊥) (λ j. IsFirstPartner table.now.rows i j) }
-    ensures settled { IsTrue result.settled → (b : ℕ) → i < b → b < length table.now.rows → IsRefusedAt table.now.rows guards.now i b }
+    ensures place { MatchOption result.place ((b : ℕ) → IsLegalPair table.now.rows i b
+        → ⊥) (λ j. IsFirstPartner table.now.rows i j) }
+    ensures settled { IsTrue result.settled → (b : ℕ) → i < b → b < length table.now.rows
+        → IsRefusedAt table.now.rows guards.now i b }
 {
     if latest[i as usize] < guards[i as usize].tried {
         return Search {

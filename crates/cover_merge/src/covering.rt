@@ -2,10 +2,10 @@
 ghost use Rattle.std.specs.Prelude.{◌≡◌, ◌<◌, ◌≤◌, ◌^◌, ◌⊎◌, IfOk, OnOk, MatchOption, length, map};
 ghost use Rattle.tern_word.specs.SoundTable.{IsOrdered, IsSound, served};
 ghost use Rattle.std.specs.List.Sorted.{IsPermutation};
-ghost use Rattle.cover_checks.specs.Merge.{IsLegal, IsMergeSet, after};
+ghost use Rattle.cover_merge.specs.Merge.{IsLegal, IsMergeSet, after};
 ghost use Rattle.cover_merge.specs.Guards.{AreGuards};
 ghost use Rattle.cover_merge.specs.Links.{AreNumbers};
-ghost use Rattle.cover_merge.specs.Tried.{AreMarked};
+ghost use Rattle.cover_merge.specs.Tried.{AreTriedUpTo};
 ghost use Rattle.cover_merge.specs.Covering.{Covers, HasNoChosen, HasNoLegalPair, HasRoutesOf, IsChosen};
 ghost use Rattle.cover_merge.specs.Merges.{sets_of};
 
@@ -14,7 +14,7 @@ use crate::carrying::{carry, renew};
 use crate::choosing::chosen;
 use crate::guards::{Guard, guards_of};
 use crate::links::{carry_numbers, links_of, numbers_of};
-use cover_checks::merged_block;
+use crate::merged_block;
 use spin_base::{Memory, Seq, Shared};
 use std::alloc::Global;
 use tern_word::Table;
@@ -45,7 +45,8 @@ pub fn cover(alloc: Global, mut table: Table, target: u32) -> Result<Covered, Me
     ensures serves { IfOk result (λ c. IsPermutation (served table.rows) (served c.table.rows)) }
     ensures few { IfOk result (λ c. length c.table.rows ≤ length table.rows) }
     ensures routes { IfOk result (λ c. HasRoutesOf table.rows c.table.rows) }
-    ensures ended { IfOk result (λ c. (length c.table.rows ≤ target) ⊎ (HasNoLegalPair c.table.rows)) }
+    ensures ended { IfOk result (λ c. (length c.table.rows ≤ target)
+        ⊎ (HasNoLegalPair c.table.rows)) }
 {
     let mut guards = guards_of(alloc, table.rows.as_slice())?;
     let limit = table.rows.len();
@@ -74,13 +75,15 @@ fn merge_next(
     requires sound { IsSound table.old.rows }
     requires one_each { length guards.old.items ≡ length table.old.rows }
     requires guards { AreGuards table.old.rows guards.old.items }
-    requires marks { AreMarked now table.old.rows guards.old.items }
+    requires marks { AreTriedUpTo now table.old.rows guards.old.items }
     requires numbers { AreNumbers limit table.old.rows numbers.old.items }
-    ensures found { IfOk result (λ made. MatchOption made (HasNoChosen table.old.rows) (IsChosen table.old.rows)) }
-    ensures table { IfOk result (λ made. MatchOption made (table.new.rows ≡ table.old.rows) (λ places. table.new.rows ≡ after table.old.rows places)) }
+    ensures found { IfOk result (λ made. MatchOption made (HasNoChosen table.old.rows)
+        (IsChosen table.old.rows)) }
+    ensures table { IfOk result (λ made. MatchOption made (table.new.rows
+        ≡ table.old.rows) (λ places. table.new.rows ≡ after table.old.rows places)) }
     ensures one_each { OnOk result (length guards.new.items ≡ length table.new.rows) }
     ensures guards { OnOk result (AreGuards table.new.rows guards.new.items) }
-    ensures marks { OnOk result (AreMarked now table.new.rows guards.new.items) }
+    ensures marks { OnOk result (AreTriedUpTo now table.new.rows guards.new.items) }
     ensures numbers { OnOk result (AreNumbers limit table.new.rows numbers.new.items) }
 {
     let links = links_of(alloc, table.rows.as_slice(), numbers, limit)?;
@@ -106,13 +109,13 @@ fn merge_at(
     requires ordered { IsOrdered table.old.rows }
     requires one_each { length guards.old.items ≡ length table.old.rows }
     requires guards { AreGuards table.old.rows guards.old.items }
-    requires marks { AreMarked now table.old.rows guards.old.items }
+    requires marks { AreTriedUpTo now table.old.rows guards.old.items }
     requires set { IsMergeSet table.old.rows places.now }
     requires legal { IsLegal table.old.rows places.now }
     ensures table { OnOk result (table.new.rows ≡ after table.old.rows places.now) }
     ensures one_each { OnOk result (length guards.new.items ≡ length table.new.rows) }
     ensures guards { OnOk result (AreGuards table.new.rows guards.new.items) }
-    ensures marks { OnOk result (AreMarked now table.new.rows guards.new.items) }
+    ensures marks { OnOk result (AreTriedUpTo now table.new.rows guards.new.items) }
 {
     let rows = table.rows.as_slice();
     let members = places.as_slice();

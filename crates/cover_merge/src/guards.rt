@@ -3,11 +3,11 @@ ghost use Rattle.std.specs.Prelude.{◌≡◌, ◌<◌, ◌≤◌, ◌^◌, ◌�
 ghost use Rattle.tern_word.specs.declared.tables.Row.{Row as ARow};
 ghost use Rattle.tern_word.specs.Ternary.{generality};
 ghost use Rattle.tern_word.specs.SoundTable.{IsOrdered, IsSound, Misses};
-ghost use Rattle.cover_checks.specs.Merge.{has, place_for, SameRoute, IsMergeSet, IsLegal, IsClear, PassesUp};
+ghost use Rattle.cover_merge.specs.Merge.{has_row, place_for, SameRoute, IsMergeSet, IsLegal, IsClearOf, PassesUp};
 ghost use Rattle.cover_merge.specs.Guards.{IsRival, HasRival, IsGuardAt, AreGuards, IsSilent, IsOriginal, AreNextJoined};
-ghost use Rattle.cover_merge.specs.Tried.{IsFresh, IsRefusedAt, AreTried, AreMarked, IsMarked};
+ghost use Rattle.cover_merge.specs.Tried.{IsFresh, IsRefusedAt, AreTried, AreTriedUpTo, IsTriedNow};
 
-use cover_checks::{is_clear, merged_block, passes_down};
+use crate::{is_clear, merged_block, passes_down};
 use spin_base::Memory;
 use std::alloc::Global;
 use tern_word::{Row, Table, generality, merge_two, misses};
@@ -52,7 +52,7 @@ pub(crate) fn guards_of(alloc: Global, rows: &[Row]) -> Result<Vec<Guard>, Memor
     requires sound { IsSound rows.now }
     ensures guards { IfOk result (λ v. AreGuards rows.now v.items) }
     ensures one_each { IfOk result (λ v. length v.items ≡ length rows.now) }
-    ensures marks { IfOk result (λ v. AreMarked 0 rows.now v.items) }
+    ensures marks { IfOk result (λ v. AreTriedUpTo 0 rows.now v.items) }
 {
     let joined = joined_behind(alloc, rows)?;
     let mut guards = Vec::with_capacity(alloc, rows.len())?;
@@ -118,7 +118,8 @@ fn next_to_meet(rows: &[Row], joined: &[usize], s: usize) -> usize
     requires joined { AreNextJoined rows.now joined.now }
     requires inside { s < length rows.now }
     ensures behind { s < result }
-    ensures missed { (r : ℕ) (d : ARow) → s < r → r < result → Misses (slice_index_or rows.now r d).block (slice_index_or rows.now s d) }
+    ensures missed { (r : ℕ) (d : ARow) → s < r → r < result
+        → Misses (slice_index_or rows.now r d).block (slice_index_or rows.now s d) }
 {
     let mut r = joined[s];
     while r < rows.len() {
@@ -134,7 +135,8 @@ fn next_to_meet(rows: &[Row], joined: &[usize], s: usize) -> usize
 fn first_rival(rows: &[Row], s: usize, from: usize) -> u32
     requires inside { s < length rows.now }
     requires behind { s < from }
-    ensures { (d : ARow) → result ≤ 32 → HasRival (slice_index_or rows.now s d) result (drop (suc s) rows.now) }
+    ensures { (d : ARow) → result ≤ 32
+        → HasRival (slice_index_or rows.now s d) result (drop (suc s) rows.now) }
 {
     for r in from..rows.len() {
         if is_rival(&rows[s], &rows[r]) {
@@ -157,7 +159,8 @@ fn is_rival(row: &Row, later: &Row) -> bool
 // The generality of the row at the place: none at or behind it has a lesser one.
 fn general_from(rows: &[Row], place: usize) -> u32
     requires ordered { IsOrdered rows.now }
-    ensures { (k : ℕ) (d : ARow) → place ≤ k → k < length rows.now → result ≤ generality (slice_index_or rows.now k d).block }
+    ensures { (k : ℕ) (d : ARow) → place ≤ k → k < length rows.now
+        → result ≤ generality (slice_index_or rows.now k d).block }
 {
     if place < rows.len() {
         return generality(rows[place].block);
@@ -182,7 +185,7 @@ pub(crate) fn passes(rows: &[Row], guards: &[Guard], places: &[u32], s: u32, gen
     requires ordered { IsOrdered rows.now }
     requires guards { AreGuards rows.now guards.now }
     requires inside { s < length rows.now }
-    requires one_route { (r : ℕ) → s < r → has places.now r ≡ true → SameRoute rows.now s r }
+    requires one_route { (r : ℕ) → s < r → has_row places.now r ≡ true → SameRoute rows.now s r }
     requires low { general ≤ 32 }
     ensures { IsTrue result ↔ PassesUp rows.now places.now s (place_for rows.now general) }
 {
@@ -202,7 +205,8 @@ fn place_below(rows: &[Row], clear: u32) -> u32
     requires few { length rows.now < 2 ^ 32 }
     requires ordered { IsOrdered rows.now }
     ensures bound { result ≤ length rows.now }
-    ensures below { (k : ℕ) (d : ARow) → k < result → generality (slice_index_or rows.now k d).block < clear }
+    ensures below { (k : ℕ) (d : ARow) → k < result
+        → generality (slice_index_or rows.now k d).block < clear }
 {
     if clear == 0 {
         return 0;
@@ -214,7 +218,7 @@ fn place_below(rows: &[Row], clear: u32) -> u32
 fn passes_from(rows: &[Row], places: &[u32], s: u32, from: u32, p: u32) -> bool
     requires within { s < length rows.now }
     requires place { p ≤ length rows.now }
-    requires cleared { (r : ℕ) → s < r → r < from → IsClear rows.now places.now s r }
+    requires cleared { (r : ℕ) → s < r → r < from → IsClearOf rows.now places.now s r }
     ensures { IsTrue result ↔ PassesUp rows.now places.now s p }
 {
     for r in from..p {
@@ -229,7 +233,7 @@ fn passes_from(rows: &[Row], places: &[u32], s: u32, from: u32, p: u32) -> bool
 fn is_clear_behind(rows: &[Row], places: &[u32], s: u32, r: u32) -> bool
     requires row { r < length rows.now }
     requires member { s < length rows.now }
-    ensures { IsTrue result ↔ (s < r → IsClear rows.now places.now s r) }
+    ensures { IsTrue result ↔ (s < r → IsClearOf rows.now places.now s r) }
 {
     if r <= s {
         return true;
@@ -336,7 +340,7 @@ fn is_refused(table: &Table, guards: &[Guard], i: u32, j: u32) -> bool
 
 /// The guard of a row that was tried now, where each pair of it is refused until it changes.
 pub(crate) fn marked(guard: Guard, settled: bool, now: usize) -> Guard
-    ensures { (result ≡ guard) ⊎ ((IsTrue settled) × (IsMarked now guard result)) }
+    ensures { (result ≡ guard) ⊎ ((IsTrue settled) × (IsTriedNow now guard result)) }
 {
     if settled {
         return Guard {

@@ -1,12 +1,12 @@
 // The rows of one route, one after another.
 ghost use Rattle.std.specs.Prelude.{◌≡◌, ◌+◌, ◌<◌, ◌≤◌, ◌^◌, ℕ, All, IfOk, OnOk, length, slice_index};
 ghost use Rattle.tern_word.specs.SoundTable.{IsOrdered};
-ghost use Rattle.cover_checks.specs.Merge.{IsMergeSet, after};
+ghost use Rattle.cover_merge.specs.Merge.{IsMergeSet, after};
 ghost use Rattle.cover_merge.specs.Links.{place_of_route, AreNumbers, IsAhead, AreLinks};
 
 use crate::applying::take_out_all;
 use crate::guards::place_in;
-use cover_checks::merged_block;
+use crate::merged_block;
 use spin_base::Memory;
 use std::alloc::Global;
 use tern_word::{Row, generality};
@@ -90,8 +90,10 @@ fn link(numbers: &[u32], heads: &mut Vec<u32>, next: &mut Vec<u32>)
     requires none { All (λ x. x ≡ length numbers.now) heads.old.items }
     ensures one_each { length next.new.items ≡ length numbers.now }
     ensures limit { length heads.new.items ≡ length heads.old.items }
-    ensures heads { (c : ℕ) → c < length heads.old.items → IsAhead numbers.now 0 c (slice_index heads.new.items c) }
-    ensures next { (k : ℕ) → k < length numbers.now → IsAhead numbers.now (k + 1) (slice_index numbers.now k) (slice_index next.new.items k) }
+    ensures heads { (c : ℕ) → c < length heads.old.items
+        → IsAhead numbers.now 0 c (slice_index heads.new.items c) }
+    ensures next { (k : ℕ) → k < length numbers.now
+        → IsAhead numbers.now (k + 1) (slice_index numbers.now k) (slice_index next.new.items k) }
 {
     let mut k = numbers.len();
     while k > 0 {
@@ -106,7 +108,8 @@ fn link(numbers: &[u32], heads: &mut Vec<u32>, next: &mut Vec<u32>)
 fn firsts(alloc: Global, numbers: &[u32], heads: &[u32]) -> Result<Vec<u32>, Memory>
     requires below { All (λ c. c < length heads.now) numbers.now }
     ensures one_each { IfOk result (λ v. length v.items ≡ length numbers.now) }
-    ensures heads { IfOk result (λ v. (k : ℕ) → k < length numbers.now → slice_index v.items k ≡ slice_index heads.now (slice_index numbers.now k)) }
+    ensures heads { IfOk result (λ v. (k : ℕ) → k < length numbers.now
+        → slice_index v.items k ≡ slice_index heads.now (slice_index numbers.now k)) }
 {
     let mut first = Vec::with_capacity(alloc, numbers.len())?;
     for k in 0..numbers.len() {

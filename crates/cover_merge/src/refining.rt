@@ -3,12 +3,12 @@ ghost use Rattle.std.specs.Prelude.{◌≡◌, ◌<◌, ◌≤◌, ◌^◌, ◌�
 ghost use Rattle.spin_base.specs.declared.blocks.Block.{Block as ABlock};
 ghost use Rattle.tern_word.specs.Ternary.{Intersects};
 ghost use Rattle.tern_word.specs.SoundTable.{IsOrdered, IsSound, Misses};
-ghost use Rattle.cover_checks.specs.Merge.{has, IsOneRoute, IsMergeSet, IsLegal, merged_block, insert_place, place_for, PassesUp, PassesUpCheck, PassesDown, PassesDownCheck};
+ghost use Rattle.cover_merge.specs.Merge.{has_row, IsOneRoute, IsMergeSet, IsLegal, merged_block, insert_place, place_for, PassesUp, PassesUpCheck, PassesDown, PassesDownCheck};
 ghost use Rattle.cover_merge.specs.Guards.{AreGuards};
 ghost use Rattle.cover_merge.specs.Refinement.{AreMerges, IsLastFailing, IsFirstMet, IsFirstMetFrom, can_choose, keeps, parts, kept_by, kept_count, IsBestBit, IsNarrowed, IsDownStep, Refines};
 
 use crate::guards::{Guard, passes, place_in};
-use cover_checks::merged_block;
+use crate::merged_block;
 use spin_base::{Block, Memory, Seq};
 use std::alloc::Global;
 use tern_word::{Alias, Row, Table, generality, intersects, merge_two};
@@ -21,7 +21,8 @@ pub fn refine(alloc: Global, table: &Table, places: Seq<u32>) -> Result<Seq<u32>
     requires sound { IsSound table.now.rows }
     requires set { IsOneRoute table.now.rows places }
     ensures refined { IfOk result (λ answer. Refines table.now.rows places answer) }
-    ensures legal { IfOk result (λ answer. (answer ≡ []) ⊎ ((IsMergeSet table.now.rows answer) × (IsLegal table.now.rows answer))) }
+    ensures legal { IfOk result (λ answer. (answer ≡ [])
+        ⊎ ((IsMergeSet table.now.rows answer) × (IsLegal table.now.rows answer))) }
 {
     refine_by(alloc, table, &[], places)
 }
@@ -38,7 +39,8 @@ pub(crate) fn refine_by(
     requires guards { AreGuards table.now.rows guards.now }
     requires set { IsOneRoute table.now.rows places }
     ensures refined { IfOk result (λ answer. Refines table.now.rows places answer) }
-    ensures legal { IfOk result (λ answer. (answer ≡ []) ⊎ ((IsMergeSet table.now.rows answer) × (IsLegal table.now.rows answer))) }
+    ensures legal { IfOk result (λ answer. (answer ≡ [])
+        ⊎ ((IsMergeSet table.now.rows answer) × (IsLegal table.now.rows answer))) }
 {
     let rows = table.rows.as_slice();
     let mut set = places.into_vec();
@@ -68,8 +70,11 @@ fn sift(
     requires set { IsMergeSet rows.now set.old.items }
     ensures one_route { IfOk result (λ found. IsOneRoute rows.now set.new.items) }
     ensures fewer { length set.new.items ≤ length set.old.items }
-    ensures steps { IfOk result (λ found. (answer : List ℕ) → Refines rows.now set.new.items answer → Refines rows.now set.old.items answer) }
-    ensures found { IfOk result (λ found. MatchOption found (length set.new.items < 2) (λ merged. (2 ≤ length set.new.items) × (merged ≡ merged_block rows.now set.new.items) × (PassesUpCheck rows.now set.new.items))) }
+    ensures steps { IfOk result (λ found. (answer : List ℕ) → Refines rows.now set.new.items answer
+        → Refines rows.now set.old.items answer) }
+    ensures found { IfOk result (λ found. MatchOption found (length set.new.items < 2) (λ merged.
+        (2 ≤ length set.new.items) × (merged ≡ merged_block rows.now set.new.items)
+        × (PassesUpCheck rows.now set.new.items))) }
 {
     let merges = merges_of(alloc, rows, set)?;
     let mut merged = merges[set.len() - 1];
@@ -122,7 +127,8 @@ fn merges_of(alloc: Global, rows: &[Row], set: &[u32]) -> Result<Vec<Block>, Mem
 fn merge_from(rows: &[Row], merges: &[Block], front: &[u32], back: &[u32]) -> Block
     requires in_range { All (λ s. s < length rows.now) (front.now ++ back.now) }
     requires some { 0 < length (front.now ++ back.now) }
-    requires known { (k : ℕ) (d : ABlock) → k < length front.now → k < length merges.now → slice_index_or merges.now k d ≡ merged_block rows.now (take (k + 1) front.now) }
+    requires known { (k : ℕ) (d : ABlock) → k < length front.now → k < length merges.now
+        → slice_index_or merges.now k d ≡ merged_block rows.now (take (k + 1) front.now) }
     requires many { length front.now ≤ length merges.now }
     ensures { result ≡ merged_block rows.now (front.now ++ back.now) }
 {
@@ -143,7 +149,9 @@ fn narrow(rows: &[Row], set: &mut Vec<u32>, merged: Block) -> bool
     requires set { IsMergeSet rows.now set.old.items }
     requires merged { merged ≡ merged_block rows.now set.old.items }
     requires up { PassesUpCheck rows.now set.old.items }
-    ensures { MatchBool result ((PassesDownCheck rows.now set.old.items) × (set.new.items ≡ set.old.items)) ((IsDownStep rows.now set.old.items set.new.items) × (length set.new.items < length set.old.items)) }
+    ensures { MatchBool result ((PassesDownCheck rows.now set.old.items)
+        × (set.new.items ≡ set.old.items)) ((IsDownStep rows.now set.old.items set.new.items)
+        × (length set.new.items < length set.old.items)) }
 {
     match first_met_from(rows, merged, place_in(rows, generality(merged))) {
         Some(met) => {
@@ -156,7 +164,8 @@ fn narrow(rows: &[Row], set: &mut Vec<u32>, merged: Block) -> bool
 
 // The block of the first alias that the block meets, of the first row from place `p` on that has one.
 fn first_met_from(rows: &[Row], block: Block, p: u32) -> Option<Block>
-    ensures { MatchOption result (PassesDown rows.now block p) (λ met. IsFirstMetFrom rows.now block p met) }
+    ensures { MatchOption result (PassesDown rows.now block p) (λ met.
+        IsFirstMetFrom rows.now block p met) }
 {
     for r in p as usize..rows.len() {
         if let Some(met) = first_met(rows[r].aliases.as_slice(), block) {
@@ -168,7 +177,8 @@ fn first_met_from(rows: &[Row], block: Block, p: u32) -> Option<Block>
 
 // The block of the first of the aliases that the block meets.
 fn first_met(aliases: &[Alias], block: Block) -> Option<Block>
-    ensures { MatchOption result (All (λ a. ¬ (Intersects block a.block)) aliases.now) (λ met. IsFirstMet block aliases.now met) }
+    ensures { MatchOption result (All (λ a. ¬ (Intersects block a.block)) aliases.now) (λ met.
+        IsFirstMet block aliases.now met) }
 {
     for alias in aliases {
         if intersects(block, alias.block) {
@@ -197,7 +207,9 @@ fn keep(rows: &[Row], set: &mut Vec<u32>, met: Block, bit: u32)
 
 // The bit that keeps most places, of equal ones the highest, where one keeps any.
 fn best_bit(rows: &[Row], places: &[u32], merged: Block, met: Block) -> Option<u32>
-    ensures { MatchOption result ((j : ℕ) → j < 32 → kept_count rows.now places.now merged met j ≡ 0) (λ i. (i < 32) × (IsBestBit rows.now places.now merged met i)) }
+    ensures { MatchOption result ((j : ℕ) → j < 32
+        → kept_count rows.now places.now merged met j ≡ 0) (λ i. (i < 32)
+        × (IsBestBit rows.now places.now merged met i)) }
 {
     let mut best = 0;
     let mut most = 0;

@@ -3,7 +3,7 @@ use Rattle.std.proofs.Common.{◌≡◌, ℕ, suc, Some, List, [], ◌∷◌, le
 use Rattle.std.specs.Prelude.{slice_get}
 use Rattle.std.proofs.lemmas.Option.{slice_get_within, same_Some}
 use Rattle.tern_word.specs.declared.tables.Row.{Row}
-use Rattle.cover_checks.specs.Merge.{rows_at}
+use Rattle.cover_merge.specs.Merge.{rows_at}
 use Rattle.cover_merge.specs.declared.covering.Covered.{Covered}
 use Rattle.cover_merge.proofs.Determined.{one_covered}
 use Rattle.default_routes.specs.declared.stripping.Final.{Final}

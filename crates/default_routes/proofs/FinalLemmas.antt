@@ -12,8 +12,8 @@ use Rattle.spin_base.specs.Lookup.{matches, default_route, lookup}
 use Rattle.tern_word.specs.declared.tables.Row.{Row}
 use Rattle.tern_word.specs.Entries.{entry_of}
 use Rattle.tern_word.specs.SoundTable.{Original, served}
-use Rattle.cover_checks.specs.Merge.{rows_at}
-use Rattle.cover_checks.proofs.Positions.{All-has, rows_at-from}
+use Rattle.cover_merge.specs.Merge.{rows_at}
+use Rattle.cover_merge.proofs.Positions.{All-has, rows_at-from}
 use Rattle.cover_merge.specs.Covering.{HasRoutesOf}
 use Rattle.default_routes.specs.KeptRows.{ArePlaces, Routes}
 use Rattle.default_routes.specs.FinalTable.{MatchesNoKey, RoutesAlone}

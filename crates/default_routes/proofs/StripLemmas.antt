@@ -21,10 +21,10 @@ use Rattle.tern_word.specs.declared.tables.Row.{Row}
 use Rattle.tern_word.specs.Entries.{entry_of}
 use Rattle.tern_word.specs.Ternary.{Matches}
 use Rattle.tern_word.specs.SoundTable.{Misses, IsSound, Original, served_by, served}
-use Rattle.cover_checks.specs.Merge.{has, rows_at}
-use Rattle.cover_checks.proofs.Answering.{fails}
-use Rattle.cover_checks.proofs.Lists.{AllPairs-nil, All-flat_map}
-use Rattle.cover_checks.proofs.Positions.{has-at, has-place, rows_at-from, rows_at-has}
+use Rattle.cover_merge.specs.Merge.{has_row, rows_at}
+use Rattle.cover_merge.proofs.Answering.{fails}
+use Rattle.cover_merge.proofs.Lists.{AllPairs-nil, All-flat_map}
+use Rattle.cover_merge.proofs.Positions.{has-at, has-place, rows_at-from, rows_at-has}
 use Rattle.spin_base.proofs.RouteBits.{same_route}
 use Rattle.default_routes.specs.KeptRows.{IsStrippable, KeptFrom, ends, goes, stays, AreKept, ArePlaces, RoutesAll, Routes}
 
@@ -205,12 +205,12 @@ strippable_turned rows row places in_range strip = record {
   clear = rows_at-from (λ (r : Row). Misses r.block row) rows (reverse places) (λ s d found. rows_at-has (λ (r : Row). Misses r.block row) rows places in_range strip.clear s d (has_turned places s found));
 }
   where
-    has_turned : (xs : List ℕ) (s : ℕ) → has (reverse xs) s ≡ true → has xs s ≡ true
+    has_turned : (xs : List ℕ) (s : ℕ) → has_row (reverse xs) s ≡ true → has_row xs s ≡ true
     has_turned xs s found =
         let at = has-place (reverse xs) s found in
         let count : length (reverse xs) ≡ length xs = length-reverse xs in
         let there : length xs - 1 - at.0 < length xs = omega (arith, at.1, count) in
-        subst (λ n. has xs n ≡ true) (sym (get_or-reverse xs at.0 0 (omega (arith, at.1, count))) ∙ at.2) (has-at xs (length xs - 1 - at.0) there)
+        subst (λ n. has_row xs n ≡ true) (sym (get_or-reverse xs at.0 0 (omega (arith, at.1, count))) ∙ at.2) (has-at xs (length xs - 1 - at.0) there)
 
 module _ (rows : List Row) (i : ℕ) (kept list : List ℕ) (same : list ≡ kept) (in_range : All (λ s. s < length rows) kept) (row : Row) (read : row ≡ get_or rows (i - 1) row) (some : 0 < i) (within : i ≤ length rows) (later : KeptFrom rows i (reverse kept)) where
   behind : KeptFrom rows (suc (i - 1)) (reverse kept)

@@ -7,7 +7,7 @@ use Rattle.tern_word.specs.declared.tables.Row.{Row}
 use Rattle.tern_word.specs.Entries.{entry_of}
 use Rattle.tern_word.specs.Ternary.{Matches}
 use Rattle.tern_word.specs.SoundTable.{Original}
-use Rattle.cover_checks.specs.Merge.{rows_at}
+use Rattle.cover_merge.specs.Merge.{rows_at}
 use Rattle.cover_merge.specs.Covering.{Covers}
 use Rattle.cover_merge.specs.Merges.{sets_of}
 use Rattle.default_routes.specs.declared.stripping.Final.{Final}

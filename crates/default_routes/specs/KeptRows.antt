@@ -8,7 +8,7 @@ use Rattle.tern_word.specs.declared.tables.Row.{Row}
 use Rattle.tern_word.specs.Entries.{entry_of}
 use Rattle.tern_word.specs.Ternary.{Matches}
 use Rattle.tern_word.specs.SoundTable.{Misses, Original}
-use Rattle.cover_checks.specs.Merge.{rows_at}
+use Rattle.cover_merge.specs.Merge.{rows_at}
 
 -- A row can go where its route is one link, each of its aliases arrives at the opposite link, and no later kept row
 -- meets an alias of it: then a packet of its aliases goes on by that link by default (SpiNNaker datasheet; this

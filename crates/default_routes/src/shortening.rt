@@ -22,10 +22,12 @@ pub fn shorten(alloc: Global, table: Table, target: u32) -> Result<Final, Memory
     ensures sound { IfOk result (λ f. IsSound f.covered.table.rows) }
     ensures places { IfOk result (λ f. ArePlaces f.covered.table.rows f.kept) }
     ensures one_each { IfOk result (λ f. length (loaded_rows f) ≡ length f.kept) }
-    ensures few { IfOk result (λ f. (length f.kept ≤ length f.covered.table.rows) × (length f.covered.table.rows ≤ length table.rows)) }
+    ensures few { IfOk result (λ f. (length f.kept ≤ length f.covered.table.rows)
+        × (length f.covered.table.rows ≤ length table.rows)) }
     ensures routes { IfOk result (λ f. HasRoutesOf table.rows (loaded_rows f)) }
     ensures serves { IfOk result (λ f. All (RoutesAlone (loaded_rows f)) (served table.rows)) }
-    ensures ended { IfOk result (λ f. (length f.covered.table.rows ≤ target) ⊎ (HasNoLegalPair f.covered.table.rows)) }
+    ensures ended { IfOk result (λ f. (length f.covered.table.rows ≤ target)
+        ⊎ (HasNoLegalPair f.covered.table.rows)) }
 {
     let covered = cover(alloc, table, target)?;
     let shortened = strip(alloc, covered)?;

@@ -1,7 +1,7 @@
 // Leaving out the rows that default routing replaces.
 ghost use Rattle.std.specs.Prelude.{◌≡◌, ◌<◌, ◌^◌, IfOk, All, MatchOption, MatchBool, length};
 ghost use Rattle.tern_word.specs.SoundTable.{IsSound, Misses, served};
-ghost use Rattle.cover_checks.specs.Merge.{rows_at};
+ghost use Rattle.cover_merge.specs.Merge.{rows_at};
 ghost use Rattle.spin_base.specs.Lookup.{straight_on};
 ghost use Rattle.spin_base.specs.declared.chips.Dir.{Dir};
 ghost use Rattle.spin_base.specs.declared.chips.Port.TheVariants.{Link};
@@ -30,7 +30,8 @@ pub fn strip(alloc: Global, covered: Covered) -> Result<Final, Memory>
     ensures kept { IfOk result (λ f. AreKept covered.table.rows f.kept) }
     ensures places { IfOk result (λ f. ArePlaces covered.table.rows f.kept) }
     ensures routes { IfOk result (λ f. RoutesAll covered.table.rows f.kept) }
-    ensures serves { IfOk result (λ f. All (λ o. Routes (rows_at covered.table.rows f.kept) o) (served covered.table.rows)) }
+    ensures serves { IfOk result (λ f. All (λ o. Routes (rows_at covered.table.rows f.kept) o)
+        (served covered.table.rows)) }
 {
     let kept = kept_places(alloc, covered.table.rows.as_slice())?;
     Ok(Final { covered, kept })
@@ -56,7 +57,8 @@ fn kept_places(alloc: Global, rows: &[Row]) -> Result<Seq<u32>, Memory>
 // Whether the row can go, where these later rows are kept.
 fn can_go(row: &Row, rows: &[Row], kept: &[u32]) -> bool
     requires { All (λ s. s < length rows.now) kept.now }
-    ensures { MatchBool result (IsStrippable row.now (rows_at rows.now kept.now)) (IsStrippable row.now (rows_at rows.now kept.now) → ⊥) }
+    ensures { MatchBool result (IsStrippable row.now (rows_at rows.now kept.now))
+        (IsStrippable row.now (rows_at rows.now kept.now) → ⊥) }
 {
     match arrival_of(row.route.bits) {
         Some(arrival) => all_arrive(row.aliases.as_slice(), arrival) && all_clear(row, rows, kept),
@@ -66,7 +68,8 @@ fn can_go(row: &Row, rows: &[Row], kept: &[u32]) -> bool
 
 // The arrival link whose packets go on by the one link of the route of these bits, where the route is one link.
 fn arrival_of(bits: u32) -> Option<Dir>
-    ensures { MatchOption result ((d : Dir) → (straight_on d).bits ≡ bits → ⊥) (λ d. (straight_on d).bits ≡ bits) }
+    ensures { MatchOption result ((d : Dir) → (straight_on d).bits ≡ bits
+        → ⊥) (λ d. (straight_on d).bits ≡ bits) }
 {
     match bits {
         1 => Some(Dir::West),
@@ -81,7 +84,8 @@ fn arrival_of(bits: u32) -> Option<Dir>
 
 // Whether all aliases arrive by the link.
 fn all_arrive(aliases: &[Alias], arrival: Dir) -> bool
-    ensures { MatchBool result (All (λ a. a.port ≡ Link arrival) aliases.now) (All (λ a. a.port ≡ Link arrival) aliases.now → ⊥) }
+    ensures { MatchBool result (All (λ a. a.port ≡ Link arrival) aliases.now) (All (λ a. a.port
+        ≡ Link arrival) aliases.now → ⊥) }
 {
     for alias in aliases {
         if !is_link(alias.port, arrival) {
@@ -104,7 +108,8 @@ fn is_link(port: Port, link: Dir) -> bool
 // Whether no row at the places meets an alias of the row.
 fn all_clear(row: &Row, rows: &[Row], places: &[u32]) -> bool
     requires { All (λ s. s < length rows.now) places.now }
-    ensures { MatchBool result (All (λ r. Misses r.block row.now) (rows_at rows.now places.now)) (All (λ r. Misses r.block row.now) (rows_at rows.now places.now) → ⊥) }
+    ensures { MatchBool result (All (λ r. Misses r.block row.now) (rows_at rows.now places.now))
+        (All (λ r. Misses r.block row.now) (rows_at rows.now places.now) → ⊥) }
 {
     for s in places {
         if !misses(rows[*s as usize].block, row) {

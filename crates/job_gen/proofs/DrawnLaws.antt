@@ -3,7 +3,7 @@ use Rattle.std.proofs.Common.{◌≡◌, ℕ, ◌+◌, ◌/◌, ◌<◌, ◌≤�
 use Rattle.std.proofs.lemmas.List.{length-map}
 use Rattle.std.proofs.lemmas.List.Elements.{All-get_or, All-map}
 use Rattle.job_gen.specs.declared.draws.DrawnNet.{DrawnNet}
-use Rattle.job_gen.specs.Draws.{draw, draws, drawn_sdram, drawn_target, drawn_net, drawn_packet, drawn_from, drawn, seeded, keys_at, HasKeys}
+use Rattle.job_gen.specs.Draws.{draw, draws, drawn_sdram, drawn_target, drawn_net, drawn_packet, drawn_from, drawn, seeded, keys_at, NeedsKey}
 use Rattle.job_gen.specs.DrawnFacts.{IsDrawnNet, IsDrawnPacket, IsDrawn}
 use Rattle.job_gen.proofs.DrawLemmas.{draw_below, length-draws, draws_each}
 
@@ -35,7 +35,7 @@ net_drawn i g =
     }
 
 -- a net among others needs a key
-pub keys_some : (nets : List DrawnNet) (i : ℕ) → All HasKeys nets → i < length nets → 0 < keys_at nets i
+pub keys_some : (nets : List DrawnNet) (i : ℕ) → All NeedsKey nets → i < length nets → 0 < keys_at nets i
 unfolding keys_at
 keys_some nets i all below =
     All-get_or (λ k. 0 < k) (map (λ (net : DrawnNet). net.keys) nets) i 0
@@ -43,7 +43,7 @@ keys_some nets i all below =
     (All-map (λ k. 0 < k) (λ (net : DrawnNet). net.keys) nets all)
 
 -- a packet of one of 1,200 numbers, whatever the words are
-packet_drawn : (nets : List DrawnNet) (i : ℕ) (g : List ℕ) → length nets ≡ 300 → All HasKeys nets → i < 1200 → IsDrawnPacket nets (drawn_packet nets i g).0
+packet_drawn : (nets : List DrawnNet) (i : ℕ) (g : List ℕ) → length nets ≡ 300 → All NeedsKey nets → i < 1200 → IsDrawnPacket nets (drawn_packet nets i g).0
 unfolding drawn_packet
 packet_drawn nets i g many all below =
     let index = draw (keys_at nets (i / 4)) g in
@@ -58,7 +58,7 @@ packet_drawn nets i g many all below =
 pub nets_drawn : (n : ℕ) (g : List ℕ) → All IsDrawnNet (draws drawn_net n g).0
 nets_drawn n g = draws_each IsDrawnNet drawn_net n g (λ i h below. net_drawn i h)
 
-pub all_keys : (nets : List DrawnNet) → All IsDrawnNet nets → All HasKeys nets
+pub all_keys : (nets : List DrawnNet) → All IsDrawnNet nets → All NeedsKey nets
 all_keys nets all = λ k d below. let one = all k d below in omega (arith, one.some_key)
 
 -- all that is drawn from a generator

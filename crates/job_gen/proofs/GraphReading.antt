@@ -8,12 +8,12 @@ use Rattle.app_graph.specs.declared.graphs.Net.{Net}
 use Rattle.job_text.specs.Fields.{is_within, is_name}
 use Rattle.job_text.proofs.Items.{list_of-items_of}
 use Rattle.job_readers.specs.Members.{number_member_faults, number_member, list_member, member_since}
-use Rattle.job_readers.specs.Places.{place_in, reference_faults, reference_value, new_name_faults}
-use Rattle.job_readers.specs.GraphPart.{name_of, name_faults, at_faults, at_value, device_faults, device_value, vertex_faults, vertex_value, next_vertex_faults, vertex_names_of, sender_at, sender_in, source_faults, source_value, target_faults, target_value, has_item, some_faults, targets_faults, targets_value, keys_value, fixed_faults, fixed_value, net_faults, net_value, next_net_faults, net_names}
+use Rattle.job_readers.specs.Places.{name_place_in, reference_faults, reference_value, new_name_faults}
+use Rattle.job_readers.specs.GraphPart.{name_value, name_faults, at_faults, at_value, device_faults, device_value, vertex_faults, vertex_value, next_vertex_faults, vertex_names_of, sender_at, sender_in, net_source_faults, source_value, target_faults, target_value, has_item, some_faults, targets_faults, targets_value, keys_value, fixed_faults, fixed_value, net_faults, net_value, next_net_faults, net_names}
 use Rattle.job_gen.specs.declared.draws.DrawnNet.{DrawnNet}
 use Rattle.job_gen.specs.DrawnFacts.{IsDrawnNet}
-use Rattle.job_gen.specs.Values.{numbered, vertex_name, vertex_data, name_data, net_data}
-use Rattle.job_gen.specs.Generated.{vertex_of, net_of}
+use Rattle.job_gen.specs.Values.{numbered, generated_vertex_name, vertex_data, name_data, net_data}
+use Rattle.job_gen.specs.Generated.{generated_vertex, net_of}
 use Rattle.job_gen.proofs.NameLemmas.{AreBelow, absent, found, named}
 use Rattle.job_gen.proofs.ListReading.{items_clean, items_are}
 
@@ -27,58 +27,58 @@ pub vertex_clean : (before : List Vertex) (path : List ℕ) (i sdram : ℕ) → 
 unfolding vertex_faults name_faults new_name_faults number_member_faults at_faults device_faults member_since vertex_names_of vertex_data
 vertex_clean before path i sdram below small few =
     let name : is_name (118 ∷ decimal i) ≡ true = named 118 i (omega arith) (omega arith) small in
-    let new : place_in (map (λ (v : Vertex). v.name) before) (118 ∷ decimal i) ≡ None = absent 118 i _ small below in
+    let new : name_place_in (map (λ (v : Vertex). v.name) before) (118 ∷ decimal i) ≡ None = absent 118 i _ small below in
     let memory : is_within 0 134217728 sdram ≡ true = within 0 134217728 sdram (omega arith) (omega arith) in
     rw (name, new, memory) refl
 
-pub vertex_is : (i sdram : ℕ) → vertex_value 1 (vertex_data i sdram) ≡ vertex_of i sdram
-unfolding vertex_value name_of number_member at_value device_value member_since vertex_data vertex_of
+pub vertex_is : (i sdram : ℕ) → vertex_value 1 (vertex_data i sdram) ≡ generated_vertex i sdram
+unfolding vertex_value name_value number_member at_value device_value member_since vertex_data generated_vertex
 vertex_is i sdram = refl
 
-pub vertex_named : (i sdram : ℕ) → (vertex_of i sdram).name ≡ 118 ∷ decimal i
-unfolding vertex_of
+pub vertex_named : (i sdram : ℕ) → (generated_vertex i sdram).name ≡ 118 ∷ decimal i
+unfolding generated_vertex
 vertex_named i sdram = refl
 
 -- ---- the vertex of a name
 
 module _ (sdrams : List ℕ) (many : length sdrams ≡ 200) where
-  place : (i : ℕ) → i < 200 → place_in (vertex_names_of (numbered vertex_of 0 sdrams)) (vertex_name i) ≡ Some i
+  place : (i : ℕ) → i < 200 → name_place_in (vertex_names_of (numbered generated_vertex 0 sdrams)) (generated_vertex_name i) ≡ Some i
   unfolding vertex_names_of
   place i below =
       let number : i ≡ 0 + i = omega arith in
-      ap (λ j. place_in (vertex_names_of (numbered vertex_of 0 sdrams)) (118 ∷ decimal j)) number
-      ∙ found 118 (λ (v : Vertex). v.name) vertex_of vertex_named 0 i sdrams (omega (arith, many)) (omega (arith, many))
+      ap (λ j. name_place_in (vertex_names_of (numbered generated_vertex 0 sdrams)) (118 ∷ decimal j)) number
+      ∙ found 118 (λ (v : Vertex). v.name) generated_vertex vertex_named 0 i sdrams (omega (arith, many)) (omega (arith, many))
 
   -- none of them is a device
-  no_device : (number i k : ℕ) (xs : List ℕ) → k < length xs → option_and_then (λ (v : Vertex). if is_some v.device then None else Some number) (slice_get (numbered vertex_of i xs) k) ≡ Some number
-  unfolding numbered vertex_of
+  no_device : (number i k : ℕ) (xs : List ℕ) → k < length xs → option_and_then (λ (v : Vertex). if is_some v.device then None else Some number) (slice_get (numbered generated_vertex i xs) k) ≡ Some number
+  unfolding numbered generated_vertex
   no_device number i k [] below = absurd (omega arith)
   no_device number i zero (x ∷ xs) below = refl
   no_device number i (suc k) (x ∷ xs) below = no_device number (i + 1) k xs (omega arith)
 
-  sender : (i : ℕ) → i < 200 → sender_in (numbered vertex_of 0 sdrams) (vertex_name i) ≡ Some i
+  sender : (i : ℕ) → i < 200 → sender_in (numbered generated_vertex 0 sdrams) (generated_vertex_name i) ≡ Some i
   unfolding sender_in sender_at
-  sender i below = ap (option_and_then (sender_at (numbered vertex_of 0 sdrams))) (place i below) ∙ no_device i 0 i sdrams (omega (arith, many))
+  sender i below = ap (option_and_then (sender_at (numbered generated_vertex 0 sdrams))) (place i below) ∙ no_device i 0 i sdrams (omega (arith, many))
 
-  target_clean : (path : List ℕ) (t : ℕ) → t < 200 → target_faults (vertex_names_of (numbered vertex_of 0 sdrams)) path (name_data t) ≡ []
+  target_clean : (path : List ℕ) (t : ℕ) → t < 200 → target_faults (vertex_names_of (numbered generated_vertex 0 sdrams)) path (name_data t) ≡ []
   unfolding target_faults reference_faults name_data
   target_clean path t below =
       let name : is_name (118 ∷ decimal t) ≡ true = named 118 t (omega arith) (omega arith) (omega arith) in
       rw (name, place t below) refl
 
-  target_is : (t : ℕ) → t < 200 → target_value (vertex_names_of (numbered vertex_of 0 sdrams)) (name_data t) ≡ t
+  target_is : (t : ℕ) → t < 200 → target_value (vertex_names_of (numbered generated_vertex 0 sdrams)) (name_data t) ≡ t
   unfolding target_value reference_value name_data
   target_is t below = ap (λ o. unwrap_or o 0) (place t below)
 
   -- ---- nets
 
-  source_clean : (path : List ℕ) (i : ℕ) (net : DrawnNet) → net.source < 200 → source_faults (numbered vertex_of 0 sdrams) path (net_data i net) ≡ []
-  unfolding source_faults net_data name_data
+  source_clean : (path : List ℕ) (i : ℕ) (net : DrawnNet) → net.source < 200 → net_source_faults (numbered generated_vertex 0 sdrams) path (net_data i net) ≡ []
+  unfolding net_source_faults net_data name_data
   source_clean path i net below =
       let name : is_name (118 ∷ decimal net.source) ≡ true = named 118 net.source (omega arith) (omega arith) (omega arith) in
       rw (name, sender net.source below) refl
 
-  source_is : (i : ℕ) (net : DrawnNet) → net.source < 200 → source_value (numbered vertex_of 0 sdrams) (net_data i net) ≡ net.source
+  source_is : (i : ℕ) (net : DrawnNet) → net.source < 200 → source_value (numbered generated_vertex 0 sdrams) (net_data i net) ≡ net.source
   unfolding source_value net_data name_data
   source_is i net below = ap (λ o. unwrap_or o 0) (sender net.source below)
 
@@ -87,20 +87,20 @@ module _ (sdrams : List ℕ) (many : length sdrams ≡ 200) where
   has_some (t ∷ ts) some = refl
 
   targets_clean : (path : List ℕ) (i : ℕ) (net : DrawnNet) → 1 ≤ length net.targets → All (λ t. t < 200) net.targets
-      → targets_faults (vertex_names_of (numbered vertex_of 0 sdrams)) path (net_data i net) ≡ []
+      → targets_faults (vertex_names_of (numbered generated_vertex 0 sdrams)) path (net_data i net) ≡ []
   unfolding targets_faults some_faults list_member net_data
   targets_clean path i net some below =
       rw (
         list_of-items_of (map name_data net.targets),
         has_some net.targets some,
-        items_clean (λ t. t < 200) (target_faults (vertex_names_of (numbered vertex_of 0 sdrams))) name_data target_clean _ 0 net.targets below,
+        items_clean (λ t. t < 200) (target_faults (vertex_names_of (numbered generated_vertex 0 sdrams))) name_data target_clean _ 0 net.targets below,
       ) refl
 
-  targets_are : (i : ℕ) (net : DrawnNet) → All (λ t. t < 200) net.targets → targets_value (vertex_names_of (numbered vertex_of 0 sdrams)) (net_data i net) ≡ net.targets
+  targets_are : (i : ℕ) (net : DrawnNet) → All (λ t. t < 200) net.targets → targets_value (vertex_names_of (numbered generated_vertex 0 sdrams)) (net_data i net) ≡ net.targets
   unfolding targets_value list_member net_data
   targets_are i net below =
-      ap (map (target_value (vertex_names_of (numbered vertex_of 0 sdrams)))) (list_of-items_of (map name_data net.targets))
-      ∙ items_are (λ t. t < 200) (target_value (vertex_names_of (numbered vertex_of 0 sdrams))) name_data (λ t. t) target_is net.targets below
+      ap (map (target_value (vertex_names_of (numbered generated_vertex 0 sdrams)))) (list_of-items_of (map name_data net.targets))
+      ∙ items_are (λ t. t < 200) (target_value (vertex_names_of (numbered generated_vertex 0 sdrams))) name_data (λ t. t) target_is net.targets below
       ∙ map-id net.targets
 
   own_name : (before : List Net) (path : List ℕ) (i : ℕ) (net : DrawnNet) → AreBelow 110 i (map (λ (n : Net). n.name) before) → i < 1000
@@ -115,7 +115,7 @@ module _ (sdrams : List ℕ) (many : length sdrams ≡ 200) where
   keys_clean path i net some few = rw (within 1 4294967296 net.keys some (omega arith)) refl
 
   pub net_clean : (before : List Net) (path : List ℕ) (i : ℕ) (net : DrawnNet) → AreBelow 110 i (map (λ (n : Net). n.name) before) → i < 1000 → IsDrawnNet net
-      → next_net_faults 1 (numbered vertex_of 0 sdrams) before path (net_data i net) ≡ []
+      → next_net_faults 1 (numbered generated_vertex 0 sdrams) before path (net_data i net) ≡ []
   unfolding net_faults fixed_faults member_since net_data
   net_clean before path i net below small drawn =
       rw (
@@ -125,8 +125,8 @@ module _ (sdrams : List ℕ) (many : length sdrams ≡ 200) where
         keys_clean path i net drawn.some_key drawn.few_keys,
       ) refl
 
-  pub net_is : (i : ℕ) (net : DrawnNet) → IsDrawnNet net → net_value 1 (numbered vertex_of 0 sdrams) (net_data i net) ≡ net_of i net
-  unfolding net_value name_of keys_value number_member fixed_value member_since net_data net_of
+  pub net_is : (i : ℕ) (net : DrawnNet) → IsDrawnNet net → net_value 1 (numbered generated_vertex 0 sdrams) (net_data i net) ≡ net_of i net
+  unfolding net_value name_value keys_value number_member fixed_value member_since net_data net_of
   net_is i net drawn = rw (source_is i net drawn.source, targets_are i net drawn.targets) refl
 
 pub net_named : (i : ℕ) (net : DrawnNet) → (net_of i net).name ≡ 110 ∷ decimal i

@@ -6,17 +6,17 @@ use Rattle.std.proofs.lemmas.List.{length-map}
 use Rattle.machine_desc.specs.Live.{live_count_of}
 use Rattle.app_graph.specs.declared.graphs.Vertex.{Vertex}
 use Rattle.app_graph.specs.declared.graphs.Net.{Net}
-use Rattle.app_graph.specs.RunPart.{keys_of}
+use Rattle.app_graph.specs.RunPart.{key_count_of}
 use Rattle.job_text.specs.declared.faults.JobFault.TheVariants.{TooMany}
 use Rattle.job_text.specs.Fields.{is_name, count_faults}
 use Rattle.job_text.proofs.Items.{list_of-items_of}
 use Rattle.job_readers.specs.Items.{items_faults}
 use Rattle.job_readers.specs.Members.{number_member_faults, number_member, optional_number, flag_member_faults, flag_member, list_member_faults, long_list_member_faults, list_member}
 use Rattle.job_readers.specs.Entries.{chip_faults, chip_value}
-use Rattle.job_readers.specs.Places.{place_in, reference_faults, reference_value}
-use Rattle.job_readers.specs.Job.{own_faults, version_faults, version_value}
+use Rattle.job_readers.specs.Places.{name_place_in, reference_faults, reference_value}
+use Rattle.job_readers.specs.Job.{job_own_faults, version_faults, version_value}
 use Rattle.job_readers.specs.MachinePart.{entries_faults, machine_members_faults, machine_members, machine_faults, machine_value}
-use Rattle.job_readers.specs.GraphPart.{name_of, vertex_value, next_vertex_faults, vertices_faults, vertices_value, net_value, next_net_faults, net_names, nets_faults, nets_value, graph_members_faults, graph_members, graph_faults, graph_value}
+use Rattle.job_readers.specs.GraphPart.{name_value, vertex_value, next_vertex_faults, vertices_faults, vertices_value, net_value, next_net_faults, net_names, nets_faults, nets_value, graph_members_faults, graph_members, graph_faults, graph_value}
 use Rattle.job_readers.specs.RunPart.{packet_net_faults, packet_net, packet_faults, packet_value, packets_faults, packets_value, events_faults, events_value, places_faults, run_members_faults, run_members, run_faults, run_value}
 use Rattle.job_readers.specs.WholeJob.{job_faults, job_value}
 use Rattle.job_gen.specs.declared.draws.DrawnNet.{DrawnNet}
@@ -24,9 +24,9 @@ use Rattle.job_gen.specs.declared.draws.DrawnPacket.{DrawnPacket}
 use Rattle.job_gen.specs.declared.draws.Drawn.{Drawn}
 use Rattle.job_gen.specs.Draws.{keys_at, drawn}
 use Rattle.job_gen.specs.DrawnFacts.{IsDrawnNet, IsDrawnPacket, IsDrawn}
-use Rattle.job_gen.specs.Values.{numbered, net_name, vertex_data, net_data, packet_data, dead_pairs, machine_data, graph_data, run_data, job_data, gen_value}
-use Rattle.job_gen.specs.Board.{board}
-use Rattle.job_gen.specs.Generated.{vertex_of, net_of, packet_of, graph_of, run_of, job_of_drawn, gen_job}
+use Rattle.job_gen.specs.Values.{numbered, generated_net_name, vertex_data, net_data, packet_data, dead_pairs, machine_data, graph_data, run_data, job_data, gen_value}
+use Rattle.job_gen.specs.Board.{generated_board}
+use Rattle.job_gen.specs.Generated.{generated_vertex, net_of, packet_of, graph_of, generated_run, job_of_drawn, gen_job}
 use Rattle.job_gen.proofs.NameLemmas.{found, named}
 use Rattle.job_gen.proofs.ListReading.{items_clean, items_are, numbered_are, length-numbered, following_clean}
 use Rattle.job_gen.proofs.GraphReading.{within, vertex_clean, vertex_is, vertex_named, net_clean, net_is, net_named}
@@ -42,18 +42,18 @@ machine_clean : (path : List ℕ) (job : Drawn) → machine_faults path (job_dat
 unfolding machine_faults machine_members_faults entries_faults number_member_faults number_member flag_member_faults long_list_member_faults list_member items_faults chip_faults job_data graph_data machine_data run_data dead_pairs
 machine_clean path job = refl
 
-machine_is : (job : Drawn) → machine_value (job_data job) ≡ board
-unfolding machine_value machine_members number_member flag_member list_member chip_value job_data graph_data machine_data run_data dead_pairs board
+machine_is : (job : Drawn) → machine_value (job_data job) ≡ generated_board
+unfolding machine_value machine_members number_member flag_member list_member chip_value job_data graph_data machine_data run_data dead_pairs generated_board
 machine_is job = refl
 
-live_chips : live_count_of board ≡ 48
-unfolding board dead_pairs
+live_chips : live_count_of generated_board ≡ 48
+unfolding generated_board dead_pairs
 live_chips = refl
 
 -- ---- the graph
 
 net_value_named : (vertices : List Vertex) (i : ℕ) (net : DrawnNet) → (net_value 1 vertices (net_data i net)).name ≡ 110 ∷ decimal i
-unfolding net_value name_of net_data
+unfolding net_value name_value net_data
 net_value_named vertices i net = refl
 
 net_keys : (i : ℕ) (net : DrawnNet) → (net_of i net).keys ≡ net.keys
@@ -76,27 +76,27 @@ module _ (job : Drawn) (drawn : IsDrawn job) where
             (λ i s. ap (λ (v : Vertex). v.name) (vertex_is i s) ∙ vertex_named i s) [] _ 0 0 job.sdrams tt (omega (arith, drawn.vertices)) drawn.sdrams,
       ) refl
 
-  vertices_are : vertices_value 1 (graph_data job) ≡ numbered vertex_of 0 job.sdrams
+  vertices_are : vertices_value 1 (graph_data job) ≡ numbered generated_vertex 0 job.sdrams
   unfolding vertices_value list_member graph_data
   vertices_are =
       ap (map (vertex_value 1)) (list_of-items_of (numbered vertex_data 0 job.sdrams))
-      ∙ numbered_are (λ s. s ≤ 1048576) (vertex_value 1) vertex_data vertex_of (λ i s few. vertex_is i s) 0 job.sdrams drawn.sdrams
+      ∙ numbered_are (λ s. s ≤ 1048576) (vertex_value 1) vertex_data generated_vertex (λ i s few. vertex_is i s) 0 job.sdrams drawn.sdrams
 
-  nets_clean : (path : List ℕ) → nets_faults 1 (numbered vertex_of 0 job.sdrams) path (graph_data job) ≡ []
+  nets_clean : (path : List ℕ) → nets_faults 1 (numbered generated_vertex 0 job.sdrams) path (graph_data job) ≡ []
   unfolding nets_faults list_member_faults list_member graph_data
   nets_clean path =
       rw (
         list_of-items_of (numbered net_data 0 job.nets),
         few_faults _ 4096 (length (numbered net_data 0 job.nets)) (omega (arith, length-numbered net_data 0 job.nets, drawn.number_of_nets)),
-        following_clean IsDrawnNet 110 (λ (n : Net). n.name) (next_net_faults 1 (numbered vertex_of 0 job.sdrams)) (net_value 1 (numbered vertex_of 0 job.sdrams)) net_data
-            (net_clean job.sdrams drawn.vertices) (net_value_named (numbered vertex_of 0 job.sdrams)) [] _ 0 0 job.nets tt (omega (arith, drawn.number_of_nets)) drawn.nets,
+        following_clean IsDrawnNet 110 (λ (n : Net). n.name) (next_net_faults 1 (numbered generated_vertex 0 job.sdrams)) (net_value 1 (numbered generated_vertex 0 job.sdrams)) net_data
+            (net_clean job.sdrams drawn.vertices) (net_value_named (numbered generated_vertex 0 job.sdrams)) [] _ 0 0 job.nets tt (omega (arith, drawn.number_of_nets)) drawn.nets,
       ) refl
 
-  nets_are : nets_value 1 (numbered vertex_of 0 job.sdrams) (graph_data job) ≡ numbered net_of 0 job.nets
+  nets_are : nets_value 1 (numbered generated_vertex 0 job.sdrams) (graph_data job) ≡ numbered net_of 0 job.nets
   unfolding nets_value list_member graph_data
   nets_are =
-      ap (map (net_value 1 (numbered vertex_of 0 job.sdrams))) (list_of-items_of (numbered net_data 0 job.nets))
-      ∙ numbered_are IsDrawnNet (net_value 1 (numbered vertex_of 0 job.sdrams)) net_data net_of (net_is job.sdrams drawn.vertices) 0 job.nets drawn.nets
+      ap (map (net_value 1 (numbered generated_vertex 0 job.sdrams))) (list_of-items_of (numbered net_data 0 job.nets))
+      ∙ numbered_are IsDrawnNet (net_value 1 (numbered generated_vertex 0 job.sdrams)) net_data net_of (net_is job.sdrams drawn.vertices) 0 job.nets drawn.nets
 
   graph_clean : (path : List ℕ) → graph_members_faults 1 path (graph_data job) ≡ []
   unfolding graph_members_faults
@@ -108,15 +108,15 @@ module _ (job : Drawn) (drawn : IsDrawn job) where
 
   -- ---- packets
 
-  net_place : (i : ℕ) → i < 300 → place_in (net_names (numbered net_of 0 job.nets)) (net_name i) ≡ Some i
+  net_place : (i : ℕ) → i < 300 → name_place_in (net_names (numbered net_of 0 job.nets)) (generated_net_name i) ≡ Some i
   unfolding net_names
   net_place i below =
       let number : i ≡ 0 + i = omega arith in
-      ap (λ j. place_in (net_names (numbered net_of 0 job.nets)) (110 ∷ decimal j)) number
+      ap (λ j. name_place_in (net_names (numbered net_of 0 job.nets)) (110 ∷ decimal j)) number
       ∙ found 110 (λ (n : Net). n.name) net_of net_named 0 i job.nets (omega (arith, drawn.number_of_nets)) (omega (arith, drawn.number_of_nets))
 
-  same_keys : (i : ℕ) → keys_of (numbered net_of 0 job.nets) i ≡ keys_at job.nets i
-  unfolding keys_of keys_at
+  same_keys : (i : ℕ) → key_count_of (numbered net_of 0 job.nets) i ≡ keys_at job.nets i
+  unfolding key_count_of keys_at
   same_keys i = ap (λ ks. slice_index ks i) (keys_numbered 0 job.nets)
 
   packet_net_is : (p : DrawnPacket) → p.net < 300 → packet_net (numbered net_of 0 job.nets) (packet_data p) ≡ p.net
@@ -141,12 +141,12 @@ module _ (job : Drawn) (drawn : IsDrawn job) where
   unfolding packet_faults packet_data
   packet_clean path p of_nets =
       let net : p.net < 300 = of_nets.net in
-      let keys : keys_of (numbered net_of 0 job.nets) (packet_net (numbered net_of 0 job.nets) (packet_data p)) ≡ keys_at job.nets p.net =
-      ap (keys_of (numbered net_of 0 job.nets)) (packet_net_is p net) ∙ same_keys p.net in
+      let keys : key_count_of (numbered net_of 0 job.nets) (packet_net (numbered net_of 0 job.nets) (packet_data p)) ≡ keys_at job.nets p.net =
+      ap (key_count_of (numbered net_of 0 job.nets)) (packet_net_is p net) ∙ same_keys p.net in
       let index : p.index < keys_at job.nets p.net = of_nets.index in
       rw (
         packet_net_clean path p net,
-        index_clean path p (keys_of (numbered net_of 0 job.nets) (packet_net (numbered net_of 0 job.nets) (packet_data p)) - 1) (omega (arith, keys, index)),
+        index_clean path p (key_count_of (numbered net_of 0 job.nets) (packet_net (numbered net_of 0 job.nets) (packet_data p)) - 1) (omega (arith, keys, index)),
         payload_clean path p of_nets.payload,
       ) refl
 
@@ -175,11 +175,11 @@ module _ (job : Drawn) (drawn : IsDrawn job) where
   run_clean : (path : List ℕ) → run_members_faults 48 (graph_of job) path (run_data job.packets) ≡ []
   unfolding run_members_faults number_member_faults number_member events_faults long_list_member_faults list_member items_faults places_faults graph_of run_data
   run_clean path =
-      let many : length (numbered vertex_of 0 job.sdrams) ≡ 200 = length-numbered vertex_of 0 job.sdrams ∙ drawn.vertices in
+      let many : length (numbered generated_vertex 0 job.sdrams) ≡ 200 = length-numbered generated_vertex 0 job.sdrams ∙ drawn.vertices in
       rw (packets_clean path, many) refl
 
-  run_is : run_members (graph_of job) (run_data job.packets) ≡ run_of job.packets
-  unfolding run_members number_member events_value list_member graph_of run_of run_data
+  run_is : run_members (graph_of job) (run_data job.packets) ≡ generated_run job.packets
+  unfolding run_members number_member events_value list_member graph_of generated_run run_data
   run_is = rw packets_are refl
 
   -- ---- the whole job
@@ -192,11 +192,11 @@ module _ (job : Drawn) (drawn : IsDrawn job) where
   unfolding graph_value job_data graph_data
   graph_part_is = graph_is
 
-  run_part_clean : (path : List ℕ) → run_faults path board (graph_of job) (job_data job) ≡ []
+  run_part_clean : (path : List ℕ) → run_faults path generated_board (graph_of job) (job_data job) ≡ []
   unfolding run_faults job_data run_data
   run_part_clean path = rw live_chips (run_clean _)
 
-  run_part_is : run_value (graph_of job) (job_data job) ≡ run_of job.packets
+  run_part_is : run_value (graph_of job) (job_data job) ≡ generated_run job.packets
   unfolding run_value job_data run_data
   run_part_is = run_is
 
@@ -208,8 +208,8 @@ module _ (job : Drawn) (drawn : IsDrawn job) where
   unfolding version_faults number_member_faults job_data
   version_clean path = refl
 
-  own_clean : (path : List ℕ) → own_faults path (job_data job) ≡ []
-  unfolding own_faults job_data
+  own_clean : (path : List ℕ) → job_own_faults path (job_data job) ≡ []
+  unfolding job_own_faults job_data
   own_clean path = refl
 
   pub drawn_clean : (path : List ℕ) → job_faults path 3 (job_data job) ≡ []

@@ -16,7 +16,7 @@ use Rattle.job_gen.specs.declared.draws.DrawnPacket.{DrawnPacket}
 use Rattle.job_gen.specs.declared.draws.Drawn.{Drawn}
 use Rattle.job_gen.specs.Draws.{keys_at, drawn}
 use Rattle.job_gen.specs.DrawnFacts.{IsDrawnNet, IsDrawnPacket, IsDrawn}
-use Rattle.job_gen.specs.Values.{vertex_name, net_name, vertex_data, name_data, net_data, packet_data, pair_data, dead_pairs, machine_data, graph_data, run_data, job_data, gen_value, gen_text_of, numbered}
+use Rattle.job_gen.specs.Values.{generated_vertex_name, generated_net_name, vertex_data, name_data, net_data, packet_data, pair_data, dead_pairs, machine_data, graph_data, run_data, job_data, gen_value, gen_text_of, numbered}
 use Rattle.job_gen.proofs.DrawnLaws.{is_drawn}
 
 -- ---- strings
@@ -123,7 +123,7 @@ vertex_short : (i sdram : ℕ) → i < 10 ^ 10 → sdram ≤ 1048576 → length 
 unfolding vertex_data
 vertex_short i sdram small few =
     let memory = member_short (codes "sdram") (number (unsigned sdram)) 5 10 (omega arith) (decimal_short sdram (omega arith)) none_short in
-    let name = member_short (codes "name") (string (vertex_name i)) 4 68 (omega arith) (name_short 118 i small) memory in
+    let name = member_short (codes "name") (string (generated_vertex_name i)) 4 68 (omega arith) (name_short 118 i small) memory in
     object_short 4000 name (omega arith)
 
 target_short : (t : ℕ) → t < 200 → length (compact_text (name_data t)) ≤ 300
@@ -138,7 +138,7 @@ net_short i net small is =
     let source_named : length (compact_text (name_data net.source)) ≤ 300 = target_short net.source is.source in
     let targets = member_short (codes "targets") (array (items_of (map name_data net.targets))) 7 2410 (omega arith) listed none_short in
     let source = member_short (codes "source") (name_data net.source) 6 300 (omega arith) source_named targets in
-    let name = member_short (codes "name") (string (net_name i)) 4 68 (omega arith) (name_short 110 i small) source in
+    let name = member_short (codes "name") (string (generated_net_name i)) 4 68 (omega arith) (name_short 110 i small) source in
     let keys = member_short (codes "keys") (number (unsigned net.keys)) 4 10 (omega arith) (decimal_short net.keys (omega (arith, is.few_keys))) name in
     object_short 4000 keys (omega arith)
 
@@ -146,7 +146,7 @@ packet_short : (nets : List DrawnNet) (p : DrawnPacket) → keys_at nets p.net �
 unfolding packet_data
 packet_short nets p few is =
     let payload = member_short (codes "payload") (number (unsigned p.payload)) 7 10 (omega arith) (decimal_short p.payload (omega (arith, is.payload))) none_short in
-    let net = member_short (codes "net") (string (net_name p.net)) 3 68 (omega arith) (name_short 110 p.net (omega (arith, is.net))) payload in
+    let net = member_short (codes "net") (string (generated_net_name p.net)) 3 68 (omega arith) (name_short 110 p.net (omega (arith, is.net))) payload in
     let index = member_short (codes "index") (number (unsigned p.index)) 5 10 (omega arith) (decimal_short p.index (omega (arith, is.index, few))) net in
     object_short 4000 index (omega arith)
 

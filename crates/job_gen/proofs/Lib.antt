@@ -7,3 +7,8 @@ pub mod ListReading
 mod GraphReading
 pub mod JobReading
 mod LengthLemmas
+mod Joined
+mod Keyed
+mod Roomy
+pub mod Fitting
+mod FewRows

@@ -7,7 +7,7 @@ use Rattle.std.proofs.lemmas.List.Folds.{list_all-append}
 use Rattle.std.proofs.lemmas.Fmt.{decimal_by_steps, decimal_injective, length-decimal-le}
 use Rattle.std.proofs.lemmas.Slice.Eq.{bytes_eq-Decides}
 use Rattle.job_text.specs.Fields.{is_printable_byte, is_name}
-use Rattle.job_readers.specs.Places.{place_in}
+use Rattle.job_readers.specs.Places.{name_place_in}
 use Rattle.job_gen.specs.Values.{numbered}
 
 printable : (b : ℕ) → 33 ≤ b → b ≤ 126 → is_printable_byte b ≡ true
@@ -53,7 +53,7 @@ below_more c i (s ∷ names) below =
     ((below.0.0, omega arith, below.0.2), below_more c i names below.1)
 
 -- the name of i is none of them
-pub absent : (c i : ℕ) (names : List (List ℕ)) → i < 1000 → AreBelow c i names → place_in names (c ∷ decimal i) ≡ None
+pub absent : (c i : ℕ) (names : List (List ℕ)) → i < 1000 → AreBelow c i names → name_place_in names (c ∷ decimal i) ≡ None
 absent c i [] small below = refl
 absent c i (s ∷ names) small below =
     let less : below.0.0 < i = below.0.1 in
@@ -63,7 +63,7 @@ absent c i (s ∷ names) small below =
 
 -- the names of numbered things, and where they stand
 pub found : {A B : Type 0} (c : ℕ) (name : B → List ℕ) (f : ℕ → A → B) → ((i : ℕ) (x : A) → name (f i x) ≡ c ∷ decimal i)
-    → (i k : ℕ) (xs : List A) → k < length xs → i + length xs ≤ 1000 → place_in (map name (numbered f i xs)) (c ∷ decimal (i + k)) ≡ Some k
+    → (i k : ℕ) (xs : List A) → k < length xs → i + length xs ≤ 1000 → name_place_in (map name (numbered f i xs)) (c ∷ decimal (i + k)) ≡ Some k
 unfolding numbered
 found c name f names i k [] below small = absurd (omega arith)
 found c name f names i zero (x ∷ xs) below small =
@@ -75,6 +75,6 @@ found c name f names i (suc k) (x ∷ xs) below small =
     let differs : bytes_eq (name (f i x)) (c ∷ decimal (i + suc k)) ≡ false =
     ap (λ t. bytes_eq t (c ∷ decimal (i + suc k))) (names i x) ∙ other_name c i (i + suc k) (omega arith) (omega arith) (λ same. omega arith) in
     let number : i + suc k ≡ i + 1 + k = omega arith in
-    let rest : place_in (map name (numbered f (i + 1) xs)) (c ∷ decimal (i + suc k)) ≡ Some k =
-    ap (λ j. place_in (map name (numbered f (i + 1) xs)) (c ∷ decimal j)) number ∙ found c name f names (i + 1) k xs (omega arith) (omega arith) in
+    let rest : name_place_in (map name (numbered f (i + 1) xs)) (c ∷ decimal (i + suc k)) ≡ Some k =
+    ap (λ j. name_place_in (map name (numbered f (i + 1) xs)) (c ∷ decimal j)) number ∙ found c name f names (i + 1) k xs (omega arith) (omega arith) in
     rw (differs, rest) (ap Some (omega arith))

@@ -8,8 +8,8 @@ abbrev pub chip_of_pair : ℕ × ℕ → Chip
 chip_of_pair p = record { x = p.0; y = p.1 }
 
 -- Each chip has all its memory, and no core and no link is listed dead.
-unfoldable pub board : Description
-board = record {
+unfoldable pub generated_board : Description
+generated_board = record {
   width = 8;
   height = 8;
   wrap = false;

@@ -65,5 +65,5 @@ unfoldable pub drawn : ℕ → Drawn
 drawn n = drawn_from (seeded n)
 
 -- a net that needs a key
-abbrev pub HasKeys : DrawnNet → Type 0
-HasKeys net = 0 < net.keys
+abbrev pub NeedsKey : DrawnNet → Type 0
+NeedsKey net = 0 < net.keys

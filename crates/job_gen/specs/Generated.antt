@@ -10,26 +10,26 @@ use Rattle.job_gen.specs.declared.draws.DrawnNet.{DrawnNet}
 use Rattle.job_gen.specs.declared.draws.DrawnPacket.{DrawnPacket}
 use Rattle.job_gen.specs.declared.draws.Drawn.{Drawn}
 use Rattle.job_gen.specs.Draws.{drawn}
-use Rattle.job_gen.specs.Values.{vertex_name, net_name, numbered}
-use Rattle.job_gen.specs.Board.{board}
+use Rattle.job_gen.specs.Values.{generated_vertex_name, generated_net_name, numbered}
+use Rattle.job_gen.specs.Board.{generated_board}
 
 -- a vertex may stand anywhere
-unfoldable pub vertex_of : ℕ → ℕ → Vertex
-vertex_of i sdram = record { name = vertex_name i; sdram = sdram; at = None; device = None }
+unfoldable pub generated_vertex : ℕ → ℕ → Vertex
+generated_vertex i sdram = record { name = generated_vertex_name i; sdram = sdram; at = None; device = None }
 
 -- a net may have any keys
 unfoldable pub net_of : ℕ → DrawnNet → Net
-net_of i net = record { name = net_name i; source = net.source; targets = net.targets; keys = net.keys; fixed = None }
+net_of i net = record { name = generated_net_name i; source = net.source; targets = net.targets; keys = net.keys; fixed = None }
 
 unfoldable pub packet_of : DrawnPacket → Packet
 packet_of p = record { net = p.net; index = p.index; payload = Some p.payload }
 
 unfoldable pub graph_of : Drawn → Graph
-graph_of job = record { vertices = numbered vertex_of 0 job.sdrams; nets = numbered net_of 0 job.nets }
+graph_of job = record { vertices = numbered generated_vertex 0 job.sdrams; nets = numbered net_of 0 job.nets }
 
 -- Queues have room for all packets. Tables are joined as far as they can be.
-unfoldable pub run_of : List DrawnPacket → RunPart
-run_of packets = record {
+unfoldable pub generated_run : List DrawnPacket → RunPart
+generated_run packets = record {
   queue = 1200;
   patience = 16;
   workers = 4;
@@ -41,7 +41,7 @@ run_of packets = record {
 
 -- the job of what was drawn
 unfoldable pub job_of_drawn : Drawn → Job
-job_of_drawn job = record { machine = board; graph = graph_of job; run = run_of job.packets }
+job_of_drawn job = record { machine = generated_board; graph = graph_of job; run = generated_run job.packets }
 
 -- the job of a number
 unfoldable pub gen_job : ℕ → Job

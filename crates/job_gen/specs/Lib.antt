@@ -1,6 +1,12 @@
 pub use Rattle.rand_xoshiro.specs.SplitMix64
 pub use Rattle.rand_xoshiro.specs.Xoshiro256
 pub use Rattle.job_text.specs.Json
+pub use Rattle.machine_desc.specs.Live
+pub use Rattle.link_detours.specs.Repair
+pub use Rattle.place_fit.specs.Placement
+pub use Rattle.key_alloc.specs.KeyBlocks
+pub use Rattle.net_tables.specs.PlainTable
+pub use Rattle.net_plans.specs.CutOffTargets
 pub mod Draws
 pub mod Values
 pub mod DrawnFacts

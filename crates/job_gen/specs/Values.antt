@@ -9,11 +9,11 @@ use Rattle.job_gen.specs.declared.draws.Drawn.{Drawn}
 use Rattle.job_gen.specs.Draws.{drawn}
 
 -- vertices are v0, v1 and so on, nets n0, n1 and so on
-abbrev pub vertex_name : ℕ → List ℕ
-vertex_name i = codes "v" ++ decimal i
+abbrev pub generated_vertex_name : ℕ → List ℕ
+generated_vertex_name i = codes "v" ++ decimal i
 
-abbrev pub net_name : ℕ → List ℕ
-net_name i = codes "n" ++ decimal i
+abbrev pub generated_net_name : ℕ → List ℕ
+generated_net_name i = codes "n" ++ decimal i
 
 -- each item with its number, counted from i
 unfoldable pub numbered : {A B : Type 0} → (ℕ → A → B) → ℕ → List A → List B
@@ -23,18 +23,18 @@ numbered f i (x ∷ xs) = f i x ∷ numbered f (i + 1) xs
 -- a vertex has its name and its memory
 unfoldable pub vertex_data : ℕ → ℕ → Data
 vertex_data i sdram =
-    object (member (codes "name") (string (vertex_name i))
+    object (member (codes "name") (string (generated_vertex_name i))
     (member (codes "sdram") (number (unsigned sdram)) no_members))
 
 -- the name of a vertex, as a value
 unfoldable pub name_data : ℕ → Data
-name_data i = string (vertex_name i)
+name_data i = string (generated_vertex_name i)
 
 -- A net has its keys, its name, its source and its targets.
 unfoldable pub net_data : ℕ → DrawnNet → Data
 net_data i net =
     object (member (codes "keys") (number (unsigned net.keys))
-    (member (codes "name") (string (net_name i))
+    (member (codes "name") (string (generated_net_name i))
     (member (codes "source") (name_data net.source)
     (member (codes "targets") (array (items_of (map name_data net.targets))) no_members))))
 
@@ -42,7 +42,7 @@ net_data i net =
 unfoldable pub packet_data : DrawnPacket → Data
 packet_data p =
     object (member (codes "index") (number (unsigned p.index))
-    (member (codes "net") (string (net_name p.net))
+    (member (codes "net") (string (generated_net_name p.net))
     (member (codes "payload") (number (unsigned p.payload)) no_members)))
 
 -- a chip is [x,y]

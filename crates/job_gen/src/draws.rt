@@ -1,6 +1,6 @@
 // What a generated job draws.
 ghost use Rattle.std.specs.Prelude.{◌≡◌, ◌<◌, ◌/◌, ◌+◌, length, All, IfOk};
-ghost use Rattle.job_gen.specs.Draws.{seeded, draw, draws, drawn_sdram, drawn_target, drawn_net, drawn_packet, drawn, HasKeys};
+ghost use Rattle.job_gen.specs.Draws.{seeded, draw, draws, drawn_sdram, drawn_target, drawn_net, drawn_packet, drawn, NeedsKey};
 
 use rand_core::SeedableRng;
 use rand_core::utils::NextWord;
@@ -71,7 +71,8 @@ fn draw(generator: &mut Xoshiro256PlusPlus, m: u64) -> u64
 
 // The memory of each vertex.
 fn draw_sdrams(alloc: Global, generator: &mut Xoshiro256PlusPlus) -> Result<Seq<u32>, Memory>
-    ensures { IfOk result (λ sdrams. (sdrams, generator.new) ≡ draws drawn_sdram 200 generator.old) }
+    ensures { IfOk result (λ sdrams. (sdrams, generator.new)
+        ≡ draws drawn_sdram 200 generator.old) }
 {
     let mut sdrams = Vec::new(alloc);
     for i in 0..VERTICES {
@@ -114,7 +115,8 @@ fn draw_targets(
     generator: &mut Xoshiro256PlusPlus,
     count: u32,
 ) -> Result<Seq<u32>, Memory>
-    ensures { IfOk result (λ targets. (targets, generator.new) ≡ draws drawn_target count generator.old) }
+    ensures { IfOk result (λ targets. (targets, generator.new)
+        ≡ draws drawn_target count generator.old) }
 {
     let mut targets = Vec::new(alloc);
     for i in 0..count {
@@ -131,8 +133,9 @@ fn draw_packets(
     nets: &[DrawnNet],
 ) -> Result<Seq<DrawnPacket>, Memory>
     requires nets { length nets.now ≡ 300 }
-    requires keys { All HasKeys nets.now }
-    ensures { IfOk result (λ packets. (packets, generator.new) ≡ draws (drawn_packet nets.now) 1200 generator.old) }
+    requires keys { All NeedsKey nets.now }
+    ensures { IfOk result (λ packets. (packets, generator.new)
+        ≡ draws (drawn_packet nets.now) 1200 generator.old) }
 {
     let mut packets = Vec::new(alloc);
     for i in 0..PACKETS {
@@ -146,7 +149,7 @@ fn draw_packets(
 fn draw_packet(generator: &mut Xoshiro256PlusPlus, nets: &[DrawnNet], i: usize) -> DrawnPacket
     requires nets { length nets.now ≡ 300 }
     requires packet { i < 1200 }
-    requires keys { All HasKeys nets.now }
+    requires keys { All NeedsKey nets.now }
     ensures { (result, generator.new) ≡ drawn_packet nets.now i generator.old }
 {
     let net = i / 4;

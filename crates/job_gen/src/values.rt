@@ -2,7 +2,7 @@
 ghost use Rattle.std.specs.Prelude.{◌≡◌, ◌<◌, ℕ, length, map, IfOk};
 ghost use Rattle.serde_json.specs.View.{view, items_of};
 ghost use Rattle.serde_json.specs.Data.{string, array};
-ghost use Rattle.job_gen.specs.Values.{vertex_name, net_name, vertex_data, net_data, packet_data, chip_data, dead_pairs, machine_data, graph_data, run_data, job_data, numbered, name_data, pair_data};
+ghost use Rattle.job_gen.specs.Values.{generated_vertex_name, generated_net_name, vertex_data, net_data, packet_data, chip_data, dead_pairs, machine_data, graph_data, run_data, job_data, numbered, name_data, pair_data};
 
 use crate::draws::{Drawn, DrawnNet, DrawnPacket};
 use serde_json::{Value, json};

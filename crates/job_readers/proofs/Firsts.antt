@@ -3,22 +3,22 @@ use Rattle.std.proofs.Common.{◌≡◌, List, [], ◌∷◌, ◌++◌, refl}
 use Rattle.job_text.specs.declared.faults.JobFault.{JobFault}
 use Rattle.job_text.specs.declared.faults.TextErr.{TextErr}
 use Rattle.job_text.specs.declared.faults.TextErr.TheVariants as errors
-use Rattle.job_text.specs.Reading.{◌▹◌, Fails}
+use Rattle.job_text.specs.Reading.{◌▹◌, IsFirstFault}
 
-pub fails_before : (e : TextErr) (a b : List JobFault) → Fails e a → Fails e (a ++ b)
+pub fails_before : (e : TextErr) (a b : List JobFault) → IsFirstFault e a → IsFirstFault e (a ++ b)
 fails_before errors.Memory a b h = tt
 fails_before (errors.Fault f) [] b h = absurd cc
 fails_before (errors.Fault f) (x ∷ a) b h = h
 
-pub fails_later : (e : TextErr) (a b : List JobFault) → a ≡ [] → Fails e b → Fails e (a ++ b)
+pub fails_later : (e : TextErr) (a b : List JobFault) → a ≡ [] → IsFirstFault e b → IsFirstFault e (a ++ b)
 fails_later e a b none h = rw none h
 
-pub fails_own : (e : TextErr) (a b : List JobFault) → Fails e a → Fails e (a ▹ b)
+pub fails_own : (e : TextErr) (a b : List JobFault) → IsFirstFault e a → IsFirstFault e (a ▹ b)
 fails_own errors.Memory a b h = tt
 fails_own (errors.Fault f) [] b h = absurd cc
 fails_own (errors.Fault f) (x ∷ a) b h = h
 
-pub fails_inside : (e : TextErr) (a b : List JobFault) → a ≡ [] → Fails e b → Fails e (a ▹ b)
+pub fails_inside : (e : TextErr) (a b : List JobFault) → a ≡ [] → IsFirstFault e b → IsFirstFault e (a ▹ b)
 fails_inside e a b none h = rw none h
 
 pub ruleset firsts = (fails_before, fails_later, fails_own, fails_inside)

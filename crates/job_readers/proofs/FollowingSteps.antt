@@ -4,7 +4,7 @@ use Rattle.std.proofs.lemmas.List.{drop_all}
 use Rattle.serde_json.specs.Data.{Data}
 use Rattle.job_text.specs.declared.faults.JobFault.{JobFault}
 use Rattle.job_text.specs.declared.faults.TextErr.{TextErr}
-use Rattle.job_text.specs.Reading.{Fails}
+use Rattle.job_text.specs.Reading.{IsFirstFault}
 use Rattle.job_text.specs.Paths.{item_at}
 use Rattle.job_readers.specs.Items.{following_faults}
 use Rattle.job_readers.proofs.Firsts.{fails_before}
@@ -21,10 +21,10 @@ module _ {V A : Type 0} (g : V → Data) (xs : List V) (i : ℕ) (x : V) (below 
       ap (λ l. following_faults f value l path (i + 1) (map g (drop (i + 1) xs))) pushed ∙ sym (ap (following_faults f value before path i) left ∙ rw none refl) ∙ so_far
 
   -- an item with a fault
-  pub following-fail : (e : TextErr) → Fails e (f before at (g x)) → following_faults f value before path i (map g (drop i xs)) ≡ total → Fails e total
+  pub following-fail : (e : TextErr) → IsFirstFault e (f before at (g x)) → following_faults f value before path i (map g (drop i xs)) ≡ total → IsFirstFault e total
   unfolding following_faults
   following-fail e bad so_far =
-      let one : Fails e (f before (item_at path i) (g x)) = subst (λ p. Fails e (f before p (g x))) here bad in
+      let one : IsFirstFault e (f before (item_at path i) (g x)) = subst (λ p. IsFirstFault e (f before p (g x))) here bad in
       rw (← so_far, left) (fails_before e (f before (item_at path i) (g x)) (following_faults f value (before ++ value (g x) ∷ []) path (i + 1) (map g (drop (i + 1) xs))) one)
 
 -- no item is left

@@ -13,11 +13,11 @@ use Rattle.machine_desc.specs.Equality.{edge_eq}
 use Rattle.machine_desc.proofs.Same.{edge_eq_self}
 use Rattle.app_graph.specs.declared.graphs.Vertex.{Vertex}
 use Rattle.app_graph.specs.declared.graphs.Net.{Net}
-use Rattle.app_graph.specs.ValidGraph.{HaveDifferentDevices, AreFixedApart, AreApart}
+use Rattle.app_graph.specs.ValidGraph.{HaveDifferentDevices, AreFixedApart, ShareNoKey}
 use Rattle.tern_word.proofs.BlockLaws.{agree_where_meet}
 use Rattle.job_readers.specs.Blocks.{shares_key}
 use Rattle.job_readers.specs.Hung.{is_among}
-use Rattle.job_readers.specs.GraphPart.{name_of, vertex_faults, vertex_value, next_vertex_faults, vertex_names_of, devices_of, net_faults, net_value, next_net_faults, net_names, blocks_of}
+use Rattle.job_readers.specs.GraphPart.{name_value, vertex_faults, vertex_value, next_vertex_faults, vertex_names_of, devices_of, net_faults, net_value, next_net_faults, net_names, fixed_blocks_of}
 
 -- what one of the items has, is among what all have
 listed_any : {X A : Type 0} (f : X → Option A) (p : A → Bool) (xs : List X) (k : ℕ) (d : X) (a : A) → k < length xs → f (get_or xs k d) ≡ Some a → p a ≡ true → list_any p (flat_map (λ x. option_to_list (f x)) xs) ≡ true
@@ -34,7 +34,7 @@ listed_any f p (x ∷ xs) (suc k) d a below is holds =
 pub next_vertex : (version : ℕ) (names : List (List ℕ)) (devices : List Edge) (vs : List Vertex) (at : List ℕ) (d : Data) → names ≡ vertex_names_of vs → devices ≡ devices_of vs → vertex_faults version names devices at d ≡ next_vertex_faults version vs at d
 next_vertex version names devices vs at d named hung = rw (named, hung) refl
 
-pub vertex_name : (version : ℕ) (d : Data) → (vertex_value version d).name ≡ name_of d
+pub vertex_name : (version : ℕ) (d : Data) → (vertex_value version d).name ≡ name_value d
 unfolding vertex_value
 vertex_name version d = refl
 
@@ -61,10 +61,10 @@ different_more vs new v devices pushed hung fresh pairs =
 
 -- ---- nets
 
-pub next_net : (version : ℕ) (vertices : List Vertex) (names : List (List ℕ)) (blocks : List Block) (ns : List Net) (at : List ℕ) (d : Data) → names ≡ net_names ns → blocks ≡ blocks_of ns → net_faults version vertices names blocks at d ≡ next_net_faults version vertices ns at d
+pub next_net : (version : ℕ) (vertices : List Vertex) (names : List (List ℕ)) (blocks : List Block) (ns : List Net) (at : List ℕ) (d : Data) → names ≡ net_names ns → blocks ≡ fixed_blocks_of ns → net_faults version vertices names blocks at d ≡ next_net_faults version vertices ns at d
 next_net version vertices names blocks ns at d named fixed = rw (named, fixed) refl
 
-pub net_name : (version : ℕ) (vertices : List Vertex) (d : Data) → (net_value version vertices d).name ≡ name_of d
+pub net_name : (version : ℕ) (vertices : List Vertex) (d : Data) → (net_value version vertices d).name ≡ name_value d
 unfolding net_value
 net_name version vertices d = refl
 
@@ -72,8 +72,8 @@ pub net_names_more : (ns new : List Net) (n : Net) (names more : List (List ℕ)
 unfolding net_names
 net_names_more ns new n names more s pushed named said same = said ∙ rw (named, same, pushed, map_push) refl
 
-pub blocks_more : (ns new : List Net) (n : Net) (blocks more : List Block) → new ≡ ns ++ n ∷ [] → blocks ≡ blocks_of ns → more ≡ blocks ++ option_to_list n.fixed → more ≡ blocks_of new
-unfolding blocks_of
+pub blocks_more : (ns new : List Net) (n : Net) (blocks more : List Block) → new ≡ ns ++ n ∷ [] → blocks ≡ fixed_blocks_of ns → more ≡ blocks ++ option_to_list n.fixed → more ≡ fixed_blocks_of new
+unfolding fixed_blocks_of
 blocks_more ns new n blocks more pushed fixed added =
     added ∙ ap (λ l. l ++ option_to_list n.fixed) fixed ∙ flat_map_more (λ (m : Net). option_to_list m.fixed) [] ns n ∙ ap (flat_map (λ (m : Net). option_to_list m.fixed)) (sym pushed)
 
@@ -81,15 +81,15 @@ blocks_more ns new n blocks more pushed fixed added =
 apart : (a b : Block) (key : ℕ) → key < 2 ^ 32 → bit_and key a.mask ≡ a.key → bit_and key b.mask ≡ b.key → shares_key b a ≡ true
 apart a b key small mine its = eq-eqb _ _ (agree_where_meet b a (record { key = key; small = small; first = its; second = mine }))
 
-apart_from : (ns : List Net) (k : ℕ) (d : Net) (o p : Option Block) → k < length ns → (get_or ns k d).fixed ≡ o → IfSome p (λ b. list_any (shares_key b) (blocks_of ns) ≡ false) → IfSome o (λ a. IfSome p (AreApart a))
-unfolding blocks_of
+apart_from : (ns : List Net) (k : ℕ) (d : Net) (o p : Option Block) → k < length ns → (get_or ns k d).fixed ≡ o → IfSome p (λ b. list_any (shares_key b) (fixed_blocks_of ns) ≡ false) → IfSome o (λ a. IfSome p (ShareNoKey a))
+unfolding fixed_blocks_of
 apart_from ns k d None p below is fresh = tt
 apart_from ns k d (Some a) None below is fresh = tt
 apart_from ns k d (Some a) (Some b) below is fresh = λ key small mine its.
     true≢false (sym (listed_any (λ (m : Net). m.fixed) (shares_key b) ns k d a below is (apart a b key small mine its)) ∙ fresh)
 
-pub apart_more : (ns new : List Net) (n : Net) (blocks : List Block) → new ≡ ns ++ n ∷ [] → blocks ≡ blocks_of ns → IfSome n.fixed (λ b. list_any (shares_key b) blocks ≡ false) → AllPairs AreFixedApart ns → AllPairs AreFixedApart new
+pub apart_more : (ns new : List Net) (n : Net) (blocks : List Block) → new ≡ ns ++ n ∷ [] → blocks ≡ fixed_blocks_of ns → IfSome n.fixed (λ b. list_any (shares_key b) blocks ≡ false) → AllPairs AreFixedApart ns → AllPairs AreFixedApart new
 apart_more ns new n blocks pushed fixed fresh pairs =
-    let free : IfSome n.fixed (λ b. list_any (shares_key b) (blocks_of ns) ≡ false) = subst (λ l. IfSome n.fixed (λ b. list_any (shares_key b) l ≡ false)) fixed fresh in
+    let free : IfSome n.fixed (λ b. list_any (shares_key b) (fixed_blocks_of ns) ≡ false) = subst (λ l. IfSome n.fixed (λ b. list_any (shares_key b) l ≡ false)) fixed fresh in
     subst (AllPairs AreFixedApart) (sym pushed)
     (all_pairs_push AreFixedApart ns n pairs (λ k d below. apart_from ns k d (get_or ns k d).fixed n.fixed below refl free))

@@ -5,7 +5,7 @@ use Rattle.std.proofs.Common.{take_all}
 use Rattle.serde_json.specs.Data.{Data}
 use Rattle.job_text.specs.declared.faults.JobFault.{JobFault}
 use Rattle.job_text.specs.declared.faults.TextErr.{TextErr}
-use Rattle.job_text.specs.Reading.{Fails}
+use Rattle.job_text.specs.Reading.{IsFirstFault}
 use Rattle.job_text.specs.Paths.{item_at}
 use Rattle.job_readers.specs.Items.{items_faults}
 use Rattle.job_readers.proofs.Firsts.{fails_before}
@@ -22,10 +22,10 @@ module _ {V : Type 0} (g : V → Data) (xs : List V) (i : ℕ) (x : V) (below : 
       sym (ap (items_faults f path i) left ∙ rw none refl) ∙ so_far
 
   -- an item with a fault
-  pub items-fail : (f : List ℕ → Data → List JobFault) (path at : List ℕ) (total : List JobFault) (e : TextErr) → at ≡ item_at path i → Fails e (f at (g x)) → items_faults f path i (map g (drop i xs)) ≡ total → Fails e total
+  pub items-fail : (f : List ℕ → Data → List JobFault) (path at : List ℕ) (total : List JobFault) (e : TextErr) → at ≡ item_at path i → IsFirstFault e (f at (g x)) → items_faults f path i (map g (drop i xs)) ≡ total → IsFirstFault e total
   unfolding items_faults
   items-fail f path at total e here bad so_far =
-      let one : Fails e (f (item_at path i) (g x)) = subst (λ p. Fails e (f p (g x))) here bad in
+      let one : IsFirstFault e (f (item_at path i) (g x)) = subst (λ p. IsFirstFault e (f p (g x))) here bad in
       rw (← so_far, left) (fails_before e (f (item_at path i) (g x)) (items_faults f path (i + 1) (map g (drop (i + 1) xs))) one)
 
   -- one more value

@@ -3,17 +3,17 @@ use Rattle.std.proofs.Common.{◌≡◌, List, [], ◌∷◌, ◌++◌, refl}
 use Rattle.job_text.specs.declared.faults.JobFault.{JobFault}
 use Rattle.job_text.specs.declared.faults.TextErr.{TextErr}
 use Rattle.job_text.specs.declared.faults.TextErr.TheVariants as errors
-use Rattle.job_text.specs.Reading.{◌▹◌, Fails}
+use Rattle.job_text.specs.Reading.{◌▹◌, IsFirstFault}
 use Rattle.job_readers.proofs.Firsts.{fails_before, fails_later}
 
 -- the first part has the first fault
-pub part_first : (e : TextErr) (own a b : List JobFault) → Fails e (own ▹ a) → Fails e (own ▹ (a ++ b))
+pub part_first : (e : TextErr) (own a b : List JobFault) → IsFirstFault e (own ▹ a) → IsFirstFault e (own ▹ (a ++ b))
 part_first errors.Memory own a b h = tt
 part_first (errors.Fault f) [] a b h = fails_before (errors.Fault f) a b h
 part_first (errors.Fault f) (x ∷ own) a b h = h
 
 -- the first part has none
-pub part_later : (e : TextErr) (own a b : List JobFault) → own ▹ a ≡ [] → Fails e (own ▹ b) → Fails e (own ▹ (a ++ b))
+pub part_later : (e : TextErr) (own a b : List JobFault) → own ▹ a ≡ [] → IsFirstFault e (own ▹ b) → IsFirstFault e (own ▹ (a ++ b))
 part_later e [] a b none h = fails_later e a b none h
 part_later e (x ∷ own) a b none h = absurd cc
 

@@ -2,7 +2,7 @@
 use Rattle.std.proofs.Common.{◌≡◌, ℕ, zero, suc, ◌+◌, ◌<◌, List, [], ◌∷◌, ◌++◌, length, Bool, true, false, cond, if◌then◌else◌, Option, Some, None, refl, ap, sym, ◌∙◌, arith}
 use Rattle.std.specs.Prelude.{bytes_eq, option_map, is_some}
 use Rattle.std.proofs.lemmas.Slice.Eq.{bytes_eq-Decides}
-use Rattle.job_readers.specs.Places.{place_in}
+use Rattle.job_readers.specs.Places.{name_place_in}
 
 -- the first of two places
 abbrev or_else : Option ℕ → Option ℕ → Option ℕ
@@ -17,12 +17,12 @@ last-more : (b : Bool) (n : ℕ) → option_map (λ i. i + 1) (if b then Some n 
 last-more true n = ap Some (omega arith)
 last-more false n = refl
 
-pub place_in-push : (names : List (List ℕ)) (s q : List ℕ) → place_in (names ++ s ∷ []) q ≡ or_else (place_in names q) (if bytes_eq s q then Some (length names) else None)
+pub place_in-push : (names : List (List ℕ)) (s q : List ℕ) → name_place_in (names ++ s ∷ []) q ≡ or_else (name_place_in names q) (if bytes_eq s q then Some (length names) else None)
 place_in-push [] s q = refl
 place_in-push (n ∷ names) s q =
-    elim (bytes_eq n q) as (λ b. (if b then Some 0 else option_map (λ i. i + 1) (place_in (names ++ s ∷ []) q)) ≡ or_else (if b then Some 0 else option_map (λ i. i + 1) (place_in names q)) (if bytes_eq s q then Some (suc (length names)) else None)) [
+    elim (bytes_eq n q) as (λ b. (if b then Some 0 else option_map (λ i. i + 1) (name_place_in (names ++ s ∷ []) q)) ≡ or_else (if b then Some 0 else option_map (λ i. i + 1) (name_place_in names q)) (if bytes_eq s q then Some (suc (length names)) else None)) [
       | true ↦ refl
-      | false ↦ ap (option_map (λ i. i + 1)) (place_in-push names s q) ∙ or_else-map (λ i. i + 1) (place_in names q) (if bytes_eq s q then Some (length names) else None) ∙ ap (or_else (option_map (λ i. i + 1) (place_in names q))) (last-more (bytes_eq s q) (length names))
+      | false ↦ ap (option_map (λ i. i + 1)) (place_in-push names s q) ∙ or_else-map (λ i. i + 1) (name_place_in names q) (if bytes_eq s q then Some (length names) else None) ∙ ap (or_else (option_map (λ i. i + 1) (name_place_in names q))) (last-more (bytes_eq s q) (length names))
     ]
 
 map-below : (o : Option ℕ) (n i : ℕ) → ((j : ℕ) → o ≡ Some j → j < n) → option_map (λ j. j + 1) o ≡ Some i → i < suc n
@@ -30,41 +30,41 @@ map-below None n i below e = absurd cc
 map-below (Some j) n i below e = let same : j + 1 ≡ i = cc in omega (arith, below j refl)
 
 -- a place is a place of the list
-pub place_in-below : (names : List (List ℕ)) (s : List ℕ) (i : ℕ) → place_in names s ≡ Some i → i < length names
+pub place_in-below : (names : List (List ℕ)) (s : List ℕ) (i : ℕ) → name_place_in names s ≡ Some i → i < length names
 place_in-below [] s i e = absurd cc
 place_in-below (n ∷ names) s i e =
-    elim (bytes_eq n s) as (λ b. (if b then Some 0 else option_map (λ j. j + 1) (place_in names s)) ≡ Some i → i < suc (length names)) [
+    elim (bytes_eq n s) as (λ b. (if b then Some 0 else option_map (λ j. j + 1) (name_place_in names s)) ≡ Some i → i < suc (length names)) [
       | true ↦ λ was. let same : 0 ≡ i = cc in omega arith
-      | false ↦ λ was. map-below (place_in names s) (length names) i (λ j there. place_in-below names s j there) was
+      | false ↦ λ was. map-below (name_place_in names s) (length names) i (λ j there. place_in-below names s j there) was
     ] e
 
 -- a name that stands already changes no place
-old_place : (names : List (List ℕ)) (s q : List ℕ) (j : ℕ) → place_in names s ≡ Some j → (b : Bool) → bytes_eq s q ≡ b → (o : Option ℕ) → place_in names q ≡ o → o ≡ or_else o (if b then Some (length names) else None)
+old_place : (names : List (List ℕ)) (s q : List ℕ) (j : ℕ) → name_place_in names s ≡ Some j → (b : Bool) → bytes_eq s q ≡ b → (o : Option ℕ) → name_place_in names q ≡ o → o ≡ or_else o (if b then Some (length names) else None)
 old_place names s q j there true same None at =
     let e : s ≡ q = (bytes_eq-Decides s q).0 same in
-    let none : place_in names s ≡ None = ap (place_in names) e ∙ at in
+    let none : name_place_in names s ≡ None = ap (name_place_in names) e ∙ at in
     absurd cc
 old_place names s q j there true same (Some i) at = refl
 old_place names s q j there false same None at = refl
 old_place names s q j there false same (Some i) at = refl
 
-pub place_in-old : (names : List (List ℕ)) (s : List ℕ) (j : ℕ) → place_in names s ≡ Some j → (q : List ℕ) → place_in names q ≡ place_in (names ++ s ∷ []) q
+pub place_in-old : (names : List (List ℕ)) (s : List ℕ) (j : ℕ) → name_place_in names s ≡ Some j → (q : List ℕ) → name_place_in names q ≡ name_place_in (names ++ s ∷ []) q
 place_in-old names s j there q =
-    old_place names s q j there (bytes_eq s q) refl (place_in names q) refl ∙ sym (place_in-push names s q)
+    old_place names s q j there (bytes_eq s q) refl (name_place_in names q) refl ∙ sym (place_in-push names s q)
 
 -- a new name has the last place
-new_place : (names : List (List ℕ)) (s q : List ℕ) → place_in names s ≡ None → (b : Bool) → bytes_eq s q ≡ b → (o : Option ℕ) → place_in names q ≡ o → cond b (Some (length names)) o ≡ or_else o (if b then Some (length names) else None)
+new_place : (names : List (List ℕ)) (s q : List ℕ) → name_place_in names s ≡ None → (b : Bool) → bytes_eq s q ≡ b → (o : Option ℕ) → name_place_in names q ≡ o → cond b (Some (length names)) o ≡ or_else o (if b then Some (length names) else None)
 new_place names s q absent true same None at = refl
 new_place names s q absent true same (Some i) at =
     let e : s ≡ q = (bytes_eq-Decides s q).0 same in
-    let some : place_in names s ≡ Some i = ap (place_in names) e ∙ at in
+    let some : name_place_in names s ≡ Some i = ap (name_place_in names) e ∙ at in
     absurd cc
 new_place names s q absent false same None at = refl
 new_place names s q absent false same (Some i) at = refl
 
-pub place_in-new : (names : List (List ℕ)) (s : List ℕ) → place_in names s ≡ None → (q : List ℕ) → cond (bytes_eq s q) (Some (length names)) (place_in names q) ≡ place_in (names ++ s ∷ []) q
+pub place_in-new : (names : List (List ℕ)) (s : List ℕ) → name_place_in names s ≡ None → (q : List ℕ) → cond (bytes_eq s q) (Some (length names)) (name_place_in names q) ≡ name_place_in (names ++ s ∷ []) q
 place_in-new names s absent q =
-    new_place names s q absent (bytes_eq s q) refl (place_in names q) refl ∙ sym (place_in-push names s q)
+    new_place names s q absent (bytes_eq s q) refl (name_place_in names q) refl ∙ sym (place_in-push names s q)
 
 some_is : (o : Option ℕ) → is_some o ≡ true → (j : ℕ) × (o ≡ Some j)
 some_is None e = absurd cc
@@ -75,11 +75,11 @@ none_is None e = refl
 none_is (Some j) e = absurd cc
 
 -- the same, by what a look-up answered
-module _ (names : List (List ℕ)) (s : List ℕ) (o : Option ℕ) (b : Bool) (at : o ≡ place_in names s) (tested : b ≡ is_some o) where
-  pub known_stays : b ≡ true → (q : List ℕ) → place_in names q ≡ place_in (names ++ s ∷ []) q
+module _ (names : List (List ℕ)) (s : List ℕ) (o : Option ℕ) (b : Bool) (at : o ≡ name_place_in names s) (tested : b ≡ is_some o) where
+  pub known_stays : b ≡ true → (q : List ℕ) → name_place_in names q ≡ name_place_in (names ++ s ∷ []) q
   known_stays yes_it_is = let j = some_is o (sym tested ∙ yes_it_is) in place_in-old names s j.0 (sym at ∙ j.1)
 
-  pub new_is_last : b ≡ false → (q : List ℕ) → cond (bytes_eq s q) (Some (length names)) (place_in names q) ≡ place_in (names ++ s ∷ []) q
+  pub new_is_last : b ≡ false → (q : List ℕ) → cond (bytes_eq s q) (Some (length names)) (name_place_in names q) ≡ name_place_in (names ++ s ∷ []) q
   new_is_last not_there = place_in-new names s (sym at ∙ none_is o (sym tested ∙ not_there))
 
 -- the text is none of the names
@@ -87,10 +87,10 @@ abbrev pub IsNoneOf : List (List ℕ) → List ℕ → Type 0
 IsNoneOf [] s = Unit {0}
 IsNoneOf (n ∷ names) s = (s ≡ n → ⊥) × IsNoneOf names s
 
-pub place_in-none : (names : List (List ℕ)) (s : List ℕ) → IsNoneOf names s → place_in names s ≡ None
+pub place_in-none : (names : List (List ℕ)) (s : List ℕ) → IsNoneOf names s → name_place_in names s ≡ None
 place_in-none [] s none = refl
 place_in-none (n ∷ names) s none =
-    elim (bytes_eq n s) as (λ b. bytes_eq n s ≡ b → (if b then Some 0 else option_map (λ i. i + 1) (place_in names s)) ≡ None) [
+    elim (bytes_eq n s) as (λ b. bytes_eq n s ≡ b → (if b then Some 0 else option_map (λ i. i + 1) (name_place_in names s)) ≡ None) [
       | true ↦ λ same. absurd (none.0 (sym ((bytes_eq-Decides n s).0 same)))
       | false ↦ λ differs. ap (option_map (λ i. i + 1)) (place_in-none names s none.1)
     ] refl

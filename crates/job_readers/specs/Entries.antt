@@ -34,8 +34,8 @@ abbrev pub triple_of : Data → Option (ℕ × ℕ × ℕ)
 triple_of d = option_and_then (λ items. three_of (list_of items)) (as_array d)
 
 -- the chip that a pair names
-abbrev pub chip_at : ℕ → ℕ → Chip
-chip_at x y = record { x = x; y = y }
+abbrev pub chip_of_numbers : ℕ → ℕ → Chip
+chip_of_numbers x y = record { x = x; y = y }
 
 -- The link of a number: the links are numbered from East anticlockwise (SpiNNaker datasheet).
 abbrev pub link_of : ℕ → Dir
@@ -46,30 +46,35 @@ unfoldable pub chip_faults : ℕ → ℕ → List ℕ → Data → List JobFault
 chip_faults width height path d = typed_faults (λ p. nat_lt p.0 width && nat_lt p.1 height) path (pair_of d)
 
 abbrev pub chip_from : Option (ℕ × ℕ) → Chip
-chip_from None = chip_at 0 0
-chip_from (Some p) = chip_at p.0 p.1
+chip_from None = chip_of_numbers 0 0
+chip_from (Some p) = chip_of_numbers p.0 p.1
 
 unfoldable pub chip_value : Data → Chip
 chip_value d = chip_from (pair_of d)
 
+-- A chip inside a grid, and a number up to the greatest.
+unfoldable pub numbered_faults : ℕ → ℕ → ℕ → List ℕ → Data → List JobFault
+numbered_faults width height most path d =
+    typed_faults (λ p. nat_lt p.0 width && nat_lt p.1 height && nat_le p.2 most) path (triple_of d)
+
 -- A core is [x,y,p]: a chip inside a grid, and a core 0 to 17.
 unfoldable pub core_faults : ℕ → ℕ → List ℕ → Data → List JobFault
-core_faults width height path d = typed_faults (λ p. nat_lt p.0 width && nat_lt p.1 height && nat_le p.2 17) path (triple_of d)
+core_faults width height = numbered_faults width height 17
 
 abbrev pub core_from : Option (ℕ × ℕ × ℕ) → Spot
-core_from None = record { chip = chip_at 0 0; core = 0 }
-core_from (Some p) = record { chip = chip_at p.0 p.1; core = p.2 }
+core_from None = record { chip = chip_of_numbers 0 0; core = 0 }
+core_from (Some p) = record { chip = chip_of_numbers p.0 p.1; core = p.2 }
 
 unfoldable pub core_value : Data → Spot
 core_value d = core_from (triple_of d)
 
 -- A link is [x,y,d]: a chip inside a grid, and the number of one of its links.
 unfoldable pub link_faults : ℕ → ℕ → List ℕ → Data → List JobFault
-link_faults width height path d = typed_faults (λ p. nat_lt p.0 width && nat_lt p.1 height && nat_le p.2 5) path (triple_of d)
+link_faults width height = numbered_faults width height 5
 
 abbrev pub link_from : Option (ℕ × ℕ × ℕ) → Edge
-link_from None = record { chip = chip_at 0 0; dir = link_of 0 }
-link_from (Some p) = record { chip = chip_at p.0 p.1; dir = link_of p.2 }
+link_from None = record { chip = chip_of_numbers 0 0; dir = link_of 0 }
+link_from (Some p) = record { chip = chip_of_numbers p.0 p.1; dir = link_of p.2 }
 
 unfoldable pub link_value : Data → Edge
 link_value d = link_from (triple_of d)

@@ -15,15 +15,15 @@ use Rattle.job_text.specs.Members.{member_of}
 use Rattle.job_text.specs.Paths.{member_at}
 use Rattle.job_text.specs.Fields.{typed_faults, range_unless, object_faults, object_value, list_faults, list_value, text_faults, text_value}
 use Rattle.job_readers.specs.Items.{items_faults, following_faults}
-use Rattle.job_readers.specs.Places.{place_in, unknown_faults, reference_faults, reference_value, new_name_faults, clash_if}
+use Rattle.job_readers.specs.Places.{name_place_in, unknown_faults, reference_faults, reference_value, new_name_faults, clash_if}
 use Rattle.job_readers.specs.Members.{number_member_faults, number_member, list_member_faults, list_member, member_since}
 use Rattle.job_readers.specs.Entries.{pair_of, chip_faults, chip_value, link_faults, link_value}
 use Rattle.job_readers.specs.Blocks.{may_be_fixed, block_from, shares_key}
 use Rattle.job_readers.specs.Hung.{is_among}
 
 -- the name that an item says
-unfoldable pub name_of : Data → List ℕ
-name_of d = text_value (member_of (codes "name") d)
+unfoldable pub name_value : Data → List ℕ
+name_value d = text_value (member_of (codes "name") d)
 
 -- the name of an item, which no item before it has
 unfoldable pub name_faults : List (List ℕ) → List ℕ → Data → List JobFault
@@ -65,7 +65,7 @@ vertex_faults version names devices path d =
 
 unfoldable pub vertex_value : ℕ → Data → Vertex
 vertex_value version d = record {
-  name = name_of d;
+  name = name_value d;
   sdram = number_member (codes "sdram") (Some 0) d;
   at = at_value d;
   device = device_value version d;
@@ -99,10 +99,10 @@ sender_at vertices i = option_and_then (λ (v : Vertex). if is_some v.device the
 
 -- The vertex that a net starts from, by its name. It is no device.
 unfoldable pub sender_in : List Vertex → List ℕ → Option ℕ
-sender_in vertices s = option_and_then (sender_at vertices) (place_in (vertex_names_of vertices) s)
+sender_in vertices s = option_and_then (sender_at vertices) (name_place_in (vertex_names_of vertices) s)
 
-unfoldable pub source_faults : List Vertex → List ℕ → Data → List JobFault
-source_faults vertices path d =
+unfoldable pub net_source_faults : List Vertex → List ℕ → Data → List JobFault
+net_source_faults vertices path d =
     text_faults (member_at path (codes "source")) (member_of (codes "source") d)
     ▹ unknown_faults (member_at path (codes "source")) (sender_in vertices (text_value (member_of (codes "source") d)))
 
@@ -155,14 +155,14 @@ unfoldable pub net_faults : ℕ → List Vertex → List (List ℕ) → List Blo
 net_faults version vertices names blocks path d =
     object_faults path (Some d)
     ▹ (name_faults names path d
-    ++ (source_faults vertices path d
+    ++ (net_source_faults vertices path d
     ++ (targets_faults (vertex_names_of vertices) path d
     ++ (number_member_faults path (codes "keys") 1 4294967296 (Some 1) d
     ++ fixed_faults version blocks (keys_value d) path d))))
 
 unfoldable pub net_value : ℕ → List Vertex → Data → Net
 net_value version vertices d = record {
-  name = name_of d;
+  name = name_value d;
   source = source_value vertices d;
   targets = targets_value (vertex_names_of vertices) d;
   keys = keys_value d;
@@ -173,12 +173,12 @@ net_value version vertices d = record {
 unfoldable pub net_names : List Net → List (List ℕ)
 net_names nets = map (λ (n : Net). n.name) nets
 
-unfoldable pub blocks_of : List Net → List Block
-blocks_of nets = flat_map (λ (n : Net). option_to_list n.fixed) nets
+unfoldable pub fixed_blocks_of : List Net → List Block
+fixed_blocks_of nets = flat_map (λ (n : Net). option_to_list n.fixed) nets
 
 -- a net after others
 abbrev pub next_net_faults : ℕ → List Vertex → List Net → List ℕ → Data → List JobFault
-next_net_faults version vertices before = net_faults version vertices (net_names before) (blocks_of before)
+next_net_faults version vertices before = net_faults version vertices (net_names before) (fixed_blocks_of before)
 
 -- At most 4,096 nets.
 unfoldable pub nets_faults : ℕ → List Vertex → List ℕ → Data → List JobFault

@@ -6,8 +6,8 @@ use Rattle.job_text.specs.Fields.{object_faults}
 use Rattle.job_readers.specs.Members.{number_member_faults, number_member}
 
 -- A job is an object.
-unfoldable pub own_faults : List ℕ → Data → List JobFault
-own_faults path d = object_faults path (Some d)
+unfoldable pub job_own_faults : List ℕ → Data → List JobFault
+job_own_faults path d = object_faults path (Some d)
 
 -- The version is 1, or one up to the greatest that is read.
 unfoldable pub version_faults : List ℕ → ℕ → Data → List JobFault

@@ -19,7 +19,7 @@ use Rattle.app_graph.specs.declared.graphs.Vertex.{Vertex}
 use Rattle.app_graph.specs.declared.graphs.Net.{Net}
 use Rattle.app_graph.specs.declared.graphs.Graph.{Graph}
 use Rattle.app_graph.specs.declared.graphs.RunPart.{RunPart}
-use Rattle.app_graph.specs.RunPart.{keys_of}
+use Rattle.app_graph.specs.RunPart.{key_count_of}
 use Rattle.job_text.specs.declared.faults.JobFault.{JobFault}
 use Rattle.job_text.specs.declared.faults.JobFault.TheVariants.{Shape, Range}
 use Rattle.job_text.specs.Reading.{◌▹◌}
@@ -27,9 +27,9 @@ use Rattle.job_text.specs.Members.{member_of, whole_number, list_of, is_object}
 use Rattle.job_text.specs.Paths.{member_at}
 use Rattle.job_text.specs.Fields.{typed_faults, shape_unless, object_faults, object_value, count_faults, is_name}
 use Rattle.job_readers.specs.Items.{items_faults}
-use Rattle.job_readers.specs.Places.{place_in, unknown_faults, reference_faults, reference_value}
+use Rattle.job_readers.specs.Places.{name_place_in, unknown_faults, reference_faults, reference_value}
 use Rattle.job_readers.specs.Members.{number_member_faults, number_member, optional_number, list_member_faults, long_list_member_faults, list_member}
-use Rattle.job_readers.specs.Entries.{chip_at, link_of}
+use Rattle.job_readers.specs.Entries.{chip_of_numbers, link_of}
 use Rattle.job_readers.specs.GraphPart.{vertex_names_of, net_names}
 
 -- ---- packets
@@ -45,7 +45,7 @@ unfoldable pub packet_faults : List Net → List ℕ → Data → List JobFault
 packet_faults nets path d =
     object_faults path (Some d)
     ▹ (packet_net_faults nets path d
-    ++ (number_member_faults path (codes "index") 0 (keys_of nets (packet_net nets d) - 1) None d
+    ++ (number_member_faults path (codes "index") 0 (key_count_of nets (packet_net nets d) - 1) None d
     ++ number_member_faults path (codes "payload") 0 4294967295 (Some 0) d))
 
 unfoldable pub packet_value : List Net → Data → Packet
@@ -77,10 +77,10 @@ core_words =
     ∷ codes "c9" ∷ codes "c10" ∷ codes "c11" ∷ codes "c12" ∷ codes "c13" ∷ codes "c14" ∷ codes "c15" ∷ codes "c16" ∷ codes "c17" ∷ []
 
 unfoldable pub link_named : List ℕ → Option Dir
-link_named s = option_map link_of (place_in link_words s)
+link_named s = option_map link_of (name_place_in link_words s)
 
 unfoldable pub core_named : List ℕ → Option ℕ
-core_named s = place_in core_words s
+core_named s = name_place_in core_words s
 
 -- a port: `L`, or a link's word
 unfoldable pub port_named : List ℕ → Option Port
@@ -112,10 +112,10 @@ chip_and_text (a ∷ (b ∷ (c ∷ (d ∷ ds)))) = None
 -- A vertex, by its name.
 unfoldable pub at_vertex_faults : List (List ℕ) → List ℕ → List Data → List JobFault
 at_vertex_faults vertices path ds =
-    typed_faults is_name path (one_text ds) ▹ unknown_faults path (place_in vertices (unwrap_or (one_text ds) []))
+    typed_faults is_name path (one_text ds) ▹ unknown_faults path (name_place_in vertices (unwrap_or (one_text ds) []))
 
 unfoldable pub at_vertex : List (List ℕ) → List Data → ℕ
-at_vertex vertices ds = unwrap_or (place_in vertices (unwrap_or (one_text ds) [])) 0
+at_vertex vertices ds = unwrap_or (name_place_in vertices (unwrap_or (one_text ds) [])) 0
 
 -- A chip with x and y from 0 to 63, and a word of the kind that is asked for.
 unfoldable pub at_chip_faults : {A : Type 0} → (List ℕ → Option A) → List ℕ → List Data → List JobFault
@@ -123,22 +123,25 @@ at_chip_faults named path ds =
     typed_faults (λ t. nat_le t.0 63 && nat_le t.1 63 && is_some (named t.2)) path (chip_and_text ds)
 
 -- the chip and the word of such an event
-abbrev pub chip_from : Option (ℕ × ℕ × List ℕ) → Chip
-chip_from None = chip_at 0 0
-chip_from (Some t) = chip_at t.0 t.1
+abbrev pub event_chip_from : Option (ℕ × ℕ × List ℕ) → Chip
+event_chip_from None = chip_of_numbers 0 0
+event_chip_from (Some t) = chip_of_numbers t.0 t.1
 
 abbrev pub word_from : Option (ℕ × ℕ × List ℕ) → List ℕ
 word_from None = []
 word_from (Some t) = t.2
 
 unfoldable pub chip_of_event : List Data → Chip
-chip_of_event ds = chip_from (chip_and_text ds)
+chip_of_event ds = event_chip_from (chip_and_text ds)
+
+abbrev pub word_of_event : List Data → List ℕ
+word_of_event ds = word_from (chip_and_text ds)
 
 unfoldable pub port_of_event : List Data → Port
-port_of_event ds = unwrap_or (port_named (word_from (chip_and_text ds))) ports.Local
+port_of_event ds = unwrap_or (port_named (word_of_event ds)) ports.Local
 
 unfoldable pub out_of_event : List Data → Out
-out_of_event ds = unwrap_or (out_named (word_from (chip_and_text ds))) (outs.Core 0)
+out_of_event ds = unwrap_or (out_named (word_of_event ds)) (outs.Core 0)
 
 -- the text with which an event begins, and what follows it
 abbrev pub head_word : List Data → Option (List ℕ)
@@ -150,8 +153,8 @@ after_head [] = []
 after_head (w ∷ ds) = ds
 
 -- What must follow the word of an event. Range where the word is none.
-unfoldable pub worded_faults : List (List ℕ) → List ℕ → List ℕ → List Data → List JobFault
-worded_faults vertices path w ds =
+unfoldable pub event_word_faults : List (List ℕ) → List ℕ → List ℕ → List Data → List JobFault
+event_word_faults vertices path w ds =
     if bytes_eq w (codes "inject") then at_vertex_faults vertices path ds
     else (if bytes_eq w (codes "take") then at_chip_faults port_named path ds
     else (if bytes_eq w (codes "send") then at_chip_faults out_named path ds
@@ -167,9 +170,9 @@ worded_event vertices w ds =
     else (if bytes_eq w (codes "dump") then Dump (chip_of_event ds) (out_of_event ds)
     else Collect (at_vertex vertices ds))))
 
-abbrev pub headed_faults : List (List ℕ) → List ℕ → Option (List ℕ) → List Data → List JobFault
-headed_faults vertices path None ds = Shape path ∷ []
-headed_faults vertices path (Some w) ds = worded_faults vertices path w ds
+abbrev pub event_head_faults : List (List ℕ) → List ℕ → Option (List ℕ) → List Data → List JobFault
+event_head_faults vertices path None ds = Shape path ∷ []
+event_head_faults vertices path (Some w) ds = event_word_faults vertices path w ds
 
 -- the items of a value that is a list, and none of any other
 abbrev pub items_in : Data → List Data
@@ -178,7 +181,7 @@ items_in d = unwrap_or (option_map list_of (as_array d)) []
 -- An event is a list that begins with its word. All its faults have the event's path. A list without an item, one that
 -- does not begin with a text, and what is no list, have the wrong shape.
 unfoldable pub event_faults : List (List ℕ) → List ℕ → Data → List JobFault
-event_faults vertices path d = headed_faults vertices path (head_word (items_in d)) (after_head (items_in d))
+event_faults vertices path d = event_head_faults vertices path (head_word (items_in d)) (after_head (items_in d))
 
 unfoldable pub event_value : List (List ℕ) → Data → Event
 event_value vertices d = worded_event vertices (unwrap_or (head_word (items_in d)) []) (after_head (items_in d))

@@ -1,8 +1,8 @@
 // Reads entries of lists: pairs and triples of whole numbers, and chips, cores and links inside a grid.
-ghost use Rattle.std.specs.Prelude.{◌≡◌, ◌<◌, IfOk};
+ghost use Rattle.std.specs.Prelude.{◌≡◌, ◌<◌, IfOk, Some};
 ghost use Rattle.serde_json.specs.View.{view};
-ghost use Rattle.job_text.specs.Reading.{Gives};
-ghost use Rattle.job_readers.specs.Entries.{pair_of, triple_of, link_of, chip_faults, chip_value, core_faults, core_value, link_faults, link_value};
+ghost use Rattle.job_text.specs.Reading.{GivesOrFaults};
+ghost use Rattle.job_readers.specs.Entries.{pair_of, triple_of, link_of, chip_faults, chip_value, numbered_faults, core_faults, core_value, link_faults, link_value};
 
 use job_text::{TextErr, range, shape};
 use machine_desc::Edge;
@@ -31,7 +31,7 @@ pub(crate) fn triple(item: &Value) -> Option<(u64, u64, u64)>
 }
 
 // The link of a number from 0 to 5.
-fn link(number: u64) -> Dir
+fn link(number: u8) -> Dir
     ensures { result ≡ link_of number }
 {
     match number {
@@ -53,7 +53,8 @@ pub(crate) fn chip_in(
     width: u8,
     height: u8,
 ) -> Result<Chip, TextErr>
-    ensures read { Gives (λ c. c) result (chip_faults width height path.now (view item.now)) (chip_value (view item.now)) }
+    ensures read { GivesOrFaults (λ c. c) result (chip_faults width height path.now (view item.now))
+        (chip_value (view item.now)) }
     ensures inside { IfOk result (λ c. (c.x < width) × (c.y < height)) }
 {
     let Some((x, y)) = pair(item) else {
@@ -71,6 +72,39 @@ pub(crate) fn chip_in(
     })
 }
 
+// A chip of a grid, and a number up to `most`.
+#[tactic(auto, unfolding(crate::specs::Entries::numbered_faults))]
+fn chip_and_number(
+    alloc: Global,
+    item: &Value,
+    path: &Name,
+    width: u8,
+    height: u8,
+    most: u8,
+) -> Result<(Chip, u8), TextErr>
+    ensures read { GivesOrFaults (λ t. Some (t.0.x, t.0.y, t.1)) result
+        (numbered_faults width height most path.now (view item.now)) (triple_of (view item.now)) }
+    ensures inside { IfOk result (λ t. (t.0.x < width) × (t.0.y < height)) }
+{
+    let Some((x, y, number)) = triple(item) else {
+        return Err(shape(alloc, path));
+    };
+    if x >= u64::from(width) {
+        return Err(range(alloc, path));
+    }
+    if y >= u64::from(height) {
+        return Err(range(alloc, path));
+    }
+    if number > u64::from(most) {
+        return Err(range(alloc, path));
+    }
+    let chip = Chip {
+        x: x as u8,
+        y: y as u8,
+    };
+    Ok((chip, number as u8))
+}
+
 // A core of a chip of a grid.
 #[tactic(auto, unfolding(crate::specs::Entries::core_faults, crate::specs::Entries::core_value))]
 pub(crate) fn core_in(
@@ -80,28 +114,12 @@ pub(crate) fn core_in(
     width: u8,
     height: u8,
 ) -> Result<Spot, TextErr>
-    ensures read { Gives (λ s. s) result (core_faults width height path.now (view item.now)) (core_value (view item.now)) }
+    ensures read { GivesOrFaults (λ s. s) result (core_faults width height path.now (view item.now))
+        (core_value (view item.now)) }
     ensures inside { IfOk result (λ s. (s.chip.x < width) × (s.chip.y < height)) }
 {
-    let Some((x, y, core)) = triple(item) else {
-        return Err(shape(alloc, path));
-    };
-    if x >= u64::from(width) {
-        return Err(range(alloc, path));
-    }
-    if y >= u64::from(height) {
-        return Err(range(alloc, path));
-    }
-    if core > 17 {
-        return Err(range(alloc, path));
-    }
-    Ok(Spot {
-        chip: Chip {
-            x: x as u8,
-            y: y as u8,
-        },
-        core: core as u8,
-    })
+    let (chip, core) = chip_and_number(alloc, item, path, width, height, 17)?;
+    Ok(Spot { chip, core })
 }
 
 // A link of a chip of a grid: its number is from 0 (East) anticlockwise.
@@ -113,26 +131,13 @@ pub(crate) fn link_in(
     width: u8,
     height: u8,
 ) -> Result<Edge, TextErr>
-    ensures read { Gives (λ e. e) result (link_faults width height path.now (view item.now)) (link_value (view item.now)) }
+    ensures read { GivesOrFaults (λ e. e) result (link_faults width height path.now (view item.now))
+        (link_value (view item.now)) }
     ensures inside { IfOk result (λ e. (e.chip.x < width) × (e.chip.y < height)) }
 {
-    let Some((x, y, number)) = triple(item) else {
-        return Err(shape(alloc, path));
-    };
-    if x >= u64::from(width) {
-        return Err(range(alloc, path));
-    }
-    if y >= u64::from(height) {
-        return Err(range(alloc, path));
-    }
-    if number > 5 {
-        return Err(range(alloc, path));
-    }
+    let (chip, number) = chip_and_number(alloc, item, path, width, height, 5)?;
     Ok(Edge {
-        chip: Chip {
-            x: x as u8,
-            y: y as u8,
-        },
+        chip,
         dir: link(number),
     })
 }

@@ -1,11 +1,11 @@
 // Reads the events of a job.
-ghost use Rattle.std.specs.Prelude.{◌≡◌, ◌<◌, ◌≤◌, [], length, map, codes, IfOk, IfSome, All, option_map};
+ghost use Rattle.std.specs.Prelude.{◌≡◌, ◌<◌, ◌≤◌, ℕ, List, [], length, map, codes, IfOk, IfSome, All, Option, Some, option_map};
 ghost use Rattle.serde_json.specs.View.{view};
 ghost use Rattle.spin_base.specs.Outputs.{IsOutput};
-ghost use Rattle.job_text.specs.Reading.{Gives};
+ghost use Rattle.job_text.specs.Reading.{GivesOrFaults};
 ghost use Rattle.app_graph.specs.ValidGraph.{IsValidGraph};
 ghost use Rattle.app_graph.specs.RunPart.{IsEventOf};
-ghost use Rattle.job_readers.specs.RunPart.{link_named, core_named, port_named, out_named, one_text, chip_and_text, items_in, at_vertex_faults, at_vertex, at_chip_faults, chip_of_event, port_of_event, out_of_event, worded_faults, worded_event, events_faults, events_value};
+ghost use Rattle.job_readers.specs.RunPart.{link_named, core_named, port_named, out_named, one_text, chip_and_text, items_in, at_vertex_faults, at_vertex, at_chip_faults, chip_of_event, word_of_event, event_word_faults, worded_event, events_faults, events_value};
 
 use crate::graph_parts::names_of_vertices;
 use crate::items::{ItemReader, each_item};
@@ -92,7 +92,9 @@ fn out_named(word: &str) -> Option<Out>
 // The vertex of an event, by its name.
 #[tactic(auto, using(crate::proofs::Firsts::firsts, crate::proofs::PlaceSteps::bounds), unfolding(crate::specs::RunPart::at_vertex_faults, crate::specs::RunPart::at_vertex))]
 fn vertex_of(alloc: Global, rest: &[Value], path: &Name, vertices: &Names) -> Result<u32, TextErr>
-    ensures read { Gives (λ v. v) result (at_vertex_faults vertices.now path.now (map view rest.now)) (at_vertex vertices.now (map view rest.now)) }
+    ensures read { GivesOrFaults (λ v. v) result
+        (at_vertex_faults vertices.now path.now (map view rest.now))
+        (at_vertex vertices.now (map view rest.now)) }
     ensures below { IfOk result (λ v. v < length vertices.now) }
 {
     let Some(said) = one_text(rest) else {
@@ -127,37 +129,56 @@ fn chip_and_text<'a>(rest: &'a [Value]) -> Option<(u64, u64, &'a str)>
     }
 }
 
-// The chip and the port of an event.
-#[tactic(auto, unfolding(crate::specs::RunPart::at_chip_faults, crate::specs::RunPart::chip_of_event, crate::specs::RunPart::port_of_event))]
-fn chip_and_port(alloc: Global, rest: &[Value], path: &Name) -> Result<(Chip, Port), TextErr>
-    ensures { Gives (λ t. t) result (at_chip_faults port_named path.now (map view rest.now)) (chip_of_event (map view rest.now), port_of_event (map view rest.now)) }
-{
-    let Some((x, y, word)) = chip_and_text(rest) else {
-        return Err(shape(alloc, path));
-    };
-    if x > 63 {
-        return Err(range(alloc, path));
-    }
-    if y > 63 {
-        return Err(range(alloc, path));
-    }
-    let Some(port) = port_named(word) else {
-        return Err(range(alloc, path));
-    };
-    Ok((
-        Chip {
-            x: x as u8,
-            y: y as u8,
-        },
-        port,
-    ))
+// What a word of an event may name: which it is, and what holds of each that a word names.
+trait EventWord: Copy {
+    ghost named: { List ℕ → Option Self };
+
+    ghost IsRight: { Self → Type 0 };
+
+    // What a word names.
+    fn of_word(word: &str) -> Option<Self>
+        ensures value { result ≡ named word.now }
+        ensures right { IfSome result IsRight };
 }
 
-// The chip and the output of an event.
-#[tactic(auto, unfolding(crate::specs::RunPart::at_chip_faults, crate::specs::RunPart::chip_of_event, crate::specs::RunPart::out_of_event))]
-fn chip_and_out(alloc: Global, rest: &[Value], path: &Name) -> Result<(Chip, Out), TextErr>
-    ensures read { Gives (λ t. t) result (at_chip_faults out_named path.now (map view rest.now)) (chip_of_event (map view rest.now), out_of_event (map view rest.now)) }
-    ensures output { IfOk result (λ t. IsOutput t.1) }
+impl EventWord for Port {
+    ghost use Rattle.std.specs.Prelude.{⊤};
+    ghost use Rattle.job_readers.specs.RunPart.{port_named};
+
+    ghost named = { port_named };
+
+    ghost IsRight = { λ _. ⊤ };
+
+    fn of_word(word: &str) -> Option<Port> {
+        port_named(word)
+    }
+}
+
+impl EventWord for Out {
+    ghost use Rattle.spin_base.specs.Outputs.{IsOutput};
+    ghost use Rattle.job_readers.specs.RunPart.{out_named};
+
+    ghost named = { out_named };
+
+    ghost IsRight = { IsOutput };
+
+    fn of_word(word: &str) -> Option<Out> {
+        out_named(word)
+    }
+}
+
+// The chip of an event, and what its word names.
+#[tactic(auto, unfolding(crate::specs::RunPart::at_chip_faults, crate::specs::RunPart::chip_of_event))]
+fn chip_and_named<W: EventWord>(
+    alloc: Global,
+    rest: &[Value],
+    path: &Name,
+) -> Result<(Chip, W), TextErr>
+    ensures chip { GivesOrFaults (λ t. t.0) result
+        (at_chip_faults W.named path.now (map view rest.now)) (chip_of_event (map view rest.now)) }
+    ensures named { IfOk result
+        (λ t. W.named (word_of_event (map view rest.now)) ≡ Some t.1) }
+    ensures right { IfOk result (λ t. W.IsRight t.1) }
 {
     let Some((x, y, word)) = chip_and_text(rest) else {
         return Err(shape(alloc, path));
@@ -168,20 +189,18 @@ fn chip_and_out(alloc: Global, rest: &[Value], path: &Name) -> Result<(Chip, Out
     if y > 63 {
         return Err(range(alloc, path));
     }
-    let Some(out) = out_named(word) else {
+    let Some(named) = W::of_word(word) else {
         return Err(range(alloc, path));
     };
-    Ok((
-        Chip {
-            x: x as u8,
-            y: y as u8,
-        },
-        out,
-    ))
+    let chip = Chip {
+        x: x as u8,
+        y: y as u8,
+    };
+    Ok((chip, named))
 }
 
 // The event that begins with a word.
-#[tactic(auto, unfolding(crate::specs::RunPart::worded_faults, crate::specs::RunPart::worded_event))]
+#[tactic(auto, unfolding(crate::specs::RunPart::event_word_faults, crate::specs::RunPart::worded_event, crate::specs::RunPart::port_of_event, crate::specs::RunPart::out_of_event))]
 fn worded(
     alloc: Global,
     word: &str,
@@ -189,22 +208,23 @@ fn worded(
     path: &Name,
     vertices: &Names,
 ) -> Result<Event, TextErr>
-    ensures read { Gives (λ e. e) result (worded_faults vertices.now path.now word.now (map view rest.now)) (worded_event vertices.now word.now (map view rest.now)) }
+    ensures read { GivesOrFaults (λ e. e) result (event_word_faults vertices.now path.now word.now
+        (map view rest.now)) (worded_event vertices.now word.now (map view rest.now)) }
     ensures valid { IfOk result (IsEventOf (length vertices.now)) }
 {
     if word == "inject" {
         return Ok(Event::Inject(vertex_of(alloc, rest, path, vertices)?));
     }
     if word == "take" {
-        let (chip, port) = chip_and_port(alloc, rest, path)?;
+        let (chip, port) = chip_and_named(alloc, rest, path)?;
         return Ok(Event::Take(chip, port));
     }
     if word == "send" {
-        let (chip, out) = chip_and_out(alloc, rest, path)?;
+        let (chip, out) = chip_and_named(alloc, rest, path)?;
         return Ok(Event::Send(chip, out));
     }
     if word == "dump" {
-        let (chip, out) = chip_and_out(alloc, rest, path)?;
+        let (chip, out) = chip_and_named(alloc, rest, path)?;
         return Ok(Event::Dump(chip, out));
     }
     if word == "collect" {
@@ -265,7 +285,9 @@ pub(crate) fn events(
     graph: &Graph,
 ) -> Result<Seq<Event>, TextErr>
     requires { IsValidGraph graph.now }
-    ensures read { Gives (λ e. e) result (events_faults graph.now.vertices path.now (view run.now)) (events_value graph.now.vertices (view run.now)) }
+    ensures read { GivesOrFaults (λ e. e) result (events_faults graph.now.vertices path.now
+        (view run.now))
+        (events_value graph.now.vertices (view run.now)) }
     ensures valid { IfOk result (λ es. All (IsEventOf (length graph.now.vertices)) es) }
 {
     let items = long_list_of(alloc, run, path, "events", false)?;

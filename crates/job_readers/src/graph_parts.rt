@@ -2,21 +2,22 @@
 ghost use Rattle.std.specs.Prelude.{◌≡◌, ◌<◌, ◌≤◌, false, length, map, option_map, [], IfOk, IfSome, Some, None, All, AllPairs, slice_get};
 ghost use Rattle.std.specs.List.{list_any};
 ghost use Rattle.serde_json.specs.View.{view};
-ghost use Rattle.job_text.specs.Reading.{Gives, ◌▹◌};
+ghost use Rattle.job_text.specs.Reading.{GivesOrFaults, ◌▹◌};
 ghost use Rattle.job_text.specs.Fields.{list_value};
 ghost use Rattle.app_graph.specs.declared.graphs.Vertex.{Vertex};
 ghost use Rattle.app_graph.specs.ValidGraph.{IsValidVertex, IsValidNet, IsValidGraph, IsFixedFor, AreFixedApart, HaveDifferentDevices, HasSendingSource};
 ghost use Rattle.job_readers.specs.Items.{following_faults};
 ghost use Rattle.job_readers.specs.Blocks.{shares_key};
 ghost use Rattle.job_readers.specs.Hung.{is_among};
-ghost use Rattle.job_readers.specs.Job.{own_faults};
-ghost use Rattle.job_readers.specs.GraphPart.{name_of, name_faults, at_faults, at_value, device_faults, device_value, vertex_faults, vertex_value, next_vertex_faults, vertices_faults, vertices_value, vertex_names_of, sender_in, source_faults, source_value, some_faults, targets_faults, targets_value, fixed_faults, fixed_value, net_faults, net_value, next_net_faults, nets_faults, nets_value, graph_members_faults, graph_members, graph_faults, graph_value};
+ghost use Rattle.job_readers.specs.Job.{job_own_faults};
+ghost use Rattle.job_readers.specs.GraphPart.{name_value, name_faults, at_faults, at_value, device_faults, device_value, vertex_faults, vertex_value, next_vertex_faults, vertices_faults, vertices_value, vertex_names_of, sender_in, net_source_faults, source_value, some_faults, targets_faults, targets_value, fixed_faults, fixed_value, net_faults, net_value, next_net_faults, nets_faults, nets_value, graph_members_faults, graph_members, graph_faults, graph_value};
 
 use crate::blocks::{block_for, meets_any, put_behind};
 use crate::devices::Devices;
 use crate::entries::{chip_in, link_in, pair};
 use crate::items::{ItemReader, each_item};
 use crate::members::{list_of, member_from, number_of};
+use crate::named_vertices::NamedVertices;
 use crate::names::{Names, clash, new_name, reference, said_name, unknown};
 use app_graph::{Graph, Net, Vertex};
 use job_text::{
@@ -43,14 +44,15 @@ const MOST_NETS: u64 = 4096;
 const MOST_KEYS: u64 = 4294967296;
 
 // The name of an item, which no item before it has.
-#[tactic(auto, unfolding(crate::specs::GraphPart::name_faults, crate::specs::GraphPart::name_of))]
+#[tactic(auto, unfolding(crate::specs::GraphPart::name_faults, crate::specs::GraphPart::name_value))]
 fn item_name<'a>(
     alloc: Global,
     item: &'a Value,
     path: &Name,
     before: &Names,
 ) -> Result<&'a str, TextErr>
-    ensures { Gives (λ s. s.now) result (name_faults before.now path.now (view item.now)) (name_of (view item.now)) }
+    ensures { GivesOrFaults (λ s. s.now) result (name_faults before.now path.now (view item.now))
+        (name_value (view item.now)) }
 {
     let path = member_path(alloc, path, "name")?;
     new_name(alloc, member(item, "name"), &path, before)
@@ -59,7 +61,8 @@ fn item_name<'a>(
 // The chip on which a vertex must stand.
 #[tactic(auto, unfolding(crate::specs::GraphPart::at_faults, crate::specs::GraphPart::at_value))]
 fn vertex_place(alloc: Global, item: &Value, path: &Name) -> Result<Option<Chip>, TextErr>
-    ensures { Gives (λ c. c) result (at_faults path.now (view item.now)) (at_value (view item.now)) }
+    ensures { GivesOrFaults (λ c. c) result (at_faults path.now (view item.now))
+        (at_value (view item.now)) }
 {
     let path = member_path(alloc, path, "at")?;
     let Some(at) = member(item, "at") else {
@@ -77,7 +80,9 @@ fn vertex_device(
     version: u32,
     before: &Devices,
 ) -> Result<Option<Edge>, TextErr>
-    ensures read { Gives (λ e. e) result (device_faults version before.now path.now (view item.now)) (device_value version (view item.now)) }
+    ensures read { GivesOrFaults (λ e. e) result (device_faults version before.now path.now
+        (view item.now))
+        (device_value version (view item.now)) }
     ensures fresh { IfOk result (λ o. IfSome o (λ e. is_among before.now e ≡ false)) }
 {
     let path = member_path(alloc, path, "device")?;
@@ -100,13 +105,15 @@ fn vertex(
     names: &Names,
     devices: &Devices,
 ) -> Result<Vertex, TextErr>
-    ensures read { Gives (λ v. v) result (vertex_faults version names.now devices.now path.now (view item.now)) (vertex_value version (view item.now)) }
+    ensures read { GivesOrFaults (λ v. v) result
+        (vertex_faults version names.now devices.now path.now
+        (view item.now)) (vertex_value version (view item.now)) }
     ensures valid { IfOk result IsValidVertex }
     ensures fresh { IfOk result (λ v. IfSome v.device (λ e. is_among devices.now e ≡ false)) }
 {
     let item = object(alloc, Some(item), path)?;
     let said = item_name(alloc, item, path, names)?;
-    let sdram = number_of(alloc, item, path, "sdram", 0, CHIP_MEMORY, Some(0))? as u32;
+    let sdram = number_of(alloc, item, path, "sdram", (0, CHIP_MEMORY), Some(0))? as u32;
     let at = vertex_place(alloc, item, path)?;
     let device = vertex_device(alloc, item, path, version, devices)?;
     Ok(Vertex {
@@ -125,7 +132,9 @@ fn each_vertex(
     version: u32,
 ) -> Result<Seq<Vertex>, TextErr>
     requires { length items.now ≤ 16384 }
-    ensures read { Gives (λ v. v) result (following_faults (next_vertex_faults version) (vertex_value version) [] path.now 0 (map view items.now)) (map (vertex_value version) (map view items.now)) }
+    ensures read { GivesOrFaults (λ v. v) result (following_faults (next_vertex_faults version)
+        (vertex_value version) [] path.now 0 (map view items.now))
+        (map (vertex_value version) (map view items.now)) }
     ensures valid { IfOk result (λ vs. All IsValidVertex vs) }
     ensures devices { IfOk result (λ vs. AllPairs HaveDifferentDevices vs) }
 {
@@ -144,7 +153,8 @@ fn each_vertex(
 
 #[tactic(auto, using(crate::proofs::Firsts::firsts), unfolding(crate::specs::GraphPart::vertices_faults, crate::specs::GraphPart::vertices_value))]
 fn vertices(alloc: Global, graph: &Value, path: &Name, version: u32) -> Result<Seq<Vertex>, TextErr>
-    ensures read { Gives (λ v. v) result (vertices_faults version path.now (view graph.now)) (vertices_value version (view graph.now)) }
+    ensures read { GivesOrFaults (λ v. v) result (vertices_faults version path.now (view graph.now))
+        (vertices_value version (view graph.now)) }
     ensures valid { IfOk result (λ vs. All IsValidVertex vs) }
     ensures devices { IfOk result (λ vs. AllPairs HaveDifferentDevices vs) }
     ensures few { IfOk result (λ vs. length vs ≤ 16384) }
@@ -156,36 +166,37 @@ fn vertices(alloc: Global, graph: &Value, path: &Name, version: u32) -> Result<S
 
 // The place of a vertex of that name, where it is no device.
 #[tactic(auto, using(crate::proofs::PlaceSteps::bounds), unfolding(crate::specs::GraphPart::sender_in, crate::specs::GraphPart::sender_at))]
-fn sender(said: &str, names: &Names, vertices: &Seq<Vertex>) -> Option<u32>
-    requires { names.now ≡ vertex_names_of vertices.now }
-    ensures found { result ≡ sender_in vertices.now said.now }
-    ensures below { IfSome result (λ i. i < length vertices.now) }
-    ensures sends { IfSome result (λ i. (v : Vertex) → slice_get vertices.now i ≡ Some v → v.device ≡ None) }
+fn sender(said: &str, among: &NamedVertices<'_, '_>) -> Option<u32>
+    ensures found { result ≡ sender_in among.now.vertices.now said.now }
+    ensures below { IfSome result (λ i. i < length among.now.vertices.now) }
+    ensures sends { IfSome result (λ i. (v : Vertex) → slice_get among.now.vertices.now i ≡ Some v
+        → v.device ≡ None) }
 {
-    let i = names.place(said)?;
-    match vertices.get(i as usize).device {
+    let i = among.names.place(said)?;
+    match among.vertices.get(i as usize).device {
         Some(_) => None,
         None => Some(i),
     }
 }
 
 // The vertex that a net starts from.
-#[tactic(auto, using(crate::proofs::Firsts::firsts), unfolding(crate::specs::GraphPart::source_faults, crate::specs::GraphPart::source_value))]
+#[tactic(auto, using(crate::proofs::Firsts::firsts), unfolding(crate::specs::GraphPart::net_source_faults, crate::specs::GraphPart::source_value))]
 fn source(
     alloc: Global,
     item: &Value,
     path: &Name,
-    names: &Names,
-    vertices: &Seq<Vertex>,
+    among: &NamedVertices<'_, '_>,
 ) -> Result<u32, TextErr>
-    requires { names.now ≡ vertex_names_of vertices.now }
-    ensures read { Gives (λ i. i) result (source_faults vertices.now path.now (view item.now)) (source_value vertices.now (view item.now)) }
-    ensures below { IfOk result (λ i. i < length vertices.now) }
-    ensures sends { IfOk result (λ i. (v : Vertex) → slice_get vertices.now i ≡ Some v → v.device ≡ None) }
+    ensures read { GivesOrFaults (λ i. i) result (net_source_faults among.now.vertices.now path.now
+        (view item.now))
+        (source_value among.now.vertices.now (view item.now)) }
+    ensures below { IfOk result (λ i. i < length among.now.vertices.now) }
+    ensures sends { IfOk result (λ i. (v : Vertex) → slice_get among.now.vertices.now i ≡ Some v
+        → v.device ≡ None) }
 {
     let path = member_path(alloc, path, "source")?;
     let said = text_in(alloc, member(item, "source"), &path)?;
-    match sender(said, names, vertices) {
+    match sender(said, among) {
         Some(i) => Ok(i),
         None => Err(unknown(alloc, &path)),
     }
@@ -220,7 +231,9 @@ impl<'a, 'b> ItemReader for Named<'a, 'b> {
 // The list of a net's targets, which has an item.
 #[tactic(auto, using(crate::proofs::Firsts::firsts), unfolding(crate::specs::GraphPart::some_faults))]
 fn some_items<'a>(alloc: Global, v: Option<&'a Value>, path: &Name) -> Result<&'a [Value], TextErr>
-    ensures read { Gives (λ items. map view items.now) result (some_faults path.now (option_map (λ d. view d.now) v.entry)) (list_value (option_map (λ d. view d.now) v.entry)) }
+    ensures read { GivesOrFaults (λ items. map view items.now) result
+        (some_faults path.now (option_map (λ d. view d.now) v.entry))
+        (list_value (option_map (λ d. view d.now) v.entry)) }
     ensures some { IfOk result (λ items. 0 < length items.now) }
 {
     let items = list(alloc, v, path, true)?;
@@ -232,7 +245,9 @@ fn some_items<'a>(alloc: Global, v: Option<&'a Value>, path: &Name) -> Result<&'
 
 #[tactic(auto, using(crate::proofs::Firsts::firsts), unfolding(crate::specs::GraphPart::targets_faults, crate::specs::GraphPart::targets_value, crate::specs::Members::list_member))]
 fn targets(alloc: Global, item: &Value, path: &Name, vertices: &Names) -> Result<Seq<u32>, TextErr>
-    ensures read { Gives (λ t. t) result (targets_faults vertices.now path.now (view item.now)) (targets_value vertices.now (view item.now)) }
+    ensures read { GivesOrFaults (λ t. t) result (targets_faults vertices.now path.now
+        (view item.now))
+        (targets_value vertices.now (view item.now)) }
     ensures below { IfOk result (λ ts. All (λ t. t < length vertices.now) ts) }
     ensures some { IfOk result (λ ts. 0 < length ts) }
 {
@@ -251,7 +266,8 @@ fn fixed_block(
     keys: u64,
     before: &[Block],
 ) -> Result<Option<Block>, TextErr>
-    ensures read { Gives (λ b. b) result (fixed_faults version before.now keys path.now (view item.now)) (fixed_value version (view item.now)) }
+    ensures read { GivesOrFaults (λ b. b) result (fixed_faults version before.now keys path.now
+        (view item.now)) (fixed_value version (view item.now)) }
     ensures fixed { IfOk result (λ o. IfSome o (IsFixedFor keys)) }
     ensures fresh { IfOk result (λ o. IfSome o (λ b. list_any (shares_key b) before.now ≡ false)) }
 {
@@ -271,6 +287,13 @@ fn fixed_block(
     Ok(Some(block))
 }
 
+// What the nets before one have: their names, and their fixed blocks.
+#[derive(Clone, Copy)]
+struct NetsBefore<'a, 'b> {
+    names: &'a Names<'b>,
+    blocks: &'a [Block],
+}
+
 // The net that an item is, after nets with these names and blocks.
 #[tactic(auto, using(crate::proofs::Firsts::firsts), unfolding(crate::specs::GraphPart::net_faults, crate::specs::GraphPart::net_value, crate::specs::GraphPart::keys_value))]
 fn net(
@@ -278,23 +301,24 @@ fn net(
     item: &Value,
     path: &Name,
     version: u32,
-    before: &Names,
-    blocks: &[Block],
-    names: &Names,
-    vertices: &Seq<Vertex>,
+    before: &NetsBefore<'_, '_>,
+    among: &NamedVertices<'_, '_>,
 ) -> Result<Net, TextErr>
-    requires { names.now ≡ vertex_names_of vertices.now }
-    ensures read { Gives (λ n. n) result (net_faults version vertices.now before.now blocks.now path.now (view item.now)) (net_value version vertices.now (view item.now)) }
-    ensures valid { IfOk result (IsValidNet (length vertices.now)) }
-    ensures sends { IfOk result (HasSendingSource vertices.now) }
-    ensures fresh { IfOk result (λ n. IfSome n.fixed (λ b. list_any (shares_key b) blocks.now ≡ false)) }
+    ensures read { GivesOrFaults (λ n. n) result
+        (net_faults version among.now.vertices.now before.now.names.now before.now.blocks.now
+        path.now (view item.now))
+        (net_value version among.now.vertices.now (view item.now)) }
+    ensures valid { IfOk result (IsValidNet (length among.now.vertices.now)) }
+    ensures sends { IfOk result (HasSendingSource among.now.vertices.now) }
+    ensures fresh { IfOk result
+        (λ n. IfSome n.fixed (λ b. list_any (shares_key b) before.now.blocks.now ≡ false)) }
 {
     let item = object(alloc, Some(item), path)?;
-    let said = item_name(alloc, item, path, before)?;
-    let source = source(alloc, item, path, names, vertices)?;
-    let targets = targets(alloc, item, path, names)?;
-    let keys = number_of(alloc, item, path, "keys", 1, MOST_KEYS, Some(1))?;
-    let fixed = fixed_block(alloc, item, path, version, keys, blocks)?;
+    let said = item_name(alloc, item, path, before.names)?;
+    let source = source(alloc, item, path, among)?;
+    let targets = targets(alloc, item, path, among.names)?;
+    let keys = number_of(alloc, item, path, "keys", (1, MOST_KEYS), Some(1))?;
+    let fixed = fixed_block(alloc, item, path, version, keys, before.blocks)?;
     Ok(Net {
         name: Name::of(alloc, said)?,
         source,
@@ -304,32 +328,36 @@ fn net(
     })
 }
 
-#[tactic(auto, unfolding(crate::specs::GraphPart::net_names, crate::specs::GraphPart::blocks_of))]
+#[tactic(auto, unfolding(crate::specs::GraphPart::net_names, crate::specs::GraphPart::fixed_blocks_of))]
 fn each_net(
     alloc: Global,
     items: &[Value],
     path: &Name,
     version: u32,
-    names: &Names,
-    vertices: &Seq<Vertex>,
+    among: &NamedVertices<'_, '_>,
 ) -> Result<Seq<Net>, TextErr>
     requires few { length items.now ≤ 4096 }
-    requires named { names.now ≡ vertex_names_of vertices.now }
-    ensures read { Gives (λ n. n) result (following_faults (next_net_faults version vertices.now) (net_value version vertices.now) [] path.now 0 (map view items.now)) (map (net_value version vertices.now) (map view items.now)) }
-    ensures valid { IfOk result (λ ns. All (IsValidNet (length vertices.now)) ns) }
-    ensures sources { IfOk result (λ ns. All (HasSendingSource vertices.now) ns) }
+    ensures read { GivesOrFaults (λ n. n) result
+        (following_faults (next_net_faults version among.now.vertices.now)
+        (net_value version among.now.vertices.now)
+        [] path.now 0 (map view items.now))
+        (map (net_value version among.now.vertices.now) (map view items.now)) }
+    ensures valid { IfOk result (λ ns. All (IsValidNet (length among.now.vertices.now)) ns) }
+    ensures sources { IfOk result (λ ns. All (HasSendingSource among.now.vertices.now) ns) }
     ensures fixed { IfOk result (λ ns. AllPairs AreFixedApart ns) }
 {
-    let mut before = Names::new(alloc);
+    let mut names = Names::new(alloc);
     let mut blocks = Vec::new(alloc);
     let mut nets = Seq::new(alloc);
     for (i, item) in items.iter().enumerate() {
         let path = item_path(alloc, path, i as u64)?;
         let others = blocks.as_slice();
-        let net = net(
-            alloc, item, &path, version, &before, others, names, vertices,
-        )?;
-        before = before.with(said_name(item))?;
+        let before = NetsBefore {
+            names: &names,
+            blocks: others,
+        };
+        let net = net(alloc, item, &path, version, &before, among)?;
+        names = names.with(said_name(item))?;
         put_behind(&mut blocks, net.fixed)?;
         nets.push(net)?;
     }
@@ -342,19 +370,20 @@ fn nets(
     graph: &Value,
     path: &Name,
     version: u32,
-    names: &Names,
-    vertices: &Seq<Vertex>,
+    among: &NamedVertices<'_, '_>,
 ) -> Result<Seq<Net>, TextErr>
-    requires { names.now ≡ vertex_names_of vertices.now }
-    ensures read { Gives (λ n. n) result (nets_faults version vertices.now path.now (view graph.now)) (nets_value version vertices.now (view graph.now)) }
-    ensures valid { IfOk result (λ ns. All (IsValidNet (length vertices.now)) ns) }
-    ensures sources { IfOk result (λ ns. All (HasSendingSource vertices.now) ns) }
+    ensures read { GivesOrFaults (λ n. n) result
+        (nets_faults version among.now.vertices.now path.now
+        (view graph.now))
+        (nets_value version among.now.vertices.now (view graph.now)) }
+    ensures valid { IfOk result (λ ns. All (IsValidNet (length among.now.vertices.now)) ns) }
+    ensures sources { IfOk result (λ ns. All (HasSendingSource among.now.vertices.now) ns) }
     ensures fixed { IfOk result (λ ns. AllPairs AreFixedApart ns) }
     ensures few { IfOk result (λ ns. length ns ≤ 4096) }
 {
     let items = list_of(alloc, graph, path, "nets", true, MOST_NETS)?;
     let path = member_path(alloc, path, "nets")?;
-    each_net(alloc, items, &path, version, names, vertices)
+    each_net(alloc, items, &path, version, among)
 }
 
 // The names of vertices.
@@ -382,19 +411,26 @@ fn nets_among(
     vertices: &Seq<Vertex>,
 ) -> Result<Seq<Net>, TextErr>
     requires { length vertices.now ≤ 16384 }
-    ensures read { Gives (λ n. n) result (nets_faults version vertices.now path.now (view graph.now)) (nets_value version vertices.now (view graph.now)) }
+    ensures read { GivesOrFaults (λ n. n) result (nets_faults version vertices.now path.now
+        (view graph.now)) (nets_value version vertices.now (view graph.now)) }
     ensures valid { IfOk result (λ ns. All (IsValidNet (length vertices.now)) ns) }
     ensures sources { IfOk result (λ ns. All (HasSendingSource vertices.now) ns) }
     ensures fixed { IfOk result (λ ns. AllPairs AreFixedApart ns) }
     ensures few { IfOk result (λ ns. length ns ≤ 4096) }
 {
     let names = names_of_vertices(alloc, vertices.as_slice())?;
-    nets(alloc, graph, path, version, &names, vertices)
+    let among = NamedVertices {
+        vertices,
+        names: &names,
+    };
+    nets(alloc, graph, path, version, &among)
 }
 
 #[tactic(auto, using(crate::proofs::Firsts::firsts), unfolding(crate::specs::GraphPart::graph_members_faults, crate::specs::GraphPart::graph_members))]
 fn graph_members(alloc: Global, graph: &Value, path: &Name, version: u32) -> Result<Graph, TextErr>
-    ensures read { Gives (λ g. g) result (graph_members_faults version path.now (view graph.now)) (graph_members version (view graph.now)) }
+    ensures read { GivesOrFaults (λ g. g) result (graph_members_faults version path.now
+        (view graph.now))
+        (graph_members version (view graph.now)) }
     ensures valid { IfOk result IsValidGraph }
 {
     let vertices = vertices(alloc, graph, path, version)?;
@@ -408,9 +444,11 @@ fn graph_members(alloc: Global, graph: &Value, path: &Name, version: u32) -> Res
 /// # Errors
 ///
 /// `Fault` with the first fault of the job's own shape and of its graph; `Memory`.
-#[tactic(auto, using(crate::proofs::Firsts::firsts), unfolding(crate::specs::Job::own_faults, crate::specs::GraphPart::graph_faults, crate::specs::GraphPart::graph_value))]
+#[tactic(auto, using(crate::proofs::Firsts::firsts), unfolding(crate::specs::Job::job_own_faults, crate::specs::GraphPart::graph_faults, crate::specs::GraphPart::graph_value))]
 pub fn graph_of(alloc: Global, job: &Value, path: &Name, version: u32) -> Result<Graph, TextErr>
-    ensures graph { Gives (λ g. g) result (own_faults path.now (view job.now) ▹ graph_faults path.now version (view job.now)) (graph_value version (view job.now)) }
+    ensures graph { GivesOrFaults (λ g. g) result
+        (job_own_faults path.now (view job.now) ▹ graph_faults path.now version (view job.now))
+        (graph_value version (view job.now)) }
     ensures valid { IfOk result IsValidGraph }
 {
     let found = field(alloc, job, path, "graph")?;

@@ -3,7 +3,7 @@ ghost use Rattle.std.specs.Prelude.{◌≡◌, ℕ, List, length, map, IfOk, All
 ghost use Rattle.serde_json.specs.View.{view};
 ghost use Rattle.serde_json.specs.Data.{Data};
 ghost use Rattle.job_text.specs.declared.faults.JobFault.{JobFault};
-ghost use Rattle.job_text.specs.Reading.{Gives};
+ghost use Rattle.job_text.specs.Reading.{GivesOrFaults};
 ghost use Rattle.job_readers.specs.Items.{items_faults};
 
 use job_text::{TextErr, item_path};
@@ -26,7 +26,8 @@ pub trait ItemReader {
     /// What an item is, which stands at a path.
     fn read(&self, alloc: Global, item: &Value, path: &Name) -> Result<Self::Item, TextErr>
         requires { IsReady self.now }
-        ensures read { Gives (λ x. x) result (faults self.now path.now (view item.now)) (value self.now (view item.now)) }
+        ensures read { GivesOrFaults (λ x. x) result (faults self.now path.now (view item.now))
+            (value self.now (view item.now)) }
         ensures holds { IfOk result (Holds self.now) };
 }
 
@@ -42,7 +43,8 @@ pub fn each_item<R: ItemReader>(
     reader: &R,
 ) -> Result<Seq<R::Item>, TextErr>
     requires { R.IsReady reader.now }
-    ensures read { Gives (λ xs. xs) result (items_faults (R.faults reader.now) path.now 0 (map view items.now)) (map (R.value reader.now) (map view items.now)) }
+    ensures read { GivesOrFaults (λ xs. xs) result (items_faults (R.faults reader.now) path.now 0
+        (map view items.now)) (map (R.value reader.now) (map view items.now)) }
     ensures holds { IfOk result (λ xs. All (R.Holds reader.now) xs) }
     ensures count { IfOk result (λ xs. length xs ≡ length items.now) }
 {

@@ -1,7 +1,7 @@
 // The whole job.
 ghost use Rattle.std.specs.Prelude.{◌≡◌, IfOk};
 ghost use Rattle.serde_json.specs.View.{view};
-ghost use Rattle.job_text.specs.Reading.{Gives};
+ghost use Rattle.job_text.specs.Reading.{GivesOrFaults};
 ghost use Rattle.app_graph.specs.ValidGraph.{IsValidGraph};
 ghost use Rattle.app_graph.specs.RunPart.{IsRunOf};
 ghost use Rattle.job_readers.specs.WholeJob.{job_faults, job_value};
@@ -35,7 +35,8 @@ pub struct Job {
 /// `Fault` with the job's first fault in the order of reading; `Memory`.
 #[tactic(auto, using(crate::proofs::Parts::parts), unfolding(crate::specs::WholeJob::job_faults, crate::specs::WholeJob::job_value))]
 pub fn job_of(alloc: Global, value: &Value, path: &Name, greatest: u32) -> Result<Job, TextErr>
-    ensures job { Gives (λ j. j) result (job_faults path.now greatest (view value.now)) (job_value (view value.now)) }
+    ensures job { GivesOrFaults (λ j. j) result (job_faults path.now greatest (view value.now))
+        (job_value (view value.now)) }
     ensures graph { IfOk result (λ j. IsValidGraph j.graph) }
     ensures run { IfOk result (λ j. IsRunOf j.graph j.run) }
 {

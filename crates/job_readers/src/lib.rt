@@ -16,6 +16,7 @@ mod items;
 mod jobs;
 mod machine_parts;
 mod members;
+mod named_vertices;
 mod names;
 mod run_parts;
 mod versions;

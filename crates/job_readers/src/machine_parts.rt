@@ -1,16 +1,16 @@
 // Reads the machine of a job.
 ghost use Rattle.std.specs.Prelude.{map, IfOk, All};
 ghost use Rattle.serde_json.specs.View.{view};
-ghost use Rattle.job_text.specs.Reading.{Gives, ◌▹◌};
+ghost use Rattle.job_text.specs.Reading.{GivesOrFaults, ◌▹◌};
 ghost use Rattle.job_readers.specs.MachinePart.{machine_members_faults, machine_members, entries_faults, machine_faults, machine_value};
 ghost use Rattle.job_readers.specs.Members.{list_member};
-ghost use Rattle.job_readers.specs.Job.{own_faults};
+ghost use Rattle.job_readers.specs.Job.{job_own_faults};
 
 use crate::entries::{chip_in, core_in, link_in};
 use crate::items::{ItemReader, each_item};
 use crate::members::{flag_of, long_list_of, number_of};
 use job_text::{TextErr, field, member_path, object};
-use machine_desc::{Edge, Machine};
+use machine_desc::{Edge, Machine, MachineParts};
 use serde_json::Value;
 use spin_base::{Chip, Name, Seq, Spot};
 use std::alloc::Global;
@@ -103,7 +103,9 @@ fn listed<R: ItemReader>(
     reader: &R,
 ) -> Result<Seq<R::Item>, TextErr>
     requires { R.IsReady reader.now }
-    ensures read { Gives (λ ps. ps) result (entries_faults (R.faults reader.now) path.now name.now (view machine.now)) (map (R.value reader.now) (list_member name.now (view machine.now))) }
+    ensures read { GivesOrFaults (λ ps. ps) result (entries_faults
+        (R.faults reader.now) path.now name.now
+        (view machine.now)) (map (R.value reader.now) (list_member name.now (view machine.now))) }
     ensures holds { IfOk result (λ ps. All (R.Holds reader.now) ps) }
 {
     let items = long_list_of(alloc, machine, path, name, false)?;
@@ -116,33 +118,33 @@ const CHIP_MEMORY: u64 = 134217728;
 
 #[tactic(auto, using(crate::proofs::Firsts::firsts), unfolding(crate::specs::MachinePart::machine_members_faults, crate::specs::MachinePart::machine_members))]
 fn machine_members(alloc: Global, machine: &Value, path: &Name) -> Result<Machine, TextErr>
-    ensures { Gives (λ m. m) result (machine_members_faults path.now (view machine.now)) (machine_members (view machine.now)) }
+    ensures { GivesOrFaults (λ m. m) result (machine_members_faults path.now (view machine.now))
+        (machine_members (view machine.now)) }
 {
-    let width = number_of(alloc, machine, path, "width", 1, 64, None)? as u8;
-    let height = number_of(alloc, machine, path, "height", 1, 64, None)? as u8;
+    let width = number_of(alloc, machine, path, "width", (1, 64), None)? as u8;
+    let height = number_of(alloc, machine, path, "height", (1, 64), None)? as u8;
     let wrap = flag_of(alloc, machine, path, "wrap", false)?;
     let sdram = number_of(
         alloc,
         machine,
         path,
         "sdram",
-        0,
-        CHIP_MEMORY,
+        (0, CHIP_MEMORY),
         Some(CHIP_MEMORY),
     )? as u32;
     let dead_chips = listed(alloc, machine, path, "dead_chips", &Chips { width, height })?;
     let dead_cores = listed(alloc, machine, path, "dead_cores", &Cores { width, height })?;
     let dead_links = listed(alloc, machine, path, "dead_links", &Links { width, height })?;
-    Ok(Machine::new(
-        alloc,
+    let parts = MachineParts {
         width,
         height,
         wrap,
         sdram,
-        &dead_chips,
-        &dead_cores,
-        &dead_links,
-    )?)
+        dead_chips,
+        dead_cores,
+        dead_links,
+    };
+    Ok(Machine::new(alloc, parts)?)
 }
 
 /// The machine of the job at a path.
@@ -150,9 +152,11 @@ fn machine_members(alloc: Global, machine: &Value, path: &Name) -> Result<Machin
 /// # Errors
 ///
 /// `Fault` with the first fault of the job's own shape and of its machine; `Memory`.
-#[tactic(auto, using(crate::proofs::Firsts::firsts), unfolding(crate::specs::Job::own_faults, crate::specs::MachinePart::machine_faults, crate::specs::MachinePart::machine_value))]
+#[tactic(auto, using(crate::proofs::Firsts::firsts), unfolding(crate::specs::Job::job_own_faults, crate::specs::MachinePart::machine_faults, crate::specs::MachinePart::machine_value))]
 pub fn machine_of(alloc: Global, job: &Value, path: &Name) -> Result<Machine, TextErr>
-    ensures { Gives (λ m. m) result (own_faults path.now (view job.now) ▹ machine_faults path.now (view job.now)) (machine_value (view job.now)) }
+    ensures { GivesOrFaults (λ m. m) result (job_own_faults path.now
+        (view job.now) ▹ machine_faults path.now
+        (view job.now)) (machine_value (view job.now)) }
 {
     let found = field(alloc, job, path, "machine")?;
     let path = member_path(alloc, path, "machine")?;

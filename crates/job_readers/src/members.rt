@@ -1,7 +1,7 @@
 // Reads members of an object. Each has the path of the object, then its own name.
 ghost use Rattle.std.specs.Prelude.{◌≡◌, ◌≤◌, length, map, option_map, IfOk, IfSome};
 ghost use Rattle.serde_json.specs.View.{view};
-ghost use Rattle.job_text.specs.Reading.{Gives};
+ghost use Rattle.job_text.specs.Reading.{GivesOrFaults};
 ghost use Rattle.job_readers.specs.Members.{number_member_faults, number_member, flag_member_faults, flag_member, list_member_faults, long_list_member_faults, list_member, member_since};
 
 use job_text::{TextErr, count_to, flag, list, member, member_path, number_in};
@@ -17,7 +17,8 @@ pub(crate) fn member_from<'a>(
     since: u32,
     version: u32,
 ) -> Option<&'a Value>
-    ensures { option_map (λ v. view v.now) result ≡ member_since since name.now version (view object.now) }
+    ensures { option_map (λ v. view v.now) result ≡ member_since since name.now version
+        (view object.now) }
 {
     if version < since {
         return None;
@@ -25,22 +26,31 @@ pub(crate) fn member_from<'a>(
     member(object, name)
 }
 
-// A number from `low` to `high`.
+// A number within bounds, which are the least and the greatest.
 #[tactic(auto, unfolding(crate::specs::Members::number_member_faults, crate::specs::Members::number_member))]
 pub(crate) fn number_of(
     alloc: Global,
     object: &Value,
     path: &Name,
     name: &str,
-    low: u64,
-    high: u64,
+    bounds: (u64, u64),
     default: Option<u64>,
 ) -> Result<u64, TextErr>
-    ensures read { Gives (λ n. n) result (number_member_faults path.now name.now low high default (view object.now)) (number_member name.now default (view object.now)) }
-    ensures within { IfOk result (λ n. IfSome default (λ d. (low ≤ d) × (d ≤ high)) → (low ≤ n) × (n ≤ high)) }
+    ensures read { GivesOrFaults (λ n. n) result
+        (number_member_faults path.now name.now bounds.0 bounds.1 default (view object.now))
+        (number_member name.now default (view object.now)) }
+    ensures within { IfOk result (λ n. IfSome default (λ d. (bounds.0 ≤ d) × (d ≤ bounds.1))
+        → (bounds.0 ≤ n) × (n ≤ bounds.1)) }
 {
     let path = member_path(alloc, path, name)?;
-    number_in(alloc, member(object, name), &path, low, high, default)
+    number_in(
+        alloc,
+        member(object, name),
+        &path,
+        bounds.0,
+        bounds.1,
+        default,
+    )
 }
 
 // A truth value.
@@ -52,7 +62,8 @@ pub(crate) fn flag_of(
     name: &str,
     default: bool,
 ) -> Result<bool, TextErr>
-    ensures { Gives (λ b. b) result (flag_member_faults path.now name.now (view object.now)) (flag_member name.now default (view object.now)) }
+    ensures { GivesOrFaults (λ b. b) result (flag_member_faults path.now name.now (view object.now))
+        (flag_member name.now default (view object.now)) }
 {
     let path = member_path(alloc, path, name)?;
     flag(alloc, member(object, name), &path, default)
@@ -68,7 +79,9 @@ pub(crate) fn list_of<'a>(
     needed: bool,
     limit: u64,
 ) -> Result<&'a [Value], TextErr>
-    ensures read { Gives (λ items. map view items.now) result (list_member_faults path.now name.now needed limit (view object.now)) (list_member name.now (view object.now)) }
+    ensures read { GivesOrFaults (λ items. map view items.now) result
+        (list_member_faults path.now name.now needed limit (view object.now))
+        (list_member name.now (view object.now)) }
     ensures within { IfOk result (λ items. length items.now ≤ limit) }
 {
     let path = member_path(alloc, path, name)?;
@@ -86,7 +99,9 @@ pub(crate) fn long_list_of<'a>(
     name: &str,
     needed: bool,
 ) -> Result<&'a [Value], TextErr>
-    ensures { Gives (λ items. map view items.now) result (long_list_member_faults path.now name.now needed (view object.now)) (list_member name.now (view object.now)) }
+    ensures { GivesOrFaults (λ items. map view items.now) result
+        (long_list_member_faults path.now name.now needed (view object.now))
+        (list_member name.now (view object.now)) }
 {
     let path = member_path(alloc, path, name)?;
     list(alloc, member(object, name), &path, needed)

@@ -1,11 +1,11 @@
 // Names in the order of a list, looked up in a map.
 ghost use Rattle.std.specs.Prelude.{◌≡◌, ◌<◌, [], ◌∷◌, ◌++◌, length, option_map, unwrap_or, map, IfOk};
 ghost use Rattle.serde_json.specs.View.{view};
-ghost use Rattle.job_text.specs.Reading.{Gives, Fails};
+ghost use Rattle.job_text.specs.Reading.{GivesOrFaults, IsFirstFault};
 ghost use Rattle.job_text.specs.Fields.{text_value};
 ghost use Rattle.job_text.specs.declared.faults.JobFault.TheVariants.{UnknownName, DoubleName, Clash};
-ghost use Rattle.job_readers.specs.Places.{place_in, reference_faults, reference_value, new_name_faults};
-ghost use Rattle.job_readers.specs.GraphPart.{name_of};
+ghost use Rattle.job_readers.specs.Places.{name_place_in, reference_faults, reference_value, new_name_faults};
+ghost use Rattle.job_readers.specs.GraphPart.{name_value};
 
 use job_text::{JobFault, TextErr, member, text_in};
 use serde_json::Value;
@@ -45,7 +45,7 @@ impl<'a> Names<'a> {
 
     // The first place of a name.
     pub(crate) fn place(&self, name: &str) -> Option<u32>
-        ensures { result ≡ place_in self.now name.now }
+        ensures { result ≡ name_place_in self.now name.now }
     {
         self.places.get(name).copied()
     }
@@ -72,7 +72,7 @@ impl<'a> Names<'a> {
 
 // The error of a name that refers to nothing.
 pub(crate) fn unknown(alloc: Global, path: &Name) -> TextErr
-    ensures { Fails result (UnknownName path.now ∷ []) }
+    ensures { IsFirstFault result (UnknownName path.now ∷ []) }
 {
     match Name::of(alloc, path.as_str()) {
         Ok(path) => TextErr::Fault(JobFault::UnknownName(path)),
@@ -82,7 +82,7 @@ pub(crate) fn unknown(alloc: Global, path: &Name) -> TextErr
 
 // The error of a name that stands earlier.
 fn double(alloc: Global, path: &Name) -> TextErr
-    ensures { Fails result (DoubleName path.now ∷ []) }
+    ensures { IsFirstFault result (DoubleName path.now ∷ []) }
 {
     match Name::of(alloc, path.as_str()) {
         Ok(path) => TextErr::Fault(JobFault::DoubleName(path)),
@@ -92,7 +92,7 @@ fn double(alloc: Global, path: &Name) -> TextErr
 
 // The error of what an earlier item has already.
 pub(crate) fn clash(alloc: Global, path: &Name) -> TextErr
-    ensures { Fails result (Clash path.now ∷ []) }
+    ensures { IsFirstFault result (Clash path.now ∷ []) }
 {
     match Name::of(alloc, path.as_str()) {
         Ok(path) => TextErr::Fault(JobFault::Clash(path)),
@@ -108,7 +108,9 @@ pub(crate) fn reference(
     path: &Name,
     names: &Names,
 ) -> Result<u32, TextErr>
-    ensures read { Gives (λ i. i) result (reference_faults names.now path.now (option_map (λ d. view d.now) v.entry)) (reference_value names.now (option_map (λ d. view d.now) v.entry)) }
+    ensures read { GivesOrFaults (λ i. i) result
+        (reference_faults names.now path.now (option_map (λ d. view d.now) v.entry))
+        (reference_value names.now (option_map (λ d. view d.now) v.entry)) }
     ensures below { IfOk result (λ i. i < length names.now) }
 {
     let said = text_in(alloc, v, path)?;
@@ -126,7 +128,9 @@ pub(crate) fn new_name<'a>(
     path: &Name,
     before: &Names,
 ) -> Result<&'a str, TextErr>
-    ensures { Gives (λ s. s.now) result (new_name_faults before.now path.now (option_map (λ d. view d.now) v.entry)) (text_value (option_map (λ d. view d.now) v.entry)) }
+    ensures { GivesOrFaults (λ s. s.now) result
+        (new_name_faults before.now path.now (option_map (λ d. view d.now) v.entry))
+        (text_value (option_map (λ d. view d.now) v.entry)) }
 {
     let said = text_in(alloc, v, path)?;
     if before.place(said).is_some() {
@@ -136,9 +140,9 @@ pub(crate) fn new_name<'a>(
 }
 
 // The name that an item says, and no text where it says none.
-#[tactic(auto, unfolding(crate::specs::GraphPart::name_of))]
+#[tactic(auto, unfolding(crate::specs::GraphPart::name_value))]
 pub(crate) fn said_name<'a>(item: &'a Value) -> &'a str
-    ensures { result.now ≡ name_of (view item.now) }
+    ensures { result.now ≡ name_value (view item.now) }
 {
     match member(item, "name") {
         Some(name) => match name.as_str() {

@@ -3,12 +3,12 @@ ghost use Rattle.std.specs.Prelude.{◌≡◌, ◌+◌, ◌*◌, ◌<◌, ◌≤
 ghost use Rattle.serde_json.specs.View.{view};
 ghost use Rattle.serde_json.specs.Data.{null};
 ghost use Rattle.job_text.specs.Fields.{object_value};
-ghost use Rattle.job_text.specs.Reading.{Gives, ◌▹◌};
+ghost use Rattle.job_text.specs.Reading.{GivesOrFaults, ◌▹◌};
 ghost use Rattle.machine_desc.specs.Live.{live_count_of};
 ghost use Rattle.app_graph.specs.ValidGraph.{IsValidGraph};
-ghost use Rattle.app_graph.specs.RunPart.{keys_of, IsPacketOf, IsRunOf};
+ghost use Rattle.app_graph.specs.RunPart.{key_count_of, IsPacketOf, IsRunOf};
 ghost use Rattle.job_readers.specs.Members.{number_member_faults, number_member, optional_number};
-ghost use Rattle.job_readers.specs.Job.{own_faults};
+ghost use Rattle.job_readers.specs.Job.{job_own_faults};
 ghost use Rattle.job_readers.specs.GraphPart.{net_names};
 ghost use Rattle.job_readers.specs.RunPart.{packet_net_faults, packet_net, packets_faults, packets_value, events_faults, events_value, places_faults, run_members_faults, run_members, optional_object_faults, run_faults, run_value};
 
@@ -39,7 +39,9 @@ fn net_of_packet(
     graph: &Graph,
 ) -> Result<u32, TextErr>
     requires { names.now ≡ net_names graph.now.nets }
-    ensures read { Gives (λ i. i) result (packet_net_faults graph.now.nets path.now (view item.now)) (packet_net graph.now.nets (view item.now)) }
+    ensures read { GivesOrFaults (λ i. i) result (packet_net_faults graph.now.nets path.now
+        (view item.now))
+        (packet_net graph.now.nets (view item.now)) }
     ensures below { IfOk result (λ i. i < length graph.now.nets) }
 {
     let path = member_path(alloc, path, "net")?;
@@ -50,8 +52,8 @@ fn net_of_packet(
 fn last_key(graph: &Graph, net: u32) -> u64
     requires valid { IsValidGraph graph.now }
     requires below { net < length graph.now.nets }
-    ensures last { result ≡ keys_of graph.now.nets net - 1 }
-    ensures key { result < keys_of graph.now.nets net }
+    ensures last { result ≡ key_count_of graph.now.nets net - 1 }
+    ensures key { result < key_count_of graph.now.nets net }
     ensures small { result < 4294967296 }
 {
     graph.nets.get(net as usize).keys - 1
@@ -60,7 +62,9 @@ fn last_key(graph: &Graph, net: u32) -> u64
 // The payload of a packet.
 #[tactic(auto, unfolding(crate::specs::Members::number_member_faults, crate::specs::Members::optional_number))]
 fn payload_of(alloc: Global, item: &Value, path: &Name) -> Result<Option<u32>, TextErr>
-    ensures { Gives (λ p. p) result (number_member_faults path.now (codes "payload") 0 4294967295 (Some 0) (view item.now)) (optional_number (codes "payload") (view item.now)) }
+    ensures { GivesOrFaults (λ p. p) result (number_member_faults path.now
+        (codes "payload") 0 4294967295
+        (Some 0) (view item.now)) (optional_number (codes "payload") (view item.now)) }
 {
     let path = member_path(alloc, path, "payload")?;
     let Some(found) = member(item, "payload") else {
@@ -86,7 +90,8 @@ impl<'a, 'b> ItemReader for Senders<'a, 'b> {
 
     type Item = Packet;
 
-    ghost IsReady = { λ among. (among.names.now ≡ net_names among.graph.now.nets) × IsValidGraph among.graph.now };
+    ghost IsReady = { λ among. (among.names.now ≡ net_names among.graph.now.nets)
+        × IsValidGraph among.graph.now };
 
     ghost faults = { λ among. packet_faults among.graph.now.nets };
 
@@ -99,7 +104,7 @@ impl<'a, 'b> ItemReader for Senders<'a, 'b> {
         let item = object(alloc, Some(item), path)?;
         let net = net_of_packet(alloc, item, path, self.names, self.graph)?;
         let last = last_key(self.graph, net);
-        let index = number_of(alloc, item, path, "index", 0, last, None)? as u32;
+        let index = number_of(alloc, item, path, "index", (0, last), None)? as u32;
         let payload = payload_of(alloc, item, path)?;
         Ok(Packet {
             net,
@@ -125,7 +130,9 @@ fn names_of_nets<'a>(alloc: Global, nets: &'a [Net]) -> Result<Names<'a>, Memory
 #[tactic(auto, using(crate::proofs::Firsts::firsts), unfolding(crate::specs::RunPart::packets_faults, crate::specs::RunPart::packets_value))]
 fn packets(alloc: Global, run: &Value, path: &Name, graph: &Graph) -> Result<Seq<Packet>, TextErr>
     requires { IsValidGraph graph.now }
-    ensures read { Gives (λ p. p) result (packets_faults graph.now.nets path.now (view run.now)) (packets_value graph.now.nets (view run.now)) }
+    ensures read { GivesOrFaults (λ p. p) result (packets_faults graph.now.nets path.now
+        (view run.now))
+        (packets_value graph.now.nets (view run.now)) }
     ensures found { IfOk result (λ ps. All (IsPacketOf graph.now.nets) ps) }
     ensures few { IfOk result (λ ps. length ps ≤ 65536) }
 {
@@ -152,7 +159,8 @@ fn places_to(
     requires queue { queue ≡ number_member (codes "queue") (Some 16) (view run.now) }
     requires few { queue ≤ 65536 }
     requires vertices { vertices ≤ 16384 }
-    ensures { Gives (λ u. u) result (places_faults live vertices path.now (view run.now)) tt }
+    ensures { GivesOrFaults (λ u. u) result (places_faults live vertices path.now
+        (view run.now)) tt }
 {
     let path = member_path(alloc, path, "queue")?;
     let places = u64::from(queue)
@@ -169,14 +177,16 @@ fn run_members(
     graph: &Graph,
 ) -> Result<RunPart, TextErr>
     requires { IsValidGraph graph.now }
-    ensures read { Gives (λ r. r) result (run_members_faults (live_count_of machine.now) graph.now path.now (view run.now)) (run_members graph.now (view run.now)) }
+    ensures read { GivesOrFaults (λ r. r) result
+        (run_members_faults (live_count_of machine.now) graph.now path.now (view run.now))
+        (run_members graph.now (view run.now)) }
     ensures found { IfOk result (IsRunOf graph.now) }
 {
-    let queue = number_of(alloc, run, path, "queue", 1, 65536, Some(16))? as u32;
-    let patience = number_of(alloc, run, path, "patience", 1, 255, Some(16))? as u32;
-    let workers = number_of(alloc, run, path, "workers", 1, 64, Some(1))? as u32;
-    let turns = number_of(alloc, run, path, "turns", 1, 64, Some(16))? as u32;
-    let target = number_of(alloc, run, path, "target", 0, 1024, Some(1024))? as u32;
+    let queue = number_of(alloc, run, path, "queue", (1, 65536), Some(16))? as u32;
+    let patience = number_of(alloc, run, path, "patience", (1, 255), Some(16))? as u32;
+    let workers = number_of(alloc, run, path, "workers", (1, 64), Some(1))? as u32;
+    let turns = number_of(alloc, run, path, "turns", (1, 64), Some(16))? as u32;
+    let target = number_of(alloc, run, path, "target", (0, 1024), Some(1024))? as u32;
     let packets = packets(alloc, run, path, graph)?;
     let events = events(alloc, run, path, graph)?;
     let vertices = graph.vertices.len() as u32;
@@ -201,7 +211,9 @@ fn optional_object<'a>(
     absent: &'a Value,
 ) -> Result<&'a Value, TextErr>
     requires { view absent.now ≡ null }
-    ensures { Gives (λ d. view d.now) result (optional_object_faults path.now (option_map (λ d. view d.now) v.entry)) (object_value (option_map (λ d. view d.now) v.entry)) }
+    ensures { GivesOrFaults (λ d. view d.now) result
+        (optional_object_faults path.now (option_map (λ d. view d.now) v.entry))
+        (object_value (option_map (λ d. view d.now) v.entry)) }
 {
     match v {
         Some(found) => object(alloc, Some(found), path),
@@ -214,7 +226,7 @@ fn optional_object<'a>(
 /// # Errors
 ///
 /// `Fault` with the first fault of the job's own shape and of its run part; `Memory`.
-#[tactic(auto, using(crate::proofs::Firsts::firsts), unfolding(crate::specs::Job::own_faults, crate::specs::RunPart::run_faults, crate::specs::RunPart::run_value))]
+#[tactic(auto, using(crate::proofs::Firsts::firsts), unfolding(crate::specs::Job::job_own_faults, crate::specs::RunPart::run_faults, crate::specs::RunPart::run_value))]
 pub fn run_of(
     alloc: Global,
     job: &Value,
@@ -223,7 +235,9 @@ pub fn run_of(
     graph: &Graph,
 ) -> Result<RunPart, TextErr>
     requires { IsValidGraph graph.now }
-    ensures run { Gives (λ r. r) result (own_faults path.now (view job.now) ▹ run_faults path.now machine.now graph.now (view job.now)) (run_value graph.now (view job.now)) }
+    ensures run { GivesOrFaults (λ r. r) result
+        (job_own_faults path.now (view job.now) ▹ run_faults path.now machine.now graph.now
+        (view job.now)) (run_value graph.now (view job.now)) }
     ensures found { IfOk result (IsRunOf graph.now) }
 {
     let found = field(alloc, job, path, "run")?;

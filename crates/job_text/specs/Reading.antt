@@ -15,11 +15,11 @@ first [] = None
 first (f ∷ fs) = Some f
 
 -- the error is the first of the faults, or want of memory
-abbrev pub Fails : TextErr → List JobFault → Type 0
-Fails errors.Memory faults = Unit {0}
-Fails (errors.Fault f) faults = first faults ≡ Some f
+abbrev pub IsFirstFault : TextErr → List JobFault → Type 0
+IsFirstFault errors.Memory faults = Unit {0}
+IsFirstFault (errors.Fault f) faults = first faults ≡ Some f
 
 -- A reader gives the value only where there is no fault, else the first fault or want of memory.
-abbrev pub Gives : {X Y : Type 0} → (X → Y) → Result X TextErr → List JobFault → Y → Type 0
-Gives see (Ok x) faults value = (faults ≡ []) × (see x ≡ value)
-Gives see (Err e) faults value = Fails e faults
+abbrev pub GivesOrFaults : {X Y : Type 0} → (X → Y) → Result X TextErr → List JobFault → Y → Type 0
+GivesOrFaults see (Ok x) faults value = (faults ≡ []) × (see x ≡ value)
+GivesOrFaults see (Err e) faults value = IsFirstFault e faults

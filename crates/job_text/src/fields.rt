@@ -3,7 +3,7 @@ ghost use Rattle.std.specs.Prelude.{◌≡◌, ◌≤◌, map, option_map, IfOk,
 ghost use Rattle.std.specs.List.{list_all};
 ghost use Rattle.serde_json.specs.View.{view};
 ghost use Rattle.job_text.specs.Members.{member_of};
-ghost use Rattle.job_text.specs.Reading.{Gives, Fails};
+ghost use Rattle.job_text.specs.Reading.{GivesOrFaults, IsFirstFault};
 ghost use Rattle.job_text.specs.Fields.{object_faults, object_value, number_faults, number_value, text_faults, text_value, flag_faults, flag_value, list_faults, list_value, count_faults, is_name, is_printable_byte};
 ghost use Rattle.std.specs.Prelude.{[], ◌∷◌, Ok, Err};
 ghost use Rattle.job_text.specs.declared.faults.JobFault.TheVariants.{Shape, Range};
@@ -16,7 +16,7 @@ use std::alloc::Global;
 
 /// The error of a part with a Shape fault: that fault, or want of memory.
 pub fn shape(alloc: Global, path: &Name) -> TextErr
-    ensures { Fails result (Shape path.now ∷ []) }
+    ensures { IsFirstFault result (Shape path.now ∷ []) }
 {
     match Name::of(alloc, path.as_str()) {
         Ok(path) => TextErr::Fault(JobFault::Shape(path)),
@@ -26,7 +26,7 @@ pub fn shape(alloc: Global, path: &Name) -> TextErr
 
 /// The error of a part with a Range fault: that fault, or want of memory.
 pub fn range(alloc: Global, path: &Name) -> TextErr
-    ensures { Fails result (Range path.now ∷ []) }
+    ensures { IsFirstFault result (Range path.now ∷ []) }
 {
     match Name::of(alloc, path.as_str()) {
         Ok(path) => TextErr::Fault(JobFault::Range(path)),
@@ -40,7 +40,8 @@ pub fn range(alloc: Global, path: &Name) -> TextErr
 ///
 /// `Shape` of the path exactly where it is absent or no object; `Memory`.
 pub fn object<'a>(alloc: Global, v: Option<&'a Value>, path: &Name) -> Result<&'a Value, TextErr>
-    ensures { Gives (λ d. view d.now) result (object_faults path.now (option_map (λ d. view d.now) v.entry)) (object_value (option_map (λ d. view d.now) v.entry)) }
+    ensures { GivesOrFaults (λ d. view d.now) result (object_faults path.now (option_map (λ d.
+        view d.now) v.entry)) (object_value (option_map (λ d. view d.now) v.entry)) }
 {
     match v {
         Some(found) => {
@@ -65,7 +66,8 @@ pub fn field<'a>(
     path: &Name,
     name: &str,
 ) -> Result<Option<&'a Value>, TextErr>
-    ensures { Gives (option_map (λ d. view d.now)) result (object_faults path.now (Some (view v.now))) (member_of name.now (view v.now)) }
+    ensures { GivesOrFaults (option_map (λ d. view d.now)) result (object_faults path.now (Some
+        (view v.now))) (member_of name.now (view v.now)) }
 {
     if !v.is_object() {
         return Err(shape(alloc, path));
@@ -87,8 +89,11 @@ pub fn number_in(
     high: u64,
     default: Option<u64>,
 ) -> Result<u64, TextErr>
-    ensures number { Gives (λ n. n) result (number_faults path.now low high default (option_map (λ d. view d.now) v.entry)) (number_value default (option_map (λ d. view d.now) v.entry)) }
-    ensures within { IfOk result (λ n. IfSome default (λ d. (low ≤ d) × (d ≤ high)) → (low ≤ n) × (n ≤ high)) }
+    ensures number { GivesOrFaults (λ n. n) result (number_faults path.now low high default
+        (option_map (λ d. view d.now) v.entry)) (number_value default (option_map (λ d.
+        view d.now) v.entry)) }
+    ensures within { IfOk result (λ n. IfSome default (λ d. (low ≤ d) × (d ≤ high))
+        → (low ≤ n) × (n ≤ high)) }
 {
     let Some(found) = v else {
         return match default {
@@ -125,7 +130,8 @@ fn is_printable(bytes: &[u8]) -> bool
 ///
 /// `Shape` exactly where it is absent or no text; `Range` exactly where it is a text and no name; `Memory`.
 pub fn text_in<'a>(alloc: Global, v: Option<&'a Value>, path: &Name) -> Result<&'a str, TextErr>
-    ensures { Gives (λ s. s.now) result (text_faults path.now (option_map (λ d. view d.now) v.entry)) (text_value (option_map (λ d. view d.now) v.entry)) }
+    ensures { GivesOrFaults (λ s. s.now) result (text_faults path.now (option_map (λ d.
+        view d.now) v.entry)) (text_value (option_map (λ d. view d.now) v.entry)) }
 {
     let Some(found) = v else {
         return Err(shape(alloc, path));
@@ -145,7 +151,8 @@ pub fn text_in<'a>(alloc: Global, v: Option<&'a Value>, path: &Name) -> Result<&
 ///
 /// Those of `text_in`.
 pub fn text(alloc: Global, v: Option<&Value>, path: &Name) -> Result<Name, TextErr>
-    ensures { Gives (λ s. s) result (text_faults path.now (option_map (λ d. view d.now) v.entry)) (text_value (option_map (λ d. view d.now) v.entry)) }
+    ensures { GivesOrFaults (λ s. s) result (text_faults path.now (option_map (λ d.
+        view d.now) v.entry)) (text_value (option_map (λ d. view d.now) v.entry)) }
 {
     let said = text_in(alloc, v, path)?;
     Ok(Name::of(alloc, said)?)
@@ -157,7 +164,8 @@ pub fn text(alloc: Global, v: Option<&Value>, path: &Name) -> Result<Name, TextE
 ///
 /// `Shape` exactly where it is present and no truth value; `Memory`.
 pub fn flag(alloc: Global, v: Option<&Value>, path: &Name, default: bool) -> Result<bool, TextErr>
-    ensures { Gives (λ b. b) result (flag_faults path.now (option_map (λ d. view d.now) v.entry)) (flag_value default (option_map (λ d. view d.now) v.entry)) }
+    ensures { GivesOrFaults (λ b. b) result (flag_faults path.now (option_map (λ d.
+        view d.now) v.entry)) (flag_value default (option_map (λ d. view d.now) v.entry)) }
 {
     let Some(found) = v else {
         return Ok(default);
@@ -179,7 +187,9 @@ pub fn list<'a>(
     path: &Name,
     needed: bool,
 ) -> Result<&'a [Value], TextErr>
-    ensures { Gives (λ items. map view items.now) result (list_faults path.now needed (option_map (λ d. view d.now) v.entry)) (list_value (option_map (λ d. view d.now) v.entry)) }
+    ensures { GivesOrFaults (λ items. map view items.now) result (list_faults path.now needed
+        (option_map (λ d. view d.now) v.entry)) (list_value (option_map (λ d.
+        view d.now) v.entry)) }
 {
     let Some(found) = v else {
         if needed {
@@ -199,7 +209,7 @@ pub fn list<'a>(
 ///
 /// `TooMany` with the number exactly where it is above `limit`; `Memory`.
 pub fn count_to(alloc: Global, path: &Name, limit: u64, count: u64) -> Result<(), TextErr>
-    ensures faults { Gives (λ u. u) result (count_faults path.now limit count) tt }
+    ensures faults { GivesOrFaults (λ u. u) result (count_faults path.now limit count) tt }
     ensures within { IfOk result (λ _. count ≤ limit) }
 {
     if count > limit {

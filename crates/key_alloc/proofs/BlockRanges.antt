@@ -5,10 +5,10 @@ use Rattle.std.proofs.lemmas.Nat.{pow_pos, shr_split}
 use Rattle.std.proofs.lemmas.Nat.Bits.{and_high_mask}
 use Rattle.spin_base.specs.declared.blocks.Block.{Block}
 use Rattle.app_graph.specs.declared.graphs.Net.{Net}
-use Rattle.app_graph.specs.ValidGraph.{IsFixedFor, AreApart}
+use Rattle.app_graph.specs.ValidGraph.{IsFixedFor, ShareNoKey}
 use Rattle.tern_word.specs.Ternary.{Matches, Intersects}
 use Rattle.tern_word.proofs.BlockLaws.{range_keys, exponent_le, key_small}
-use Rattle.key_alloc.specs.KeyBlocks.{size_of, Misses, IsLeastBlock, IsBlockFor}
+use Rattle.key_alloc.specs.KeyBlocks.{size_of, MissesRange, IsLeastBlock, IsBlockFor}
 use Rattle.key_alloc.proofs.Ranges.{room_above, in_facts, in_from}
 
 -- the block's keys are those from its key on, as many as its size
@@ -60,7 +60,7 @@ range_of_block taken net b = by_fixed net.fixed
 -- ---- ranges that share no key
 
 -- blocks that share no key miss each other as ranges
-pub miss_apart : (a b : Block) → IsRange a → IsRange b → AreApart a b → Misses b.key (size_of b) a
+pub miss_apart : (a b : Block) → IsRange a → IsRange b → ShareNoKey a b → MissesRange b.key (size_of b) a
 miss_apart a b range_a range_b apart k in_a in_b =
     let at_a = in_facts a.key (size_of a) k in_a in
     let at_b = in_facts b.key (size_of b) k in_b in
@@ -68,7 +68,7 @@ miss_apart a b range_a range_b apart k in_a in_b =
     apart k small ((range_a.keys k small).1 at_a) ((range_b.keys k small).1 at_b)
 
 -- and the other way round
-pub apart_missed : (a b : Block) → IsRange a → IsRange b → Misses b.key (size_of b) a → Intersects a b → ⊥
+pub apart_missed : (a b : Block) → IsRange a → IsRange b → MissesRange b.key (size_of b) a → Intersects a b → ⊥
 apart_missed a b range_a range_b miss meet =
     let at_a = (range_a.keys meet.key meet.small).0 meet.first in
     let at_b = (range_b.keys meet.key meet.small).0 meet.second in

@@ -3,20 +3,20 @@ use Rattle.std.proofs.Common.{◌≡◌, ℕ, ◌≤◌, List, ◌++◌, length,
 use Rattle.std.proofs.lemmas.List.{take_all}
 use Rattle.std.proofs.lemmas.Option.{slice_get_cases, slice_get_within}
 use Rattle.std.proofs.lemmas.Bool.{cases_lt}
-use Rattle.list_laws.proofs.Places.{slice_get_there, one_item_at}
-use Rattle.list_laws.proofs.Determined.{EachFollows, determined_begins}
+use Rattle.spin_base.proofs.Places.{slice_get_there, one_item_at}
+use Rattle.spin_base.proofs.Determined.{EachFollows, determined_begins}
 use Rattle.spin_base.specs.declared.blocks.Block.{Block}
 use Rattle.app_graph.specs.declared.graphs.Net.{Net}
 use Rattle.tern_word.proofs.BlockLaws.{same_block}
-use Rattle.key_alloc.specs.KeyBlocks.{size_of, fixed_of, IsOpen, IsLeastBlock, IsBlockFor, AreFirstBlocks, AreRightBlocks, AreKeysOut}
+use Rattle.key_alloc.specs.KeyBlocks.{size_of, fixed_of, IsOpenPlace, IsLeastBlock, IsBlockFor, AreFirstBlocks, AreRightBlocks, AreKeysOut}
 use Rattle.key_alloc.proofs.Sizes.{one_size}
 
 same_least : (taken : List Block) (keys : ℕ) (x y : Block) → IsLeastBlock taken keys x → IsLeastBlock taken keys y → x ≡ y
 same_least taken keys x y a b =
     let sizes : size_of x ≡ size_of y = one_size keys (size_of x) (size_of y) a.size b.size in
     let masks : x.mask ≡ y.mask = omega (arith, sizes, x.small, y.small) in
-    let up : x.key ≤ y.key = a.least y.key (subst (λ s. IsOpen taken s y.key) (sym sizes) b.may) in
-    let down : y.key ≤ x.key = b.least x.key (subst (λ s. IsOpen taken s x.key) sizes a.may) in
+    let up : x.key ≤ y.key = a.least y.key (subst (λ s. IsOpenPlace taken s y.key) (sym sizes) b.may) in
+    let down : y.key ≤ x.key = b.least x.key (subst (λ s. IsOpenPlace taken s x.key) sizes a.may) in
     same_block x y (omega arith) masks
 
 one_for_net : (taken : List Block) (net : Net) (x y : Block) → IsBlockFor taken net x → IsBlockFor taken net y → x ≡ y
@@ -55,7 +55,7 @@ no_further nets xs i first out =
         | inl (x, x_in, is_x, got_x) ↦ (
             let mine = subst (λ o. MatchOption o (IsLeastBlock (fixed_of nets ++ take i xs) out.net.keys x) (λ f. x ≡ f)) out.free (first.each i out.net x out.is is_x) in
             let same : take i xs ≡ out.blocks = ap (λ n. take n xs) (sym out.here) ∙ begins nets out.blocks xs out.before first (omega (arith, out.here)) in
-            absurd (out.none (size_of x) x.key mine.size (subst (λ e. IsOpen (fixed_of nets ++ e) (size_of x) x.key) same mine.may))
+            absurd (out.none (size_of x) x.key mine.size (subst (λ e. IsOpenPlace (fixed_of nets ++ e) (size_of x) x.key) same mine.may))
             )
         | inr (past, none) ↦ absurd (omega arith)
       ]

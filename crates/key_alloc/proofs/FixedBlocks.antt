@@ -5,15 +5,15 @@ use Rattle.std.specs.List.{cons_option}
 use Rattle.std.specs.List.Sorted.{IsPermutation}
 use Rattle.std.proofs.lemmas.Bool.{cases_lt}
 use Rattle.std.proofs.lemmas.List.Sorted.{All-permutation}
-use Rattle.list_laws.proofs.Pairs.{AllPairs-nil, AllPairs-head, AllPairs-tail, AllPairs-permutation}
+use Rattle.spin_base.proofs.Pairs.{AllPairs-nil, AllPairs-head, AllPairs-tail, AllPairs-permutation}
 use Rattle.std.proofs.lemmas.List.Kept.{AllPairs-cons}
 use Rattle.std.proofs.lemmas.Option.{slice_get_within, get_or_from_slice_get}
-use Rattle.list_laws.proofs.Members.{Contains-at, Contains-filter_map, Contains-from_filter_map}
-use Rattle.list_laws.proofs.Places.{All-at, All-each, take_more_at}
+use Rattle.spin_base.proofs.Members.{Contains-at, Contains-filter_map, Contains-from_filter_map}
+use Rattle.spin_base.proofs.Places.{All-at, All-each, take_more_at}
 use Rattle.spin_base.specs.declared.blocks.Block.{Block}
 use Rattle.app_graph.specs.declared.graphs.Net.{Net}
 use Rattle.app_graph.specs.declared.graphs.Graph.{Graph}
-use Rattle.app_graph.specs.ValidGraph.{IsValidNet, IsValidGraph, IsFixedFor, AreApart, AreFixedApart}
+use Rattle.app_graph.specs.ValidGraph.{IsValidNet, IsValidGraph, IsFixedFor, ShareNoKey, AreFixedApart}
 use Rattle.key_alloc.specs.KeyBlocks.{size_of, fixed_of}
 use Rattle.key_alloc.specs.FreeKeys.{AreDownwards, HaveRanges}
 use Rattle.key_alloc.proofs.BlockRanges.{IsRange, range_of_fixed}
@@ -26,13 +26,13 @@ module _ (nets : List Net) (fixed : HaveFixed nets) where
   pub serves_at : (i : ℕ) (n : Net) → slice_get nets i ≡ Some n → IfSome n.fixed (IsFixedFor n.keys)
   serves_at i n is = All-at (λ (n : Net). IfSome n.fixed (IsFixedFor n.keys)) nets i n fixed.serve is
 
-  pub apart_at : (i j : ℕ) (n m : Net) (f g : Block) → i < j → slice_get nets i ≡ Some n → slice_get nets j ≡ Some m → n.fixed ≡ Some f → m.fixed ≡ Some g → AreApart f g
+  pub apart_at : (i j : ℕ) (n m : Net) (f g : Block) → i < j → slice_get nets i ≡ Some n → slice_get nets j ≡ Some m → n.fixed ≡ Some f → m.fixed ≡ Some g → ShareNoKey f g
   apart_at i j n m f g ord is_n is_m is_f is_g =
       let pair = fixed.apart i j n ord (slice_get_within nets j m is_m) in
       let one : AreFixedApart n m =
       subst (λ (x : Net). AreFixedApart x m) (get_or_from_slice_get nets i n n is_n)
       (subst (λ (y : Net). AreFixedApart (get_or nets i n) y) (get_or_from_slice_get nets j m n is_m) pair) in
-      subst (λ (o : Option Block). IfSome o (AreApart f)) is_g (subst (λ (o : Option Block). IfSome o (λ x. IfSome m.fixed (AreApart x))) is_f one)
+      subst (λ (o : Option Block). IfSome o (ShareNoKey f)) is_g (subst (λ (o : Option Block). IfSome o (λ x. IfSome m.fixed (ShareNoKey x))) is_f one)
 
 -- each fixed block is a range of keys
 pub fixed_ranges : (nets : List Net) → HaveFixed nets → All IsRange (fixed_of nets)
@@ -42,25 +42,25 @@ fixed_ranges nets fixed = All-each IsRange (fixed_of nets) (λ b has.
     range_of_fixed n.keys b (subst (λ (o : Option Block). IfSome o (IsFixedFor n.keys)) is serves))
 
 -- no two fixed blocks share a key
-pub fixed_apart : (nets : List Net) → AllPairs AreFixedApart nets → AllPairs AreApart (fixed_of nets)
-fixed_apart [] apart = AllPairs-nil AreApart
+pub fixed_apart : (nets : List Net) → AllPairs AreFixedApart nets → AllPairs ShareNoKey (fixed_of nets)
+fixed_apart [] apart = AllPairs-nil ShareNoKey
 fixed_apart (n ∷ ns) apart = by_fixed (fixed_apart ns (AllPairs-tail AreFixedApart n ns apart)) n.fixed refl
   where
-    from_first : (f : Block) → n.fixed ≡ Some f → (g : Block) → Contains (fixed_of ns) g → AreApart f g
+    from_first : (f : Block) → n.fixed ≡ Some f → (g : Block) → Contains (fixed_of ns) g → ShareNoKey f g
     from_first f is_f g has =
         let (m, in_ns, is_g) = Contains-from_filter_map (λ (m : Net). m.fixed) ns g has in
         let one = All-contains (AreFixedApart n) ns m (AllPairs-head AreFixedApart n ns apart) in_ns in
-        subst (λ (o : Option Block). IfSome o (AreApart f)) is_g (subst (λ (o : Option Block). IfSome o (λ x. IfSome m.fixed (AreApart x))) is_f one)
+        subst (λ (o : Option Block). IfSome o (ShareNoKey f)) is_g (subst (λ (o : Option Block). IfSome o (λ x. IfSome m.fixed (ShareNoKey x))) is_f one)
 
-    by_fixed : AllPairs AreApart (fixed_of ns) → (o : Option Block) → n.fixed ≡ o → AllPairs AreApart (cons_option o (fixed_of ns))
+    by_fixed : AllPairs ShareNoKey (fixed_of ns) → (o : Option Block) → n.fixed ≡ o → AllPairs ShareNoKey (cons_option o (fixed_of ns))
     by_fixed rest None is = rest
-    by_fixed rest (Some f) is = AllPairs-cons AreApart f (fixed_of ns) (All-each (AreApart f) (fixed_of ns) (from_first f is)) rest
+    by_fixed rest (Some f) is = AllPairs-cons ShareNoKey f (fixed_of ns) (All-each (ShareNoKey f) (fixed_of ns) (from_first f is)) rest
 
-apart_back : (a b : Block) → AreApart a b → AreApart b a
+apart_back : (a b : Block) → ShareNoKey a b → ShareNoKey b a
 apart_back a b apart k small in_b in_a = apart k small in_a in_b
 
 -- of two blocks that share no key, that of the lesser first key ends before the other
-ends_before : (a b : Block) → IsRange a → IsRange b → AreApart a b → b.key ≤ a.key → b.key + size_of b ≤ a.key
+ends_before : (a b : Block) → IsRange a → IsRange b → ShareNoKey a b → b.key ≤ a.key → b.key + size_of b ≤ a.key
 ends_before a b range_a range_b apart below =
     elim (cases_lt a.key (b.key + size_of b)) [
       | inl inside ↦ (
@@ -77,7 +77,7 @@ pub record AreSorted (nets : List Net) (blocks : List Block) : Type 0 where
 pub sorted_fixed : (nets : List Net) (blocks : List Block) → HaveFixed nets → IsPermutation (fixed_of nets) blocks → AllPairs (λ (a b : Block). b.key ≤ a.key) blocks → AreSorted nets blocks
 sorted_fixed nets blocks fixed moved sorted =
     let ranges = All-permutation IsRange (fixed_of nets) blocks moved (fixed_ranges nets fixed) in
-    let apart = AllPairs-permutation AreApart apart_back (fixed_of nets) blocks moved (fixed_apart nets fixed.apart) in
+    let apart = AllPairs-permutation ShareNoKey apart_back (fixed_of nets) blocks moved (fixed_apart nets fixed.apart) in
     record {
       downwards = λ i j d less inside. ends_before (get_or blocks i d) (get_or blocks j d) (ranges i d (omega (arith, less, inside))) (ranges j d inside) (apart i j d less inside) (sorted i j d less inside);
       ranges = λ i d inside. ((ranges i d inside).some, (ranges i d inside).within);

@@ -9,14 +9,14 @@ use Rattle.std.proofs.lemmas.List.Elements.{All-contains, All-weaker, Contains-a
 use Rattle.std.specs.List.Sorted.{IsPermutation}
 use Rattle.std.proofs.lemmas.List.Sorted.{All-permutation, IsPermutation-sym}
 use Rattle.std.proofs.lemmas.Option.{get_or_from_slice_get}
-use Rattle.list_laws.proofs.Members.{Contains-at}
-use Rattle.list_laws.proofs.Pairs.{All-left, AllPairs-left, AllPairs-across}
-use Rattle.list_laws.proofs.Places.{slice_get_there, slice_get-pushed, All-each}
+use Rattle.spin_base.proofs.Members.{Contains-at}
+use Rattle.spin_base.proofs.Pairs.{All-left, AllPairs-left, AllPairs-across}
+use Rattle.spin_base.proofs.Places.{slice_get_there, slice_get-pushed, All-each}
 use Rattle.spin_base.specs.declared.blocks.Block.{Block}
 use Rattle.range_store.specs.Regions.{AreRuns, is_free, in_range}
 use Rattle.key_alloc.specs.declared.free.FreeKeys.{FreeKeys}
-use Rattle.key_alloc.specs.KeyBlocks.{size_of, Misses, IsOpen}
-use Rattle.key_alloc.specs.FreeKeys.{has_key, key_or_end, end_of_run, AreDownwards, HaveRanges, AreAhead, AreFreeBeside}
+use Rattle.key_alloc.specs.KeyBlocks.{size_of, MissesRange, IsOpenPlace}
+use Rattle.key_alloc.specs.FreeKeys.{has_key, key_or_end, end_of_run, AreDownwards, HaveRanges, AreAhead, AreKeysFreeBeside}
 
 -- where the run of free keys before the blocks ahead ends
 pub record IsRunEnd (ahead : List Block) (end : ℕ) : Type 0 where
@@ -55,7 +55,7 @@ pub last_is_run_end : (ahead rest : List Block) (b : Block) → ahead ≡ rest +
 last_is_run_end ahead rest b is =
     ap end_of_run is ∙ ap key_or_end (slice_get-pushed rest b (length (rest ++ b ∷ []) - 1) (omega (arith, length_push rest b)))
 
-module _ (taken : List Block) (free : FreeKeys) (state : AreFreeBeside taken free) where
+module _ (taken : List Block) (free : FreeKeys) (state : AreKeysFreeBeside taken free) where
   -- the run of free keys from the frontier on
   module _ (end : ℕ) (run : IsRunEnd free.ahead.items end) (more : free.frontier < end) where
     not_taken : (k : ℕ) → free.frontier ≤ k → k < end → list_any (has_key k) taken ≡ false
@@ -79,7 +79,7 @@ module _ (taken : List Block) (free : FreeKeys) (state : AreFreeBeside taken fre
       | inr block ↦ (let range = All-contains (λ (c : Block). (0 < size_of c) × (c.key + size_of c ≤ 4294967296)) free.ahead.items block.0 state.ahead.ranges block.1 in let at = block.2 in omega (arith, range.1, at))
     ]
 
-    whole_now : (s p : ℕ) → IsOpen taken s p → p < end → p + s ≤ end
+    whole_now : (s p : ℕ) → IsOpenPlace taken s p → p < end → p + s ≤ end
     whole_now s p o low = elim (cases_lt p free.frontier) [
       | inl below ↦ omega (arith, state.whole s p o below, more)
       | inr from ↦ elim run.is [
@@ -88,7 +88,7 @@ module _ (taken : List Block) (free : FreeKeys) (state : AreFreeBeside taken fre
           | inl beyond ↦ (
               let range = All-contains (λ (c : Block). (0 < size_of c) × (c.key + size_of c ≤ 4294967296)) free.ahead.items b state.ahead.ranges ahead in
               let among = (All-contains (λ (c : Block). (free.frontier ≤ c.key) × Contains taken c) free.ahead.items b state.ahead.beyond ahead).1 in
-              absurd (All-contains (Misses p s) taken b o.apart among end (grind (arith, nat_tests)) (grind (arith, nat_tests)))
+              absurd (All-contains (MissesRange p s) taken b o.apart among end (grind (arith, nat_tests)) (grind (arith, nat_tests)))
               )
           | inr within ↦ within
         ]
@@ -96,7 +96,7 @@ module _ (taken : List Block) (free : FreeKeys) (state : AreFreeBeside taken fre
     ]
 
     pub moved_up : (after : FreeKeys) → AreRuns 0 4294967296 after.below.holes → after.below.size ≡ free.below.size → after.frontier ≡ end → after.ahead.items ≡ free.ahead.items
-        → ((k : ℕ) → is_free after.below.holes k ≡ (is_free free.below.holes k || in_range free.frontier (end - free.frontier) k)) → AreFreeBeside taken after
+        → ((k : ℕ) → is_free after.below.holes k ≡ (is_free free.below.holes k || in_range free.frontier (end - free.frontier) k)) → AreKeysFreeBeside taken after
     moved_up after runs size at same free_now = record {
       runs = runs;
       size = size ∙ state.size;
@@ -149,7 +149,7 @@ module _ (taken : List Block) (free : FreeKeys) (state : AreFreeBeside taken fre
       ]
     ]
 
-    pub passed : (after : FreeKeys) → after.below ≡ free.below → after.frontier ≡ end → after.ahead.items ≡ rest → AreFreeBeside taken after
+    pub passed : (after : FreeKeys) → after.below ≡ free.below → after.frontier ≡ end → after.ahead.items ≡ rest → AreKeysFreeBeside taken after
     passed after same at left = record {
       runs = subst (λ r. AreRuns 0 4294967296 r.holes) (sym same) state.runs;
       size = ap (λ r. r.size) same ∙ state.size;
@@ -173,7 +173,7 @@ module _ (taken : List Block) (free : FreeKeys) (state : AreFreeBeside taken fre
       whole = λ s p o low. elim (cases_lt p free.frontier) [
         | inl below ↦ omega (arith, at, state.whole s p o below)
         | inr from ↦ elim (cases_lt p (p + s)) [
-          | inl some ↦ absurd (All-contains (Misses p s) taken b o.apart b_taken p (let e = at_frontier in grind (arith, nat_tests, low, at)) (grind (arith, nat_tests)))
+          | inl some ↦ absurd (All-contains (MissesRange p s) taken b o.apart b_taken p (let e = at_frontier in grind (arith, nat_tests, low, at)) (grind (arith, nat_tests)))
           | inr none ↦ omega (arith, low)
         ]
       ];
@@ -181,7 +181,7 @@ module _ (taken : List Block) (free : FreeKeys) (state : AreFreeBeside taken fre
 
 -- at the start the frontier is before all keys
 pub at_start : (taken fixed : List Block) (free : FreeKeys) → IsPermutation taken fixed → AreDownwards fixed → HaveRanges fixed → free.ahead.items ≡ fixed → free.frontier ≡ 0
-    → free.below.size ≡ 4294967296 → AreRuns 0 4294967296 free.below.holes → ((k : ℕ) → is_free free.below.holes k ≡ false) → AreFreeBeside taken free
+    → free.below.size ≡ 4294967296 → AreRuns 0 4294967296 free.below.holes → ((k : ℕ) → is_free free.below.holes k ≡ false) → AreKeysFreeBeside taken free
 at_start taken fixed free moved downwards ranges same zero size runs none = record {
   runs = runs;
   size = size;

@@ -4,14 +4,14 @@ use Rattle.std.specs.List.{AllZip}
 use Rattle.std.proofs.lemmas.List.{length_push, length-take, take-append-le, take_at, get_or-take}
 use Rattle.std.proofs.lemmas.List.Elements.{All-contains, Contains-append_left, Contains-append_right}
 use Rattle.std.proofs.lemmas.Option.{slice_get-get_or, slice_get_within, get_or_from_slice_get}
-use Rattle.list_laws.proofs.Members.{Contains-at, Contains-filter_map}
-use Rattle.list_laws.proofs.Places.{slice_get-push_cases, slice_get_there}
+use Rattle.spin_base.proofs.Members.{Contains-at, Contains-filter_map}
+use Rattle.spin_base.proofs.Places.{slice_get-push_cases, slice_get_there}
 use Rattle.spin_base.specs.declared.blocks.Block.{Block}
 use Rattle.app_graph.specs.declared.graphs.Net.{Net}
-use Rattle.app_graph.specs.ValidGraph.{AreApart}
+use Rattle.app_graph.specs.ValidGraph.{ShareNoKey}
 use Rattle.tern_word.specs.Ternary.{Intersects}
 use Rattle.tern_word.proofs.BlockLaws.{Intersects-sym}
-use Rattle.key_alloc.specs.KeyBlocks.{size_of, fixed_of, Misses, IsLeastBlock, IsBlockFor, AreFirstBlocks, AreRightBlocks, HasKeys}
+use Rattle.key_alloc.specs.KeyBlocks.{size_of, fixed_of, MissesRange, IsLeastBlock, IsBlockFor, AreFirstBlocks, AreRightBlocks, HasKeys}
 use Rattle.key_alloc.proofs.BlockRanges.{IsRange, range_of_block, apart_missed}
 use Rattle.key_alloc.proofs.FixedBlocks.{HaveFixed, serves_at, apart_at}
 
@@ -78,12 +78,12 @@ module _ (nets : List Net) (blocks : List Block) (fixed : HaveFixed nets) (right
     by_fixed : (o p : Option Block) → first.net.fixed ≡ o → second.net.fixed ≡ p → MatchOption o (IsLeastBlock (fixed_of nets ++ take i blocks) first.net.keys a) (λ f. a ≡ f)
         → MatchOption p (IsLeastBlock (fixed_of nets ++ take j blocks) second.net.keys b) (λ g. b ≡ g) → Intersects a b → ⊥
     by_fixed o None is_o is_p mine least =
-        apart_missed a b first.range second.range (All-contains (Misses b.key (size_of b)) (fixed_of nets ++ take j blocks) a least.may.apart a_before)
+        apart_missed a b first.range second.range (All-contains (MissesRange b.key (size_of b)) (fixed_of nets ++ take j blocks) a least.may.apart a_before)
     by_fixed None (Some g) is_o is_p least its = λ meet.
         let taken = subst (Contains (fixed_of nets ++ take i blocks)) (sym its) (fixed_taken g is_p) in
-        apart_missed b a second.range first.range (All-contains (Misses a.key (size_of a)) (fixed_of nets ++ take i blocks) b least.may.apart taken) (Intersects-sym a b meet)
+        apart_missed b a second.range first.range (All-contains (MissesRange a.key (size_of a)) (fixed_of nets ++ take i blocks) b least.may.apart taken) (Intersects-sym a b meet)
     by_fixed (Some f) (Some g) is_o is_p mine its = λ meet.
-        let apart = subst (λ x. AreApart x b) (sym mine) (subst (AreApart f) (sym its) (apart_at nets fixed i j first.net second.net f g ord first.is second.is is_o is_p)) in
+        let apart = subst (λ x. ShareNoKey x b) (sym mine) (subst (ShareNoKey f) (sym its) (apart_at nets fixed i j first.net second.net f g ord first.is second.is is_o is_p)) in
         apart meet.key meet.small meet.first meet.second
 
     pub two_apart : Intersects a b → ⊥

@@ -8,18 +8,18 @@ use Rattle.spin_base.specs.declared.blocks.Block.{Block}
 use Rattle.spin_base.specs.declared.wants.Memory.{Memory}
 use Rattle.app_graph.specs.declared.graphs.Net.{Net}
 use Rattle.range_store.specs.Regions.{AreRuns, IsFirstFit, HasNoFit, is_hole_range, is_free, in_range}
-use Rattle.list_laws.proofs.Tests.{or_neither}
+use Rattle.spin_base.proofs.Tests.{or_neither}
 use Rattle.range_store.proofs.HolePlaces.{clash, free_in_range, range_of_free}
 use Rattle.key_alloc.proofs.Ranges.{in_facts, free_of, regroup}
-use Rattle.key_alloc.specs.KeyBlocks.{size_of, Misses, IsSizeFor, IsOpen, IsLeastBlock, IsBlockFor}
-use Rattle.list_laws.proofs.Pairs.{All-left}
+use Rattle.key_alloc.specs.KeyBlocks.{size_of, MissesRange, IsSizeFor, IsOpenPlace, IsLeastBlock, IsBlockFor}
+use Rattle.spin_base.proofs.Pairs.{All-left}
 use Rattle.std.proofs.lemmas.List.Elements.{All-append, All-cons, All-nil, All-weaker, All-contains, Contains-append_left}
 use Rattle.key_alloc.specs.declared.free.FreeKeys.{FreeKeys}
-use Rattle.key_alloc.specs.FreeKeys.{has_key, AreAhead, AreFreeBeside, IsLeastOpen}
+use Rattle.key_alloc.specs.FreeKeys.{has_key, AreAhead, AreKeysFreeBeside, IsLeastOpenPlace}
 
 -- ---- the keys that are free while blocks are taken
 
-module _ (taken : List Block) (free : FreeKeys) (state : AreFreeBeside taken free) (s : ℕ) (some : 0 < s) where
+module _ (taken : List Block) (free : FreeKeys) (state : AreKeysFreeBeside taken free) (s : ℕ) (some : 0 < s) where
   -- the places of a range in a hole are below the frontier
   pub below_frontier : (p : ℕ) → is_hole_range free.below.holes p s ≡ true → p + s ≤ free.frontier
   below_frontier p fits =
@@ -27,7 +27,7 @@ module _ (taken : List Block) (free : FreeKeys) (state : AreFreeBeside taken fre
       let last = ltb-true (p + s - 1) free.frontier at.0 in
       omega (arith, last)
 
-  pub open_from_hole : (p : ℕ) → p % s ≡ 0 → is_hole_range free.below.holes p s ≡ true → IsOpen taken s p
+  pub open_from_hole : (p : ℕ) → p % s ≡ 0 → is_hole_range free.below.holes p s ≡ true → IsOpenPlace taken s p
   open_from_hole p aligned fits =
       let at : (k : ℕ) → p ≤ k → k < p + s → (ltb k free.frontier ≡ true) × (not (list_any (has_key k) taken) ≡ true) =
       λ k low high. and_parts (ltb k free.frontier) (not (list_any (has_key k) taken)) (sym (state.free k) ∙ free_in_range free.below.holes p s k fits low high) in
@@ -39,7 +39,7 @@ module _ (taken : List Block) (free : FreeKeys) (state : AreFreeBeside taken fre
             clash (list_any_at (has_key k) taken j d inside mine) (not-true (list_any (has_key k) taken) (at k f.0 f.1).1);
       }
 
-  pub hole_from_open : (p : ℕ) → IsOpen taken s p → p < free.frontier → is_hole_range free.below.holes p s ≡ true
+  pub hole_from_open : (p : ℕ) → IsOpenPlace taken s p → p < free.frontier → is_hole_range free.below.holes p s ≡ true
   hole_from_open p o low = range_of_free 0 4294967296 free.below.holes p s state.runs some (λ k from_p to_end.
       state.free k ∙ free_of (ltb k free.frontier) (list_any (has_key k) taken) (lt-ltb k free.frontier (omega (arith, state.whole s p o low)))
       (list_any_none (has_key k) taken (λ j d inside. elim (cases_Bool (has_key k (get_or taken j d))) [
@@ -48,7 +48,7 @@ module _ (taken : List Block) (free : FreeKeys) (state : AreFreeBeside taken fre
       ])))
 
   -- the first fit below the frontier is the least place of all
-  pub least_from_fit : (p : ℕ) → IsFirstFit free.below.holes s s p → IsLeastOpen taken s p
+  pub least_from_fit : (p : ℕ) → IsFirstFit free.below.holes s s p → IsLeastOpenPlace taken s p
   least_from_fit p fit = record {
     may = open_from_hole p fit.aligned fit.fits;
     least = λ q o. elim (cases_lt q free.frontier) [
@@ -57,7 +57,7 @@ module _ (taken : List Block) (free : FreeKeys) (state : AreFreeBeside taken fre
     ];
   }
 
-  pub none_from_fit : HasNoFit free.below.holes s s → free.frontier ≡ 4294967296 → (p : ℕ) → IsOpen taken s p → ⊥
+  pub none_from_fit : HasNoFit free.below.holes s s → free.frontier ≡ 4294967296 → (p : ℕ) → IsOpenPlace taken s p → ⊥
   none_from_fit none all p o = clash (hole_from_open p o (omega (arith, o.within))) (none p o.aligned)
 
 -- one block more is taken, which is behind the frontier or ahead
@@ -72,13 +72,13 @@ ahead_more taken b ahead frontier state place = record {
   downwards = state.downwards;
 }
 
-pub open_before : (taken : List Block) (b : Block) (s p : ℕ) → IsOpen (taken ++ b ∷ []) s p → IsOpen taken s p
-open_before taken b s p o = record { aligned = o.aligned; within = o.within; apart = All-left (Misses p s) taken (b ∷ []) o.apart }
+pub open_before : (taken : List Block) (b : Block) (s p : ℕ) → IsOpenPlace (taken ++ b ∷ []) s p → IsOpenPlace taken s p
+open_before taken b s p o = record { aligned = o.aligned; within = o.within; apart = All-left (MissesRange p s) taken (b ∷ []) o.apart }
 
 -- a block below the frontier is taken
-pub taken_more : (taken : List Block) (b : Block) (free after : FreeKeys) → AreFreeBeside taken free → 0 < size_of b → is_hole_range free.below.holes b.key (size_of b) ≡ true
+pub taken_more : (taken : List Block) (b : Block) (free after : FreeKeys) → AreKeysFreeBeside taken free → 0 < size_of b → is_hole_range free.below.holes b.key (size_of b) ≡ true
     → AreRuns 0 4294967296 after.below.holes → after.below.size ≡ free.below.size → after.frontier ≡ free.frontier → after.ahead.items ≡ free.ahead.items
-    → ((k : ℕ) → is_free after.below.holes k ≡ (is_free free.below.holes k && not (in_range b.key (size_of b) k))) → AreFreeBeside (taken ++ b ∷ []) after
+    → ((k : ℕ) → is_free after.below.holes k ≡ (is_free free.below.holes k && not (in_range b.key (size_of b) k))) → AreKeysFreeBeside (taken ++ b ∷ []) after
 taken_more taken b free after state some fits runs size same_frontier same_ahead is_free_now = record {
   runs = runs;
   size = size ∙ state.size;
@@ -95,7 +95,7 @@ taken_more taken b free after state some fits runs size same_frontier same_ahead
 }
 
 -- a block that is among those that are taken takes no more
-pub taken_again : (taken : List Block) (b : Block) (free : FreeKeys) → AreFreeBeside taken free → Contains taken b → AreFreeBeside (taken ++ b ∷ []) free
+pub taken_again : (taken : List Block) (b : Block) (free : FreeKeys) → AreKeysFreeBeside taken free → Contains taken b → AreKeysFreeBeside (taken ++ b ∷ []) free
 taken_again taken b free state has = record {
   runs = state.runs;
   size = state.size;
@@ -115,21 +115,21 @@ taken_again taken b free state has = record {
 -- ---- the block that a net gets, which is the least or none
 
 -- the block of the least place is the least block
-pub block_from_least : (taken : List Block) (keys size place : ℕ) (b : Block) → IsSizeFor keys size → b.key ≡ place → size_of b ≡ size → IsLeastOpen taken size place → IsLeastBlock taken keys b
+pub block_from_least : (taken : List Block) (keys size place : ℕ) (b : Block) → IsSizeFor keys size → b.key ≡ place → size_of b ≡ size → IsLeastOpenPlace taken size place → IsLeastBlock taken keys b
 block_from_least taken keys size place b for_keys key is least =
-    let at : IsLeastOpen taken (size_of b) b.key = subst (λ s. IsLeastOpen taken s b.key) (sym is) (subst (IsLeastOpen taken size) (sym key) least) in
+    let at : IsLeastOpenPlace taken (size_of b) b.key = subst (λ s. IsLeastOpenPlace taken s b.key) (sym is) (subst (IsLeastOpenPlace taken size) (sym key) least) in
     record { size = subst (IsSizeFor keys) (sym is) for_keys; may = at.may; least = at.least }
 
 -- the block that is taken where none is fixed
-pub free_in : (net : Net) (free after : FreeKeys) (r : Result (Option Block) Memory) → IfOk r (λ o. IfSome o (λ b. (taken : List Block) → AreFreeBeside taken free → AreFreeBeside (taken ++ b ∷ []) after))
-    → IfOk r (λ o. IfSome o (λ b. (taken : List Block) → AreFreeBeside taken free → IfSome net.fixed (Contains taken) → AreFreeBeside (taken ++ b ∷ []) after))
+pub free_in : (net : Net) (free after : FreeKeys) (r : Result (Option Block) Memory) → IfOk r (λ o. IfSome o (λ b. (taken : List Block) → AreKeysFreeBeside taken free → AreKeysFreeBeside (taken ++ b ∷ []) after))
+    → IfOk r (λ o. IfSome o (λ b. (taken : List Block) → AreKeysFreeBeside taken free → IfSome net.fixed (Contains taken) → AreKeysFreeBeside (taken ++ b ∷ []) after))
 free_in net free after (Ok (Some b)) more = λ taken state among. more taken state
 free_in net free after (Ok None) more = tt
 free_in net free after (Err e) more = tt
 
 module _ (net : Net) (free : FreeKeys) (not_fixed : net.fixed ≡ None) where
-  pub right_in : (r : Result (Option Block) Memory) → IfOk r (λ o. IfSome o (λ b. (taken : List Block) → AreFreeBeside taken free → IsLeastBlock taken net.keys b))
-      → IfOk r (λ o. IfSome o (λ b. (taken : List Block) → AreFreeBeside taken free → IsBlockFor taken net b))
+  pub right_in : (r : Result (Option Block) Memory) → IfOk r (λ o. IfSome o (λ b. (taken : List Block) → AreKeysFreeBeside taken free → IsLeastBlock taken net.keys b))
+      → IfOk r (λ o. IfSome o (λ b. (taken : List Block) → AreKeysFreeBeside taken free → IsBlockFor taken net b))
   right_in (Ok (Some b)) least = λ taken state.
       subst (λ o. MatchOption o (IsLeastBlock taken net.keys b) (λ f. b ≡ f)) (sym not_fixed) (least taken state)
   right_in (Ok None) least = tt

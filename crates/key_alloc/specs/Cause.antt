@@ -5,6 +5,6 @@ use Rattle.key_alloc.specs.declared.alloc.KeyErr.{KeyErr}
 use Rattle.key_alloc.specs.declared.alloc.KeyErr.TheVariants.{KeysOut, Memory}
 use Rattle.key_alloc.specs.KeyBlocks.{AreKeysOut}
 
-abbrev pub IsCause : List Net → KeyErr → Type 0
-IsCause nets (KeysOut net) = AreKeysOut nets net
-IsCause nets Memory = Unit {0}
+abbrev pub IsKeysCause : List Net → KeyErr → Type 0
+IsKeysCause nets (KeysOut net) = AreKeysOut nets net
+IsKeysCause nets Memory = Unit {0}

@@ -4,7 +4,7 @@ use Rattle.std.specs.List.{Contains, list_any}
 use Rattle.spin_base.specs.declared.blocks.Block.{Block}
 use Rattle.range_store.specs.Regions.{AreRuns, is_free, in_range}
 use Rattle.key_alloc.specs.declared.free.FreeKeys.{FreeKeys}
-use Rattle.key_alloc.specs.KeyBlocks.{size_of, IsOpen}
+use Rattle.key_alloc.specs.KeyBlocks.{size_of, IsOpenPlace}
 
 -- the key is in the block's range
 abbrev pub has_key : ℕ → Block → Bool
@@ -36,19 +36,19 @@ pub record AreAhead (taken ahead : List Block) (frontier : ℕ) : Type 0 where
 
 -- A key below the frontier is free where it is in the range of no block that is taken. No range that a net may have has keys
 -- on both sides of the frontier.
-pub record AreFreeBeside (taken : List Block) (state : FreeKeys) : Type 0 where
+pub record AreKeysFreeBeside (taken : List Block) (state : FreeKeys) : Type 0 where
   pub runs : AreRuns 0 4294967296 state.below.holes
   pub size : state.below.size ≡ 4294967296
   pub limit : state.frontier ≤ 4294967296
   pub free : (k : ℕ) → is_free state.below.holes k ≡ (nat_lt k state.frontier && not (list_any (has_key k) taken))
   pub ahead : AreAhead taken state.ahead.items state.frontier
-  pub whole : (size place : ℕ) → IsOpen taken size place → place < state.frontier → place + size ≤ state.frontier
+  pub whole : (size place : ℕ) → IsOpenPlace taken size place → place < state.frontier → place + size ≤ state.frontier
 
 -- they are the free keys beside some blocks
 abbrev pub AreFreeBesideSome : FreeKeys → Type 0
-AreFreeBesideSome free = (taken : List Block) × AreFreeBeside taken free
+AreFreeBesideSome free = (taken : List Block) × AreKeysFreeBeside taken free
 
 -- the least place from which a range of so many keys is open
-pub record IsLeastOpen (taken : List Block) (size place : ℕ) : Type 0 where
-  pub may : IsOpen taken size place
-  pub least : (other : ℕ) → IsOpen taken size other → place ≤ other
+pub record IsLeastOpenPlace (taken : List Block) (size place : ℕ) : Type 0 where
+  pub may : IsOpenPlace taken size place
+  pub least : (other : ℕ) → IsOpenPlace taken size other → place ≤ other

@@ -18,24 +18,24 @@ pub record IsSizeFor (keys size : ℕ) : Type 0 where
   pub least : (p : ℕ) → IsPowerOfTwo p → keys ≤ p → size ≤ p
 
 -- no key is in the block's range and also in that of size keys from a place on
-abbrev pub Misses : ℕ → ℕ → Block → Type 0
-Misses place size b = (k : ℕ) → in_range b.key (size_of b) k ≡ true → in_range place size k ≡ true → ⊥
+abbrev pub MissesRange : ℕ → ℕ → Block → Type 0
+MissesRange place size b = (k : ℕ) → in_range b.key (size_of b) k ≡ true → in_range place size k ≡ true → ⊥
 
 -- the blocks that are fixed for nets, in the order of the nets that have one
 abbrev pub fixed_of : List Net → List Block
 fixed_of nets = filter_map (λ (n : Net). n.fixed) nets
 
 -- A net may have a range that begins at a multiple of its size, ends at or below 2^32, and meets none of the taken blocks.
-pub record IsOpen (taken : List Block) (size place : ℕ) : Type 0 where
+pub record IsOpenPlace (taken : List Block) (size place : ℕ) : Type 0 where
   pub aligned : place % size ≡ 0
   pub within : place + size ≤ 2 ^ 32
-  pub apart : All (Misses place size) taken
+  pub apart : All (MissesRange place size) taken
 
 -- The least block for so many keys has the size for them, and begins at the least place from which the range is open.
 pub record IsLeastBlock (taken : List Block) (keys : ℕ) (b : Block) : Type 0 where
   pub size : IsSizeFor keys (size_of b)
-  pub may : IsOpen taken (size_of b) b.key
-  pub least : (place : ℕ) → IsOpen taken (size_of b) place → b.key ≤ place
+  pub may : IsOpenPlace taken (size_of b) b.key
+  pub least : (place : ℕ) → IsOpenPlace taken (size_of b) place → b.key ≤ place
 
 -- A net has the block that is fixed for it, or else the least block for its keys.
 abbrev pub IsBlockFor : List Block → Net → Block → Type 0
@@ -62,7 +62,7 @@ pub record AreKeysOut (nets : List Net) (i : ℕ) : Type 0 where
   pub net : Net
   pub is : slice_get nets i ≡ Some net
   pub free : net.fixed ≡ None
-  pub none : (size place : ℕ) → IsSizeFor net.keys size → IsOpen (fixed_of nets ++ blocks) size place → ⊥
+  pub none : (size place : ℕ) → IsSizeFor net.keys size → IsOpenPlace (fixed_of nets ++ blocks) size place → ⊥
 
 -- each key of a net, the block's key and one of the numbers below the net's keys added, is a 32-bit key of the block
 abbrev pub HasKeys : Net → Block → Type 0

@@ -4,12 +4,12 @@ ghost use Rattle.std.specs.List.{AllZip, Contains};
 ghost use Rattle.spin_base.specs.declared.blocks.Block.{Block};
 ghost use Rattle.app_graph.specs.ValidGraph.{IsValidGraph};
 ghost use Rattle.tern_word.specs.Ternary.{Intersects};
-ghost use Rattle.key_alloc.specs.KeyBlocks.{IsSizeFor, IsOpen, IsLeastBlock, IsBlockFor, AreRightBlocks, HasKeys};
-ghost use Rattle.key_alloc.specs.FreeKeys.{AreFreeBeside, AreFreeBesideSome};
-ghost use Rattle.key_alloc.specs.Cause.{IsCause};
+ghost use Rattle.key_alloc.specs.KeyBlocks.{IsSizeFor, IsOpenPlace, IsLeastBlock, IsBlockFor, AreRightBlocks, HasKeys};
+ghost use Rattle.key_alloc.specs.FreeKeys.{AreKeysFreeBeside, AreFreeBesideSome};
+ghost use Rattle.key_alloc.specs.Cause.{IsKeysCause};
 
 use crate::fixed::keys_not_fixed;
-use crate::free::FreeKeys;
+use crate::free::{FreeKeys, Size};
 use app_graph::{Graph, Net};
 use spin_base::{Block, Memory, Seq};
 use std::alloc::Global;
@@ -42,7 +42,7 @@ impl From<Memory> for KeyErr {
 pub fn keys(alloc: Global, graph: &Graph) -> Result<Seq<Block>, KeyErr>
     requires { IsValidGraph graph.now }
     ensures blocks { IfOk result (AreRightBlocks graph.now.nets) }
-    ensures keys_out { IfErr result (IsCause graph.now.nets) }
+    ensures keys_out { IfErr result (IsKeysCause graph.now.nets) }
     ensures apart { IfOk result (AllPairs (λ a b. ¬ Intersects a b)) }
     ensures enough { IfOk result (AllZip HasKeys graph.now.nets) }
 {
@@ -62,10 +62,16 @@ fn block_for(free: &mut FreeKeys, net: &Net) -> Result<Option<Block>, Memory>
     requires some { 1 ≤ net.now.keys }
     requires few { net.now.keys ≤ 4294967296 }
     requires state { AreFreeBesideSome free.old }
-    ensures right { IfOk result (λ o. IfSome o (λ b. (taken : List Block) → AreFreeBeside taken free.old → IsBlockFor taken net.now b)) }
-    ensures free { IfOk result (λ o. IfSome o (λ b. (taken : List Block) → AreFreeBeside taken free.old → IfSome net.now.fixed (Contains taken) → AreFreeBeside (taken ++ b ∷ []) free.new)) }
+    ensures right { IfOk result (λ o. IfSome o (λ b. (taken : List Block)
+        → AreKeysFreeBeside taken free.old → IsBlockFor taken net.now b)) }
+    ensures free { IfOk result (λ o. IfSome o (λ b. (taken : List Block)
+        → AreKeysFreeBeside taken free.old → IfSome net.now.fixed (Contains taken)
+        → AreKeysFreeBeside
+        (taken ++ b ∷ []) free.new)) }
     ensures not_fixed { IfOk result (λ o. IfNone o (net.now.fixed ≡ None)) }
-    ensures none { IfOk result (λ o. IfNone o ((taken : List Block) → AreFreeBeside taken free.old → (size place : ℕ) → IsSizeFor net.now.keys size → IsOpen taken size place → ⊥)) }
+    ensures none { IfOk result (λ o. IfNone o ((taken : List Block)
+        → AreKeysFreeBeside taken free.old
+        → (size place : ℕ) → IsSizeFor net.now.keys size → IsOpenPlace taken size place → ⊥)) }
 {
     match net.fixed {
         Some(block) => Ok(Some(block)),
@@ -78,12 +84,17 @@ fn least_block(free: &mut FreeKeys, keys: u64) -> Result<Option<Block>, Memory>
     requires some { 1 ≤ keys }
     requires few { keys ≤ 4294967296 }
     requires state { AreFreeBesideSome free.old }
-    ensures least { IfOk result (λ o. IfSome o (λ b. (taken : List Block) → AreFreeBeside taken free.old → IsLeastBlock taken keys b)) }
-    ensures free { IfOk result (λ o. IfSome o (λ b. (taken : List Block) → AreFreeBeside taken free.old → AreFreeBeside (taken ++ b ∷ []) free.new)) }
-    ensures none { IfOk result (λ o. IfNone o ((taken : List Block) → AreFreeBeside taken free.old → (size place : ℕ) → IsSizeFor keys size → IsOpen taken size place → ⊥)) }
+    ensures least { IfOk result (λ o. IfSome o (λ b. (taken : List Block)
+        → AreKeysFreeBeside taken free.old → IsLeastBlock taken keys b)) }
+    ensures free { IfOk result (λ o. IfSome o (λ b. (taken : List Block)
+        → AreKeysFreeBeside taken free.old → AreKeysFreeBeside (taken ++ b ∷ []) free.new)) }
+    ensures none { IfOk result (λ o. IfNone o ((taken : List Block)
+        → AreKeysFreeBeside taken free.old
+        → (size place : ℕ) → IsSizeFor keys size → IsOpenPlace taken size place → ⊥)) }
 {
     let size = keys.next_power_of_two();
-    let Some(place) = free.take(size)? else {
+    let wanted = Size { keys: size };
+    let Some(place) = free.take(wanted)? else {
         return Ok(None);
     };
     Ok(Some(block_of(place as u32, size)))

@@ -5,7 +5,7 @@ ghost use Rattle.spin_base.specs.declared.blocks.Block.{Block};
 ghost use Rattle.app_graph.specs.declared.graphs.Net.{Net};
 ghost use Rattle.app_graph.specs.ValidGraph.{IsFixedFor, AreFixedApart};
 ghost use Rattle.key_alloc.specs.KeyBlocks.{fixed_of};
-ghost use Rattle.key_alloc.specs.FreeKeys.{AreFreeBeside};
+ghost use Rattle.key_alloc.specs.FreeKeys.{AreKeysFreeBeside};
 
 use crate::free::FreeKeys;
 use app_graph::Net;
@@ -16,7 +16,7 @@ use std::alloc::Global;
 pub fn keys_not_fixed(alloc: Global, nets: &[Net]) -> Result<FreeKeys, Memory>
     requires fixed { All (λ (n : Net). IfSome n.fixed (IsFixedFor n.keys)) nets.now }
     requires apart { AllPairs AreFixedApart nets.now }
-    ensures free { IfOk result (AreFreeBeside (fixed_of nets.now)) }
+    ensures free { IfOk result (AreKeysFreeBeside (fixed_of nets.now)) }
 {
     let mut fixed = fixed_blocks(alloc, nets)?;
     sort_downwards(&mut fixed)?;

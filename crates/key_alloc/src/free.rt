@@ -2,8 +2,8 @@
 ghost use Rattle.std.specs.Prelude.{◌≡◌, ℕ, ◌^◌, ◌<◌, ◌≤◌, ◌++◌, ◌∷◌, [], List, IfOk, IfSome, IfNone, OnOk};
 ghost use Rattle.std.specs.List.Sorted.{IsPermutation};
 ghost use Rattle.spin_base.specs.declared.blocks.Block.{Block};
-ghost use Rattle.key_alloc.specs.KeyBlocks.{IsOpen, size_of};
-ghost use Rattle.key_alloc.specs.FreeKeys.{AreFreeBeside, AreFreeBesideSome, IsLeastOpen, AreDownwards, HaveRanges, end_of_run};
+ghost use Rattle.key_alloc.specs.KeyBlocks.{IsOpenPlace, size_of};
+ghost use Rattle.key_alloc.specs.FreeKeys.{AreKeysFreeBeside, AreFreeBesideSome, IsLeastOpenPlace, AreDownwards, HaveRanges, end_of_run};
 
 use range_store::Ranges;
 use spin_base::{Block, Memory};
@@ -21,12 +21,21 @@ pub struct FreeKeys {
     ahead: Vec<Block>,
 }
 
+/// How many keys a range is to have: one at least, and no more than there are.
+#[derive(Clone, Copy)]
+pub struct Size {
+    pub keys: u64,
+    ghost some: { 0 < keys },
+    ghost few: { keys ≤ 4294967296 },
+}
+
 impl FreeKeys {
     /// All keys but those of fixed blocks, which come from the greatest down.
     pub fn beside(alloc: Global, fixed: Vec<Block>) -> Result<FreeKeys, Memory>
         requires downwards { AreDownwards fixed.items }
         requires ranges { HaveRanges fixed.items }
-        ensures free { IfOk result (λ free. (taken : List Block) → IsPermutation taken fixed.items → AreFreeBeside taken free) }
+        ensures free { IfOk result (λ free. (taken : List Block) → IsPermutation taken fixed.items
+            → AreKeysFreeBeside taken free) }
     {
         // A region of which nothing is free yet.
         let mut below = Ranges::new(alloc, ALL_KEYS)?;
@@ -39,17 +48,20 @@ impl FreeKeys {
     }
 
     /// Takes the least free range of so many keys that begins at a multiple of their number.
-    pub fn take(&mut self, size: u64) -> Result<Option<u64>, Memory>
-        requires some { 0 < size }
-        requires few { size ≤ 4294967296 }
+    pub fn take(&mut self, size: Size) -> Result<Option<u64>, Memory>
         requires state { AreFreeBesideSome self.old }
         ensures small { IfOk result (λ o. IfSome o (λ place. place < 2 ^ 32)) }
-        ensures least { IfOk result (λ o. IfSome o (λ place. (taken : List Block) → AreFreeBeside taken self.old → IsLeastOpen taken size place)) }
-        ensures free { IfOk result (λ o. IfSome o (λ place. (taken : List Block) → AreFreeBeside taken self.old → (b : Block) → b.key ≡ place → size_of b ≡ size → AreFreeBeside (taken ++ b ∷ []) self.new)) }
-        ensures none { IfOk result (λ o. IfNone o ((taken : List Block) → AreFreeBeside taken self.old → (place : ℕ) → IsOpen taken size place → ⊥)) }
+        ensures least { IfOk result (λ o. IfSome o (λ place. (taken : List Block)
+            → AreKeysFreeBeside taken self.old → IsLeastOpenPlace taken size.keys place)) }
+        ensures free { IfOk result (λ o. IfSome o (λ place. (taken : List Block)
+            → AreKeysFreeBeside taken self.old → (b : Block) → b.key ≡ place → size_of b ≡ size.keys
+            → AreKeysFreeBeside (taken ++ b ∷ []) self.new)) }
+        ensures none { IfOk result (λ o. IfNone o ((taken : List Block)
+            → AreKeysFreeBeside taken self.old → (place : ℕ) → IsOpenPlace taken size.keys place
+            → ⊥)) }
     {
         loop {
-            if let Some(place) = self.below.take(size, size)? {
+            if let Some(place) = self.below.take(size.keys, size.keys)? {
                 return Ok(Some(place));
             }
             if self.frontier == ALL_KEYS {
@@ -60,18 +72,17 @@ impl FreeKeys {
     }
 
     // Moves the frontier behind the next run of free keys that has such a range, or behind all keys.
-    fn go_on(&mut self, size: u64) -> Result<(), Memory>
-        requires some { 0 < size }
-        requires few { size ≤ 4294967296 }
+    fn go_on(&mut self, size: Size) -> Result<(), Memory>
         requires state { AreFreeBesideSome self.old }
         requires more { self.old.frontier < 4294967296 }
-        ensures free { OnOk result ((taken : List Block) → AreFreeBeside taken self.old → AreFreeBeside taken self.new) }
+        ensures free { OnOk result ((taken : List Block) → AreKeysFreeBeside taken self.old
+            → AreKeysFreeBeside taken self.new) }
         ensures further { OnOk result (self.old.frontier < self.new.frontier) }
     {
         while self.frontier < ALL_KEYS {
             let begin = self.frontier;
             let free = self.advance()?;
-            if free && begin.next_multiple_of(size) + size <= self.frontier {
+            if free && begin.next_multiple_of(size.keys) + size.keys <= self.frontier {
                 return Ok(());
             }
         }
@@ -82,17 +93,21 @@ impl FreeKeys {
     fn advance(&mut self) -> Result<bool, Memory>
         requires state { AreFreeBesideSome self.old }
         requires more { self.old.frontier < 4294967296 }
-        ensures free { OnOk result ((taken : List Block) → AreFreeBeside taken self.old → AreFreeBeside taken self.new) }
+        ensures free { OnOk result ((taken : List Block) → AreKeysFreeBeside taken self.old
+            → AreKeysFreeBeside taken self.new) }
         ensures further { OnOk result (self.old.frontier < self.new.frontier) }
     {
         let end = self.end_of_run();
         if self.frontier < end {
-            self.free_up_to(end)?;
-            Ok(true)
-        } else {
-            self.pass_fixed();
-            Ok(false)
+            self.below.reserve(1)?;
+            self.below.give(self.frontier, end - self.frontier);
+            self.frontier = end;
+            return Ok(true);
         }
+        if let Some(block) = self.ahead.pop() {
+            self.frontier += ALL_KEYS - u64::from(block.mask);
+        }
+        Ok(false)
     }
 
     // The next fixed block's first key, or the end of all keys.
@@ -102,33 +117,6 @@ impl FreeKeys {
         match self.ahead.last() {
             Some(block) => u64::from(block.key),
             None => ALL_KEYS,
-        }
-    }
-
-    // Moves the frontier up to the end of the run of free keys.
-    fn free_up_to(&mut self, end: u64) -> Result<(), Memory>
-        requires state { AreFreeBesideSome self.old }
-        requires end { end ≡ end_of_run self.old.ahead.items }
-        requires more { self.old.frontier < end }
-        ensures free { OnOk result ((taken : List Block) → AreFreeBeside taken self.old → AreFreeBeside taken self.new) }
-        ensures frontier { OnOk result (self.new.frontier ≡ end) }
-    {
-        self.below.reserve(1)?;
-        self.below.give(self.frontier, end - self.frontier);
-        self.frontier = end;
-        Ok(())
-    }
-
-    // Moves the frontier behind the fixed block that begins at it.
-    fn pass_fixed(&mut self)
-        requires state { AreFreeBesideSome self.old }
-        requires more { self.old.frontier < 4294967296 }
-        requires here { end_of_run self.old.ahead.items ≤ self.old.frontier }
-        ensures free { (taken : List Block) → AreFreeBeside taken self.old → AreFreeBeside taken self.new }
-        ensures further { self.old.frontier < self.new.frontier }
-    {
-        if let Some(block) = self.ahead.pop() {
-            self.frontier += ALL_KEYS - u64::from(block.mask);
         }
     }
 }

@@ -12,12 +12,12 @@ use Rattle.machine_desc.specs.Live.{IsInside, IsLiveLink, is_live_link}
 use Rattle.machine_desc.specs.RoutingTree.{end_of, IsTreeChip}
 use Rattle.link_detours.specs.Steps.{Steps}
 use Rattle.link_detours.specs.Usable.{number_at}
-use Rattle.link_detours.specs.Repair.{EdgeStep, LiveEdgeStep, IsKept, IsDetour, Joins, IsCutOff, IsFirstCutOff}
-use Rattle.link_detours.specs.Whole.{IsWhole}
+use Rattle.link_detours.specs.Repair.{EdgeStep, LiveEdgeStep, IsKeptEdge, IsDetour, Joins, IsCutOff, IsFirstTargetCutOff}
+use Rattle.link_detours.specs.Whole.{IsWholeTree}
 use Rattle.link_detours.proofs.Reaching.{link_inside}
 use Rattle.link_detours.proofs.Stepping.{Steps-map}
 use Rattle.machine_desc.proofs.TreeLemmas.{tree_cases, more_chips}
-use Rattle.list_laws.proofs.Members.{Contains-from_filter, Contains-filter}
+use Rattle.spin_base.proofs.Members.{Contains-from_filter, Contains-filter}
 use Rattle.link_detours.proofs.Putting.{TellsTree}
 use Rattle.link_detours.proofs.Walks.{steps_walk}
 use Rattle.link_detours.proofs.Wholes.{steps_on_tree, live_steps, whole_joined, detour_reached, Joins-more}
@@ -69,7 +69,7 @@ module _ (m : Description) (root : Chip) (edges : List Edge) (counts : List ℕ)
         (suc known.3.0, (into.0.chip, known.3.1, (into.0.dir, known.0, into.2)))
   ]
 
-  pub kept_whole : IsWhole m root (kept_of m root edges counts top)
+  pub kept_whole : IsWholeTree m root (kept_of m root edges counts top)
   kept_whole = record {
     live = λ e has. (kept_has e has).2;
     reached = λ c on. let way = chip_reached c on in (way.0, kept_steps way.0 c way.1);
@@ -89,7 +89,7 @@ module _ (m : Description) (root : Chip) (edges : List Edge) (counts : List ℕ)
             absurd (one_into too.0 has.0 f after has.1 c (ap (end_of m) too.2 ∙ also) (ap (end_of m) second ∙ leads))
       ]
 
-  pub kept_is : (e : Edge) → Contains (kept_of m root edges counts top) e ↔ IsKept m root edges e
+  pub kept_is : (e : Edge) → Contains (kept_of m root edges counts top) e ↔ IsKeptEdge m root edges e
   kept_is e = (
     λ has.
         let known = kept_has e has in (
@@ -114,7 +114,7 @@ module _ (m : Description) (root : Chip) (edges : List Edge) (counts : List ℕ)
 -- the targets that were taken are joined
 pub record JoinedSoFar (m : Description) (root : Chip) (kept : List Edge) (whole : List Edge) (chips : List ℕ) (taken : List Chip) : Type 0 where
   pub joins : Joins m root kept taken whole
-  pub is_whole : IsWhole m root whole
+  pub is_whole : IsWholeTree m root whole
   pub long : length chips ≡ m.width
   pub told : TellsTree m root whole chips
   pub on_tree : All (IsTreeChip m root whole) taken
@@ -128,7 +128,7 @@ joined_more m root kept whole after chips more targets i d walk within is detour
     let there = detour_reached m root whole so_far.is_whole walk t walk detour (λ f has. has) in
     subst (λ ts. JoinedSoFar m root kept after more ts) (sym (take_more targets i d within)) (record {
       joins = subst (λ es. Joins m root kept (take i targets ++ t ∷ []) es) (sym is) (Joins-more m root kept (take i targets) whole t walk so_far.joins detour);
-      is_whole = subst (λ es. IsWhole m root es) (sym is) (whole_joined m root whole so_far.is_whole t walk detour);
+      is_whole = subst (λ es. IsWholeTree m root es) (sym is) (whole_joined m root whole so_far.is_whole t walk detour);
       long = long;
       told = told;
       on_tree = subst (λ es. All (IsTreeChip m root es) (take i targets ++ t ∷ [])) (sym is)
@@ -146,7 +146,7 @@ joined_past m root kept whole chips targets i d within on so_far =
 
 -- the first target that is cut off
 pub first_cut_off : (m : Description) (root : Chip) (kept : List Edge) (whole : List Edge) (chips : List ℕ) (targets : List Chip) (i : ℕ)
-    (t : Chip) → slice_get targets i ≡ Some t → IsCutOff m root t → JoinedSoFar m root kept whole chips (take i targets) → IsFirstCutOff m root targets t
+    (t : Chip) → slice_get targets i ≡ Some t → IsCutOff m root t → JoinedSoFar m root kept whole chips (take i targets) → IsFirstTargetCutOff m root targets t
 first_cut_off m root kept whole chips targets i t at cut so_far = record {
   place = i;
   at_place = at;

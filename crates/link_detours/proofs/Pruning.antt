@@ -7,16 +7,16 @@ use Rattle.machine_desc.specs.declared.trees.Edge.{Edge}
 use Rattle.machine_desc.specs.Description.{Description}
 use Rattle.machine_desc.specs.RoutingTree.{end_of, IsTreeChip, IsPath, IsTreeTo}
 use Rattle.link_detours.specs.Steps.{Steps}
-use Rattle.link_detours.specs.Usable.{link_place}
-use Rattle.link_detours.specs.Repair.{EdgeStep, LeadsToTarget, IsInOrder}
-use Rattle.link_detours.specs.Whole.{IsWhole}
+use Rattle.machine_desc.specs.Flags.{link_place}
+use Rattle.link_detours.specs.Repair.{EdgeStep, LeadsToTarget, AreInPlaceOrder}
+use Rattle.link_detours.specs.Whole.{IsWholeTree}
 use Rattle.link_detours.proofs.Stepping.{Steps-cons, Steps-first}
 use Rattle.machine_desc.proofs.TreeLemmas.{tree_end, tree_cases, path_more}
 use Rattle.link_detours.proofs.Wholes.{edge_step}
 
-module _ (m : Description) (root : Chip) (tree : List Edge) (targets : List Chip) (result : List Edge) (is : IsWhole m root tree)
+module _ (m : Description) (root : Chip) (tree : List Edge) (targets : List Chip) (result : List Edge) (is : IsWholeTree m root tree)
     (on_tree : (t : Chip) → Contains targets t → IsTreeChip m root tree t) (some : 0 < length targets)
-    (left : (e : Edge) → Contains result e ↔ (Contains tree e × LeadsToTarget m tree targets e)) (ordered : IsInOrder m result) where
+    (left : (e : Edge) → Contains result e ↔ (Contains tree e × LeadsToTarget m tree targets e)) (ordered : AreInPlaceOrder m result) where
   -- the chip is a target or leads to one
   LeadsOn : Chip → Type 0
   LeadsOn c = (t : Chip) × Contains targets t × ((n : ℕ) × Steps (EdgeStep m tree) n c t)

@@ -10,10 +10,11 @@ use Rattle.machine_desc.specs.Description.{Description}
 use Rattle.machine_desc.specs.Live.{far_of, IsInside, IsLiveLink}
 use Rattle.machine_desc.specs.RoutingTree.{IsTreeChip}
 use Rattle.machine_desc.proofs.Far.{live_ends, live_inside, live_back, far_inside, far_back, opposite_of-opposite}
-use Rattle.link_detours.specs.Steps.{Steps, IsReachedBy, IsLevel}
-use Rattle.link_detours.specs.Usable.{is_flagged, FlaggedStep, number_at}
+use Rattle.link_detours.specs.Steps.{Steps, IsReachedBy, IsStepLevel}
+use Rattle.machine_desc.specs.Flags.{is_flagged}
+use Rattle.link_detours.specs.Usable.{FlaggedStep, number_at}
 use Rattle.link_detours.specs.Repair.{EdgeStep}
-use Rattle.link_detours.specs.Whole.{IsWhole}
+use Rattle.link_detours.specs.Whole.{IsWholeTree}
 use Rattle.link_detours.proofs.Stepping.{Steps-map}
 use Rattle.machine_desc.proofs.TreeLemmas.{tree_cases}
 use Rattle.link_detours.proofs.Wholes.{steps_on_tree}
@@ -55,7 +56,7 @@ only_root root a (suc k, within, same) = absurd (omega arith)
 -- a chip is reached by a table of a list of edges exactly where the edges join it to the root
 pub reach_edges : (m : Description) (root : Chip) (table : List Bool) (edges : List Edge) (counts : List ℕ) (top : ℕ) →
     ((e : Edge) → IsInside m e.chip → (is_flagged m table e.chip e.dir ≡ true) ↔ Contains edges e) → All (λ e. IsInside m e.chip) edges →
-    ((c : Chip) → IsInside m c → number_at m counts c < top → IsLevel (FlaggedStep m table) (Contains (root ∷ [])) c (number_at m counts c)) →
+    ((c : Chip) → IsInside m c → number_at m counts c < top → IsStepLevel (FlaggedStep m table) (Contains (root ∷ [])) c (number_at m counts c)) →
     ((c : Chip) (n : ℕ) → IsReachedBy (FlaggedStep m table) (Contains (root ∷ [])) n c → number_at m counts c < top) →
     (c : Chip) → IsInside m c → (number_at m counts c < top) ↔ ((n : ℕ) × Steps (EdgeStep m edges) n root c)
 reach_edges m root table edges counts top flags inside levels reached c c_inside = (
@@ -72,17 +73,17 @@ reach_edges m root table edges counts top flags inside levels reached c c_inside
 )
 
 -- the chips of a whole tree are those that its edges join to the root
-pub whole_reach : (m : Description) (root : Chip) (tree : List Edge) → IsWhole m root tree → (c : Chip) →
+pub whole_reach : (m : Description) (root : Chip) (tree : List Edge) → IsWholeTree m root tree → (c : Chip) →
     ((n : ℕ) × Steps (EdgeStep m tree) n root c) ↔ IsTreeChip m root tree c
 whole_reach m root tree is c = (λ way. steps_on_tree m root tree way.0 c way.1, λ on. is.reached c on)
 
 -- the chips and edges of a whole tree are inside the grid
-pub whole_inside : (m : Description) (root : Chip) (tree : List Edge) → IsWhole m root tree → IsInside m root → (c : Chip) → IsTreeChip m root tree c → IsInside m c
+pub whole_inside : (m : Description) (root : Chip) (tree : List Edge) → IsWholeTree m root tree → IsInside m root → (c : Chip) → IsTreeChip m root tree c → IsInside m c
 whole_inside m root tree is inside c on = elim (tree_cases m root tree c on) [
   | inl at ↦ subst (λ (x : Chip). IsInside m x) (sym at) inside
   | inr into ↦ far_inside m into.0.chip c into.0.dir (link_inside m into.0.chip into.0.dir (is.live into.0 into.1)) into.2
 ]
 
-pub edges_inside : (m : Description) (root : Chip) (tree : List Edge) → IsWhole m root tree → All (λ e. IsInside m e.chip) tree
+pub edges_inside : (m : Description) (root : Chip) (tree : List Edge) → IsWholeTree m root tree → All (λ e. IsInside m e.chip) tree
 edges_inside m root tree is k d h =
     link_inside m (get_or tree k d).chip (get_or tree k d).dir (is.live (get_or tree k d) (Contains-get_or tree k d h))

@@ -14,8 +14,9 @@ use Rattle.machine_desc.specs.Description.{Description}
 use Rattle.machine_desc.specs.Live.{far_of, index_of, IsInside}
 use Rattle.machine_desc.proofs.Far.{far_inside, far_parts, same_index, index_below}
 use Rattle.machine_desc.proofs.Same.{chip_eq-from_same, same_dir}
-use Rattle.link_detours.specs.Steps.{Steps, IsReachedBy, IsLevel}
-use Rattle.link_detours.specs.Usable.{is_flagged, FlaggedStep, number_at}
+use Rattle.link_detours.specs.Steps.{Steps, IsReachedBy, IsStepLevel}
+use Rattle.machine_desc.specs.Flags.{is_flagged}
+use Rattle.link_detours.specs.Usable.{FlaggedStep, number_at}
 
 -- two chips are the same or not
 pub cases_chip : (a b : Chip) → (a ≡ b) ⊎ (a ≢ b)
@@ -273,7 +274,7 @@ module _ (m : Description) (table : List Bool) (seeds : List Chip) (top : ℕ) w
   -- then the numbers are the levels
   pub level_found : (levels : List ℕ) (queue : List Chip) (next : ℕ) → length queue ≤ next → length queue + 1 < top → All (IsInside m) seeds →
       Ongoing levels queue (λ c j. Waits queue next c) → (c : Chip) → IsInside m c → number_at m levels c < top →
-      IsLevel (FlaggedStep m table) (Contains seeds) c (number_at m levels c)
+      IsStepLevel (FlaggedStep m table) (Contains seeds) c (number_at m levels c)
   level_found levels queue next done high seeds_inside now c inside low = record {
     reached = now.walks c inside low;
     least = λ k by. (reached_low levels queue next done high seeds_inside now k by.0 c by.1 by.2).1;

@@ -1,6 +1,6 @@
 -- Walks: from another relation, from their other end, and their levels.
 use Rattle.std.proofs.Common.{ℕ, zero, suc, refl, sym, subst}
-use Rattle.link_detours.specs.Steps.{Steps, IsReachedBy, IsLevel}
+use Rattle.link_detours.specs.Steps.{Steps, IsReachedBy, IsStepLevel}
 
 pub Steps-map : {K : Type 0} (R S : K → K → Type 0) → ((a b : K) → R a b → S a b) → (n : ℕ) (a c : K) → Steps R n a c → Steps S n a c
 Steps-map R S on zero a c walk = walk
@@ -29,7 +29,7 @@ IsReachedBy-map R S P Q on at n c by = (by.0, at by.0 by.1, Steps-map R S on n b
 
 -- levels are the same over the same steps and starts
 pub IsLevel-same : {K : Type 0} (R S : K → K → Type 0) (P Q : K → Type 0) → ((a b : K) → R a b → S a b) → ((a b : K) → S a b → R a b) →
-    ((a : K) → P a → Q a) → ((a : K) → Q a → P a) → (c : K) (n : ℕ) → IsLevel R P c n → IsLevel S Q c n
+    ((a : K) → P a → Q a) → ((a : K) → Q a → P a) → (c : K) (n : ℕ) → IsStepLevel R P c n → IsStepLevel S Q c n
 IsLevel-same R S P Q on back at from c n level = record {
   reached = IsReachedBy-map R S P Q on at n c level.reached;
   least = λ k by. level.least k (IsReachedBy-map S R Q P back from k c by);

@@ -12,9 +12,10 @@ use Rattle.machine_desc.specs.Live.{IsInside}
 use Rattle.machine_desc.specs.RoutingTree.{end_of, IsTreeChip, IsPath, IsTreeTo}
 use Rattle.machine_desc.proofs.Far.{live_ends, far_inside}
 use Rattle.link_detours.specs.Steps.{Steps}
-use Rattle.link_detours.specs.Usable.{link_place, number_at}
-use Rattle.link_detours.specs.Repair.{EdgeStep, LeadsToTarget, IsInOrder}
-use Rattle.link_detours.specs.Whole.{IsWhole, GoesOnFrom}
+use Rattle.machine_desc.specs.Flags.{link_place}
+use Rattle.link_detours.specs.Usable.{number_at}
+use Rattle.link_detours.specs.Repair.{EdgeStep, LeadsToTarget, AreInPlaceOrder}
+use Rattle.link_detours.specs.Whole.{IsWholeTree, GoesOnFrom}
 use Rattle.link_detours.proofs.Stepping.{Steps-first}
 use Rattle.link_detours.proofs.Unchanged.{tree_leads}
 use Rattle.machine_desc.proofs.TreeLemmas.{tree_cases, path_more}
@@ -22,10 +23,10 @@ use Rattle.machine_desc.proofs.TreeLemmas.{tree_cases, path_more}
 -- one edge more is in order, where its place is no less than the least that may come
 pub order_more : (m : Description) (edges : List Edge) (i : ℕ) (d : Edge) (least place : ℕ) → i < length edges →
     place ≡ link_place m (get_or edges i d).chip (get_or edges i d).dir → least ≤ place →
-    IsInOrder m (take i edges) → All (λ e. link_place m e.chip e.dir < least) (take i edges) →
-    IsInOrder m (take (i + 1) edges) × All (λ e. link_place m e.chip e.dir < place + 1) (take (i + 1) edges)
+    AreInPlaceOrder m (take i edges) → All (λ e. link_place m e.chip e.dir < least) (take i edges) →
+    AreInPlaceOrder m (take (i + 1) edges) × All (λ e. link_place m e.chip e.dir < place + 1) (take (i + 1) edges)
 order_more m edges i d least place within is low ordered below = (
-  subst (λ es. IsInOrder m es) (sym (take_more edges i d within))
+  subst (λ es. AreInPlaceOrder m es) (sym (take_more edges i d within))
       (all_pairs_push (λ e f. link_place m e.chip e.dir < link_place m f.chip f.dir) (take i edges) (get_or edges i d) ordered
       (λ k f h. let before : link_place m (get_or (take i edges) k f).chip (get_or (take i edges) k f).dir < least = below k f h in
       subst (λ n. link_place m (get_or (take i edges) k f).chip (get_or (take i edges) k f).dir < n) is (omega (arith, before, low)))),
@@ -84,8 +85,8 @@ steps_on m tree targets (suc n) c t has walk =
     inl (mine.0, record { chip = c; dir = first.1.0 }, mine.1, mine.2, refl)
 
 -- A whole tree in order whose edges all go on is a tree to its targets.
-lean_tree : (m : Description) (root : Chip) (tree : List Edge) (targets : List Chip) → IsWhole m root tree → 0 < length targets →
-    All (IsTreeChip m root tree) targets → IsInOrder m tree →
+lean_tree : (m : Description) (root : Chip) (tree : List Edge) (targets : List Chip) → IsWholeTree m root tree → 0 < length targets →
+    All (IsTreeChip m root tree) targets → AreInPlaceOrder m tree →
     All (λ e. (c : Chip) → end_of m e ≡ Some c → GoesOnFrom tree targets c) tree → IsTreeTo m root tree targets
 lean_tree m root tree targets is some on_tree ordered goes = record {
   edges_live = λ k d h. is.live (get_or tree k d) (Contains-get_or tree k d h);
@@ -114,8 +115,8 @@ lean_tree m root tree targets is some on_tree ordered goes = record {
 }
 
 -- and all its edges stay
-pub all_stay : (m : Description) (root : Chip) (tree : List Edge) (targets : List Chip) → IsWhole m root tree → 0 < length targets →
-    All (IsTreeChip m root tree) targets → IsInOrder m tree →
+pub all_stay : (m : Description) (root : Chip) (tree : List Edge) (targets : List Chip) → IsWholeTree m root tree → 0 < length targets →
+    All (IsTreeChip m root tree) targets → AreInPlaceOrder m tree →
     All (λ e. (c : Chip) → end_of m e ≡ Some c → GoesOnFrom tree targets c) tree →
     (e : Edge) → Contains tree e ↔ (Contains tree e × LeadsToTarget m tree targets e)
 all_stay m root tree targets is some on_tree ordered goes e = (

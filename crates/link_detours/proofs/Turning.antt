@@ -13,9 +13,10 @@ use Rattle.machine_desc.specs.Live.{far_of, IsInside}
 use Rattle.machine_desc.specs.RoutingTree.{end_of}
 use Rattle.machine_desc.proofs.Far.{far_inside, far_back, opposite_of-opposite}
 use Rattle.machine_desc.proofs.Same.{same_edge}
-use Rattle.list_laws.proofs.Members.{Contains-from_filter, Contains-filter, Contains-from_filter_map, Contains-filter_map}
-use Rattle.link_detours.specs.Steps.{IsReachedBy, IsLevel}
-use Rattle.link_detours.specs.Usable.{is_flagged, FlaggedStep, number_at, turned}
+use Rattle.spin_base.proofs.Members.{Contains-from_filter, Contains-filter, Contains-from_filter_map, Contains-filter_map}
+use Rattle.link_detours.specs.Steps.{IsReachedBy, IsStepLevel}
+use Rattle.machine_desc.specs.Flags.{is_flagged}
+use Rattle.link_detours.specs.Usable.{FlaggedStep, number_at, other_end_of}
 use Rattle.link_detours.specs.Repair.{EdgeStep, LeadsToTarget}
 use Rattle.link_detours.proofs.Reaching.{flagged_edges, edges_flagged}
 use Rattle.link_detours.proofs.Stepping.{Steps-map, Steps-turn}
@@ -29,13 +30,13 @@ turned_parts m e f (Some c) leads is =
     let same : record { chip = c; dir = opposite_of e.dir } ≡ f = cc in
     (leads ∙ ap (λ (g : Edge). Some g.chip) same, ap (λ (g : Edge). g.dir) (sym same))
 
-pub turned_leads : (m : Description) (e f : Edge) → turned m e ≡ Some f → (far_of m e.chip e.dir ≡ Some f.chip) × (f.dir ≡ opposite_of e.dir)
+pub turned_leads : (m : Description) (e f : Edge) → other_end_of m e ≡ Some f → (far_of m e.chip e.dir ≡ Some f.chip) × (f.dir ≡ opposite_of e.dir)
 turned_leads m e f is = turned_parts m e f (far_of m e.chip e.dir) refl is
 
-pub turned_is : (m : Description) (e : Edge) (c : Chip) → far_of m e.chip e.dir ≡ Some c → turned m e ≡ Some (record { chip = c; dir = opposite_of e.dir })
+pub turned_is : (m : Description) (e : Edge) (c : Chip) → far_of m e.chip e.dir ≡ Some c → other_end_of m e ≡ Some (record { chip = c; dir = opposite_of e.dir })
 turned_is m e c leads = ap (λ (o : Option Chip). option_map (λ (x : Chip). let g : Edge = record { chip = x; dir = opposite_of e.dir } in g) o) leads
 
-pub turned_back : (m : Description) (e f : Edge) → IsInside m e.chip → turned m e ≡ Some f → turned m f ≡ Some e
+pub turned_back : (m : Description) (e f : Edge) → IsInside m e.chip → other_end_of m e ≡ Some f → other_end_of m f ≡ Some e
 turned_back m e f inside is =
     let parts = turned_leads m e f is in
     let back : far_of m f.chip (opposite_of e.dir) ≡ Some e.chip = far_back m e.chip f.chip e.dir inside parts.0 in
@@ -47,54 +48,54 @@ module _ (m : Description) (whole : List Edge) (inside : All (λ e. IsInside m e
   edge_in e has = All-contains (λ f. IsInside m f.chip) whole e inside has
 
   -- the turned edges begin inside the grid
-  pub turned_inside : All (λ e. IsInside m e.chip) (filter_map (turned m) whole)
+  pub turned_inside : All (λ e. IsInside m e.chip) (filter_map (other_end_of m) whole)
   turned_inside k d h =
-      let f : Edge = get_or (filter_map (turned m) whole) k d in
-      let from = Contains-from_filter_map (turned m) whole f (Contains-get_or (filter_map (turned m) whole) k d h) in
+      let f : Edge = get_or (filter_map (other_end_of m) whole) k d in
+      let from = Contains-from_filter_map (other_end_of m) whole f (Contains-get_or (filter_map (other_end_of m) whole) k d h) in
       let parts = turned_leads m from.0 f from.2 in
       far_inside m from.0.chip f.chip from.0.dir (edge_in from.0 from.1) parts.0
 
   -- a step by a turned edge is a step by an edge, the other way
-  step_turned : (a b : Chip) → EdgeStep m (filter_map (turned m) whole) a b → EdgeStep m whole b a
+  step_turned : (a b : Chip) → EdgeStep m (filter_map (other_end_of m) whole) a b → EdgeStep m whole b a
   step_turned a b step =
       let f : Edge = record { chip = a; dir = step.0 } in
-      let from = Contains-from_filter_map (turned m) whole f step.1 in
+      let from = Contains-from_filter_map (other_end_of m) whole f step.1 in
       let parts = turned_leads m from.0 f from.2 in
       let back = turned_leads m f from.0 (turned_back m from.0 f (edge_in from.0 from.1) from.2) in
       let same : Some b ≡ Some from.0.chip = sym step.2 ∙ back.0 in
       let one : b ≡ from.0.chip = cc in
       subst (λ (x : Chip). EdgeStep m whole x a) (sym one) (from.0.dir, from.1, parts.0)
 
-  turned_step : (a b : Chip) → EdgeStep m whole b a → EdgeStep m (filter_map (turned m) whole) a b
+  turned_step : (a b : Chip) → EdgeStep m whole b a → EdgeStep m (filter_map (other_end_of m) whole) a b
   turned_step a b step =
       let e : Edge = record { chip = b; dir = step.0 } in
       let here = edge_in e step.1 in (
         opposite_of step.0,
-        Contains-filter_map (turned m) whole e (record { chip = a; dir = opposite_of step.0 }) step.1 (turned_is m e a step.2),
+        Contains-filter_map (other_end_of m) whole e (record { chip = a; dir = opposite_of step.0 }) step.1 (turned_is m e a step.2),
         far_back m b a step.0 here step.2,
       )
 
   -- the turned edges that a search from the targets reaches, turned again, are the edges that lead to a target
   pub left_leads : (table : List Bool) (targets : List Chip) (counts : List ℕ) (top : ℕ) →
-      ((e : Edge) → IsInside m e.chip → (is_flagged m table e.chip e.dir ≡ true) ↔ Contains (filter_map (turned m) whole) e) →
-      ((c : Chip) → IsInside m c → number_at m counts c < top → IsLevel (FlaggedStep m table) (Contains targets) c (number_at m counts c)) →
+      ((e : Edge) → IsInside m e.chip → (is_flagged m table e.chip e.dir ≡ true) ↔ Contains (filter_map (other_end_of m) whole) e) →
+      ((c : Chip) → IsInside m c → number_at m counts c < top → IsStepLevel (FlaggedStep m table) (Contains targets) c (number_at m counts c)) →
       ((c : Chip) (n : ℕ) → IsReachedBy (FlaggedStep m table) (Contains targets) n c → number_at m counts c < top) →
-      (e : Edge) → Contains (filter_map (turned m) (filter (λ f. ltb (number_at m counts f.chip) top) (filter_map (turned m) whole))) e ↔
+      (e : Edge) → Contains (filter_map (other_end_of m) (filter (λ f. ltb (number_at m counts f.chip) top) (filter_map (other_end_of m) whole))) e ↔
       (Contains whole e × LeadsToTarget m whole targets e)
   left_leads table targets counts top flags levels reached e = (
     λ has.
-        let f = Contains-from_filter_map (turned m) (filter (λ g. ltb (number_at m counts g.chip) top) (filter_map (turned m) whole)) e has in
-        let kept = Contains-from_filter (λ g. ltb (number_at m counts g.chip) top) (filter_map (turned m) whole) f.0 f.1 in
-        let from = Contains-from_filter_map (turned m) whole f.0 kept.0 in
+        let f = Contains-from_filter_map (other_end_of m) (filter (λ g. ltb (number_at m counts g.chip) top) (filter_map (other_end_of m) whole)) e has in
+        let kept = Contains-from_filter (λ g. ltb (number_at m counts g.chip) top) (filter_map (other_end_of m) whole) f.0 f.1 in
+        let from = Contains-from_filter_map (other_end_of m) whole f.0 kept.0 in
         let from_in = edge_in from.0 from.1 in
         let same : Some from.0 ≡ Some e = sym (turned_back m from.0 f.0 from_in from.2) ∙ f.2 in
         let one : from.0 ≡ e = cc in
         let parts = turned_leads m from.0 f.0 from.2 in
         let f_in = far_inside m from.0.chip f.0.chip from.0.dir from_in parts.0 in
         let by = (levels f.0.chip f_in (ltb-true (number_at m counts f.0.chip) top kept.1)).reached in
-        let up = Steps-map (FlaggedStep m table) (EdgeStep m (filter_map (turned m) whole)) (flagged_edges m table (filter_map (turned m) whole) flags)
+        let up = Steps-map (FlaggedStep m table) (EdgeStep m (filter_map (other_end_of m) whole)) (flagged_edges m table (filter_map (other_end_of m) whole) flags)
         (number_at m counts f.0.chip) by.0 f.0.chip by.2 in
-        let down = Steps-turn (EdgeStep m (filter_map (turned m) whole)) (EdgeStep m whole) step_turned (number_at m counts f.0.chip) by.0 f.0.chip up in (
+        let down = Steps-turn (EdgeStep m (filter_map (other_end_of m) whole)) (EdgeStep m whole) step_turned (number_at m counts f.0.chip) by.0 f.0.chip up in (
           subst (λ (g : Edge). Contains whole g) one from.1,
           (f.0.chip, ap (λ (g : Edge). end_of m g) (sym one) ∙ parts.0, (by.0, by.1, (number_at m counts f.0.chip, down))),
         ),
@@ -102,12 +103,12 @@ module _ (m : Description) (whole : List Edge) (inside : All (λ e. IsInside m e
         let lead = known.1 in
         let f : Edge = record { chip = lead.0; dir = opposite_of e.dir } in
         let e_in = edge_in e known.0 in
-        let is : turned m e ≡ Some f = turned_is m e lead.0 lead.1 in
-        let f_has : Contains (filter_map (turned m) whole) f = Contains-filter_map (turned m) whole e f known.0 is in
-        let up = Steps-turn (EdgeStep m whole) (EdgeStep m (filter_map (turned m) whole)) (λ a b step. turned_step b a step) lead.2.2.0 lead.0 lead.2.0 lead.2.2.1 in
-        let flagged = Steps-map (EdgeStep m (filter_map (turned m) whole)) (FlaggedStep m table)
-        (edges_flagged m table (filter_map (turned m) whole) flags turned_inside) lead.2.2.0 lead.2.0 lead.0 up in
+        let is : other_end_of m e ≡ Some f = turned_is m e lead.0 lead.1 in
+        let f_has : Contains (filter_map (other_end_of m) whole) f = Contains-filter_map (other_end_of m) whole e f known.0 is in
+        let up = Steps-turn (EdgeStep m whole) (EdgeStep m (filter_map (other_end_of m) whole)) (λ a b step. turned_step b a step) lead.2.2.0 lead.0 lead.2.0 lead.2.2.1 in
+        let flagged = Steps-map (EdgeStep m (filter_map (other_end_of m) whole)) (FlaggedStep m table)
+        (edges_flagged m table (filter_map (other_end_of m) whole) flags turned_inside) lead.2.2.0 lead.2.0 lead.0 up in
         let low = reached lead.0 lead.2.2.0 (lead.2.0, lead.2.1, flagged) in
-        let kept = Contains-filter (λ g. ltb (number_at m counts g.chip) top) (filter_map (turned m) whole) f f_has (lt-ltb (number_at m counts lead.0) top low) in
-        Contains-filter_map (turned m) (filter (λ g. ltb (number_at m counts g.chip) top) (filter_map (turned m) whole)) f e kept (turned_back m e f e_in is),
+        let kept = Contains-filter (λ g. ltb (number_at m counts g.chip) top) (filter_map (other_end_of m) whole) f f_has (lt-ltb (number_at m counts lead.0) top low) in
+        Contains-filter_map (other_end_of m) (filter (λ g. ltb (number_at m counts g.chip) top) (filter_map (other_end_of m) whole)) f e kept (turned_back m e f e_in is),
   )

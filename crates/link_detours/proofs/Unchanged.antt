@@ -17,14 +17,14 @@ use Rattle.machine_desc.specs.RoutingTree.{end_of, IsTreeChip, IsPath, IsTreeTo}
 use Rattle.machine_desc.specs.Branch.{Exit, GoesOn, IsWay}
 use Rattle.machine_desc.proofs.Branches.{exit_of, edge_on_branch}
 use Rattle.link_detours.specs.Steps.{Steps}
-use Rattle.link_detours.specs.Usable.{link_place}
+use Rattle.machine_desc.specs.Flags.{link_place}
 use Rattle.link_detours.specs.declared.repairs.RepairErr.{RepairErr}
 use Rattle.link_detours.specs.declared.repairs.RepairErr.TheVariants.{CutOff, Memory}
-use Rattle.link_detours.specs.Cause.{IsCause}
-use Rattle.link_detours.specs.Repair.{EdgeStep, LiveEdgeStep, Joins, LeadsToTarget, IsInOrder, IsRepaired}
+use Rattle.link_detours.specs.Cause.{IsRepairCause}
+use Rattle.link_detours.specs.Repair.{EdgeStep, LiveEdgeStep, Joins, LeadsToTarget, AreInPlaceOrder, IsRepaired}
 use Rattle.link_detours.proofs.Stepping.{Steps-map, Steps-cons}
-use Rattle.list_laws.proofs.Ascending.{same_in_order}
-use Rattle.list_laws.proofs.Members.{Contains-later}
+use Rattle.spin_base.proofs.Ascending.{same_in_order}
+use Rattle.spin_base.proofs.Members.{Contains-later}
 use Rattle.link_detours.proofs.Walks.{steps_walk}
 use Rattle.machine_desc.proofs.TreeLemmas.{tree_end, tree_cases}
 
@@ -152,14 +152,14 @@ module _ (m : Description) (root : Chip) (edges : List Edge) (targets : List Chi
   )
 
   -- In order, it is the same list.
-  pub unchanged : IsInOrder m edges → result ≡ edges
+  pub unchanged : AreInPlaceOrder m edges → result ≡ edges
   unchanged ordered =
       same_in_order (λ (e : Edge). link_place m e.chip e.dir) result edges repaired.in_order ordered
       (λ e has. (same_edges e).0 has) (λ e has. (same_edges e).1 has)
 
 -- and none of its targets is cut off
 pub not_cut_off : (m : Description) (root : Chip) (edges : List Edge) (targets : List Chip) (e : RepairErr) → IsTreeTo m root edges targets →
-    IsCause m root targets e → e ≡ Memory
+    IsRepairCause m root targets e → e ≡ Memory
 not_cut_off m root edges targets Memory tree cause = refl
 not_cut_off m root edges targets (CutOff t) tree cause =
     let has : Contains targets t = (cause.place, slice_get_within targets cause.place t cause.at_place, get_or_from_slice_get targets cause.place t t cause.at_place) in

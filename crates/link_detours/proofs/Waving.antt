@@ -13,9 +13,9 @@ use Rattle.machine_desc.specs.Live.{IsInside, LeadsTo}
 use Rattle.machine_desc.specs.RoutingTree.{IsTreeChip}
 use Rattle.machine_desc.proofs.Far.{far_inside}
 use Rattle.machine_desc.proofs.Same.{same_dir}
-use Rattle.link_detours.specs.Steps.{IsReachedBy, IsLevel}
+use Rattle.link_detours.specs.Steps.{IsReachedBy, IsStepLevel}
 use Rattle.link_detours.specs.Repair.{IsTreeLevel, IsDetour, IsLastLink}
-use Rattle.link_detours.specs.Waves.{IsIn, IsSpread, IsWithin, IsWave, AreWaves, IsStepFrom, IsBestStep}
+use Rattle.link_detours.specs.Waves.{IsIn, IsSpread, IsWithinLinks, IsWave, AreWaves, IsStepFrom, IsBestStep}
 use Rattle.link_detours.proofs.Reaching.{link_inside, link_turned}
 use Rattle.link_detours.proofs.Stepping.{IsReachedBy-map}
 
@@ -42,7 +42,7 @@ module _ (m : Description) (IsStart : Chip → Type 0) where
     told = λ c inside. (λ bit. within c inside ((spread c inside).0 bit), λ near. (spread c inside).1 (came c inside near.0 near.1 near.2));
   }
     where
-      within : (c : Chip) → IsInside m c → IsSpread m set c → IsWithin m IsStart (n + 1) c
+      within : (c : Chip) → IsInside m c → IsSpread m set c → IsWithinLinks m IsStart (n + 1) c
       within c inside (inl bit) = let near = (wave.told c inside).0 bit in (near.0, (let low : near.0 ≤ n = near.1 in omega (arith, low)), near.2)
       within c inside (inr leads) =
           let d : Dir = leads.0 in
@@ -77,7 +77,7 @@ module _ (m : Description) (IsStart : Chip → Type 0) where
 
   -- the first wave with a chip has its level as its number
   pub level_is : (n : ℕ) (set : List ℕ) (c : Chip) → IsInside m c → IsWave m IsStart n set → IsIn set c →
-      ((k : ℕ) → k < n → IsReachedBy (LeadsTo m) IsStart k c → ⊥) → IsLevel (LeadsTo m) IsStart c n
+      ((k : ℕ) → k < n → IsReachedBy (LeadsTo m) IsStart k c → ⊥) → IsStepLevel (LeadsTo m) IsStart c n
   level_is n set c inside wave bit off =
       let near = (wave.told c inside).0 bit in
       let low : near.0 ≤ n = near.1 in

@@ -9,7 +9,7 @@ use Rattle.machine_desc.specs.Live.{IsLiveLink, LeadsTo}
 use Rattle.machine_desc.specs.RoutingTree.{end_of, IsTreeChip}
 use Rattle.machine_desc.proofs.TreeLemmas.{tree_end, tree_cases, more_chips}
 use Rattle.link_detours.specs.Steps.{Steps}
-use Rattle.link_detours.specs.Whole.{IsWhole}
+use Rattle.link_detours.specs.Whole.{IsWholeTree}
 use Rattle.link_detours.specs.Repair.{EdgeStep, IsTreeLevel, IsDetour, Joins}
 use Rattle.link_detours.proofs.Stepping.{Steps-map}
 
@@ -28,11 +28,11 @@ pub edge_step : (m : Description) (tree : List Edge) (e : Edge) (c : Chip) → C
 edge_step m tree e c has leads = (e.dir, has, leads)
 
 -- steps by live edges are live steps
-pub live_steps : (m : Description) (root : Chip) (tree : List Edge) → IsWhole m root tree → (n : ℕ) (a c : Chip) → Steps (EdgeStep m tree) n a c → Steps (LeadsTo m) n a c
+pub live_steps : (m : Description) (root : Chip) (tree : List Edge) → IsWholeTree m root tree → (n : ℕ) (a c : Chip) → Steps (EdgeStep m tree) n a c → Steps (LeadsTo m) n a c
 live_steps m root tree is = Steps-map (EdgeStep m tree) (LeadsTo m)
     (λ a b step. (step.0, is.live (record { chip = a; dir = step.0 }) step.1, step.2))
 
-module _ (m : Description) (root : Chip) (tree : List Edge) (is : IsWhole m root tree) where
+module _ (m : Description) (root : Chip) (tree : List Edge) (is : IsWholeTree m root tree) where
   -- chips of the tree have level 0
   level_on_tree : (c : Chip) (n : ℕ) → IsTreeChip m root tree c → IsTreeLevel m root tree c n → n ≡ 0
   level_on_tree c n on level = let least : n ≤ 0 = level.least 0 (c, on, refl) in omega arith
@@ -134,7 +134,7 @@ module _ (m : Description) (root : Chip) (tree : List Edge) (is : IsWhole m root
       detour_ends more e.chip walk detour.1 (λ g has. sub g (suc has.0, (let inside : has.0 < length walk = has.1 in omega arith), has.2)) f x (k, within, same) leads
 
   -- a tree with a detour added is whole
-  pub whole_joined : (t : Chip) (walk : List Edge) → IsDetour m root tree t walk → IsWhole m root (tree ++ walk)
+  pub whole_joined : (t : Chip) (walk : List Edge) → IsDetour m root tree t walk → IsWholeTree m root (tree ++ walk)
   whole_joined t walk detour = record {
     live = λ e has. elim (Contains-append_cases tree walk e has) [
       | inl old ↦ is.live e old

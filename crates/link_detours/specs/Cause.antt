@@ -4,9 +4,9 @@ use Rattle.spin_base.specs.declared.chips.Chip.{Chip}
 use Rattle.machine_desc.specs.Description.{Description}
 use Rattle.link_detours.specs.declared.repairs.RepairErr.{RepairErr}
 use Rattle.link_detours.specs.declared.repairs.RepairErr.TheVariants.{CutOff, Memory}
-use Rattle.link_detours.specs.Repair.{IsFirstCutOff}
+use Rattle.link_detours.specs.Repair.{IsFirstTargetCutOff}
 
 -- A target is named where it is the first that no walk of live links joins to the root. Want of memory is free.
-abbrev pub IsCause : Description → Chip → List Chip → RepairErr → Type 0
-IsCause m root targets (CutOff t) = IsFirstCutOff m root targets t
-IsCause m root targets Memory = Unit {0}
+abbrev pub IsRepairCause : Description → Chip → List Chip → RepairErr → Type 0
+IsRepairCause m root targets (CutOff t) = IsFirstTargetCutOff m root targets t
+IsRepairCause m root targets Memory = Unit {0}

@@ -8,8 +8,8 @@ use Rattle.machine_desc.specs.declared.trees.Edge.{Edge}
 use Rattle.machine_desc.specs.Description.{Description}
 use Rattle.machine_desc.specs.Live.{far_of, IsLiveLink, LeadsTo, IsLiveWalk}
 use Rattle.machine_desc.specs.RoutingTree.{end_of, IsTreeChip}
-use Rattle.link_detours.specs.Steps.{Steps, IsLevel}
-use Rattle.link_detours.specs.Usable.{link_place}
+use Rattle.link_detours.specs.Steps.{Steps, IsStepLevel}
+use Rattle.machine_desc.specs.Flags.{link_place}
 
 -- a step by an edge of the list
 abbrev pub EdgeStep : Description → List Edge → Chip → Chip → Type 0
@@ -20,12 +20,12 @@ abbrev pub LiveEdgeStep : Description → List Edge → Chip → Chip → Type 0
 LiveEdgeStep m edges a b = (d : Dir) × Contains edges (record { chip = a; dir = d }) × IsLiveLink m a d × (far_of m a d ≡ Some b)
 
 -- Kept are the edges that are joined to the root by live links of the tree (this project's own).
-abbrev pub IsKept : Description → Chip → List Edge → Edge → Type 0
-IsKept m root edges e = Contains edges e × IsLiveLink m e.chip e.dir × ((n : ℕ) × Steps (LiveEdgeStep m edges) n root e.chip)
+abbrev pub IsKeptEdge : Description → Chip → List Edge → Edge → Type 0
+IsKeptEdge m root edges e = Contains edges e × IsLiveLink m e.chip e.dir × ((n : ℕ) × Steps (LiveEdgeStep m edges) n root e.chip)
 
 -- the number of live links from a tree to a chip
 abbrev pub IsTreeLevel : Description → Chip → List Edge → Chip → ℕ → Type 0
-IsTreeLevel m root tree c n = IsLevel (LeadsTo m) (IsTreeChip m root tree) c n
+IsTreeLevel m root tree c n = IsStepLevel (LeadsTo m) (IsTreeChip m root tree) c n
 
 -- The last link of a detour to c comes from a chip whose level is one less, and of all live links that do so it has the
 -- least number (this project's own).
@@ -54,17 +54,17 @@ LeadsToTarget m tree targets e =
     (c : Chip) × (end_of m e ≡ Some c) × ((t : Chip) × Contains targets t × ((n : ℕ) × Steps (EdgeStep m tree) n c t))
 
 -- edges stand in order of x, y and link number
-abbrev pub IsInOrder : Description → List Edge → Type 0
-IsInOrder m edges = AllPairs (λ e f. link_place m e.chip e.dir < link_place m f.chip f.dir) edges
+abbrev pub AreInPlaceOrder : Description → List Edge → Type 0
+AreInPlaceOrder m edges = AllPairs (λ e f. link_place m e.chip e.dir < link_place m f.chip f.dir) edges
 
 -- The repaired tree has, of the kept edges and the detours of the targets, those that lead to a target, in order.
 pub record IsRepaired (m : Description) (root : Chip) (edges : List Edge) (targets : List Chip) (result : List Edge) : Type 0 where
   pub kept : List Edge
-  pub kept_is : (e : Edge) → Contains kept e ↔ IsKept m root edges e
+  pub kept_is : (e : Edge) → Contains kept e ↔ IsKeptEdge m root edges e
   pub whole : List Edge
   pub joined : Joins m root kept targets whole
   pub result_is : (e : Edge) → Contains result e ↔ (Contains whole e × LeadsToTarget m whole targets e)
-  pub in_order : IsInOrder m result
+  pub in_order : AreInPlaceOrder m result
 
 -- the last of an item and those after it
 abbrev pub last_of : {X : Type 0} → X → List X → X
@@ -80,7 +80,7 @@ abbrev pub IsCutOff : Description → Chip → Chip → Type 0
 IsCutOff m root c = (walk : List Chip) → IsWalkTo m root c walk → ⊥
 
 -- the first target in the order of the list that is cut off
-pub record IsFirstCutOff (m : Description) (root : Chip) (targets : List Chip) (t : Chip) : Type 0 where
+pub record IsFirstTargetCutOff (m : Description) (root : Chip) (targets : List Chip) (t : Chip) : Type 0 where
   pub place : ℕ
   pub at_place : slice_get targets place ≡ Some t
   pub cut_off : IsCutOff m root t

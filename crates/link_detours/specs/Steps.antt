@@ -12,6 +12,6 @@ abbrev pub IsReachedBy : {K : Type 0} → (K → K → Type 0) → (K → Type 0
 IsReachedBy {K} Step IsStart n c = (a : K) × IsStart a × Steps Step n a c
 
 -- The level of c is the least number of steps from some start to c.
-pub record IsLevel {K : Type 0} (Step : K → K → Type 0) (IsStart : K → Type 0) (c : K) (n : ℕ) : Type 0 where
+pub record IsStepLevel {K : Type 0} (Step : K → K → Type 0) (IsStart : K → Type 0) (c : K) (n : ℕ) : Type 0 where
   pub reached : IsReachedBy Step IsStart n c
   pub least : (k : ℕ) → IsReachedBy Step IsStart k c → n ≤ k

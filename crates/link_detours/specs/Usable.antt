@@ -1,19 +1,13 @@
--- Tables with a flag for each link, and the steps that they allow.
-use Rattle.std.specs.Prelude.{◌≡◌, ℕ, ◌+◌, ◌*◌, Bool, true, false, List, slice_index_or, slice_index, Option, Some}
+-- The steps that flagged links allow.
+use Rattle.std.specs.Prelude.{◌≡◌, ℕ, Bool, true, List, slice_index, Option, Some}
 use Rattle.std.specs.Option.{option_map}
 use Rattle.spin_base.specs.declared.chips.Chip.{Chip}
 use Rattle.spin_base.specs.declared.chips.Dir.{Dir}
-use Rattle.spin_base.specs.Links.{dir_number, opposite_of}
+use Rattle.spin_base.specs.Links.{opposite_of}
 use Rattle.machine_desc.specs.declared.trees.Edge.{Edge}
 use Rattle.machine_desc.specs.Description.{Description}
+use Rattle.machine_desc.specs.Flags.{is_flagged}
 use Rattle.machine_desc.specs.Live.{far_of, index_of, IsInside}
-
--- the place of a link in a table with six places for each chip
-abbrev pub link_place : Description → Chip → Dir → ℕ
-link_place m c d = index_of m c * 6 + dir_number d
-
-abbrev pub is_flagged : Description → List Bool → Chip → Dir → Bool
-is_flagged m table c d = slice_index_or table (link_place m c d) false
 
 -- a step by a flagged link
 abbrev pub FlaggedStep : Description → List Bool → Chip → Chip → Type 0
@@ -24,5 +18,5 @@ abbrev pub number_at : Description → List ℕ → Chip → ℕ
 number_at m table c = slice_index table (index_of m c)
 
 -- the same link from its other end, where it leads anywhere
-abbrev pub turned : Description → Edge → Option Edge
-turned m e = option_map (λ (c : Chip). let f : Edge = record { chip = c; dir = opposite_of e.dir } in f) (far_of m e.chip e.dir)
+abbrev pub other_end_of : Description → Edge → Option Edge
+other_end_of m e = option_map (λ (c : Chip). let f : Edge = record { chip = c; dir = opposite_of e.dir } in f) (far_of m e.chip e.dir)

@@ -23,13 +23,13 @@ abbrev pub IsSpread : Description → List ℕ → Chip → Type 0
 IsSpread m set c = IsIn set c ⊎ ((d : Dir) × LeadsInto m set c d)
 
 -- at most n live links lead from a start to the chip
-abbrev pub IsWithin : Description → (Chip → Type 0) → ℕ → Chip → Type 0
-IsWithin m IsStart n c = (k : ℕ) × (k ≤ n) × IsReachedBy (LeadsTo m) IsStart k c
+abbrev pub IsWithinLinks : Description → (Chip → Type 0) → ℕ → Chip → Type 0
+IsWithinLinks m IsStart n c = (k : ℕ) × (k ≤ n) × IsReachedBy (LeadsTo m) IsStart k c
 
 -- The wave of number n is the set of the chips within n live links of a start.
 pub record IsWave (m : Description) (IsStart : Chip → Type 0) (n : ℕ) (set : List ℕ) : Type 0 where
   pub long : length set ≡ m.width
-  pub told : (c : Chip) → IsInside m c → (IsIn set c → IsWithin m IsStart n c) × (IsWithin m IsStart n c → IsIn set c)
+  pub told : (c : Chip) → IsInside m c → (IsIn set c → IsWithinLinks m IsStart n c) × (IsWithinLinks m IsStart n c → IsIn set c)
 
 -- the waves in the order of their numbers, from 0 on
 abbrev pub AreWaves : Description → (Chip → Type 0) → List (List ℕ) → Type 0

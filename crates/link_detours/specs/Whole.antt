@@ -9,7 +9,7 @@ use Rattle.link_detours.specs.Steps.{Steps}
 use Rattle.link_detours.specs.Repair.{EdgeStep}
 
 -- all edges are live, each chip is reached from the root, and there is one way to it
-pub record IsWhole (m : Description) (root : Chip) (tree : List Edge) : Type 0 where
+pub record IsWholeTree (m : Description) (root : Chip) (tree : List Edge) : Type 0 where
   pub live : (e : Edge) → Contains tree e → IsLiveLink m e.chip e.dir
   pub reached : (c : Chip) → IsTreeChip m root tree c → (n : ℕ) × Steps (EdgeStep m tree) n root c
   pub none_into_root : (e : Edge) → Contains tree e → end_of m e ≢ Some root

@@ -2,7 +2,7 @@
 ghost use Rattle.std.specs.Prelude.{◌≡◌, ℕ, ◌+◌, ◌*◌, ◌<◌, ◌≤◌, ◌↔◌, List, ◌++◌, length, map, All, IfOk, IfSome, IfNone, IsTrue, false};
 ghost use Rattle.machine_desc.specs.Live.{IsInside, LeadsTo};
 ghost use Rattle.machine_desc.specs.RoutingTree.{IsTreeChip};
-ghost use Rattle.link_detours.specs.Steps.{Steps, IsReachedBy, IsLevel};
+ghost use Rattle.link_detours.specs.Steps.{Steps, IsReachedBy, IsStepLevel};
 ghost use Rattle.link_detours.specs.Usable.{number_at};
 ghost use Rattle.link_detours.specs.Repair.{EdgeStep, IsTreeLevel, IsDetour, IsCutOff};
 ghost use Rattle.link_detours.specs.LiveRoads.{AreRoadsOf};
@@ -29,7 +29,8 @@ pub fn tree_reach(
     requires inside { All (λ e. IsInside machine.now e.chip) edges.now }
     ensures long { IfOk result (λ t. length t.items ≡ machine.now.width * machine.now.height) }
     ensures reach { IfOk result (λ t. (c : Chip) → IsInside machine.now c →
-        (number_at machine.now t.items c < UNREACHED) ↔ ((n : ℕ) × Steps (EdgeStep machine.now edges.now) n root c)) }
+        (number_at machine.now t.items c < UNREACHED)
+        ↔ ((n : ℕ) × Steps (EdgeStep machine.now edges.now) n root c)) }
 {
     let table = link_table(alloc, machine, edges)?;
     let reach = step_counts(alloc, machine, &table, &[root])?;
@@ -48,9 +49,12 @@ fn waves(
     requires roads_are { AreRoadsOf machine.now roads.now }
     requires long { length tree.now ≡ machine.now.width }
     requires inside { IsInside machine.now target }
-    ensures waves { IfOk result (λ o. IfSome o (λ v. AreWaves machine.now (IsIn tree.now) (map (λ w. w.items) v.items))) }
-    ensures level { IfOk result (λ o. IfSome o (λ v. IsLevel (LeadsTo machine.now) (IsIn tree.now) target (length v.items))) }
-    ensures cut_off { IfOk result (λ o. IfNone o ((n : ℕ) → IsReachedBy (LeadsTo machine.now) (IsIn tree.now) n target → ⊥)) }
+    ensures waves { IfOk result (λ o. IfSome o (λ v. AreWaves machine.now (IsIn tree.now) (map (λ w.
+        w.items) v.items))) }
+    ensures level { IfOk result (λ o. IfSome o (λ v. IsStepLevel (LeadsTo machine.now)
+        (IsIn tree.now) target (length v.items))) }
+    ensures cut_off { IfOk result (λ o. IfNone o ((n : ℕ)
+        → IsReachedBy (LeadsTo machine.now) (IsIn tree.now) n target → ⊥)) }
 {
     let mut waves = Vec::new(alloc);
     let mut last = Vec::from_slice(alloc, tree)?;
@@ -70,8 +74,12 @@ fn step_before(machine: &Machine, set: &[u64], at: Chip, d: Dir) -> Option<Chip>
     requires few { machine.now.height ≤ 64 }
     requires inside { IsInside machine.now at }
     requires long { length set.now ≡ machine.now.width }
-    ensures found { IfSome result (λ b. IsStepFrom machine.now set.now at (record { chip = b; dir = d })) }
-    ensures none { IfNone result ((b : Chip) → IsStepFrom machine.now set.now at (record { chip = b; dir = d }) → ⊥) }
+    ensures found { IfSome result (λ b. IsStepFrom machine.now set.now at (record {
+      chip = b;
+      dir = d;
+    })) }
+    ensures none { IfNone result ((b : Chip)
+        → IsStepFrom machine.now set.now at (record { chip = b; dir = d }) → ⊥) }
 {
     let back = d.opposite();
     if !machine.link_live(at, back) {
@@ -108,13 +116,16 @@ fn walk_back(
 ) -> Result<(), Memory>
     requires few { machine.now.height ≤ 64 }
     requires inside { IsInside machine.now target }
-    requires waves_are { AreWaves machine.now (IsTreeChip machine.now root whole.old.items) (map (λ w. w.items) waves.items) }
+    requires waves_are { AreWaves machine.now (IsTreeChip machine.now root whole.old.items) (map
+        (λ w. w.items) waves.items) }
     requires level { IsTreeLevel machine.now root whole.old.items target (length waves.items) }
     requires long { length tree.old ≡ machine.now.width }
     requires chips { (c : Chip) → IsIn tree.old c ↔ IsTreeChip machine.now root whole.old.items c }
-    ensures joined { IfOk result (λ _. (walk : List Edge) × (whole.new.items ≡ whole.old.items ++ walk)
+    ensures joined { IfOk result (λ _. (walk : List Edge)
+        × (whole.new.items ≡ whole.old.items ++ walk)
         × IsDetour machine.now root whole.old.items target walk) }
-    ensures chips { IfOk result (λ _. (c : Chip) → IsIn tree.new c ↔ IsTreeChip machine.now root whole.new.items c) }
+    ensures chips { IfOk result (λ _. (c : Chip)
+        → IsIn tree.new c ↔ IsTreeChip machine.now root whole.new.items c) }
 {
     let mut at = target;
     while let Some(wave) = waves.pop() {
@@ -143,9 +154,11 @@ pub fn join(
     requires inside { IsInside machine.now target }
     requires long { length tree.old ≡ machine.now.width }
     requires chips { (c : Chip) → IsIn tree.old c ↔ IsTreeChip machine.now root whole.old.items c }
-    ensures joined { IfOk result (λ b. IsTrue b → (walk : List Edge) × (whole.new.items ≡ whole.old.items ++ walk)
+    ensures joined { IfOk result (λ b. IsTrue b
+        → (walk : List Edge) × (whole.new.items ≡ whole.old.items ++ walk)
         × IsDetour machine.now root whole.old.items target walk) }
-    ensures chips { IfOk result (λ b. IsTrue b → (c : Chip) → IsIn tree.new c ↔ IsTreeChip machine.now root whole.new.items c) }
+    ensures chips { IfOk result (λ b. IsTrue b → (c : Chip)
+        → IsIn tree.new c ↔ IsTreeChip machine.now root whole.new.items c) }
     ensures cut_off { IfOk result (λ b. (b ≡ false) → IsCutOff machine.now root target) }
 {
     if has(tree, target) {

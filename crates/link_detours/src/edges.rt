@@ -3,7 +3,7 @@ ghost use Rattle.std.specs.Prelude.{◌≡◌, ◌+◌, ◌*◌, ◌<◌, ◌≤
 ghost use Rattle.machine_desc.specs.Live.{IsInside, is_live_link, far_of, index_of};
 ghost use Rattle.machine_desc.specs.RoutingTree.{end_of};
 ghost use Rattle.std.specs.List.{filter_map};
-ghost use Rattle.link_detours.specs.Usable.{number_at, turned};
+ghost use Rattle.link_detours.specs.Usable.{number_at, other_end_of};
 ghost use Rattle.spin_base.specs.declared.chips.Chip.{Chip};
 ghost use Rattle.machine_desc.specs.declared.trees.Edge.{Edge};
 
@@ -14,7 +14,8 @@ use std::alloc::Global;
 
 // The edges that are live links.
 pub fn live_edges(alloc: Global, machine: &Machine, edges: &[Edge]) -> Result<Vec<Edge>, Memory>
-    ensures { IfOk result (λ v. v.items ≡ filter (λ e. is_live_link machine.now e.chip e.dir) edges.now) }
+    ensures { IfOk result (λ v. v.items
+        ≡ filter (λ e. is_live_link machine.now e.chip e.dir) edges.now) }
 {
     let live = edges
         .iter()
@@ -33,7 +34,8 @@ pub fn reached_edges(
 ) -> Result<Vec<Edge>, Memory>
     requires inside { All (λ e. IsInside machine.now e.chip) edges.now }
     requires long { length counts.now ≡ machine.now.width * machine.now.height }
-    ensures { IfOk result (λ v. v.items ≡ filter (λ e. nat_lt (number_at machine.now counts.now e.chip) UNREACHED) edges.now) }
+    ensures { IfOk result (λ v. v.items
+        ≡ filter (λ e. nat_lt (number_at machine.now counts.now e.chip) UNREACHED) edges.now) }
 {
     let mut reached = Vec::new(alloc);
     for edge in edges {
@@ -47,7 +49,7 @@ pub fn reached_edges(
 // The same links, each from its other end.
 pub fn turned_edges(alloc: Global, machine: &Machine, edges: &[Edge]) -> Result<Vec<Edge>, Memory>
     requires { All (λ e. IsInside machine.now e.chip) edges.now }
-    ensures { IfOk result (λ v. v.items ≡ filter_map (turned machine.now) edges.now) }
+    ensures { IfOk result (λ v. v.items ≡ filter_map (other_end_of machine.now) edges.now) }
 {
     let mut turned = Vec::new(alloc);
     for edge in edges {

@@ -1,7 +1,7 @@
 // What of a tree leads to a target.
 ghost use Rattle.std.specs.Prelude.{◌≡◌, ℕ, ◌↔◌, All, IfOk, Contains};
 ghost use Rattle.machine_desc.specs.Live.{IsInside};
-ghost use Rattle.link_detours.specs.Repair.{LeadsToTarget, IsInOrder};
+ghost use Rattle.link_detours.specs.Repair.{LeadsToTarget, AreInPlaceOrder};
 ghost use Rattle.spin_base.specs.declared.chips.Chip.{Chip};
 ghost use Rattle.machine_desc.specs.declared.trees.Edge.{Edge};
 
@@ -21,8 +21,10 @@ pub fn pruned(
 ) -> Result<Vec<Edge>, Memory>
     requires edges_inside { All (λ e. IsInside machine.now e.chip) whole.now }
     requires targets_inside { All (IsInside machine.now) targets.now }
-    ensures left { IfOk result (λ v. (e : Edge) → Contains v.items e ↔ (Contains whole.now e × LeadsToTarget machine.now whole.now targets.now e)) }
-    ensures in_order { IfOk result (λ v. IsInOrder machine.now v.items) }
+    ensures left { IfOk result (λ v. (e : Edge)
+        → Contains v.items e
+        ↔ (Contains whole.now e × LeadsToTarget machine.now whole.now targets.now e)) }
+    ensures in_order { IfOk result (λ v. AreInPlaceOrder machine.now v.items) }
 {
     let turned = turned_edges(alloc, machine, whole)?;
     let table = link_table(alloc, machine, &turned)?;

@@ -2,9 +2,9 @@
 ghost use Rattle.std.specs.Prelude.{◌≡◌, ◌≢◌, ℕ, ◌*◌, ◌<◌, ◌↔◌, Some, length, All, AllPairs, IfOk, IfErr, Contains};
 ghost use Rattle.machine_desc.specs.Live.{IsInside, IsLiveChip};
 ghost use Rattle.machine_desc.specs.RoutingTree.{end_of, IsTreeChip, IsTreeTo};
-ghost use Rattle.link_detours.specs.Repair.{IsKept, Joins, IsRepaired, IsInOrder};
-ghost use Rattle.link_detours.specs.Whole.{IsWhole};
-ghost use Rattle.link_detours.specs.Cause.{IsCause};
+ghost use Rattle.link_detours.specs.Repair.{IsKeptEdge, Joins, IsRepaired, AreInPlaceOrder};
+ghost use Rattle.link_detours.specs.Whole.{IsWholeTree};
+ghost use Rattle.link_detours.specs.Cause.{IsRepairCause};
 ghost use Rattle.link_detours.specs.LiveRoads.{AreRoadsOf};
 ghost use Rattle.link_detours.specs.declared.repairs.RepairErr.TheVariants.{Memory as NoMemory};
 ghost use Rattle.spin_base.specs.declared.chips.Chip.{Chip};
@@ -53,17 +53,22 @@ pub fn repair(
     requires roads_are { AreRoadsOf machine.now roads.now }
     requires root_lives { IsLiveChip machine.now tree.now.root }
     requires none_into_root { All (λ e. end_of machine.now e ≢ Some tree.now.root) tree.now.edges }
-    requires one_into_each { AllPairs (λ e f. (c : Chip) → end_of machine.now e ≡ Some c → end_of machine.now f ≢ Some c) tree.now.edges }
+    requires one_into_each { AllPairs (λ e f. (c : Chip) → end_of machine.now e ≡ Some c
+        → end_of machine.now f ≢ Some c)
+        tree.now.edges }
     requires some_target { 0 < length targets.now }
     requires targets_inside { All (IsInside machine.now) targets.now }
     ensures root { IfOk result (λ t. t.root ≡ tree.now.root) }
-    ensures repaired { IfOk result (λ t. IsRepaired machine.now tree.now.root tree.now.edges targets.now t.edges) }
+    ensures repaired { IfOk result (λ t.
+        IsRepaired machine.now tree.now.root tree.now.edges targets.now t.edges) }
     ensures routing { IfOk result (λ t. IsTreeTo machine.now tree.now.root t.edges targets.now) }
-    ensures cut_off { IfErr result (IsCause machine.now tree.now.root targets.now) }
+    ensures cut_off { IfErr result (IsRepairCause machine.now tree.now.root targets.now) }
     ensures same_edges { IsTreeTo machine.now tree.now.root tree.now.edges targets.now →
         IfOk result (λ t. (e : Edge) → Contains t.edges e ↔ Contains tree.now.edges e) }
-    ensures unchanged { IsTreeTo machine.now tree.now.root tree.now.edges targets.now → IsInOrder machine.now tree.now.edges → IfOk result (λ t. t ≡ tree.now) }
-    ensures not_cut_off { IsTreeTo machine.now tree.now.root tree.now.edges targets.now → IfErr result (λ e. e ≡ NoMemory) }
+    ensures unchanged { IsTreeTo machine.now tree.now.root tree.now.edges targets.now →
+        AreInPlaceOrder machine.now tree.now.edges → IfOk result (λ t. t ≡ tree.now) }
+    ensures not_cut_off { IsTreeTo machine.now tree.now.root tree.now.edges targets.now →
+        IfErr result (λ e. e ≡ NoMemory) }
 {
     let root = tree.root;
     let kept = kept_edges(alloc, machine, root, tree.edges.as_slice())?;
@@ -84,9 +89,11 @@ fn kept_edges(
 ) -> Result<Vec<Edge>, Memory>
     requires root_lives { IsLiveChip machine.now root }
     requires none_into_root { All (λ e. end_of machine.now e ≢ Some root) edges.now }
-    requires one_into_each { AllPairs (λ e f. (c : Chip) → end_of machine.now e ≡ Some c → end_of machine.now f ≢ Some c) edges.now }
-    ensures kept { IfOk result (λ v. (e : Edge) → Contains v.items e ↔ IsKept machine.now root edges.now e) }
-    ensures is_whole { IfOk result (λ v. IsWhole machine.now root v.items) }
+    requires one_into_each { AllPairs (λ e f. (c : Chip) → end_of machine.now e ≡ Some c
+        → end_of machine.now f ≢ Some c) edges.now }
+    ensures kept { IfOk result (λ v. (e : Edge)
+        → Contains v.items e ↔ IsKeptEdge machine.now root edges.now e) }
+    ensures is_whole { IfOk result (λ v. IsWholeTree machine.now root v.items) }
 {
     let live = live_edges(alloc, machine, edges)?;
     let reach = tree_reach(alloc, machine, root, &live)?;
@@ -106,11 +113,11 @@ fn join_all(
     requires roads_are { AreRoadsOf machine.now roads.now }
     requires root_lives { IsLiveChip machine.now root }
     requires targets_inside { All (IsInside machine.now) targets.now }
-    requires is_whole { IsWhole machine.now root kept.items }
+    requires is_whole { IsWholeTree machine.now root kept.items }
     ensures joined { IfOk result (λ v. Joins machine.now root kept.items targets.now v.items) }
-    ensures is_whole { IfOk result (λ v. IsWhole machine.now root v.items) }
+    ensures is_whole { IfOk result (λ v. IsWholeTree machine.now root v.items) }
     ensures has_targets { IfOk result (λ v. All (IsTreeChip machine.now root v.items) targets.now) }
-    ensures cut_off { IfErr result (IsCause machine.now root targets.now) }
+    ensures cut_off { IfErr result (IsRepairCause machine.now root targets.now) }
 {
     let mut whole = kept;
     let mut words = empty_set(alloc, machine)?;

@@ -44,7 +44,8 @@ impl Roads {
 
 // The word of a column and a link: bit y is set exactly where that link of the chip at y lives.
 fn road_word(machine: &Machine, x: u8, d: Dir) -> u64
-    ensures { (y : ℕ) → y < machine.now.height → (bit_at result y ≡ 1) ↔ IsLiveLink machine.now (record { x = x; y = y }) d }
+    ensures { (y : ℕ) → y < machine.now.height
+        → (bit_at result y ≡ 1) ↔ IsLiveLink machine.now (record { x = x; y = y }) d }
 {
     let mut word = 0;
     for y in 0..machine.height() {

@@ -2,8 +2,9 @@
 ghost use Rattle.std.specs.Prelude.{◌≡◌, ◌+◌, ◌*◌, ◌<◌, ◌≤◌, length, All, IfOk, IfSome, Contains, if◌then◌else◌, None, ℕ};
 ghost use Rattle.std.specs.List.{sum_by};
 ghost use Rattle.machine_desc.specs.Live.{IsInside, far_of};
-ghost use Rattle.link_detours.specs.Steps.{IsReachedBy, IsLevel};
-ghost use Rattle.link_detours.specs.Usable.{link_place, is_flagged, FlaggedStep, number_at};
+ghost use Rattle.link_detours.specs.Steps.{IsReachedBy, IsStepLevel};
+ghost use Rattle.machine_desc.specs.Flags.{link_place, is_flagged};
+ghost use Rattle.link_detours.specs.Usable.{FlaggedStep, number_at};
 ghost use Rattle.spin_base.specs.declared.chips.Chip.{Chip};
 
 use crate::tables::link_place;
@@ -18,7 +19,8 @@ pub const UNREACHED: u64 = u64::MAX;
 fn flagged_far(machine: &Machine, flags: &[bool], c: Chip, d: Dir) -> Option<Chip>
     requires inside { IsInside machine.now c }
     requires long { length flags.now ≡ machine.now.width * machine.now.height * 6 }
-    ensures { result ≡ (if is_flagged machine.now flags.now c d then far_of machine.now c d else None) }
+    ensures { result
+        ≡ (if is_flagged machine.now flags.now c d then far_of machine.now c d else None) }
 {
     if flags[link_place(machine, c, d)] {
         machine.far(c, d)
@@ -31,8 +33,10 @@ fn flagged_far(machine: &Machine, flags: &[bool], c: Chip, d: Dir) -> Option<Chi
 pub fn seed_table(alloc: Global, machine: &Machine, seeds: &[Chip]) -> Result<Vec<u64>, Memory>
     requires { All (IsInside machine.now) seeds.now }
     ensures long { IfOk result (λ t. length t.items ≡ machine.now.width * machine.now.height) }
-    ensures at_seeds { IfOk result (λ t. (a : Chip) → Contains seeds.now a → number_at machine.now t.items a ≡ 0) }
-    ensures elsewhere { IfOk result (λ t. (c : Chip) → IsInside machine.now c → number_at machine.now t.items c < UNREACHED → Contains seeds.now c) }
+    ensures at_seeds { IfOk result (λ t. (a : Chip) → Contains seeds.now a
+        → number_at machine.now t.items a ≡ 0) }
+    ensures elsewhere { IfOk result (λ t. (c : Chip) → IsInside machine.now c
+        → number_at machine.now t.items c < UNREACHED → Contains seeds.now c) }
 {
     let mut table = vec![in alloc; UNREACHED; machine.chips()]?;
     for seed in seeds {
@@ -51,9 +55,12 @@ pub fn step_counts(
     requires inside { All (IsInside machine.now) seeds.now }
     requires long { length flags.now ≡ machine.now.width * machine.now.height * 6 }
     ensures long { IfOk result (λ t. length t.items ≡ machine.now.width * machine.now.height) }
-    ensures levels { IfOk result (λ t. (c : Chip) → IsInside machine.now c → number_at machine.now t.items c < UNREACHED →
-        IsLevel (FlaggedStep machine.now flags.now) (Contains seeds.now) c (number_at machine.now t.items c)) }
-    ensures reached { IfOk result (λ t. (c : Chip) (n : ℕ) → IsReachedBy (FlaggedStep machine.now flags.now) (Contains seeds.now) n c →
+    ensures levels { IfOk result (λ t. (c : Chip) → IsInside machine.now c
+        → number_at machine.now t.items c < UNREACHED →
+        IsStepLevel (FlaggedStep machine.now flags.now) (Contains seeds.now) c
+        (number_at machine.now t.items c)) }
+    ensures reached { IfOk result (λ t. (c : Chip) (n : ℕ)
+        → IsReachedBy (FlaggedStep machine.now flags.now) (Contains seeds.now) n c →
         number_at machine.now t.items c < UNREACHED) }
 {
     let mut counts = seed_table(alloc, machine, seeds)?;

@@ -35,7 +35,8 @@ pub fn put(set: &mut [u64], c: Chip)
     requires column { c.x < length set.old }
     requires bit { c.y < 64 }
     ensures here { IsIn set.new c }
-    ensures others { (e : Chip) → (e ≡ c → ⊥) → bit_at (slice_index set.new e.x) e.y ≡ bit_at (slice_index set.old e.x) e.y }
+    ensures others { (e : Chip) → (e ≡ c → ⊥)
+        → bit_at (slice_index set.new e.x) e.y ≡ bit_at (slice_index set.old e.x) e.y }
 {
     set[usize::from(c.x)] |= 1 << c.y;
 }
@@ -92,7 +93,8 @@ fn down(height: u8, word: u64) -> u64
 fn turned(height: u8, word: u64, d: Dir) -> u64
     requires some { 0 < height }
     requires few { height ≤ 64 }
-    ensures { (wrap : Bool) (y k : ℕ) → y < height → stepped wrap height (y_step d) y ≡ Some k → bit_at result y ≡ bit_at word k }
+    ensures { (wrap : Bool) (y k : ℕ) → y < height → stepped wrap height (y_step d) y ≡ Some k
+        → bit_at result y ≡ bit_at word k }
 {
     match d {
         Dir::NorthEast | Dir::North => up(height, word),
@@ -121,7 +123,8 @@ fn leading(machine: &Machine, roads: &Roads, set: &[u64], x: usize, d: Dir) -> u
     requires roads_are { AreRoadsOf machine.now roads.now }
     requires long { length set.now ≡ machine.now.width }
     requires column { x < machine.now.width }
-    ensures { (y : ℕ) → y < machine.now.height → (bit_at result y ≡ 1) ↔ LeadsInto machine.now set.now (record { x = x; y = y }) d }
+    ensures { (y : ℕ) → y < machine.now.height
+        → (bit_at result y ≡ 1) ↔ LeadsInto machine.now set.now (record { x = x; y = y }) d }
 {
     let column = set[column_beyond(set.len(), x, d)];
     turned(machine.height(), column, d) & roads.word(x, d)
@@ -134,8 +137,10 @@ fn spread_word(machine: &Machine, roads: &Roads, set: &[u64], x: usize) -> u64
     requires column { x < machine.now.width }
     ensures rises { slice_index set.now x ≤ result }
     ensures old { (y : ℕ) → bit_at (slice_index set.now x) y ≡ 1 → bit_at result y ≡ 1 }
-    ensures new { (y : ℕ) (d : Dir) → y < machine.now.height → LeadsInto machine.now set.now (record { x = x; y = y }) d → bit_at result y ≡ 1 }
-    ensures only { (y : ℕ) → y < machine.now.height → bit_at result y ≡ 1 → IsSpread machine.now set.now (record { x = x; y = y }) }
+    ensures new { (y : ℕ) (d : Dir) → y < machine.now.height
+        → LeadsInto machine.now set.now (record { x = x; y = y }) d → bit_at result y ≡ 1 }
+    ensures only { (y : ℕ) → y < machine.now.height → bit_at result y ≡ 1
+        → IsSpread machine.now set.now (record { x = x; y = y }) }
 {
     let mut word = set[x];
     for d in Dir::ALL {
@@ -156,7 +161,8 @@ pub fn spread(
     ensures long { IfOk result (λ t. length t.items ≡ machine.now.width) }
     ensures fits { IfOk result (λ t. All (λ w. w < 2 ^ 64) t.items) }
     ensures rises { IfOk result (λ t. (x : ℕ) → slice_index set.now x ≤ slice_index t.items x) }
-    ensures spread { IfOk result (λ t. (c : Chip) → IsInside machine.now c → IsIn t.items c ↔ IsSpread machine.now set.now c) }
+    ensures spread { IfOk result (λ t. (c : Chip) → IsInside machine.now c
+        → IsIn t.items c ↔ IsSpread machine.now set.now c) }
 {
     let mut more = Vec::with_capacity(alloc, set.len())?;
     for x in 0..set.len() {

@@ -3,8 +3,8 @@ ghost use Rattle.std.specs.Prelude.{◌≡◌, ℕ, ◌*◌, ◌<◌, ◌↔◌,
 ghost use Rattle.machine_desc.specs.Live.{IsInside};
 ghost use Rattle.machine_desc.specs.RoutingTree.{end_of, IsTreeChip};
 ghost use Rattle.link_detours.specs.Usable.{number_at};
-ghost use Rattle.link_detours.specs.Repair.{LeadsToTarget, IsInOrder};
-ghost use Rattle.link_detours.specs.Whole.{IsWhole, GoesOnFrom};
+ghost use Rattle.link_detours.specs.Repair.{LeadsToTarget, AreInPlaceOrder};
+ghost use Rattle.link_detours.specs.Whole.{IsWholeTree, GoesOnFrom};
 ghost use Rattle.spin_base.specs.declared.chips.Chip.{Chip};
 ghost use Rattle.machine_desc.specs.declared.trees.Edge.{Edge};
 
@@ -23,12 +23,14 @@ pub fn trimmed(
     whole: Vec<Edge>,
     targets: &[Chip],
 ) -> Result<Vec<Edge>, Memory>
-    requires is_whole { IsWhole machine.now root whole.items }
+    requires is_whole { IsWholeTree machine.now root whole.items }
     requires some_target { 0 < length targets.now }
     requires targets_inside { All (IsInside machine.now) targets.now }
     requires has_targets { All (IsTreeChip machine.now root whole.items) targets.now }
-    ensures left { IfOk result (λ v. (e : Edge) → Contains v.items e ↔ (Contains whole.items e × LeadsToTarget machine.now whole.items targets.now e)) }
-    ensures in_order { IfOk result (λ v. IsInOrder machine.now v.items) }
+    ensures left { IfOk result (λ v. (e : Edge)
+        → Contains v.items e
+        ↔ (Contains whole.items e × LeadsToTarget machine.now whole.items targets.now e)) }
+    ensures in_order { IfOk result (λ v. AreInPlaceOrder machine.now v.items) }
 {
     if is_lean(alloc, machine, &whole, targets)? {
         Ok(whole)
@@ -46,8 +48,10 @@ fn is_lean(
 ) -> Result<bool, Memory>
     requires inside { All (λ e. IsInside machine.now e.chip) edges.now }
     requires targets_inside { All (IsInside machine.now) targets.now }
-    ensures in_order { IfOk result (λ b. b ≡ true → IsInOrder machine.now edges.now) }
-    ensures goes_on { IfOk result (λ b. b ≡ true → All (λ e. (c : Chip) → end_of machine.now e ≡ Some c → GoesOnFrom edges.now targets.now c) edges.now) }
+    ensures in_order { IfOk result (λ b. b ≡ true → AreInPlaceOrder machine.now edges.now) }
+    ensures goes_on { IfOk result (λ b. b ≡ true
+        → All (λ e. (c : Chip) → end_of machine.now e ≡ Some c
+        → GoesOnFrom edges.now targets.now c) edges.now) }
 {
     if !is_in_order(machine, edges) {
         return Ok(false);
@@ -59,7 +63,7 @@ fn is_lean(
 // Whether edges stand in order of x, y and link number.
 fn is_in_order(machine: &Machine, edges: &[Edge]) -> bool
     requires { All (λ e. IsInside machine.now e.chip) edges.now }
-    ensures { result ≡ true → IsInOrder machine.now edges.now }
+    ensures { result ≡ true → AreInPlaceOrder machine.now edges.now }
 {
     let mut least = 0;
     for edge in edges {
@@ -81,7 +85,9 @@ fn ends_go_on(
 ) -> Result<bool, Memory>
     requires inside { All (λ e. IsInside machine.now e.chip) edges.now }
     requires targets_inside { All (IsInside machine.now) targets.now }
-    ensures { IfOk result (λ b. b ≡ true → All (λ e. (c : Chip) → end_of machine.now e ≡ Some c → GoesOnFrom edges.now targets.now c) edges.now) }
+    ensures { IfOk result (λ b. b ≡ true
+        → All (λ e. (c : Chip) → end_of machine.now e ≡ Some c
+        → GoesOnFrom edges.now targets.now c) edges.now) }
 {
     let chips = chips_before(alloc, edges, targets)?;
     let table = seed_table(alloc, machine, &chips)?;
@@ -103,7 +109,9 @@ fn chips_before(alloc: Global, edges: &[Edge], targets: &[Chip]) -> Result<Vec<C
 fn ends_are_low(machine: &Machine, table: &[u64], edges: &[Edge]) -> bool
     requires inside { All (λ e. IsInside machine.now e.chip) edges.now }
     requires long { length table.now ≡ machine.now.width * machine.now.height }
-    ensures { result ≡ true → All (λ e. (c : Chip) → end_of machine.now e ≡ Some c → number_at machine.now table.now c < UNREACHED) edges.now }
+    ensures { result ≡ true
+        → All (λ e. (c : Chip) → end_of machine.now e ≡ Some c
+        → number_at machine.now table.now c < UNREACHED) edges.now }
 {
     for edge in edges {
         if !end_is_low(machine, table, *edge) {
@@ -117,7 +125,8 @@ fn ends_are_low(machine: &Machine, table: &[u64], edges: &[Edge]) -> bool
 fn end_is_low(machine: &Machine, table: &[u64], edge: Edge) -> bool
     requires inside { IsInside machine.now edge.chip }
     requires long { length table.now ≡ machine.now.width * machine.now.height }
-    ensures { result ≡ true → (c : Chip) → end_of machine.now edge ≡ Some c → number_at machine.now table.now c < UNREACHED }
+    ensures { result ≡ true → (c : Chip) → end_of machine.now edge ≡ Some c
+        → number_at machine.now table.now c < UNREACHED }
 {
     match machine.far(edge.chip, edge.dir) {
         Some(far) => table[machine.index(far) as usize] < UNREACHED,

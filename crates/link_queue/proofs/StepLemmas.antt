@@ -8,7 +8,7 @@ use Rattle.crossbeam_queue.specs.Fifo.{Pushes, Pops, Forks, Merges, Learns}
 use Rattle.crossbeam_queue.proofs.Lists.{at_set}
 use Rattle.spin_base.specs.declared.copies.McCopy.{McCopy}
 use Rattle.link_queue.specs.declared.known.Known.{Known}
-use Rattle.link_queue.specs.TheRule.{put_of, IsFullNote, IsNoneNote, StartsWith, SenderFits, ReceiverFits, Fits, Kept}
+use Rattle.link_queue.specs.TheRule.{put_of, IsFullNote, IsNoneNote, StartsWith, SenderFits, ReceiverFits, FitsRule, Kept}
 use Rattle.link_queue.specs.Ups.{ListPlaced, Emptied, NoNotes, PoppedTo, Rests}
 use Rattle.link_queue.specs.Steps.{blank, newborn, placed, offered, popped, full_noted, none_noted, told, sender_of, receiver_of, joined, renewed, SeenFull, SeenEmpty, Balanced}
 
@@ -82,14 +82,14 @@ module _ (n port : ℕ) (v : Known) (x : McCopy) (may : v.sends ≡ true) (cap :
       }
 
   after_put : (items : List McCopy) (views : List Known) (k : Kept items views) (w : Known) → SenderFits k.sender k.put k.took port v
-      → Fits k.sender k.receiver (k.put ++ x ∷ []) k.took port w → Kept (items ++ x ∷ []) (set views port w)
+      → FitsRule k.sender k.receiver (k.put ++ x ∷ []) k.took port w → Kept (items ++ x ∷ []) (set views port w)
   after_put items views k w mine new = record {
     sender = k.sender;
     receiver = k.receiver;
     put = k.put ++ x ∷ [];
     took = k.took;
     balance = ap (λ l. l ++ x ∷ []) k.balance ∙ append_assoc k.took items (x ∷ []);
-    each = each_set (Fits k.sender k.receiver (k.put ++ x ∷ []) k.took) views port w new
+    each = each_set (FitsRule k.sender k.receiver (k.put ++ x ∷ []) k.took) views port w new
         (λ j u other e. (λ p. absurd (other (((k.each j u e).0 p).seated ∙ sym mine.seated)), λ p. receiver_put k.receiver j k.put k.took u x ((k.each j u e).1 p)));
   }
 
@@ -144,7 +144,7 @@ module _ (port : ℕ) (v : Known) (may : v.takes ≡ true) where
         put = k.put;
         took = took;
         balance = balance;
-        each = each_set (Fits k.sender k.receiver k.put took) views port w (
+        each = each_set (FitsRule k.sender k.receiver k.put took) views port w (
           λ p. (let f = sender_took k.sender port k.put k.took v x ((k.each port v at).0 p) in record { seated = f.seated; knows = f.knows; room = f.room; bound = f.bound; noted = f.noted }),
           λ _. record {
             seated = mine.seated;
@@ -189,15 +189,15 @@ all_more : (P : ℕ → Type 0) (xs : List ℕ) (x : ℕ) → All P xs → P x �
 all_more P xs x all here = All-push P xs x all here
 
 -- one view changes, and one that knows nothing comes
-plain : (port : ℕ) (v w : Known) (items : List McCopy) (views : List Known) (k : Kept items views) → Fits k.sender k.receiver k.put k.took port w → Kept items (set views port w ++ blank ∷ [])
+plain : (port : ℕ) (v w : Known) (items : List McCopy) (views : List Known) (k : Kept items views) → FitsRule k.sender k.receiver k.put k.took port w → Kept items (set views port w ++ blank ∷ [])
 plain port v w items views k new = record {
   sender = k.sender;
   receiver = k.receiver;
   put = k.put;
   took = k.took;
   balance = k.balance;
-  each = each_snoc (Fits k.sender k.receiver k.put k.took) (set views port w) blank
-      (each_set (Fits k.sender k.receiver k.put k.took) views port w new (λ j u other e. k.each j u e))
+  each = each_snoc (FitsRule k.sender k.receiver k.put k.took) (set views port w) blank
+      (each_set (FitsRule k.sender k.receiver k.put k.took) views port w new (λ j u other e. k.each j u e))
       (λ j e. (λ p. never p, λ p. never p));
 }
 
@@ -257,8 +257,8 @@ seats port v sends takes none no_sent no_notes items views k at =
       put = k.put;
       took = k.took;
       balance = k.balance;
-      each = each_snoc (Fits k.sender (length vs) k.put k.took) vs (receiver_of v)
-          (each_set (Fits k.sender (length vs) k.put k.took) views port l
+      each = each_snoc (FitsRule k.sender (length vs) k.put k.took) vs (receiver_of v)
+          (each_set (FitsRule k.sender (length vs) k.put k.took) views port l
           (λ _. record { seated = s.seated; knows = s.knows; room = s.room; bound = s.bound; noted = s.noted }, λ p. never p)
           (λ j u other e. ((k.each j u e).0, λ p. absurd (other (((k.each j u e).1 p).seated ∙ sym r.seated)))))
           (λ j e. (
@@ -279,7 +279,7 @@ joins port v other u sends takes items views k at two at' =
     let s = (k.each port v at).0 sends in
     let was : get_elem? views other ≡ some u = ⊎_elim (λ (x : (other ≡ port) × (both ≡ u)). absurd (two x.0)) (λ (x : (other ≢ port) × (get_elem? views other ≡ some u)). x.1) (at_set views port other both u at') in
     let r = (k.each other u was).1 takes in
-    let Now : ℕ → Known → Type 0 = λ j y. j ≢ other → Fits k.sender port k.put k.took j y in
+    let Now : ℕ → Known → Type 0 = λ j y. j ≢ other → FitsRule k.sender port k.put k.took j y in
     let now : Each Now (set views port both) =
     each_set Now views port both
     (λ _. (
@@ -299,7 +299,7 @@ joins port v other u sends takes items views k at two at' =
       put = k.put;
       took = k.took;
       balance = k.balance;
-      each = each_set (Fits k.sender port k.put k.took) (set views port both) other blank (λ p. never p, λ p. never p) (λ j y apart e. now j y e apart);
+      each = each_set (FitsRule k.sender port k.put k.took) (set views port both) other blank (λ p. never p, λ p. never p) (λ j y apart e. now j y e apart);
     }
 
 -- where nothing is held, all of the first list was taken
@@ -317,7 +317,7 @@ begins = record {
   put = [];
   took = [];
   balance = refl;
-  each = each_snoc (Fits 0 0 [] []) [] newborn (λ j u e. absurd (some-ne-none u (sym e))) (λ j e. (
+  each = each_snoc (FitsRule 0 0 [] []) [] newborn (λ j u e. absurd (some-ne-none u (sym e))) (λ j e. (
     λ _. record { seated = e; knows = refl; room = omega arith; bound = omega arith; noted = λ i d inside. absurd (omega arith) },
     λ _. record { seated = e; knows = refl; room = omega arith; begins = ([], refl); noted = λ i d inside. absurd (omega arith) },
   ));
@@ -402,8 +402,8 @@ renews port v sends takes items views k at =
       put = items;
       took = [];
       balance = refl;
-      each = each_snoc (Fits k.sender (length vs) items []) vs (receiver_of w)
-          (each_set (Fits k.sender (length vs) items []) views port l
+      each = each_snoc (FitsRule k.sender (length vs) items []) vs (receiver_of w)
+          (each_set (FitsRule k.sender (length vs) items []) views port l
           (λ _. record { seated = s.seated; knows = put; room = omega (arith, total, room); bound = s.bound; noted = λ i d inside. absurd (omega arith) }, λ p. never p)
           (λ j u other e. (λ p. absurd (other (((k.each j u e).0 p).seated ∙ sym s.seated)), λ p. absurd (other (((k.each j u e).1 p).seated ∙ sym r.seated)))))
           (λ j e. (

@@ -18,7 +18,7 @@ pub record TakesOffer (v : Known) (x : McCopy) (w : Known) : Type 0 where
   pub sent : w.sent ≡ v.sent ++ x ∷ []
   pub fulls : w.fulls ≡ v.fulls
 
--- the queue refused the push, at a moment when it held all that it can: one note more, of how many copies had entered
+-- one note more, of how many copies had entered; since the last of them by this end, the queue was found to hold all that it can
 pub record RefusesOffer (cap : ℕ) (v w : Known) : Type 0 where
   pub noted : w ≡ full_noted v
   pub looked : v.held ≡ v.cap
@@ -30,7 +30,7 @@ pub record TakesCopy (v : Known) (x : McCopy) (w : Known) : Type 0 where
   pub took : w.took ≡ v.took ++ x ∷ []
   pub nones : w.nones ≡ v.nones
 
--- the pop found nothing: one note more, of how many copies were taken, the whole first list among them
+-- one note more, of how many copies were taken, the whole first list among them; since the last of them the queue was found empty
 pub record FindsNothing (v w : Known) : Type 0 where
   pub noted : w ≡ none_noted v
   pub looked : v.left ≡ 0

@@ -38,8 +38,8 @@ pub record ReceiverFits (seat : ℕ) (put took : List McCopy) (port : ℕ) (v : 
   pub begins : StartsWith put v.first
   pub noted : All (IsNoneNote v.first took) v.nones
 
-abbrev pub Fits : ℕ → ℕ → List McCopy → List McCopy → ℕ → Known → Type 0
-Fits sender receiver put took port v =
+abbrev pub FitsRule : ℕ → ℕ → List McCopy → List McCopy → ℕ → Known → Type 0
+FitsRule sender receiver put took port v =
     (v.sends ≡ true → SenderFits sender put took port v) × (v.takes ≡ true → ReceiverFits receiver put took port v)
 
 -- What entered is what was taken and then what the queue holds, first in first out. One view at most sends, and one takes.
@@ -49,4 +49,4 @@ pub record Kept (items : List McCopy) (views : List Known) : Type 0 where
   pub put : List McCopy
   pub took : List McCopy
   pub balance : put ≡ took ++ items
-  pub each : (port : ℕ) (v : Known) → get_elem? views port ≡ some v → Fits sender receiver put took port v
+  pub each : (port : ℕ) (v : Known) → get_elem? views port ≡ some v → FitsRule sender receiver put took port v

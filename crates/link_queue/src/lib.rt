@@ -16,5 +16,5 @@ mod ups;
 pub use known::Known;
 pub use links::{Link, LinkEnds, Offered, Rx, Tx};
 pub use moves::{offer, take};
-pub use rests::{rest, widened};
+pub use rests::{AtRest, rest};
 pub use ups::{link_down, link_up};

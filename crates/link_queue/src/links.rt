@@ -73,11 +73,11 @@ impl Capacity for Brand {
 }
 
 /// Tells the pass the capacity.
-pub(crate) struct Told<C> {
+pub(crate) struct KnowsCapacity<C> {
     of: PhantomData<C>,
 }
 
-impl<C: Capacity> Split<Known> for Told<C> {
+impl<C: Capacity> Split<Known> for KnowsCapacity<C> {
     ghost use Rattle.link_queue.specs.Steps.{told, blank};
 
     ghost left = { told C.cap };
@@ -172,9 +172,9 @@ impl Split<Known> for NotesNone {
 }
 
 /// The two seats, made of one and joined again.
-pub(crate) struct Seats;
+pub(crate) struct BothEnds;
 
-impl Split<Known> for Seats {
+impl Split<Known> for BothEnds {
     ghost use Rattle.link_queue.specs.Steps.{sender_of, receiver_of};
 
     ghost left = { sender_of };
@@ -182,7 +182,7 @@ impl Split<Known> for Seats {
     ghost right = { receiver_of };
 }
 
-impl Join<Known> for Seats {
+impl Join<Known> for BothEnds {
     ghost use Rattle.link_queue.specs.Steps.{joined, blank};
 
     ghost both = { joined };

@@ -8,12 +8,13 @@ use crate::links::{Link, NotesFull, NotesNone, Offered, Offers, Rx, Takes, Tx};
 use spin_base::McCopy;
 use std::sync::Wait;
 
-/// Offers a copy to the link. `Taken` where it entered the queue. `Full` hands it back, comes only where the queue held
-/// as many copies as it can at one moment of the call, and leaves the end one note more, of how many copies had entered.
-/// How often the queue is asked before it refuses, and by which of its calls, is said by no clause.
+/// Offers a copy to the link. `Taken` where it entered the queue. `Full` hands it back, and leaves the end one note more,
+/// of how many copies had entered. It comes only where, since a copy last entered by this end, the queue was found to
+/// hold as many copies as it can. Whether this call looked, how often, and by which call of the queue, no clause says.
 pub fn offer<R: Wait>(rt: &R, link: &Link, tx: &mut Tx, copy: McCopy) -> Offered
     requires { IsTx link.now tx.old }
-    ensures answer { MatchOffered result (TakesOffer (sending tx.old) copy (sending tx.new)) (λ back. (back ≡ copy) × RefusesOffer (cap_of link.now) (sending tx.old) (sending tx.new)) }
+    ensures answer { MatchOffered result (TakesOffer (sending tx.old) copy (sending tx.new))
+        (λ back. (back ≡ copy) × RefusesOffer (cap_of link.now) (sending tx.old) (sending tx.new)) }
     ensures end { IsTx link.now tx.new }
 {
     match link.queue.push_as::<Offers, R>(rt, &mut tx.pass, copy) {
@@ -25,12 +26,13 @@ pub fn offer<R: Wait>(rt: &R, link: &Link, tx: &mut Tx, copy: McCopy) -> Offered
     }
 }
 
-/// Takes the copy at the front. `None` comes only where the queue was empty at one moment of the call: the whole first
-/// list was then taken, and the end has one note more, of how many copies it took. How often the queue is asked before
-/// it is found empty, and by which of its calls, is said by no clause.
+/// Takes the copy at the front. `None` comes only where, since this end last took a copy, the queue was found empty: the
+/// whole first list was then taken. It leaves the end one note more, of how many copies it took. Whether this call
+/// looked, how often, and by which call of the queue, no clause says.
 pub fn take<R: Wait>(rt: &R, link: &Link, rx: &mut Rx) -> Option<McCopy>
     requires { IsRx link.now rx.old }
-    ensures answer { MatchOption result (FindsNothing (taking rx.old) (taking rx.new)) (λ x. TakesCopy (taking rx.old) x (taking rx.new)) }
+    ensures answer { MatchOption result (FindsNothing (taking rx.old) (taking rx.new))
+        (λ x. TakesCopy (taking rx.old) x (taking rx.new)) }
     ensures end { IsRx link.now rx.new }
 {
     match link.queue.pop_as::<Takes, R>(rt, &mut rx.pass) {

@@ -7,7 +7,9 @@ ghost use Rattle.link_queue.specs.TheRule.{put_of, IsFullNote};
 ghost use Rattle.link_queue.specs.Ups.{ListPlaced, Emptied, NoNotes};
 
 use crate::known::Known;
-use crate::links::{Capacity, Empties, Link, LinkEnds, Places, Queue, Rx, Seats, Told, Tx};
+use crate::links::{
+    BothEnds, Capacity, Empties, KnowsCapacity, Link, LinkEnds, Places, Queue, Rx, Tx,
+};
 use crossbeam_queue::Pass;
 use spin_base::{McCopy, Memory, Room, Seq};
 use std::alloc::Global;
@@ -38,7 +40,7 @@ pub fn link_up<R: Wait>(
     };
     tell::<Brand>(&queue, &mut pass);
     place(rt, &queue, &mut pass, list.as_slice());
-    let taker = queue.another::<Seats>(&mut pass);
+    let taker = queue.another::<BothEnds>(&mut pass);
     Ok(LinkEnds {
         link: Link { queue },
         tx: Tx { pass },
@@ -54,7 +56,7 @@ fn tell<C: Capacity>(queue: &Queue, pass: &mut Pass<McCopy, Known>)
     ensures pass { IsPassOf queue.now pass.new }
     ensures told { view pass.new ≡ told C.cap newborn }
 {
-    let _ = queue.another::<Told<C>>(pass);
+    let _ = queue.another::<KnowsCapacity<C>>(pass);
 }
 
 /// Places the first list.
@@ -84,12 +86,13 @@ pub fn link_down<R: Wait>(rt: &R, link: Link, tx: Tx, rx: Rx, room: Room<McCopy>
     requires spare { cap_of link ≤ room.spare }
     ensures held { (sending tx).first ++ (sending tx).sent ≡ (taking rx).took ++ result }
     ensures bound { length result ≤ cap_of link }
-    ensures noted { All (IsFullNote (cap_of link) (put_of (sending tx)) (taking rx).took) (sending tx).fulls }
+    ensures noted { All (IsFullNote (cap_of link) (put_of (sending tx)) (taking rx).took)
+        (sending tx).fulls }
 {
     let Link { queue } = link;
     let Tx { mut pass } = tx;
     let Rx { pass: taker } = rx;
-    queue.absorb::<Seats>(&mut pass, taker);
+    queue.absorb::<BothEnds>(&mut pass, taker);
     empty(rt, &queue, &mut pass, room)
 }
 

@@ -14,12 +14,12 @@ use Rattle.spin_base.proofs.Equality.{chip_eq_true, chip_eq_same, spot_eq_true, 
 use Rattle.machine_desc.specs.declared.trees.Edge.{Edge}
 use Rattle.machine_desc.specs.declared.grids.Grid.{Grid}
 use Rattle.machine_desc.specs.Equality.{edge_eq}
-use Rattle.machine_desc.specs.Tables.{Tells, IsOn, IsSpotOn, IsEdgeOn, chip_place, spot_place, edge_place, TellsChips, TellsCores, TellsLinks}
+use Rattle.machine_desc.specs.Tables.{TellsListed, IsOn, IsCoreOn, IsEdgeOn, chip_place, core_place, edge_place, TellsChips, TellsCores, TellsLinks}
 use Rattle.machine_desc.proofs.Same.{same_chip, same_spot, same_edge, same_dir, below_six, edge_eq-true, edge_eq_self}
 
 -- a clear table tells of the empty list
 pub Tells-none : {K : Type 0} (HasPlace : K → Type 0) (place_of : K → ℕ) (same : K → K → Bool) (n : ℕ) (table : List Bool) (listed : List K) →
-    table ≡ replicate n false → Tells HasPlace place_of same table (take 0 listed)
+    table ≡ replicate n false → TellsListed HasPlace place_of same table (take 0 listed)
 Tells-none HasPlace place_of same n table listed e = λ k _. rw e (clear (place_of k))
   where
     clear : (i : ℕ) → get_or (replicate n false) i false ≡ false
@@ -33,8 +33,8 @@ module _ {K : Type 0} (HasPlace : K → Type 0) (place_of : K → ℕ) (same : K
   -- one more thing is read, and its place written
   pub Tells-more : (apart : (a b : K) → HasPlace a → HasPlace b → place_of a ≡ place_of b → a ≡ b)
       (table : List Bool) (listed : List K) (i p : ℕ) (d : K) → i < length listed → p ≡ place_of (get_or listed i d) →
-      HasPlace (get_or listed i d) → p < length table → Tells HasPlace place_of same table (take i listed) →
-      Tells HasPlace place_of same (set table p true) (take (i + 1) listed)
+      HasPlace (get_or listed i d) → p < length table → TellsListed HasPlace place_of same table (take i listed) →
+      TellsListed HasPlace place_of same (set table p true) (take (i + 1) listed)
   Tells-more apart table listed i p d within at placed below told k has =
       let x : K = get_or listed i d in
       let more : list_any (same k) (take (i + 1) listed) ≡ (list_any (same k) (take i listed) || same k x) =
@@ -53,8 +53,8 @@ module _ {K : Type 0} (HasPlace : K → Type 0) (place_of : K → ℕ) (same : K
 
   -- a thing without a place is read, and nothing written
   pub Tells-skip : (table : List Bool) (listed : List K) (i : ℕ) (d : K) → i < length listed →
-      (HasPlace (get_or listed i d) → ⊥) → Tells HasPlace place_of same table (take i listed) →
-      Tells HasPlace place_of same table (take (i + 1) listed)
+      (HasPlace (get_or listed i d) → ⊥) → TellsListed HasPlace place_of same table (take i listed) →
+      TellsListed HasPlace place_of same table (take (i + 1) listed)
   Tells-skip table listed i d within none told k has =
       let x : K = get_or listed i d in
       let more : list_any (same k) (take (i + 1) listed) ≡ (list_any (same k) (take i listed) || same k x) =
@@ -66,7 +66,7 @@ pub chips_apart : (grid : Grid) (a b : Chip) → IsOn grid a → IsOn grid b →
 chips_apart grid a b p q e =
     let same = same_from_place a.x a.y b.x b.y grid.height p.1 q.1 e in same_chip a b same.0 same.1
 
-pub spots_apart : (grid : Grid) (a b : Spot) → IsSpotOn grid a → IsSpotOn grid b → spot_place grid a ≡ spot_place grid b → a ≡ b
+pub spots_apart : (grid : Grid) (a b : Spot) → IsCoreOn grid a → IsCoreOn grid b → core_place grid a ≡ core_place grid b → a ≡ b
 spots_apart grid a b p q e =
     let same = same_from_place (chip_place grid a.chip) a.core (chip_place grid b.chip) b.core 18 p.1 q.1 e in
     same_spot a b (chips_apart grid a.chip b.chip p.0 q.0 same.0) same.1
@@ -81,15 +81,15 @@ pub TellsChips-more : (grid : Grid) (table : List Bool) (listed : List Chip) (i 
     TellsChips grid (set table p true) (take (i + 1) listed)
 TellsChips-more grid = Tells-more (IsOn grid) (chip_place grid) chip_eq chip_eq_true chip_eq_same (chips_apart grid)
 
-pub TellsCores-more : (grid : Grid) (table : List Bool) (listed : List Spot) (i p : ℕ) (d : Spot) → i < length listed → p ≡ spot_place grid (get_or listed i d) →
-    IsSpotOn grid (get_or listed i d) → p < length table → TellsCores grid table (take i listed) →
+pub TellsCores-more : (grid : Grid) (table : List Bool) (listed : List Spot) (i p : ℕ) (d : Spot) → i < length listed → p ≡ core_place grid (get_or listed i d) →
+    IsCoreOn grid (get_or listed i d) → p < length table → TellsCores grid table (take i listed) →
     TellsCores grid (set table p true) (take (i + 1) listed)
-TellsCores-more grid = Tells-more (IsSpotOn grid) (spot_place grid) spot_eq spot_eq_true spot_eq_same (spots_apart grid)
+TellsCores-more grid = Tells-more (IsCoreOn grid) (core_place grid) spot_eq spot_eq_true spot_eq_same (spots_apart grid)
 
 pub TellsCores-skip : (grid : Grid) (table : List Bool) (listed : List Spot) (i : ℕ) (d : Spot) → i < length listed →
     18 ≤ (get_or listed i d).core → TellsCores grid table (take i listed) → TellsCores grid table (take (i + 1) listed)
 TellsCores-skip grid table listed i d within high =
-    Tells-skip (IsSpotOn grid) (spot_place grid) spot_eq spot_eq_true spot_eq_same table listed i d within (λ p. absurd (omega (arith, p.1)))
+    Tells-skip (IsCoreOn grid) (core_place grid) spot_eq spot_eq_true spot_eq_same table listed i d within (λ p. absurd (omega (arith, p.1)))
 
 pub TellsLinks-more : (grid : Grid) (table : List Bool) (listed : List Edge) (i p : ℕ) (d : Edge) → i < length listed → p ≡ edge_place grid (get_or listed i d) →
     IsEdgeOn grid (get_or listed i d) → p < length table → TellsLinks grid table (take i listed) →

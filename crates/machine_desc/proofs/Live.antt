@@ -6,8 +6,8 @@ use Rattle.std.proofs.lemmas.List.FromFn.{get_or-map-range_with_len, length-map-
 use Rattle.std.proofs.lemmas.List.Elements.{All-from_get_or, All-weaker}
 use Rattle.std.proofs.lemmas.Nat.{div_below, mod_below, div-add-mod'}
 use Rattle.std.proofs.Math.Bool.{true-and}
-pub use Rattle.list_laws.proofs.Counts.{count_by-map}
-use Rattle.list_laws.proofs.Counts.{count_by-agree}
+pub use Rattle.spin_base.proofs.Counts.{count_by-map}
+use Rattle.spin_base.proofs.Counts.{count_by-agree}
 use Rattle.spin_base.specs.declared.chips.Chip.{Chip}
 use Rattle.spin_base.specs.Equality.{chip_eq}
 use Rattle.machine_desc.specs.Description.{Description}

@@ -17,7 +17,7 @@ described s = record {
 }
 
 -- The tables tell what is listed, and the live chips are counted.
-pub record IsTabled (s : Inside) : Type 0 where
+pub record IsMachineTabled (s : Inside) : Type 0 where
   pub size : HasSize (described s)
   pub chips_long : length s.chip_listed.items ≡ chip_total s.grid
   pub chips_told : TellsChips s.grid s.chip_listed.items s.dead_chips

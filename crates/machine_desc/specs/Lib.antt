@@ -2,7 +2,12 @@ pub use Rattle.spin_base.specs.Links
 pub mod Branch
 pub mod Described
 pub mod Description
+pub mod EdgeOrder
 pub mod Equality
+pub mod Flags
 pub mod Live
 pub mod RoutingTree
 pub mod Tables
+pub mod NetsOn
+pub mod Outputs
+pub mod RightTables

@@ -14,7 +14,7 @@ pub struct Grid {
 }
 
 impl Grid {
-    ghost use Rattle.machine_desc.specs.Tables.{IsOn, IsSpotOn, IsEdgeOn, chip_place, spot_place, edge_place, chip_total, TellsChips, TellsCores, TellsLinks};
+    ghost use Rattle.machine_desc.specs.Tables.{IsOn, IsCoreOn, IsEdgeOn, chip_place, core_place, edge_place, chip_total, TellsChips, TellsCores, TellsLinks};
 
     // The number of chips.
     pub fn chips(self) -> usize
@@ -36,8 +36,8 @@ impl Grid {
 
     // The place of a core in a table with 18 places for each chip.
     pub fn spot_place(self, spot: Spot) -> usize
-        requires { IsSpotOn self spot }
-        ensures place { result ≡ spot_place self spot }
+        requires { IsCoreOn self spot }
+        ensures place { result ≡ core_place self spot }
         ensures below { result < chip_total self * 18 }
     {
         self.chip_place(spot.chip) * CORES as usize + usize::from(spot.core)

@@ -2,9 +2,10 @@
 ghost use Rattle.std.specs.Prelude.{◌≡◌, ◌+◌, ◌*◌, ◌<◌, ◌≤◌, ◌↔◌, Some, IfOk, All, length, not, count_by};
 
 use crate::grids::Grid;
+use crate::parts::MachineParts;
 use crate::steps::Step;
 use crate::trees::Edge;
-use spin_base::{CORES, Chip, Dir, Memory, Seq, Shared, Spot};
+use spin_base::{Chip, Dir, Memory, Seq, Shared, Spot};
 use std::alloc::Global;
 use std::marker::Model;
 
@@ -31,62 +32,47 @@ impl Model for Machine {
 
     ghost Value = { Description };
 
-    ghost use Rattle.machine_desc.specs.Described.{described, IsTabled};
+    ghost use Rattle.machine_desc.specs.Described.{described, IsMachineTabled};
 
     ghost view = { described };
 
-    ghost invariant = { IsTabled };
+    ghost invariant = { IsMachineTabled };
 }
 
 impl Machine {
     ghost use Rattle.machine_desc.specs.Description.{HasSize};
-    ghost use Rattle.machine_desc.specs.Live.{far_of, is_inside, is_listed, is_live_chip, is_live_link, is_usable, is_device_place, is_site, live_count_of, index_of, chip_of, IsInside};
+    ghost use Rattle.machine_desc.specs.Live.{far_of, is_inside, is_listed, is_live_chip, is_live_link, is_usable, live_count_of, index_of, chip_of, IsInside};
     ghost use Rattle.spin_base.specs.Links.{opposite_of};
     ghost use Rattle.spin_base.specs.declared.chips.Chip.{Chip};
     ghost use Rattle.spin_base.specs.declared.chips.Dir.{Dir};
 
-    /// The machine with a grid of `width` by `height` chips, closed to a torus where `wrap`, of which each has `sdram`
-    /// bytes of shared memory, and with these dead parts. Parts may be listed more than once; a listed link is dead from
-    /// both ends; listed cores above 17 and links that lead nowhere change nothing.
-    pub fn new(
-        alloc: Global,
-        width: u8,
-        height: u8,
-        wrap: bool,
-        sdram: u32,
-        dead_chips: &Seq<Chip>,
-        dead_cores: &Seq<Spot>,
-        dead_links: &Seq<Edge>,
-    ) -> Result<Machine, Memory>
-        requires width_from_one { 1 ≤ width }
-        requires width_to_64 { width ≤ 64 }
-        requires height_from_one { 1 ≤ height }
-        requires height_to_64 { height ≤ 64 }
-        requires chips_inside { All (λ c. (c.x < width) × (c.y < height)) dead_chips.now }
-        requires cores_inside { All (λ s. (s.chip.x < width) × (s.chip.y < height)) dead_cores.now }
-        requires links_inside { All (λ e. (e.chip.x < width) × (e.chip.y < height)) dead_links.now }
+    /// The machine of these parts.
+    pub fn new(alloc: Global, parts: MachineParts) -> Result<Machine, Memory>
         ensures { IfOk result (λ m. m ≡ record {
-          width = width;
-          height = height;
-          wrap = wrap;
-          sdram = sdram;
-          dead_chips = dead_chips.now;
-          dead_cores = dead_cores.now;
-          dead_links = dead_links.now;
+          width = parts.width;
+          height = parts.height;
+          wrap = parts.wrap;
+          sdram = parts.sdram;
+          dead_chips = parts.dead_chips;
+          dead_cores = parts.dead_cores;
+          dead_links = parts.dead_links;
         }) }
     {
-        let grid = Grid { width, height };
-        let chip_listed = grid.chip_table(alloc, dead_chips.as_slice())?;
-        let core_listed = grid.core_table(alloc, dead_cores.as_slice())?;
-        let link_listed = grid.link_table(alloc, dead_links.as_slice())?;
+        let grid = Grid {
+            width: parts.width,
+            height: parts.height,
+        };
+        let chip_listed = grid.chip_table(alloc, parts.dead_chips.as_slice())?;
+        let core_listed = grid.core_table(alloc, parts.dead_cores.as_slice())?;
+        let link_listed = grid.link_table(alloc, parts.dead_links.as_slice())?;
         let live_count = clear_count(&chip_listed);
         Ok(Machine {
             grid,
-            wrap,
-            sdram,
-            dead_chips: Seq::from_vec(Vec::from_slice(alloc, dead_chips.as_slice())?),
-            dead_cores: Seq::from_vec(Vec::from_slice(alloc, dead_cores.as_slice())?),
-            dead_links: Seq::from_vec(Vec::from_slice(alloc, dead_links.as_slice())?),
+            wrap: parts.wrap,
+            sdram: parts.sdram,
+            dead_chips: parts.dead_chips,
+            dead_cores: parts.dead_cores,
+            dead_links: parts.dead_links,
             chip_listed,
             core_listed,
             link_listed,
@@ -238,27 +224,6 @@ impl Machine {
             && s.core >= 1
             && s.core <= 17
             && !self.core_listed[self.grid.spot_place(s)]
-    }
-
-    /// Whether a vertex can stand on the spot: a usable core, or the place of a device, which has the number 18 + d on a
-    /// live chip whose link d is not live.
-    pub fn site(&self, s: Spot) -> bool
-        ensures { result ≡ is_site self.now s }
-    {
-        self.usable(s) || self.is_device_place(s)
-    }
-
-    // Whether the spot is the place of a device.
-    fn is_device_place(&self, s: Spot) -> bool
-        ensures { result ≡ is_device_place self.now s }
-    {
-        if s.core < CORES {
-            return false;
-        }
-        match Dir::from_number(s.core - CORES) {
-            None => false,
-            Some(d) => self.live(s.chip) && !self.link_live(s.chip, d),
-        }
     }
 
     /// Each link leads there and back: for chips `c` and `e` inside the grid, link `d` of `c` leads to `e` exactly where

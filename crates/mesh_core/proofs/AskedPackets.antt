@@ -3,8 +3,8 @@ use Rattle.std.proofs.Common.{◌≡◌, ℕ, List, Option, Some, None, refl, ap
 use Rattle.std.specs.List.{slice_get, Contains}
 use Rattle.std.proofs.lemmas.Option.{get_or_from_slice_get, slice_get_within, same_Some, none-some}
 use Rattle.spin_base.specs.declared.copies.Packet.{Packet}
-use Rattle.net_tables.specs.declared.nets.NetPlan.{NetPlan}
-use Rattle.net_tables.specs.RightTables.{IsKeyOf}
+use Rattle.machine_desc.specs.declared.nets.NetPlan.{NetPlan}
+use Rattle.machine_desc.specs.RightTables.{IsKeyOf}
 use Rattle.mesh_core.specs.Ledger.{Asked}
 use Rattle.mesh_core.specs.Opened.{label_in, asked_in, asked_at, asked_by, AreOfNets}
 

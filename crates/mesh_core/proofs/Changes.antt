@@ -1,9 +1,9 @@
 -- What every mesh has stays when one list changes, and when a mesh is made.
-use Rattle.std.proofs.Common.{◌≡◌, ◌≢◌, ℕ, ◌*◌, ◌<◌, ◌≤◌, sym, ap, ◌∙◌, arith, false, List, [], length, set, replicate, Option, Some, None, inl, inr, lit<}
+use Rattle.std.proofs.Common.{◌≡◌, ◌≢◌, ℕ, ◌*◌, ◌^◌, ◌<◌, ◌≤◌, sym, ap, ◌∙◌, arith, true, false, List, [], length, set, replicate, Option, Some, None, inl, inr, lit<}
 use Rattle.std.specs.Prelude.{AllPairs, IfSome}
 use Rattle.std.specs.List.{All, slice_get}
 use Rattle.std.proofs.lemmas.List.{length-set, length-replicate, get_or-replicate}
-use Rattle.std.proofs.lemmas.List.Elements.{All-set, All-replicate}
+use Rattle.std.proofs.lemmas.List.Elements.{All-nil, All-set, All-replicate}
 use Rattle.std.proofs.lemmas.Option.{slice_get-get_or}
 use Rattle.std.proofs.lemmas.Bool.{cases_eq}
 use Rattle.spin_base.specs.declared.chips.Chip.{Chip}
@@ -16,11 +16,11 @@ use Rattle.spin_base.specs.declared.copies.DumpRec.{DumpRec}
 use Rattle.spin_base.specs.Links.{port_number}
 use Rattle.spin_base.proofs.Outputs.{dir_number_below}
 use Rattle.machine_desc.specs.Description.{Description, HasSize}
-use Rattle.machine_desc.specs.Live.{is_live_chip, is_live_link, IsInside, IsSite}
-use Rattle.machine_desc.proofs.Far.{index_below}
-use Rattle.mesh_core.specs.State.{Setup, State, Hand, IsMesh, queue_at}
+use Rattle.machine_desc.specs.Live.{index_of, is_live_chip, is_live_link, IsInside, IsSite}
+use Rattle.machine_desc.proofs.Far.{index_below, live_inside, same_index}
+use Rattle.mesh_core.specs.State.{Setup, State, Hand, FitsQueue, FitsHand, IsMesh, queue_at}
 use Rattle.mesh_core.specs.Opened.{empty_mesh}
-use Rattle.list_laws.proofs.Places.{slice_get-set_same, slice_get-set_other}
+use Rattle.spin_base.proofs.Places.{slice_get-set_same, slice_get-set_other}
 
 -- what a port's number is below
 pub port_below : (port : Port) → port_number port < 7
@@ -30,14 +30,19 @@ port_below Local = lit< tt
 pub queue_at-below : (m : Description) (c : Chip) (port : Port) → IsInside m c → queue_at m c port < 7 * (m.width * m.height)
 queue_at-below m c port inside = omega (arith, index_below m c inside, port_below port)
 
+-- no copy fits into each queue
+pub none_fits : (capacity : ℕ) → FitsQueue capacity []
+none_fits capacity = record { within = omega arith; hops = All-nil (λ (k : McCopy). k.hop < 2 ^ 32) }
+
 -- other lists of copies, hands and records, as long as they were and of the same kind
 IsMesh-lists : (s : State) → IsMesh s →
     (unsent : List (List McCopy)) → length unsent ≡ length s.setup.spots → All (λ q. All (λ k. k.hop ≡ 0) q) unsent →
-    (hands : List (Option Hand)) → length hands ≡ s.setup.machine.width * s.setup.machine.height → All (λ hand. IfSome hand (λ h. h.outs ≢ [])) hands →
-    (cores : List (List McCopy)) → length cores ≡ length s.setup.spots → All (λ q. length q ≤ s.setup.capacity) cores →
+    (hands : List (Option Hand)) → length hands ≡ s.setup.machine.width * s.setup.machine.height → All (λ hand. IfSome hand FitsHand) hands →
+    ((c : Chip) → is_live_chip s.setup.machine c ≡ false → IsInside s.setup.machine c → slice_get hands (index_of s.setup.machine c) ≡ Some None) →
+    (cores : List (List McCopy)) → length cores ≡ length s.setup.spots → All (FitsQueue s.setup.capacity) cores →
     (delivered : List Delivery) (dumped : List DumpRec) →
     IsMesh (record s { unsent = unsent; hands = hands; cores = cores; delivered = delivered; dumped = dumped })
-IsMesh-lists s h unsent unsent_long at_start hands hands_long some cores cores_long within delivered dumped = record {
+IsMesh-lists s h unsent unsent_long at_start hands hands_long some none_dead cores cores_long within delivered dumped = record {
   size = h.size;
   different = h.different;
   sites = h.sites;
@@ -50,39 +55,49 @@ IsMesh-lists s h unsent unsent_long at_start hands hands_long some cores cores_l
   inputs_within = h.inputs_within;
   cores_within = within;
   unsent_at_start = at_start;
-  hands_with_outputs = some;
+  hands_fit = some;
   none_at_dead_ports = h.none_at_dead_ports;
   none_on_dead_chips = h.none_on_dead_chips;
+  no_hand_on_dead_chips = none_dead;
 }
 
 -- a list of unsent copies that have passed no router
 pub IsMesh-unsent : (s : State) (i : ℕ) (q : List McCopy) → IsMesh s → All (λ k. k.hop ≡ 0) q → IsMesh (record s { unsent = set s.unsent i q })
 IsMesh-unsent s i q h start =
     IsMesh-lists s h (set s.unsent i q) (length-set s.unsent i q ∙ h.unsent_lists) (All-set (λ l. All (λ k. k.hop ≡ 0) l) s.unsent i q start h.unsent_at_start)
-    s.hands h.hand_list h.hands_with_outputs s.cores h.core_lists h.cores_within s.delivered s.dumped
+    s.hands h.hand_list h.hands_fit h.no_hand_on_dead_chips s.cores h.core_lists h.cores_within s.delivered s.dumped
 
--- a core's queue that isn't too long
-pub IsMesh-cores : (s : State) (i : ℕ) (q : List McCopy) → IsMesh s → length q ≤ s.setup.capacity → IsMesh (record s { cores = set s.cores i q })
-IsMesh-cores s i q h short =
-    IsMesh-lists s h s.unsent h.unsent_lists h.unsent_at_start s.hands h.hand_list h.hands_with_outputs
-    (set s.cores i q) (length-set s.cores i q ∙ h.core_lists) (All-set (λ l. length l ≤ s.setup.capacity) s.cores i q short h.cores_within) s.delivered s.dumped
+-- a core's queue that its copies fit into
+pub IsMesh-cores : (s : State) (i : ℕ) (q : List McCopy) → IsMesh s → FitsQueue s.setup.capacity q → IsMesh (record s { cores = set s.cores i q })
+IsMesh-cores s i q h fits =
+    IsMesh-lists s h s.unsent h.unsent_lists h.unsent_at_start s.hands h.hand_list h.hands_fit h.no_hand_on_dead_chips
+    (set s.cores i q) (length-set s.cores i q ∙ h.core_lists) (All-set (FitsQueue s.setup.capacity) s.cores i q fits h.cores_within) s.delivered s.dumped
 
--- a hand that isn't without outputs
-pub IsMesh-hands : (s : State) (i : ℕ) (hand : Option Hand) → IsMesh s → IfSome hand (λ held. held.outs ≢ []) → IsMesh (record s { hands = set s.hands i hand })
-IsMesh-hands s i hand h some =
+-- a live chip is no dead one
+two_chips : (m : Description) (c e : Chip) → is_live_chip m c ≡ true → is_live_chip m e ≡ false → e ≡ c → ⊥
+two_chips m c e live dead same = let lives : is_live_chip m e ≡ true = ap (is_live_chip m) same ∙ live in cc
+
+-- what the router of a live chip may hold in hand
+pub IsMesh-hands : (s : State) (c : Chip) (hand : Option Hand) → IsMesh s → is_live_chip s.setup.machine c ≡ true → IfSome hand FitsHand →
+    IsMesh (record s { hands = set s.hands (index_of s.setup.machine c) hand })
+IsMesh-hands s c hand h live some =
+    let i : ℕ = index_of s.setup.machine c in
     IsMesh-lists s h s.unsent h.unsent_lists h.unsent_at_start
-    (set s.hands i hand) (length-set s.hands i hand ∙ h.hand_list) (All-set (λ x. IfSome x (λ held. held.outs ≢ [])) s.hands i hand some h.hands_with_outputs)
+    (set s.hands i hand) (length-set s.hands i hand ∙ h.hand_list) (All-set (λ x. IfSome x FitsHand) s.hands i hand some h.hands_fit)
+    (λ e dead inside.
+    slice_get-set_other s.hands i (index_of s.setup.machine e) hand (λ same. two_chips s.setup.machine c e live dead (same_index s.setup.machine e c inside (live_inside s.setup.machine c live) same))
+    ∙ h.no_hand_on_dead_chips e dead inside)
     s.cores h.core_lists h.cores_within s.delivered s.dumped
 
 -- whatever was delivered
 pub IsMesh-delivered : (s : State) (d : List Delivery) → IsMesh s → IsMesh (record s { delivered = d })
 IsMesh-delivered s d h =
-    IsMesh-lists s h s.unsent h.unsent_lists h.unsent_at_start s.hands h.hand_list h.hands_with_outputs s.cores h.core_lists h.cores_within d s.dumped
+    IsMesh-lists s h s.unsent h.unsent_lists h.unsent_at_start s.hands h.hand_list h.hands_fit h.no_hand_on_dead_chips s.cores h.core_lists h.cores_within d s.dumped
 
 -- whatever was dumped
 pub IsMesh-dumped : (s : State) (d : List DumpRec) → IsMesh s → IsMesh (record s { dumped = d })
 IsMesh-dumped s d h =
-    IsMesh-lists s h s.unsent h.unsent_lists h.unsent_at_start s.hands h.hand_list h.hands_with_outputs s.cores h.core_lists h.cores_within s.delivered d
+    IsMesh-lists s h s.unsent h.unsent_lists h.unsent_at_start s.hands h.hand_list h.hands_fit h.no_hand_on_dead_chips s.cores h.core_lists h.cores_within s.delivered d
 
 -- an input queue is empty where no copy may wait
 still_empty : (inputs : List (List McCopy)) (i j : ℕ) (q : List McCopy) → (j ≡ i → q ≡ []) → slice_get inputs j ≡ Some [] → slice_get (set inputs i q) j ≡ Some []
@@ -91,12 +106,12 @@ still_empty inputs i j q empty before = elim (cases_eq j i) [
   | inr other ↦ slice_get-set_other inputs i j q other ∙ before
 ]
 
--- an input queue that isn't too long, and is empty where no copy may wait
-pub IsMesh-inputs : (s : State) (i : ℕ) (q : List McCopy) → IsMesh s → length q ≤ s.setup.capacity →
+-- an input queue that its copies fit into, and which is empty where no copy may wait
+pub IsMesh-inputs : (s : State) (i : ℕ) (q : List McCopy) → IsMesh s → FitsQueue s.setup.capacity q →
     ((c : Chip) (d : Dir) → is_live_link s.setup.machine c d ≡ false → IsInside s.setup.machine c → queue_at s.setup.machine c (ByLink d) ≡ i → q ≡ []) →
     ((c : Chip) → is_live_chip s.setup.machine c ≡ false → IsInside s.setup.machine c → queue_at s.setup.machine c Local ≡ i → q ≡ []) →
     IsMesh (record s { inputs = set s.inputs i q })
-IsMesh-inputs s i q h short ports chips = record {
+IsMesh-inputs s i q h fits ports chips = record {
   size = h.size;
   different = h.different;
   sites = h.sites;
@@ -106,17 +121,22 @@ IsMesh-inputs s i q h short ports chips = record {
   hand_list = h.hand_list;
   core_lists = h.core_lists;
   table_list = h.table_list;
-  inputs_within = All-set (λ l. length l ≤ s.setup.capacity) s.inputs i q short h.inputs_within;
+  inputs_within = All-set (FitsQueue s.setup.capacity) s.inputs i q fits h.inputs_within;
   cores_within = h.cores_within;
   unsent_at_start = h.unsent_at_start;
-  hands_with_outputs = h.hands_with_outputs;
+  hands_fit = h.hands_fit;
   none_at_dead_ports = λ c d dead inside. still_empty s.inputs i (queue_at s.setup.machine c (ByLink d)) q (ports c d dead inside) (h.none_at_dead_ports c d dead inside);
   none_on_dead_chips = λ c dead inside. still_empty s.inputs i (queue_at s.setup.machine c Local) q (chips c dead inside) (h.none_on_dead_chips c dead inside);
+  no_hand_on_dead_chips = h.no_hand_on_dead_chips;
 }
 
 empty_at : (n i : ℕ) → i < n → slice_get (replicate {A = List McCopy} n []) i ≡ Some []
 empty_at n i below =
     slice_get-get_or (replicate n []) i [] (rw (length-replicate {A = List McCopy} n []) below) ∙ ap Some (get_or-replicate n i [] [] below)
+
+no_hand_at : (n i : ℕ) → i < n → slice_get (replicate {A = Option Hand} n None) i ≡ Some None
+no_hand_at n i below =
+    slice_get-get_or (replicate n None) i None (rw (length-replicate {A = Option Hand} n None) below) ∙ ap Some (get_or-replicate n i None None below)
 
 -- a mesh without a copy
 pub IsMesh-empty : (u : Setup) → HasSize u.machine → AllPairs (λ a b. a ≢ b) u.spots → All (IsSite u.machine) u.spots → 1 ≤ u.capacity →
@@ -133,12 +153,13 @@ IsMesh-empty u size different sites room long =
       hand_list = length-replicate {A = Option Hand} chips None;
       core_lists = length-replicate {A = List McCopy} (length u.spots) [];
       table_list = long;
-      inputs_within = All-replicate (λ (l : List McCopy). length l ≤ u.capacity) (7 * chips) [] (omega arith);
-      cores_within = All-replicate (λ (l : List McCopy). length l ≤ u.capacity) (length u.spots) [] (omega arith);
+      inputs_within = All-replicate (FitsQueue u.capacity) (7 * chips) [] (none_fits u.capacity);
+      cores_within = All-replicate (FitsQueue u.capacity) (length u.spots) [] (none_fits u.capacity);
       unsent_at_start = All-replicate (λ (l : List McCopy). All (λ k. k.hop ≡ 0) l) (length u.spots) [] (λ k d below. absurd (omega arith));
-      hands_with_outputs = All-replicate (λ (x : Option Hand). IfSome x (λ held. held.outs ≢ [])) chips None tt;
+      hands_fit = All-replicate (λ (x : Option Hand). IfSome x FitsHand) chips None tt;
       none_at_dead_ports = λ c d dead inside. empty_at (7 * chips) (queue_at u.machine c (ByLink d)) (queue_at-below u.machine c (ByLink d) inside);
       none_on_dead_chips = λ c dead inside. empty_at (7 * chips) (queue_at u.machine c Local) (queue_at-below u.machine c Local inside);
+      no_hand_on_dead_chips = λ c dead inside. no_hand_at chips (index_of u.machine c) (index_below u.machine c inside);
     }
 
 -- a mesh of lists that have no copy

@@ -5,10 +5,10 @@ use Rattle.std.specs.List.{slice_get, Contains}
 use Rattle.std.proofs.lemmas.List.Elements.{All-contains}
 use Rattle.std.proofs.lemmas.Bool.{and_parts, eqb-true, eq-eqb, and_from}
 use Rattle.std.proofs.lemmas.Option.{slice_get_within}
-use Rattle.list_laws.proofs.Counts.{count_by-map}
-use Rattle.list_laws.proofs.Members.{Among, among_contains, contains_among, map_among}
-use Rattle.list_laws.proofs.Gathering.{gathered_of_none}
-use Rattle.list_laws.proofs.Places.{slice_get_there}
+use Rattle.spin_base.proofs.Counts.{count_by-map}
+use Rattle.spin_base.proofs.Members.{Among, among_contains, contains_among, map_among}
+use Rattle.spin_base.proofs.Gathering.{gathered_of_none}
+use Rattle.spin_base.proofs.Places.{slice_get_there}
 use Rattle.spin_base.specs.declared.chips.Spot.{Spot}
 use Rattle.spin_base.specs.declared.copies.McCopy.{McCopy}
 use Rattle.spin_base.specs.declared.copies.Delivery.{Delivery}
@@ -17,12 +17,12 @@ use Rattle.machine_desc.specs.Live.{chip_of}
 use Rattle.machine_desc.specs.RoutingTree.{IsRoutingTree}
 use Rattle.machine_desc.specs.Branch.{Exit, IsBranch}
 use Rattle.machine_desc.proofs.Branches.{same_place, exit_leads, ExitLeads}
-use Rattle.net_tables.specs.declared.nets.NetPlan.{NetPlan}
-use Rattle.net_tables.specs.RightTables.{IsKeyOf}
-use Rattle.net_tables.specs.NetsOn.{IsWayOn}
+use Rattle.machine_desc.specs.declared.nets.NetPlan.{NetPlan}
+use Rattle.machine_desc.specs.RightTables.{IsKeyOf}
+use Rattle.machine_desc.specs.NetsOn.{IsWayOn}
 use Rattle.mesh_core.specs.State.{State}
 use Rattle.mesh_core.specs.Trail.{Mark, unsent, in_queue, at_core, delivered, is_packet_on_trail}
-use Rattle.mesh_core.specs.Ledger.{marks_of, marked, hand_marks, port_of, delivered_marks, Label, Asked, label_of}
+use Rattle.mesh_core.specs.Ledger.{marks_of, marks_at, hand_marks, port_of, delivered_marks, Label, Asked, label_of}
 use Rattle.mesh_core.specs.Opened.{label_in, asked_by, MeetsJobLedger}
 use Rattle.mesh_core.specs.Expected.{IsAskedFor, AreAsExpected, IsAtRest}
 use Rattle.mesh_core.proofs.AskedPackets.{asks, asked_parts, asked_from, net_in_list, key_of_net}
@@ -40,10 +40,10 @@ module _ (s : State) (nets : List NetPlan) (packets : List Packet) (job : MeetsJ
   -- the only marks are those of deliveries
   only_deliveries : marks_of s ≡ delivered_marks s
   only_deliveries =
-      let sent = gathered_of_none (λ v (q : List McCopy). marked (unsent v) q) [] (λ j. refl) 0 s.unsent rest.all_sent in
-      let inputs = gathered_of_none (λ i (q : List McCopy). marked (in_queue (chip_of s.setup.machine (i / 7)) (port_of (i % 7))) q) [] (λ j. refl) 0 s.inputs rest.waits.inputs_empty in
+      let sent = gathered_of_none (λ v (q : List McCopy). marks_at (unsent v) q) [] (λ j. refl) 0 s.unsent rest.all_sent in
+      let inputs = gathered_of_none (λ i (q : List McCopy). marks_at (in_queue (chip_of s.setup.machine (i / 7)) (port_of (i % 7))) q) [] (λ j. refl) 0 s.inputs rest.waits.inputs_empty in
       let hands = gathered_of_none (λ i h. hand_marks (chip_of s.setup.machine i) h) None (λ j. refl) 0 s.hands rest.waits.hands_empty in
-      let cores = gathered_of_none (λ v (q : List McCopy). marked (at_core v) q) [] (λ j. refl) 0 s.cores rest.waits.cores_empty in
+      let cores = gathered_of_none (λ v (q : List McCopy). marks_at (at_core v) q) [] (λ j. refl) 0 s.cores rest.waits.cores_empty in
       rw (sent, inputs, hands, cores, no_dump) (append-nil (delivered_marks s))
 
   has_mark : (d : Delivery) → Contains s.delivered d → Contains (marks_of s) (mark_of d)

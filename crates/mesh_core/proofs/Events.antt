@@ -3,7 +3,7 @@ use Rattle.std.proofs.Common.{◌≡◌, ℕ, List, [], ◌∷◌, ◌++◌, map
 use Rattle.std.specs.List.{slice_get, slice_set, slice_index_or, list_any}
 use Rattle.std.proofs.lemmas.Option.{slice_get_within, get_or_from_slice_get}
 use Rattle.std.proofs.lemmas.Bool.{and_parts}
-use Rattle.list_laws.proofs.Exchange.{TakenOut, PutIn, taken_out_after}
+use Rattle.spin_base.proofs.Exchange.{TakenOut, PutIn, taken_out_after}
 use Rattle.spin_base.specs.declared.chips.Chip.{Chip}
 use Rattle.spin_base.specs.declared.chips.Dir.{Dir}
 use Rattle.spin_base.specs.declared.chips.Spot.{Spot}
@@ -17,11 +17,12 @@ use Rattle.spin_base.specs.declared.copies.Event.TheVariants.{Inject, Take, Send
 use Rattle.spin_base.specs.Links.{opposite_of}
 use Rattle.spin_base.specs.Equality.{out_eq}
 use Rattle.spin_base.proofs.Equality.{out_eq_true}
+use Rattle.spin_base.specs.Hops.{onward}
 use Rattle.machine_desc.specs.Live.{far_of, index_of, is_live_chip, is_live_link, IsInside, IsSite}
 use Rattle.machine_desc.proofs.Far.{live_ends, live_inside, far_inside}
 use Rattle.machine_desc.proofs.Sites.{site_parts}
-use Rattle.mesh_core.specs.State.{State, Hand, IsMesh, Queue, input, core, behind, behind_link, core_of, queue_at, vertex_behind}
-use Rattle.mesh_core.specs.Step.{step_of, inject_of, take_of, send_of, dump_of, collect_of, has_room, has_room_behind, push_behind, push_at, in_hand as held_for, without, serves, after_serving, outputs, onward}
+use Rattle.mesh_core.specs.State.{State, Hand, IsMesh, Queue, input, core, behind, behind_link, core_queue_of, queue_at, vertex_behind}
+use Rattle.mesh_core.specs.Step.{step_of, inject_of, take_of, send_of, dump_of, collect_of, has_room, has_room_behind, push_behind, push_at, in_hand as held_for, outs_without, serves, after_serving, outputs}
 use Rattle.mesh_core.specs.Trail.{unsent, in_queue, in_hand, at_core, delivered, dumped, Mark}
 use Rattle.mesh_core.specs.Ledger.{marks_of, hand_marks}
 use Rattle.mesh_core.proofs.Fixed.{push_behind_leaves}
@@ -139,8 +140,8 @@ take_exchange s c port None queue is_free is_queue t e = cc
 -- ---- Send and Dump
 
 without_out_by : (f : Out → Mark) (o p : Out) (os : List Out) (here : Bool) → out_eq o p ≡ here → (here || list_any (out_eq o) os) ≡ true →
-    (list_any (out_eq o) os ≡ true → TakenOut (f o) (map f os) (map f (without o os))) →
-    TakenOut (f o) (f p ∷ map f os) (map f (if here then os else p ∷ without o os))
+    (list_any (out_eq o) os ≡ true → TakenOut (f o) (map f os) (map f (outs_without o os))) →
+    TakenOut (f o) (f p ∷ map f os) (map f (if here then os else p ∷ outs_without o os))
 without_out_by f o p os true same has later = record {
   front = [];
   back = map f os;
@@ -148,10 +149,10 @@ without_out_by f o p os true same has later = record {
   after_is = refl;
 }
 without_out_by f o p os false other has later =
-    taken_out_after (f o) (f p ∷ []) (map f os) (map f (without o os)) (later has)
+    taken_out_after (f o) (f p ∷ []) (map f os) (map f (outs_without o os)) (later has)
 
 -- the mark of an output that is served leaves the hand
-without_out : (f : Out → Mark) (o : Out) (os : List Out) → list_any (out_eq o) os ≡ true → TakenOut (f o) (map f os) (map f (without o os))
+without_out : (f : Out → Mark) (o : Out) (os : List Out) → list_any (out_eq o) os ≡ true → TakenOut (f o) (map f os) (map f (outs_without o os))
 without_out f o [] has = cc
 without_out f o (p ∷ os) has = without_out_by f o p os (out_eq o p) refl has (without_out f o os)
 
@@ -159,9 +160,9 @@ without_out f o (p ∷ os) has = without_out_by f o p os (out_eq o p) refl has (
 hand_serves : (s : State) (c : Chip) (o : Out) (h : Hand) → IsInside s.setup.machine c → slice_get s.hands (index_of s.setup.machine c) ≡ Some (Some h) →
     list_any (out_eq o) h.outs ≡ true → TakenOut (mark h.copy (in_hand c o)) (marks_of s) (marks_of (after_serving s c o h))
 hand_serves s c o h inside is_hand has =
-    hand_out s c inside (Some h) (held_for h.copy h.port (without o h.outs)) (mark h.copy (in_hand c o)) is_hand
+    hand_out s c inside (Some h) (held_for h.copy h.port (outs_without o h.outs)) (mark h.copy (in_hand c o)) is_hand
     (subst (λ (l : List Mark). TakenOut (mark h.copy (in_hand c o)) (hand_marks c (Some h)) l)
-    (sym (hand_marks-held c h.copy h.port (without o h.outs)))
+    (sym (hand_marks-held c h.copy h.port (outs_without o h.outs)))
     (without_out (λ q. mark h.copy (in_hand c q)) o h.outs has))
 
 -- a copy that arrives behind an output, and the mark that comes
@@ -170,7 +171,7 @@ Arrives s k c o to = (come : List Mark) × PutIn come (marks_of s) (marks_of (pu
 
 -- a copy arrives at a vertex
 arrives_at_vertex : (s : State) (c : Chip) (o : Out) (k : McCopy) → ((d : Dir) → o ≡ Link d → is_live_link s.setup.machine c d ≡ false) →
-    (vertex : Option ℕ) → vertex_behind s.setup.spots c o ≡ vertex → has_room_behind s (core_of vertex) ≡ true → Arrives s k c o (core_of vertex)
+    (vertex : Option ℕ) → vertex_behind s.setup.spots c o ≡ vertex → has_room_behind s (core_queue_of vertex) ≡ true → Arrives s k c o (core_queue_of vertex)
 arrives_at_vertex s c o k dead None none room = cc
 arrives_at_vertex s c o k dead (Some v) is_vertex room =
     (mark (onward k) (at_core v) ∷ [], arrives_at_core s v (onward k) room, inr (v, dead, is_vertex, refl))

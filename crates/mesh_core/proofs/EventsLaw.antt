@@ -2,15 +2,16 @@
 -- asked packets and for a job.
 use Rattle.std.proofs.Common.{◌≡◌, ℕ, List, [], ◌∷◌, Bool, true, false, Option, Some, None, refl, sym, ◌∙◌, subst, unwrap_or, if◌then◌else◌}
 use Rattle.std.specs.List.{Contains}
-use Rattle.list_laws.proofs.Exchange.{among_taken_out}
-use Rattle.list_laws.proofs.Members.{among_contains}
+use Rattle.spin_base.proofs.Exchange.{among_taken_out}
+use Rattle.spin_base.proofs.Members.{among_contains}
 use Rattle.spin_base.specs.declared.copies.DumpRec.{DumpRec}
 use Rattle.spin_base.specs.declared.copies.Event.{Event}
 use Rattle.spin_base.specs.declared.copies.Packet.{Packet}
-use Rattle.net_tables.specs.declared.nets.NetPlan.{NetPlan}
-use Rattle.net_tables.specs.RightTables.{AreRight}
+use Rattle.spin_base.specs.Hops.{onward}
+use Rattle.machine_desc.specs.declared.nets.NetPlan.{NetPlan}
+use Rattle.machine_desc.specs.RightTables.{AreRight}
 use Rattle.mesh_core.specs.State.{Setup, State, IsMesh, Queue, input, core, nowhere, behind}
-use Rattle.mesh_core.specs.Step.{step_of, after_event, after_events, has_room_behind, push_behind, onward}
+use Rattle.mesh_core.specs.Step.{step_of, after_event, after_events, has_room_behind, push_behind}
 use Rattle.mesh_core.specs.PutBack.{put_back_of, after_put_back}
 use Rattle.mesh_core.specs.Trail.{Mark, dumped}
 use Rattle.mesh_core.specs.Ledger.{marks_of, Label, Asked, label_of, MeetsLedger, MeetsLedgerFor}
@@ -18,7 +19,7 @@ use Rattle.mesh_core.specs.Opened.{asked_by, MeetsJobLedger}
 use Rattle.mesh_core.proofs.Changes.{IsMesh-dumped}
 use Rattle.mesh_core.proofs.Events.{event_exchange, arrives}
 use Rattle.mesh_core.proofs.Fixed.{push_behind_leaves}
-use Rattle.mesh_core.proofs.Keeping.{IsMesh-step_of, IsMesh-push_behind, may_wait-behind}
+use Rattle.mesh_core.proofs.Keeping.{IsMesh-step_of, IsMesh-push_behind, onward_below, may_wait-behind}
 use Rattle.mesh_core.proofs.LedgerLaw.{Bag, bag_of_event, bag_keeps_ledger, bag_adds_no_packet, bag_keeps_packets, right_before, right_small}
 use Rattle.mesh_core.proofs.Moves.{mark, Exchange, dumped_out}
 
@@ -127,7 +128,7 @@ put_back_by_room s r rest is true room t e =
         move = arrival.2;
         setup = (push_behind_leaves between to (onward r.copy)).0;
       };
-      mesh = λ mesh. IsMesh-push_behind between to (onward r.copy) (IsMesh-dumped s rest mesh) (may_wait-behind s.setup r.chip r.out) still;
+      mesh = λ mesh. IsMesh-push_behind between to (onward r.copy) (IsMesh-dumped s rest mesh) (may_wait-behind s.setup r.chip r.out) still (onward_below r.copy);
     })
 
 pub put_back_is : (s : State) (records : List DumpRec) → s.dumped ≡ records → (t : State) → put_back_of s records ≡ Some t → IsPutBack s t

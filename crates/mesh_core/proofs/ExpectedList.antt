@@ -5,21 +5,21 @@ use Rattle.std.specs.List.Sorted.{IsPermutation}
 use Rattle.std.proofs.lemmas.Bool.{and_parts, and_from, eqb-true, eq-eqb, cases_order}
 use Rattle.std.proofs.lemmas.List.Elements.{All-contains}
 use Rattle.std.proofs.lemmas.List.Sorted.{Contains-permutation, IsPermutation-sym, sum_by-IsPermutation}
-use Rattle.list_laws.proofs.Counts.{count_by-cons}
-use Rattle.list_laws.proofs.Gathering.{among_gathered, gathered_among}
-use Rattle.list_laws.proofs.Members.{Among, among_contains, contains_among, among_map, map_among, any_among, among_any}
-use Rattle.list_laws.proofs.Pairs.{AllPairs-head, AllPairs-tail, AllPairs-apart}
+use Rattle.spin_base.proofs.Counts.{count_by-cons}
+use Rattle.spin_base.proofs.Gathering.{among_gathered, gathered_among}
+use Rattle.spin_base.proofs.Members.{Among, among_contains, contains_among, among_map, map_among, any_among, among_any}
+use Rattle.spin_base.proofs.Pairs.{AllPairs-head, AllPairs-tail, AllPairs-apart}
 use Rattle.spin_base.specs.declared.chips.Spot.{Spot}
 use Rattle.spin_base.specs.declared.copies.McCopy.{McCopy}
 use Rattle.spin_base.specs.declared.copies.Delivery.{Delivery}
 use Rattle.spin_base.specs.declared.copies.Packet.{Packet}
 use Rattle.spin_base.specs.Equality.{spot_eq}
 use Rattle.spin_base.proofs.Equality.{spot_eq_same, spot_eq_true}
-use Rattle.net_tables.specs.declared.nets.NetPlan.{NetPlan}
-use Rattle.net_tables.specs.NetsOn.{AreNetsOn}
+use Rattle.machine_desc.specs.declared.nets.NetPlan.{NetPlan}
+use Rattle.machine_desc.specs.NetsOn.{AreNetsOn}
 use Rattle.mesh_core.specs.State.{State, IsMesh}
 use Rattle.mesh_core.specs.Opened.{first_copy}
-use Rattle.mesh_core.specs.Expected.{IsAskedFor, AreAsExpected, without_hop, delivery_at, deliveries_of, expected_deliveries, IsNotAfter}
+use Rattle.mesh_core.specs.Expected.{IsAskedFor, AreAsExpected, without_hop, delivery_at, deliveries_of, expected_deliveries, IsDeliveryNotAfter}
 use Rattle.mesh_core.proofs.AskedPackets.{net_in_list}
 use Rattle.mesh_core.proofs.Counting.{count_some, counted}
 use Rattle.mesh_core.proofs.Ordered.{Ordered, ordered_gathered, same_ordered}
@@ -57,14 +57,14 @@ bare_alike v w i j net net' p q e f g h = cc
 -- ---- lists in order
 
 -- A list in the order of a report, in which no packet is twice at one vertex, is in strict order.
-strictly : (xs : List Delivery) → AllPairs IsNotAfter xs → ((x : Delivery) → Among x xs → count_by (is_of x.copy.packet x.vertex) xs ≤ 1) →
+strictly : (xs : List Delivery) → AllPairs IsDeliveryNotAfter xs → ((x : Delivery) → Among x xs → count_by (is_of x.copy.packet x.vertex) xs ≤ 1) →
     Ordered ComesBefore (map without_hop xs)
 strictly [] pairs once = tt
 strictly (x ∷ xs) pairs once = (
   λ y there.
       let found = among_map without_hop y xs there in
-      subst (ComesBefore (without_hop x)) (sym found.2) (before found.0 found.1 (All-contains (IsNotAfter x) xs found.0 (AllPairs-head IsNotAfter x xs pairs) (among_contains found.0 xs found.1))),
-  strictly xs (AllPairs-tail IsNotAfter x xs pairs) (λ y a.
+      subst (ComesBefore (without_hop x)) (sym found.2) (before found.0 found.1 (All-contains (IsDeliveryNotAfter x) xs found.0 (AllPairs-head IsDeliveryNotAfter x xs pairs) (among_contains found.0 xs found.1))),
+  strictly xs (AllPairs-tail IsDeliveryNotAfter x xs pairs) (λ y a.
       let all = once y (inr a) in
       let split = count_by-cons (is_of y.copy.packet y.vertex) x xs in
       omega (arith, all, split)),
@@ -79,7 +79,7 @@ strictly (x ∷ xs) pairs once = (
         let some : 1 ≤ count_by test xs = count_some test z xs (is_of_from x.copy.packet x.vertex z (sym e) (sym f)) a in
         omega (arith, all, split, some)
 
-    before : (z : Delivery) → Among z xs → IsNotAfter x z → ComesBefore (without_hop x) (without_hop z)
+    before : (z : Delivery) → Among z xs → IsDeliveryNotAfter x z → ComesBefore (without_hop x) (without_hop z)
     before z a (inl less) = inl less
     before z a (inr (same, le)) = elim (cases_order x.vertex z.vertex) [
       | inl e ↦ absurd (twice z a same e)
@@ -239,7 +239,7 @@ module _ (s : State) (nets : List NetPlan) (packets : List Packet) (mesh : IsMes
       let net : a.net ≡ l.net = (let e = nets_both in cc) in
       (d, found.1, asked_bare d a ∙ (bare_alike d.vertex l.vertex a.number l.number a.net l.net a.packet l.packet vertex number net packet ∙ sym l.is_delivery))
 
-  pub in_order_is_list : (sorted : List Delivery) → IsPermutation s.delivered sorted → AllPairs IsNotAfter sorted → map without_hop sorted ≡ the_list
+  pub in_order_is_list : (sorted : List Delivery) → IsPermutation s.delivered sorted → AllPairs IsDeliveryNotAfter sorted → map without_hop sorted ≡ the_list
   in_order_is_list sorted perm pairs =
       same_ordered ComesBefore one_way_only (map without_hop sorted) the_list (strictly sorted pairs once) (in_order s.setup.spots nets packets)
       (λ y there.

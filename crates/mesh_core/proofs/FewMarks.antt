@@ -8,8 +8,8 @@ use Rattle.std.proofs.lemmas.List.Elements.{All-contains}
 use Rattle.std.proofs.lemmas.Option.{slice_get_within}
 use Rattle.std.proofs.Math.Nat.{mul-le-mul_left}
 use Rattle.std.proofs.lemmas.Bool.{eqb-true, and_from}
-use Rattle.list_laws.proofs.Members.{Among, among_contains, contains_among}
-use Rattle.list_laws.proofs.Places.{slice_get_there}
+use Rattle.spin_base.proofs.Members.{Among, among_contains, contains_among}
+use Rattle.spin_base.proofs.Places.{slice_get_there}
 use Rattle.spin_base.specs.declared.chips.Spot.{Spot}
 use Rattle.spin_base.specs.declared.copies.Delivery.{Delivery}
 use Rattle.spin_base.specs.declared.copies.DumpRec.{DumpRec}
@@ -18,9 +18,9 @@ use Rattle.spin_base.specs.Equality.{spot_eq}
 use Rattle.spin_base.proofs.Equality.{spot_eq_true}
 use Rattle.machine_desc.specs.Branch.{Exit}
 use Rattle.machine_desc.proofs.Branches.{length_le_from_apart}
-use Rattle.net_tables.specs.declared.nets.NetPlan.{NetPlan}
-use Rattle.net_tables.specs.NetsOn.{AreNetsOn, IsWayOn}
-use Rattle.net_tables.specs.RightTables.{IsKeyOf}
+use Rattle.machine_desc.specs.declared.nets.NetPlan.{NetPlan}
+use Rattle.machine_desc.specs.NetsOn.{AreNetsOn, IsWayOn}
+use Rattle.machine_desc.specs.RightTables.{IsKeyOf}
 use Rattle.mesh_core.specs.State.{State}
 use Rattle.mesh_core.specs.Trail.{Mark, delivered, dumped, is_on_trail, is_packet_on_trail}
 use Rattle.mesh_core.specs.Ledger.{marks_of, unsent_marks, input_marks, all_hand_marks, core_marks, delivered_marks, dumped_marks, Asked, label_of}

@@ -9,9 +9,10 @@ use Rattle.spin_base.specs.declared.routes.Route.{Route}
 use Rattle.spin_base.specs.declared.copies.McCopy.{McCopy}
 use Rattle.spin_base.specs.Lookup.{lookup}
 use Rattle.spin_base.specs.Outputs.{has, outs_of, all_outs, link_outs, core_outs}
-use Rattle.net_tables.specs.RightTables.{table_at}
+use Rattle.spin_base.specs.Hops.{last_hop}
+use Rattle.machine_desc.specs.RightTables.{table_at}
 use Rattle.mesh_core.specs.State.{State}
-use Rattle.mesh_core.specs.Step.{last_hop, outputs}
+use Rattle.mesh_core.specs.Step.{outputs}
 use Rattle.mesh_core.specs.Trail.{Station, unsent, in_queue, in_hand, at_core, delivered, dumped, Mark}
 use Rattle.mesh_core.proofs.Moves.{mark, IsMove, IsMoveOf, Crosses}
 

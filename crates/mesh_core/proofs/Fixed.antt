@@ -12,10 +12,11 @@ use Rattle.spin_base.specs.declared.copies.Delivery.{Delivery}
 use Rattle.spin_base.specs.declared.copies.DumpRec.{DumpRec}
 use Rattle.spin_base.specs.declared.copies.Event.{Event}
 use Rattle.spin_base.specs.declared.copies.Event.TheVariants.{Inject, Take, Send, Dump, Collect}
+use Rattle.spin_base.specs.Hops.{onward}
 use Rattle.machine_desc.specs.Live.{index_of}
 use Rattle.mesh_core.specs.HasRun.{DropsNone}
 use Rattle.mesh_core.specs.State.{State, Hand, Queue, input, core, nowhere, behind, queue_at}
-use Rattle.mesh_core.specs.Step.{onward, has_room_behind, serves, after_serving, push_behind, inject_of, take_of, send_of, dump_of, collect_of, after_event, after_events}
+use Rattle.mesh_core.specs.Step.{has_room_behind, serves, after_serving, push_behind, inject_of, take_of, send_of, dump_of, collect_of, after_event, after_events}
 
 -- a copy that comes into a queue leaves the setup, the unsent copies and the dump records
 pub push_behind_leaves : (s : State) (b : Queue) (k : McCopy) →

@@ -5,26 +5,26 @@ use Rattle.std.specs.List.{position_from}
 use Rattle.std.proofs.lemmas.Iterator.Adapters.{position_from-zero}
 use Rattle.spin_base.specs.Equality.{out_eq}
 use Rattle.spin_base.specs.declared.routes.Out.{Out}
-use Rattle.mesh_core.specs.Step.{without}
+use Rattle.mesh_core.specs.Step.{outs_without}
 
 -- the place of an output, as it is found, and what is left without it
 abbrev IsFound : Out → List Out → ℕ → ℕ → Type 0
-IsFound o os n i = (j : ℕ) × (i ≡ n + j) × (j < length os) × (without o os ≡ remove os j)
+IsFound o os n i = (j : ℕ) × (i ≡ n + j) × (j < length os) × (outs_without o os ≡ remove os j)
 
 found_step : (o x : Out) (os : List Out) (n i : ℕ) → (position_from (out_eq o) (n + 1) os ≡ Some i → IsFound o os (n + 1) i) →
     (b : Bool) → out_eq o x ≡ b → cond b (Some n) (position_from (out_eq o) (n + 1) os) ≡ Some i → IsFound o (x ∷ os) n i
 found_step o x os n i later true here e =
     let is : n ≡ i = cc in
-    (0, omega arith, omega arith, ap (λ b. if b then os else x ∷ without o os) here)
+    (0, omega arith, omega arith, ap (λ b. if b then os else x ∷ outs_without o os) here)
 found_step o x os n i later false here e =
     let there = later e in
-    (suc there.0, omega (arith, there.1), omega (arith, there.2), ap (λ b. if b then os else x ∷ without o os) here ∙ ap (λ l. x ∷ l) there.3)
+    (suc there.0, omega (arith, there.1), omega (arith, there.2), ap (λ b. if b then os else x ∷ outs_without o os) here ∙ ap (λ l. x ∷ l) there.3)
 
 found_from : (o : Out) (os : List Out) (n i : ℕ) → position_from (out_eq o) n os ≡ Some i → IsFound o os n i
 found_from o [] n i e = cc
 found_from o (x ∷ os) n i e = found_step o x os n i (found_from o os (n + 1) i) (out_eq o x) refl e
 
-at_zero : (o : Out) (os : List Out) (i : ℕ) → IsFound o os 0 i → (i < length os) × (without o os ≡ remove os i)
+at_zero : (o : Out) (os : List Out) (i : ℕ) → IsFound o os 0 i → (i < length os) × (outs_without o os ≡ remove os i)
 at_zero o os i found =
     let same : found.0 ≡ i = omega (arith, found.1) in
     (omega (arith, found.1, found.2), found.3 ∙ ap (λ j. remove os j) same)
@@ -32,20 +32,20 @@ at_zero o os i found =
 pub found-below : (o : Out) (os : List Out) (i : ℕ) → position (out_eq o) os ≡ Some i → i < length os
 found-below o os i e = (at_zero o os i (found_from o os 0 i (sym (position_from-zero (out_eq o) os) ∙ e))).0
 
-pub without-found : (o : Out) (os : List Out) (i : ℕ) → position (out_eq o) os ≡ Some i → without o os ≡ remove os i
+pub without-found : (o : Out) (os : List Out) (i : ℕ) → position (out_eq o) os ≡ Some i → outs_without o os ≡ remove os i
 without-found o os i e = (at_zero o os i (found_from o os 0 i (sym (position_from-zero (out_eq o) os) ∙ e))).1
 
-none_step : (o x : Out) (os : List Out) (n : ℕ) → (position_from (out_eq o) (n + 1) os ≡ None → without o os ≡ os) →
-    (b : Bool) → out_eq o x ≡ b → cond b (Some n) (position_from (out_eq o) (n + 1) os) ≡ None → without o (x ∷ os) ≡ x ∷ os
+none_step : (o x : Out) (os : List Out) (n : ℕ) → (position_from (out_eq o) (n + 1) os ≡ None → outs_without o os ≡ os) →
+    (b : Bool) → out_eq o x ≡ b → cond b (Some n) (position_from (out_eq o) (n + 1) os) ≡ None → outs_without o (x ∷ os) ≡ x ∷ os
 none_step o x os n later true here e = cc
 none_step o x os n later false here e =
-    ap (λ b. if b then os else x ∷ without o os) here ∙ ap (λ l. x ∷ l) (later e)
+    ap (λ b. if b then os else x ∷ outs_without o os) here ∙ ap (λ l. x ∷ l) (later e)
 
-none_from : (o : Out) (os : List Out) (n : ℕ) → position_from (out_eq o) n os ≡ None → without o os ≡ os
+none_from : (o : Out) (os : List Out) (n : ℕ) → position_from (out_eq o) n os ≡ None → outs_without o os ≡ os
 none_from o [] n e = refl
 none_from o (x ∷ os) n e = none_step o x os n (none_from o os (n + 1)) (out_eq o x) refl e
 
-pub without-none : (o : Out) (os : List Out) → position (out_eq o) os ≡ None → without o os ≡ os
+pub without-none : (o : Out) (os : List Out) → position (out_eq o) os ≡ None → outs_without o os ≡ os
 without-none o os e = none_from o os 0 (sym (position_from-zero (out_eq o) os) ∙ e)
 
 pub ruleset left_outputs = (found-below, without-found, without-none)

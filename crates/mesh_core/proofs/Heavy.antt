@@ -2,7 +2,7 @@
 use Rattle.std.proofs.Common.{ℕ, zero, suc, ◌*◌, ◌≤◌, refl, arith, inl, inr, List, [], ◌∷◌, length}
 use Rattle.std.specs.List.{sum_by}
 use Rattle.std.proofs.lemmas.List.Sums.{sum_by-cons}
-use Rattle.list_laws.proofs.Members.{Among}
+use Rattle.spin_base.proofs.Members.{Among}
 use Rattle.mesh_core.specs.Trail.{Mark}
 use Rattle.mesh_core.specs.Heavy.{heavy}
 

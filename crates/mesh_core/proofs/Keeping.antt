@@ -1,11 +1,11 @@
 -- Whatever happens, a mesh keeps what every mesh has.
-use Rattle.std.proofs.Common.{◌≡◌, ◌≢◌, ℕ, ◌<◌, ◌≤◌, refl, sym, ap, ◌∙◌, subst, arith, Bool, true, false, not, ◌&&◌, if◌then◌else◌, List, [], ◌∷◌, ◌++◌, length, set, Option, Some, None}
+use Rattle.std.proofs.Common.{◌≡◌, ◌≢◌, ℕ, ◌+◌, ◌==◌, ◌^◌, ◌<◌, ◌≤◌, refl, sym, ap, ◌∙◌, subst, arith, Bool, true, false, not, ◌&&◌, if◌then◌else◌, List, [], ◌∷◌, ◌++◌, length, set, Option, Some, None}
 use Rattle.std.specs.Prelude.{IfSome}
-use Rattle.std.specs.List.{All, slice_get}
+use Rattle.std.specs.List.{All, slice_get, list_any}
 use Rattle.std.proofs.lemmas.List.{length_push}
-use Rattle.std.proofs.lemmas.List.Elements.{All-tail}
-use Rattle.list_laws.proofs.Places.{All-at}
-use Rattle.std.proofs.lemmas.Bool.{and_parts, ltb-true}
+use Rattle.std.proofs.lemmas.List.Elements.{All-head, All-tail, All-push}
+use Rattle.spin_base.proofs.Places.{All-at}
+use Rattle.std.proofs.lemmas.Bool.{and_parts, ltb-true, eqb-false}
 use Rattle.spin_base.specs.declared.chips.Chip.{Chip}
 use Rattle.spin_base.specs.declared.chips.Spot.{Spot}
 use Rattle.spin_base.specs.declared.chips.Dir.{Dir}
@@ -16,14 +16,19 @@ use Rattle.spin_base.specs.declared.routes.Out.TheVariants.{Link, Core}
 use Rattle.spin_base.specs.declared.copies.McCopy.{McCopy}
 use Rattle.spin_base.specs.declared.copies.Event.{Event}
 use Rattle.spin_base.specs.declared.copies.Event.TheVariants.{Inject, Take, Send, Dump, Collect}
+use Rattle.spin_base.specs.Equality.{out_eq}
+use Rattle.spin_base.specs.Lookup.{lookup}
+use Rattle.spin_base.specs.Outputs.{outs_of}
 use Rattle.spin_base.specs.Links.{opposite_of, port_number}
 use Rattle.spin_base.proofs.Equality.{port_number_injective}
+use Rattle.spin_base.specs.Hops.{last_hop, onward}
 use Rattle.machine_desc.specs.Description.{Description}
 use Rattle.machine_desc.specs.Live.{index_of, far_of, is_live_chip, is_live_link, IsInside, IsSite}
 use Rattle.machine_desc.proofs.Sites.{site_parts}
 use Rattle.machine_desc.proofs.Far.{same_index, live_inside, live_ends, live_back}
-use Rattle.mesh_core.specs.State.{Setup, State, Hand, IsMesh, queue_at, vertex_behind, Queue, input, core, nowhere, core_of, behind_link, behind}
-use Rattle.mesh_core.specs.Step.{onward, outputs, in_hand, without, has_room, has_room_behind, push_at, push_behind, inject_of, take_of, serves, after_serving, send_of, dump_of, collect_of, step_of}
+use Rattle.machine_desc.specs.RightTables.{table_at}
+use Rattle.mesh_core.specs.State.{Setup, State, Hand, FitsQueue, FitsHand, IsMesh, queue_at, vertex_behind, Queue, input, core, nowhere, core_queue_of, behind_link, behind}
+use Rattle.mesh_core.specs.Step.{outputs, in_hand, outs_without, has_room, has_room_behind, push_at, push_behind, inject_of, take_of, serves, after_serving, send_of, dump_of, collect_of, step_of}
 use Rattle.mesh_core.proofs.Changes.{port_below, IsMesh-unsent, IsMesh-cores, IsMesh-hands, IsMesh-delivered, IsMesh-dumped, IsMesh-inputs}
 
 -- what was chosen is there
@@ -87,7 +92,7 @@ MayWaitBehind m (input i) = MayWait m i
 MayWaitBehind m (core v) = Unit {0}
 MayWaitBehind m nowhere = Unit {0}
 
-may_wait-core : (m : Description) (v : Option ℕ) → MayWaitBehind m (core_of v)
+may_wait-core : (m : Description) (v : Option ℕ) → MayWaitBehind m (core_queue_of v)
 unfolding MayWaitBehind
 may_wait-core m (Some v) = tt
 may_wait-core m None = tt
@@ -110,40 +115,61 @@ pub may_wait-behind : (u : Setup) (c : Chip) (o : Out) → MayWaitBehind u.machi
 may_wait-behind u c (Link d) = may_wait-by_link u c d (is_live_link u.machine c d) (far_of u.machine c d) refl refl
 may_wait-behind u c (Core p) = may_wait-core u.machine (vertex_behind u.spots c (Core p))
 
-arrived_input : (s : State) (i : ℕ) (k : McCopy) (q : Option (List McCopy)) → IsMesh s → MayWait s.setup.machine i → has_room s.setup.capacity q ≡ true → IsMesh (record s { inputs = push_at s.inputs i k q })
-arrived_input s i k (Some q) h may room =
-    let short : length q < s.setup.capacity = ltb-true (length q) s.setup.capacity room in
-    IsMesh-inputs s i (q ++ k ∷ []) h (omega (arith, length_push q k))
-    (λ c d dead inside same. absurd (may.port c d dead inside same)) (λ c dead inside same. absurd (may.chip c dead inside same))
-arrived_input s i k None h may room = cc
+-- one more copy fits into a queue with room
+one_more_fits : (capacity : ℕ) (q : List McCopy) (k : McCopy) → FitsQueue capacity q → has_room capacity (Some q) ≡ true → k.hop < 2 ^ 32 → FitsQueue capacity (q ++ k ∷ [])
+one_more_fits capacity q k fits room low =
+    let short : length q < capacity = ltb-true (length q) capacity room in
+    record { within = omega (arith, length_push q k); hops = All-push (λ (j : McCopy). j.hop < 2 ^ 32) q k fits.hops low }
 
-arrived_core : (s : State) (v : ℕ) (k : McCopy) (q : Option (List McCopy)) → IsMesh s → has_room s.setup.capacity q ≡ true → IsMesh (record s { cores = push_at s.cores v k q })
-arrived_core s v k (Some q) h room =
-    let short : length q < s.setup.capacity = ltb-true (length q) s.setup.capacity room in
-    IsMesh-cores s v (q ++ k ∷ []) h (omega (arith, length_push q k))
-arrived_core s v k None h room = cc
+-- so do those behind the first
+rest_fits : (capacity : ℕ) (k : McCopy) (rest : List McCopy) → FitsQueue capacity (k ∷ rest) → FitsQueue capacity rest
+rest_fits capacity k rest fits =
+    let within : length (k ∷ rest) ≤ capacity = fits.within in
+    record { within = omega arith; hops = All-tail (λ (j : McCopy). j.hop < 2 ^ 32) k rest fits.hops }
+
+arrived_input : (s : State) (i : ℕ) (k : McCopy) (q : Option (List McCopy)) → IsMesh s → slice_get s.inputs i ≡ q → MayWait s.setup.machine i → has_room s.setup.capacity q ≡ true → k.hop < 2 ^ 32 →
+    IsMesh (record s { inputs = push_at s.inputs i k q })
+arrived_input s i k (Some q) h at may room low =
+    IsMesh-inputs s i (q ++ k ∷ []) h (one_more_fits s.setup.capacity q k (All-at (FitsQueue s.setup.capacity) s.inputs i q h.inputs_within at) room low)
+    (λ c d dead inside same. absurd (may.port c d dead inside same)) (λ c dead inside same. absurd (may.chip c dead inside same))
+arrived_input s i k None h at may room low = cc
+
+arrived_core : (s : State) (v : ℕ) (k : McCopy) (q : Option (List McCopy)) → IsMesh s → slice_get s.cores v ≡ q → has_room s.setup.capacity q ≡ true → k.hop < 2 ^ 32 → IsMesh (record s { cores = push_at s.cores v k q })
+arrived_core s v k (Some q) h at room low =
+    IsMesh-cores s v (q ++ k ∷ []) h (one_more_fits s.setup.capacity q k (All-at (FitsQueue s.setup.capacity) s.cores v q h.cores_within at) room low)
+arrived_core s v k None h at room low = cc
 
 -- a mesh where a copy came into a queue with room, at which copies may wait
-pub IsMesh-push_behind : (s : State) (b : Queue) (k : McCopy) → IsMesh s → MayWaitBehind s.setup.machine b → has_room_behind s b ≡ true → IsMesh (push_behind s b k)
+pub IsMesh-push_behind : (s : State) (b : Queue) (k : McCopy) → IsMesh s → MayWaitBehind s.setup.machine b → has_room_behind s b ≡ true → k.hop < 2 ^ 32 → IsMesh (push_behind s b k)
 unfolding MayWaitBehind
-IsMesh-push_behind s (input i) k h may room = arrived_input s i k (slice_get s.inputs i) h may room
-IsMesh-push_behind s (core v) k h may room = arrived_core s v k (slice_get s.cores v) h room
-IsMesh-push_behind s nowhere k h may room = h
+IsMesh-push_behind s (input i) k h may room low = arrived_input s i k (slice_get s.inputs i) h refl may room low
+IsMesh-push_behind s (core v) k h may room low = arrived_core s v k (slice_get s.cores v) h refl room low
+IsMesh-push_behind s nowhere k h may room low = h
 
--- a hand that took a copy or served an output isn't without outputs
-in_hand-some : (k : McCopy) (port : Port) (os : List Out) → IfSome (in_hand k port os) (λ held. held.outs ≢ [])
-in_hand-some k port [] = tt
-in_hand-some k port (o ∷ os) = λ e. cc
+-- a hand that took a copy or served an output may hold what it holds
+in_hand-fits : (k : McCopy) (port : Port) (os : List Out) → (os ≢ [] → k.hop + 1 < 2 ^ 32) → IfSome (in_hand k port os) FitsHand
+in_hand-fits k port [] low = tt
+in_hand-fits k port (o ∷ os) low = record { outputs = λ e. cc; hop = low (λ e. cc) }
+
+-- a copy of the last hop number is given no output
+not_last : (u : Setup) (c : Chip) (port : Port) (k : McCopy) → k.hop < 2 ^ 32 → outputs u c port k ≢ [] → k.hop + 1 < 2 ^ 32
+not_last u c port k low some = by_test (k.hop == last_hop) refl some
+  where
+    by_test : (b : Bool) → (k.hop == last_hop) ≡ b → (if b then [] else outs_of (lookup (table_at u.machine u.tables c) k.key port)) ≢ [] → k.hop + 1 < 2 ^ 32
+    by_test true is none = absurd (none refl)
+    by_test false is some' = let other = eqb-false k.hop last_hop is in omega (arith, low, other)
 
 keeps_injected : (s t : State) (v : ℕ) (spot : Option Spot) (unsent : Option (List McCopy)) → IsMesh s → slice_get s.setup.spots v ≡ spot → slice_get s.unsent v ≡ unsent → inject_of s v spot unsent ≡ Some t → IsMesh t
 keeps_injected s t v (Some spot) (Some (k ∷ rest)) h at_spot at_unsent moves =
     let queue : Queue = input (queue_at s.setup.machine spot.chip Local) in
     let now : State = record s { unsent = set s.unsent v rest } in
     let parts : (has_room_behind s queue ≡ true) × (push_behind now queue k ≡ t) = if_some (has_room_behind s queue) (push_behind now queue k) t moves in
-    let start : All (λ x. x.hop ≡ 0) rest = All-tail (λ (x : McCopy). x.hop ≡ 0) k rest (All-at (λ (l : List McCopy). All (λ x. x.hop ≡ 0) l) s.unsent v (k ∷ rest) h.unsent_at_start at_unsent) in
+    let at_start : All (λ x. x.hop ≡ 0) (k ∷ rest) = All-at (λ (l : List McCopy). All (λ x. x.hop ≡ 0) l) s.unsent v (k ∷ rest) h.unsent_at_start at_unsent in
+    let start : All (λ x. x.hop ≡ 0) rest = All-tail (λ (x : McCopy). x.hop ≡ 0) k rest at_start in
+    let none_passed : k.hop ≡ 0 = All-head (λ (x : McCopy). x.hop ≡ 0) k rest at_start in
     let site : IsSite s.setup.machine spot = All-at (IsSite s.setup.machine) s.setup.spots v spot h.sites at_spot in
     let live : is_live_chip s.setup.machine spot.chip ≡ true = (site_parts s.setup.machine spot site).0 in
-    subst IsMesh parts.1 (arrived_input now (queue_at s.setup.machine spot.chip Local) k (slice_get s.inputs (queue_at s.setup.machine spot.chip Local)) (IsMesh-unsent s v rest h start) (may_wait-local s.setup.machine spot.chip live) parts.0)
+    subst IsMesh parts.1 (arrived_input now (queue_at s.setup.machine spot.chip Local) k (slice_get s.inputs (queue_at s.setup.machine spot.chip Local)) (IsMesh-unsent s v rest h start) refl (may_wait-local s.setup.machine spot.chip live) parts.0 (omega (arith, none_passed)))
 keeps_injected s t v (Some spot) (Some []) h at_spot at_unsent moves = cc
 keeps_injected s t v (Some spot) None h at_spot at_unsent moves = cc
 keeps_injected s t v None (Some (k ∷ rest)) h at_spot at_unsent moves = cc
@@ -161,47 +187,55 @@ keeps_taken s t c port (Some None) (Some (k ∷ rest)) h at_queue moves =
     let hand : Option Hand = in_hand k port (outputs s.setup c port k) in
     let next : State = record now { hands = set s.hands (index_of s.setup.machine c) hand } in
     let parts : (is_live_chip s.setup.machine c ≡ true) × (next ≡ t) = if_some (is_live_chip s.setup.machine c) next t moves in
-    let within : length (k ∷ rest) ≤ s.setup.capacity = All-at (λ (l : List McCopy). length l ≤ s.setup.capacity) s.inputs q (k ∷ rest) h.inputs_within at_queue in
-    let kept : IsMesh now = IsMesh-inputs s q rest h (omega arith)
+    let fits : FitsQueue s.setup.capacity (k ∷ rest) = All-at (FitsQueue s.setup.capacity) s.inputs q (k ∷ rest) h.inputs_within at_queue in
+    let kept : IsMesh now = IsMesh-inputs s q rest h (rest_fits s.setup.capacity k rest fits)
     (λ e d dead inside same. nothing_waited s.inputs q (queue_at s.setup.machine e (ByLink d)) k rest at_queue (h.none_at_dead_ports e d dead inside) same)
     (λ e dead inside same. nothing_waited s.inputs q (queue_at s.setup.machine e Local) k rest at_queue (h.none_on_dead_chips e dead inside) same)
     in
-    subst IsMesh parts.1 (IsMesh-hands now (index_of s.setup.machine c) hand kept (in_hand-some k port (outputs s.setup c port k)))
+    subst IsMesh parts.1 (IsMesh-hands now c hand kept parts.0 (in_hand-fits k port (outputs s.setup c port k) (not_last s.setup c port k (All-head (λ (j : McCopy). j.hop < 2 ^ 32) k rest fits.hops))))
 keeps_taken s t c port (Some None) (Some []) h at_queue moves = cc
 keeps_taken s t c port (Some None) None h at_queue moves = cc
 keeps_taken s t c port (Some (Some held)) queue h at_queue moves = cc
 keeps_taken s t c port None queue h at_queue moves = cc
 
-IsMesh-after_serving : (s : State) (c : Chip) (o : Out) (held : Hand) → IsMesh s → IsMesh (after_serving s c o held)
-IsMesh-after_serving s c o held h =
-    IsMesh-hands s (index_of s.setup.machine c) (in_hand held.copy held.port (without o held.outs)) h (in_hand-some held.copy held.port (without o held.outs))
+-- behind a router a hop number is of 32 bits again
+pub onward_below : (k : McCopy) → (onward k).hop < 2 ^ 32
+onward_below k = omega arith
 
-keeps_sent : (s t : State) (c : Chip) (o : Out) (hand : Option (Option Hand)) → IsMesh s → send_of s c o hand ≡ Some t → IsMesh t
-keeps_sent s t c o (Some (Some held)) h moves =
+IsMesh-after_serving : (s : State) (c : Chip) (o : Out) (held : Hand) → IsMesh s → slice_get s.hands (index_of s.setup.machine c) ≡ Some (Some held) → serves s c o (Some (Some held)) ≡ true →
+    IsMesh (after_serving s c o held)
+IsMesh-after_serving s c o held h at serving =
+    let live : is_live_chip s.setup.machine c ≡ true = (and_parts (is_live_chip s.setup.machine c) (list_any (out_eq o) held.outs) serving).0 in
+    let fits : FitsHand held = All-at (λ (x : Option Hand). IfSome x FitsHand) s.hands (index_of s.setup.machine c) (Some held) h.hands_fit at in
+    IsMesh-hands s c (in_hand held.copy held.port (outs_without o held.outs)) h live (in_hand-fits held.copy held.port (outs_without o held.outs) (λ some. fits.hop))
+
+keeps_sent : (s t : State) (c : Chip) (o : Out) (hand : Option (Option Hand)) → IsMesh s → slice_get s.hands (index_of s.setup.machine c) ≡ hand → send_of s c o hand ≡ Some t → IsMesh t
+keeps_sent s t c o (Some (Some held)) h at moves =
     let to : Queue = behind s.setup c o in
     let hands : Bool = serves s c o (Some (Some held)) in
     let next : State = push_behind (after_serving s c o held) to (onward held.copy) in
     let parts : ((hands && has_room_behind s to) ≡ true) × (next ≡ t) = if_some (hands && has_room_behind s to) next t moves in
     let both : (hands ≡ true) × (has_room_behind s to ≡ true) = and_parts hands (has_room_behind s to) parts.0 in
-    subst IsMesh parts.1 (IsMesh-push_behind (after_serving s c o held) to (onward held.copy) (IsMesh-after_serving s c o held h) (may_wait-behind s.setup c o) (room_after s c o held to both.1))
+    subst IsMesh parts.1 (IsMesh-push_behind (after_serving s c o held) to (onward held.copy) (IsMesh-after_serving s c o held h at both.0) (may_wait-behind s.setup c o) (room_after s c o held to both.1) (onward_below held.copy))
   where
     -- what a hand holds changes no room
     room_after : (s : State) (c : Chip) (o : Out) (held : Hand) (b : Queue) → has_room_behind s b ≡ true → has_room_behind (after_serving s c o held) b ≡ true
     room_after s c o held (input i) room = room
     room_after s c o held (core v) room = room
     room_after s c o held nowhere room = room
-keeps_sent s t c o (Some None) h moves = cc
-keeps_sent s t c o None h moves = cc
+keeps_sent s t c o (Some None) h at moves = cc
+keeps_sent s t c o None h at moves = cc
 
-keeps_dumped : (s t : State) (c : Chip) (o : Out) (hand : Option (Option Hand)) → IsMesh s → dump_of s c o hand ≡ Some t → IsMesh t
-keeps_dumped s t c o (Some (Some held)) h moves =
+keeps_dumped : (s t : State) (c : Chip) (o : Out) (hand : Option (Option Hand)) → IsMesh s → slice_get s.hands (index_of s.setup.machine c) ≡ hand → dump_of s c o hand ≡ Some t → IsMesh t
+keeps_dumped s t c o (Some (Some held)) h at moves =
     let next : State = after_serving s c o held in
     let last : State = record next { dumped = next.dumped ++ record { chip = c; out = o; copy = held.copy } ∷ [] } in
     let asked : Bool = serves s c o (Some (Some held)) && not (has_room_behind s (behind s.setup c o)) in
     let parts : (asked ≡ true) × (last ≡ t) = if_some asked last t moves in
-    subst IsMesh parts.1 (IsMesh-dumped next last.dumped (IsMesh-after_serving s c o held h))
-keeps_dumped s t c o (Some None) h moves = cc
-keeps_dumped s t c o None h moves = cc
+    let serving = (and_parts (serves s c o (Some (Some held))) (not (has_room_behind s (behind s.setup c o))) parts.0).0 in
+    subst IsMesh parts.1 (IsMesh-dumped next last.dumped (IsMesh-after_serving s c o held h at serving))
+keeps_dumped s t c o (Some None) h at moves = cc
+keeps_dumped s t c o None h at moves = cc
 
 keeps_collected : (s t : State) (v : ℕ) (queue : Option (List McCopy)) → IsMesh s → slice_get s.cores v ≡ queue → collect_of s v queue ≡ Some t → IsMesh t
 keeps_collected s t v (Some (k ∷ rest)) h at_queue moves =
@@ -209,8 +243,8 @@ keeps_collected s t v (Some (k ∷ rest)) h at_queue moves =
     let last : State = record now { delivered = s.delivered ++ record { vertex = v; copy = k } ∷ [] } in
     let same : Some last ≡ Some t = moves in
     let is : last ≡ t = cc in
-    let within : length (k ∷ rest) ≤ s.setup.capacity = All-at (λ (l : List McCopy). length l ≤ s.setup.capacity) s.cores v (k ∷ rest) h.cores_within at_queue in
-    subst IsMesh is (IsMesh-delivered now last.delivered (IsMesh-cores s v rest h (omega arith)))
+    let fits : FitsQueue s.setup.capacity (k ∷ rest) = All-at (FitsQueue s.setup.capacity) s.cores v (k ∷ rest) h.cores_within at_queue in
+    subst IsMesh is (IsMesh-delivered now last.delivered (IsMesh-cores s v rest h (rest_fits s.setup.capacity k rest fits)))
 keeps_collected s t v (Some []) h at_queue moves = cc
 keeps_collected s t v None h at_queue moves = cc
 
@@ -219,6 +253,6 @@ pub IsMesh-step_of : (s t : State) (e : Event) → IsMesh s → step_of s e ≡ 
 IsMesh-step_of s t (Inject v) h moves = keeps_injected s t v (slice_get s.setup.spots v) (slice_get s.unsent v) h refl refl moves
 IsMesh-step_of s t (Take c port) h moves =
     keeps_taken s t c port (slice_get s.hands (index_of s.setup.machine c)) (slice_get s.inputs (queue_at s.setup.machine c port)) h refl moves
-IsMesh-step_of s t (Send c o) h moves = keeps_sent s t c o (slice_get s.hands (index_of s.setup.machine c)) h moves
-IsMesh-step_of s t (Dump c o) h moves = keeps_dumped s t c o (slice_get s.hands (index_of s.setup.machine c)) h moves
+IsMesh-step_of s t (Send c o) h moves = keeps_sent s t c o (slice_get s.hands (index_of s.setup.machine c)) h refl moves
+IsMesh-step_of s t (Dump c o) h moves = keeps_dumped s t c o (slice_get s.hands (index_of s.setup.machine c)) h refl moves
 IsMesh-step_of s t (Collect v) h moves = keeps_collected s t v (slice_get s.cores v) h refl moves

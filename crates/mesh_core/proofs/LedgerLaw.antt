@@ -5,17 +5,17 @@ use Rattle.std.proofs.lemmas.List.Elements.{All-contains}
 use Rattle.std.proofs.lemmas.Bool.{cases_order, and_parts, eqb-true}
 use Rattle.std.proofs.lemmas.List.{get_or_default}
 use Rattle.std.proofs.lemmas.Option.{slice_get_within}
-use Rattle.list_laws.proofs.Counts.{count_by-cons, count_by-none}
-use Rattle.list_laws.proofs.Exchange.{count_taken_out, count_put_in}
-use Rattle.list_laws.proofs.Members.{Among, among_contains, contains_among}
+use Rattle.spin_base.proofs.Counts.{count_by-cons, count_by-none}
+use Rattle.spin_base.proofs.Exchange.{count_taken_out, count_put_in}
+use Rattle.spin_base.proofs.Members.{Among, among_contains, contains_among}
 use Rattle.spin_base.specs.declared.chips.Spot.{Spot}
+use Rattle.spin_base.specs.Hops.{last_hop}
 use Rattle.machine_desc.specs.RoutingTree.{IsRoutingTree}
 use Rattle.machine_desc.specs.Branch.{Exit}
-use Rattle.net_tables.specs.declared.nets.NetPlan.{NetPlan}
-use Rattle.net_tables.specs.RightTables.{IsKeyOf, RoutesByTree, AreRight}
-use Rattle.net_tables.specs.NetsOn.{HaveDisjointBlocks, AreNetsOn, IsWayOn}
+use Rattle.machine_desc.specs.declared.nets.NetPlan.{NetPlan}
+use Rattle.machine_desc.specs.RightTables.{IsKeyOf, RoutesByTree, AreRight}
+use Rattle.machine_desc.specs.NetsOn.{HaveDisjointBlocks, AreNetsOn, IsWayOn}
 use Rattle.mesh_core.specs.State.{Setup, State, IsMesh}
-use Rattle.mesh_core.specs.Step.{last_hop}
 use Rattle.mesh_core.specs.Trail.{Station, unsent, in_queue, in_hand, at_core, delivered, dumped, Mark, on_trail, is_on_trail, is_packet_on_trail}
 use Rattle.mesh_core.specs.Ledger.{marks_of, Label, MeetsLedger}
 use Rattle.mesh_core.proofs.Counting.{counts_one, count_some, counted, count_agree}

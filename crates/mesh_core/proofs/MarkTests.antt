@@ -1,7 +1,7 @@
 -- A test of equality on marks, and a number that each move raises.
 use Rattle.std.proofs.Common.{◌≡◌, ℕ, ◌+◌, ◌*◌, ◌<◌, ◌≤◌, List, [], ◌∷◌, map, Bool, true, false, ◌==◌, ◌&&◌, if◌then◌else◌, Option, Some, None, refl, ap, sym, arith, inl, inr, min, subst}
 use Rattle.std.proofs.lemmas.Bool.{and_parts, eqb-true, eq-eqb, and_from}
-use Rattle.list_laws.proofs.Members.{Among, among_only}
+use Rattle.spin_base.proofs.Members.{Among, among_only}
 use Rattle.spin_base.specs.declared.chips.Chip.{Chip}
 use Rattle.spin_base.specs.declared.chips.Port.{Port}
 use Rattle.spin_base.specs.declared.chips.Port.TheVariants.{Link as ByLink, Local}
@@ -10,11 +10,11 @@ use Rattle.spin_base.specs.declared.copies.McCopy.{McCopy}
 use Rattle.spin_base.specs.Links.{opposite_of}
 use Rattle.spin_base.specs.Lookup.{lookup}
 use Rattle.spin_base.specs.Outputs.{outs_of}
-use Rattle.net_tables.specs.RightTables.{table_at}
+use Rattle.machine_desc.specs.RightTables.{table_at}
 use Rattle.spin_base.specs.Equality.{chip_eq, port_eq, out_eq}
 use Rattle.spin_base.proofs.Equality.{chip_eq_same, chip_eq_true, port_eq_same, port_eq_true, out_eq_same, out_eq_true}
+use Rattle.spin_base.specs.Hops.{onward, last_hop}
 use Rattle.mesh_core.specs.State.{State}
-use Rattle.mesh_core.specs.Step.{onward, last_hop}
 use Rattle.mesh_core.specs.Trail.{Station, unsent, in_queue, in_hand, at_core, delivered, dumped, Mark}
 use Rattle.mesh_core.proofs.Moves.{mark, IsMove, IsMoveOf, Crosses}
 

@@ -2,7 +2,7 @@
 use Rattle.std.proofs.Common.{◌≡◌, ℕ, ◌+◌, ◌*◌, ◌/◌, ◌%◌, false, List, [], ◌∷◌, ◌++◌, map, Option, Some, refl, ap, sym, ◌∙◌, subst, arith, zero-add, append-nil, ◌⊎◌}
 use Rattle.std.specs.List.{slice_get, slice_set}
 use Rattle.std.proofs.lemmas.List.{map-append}
-use Rattle.list_laws.proofs.Exchange.{TakenOut, PutIn, taken_out_after, taken_out_before, put_in_after, put_in_before, taken_out_gathered, put_in_gathered}
+use Rattle.spin_base.proofs.Exchange.{TakenOut, PutIn, taken_out_after, taken_out_before, put_in_after, put_in_before, taken_out_gathered, put_in_gathered}
 use Rattle.spin_base.specs.declared.chips.Chip.{Chip}
 use Rattle.spin_base.specs.declared.chips.Dir.{Dir}
 use Rattle.spin_base.specs.declared.chips.Dir.TheVariants.{East, NorthEast, North, West, SouthWest, South}
@@ -15,13 +15,14 @@ use Rattle.spin_base.specs.declared.copies.McCopy.{McCopy}
 use Rattle.spin_base.specs.declared.copies.Delivery.{Delivery}
 use Rattle.spin_base.specs.declared.copies.DumpRec.{DumpRec}
 use Rattle.spin_base.specs.Links.{opposite_of, port_number}
+use Rattle.spin_base.specs.Hops.{onward}
 use Rattle.machine_desc.specs.Description.{Description}
 use Rattle.machine_desc.specs.Live.{far_of, index_of, chip_of, is_live_link, IsInside, IsLiveLink}
 pub use Rattle.machine_desc.proofs.Live.{chip_of-index_of}
 use Rattle.mesh_core.specs.State.{State, Hand, queue_at, vertex_behind}
-use Rattle.mesh_core.specs.Step.{in_hand as held_for, outputs, onward}
+use Rattle.mesh_core.specs.Step.{in_hand as held_for, outputs}
 use Rattle.mesh_core.specs.Trail.{Station, unsent, in_queue, in_hand, at_core, delivered, dumped, Mark}
-use Rattle.mesh_core.specs.Ledger.{marks_of, marked, hand_marks, port_of, unsent_marks, input_marks, all_hand_marks, core_marks, delivered_marks, dumped_marks}
+use Rattle.mesh_core.specs.Ledger.{marks_of, marks_at, hand_marks, port_of, unsent_marks, input_marks, all_hand_marks, core_marks, delivered_marks, dumped_marks}
 use Rattle.mesh_core.proofs.Changes.{port_below}
 
 abbrev pub mark : McCopy → Station → Mark
@@ -81,14 +82,14 @@ station_of_queue m c port inside =
 
 -- ---- parts of the marks
 
-front_out : (at : Station) (k : McCopy) (q : List McCopy) → TakenOut (mark k at) (marked at (k ∷ q)) (marked at q)
-front_out at k q = record { front = []; back = marked at q; before_is = refl; after_is = refl }
+front_out : (at : Station) (k : McCopy) (q : List McCopy) → TakenOut (mark k at) (marks_at at (k ∷ q)) (marks_at at q)
+front_out at k q = record { front = []; back = marks_at at q; before_is = refl; after_is = refl }
 
-back_in : (at : Station) (k : McCopy) (q : List McCopy) → PutIn (mark k at ∷ []) (marked at q) (marked at (q ++ k ∷ []))
+back_in : (at : Station) (k : McCopy) (q : List McCopy) → PutIn (mark k at ∷ []) (marks_at at q) (marks_at at (q ++ k ∷ []))
 back_in at k q = record {
-  front = marked at q;
+  front = marks_at at q;
   back = [];
-  before_is = sym (append-nil (marked at q));
+  before_is = sym (append-nil (marks_at at q));
   after_is = map-append (λ (c : McCopy). mark c at) q (k ∷ []);
 }
 
@@ -107,8 +108,8 @@ pub unsent_out : (s : State) (v : ℕ) (k : McCopy) (q : List McCopy) → slice_
 unsent_out s v k q at =
     let n_is : v ≡ 0 + v = omega arith in
     taken_out_before (mark k (unsent v)) (unsent_marks s) (unsent_marks (record s { unsent = slice_set s.unsent v q })) (behind_unsent s)
-    (taken_out_gathered (λ w copies. marked (unsent w) copies) (mark k (unsent v)) 0 s.unsent v (k ∷ q) q at
-    (subst (λ n. TakenOut (mark k (unsent v)) (marked (unsent n) (k ∷ q)) (marked (unsent n) q)) n_is (front_out (unsent v) k q)))
+    (taken_out_gathered (λ w copies. marks_at (unsent w) copies) (mark k (unsent v)) 0 s.unsent v (k ∷ q) q at
+    (subst (λ n. TakenOut (mark k (unsent v)) (marks_at (unsent n) (k ∷ q)) (marks_at (unsent n) q)) n_is (front_out (unsent v) k q)))
 
 pub input_out : (s : State) (c : Chip) (port : Port) → IsInside s.setup.machine c → (k : McCopy) (q : List McCopy) →
     slice_get s.inputs (queue_at s.setup.machine c port) ≡ Some (k ∷ q) →
@@ -119,9 +120,9 @@ input_out s c port inside k q at =
     taken_out_after (mark k (in_queue c port)) (unsent_marks s) (behind_unsent s) (behind_unsent s')
     (taken_out_before (mark k (in_queue c port)) (input_marks s) (input_marks s')
     (all_hand_marks s ++ (core_marks s ++ (delivered_marks s ++ dumped_marks s)))
-    (taken_out_gathered (λ n copies. marked (in_queue (chip_of s.setup.machine (n / 7)) (port_of (n % 7))) copies)
+    (taken_out_gathered (λ n copies. marks_at (in_queue (chip_of s.setup.machine (n / 7)) (port_of (n % 7))) copies)
     (mark k (in_queue c port)) 0 s.inputs i (k ∷ q) q at
-    (subst (λ st. TakenOut (mark k (in_queue c port)) (marked st (k ∷ q)) (marked st q))
+    (subst (λ st. TakenOut (mark k (in_queue c port)) (marks_at st (k ∷ q)) (marks_at st q))
     (sym (station_of_queue s.setup.machine c port inside)) (front_out (in_queue c port) k q))))
 
 pub input_in : (s : State) (c : Chip) (port : Port) → IsInside s.setup.machine c → (k : McCopy) (q : List McCopy) →
@@ -133,9 +134,9 @@ input_in s c port inside k q at =
     put_in_after (mark k (in_queue c port) ∷ []) (unsent_marks s) (behind_unsent s) (behind_unsent s')
     (put_in_before (mark k (in_queue c port) ∷ []) (input_marks s) (input_marks s')
     (all_hand_marks s ++ (core_marks s ++ (delivered_marks s ++ dumped_marks s)))
-    (put_in_gathered (λ n copies. marked (in_queue (chip_of s.setup.machine (n / 7)) (port_of (n % 7))) copies)
+    (put_in_gathered (λ n copies. marks_at (in_queue (chip_of s.setup.machine (n / 7)) (port_of (n % 7))) copies)
     (mark k (in_queue c port) ∷ []) 0 s.inputs i q (q ++ k ∷ []) at
-    (subst (λ st. PutIn (mark k (in_queue c port) ∷ []) (marked st q) (marked st (q ++ k ∷ [])))
+    (subst (λ st. PutIn (mark k (in_queue c port) ∷ []) (marks_at st q) (marks_at st (q ++ k ∷ [])))
     (sym (station_of_queue s.setup.machine c port inside)) (back_in (in_queue c port) k q))))
 
 -- the same for the hands: a hand's marks change as the hand does
@@ -178,8 +179,8 @@ core_out s v k q at =
     (all_hand_marks s ++ (core_marks s' ++ (delivered_marks s ++ dumped_marks s)))
     (taken_out_after x (all_hand_marks s) (core_marks s ++ (delivered_marks s ++ dumped_marks s)) (core_marks s' ++ (delivered_marks s ++ dumped_marks s))
     (taken_out_before x (core_marks s) (core_marks s') (delivered_marks s ++ dumped_marks s)
-    (taken_out_gathered (λ w copies. marked (at_core w) copies) x 0 s.cores v (k ∷ q) q at
-    (subst (λ n. TakenOut x (marked (at_core n) (k ∷ q)) (marked (at_core n) q)) n_is (front_out (at_core v) k q))))))
+    (taken_out_gathered (λ w copies. marks_at (at_core w) copies) x 0 s.cores v (k ∷ q) q at
+    (subst (λ n. TakenOut x (marks_at (at_core n) (k ∷ q)) (marks_at (at_core n) q)) n_is (front_out (at_core v) k q))))))
 
 pub core_in : (s : State) (v : ℕ) (k : McCopy) (q : List McCopy) → slice_get s.cores v ≡ Some q →
     PutIn (mark k (at_core v) ∷ []) (marks_of s) (marks_of (record s { cores = slice_set s.cores v (q ++ k ∷ []) }))
@@ -192,8 +193,8 @@ core_in s v k q at =
     (all_hand_marks s ++ (core_marks s' ++ (delivered_marks s ++ dumped_marks s)))
     (put_in_after xs (all_hand_marks s) (core_marks s ++ (delivered_marks s ++ dumped_marks s)) (core_marks s' ++ (delivered_marks s ++ dumped_marks s))
     (put_in_before xs (core_marks s) (core_marks s') (delivered_marks s ++ dumped_marks s)
-    (put_in_gathered (λ w copies. marked (at_core w) copies) xs 0 s.cores v q (q ++ k ∷ []) at
-    (subst (λ n. PutIn xs (marked (at_core n) q) (marked (at_core n) (q ++ k ∷ []))) n_is (back_in (at_core v) k q))))))
+    (put_in_gathered (λ w copies. marks_at (at_core w) copies) xs 0 s.cores v q (q ++ k ∷ []) at
+    (subst (λ n. PutIn xs (marks_at (at_core n) q) (marks_at (at_core n) (q ++ k ∷ []))) n_is (back_in (at_core v) k q))))))
 
 pub delivered_in : (s : State) (v : ℕ) (k : McCopy) →
     PutIn (mark k (delivered v) ∷ []) (marks_of s) (marks_of (record s { delivered = s.delivered ++ record { vertex = v; copy = k } ∷ [] }))

@@ -5,8 +5,8 @@ use Rattle.std.specs.List.{slice_get, list_any, Contains}
 use Rattle.std.proofs.lemmas.Bool.{lt-ltb, and_parts, eqb-true}
 use Rattle.std.proofs.lemmas.List.Elements.{All-contains}
 use Rattle.std.proofs.lemmas.List.Folds.{Any-from_list_any}
-use Rattle.list_laws.proofs.Counts.{count_by-cons, count_by-none}
-use Rattle.list_laws.proofs.Members.{Among, among_contains, contains_among}
+use Rattle.spin_base.proofs.Counts.{count_by-cons, count_by-none}
+use Rattle.spin_base.proofs.Members.{Among, among_contains, contains_among}
 use Rattle.spin_base.specs.declared.chips.Chip.{Chip}
 use Rattle.spin_base.specs.declared.routes.Out.{Out}
 use Rattle.spin_base.specs.declared.copies.McCopy.{McCopy}
@@ -17,7 +17,7 @@ use Rattle.spin_base.specs.Equality.{out_eq}
 use Rattle.spin_base.proofs.Equality.{out_eq_true}
 use Rattle.machine_desc.specs.Live.{index_of, is_live_chip, IsInside}
 use Rattle.machine_desc.proofs.Far.{live_inside}
-use Rattle.net_tables.specs.declared.nets.NetPlan.{NetPlan}
+use Rattle.machine_desc.specs.declared.nets.NetPlan.{NetPlan}
 use Rattle.mesh_core.specs.declared.places.Did.{Did}
 use Rattle.mesh_core.specs.declared.places.Did.TheVariants.{Moved, Idle}
 use Rattle.mesh_core.specs.State.{State, Hand, IsMesh, Queue, input, core, nowhere, behind}

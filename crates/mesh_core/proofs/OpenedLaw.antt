@@ -8,10 +8,10 @@ use Rattle.std.proofs.lemmas.List.{length-map}
 use Rattle.std.proofs.lemmas.Bool.{eqb-true, eq-eqb, ne_eqb, and_from}
 use Rattle.std.proofs.Math.Bool.{and-false}
 use Rattle.std.proofs.lemmas.Option.{slice_get_within}
-use Rattle.list_laws.proofs.Counts.{count_by-map}
-use Rattle.list_laws.proofs.Gathering.{gathered_nothing, among_made, made_among, count_made_one, among_chosen, chosen_among, count_chosen_one, count_chosen_none}
-use Rattle.list_laws.proofs.Members.{Among, among_contains, contains_among, among_map, map_among}
-use Rattle.list_laws.proofs.Places.{All-each}
+use Rattle.spin_base.proofs.Counts.{count_by-map}
+use Rattle.spin_base.proofs.Gathering.{gathered_nothing, among_made, made_among, count_made_one, among_chosen, chosen_among, count_chosen_one, count_chosen_none}
+use Rattle.spin_base.proofs.Members.{Among, among_contains, contains_among, among_map, map_among}
+use Rattle.spin_base.proofs.Places.{All-each}
 use Rattle.spin_base.specs.declared.chips.Spot.{Spot}
 use Rattle.spin_base.specs.declared.copies.McCopy.{McCopy}
 use Rattle.spin_base.specs.declared.copies.Packet.{Packet}
@@ -19,12 +19,12 @@ use Rattle.machine_desc.specs.Description.{Description}
 use Rattle.machine_desc.specs.RoutingTree.{IsRoutingTree}
 use Rattle.machine_desc.specs.Branch.{Exit, IsBranch}
 use Rattle.machine_desc.proofs.Branches.{end_on_branch, link_on_branch}
-use Rattle.net_tables.specs.declared.nets.NetPlan.{NetPlan}
-use Rattle.net_tables.specs.RightTables.{IsKeyOf}
-use Rattle.net_tables.specs.NetsOn.{vertex_at, AreNetsOn, IsWayOn}
+use Rattle.machine_desc.specs.declared.nets.NetPlan.{NetPlan}
+use Rattle.machine_desc.specs.RightTables.{IsKeyOf}
+use Rattle.machine_desc.specs.NetsOn.{vertex_at, AreNetsOn, IsWayOn}
 use Rattle.mesh_core.specs.State.{Setup, State, IsMesh}
 use Rattle.mesh_core.specs.Trail.{Mark, unsent, in_queue, at_core, on_trail, is_on_trail, is_packet_on_trail}
-use Rattle.mesh_core.specs.Ledger.{marks_of, marked, hand_marks, port_of, unsent_marks, Label, label_of}
+use Rattle.mesh_core.specs.Ledger.{marks_of, marks_at, hand_marks, port_of, unsent_marks, Label, label_of}
 use Rattle.mesh_core.specs.Opened.{label_in, asked_by, first_copy, copy_from, unsent_of, empty_mesh, opened_mesh, AreOfNets, MeetsJobLedger}
 use Rattle.mesh_core.proofs.AskedPackets.{asked_parts, asked_from, asked_of_net, net_in_list, key_of_net}
 use Rattle.machine_desc.specs.Live.{chip_of}
@@ -78,9 +78,9 @@ module _ (setup : Setup) (nets : List NetPlan) (packets : List Packet) where
   -- the only marks are those of unsent copies
   opened_marks : marks_of opened ≡ unsent_marks opened
   opened_marks =
-      let inputs = gathered_nothing (λ i (q : List McCopy). marked (in_queue (chip_of m (i / 7)) (port_of (i % 7))) q) [] (λ j. refl) 0 (7 * (m.width * m.height)) in
+      let inputs = gathered_nothing (λ i (q : List McCopy). marks_at (in_queue (chip_of m (i / 7)) (port_of (i % 7))) q) [] (λ j. refl) 0 (7 * (m.width * m.height)) in
       let hands = gathered_nothing (λ i h. hand_marks (chip_of m i) h) None (λ j. refl) 0 (m.width * m.height) in
-      let cores = gathered_nothing (λ v (q : List McCopy). marked (at_core v) q) [] (λ j. refl) 0 number in
+      let cores = gathered_nothing (λ v (q : List McCopy). marks_at (at_core v) q) [] (λ j. refl) 0 number in
       rw (inputs, hands, cores) (append-nil (unsent_marks opened))
 
   -- what is known of a mark of the opened mesh
@@ -95,7 +95,7 @@ module _ (setup : Setup) (nets : List NetPlan) (packets : List Packet) where
 
   is_unsent : (k : Mark) → Contains (marks_of opened) k → IsUnsent k
   is_unsent k has =
-      let made = among_made (λ v q. marked (unsent v) q) copies k 0 number (contains_among k (unsent_marks opened) (subst (λ l. Contains l k) opened_marks has)) in
+      let made = among_made (λ v q. marks_at (unsent v) q) copies k 0 number (contains_among k (unsent_marks opened) (subst (λ l. Contains l k) opened_marks has)) in
       let v : ℕ = made.0 in
       let in_marked = among_map (λ (c : McCopy). mark c (unsent v)) k (copies v) made.3 in
       let in_list = among_chosen (λ (e : ℕ × Packet). copy_from spots v e.0 e.1 (slice_get nets e.1.net)) in_marked.0 0 packets in_marked.1 in
@@ -126,7 +126,7 @@ module _ (setup : Setup) (nets : List NetPlan) (packets : List Packet) where
       (ap (λ n. copy_from spots v n p (slice_get nets p.net)) zero_more ∙ sent_from spots nets p i v net is vertex)
       in
       let there : Among (mark (first_copy i net p) (unsent v)) (unsent_marks opened) =
-      made_among (λ w q. marked (unsent w) q) copies (mark (first_copy i net p) (unsent v)) 0 number v (omega arith) (omega arith)
+      made_among (λ w q. marks_at (unsent w) q) copies (mark (first_copy i net p) (unsent v)) 0 number v (omega arith) (omega arith)
       (map_among (λ (c : McCopy). mark c (unsent v)) (first_copy i net p) (copies v) in_list)
       in
       subst (λ l. Contains l (mark (first_copy i net p) (unsent v))) (sym opened_marks) (among_contains (mark (first_copy i net p) (unsent v)) (unsent_marks opened) there)
@@ -154,9 +154,10 @@ module _ (setup : Setup) (nets : List NetPlan) (packets : List Packet) where
     cores_within = h.cores_within;
     unsent_at_start =
         All-map (λ (q : List McCopy). All (λ k. k.hop ≡ 0) q) copies (range_with_len 0 number) (λ j d below. copies_at_start (slice_index_or (range_with_len 0 number) j d));
-    hands_with_outputs = h.hands_with_outputs;
+    hands_fit = h.hands_fit;
     none_at_dead_ports = h.none_at_dead_ports;
     none_on_dead_chips = h.none_on_dead_chips;
+    no_hand_on_dead_chips = h.no_hand_on_dead_chips;
   }
 
   -- a tree has a target: the root is one, or an edge leads on to one
@@ -239,7 +240,7 @@ module _ (setup : Setup) (nets : List NetPlan) (packets : List Packet) where
         let vertex_is : u.vertex ≡ from = cc in
         let p : Mark → Bool = is_packet_on_trail k.copy.packet from to branch in
         ap (count_by p) opened_marks
-        ∙ count_made_one (λ v q. marked (unsent v) q) copies p 0 number from 1 (omega arith) (from_below u vertex_is)
+        ∙ count_made_one (λ v q. marks_at (unsent v) q) copies p 0 number from 1 (omega arith) (from_below u vertex_is)
         (count_by-map p (λ c. mark c (unsent from)) (copies from) ∙ one_of_source u vertex_is)
         (λ v other. count_by-map p (λ c. mark c (unsent v)) (copies v) ∙ none_elsewhere v other)
       where

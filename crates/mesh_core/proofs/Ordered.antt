@@ -3,11 +3,11 @@ use Rattle.std.proofs.Common.{◌≡◌, ℕ, ◌+◌, ◌<◌, ◌≤◌, List,
 use Rattle.std.specs.List.{AllPairs}
 use Rattle.std.proofs.lemmas.Bool.{cases_order}
 use Rattle.std.proofs.lemmas.List.Elements.{All-contains}
-use Rattle.list_laws.specs.Gathered.{gathered}
-use Rattle.list_laws.proofs.Gathering.{among_gathered_from}
-use Rattle.list_laws.proofs.Counts.{count_by-cons}
-use Rattle.list_laws.proofs.Members.{Among, among_contains, among_either}
-use Rattle.list_laws.proofs.Pairs.{AllPairs-head, AllPairs-tail}
+use Rattle.spin_base.specs.Gathered.{gathered}
+use Rattle.spin_base.proofs.Gathering.{among_gathered_from}
+use Rattle.spin_base.proofs.Counts.{count_by-cons}
+use Rattle.spin_base.proofs.Members.{Among, among_contains, among_either}
+use Rattle.spin_base.proofs.Pairs.{AllPairs-head, AllPairs-tail}
 use Rattle.mesh_core.proofs.Counting.{counted}
 
 module _ {X : Type 0} (R : X → X → Type 0) where

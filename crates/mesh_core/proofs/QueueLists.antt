@@ -1,7 +1,7 @@
 -- Laws of lists of queues, by the options that a look at a place gives.
 use Rattle.std.proofs.Common.{◌≡◌, ℕ, List, [], ◌∷◌, ◌++◌, set, refl, sym, ap, ◌∙◌, Option, Some, None, ◌↔◌, IsNone, option_to_list}
 use Rattle.std.specs.List.{slice_get}
-use Rattle.list_laws.proofs.Places.{set-slice_get}
+use Rattle.spin_base.proofs.Places.{set-slice_get}
 use Rattle.spin_base.specs.declared.copies.McCopy.{McCopy}
 use Rattle.mesh_core.specs.Queues.{drop_front}
 

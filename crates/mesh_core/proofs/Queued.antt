@@ -5,11 +5,11 @@ use Rattle.std.specs.List.{slice_get, All, Contains}
 use Rattle.std.proofs.lemmas.Bool.{cases_order, and_parts, eqb-true, eq-eqb, and_from}
 use Rattle.std.proofs.lemmas.List.Elements.{All-contains}
 use Rattle.std.proofs.lemmas.Option.{slice_get_within, get_or_from_slice_get}
-use Rattle.list_laws.proofs.Counts.{count_by-map, count_by-append}
-use Rattle.list_laws.proofs.Gathering.{gathered_among}
-use Rattle.list_laws.proofs.Members.{Among, among_left, among_right, among_contains, contains_among, map_among}
-use Rattle.list_laws.proofs.Pairs.{AllPairs-apart}
-use Rattle.list_laws.proofs.Places.{All-each, slice_get_there}
+use Rattle.spin_base.proofs.Counts.{count_by-map, count_by-append}
+use Rattle.spin_base.proofs.Gathering.{gathered_among}
+use Rattle.spin_base.proofs.Members.{Among, among_left, among_right, among_contains, contains_among, map_among}
+use Rattle.spin_base.proofs.Pairs.{AllPairs-apart}
+use Rattle.spin_base.proofs.Places.{All-each, slice_get_there}
 use Rattle.spin_base.specs.declared.chips.Chip.{Chip}
 use Rattle.spin_base.specs.declared.chips.Dir.{Dir}
 use Rattle.spin_base.specs.declared.chips.Spot.{Spot}
@@ -25,13 +25,13 @@ use Rattle.machine_desc.specs.Branch.{Exit}
 use Rattle.machine_desc.proofs.Branches.{exit_leads, ExitLeads}
 use Rattle.machine_desc.proofs.Far.{live_inside, live_ends, far_inside}
 use Rattle.machine_desc.proofs.Sites.{end_is_no_live_link, same_site}
-use Rattle.net_tables.specs.declared.nets.NetPlan.{NetPlan}
-use Rattle.net_tables.specs.NetsOn.{IsWayOn}
-use Rattle.net_tables.specs.RightTables.{IsKeyOf}
+use Rattle.machine_desc.specs.declared.nets.NetPlan.{NetPlan}
+use Rattle.machine_desc.specs.NetsOn.{IsWayOn}
+use Rattle.machine_desc.specs.RightTables.{IsKeyOf}
 use Rattle.machine_desc.specs.RoutingTree.{IsRoutingTree}
-use Rattle.mesh_core.specs.State.{Setup, State, IsMesh, Queue, input, core, nowhere, queue_at, core_of, behind, behind_link, vertex_behind}
+use Rattle.mesh_core.specs.State.{Setup, State, IsMesh, Queue, input, core, nowhere, queue_at, core_queue_of, behind, behind_link, vertex_behind}
 use Rattle.mesh_core.specs.Trail.{Station, in_queue, in_hand, at_core, Mark, is_on_trail, is_packet_on_trail}
-use Rattle.mesh_core.specs.Ledger.{marks_of, marked, port_of, unsent_marks, input_marks, all_hand_marks, core_marks, delivered_marks, dumped_marks, Label, MeetsLedger}
+use Rattle.mesh_core.specs.Ledger.{marks_of, marks_at, port_of, unsent_marks, input_marks, all_hand_marks, core_marks, delivered_marks, dumped_marks, Label, MeetsLedger}
 use Rattle.mesh_core.specs.Waiting.{queue_of}
 use Rattle.mesh_core.specs.Whereabouts.{IsTracked}
 use Rattle.mesh_core.proofs.Changes.{queue_at-below}
@@ -159,8 +159,8 @@ module _ (s : State) (nets : List NetPlan) (labels : ℕ → Label) (ledger : Me
             let dead : is_live_link s.setup.machine c d ≡ false =
             ap (λ (z : Chip). is_live_link s.setup.machine z d) (sym chip) ∙ end_is_no_live_link s.setup.machine t.target d site (sym is)
             in
-            ap (λ b. behind_link s.setup c d b (far_of s.setup.machine c d)) dead ∙ ap core_of vertex
-        to_vertex (Core p) is v vertex site = ap core_of vertex
+            ap (λ b. behind_link s.setup c d b (far_of s.setup.machine c d)) dead ∙ ap core_queue_of vertex
+        to_vertex (Core p) is v vertex site = ap core_queue_of vertex
 
     by_end : ExitLeads s.setup.machine t.net.tree.edges t.target t.branch k.hop (record { chip = c; out = o }) → FreeBehind s c o k.packet
     by_end (inl (d, out, in_tree, (y, far, next))) =
@@ -195,7 +195,7 @@ module _ (s : State) (nets : List NetPlan) (labels : ℕ → Label) (ledger : Me
 
   -- a queue whose copies have this station, and whose marks of one packet are on one trail
   once_at : (at : Station) (q : List McCopy) → ((j : McCopy) → Among j q → Contains (marks_of s) (mark j at)) →
-      ((p : Mark → Bool) → count_by p (marked at q) ≤ count_by p (marks_of s)) →
+      ((p : Mark → Bool) → count_by p (marks_at at q) ≤ count_by p (marks_of s)) →
       ((x : McCopy) (t : OnTrail (mark x at)) → (j : McCopy) → Among j q → j.packet ≡ x.packet → is_on_trail t.from t.to t.branch (mark j at) ≡ true) →
       (n : ℕ) → count_by (λ j. j.packet == n) q ≤ 1
   once_at at q there part same_trail n = elim (cases_order (count_by (λ j. j.packet == n) q) 0) [
@@ -212,7 +212,7 @@ module _ (s : State) (nets : List NetPlan) (labels : ℕ → Label) (ledger : Me
         let same : j.packet ≡ a.packet = eqb-true j.packet n passes ∙ sym number in
         and_from (j.packet == a.packet) (is_on_trail t.from t.to t.branch (mark j at)) (eq-eqb j.packet a.packet same) (same_trail a t j among same))
         in
-        let mapped : count_by p (marked at q) ≡ count_by (λ j. p (mark j at)) q = count_by-map p (λ (j : McCopy). mark j at) q in
+        let mapped : count_by p (marks_at at q) ≡ count_by (λ j. p (mark j at)) q = count_by-map p (λ (j : McCopy). mark j at) q in
         let all = part p in
         let one = t.once in
         omega (arith, fewer, mapped, all, one)
@@ -230,7 +230,7 @@ module _ (s : State) (nets : List NetPlan) (labels : ℕ → Label) (ledger : Me
       among_contains m (marks_of s)
       (among_right m (unsent_marks s) (input_marks s ++ (all_hand_marks s ++ (core_marks s ++ (delivered_marks s ++ dumped_marks s))))
       (among_left m (input_marks s) (all_hand_marks s ++ (core_marks s ++ (delivered_marks s ++ dumped_marks s)))
-      (gathered_among (λ l copies. marked (in_queue (chip_of s.setup.machine (l / 7)) (port_of (l % 7))) copies) m s.inputs i q at
+      (gathered_among (λ l copies. marks_at (in_queue (chip_of s.setup.machine (l / 7)) (port_of (l % 7))) copies) m s.inputs i q at
       (map_among (λ (d : McCopy). mark d (in_queue (chip_of s.setup.machine (i / 7)) (port_of (i % 7)))) j q among))))
   waiting_mark (core v) q at j among = let m : Mark = mark j (at_core v) in among_contains m (marks_of s) (core_mark s v j q at among)
   waiting_mark nowhere q at j among = cc
@@ -243,9 +243,9 @@ module _ (s : State) (nets : List NetPlan) (labels : ℕ → Label) (ledger : Me
       once_at (in_queue c port) q (waiting_mark (input i) q at)
       (λ p.
       let n_is : 0 + i ≡ i = omega arith in
-      let part : count_by p (marked (in_queue c port) q) ≤ count_by p (input_marks s) =
-      subst (λ l. count_by p (marked (in_queue (chip_of s.setup.machine (l / 7)) (port_of (l % 7))) q) ≤ count_by p (input_marks s)) n_is
-      (count_gathered_part (λ l copies. marked (in_queue (chip_of s.setup.machine (l / 7)) (port_of (l % 7))) copies) p 0 s.inputs i q at)
+      let part : count_by p (marks_at (in_queue c port) q) ≤ count_by p (input_marks s) =
+      subst (λ l. count_by p (marks_at (in_queue (chip_of s.setup.machine (l / 7)) (port_of (l % 7))) q) ≤ count_by p (input_marks s)) n_is
+      (count_gathered_part (λ l copies. marks_at (in_queue (chip_of s.setup.machine (l / 7)) (port_of (l % 7))) copies) p 0 s.inputs i q at)
       in
       let whole = in_input_marks p in
       omega (arith, part, whole))
@@ -261,8 +261,8 @@ module _ (s : State) (nets : List NetPlan) (labels : ℕ → Label) (ledger : Me
       once_at (at_core v) q (waiting_mark (core v) q at)
       (λ p.
       let n_is : 0 + v ≡ v = omega arith in
-      let part : count_by p (marked (at_core v) q) ≤ count_by p (core_marks s) =
-      subst (λ l. count_by p (marked (at_core l) q) ≤ count_by p (core_marks s)) n_is (count_gathered_part (λ l copies. marked (at_core l) copies) p 0 s.cores v q at)
+      let part : count_by p (marks_at (at_core v) q) ≤ count_by p (core_marks s) =
+      subst (λ l. count_by p (marks_at (at_core l) q) ≤ count_by p (core_marks s)) n_is (count_gathered_part (λ l copies. marks_at (at_core l) copies) p 0 s.cores v q at)
       in
       let whole = in_core_marks p in
       omega (arith, part, whole))

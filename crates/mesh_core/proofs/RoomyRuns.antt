@@ -7,9 +7,9 @@ use Rattle.spin_base.specs.declared.copies.Event.{Event}
 use Rattle.spin_base.specs.declared.copies.Event.TheVariants.{Inject, Take, Send, Dump, Collect}
 use Rattle.spin_base.specs.declared.copies.Packet.{Packet}
 use Rattle.machine_desc.specs.Live.{index_of}
-use Rattle.net_tables.specs.declared.nets.NetPlan.{NetPlan}
-use Rattle.net_tables.specs.NetsOn.{AreNetsOn}
-use Rattle.net_tables.specs.RightTables.{AreRight}
+use Rattle.machine_desc.specs.declared.nets.NetPlan.{NetPlan}
+use Rattle.machine_desc.specs.NetsOn.{AreNetsOn}
+use Rattle.machine_desc.specs.RightTables.{AreRight}
 use Rattle.mesh_core.specs.State.{Setup, State, IsMesh}
 use Rattle.mesh_core.specs.Step.{after_event, after_events}
 use Rattle.mesh_core.specs.Opened.{opened_mesh, AreOfNets, MeetsJobLedger}

@@ -19,16 +19,16 @@ use Rattle.machine_desc.specs.Live.{index_of, IsInside}
 use Rattle.machine_desc.specs.RoutingTree.{IsRoutingTree}
 use Rattle.machine_desc.proofs.Far.{live_inside, live_ends}
 use Rattle.machine_desc.proofs.Live.{index_of-chip_of}
-use Rattle.net_tables.specs.declared.nets.NetPlan.{NetPlan}
+use Rattle.machine_desc.specs.declared.nets.NetPlan.{NetPlan}
 use Rattle.mesh_core.specs.declared.places.Place.TheVariants.{InQueue, Hand as HandAt, CoreQueue}
 use Rattle.mesh_core.specs.declared.places.Where.TheVariants.{At, Delivered, Dumped}
-use Rattle.net_tables.specs.NetsOn.{vertex_at}
+use Rattle.machine_desc.specs.NetsOn.{vertex_at}
 use Rattle.mesh_core.specs.State.{State, Hand, IsMesh, queue_at}
 use Rattle.mesh_core.specs.Trail.{Station, in_queue, in_hand, at_core, delivered, dumped, Mark}
 use Rattle.mesh_core.specs.Ledger.{marks_of}
 use Rattle.mesh_core.specs.Whereabouts.{IsTracked}
 use Rattle.mesh_core.specs.Searches.{IsMarkThere, IsFound, IsOfCore, IsOfOutput, IsOfPort, is_held}
-use Rattle.list_laws.proofs.Members.{Among, among_contains, contains_among, any_among, among_any, position_there, position_nowhere}
+use Rattle.spin_base.proofs.Members.{Among, among_contains, contains_among, any_among, among_any, position_there, position_nowhere}
 use Rattle.mesh_core.proofs.Moves.{mark}
 use Rattle.mesh_core.proofs.Ways.{vertex_at_stands}
 use Rattle.mesh_core.proofs.Standing.{StandsAt, mark_stands, queued_mark, held_mark, core_mark, delivered_mark, dumped_mark, place_of_queue}

@@ -22,22 +22,23 @@ use Rattle.spin_base.specs.declared.routes.Out.TheVariants.{Link, Core}
 use Rattle.spin_base.specs.Equality.{chip_eq, spot_eq, out_eq}
 use Rattle.spin_base.proofs.Equality.{chip_eq_true, chip_eq_same, spot_eq_true, spot_eq_same, out_eq_true, out_eq_same}
 use Rattle.spin_base.proofs.Spots.{dir_at-dir_number, out_of-core, out_of-device, spot_of_core, spot_of_link}
+use Rattle.spin_base.specs.Hops.{last_hop}
 use Rattle.machine_desc.specs.Description.{Description}
 use Rattle.machine_desc.specs.Live.{index_of, IsInside, IsSite}
 use Rattle.machine_desc.proofs.Same.{same_spot}
 use Rattle.machine_desc.proofs.Sites.{site_parts}
-use Rattle.net_tables.specs.NetsOn.{vertex_at}
-use Rattle.net_tables.specs.Outputs.{leads_to_spot}
+use Rattle.machine_desc.specs.NetsOn.{vertex_at}
+use Rattle.machine_desc.specs.Outputs.{leads_to_spot}
 use Rattle.mesh_core.specs.State.{State, Hand, vertex_behind}
-use Rattle.mesh_core.specs.Step.{in_hand, last_hop, outputs, without}
+use Rattle.mesh_core.specs.Step.{in_hand, outputs, outs_without}
 use Rattle.mesh_core.specs.Serving.{hands_after}
 use Rattle.mesh_core.specs.VertexTable.{TellsVertices, spot_place}
-use Rattle.list_laws.proofs.Places.{set-slice_get}
+use Rattle.spin_base.proofs.Places.{set-slice_get}
 use Rattle.mesh_core.proofs.VertexTableLaws.{spot_place-below, vertex_at-from}
 
 -- a hand served an output
 pub hands_after-some : (hands : List (Option Hand)) (i : ℕ) (o : Out) (d x r : Option Hand) (h : Hand) → i < length hands → get_or hands i d ≡ Some h →
-    r ≡ in_hand h.copy h.port (without o h.outs) → set (set hands i x) i r ≡ hands_after hands i o (slice_get hands i)
+    r ≡ in_hand h.copy h.port (outs_without o h.outs) → set (set hands i x) i r ≡ hands_after hands i o (slice_get hands i)
 hands_after-some hands i o d x r h below here after_serving =
     let at : slice_get hands i ≡ Some (Some h) = slice_get-get_or hands i d below ∙ ap Some here in
     set-set hands i x r ∙ (ap (set hands i) after_serving ∙ ap (hands_after hands i o) (sym at))

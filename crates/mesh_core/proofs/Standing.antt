@@ -1,8 +1,8 @@
 -- Which marks a mesh has, by their stations: those of the lists' items there.
 use Rattle.std.proofs.Common.{◌≡◌, ℕ, ◌+◌, ◌/◌, ◌%◌, ◌<◌, suc, zero, List, ◌++◌, Option, Some, None, refl, ap, sym, ◌∙◌, subst, arith, inl, inr, ◌⊎◌}
 use Rattle.std.specs.List.{slice_get}
-use Rattle.list_laws.proofs.Members.{Among, among_left, among_right, among_either, among_map, map_among}
-use Rattle.list_laws.proofs.Gathering.{among_gathered, gathered_among_from, gathered_among}
+use Rattle.spin_base.proofs.Members.{Among, among_left, among_right, among_either, among_map, map_among}
+use Rattle.spin_base.proofs.Gathering.{among_gathered, gathered_among_from, gathered_among}
 use Rattle.spin_base.specs.declared.chips.Chip.{Chip}
 use Rattle.spin_base.specs.declared.chips.Port.{Port}
 use Rattle.spin_base.specs.declared.routes.Out.{Out}
@@ -15,7 +15,7 @@ use Rattle.machine_desc.specs.Live.{chip_of, index_of, IsInside}
 use Rattle.machine_desc.proofs.Live.{index_of-chip_of}
 use Rattle.mesh_core.specs.State.{State, Hand, queue_at}
 use Rattle.mesh_core.specs.Trail.{Station, unsent, in_queue, in_hand, at_core, delivered, dumped, Mark}
-use Rattle.mesh_core.specs.Ledger.{marks_of, marked, hand_marks, port_of, unsent_marks, input_marks, all_hand_marks, core_marks, delivered_marks, dumped_marks}
+use Rattle.mesh_core.specs.Ledger.{marks_of, marks_at, hand_marks, port_of, unsent_marks, input_marks, all_hand_marks, core_marks, delivered_marks, dumped_marks}
 use Rattle.mesh_core.proofs.Moves.{mark, chip_of-index_of, station_of_queue}
 
 -- ---- chips and ports by number
@@ -87,7 +87,7 @@ mark_stands s k a = first (among_either k (unsent_marks s) later1 a)
 
     fourth : Among k (core_marks s) ⊎ Among k later5 → StandsAt s k.copy k.station
     fourth (inl b) =
-        let at = among_gathered (λ v (q : List McCopy). marked (at_core v) q) k s.cores b in
+        let at = among_gathered (λ v (q : List McCopy). marks_at (at_core v) q) k s.cores b in
         let m = among_map (λ (c : McCopy). mark c (at_core at.0)) k at.1 at.3 in
         as_mark s k m.0 (at_core at.0) m.2 (at.1, at.2, m.1)
     fourth (inr b) = fifth (among_either k (delivered_marks s) (dumped_marks s) b)
@@ -100,7 +100,7 @@ mark_stands s k a = first (among_either k (unsent_marks s) later1 a)
 
     second : Among k (input_marks s) ⊎ Among k later3 → StandsAt s k.copy k.station
     second (inl b) =
-        let at = among_gathered (λ i (q : List McCopy). marked (in_queue (chip_of s.setup.machine (i / 7)) (port_of (i % 7))) q) k s.inputs b in
+        let at = among_gathered (λ i (q : List McCopy). marks_at (in_queue (chip_of s.setup.machine (i / 7)) (port_of (i % 7))) q) k s.inputs b in
         let place : Station = in_queue (chip_of s.setup.machine (at.0 / 7)) (port_of (at.0 % 7)) in
         let m = among_map (λ (c : McCopy). mark c place) k at.1 at.3 in
         as_mark s k m.0 place m.2 (at.0, at.1, at.2, refl, refl, m.1)
@@ -108,7 +108,7 @@ mark_stands s k a = first (among_either k (unsent_marks s) later1 a)
 
     first : Among k (unsent_marks s) ⊎ Among k later1 → StandsAt s k.copy k.station
     first (inl b) =
-        let at = among_gathered (λ v (q : List McCopy). marked (unsent v) q) k s.unsent b in
+        let at = among_gathered (λ v (q : List McCopy). marks_at (unsent v) q) k s.unsent b in
         let m = among_map (λ (c : McCopy). mark c (unsent at.0)) k at.1 at.3 in
         as_mark s k m.0 (unsent at.0) m.2 (at.1, at.2, m.1)
     first (inr b) = second (among_either k (input_marks s) later3 b)
@@ -121,13 +121,13 @@ queued_mark s c port inside k q at a =
     let i : ℕ = queue_at s.setup.machine c port in
     let place : Station = in_queue (chip_of s.setup.machine ((0 + i) / 7)) (port_of ((0 + i) % 7)) in
     let is : place ≡ in_queue c port = station_of_queue s.setup.machine c port inside in
-    let here : Among (mark k (in_queue c port)) (marked place q) =
-    subst (λ (p : Station). Among (mark k (in_queue c port)) (marked p q)) (sym is) (map_among (λ (d : McCopy). mark d (in_queue c port)) k q a)
+    let here : Among (mark k (in_queue c port)) (marks_at place q) =
+    subst (λ (p : Station). Among (mark k (in_queue c port)) (marks_at p q)) (sym is) (map_among (λ (d : McCopy). mark d (in_queue c port)) k q a)
     in
     let y : Mark = mark k (in_queue c port) in
     among_right y (unsent_marks s) (input_marks s ++ (all_hand_marks s ++ (core_marks s ++ (delivered_marks s ++ dumped_marks s))))
     (among_left y (input_marks s) (all_hand_marks s ++ (core_marks s ++ (delivered_marks s ++ dumped_marks s)))
-    (gathered_among_from (λ n (l : List McCopy). marked (in_queue (chip_of s.setup.machine (n / 7)) (port_of (n % 7))) l) y 0 s.inputs i q at here))
+    (gathered_among_from (λ n (l : List McCopy). marks_at (in_queue (chip_of s.setup.machine (n / 7)) (port_of (n % 7))) l) y 0 s.inputs i q at here))
 
 pub held_mark : (s : State) (c : Chip) (o : Out) → IsInside s.setup.machine c → (h : Hand) →
     slice_get s.hands (index_of s.setup.machine c) ≡ Some (Some h) → Among o h.outs → Among (mark h.copy (in_hand c o)) (marks_of s)
@@ -150,7 +150,7 @@ core_mark s v k q at a =
     (among_right y (input_marks s) (all_hand_marks s ++ (core_marks s ++ (delivered_marks s ++ dumped_marks s)))
     (among_right y (all_hand_marks s) (core_marks s ++ (delivered_marks s ++ dumped_marks s))
     (among_left y (core_marks s) (delivered_marks s ++ dumped_marks s)
-    (gathered_among (λ n (l : List McCopy). marked (at_core n) l) y s.cores v q at (map_among (λ (c : McCopy). mark c (at_core v)) k q a)))))
+    (gathered_among (λ n (l : List McCopy). marks_at (at_core n) l) y s.cores v q at (map_among (λ (c : McCopy). mark c (at_core v)) k q a)))))
 
 pub delivered_mark : (s : State) (d : Delivery) → Among d s.delivered → Among (mark d.copy (delivered d.vertex)) (marks_of s)
 delivered_mark s d a =

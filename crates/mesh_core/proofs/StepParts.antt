@@ -9,15 +9,17 @@ use Rattle.spin_base.specs.declared.chips.Port.{Port}
 use Rattle.spin_base.specs.declared.chips.Port.TheVariants.{Local}
 use Rattle.spin_base.specs.declared.routes.Out.{Out}
 use Rattle.spin_base.specs.declared.copies.McCopy.{McCopy}
+use Rattle.spin_base.specs.declared.copies.Delivery.{Delivery}
 use Rattle.spin_base.specs.declared.copies.DumpRec.{DumpRec}
 use Rattle.spin_base.specs.declared.copies.Event.{Event}
-use Rattle.spin_base.specs.declared.copies.Event.TheVariants.{Inject, Take, Send, Dump}
+use Rattle.spin_base.specs.declared.copies.Event.TheVariants.{Inject, Take, Send, Dump, Collect}
+use Rattle.spin_base.specs.Hops.{onward}
 use Rattle.machine_desc.specs.Live.{index_of, is_live_chip}
 use Rattle.mesh_core.specs.declared.places.Did.TheVariants.{Moved, Idle}
 use Rattle.mesh_core.specs.Queues.{front_of, drop_front}
 use Rattle.mesh_core.specs.Serving.{copy_served, inputs_after, cores_after, hands_after}
 use Rattle.mesh_core.specs.State.{State, Hand, Queue, input, core, nowhere, behind, queue_at}
-use Rattle.mesh_core.specs.Step.{onward, outputs, in_hand, has_room, has_room_behind, push_at, push_behind, inject_of, take_of, serves, after_serving, send_of, dump_of, step_of, answer, after_event}
+use Rattle.mesh_core.specs.Step.{outputs, in_hand, has_room, has_room_behind, push_at, push_behind, inject_of, take_of, serves, after_serving, send_of, dump_of, collect_of, step_of, answer, after_event}
 use Rattle.mesh_core.proofs.Keeping.{if_some}
 
 -- what a step answers and leaves where the event is enabled
@@ -149,3 +151,20 @@ step_of-dump s c o k hands dumped copy full is_hands is_dumped =
     dump_by s c o k (slice_get s.hands (index_of s.setup.machine c)) (sym copy) full
     ∙ (ap (λ h. Some (record s { hands = h; dumped = s.dumped ++ record { chip = c; out = o; copy = k } ∷ [] })) (sym is_hands)
     ∙ ap (λ d. Some (record s { hands = hands; dumped = d })) (sym is_dumped))
+
+collect_by : (s : State) (v : ℕ) (k : McCopy) (q : Option (List McCopy)) → front_of q ≡ Some k →
+    collect_of s v q ≡ Some (record s { cores = drop_front s.cores v q; delivered = s.delivered ++ record { vertex = v; copy = k } ∷ [] })
+collect_by s v k (Some (x ∷ rest)) front =
+    let is : x ≡ k = cc in
+    ap (λ (y : McCopy). Some (record s { cores = set s.cores v rest; delivered = s.delivered ++ record { vertex = v; copy = y } ∷ [] })) is
+collect_by s v k (Some []) front = cc
+collect_by s v k None front = cc
+
+-- the mesh after a copy was delivered
+pub step_of-collect : (s : State) (v : ℕ) (k : McCopy) (cores : List (List McCopy)) (delivered : List Delivery) → Some k ≡ front_of (slice_get s.cores v) →
+    cores ≡ drop_front s.cores v (slice_get s.cores v) → delivered ≡ s.delivered ++ record { vertex = v; copy = k } ∷ [] →
+    step_of s (Collect v) ≡ Some (record s { cores = cores; delivered = delivered })
+step_of-collect s v k cores delivered front is_cores is_delivered =
+    collect_by s v k (slice_get s.cores v) (sym front)
+    ∙ (ap (λ q. Some (record s { cores = q; delivered = s.delivered ++ record { vertex = v; copy = k } ∷ [] })) (sym is_cores)
+    ∙ ap (λ d. Some (record s { cores = cores; delivered = d })) (sym is_delivered))

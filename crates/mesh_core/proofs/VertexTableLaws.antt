@@ -15,9 +15,9 @@ use Rattle.machine_desc.specs.Live.{index_of, IsInside, IsSite}
 use Rattle.machine_desc.proofs.Far.{same_index, index_below, live_inside}
 use Rattle.machine_desc.proofs.Same.{same_spot}
 use Rattle.machine_desc.proofs.Sites.{site_parts}
-use Rattle.net_tables.specs.NetsOn.{vertex_at}
+use Rattle.machine_desc.specs.NetsOn.{vertex_at}
 use Rattle.mesh_core.specs.VertexTable.{spot_place, TellsVertices}
-use Rattle.list_laws.proofs.Places.{slice_get-set_same, slice_get-set_other}
+use Rattle.spin_base.proofs.Places.{slice_get-set_same, slice_get-set_other}
 
 -- a site is one of the 24 spots of a chip of the grid
 pub site_inside : (m : Description) (s : Spot) → IsSite m s → IsInside m s.chip × (s.core < 24)

@@ -4,7 +4,7 @@ use Rattle.std.specs.List.{slice_get, All, Contains}
 use Rattle.std.proofs.lemmas.Bool.{cases_order, and_parts, eqb-true, eq-eqb, and_from}
 use Rattle.std.proofs.lemmas.List.Elements.{All-contains}
 use Rattle.std.proofs.lemmas.Option.{slice_get_within}
-use Rattle.list_laws.proofs.Members.{among_contains}
+use Rattle.spin_base.proofs.Members.{among_contains}
 use Rattle.spin_base.specs.declared.chips.Chip.{Chip}
 use Rattle.spin_base.specs.declared.chips.Spot.{Spot}
 use Rattle.spin_base.specs.declared.chips.Port.{Port}
@@ -21,15 +21,15 @@ use Rattle.machine_desc.proofs.Branches.{ComesBy, comes_by, way_first, same_plac
 use Rattle.machine_desc.proofs.Sites.{site_parts}
 use Rattle.machine_desc.proofs.TreeLemmas.{one_edge_into}
 use Rattle.spin_base.specs.Outputs.{out_of}
-use Rattle.net_tables.specs.declared.nets.NetPlan.{NetPlan}
-use Rattle.net_tables.specs.RightTables.{IsKeyOf}
+use Rattle.machine_desc.specs.declared.nets.NetPlan.{NetPlan}
+use Rattle.machine_desc.specs.RightTables.{IsKeyOf}
 use Rattle.mesh_core.specs.declared.places.Where.{Where}
 use Rattle.mesh_core.specs.declared.places.Where.TheVariants.{Unsent}
 use Rattle.mesh_core.specs.State.{State, IsMesh}
 use Rattle.mesh_core.specs.Trail.{Station, unsent, in_queue, in_hand, at_core, delivered, dumped, Mark, on_trail, is_on_trail, is_packet_on_trail}
-use Rattle.net_tables.specs.NetsOn.{AreNetsOn, IsWayOn}
+use Rattle.machine_desc.specs.NetsOn.{AreNetsOn, IsWayOn}
 use Rattle.mesh_core.specs.Ledger.{marks_of}
-use Rattle.mesh_core.specs.Whereabouts.{TellsStation, IsTold, IsWhere, IsTracked}
+use Rattle.mesh_core.specs.Whereabouts.{TellsStation, IsFoundThere, IsWhere, IsTracked}
 use Rattle.mesh_core.specs.Searches.{IsMarkThere, IsFound, IsOfCore, IsOfOutput, IsOfPort, port_behind, IsEdgeInto}
 use Rattle.mesh_core.proofs.Counting.{counted}
 use Rattle.mesh_core.proofs.LedgerLaw.{one_net}
@@ -227,7 +227,7 @@ module _ (s : State) (net : NetPlan) (packet : ℕ) (tracked : IsTracked s net p
         ∙ tracked.ledger.once_on_each tracked.mark tracked.is_mark net tracked.in_nets tracked.is_key target xs from to way
 
     told_by : (k : Mark) → Contains (marks_of s) k → k.copy.packet ≡ packet → is_on_trail from to xs k ≡ true → (w : Where) →
-        TellsStation s k.copy k.station w → IsTold s packet xs from to w
+        TellsStation s k.copy k.station w → IsFoundThere s packet xs from to w
     told_by k has is_packet on w told = record {
       only_one = only_one;
       mark = k;
@@ -238,7 +238,7 @@ module _ (s : State) (net : NetPlan) (packet : ℕ) (tracked : IsTracked s net p
 
     -- the packet's mark on the trail, where none is but unsent
     told_unsent : ((k : Mark) → Contains (marks_of s) k → k.copy.packet ≡ packet → is_on_trail from to xs k ≡ true → IsBefore 0 k.copy.hop k.station) →
-        IsTold s packet xs from to Unsent
+        IsFoundThere s packet xs from to Unsent
     told_unsent before =
         let once = only_one in
         let k = counted (is_packet_on_trail packet from to xs) (marks_of s) (omega (arith, once)) in
@@ -433,6 +433,6 @@ module _ (s : State) (net : NetPlan) (packet : ℕ) (tracked : IsTracked s net p
     where
       by_place : (i : ℕ) → Prior xs i None →
           ((k : Mark) → Contains (marks_of s) k → k.copy.packet ≡ packet → is_on_trail from to xs k ≡ true → IsBefore i k.copy.hop k.station) →
-          IsTold s packet xs from to Unsent
+          IsFoundThere s packet xs from to Unsent
       by_place zero prior before = told_unsent xs from to way before
       by_place (suc i) prior before = absurd prior

@@ -1,15 +1,15 @@
 -- Which deliveries a job asks for.
 use Rattle.std.specs.Prelude.{◌≡◌, ℕ, ◌<◌, ◌≤◌, ◌==◌, ◌&&◌, ◌⊎◌, if◌then◌else◌, All, Contains, List, [], ◌∷◌, Option, None, Some, count_by, length, slice_get}
 use Rattle.std.specs.List.{list_any, sum_by}
-use Rattle.list_laws.specs.Gathered.{gathered}
+use Rattle.spin_base.specs.Gathered.{gathered}
 use Rattle.spin_base.specs.declared.chips.Spot.{Spot}
 use Rattle.spin_base.specs.declared.copies.Delivery.{Delivery}
 use Rattle.spin_base.specs.declared.copies.Packet.{Packet}
 use Rattle.spin_base.specs.Equality.{spot_eq}
 use Rattle.machine_desc.specs.Branch.{Exit}
-use Rattle.net_tables.specs.declared.nets.NetPlan.{NetPlan}
+use Rattle.machine_desc.specs.declared.nets.NetPlan.{NetPlan}
 use Rattle.mesh_core.specs.State.{State}
-use Rattle.net_tables.specs.NetsOn.{IsWayOn}
+use Rattle.machine_desc.specs.NetsOn.{IsWayOn}
 use Rattle.mesh_core.specs.Opened.{first_copy}
 
 -- a delivery that a job asks for: a copy of one of its packets, at the vertex of a target of the packet's net, which has
@@ -66,8 +66,8 @@ abbrev pub expected_deliveries : List Spot → List NetPlan → List Packet → 
 expected_deliveries spots nets packets = gathered (λ i p. deliveries_of spots i p (slice_get nets p.net)) 0 packets
 
 -- the order of a report: by the packet's number, then by the position of the vertex
-abbrev pub IsNotAfter : Delivery → Delivery → Type 0
-IsNotAfter a b = (a.copy.packet < b.copy.packet) ⊎ ((a.copy.packet ≡ b.copy.packet) × (a.vertex ≤ b.vertex))
+abbrev pub IsDeliveryNotAfter : Delivery → Delivery → Type 0
+IsDeliveryNotAfter a b = (a.copy.packet < b.copy.packet) ⊎ ((a.copy.packet ≡ b.copy.packet) × (a.vertex ≤ b.vertex))
 
 -- how many targets the net of a packet has
 abbrev pub targets_of_net : Option NetPlan → ℕ

@@ -1,6 +1,6 @@
 -- The ledger of copies: each target's copy of each packet is in exactly one place of its trail.
 use Rattle.std.specs.Prelude.{◌≡◌, ℕ, ◌/◌, ◌%◌, IsTrue, List, [], ◌∷◌, ◌++◌, map, Contains, Option, Some, None, count_by, slice_index_or}
-pub use Rattle.list_laws.specs.Gathered.{gathered}
+pub use Rattle.spin_base.specs.Gathered.{gathered}
 use Rattle.spin_base.specs.Links.{all_dirs}
 use Rattle.spin_base.specs.declared.chips.Chip.{Chip}
 use Rattle.spin_base.specs.declared.chips.Spot.{Spot}
@@ -11,9 +11,9 @@ use Rattle.spin_base.specs.declared.copies.Delivery.{Delivery}
 use Rattle.spin_base.specs.declared.copies.DumpRec.{DumpRec}
 use Rattle.machine_desc.specs.Live.{chip_of}
 use Rattle.machine_desc.specs.Branch.{Exit}
-use Rattle.net_tables.specs.declared.nets.NetPlan.{NetPlan}
-use Rattle.net_tables.specs.RightTables.{IsKeyOf}
-use Rattle.net_tables.specs.NetsOn.{AreNetsOn, IsWayOn}
+use Rattle.machine_desc.specs.declared.nets.NetPlan.{NetPlan}
+use Rattle.machine_desc.specs.RightTables.{IsKeyOf}
+use Rattle.machine_desc.specs.NetsOn.{AreNetsOn, IsWayOn}
 use Rattle.mesh_core.specs.State.{State, Hand}
 use Rattle.mesh_core.specs.Trail.{Station, unsent, in_queue, in_hand, at_core, delivered, dumped, Mark, is_on_trail, is_packet_on_trail}
 
@@ -26,8 +26,8 @@ abbrev pub port_of : ℕ → Port
 port_of n = slice_index_or all_ports n Local
 
 -- a mark for each copy of a list, at one station
-abbrev pub marked : Station → List McCopy → List Mark
-marked station copies = map (λ k. record { copy = k; station = station }) copies
+abbrev pub marks_at : Station → List McCopy → List Mark
+marks_at station copies = map (λ k. record { copy = k; station = station }) copies
 
 -- a mark for each output that a hand still has to serve
 abbrev pub hand_marks : Chip → Option Hand → List Mark
@@ -35,16 +35,16 @@ hand_marks c (Some h) = map (λ o. record { copy = h.copy; station = in_hand c o
 hand_marks c None = []
 
 abbrev pub unsent_marks : State → List Mark
-unsent_marks s = gathered (λ v copies. marked (unsent v) copies) 0 s.unsent
+unsent_marks s = gathered (λ v copies. marks_at (unsent v) copies) 0 s.unsent
 
 abbrev pub input_marks : State → List Mark
-input_marks s = gathered (λ i copies. marked (in_queue (chip_of s.setup.machine (i / 7)) (port_of (i % 7))) copies) 0 s.inputs
+input_marks s = gathered (λ i copies. marks_at (in_queue (chip_of s.setup.machine (i / 7)) (port_of (i % 7))) copies) 0 s.inputs
 
 abbrev pub all_hand_marks : State → List Mark
 all_hand_marks s = gathered (λ i h. hand_marks (chip_of s.setup.machine i) h) 0 s.hands
 
 abbrev pub core_marks : State → List Mark
-core_marks s = gathered (λ v copies. marked (at_core v) copies) 0 s.cores
+core_marks s = gathered (λ v copies. marks_at (at_core v) copies) 0 s.cores
 
 abbrev pub delivered_marks : State → List Mark
 delivered_marks s = map (λ (d : Delivery). record { copy = d.copy; station = delivered d.vertex }) s.delivered

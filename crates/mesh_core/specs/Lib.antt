@@ -4,8 +4,8 @@ pub use Rattle.spin_base.specs.Outputs
 pub use Rattle.machine_desc.specs.Branch
 pub use Rattle.machine_desc.specs.Description
 pub use Rattle.machine_desc.specs.Live
-pub use Rattle.net_tables.specs.NetsOn
-pub use Rattle.net_tables.specs.RightTables
+pub use Rattle.machine_desc.specs.NetsOn
+pub use Rattle.machine_desc.specs.RightTables
 pub mod Expected
 pub mod HasRun
 pub mod Heavy

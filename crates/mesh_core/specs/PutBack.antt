@@ -1,8 +1,9 @@
 -- Putting a dumped copy back.
 use Rattle.std.specs.Prelude.{List, [], ◌∷◌, Option, Some, None, unwrap_or, if◌then◌else◌}
 use Rattle.spin_base.specs.declared.copies.DumpRec.{DumpRec}
+use Rattle.spin_base.specs.Hops.{onward}
 use Rattle.mesh_core.specs.State.{State, behind}
-use Rattle.mesh_core.specs.Step.{has_room_behind, push_behind, onward}
+use Rattle.mesh_core.specs.Step.{has_room_behind, push_behind}
 
 -- The first dump record leaves the list, and its copy, with one hop more, goes to the back of the queue behind the record's
 -- output, where that isn't full (this project's own).

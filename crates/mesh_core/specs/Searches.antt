@@ -11,7 +11,7 @@ use Rattle.spin_base.specs.Links.{opposite_of}
 use Rattle.machine_desc.specs.declared.trees.Edge.{Edge}
 use Rattle.machine_desc.specs.Description.{Description}
 use Rattle.machine_desc.specs.RoutingTree.{end_of}
-use Rattle.net_tables.specs.NetsOn.{vertex_at}
+use Rattle.machine_desc.specs.NetsOn.{vertex_at}
 use Rattle.mesh_core.specs.declared.places.Where.{Where}
 use Rattle.mesh_core.specs.State.{State, Hand}
 use Rattle.mesh_core.specs.Trail.{Station, in_queue, in_hand, at_core, delivered, dumped, Mark}

@@ -6,7 +6,7 @@ use Rattle.spin_base.specs.declared.copies.McCopy.{McCopy}
 use Rattle.mesh_core.specs.declared.queues.Queue.{Queue as PlacedQueue}
 use Rattle.mesh_core.specs.declared.queues.Queue.TheVariants.{Input, Core, Nowhere}
 use Rattle.mesh_core.specs.State.{State, Hand, Queue, input, core, nowhere}
-use Rattle.mesh_core.specs.Step.{push_at, in_hand, serves, without}
+use Rattle.mesh_core.specs.Step.{push_at, in_hand, serves, outs_without}
 
 -- the copy that a live chip's hand still has to send by this output
 abbrev pub copy_served : State → Chip → Out → Option (Option Hand) → Option McCopy
@@ -15,10 +15,10 @@ copy_served s c o (Some None) = None
 copy_served s c o None = None
 
 -- the queue that the code names
-abbrev pub named : PlacedQueue → Queue
-named (Input i) = input i
-named (Core v) = core v
-named Nowhere = nowhere
+abbrev pub queue_named : PlacedQueue → Queue
+queue_named (Input i) = input i
+queue_named (Core v) = core v
+queue_named Nowhere = nowhere
 
 -- a queue that is there
 abbrev pub IsPlace : ℕ → ℕ → PlacedQueue → Type 0
@@ -40,6 +40,6 @@ cores_after cores nowhere k = cores
 
 -- the hands where the hand at a place has served an output
 abbrev pub hands_after : List (Option Hand) → ℕ → Out → Option (Option Hand) → List (Option Hand)
-hands_after hands i o (Some (Some h)) = slice_set hands i (in_hand h.copy h.port (without o h.outs))
+hands_after hands i o (Some (Some h)) = slice_set hands i (in_hand h.copy h.port (outs_without o h.outs))
 hands_after hands i o (Some None) = hands
 hands_after hands i o None = hands

@@ -1,5 +1,5 @@
 -- The core step: what one event does to the lists of a mesh.
-use Rattle.std.specs.Prelude.{ℕ, ◌+◌, ◌-◌, ◌^◌, ◌==◌, Bool, false, not, nat_lt, min, ◌&&◌, if◌then◌else◌, List, [], ◌∷◌, ◌++◌, length, Option, Some, None, is_some, unwrap_or, slice_get, slice_set}
+use Rattle.std.specs.Prelude.{ℕ, ◌==◌, Bool, false, not, nat_lt, ◌&&◌, if◌then◌else◌, List, [], ◌∷◌, ◌++◌, length, Option, Some, None, is_some, unwrap_or, slice_get, slice_set}
 use Rattle.std.specs.List.{list_any}
 use Rattle.spin_base.specs.declared.chips.Chip.{Chip}
 use Rattle.spin_base.specs.declared.chips.Spot.{Spot}
@@ -10,21 +10,14 @@ use Rattle.spin_base.specs.declared.copies.McCopy.{McCopy}
 use Rattle.spin_base.specs.declared.copies.Event.{Event}
 use Rattle.spin_base.specs.declared.copies.Event.TheVariants.{Inject, Take, Send, Dump, Collect}
 use Rattle.spin_base.specs.Equality.{out_eq}
+use Rattle.spin_base.specs.Hops.{last_hop, onward}
 use Rattle.spin_base.specs.Lookup.{lookup}
 use Rattle.spin_base.specs.Outputs.{outs_of}
 use Rattle.machine_desc.specs.Live.{index_of, is_live_chip}
-use Rattle.net_tables.specs.RightTables.{table_at}
+use Rattle.machine_desc.specs.RightTables.{table_at}
 use Rattle.mesh_core.specs.declared.places.Did.{Did}
 use Rattle.mesh_core.specs.declared.places.Did.TheVariants.{Moved, Idle}
 use Rattle.mesh_core.specs.State.{Setup, State, Hand, Queue, input, core, nowhere, behind, queue_at}
-
--- the greatest hop number
-abbrev pub last_hop : ℕ
-last_hop = 2 ^ 32 - 1
-
--- the copy behind a router: one hop more, up to the greatest hop number
-abbrev pub onward : McCopy → McCopy
-onward k = record k { hop = min (k.hop + 1) last_hop }
 
 -- The outputs that a router gives a copy: those that lookup gives its key at its port (SpiNNaker datasheet), and none
 -- where it has the greatest hop number (this project's own).
@@ -37,9 +30,9 @@ in_hand k port [] = None
 in_hand k port (o ∷ os) = Some (record { copy = k; port = port; outs = o ∷ os })
 
 -- the outputs but the first that is this one
-abbrev pub without : Out → List Out → List Out
-without o [] = []
-without o (p ∷ os) = if out_eq o p then os else p ∷ without o os
+abbrev pub outs_without : Out → List Out → List Out
+outs_without o [] = []
+outs_without o (p ∷ os) = if out_eq o p then os else p ∷ outs_without o os
 
 -- whether a list of queues has one at this place that holds less than the capacity
 abbrev pub has_room : ℕ → Option (List McCopy) → Bool
@@ -91,7 +84,7 @@ serves s c o None = false
 
 -- the mesh where the hand has served an output
 abbrev pub after_serving : State → Chip → Out → Hand → State
-after_serving s c o h = record s { hands = slice_set s.hands (index_of s.setup.machine c) (in_hand h.copy h.port (without o h.outs)) }
+after_serving s c o h = record s { hands = slice_set s.hands (index_of s.setup.machine c) (in_hand h.copy h.port (outs_without o h.outs)) }
 
 -- Send: a chip whose hand has the output, and behind it a queue that isn't full, sends the copy with one hop more to
 -- the back of that queue, and the output leaves the hand.

@@ -3,9 +3,9 @@ use Rattle.std.specs.Prelude.{◌≡◌, ℕ, List, Contains, Some, IsTrue, coun
 use Rattle.spin_base.specs.declared.chips.Spot.{Spot}
 use Rattle.spin_base.specs.declared.copies.McCopy.{McCopy}
 use Rattle.machine_desc.specs.Branch.{Exit}
-use Rattle.net_tables.specs.declared.nets.NetPlan.{NetPlan}
-use Rattle.net_tables.specs.RightTables.{IsKeyOf}
-use Rattle.net_tables.specs.NetsOn.{IsWayOn}
+use Rattle.machine_desc.specs.declared.nets.NetPlan.{NetPlan}
+use Rattle.machine_desc.specs.RightTables.{IsKeyOf}
+use Rattle.machine_desc.specs.NetsOn.{IsWayOn}
 use Rattle.mesh_core.specs.declared.places.Place.TheVariants.{InQueue, Hand as HandAt, CoreQueue}
 use Rattle.mesh_core.specs.declared.places.Where.{Where}
 use Rattle.mesh_core.specs.declared.places.Where.TheVariants.{Unsent, At, Delivered, Dumped}
@@ -25,7 +25,7 @@ TellsStation s k (dumped c o) w = (i : ℕ) × (slice_get s.dumped i ≡ Some (r
 
 -- The target's copy of the packet is where the answer tells: exactly one mark of the packet is on the target's trail, and
 -- the answer tells the station of that mark.
-pub record IsTold (s : State) (packet : ℕ) (branch : List Exit) (from to : ℕ) (w : Where) : Type 0 where
+pub record IsFoundThere (s : State) (packet : ℕ) (branch : List Exit) (from to : ℕ) (w : Where) : Type 0 where
   pub only_one : count_by (is_packet_on_trail packet from to branch) (marks_of s) ≡ 1
   pub mark : Mark
   pub is_mark : Contains (marks_of s) mark
@@ -35,7 +35,7 @@ pub record IsTold (s : State) (packet : ℕ) (branch : List Exit) (from to : ℕ
 -- An answer is where a target's copy of a packet of a net is: it tells it on every way of the net to the target.
 abbrev pub IsWhere : State → NetPlan → ℕ → Spot → Where → Type 0
 IsWhere s net packet target w =
-    (branch : List Exit) (from to : ℕ) → IsWayOn s.setup.machine s.setup.spots net target branch from to → IsTold s packet branch from to w
+    (branch : List Exit) (from to : ℕ) → IsWayOn s.setup.machine s.setup.spots net target branch from to → IsFoundThere s packet branch from to w
 
 -- A packet of a net is tracked where the mesh meets the ledger of some list of nets that has this net, and some mark of
 -- the packet has a key of the net's block.

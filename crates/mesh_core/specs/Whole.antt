@@ -13,5 +13,5 @@ state_of s = record {
   dumped = s.dumped;
 }
 
-abbrev pub IsWhole : Inside → Type 0
-IsWhole s = IsMesh (state_of s)
+abbrev pub IsWholeMesh : Inside → Type 0
+IsWholeMesh s = IsMesh (state_of s)

@@ -4,7 +4,7 @@ ghost use Rattle.std.specs.List.{list_any};
 ghost use Rattle.spin_base.specs.Equality.{out_eq};
 ghost use Rattle.spin_base.specs.Lookup.{lookup};
 ghost use Rattle.spin_base.specs.Outputs.{outs_of};
-ghost use Rattle.mesh_core.specs.Step.{without};
+ghost use Rattle.mesh_core.specs.Step.{outs_without};
 ghost use Rattle.mesh_core.specs.Serving.{hands_after};
 
 use spin_base::{McCopy, Memory, Out, Outs, Port};
@@ -29,11 +29,14 @@ impl Model for Hand {
 }
 
 impl Hand {
-    ghost use Rattle.mesh_core.specs.Step.{in_hand, last_hop};
+    ghost use Rattle.spin_base.specs.Hops.{last_hop};
+    ghost use Rattle.mesh_core.specs.Step.{in_hand};
 
     // What a router holds once it took a copy from a port: nothing where it gives the copy no output.
     pub(crate) fn taken(copy: McCopy, port: Port, table: &Tcam) -> Option<Hand>
-        ensures { result ≡ in_hand copy port (if copy.hop == last_hop then [] else outs_of (lookup table.now copy.key port)) }
+        ensures { result
+            ≡ in_hand copy port (if copy.hop == last_hop then [] else outs_of
+            (lookup table.now copy.key port)) }
     {
         if copy.hop == u32::MAX {
             return None;
@@ -58,7 +61,7 @@ impl Hand {
 
     // What is held after that output was served: nothing where no other is left.
     pub(crate) fn without(self, out: Out) -> Option<Hand>
-        ensures { result ≡ in_hand self.copy self.port (without out self.outs) }
+        ensures { result ≡ in_hand self.copy self.port (outs_without out self.outs) }
     {
         let Hand {
             copy,
@@ -77,7 +80,7 @@ impl Hand {
 // Takes an output off the list, at its first place.
 #[tactic(auto, using(crate::proofs::HandOutputs::left_outputs))]
 fn strike(outs: &mut Outs, out: Out)
-    ensures { outs.new.items ≡ without out outs.old.items }
+    ensures { outs.new.items ≡ outs_without out outs.old.items }
 {
     if let Some(place) = place_of(outs, out) {
         outs.remove(place);

@@ -12,9 +12,9 @@ ghost use Rattle.spin_base.specs.declared.copies.Packet.{Packet};
 ghost use Rattle.machine_desc.specs.Branch.{Exit};
 ghost use Rattle.machine_desc.specs.Description.{Description, HasSize};
 ghost use Rattle.machine_desc.specs.Live.{IsSite};
-ghost use Rattle.net_tables.specs.declared.nets.NetPlan.{NetPlan};
-ghost use Rattle.net_tables.specs.NetsOn.{AreNetsOn, IsWayOn};
-ghost use Rattle.net_tables.specs.RightTables.{AreRight};
+ghost use Rattle.machine_desc.specs.declared.nets.NetPlan.{NetPlan};
+ghost use Rattle.machine_desc.specs.NetsOn.{AreNetsOn, IsWayOn};
+ghost use Rattle.machine_desc.specs.RightTables.{AreRight};
 ghost use Rattle.mesh_core.specs.State.{Setup, State, IsMesh, Queue, behind};
 ghost use Rattle.mesh_core.specs.declared.places.Did.TheVariants.{Idle};
 ghost use Rattle.mesh_core.specs.Step.{after_events, answer};
@@ -23,31 +23,46 @@ ghost use Rattle.mesh_core.specs.Ledger.{marks_of, Label, Asked, MeetsLedger, Me
 ghost use Rattle.mesh_core.specs.Trail.{in_hand};
 ghost use Rattle.mesh_core.specs.Waiting.{queue_of};
 ghost use Rattle.mesh_core.specs.Opened.{opened_mesh, AreOfNets, MeetsJobLedger};
-ghost use Rattle.mesh_core.specs.Expected.{IsAtRest, AreAsExpected, without_hop, IsNotAfter, expected_deliveries, expected_count};
+ghost use Rattle.mesh_core.specs.Expected.{IsAtRest, AreAsExpected, without_hop, IsDeliveryNotAfter, expected_deliveries, expected_count};
+
+use crate::meshes::Mesh;
+pub use crate::setups::every_setup_has_sites;
 
 /// The opened mesh of a job is a mesh, for vertices on different sites of a machine of 1 to 64 chips along each axis, with one
 /// table for each chip index and room for at least one copy in a queue.
 pub fn an_opened_mesh_is_a_mesh()
     ensures { (setup : Setup) (nets : List NetPlan) (packets : List Packet) →
-        HasSize setup.machine → AllPairs (λ a b. a ≢ b) setup.spots → All (IsSite setup.machine) setup.spots →
+        HasSize setup.machine → AllPairs (λ a b. a ≢ b) setup.spots
+        → All (IsSite setup.machine) setup.spots →
         length setup.tables ≡ setup.machine.width * setup.machine.height → 1 ≤ setup.capacity →
         IsMesh (opened_mesh setup nets packets) }
 {}
 
+/// Every mesh is one, with the lists that a mesh has.
+pub fn every_mesh_is_one(mesh: &Mesh)
+    ensures { IsMesh mesh.now }
+{
+    let _ = &mesh.setup; // Opens the mesh.
+}
+
 /// A mesh is one after every list of events, and after its first dumped copy was put back.
 pub fn a_mesh_stays_a_mesh()
-    ensures after_events { (s : State) (events : List Event) → IsMesh s → IsMesh (after_events s events) }
+    ensures after_events { (s : State) (events : List Event) → IsMesh s
+        → IsMesh (after_events s events) }
     ensures after_put_back { (s : State) → IsMesh s → IsMesh (after_put_back s) }
 {}
 
 /// Each target of a net that stands on a machine has a way, and two ways to one target are one.
 pub fn each_target_has_one_way()
-    ensures some { (m : Description) (spots : List Spot) (nets : List NetPlan) (net : NetPlan) (target : Spot) →
+    ensures some { (m : Description) (spots : List Spot) (nets : List NetPlan) (net : NetPlan)
+        (target : Spot) →
         AreNetsOn m spots nets → Contains nets net → Contains net.targets target →
         (branch : List Exit) × (from : ℕ) × (to : ℕ) × IsWayOn m spots net target branch from to }
-    ensures no_other { (m : Description) (spots : List Spot) (nets : List NetPlan) (net : NetPlan) (target : Spot)
+    ensures no_other { (m : Description) (spots : List Spot) (nets : List NetPlan) (net : NetPlan)
+        (target : Spot)
         (branch other : List Exit) (from begin to end : ℕ) →
-        AreNetsOn m spots nets → Contains nets net → IsWayOn m spots net target branch from to → IsWayOn m spots net target other begin end →
+        AreNetsOn m spots nets → Contains nets net → IsWayOn m spots net target branch from to
+        → IsWayOn m spots net target other begin end →
         (branch ≡ other) × (from ≡ begin) × (to ≡ end) }
 {}
 
@@ -55,28 +70,37 @@ pub fn each_target_has_one_way()
 /// of events, so after each event of any list; and the same for the ledger of asked packets and that of a job.
 pub fn events_keep_the_ledger()
     ensures of_nets { (s : State) (nets : List NetPlan) (labels : ℕ → Label) (events : List Event) →
-        IsMesh s → AreRight s.setup.machine s.setup.tables nets → MeetsLedger s nets labels → MeetsLedger (after_events s events) nets labels }
-    ensures of_asked { (s : State) (nets : List NetPlan) (asked : ℕ → Option Asked) (events : List Event) →
-        IsMesh s → AreRight s.setup.machine s.setup.tables nets → MeetsLedgerFor s nets asked → MeetsLedgerFor (after_events s events) nets asked }
-    ensures of_job { (s : State) (nets : List NetPlan) (packets : List Packet) (events : List Event) →
-        IsMesh s → AreRight s.setup.machine s.setup.tables nets → MeetsJobLedger s nets packets → MeetsJobLedger (after_events s events) nets packets }
+        IsMesh s → AreRight s.setup.machine s.setup.tables nets → MeetsLedger s nets labels
+        → MeetsLedger (after_events s events) nets labels }
+    ensures of_asked { (s : State) (nets : List NetPlan) (asked : ℕ
+        → Option Asked) (events : List Event) →
+        IsMesh s → AreRight s.setup.machine s.setup.tables nets → MeetsLedgerFor s nets asked
+        → MeetsLedgerFor (after_events s events) nets asked }
+    ensures of_job { (s : State) (nets : List NetPlan) (packets : List Packet)
+        (events : List Event) →
+        IsMesh s → AreRight s.setup.machine s.setup.tables nets → MeetsJobLedger s nets packets
+        → MeetsJobLedger (after_events s events) nets packets }
 {}
 
 /// The same of putting the first dumped copy back.
 pub fn putting_back_keeps_the_ledger()
     ensures of_nets { (s : State) (nets : List NetPlan) (labels : ℕ → Label) →
-        IsMesh s → AreRight s.setup.machine s.setup.tables nets → MeetsLedger s nets labels → MeetsLedger (after_put_back s) nets labels }
+        IsMesh s → AreRight s.setup.machine s.setup.tables nets → MeetsLedger s nets labels
+        → MeetsLedger (after_put_back s) nets labels }
     ensures of_asked { (s : State) (nets : List NetPlan) (asked : ℕ → Option Asked) →
-        IsMesh s → AreRight s.setup.machine s.setup.tables nets → MeetsLedgerFor s nets asked → MeetsLedgerFor (after_put_back s) nets asked }
+        IsMesh s → AreRight s.setup.machine s.setup.tables nets → MeetsLedgerFor s nets asked
+        → MeetsLedgerFor (after_put_back s) nets asked }
     ensures of_job { (s : State) (nets : List NetPlan) (packets : List Packet) →
-        IsMesh s → AreRight s.setup.machine s.setup.tables nets → MeetsJobLedger s nets packets → MeetsJobLedger (after_put_back s) nets packets }
+        IsMesh s → AreRight s.setup.machine s.setup.tables nets → MeetsJobLedger s nets packets
+        → MeetsJobLedger (after_put_back s) nets packets }
 {}
 
 /// The opened mesh of a job meets the ledger of the job, where the nets stand on its machine and each packet has a key of its
 /// net.
 pub fn opened_mesh_meets_its_ledger()
     ensures { (setup : Setup) (nets : List NetPlan) (packets : List Packet) →
-        AreNetsOn setup.machine setup.spots nets → AreOfNets nets packets → MeetsJobLedger (opened_mesh setup nets packets) nets packets }
+        AreNetsOn setup.machine setup.spots nets → AreOfNets nets packets
+        → MeetsJobLedger (opened_mesh setup nets packets) nets packets }
 {}
 
 /// A mesh that meets the ledger of a job, where nothing waits, nothing is unsent and nothing was dumped, has delivered
@@ -91,14 +115,15 @@ pub fn a_mesh_at_rest_has_delivered_all()
 pub fn deliveries_in_order_are_the_expected_list()
     ensures { (s : State) (nets : List NetPlan) (packets : List Packet) (sorted : List Delivery) →
         IsMesh s → MeetsJobLedger s nets packets → IsAtRest s → s.dumped ≡ [] →
-        IsPermutation s.delivered sorted → AllPairs IsNotAfter sorted →
+        IsPermutation s.delivered sorted → AllPairs IsDeliveryNotAfter sorted →
         map without_hop sorted ≡ expected_deliveries s.setup.spots nets packets }
 {}
 
 /// And they are as many as the targets of the packets' nets, over all packets.
 pub fn deliveries_are_as_many_as_expected()
     ensures { (s : State) (nets : List NetPlan) (packets : List Packet) →
-        IsMesh s → MeetsJobLedger s nets packets → IsAtRest s → s.dumped ≡ [] → length s.delivered ≡ expected_count nets packets }
+        IsMesh s → MeetsJobLedger s nets packets → IsAtRest s → s.dumped ≡ []
+        → length s.delivered ≡ expected_count nets packets }
 {}
 
 /// The deliveries and dump records of a mesh that meets the ledger of a job are few: together at most the number of packets
@@ -115,19 +140,27 @@ pub fn deliveries_and_records_are_few()
 /// In a mesh that meets the ledger of copies a packet waits once: behind each output that a hand still has to serve there is a
 /// queue, without a copy of the hand's packet; and no queue has two copies of one packet.
 pub fn a_packet_waits_once()
-    ensures behind_a_hand { (s : State) (nets : List NetPlan) (labels : ℕ → Label) (c : Chip) (o : Out) (k : McCopy) →
-        IsMesh s → MeetsLedger s nets labels → Contains (marks_of s) (record { copy = k; station = in_hand c o }) →
-        (q : List McCopy) × (queue_of s (behind s.setup c o) ≡ Some q) × All (λ j. j.packet ≢ k.packet) q }
-    ensures in_a_queue { (s : State) (nets : List NetPlan) (labels : ℕ → Label) (b : Queue) (q : List McCopy) (number : ℕ) →
-        MeetsLedger s nets labels → queue_of s b ≡ Some q → count_by (λ j. j.packet == number) q ≤ 1 }
+    ensures behind_a_hand { (s : State) (nets : List NetPlan) (labels : ℕ
+        → Label) (c : Chip) (o : Out) (k : McCopy) →
+        IsMesh s → MeetsLedger s nets labels
+        → Contains (marks_of s) (record { copy = k; station = in_hand c o }) →
+        (q : List McCopy) × (queue_of s (behind s.setup c o) ≡ Some q)
+        × All (λ j. j.packet ≢ k.packet) q }
+    ensures in_a_queue { (s : State) (nets : List NetPlan) (labels : ℕ
+        → Label) (b : Queue) (q : List McCopy) (number : ℕ) →
+        MeetsLedger s nets labels → queue_of s b ≡ Some q
+        → count_by (λ j. j.packet == number) q ≤ 1 }
 {}
 
 /// Where a queue has room for a copy of each packet of a job, no Dump is enabled, and no list of events makes a dump record.
 pub fn a_roomy_mesh_drops_nothing()
     ensures idle { (s : State) (nets : List NetPlan) (packets : List Packet) (c : Chip) (o : Out) →
-        IsMesh s → MeetsJobLedger s nets packets → length packets ≤ s.setup.capacity → answer s (Dump c o) ≡ Idle }
-    ensures no_record { (s : State) (nets : List NetPlan) (packets : List Packet) (events : List Event) →
-        IsMesh s → AreRight s.setup.machine s.setup.tables nets → MeetsJobLedger s nets packets → length packets ≤ s.setup.capacity →
+        IsMesh s → MeetsJobLedger s nets packets → length packets ≤ s.setup.capacity
+        → answer s (Dump c o) ≡ Idle }
+    ensures no_record { (s : State) (nets : List NetPlan) (packets : List Packet)
+        (events : List Event) →
+        IsMesh s → AreRight s.setup.machine s.setup.tables nets → MeetsJobLedger s nets packets
+        → length packets ≤ s.setup.capacity →
         (after_events s events).dumped ≡ s.dumped }
 {}
 
@@ -135,7 +168,9 @@ pub fn a_roomy_mesh_drops_nothing()
 /// that leaves nothing waiting and nothing unsent: in whatever order routers, cores and vertices take their turns.
 pub fn a_roomy_mesh_delivers_all()
     ensures { (setup : Setup) (nets : List NetPlan) (packets : List Packet) (events : List Event) →
-        IsMesh (opened_mesh setup nets packets) → AreRight setup.machine setup.tables nets → AreNetsOn setup.machine setup.spots nets →
-        AreOfNets nets packets → length packets ≤ setup.capacity → IsAtRest (after_events (opened_mesh setup nets packets) events) →
+        IsMesh (opened_mesh setup nets packets) → AreRight setup.machine setup.tables nets
+        → AreNetsOn setup.machine setup.spots nets →
+        AreOfNets nets packets → length packets ≤ setup.capacity
+        → IsAtRest (after_events (opened_mesh setup nets packets) events) →
         AreAsExpected (after_events (opened_mesh setup nets packets) events) nets packets }
 {}

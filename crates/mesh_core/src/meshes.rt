@@ -5,12 +5,11 @@ ghost use Rattle.std.specs.Option.{option_copied};
 use crate::hands::Hand;
 use crate::parts::{EmptyLists, MeshParts};
 use crate::queues::push_at;
-use crate::setups::{MeshSetup, queue_place};
+use crate::setups::{MeshSetup, every_setup_has_sites, queue_place};
 use machine_desc::Machine;
 use spin_base::{Chip, Delivery, DumpRec, Fifo, McCopy, Memory, Port, Seq, Spot};
 use std::alloc::Global;
 use std::marker::Model;
-use tcam_find::Tcam;
 
 /// Routers, queues and vertices of every chip of a machine.
 ///
@@ -34,11 +33,11 @@ impl Model for Mesh {
 
     ghost Value = { State };
 
-    ghost use Rattle.mesh_core.specs.Whole.{state_of, IsWhole};
+    ghost use Rattle.mesh_core.specs.Whole.{state_of, IsWholeMesh};
 
     ghost view = { state_of };
 
-    ghost invariant = { IsWhole };
+    ghost invariant = { IsWholeMesh };
 }
 
 impl Mesh {
@@ -47,24 +46,14 @@ impl Mesh {
     ghost use Rattle.mesh_core.specs.Opened.{empty_mesh};
     ghost use Rattle.mesh_core.specs.Step.{push_at};
 
-    /// A mesh without a copy: for vertices on these spots, with one table for each chip index, and queues of at most
-    /// `queue` copies.
-    pub fn new(
-        alloc: Global,
-        machine: Machine,
-        spots: Seq<Spot>,
-        tables: Seq<Tcam>,
-        queue: u32,
-    ) -> Result<Mesh, Memory>
-        requires different { AllPairs (λ a b. a ≢ b) spots }
-        requires sites { All (IsSite machine) spots }
-        requires tables { length tables ≡ machine.width * machine.height }
-        requires room { 1 ≤ queue }
-        ensures { IfOk result (λ mesh. mesh ≡ empty_mesh (record { machine = machine; spots = spots; tables = tables; capacity = queue })) }
+    /// A mesh without a copy.
+    pub fn new(alloc: Global, setup: MeshSetup) -> Result<Mesh, Memory>
+        requires { length setup.tables ≡ setup.machine.width * setup.machine.height }
+        ensures { IfOk result (λ mesh. mesh ≡ empty_mesh setup) }
     {
-        let chips = machine.chips();
-        let vertices = spots.len();
-        let setup = MeshSetup::new(alloc, machine, spots, tables, queue)?;
+        every_setup_has_sites(&setup);
+        let chips = setup.machine().chips();
+        let vertices = setup.spots().len();
         let lists = EmptyLists::new(alloc, vertices, chips)?;
         Ok(Mesh {
             setup,
@@ -146,7 +135,11 @@ impl Mesh {
     pub fn add(&mut self, vertex: u32, copy: McCopy) -> Result<(), Memory>
         requires exists { vertex < length self.old.setup.spots }
         requires at_start { copy.hop ≡ 0 }
-        ensures ok { OnOk result (self.new ≡ record self.old { unsent = push_at self.old.unsent vertex copy (slice_get self.old.unsent vertex) }) }
+        ensures ok { OnOk result (self.new
+            ≡ record self.old {
+              unsent = push_at self.old.unsent vertex copy
+                  (slice_get self.old.unsent vertex);
+            }) }
         ensures err { OnErr result (self.new ≡ self.old) }
     {
         push_at(&mut self.unsent, vertex as usize, copy)
@@ -171,7 +164,8 @@ impl Mesh {
     /// The input queue of a port, front first.
     pub fn queue(&self, c: Chip, port: Port) -> &[McCopy]
         requires { IsInside self.now.setup.machine c }
-        ensures { slice_get self.now.inputs (queue_at self.now.setup.machine c port) ≡ Some result.now }
+        ensures { slice_get self.now.inputs (queue_at self.now.setup.machine c port)
+            ≡ Some result.now }
     {
         self.inputs[queue_place(self.setup.machine(), c, port)].as_slice()
     }
@@ -179,7 +173,8 @@ impl Mesh {
     /// What the chip's router holds, and `None` exactly where it holds nothing.
     pub fn hand(&self, c: Chip) -> Option<&Hand>
         requires { IsInside self.now.setup.machine c }
-        ensures { slice_get self.now.hands (index_of self.now.setup.machine c) ≡ Some (option_copied result) }
+        ensures { slice_get self.now.hands (index_of self.now.setup.machine c)
+            ≡ Some (option_copied result) }
     {
         self.hands[self.setup.machine().index(c) as usize].as_ref()
     }

@@ -2,7 +2,7 @@
 ghost use Rattle.std.specs.Prelude.{◌≡◌, ◌<◌, [], ◌∷◌, slice_get, slice_set, replicate, length, OnOk, OnErr, IfOk};
 ghost use Rattle.mesh_core.specs.Step.{has_room, push_at};
 ghost use Rattle.mesh_core.specs.Queues.{front_of, drop_front};
-ghost use Rattle.mesh_core.specs.Serving.{named, IsPlace, inputs_after, cores_after};
+ghost use Rattle.mesh_core.specs.Serving.{queue_named, IsPlace, inputs_after, cores_after};
 
 use spin_base::{Fifo, McCopy, Memory};
 use std::alloc::Global;
@@ -46,7 +46,8 @@ pub fn front(queues: &[Fifo<McCopy>], place: usize) -> Option<McCopy>
 // Puts a copy at the queue's back.
 pub fn push_at(queues: &mut [Fifo<McCopy>], place: usize, copy: McCopy) -> Result<(), Memory>
     requires { place < length queues.old }
-    ensures ok { OnOk result (queues.new ≡ push_at queues.old place copy (slice_get queues.old place)) }
+    ensures ok { OnOk result (queues.new
+        ≡ push_at queues.old place copy (slice_get queues.old place)) }
     ensures err { OnErr result (queues.new ≡ queues.old) }
 {
     queues[place].push(copy)
@@ -68,8 +69,8 @@ pub fn push_behind(
     copy: McCopy,
 ) -> Result<(), Memory>
     requires { IsPlace (length inputs.old) (length cores.old) queue }
-    ensures inputs { OnOk result (inputs.new ≡ inputs_after inputs.old (named queue) copy) }
-    ensures cores { OnOk result (cores.new ≡ cores_after cores.old (named queue) copy) }
+    ensures inputs { OnOk result (inputs.new ≡ inputs_after inputs.old (queue_named queue) copy) }
+    ensures cores { OnOk result (cores.new ≡ cores_after cores.old (queue_named queue) copy) }
     ensures inputs_stay { OnErr result (inputs.new ≡ inputs.old) }
     ensures cores_stay { OnErr result (cores.new ≡ cores.old) }
 {

@@ -1,6 +1,6 @@
 // What a mesh never changes.
-ghost use Rattle.std.specs.Prelude.{◌≡◌, ◌≢◌, ◌+◌, ◌*◌, ◌<◌, All, AllPairs, IfOk, length};
-ghost use Rattle.machine_desc.specs.Live.{IsInside as IsInsideGrid};
+ghost use Rattle.std.specs.Prelude.{◌≡◌, ◌≢◌, ◌+◌, ◌*◌, ◌<◌, ◌≤◌, All, AllPairs, IfOk, length};
+ghost use Rattle.machine_desc.specs.Live.{IsInside as IsInsideGrid, IsSite as IsSiteOf};
 ghost use Rattle.mesh_core.specs.State.{queue_at as place_of_queue};
 
 use crate::queues::Queue;
@@ -30,19 +30,19 @@ impl Model for MeshSetup {
 
     ghost Value = { Setup };
 
-    ghost use Rattle.mesh_core.specs.Tabled.{setup_of, IsTabled};
+    ghost use Rattle.mesh_core.specs.Tabled.{setup_seen, IsSetupTabled};
 
-    ghost view = { setup_of };
+    ghost view = { setup_seen };
 
-    ghost invariant = { IsTabled };
+    ghost invariant = { IsSetupTabled };
 }
 
 impl MeshSetup {
     ghost use Rattle.spin_base.specs.declared.routes.Out.TheVariants.{Link};
     ghost use Rattle.machine_desc.specs.Live.{IsInside, IsSite};
-    ghost use Rattle.net_tables.specs.NetsOn.{vertex_at};
-    ghost use Rattle.mesh_core.specs.State.{behind, core_of};
-    ghost use Rattle.mesh_core.specs.Serving.{named, IsPlace};
+    ghost use Rattle.machine_desc.specs.NetsOn.{vertex_at};
+    ghost use Rattle.mesh_core.specs.State.{behind, core_queue_of};
+    ghost use Rattle.mesh_core.specs.Serving.{queue_named, IsPlace};
 
     /// The setup of vertices on these spots of a machine, with one table for each chip index, and queues of at most
     /// `capacity` copies.
@@ -55,7 +55,9 @@ impl MeshSetup {
     ) -> Result<MeshSetup, Memory>
         requires different { AllPairs (λ a b. a ≢ b) spots }
         requires sites { All (IsSite machine) spots }
-        ensures { IfOk result (λ u. u ≡ record { machine = machine; spots = spots; tables = tables; capacity = capacity }) }
+        requires room { 1 ≤ capacity }
+        ensures { IfOk result (λ u. u
+            ≡ record { machine = machine; spots = spots; tables = tables; capacity = capacity }) }
     {
         let vertices = vertex_table(alloc, &machine, spots.as_slice())?;
         Ok(MeshSetup {
@@ -112,12 +114,15 @@ impl MeshSetup {
         self.vertices[spot_place(&self.machine, spot)]
     }
 
-    /// The queue behind an output.
+    /// The queue behind an output. There is none behind an output of a chip that isn't live.
     pub fn behind(&self, c: Chip, out: Out) -> Queue
-        requires { IsInside self.now.machine c }
-        ensures queue { named result ≡ behind self.now c out }
-        ensures place { IsPlace (7 * (self.now.machine.width * self.now.machine.height)) (length self.now.spots) result }
+        ensures queue { queue_named result ≡ behind self.now c out }
+        ensures place { IsPlace (7 * (self.now.machine.width * self.now.machine.height))
+            (length self.now.spots) result }
     {
+        if !self.machine.live(c) {
+            return Queue::Nowhere;
+        }
         match out {
             Out::Link(link) => self.behind_link(c, link),
             Out::Core(core) => {
@@ -133,8 +138,9 @@ impl MeshSetup {
     // The queue behind a link: at its far end where it is live, else that of the device on it.
     fn behind_link(&self, c: Chip, link: Dir) -> Queue
         requires { IsInside self.now.machine c }
-        ensures queue { named result ≡ behind self.now c (Link link) }
-        ensures place { IsPlace (7 * (self.now.machine.width * self.now.machine.height)) (length self.now.spots) result }
+        ensures queue { queue_named result ≡ behind self.now c (Link link) }
+        ensures place { IsPlace (7 * (self.now.machine.width * self.now.machine.height))
+            (length self.now.spots) result }
     {
         if !self.machine.link_live(c, link) {
             return self.queue_on(Spot {
@@ -152,14 +158,24 @@ impl MeshSetup {
     fn queue_on(&self, spot: Spot) -> Queue
         requires inside { IsInside self.now.machine spot.chip }
         requires numbered { spot.core < 24 }
-        ensures queue { named result ≡ core_of (vertex_at self.now.spots spot) }
-        ensures place { IsPlace (7 * (self.now.machine.width * self.now.machine.height)) (length self.now.spots) result }
+        ensures queue { queue_named result ≡ core_queue_of (vertex_at self.now.spots spot) }
+        ensures place { IsPlace (7 * (self.now.machine.width * self.now.machine.height))
+            (length self.now.spots) result }
     {
         match self.vertex_at(spot) {
             None => Queue::Nowhere,
             Some(vertex) => Queue::Core(vertex),
         }
     }
+}
+
+/// The vertices of every setup are on different sites, and its queues have room for at least one copy.
+pub fn every_setup_has_sites(setup: &MeshSetup)
+    ensures different { AllPairs (λ a b. a ≢ b) setup.now.spots }
+    ensures sites { All (IsSiteOf setup.now.machine) setup.now.spots }
+    ensures room { 1 ≤ setup.now.capacity }
+{
+    let _ = &setup.machine; // Opens the setup.
 }
 
 // The place of an input queue in the list of them.

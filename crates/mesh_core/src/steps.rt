@@ -2,8 +2,9 @@
 ghost use Rattle.std.specs.Prelude.{◌≡◌, ℕ, List, OnOk, OnErr, IfOk, IfSome, length, slice_get};
 ghost use Rattle.machine_desc.specs.Live.{index_of, IsInside};
 ghost use Rattle.mesh_core.specs.State.{behind};
-ghost use Rattle.mesh_core.specs.Step.{has_room_behind, onward};
-ghost use Rattle.mesh_core.specs.Serving.{named, copy_served, IsPlace};
+ghost use Rattle.spin_base.specs.Hops.{onward};
+ghost use Rattle.mesh_core.specs.Step.{has_room_behind};
+ghost use Rattle.mesh_core.specs.Serving.{queue_named, copy_served, IsPlace};
 
 use crate::hands::{Hand, serve};
 use crate::meshes::Mesh;
@@ -18,8 +19,8 @@ impl Mesh {
     ghost use Rattle.spin_base.specs.declared.chips.Chip.{Chip};
     ghost use Rattle.spin_base.specs.declared.routes.Out.{Out};
     ghost use Rattle.spin_base.specs.declared.copies.Packet.{Packet};
-    ghost use Rattle.net_tables.specs.declared.nets.NetPlan.{NetPlan};
-    ghost use Rattle.net_tables.specs.RightTables.{AreRight};
+    ghost use Rattle.machine_desc.specs.declared.nets.NetPlan.{NetPlan};
+    ghost use Rattle.machine_desc.specs.RightTables.{AreRight};
     ghost use Rattle.mesh_core.specs.declared.places.Did.TheVariants.{Idle};
     ghost use Rattle.mesh_core.specs.Step.{after_event, answer};
     ghost use Rattle.mesh_core.specs.Ledger.{Label, MeetsLedger};
@@ -45,9 +46,12 @@ impl Mesh {
         ensures err { OnErr result (self.new ≡ self.old) }
         ensures setup_stays { self.new.setup ≡ self.old.setup }
         ensures ledger { (nets : List NetPlan) (labels : ℕ → Label) →
-            AreRight self.old.setup.machine self.old.setup.tables nets → MeetsLedger self.old nets labels → MeetsLedger self.new nets labels }
-        ensures roomy { (nets : List NetPlan) (packets : List Packet) (c : Chip) (o : Out) → MeetsJobLedger self.old nets packets →
-            length packets ≤ self.old.setup.capacity → e ≡ Dump c o → IfOk result (λ did. did ≡ Idle) }
+            AreRight self.old.setup.machine self.old.setup.tables nets
+            → MeetsLedger self.old nets labels → MeetsLedger self.new nets labels }
+        ensures roomy { (nets : List NetPlan) (packets : List Packet) (c : Chip) (o : Out)
+            → MeetsJobLedger self.old nets packets →
+            length packets ≤ self.old.setup.capacity → e ≡ Dump c o
+            → IfOk result (λ did. did ≡ Idle) }
     {
         let _ = &self.setup; // Opens the mesh: what every mesh has is then known of the old one.
         match e {
@@ -163,7 +167,9 @@ impl Mesh {
 
     // The copy in the hand of the chip's router that still has to leave by the output.
     fn copy_for(&self, c: Chip, out: Out) -> Option<McCopy>
-        ensures copy { result ≡ copy_served self.now c out (slice_get self.now.hands (index_of self.now.setup.machine c)) }
+        ensures copy { result
+            ≡ copy_served self.now c out (slice_get self.now.hands
+            (index_of self.now.setup.machine c)) }
         ensures inside { IfSome result (λ _. IsInside self.now.setup.machine c) }
     {
         let machine = self.setup.machine();
@@ -178,10 +184,9 @@ impl Mesh {
         }
     }
 
-    // The queue behind an output.
-    fn behind(&self, c: Chip, out: Out) -> Queue
-        requires { IsInside self.now.setup.machine c }
-        ensures queue { named result ≡ behind self.now.setup c out }
+    /// The queue behind an output. There is none behind an output of a chip that isn't live. It takes constant time and no memory.
+    pub fn behind(&self, c: Chip, out: Out) -> Queue
+        ensures queue { queue_named result ≡ behind self.now.setup c out }
         ensures place { IsPlace (length self.now.inputs) (length self.now.cores) result }
     {
         self.setup.behind(c, out)
@@ -190,7 +195,7 @@ impl Mesh {
     // Whether the queue behind an output has room.
     fn has_room_behind(&self, queue: Queue) -> bool
         requires { IsPlace (length self.now.inputs) (length self.now.cores) queue }
-        ensures { result ≡ has_room_behind self.now (named queue) }
+        ensures { result ≡ has_room_behind self.now (queue_named queue) }
     {
         match queue {
             Queue::Input(place) => has_room(&self.inputs, place, self.setup.capacity()),

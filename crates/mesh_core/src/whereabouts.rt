@@ -6,8 +6,7 @@ ghost use Rattle.mesh_core.specs.Searches.{IsEdgeInto, port_behind};
 
 use crate::meshes::Mesh;
 use crate::places::{Place, Where};
-use machine_desc::{Edge, Machine};
-use net_tables::{NetPlan, out_of};
+use machine_desc::{Edge, Machine, NetPlan, out_of};
 use spin_base::{Chip, McCopy, Out, Port, Spot};
 
 impl Mesh {
@@ -92,7 +91,8 @@ impl Mesh {
 
     // The place of the first delivery of the packet to the vertex.
     fn delivery_to(&self, packet: u32, vertex: usize) -> Option<usize>
-        ensures { result ≡ position (λ d. (d.vertex == vertex) && (d.copy.packet == packet)) self.now.delivered }
+        ensures { result
+            ≡ position (λ d. (d.vertex == vertex) && (d.copy.packet == packet)) self.now.delivered }
     {
         self.delivered
             .as_slice()
@@ -102,7 +102,9 @@ impl Mesh {
 
     // The place of the first dump record of the packet at the output of the chip.
     fn dump_at(&self, packet: u32, chip: Chip, out: Out) -> Option<usize>
-        ensures { result ≡ position (λ r. (chip_eq r.chip chip && out_eq r.out out) && (r.copy.packet == packet)) self.now.dumped }
+        ensures { result
+            ≡ position (λ r. (chip_eq r.chip chip && out_eq r.out out)
+            && (r.copy.packet == packet)) self.now.dumped }
     {
         self.dumped.as_slice().iter().position(|r| {
             r.chip.x == chip.x
@@ -115,7 +117,8 @@ impl Mesh {
     // Whether the chip's hand has a copy of the packet for the output.
     fn holds(&self, packet: u32, chip: Chip, out: Out) -> bool
         requires { IsInside self.now.setup.machine chip }
-        ensures { result ≡ is_held packet out (slice_get self.now.hands (index_of self.now.setup.machine chip)) }
+        ensures { result
+            ≡ is_held packet out (slice_get self.now.hands (index_of self.now.setup.machine chip)) }
     {
         match self.hand(chip) {
             Some(hand) => hand.copy.packet == packet && hand.serves(out),

@@ -7,10 +7,10 @@ use Rattle.std.proofs.lemmas.List.{length-map}
 use Rattle.std.proofs.lemmas.List.Elements.{All-contains, All-map}
 use Rattle.std.proofs.lemmas.List.Sorted.{length_permutation}
 use Rattle.std.proofs.lemmas.Option.{slice_get_within, get_or_from_slice_get, same_Some}
-use Rattle.list_laws.specs.Gathered.{gathered}
-use Rattle.list_laws.proofs.Members.{Among, among_contains, contains_among, Contains-unmap}
-use Rattle.list_laws.proofs.Pairs.{All-left}
-use Rattle.list_laws.proofs.Places.{All-at, All-each, AllZip-at_first}
+use Rattle.spin_base.specs.Gathered.{gathered}
+use Rattle.spin_base.proofs.Members.{Among, among_contains, contains_among, Contains-unmap}
+use Rattle.spin_base.proofs.Pairs.{All-left}
+use Rattle.spin_base.proofs.Places.{All-at, All-each, AllZip-at_first}
 use Rattle.spin_base.specs.declared.chips.Chip.{Chip}
 use Rattle.spin_base.specs.declared.chips.Port.TheVariants.{Local}
 use Rattle.spin_base.specs.declared.chips.Spot.{Spot}
@@ -23,10 +23,10 @@ use Rattle.link_queue.specs.declared.links.Tx.{Tx}
 use Rattle.link_queue.specs.Ends.{sending, taking}
 use Rattle.chip_node.specs.declared.banks.BankVertex.{BankVertex}
 use Rattle.chip_node.specs.BankFlow.{VertexFlow, of_vertex, deliveries}
-use Rattle.chip_node.specs.Numbers.{numbers_of}
+use Rattle.chip_node.specs.Numbers.{vertex_numbers_of}
 use Rattle.mesh_core.specs.State.{Setup, Queue, core, queue_at}
-use Rattle.mesh_run.specs.Casting.{Pair, IsVertexAt}
-use Rattle.round_flow.specs.RoundFlow.{held_in, at_port, of_chip, sent_on}
+use Rattle.mesh_run.specs.Holders.{Pair, IsVertexAt}
+use Rattle.mesh_round.specs.RoundFlow.{held_in, at_port, of_chip, sent_on}
 use Rattle.mesh_round.proofs.Lists.{place_in, front_of, gathered_agree, filter_none, eqb-flip}
 use Rattle.mesh_round.proofs.Spreading.{dealt, all_dealt, among_own}
 use Rattle.mesh_round.proofs.TheFlow.{Round, flow_of, ports_many}
@@ -83,7 +83,7 @@ module _ (r : Round) (c : Chip) (after : Pair) (t : Turn r c after) where
     pub was : IsVertexAt u r.played.up r.m.unsent c old
     pub now : IsVertexAt u r.played.back r.n.unsent c new
 
-  vertex_at : (v : ℕ) → Contains (numbers_of t.before.bank.vertices.items) v → VertexTurn v
+  vertex_at : (v : ℕ) → Contains (vertex_numbers_of t.before.bank.vertices.items) v → VertexTurn v
   vertex_at v has =
       let found = Contains-unmap (λ (w : BankVertex). w.vertex) t.before.bank.vertices.items v has in
       let at = place_in t.before.bank.vertices.items found.0 found.1 in
@@ -94,22 +94,22 @@ module _ (r : Round) (c : Chip) (after : Pair) (t : Turn r c after) where
         stood = found.1;
         number = found.2;
         flow = beside.2;
-        was = All-at (IsVertexAt u r.played.up r.m.unsent c) t.before.bank.vertices.items at.0 found.0 t.cast.bank.vertices at.1;
+        was = All-at (IsVertexAt u r.played.up r.m.unsent c) t.before.bank.vertices.items at.0 found.0 t.deal.bank.vertices at.1;
         now = All-at (IsVertexAt u r.played.back r.n.unsent c) after.bank.vertices.items at.0 beside.0 t.back.bank.vertices beside.1;
       }
 
   pub vertex_turn : (v : ℕ) (spot : Spot) → slice_get u.spots v ≡ Some spot → spot.chip ≡ c → VertexTurn v
-  vertex_turn v spot at here = vertex_at v (t.cast.bank.all v spot at here)
+  vertex_turn v spot at here = vertex_at v (t.deal.bank.all v spot at here)
 
   -- where a vertex stands
   pub vertex_spot : (v : ℕ) → VertexTurn v → (spot : Spot) × (slice_get u.spots v ≡ Some spot) × (spot.chip ≡ c)
   vertex_spot v w = (w.was.spot, ap (slice_get u.spots) (sym w.number) ∙ w.was.stands, w.was.here)
 
   pub sender_at : (p : ℕ × McCopy) → Among p sent → VertexTurn p.0
-  sender_at p a = vertex_at p.0 (All-contains (λ (q : ℕ × McCopy). Contains (numbers_of t.before.bank.vertices.items) q.0) sent p t.flow.bank.senders (among_contains p sent a))
+  sender_at p a = vertex_at p.0 (All-contains (λ (q : ℕ × McCopy). Contains (vertex_numbers_of t.before.bank.vertices.items) q.0) sent p t.flow.bank.senders (among_contains p sent a))
 
   pub receiver_at : (p : ℕ × McCopy) → Among p got → VertexTurn p.0
-  receiver_at p a = vertex_at p.0 (All-contains (λ (q : ℕ × McCopy). Contains (numbers_of t.before.bank.vertices.items) q.0) got p t.flow.bank.receivers (among_contains p got a))
+  receiver_at p a = vertex_at p.0 (All-contains (λ (q : ℕ × McCopy). Contains (vertex_numbers_of t.before.bank.vertices.items) q.0) got p t.flow.bank.receivers (among_contains p got a))
 
   -- ---- what was sent
 
@@ -145,7 +145,7 @@ module _ (r : Round) (c : Chip) (after : Pair) (t : Turn r c after) where
   pub sent_here : (q : Queue) (l : LinkOf r q) → t.before.bank.inject.link ≡ l.place → SentHere q l
   sent_here q l place =
       let moves = t.flow.bank.moves in
-      let old : t.before.bank.inject.tx ≡ l.old.tx = tx_is r.played.up t.before.bank.inject l.place l.old l.stood place t.cast.bank.end in
+      let old : t.before.bank.inject.tx ≡ l.old.tx = tx_is r.played.up t.before.bank.inject l.place l.old l.stood place t.deal.bank.end in
       let new : after.bank.inject.tx ≡ l.new.tx = tx_is r.played.back after.bank.inject l.place l.new l.stands (moves.link ∙ place) t.back.bank.end in
       let copies : List McCopy = map (λ (p : ℕ × McCopy). p.1) sent in
       record {
@@ -155,7 +155,7 @@ module _ (r : Round) (c : Chip) (after : Pair) (t : Turn r c after) where
       }
 
   pub inject_place : (l : LinkOf r (at_port u c Local)) → t.before.bank.inject.link ≡ l.place
-  inject_place l = t.cast.bank.place ∙ same_Some (queue_at u.machine c Local) l.place l.is_place
+  inject_place l = t.deal.bank.place ∙ same_Some (queue_at u.machine c Local) l.place l.is_place
 
   pub injected_is : (l : LinkOf r (at_port u c Local)) → (flow_of r).entered (at_port u c Local) ≡ map (λ (p : ℕ × McCopy). p.1) sent
   injected_is l = entered_is r (at_port u c Local) l ∙ (sent_here (at_port u c Local) l (inject_place l)).sent_all

@@ -1,10 +1,10 @@
 -- Nothing enters a queue of a dead chip or port: no pair has the sending end of its link.
 use Rattle.std.proofs.Common.{◌≡◌, ℕ, ◌+◌, false, List, [], ◌++◌, Some, None, sym, ap, ap₂, ◌∙◌, subst, arith, inl, inr}
-use Rattle.list_laws.proofs.Places.{both_none}
+use Rattle.spin_base.proofs.Places.{both_none}
 use Rattle.std.proofs.lemmas.Option.{same_Some}
 use Rattle.std.proofs.lemmas.List.Elements.{All-contains}
-use Rattle.list_laws.proofs.Members.{Contains-unmap}
-use Rattle.list_laws.proofs.Tests.{answers_none}
+use Rattle.spin_base.proofs.Members.{Contains-unmap}
+use Rattle.spin_base.proofs.Tests.{answers_none}
 use Rattle.spin_base.specs.declared.chips.Chip.{Chip}
 use Rattle.spin_base.specs.declared.chips.Dir.{Dir}
 use Rattle.spin_base.specs.declared.chips.Port.{Port}
@@ -19,10 +19,10 @@ use Rattle.link_queue.specs.Ends.{sending}
 use Rattle.chip_node.specs.declared.ends.OutEnd.{OutEnd}
 use Rattle.mesh_core.specs.State.{Setup, Queue, queue_at}
 use Rattle.mesh_core.proofs.Changes.{queue_at-below}
-use Rattle.mesh_run.specs.Casting.{HoldsTx, IsTxAt}
-use Rattle.mesh_run.specs.Lending.{place_of, place_behind}
-use Rattle.round_flow.specs.RoundFlow.{held_in, at_port}
-use Rattle.round_flow.proofs.Ends.{leads, by_link, to_vertex, to_none, one_port}
+use Rattle.mesh_run.specs.Holders.{HoldsTx, IsTxAt}
+use Rattle.mesh_run.specs.Lending.{queue_place_of, place_behind}
+use Rattle.mesh_round.specs.RoundFlow.{held_in, at_port}
+use Rattle.mesh_round.proofs.Ends.{leads, by_link, to_vertex, to_none, one_port}
 use Rattle.mesh_round.proofs.Links.{link_input, entered_is}
 use Rattle.mesh_round.proofs.Senders.{in_order}
 use Rattle.mesh_round.proofs.TheFlow.{Round, flow_of, ports_many}
@@ -41,13 +41,13 @@ module _ (r : Round) where
   of_output e c o port live inside is = elim (leads u e o) [
     | by_link d far out lives leads_to at ↦
         let in_e = live_inside u.machine e live in
-        let place : queue_at u.machine far (ByLink (opposite_of d)) ≡ queue_at u.machine c port = same_Some (queue_at u.machine far (ByLink (opposite_of d))) (queue_at u.machine c port) (sym (ap (place_of u) at) ∙ is) in
+        let place : queue_at u.machine far (ByLink (opposite_of d)) ≡ queue_at u.machine c port = same_Some (queue_at u.machine far (ByLink (opposite_of d))) (queue_at u.machine c port) (sym (ap (queue_place_of u) at) ∙ is) in
         let one = one_port u.machine far c (ByLink (opposite_of d)) port (far_inside u.machine e far d in_e leads_to) inside place in
         by_wire (opposite_of d) (sym one.1) (subst (λ (x : Chip). IsLiveLink u.machine x (opposite_of d)) one.0 (live_back u.machine e far d leads_to lives))
     | to_vertex v dead stands at ↦
-        let place : ports_many u + v ≡ queue_at u.machine c port = same_Some (ports_many u + v) (queue_at u.machine c port) (sym (ap (place_of u) at) ∙ is) in
+        let place : ports_many u + v ≡ queue_at u.machine c port = same_Some (ports_many u + v) (queue_at u.machine c port) (sym (ap (queue_place_of u) at) ∙ is) in
         absurd (omega (arith, place, queue_at-below u.machine c port inside))
-    | to_none none at ↦ absurd (nothing (sym (ap (place_of u) at) ∙ is))
+    | to_none none at ↦ absurd (nothing (sym (ap (queue_place_of u) at) ∙ is))
   ]
     where
       nothing : {n : ℕ} → None ≡ Some n → ⊥

@@ -4,8 +4,8 @@ use Rattle.std.specs.List.{All, Contains, slice_get}
 use Rattle.std.proofs.lemmas.Bool.{lt-ltb}
 use Rattle.std.proofs.lemmas.List.Elements.{All-contains}
 use Rattle.std.proofs.lemmas.Option.{slice_get_within}
-use Rattle.list_laws.proofs.Members.{Among, among_contains}
-use Rattle.list_laws.proofs.Places.{All-at, slice_get_there}
+use Rattle.spin_base.proofs.Members.{Among, among_contains}
+use Rattle.spin_base.proofs.Places.{All-at, slice_get_there}
 use Rattle.spin_base.specs.declared.chips.Chip.{Chip}
 use Rattle.spin_base.specs.declared.chips.Spot.{Spot}
 use Rattle.spin_base.specs.declared.chips.Port.TheVariants.{Link as ByLink}
@@ -21,7 +21,7 @@ use Rattle.machine_desc.specs.Branch.{Exit}
 use Rattle.machine_desc.specs.RoutingTree.{IsRoutingTree}
 use Rattle.machine_desc.proofs.Branches.{exit_leads, ExitLeads}
 use Rattle.machine_desc.proofs.Far.{live_inside, live_ends, far_inside}
-use Rattle.net_tables.specs.declared.nets.NetPlan.{NetPlan}
+use Rattle.machine_desc.specs.declared.nets.NetPlan.{NetPlan}
 use Rattle.mesh_core.specs.declared.places.Did.TheVariants.{Moved, Idle}
 use Rattle.mesh_core.specs.State.{State, IsMesh, input, nowhere, behind, behind_link, queue_at, vertex_behind}
 use Rattle.mesh_core.specs.Step.{has_room, has_room_behind}
@@ -35,7 +35,7 @@ use Rattle.mesh_core.proofs.Law.{leaves_parts}
 use Rattle.mesh_core.proofs.Moves.{mark}
 use Rattle.mesh_core.proofs.Standing.{dumped_mark}
 use Rattle.mesh_core.proofs.Ways.{leads_to, vertex_behind_stands, vertex_behind_there}
-use Rattle.round_flow.proofs.Ends.{Leads, leads, by_link, to_vertex, to_none}
+use Rattle.mesh_round.proofs.Ends.{Leads, leads, by_link, to_vertex, to_none}
 use Rattle.mesh_round.specs.Reinjecting.{put_back_answer}
 use Rattle.mesh_round.proofs.PutBackParts.{back_some}
 

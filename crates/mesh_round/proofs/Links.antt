@@ -4,18 +4,19 @@ use Rattle.std.specs.List.{slice_get}
 use Rattle.std.proofs.lemmas.Bool.{cases_Bool, cases_lt, cond-true, cond-false, lt-ltb, ltb-true, ltb-false}
 use Rattle.std.proofs.lemmas.List.{length-append, get_or_append_left, get_or-append-add, get_or_past}
 use Rattle.std.proofs.lemmas.Option.{get_or_from_slice_get, slice_get_past, same_Some}
-use Rattle.list_laws.proofs.Places.{slice_get_there, slice_get-mapped}
+use Rattle.spin_base.proofs.Places.{slice_get_there, slice_get-mapped}
 use Rattle.spin_base.specs.declared.copies.McCopy.{McCopy}
 use Rattle.link_queue.specs.declared.links.Link.{Link}
 use Rattle.link_queue.specs.declared.links.LinkEnds.{LinkEnds}
 use Rattle.link_queue.specs.Ends.{sending, taking, cap_of}
 use Rattle.chip_node.specs.declared.ends.InEnd.{InEnd}
 use Rattle.chip_node.specs.declared.ends.OutEnd.{OutEnd}
-use Rattle.mesh_core.specs.State.{Setup, Queue, input, core, nowhere}
-use Rattle.mesh_run.specs.Casting.{IsTxAt, IsRxAt}
-use Rattle.mesh_run.specs.Lending.{place_of}
+use Rattle.mesh_core.specs.State.{Setup, FitsQueue, Queue, input, core, nowhere}
+use Rattle.mesh_core.proofs.Changes.{none_fits}
+use Rattle.mesh_run.specs.Holders.{IsTxAt, IsRxAt}
+use Rattle.mesh_run.specs.Lending.{queue_place_of}
 use Rattle.mesh_run.specs.Queues.{HasPlaces, IsDown, IsUp}
-use Rattle.round_flow.specs.RoundFlow.{held_in}
+use Rattle.mesh_round.specs.RoundFlow.{held_in}
 use Rattle.mesh_round.proofs.TheFlow.{Round, ports_many, link_at, told, flow_of, moments}
 
 -- the end at a place, where the link there is known
@@ -32,7 +33,7 @@ module _ (r : Round) where
   -- the link of a queue, as it came up and as its ends came back
   pub record LinkOf (q : Queue) : Type 0 where
     pub place : ℕ
-    pub is_place : place_of u q ≡ Some place
+    pub is_place : queue_place_of u q ≡ Some place
     pub old : LinkEnds
     pub new : LinkEnds
     pub stood : slice_get r.played.up place ≡ Some old
@@ -50,7 +51,7 @@ module _ (r : Round) where
       let cores = r.mesh.core_lists in
       omega (arith, up, both, inputs, cores)
 
-  link_there : (q : Queue) (place : ℕ) → place_of u q ≡ Some place → place < ports_many u + length u.spots → link_at u r.played.back q ≡ slice_get r.played.back place →
+  link_there : (q : Queue) (place : ℕ) → queue_place_of u q ≡ Some place → place < ports_many u + length u.spots → link_at u r.played.back q ≡ slice_get r.played.back place →
       get_or (r.m.inputs ++ r.m.cores) place [] ≡ held_in r.m q → get_or (r.n.inputs ++ r.n.cores) place [] ≡ held_in r.n q → LinkOf q
   link_there q place is below here held after =
       let long = all_long in
@@ -128,16 +129,19 @@ module _ (r : Round) where
 
   -- ---- what a queue holds
 
-  pub held_within : (q : Queue) → length (held_in r.m q) ≤ u.capacity
-  held_within (input i) = elim (cases_lt i (length r.m.inputs)) [
+  pub held_fits : (q : Queue) → FitsQueue u.capacity (held_in r.m q)
+  held_fits (input i) = elim (cases_lt i (length r.m.inputs)) [
     | inl below ↦ r.mesh.inputs_within i [] below
-    | inr past ↦ let no_copies = ap length (get_or_past r.m.inputs i [] past) in omega (arith, no_copies)
+    | inr past ↦ subst (FitsQueue u.capacity) (sym (get_or_past r.m.inputs i [] past)) (none_fits u.capacity)
   ]
-  held_within (core v) = elim (cases_lt v (length r.m.cores)) [
+  held_fits (core v) = elim (cases_lt v (length r.m.cores)) [
     | inl below ↦ r.mesh.cores_within v [] below
-    | inr past ↦ let no_copies = ap length (get_or_past r.m.cores v [] past) in omega (arith, no_copies)
+    | inr past ↦ subst (FitsQueue u.capacity) (sym (get_or_past r.m.cores v [] past)) (none_fits u.capacity)
   ]
-  held_within nowhere = omega arith
+  held_fits nowhere = none_fits u.capacity
+
+  pub held_within : (q : Queue) → length (held_in r.m q) ≤ u.capacity
+  held_within q = (held_fits q).within
 
   -- no queue holds more than its capacity afterwards
   pub held_short : (q : Queue) (l : LinkOf q) → length (held_in r.n q) ≤ u.capacity

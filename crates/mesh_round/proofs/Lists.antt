@@ -7,9 +7,9 @@ use Rattle.std.proofs.lemmas.List.{length-append}
 use Rattle.std.proofs.lemmas.List.Elements.{filter-append}
 use Rattle.std.proofs.lemmas.List.Sums.{sum_by-cons}
 use Rattle.std.proofs.lemmas.Option.{slice_get-get_or}
-use Rattle.list_laws.specs.Gathered.{gathered}
-use Rattle.list_laws.proofs.Members.{Among, among_contains, contains_among, among_either}
-use Rattle.list_laws.proofs.Counts.{count_by-cons}
+use Rattle.spin_base.specs.Gathered.{gathered}
+use Rattle.spin_base.proofs.Members.{Among, among_contains, contains_among, among_either}
+use Rattle.spin_base.proofs.Counts.{count_by-cons}
 
 -- ---- members
 

@@ -5,8 +5,8 @@ use Rattle.std.proofs.lemmas.Bool.{cases_Bool, cases_lt}
 use Rattle.std.proofs.lemmas.List.{get_or_past, length-append}
 use Rattle.std.proofs.lemmas.List.Elements.{All-contains}
 use Rattle.std.proofs.lemmas.Option.{slice_get_within, get_or_from_slice_get}
-use Rattle.list_laws.proofs.Members.{Among}
-use Rattle.list_laws.proofs.Tests.{answers_none}
+use Rattle.spin_base.proofs.Members.{Among}
+use Rattle.spin_base.proofs.Tests.{answers_none}
 use Rattle.spin_base.specs.declared.chips.Chip.{Chip}
 use Rattle.spin_base.specs.declared.chips.Port.{Port}
 use Rattle.spin_base.specs.declared.chips.Port.TheVariants.{Link as ByLink, Local}
@@ -24,12 +24,12 @@ use Rattle.chip_node.specs.BankFlow.{MaySendNone, of_vertex}
 use Rattle.chip_node.specs.Looking.{taken_at}
 use Rattle.mesh_core.specs.State.{Setup, Queue, input, core, nowhere, queue_at}
 use Rattle.mesh_core.proofs.Changes.{queue_at-below}
-use Rattle.round_flow.specs.RoundFlow.{held_in, at_port, HasMoved}
-use Rattle.round_flow.proofs.Entered.{numbered_port}
+use Rattle.mesh_round.specs.RoundFlow.{held_in, at_port, HasMoved}
+use Rattle.mesh_round.proofs.Entered.{numbered_port}
 use Rattle.mesh_round.specs.OnThreads.{HasSome}
 use Rattle.mesh_round.proofs.Banks.{vertex_spot, sender_at, receiver_at, sent_is, collected_is, old_core_rx, inject_place, sent, got}
 use Rattle.mesh_round.proofs.Links.{LinkOf, link_input, link_core, tx_is}
-use Rattle.list_laws.proofs.Places.{both_none}
+use Rattle.spin_base.proofs.Places.{both_none}
 use Rattle.mesh_round.proofs.Routers.{port_end, old_rx, left_at, taken}
 use Rattle.mesh_round.proofs.Services.{among_taken}
 use Rattle.mesh_round.proofs.Spreading.{among_own}
@@ -145,7 +145,7 @@ module _ (r : Round) (some : 0 < r.turns) where
           let c = w.spot.chip in
           let t = w.turn.turn in
           let l = link_input r (queue_at u.machine c Local) (queue_at-below u.machine c Local (live_inside u.machine c w.live)) in
-          let tx : t.before.bank.inject.tx ≡ l.old.tx = tx_is r.played.up t.before.bank.inject l.place l.old l.stood (inject_place r c w.turn.after t l) t.cast.bank.end in
+          let tx : t.before.bank.inject.tx ≡ l.old.tx = tx_is r.played.up t.before.bank.inject l.place l.old l.stood (inject_place r c w.turn.after t l) t.deal.bank.end in
           let full_old : (sending l.old.tx).cap ≤ length (put_of (sending l.old.tx)) = subst (λ (x : Tx). (sending x).cap ≤ length (put_of (sending x))) tx full in
           let cap : (sending l.old.tx).cap ≡ cap_of l.old.link = l.up.ends.tx.cap in
           let holds = l.up.holds.enough in

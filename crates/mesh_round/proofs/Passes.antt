@@ -1,14 +1,14 @@
 -- What holds after rounds and copies put back: the machine is the same, the ledger is kept, and passes may follow each other.
 use Rattle.std.proofs.Common.{◌≡◌, ◌≤◌, ℕ, List, Option, Some, None, refl, sym, subst, ◌∙◌, unwrap_or, arith}
 use Rattle.spin_base.specs.declared.copies.Packet.{Packet}
-use Rattle.net_tables.specs.declared.nets.NetPlan.{NetPlan}
-use Rattle.net_tables.specs.RightTables.{AreRight}
+use Rattle.machine_desc.specs.declared.nets.NetPlan.{NetPlan}
+use Rattle.machine_desc.specs.RightTables.{AreRight}
 use Rattle.mesh_core.specs.State.{Setup, State, IsMesh}
 use Rattle.mesh_core.specs.PutBack.{put_back_of, after_put_back}
 use Rattle.mesh_core.specs.Opened.{MeetsJobLedger}
 use Rattle.mesh_core.proofs.EventsLaw.{put_back_is, IsMesh-after_put_back, put_back_keeps_job}
-use Rattle.round_flow.specs.RoundFlow.{Flow, Passes, HasRounds, none as no_round, more}
-use Rattle.round_flow.specs.Work.{work_in}
+use Rattle.mesh_round.specs.RoundFlow.{Flow, Passes, HasRounds, none as no_round, more}
+use Rattle.mesh_round.specs.Work.{work_in}
 use Rattle.mesh_round.specs.Reinjecting.{HasPasses, none, round, put_back}
 
 put_back_setup : (s : State) → (after_put_back s).setup ≡ s.setup

@@ -2,17 +2,18 @@
 use Rattle.std.proofs.Common.{◌≡◌, ◌⊎◌, ℕ, zero, suc, ◌+◌, ◌<◌, List, [], ◌∷◌, ◌++◌, if◌then◌else◌, Option, Some, None, is_some, refl, ap, ◌∙◌, subst, unwrap_or, arith, inl, inr}
 use Rattle.std.specs.List.{sum_by}
 use Rattle.std.proofs.lemmas.List.Sums.{sum_by-append, sum_by-cons}
-use Rattle.list_laws.proofs.Exchange.{TakenOut, PutIn}
+use Rattle.spin_base.proofs.Exchange.{TakenOut, PutIn}
 use Rattle.spin_base.specs.declared.chips.Chip.{Chip}
 use Rattle.spin_base.specs.declared.chips.Port.TheVariants.{Link as ByLink}
 use Rattle.spin_base.specs.declared.routes.Out.{Out}
 use Rattle.spin_base.specs.declared.copies.McCopy.{McCopy}
 use Rattle.spin_base.specs.declared.copies.DumpRec.{DumpRec}
 use Rattle.spin_base.specs.Links.{opposite_of}
+use Rattle.spin_base.specs.Hops.{onward}
 use Rattle.mesh_core.specs.declared.places.Did.TheVariants.{Moved, Idle}
 use Rattle.mesh_core.proofs.EventsLaw.{same_room}
 use Rattle.mesh_core.specs.State.{State, Queue, behind}
-use Rattle.mesh_core.specs.Step.{onward, push_behind}
+use Rattle.mesh_core.specs.Step.{push_behind}
 use Rattle.mesh_core.specs.PutBack.{put_back_of, after_put_back}
 use Rattle.mesh_core.specs.Trail.{in_queue, at_core, dumped, Mark}
 use Rattle.mesh_core.specs.Ledger.{marks_of}
@@ -20,7 +21,7 @@ use Rattle.mesh_core.specs.Heavy.{heavy}
 use Rattle.mesh_core.proofs.Events.{arrives}
 use Rattle.mesh_core.proofs.Heavy.{one_heavy, heavy_grows}
 use Rattle.mesh_core.proofs.Moves.{mark, Crosses, dumped_out}
-use Rattle.round_flow.specs.Work.{to_go, weight_of, work_in}
+use Rattle.mesh_round.specs.Work.{to_go, work_weight_of, work_in}
 use Rattle.mesh_round.specs.Reinjecting.{put_back_answer}
 use Rattle.mesh_round.proofs.PutBackParts.{IsBack, is_back}
 
@@ -36,8 +37,8 @@ heavier m (suc n) below =
 
 -- a dumped copy that crosses its output is lighter than it was
 lighter_mark : (s : State) (k : McCopy) (c : Chip) (o : Out) (come : List Mark) → Crosses s k c o come →
-    (y : Mark) × (come ≡ y ∷ []) × (weight_of y < weight_of (mark k (dumped c o)))
-unfolding weight_of to_go
+    (y : Mark) × (come ≡ y ∷ []) × (work_weight_of y < work_weight_of (mark k (dumped c o)))
+unfolding work_weight_of to_go
 lighter_mark s k c o come (inl (d, e, out, live, far, is)) =
     let y : Mark = mark (onward k) (in_queue e (ByLink (opposite_of d))) in
     (y, is, heavier (to_go y) (to_go (mark k (dumped c o))) (omega arith))
@@ -80,10 +81,10 @@ back_lighter s t back =
     let one = lighter_mark between r.copy r.chip r.out arrival.0 arrival.2 in
     let x : Mark = mark r.copy (dumped r.chip r.out) in
     let put : PutIn (one.0 ∷ []) (marks_of between) (marks_of next) = subst (λ (ys : List Mark). PutIn ys (marks_of between) (marks_of next)) one.1 arrival.1 in
-    let sums = sum_exchanged weight_of x one.0 (marks_of s) (marks_of between) (marks_of next) (dumped_out s r back.rest back.records) put in
+    let sums = sum_exchanged work_weight_of x one.0 (marks_of s) (marks_of between) (marks_of next) (dumped_out s r back.rest back.records) put in
     let less = one.2 in
-    let lower : sum_by weight_of (marks_of next) < sum_by weight_of (marks_of s) = omega (arith, sums, less) in
-    subst (λ (u : State). sum_by weight_of (marks_of u) < sum_by weight_of (marks_of s)) back.is lower
+    let lower : sum_by work_weight_of (marks_of next) < sum_by work_weight_of (marks_of s) = omega (arith, sums, less) in
+    subst (λ (u : State). sum_by work_weight_of (marks_of u) < sum_by work_weight_of (marks_of s)) back.is lower
 
 -- A copy that is put back leaves less to be done.
 pub put_back_lighter : (s : State) → put_back_answer s ≡ Moved → work_in (after_put_back s) < work_in s

@@ -6,7 +6,7 @@ use Rattle.std.proofs.lemmas.List.Elements.{All-nil, All-cons}
 use Rattle.spin_base.specs.declared.copies.McCopy.{McCopy}
 use Rattle.mesh_core.specs.State.{State, input, core}
 use Rattle.mesh_core.specs.Expected.{IsAtRest}
-use Rattle.round_flow.specs.RoundFlow.{HasNoHand}
+use Rattle.mesh_round.specs.RoundFlow.{HasNoHand}
 use Rattle.mesh_run.specs.Queues.{is_empty}
 use Rattle.mesh_run.specs.Raised.{has_none}
 use Rattle.mesh_round.specs.OnThreads.{HasSome}

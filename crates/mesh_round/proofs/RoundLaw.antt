@@ -6,23 +6,23 @@ use Rattle.std.proofs.Math.Nat.{mul-le-mul_left}
 use Rattle.std.proofs.lemmas.List.{length-append, length-map, length-replicate}
 use Rattle.std.proofs.lemmas.List.Elements.{All-nil, All-map, All-contains, All-replicate}
 use Rattle.std.proofs.lemmas.List.Sums.{length-filter, count_by-le-length}
-use Rattle.list_laws.proofs.Places.{All-each}
+use Rattle.spin_base.proofs.Places.{All-each}
 use Rattle.spin_base.specs.declared.chips.Chip.{Chip}
 use Rattle.spin_base.specs.declared.chips.Port.TheVariants.{Local}
 use Rattle.spin_base.specs.declared.routes.Out.{Out}
 use Rattle.spin_base.specs.declared.copies.McCopy.{McCopy}
 use Rattle.spin_base.specs.declared.copies.DumpRec.{DumpRec}
 use Rattle.spin_base.specs.Outputs.{IsOutput}
+use Rattle.spin_base.specs.Hops.{onward}
 use Rattle.machine_desc.specs.Live.{IsLiveChip}
 use Rattle.machine_desc.proofs.Far.{live_inside}
 use Rattle.link_queue.specs.Ends.{sending, taking, cap_of}
 use Rattle.link_queue.specs.TheRule.{put_of, IsFullNote}
 use Rattle.chip_node.specs.RouterFlow.{Service, is_dumped_at, sent_by}
-use Rattle.chip_node.specs.Routing.{onward}
 use Rattle.mesh_core.specs.State.{Setup, Hand, Queue, input, core, nowhere, behind, queue_at}
 use Rattle.mesh_core.proofs.Changes.{queue_at-below}
-use Rattle.mesh_run.specs.Routed.{dumped_by}
-use Rattle.round_flow.specs.RoundFlow.{Passes, IsFullAt, capacity_of, at_port, delivered_to, dumped_at, got_on, sent_on, taken_for}
+use Rattle.mesh_run.specs.Routed.{copies_dumped_at}
+use Rattle.mesh_round.specs.RoundFlow.{Passes, IsFullAt, capacity_of, at_port, delivered_to, dumped_at, got_on, sent_on, taken_for}
 use Rattle.mesh_round.specs.OnThreads.{LeadsByRound}
 use Rattle.mesh_round.proofs.Banks.{injected_is, sent_spread, few_sent, got_spread}
 use Rattle.mesh_round.proofs.Dead.{dead_port, dead_chip}
@@ -128,7 +128,7 @@ module _ (r : Round) where
   routes split at_one c o live is =
       let t = turn_of r c live in
       let ss = served r c t.after t.turn in
-      let same : sent_by o ss ++ map onward (dumped_by o ss) ≡ (flow_of r).entered (behind u c o) ++ map onward (dumped_at (flow_of r) c o) =
+      let same : sent_by o ss ++ map onward (copies_dumped_at o ss) ≡ (flow_of r).entered (behind u c o) ++ map onward (dumped_at (flow_of r) c o) =
       ap₂ (λ (a b : List McCopy). a ++ map onward b) (sym (entered_behind c o t live is)) (sym (dumped_is r c o live t)) in
       subst (λ (k : List McCopy). IsPermutation (map onward (taken_for u (flow_of r) c o)) k) same (routed r c t.after t.turn split at_one (live_inside u.machine c live) o is)
 

@@ -7,11 +7,11 @@ use Rattle.std.proofs.lemmas.List.{length-append, length-map}
 use Rattle.std.proofs.lemmas.List.Elements.{All-nil, All-cons, All-contains}
 use Rattle.std.proofs.lemmas.List.Sorted.{IsPermutation-map, IsPermutation-trans, length_permutation}
 use Rattle.std.proofs.lemmas.List.Sums.{length-filter, count_by-le-length}
-use Rattle.list_laws.specs.Gathered.{gathered}
-use Rattle.list_laws.proofs.Members.{Among, among_contains, contains_among, Contains-map, Contains-unmap, Contains-filter, Contains-from_filter}
-use Rattle.list_laws.proofs.Tests.{answers_none}
-use Rattle.list_laws.proofs.Pairs.{All-flat_map}
-use Rattle.list_laws.proofs.Places.{All-at, All-each, AllZip-at_first}
+use Rattle.spin_base.specs.Gathered.{gathered}
+use Rattle.spin_base.proofs.Members.{Among, among_contains, contains_among, Contains-map, Contains-unmap, Contains-filter, Contains-from_filter}
+use Rattle.spin_base.proofs.Tests.{answers_none}
+use Rattle.spin_base.proofs.Pairs.{All-flat_map}
+use Rattle.spin_base.proofs.Places.{All-at, All-each, AllZip-at_first}
 use Rattle.spin_base.specs.declared.chips.Chip.{Chip}
 use Rattle.spin_base.specs.declared.chips.Port.{Port}
 use Rattle.spin_base.specs.declared.chips.Port.TheVariants.{Link as ByLink}
@@ -24,6 +24,7 @@ use Rattle.spin_base.specs.Equality.{port_eq, out_eq}
 use Rattle.spin_base.specs.Outputs.{all_outs, IsOutput}
 use Rattle.spin_base.proofs.Equality.{out_eq_true}
 use Rattle.spin_base.proofs.Once.{all_once}
+use Rattle.spin_base.specs.Hops.{last_hop, onward}
 use Rattle.machine_desc.specs.Live.{IsInside, IsLiveChip}
 use Rattle.machine_desc.proofs.Far.{far_inside}
 use Rattle.link_queue.specs.declared.links.Rx.{Rx}
@@ -36,20 +37,20 @@ use Rattle.chip_node.specs.declared.ends.Served.TheVariants.{Sent, Dumped}
 use Rattle.chip_node.specs.declared.routers.RouterNode.{RouterNode}
 use Rattle.chip_node.specs.Looking.{taken_at, TakesAt}
 use Rattle.chip_node.specs.RouterFlow.{Service, is_sent, is_sent_by, is_dumped_at, sent_by, records, ServesAt, RouterFlow}
-use Rattle.chip_node.specs.Routing.{last_hop, onward, outputs_at}
+use Rattle.chip_node.specs.Routing.{outputs_at}
 use Rattle.chip_node.specs.Serving.{outs_with_ends, ports_of, records_of}
 use Rattle.mesh_core.specs.Ledger.{all_ports}
 use Rattle.mesh_core.specs.State.{Setup, Queue, nowhere, behind, queue_at}
 use Rattle.mesh_core.proofs.Changes.{queue_at-below}
 use Rattle.mesh_run.specs.Acting.{table_of}
-use Rattle.mesh_run.specs.Casting.{Pair, IsRxAt, IsTxAt}
-use Rattle.mesh_run.specs.Lending.{place_of, place_behind, has_place}
-use Rattle.mesh_run.specs.Routed.{taken_for, dumped_by}
-use Rattle.round_flow.specs.RoundFlow.{held_in, at_port, leaves_by}
-use Rattle.round_flow.specs.RoundFlow as round
-use Rattle.round_flow.proofs.Entered.{has_bit}
-use Rattle.round_flow.proofs.Ends.{leads, by_link, to_vertex, to_none}
-use Rattle.round_flow.proofs.Sums.{sum_agree}
+use Rattle.mesh_run.specs.Holders.{Pair, IsRxAt, IsTxAt}
+use Rattle.mesh_run.specs.Lending.{queue_place_of, place_behind, has_queue_behind}
+use Rattle.mesh_run.specs.Routed.{looked_up_for, copies_dumped_at}
+use Rattle.mesh_round.specs.RoundFlow.{held_in, at_port, leaves_by}
+use Rattle.mesh_round.specs.RoundFlow as round
+use Rattle.mesh_round.proofs.Entered.{has_bit}
+use Rattle.mesh_round.proofs.Ends.{leads, by_link, to_vertex, to_none}
+use Rattle.mesh_round.proofs.Sums.{sum_agree}
 use Rattle.mesh_core.proofs.Ways.{vertex_behind_stands}
 use Rattle.std.proofs.lemmas.Option.{slice_get_within, same_Some}
 use Rattle.mesh_round.proofs.Lists.{place_in, counted, gathered_agree, filter_none}
@@ -61,7 +62,7 @@ use Rattle.mesh_round.proofs.Turns.{Turn}
 -- what a router took and lookup gives an output is what it sent by it and what it dumped there
 abbrev pub SendsOrDumps : Type 0
 SendsOrDumps = (entries : List Entry) (turns : ℕ) (before after : RouterNode) (o : Out) (flow : RouterFlow entries turns before after) → IsOutput o →
-    IsPermutation (map onward (taken_for entries o flow.taken)) (sent_by o flow.served ++ map onward (dumped_by o flow.served))
+    IsPermutation (map onward (looked_up_for entries o flow.taken)) (sent_by o flow.served ++ map onward (copies_dumped_at o flow.served))
 
 -- what was taken port by port is, in some order, what was taken
 abbrev pub TakenAtOne : Type 0
@@ -80,7 +81,7 @@ link_behind r c o inside = elim (leads r.m.setup c o) [
 ]
 
 -- the place of a queue with a link
-pub has_link : (u : Setup) (q : Queue) (place : ℕ) → place_of u q ≡ Some place → is_some (place_of u q) ≡ true
+pub has_link : (u : Setup) (q : Queue) (place : ℕ) → queue_place_of u q ≡ Some place → is_some (queue_place_of u q) ≡ true
 has_link u q place is = ap is_some is
 
 sent_is : (f : Served) → is_sent f ≡ true → f ≡ Sent
@@ -114,7 +115,7 @@ module _ (r : Round) (c : Chip) (after : Pair) (t : Turn r c after) where
 
   pub port_end : (port : Port) → PortEnd port
   port_end port =
-      let has : Contains (ports_of t.before.router.inputs.items) port = subst (λ (l : List Port). Contains l port) (sym t.cast.router.ports) (among_contains port all_ports (port_among port)) in
+      let has : Contains (ports_of t.before.router.inputs.items) port = subst (λ (l : List Port). Contains l port) (sym t.deal.router.ports) (among_contains port all_ports (port_among port)) in
       let found = Contains-unmap (λ (e : Port × InEnd). e.0) t.before.router.inputs.items port has in
       let at = place_in t.before.router.inputs.items found.0 found.1 in
       let beside = AllZip-at_first (TakesAt taken) t.before.router.inputs.items after.router.inputs.items t.flow.router.inputs at.0 found.0 at.1 in
@@ -124,7 +125,7 @@ module _ (r : Round) (c : Chip) (after : Pair) (t : Turn r c after) where
         stood = found.1;
         is_port = found.2;
         takes = beside.2;
-        was = All-at (λ (e : Port × InEnd). (e.1.link ≡ queue_at u.machine c e.0) × IsRxAt r.played.up e.1) t.before.router.inputs.items at.0 found.0 t.cast.router.inputs at.1;
+        was = All-at (λ (e : Port × InEnd). (e.1.link ≡ queue_at u.machine c e.0) × IsRxAt r.played.up e.1) t.before.router.inputs.items at.0 found.0 t.deal.router.inputs at.1;
         now = All-at (λ (e : Port × InEnd). (e.1.link ≡ queue_at u.machine c e.0) × IsRxAt r.played.back e.1) after.router.inputs.items at.0 beside.0 t.back.router.inputs beside.1;
       }
 
@@ -181,7 +182,7 @@ module _ (r : Round) (c : Chip) (after : Pair) (t : Turn r c after) where
             let fulls : (sending l.new.tx).fulls ≡ (sending e.1.tx).fulls ++ serves.notes = ap (λ (x : Tx). (sending x).fulls) (sym new) ∙ serves.fulls in
             let long = ap length fulls in
             let both = length-append (sending e.1.tx).fulls serves.notes in
-            let enough : r.patience * count_by (is_dumped_at e.0) served ≤ length serves.notes = subst (λ k. k * count_by (is_dumped_at e.0) served ≤ length serves.notes) t.cast.router.patient serves.enough in
+            let enough : r.patience * count_by (is_dumped_at e.0) served ≤ length serves.notes = subst (λ k. k * count_by (is_dumped_at e.0) served ≤ length serves.notes) t.deal.router.patient serves.enough in
             omega (arith, long, both, enough)
             );
       }
@@ -193,11 +194,11 @@ module _ (r : Round) (c : Chip) (after : Pair) (t : Turn r c after) where
       let same : o ≡ count.0 = out_eq_true o count.0 count.2 in
       let there : Among o all_outs = subst (λ (x : Out). Among x all_outs) (sym same) count.1 in
       let has : Contains (outs_with_ends t.before.router.outputs.items) o =
-      subst (λ (k : List Out). Contains k o) (sym t.cast.router.outs) (Contains-filter (has_place u c) all_outs o (among_contains o all_outs there) (has_link u (behind u c o) l.place l.is_place)) in
+      subst (λ (k : List Out). Contains k o) (sym t.deal.router.outs) (Contains-filter (has_queue_behind u c) all_outs o (among_contains o all_outs there) (has_link u (behind u c o) l.place l.is_place)) in
       let found = Contains-unmap (λ (e : Out × OutEnd). e.0) t.before.router.outputs.items o has in
       let at = place_in t.before.router.outputs.items found.0 found.1 in
       let beside = AllZip-at_first (ServesAt t.before.router.patience served) t.before.router.outputs.items after.router.outputs.items t.flow.router.serves.outputs at.0 found.0 at.1 in
-      let was = All-at (λ (e : Out × OutEnd). (place_behind u c e.0 ≡ Some e.1.link) × IsTxAt r.played.up e.1) t.before.router.outputs.items at.0 found.0 t.cast.router.outputs at.1 in
+      let was = All-at (λ (e : Out × OutEnd). (place_behind u c e.0 ≡ Some e.1.link) × IsTxAt r.played.up e.1) t.before.router.outputs.items at.0 found.0 t.deal.router.outputs at.1 in
       let now = All-at (λ (e : Out × OutEnd). (place_behind u c e.0 ≡ Some e.1.link) × IsTxAt r.played.back e.1) after.router.outputs.items at.0 beside.0 t.back.router.outputs beside.1 in
       let place : found.0.1.link ≡ l.place = same_Some found.0.1.link l.place (sym was.0 ∙ (ap (place_behind u c) found.2 ∙ l.is_place)) in
       subst (λ (x : Out). SentBy x (behind u c o) l) found.2 (sent_at (behind u c o) l found.0 beside.0 beside.2 place was.1 now.1)
@@ -212,9 +213,9 @@ module _ (r : Round) (c : Chip) (after : Pair) (t : Turn r c after) where
             let parts = and_parts (out_eq o s.out) (is_sent s.fate) is in
             let same : o ≡ s.out = out_eq_true o s.out parts.0 in
             let has = All-contains (λ (x : Service). x.fate ≡ Sent → Contains (outs_with_ends t.before.router.outputs.items) x.out) served s t.flow.router.serves.by_ends (among_contains s served a) (sent_is s.fate parts.1) in
-            let there = Contains-from_filter (has_place u c) all_outs s.out (subst (λ (k : List Out). Contains k s.out) t.cast.router.outs has) in
-            let none : has_place u c s.out ≡ false = ap (has_place u c) (sym same) ∙ ap (λ q. is_some (place_of u q)) at in
-            absurd (answers_none (has_place u c s.out) there.1 none)
+            let there = Contains-from_filter (has_queue_behind u c) all_outs s.out (subst (λ (k : List Out). Contains k s.out) t.deal.router.outs has) in
+            let none : has_queue_behind u c s.out ≡ false = ap (has_queue_behind u c) (sym same) ∙ ap (λ q. is_some (queue_place_of u q)) at in
+            absurd (answers_none (has_queue_behind u c s.out) there.1 none)
         | inr other ↦ other
       ]
 
@@ -222,7 +223,7 @@ module _ (r : Round) (c : Chip) (after : Pair) (t : Turn r c after) where
   pub end_is_output : (e : Out × OutEnd) → Contains t.before.router.outputs.items e → IsOutput e.0
   end_is_output e has =
       let ends = Contains-map (λ (x : Out × OutEnd). x.0) t.before.router.outputs.items e has in
-      let there = Contains-from_filter (has_place u c) all_outs e.0 (subst (λ (k : List Out). Contains k e.0) t.cast.router.outs ends) in
+      let there = Contains-from_filter (has_queue_behind u c) all_outs e.0 (subst (λ (k : List Out). Contains k e.0) t.deal.router.outs ends) in
       has_bit e.0 (contains_among e.0 all_outs there.0)
 
   -- each copy that was taken was sent by an output at most once
@@ -230,10 +231,10 @@ module _ (r : Round) (c : Chip) (after : Pair) (t : Turn r c after) where
   few_sent_by split o is =
       let given : Port × McCopy → Bool = λ x. list_any (out_eq o) (outputs_at entries x.0 x.1) in
       let all = split entries r.turns t.before.router after.router o t.flow.router is in
-      let same = length_permutation (map onward (taken_for entries o taken)) (sent_by o served ++ map onward (dumped_by o served)) all in
-      let both = length-append (sent_by o served) (map onward (dumped_by o served)) in
-      let went = length-map (taken_for entries o taken) onward in
-      let for_output : length (taken_for entries o taken) ≡ count_by given taken = length-map (filter given taken) (λ (x : Port × McCopy). x.1) ∙ length-filter given taken in
+      let same = length_permutation (map onward (looked_up_for entries o taken)) (sent_by o served ++ map onward (copies_dumped_at o served)) all in
+      let both = length-append (sent_by o served) (map onward (copies_dumped_at o served)) in
+      let went = length-map (looked_up_for entries o taken) onward in
+      let for_output : length (looked_up_for entries o taken) ≡ count_by given taken = length-map (filter given taken) (λ (x : Port × McCopy). x.1) ∙ length-filter given taken in
       let within = count_by-le-length given taken in
       let few = t.flow.router.few in
       omega (arith, same, both, went, for_output, within, few)
@@ -243,7 +244,7 @@ module _ (r : Round) (c : Chip) (after : Pair) (t : Turn r c after) where
   pub log_is : after.router.log.items ≡ records c served
   log_is =
       t.flow.router.serves.logged
-      ∙ (ap (λ (k : List DumpRec). k ++ records t.before.router.chip served) t.logs.0 ∙ ap (λ (e : Chip). records e served) t.cast.router.chip)
+      ∙ (ap (λ (k : List DumpRec). k ++ records t.before.router.chip served) t.logs.0 ∙ ap (λ (e : Chip). records e served) t.deal.router.chip)
 
   -- the records are of outputs of the chip
   pub records_fit : IsLiveChip u.machine c → ((port : Port) → All (λ (k : McCopy). k.hop ≤ last_hop) (taken_at port taken)) →
@@ -263,21 +264,21 @@ module _ (r : Round) (c : Chip) (after : Pair) (t : Turn r c after) where
 
   -- ---- what was taken for an output
 
-  table_is : (o : Out) → taken_for entries o taken ≡ map (λ (x : Port × McCopy). x.1) (filter (λ (x : Port × McCopy). leaves_by u c o x.0 x.1) taken)
-  table_is o = ap (λ (i : ℕ). map (λ (x : Port × McCopy). x.1) (filter (λ (x : Port × McCopy). list_any (out_eq o) (outputs_at (slice_index_or u.tables i []) x.0 x.1)) taken)) t.cast.index
+  table_is : (o : Out) → looked_up_for entries o taken ≡ map (λ (x : Port × McCopy). x.1) (filter (λ (x : Port × McCopy). leaves_by u c o x.0 x.1) taken)
+  table_is o = ap (λ (i : ℕ). map (λ (x : Port × McCopy). x.1) (filter (λ (x : Port × McCopy). list_any (out_eq o) (outputs_at (slice_index_or u.tables i []) x.0 x.1)) taken)) t.deal.index
 
   pub routed : SendsOrDumps → TakenAtOne → IsInside u.machine c → (o : Out) → IsOutput o →
-      IsPermutation (map onward (round.taken_for u (flow_of r) c o)) (sent_by o served ++ map onward (dumped_by o served))
+      IsPermutation (map onward (round.taken_for u (flow_of r) c o)) (sent_by o served ++ map onward (copies_dumped_at o served))
   routed split at_one inside o is =
       let by_port : round.taken_for u (flow_of r) c o ≡ gathered (λ i port. filter (leaves_by u c o port) (taken_at port taken)) 0 all_ports =
       gathered_agree (λ i port. filter (leaves_by u c o port) ((flow_of r).left (at_port u c port))) (λ i port. filter (leaves_by u c o port) (taken_at port taken)) 0 all_ports
       (λ i port at. ap (filter (leaves_by u c o port)) (left_at port inside))
       in
       let one = at_one (leaves_by u c o) all_ports taken port_once in
-      let same : IsPermutation (round.taken_for u (flow_of r) c o) (taken_for entries o taken) =
-      subst (λ (l : List McCopy). IsPermutation l (taken_for entries o taken)) (sym by_port)
+      let same : IsPermutation (round.taken_for u (flow_of r) c o) (looked_up_for entries o taken) =
+      subst (λ (l : List McCopy). IsPermutation l (looked_up_for entries o taken)) (sym by_port)
       (subst (λ (l : List McCopy). IsPermutation (gathered (λ i port. filter (leaves_by u c o port) (taken_at port taken)) 0 all_ports) l) (sym (table_is o)) one)
       in
       let sent = split entries r.turns t.before.router after.router o t.flow.router is in
-      IsPermutation-trans (map onward (round.taken_for u (flow_of r) c o)) (map onward (taken_for entries o taken)) (sent_by o served ++ map onward (dumped_by o served))
-      (IsPermutation-map onward (round.taken_for u (flow_of r) c o) (taken_for entries o taken) same) sent
+      IsPermutation-trans (map onward (round.taken_for u (flow_of r) c o)) (map onward (looked_up_for entries o taken)) (sent_by o served ++ map onward (copies_dumped_at o served))
+      (IsPermutation-map onward (round.taken_for u (flow_of r) c o) (looked_up_for entries o taken) same) sent

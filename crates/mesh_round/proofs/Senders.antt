@@ -4,23 +4,23 @@ use Rattle.std.specs.List.{All, Contains, filter}
 use Rattle.std.proofs.lemmas.Bool.{cases_eq}
 use Rattle.std.proofs.lemmas.List.{length-map}
 use Rattle.std.proofs.lemmas.List.Elements.{All-nil, All-append, All-map}
-use Rattle.list_laws.proofs.Members.{Contains-at, Contains-unmap}
-use Rattle.list_laws.proofs.Pairs.{All-left, All-right}
-use Rattle.list_laws.proofs.Places.{All-at, All-each, AllZip-at_second}
+use Rattle.spin_base.proofs.Members.{Contains-at, Contains-unmap}
+use Rattle.spin_base.proofs.Pairs.{All-left, All-right}
+use Rattle.spin_base.proofs.Places.{All-at, All-each, AllZip-at_second}
 use Rattle.spin_base.specs.declared.chips.Chip.{Chip}
 use Rattle.spin_base.specs.declared.routes.Out.{Out}
 use Rattle.spin_base.specs.declared.copies.McCopy.{McCopy}
+use Rattle.spin_base.specs.Hops.{last_hop, onward}
 use Rattle.link_queue.specs.declared.links.Tx.{Tx}
 use Rattle.link_queue.specs.Ends.{sending, taking}
 use Rattle.chip_node.specs.declared.ends.OutEnd.{OutEnd}
 use Rattle.chip_node.specs.RouterFlow.{Service, is_sent_by, ServesAt}
-use Rattle.chip_node.specs.Routing.{last_hop, onward}
 use Rattle.mesh_core.specs.State.{Queue}
-use Rattle.mesh_run.specs.Casting.{Pair, IsTxAt}
+use Rattle.mesh_run.specs.Holders.{Pair, IsTxAt}
 use Rattle.mesh_run.specs.Lending.{place_behind}
-use Rattle.round_flow.specs.RoundFlow.{held_in}
+use Rattle.mesh_round.specs.RoundFlow.{held_in}
 use Rattle.mesh_round.proofs.Banks.{sent_here, sent_at_start}
-use Rattle.mesh_round.proofs.Links.{LinkOf, there, none, stands, entered_is, left_is}
+use Rattle.mesh_round.proofs.Links.{LinkOf, there, none, stands, held_fits, entered_is, left_is}
 use Rattle.mesh_round.proofs.Lists.{place_in, found_or_none, number_or_none}
 use Rattle.mesh_round.proofs.Routers.{SendsOrDumps, end_is_output, few_sent_by, sent_at, served}
 use Rattle.mesh_round.proofs.TheFlow.{Round, flow_of, told}
@@ -70,7 +70,7 @@ module _ (r : Round) where
   fed_by_output q l c p t f has place =
       let at = place_in p.router.outputs.items f has in
       let beside = AllZip-at_second (ServesAt t.before.router.patience (served r c p t)) t.before.router.outputs.items p.router.outputs.items t.flow.router.serves.outputs at.0 f at.1 in
-      let was = All-at (λ (e : Out × OutEnd). (place_behind r.m.setup c e.0 ≡ Some e.1.link) × IsTxAt r.played.up e.1) t.before.router.outputs.items at.0 beside.0 t.cast.router.outputs beside.1 in
+      let was = All-at (λ (e : Out × OutEnd). (place_behind r.m.setup c e.0 ≡ Some e.1.link) × IsTxAt r.played.up e.1) t.before.router.outputs.items at.0 beside.0 t.deal.router.outputs beside.1 in
       let now = All-at (λ (e : Out × OutEnd). (place_behind r.m.setup c e.0 ≡ Some e.1.link) × IsTxAt r.played.back e.1) p.router.outputs.items at.0 f t.back.router.outputs at.1 in
       let sent = sent_at r c p t q l beside.0 f beside.2 (sym beside.2.link ∙ place) was.1 now.1 in
       let step : Service → McCopy = λ s. onward s.copy in
@@ -137,8 +137,11 @@ module _ (r : Round) where
     | none here held after ↦ subst (All IsSmall) (sym (ap (told (λ e. (sending e.tx).sent)) here)) (All-nil IsSmall)
   ]
 
+  held_hops : (q : Queue) → All IsSmall (held_in r.m q)
+  held_hops q i d below = let hop = (held_fits r q).hops i d below in omega (arith, hop)
+
   all_small : (q : Queue) → All IsSmall ((flow_of r).left q ++ held_in r.n q)
-  all_small q = subst (All IsSmall) (in_order q) (All-append IsSmall (held_in r.m q) ((flow_of r).entered q) (r.fit q) (hops_entered q))
+  all_small q = subst (All IsSmall) (in_order q) (All-append IsSmall (held_in r.m q) ((flow_of r).entered q) (held_hops q) (hops_entered q))
 
   pub hops_left : (q : Queue) → All (λ (k : McCopy). k.hop ≤ last_hop) ((flow_of r).left q)
   hops_left q = All-left IsSmall ((flow_of r).left q) (held_in r.n q) (all_small q)

@@ -5,8 +5,8 @@ use Rattle.std.proofs.lemmas.Bool.{cases_Bool, cond-false}
 use Rattle.std.proofs.lemmas.List.{length-map}
 use Rattle.std.proofs.lemmas.List.Elements.{filter-append}
 use Rattle.std.proofs.lemmas.List.Sums.{length-filter}
-use Rattle.list_laws.proofs.Members.{Among, among_map, among_filter, map_among, among_contains, contains_among, Contains-filter, Contains-map}
-use Rattle.list_laws.proofs.Tests.{answers_none}
+use Rattle.spin_base.proofs.Members.{Among, among_map, among_filter, map_among, among_contains, contains_among, Contains-filter, Contains-map}
+use Rattle.spin_base.proofs.Tests.{answers_none}
 use Rattle.spin_base.specs.declared.chips.Chip.{Chip}
 use Rattle.spin_base.specs.declared.chips.Port.{Port}
 use Rattle.spin_base.specs.declared.chips.Dir.TheVariants.{East, NorthEast, North, West, SouthWest, South}
@@ -19,17 +19,18 @@ use Rattle.spin_base.specs.Equality.{chip_eq, port_eq, out_eq}
 use Rattle.spin_base.specs.Lookup.{lookup}
 use Rattle.spin_base.specs.Outputs.{has, outs_of, all_outs, out_number, IsOutput}
 use Rattle.spin_base.proofs.Equality.{chip_eq_same, chip_eq_true, port_eq_same}
+use Rattle.spin_base.specs.Hops.{last_hop}
 use Rattle.chip_node.specs.declared.ends.Served.{Served}
 use Rattle.chip_node.specs.declared.ends.Served.TheVariants.{Sent, Dumped}
 use Rattle.chip_node.specs.Looking.{taken_at}
 use Rattle.chip_node.specs.RouterFlow.{Service, owed, is_sent, is_dumped_at, records}
-use Rattle.chip_node.specs.Routing.{last_hop, outputs_at}
+use Rattle.chip_node.specs.Routing.{outputs_at}
 use Rattle.chip_node.specs.Serving.{records_of}
 use Rattle.mesh_core.proofs.MarkTests.{below_last}
 use Rattle.mesh_core.specs.Ledger.{all_ports}
-use Rattle.mesh_run.specs.Routed.{dumped_by}
-use Rattle.round_flow.proofs.Entered.{has_bit}
-use Rattle.round_flow.proofs.Sums.{sum_agree, sum_swap}
+use Rattle.mesh_run.specs.Routed.{copies_dumped_at}
+use Rattle.mesh_round.proofs.Entered.{has_bit}
+use Rattle.mesh_round.proofs.Sums.{sum_agree, sum_swap}
 use Rattle.mesh_round.proofs.Lists.{among_flat, eqb-flip, sum_ones}
 
 -- ---- ports
@@ -130,7 +131,7 @@ record_more c o s Dumped is rest others same =
     ]
 
 -- the copies of a router's records of an output are those that were dumped there
-pub records_at : (c : Chip) (o : Out) (served : List Service) → map (λ (r : DumpRec). r.copy) (filter (is_of c o) (records c served)) ≡ dumped_by o served
+pub records_at : (c : Chip) (o : Out) (served : List Service) → map (λ (r : DumpRec). r.copy) (filter (is_of c o) (records c served)) ≡ copies_dumped_at o served
 records_at c o [] = refl
 records_at c o (s ∷ ss) =
     ap copies (filter-append (is_of c o) (records_of c s.out s.copy s.fate) (records c ss))

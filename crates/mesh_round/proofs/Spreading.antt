@@ -4,8 +4,8 @@ use Rattle.std.specs.List.{slice_get, filter}
 use Rattle.std.specs.List.Sorted.{IsPermutation}
 use Rattle.std.proofs.lemmas.Bool.{ne_eqb, cond-true, cond-false}
 use Rattle.std.proofs.lemmas.List.Sorted.{IsPermutation-refl, IsPermutation-cons, IsPermutation-trans, IsPermutation-middle, IsPermutation-append_right}
-use Rattle.list_laws.specs.Gathered.{gathered}
-use Rattle.list_laws.proofs.Members.{Among, Contains-filter, Contains-map, among_contains, contains_among}
+use Rattle.spin_base.specs.Gathered.{gathered}
+use Rattle.spin_base.proofs.Members.{Among, Contains-filter, Contains-map, among_contains, contains_among}
 use Rattle.spin_base.proofs.Equality.{nat_eq_same}
 use Rattle.mesh_round.proofs.Lists.{gathered_none}
 

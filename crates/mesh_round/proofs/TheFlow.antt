@@ -5,9 +5,8 @@ use Rattle.spin_base.specs.declared.copies.DumpRec.{DumpRec}
 use Rattle.link_queue.specs.declared.links.LinkEnds.{LinkEnds}
 use Rattle.link_queue.specs.Ends.{sending, taking}
 use Rattle.mesh_core.specs.State.{Setup, State, IsMesh, Queue, input, core, nowhere}
-use Rattle.mesh_run.specs.Casting.{IsPlayed, delivered_by, dumped_by}
-use Rattle.round_flow.specs.RoundFlow.{Flow, HasNoHand, held_in}
-use Rattle.mesh_round.specs.OnThreads.{HopsFit}
+use Rattle.mesh_run.specs.Holders.{IsPlayed, delivered_by, dumped_by}
+use Rattle.mesh_round.specs.RoundFlow.{Flow, HasNoHand, held_in}
 
 -- a round on threads from a mesh without a hand
 pub record Round : Type 0 where
@@ -17,7 +16,6 @@ pub record Round : Type 0 where
   pub n : State
   pub mesh : IsMesh m
   pub no_hand : HasNoHand m
-  pub fit : HopsFit m
   pub played : IsPlayed patience turns m n
 
 -- how many ports the grid has

@@ -2,15 +2,15 @@
 use Rattle.std.proofs.Common.{◌≡◌, ℕ, List, [], ◌∷◌, Some, sym, subst}
 use Rattle.std.specs.List.{All, AllZip, Contains, slice_get}
 use Rattle.std.proofs.lemmas.List.Elements.{All-head, All-tail}
-use Rattle.list_laws.proofs.Members.{Among, among_contains, among_at}
-use Rattle.list_laws.proofs.Places.{AllZip-at_first, AllZip-at_second}
+use Rattle.spin_base.proofs.Members.{Among, among_contains, among_at}
+use Rattle.spin_base.proofs.Places.{AllZip-at_first, AllZip-at_second}
 use Rattle.spin_base.specs.declared.chips.Chip.{Chip}
 use Rattle.spin_base.specs.Equality.{chip_eq}
 use Rattle.spin_base.proofs.Equality.{chip_eq_true}
 use Rattle.machine_desc.specs.Live.{IsLiveChip}
 use Rattle.mesh_core.specs.State.{Setup}
-use Rattle.mesh_run.specs.Casting.{Pair, IsPairAt, PairFlow, live_chips}
-use Rattle.round_flow.proofs.Sources.{live_chip_once, live_of_live_chips}
+use Rattle.mesh_run.specs.Holders.{Pair, IsPairAt, PairFlow, live_chips}
+use Rattle.mesh_round.proofs.Sources.{live_chip_once, live_of_live_chips}
 use Rattle.mesh_round.proofs.Lists.{place_in, counted}
 use Rattle.mesh_round.proofs.TheFlow.{Round}
 
@@ -21,7 +21,7 @@ module _ (r : Round) where
   -- a live chip's pair, before its turns and after them
   pub record Turn (c : Chip) (after : Pair) : Type 0 where
     pub before : Pair
-    pub cast : IsPairAt u r.played.up r.m.unsent r.patience c before
+    pub deal : IsPairAt u r.played.up r.m.unsent r.patience c before
     pub logs : (before.router.log.items ≡ []) × (before.bank.log.items ≡ [])
     pub flow : PairFlow u.tables r.turns before after
     pub back : IsPairAt u r.played.back r.n.unsent r.patience c after
@@ -31,18 +31,18 @@ module _ (r : Round) where
 
   zipped : (cs : List Chip) (bs ps : List Pair) → AllZip (IsPairAt u r.played.up r.m.unsent r.patience) cs bs → All IsQuiet bs → AllZip (PairFlow u.tables r.turns) bs ps →
       AllZip (IsPairAt u r.played.back r.n.unsent r.patience) cs ps → AllZip Turn cs ps
-  zipped [] [] [] cast quiet flows back = tt
-  zipped [] [] (p ∷ ps) cast quiet flows back = absurd back
-  zipped [] (b ∷ bs) ps cast quiet flows back = absurd cast
-  zipped (c ∷ cs) [] ps cast quiet flows back = absurd cast
-  zipped (c ∷ cs) (b ∷ bs) [] cast quiet flows back = absurd back
-  zipped (c ∷ cs) (b ∷ bs) (p ∷ ps) cast quiet flows back = (
-    record { before = b; cast = cast.0; logs = All-head IsQuiet b bs quiet; flow = flows.0; back = back.0 },
-    zipped cs bs ps cast.1 (All-tail IsQuiet b bs quiet) flows.1 back.1,
+  zipped [] [] [] deal quiet flows back = tt
+  zipped [] [] (p ∷ ps) deal quiet flows back = absurd back
+  zipped [] (b ∷ bs) ps deal quiet flows back = absurd deal
+  zipped (c ∷ cs) [] ps deal quiet flows back = absurd deal
+  zipped (c ∷ cs) (b ∷ bs) [] deal quiet flows back = absurd back
+  zipped (c ∷ cs) (b ∷ bs) (p ∷ ps) deal quiet flows back = (
+    record { before = b; deal = deal.0; logs = All-head IsQuiet b bs quiet; flow = flows.0; back = back.0 },
+    zipped cs bs ps deal.1 (All-tail IsQuiet b bs quiet) flows.1 back.1,
   )
 
   pub all_turns : AllZip Turn (live_chips u.machine) r.played.played
-  all_turns = zipped (live_chips u.machine) r.played.cast r.played.played r.played.are_cast r.played.no_logs r.played.flows r.played.are_back
+  all_turns = zipped (live_chips u.machine) r.played.deal r.played.played r.played.are_dealt r.played.no_logs r.played.flows r.played.are_back
 
   -- the turns of a chip, and where it stands among the live chips
   pub record TurnOf (c : Chip) : Type 0 where

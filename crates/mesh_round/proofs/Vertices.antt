@@ -3,10 +3,10 @@ use Rattle.std.proofs.Common.{◌≡◌, ℕ, ◌<◌, ◌≤◌, false, List, [
 use Rattle.std.specs.List.{All, slice_get, slice_index_or, filter}
 use Rattle.std.proofs.lemmas.List.Elements.{All-map}
 use Rattle.std.proofs.lemmas.Option.{slice_get_within, same_Some}
-use Rattle.list_laws.proofs.Members.{contains_among}
-use Rattle.list_laws.proofs.Pairs.{All-flat_map}
-use Rattle.list_laws.proofs.Places.{All-at, All-each, slice_get_there}
-use Rattle.list_laws.proofs.Tests.{answers_none}
+use Rattle.spin_base.proofs.Members.{contains_among}
+use Rattle.spin_base.proofs.Pairs.{All-flat_map}
+use Rattle.spin_base.proofs.Places.{All-at, All-each, slice_get_there}
+use Rattle.spin_base.proofs.Tests.{answers_none}
 use Rattle.spin_base.specs.declared.chips.Chip.{Chip}
 use Rattle.spin_base.specs.declared.chips.Spot.{Spot}
 use Rattle.spin_base.specs.declared.routes.Out.{Out}
@@ -16,16 +16,16 @@ use Rattle.spin_base.specs.declared.copies.DumpRec.{DumpRec}
 use Rattle.spin_base.specs.Equality.{chip_eq}
 use Rattle.spin_base.specs.Outputs.{IsOutput}
 use Rattle.spin_base.proofs.Equality.{chip_eq_same}
+use Rattle.spin_base.specs.Hops.{last_hop}
 use Rattle.machine_desc.specs.Live.{IsLiveChip, IsSite}
 use Rattle.machine_desc.proofs.Far.{live_inside}
 use Rattle.machine_desc.proofs.Sites.{site_parts}
 use Rattle.chip_node.specs.BankFlow.{of_vertex}
-use Rattle.chip_node.specs.Routing.{last_hop}
 use Rattle.mesh_core.specs.State.{Setup, core}
-use Rattle.mesh_run.specs.Casting.{Pair, live_chips}
-use Rattle.mesh_run.specs.Routed.{dumped_by}
-use Rattle.round_flow.specs.RoundFlow.{at_port, delivered_to, dumped_at}
-use Rattle.round_flow.proofs.Sources.{live_chip_once}
+use Rattle.mesh_run.specs.Holders.{Pair, live_chips}
+use Rattle.mesh_run.specs.Routed.{copies_dumped_at}
+use Rattle.mesh_round.specs.RoundFlow.{at_port, delivered_to, dumped_at}
+use Rattle.mesh_round.proofs.Sources.{live_chip_once}
 use Rattle.mesh_round.proofs.Banks.{VertexTurn, vertex_turn, vertex_spot, receiver_at, unsent_parts, sent_is, collected_is, deliveries_are, delivered_of, none_delivered, is_to, got}
 use Rattle.mesh_round.proofs.Lists.{filter-flat, flat_one}
 use Rattle.mesh_round.proofs.Routers.{served, log_is, left_at, records_fit}
@@ -109,7 +109,7 @@ module _ (r : Round) where
   -- ---- dump records
 
   -- what was dumped at an output of a chip, of all pairs' logs
-  pub dumped_is : (c : Chip) (o : Out) → IsLiveChip u.machine c → (t : TurnOf r c) → dumped_at (flow_of r) c o ≡ dumped_by o (served r c t.after t.turn)
+  pub dumped_is : (c : Chip) (o : Out) → IsLiveChip u.machine c → (t : TurnOf r c) → dumped_at (flow_of r) c o ≡ copies_dumped_at o (served r c t.after t.turn)
   dumped_is c o live t =
       ap (map (λ (d : DumpRec). d.copy))
       (filter-flat (is_of c o) (λ (p : Pair). p.router.log.items) r.played.played

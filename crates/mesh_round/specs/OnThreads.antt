@@ -1,12 +1,7 @@
 -- What a round on threads asks of a mesh, and what it is (this project's own).
-use Rattle.std.specs.Prelude.{◌≢◌, ◌⊎◌, ℕ, ◌<◌, ◌≤◌, [], All, slice_index_or}
+use Rattle.std.specs.Prelude.{◌≢◌, ◌⊎◌, ℕ, ◌<◌, [], slice_index_or}
 use Rattle.mesh_core.specs.State.{State, Queue, IsMesh}
-use Rattle.mesh_core.specs.Step.{last_hop}
-use Rattle.round_flow.specs.RoundFlow.{Flow, held_in, HasNoHand, IsRound, HasMoved}
-
--- Hop numbers are of 32 bits: none of a copy that waits is greater than the greatest.
-abbrev pub HopsFit : State → Type 0
-HopsFit s = (q : Queue) → All (λ k. k.hop ≤ last_hop) (held_in s q)
+use Rattle.mesh_round.specs.RoundFlow.{Flow, held_in, HasNoHand, IsRound, HasMoved}
 
 -- a queue holds a copy, or a vertex has one that it did not send yet
 abbrev pub HasSome : State → Type 0
@@ -19,8 +14,7 @@ pub record LeadsByRound (patience turns : ℕ) (m n : State) : Type 0 where
   pub round : IsRound patience turns m flow n
   pub moved : 0 < turns → HasSome m → HasMoved m flow
 
--- A mesh may go on by rounds: no router has a copy in hand, and hop numbers fit.
-pub record IsReady (s : State) : Type 0 where
+-- A mesh may go on by rounds: no router has a copy in hand.
+pub record MayGoOn (s : State) : Type 0 where
   pub mesh : IsMesh s
   pub no_hand : HasNoHand s
-  pub hops : HopsFit s

@@ -1,14 +1,14 @@
 -- Dumped copies put back between rounds (this project's own).
 use Rattle.std.specs.Prelude.{ℕ, List, is_some, if◌then◌else◌}
 use Rattle.spin_base.specs.declared.copies.Packet.{Packet}
-use Rattle.net_tables.specs.declared.nets.NetPlan.{NetPlan}
-use Rattle.net_tables.specs.RightTables.{AreRight}
+use Rattle.machine_desc.specs.declared.nets.NetPlan.{NetPlan}
+use Rattle.machine_desc.specs.RightTables.{AreRight}
 use Rattle.mesh_core.specs.declared.places.Did.{Did}
 use Rattle.mesh_core.specs.declared.places.Did.TheVariants.{Moved, Idle}
 use Rattle.mesh_core.specs.State.{State, IsMesh}
 use Rattle.mesh_core.specs.PutBack.{put_back_of, after_put_back}
 use Rattle.mesh_core.specs.Opened.{MeetsJobLedger}
-use Rattle.round_flow.specs.RoundFlow.{Flow, IsRound}
+use Rattle.mesh_round.specs.RoundFlow.{Flow, IsRound}
 
 -- whether the first dumped copy can be put back: there is one, and the queue behind its output isn't full
 abbrev pub put_back_answer : State → Did

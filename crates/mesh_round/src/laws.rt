@@ -1,27 +1,29 @@
 //! Laws of rounds on threads. Each function does nothing: its clauses are the law, for every mesh.
 ghost use Rattle.std.specs.Prelude.{◌≡◌, ℕ, List, []};
 ghost use Rattle.spin_base.specs.declared.copies.Packet.{Packet};
-ghost use Rattle.net_tables.specs.declared.nets.NetPlan.{NetPlan};
-ghost use Rattle.net_tables.specs.RightTables.{AreRight};
+ghost use Rattle.machine_desc.specs.declared.nets.NetPlan.{NetPlan};
+ghost use Rattle.machine_desc.specs.RightTables.{AreRight};
 ghost use Rattle.mesh_core.specs.State.{State, IsMesh};
 ghost use Rattle.mesh_core.specs.Opened.{MeetsJobLedger};
 ghost use Rattle.mesh_core.specs.Expected.{AreAsExpected, IsAtRest, NothingWaits};
-ghost use Rattle.mesh_run.specs.Casting.{IsPlayed};
-ghost use Rattle.round_flow.specs.RoundFlow.{HasNoHand};
-ghost use Rattle.mesh_round.specs.OnThreads.{HopsFit, LeadsByRound};
+ghost use Rattle.mesh_run.specs.Holders.{IsPlayed};
+ghost use Rattle.mesh_round.specs.RoundFlow.{HasNoHand};
+ghost use Rattle.mesh_round.specs.OnThreads.{LeadsByRound};
 ghost use Rattle.mesh_round.specs.Reinjecting.{HasPasses};
 
+use crate::flow_laws::a_round_keeps_the_ledger;
 use mesh_core::laws::a_mesh_at_rest_has_delivered_all;
 use mesh_run::laws::{a_copy_is_taken_at_one_port, a_router_sends_or_dumps};
-use round_flow::laws::a_round_keeps_the_ledger;
 
 /// A round on threads leads from a mesh to a mesh, in whatever order the threads took their turns: by a round in which a copy
-/// moves where there is one and turns are given. No router has a copy in hand after it, and hop numbers fit as before.
+/// moves where there is one and turns are given. No router has a copy in hand after it.
 pub fn a_round_on_threads_is_a_round()
-    ensures mesh { (patience turns : ℕ) (m n : State) → IsMesh m → HasNoHand m → HopsFit m → IsPlayed patience turns m n → IsMesh n }
-    ensures hands { (patience turns : ℕ) (m n : State) → HasNoHand m → IsPlayed patience turns m n → HasNoHand n }
-    ensures hops { (patience turns : ℕ) (m n : State) → IsMesh m → HasNoHand m → HopsFit m → IsPlayed patience turns m n → HopsFit n }
-    ensures round { (patience turns : ℕ) (m n : State) → IsMesh m → HasNoHand m → HopsFit m → IsPlayed patience turns m n → LeadsByRound patience turns m n }
+    ensures mesh { (patience turns : ℕ) (m n : State) →
+        IsMesh m → HasNoHand m → IsPlayed patience turns m n → IsMesh n }
+    ensures hands { (patience turns : ℕ) (m n : State) →
+        HasNoHand m → IsPlayed patience turns m n → HasNoHand n }
+    ensures round { (patience turns : ℕ) (m n : State) →
+        IsMesh m → HasNoHand m → IsPlayed patience turns m n → LeadsByRound patience turns m n }
 {
     a_router_sends_or_dumps();
     a_copy_is_taken_at_one_port();
@@ -29,8 +31,10 @@ pub fn a_round_on_threads_is_a_round()
 
 /// So it keeps the ledger of a job, where the tables are right for its nets.
 pub fn a_round_on_threads_keeps_the_ledger()
-    ensures { (patience turns : ℕ) (m n : State) (nets : List NetPlan) (packets : List Packet) → IsMesh m → HasNoHand m → HopsFit m → IsPlayed patience turns m n →
-        AreRight m.setup.machine m.setup.tables nets → MeetsJobLedger m nets packets → MeetsJobLedger n nets packets }
+    ensures { (patience turns : ℕ) (m n : State) (nets : List NetPlan) (packets : List Packet) →
+        IsMesh m → HasNoHand m → IsPlayed patience turns m n →
+        AreRight m.setup.machine m.setup.tables nets →
+        MeetsJobLedger m nets packets → MeetsJobLedger n nets packets }
 {
     a_round_on_threads_is_a_round();
     a_round_keeps_the_ledger();
@@ -38,16 +42,18 @@ pub fn a_round_on_threads_keeps_the_ledger()
 
 /// A mesh in which nothing waits may go by rounds, as the opened mesh of a job.
 pub fn a_quiet_mesh_is_ready()
-    ensures no_hand { (s : State) → NothingWaits s → HasNoHand s }
-    ensures hops { (s : State) → NothingWaits s → HopsFit s }
+    ensures { (s : State) → NothingWaits s → HasNoHand s }
 {}
 
 /// Rounds and copies put back, in any order, lead from a mesh to a mesh of the same machine, vertices, tables and capacity. They
 /// keep the ledger of a job, where the tables are right for its nets.
 pub fn passes_keep_the_ledger()
-    ensures mesh { (patience turns : ℕ) (m n : State) → IsMesh m → HasPasses patience turns m n → IsMesh n × (n.setup ≡ m.setup) }
-    ensures ledger { (patience turns : ℕ) (m n : State) (nets : List NetPlan) (packets : List Packet) → IsMesh m →
-        AreRight m.setup.machine m.setup.tables nets → MeetsJobLedger m nets packets → HasPasses patience turns m n → MeetsJobLedger n nets packets }
+    ensures mesh { (patience turns : ℕ) (m n : State) → IsMesh m → HasPasses patience turns m n
+        → IsMesh n × (n.setup ≡ m.setup) }
+    ensures ledger { (patience turns : ℕ) (m n : State) (nets : List NetPlan)
+        (packets : List Packet) → IsMesh m →
+        AreRight m.setup.machine m.setup.tables nets → MeetsJobLedger m nets packets
+        → HasPasses patience turns m n → MeetsJobLedger n nets packets }
 {
     a_round_keeps_the_ledger();
 }
@@ -55,8 +61,10 @@ pub fn passes_keep_the_ledger()
 /// So a mesh that was reached so, with nothing waiting, nothing unsent and no dump record left, has delivered all that the job
 /// asks for and nothing else: each packet once at each target of its net, however often copies were dropped on the way.
 pub fn reinjected_meshes_have_delivered_all()
-    ensures { (patience turns : ℕ) (m n : State) (nets : List NetPlan) (packets : List Packet) → IsMesh m →
-        AreRight m.setup.machine m.setup.tables nets → MeetsJobLedger m nets packets → HasPasses patience turns m n → IsAtRest n →
+    ensures { (patience turns : ℕ) (m n : State) (nets : List NetPlan) (packets : List Packet)
+        → IsMesh m →
+        AreRight m.setup.machine m.setup.tables nets → MeetsJobLedger m nets packets
+        → HasPasses patience turns m n → IsAtRest n →
         n.dumped ≡ [] → AreAsExpected n nets packets }
 {
     passes_keep_the_ledger();

@@ -1,22 +1,23 @@
 // Dumped copies put back where they were dropped, until every target has its own.
-ghost use Rattle.std.specs.Prelude.{◌≡◌, ◌≤◌, ◌<◌, ℕ, [], length, IfErr, IfOk, OnErr, OnOk};
+ghost use Rattle.std.specs.Prelude.{◌≡◌, ◌<◌, ℕ, [], length, IfErr, IfOk, OnErr, OnOk};
 ghost use Rattle.mesh_core.specs.declared.places.Did.TheVariants.{Moved};
 ghost use Rattle.mesh_core.specs.State.{IsMesh, behind};
-ghost use Rattle.mesh_core.specs.Step.{has_room_behind, onward, push_behind};
-ghost use Rattle.mesh_core.specs.Serving.{named, IsPlace};
+ghost use Rattle.spin_base.specs.Hops.{onward};
+ghost use Rattle.mesh_core.specs.Step.{has_room_behind, push_behind};
+ghost use Rattle.mesh_core.specs.Serving.{queue_named, IsPlace};
 ghost use Rattle.mesh_core.specs.PutBack.{after_put_back};
 ghost use Rattle.mesh_core.specs.Expected.{IsAtRest};
-ghost use Rattle.round_flow.specs.RoundFlow.{HasNoHand};
-ghost use Rattle.round_flow.specs.Work.{work_in};
-ghost use Rattle.mesh_round.specs.OnThreads.{HopsFit, IsReady};
+ghost use Rattle.mesh_round.specs.RoundFlow.{HasNoHand};
+ghost use Rattle.mesh_round.specs.Work.{work_in};
+ghost use Rattle.mesh_round.specs.OnThreads.{MayGoOn};
 ghost use Rattle.mesh_round.specs.Reinjecting.{put_back_answer, HasPasses, IsOfJob};
 
+use crate::flow_laws::a_round_leaves_less_to_do;
 use crate::laws::passes_keep_the_ledger;
 use crate::rounds::run_parts;
 use mesh_core::laws::a_mesh_stays_a_mesh;
 use mesh_core::{Did, Mesh, MeshParts, Queue};
 use mesh_run::Pace;
-use round_flow::laws::a_round_leaves_less_to_do;
 use spin_base::{Chip, Gate, McCopy, Memory, Out};
 use std::alloc::Global;
 use std::sync::Wait;
@@ -52,29 +53,17 @@ pub fn reinject<R: Threads + Wait + Sync, G: Gate>(
     rt: &R,
     alloc: Global,
     mesh: Mesh,
-    patience: u32,
-    workers: u32,
-    turns: u32,
+    pace: Pace,
     gate: &G,
 ) -> Result<Mesh, (Mesh, Memory)>
     requires no_hand { HasNoHand mesh }
-    requires hops { HopsFit mesh }
-    requires patient { 1 ≤ patience }
-    requires workers { 1 ≤ workers }
-    requires turns { 1 ≤ turns }
     requires ledger { IsOfJob mesh }
-    ensures passes { IfOk result (HasPasses patience turns mesh) }
+    ensures passes { IfOk result (HasPasses pace.patience pace.turns mesh) }
     ensures at_rest { IfOk result IsAtRest }
     ensures no_record { IfOk result (λ n. n.dumped ≡ []) }
-    ensures refused { IfErr result (λ b. HasPasses patience turns mesh b.0) }
-    ensures ready { IfErr result (λ b. IsReady b.0) }
+    ensures refused { IfErr result (λ b. HasPasses pace.patience pace.turns mesh b.0) }
+    ensures ready { IfErr result (λ b. MayGoOn b.0) }
 {
-    let pace = Pace {
-        patience,
-        workers,
-        turns,
-        number: 0,
-    };
     match pass_parts(rt, alloc, mesh.take_apart(), pace, gate) {
         Ok(parts) => Ok(Mesh::put_together(parts)),
         Err((parts, e)) => Err((Mesh::put_together(parts), e)),
@@ -89,17 +78,14 @@ fn pass_parts<R: Threads + Wait + Sync, G: Gate>(
     pace: Pace,
     gate: &G,
 ) -> Result<MeshParts, (MeshParts, Memory)>
-    requires ready { IsReady parts }
-    requires patient { 1 ≤ pace.patience }
-    requires workers { 1 ≤ pace.workers }
-    requires turns { 1 ≤ pace.turns }
+    requires ready { MayGoOn parts }
     requires ledger { IsOfJob parts }
     ensures passes { IfOk result (HasPasses pace.patience pace.turns parts) }
-    ensures ready { IfOk result IsReady }
+    ensures ready { IfOk result MayGoOn }
     ensures at_rest { IfOk result IsAtRest }
     ensures no_record { IfOk result (λ n. n.dumped ≡ []) }
     ensures refused { IfErr result (λ b. HasPasses pace.patience pace.turns parts b.0) }
-    ensures ready_still { IfErr result (λ b. IsReady b.0) }
+    ensures ready_still { IfErr result (λ b. MayGoOn b.0) }
 {
     passes_keep_the_ledger();
     a_round_leaves_less_to_do();
@@ -113,12 +99,13 @@ fn pass_parts<R: Threads + Wait + Sync, G: Gate>(
 
 // Puts dumped copies back, first ones first, until the first one can't be, on the parts of a mesh.
 fn put_parts_back(parts: MeshParts) -> Result<MeshParts, (MeshParts, Memory)>
-    requires ready { IsReady parts }
+    requires ready { MayGoOn parts }
     ensures passes { IfOk result (λ n. (patience turns : ℕ) → HasPasses patience turns parts n) }
-    ensures ready { IfOk result IsReady }
+    ensures ready { IfOk result MayGoOn }
     ensures less { IfOk result (λ n. put_back_answer parts ≡ Moved → work_in n < work_in parts) }
-    ensures refused { IfErr result (λ b. (patience turns : ℕ) → HasPasses patience turns parts b.0) }
-    ensures ready_still { IfErr result (λ b. IsReady b.0) }
+    ensures refused { IfErr result (λ b. (patience turns : ℕ)
+        → HasPasses patience turns parts b.0) }
+    ensures ready_still { IfErr result (λ b. MayGoOn b.0) }
 {
     match put_all_back(Mesh::put_together(parts)) {
         Ok(mesh) => Ok(mesh.take_apart()),
@@ -128,12 +115,12 @@ fn put_parts_back(parts: MeshParts) -> Result<MeshParts, (MeshParts, Memory)>
 
 // Puts dumped copies back, first ones first, until the first one can't be.
 fn put_all_back(mesh: Mesh) -> Result<Mesh, (Mesh, Memory)>
-    requires ready { IsReady mesh }
+    requires ready { MayGoOn mesh }
     ensures passes { IfOk result (λ n. (patience turns : ℕ) → HasPasses patience turns mesh n) }
-    ensures ready { IfOk result IsReady }
+    ensures ready { IfOk result MayGoOn }
     ensures less { IfOk result (λ n. put_back_answer mesh ≡ Moved → work_in n < work_in mesh) }
     ensures refused { IfErr result (λ b. (patience turns : ℕ) → HasPasses patience turns mesh b.0) }
-    ensures ready_still { IfErr result (λ b. IsReady b.0) }
+    ensures ready_still { IfErr result (λ b. MayGoOn b.0) }
 {
     let mut mesh = mesh;
     'copies: loop {
@@ -168,23 +155,19 @@ fn put_first_back(parts: MeshParts) -> Result<(MeshParts, Did), (MeshParts, Memo
     Ok((parts, Did::Moved))
 }
 
-// The queue behind an output. There is none behind an output of a chip that isn't live.
+// The queue behind an output.
 fn queue_behind(parts: &MeshParts, chip: Chip, out: Out) -> Queue
     requires { IsMesh parts.now }
-    ensures queue { named result ≡ behind parts.now.setup chip out }
+    ensures queue { queue_named result ≡ behind parts.now.setup chip out }
     ensures place { IsPlace (length parts.now.inputs) (length parts.now.cores) result }
 {
-    if parts.setup.machine().live(chip) {
-        parts.setup.behind(chip, out)
-    } else {
-        Queue::Nowhere
-    }
+    parts.setup.behind(chip, out)
 }
 
 // Whether a queue has room.
 fn has_room(parts: &MeshParts, queue: Queue) -> bool
     requires { IsPlace (length parts.now.inputs) (length parts.now.cores) queue }
-    ensures { result ≡ has_room_behind parts.now (named queue) }
+    ensures { result ≡ has_room_behind parts.now (queue_named queue) }
 {
     let capacity = parts.setup.capacity() as usize;
     match queue {
@@ -197,7 +180,7 @@ fn has_room(parts: &MeshParts, queue: Queue) -> bool
 // Puts a copy at the back of a queue.
 fn push_behind(parts: &mut MeshParts, queue: Queue, copy: McCopy) -> Result<(), Memory>
     requires { IsPlace (length parts.old.inputs) (length parts.old.cores) queue }
-    ensures ok { OnOk result (parts.new ≡ push_behind parts.old (named queue) copy) }
+    ensures ok { OnOk result (parts.new ≡ push_behind parts.old (queue_named queue) copy) }
     ensures err { OnErr result (parts.new ≡ parts.old) }
 {
     match queue {

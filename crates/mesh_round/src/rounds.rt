@@ -1,22 +1,22 @@
 // Rounds of a mesh on threads: one, and as many as it takes.
-ghost use Rattle.std.specs.Prelude.{◌≡◌, ◌≤◌, IfErr, IfOk};
+ghost use Rattle.std.specs.Prelude.{◌≡◌, IfErr, IfOk};
 ghost use Rattle.mesh_core.specs.State.{IsMesh};
 ghost use Rattle.mesh_core.specs.Expected.{IsAtRest};
-ghost use Rattle.round_flow.specs.RoundFlow.{HasNoHand, HasRounds};
-ghost use Rattle.mesh_round.specs.OnThreads.{HopsFit, IsReady, LeadsByRound};
+ghost use Rattle.mesh_round.specs.RoundFlow.{HasNoHand, HasRounds};
+ghost use Rattle.mesh_round.specs.OnThreads.{MayGoOn, LeadsByRound};
 
+use crate::flow_laws::a_round_leaves_less_to_do;
 use crate::laws::a_round_on_threads_is_a_round;
 use mesh_core::{Mesh, MeshParts};
 use mesh_run::{Pace, RaisedMesh, play_parts};
-use round_flow::laws::a_round_leaves_less_to_do;
 use spin_base::{Gate, Memory};
 use std::alloc::Global;
 use std::sync::Wait;
 use std::thread::Threads;
 
-/// One round: the router and the bank of cores of each live chip take `turns` turns, in `workers` workers, of which each enters
-/// the gate in phase `number`. A router offers a copy `patience` times before it dumps it. A round moves a copy where one waits or
-/// is unsent and turns are given. All memory is taken before the first turn.
+/// One round: the router and the bank of cores of each live chip take `pace.turns` turns, in `pace.workers` workers, of which each
+/// enters the gate in phase `number`. A router offers a copy `pace.patience` times before it dumps it. A round moves a copy where
+/// one waits or is unsent. All memory is taken before the first turn.
 ///
 /// # Errors
 ///
@@ -25,29 +25,17 @@ pub fn round<R: Threads + Wait + Sync, G: Gate>(
     rt: &R,
     alloc: Global,
     mesh: Mesh,
-    patience: u32,
-    workers: u32,
-    turns: u32,
+    pace: Pace,
     number: u32,
     gate: &G,
 ) -> Result<Mesh, (Mesh, Memory)>
-    requires no_hand { HasNoHand mesh }
-    requires hops { HopsFit mesh }
-    requires patient { 1 ≤ patience }
-    requires workers { 1 ≤ workers }
-    ensures round { IfOk result (LeadsByRound patience turns mesh) }
+    requires { HasNoHand mesh }
+    ensures round { IfOk result (LeadsByRound pace.patience pace.turns mesh) }
     ensures no_hand { IfOk result HasNoHand }
-    ensures hops { IfOk result HopsFit }
     ensures back { IfErr result (λ b. b.0 ≡ mesh) }
 {
     a_round_on_threads_is_a_round();
-    let pace = Pace {
-        patience,
-        workers,
-        turns,
-        number,
-    };
-    match play_parts(rt, alloc, mesh.take_apart(), pace, gate) {
+    match play_parts(rt, alloc, mesh.take_apart(), pace, number, gate) {
         Ok(parts) => Ok(Mesh::put_together(parts)),
         Err((parts, e)) => Err((Mesh::put_together(parts), e)),
     }
@@ -62,34 +50,22 @@ pub fn run_out<R: Threads + Wait + Sync, G: Gate>(
     rt: &R,
     alloc: Global,
     mesh: Mesh,
-    patience: u32,
-    workers: u32,
-    turns: u32,
+    pace: Pace,
     gate: &G,
 ) -> Result<Mesh, (Mesh, Memory)>
-    requires no_hand { HasNoHand mesh }
-    requires hops { HopsFit mesh }
-    requires patient { 1 ≤ patience }
-    requires workers { 1 ≤ workers }
-    requires turns { 1 ≤ turns }
-    ensures rounds { IfOk result (HasRounds patience turns mesh) }
+    requires { HasNoHand mesh }
+    ensures rounds { IfOk result (HasRounds pace.patience pace.turns mesh) }
     ensures at_rest { IfOk result IsAtRest }
-    ensures refused { IfErr result (λ b. HasRounds patience turns mesh b.0) }
-    ensures ready { IfErr result (λ b. IsReady b.0) }
+    ensures refused { IfErr result (λ b. HasRounds pace.patience pace.turns mesh b.0) }
+    ensures ready { IfErr result (λ b. MayGoOn b.0) }
 {
-    let pace = Pace {
-        patience,
-        workers,
-        turns,
-        number: 0,
-    };
     match run_parts(rt, alloc, mesh.take_apart(), pace, gate) {
         Ok(parts) => Ok(Mesh::put_together(parts)),
         Err((parts, e)) => Err((Mesh::put_together(parts), e)),
     }
 }
 
-// Rounds on the parts of a mesh, numbered on from the pace's number.
+// Rounds on the parts of a mesh, numbered from 1.
 pub(crate) fn run_parts<R: Threads + Wait + Sync, G: Gate>(
     rt: &R,
     alloc: Global,
@@ -97,23 +73,20 @@ pub(crate) fn run_parts<R: Threads + Wait + Sync, G: Gate>(
     pace: Pace,
     gate: &G,
 ) -> Result<MeshParts, (MeshParts, Memory)>
-    requires ready { IsReady parts }
-    requires patient { 1 ≤ pace.patience }
-    requires workers { 1 ≤ pace.workers }
-    requires turns { 1 ≤ pace.turns }
+    requires { MayGoOn parts }
     ensures rounds { IfOk result (HasRounds pace.patience pace.turns parts) }
-    ensures ready { IfOk result IsReady }
+    ensures ready { IfOk result MayGoOn }
     ensures at_rest { IfOk result IsAtRest }
     ensures refused { IfErr result (λ b. HasRounds pace.patience pace.turns parts b.0) }
-    ensures ready_still { IfErr result (λ b. IsReady b.0) }
+    ensures ready_still { IfErr result (λ b. MayGoOn b.0) }
 {
     a_round_on_threads_is_a_round();
     a_round_leaves_less_to_do();
     let mut raised = RaisedMesh::raise(rt, alloc, parts, pace.turns)?;
-    let mut number = pace.number;
+    let mut number: u32 = 0;
     'rounds: while !raised.is_at_rest() {
         number = number.saturating_add(1);
-        match raised.play(rt, alloc, Pace { number, ..pace }, gate) {
+        match raised.play(rt, alloc, pace, number, gate) {
             Ok(next) => raised = next,
             Err((last, e)) => return Err((last.lower(rt), e)),
         }

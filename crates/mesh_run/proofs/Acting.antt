@@ -11,7 +11,7 @@ use Rattle.chip_node.proofs.RouterFlows.{router_flow_start, router_flow_join}
 use Rattle.chip_node.proofs.BankFlows.{bank_flow_start, bank_flow_join}
 use Rattle.mesh_run.specs.declared.actors.Actor.{Actor}
 use Rattle.mesh_run.specs.declared.actors.Actor.TheVariants.{Router, Bank}
-use Rattle.mesh_run.specs.Acting.{table_of, IsReady, ActorFlow, MayPlayOn, PlaysOn}
+use Rattle.mesh_run.specs.Acting.{table_of, IsReadyActor, ActorFlow, MayPlayOn, PlaysOn}
 
 -- a flow over some turns is one over a turn more
 router_longer : (es : List Entry) (n : ℕ) (a b : RouterNode) → 0 < n → RouterFlow es n a b → RouterFlow es (n + 1) a b
@@ -41,7 +41,7 @@ bank_longer n a b some h = record {
 
 module _ (links : List Link) (tables : List (List Entry)) where
   -- an actor that can take so many turns can take fewer
-  pub ready_less : (n m : ℕ) (a : Actor) → m ≤ n → IsReady links tables n a → IsReady links tables m a
+  pub ready_less : (n m : ℕ) (a : Actor) → m ≤ n → IsReadyActor links tables n a → IsReadyActor links tables m a
   ready_less n m (Router i r) fewer ready = let room = ready.1 in (ready.0, omega (arith, fewer, room), ready.2, ready.3)
   ready_less n m (Bank b) fewer ready = let room = ready.0 in (omega (arith, fewer, room), ready.1, ready.2)
 
@@ -108,10 +108,10 @@ module _ (links : List Link) (tables : List (List Entry)) where
   }
 
   -- each can still take what is left of its turns
-  pub still_ready : (turns n : ℕ) (xs ys : List Actor) → PlayOn n xs ys → n < turns → All (IsReady links tables turns) xs → All (IsReady links tables 1) ys
+  pub still_ready : (turns n : ℕ) (xs ys : List Actor) → PlayOn n xs ys → n < turns → All (IsReadyActor links tables turns) xs → All (IsReadyActor links tables 1) ys
   still_ready turns n xs ys so_far below all = λ i d inside.
       let same = so_far.long in
       let there : i < length xs = omega (arith, inside, same) in
       let rest : ℕ = turns - n in
-      let all_of : IsReady links tables (n + rest) (get_or xs i d) = ready_less turns (n + rest) (get_or xs i d) (omega (arith, below)) (all i d there) in
+      let all_of : IsReadyActor links tables (n + rest) (get_or xs i d) = ready_less turns (n + rest) (get_or xs i d) (omega (arith, below)) (all i d there) in
       ready_less rest 1 (get_or ys i d) (omega (arith, below)) ((so_far.each i d there).ready rest all_of)

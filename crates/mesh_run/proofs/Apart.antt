@@ -5,7 +5,7 @@ use Rattle.std.proofs.lemmas.List.{get_or-map, length-map}
 use Rattle.std.proofs.lemmas.List.FromFn.{get_or-range_with_len, length-range_with_len}
 use Rattle.std.proofs.lemmas.List.Elements.{All-map}
 use Rattle.std.proofs.lemmas.List.Kept.{AllPairs-filter}
-use Rattle.list_laws.proofs.Pairs.{AllPairs-map, AllPairs-from_map}
+use Rattle.spin_base.proofs.Pairs.{AllPairs-map, AllPairs-from_map}
 use Rattle.spin_base.specs.declared.chips.Chip.{Chip}
 use Rattle.spin_base.specs.declared.chips.Port.{Port}
 use Rattle.spin_base.specs.declared.chips.Port.TheVariants.{Local}
@@ -18,11 +18,11 @@ use Rattle.link_queue.specs.declared.links.Tx.{Tx}
 use Rattle.chip_node.specs.declared.banks.BankVertex.{BankVertex}
 use Rattle.chip_node.specs.declared.ends.InEnd.{InEnd}
 use Rattle.chip_node.specs.declared.ends.OutEnd.{OutEnd}
-use Rattle.chip_node.specs.Numbers.{numbers_of}
+use Rattle.chip_node.specs.Numbers.{vertex_numbers_of}
 use Rattle.chip_node.specs.Serving.{ports_of, outs_with_ends}
 use Rattle.mesh_core.specs.Ledger.{all_ports}
 use Rattle.mesh_core.specs.State.{Setup, queue_at}
-use Rattle.mesh_run.specs.Lending.{has_place, vertex_place, IsBehind, IsAtPort, IsOnChip, Lent, NotAt, rx_of, tx_of, txs_of, rxs_of, vertex_rxs}
+use Rattle.mesh_run.specs.Lending.{has_queue_behind, vertex_place, IsBehind, IsAtPort, IsOnChip, Lent, NotAt, rx_of, tx_of, txs_of, rxs_of, vertex_rxs}
 use Rattle.mesh_run.proofs.Feeding.{leads, no_injection, port_is_no_vertex}
 
 zero_more : (i : ℕ) → 0 + i ≡ i
@@ -47,14 +47,14 @@ pub outs_differ : AllPairs (λ a b. a ≢ b) all_outs
 unfolding link_outs core_outs
 outs_differ = numbered out_number 24 all_outs refl
 
-pub ends_differ : (u : Setup) (c : Chip) (ends : List (Out × OutEnd)) → outs_with_ends ends ≡ filter (has_place u c) all_outs → AllPairs (λ a b. a ≢ b) (outs_with_ends ends)
-ends_differ u c ends are = subst (AllPairs (λ a b. a ≢ b)) (sym are) (AllPairs-filter (λ (a b : Out). a ≢ b) (has_place u c) all_outs outs_differ)
+pub ends_differ : (u : Setup) (c : Chip) (ends : List (Out × OutEnd)) → outs_with_ends ends ≡ filter (has_queue_behind u c) all_outs → AllPairs (λ a b. a ≢ b) (outs_with_ends ends)
+ends_differ u c ends are = subst (AllPairs (λ a b. a ≢ b)) (sym are) (AllPairs-filter (λ (a b : Out). a ≢ b) (has_queue_behind u c) all_outs outs_differ)
 
 pub inputs_differ : (ends : List (Port × InEnd)) → ports_of ends ≡ all_ports → AllPairs (λ a b. a ≢ b) (ports_of ends)
 inputs_differ ends are = subst (AllPairs (λ a b. a ≢ b)) (sym are) ports_differ
 
 -- vertices whose queues are at different places differ
-pub vertices_differ : (u : Setup) (c : Chip) (vs : List BankVertex) (rxs left : List (Option Rx)) → All (IsOnChip u c) vs → Lent None (vertex_rxs vs) rxs left → AllPairs (λ a b. a ≢ b) (numbers_of vs)
+pub vertices_differ : (u : Setup) (c : Chip) (vs : List BankVertex) (rxs left : List (Option Rx)) → All (IsOnChip u c) vs → Lent None (vertex_rxs vs) rxs left → AllPairs (λ a b. a ≢ b) (vertex_numbers_of vs)
 vertices_differ u c vs rxs left each lent =
     AllPairs-map (λ (v : BankVertex). v.vertex) (λ v w. v.vertex ≢ w.vertex) (λ (a b : ℕ). a ≢ b) (λ v w differ. differ) vs
     (λ i j d less below same.

@@ -3,8 +3,8 @@ use Rattle.std.proofs.Common.{◌≡◌, ◌≢◌, ℕ, zero, suc, ◌<◌, Lis
 use Rattle.std.specs.List.{All, AllPairs, AllZip, Contains, flat_map, slice_get}
 use Rattle.std.proofs.lemmas.List.Elements.{All-nil, All-cons, All-head, All-tail, All-append, All-map, AllZip-get_or, length_all_zip, Contains-get_or}
 use Rattle.std.proofs.lemmas.Option.{slice_get_within, same_Some}
-use Rattle.list_laws.proofs.Members.{Contains-first, Contains-later, Contains-map}
-use Rattle.list_laws.proofs.Places.{slice_get-mapped}
+use Rattle.spin_base.proofs.Members.{Contains-first, Contains-later, Contains-map}
+use Rattle.spin_base.proofs.Places.{slice_get-mapped}
 use Rattle.spin_base.specs.declared.chips.Port.{Port}
 use Rattle.spin_base.specs.declared.routes.Out.{Out}
 use Rattle.spin_base.specs.declared.blocks.Entry.{Entry}
@@ -18,8 +18,8 @@ use Rattle.chip_node.specs.declared.ends.InEnd.{InEnd}
 use Rattle.chip_node.specs.declared.ends.OutEnd.{OutEnd}
 use Rattle.mesh_run.specs.declared.actors.Actor.{Actor}
 use Rattle.mesh_run.specs.declared.actors.Actor.TheVariants.{Router, Bank}
-use Rattle.mesh_run.specs.Acting.{IsReady}
-use Rattle.mesh_run.specs.Casting.{HoldsRx, HoldsTx, Pair, actors_of}
+use Rattle.mesh_run.specs.Acting.{IsReadyActor}
+use Rattle.mesh_run.specs.Holders.{HoldsRx, HoldsTx, Pair, actors_of}
 use Rattle.mesh_run.specs.Dealing.{AreWithin, put_all, rxs_in, txs_in}
 use Rattle.mesh_run.specs.Lending.{Lent, NotAt, tx_of, rx_of, txs_of, rxs_of, vertex_rxs}
 use Rattle.mesh_run.specs.Queues.{AreEnds}
@@ -121,30 +121,30 @@ all_back (e ∷ up) (t ∷ txs) (r ∷ rxs) long_t long_r each tx rx =
 
 -- ---- ends that actors give back
 
-pub txs_are_ends : (links : List Link) (tables : List (List Entry)) (actors : List Actor) → All (IsReady links tables 0) actors → All (IsEndOf IsTx links) (flat_map txs_in actors)
+pub txs_are_ends : (links : List Link) (tables : List (List Entry)) (actors : List Actor) → All (IsReadyActor links tables 0) actors → All (IsEndOf IsTx links) (flat_map txs_in actors)
 txs_are_ends links tables [] ready = All-nil (IsEndOf IsTx links)
 txs_are_ends links tables (Router i r ∷ actors) ready =
-    let first = All-head (IsReady links tables 0) (Router i r) actors ready in
+    let first = All-head (IsReadyActor links tables 0) (Router i r) actors ready in
     All-append (IsEndOf IsTx links) (txs_of r.outputs.items) (flat_map txs_in actors)
     (All-map (IsEndOf IsTx links) (λ (e : Out × OutEnd). tx_of e.1) r.outputs.items (λ k d below. let e = first.3 k d below in (e.of, e.stands, (get_or r.outputs.items k d).1.tx, refl, e.is_end)))
-    (txs_are_ends links tables actors (All-tail (IsReady links tables 0) (Router i r) actors ready))
+    (txs_are_ends links tables actors (All-tail (IsReadyActor links tables 0) (Router i r) actors ready))
 txs_are_ends links tables (Bank b ∷ actors) ready =
-    let e = (All-head (IsReady links tables 0) (Bank b) actors ready).1 in
+    let e = (All-head (IsReadyActor links tables 0) (Bank b) actors ready).1 in
     All-cons (IsEndOf IsTx links) (tx_of b.inject) (flat_map txs_in actors) (e.of, e.stands, b.inject.tx, refl, e.is_end)
-    (txs_are_ends links tables actors (All-tail (IsReady links tables 0) (Bank b) actors ready))
+    (txs_are_ends links tables actors (All-tail (IsReadyActor links tables 0) (Bank b) actors ready))
 
-pub rxs_are_ends : (links : List Link) (tables : List (List Entry)) (actors : List Actor) → All (IsReady links tables 0) actors → All (IsEndOf IsRx links) (flat_map rxs_in actors)
+pub rxs_are_ends : (links : List Link) (tables : List (List Entry)) (actors : List Actor) → All (IsReadyActor links tables 0) actors → All (IsEndOf IsRx links) (flat_map rxs_in actors)
 rxs_are_ends links tables [] ready = All-nil (IsEndOf IsRx links)
 rxs_are_ends links tables (Router i r ∷ actors) ready =
-    let first = All-head (IsReady links tables 0) (Router i r) actors ready in
+    let first = All-head (IsReadyActor links tables 0) (Router i r) actors ready in
     All-append (IsEndOf IsRx links) (rxs_of r.inputs.items) (flat_map rxs_in actors)
     (All-map (IsEndOf IsRx links) (λ (e : Port × InEnd). rx_of e.1) r.inputs.items (λ k d below. let e = first.2 k d below in (e.of, e.stands, (get_or r.inputs.items k d).1.rx, refl, e.is_end)))
-    (rxs_are_ends links tables actors (All-tail (IsReady links tables 0) (Router i r) actors ready))
+    (rxs_are_ends links tables actors (All-tail (IsReadyActor links tables 0) (Router i r) actors ready))
 rxs_are_ends links tables (Bank b ∷ actors) ready =
-    let first = All-head (IsReady links tables 0) (Bank b) actors ready in
+    let first = All-head (IsReadyActor links tables 0) (Bank b) actors ready in
     All-append (IsEndOf IsRx links) (vertex_rxs b.vertices.items) (flat_map rxs_in actors)
     (All-map (IsEndOf IsRx links) (λ (v : BankVertex). rx_of v.end) b.vertices.items (λ k d below. let e = first.2 k d below in (e.of, e.stands, (get_or b.vertices.items k d).end.rx, refl, e.is_end)))
-    (rxs_are_ends links tables actors (All-tail (IsReady links tables 0) (Bank b) actors ready))
+    (rxs_are_ends links tables actors (All-tail (IsReadyActor links tables 0) (Bank b) actors ready))
 
 -- ---- places that no pair holds
 

@@ -3,8 +3,8 @@ use Rattle.std.proofs.Common.{◌≡◌, ℕ, ◌+◌, Bool, true, false, cond, 
 use Rattle.std.specs.List.{filter, count_by}
 use Rattle.std.specs.List.Sorted.{IsPermutation}
 use Rattle.std.proofs.lemmas.List.Sorted.{IsPermutation-refl, IsPermutation-cons, IsPermutation-trans, IsPermutation-middle, IsPermutation-append_right}
-use Rattle.list_laws.specs.Gathered.{gathered}
-use Rattle.list_laws.proofs.Counts.{count_by-cons}
+use Rattle.spin_base.specs.Gathered.{gathered}
+use Rattle.spin_base.proofs.Counts.{count_by-cons}
 use Rattle.spin_base.specs.declared.chips.Port.{Port}
 use Rattle.spin_base.specs.declared.copies.McCopy.{McCopy}
 use Rattle.spin_base.specs.Equality.{port_eq}

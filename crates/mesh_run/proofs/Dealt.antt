@@ -4,7 +4,7 @@ use Rattle.std.specs.List.{All, AllZip, filter, flat_map, slice_get}
 use Rattle.std.proofs.lemmas.List.{length-append, length-map}
 use Rattle.std.proofs.lemmas.List.Elements.{All-nil, All-cons, All-head, All-tail, All-weaker}
 use Rattle.std.proofs.lemmas.Slice.Zip.{AllZip-long}
-use Rattle.list_laws.proofs.Places.{All-at, slice_get-mapped, slice_get_there}
+use Rattle.spin_base.proofs.Places.{All-at, slice_get-mapped, slice_get_there}
 use Rattle.spin_base.specs.declared.blocks.Entry.{Entry}
 use Rattle.spin_base.specs.declared.chips.Chip.{Chip}
 use Rattle.spin_base.specs.declared.chips.Port.{Port}
@@ -12,6 +12,7 @@ use Rattle.spin_base.specs.declared.copies.McCopy.{McCopy}
 use Rattle.spin_base.specs.declared.routes.Out.{Out}
 use Rattle.spin_base.specs.Lookup.{lookup}
 use Rattle.spin_base.specs.Outputs.{all_outs, link_outs, core_outs, has, outs_of}
+use Rattle.spin_base.specs.Hops.{last_hop}
 use Rattle.machine_desc.specs.Live.{IsInside}
 use Rattle.machine_desc.proofs.Far.{index_below}
 use Rattle.link_queue.specs.declared.links.Link.{Link}
@@ -25,25 +26,25 @@ use Rattle.chip_node.specs.declared.ends.Served.TheVariants.{Sent, Dumped}
 use Rattle.chip_node.specs.declared.routers.RouterNode.{RouterNode}
 use Rattle.chip_node.specs.BankFlow.{BankFlow, deliveries}
 use Rattle.chip_node.specs.RouterFlow.{RouterFlow, Service, owed, records}
-use Rattle.chip_node.specs.Routing.{last_hop, outputs_at}
+use Rattle.chip_node.specs.Routing.{outputs_at}
 use Rattle.chip_node.specs.Serving.{records_of}
 use Rattle.mesh_core.specs.State.{Setup}
 use Rattle.mesh_run.specs.declared.actors.Actor.{Actor}
 use Rattle.mesh_run.specs.declared.actors.Actor.TheVariants.{Router, Bank}
-use Rattle.mesh_run.specs.declared.kits.Kit.{Kit}
+use Rattle.mesh_run.specs.declared.spaces.ActorSpace.{ActorSpace}
 use Rattle.mesh_run.specs.declared.rounds.Logs.{Logs}
 use Rattle.mesh_run.specs.declared.standing.Standing.{Standing}
-use Rattle.mesh_run.specs.Acting.{ActorFlow, IsReady, PlaysOn, table_of}
-use Rattle.mesh_run.specs.Casting.{IsPairAt, Pair, PairFlow, actors_of, live_chips}
+use Rattle.mesh_run.specs.Acting.{ActorFlow, IsReadyActor, PlaysOn, table_of}
+use Rattle.mesh_run.specs.Holders.{IsPairAt, Pair, PairFlow, actors_of, live_chips}
 use Rattle.mesh_run.specs.Dealing.{AreThere, AreWithin, Deals, HasLogs, HasLogsOf, IsPairOf, delivered_in, dumped_in, put_all, rxs_in, txs_in, unsent_in}
 use Rattle.mesh_run.specs.Lending.{Lent, NotAt}
 use Rattle.mesh_run.specs.Playing.{IsPlayedOn}
 use Rattle.mesh_run.specs.Queues.{AreEnds}
 use Rattle.mesh_run.specs.Standing.{HoldsAll}
 use Rattle.mesh_run.proofs.Back.{AreBack, all_back, back_long, back_other, back_stands, end_there, free_rx, free_tx, kept_within, left_as_it_was, rxs_are_ends, txs_are_ends}
-use Rattle.mesh_run.proofs.CastingAll.{live_are_inside}
+use Rattle.mesh_run.proofs.DealingAll.{live_are_inside}
 use Rattle.mesh_run.proofs.Played.{all_delivered, all_dumped, all_rxs_same, all_txs_same, all_unsent_same, pair_of_still, played_pairs}
-use Rattle.mesh_run.proofs.Standings.{Stand, are_cast, in_end_of, out_end_of, rx_slots, tx_slots}
+use Rattle.mesh_run.proofs.Standings.{Stand, are_dealt, in_end_of, out_end_of, rx_slots, tx_slots}
 use Rattle.mesh_run.proofs.Zipped.{zip_carries, zip_from_each, zip_join}
 
 -- ---- before
@@ -59,17 +60,17 @@ rxs_there up s n holds long p below =
     let e = slice_get_there up p (omega (arith, long, below)) in
     (e.0.rx, ap (λ l. slice_get l p) holds.rxs ∙ slice_get-mapped (λ (e : LinkEnds). Some e.rx) up p e.0 e.1)
 
--- ---- after the casting
+-- ---- after the dealing
 
-pub record AreDealt (u : Setup) (patience turns : ℕ) (up : List LinkEnds) (start mid : Standing) (unsent left : List (List McCopy)) (kits : List Kit) (actors : List Actor) : Type 0 where
+pub record AreDealt (u : Setup) (patience turns : ℕ) (up : List LinkEnds) (start mid : Standing) (unsent left : List (List McCopy)) (spaces : List ActorSpace) (actors : List Actor) : Type 0 where
   pub tables : length u.tables ≡ u.machine.width * u.machine.height
   pub holds : HoldsAll up start
   pub ends : All AreEnds up
-  pub logs : All (HasLogs turns) kits
+  pub logs : All (HasLogs turns) spaces
   pub pairs : List Pair
   pub are : actors ≡ actors_of pairs
   pub of_chips : AllZip (IsPairOf u patience) (live_chips u.machine) pairs
-  pub of_kits : AllZip HasLogsOf kits pairs
+  pub of_spaces : AllZip HasLogsOf spaces pairs
   pub deals : Deals actors start mid unsent left
 
 -- the logs of a pair are empty and have room
@@ -79,7 +80,7 @@ pub record HasRoom (turns : ℕ) (p : Pair) : Type 0 where
   pub no_deliveries : p.bank.log.items ≡ []
   pub deliveries : turns ≤ p.bank.log.spare
 
-room_of : (turns : ℕ) (k : Kit) (p : Pair) → HasLogsOf k p → HasLogs turns k → HasRoom turns p
+room_of : (turns : ℕ) (k : ActorSpace) (p : Pair) → HasLogsOf k p → HasLogs turns k → HasRoom turns p
 room_of turns k p is logs = record {
   no_dumps = ap (λ r. r.items) is.dumps ∙ logs.no_dumps;
   dumps = subst (λ r. 24 * turns ≤ r.spare) (sym is.dumps) logs.dumps;
@@ -93,8 +94,8 @@ two_each (p ∷ pairs) = let more = two_each pairs in omega (arith, more)
 
 pair_ready : (u : Setup) (up : List LinkEnds) (unsent : List (List McCopy)) (patience turns : ℕ) (links : List Link) → links ≡ map (λ (e : LinkEnds). e.link) up → All AreEnds up →
     length u.tables ≡ u.machine.width * u.machine.height → (cs : List Chip) (pairs : List Pair) → AllZip (IsPairAt u up unsent patience) cs pairs → All (IsInside u.machine) cs → All (HasRoom turns) pairs →
-    All (IsReady links u.tables turns) (actors_of pairs)
-pair_ready u up unsent patience turns links are ends tables [] [] all inside room = All-nil (IsReady links u.tables turns)
+    All (IsReadyActor links u.tables turns) (actors_of pairs)
+pair_ready u up unsent patience turns links are ends tables [] [] all inside room = All-nil (IsReadyActor links u.tables turns)
 pair_ready u up unsent patience turns links are ends tables [] (p ∷ pairs) all inside room = absurd all
 pair_ready u up unsent patience turns links are ends tables (c ∷ cs) [] all inside room = absurd all
 pair_ready u up unsent patience turns links are ends tables (c ∷ cs) (p ∷ pairs) all inside room =
@@ -102,13 +103,13 @@ pair_ready u up unsent patience turns links are ends tables (c ∷ cs) (p ∷ pa
     let logs = All-head (HasRoom turns) p pairs room in
     let below = index_below u.machine c (All-head (IsInside u.machine) c cs inside) in
     let number = is.index in
-    All-cons (IsReady links u.tables turns) (Router p.index p.router) (Bank p.bank ∷ actors_of pairs) (
+    All-cons (IsReadyActor links u.tables turns) (Router p.index p.router) (Bank p.bank ∷ actors_of pairs) (
       omega (arith, below, number, tables),
       logs.dumps,
       λ i d within. in_end_of up links (get_or p.router.inputs.items i d).1 are ends (is.router.inputs i d within).1,
       λ i d within. out_end_of up links (get_or p.router.outputs.items i d).1 are ends (is.router.outputs i d within).1,
     )
-    (All-cons (IsReady links u.tables turns) (Bank p.bank) (actors_of pairs) (
+    (All-cons (IsReadyActor links u.tables turns) (Bank p.bank) (actors_of pairs) (
       logs.deliveries,
       out_end_of up links p.bank.inject are ends is.bank.end,
       λ i d within. in_end_of up links (get_or p.bank.vertices.items i d).end are ends (is.bank.vertices i d within).end,
@@ -193,30 +194,30 @@ turned {links} {mid} {tables} {given} {turns} {items} {actors} {new} are links_a
       (subst (λ l. PlaysOn links tables turns (get_or l i d) (get_or new i d)) are (each i d (subst (λ l. i < length l) (sym are) below))));
 }
 
-module _ {u : Setup} {patience turns : ℕ} {up : List LinkEnds} {start mid : Standing} {unsent left : List (List McCopy)} {kits : List Kit} {actors : List Actor}
-    (dealt : AreDealt u patience turns up start mid unsent left kits actors) where
+module _ {u : Setup} {patience turns : ℕ} {up : List LinkEnds} {start mid : Standing} {unsent left : List (List McCopy)} {spaces : List ActorSpace} {actors : List Actor}
+    (dealt : AreDealt u patience turns up start mid unsent left spaces actors) where
   lent_txs : Lent None (flat_map txs_in actors) (tx_slots up) mid.txs.items
   lent_txs = subst (λ l. Lent None (flat_map txs_in actors) l mid.txs.items) dealt.holds.txs dealt.deals.txs
 
   lent_rxs : Lent None (flat_map rxs_in actors) (rx_slots up) mid.rxs.items
   lent_rxs = subst (λ l. Lent None (flat_map rxs_in actors) l mid.rxs.items) dealt.holds.rxs dealt.deals.rxs
 
-  pub cast_pairs : AllZip (IsPairAt u up unsent patience) (live_chips u.machine) dealt.pairs
-  cast_pairs = are_cast u up unsent patience (live_chips u.machine) dealt.pairs dealt.of_chips (subst (λ l. Stand (tx_slots up) (flat_map txs_in l)) dealt.are lent_txs.stood)
+  pub deal_pairs : AllZip (IsPairAt u up unsent patience) (live_chips u.machine) dealt.pairs
+  deal_pairs = are_dealt u up unsent patience (live_chips u.machine) dealt.pairs dealt.of_chips (subst (λ l. Stand (tx_slots up) (flat_map txs_in l)) dealt.are lent_txs.stood)
       (subst (λ l. Stand (rx_slots up) (flat_map rxs_in l)) dealt.are lent_rxs.stood) (subst (λ l. Stand unsent (flat_map unsent_in l)) dealt.are dealt.deals.copies.stood)
 
   rooms : All (HasRoom turns) dealt.pairs
-  rooms = zip_carries HasLogsOf (HasLogs turns) (HasRoom turns) (room_of turns) kits dealt.pairs dealt.of_kits dealt.logs
+  rooms = zip_carries HasLogsOf (HasLogs turns) (HasRoom turns) (room_of turns) spaces dealt.pairs dealt.of_spaces dealt.logs
 
   the_links : mid.links.items ≡ map (λ (e : LinkEnds). e.link) up
   the_links = ap (λ v. v.items) dealt.deals.links ∙ dealt.holds.links
 
-  pub actors_ready : All (IsReady mid.links.items u.tables turns) actors
-  actors_ready = subst (All (IsReady mid.links.items u.tables turns)) (sym dealt.are)
-      (pair_ready u up unsent patience turns mid.links.items the_links dealt.ends dealt.tables (live_chips u.machine) dealt.pairs cast_pairs (live_are_inside u.machine) rooms)
+  pub actors_ready : All (IsReadyActor mid.links.items u.tables turns) actors
+  actors_ready = subst (All (IsReadyActor mid.links.items u.tables turns)) (sym dealt.are)
+      (pair_ready u up unsent patience turns mid.links.items the_links dealt.ends dealt.tables (live_chips u.machine) dealt.pairs deal_pairs (live_are_inside u.machine) rooms)
 
-  pub few_actors : length actors ≡ 2 * length kits
-  few_actors = ap length dealt.are ∙ (two_each dealt.pairs ∙ ap (λ n. 2 * n) (AllZip-long HasLogsOf kits dealt.pairs dealt.of_kits))
+  pub few_actors : length actors ≡ 2 * length spaces
+  few_actors = ap length dealt.are ∙ (two_each dealt.pairs ∙ ap (λ n. 2 * n) (AllZip-long HasLogsOf spaces dealt.pairs dealt.of_spaces))
 
   -- ---- after the turns
 
@@ -224,12 +225,12 @@ module _ {u : Setup} {patience turns : ℕ} {up : List LinkEnds} {start mid : St
     flows : AllZip (ActorFlow u.tables turns) actors new
     flows = zip_from_each (ActorFlow u.tables turns) actors new turn.long (λ i d below. (turn.each i d below).flow)
 
-    ready_after : All (IsReady mid.links.items u.tables 0) new
+    ready_after : All (IsReadyActor mid.links.items u.tables 0) new
     ready_after i d below =
         let long = turn.long in
         let inside : i < length actors = omega (arith, below, long) in
         let same : turns ≡ turns + 0 = omega arith in
-        (turn.each i d inside).ready 0 (subst (λ n. IsReady mid.links.items u.tables n (get_or actors i d)) same (actors_ready i d inside))
+        (turn.each i d inside).ready 0 (subst (λ n. IsReadyActor mid.links.items u.tables n (get_or actors i d)) same (actors_ready i d inside))
 
     played : (played : List Pair) × (new ≡ actors_of played) × AllZip (PairFlow u.tables turns) dealt.pairs played
     played = played_pairs u.tables turns dealt.pairs new (subst (λ l. AllZip (ActorFlow u.tables turns) l new) dealt.are flows)
@@ -243,10 +244,10 @@ module _ {u : Setup} {patience turns : ℕ} {up : List LinkEnds} {start mid : St
     pub within_unsent : AreWithin left (flat_map unsent_in new)
     within_unsent = kept_within [] unsent left (flat_map unsent_in actors) (flat_map unsent_in new) dealt.deals.copies (all_unsent_same u.tables turns actors new flows)
 
-    as_many : length played.0 ≡ length kits
-    as_many = AllZip-long (PairFlow u.tables turns) dealt.pairs played.0 played.2 ∙ AllZip-long HasLogsOf kits dealt.pairs dealt.of_kits
+    as_many : length played.0 ≡ length spaces
+    as_many = AllZip-long (PairFlow u.tables turns) dealt.pairs played.0 played.2 ∙ AllZip-long HasLogsOf spaces dealt.pairs dealt.of_spaces
 
-    pub deliveries_fit : length (flat_map delivered_in new) ≤ turns * length kits
+    pub deliveries_fit : length (flat_map delivered_in new) ≤ turns * length spaces
     deliveries_fit =
         let few = few_of (λ (p : Pair). p.bank.log.items) turns played.0
         (zip_carries (PairFlow u.tables turns) (HasRoom turns) (λ q. length q.bank.log.items ≤ turns) (λ p q flow room. few_deliveries turns p.bank q.bank flow.bank room.no_deliveries) dealt.pairs played.0 played.2 rooms)
@@ -254,7 +255,7 @@ module _ {u : Setup} {patience turns : ℕ} {up : List LinkEnds} {start mid : St
         subst (λ n. length (flat_map delivered_in new) ≤ turns * n) as_many
         (subst (λ l. length l ≤ turns * length played.0) (sym (ap (flat_map delivered_in) played.1 ∙ all_delivered played.0)) few)
 
-    pub dumps_fit : length (flat_map dumped_in new) ≤ 24 * turns * length kits
+    pub dumps_fit : length (flat_map dumped_in new) ≤ 24 * turns * length spaces
     dumps_fit =
         let few = few_of (λ (p : Pair). p.router.log.items) (24 * turns) played.0
         (zip_carries (PairFlow u.tables turns) (HasRoom turns) (λ q. length q.router.log.items ≤ 24 * turns)
@@ -298,8 +299,8 @@ module _ {u : Setup} {patience turns : ℕ} {up : List LinkEnds} {start mid : St
           let rxs_same = all_rxs_same u.tables turns actors new flows in
           let copies_same = all_unsent_same u.tables turns actors new flows in
           record {
-            cast = dealt.pairs;
-            are_cast = cast_pairs;
+            deal = dealt.pairs;
+            are_dealt = deal_pairs;
             no_logs = All-weaker (HasRoom turns) (λ p. (p.router.log.items ≡ []) × (p.bank.log.items ≡ [])) (λ p room. (room.no_dumps, room.no_deliveries)) dealt.pairs rooms;
             played = pairs;
             flows = played.2;
@@ -311,7 +312,7 @@ module _ {u : Setup} {patience turns : ℕ} {up : List LinkEnds} {start mid : St
               rooms = ap (λ v. v.items) rooms_stay ∙ (ap (λ v. v.items) dealt.deals.rooms ∙ (dealt.holds.rooms ∙ sym is.rooms_are));
             };
             ends = is.ends;
-            are_back = are_cast u back copies patience (live_chips u.machine) pairs
+            are_back = are_dealt u back copies patience (live_chips u.machine) pairs
                 (zip_join (IsPairOf u patience) (PairFlow u.tables turns) (IsPairOf u patience) (pair_of_still u.tables turns u patience) (live_chips u.machine) dealt.pairs pairs dealt.of_chips played.2)
                 (subst (λ l. Stand (tx_slots back) (flat_map txs_in l)) played.1 (subst (λ l. Stand l (flat_map txs_in new)) (sym txs_back ∙ is.txs_are)
                 (back_stands None (tx_slots up) mid.txs.items (flat_map txs_in actors) (flat_map txs_in new) lent_txs txs_same)))

@@ -14,27 +14,27 @@ use Rattle.spin_base.specs.Outputs.{out_of}
 use Rattle.spin_base.proofs.Equality.{link_is_not_local}
 use Rattle.machine_desc.specs.Live.{far_of, is_live_link, IsInside}
 use Rattle.machine_desc.proofs.Far.{far_inside, far_back, live_ends, opposite_of-opposite}
-use Rattle.mesh_core.specs.State.{Setup, behind_link, core_of, queue_at, vertex_behind}
+use Rattle.mesh_core.specs.State.{Setup, behind_link, core_queue_of, queue_at, vertex_behind}
 use Rattle.mesh_core.proofs.Changes.{queue_at-below}
 use Rattle.mesh_core.proofs.Keeping.{same_queue}
 use Rattle.mesh_core.proofs.Ways.{vertex_behind_stands}
-use Rattle.mesh_run.specs.Lending.{place_of, place_behind, vertex_place}
+use Rattle.mesh_run.specs.Lending.{queue_place_of, place_behind, vertex_place}
 
 -- Where an output leads: by a link to the port at the far end, or to a vertex on a spot of the chip.
 pub data LeadsTo (u : Setup) (c : Chip) (o : Out) (p : ℕ) : Type 0 where
   by_link : (d : Dir) (e : Chip) → o ≡ Link d → far_of u.machine c d ≡ Some e → p ≡ queue_at u.machine e (ByLink (opposite_of d)) → LeadsTo u c o p
   to_vertex : (v : ℕ) (t : Spot) → slice_get u.spots v ≡ Some t → t.chip ≡ c → out_of t.core ≡ o → p ≡ vertex_place u v → LeadsTo u c o p
 
-vertex_or_none : (u : Setup) (c : Chip) (o : Out) (p : ℕ) → (x : Option ℕ) → vertex_behind u.spots c o ≡ x → place_of u (core_of x) ≡ Some p → LeadsTo u c o p
+vertex_or_none : (u : Setup) (c : Chip) (o : Out) (p : ℕ) → (x : Option ℕ) → vertex_behind u.spots c o ≡ x → queue_place_of u (core_queue_of x) ≡ Some p → LeadsTo u c o p
 vertex_or_none u c o p (Some v) at is =
     let t = vertex_behind_stands u.spots c o v at in
     to_vertex v t.0 t.1 t.2 t.3 (sym (same_Some (vertex_place u v) p is))
 vertex_or_none u c o p None at is = absurd (none-some p is)
 
-live_or_not : (u : Setup) (c : Chip) (d : Dir) (p : ℕ) (b : Bool) → is_live_link u.machine c d ≡ b → place_of u (behind_link u c d b (far_of u.machine c d)) ≡ Some p → LeadsTo u c (Link d) p
+live_or_not : (u : Setup) (c : Chip) (d : Dir) (p : ℕ) (b : Bool) → is_live_link u.machine c d ≡ b → queue_place_of u (behind_link u c d b (far_of u.machine c d)) ≡ Some p → LeadsTo u c (Link d) p
 live_or_not u c d p true live is =
     let ends = live_ends u.machine c d live in
-    by_link d ends.0 refl ends.1 (sym (same_Some (queue_at u.machine ends.0 (ByLink (opposite_of d))) p (sym (ap (λ x. place_of u (behind_link u c d true x)) ends.1) ∙ is)))
+    by_link d ends.0 refl ends.1 (sym (same_Some (queue_at u.machine ends.0 (ByLink (opposite_of d))) p (sym (ap (λ x. queue_place_of u (behind_link u c d true x)) ends.1) ∙ is)))
 live_or_not u c d p false dead is = vertex_or_none u c (Link d) p (vertex_behind u.spots c (Link d)) refl is
 
 pub leads : (u : Setup) (c : Chip) (o : Out) (p : ℕ) → place_behind u c o ≡ Some p → LeadsTo u c o p

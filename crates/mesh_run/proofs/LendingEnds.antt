@@ -3,7 +3,7 @@ use Rattle.std.proofs.Common.{◌≡◌, ◌≢◌, ℕ, ◌+◌, ◌<◌, ◌�
 use Rattle.std.specs.List.{All, AllPairs, Contains, filter}
 use Rattle.std.proofs.lemmas.List.{map-append, take_more, length-take-le, get_or-take, get_or_default}
 use Rattle.std.proofs.lemmas.List.Elements.{All-append, All-cons, All-nil, All-map, Contains-get_or, filter-append}
-use Rattle.list_laws.proofs.Members.{Contains-from_filter, Contains-map}
+use Rattle.spin_base.proofs.Members.{Contains-from_filter, Contains-map}
 use Rattle.spin_base.specs.declared.chips.Chip.{Chip}
 use Rattle.spin_base.specs.declared.chips.Port.{Port}
 use Rattle.spin_base.specs.declared.routes.Out.{Out}
@@ -15,7 +15,7 @@ use Rattle.chip_node.specs.declared.ends.InEnd.{InEnd}
 use Rattle.chip_node.specs.declared.ends.OutEnd.{OutEnd}
 use Rattle.chip_node.specs.Serving.{ports_of, outs_with_ends}
 use Rattle.mesh_core.specs.State.{Setup, queue_at}
-use Rattle.mesh_run.specs.Lending.{place_behind, has_place, IsThere, NotAt, Lent, LendsOut, tx_of, rx_of, txs_of, rxs_of, IsBehind, IsAtPort}
+use Rattle.mesh_run.specs.Lending.{place_behind, has_queue_behind, IsThere, NotAt, Lent, LendsOut, tx_of, rx_of, txs_of, rxs_of, IsBehind, IsAtPort}
 use Rattle.mesh_run.proofs.Lent.{lent_none, ends_join, still_there, full_one}
 
 -- an earlier item of a list is none of the later ones
@@ -42,7 +42,7 @@ filter_end p xs x = filter-append p xs (x ∷ [])
 
 -- the outputs so far
 pub record OutsLent (u : Setup) (c : Chip) (outs : List Out) (start now : List (Option Tx)) (ends : List (Out × OutEnd)) (begun spare i : ℕ) : Type 0 where
-  pub labels : outs_with_ends ends ≡ filter (has_place u c) (take i outs)
+  pub labels : outs_with_ends ends ≡ filter (has_queue_behind u c) (take i outs)
   pub places : All (IsBehind u c) ends
   pub lent : Lent None (txs_of ends) start now
   pub room : begun ≤ spare + i
@@ -63,7 +63,7 @@ not_at_outs u c outs start now ends begun spare i p o so_far below read differ a
     All-map (λ h. h.0 ≢ p) (λ (e : Out × OutEnd). tx_of e.1) ends (λ k e inside same.
     let end : Out × OutEnd = get_or ends k e in
     let label : Contains (outs_with_ends ends) end.0 = Contains-map (λ (x : Out × OutEnd). x.0) ends end (Contains-get_or ends k e inside) in
-    let early : Contains (take i outs) end.0 = (Contains-from_filter (has_place u c) (take i outs) end.0 (subst (λ l. Contains l end.0) so_far.labels label)).0 in
+    let early : Contains (take i outs) end.0 = (Contains-from_filter (has_queue_behind u c) (take i outs) end.0 (subst (λ l. Contains l end.0) so_far.labels label)).0 in
     before_differs outs i o end.0 below read differ early
     (apart end.0 o p (taken_is_in outs i end.0 below early) (i, below, sym read) (so_far.places k e inside ∙ ap Some same) at))
 
@@ -95,15 +95,15 @@ outs_more {u} {c} {outs} {start} {now} {new} {ends} {more} {begun} {left = left}
     read : o ≡ get_or outs i o
     read = get_or_default outs i first o below
 
-    more_labels : (b : Bool) → has_place u c o ≡ b → filter (has_place u c) (take (i + 1) outs) ≡ filter (has_place u c) (take i outs) ++ cond b (o ∷ []) []
+    more_labels : (b : Bool) → has_queue_behind u c o ≡ b → filter (has_queue_behind u c) (take (i + 1) outs) ≡ filter (has_queue_behind u c) (take i outs) ++ cond b (o ∷ []) []
     more_labels b is =
-        ap (filter (has_place u c)) (take_more outs i o below ∙ ap (λ a. take i outs ++ a ∷ []) (sym read))
-        ∙ (filter_end (has_place u c) (take i outs) o ∙ ap (λ d. filter (has_place u c) (take i outs) ++ cond d (o ∷ []) []) is)
+        ap (filter (has_queue_behind u c)) (take_more outs i o below ∙ ap (λ a. take i outs ++ a ∷ []) (sym read))
+        ∙ (filter_end (has_queue_behind u c) (take i outs) o ∙ ap (λ d. filter (has_queue_behind u c) (take i outs) ++ cond d (o ∷ []) []) is)
 
     by_place : (at : Option ℕ) → place_behind u c o ≡ at →
         MatchOption at ((more ≡ ends) × (new ≡ now)) (λ p. (e : OutEnd) × (e.link ≡ p) × Lent None (tx_of e ∷ []) now new × (more ≡ ends ++ (o, e) ∷ [])) → OutsLent u c outs start new more begun left (i + 1)
     by_place None is h = record {
-      labels = ap outs_with_ends h.0 ∙ (so_far.labels ∙ sym (more_labels false (ap (λ x. is_some x) is) ∙ append-nil (filter (has_place u c) (take i outs))));
+      labels = ap outs_with_ends h.0 ∙ (so_far.labels ∙ sym (more_labels false (ap (λ x. is_some x) is) ∙ append-nil (filter (has_queue_behind u c) (take i outs))));
       places = subst (All (IsBehind u c)) (sym h.0) so_far.places;
       lent = subst (λ l. Lent None (txs_of l) start new) (sym h.0) (subst (λ l. Lent None (txs_of ends) start l) (sym h.1) so_far.lent);
       room = (let begun_is = so_far.room in omega (arith, begun_is, falls));

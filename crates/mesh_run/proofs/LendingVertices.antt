@@ -5,16 +5,16 @@ use Rattle.std.specs.List.{All, Contains, slice_get}
 use Rattle.std.proofs.lemmas.Bool.{cases_eq}
 use Rattle.std.proofs.lemmas.List.{map-append}
 use Rattle.std.proofs.lemmas.List.Elements.{All-append, All-cons, All-nil, All-map, All-weaker, Contains-push, Contains-append_left}
-use Rattle.list_laws.proofs.Members.{Contains-at}
-use Rattle.list_laws.proofs.Pairs.{AllPairs-apart}
+use Rattle.spin_base.proofs.Members.{Contains-at}
+use Rattle.spin_base.proofs.Pairs.{AllPairs-apart}
 use Rattle.spin_base.specs.declared.chips.Chip.{Chip}
 use Rattle.spin_base.specs.declared.chips.Spot.{Spot}
 use Rattle.spin_base.specs.declared.copies.McCopy.{McCopy}
 use Rattle.machine_desc.proofs.Same.{same_spot}
 use Rattle.link_queue.specs.declared.links.Rx.{Rx}
-use Rattle.net_tables.specs.NetsOn.{vertex_at}
+use Rattle.machine_desc.specs.NetsOn.{vertex_at}
 use Rattle.chip_node.specs.declared.banks.BankVertex.{BankVertex}
-use Rattle.chip_node.specs.Numbers.{numbers_of}
+use Rattle.chip_node.specs.Numbers.{vertex_numbers_of}
 use Rattle.mesh_core.specs.State.{Setup}
 use Rattle.mesh_core.proofs.Ways.{vertex_at_stands, vertex_there}
 use Rattle.mesh_run.specs.Lending.{vertex_place, IsSetup, IsThere, NotAt, Lent, rx_of, vertex_rxs, vertex_unsent, IsOnChip}
@@ -32,7 +32,7 @@ IsOnEarly u c k v = (on : IsOnChip u c v) × (on.spot.core < k)
 -- the vertices on the first cores of a chip are lent
 pub record VerticesLent (u : Setup) (c : Chip) (rxs rxs_left : List (Option Rx)) (unsent unsent_left : List (List McCopy)) (vs : List BankVertex) (begun spare k : ℕ) : Type 0 where
   pub each : All (IsOnEarly u c k) vs
-  pub all : (v : ℕ) (spot : Spot) → slice_get u.spots v ≡ Some spot → spot.chip ≡ c → spot.core < k → Contains (numbers_of vs) v
+  pub all : (v : ℕ) (spot : Spot) → slice_get u.spots v ≡ Some spot → spot.chip ≡ c → spot.core < k → Contains (vertex_numbers_of vs) v
   pub ends : Lent None (vertex_rxs vs) rxs rxs_left
   pub copies : Lent [] (vertex_unsent vs) unsent unsent_left
   pub room : begun ≤ spare + k
@@ -115,8 +115,8 @@ vertices_more u c rxs now new unsent here next vs more begun spare left k so_far
           all = λ w spot at_w there early. subst (λ l. Contains l w) (sym (map-append (λ (x : BankVertex). x.vertex) vs (e ∷ []))) (elim (cases_eq spot.core k) [
             | inl this ↦
                 let number : v ≡ w = AllPairs-apart u.spots (core_spot c k) setup.different v w stands (is_it w spot at_w there this) in
-                subst (λ n. Contains (numbers_of vs ++ e.vertex ∷ []) n) (h.is ∙ number) (Contains-push (numbers_of vs) e.vertex)
-            | inr other ↦ Contains-append_left (numbers_of vs) (e.vertex ∷ []) w (so_far.all w spot at_w there (omega (arith, early, other)))
+                subst (λ n. Contains (vertex_numbers_of vs ++ e.vertex ∷ []) n) (h.is ∙ number) (Contains-push (vertex_numbers_of vs) e.vertex)
+            | inr other ↦ Contains-append_left (vertex_numbers_of vs) (e.vertex ∷ []) w (so_far.all w spot at_w there (omega (arith, early, other)))
           ]);
           ends = subst (λ l. Lent None l rxs new) (sym (map-append (λ (x : BankVertex). rx_of x.end) vs (e ∷ [])))
               (ends_join (vertex_rxs vs) (rx_of e.end ∷ []) rxs now new so_far.ends h.rx (full_one e.end.link e.end.rx));

@@ -5,8 +5,8 @@ use Rattle.std.specs.List.{All, slice_get}
 use Rattle.std.proofs.Math.ListN.{length-set}
 use Rattle.std.proofs.lemmas.List.Elements.{All-nil, All-cons, All-head, All-append}
 use Rattle.std.proofs.lemmas.List.Kept.{AllPairs-cons}
-use Rattle.list_laws.proofs.Pairs.{All-left, All-right, AllPairs-nil, AllPairs-append}
-use Rattle.list_laws.proofs.Places.{slice_get-set_same, slice_get-set_other}
+use Rattle.spin_base.proofs.Pairs.{All-left, All-right, AllPairs-nil, AllPairs-append}
+use Rattle.spin_base.proofs.Places.{slice_get-set_same, slice_get-set_other}
 use Rattle.mesh_run.specs.Lending.{IsThere, NotAt, Lent}
 
 -- no place of the first items is one of the others

@@ -3,8 +3,8 @@ mod Apart
 mod Back
 mod BringingUp
 mod ByPorts
-mod CastingAll
-mod CastingChips
+mod DealingAll
+mod DealingChips
 mod Dealt
 mod Feeding
 mod Few
@@ -13,7 +13,7 @@ mod Holding
 mod LendingEnds
 mod LendingVertices
 mod Lent
-mod LiveKits
+mod LiveSpaces
 mod Played
 mod PuttingBack
 mod Resting

@@ -15,7 +15,7 @@ use Rattle.mesh_core.specs.State.{Setup, queue_at}
 use Rattle.mesh_run.specs.declared.actors.Actor.{Actor}
 use Rattle.mesh_run.specs.declared.actors.Actor.TheVariants.{Router, Bank}
 use Rattle.mesh_run.specs.Acting.{ActorFlow}
-use Rattle.mesh_run.specs.Casting.{Pair, PairFlow, actors_of, delivered_by, dumped_by}
+use Rattle.mesh_run.specs.Holders.{Pair, PairFlow, actors_of, delivered_by, dumped_by}
 use Rattle.mesh_run.specs.Dealing.{IsPairOf, delivered_in, dumped_in, rxs_in, txs_in, unsent_in}
 use Rattle.mesh_run.specs.Lending.{IsAtPort, IsBehind, IsOnChip, place_behind, vertex_place, tx_of, rx_of}
 use Rattle.mesh_run.proofs.Zipped.{zip_carries, zip_maps}
@@ -24,18 +24,18 @@ module _ (tables : List (List Entry)) (turns : ℕ) where
   -- ---- actors in pairs
 
   -- actors that were pairs are pairs after their turns
-  pub played_pairs : (cast : List Pair) (actors : List Actor) → AllZip (ActorFlow tables turns) (actors_of cast) actors →
-      (played : List Pair) × (actors ≡ actors_of played) × AllZip (PairFlow tables turns) cast played
+  pub played_pairs : (deal : List Pair) (actors : List Actor) → AllZip (ActorFlow tables turns) (actors_of deal) actors →
+      (played : List Pair) × (actors ≡ actors_of played) × AllZip (PairFlow tables turns) deal played
   played_pairs [] [] flows = ([], refl, tt)
   played_pairs [] (a ∷ actors) flows = absurd flows
-  played_pairs (p ∷ cast) [] flows = absurd flows
-  played_pairs (p ∷ cast) (a ∷ []) flows = absurd flows.1
-  played_pairs (p ∷ cast) (Router i r ∷ Router j s ∷ actors) flows = absurd flows.1.0
-  played_pairs (p ∷ cast) (Router i r ∷ Bank b ∷ actors) flows =
-      let rest = played_pairs cast actors flows.1.1 in
+  played_pairs (p ∷ deal) [] flows = absurd flows
+  played_pairs (p ∷ deal) (a ∷ []) flows = absurd flows.1
+  played_pairs (p ∷ deal) (Router i r ∷ Router j s ∷ actors) flows = absurd flows.1.0
+  played_pairs (p ∷ deal) (Router i r ∷ Bank b ∷ actors) flows =
+      let rest = played_pairs deal actors flows.1.1 in
       let pair : Pair = record { index = i; router = r; bank = b } in
       (pair ∷ rest.0, ap (λ l. Router i r ∷ Bank b ∷ l) rest.1, (record { index = flows.0.0; router = flows.0.1; bank = flows.1.0 }, rest.2))
-  played_pairs (p ∷ cast) (Bank b ∷ a ∷ actors) flows = absurd flows.0
+  played_pairs (p ∷ deal) (Bank b ∷ a ∷ actors) flows = absurd flows.0
 
   -- ---- whose ends they have
 

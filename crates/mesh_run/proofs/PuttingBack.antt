@@ -6,8 +6,8 @@ use Rattle.std.proofs.lemmas.Bool.{cases_eq}
 use Rattle.std.proofs.lemmas.List.{append_assoc, length-append}
 use Rattle.std.proofs.lemmas.List.Elements.{All-nil, All-cons, All-head, All-tail}
 use Rattle.std.proofs.lemmas.Option.{slice_get-get_or}
-use Rattle.list_laws.proofs.Pairs.{All-left, All-right, AllPairs-head, AllPairs-tail}
-use Rattle.list_laws.proofs.Places.{slice_get-set_same, slice_get-set_other}
+use Rattle.spin_base.proofs.Pairs.{All-left, All-right, AllPairs-head, AllPairs-tail}
+use Rattle.spin_base.proofs.Places.{slice_get-set_same, slice_get-set_other}
 use Rattle.mesh_run.specs.Lending.{NotAt}
 use Rattle.mesh_run.specs.Dealing.{AreWithin, put_all}
 

@@ -5,7 +5,7 @@ use Rattle.std.proofs.lemmas.Bool.{cases_Bool, cases_eq, cases_lt, eqb-true, con
 use Rattle.std.proofs.lemmas.List.{append-nil, length-set, length-map, map-set, take-set-le, take_all, get_or-map, get_or-set_same, get_or-set_other}
 use Rattle.std.proofs.lemmas.List.Folds.{list_all_more}
 use Rattle.std.proofs.lemmas.Option.{get_or_from_slice_get, slice_get_within, same_Some}
-use Rattle.list_laws.proofs.Places.{All-at, slice_get_there, slice_get-set_same}
+use Rattle.spin_base.proofs.Places.{All-at, slice_get_there, slice_get-set_same}
 use Rattle.spin_base.specs.declared.copies.McCopy.{McCopy}
 use Rattle.link_queue.specs.declared.links.LinkEnds.{LinkEnds}
 use Rattle.link_queue.specs.declared.known.Known.{Known}
@@ -17,7 +17,7 @@ use Rattle.link_queue.specs.Ups.{NoNotes, Rests}
 use Rattle.mesh_run.specs.declared.queues.Rested.{Rested}
 use Rattle.mesh_run.specs.declared.standing.Standing.{Standing}
 use Rattle.mesh_run.specs.Standing.{HoldsAll, LacksEnds}
-use Rattle.mesh_run.specs.Queues.{AreEnds, AreUp, HasPlaces, IsDown, IsUp, RestAll, RestsAt, StayUp, UpAt, WasUp, free_of, is_empty, places_for, queue_of}
+use Rattle.mesh_run.specs.Queues.{AreEnds, AreUp, HasPlaces, IsDown, IsUp, RestAll, RestsAt, StayUp, UpAt, WasUp, free_places_of, is_empty, places_for, queue_of_link}
 use Rattle.mesh_run.proofs.BringingUp.{fewer_fit, made_with}
 use Rattle.mesh_run.proofs.Holding.{as_many, only_ends}
 use Rattle.mesh_run.proofs.Slots.{in_links, set_again, slot_is}
@@ -109,19 +109,19 @@ rests_as {cap} was r = record {
   rx_new = r.rests.receiver_new;
 }
 
-free_fits : (cap places held free : ℕ) → held ≤ places → places ≤ cap → free ≤ free_of cap places held → HasPlaces cap free held places
+free_fits : (cap places held free : ℕ) → held ≤ places → places ≤ cap → free ≤ free_places_of cap places held → HasPlaces cap free held places
 free_fits cap places held free fits few within = elim (cases_Bool (nat_eq places cap)) [
   | inl is ↦ let same = eqb-true places cap is in record { enough = omega (arith, same); few = few }
   | inr not ↦
-      let left : free_of cap places held ≡ places - held = cond-false (nat_eq places cap) 18446744073709551615 (places - held) not in
+      let left : free_places_of cap places held ≡ places - held = cond-false (nat_eq places cap) 18446744073709551615 (places - held) not in
       record { enough = omega (arith, left, within, fits); few = few }
 ]
 
 -- The first links rest, each of them has so many places free, and whether they hold a copy is known.
 pub record RestSoFar (cap : ℕ) (back : List LinkEnds) (k : ℕ) (s : Standing) (quiet : Bool) (free : ℕ) : Type 0 where
   pub so_far : SoFar (RestsAs cap) back k s
-  pub fits : (i : ℕ) (e : LinkEnds) → i < k → HasPlaces cap free (length (queue_of (get_or so_far.now i e))) (cap_of (get_or so_far.now i e).link)
-  pub quiet_is : quiet ≡ list_all is_empty (take k (map queue_of so_far.now))
+  pub fits : (i : ℕ) (e : LinkEnds) → i < k → HasPlaces cap free (length (queue_of_link (get_or so_far.now i e))) (cap_of (get_or so_far.now i e).link)
+  pub quiet_is : quiet ≡ list_all is_empty (take k (map queue_of_link so_far.now))
 
 pub none_rest : (cap : ℕ) (back : List LinkEnds) (s : Standing) (free : ℕ) → HoldsAll back s → RestSoFar cap back 0 s true free
 none_rest cap back s free holds = record { so_far = none_done (RestsAs cap) back s holds; fits = λ i e before. absurd (omega (arith, before)); quiet_is = refl }
@@ -131,7 +131,7 @@ pub next_was : (P : LinkEnds → Type 0) {back now : List LinkEnds} {k : ℕ} �
 next_was P {back} {k = k} all n = All-at P back k n.old all n.was
 
 pub one_rests : {cap : ℕ} {back : List LinkEnds} {k : ℕ} {s t : Standing} {quiet more : Bool} {free less held places : ℕ} (f : RestSoFar cap back k s quiet free) → (n : NextLink back f.so_far.now k) → All (WasUp cap) back →
-    (r : RestsAt f.so_far.now k n.old t held) → places ≡ cap_of r.now.link → less ≡ min free (free_of cap places held) → more ≡ (quiet && nat_eq held 0) → RestSoFar cap back (k + 1) t more less
+    (r : RestsAt f.so_far.now k n.old t held) → places ≡ cap_of r.now.link → less ≡ min free (free_places_of cap places held) → more ≡ (quiet && nat_eq held 0) → RestSoFar cap back (k + 1) t more less
 unfolding one_done rests_as
 one_rests {cap} {back} {k} {s} {t} {quiet} {more} {free} {less} {held} {places} f n were r places_are less_is more_is =
     let was = next_was (WasUp cap) were n in
@@ -139,35 +139,35 @@ one_rests {cap} {back} {k} {s} {t} {quiet} {more} {free} {less} {held} {places} 
     let now = f.so_far.now in
     let long = f.so_far.long in
     let here : k < length now = omega (arith, below, long) in
-    let first : queue_of r.now ≡ r.rests.held = r.rests.sender_new.first in
-    let count : held ≡ length (queue_of r.now) = r.rests.counts ∙ ap length (sym first) in
+    let first : queue_of_link r.now ≡ r.rests.held = r.rests.sender_new.first in
+    let count : held ≡ length (queue_of_link r.now) = r.rests.counts ∙ ap length (sym first) in
     let bound = r.rests.bound in
     let rest_count = r.rests.counts in
     let caps : cap_of r.now.link ≡ cap_of n.old.link = ap cap_of r.link in
     let few = was.few in
     let has : HasPlaces cap less held places = free_fits cap places held less (omega (arith, bound, rest_count, caps, places_are)) (omega (arith, few, caps, places_are)) (omega (arith, less_is)) in
-    let mapped = length-map now queue_of in
-    let qs = map queue_of now in
-    let inside : k < length (set qs k (queue_of r.now)) = (let l = length-set qs k (queue_of r.now) in omega (arith, l, mapped, here)) in
-    let all : list_all is_empty (take (k + 1) (set qs k (queue_of r.now))) ≡ (quiet && nat_eq held 0) =
-    list_all_more is_empty (set qs k (queue_of r.now)) k [] inside
-    ∙ ap₂ (λ (a b : Bool). a && b) (ap (list_all is_empty) (take-set-le k qs k (queue_of r.now) (omega arith)) ∙ sym f.quiet_is)
-    (ap is_empty (get_or-set_same qs k (queue_of r.now) [] (omega (arith, mapped, here))) ∙ ap (λ c. nat_eq c 0) (sym count)) in
+    let mapped = length-map now queue_of_link in
+    let qs = map queue_of_link now in
+    let inside : k < length (set qs k (queue_of_link r.now)) = (let l = length-set qs k (queue_of_link r.now) in omega (arith, l, mapped, here)) in
+    let all : list_all is_empty (take (k + 1) (set qs k (queue_of_link r.now))) ≡ (quiet && nat_eq held 0) =
+    list_all_more is_empty (set qs k (queue_of_link r.now)) k [] inside
+    ∙ ap₂ (λ (a b : Bool). a && b) (ap (list_all is_empty) (take-set-le k qs k (queue_of_link r.now) (omega arith)) ∙ sym f.quiet_is)
+    (ap is_empty (get_or-set_same qs k (queue_of_link r.now) [] (omega (arith, mapped, here))) ∙ ap (λ c. nat_eq c 0) (sym count)) in
     record {
       so_far = one_done r.now f.so_far n (rests_as was r) r.holds;
       fits = λ i e before. elim (cases_eq i k) [
         | inl is ↦
             let new : get_or (set now k r.now) i e ≡ r.now = ap (λ j. get_or (set now k r.now) j e) is ∙ get_or-set_same now k r.now e here in
-            subst (λ (x : LinkEnds). HasPlaces cap less (length (queue_of x)) (cap_of x.link)) (sym new) (subst (λ (p : ℕ × ℕ). HasPlaces cap less p.0 p.1) (λ j. (count j, places_are j)) has)
+            subst (λ (x : LinkEnds). HasPlaces cap less (length (queue_of_link x)) (cap_of x.link)) (sym new) (subst (λ (p : ℕ × ℕ). HasPlaces cap less p.0 p.1) (λ j. (count j, places_are j)) has)
         | inr other ↦
-            subst (λ (x : LinkEnds). HasPlaces cap less (length (queue_of x)) (cap_of x.link)) (sym (get_or-set_other now k i r.now e other))
+            subst (λ (x : LinkEnds). HasPlaces cap less (length (queue_of_link x)) (cap_of x.link)) (sym (get_or-set_other now k i r.now e other))
             (fewer_fit cap free less _ _ (omega (arith, less_is)) (f.fits i e (omega (arith, before, other))))
       ];
-      quiet_is = more_is ∙ (sym all ∙ ap (λ l. list_all is_empty (take (k + 1) l)) (sym (map-set queue_of now k r.now)));
+      quiet_is = more_is ∙ (sym all ∙ ap (λ l. list_all is_empty (take (k + 1) l)) (sym (map-set queue_of_link now k r.now)));
     }
 
 -- a link that rests is up, with what it holds
-rest_is_up : (cap free : ℕ) (old new : LinkEnds) → RestsAs cap old new → HasPlaces cap free (length (queue_of new)) (cap_of new.link) → IsUp cap free (queue_of new) new
+rest_is_up : (cap free : ℕ) (old new : LinkEnds) → RestsAs cap old new → HasPlaces cap free (length (queue_of_link new)) (cap_of new.link) → IsUp cap free (queue_of_link new) new
 rest_is_up cap free old new r has = record {
   ends = r.ends;
   holds = has;
@@ -179,7 +179,7 @@ pub all_rest : {cap : ℕ} {back : List LinkEnds} {k : ℕ} {s : Standing} (rest
 all_rest {cap} {back} {k} rested f past =
     let now = f.so_far.now in
     let long = f.so_far.long in
-    let mapped = length-map now queue_of in
+    let mapped = length-map now queue_of_link in
     record {
       now = now;
       holds = f.so_far.holds;
@@ -189,30 +189,30 @@ all_rest {cap} {back} {k} rested f past =
         each = λ i q e below.
             let inside : i < length now = omega (arith, below, mapped) in
             let within : i < k = omega (arith, inside, long, past) in
-            subst (λ (l : List McCopy). IsUp cap rested.free l (get_or now i e)) (sym (get_or-map queue_of now i e q inside))
+            subst (λ (l : List McCopy). IsUp cap rested.free l (get_or now i e)) (sym (get_or-map queue_of_link now i e q inside))
             (rest_is_up cap rested.free (get_or back i e) (get_or now i e) (f.so_far.done i e e within) (f.fits i e within));
       };
       down = λ i e q below.
           let inside : i < length now = omega (arith, below, long) in
           let r = f.so_far.done i e e (omega (arith, below, past)) in
-          subst (IsDown (get_or back i e)) (sym (get_or-map queue_of now i e q inside ∙ r.tx_new.first)) r.down;
-      quiet = f.quiet_is ∙ ap (list_all is_empty) (take_all k (map queue_of now) (omega (arith, mapped, long, past)));
+          subst (IsDown (get_or back i e)) (sym (get_or-map queue_of_link now i e q inside ∙ r.tx_new.first)) r.down;
+      quiet = f.quiet_is ∙ ap (list_all is_empty) (take_all k (map queue_of_link now) (omega (arith, mapped, long, past)));
     }
 
 -- ---- links that are widened
 
 -- the link is up with the queue that the old one had
 abbrev pub StaysAs : ℕ → ℕ → LinkEnds → LinkEnds → Type 0
-StaysAs cap more old new = IsUp cap more (queue_of old) new
+StaysAs cap more old new = IsUp cap more (queue_of_link old) new
 
-pub stay_up : (cap more : ℕ) (back now : List LinkEnds) → length now ≡ length back → ((i : ℕ) (d e : LinkEnds) → i < length back → StaysAs cap more (get_or back i d) (get_or now i e)) → AreUp cap more (map queue_of back) now
+pub stay_up : (cap more : ℕ) (back now : List LinkEnds) → length now ≡ length back → ((i : ℕ) (d e : LinkEnds) → i < length back → StaysAs cap more (get_or back i d) (get_or now i e)) → AreUp cap more (map queue_of_link back) now
 stay_up cap more back now long each =
-    let mapped = length-map back queue_of in
+    let mapped = length-map back queue_of_link in
     record {
       long = omega (arith, long, mapped);
       each = λ i q e below.
           let inside : i < length back = omega (arith, below, mapped) in
-          subst (λ (l : List McCopy). IsUp cap more l (get_or now i e)) (sym (get_or-map queue_of back i e q inside)) (each i e e inside);
+          subst (λ (l : List McCopy). IsUp cap more l (get_or now i e)) (sym (get_or-map queue_of_link back i e q inside)) (each i e e inside);
     }
 
 fewer : (cap more : ℕ) (queue : List McCopy) (e : LinkEnds) → IsUp cap more queue e → IsUp cap 0 queue e
@@ -227,12 +227,12 @@ all_stay {cap} {more} {back} f past = record {
 }
 
 -- the first links are widened, the next one is not, and all hold what they held
-pub some_stay : {cap more : ℕ} {back : List LinkEnds} {k : ℕ} {s t : Standing} (f : SoFar (StaysAs cap more) back k s) → (n : NextLink back f.now k) → AreUp cap 0 (map queue_of back) back →
-    UpAt cap 0 f.now k (queue_of n.old) t → StayUp cap 0 back t
+pub some_stay : {cap more : ℕ} {back : List LinkEnds} {k : ℕ} {s t : Standing} (f : SoFar (StaysAs cap more) back k s) → (n : NextLink back f.now k) → AreUp cap 0 (map queue_of_link back) back →
+    UpAt cap 0 f.now k (queue_of_link n.old) t → StayUp cap 0 back t
 some_stay {cap} {more} {back} {k} f n up at =
     let below = slice_get_within back k n.old n.was in
     let long = f.long in
-    let mapped = length-map back queue_of in
+    let mapped = length-map back queue_of_link in
     record {
       now = set f.now k at.now;
       holds = at.holds;
@@ -244,25 +244,25 @@ some_stay {cap} {more} {back} {k} f n up at =
         | inr other ↦
             subst (StaysAs cap 0 (get_or back i d)) (sym (get_or-set_other f.now k i at.now e other))
             (elim (cases_lt i k) [
-              | inl before ↦ fewer cap more (queue_of (get_or back i d)) (get_or f.now i e) (f.done i d e before)
+              | inl before ↦ fewer cap more (queue_of_link (get_or back i d)) (get_or f.now i e) (f.done i d e before)
               | inr from ↦
                   let same : get_or f.now i e ≡ get_or back i e = f.left i e from in
                   let one : get_or back i d ≡ get_or back i e = (let x = slice_get_there back i inside in get_or_from_slice_get back i x.0 d x.1 ∙ sym (get_or_from_slice_get back i x.0 e x.1)) in
-                  let is : IsUp cap 0 (queue_of (get_or back i e)) (get_or back i e) =
-                  subst (λ (l : List McCopy). IsUp cap 0 l (get_or back i e)) (get_or-map queue_of back i e [] inside) (up.each i [] e (omega (arith, inside, mapped))) in
-                  subst (λ (x : LinkEnds). IsUp cap 0 (queue_of (get_or back i d)) x) (sym same) (subst (λ (x : LinkEnds). IsUp cap 0 (queue_of x) (get_or back i e)) (sym one) is)
+                  let is : IsUp cap 0 (queue_of_link (get_or back i e)) (get_or back i e) =
+                  subst (λ (l : List McCopy). IsUp cap 0 l (get_or back i e)) (get_or-map queue_of_link back i e [] inside) (up.each i [] e (omega (arith, inside, mapped))) in
+                  subst (λ (x : LinkEnds). IsUp cap 0 (queue_of_link (get_or back i d)) x) (sym same) (subst (λ (x : LinkEnds). IsUp cap 0 (queue_of_link x) (get_or back i e)) (sym one) is)
             ])
       ]);
     }
 
 -- the next link is up
-pub next_up : {cap : ℕ} {back now : List LinkEnds} {k : ℕ} (n : NextLink back now k) → AreUp cap 0 (map queue_of back) back → IsUp cap 0 (queue_of n.old) n.old
+pub next_up : {cap : ℕ} {back now : List LinkEnds} {k : ℕ} (n : NextLink back now k) → AreUp cap 0 (map queue_of_link back) back → IsUp cap 0 (queue_of_link n.old) n.old
 next_up {cap} {back} {k = k} n up =
     let below = slice_get_within back k n.old n.was in
-    let mapped = length-map back queue_of in
-    let is : IsUp cap 0 (queue_of (get_or back k n.old)) (get_or back k n.old) =
-    subst (λ (l : List McCopy). IsUp cap 0 l (get_or back k n.old)) (get_or-map queue_of back k n.old [] below) (up.each k [] n.old (omega (arith, below, mapped))) in
-    subst (λ (x : LinkEnds). IsUp cap 0 (queue_of x) x) (n.is n.old) is
+    let mapped = length-map back queue_of_link in
+    let is : IsUp cap 0 (queue_of_link (get_or back k n.old)) (get_or back k n.old) =
+    subst (λ (l : List McCopy). IsUp cap 0 l (get_or back k n.old)) (get_or-map queue_of_link back k n.old [] below) (up.each k [] n.old (omega (arith, below, mapped))) in
+    subst (λ (x : LinkEnds). IsUp cap 0 (queue_of_link x) x) (n.is n.old) is
 
 -- ---- one link
 
@@ -341,16 +341,16 @@ module _ {ends : List LinkEnds} {place : ℕ} {old : LinkEnds} {s : Standing} {h
     rest_count = r.rests.counts ∙ (ap length (sym r.rests.sender_new.first) ∙ ap (λ (x : Tx). length (sending x).first) (sym tx_is))
 
   -- a link that was up
-  module _ {cap : ℕ} (up : IsUp cap 0 (queue_of old) old) where
+  module _ {cap : ℕ} (up : IsUp cap 0 (queue_of_link old) old) where
     -- the queue is what it was
-    held_same : r.rests.held ≡ queue_of old
-    held_same = kept_queue (sending old.tx) (taking old.rx) (sending r.now.tx) (taking r.now.rx) (cap_of old.link) held (queue_of old) up.tx_new up.rx_new r.rests
+    held_same : r.rests.held ≡ queue_of_link old
+    held_same = kept_queue (sending old.tx) (taking old.rx) (sending r.now.tx) (taking r.now.rx) (cap_of old.link) held (queue_of_link old) up.tx_new up.rx_new r.rests
 
     few_places : cap_of r.now.link ≤ cap
     few_places = subst (λ (l : Link). cap_of l ≤ cap) (sym r.link) up.holds.few
 
     -- it is up again, where it has places
-    rested_up : (more : ℕ) → HasPlaces cap more held (cap_of r.now.link) → IsUp cap more (queue_of old) r.now
+    rested_up : (more : ℕ) → HasPlaces cap more held (cap_of r.now.link) → IsUp cap more (queue_of_link old) r.now
     rested_up more has = record {
       ends = r.ends_are;
       holds = subst (λ n. HasPlaces cap more n (cap_of r.now.link)) (r.rests.counts ∙ ap length held_same) has;
@@ -363,11 +363,11 @@ module _ {ends : List LinkEnds} {place : ℕ} {old : LinkEnds} {s : Standing} {h
     held_short = let fits = held_fits in let few = few_places in omega (arith, fits, few)
 
     -- another link with the same queue stands at the place
-    pub widened_up : (turns : ℕ) {wider : ℕ} {t : Standing} {e : LinkEnds} {q : List McCopy} → q ≡ queue_of r.now → wider ≡ places_for cap turns held → IsTx e.link e.tx × NoNotes q (sending e.tx) →
-        IsRx e.link e.rx × NoNotes q (taking e.rx) → cap_of e.link ≡ wider → (e.room.items ≡ []) × (wider ≤ e.room.spare) → HoldsAll (set (set ends place r.now) place e) t → UpAt cap (turns + 1) ends place (queue_of old) t
+    pub widened_up : (turns : ℕ) {wider : ℕ} {t : Standing} {e : LinkEnds} {q : List McCopy} → q ≡ queue_of_link r.now → wider ≡ places_for cap turns held → IsTx e.link e.tx × NoNotes q (sending e.tx) →
+        IsRx e.link e.rx × NoNotes q (taking e.rx) → cap_of e.link ≡ wider → (e.room.items ≡ []) × (wider ≤ e.room.spare) → HoldsAll (set (set ends place r.now) place e) t → UpAt cap (turns + 1) ends place (queue_of_link old) t
     widened_up turns {wider} {t} {e} {q} q_is wider_is tx rx cap_is room holds =
-        let same : q ≡ queue_of old = q_is ∙ (r.rests.sender_new.first ∙ held_same) in
-        let count : held ≡ length (queue_of old) = r.rests.counts ∙ ap length held_same in
+        let same : q ≡ queue_of_link old = q_is ∙ (r.rests.sender_new.first ∙ held_same) in
+        let count : held ≡ length (queue_of_link old) = r.rests.counts ∙ ap length held_same in
         record {
           now = e;
           holds = set_again ends place r.now e t holds;
@@ -380,7 +380,7 @@ module _ {ends : List LinkEnds} {place : ℕ} {old : LinkEnds} {s : Standing} {h
         }
 
     -- the link that rests stands again
-    pub put_again : {t : Standing} {tx : Tx} {rx : Rx} → tx ≡ r.now.tx → rx ≡ r.now.rx → HoldsAll (set (set ends place r.now) place (record (r.now) { tx = tx; rx = rx })) t → UpAt cap 0 ends place (queue_of old) t
+    pub put_again : {t : Standing} {tx : Tx} {rx : Rx} → tx ≡ r.now.tx → rx ≡ r.now.rx → HoldsAll (set (set ends place r.now) place (record (r.now) { tx = tx; rx = rx })) t → UpAt cap 0 ends place (queue_of_link old) t
     put_again {t} {tx} {rx} tx_is rx_is holds =
         let same : (record (r.now) { tx = tx; rx = rx }) ≡ r.now = λ i. record (r.now) { tx = tx_is i; rx = rx_is i } in
         let fits = held_fits in
@@ -391,13 +391,13 @@ module _ {ends : List LinkEnds} {place : ℕ} {old : LinkEnds} {s : Standing} {h
         }
 
     -- it has places for a round already
-    pub rest_wide : {turns places free : ℕ} → places ≡ cap_of r.now.link → free ≡ free_of cap places held → turns < free → UpAt cap (turns + 1) ends place (queue_of old) s
+    pub rest_wide : {turns places free : ℕ} → places ≡ cap_of r.now.link → free ≡ free_places_of cap places held → turns < free → UpAt cap (turns + 1) ends place (queue_of_link old) s
     rest_wide {turns} {places} {free} are free_is more =
         let left : turns + 1 ≤ free = omega (arith, more) in
         record {
           now = r.now;
           holds = r.holds;
-          up = rested_up (turns + 1) (free_fits cap (cap_of r.now.link) held (turns + 1) held_fits few_places (subst (λ (n : ℕ). turns + 1 ≤ free_of cap n held) are (subst (λ (n : ℕ). turns + 1 ≤ n) free_is left)));
+          up = rested_up (turns + 1) (free_fits cap (cap_of r.now.link) held (turns + 1) held_fits few_places (subst (λ (n : ℕ). turns + 1 ≤ free_places_of cap n held) are (subst (λ (n : ℕ). turns + 1 ≤ n) free_is left)));
         }
 
 -- what holds anyway holds after a refusal

@@ -5,7 +5,7 @@ use Rattle.std.specs.List.Sorted.{IsPermutation}
 use Rattle.std.proofs.lemmas.List.{map-append}
 use Rattle.std.proofs.lemmas.List.Elements.{filter-append}
 use Rattle.std.proofs.lemmas.List.Sorted.{IsPermutation-refl, IsPermutation-sym, IsPermutation-cons, IsPermutation-trans, IsPermutation-middle, IsPermutation-map}
-use Rattle.list_laws.proofs.Counts.{count_by-cons}
+use Rattle.spin_base.proofs.Counts.{count_by-cons}
 use Rattle.spin_base.specs.declared.chips.Port.{Port}
 use Rattle.spin_base.specs.declared.routes.Out.{Out}
 use Rattle.spin_base.specs.declared.blocks.Entry.{Entry}
@@ -14,10 +14,11 @@ use Rattle.spin_base.specs.Equality.{out_eq}
 use Rattle.spin_base.specs.Lookup.{lookup}
 use Rattle.spin_base.specs.Outputs.{IsOutput, has, outs_of}
 use Rattle.spin_base.proofs.Once.{outs_once}
+use Rattle.spin_base.specs.Hops.{onward, last_hop}
 use Rattle.chip_node.specs.declared.routers.RouterNode.{RouterNode}
-use Rattle.chip_node.specs.Routing.{onward, last_hop, outputs_at}
+use Rattle.chip_node.specs.Routing.{outputs_at}
 use Rattle.chip_node.specs.RouterFlow.{Service, owed, is_sent, is_sent_by, is_dumped_at, sent_by, RouterFlow}
-use Rattle.mesh_run.specs.Routed.{taken_for, dumped_by}
+use Rattle.mesh_run.specs.Routed.{looked_up_for, copies_dumped_at}
 
 -- ---- in two parts
 
@@ -106,7 +107,7 @@ module _ (o : Out) (is_output : IsOutput o) where
   taken_more false t rest = refl
 
   -- what is owed at the output is what was taken for it
-  owed_at : (es : List Entry) (ts : List (Port × McCopy)) → at_out (owed es ts) ≡ taken_for es o ts
+  owed_at : (es : List Entry) (ts : List (Port × McCopy)) → at_out (owed es ts) ≡ looked_up_for es o ts
   owed_at es [] = refl
   owed_at es (t ∷ ts) =
       at_out-append (map (λ p. (p, t.1)) (outputs_at es t.0 t.1)) (owed es ts)
@@ -126,16 +127,16 @@ module _ (o : Out) (is_output : IsOutput o) where
 
   -- What was taken for the output is, each copy once, what was sent by it and what was dumped there.
   pub sent_or_dumped : (es : List Entry) (turns : ℕ) (a b : RouterNode) → (f : RouterFlow es turns a b) →
-      IsPermutation (map onward (taken_for es o f.taken)) (sent_by o f.served ++ map onward (dumped_by o f.served))
+      IsPermutation (map onward (looked_up_for es o f.taken)) (sent_by o f.served ++ map onward (copies_dumped_at o f.served))
   sent_or_dumped es turns a b f =
       let step : Service → McCopy = λ s. onward s.copy in
       let at : List Service = filter (λ (s : Service). out_eq o s.out) f.served in
       let sent : List Service = filter (is_sent_by o) f.served in
       let lost : List Service = filter (is_dumped_at o) f.served in
-      let same : taken_for es o f.taken ≡ map (λ (s : Service). s.copy) at = sym (owed_at es f.taken) ∙ (ap at_out (sym f.each_once) ∙ served_at f.served) in
-      let left : map onward (taken_for es o f.taken) ≡ map step at = ap (map onward) same ∙ map_twice (λ (s : Service). s.copy) onward at in
-      let right : map step (sent ++ lost) ≡ sent_by o f.served ++ map onward (dumped_by o f.served) =
+      let same : looked_up_for es o f.taken ≡ map (λ (s : Service). s.copy) at = sym (owed_at es f.taken) ∙ (ap at_out (sym f.each_once) ∙ served_at f.served) in
+      let left : map onward (looked_up_for es o f.taken) ≡ map step at = ap (map onward) same ∙ map_twice (λ (s : Service). s.copy) onward at in
+      let right : map step (sent ++ lost) ≡ sent_by o f.served ++ map onward (copies_dumped_at o f.served) =
       map-append step sent lost ∙ ap (λ l. map step sent ++ l) (sym (map_twice (λ (s : Service). s.copy) onward lost))
       in
       let parts : IsPermutation (map step at) (map step (sent ++ lost)) = IsPermutation-map step at (sent ++ lost) (split (λ (s : Service). out_eq o s.out) (λ s. is_sent s.fate) f.served) in
-      subst (λ l. IsPermutation l (sent_by o f.served ++ map onward (dumped_by o f.served))) (sym left) (subst (λ l. IsPermutation (map step at) l) right parts)
+      subst (λ l. IsPermutation l (sent_by o f.served ++ map onward (copies_dumped_at o f.served))) (sym left) (subst (λ l. IsPermutation (map step at) l) right parts)

@@ -3,7 +3,7 @@ use Rattle.std.proofs.Common.{◌≡◌, ℕ, ◌<◌, List, length, map, get_or
 use Rattle.std.specs.List.{slice_get}
 use Rattle.std.proofs.lemmas.List.{length-map, length-set, map-set, set-set}
 use Rattle.std.proofs.lemmas.Option.{get_or_from_slice_get, same_Some}
-use Rattle.list_laws.proofs.Places.{slice_get-mapped, set-slice_get}
+use Rattle.spin_base.proofs.Places.{slice_get-mapped, set-slice_get}
 use Rattle.link_queue.specs.declared.links.LinkEnds.{LinkEnds}
 use Rattle.link_queue.specs.declared.links.Tx.{Tx}
 use Rattle.link_queue.specs.declared.links.Rx.{Rx}

@@ -3,8 +3,8 @@ use Rattle.std.proofs.Common.{◌≡◌, ℕ, List, [], ◌∷◌, ◌++◌, map
 use Rattle.std.proofs.lemmas.Option.{same_Some}
 use Rattle.std.specs.List.{All, AllZip, flat_map, slice_get}
 use Rattle.std.proofs.lemmas.List.Elements.{All-head}
-use Rattle.list_laws.proofs.Pairs.{All-left, All-right, All-from_map}
-use Rattle.list_laws.proofs.Places.{slice_get-mapped, All-at, unmapped}
+use Rattle.spin_base.proofs.Pairs.{All-left, All-right, All-from_map}
+use Rattle.spin_base.proofs.Places.{slice_get-mapped, All-at, unmapped}
 use Rattle.spin_base.specs.declared.chips.Chip.{Chip}
 use Rattle.spin_base.specs.declared.chips.Port.{Port}
 use Rattle.spin_base.specs.declared.copies.McCopy.{McCopy}
@@ -19,7 +19,7 @@ use Rattle.chip_node.specs.declared.ends.InEnd.{InEnd}
 use Rattle.chip_node.specs.declared.ends.OutEnd.{OutEnd}
 use Rattle.chip_node.specs.Ends.{IsInEndOf, IsOutEndOf}
 use Rattle.mesh_core.specs.State.{Setup}
-use Rattle.mesh_run.specs.Casting.{IsPairAt, IsRxAt, IsTxAt, Pair, actors_of}
+use Rattle.mesh_run.specs.Holders.{IsPairAt, IsRxAt, IsTxAt, Pair, actors_of}
 use Rattle.mesh_run.specs.Dealing.{IsPairOf, rxs_in, txs_in, unsent_in}
 use Rattle.mesh_run.specs.Lending.{tx_of, rx_of, txs_of, rxs_of, vertex_rxs, vertex_unsent}
 use Rattle.mesh_run.specs.Queues.{AreEnds}
@@ -73,13 +73,13 @@ module _ (u : Setup) (ends : List LinkEnds) (unsent : List (List McCopy)) (patie
         };
       }
 
-  -- where what they hold stands at its places, pairs are cast
-  pub are_cast : (cs : List Chip) (pairs : List Pair) → AllZip (IsPairOf u patience) cs pairs → Stand (tx_slots ends) (flat_map txs_in (actors_of pairs)) → Stand (rx_slots ends) (flat_map rxs_in (actors_of pairs)) →
+  -- where what they hold stands at its places, pairs are deal
+  pub are_dealt : (cs : List Chip) (pairs : List Pair) → AllZip (IsPairOf u patience) cs pairs → Stand (tx_slots ends) (flat_map txs_in (actors_of pairs)) → Stand (rx_slots ends) (flat_map rxs_in (actors_of pairs)) →
       Stand unsent (flat_map unsent_in (actors_of pairs)) → AllZip (IsPairAt u ends unsent patience) cs pairs
-  are_cast [] [] all txs rxs copies = tt
-  are_cast [] (p ∷ pairs) all txs rxs copies = absurd all
-  are_cast (c ∷ cs) [] all txs rxs copies = absurd all
-  are_cast (c ∷ cs) (p ∷ pairs) all txs rxs copies =
+  are_dealt [] [] all txs rxs copies = tt
+  are_dealt [] (p ∷ pairs) all txs rxs copies = absurd all
+  are_dealt (c ∷ cs) [] all txs rxs copies = absurd all
+  are_dealt (c ∷ cs) (p ∷ pairs) all txs rxs copies =
       let more = actors_of pairs in
       let T = λ (h : ℕ × Option Tx). slice_get (tx_slots ends) h.0 ≡ Some h.1 in
       let R = λ (h : ℕ × Option Rx). slice_get (rx_slots ends) h.0 ≡ Some h.1 in
@@ -91,7 +91,7 @@ module _ (u : Setup) (ends : List LinkEnds) (unsent : List (List McCopy)) (patie
             (All-left R (rxs_of p.router.inputs.items) (vertex_rxs p.bank.vertices.items ++ flat_map rxs_in more) rxs)
             (All-left R (vertex_rxs p.bank.vertices.items) (flat_map rxs_in more) rx_rest)
             (All-left U (vertex_unsent p.bank.vertices.items) (flat_map unsent_in more) copies),
-        are_cast cs pairs all.1 (All-right T (tx_of p.bank.inject ∷ []) (flat_map txs_in more) tx_rest) (All-right R (vertex_rxs p.bank.vertices.items) (flat_map rxs_in more) rx_rest)
+        are_dealt cs pairs all.1 (All-right T (tx_of p.bank.inject ∷ []) (flat_map txs_in more) tx_rest) (All-right R (vertex_rxs p.bank.vertices.items) (flat_map rxs_in more) rx_rest)
             (All-right U (vertex_unsent p.bank.vertices.items) (flat_map unsent_in more) copies),
       )
 

@@ -14,11 +14,11 @@ use Rattle.mesh_run.specs.declared.queues.Rested.{Rested}
 use Rattle.mesh_run.specs.declared.raised.RaisedMesh.{RaisedMesh}
 use Rattle.mesh_run.specs.declared.rounds.Logs.{Logs}
 use Rattle.mesh_run.specs.declared.standing.Standing.{Standing}
-use Rattle.mesh_run.specs.Casting.{IsPlayed, delivered_by, dumped_by}
+use Rattle.mesh_run.specs.Holders.{IsPlayed, delivered_by, dumped_by}
 use Rattle.mesh_run.specs.Lending.{IsSetup, vertex_place}
 use Rattle.mesh_run.specs.Playing.{IsPlayedOn}
-use Rattle.mesh_run.specs.Queues.{AreEnds, AreUp, DownTo, RestAll, StayUp, WasUp, is_empty, queue_of}
-use Rattle.mesh_run.specs.Raised.{IsRaised, first_of, has_none, mesh_of, ports_of, queues_of}
+use Rattle.mesh_run.specs.Queues.{AreEnds, AreUp, DownTo, RestAll, StayUp, WasUp, is_empty, queue_of_link}
+use Rattle.mesh_run.specs.Raised.{IsRaised, first_of, has_none, mesh_of, port_link_count, queues_of}
 use Rattle.mesh_run.specs.Standing.{HoldsAll}
 use Rattle.mesh_run.proofs.BringingUp.{fewer_up}
 
@@ -35,16 +35,16 @@ same_state u unsent inputs inputs' hands cores cores' delivered dumped a b = λ 
 
 -- ---- what links hold
 
-firsts : (es : List LinkEnds) → map first_of (map (λ (e : LinkEnds). Some e.tx) es) ≡ map queue_of es
+firsts : (es : List LinkEnds) → map first_of (map (λ (e : LinkEnds). Some e.tx) es) ≡ map queue_of_link es
 firsts [] = refl
-firsts (e ∷ es) = ap (λ l. queue_of e ∷ l) (firsts es)
+firsts (e ∷ es) = ap (λ l. queue_of_link e ∷ l) (firsts es)
 
 -- the queues of links that stand
-pub queues_are : (ends : List LinkEnds) (s : Standing) → HoldsAll ends s → queues_of s ≡ map queue_of ends
+pub queues_are : (ends : List LinkEnds) (s : Standing) → HoldsAll ends s → queues_of s ≡ map queue_of_link ends
 queues_are ends s holds = ap (map first_of) holds.txs ∙ firsts ends
 
 -- links that are up hold the queues
-pub up_queues : (cap more : ℕ) (queues : List (List McCopy)) (ends : List LinkEnds) → AreUp cap more queues ends → map queue_of ends ≡ queues
+pub up_queues : (cap more : ℕ) (queues : List (List McCopy)) (ends : List LinkEnds) → AreUp cap more queues ends → map queue_of_link ends ≡ queues
 up_queues cap more [] [] are = refl
 up_queues cap more [] (e ∷ ends) are = let long = are.long in absurd (omega (arith, long))
 up_queues cap more (q ∷ queues) [] are = let long = are.long in absurd (omega (arith, long))
@@ -96,11 +96,11 @@ back_were_up cap more queues up back are ends links = λ i e below.
 pub is_raised : (r : RaisedMesh) (back : List LinkEnds) (rested : Rested) → RestAll r.setup.capacity back r.standing rested → r.free ≡ rested.free → r.quiet ≡ rested.quiet → length r.queues.items ≡ length back →
     length r.cores.items ≤ length r.queues.items → IsRaised r
 is_raised r back rested all free_is quiet_is queues cores =
-    let same : queues_of r.standing ≡ map queue_of all.now = queues_are all.now r.standing all.holds in
+    let same : queues_of r.standing ≡ map queue_of_link all.now = queues_are all.now r.standing all.holds in
     record {
       ends = all.now;
       holds = all.holds;
-      up = subst (λ (l : List (List McCopy)). AreUp r.setup.capacity r.free l all.now) (sym same) (subst (λ n. AreUp r.setup.capacity n (map queue_of all.now) all.now) (sym free_is) all.up);
+      up = subst (λ (l : List (List McCopy)). AreUp r.setup.capacity r.free l all.now) (sym same) (subst (λ n. AreUp r.setup.capacity n (map queue_of_link all.now) all.now) (sym free_is) all.up);
       queues = queues ∙ sym all.long;
       cores = cores;
       quiet = quiet_is ∙ (all.quiet ∙ ap (list_all is_empty) (sym same));
@@ -109,7 +109,7 @@ is_raised r back rested all free_is quiet_is queues cores =
 -- the queues of a mesh that was raised
 pub raised_queues : (cap more : ℕ) (inputs cores : List (List McCopy)) (up : List LinkEnds) (s : Standing) (rested : Rested) → AreUp cap more (inputs ++ cores) up → RestAll cap up s rested → queues_of s ≡ inputs ++ cores
 raised_queues cap more inputs cores up s rested are all =
-    queues_are all.now s all.holds ∙ down_queues cap more (inputs ++ cores) (map queue_of all.now) up are all.down (length-map all.now queue_of ∙ all.long)
+    queues_are all.now s all.holds ∙ down_queues cap more (inputs ++ cores) (map queue_of_link all.now) up are all.down (length-map all.now queue_of_link ∙ all.long)
 
 pub raised_inputs : (queues inputs cores : List (List McCopy)) (n : ℕ) → queues ≡ inputs ++ cores → n ≡ length inputs → (take n queues ≡ inputs) × (drop n queues ≡ cores)
 raised_inputs queues inputs cores n is many = (ap (take n) is ∙ take_at inputs cores n (sym many), ap (drop n) is ∙ drop_at inputs cores n (sym many))
@@ -119,10 +119,10 @@ raised_inputs queues inputs cores n is many = (ap (take n) is ∙ take_at inputs
 pub widened_raised : (a b : RaisedMesh) (more : ℕ) → (raised : IsRaised a) → StayUp a.setup.capacity more raised.ends b.standing → b.setup ≡ a.setup → b.free ≡ more → b.quiet ≡ a.quiet → b.queues ≡ a.queues → b.cores ≡ a.cores →
     IsRaised b × (queues_of b.standing ≡ queues_of a.standing)
 widened_raised a b more raised stay setup free_is quiet queues cores =
-    let was : queues_of a.standing ≡ map queue_of raised.ends = queues_are raised.ends a.standing raised.holds in
-    let now : queues_of b.standing ≡ map queue_of raised.ends = queues_are stay.now b.standing stay.holds ∙ up_queues a.setup.capacity more (map queue_of raised.ends) stay.now stay.up in
+    let was : queues_of a.standing ≡ map queue_of_link raised.ends = queues_are raised.ends a.standing raised.holds in
+    let now : queues_of b.standing ≡ map queue_of_link raised.ends = queues_are stay.now b.standing stay.holds ∙ up_queues a.setup.capacity more (map queue_of_link raised.ends) stay.now stay.up in
     let same : queues_of b.standing ≡ queues_of a.standing = now ∙ sym was in
-    let long = stay.up.long ∙ length-map raised.ends queue_of in (
+    let long = stay.up.long ∙ length-map raised.ends queue_of_link in (
       record {
         ends = stay.now;
         holds = stay.holds;
@@ -140,10 +140,10 @@ pub stays_raised : (a : RaisedMesh) (s : Standing) (more : ℕ) → (raised : Is
     IsRaised (record a { standing = s; free = more }) × (mesh_of (record a { standing = s; free = more }) ≡ mesh_of a)
 stays_raised a s more raised stay =
     let both = widened_raised a (record a { standing = s; free = more }) more raised stay refl refl refl refl refl in
-    (both.0, same_state a.setup a.unsent.items _ _ a.hands.items _ _ a.delivered a.dumped (ap (take (ports_of a)) both.1) (ap (drop (ports_of a)) both.1))
+    (both.0, same_state a.setup a.unsent.items _ _ a.hands.items _ _ a.delivered a.dumped (ap (take (port_link_count a)) both.1) (ap (drop (port_link_count a)) both.1))
 
 -- before links are widened they have places for no copy more at least
-pub can_widen : (a : RaisedMesh) → (raised : IsRaised a) → AreUp a.setup.capacity 0 (map queue_of raised.ends) raised.ends
+pub can_widen : (a : RaisedMesh) → (raised : IsRaised a) → AreUp a.setup.capacity 0 (map queue_of_link raised.ends) raised.ends
 can_widen a raised =
     subst (λ (l : List (List McCopy)). AreUp a.setup.capacity 0 l raised.ends) (queues_are raised.ends a.standing raised.holds) (fewer_up a.setup.capacity a.free 0 (queues_of a.standing) raised.ends (omega arith) raised.up)
 
@@ -153,10 +153,10 @@ can_widen a raised =
 pub all_links : (r : RaisedMesh) → (raised : IsRaised r) → IsMesh (mesh_of r) → length raised.ends ≡ vertex_place r.setup (length r.setup.spots)
 all_links r raised mesh =
     let long = raised.up.long in
-    let whole = ap length (take-append-drop (ports_of r) (queues_of r.standing)) in
-    let parts = length-append (take (ports_of r) (queues_of r.standing)) (drop (ports_of r) (queues_of r.standing)) in
-    let inputs : length (take (ports_of r) (queues_of r.standing)) ≡ 7 * (r.setup.machine.width * r.setup.machine.height) = mesh.input_lists in
-    let cores : length (drop (ports_of r) (queues_of r.standing)) ≡ length r.setup.spots = mesh.core_lists in
+    let whole = ap length (take-append-drop (port_link_count r) (queues_of r.standing)) in
+    let parts = length-append (take (port_link_count r) (queues_of r.standing)) (drop (port_link_count r) (queues_of r.standing)) in
+    let inputs : length (take (port_link_count r) (queues_of r.standing)) ≡ 7 * (r.setup.machine.width * r.setup.machine.height) = mesh.input_lists in
+    let cores : length (drop (port_link_count r) (queues_of r.standing)) ≡ length r.setup.spots = mesh.core_lists in
     omega (arith, long, whole, parts, inputs, cores)
 
 pub whole_round : (patience turns : ℕ) (a b : RaisedMesh) (mid : Standing) (rested : Rested) (before now : Logs) → (raised : IsRaised a) → turns < a.free →
@@ -170,15 +170,15 @@ whole_round patience turns a b mid rested before now raised fits p all setup han
     let cores_many = raised.cores in
     let left = p.kept.long in
     let up_long = raised.up.long in
-    let same : queues_of b.standing ≡ map queue_of all.now = queues_are all.now b.standing all.holds in
+    let same : queues_of b.standing ≡ map queue_of_link all.now = queues_are all.now b.standing all.holds in
     let same_long = ap length same in
-    let mapped = length-map all.now queue_of in
+    let mapped = length-map all.now queue_of_link in
     let now_long = all.long in
     let long : length (queues_of b.standing) ≡ length (queues_of a.standing) = omega (arith, same_long, mapped, now_long, left, up_long) in
-    let inputs_a = length-take (ports_of a) (queues_of a.standing) in
-    let inputs_b = length-take (ports_of b) (queues_of b.standing) in
-    let cores_a = length-drop (ports_of a) (queues_of a.standing) in
-    let cores_b = length-drop (ports_of b) (queues_of b.standing) in (
+    let inputs_a = length-take (port_link_count a) (queues_of a.standing) in
+    let inputs_b = length-take (port_link_count b) (queues_of b.standing) in
+    let cores_a = length-drop (port_link_count a) (queues_of a.standing) in
+    let cores_b = length-drop (port_link_count b) (queues_of b.standing) in (
       is_raised b p.back rested (subst (λ (u : Setup). RestAll u.capacity p.back b.standing rested) (sym setup) all) free_is quiet (omega (arith, many, raised_many, left)) (omega (arith, many, few, cores_many)),
       record {
         setup = setup;
@@ -187,17 +187,17 @@ whole_round patience turns a b mid rested before now raised fits p all setup han
         cores_long = omega (arith, many, few, long, cores_a, cores_b);
         unsent_long = p.unsent_long;
         up = raised.ends;
-        are_up = subst (λ (l : List (List McCopy)). AreUp a.setup.capacity (turns + 1) l raised.ends) (sym (take-append-drop (ports_of a) (queues_of a.standing)))
+        are_up = subst (λ (l : List (List McCopy)). AreUp a.setup.capacity (turns + 1) l raised.ends) (sym (take-append-drop (port_link_count a) (queues_of a.standing)))
             (fewer_up a.setup.capacity a.free (turns + 1) (queues_of a.standing) raised.ends (omega (arith, fits)) raised.up);
-        cast = p.cast;
-        are_cast = p.are_cast;
+        deal = p.deal;
+        are_dealt = p.are_dealt;
         no_logs = p.no_logs;
         played = p.played;
         flows = p.flows;
         back = p.back;
         are_back = p.are_back;
         left = p.kept;
-        down = subst (DownTo p.back) (sym (take-append-drop (ports_of b) (queues_of b.standing) ∙ same)) all.down;
+        down = subst (DownTo p.back) (sym (take-append-drop (port_link_count b) (queues_of b.standing) ∙ same)) all.down;
         delivered = delivered_after ∙ (p.delivered ∙ ap (λ l. l ++ delivered_by p.played) delivered_before);
         dumped = dumped_after ∙ (p.dumped ∙ ap (λ l. l ++ dumped_by p.played) dumped_before);
       },
@@ -212,16 +212,16 @@ and_assoc false b c = refl
 pub none_waits : (r : RaisedMesh) → IsRaised r → (r.quiet && list_all is_empty r.unsent.items) ≡ has_none (mesh_of r)
 none_waits r raised =
     let qs = queues_of r.standing in
-    let n = ports_of r in
+    let n = port_link_count r in
     ap (λ (b : Bool). b && list_all is_empty r.unsent.items)
     (raised.quiet ∙ (ap (list_all is_empty) (sym (take-append-drop n qs)) ∙ list_all-append is_empty (take n qs) (drop n qs)))
     ∙ and_assoc (list_all is_empty (take n qs)) (list_all is_empty (drop n qs)) (list_all is_empty r.unsent.items)
 
 pub lowered : (r : RaisedMesh) (down inputs cores : List (List McCopy)) → (raised : IsRaised r) → length down ≡ length r.queues.items → DownTo raised.ends down → inputs ++ cores ≡ down → length cores ≡ length r.cores.items →
-    (inputs ≡ take (ports_of r) (queues_of r.standing)) × (cores ≡ drop (ports_of r) (queues_of r.standing))
+    (inputs ≡ take (port_link_count r) (queues_of r.standing)) × (cores ≡ drop (port_link_count r) (queues_of r.standing))
 lowered r down inputs cores raised long are split cores_long =
     let same : down ≡ queues_of r.standing = down_queues r.setup.capacity r.free (queues_of r.standing) down raised.ends raised.up are (long ∙ raised.queues) in
     let parts = length-append inputs cores in
     let whole = ap length split in
-    let cut = raised_inputs (queues_of r.standing) inputs cores (ports_of r) (sym (split ∙ same)) (omega (arith, parts, whole, long, cores_long)) in
+    let cut = raised_inputs (queues_of r.standing) inputs cores (port_link_count r) (sym (split ∙ same)) (omega (arith, parts, whole, long, cores_long)) in
     (sym cut.0, sym cut.1)

@@ -15,10 +15,10 @@ table_of tables i = slice_index_or tables i []
 
 -- The actor can take so many turns: its ends are ends of the links at their places, its log has room for all that may be
 -- logged, and a router's table is there.
-abbrev pub IsReady : List Link → List (List Entry) → ℕ → Actor → Type 0
-IsReady links tables turns (Router i r) =
+abbrev pub IsReadyActor : List Link → List (List Entry) → ℕ → Actor → Type 0
+IsReadyActor links tables turns (Router i r) =
     (i < length tables) × (24 * turns ≤ r.log.spare) × AreInEndsOf links r.inputs.items × AreOutEndsOf links r.outputs.items
-IsReady links tables turns (Bank b) = (turns ≤ b.log.spare) × IsOutEndOf links b.inject × HaveInEndsOf links b.vertices.items
+IsReadyActor links tables turns (Bank b) = (turns ≤ b.log.spare) × IsOutEndOf links b.inject × HaveInEndsOf links b.vertices.items
 
 -- what so many turns do to an actor
 abbrev pub ActorFlow : List (List Entry) → ℕ → Actor → Actor → Type 0
@@ -30,7 +30,7 @@ ActorFlow tables turns (Bank a) (Bank b) = BankFlow turns a b
 -- What so many turns do to an actor, and that it can take as many turns fewer afterwards.
 pub record PlaysOn (links : List Link) (tables : List (List Entry)) (turns : ℕ) (before after : Actor) : Type 0 where
   pub flow : ActorFlow tables turns before after
-  pub ready : (more : ℕ) → IsReady links tables (turns + more) before → IsReady links tables more after
+  pub ready : (more : ℕ) → IsReadyActor links tables (turns + more) before → IsReadyActor links tables more after
 
 -- What a worker's turn of this number does to an actor: one turn, or none where it is not the first.
 abbrev pub MayPlayOn : List Link → List (List Entry) → ℕ → Actor → Actor → Type 0

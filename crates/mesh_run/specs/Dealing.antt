@@ -14,18 +14,18 @@ use Rattle.link_queue.specs.declared.links.Tx.{Tx}
 use Rattle.link_queue.specs.declared.links.Rx.{Rx}
 use Rattle.chip_node.specs.declared.banks.CoreBank.{CoreBank}
 use Rattle.chip_node.specs.declared.routers.RouterNode.{RouterNode}
-use Rattle.chip_node.specs.Numbers.{numbers_of}
+use Rattle.chip_node.specs.Numbers.{vertex_numbers_of}
 use Rattle.chip_node.specs.Serving.{ports_of, outs_with_ends}
 use Rattle.mesh_core.specs.Ledger.{all_ports}
 use Rattle.mesh_core.specs.State.{Setup, queue_at}
 use Rattle.mesh_run.specs.declared.actors.Actor.{Actor}
 use Rattle.mesh_run.specs.declared.actors.Actor.TheVariants.{Router, Bank}
-use Rattle.mesh_run.specs.declared.kits.Kit.{Kit}
-use Rattle.mesh_run.specs.declared.kits.RouterKit.{RouterKit}
-use Rattle.mesh_run.specs.declared.kits.BankKit.{BankKit}
+use Rattle.mesh_run.specs.declared.spaces.ActorSpace.{ActorSpace}
+use Rattle.mesh_run.specs.declared.spaces.RouterSpace.{RouterSpace}
+use Rattle.mesh_run.specs.declared.spaces.BankSpace.{BankSpace}
 use Rattle.mesh_run.specs.declared.standing.Standing.{Standing}
-use Rattle.mesh_run.specs.Casting.{Pair, actors_of}
-use Rattle.mesh_run.specs.Lending.{has_place, IsThere, Lent, tx_of, txs_of, rxs_of, vertex_rxs, vertex_unsent, IsBehind, IsAtPort, IsOnChip}
+use Rattle.mesh_run.specs.Holders.{Pair, actors_of}
+use Rattle.mesh_run.specs.Lending.{has_queue_behind, IsThere, Lent, tx_of, txs_of, rxs_of, vertex_rxs, vertex_unsent, IsBehind, IsAtPort, IsOnChip}
 
 -- ---- what actors hold
 
@@ -62,14 +62,14 @@ pub record IsRouterOf (u : Setup) (patience : ℕ) (c : Chip) (r : RouterNode) :
   pub patient : r.patience ≡ patience
   pub ports : ports_of r.inputs.items ≡ all_ports
   pub inputs : All (IsAtPort u.machine c) r.inputs.items
-  pub outs : outs_with_ends r.outputs.items ≡ filter (has_place u c) all_outs
+  pub outs : outs_with_ends r.outputs.items ≡ filter (has_queue_behind u c) all_outs
   pub outputs : All (IsBehind u c) r.outputs.items
 
 -- A bank with all vertices of a chip.
 pub record IsBankOf (u : Setup) (c : Chip) (b : CoreBank) : Type 0 where
   pub place : b.inject.link ≡ queue_at u.machine c Local
   pub vertices : All (IsOnChip u c) b.vertices.items
-  pub all : (v : ℕ) (spot : Spot) → slice_get u.spots v ≡ Some spot → spot.chip ≡ c → Contains (numbers_of b.vertices.items) v
+  pub all : (v : ℕ) (spot : Spot) → slice_get u.spots v ≡ Some spot → spot.chip ≡ c → Contains (vertex_numbers_of b.vertices.items) v
 
 -- The router and the bank of a chip, with the chip's index.
 pub record IsPairOf (u : Setup) (patience : ℕ) (c : Chip) (p : Pair) : Type 0 where
@@ -80,39 +80,39 @@ pub record IsPairOf (u : Setup) (patience : ℕ) (c : Chip) (p : Pair) : Type 0 
 -- ---- dealing
 
 -- room for the ends of a router
-pub record IsRouterKit (k : RouterKit) : Type 0 where
+pub record IsRouterSpace (k : RouterSpace) : Type 0 where
   pub no_inputs : k.inputs.items ≡ []
   pub inputs : 7 ≤ k.inputs.spare
   pub no_outputs : k.outputs.items ≡ []
   pub outputs : 24 ≤ k.outputs.spare
 
 -- room for the vertices of a bank
-pub record IsBankKit (k : BankKit) : Type 0 where
+pub record IsBankSpace (k : BankSpace) : Type 0 where
   pub no_vertices : k.vertices.items ≡ []
   pub vertices : 24 ≤ k.vertices.spare
 
 -- room for the router and the bank of a chip
-pub record IsKitOf (m : Description) (c : Chip) (k : Kit) : Type 0 where
+pub record IsSpaceOf (m : Description) (c : Chip) (k : ActorSpace) : Type 0 where
   pub chip : k.chip ≡ c
   pub index : k.index ≡ index_of m c
-  pub router : IsRouterKit k.router
-  pub bank : IsBankKit k.bank
+  pub router : IsRouterSpace k.router
+  pub bank : IsBankSpace k.bank
 
 -- empty logs with room for all that so many turns can log
-pub record HasLogs (turns : ℕ) (k : Kit) : Type 0 where
+pub record HasLogs (turns : ℕ) (k : ActorSpace) : Type 0 where
   pub no_dumps : k.router.dumps.items ≡ []
   pub dumps : 24 * turns ≤ k.router.dumps.spare
   pub no_deliveries : k.bank.deliveries.items ≡ []
   pub deliveries : turns ≤ k.bank.deliveries.spare
 
--- a kit more for the chip of an index, where it is live
-abbrev pub AddsKit : Description → ℕ → ℕ → List Kit → List Kit → Type 0
-AddsKit m turns i old new =
-    ((is_live_chip m (chip_of m i) ≡ true) × (k : Kit) × IsKitOf m (chip_of m i) k × HasLogs turns k × (new ≡ old ++ k ∷ []))
+-- a space more for the chip of an index, where it is live
+abbrev pub AddsSpace : Description → ℕ → ℕ → List ActorSpace → List ActorSpace → Type 0
+AddsSpace m turns i old new =
+    ((is_live_chip m (chip_of m i) ≡ true) × (k : ActorSpace) × IsSpaceOf m (chip_of m i) k × HasLogs turns k × (new ≡ old ++ k ∷ []))
     ⊎ ((is_live_chip m (chip_of m i) ≡ false) × (new ≡ old))
 
--- the actors of a chip have the logs of its kit
-pub record HasLogsOf (k : Kit) (p : Pair) : Type 0 where
+-- the actors of a chip have the logs of its space
+pub record HasLogsOf (k : ActorSpace) (p : Pair) : Type 0 where
   pub dumps : p.router.log ≡ k.router.dumps
   pub deliveries : p.bank.log ≡ k.bank.deliveries
 
@@ -124,11 +124,11 @@ pub record Deals (actors : List Actor) (before after : Standing) (unsent left : 
   pub rxs : Lent None (flat_map rxs_in actors) before.rxs.items after.rxs.items
   pub copies : Lent [] (flat_map unsent_in actors) unsent left
 
--- The actors of a chip were made of a kit and of ends that were lent.
-pub record Casts (u : Setup) (patience : ℕ) (kit : Kit) (before after : Standing) (unsent left : List (List McCopy)) (old new : List Actor) : Type 0 where
+-- The actors of a chip were made of a space and of ends that were lent.
+pub record DealsChip (u : Setup) (patience : ℕ) (space : ActorSpace) (before after : Standing) (unsent left : List (List McCopy)) (old new : List Actor) : Type 0 where
   pub pair : Pair
-  pub is : IsPairOf u patience kit.chip pair
-  pub logs : HasLogsOf kit pair
+  pub is : IsPairOf u patience space.chip pair
+  pub logs : HasLogsOf space pair
   pub deals : Deals (actors_of (pair ∷ [])) before after unsent left
   pub put : new ≡ old ++ actors_of (pair ∷ [])
 

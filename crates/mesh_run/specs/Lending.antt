@@ -17,17 +17,17 @@ use Rattle.mesh_core.specs.State.{Setup, Queue, input, core, nowhere, behind, qu
 -- ---- places
 
 -- the place of a queue among all queues: those of ports, by their number, and then those of vertices
-abbrev pub place_of : Setup → Queue → Option ℕ
-place_of u (input i) = Some i
-place_of u (core v) = Some (7 * (u.machine.width * u.machine.height) + v)
-place_of u nowhere = None
+abbrev pub queue_place_of : Setup → Queue → Option ℕ
+queue_place_of u (input i) = Some i
+queue_place_of u (core v) = Some (7 * (u.machine.width * u.machine.height) + v)
+queue_place_of u nowhere = None
 
 -- the place of the queue behind an output, where there is one
 abbrev pub place_behind : Setup → Chip → Out → Option ℕ
-place_behind u c o = place_of u (behind u c o)
+place_behind u c o = queue_place_of u (behind u c o)
 
-abbrev pub has_place : Setup → Chip → Out → Bool
-has_place u c o = is_some (place_behind u c o)
+abbrev pub has_queue_behind : Setup → Chip → Out → Bool
+has_queue_behind u c o = is_some (place_behind u c o)
 
 -- the place of the queue of a vertex
 abbrev pub vertex_place : Setup → ℕ → ℕ

@@ -1,5 +1,5 @@
 pub mod Acting
-pub mod Casting
+pub mod Holders
 pub mod Dealing
 pub mod Lending
 pub mod Playing

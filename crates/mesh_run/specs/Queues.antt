@@ -32,8 +32,8 @@ abbrev pub places_for : ℕ → ℕ → ℕ → ℕ
 places_for cap turns held = min cap (2 * (held + turns + 1))
 
 -- how many places a link has left, and as good as endless ones where it has as many as its queue
-abbrev pub free_of : ℕ → ℕ → ℕ → ℕ
-free_of cap places held = if places == cap then 18446744073709551615 else places - held
+abbrev pub free_places_of : ℕ → ℕ → ℕ → ℕ
+free_places_of cap places held = if places == cap then 18446744073709551615 else places - held
 
 -- A link of a queue of this capacity, with places for so many copies more, with the whole queue as its first list, and of which
 -- nothing was sent, taken or noted yet.
@@ -67,8 +67,8 @@ abbrev pub DownTo : List LinkEnds → List (List McCopy) → Type 0
 DownTo ends after = (i : ℕ) (e : LinkEnds) (q : List McCopy) → i < length ends → IsDown (slice_index_or ends i e) (slice_index_or after i q)
 
 -- the queue of which a link's ends know that it was there first
-abbrev pub queue_of : LinkEnds → List McCopy
-queue_of e = (sending e.tx).first
+abbrev pub queue_of_link : LinkEnds → List McCopy
+queue_of_link e = (sending e.tx).first
 
 -- whether a queue holds no copy
 abbrev pub is_empty : List McCopy → Bool
@@ -92,9 +92,9 @@ pub record RestAll (cap : ℕ) (before : List LinkEnds) (after : Standing) (rest
   pub now : List LinkEnds
   pub holds : HoldsAll now after
   pub long : length now ≡ length before
-  pub up : AreUp cap rested.free (map queue_of now) now
-  pub down : DownTo before (map queue_of now)
-  pub quiet : rested.quiet ≡ list_all is_empty (map queue_of now)
+  pub up : AreUp cap rested.free (map queue_of_link now) now
+  pub down : DownTo before (map queue_of_link now)
+  pub quiet : rested.quiet ≡ list_all is_empty (map queue_of_link now)
 
 -- a link at a place of which the queue is the same, with places for so many copies more
 pub record UpAt (cap more : ℕ) (ends : List LinkEnds) (place : ℕ) (queue : List McCopy) (after : Standing) : Type 0 where
@@ -106,4 +106,4 @@ pub record UpAt (cap more : ℕ) (ends : List LinkEnds) (place : ℕ) (queue : L
 pub record StayUp (cap more : ℕ) (before : List LinkEnds) (after : Standing) : Type 0 where
   pub now : List LinkEnds
   pub holds : HoldsAll now after
-  pub up : AreUp cap more (map queue_of before) now
+  pub up : AreUp cap more (map queue_of_link before) now

@@ -20,17 +20,17 @@ abbrev pub queues_of : Standing → List (List McCopy)
 queues_of s = map first_of s.txs.items
 
 -- how many of the links are those of ports
-abbrev pub ports_of : RaisedMesh → ℕ
-ports_of r = length r.queues.items - length r.cores.items
+abbrev pub port_link_count : RaisedMesh → ℕ
+port_link_count r = length r.queues.items - length r.cores.items
 
 -- The mesh that it is.
 abbrev pub mesh_of : RaisedMesh → State
 mesh_of r = record {
   setup = r.setup;
   unsent = r.unsent.items;
-  inputs = take (ports_of r) (queues_of r.standing);
+  inputs = take (port_link_count r) (queues_of r.standing);
   hands = r.hands.items;
-  cores = drop (ports_of r) (queues_of r.standing);
+  cores = drop (port_link_count r) (queues_of r.standing);
   delivered = r.delivered;
   dumped = r.dumped;
 }

@@ -3,7 +3,7 @@ use Rattle.std.specs.Prelude.{◌≡◌, ℕ, List, [], ◌∷◌, ◌++◌, Opt
 use Rattle.spin_base.specs.declared.chips.Spot.{Spot}
 use Rattle.spin_base.specs.declared.copies.McCopy.{McCopy}
 use Rattle.link_queue.specs.declared.links.Rx.{Rx}
-use Rattle.net_tables.specs.NetsOn.{vertex_at}
+use Rattle.machine_desc.specs.NetsOn.{vertex_at}
 use Rattle.chip_node.specs.declared.banks.BankVertex.{BankVertex}
 use Rattle.mesh_core.specs.State.{Setup}
 use Rattle.mesh_run.specs.Lending.{Lent, rx_of, vertex_place}

@@ -1,7 +1,7 @@
 // What takes turns in a round: the router of a chip, or its bank of cores.
 ghost use Rattle.std.specs.Prelude.{◌≡◌, ℕ, ◌+◌};
 
-use crate::waking::{Awake, Seats};
+use crate::waking::{ActorPlaces, Awake};
 use chip_node::{CoreBank, RouterNode};
 use link_queue::Link;
 use spin_base::Shared;
@@ -18,7 +18,7 @@ pub enum Actor {
 impl Shared for Actor {}
 
 impl Actor {
-    ghost use Rattle.mesh_run.specs.Acting.{IsReady, PlaysOn};
+    ghost use Rattle.mesh_run.specs.Acting.{IsReadyActor, PlaysOn};
 
     /// One turn, of this number, of the actor at place `k` of its share. It may put the actor to sleep, and wake others.
     pub(crate) fn turn<R: Wait>(
@@ -27,21 +27,21 @@ impl Actor {
         links: &[Link],
         tables: &[Tcam],
         number: u32,
-        seats: &Seats,
+        actor_places: &ActorPlaces,
         k: usize,
         awake: &mut Awake,
     )
-        requires { IsReady links.now tables.now 1 self.old }
+        requires { IsReadyActor links.now tables.now 1 self.old }
         ensures { PlaysOn links.now tables.now 1 self.old self.new }
     {
         match self {
             Actor::Router(index, node) => {
                 let served = node.turn(rt, links, &tables[*index as usize], number);
-                awake.note_router(seats, k, node, &served);
+                awake.note_router(actor_places, k, node, &served);
             }
             Actor::Bank(bank) => {
                 let turn = bank.turn(rt, links, number);
-                awake.note_bank(seats, k, turn);
+                awake.note_bank(actor_places, k, turn);
             }
         }
     }

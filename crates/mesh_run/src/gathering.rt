@@ -25,8 +25,10 @@ pub(crate) fn links_of<R: Wait>(
     requires inputs_fit { All (λ q. length q ≤ cap) inputs.old.items }
     requires cores_fit { All (λ q. length q ≤ cap) cores.old.items }
     ensures cores_long { length cores.new.items ≡ length cores.old.items }
-    ensures long { OnOk result (length inputs.new.items ≡ length inputs.old.items + length cores.old.items) }
-    ensures up { IfOk result (λ s. (ends : List LinkEnds) × HoldsAll ends s × AreUp cap (turns + 1) (inputs.old.items ++ cores.old.items) ends) }
+    ensures long { OnOk result (length inputs.new.items
+        ≡ length inputs.old.items + length cores.old.items) }
+    ensures up { IfOk result (λ s. (ends : List LinkEnds) × HoldsAll ends s
+        × AreUp cap (turns + 1) (inputs.old.items ++ cores.old.items) ends) }
     ensures inputs_back { OnErr result (inputs.new.items ≡ inputs.old.items) }
     ensures cores_back { OnErr result (cores.new.items ≡ cores.old.items) }
 {

@@ -7,11 +7,11 @@ ghost use Rattle.spin_base.specs.declared.routes.Out.{Out};
 ghost use Rattle.spin_base.specs.Outputs.{all_outs};
 ghost use Rattle.mesh_core.specs.Ledger.{all_ports};
 ghost use Rattle.machine_desc.specs.Live.{IsInside};
-ghost use Rattle.chip_node.specs.Numbers.{numbers_of};
+ghost use Rattle.chip_node.specs.Numbers.{vertex_numbers_of};
 ghost use Rattle.chip_node.specs.Serving.{ports_of, outs_with_ends};
 ghost use Rattle.mesh_core.specs.State.{queue_at};
-ghost use Rattle.mesh_run.specs.Lending.{place_behind, has_place, vertex_place, IsSetup, IsThere, Lent, LendsOut, tx_of, rx_of, txs_of, rxs_of, vertex_rxs, vertex_unsent, IsBehind, IsAtPort, IsOnChip};
-ghost use Rattle.net_tables.specs.NetsOn.{vertex_at};
+ghost use Rattle.mesh_run.specs.Lending.{place_behind, has_queue_behind, vertex_place, IsSetup, IsThere, Lent, LendsOut, tx_of, rx_of, txs_of, rxs_of, vertex_rxs, vertex_unsent, IsBehind, IsAtPort, IsOnChip};
+ghost use Rattle.machine_desc.specs.NetsOn.{vertex_at};
 ghost use Rattle.mesh_run.specs.Vertices.{LendsVertex};
 
 use crate::standing::take_at;
@@ -106,9 +106,12 @@ pub(crate) fn lend_outputs(
     requires none_yet { outputs.old.items ≡ [] }
     requires spare { length outs.now ≤ outputs.old.spare }
     requires different { AllPairs (λ a b. a ≢ b) outs.now }
-    requires there { (o : Out) (p : ℕ) → Contains outs.now o → place_behind setup.now chip o ≡ Some p → IsThere txs.old.items p }
-    requires apart { (a b : Out) (p : ℕ) → Contains outs.now a → Contains outs.now b → place_behind setup.now chip a ≡ Some p → place_behind setup.now chip b ≡ Some p → a ≡ b }
-    ensures outs { outs_with_ends outputs.new.items ≡ filter (has_place setup.now chip) outs.now }
+    requires there { (o : Out) (p : ℕ) → Contains outs.now o
+        → place_behind setup.now chip o ≡ Some p → IsThere txs.old.items p }
+    requires apart { (a b : Out) (p : ℕ) → Contains outs.now a → Contains outs.now b
+        → place_behind setup.now chip a ≡ Some p → place_behind setup.now chip b ≡ Some p → a ≡ b }
+    ensures outs { outs_with_ends outputs.new.items
+        ≡ filter (has_queue_behind setup.now chip) outs.now }
     ensures places { All (IsBehind setup.now chip) outputs.new.items }
     ensures lent { Lent None (txs_of outputs.new.items) txs.old.items txs.new.items }
 {
@@ -129,7 +132,8 @@ fn lend_output(
     requires setup { IsSetup setup.now }
     requires spare { 1 ≤ outputs.old.spare }
     requires there { (p : ℕ) → place_behind setup.now chip out ≡ Some p → IsThere txs.old.items p }
-    ensures lends { LendsOut setup.now chip out txs.old.items txs.new.items outputs.old.items outputs.new.items }
+    ensures lends { LendsOut setup.now chip out txs.old.items txs.new.items outputs.old.items
+        outputs.new.items }
     ensures spare { outputs.old.spare ≤ outputs.new.spare + 1 }
 {
     if let Some(place) = place_behind(setup, chip, out) {
@@ -158,7 +162,8 @@ pub(crate) fn lend_inputs(
     requires none_yet { inputs.old.items ≡ [] }
     requires spare { length ports.now ≤ inputs.old.spare }
     requires different { AllPairs (λ a b. a ≢ b) ports.now }
-    requires there { (port : Port) → Contains ports.now port → IsThere rxs.old.items (queue_at machine.now chip port) }
+    requires there { (port : Port) → Contains ports.now port
+        → IsThere rxs.old.items (queue_at machine.now chip port) }
     ensures ports { ports_of inputs.new.items ≡ ports.now }
     ensures places { All (IsAtPort machine.now chip) inputs.new.items }
     ensures lent { Lent None (rxs_of inputs.new.items) rxs.old.items rxs.new.items }
@@ -196,9 +201,11 @@ pub(crate) fn lend_vertices(
     requires none_yet { vertices.old.items ≡ [] }
     requires spare { 24 ≤ vertices.old.spare }
     requires unsent_long { length unsent.old.items ≡ length setup.now.spots }
-    requires there { (v : ℕ) (spot : Spot) → slice_get setup.now.spots v ≡ Some spot → spot.chip ≡ chip → IsThere rxs.old.items (vertex_place setup.now v) }
+    requires there { (v : ℕ) (spot : Spot) → slice_get setup.now.spots v ≡ Some spot
+        → spot.chip ≡ chip → IsThere rxs.old.items (vertex_place setup.now v) }
     ensures each { All (IsOnChip setup.now chip) vertices.new.items }
-    ensures all { (v : ℕ) (spot : Spot) → slice_get setup.now.spots v ≡ Some spot → spot.chip ≡ chip → Contains (numbers_of vertices.new.items) v }
+    ensures all { (v : ℕ) (spot : Spot) → slice_get setup.now.spots v ≡ Some spot → spot.chip ≡ chip
+        → Contains (vertex_numbers_of vertices.new.items) v }
     ensures rxs { Lent None (vertex_rxs vertices.new.items) rxs.old.items rxs.new.items }
     ensures unsent { Lent [] (vertex_unsent vertices.new.items) unsent.old.items unsent.new.items }
 {
@@ -221,8 +228,10 @@ fn lend_vertex(
     requires numbered { spot.core < 24 }
     requires spare { 1 ≤ vertices.old.spare }
     requires unsent_long { length unsent.old.items ≡ length setup.now.spots }
-    requires there { (v : ℕ) → vertex_at setup.now.spots spot ≡ Some v → IsThere rxs.old.items (vertex_place setup.now v) }
-    ensures lends { LendsVertex setup.now spot rxs.old.items rxs.new.items unsent.old.items unsent.new.items vertices.old.items vertices.new.items }
+    requires there { (v : ℕ) → vertex_at setup.now.spots spot ≡ Some v
+        → IsThere rxs.old.items (vertex_place setup.now v) }
+    ensures lends { LendsVertex setup.now spot rxs.old.items rxs.new.items unsent.old.items
+        unsent.new.items vertices.old.items vertices.new.items }
     ensures spare { vertices.old.spare ≤ vertices.new.spare + 1 }
 {
     if let Some(vertex) = setup.vertex_at(spot) {

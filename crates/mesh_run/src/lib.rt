@@ -5,9 +5,8 @@
 #![tactic(auto)]
 
 mod actors;
-mod casting;
+mod dealing;
 mod gathering;
-mod kits;
 pub mod laws;
 mod lending;
 mod queues;
@@ -15,6 +14,7 @@ mod raised;
 mod returning;
 mod rounds;
 mod shares;
+mod spaces;
 mod standing;
 mod waking;
 

@@ -5,10 +5,10 @@
 ghost use Rattle.std.specs.Prelude.{◌≡◌, ℕ, ◌+◌, ◌<◌, ◌≤◌, List, All, OnErr, OnOk, IfOk, Some, length, map, slice_get};
 ghost use Rattle.link_queue.specs.declared.links.LinkEnds.{LinkEnds};
 ghost use Rattle.mesh_run.specs.Standing.{HoldsAll, RisenTo};
-ghost use Rattle.mesh_run.specs.Queues.{AreUp, AreEnds, DownTo, IsDown, IsUp, RaisesLink, RestAll, RestsAt, StayUp, UpAt, WasUp, free_of, places_for, queue_of};
+ghost use Rattle.mesh_run.specs.Queues.{AreUp, AreEnds, DownTo, IsDown, IsUp, RaisesLink, RestAll, RestsAt, StayUp, UpAt, WasUp, free_places_of, places_for, queue_of_link};
 
 use crate::standing::{Rising, Standing};
-use link_queue::{LinkEnds, link_down, link_up, rest, widened};
+use link_queue::{AtRest, LinkEnds, link_down, link_up, rest};
 use spin_base::{Fifo, McCopy, Memory, Seq};
 use std::alloc::Global;
 use std::sync::Wait;
@@ -30,7 +30,8 @@ pub(crate) fn bring_up<R: Wait>(
 ) -> Result<Standing, Memory>
     requires some { 0 < cap }
     requires fit { All (λ q. length q ≤ cap) queues.now }
-    ensures { IfOk result (λ s. (ends : List LinkEnds) × HoldsAll ends s × AreUp cap (turns + 1) queues.now ends) }
+    ensures { IfOk result (λ s. (ends : List LinkEnds) × HoldsAll ends s
+        × AreUp cap (turns + 1) queues.now ends) }
 {
     let mut rising = Rising::over(alloc, queues.len())?;
     for place in 0..queues.len() {
@@ -84,7 +85,8 @@ fn link_places(cap: u32, turns: u32, held: usize) -> u32
 /// All links rest: each keeps what it holds.
 pub(crate) fn rest_all<R: Wait>(rt: &R, standing: &mut Standing, cap: u32) -> Rested
     requires { (ends : List LinkEnds) × HoldsAll ends standing.old × All (WasUp cap) ends }
-    ensures { (ends : List LinkEnds) → HoldsAll ends standing.old → RestAll cap ends standing.new result }
+    ensures { (ends : List LinkEnds) → HoldsAll ends standing.old
+        → RestAll cap ends standing.new result }
 {
     let mut quiet = true;
     let mut free = usize::MAX;
@@ -98,11 +100,13 @@ pub(crate) fn rest_all<R: Wait>(rt: &R, standing: &mut Standing, cap: u32) -> Re
 
 // The link at a place rests. How many copies it holds.
 fn rest_at<R: Wait>(rt: &R, standing: &mut Standing, place: usize) -> usize
-    requires { (ends : List LinkEnds) × (old : LinkEnds) × HoldsAll ends standing.old × (slice_get ends place ≡ Some old) × AreEnds old }
-    ensures { (ends : List LinkEnds) (old : LinkEnds) → HoldsAll ends standing.old → slice_get ends place ≡ Some old → RestsAt ends place old standing.new result }
+    requires { (ends : List LinkEnds) × (old : LinkEnds) × HoldsAll ends standing.old
+        × (slice_get ends place ≡ Some old) × AreEnds old }
+    ensures { (ends : List LinkEnds) (old : LinkEnds) → HoldsAll ends standing.old
+        → slice_get ends place ≡ Some old → RestsAt ends place old standing.new result }
 {
     let (tx, rx) = standing.take_ends(place);
-    let (tx, rx, held) = rest(rt, &standing.links[place], tx, rx);
+    let AtRest { tx, rx, held, .. } = rest(rt, &standing.links[place], tx, rx);
     standing.put_ends(place, tx, rx);
     held
 }
@@ -110,7 +114,7 @@ fn rest_at<R: Wait>(rt: &R, standing: &mut Standing, place: usize) -> usize
 // How many places are left in a link, or the greatest number where it has as many as its queue.
 fn free_places(places: usize, held: usize, cap: u32) -> usize
     requires { held ≤ places }
-    ensures { result ≡ free_of cap places held }
+    ensures { result ≡ free_places_of cap places held }
 {
     if places == cap as usize {
         usize::MAX
@@ -128,9 +132,12 @@ pub(crate) fn widen_all<R: Wait>(
     turns: u32,
 ) -> Result<(), Memory>
     requires some { 0 < cap }
-    requires up { (ends : List LinkEnds) × HoldsAll ends standing.old × AreUp cap 0 (map queue_of ends) ends }
-    ensures wide { OnOk result ((ends : List LinkEnds) → HoldsAll ends standing.old → StayUp cap (turns + 1) ends standing.new) }
-    ensures back { OnErr result ((ends : List LinkEnds) → HoldsAll ends standing.old → StayUp cap 0 ends standing.new) }
+    requires up { (ends : List LinkEnds) × HoldsAll ends standing.old
+        × AreUp cap 0 (map queue_of_link ends) ends }
+    ensures wide { OnOk result ((ends : List LinkEnds) → HoldsAll ends standing.old
+        → StayUp cap (turns + 1) ends standing.new) }
+    ensures back { OnErr result ((ends : List LinkEnds) → HoldsAll ends standing.old
+        → StayUp cap 0 ends standing.new) }
 {
     for place in 0..standing.links.len() {
         widen_at(rt, alloc, standing, place, cap, turns)?;
@@ -148,9 +155,15 @@ fn widen_at<R: Wait>(
     turns: u32,
 ) -> Result<(), Memory>
     requires some { 0 < cap }
-    requires up { (ends : List LinkEnds) × (old : LinkEnds) × HoldsAll ends standing.old × (slice_get ends place ≡ Some old) × IsUp cap 0 (queue_of old) old }
-    ensures wide { OnOk result ((ends : List LinkEnds) (old : LinkEnds) → HoldsAll ends standing.old → slice_get ends place ≡ Some old → IsUp cap 0 (queue_of old) old → UpAt cap (turns + 1) ends place (queue_of old) standing.new) }
-    ensures back { OnErr result ((ends : List LinkEnds) (old : LinkEnds) → HoldsAll ends standing.old → slice_get ends place ≡ Some old → IsUp cap 0 (queue_of old) old → UpAt cap 0 ends place (queue_of old) standing.new) }
+    requires up { (ends : List LinkEnds) × (old : LinkEnds) × HoldsAll ends standing.old
+        × (slice_get ends place ≡ Some old) × IsUp cap 0 (queue_of_link old) old }
+    ensures wide { OnOk result ((ends : List LinkEnds) (old : LinkEnds) → HoldsAll ends standing.old
+        → slice_get ends place ≡ Some old → IsUp cap 0 (queue_of_link old) old
+        → UpAt cap (turns + 1) ends place (queue_of_link old) standing.new) }
+    ensures back { OnErr result ((ends : List LinkEnds) (old : LinkEnds)
+        → HoldsAll ends standing.old → slice_get ends place ≡ Some old
+        → IsUp cap 0 (queue_of_link old) old
+        → UpAt cap 0 ends place (queue_of_link old) standing.new) }
 {
     let held = rest_at(rt, standing, place);
     let places = standing.links[place].places();
@@ -159,7 +172,13 @@ fn widen_at<R: Wait>(
     }
     let (tx, rx) = standing.take_ends(place);
     let wider = link_places(cap, turns, held);
-    match widened(rt, alloc, &standing.links[place], tx, rx, held, wider) {
+    let resting = AtRest {
+        link: &standing.links[place],
+        tx,
+        rx,
+        held,
+    };
+    match resting.widened(rt, alloc, wider) {
         Ok(ends) => {
             standing.set(place, ends);
             Ok(())
@@ -173,7 +192,8 @@ fn widen_at<R: Wait>(
 
 /// Brings all links down: at the place of each, what it holds.
 pub(crate) fn bring_down<R: Wait>(rt: &R, standing: Standing, queues: &mut Vec<Fifo<McCopy>>)
-    requires ends { (ends : List LinkEnds) × HoldsAll ends standing × All AreEnds ends × (length ends ≤ length queues.old.items) }
+    requires ends { (ends : List LinkEnds) × HoldsAll ends standing × All AreEnds ends
+        × (length ends ≤ length queues.old.items) }
     ensures long { length queues.new.items ≡ length queues.old.items }
     ensures down { (ends : List LinkEnds) → HoldsAll ends standing → DownTo ends queues.new.items }
 {

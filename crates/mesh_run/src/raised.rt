@@ -1,15 +1,15 @@
 // A mesh whose links stay up between rounds.
-ghost use Rattle.std.specs.Prelude.{◌≡◌, ◌<◌, ◌≤◌, IfErr, IfOk};
+ghost use Rattle.std.specs.Prelude.{◌≡◌, ◌<◌, IfErr, IfOk};
 ghost use Rattle.std.specs.List.{list_all};
 ghost use Rattle.mesh_core.specs.State.{IsMesh};
-ghost use Rattle.mesh_run.specs.Casting.{IsPlayed};
+ghost use Rattle.mesh_run.specs.Holders.{IsPlayed};
 ghost use Rattle.mesh_run.specs.Queues.{is_empty};
 ghost use Rattle.mesh_run.specs.Raised.{IsRaised, has_none, mesh_of};
 
 use crate::gathering::{links_of, scatter};
-use crate::kits::live_kits;
 use crate::queues::{bring_down, rest_all, widen_all};
 use crate::rounds::{Logs, Pace, play_links};
+use crate::spaces::live_spaces;
 use crate::standing::{Standing, room_for};
 use mesh_core::{Hand, MeshParts, MeshSetup};
 use spin_base::{Delivery, DumpRec, Fifo, Gate, McCopy, Memory, Seq};
@@ -83,8 +83,8 @@ impl RaisedMesh {
         }
     }
 
-    /// One round: the router and the bank of each live chip take `pace.turns` turns, in `pace.workers` workers. All memory is
-    /// taken before the first turn.
+    /// One round: the router and the bank of each live chip take `pace.turns` turns, in `pace.workers` workers, of which each
+    /// enters the gate in phase `number`. All memory is taken before the first turn.
     ///
     /// # Errors
     ///
@@ -94,37 +94,38 @@ impl RaisedMesh {
         rt: &R,
         alloc: Global,
         pace: Pace,
+        number: u32,
         gate: &G,
     ) -> Result<RaisedMesh, (RaisedMesh, Memory)>
         requires raised { IsRaised self }
         requires mesh { IsMesh (mesh_of self) }
-        requires patient { 1 ≤ pace.patience }
-        requires workers { 1 ≤ pace.workers }
         ensures raised { IfOk result IsRaised }
-        ensures played { IfOk result (λ r. IsPlayed pace.patience pace.turns (mesh_of self) (mesh_of r)) }
+        ensures played { IfOk result (λ r. IsPlayed pace.patience pace.turns (mesh_of self)
+            (mesh_of r)) }
         ensures still_raised { IfErr result (λ b. IsRaised b.0) }
         ensures back { IfErr result (λ b. mesh_of b.0 ≡ mesh_of self) }
     {
         let mut raised = self.with_places(rt, alloc, pace.turns)?;
-        let Ok(kits) = live_kits(alloc, raised.setup.machine(), pace.turns) else {
+        let Ok(spaces) = live_spaces(alloc, raised.setup.machine(), pace.turns) else {
             return Err((raised, Memory));
         };
-        let Ok(actors) = room_for(alloc, 2 * kits.len()) else {
+        let Ok(actors) = room_for(alloc, 2 * spaces.len()) else {
             return Err((raised, Memory));
         };
         let cap = raised.setup.capacity();
-        match Logs::over(raised.delivered, raised.dumped, kits.len(), pace.turns) {
+        match Logs::over(raised.delivered, raised.dumped, spaces.len(), pace.turns) {
             Ok(mut logs) => {
                 play_links(
                     rt,
                     alloc,
                     &raised.setup,
-                    kits,
+                    spaces,
                     actors,
                     &mut raised.standing,
                     &mut raised.unsent,
                     &mut logs,
                     pace,
+                    number,
                     gate,
                 );
                 let rested = rest_all(rt, &mut raised.standing, cap);

@@ -12,7 +12,7 @@ use spin_base::{Delivery, DumpRec, Fifo, McCopy, Out, Port, Room, Seq};
 
 /// Takes all actors apart: ends go back to their links, copies that are not sent to their vertices, and logs to the
 /// lists of the mesh, in the order of the actors.
-pub(crate) fn dismiss(
+pub(crate) fn return_actors(
     actors: Vec<Actor>,
     standing: &mut Standing,
     unsent: &mut Vec<Fifo<McCopy>>,
@@ -26,19 +26,22 @@ pub(crate) fn dismiss(
     requires dumped { length (flat_map dumped_in actors.items) ≤ dumped.old.spare }
     ensures links { standing.new.links ≡ standing.old.links }
     ensures rooms { standing.new.rooms ≡ standing.old.rooms }
-    ensures txs { standing.new.txs.items ≡ put_all standing.old.txs.items (flat_map txs_in actors.items) }
-    ensures rxs { standing.new.rxs.items ≡ put_all standing.old.rxs.items (flat_map rxs_in actors.items) }
+    ensures txs { standing.new.txs.items
+        ≡ put_all standing.old.txs.items (flat_map txs_in actors.items) }
+    ensures rxs { standing.new.rxs.items
+        ≡ put_all standing.old.rxs.items (flat_map rxs_in actors.items) }
     ensures unsent { unsent.new.items ≡ put_all unsent.old.items (flat_map unsent_in actors.items) }
-    ensures delivered { delivered.new.items ≡ delivered.old.items ++ flat_map delivered_in actors.items }
+    ensures delivered { delivered.new.items
+        ≡ delivered.old.items ++ flat_map delivered_in actors.items }
     ensures dumped { dumped.new.items ≡ dumped.old.items ++ flat_map dumped_in actors.items }
 {
     for actor in actors {
-        dismiss_actor(actor, standing, unsent, delivered, dumped);
+        return_actor(actor, standing, unsent, delivered, dumped);
     }
 }
 
 // Takes an actor apart.
-fn dismiss_actor(
+fn return_actor(
     actor: Actor,
     standing: &mut Standing,
     unsent: &mut Vec<Fifo<McCopy>>,
@@ -57,7 +60,8 @@ fn dismiss_actor(
     ensures unsent { unsent.new.items ≡ put_all unsent.old.items (unsent_in actor) }
     ensures delivered { delivered.new.items ≡ delivered.old.items ++ delivered_in actor }
     ensures dumped { dumped.new.items ≡ dumped.old.items ++ dumped_in actor }
-    ensures delivered_spare { delivered.new.spare + length (delivered_in actor) ≡ delivered.old.spare }
+    ensures delivered_spare { delivered.new.spare + length (delivered_in actor)
+        ≡ delivered.old.spare }
     ensures dumped_spare { dumped.new.spare + length (dumped_in actor) ≡ dumped.old.spare }
 {
     match actor {

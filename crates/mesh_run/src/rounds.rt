@@ -3,20 +3,20 @@ ghost use Rattle.std.specs.Prelude.{◌≡◌, ℕ, ◌+◌, ◌*◌, ◌<◌, �
 ghost use Rattle.std.specs.List.{AllZip};
 ghost use Rattle.link_queue.specs.declared.links.LinkEnds.{LinkEnds};
 ghost use Rattle.mesh_core.specs.State.{IsMesh};
-ghost use Rattle.mesh_run.specs.Casting.{IsPlayed, live_chips};
-ghost use Rattle.mesh_run.specs.Dealing.{HasLogs, IsKitOf};
+ghost use Rattle.mesh_run.specs.Holders.{IsPlayed, live_chips};
+ghost use Rattle.mesh_run.specs.Dealing.{HasLogs, IsSpaceOf};
 ghost use Rattle.mesh_run.specs.Lending.{IsSetup, vertex_place};
 ghost use Rattle.mesh_run.specs.Playing.{IsPlayedOn};
 ghost use Rattle.mesh_run.specs.Standing.{HoldsAll};
 ghost use Rattle.mesh_run.specs.Queues.{AreEnds};
 
 use crate::actors::Actor;
-use crate::casting::cast;
-use crate::kits::Kit;
+use crate::dealing::deal;
 use crate::lending::OUT_COUNT;
 use crate::raised::RaisedMesh;
-use crate::returning::dismiss;
+use crate::returning::return_actors;
 use crate::shares::play;
+use crate::spaces::ActorSpace;
 use crate::standing::Standing;
 use mesh_core::{MeshParts, MeshSetup};
 use spin_base::{Delivery, DumpRec, Fifo, Gate, McCopy, Memory, Room, Seq};
@@ -24,14 +24,16 @@ use std::alloc::Global;
 use std::sync::Wait;
 use std::thread::Threads;
 
-/// How often a router offers a copy, how many workers there are, how many turns each of their actors takes, and the
-/// number of the round.
+/// How rounds go: how often a router offers a copy, how many workers there are, and how many turns each of their actors takes,
+/// each of them at least once.
 #[derive(Clone, Copy)]
 pub struct Pace {
     pub patience: u32,
     pub workers: u32,
     pub turns: u32,
-    pub number: u32,
+    ghost patient: { 1 ≤ patience },
+    ghost staffed: { 1 ≤ workers },
+    ghost some_turns: { 1 ≤ turns },
 }
 
 /// The lists of deliveries and of dump records, with room for those of a round.
@@ -41,23 +43,22 @@ pub(crate) struct Logs {
     pub dumped: Room<DumpRec>,
 }
 
-/// One round: the router and the bank of each live chip take `pace.turns` turns, in `pace.workers` workers. All memory is
-/// taken before. After a refusal the mesh is as before.
+/// One round: the router and the bank of each live chip take `pace.turns` turns, in `pace.workers` workers, of which each enters
+/// the gate in phase `number`. All memory is taken before. After a refusal the mesh is as before.
 pub fn play_parts<R: Threads + Wait + Sync, G: Gate>(
     rt: &R,
     alloc: Global,
     parts: MeshParts,
     pace: Pace,
+    number: u32,
     gate: &G,
 ) -> Result<MeshParts, (MeshParts, Memory)>
-    requires mesh { IsMesh parts }
-    requires patient { 1 ≤ pace.patience }
-    requires workers { 1 ≤ pace.workers }
+    requires { IsMesh parts }
     ensures played { IfOk result (IsPlayed pace.patience pace.turns parts) }
     ensures back { IfErr result (λ b. b.0 ≡ parts) }
 {
     let raised = RaisedMesh::raise(rt, alloc, parts, pace.turns)?;
-    match raised.play(rt, alloc, pace, gate) {
+    match raised.play(rt, alloc, pace, number, gate) {
         Ok(raised) => Ok(raised.lower(rt)),
         Err((raised, e)) => Err((raised.lower(rt), e)),
     }
@@ -72,7 +73,8 @@ impl Logs {
         turns: u32,
     ) -> Result<Logs, (Seq<Delivery>, Fifo<DumpRec>)>
         requires few { chips ≤ 4096 }
-        ensures ok { IfOk result (λ l. (l.delivered.items ≡ delivered) × (l.dumped.items ≡ dumped) × (turns * chips ≤ l.delivered.spare) × (24 * turns * chips ≤ l.dumped.spare)) }
+        ensures ok { IfOk result (λ l. (l.delivered.items ≡ delivered) × (l.dumped.items ≡ dumped)
+            × (turns * chips ≤ l.delivered.spare) × (24 * turns * chips ≤ l.dumped.spare)) }
         ensures err { IfErr result (λ b. (b.0 ≡ delivered) × (b.1 ≡ dumped)) }
     {
         let count = turns as usize * chips;
@@ -101,32 +103,35 @@ pub(crate) fn play_links<R: Threads + Wait + Sync, G: Gate>(
     rt: &R,
     alloc: Global,
     setup: &MeshSetup,
-    kits: Vec<Kit>,
+    spaces: Vec<ActorSpace>,
     mut room: Room<Actor>,
     standing: &mut Standing,
     unsent: &mut Vec<Fifo<McCopy>>,
     logs: &mut Logs,
     pace: Pace,
+    number: u32,
     gate: &G,
 )
     requires setup { IsSetup setup.now }
     requires tables { length setup.now.tables ≡ setup.now.machine.width * setup.now.machine.height }
-    requires patient { 1 ≤ pace.patience }
-    requires workers { 1 ≤ pace.workers }
-    requires kits { AllZip (IsKitOf setup.now.machine) (live_chips setup.now.machine) kits.items }
-    requires kit_logs { All (HasLogs pace.turns) kits.items }
-    requires few { length kits.items ≤ 4096 }
+    requires spaces { AllZip (IsSpaceOf setup.now.machine)
+        (live_chips setup.now.machine) spaces.items }
+    requires space_logs { All (HasLogs pace.turns) spaces.items }
+    requires few { length spaces.items ≤ 4096 }
     requires no_actors { room.items ≡ [] }
-    requires spare { 2 * length kits.items ≤ room.spare }
-    requires up { (up : List LinkEnds) × HoldsAll up standing.old × All AreEnds up × (length up ≡ vertex_place setup.now (length setup.now.spots)) }
+    requires spare { 2 * length spaces.items ≤ room.spare }
+    requires up { (up : List LinkEnds) × HoldsAll up standing.old × All AreEnds up
+        × (length up ≡ vertex_place setup.now (length setup.now.spots)) }
     requires unsent_long { length unsent.old.items ≡ length setup.now.spots }
-    requires deliveries { pace.turns * length kits.items ≤ logs.old.delivered.spare }
-    requires dumps { 24 * pace.turns * length kits.items ≤ logs.old.dumped.spare }
-    ensures { (up : List LinkEnds) → HoldsAll up standing.old → IsPlayedOn setup.now pace.patience pace.turns up standing.new unsent.old.items unsent.new.items logs.old logs.new }
+    requires deliveries { pace.turns * length spaces.items ≤ logs.old.delivered.spare }
+    requires dumps { 24 * pace.turns * length spaces.items ≤ logs.old.dumped.spare }
+    ensures { (up : List LinkEnds) → HoldsAll up standing.old
+        → IsPlayedOn setup.now pace.patience pace.turns up standing.new unsent.old.items
+        unsent.new.items logs.old logs.new }
 {
-    cast(
+    deal(
         alloc,
-        kits,
+        spaces,
         standing,
         unsent,
         setup,
@@ -141,10 +146,10 @@ pub(crate) fn play_links<R: Threads + Wait + Sync, G: Gate>(
         &mut actors,
         pace.workers,
         pace.turns,
-        pace.number,
+        number,
         gate,
     );
-    dismiss(
+    return_actors(
         actors,
         standing,
         unsent,

@@ -45,7 +45,8 @@ impl Rising {
     /// One link more.
     pub fn put(&mut self, ends: LinkEnds)
         requires { (before : List LinkEnds) × (spare : ℕ) × RisenTo before (spare + 1) self.old }
-        ensures { (before : List LinkEnds) (spare : ℕ) → RisenTo before (spare + 1) self.old → RisenTo (before ++ ends ∷ []) spare self.new }
+        ensures { (before : List LinkEnds) (spare : ℕ) → RisenTo before (spare + 1) self.old
+            → RisenTo (before ++ ends ∷ []) spare self.new }
     {
         let LinkEnds { link, tx, rx, room } = ends;
         self.links.put(link);
@@ -56,7 +57,8 @@ impl Rising {
 
     /// The links, all of whose ends are there.
     pub fn into_standing(self) -> Standing
-        ensures { (before : List LinkEnds) (spare : ℕ) → RisenTo before spare self → HoldsAll before result }
+        ensures { (before : List LinkEnds) (spare : ℕ) → RisenTo before spare self
+            → HoldsAll before result }
     {
         let Rising {
             links,
@@ -76,8 +78,10 @@ impl Rising {
 impl Standing {
     /// The last link leaves, with both ends.
     pub(crate) fn pop(&mut self) -> LinkEnds
-        requires { (rest : List LinkEnds) × (last : LinkEnds) × HoldsAll (rest ++ last ∷ []) self.old }
-        ensures { (rest : List LinkEnds) (last : LinkEnds) → HoldsAll (rest ++ last ∷ []) self.old → (result ≡ last) × HoldsAll rest self.new }
+        requires { (rest : List LinkEnds) × (last : LinkEnds)
+            × HoldsAll (rest ++ last ∷ []) self.old }
+        ensures { (rest : List LinkEnds) (last : LinkEnds) → HoldsAll (rest ++ last ∷ []) self.old
+            → (result ≡ last) × HoldsAll rest self.new }
     {
         let link = last_of(&mut self.links);
         let tx = present(last_of(&mut self.txs));
@@ -88,9 +92,12 @@ impl Standing {
 
     /// Both ends of the link at a place leave.
     pub(crate) fn take_ends(&mut self, place: usize) -> (Tx, Rx)
-        requires { (ends : List LinkEnds) × (old : LinkEnds) × HoldsAll ends self.old × (slice_get ends place ≡ Some old) }
-        ensures ends { (ends : List LinkEnds) (old : LinkEnds) → HoldsAll ends self.old → slice_get ends place ≡ Some old → (result.0 ≡ old.tx) × (result.1 ≡ old.rx) }
-        ensures left { (ends : List LinkEnds) → HoldsAll ends self.old → LacksEnds ends place self.new }
+        requires { (ends : List LinkEnds) × (old : LinkEnds) × HoldsAll ends self.old
+            × (slice_get ends place ≡ Some old) }
+        ensures ends { (ends : List LinkEnds) (old : LinkEnds) → HoldsAll ends self.old
+            → slice_get ends place ≡ Some old → (result.0 ≡ old.tx) × (result.1 ≡ old.rx) }
+        ensures left { (ends : List LinkEnds) → HoldsAll ends self.old
+            → LacksEnds ends place self.new }
     {
         (take_at(&mut self.txs, place), take_at(&mut self.rxs, place))
     }
@@ -98,7 +105,9 @@ impl Standing {
     /// Both ends of the link at a place are there.
     pub(crate) fn put_ends(&mut self, place: usize, tx: Tx, rx: Rx)
         requires { (ends : List LinkEnds) × LacksEnds ends place self.old × (place < length ends) }
-        ensures { (ends : List LinkEnds) (old : LinkEnds) → LacksEnds ends place self.old → slice_get ends place ≡ Some old → HoldsAll (slice_set ends place (record old { tx = tx; rx = rx })) self.new }
+        ensures { (ends : List LinkEnds) (old : LinkEnds) → LacksEnds ends place self.old
+            → slice_get ends place ≡ Some old
+            → HoldsAll (slice_set ends place (record old { tx = tx; rx = rx })) self.new }
     {
         self.txs[place] = Some(tx);
         self.rxs[place] = Some(rx);
@@ -106,8 +115,10 @@ impl Standing {
 
     /// Another link stands at a place, with its ends.
     pub(crate) fn set(&mut self, place: usize, ends: LinkEnds)
-        requires { (before : List LinkEnds) × LacksEnds before place self.old × (place < length before) }
-        ensures { (before : List LinkEnds) → LacksEnds before place self.old → HoldsAll (slice_set before place ends) self.new }
+        requires { (before : List LinkEnds) × LacksEnds before place self.old
+            × (place < length before) }
+        ensures { (before : List LinkEnds) → LacksEnds before place self.old
+            → HoldsAll (slice_set before place ends) self.new }
     {
         let LinkEnds { link, tx, rx, room } = ends;
         self.links[place] = link;

@@ -19,7 +19,7 @@ const NOWHERE: usize = usize::MAX;
 
 /// Where the router of each chip stands among the actors, and which actors are always awake.
 #[derive(Drop)]
-pub(crate) struct Seats {
+pub(crate) struct ActorPlaces {
     chips: usize,
     routers: [usize; CHIPS],
     watched: [bool; ACTORS],
@@ -27,25 +27,25 @@ pub(crate) struct Seats {
 }
 
 // No router is there, and nobody is watched.
-fn no_seats(chips: usize) -> Seats {
-    Seats {
+fn no_places(chips: usize) -> ActorPlaces {
+    ActorPlaces {
         chips: chips.min(CHIPS),
         routers: [NOWHERE; CHIPS],
         watched: [false; ACTORS],
     }
 }
 
-impl Seats {
-    /// The seats of the actors of so many chips, in shares of so many, the last shorter.
-    pub fn of(actors: &[Actor], chips: usize, share: usize) -> Seats
+impl ActorPlaces {
+    /// The actor_places of the actors of so many chips, in shares of so many, the last shorter.
+    pub fn of(actors: &[Actor], chips: usize, share: usize) -> ActorPlaces
         requires { 0 < share }
     {
-        let mut seats = no_seats(chips);
-        seats.note_routers(actors);
+        let mut actor_places = no_places(chips);
+        actor_places.note_routers(actors);
         if share < actors.len() {
-            seats.watch_all(actors, share);
+            actor_places.watch_all(actors, share);
         }
-        seats
+        actor_places
     }
 
     // Notes where routers stand.
@@ -164,7 +164,7 @@ impl Awake {
     /// sent is awake.
     pub fn note_router(
         &mut self,
-        seats: &Seats,
+        actor_places: &ActorPlaces,
         k: usize,
         node: &RouterNode,
         served: &Option<Outs>,
@@ -175,20 +175,20 @@ impl Awake {
                 self.set(k, true);
                 for out in outs.as_slice() {
                     if let Some(link) = node.link_behind(*out) {
-                        self.wake(seats.taker(place, link));
+                        self.wake(actor_places.taker(place, link));
                     }
                 }
             }
-            None => self.set(k, seats.watches(place)),
+            None => self.set(k, actor_places.watches(place)),
         }
     }
 
     /// A bank of the share had its turn: it falls asleep where it took nothing and had nothing to offer. The router that takes what
     /// it sent is awake.
-    pub fn note_bank(&mut self, seats: &Seats, k: usize, turn: BankTurn) {
+    pub fn note_bank(&mut self, actor_places: &ActorPlaces, k: usize, turn: BankTurn) {
         let place = self.start.saturating_add(k);
         let busy = turn.collected || turn.offered.is_some();
-        self.set(k, busy || seats.watches(place));
+        self.set(k, busy || actor_places.watches(place));
         if let Some(Injection::Entered) = turn.offered {
             self.wake(place.saturating_sub(1));
         }

@@ -1,5 +1,5 @@
 -- Walks cut at the last chip that a table has, and tables that note where links lead.
-use Rattle.std.proofs.Common.{◌≡◌, ℕ, ◌+◌, ◌*◌, ◌<◌, Bool, true, false, List, [], ◌∷◌, ◌++◌, length, get_or, take, set, Some, None, refl, sym, ap, ◌∙◌, subst, arith, inl, inr, ◌⊎◌, ◌↔◌}
+use Rattle.std.proofs.Common.{◌≡◌, ℕ, ◌+◌, ◌*◌, ◌<◌, Bool, true, false, List, [], ◌∷◌, ◌++◌, length, get_or, take, set, Some, None, refl, sym, ap, ◌∙◌, subst, arith, inl, inr, ◌⊎◌}
 use Rattle.std.specs.List.{Contains, Any}
 use Rattle.std.proofs.lemmas.Bool.{cases_eq}
 use Rattle.std.proofs.lemmas.List.{append-nil, append_assoc, take_more, get_or-set_same, get_or-set_other}
@@ -13,7 +13,7 @@ use Rattle.machine_desc.specs.Live.{index_of, IsInside}
 use Rattle.machine_desc.specs.RoutingTree.{end_of}
 use Rattle.machine_desc.proofs.Far.{same_index, index_below, far_inside}
 use Rattle.ner_trees.specs.Growth.{next_of, end_of_walk, links_of}
-use Rattle.ner_trees.specs.Search.{is_on, IsCutAt}
+use Rattle.ner_trees.specs.Search.{is_on, IsCutAt, IsMarkedBy}
 use Rattle.ner_trees.proofs.Trees.{link, walk_end}
 
 -- one step more at the end of a walk
@@ -68,10 +68,6 @@ cut_more m on near ds d at next start added ends inside is has cut = record {
   added_off = All-push (λ e. is_on m on (next_of m e.chip e.dir) ≡ false) added (link at d) cut.added_off (ap (is_on m on) (sym is) ∙ has);
 }
 
--- a table that has, beside the chips of another, those where links lead
-abbrev pub Marked : Description → List Bool → List Bool → List Edge → Type 0
-Marked m old new links = (c : Chip) → IsInside m c → (is_on m new c ≡ true) ↔ ((is_on m old c ≡ true) ⊎ Any (λ e. end_of m e ≡ Some c) links)
-
 leads_in : (m : Description) (links : List Edge) (e : Edge) (c : Chip) → Contains links e → end_of m e ≡ Some c → Any (λ f. end_of m f ≡ Some c) links
 leads_in m links e c has leads = (has.0, e, has.1, has.2, leads)
 
@@ -84,7 +80,7 @@ any_push m links e c any = elim (Contains-push_cases links e any.1 (any.0, any.2
 push_any : (m : Description) (links : List Edge) (e : Edge) (c : Chip) → Any (λ f. end_of m f ≡ Some c) links → Any (λ f. end_of m f ≡ Some c) (links ++ e ∷ [])
 push_any m links e c any = leads_in m (links ++ e ∷ []) any.1 c (Contains-append_left links (e ∷ []) any.1 (any.0, any.2, any.3)) any.4
 
-pub marked_start : (m : Description) (on : List Bool) → Marked m on on []
+pub marked_start : (m : Description) (on : List Bool) → IsMarkedBy m on on []
 marked_start m on c inside = (
   λ is. inl is,
   λ or. elim or [
@@ -94,9 +90,9 @@ marked_start m on c inside = (
 )
 
 pub marked_more : (m : Description) (old new : List Bool) (links : List Edge) (i : ℕ) (d : Edge) (far : Chip) → i < length links → length new ≡ m.width * m.height →
-    IsInside m (get_or links i d).chip → end_of m (get_or links i d) ≡ Some far → Marked m old new (take i links) → Marked m old (set new (index_of m far) true) (take (i + 1) links)
+    IsInside m (get_or links i d).chip → end_of m (get_or links i d) ≡ Some far → IsMarkedBy m old new (take i links) → IsMarkedBy m old (set new (index_of m far) true) (take (i + 1) links)
 marked_more m old new links i d far within long e_in leads so_far =
-    subst (λ es. Marked m old (set new (index_of m far) true) es) (sym (take_more links i d within)) (λ c inside. elim (cases_eq (index_of m c) (index_of m far)) [
+    subst (λ es. IsMarkedBy m old (set new (index_of m far) true) es) (sym (take_more links i d within)) (λ c inside. elim (cases_eq (index_of m c) (index_of m far)) [
       | inl same ↦
           let e : Edge = get_or links i d in
           let far_in : IsInside m far = far_inside m e.chip far e.dir e_in leads in
@@ -123,9 +119,9 @@ marked_more m old new links i d far within long e_in leads so_far =
     ])
 
 pub marked_past : (m : Description) (old new : List Bool) (links : List Edge) (i : ℕ) (d : Edge) → i < length links → end_of m (get_or links i d) ≡ None →
-    Marked m old new (take i links) → Marked m old new (take (i + 1) links)
+    IsMarkedBy m old new (take i links) → IsMarkedBy m old new (take (i + 1) links)
 marked_past m old new links i d within nowhere so_far =
-    subst (λ es. Marked m old new es) (sym (take_more links i d within)) (λ c inside.
+    subst (λ es. IsMarkedBy m old new es) (sym (take_more links i d within)) (λ c inside.
     let e : Edge = get_or links i d in (
       λ is. elim ((so_far c inside).0 is) [
         | inl was ↦ inl was

@@ -13,7 +13,7 @@ use Rattle.ner_trees.specs.declared.growths.Join.{Join}
 use Rattle.ner_trees.specs.Geometry.{displacement_of}
 use Rattle.ner_trees.specs.LongestFirst.{ldf_of}
 use Rattle.ner_trees.specs.Growth.{next_of, end_of_walk, links_of, IsNotFarther, IsNear, IsAdded, Grows, IsGrown}
-use Rattle.ner_trees.specs.Order.{IsBefore}
+use Rattle.machine_desc.specs.EdgeOrder.{IsEdgeBefore}
 use Rattle.ner_trees.proofs.Growing.{on_inside, next_inside}
 use Rattle.ner_trees.proofs.Ordered.{same_list}
 use Rattle.ner_trees.proofs.Trees.{link}
@@ -109,7 +109,7 @@ one_growth m root tree (j ∷ js) (k ∷ ks) whole other root_in inside same gro
     ((λ i. first i ∷ rest.0 i), rest.1)
 
 -- no two edges are each before the other
-not_both_before : (e f : Edge) → IsBefore e f → IsBefore f e → ⊥
+not_both_before : (e f : Edge) → IsEdgeBefore e f → IsEdgeBefore f e → ⊥
 not_both_before e f (inl x) (inl u) = omega (arith, x, u)
 not_both_before e f (inl x) (inr u) = (let p = u.0 in omega (arith, x, p))
 not_both_before e f (inr x) (inl u) = (let p = x.0 in omega (arith, p, u))
@@ -123,7 +123,7 @@ pub one_tree : (m : Description) (root : Chip) (targets : List Chip) (js ks : Li
 one_tree m root targets js ks es fs root_in x y =
     let both = one_growth m root [] js ks x.whole y.whole root_in (All-nil (λ (e : Edge). IsInside m e.chip)) (x.each_joined ∙ sym y.each_joined) x.grows y.grows in (
       both.0,
-      same_list IsBefore not_both_before es fs x.in_order y.in_order
+      same_list IsEdgeBefore not_both_before es fs x.in_order y.in_order
           (λ e has. (y.same_edges e).1 (subst (λ (gs : List Edge). Contains gs e) both.1 ((x.same_edges e).0 has)))
           (λ e has. (x.same_edges e).1 (subst (λ (gs : List Edge). Contains gs e) (sym both.1) ((y.same_edges e).0 has))),
     )

@@ -1,11 +1,11 @@
 -- The tree so far: what its table says, and what comes of growing when it is done.
-use Rattle.std.proofs.Common.{◌≡◌, ◌≢◌, ℕ, ◌+◌, ◌*◌, ◌<◌, ◌≤◌, Bool, true, false, List, [], ◌∷◌, ◌++◌, length, map, get_or, take, set, replicate, Option, Some, None, refl, sym, ap, ◌∙◌, subst, arith, inl, inr, ◌⊎◌, ◌↔◌}
+use Rattle.std.proofs.Common.{◌≡◌, ◌≢◌, ℕ, ◌+◌, ◌*◌, ◌<◌, ◌≤◌, Bool, true, false, List, [], ◌∷◌, ◌++◌, length, map, get_or, take, set, replicate, Option, Some, None, refl, sym, ap, ◌∙◌, subst, arith, inl, inr, ◌⊎◌}
+use Rattle.std.specs.Prelude.{if◌then◌else◌}
 use Rattle.std.specs.List.{Contains, All, AllPairs, Any, sum_by}
 use Rattle.std.specs.List.Sorted.{IsPermutation}
 use Rattle.std.proofs.lemmas.Bool.{cases_eq, cases_order, true≢false, and_from, eq-eqb}
 use Rattle.std.proofs.lemmas.List.{append-nil, append_assoc, take_more, take_all, map_push, get_or-set_same, get_or-set_other, get_or-replicate, length-replicate}
-use Rattle.std.proofs.Math.ListN.{length-set}
-use Rattle.std.proofs.lemmas.List.Elements.{All-contains, All-nil, Contains-get_or, Contains-append_cases, Contains-append_right}
+use Rattle.std.proofs.lemmas.List.Elements.{All-contains, Contains-get_or, Contains-append_cases, Contains-append_right, All-append}
 use Rattle.std.proofs.lemmas.List.Sorted.{IsPermutation-sym, Contains-permutation, length_permutation}
 use Rattle.spin_base.specs.declared.chips.Chip.{Chip}
 use Rattle.spin_base.specs.declared.chips.Dir.{Dir}
@@ -20,18 +20,13 @@ use Rattle.machine_desc.proofs.Far.{same_index, index_below, far_inside}
 use Rattle.ner_trees.specs.declared.growths.Join.{Join}
 use Rattle.ner_trees.specs.Geometry.{displacement_of, distance_of}
 use Rattle.ner_trees.specs.LongestFirst.{ldf_of}
-use Rattle.ner_trees.specs.Growth.{or_stay, next_of, IsNear, IsAdded, Grows, IsGrown, IsWithoutDead, distance_sum}
-use Rattle.ner_trees.specs.Order.{IsBefore}
-use Rattle.ner_trees.specs.Search.{is_on, IsNearestOn, IsNoneOn, IsCutAt}
-use Rattle.ner_trees.proofs.Cutting.{Marked}
+use Rattle.ner_trees.specs.Growth.{or_stay, next_of, IsNear, IsAdded, IsJoinedBy, Grows, IsGrown, IsWithoutDead, distance_sum}
+use Rattle.machine_desc.specs.EdgeOrder.{IsEdgeBefore}
+use Rattle.ner_trees.specs.Search.{is_on, IsNearestOn, IsNoneOn, IsCutAt, IsMarkedBy, TellsTree}
 use Rattle.machine_desc.proofs.TreeLemmas.{tree_end, tree_cases, more_chips}
-use Rattle.list_laws.proofs.Pairs.{AllPairs-permutation}
+use Rattle.spin_base.proofs.Pairs.{AllPairs-permutation}
 use Rattle.ner_trees.proofs.Trees.{spanning_root, Outcome, grown}
 use Rattle.ner_trees.proofs.Walking.{ldf_walks}
-
--- the table has the chips of the tree
-abbrev pub TellsTree : Description → Chip → List Bool → List Edge → Type 0
-TellsTree m root on tree = (c : Chip) → IsInside m c → (is_on m on c ≡ true) ↔ IsTreeChip m root tree c
 
 -- chips of a tree whose edges begin inside the grid are inside
 pub on_inside : (m : Description) (root : Chip) (tree : List Edge) → IsInside m root → All (λ e. IsInside m e.chip) tree → (c : Chip) → IsTreeChip m root tree c → IsInside m c
@@ -88,7 +83,7 @@ added_is m root on tree j walk links tells is cut = record {
 }
 
 -- the table with the branch noted tells the tree with the branch
-pub tells_more : (m : Description) (root : Chip) (old new : List Bool) (tree links whole : List Edge) → whole ≡ tree ++ links → TellsTree m root old tree → Marked m old new links →
+pub tells_more : (m : Description) (root : Chip) (old new : List Bool) (tree links whole : List Edge) → whole ≡ tree ++ links → TellsTree m root old tree → IsMarkedBy m old new links →
     TellsTree m root new whole
 tells_more m root old new tree links whole is tells marked = subst (λ es. TellsTree m root new es) (sym is) (λ c c_in. (
   λ has. elim ((marked c c_in).0 has) [
@@ -107,58 +102,65 @@ tells_more m root old new tree links whole is tells marked = subst (λ es. Tells
     lists_right : (e : Edge) → Contains links e → Contains (tree ++ links) e
     lists_right e has = Contains-append_right tree links e has
 
+-- the table that has the root alone
+pub root_tells : (m : Description) (root : Chip) (on : List Bool) (i : ℕ) → IsInside m root → on ≡ replicate (m.width * m.height) false → i ≡ index_of m root →
+    TellsTree m root (set on i true) []
+root_tells m root on i root_in is at = λ c c_in. elim (cases_eq (index_of m c) i) [
+  | inl same ↦
+      let one : c ≡ root = same_index m c root c_in root_in (same ∙ at) in
+      let long : length on ≡ m.width * m.height = ap length is ∙ length-replicate (m.width * m.height) false in
+      let below : i < length on = (let b : index_of m root < m.width * m.height = index_below m root root_in in omega arith) in
+      (λ _. inl one, λ _. ap (λ k. get_or (set on i true) k false) same ∙ get_or-set_same on i true false below)
+  | inr other ↦ (
+    λ has.
+        let below : index_of m c < m.width * m.height = index_below m c c_in in
+        let none : is_on m (set on i true) c ≡ false =
+        get_or-set_other on i (index_of m c) true false other ∙ (ap (λ l. get_or l (index_of m c) false) is ∙ get_or-replicate (m.width * m.height) (index_of m c) false false below) in
+        absurd (true≢false (sym has ∙ none)),
+    λ there. elim (tree_cases m root [] c there) [
+      | inl one ↦ absurd (other (ap (index_of m) one ∙ sym at))
+      | inr into ↦ absurd (let none : into.1.0 < 0 = into.1.1 in omega arith)
+    ],
+  )
+]
+
+-- edges to which others may have been added begin inside where both do
+pub extended_inside : (m : Description) (b : Bool) (old links new : List Edge) → new ≡ (if b then old ++ links else old) →
+    All (λ e. IsInside m e.chip) old → All (λ e. IsInside m e.chip) links → All (λ e. IsInside m e.chip) new
+extended_inside m true old links new is these those =
+    subst (λ (es : List Edge). All (λ e. IsInside m e.chip) es) (sym is) (All-append (λ e. IsInside m e.chip) old links these those)
+extended_inside m false old links new is these those = subst (λ (es : List Edge). All (λ e. IsInside m e.chip) es) (sym is) these
+
 -- the tree so far, and how its targets came to it
 pub record GrownSoFar (m : Description) (root : Chip) (on : List Bool) (edges : List Edge) (joins : List Join) (taken : List Chip) : Type 0 where
-  pub long : length on ≡ m.width * m.height
   pub on_is : TellsTree m root on edges
-  pub inside : All (λ e. IsInside m e.chip) edges
   pub targets : map (λ j. j.target) joins ≡ taken
   pub grows : (js : List Join) (whole : List Edge) → Grows m root edges js whole → Grows m root [] (joins ++ js) whole
 
-pub so_far_start : (m : Description) (root : Chip) (on : List Bool) (i : ℕ) → IsInside m root → on ≡ replicate (m.width * m.height) false → i ≡ index_of m root →
-    GrownSoFar m root (set on i true) [] [] []
-so_far_start m root on i root_in is at = record {
-  long = length-set on i true ∙ (ap length is ∙ length-replicate (m.width * m.height) false);
-  on_is = λ c c_in. elim (cases_eq (index_of m c) i) [
-    | inl same ↦
-        let one : c ≡ root = same_index m c root c_in root_in (same ∙ at) in
-        let long : length on ≡ m.width * m.height = ap length is ∙ length-replicate (m.width * m.height) false in
-        let below : i < length on = (let b : index_of m root < m.width * m.height = index_below m root root_in in omega arith) in
-        (λ _. inl one, λ _. ap (λ k. get_or (set on i true) k false) same ∙ get_or-set_same on i true false below)
-    | inr other ↦ (
-      λ has.
-          let below : index_of m c < m.width * m.height = index_below m c c_in in
-          let none : is_on m (set on i true) c ≡ false =
-          get_or-set_other on i (index_of m c) true false other ∙ (ap (λ l. get_or l (index_of m c) false) is ∙ get_or-replicate (m.width * m.height) (index_of m c) false false below) in
-          absurd (true≢false (sym has ∙ none)),
-      λ there. elim (tree_cases m root [] c there) [
-        | inl one ↦ absurd (other (ap (index_of m) one ∙ sym at))
-        | inr into ↦ absurd (let none : into.1.0 < 0 = into.1.1 in omega arith)
-      ],
-    )
-  ];
-  inside = All-nil (λ e. IsInside m e.chip);
-  targets = refl;
-  grows = λ js whole g. g;
-}
+pub so_far_start : (m : Description) (root : Chip) (on : List Bool) (edges : List Edge) (joins : List Join) → TellsTree m root on [] → edges ≡ [] → joins ≡ [] →
+    GrownSoFar m root on edges joins []
+so_far_start m root on edges joins tells no_edge no_join =
+    subst (λ es. GrownSoFar m root on es joins []) (sym no_edge) (subst (λ js. GrownSoFar m root on [] js []) (sym no_join) (record {
+      on_is = tells;
+      targets = refl;
+      grows = λ js whole g. g;
+    }))
 
 pub so_far_more : (m : Description) (root : Chip) (on after : List Bool) (edges whole : List Edge) (joins more : List Join) (targets : List Chip) (i : ℕ) (d : Chip) (j : Join) →
-    i < length targets → length after ≡ m.width * m.height → TellsTree m root after whole → All (λ e. IsInside m e.chip) whole → j.target ≡ get_or targets i d →
-    IsNear m root edges (get_or targets i d) j.near → ((added : List Edge) × IsAdded m root edges j added × (whole ≡ edges ++ added)) → more ≡ joins ++ j ∷ [] →
+    i < length targets → TellsTree m root after whole → j.target ≡ get_or targets i d → IsJoinedBy m root edges j whole → more ≡ joins ++ j ∷ [] →
     GrownSoFar m root on edges joins (take i targets) → GrownSoFar m root after whole more (take (i + 1) targets)
-so_far_more m root on after edges whole joins more targets i d j within long tells inside target near added is so_far =
+so_far_more m root on after edges whole joins more targets i d j within tells target joined is so_far =
     subst (λ js. GrownSoFar m root after whole js (take (i + 1) targets)) (sym is) (record {
-      long = long;
       on_is = tells;
-      inside = inside;
       targets = map_push (λ (k : Join). k.target) joins j ∙ (ap (λ ts. ts ++ j.target ∷ []) so_far.targets ∙ (ap (λ (t : Chip). take i targets ++ t ∷ []) target ∙ sym (take_more targets i d within)));
       grows = λ js end g.
+          let added = joined.1 in
           subst (λ ks. Grows m root [] ks end) (sym (append_assoc joins (j ∷ []) js))
-          (so_far.grows (j ∷ js) end (subst (λ (t : Chip). IsNear m root edges t j.near) (sym target) near, (added.0, added.1, subst (λ es. Grows m root es js end) added.2 g)));
+          (so_far.grows (j ∷ js) end (joined.0, (added.0, added.1, subst (λ es. Grows m root es js end) added.2 g)));
     })
 
 -- of two different edges the one that does not come later comes before
-before_is : (e f : Edge) → (IsBefore f e → ⊥) → (e ≡ f → ⊥) → IsBefore e f
+before_is : (e f : Edge) → (IsEdgeBefore f e → ⊥) → (e ≡ f → ⊥) → IsEdgeBefore e f
 before_is e f never apart = elim (cases_order e.chip.x f.chip.x) [
   | inr (inl less) ↦ inl less
   | inr (inr more) ↦ absurd (never (inl more))
@@ -205,7 +207,7 @@ root_goes m root targets es t [] is has = inr (subst (λ (c : Chip). Contains ta
 root_goes m root targets es t (e ∷ path) is has = inl (is.0.0, e, is.0.1, is.0.2, is.1)
 
 pub finished : (m : Description) (root : Chip) (targets : List Chip) (joins : List Join) (on : List Bool) (whole edges : List Edge) → HasSize m → IsInside m root →
-    All (IsInside m) targets → GrownSoFar m root on whole joins targets → IsPermutation whole edges → AllPairs (λ e f. IsBefore f e → ⊥) edges → Finished m root targets joins edges
+    All (IsInside m) targets → GrownSoFar m root on whole joins targets → IsPermutation whole edges → AllPairs (λ e f. IsEdgeBefore f e → ⊥) edges → Finished m root targets joins edges
 finished m root targets joins on whole edges size root_in targets_in so_far perm rises =
     let grows : Grows m root [] joins whole = subst (λ js. Grows m root [] js whole) (append-nil joins) (so_far.grows [] whole refl) in
     let wanted : (t : Chip) → Contains (map (λ j. j.target) joins) t → Contains targets t = λ t has. subst (λ ts. Contains ts t) so_far.targets has in
@@ -265,7 +267,7 @@ finished m root targets joins on whole edges size root_in targets_in so_far perm
 
 pub finished_at : (m : Description) (root : Chip) (targets items : List Chip) (joins : List Join) (on : List Bool) (whole edges result : List Edge) (i : ℕ) → HasSize m → IsInside m root →
     All (IsInside m) targets → items ≡ targets → length items ≤ i → GrownSoFar m root on whole joins (take i targets) → IsPermutation whole edges →
-    AllPairs (λ e f. IsBefore f e → ⊥) edges → result ≡ edges → Finished m root targets joins result
+    AllPairs (λ e f. IsEdgeBefore f e → ⊥) edges → result ≡ edges → Finished m root targets joins result
 finished_at m root targets items joins on whole edges result i size root_in targets_in same past so_far perm rises is =
     let all : take i targets ≡ targets = take_all i targets (subst (λ ts. length ts ≤ i) same past) in
     subst (λ es. Finished m root targets joins es) (sym is)

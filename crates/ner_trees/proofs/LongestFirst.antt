@@ -12,7 +12,7 @@ use Rattle.machine_desc.specs.Live.{x_step, y_step}
 use Rattle.ner_trees.specs.declared.displacements.Disp.{Disp}
 use Rattle.ner_trees.specs.declared.walks.Run.{Run}
 use Rattle.ner_trees.specs.Geometry.{length_of, forth, back, disp}
-use Rattle.ner_trees.specs.LongestFirst.{median, run_of, put_run, longest_first, steps_of, ldf_of, is_ahead, is_back, sum_of}
+use Rattle.ner_trees.specs.LongestFirst.{median, link_run_of, put_run, longest_first, run_links, ldf_of, is_ahead, is_back, sum_of}
 use Rattle.ner_trees.proofs.Signed.{length_is, less_median, less_median_second, minus_median}
 
 -- how much the steps of a run weigh
@@ -23,27 +23,27 @@ sum-replicate w d (suc n) =
     sum_by-cons w d (replicate n d) ∙ (ap (λ k. w d + k) more ∙ grind arith)
 
 -- a run weighs the same wherever it is put
-sum-put : (w : Dir → ℕ) (r : Run) (rs : List Run) → sum_by w (flat_map steps_of (put_run r rs)) ≡ sum_by w (steps_of r) + sum_by w (flat_map steps_of rs)
-sum-put w r [] = sum_by-append w (steps_of r) []
+sum-put : (w : Dir → ℕ) (r : Run) (rs : List Run) → sum_by w (flat_map run_links (put_run r rs)) ≡ sum_by w (run_links r) + sum_by w (flat_map run_links rs)
+sum-put w r [] = sum_by-append w (run_links r) []
 sum-put w r (s ∷ rs) = elim (cases_Bool (leb s.count r.count)) [
   | inl fits ↦
-      ap (λ qs. sum_by w (flat_map steps_of qs)) (cond-true (leb s.count r.count) (r ∷ s ∷ rs) (s ∷ put_run r rs) fits)
-      ∙ sum_by-append w (steps_of r) (flat_map steps_of (s ∷ rs))
+      ap (λ qs. sum_by w (flat_map run_links qs)) (cond-true (leb s.count r.count) (r ∷ s ∷ rs) (s ∷ put_run r rs) fits)
+      ∙ sum_by-append w (run_links r) (flat_map run_links (s ∷ rs))
   | inr past ↦
-      let more : sum_by w (flat_map steps_of (put_run r rs)) ≡ sum_by w (steps_of r) + sum_by w (flat_map steps_of rs) = sum-put w r rs in
-      let mine : sum_by w (flat_map steps_of (s ∷ put_run r rs)) ≡ sum_by w (steps_of s) + sum_by w (flat_map steps_of (put_run r rs)) =
-      sum_by-append w (steps_of s) (flat_map steps_of (put_run r rs)) in
-      let other : sum_by w (flat_map steps_of (s ∷ rs)) ≡ sum_by w (steps_of s) + sum_by w (flat_map steps_of rs) = sum_by-append w (steps_of s) (flat_map steps_of rs) in
-      ap (λ qs. sum_by w (flat_map steps_of qs)) (cond-false (leb s.count r.count) (r ∷ s ∷ rs) (s ∷ put_run r rs) past) ∙ (omega arith)
+      let more : sum_by w (flat_map run_links (put_run r rs)) ≡ sum_by w (run_links r) + sum_by w (flat_map run_links rs) = sum-put w r rs in
+      let mine : sum_by w (flat_map run_links (s ∷ put_run r rs)) ≡ sum_by w (run_links s) + sum_by w (flat_map run_links (put_run r rs)) =
+      sum_by-append w (run_links s) (flat_map run_links (put_run r rs)) in
+      let other : sum_by w (flat_map run_links (s ∷ rs)) ≡ sum_by w (run_links s) + sum_by w (flat_map run_links rs) = sum_by-append w (run_links s) (flat_map run_links rs) in
+      ap (λ qs. sum_by w (flat_map run_links qs)) (cond-false (leb s.count r.count) (r ∷ s ∷ rs) (s ∷ put_run r rs) past) ∙ (omega arith)
 ]
 
-pub sum-longest_first : (w : Dir → ℕ) (rs : List Run) → sum_by w (flat_map steps_of (longest_first rs)) ≡ sum_by w (flat_map steps_of rs)
+pub sum-longest_first : (w : Dir → ℕ) (rs : List Run) → sum_by w (flat_map run_links (longest_first rs)) ≡ sum_by w (flat_map run_links rs)
 sum-longest_first w [] = refl
 sum-longest_first w (r ∷ rs) =
-    sum-put w r (longest_first rs) ∙ (ap (λ k. sum_by w (steps_of r) + k) (sum-longest_first w rs) ∙ sym (sum_by-append w (steps_of r) (flat_map steps_of rs)))
+    sum-put w r (longest_first rs) ∙ (ap (λ k. sum_by w (run_links r) + k) (sum-longest_first w rs) ∙ sym (sum_by-append w (run_links r) (flat_map run_links rs)))
 
 -- how much the steps along one dimension weigh, of which the forward or the backward ones are none
-run_weighs : (w : Dir → ℕ) (d : Dir) (z : ℤ) → sum_by w (steps_of (run_of d z)) ≡ forth z * w d + back z * w (opposite_of d)
+run_weighs : (w : Dir → ℕ) (d : Dir) (z : ℤ) → sum_by w (run_links (link_run_of d z)) ≡ forth z * w d + back z * w (opposite_of d)
 run_weighs w d (pos n) = sum-replicate w d n ∙ (grind arith)
 run_weighs w d (negsuc n) = sum-replicate w (opposite_of d) (suc n) ∙ (grind arith)
 
@@ -61,19 +61,19 @@ pub ldf_weighs : (w : Dir → ℕ) (d : Disp) → sum_by w (ldf_of d) ≡
     (forth (x_of d) * w East + back (x_of d) * w West) + ((forth (y_of d) * w North + back (y_of d) * w South) + (forth (z_of d) * w SouthWest + back (z_of d) * w NorthEast))
 unfolding ldf_of
 ldf_weighs w d =
-    let x : Run = run_of East (x_of d) in
-    let y : Run = run_of North (y_of d) in
-    let z : Run = run_of SouthWest (z_of d) in
-    let first : sum_by w (flat_map steps_of (longest_first (x ∷ y ∷ z ∷ []))) ≡ sum_by w (flat_map steps_of (x ∷ y ∷ z ∷ [])) = sum-longest_first w (x ∷ y ∷ z ∷ []) in
-    let one : sum_by w (flat_map steps_of (x ∷ y ∷ z ∷ [])) ≡ sum_by w (steps_of x) + sum_by w (flat_map steps_of (y ∷ z ∷ [])) = sum_by-append w (steps_of x) (flat_map steps_of (y ∷ z ∷ [])) in
-    let two : sum_by w (flat_map steps_of (y ∷ z ∷ [])) ≡ sum_by w (steps_of y) + sum_by w (flat_map steps_of (z ∷ [])) = sum_by-append w (steps_of y) (flat_map steps_of (z ∷ [])) in
-    let three : sum_by w (flat_map steps_of (z ∷ [])) ≡ sum_by w (steps_of z) + sum_by w [] = sum_by-append w (steps_of z) [] in
-    let at_x : sum_by w (steps_of x) ≡ forth (x_of d) * w East + back (x_of d) * w West = run_weighs w East (x_of d) in
-    let at_y : sum_by w (steps_of y) ≡ forth (y_of d) * w North + back (y_of d) * w South = run_weighs w North (y_of d) in
-    let at_z : sum_by w (steps_of z) ≡ forth (z_of d) * w SouthWest + back (z_of d) * w NorthEast = run_weighs w SouthWest (z_of d) in
-    first ∙ (one ∙ (ap (λ k. sum_by w (steps_of x) + k) (two ∙ ap (λ k. sum_by w (steps_of y) + k) three)
-    ∙ (ap (λ k. k + (sum_by w (steps_of y) + (sum_by w (steps_of z) + 0))) at_x
-    ∙ (ap (λ k. (forth (x_of d) * w East + back (x_of d) * w West) + (k + (sum_by w (steps_of z) + 0))) at_y
+    let x : Run = link_run_of East (x_of d) in
+    let y : Run = link_run_of North (y_of d) in
+    let z : Run = link_run_of SouthWest (z_of d) in
+    let first : sum_by w (flat_map run_links (longest_first (x ∷ y ∷ z ∷ []))) ≡ sum_by w (flat_map run_links (x ∷ y ∷ z ∷ [])) = sum-longest_first w (x ∷ y ∷ z ∷ []) in
+    let one : sum_by w (flat_map run_links (x ∷ y ∷ z ∷ [])) ≡ sum_by w (run_links x) + sum_by w (flat_map run_links (y ∷ z ∷ [])) = sum_by-append w (run_links x) (flat_map run_links (y ∷ z ∷ [])) in
+    let two : sum_by w (flat_map run_links (y ∷ z ∷ [])) ≡ sum_by w (run_links y) + sum_by w (flat_map run_links (z ∷ [])) = sum_by-append w (run_links y) (flat_map run_links (z ∷ [])) in
+    let three : sum_by w (flat_map run_links (z ∷ [])) ≡ sum_by w (run_links z) + sum_by w [] = sum_by-append w (run_links z) [] in
+    let at_x : sum_by w (run_links x) ≡ forth (x_of d) * w East + back (x_of d) * w West = run_weighs w East (x_of d) in
+    let at_y : sum_by w (run_links y) ≡ forth (y_of d) * w North + back (y_of d) * w South = run_weighs w North (y_of d) in
+    let at_z : sum_by w (run_links z) ≡ forth (z_of d) * w SouthWest + back (z_of d) * w NorthEast = run_weighs w SouthWest (z_of d) in
+    first ∙ (one ∙ (ap (λ k. sum_by w (run_links x) + k) (two ∙ ap (λ k. sum_by w (run_links y) + k) three)
+    ∙ (ap (λ k. k + (sum_by w (run_links y) + (sum_by w (run_links z) + 0))) at_x
+    ∙ (ap (λ k. (forth (x_of d) * w East + back (x_of d) * w West) + (k + (sum_by w (run_links z) + 0))) at_y
     ∙ (ap (λ k. (forth (x_of d) * w East + back (x_of d) * w West) + ((forth (y_of d) * w North + back (y_of d) * w South) + (k + 0))) at_z ∙ omega arith)))))
 
 -- what is above and below 0 of a difference

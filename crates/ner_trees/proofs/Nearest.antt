@@ -11,10 +11,10 @@ use Rattle.machine_desc.specs.Description.{Description}
 use Rattle.machine_desc.specs.Live.{IsInside}
 use Rattle.machine_desc.specs.RoutingTree.{end_of, IsTreeChip}
 use Rattle.machine_desc.proofs.TreeLemmas.{tree_end, tree_cases, more_chips}
-use Rattle.list_laws.proofs.Members.{Contains-none}
+use Rattle.spin_base.proofs.Members.{Contains-none}
 use Rattle.ner_trees.specs.declared.searches.Found.{Found}
 use Rattle.ner_trees.specs.Geometry.{distance_of}
-use Rattle.ner_trees.specs.Growth.{IsNotFarther, IsWithin, IsNear}
+use Rattle.ner_trees.specs.Growth.{IsNotFarther, IsTreeChipWithin, IsNear}
 use Rattle.ner_trees.specs.Search.{IsCloser, IsLeastFound}
 use Rattle.ner_trees.proofs.Growing.{on_inside}
 use Rattle.ner_trees.proofs.Searching.{not_farther_trans}
@@ -37,7 +37,7 @@ module _ (m : Description) (root t : Chip) where
     ];
   }
     where
-      found : (r : Option Found) → IsCloser m t None root r → IfSome r (λ b. IsWithin m root [] t 20 b.chip)
+      found : (r : Option Found) → IsCloser m t None root r → IfSome r (λ b. IsTreeChipWithin m root [] t 20 b.chip)
       found None is = tt
       found (Some f) is = elim is.one_of [
         | inl old ↦ absurd (none-some f old)
@@ -48,14 +48,14 @@ module _ (m : Description) (root t : Chip) where
     abbrev whole : List Edge
     whole = tree ++ e ∷ []
 
-    wider : (c : Chip) → IsWithin m root tree t 20 c → IsWithin m root whole t 20 c
+    wider : (c : Chip) → IsTreeChipWithin m root tree t 20 c → IsTreeChipWithin m root whole t 20 c
     wider c w = (more_chips m root tree (e ∷ []) c w.0, w.1)
 
-    within_more : (chip : Chip) → end_of m e ≡ Some chip → (best result : Option Found) → IfSome best (λ b. IsWithin m root tree t 20 b.chip) → IsCloser m t best chip result →
-        IfSome result (λ b. IsWithin m root whole t 20 b.chip)
+    within_more : (chip : Chip) → end_of m e ≡ Some chip → (best result : Option Found) → IfSome best (λ b. IsTreeChipWithin m root tree t 20 b.chip) → IsCloser m t best chip result →
+        IfSome result (λ b. IsTreeChipWithin m root whole t 20 b.chip)
     within_more chip leads best None known is = tt
     within_more chip leads best (Some f) known is = elim is.one_of [
-      | inl old ↦ wider f.chip (subst (λ (o : Option Found). IfSome o (λ b. IsWithin m root tree t 20 b.chip)) old known)
+      | inl old ↦ wider f.chip (subst (λ (o : Option Found). IfSome o (λ b. IsTreeChipWithin m root tree t 20 b.chip)) old known)
       | inr new ↦ (
         subst (λ (c : Chip). IsTreeChip m root whole c) (sym new.0) (tree_end m root whole e chip (Contains-push tree e) leads),
         subst (λ (c : Chip). distance_of m c t ≤ 20) (sym new.0) new.1,
@@ -99,7 +99,7 @@ module _ (m : Description) (root t : Chip) where
       ];
     }
       where
-        found : (o : Option Found) → IfSome o (λ b. IsWithin m root tree t 20 b.chip) → IfSome o (λ b. IsWithin m root whole t 20 b.chip)
+        found : (o : Option Found) → IfSome o (λ b. IsTreeChipWithin m root tree t 20 b.chip) → IfSome o (λ b. IsTreeChipWithin m root whole t 20 b.chip)
         found None w = tt
         found (Some b) w = wider b.chip w
 

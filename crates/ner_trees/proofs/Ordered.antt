@@ -2,8 +2,8 @@
 use Rattle.std.proofs.Common.{◌≡◌, List, [], ◌∷◌, refl, sym, subst, inl, inr}
 use Rattle.std.specs.List.{Contains, AllPairs}
 use Rattle.std.proofs.lemmas.List.Elements.{All-contains}
-use Rattle.list_laws.proofs.Members.{Contains-none, Contains-first, Contains-later, Contains-cases}
-use Rattle.list_laws.proofs.Pairs.{AllPairs-head, AllPairs-tail}
+use Rattle.spin_base.proofs.Members.{Contains-none, Contains-first, Contains-later, Contains-cases}
+use Rattle.spin_base.proofs.Pairs.{AllPairs-head, AllPairs-tail}
 
 module _ {X : Type 0} (R : X → X → Type 0) (apart : (a b : X) → R a b → R b a → ⊥) where
   -- the first of a list in order is before all others

@@ -9,8 +9,8 @@ use Rattle.spin_base.specs.declared.chips.Dir.TheVariants.{East, North, SouthWes
 use Rattle.machine_desc.specs.Description.{Description}
 use Rattle.ner_trees.specs.declared.displacements.Disp.{Disp}
 use Rattle.ner_trees.specs.declared.walks.Run.{Run}
-use Rattle.ner_trees.specs.Geometry.{length_of, forth, back, disp, least_of, ahead_by, on_torus, displacement_of}
-use Rattle.ner_trees.specs.LongestFirst.{median, run_of, runs_of, longest_first}
+use Rattle.ner_trees.specs.Geometry.{length_of, forth, back, disp, lesser_disp, ahead_by, on_torus, displacement_of}
+use Rattle.ner_trees.specs.LongestFirst.{median, link_run_of, runs_of, longest_first}
 
 pub length_is : (d : Disp) → length_of d ≡ max (forth d.a) (forth d.b) + max (back d.a) (back d.b)
 length_is d = parts d.a d.b
@@ -46,7 +46,7 @@ minus_median (negsuc m) (negsuc n) = grind (arith, ints)
 
 -- what the four displacements on a torus come to
 pub torus_steps : (w h a b : ℕ) (za zb zx zy : ℤ) (r s t : Disp) → za ≡ pos a → zb ≡ pos b → zx ≡ pos a -ℤ pos w → zy ≡ pos b -ℤ pos h →
-    r ≡ least_of (disp za zb) (disp zx zb) → s ≡ least_of r (disp za zy) → t ≡ least_of s (disp zx zy) → t ≡ on_torus w h a b
+    r ≡ lesser_disp (disp za zb) (disp zx zb) → s ≡ lesser_disp r (disp za zy) → t ≡ lesser_disp s (disp zx zy) → t ≡ on_torus w h a b
 unfolding on_torus
 torus_steps w h a b za zb zx zy r s t ea eb ex ey er es et = rw (et, es, er, ea, eb, ex, ey)
 
@@ -69,12 +69,12 @@ displaced_on_grid m p q a b opens ea eb =
 -- the runs of a displacement, from what is above and below 0
 pub runs_steps : (d : Disp) (a b : ℤ) (x y z : Run) (east west north south north_east south_west : ℕ) → a ≡ d.a → b ≡ d.b →
     east ≡ forth a → west ≡ back a → north ≡ forth b → south ≡ back b →
-    north_east ≡ min east north → south_west ≡ min west south → x ≡ run_of East (pos (east + south_west) -ℤ pos (west + north_east)) →
-    y ≡ run_of North (pos (north + south_west) -ℤ pos (south + north_east)) → z ≡ run_of SouthWest (pos south_west -ℤ pos north_east) →
+    north_east ≡ min east north → south_west ≡ min west south → x ≡ link_run_of East (pos (east + south_west) -ℤ pos (west + north_east)) →
+    y ≡ link_run_of North (pos (north + south_west) -ℤ pos (south + north_east)) → z ≡ link_run_of SouthWest (pos south_west -ℤ pos north_east) →
     longest_first (x ∷ y ∷ z ∷ []) ≡ longest_first (runs_of d)
 runs_steps d a b x y z east west north south north_east south_west ea eb e1 e2 e3 e4 e5 e6 ex ey ez =
-    let fx : x ≡ run_of East (d.a -ℤ median d.a d.b (pos 0)) = rw (ex, e5, e6, e1, e2, e3, e4, ea, eb) (ap (run_of East) (sym (less_median d.a d.b))) in
-    let fy : y ≡ run_of North (d.b -ℤ median d.a d.b (pos 0)) = rw (ey, e5, e6, e1, e2, e3, e4, ea, eb) (ap (run_of North) (sym (less_median_second d.a d.b))) in
-    let fz : z ≡ run_of SouthWest (neg_ℤ (median d.a d.b (pos 0))) = rw (ez, e5, e6, e1, e2, e3, e4, ea, eb) (ap (run_of SouthWest) (sym (minus_median d.a d.b))) in
+    let fx : x ≡ link_run_of East (d.a -ℤ median d.a d.b (pos 0)) = rw (ex, e5, e6, e1, e2, e3, e4, ea, eb) (ap (link_run_of East) (sym (less_median d.a d.b))) in
+    let fy : y ≡ link_run_of North (d.b -ℤ median d.a d.b (pos 0)) = rw (ey, e5, e6, e1, e2, e3, e4, ea, eb) (ap (link_run_of North) (sym (less_median_second d.a d.b))) in
+    let fz : z ≡ link_run_of SouthWest (neg_ℤ (median d.a d.b (pos 0))) = rw (ez, e5, e6, e1, e2, e3, e4, ea, eb) (ap (link_run_of SouthWest) (sym (minus_median d.a d.b))) in
     let rest : x ∷ y ∷ z ∷ [] ≡ runs_of d = rw (fx, fy, fz) in
     ap longest_first rest

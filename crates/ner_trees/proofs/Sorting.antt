@@ -9,7 +9,7 @@ use Rattle.std.proofs.lemmas.Cmp.{ranked, nat_cmp_total, on_total, then_total}
 use Rattle.std.proofs.lemmas.List.Sorted.{ranks_by, sorted_far}
 use Rattle.spin_base.specs.Links.{dir_number}
 use Rattle.machine_desc.specs.declared.trees.Edge.{Edge}
-use Rattle.ner_trees.specs.Order.{IsBefore, edge_key}
+use Rattle.machine_desc.specs.EdgeOrder.{IsEdgeBefore, edge_key}
 
 -- how the code compares two triples
 abbrev compared : ℕ × ℕ × ℕ → ℕ × ℕ × ℕ → Ordering
@@ -23,14 +23,14 @@ compared_total =
     then_total (then_total (on_total first nat_cmp_total) (on_total second nat_cmp_total)) (on_total third nat_cmp_total)
 
 -- an edge that comes before another is compared as less
-less_before : (e f : Edge) → IsBefore e f → is_lt (compared (edge_key e) (edge_key f)) ≡ true
+less_before : (e f : Edge) → IsEdgeBefore e f → is_lt (compared (edge_key e) (edge_key f)) ≡ true
 less_before e f before =
     by (nat_cmp e.chip.x f.chip.x) (nat_cmp e.chip.y f.chip.y) (nat_cmp (dir_number e.dir) (dir_number f.dir)) (ranked e.chip.x f.chip.x _ refl) (ranked e.chip.y f.chip.y _ refl)
     (ranked (dir_number e.dir) (dir_number f.dir) _ refl) before
   where
     by : (p q r : Ordering) → MatchOrdering p (e.chip.x < f.chip.x) (e.chip.x ≡ f.chip.x) (f.chip.x < e.chip.x) →
         MatchOrdering q (e.chip.y < f.chip.y) (e.chip.y ≡ f.chip.y) (f.chip.y < e.chip.y) →
-        MatchOrdering r (dir_number e.dir < dir_number f.dir) (dir_number e.dir ≡ dir_number f.dir) (dir_number f.dir < dir_number e.dir) → IsBefore e f →
+        MatchOrdering r (dir_number e.dir < dir_number f.dir) (dir_number e.dir ≡ dir_number f.dir) (dir_number f.dir < dir_number e.dir) → IsEdgeBefore e f →
         is_lt (ordering_then (ordering_then p q) r) ≡ true
     by Less q r x y z before = refl
     by Equal Less r x y z before = refl
@@ -47,7 +47,7 @@ less_before e f before =
     by Greater q r x y z (inl a) = absurd (omega (arith, x, a))
     by Greater q r x y z (inr (s, a)) = absurd (omega (arith, x, s))
 
-pub never_falls : (edges : List Edge) → IsSortedByKey edge_key compared edges → AllPairs (λ e f. IsBefore f e → ⊥) edges
+pub never_falls : (edges : List Edge) → IsSortedByKey edge_key compared edges → AllPairs (λ e f. IsEdgeBefore f e → ⊥) edges
 never_falls edges sorted i j d less short before =
     let never = sorted_far (λ (e f : Edge). is_lt (compared (edge_key e) (edge_key f))) (ranks_by compared_total edge_key) edges sorted i j d (omega arith) short in
     true≢false (sym (less_before _ _ before) ∙ never)

@@ -4,7 +4,7 @@ use Rattle.std.proofs.lemmas.Bool.{cases_eq, cases_Bool, ltb-true, ltb-false, eq
 use Rattle.std.proofs.lemmas.Int.{ints}
 use Rattle.std.specs.Prelude.{ℤ, pos, negsuc, ◌-ℤ◌, unsigned_abs}
 use Rattle.ner_trees.specs.declared.displacements.Disp.{Disp}
-use Rattle.ner_trees.specs.Geometry.{length_of, forth, back, disp, first_differs, is_before, least_of, on_torus, IsSmall}
+use Rattle.ner_trees.specs.Geometry.{length_of, forth, back, disp, first_differs, is_before, lesser_disp, on_torus, IsSmall}
 use Rattle.ner_trees.proofs.Signed.{length_is, abs_is}
 
 -- the first three of the numbers by which displacements are put in order, as one
@@ -69,13 +69,13 @@ pub record Least (d e r : Disp) : Type 0 where
   pub one : weight r ≤ weight d
   pub other : weight r ≤ weight e
 
-pub least : (d e : Disp) → IsSmall d → IsSmall e → Least d e (least_of d e)
+pub least : (d e : Disp) → IsSmall d → IsSmall e → Least d e (lesser_disp d e)
 least d e sd se = elim (cases_Bool (is_before e d)) [
   | inl before ↦
-      let at : least_of d e ≡ e = cond-true (is_before e d) e d before in
+      let at : lesser_disp d e ≡ e = cond-true (is_before e d) e d before in
       subst (λ (r : Disp). Least d e r) (sym at) (record { which = inr refl; small = se; one = before_true e d se sd before; other = (let l : weight e ≤ weight e = omega arith in l) })
   | inr after ↦
-      let at : least_of d e ≡ d = cond-false (is_before e d) e d after in
+      let at : lesser_disp d e ≡ d = cond-false (is_before e d) e d after in
       subst (λ (r : Disp). Least d e r) (sym at) (record { which = inl refl; small = sd; one = (let l : weight d ≤ weight d = omega arith in l); other = before_false e d se sd after })
 ]
 
@@ -129,9 +129,9 @@ torus_ways w h a b aw bh ws hs =
     let sa : a ≤ 64 = omega arith in
     let sb : b ≤ 64 = omega arith in
     let r1 = least d1 d2 (sa, sb) (sx, sb) in
-    let r2 = least (least_of d1 d2) d3 r1.small (sa, sy) in
-    let r3 = least (least_of (least_of d1 d2) d3) d4 r2.small (sx, sy) in
-    ways (least_of (least_of (least_of d1 d2) d3) d4)
+    let r2 = least (lesser_disp d1 d2) d3 r1.small (sa, sy) in
+    let r3 = least (lesser_disp (lesser_disp d1 d2) d3) d4 r2.small (sx, sy) in
+    ways (lesser_disp (lesser_disp (lesser_disp d1 d2) d3) d4)
     (elim r3.which [
       | inr four ↦ inr (inr (inr four))
       | inl three ↦ elim r2.which [

@@ -14,7 +14,7 @@ use Rattle.machine_desc.specs.Live.{far_of, IsInside}
 use Rattle.machine_desc.specs.RoutingTree.{end_of, IsTreeChip, IsPath}
 use Rattle.machine_desc.proofs.Far.{far_inside}
 use Rattle.machine_desc.proofs.TreeLemmas.{tree_end, tree_cases, more_chips, more_path, path_more}
-use Rattle.list_laws.proofs.Members.{Contains-none, Contains-first, Contains-later, Contains-cases}
+use Rattle.spin_base.proofs.Members.{Contains-none, Contains-first, Contains-later, Contains-cases}
 use Rattle.std.proofs.lemmas.Option.{same_Some}
 use Rattle.ner_trees.specs.declared.growths.Join.{Join}
 use Rattle.ner_trees.specs.Geometry.{displacement_of, distance_of}

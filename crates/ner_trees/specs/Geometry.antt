@@ -38,8 +38,8 @@ is_before d e =
     (is_before_signed d.a e.a (int_lt d.b e.b))))
 
 -- the first of two in that order
-abbrev pub least_of : Disp → Disp → Disp
-least_of d e = if is_before e d then e else d
+abbrev pub lesser_disp : Disp → Disp → Disp
+lesser_disp d e = if is_before e d then e else d
 
 -- the number of places from p ahead to q on an axis that is closed to a ring: their difference modulo the places
 abbrev pub ahead_by : ℕ → ℕ → ℕ → ℕ
@@ -52,7 +52,7 @@ disp a b = record { a = a; b = b }
 -- the first in order (this project's own).
 unfoldable pub on_torus : ℕ → ℕ → ℕ → ℕ → Disp
 on_torus width height a b =
-    least_of (least_of (least_of (disp (pos a) (pos b))
+    lesser_disp (lesser_disp (lesser_disp (disp (pos a) (pos b))
     (disp (pos a -ℤ pos width) (pos b)))
     (disp (pos a) (pos b -ℤ pos height)))
     (disp (pos a -ℤ pos width) (pos b -ℤ pos height))

@@ -10,7 +10,7 @@ use Rattle.machine_desc.specs.RoutingTree.{IsTreeChip}
 use Rattle.ner_trees.specs.declared.growths.Join.{Join}
 use Rattle.ner_trees.specs.Geometry.{displacement_of, distance_of}
 use Rattle.ner_trees.specs.LongestFirst.{ldf_of}
-use Rattle.ner_trees.specs.Order.{IsInOrder}
+use Rattle.machine_desc.specs.EdgeOrder.{AreEdgesInOrder}
 
 -- the chip where a step leads, and the same chip where the link leads nowhere
 abbrev pub or_stay : Chip → Option Chip → Chip
@@ -35,15 +35,15 @@ IsNotFarther m t c e =
     (distance_of m c t < distance_of m e t) ⊎ ((distance_of m c t ≡ distance_of m e t) × (index_of m c ≤ index_of m e))
 
 -- a chip of the tree from which the target is at most so many links away
-abbrev pub IsWithin : Description → Chip → List Edge → Chip → ℕ → Chip → Type 0
-IsWithin m root tree t radius c = IsTreeChip m root tree c × (distance_of m c t ≤ radius)
+abbrev pub IsTreeChipWithin : Description → Chip → List Edge → Chip → ℕ → Chip → Type 0
+IsTreeChipWithin m root tree t radius c = IsTreeChip m root tree c × (distance_of m c t ≤ radius)
 
 -- A target is joined to the nearest chip of the tree within 20 links, and to the root where there is none (Navaridas
 -- and others, 2015; the radius and the order of ties are this project's own).
 abbrev pub IsNear : Description → Chip → List Edge → Chip → Chip → Type 0
 IsNear m root tree t near =
-    (IsWithin m root tree t 20 near × ((e : Chip) → IsWithin m root tree t 20 e → IsNotFarther m t near e))
-    ⊎ (((e : Chip) → IsWithin m root tree t 20 e → ⊥) × (near ≡ root))
+    (IsTreeChipWithin m root tree t 20 near × ((e : Chip) → IsTreeChipWithin m root tree t 20 e → IsNotFarther m t near e))
+    ⊎ (((e : Chip) → IsTreeChipWithin m root tree t 20 e → ⊥) × (near ≡ root))
 
 -- The walk from there to the target may cross the tree. The last chip of the walk that is in the tree is where the new
 -- branch starts, and only the links after that chip are added.
@@ -55,6 +55,11 @@ pub record IsAdded (m : Description) (root : Chip) (tree : List Edge) (join : Jo
   pub on_tree : IsTreeChip m root tree join.start
   pub added_is : added ≡ links_of m join.start rest
   pub off_tree : All (λ e. IsTreeChip m root tree (next_of m e.chip e.dir) → ⊥) added
+
+-- the tree with the branch of a target that is joined to it
+abbrev pub IsJoinedBy : Description → Chip → List Edge → Join → List Edge → Type 0
+IsJoinedBy m root tree join whole =
+    IsNear m root tree join.target join.near × ((added : List Edge) × IsAdded m root tree join added × (whole ≡ tree ++ added))
 
 -- The targets are joined one after the other, each to the tree as it is then.
 abbrev pub Grows : Description → Chip → List Edge → List Join → List Edge → Type 0
@@ -69,7 +74,7 @@ pub record IsGrown (m : Description) (root : Chip) (targets : List Chip) (joins 
   pub whole : List Edge
   pub grows : Grows m root [] joins whole
   pub same_edges : (e : Edge) → Contains edges e ↔ Contains whole e
-  pub in_order : IsInOrder edges
+  pub in_order : AreEdgesInOrder edges
 
 -- how far the targets are from the root, all together
 abbrev pub distance_sum : Description → Chip → List Chip → ℕ

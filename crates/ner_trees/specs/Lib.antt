@@ -4,5 +4,4 @@ pub use Rattle.machine_desc.specs.RoutingTree
 pub mod Geometry
 pub mod Growth
 pub mod LongestFirst
-pub mod Order
 pub mod Search

@@ -16,9 +16,9 @@ abbrev pub median : ℤ → ℤ → ℤ → ℤ
 median a b c = int_max (int_min a b) (int_min (int_max a b) c)
 
 -- so many steps by a link, or by the opposite link where the number is negative
-abbrev pub run_of : Dir → ℤ → Run
-run_of d (pos n) = record { dir = d; count = n }
-run_of d (negsuc n) = record { dir = opposite_of d; count = suc n }
+abbrev pub link_run_of : Dir → ℤ → Run
+link_run_of d (pos n) = record { dir = d; count = n }
+link_run_of d (negsuc n) = record { dir = opposite_of d; count = suc n }
 
 -- One step by each of East, North and South-West leads nowhere, so a displacement (a, b) is (a, b, 0) along these three,
 -- and so is that with one number taken off all three. With the median taken off, one of the three is 0, and the steps
@@ -26,7 +26,7 @@ run_of d (negsuc n) = record { dir = opposite_of d; count = suc n }
 abbrev pub runs_of : Disp → List Run
 runs_of d =
     let m : ℤ = median d.a d.b (pos 0) in
-    run_of East (d.a -ℤ m) ∷ run_of North (d.b -ℤ m) ∷ run_of SouthWest (neg_ℤ m) ∷ []
+    link_run_of East (d.a -ℤ m) ∷ link_run_of North (d.b -ℤ m) ∷ link_run_of SouthWest (neg_ℤ m) ∷ []
 
 -- a run put before those that are not longer
 abbrev pub put_run : Run → List Run → List Run
@@ -38,12 +38,12 @@ abbrev pub longest_first : List Run → List Run
 longest_first [] = []
 longest_first (r ∷ rs) = put_run r (longest_first rs)
 
-abbrev pub steps_of : Run → List Dir
-steps_of r = replicate r.count r.dir
+abbrev pub run_links : Run → List Dir
+run_links r = replicate r.count r.dir
 
 -- The steps of a displacement, the longest run first.
 unfoldable pub ldf_of : Disp → List Dir
-ldf_of d = flat_map steps_of (longest_first (runs_of d))
+ldf_of d = flat_map run_links (longest_first (runs_of d))
 
 abbrev pub is_ahead : Step → Bool
 is_ahead Ahead = true

@@ -1,18 +1,28 @@
 -- The search for the chip of a tree that is nearest to a target, in a window round the target.
-use Rattle.std.specs.Prelude.{◌≡◌, ℕ, ◌+◌, ◌-◌, ◌*◌, ◌/◌, ◌%◌, ◌<◌, ◌≤◌, Bool, true, false, nat_lt, if◌then◌else◌, List, ◌++◌, Option, Some, None, All, ◌⊎◌, IfSome, slice_index_or}
+use Rattle.std.specs.Prelude.{◌≡◌, ℕ, ◌+◌, ◌-◌, ◌*◌, ◌/◌, ◌%◌, ◌<◌, ◌≤◌, Bool, true, false, nat_lt, if◌then◌else◌, List, ◌++◌, Option, Some, None, All, Any, ◌⊎◌, ◌↔◌, IfSome, slice_index_or}
 use Rattle.std.specs.Option.{IsSomeAnd}
 use Rattle.spin_base.specs.declared.chips.Chip.{Chip}
 use Rattle.spin_base.specs.declared.chips.Dir.{Dir}
 use Rattle.machine_desc.specs.declared.trees.Edge.{Edge}
 use Rattle.machine_desc.specs.Description.{Description}
 use Rattle.machine_desc.specs.Live.{chip_at, index_of, IsInside}
+use Rattle.machine_desc.specs.RoutingTree.{end_of, IsTreeChip}
 use Rattle.ner_trees.specs.Geometry.{distance_of}
 use Rattle.ner_trees.specs.declared.searches.Found.{Found}
-use Rattle.ner_trees.specs.Growth.{IsNotFarther, IsWithin, end_of_walk, links_of, next_of}
+use Rattle.ner_trees.specs.Growth.{IsNotFarther, IsTreeChipWithin, end_of_walk, links_of, next_of}
 
 -- what a table with a place for each chip says of a chip
 abbrev pub is_on : Description → List Bool → Chip → Bool
 is_on m on c = slice_index_or on (index_of m c) false
+
+-- the table has the chips of the tree
+abbrev pub TellsTree : Description → Chip → List Bool → List Edge → Type 0
+TellsTree m root on tree = (c : Chip) → IsInside m c → (is_on m on c ≡ true) ↔ IsTreeChip m root tree c
+
+-- a table that has, beside the chips of another, those where links lead
+abbrev pub IsMarkedBy : Description → List Bool → List Bool → List Edge → Type 0
+IsMarkedBy m old new links =
+    (c : Chip) → IsInside m c → (is_on m new c ≡ true) ↔ ((is_on m old c ≡ true) ⊎ Any (λ e. end_of m e ≡ Some c) links)
 
 -- the place on an axis that is so far past the place a radius before the centre, where there is one
 abbrev pub place_at : Bool → ℕ → ℕ → ℕ → ℕ → Option ℕ
@@ -68,5 +78,5 @@ pub record IsCloser (m : Description) (t : Chip) (best : Option Found) (chip : C
 -- The nearest of the chips of a tree within 20 links of the target.
 pub record IsLeastFound (m : Description) (root : Chip) (tree : List Edge) (t : Chip) (best : Option Found) : Type 0 where
   pub far : IfSome best (λ b. b.far ≡ distance_of m b.chip t)
-  pub within : IfSome best (λ b. IsWithin m root tree t 20 b.chip)
-  pub least : (e : Chip) → IsWithin m root tree t 20 e → IsSomeAnd best (λ b. IsNotFarther m t b.chip e)
+  pub within : IfSome best (λ b. IsTreeChipWithin m root tree t 20 b.chip)
+  pub least : (e : Chip) → IsTreeChipWithin m root tree t 20 e → IsSomeAnd best (λ b. IsNotFarther m t b.chip e)

@@ -1,12 +1,10 @@
 // Walks from a tree to a target, and what of them is added.
-ghost use Rattle.std.specs.Prelude.{◌≡◌, ◌*◌, ◌<◌, ◌⊎◌, ◌↔◌, ◌++◌, Some, true, length, IfOk, All, Any};
+ghost use Rattle.std.specs.Prelude.{◌≡◌, true, IfOk, All};
 ghost use Rattle.machine_desc.specs.Live.{IsInside};
-ghost use Rattle.machine_desc.specs.RoutingTree.{end_of};
 ghost use Rattle.ner_trees.specs.Growth.{next_of};
-ghost use Rattle.ner_trees.specs.Search.{is_on, IsCutAt};
-ghost use Rattle.spin_base.specs.declared.chips.Chip.{Chip};
+ghost use Rattle.ner_trees.specs.Search.{is_on, IsCutAt, IsMarkedBy};
 
-use machine_desc::{Edge, Machine};
+use machine_desc::{Edge, Machine, PerChip};
 use spin_base::{Chip, Dir, Memory};
 use std::alloc::Global;
 
@@ -32,16 +30,16 @@ fn next(machine: &Machine, at: Chip, dir: Dir) -> Chip
 // The part of a walk after the last of its chips that is in the tree.
 pub fn new_branch(
     alloc: Global,
-    machine: &Machine,
-    on: &[bool],
+    on: &PerChip<bool>,
     near: Chip,
     walk: &[Dir],
 ) -> Result<Branch, Memory>
-    requires inside { IsInside machine.now near }
-    requires long { length on.now ≡ machine.now.width * machine.now.height }
-    requires on_tree { is_on machine.now on.now near ≡ true }
-    ensures { IfOk result (λ b. IsCutAt machine.now on.now near walk.now b.start b.links.items) }
+    requires inside { IsInside on.now.machine.now near }
+    requires on_tree { is_on on.now.machine.now on.now.items.items near ≡ true }
+    ensures { IfOk result (λ b.
+        IsCutAt on.now.machine.now on.now.items.items near walk.now b.start b.links.items) }
 {
+    let machine = on.machine();
     let mut at = near;
     let mut start = near;
     let mut links = Vec::new(alloc);
@@ -51,7 +49,7 @@ pub fn new_branch(
             dir: *dir,
         })?;
         at = next(machine, at, *dir);
-        if on[machine.index(at) as usize] {
+        if on.at(at) {
             start = at;
             links.clear();
         }
@@ -60,16 +58,15 @@ pub fn new_branch(
 }
 
 // Notes in the table the chips where links lead.
-pub fn mark(machine: &Machine, on: &mut Vec<bool>, links: &[Edge])
-    requires inside { All (λ e. IsInside machine.now e.chip) links.now }
-    requires long { length on.old.items ≡ machine.now.width * machine.now.height }
-    ensures long { length on.new.items ≡ machine.now.width * machine.now.height }
-    ensures marked { (c : Chip) → IsInside machine.now c →
-        (is_on machine.now on.new.items c ≡ true) ↔ ((is_on machine.now on.old.items c ≡ true) ⊎ Any (λ e. end_of machine.now e ≡ Some c) links.now) }
+pub fn mark(on: &mut PerChip<bool>, links: &[Edge])
+    requires { All (λ e. IsInside on.old.machine.now e.chip) links.now }
+    ensures machine { on.new.machine.now ≡ on.old.machine.now }
+    ensures marked { IsMarkedBy on.old.machine.now on.old.items.items on.new.items.items links.now }
 {
+    let machine = on.machine();
     for link in links {
         if let Some(chip) = machine.far(link.chip, link.dir) {
-            on[machine.index(chip) as usize] = true;
+            on.set(chip, true);
         }
     }
 }

@@ -1,7 +1,7 @@
 // How far chips are from each other.
 ghost use Rattle.std.specs.Prelude.{◌≡◌, ◌+◌, ◌-◌, ◌%◌, ◌<◌, ◌≤◌, unsigned_abs, pos, ◌-ℤ◌, max, int_lt};
 ghost use Rattle.machine_desc.specs.Live.{IsInside};
-ghost use Rattle.ner_trees.specs.Geometry.{IsSmall, length_of, first_differs, is_before_signed, is_before, least_of, ahead_by, displacement_of, distance_of, forth, back, on_torus};
+ghost use Rattle.ner_trees.specs.Geometry.{IsSmall, length_of, first_differs, is_before_signed, is_before, lesser_disp, ahead_by, displacement_of, distance_of, forth, back, on_torus};
 
 use machine_desc::Machine;
 use spin_base::Chip;
@@ -81,7 +81,7 @@ impl Disp {
     fn or_before(self, other: Disp) -> Disp
         requires this { IsSmall self }
         requires that { IsSmall other }
-        ensures value { result ≡ least_of self other }
+        ensures value { result ≡ lesser_disp self other }
         ensures small { IsSmall result }
     {
         if other.is_before(self) { other } else { self }

@@ -1,20 +1,19 @@
 // Trees that grow from target to target.
-ghost use Rattle.std.specs.Prelude.{◌≡◌, ◌≢◌, ℕ, ◌+◌, ◌*◌, ◌<◌, ◌≤◌, ◌⊎◌, ◌↔◌, ◌++◌, List, Some, true, length, IfOk, All, AllPairs};
+ghost use Rattle.std.specs.Prelude.{◌≡◌, ◌≢◌, ℕ, ◌<◌, ◌≤◌, List, [], Some, length, IfOk, All, AllPairs};
 ghost use Rattle.std.specs.List.Sorted.{IsPermutation};
-ghost use Rattle.machine_desc.specs.Description.{HasSize};
 ghost use Rattle.machine_desc.specs.Live.{IsInside};
-ghost use Rattle.machine_desc.specs.RoutingTree.{end_of, IsTreeChip, IsTreeTo};
-ghost use Rattle.ner_trees.specs.Growth.{IsNear, IsAdded, IsGrown, IsWithoutDead, distance_sum};
-ghost use Rattle.ner_trees.specs.Order.{IsBefore};
-ghost use Rattle.ner_trees.specs.Search.{is_on};
+ghost use Rattle.machine_desc.specs.RoutingTree.{end_of, IsTreeTo};
+ghost use Rattle.ner_trees.specs.Growth.{IsJoinedBy, IsGrown, IsWithoutDead, distance_sum};
+ghost use Rattle.machine_desc.specs.EdgeOrder.{IsEdgeBefore};
+ghost use Rattle.ner_trees.specs.Search.{TellsTree};
 ghost use Rattle.spin_base.specs.declared.chips.Chip.{Chip};
-ghost use Rattle.machine_desc.specs.declared.trees.Edge.{Edge};
 
 use crate::cuts::{mark, new_branch};
 use crate::displacements::displacement;
+use crate::partial_trees::GrowingTree;
 use crate::searches::near_chip;
 use crate::walks::ldf;
-use machine_desc::{Edge, Machine, Tree};
+use machine_desc::{Edge, Machine, PerChip, Tree};
 use spin_base::{Chip, Memory, Seq, Shared};
 use std::alloc::Global;
 
@@ -39,7 +38,7 @@ impl Shared for Grown {}
 // The edges in the order of (x, y, link).
 fn in_order(edges: Vec<Edge>) -> Result<Vec<Edge>, Memory>
     ensures same_edges { IfOk result (λ v. IsPermutation edges.items v.items) }
-    ensures in_order { IfOk result (λ v. AllPairs (λ e f. IsBefore f e → ⊥) v.items) }
+    ensures in_order { IfOk result (λ v. AllPairs (λ e f. IsEdgeBefore f e → ⊥) v.items) }
 {
     let mut sorted = edges;
     sorted.sort_by_key(|edge| (edge.chip.x, edge.chip.y, edge.dir.number()))?;
@@ -47,36 +46,46 @@ fn in_order(edges: Vec<Edge>) -> Result<Vec<Edge>, Memory>
 }
 
 // Joins a target to the tree.
-fn add_target(
-    alloc: Global,
-    machine: &Machine,
-    root: Chip,
-    on: &mut Vec<bool>,
-    edges: &mut Vec<Edge>,
-    target: Chip,
-) -> Result<Join, Memory>
-    requires size { HasSize machine.now }
-    requires root_inside { IsInside machine.now root }
-    requires target_inside { IsInside machine.now target }
-    requires long { length on.old.items ≡ machine.now.width * machine.now.height }
-    requires on_is { (c : Chip) → IsInside machine.now c → (is_on machine.now on.old.items c ≡ true) ↔ IsTreeChip machine.now root edges.old.items c }
-    requires edges_inside { All (λ e. IsInside machine.now e.chip) edges.old.items }
-    ensures long { IfOk result (λ _. length on.new.items ≡ machine.now.width * machine.now.height) }
-    ensures on_is { IfOk result (λ _. (c : Chip) → IsInside machine.now c → (is_on machine.now on.new.items c ≡ true) ↔ IsTreeChip machine.now root edges.new.items c) }
-    ensures edges_inside { IfOk result (λ _. All (λ e. IsInside machine.now e.chip) edges.new.items) }
+fn add_target(alloc: Global, tree: &mut GrowingTree, target: Chip) -> Result<Join, Memory>
+    requires target_inside { IsInside tree.old.on.machine.now target }
+    requires on_is { TellsTree tree.old.on.machine.now tree.old.root
+        tree.old.on.items.items tree.old.edges.items }
+    ensures machine { IfOk result (λ _. tree.new.on.machine.now ≡ tree.old.on.machine.now) }
+    ensures root { IfOk result (λ _. tree.new.root ≡ tree.old.root) }
+    ensures on_is { IfOk result (λ _.
+        TellsTree tree.old.on.machine.now tree.old.root
+        tree.new.on.items.items tree.new.edges.items) }
     ensures target { IfOk result (λ j. j.target ≡ target) }
-    ensures near { IfOk result (λ j. IsNear machine.now root edges.old.items target j.near) }
-    ensures added { IfOk result (λ j. (added : List Edge) × IsAdded machine.now root edges.old.items j added × (edges.new.items ≡ edges.old.items ++ added)) }
+    ensures joined { IfOk result (λ j.
+        IsJoinedBy tree.old.on.machine.now tree.old.root tree.old.edges.items j
+        tree.new.edges.items) }
 {
-    let near = near_chip(machine, root, on, edges, target);
-    let walk = ldf(alloc, displacement(machine, near, target))?;
-    let branch = new_branch(alloc, machine, on, near, walk.as_slice())?;
-    edges.extend_from_slice(&branch.links)?;
-    mark(machine, on, &branch.links);
+    let near = near_chip(tree, target);
+    let walk = ldf(alloc, displacement(tree.on.machine(), near, target))?;
+    let branch = new_branch(alloc, &tree.on, near, walk.as_slice())?;
+    mark(&mut tree.on, &branch.links);
+    tree.edges.extend_from_slice(&branch.links)?;
     Ok(Join {
         target,
         near,
         start: branch.start,
+    })
+}
+
+// The tree that has its root and no edge.
+fn tree_of_root(alloc: Global, machine: &Machine, root: Chip) -> Result<GrowingTree, Memory>
+    requires { IsInside machine.now root }
+    ensures machine { IfOk result (λ t. t.on.machine.now ≡ machine.now) }
+    ensures root { IfOk result (λ t. t.root ≡ root) }
+    ensures edges { IfOk result (λ t. t.edges.items ≡ []) }
+    ensures on_is { IfOk result (λ t. TellsTree machine.now root t.on.items.items []) }
+{
+    let mut on = PerChip::filled(alloc, machine, false)?;
+    on.set(root, true);
+    Ok(GrowingTree {
+        root,
+        edges: Vec::new(alloc),
+        on,
     })
 }
 
@@ -94,23 +103,27 @@ pub fn ner(
     requires targets_inside { All (IsInside machine.now) targets.now }
     ensures root { IfOk result (λ g. g.tree.root ≡ root) }
     ensures grown { IfOk result (λ g. IsGrown machine.now root targets.now g.joins g.tree.edges) }
-    ensures edges_inside { IfOk result (λ g. All (λ e. IsInside machine.now e.chip) g.tree.edges) }
-    ensures none_into_root { IfOk result (λ g. All (λ e. end_of machine.now e ≢ Some root) g.tree.edges) }
-    ensures one_into_each { IfOk result (λ g. AllPairs (λ e f. (c : Chip) → end_of machine.now e ≡ Some c → end_of machine.now f ≢ Some c) g.tree.edges) }
-    ensures few_edges { IfOk result (λ g. length g.tree.edges ≤ distance_sum machine.now root targets.now) }
-    ensures routing { IfOk result (λ g. IsWithoutDead machine.now → 0 < length targets.now → IsTreeTo machine.now root g.tree.edges targets.now) }
+    ensures edges_inside { IfOk result (λ g.
+        All (λ e. IsInside machine.now e.chip) g.tree.edges) }
+    ensures none_into_root { IfOk result (λ g.
+        All (λ e. end_of machine.now e ≢ Some root) g.tree.edges) }
+    ensures one_into_each { IfOk result (λ g.
+        AllPairs (λ e f. (c : Chip) → end_of machine.now e ≡ Some c → end_of machine.now f ≢ Some c)
+        g.tree.edges) }
+    ensures few_edges { IfOk result (λ g.
+        length g.tree.edges ≤ distance_sum machine.now root targets.now) }
+    ensures routing { IfOk result (λ g. IsWithoutDead machine.now → 0 < length targets.now →
+        IsTreeTo machine.now root g.tree.edges targets.now) }
 {
-    let mut on = vec![in alloc; false; machine.chips()]?;
-    on[machine.index(root) as usize] = true;
-    let mut edges = Vec::new(alloc);
+    let mut tree = tree_of_root(alloc, machine, root)?;
     let mut joins = Seq::new(alloc);
     for target in targets.as_slice() {
-        joins.push(add_target(alloc, machine, root, &mut on, &mut edges, *target)?)?;
+        joins.push(add_target(alloc, &mut tree, *target)?)?;
     }
     Ok(Grown {
         tree: Tree {
             root,
-            edges: Seq::from_vec(in_order(edges)?),
+            edges: Seq::from_vec(in_order(tree.edges)?),
         },
         joins,
     })

@@ -1,15 +1,14 @@
 // The chip of a tree that is nearest to a target.
-ghost use Rattle.std.specs.Prelude.{◌≡◌, ◌+◌, ◌-◌, ◌*◌, ◌/◌, ◌%◌, ◌<◌, ◌≤◌, ◌⊎◌, ◌↔◌, Some, true, length, All, IfSome, IfNone, MatchBool};
-ghost use Rattle.machine_desc.specs.Description.{HasSize};
+ghost use Rattle.std.specs.Prelude.{◌≡◌, ◌+◌, ◌*◌, ◌<◌, ◌≤◌, ◌⊎◌, Some, All, IfSome, IfNone, MatchBool};
 ghost use Rattle.machine_desc.specs.Live.{IsInside, chip_at};
-ghost use Rattle.machine_desc.specs.RoutingTree.{IsTreeChip};
 ghost use Rattle.ner_trees.specs.Geometry.{distance_of};
 ghost use Rattle.ner_trees.specs.Growth.{IsNotFarther, IsNear};
-ghost use Rattle.ner_trees.specs.Search.{is_on, place_at, window_chip, IsOnWithin, IsNearestOn, IsNoneOn, IsCloser, IsLeastFound};
+ghost use Rattle.ner_trees.specs.Search.{place_at, window_chip, IsOnWithin, IsNearestOn, IsNoneOn, IsCloser, IsLeastFound, TellsTree};
 ghost use Rattle.spin_base.specs.declared.chips.Chip.{Chip};
 
 use crate::displacements::distance;
-use machine_desc::{Edge, Machine};
+use crate::partial_trees::{GrowingTree, Radius};
+use machine_desc::{Edge, Machine, PerChip};
 use spin_base::Chip;
 
 // How many chips a window of 20 to each side has.
@@ -17,15 +16,14 @@ const WIDEST_WINDOW: usize = 1681;
 
 // The place on an axis that is `offset` places past the one that lies `radius` places before the centre. `None` exactly
 // where the axis is open and has no such place.
-fn place_at(wrap: bool, places: u8, centre: u8, radius: u8, offset: u8) -> Option<u8>
-    requires some { 1 ≤ places }
+fn place_at(wrap: bool, places: u8, centre: u8, radius: Radius, offset: u8) -> Option<u8>
     requires small { places ≤ 64 }
     requires inside { centre < places }
-    requires near { radius ≤ 20 }
-    requires far { offset ≤ 2 * radius }
-    ensures value { result ≡ place_at wrap places centre radius offset }
+    requires far { offset ≤ 2 * radius.chips }
+    ensures value { result ≡ place_at wrap places centre radius.chips offset }
     ensures inside { IfSome result (λ n. n < places) }
 {
+    let radius = radius.chips;
     if wrap {
         let ahead = u16::from(centre) + u16::from(places) * 20 + u16::from(offset);
         return Some(((ahead - u16::from(radius)) % u16::from(places)) as u8);
@@ -55,14 +53,13 @@ fn chip_at(x: Option<u8>, y: Option<u8>) -> Option<Chip>
 }
 
 // The chip of a number in the window of `radius` chips to each side of the centre, column by column.
-fn window_chip(machine: &Machine, centre: Chip, radius: u8, number: u16) -> Option<Chip>
+fn window_chip(machine: &Machine, centre: Chip, radius: Radius, number: u16) -> Option<Chip>
     requires inside { IsInside machine.now centre }
-    requires near { radius ≤ 20 }
-    requires below { number < (2 * radius + 1) * (2 * radius + 1) }
-    ensures value { result ≡ window_chip machine.now centre radius number }
+    requires below { number < (2 * radius.chips + 1) * (2 * radius.chips + 1) }
+    ensures value { result ≡ window_chip machine.now centre radius.chips number }
     ensures inside { IfSome result (IsInside machine.now) }
 {
-    let side = 2 * u16::from(radius) + 1;
+    let side = 2 * u16::from(radius.chips) + 1;
     let (column, row) = ((number / side) as u8, (number % side) as u8);
     let x = place_at(machine.wrap(), machine.width(), centre.x, radius, column);
     let y = place_at(machine.wrap(), machine.height(), centre.y, radius, row);
@@ -70,17 +67,20 @@ fn window_chip(machine: &Machine, centre: Chip, radius: u8, number: u16) -> Opti
 }
 
 // The chip of a number in the window, where it is in the tree and the target is at most `radius` links from it.
-fn candidate(machine: &Machine, on: &[bool], target: Chip, radius: u8, number: u16) -> Option<Chip>
-    requires inside { IsInside machine.now target }
-    requires long { length on.now ≡ machine.now.width * machine.now.height }
-    requires near { radius ≤ 20 }
-    requires below { number < (2 * radius + 1) * (2 * radius + 1) }
-    ensures found { IfSome result (IsOnWithin machine.now on.now target radius) }
-    ensures none { IfNone result ((e : Chip) → window_chip machine.now target radius number ≡ Some e → IsOnWithin machine.now on.now target radius e → ⊥) }
-    ensures that_one { IfSome result (λ c. window_chip machine.now target radius number ≡ Some c) }
+fn candidate(on: &PerChip<bool>, target: Chip, radius: Radius, number: u16) -> Option<Chip>
+    requires inside { IsInside on.now.machine.now target }
+    requires below { number < (2 * radius.chips + 1) * (2 * radius.chips + 1) }
+    ensures found { IfSome result
+        (IsOnWithin on.now.machine.now on.now.items.items target radius.chips) }
+    ensures none { IfNone result ((e : Chip) →
+        window_chip on.now.machine.now target radius.chips number ≡ Some e →
+        IsOnWithin on.now.machine.now on.now.items.items target radius.chips e → ⊥) }
+    ensures that_one { IfSome result (λ c.
+        window_chip on.now.machine.now target radius.chips number ≡ Some c) }
 {
+    let machine = on.machine();
     let chip = window_chip(machine, target, radius, number)?;
-    if on[machine.index(chip) as usize] && distance(machine, chip, target) <= u32::from(radius) {
+    if on.at(chip) && distance(machine, chip, target) <= u32::from(radius.chips) {
         Some(chip)
     } else {
         None
@@ -92,7 +92,8 @@ fn is_nearer(machine: &Machine, target: Chip, c: Chip, e: Chip) -> bool
     requires target_inside { IsInside machine.now target }
     requires this_inside { IsInside machine.now c }
     requires that_inside { IsInside machine.now e }
-    ensures { MatchBool result (IsNotFarther machine.now target c e) (IsNotFarther machine.now target e c) }
+    ensures { MatchBool result
+        (IsNotFarther machine.now target c e) (IsNotFarther machine.now target e c) }
 {
     let (one, other) = (distance(machine, c, target), distance(machine, e, target));
     if one == other {
@@ -103,19 +104,18 @@ fn is_nearer(machine: &Machine, target: Chip, c: Chip, e: Chip) -> bool
 }
 
 // The nearest chip of the tree from which the target is at most `radius` links away.
-fn nearest_within(machine: &Machine, on: &[bool], target: Chip, radius: u8) -> Option<Chip>
-    requires size { HasSize machine.now }
-    requires inside { IsInside machine.now target }
-    requires long { length on.now ≡ machine.now.width * machine.now.height }
-    requires near { radius ≤ 20 }
-    ensures found { IfSome result (IsNearestOn machine.now on.now target radius) }
-    ensures none { IfNone result (IsNoneOn machine.now on.now target radius) }
+fn nearest_within(on: &PerChip<bool>, target: Chip, radius: Radius) -> Option<Chip>
+    requires { IsInside on.now.machine.now target }
+    ensures found { IfSome result
+        (IsNearestOn on.now.machine.now on.now.items.items target radius.chips) }
+    ensures none { IfNone result
+        (IsNoneOn on.now.machine.now on.now.items.items target radius.chips) }
 {
-    let side = 2 * u16::from(radius) + 1;
+    let side = 2 * u16::from(radius.chips) + 1;
     let mut best = None;
     for number in 0..side * side {
-        if let Some(chip) = candidate(machine, on, target, radius, number) {
-            best = Some(nearer(machine, target, best, chip));
+        if let Some(chip) = candidate(on, target, radius, number) {
+            best = Some(nearer(on.machine(), target, best, chip));
         }
     }
     best
@@ -127,7 +127,8 @@ fn nearer(machine: &Machine, target: Chip, best: Option<Chip>, chip: Chip) -> Ch
     requires best_inside { IfSome best (IsInside machine.now) }
     requires inside { IsInside machine.now chip }
     ensures first { IfNone best (result ≡ chip) }
-    ensures nearer { IfSome best (λ b. ((result ≡ b) × IsNotFarther machine.now target b chip) ⊎ ((result ≡ chip) × IsNotFarther machine.now target chip b)) }
+    ensures nearer { IfSome best (λ b. ((result ≡ b) × IsNotFarther machine.now target b chip)
+        ⊎ ((result ≡ chip) × IsNotFarther machine.now target chip b)) }
 {
     match best {
         None => chip,
@@ -152,7 +153,8 @@ fn first_of(machine: &Machine, target: Chip, old: Found, new: Found) -> Found
     requires new_inside { IsInside machine.now new.chip }
     requires old_far { old.far ≡ distance_of machine.now old.chip target }
     requires new_far { new.far ≡ distance_of machine.now new.chip target }
-    ensures { ((result ≡ old) × IsNotFarther machine.now target old.chip new.chip) ⊎ ((result ≡ new) × IsNotFarther machine.now target new.chip old.chip) }
+    ensures { ((result ≡ old) × IsNotFarther machine.now target old.chip new.chip)
+        ⊎ ((result ≡ new) × IsNotFarther machine.now target new.chip old.chip) }
 {
     if new.far < old.far {
         return new;
@@ -203,51 +205,42 @@ fn nearest_of_edges(machine: &Machine, root: Chip, edges: &[Edge], target: Chip)
 }
 
 // The same as `nearest_within` where the tree has at least as many edges as the window has chips; else nothing.
-fn nearest_if_many(
-    machine: &Machine,
-    on: &[bool],
-    edges: usize,
-    target: Chip,
-    radius: u8,
-) -> Option<Chip>
-    requires size { HasSize machine.now }
-    requires inside { IsInside machine.now target }
-    requires long { length on.now ≡ machine.now.width * machine.now.height }
-    requires near { radius ≤ 20 }
-    ensures { IfSome result (IsNearestOn machine.now on.now target radius) }
+fn nearest_if_many(on: &PerChip<bool>, edges: usize, target: Chip, radius: Radius) -> Option<Chip>
+    requires { IsInside on.now.machine.now target }
+    ensures { IfSome result
+        (IsNearestOn on.now.machine.now on.now.items.items target radius.chips) }
 {
-    let side = 2 * usize::from(radius) + 1;
+    let side = 2 * usize::from(radius.chips) + 1;
     if edges < side * side {
         return None;
     }
-    nearest_within(machine, on, target, radius)
+    nearest_within(on, target, radius)
 }
 
 // The chip of the tree to which a target is joined: the nearest within 20 links, and the root where there is none. What
 // is looked through is never more than the tree: a window only where it has fewer chips, near ones first.
-pub fn near_chip(machine: &Machine, root: Chip, on: &[bool], edges: &[Edge], target: Chip) -> Chip
-    requires size { HasSize machine.now }
-    requires root_inside { IsInside machine.now root }
-    requires edges_inside { All (λ e. IsInside machine.now e.chip) edges.now }
-    requires inside { IsInside machine.now target }
-    requires long { length on.now ≡ machine.now.width * machine.now.height }
-    requires on_is { (c : Chip) → IsInside machine.now c → (is_on machine.now on.now c ≡ true) ↔ IsTreeChip machine.now root edges.now c }
-    ensures { IsNear machine.now root edges.now target result }
+pub fn near_chip(tree: &GrowingTree, target: Chip) -> Chip
+    requires inside { IsInside tree.now.on.machine.now target }
+    requires on_is { TellsTree tree.now.on.machine.now tree.now.root
+        tree.now.on.items.items tree.now.edges.items }
+    ensures { IsNear tree.now.on.machine.now tree.now.root tree.now.edges.items target result }
 {
-    if let Some(chip) = nearest_if_many(machine, on, edges.len(), target, 2) {
+    let on = &tree.on;
+    let edges: &[Edge] = &tree.edges;
+    if let Some(chip) = nearest_if_many(on, edges.len(), target, Radius { chips: 2 }) {
         return chip;
     }
-    if let Some(chip) = nearest_if_many(machine, on, edges.len(), target, 6) {
+    if let Some(chip) = nearest_if_many(on, edges.len(), target, Radius { chips: 6 }) {
         return chip;
     }
     if edges.len() < WIDEST_WINDOW {
-        return match nearest_of_edges(machine, root, edges, target) {
+        return match nearest_of_edges(on.machine(), tree.root, edges, target) {
             Some(found) => found.chip,
-            None => root,
+            None => tree.root,
         };
     }
-    match nearest_within(machine, on, target, 20) {
+    match nearest_within(on, target, Radius { chips: 20 }) {
         Some(chip) => chip,
-        None => root,
+        None => tree.root,
     }
 }

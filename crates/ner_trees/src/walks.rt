@@ -1,7 +1,7 @@
 // Walks that go the longest dimension first.
 ghost use Rattle.std.specs.Prelude.{◌≡◌, ◌+◌, ◌-◌, ◌<◌, ◌≤◌, ◌∷◌, [], ◌++◌, IfOk, length, unsigned_abs, replicate, neg_ℤ, ◌-ℤ◌, pos};
 ghost use Rattle.ner_trees.specs.Geometry.{IsSmall, length_of, forth, back};
-ghost use Rattle.ner_trees.specs.LongestFirst.{median, run_of, runs_of, longest_first, ldf_of, sum_of};
+ghost use Rattle.ner_trees.specs.LongestFirst.{median, link_run_of, runs_of, longest_first, ldf_of, sum_of};
 
 use crate::displacements::{Disp, back, forth};
 use spin_base::{Dir, Memory, Seq};
@@ -16,7 +16,7 @@ struct Run {
 
 // So many steps by a link less so many by the opposite link: steps by the one that is left.
 fn along(dir: Dir, there: u32, back: u32) -> Run
-    ensures { result ≡ run_of dir (pos there -ℤ pos back) }
+    ensures { result ≡ link_run_of dir (pos there -ℤ pos back) }
 {
     if there < back {
         Run {

@@ -11,16 +11,16 @@ use Rattle.machine_desc.specs.Description.{Description}
 use Rattle.machine_desc.specs.Live.{far_of, IsLiveLink}
 use Rattle.machine_desc.specs.RoutingTree.{IsPath, IsTreeChip, IsRoutingTree}
 use Rattle.app_graph.specs.declared.graphs.Net.{Net}
-use Rattle.link_detours.specs.Repair.{IsWalkTo, IsFirstCutOff as IsFirstOfList}
-use Rattle.link_detours.specs.Cause.{IsCause as IsRepairCause}
+use Rattle.link_detours.specs.Repair.{IsWalkTo, IsFirstTargetCutOff as IsFirstOfList}
+use Rattle.link_detours.specs.Cause.{IsRepairCause}
 use Rattle.link_detours.specs.declared.repairs.RepairErr.{RepairErr}
 use Rattle.link_detours.specs.declared.repairs.RepairErr.TheVariants as repairs
-use Rattle.list_laws.proofs.Members.{Contains-map}
-use Rattle.list_laws.proofs.Places.{All-at}
+use Rattle.spin_base.proofs.Members.{Contains-map}
+use Rattle.spin_base.proofs.Places.{All-at}
 use Rattle.net_plans.specs.declared.nets.NetErr.{NetErr}
 use Rattle.net_plans.specs.declared.nets.NetErr.TheVariants as nets
-use Rattle.net_plans.specs.Cause.{IsCause, IsCauseOne, IsRefusedBy}
-use Rattle.net_plans.specs.CutOffTargets.{IsCutOffIn, HasNoneCutOff, IsFirstCutOffIn, IsFirstCutOff}
+use Rattle.net_plans.specs.Cause.{IsNetCause, IsCauseOne, IsRefusedBy}
+use Rattle.net_plans.specs.CutOffTargets.{IsCutOffIn, HasNoneCutOff, IsFirstCutOffIn, IsFirstNetCutOff}
 use Rattle.net_plans.specs.Order.{IsBelow}
 use Rattle.net_plans.specs.Targets.{chip_key, AreTargets, AreTargetChips}
 use Rattle.net_plans.proofs.Determined.{same_source}
@@ -116,7 +116,7 @@ module _ (m : Description) (spots : List Spot) (net : Net) where
   refused_one (Err repairs.Memory) none cause target first = inr refl
 
 module _ (m : Description) (spots : List Spot) (ns : List Net) where
-  pub one_first_net : (i j : ℕ) (a b : Chip) → IsFirstCutOff m spots ns i a → IsFirstCutOff m spots ns j b → (i ≡ j) × (a ≡ b)
+  pub one_first_net : (i j : ℕ) (a b : Chip) → IsFirstNetCutOff m spots ns i a → IsFirstNetCutOff m spots ns j b → (i ≡ j) × (a ≡ b)
   one_first_net i j a b first_a first_b = elim (cases_order i j) [
     | inl same ↦
         let net : first_b.net ≡ first_a.net = same_net_there ns j first_b.net first_a.net first_b.is (subst (λ k. slice_get ns k ≡ Some first_a.net) same first_a.is) in
@@ -125,8 +125,8 @@ module _ (m : Description) (spots : List Spot) (ns : List Net) where
     | inr (inr more) ↦ absurd (first_a.before j first_b.net more first_b.is first_b.target.source b first_b.target.is)
   ]
 
-  pub refused_first : {X : Type 0} (result : Result X NetErr) → IfOk result (λ _. All (HasNoneCutOff m spots) ns) → IfErr result (IsCause m spots ns) →
-      (i : ℕ) (target : Chip) → IsFirstCutOff m spots ns i target → IsRefusedBy result (nets.CutOff i target) nets.Memory
+  pub refused_first : {X : Type 0} (result : Result X NetErr) → IfOk result (λ _. All (HasNoneCutOff m spots) ns) → IfErr result (IsNetCause m spots ns) →
+      (i : ℕ) (target : Chip) → IsFirstNetCutOff m spots ns i target → IsRefusedBy result (nets.CutOff i target) nets.Memory
   refused_first (Ok x) none cause i target first = absurd (All-at (HasNoneCutOff m spots) ns i first.net none first.is first.target.source target first.target.is)
   refused_first (Err (nets.CutOff j other)) none cause i target first =
       let one = one_first_net j i other target cause first in

@@ -9,14 +9,14 @@ use Rattle.spin_base.specs.declared.blocks.Block.{Block}
 use Rattle.machine_desc.specs.Description.{Description}
 use Rattle.machine_desc.specs.Live.{IsInside, IsSite}
 use Rattle.app_graph.specs.declared.graphs.Net.{Net}
-use Rattle.net_tables.specs.declared.nets.NetPlan.{NetPlan}
+use Rattle.machine_desc.specs.declared.nets.NetPlan.{NetPlan}
 use Rattle.ner_trees.specs.declared.growths.Grown.{Grown}
 use Rattle.ner_trees.specs.Growth.{IsGrown}
 use Rattle.ner_trees.proofs.Determined.{one_tree}
 use Rattle.ner_trees.proofs.Ordered.{same_list}
 use Rattle.link_detours.specs.Repair.{IsRepaired}
-use Rattle.list_laws.proofs.Places.{All-at, slice_get_there}
-use Rattle.net_plans.specs.NetPlans.{joined_chips, IsPlanned, ArePlanned}
+use Rattle.spin_base.proofs.Places.{All-at, slice_get_there}
+use Rattle.net_plans.specs.NetPlans.{joined_chips, IsPlannedNet, ArePlanned}
 use Rattle.net_plans.specs.Order.{IsBelow}
 use Rattle.net_plans.specs.Targets.{spot_key, chip_key, AreTargets, AreTargetChips}
 use Rattle.net_plans.proofs.Ordering.{not_both}
@@ -53,7 +53,7 @@ same_places (x ∷ xs) (y ∷ ys) long each =
     each i (get_or (x ∷ xs) i x) (get_or (y ∷ ys) i x) (slice_get-get_or (x ∷ xs) i x less) (slice_get-get_or (y ∷ ys) i x also))
 
 module _ (m : Description) (spots : List Spot) (sites : All (IsSite m) spots) where
-  pub one_plan : (net : Net) (block : Block) (g h : Grown) (p q : NetPlan) → IsPlanned m spots net block g p → IsPlanned m spots net block h q → (g ≡ h) × (p ≡ q)
+  pub one_plan : (net : Net) (block : Block) (g h : Grown) (p q : NetPlan) → IsPlannedNet m spots net block g p → IsPlannedNet m spots net block h q → (g ≡ h) × (p ≡ q)
   one_plan net block g h p q a b =
       let source : p.source ≡ q.source = same_source spots net.source p.source q.source a.source b.source in
       let targets : p.targets ≡ q.targets = one_targets spots net.targets p.targets q.targets a.targets b.targets in

@@ -16,15 +16,15 @@ use Rattle.machine_desc.specs.RoutingTree.{IsTreeChip, IsTreeTo}
 use Rattle.machine_desc.proofs.Far.{live_inside}
 use Rattle.machine_desc.proofs.Sites.{site_parts}
 use Rattle.app_graph.specs.declared.graphs.Net.{Net}
-use Rattle.net_tables.specs.declared.nets.NetPlan.{NetPlan}
+use Rattle.machine_desc.specs.declared.nets.NetPlan.{NetPlan}
 use Rattle.ner_trees.specs.declared.growths.Grown.{Grown}
 use Rattle.ner_trees.specs.Growth.{IsGrown, distance_sum}
 use Rattle.link_detours.specs.Repair.{IsRepaired}
-use Rattle.list_laws.proofs.Members.{Contains-map, Contains-unmap}
-use Rattle.list_laws.proofs.Places.{All-at, All-each, slice_get-push_cases}
+use Rattle.spin_base.proofs.Members.{Contains-map, Contains-unmap}
+use Rattle.spin_base.proofs.Places.{All-at, All-each, slice_get-push_cases}
 use Rattle.net_plans.specs.Keys.{nowhere}
 use Rattle.net_plans.specs.CutOffTargets.{HasNoneCutOff}
-use Rattle.net_plans.specs.NetPlans.{joined_chips, IsPlanned, IsEachPlanned}
+use Rattle.net_plans.specs.NetPlans.{joined_chips, IsPlannedNet, IsEachPlanned}
 use Rattle.net_plans.specs.Targets.{AreTargets, AreTargetChips}
 
 -- sites are on chips of the grid
@@ -89,7 +89,7 @@ some_chip m root spots vertices targets chips are are_chips some within =
 pub plan_is : (m : Description) (spots : List Spot) (net : Net) (keys : Block) (source : Spot) (targets : List Spot) (chips : List Chip) (growth : Grown) (tree : Tree) →
     slice_get spots net.source ≡ Some source → AreTargets spots net.targets targets → AreTargetChips m source.chip targets chips → growth.tree.root ≡ source.chip →
     IsGrown m source.chip chips growth.joins growth.tree.edges → length growth.tree.edges ≤ distance_sum m source.chip chips → tree.root ≡ growth.tree.root →
-    IsRepaired m growth.tree.root growth.tree.edges chips tree.edges → IsPlanned m spots net keys growth (record { block = keys; source = source; targets = targets; tree = tree })
+    IsRepaired m growth.tree.root growth.tree.edges chips tree.edges → IsPlannedNet m spots net keys growth (record { block = keys; source = source; targets = targets; tree = tree })
 plan_is m spots net keys source targets chips growth tree at are are_chips from grown few root repaired =
     let joined : chips ≡ joined_chips growth = sym grown.each_joined in
     record {
@@ -142,7 +142,7 @@ module _ (m : Description) (spots : List Spot) (nets : List Net) where
 
   pub plans_more : (blocks : List Block) (grown : List Grown) (plans : List NetPlan) (i : ℕ) (net : Net) (block : Block) (tree : Grown) (plan : NetPlan) →
       length grown ≡ i → length plans ≡ i → slice_get nets i ≡ Some net → slice_get blocks i ≡ Some block → IsEachPlanned m spots nets blocks grown plans →
-      IsPlanned m spots net block tree plan → IsEachPlanned m spots nets blocks (grown ++ tree ∷ []) (plans ++ plan ∷ [])
+      IsPlannedNet m spots net block tree plan → IsEachPlanned m spots nets blocks (grown ++ tree ∷ []) (plans ++ plan ∷ [])
   plans_more blocks grown plans i net block tree plan trees_long plans_long net_at block_at each new j n b t p n_at b_at t_at p_at =
       elim (slice_get-push_cases grown tree t j t_at) [
         | inl old_tree ↦ elim (slice_get-push_cases plans plan p j p_at) [
@@ -157,7 +157,7 @@ module _ (m : Description) (spots : List Spot) (nets : List Net) where
               let b_here : slice_get blocks i ≡ Some b = subst (λ k. slice_get blocks k ≡ Some b) here b_at in
               let same_net : net ≡ n = cc in
               let same_block : block ≡ b = cc in
-              subst (λ x. IsPlanned m spots x b t p) same_net (subst (λ x. IsPlanned m spots net x t p) same_block
-              (subst (λ x. IsPlanned m spots net block x p) new_tree.1 (subst (IsPlanned m spots net block tree) new_plan.1 new)))
+              subst (λ x. IsPlannedNet m spots x b t p) same_net (subst (λ x. IsPlannedNet m spots net x t p) same_block
+              (subst (λ x. IsPlannedNet m spots net block x p) new_tree.1 (subst (IsPlannedNet m spots net block tree) new_plan.1 new)))
         ]
       ]

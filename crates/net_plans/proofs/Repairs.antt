@@ -14,9 +14,9 @@ use Rattle.machine_desc.proofs.Far.{far_back, live_ends, live_inside}
 use Rattle.machine_desc.proofs.Same.{same_dir, same_edge}
 use Rattle.machine_desc.proofs.TreeLemmas.{tree_end, tree_cases}
 use Rattle.link_detours.specs.Steps.{Steps}
-use Rattle.link_detours.specs.Usable.{link_place}
+use Rattle.machine_desc.specs.Flags.{link_place}
 use Rattle.link_detours.specs.Repair.{EdgeStep, IsTreeLevel, IsLastLink, IsDetour, Joins, LeadsToTarget, IsRepaired}
-use Rattle.list_laws.proofs.Ascending.{same_in_order}
+use Rattle.spin_base.proofs.Ascending.{same_in_order}
 
 -- all edges of the first list are in the second
 abbrev pub Has : List Edge → List Edge → Type 0

@@ -9,20 +9,20 @@ use Rattle.spin_base.specs.declared.blocks.Block.{Block}
 use Rattle.machine_desc.specs.Description.{Description}
 use Rattle.machine_desc.specs.RoutingTree.{IsRoutingTree}
 use Rattle.app_graph.specs.declared.graphs.Net.{Net}
-use Rattle.net_tables.specs.declared.nets.NetPlan.{NetPlan}
+use Rattle.machine_desc.specs.declared.nets.NetPlan.{NetPlan}
 use Rattle.ner_trees.specs.declared.growths.Grown.{Grown}
 use Rattle.link_detours.specs.declared.repairs.RepairErr.{RepairErr}
 use Rattle.link_detours.specs.declared.repairs.RepairErr.TheVariants as repairs
-use Rattle.list_laws.proofs.Places.{AllZip-at_second, slice_get_there, slice_get-push_cases}
+use Rattle.spin_base.proofs.Places.{AllZip-at_second, slice_get_there, slice_get-push_cases}
 use Rattle.net_plans.specs.declared.nets.NetErr.{NetErr}
 use Rattle.net_plans.specs.declared.nets.NetErr.TheVariants.{CutOff, Memory}
 use Rattle.net_plans.specs.declared.nets.Routed.{Routed}
 use Rattle.net_plans.specs.declared.nets.RoutedNet.{RoutedNet}
-use Rattle.net_plans.specs.Cause.{IsCause, IsCauseOne}
-use Rattle.net_plans.specs.CutOffTargets.{HasNoneCutOff, IsFirstCutOff}
-use Rattle.net_plans.specs.NetPlans.{ArePlanned, IsPlanned}
+use Rattle.net_plans.specs.Cause.{IsNetCause, IsCauseOne}
+use Rattle.net_plans.specs.CutOffTargets.{HasNoneCutOff, IsFirstNetCutOff}
+use Rattle.net_plans.specs.NetPlans.{ArePlanned, IsPlannedNet}
 use Rattle.net_plans.proofs.Planning.{long_more}
-use Rattle.net_plans.specs.Ways.{AreRouted, HaveWays, IsFirstCut, IsFirstWithout, IsRouted, IsRoutedNet, IsWay}
+use Rattle.net_plans.specs.Ways.{AreRoutedNets, HaveWays, IsFirstCut, IsFirstWithout, HasTreeAndPlan, IsRoutedNet, IsRoutingAnswer}
 
 -- ---- the items that are left
 
@@ -101,8 +101,8 @@ ways_before items grown plans k have j other less at =
 -- ---- what the items say of the nets
 
 -- what one net's routing answers
-pub way_of : (m : Description) (spots : List Spot) (net : Net) (block : Block) (w : Result Routed RepairErr) → IfOk w (λ r. IsPlanned m spots net block r.grown r.plan) →
-    IfOk w (λ r. IsRoutingTree m r.plan.tree.root r.plan.tree.edges r.plan.targets) → IfOk w (λ _. HasNoneCutOff m spots net) → IfErr w (IsCauseOne m spots net) → IsWay m spots net block w
+pub way_of : (m : Description) (spots : List Spot) (net : Net) (block : Block) (w : Result Routed RepairErr) → IfOk w (λ r. IsPlannedNet m spots net block r.grown r.plan) →
+    IfOk w (λ r. IsRoutingTree m r.plan.tree.root r.plan.tree.edges r.plan.targets) → IfOk w (λ _. HasNoneCutOff m spots net) → IfErr w (IsCauseOne m spots net) → IsRoutingAnswer m spots net block w
 way_of m spots net block (Ok r) planned routing reached cause = record { planned = planned; routing = routing; reached = reached }
 way_of m spots net block (Err e) planned routing reached cause = cause
 
@@ -111,7 +111,7 @@ zero_more i = omega arith
 
 module _ (m : Description) (spots : List Spot) (nets : List Net) (blocks : List Block) (items : List RoutedNet) where
   -- the numbers of nets in order, each beside what came of it
-  pub routed_all : (numbers : List ℕ) → numbers ≡ range_with_len 0 (length nets) → AllZip (IsRoutedNet m spots nets blocks) numbers items → AreRouted m spots nets blocks items
+  pub routed_all : (numbers : List ℕ) → numbers ≡ range_with_len 0 (length nets) → AllZip (IsRoutedNet m spots nets blocks) numbers items → AreRoutedNets m spots nets blocks items
   routed_all numbers are each = record {
     one_each = long numbers items each ∙ (ap length are ∙ length-range_with_len 0 (length nets));
     each = λ i item at.
@@ -129,23 +129,23 @@ module _ (m : Description) (spots : List Spot) (nets : List Net) (blocks : List 
       long (n ∷ ns) [] h = absurd h
       long (n ∷ ns) (x ∷ is) h = ap suc (long ns is h.1)
 
-  way_is : (net : Net) (block : Block) (w : Result Routed RepairErr) (r : Routed) → w ≡ Ok r → IsWay m spots net block w → IsRouted m spots net block r
-  way_is net block w r is way = subst (IsWay m spots net block) is way
+  way_is : (net : Net) (block : Block) (w : Result Routed RepairErr) (r : Routed) → w ≡ Ok r → IsRoutingAnswer m spots net block w → HasTreeAndPlan m spots net block r
+  way_is net block w r is way = subst (IsRoutingAnswer m spots net block) is way
 
-  cut_is : (net : Net) (block : Block) (w : Result Routed RepairErr) (target : Chip) → w ≡ Err (repairs.CutOff target) → IsWay m spots net block w → IsWay m spots net block (Err (repairs.CutOff target))
-  cut_is net block w target is way = subst (IsWay m spots net block) is way
+  cut_is : (net : Net) (block : Block) (w : Result Routed RepairErr) (target : Chip) → w ≡ Err (repairs.CutOff target) → IsRoutingAnswer m spots net block w → IsRoutingAnswer m spots net block (Err (repairs.CutOff target))
+  cut_is net block w target is way = subst (IsRoutingAnswer m spots net block) is way
 
-  module _ (are : AreRouted m spots nets blocks items) where
+  module _ (are : AreRoutedNets m spots nets blocks items) where
     -- the net at a place where an item has a tree and a plan
     routed_at : (i : ℕ) (item : RoutedNet) (r : Routed) (net : Net) (block : Block) → slice_get items i ≡ Some item → item.way ≡ Ok r → slice_get nets i ≡ Some net → slice_get blocks i ≡ Some block →
-        IsRouted m spots net block r
+        HasTreeAndPlan m spots net block r
     routed_at i item r net block at way net_at block_at =
         let one = are.each i item at in
         let here = one.at in
         let keyed = one.keyed in
         let same_net : one.net ≡ net = cc in
         let same_block : one.block ≡ block = cc in
-        subst (λ n. IsRouted m spots n block r) same_net (subst (λ b. IsRouted m spots one.net b r) same_block (way_is one.net one.block item.way r way one.way))
+        subst (λ n. HasTreeAndPlan m spots n block r) same_net (subst (λ b. HasTreeAndPlan m spots one.net b r) same_block (way_is one.net one.block item.way r way one.way))
 
     -- no target of a net is cut off where its item has a tree and a plan
     reached_at : (i : ℕ) (item : RoutedNet) (r : Routed) (net : Net) → slice_get items i ≡ Some item → item.way ≡ Ok r → slice_get nets i ≡ Some net → HasNoneCutOff m spots net
@@ -188,11 +188,11 @@ module _ (m : Description) (spots : List Spot) (nets : List Net) (blocks : List 
           let plan = slice_get_there plans k (omega (arith, below, one_each, plans_long)) in
           reached_at k item.0 (record { grown = tree.0; plan = plan.0 }) (get_or nets k d) item.1 (have.each k item.0 tree.0 plan.0 item.1 tree.1 plan.1) (slice_get-get_or nets k d below)
 
-    cut_of : (net : ℕ) (target : Chip) → IsFirstCut items net target → IsFirstCutOff m spots nets net target
+    cut_of : (net : ℕ) (target : Chip) → IsFirstCut items net target → IsFirstNetCutOff m spots nets net target
     cut_of net target first =
         let one = are.each first.place first.item first.at in
         let number : first.place ≡ net = sym one.names ∙ first.names in
-        subst (λ n. IsFirstCutOff m spots nets n target) number (record {
+        subst (λ n. IsFirstNetCutOff m spots nets n target) number (record {
           net = one.net;
           is = one.at;
           target = cut_is one.net one.block first.item.way target first.cut_off one.way;
@@ -203,6 +203,6 @@ module _ (m : Description) (spots : List Spot) (nets : List Net) (blocks : List 
               reached_at j item.0 way.0 earlier item.1 way.1 at;
         })
 
-    pub cause_of : (e : NetErr) → IsFirstWithout items e → IsCause m spots nets e
+    pub cause_of : (e : NetErr) → IsFirstWithout items e → IsNetCause m spots nets e
     cause_of (CutOff net target) first = cut_of net target first
     cause_of Memory first = tt

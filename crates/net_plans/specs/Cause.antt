@@ -5,7 +5,7 @@ use Rattle.machine_desc.specs.Description.{Description}
 use Rattle.app_graph.specs.declared.graphs.Net.{Net}
 use Rattle.link_detours.specs.declared.repairs.RepairErr.{RepairErr}
 use Rattle.link_detours.specs.declared.repairs.RepairErr.TheVariants as repairs
-use Rattle.net_plans.specs.CutOffTargets.{IsFirstCutOffIn, IsFirstCutOff}
+use Rattle.net_plans.specs.CutOffTargets.{IsFirstCutOffIn, IsFirstNetCutOff}
 use Rattle.net_plans.specs.declared.nets.NetErr.{NetErr}
 use Rattle.net_plans.specs.declared.nets.NetErr.TheVariants.{CutOff, Memory}
 
@@ -15,9 +15,9 @@ IsCauseOne m spots net (repairs.CutOff target) = IsFirstCutOffIn m spots net tar
 IsCauseOne m spots net repairs.Memory = Unit {0}
 
 -- The first net with a target that is cut off. Want of memory is free.
-abbrev pub IsCause : Description → List Spot → List Net → NetErr → Type 0
-IsCause m spots nets (CutOff net target) = IsFirstCutOff m spots nets net target
-IsCause m spots nets Memory = Unit {0}
+abbrev pub IsNetCause : Description → List Spot → List Net → NetErr → Type 0
+IsNetCause m spots nets (CutOff net target) = IsFirstNetCutOff m spots nets net target
+IsNetCause m spots nets Memory = Unit {0}
 
 -- an answer that names this error, or wants memory
 abbrev pub IsRefusedBy : {X E : Type 0} → Result X E → E → E → Type 0

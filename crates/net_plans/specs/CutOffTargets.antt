@@ -31,7 +31,7 @@ pub record IsFirstCutOffIn (m : Description) (spots : List Spot) (net : Net) (ch
   pub first : (other : Chip) → IsCutOffIn m spots net source other → IsBelow (chip_key m source.chip other) (chip_key m source.chip chip) → ⊥
 
 -- The first net with a target that is cut off, and its first such target.
-pub record IsFirstCutOff (m : Description) (spots : List Spot) (nets : List Net) (i : ℕ) (chip : Chip) : Type 0 where
+pub record IsFirstNetCutOff (m : Description) (spots : List Spot) (nets : List Net) (i : ℕ) (chip : Chip) : Type 0 where
   pub net : Net
   pub is : slice_get nets i ≡ Some net
   pub target : IsFirstCutOffIn m spots net chip

@@ -6,7 +6,7 @@ use Rattle.spin_base.specs.declared.chips.Spot.{Spot}
 use Rattle.spin_base.specs.declared.blocks.Block.{Block}
 use Rattle.machine_desc.specs.Description.{Description}
 use Rattle.app_graph.specs.declared.graphs.Net.{Net}
-use Rattle.net_tables.specs.declared.nets.NetPlan.{NetPlan}
+use Rattle.machine_desc.specs.declared.nets.NetPlan.{NetPlan}
 use Rattle.ner_trees.specs.declared.growths.Grown.{Grown}
 use Rattle.ner_trees.specs.declared.growths.Join.{Join}
 use Rattle.ner_trees.specs.Growth.{IsGrown, distance_sum}
@@ -20,7 +20,7 @@ joined_chips grown = map (λ (j : Join). j.target) grown.joins
 -- The plan of a net has its block, the core of its source, and its targets. A tree grows from the source's chip to the
 -- target chips, whatever is dead, with no more edges than the target chips are far from the root, all together. The net's
 -- tree is that tree with its detours round dead links.
-pub record IsPlanned (m : Description) (spots : List Spot) (net : Net) (keys : Block) (growth : Grown) (plan : NetPlan) : Type 0 where
+pub record IsPlannedNet (m : Description) (spots : List Spot) (net : Net) (keys : Block) (growth : Grown) (plan : NetPlan) : Type 0 where
   pub block : plan.block ≡ keys
   pub source : slice_get spots net.source ≡ Some plan.source
   pub targets : AreTargets spots net.targets plan.targets
@@ -35,7 +35,7 @@ pub record IsPlanned (m : Description) (spots : List Spot) (net : Net) (keys : B
 abbrev pub IsEachPlanned : Description → List Spot → List Net → List Block → List Grown → List NetPlan → Type 0
 IsEachPlanned m spots nets blocks grown plans =
     (i : ℕ) (net : Net) (block : Block) (tree : Grown) (plan : NetPlan) → slice_get nets i ≡ Some net → slice_get blocks i ≡ Some block →
-    slice_get grown i ≡ Some tree → slice_get plans i ≡ Some plan → IsPlanned m spots net block tree plan
+    slice_get grown i ≡ Some tree → slice_get plans i ≡ Some plan → IsPlannedNet m spots net block tree plan
 
 -- The plans of nets: each net has a tree that grew and a plan, at the net's place in the list.
 pub record ArePlanned (m : Description) (spots : List Spot) (nets : List Net) (blocks : List Block) (grown : List Grown) (plans : List NetPlan) : Type 0 where

@@ -13,7 +13,7 @@ use Rattle.link_detours.specs.declared.repairs.RepairErr.{RepairErr}
 use Rattle.link_detours.specs.declared.repairs.RepairErr.TheVariants.{CutOff}
 use Rattle.link_detours.specs.declared.roads.Roads.{Roads}
 use Rattle.ner_trees.specs.declared.growths.Grown.{Grown}
-use Rattle.net_tables.specs.declared.nets.NetPlan.{NetPlan}
+use Rattle.machine_desc.specs.declared.nets.NetPlan.{NetPlan}
 use Rattle.link_detours.specs.LiveRoads.{AreRoadsOf}
 use Rattle.net_plans.specs.declared.nets.Routed.{Routed}
 use Rattle.net_plans.specs.declared.nets.RoutedNet.{RoutedNet}
@@ -21,7 +21,7 @@ use Rattle.net_plans.specs.declared.nets.NetErr.{NetErr}
 use Rattle.net_plans.specs.declared.nets.NetErr.TheVariants as errors
 use Rattle.net_plans.specs.Cause.{IsCauseOne}
 use Rattle.net_plans.specs.CutOffTargets.{HasNoneCutOff}
-use Rattle.net_plans.specs.NetPlans.{IsPlanned}
+use Rattle.net_plans.specs.NetPlans.{IsPlannedNet}
 
 -- what threads are lent to route nets: a machine with its live links, a graph, and a core or site for each vertex and a block
 -- for each net
@@ -33,15 +33,15 @@ pub record CanRoute (m : Description) (roads : Roads) (graph : Graph) (spots : L
   pub a_block_each : length blocks ≡ length graph.nets
 
 -- a net's tree and plan, with no target cut off
-pub record IsRouted (m : Description) (spots : List Spot) (net : Net) (block : Block) (r : Routed) : Type 0 where
-  pub planned : IsPlanned m spots net block r.grown r.plan
+pub record HasTreeAndPlan (m : Description) (spots : List Spot) (net : Net) (block : Block) (r : Routed) : Type 0 where
+  pub planned : IsPlannedNet m spots net block r.grown r.plan
   pub routing : IsRoutingTree m r.plan.tree.root r.plan.tree.edges r.plan.targets
   pub reached : HasNoneCutOff m spots net
 
 -- what routing a net may answer
-abbrev pub IsWay : Description → List Spot → Net → Block → Result Routed RepairErr → Type 0
-IsWay m spots net block (Ok r) = IsRouted m spots net block r
-IsWay m spots net block (Err e) = IsCauseOne m spots net e
+abbrev pub IsRoutingAnswer : Description → List Spot → Net → Block → Result Routed RepairErr → Type 0
+IsRoutingAnswer m spots net block (Ok r) = HasTreeAndPlan m spots net block r
+IsRoutingAnswer m spots net block (Err e) = IsCauseOne m spots net e
 
 -- what came of routing the net at this place
 pub record IsRoutedNet (m : Description) (spots : List Spot) (nets : List Net) (blocks : List Block) (i : ℕ) (item : RoutedNet) : Type 0 where
@@ -50,10 +50,10 @@ pub record IsRoutedNet (m : Description) (spots : List Spot) (nets : List Net) (
   pub at : slice_get nets i ≡ Some net
   pub block : Block
   pub keyed : slice_get blocks i ≡ Some block
-  pub way : IsWay m spots net block item.way
+  pub way : IsRoutingAnswer m spots net block item.way
 
 -- what came of routing each net, in the order of the nets
-pub record AreRouted (m : Description) (spots : List Spot) (nets : List Net) (blocks : List Block) (items : List RoutedNet) : Type 0 where
+pub record AreRoutedNets (m : Description) (spots : List Spot) (nets : List Net) (blocks : List Block) (items : List RoutedNet) : Type 0 where
   pub one_each : length items ≡ length nets
   pub each : (i : ℕ) (item : RoutedNet) → slice_get items i ≡ Some item → IsRoutedNet m spots nets blocks i item
 

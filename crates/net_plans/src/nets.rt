@@ -5,17 +5,16 @@ ghost use Rattle.machine_desc.specs.Live.{IsSite};
 ghost use Rattle.machine_desc.specs.RoutingTree.{IsRoutingTree};
 ghost use Rattle.app_graph.specs.ValidGraph.{IsValidGraph, IsValidNet};
 ghost use Rattle.link_detours.specs.LiveRoads.{AreRoadsOf};
-ghost use Rattle.net_plans.specs.Cause.{IsCause, IsCauseOne, IsRefusedBy};
-ghost use Rattle.net_plans.specs.CutOffTargets.{HasNoneCutOff, IsFirstCutOffIn, IsFirstCutOff};
-ghost use Rattle.net_plans.specs.NetPlans.{IsPlanned, ArePlanned};
-ghost use Rattle.net_plans.specs.Ways.{AreRouted, CanRoute, HaveWays, IsFirstWithout, IsRoutedNet};
+ghost use Rattle.net_plans.specs.Cause.{IsNetCause, IsCauseOne, IsRefusedBy};
+ghost use Rattle.net_plans.specs.CutOffTargets.{HasNoneCutOff, IsFirstCutOffIn, IsFirstNetCutOff};
+ghost use Rattle.net_plans.specs.NetPlans.{IsPlannedNet, ArePlanned};
+ghost use Rattle.net_plans.specs.Ways.{AreRoutedNets, CanRoute, HaveWays, IsFirstWithout, IsRoutedNet};
 
 use crate::targets::{target_chips, targets_of};
 use app_graph::{Graph, Net};
 use link_detours::{RepairErr, Roads, repair};
-use machine_desc::Machine;
+use machine_desc::{Machine, NetPlan};
 use ner_trees::{Grown, ner};
-use net_tables::NetPlan;
 use rayon::prelude::*;
 use spin_base::{Block, Chip, Memory, Seq, Shared, Spot};
 use std::alloc::{AllocError, Global};
@@ -85,11 +84,14 @@ pub fn net_plans<R: Threads + Sync>(
     requires a_spot_each { length spots.now ≡ length graph.now.vertices }
     requires sites { All (IsSite machine.now) spots.now }
     requires a_block_each { length blocks.now ≡ length graph.now.nets }
-    ensures planned { IfOk result (λ r. ArePlanned machine.now spots.now graph.now.nets blocks.now r.grown r.plans) }
-    ensures routing { IfOk result (λ r. All (λ p. IsRoutingTree machine.now p.tree.root p.tree.edges p.targets) r.plans) }
+    ensures planned { IfOk result (λ r.
+        ArePlanned machine.now spots.now graph.now.nets blocks.now r.grown r.plans) }
+    ensures routing { IfOk result (λ r.
+        All (λ p. IsRoutingTree machine.now p.tree.root p.tree.edges p.targets) r.plans) }
     ensures reached { IfOk result (λ _. All (HasNoneCutOff machine.now spots.now) graph.now.nets) }
-    ensures cause { IfErr result (IsCause machine.now spots.now graph.now.nets) }
-    ensures cut_off { (i : ℕ) (target : Chip) → IsFirstCutOff machine.now spots.now graph.now.nets i target →
+    ensures cause { IfErr result (IsNetCause machine.now spots.now graph.now.nets) }
+    ensures cut_off { (i : ℕ) (target : Chip) →
+        IsFirstNetCutOff machine.now spots.now graph.now.nets i target →
         IsRefusedBy result (NetErr.CutOff i target) NetErr.Memory }
 {
     let roads = Roads::of(alloc, machine)?;
@@ -130,14 +132,17 @@ fn routed_nets<R: Threads + Sync>(
     blocks: &Seq<Block>,
 ) -> Result<Vec<RoutedNet>, AllocError>
     requires { CanRoute machine.now roads.now graph.now spots.now blocks.now }
-    ensures { IfOk result (λ routed. AreRouted machine.now spots.now graph.now.nets blocks.now routed.items) }
+    ensures { IfOk result (λ routed.
+        AreRoutedNets machine.now spots.now graph.now.nets blocks.now routed.items) }
 {
     (0..graph.nets.len())
         .into_par_iter()
         .map(
             |i: usize| -> RoutedNet
-                requires { CanRoute machine.now roads.now graph.now spots.now blocks.now × (i < length graph.now.nets) }
-                ensures { IsRoutedNet machine.entry.now spots.entry.now graph.entry.now.nets blocks.entry.now i result }
+                requires { CanRoute machine.now roads.now graph.now spots.now blocks.now
+                    × (i < length graph.now.nets) }
+                ensures { IsRoutedNet machine.entry.now spots.entry.now graph.entry.now.nets
+                    blocks.entry.now i result }
             { routed_net(alloc, machine, roads, graph, spots, blocks, i) },
         )
         .collect(rt, alloc)
@@ -180,8 +185,10 @@ pub fn net_plan(
     requires roads_are { AreRoadsOf machine.now roads.now }
     requires valid { IsValidNet (length spots.now) net.now }
     requires sites { All (IsSite machine.now) spots.now }
-    ensures planned { IfOk result (λ r. IsPlanned machine.now spots.now net.now block r.grown r.plan) }
-    ensures routing { IfOk result (λ r. IsRoutingTree machine.now r.plan.tree.root r.plan.tree.edges r.plan.targets) }
+    ensures planned { IfOk result (λ r.
+        IsPlannedNet machine.now spots.now net.now block r.grown r.plan) }
+    ensures routing { IfOk result (λ r.
+        IsRoutingTree machine.now r.plan.tree.root r.plan.tree.edges r.plan.targets) }
     ensures reached { IfOk result (λ _. HasNoneCutOff machine.now spots.now net.now) }
     ensures cause { IfErr result (IsCauseOne machine.now spots.now net.now) }
     ensures cut_off { (target : Chip) → IsFirstCutOffIn machine.now spots.now net.now target →

@@ -3,7 +3,7 @@ ghost use Rattle.std.specs.Prelude.{◌≡◌, ◌<◌, ℕ, All, map, length, s
 ghost use Rattle.spin_base.specs.declared.chips.Spot.{Spot};
 ghost use Rattle.machine_desc.specs.Live.{IsInside};
 ghost use Rattle.net_plans.specs.Targets.{spot_key, chip_key, AreTargets, AreTargetChips};
-ghost use Rattle.net_plans.specs.Keys.{nowhere, spot_at, chip_at};
+ghost use Rattle.net_plans.specs.Keys.{nowhere, spot_at, chip_of_key};
 
 use crate::orders::each_once;
 use machine_desc::Machine;
@@ -57,7 +57,8 @@ fn spot_keys(
     vertices: &Seq<u32>,
 ) -> Result<Vec<(u8, u8, u8)>, Memory>
     requires { All (λ v. v < length spots.now) vertices.now }
-    ensures { IfOk result (λ keys. keys.items ≡ map (λ v. spot_key (slice_index_or spots.now v nowhere)) vertices.now) }
+    ensures { IfOk result (λ keys. keys.items
+        ≡ map (λ v. spot_key (slice_index_or spots.now v nowhere)) vertices.now) }
 {
     let mut keys = Vec::new(alloc);
     for i in 0..vertices.len() {
@@ -89,7 +90,8 @@ fn chip_keys(
 ) -> Result<Vec<(u32, u8, u8)>, Memory>
     requires root_inside { IsInside machine.now root }
     requires targets_inside { All (λ s. IsInside machine.now s.chip) targets.now }
-    ensures { IfOk result (λ keys. keys.items ≡ map (λ (s : Spot). chip_key machine.now root s.chip) targets.now) }
+    ensures { IfOk result (λ keys. keys.items
+        ≡ map (λ (s : Spot). chip_key machine.now root s.chip) targets.now) }
 {
     let mut keys = Vec::new(alloc);
     for i in 0..targets.len() {
@@ -100,7 +102,7 @@ fn chip_keys(
 }
 
 fn chips_at(alloc: Global, keys: &[(u32, u8, u8)]) -> Result<Seq<Chip>, Memory>
-    ensures { IfOk result (λ chips. chips ≡ map chip_at keys.now) }
+    ensures { IfOk result (λ chips. chips ≡ map chip_of_key keys.now) }
 {
     let mut chips = Seq::new(alloc);
     for key in keys {

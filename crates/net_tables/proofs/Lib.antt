@@ -1,1 +1,7 @@
-pub mod Wanted
+pub mod Determined
+mod Marking
+mod Ordering
+mod Taking
+pub mod Telling
+pub mod Trees
+pub mod Whole

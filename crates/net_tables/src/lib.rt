@@ -1,12 +1,14 @@
-//! Nets with their keys, spots and trees, the outputs that lead to spots, and what it means that routers' tables are right
-//! for nets.
+//! Plain tables: for each chip one row for each net whose tree has the chip, before any two rows are joined.
 //!
-//! Which outputs a tree wants at a chip, and at which port packets arrive there, follow the tree (Navaridas and
-//! others, 2015, for trees of links; SpiNNaker datasheet for outputs and ports).
+//! Which outputs a tree wants, and at which port packets come in, are those of `machine_desc`; the order of rows is this
+//! project's own.
 #![tactic(auto)]
 
-mod nets;
-mod outputs;
+mod gather;
+mod laws;
+pub mod marks;
+mod plain;
+mod rows;
 
-pub use nets::NetPlan;
-pub use outputs::out_of;
+pub use laws::plain_tables_are_determined;
+pub use plain::plain_tables;

@@ -8,9 +8,9 @@ use Rattle.std.proofs.lemmas.List.Elements.{All-nil, All-cons, All-append, All-m
 use Rattle.std.proofs.lemmas.List.Kept.{AllPairs-cons}
 use Rattle.std.proofs.lemmas.Nat.{mul-le, mod_below}
 use Rattle.std.proofs.lemmas.Option.{slice_get_within, slice_get-get_or}
-use Rattle.list_laws.proofs.Gathering.{gathered_more}
-use Rattle.list_laws.proofs.Pairs.{AllPairs-nil}
-use Rattle.list_laws.proofs.Places.{slice_get_there, slice_get-mapped}
+use Rattle.spin_base.proofs.Gathering.{gathered_more}
+use Rattle.spin_base.proofs.Pairs.{AllPairs-nil}
+use Rattle.spin_base.proofs.Places.{slice_get_there, slice_get-mapped}
 use Rattle.spin_base.specs.declared.blocks.ChipTable.{ChipTable}
 use Rattle.spin_base.specs.declared.blocks.Entry.{Entry}
 use Rattle.spin_base.specs.declared.chips.Chip.{Chip}
@@ -20,15 +20,15 @@ use Rattle.machine_desc.proofs.Far.{inside_parts}
 use Rattle.machine_desc.proofs.Live.{chip_of-inside, index_of-chip_of}
 use Rattle.tern_word.specs.declared.tables.Row.{Row}
 use Rattle.tern_word.specs.Entries.{entry_of}
-use Rattle.cover_checks.specs.Merge.{rows_at as rows_at_places}
-use Rattle.cover_checks.proofs.Positions.{rows_at-length, rows_at-push}
+use Rattle.cover_merge.specs.Merge.{rows_at as rows_at_places}
+use Rattle.cover_merge.proofs.Positions.{rows_at-length, rows_at-push}
 use Rattle.default_routes.specs.declared.stripping.Final.{Final}
 use Rattle.default_routes.specs.FinalTable.{loaded_rows}
 use Rattle.table_load.specs.declared.tables.Image.{Image}
 use Rattle.table_load.specs.declared.faults.ImageErr.{ImageErr}
 use Rattle.table_load.specs.declared.faults.ImageErr.TheVariants.{Memory as NoMemory}
-use Rattle.table_load.specs.Images.{IsRow, IsBefore, IsTable, IsValid, Spells}
-use Rattle.table_load.specs.Memories.{IsLoaded, loaded, rows_at}
+use Rattle.table_load.specs.Images.{IsRow, IsChipBefore, IsTable, IsValid, Spells}
+use Rattle.table_load.specs.Memories.{IsLoaded, loaded, rows_of_index}
 use Rattle.par_compile.specs.Finals.{KeepsRows, kept_entries, loaded_of}
 use Rattle.par_compile.specs.Imaging.{listed, tables_from}
 
@@ -62,7 +62,7 @@ listed_of P c (e ∷ es) of = All-cons P (record { chip = c; entries = e ∷ es 
 -- ---- all tables
 
 -- chips of lesser indices come before
-before : (m : Description) (i j : ℕ) → 0 < m.height → i < j → IsBefore (chip_of m i) (chip_of m j)
+before : (m : Description) (i j : ℕ) → 0 < m.height → i < j → IsChipBefore (chip_of m i) (chip_of m j)
 before m i j some less =
     let first : i / m.height * m.height + i % m.height ≡ i = index_of-chip_of m i in
     let second : j / m.height * m.height + j % m.height ≡ j = index_of-chip_of m j in
@@ -103,15 +103,15 @@ module _ (m : Description) (some : 0 < m.height) where
       (valid_tables (n + 1) fs (omega (arith, below)) (All-tail KeepsRows f fs keep) (All-tail IsShort f fs short))
 
   -- a chip of a lesser index comes before all tables
-  before_all : (i n : ℕ) (fs : List Final) → i < n → All (λ (t : ChipTable). IsBefore (chip_of m i) t.chip) (tables_from m n fs)
-  before_all i n [] less = All-nil (λ (t : ChipTable). IsBefore (chip_of m i) t.chip)
+  before_all : (i n : ℕ) (fs : List Final) → i < n → All (λ (t : ChipTable). IsChipBefore (chip_of m i) t.chip) (tables_from m n fs)
+  before_all i n [] less = All-nil (λ (t : ChipTable). IsChipBefore (chip_of m i) t.chip)
   before_all i n (f ∷ fs) less =
-      All-append (λ (t : ChipTable). IsBefore (chip_of m i) t.chip) (at_place n f) (tables_from m (n + 1) fs)
-      (listed_of (λ (t : ChipTable). IsBefore (chip_of m i) t.chip) (chip_of m n) (kept_entries f) (λ t is. subst (IsBefore (chip_of m i)) (sym is) (before m i n some less)))
+      All-append (λ (t : ChipTable). IsChipBefore (chip_of m i) t.chip) (at_place n f) (tables_from m (n + 1) fs)
+      (listed_of (λ (t : ChipTable). IsChipBefore (chip_of m i) t.chip) (chip_of m n) (kept_entries f) (λ t is. subst (IsChipBefore (chip_of m i)) (sym is) (before m i n some less)))
       (before_all i (n + 1) fs (omega (arith, less)))
 
   abbrev Ordered : ChipTable → ChipTable → Type 0
-  Ordered s t = IsBefore s.chip t.chip
+  Ordered s t = IsChipBefore s.chip t.chip
 
   in_order : (n : ℕ) (fs : List Final) → AllPairs Ordered (tables_from m n fs)
   in_order n [] = AllPairs-nil Ordered
@@ -124,38 +124,38 @@ module _ (m : Description) (some : 0 < m.height) where
           (before_all n (n + 1) fs (omega arith)) rest
 
   -- no table is of an earlier chip
-  none_before : (i n : ℕ) (fs : List Final) → i < n → rows_at m.height (tables_from m n fs) i ≡ []
+  none_before : (i n : ℕ) (fs : List Final) → i < n → rows_of_index m.height (tables_from m n fs) i ≡ []
   none_before i n [] less = refl
   none_before i n (f ∷ fs) less = by (kept_entries f) (none_before i (n + 1) fs (omega (arith, less)))
     where
-      by : (es : List Entry) → rows_at m.height (tables_from m (n + 1) fs) i ≡ [] → rows_at m.height (listed (chip_of m n) es ++ tables_from m (n + 1) fs) i ≡ []
+      by : (es : List Entry) → rows_of_index m.height (tables_from m (n + 1) fs) i ≡ [] → rows_of_index m.height (listed (chip_of m n) es ++ tables_from m (n + 1) fs) i ≡ []
       by [] rest = rest
       by (e ∷ es) rest =
           let at : index_of m (chip_of m n) ≡ n = index_of-chip_of m n in
           let other : (index_of m (chip_of m n) == i) ≡ false = false_from_ne_true (index_of m (chip_of m n) == i) (λ hit. let is : index_of m (chip_of m n) ≡ i = eqb-true (index_of m (chip_of m n)) i hit in omega (arith, at, is, less)) in
-          cond-false (index_of m (chip_of m n) == i) (e ∷ es) (rows_at m.height (tables_from m (n + 1) fs) i) other ∙ rest
+          cond-false (index_of m (chip_of m n) == i) (e ∷ es) (rows_of_index m.height (tables_from m (n + 1) fs) i) other ∙ rest
 
   -- the rows of a chip are the kept entries of its final table
-  rows_there : (n k i : ℕ) (fs : List Final) (g : Final) → n + k ≡ i → slice_get fs k ≡ Some g → rows_at m.height (tables_from m n fs) i ≡ kept_entries g
+  rows_there : (n k i : ℕ) (fs : List Final) (g : Final) → n + k ≡ i → slice_get fs k ≡ Some g → rows_of_index m.height (tables_from m n fs) i ≡ kept_entries g
   rows_there n k i [] g at is = cc
   rows_there n zero i (f ∷ fs) g at is = by (kept_entries f) (ap kept_entries same)
     where
       same : f ≡ g
       same = cc
 
-      by : (es : List Entry) → es ≡ kept_entries g → rows_at m.height (listed (chip_of m n) es ++ tables_from m (n + 1) fs) i ≡ kept_entries g
+      by : (es : List Entry) → es ≡ kept_entries g → rows_of_index m.height (listed (chip_of m n) es ++ tables_from m (n + 1) fs) i ≡ kept_entries g
       by [] are = none_before i (n + 1) fs (omega (arith, at)) ∙ are
       by (e ∷ es) are =
           let place : index_of m (chip_of m n) ≡ i = index_of-chip_of m n ∙ omega (arith, at) in
-          cond-true (index_of m (chip_of m n) == i) (e ∷ es) (rows_at m.height (tables_from m (n + 1) fs) i) (eq-eqb (index_of m (chip_of m n)) i place) ∙ are
+          cond-true (index_of m (chip_of m n) == i) (e ∷ es) (rows_of_index m.height (tables_from m (n + 1) fs) i) (eq-eqb (index_of m (chip_of m n)) i place) ∙ are
   rows_there n (suc k) i (f ∷ fs) g at is = by (kept_entries f) (rows_there (n + 1) k i fs g (omega (arith, at)) is)
     where
-      by : (es : List Entry) → rows_at m.height (tables_from m (n + 1) fs) i ≡ kept_entries g → rows_at m.height (listed (chip_of m n) es ++ tables_from m (n + 1) fs) i ≡ kept_entries g
+      by : (es : List Entry) → rows_of_index m.height (tables_from m (n + 1) fs) i ≡ kept_entries g → rows_of_index m.height (listed (chip_of m n) es ++ tables_from m (n + 1) fs) i ≡ kept_entries g
       by [] rest = rest
       by (e ∷ es) rest =
           let place : index_of m (chip_of m n) ≡ n = index_of-chip_of m n in
           let other : (index_of m (chip_of m n) == i) ≡ false = false_from_ne_true (index_of m (chip_of m n) == i) (λ hit. let is_i : index_of m (chip_of m n) ≡ i = eqb-true (index_of m (chip_of m n)) i hit in omega (arith, place, is_i, at)) in
-          cond-false (index_of m (chip_of m n) == i) (e ∷ es) (rows_at m.height (tables_from m (n + 1) fs) i) other ∙ rest
+          cond-false (index_of m (chip_of m n) == i) (e ∷ es) (rows_of_index m.height (tables_from m (n + 1) fs) i) other ∙ rest
 
 -- ---- the image
 
@@ -174,13 +174,13 @@ module _ (m : Description) (size : HasSize m) (finals : List Final) (many : leng
     tables =
         let all : All (IsTable m.width m.height) (tables_from m 0 finals) = valid_tables m size.height_from_one 0 finals (omega (arith, many)) keep short in
         subst (λ w. All (IsTable w v.height) v.chips) (sym width) (subst (λ h. All (IsTable m.width h) v.chips) (sym height) (subst (All (IsTable m.width m.height)) (sym tables) all));
-    ordered = subst (AllPairs (λ (s t : ChipTable). IsBefore s.chip t.chip)) (sym tables) (in_order m size.height_from_one 0 finals);
+    ordered = subst (AllPairs (λ (s t : ChipTable). IsChipBefore s.chip t.chip)) (sym tables) (in_order m size.height_from_one 0 finals);
   }
 
-  pub image_rows : (i : ℕ) (f : Final) → slice_get finals i ≡ Some f → rows_at v.height v.chips i ≡ kept_entries f
+  pub image_rows : (i : ℕ) (f : Final) → slice_get finals i ≡ Some f → rows_of_index v.height v.chips i ≡ kept_entries f
   image_rows i f at =
-      ap (λ h. rows_at h v.chips i) height
-      ∙ (ap (λ (ts : List ChipTable). rows_at m.height ts i) tables
+      ap (λ h. rows_of_index h v.chips i) height
+      ∙ (ap (λ (ts : List ChipTable). rows_of_index m.height ts i) tables
       ∙ rows_there m size.height_from_one 0 i i finals f (omega arith) at)
 
 -- one more chip
@@ -205,7 +205,7 @@ same_lists {X} (x ∷ xs) (y ∷ ys) long each =
     ap (λ (z : X). z ∷ xs) same ∙ ap (λ (l : List X). y ∷ l) (same_lists xs ys (omega (arith, long)) (λ i. each (suc i)))
 
 pub all_loaded : (m : Description) (finals : List Final) (v : Image) (memories : List (List Entry)) → length finals ≡ m.width * m.height → v.width ≡ m.width → v.height ≡ m.height →
-    ((i : ℕ) (f : Final) → slice_get finals i ≡ Some f → rows_at v.height v.chips i ≡ kept_entries f) → IsLoaded v memories → memories ≡ map loaded_of finals
+    ((i : ℕ) (f : Final) → slice_get finals i ≡ Some f → rows_of_index v.height v.chips i ≡ kept_entries f) → IsLoaded v memories → memories ≡ map loaded_of finals
 all_loaded m finals v memories many width height rows is = same_lists memories (map loaded_of finals) long each
   where
     size : v.width * v.height ≡ length finals

@@ -8,18 +8,18 @@ use Rattle.machine_desc.specs.Description.{Description}
 use Rattle.machine_desc.specs.RoutingTree.{IsRoutingTree}
 use Rattle.app_graph.specs.declared.graphs.Graph.{Graph}
 use Rattle.app_graph.specs.declared.graphs.Net.{Net}
-use Rattle.net_tables.specs.declared.nets.NetPlan.{NetPlan}
+use Rattle.machine_desc.specs.declared.nets.NetPlan.{NetPlan}
 use Rattle.ner_trees.specs.declared.growths.Grown.{Grown}
 use Rattle.place_fit.specs.declared.placing.Placement.{Placement}
 use Rattle.place_fit.proofs.Determined as places
 use Rattle.key_alloc.proofs.Determined as blocks
-use Rattle.list_laws.proofs.Places.{All-at, slice_get_there}
-use Rattle.net_plans.specs.CutOffTargets.{HasNoneCutOff, IsFirstCutOff}
+use Rattle.spin_base.proofs.Places.{All-at, slice_get_there}
+use Rattle.net_plans.specs.CutOffTargets.{HasNoneCutOff, IsFirstNetCutOff}
 use Rattle.net_plans.proofs.CutOffLaws.{none_cut_off, one_first_net}
 use Rattle.par_compile.specs.declared.compiling.Plan.{Plan}
 use Rattle.par_compile.specs.declared.compiling.CompileErr.{CompileErr}
 use Rattle.par_compile.specs.declared.compiling.CompileErr.TheVariants.{NoRoom, KeysOut, CutOff, TableLong, Memory}
-use Rattle.par_compile.specs.Compiled.{blocks_of, HasCutOff, IsCause, IsPlanOf, IsRefusedWhere, IsRoutingOf}
+use Rattle.par_compile.specs.Compiled.{blocks_of, HasCutOff, IsCompileCause, IsPlanOf, IsRefusedWhere, IsRoutingOf}
 use Rattle.par_compile.proofs.Unique.{long_not_planned, one_long}
 
 module _ (m : Description) (graph : Graph) where
@@ -39,8 +39,8 @@ module _ (m : Description) (graph : Graph) where
       (subst (λ r. IsRoutingTree m r n.0.tree.edges n.0.targets) planned.root tree)
 
   -- the first net that is cut off does not depend on which placement is meant
-  same_first : (i : ℕ) (target : Chip) (has : HasCutOff m graph i target) (spots : List Spot) → has.spots ≡ spots → IsFirstCutOff m spots graph.nets i target
-  same_first i target has spots same = subst (λ s. IsFirstCutOff m s graph.nets i target) same has.first
+  same_first : (i : ℕ) (target : Chip) (has : HasCutOff m graph i target) (spots : List Spot) → has.spots ≡ spots → IsFirstNetCutOff m spots graph.nets i target
+  same_first i target has spots same = subst (λ s. IsFirstNetCutOff m s graph.nets i target) same has.first
 
   -- a graph with a target that is cut off is not routed
   pub cut_not_routed : (i : ℕ) (target : Chip) (p : Placement) (gs : List Grown) (ns : List NetPlan) → HasCutOff m graph i target → IsRoutingOf m graph p gs ns → ⊥
@@ -57,7 +57,7 @@ module _ (m : Description) (graph : Graph) where
 
   module _ (target : ℕ) where
     -- Whatever the answer, if what it says is so, it is the one that the cause asks for.
-    pub refused_where : (result : Result Plan CompileErr) → IfOk result (IsPlanOf m graph target) → IfErr result (IsCause m graph target) → IsRefusedWhere m graph target result
+    pub refused_where : (result : Result Plan CompileErr) → IfOk result (IsPlanOf m graph target) → IfErr result (IsCompileCause m graph target) → IsRefusedWhere m graph target result
     refused_where (Ok plan) is cause = record {
       no_room = λ v room. absurd (places.not_both m graph.vertices plan.placement.spots plan.placement.memory v is.routing.placed room);
       keys_out = λ n placed out. absurd (blocks.not_both graph.nets (blocks_of plan.nets) n is.routing.blocks out);

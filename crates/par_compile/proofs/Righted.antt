@@ -4,7 +4,7 @@ use Rattle.std.specs.List.{All, AllZip, slice_get, slice_index_or}
 use Rattle.std.proofs.lemmas.List.Elements.{All-nil, All-cons, All-contains, All-map}
 use Rattle.std.proofs.lemmas.List.Sorted.{Contains-permutation}
 use Rattle.std.proofs.lemmas.Option.{get_or_from_slice_get, slice_get-get_or, slice_get_within}
-use Rattle.list_laws.proofs.Places.{All-at, All-each, AllZip-at_first, AllZip-at_second, slice_get_there, slice_get-mapped}
+use Rattle.spin_base.proofs.Places.{All-at, All-each, AllZip-at_first, AllZip-at_second, slice_get_there, slice_get-mapped}
 use Rattle.spin_base.specs.declared.blocks.Block.{Block}
 use Rattle.spin_base.specs.declared.blocks.Entry.{Entry}
 use Rattle.spin_base.specs.declared.chips.Chip.{Chip}
@@ -17,8 +17,8 @@ use Rattle.machine_desc.specs.Description.{Description, HasSize}
 use Rattle.machine_desc.specs.Live.{IsInside, index_of, chip_of}
 use Rattle.machine_desc.proofs.Far.{index_below}
 use Rattle.machine_desc.proofs.Live.{chip_of-inside, index_of-chip_of}
-use Rattle.net_tables.specs.declared.nets.NetPlan.{NetPlan}
-use Rattle.net_tables.specs.RightTables.{AreRight}
+use Rattle.machine_desc.specs.declared.nets.NetPlan.{NetPlan}
+use Rattle.machine_desc.specs.RightTables.{AreRight}
 use Rattle.tern_word.specs.declared.tables.Row.{Row}
 use Rattle.tern_word.specs.declared.tables.Table.{Table}
 use Rattle.tern_word.specs.SoundTable.{IsSound, Original, served}
@@ -27,10 +27,10 @@ use Rattle.tcam_find.specs.Memory.{unused}
 use Rattle.tcam_find.proofs.MemoryLemmas.{unused_matches}
 use Rattle.default_routes.specs.declared.stripping.Final.{Final}
 use Rattle.default_routes.specs.FinalTable.{IsFinalOf, MatchesNoKey, RoutesAlone, loaded_rows}
-use Rattle.plain_tables.specs.PlainTable.{AtEach, AreRouted, HasChip, IsPlainTable, ServesOriginals}
-use Rattle.plain_tables.proofs.Determined.{one_port, rows_lead}
-use Rattle.plain_tables.proofs.Trees.{chips_inside, comes_in_tree}
-use Rattle.plain_tables.proofs.Whole.{has_original}
+use Rattle.net_tables.specs.PlainTable.{AtEach, AreRoutedApart, HasChip, IsPlainTable, ServesOriginals}
+use Rattle.net_tables.proofs.Determined.{one_port, rows_lead}
+use Rattle.net_tables.proofs.Trees.{chips_inside, comes_in_tree}
+use Rattle.net_tables.proofs.Whole.{has_original}
 use Rattle.par_compile.specs.Finals.{AreFinals, HasEnded, IsCoverable, KeepsRows, StandsFor, kept_entries, loaded_of}
 
 -- ---- unused entries
@@ -41,7 +41,7 @@ all_unused (suc n) = All-cons MatchesNoKey unused (replicate n unused) unused_ma
 
 -- ---- right tables
 
-module _ (m : Description) (nets : List NetPlan) (target : ℕ) (tables : List Table) (finals : List Final) (routed : AreRouted m nets)
+module _ (m : Description) (nets : List NetPlan) (target : ℕ) (tables : List Table) (finals : List Final) (routed : AreRoutedApart m nets)
     (many : length tables ≡ m.width * m.height)
     (serve : AtEach m tables (ServesOriginals m nets))
     (stand : AllZip (λ (t : Table) f. StandsFor target t.rows f) tables finals) where
@@ -105,7 +105,7 @@ module _ (m : Description) (nets : List NetPlan) (target : ℕ) (tables : List T
       record { rows = t.0.rows; plain = plain c t.0 inside t.1; is_final = t.2 }
 
   -- the kept rows have outputs, since those of the plain table have
-  pub all_keep : length tables ≡ m.width * m.height → AreRouted m nets → AtEach m tables (IsPlainTable m nets) → AllZip (λ (t : Table) f. StandsFor target t.rows f) tables finals → All KeepsRows finals
+  pub all_keep : length tables ≡ m.width * m.height → AreRoutedApart m nets → AtEach m tables (IsPlainTable m nets) → AllZip (λ (t : Table) f. StandsFor target t.rows f) tables finals → All KeepsRows finals
   all_keep many routed plain each = All-each KeepsRows finals (λ f has_f. one f has_f.0 has_f.1 has_f.2)
     where
       lead : (t : Table) (f : Final) → All (λ (r : Row). 0 < r.route.bits) t.rows → StandsFor target t.rows f → KeepsRows f

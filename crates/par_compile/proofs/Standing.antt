@@ -10,18 +10,18 @@ use Rattle.machine_desc.specs.RoutingTree.{IsRoutingTree}
 use Rattle.machine_desc.proofs.Far.{live_inside}
 use Rattle.machine_desc.proofs.Sites.{site_parts}
 use Rattle.app_graph.specs.declared.graphs.Net.{Net}
-use Rattle.net_tables.specs.declared.nets.NetPlan.{NetPlan}
-use Rattle.net_tables.specs.NetsOn.{HaveDisjointBlocks, AreNetsOn}
+use Rattle.machine_desc.specs.declared.nets.NetPlan.{NetPlan}
+use Rattle.machine_desc.specs.NetsOn.{HaveDisjointBlocks, AreNetsOn}
 use Rattle.ner_trees.specs.declared.growths.Grown.{Grown}
 use Rattle.tern_word.specs.Ternary.{Intersects}
-use Rattle.list_laws.proofs.Members.{Contains-at}
-use Rattle.list_laws.proofs.Pairs.{AllPairs-from_map}
-use Rattle.list_laws.proofs.Places.{All-at, All-each, slice_get_there}
-use Rattle.net_plans.specs.NetPlans.{IsPlanned, IsEachPlanned, ArePlanned}
+use Rattle.spin_base.proofs.Members.{Contains-at}
+use Rattle.spin_base.proofs.Pairs.{AllPairs-from_map}
+use Rattle.spin_base.proofs.Places.{All-at, All-each, slice_get_there}
+use Rattle.net_plans.specs.NetPlans.{IsPlannedNet, IsEachPlanned, ArePlanned}
 use Rattle.net_plans.specs.Order.{IsBelow}
 use Rattle.net_plans.specs.Targets.{spot_key}
 use Rattle.net_plans.proofs.Ordering.{not_both}
-use Rattle.plain_tables.specs.PlainTable.{AreRouted}
+use Rattle.net_tables.specs.PlainTable.{AreRoutedApart}
 use Rattle.app_graph.specs.declared.graphs.Graph.{Graph}
 use Rattle.app_graph.specs.declared.graphs.Vertex.{Vertex}
 use Rattle.machine_desc.specs.Live.{IsUsable}
@@ -58,7 +58,7 @@ module _ (m : Description) (spots : List Spot) where
       blocks_apart nets apart i j d before within (record { key = key; small = a.fits; first = a.matches; second = b.matches })
 
   -- different targets
-  differ : (n : Net) (b : Block) (t : Grown) (p : NetPlan) → IsPlanned m spots n b t p → AllPairs (λ a b. a ≢ b) p.targets
+  differ : (n : Net) (b : Block) (t : Grown) (p : NetPlan) → IsPlannedNet m spots n b t p → AllPairs (λ a b. a ≢ b) p.targets
   differ n b t p plan i j d before within = λ same.
       let below : IsBelow (spot_key (slice_index_or p.targets j d)) (spot_key (slice_index_or p.targets j d)) =
       subst (λ (s : Spot). IsBelow (spot_key s) (spot_key (slice_index_or p.targets j d))) same (plan.targets.ascending i j d before within)
@@ -67,7 +67,7 @@ module _ (m : Description) (spots : List Spot) where
 
   module _ (ns : List Net) (bs : List Block) (ts : List Grown) (ps : List NetPlan) (long : length bs ≡ length ns) (are : ArePlanned m spots ns bs ts ps) where
     -- what holds of each plan
-    each_plan : (P : NetPlan → Type 0) → ((n : Net) (b : Block) (t : Grown) (p : NetPlan) → IsPlanned m spots n b t p → P p) → All P ps
+    each_plan : (P : NetPlan → Type 0) → ((n : Net) (b : Block) (t : Grown) (p : NetPlan) → IsPlannedNet m spots n b t p → P p) → All P ps
     each_plan P from k d below =
         let plans_long = are.one_plan_each in
         let trees_long = are.one_tree_each in
@@ -78,7 +78,7 @@ module _ (m : Description) (spots : List Spot) where
 
     -- the nets are what plain tables ask for
     pub routed : AllPairs (λ a b. Intersects a b → ⊥) (blocks_of ps) → All (λ (net : NetPlan). IsRoutingTree m net.tree.root net.tree.edges net.targets) ps → All (IsSite m) spots →
-        AreRouted m ps
+        AreRoutedApart m ps
     routed apart routing on_sites = record {
       trees = routing;
       roots = each_plan (λ net. IsInside m net.tree.root) (λ n b t p plan.

@@ -15,17 +15,17 @@ use Rattle.machine_desc.proofs.Far.{live_inside, same_index}
 use Rattle.machine_desc.proofs.Live.{chip_of-inside, index_of-chip_of}
 use Rattle.machine_desc.proofs.Sites.{site_parts}
 use Rattle.app_graph.specs.declared.graphs.Graph.{Graph}
-use Rattle.net_tables.specs.declared.nets.NetPlan.{NetPlan}
-use Rattle.net_tables.specs.NetsOn.{AreNetsOn}
+use Rattle.machine_desc.specs.declared.nets.NetPlan.{NetPlan}
+use Rattle.machine_desc.specs.NetsOn.{AreNetsOn}
 use Rattle.ner_trees.specs.declared.growths.Grown.{Grown}
-use Rattle.list_laws.proofs.Places.{All-at, All-each}
+use Rattle.spin_base.proofs.Places.{All-at, All-each}
 use Rattle.place_fit.specs.declared.placing.Placement.{Placement}
 use Rattle.place_fit.proofs.Determined as places
 use Rattle.key_alloc.proofs.Determined as keys
 use Rattle.net_plans.specs.NetPlans.{ArePlanned}
 use Rattle.net_plans.proofs.Determined.{one_list_of_plans, same_places}
-use Rattle.plain_tables.specs.PlainTable.{AreRouted}
-use Rattle.plain_tables.proofs.Determined as plain
+use Rattle.net_tables.specs.PlainTable.{AreRoutedApart}
+use Rattle.net_tables.proofs.Determined as plain
 use Rattle.default_routes.specs.declared.stripping.Final.{Final}
 use Rattle.default_routes.specs.FinalTable.{IsFinalOf}
 use Rattle.default_routes.proofs.Determined as final
@@ -36,7 +36,7 @@ use Rattle.cover_merge.specs.Covering.{HasNoLegalPair}
 use Rattle.par_compile.specs.Finals.{AreFinals, HasEnded}
 
 -- nets that stand on sites of a machine are what plain tables ask for
-pub routed_of : (m : Description) (spots : List Spot) (nets : List NetPlan) → All (IsSite m) spots → AreNetsOn m spots nets → AreRouted m nets
+pub routed_of : (m : Description) (spots : List Spot) (nets : List NetPlan) → All (IsSite m) spots → AreNetsOn m spots nets → AreRoutedApart m nets
 routed_of m spots nets sites stand = record {
   trees = stand.trees;
   roots = λ k d below.
@@ -59,7 +59,7 @@ same_plan : (p q : Plan) → p.placement ≡ q.placement → p.grown ≡ q.grown
 same_plan p q placement grown nets tables = λ i. record { placement = placement i; grown = grown i; nets = nets i; tables = tables i }
 
 -- final tables are determined by the nets
-pub one_finals : (m : Description) (nets : List NetPlan) → AreRouted m nets → (target : ℕ) (fs gs : List Final) → length fs ≡ m.width * m.height → length gs ≡ m.width * m.height →
+pub one_finals : (m : Description) (nets : List NetPlan) → AreRoutedApart m nets → (target : ℕ) (fs gs : List Final) → length fs ≡ m.width * m.height → length gs ≡ m.width * m.height →
     AreFinals m nets target fs → AreFinals m nets target gs → fs ≡ gs
 one_finals m nets routed target fs gs many also are others =
     same_places fs gs (many ∙ sym also) (λ i f g at_f at_g.

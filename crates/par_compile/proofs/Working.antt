@@ -9,7 +9,7 @@ use Rattle.default_routes.specs.declared.stripping.Final.{Final}
 use Rattle.tern_word.specs.declared.tables.Table.{Table}
 use Rattle.par_compile.specs.declared.workers.Work.{Work}
 use Rattle.par_compile.specs.declared.workers.Work.TheVariants.{Plain, Done, Refused}
-use Rattle.par_compile.specs.Finals.{IsCoverable, IsReady, IsWorked}
+use Rattle.par_compile.specs.Finals.{IsCoverable, IsPlainWork, IsWorked}
 
 -- the tables before place k are worked on, and the others are as they were
 pub record IsWorkedTo (target : ℕ) (start now : List Work) (k : ℕ) : Type 0 where
@@ -41,14 +41,14 @@ pub all_worked : (target : ℕ) (start now : List Work) (k : ℕ) → IsWorkedTo
 all_worked target start now k so_far past j d inside = let long = so_far.long in so_far.worked j d (omega (arith, past, long, inside)) inside
 
 -- the work at a place is ready
-pub ready_at : (target : ℕ) (start now : List Work) (k : ℕ) (old : Work) → IsWorkedTo target start now k → All IsReady start → k < length now → old ≡ get_or now k old → IsReady old
+pub ready_at : (target : ℕ) (start now : List Work) (k : ℕ) (old : Work) → IsWorkedTo target start now k → All IsPlainWork start → k < length now → old ≡ get_or now k old → IsPlainWork old
 ready_at target start now k old so_far ready below read =
     let long = so_far.long in
-    subst IsReady (sym (read ∙ so_far.left k old (omega arith))) (ready k old (omega (arith, below, long)))
+    subst IsPlainWork (sym (read ∙ so_far.left k old (omega arith))) (ready k old (omega (arith, below, long)))
 
 -- tables that can be covered are ready
-pub all_ready : (tables : List Table) (works : List Work) → works ≡ map Plain tables → All IsCoverable tables → All IsReady works
-all_ready tables works is all = subst (All IsReady) (sym is) (All-map IsReady Plain tables all)
+pub all_ready : (tables : List Table) (works : List Work) → works ≡ map Plain tables → All IsCoverable tables → All IsPlainWork works
+all_ready tables works is all = subst (All IsPlainWork) (sym is) (All-map IsPlainWork Plain tables all)
 
 -- final tables beside the tables
 module _ (target : ℕ) (P : Table → Final → Type 0) (from : (t : Table) (f : Final) → IsWorked target (Plain t) (Done f) → P t f) where

@@ -4,19 +4,20 @@ use Rattle.std.specs.List.{AllZip}
 use Rattle.spin_base.specs.declared.blocks.Block.{Block}
 use Rattle.spin_base.specs.declared.chips.Chip.{Chip}
 use Rattle.spin_base.specs.declared.chips.Spot.{Spot}
+use Rattle.spin_base.specs.declared.sizes.TheConstants.{ROUTER_ENTRIES}
 use Rattle.machine_desc.specs.Description.{Description}
 use Rattle.machine_desc.specs.Live.{IsInside, IsSite, IsUsable, index_of}
 use Rattle.app_graph.specs.declared.graphs.Graph.{Graph}
 use Rattle.app_graph.specs.declared.graphs.Vertex.{Vertex}
-use Rattle.net_tables.specs.declared.nets.NetPlan.{NetPlan}
-use Rattle.net_tables.specs.NetsOn.{AreNetsOn}
-use Rattle.net_tables.specs.RightTables.{AreRight}
+use Rattle.machine_desc.specs.declared.nets.NetPlan.{NetPlan}
+use Rattle.machine_desc.specs.NetsOn.{AreNetsOn}
+use Rattle.machine_desc.specs.RightTables.{AreRight}
 use Rattle.ner_trees.specs.declared.growths.Grown.{Grown}
 use Rattle.place_fit.specs.declared.placing.Placement.{Placement}
 use Rattle.place_fit.specs.Placement.{IsPlacement, HasNoRoom}
 use Rattle.key_alloc.specs.KeyBlocks.{AreKeysOut, AreRightBlocks, HasKeys}
 use Rattle.net_plans.specs.Cause.{IsRefusedBy}
-use Rattle.net_plans.specs.CutOffTargets.{IsFirstCutOff}
+use Rattle.net_plans.specs.CutOffTargets.{IsFirstNetCutOff}
 use Rattle.net_plans.specs.NetPlans.{ArePlanned}
 use Rattle.cover_merge.specs.Covering.{HasNoLegalPair}
 use Rattle.default_routes.specs.declared.stripping.Final.{Final}
@@ -41,7 +42,7 @@ pub record HasCutOff (m : Description) (graph : Graph) (net : ℕ) (target : Chi
   pub placed : IsPlacement m graph.vertices spots memory
   pub blocks : List Block
   pub keyed : AreRightBlocks graph.nets blocks
-  pub first : IsFirstCutOff m spots graph.nets net target
+  pub first : IsFirstNetCutOff m spots graph.nets net target
 
 -- A graph placed, keyed and routed on a machine. Each vertex stands on the first chip with room; each net has the least free
 -- aligned range of keys, its targets, the tree that grew, and its tree with the detours round what is dead. With that the nets
@@ -58,7 +59,7 @@ pub record IsRoutingOf (m : Description) (graph : Graph) (placement : Placement)
 
 -- A router's lookup memory has 1,024 entries (SpiNNaker datasheet). A final table is long where it keeps more rows.
 abbrev pub is_long : Final → Bool
-is_long f = nat_lt 1024 (length f.kept)
+is_long f = nat_lt ROUTER_ENTRIES (length f.kept)
 
 -- The graph is placed, keyed and routed; of the final tables of all chips, this chip's is the first, by the chips' indices, that
 -- is long, and it is this table.
@@ -77,12 +78,12 @@ pub record HasLongTable (m : Description) (graph : Graph) (target : ℕ) (chip :
 -- A vertex has no room; or all have, and keys are out at a net; or all have keys, and a target of a net is cut off; or none is,
 -- and a final table is long, of which no two rows can be merged: then there are more nets than a router has entries. Want of
 -- memory is free.
-abbrev pub IsCause : Description → Graph → ℕ → CompileErr → Type 0
-IsCause m graph target (NoRoom vertex) = HasNoRoom m graph.vertices vertex
-IsCause m graph target (KeysOut net) = HasPlacement m graph × AreKeysOut graph.nets net
-IsCause m graph target (CutOff net chip) = HasCutOff m graph net chip
-IsCause m graph target (TableLong chip table) = HasLongTable m graph target chip table × HasNoLegalPair table.covered.table.rows × (1024 < length graph.nets)
-IsCause m graph target Memory = Unit {0}
+abbrev pub IsCompileCause : Description → Graph → ℕ → CompileErr → Type 0
+IsCompileCause m graph target (NoRoom vertex) = HasNoRoom m graph.vertices vertex
+IsCompileCause m graph target (KeysOut net) = HasPlacement m graph × AreKeysOut graph.nets net
+IsCompileCause m graph target (CutOff net chip) = HasCutOff m graph net chip
+IsCompileCause m graph target (TableLong chip table) = HasLongTable m graph target chip table × HasNoLegalPair table.covered.table.rows × (ROUTER_ENTRIES < length graph.nets)
+IsCompileCause m graph target Memory = Unit {0}
 
 -- The other way round: where there is a cause, the answer names it, or wants memory.
 pub record IsRefusedWhere (m : Description) (graph : Graph) (target : ℕ) (result : Result Plan CompileErr) : Type 0 where
@@ -99,5 +100,5 @@ pub record IsPlanOf (m : Description) (graph : Graph) (target : ℕ) (plan : Pla
   pub one_table_each : length plan.tables ≡ m.width * m.height
   pub tables : AreFinals m plan.nets target plan.tables
   pub keep : All KeepsRows plan.tables
-  pub short : All (λ (f : Final). length f.kept ≤ 1024) plan.tables
+  pub short : All (λ (f : Final). length f.kept ≤ ROUTER_ENTRIES) plan.tables
   pub right : AreRight m (map loaded_of plan.tables) plan.nets

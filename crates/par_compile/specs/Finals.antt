@@ -4,7 +4,7 @@ use Rattle.spin_base.specs.declared.blocks.Entry.{Entry}
 use Rattle.spin_base.specs.declared.chips.Chip.{Chip}
 use Rattle.machine_desc.specs.Description.{Description}
 use Rattle.machine_desc.specs.Live.{IsInside, index_of}
-use Rattle.net_tables.specs.declared.nets.NetPlan.{NetPlan}
+use Rattle.machine_desc.specs.declared.nets.NetPlan.{NetPlan}
 use Rattle.tern_word.specs.declared.tables.Row.{Row}
 use Rattle.tern_word.specs.declared.tables.Table.{Table}
 use Rattle.tern_word.specs.Entries.{entry_of}
@@ -13,7 +13,7 @@ use Rattle.cover_merge.specs.Covering.{HasNoLegalPair, HasRoutesOf}
 use Rattle.default_routes.specs.declared.stripping.Final.{Final}
 use Rattle.default_routes.specs.FinalTable.{IsFinalOf, RoutesAlone, loaded_rows}
 use Rattle.default_routes.specs.KeptRows.{ArePlaces}
-use Rattle.plain_tables.specs.PlainTable.{IsPlainTable}
+use Rattle.net_tables.specs.PlainTable.{IsPlainTable}
 use Rattle.table_load.specs.Memories.{loaded}
 use Rattle.par_compile.specs.declared.workers.Work.{Work}
 use Rattle.par_compile.specs.declared.workers.Work.TheVariants.{Plain, Done, Refused}
@@ -63,10 +63,10 @@ HasEnded target f = (length f.kept ≤ target) ⊎ HasNoLegalPair f.covered.tabl
 -- ---- what workers find and leave
 
 -- a table that waits to be covered
-abbrev pub IsReady : Work → Type 0
-IsReady (Plain t) = IsCoverable t
-IsReady (Done f) = ⊥
-IsReady Refused = ⊥
+abbrev pub IsPlainWork : Work → Type 0
+IsPlainWork (Plain t) = IsCoverable t
+IsPlainWork (Done f) = ⊥
+IsPlainWork Refused = ⊥
 
 -- in its place stands its final table, or a refusal where there was not enough memory
 abbrev pub IsWorked : ℕ → Work → Work → Type 0

@@ -1,6 +1,7 @@
 -- The image of final tables: the kept rows of each chip that has any (this project's own).
-use Rattle.std.specs.Prelude.{ℕ, List, [], ◌∷◌}
-use Rattle.list_laws.specs.Gathered.{gathered}
+use Rattle.std.specs.Prelude.{◌≡◌, ℕ, ◌*◌, ◌≤◌, List, [], ◌∷◌, length, All}
+use Rattle.spin_base.specs.declared.sizes.TheConstants.{ROUTER_ENTRIES}
+use Rattle.spin_base.specs.Gathered.{gathered}
 use Rattle.spin_base.specs.declared.blocks.ChipTable.{ChipTable}
 use Rattle.spin_base.specs.declared.blocks.Entry.{Entry}
 use Rattle.spin_base.specs.declared.chips.Chip.{Chip}
@@ -8,7 +9,14 @@ use Rattle.machine_desc.specs.Description.{Description}
 use Rattle.machine_desc.specs.Live.{chip_of}
 use Rattle.default_routes.specs.declared.stripping.Final.{Final}
 use Rattle.table_load.specs.declared.tables.Image.{Image}
-use Rattle.par_compile.specs.Finals.{kept_entries}
+use Rattle.par_compile.specs.Finals.{KeepsRows, kept_entries}
+
+-- Final tables of which there is an image: one for each chip of the machine, whose kept rows are rows with an output, at most
+-- 1,024 a chip.
+pub record CanBeImaged (m : Description) (finals : List Final) : Type 0 where
+  pub one_each : length finals ≡ m.width * m.height
+  pub kept : All KeepsRows finals
+  pub short : All (λ (f : Final). length f.kept ≤ ROUTER_ENTRIES) finals
 
 -- a chip without entries is not listed
 abbrev pub listed : Chip → List Entry → List ChipTable

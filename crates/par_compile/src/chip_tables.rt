@@ -1,15 +1,15 @@
 // From nets to the final tables of all chips.
 ghost use Rattle.std.specs.Prelude.{◌≡◌, ◌*◌, ◌<◌, ◌≤◌, ◌^◌, All, IfOk, length, map};
-ghost use Rattle.net_tables.specs.RightTables.{AreRight};
-ghost use Rattle.plain_tables.specs.PlainTable.{AreRouted};
+ghost use Rattle.machine_desc.specs.RightTables.{AreRight};
+ghost use Rattle.net_tables.specs.PlainTable.{AreRoutedApart};
 ghost use Rattle.default_routes.specs.declared.stripping.Final.{Final};
 ghost use Rattle.par_compile.specs.Finals.{AreFinals, HasEnded, KeepsRows, loaded_of};
 
+use crate::requests::CompileRequest;
 use crate::workers::finals;
 use default_routes::Final;
-use machine_desc::Machine;
-use net_tables::NetPlan;
-use plain_tables::plain_tables;
+use machine_desc::NetPlan;
+use net_tables::plain_tables;
 use spin_base::{Gate, Memory, Seq};
 use std::alloc::Global;
 use std::thread::Threads;
@@ -19,25 +19,25 @@ use std::thread::Threads;
 pub(crate) fn final_tables<R: Threads + Sync, G: Gate>(
     rt: &R,
     alloc: Global,
-    machine: &Machine,
+    request: &CompileRequest<'_>,
     nets: &Seq<NetPlan>,
-    target: u32,
-    workers: u32,
     gate: &G,
 ) -> Result<Seq<Final>, Memory>
-    requires workers { 1 ≤ workers }
     requires few { length nets.now < 2 ^ 32 }
-    requires routed { AreRouted machine.now nets.now }
-    ensures long { IfOk result (λ finals. length finals ≡ machine.now.width * machine.now.height) }
+    requires routed { AreRoutedApart request.now.machine.now nets.now }
+    ensures long { IfOk result
+        (λ finals. length finals ≡ request.now.machine.now.width * request.now.machine.now.height) }
     ensures few_chips { IfOk result (λ finals. length finals ≤ 4096) }
-    ensures finals { IfOk result (AreFinals machine.now nets.now target) }
+    ensures finals { IfOk result (AreFinals request.now.machine.now nets.now request.now.target) }
     ensures kept { IfOk result (All KeepsRows) }
     ensures few_rows { IfOk result (All (λ (f : Final). length f.kept ≤ length nets.now)) }
-    ensures ended { IfOk result (All (HasEnded target)) }
-    ensures right { IfOk result (λ finals. AreRight machine.now (map loaded_of finals) nets.now) }
+    ensures ended { IfOk result (All (HasEnded request.now.target)) }
+    ensures right { IfOk result (λ finals. AreRight request.now.machine.now
+        (map loaded_of finals) nets.now) }
 {
+    let machine = request.machine;
     let tables = plain_tables(alloc, machine, nets)?;
     let chips = machine.chips();
     prove!(tables.len() == chips);
-    finals(rt, alloc, tables, target, workers, gate)
+    finals(rt, alloc, tables, request, gate)
 }

@@ -2,23 +2,19 @@
 ghost use Rattle.std.specs.Prelude.{◌≡◌, ◌<◌, ◌≤◌, IfOk, IfErr, Some, length, position, slice_get};
 ghost use Rattle.app_graph.specs.ValidGraph.{IsValidGraph};
 ghost use Rattle.par_compile.specs.declared.compiling.Plan.{Plan};
-ghost use Rattle.par_compile.specs.Compiled.{IsCause, IsPlanOf, IsRefusedWhere, is_long};
+ghost use Rattle.par_compile.specs.Compiled.{IsCompileCause, IsPlanOf, IsRefusedWhere, is_long};
 
 use crate::chip_tables::final_tables;
-use app_graph::Graph;
+use crate::requests::CompileRequest;
 use default_routes::Final;
 use key_alloc::{KeyErr, keys};
-use machine_desc::Machine;
+use machine_desc::NetPlan;
 use ner_trees::Grown;
 use net_plans::{NetErr, RoutedNets, net_plans};
-use net_tables::NetPlan;
 use place_fit::{PlaceErr, Placement, place};
-use spin_base::{Chip, Gate, Memory, Seq};
+use spin_base::{Chip, Gate, Memory, ROUTER_ENTRIES, Seq};
 use std::alloc::Global;
 use std::thread::Threads;
-
-// As many entries has the lookup memory of a router (SpiNNaker datasheet).
-const ROUTER_ENTRIES: usize = 1024;
 
 /// What a graph needs on a machine: where each vertex stands; of each net the tree that grew whatever is dead, and its keys,
 /// cores and tree; and of each chip, by its index, its final table.
@@ -58,10 +54,10 @@ impl From<Memory> for CompileErr {
 
 /// The plan of a graph on a machine: first fit along the chip order for vertices, the least free aligned range of keys for
 /// each net, for each net the tree that grows from its source's chip to its targets, with detours round what is dead, and
-/// for each chip its final table: the plain table, whose rows are merged while it has more than `target`, without the rows
+/// for each chip its final table: the plain table, whose rows are merged while it has more than the target, without the rows
 /// that default routing replaces. The tables, loaded, are right for the nets.
 ///
-/// Nets are routed side by side by threads. Tables are covered by `workers` workers, each on a run of chips of equal length,
+/// Nets are routed side by side by threads. Tables are covered by the request's workers, each on a run of chips of equal length,
 /// the last shorter; each worker enters the gate in phase 0, with step 0, before its first chip. The plan is the only one: the
 /// same for every number of workers and every schedule.
 ///
@@ -77,20 +73,21 @@ impl From<Memory> for CompileErr {
 pub fn compile<R: Threads + Sync, G: Gate>(
     rt: &R,
     alloc: Global,
-    machine: &Machine,
-    graph: &Graph,
-    target: u32,
-    workers: u32,
+    request: &CompileRequest<'_>,
     gate: &G,
 ) -> Result<Plan, CompileErr>
-    requires graph { IsValidGraph graph.now }
-    requires target { target ≤ 1024 }
-    requires workers { 1 ≤ workers }
-    ensures plan { IfOk result (IsPlanOf machine.now graph.now target) }
-    ensures only { IfOk result (λ plan. (other : Plan) → IsPlanOf machine.now graph.now target other → other ≡ plan) }
-    ensures cause { IfErr result (IsCause machine.now graph.now target) }
-    ensures refused { IsRefusedWhere machine.now graph.now target result }
+    requires { IsValidGraph request.now.graph.now }
+    ensures plan { IfOk result
+        (IsPlanOf request.now.machine.now request.now.graph.now request.now.target) }
+    ensures only { IfOk result (λ plan. (other : Plan)
+        → IsPlanOf request.now.machine.now request.now.graph.now request.now.target other
+        → other ≡ plan) }
+    ensures cause { IfErr result
+        (IsCompileCause request.now.machine.now request.now.graph.now request.now.target) }
+    ensures refused { IsRefusedWhere request.now.machine.now request.now.graph.now
+        request.now.target result }
 {
+    let (machine, graph) = (request.machine, request.graph);
     let placement = match place(alloc, machine, graph) {
         Ok(placement) => placement,
         Err(PlaceErr::NoRoom { vertex }) => return Err(CompileErr::NoRoom { vertex }),
@@ -107,7 +104,7 @@ pub fn compile<R: Threads + Sync, G: Gate>(
         Err(NetErr::Memory) => return Err(CompileErr::Memory),
     };
     let RoutedNets { grown, plans: nets } = routed;
-    let tables = final_tables(rt, alloc, machine, &nets, target, workers, gate)?;
+    let tables = final_tables(rt, alloc, request, &nets, gate)?;
     match first_long(tables.as_slice()) {
         None => Ok(Plan {
             placement,

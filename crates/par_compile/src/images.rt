@@ -1,12 +1,12 @@
 // The image of final tables, and what it loads.
 ghost use Rattle.std.specs.Prelude.{◌≡◌, ℕ, ◌*◌, ◌<◌, ◌≤◌, ◌++◌, List, All, IfOk, OnOk, Some, length, map, slice_get};
-ghost use Rattle.net_tables.specs.declared.nets.NetPlan.{NetPlan};
-ghost use Rattle.net_tables.specs.RightTables.{AreRight};
+ghost use Rattle.machine_desc.specs.declared.nets.NetPlan.{NetPlan};
+ghost use Rattle.machine_desc.specs.RightTables.{AreRight};
 ghost use Rattle.default_routes.specs.declared.stripping.Final.{Final};
 ghost use Rattle.table_load.specs.Images.{IsValid};
-ghost use Rattle.table_load.specs.Memories.{rows_at};
+ghost use Rattle.table_load.specs.Memories.{rows_of_index};
 ghost use Rattle.par_compile.specs.Finals.{KeepsRows, kept_entries, loaded_of};
-ghost use Rattle.par_compile.specs.Imaging.{image_in, listed};
+ghost use Rattle.par_compile.specs.Imaging.{CanBeImaged, image_in, listed};
 
 use default_routes::Final;
 use machine_desc::Machine;
@@ -18,12 +18,11 @@ use tcam_find::Tcam;
 /// The image of the final tables of a machine's chips, one for each chip by the chip's index: the kept rows of each chip
 /// that has any, of which no chip has more than 1,024.
 pub fn image_of(alloc: Global, machine: &Machine, finals: &Seq<Final>) -> Result<Image, Memory>
-    requires one_each { length finals.now ≡ machine.now.width * machine.now.height }
-    requires kept { All KeepsRows finals.now }
-    requires short { All (λ f. length f.kept ≤ 1024) finals.now }
+    requires { CanBeImaged machine.now finals.now }
     ensures valid { IfOk result IsValid }
     ensures image { IfOk result (λ v. v ≡ image_in machine.now finals.now) }
-    ensures rows { IfOk result (λ v. (i : ℕ) (f : Final) → slice_get finals.now i ≡ Some f → rows_at v.height v.chips i ≡ kept_entries f) }
+    ensures rows { IfOk result (λ v. (i : ℕ) (f : Final) → slice_get finals.now i ≡ Some f
+        → rows_of_index v.height v.chips i ≡ kept_entries f) }
 {
     let mut chips = Seq::new(alloc);
     let count = machine.chips();
@@ -77,11 +76,10 @@ pub fn memories_of(
     machine: &Machine,
     finals: &Seq<Final>,
 ) -> Result<Seq<Tcam>, Memory>
-    requires one_each { length finals.now ≡ machine.now.width * machine.now.height }
-    requires kept { All KeepsRows finals.now }
-    requires short { All (λ f. length f.kept ≤ 1024) finals.now }
+    requires { CanBeImaged machine.now finals.now }
     ensures loaded { IfOk result (λ memories. memories ≡ map loaded_of finals.now) }
-    ensures right { IfOk result (λ memories. (nets : List NetPlan) → AreRight machine.now (map loaded_of finals.now) nets → AreRight machine.now memories nets) }
+    ensures right { IfOk result (λ memories. (nets : List NetPlan) → AreRight machine.now
+        (map loaded_of finals.now) nets → AreRight machine.now memories nets) }
 {
     let image = image_of(alloc, machine, finals)?;
     let bytes = encode(alloc, &image)?;

@@ -9,7 +9,9 @@
 mod chip_tables;
 mod compiling;
 mod images;
+mod requests;
 mod workers;
 
 pub use compiling::{CompileErr, Plan, compile};
 pub use images::{image_of, memories_of};
+pub use requests::CompileRequest;

@@ -4,8 +4,9 @@ ghost use Rattle.std.specs.List.{AllZip};
 ghost use Rattle.par_compile.specs.declared.workers.Work.{Work};
 ghost use Rattle.par_compile.specs.declared.workers.Work.TheVariants.{Plain, Done};
 ghost use Rattle.default_routes.specs.FinalTable.{IsFinalOf};
-ghost use Rattle.par_compile.specs.Finals.{IsCoverable, StandsFor, IsReady, IsWorked};
+ghost use Rattle.par_compile.specs.Finals.{IsCoverable, StandsFor, IsPlainWork, IsWorked};
 
+use crate::requests::CompileRequest;
 use default_routes::{Final, shorten};
 use spin_base::{Gate, Memory, Seq};
 use std::alloc::Global;
@@ -21,26 +22,27 @@ enum Work {
     Refused,
 }
 
-/// The final table of each table, in their order: covered to at most `target` rows, as far as rows can be merged, and then
-/// without the rows that default routing replaces. The tables are cut in `workers` runs of equal length, the last shorter.
+/// The final table of each table, in their order: covered to at most the request's target of rows, as far as rows can be merged,
+/// and then without the rows that default routing replaces. The tables are cut in runs, one for each of the request's workers,
+/// of equal length, the last shorter.
 /// Each worker enters the gate in phase 0, with step 0, before its first table. One worker is this thread alone. The answer
 /// is the same for every number of workers.
 pub(crate) fn finals<R: Threads + Sync, G: Gate>(
     rt: &R,
     alloc: Global,
     tables: Seq<Table>,
-    target: u32,
-    workers: u32,
+    request: &CompileRequest<'_>,
     gate: &G,
 ) -> Result<Seq<Final>, Memory>
-    requires workers { 1 ≤ workers }
     requires few { length tables < 2 ^ 32 }
     requires coverable { All IsCoverable tables }
-    ensures finals { IfOk result (AllZip (λ (t : Table) f. IsFinalOf target t.rows f) tables) }
-    ensures stand { IfOk result (AllZip (λ (t : Table) f. StandsFor target t.rows f) tables) }
+    ensures finals { IfOk result
+        (AllZip (λ (t : Table) f. IsFinalOf request.now.target t.rows f) tables) }
+    ensures stand { IfOk result
+        (AllZip (λ (t : Table) f. StandsFor request.now.target t.rows f) tables) }
 {
     let mut works = works_of(alloc, tables)?;
-    cover_all(rt, alloc, &mut works, target, workers, gate);
+    cover_all(rt, alloc, &mut works, request, gate);
     finals_of(alloc, works)
 }
 
@@ -74,32 +76,34 @@ fn cover_all<R: Threads + Sync, G: Gate>(
     rt: &R,
     alloc: Global,
     works: &mut Vec<Work>,
-    target: u32,
-    workers: u32,
+    request: &CompileRequest<'_>,
     gate: &G,
 )
-    requires workers { 1 ≤ workers }
     requires few { length works.old.items < 2 ^ 32 }
-    requires ready { All IsReady works.old.items }
+    requires ready { All IsPlainWork works.old.items }
     ensures long { length works.new.items ≡ length works.old.items }
-    ensures worked { (i : ℕ) (d : Work) → i < length works.old.items → IsWorked target (slice_index_or works.old.items i d) (slice_index_or works.new.items i d) }
+    ensures worked { (i : ℕ) (d : Work) → i < length works.old.items → IsWorked request.now.target
+        (slice_index_or works.old.items i d) (slice_index_or works.new.items i d) }
 {
-    let size = works.len().div_ceil(workers as usize).max(1);
+    let target = request.target;
+    let size = works.len().div_ceil(request.workers as usize).max(1);
     thread::for_each_chunk_mut(
         rt,
         works.as_mut_slice(),
         size,
         &|start: usize, part: &mut [Work]|
-            requires { (start < 2 ^ 32) × (0 < size) × All IsReady part.now }
-            ensures { (k : ℕ) (d : Work) → k < length part.entry.now → IsWorked target (slice_index_or part.entry.now k d) (slice_index_or part.exit.now k d) }
+            requires { (start < 2 ^ 32) × (0 < size) × All IsPlainWork part.now }
+            ensures { (k : ℕ) (d : Work) → k < length part.entry.now → IsWorked target
+                (slice_index_or part.entry.now k d) (slice_index_or part.exit.now k d) }
         { cover_run(alloc, part, target, (start / size) as u32, gate) },
     );
 }
 
 // One worker's run.
 fn cover_run<G: Gate>(alloc: Global, part: &mut [Work], target: u32, worker: u32, gate: &G)
-    requires { All IsReady part.old }
-    ensures { (k : ℕ) (d : Work) → k < length part.old → IsWorked target (slice_index_or part.old k d) (slice_index_or part.new k d) }
+    requires { All IsPlainWork part.old }
+    ensures { (k : ℕ) (d : Work) → k < length part.old → IsWorked target
+        (slice_index_or part.old k d) (slice_index_or part.new k d) }
 {
     gate.enter(0, worker, 0);
     for k in 0..part.len() {
@@ -109,7 +113,7 @@ fn cover_run<G: Gate>(alloc: Global, part: &mut [Work], target: u32, worker: u32
 
 // Shortens one table.
 fn cover_at(alloc: Global, work: &mut Work, target: u32)
-    requires { IsReady work.old }
+    requires { IsPlainWork work.old }
     ensures { IsWorked target work.old work.new }
 {
     if let Work::Plain(table) = mem::replace(work, Work::Refused) {

@@ -5,8 +5,8 @@ use Rattle.std.proofs.lemmas.Grind.{same_number_lists}
 use Rattle.std.proofs.lemmas.List.{take_all}
 use Rattle.std.proofs.lemmas.List.Elements.{All-head, All-tail}
 use Rattle.std.proofs.lemmas.Option.{slice_get_cases, slice_get_within, get_or_from_slice_get}
-use Rattle.list_laws.proofs.Places.{slice_get_there}
-use Rattle.list_laws.proofs.Determined.{EachFollows, determined_begins}
+use Rattle.spin_base.proofs.Places.{slice_get_there}
+use Rattle.spin_base.proofs.Determined.{EachFollows, determined_begins}
 use Rattle.spin_base.specs.declared.chips.Chip.{Chip}
 use Rattle.spin_base.specs.declared.chips.Spot.{Spot}
 use Rattle.machine_desc.specs.declared.trees.Edge.{Edge}
@@ -15,7 +15,7 @@ use Rattle.machine_desc.specs.Live.{is_live_chip}
 use Rattle.machine_desc.proofs.Same.{same_spot}
 use Rattle.app_graph.specs.declared.graphs.Vertex.{Vertex}
 use Rattle.place_fit.specs.Curve.{hilbert, IsChipOrder}
-use Rattle.place_fit.specs.Placement.{core_of, is_free_core, HasRoom, IsFirst, choices, IsCoreFor, HasDeviceRoom, device_spot, IsSpotFor, FindsNoRoom, AreFirstSpots, AreFirstMemories, memory_of, IsPlacement, HasNoRoom}
+use Rattle.place_fit.specs.Placement.{core_spot, is_free_core, HasRoom, IsFirstChip, choices, IsCoreFor, HasDeviceRoom, device_spot, IsSpotFor, FindsNoRoom, AreFirstSpots, AreFirstMemories, memory_of, IsPlacement, HasNoRoom}
 
 one_order : (m : Description) (xs ys : List Chip) → IsChipOrder m xs → IsChipOrder m ys → xs ≡ ys
 one_order m xs ys a b =
@@ -24,7 +24,7 @@ one_order m xs ys a b =
     let same : a.level ≡ b.level = omega (arith, up, down) in
     a.live ∙ (ap (λ k. filter (is_live_chip m) (hilbert k)) same ∙ sym b.live)
 
-one_first : (P : Chip → Type 0) (xs : List Chip) (c d : Chip) → IsFirst P xs c → IsFirst P xs d → c ≡ d
+one_first : (P : Chip → Type 0) (xs : List Chip) (c d : Chip) → IsFirstChip P xs c → IsFirstChip P xs d → c ≡ d
 one_first P [] c d a b = absurd a
 one_first P (x ∷ xs) c d a b =
     elim a [
@@ -32,7 +32,7 @@ one_first P (x ∷ xs) c d a b =
       | inr further ↦ elim b [ inl there ↦ absurd (further.0 there.0) | inr later ↦ one_first P xs c d further.1 later.1 ]
     ]
 
-none_first : (P : Chip → Type 0) (xs : List Chip) (c : Chip) → IsFirst P xs c → All (λ x. P x → ⊥) xs → ⊥
+none_first : (P : Chip → Type 0) (xs : List Chip) (c : Chip) → IsFirstChip P xs c → All (λ x. P x → ⊥) xs → ⊥
 none_first P [] c a none = a
 none_first P (x ∷ xs) c a none =
     elim a [
@@ -43,8 +43,8 @@ none_first P (x ∷ xs) c a none =
 one_core : (m : Description) (order : List Chip) (vs : List Vertex) (ss : List Spot) (v : Vertex) (s t : Spot) → IsCoreFor m order vs ss v s → IsCoreFor m order vs ss v t → s ≡ t
 one_core m order vs ss v s t a b =
     let chips : s.chip ≡ t.chip = one_first (HasRoom m vs ss v) (choices order v.at) s.chip t.chip a.chip b.chip in
-    let up : s.core ≤ t.core = a.least t.core (subst (λ c. is_free_core m ss (core_of c t.core) ≡ true) (sym chips) b.free) in
-    let down : t.core ≤ s.core = b.least s.core (subst (λ c. is_free_core m ss (core_of c s.core) ≡ true) chips a.free) in
+    let up : s.core ≤ t.core = a.least t.core (subst (λ c. is_free_core m ss (core_spot c t.core) ≡ true) (sym chips) b.free) in
+    let down : t.core ≤ s.core = b.least s.core (subst (λ c. is_free_core m ss (core_spot c s.core) ≡ true) chips a.free) in
     same_spot s t chips (omega (arith, up, down))
 
 one_spot : (m : Description) (order : List Chip) (vs : List Vertex) (ss : List Spot) (v : Vertex) (s t : Spot) → IsSpotFor m order vs ss v s → IsSpotFor m order vs ss v t → s ≡ t

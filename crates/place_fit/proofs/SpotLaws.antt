@@ -6,7 +6,7 @@ use Rattle.std.specs.List.{AllZip}
 use Rattle.std.proofs.lemmas.List.Folds.{list_any_at}
 use Rattle.std.proofs.lemmas.List.Elements.{All-filter, All-nil, All-cons}
 use Rattle.std.proofs.lemmas.Option.{slice_get_within, slice_get-get_or, get_or_from_slice_get}
-use Rattle.list_laws.proofs.Places.{slice_get_there, slice_get-push_cases, slice_get-append_left, slice_get-pushed}
+use Rattle.spin_base.proofs.Places.{slice_get_there, slice_get-push_cases, slice_get-append_left, slice_get-pushed}
 use Rattle.spin_base.specs.declared.chips.Chip.{Chip}
 use Rattle.spin_base.specs.declared.chips.Spot.{Spot}
 use Rattle.spin_base.specs.Equality.{spot_eq}
@@ -27,27 +27,27 @@ use Rattle.place_fit.specs.Curve.{hilbert}
 use Rattle.place_fit.specs.Quarters.{curve_place}
 use Rattle.place_fit.proofs.CurveLaws.{at_place}
 use Rattle.place_fit.specs.Boards.{IsPlaceWithRoom, HasNoRoomAt, HasNoPlace, HasFairRooms, IsFilled, IsPutOnCore, IsPutAtLink, IsPut, HasNoSpot}
-use Rattle.place_fit.specs.Placement.{core_of, need_of, used_on, is_free_core, HasRoom, IsFirst, choices, IsCoreFor, HasDeviceRoom, device_spot, IsSpotFor, FindsNoRoom, AreFirstSpots, AreFirstMemories, memory_of}
+use Rattle.place_fit.specs.Placement.{core_spot, need_of, used_on, is_free_core, HasRoom, IsFirstChip, choices, IsCoreFor, HasDeviceRoom, device_spot, IsSpotFor, FindsNoRoom, AreFirstSpots, AreFirstMemories, memory_of}
 use Rattle.place_fit.proofs.Standing.{live_in, Stands, IsTold, free_parts, free_from, has_room, core_with_room, room_for, least_core, usable_parts, is_taken, need_of_core, need_of_device, stands_more as one_stands_more, stands_device}
 
 -- the first item that passes is the first of those that pass a test, if it passes it
 first_from_place : (P : Chip → Type 0) (test : Chip → Bool) (xs : List Chip) (q : ℕ) (c : Chip) → slice_get xs q ≡ Some c → P c → test c ≡ true
-    → ((j : ℕ) (d : Chip) → j < q → slice_get xs j ≡ Some d → P d → ⊥) → IsFirst P (filter test xs) c
+    → ((j : ℕ) (d : Chip) → j < q → slice_get xs j ≡ Some d → P d → ⊥) → IsFirstChip P (filter test xs) c
 first_from_place P test [] q c at has passes none = cc
 first_from_place P test (x ∷ xs) zero c at has passes none =
     let one : x ≡ c = cc in
     let here : test x ≡ true = ap test one ∙ passes in
-    subst (λ l. IsFirst P l c) (sym (cond-true (test x) (x ∷ filter test xs) (filter test xs) here)) (inl (subst P (sym one) has, one))
+    subst (λ l. IsFirstChip P l c) (sym (cond-true (test x) (x ∷ filter test xs) (filter test xs) here)) (inl (subst P (sym one) has, one))
 first_from_place P test (x ∷ xs) (suc q) c at has passes none =
     let rest = first_from_place P test xs q c at has passes (λ j d low is. none (suc j) d (omega (arith, low)) is) in
     let not_here : P x → ⊥ = none 0 x (omega arith) refl in
     elim (cases_Bool (test x)) [
-      | inl here ↦ subst (λ l. IsFirst P l c) (sym (cond-true (test x) (x ∷ filter test xs) (filter test xs) here)) (inr (not_here, rest))
-      | inr out ↦ subst (λ l. IsFirst P l c) (sym (cond-false (test x) (x ∷ filter test xs) (filter test xs) out)) rest
+      | inl here ↦ subst (λ l. IsFirstChip P l c) (sym (cond-true (test x) (x ∷ filter test xs) (filter test xs) here)) (inr (not_here, rest))
+      | inr out ↦ subst (λ l. IsFirstChip P l c) (sym (cond-false (test x) (x ∷ filter test xs) (filter test xs) out)) rest
     ]
 
 -- what is first has the property
-pub first_has : (P : Chip → Type 0) (xs : List Chip) (c : Chip) → IsFirst P xs c → P c
+pub first_has : (P : Chip → Type 0) (xs : List Chip) (c : Chip) → IsFirstChip P xs c → P c
 first_has P [] c f = absurd f
 first_has P (x ∷ xs) c f = elim f [ inl here ↦ subst P here.1 here.0 | inr later ↦ first_has P xs c later.1 ]
 
@@ -63,7 +63,7 @@ module _ (m : Description) (vs : List Vertex) (ss : List Spot) (b : Board) (stan
   told_at q c at = stands.told q c at
 
   lives : (c : Chip) → HasRoom m vs ss v c → is_live_chip m c ≡ true
-  lives c has = (usable_parts m (core_of c has.core) (free_parts m ss (core_of c has.core) has.free).0).0
+  lives c has = (usable_parts m (core_spot c has.core) (free_parts m ss (core_spot c has.core) has.free).0).0
 
   module _ (place : ℕ) (found : IsPlaceWithRoom b v place) (new : Board) (r : Placed) (filled : IsFilled m place v.sdram b new r) where
     core : ℕ
@@ -76,7 +76,7 @@ module _ (m : Description) (vs : List Vertex) (ss : List Spot) (b : Board) (stan
     has = has_room m vs ss r.spot.chip (get_or b.cores.items place 0) (get_or b.rooms place 0) here v found.enough
 
     by_choice : (at : Option Chip) → MatchOption at ((q : ℕ) → q < place → get_or b.rooms q 0 ≤ v.sdram) (λ c. slice_get b.chips place ≡ Some c)
-        → IsFirst (HasRoom m vs ss v) (choices (filter (is_live_chip m) (hilbert b.level)) at) r.spot.chip
+        → IsFirstChip (HasRoom m vs ss v) (choices (filter (is_live_chip m) (hilbert b.level)) at) r.spot.chip
     by_choice None first =
         first_from_place (HasRoom m vs ss v) (is_live_chip m) (hilbert b.level) place r.spot.chip (ap (λ l. slice_get l place) (sym stands.board.chips) ∙ filled.chip) has (lives r.spot.chip has)
         (λ j d low is room. let more = room_for m vs ss d (get_or b.cores.items j 0) (get_or b.rooms j 0) (told_at j d (on_board j d is)) v room in omega (arith, more, first j low))
@@ -88,11 +88,11 @@ module _ (m : Description) (vs : List Vertex) (ss : List Spot) (b : Board) (stan
     pub spot_for : IsCoreFor m (filter (is_live_chip m) (hilbert b.level)) vs ss v r.spot
     spot_for =
         let some = core_with_room m vs ss r.spot.chip (get_or b.cores.items place 0) (get_or b.rooms place 0) here v.sdram found.enough in
-        let free : is_free_core m ss (core_of r.spot.chip (get_or b.cores.items place 0)) ≡ true =
-        free_from m ss (core_of r.spot.chip (get_or b.cores.items place 0)) (here.next some) (here.after (get_or b.cores.items place 0) (here.next some) (omega arith)) in
+        let free : is_free_core m ss (core_spot r.spot.chip (get_or b.cores.items place 0)) ≡ true =
+        free_from m ss (core_spot r.spot.chip (get_or b.cores.items place 0)) (here.next some) (here.after (get_or b.cores.items place 0) (here.next some) (omega arith)) in
         record {
           chip = by_choice v.at found.first;
-          free = subst (λ n. is_free_core m ss (core_of r.spot.chip n) ≡ true) (sym filled.core) free;
+          free = subst (λ n. is_free_core m ss (core_spot r.spot.chip n) ≡ true) (sym filled.core) free;
           least = λ p may. let low = least_core m vs ss r.spot.chip (get_or b.cores.items place 0) (get_or b.rooms place 0) here p may in omega (arith, low, filled.core);
         }
 

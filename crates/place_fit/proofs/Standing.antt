@@ -6,7 +6,7 @@ use Rattle.std.proofs.lemmas.Bool.Decides.{nat_tests}
 use Rattle.std.proofs.lemmas.List.Folds.{list_any-append}
 use Rattle.std.proofs.lemmas.Option.{get_or_from_slice_get}
 use Rattle.std.proofs.lemmas.List.{get_or-set_same, get_or-set_other, length-set, get_or_append_left, get_or_push, length_push}
-use Rattle.list_laws.proofs.Tests.{or_neither}
+use Rattle.spin_base.proofs.Tests.{or_neither}
 use Rattle.spin_base.specs.declared.chips.Chip.{Chip}
 use Rattle.spin_base.specs.declared.chips.Spot.{Spot}
 use Rattle.spin_base.specs.Equality.{chip_eq, spot_eq}
@@ -22,7 +22,7 @@ use Rattle.place_fit.specs.declared.boards.Placed.{Placed}
 use Rattle.place_fit.specs.Curve.{hilbert}
 use Rattle.place_fit.specs.Quarters.{curve_place}
 use Rattle.place_fit.specs.Boards.{IsBoard, IsEmptyBoard, IsNextCore, IsFilled, first_room}
-use Rattle.place_fit.specs.Placement.{core_of, need_of, used_on, is_free_core, HasRoom}
+use Rattle.place_fit.specs.Placement.{core_spot, need_of, used_on, is_free_core, HasRoom}
 use Rattle.place_fit.proofs.CurveLaws.{IsIn, place_at}
 
 pub live_in : (m : Description) (c : Chip) (side : ℕ) → is_live_chip m c ≡ true → m.width ≤ side → m.height ≤ side → IsIn side c
@@ -34,9 +34,9 @@ is_taken spots s = list_any (spot_eq s) spots
 
 -- a chip's least free core, or 18, and its room
 pub record IsTold (m : Description) (vs : List Vertex) (ss : List Spot) (c : Chip) (core room : ℕ) : Type 0 where
-  pub before : (p : ℕ) → is_usable m (core_of c p) ≡ true → p < core → is_taken ss (core_of c p) ≡ true
-  pub after : (p : ℕ) → is_usable m (core_of c p) ≡ true → core ≤ p → is_taken ss (core_of c p) ≡ false
-  pub next : core < 18 → is_usable m (core_of c core) ≡ true
+  pub before : (p : ℕ) → is_usable m (core_spot c p) ≡ true → p < core → is_taken ss (core_spot c p) ≡ true
+  pub after : (p : ℕ) → is_usable m (core_spot c p) ≡ true → core ≤ p → is_taken ss (core_spot c p) ≡ false
+  pub next : core < 18 → is_usable m (core_spot c core) ≡ true
   pub full : 18 ≤ core → room ≡ 0
   pub left : core < 18 → room + used_on c vs ss ≡ m.sdram + 1
 
@@ -62,7 +62,7 @@ module _ (m : Description) (vs : List Vertex) (ss : List Spot) (c : Chip) (core 
       elim (cases_lt core 18) [
         | inl some ↦ record {
           core = core;
-          free = free_from m ss (core_of c core) (told.next some) (told.after core (told.next some) (omega arith));
+          free = free_from m ss (core_spot c core) (told.next some) (told.after core (told.next some) (omega arith));
           memory = (let l = told.left some in omega (arith, l, more));
         }
         | inr none ↦ absurd (let f = told.full none in omega (arith, f, more))
@@ -77,16 +77,16 @@ module _ (m : Description) (vs : List Vertex) (ss : List Spot) (c : Chip) (core 
 
   pub room_for : (v : Vertex) → HasRoom m vs ss v c → v.sdram < room
   room_for v has =
-      let f = free_parts m ss (core_of c has.core) has.free in
-      let small = (usable_parts m (core_of c has.core) f.0).1 in
+      let f = free_parts m ss (core_spot c has.core) has.free in
+      let small = (usable_parts m (core_spot c has.core) f.0).1 in
       elim (cases_lt has.core core) [
         | inl before ↦ absurd (both_ways _ f.1 (told.before has.core f.0 before))
         | inr from ↦ (let l = told.left (omega (arith, from, small)) in omega (arith, l, has.memory))
       ]
 
-  pub least_core : (p : ℕ) → is_free_core m ss (core_of c p) ≡ true → core ≤ p
+  pub least_core : (p : ℕ) → is_free_core m ss (core_spot c p) ≡ true → core ≤ p
   least_core p free =
-      let f = free_parts m ss (core_of c p) free in
+      let f = free_parts m ss (core_spot c p) free in
       elim (cases_lt p core) [
         | inl before ↦ absurd (both_ways _ f.1 (told.before p f.0 before))
         | inr from ↦ from
@@ -176,8 +176,8 @@ need_of_device v device is = ap (λ (o : Option Edge). cond (is_none o) v.sdram 
 module _ (m : Description) (vs : List Vertex) (ss : List Spot) (same : length vs ≡ length ss) (v : Vertex) (c : Chip) (core room : ℕ) (told : IsTold m vs ss c core room) where
   told_other : (s : Spot) → chip_eq c s.chip ≡ false → IsTold m (vs ++ v ∷ []) (ss ++ s ∷ []) c core room
   told_other s other =
-      let taken : (p : ℕ) → is_taken (ss ++ s ∷ []) (core_of c p) ≡ is_taken ss (core_of c p) =
-      λ p. taken_push ss s (core_of c p) ∙ or_neither (is_taken ss (core_of c p)) (spot_eq (core_of c p) s) (and_left (chip_eq c s.chip) (p == s.core) other) in
+      let taken : (p : ℕ) → is_taken (ss ++ s ∷ []) (core_spot c p) ≡ is_taken ss (core_spot c p) =
+      λ p. taken_push ss s (core_spot c p) ∙ or_neither (is_taken ss (core_spot c p)) (spot_eq (core_spot c p) s) (and_left (chip_eq c s.chip) (p == s.core) other) in
       let used : used_on c (vs ++ v ∷ []) (ss ++ s ∷ []) ≡ used_on c vs ss + 0 =
       used_push c vs ss v s same ∙ ap (λ b. used_on c vs ss + b) (cond-false (chip_eq c s.chip) (need_of v) 0 other) in
       record {
@@ -191,9 +191,9 @@ module _ (m : Description) (vs : List Vertex) (ss : List Spot) (same : length vs
   -- a device takes no core and no memory
   told_device : (s : Spot) → 18 ≤ s.core → need_of v ≡ 0 → IsTold m (vs ++ v ∷ []) (ss ++ s ∷ []) c core room
   told_device s high none =
-      let apart : (p : ℕ) → is_usable m (core_of c p) ≡ true → is_taken (ss ++ s ∷ []) (core_of c p) ≡ is_taken ss (core_of c p) =
-      λ p u. let low = (usable_parts m (core_of c p) u).1 in
-      taken_push ss s (core_of c p) ∙ or_neither (is_taken ss (core_of c p)) (spot_eq (core_of c p) s) (and_right (chip_eq c s.chip) (p == s.core) (let below : p < s.core = omega (arith, low, high) in grind (arith, nat_tests))) in
+      let apart : (p : ℕ) → is_usable m (core_spot c p) ≡ true → is_taken (ss ++ s ∷ []) (core_spot c p) ≡ is_taken ss (core_spot c p) =
+      λ p u. let low = (usable_parts m (core_spot c p) u).1 in
+      taken_push ss s (core_spot c p) ∙ or_neither (is_taken ss (core_spot c p)) (spot_eq (core_spot c p) s) (and_right (chip_eq c s.chip) (p == s.core) (let below : p < s.core = omega (arith, low, high) in grind (arith, nat_tests))) in
       let used : used_on c (vs ++ v ∷ []) (ss ++ s ∷ []) ≡ used_on c vs ss + 0 =
       used_push c vs ss v s same ∙ ap (λ b. used_on c vs ss + b) (ap (λ n. cond (chip_eq c s.chip) n 0) none ∙ cond_same (chip_eq c s.chip) 0) in
       record {
@@ -205,22 +205,22 @@ module _ (m : Description) (vs : List Vertex) (ss : List Spot) (same : length vs
       }
 
   told_here : (next : ℕ) → need_of v ≡ v.sdram → core < 18 → v.sdram < room → IsNextCore m c (core + 1) next
-      → IsTold m (vs ++ v ∷ []) (ss ++ core_of c core ∷ []) c next (first_room next (room - 1 - v.sdram))
+      → IsTold m (vs ++ v ∷ []) (ss ++ core_spot c core ∷ []) c next (first_room next (room - 1 - v.sdram))
   told_here next plain some enough is_next =
-      let s = core_of c core in
+      let s = core_spot c core in
       let used : used_on c (vs ++ v ∷ []) (ss ++ s ∷ []) ≡ used_on c vs ss + v.sdram =
       used_push c vs ss v s same ∙ ap (λ b. used_on c vs ss + b) (cond-true (chip_eq c c) (need_of v) 0 (chip_eq_same c) ∙ plain) in
       record {
-        before = λ p u low. taken_push ss s (core_of c p) ∙ elim (cases_lt p core) [
-          | inl lower ↦ or_left (is_taken ss (core_of c p)) (spot_eq (core_of c p) s || false) (told.before p u lower)
+        before = λ p u low. taken_push ss s (core_spot c p) ∙ elim (cases_lt p core) [
+          | inl lower ↦ or_left (is_taken ss (core_spot c p)) (spot_eq (core_spot c p) s || false) (told.before p u lower)
           | inr upper ↦ elim (cases_lt core p) [
             | inl above ↦ absurd (both_ways _ (is_next.none p (omega (arith, above)) low) u)
-            | inr here ↦ or_last (is_taken ss (core_of c p)) (spot_eq (core_of c p) s) (and_from (chip_eq c c) (p == core) (chip_eq_same c) (let e : p ≡ core = omega (arith, upper, here) in grind (arith, nat_tests)))
+            | inr here ↦ or_last (is_taken ss (core_spot c p)) (spot_eq (core_spot c p) s) (and_from (chip_eq c c) (p == core) (chip_eq_same c) (let e : p ≡ core = omega (arith, upper, here) in grind (arith, nat_tests)))
           ]
         ];
         after = λ p u from.
-            taken_push ss s (core_of c p)
-            ∙ or_neither (is_taken ss (core_of c p)) (spot_eq (core_of c p) s) (and_right (chip_eq c c) (p == core) (let low = is_next.low in let more : core < p = omega (arith, low, from) in grind (arith, nat_tests)))
+            taken_push ss s (core_spot c p)
+            ∙ or_neither (is_taken ss (core_spot c p)) (spot_eq (core_spot c p) s) (and_right (chip_eq c c) (p == core) (let low = is_next.low in let more : core < p = omega (arith, low, from) in grind (arith, nat_tests)))
             ∙ told.after p u (omega (arith, is_next.low, from));
         next = is_next.usable;
         full = λ none. room_none next (room - 1 - v.sdram) none;
@@ -235,8 +235,8 @@ module _ (m : Description) (vs : List Vertex) (ss : List Spot) (old new : Board)
   here_core : get_or old.cores.items place 0 < 18
   here_core = core_with_room m vs ss r.spot.chip (get_or old.cores.items place 0) (get_or old.rooms place 0) here_told v.sdram enough
 
-  spot_is : core_of r.spot.chip (get_or old.cores.items place 0) ≡ r.spot
-  spot_is = same_spot (core_of r.spot.chip (get_or old.cores.items place 0)) r.spot refl (sym filled.core)
+  spot_is : core_spot r.spot.chip (get_or old.cores.items place 0) ≡ r.spot
+  spot_is = same_spot (core_spot r.spot.chip (get_or old.cores.items place 0)) r.spot refl (sym filled.core)
 
   on_curve : (q : ℕ) (c : Chip) → slice_get old.chips q ≡ Some c → slice_get (hilbert old.level) q ≡ Some c
   on_curve q c at = ap (λ l. slice_get l q) (sym stands.board.chips) ∙ at

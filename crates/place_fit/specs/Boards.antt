@@ -8,7 +8,7 @@ use Rattle.app_graph.specs.declared.graphs.Vertex.{Vertex}
 use Rattle.place_fit.specs.declared.boards.Board.{Board}
 use Rattle.place_fit.specs.declared.boards.Placed.{Placed}
 use Rattle.place_fit.specs.Curve.{hilbert}
-use Rattle.place_fit.specs.Placement.{core_of, HasDeviceRoom, device_spot}
+use Rattle.place_fit.specs.Placement.{core_spot, HasDeviceRoom, device_spot}
 
 -- the chips of the curve, whose square holds the grid, with a core and a room beside each
 pub record IsBoard (m : Description) (level : ℕ) (b : Board) : Type 0 where
@@ -24,8 +24,8 @@ pub record IsBoard (m : Description) (level : ℕ) (b : Board) : Type 0 where
 pub record IsNextCore (m : Description) (c : Chip) (from next : ℕ) : Type 0 where
   pub low : from ≤ next
   pub high : next ≤ 18
-  pub none : (p : ℕ) → from ≤ p → p < next → is_usable m (core_of c p) ≡ false
-  pub usable : next < 18 → is_usable m (core_of c next) ≡ true
+  pub none : (p : ℕ) → from ≤ p → p < next → is_usable m (core_spot c p) ≡ false
+  pub usable : next < 18 → is_usable m (core_spot c next) ≡ true
 
 -- the room of a chip whose least free core is this one, and of whose memory so many bytes are left
 abbrev pub first_room : ℕ → ℕ → ℕ

@@ -6,6 +6,6 @@ use Rattle.place_fit.specs.declared.placing.PlaceErr.{PlaceErr}
 use Rattle.place_fit.specs.declared.placing.PlaceErr.TheVariants.{NoRoom, Memory}
 use Rattle.place_fit.specs.Placement.{HasNoRoom}
 
-abbrev pub IsCause : Description → List Vertex → PlaceErr → Type 0
-IsCause m vertices (NoRoom vertex) = HasNoRoom m vertices vertex
-IsCause m vertices Memory = Unit {0}
+abbrev pub IsPlacementCause : Description → List Vertex → PlaceErr → Type 0
+IsPlacementCause m vertices (NoRoom vertex) = HasNoRoom m vertices vertex
+IsPlacementCause m vertices Memory = Unit {0}

@@ -32,7 +32,7 @@ hilbert zero = record { x = 0; y = 0 } ∷ []
 hilbert (suc k) = four_quarters (2 ^ k) (hilbert k)
 
 -- the least level whose square holds the machine's grid
-pub record IsLevel (m : Description) (k : ℕ) : Type 0 where
+pub record IsCurveLevel (m : Description) (k : ℕ) : Type 0 where
   pub wide : m.width ≤ 2 ^ k
   pub high : m.height ≤ 2 ^ k
   pub least : (j : ℕ) → m.width ≤ 2 ^ j → m.height ≤ 2 ^ j → k ≤ j
@@ -40,5 +40,5 @@ pub record IsLevel (m : Description) (k : ℕ) : Type 0 where
 -- The chip order of a machine is the curve of that level, without the chips that are not live.
 pub record IsChipOrder (m : Description) (chips : List Chip) : Type 0 where
   pub level : ℕ
-  pub is_level : IsLevel m level
+  pub is_level : IsCurveLevel m level
   pub live : chips ≡ filter (is_live_chip m) (hilbert level)

@@ -11,8 +11,8 @@ use Rattle.machine_desc.specs.Live.{is_usable, is_live_chip, is_live_link}
 use Rattle.app_graph.specs.declared.graphs.Vertex.{Vertex}
 use Rattle.place_fit.specs.Curve.{IsChipOrder}
 
-abbrev pub core_of : Chip → ℕ → Spot
-core_of c p = record { chip = c; core = p }
+abbrev pub core_spot : Chip → ℕ → Spot
+core_spot c p = record { chip = c; core = p }
 
 -- the bytes of shared memory that a vertex needs: none where it is a device
 abbrev pub need_of : Vertex → ℕ
@@ -32,13 +32,13 @@ is_free_core m spots s = is_usable m s && not (list_any (spot_eq s) spots)
 -- this one needs.
 pub record HasRoom (m : Description) (vertices : List Vertex) (spots : List Spot) (v : Vertex) (c : Chip) : Type 0 where
   pub core : ℕ
-  pub free : is_free_core m spots (core_of c core) ≡ true
+  pub free : is_free_core m spots (core_spot c core) ≡ true
   pub memory : used_on c vertices spots + v.sdram ≤ m.sdram
 
 -- the first chip of a list of which P holds
-abbrev pub IsFirst : (Chip → Type 0) → List Chip → Chip → Type 0
-IsFirst P [] c = ⊥
-IsFirst P (x ∷ xs) c = (P x × (x ≡ c)) ⊎ ((P x → ⊥) × IsFirst P xs c)
+abbrev pub IsFirstChip : (Chip → Type 0) → List Chip → Chip → Type 0
+IsFirstChip P [] c = ⊥
+IsFirstChip P (x ∷ xs) c = (P x × (x ≡ c)) ⊎ ((P x → ⊥) × IsFirstChip P xs c)
 
 -- the chips on which a vertex may stand: all in their order, or the one that it names
 abbrev pub choices : List Chip → Option Chip → List Chip
@@ -47,9 +47,9 @@ choices order (Some c) = c ∷ []
 
 -- A vertex that is no device stands on the first of these chips that has room, on the least free core of it.
 pub record IsCoreFor (m : Description) (order : List Chip) (vertices : List Vertex) (spots : List Spot) (v : Vertex) (s : Spot) : Type 0 where
-  pub chip : IsFirst (HasRoom m vertices spots v) (choices order v.at) s.chip
+  pub chip : IsFirstChip (HasRoom m vertices spots v) (choices order v.at) s.chip
   pub free : is_free_core m spots s ≡ true
-  pub least : (p : ℕ) → is_free_core m spots (core_of s.chip p) ≡ true → s.core ≤ p
+  pub least : (p : ℕ) → is_free_core m spots (core_spot s.chip p) ≡ true → s.core ≤ p
 
 -- a device has room where its chip is live, and its link is not
 abbrev pub HasDeviceRoom : Description → Edge → Type 0

@@ -1,6 +1,7 @@
 // How far the chips of a machine are filled.
 ghost use Rattle.std.specs.Prelude.{◌≡◌, ℕ, ◌+◌, ◌-◌, ◌==◌, ◌^◌, ◌<◌, ◌≤◌, Some, length, slice_get, slice_set, slice_index, if◌then◌else◌, nat_lt, IfOk, IfSome, IfNone};
 ghost use Rattle.place_fit.specs.Boards.{IsBoard, IsEmptyBoard, IsNextCore, IsPlaceWithRoom, HasNoPlace, HasNoRoomAt, HasFairRooms, IsFilled, IsPut, IsPutOnCore, HasNoSpot, first_room};
+ghost use Rattle.place_fit.specs.Curve.{IsCurveLevel};
 ghost use Rattle.place_fit.specs.Placement.{HasDeviceRoom, device_spot};
 
 use crate::curves::{curve, place_on_curve};
@@ -28,13 +29,12 @@ pub struct Placed {
 }
 
 // The board on which no vertex stands.
-pub fn empty_board(alloc: Global, machine: &Machine, level: u32) -> Result<Board, Memory>
-    requires small { level ≤ 6 }
-    requires wide { machine.now.width ≤ 2 ^ level }
-    requires high { machine.now.height ≤ 2 ^ level }
-    ensures board { IfOk result (IsBoard machine.now level) }
+pub fn empty_board(alloc: Global, machine: &Machine) -> Result<Board, Memory>
+    ensures level { IfOk result (λ b. IsCurveLevel machine.now b.level) }
+    ensures board { IfOk result (λ b. IsBoard machine.now b.level b) }
     ensures empty { IfOk result (IsEmptyBoard machine.now) }
 {
+    let level = level_of(machine);
     let chips = curve(alloc, level)?;
     let mut cores = Vec::new(alloc);
     let mut rooms = Rooms::new(alloc, 2 * level)?;
@@ -49,6 +49,23 @@ pub fn empty_board(alloc: Global, machine: &Machine, level: u32) -> Result<Board
         cores,
         rooms,
     })
+}
+
+// The least level of the curve whose square holds the machine's grid.
+fn level_of(machine: &Machine) -> u32
+    ensures level { IsCurveLevel machine.now result }
+    ensures small { result ≤ 6 }
+{
+    let width = machine.width();
+    let height = machine.height();
+    let mut side = 1u8;
+    for level in 0..6 {
+        if width <= side && height <= side {
+            return level;
+        }
+        side *= 2;
+    }
+    6
 }
 
 // The room of a chip with this least free core, of whose memory so many bytes are left.

@@ -15,23 +15,34 @@ pub fn curve(alloc: Global, k: u32) -> Result<Seq<Chip>, Memory>
     chips.push(Chip { x: 0, y: 0 })?;
     let mut side = 1;
     for level in 0..k {
-        chips = next_level(alloc, &chips, side)?;
+        let square = Square {
+            chips: &chips,
+            side,
+        };
+        chips = next_level(alloc, square)?;
         side *= 2;
     }
     Ok(Seq::from_vec(chips))
 }
 
+// The chips of a square of this side, in the order in which the curve goes through them.
+#[derive(Clone, Copy)]
+struct Square<'a> {
+    chips: &'a [Chip],
+    side: u8,
+    ghost small: { side ≤ 32 },
+    ghost inside: { All (λ c. (c.x < side) × (c.y < side)) chips.now },
+}
+
 // The curve through a square of twice the side.
-fn next_level(alloc: Global, chips: &[Chip], side: u8) -> Result<Vec<Chip>, Memory>
-    requires small { side ≤ 32 }
-    requires inside { All (λ c. (c.x < side) × (c.y < side)) chips.now }
-    ensures { IfOk result (λ v. v.items ≡ four_quarters side chips.now) }
+fn next_level(alloc: Global, square: Square) -> Result<Vec<Chip>, Memory>
+    ensures { IfOk result (λ v. v.items ≡ four_quarters square.entry.side square.entry.chips.now) }
 {
     let mut all = Vec::new(alloc);
-    add_quarter(&mut all, chips, Quarter::LowerLeft, side)?;
-    add_quarter(&mut all, chips, Quarter::UpperLeft, side)?;
-    add_quarter(&mut all, chips, Quarter::UpperRight, side)?;
-    add_quarter(&mut all, chips, Quarter::LowerRight, side)?;
+    add_quarter(&mut all, Quarter::LowerLeft, square)?;
+    add_quarter(&mut all, Quarter::UpperLeft, square)?;
+    add_quarter(&mut all, Quarter::UpperRight, square)?;
+    add_quarter(&mut all, Quarter::LowerRight, square)?;
     Ok(all)
 }
 
@@ -71,18 +82,12 @@ impl Quarter {
 }
 
 // Puts the curve through a quarter behind what there is.
-fn add_quarter(
-    all: &mut Vec<Chip>,
-    chips: &[Chip],
-    quarter: Quarter,
-    side: u8,
-) -> Result<(), Memory>
-    requires small { side ≤ 32 }
-    requires inside { All (λ c. (c.x < side) × (c.y < side)) chips.now }
-    ensures { OnOk result (all.new.items ≡ all.old.items ++ map (in_quarter quarter side) chips.now) }
+fn add_quarter(all: &mut Vec<Chip>, quarter: Quarter, square: Square) -> Result<(), Memory>
+    ensures { OnOk result (all.new.items ≡ all.old.items
+        ++ map (in_quarter quarter square.entry.side) square.entry.chips.now) }
 {
-    for chip in chips {
-        all.push(quarter.chip(side, *chip))?;
+    for chip in square.chips {
+        all.push(quarter.chip(square.side, *chip))?;
     }
     Ok(())
 }

@@ -4,9 +4,8 @@ ghost use Rattle.std.specs.List.{AllZip};
 ghost use Rattle.machine_desc.specs.Live.{IsUsable, IsSite};
 ghost use Rattle.app_graph.specs.declared.graphs.Vertex.{Vertex};
 ghost use Rattle.app_graph.specs.ValidGraph.{IsValidGraph};
-ghost use Rattle.place_fit.specs.Curve.{IsLevel};
 ghost use Rattle.place_fit.specs.Placement.{IsPlacement};
-ghost use Rattle.place_fit.specs.Cause.{IsCause};
+ghost use Rattle.place_fit.specs.Cause.{IsPlacementCause};
 
 use crate::boards::empty_board;
 use app_graph::Graph;
@@ -51,13 +50,15 @@ impl From<Memory> for PlaceErr {
 /// none. `NoRoom` comes exactly where some vertex, device or not, finds no room, and names the first.
 pub fn place(alloc: Global, machine: &Machine, graph: &Graph) -> Result<Placement, PlaceErr>
     requires { IsValidGraph graph.now }
-    ensures placed { IfOk result (λ p. IsPlacement machine.now graph.now.vertices p.spots p.memory) }
-    ensures no_room { IfErr result (IsCause machine.now graph.now.vertices) }
+    ensures placed { IfOk result
+        (λ p. IsPlacement machine.now graph.now.vertices p.spots p.memory) }
+    ensures no_room { IfErr result (IsPlacementCause machine.now graph.now.vertices) }
     ensures different { IfOk result (λ p. AllPairs (λ a b. a ≢ b) p.spots) }
     ensures sites { IfOk result (λ p. All (IsSite machine.now) p.spots) }
-    ensures cores { IfOk result (λ p. AllZip (λ (v : Vertex) s. v.device ≡ None → IsUsable machine.now s) graph.now.vertices p.spots) }
+    ensures cores { IfOk result (λ p. AllZip
+        (λ (v : Vertex) s. v.device ≡ None → IsUsable machine.now s) graph.now.vertices p.spots) }
 {
-    let mut board = empty_board(alloc, machine, level_of(machine))?;
+    let mut board = empty_board(alloc, machine)?;
     let mut spots = Seq::new(alloc);
     let mut memory = Seq::new(alloc);
     for (i, vertex) in graph.vertices.as_slice().iter().enumerate() {
@@ -68,21 +69,4 @@ pub fn place(alloc: Global, machine: &Machine, graph: &Graph) -> Result<Placemen
         memory.push(placed.memory)?;
     }
     Ok(Placement { spots, memory })
-}
-
-// The least level of the curve whose square holds the machine's grid.
-fn level_of(machine: &Machine) -> u32
-    ensures level { IsLevel machine.now result }
-    ensures small { result ≤ 6 }
-{
-    let width = machine.width();
-    let height = machine.height();
-    let mut side = 1u8;
-    for level in 0..6 {
-        if width <= side && height <= side {
-            return level;
-        }
-        side *= 2;
-    }
-    6
 }

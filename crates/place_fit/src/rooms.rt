@@ -68,7 +68,8 @@ impl Rooms {
     pub fn first_above(&self, need: u64) -> Option<usize>
         ensures within { IfSome result (λ place. place < length self.now) }
         ensures enough { IfSome result (λ place. need < slice_index self.now place) }
-        ensures first { IfSome result (λ place. (q : ℕ) → q < place → slice_index self.now q ≤ need) }
+        ensures first { IfSome result (λ place. (q : ℕ) → q < place
+            → slice_index self.now q ≤ need) }
         ensures none { IfNone result (All (λ room. room ≤ need) self.now) }
     {
         if self.tree[1] <= need {

@@ -14,39 +14,39 @@ use Rattle.spin_base.specs.Outputs.{nothing}
 use Rattle.machine_desc.specs.Description.{Description}
 use Rattle.machine_desc.specs.Live.{IsInside, index_of}
 use Rattle.machine_desc.proofs.Far.{index_below}
-use Rattle.net_tables.specs.declared.nets.NetPlan.{NetPlan}
+use Rattle.machine_desc.specs.declared.nets.NetPlan.{NetPlan}
 use Rattle.table_load.specs.declared.tables.Image.{Image}
 use Rattle.table_load.specs.Images.{IsRow, IsTable, IsValid}
-use Rattle.table_load.specs.Memories.{rows_at}
-use Rattle.table_load.specs.Memories.{index_of as table_index}
-use Rattle.plain_tables.specs.Marks.{IsRouted, TellsPort, TellsPorts, TellsRoutes}
-use Rattle.plain_tables.proofs.Trees.{chips_inside, comes_in_tree}
-use Rattle.plain_tables.specs.PlainTable.{HasChip}
-use Rattle.plan_check.specs.declared.fares.Flaw.{Flaw}
-use Rattle.plan_check.specs.declared.fares.Flaw.TheVariants.{Wrong, Split}
+use Rattle.table_load.specs.Memories.{rows_of_index}
+use Rattle.table_load.specs.Memories.{table_index}
+use Rattle.net_tables.specs.Marks.{IsRouted, TellsPort, TellsPorts, TellsRoutes}
+use Rattle.net_tables.proofs.Trees.{chips_inside, comes_in_tree}
+use Rattle.net_tables.specs.PlainTable.{HasChip}
+use Rattle.plan_check.specs.declared.flaws.Flaw.{Flaw}
+use Rattle.plan_check.specs.declared.flaws.Flaw.TheVariants.{Wrong, Split}
 use Rattle.plan_check.specs.declared.verdicts.Verdict.{Verdict}
-use Rattle.plan_check.specs.Boards.{IsAmissAt, IsFlaw, IsFineBelow, Fares, verdict_on}
+use Rattle.plan_check.specs.Boards.{IsAmissAt, IsFlaw, IsFineBelow, IsFirstFlaw, verdict_on}
 use Rattle.plan_check.specs.Verdicts.{IsFine, IsFineAll, AreFineBefore, IsVerdict, rows_for}
-use Rattle.plain_tables.proofs.Determined.{same_outputs}
+use Rattle.net_tables.proofs.Determined.{same_outputs}
 
 -- ---- the rows of a valid image
 
-rows_valid_in : (height width up : ℕ) (tables : List ChipTable) (i : ℕ) → All (IsTable width up) tables → All IsRow (rows_at height tables i) × (length (rows_at height tables i) ≤ 1024)
+rows_valid_in : (height width up : ℕ) (tables : List ChipTable) (i : ℕ) → All (IsTable width up) tables → All IsRow (rows_of_index height tables i) × (length (rows_of_index height tables i) ≤ 1024)
 rows_valid_in height width up [] i all = (All-nil IsRow, omega arith)
 rows_valid_in height width up (t ∷ tables) i all = by (table_index height t == i) (rows_valid_in height width up tables i (All-tail (IsTable width up) t tables all))
   where
     mine : IsTable width up t
     mine = All-head (IsTable width up) t tables all
 
-    by : (b : Bool) → All IsRow (rows_at height tables i) × (length (rows_at height tables i) ≤ 1024) →
-        All IsRow (cond b t.entries (rows_at height tables i)) × (length (cond b t.entries (rows_at height tables i)) ≤ 1024)
+    by : (b : Bool) → All IsRow (rows_of_index height tables i) × (length (rows_of_index height tables i) ≤ 1024) →
+        All IsRow (cond b t.entries (rows_of_index height tables i)) × (length (cond b t.entries (rows_of_index height tables i)) ≤ 1024)
     by true rest = (mine.rows, mine.some_rows.1)
     by false rest = rest
 
-pub rows_valid : (v : Image) (rows : List Entry) (i : ℕ) → IsValid v → rows ≡ rows_at v.height v.chips i → All IsRow rows
+pub rows_valid : (v : Image) (rows : List Entry) (i : ℕ) → IsValid v → rows ≡ rows_of_index v.height v.chips i → All IsRow rows
 rows_valid v rows i valid is = subst (All IsRow) (sym is) (rows_valid_in v.height v.width v.height v.chips i valid.tables).0
 
-pub rows_few : (v : Image) (rows : List Entry) (i : ℕ) → IsValid v → rows ≡ rows_at v.height v.chips i → length rows ≤ 1024
+pub rows_few : (v : Image) (rows : List Entry) (i : ℕ) → IsValid v → rows ≡ rows_of_index v.height v.chips i → length rows ≤ 1024
 rows_few v rows i valid is = subst (λ (l : List Entry). length l ≤ 1024) (sym is) (rows_valid_in v.height v.width v.height v.chips i valid.tables).1
 
 -- ---- one chip
@@ -86,11 +86,11 @@ module _ (m : Description) (v : Image) (net : NetPlan) (routed : IsRouted m net)
 
   -- the port, the route and the rows at an index are those of the chip of that index
   module _ (i : ℕ) (rows : List Entry) (port : Option Port) (wanted : Route) (in_ports : i < length ports) (in_routes : i < length routes)
-      (rows_are : rows ≡ rows_at v.height v.chips i) (port_is : port ≡ get_or ports i port) (wanted_is : wanted ≡ get_or routes i wanted) where
+      (rows_are : rows ≡ rows_of_index v.height v.chips i) (port_is : port ≡ get_or ports i port) (wanted_is : wanted ≡ get_or routes i wanted) where
     at_chip : (o : Option Flaw) (c : Chip) → index_of m c ≡ i → IsAmissAt net.block rows port wanted o →
         IsAmissAt net.block (rows_for m v c) (get_or ports (index_of m c) None) (get_or routes (index_of m c) nothing) o
     at_chip o c at amiss =
-        let first : rows ≡ rows_for m v c = rows_are ∙ ap (rows_at v.height v.chips) (sym at) in
+        let first : rows ≡ rows_for m v c = rows_are ∙ ap (rows_of_index v.height v.chips) (sym at) in
         let second : port ≡ get_or ports (index_of m c) None = port_is ∙ (get_or_default ports i port None in_ports ∙ ap (λ k. get_or ports k None) (sym at)) in
         let third : wanted ≡ get_or routes (index_of m c) nothing = wanted_is ∙ (get_or_default routes i wanted nothing in_routes ∙ ap (λ k. get_or routes k nothing) (sym at)) in
         subst (λ r. IsAmissAt net.block (rows_for m v c) (get_or ports (index_of m c) None) r o) third
@@ -127,24 +127,24 @@ module _ (m : Description) (v : Image) (nets : List NetPlan) (i : ℕ) (net : Ne
   here : slice_get nets i ≡ Some net
   here = slice_get-get_or nets i net below ∙ ap Some (sym read)
 
-  pub nets_more : (o : Option (Chip × Flaw)) → o ≡ None → Fares m v net o → AreFine m v nets i → AreFine m v nets (i + 1)
-  nets_more o none fares before j other less at = elim (cases_lt j i) [
+  pub nets_more : (o : Option (Chip × Flaw)) → o ≡ None → IsFirstFlaw m v net o → AreFine m v nets i → AreFine m v nets (i + 1)
+  nets_more o none flaws before j other less at = elim (cases_lt j i) [
     | inl earlier ↦ before j other earlier at
     | inr later ↦
         let same : j ≡ i = omega (arith, less, later) in
         let found : Some other ≡ Some net = sym at ∙ (ap (slice_get nets) same ∙ here) in
         let one : other ≡ net = cc in
-        subst (IsFineAll m v) (sym one) (subst (Fares m v net) none fares)
+        subst (IsFineAll m v) (sym one) (subst (IsFirstFlaw m v net) none flaws)
   ]
 
-  pub verdict_found : (o : Option (Chip × Flaw)) (c : Chip) (flaw : Flaw) (verdict : Verdict) → o ≡ Some (c, flaw) → Fares m v net o → AreFine m v nets i →
+  pub verdict_found : (o : Option (Chip × Flaw)) (c : Chip) (flaw : Flaw) (verdict : Verdict) → o ≡ Some (c, flaw) → IsFirstFlaw m v net o → AreFine m v nets i →
       verdict ≡ verdict_on i c net.block.key flaw → IsVerdict m nets v verdict
-  verdict_found o c flaw verdict some fares before is = subst (IsVerdict m nets v) (sym is) (by flaw (subst (Fares m v net) some fares))
+  verdict_found o c flaw verdict some flaws before is = subst (IsVerdict m nets v) (sym is) (by flaw (subst (IsFirstFlaw m v net) some flaws))
     where
-      first : (g : Flaw) → Fares m v net (Some (c, g)) → AreFineBefore m v nets i net c
+      first : (g : Flaw) → IsFirstFlaw m v net (Some (c, g)) → AreFineBefore m v nets i net c
       first g known = record { there = here; on_tree = known.0; nets_before = before; chips_before = known.2 }
 
-      by : (g : Flaw) → Fares m v net (Some (c, g)) → IsVerdict m nets v (verdict_on i c net.block.key g)
+      by : (g : Flaw) → IsFirstFlaw m v net (Some (c, g)) → IsVerdict m nets v (verdict_on i c net.block.key g)
       by Wrong known = (net, first Wrong known, known.1, refl)
       by (Split place) known = (net, first (Split place) known, known.1)
 

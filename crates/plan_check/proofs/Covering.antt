@@ -9,10 +9,10 @@ use Rattle.spin_base.specs.declared.routes.Route.{Route}
 use Rattle.tern_word.specs.declared.tables.Alias.{Alias}
 use Rattle.tern_word.specs.declared.tables.Row.{Row}
 use Rattle.tern_word.specs.SoundTable.{IsSound, Original, served_by, served}
-use Rattle.cover_checks.specs.Merge.{has, kept, rows_at, merge_rows, merged_row, insert_place, after, IsLegal}
-use Rattle.cover_checks.proofs.Legal.{legal_from_checks}
-use Rattle.cover_checks.proofs.Lists.{All-left, All-right, All-from_map, All-flat_map, All-from_flat_map, picked-at}
-use Rattle.cover_checks.proofs.Positions.{All-has, rows_at-from, rows_at-has}
+use Rattle.cover_merge.specs.Merge.{has_row, kept, rows_at, merge_rows, merged_row, insert_place, after, IsLegal}
+use Rattle.cover_merge.proofs.Legal.{legal_from_checks}
+use Rattle.cover_merge.proofs.Lists.{All-left, All-right, All-from_map, All-flat_map, All-from_flat_map, picked-at}
+use Rattle.cover_merge.proofs.Positions.{All-has, rows_at-from, rows_at-has}
 use Rattle.spin_base.proofs.RouteBits.{same_route}
 use Rattle.cover_merge.specs.Refinement.{Refines, ends_empty, ends_legal, goes_up, goes_down, keeps}
 use Rattle.cover_merge.specs.Covering.{places_of, IsChosen, Covers, short, stuck, merged}
@@ -54,25 +54,25 @@ module _ (P : Original → Type 0) where
     served_before : All P (served (after rows places)) → All P (served rows)
     served_before all =
         let n = insert_place rows places in
-        let out = λ (k : ℕ). not (has places k) in
+        let out = λ (k : ℕ). not (has_row places k) in
         let each : All Serving (after rows places) = All-from_flat_map P served_by (after rows places) all in
         let front : All Serving (kept places 0 (take n rows)) = All-left Serving (kept places 0 (take n rows)) (merged_row rows places ∷ kept places n (drop n rows)) each in
         let behind : All Serving (merged_row rows places ∷ kept places n (drop n rows)) = All-right Serving (kept places 0 (take n rows)) (merged_row rows places ∷ kept places n (drop n rows)) each in
         let back : All Serving (kept places n (drop n rows)) = All-tail Serving (merged_row rows places) (kept places n (drop n rows)) behind in
         let mine : All Serving (rows_at rows places) = members (rows_at rows places) bits alike (All-head Serving (merged_row rows places) (kept places n (drop n rows)) behind) in
-        All-flat_map P served_by rows (λ k d below. elim (cases_Bool (has places k)) [
+        All-flat_map P served_by rows (λ k d below. elim (cases_Bool (has_row places k)) [
           | inl found ↦ rows_at-has Serving rows places in_range mine k d found
           | inr none ↦ elim (cases_lt k n) [
             | inl before ↦
                 let within : k < length (take n rows) = omega (arith, length-take n rows, before, below) in
                 subst Serving (get_or-take n rows k d before)
-                (picked-at Serving out 0 (take n rows) front k k d (omega arith) within (not_from_false (has places k) none))
+                (picked-at Serving out 0 (take n rows) front k k d (omega arith) within (not_from_false (has_row places k) none))
             | inr later ↦
                 let at : n + (k - n) ≡ k = omega (arith, later) in
                 let within : k - n < length (drop n rows) = omega (arith, length-drop n rows, later, below) in
                 subst (λ i. Serving (get_or rows i d)) at
                 (subst Serving (get_or-drop n rows (k - n) d)
-                (picked-at Serving out n (drop n rows) back (k - n) k d (omega (arith, later)) within (not_from_false (has places k) none)))
+                (picked-at Serving out n (drop n rows) back (k - n) k d (omega (arith, later)) within (not_from_false (has_row places k) none)))
           ]
         ])
 

@@ -10,14 +10,14 @@ use Rattle.spin_base.specs.declared.blocks.Entry.{Entry}
 use Rattle.spin_base.specs.declared.chips.Port.{Port}
 use Rattle.spin_base.specs.declared.routes.Route.{Route}
 use Rattle.spin_base.specs.Lookup.{default_route}
-use Rattle.net_tables.specs.RightTables.{IsKeyOf}
+use Rattle.machine_desc.specs.RightTables.{IsKeyOf}
 use Rattle.tern_word.specs.declared.tables.Alias.{Alias}
 use Rattle.tern_word.specs.declared.tables.Row.{Row}
 use Rattle.tern_word.specs.Entries.{entry_of}
 use Rattle.tern_word.specs.Ternary.{Intersects, LiesIn}
 use Rattle.tern_word.specs.SoundTable.{IsSound}
 use Rattle.tern_word.proofs.BlockLaws.{key_small}
-use Rattle.cover_checks.specs.Merge.{rows_at}
+use Rattle.cover_merge.specs.Merge.{rows_at}
 use Rattle.default_routes.specs.KeptRows.{IsStrippable, KeptFrom, ends, goes, stays, AreKept}
 use Rattle.plan_check.specs.Verdicts.{Meets, LiesInside, GetsRoute}
 

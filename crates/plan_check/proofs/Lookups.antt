@@ -5,7 +5,7 @@ use Rattle.std.specs.Option.{option_map_or}
 use Rattle.std.proofs.lemmas.Bool.{false_from_ne_true}
 use Rattle.std.proofs.lemmas.List.Elements.{All-head, All-tail}
 use Rattle.std.proofs.lemmas.Option.{get_or_from_slice_get, slice_get_within}
-use Rattle.list_laws.proofs.Places.{All-at}
+use Rattle.spin_base.proofs.Places.{All-at}
 use Rattle.spin_base.specs.declared.blocks.Block.{Block}
 use Rattle.spin_base.specs.declared.blocks.Entry.{Entry}
 use Rattle.spin_base.specs.declared.chips.Chip.{Chip}
@@ -17,17 +17,17 @@ use Rattle.spin_base.proofs.Lookups.{lookup_hit, lookup_miss}
 use Rattle.machine_desc.specs.Description.{Description}
 use Rattle.machine_desc.specs.Live.{IsInside, index_of}
 use Rattle.machine_desc.proofs.Far.{index_below}
-use Rattle.net_tables.specs.declared.nets.NetPlan.{NetPlan}
-use Rattle.net_tables.specs.RightTables.{IsKeyOf, AreRight, table_at}
+use Rattle.machine_desc.specs.declared.nets.NetPlan.{NetPlan}
+use Rattle.machine_desc.specs.RightTables.{IsKeyOf, AreRight, table_at}
 use Rattle.tern_word.proofs.BlockLaws.{key_small}
 use Rattle.tcam_find.specs.Memory.{unused}
 use Rattle.tcam_find.proofs.MemoryLemmas.{unused_matches}
 use Rattle.table_load.specs.declared.tables.Image.{Image}
 use Rattle.table_load.specs.Memories.{loaded, IsLoaded}
-use Rattle.plain_tables.specs.Marks.{IsRouted}
-use Rattle.plain_tables.proofs.Determined.{one_port}
-use Rattle.plain_tables.proofs.Trees.{chips_inside, comes_in_tree}
-use Rattle.plain_tables.specs.PlainTable.{HasChip}
+use Rattle.net_tables.specs.Marks.{IsRouted}
+use Rattle.net_tables.proofs.Determined.{one_port}
+use Rattle.net_tables.proofs.Trees.{chips_inside, comes_in_tree}
+use Rattle.net_tables.specs.PlainTable.{HasChip}
 use Rattle.plan_check.specs.declared.verdicts.Verdict.{Verdict}
 use Rattle.plan_check.specs.declared.verdicts.Verdict.TheVariants.{Right, Wrong}
 use Rattle.plan_check.specs.Verdicts.{Meets, LiesInside, NoneMeets, IsFirstToMeet, GetsRoute, GetsRouteThat, IsFineAll, IsWrong, IsTreeRoute, IsVerdict, IsMisrouted, rows_for}

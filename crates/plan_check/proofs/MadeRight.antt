@@ -4,26 +4,26 @@ use Rattle.std.specs.Prelude.{All, AllPairs}
 use Rattle.std.specs.List.{Contains}
 use Rattle.std.proofs.lemmas.List.Elements.{All-nil, All-cons, All-head, All-map, All-contains}
 use Rattle.std.proofs.lemmas.List.Sorted.{All-permutation, Contains-permutation}
-use Rattle.list_laws.proofs.Members.{Contains-map}
-use Rattle.list_laws.proofs.Pairs.{AllPairs-map, AllPairs-permutation}
-use Rattle.list_laws.proofs.Places.{slice_get_there}
+use Rattle.spin_base.proofs.Members.{Contains-map}
+use Rattle.spin_base.proofs.Pairs.{AllPairs-map, AllPairs-permutation}
+use Rattle.spin_base.proofs.Places.{slice_get_there}
 use Rattle.spin_base.specs.declared.blocks.Block.{Block}
 use Rattle.spin_base.specs.declared.blocks.Entry.{Entry}
 use Rattle.spin_base.specs.declared.chips.Chip.{Chip}
 use Rattle.machine_desc.specs.Description.{Description}
 use Rattle.machine_desc.specs.Live.{IsInside, index_of}
 use Rattle.machine_desc.proofs.Far.{index_below}
-use Rattle.net_tables.specs.declared.nets.NetPlan.{NetPlan}
+use Rattle.machine_desc.specs.declared.nets.NetPlan.{NetPlan}
 use Rattle.tern_word.specs.declared.tables.Alias.{Alias}
 use Rattle.tern_word.specs.declared.tables.Row.{Row}
 use Rattle.tern_word.specs.Entries.{entry_of}
 use Rattle.tern_word.specs.Ternary.{Intersects, LiesIn}
 use Rattle.tern_word.specs.SoundTable.{IsSound, Original, served_by, served}
 use Rattle.tern_word.proofs.BlockLaws.{Intersects-sym}
-use Rattle.cover_checks.proofs.Lists.{All-flat_map, All-from_flat_map}
-use Rattle.plain_tables.specs.PlainTable.{IsPlainTable, AreRouted, row_of}
-use Rattle.plain_tables.proofs.Trees.{chips_inside}
-use Rattle.plain_tables.proofs.Whole.{not_after, originals_apart, has_original}
+use Rattle.cover_merge.proofs.Lists.{All-flat_map, All-from_flat_map}
+use Rattle.net_tables.specs.PlainTable.{IsPlainTable, AreRoutedApart, row_of}
+use Rattle.net_tables.proofs.Trees.{chips_inside}
+use Rattle.net_tables.proofs.Whole.{not_after, originals_apart, has_original}
 use Rattle.default_routes.specs.declared.stripping.Final.{Final}
 use Rattle.default_routes.specs.FinalTable.{loaded_rows}
 use Rattle.table_load.specs.declared.tables.Image.{Image}
@@ -43,7 +43,7 @@ IsOwn r = All (λ (a : Alias). r.block ≡ a.block) r.aliases
 own_row : (o : Original) → IsOwn (row_of o)
 own_row o = All-cons (λ (a : Alias). o.block ≡ a.block) (record { block = o.block; port = o.port }) [] refl (All-nil (λ (a : Alias). o.block ≡ a.block))
 
-plain_sound : (m : Description) (nets : List NetPlan) (c : Chip) (rows : List Row) → AreRouted m nets → IsPlainTable m nets c rows → IsSound rows
+plain_sound : (m : Description) (nets : List NetPlan) (c : Chip) (rows : List Row) → AreRoutedApart m nets → IsPlainTable m nets c rows → IsSound rows
 plain_sound m nets c rows routed is =
     let own : All IsOwn rows = All-permutation IsOwn (map row_of is.originals) rows is.one_row_each (All-map IsOwn row_of is.originals (λ k d below. own_row (get_or is.originals k d))) in
     let apart : AllPairs (λ (r s : Row). ¬ (Intersects r.block s.block)) rows =
@@ -58,7 +58,7 @@ plain_sound m nets c rows routed is =
 
 -- ---- what the loaded rows give
 
-module _ (m : Description) (nets : List NetPlan) (routed : AreRouted m nets) (target : ℕ) (c : Chip) (f : Final) (at : IsFinalAt m nets target c f) where
+module _ (m : Description) (nets : List NetPlan) (routed : AreRoutedApart m nets) (target : ℕ) (c : Chip) (f : Final) (at : IsFinalAt m nets target c f) where
   -- the block of an original gets its route
   abbrev Gets : Original → Type 0
   Gets o = GetsRoute o.block (map entry_of (loaded_rows f)) o.port o.route
@@ -79,7 +79,7 @@ module _ (m : Description) (nets : List NetPlan) (routed : AreRouted m nets) (ta
 
 -- ---- the verdict
 
-pub made_right : (m : Description) (nets : List NetPlan) (target : ℕ) (finals : List Final) (v : Image) → AreRouted m nets → IsImageOf m nets target finals v → IsVerdict m nets v Right
+pub made_right : (m : Description) (nets : List NetPlan) (target : ℕ) (finals : List Final) (v : Image) → AreRoutedApart m nets → IsImageOf m nets target finals v → IsVerdict m nets v Right
 made_right m nets target finals v routed is k d below c on =
     let net : NetPlan = get_or nets k d in
     let inside : IsInside m c = chips_inside m net.tree.root net.tree.edges net.targets (routed.trees k d below) (routed.roots k d below) c on in

@@ -16,7 +16,8 @@ use Rattle.machine_desc.specs.Description.{Description}
 use Rattle.machine_desc.specs.Live.{IsInside, far_of, index_of}
 use Rattle.machine_desc.proofs.Far.{index_below, same_index, far_inside}
 use Rattle.machine_desc.proofs.Same.{same_dir, below_six}
-use Rattle.plan_check.specs.Marks.{AreMarks, IsReached, at_root, by_link, is_flagged, mark_at}
+use Rattle.machine_desc.specs.Flags.{is_flagged}
+use Rattle.plan_check.specs.Marks.{AreMarks, IsReachedChip, at_root, by_link, mark_at}
 
 -- how many marks are not set
 abbrev pub free : Bool → ℕ
@@ -32,7 +33,7 @@ pub record Searching (m : Description) (flags : List Bool) (root : Chip) (marks 
   pub long : length marks ≡ m.width * m.height
   pub counted : length queue + sum_by free marks ≡ m.width * m.height
   pub inside : All (IsInside m) queue
-  pub reached : (c : Chip) → IsInside m c → mark_at m marks c ≡ true → IsReached m flags root c
+  pub reached : (c : Chip) → IsInside m c → mark_at m marks c ≡ true → IsReachedChip m flags root c
   pub queued : (c : Chip) → IsInside m c → mark_at m marks c ≡ true → (k : ℕ) × (k < length queue) × (get_or queue k c ≡ c)
   pub known : (k : ℕ) (c : Chip) → k < length queue → get_or queue k c ≡ c → mark_at m marks c ≡ true
   pub root_marked : mark_at m marks root ≡ true
@@ -75,7 +76,7 @@ module _ (m : Description) (flags : List Bool) (root : Chip) where
             let all : sum_by free clear ≡ n = ap (sum_by free) is ∙ free_all n in
             counted_first (sum_by free (set clear (index_of m root) true)) (sum_by free clear) (free (get_or clear (index_of m root) false)) change was all;
         inside = All-cons (IsInside m) root [] root_in (All-nil (IsInside m));
-        reached = λ c c_in hit. subst (IsReached m flags root) (sym (only c c_in hit)) at_root;
+        reached = λ c c_in hit. subst (IsReachedChip m flags root) (sym (only c c_in hit)) at_root;
         queued = λ c c_in hit. (0, omega arith, sym (only c c_in hit));
         known = λ k c below is_c. first_known k c below is_c;
         root_marked = marked_same clear root root clear_long root_in refl;
@@ -165,7 +166,7 @@ module _ (m : Description) (flags : List Bool) (root : Chip) where
               change was now.counted (length-append queue (to ∷ []));
           inside = All-push (IsInside m) queue to now.inside to_in;
           reached = λ c c_in hit. elim (marked_cases marks to c to_in c_in hit) [
-            | inl same ↦ subst (IsReached m flags root) (sym same) (by_link from to link (now.reached from from_inside (now.known (next / 6) from place (sym from_is))) flag leads)
+            | inl same ↦ subst (IsReachedChip m flags root) (sym same) (by_link from to link (now.reached from from_inside (now.known (next / 6) from place (sym from_is))) flag leads)
             | inr had ↦ now.reached c c_in had
           ];
           queued = λ c c_in hit. elim (marked_cases marks to c to_in c_in hit) [
@@ -207,13 +208,13 @@ module _ (m : Description) (flags : List Bool) (root : Chip) where
 
   -- all links were looked at
   pub search_ended : (marks : List Bool) (queue : List Chip) (next : ℕ) → length queue * 6 ≤ next → IsInside m root → Searching m flags root marks queue next →
-      AreMarks m (IsReached m flags root) marks
+      AreMarks m (IsReachedChip m flags root) marks
   search_ended marks queue next past root_in now = record {
     long = now.long;
     told = λ c inside. (now.reached c inside, λ on. (marked c on).1);
   }
     where
-      marked : (c : Chip) → IsReached m flags root c → IsInside m c × (mark_at m marks c ≡ true)
+      marked : (c : Chip) → IsReachedChip m flags root c → IsInside m c × (mark_at m marks c ≡ true)
       marked c at_root = (root_in, now.root_marked)
       marked c (by_link b e d on flagged leads) =
           let before = marked b on in

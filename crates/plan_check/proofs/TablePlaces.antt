@@ -10,14 +10,14 @@ use Rattle.std.proofs.lemmas.Option.{slice_get-get_or}
 use Rattle.spin_base.specs.declared.blocks.ChipTable.{ChipTable}
 use Rattle.table_load.specs.declared.tables.Image.{Image}
 use Rattle.table_load.specs.Images.{IsTable, IsValid}
-use Rattle.table_load.specs.Memories.{index_of, rows_at}
+use Rattle.table_load.specs.Memories.{table_index, rows_of_index}
 use Rattle.plan_check.specs.Boards.{entries_at}
 
 -- the board tells of the tables from place n on
 pub record TellsFrom (height : ℕ) (tables : List ChipTable) (places : List ℕ) (size n : ℕ) : Type 0 where
   pub within : n ≤ length tables
   pub long : length places ≡ size
-  pub told : (i d : ℕ) → i < length places → entries_at tables (get_or places i d) ≡ rows_at height (drop n tables) i
+  pub told : (i d : ℕ) → i < length places → entries_at tables (get_or places i d) ≡ rows_of_index height (drop n tables) i
 
 slice_past : {X : Type 0} (xs : List X) → slice_get xs (length xs) ≡ None
 slice_past [] = refl
@@ -32,11 +32,11 @@ tells_none height size n tables old new long at is = record {
       let short : i < length old = subst (λ k. i < k) (ap length is ∙ length-replicate (length old) n) below in
       let read : get_or new i d ≡ length tables = ap (λ (l : List ℕ). get_or l i d) is ∙ (get_or-replicate (length old) i n d short ∙ at) in
       ap (entries_at tables) read ∙ (ap (λ o. option_map_or (λ (t : ChipTable). t.entries) o []) (slice_past tables)
-      ∙ sym (ap (λ (l : List ChipTable). rows_at height l i) (drop_all n tables (omega (arith, at)))));
+      ∙ sym (ap (λ (l : List ChipTable). rows_of_index height l i) (drop_all n tables (omega (arith, at)))));
 }
 
 -- one table more
-pub tells_more : (height size n p : ℕ) (tables : List ChipTable) (places : List ℕ) (t : ChipTable) → 0 < n → slice_get tables (n - 1) ≡ Some t → p ≡ index_of height t → p < length places →
+pub tells_more : (height size n p : ℕ) (tables : List ChipTable) (places : List ℕ) (t : ChipTable) → 0 < n → slice_get tables (n - 1) ≡ Some t → p ≡ table_index height t → p < length places →
     TellsFrom height tables places size n → TellsFrom height tables (set places p (n - 1)) size (n - 1)
 tells_more height size n p tables places t some at place below so_far = record {
   within = omega (arith, so_far.within);
@@ -48,13 +48,13 @@ tells_more height size n p tables places t some at place below so_far = record {
         | inl here ↦
             let read : get_or (set places p (n - 1)) i d ≡ n - 1 = ap (λ k. get_or (set places p (n - 1)) k d) here ∙ get_or-set_same places p (n - 1) d below in
             ap (entries_at tables) read ∙ (ap (λ o. option_map_or (λ (u : ChipTable). u.entries) o []) at
-            ∙ sym (ap (λ (l : List ChipTable). rows_at height l i) first
-            ∙ cond-true (index_of height t == i) t.entries (rows_at height (drop n tables) i) (eq-eqb (index_of height t) i (sym place ∙ sym here))))
+            ∙ sym (ap (λ (l : List ChipTable). rows_of_index height l i) first
+            ∙ cond-true (table_index height t == i) t.entries (rows_of_index height (drop n tables) i) (eq-eqb (table_index height t) i (sym place ∙ sym here))))
         | inr other ↦
             ap (entries_at tables) (get_or-set_other places p i (n - 1) d other) ∙ (so_far.told i d short
-            ∙ sym (ap (λ (l : List ChipTable). rows_at height l i) first
-            ∙ cond-false (index_of height t == i) t.entries (rows_at height (drop n tables) i)
-            (false_from_ne_true (index_of height t == i) (λ hit. other (sym (place ∙ eqb-true (index_of height t) i hit))))))
+            ∙ sym (ap (λ (l : List ChipTable). rows_of_index height l i) first
+            ∙ cond-false (table_index height t == i) t.entries (rows_of_index height (drop n tables) i)
+            (false_from_ne_true (table_index height t == i) (λ hit. other (sym (place ∙ eqb-true (table_index height t) i hit))))))
       ];
 }
   where
@@ -84,7 +84,7 @@ table_read v items places n x h y d valid same x_is h_is y_is some so_far =
     let t : ChipTable = get_or v.chips (n - 1) d in
     let under : n - 1 < length v.chips = omega (arith, some, so_far.within) in
     let at : slice_get v.chips (n - 1) ≡ Some t = slice_get-get_or v.chips (n - 1) d under in
-    let place : x * h + y ≡ index_of v.height t =
+    let place : x * h + y ≡ table_index v.height t =
     ap (λ k. k * h + y) (x_is ∙ ap (λ (l : List ChipTable). (get_or l (n - 1) d).chip.x) same)
     ∙ (ap (λ k. t.chip.x * k + y) h_is ∙ ap (λ k. t.chip.x * v.height + k) (y_is ∙ ap (λ (l : List ChipTable). (get_or l (n - 1) d).chip.y) same)) in
     tells_more v.height (v.width * v.height) n (x * h + y) v.chips places t some at place

@@ -5,8 +5,8 @@ use Rattle.std.proofs.lemmas.Bool.{cases_eq, false≢true}
 use Rattle.std.proofs.lemmas.Nat.{same_from_place}
 use Rattle.std.proofs.lemmas.List.{get_or-set_same, get_or-set_other, get_or-replicate, length-replicate, length-set, length-map, map_push, take_more}
 use Rattle.std.proofs.lemmas.List.Elements.{All-nil, All-head, All-map, All-contains, Contains-append_left, Contains-push, Contains-push_cases}
-use Rattle.list_laws.proofs.Members.{Contains-none, Contains-first}
-use Rattle.list_laws.proofs.Pairs.{All-from_map}
+use Rattle.spin_base.proofs.Members.{Contains-none, Contains-first}
+use Rattle.spin_base.proofs.Pairs.{All-from_map}
 use Rattle.spin_base.specs.declared.chips.Chip.{Chip}
 use Rattle.spin_base.specs.declared.chips.Spot.{Spot}
 use Rattle.spin_base.specs.Links.{dir_number}
@@ -18,7 +18,8 @@ use Rattle.machine_desc.proofs.Far.{index_below, same_index, far_inside, live_in
 use Rattle.machine_desc.proofs.Same.{same_dir, same_edge, below_six}
 use Rattle.machine_desc.proofs.Live.{index_of-chip_of, chip_of-inside}
 use Rattle.machine_desc.proofs.TreeLemmas.{tree_cases, path_more, path_in_tree, root_lives_with_edge}
-use Rattle.plan_check.specs.Marks.{IsAlone, EntersOnce, IsMarked, AreMarks, AreFlags, IsReached, at_root, by_link, GoesOn, is_flagged, mark_at, link_place}
+use Rattle.machine_desc.specs.Flags.{is_flagged, link_place}
+use Rattle.plan_check.specs.Marks.{IsAlone, EntersOnce, IsMarkedChip, AreMarks, AreFlags, IsReachedChip, at_root, by_link, HasEdgeOrTarget, mark_at}
 use Rattle.plan_check.proofs.Marking.{one_mark}
 
 -- ---- a root outside the grid
@@ -131,7 +132,7 @@ abbrev BeginsOr : List Edge → List Chip → Chip → Type 0
 BeginsOr edges chips c = Any (λ (e : Edge). e.chip ≡ c) edges ⊎ Contains chips c
 
 -- of no edges and no targets
-pub none_goes : (c : Chip) → GoesOn [] [] c → ⊥
+pub none_goes : (c : Chip) → HasEdgeOrTarget [] [] c → ⊥
 none_goes c (inl any) = let none : any.0 < 0 = any.2 in omega arith
 none_goes c (inr has) = Contains-none c has
 
@@ -140,12 +141,12 @@ begins edges c e has is = (has.0, e, has.1, has.2, is)
 
 -- the chip of the edge that is read gets a mark
 pub edge_goes : (m : Description) (edges : List Edge) (i : ℕ) (d : Edge) (marks : List Bool) (p : ℕ) → i < length edges → All (λ (e : Edge). IsInside m e.chip) edges →
-    p ≡ index_of m (get_or edges i d).chip → AreMarks m (GoesOn (take i edges) []) marks → AreMarks m (GoesOn (take (i + 1) edges) []) (set marks p true)
+    p ≡ index_of m (get_or edges i d).chip → AreMarks m (HasEdgeOrTarget (take i edges) []) marks → AreMarks m (HasEdgeOrTarget (take (i + 1) edges) []) (set marks p true)
 edge_goes m edges i d marks p below inside at are =
     let f : Edge = get_or edges i d in
     let es : List Edge = take i edges in
-    subst (λ (l : List Edge). AreMarks m (GoesOn l []) (set marks p true)) (sym (take_more edges i d below))
-    (one_mark m (GoesOn es []) (GoesOn (es ++ f ∷ []) []) marks f.chip p are (inside i d below) at
+    subst (λ (l : List Edge). AreMarks m (HasEdgeOrTarget l []) (set marks p true)) (sym (take_more edges i d below))
+    (one_mark m (HasEdgeOrTarget es []) (HasEdgeOrTarget (es ++ f ∷ []) []) marks f.chip p are (inside i d below) at
     (inl (begins (es ++ f ∷ []) f.chip f (Contains-push es f) refl))
     (λ c on. elim on [
       | inl any ↦ inl (begins (es ++ f ∷ []) c any.1 (Contains-append_left es (f ∷ []) any.1 (any.0, any.2, any.3)) any.4)
@@ -161,8 +162,8 @@ edge_goes m edges i d marks p below inside at are =
 
 -- the chip of the target that is read gets a mark
 pub target_goes : (m : Description) (edges : List Edge) (targets : List Spot) (i : ℕ) (d : Spot) (marks : List Bool) (p : ℕ) → i < length targets →
-    All (λ (s : Spot). IsInside m s.chip) targets → p ≡ index_of m (get_or targets i d).chip → AreMarks m (GoesOn edges (take i targets)) marks →
-    AreMarks m (GoesOn edges (take (i + 1) targets)) (set marks p true)
+    All (λ (s : Spot). IsInside m s.chip) targets → p ≡ index_of m (get_or targets i d).chip → AreMarks m (HasEdgeOrTarget edges (take i targets)) marks →
+    AreMarks m (HasEdgeOrTarget edges (take (i + 1) targets)) (set marks p true)
 target_goes m edges targets i d marks p below inside at are =
     let s : Spot = get_or targets i d in
     let chips : List Chip = map (λ (x : Spot). x.chip) (take i targets) in
@@ -186,8 +187,8 @@ target_goes m edges targets i d marks p below inside at are =
 -- ---- paths and reached chips
 
 module _ (m : Description) (root : Chip) (edges : List Edge) (targets : List Spot) (flags reached : List Bool) (root_in : IsInside m root)
-    (flags_are : AreFlags m edges flags) (marks_are : AreMarks m (IsReached m flags root) reached) where
-  path_to : (c : Chip) → IsReached m flags root c → IsInside m c × ((path : List Edge) × IsPath m edges root path c)
+    (flags_are : AreFlags m edges flags) (marks_are : AreMarks m (IsReachedChip m flags root) reached) where
+  path_to : (c : Chip) → IsReachedChip m flags root c → IsInside m c × ((path : List Edge) × IsPath m edges root path c)
   path_to c at_root = (root_in, ([], refl))
   path_to c (by_link b e d on flagged leads) =
       let before = path_to b on in
@@ -195,35 +196,35 @@ module _ (m : Description) (root : Chip) (edges : List Edge) (targets : List Spo
       let has : Contains edges edge = (flags_are.told edge before.0).0 flagged in
       (far_inside m b e d before.0 leads, (before.1.0 ++ edge ∷ [], path_more m edges root b e before.1.0 edge before.1.1 has refl leads))
 
-  reached_by : (path : List Edge) (from to : Chip) → IsInside m from → IsReached m flags root from → IsPath m edges from path to → IsInside m to × IsReached m flags root to
-  reached_by [] from to inside on along = (subst (IsInside m) along inside, subst (IsReached m flags root) along on)
+  reached_by : (path : List Edge) (from to : Chip) → IsInside m from → IsReachedChip m flags root from → IsPath m edges from path to → IsInside m to × IsReachedChip m flags root to
+  reached_by [] from to inside on along = (subst (IsInside m) along inside, subst (IsReachedChip m flags root) along on)
   reached_by (e ∷ path) from to inside on along =
       let at : IsInside m e.chip = subst (IsInside m) (sym along.1) inside in
       let flagged : is_flagged m flags e.chip e.dir ≡ true = (flags_are.told e at).1 along.0 in
       reached_by path along.2.0 to (far_inside m e.chip along.2.0 e.dir at along.2.1)
-      (by_link e.chip along.2.0 e.dir (subst (IsReached m flags root) (sym along.1) on) flagged along.2.1) along.2.2
+      (by_link e.chip along.2.0 e.dir (subst (IsReachedChip m flags root) (sym along.1) on) flagged along.2.1) along.2.2
 
-  marked_path : (c : Chip) → IsMarked m reached c → (path : List Edge) × IsPath m edges root path c
+  marked_path : (c : Chip) → IsMarkedChip m reached c → (path : List Edge) × IsPath m edges root path c
   marked_path c marked = (path_to c ((marks_are.told c marked.0).0 marked.1)).1
 
-  marked_on : (c : Chip) → IsMarked m reached c → IsTreeChip m root edges c
+  marked_on : (c : Chip) → IsMarkedChip m reached c → IsTreeChip m root edges c
   marked_on c marked = let by = marked_path c marked in path_in_tree m root edges root c by.0 (inl refl) by.1
 
   -- a chip of a routing tree has a mark
-  on_marked : IsRoutingTree m root edges targets → (c : Chip) → IsTreeChip m root edges c → IsMarked m reached c
+  on_marked : IsRoutingTree m root edges targets → (c : Chip) → IsTreeChip m root edges c → IsMarkedChip m reached c
   on_marked tree c on =
       let by = tree.reached c on in
       let there = reached_by by.0 root c root_in at_root by.1 in
       (there.0, (marks_are.told c there.0).1 there.1)
 
-  pub begins_marked : IsRoutingTree m root edges targets → All (λ (e : Edge). IsMarked m reached e.chip) edges
+  pub begins_marked : IsRoutingTree m root edges targets → All (λ (e : Edge). IsMarkedChip m reached e.chip) edges
   begins_marked tree k d below = on_marked tree (get_or edges k d).chip (tree.edges_begin k d below)
 
-  pub targets_marked : IsRoutingTree m root edges targets → All (λ (s : Spot). IsMarked m reached s.chip) targets
+  pub targets_marked : IsRoutingTree m root edges targets → All (λ (s : Spot). IsMarkedChip m reached s.chip) targets
   targets_marked tree k d below = on_marked tree (get_or targets k d).chip (All-from_map (IsTreeChip m root edges) (λ (s : Spot). s.chip) targets tree.has_targets k d below)
 
-  module _ (on : List Bool) (once : EntersOnce m root edges) (begin : All (λ (e : Edge). IsMarked m reached e.chip) edges) (has : All (λ (s : Spot). IsMarked m reached s.chip) targets)
-      (on_are : AreMarks m (GoesOn edges targets) on) where
+  module _ (on : List Bool) (once : EntersOnce m root edges) (begin : All (λ (e : Edge). IsMarkedChip m reached e.chip) edges) (has : All (λ (s : Spot). IsMarkedChip m reached s.chip) targets)
+      (on_are : AreMarks m (HasEdgeOrTarget edges targets) on) where
     abbrev Goes : Type 0
     Goes = (i : ℕ) → i < length reached → get_or reached i false ≡ true → get_or on i false ≡ true
 
@@ -231,7 +232,7 @@ module _ (m : Description) (root : Chip) (edges : List Edge) (targets : List Spo
     reached_chip c at = elim (tree_cases m root edges c at) [
       | inl same ↦ ([], sym same)
       | inr into ↦
-          let by = marked_path into.0.chip (All-contains (λ (e : Edge). IsMarked m reached e.chip) edges into.0 begin into.1) in
+          let by = marked_path into.0.chip (All-contains (λ (e : Edge). IsMarkedChip m reached e.chip) edges into.0 begin into.1) in
           (by.0 ++ into.0 ∷ [], path_more m edges root into.0.chip c by.0 into.0 by.1 into.1 refl into.2)
     ]
 
@@ -272,5 +273,5 @@ once_inside m root edges once k d below =
     let ends = live_ends m (get_or edges k d).chip (get_or edges k d).dir (once.live k d below) in
     live_inside m (get_or edges k d).chip ends.2
 
-pub has_inside : (m : Description) (marks : List Bool) (targets : List Spot) → All (λ (s : Spot). IsMarked m marks s.chip) targets → All (λ (s : Spot). IsInside m s.chip) targets
+pub has_inside : (m : Description) (marks : List Bool) (targets : List Spot) → All (λ (s : Spot). IsMarkedChip m marks s.chip) targets → All (λ (s : Spot). IsInside m s.chip) targets
 has_inside m marks targets all k d below = (all k d below).0

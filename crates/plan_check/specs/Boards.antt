@@ -9,12 +9,12 @@ use Rattle.spin_base.specs.declared.chips.Port.{Port}
 use Rattle.spin_base.specs.declared.routes.Route.{Route}
 use Rattle.machine_desc.specs.Description.{Description}
 use Rattle.machine_desc.specs.Live.{index_of}
-use Rattle.net_tables.specs.declared.nets.NetPlan.{NetPlan}
+use Rattle.machine_desc.specs.declared.nets.NetPlan.{NetPlan}
 use Rattle.table_load.specs.declared.tables.Image.{Image}
-use Rattle.table_load.specs.Memories.{rows_at}
-use Rattle.plain_tables.specs.PlainTable.{HasChip}
-use Rattle.plan_check.specs.declared.fares.Flaw.{Flaw}
-use Rattle.plan_check.specs.declared.fares.Flaw.TheVariants.{Wrong, Split}
+use Rattle.table_load.specs.Memories.{rows_of_index}
+use Rattle.net_tables.specs.PlainTable.{HasChip}
+use Rattle.plan_check.specs.declared.flaws.Flaw.{Flaw}
+use Rattle.plan_check.specs.declared.flaws.Flaw.TheVariants.{Wrong, Split}
 use Rattle.plan_check.specs.declared.verdicts.Verdict.{Verdict}
 use Rattle.plan_check.specs.declared.verdicts.Verdict.TheVariants as verdicts
 use Rattle.plan_check.specs.Verdicts.{GetsRoute, IsSplitAt, IsFine, IsWrong, IsFineAll, rows_for}
@@ -26,7 +26,7 @@ entries_at tables place = option_map_or (λ (t : ChipTable). t.entries) (slice_g
 -- the board has, for each index, the place of the table of the chip of that index
 abbrev pub TellsTables : ℕ → List ChipTable → List ℕ → Type 0
 TellsTables height tables places =
-    (i : ℕ) (d : ℕ) → i < length places → entries_at tables (slice_index_or places i d) ≡ rows_at height tables i
+    (i : ℕ) (d : ℕ) → i < length places → entries_at tables (slice_index_or places i d) ≡ rows_of_index height tables i
 
 -- What is amiss where a block's keys get a route in place of the wanted one.
 abbrev pub IsFlawBy : Route → Route → Option Flaw → Type 0
@@ -55,9 +55,9 @@ abbrev pub IsFineBelow : Description → Image → NetPlan → ℕ → Type 0
 IsFineBelow m v net index = (d : Chip) → HasChip m net d → index_of m d < index → IsFine m v net d
 
 -- What is amiss with a net at the chip of the least index at which it is not fine.
-abbrev pub Fares : Description → Image → NetPlan → Option (Chip × Flaw) → Type 0
-Fares m v net None = IsFineAll m v net
-Fares m v net (Some (c, flaw)) = HasChip m net c × IsFlaw m v net c flaw × IsFineBelow m v net (index_of m c)
+abbrev pub IsFirstFlaw : Description → Image → NetPlan → Option (Chip × Flaw) → Type 0
+IsFirstFlaw m v net None = IsFineAll m v net
+IsFirstFlaw m v net (Some (c, flaw)) = HasChip m net c × IsFlaw m v net c flaw × IsFineBelow m v net (index_of m c)
 
 -- what a verdict says of a flaw
 abbrev pub verdict_on : ℕ → Chip → ℕ → Flaw → Verdict

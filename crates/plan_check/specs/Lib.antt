@@ -1,9 +1,10 @@
 pub use Rattle.spin_base.specs.Lookup
 pub use Rattle.machine_desc.specs.RoutingTree
-pub use Rattle.net_tables.specs.RightTables
+pub use Rattle.machine_desc.specs.RightTables
 pub use Rattle.table_load.specs.Memories
 pub mod Boards
 pub mod GoodTrees
+pub mod ImageProps
 pub mod MadeImages
 pub mod Marks
 pub mod Verdicts

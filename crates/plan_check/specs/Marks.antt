@@ -1,11 +1,11 @@
 -- Marks of chips and flags of links, by which a tree is looked over.
-use Rattle.std.specs.Prelude.{◌≡◌, ◌≢◌, ◌⊎◌, ◌↔◌, ℕ, ◌+◌, ◌*◌, ◌<◌, Bool, true, false, List, [], length, All, AllPairs, Any, Contains, Some, map, slice_index_or, slice_set}
+use Rattle.std.specs.Prelude.{◌≡◌, ◌≢◌, ◌⊎◌, ◌↔◌, ◌*◌, ◌<◌, Bool, true, false, List, [], length, All, AllPairs, Any, Contains, Some, map, slice_index_or, slice_set}
 use Rattle.spin_base.specs.declared.chips.Chip.{Chip}
 use Rattle.spin_base.specs.declared.chips.Dir.{Dir}
 use Rattle.spin_base.specs.declared.chips.Spot.{Spot}
-use Rattle.spin_base.specs.Links.{dir_number}
 use Rattle.machine_desc.specs.declared.trees.Edge.{Edge}
 use Rattle.machine_desc.specs.Description.{Description}
+use Rattle.machine_desc.specs.Flags.{is_flagged}
 use Rattle.machine_desc.specs.Live.{IsInside, IsLiveLink, far_of, index_of}
 use Rattle.machine_desc.specs.RoutingTree.{end_of}
 
@@ -27,8 +27,8 @@ abbrev pub mark_at : Description → List Bool → Chip → Bool
 mark_at m marks c = slice_index_or marks (index_of m c) false
 
 -- the chip is in the grid and has a mark
-abbrev pub IsMarked : Description → List Bool → Chip → Type 0
-IsMarked m marks c = IsInside m c × (mark_at m marks c ≡ true)
+abbrev pub IsMarkedChip : Description → List Bool → Chip → Type 0
+IsMarkedChip m marks c = IsInside m c × (mark_at m marks c ≡ true)
 
 -- the chips of the grid with marks are those of which this holds
 pub record AreMarks (m : Description) (Is : Chip → Type 0) (marks : List Bool) : Type 0 where
@@ -49,22 +49,16 @@ EntersNone m e old = (IsLiveLink m e.chip e.dir → ⊥) ⊎ ((far : Chip) × (e
 
 -- ---- flags of links
 
-abbrev pub link_place : Description → Chip → Dir → ℕ
-link_place m c d = index_of m c * 6 + dir_number d
-
-abbrev pub is_flagged : Description → List Bool → Chip → Dir → Bool
-is_flagged m flags c d = slice_index_or flags (link_place m c d) false
-
 -- flagged are the edges
 pub record AreFlags (m : Description) (edges : List Edge) (flags : List Bool) : Type 0 where
   pub long : length flags ≡ m.width * m.height * 6
   pub told : (e : Edge) → IsInside m e.chip → (is_flagged m flags e.chip e.dir ≡ true) ↔ Contains edges e
 
 -- some flagged links lead from the root to the chip, one from where the other leads: reached are the root, and what a flagged link leads to from a reached chip
-pub data IsReached (m : Description) (flags : List Bool) (root : Chip) : Chip → Type 0 where
-  at_root : IsReached m flags root root
-  by_link : (c e : Chip) (d : Dir) → IsReached m flags root c → is_flagged m flags c d ≡ true → far_of m c d ≡ Some e → IsReached m flags root e
+pub data IsReachedChip (m : Description) (flags : List Bool) (root : Chip) : Chip → Type 0 where
+  at_root : IsReachedChip m flags root root
+  by_link : (c e : Chip) (d : Dir) → IsReachedChip m flags root c → is_flagged m flags c d ≡ true → far_of m c d ≡ Some e → IsReachedChip m flags root e
 
 -- an edge begins at the chip, or a target stands there
-abbrev pub GoesOn : List Edge → List Spot → Chip → Type 0
-GoesOn edges targets c = Any (λ e. e.chip ≡ c) edges ⊎ Contains (map (λ s. s.chip) targets) c
+abbrev pub HasEdgeOrTarget : List Edge → List Spot → Chip → Type 0
+HasEdgeOrTarget edges targets c = Any (λ e. e.chip ≡ c) edges ⊎ Contains (map (λ s. s.chip) targets) c

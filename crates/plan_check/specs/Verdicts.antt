@@ -11,12 +11,12 @@ use Rattle.spin_base.specs.Lookup.{matches, default_route, lookup}
 use Rattle.spin_base.specs.Outputs.{has, IsOutput}
 use Rattle.machine_desc.specs.Description.{Description}
 use Rattle.machine_desc.specs.Live.{index_of}
-use Rattle.net_tables.specs.declared.nets.NetPlan.{NetPlan}
-use Rattle.net_tables.specs.Outputs.{is_wanted, ComesIn}
-use Rattle.net_tables.specs.RightTables.{IsKeyOf, table_at}
+use Rattle.machine_desc.specs.declared.nets.NetPlan.{NetPlan}
+use Rattle.machine_desc.specs.Outputs.{is_wanted, ComesIn}
+use Rattle.machine_desc.specs.RightTables.{IsKeyOf, table_at}
 use Rattle.table_load.specs.declared.tables.Image.{Image}
-use Rattle.table_load.specs.Memories.{rows_at}
-use Rattle.plain_tables.specs.PlainTable.{HasChip}
+use Rattle.table_load.specs.Memories.{rows_of_index}
+use Rattle.net_tables.specs.PlainTable.{HasChip}
 use Rattle.plan_check.specs.declared.verdicts.Verdict.{Verdict}
 use Rattle.plan_check.specs.declared.verdicts.Verdict.TheVariants.{Right, Wrong, Split}
 
@@ -57,7 +57,7 @@ IsSplitAt b rows place = (e : Entry) × IsFirstToMeet b rows place e × (LiesIns
 
 -- the rows of the image for a chip of the machine
 abbrev pub rows_for : Description → Image → Chip → List Entry
-rows_for m v c = rows_at v.height v.chips (index_of m c)
+rows_for m v c = rows_of_index v.height v.chips (index_of m c)
 
 -- the route has exactly the outputs that the net's tree wants at the chip
 abbrev pub IsTreeRoute : NetPlan → Chip → Route → Type 0

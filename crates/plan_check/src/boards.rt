@@ -1,10 +1,9 @@
 // What one net wants of each chip, on boards with a place for each chip, by the chip's index.
 ghost use Rattle.std.specs.Prelude.{◌≡◌, ◌*◌, length};
-ghost use Rattle.plain_tables.specs.Marks.{IsRouted, TellsPorts, TellsRoutes};
+ghost use Rattle.net_tables.specs.Marks.{IsRouted, TellsPorts, TellsRoutes};
 
-use machine_desc::Machine;
-use net_tables::NetPlan;
-use plain_tables::marks::{self, set_links, set_targets};
+use machine_desc::{Machine, NetPlan};
+use net_tables::marks::{self, set_links, set_targets};
 use spin_base::{Port, Route};
 
 // Writes the port at which packets come in at each chip of the net's tree, and none at other chips.

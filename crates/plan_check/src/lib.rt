@@ -6,7 +6,7 @@
 #![tactic(auto)]
 
 mod boards;
-mod fares;
+mod flaws;
 mod laws;
 mod places;
 mod trees;

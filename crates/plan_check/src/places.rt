@@ -1,11 +1,28 @@
 // Where the table of each chip stands in an image.
 ghost use Rattle.std.specs.Prelude.{◌≡◌, ◌*◌, ◌<◌, length};
+ghost use Rattle.std.proofs.Props.{props};
+ghost use Rattle.plan_check.specs.ImageProps.{IsChipBefore-prop};
 ghost use Rattle.table_load.specs.Images.{IsValid};
-ghost use Rattle.table_load.specs.Memories.{rows_at};
+ghost use Rattle.table_load.specs.Memories.{rows_of_index};
 ghost use Rattle.plan_check.specs.Boards.{TellsTables};
 
+use machine_desc::Machine;
 use spin_base::{ChipTable, Entry};
 use table_load::Image;
+
+// A valid image of a machine's grid, with the place of each chip's table in it, by the chip's index.
+#[derive(Drop)]
+pub struct PlacedTables<'a> {
+    pub machine: &'a Machine,
+    pub image: &'a Image,
+    pub places: &'a [usize],
+    pub ghost valid: { IsValid image.now } by { Prim.hlevel (props, IsChipBefore-prop) },
+    pub ghost width: { image.now.width ≡ machine.now.width },
+    pub ghost height: { image.now.height ≡ machine.now.height },
+    pub ghost long: { length places.now ≡ machine.now.width * machine.now.height },
+    pub ghost told: { TellsTables image.now.height image.now.chips
+        places.now } by { Prim.hlevel props },
+}
 
 // Writes, for each chip by its index, the place of the chip's table in the image, and the number of tables where it has none.
 pub fn set_places(image: &Image, places: &mut [usize])
@@ -29,7 +46,7 @@ pub fn set_places(image: &Image, places: &mut [usize])
 pub fn rows_of<'a>(image: &'a Image, places: &[usize], index: usize) -> &'a [Entry]
     requires told { TellsTables image.now.height image.now.chips places.now }
     requires within { index < length places.now }
-    ensures { result.now ≡ rows_at image.now.height image.now.chips index }
+    ensures { result.now ≡ rows_of_index image.now.height image.now.chips index }
 {
     match image.chips.as_slice().get(places[index]) {
         Some(table) => table.entries.as_slice(),

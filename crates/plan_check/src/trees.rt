@@ -1,13 +1,13 @@
 // Whether a tree is a routing tree.
-ghost use Rattle.std.specs.Prelude.{◌≡◌, ◌+◌, ◌*◌, ◌<◌, ◌↔◌, ℕ, true, false, length, All, IsTrue, IfOk, MatchBool, None, if◌then◌else◌, slice_index_or};
-ghost use Rattle.spin_base.specs.declared.chips.Chip.{Chip};
+ghost use Rattle.std.specs.Prelude.{◌≡◌, ◌<◌, ◌↔◌, ℕ, true, false, length, All, IsTrue, IfOk, MatchBool, None, if◌then◌else◌, slice_index_or};
 ghost use Rattle.spin_base.specs.Links.{dir_at};
-ghost use Rattle.machine_desc.specs.Live.{IsInside, IsLiveLink, far_of, index_of};
+ghost use Rattle.machine_desc.specs.Live.{IsInside, far_of};
 ghost use Rattle.machine_desc.specs.RoutingTree.{IsRoutingTree};
 ghost use Rattle.plan_check.specs.GoodTrees.{IsGood};
-ghost use Rattle.plan_check.specs.Marks.{IsAlone, EntersOnce, EntersAnew, EntersNone, IsMarked, AreMarks, AreFlags, IsReached, GoesOn, is_flagged, link_place};
+ghost use Rattle.machine_desc.specs.Flags.{is_flagged};
+ghost use Rattle.plan_check.specs.Marks.{IsAlone, EntersOnce, EntersAnew, EntersNone, IsMarkedChip, AreMarks, AreFlags, IsReachedChip, HasEdgeOrTarget};
 
-use machine_desc::{Edge, Machine, Tree};
+use machine_desc::{Edge, LinkFlags, Machine, PerChip, Tree};
 use spin_base::{Chip, Dir, Memory, Seq, Spot};
 use std::alloc::Global;
 
@@ -81,15 +81,15 @@ fn is_routed(
         return Ok(false);
     }
     let flags = flags_of(alloc, machine, edges)?;
-    let reached = reached_from(alloc, machine, &flags, root)?;
-    if !all_begin(machine, &reached, edges) {
+    let reached = reached_from(alloc, &flags, root)?;
+    if !all_begin(&reached, edges) {
         return Ok(false);
     }
-    if !has_all(machine, &reached, targets) {
+    if !has_all(&reached, targets) {
         return Ok(false);
     }
     let on = going_on(alloc, machine, edges, targets)?;
-    Ok(each_goes_on(&reached, &on))
+    Ok(each_goes_on(reached.as_slice(), on.as_slice()))
 }
 
 // Whether all edges are live, none leads into the root, and no two lead into one chip.
@@ -97,11 +97,10 @@ fn enters_once(alloc: Global, machine: &Machine, root: Chip, edges: &[Edge]) -> 
     requires { IsInside machine.now root }
     ensures { IfOk result (λ once. IsTrue once ↔ EntersOnce machine.now root edges.now) }
 {
-    let mut entered = vec![in alloc; false; machine.chips()]?;
-    let marks: &mut [bool] = &mut entered;
-    marks[machine.index(root) as usize] = true;
+    let mut entered = PerChip::filled(alloc, machine, false)?;
+    entered.set(root, true);
     for edge in edges {
-        if !enters_anew(machine, *edge, marks) {
+        if !enters_anew(&mut entered, *edge) {
             return Ok(false);
         }
     }
@@ -109,55 +108,53 @@ fn enters_once(alloc: Global, machine: &Machine, root: Chip, edges: &[Edge]) -> 
 }
 
 // Whether the edge is live and leads into a chip that has no mark. It marks that chip.
-fn enters_anew(machine: &Machine, edge: Edge, marks: &mut [bool]) -> bool
-    requires { length marks.old ≡ machine.now.width * machine.now.height }
-    ensures { MatchBool result (EntersAnew machine.now edge marks.old marks.new) (EntersNone machine.now edge marks.old) }
+fn enters_anew(marks: &mut PerChip<bool>, edge: Edge) -> bool
+    ensures machine { marks.new.machine.now ≡ marks.old.machine.now }
+    ensures anew { MatchBool result
+        (EntersAnew marks.old.machine.now edge marks.old.items.items marks.new.items.items)
+        (EntersNone marks.old.machine.now edge marks.old.items.items) }
 {
+    let machine = marks.machine();
     if !machine.link_live(edge.chip, edge.dir) {
         return false;
     }
     match machine.far(edge.chip, edge.dir) {
         None => false,
         Some(chip) => {
-            let place = machine.index(chip) as usize;
-            if marks[place] {
+            if marks.at(chip) {
                 return false;
             }
-            marks[place] = true;
+            marks.set(chip, true);
             true
         }
     }
 }
 
 // A table that has, for each link of each chip, whether it is one of the edges.
-fn flags_of(alloc: Global, machine: &Machine, edges: &[Edge]) -> Result<Vec<bool>, Memory>
+fn flags_of<'m>(
+    alloc: Global,
+    machine: &'m Machine,
+    edges: &[Edge],
+) -> Result<LinkFlags<'m>, Memory>
     requires { All (λ e. IsInside machine.now e.chip) edges.now }
-    ensures { IfOk result (λ v. AreFlags machine.now edges.now v.items) }
+    ensures machine { IfOk result (λ f. f.machine.now ≡ machine.now) }
+    ensures flags { IfOk result (λ f. AreFlags machine.now edges.now f.flags.items) }
 {
-    let mut flags = vec![in alloc; false; machine.chips() * 6]?;
+    let mut flags = LinkFlags::none(alloc, machine)?;
     for edge in edges {
-        flags[place_of(machine, edge.chip, edge.dir)] = true;
+        flags.flag(edge.chip, edge.dir);
     }
     Ok(flags)
 }
 
-// The place of a link in a table with six places for each chip.
-fn place_of(machine: &Machine, chip: Chip, link: Dir) -> usize
-    requires { IsInside machine.now chip }
-    ensures place { result ≡ link_place machine.now chip link }
-    ensures below { result < machine.now.width * machine.now.height * 6 }
-{
-    machine.index(chip) as usize * 6 + usize::from(link.number())
-}
-
 // The chip to which the link leads, where it is flagged.
-fn flagged_far(machine: &Machine, flags: &[bool], chip: Chip, link: Dir) -> Option<Chip>
-    requires inside { IsInside machine.now chip }
-    requires long { length flags.now ≡ machine.now.width * machine.now.height * 6 }
-    ensures { result ≡ (if is_flagged machine.now flags.now chip link then far_of machine.now chip link else None) }
+fn flagged_far(flags: &LinkFlags, chip: Chip, link: Dir) -> Option<Chip>
+    requires { IsInside flags.now.machine.now chip }
+    ensures { result ≡ (if is_flagged flags.now.machine.now flags.now.flags.items chip link
+        then far_of flags.now.machine.now chip link else None) }
 {
-    if flags[place_of(machine, chip, link)] {
-        machine.far(chip, link)
+    if flags.has(chip, link) {
+        flags.machine().far(chip, link)
     } else {
         None
     }
@@ -173,29 +170,28 @@ fn link_at(number: usize) -> Dir
 
 // Marks of the chips that are reached from the root by flagged links. It looks at the links of each chip that it reaches, one
 // after the other.
-fn reached_from(
+fn reached_from<'m>(
     alloc: Global,
-    machine: &Machine,
-    flags: &[bool],
+    flags: &LinkFlags<'m>,
     root: Chip,
-) -> Result<Vec<bool>, Memory>
-    requires inside { IsInside machine.now root }
-    requires long { length flags.now ≡ machine.now.width * machine.now.height * 6 }
-    ensures { IfOk result (λ v. AreMarks machine.now (IsReached machine.now flags.now root) v.items) }
+) -> Result<PerChip<'m, bool>, Memory>
+    requires { IsInside flags.now.machine.now root }
+    ensures machine { IfOk result (λ t. t.machine.now ≡ flags.now.machine.now) }
+    ensures marks { IfOk result (λ t. AreMarks flags.now.machine.now
+        (IsReachedChip flags.now.machine.now flags.now.flags.items root) t.items.items) }
 {
-    let mut marks = vec![in alloc; false; machine.chips()]?;
+    let mut marks = PerChip::filled(alloc, flags.machine(), false)?;
     let mut queue = Vec::new(alloc);
-    marks[machine.index(root) as usize] = true;
+    marks.set(root, true);
     queue.push(root)?;
     let mut next = 0;
     while next < queue.len() * 6 {
         let from = queue[next / 6];
         let link = link_at(next % 6);
-        if let Some(to) = flagged_far(machine, flags, from, link) {
-            let place = machine.index(to) as usize;
-            if !marks[place] {
+        if let Some(to) = flagged_far(flags, from, link) {
+            if !marks.at(to) {
                 queue.push(to)?;
-                marks[place] = true;
+                marks.set(to, true);
             }
         }
         next += 1;
@@ -204,20 +200,19 @@ fn reached_from(
 }
 
 // Whether the chip is in the grid and has a mark.
-fn is_marked(machine: &Machine, marks: &[bool], chip: Chip) -> bool
-    requires { length marks.now ≡ machine.now.width * machine.now.height }
-    ensures { IsTrue result ↔ IsMarked machine.now marks.now chip }
+fn is_marked(marks: &PerChip<bool>, chip: Chip) -> bool
+    ensures { IsTrue result ↔ IsMarkedChip marks.now.machine.now marks.now.items.items chip }
 {
-    machine.is_inside(chip) && marks[machine.index(chip) as usize]
+    marks.machine().is_inside(chip) && marks.at(chip)
 }
 
 // Whether all edges begin at chips that have marks.
-fn all_begin(machine: &Machine, marks: &[bool], edges: &[Edge]) -> bool
-    requires { length marks.now ≡ machine.now.width * machine.now.height }
-    ensures { IsTrue result ↔ All (λ e. IsMarked machine.now marks.now e.chip) edges.now }
+fn all_begin(marks: &PerChip<bool>, edges: &[Edge]) -> bool
+    ensures { IsTrue result ↔
+        All (λ e. IsMarkedChip marks.now.machine.now marks.now.items.items e.chip) edges.now }
 {
     for edge in edges {
-        if !is_marked(machine, marks, edge.chip) {
+        if !is_marked(marks, edge.chip) {
             return false;
         }
     }
@@ -225,12 +220,12 @@ fn all_begin(machine: &Machine, marks: &[bool], edges: &[Edge]) -> bool
 }
 
 // Whether the chips of all targets have marks.
-fn has_all(machine: &Machine, marks: &[bool], targets: &[Spot]) -> bool
-    requires { length marks.now ≡ machine.now.width * machine.now.height }
-    ensures { IsTrue result ↔ All (λ s. IsMarked machine.now marks.now s.chip) targets.now }
+fn has_all(marks: &PerChip<bool>, targets: &[Spot]) -> bool
+    ensures { IsTrue result ↔
+        All (λ s. IsMarkedChip marks.now.machine.now marks.now.items.items s.chip) targets.now }
 {
     for target in targets {
-        if !is_marked(machine, marks, target.chip) {
+        if !is_marked(marks, target.chip) {
             return false;
         }
     }
@@ -238,22 +233,24 @@ fn has_all(machine: &Machine, marks: &[bool], targets: &[Spot]) -> bool
 }
 
 // Marks of the chips where an edge begins or a target stands.
-fn going_on(
+fn going_on<'m>(
     alloc: Global,
-    machine: &Machine,
+    machine: &'m Machine,
     edges: &[Edge],
     targets: &[Spot],
-) -> Result<Vec<bool>, Memory>
+) -> Result<PerChip<'m, bool>, Memory>
     requires edges { All (λ e. IsInside machine.now e.chip) edges.now }
     requires targets { All (λ s. IsInside machine.now s.chip) targets.now }
-    ensures { IfOk result (λ v. AreMarks machine.now (GoesOn edges.now targets.now) v.items) }
+    ensures machine { IfOk result (λ t. t.machine.now ≡ machine.now) }
+    ensures marks { IfOk result (λ t.
+        AreMarks machine.now (HasEdgeOrTarget edges.now targets.now) t.items.items) }
 {
-    let mut marks = vec![in alloc; false; machine.chips()]?;
+    let mut marks = PerChip::filled(alloc, machine, false)?;
     for edge in edges {
-        marks[machine.index(edge.chip) as usize] = true;
+        marks.set(edge.chip, true);
     }
     for target in targets {
-        marks[machine.index(target.chip) as usize] = true;
+        marks.set(target.chip, true);
     }
     Ok(marks)
 }
@@ -261,7 +258,8 @@ fn going_on(
 // Whether each chip that has a mark in the first list has one in the second.
 fn each_goes_on(reached: &[bool], on: &[bool]) -> bool
     requires { length on.now ≡ length reached.now }
-    ensures { IsTrue result ↔ ((i : ℕ) → i < length reached.now → slice_index_or reached.now i false ≡ true → slice_index_or on.now i false ≡ true) }
+    ensures { IsTrue result ↔ ((i : ℕ) → i < length reached.now →
+        slice_index_or reached.now i false ≡ true → slice_index_or on.now i false ≡ true) }
 {
     for i in 0..reached.len() {
         if reached[i] && !on[i] {

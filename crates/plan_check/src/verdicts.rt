@@ -2,21 +2,21 @@
 ghost use Rattle.std.specs.Prelude.{◌≡◌, ◌*◌, ◌<◌, ◌≤◌, ◌^◌, ℕ, List, All, Some, length, slice_get, slice_index};
 ghost use Rattle.spin_base.specs.declared.blocks.Entry.{Entry};
 ghost use Rattle.spin_base.specs.declared.chips.Chip.{Chip};
+ghost use Rattle.spin_base.specs.declared.sizes.TheConstants.{ROUTER_ENTRIES};
 ghost use Rattle.machine_desc.specs.Live.{chip_of};
-ghost use Rattle.net_tables.specs.declared.nets.NetPlan.{NetPlan};
-ghost use Rattle.net_tables.specs.RightTables.{AreRight};
-ghost use Rattle.plain_tables.specs.Marks.{IsRouted, TellsPorts, TellsRoutes};
+ghost use Rattle.machine_desc.specs.declared.nets.NetPlan.{NetPlan};
+ghost use Rattle.machine_desc.specs.RightTables.{AreRight};
+ghost use Rattle.net_tables.specs.Marks.{IsRouted, TellsPorts, TellsRoutes};
 ghost use Rattle.table_load.specs.Images.{IsValid, IsRow};
 ghost use Rattle.table_load.specs.Memories.{IsLoaded};
 ghost use Rattle.plan_check.specs.declared.verdicts.Verdict.TheVariants.{Right, Wrong};
-ghost use Rattle.plan_check.specs.Boards.{TellsTables, Fares, IsAmissAt, verdict_on};
+ghost use Rattle.plan_check.specs.Boards.{IsFirstFlaw, IsAmissAt, verdict_on};
 ghost use Rattle.plan_check.specs.Verdicts.{IsVerdict, IsMisrouted};
 
 use crate::boards::{set_ports, set_routes};
-use crate::fares::{Flaw, flaw_in};
-use crate::places::{rows_of, set_places};
-use machine_desc::Machine;
-use net_tables::NetPlan;
+use crate::flaws::{Flaw, flaw_in};
+use crate::places::{PlacedTables, rows_of, set_places};
+use machine_desc::{Machine, NetPlan};
 use spin_base::{Block, Chip, Entry, Port, Route, Seq};
 use table_load::Image;
 
@@ -46,9 +46,12 @@ pub fn check(machine: &Machine, nets: &Seq<NetPlan>, image: &Image) -> Verdict
     requires width { image.now.width ≡ machine.now.width }
     requires height { image.now.height ≡ machine.now.height }
     ensures verdict { IsVerdict machine.now nets.now image.now result }
-    ensures right { result ≡ Right → (memories : List (List Entry)) → IsLoaded image.now memories → AreRight machine.now memories nets.now }
-    ensures wrong { (i : ℕ) (c : Chip) (key : ℕ) → result ≡ Wrong i c key → (memories : List (List Entry)) → IsLoaded image.now memories
-        → (net : NetPlan) × (slice_get nets.now i ≡ Some net) × IsMisrouted machine.now memories net c key }
+    ensures right { result ≡ Right → (memories : List (List Entry)) → IsLoaded image.now memories
+        → AreRight machine.now memories nets.now }
+    ensures wrong { (i : ℕ) (c : Chip) (key : ℕ) → result ≡ Wrong i c key
+        → (memories : List (List Entry)) → IsLoaded image.now memories
+        → (net : NetPlan) × (slice_get nets.now i ≡ Some net)
+        × IsMisrouted machine.now memories net c key }
 {
     let mut ports = port_board();
     let mut routes = route_board();
@@ -58,7 +61,12 @@ pub fn check(machine: &Machine, nets: &Seq<NetPlan>, image: &Image) -> Verdict
     let routes: &mut [Route] = &mut routes[..count];
     let places: &mut [usize] = &mut places[..count];
     set_places(image, places);
-    verdict_of(machine, nets.as_slice(), image, places, ports, routes)
+    let tables = PlacedTables {
+        machine,
+        image,
+        places,
+    };
+    verdict_of(&tables, nets.as_slice(), ports, routes)
 }
 
 // A board without a port, for as many chips as a machine may have.
@@ -78,36 +86,32 @@ fn place_board() -> [usize; MOST_CHIPS] {
 
 // The verdict, by boards of which two are written anew for each net.
 fn verdict_of(
-    machine: &Machine,
+    tables: &PlacedTables<'_>,
     nets: &[NetPlan],
-    image: &Image,
-    places: &[usize],
     ports: &mut [Option<Port>],
     routes: &mut [Route],
 ) -> Verdict
     requires few { length nets.now < 2 ^ 32 }
-    requires routed { All (IsRouted machine.now) nets.now }
-    requires valid { IsValid image.now }
-    requires height { image.now.height ≡ machine.now.height }
-    requires places_long { length places.now ≡ machine.now.width * machine.now.height }
-    requires told { TellsTables image.now.height image.now.chips places.now }
-    requires ports_long { length ports.old ≡ machine.now.width * machine.now.height }
-    requires routes_long { length routes.old ≡ machine.now.width * machine.now.height }
-    ensures { IsVerdict machine.now nets.now image.now result }
+    requires routed { All (IsRouted tables.now.machine.now) nets.now }
+    requires ports_long { length ports.old
+        ≡ tables.now.machine.now.width * tables.now.machine.now.height }
+    requires routes_long { length routes.old
+        ≡ tables.now.machine.now.width * tables.now.machine.now.height }
+    ensures { IsVerdict tables.now.machine.now nets.now tables.now.image.now result }
 {
     for at in 0..nets.len() {
         let net = &nets[at];
-        set_ports(machine, net, ports);
-        set_routes(machine, net, routes);
-        if let Some((chip, flaw)) = first_flaw(machine, net, image, places, ports, routes) {
-            return told_of(at as u32, chip, net.block.key, flaw);
+        set_ports(tables.machine, net, ports);
+        set_routes(tables.machine, net, routes);
+        if let Some((chip, flaw)) = first_flaw(tables, net, ports, routes) {
+            return verdict_from(at as u32, chip, net.block.key, flaw);
         }
     }
     Verdict::Right
 }
 
 // What is said of a flaw.
-fn told_of(net: u32, chip: Chip, key: u32, flaw: Flaw) -> Verdict
+fn verdict_from(net: u32, chip: Chip, key: u32, flaw: Flaw) -> Verdict
     ensures { result ≡ verdict_on net chip key flaw }
 {
     match flaw {
@@ -118,28 +122,26 @@ fn told_of(net: u32, chip: Chip, key: u32, flaw: Flaw) -> Verdict
 
 // The chip of least index at which the net is not fine, and what is amiss there.
 fn first_flaw(
-    machine: &Machine,
+    tables: &PlacedTables<'_>,
     net: &NetPlan,
-    image: &Image,
-    places: &[usize],
     ports: &[Option<Port>],
     routes: &[Route],
 ) -> Option<(Chip, Flaw)>
-    requires routed { IsRouted machine.now net.now }
-    requires valid { IsValid image.now }
-    requires height { image.now.height ≡ machine.now.height }
-    requires places_long { length places.now ≡ machine.now.width * machine.now.height }
-    requires tables { TellsTables image.now.height image.now.chips places.now }
-    requires ports_long { length ports.now ≡ machine.now.width * machine.now.height }
-    requires routes_long { length routes.now ≡ machine.now.width * machine.now.height }
-    requires ports { TellsPorts machine.now net.now.tree.root net.now.tree.edges ports.now }
-    requires outputs { TellsRoutes machine.now net.now.tree.edges net.now.targets routes.now }
-    ensures { Fares machine.now image.now net.now result }
+    requires routed { IsRouted tables.now.machine.now net.now }
+    requires ports_long { length ports.now
+        ≡ tables.now.machine.now.width * tables.now.machine.now.height }
+    requires routes_long { length routes.now
+        ≡ tables.now.machine.now.width * tables.now.machine.now.height }
+    requires ports { TellsPorts tables.now.machine.now net.now.tree.root net.now.tree.edges
+        ports.now }
+    requires outputs { TellsRoutes tables.now.machine.now net.now.tree.edges net.now.targets
+        routes.now }
+    ensures { IsFirstFlaw tables.now.machine.now tables.now.image.now net.now result }
 {
-    for index in 0..machine.chips() {
-        let rows = rows_of(image, places, index);
+    for index in 0..tables.machine.chips() {
+        let rows = rows_of(tables.image, tables.places, index);
         if let Some(flaw) = flaw_at(rows, net.block, ports[index], routes[index]) {
-            return Some((machine.chip_at(index as u32), flaw));
+            return Some((tables.machine.chip_at(index as u32), flaw));
         }
     }
     None
@@ -148,7 +150,7 @@ fn first_flaw(
 // What is amiss with a block at a chip where its packets come in at that port, if they do.
 fn flaw_at(rows: &[Entry], block: Block, port: Option<Port>, wanted: Route) -> Option<Flaw>
     requires valid { All IsRow rows.now }
-    requires few { length rows.now ≤ 1024 }
+    requires few { length rows.now ≤ ROUTER_ENTRIES }
     ensures { IsAmissAt block rows.now port wanted result }
 {
     flaw_in(rows, block, port?, wanted)

@@ -7,7 +7,7 @@ use Rattle.std.proofs.lemmas.List.Folds.{list_any-append}
 use Rattle.std.proofs.lemmas.Option.{slice_get-get_or, slice_get_within}
 use Rattle.range_store.specs.declared.holes.Hole.{Hole}
 use Rattle.range_store.specs.Fits.{AreNeighbours}
-use Rattle.range_store.specs.Regions.{AreRuns, has_range, is_free, in_range, end_of}
+use Rattle.range_store.specs.Regions.{AreRuns, has_range, is_free, in_range, hole_end}
 use Rattle.range_store.proofs.RunLemmas.{next, runs_split, runs_join, earlier, fits_any, drop_got}
 use Rattle.range_store.proofs.HolePlaces.{clash, has_from}
 
@@ -29,12 +29,12 @@ module _ (n p s : ℕ) (pre mid post : List Hole) (m : Hole) (runs : AreRuns 0 n
       ∙ ap (λ b. (is_free pre k || b) || in_range p s k) (sym (list_any-append (has_range k 1) mid post))
       ∙ ap (λ b. b || in_range p s k) (sym (list_any-append (has_range k 1) pre (mid ++ post)))
 
-  pub put_runs : next 0 pre ≤ m.place → 0 < m.len → end_of m ≤ n → AreRuns (end_of m + 1) n post → AreRuns 0 n (pre ++ m ∷ post)
+  pub put_runs : next 0 pre ≤ m.place → 0 < m.len → hole_end m ≤ n → AreRuns (hole_end m + 1) n post → AreRuns 0 n (pre ++ m ∷ post)
   put_runs start some within after = runs_join 0 n pre (m ∷ post) (runs_split 0 n pre (mid ++ post) runs).0 (start, some, within, after)
 
-next_last : (from : ℕ) (pre : List Hole) (l : Hole) → next from (pre ++ l ∷ []) ≡ end_of l + 1
+next_last : (from : ℕ) (pre : List Hole) (l : Hole) → next from (pre ++ l ∷ []) ≡ hole_end l + 1
 next_last from [] l = refl
-next_last from (x ∷ xs) l = next_last (end_of x + 1) xs l
+next_last from (x ∷ xs) l = next_last (hole_end x + 1) xs l
 
 take_got : (xs : List Hole) (i : ℕ) (h : Hole) → slice_get xs i ≡ Some h → take (suc i) xs ≡ take i xs ++ h ∷ []
 take_got [] i h e = cc
@@ -55,28 +55,28 @@ has_none k p s = grind (arith, nat_tests)
 has_right : (k p s : ℕ) (r : Hole) → r.place ≡ p + s → has_range k 1 (record { place = p; len = s + r.len }) ≡ (is_free (r ∷ []) k || in_range p s k)
 has_right k p s r meets = grind (arith, nat_tests)
 
-has_left : (k p s : ℕ) (l : Hole) → end_of l ≡ p → has_range k 1 (record { place = l.place; len = l.len + s }) ≡ (is_free (l ∷ []) k || in_range p s k)
+has_left : (k p s : ℕ) (l : Hole) → hole_end l ≡ p → has_range k 1 (record { place = l.place; len = l.len + s }) ≡ (is_free (l ∷ []) k || in_range p s k)
 has_left k p s l meets = grind (arith, nat_tests)
 
-has_both : (k p s : ℕ) (l r : Hole) → end_of l ≡ p → r.place ≡ p + s → has_range k 1 (record { place = l.place; len = l.len + s + r.len }) ≡ (is_free (l ∷ r ∷ []) k || in_range p s k)
+has_both : (k p s : ℕ) (l r : Hole) → hole_end l ≡ p → r.place ≡ p + s → has_range k 1 (record { place = l.place; len = l.len + s + r.len }) ≡ (is_free (l ∷ r ∷ []) k || in_range p s k)
 has_both k p s l r a b = grind (arith, nat_tests)
 
 later : (from to n : ℕ) (post : List Hole) → AreRuns from n post → ((h : Hole) → slice_get post 0 ≡ Some h → to ≤ h.place) → AreRuns to n post
 later from to n [] runs first = tt
 later from to n (h ∷ hs) runs first = (first h refl, runs.1, runs.2, runs.3)
 
-some_len : (from n : ℕ) (xs : List Hole) (i : ℕ) (h : Hole) → AreRuns from n xs → slice_get xs i ≡ Some h → (0 < h.len) × (end_of h ≤ n)
+some_len : (from n : ℕ) (xs : List Hole) (i : ℕ) (h : Hole) → AreRuns from n xs → slice_get xs i ≡ Some h → (0 < h.len) × (hole_end h ≤ n)
 some_len from n xs i h runs e = let r = (runs_split from n (take i xs) (h ∷ drop (suc i) xs) (subst (AreRuns from n) (split_got xs i h e) runs)).1 in (r.1, r.2)
 
 module _ (n p s a : ℕ) (xs : List Hole) (some : 0 < s) (within : p + s ≤ n) (runs : AreRuns 0 n xs)
     (taken : (k : ℕ) → in_range p s k ≡ true → is_free xs k ≡ false)
     (before : (k : ℕ) (h : Hole) → k < a → slice_get xs k ≡ Some h → h.place < p)
     (first : (h : Hole) → slice_get xs a ≡ Some h → p ≤ h.place) where
-  free_at : (i : ℕ) (h : Hole) (k : ℕ) → slice_get xs i ≡ Some h → h.place ≤ k → k < end_of h → is_free xs k ≡ true
+  free_at : (i : ℕ) (h : Hole) (k : ℕ) → slice_get xs i ≡ Some h → h.place ≤ k → k < hole_end h → is_free xs k ≡ true
   free_at i h k e low high = fits_any xs i h 1 k e (has_from k 1 h low (omega arith))
 
   -- a place is not both free and of the range
-  both : {A : Type 0} (i : ℕ) (h : Hole) (k : ℕ) → slice_get xs i ≡ Some h → h.place ≤ k → k < end_of h → p ≤ k → k < p + s → A
+  both : {A : Type 0} (i : ℕ) (h : Hole) (k : ℕ) → slice_get xs i ≡ Some h → h.place ≤ k → k < hole_end h → p ≤ k → k < p + s → A
   both {A} i h k e low high from to =
       let inside : in_range p s k ≡ true = grind (arith, nat_tests) in clash (free_at i h k e low high) (taken k inside)
 
@@ -88,15 +88,15 @@ module _ (n p s a : ℕ) (xs : List Hole) (some : 0 < s) (within : p + s ≤ n) 
         | inr more ↦ more
       ]
 
-  left_gap : (i : ℕ) (l : Hole) → a ≡ suc i → slice_get xs i ≡ Some l → end_of l ≤ p
+  left_gap : (i : ℕ) (l : Hole) → a ≡ suc i → slice_get xs i ≡ Some l → hole_end l ≤ p
   left_gap i l is e =
       let low = before i l (omega arith) e in
-      elim (cases_lt p (end_of l)) [
+      elim (cases_lt p (hole_end l)) [
         | inl less ↦ both i l p e (omega arith) less (omega arith) (omega arith)
         | inr more ↦ more
       ]
 
-  start_none : ((l : Hole) → 0 < a → slice_get xs (a - 1) ≡ Some l → end_of l ≢ p) → (i : ℕ) → a ≡ i → i ≤ length xs → next 0 (take i xs) ≤ p
+  start_none : ((l : Hole) → 0 < a → slice_get xs (a - 1) ≡ Some l → hole_end l ≢ p) → (i : ℕ) → a ≡ i → i ≤ length xs → next 0 (take i xs) ≤ p
   start_none apart zero is le = omega arith
   start_none apart (suc i) is le =
       let back : a - 1 ≡ i = omega arith in
@@ -116,7 +116,7 @@ module _ (n p s a : ℕ) (xs : List Hole) (some : 0 < s) (within : p + s ≤ n) 
       (runs_split 0 n (take a xs) (drop a xs) (subst (AreRuns 0 n) (sym (take-append-drop a xs)) runs)).1
       (λ h e. let at = get_dropped xs a h e in let gap = right_gap h at in let ne = apart h at in omega (arith, gap, ne))
 
-  after_right : (r : Hole) → slice_get xs a ≡ Some r → AreRuns (end_of r + 1) n (drop (suc a) xs)
+  after_right : (r : Hole) → slice_get xs a ≡ Some r → AreRuns (hole_end r + 1) n (drop (suc a) xs)
   after_right r e = (runs_split 0 n (take a xs) (r ∷ drop (suc a) xs) (subst (AreRuns 0 n) (split_got xs a r e) runs)).1.3
 
   abbrev Gives : List Hole → Type 0
@@ -124,8 +124,8 @@ module _ (n p s a : ℕ) (xs : List Hole) (some : 0 < s) (within : p + s ≤ n) 
 
   -- one hole in place of those between two places of the list
   gives : (i j : ℕ) (mid : List Hole) (m : Hole) (ys : List Hole) → xs ≡ take i xs ++ (mid ++ drop j xs) → ys ≡ take i xs ++ m ∷ drop j xs
-      → ((k : ℕ) → has_range k 1 m ≡ (is_free mid k || in_range p s k)) → next 0 (take i xs) ≤ m.place → 0 < m.len → end_of m ≤ n
-      → AreRuns (end_of m + 1) n (drop j xs) → Gives ys
+      → ((k : ℕ) → has_range k 1 m ≡ (is_free mid k || in_range p s k)) → next 0 (take i xs) ≤ m.place → 0 < m.len → hole_end m ≤ n
+      → AreRuns (hole_end m + 1) n (drop j xs) → Gives ys
   gives i j mid m ys old new same start long below after =
       let here = subst (AreRuns 0 n) old runs in
       let free = put_free n p s (take i xs) mid (drop j xs) m here same in
@@ -134,20 +134,20 @@ module _ (n p s a : ℕ) (xs : List Hole) (some : 0 < s) (within : p + s ≤ n) 
         put_runs n p s (take i xs) mid (drop j xs) m here same start long below after,
       )
 
-  pub give_none : a ≤ length xs → ((l : Hole) → 0 < a → slice_get xs (a - 1) ≡ Some l → end_of l ≢ p) → ((r : Hole) → slice_get xs a ≡ Some r → r.place ≢ p + s)
+  pub give_none : a ≤ length xs → ((l : Hole) → 0 < a → slice_get xs (a - 1) ≡ Some l → hole_end l ≢ p) → ((r : Hole) → slice_get xs a ≡ Some r → r.place ≢ p + s)
       → Gives (take a xs ++ record { place = p; len = s } ∷ drop a xs)
   give_none le no_left no_right =
       gives a a [] (record { place = p; len = s }) _ (sym (take-append-drop a xs)) refl (λ k. has_none k p s)
       (start_none no_left a refl le) some within (after_none no_right)
 
-  pub give_right : (r : Hole) → a ≤ length xs → ((l : Hole) → 0 < a → slice_get xs (a - 1) ≡ Some l → end_of l ≢ p) → slice_get xs a ≡ Some r → r.place ≡ p + s
+  pub give_right : (r : Hole) → a ≤ length xs → ((l : Hole) → 0 < a → slice_get xs (a - 1) ≡ Some l → hole_end l ≢ p) → slice_get xs a ≡ Some r → r.place ≡ p + s
       → Gives (set xs a (record { place = p; len = s + r.len }))
   give_right r le no_left e meets =
       let long = some_len 0 n xs a r runs e in
       gives a (suc a) (r ∷ []) (record { place = p; len = s + r.len }) _ (split_got xs a r e) (set_split xs a _ (slice_get_within xs a r e)) (λ k. has_right k p s r meets)
-      (start_none no_left a refl le) (omega arith) (omega (arith, long.1)) (earlier (end_of r + 1) _ n _ (after_right r e) (omega arith))
+      (start_none no_left a refl le) (omega arith) (omega (arith, long.1)) (earlier (hole_end r + 1) _ n _ (after_right r e) (omega arith))
 
-  pub give_left : (l : Hole) → 0 < a → slice_get xs (a - 1) ≡ Some l → end_of l ≡ p → ((r : Hole) → slice_get xs a ≡ Some r → r.place ≢ p + s)
+  pub give_left : (l : Hole) → 0 < a → slice_get xs (a - 1) ≡ Some l → hole_end l ≡ p → ((r : Hole) → slice_get xs a ≡ Some r → r.place ≢ p + s)
       → Gives (set xs (a - 1) (record { place = l.place; len = l.len + s }))
   give_left l some_before e meets no_right =
       let up : suc (a - 1) ≡ a = omega arith in
@@ -156,9 +156,9 @@ module _ (n p s a : ℕ) (xs : List Hole) (some : 0 < s) (within : p + s ≤ n) 
       (split_got xs (a - 1) l e ∙ ap (λ j. take (a - 1) xs ++ (l ∷ drop j xs)) up)
       (set_split xs (a - 1) m (slice_get_within xs (a - 1) l e) ∙ ap (λ j. take (a - 1) xs ++ m ∷ drop j xs) up)
       (λ k. has_left k p s l meets) (start_left (a - 1) l e) (omega arith) (omega arith)
-      (earlier (p + s + 1) (end_of m + 1) n _ (after_none no_right) (omega arith))
+      (earlier (p + s + 1) (hole_end m + 1) n _ (after_none no_right) (omega arith))
 
-  pub give_both : (l r : Hole) → 0 < a → slice_get xs (a - 1) ≡ Some l → end_of l ≡ p → slice_get xs a ≡ Some r → r.place ≡ p + s
+  pub give_both : (l r : Hole) → 0 < a → slice_get xs (a - 1) ≡ Some l → hole_end l ≡ p → slice_get xs a ≡ Some r → r.place ≡ p + s
       → Gives (set (take a xs ++ drop (suc a) xs) (a - 1) (record { place = l.place; len = l.len + s + r.len }))
   give_both l r some_before e meets f meets_right =
       let up : suc (a - 1) ≡ a = omega arith in
@@ -173,13 +173,13 @@ module _ (n p s a : ℕ) (xs : List Hole) (some : 0 < s) (within : p + s ≤ n) 
       ∙ ap (λ t. set t (a - 1) m) (append_assoc (take (a - 1) xs) (l ∷ []) (drop (suc a) xs))
       ∙ set_at (take (a - 1) xs) l (drop (suc a) xs) m (a - 1) (length-take-le (a - 1) xs (omega (arith, inside))))
       (λ k. has_both k p s l r meets meets_right) (start_left (a - 1) l e) (omega arith) (omega (arith, long.1))
-      (earlier (end_of r + 1) (end_of m + 1) n _ (after_right r f) (omega arith))
+      (earlier (hole_end r + 1) (hole_end m + 1) n _ (after_right r f) (omega arith))
 
 module _ (n p s a : ℕ) (xs : List Hole) (left right : Option Hole) (some : 0 < s) (within : p + s ≤ n) (runs : AreRuns 0 n xs)
     (taken : (k : ℕ) → in_range p s k ≡ true → is_free xs k ≡ false) (near : AreNeighbours xs p (p + s) a left right) where
   abbrev LeftIs : Option Hole → Type 0
-  LeftIs o = MatchOption o ((h : Hole) → 0 < a → slice_get xs (a - 1) ≡ Some h → end_of h ≢ p)
-      (λ h. (0 < a) × (slice_get xs (a - 1) ≡ Some h) × (end_of h ≡ p))
+  LeftIs o = MatchOption o ((h : Hole) → 0 < a → slice_get xs (a - 1) ≡ Some h → hole_end h ≢ p)
+      (λ h. (0 < a) × (slice_get xs (a - 1) ≡ Some h) × (hole_end h ≡ p))
 
   abbrev RightIs : Option Hole → Type 0
   RightIs o = MatchOption o ((h : Hole) → slice_get xs a ≡ Some h → h.place ≢ p + s) (λ h. (slice_get xs a ≡ Some h) × (h.place ≡ p + s))
@@ -208,10 +208,10 @@ module _ (n p s a : ℕ) (xs : List Hole) (left right : Option Hole) (some : 0 <
       give_both n p s a xs some within runs taken near.before near.first x y is.0 is.1 is.2 at.0 at.1
 
   -- the neighbours, as numbers
-  pub right_end : (y : Hole) → right ≡ Some y → (a < length xs) × (y.place ≡ p + s) × (end_of y ≤ n)
+  pub right_end : (y : Hole) → right ≡ Some y → (a < length xs) × (y.place ≡ p + s) × (hole_end y ≤ n)
   right_end y r = let is = subst RightIs r near.right_is in (slice_get_within xs a y is.0, is.1, (some_len 0 n xs a y runs is.0).1)
 
-  pub left_end : (x : Hole) → left ≡ Some x → (0 < a) × (end_of x ≡ p)
+  pub left_end : (x : Hole) → left ≡ Some x → (0 < a) × (hole_end x ≡ p)
   left_end x l = let is = subst LeftIs l near.left_is in (is.0, is.2)
 
 pub inserted : {E : Type 0} (r : Result (Unit {0}) E) (ys zs : List Hole) {ws : List Hole} → IsOk r → ws ≡ (if is_ok r then ys else zs) → ws ≡ ys

@@ -3,15 +3,15 @@ use Rattle.std.proofs.Common.{◌≡◌, ℕ, ◌+◌, ◌<◌, ◌≤◌, Bool,
 use Rattle.std.proofs.lemmas.Bool.{both_ways, cases_lt, or_cases, or_left, or_right}
 use Rattle.std.proofs.lemmas.Bool.Decides.{nat_tests}
 use Rattle.range_store.specs.declared.holes.Hole.{Hole}
-use Rattle.range_store.specs.Regions.{AreRuns, has_range, is_hole_range, is_free, end_of}
+use Rattle.range_store.specs.Regions.{AreRuns, has_range, is_hole_range, is_free, hole_end}
 
 pub clash : {A : Type 0} {b : Bool} → b ≡ true → b ≡ false → A
 clash t f = absurd (both_ways _ f t)
 
-pub has_facts : (p s : ℕ) (h : Hole) → has_range p s h ≡ true → (h.place ≤ p) × (p + s ≤ end_of h)
+pub has_facts : (p s : ℕ) (h : Hole) → has_range p s h ≡ true → (h.place ≤ p) × (p + s ≤ hole_end h)
 has_facts p s h e = (grind (arith, nat_tests), grind (arith, nat_tests))
 
-pub has_from : (p s : ℕ) (h : Hole) → h.place ≤ p → p + s ≤ end_of h → has_range p s h ≡ true
+pub has_from : (p s : ℕ) (h : Hole) → h.place ≤ p → p + s ≤ hole_end h → has_range p s h ≡ true
 has_from p s h a b = grind (arith, nat_tests)
 
 -- a free place is not before the first hole, and is below the end
@@ -20,7 +20,7 @@ free_within from n [] k runs e = clash e refl
 free_within from n (h ∷ hs) k runs e =
     elim (or_cases (has_range k 1 h) (is_free hs k) e) [
       | inl here ↦ (let f = has_facts k 1 h here in (omega (arith, f.0, runs.0), omega (arith, f.1, runs.2)))
-      | inr later ↦ (let f = free_within (end_of h + 1) n hs k runs.3 later in (omega (arith, f.0, runs.0), f.1))
+      | inr later ↦ (let f = free_within (hole_end h + 1) n hs k runs.3 later in (omega (arith, f.0, runs.0), f.1))
     ]
 
 -- each place of a range that lies in a hole is free
@@ -42,20 +42,20 @@ range_of_free from n (h ∷ hs) p s runs some free =
     elim (or_cases (has_range p 1 h) (is_free hs p) (free p (omega arith) (omega arith))) [
       | inl here ↦ (
           let f = has_facts p 1 h here in
-          elim (cases_lt (end_of h) (p + s)) [
-            | inl beyond ↦ elim (or_cases (has_range (end_of h) 1 h) (is_free hs (end_of h)) (free (end_of h) (omega (arith, f.1)) beyond)) [
-              | inl mine ↦ (let g = has_facts (end_of h) 1 h mine in absurd (omega (arith, g.1)))
-              | inr next ↦ (let g = free_within (end_of h + 1) n hs (end_of h) runs.3 next in absurd (omega (arith, g.0)))
+          elim (cases_lt (hole_end h) (p + s)) [
+            | inl beyond ↦ elim (or_cases (has_range (hole_end h) 1 h) (is_free hs (hole_end h)) (free (hole_end h) (omega (arith, f.1)) beyond)) [
+              | inl mine ↦ (let g = has_facts (hole_end h) 1 h mine in absurd (omega (arith, g.1)))
+              | inr next ↦ (let g = free_within (hole_end h + 1) n hs (hole_end h) runs.3 next in absurd (omega (arith, g.0)))
             ]
             | inr within ↦ or_left (has_range p s h) (is_hole_range hs p s) (has_from p s h f.0 within)
           ]
           )
       | inr later ↦ (
-          let low = free_within (end_of h + 1) n hs p runs.3 later in
+          let low = free_within (hole_end h + 1) n hs p runs.3 later in
           let rest : (k : ℕ) → p ≤ k → k < p + s → is_free hs k ≡ true = λ k from_p to_end. elim (or_cases (has_range k 1 h) (is_free hs k) (free k from_p to_end)) [
             | inl mine ↦ (let g = has_facts k 1 h mine in absurd (omega (arith, g.1, low.0)))
             | inr there ↦ there
           ] in
-          or_right (has_range p s h) (is_hole_range hs p s) (range_of_free (end_of h + 1) n hs p s runs.3 some rest)
+          or_right (has_range p s h) (is_hole_range hs p s) (range_of_free (hole_end h + 1) n hs p s runs.3 some rest)
           )
     ]

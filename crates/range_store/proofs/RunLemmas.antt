@@ -10,7 +10,7 @@ use Rattle.range_store.specs.declared.holes.Hole.{Hole}
 use Rattle.std.specs.Int.{next_multiple_of}
 use Rattle.range_store.specs.Fits.{FitsAt, IsLeastIn, NoneIn}
 use Rattle.range_store.proofs.HolePlaces.{clash, has_facts, has_from}
-use Rattle.range_store.specs.Regions.{AreRuns, IsFirstFit, HasNoFit, has_range, is_hole_range, is_free, in_range, end_of, hole_of, rest_of, without}
+use Rattle.range_store.specs.Regions.{AreRuns, IsFirstFit, HasNoFit, has_range, is_hole_range, is_free, in_range, hole_end, hole_of, rest_of, holes_without}
 
 -- an earlier beginning may stand before the same holes
 pub earlier : (from to n : ℕ) (hs : List Hole) → AreRuns from n hs → to ≤ from → AreRuns to n hs
@@ -20,20 +20,20 @@ earlier from to n (h ∷ hs) runs le = (omega arith, runs.1, runs.2, runs.3)
 -- where the next hole may begin
 abbrev pub next : ℕ → List Hole → ℕ
 next from [] = from
-next from (h ∷ hs) = next (end_of h + 1) hs
+next from (h ∷ hs) = next (hole_end h + 1) hs
 
 pub runs_split : (from n : ℕ) (pre post : List Hole) → AreRuns from n (pre ++ post) → AreRuns from n pre × AreRuns (next from pre) n post
 runs_split from n [] post runs = (tt, runs)
 runs_split from n (h ∷ hs) post runs =
-    let rest = runs_split (end_of h + 1) n hs post runs.3 in ((runs.0, runs.1, runs.2, rest.0), rest.1)
+    let rest = runs_split (hole_end h + 1) n hs post runs.3 in ((runs.0, runs.1, runs.2, rest.0), rest.1)
 
 pub runs_join : (from n : ℕ) (pre post : List Hole) → AreRuns from n pre → AreRuns (next from pre) n post → AreRuns from n (pre ++ post)
 runs_join from n [] post a b = b
-runs_join from n (h ∷ hs) post a b = (a.0, a.1, a.2, runs_join (end_of h + 1) n hs post a.3 b)
+runs_join from n (h ∷ hs) post a b = (a.0, a.1, a.2, runs_join (hole_end h + 1) n hs post a.3 b)
 
 pub next_le : (from n : ℕ) (pre : List Hole) → AreRuns from n pre → from ≤ next from pre
 next_le from n [] runs = omega arith
-next_le from n (h ∷ hs) runs = let more = next_le (end_of h + 1) n hs runs.3 in omega arith
+next_le from n (h ∷ hs) runs = let more = next_le (hole_end h + 1) n hs runs.3 in omega arith
 
 pub hole_some : (a b : ℕ) → a < b → hole_of a b ≡ record { place = a; len = b - a } ∷ []
 hole_some a b lt = let t : ltb a b ≡ true = grind (arith, nat_tests) in rw t refl
@@ -41,36 +41,36 @@ hole_some a b lt = let t : ltb a b ≡ true = grind (arith, nat_tests) in rw t r
 pub hole_none : (a b : ℕ) → b ≤ a → hole_of a b ≡ []
 hole_none a b le = let t : ltb a b ≡ false = grind (arith, nat_tests) in rw t refl
 
-hole_whole : (h : Hole) → 0 < h.len → hole_of h.place (end_of h) ≡ h ∷ []
+hole_whole : (h : Hole) → 0 < h.len → hole_of h.place (hole_end h) ≡ h ∷ []
 hole_whole h some =
     let e : h.place + h.len - h.place ≡ h.len = omega arith in
-    hole_some h.place (end_of h) (omega arith) ∙ ap (λ l. record { place = h.place; len = l } ∷ []) e
+    hole_some h.place (hole_end h) (omega arith) ∙ ap (λ l. record { place = h.place; len = l } ∷ []) e
 
 -- a range leaves a hole that it does not meet as it was
-leaves_before : (p s : ℕ) (h : Hole) → 0 < h.len → end_of h ≤ p → rest_of p s h ≡ h ∷ []
+leaves_before : (p s : ℕ) (h : Hole) → 0 < h.len → hole_end h ≤ p → rest_of p s h ≡ h ∷ []
 leaves_before p s h some le =
-    let m : min (end_of h) p ≡ end_of h = omega arith in
-    ap₂ (λ (a b : List Hole). a ++ b) (ap (hole_of h.place) m ∙ hole_whole h some) (hole_none (max h.place (p + s)) (end_of h) (omega arith))
+    let m : min (hole_end h) p ≡ hole_end h = omega arith in
+    ap₂ (λ (a b : List Hole). a ++ b) (ap (hole_of h.place) m ∙ hole_whole h some) (hole_none (max h.place (p + s)) (hole_end h) (omega arith))
 
 leaves_after : (p s : ℕ) (h : Hole) → 0 < h.len → p + s ≤ h.place → rest_of p s h ≡ h ∷ []
 leaves_after p s h some le =
     let m : max h.place (p + s) ≡ h.place = omega arith in
-    ap₂ (λ (a b : List Hole). a ++ b) (hole_none h.place (min (end_of h) p) (omega arith)) (ap (λ k. hole_of k (end_of h)) m ∙ hole_whole h some)
+    ap₂ (λ (a b : List Hole). a ++ b) (hole_none h.place (min (hole_end h) p) (omega arith)) (ap (λ k. hole_of k (hole_end h)) m ∙ hole_whole h some)
 
-without_after : (from n p s : ℕ) (hs : List Hole) → AreRuns from n hs → p + s ≤ from → without p s hs ≡ hs
+without_after : (from n p s : ℕ) (hs : List Hole) → AreRuns from n hs → p + s ≤ from → holes_without p s hs ≡ hs
 without_after from n p s [] runs le = refl
 without_after from n p s (h ∷ hs) runs le =
-    rw (leaves_after p s h runs.1 (omega arith)) (ap (λ r. h ∷ r) (without_after (end_of h + 1) n p s hs runs.3 (omega arith)))
+    rw (leaves_after p s h runs.1 (omega arith)) (ap (λ r. h ∷ r) (without_after (hole_end h + 1) n p s hs runs.3 (omega arith)))
 
 -- what a range leaves of all holes is what it leaves of the hole in which it lies
-pub without_at : (from n p s : ℕ) (pre : List Hole) (h : Hole) (post : List Hole) → AreRuns from n (pre ++ h ∷ post) → h.place ≤ p → p + s ≤ end_of h
-    → without p s (pre ++ h ∷ post) ≡ pre ++ (rest_of p s h ++ post)
+pub without_at : (from n p s : ℕ) (pre : List Hole) (h : Hole) (post : List Hole) → AreRuns from n (pre ++ h ∷ post) → h.place ≤ p → p + s ≤ hole_end h
+    → holes_without p s (pre ++ h ∷ post) ≡ pre ++ (rest_of p s h ++ post)
 without_at from n p s [] h post runs low high =
-    ap (λ r. rest_of p s h ++ r) (without_after (end_of h + 1) n p s post runs.3 (omega arith))
+    ap (λ r. rest_of p s h ++ r) (without_after (hole_end h + 1) n p s post runs.3 (omega arith))
 without_at from n p s (x ∷ xs) h post runs low high =
-    let far = (runs_split (end_of x + 1) n xs (h ∷ post) runs.3) in
-    let reach = next_le (end_of x + 1) n xs far.0 in
-    rw (leaves_before p s x runs.1 (omega (arith, far.1.0))) (ap (λ r. x ∷ r) (without_at (end_of x + 1) n p s xs h post runs.3 low high))
+    let far = (runs_split (hole_end x + 1) n xs (h ∷ post) runs.3) in
+    let reach = next_le (hole_end x + 1) n xs far.0 in
+    rw (leaves_before p s x runs.1 (omega (arith, far.1.0))) (ap (λ r. x ∷ r) (without_at (hole_end x + 1) n p s xs h post runs.3 low high))
 
 hole_runs : (from to n : ℕ) (post : List Hole) → from ≤ to → to ≤ n → AreRuns (to + 1) n post → AreRuns from n (hole_of from to ++ post)
 hole_runs from to n post ord le runs =
@@ -79,20 +79,20 @@ hole_runs from to n post ord le runs =
       | inr ge ↦ rw (hole_none from to ge) (earlier (to + 1) from n post runs (omega arith))
     ]
 
-pub rest_runs : (from n p s : ℕ) (h : Hole) (post : List Hole) → AreRuns from n (h ∷ post) → 0 < s → h.place ≤ p → p + s ≤ end_of h → AreRuns from n (rest_of p s h ++ post)
+pub rest_runs : (from n p s : ℕ) (h : Hole) (post : List Hole) → AreRuns from n (h ∷ post) → 0 < s → h.place ≤ p → p + s ≤ hole_end h → AreRuns from n (rest_of p s h ++ post)
 rest_runs from n p s h post runs some low high =
-    let m : min (end_of h) p ≡ p = omega arith in
+    let m : min (hole_end h) p ≡ p = omega arith in
     let x : max h.place (p + s) ≡ p + s = omega arith in
-    let e : rest_of p s h ++ post ≡ hole_of h.place p ++ (hole_of (p + s) (end_of h) ++ post) =
-    ap₂ (λ a b. (hole_of h.place a ++ hole_of b (end_of h)) ++ post) m x ∙ append_assoc (hole_of h.place p) (hole_of (p + s) (end_of h)) post in
-    let right = hole_runs (p + s) (end_of h) n post high runs.2 runs.3 in
-    let both = hole_runs h.place p n (hole_of (p + s) (end_of h) ++ post) low (omega arith) (earlier (p + s) (p + 1) n _ right (omega arith)) in
+    let e : rest_of p s h ++ post ≡ hole_of h.place p ++ (hole_of (p + s) (hole_end h) ++ post) =
+    ap₂ (λ a b. (hole_of h.place a ++ hole_of b (hole_end h)) ++ post) m x ∙ append_assoc (hole_of h.place p) (hole_of (p + s) (hole_end h)) post in
+    let right = hole_runs (p + s) (hole_end h) n post high runs.2 runs.3 in
+    let both = hole_runs h.place p n (hole_of (p + s) (hole_end h) ++ post) low (omega arith) (earlier (p + s) (p + 1) n _ right (omega arith)) in
     subst (AreRuns from n) (sym e) (earlier h.place from n _ both runs.0)
 
-pub end_below : (from n : ℕ) (hs : List Hole) (i : ℕ) (d : Hole) → AreRuns from n hs → i < length hs → end_of (get_or hs i d) ≤ n
+pub end_below : (from n : ℕ) (hs : List Hole) (i : ℕ) (d : Hole) → AreRuns from n hs → i < length hs → hole_end (get_or hs i d) ≤ n
 end_below from n [] i d runs inside = absurd (omega arith)
 end_below from n (h ∷ hs) zero d runs inside = runs.2
-end_below from n (h ∷ hs) (suc i) d runs inside = end_below (end_of h + 1) n hs i d runs.3 (omega arith)
+end_below from n (h ∷ hs) (suc i) d runs inside = end_below (hole_end h + 1) n hs i d runs.3 (omega arith)
 
 -- two different multiples of y are at least y apart
 apart : (y a b q m : ℕ) → q ≡ y * a → m ≡ y * b → q < m → q + y ≤ m
@@ -110,7 +110,7 @@ least_multiple x y q m some even near from aligned =
       | inr more ↦ more
     ]
 
-pub runs_without : (from n p s : ℕ) (pre : List Hole) (h : Hole) (post : List Hole) → AreRuns from n (pre ++ h ∷ post) → 0 < s → h.place ≤ p → p + s ≤ end_of h
+pub runs_without : (from n p s : ℕ) (pre : List Hole) (h : Hole) (post : List Hole) → AreRuns from n (pre ++ h ∷ post) → 0 < s → h.place ≤ p → p + s ≤ hole_end h
     → AreRuns from n (pre ++ (rest_of p s h ++ post))
 runs_without from n p s pre h post runs some low high =
     let parts = runs_split from n pre (h ∷ post) runs in
@@ -132,7 +132,7 @@ multiple x y some =
           )
     ]
 
-pub least_in : (h : Hole) (s y : ℕ) → 0 < y → next_multiple_of h.place y ≤ end_of h → s ≤ end_of h - next_multiple_of h.place y
+pub least_in : (h : Hole) (s y : ℕ) → 0 < y → next_multiple_of h.place y ≤ hole_end h → s ≤ hole_end h - next_multiple_of h.place y
     → IsLeastIn h s y (next_multiple_of h.place y)
 least_in h s y some low room =
     let m = multiple h.place y some in
@@ -142,7 +142,7 @@ least_in h s y some low room =
       least = λ q even here. least_multiple h.place y q _ some m.0 m.1 (has_facts q s h here).0 even;
     }
 
-pub none_in : (h : Hole) (s y : ℕ) → 0 < s → 0 < y → end_of h - next_multiple_of h.place y < s → NoneIn h s y
+pub none_in : (h : Hole) (s y : ℕ) → 0 < s → 0 < y → hole_end h - next_multiple_of h.place y < s → NoneIn h s y
 none_in h s y size some short q even =
     elim (cases_Bool (has_range q s h)) [
       | inl here ↦ (
@@ -157,11 +157,11 @@ pub got : (xs : List Hole) (i : ℕ) (h d : Hole) → slice_get xs i ≡ Some h 
 got xs i h d e = (get_or_from_slice_get xs i h d e, slice_get_within xs i h e)
 
 -- what a range leaves of the hole in which it lies
-rest_is : (p s : ℕ) (h : Hole) → h.place ≤ p → p + s ≤ end_of h → rest_of p s h ≡ hole_of h.place p ++ hole_of (p + s) (end_of h)
+rest_is : (p s : ℕ) (h : Hole) → h.place ≤ p → p + s ≤ hole_end h → rest_of p s h ≡ hole_of h.place p ++ hole_of (p + s) (hole_end h)
 rest_is p s h low high =
-    let m : min (end_of h) p ≡ p = omega arith in
+    let m : min (hole_end h) p ≡ p = omega arith in
     let x : max h.place (p + s) ≡ p + s = omega arith in
-    ap₂ (λ a b. hole_of h.place a ++ hole_of b (end_of h)) m x
+    ap₂ (λ a b. hole_of h.place a ++ hole_of b (hole_end h)) m x
 
 or_second : (a b : Bool) → a ≡ false → (a || b) ≡ true → b ≡ true
 or_second true b e f = clash refl e
@@ -172,31 +172,31 @@ drop_got [] i h e = cc
 drop_got (x ∷ xs) zero h e = cc
 drop_got (x ∷ xs) (suc i) h e = drop_got xs i h e
 
-module _ (xs : List Hole) (i p s : ℕ) (h : Hole) (inside : i < length xs) (low : h.place ≤ p) (high : p + s ≤ end_of h) where
+module _ (xs : List Hole) (i p s : ℕ) (h : Hole) (inside : i < length xs) (low : h.place ≤ p) (high : p + s ≤ hole_end h) where
   abbrev left : Hole
   left = record { place = h.place; len = p - h.place }
 
   abbrev right : Hole
-  right = record { place = p + s; len = end_of h - (p + s) }
+  right = record { place = p + s; len = hole_end h - (p + s) }
 
   abbrev after_cut : List Hole
   after_cut = take i xs ++ (rest_of p s h ++ drop (i + 1) xs)
 
-  to_rest : (ls rs : List Hole) → hole_of h.place p ≡ ls → hole_of (p + s) (end_of h) ≡ rs → take i xs ++ (ls ++ rs ++ drop (suc i) xs) ≡ after_cut
+  to_rest : (ls rs : List Hole) → hole_of h.place p ≡ ls → hole_of (p + s) (hole_end h) ≡ rs → take i xs ++ (ls ++ rs ++ drop (suc i) xs) ≡ after_cut
   to_rest ls rs l r =
       ap (λ m. take i xs ++ (m ++ drop (suc i) xs)) (sym (rest_is p s h low high ∙ ap₂ (λ (a b : List Hole). a ++ b) l r))
       ∙ (let e : suc i ≡ i + 1 = omega arith in ap (λ k. take i xs ++ (rest_of p s h ++ drop k xs)) e)
 
-  pub cut_none : p - h.place ≡ 0 → end_of h - (p + s) ≡ 0 → take i xs ++ drop (suc i) xs ≡ after_cut
-  cut_none l r = to_rest [] [] (hole_none h.place p (omega arith)) (hole_none (p + s) (end_of h) (omega arith))
+  pub cut_none : p - h.place ≡ 0 → hole_end h - (p + s) ≡ 0 → take i xs ++ drop (suc i) xs ≡ after_cut
+  cut_none l r = to_rest [] [] (hole_none h.place p (omega arith)) (hole_none (p + s) (hole_end h) (omega arith))
 
-  pub cut_left : p - h.place ≢ 0 → end_of h - (p + s) ≡ 0 → set xs i left ≡ after_cut
-  cut_left l r = set_split xs i left inside ∙ to_rest (left ∷ []) [] (hole_some h.place p (omega arith)) (hole_none (p + s) (end_of h) (omega arith))
+  pub cut_left : p - h.place ≢ 0 → hole_end h - (p + s) ≡ 0 → set xs i left ≡ after_cut
+  cut_left l r = set_split xs i left inside ∙ to_rest (left ∷ []) [] (hole_some h.place p (omega arith)) (hole_none (p + s) (hole_end h) (omega arith))
 
-  pub cut_right : p - h.place ≡ 0 → end_of h - (p + s) ≢ 0 → set xs i right ≡ after_cut
-  cut_right l r = set_split xs i right inside ∙ to_rest [] (right ∷ []) (hole_none h.place p (omega arith)) (hole_some (p + s) (end_of h) (omega arith))
+  pub cut_right : p - h.place ≡ 0 → hole_end h - (p + s) ≢ 0 → set xs i right ≡ after_cut
+  cut_right l r = set_split xs i right inside ∙ to_rest [] (right ∷ []) (hole_none h.place p (omega arith)) (hole_some (p + s) (hole_end h) (omega arith))
 
-  pub cut_both : p - h.place ≢ 0 → end_of h - (p + s) ≢ 0 → slice_get xs i ≡ Some h → set (take i xs ++ left ∷ drop i xs) (i + 1) right ≡ after_cut
+  pub cut_both : p - h.place ≢ 0 → hole_end h - (p + s) ≢ 0 → slice_get xs i ≡ Some h → set (take i xs ++ left ∷ drop i xs) (i + 1) right ≡ after_cut
   cut_both l r is =
       let here : drop i xs ≡ h ∷ drop (suc i) xs = drop_got xs i h is in
       let pre : length (take i xs ++ left ∷ []) ≡ i + 1 = length_push (take i xs) left ∙ ap (λ n. n + 1) (length-take-le i xs (omega arith)) in
@@ -204,18 +204,18 @@ module _ (xs : List Hole) (i p s : ℕ) (h : Hole) (inside : i < length xs) (low
       ∙ ap (λ l. set l (i + 1) right) (sym (append_assoc (take i xs) (left ∷ []) (h ∷ drop (suc i) xs)))
       ∙ set_at (take i xs ++ left ∷ []) h (drop (suc i) xs) right (i + 1) pre
       ∙ append_assoc (take i xs) (left ∷ []) (right ∷ drop (suc i) xs)
-      ∙ to_rest (left ∷ []) (right ∷ []) (hole_some h.place p (omega arith)) (hole_some (p + s) (end_of h) (omega arith))
+      ∙ to_rest (left ∷ []) (right ∷ []) (hole_some h.place p (omega arith)) (hole_some (p + s) (hole_end h) (omega arith))
 
 -- the element that was read is the hole in which the range fits
 pub read_hole : (xs : List Hole) (i p s : ℕ) (r : Hole) → FitsAt xs i p s → r ≡ get_or xs i r → AreRuns 0 4294967296 xs
-    → (r.place ≤ p) × (p + s ≤ end_of r) × (end_of r ≤ 4294967296) × ((h : Hole) → slice_get xs i ≡ Some h → r ≡ h)
+    → (r.place ≤ p) × (p + s ≤ hole_end r) × (hole_end r ≤ 4294967296) × ((h : Hole) → slice_get xs i ≡ Some h → r ≡ h)
 read_hole xs i p s r f is runs =
     let same : (h : Hole) → slice_get xs i ≡ Some h → r ≡ h = λ h e. is ∙ (got xs i h r e).0 in
     let facts = has_facts p s f.hole f.fits in
     let below = end_below 0 4294967296 xs i r runs f.inside in
-    subst (λ (z : Hole). (z.place ≤ p) × (p + s ≤ end_of z) × (end_of z ≤ 4294967296) × ((h : Hole) → slice_get xs i ≡ Some h → z ≡ h))
+    subst (λ (z : Hole). (z.place ≤ p) × (p + s ≤ hole_end z) × (hole_end z ≤ 4294967296) × ((h : Hole) → slice_get xs i ≡ Some h → z ≡ h))
     (sym (same f.hole f.is))
-    (facts.0, facts.1, subst (λ (z : Hole). end_of z ≤ 4294967296) ((got xs i f.hole r f.is).0) below, λ h e. sym (same f.hole f.is) ∙ same h e)
+    (facts.0, facts.1, subst (λ (z : Hole). hole_end z ≤ 4294967296) ((got xs i f.hole r f.is).0) below, λ h e. sym (same f.hole f.is) ∙ same h e)
 
 pub fits_any : (xs : List Hole) (i : ℕ) (h : Hole) (size place : ℕ) → slice_get xs i ≡ Some h → has_range place size h ≡ true → is_hole_range xs place size ≡ true
 fits_any [] i h size place is fits = cc
@@ -230,7 +230,7 @@ begins from n [] q size runs fits = clash fits refl
 begins from n (x ∷ xs) q size runs fits =
     elim (or_cases (has_range q size x) _ fits) [
       | inl here ↦ (let facts = has_facts q size x here in let low = runs.0 in omega (arith, facts.0))
-      | inr later ↦ (let rest = begins (end_of x + 1) n xs q size runs.3 later in let low = runs.0 in omega (arith, rest))
+      | inr later ↦ (let rest = begins (hole_end x + 1) n xs q size runs.3 later in let low = runs.0 in omega (arith, rest))
     ]
 
 least_of : (from n : ℕ) (xs : List Hole) (i : ℕ) (h : Hole) (size align place q : ℕ) → AreRuns from n xs → slice_get xs i ≡ Some h
@@ -241,14 +241,14 @@ least_of from n (x ∷ xs) zero h size align place q runs is here none even fits
     elim (or_cases (has_range q size x) _ fits) [
       | inl mine ↦ here.least q even (ap (has_range q size) (sym e) ∙ mine)
       | inr later ↦ (
-          let rest = begins (end_of x + 1) n xs q size runs.3 later in
+          let rest = begins (hole_end x + 1) n xs q size runs.3 later in
           let facts = has_facts place size h here.fits in
-          let same = ap end_of e in omega (arith, rest, facts.1, same)
+          let same = ap hole_end e in omega (arith, rest, facts.1, same)
           )
     ]
 least_of from n (x ∷ xs) (suc i) h size align place q runs is here none even fits =
     let apart = or_parts (has_range q size x) (is_hole_range (take i xs) q size) none in
-    least_of (end_of x + 1) n xs i h size align place q runs.3 is here apart.1 even (or_second (has_range q size x) _ apart.0 fits)
+    least_of (hole_end x + 1) n xs i h size align place q runs.3 is here apart.1 even (or_second (has_range q size x) _ apart.0 fits)
 
 -- the first hole with a fit has the least one of all, since the holes stand in order
 pub first_is_least : (from n : ℕ) (xs : List Hole) (i : ℕ) (h : Hole) (size align place : ℕ) → AreRuns from n xs → slice_get xs i ≡ Some h
@@ -261,7 +261,7 @@ first_is_least from n xs i h size align place runs is here none some = record {
 
 pub widen : (from n m : ℕ) (hs : List Hole) → AreRuns from n hs → n ≤ m → AreRuns from m hs
 widen from n m [] runs le = tt
-widen from n m (h ∷ hs) runs le = (runs.0, runs.1, omega arith, widen (end_of h + 1) n m hs runs.3 le)
+widen from n m (h ∷ hs) runs le = (runs.0, runs.1, omega arith, widen (hole_end h + 1) n m hs runs.3 le)
 
 free_hole : (a b k : ℕ) → is_free (hole_of a b) k ≡ (leb a k && ltb k b)
 free_hole a b k =
@@ -272,8 +272,8 @@ free_hole a b k =
 
 free_rest : (p s : ℕ) (h : Hole) (k : ℕ) → is_free (rest_of p s h) k ≡ (has_range k 1 h && not (in_range p s k))
 free_rest p s h k =
-    list_any-append (has_range k 1) (hole_of h.place (min (end_of h) p)) (hole_of (max h.place (p + s)) (end_of h))
-    ∙ ap₂ (λ a b. a || b) (free_hole h.place (min (end_of h) p) k) (free_hole (max h.place (p + s)) (end_of h) k)
+    list_any-append (has_range k 1) (hole_of h.place (min (hole_end h) p)) (hole_of (max h.place (p + s)) (hole_end h))
+    ∙ ap₂ (λ a b. a || b) (free_hole h.place (min (hole_end h) p) k) (free_hole (max h.place (p + s)) (hole_end h) k)
     ∙ grind (arith, nat_tests)
 
 spread : (a b n : Bool) → ((a && n) || (b && n)) ≡ ((a || b) && n)
@@ -282,16 +282,16 @@ spread true true false = refl
 spread true false false = refl
 spread false b n = refl
 
-free_without : (p s : ℕ) (xs : List Hole) (k : ℕ) → is_free (without p s xs) k ≡ (is_free xs k && not (in_range p s k))
+free_without : (p s : ℕ) (xs : List Hole) (k : ℕ) → is_free (holes_without p s xs) k ≡ (is_free xs k && not (in_range p s k))
 free_without p s [] k = refl
 free_without p s (x ∷ xs) k =
-    list_any-append (has_range k 1) (rest_of p s x) (without p s xs)
+    list_any-append (has_range k 1) (rest_of p s x) (holes_without p s xs)
     ∙ ap₂ (λ a b. a || b) (free_rest p s x k) (free_without p s xs k)
     ∙ spread (has_range k 1 x) (is_free xs k) (not (in_range p s k))
 
 -- the holes after a range was cut out of the one in which it lies
 pub record IsCut (n p s : ℕ) (xs ys : List Hole) : Type 0 where
-  pub rest : ys ≡ without p s xs
+  pub rest : ys ≡ holes_without p s xs
   pub runs : AreRuns 0 n ys
   pub free : (k : ℕ) → is_free ys k ≡ (is_free xs k && not (in_range p s k))
 
@@ -303,7 +303,7 @@ cut_is n p s i xs ys runs some f is =
     let old : xs ≡ take i xs ++ (f.hole ∷ drop (suc i) xs) = sym (take-append-drop i xs) ∙ ap (λ d. take i xs ++ d) (drop_got xs i f.hole f.is) in
     let new : ys ≡ take i xs ++ (rest_of p s f.hole ++ drop (suc i) xs) = is f.hole f.is ∙ ap (λ j. take i xs ++ (rest_of p s f.hole ++ drop j xs)) up in
     let here = subst (AreRuns 0 n) old runs in
-    let rest : ys ≡ without p s xs = new ∙ sym (ap (without p s) old ∙ without_at 0 n p s (take i xs) f.hole (drop (suc i) xs) here facts.0 facts.1) in
+    let rest : ys ≡ holes_without p s xs = new ∙ sym (ap (holes_without p s) old ∙ without_at 0 n p s (take i xs) f.hole (drop (suc i) xs) here facts.0 facts.1) in
     record {
       rest = rest;
       runs = subst (AreRuns 0 n) (sym new) (runs_without 0 n p s (take i xs) f.hole (drop (suc i) xs) here some facts.0 facts.1);

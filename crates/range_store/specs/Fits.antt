@@ -1,7 +1,7 @@
 -- Where in a list of holes a range fits, as the private functions say it.
 use Rattle.std.specs.Prelude.{◌≡◌, ◌≢◌, ℕ, ◌-◌, ◌%◌, ◌<◌, ◌≤◌, true, false, List, length, Option, Some, MatchOption, slice_get}
 use Rattle.range_store.specs.declared.holes.Hole.{Hole}
-use Rattle.range_store.specs.Regions.{has_range, end_of}
+use Rattle.range_store.specs.Regions.{has_range, hole_end}
 
 -- the range lies in the hole at that place of the list
 pub record FitsAt (holes : List Hole) (at place size : ℕ) : Type 0 where
@@ -25,6 +25,6 @@ pub record AreNeighbours (holes : List Hole) (place end at : ℕ) (left right : 
   pub within : at ≤ length holes
   pub before : (k : ℕ) (h : Hole) → k < at → slice_get holes k ≡ Some h → h.place < place
   pub first : (h : Hole) → slice_get holes at ≡ Some h → place ≤ h.place
-  pub left_is : MatchOption left ((h : Hole) → 0 < at → slice_get holes (at - 1) ≡ Some h → end_of h ≢ place)
-      (λ h. (0 < at) × (slice_get holes (at - 1) ≡ Some h) × (end_of h ≡ place))
+  pub left_is : MatchOption left ((h : Hole) → 0 < at → slice_get holes (at - 1) ≡ Some h → hole_end h ≢ place)
+      (λ h. (0 < at) × (slice_get holes (at - 1) ≡ Some h) × (hole_end h ≡ place))
   pub right_is : MatchOption right ((h : Hole) → slice_get holes at ≡ Some h → h.place ≢ end) (λ h. (slice_get holes at ≡ Some h) × (h.place ≡ end))

@@ -4,12 +4,12 @@ use Rattle.std.specs.List.{list_any, flat_map}
 use Rattle.range_store.specs.declared.holes.Hole.{Hole}
 
 -- the place after a hole's last
-abbrev pub end_of : Hole → ℕ
-end_of h = h.place + h.len
+abbrev pub hole_end : Hole → ℕ
+hole_end h = h.place + h.len
 
 -- the range of size places from a place on lies in the hole
 abbrev pub has_range : ℕ → ℕ → Hole → Bool
-has_range place size h = nat_le h.place place && nat_le (place + size) (end_of h)
+has_range place size h = nat_le h.place place && nat_le (place + size) (hole_end h)
 
 -- the range lies in one hole
 abbrev pub is_hole_range : List Hole → ℕ → ℕ → Bool
@@ -27,7 +27,7 @@ in_range place size k = nat_le place k && nat_lt k (place + size)
 -- place after the one before it.
 abbrev pub AreRuns : ℕ → ℕ → List Hole → Type 0
 AreRuns from n [] = Unit {0}
-AreRuns from n (h ∷ hs) = (from ≤ h.place) × (0 < h.len) × (end_of h ≤ n) × AreRuns (end_of h + 1) n hs
+AreRuns from n (h ∷ hs) = (from ≤ h.place) × (0 < h.len) × (hole_end h ≤ n) × AreRuns (hole_end h + 1) n hs
 
 -- the places from one up to another, as a hole, or as none where there are none
 abbrev pub hole_of : ℕ → ℕ → List Hole
@@ -35,11 +35,11 @@ hole_of from to = if nat_lt from to then record { place = from; len = to - from 
 
 -- what a range leaves of a hole: what lies before the range, and what lies after it
 abbrev pub rest_of : ℕ → ℕ → Hole → List Hole
-rest_of place size h = hole_of h.place (min (end_of h) place) ++ hole_of (max h.place (place + size)) (end_of h)
+rest_of place size h = hole_of h.place (min (hole_end h) place) ++ hole_of (max h.place (place + size)) (hole_end h)
 
 -- the holes that a range leaves
-abbrev pub without : ℕ → ℕ → List Hole → List Hole
-without place size holes = flat_map (rest_of place size) holes
+abbrev pub holes_without : ℕ → ℕ → List Hole → List Hole
+holes_without place size holes = flat_map (rest_of place size) holes
 
 -- The place is the least multiple of align from which a range of that size lies in a hole. So it lies in the first
 -- hole that has such a place, and is the least there.

@@ -1,41 +1,46 @@
 // Which hole serves a range, and what the range leaves of it.
 ghost use Rattle.std.specs.Prelude.{◌≡◌, ℕ, ◌+◌, ◌%◌, ◌<◌, ◌≤◌, ◌++◌, ◌∷◌, true, false, IfSome, IfNone, OnOk, OnErr, Some, slice_get, take, drop};
 ghost use Rattle.std.specs.Prelude.{vec_len, vec_capacity};
-ghost use Rattle.range_store.specs.Regions.{AreRuns, IsFirstFit, HasNoFit, has_range, rest_of, is_hole_range, end_of};
+ghost use Rattle.range_store.specs.Regions.{AreRuns, IsFirstFit, HasNoFit, has_range, rest_of, is_hole_range, hole_end};
 ghost use Rattle.range_store.specs.Fits.{FitsAt, IsLeastIn, NoneIn};
 ghost use Rattle.range_store.specs.declared.holes.Hole.{Hole};
 
 use crate::holes::Hole;
 use spin_base::Memory;
 
-/// The first hole that has a range of `size` places from a multiple of `align` on, and the least such place in it.
-pub(crate) fn first_fit(holes: &[Hole], size: u64, align: u64) -> Option<(usize, u64)>
-    requires some { 0 < size }
-    requires step { 0 < align }
+/// What is asked for: so many places, from a multiple of a number on.
+#[derive(Clone, Copy)]
+pub(crate) struct Claim {
+    pub size: u64,
+    pub align: u64,
+    ghost some: { 0 < size },
+    ghost step: { 0 < align },
+}
+
+/// The first hole that has a range as claimed, and the least place in it from which one lies there.
+pub(crate) fn first_fit(holes: &[Hole], claim: Claim) -> Option<(usize, u64)>
     requires runs { AreRuns 0 4294967296 holes.now }
-    ensures first { IfSome result (λ r. IsFirstFit holes.now size align r.1) }
-    ensures at { IfSome result (λ r. FitsAt holes.now r.0 r.1 size) }
-    ensures none { IfNone result (HasNoFit holes.now size align) }
+    ensures first { IfSome result (λ r. IsFirstFit holes.now claim.size claim.align r.1) }
+    ensures at { IfSome result (λ r. FitsAt holes.now r.0 r.1 claim.size) }
+    ensures none { IfNone result (HasNoFit holes.now claim.size claim.align) }
 {
     for (at, hole) in holes.iter().enumerate() {
-        if let Some(place) = fit_in(hole, size, align) {
+        if let Some(place) = fit_in(hole, claim) {
             return Some((at, place));
         }
     }
     None
 }
 
-/// The least multiple of `align` from which a range of `size` places lies in the hole.
-fn fit_in(hole: &Hole, size: u64, align: u64) -> Option<u64>
-    requires some { 0 < size }
-    requires step { 0 < align }
-    requires below { end_of hole.now ≤ 4294967296 }
-    ensures least { IfSome result (λ place. IsLeastIn hole.now size align place) }
-    ensures none { IfNone result (NoneIn hole.now size align) }
+/// The least place from which a range as claimed lies in the hole.
+fn fit_in(hole: &Hole, claim: Claim) -> Option<u64>
+    requires below { hole_end hole.now ≤ 4294967296 }
+    ensures least { IfSome result (λ place. IsLeastIn hole.now claim.size claim.align place) }
+    ensures none { IfNone result (NoneIn hole.now claim.size claim.align) }
 {
     let end = hole.place + hole.len;
-    let place = hole.place.checked_next_multiple_of(align)?;
-    if place <= end && size <= end - place {
+    let place = hole.place.checked_next_multiple_of(claim.align)?;
+    if place <= end && claim.size <= end - place {
         Some(place)
     } else {
         None
@@ -61,7 +66,8 @@ pub(crate) fn hole_with(holes: &[Hole], place: u64, size: u64) -> Option<usize>
 pub(crate) fn cut_out(holes: &mut Vec<Hole>, at: usize, place: u64, size: u64) -> Result<(), Memory>
     requires fits { FitsAt holes.old.items at place size }
     requires runs { AreRuns 0 4294967296 holes.old.items }
-    ensures ok { OnOk result ((h : Hole) → slice_get holes.old.items at ≡ Some h → holes.new.items ≡ take at holes.old.items ++ (rest_of place size h ++ drop (at + 1) holes.old.items)) }
+    ensures ok { OnOk result ((h : Hole) → slice_get holes.old.items at ≡ Some h → holes.new.items
+        ≡ take at holes.old.items ++ (rest_of place size h ++ drop (at + 1) holes.old.items)) }
     ensures err { OnErr result (holes.new.items ≡ holes.old.items) }
     ensures len { vec_len holes.new ≤ vec_len holes.old + 1 }
     ensures capacity { vec_capacity holes.old ≤ vec_capacity holes.new }

@@ -1,24 +1,35 @@
 // A range put back among the holes.
 ghost use Rattle.std.specs.Prelude.{◌≡◌, ◌≢◌, ℕ, ◌+◌, ◌-◌, ◌<◌, ◌≤◌, ◌||◌, true, false, Some, IfSome, IfNone, length, slice_get};
 ghost use Rattle.std.specs.Prelude.{vec_len, vec_capacity};
-ghost use Rattle.range_store.specs.Regions.{AreRuns, is_free, in_range, end_of};
+ghost use Rattle.range_store.specs.Regions.{AreRuns, is_free, in_range, hole_end};
 ghost use Rattle.range_store.specs.Fits.{AreNeighbours};
 ghost use Rattle.range_store.specs.declared.holes.Hole.{Hole};
 
 use crate::holes::Hole;
 
+/// A range that comes back.
+#[derive(Clone, Copy)]
+pub(crate) struct Span {
+    pub place: u64,
+    pub size: u64,
+    ghost some: { 0 < size },
+    ghost within: { place + size ≤ 4294967296 },
+}
+
 /// Puts a range back, and merges it with the holes that end where it begins and begin where it ends.
-pub(crate) fn put_back(holes: &mut Vec<Hole>, place: u64, size: u64)
-    requires some { 0 < size }
-    requires within { place + size ≤ 4294967296 }
+pub(crate) fn put_back(holes: &mut Vec<Hole>, span: Span)
     requires runs { AreRuns 0 4294967296 holes.old.items }
-    requires taken { (k : ℕ) → in_range place size k ≡ true → is_free holes.old.items k ≡ false }
+    requires taken { (k : ℕ) → in_range span.place span.size k ≡ true
+        → is_free holes.old.items k ≡ false }
     requires room { vec_len holes.old < vec_capacity holes.old }
-    ensures free { (k : ℕ) → is_free holes.new.items k ≡ (is_free holes.old.items k || in_range place size k) }
-    ensures runs { (n : ℕ) → AreRuns 0 n holes.old.items → place + size ≤ n → AreRuns 0 n holes.new.items }
+    ensures free { (k : ℕ) → is_free holes.new.items k
+        ≡ (is_free holes.old.items k || in_range span.place span.size k) }
+    ensures runs { (n : ℕ) → AreRuns 0 n holes.old.items → span.place + span.size ≤ n
+        → AreRuns 0 n holes.new.items }
     ensures len { vec_len holes.new ≤ vec_len holes.old + 1 }
     ensures capacity { vec_capacity holes.old ≤ vec_capacity holes.new }
 {
+    let Span { place, size } = span;
     let (at, left, right) = neighbours(holes.as_slice(), place, place + size);
     match (left, right) {
         (Some(left), Some(right)) => {
@@ -62,7 +73,8 @@ fn neighbours(holes: &[Hole], place: u64, end: u64) -> (usize, Option<Hole>, Opt
 /// How many holes begin before a place.
 fn first_from(holes: &[Hole], place: u64) -> usize
     ensures within { result ≤ length holes.now }
-    ensures before { (k : ℕ) (h : Hole) → k < result → slice_get holes.now k ≡ Some h → h.place < place }
+    ensures before { (k : ℕ) (h : Hole) → k < result → slice_get holes.now k ≡ Some h
+        → h.place < place }
     ensures first { (h : Hole) → slice_get holes.now result ≡ Some h → place ≤ h.place }
 {
     for (at, hole) in holes.iter().enumerate() {
@@ -76,9 +88,12 @@ fn first_from(holes: &[Hole], place: u64) -> usize
 /// The hole before one of the list, if it ends at a place.
 fn hole_that_ends(holes: &[Hole], at: usize, place: u64) -> Option<Hole>
     requires at { at ≤ length holes.now }
-    requires before { (k : ℕ) (h : Hole) → k < at → slice_get holes.now k ≡ Some h → h.place < place }
-    ensures some { IfSome result (λ h. (0 < at) × (slice_get holes.now (at - 1) ≡ Some h) × (end_of h ≡ place)) }
-    ensures none { IfNone result ((h : Hole) → 0 < at → slice_get holes.now (at - 1) ≡ Some h → end_of h ≢ place) }
+    requires before { (k : ℕ) (h : Hole) → k < at → slice_get holes.now k ≡ Some h
+        → h.place < place }
+    ensures some { IfSome result (λ h. (0 < at) × (slice_get holes.now (at - 1) ≡ Some h)
+        × (hole_end h ≡ place)) }
+    ensures none { IfNone result ((h : Hole) → 0 < at → slice_get holes.now (at - 1) ≡ Some h
+        → hole_end h ≢ place) }
 {
     if at == 0 {
         return None;

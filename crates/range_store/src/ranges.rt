@@ -1,9 +1,9 @@
 // The region.
 ghost use Rattle.std.specs.Prelude.{◌≡◌, ℕ, ◌+◌, ◌^◌, ◌<◌, ◌≤◌, ◌&&◌, ◌||◌, not, true, false, IfOk, IfSome, IfNone, OnOk, OnErr, length};
-ghost use Rattle.range_store.specs.Regions.{AreRuns, IsFirstFit, HasNoFit, without, hole_of, is_free, is_hole_range, in_range};
+ghost use Rattle.range_store.specs.Regions.{AreRuns, IsFirstFit, HasNoFit, holes_without, hole_of, is_free, is_hole_range, in_range};
 
-use crate::cuts::{cut_out, first_fit, hole_with};
-use crate::gives::put_back;
+use crate::cuts::{Claim, cut_out, first_fit, hole_with};
+use crate::gives::{Span, put_back};
 use crate::holes::Hole;
 use spin_base::Memory;
 use std::alloc::Global;
@@ -25,7 +25,11 @@ impl Model for Ranges {
 
     ghost Value = { Region };
 
-    ghost view = { λ r. record { size = r.size; holes = r.holes.items; spare = vec_capacity r.holes - vec_len r.holes } };
+    ghost view = { λ r. record {
+      size = r.size;
+      holes = r.holes.items;
+      spare = vec_capacity r.holes - vec_len r.holes;
+    } };
 
     ghost invariant = { λ r. (r.size ≤ 2 ^ 32) × AreRuns 0 r.size r.holes.items };
 }
@@ -65,16 +69,21 @@ impl Ranges {
     pub fn take(&mut self, size: u64, align: u64) -> Result<Option<u64>, Memory>
         requires some { 0 < size }
         requires step { 0 < align }
-        ensures found { IfOk result (λ o. IfSome o (λ place. IsFirstFit self.old.holes size align place)) }
-        ensures taken { IfOk result (λ o. IfSome o (λ place. self.new.holes ≡ without place size self.old.holes)) }
-        ensures none { IfOk result (λ o. IfNone o (HasNoFit self.old.holes size align × (self.new ≡ self.old))) }
+        ensures found { IfOk result (λ o. IfSome o
+            (λ place. IsFirstFit self.old.holes size align place)) }
+        ensures taken { IfOk result (λ o. IfSome o
+            (λ place. self.new.holes ≡ holes_without place size self.old.holes)) }
+        ensures none { IfOk result (λ o. IfNone o
+            (HasNoFit self.old.holes size align × (self.new ≡ self.old))) }
         ensures refused { OnErr result (self.new.holes ≡ self.old.holes) }
-        ensures free { IfOk result (λ o. IfSome o (λ place. (k : ℕ) → is_free self.new.holes k ≡ (is_free self.old.holes k && not (in_range place size k)))) }
+        ensures free { IfOk result (λ o. IfSome o (λ place. (k : ℕ) → is_free self.new.holes k
+            ≡ (is_free self.old.holes k && not (in_range place size k)))) }
         ensures size { self.new.size ≡ self.old.size }
         ensures spare { self.old.spare ≤ self.new.spare + 1 }
         ensures runs { AreRuns 0 self.new.size self.new.holes }
     {
-        let Some((at, place)) = first_fit(self.holes.as_slice(), size, align) else {
+        let claim = Claim { size, align };
+        let Some((at, place)) = first_fit(self.holes.as_slice(), claim) else {
             return Ok(None);
         };
         cut_out(&mut self.holes, at, place, size)?;
@@ -87,10 +96,12 @@ impl Ranges {
         requires some { 0 < size }
         requires within { place + size ≤ self.old.size }
         ensures found { IfOk result (λ b. b ≡ is_hole_range self.old.holes place size) }
-        ensures taken { IfOk result (λ b. b ≡ true → self.new.holes ≡ without place size self.old.holes) }
+        ensures taken { IfOk result (λ b. b ≡ true → self.new.holes
+            ≡ holes_without place size self.old.holes) }
         ensures none { IfOk result (λ b. b ≡ false → self.new ≡ self.old) }
         ensures refused { OnErr result (self.new.holes ≡ self.old.holes) }
-        ensures free { IfOk result (λ b. b ≡ true → (k : ℕ) → is_free self.new.holes k ≡ (is_free self.old.holes k && not (in_range place size k))) }
+        ensures free { IfOk result (λ b. b ≡ true → (k : ℕ) → is_free self.new.holes k
+            ≡ (is_free self.old.holes k && not (in_range place size k))) }
         ensures size { self.new.size ≡ self.old.size }
         ensures spare { self.old.spare ≤ self.new.spare + 1 }
         ensures runs { AreRuns 0 self.new.size self.new.holes }
@@ -119,11 +130,13 @@ impl Ranges {
         requires within { place + size ≤ self.old.size }
         requires taken { (k : ℕ) → in_range place size k ≡ true → is_free self.old.holes k ≡ false }
         requires spare { 0 < self.old.spare }
-        ensures free { (k : ℕ) → is_free self.new.holes k ≡ (is_free self.old.holes k || in_range place size k) }
+        ensures free { (k : ℕ) → is_free self.new.holes k
+            ≡ (is_free self.old.holes k || in_range place size k) }
         ensures size { self.new.size ≡ self.old.size }
         ensures spare { self.old.spare ≤ self.new.spare + 1 }
         ensures runs { AreRuns 0 self.new.size self.new.holes }
     {
-        put_back(&mut self.holes, place, size);
+        let span = Span { place, size };
+        put_back(&mut self.holes, span);
     }
 }

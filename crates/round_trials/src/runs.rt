@@ -1,9 +1,9 @@
 // What `run` writes where a gate holds its workers in an order.
 use crate::gates::InOrder;
-use command_words::JobWord;
-use job_bytes::job_of_text;
-use job_words::made_of_job;
 use spin_base::{Gate, Seq};
+use spin_input::job_of_text;
+use spin_jobs::made_of_job;
+use spin_words::JobWord;
 use std::alloc::Global;
 use std::sync::Wait;
 use std::test::Fail;
@@ -11,7 +11,7 @@ use std::thread::Threads;
 
 /// A net from a vertex on the first of two chips to one on the second, three packets, queues of one copy, no patience, and two
 /// workers of four turns.
-const THREE_PACKETS: &str =
+pub const THREE_PACKETS: &str =
     "{\"version\":1,\"machine\":{\"width\":2,\"height\":1},\"graph\":{\"vertices\":[{\"name\":\"a\",\"at\":[0,0]},{\"name\":\"b\",\"at\":[1,0]}],\"nets\":[{\"name\":\"n\",\"source\":\"a\",\"targets\":[\"b\"]}]},\"run\":{\"packets\":[{\"net\":\"n\",\"index\":0},{\"net\":\"n\",\"index\":0},{\"net\":\"n\",\"index\":0}],\"queue\":1,\"patience\":1,\"workers\":2,\"turns\":4}}";
 
 const PLAN: &str =

@@ -3,8 +3,8 @@ use Rattle.std.proofs.Common.{◌≡◌, ap₂, subst, ℕ, zero, suc, ◌+◌, 
 use Rattle.std.specs.List.{slice_get, slice_index_or, range_with_len}
 use Rattle.std.proofs.lemmas.List.FromFn.{sum_by-map-range_with_len_more}
 use Rattle.std.proofs.lemmas.Option.{slice_get-get_or}
-use Rattle.list_laws.specs.Gathered.{gathered}
-use Rattle.list_laws.proofs.Gathering.{gathered_more}
+use Rattle.spin_base.specs.Gathered.{gathered}
+use Rattle.spin_base.proofs.Gathering.{gathered_more}
 use Rattle.spin_base.specs.declared.chips.Spot.{Spot}
 use Rattle.spin_base.specs.declared.copies.McCopy.{McCopy}
 use Rattle.mesh_core.specs.declared.places.Did.{Did}

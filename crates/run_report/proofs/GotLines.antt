@@ -9,18 +9,18 @@ use Rattle.spin_base.specs.declared.chips.Spot.{Spot}
 use Rattle.spin_base.specs.declared.copies.McCopy.{McCopy}
 use Rattle.spin_base.specs.declared.copies.Delivery.{Delivery}
 use Rattle.spin_base.specs.declared.copies.Packet.{Packet}
-use Rattle.net_tables.specs.declared.nets.NetPlan.{NetPlan}
+use Rattle.machine_desc.specs.declared.nets.NetPlan.{NetPlan}
 use Rattle.mesh_core.specs.State.{State, IsMesh}
 use Rattle.mesh_core.specs.Opened.{MeetsJobLedger}
-use Rattle.mesh_core.specs.Expected.{IsAtRest, IsNotAfter, without_hop, expected_deliveries}
+use Rattle.mesh_core.specs.Expected.{IsAtRest, IsDeliveryNotAfter, without_hop, expected_deliveries}
 use Rattle.mesh_core.proofs.DeliveredLaw.{delivered_as_expected}
 use Rattle.mesh_core.proofs.ExpectedList.{in_order_is_list}
-use Rattle.run_report.specs.RunReport.{IsDeliveredOf, delivery_key, named}
+use Rattle.run_report.specs.RunReport.{IsDeliveredOf, delivery_key, named_delivery}
 use Rattle.run_report.specs.ReportText.{got_line}
 
 -- what the order of keys tells of two deliveries
 not_after : (x y : Delivery) (r t : Ordering) → MatchOrdering r (y.copy.packet < x.copy.packet) (y.copy.packet ≡ x.copy.packet) (x.copy.packet < y.copy.packet) →
-    MatchOrdering t (y.vertex < x.vertex) (y.vertex ≡ x.vertex) (x.vertex < y.vertex) → is_lt (ordering_then r (ordering_then t Equal)) ≡ false → IsNotAfter x y
+    MatchOrdering t (y.vertex < x.vertex) (y.vertex ≡ x.vertex) (x.vertex < y.vertex) → is_lt (ordering_then r (ordering_then t Equal)) ≡ false → IsDeliveryNotAfter x y
 not_after x y Less t p v e = absurd (true≢false e)
 not_after x y Greater t p v e = inl p
 not_after x y Equal Less p v e = absurd (true≢false e)
@@ -29,7 +29,7 @@ not_after x y Equal Greater p v e = inr (sym p, omega (arith, v))
 
 module _ (placed : List (List ℕ × Spot)) where
   -- deliveries that are told in order stand so that none belongs before an earlier one
-  pub none_after : (ds : List Delivery) (delivered : List (List ℕ × McCopy)) → (is : IsDeliveredOf placed ds delivered) → AllPairs IsNotAfter is.sorted
+  pub none_after : (ds : List Delivery) (delivered : List (List ℕ × McCopy)) → (is : IsDeliveredOf placed ds delivered) → AllPairs IsDeliveryNotAfter is.sorted
   none_after ds delivered is = λ i j d less within.
       let x : Delivery = get_or is.sorted i d in
       let y : Delivery = get_or is.sorted j d in
@@ -38,15 +38,15 @@ module _ (placed : List (List ℕ × Spot)) where
       (sorted_far _ (ranks_by (nat_list_cmp_total) delivery_key) is.sorted is.in_order.ascending i j d (omega arith) within)
 
   -- a got line tells no hop number
-  lines_alike : (ds : List Delivery) → flat_map got_line (map (named placed) (map without_hop ds)) ≡ flat_map got_line (map (named placed) ds)
+  lines_alike : (ds : List Delivery) → flat_map got_line (map (named_delivery placed) (map without_hop ds)) ≡ flat_map got_line (map (named_delivery placed) ds)
   lines_alike [] = refl
-  lines_alike (d ∷ ds) = ap (λ l. got_line (named placed d) ++ l) (lines_alike ds)
+  lines_alike (d ∷ ds) = ap (λ l. got_line (named_delivery placed d) ++ l) (lines_alike ds)
 
   pub got_lines : (s : State) (nets : List NetPlan) (packets : List Packet) (delivered : List (List ℕ × McCopy)) → IsMesh s → MeetsJobLedger s nets packets →
       IsAtRest s → s.dumped ≡ [] → IsDeliveredOf placed s.delivered delivered →
-      flat_map got_line delivered ≡ flat_map got_line (map (named placed) (expected_deliveries s.setup.spots nets packets))
+      flat_map got_line delivered ≡ flat_map got_line (map (named_delivery placed) (expected_deliveries s.setup.spots nets packets))
   got_lines s nets packets delivered mesh job rest no_dump is =
       ap (flat_map got_line) is.named_each
       ∙ (sym (lines_alike is.sorted)
-      ∙ ap (λ (l : List Delivery). flat_map got_line (map (named placed) l))
+      ∙ ap (λ (l : List Delivery). flat_map got_line (map (named_delivery placed) l))
       (in_order_is_list s nets packets mesh job.ledger.ledger.nets_stand (delivered_as_expected s nets packets job rest no_dump) is.sorted is.in_order.same_items (none_after s.delivered delivered is)))

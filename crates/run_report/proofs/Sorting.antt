@@ -3,7 +3,7 @@ use Rattle.std.proofs.Common.{◌≡◌, ℕ, Bool, List, [], ◌∷◌, refl, s
 use Rattle.std.specs.Ordering.{ordering_then}
 use Rattle.std.specs.Cmp.Lexicographic.{slice_cmp}
 use Rattle.std.specs.List.Sorted.{IsPermutation, IsSortedBy, IsStableBy, IsSortedByKey, IsStableByKey}
-use Rattle.run_report.specs.Orders.{IsInOrder}
+use Rattle.run_report.specs.Orders.{IsSortedStably}
 
 two : (a b : Ordering) → ordering_then a b ≡ ordering_then a (ordering_then b Equal)
 two a Less = refl
@@ -39,7 +39,7 @@ module _ {X K : Type 0} (key : X → K) (cmp : K → K → Ordering) (numbers : 
   alike : ◌≡◌ {A = X → X → Bool} (λ x y. is_lt (cmp (key x) (key y))) (λ x y. is_lt (slice_cmp nat_cmp (numbers x) (numbers y)))
   alike = λ i x y. is_lt (same x y i)
 
-  in_order : (xs ys : List X) → IsPermutation xs ys → IsSortedByKey key cmp ys → IsStableByKey key cmp xs ys → IsInOrder numbers xs ys
+  in_order : (xs ys : List X) → IsPermutation xs ys → IsSortedByKey key cmp ys → IsStableByKey key cmp xs ys → IsSortedStably numbers xs ys
   in_order xs ys moved sorted stable = record {
     same_items = moved;
     ascending = subst (λ lt. IsSortedBy lt ys) alike sorted;
@@ -47,11 +47,11 @@ module _ {X K : Type 0} (key : X → K) (cmp : K → K → Ordering) (numbers : 
   }
 
 module _ {X : Type 0} where
-  pub in_order_of_two : (key : X → ℕ × ℕ) (xs ys : List X) → IsPermutation xs ys → IsSortedByKey key cmp_two ys → IsStableByKey key cmp_two xs ys → IsInOrder (λ x. (key x).0 ∷ (key x).1 ∷ []) xs ys
+  pub in_order_of_two : (key : X → ℕ × ℕ) (xs ys : List X) → IsPermutation xs ys → IsSortedByKey key cmp_two ys → IsStableByKey key cmp_two xs ys → IsSortedStably (λ x. (key x).0 ∷ (key x).1 ∷ []) xs ys
   in_order_of_two key = in_order key cmp_two (λ x. (key x).0 ∷ (key x).1 ∷ []) (λ x y. two (nat_cmp (key x).0 (key y).0) (nat_cmp (key x).1 (key y).1))
 
-  pub in_order_of_four : (key : X → ℕ × ℕ × ℕ × ℕ) (xs ys : List X) → IsPermutation xs ys → IsSortedByKey key cmp_four ys → IsStableByKey key cmp_four xs ys → IsInOrder (λ x. (key x).0 ∷ (key x).1 ∷ (key x).2 ∷ (key x).3 ∷ []) xs ys
+  pub in_order_of_four : (key : X → ℕ × ℕ × ℕ × ℕ) (xs ys : List X) → IsPermutation xs ys → IsSortedByKey key cmp_four ys → IsStableByKey key cmp_four xs ys → IsSortedStably (λ x. (key x).0 ∷ (key x).1 ∷ (key x).2 ∷ (key x).3 ∷ []) xs ys
   in_order_of_four key = in_order key cmp_four (λ x. (key x).0 ∷ (key x).1 ∷ (key x).2 ∷ (key x).3 ∷ []) (λ x y. four (nat_cmp (key x).0 (key y).0) (nat_cmp (key x).1 (key y).1) (nat_cmp (key x).2 (key y).2) (nat_cmp (key x).3 (key y).3))
 
-  pub in_order_of_five : (key : X → ℕ × ℕ × ℕ × ℕ × ℕ) (xs ys : List X) → IsPermutation xs ys → IsSortedByKey key cmp_five ys → IsStableByKey key cmp_five xs ys → IsInOrder (λ x. (key x).0 ∷ (key x).1 ∷ (key x).2 ∷ (key x).3 ∷ (key x).4 ∷ []) xs ys
+  pub in_order_of_five : (key : X → ℕ × ℕ × ℕ × ℕ × ℕ) (xs ys : List X) → IsPermutation xs ys → IsSortedByKey key cmp_five ys → IsStableByKey key cmp_five xs ys → IsSortedStably (λ x. (key x).0 ∷ (key x).1 ∷ (key x).2 ∷ (key x).3 ∷ (key x).4 ∷ []) xs ys
   in_order_of_five key = in_order key cmp_five (λ x. (key x).0 ∷ (key x).1 ∷ (key x).2 ∷ (key x).3 ∷ (key x).4 ∷ []) (λ x y. five (nat_cmp (key x).0 (key y).0) (nat_cmp (key x).1 (key y).1) (nat_cmp (key x).2 (key y).2) (nat_cmp (key x).3 (key y).3) (nat_cmp (key x).4 (key y).4))

@@ -1,4 +1,4 @@
-pub use Rattle.list_laws.specs.Gathered
+pub use Rattle.spin_base.specs.Gathered
 pub use Rattle.spin_base.specs.Links
 pub use Rattle.machine_desc.specs.Live
 pub use Rattle.app_graph.specs.ValidGraph
@@ -11,3 +11,4 @@ pub mod Listed
 pub mod Orders
 pub mod ReportText
 pub mod RunReport
+pub mod Refusals

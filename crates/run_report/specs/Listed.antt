@@ -6,19 +6,16 @@ use Rattle.spin_base.specs.declared.blocks.Block.{Block}
 use Rattle.app_graph.specs.declared.graphs.Vertex.{Vertex}
 use Rattle.app_graph.specs.declared.graphs.Net.{Net}
 use Rattle.app_graph.specs.declared.graphs.Graph.{Graph}
-use Rattle.net_tables.specs.declared.nets.NetPlan.{NetPlan}
+use Rattle.machine_desc.specs.declared.nets.NetPlan.{NetPlan}
 
--- the names of vertices, and of nets
+-- the names of vertices
 abbrev pub vertex_names : List Vertex → List (List ℕ)
 vertex_names vertices = map (λ (v : Vertex). v.name) vertices
-
-abbrev pub net_names : List Net → List (List ℕ)
-net_names nets = map (λ (net : Net). net.name) nets
 
 -- each vertex with its core
 abbrev pub placed_of : Graph → List Spot → List (List ℕ × Spot)
 placed_of graph spots = zip (vertex_names graph.vertices) spots
 
 -- each net with its keys
-abbrev pub keys_of : Graph → List NetPlan → List (List ℕ × Block)
-keys_of graph nets = zip (net_names graph.nets) (map (λ (net : NetPlan). net.block) nets)
+abbrev pub listed_keys : Graph → List NetPlan → List (List ℕ × Block)
+listed_keys graph nets = zip (map (λ (net : Net). net.name) graph.nets) (map (λ (net : NetPlan). net.block) nets)

@@ -7,7 +7,7 @@ use Rattle.std.specs.List.Sorted.{IsPermutation, IsSortedByKey, IsStableByKey}
 -- The second list is the first in the order of the items' keys. A key is a list of numbers, and of two keys the first
 -- number in which they differ decides. No item is lost, doubled or altered, and items of one key stand in the order
 -- that they had.
-pub record IsInOrder {X : Type 0} (key : X → List ℕ) (before after : List X) : Type 0 where
+pub record IsSortedStably {X : Type 0} (key : X → List ℕ) (before after : List X) : Type 0 where
   pub same_items : IsPermutation before after
   pub ascending : IsSortedByKey key (slice_cmp nat_cmp) after
   pub stable : IsStableByKey key (slice_cmp nat_cmp) before after

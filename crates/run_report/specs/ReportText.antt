@@ -2,7 +2,7 @@
 use Rattle.std.specs.Prelude.{ℕ, zero, suc, ◌/◌, ◌%◌, List, [], ◌∷◌, ◌++◌, length, false, Option, Some, None, codes, decimal}
 use Rattle.std.specs.List.{flat_map, sum_by}
 use Rattle.std.specs.Fmt.{digit_glyph}
-use Rattle.list_laws.specs.Gathered.{gathered}
+use Rattle.spin_base.specs.Gathered.{gathered}
 use Rattle.spin_base.specs.declared.chips.Spot.{Spot}
 use Rattle.spin_base.specs.declared.chips.Dir.{Dir}
 use Rattle.spin_base.specs.declared.chips.Dir.TheVariants.{East, NorthEast, North, West, SouthWest, South}
@@ -18,14 +18,14 @@ use Rattle.machine_desc.specs.Description.{Description}
 use Rattle.machine_desc.specs.Live.{live_count_of}
 use Rattle.app_graph.specs.declared.graphs.Graph.{Graph}
 use Rattle.app_graph.specs.declared.graphs.RunPart.{RunPart}
-use Rattle.net_tables.specs.declared.nets.NetPlan.{NetPlan}
+use Rattle.machine_desc.specs.declared.nets.NetPlan.{NetPlan}
 use Rattle.spin_base.specs.declared.blocks.ChipTable.{ChipTable}
 use Rattle.mesh_core.specs.declared.places.Did.{Did}
 use Rattle.mesh_core.specs.declared.places.Did.TheVariants.{Moved, Idle}
 use Rattle.mesh_core.specs.declared.places.Place.{Place}
 use Rattle.mesh_core.specs.declared.places.Place.TheVariants.{InQueue, Hand, CoreQueue}
 use Rattle.run_report.specs.declared.reports.Report.{Report}
-use Rattle.run_report.specs.Listed.{placed_of, keys_of}
+use Rattle.run_report.specs.Listed.{placed_of, listed_keys}
 
 -- ---- numbers and letters
 
@@ -140,7 +140,7 @@ listed_text placed keys tables = flat_map place_line placed ++ flat_map keys_lin
     ++ line (codes "end" ∷ codes "rows" ∷ decimal (row_total tables) ∷ [])
 
 abbrev pub plan_text : Graph → List Spot → List NetPlan → List ChipTable → List ℕ
-plan_text graph spots nets tables = listed_text (placed_of graph spots) (keys_of graph nets) tables
+plan_text graph spots nets tables = listed_text (placed_of graph spots) (listed_keys graph nets) tables
 
 -- ---- the text of a generated job
 

@@ -1,6 +1,6 @@
 -- What the report of a run or a trace says (this project's own).
 use Rattle.std.specs.Prelude.{◌≡◌, ℕ, ◌-◌, ◌^◌, List, [], ◌∷◌, ◌++◌, length, map, min, Option, Some, None, slice_get}
-use Rattle.list_laws.specs.Gathered.{gathered}
+use Rattle.spin_base.specs.Gathered.{gathered}
 use Rattle.std.specs.List.{flat_map, sum_by, range_with_len}
 use Rattle.spin_base.specs.declared.chips.Chip.{Chip}
 use Rattle.spin_base.specs.declared.chips.Spot.{Spot}
@@ -13,15 +13,15 @@ use Rattle.spin_base.specs.Links.{port_number}
 use Rattle.spin_base.specs.Outputs.{out_number}
 use Rattle.machine_desc.specs.Live.{index_of, grid_chips}
 use Rattle.app_graph.specs.declared.graphs.Graph.{Graph}
-use Rattle.net_tables.specs.declared.nets.NetPlan.{NetPlan}
+use Rattle.machine_desc.specs.declared.nets.NetPlan.{NetPlan}
 use Rattle.mesh_core.specs.declared.places.Did.{Did}
 use Rattle.mesh_core.specs.declared.places.Place.{Place}
 use Rattle.mesh_core.specs.declared.places.Place.TheVariants.{InQueue, Hand as HandAt, CoreQueue}
 use Rattle.mesh_core.specs.State.{State, Hand, queue_at}
 use Rattle.mesh_core.specs.Ledger.{all_ports}
 use Rattle.run_report.specs.declared.reports.Report.{Report}
-use Rattle.run_report.specs.Listed.{placed_of, keys_of}
-use Rattle.run_report.specs.Orders.{IsInOrder}
+use Rattle.run_report.specs.Listed.{placed_of, listed_keys}
+use Rattle.run_report.specs.Orders.{IsSortedStably}
 
 -- ---- deliveries and dump records
 
@@ -34,19 +34,19 @@ abbrev pub dump_key : DumpRec → List ℕ
 dump_key r = r.copy.packet ∷ r.chip.x ∷ r.chip.y ∷ out_number r.out ∷ []
 
 -- the name of a vertex, and no byte where there is no such vertex (a mesh delivers to its vertices alone)
-abbrev pub name_of : Option (List ℕ × Spot) → List ℕ
-name_of (Some vertex) = vertex.0
-name_of None = []
+abbrev pub vertex_name_of : Option (List ℕ × Spot) → List ℕ
+vertex_name_of (Some vertex) = vertex.0
+vertex_name_of None = []
 
 -- a delivery as a report tells it: the name of the vertex, and the copy
-abbrev pub named : List (List ℕ × Spot) → Delivery → List ℕ × McCopy
-named placed d = (name_of (slice_get placed d.vertex), d.copy)
+abbrev pub named_delivery : List (List ℕ × Spot) → Delivery → List ℕ × McCopy
+named_delivery placed d = (vertex_name_of (slice_get placed d.vertex), d.copy)
 
 -- The deliveries in their order, each with the name of its vertex.
 pub record IsDeliveredOf (placed : List (List ℕ × Spot)) (deliveries : List Delivery) (delivered : List (List ℕ × McCopy)) : Type 0 where
   pub sorted : List Delivery
-  pub in_order : IsInOrder delivery_key deliveries sorted
-  pub named_each : delivered ≡ map (named placed) sorted
+  pub in_order : IsSortedStably delivery_key deliveries sorted
+  pub named_each : delivered ≡ map (named_delivery placed) sorted
 
 -- ---- waiting copies
 
@@ -122,10 +122,10 @@ unsent_total s = sum_by (unsent_by s) (range_with_len 0 (length s.setup.spots))
 -- packet and position of the vertex, the dump records by packet, chip and output, and the waiting copies by packet and place. The number of unsent copies stands still at 4,294,967,295.
 pub record IsReportOf (graph : Graph) (spots : List Spot) (nets : List NetPlan) (tables : List ChipTable) (s : State) (did : List Did) (report : Report) : Type 0 where
   pub same_placed : report.placed ≡ placed_of graph spots
-  pub same_keys : report.keys ≡ keys_of graph nets
+  pub same_keys : report.keys ≡ listed_keys graph nets
   pub same_tables : report.tables ≡ tables
   pub same_did : report.did ≡ did
   pub delivered : IsDeliveredOf (placed_of graph spots) s.delivered report.delivered
-  pub dumped : IsInOrder dump_key s.dumped report.dumped
-  pub waiting : IsInOrder wait_key (waits_of s) report.waiting
+  pub dumped : IsSortedStably dump_key s.dumped report.dumped
+  pub waiting : IsSortedStably wait_key (waits_of s) report.waiting
   pub unsent : report.unsent ≡ min (unsent_total s) (2 ^ 32 - 1)

@@ -5,9 +5,15 @@
 //! lines of a generated job. A plan is given by its parts: the
 //! graph, the spots and nets that it has on the machine, and the image of its tables. The report and its text are this project's own;
 //! placement, keys, tables and routes are those of the SpiNNaker datasheet.
+//!
+//! Why a call of the program gives no text of its own: each refusal with its status and its line.
+//!
+//! Statuses and lines are this project's own.
 #![tactic(auto)]
 
+mod causes;
 pub mod laws;
+mod lines;
 mod lists;
 mod orders;
 mod plans;
@@ -17,6 +23,8 @@ mod texts;
 mod unsents;
 mod waits;
 
+pub use causes::Refusal;
+pub use lines::{OUT_OF_MEMORY, line_of};
 pub use plans::plan_text;
 pub use reports::{Report, report_of};
 pub use summaries::summary_text;

@@ -1,11 +1,11 @@
 // The lists of a report that come from a plan.
 ghost use Rattle.std.specs.Prelude.{◌≡◌, length, map, IfOk};
 ghost use Rattle.std.specs.List.{zip};
-ghost use Rattle.net_tables.specs.declared.nets.NetPlan.{NetPlan};
-ghost use Rattle.run_report.specs.Listed.{net_names, vertex_names};
+ghost use Rattle.machine_desc.specs.declared.nets.NetPlan.{NetPlan};
+ghost use Rattle.run_report.specs.Listed.{vertex_names};
 
 use app_graph::{Net, Vertex};
-use net_tables::NetPlan;
+use machine_desc::NetPlan;
 use spin_base::{Block, Memory, Name, Seq, Spot};
 use std::alloc::Global;
 
@@ -33,7 +33,8 @@ pub fn keys_of(
     nets: &Seq<NetPlan>,
 ) -> Result<Seq<(Name, Block)>, Memory>
     requires { length nets.now ≡ length given.now }
-    ensures { IfOk result (λ keys. keys ≡ zip (net_names given.now) (map (λ (net : NetPlan). net.block) nets.now)) }
+    ensures { IfOk result (λ keys. keys
+        ≡ zip (map (λ net. net.name) given.now) (map (λ (net : NetPlan). net.block) nets.now)) }
 {
     let mut keys = Seq::new(alloc);
     for i in 0..given.len() {

@@ -1,7 +1,7 @@
 // Deliveries and dump records in the order of a report.
 ghost use Rattle.std.specs.Prelude.{◌≡◌, map, OnOk, IfOk, slice_get};
-ghost use Rattle.run_report.specs.Orders.{IsInOrder};
-ghost use Rattle.run_report.specs.RunReport.{delivery_key, dump_key, name_of, named, IsDeliveredOf};
+ghost use Rattle.run_report.specs.Orders.{IsSortedStably};
+ghost use Rattle.run_report.specs.RunReport.{delivery_key, dump_key, vertex_name_of, named_delivery, IsDeliveredOf};
 
 use mesh_core::Mesh;
 use spin_base::{Delivery, DumpRec, McCopy, Memory, Name, Seq, Spot};
@@ -21,7 +21,7 @@ pub fn delivered_of(
 }
 
 fn sort_deliveries(deliveries: &mut Vec<Delivery>) -> Result<(), Memory>
-    ensures { OnOk result (IsInOrder delivery_key deliveries.old.items deliveries.new.items) }
+    ensures { OnOk result (IsSortedStably delivery_key deliveries.old.items deliveries.new.items) }
 {
     deliveries.sort_by_key(|delivery| (delivery.copy.packet, delivery.vertex))?;
     Ok(())
@@ -32,7 +32,7 @@ fn name_all(
     placed: &[(Name, Spot)],
     deliveries: &[Delivery],
 ) -> Result<Seq<(Name, McCopy)>, Memory>
-    ensures { IfOk result (λ all. all ≡ map (named placed.now) deliveries.now) }
+    ensures { IfOk result (λ all. all ≡ map (named_delivery placed.now) deliveries.now) }
 {
     let mut all = Seq::new(alloc);
     for delivery in deliveries {
@@ -43,7 +43,7 @@ fn name_all(
 
 /// The dump records, by packet, chip and output.
 pub fn dumped_of(alloc: Global, mesh: &Mesh) -> Result<Seq<DumpRec>, Memory>
-    ensures { IfOk result (λ dumped. IsInOrder dump_key mesh.now.dumped dumped) }
+    ensures { IfOk result (λ dumped. IsSortedStably dump_key mesh.now.dumped dumped) }
 {
     let mut sorted = Vec::from_slice(alloc, mesh.dumped())?;
     sort_dumps(&mut sorted)?;
@@ -51,7 +51,7 @@ pub fn dumped_of(alloc: Global, mesh: &Mesh) -> Result<Seq<DumpRec>, Memory>
 }
 
 fn sort_dumps(records: &mut Vec<DumpRec>) -> Result<(), Memory>
-    ensures { OnOk result (IsInOrder dump_key records.old.items records.new.items) }
+    ensures { OnOk result (IsSortedStably dump_key records.old.items records.new.items) }
 {
     records.sort_by_key(|record| {
         (
@@ -66,7 +66,7 @@ fn sort_dumps(records: &mut Vec<DumpRec>) -> Result<(), Memory>
 
 // The name of a vertex, and no letter where there is no such vertex.
 fn name_at(alloc: Global, placed: &[(Name, Spot)], vertex: u32) -> Result<Name, Memory>
-    ensures { IfOk result (λ name. name ≡ name_of (slice_get placed.now vertex)) }
+    ensures { IfOk result (λ name. name ≡ vertex_name_of (slice_get placed.now vertex)) }
 {
     match placed.get(vertex as usize) {
         Some((name, _)) => Name::of(alloc, name.as_str()),

@@ -6,7 +6,7 @@ ghost use Rattle.run_report.specs.ReportText.{plan_text};
 use crate::lists::{keys_of, placed_of};
 use crate::texts::listed_text;
 use app_graph::Graph;
-use net_tables::NetPlan;
+use machine_desc::NetPlan;
 use spin_base::{Memory, Seq, Spot};
 use std::alloc::Global;
 use table_load::Image;

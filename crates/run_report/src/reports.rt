@@ -8,8 +8,8 @@ use crate::orders::{delivered_of, dumped_of};
 use crate::unsents::unsent_of;
 use crate::waits::waiting_of;
 use app_graph::Graph;
+use machine_desc::NetPlan;
 use mesh_core::{Did, Mesh, Place};
-use net_tables::NetPlan;
 use spin_base::{Block, ChipTable, DumpRec, McCopy, Memory, Name, Seq, Spot};
 use std::alloc::Global;
 
@@ -54,7 +54,8 @@ pub fn report_of(
     requires spots { length spots.now ≡ length graph.now.vertices }
     requires nets { length nets.now ≡ length graph.now.nets }
     requires mesh { mesh.now.setup.spots ≡ spots.now }
-    ensures { IfOk result (λ report. IsReportOf graph.now spots.now nets.now tables mesh.now did report) }
+    ensures { IfOk result (λ report.
+        IsReportOf graph.now spots.now nets.now tables mesh.now did report) }
 {
     let placed = placed_of(alloc, &graph.vertices, spots)?;
     let keys = keys_of(alloc, &graph.nets, nets)?;

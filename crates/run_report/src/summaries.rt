@@ -26,7 +26,8 @@ pub fn summary_text(
     report: &Report,
 ) -> Result<Seq<u8>, Memory>
     requires { row_total report.now.tables < 2 ^ 64 }
-    ensures { IfOk result (λ text. text ≡ summary_text number machine.now graph.now run.now report.now) }
+    ensures { IfOk result (λ text. text
+        ≡ summary_text number machine.now graph.now run.now report.now) }
 {
     let mut text = String::new(alloc);
     put_number(&mut text, number)?;
@@ -49,7 +50,10 @@ fn put_parts(
     graph: &Graph,
     run: &RunPart,
 ) -> Result<(), Memory>
-    ensures { OnOk result (string_bytes text.new ≡ string_bytes text.old ++ parts_line (live_count_of machine.now) (length graph.now.vertices) (length graph.now.nets) (length run.now.packets)) }
+    ensures { OnOk result (string_bytes text.new
+        ≡ string_bytes text.old
+        ++ parts_line (live_count_of machine.now) (length graph.now.vertices)
+        (length graph.now.nets) (length run.now.packets)) }
 {
     let chips = machine.live_count();
     let vertices = graph.vertices.len();
@@ -70,7 +74,9 @@ fn put_row_total(text: &mut String, rows: u64) -> Result<(), Memory>
 }
 
 fn put_counts(text: &mut String, report: &Report) -> Result<(), Memory>
-    ensures { OnOk result (string_bytes text.new ≡ string_bytes text.old ++ counts_line (length report.now.delivered) (length report.now.dumped)) }
+    ensures { OnOk result (string_bytes text.new
+        ≡ string_bytes text.old
+        ++ counts_line (length report.now.delivered) (length report.now.dumped)) }
 {
     let delivered = report.delivered.len();
     let dumped = report.dumped.len();

@@ -30,7 +30,8 @@ pub fn text_of(alloc: Global, report: &Report) -> Result<Seq<u8>, Memory>
 }
 
 fn put_report(text: &mut String, report: &Report) -> Result<(), Memory>
-    ensures { OnOk result (string_bytes text.new ≡ string_bytes text.old ++ report_text report.now) }
+    ensures { OnOk result (string_bytes text.new
+        ≡ string_bytes text.old ++ report_text report.now) }
 {
     put_listed(
         text,
@@ -53,7 +54,10 @@ fn put_listed(
     keys: &[(Name, Block)],
     tables: &[ChipTable],
 ) -> Result<(), Memory>
-    ensures { OnOk result (string_bytes text.new ≡ string_bytes text.old ++ (flat_map place_line placed.now ++ flat_map keys_line keys.now ++ flat_map table_lines tables.now)) }
+    ensures { OnOk result (string_bytes text.new
+        ≡ string_bytes text.old
+        ++ (flat_map place_line placed.now ++ flat_map keys_line keys.now
+        ++ flat_map table_lines tables.now)) }
 {
     put_places(text, placed)?;
     put_all_keys(text, keys)?;
@@ -91,7 +95,8 @@ pub(crate) fn row_total(tables: &[ChipTable]) -> u64
 }
 
 fn put_places(text: &mut String, placed: &[(Name, Spot)]) -> Result<(), Memory>
-    ensures { OnOk result (string_bytes text.new ≡ string_bytes text.old ++ flat_map place_line placed.now) }
+    ensures { OnOk result (string_bytes text.new
+        ≡ string_bytes text.old ++ flat_map place_line placed.now) }
 {
     for vertex in placed {
         put_place(text, vertex)?;
@@ -111,7 +116,8 @@ fn put_place(text: &mut String, vertex: &(Name, Spot)) -> Result<(), Memory>
 }
 
 fn put_all_keys(text: &mut String, keys: &[(Name, Block)]) -> Result<(), Memory>
-    ensures { OnOk result (string_bytes text.new ≡ string_bytes text.old ++ flat_map keys_line keys.now) }
+    ensures { OnOk result (string_bytes text.new
+        ≡ string_bytes text.old ++ flat_map keys_line keys.now) }
 {
     for net in keys {
         put_keys(text, net)?;
@@ -132,7 +138,8 @@ fn put_keys(text: &mut String, net: &(Name, Block)) -> Result<(), Memory>
 }
 
 fn put_tables(text: &mut String, tables: &[ChipTable]) -> Result<(), Memory>
-    ensures { OnOk result (string_bytes text.new ≡ string_bytes text.old ++ flat_map table_lines tables.now) }
+    ensures { OnOk result (string_bytes text.new
+        ≡ string_bytes text.old ++ flat_map table_lines tables.now) }
 {
     for table in tables {
         put_table(text, table)?;
@@ -158,7 +165,8 @@ fn put_head(text: &mut String, table: &ChipTable) -> Result<(), Memory>
 }
 
 fn put_rows(text: &mut String, entries: &[Entry]) -> Result<(), Memory>
-    ensures { OnOk result (string_bytes text.new ≡ string_bytes text.old ++ flat_map row_line entries.now) }
+    ensures { OnOk result (string_bytes text.new
+        ≡ string_bytes text.old ++ flat_map row_line entries.now) }
 {
     for entry in entries {
         put_row(text, entry)?;
@@ -179,7 +187,8 @@ fn put_row(text: &mut String, entry: &Entry) -> Result<(), Memory>
 }
 
 fn put_events(text: &mut String, answers: &[Did]) -> Result<(), Memory>
-    ensures { OnOk result (string_bytes text.new ≡ string_bytes text.old ++ event_lines answers.now) }
+    ensures { OnOk result (string_bytes text.new
+        ≡ string_bytes text.old ++ event_lines answers.now) }
 {
     for (before, did) in answers.iter().enumerate() {
         put_event(text, before + 1, *did)?;
@@ -205,7 +214,8 @@ fn did_word(did: Did) -> &'static str
 }
 
 fn put_gots(text: &mut String, delivered: &[(Name, McCopy)]) -> Result<(), Memory>
-    ensures { OnOk result (string_bytes text.new ≡ string_bytes text.old ++ flat_map got_line delivered.now) }
+    ensures { OnOk result (string_bytes text.new
+        ≡ string_bytes text.old ++ flat_map got_line delivered.now) }
 {
     for delivery in delivered {
         put_got(text, delivery)?;
@@ -227,7 +237,8 @@ fn put_got(text: &mut String, delivery: &(Name, McCopy)) -> Result<(), Memory>
 }
 
 fn put_dumps(text: &mut String, dumped: &[DumpRec]) -> Result<(), Memory>
-    ensures { OnOk result (string_bytes text.new ≡ string_bytes text.old ++ flat_map dump_line dumped.now) }
+    ensures { OnOk result (string_bytes text.new
+        ≡ string_bytes text.old ++ flat_map dump_line dumped.now) }
 {
     for record in dumped {
         put_dump(text, record)?;
@@ -236,7 +247,8 @@ fn put_dumps(text: &mut String, dumped: &[DumpRec]) -> Result<(), Memory>
 }
 
 fn put_dump(text: &mut String, record: &DumpRec) -> Result<(), Memory>
-    ensures { OnOk result (string_bytes text.new ≡ string_bytes text.old ++ dump_line «record».now) }
+    ensures { OnOk result (string_bytes text.new
+        ≡ string_bytes text.old ++ dump_line «record».now) }
 {
     let x = record.chip.x;
     let y = record.chip.y;
@@ -248,7 +260,8 @@ fn put_dump(text: &mut String, record: &DumpRec) -> Result<(), Memory>
 }
 
 fn put_waits(text: &mut String, waiting: &[(u32, Place)]) -> Result<(), Memory>
-    ensures { OnOk result (string_bytes text.new ≡ string_bytes text.old ++ flat_map wait_line waiting.now) }
+    ensures { OnOk result (string_bytes text.new
+        ≡ string_bytes text.old ++ flat_map wait_line waiting.now) }
 {
     for wait in waiting {
         put_wait(text, wait)?;
@@ -268,7 +281,8 @@ fn put_wait(text: &mut String, wait: &(u32, Place)) -> Result<(), Memory>
 }
 
 fn put_wait_in(text: &mut String, packet: u32, chip: Chip, port: Port) -> Result<(), Memory>
-    ensures { OnOk result (string_bytes text.new ≡ string_bytes text.old ++ wait_line (packet, InQueue chip port)) }
+    ensures { OnOk result (string_bytes text.new
+        ≡ string_bytes text.old ++ wait_line (packet, InQueue chip port)) }
 {
     let x = chip.x;
     let y = chip.y;
@@ -278,7 +292,8 @@ fn put_wait_in(text: &mut String, packet: u32, chip: Chip, port: Port) -> Result
 }
 
 fn put_wait_hand(text: &mut String, packet: u32, chip: Chip, out: Out) -> Result<(), Memory>
-    ensures { OnOk result (string_bytes text.new ≡ string_bytes text.old ++ wait_line (packet, Hand chip out)) }
+    ensures { OnOk result (string_bytes text.new
+        ≡ string_bytes text.old ++ wait_line (packet, Hand chip out)) }
 {
     let x = chip.x;
     let y = chip.y;
@@ -289,7 +304,8 @@ fn put_wait_hand(text: &mut String, packet: u32, chip: Chip, out: Out) -> Result
 }
 
 fn put_wait_core(text: &mut String, packet: u32, chip: Chip, core: u8) -> Result<(), Memory>
-    ensures { OnOk result (string_bytes text.new ≡ string_bytes text.old ++ wait_line (packet, CoreQueue chip core)) }
+    ensures { OnOk result (string_bytes text.new
+        ≡ string_bytes text.old ++ wait_line (packet, CoreQueue chip core)) }
 {
     let x = chip.x;
     let y = chip.y;
@@ -321,7 +337,8 @@ fn put_end(text: &mut String, report: &Report) -> Result<(), Memory>
 
 // Puts a word and a number at the end, each after a space.
 fn put_count(text: &mut String, word: &str, count: usize) -> Result<(), Memory>
-    ensures { OnOk result (string_bytes text.new ≡ string_bytes text.old ++ 32 ∷ (word.now ++ 32 ∷ decimal count)) }
+    ensures { OnOk result (string_bytes text.new
+        ≡ string_bytes text.old ++ 32 ∷ (word.now ++ 32 ∷ decimal count)) }
 {
     write!(text, " {word} {count}")?;
     Ok(())

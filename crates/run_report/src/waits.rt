@@ -4,8 +4,8 @@ ghost use Rattle.std.specs.Option.{option_copied};
 ghost use Rattle.std.specs.List.{flat_map};
 ghost use Rattle.spin_base.specs.Links.{port_number};
 ghost use Rattle.machine_desc.specs.Live.{IsInside, grid_chips};
-ghost use Rattle.list_laws.specs.Gathered.{gathered};
-ghost use Rattle.run_report.specs.Orders.{IsInOrder};
+ghost use Rattle.spin_base.specs.Gathered.{gathered};
+ghost use Rattle.run_report.specs.Orders.{IsSortedStably};
 ghost use Rattle.run_report.specs.Keys.{wait_numbers};
 ghost use Rattle.run_report.specs.RunReport.{waits_of, wait_key, waits_at, queue_waits, held_waits, chip_waits, core_waits};
 
@@ -16,7 +16,7 @@ use std::alloc::Global;
 /// The waiting copies of a mesh, by packet and place.
 pub fn waiting_of(alloc: Global, mesh: &Mesh) -> Result<Seq<(u32, Place)>, Memory>
     requires { length mesh.now.setup.spots ≤ 4294967295 }
-    ensures { IfOk result (λ waiting. IsInOrder wait_key (waits_of mesh.now) waiting) }
+    ensures { IfOk result (λ waiting. IsSortedStably wait_key (waits_of mesh.now) waiting) }
 {
     let mut waiting = Vec::new(alloc);
     put_chips(&mut waiting, mesh)?;
@@ -27,7 +27,8 @@ pub fn waiting_of(alloc: Global, mesh: &Mesh) -> Result<Seq<(u32, Place)>, Memor
 
 // Puts what waits on the chips at the end, chip by chip in the order of their indices.
 fn put_chips(waiting: &mut Vec<(u32, Place)>, mesh: &Mesh) -> Result<(), Memory>
-    ensures { OnOk result (waiting.new.items ≡ waiting.old.items ++ flat_map (chip_waits mesh.now) (grid_chips mesh.now.setup.machine)) }
+    ensures { OnOk result (waiting.new.items
+        ≡ waiting.old.items ++ flat_map (chip_waits mesh.now) (grid_chips mesh.now.setup.machine)) }
 {
     let machine = mesh.machine();
     for index in 0..machine.chips() as u32 {
@@ -53,7 +54,8 @@ fn put_queues(
     mesh: &Mesh,
 ) -> Result<(), Memory>
     requires { IsInside mesh.now.setup.machine chip }
-    ensures { OnOk result (waiting.new.items ≡ waiting.old.items ++ flat_map (queue_waits mesh.now chip) ports.now) }
+    ensures { OnOk result (waiting.new.items
+        ≡ waiting.old.items ++ flat_map (queue_waits mesh.now chip) ports.now) }
 {
     for port in ports {
         put_queue(waiting, chip, *port, mesh)?;
@@ -69,14 +71,16 @@ fn put_queue(
     mesh: &Mesh,
 ) -> Result<(), Memory>
     requires { IsInside mesh.now.setup.machine chip }
-    ensures { OnOk result (waiting.new.items ≡ waiting.old.items ++ queue_waits mesh.now chip port) }
+    ensures { OnOk result (waiting.new.items
+        ≡ waiting.old.items ++ queue_waits mesh.now chip port) }
 {
     put_copies(waiting, Place::InQueue(chip, port), mesh.queue(chip, port))
 }
 
 // Puts what a router holds at the end: one item for each output.
 fn put_hand(waiting: &mut Vec<(u32, Place)>, chip: Chip, hand: Option<&Hand>) -> Result<(), Memory>
-    ensures { OnOk result (waiting.new.items ≡ waiting.old.items ++ held_waits chip (Some (option_copied hand.entry))) }
+    ensures { OnOk result (waiting.new.items
+        ≡ waiting.old.items ++ held_waits chip (Some (option_copied hand.entry))) }
 {
     if let Some(hand) = hand {
         put_outs(waiting, chip, hand)?;
@@ -85,7 +89,8 @@ fn put_hand(waiting: &mut Vec<(u32, Place)>, chip: Chip, hand: Option<&Hand>) ->
 }
 
 fn put_outs(waiting: &mut Vec<(u32, Place)>, chip: Chip, hand: &Hand) -> Result<(), Memory>
-    ensures { OnOk result (waiting.new.items ≡ waiting.old.items ++ held_waits chip (Some (Some hand.now))) }
+    ensures { OnOk result (waiting.new.items
+        ≡ waiting.old.items ++ held_waits chip (Some (Some hand.now))) }
 {
     for out in hand.outs.as_slice() {
         waiting.push((hand.copy.packet, Place::Hand(chip, *out)))?;
@@ -110,7 +115,8 @@ fn put_copies(
 // Puts the copies in the queues of the vertices at the end.
 fn put_cores(waiting: &mut Vec<(u32, Place)>, mesh: &Mesh) -> Result<(), Memory>
     requires { length mesh.now.setup.spots ≤ 4294967295 }
-    ensures { OnOk result (waiting.new.items ≡ waiting.old.items ++ gathered (core_waits mesh.now) 0 mesh.now.setup.spots) }
+    ensures { OnOk result (waiting.new.items
+        ≡ waiting.old.items ++ gathered (core_waits mesh.now) 0 mesh.now.setup.spots) }
 {
     for (vertex, spot) in mesh.spots().iter().enumerate() {
         put_copies(
@@ -124,7 +130,7 @@ fn put_cores(waiting: &mut Vec<(u32, Place)>, mesh: &Mesh) -> Result<(), Memory>
 
 // Sorts the copies by packet and place.
 fn sort_waits(waiting: &mut Vec<(u32, Place)>) -> Result<(), Memory>
-    ensures { OnOk result (IsInOrder wait_key waiting.old.items waiting.new.items) }
+    ensures { OnOk result (IsSortedStably wait_key waiting.old.items waiting.new.items) }
 {
     waiting.sort_by_key(|wait| numbers_of(wait))?;
     Ok(())

@@ -3,15 +3,15 @@ use Rattle.std.proofs.Common.{◌≡◌, ℕ, ◌+◌, ◌<◌, ◌≤◌, List,
 use Rattle.std.proofs.Math.Seq.{take-add, take-length}
 use Rattle.std.proofs.lemmas.List.{take-append-le, take-append-drop, drop-drop}
 use Rattle.std.proofs.Common.{inl, inr, ◌-◌}
-use Rattle.spin_base.specs.Outside.{FaultsRose, Gives, GivesAll, HasMoreThan, LosesAtMost, LosesMoreThan, Takes, Reads}
+use Rattle.spin_base.specs.Outside.{FaultsRose, GivesFirst, GivesAll, HasMoreThan, LosesAtMost, LosesMoreThan, Takes, Reads}
 
 -- before the first read nothing was given
-pub gives_nothing : (a : Option (List ℕ)) → Gives a [] a
+pub gives_nothing : (a : Option (List ℕ)) → GivesFirst a [] a
 gives_nothing (Some bytes) = refl
 gives_nothing None = tt
 
 -- what two reads give is given in order
-pub gives_then : (a b c : Option (List ℕ)) (g h : List ℕ) → Gives a g b → Gives b h c → Gives a (g ++ h) c
+pub gives_then : (a b c : Option (List ℕ)) (g h : List ℕ) → GivesFirst a g b → GivesFirst b h c → GivesFirst a (g ++ h) c
 gives_then (Some x) (Some y) (Some z) g h first second = first ∙ ap (λ v. g ++ v) second ∙ sym (append_assoc g h z)
 gives_then (Some x) (Some y) None g h first second = absurd second
 gives_then (Some x) None c g h first second = absurd first
@@ -20,7 +20,7 @@ gives_then None None (Some z) g h first second = absurd second
 gives_then None None None g h first second = tt
 
 -- more than the limit was given, so more was to come
-pub gives_more : (a b : Option (List ℕ)) (g : List ℕ) (limit : ℕ) → Gives a g b → limit < length g → HasMoreThan limit a
+pub gives_more : (a b : Option (List ℕ)) (g : List ℕ) (limit : ℕ) → GivesFirst a g b → limit < length g → HasMoreThan limit a
 gives_more (Some x) (Some y) g limit gives more = omega (arith, ap length gives, length-append g y)
 gives_more (Some x) None g limit gives more = absurd gives
 gives_more None b g limit gives more = tt
@@ -45,7 +45,7 @@ rose_since early late after before (inl more) = inl (omega arith)
 rose_since early late after before (inr last) = inr last
 
 -- at the end of input all has been given
-pub gives_end : (a b c : Option (List ℕ)) (g : List ℕ) (n : ℕ) (buffer : List ℕ) → Gives a g b → Reads b n buffer c → n ≡ 0 → GivesAll a g c
+pub gives_end : (a b c : Option (List ℕ)) (g : List ℕ) (n : ℕ) (buffer : List ℕ) → GivesFirst a g b → Reads b n buffer c → n ≡ 0 → GivesAll a g c
 gives_end (Some x) (Some y) (Some z) g n buffer given reads none =
     let nothing_given : take n buffer ≡ [] = ap (λ k. take k buffer) none in
     let last : y ≡ z = reads.gives ∙ ap (λ v. v ++ z) nothing_given in
@@ -57,18 +57,18 @@ gives_end None None (Some z) g n buffer given reads none = absurd reads.gives
 gives_end None None None g n buffer given reads none = record { gives = tt; at_end = tt }
 
 -- one read past the limit
-pub loses_too_many : (a b c : Option (List ℕ)) (g buffer : List ℕ) (n limit : ℕ) → Gives a g b → Gives b (take n buffer) c → n ≤ length buffer → limit - length g < n → LosesMoreThan limit a c
+pub loses_too_many : (a b c : Option (List ℕ)) (g buffer : List ℕ) (n limit : ℕ) → GivesFirst a g b → GivesFirst b (take n buffer) c → n ≤ length buffer → limit - length g < n → LosesMoreThan limit a c
 loses_too_many a b c g buffer n limit first second within past =
     let both : length (g ++ take n buffer) ≡ length g + n =
     length-append g (take n buffer) ∙ ap (λ k. length g + k) (length-take-le n buffer within)
     in (g ++ take n buffer, gives_then a b c g (take n buffer) first second, omega arith)
 
-pub gives_too_many : (a b c : Option (List ℕ)) (g buffer : List ℕ) (n limit : ℕ) → Gives a g b → Gives b (take n buffer) c → n ≤ length buffer → limit - length g < n → HasMoreThan limit a
+pub gives_too_many : (a b c : Option (List ℕ)) (g buffer : List ℕ) (n limit : ℕ) → GivesFirst a g b → GivesFirst b (take n buffer) c → n ≤ length buffer → limit - length g < n → HasMoreThan limit a
 gives_too_many a b c g buffer n limit first second within past =
     let lost = loses_too_many a b c g buffer n limit first second within past in gives_more a c lost.0 limit lost.1 lost.2
 
 -- one read that stays within the limit
-pub loses_few : (a b c : Option (List ℕ)) (g buffer : List ℕ) (n limit : ℕ) → Gives a g b → Gives b (take n buffer) c → n ≤ length buffer → length g + n ≤ limit → LosesAtMost limit a c
+pub loses_few : (a b c : Option (List ℕ)) (g buffer : List ℕ) (n limit : ℕ) → GivesFirst a g b → GivesFirst b (take n buffer) c → n ≤ length buffer → length g + n ≤ limit → LosesAtMost limit a c
 loses_few a b c g buffer n limit first second within few =
     let both : length (g ++ take n buffer) ≡ length g + n =
     length-append g (take n buffer) ∙ ap (λ k. length g + k) (length-take-le n buffer within)

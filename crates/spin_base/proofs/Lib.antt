@@ -1,3 +1,13 @@
+pub mod Members
+pub mod Places
+pub mod Pairs
+pub mod Ascending
+pub mod Determined
+pub mod Counts
+pub mod Ranges
+pub mod Tests
+pub mod Gathering
+pub mod Exchange
 mod Bytes
 pub mod Equality
 pub mod Lookups

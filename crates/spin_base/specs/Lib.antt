@@ -1,4 +1,6 @@
+pub mod Gathered
 pub mod Equality
+pub mod Hops
 pub mod Lending
 pub mod Links
 pub mod Lookup

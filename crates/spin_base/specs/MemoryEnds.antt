@@ -7,8 +7,8 @@ use Rattle.spin_base.specs.declared.memory_ends.MemSink.{MemSink}
 abbrev pub source_left : MemSource → List ℕ
 source_left s = drop s.place s.bytes
 
-abbrev pub source_faults : MemSource → ℕ
-source_faults s = s.faults
+abbrev pub source_fault_count : MemSource → ℕ
+source_fault_count s = s.faults
 
 -- how many bytes it gives at most in one call
 abbrev pub source_piece : MemSource → ℕ
@@ -34,8 +34,8 @@ sink_spare s = s.room.spare
 abbrev pub sink_piece : MemSink → ℕ
 sink_piece s = s.piece
 
-abbrev pub sink_faults : MemSink → ℕ
-sink_faults s = s.faults
+abbrev pub sink_fault_count : MemSink → ℕ
+sink_fault_count s = s.faults
 
 -- how many calls there were
 abbrev pub sink_calls : MemSink → ℕ

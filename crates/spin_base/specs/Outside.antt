@@ -11,11 +11,11 @@ one_more n = min (n + 1) (2 ^ 64 - 1)
 
 -- Of the bytes that were to come these were given, in order, and the others are still to come. A source that
 -- doesn't tell its bytes goes on not telling them.
-abbrev pub Gives : Option (List ℕ) → List ℕ → Option (List ℕ) → Type 0
-Gives (Some bytes) given (Some rest) = bytes ≡ given ++ rest
-Gives None given None = Unit {0}
-Gives (Some bytes) given None = ⊥
-Gives None given (Some rest) = ⊥
+abbrev pub GivesFirst : Option (List ℕ) → List ℕ → Option (List ℕ) → Type 0
+GivesFirst (Some bytes) given (Some rest) = bytes ≡ given ++ rest
+GivesFirst None given None = Unit {0}
+GivesFirst (Some bytes) given None = ⊥
+GivesFirst None given (Some rest) = ⊥
 
 -- nothing is left, where that is told
 abbrev pub IsAtEnd : Option (List ℕ) → Type 0
@@ -24,24 +24,24 @@ IsAtEnd None = Unit {0}
 
 -- A read of n bytes into a buffer gives the buffer's first n bytes, and none only at the end of input.
 pub record Reads (before : Option (List ℕ)) (n : ℕ) (buffer : List ℕ) (after : Option (List ℕ)) : Type 0 where
-  pub gives : Gives before (take n buffer) after
+  pub gives : GivesFirst before (take n buffer) after
   pub end_of_input : n ≡ 0 → IsAtEnd before
 
 -- some of the bytes that were to come are gone, from the front
 abbrev pub LosesFront : Option (List ℕ) → Option (List ℕ) → Type 0
-LosesFront before after = (given : List ℕ) × Gives before given after
+LosesFront before after = (given : List ℕ) × GivesFirst before given after
 
 -- more than so many of them are gone
 abbrev pub LosesMoreThan : ℕ → Option (List ℕ) → Option (List ℕ) → Type 0
-LosesMoreThan limit before after = (given : List ℕ) × Gives before given after × (limit < length given)
+LosesMoreThan limit before after = (given : List ℕ) × GivesFirst before given after × (limit < length given)
 
 -- at most so many of them are gone
 abbrev pub LosesAtMost : ℕ → Option (List ℕ) → Option (List ℕ) → Type 0
-LosesAtMost limit before after = (given : List ℕ) × Gives before given after × (length given ≤ limit)
+LosesAtMost limit before after = (given : List ℕ) × GivesFirst before given after × (length given ≤ limit)
 
 -- all that was left was given, and nothing is left
 pub record GivesAll (before : Option (List ℕ)) (given : List ℕ) (after : Option (List ℕ)) : Type 0 where
-  pub gives : Gives before given after
+  pub gives : GivesFirst before given after
   pub at_end : IsAtEnd after
 
 -- more than so many bytes were to come, where that is told

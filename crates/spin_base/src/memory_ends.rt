@@ -21,7 +21,7 @@ pub struct MemSource {
 }
 
 impl MemSource {
-    ghost use Rattle.spin_base.specs.MemoryEnds.{source_left, source_piece, source_faults, source_calls, source_failing};
+    ghost use Rattle.spin_base.specs.MemoryEnds.{source_left, source_piece, source_fault_count, source_calls, source_failing};
 
     /// A source of these bytes, which gives at most `piece` of them in one call. Its calls whose numbers, from 1,
     /// stand in `failing` fail.
@@ -29,7 +29,7 @@ impl MemSource {
         requires { 0 < piece }
         ensures left { source_left result ≡ bytes }
         ensures piece { source_piece result ≡ piece }
-        ensures faults { source_faults result ≡ 0 }
+        ensures faults { source_fault_count result ≡ 0 }
         ensures calls { source_calls result ≡ 0 }
         ensures failing { source_failing result ≡ failing }
     {
@@ -45,24 +45,29 @@ impl MemSource {
 }
 
 impl Source for MemSource {
-    ghost use Rattle.spin_base.specs.MemoryEnds.{source_left, source_piece, source_faults, source_calls, source_failing};
+    ghost use Rattle.spin_base.specs.MemoryEnds.{source_left, source_piece, source_fault_count, source_calls, source_failing};
 
     ghost left = { λ s. Some (source_left s) };
 
-    ghost faults = { source_faults };
+    ghost faults = { source_fault_count };
 
     fn read(&mut self, buffer: &mut [u8]) -> Result<usize, Failed>
         requires { 0 < length buffer.old }
         ensures count { IfOk result (λ n. n ≤ length buffer.old) }
-        ensures reads { IfOk result (λ n. Reads (Some (source_left self.old)) n buffer.new (Some (source_left self.new))) }
-        ensures failed { OnErr result (FaultsRose (source_faults self.old) (source_faults self.new)) }
+        ensures reads { IfOk result (λ n. Reads (Some (source_left self.old)) n buffer.new (Some
+            (source_left self.new))) }
+        ensures failed { OnErr result (FaultsRose (source_fault_count self.old)
+            (source_fault_count self.new)) }
         ensures kept { OnErr result (Some (source_left self.new) ≡ Some (source_left self.old)) }
-        ensures counted { source_faults self.old ≤ source_faults self.new }
+        ensures counted { source_fault_count self.old ≤ source_fault_count self.new }
 
         // A call gives as much as it can, and counts a fault exactly where it fails.
-        ensures gives { IfOk result (λ n. n ≡ min (source_piece self.old) (min (length buffer.old) (length (source_left self.old)))) }
-        ensures no_fault { OnOk result (source_faults self.new ≡ source_faults self.old) }
-        ensures one_fault { OnErr result (source_faults self.new ≡ one_more (source_faults self.old)) }
+        ensures gives { IfOk result (λ n. n
+            ≡ min (source_piece self.old) (min (length buffer.old) (length
+            (source_left self.old)))) }
+        ensures no_fault { OnOk result (source_fault_count self.new ≡ source_fault_count self.old) }
+        ensures one_fault { OnErr result (source_fault_count self.new
+            ≡ one_more (source_fault_count self.old)) }
 
         // A call fails exactly where its number is listed.
         ensures piece { source_piece self.new ≡ source_piece self.old }
@@ -95,7 +100,7 @@ pub struct MemSink {
 }
 
 impl MemSink {
-    ghost use Rattle.spin_base.specs.MemoryEnds.{sink_written, sink_spare, sink_piece, sink_faults, sink_calls, sink_failing};
+    ghost use Rattle.spin_base.specs.MemoryEnds.{sink_written, sink_spare, sink_piece, sink_fault_count, sink_calls, sink_failing};
 
     /// A sink into this room, which takes at most `piece` bytes in one call. Its calls whose numbers, from 1, stand
     /// in `failing` fail, and so do all calls once the room has no spare.
@@ -105,7 +110,7 @@ impl MemSink {
         ensures written { sink_written result ≡ [] }
         ensures spare { sink_spare result ≡ room.spare }
         ensures piece { sink_piece result ≡ piece }
-        ensures faults { sink_faults result ≡ 0 }
+        ensures faults { sink_fault_count result ≡ 0 }
         ensures calls { sink_calls result ≡ 0 }
         ensures failing { sink_failing result ≡ failing }
     {
@@ -127,33 +132,38 @@ impl MemSink {
 }
 
 impl Sink for MemSink {
-    ghost use Rattle.spin_base.specs.MemoryEnds.{sink_written, sink_spare, sink_piece, sink_faults, sink_calls, sink_failing};
+    ghost use Rattle.spin_base.specs.MemoryEnds.{sink_written, sink_spare, sink_piece, sink_fault_count, sink_calls, sink_failing};
 
     ghost written = { λ s. Some (sink_written s) };
 
-    ghost faults = { sink_faults };
+    ghost faults = { sink_fault_count };
 
     fn write(&mut self, piece: &[u8]) -> Result<usize, Failed>
         requires { 0 < length piece.now }
         ensures some { IfOk result (λ n. 0 < n) }
         ensures count { IfOk result (λ n. n ≤ length piece.now) }
-        ensures takes { IfOk result (λ n. Takes (Some (sink_written self.old)) (take n piece.now) (Some (sink_written self.new))) }
-        ensures failed { OnErr result (FaultsRose (sink_faults self.old) (sink_faults self.new)) }
+        ensures takes { IfOk result (λ n. Takes (Some (sink_written self.old)) (take n piece.now)
+            (Some (sink_written self.new))) }
+        ensures failed { OnErr result (FaultsRose (sink_fault_count self.old)
+            (sink_fault_count self.new)) }
         ensures kept { OnErr result (Some (sink_written self.new) ≡ Some (sink_written self.old)) }
-        ensures counted { sink_faults self.old ≤ sink_faults self.new }
+        ensures counted { sink_fault_count self.old ≤ sink_fault_count self.new }
 
         // A call takes as much as it can, and counts a fault exactly where it fails.
-        ensures gets { IfOk result (λ n. n ≡ min (sink_piece self.old) (min (length piece.now) (sink_spare self.old))) }
+        ensures gets { IfOk result (λ n. n
+            ≡ min (sink_piece self.old) (min (length piece.now) (sink_spare self.old))) }
         ensures spare { IfOk result (λ n. sink_spare self.new + n ≡ sink_spare self.old) }
         ensures same_spare { OnErr result (sink_spare self.new ≡ sink_spare self.old) }
-        ensures no_fault { OnOk result (sink_faults self.new ≡ sink_faults self.old) }
-        ensures one_fault { OnErr result (sink_faults self.new ≡ one_more (sink_faults self.old)) }
+        ensures no_fault { OnOk result (sink_fault_count self.new ≡ sink_fault_count self.old) }
+        ensures one_fault { OnErr result (sink_fault_count self.new
+            ≡ one_more (sink_fault_count self.old)) }
 
         // A call fails exactly where its number is listed or there is no spare.
         ensures most { sink_piece self.new ≡ sink_piece self.old }
         ensures calls { sink_calls self.new ≡ one_more (sink_calls self.old) }
         ensures listed { sink_failing self.new ≡ sink_failing self.old }
-        ensures fails { IsErr result ↔ (Contains (sink_failing self.old) (sink_calls self.new) ⊎ (sink_spare self.old ≡ 0)) }
+        ensures fails { IsErr result
+            ↔ (Contains (sink_failing self.old) (sink_calls self.new) ⊎ (sink_spare self.old ≡ 0)) }
     {
         self.calls = self.calls.saturating_add(1);
         if self.failing.as_slice().contains(&self.calls) || self.room.spare() == 0 {

@@ -35,7 +35,8 @@ pub trait Sink {
         requires { 0 < length piece.now }
         ensures some { IfOk result (λ n. 0 < n) }
         ensures count { IfOk result (λ n. n ≤ length piece.now) }
-        ensures takes { IfOk result (λ n. Takes (written self.old) (take n piece.now) (written self.new)) }
+        ensures takes { IfOk result (λ n. Takes (written self.old) (take n piece.now)
+            (written self.new)) }
         ensures failed { OnErr result (FaultsRose (faults self.old) (faults self.new)) }
         ensures kept { OnErr result (written self.new ≡ written self.old) }
         ensures counted { faults self.old ≤ faults self.new };

@@ -35,9 +35,12 @@ pub fn read_all<S: Source>(alloc: Global, src: &mut S, limit: u64) -> Result<Seq
     ensures all { IfOk result (λ bytes. GivesAll (S.left src.old) bytes (S.left src.new)) }
     ensures within { IfOk result (λ bytes. length bytes ≤ limit) }
     ensures too_long { IsErrOf result ReadErr.TooLong → HasMoreThan limit (S.left src.old) }
-    ensures fault { IsErrOf result ReadErr.Fault → FaultsRose (S.faults src.old) (S.faults src.new) }
-    ensures past_limit { IsErrOf result ReadErr.TooLong → LosesMoreThan limit (S.left src.old) (S.left src.new) }
-    ensures up_to_limit { IsErrOf result ReadErr.TooLong ⊎ LosesAtMost limit (S.left src.old) (S.left src.new) }
+    ensures fault { IsErrOf result ReadErr.Fault
+        → FaultsRose (S.faults src.old) (S.faults src.new) }
+    ensures past_limit { IsErrOf result ReadErr.TooLong
+        → LosesMoreThan limit (S.left src.old) (S.left src.new) }
+    ensures up_to_limit { IsErrOf result ReadErr.TooLong
+        ⊎ LosesAtMost limit (S.left src.old) (S.left src.new) }
     ensures lost { LosesFront (S.left src.old) (S.left src.new) }
     ensures counted { S.faults src.old ≤ S.faults src.new }
 {

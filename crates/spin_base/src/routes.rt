@@ -82,7 +82,8 @@ impl Route {
     #[tactic(auto, using(crate::proofs::Outputs::outs_by_parts))]
     pub fn outs(self) -> Outs
         ensures all { result.items ≡ outs_of self }
-        ensures once { (o : Out) → IsOutput o → count_by (out_eq o) result.items ≡ (if has self o then 1 else 0) }
+        ensures once { (o : Out) → IsOutput o
+            → count_by (out_eq o) result.items ≡ (if has self o then 1 else 0) }
     {
         let mut outs = self.links();
         self.add_cores(&mut outs);

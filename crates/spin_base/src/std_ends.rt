@@ -38,14 +38,17 @@ impl<R: Read> Source for StdSource<R> {
         requires { 0 < length buffer.old }
         ensures count { IfOk result (λ n. n ≤ length buffer.old) }
         ensures reads { IfOk result (λ n. Reads (untold self.old) n buffer.new (untold self.new)) }
-        ensures failed { OnErr result (FaultsRose (std_source_faults self.old) (std_source_faults self.new)) }
+        ensures failed { OnErr result (FaultsRose (std_source_faults self.old)
+            (std_source_faults self.new)) }
         ensures kept { OnErr result (untold self.new ≡ untold self.old) }
         ensures counted { std_source_faults self.old ≤ std_source_faults self.new }
 
         // The call is the reader's, and counts a fault exactly where it fails.
-        ensures bytes { ReadConsumes (R.remaining (std_source_reader self.old)) (R.remaining (std_source_reader self.new)) result buffer.new }
+        ensures bytes { ReadConsumes (R.remaining (std_source_reader self.old)) (R.remaining
+            (std_source_reader self.new)) result buffer.new }
         ensures no_fault { OnOk result (std_source_faults self.new ≡ std_source_faults self.old) }
-        ensures one_fault { OnErr result (std_source_faults self.new ≡ one_more (std_source_faults self.old)) }
+        ensures one_fault { OnErr result (std_source_faults self.new
+            ≡ one_more (std_source_faults self.old)) }
     {
         match self.reader.read(buffer) {
             Ok(count) => Ok(count),
@@ -87,15 +90,19 @@ impl<W: Write> Sink for StdSink<W> {
         requires { 0 < length piece.now }
         ensures some { IfOk result (λ n. 0 < n) }
         ensures count { IfOk result (λ n. n ≤ length piece.now) }
-        ensures takes { IfOk result (λ n. Takes (untold self.old) (take n piece.now) (untold self.new)) }
-        ensures failed { OnErr result (FaultsRose (std_sink_faults self.old) (std_sink_faults self.new)) }
+        ensures takes { IfOk result (λ n. Takes (untold self.old) (take n piece.now)
+            (untold self.new)) }
+        ensures failed { OnErr result (FaultsRose (std_sink_faults self.old)
+            (std_sink_faults self.new)) }
         ensures kept { OnErr result (untold self.new ≡ untold self.old) }
         ensures counted { std_sink_faults self.old ≤ std_sink_faults self.new }
 
         // The call is the writer's, and counts a fault exactly where it fails.
-        ensures bytes { WriteAppends (W.contents (std_sink_writer self.old)) (W.contents (std_sink_writer self.new)) result piece.now }
+        ensures bytes { WriteAppends (W.contents (std_sink_writer self.old)) (W.contents
+            (std_sink_writer self.new)) result piece.now }
         ensures no_fault { OnOk result (std_sink_faults self.new ≡ std_sink_faults self.old) }
-        ensures one_fault { OnErr result (std_sink_faults self.new ≡ one_more (std_sink_faults self.old)) }
+        ensures one_fault { OnErr result (std_sink_faults self.new
+            ≡ one_more (std_sink_faults self.old)) }
     {
         match self.writer.write(piece) {
             Ok(count) if count > 0 => Ok(count),

@@ -14,7 +14,8 @@ pub enum WriteErr {
 /// Writes all the bytes in order. After a fault a proper prefix of them was written. It takes no memory.
 pub fn write_all<K: Sink>(sink: &mut K, bytes: &[u8]) -> Result<(), WriteErr>
     ensures all { OnOk result (Takes (K.written sink.old) bytes.now (K.written sink.new)) }
-    ensures part { OnErr result (TakesProperPrefix (K.written sink.old) bytes.now (K.written sink.new)) }
+    ensures part { OnErr result (TakesProperPrefix (K.written sink.old) bytes.now
+        (K.written sink.new)) }
     ensures fault { OnErr result (FaultsRose (K.faults sink.old) (K.faults sink.new)) }
     ensures counted { K.faults sink.old ≤ K.faults sink.new }
 {

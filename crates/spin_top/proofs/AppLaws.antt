@@ -3,19 +3,19 @@ use Rattle.std.proofs.Common.{◌≡◌, ℕ, ◌≤◌, List, [], ◌∷◌, le
 use Rattle.std.specs.List.{list_any}
 use Rattle.std.specs.Prelude.{is_some}
 use Rattle.serde_json.specs.Data.{Data}
-use Rattle.app_answers.specs.Answers.{AreAnswered, is_load}
+use Rattle.spin_apps.specs.Answers.{AreAnswered, is_load}
 use Rattle.app_loads.specs.Applications.{AreApps}
 use Rattle.app_loads.specs.Host.{Host}
-use Rattle.app_steps.specs.Steps.{steps_faults, steps_value}
-use Rattle.app_steps.specs.declared.steps.Step.{Step}
+use Rattle.job_requests.specs.Steps.{steps_faults, steps_value}
+use Rattle.job_requests.specs.declared.steps.Step.{Step}
 use Rattle.job_text.specs.declared.faults.JobFault.{JobFault}
 use Rattle.job_text.specs.Json.{json_of}
-use Rattle.job_bytes.specs.Inputs.{Reading, read_fault, too_long, not_read_as, no_memory}
-use Rattle.job_bytes.specs.Kinds.{input_by, input_in}
-use Rattle.job_bytes.specs.Steps.{steps_from, steps_in, steps_of}
-use Rattle.refusals.specs.Refusals.{status_of}
-use Rattle.refusals.specs.declared.causes.Refusal.{Refusal}
-use Rattle.refusals.specs.declared.causes.Refusal.TheVariants as refusals
+use Rattle.spin_input.specs.Inputs.{Reading, read_fault, too_long, not_read_as, no_memory}
+use Rattle.spin_input.specs.Kinds.{input_by, input_in}
+use Rattle.spin_input.specs.Steps.{steps_from, steps_in, app_steps_of}
+use Rattle.run_report.specs.Refusals.{status_of}
+use Rattle.run_report.specs.declared.causes.Refusal.{Refusal}
+use Rattle.run_report.specs.declared.causes.Refusal.TheVariants as refusals
 use Rattle.spin_top.specs.Causes.{HaveNoLines}
 use Rattle.spin_top.specs.Inputs.{IsRefusedFor, no_value, no_answer}
 use Rattle.spin_top.specs.Made.{AreDone, HaveOneText}
@@ -53,7 +53,7 @@ by_spared [] input r is = cc
 by_spared (f ∷ fs) input r is = let same : r ≡ refusals.Job f = cc in called r (refusals.Job f) same (low 4 (omega arith))
 
 from_spared : (o : Option Data) (r : Refusal) → steps_from o ≡ Err r → IsSpared (status_of r)
-unfolding steps_of
+unfolding app_steps_of
 from_spared None r is = let same : r ≡ refusals.NotJson = cc in called r refusals.NotJson same (low 4 (omega arith))
 from_spared (Some d) r is = by_spared (steps_faults d) (steps_value d) r is
 

@@ -1,30 +1,30 @@
 -- A request has an answer or one reason why it has none.
 use Rattle.std.proofs.Common.{◌≡◌, ℕ, List, [], ◌∷◌, length, nat_lt, Bool, true, false, if◌then◌else◌, codes, arith, Option, Some, None, Err, sym, ap, ◌∙◌, subst}
-use Rattle.list_laws.proofs.Places.{one_item_at}
+use Rattle.spin_base.proofs.Places.{one_item_at}
 use Rattle.app_graph.specs.declared.graphs.Net.{Net}
 use Rattle.app_graph.specs.declared.graphs.Vertex.{Vertex}
 use Rattle.place_fit.proofs.Determined as places
 use Rattle.key_alloc.proofs.Determined as blocks
-use Rattle.check_request.specs.declared.requests.Request.{Request}
-use Rattle.check_answers.specs.Answers.{IsAnswer, NamesMisrouted, RoutesRight, no_room, keys_out}
-use Rattle.check_answers.specs.Findings.{right_line}
-use Rattle.check_answers.specs.Plans.{HasKeptRows, trees_of}
+use Rattle.job_requests.specs.declared.requests.Request.{Request}
+use Rattle.spin_checks.specs.Answers.{IsAnswer, NamesMisrouted, RoutesRight, no_room, keys_out}
+use Rattle.spin_checks.specs.Findings.{right_line}
+use Rattle.spin_checks.specs.Plans.{HasKeptRows, trees_of}
 use Rattle.par_compile.specs.Compiled.{IsPlanOf}
 use Rattle.par_compile.specs.declared.compiling.Plan.{Plan}
 use Rattle.table_load.specs.Images.{Spells}
 use Rattle.table_load.specs.declared.tables.Image.{Image}
 use Rattle.machine_desc.specs.declared.trees.Edge.{Edge}
 use Rattle.run_report.specs.ReportText.{line}
-use Rattle.job_bytes.specs.Inputs.{Reading, read_fault, too_long, not_read_as, no_memory}
-use Rattle.job_bytes.specs.Kinds.{input_by, input_in}
-use Rattle.job_bytes.specs.Requests.{request_from, request_in, request_of}
+use Rattle.spin_input.specs.Inputs.{Reading, read_fault, too_long, not_read_as, no_memory}
+use Rattle.spin_input.specs.Kinds.{input_by, input_in}
+use Rattle.spin_input.specs.Requests.{request_from, request_in, request_of}
 use Rattle.job_text.specs.declared.faults.JobFault.{JobFault}
 use Rattle.job_text.specs.Json.{json_of}
 use Rattle.serde_json.specs.Data.{Data}
-use Rattle.check_request.specs.Requests.{request_faults, request_value}
-use Rattle.refusals.specs.Refusals.{status_of}
-use Rattle.refusals.specs.declared.causes.Refusal.{Refusal}
-use Rattle.refusals.specs.declared.causes.Refusal.TheVariants as refusals
+use Rattle.job_requests.specs.Requests.{request_faults, request_value}
+use Rattle.run_report.specs.Refusals.{status_of}
+use Rattle.run_report.specs.declared.causes.Refusal.{Refusal}
+use Rattle.run_report.specs.declared.causes.Refusal.TheVariants as refusals
 use Rattle.spin_top.specs.Causes.{HasNoNets}
 use Rattle.spin_top.specs.Ends.{HasNets}
 use Rattle.spin_top.specs.Inputs.{IsRefusedFor, no_value, no_answer}

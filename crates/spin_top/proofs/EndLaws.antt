@@ -3,37 +3,37 @@ use Rattle.std.proofs.Common.{◌≡◌, ◌⊎◌, ℕ, List, Option, Some, Non
 use Rattle.spin_base.specs.Outside.{FaultsRose}
 use Rattle.app_loads.specs.Applications.{AreApps}
 use Rattle.app_loads.specs.Host.{Host}
-use Rattle.app_steps.specs.declared.steps.Step.{Step}
+use Rattle.job_requests.specs.declared.steps.Step.{Step}
 use Rattle.mesh_core.specs.State.{State}
 use Rattle.mesh_core.specs.Opened.{MeetsJobLedger}
-use Rattle.check_request.specs.declared.requests.Request.{Request}
+use Rattle.job_requests.specs.declared.requests.Request.{Request}
 use Rattle.job_readers.specs.declared.jobs.Job.{Job}
 use Rattle.run_report.specs.declared.reports.Report.{Report}
 use Rattle.par_compile.specs.declared.compiling.Plan.{Plan}
-use Rattle.command_words.specs.Commands.{spelled, ReadsJob}
-use Rattle.command_words.specs.declared.commands.Command.{Command}
-use Rattle.command_words.specs.declared.commands.Command.TheVariants.{OfJob, Check, Apps}
-use Rattle.command_words.specs.declared.commands.JobWord.{JobWord}
-use Rattle.command_words.specs.declared.commands.JobWord.TheVariants.{Run, Reinject, Trace, Compile, Tables, Gen}
-use Rattle.refusals.specs.declared.causes.Refusal.{Refusal}
-use Rattle.refusals.specs.declared.causes.Refusal.TheVariants as refusals
-use Rattle.refusals.specs.Refusals.{line_of, status_at}
+use Rattle.spin_words.specs.Commands.{spelled, ReadsJob}
+use Rattle.spin_words.specs.declared.commands.Command.{Command}
+use Rattle.spin_words.specs.declared.commands.Command.TheVariants.{OfJob, Check, Apps}
+use Rattle.spin_words.specs.declared.commands.JobWord.{JobWord}
+use Rattle.spin_words.specs.declared.commands.JobWord.TheVariants.{Run, Reinject, Trace, Compile, Tables, Gen}
+use Rattle.run_report.specs.declared.causes.Refusal.{Refusal}
+use Rattle.run_report.specs.declared.causes.Refusal.TheVariants as refusals
+use Rattle.run_report.specs.Refusals.{line_of, status_at}
 use Rattle.job_gen.specs.Generated.{gen_job}
-use Rattle.job_bytes.specs.Inputs.{Reading, IsReadAs, IsUntouched}
-use Rattle.job_bytes.specs.Jobs.{job_in, job_of}
-use Rattle.job_bytes.specs.Requests.{request_in, request_of}
-use Rattle.job_bytes.specs.Steps.{steps_in, steps_of}
-use Rattle.job_bytes.proofs.JobBytes.{told_long}
-use Rattle.job_words.specs.declared.outcomes.Parts.{Parts}
-use Rattle.job_words.specs.Parts.{no_parts, WhereGiven, WhereRun}
-use Rattle.job_words.specs.Planned.{IsThePlan}
-use Rattle.job_words.specs.Reinjecting.{HasReinjected}
-use Rattle.job_words.specs.Runs.{HasRunOut}
-use Rattle.job_words.specs.Unplanned.{HasNoPlan}
-use Rattle.job_words.specs.Words.{IsTraced}
-use Rattle.job_words.proofs.Exclusive.{one_no_plan, planned_has_plan, plannable_has_plan}
-use Rattle.job_words.proofs.Generating.{generated_planned}
-use Rattle.job_words.proofs.WordLaws.{plan_given, ledger_given, run_given, reinject_given, trace_given, generated_given}
+use Rattle.spin_input.specs.Inputs.{Reading, IsReadAs, IsUntouched}
+use Rattle.spin_input.specs.Jobs.{job_in, job_of}
+use Rattle.spin_input.specs.Requests.{request_in, request_of}
+use Rattle.spin_input.specs.Steps.{steps_in, app_steps_of}
+use Rattle.spin_input.proofs.JobBytes.{told_long}
+use Rattle.spin_jobs.specs.declared.outcomes.Parts.{Parts}
+use Rattle.spin_jobs.specs.Parts.{no_parts, WhereGiven, WhereRun}
+use Rattle.spin_jobs.specs.Planned.{IsThePlan}
+use Rattle.spin_jobs.specs.Reinjecting.{HasReinjected}
+use Rattle.spin_jobs.specs.Runs.{HasRunOut}
+use Rattle.spin_jobs.specs.Unplanned.{HasNoPlan}
+use Rattle.spin_jobs.specs.Words.{IsTraced}
+use Rattle.spin_jobs.proofs.Exclusive.{one_no_plan, planned_has_plan, plannable_has_plan}
+use Rattle.spin_jobs.proofs.Generating.{generated_planned}
+use Rattle.spin_jobs.proofs.WordLaws.{plan_given, ledger_given, run_given, reinject_given, trace_given, generated_given}
 use Rattle.spin_top.specs.declared.outcomes.Outcome.{Outcome}
 use Rattle.spin_top.specs.Causes.{HasCause, usage, of_job, of_request, of_steps, no_memory, AskForApps, AskForCheck, AskForJob, HasNoNets, HaveNoLines, IsReadAsAsked}
 use Rattle.spin_top.specs.Ends.{Ends, made, refused, Says, IsExact, IsGenerated, IsOfApps, IsOfCheck, HasAnswer, has_plan, has_nets, has_steps}
@@ -189,7 +189,7 @@ module _ {words : List (List ℕ)} {reading : Reading} {writing : Writing} {o : 
       | usage none untouched is ↦ absurd (none_some (spelled words) Apps none asks)
       | of_job asked none ↦ absurd (job_not_apps (spelled words) asked.0 asked.1 asks)
       | of_request check none ↦ absurd (check_not_apps (spelled words) check asks)
-      | of_steps apps none ↦ refusal_due steps_in HaveNoLines (told_long steps_of) none_refused reading bytes told r s are none
+      | of_steps apps none ↦ refusal_due steps_in HaveNoLines (told_long app_steps_of) none_refused reading bytes told r s are none
       | no_memory part is ↦ inr (inr is)
     ])
   ]
@@ -328,7 +328,7 @@ module _ {words : List (List ℕ)} {reading : Reading} {writing : Writing} {o : 
       | usage none untouched is ↦ absurd (none_some (spelled words) Apps none asks)
       | of_job asked none ↦ absurd (job_not_apps (spelled words) asked.0 asked.1 asks)
       | of_request check none ↦ absurd (check_not_apps (spelled words) check asks)
-      | of_steps apps none ↦ served_memory steps_in HaveNoLines (told_long steps_of) reading served.bytes served.value served.told served.read quiet r (λ never. never) none
+      | of_steps apps none ↦ served_memory steps_in HaveNoLines (told_long app_steps_of) reading served.bytes served.value served.told served.read quiet r (λ never. never) none
       | no_memory part is ↦ is
     ]
   ]

@@ -6,8 +6,8 @@ use Rattle.job_gen.proofs.JobReading.{generated_clean, generated_is}
 use Rattle.job_text.specs.Json.{json_of}
 use Rattle.job_readers.specs.declared.jobs.Job.{Job}
 use Rattle.job_readers.specs.WholeJob.{job_value}
-use Rattle.job_bytes.specs.Kinds.{input_by}
-use Rattle.job_bytes.specs.Jobs.{job_from, job_of}
+use Rattle.spin_input.specs.Kinds.{input_by}
+use Rattle.spin_input.specs.Jobs.{job_from, job_of}
 
 pub is_generated : (n : ℕ) (text bytes : List ℕ) (job : Job) → json_of text ≡ Some (gen_value n) → bytes ≡ text → job_from (json_of bytes) ≡ Ok job → job ≡ gen_job n
 unfolding job_of

@@ -1,10 +1,10 @@
 -- What holds of each kind of input: bytes have one refusal or none, and a source that tells its bytes gave those.
 use Rattle.std.proofs.Common.{◌≡◌, ◌⊎◌, ℕ, List, Option, Some, Result, Ok, Err, sym, ap, ◌∙◌, subst, inl, inr}
 use Rattle.spin_base.specs.Outside.{FaultsRose, LosesMoreThan}
-use Rattle.refusals.specs.declared.causes.Refusal.{Refusal}
-use Rattle.refusals.specs.declared.causes.Refusal.TheVariants as refusals
-use Rattle.job_bytes.specs.Inputs.{Reading, IsReadAs, IsReadInPart, HasNoInput, read_fault, too_long, not_read_as, no_memory}
-use Rattle.job_bytes.proofs.JobBytes.{told_bytes}
+use Rattle.run_report.specs.declared.causes.Refusal.{Refusal}
+use Rattle.run_report.specs.declared.causes.Refusal.TheVariants as refusals
+use Rattle.spin_input.specs.Inputs.{Reading, IsReadAs, IsReadInPart, HasNoInput, read_fault, too_long, not_read_as, no_memory}
+use Rattle.spin_input.proofs.JobBytes.{told_bytes}
 use Rattle.spin_top.specs.Inputs.{IsRefusedFor, no_value, no_answer, AreRefused, are_no_value, are_no_answer}
 
 -- what was read, where there is no value

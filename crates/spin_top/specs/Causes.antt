@@ -1,18 +1,18 @@
 -- Why a call gives no text of its own (this project's own).
 use Rattle.std.specs.Prelude.{◌≡◌, ◌⊎◌, ℕ, List, Some, None}
-use Rattle.app_steps.specs.declared.steps.Step.{Step}
-use Rattle.check_request.specs.declared.requests.Request.{Request}
-use Rattle.check_answers.specs.Answers.{IsDue}
-use Rattle.command_words.specs.declared.commands.Command.TheVariants.{OfJob, Check, Apps}
-use Rattle.command_words.specs.declared.commands.JobWord.{JobWord}
-use Rattle.command_words.specs.Commands.{spelled, ReadsJob}
-use Rattle.refusals.specs.declared.causes.Refusal.{Refusal}
-use Rattle.refusals.specs.declared.causes.Refusal.TheVariants as refusals
-use Rattle.job_bytes.specs.Inputs.{Reading, IsUntouched, IsReadInPart}
-use Rattle.job_bytes.specs.Jobs.{job_in}
-use Rattle.job_bytes.specs.Requests.{request_in}
-use Rattle.job_bytes.specs.Steps.{steps_in}
-use Rattle.job_words.specs.Unplanned.{HasNoPlan}
+use Rattle.job_requests.specs.declared.steps.Step.{Step}
+use Rattle.job_requests.specs.declared.requests.Request.{Request}
+use Rattle.spin_checks.specs.Answers.{IsJobRefusal}
+use Rattle.spin_words.specs.declared.commands.Command.TheVariants.{OfJob, Check, Apps}
+use Rattle.spin_words.specs.declared.commands.JobWord.{JobWord}
+use Rattle.spin_words.specs.Commands.{spelled, ReadsJob}
+use Rattle.run_report.specs.declared.causes.Refusal.{Refusal}
+use Rattle.run_report.specs.declared.causes.Refusal.TheVariants as refusals
+use Rattle.spin_input.specs.Inputs.{Reading, IsUntouched, IsReadInPart}
+use Rattle.spin_input.specs.Jobs.{job_in}
+use Rattle.spin_input.specs.Requests.{request_in}
+use Rattle.spin_input.specs.Steps.{steps_in}
+use Rattle.spin_jobs.specs.Unplanned.{HasNoPlan}
 use Rattle.spin_top.specs.Inputs.{IsRefusedFor}
 
 -- the words are a command that reads a job
@@ -37,7 +37,7 @@ IsReadAsAsked words reading = (AskToRead words × IsReadInPart reading) ⊎ IsUn
 
 -- Why a request has no answer: a vertex of its job has no room, or all have, and a net has no keys.
 abbrev pub HasNoNets : Request → Refusal → Type 0
-HasNoNets request r = IsDue request.job.machine request.job.graph r
+HasNoNets request r = IsJobRefusal request.job.machine request.job.graph r
 
 -- No steps are without an answer: what is refused of a load is told in its line.
 abbrev pub HaveNoLines : List Step → Refusal → Type 0

@@ -1,26 +1,26 @@
 -- How a call ends (this project's own).
 use Rattle.std.specs.Prelude.{◌≡◌, ◌⊎◌, ◌≤◌, ℕ, List, Option, Some, None, IfSome, Result}
 use Rattle.app_loads.specs.Applications.{AreApps}
-use Rattle.app_steps.specs.declared.steps.Step.{Step}
-use Rattle.command_words.specs.declared.commands.Command.TheVariants.{OfJob}
-use Rattle.command_words.specs.declared.commands.JobWord.TheVariants.{Gen}
-use Rattle.command_words.specs.Commands.{spelled}
-use Rattle.refusals.specs.declared.causes.Refusal.{Refusal}
-use Rattle.refusals.specs.declared.causes.Refusal.TheVariants.{WriteFault, ReadFault, Memory, Usage}
-use Rattle.refusals.specs.Refusals.{line_of}
+use Rattle.job_requests.specs.declared.steps.Step.{Step}
+use Rattle.spin_words.specs.declared.commands.Command.TheVariants.{OfJob}
+use Rattle.spin_words.specs.declared.commands.JobWord.TheVariants.{Gen}
+use Rattle.spin_words.specs.Commands.{spelled}
+use Rattle.run_report.specs.declared.causes.Refusal.{Refusal}
+use Rattle.run_report.specs.declared.causes.Refusal.TheVariants.{WriteFault, ReadFault, Memory, Usage}
+use Rattle.run_report.specs.Refusals.{line_of}
 use Rattle.spin_base.specs.Outside.{FaultsRose}
-use Rattle.job_bytes.specs.Inputs.{Reading, IsUntouched}
-use Rattle.job_bytes.specs.Jobs.{job_in}
-use Rattle.job_bytes.specs.Requests.{request_in}
-use Rattle.job_bytes.specs.Steps.{steps_in}
-use Rattle.check_request.specs.declared.requests.Request.{Request}
+use Rattle.spin_input.specs.Inputs.{Reading, IsUntouched}
+use Rattle.spin_input.specs.Jobs.{job_in}
+use Rattle.spin_input.specs.Requests.{request_in}
+use Rattle.spin_input.specs.Steps.{steps_in}
+use Rattle.job_requests.specs.declared.requests.Request.{Request}
 use Rattle.par_compile.specs.Compiled.{HasPlacement}
-use Rattle.job_words.specs.Parts.{no_parts, WhereRun}
-use Rattle.job_words.specs.Runs.{HasRunOut}
-use Rattle.job_words.specs.Unplanned.{CanBePlanned, HasBlocks, HasNoPlan}
+use Rattle.spin_jobs.specs.Parts.{no_parts, WhereRun}
+use Rattle.spin_jobs.specs.Runs.{HasRunOut}
+use Rattle.spin_jobs.specs.Unplanned.{CanBePlanned, HasBlocks, HasNoPlan}
 use Rattle.spin_top.specs.declared.outcomes.Outcome.{Outcome}
 use Rattle.spin_top.specs.Causes.{HasCause, HasNoNets, HaveNoLines, AskForApps, AskForCheck, AskForJob}
-use Rattle.spin_top.specs.Inputs.{AreRefused, IsServed}
+use Rattle.spin_top.specs.Inputs.{AreRefused, TellsAnswerable}
 use Rattle.spin_top.specs.Made.{IsMade}
 use Rattle.spin_top.specs.Writing.{Writing, IsWritten}
 
@@ -57,9 +57,9 @@ CanBeDone steps = Unit {0}
 -- The words ask for a job, and the source tells the bytes of one that can be planned. Or they ask for a request, and it tells the
 -- bytes of one whose job can be placed and has keys. Or they ask for steps, and it tells the bytes of some.
 pub data HasAnswer (words : List (List ℕ)) (left : Option (List ℕ)) : Type 0 where
-  has_plan : AskForJob words → IsServed job_in CanBePlanned left → HasAnswer words left
-  has_nets : AskForCheck words → IsServed request_in HasNets left → HasAnswer words left
-  has_steps : AskForApps words → IsServed steps_in CanBeDone left → HasAnswer words left
+  has_plan : AskForJob words → TellsAnswerable job_in CanBePlanned left → HasAnswer words left
+  has_nets : AskForCheck words → TellsAnswerable request_in HasNets left → HasAnswer words left
+  has_steps : AskForApps words → TellsAnswerable steps_in CanBeDone left → HasAnswer words left
 
 -- How `gen N` ends: nothing is read, and what is given is a run that has come to its end. The status is 0; or 9, where memory ran
 -- out; or 3, at a fault of the sink.

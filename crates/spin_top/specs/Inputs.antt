@@ -1,8 +1,8 @@
 -- What a call makes of an input. For each kind of input there is a function from bytes to values, and what says of a value why
 -- it has no answer, or that it can have one (this project's own).
 use Rattle.std.specs.Prelude.{◌≡◌, ℕ, List, Option, Some, Result, Ok, Err}
-use Rattle.refusals.specs.declared.causes.Refusal.{Refusal}
-use Rattle.job_bytes.specs.Inputs.{Reading, IsReadAs, HasNoInput}
+use Rattle.run_report.specs.declared.causes.Refusal.{Refusal}
+use Rattle.spin_input.specs.Inputs.{Reading, IsReadAs, HasNoInput}
 
 -- Why a call has no answer, with what was read of the source: there is no value, for which reading has its causes; or all bytes
 -- that the source had left are a value, and it has no answer.
@@ -16,7 +16,7 @@ pub data AreRefused {A : Type 0} (value_in : List ℕ → Result A Refusal) (Has
   are_no_answer : (value : A) → value_in bytes ≡ Ok value → HasNone value r → AreRefused value_in HasNone bytes r
 
 -- the source tells the bytes of a value that can have an answer
-pub record IsServed {A : Type 0} (value_in : List ℕ → Result A Refusal) (CanHave : A → Type 0) (left : Option (List ℕ)) : Type 0 where
+pub record TellsAnswerable {A : Type 0} (value_in : List ℕ → Result A Refusal) (CanHave : A → Type 0) (left : Option (List ℕ)) : Type 0 where
   pub bytes : List ℕ
   pub told : left ≡ Some bytes
   pub value : A

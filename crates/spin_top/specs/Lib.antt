@@ -2,11 +2,11 @@ pub use Rattle.spin_base.specs.Outside
 pub use Rattle.app_graph.specs.RunPart
 pub use Rattle.app_graph.specs.ValidGraph
 pub use Rattle.mesh_core.specs.State
-pub use Rattle.app_answers.specs.Answers
-pub use Rattle.command_words.specs.Commands
-pub use Rattle.refusals.specs.Refusals
-pub use Rattle.job_bytes.specs.Jobs
-pub use Rattle.job_words.specs.Words
+pub use Rattle.spin_apps.specs.Answers
+pub use Rattle.spin_words.specs.Commands
+pub use Rattle.run_report.specs.Refusals
+pub use Rattle.spin_input.specs.Jobs
+pub use Rattle.spin_jobs.specs.Words
 pub mod Causes
 pub mod Ends
 pub mod Inputs

@@ -1,34 +1,34 @@
 -- What a call makes (this project's own).
 use Rattle.std.specs.Prelude.{◌≡◌, ◌∷◌, ℕ, List, Option, Some, None, IfSome, is_some, codes}
 use Rattle.std.specs.List.{list_any}
-use Rattle.app_answers.specs.Answers.{AreAnswered, AreAnsweredThrough, is_load}
+use Rattle.spin_apps.specs.Answers.{AreAnswered, AreAnsweredThrough, is_load}
 use Rattle.app_loads.specs.Applications.{AreApps}
 use Rattle.app_loads.specs.Host.{Host}
-use Rattle.app_steps.specs.declared.steps.Step.{Step}
-use Rattle.check_request.specs.declared.requests.Request.{Request}
-use Rattle.check_answers.specs.Answers.{IsAnswer, NamesMisrouted, RoutesRight}
-use Rattle.check_answers.specs.Findings.{right_line}
-use Rattle.check_answers.specs.Plans.{HasKeptRows, trees_of}
+use Rattle.job_requests.specs.declared.steps.Step.{Step}
+use Rattle.job_requests.specs.declared.requests.Request.{Request}
+use Rattle.spin_checks.specs.Answers.{IsAnswer, NamesMisrouted, RoutesRight}
+use Rattle.spin_checks.specs.Findings.{right_line}
+use Rattle.spin_checks.specs.Plans.{HasKeptRows, trees_of}
 use Rattle.par_compile.specs.Compiled.{IsPlanOf}
 use Rattle.par_compile.specs.declared.compiling.Plan.{Plan}
 use Rattle.table_load.specs.Images.{Spells}
 use Rattle.table_load.specs.declared.tables.Image.{Image}
 use Rattle.job_readers.specs.declared.jobs.Job.{Job}
 use Rattle.run_report.specs.ReportText.{line}
-use Rattle.command_words.specs.Commands.{spelled}
-use Rattle.command_words.specs.declared.commands.Command.TheVariants.{OfJob}
-use Rattle.command_words.specs.declared.commands.JobWord.{JobWord}
-use Rattle.command_words.specs.declared.commands.JobWord.TheVariants.{Run, Reinject, Trace, Compile, Tables, Gen}
-use Rattle.refusals.specs.declared.causes.Refusal.{Refusal}
-use Rattle.refusals.specs.declared.causes.Refusal.TheVariants as refusals
-use Rattle.job_bytes.specs.Inputs.{Reading, HasNoInput, IsReadAs, IsUntouched}
-use Rattle.job_bytes.specs.Jobs.{job_in}
-use Rattle.job_bytes.specs.Requests.{request_in}
-use Rattle.job_bytes.specs.Steps.{steps_in}
+use Rattle.spin_words.specs.Commands.{spelled}
+use Rattle.spin_words.specs.declared.commands.Command.TheVariants.{OfJob}
+use Rattle.spin_words.specs.declared.commands.JobWord.{JobWord}
+use Rattle.spin_words.specs.declared.commands.JobWord.TheVariants.{Run, Reinject, Trace, Compile, Tables, Gen}
+use Rattle.run_report.specs.declared.causes.Refusal.{Refusal}
+use Rattle.run_report.specs.declared.causes.Refusal.TheVariants as refusals
+use Rattle.spin_input.specs.Inputs.{Reading, HasNoInput, IsReadAs, IsUntouched}
+use Rattle.spin_input.specs.Jobs.{job_in}
+use Rattle.spin_input.specs.Requests.{request_in}
+use Rattle.spin_input.specs.Steps.{steps_in}
 use Rattle.job_gen.specs.Generated.{gen_job}
-use Rattle.job_words.specs.declared.outcomes.Parts.{Parts}
-use Rattle.job_words.specs.Parts.{no_parts}
-use Rattle.job_words.specs.Words.{IsMadeOf}
+use Rattle.spin_jobs.specs.declared.outcomes.Parts.{Parts}
+use Rattle.spin_jobs.specs.Parts.{no_parts}
+use Rattle.spin_jobs.specs.Words.{IsMadeOf}
 use Rattle.spin_top.specs.Causes.{AskForApps, AskForCheck}
 
 -- ---- words of a job

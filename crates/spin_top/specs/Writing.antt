@@ -1,8 +1,8 @@
 -- What a call writes (this project's own).
 use Rattle.std.specs.Prelude.{◌≡◌, ◌⊎◌, ℕ, List, Option, Some}
 use Rattle.spin_base.specs.Outside.{FaultsRose, Takes, TakesProperPrefix}
-use Rattle.refusals.specs.declared.causes.Refusal.{Refusal}
-use Rattle.refusals.specs.declared.causes.Refusal.TheVariants.{WriteFault}
+use Rattle.run_report.specs.declared.causes.Refusal.{Refusal}
+use Rattle.run_report.specs.declared.causes.Refusal.TheVariants.{WriteFault}
 
 -- A sink before and after a call: what it had taken and has taken, where it tells that, and its counts of faults.
 pub record Writing : Type 0 where
@@ -10,6 +10,15 @@ pub record Writing : Type 0 where
   pub written' : Option (List ℕ)
   pub faults : ℕ
   pub faults' : ℕ
+
+-- a sink before and after a call, by what tells what it took and what counts its faults
+abbrev pub writing_of : {K : Type 0} → (K → Option (List ℕ)) → (K → ℕ) → K → K → Writing
+writing_of written faults old new = record {
+  written = written old;
+  written' = written new;
+  faults = faults old;
+  faults' = faults new;
+}
 
 -- A text was written whole, and no byte besides; and the call says what it says then. Or, at a fault of the sink, a proper
 -- prefix of it was written, and the call says that.

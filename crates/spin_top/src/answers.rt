@@ -1,17 +1,18 @@
 // What each kind of words makes of the input that it asks for.
 ghost use Rattle.std.specs.Prelude.{◌≡◌, ℕ, List, Some, IfOk, IfErr};
-ghost use Rattle.command_words.specs.Commands.{spelled};
-ghost use Rattle.command_words.specs.declared.commands.Command.TheVariants.{OfJob};
+ghost use Rattle.spin_words.specs.Commands.{spelled};
+ghost use Rattle.spin_words.specs.declared.commands.Command.TheVariants.{OfJob};
+ghost use Rattle.spin_input.specs.Inputs.{reading_of};
 ghost use Rattle.spin_top.specs.Causes.{AskForApps, AskForCheck, HasCause};
 ghost use Rattle.spin_top.specs.Made.{IsMade};
 
 use crate::inputs::job_for;
 use crate::outcomes::{Output, no_parts};
-use command_words::JobWord;
-use job_bytes::{read_request, read_steps};
-use job_words::made_of_job;
-use refusals::Refusal;
+use run_report::Refusal;
 use spin_base::{Gate, Memory, Source};
+use spin_input::{read_request, read_steps};
+use spin_jobs::made_of_job;
+use spin_words::JobWord;
 use std::alloc::Global;
 use std::sync::Wait;
 use std::thread::Threads;
@@ -24,11 +25,13 @@ pub(crate) fn from_job<R: Threads + Wait + Sync, S: Source, G: Gate>(
     source: &mut S,
     gate: &G,
 ) -> Result<Output, Refusal>
-    ensures made { (words : List (List ℕ)) → spelled words ≡ Some (OfJob word) → IfOk result (λ made. IsMade words
-        (record { left = S.left source.old; rest = S.left source.new; faults = S.faults source.old; faults' = S.faults source.new })
+    ensures made { (words : List (List ℕ)) → spelled words ≡ Some (OfJob word)
+        → IfOk result (λ made. IsMade words
+        (reading_of S.left S.faults source.old source.new)
         made.parts made.apps made.text) }
-    ensures err { (words : List (List ℕ)) → spelled words ≡ Some (OfJob word) → IfErr result (HasCause words
-        (record { left = S.left source.old; rest = S.left source.new; faults = S.faults source.old; faults' = S.faults source.new })) }
+    ensures err { (words : List (List ℕ)) → spelled words ≡ Some (OfJob word)
+        → IfErr result (HasCause words
+        (reading_of S.left S.faults source.old source.new)) }
 {
     let job = job_for(alloc, word, source)?;
     let made = made_of_job(rt, alloc, word, job, gate)?;
@@ -42,15 +45,15 @@ pub(crate) fn from_job<R: Threads + Wait + Sync, S: Source, G: Gate>(
 // The answer to the request that the source's bytes are.
 pub(crate) fn checked<S: Source>(alloc: Global, source: &mut S) -> Result<Output, Refusal>
     ensures made { (words : List (List ℕ)) → AskForCheck words → IfOk result (λ made. IsMade words
-        (record { left = S.left source.old; rest = S.left source.new; faults = S.faults source.old; faults' = S.faults source.new })
+        (reading_of S.left S.faults source.old source.new)
         made.parts made.apps made.text) }
     ensures err { (words : List (List ℕ)) → AskForCheck words → IfErr result (HasCause words
-        (record { left = S.left source.old; rest = S.left source.new; faults = S.faults source.old; faults' = S.faults source.new })) }
+        (reading_of S.left S.faults source.old source.new)) }
 {
     let request = read_request(alloc, source)?;
     let trees = request.trees.as_slice();
     let image = request.image.as_slice();
-    let text = check_answers::answer(
+    let text = spin_checks::answer(
         alloc,
         &request.job.machine,
         &request.job.graph,
@@ -67,13 +70,13 @@ pub(crate) fn checked<S: Source>(alloc: Global, source: &mut S) -> Result<Output
 // The answers to the steps that the source's bytes are.
 pub(crate) fn done<S: Source>(alloc: Global, source: &mut S) -> Result<Output, Refusal>
     ensures made { (words : List (List ℕ)) → AskForApps words → IfOk result (λ made. IsMade words
-        (record { left = S.left source.old; rest = S.left source.new; faults = S.faults source.old; faults' = S.faults source.new })
+        (reading_of S.left S.faults source.old source.new)
         made.parts made.apps made.text) }
     ensures err { (words : List (List ℕ)) → AskForApps words → IfErr result (HasCause words
-        (record { left = S.left source.old; rest = S.left source.new; faults = S.faults source.old; faults' = S.faults source.new })) }
+        (reading_of S.left S.faults source.old source.new)) }
 {
     let steps = read_steps(alloc, source)?;
-    match app_answers::answer(alloc, steps.as_slice()) {
+    match spin_apps::answer(alloc, steps.as_slice()) {
         Ok(answered) => Ok(Output {
             parts: no_parts(),
             apps: answered.apps,

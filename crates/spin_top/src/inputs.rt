@@ -3,15 +3,16 @@ ghost use Rattle.std.specs.Prelude.{◌≡◌, IfOk, IfErr};
 ghost use Rattle.app_graph.specs.RunPart.{IsRunOf};
 ghost use Rattle.app_graph.specs.ValidGraph.{IsValidGraph};
 ghost use Rattle.job_gen.specs.Generated.{gen_job};
-ghost use Rattle.refusals.specs.declared.causes.Refusal.TheVariants.{Memory as NoMemory};
+ghost use Rattle.run_report.specs.declared.causes.Refusal.TheVariants.{Memory as NoMemory};
+ghost use Rattle.spin_input.specs.Inputs.{reading_of};
 ghost use Rattle.spin_top.specs.Made.{HasNoJob, IsJobOf};
 
-use command_words::JobWord;
-use job_bytes::{job_of_text, read_job};
 use job_gen::gen_text;
 use job_readers::Job;
-use refusals::Refusal;
+use run_report::Refusal;
 use spin_base::{Memory, Source};
+use spin_input::{job_of_text, read_job};
+use spin_words::JobWord;
 use std::alloc::Global;
 
 // The job of a word: that of the number of `gen`, for which nothing is read, or the one that the source's bytes are.
@@ -20,10 +21,10 @@ pub(crate) fn job_for<S: Source>(
     word: JobWord,
     source: &mut S,
 ) -> Result<Job, Refusal>
-    ensures job { IfOk result (IsJobOf word (record { left = S.left source.old; rest = S.left source.new; faults = S.faults source.old; faults' = S.faults source.new })) }
+    ensures job { IfOk result (IsJobOf word (reading_of S.left S.faults source.old source.new)) }
     ensures graph { IfOk result (λ job. IsValidGraph job.graph) }
     ensures run { IfOk result (λ job. IsRunOf job.graph job.run) }
-    ensures err { IfErr result (HasNoJob word (record { left = S.left source.old; rest = S.left source.new; faults = S.faults source.old; faults' = S.faults source.new })) }
+    ensures err { IfErr result (HasNoJob word (reading_of S.left S.faults source.old source.new)) }
 {
     match word {
         JobWord::Gen(number) => generated_job(alloc, number),

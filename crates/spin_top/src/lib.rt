@@ -15,8 +15,8 @@ mod inputs;
 mod outcomes;
 mod tops;
 
-pub use command_words::{Command, JobWord, command_of};
-pub use job_words::Parts;
 pub use outcomes::Outcome;
-pub use refusals::Refusal;
+pub use run_report::Refusal;
+pub use spin_jobs::Parts;
+pub use spin_words::{Command, JobWord, command_of};
 pub use tops::spin;

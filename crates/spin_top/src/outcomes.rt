@@ -1,11 +1,11 @@
 // What came of a call.
 ghost use Rattle.std.specs.Prelude.{◌≡◌};
-ghost use Rattle.job_words.specs.Parts.{no_parts};
+ghost use Rattle.spin_jobs.specs.Parts.{no_parts};
 
 use app_loads::Apps;
-use job_words::Parts;
-use refusals::Refusal;
+use run_report::Refusal;
 use spin_base::Seq;
+use spin_jobs::Parts;
 
 /// What came of a call: the status, what was made, and why there is no text of its own. The parts of a job, or the machine with its
 /// applications, are given where the whole text was made, also where writing it failed.

@@ -2,26 +2,27 @@
 ghost use Rattle.std.specs.Prelude.{◌≡◌, ◌⊎◌, Some, None, IfOk, IfErr};
 ghost use Rattle.mesh_core.specs.Opened.{MeetsJobLedger};
 ghost use Rattle.spin_base.specs.Outside.{FaultsRose};
-ghost use Rattle.command_words.specs.Commands.{spelled, texts_of};
-ghost use Rattle.command_words.specs.declared.commands.Command.TheVariants.{OfJob};
-ghost use Rattle.command_words.specs.declared.commands.JobWord.TheVariants.{Run, Reinject, Trace};
-ghost use Rattle.refusals.specs.Refusals.{line_of as line_of_refusal, status_at};
-ghost use Rattle.refusals.specs.declared.causes.Refusal.TheVariants.{Memory as NoMemory};
-ghost use Rattle.job_words.specs.Parts.{no_parts, WhereGiven, WhereRun};
-ghost use Rattle.job_words.specs.Planned.{IsThePlan};
-ghost use Rattle.job_words.specs.Reinjecting.{HasReinjected};
-ghost use Rattle.job_words.specs.Runs.{HasRunOut};
-ghost use Rattle.job_words.specs.Words.{IsTraced};
+ghost use Rattle.spin_words.specs.Commands.{spelled, texts_of};
+ghost use Rattle.spin_words.specs.declared.commands.Command.TheVariants.{OfJob};
+ghost use Rattle.spin_words.specs.declared.commands.JobWord.TheVariants.{Run, Reinject, Trace};
+ghost use Rattle.run_report.specs.Refusals.{line_of as line_of_refusal, status_at};
+ghost use Rattle.run_report.specs.declared.causes.Refusal.TheVariants.{Memory as NoMemory};
+ghost use Rattle.spin_jobs.specs.Parts.{no_parts, WhereGiven, WhereRun};
+ghost use Rattle.spin_jobs.specs.Planned.{IsThePlan};
+ghost use Rattle.spin_jobs.specs.Reinjecting.{HasReinjected};
+ghost use Rattle.spin_jobs.specs.Runs.{HasRunOut};
+ghost use Rattle.spin_jobs.specs.Words.{IsTraced};
+ghost use Rattle.spin_input.specs.Inputs.{reading_of};
 ghost use Rattle.spin_top.specs.Causes.{AskForApps, AskForCheck, HasCause};
 ghost use Rattle.spin_top.specs.Ends.{Ends, EndsGenerated, HasAnswer, IsExact, IsOfApps, IsOfCheck};
 ghost use Rattle.spin_top.specs.Made.{IsMade};
-ghost use Rattle.spin_top.specs.Writing.{IsWritten};
+ghost use Rattle.spin_top.specs.Writing.{IsWritten, writing_of};
 
 use crate::answers::{checked, done, from_job};
 use crate::outcomes::{Outcome, Output, no_parts};
-use command_words::{Command, command_of};
-use refusals::{OUT_OF_MEMORY, Refusal, line_of};
+use run_report::{OUT_OF_MEMORY, Refusal, line_of};
 use spin_base::{Gate, Memory, Sink, Source, write_all};
+use spin_words::{Command, command_of};
 use std::alloc::Global;
 use std::sync::Wait;
 use std::thread::Threads;
@@ -54,23 +55,29 @@ pub fn spin<Rt: Threads + Wait + Sync, S: Source, K: Sink, G: Gate>(
 ) -> Outcome
     ensures status { result.status ≡ status_at result.refusal }
     ensures ends { Ends (texts_of words.now)
-        (record { left = S.left source.old; rest = S.left source.new; faults = S.faults source.old; faults' = S.faults source.new })
-        (record { written = K.written sink.old; written' = K.written sink.new; faults = K.faults sink.old; faults' = K.faults sink.new })
+        (reading_of S.left S.faults source.old source.new)
+        (writing_of K.written K.faults sink.old sink.new)
         result }
     ensures plan { WhereGiven result.parts IsThePlan }
-    ensures ledger { WhereRun result.parts (λ job plan mesh report. MeetsJobLedger mesh plan.nets job.run.packets) }
-    ensures run { spelled (texts_of words.now) ≡ Some (OfJob Run) → WhereRun result.parts HasRunOut }
-    ensures reinject { spelled (texts_of words.now) ≡ Some (OfJob Reinject) → WhereRun result.parts HasReinjected }
-    ensures trace { spelled (texts_of words.now) ≡ Some (OfJob Trace) → WhereRun result.parts IsTraced }
+    ensures ledger { WhereRun result.parts (λ job plan mesh report.
+        MeetsJobLedger mesh plan.nets job.run.packets) }
+    ensures run { spelled (texts_of words.now) ≡ Some (OfJob Run)
+        → WhereRun result.parts HasRunOut }
+    ensures reinject { spelled (texts_of words.now) ≡ Some (OfJob Reinject)
+        → WhereRun result.parts HasReinjected }
+    ensures trace { spelled (texts_of words.now) ≡ Some (OfJob Trace)
+        → WhereRun result.parts IsTraced }
     ensures generated { EndsGenerated (texts_of words.now)
-        (record { left = S.left source.old; rest = S.left source.new; faults = S.faults source.old; faults' = S.faults source.new })
-        (record { written = K.written sink.old; written' = K.written sink.new; faults = K.faults sink.old; faults' = K.faults sink.new })
+        (reading_of S.left S.faults source.old source.new)
+        (writing_of K.written K.faults sink.old sink.new)
         result }
     ensures checked { AskForCheck (texts_of words.now) → IsOfCheck result }
     ensures apps { AskForApps (texts_of words.now) → IsOfApps result }
     ensures exact { IsExact (texts_of words.now) (S.left source.old) result.refusal }
-    ensures complete { HasAnswer (texts_of words.now) (S.left source.old) → ¬ FaultsRose (S.faults source.old) (S.faults source.new) →
-        ¬ FaultsRose (K.faults sink.old) (K.faults sink.new) → (result.status ≡ 0) ⊎ (result.status ≡ 9) }
+    ensures complete { HasAnswer (texts_of words.now) (S.left source.old)
+        → ¬ FaultsRose (S.faults source.old) (S.faults source.new) →
+        ¬ FaultsRose (K.faults sink.old) (K.faults sink.new)
+        → (result.status ≡ 0) ⊎ (result.status ≡ 9) }
 {
     answered(rt, alloc, words, source, sink, gate)
 }
@@ -86,8 +93,8 @@ fn answered<R: Threads + Wait + Sync, S: Source, K: Sink, G: Gate>(
 ) -> Outcome
     ensures status { result.status ≡ status_at result.refusal }
     ensures ends { Ends (texts_of words.now)
-        (record { left = S.left source.old; rest = S.left source.new; faults = S.faults source.old; faults' = S.faults source.new })
-        (record { written = K.written sink.old; written' = K.written sink.new; faults = K.faults sink.old; faults' = K.faults sink.new })
+        (reading_of S.left S.faults source.old source.new)
+        (writing_of K.written K.faults sink.old sink.new)
         result }
 {
     match made_of(rt, alloc, words, source, gate) {
@@ -105,10 +112,10 @@ fn made_of<R: Threads + Wait + Sync, S: Source, G: Gate>(
     gate: &G,
 ) -> Result<Output, Refusal>
     ensures made { IfOk result (λ made. IsMade (texts_of words.now)
-        (record { left = S.left source.old; rest = S.left source.new; faults = S.faults source.old; faults' = S.faults source.new })
+        (reading_of S.left S.faults source.old source.new)
         made.parts made.apps made.text) }
     ensures err { IfErr result (HasCause (texts_of words.now)
-        (record { left = S.left source.old; rest = S.left source.new; faults = S.faults source.old; faults' = S.faults source.new })) }
+        (reading_of S.left S.faults source.old source.new)) }
 {
     let Some(command) = command_of(words) else {
         return Err(Refusal::Usage);
@@ -125,7 +132,7 @@ fn write_text<K: Sink>(made: Output, sink: &mut K) -> Outcome
     ensures status { result.status ≡ status_at result.refusal }
     ensures parts { result.parts ≡ made.parts }
     ensures apps { result.apps ≡ made.apps }
-    ensures written { IsWritten (record { written = K.written sink.old; written' = K.written sink.new; faults = K.faults sink.old; faults' = K.faults sink.new })
+    ensures written { IsWritten (writing_of K.written K.faults sink.old sink.new)
         made.text None result.refusal }
 {
     let Output { parts, apps, text } = made;
@@ -150,9 +157,9 @@ fn write_refusal<K: Sink>(alloc: Global, refusal: Refusal, sink: &mut K) -> Outc
     ensures status { result.status ≡ status_at result.refusal }
     ensures parts { result.parts ≡ no_parts }
     ensures apps { result.apps ≡ None }
-    ensures written { IsWritten (record { written = K.written sink.old; written' = K.written sink.new; faults = K.faults sink.old; faults' = K.faults sink.new })
+    ensures written { IsWritten (writing_of K.written K.faults sink.old sink.new)
         (line_of_refusal refusal) (Some refusal) result.refusal
-        ⊎ IsWritten (record { written = K.written sink.old; written' = K.written sink.new; faults = K.faults sink.old; faults' = K.faults sink.new })
+        ⊎ IsWritten (writing_of K.written K.faults sink.old sink.new)
         (line_of_refusal NoMemory) (Some NoMemory) result.refusal }
 {
     match line_of(alloc, &refusal) {
@@ -167,7 +174,7 @@ fn write_line<K: Sink>(refusal: Refusal, line: &[u8], sink: &mut K) -> Outcome
     ensures status { result.status ≡ status_at result.refusal }
     ensures parts { result.parts ≡ no_parts }
     ensures apps { result.apps ≡ None }
-    ensures written { IsWritten (record { written = K.written sink.old; written' = K.written sink.new; faults = K.faults sink.old; faults' = K.faults sink.new })
+    ensures written { IsWritten (writing_of K.written K.faults sink.old sink.new)
         (line_of_refusal refusal) (Some refusal) result.refusal }
 {
     let refusal = match write_all(sink, line) {

@@ -5,7 +5,7 @@ use Rattle.std.proofs.lemmas.List.Elements.{All-nil, All-cons}
 use Rattle.std.proofs.lemmas.List.Kept.{AllPairs-cons}
 use Rattle.spin_base.specs.declared.routes.Route.{Route}
 use Rattle.tern_word.specs.declared.tables.Row.{Row}
-use Rattle.cover_checks.specs.Merge.{IsOneRoute, SameRoute}
+use Rattle.cover_merge.specs.Merge.{IsOneRoute, SameRoute}
 
 pairs_of_four : (R : ℕ → ℕ → Type 0) → R 0 1 → R 0 2 → R 0 3 → R 1 2 → R 1 3 → R 2 3 → AllPairs R (0 ∷ 1 ∷ 2 ∷ 3 ∷ [])
 pairs_of_four R a b c d e f =

@@ -1,8 +1,8 @@
 // A set refined by hand, on a table that is asked whether it is sound.
 ghost use Rattle.std.specs.Prelude.{◌≡◌, ◌∷◌, [], IfOk, length};
-ghost use Rattle.cover_checks.specs.Merge.{IsOneRoute};
+ghost use Rattle.cover_merge.specs.Merge.{IsOneRoute};
 
-use cover_merge::refine;
+use cover_merge::{down_check, refine, up_check};
 use spin_base::{Block, Memory, Port, Route, Seq};
 use std::alloc::Global;
 use tern_word::{Alias, Row, Table, block_of, is_sound};
@@ -55,6 +55,24 @@ fn refined(alloc: Global) -> Result<Seq<u32>, Memory> {
         return Ok(Seq::from_vec(places));
     }
     refine(alloc, &table, Seq::from_vec(places))
+}
+
+// Whether the merge of all rows that go East passes the up-check, and whether it passes the down-check.
+fn checked(alloc: Global) -> Result<(bool, bool), Memory> {
+    let table = table(alloc)?;
+    let places = [0, 1, 2, 3];
+    Ok((up_check(&table, &places), down_check(&table, &places)))
+}
+
+// It would be as general as the row that goes North and stand behind it: that row takes each of its keys, and no row is left
+// whose keys it could take.
+#[test]
+fn a_merge_behind_a_row_that_meets_it_fails_the_up_check_alone(rt: HostRuntime) {
+    let is_right = match checked(rt.alloc()) {
+        Ok((up, down)) => !up && down,
+        Err(_) => false,
+    };
+    assert!(rt; is_right);
 }
 
 // The merge of all four would be as general as the row that goes North and stand behind it, where that row takes each of

@@ -1,10 +1,10 @@
 // Two workers compile a net over a line of four chips, each waiting at the gate for the other.
 ghost use Rattle.app_graph.specs.ValidGraph.{IsValidGraph};
 
-use job_bytes::job_of_text;
 use job_readers::Job;
-use par_compile::{compile, image_of};
+use par_compile::{CompileRequest, compile, image_of};
 use spin_base::{Gate, Seq};
+use spin_input::job_of_text;
 use std::alloc::Global;
 use std::mem;
 use std::sync::Wait;
@@ -62,7 +62,13 @@ fn image_bytes<R: Threads + Wait + Sync>(
 ) -> Option<Seq<u8>>
     requires { IsValidGraph job.now.graph }
 {
-    let plan = match compile(rt, alloc, &job.machine, &job.graph, 1024, 2, gate) {
+    let request = CompileRequest {
+        machine: &job.machine,
+        graph: &job.graph,
+        target: 1024,
+        workers: 2,
+    };
+    let plan = match compile(rt, alloc, &request, gate) {
         Ok(plan) => plan,
         Err(error) => {
             mem::forget(error);

@@ -9,8 +9,8 @@ use Rattle.spin_base.specs.declared.chips.Chip.{Chip}
 use Rattle.tcam_find.specs.Memory.{unused, empty_memory}
 use Rattle.spin_base.specs.declared.blocks.ChipTable.{ChipTable}
 use Rattle.table_load.specs.declared.tables.Image.{Image}
-use Rattle.table_load.specs.Images.{IsValid, IsBefore}
-use Rattle.table_load.specs.Memories.{index_of, rows_at, loaded}
+use Rattle.table_load.specs.Images.{IsValid, IsChipBefore}
+use Rattle.table_load.specs.Memories.{table_index, rows_of_index, loaded}
 
 pub empty_is : empty_memory ≡ loaded []
 unfolding empty_memory
@@ -90,32 +90,32 @@ got (y ∷ ys) (suc i) x d e = got ys i x d e
 
 -- no table of the list is of that chip
 abbrev Without : ℕ → List ChipTable → ℕ → Type 0
-Without h ts i = (j : ℕ) (d : ChipTable) → j < length ts → index_of h (get_or ts j d) ≢ i
+Without h ts i = (j : ℕ) (d : ChipTable) → j < length ts → table_index h (get_or ts j d) ≢ i
 
-rows_none : (h : ℕ) (ts : List ChipTable) (i : ℕ) → Without h ts i → rows_at h ts i ≡ []
+rows_none : (h : ℕ) (ts : List ChipTable) (i : ℕ) → Without h ts i → rows_of_index h ts i ≡ []
 rows_none h [] i none = refl
 rows_none h (t ∷ ts) i none =
-    let first = ne_eqb (index_of h t) i (none 0 t (omega arith)) in
+    let first = ne_eqb (table_index h t) i (none 0 t (omega arith)) in
     rw first (rows_none h ts i (λ j d lt. none (suc j) d (omega arith)))
 
-rows_here : (h : ℕ) (ts : List ChipTable) (t : ChipTable) (i : ℕ) → Without h ts i → index_of h t ≡ i → rows_at h (ts ++ t ∷ []) i ≡ t.entries
-rows_here h [] t i none here = rw (eq-eqb (index_of h t) i here) refl
+rows_here : (h : ℕ) (ts : List ChipTable) (t : ChipTable) (i : ℕ) → Without h ts i → table_index h t ≡ i → rows_of_index h (ts ++ t ∷ []) i ≡ t.entries
+rows_here h [] t i none here = rw (eq-eqb (table_index h t) i here) refl
 rows_here h (s ∷ ts) t i none here =
-    let first = ne_eqb (index_of h s) i (none 0 s (omega arith)) in
+    let first = ne_eqb (table_index h s) i (none 0 s (omega arith)) in
     rw first (rows_here h ts t i (λ j d lt. none (suc j) d (omega arith)) here)
 
-rows_other : (h : ℕ) (ts : List ChipTable) (t : ChipTable) (i : ℕ) → index_of h t ≢ i → rows_at h (ts ++ t ∷ []) i ≡ rows_at h ts i
-rows_other h [] t i other = rw (ne_eqb (index_of h t) i other) refl
-rows_other h (s ∷ ts) t i other = ap (λ r. cond (eqb (index_of h s) i) s.entries r) (rows_other h ts t i other)
+rows_other : (h : ℕ) (ts : List ChipTable) (t : ChipTable) (i : ℕ) → table_index h t ≢ i → rows_of_index h (ts ++ t ∷ []) i ≡ rows_of_index h ts i
+rows_other h [] t i other = rw (ne_eqb (table_index h t) i other) refl
+rows_other h (s ∷ ts) t i other = ap (λ r. cond (eqb (table_index h s) i) s.entries r) (rows_other h ts t i other)
 
 -- an earlier chip has a lower index
-lower : (h : ℕ) (a b : Chip) → a.y < h → IsBefore a b → a.x * h + a.y < b.x * h + b.y
+lower : (h : ℕ) (a b : Chip) → a.y < h → IsChipBefore a b → a.x * h + a.y < b.x * h + b.y
 lower h a b low (inl less) = let wide = mul-le-mul_left h less in omega (arith, wide)
 lower h a b low (inr same) = let e = ap (λ x. x * h) same.0 in let less = same.1 in omega (arith, e, less)
 
 module _ (v : Image) (valid : IsValid v) (k : ℕ) (t : ChipTable) (inside : k < length v.chips) (is : t ≡ get_or v.chips k t) where
   abbrev at : ℕ
-  at = index_of v.height t
+  at = table_index v.height t
 
   -- the index is one of the grid's
   pub in_grid : at < v.width * v.height
@@ -131,8 +131,8 @@ module _ (v : Image) (valid : IsValid v) (k : ℕ) (t : ChipTable) (inside : k <
       let same = get_or-take k v.chips j d before in
       let t_is : get_or v.chips k d ≡ t = default_free v.chips k d t inside ∙ sym is in
       let less = lower v.height (get_or v.chips j d).chip (get_or v.chips k d).chip (valid.tables j d (omega arith)).inside.1 (valid.ordered j k d before inside) in
-      let a = ap (index_of v.height) same in
-      let b = ap (index_of v.height) t_is in
+      let a = ap (table_index v.height) same in
+      let b = ap (table_index v.height) t_is in
       λ e. absurd (omega (arith, less, a, b, e))
     where
       default_free : (xs : List ChipTable) (i : ℕ) (d e : ChipTable) → i < length xs → get_or xs i d ≡ get_or xs i e
@@ -141,7 +141,7 @@ module _ (v : Image) (valid : IsValid v) (k : ℕ) (t : ChipTable) (inside : k <
       default_free (x ∷ xs) (suc i) d e lt = default_free xs i d e (omega arith)
 
   module _ (ms : List (List Entry)) (long : length ms ≡ v.width * v.height)
-      (each : (i : ℕ) → i < v.width * v.height → slice_get ms i ≡ Some (loaded (rows_at v.height (take k v.chips) i))) where
+      (each : (i : ℕ) → i < v.width * v.height → slice_get ms i ≡ Some (loaded (rows_of_index v.height (take k v.chips) i))) where
     -- the memory of the next table's chip is empty
     pub still_empty : (m : List Entry) → m ≡ get_or ms at m → m ≡ empty_memory
     still_empty m here =
@@ -149,7 +149,7 @@ module _ (v : Image) (valid : IsValid v) (k : ℕ) (t : ChipTable) (inside : k <
 
     pub load_more : (m : List Entry) → m ≡ loaded t.entries
         → (length (set ms at m) ≡ v.width * v.height)
-        × ((i : ℕ) → i < v.width * v.height → slice_get (set ms at m) i ≡ Some (loaded (rows_at v.height (take (k + 1) v.chips) i)))
+        × ((i : ℕ) → i < v.width * v.height → slice_get (set ms at m) i ≡ Some (loaded (rows_of_index v.height (take (k + 1) v.chips) i)))
     load_more m full =
         let more : take (k + 1) v.chips ≡ take k v.chips ++ t ∷ [] = take_more v.chips k t inside ∙ ap (λ s. take k v.chips ++ s ∷ []) (sym is) in (
           length-set ms at m ∙ long,
@@ -159,14 +159,14 @@ module _ (v : Image) (valid : IsValid v) (k : ℕ) (t : ChipTable) (inside : k <
                 ∙ get_set_same ms at m (omega (arith, in_grid))
                 ∙ ap Some full
                 ∙ ap (λ r. Some (loaded r)) (sym (rows_here v.height (take k v.chips) t at apart refl))
-                ∙ ap (λ l. Some (loaded (rows_at v.height l at))) (sym more)
-                ∙ ap (λ j. Some (loaded (rows_at v.height (take (k + 1) v.chips) j))) (sym here)
+                ∙ ap (λ l. Some (loaded (rows_of_index v.height l at))) (sym more)
+                ∙ ap (λ j. Some (loaded (rows_of_index v.height (take (k + 1) v.chips) j))) (sym here)
                 )
             | inr other ↦ (
                 get_set_other ms at i m other
                 ∙ each i lt
                 ∙ ap (λ r. Some (loaded r)) (sym (rows_other v.height (take k v.chips) t i (λ e. other (sym e))))
-                ∙ ap (λ l. Some (loaded (rows_at v.height l i))) (sym more)
+                ∙ ap (λ l. Some (loaded (rows_of_index v.height l i))) (sym more)
                 )
           ],
         )

@@ -13,7 +13,7 @@ use Rattle.table_load.specs.declared.faults.Stop.{Stop}
 use Rattle.table_load.specs.declared.faults.Stop.TheVariants as stops
 use Rattle.spin_base.proofs.RouteBits.{same_route}
 use Rattle.table_load.specs.Images.{IsRow, row_bytes}
-use Rattle.table_load.specs.Reading.{◌>>=◌, Fails, AreBytes, number, field, between, covers, route_of, route_at, row_at, rows_at}
+use Rattle.table_load.specs.Reading.{◌>>=◌, StopsAt, AreBytes, number, field, between, covers, route_of, read_route, read_row, read_rows}
 use Rattle.table_load.proofs.Numbers.{bind_ok, ok_is, Takes, Takes-then, wide32, number_takes, number_again, field_takes, field_again, field_allows}
 
 -- ---- bounds
@@ -39,16 +39,16 @@ route_made n s = one_route (n % 2 ^ 24) n _ s (mod-eq_of_lt s)
 pub route_small : (bytes : List ℕ) (x : ℕ × List ℕ) → field w32 (between 1 0xffffff) bytes ≡ Ok x → x.0 < 2 ^ 24
 route_small bytes x e = let b = between_is 1 0xffffff x.0 (field_allows w32 (between 1 0xffffff) bytes x e) in omega (arith, b)
 
-pub route_is : (bytes : List ℕ) (n : ℕ) (rest : List ℕ) (s : n < 2 ^ 24) → field w32 (between 1 0xffffff) bytes ≡ Ok (n, rest) → route_at bytes ≡ Ok (record { bits = n; within = s }, rest)
-unfolding route_at
+pub route_is : (bytes : List ℕ) (n : ℕ) (rest : List ℕ) (s : n < 2 ^ 24) → field w32 (between 1 0xffffff) bytes ≡ Ok (n, rest) → read_route bytes ≡ Ok (record { bits = n; within = s }, rest)
+unfolding read_route
 route_is bytes n rest s e = rw e (ap (λ (r : Route). Ok (r, rest)) (route_made n s))
 
 -- the spelling of a route, and some output
 abbrev pub IsSpelled : List ℕ → Route × List ℕ → Type 0
 IsSpelled bytes x = Takes bytes (to_le_bytes w32 x.0.bits) x.1 × (0 < x.0.bits)
 
-route_takes : (bytes : List ℕ) (x : Route × List ℕ) → AreBytes bytes → route_at bytes ≡ Ok x → IsSpelled bytes x
-unfolding route_at
+route_takes : (bytes : List ℕ) (x : Route × List ℕ) → AreBytes bytes → read_route bytes ≡ Ok x → IsSpelled bytes x
+unfolding read_route
 route_takes bytes x fits e =
     let a = bind_ok (field w32 (between 1 0xffffff) bytes) (λ n. Ok (route_of n.0, n.1)) x e in
     let t = field_takes w32 (2 ^ 32) wide32 (between 1 0xffffff) bytes a.0 fits a.1 in
@@ -61,8 +61,8 @@ route_takes bytes x fits e =
       omega (arith, b, same),
     )
 
-route_again : (r : Route) (rest : List ℕ) → 0 < r.bits → route_at (to_le_bytes w32 r.bits ++ rest) ≡ Ok (r, rest)
-unfolding route_at
+route_again : (r : Route) (rest : List ℕ) → 0 < r.bits → read_route (to_le_bytes w32 r.bits ++ rest) ≡ Ok (r, rest)
+unfolding read_route
 route_again r rest some =
     let below : r.bits < 2 ^ 24 = r.within in
     rw (field_again w32 (2 ^ 32) wide32 (between 1 0xffffff) r.bits rest (omega arith) (between_from 1 0xffffff r.bits (omega arith) (omega arith)))
@@ -70,12 +70,12 @@ route_again r rest some =
 
 -- ---- rows
 
-row_takes : (bytes : List ℕ) (x : Entry × List ℕ) → AreBytes bytes → row_at bytes ≡ Ok x → Takes bytes (row_bytes x.0) x.1 × IsRow x.0
-unfolding row_at
+row_takes : (bytes : List ℕ) (x : Entry × List ℕ) → AreBytes bytes → read_row bytes ≡ Ok x → Takes bytes (row_bytes x.0) x.1 × IsRow x.0
+unfolding read_row
 row_takes bytes x fits e =
-    let a = bind_ok (number w32 bytes) (λ key. field w32 (covers key.0) key.1 >>= λ mask. route_at mask.1 >>= λ route. Ok (record { key = key.0; mask = mask.0; route = route.0 }, route.1)) x e in
-    let b = bind_ok (field w32 (covers a.0.0) a.0.1) (λ mask. route_at mask.1 >>= λ route. Ok (record { key = a.0.0; mask = mask.0; route = route.0 }, route.1)) x a.2 in
-    let c = bind_ok (route_at b.0.1) (λ route. Ok (record { key = a.0.0; mask = b.0.0; route = route.0 }, route.1)) x b.2 in
+    let a = bind_ok (number w32 bytes) (λ key. field w32 (covers key.0) key.1 >>= λ mask. read_route mask.1 >>= λ route. Ok (record { key = key.0; mask = mask.0; route = route.0 }, route.1)) x e in
+    let b = bind_ok (field w32 (covers a.0.0) a.0.1) (λ mask. read_route mask.1 >>= λ route. Ok (record { key = a.0.0; mask = mask.0; route = route.0 }, route.1)) x a.2 in
+    let c = bind_ok (read_route b.0.1) (λ route. Ok (record { key = a.0.0; mask = b.0.0; route = route.0 }, route.1)) x b.2 in
     let t0 = number_takes w32 (2 ^ 32) wide32 bytes a.0 fits a.1 in
     let t1 = field_takes w32 (2 ^ 32) wide32 (covers a.0.0) a.0.1 b.0 t0.0.rest_fits b.1 in
     let t2 = route_takes b.0.1 c.0 t1.0.rest_fits c.1 in
@@ -84,39 +84,39 @@ row_takes bytes x fits e =
     let made : Entry × List ℕ = (record { key = a.0.0; mask = b.0.0; route = c.0.0 }, c.0.1) in
     subst (λ (y : Entry × List ℕ). Takes bytes (row_bytes y.0) y.1 × IsRow y.0) (ok_is made x c.2) (all, (eqb-true _ _ t1.2, t1.1, t2.1))
 
-row_again : (e : Entry) (rest : List ℕ) → IsRow e → row_at (row_bytes e ++ rest) ≡ Ok (e, rest)
-unfolding row_at
+row_again : (e : Entry) (rest : List ℕ) → IsRow e → read_row (row_bytes e ++ rest) ≡ Ok (e, rest)
+unfolding read_row
 row_again e rest row =
     let k = to_le_bytes w32 e.key in
     let m = to_le_bytes w32 e.mask in
     let r = to_le_bytes w32 e.route.bits in
     let regrouped : row_bytes e ++ rest ≡ k ++ (m ++ (r ++ rest)) = append_assoc (k ++ m) r rest ∙ append_assoc k m (r ++ rest) in
     let small : e.key < 2 ^ 32 = let same = row.0 in let lt = row.1 in omega (arith, and_le_r e.key e.mask, same, lt) in
-    ap row_at regrouped ∙ rw (
+    ap read_row regrouped ∙ rw (
       number_again w32 (2 ^ 32) wide32 e.key (m ++ (r ++ rest)) small,
       field_again w32 (2 ^ 32) wide32 (covers e.key) e.mask (r ++ rest) row.1 (eq-eqb _ _ row.0),
       route_again e.route rest row.2,
     ) refl
 
-pub rows_take : (n : ℕ) (bytes : List ℕ) (x : List Entry × List ℕ) → AreBytes bytes → rows_at n bytes ≡ Ok x → Takes bytes (flat_map row_bytes x.0) x.1 × (length x.0 ≡ n) × AllByRecursion IsRow x.0
-unfolding rows_at
+pub rows_take : (n : ℕ) (bytes : List ℕ) (x : List Entry × List ℕ) → AreBytes bytes → read_rows n bytes ≡ Ok x → Takes bytes (flat_map row_bytes x.0) x.1 × (length x.0 ≡ n) × AllByRecursion IsRow x.0
+unfolding read_rows
 rows_take zero bytes x fits e =
     subst (λ (y : List Entry × List ℕ). Takes bytes (flat_map row_bytes y.0) y.1 × (length y.0 ≡ 0) × AllByRecursion IsRow y.0) (ok_is ([], bytes) x e) (record { parts = refl; rest_fits = fits }, refl, tt)
 rows_take (suc n) bytes x fits e =
-    let a = bind_ok (row_at bytes) (λ first. rows_at n first.1 >>= λ others. Ok (first.0 ∷ others.0, others.1)) x e in
-    let b = bind_ok (rows_at n a.0.1) (λ others. Ok (a.0.0 ∷ others.0, others.1)) x a.2 in
+    let a = bind_ok (read_row bytes) (λ first. read_rows n first.1 >>= λ others. Ok (first.0 ∷ others.0, others.1)) x e in
+    let b = bind_ok (read_rows n a.0.1) (λ others. Ok (a.0.0 ∷ others.0, others.1)) x a.2 in
     let first = row_takes bytes a.0 fits a.1 in
     let second = rows_take n a.0.1 b.0 first.0.rest_fits b.1 in
     let both = Takes-then bytes (row_bytes a.0.0) a.0.1 (flat_map row_bytes b.0.0) b.0.1 first.0 second.0 in
     let made : List Entry × List ℕ = (a.0.0 ∷ b.0.0, b.0.1) in
     subst (λ (y : List Entry × List ℕ). Takes bytes (flat_map row_bytes y.0) y.1 × (length y.0 ≡ suc n) × AllByRecursion IsRow y.0) (ok_is made x b.2) (rw flat_map-cons both, ap suc second.1, (first.1, second.2))
 
-pub rows_again : (es : List Entry) (rest : List ℕ) → AllByRecursion IsRow es → rows_at (length es) (flat_map row_bytes es ++ rest) ≡ Ok (es, rest)
-unfolding rows_at
+pub rows_again : (es : List Entry) (rest : List ℕ) → AllByRecursion IsRow es → read_rows (length es) (flat_map row_bytes es ++ rest) ≡ Ok (es, rest)
+unfolding read_rows
 rows_again [] rest rows = refl
 rows_again (e ∷ es) rest rows =
     let regrouped : flat_map row_bytes (e ∷ es) ++ rest ≡ row_bytes e ++ (flat_map row_bytes es ++ rest) = ap (λ (x : List ℕ). x ++ rest) (flat_map-cons row_bytes e es) ∙ append_assoc (row_bytes e) (flat_map row_bytes es) rest in
-    ap (rows_at (suc (length es))) regrouped ∙ rw (row_again e (flat_map row_bytes es ++ rest) rows.0, rows_again es rest rows.1) refl
+    ap (read_rows (suc (length es))) regrouped ∙ rw (row_again e (flat_map row_bytes es ++ rest) rows.0, rows_again es rest rows.1) refl
 
 -- ---- the loop
 
@@ -128,26 +128,26 @@ regroup : (front : List Entry) (e : Entry) (read : Result (List Entry × List �
 regroup front e (Ok x) = ap (λ (es : List Entry). Ok (es, x.1)) (simp append_assoc)
 regroup front e (Err f) = refl
 
-pub goes_on : (front : List Entry) (count i : ℕ) (bytes : List ℕ) (e : Entry) (after : List ℕ) (total : Result (List Entry × List ℕ) ℕ) → i < count → row_at bytes ≡ Ok (e, after)
-    → with_front front (rows_at (count - i) bytes) ≡ total → with_front (front ++ e ∷ []) (rows_at (count - (i + 1)) after) ≡ total
-unfolding rows_at
+pub goes_on : (front : List Entry) (count i : ℕ) (bytes : List ℕ) (e : Entry) (after : List ℕ) (total : Result (List Entry × List ℕ) ℕ) → i < count → read_row bytes ≡ Ok (e, after)
+    → with_front front (read_rows (count - i) bytes) ≡ total → with_front (front ++ e ∷ []) (read_rows (count - (i + 1)) after) ≡ total
+unfolding read_rows
 goes_on front count i bytes e after total lt h so_far =
     let k : count - i ≡ suc (count - (i + 1)) = omega arith in
-    let one : with_front front (rows_at (count - i) bytes) ≡ with_front (front ++ e ∷ []) (rows_at (count - (i + 1)) after) = rw (k, h) (regroup front e (rows_at (count - (i + 1)) after)) in
+    let one : with_front front (read_rows (count - i) bytes) ≡ with_front (front ++ e ∷ []) (read_rows (count - (i + 1)) after) = rw (k, h) (regroup front e (read_rows (count - (i + 1)) after)) in
     sym one ∙ so_far
 
-pub ends : (s : Stop) (front : List Entry) (count i : ℕ) (bytes : List ℕ) (total : Result (List Entry × List ℕ) ℕ) → i < count → Fails s (row_at bytes)
-    → with_front front (rows_at (count - i) bytes) ≡ total → Fails s total
-unfolding rows_at
+pub ends : (s : Stop) (front : List Entry) (count i : ℕ) (bytes : List ℕ) (total : Result (List Entry × List ℕ) ℕ) → i < count → StopsAt s (read_row bytes)
+    → with_front front (read_rows (count - i) bytes) ≡ total → StopsAt s total
+unfolding read_rows
 ends stops.Memory front count i bytes total lt h so_far = tt
 ends (stops.Left n) front count i bytes total lt h so_far =
     let k : count - i ≡ suc (count - (i + 1)) = omega arith in
-    let one : with_front front (rows_at (count - i) bytes) ≡ Err n = rw (k, h) refl in
+    let one : with_front front (read_rows (count - i) bytes) ≡ Err n = rw (k, h) refl in
     sym so_far ∙ one
 
-pub is_done : (front : List Entry) (count i : ℕ) (bytes : List ℕ) (total : Result (List Entry × List ℕ) ℕ) → count ≤ i → with_front front (rows_at (count - i) bytes) ≡ total → total ≡ Ok (front, bytes)
-unfolding rows_at
+pub is_done : (front : List Entry) (count i : ℕ) (bytes : List ℕ) (total : Result (List Entry × List ℕ) ℕ) → count ≤ i → with_front front (read_rows (count - i) bytes) ≡ total → total ≡ Ok (front, bytes)
+unfolding read_rows
 is_done front count i bytes total le so_far =
     let k : count - i ≡ 0 = omega arith in
-    let one : with_front front (rows_at (count - i) bytes) ≡ Ok (front, bytes) = rw k (ap (λ (es : List Entry). Ok (es, bytes)) (append-nil front)) in
+    let one : with_front front (read_rows (count - i) bytes) ≡ Ok (front, bytes) = rw k (ap (λ (es : List Entry). Ok (es, bytes)) (append-nil front)) in
     sym so_far ∙ one

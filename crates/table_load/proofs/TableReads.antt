@@ -11,25 +11,25 @@ use Rattle.spin_base.specs.declared.chips.Chip.{Chip}
 use Rattle.table_load.specs.declared.faults.Stop.{Stop}
 use Rattle.table_load.specs.declared.faults.Stop.TheVariants as stops
 use Rattle.spin_base.specs.declared.blocks.ChipTable.{ChipTable}
-use Rattle.table_load.specs.Images.{IsRow, IsBefore, IsTable, row_bytes, table_bytes}
-use Rattle.table_load.specs.Reading.{◌>>=◌, Fails, AreBytes, field, between, comes_after, chip_at, rows_at, table_at, tables_at}
+use Rattle.table_load.specs.Images.{IsRow, IsChipBefore, IsTable, row_bytes, table_bytes}
+use Rattle.table_load.specs.Reading.{◌>>=◌, StopsAt, AreBytes, field, between, comes_after, read_chip, read_rows, read_table, read_tables}
 use Rattle.table_load.proofs.Numbers.{bind_ok, ok_is, Takes, Takes-then, wide8, wide16, byte_is, field_takes, field_again}
 use Rattle.table_load.proofs.Rows.{between_is, between_from, rows_take, rows_again}
 
 -- ---- the order of chips
 
-after_is : (b c : Chip) → comes_after (Some b) c ≡ true → IsBefore b c
+after_is : (b c : Chip) → comes_after (Some b) c ≡ true → IsChipBefore b c
 after_is b c e =
     elim (or_cases (ltb b.x c.x) (eqb b.x c.x && ltb b.y c.y) e) [
       | inl less ↦ inl (ltb-true _ _ less)
       | inr same ↦ let p = and_parts (eqb b.x c.x) (ltb b.y c.y) same in inr (eqb-true _ _ p.0, ltb-true _ _ p.1)
     ]
 
-after_from : (b c : Chip) → IsBefore b c → comes_after (Some b) c ≡ true
+after_from : (b c : Chip) → IsChipBefore b c → comes_after (Some b) c ≡ true
 after_from b c (inl less) = or_left (ltb b.x c.x) (eqb b.x c.x && ltb b.y c.y) (lt-ltb _ _ less)
 after_from b c (inr same) = or_right (ltb b.x c.x) (eqb b.x c.x && ltb b.y c.y) (and_from (eqb b.x c.x) (ltb b.y c.y) (eq-eqb _ _ same.0) (lt-ltb _ _ same.1))
 
-before_trans : (a b c : Chip) → IsBefore a b → IsBefore b c → IsBefore a c
+before_trans : (a b c : Chip) → IsChipBefore a b → IsChipBefore b c → IsChipBefore a c
 before_trans a b c (inl p) (inl q) = inl (omega arith)
 before_trans a b c (inl p) (inr q) = let e = q.0 in inl (omega (arith, e))
 before_trans a b c (inr p) (inl q) = let e = p.0 in inl (omega (arith, e))
@@ -41,9 +41,9 @@ InOrder before [] = Unit {0}
 InOrder before (t ∷ ts) = (comes_after before t.chip ≡ true) × InOrder (Some t.chip) ts
 
 abbrev pub Earlier : ChipTable → ChipTable → Type 0
-Earlier s t = IsBefore s.chip t.chip
+Earlier s t = IsChipBefore s.chip t.chip
 
-all_after : (b c : Chip) (ts : List ChipTable) → IsBefore b c → InOrder (Some c) ts → AllByRecursion (λ t. IsBefore b t.chip) ts
+all_after : (b c : Chip) (ts : List ChipTable) → IsChipBefore b c → InOrder (Some c) ts → AllByRecursion (λ t. IsChipBefore b t.chip) ts
 all_after b c [] less order = tt
 all_after b c (t ∷ ts) less order =
     let next = before_trans b c t.chip less (after_is c t.chip order.0) in
@@ -78,8 +78,8 @@ two_bytes a b p q = ap (λ (l : List ℕ). l ++ to_le_bytes w8 b) (byte_is a p) 
 abbrev IsChipRead : ℕ → ℕ → Option Chip → List ℕ → Chip × List ℕ → Type 0
 IsChipRead w h before bytes x = Takes bytes (x.0.x ∷ x.0.y ∷ []) x.1 × ((x.0.x < w) × (x.0.y < h)) × (comes_after before x.0 ≡ true)
 
-chip_takes : (w h : ℕ) (before : Option Chip) (bytes : List ℕ) (x : Chip × List ℕ) → AreBytes bytes → chip_at w h before bytes ≡ Ok x → IsChipRead w h before bytes x
-unfolding chip_at
+chip_takes : (w h : ℕ) (before : Option Chip) (bytes : List ℕ) (x : Chip × List ℕ) → AreBytes bytes → read_chip w h before bytes ≡ Ok x → IsChipRead w h before bytes x
+unfolding read_chip
 chip_takes w h before bytes x fits e =
     let below_w : ℕ → Bool = λ n. ltb n w in
     let next : ℕ → ℕ → Bool = λ k n. ltb n h && comes_after before (record { x = k; y = n }) in
@@ -98,8 +98,8 @@ chip_takes w h before bytes x fits e =
     )
 
 chip_again : (w h : ℕ) (before : Option Chip) (c : Chip) (rest : List ℕ) → w ≤ 64 → h ≤ 64 → c.x < w → c.y < h → comes_after before c ≡ true
-    → chip_at w h before ((c.x ∷ c.y ∷ []) ++ rest) ≡ Ok (c, rest)
-unfolding chip_at
+    → read_chip w h before ((c.x ∷ c.y ∷ []) ++ rest) ≡ Ok (c, rest)
+unfolding read_chip
 chip_again w h before c rest narrow short xs ys order =
     let below_w : ℕ → Bool = λ n. ltb n w in
     let next : ℕ → Bool = λ n. ltb n h && comes_after before (record { x = c.x; y = n }) in
@@ -114,12 +114,12 @@ chip_again w h before c rest narrow short xs ys order =
 abbrev IsTableRead : ℕ → ℕ → Option Chip → List ℕ → ChipTable × List ℕ → Type 0
 IsTableRead w h before bytes x = Takes bytes (table_bytes x.0) x.1 × IsTable w h x.0 × (comes_after before x.0.chip ≡ true)
 
-table_takes : (w h : ℕ) (before : Option Chip) (bytes : List ℕ) (x : ChipTable × List ℕ) → AreBytes bytes → table_at w h before bytes ≡ Ok x → IsTableRead w h before bytes x
-unfolding table_at
+table_takes : (w h : ℕ) (before : Option Chip) (bytes : List ℕ) (x : ChipTable × List ℕ) → AreBytes bytes → read_table w h before bytes ≡ Ok x → IsTableRead w h before bytes x
+unfolding read_table
 table_takes w h before bytes x fits e =
-    let a = bind_ok (chip_at w h before bytes) (λ chip. field w16 (between 1 1024) chip.1 >>= λ count. rows_at count.0 count.1 >>= λ rows. Ok (record { chip = chip.0; entries = rows.0 }, rows.1)) x e in
-    let b = bind_ok (field w16 (between 1 1024) a.0.1) (λ count. rows_at count.0 count.1 >>= λ rows. Ok (record { chip = a.0.0; entries = rows.0 }, rows.1)) x a.2 in
-    let c = bind_ok (rows_at b.0.0 b.0.1) (λ rows. Ok (record { chip = a.0.0; entries = rows.0 }, rows.1)) x b.2 in
+    let a = bind_ok (read_chip w h before bytes) (λ chip. field w16 (between 1 1024) chip.1 >>= λ count. read_rows count.0 count.1 >>= λ rows. Ok (record { chip = chip.0; entries = rows.0 }, rows.1)) x e in
+    let b = bind_ok (field w16 (between 1 1024) a.0.1) (λ count. read_rows count.0 count.1 >>= λ rows. Ok (record { chip = a.0.0; entries = rows.0 }, rows.1)) x a.2 in
+    let c = bind_ok (read_rows b.0.0 b.0.1) (λ rows. Ok (record { chip = a.0.0; entries = rows.0 }, rows.1)) x b.2 in
     let t0 = chip_takes w h before bytes a.0 fits a.1 in
     let t1 = field_takes w16 (2 ^ 16) wide16 (between 1 1024) a.0.1 b.0 t0.0.rest_fits b.1 in
     let t2 = rows_take b.0.0 b.0.1 c.0 t1.0.rest_fits c.1 in
@@ -140,15 +140,15 @@ table_takes w h before bytes x fits e =
     )
 
 table_again : (w h : ℕ) (before : Option Chip) (t : ChipTable) (rest : List ℕ) → w ≤ 64 → h ≤ 64 → IsTable w h t → comes_after before t.chip ≡ true
-    → table_at w h before (table_bytes t ++ rest) ≡ Ok (t, rest)
-unfolding table_at
+    → read_table w h before (table_bytes t ++ rest) ≡ Ok (t, rest)
+unfolding read_table
 table_again w h before t rest narrow short table order =
     let c = t.chip.x ∷ t.chip.y ∷ [] in
     let n = to_le_bytes w16 (length t.entries) in
     let r = flat_map row_bytes t.entries in
     let regrouped : table_bytes t ++ rest ≡ c ++ (n ++ (r ++ rest)) = append_assoc (c ++ n) r rest ∙ append_assoc c n (r ++ rest) in
     let some = table.some_rows in
-    ap (table_at w h before) regrouped ∙ rw (
+    ap (read_table w h before) regrouped ∙ rw (
       chip_again w h before t.chip (n ++ (r ++ rest)) narrow short table.inside.0 table.inside.1 order,
       field_again w16 (2 ^ 16) wide16 (between 1 1024) (length t.entries) (r ++ rest) (omega (arith, some)) (between_from 1 1024 (length t.entries) some.0 some.1),
       rows_again t.entries rest (recursion_from_All IsRow t.entries table.rows),
@@ -160,13 +160,13 @@ abbrev pub AreTablesRead : ℕ → ℕ → ℕ → Option Chip → List ℕ → 
 AreTablesRead w h n before bytes x =
     Takes bytes (flat_map table_bytes x.0) x.1 × (length x.0 ≡ n) × AllByRecursion (IsTable w h) x.0 × InOrder before x.0
 
-pub tables_take : (w h n : ℕ) (before : Option Chip) (bytes : List ℕ) (x : List ChipTable × List ℕ) → AreBytes bytes → tables_at w h n before bytes ≡ Ok x → AreTablesRead w h n before bytes x
-unfolding tables_at
+pub tables_take : (w h n : ℕ) (before : Option Chip) (bytes : List ℕ) (x : List ChipTable × List ℕ) → AreBytes bytes → read_tables w h n before bytes ≡ Ok x → AreTablesRead w h n before bytes x
+unfolding read_tables
 tables_take w h zero before bytes x fits e =
     subst (AreTablesRead w h 0 before bytes) (ok_is ([], bytes) x e) (record { parts = refl; rest_fits = fits }, refl, tt, tt)
 tables_take w h (suc n) before bytes x fits e =
-    let a = bind_ok (table_at w h before bytes) (λ first. tables_at w h n (Some first.0.chip) first.1 >>= λ others. Ok (first.0 ∷ others.0, others.1)) x e in
-    let b = bind_ok (tables_at w h n (Some a.0.0.chip) a.0.1) (λ others. Ok (a.0.0 ∷ others.0, others.1)) x a.2 in
+    let a = bind_ok (read_table w h before bytes) (λ first. read_tables w h n (Some first.0.chip) first.1 >>= λ others. Ok (first.0 ∷ others.0, others.1)) x e in
+    let b = bind_ok (read_tables w h n (Some a.0.0.chip) a.0.1) (λ others. Ok (a.0.0 ∷ others.0, others.1)) x a.2 in
     let first = table_takes w h before bytes a.0 fits a.1 in
     let second = tables_take w h n (Some a.0.0.chip) a.0.1 b.0 first.0.rest_fits b.1 in
     let both = Takes-then bytes (table_bytes a.0.0) a.0.1 (flat_map table_bytes b.0.0) b.0.1 first.0 second.0 in
@@ -174,13 +174,13 @@ tables_take w h (suc n) before bytes x fits e =
     subst (AreTablesRead w h (suc n) before bytes) (ok_is made x b.2) (rw flat_map-cons both, ap suc second.1, (first.1, second.2), (first.2, second.3))
 
 pub tables_again : (w h : ℕ) (before : Option Chip) (ts : List ChipTable) (rest : List ℕ) → w ≤ 64 → h ≤ 64 → AllByRecursion (IsTable w h) ts → InOrder before ts
-    → tables_at w h (length ts) before (flat_map table_bytes ts ++ rest) ≡ Ok (ts, rest)
-unfolding tables_at
+    → read_tables w h (length ts) before (flat_map table_bytes ts ++ rest) ≡ Ok (ts, rest)
+unfolding read_tables
 tables_again w h before [] rest narrow short tables order = refl
 tables_again w h before (t ∷ ts) rest narrow short tables order =
     let regrouped : flat_map table_bytes (t ∷ ts) ++ rest ≡ table_bytes t ++ (flat_map table_bytes ts ++ rest) =
     ap (λ (x : List ℕ). x ++ rest) (flat_map-cons table_bytes t ts) ∙ append_assoc (table_bytes t) (flat_map table_bytes ts) rest in
-    ap (tables_at w h (suc (length ts)) before) regrouped ∙ rw (
+    ap (read_tables w h (suc (length ts)) before) regrouped ∙ rw (
       table_again w h before t (flat_map table_bytes ts ++ rest) narrow short tables.0 order.0,
       tables_again w h (Some t.chip) ts rest narrow short tables.1 order.1,
     ) refl
@@ -196,30 +196,30 @@ regroup front t (Ok x) = ap (λ (ts : List ChipTable). Ok (ts, x.1)) (simp appen
 regroup front t (Err f) = refl
 
 module _ (w h : ℕ) (front : List ChipTable) (count i : ℕ) (before : Option Chip) (bytes : List ℕ) (total : Result (List ChipTable × List ℕ) ℕ)
-    (so_far : with_front front (tables_at w h (count - i) before bytes) ≡ total) where
-  pub goes_on : (t : ChipTable) (after : List ℕ) → i < count → table_at w h before bytes ≡ Ok (t, after)
-      → with_front (front ++ t ∷ []) (tables_at w h (count - (i + 1)) (Some t.chip) after) ≡ total
-  unfolding tables_at
+    (so_far : with_front front (read_tables w h (count - i) before bytes) ≡ total) where
+  pub goes_on : (t : ChipTable) (after : List ℕ) → i < count → read_table w h before bytes ≡ Ok (t, after)
+      → with_front (front ++ t ∷ []) (read_tables w h (count - (i + 1)) (Some t.chip) after) ≡ total
+  unfolding read_tables
   goes_on t after lt read =
       let k : count - i ≡ suc (count - (i + 1)) = omega arith in
-      let one : with_front front (tables_at w h (count - i) before bytes) ≡ with_front (front ++ t ∷ []) (tables_at w h (count - (i + 1)) (Some t.chip) after) =
-      rw (k, read) (regroup front t (tables_at w h (count - (i + 1)) (Some t.chip) after)) in
+      let one : with_front front (read_tables w h (count - i) before bytes) ≡ with_front (front ++ t ∷ []) (read_tables w h (count - (i + 1)) (Some t.chip) after) =
+      rw (k, read) (regroup front t (read_tables w h (count - (i + 1)) (Some t.chip) after)) in
       sym one ∙ so_far
 
-  left : (n : ℕ) → i < count → table_at w h before bytes ≡ Err n → total ≡ Err n
-  unfolding tables_at
+  left : (n : ℕ) → i < count → read_table w h before bytes ≡ Err n → total ≡ Err n
+  unfolding read_tables
   left n lt read =
       let k : count - i ≡ suc (count - (i + 1)) = omega arith in
-      let one : with_front front (tables_at w h (count - i) before bytes) ≡ Err n = rw (k, read) refl in
+      let one : with_front front (read_tables w h (count - i) before bytes) ≡ Err n = rw (k, read) refl in
       sym so_far ∙ one
 
-  pub ends : (s : Stop) → i < count → Fails s (table_at w h before bytes) → Fails s total
+  pub ends : (s : Stop) → i < count → StopsAt s (read_table w h before bytes) → StopsAt s total
   ends stops.Memory lt read = tt
   ends (stops.Left n) lt read = left n lt read
 
   pub is_done : count ≤ i → total ≡ Ok (front, bytes)
-  unfolding tables_at
+  unfolding read_tables
   is_done le =
       let k : count - i ≡ 0 = omega arith in
-      let one : with_front front (tables_at w h (count - i) before bytes) ≡ Ok (front, bytes) = rw k (ap (λ (ts : List ChipTable). Ok (ts, bytes)) (append-nil front)) in
+      let one : with_front front (read_tables w h (count - i) before bytes) ≡ Ok (front, bytes) = rw k (ap (λ (ts : List ChipTable). Ok (ts, bytes)) (append-nil front)) in
       sym so_far ∙ one

@@ -12,7 +12,7 @@ use Rattle.table_load.specs.declared.faults.Stop.TheVariants as stops
 use Rattle.spin_base.specs.declared.blocks.ChipTable.{ChipTable}
 use Rattle.table_load.specs.declared.tables.Image.{Image}
 use Rattle.table_load.specs.Images.{IsTable, Spells, table_bytes}
-use Rattle.table_load.specs.Reading.{◌>>=◌, Fails, AreBytes, field, between, tables_at, image_at, place_in, fault_of}
+use Rattle.table_load.specs.Reading.{◌>>=◌, StopsAt, AreBytes, field, between, read_tables, read_image, fault_place_in, fault_of}
 use Rattle.table_load.proofs.Numbers.{bind_ok, if_ok, ok_is, Takes-then, wide8, wide16, wide32, field_takes, field_again}
 use Rattle.table_load.proofs.Rows.{between_is, between_from}
 use Rattle.table_load.proofs.TableReads.{Earlier, tables_take, tables_again, pairs_from_order, order_from_pairs}
@@ -29,7 +29,7 @@ abbrev after_tables : ℕ → ℕ → ℕ → List ChipTable × List ℕ → Res
 after_tables w h wrap ts = cond (eqb (length ts.1) 0) (Ok (made w h wrap ts.0)) (Err (length ts.1))
 
 abbrev after_count : ℕ → ℕ → ℕ → ℕ × List ℕ → Result Image ℕ
-after_count w h wrap n = tables_at w h n.0 None n.1 >>= after_tables w h wrap
+after_count w h wrap n = read_tables w h n.0 None n.1 >>= after_tables w h wrap
 
 abbrev after_wrap : ℕ → ℕ → ℕ × List ℕ → Result Image ℕ
 after_wrap w h wrap = field w16 (between 0 (w * h)) wrap.1 >>= after_count w h wrap.0
@@ -46,8 +46,8 @@ after_version version = field w8 (between 1 64) version.1 >>= after_width
 abbrev after_letters : ℕ × List ℕ → Result Image ℕ
 after_letters l = field w8 (between 1 1) l.1 >>= after_version
 
-by_steps : (bytes : List ℕ) → image_at bytes ≡ (field w32 (between letters letters) bytes >>= after_letters)
-unfolding image_at
+by_steps : (bytes : List ℕ) → read_image bytes ≡ (field w32 (between letters letters) bytes >>= after_letters)
+unfolding read_image
 by_steps bytes = refl
 
 -- ---- the head
@@ -86,7 +86,7 @@ head_of l version w h wrap e f p q r = ap (λ (x : ℕ). head x version w h wrap
 
 -- ---- what is read is spelled
 
-pub image_takes : (bytes : List ℕ) (v : Image) → AreBytes bytes → image_at bytes ≡ Ok v → Spells v bytes
+pub image_takes : (bytes : List ℕ) (v : Image) → AreBytes bytes → read_image bytes ≡ Ok v → Spells v bytes
 image_takes bytes v fits e =
     let l = bind_ok (field w32 (between letters letters) bytes) after_letters v (sym (by_steps bytes) ∙ e) in
     let n = bind_ok (field w8 (between 1 1) l.0.1) after_version v l.2 in
@@ -94,7 +94,7 @@ image_takes bytes v fits e =
     let h = bind_ok (field w8 (between 1 64) w.0.1) (after_height w.0.0) v w.2 in
     let r = bind_ok (field w8 (between 0 1) h.0.1) (after_wrap w.0.0 h.0.0) v h.2 in
     let c = bind_ok (field w16 (between 0 (w.0.0 * h.0.0)) r.0.1) (after_count w.0.0 h.0.0 r.0.0) v r.2 in
-    let t = bind_ok (tables_at w.0.0 h.0.0 c.0.0 None c.0.1) (after_tables w.0.0 h.0.0 r.0.0) v c.2 in
+    let t = bind_ok (read_tables w.0.0 h.0.0 c.0.0 None c.0.1) (after_tables w.0.0 h.0.0 r.0.0) v c.2 in
     let g = if_ok (eqb (length t.0.1) 0) (length t.0.1) (made w.0.0 h.0.0 r.0.0 t.0.0) v t.2 in
     let tl = field_takes w32 (2 ^ 32) wide32 (between letters letters) bytes l.0 fits l.1 in
     let tn = field_takes w8 (2 ^ 8) wide8 (between 1 1) l.0.1 n.0 tl.0.rest_fits n.1 in
@@ -144,7 +144,7 @@ image_takes bytes v fits e =
 abbrev pub read_before : Image → List ℕ → Result Image ℕ
 read_before v more = cond (eqb (length more) 0) (Ok v) (Err (length more))
 
-pub image_again : (v : Image) (bytes more : List ℕ) → Spells v bytes → image_at (bytes ++ more) ≡ read_before v more
+pub image_again : (v : Image) (bytes more : List ℕ) → Spells v bytes → read_image (bytes ++ more) ≡ read_before v more
 image_again v bytes more spells =
     let valid = spells.valid in
     let across = valid.across in
@@ -173,7 +173,7 @@ image_again v bytes more spells =
     let e4 : field w8 (between 0 1) r4 ≡ Ok (wrap, r5) = field_again w8 (2 ^ 8) wide8 (between 0 1) wrap r5 (omega arith) (between_from 0 1 wrap (omega arith) small) in
     let e5 : field w16 (between 0 (v.width * v.height)) r5 ≡ Ok (length v.chips, ts ++ more) =
     field_again w16 (2 ^ 16) wide16 (between 0 (v.width * v.height)) (length v.chips) (ts ++ more) (omega (arith, few, wide)) (between_from 0 (v.width * v.height) (length v.chips) (omega arith) few) in
-    let e6 : tables_at v.width v.height (length v.chips) None (ts ++ more) ≡ Ok (v.chips, more) =
+    let e6 : read_tables v.width v.height (length v.chips) None (ts ++ more) ≡ Ok (v.chips, more) =
     tables_again v.width v.height None v.chips more across.1 down.1 (recursion_from_All (IsTable v.width v.height) v.chips valid.tables) (order_from_pairs v.chips valid.ordered) in
     by_steps (bytes ++ more)
     ∙ ap (λ (x : List ℕ). field w32 (between letters letters) x >>= after_letters) (start ∙ spread)
@@ -186,26 +186,26 @@ image_again v bytes more spells =
     ∙ ap (λ (x : Result (List ChipTable × List ℕ) ℕ). x >>= after_tables v.width v.height wrap) e6
     ∙ ap (λ (b : Bool). let u : Image = record { width = v.width; height = v.height; wrap = b; chips = v.chips } in read_before u more) (wrap_again v.wrap)
 
-pub image_read : (v : Image) (bytes : List ℕ) → Spells v bytes → image_at bytes ≡ Ok v
-image_read v bytes spells = ap image_at (sym (append-nil bytes)) ∙ image_again v bytes [] spells
+pub image_read : (v : Image) (bytes : List ℕ) → Spells v bytes → read_image bytes ≡ Ok v
+image_read v bytes spells = ap read_image (sym (append-nil bytes)) ∙ image_again v bytes [] spells
 
 -- ---- faults
 
 pub spelled_has_none : (v : Image) (bytes : List ℕ) → Spells v bytes → fault_of bytes ≡ None
-spelled_has_none v bytes spells = ap (place_in (length bytes)) (image_read v bytes spells)
+spelled_has_none v bytes spells = ap (fault_place_in (length bytes)) (image_read v bytes spells)
 
-no_fault : (n : ℕ) (r : Result Image ℕ) → place_in n r ≡ None → (v : Image) × (r ≡ Ok v)
+no_fault : (n : ℕ) (r : Result Image ℕ) → fault_place_in n r ≡ None → (v : Image) × (r ≡ Ok v)
 no_fault n (Ok v) e = (v, refl)
 no_fault n (Err left) e = absurd cc
 
 pub none_is_spelled : (bytes : List ℕ) → AreBytes bytes → fault_of bytes ≡ None → (v : Image) × Spells v bytes
-none_is_spelled bytes fits e = let found = no_fault (length bytes) (image_at bytes) e in (found.0, image_takes bytes found.0 fits found.1)
+none_is_spelled bytes fits e = let found = no_fault (length bytes) (read_image bytes) e in (found.0, image_takes bytes found.0 fits found.1)
 
 pub more_is_fault : (v : Image) (bytes more : List ℕ) → Spells v bytes → 0 < length more → fault_of (bytes ++ more) ≡ Some (length bytes)
 more_is_fault v bytes more spells some =
     let tested : eqb (length more) 0 ≡ false = ne_eqb (length more) 0 (λ e. absurd (omega (arith, e))) in
-    let left : image_at (bytes ++ more) ≡ Err (length more) = image_again v bytes more spells ∙ rw tested refl in
-    ap (place_in (length (bytes ++ more))) left ∙ ap Some (omega (arith, length-append bytes more))
+    let left : read_image (bytes ++ more) ≡ Err (length more) = image_again v bytes more spells ∙ rw tested refl in
+    ap (fault_place_in (length (bytes ++ more))) left ∙ ap Some (omega (arith, length-append bytes more))
 
 pub one_spelling : (v : Image) (a b : List ℕ) → Spells v a → Spells v b → a ≡ b
 one_spelling v a b p q = p.fields ∙ sym q.fields
@@ -216,9 +216,9 @@ no_longer v w bytes more p q =
     (nil_from_length more (eqb-true _ _ g.0), g.1)
 
 -- what was read is the only image that the bytes spell
-pub read_is : (v w : Image) (bytes : List ℕ) → image_at bytes ≡ Ok w → Spells v bytes → w ≡ v
+pub read_is : (v w : Image) (bytes : List ℕ) → read_image bytes ≡ Ok w → Spells v bytes → w ≡ v
 read_is v w bytes read spells = ok_is w v (sym read ∙ image_read v bytes spells)
 
-pub read_fails : (v : Image) (bytes : List ℕ) (s : Stop) (left : ℕ) → s ≡ stops.Left left → Fails s (image_at bytes) → Spells v bytes → ⊥
+pub read_fails : (v : Image) (bytes : List ℕ) (s : Stop) (left : ℕ) → s ≡ stops.Left left → StopsAt s (read_image bytes) → Spells v bytes → ⊥
 read_fails v bytes stops.Memory left is read spells = absurd cc
 read_fails v bytes (stops.Left n) left is read spells = let e = image_read v bytes spells in let f = read in cc

@@ -5,6 +5,7 @@ use Rattle.std.specs.List.{flat_map}
 use Rattle.spin_base.specs.declared.chips.Chip.{Chip}
 use Rattle.spin_base.specs.declared.blocks.Entry.{Entry}
 use Rattle.spin_base.specs.declared.blocks.ChipTable.{ChipTable}
+use Rattle.spin_base.specs.declared.sizes.TheConstants.{ROUTER_ENTRIES}
 use Rattle.table_load.specs.declared.tables.Image.{Image}
 
 -- a row that a table may have: no bit of the key outside the mask, a mask of 32 bits, and some output
@@ -12,13 +13,13 @@ abbrev pub IsRow : Entry → Type 0
 IsRow e = (bit_and e.key e.mask ≡ e.key) × (e.mask < 2 ^ 32) × (0 < e.route.bits)
 
 -- chips are ordered by x, then y
-abbrev pub IsBefore : Chip → Chip → Type 0
-IsBefore a b = (a.x < b.x) ⊎ ((a.x ≡ b.x) × (a.y < b.y))
+abbrev pub IsChipBefore : Chip → Chip → Type 0
+IsChipBefore a b = (a.x < b.x) ⊎ ((a.x ≡ b.x) × (a.y < b.y))
 
 -- a table that an image of a grid may have: of a chip inside the grid, with 1 to 1,024 rows
 pub record IsTable (width height : ℕ) (t : ChipTable) : Type 0 where
   pub inside : (t.chip.x < width) × (t.chip.y < height)
-  pub some_rows : (0 < length t.entries) × (length t.entries ≤ 1024)
+  pub some_rows : (0 < length t.entries) × (length t.entries ≤ ROUTER_ENTRIES)
   pub rows : All IsRow t.entries
 
 -- A valid image: a grid of 1 to 64 by 1 to 64 chips, its tables in the order of their chips, one a chip at most.
@@ -27,7 +28,7 @@ pub record IsValid (v : Image) : Type 0 where
   pub down : (0 < v.height) × (v.height ≤ 64)
   pub few : length v.chips ≤ v.width * v.height
   pub tables : All (IsTable v.width v.height) v.chips
-  pub ordered : AllPairs (λ s t. IsBefore s.chip t.chip) v.chips
+  pub ordered : AllPairs (λ s t. IsChipBefore s.chip t.chip) v.chips
 
 -- a row: key, mask and route, each of four bytes, the lowest first
 abbrev pub row_bytes : Entry → List ℕ

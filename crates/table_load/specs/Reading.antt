@@ -10,6 +10,7 @@ use Rattle.spin_base.specs.declared.blocks.Entry.{Entry}
 use Rattle.table_load.specs.declared.faults.Stop.{Stop}
 use Rattle.table_load.specs.declared.faults.Stop.TheVariants as stops
 use Rattle.spin_base.specs.declared.blocks.ChipTable.{ChipTable}
+use Rattle.spin_base.specs.declared.sizes.TheConstants.{ROUTER_ENTRIES}
 use Rattle.table_load.specs.declared.tables.Image.{Image}
 
 infixl 10 ◌>>=◌
@@ -19,13 +20,13 @@ abbrev pub ◌>>=◌ : {A B : Type 0} → Result A ℕ → (A → Result B ℕ) 
 (Err left) >>= f = Err left
 
 -- What a reader returned is what reading gives, unless memory ran out.
-abbrev pub Fails : {Y : Type 0} → Stop → Result Y ℕ → Type 0
-Fails stops.Memory read = Unit {0}
-Fails (stops.Left n) read = read ≡ Err n
+abbrev pub StopsAt : {Y : Type 0} → Stop → Result Y ℕ → Type 0
+StopsAt stops.Memory read = Unit {0}
+StopsAt (stops.Left n) read = read ≡ Err n
 
-abbrev pub Gives : {X Y : Type 0} → (X → Y) → Result X Stop → Result Y ℕ → Type 0
-Gives view (Ok x) read = read ≡ Ok (view x)
-Gives view (Err e) read = Fails e read
+abbrev pub GivesOrStops : {X Y : Type 0} → (X → Y) → Result X Stop → Result Y ℕ → Type 0
+GivesOrStops view (Ok x) read = read ≡ Ok (view x)
+GivesOrStops view (Err e) read = StopsAt e read
 
 -- A number of so many bytes, the lowest first, and the bytes after it. Where they are not all there, it is a fault with as
 -- many bytes left as there are.
@@ -56,72 +57,72 @@ abbrev pub route_of : ℕ → Route
 route_of n = record { bits = n % 2 ^ 24; within = mod_below n (2 ^ 24) (lit< tt) }
 
 -- a route: some output, and no bit above the 24
-unfoldable pub route_at : List ℕ → Result (Route × List ℕ) ℕ
-route_at bytes = do
+unfoldable pub read_route : List ℕ → Result (Route × List ℕ) ℕ
+read_route bytes = do
   n ← field w32 (between 1 0xffffff) bytes
   Ok (route_of n.0, n.1)
 
 -- a row: any key, a mask that covers it, and a route
-unfoldable pub row_at : List ℕ → Result (Entry × List ℕ) ℕ
-row_at bytes = do
+unfoldable pub read_row : List ℕ → Result (Entry × List ℕ) ℕ
+read_row bytes = do
   key ← number w32 bytes
   mask ← field w32 (covers key.0) key.1
-  route ← route_at mask.1
+  route ← read_route mask.1
   Ok (record { key = key.0; mask = mask.0; route = route.0 }, route.1)
 
-unfoldable pub rows_at : ℕ → List ℕ → Result (List Entry × List ℕ) ℕ
-rows_at zero bytes = Ok ([], bytes)
-rows_at (suc n) bytes = do
-  first ← row_at bytes
-  others ← rows_at n first.1
+unfoldable pub read_rows : ℕ → List ℕ → Result (List Entry × List ℕ) ℕ
+read_rows zero bytes = Ok ([], bytes)
+read_rows (suc n) bytes = do
+  first ← read_row bytes
+  others ← read_rows n first.1
   Ok (first.0 ∷ others.0, others.1)
 
 -- a chip: x below the width, and y below the height so that the chip comes after the one before it
-unfoldable pub chip_at : ℕ → ℕ → Option Chip → List ℕ → Result (Chip × List ℕ) ℕ
-chip_at width height before bytes = do
+unfoldable pub read_chip : ℕ → ℕ → Option Chip → List ℕ → Result (Chip × List ℕ) ℕ
+read_chip width height before bytes = do
   x ← field w8 (λ n. nat_lt n width) bytes
   y ← field w8 (λ n. nat_lt n height && comes_after before (record { x = x.0; y = n })) x.1
   Ok (record { x = x.0; y = y.0 }, y.1)
 
 -- a table: its chip, how many rows it has, 1 to 1,024, and these
-unfoldable pub table_at : ℕ → ℕ → Option Chip → List ℕ → Result (ChipTable × List ℕ) ℕ
-table_at width height before bytes = do
-  chip ← chip_at width height before bytes
-  count ← field w16 (between 1 1024) chip.1
-  rows ← rows_at count.0 count.1
+unfoldable pub read_table : ℕ → ℕ → Option Chip → List ℕ → Result (ChipTable × List ℕ) ℕ
+read_table width height before bytes = do
+  chip ← read_chip width height before bytes
+  count ← field w16 (between 1 ROUTER_ENTRIES) chip.1
+  rows ← read_rows count.0 count.1
   Ok (record { chip = chip.0; entries = rows.0 }, rows.1)
 
-unfoldable pub tables_at : ℕ → ℕ → ℕ → Option Chip → List ℕ → Result (List ChipTable × List ℕ) ℕ
-tables_at width height zero before bytes = Ok ([], bytes)
-tables_at width height (suc n) before bytes = do
-  first ← table_at width height before bytes
-  others ← tables_at width height n (Some first.0.chip) first.1
+unfoldable pub read_tables : ℕ → ℕ → ℕ → Option Chip → List ℕ → Result (List ChipTable × List ℕ) ℕ
+read_tables width height zero before bytes = Ok ([], bytes)
+read_tables width height (suc n) before bytes = do
+  first ← read_table width height before bytes
+  others ← read_tables width height n (Some first.0.chip) first.1
   Ok (first.0 ∷ others.0, others.1)
 
 -- An image, all of the bytes: the letters SPNT, the version 1, width and height, whether the grid wraps, how many tables
 -- there are, at most one a chip, and these. Nothing follows.
-unfoldable pub image_at : List ℕ → Result Image ℕ
-image_at bytes = do
+unfoldable pub read_image : List ℕ → Result Image ℕ
+read_image bytes = do
   letters ← field w32 (between 0x544e5053 0x544e5053) bytes
   version ← field w8 (between 1 1) letters.1
   width ← field w8 (between 1 64) version.1
   height ← field w8 (between 1 64) width.1
   wrap ← field w8 (between 0 1) height.1
   count ← field w16 (between 0 (width.0 * height.0)) wrap.1
-  chips ← tables_at width.0 height.0 count.0 None count.1
+  chips ← read_tables width.0 height.0 count.0 None count.1
   if length chips.1 == 0
       then Ok (record { width = width.0; height = height.0; wrap = wrap.0 == 1; chips = chips.0 })
       else Err (length chips.1)
 
 -- The place of a fault is counted from the first byte.
-abbrev pub place_in : ℕ → Result Image ℕ → Option ℕ
-place_in size (Ok v) = None
-place_in size (Err left) = Some (size - left)
+abbrev pub fault_place_in : ℕ → Result Image ℕ → Option ℕ
+fault_place_in size (Ok v) = None
+fault_place_in size (Err left) = Some (size - left)
 
 -- The place of the first byte of the first field that is not there whole or is not allowed. Bytes after the last row are
 -- such a field. Where all fields are there and allowed, there is none.
 abbrev pub fault_of : List ℕ → Option ℕ
-fault_of bytes = place_in (length bytes) (image_at bytes)
+fault_of bytes = fault_place_in (length bytes) (read_image bytes)
 
 -- each item is a byte
 abbrev pub AreBytes : List ℕ → Type 0

@@ -1,7 +1,7 @@
 // The fields of an image, read from the left.
 ghost use Rattle.std.specs.Prelude.{◌≡◌, ◌<◌, ◌&&◌, nat_lt};
 ghost use Rattle.std.specs.Int.{w8, w16, w32};
-ghost use Rattle.table_load.specs.Reading.{Gives, number, field, between, covers, comes_after, route_at, chip_at};
+ghost use Rattle.table_load.specs.Reading.{GivesOrStops, number, field, between, covers, comes_after, read_route, read_chip};
 
 use crate::faults::Stop;
 use spin_base::{Chip, Route};
@@ -9,7 +9,7 @@ use spin_base::{Chip, Route};
 /// A byte, and the bytes after it.
 #[tactic(auto, unfolding(crate::specs::Reading::number))]
 fn byte_at(bytes: &[u8]) -> Result<(u8, &[u8]), Stop>
-    ensures { Gives (λ x. (x.0, x.1.now)) result (number w8 bytes.now) }
+    ensures { GivesOrStops (λ x. (x.0, x.1.now)) result (number w8 bytes.now) }
 {
     if bytes.len() < 1 {
         return Err(Stop::Left(bytes.len()));
@@ -21,7 +21,7 @@ fn byte_at(bytes: &[u8]) -> Result<(u8, &[u8]), Stop>
 /// A number of two bytes, the lowest first.
 #[tactic(auto, unfolding(crate::specs::Reading::number))]
 fn short_at(bytes: &[u8]) -> Result<(u16, &[u8]), Stop>
-    ensures { Gives (λ x. (x.0, x.1.now)) result (number w16 bytes.now) }
+    ensures { GivesOrStops (λ x. (x.0, x.1.now)) result (number w16 bytes.now) }
 {
     if bytes.len() < 2 {
         return Err(Stop::Left(bytes.len()));
@@ -33,7 +33,7 @@ fn short_at(bytes: &[u8]) -> Result<(u16, &[u8]), Stop>
 /// A number of four bytes, the lowest first.
 #[tactic(auto, unfolding(crate::specs::Reading::number))]
 pub(crate) fn word_at(bytes: &[u8]) -> Result<(u32, &[u8]), Stop>
-    ensures { Gives (λ x. (x.0, x.1.now)) result (number w32 bytes.now) }
+    ensures { GivesOrStops (λ x. (x.0, x.1.now)) result (number w32 bytes.now) }
 {
     if bytes.len() < 4 {
         return Err(Stop::Left(bytes.len()));
@@ -53,7 +53,7 @@ fn is_between(number: u32, least: u32, most: u32) -> bool
 /// A byte between two bounds.
 #[tactic(auto, unfolding(crate::specs::Reading::field))]
 pub(crate) fn byte_in(bytes: &[u8], least: u8, most: u8) -> Result<(u8, &[u8]), Stop>
-    ensures { Gives (λ x. (x.0, x.1.now)) result (field w8 (between least most) bytes.now) }
+    ensures { GivesOrStops (λ x. (x.0, x.1.now)) result (field w8 (between least most) bytes.now) }
 {
     let (number, rest) = byte_at(bytes)?;
     if is_between(u32::from(number), u32::from(least), u32::from(most)) {
@@ -66,7 +66,7 @@ pub(crate) fn byte_in(bytes: &[u8], least: u8, most: u8) -> Result<(u8, &[u8]), 
 /// A number of two bytes between two bounds.
 #[tactic(auto, unfolding(crate::specs::Reading::field))]
 pub(crate) fn short_in(bytes: &[u8], least: u16, most: u16) -> Result<(u16, &[u8]), Stop>
-    ensures { Gives (λ x. (x.0, x.1.now)) result (field w16 (between least most) bytes.now) }
+    ensures { GivesOrStops (λ x. (x.0, x.1.now)) result (field w16 (between least most) bytes.now) }
 {
     let (number, rest) = short_at(bytes)?;
     if is_between(u32::from(number), u32::from(least), u32::from(most)) {
@@ -79,7 +79,7 @@ pub(crate) fn short_in(bytes: &[u8], least: u16, most: u16) -> Result<(u16, &[u8
 /// A number of four bytes between two bounds.
 #[tactic(auto, unfolding(crate::specs::Reading::field))]
 pub(crate) fn word_in(bytes: &[u8], least: u32, most: u32) -> Result<(u32, &[u8]), Stop>
-    ensures { Gives (λ x. (x.0, x.1.now)) result (field w32 (between least most) bytes.now) }
+    ensures { GivesOrStops (λ x. (x.0, x.1.now)) result (field w32 (between least most) bytes.now) }
 {
     let (number, rest) = word_at(bytes)?;
     if is_between(number, least, most) {
@@ -92,7 +92,7 @@ pub(crate) fn word_in(bytes: &[u8], least: u32, most: u32) -> Result<(u32, &[u8]
 /// A mask that covers the key.
 #[tactic(auto, unfolding(crate::specs::Reading::field))]
 pub(crate) fn mask_at(bytes: &[u8], key: u32) -> Result<(u32, &[u8]), Stop>
-    ensures { Gives (λ x. (x.0, x.1.now)) result (field w32 (covers key) bytes.now) }
+    ensures { GivesOrStops (λ x. (x.0, x.1.now)) result (field w32 (covers key) bytes.now) }
 {
     let (mask, rest) = word_at(bytes)?;
     if key & mask == key {
@@ -103,23 +103,23 @@ pub(crate) fn mask_at(bytes: &[u8], key: u32) -> Result<(u32, &[u8]), Stop>
 }
 
 /// A route with some output.
-#[tactic(auto, unfolding(crate::specs::Reading::route_at))]
+#[tactic(auto, unfolding(crate::specs::Reading::read_route))]
 pub(crate) fn route_at(bytes: &[u8]) -> Result<(Route, &[u8]), Stop>
-    ensures { Gives (λ x. (x.0, x.1.now)) result (route_at bytes.now) }
+    ensures { GivesOrStops (λ x. (x.0, x.1.now)) result (read_route bytes.now) }
 {
     let (bits, rest) = word_in(bytes, 1, 0xff_ffff)?;
     Ok((Route { bits }, rest))
 }
 
 /// The chip of the next table.
-#[tactic(auto, unfolding(crate::specs::Reading::chip_at))]
+#[tactic(auto, unfolding(crate::specs::Reading::read_chip))]
 pub(crate) fn chip_at(
     bytes: &[u8],
     width: u8,
     height: u8,
     before: Option<Chip>,
 ) -> Result<(Chip, &[u8]), Stop>
-    ensures { Gives (λ x. (x.0, x.1.now)) result (chip_at width height before bytes.now) }
+    ensures { GivesOrStops (λ x. (x.0, x.1.now)) result (read_chip width height before bytes.now) }
 {
     let (x, rest) = x_at(bytes, width)?;
     let (y, rest) = y_at(rest, height, before, x)?;
@@ -129,7 +129,7 @@ pub(crate) fn chip_at(
 /// The x of a chip.
 #[tactic(auto, unfolding(crate::specs::Reading::field))]
 fn x_at(bytes: &[u8], width: u8) -> Result<(u8, &[u8]), Stop>
-    ensures { Gives (λ x. (x.0, x.1.now)) result (field w8 (λ n. nat_lt n width) bytes.now) }
+    ensures { GivesOrStops (λ x. (x.0, x.1.now)) result (field w8 (λ n. nat_lt n width) bytes.now) }
 {
     let (x, rest) = byte_at(bytes)?;
     if x < width {
@@ -142,8 +142,9 @@ fn x_at(bytes: &[u8], width: u8) -> Result<(u8, &[u8]), Stop>
 /// The y of a chip of that x.
 #[tactic(auto, unfolding(crate::specs::Reading::field))]
 fn y_at(bytes: &[u8], height: u8, before: Option<Chip>, x: u8) -> Result<(u8, &[u8]), Stop>
-    ensures { Gives (λ x. (x.0, x.1.now)) result
-        (field w8 (λ n. nat_lt n height && comes_after before (record { x = x; y = n })) bytes.now) }
+    ensures { GivesOrStops (λ x. (x.0, x.1.now)) result
+        (field w8 (λ n. nat_lt n height && comes_after before (record { x = x; y = n }))
+        bytes.now) }
 {
     let (y, rest) = byte_at(bytes)?;
     if is_next(before, Chip { x, y }, height) {

@@ -8,7 +8,8 @@ ghost use Rattle.table_load.specs.Reading.{AreBytes, fault_of};
 /// them.
 pub fn a_fault_is_where_no_image_is_spelled()
     ensures spelled { (v : Image) (bytes : List ℕ) → Spells v bytes → fault_of bytes ≡ None }
-    ensures not_spelled { (bytes : List ℕ) → AreBytes bytes → fault_of bytes ≡ None → (v : Image) × Spells v bytes }
+    ensures not_spelled { (bytes : List ℕ) → AreBytes bytes → fault_of bytes ≡ None
+        → (v : Image) × Spells v bytes }
     ensures more { (v : Image) (bytes more : List ℕ) → Spells v bytes → 0 < length more
         → fault_of (bytes ++ more) ≡ Some (length bytes) }
 {}
@@ -16,5 +17,6 @@ pub fn a_fault_is_where_no_image_is_spelled()
 /// An image has one spelling at most, no spelling begins another, and no two images are spelled alike.
 pub fn an_image_has_one_spelling()
     ensures one { (v : Image) (a b : List ℕ) → Spells v a → Spells v b → a ≡ b }
-    ensures apart { (v w : Image) (bytes more : List ℕ) → Spells v bytes → Spells w (bytes ++ more) → (more ≡ []) × (v ≡ w) }
+    ensures apart { (v w : Image) (bytes more : List ℕ) → Spells v bytes → Spells w (bytes ++ more)
+        → (more ≡ []) × (v ≡ w) }
 {}

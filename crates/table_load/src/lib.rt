@@ -15,7 +15,7 @@ mod writes;
 
 pub use faults::ImageErr;
 pub use laws::{a_fault_is_where_no_image_is_spelled, an_image_has_one_spelling};
-pub use loads::{load, memory_of};
+pub use loads::load;
 pub use reads::decode;
 pub use spin_base::ChipTable;
 pub use tables::Image;

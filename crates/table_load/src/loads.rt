@@ -6,12 +6,9 @@ ghost use Rattle.tcam_find.specs.Memory.{empty_memory};
 
 use crate::tables::Image;
 use range_store::Ranges;
-use spin_base::{Entry, Memory, Seq};
+use spin_base::{Entry, Memory, ROUTER_ENTRIES, Seq};
 use std::alloc::Global;
 use tcam_find::Tcam;
-
-/// How many places for entries a router has (SpiNNaker datasheet).
-const SIZE: u64 = 1024;
 
 /// One lookup memory for each chip of the grid, in the order of the chips' indices x * height + y: a chip's rows from
 /// place 0 on, and unused entries after them.
@@ -26,16 +23,6 @@ pub fn load(alloc: Global, image: &Image) -> Result<Seq<Tcam>, Memory>
         fill(alloc, &mut memories[at], table.entries.as_slice())?;
     }
     Ok(Seq::from_vec(memories))
-}
-
-/// The lookup memory that has the entries from place 0 on, and unused entries after them.
-pub fn memory_of(entries: &[Entry]) -> Tcam
-    requires { length entries.now ≤ 1024 }
-    ensures { result ≡ loaded entries.now }
-{
-    let mut memory = Tcam::empty();
-    put_rows(&mut memory, 0, entries);
-    memory
 }
 
 /// Memories of unused entries.
@@ -53,7 +40,7 @@ fn empty_memories(alloc: Global, count: usize) -> Result<Vec<Tcam>, Memory>
 fn fill(alloc: Global, memory: &mut Tcam, rows: &[Entry]) -> Result<(), Memory>
     requires empty { memory.old ≡ empty_memory }
     requires some { 0 < length rows.now }
-    requires few { length rows.now ≤ 1024 }
+    requires few { length rows.now ≤ ROUTER_ENTRIES }
     ensures { OnOk result (memory.new ≡ loaded rows.now) }
 {
     let first = take_places(alloc, rows.len() as u64)?;
@@ -63,9 +50,10 @@ fn fill(alloc: Global, memory: &mut Tcam, rows: &[Entry]) -> Result<(), Memory>
 
 /// Puts rows at the places `first` onwards of a memory.
 fn put_rows(memory: &mut Tcam, first: u32, rows: &[Entry])
-    requires size { length memory.old ≡ 1024 }
-    requires fits { first + length rows.now ≤ 1024 }
-    ensures { memory.new ≡ take first memory.old ++ (rows.now ++ drop (first + length rows.now) memory.old) }
+    requires size { length memory.old ≡ ROUTER_ENTRIES }
+    requires fits { first + length rows.now ≤ ROUTER_ENTRIES }
+    ensures { memory.new
+        ≡ take first memory.old ++ (rows.now ++ drop (first + length rows.now) memory.old) }
 {
     for (at, row) in rows.iter().enumerate() {
         memory.set(first + at as u32, *row);
@@ -75,10 +63,10 @@ fn put_rows(memory: &mut Tcam, first: u32, rows: &[Entry])
 /// Takes places for so many rows from the region of a memory's places, and answers the first of them, which is 0.
 fn take_places(alloc: Global, rows: u64) -> Result<u32, Memory>
     requires some { 0 < rows }
-    requires few { rows ≤ 1024 }
+    requires few { rows ≤ ROUTER_ENTRIES }
     ensures { IfOk result (λ first. first ≡ 0) }
 {
-    let mut places = Ranges::new(alloc, SIZE)?;
+    let mut places = Ranges::new(alloc, ROUTER_ENTRIES as u64)?;
     match places.take(rows, 1)? {
         Some(first) => Ok(first as u32),
         None => unreachable!(),

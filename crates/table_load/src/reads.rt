@@ -2,12 +2,12 @@
 ghost use Rattle.std.specs.Prelude.{◌≡◌, ℕ, Some, IfOk, MatchResult, IsErrOf};
 ghost use Rattle.table_load.specs.declared.tables.Image.{Image};
 ghost use Rattle.table_load.specs.Images.{Spells};
-ghost use Rattle.table_load.specs.Reading.{Gives, row_at, rows_at, table_at, tables_at, image_at, fault_of};
+ghost use Rattle.table_load.specs.Reading.{GivesOrStops, read_row, read_rows, read_table, read_tables, read_image, fault_of};
 
 use crate::faults::{ImageErr, Stop};
 use crate::fields::{byte_in, chip_at, mask_at, route_at, short_in, word_at, word_in};
 use crate::tables::Image;
-use spin_base::{Chip, ChipTable, Entry, Seq};
+use spin_base::{Chip, ChipTable, Entry, ROUTER_ENTRIES, Seq};
 use std::alloc::Global;
 
 /// The letters SPNT, as a number whose lowest byte comes first.
@@ -19,9 +19,6 @@ const VERSION: u8 = 1;
 /// Chips in a row or in a column, at most.
 const SIDE: u8 = 64;
 
-/// Rows of a table, at most.
-const ROWS: u16 = 1024;
-
 /// The image that the bytes spell.
 ///
 /// # Errors
@@ -30,7 +27,8 @@ const ROWS: u16 = 1024;
 /// or is not allowed; bytes after the last row are such a field. `Memory`.
 pub fn decode(alloc: Global, bytes: &[u8]) -> Result<Image, ImageErr>
     ensures read { IfOk result (λ v. Spells v bytes.now) }
-    ensures only { (v : Image) → Spells v bytes.now → MatchResult result (λ w. w ≡ v) (λ e. e ≡ ImageErr.Memory) }
+    ensures only { (v : Image) → Spells v bytes.now
+        → MatchResult result (λ w. w ≡ v) (λ e. e ≡ ImageErr.Memory) }
     ensures fault { (at : ℕ) → IsErrOf result (ImageErr.Fault at) → fault_of bytes.now ≡ Some at }
 {
     match image_at(alloc, bytes) {
@@ -43,9 +41,9 @@ pub fn decode(alloc: Global, bytes: &[u8]) -> Result<Image, ImageErr>
 }
 
 /// An image, all of the bytes.
-#[tactic(auto, unfolding(crate::specs::Reading::image_at))]
+#[tactic(auto, unfolding(crate::specs::Reading::read_image))]
 fn image_at(alloc: Global, bytes: &[u8]) -> Result<Image, Stop>
-    ensures { Gives (λ v. v) result (image_at bytes.now) }
+    ensures { GivesOrStops (λ v. v) result (read_image bytes.now) }
 {
     let (_, rest) = word_in(bytes, LETTERS, LETTERS)?;
     let (_, rest) = byte_in(rest, VERSION, VERSION)?;
@@ -73,7 +71,8 @@ fn tables_at(
     count: u16,
     bytes: &[u8],
 ) -> Result<(Vec<ChipTable>, &[u8]), Stop>
-    ensures { Gives (λ x. (x.0.items, x.1.now)) result (tables_at width height count None bytes.now) }
+    ensures { GivesOrStops (λ x. (x.0.items, x.1.now)) result
+        (read_tables width height count None bytes.now) }
 {
     let mut tables = Vec::with_capacity(alloc, count as usize)?;
     let mut before = None;
@@ -88,7 +87,7 @@ fn tables_at(
 }
 
 /// A table.
-#[tactic(auto, unfolding(crate::specs::Reading::table_at))]
+#[tactic(auto, unfolding(crate::specs::Reading::read_table))]
 fn table_at(
     alloc: Global,
     width: u8,
@@ -96,10 +95,10 @@ fn table_at(
     before: Option<Chip>,
     bytes: &[u8],
 ) -> Result<(ChipTable, &[u8]), Stop>
-    ensures { Gives (λ x. (x.0, x.1.now)) result (table_at width height before bytes.now) }
+    ensures { GivesOrStops (λ x. (x.0, x.1.now)) result (read_table width height before bytes.now) }
 {
     let (chip, rest) = chip_at(bytes, width, height, before)?;
-    let (count, rest) = short_in(rest, 1, ROWS)?;
+    let (count, rest) = short_in(rest, 1, ROUTER_ENTRIES as u16)?;
     let (rows, rest) = rows_at(alloc, count, rest)?;
     let entries = Seq::from_vec(rows);
     Ok((ChipTable { chip, entries }, rest))
@@ -107,7 +106,7 @@ fn table_at(
 
 /// So many rows.
 fn rows_at(alloc: Global, count: u16, bytes: &[u8]) -> Result<(Vec<Entry>, &[u8]), Stop>
-    ensures { Gives (λ x. (x.0.items, x.1.now)) result (rows_at count bytes.now) }
+    ensures { GivesOrStops (λ x. (x.0.items, x.1.now)) result (read_rows count bytes.now) }
 {
     let mut rows = Vec::with_capacity(alloc, count as usize)?;
     let mut rest = bytes;
@@ -120,9 +119,9 @@ fn rows_at(alloc: Global, count: u16, bytes: &[u8]) -> Result<(Vec<Entry>, &[u8]
 }
 
 /// A row.
-#[tactic(auto, unfolding(crate::specs::Reading::row_at))]
+#[tactic(auto, unfolding(crate::specs::Reading::read_row))]
 fn row_at(bytes: &[u8]) -> Result<(Entry, &[u8]), Stop>
-    ensures { Gives (λ x. (x.0, x.1.now)) result (row_at bytes.now) }
+    ensures { GivesOrStops (λ x. (x.0, x.1.now)) result (read_row bytes.now) }
 {
     let (key, rest) = word_at(bytes)?;
     let (mask, rest) = mask_at(rest, key)?;

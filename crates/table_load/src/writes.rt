@@ -1,5 +1,6 @@
 // The spelling of an image.
 ghost use Rattle.std.specs.Prelude.{◌≡◌, ◌≤◌, ◌++◌, length, OnOk, IfOk};
+ghost use Rattle.spin_base.specs.declared.sizes.TheConstants.{ROUTER_ENTRIES};
 ghost use Rattle.table_load.specs.Images.{IsValid, Spells, head_bytes, table_bytes, row_bytes};
 
 use crate::tables::Image;
@@ -33,7 +34,7 @@ fn put_head(bytes: &mut Vec<u8>, image: &Image) -> Result<(), Memory>
 
 /// Writes one table.
 fn put_table(bytes: &mut Vec<u8>, table: &ChipTable) -> Result<(), Memory>
-    requires { length table.now.entries ≤ 1024 }
+    requires { length table.now.entries ≤ ROUTER_ENTRIES }
     ensures { OnOk result (bytes.new.items ≡ bytes.old.items ++ table_bytes table.now) }
 {
     let count = table.entries.len() as u16;

@@ -6,9 +6,10 @@ use Rattle.std.specs.Int.Bits.{and_zero_r}
 use Rattle.spin_base.specs.declared.routes.Route.{Route}
 use Rattle.spin_base.specs.declared.chips.Port.{Port}
 use Rattle.spin_base.specs.declared.blocks.Entry.{Entry}
+use Rattle.spin_base.specs.declared.sizes.TheConstants.{ROUTER_ENTRIES}
 use Rattle.spin_base.specs.Lookup.{lookup, matches}
 use Rattle.spin_base.specs.Outputs.{nothing}
-use Rattle.tcam_find.specs.Memory.{entries_of, empty_memory, unused, size}
+use Rattle.tcam_find.specs.Memory.{entries_of, empty_memory, unused}
 
 pub length-entries_of : (keys masks : List ℕ) (routes : List Route) → length masks ≡ length keys → length routes ≡ length keys
     → length (entries_of keys masks routes) ≡ length keys
@@ -45,13 +46,13 @@ entries_of-replicate (suc n) key mask route = ap (λ es. record { key = key; mas
 
 -- three rows that say unused everywhere are the empty memory
 pub empty_is : (route : Route) → route ≡ nothing
-    → entries_of (replicate size 0xffff_ffff) (replicate size 0) (replicate size route) ≡ empty_memory
+    → entries_of (replicate ROUTER_ENTRIES 0xffff_ffff) (replicate ROUTER_ENTRIES 0) (replicate ROUTER_ENTRIES route) ≡ empty_memory
 unfolding empty_memory
-empty_is route e = ap (λ o. entries_of (replicate size 0xffff_ffff) (replicate size 0) (replicate size o)) e ∙ entries_of-replicate size 0xffff_ffff 0 nothing
+empty_is route e = ap (λ o. entries_of (replicate ROUTER_ENTRIES 0xffff_ffff) (replicate ROUTER_ENTRIES 0) (replicate ROUTER_ENTRIES o)) e ∙ entries_of-replicate ROUTER_ENTRIES 0xffff_ffff 0 nothing
 
-pub length_empty : length empty_memory ≡ size
+pub length_empty : length empty_memory ≡ ROUTER_ENTRIES
 unfolding empty_memory
-length_empty = length-replicate size unused
+length_empty = length-replicate ROUTER_ENTRIES unused
 
 -- no bit of a key under the mask 0
 pub unused_matches : (key : ℕ) → matches unused key ≡ false

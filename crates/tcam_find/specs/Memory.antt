@@ -1,6 +1,7 @@
 -- The lookup memory of a router.
 use Rattle.std.specs.Prelude.{ℕ, List, [], ◌∷◌, replicate}
 use Rattle.spin_base.specs.declared.routes.Route.{Route}
+use Rattle.spin_base.specs.declared.sizes.TheConstants.{ROUTER_ENTRIES}
 use Rattle.spin_base.specs.declared.blocks.Entry.{Entry}
 use Rattle.spin_base.specs.Outputs.{nothing}
 
@@ -8,13 +9,9 @@ use Rattle.spin_base.specs.Outputs.{nothing}
 abbrev pub unused : Entry
 unused = record { key = 0xffff_ffff; mask = 0; route = nothing }
 
--- A router has 1,024 entries (SpiNNaker datasheet).
-abbrev pub size : ℕ
-size = 1024
-
--- the memory whose entries are all unused
+-- the memory whose entries are all unused: 1,024 of them
 unfoldable pub empty_memory : List Entry
-empty_memory = replicate size unused
+empty_memory = replicate ROUTER_ENTRIES unused
 
 -- the entries whose keys, masks and routes stand in three rows
 abbrev pub entries_of : List ℕ → List ℕ → List Route → List Entry

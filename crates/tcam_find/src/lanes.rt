@@ -16,7 +16,8 @@ pub(crate) fn first_match(keys: &[u32], masks: &[u32], at: usize, key: u32) -> u
     ensures before { (k : ℕ) → k < result
         → (bit_and key (slice_index masks.now (at + k)) == slice_index keys.now (at + k)) ≡ false }
     ensures found { result < 8
-        → (bit_and key (slice_index masks.now (at + result)) == slice_index keys.now (at + result)) ≡ true }
+        → (bit_and key (slice_index masks.now (at + result)) == slice_index keys.now (at + result))
+        ≡ true }
 {
     let wanted = u32x8::from_slice(&keys[at..at + LANES]);
     let kept = u32x8::splat(key) & u32x8::from_slice(&masks[at..at + LANES]);

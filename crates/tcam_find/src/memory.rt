@@ -4,23 +4,20 @@ ghost use Rattle.spin_base.specs.Lookup.{default_route};
 ghost use Rattle.std.specs.Prelude.{◌≡◌, ◌^◌, []};
 
 use crate::lanes::{LANES, first_match};
-use spin_base::{Dir, Entry, Port, Route, Shared};
+use spin_base::{Dir, Entry, Port, ROUTER_ENTRIES, Route, Shared};
 use std::marker::Model;
 
-/// How many entries a router has (SpiNNaker datasheet).
-const SIZE: usize = 1024;
-
 /// How many groups of eight entries these are.
-const GROUPS: usize = 128;
+const GROUPS: usize = ROUTER_ENTRIES / LANES;
 
 /// The lookup memory of a router: 1,024 entries, seen as their list.
 ///
 /// Keys, masks and routes stand in three rows of 1,024 words.
 #[derive(Drop)]
 pub struct Tcam {
-    keys: [u32; SIZE],
-    masks: [u32; SIZE],
-    routes: [Route; SIZE],
+    keys: [u32; ROUTER_ENTRIES],
+    masks: [u32; ROUTER_ENTRIES],
+    routes: [Route; ROUTER_ENTRIES],
 }
 
 impl Shared for Tcam {}
@@ -43,21 +40,21 @@ impl Tcam {
     /// A memory of unused entries. An unused entry has key ffffffff, mask 0 and no route, and matches no key.
     pub fn empty() -> Tcam
         ensures all_unused { result ≡ empty_memory }
-        ensures size { length result ≡ 1024 }
+        ensures size { length result ≡ ROUTER_ENTRIES }
         ensures unused_matches_no_key { (key : ℕ) → matches unused key ≡ false }
     {
         Tcam {
-            keys: [u32::MAX; SIZE],
-            masks: [0; SIZE],
-            routes: [Route::nothing(); SIZE],
+            keys: [u32::MAX; ROUTER_ENTRIES],
+            masks: [0; ROUTER_ENTRIES],
+            routes: [Route::nothing(); ROUTER_ENTRIES],
         }
     }
 
     /// Puts an entry at a place below 1,024.
     pub fn set(&mut self, place: u32, e: Entry)
-        requires { place < 1024 }
+        requires { place < ROUTER_ENTRIES }
         ensures one { self.new ≡ slice_set self.old place e }
-        ensures size { length self.new ≡ 1024 }
+        ensures size { length self.new ≡ ROUTER_ENTRIES }
     {
         let place = place as usize;
         self.keys[place] = e.key;
@@ -67,9 +64,9 @@ impl Tcam {
 
     /// The entry at a place below 1,024.
     pub fn entry(&self, place: u32) -> Entry
-        requires { place < 1024 }
+        requires { place < ROUTER_ENTRIES }
         ensures at_place { slice_get self.now place ≡ Some result }
-        ensures size { length self.now ≡ 1024 }
+        ensures size { length self.now ≡ ROUTER_ENTRIES }
     {
         let place = place as usize;
         Entry {

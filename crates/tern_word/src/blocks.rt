@@ -58,7 +58,8 @@ pub fn block_of(place: u32, size: u64) -> Block
     requires power { IsPowerOfTwo size }
     requires fits { size ≤ 2 ^ 32 }
     requires aligned { place % size ≡ 0 }
-    ensures keys { (k : ℕ) → k < 2 ^ 32 → ((Matches result k) ↔ ((place ≤ k) × (k < place + size))) }
+    ensures keys { (k : ℕ) → k < 2 ^ 32
+        → ((Matches result k) ↔ ((place ≤ k) × (k < place + size))) }
     ensures key { result.key ≡ place }
     ensures mask { result.mask + size ≡ 2 ^ 32 }
 {

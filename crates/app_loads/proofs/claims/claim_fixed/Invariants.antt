@@ -1,5 +1,5 @@
 use Rattle.std.proofs.Common.{◌≡◌, ◌++◌, take}
-use Rattle.list_laws.specs.Gathered.{gathered}
+use Rattle.spin_base.specs.Gathered.{gathered}
 use Rattle.app_loads.specs.declared.plans.AppNet.{AppNet}
 use Rattle.app_loads.specs.Claims.{fixed_claim}
 use Rattle.app_loads.proofs.claims.claim_fixed.Given as goal

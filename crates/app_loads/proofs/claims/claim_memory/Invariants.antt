@@ -1,6 +1,6 @@
 use Rattle.std.proofs.Common.{◌≡◌, ◌++◌, take}
 use Rattle.std.specs.Prelude.{zip}
-use Rattle.list_laws.specs.Gathered.{gathered}
+use Rattle.spin_base.specs.Gathered.{gathered}
 use Rattle.app_loads.specs.Claims.{memory_claim}
 use Rattle.app_loads.proofs.claims.claim_memory.Given as goal
 

@@ -1,5 +1,25 @@
+use Rattle.std.proofs.Common.{subst, sym, arith, List}
+use Rattle.std.specs.List.{All}
+use Rattle.std.proofs.lemmas.List.Elements.{All-weaker}
+use Rattle.app_loads.specs.declared.plans.AppNet.{AppNet}
+use Rattle.app_loads.specs.Counting.{IsKeyCount}
+use Rattle.app_loads.specs.Plans.{IsAppNet}
 use Rattle.app_loads.proofs.Claiming.{claims_joined}
+use Rattle.app_loads.proofs.FewSpots.{few_spots}
 use Rattle.app_loads.proofs.claims.claims_of.Goals as goal
+
+pub prove-unreachable-requires : goal.prove-unreachable-requires
+prove-unreachable-requires c =
+    let few = few_spots c.args.machine.now c.args.plan.now.spots c.requires.different c.requires.usable in
+    let total = c.chips-chips.ensures.total in
+    let long = c.len.ensures in
+    let more = c.if-prove.true in
+    omega (arith, few, total, long, more)
+
+pub claim_keys-requires-clause-keys : goal.claim_keys-requires-clause-keys
+claim_keys-requires-clause-keys c =
+    subst (λ (l : List AppNet). All (λ (net : AppNet). IsKeyCount net.keys) l) (sym c.as_slice-4.ensures)
+    (All-weaker (IsAppNet c.args.machine.now c.args.plan.now.spots) (λ (net : AppNet). IsKeyCount net.keys) (λ net is. record { some = is.some_key; few = is.few_keys }) c.args.plan.now.nets c.requires.nets)
 
 pub returns : goal.returns
 returns c =

@@ -1,8 +1,8 @@
 use Rattle.std.proofs.Common.{◌≡◌, take}
 use Rattle.std.specs.List.{flat_map}
-use Rattle.app_loads.specs.Leaving.{lesser_of, least_of, held_packets}
+use Rattle.app_loads.specs.Leaving.{lesser_of, least_own_packet, held_packets}
 use Rattle.app_loads.proofs.leaving.least_in_hands.Given as goal
 
 -- the least of those so far
 abbrev pub invariant-loop-hand : goal.invariant-loop-hand
-invariant-loop-hand l = l.least ≡ lesser_of l.fn.so_far (least_of l.app (flat_map held_packets (take l.hand-index l.hands)))
+invariant-loop-hand l = l.least ≡ lesser_of l.fn.so_far (least_own_packet l.app (flat_map held_packets (take l.hand-index l.hands)))

@@ -1,5 +1,5 @@
 use Rattle.std.proofs.Common.{◌∙◌, sym, ap}
-use Rattle.app_loads.specs.Leaving.{lesser_of, least_of, packets_of}
+use Rattle.app_loads.specs.Leaving.{lesser_of, least_own_packet, packet_numbers_of}
 use Rattle.app_loads.proofs.LeavingLeast.{none_right, list_more, all_lists}
 use Rattle.app_loads.proofs.leaving.least_in_queues.Goals as goal
 
@@ -8,11 +8,11 @@ loop-queue-init c = sym (none_right c.args.so_far)
 
 pub loop-queue-preserved : goal.loop-queue-preserved
 loop-queue-preserved c =
-    list_more c.args.app.now c.args.so_far c.loop-queue.least c.least_in-least.result packets_of c.args.queues.now c.loop-queue.queue-index c.queue-item.result
+    list_more c.args.app.now c.args.so_far c.loop-queue.least c.least_in-least.result packet_numbers_of c.args.queues.now c.loop-queue.queue-index c.queue-item.result
     c.loop-queue-test.true c.queue-item.is c.loop-queue.invariant
-    (c.least_in-least.ensures ∙ ap (λ l. lesser_of c.loop-queue.least (least_of c.args.app.now (packets_of l))) c.as_slice.ensures)
+    (c.least_in-least.ensures ∙ ap (λ l. lesser_of c.loop-queue.least (least_own_packet c.args.app.now (packet_numbers_of l))) c.as_slice.ensures)
 
 pub returns : goal.returns
 returns c =
-    all_lists c.args.app.now c.args.so_far c.loop-queue.least c.loop-queue.least packets_of c.args.queues.now c.loop-queue.queue-index c.loop-queue-test.false
+    all_lists c.args.app.now c.args.so_far c.loop-queue.least c.loop-queue.least packet_numbers_of c.args.queues.now c.loop-queue.queue-index c.loop-queue-test.false
     c.loop-queue.invariant

@@ -1,8 +1,8 @@
 use Rattle.std.proofs.Common.{◌≡◌, take}
 use Rattle.std.specs.List.{flat_map}
-use Rattle.app_loads.specs.Leaving.{lesser_of, least_of, packets_of}
+use Rattle.app_loads.specs.Leaving.{lesser_of, least_own_packet, packet_numbers_of}
 use Rattle.app_loads.proofs.leaving.least_in_queues.Given as goal
 
 -- the least of those so far
 abbrev pub invariant-loop-queue : goal.invariant-loop-queue
-invariant-loop-queue l = l.least ≡ lesser_of l.fn.so_far (least_of l.app (flat_map packets_of (take l.queue-index l.queues)))
+invariant-loop-queue l = l.least ≡ lesser_of l.fn.so_far (least_own_packet l.app (flat_map packet_numbers_of (take l.queue-index l.queues)))

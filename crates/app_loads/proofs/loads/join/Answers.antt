@@ -2,7 +2,7 @@ use Rattle.std.proofs.Common.{subst, sym, List, refl, inl}
 use Rattle.machine_desc.specs.Description.{Description}
 use Rattle.app_loads.specs.declared.loaded.Range.{Range}
 use Rattle.app_loads.specs.Claims.{claims_of}
-use Rattle.app_loads.specs.Joining.{IsServed}
+use Rattle.app_loads.specs.Joining.{IsServedApp}
 use Rattle.app_loads.specs.Plans.{IsPlan}
 use Rattle.app_loads.specs.Taking.{AreRegionsOf, AreTaken, HaveRoom, IsDueAlways}
 use Rattle.app_loads.proofs.JoinLaws.{can_settle}
@@ -26,11 +26,11 @@ returns-in-Err-clause-back c = c.in-Err.ensures.back
 pub settle-mesh-requires : goal.settle-mesh-requires
 settle-mesh-requires c =
     can_settle c.args.mesh c.args.regions.now c.serve.new.regions c.args.number c.args.first c.args.plan.now c.in-Ok.app c.requires
-    (subst (λ (m : Description). IsServed m c.args.regions.now c.args.number c.args.first c.args.plan.now c.in-Ok.app c.serve.new.regions) c.machine.ensures c.in-Ok.ensures.served)
+    (subst (λ (m : Description). IsServedApp m c.args.regions.now c.args.number c.args.first c.args.plan.now c.in-Ok.app c.serve.new.regions) c.machine.ensures c.in-Ok.ensures.served)
 
 pub returns-in-Ok-settled-clause-served : goal.returns-in-Ok-settled-clause-served
 returns-in-Ok-settled-clause-served c =
-    subst (λ (m : Description). IsServed m c.args.regions.now c.args.number c.args.first c.args.plan.now c.in-Ok.app c.serve.new.regions) c.machine.ensures c.in-Ok.ensures.served
+    subst (λ (m : Description). IsServedApp m c.args.regions.now c.args.number c.args.first c.args.plan.now c.in-Ok.app c.serve.new.regions) c.machine.ensures c.in-Ok.ensures.served
 
 pub returns-in-Err-settled-clause-due : goal.returns-in-Err-settled-clause-due
 returns-in-Err-settled-clause-due c = inl refl

@@ -2,7 +2,7 @@ use Rattle.std.proofs.Common.{refl, ◌≡◌, ◌∙◌, ◌*◌, subst, sym, a
 use Rattle.std.specs.Vec.{with_items}
 use Rattle.std.proofs.lemmas.List.{with_items_is}
 use Rattle.machine_desc.specs.Description.{Description}
-use Rattle.plain_tables.specs.PlainTable.{AreRouted, AtEach, IsPlainTable}
+use Rattle.net_tables.specs.PlainTable.{AreRoutedApart, AtEach, IsPlainTable}
 use Rattle.mesh_core.specs.InParts.{state_in}
 use Rattle.app_loads.specs.Host.{nets_of}
 use Rattle.app_loads.proofs.AppNets.{routed}
@@ -11,7 +11,7 @@ use Rattle.app_loads.proofs.loads.settle.Goals as goal
 
 pub tables_of-requires-clause-routed : goal.tables_of-requires-clause-routed
 tables_of-requires-clause-routed c =
-    subst (λ (m : Description). AreRouted m (nets_of c.args.app.now)) (sym c.machine.ensures) (routed c.args.mesh.setup.machine c.args.app.now c.requires.loaded c.requires.apart)
+    subst (λ (m : Description). AreRoutedApart m (nets_of c.args.app.now)) (sym c.machine.ensures) (routed c.args.mesh.setup.machine c.args.app.now c.requires.loaded c.requires.apart)
 
 pub returns-in_default-clause-refused : goal.returns-in_default-clause-refused
 returns-in_default-clause-refused c = refl

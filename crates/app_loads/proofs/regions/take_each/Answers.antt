@@ -1,7 +1,7 @@
 use Rattle.std.proofs.Common.{◌∙◌, ap, arith, length, refl, sym}
 use Rattle.std.specs.List.{slice_get}
 use Rattle.std.proofs.lemmas.List.{length-replicate, length-set}
-use Rattle.app_loads.proofs.Serving.{pushed_long, claim_fixed, claim_served, claim_due, claim_taken, claim_room, count_held, counts_more, none_counted, none_served, of_region, all_served}
+use Rattle.app_loads.proofs.Serving.{pushed_long, claim_fair, claim_served, claim_due, claim_taken, claim_room, count_held, counts_more, none_counted, none_served, of_region, all_served}
 use Rattle.app_loads.proofs.regions.take_each.Goals as goal
 
 pub loop-claim-init : goal.loop-claim-init
@@ -13,9 +13,9 @@ loop-claim-init c = record {
   counted = λ k n at. none_counted (length c.args.regions.now) k n (ap (λ l. slice_get l k) (sym c.requires.counts) ∙ at) ∙ ap (of_region k) (sym c.requires.none);
 }
 
-pub take_claim-requires-clause-fixed : goal.take_claim-requires-clause-fixed
-take_claim-requires-clause-fixed c =
-    claim_fixed c.args.claims.now c.args.regions.now c.loop-claim.regions c.loop-claim.ranges.items c.loop-claim.claim-index _ c.index-regions-at.result c.loop-claim-test.true
+pub take_claim-requires : goal.take_claim-requires
+take_claim-requires c =
+    claim_fair c.args.claims.now c.args.regions.now c.loop-claim.regions c.loop-claim.ranges.items c.loop-claim.claim-index _ c.index-regions-at.result c.loop-claim-test.true
     c.loop-claim.invariant.each_one c.loop-claim.invariant.served c.requires.can
 
 pub returns-in-Err-clause-refused : goal.returns-in-Err-clause-refused

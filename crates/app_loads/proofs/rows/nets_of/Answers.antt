@@ -2,8 +2,8 @@ use Rattle.std.proofs.Common.{◌∙◌, ◌++◌, ◌∷◌, [], List, ap, sym,
 use Rattle.std.specs.List.{slice_get}
 use Rattle.std.proofs.lemmas.Option.{slice_get_read}
 use Rattle.std.proofs.lemmas.List.{take_all}
-use Rattle.list_laws.proofs.Places.{take_more_at}
-use Rattle.net_tables.specs.declared.nets.NetPlan.{NetPlan}
+use Rattle.spin_base.proofs.Places.{take_more_at}
+use Rattle.machine_desc.specs.declared.nets.NetPlan.{NetPlan}
 use Rattle.app_loads.specs.Host.{net_with, nets_of}
 use Rattle.app_loads.proofs.Unsent.{nets_with_at, nets_with_long}
 use Rattle.app_loads.proofs.rows.nets_of.Goals as goal

@@ -4,7 +4,7 @@ use Rattle.mesh_core.specs.InParts.{state_in}
 use Rattle.mesh_core.specs.State.{State, IsMesh}
 use Rattle.app_loads.specs.declared.loaded.Range.{Range}
 use Rattle.app_loads.specs.Leaving.{IsLeastUnderWay}
-use Rattle.app_loads.specs.Regions.{IsWithin}
+use Rattle.app_loads.specs.Regions.{IsRangeWithin}
 use Rattle.app_loads.specs.Taking.{HaveRoom}
 use Rattle.app_loads.proofs.LeftMesh.{can_clear, parted_whole, taken_still}
 use Rattle.app_loads.proofs.unloads.leave.Goals as goal
@@ -26,7 +26,7 @@ returns-in-Some-clause-mesh_refused c = c.put_together.ensures ∙ c.take_apart-
 
 pub make_ready-requires : goal.make_ready-requires
 make_ready-requires c =
-    All-weaker (IsWithin c.args.mesh.setup.machine (length c.args.regions.now)) (λ (r : Range). r.region < length c.args.regions.now) (λ r within. within.there) c.args.app.now.ranges c.requires.taken.within
+    All-weaker (IsRangeWithin c.args.mesh.setup.machine (length c.args.regions.now)) (λ (r : Range). r.region < length c.args.regions.now) (λ r within. within.there) c.args.app.now.ranges c.requires.taken.within
 
 pub returns-in-Err-clause-back : goal.returns-in-Err-clause-back
 returns-in-Err-clause-back c = c.make_ready.ensures.same

@@ -1,7 +1,7 @@
 -- The place is the insertion place, behind all members.
 use Rattle.std.proofs.Common.{◌≡◌, ◌<◌, ap, sym, subst, ◌∙◌}
 use Rattle.std.specs.Prelude.{All, insert}
-use Rattle.cover_checks.specs.Merge.{kept, merged_row, after}
+use Rattle.cover_merge.specs.Merge.{kept, merged_row, after}
 use Rattle.cover_merge.proofs.ApplyLemmas.{found_before, after_found, on_ok}
 use Rattle.cover_merge.proofs.applying.apply.Goals as goal
 

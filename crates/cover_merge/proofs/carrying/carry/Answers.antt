@@ -1,9 +1,9 @@
 -- The guards hold in the table after the merge, but for rows that the merged block meets.
 use Rattle.std.proofs.Common.{◌≡◌, ◌∙◌, ap, sym, subst, length}
 use Rattle.std.specs.Prelude.{insert}
-use Rattle.cover_checks.specs.Merge.{after}
+use Rattle.cover_merge.specs.Merge.{after}
 use Rattle.tern_word.specs.Ternary.{generality}
-use Rattle.cover_checks.specs.Merge.{place_for}
+use Rattle.cover_merge.specs.Merge.{place_for}
 use Rattle.cover_merge.specs.Guards.{AreGuardsBut}
 use Rattle.cover_merge.proofs.ApplyLemmas.{left}
 use Rattle.cover_merge.proofs.CarryLemmas.{carried, carried_length}

@@ -1,6 +1,6 @@
 -- A route is looked at once, and its set takes the place of the best where it beats it.
 use Rattle.std.proofs.Common.{[]}
-use Rattle.cover_checks.specs.Merge.{merge_rows}
+use Rattle.cover_merge.specs.Merge.{merge_rows}
 use Rattle.cover_merge.proofs.ChooseLemmas.{best_again, first_stands, link_first, read_one_route, read_stays, read_new}
 use Rattle.cover_merge.proofs.choosing.better.Goals as goal
 

@@ -1,8 +1,8 @@
 -- The first row of the route that may pair is the first partner.
 use Rattle.std.proofs.Common.{◌<◌, ◌∙◌, ◌∷◌, [], length, refl, sym, arith}
 use Rattle.std.proofs.lemmas.Bool.{and_parts}
-use Rattle.cover_checks.specs.Merge.{merge_rows, IsLegal}
-use Rattle.cover_checks.proofs.Answering.{fails}
+use Rattle.cover_merge.specs.Merge.{merge_rows, IsLegal}
+use Rattle.cover_merge.proofs.Answering.{fails}
 use Rattle.cover_merge.proofs.ChooseLemmas.{link_next, pair_made, none_first, none_next, partner_found, no_partner}
 use Rattle.cover_merge.proofs.TriedLemmas.{refused_first, refused_next, still_refused, refused_alone}
 use Rattle.cover_merge.proofs.choosing.partner.Goals as goal

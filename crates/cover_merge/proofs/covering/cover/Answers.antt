@@ -5,10 +5,10 @@ use Rattle.std.specs.List.Sorted.{IsPermutation}
 use Rattle.tern_word.specs.SoundTable.{IsSound, served}
 use Rattle.cover_merge.specs.Covering.{Covers, IsChosen, HasNoChosen, HasNoLegalPair, HasRoutesOf}
 use Rattle.cover_merge.specs.Merges.{sets_of}
-use Rattle.cover_checks.specs.Merge.{after}
+use Rattle.cover_merge.specs.Merge.{after}
 use Rattle.cover_merge.specs.Guards.{AreGuards}
 use Rattle.cover_merge.specs.Links.{AreNumbers}
-use Rattle.cover_merge.specs.Tried.{AreMarked}
+use Rattle.cover_merge.specs.Tried.{AreTriedUpTo}
 use Rattle.cover_merge.proofs.TriedLemmas.{marked_later}
 use Rattle.cover_merge.proofs.CoverLemmas.{IsCoveredSoFar, chosen_shorter, so_far_first, so_far_more, covered_short, covered_stuck}
 use Rattle.cover_merge.proofs.covering.cover.Goals as goal
@@ -18,7 +18,7 @@ merging-init c = record {
   so_far = subst (IsCoveredSoFar c.args.target c.args.table.rows c.args.table.rows) (sym c.new-merges.ensures) (so_far_first c.args.target c.args.table.rows c.requires.few c.requires.sound);
   one_each = c.in_ok-guards.ensures.one_each ∙ ap length c.as_slice.ensures;
   guards = subst (λ l. AreGuards l c.in_ok-guards.guards.items) c.as_slice.ensures c.in_ok-guards.ensures.guards;
-  marks = subst (λ n. AreMarked n c.args.table.rows c.in_ok-guards.guards.items) (sym (ap length c.new-merges.ensures)) (subst (λ l. AreMarked 0 l c.in_ok-guards.guards.items) c.as_slice.ensures c.in_ok-guards.ensures.marks);
+  marks = subst (λ n. AreTriedUpTo n c.args.table.rows c.in_ok-guards.guards.items) (sym (ap length c.new-merges.ensures)) (subst (λ l. AreTriedUpTo 0 l c.in_ok-guards.guards.items) c.as_slice.ensures c.in_ok-guards.ensures.marks);
   numbers = subst (λ n. AreNumbers n c.args.table.rows c.in_ok-numbers.numbers.items) (sym c.len-limit.ensures) (subst (λ l. AreNumbers (length l) l c.in_ok-numbers.numbers.items) c.as_slice-2.ensures c.in_ok-numbers.ensures);
 }
 
@@ -41,7 +41,7 @@ merging-preserved c =
           (so_far_more c.args.target c.args.table.rows rows c.merge_next.new.table.rows c.merging.merges (record { places = c.in-Some.places }) c.merging.invariant.so_far more chosen next);
       one_each = c.in_ok-places.ensures.one_each;
       guards = c.in_ok-places.ensures.guards;
-      marks = subst (λ l. AreMarked (length l) c.merge_next.new.table.rows c.merge_next.new.guards.items) (sym c.in_ok-push-in-Some.ensures.ok)
+      marks = subst (λ l. AreTriedUpTo (length l) c.merge_next.new.table.rows c.merge_next.new.guards.items) (sym c.in_ok-push-in-Some.ensures.ok)
           (marked_later c.len-now.result c.merge_next.new.table.rows c.merge_next.new.guards.items (length (c.merging.merges ++ record { places = c.in-Some.places } ∷ []))
           (omega (arith, c.len-now.ensures, length-append c.merging.merges (record { places = c.in-Some.places } ∷ []))) c.in_ok-places.ensures.marks);
       numbers = c.in_ok-places.ensures.numbers;

@@ -3,7 +3,7 @@
 use Rattle.std.proofs.Common.{◌≡◌, length}
 use Rattle.cover_merge.specs.Guards.{AreGuards}
 use Rattle.cover_merge.specs.Links.{AreNumbers}
-use Rattle.cover_merge.specs.Tried.{AreMarked}
+use Rattle.cover_merge.specs.Tried.{AreTriedUpTo}
 use Rattle.cover_merge.proofs.CoverLemmas.{IsCoveredSoFar}
 use Rattle.cover_merge.proofs.covering.cover.Given as goal
 
@@ -12,7 +12,7 @@ invariant-merging l = record {
   so_far : IsCoveredSoFar l.target l.fn.table.rows l.table.rows l.merges;
   one_each : length l.guards.items ≡ length l.table.rows;
   guards : AreGuards l.table.rows l.guards.items;
-  marks : AreMarked (length l.merges) l.table.rows l.guards.items;
+  marks : AreTriedUpTo (length l.merges) l.table.rows l.guards.items;
   numbers : AreNumbers l.limit l.table.rows l.numbers.items;
 }
 

@@ -2,7 +2,7 @@
 use Rattle.std.proofs.Common.{◌<◌, ◌^◌, length, ap, sym, subst, ◌∙◌}
 use Rattle.std.specs.Prelude.{MatchOption}
 use Rattle.tern_word.specs.SoundTable.{IsOrdered}
-use Rattle.cover_checks.specs.Merge.{IsMergeSet, after}
+use Rattle.cover_merge.specs.Merge.{IsMergeSet, after}
 use Rattle.cover_merge.specs.Covering.{IsChosen, HasNoChosen}
 use Rattle.cover_merge.specs.Links.{AreLinks, AreNumbers}
 use Rattle.cover_merge.proofs.CoverLemmas.{chosen_legal}

@@ -2,9 +2,9 @@
 use Rattle.std.proofs.Common.{◌<◌, ◌∷◌, [], length, arith, sym, subst}
 use Rattle.std.specs.Prelude.{All}
 use Rattle.tern_word.specs.SoundTable.{IsOrdered}
-use Rattle.cover_checks.proofs.Positions.{has-at}
+use Rattle.cover_merge.proofs.Positions.{has-at}
 use Rattle.cover_merge.specs.Guards.{AreGuards}
-use Rattle.cover_checks.specs.Merge.{SameRoute}
+use Rattle.cover_merge.specs.Merge.{SameRoute}
 use Rattle.cover_merge.proofs.GuardLemmas.{one_route, pair_refused, pair_told}
 use Rattle.cover_merge.proofs.guards.is_legal_pair.Goals as goal
 

@@ -1,7 +1,7 @@
 -- A guard decides, or all rows are looked at.
 use Rattle.std.proofs.Common.{IsTrue, ◌↔◌, refl, subst}
-use Rattle.cover_checks.specs.Merge.{PassesUp, place_for}
-use Rattle.cover_checks.proofs.Answering.{answers_no}
+use Rattle.cover_merge.specs.Merge.{PassesUp, place_for}
+use Rattle.cover_merge.proofs.Answering.{answers_no}
 use Rattle.cover_merge.proofs.GuardLemmas.{guard_clears, guard_refuses, guard_passes}
 use Rattle.cover_merge.proofs.guards.passes.Goals as goal
 

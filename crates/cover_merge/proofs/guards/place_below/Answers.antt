@@ -1,6 +1,6 @@
 -- Below the place all are of at most one generality less.
 use Rattle.std.proofs.Common.{◌-◌, arith}
-use Rattle.cover_checks.proofs.Positions.{place_for-below}
+use Rattle.cover_merge.proofs.Positions.{place_for-below}
 use Rattle.cover_merge.proofs.guards.place_below.Goals as goal
 
 pub returns-clause-below : goal.returns-clause-below

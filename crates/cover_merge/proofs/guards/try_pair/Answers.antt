@@ -1,7 +1,7 @@
 -- What is refused is not legal.
 use Rattle.std.proofs.Common.{◌∷◌, []}
-use Rattle.cover_checks.specs.Merge.{IsLegal}
-use Rattle.cover_checks.proofs.Answering.{answers_no}
+use Rattle.cover_merge.specs.Merge.{IsLegal}
+use Rattle.cover_merge.proofs.Answering.{answers_no}
 use Rattle.cover_merge.proofs.TriedLemmas.{refused_illegal}
 use Rattle.cover_merge.proofs.guards.try_pair.Goals as goal
 

@@ -2,7 +2,7 @@
 use Rattle.std.proofs.Common.{◌≡◌, ◌∙◌, ap, sym, subst}
 use Rattle.std.specs.Prelude.{insert}
 use Rattle.tern_word.specs.Ternary.{generality}
-use Rattle.cover_checks.specs.Merge.{after, place_for}
+use Rattle.cover_merge.specs.Merge.{after, place_for}
 use Rattle.cover_merge.specs.Links.{AreNumbers}
 use Rattle.cover_merge.proofs.ApplyLemmas.{left}
 use Rattle.cover_merge.proofs.LinkLemmas.{numbers_after}

@@ -1,6 +1,6 @@
 -- The first row that has the route, or none.
 use Rattle.std.proofs.Common.{[], arith}
-use Rattle.cover_checks.specs.Merge.{merge_rows}
+use Rattle.cover_merge.specs.Merge.{merge_rows}
 use Rattle.cover_merge.proofs.LinkLemmas.{route_found, route_nowhere}
 use Rattle.cover_merge.proofs.links.number_of.Goals as goal
 

@@ -1,6 +1,6 @@
 -- One place more.
 use Rattle.std.proofs.Common.{◌≡◌, ◌+◌, ◌-◌, ◌++◌, ◌∷◌, [], ◌<◌, ◌∙◌, ap, length, length-append, subst, sym, take, get_or, arith}
-use Rattle.cover_checks.specs.Merge.{merged_block}
+use Rattle.cover_merge.specs.Merge.{merged_block}
 use Rattle.cover_merge.proofs.SiftLemmas.{merge_next, merges_more}
 use Rattle.cover_merge.proofs.refining.merges_of.Goals as goal
 

@@ -2,7 +2,7 @@
 use Rattle.std.proofs.Common.{◌≡◌, ◌<◌, ◌≤◌, length, inr, sym, subst, arith}
 use Rattle.std.specs.Prelude.{MatchOption}
 use Rattle.spin_base.specs.declared.blocks.Block.{Block}
-use Rattle.cover_checks.specs.Merge.{IsMergeSet, IsLegal, PassesUpCheck, merged_block}
+use Rattle.cover_merge.specs.Merge.{IsMergeSet, IsLegal, PassesUpCheck, merged_block}
 use Rattle.tern_word.specs.SoundTable.{IsSound}
 use Rattle.cover_merge.specs.Guards.{AreGuards}
 use Rattle.cover_merge.specs.Refinement.{Refines}

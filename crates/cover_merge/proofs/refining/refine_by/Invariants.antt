@@ -1,6 +1,6 @@
 -- Whatever refines the places now refines those at the start.
 use Rattle.std.proofs.Common.{ℕ, List, length}
-use Rattle.cover_checks.specs.Merge.{IsOneRoute}
+use Rattle.cover_merge.specs.Merge.{IsOneRoute}
 use Rattle.cover_merge.specs.Refinement.{Refines}
 use Rattle.cover_merge.proofs.refining.refine_by.Given as goal
 

@@ -3,7 +3,7 @@ use Rattle.std.proofs.Common.{◌≡◌, ◌<◌, ◌≤◌, ◌+◌, ◌-◌, �
 use Rattle.std.specs.Prelude.{All}
 use Rattle.std.proofs.lemmas.List.{take_all, take-append-drop, take_rest, take-set-le}
 use Rattle.tern_word.specs.Ternary.{generality}
-use Rattle.cover_checks.specs.Merge.{IsOneRoute, PassesUp, PassesUpCheck, has, merged_block, place_for}
+use Rattle.cover_merge.specs.Merge.{IsOneRoute, PassesUp, PassesUpCheck, has_row, merged_block, place_for}
 use Rattle.cover_merge.specs.Refinement.{AreMerges, IsLastFailing, Refines}
 use Rattle.cover_merge.proofs.RefineLemmas.{last_more, none_fails}
 use Rattle.cover_merge.proofs.SiftLemmas.{all_pass, alike_behind, begins_less, begins_twice, kept_now, last_within, left_many, out_count, out_in_range, out_last, out_now, sift_behind, sift_goes, sift_one, up_of}
@@ -53,7 +53,7 @@ passes-requires-clause-one_route c r less found =
     let xs = c.loop-i.set.items in
     let old = c.loop-i.invariant in
     alike_behind c.args.rows.now xs c.loop-i.i c.loop-i.kept c.loop-i-test.true old.gap old.within old.set c.index.result.now c.index.ensures r less
-    (subst (λ l. has l r ≡ true) (rest_of c.loop-i.kept c.deref-in-loop-i.result.now xs c.deref-in-loop-i.ensures.value) found)
+    (subst (λ l. has_row l r ≡ true) (rest_of c.loop-i.kept c.deref-in-loop-i.result.now xs c.deref-in-loop-i.ensures.value) found)
 
 pub loop-i-preserved-then-passes : goal.loop-i-preserved-then-passes
 loop-i-preserved-then-passes c =

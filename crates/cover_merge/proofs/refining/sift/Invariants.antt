@@ -1,7 +1,7 @@
 -- The places left are those before `i` and those from `kept` on, which pass the up-check; the first stand as they did.
 use Rattle.std.proofs.Common.{◌≡◌, ◌<◌, ◌≤◌, ◌++◌, ℕ, List, length, get_or, take, drop}
 use Rattle.tern_word.specs.Ternary.{generality}
-use Rattle.cover_checks.specs.Merge.{IsOneRoute, PassesUp, merged_block, place_for}
+use Rattle.cover_merge.specs.Merge.{IsOneRoute, PassesUp, merged_block, place_for}
 use Rattle.cover_merge.specs.Refinement.{Refines}
 use Rattle.cover_merge.proofs.refining.sift.Given as goal
 

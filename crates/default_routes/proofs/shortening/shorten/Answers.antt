@@ -2,8 +2,8 @@
 use Rattle.std.proofs.Common.{◌<◌, ◌≤◌, ◌⊎◌, length, sym, subst}
 use Rattle.std.specs.Prelude.{All}
 use Rattle.tern_word.specs.SoundTable.{Original, served}
-use Rattle.cover_checks.specs.Merge.{rows_at}
-use Rattle.cover_checks.proofs.Positions.{rows_at-length}
+use Rattle.cover_merge.specs.Merge.{rows_at}
+use Rattle.cover_merge.proofs.Positions.{rows_at-length}
 use Rattle.cover_merge.specs.declared.covering.Covered.{Covered}
 use Rattle.cover_merge.specs.Covering.{HasNoLegalPair, HasRoutesOf}
 use Rattle.default_routes.specs.FinalTable.{loaded_rows}

@@ -4,9 +4,9 @@ use Rattle.std.proofs.lemmas.Result.{err_from_is_err_and}
 use Rattle.serde_json.specs.View.{view}
 use Rattle.app_graph.specs.declared.graphs.Net.{Net}
 use Rattle.app_graph.specs.ValidGraph.{IsValidNet, HasSendingSource}
-use Rattle.job_text.specs.Reading.{Fails}
+use Rattle.job_text.specs.Reading.{IsFirstFault}
 use Rattle.job_readers.specs.Items.{following_faults}
-use Rattle.job_readers.specs.GraphPart.{net_value, next_net_faults, blocks_of}
+use Rattle.job_readers.specs.GraphPart.{net_value, next_net_faults, fixed_blocks_of}
 use Rattle.job_readers.proofs.ItemSteps.{values-more, values-all}
 use Rattle.job_readers.proofs.FollowingSteps.{following-more, following-fail, following-none}
 use Rattle.job_readers.proofs.GraphSteps.{next_net, net_name, net_names_more, blocks_more, apart_more}
@@ -16,22 +16,22 @@ pub returns-in_err-net-clause-read : goal.returns-in_err-net-clause-read
 returns-in_err-net-clause-read c =
     let p = err_from_is_err_and c.from_residual-in_err-net.result c.from_residual-in_err-net.ensures.1 in
     let xs = c.args.items.now in
-    let f = next_net_faults c.args.version c.args.vertices.now in
-    let value = net_value c.args.version c.args.vertices.now in
+    let f = next_net_faults c.args.version c.args.among.now.vertices.now in
+    let value = net_value c.args.version c.args.among.now.vertices.now in
     let held = c.as_slice-others.ensures.value ∙ c.loop-i.invariant.held in
-    let same = next_net c.args.version c.args.vertices.now c.loop-i.before c.as_slice-others.result.now c.loop-i.nets c.in_ok-path.path (view c.index-items-i.result) c.loop-i.invariant.called held in
-    rw (p.1, p.2) (following-fail view xs c.loop-i.i c.index-items-i.result (omega arith) c.index-items-i.is f value c.loop-i.nets c.args.path.now c.in_ok-path.path (following_faults f value [] c.args.path.now 0 (map view xs)) c.in_ok-path.ensures c.in_err-net.field-0.0 (subst (Fails c.in_err-net.field-0.0) same c.in_err-net.ensures.read) c.loop-i.invariant.left)
+    let same = next_net c.args.version c.args.among.now.vertices.now c.loop-i.names c.as_slice-others.result.now c.loop-i.nets c.in_ok-path.path (view c.index-items-i.result) c.loop-i.invariant.called held in
+    rw (p.1, p.2) (following-fail view xs c.loop-i.i c.index-items-i.result (omega arith) c.index-items-i.is f value c.loop-i.nets c.args.path.now c.in_ok-path.path (following_faults f value [] c.args.path.now 0 (map view xs)) c.in_ok-path.ensures c.in_err-net.field-0.0 (subst (IsFirstFault c.in_err-net.field-0.0) same c.in_err-net.ensures.read) c.loop-i.invariant.left)
 
 pub loop-i-preserved : goal.loop-i-preserved
 loop-i-preserved c =
     let xs = c.args.items.now in
-    let vertices = c.args.vertices.now in
+    let vertices = c.args.among.now.vertices.now in
     let f = next_net_faults c.args.version vertices in
     let value = net_value c.args.version vertices in
     let ns = c.loop-i.nets in
     let n = c.in_ok-net.net in
     let held = c.as_slice-others.ensures.value ∙ c.loop-i.invariant.held in
-    let same = next_net c.args.version vertices c.loop-i.before c.as_slice-others.result.now ns c.in_ok-path.path (view c.index-items-i.result) c.loop-i.invariant.called held in
+    let same = next_net c.args.version vertices c.loop-i.names c.as_slice-others.result.now ns c.in_ok-path.path (view c.index-items-i.result) c.loop-i.invariant.called held in
     let is : n ≡ net_value c.args.version vertices (view c.index-items-i.result) = c.in_ok-net.ensures.read.1 in
     let pushed : c.push.new.self ≡ ns ++ n ∷ [] = c.in_ok-push.ensures.ok in
     let pushed_value : c.push.new.self ≡ ns ++ net_value c.args.version vertices (view c.index-items-i.result) ∷ [] = rw (← is) pushed in
@@ -39,8 +39,8 @@ loop-i-preserved c =
     record {
       left = following-more view xs c.loop-i.i c.index-items-i.result (omega arith) c.index-items-i.is f value ns c.args.path.now c.in_ok-path.path (following_faults f value [] c.args.path.now 0 (map view xs)) c.in_ok-path.ensures c.push.new.self pushed_value (sym same ∙ c.in_ok-net.ensures.read.0) c.loop-i.invariant.left;
       read = values-more view xs c.loop-i.i c.index-items-i.result (omega arith) c.index-items-i.is value ns c.push.new.self c.loop-i.invariant.read pushed_value;
-      counted = rw (c.in_ok-before.ensures, length-append) (omega arith);
-      called = net_names_more ns c.push.new.self n c.loop-i.before c.in_ok-before.before c.said_name.result.now pushed c.loop-i.invariant.called c.in_ok-before.ensures said;
+      counted = rw (c.in_ok-names.ensures, length-append) (omega arith);
+      called = net_names_more ns c.push.new.self n c.loop-i.names c.in_ok-names.names c.said_name.result.now pushed c.loop-i.invariant.called c.in_ok-names.ensures said;
       held = blocks_more ns c.push.new.self n c.loop-i.blocks.items c.put_behind.new.others.items pushed c.loop-i.invariant.held c.in_ok-put_behind.ensures;
       valid = rw pushed (All-push (IsValidNet (length vertices)) ns n c.loop-i.invariant.valid c.in_ok-net.ensures.valid);
       sources = rw pushed (All-push (HasSendingSource vertices) ns n c.loop-i.invariant.sources c.in_ok-net.ensures.sends);
@@ -50,6 +50,6 @@ loop-i-preserved c =
 pub returns-clause-read : goal.returns-clause-read
 returns-clause-read c =
     let xs = c.args.items.now in
-    let f = next_net_faults c.args.version c.args.vertices.now in
-    let value = net_value c.args.version c.args.vertices.now in
+    let f = next_net_faults c.args.version c.args.among.now.vertices.now in
+    let value = net_value c.args.version c.args.among.now.vertices.now in
     (following-none view xs c.loop-i.i f value c.loop-i.nets c.args.path.now (following_faults f value [] c.args.path.now 0 (map view xs)) (omega arith) c.loop-i.invariant.left, values-all view xs c.loop-i.i value c.loop-i.nets (omega arith) c.loop-i.invariant.read)

@@ -4,7 +4,7 @@ use Rattle.std.proofs.lemmas.Result.{err_from_is_err_and}
 use Rattle.serde_json.specs.View.{view}
 use Rattle.app_graph.specs.declared.graphs.Vertex.{Vertex}
 use Rattle.app_graph.specs.ValidGraph.{IsValidVertex}
-use Rattle.job_text.specs.Reading.{Fails}
+use Rattle.job_text.specs.Reading.{IsFirstFault}
 use Rattle.job_readers.specs.Items.{following_faults}
 use Rattle.job_readers.specs.GraphPart.{vertex_value, next_vertex_faults}
 use Rattle.job_readers.proofs.ItemSteps.{values-more, values-all}
@@ -19,7 +19,7 @@ returns-in_err-vertex-clause-read c =
     let f = next_vertex_faults c.args.version in
     let value = vertex_value c.args.version in
     let same = next_vertex c.args.version c.loop-i.names c.loop-i.devices c.loop-i.vertices c.in_ok-path.path (view c.index-items-i.result) c.loop-i.invariant.named c.loop-i.invariant.hung in
-    rw (p.1, p.2) (following-fail view xs c.loop-i.i c.index-items-i.result (omega arith) c.index-items-i.is f value c.loop-i.vertices c.args.path.now c.in_ok-path.path (following_faults f value [] c.args.path.now 0 (map view xs)) c.in_ok-path.ensures c.in_err-vertex.field-0.0 (subst (Fails c.in_err-vertex.field-0.0) same c.in_err-vertex.ensures.read) c.loop-i.invariant.left)
+    rw (p.1, p.2) (following-fail view xs c.loop-i.i c.index-items-i.result (omega arith) c.index-items-i.is f value c.loop-i.vertices c.args.path.now c.in_ok-path.path (following_faults f value [] c.args.path.now 0 (map view xs)) c.in_ok-path.ensures c.in_err-vertex.field-0.0 (subst (IsFirstFault c.in_err-vertex.field-0.0) same c.in_err-vertex.ensures.read) c.loop-i.invariant.left)
 
 pub loop-i-preserved : goal.loop-i-preserved
 loop-i-preserved c =

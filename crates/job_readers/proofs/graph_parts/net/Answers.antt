@@ -15,7 +15,7 @@ returns-clause-valid c =
     record {
       source = c.in_ok-source.ensures.below;
       some_target = c.in_ok-targets.ensures.some;
-      targets = subst (λ n. All (λ t. t < n) c.in_ok-targets.targets) (as_many c.args.vertices.now c.args.names.now c.requires) c.in_ok-targets.ensures.below;
+      targets = subst (λ n. All (λ t. t < n) c.in_ok-targets.targets) (as_many c.args.among.now.vertices.now c.args.among.now.names.now c.args.among.now.named) c.in_ok-targets.ensures.below;
       some_key = keys.0;
       few_keys = keys.1;
       fixed = c.in_ok-fixed.ensures.fixed;

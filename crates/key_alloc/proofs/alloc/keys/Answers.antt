@@ -2,7 +2,7 @@ use Rattle.std.proofs.Common.{refl, arith, sym, ap, ◌∙◌, ◌≡◌, ◌++�
 use Rattle.std.proofs.lemmas.Option.{slice_get_read}
 use Rattle.std.proofs.lemmas.List.{length_push, append_assoc}
 use Rattle.key_alloc.specs.KeyBlocks.{AreFirstBlocks, fixed_of}
-use Rattle.key_alloc.specs.FreeKeys.{AreFreeBeside}
+use Rattle.key_alloc.specs.FreeKeys.{AreKeysFreeBeside}
 use Rattle.key_alloc.proofs.FixedBlocks.{have_fixed, fixed_among}
 use Rattle.key_alloc.proofs.Growing.{one_more, blocks_apart, keys_enough}
 use Rattle.key_alloc.proofs.alloc.keys.Goals as goal
@@ -33,7 +33,7 @@ loop-i-preserved c =
     record {
       each_one = omega (arith, ap length pushed, length_push blocks b, c.loop-i.invariant.each_one);
       first = subst (AreFirstBlocks nets) (sym pushed) (one_more nets blocks c.loop-i.i net b c.loop-i.invariant.first c.loop-i.invariant.each_one is right);
-      free = subst (λ l. AreFreeBeside l c.block_for.new.free) (append_assoc (fixed_of nets) blocks (b ∷ []) ∙ ap (λ l. fixed_of nets ++ l) (sym pushed)) free;
+      free = subst (λ l. AreKeysFreeBeside l c.block_for.new.free) (append_assoc (fixed_of nets) blocks (b ∷ []) ∙ ap (λ l. fixed_of nets ++ l) (sym pushed)) free;
     }
 
 pub returns-clause-apart : goal.returns-clause-apart

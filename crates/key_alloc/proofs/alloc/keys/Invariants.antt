@@ -1,6 +1,6 @@
 use Rattle.std.proofs.Common.{◌≡◌, ◌++◌, length}
 use Rattle.key_alloc.specs.KeyBlocks.{fixed_of, AreFirstBlocks}
-use Rattle.key_alloc.specs.FreeKeys.{AreFreeBeside}
+use Rattle.key_alloc.specs.FreeKeys.{AreKeysFreeBeside}
 use Rattle.key_alloc.proofs.alloc.keys.Given as goal
 
 -- the nets so far have their blocks, and the region has all other keys but those of fixed blocks
@@ -8,5 +8,5 @@ abbrev pub invariant-loop-i : goal.invariant-loop-i
 invariant-loop-i l = record {
   each_one : length l.blocks ≡ l.i;
   first : AreFirstBlocks l.graph.nets l.blocks;
-  free : AreFreeBeside (fixed_of l.graph.nets ++ l.blocks) l.free;
+  free : AreKeysFreeBeside (fixed_of l.graph.nets ++ l.blocks) l.free;
 }

@@ -1,20 +1,23 @@
 use Rattle.std.proofs.Common.{subst, arith}
-use Rattle.key_alloc.specs.KeyBlocks.{IsOpen}
+use Rattle.key_alloc.specs.KeyBlocks.{IsOpenPlace}
 use Rattle.key_alloc.proofs.Sizes.{size_from_half, size_within, one_size}
 use Rattle.key_alloc.proofs.Taking.{block_from_least}
 use Rattle.key_alloc.proofs.alloc.least_block.Goals as goal
 
-pub take-requires-clause-few : goal.take-requires-clause-few
-take-requires-clause-few c =
+pub invariant_of-wanted : goal.invariant_of-wanted
+invariant_of-wanted c =
     let made = c.next_power_of_two-size.ensures in
-    size_within c.args.keys _ c.requires.few (size_from_half c.args.keys _ c.requires.some made.power made.lower_bound made.upper_bound)
+    record {
+      some = omega (arith, c.requires.some, made.lower_bound);
+      few = size_within c.args.keys _ c.requires.few (size_from_half c.args.keys _ c.requires.some made.power made.lower_bound made.upper_bound);
+    }
 
 pub returns-in_default-clause-none : goal.returns-in_default-clause-none
 returns-in_default-clause-none c taken state size place is =
     let made = c.next_power_of_two-size.ensures in
     let mine = size_from_half c.args.keys _ c.requires.some made.power made.lower_bound made.upper_bound in
     let none = rw c.in_default.is at c.in_ok-place.ensures.none in
-    λ may. none taken state place (subst (λ s. IsOpen taken s place) (one_size c.args.keys size _ is mine) may)
+    λ may. none taken state place (subst (λ s. IsOpenPlace taken s place) (one_size c.args.keys size _ is mine) may)
 
 pub block_of-requires-clause-fits : goal.block_of-requires-clause-fits
 block_of-requires-clause-fits c =

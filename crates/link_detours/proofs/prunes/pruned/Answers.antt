@@ -2,7 +2,7 @@ use Rattle.std.proofs.Common.{ltb}
 use Rattle.std.specs.List.{All, filter, filter_map}
 use Rattle.machine_desc.specs.declared.trees.Edge.{Edge}
 use Rattle.machine_desc.specs.Live.{IsInside}
-use Rattle.link_detours.specs.Usable.{number_at, turned}
+use Rattle.link_detours.specs.Usable.{number_at, other_end_of}
 use Rattle.std.proofs.lemmas.List.Elements.{All-filter}
 use Rattle.link_detours.proofs.Turning.{turned_inside, left_leads, edge_in}
 use Rattle.link_detours.proofs.prunes.pruned.Goals as goal
@@ -18,10 +18,10 @@ reached_edges-requires-clause-inside c =
 
 -- the edges that were reached begin inside the grid
 wanted_inside : (c : After-deref-4) → All (λ e. IsInside c.args.machine.now e.chip)
-    (filter (λ e. ltb (number_at c.args.machine.now c.in_ok-counts.counts.items e.chip) 18446744073709551615) (filter_map (turned c.args.machine.now) c.args.whole.now))
+    (filter (λ e. ltb (number_at c.args.machine.now c.in_ok-counts.counts.items e.chip) 18446744073709551615) (filter_map (other_end_of c.args.machine.now) c.args.whole.now))
 wanted_inside c =
     All-filter (λ (e : Edge). ltb (number_at c.args.machine.now c.in_ok-counts.counts.items e.chip) 18446744073709551615) (λ (e : Edge). IsInside c.args.machine.now e.chip)
-    (filter_map (turned c.args.machine.now) c.args.whole.now) (turned_inside c.args.machine.now c.args.whole.now c.requires.edges_inside)
+    (filter_map (other_end_of c.args.machine.now) c.args.whole.now) (turned_inside c.args.machine.now c.args.whole.now c.requires.edges_inside)
 
 pub turned_edges-requires-2 : goal.turned_edges-requires-2
 turned_edges-requires-2 c =

@@ -6,7 +6,7 @@ use Rattle.machine_desc.specs.declared.trees.Tree.{Tree}
 use Rattle.machine_desc.specs.RoutingTree.{IsTreeChip}
 use Rattle.link_detours.proofs.Pruning.{tree_left}
 use Rattle.link_detours.proofs.Unchanged.{same_edges, unchanged, not_cut_off}
-use Rattle.link_detours.specs.Cause.{IsCause}
+use Rattle.link_detours.specs.Cause.{IsRepairCause}
 use Rattle.link_detours.specs.declared.repairs.RepairErr.TheVariants.{Memory as NoMemory}
 use Rattle.link_detours.proofs.repairs.repair.Goals as goal
 
@@ -41,8 +41,8 @@ returns-clause-unchanged c tree ordered =
 
 pub returns-in_err-whole-clause-not_cut_off : goal.returns-in_err-whole-clause-not_cut_off
 returns-in_err-whole-clause-not_cut_off c tree =
-    let cause : IfErr c.from_residual-in_err-whole.result (IsCause c.args.machine.now c.args.tree.now.root c.args.targets.now) = search rules in
-    IfErr-weaker c.from_residual-in_err-whole.result (IsCause c.args.machine.now c.args.tree.now.root c.args.targets.now) (λ e. e ≡ NoMemory)
+    let cause : IfErr c.from_residual-in_err-whole.result (IsRepairCause c.args.machine.now c.args.tree.now.root c.args.targets.now) = search rules in
+    IfErr-weaker c.from_residual-in_err-whole.result (IsRepairCause c.args.machine.now c.args.tree.now.root c.args.targets.now) (λ e. e ≡ NoMemory)
     (λ e. not_cut_off c.args.machine.now c.args.tree.now.root c.args.tree.now.edges c.args.targets.now e tree) cause
 
 pub trimmed-requires-clause-has_targets : goal.trimmed-requires-clause-has_targets

@@ -1,9 +1,9 @@
 use Rattle.std.proofs.Common.{◌<◌, All, take}
-use Rattle.link_detours.specs.Usable.{link_place}
-use Rattle.link_detours.specs.Repair.{IsInOrder}
+use Rattle.machine_desc.specs.Flags.{link_place}
+use Rattle.link_detours.specs.Repair.{AreInPlaceOrder}
 use Rattle.link_detours.proofs.trims.is_in_order.Given as goal
 
 -- the edges that were looked at are in order, and before the least place that may come
 abbrev pub invariant-loop-edge : goal.invariant-loop-edge
 invariant-loop-edge l =
-    IsInOrder l.machine (take l.edge-index l.edges) × All (λ e. link_place l.machine e.chip e.dir < l.least) (take l.edge-index l.edges)
+    AreInPlaceOrder l.machine (take l.edge-index l.edges) × All (λ e. link_place l.machine e.chip e.dir < l.least) (take l.edge-index l.edges)

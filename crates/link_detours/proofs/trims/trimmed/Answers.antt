@@ -1,7 +1,7 @@
 use Rattle.std.proofs.Common.{◌≡◌, Some, All}
 use Rattle.machine_desc.specs.RoutingTree.{end_of}
 use Rattle.spin_base.specs.declared.chips.Chip.{Chip}
-use Rattle.link_detours.specs.Repair.{IsInOrder}
+use Rattle.link_detours.specs.Repair.{AreInPlaceOrder}
 use Rattle.link_detours.specs.Whole.{GoesOnFrom}
 use Rattle.link_detours.proofs.Reaching.{edges_inside}
 use Rattle.link_detours.proofs.Trimming.{all_stay}
@@ -20,7 +20,7 @@ returns-then-branch-clause-in_order c = rw c.deref.ensures.value at (c.in_ok-is_
 
 pub returns-then-branch-clause-left : goal.returns-then-branch-clause-left
 returns-then-branch-clause-left c =
-    let ordered : IsInOrder c.args.machine.now c.args.whole.items = rw c.deref.ensures.value at (c.in_ok-is_lean.ensures.in_order c.if-branch.true) in
+    let ordered : AreInPlaceOrder c.args.machine.now c.args.whole.items = rw c.deref.ensures.value at (c.in_ok-is_lean.ensures.in_order c.if-branch.true) in
     let goes : All (λ e. (x : Chip) → end_of c.args.machine.now e ≡ Some x → GoesOnFrom c.args.whole.items c.args.targets.now x) c.args.whole.items =
     rw c.deref.ensures.value at (c.in_ok-is_lean.ensures.goes_on c.if-branch.true) in
     all_stay c.args.machine.now c.args.root c.args.whole.items c.args.targets.now c.requires.is_whole c.requires.some_target

@@ -2,21 +2,16 @@ use Rattle.std.proofs.Common.{◌≡◌, Option, None, sym, subst}
 use Rattle.std.specs.List.{All}
 use Rattle.mesh_core.specs.State.{Hand}
 use Rattle.mesh_round.proofs.RoundLaw.{leads_by_round}
-use Rattle.mesh_round.proofs.Senders.{hops_after}
 use Rattle.mesh_round.proofs.Still.{is_mesh}
 use Rattle.mesh_round.proofs.laws.a_round_on_threads_is_a_round.Goals as goal
 
 pub returns-clause-mesh : goal.returns-clause-mesh
-returns-clause-mesh c = λ patience turns m n mesh no_hand fit played.
-    is_mesh (record { patience = patience; turns = turns; m = m; n = n; mesh = mesh; no_hand = no_hand; fit = fit; played = played })
-
-pub returns-clause-hops : goal.returns-clause-hops
-returns-clause-hops c = λ patience turns m n mesh no_hand fit played.
-    hops_after (record { patience = patience; turns = turns; m = m; n = n; mesh = mesh; no_hand = no_hand; fit = fit; played = played })
+returns-clause-mesh c = λ patience turns m n mesh no_hand played.
+    is_mesh (record { patience = patience; turns = turns; m = m; n = n; mesh = mesh; no_hand = no_hand; played = played })
 
 pub returns-clause-round : goal.returns-clause-round
-returns-clause-round c = λ patience turns m n mesh no_hand fit played.
-    leads_by_round (record { patience = patience; turns = turns; m = m; n = n; mesh = mesh; no_hand = no_hand; fit = fit; played = played })
+returns-clause-round c = λ patience turns m n mesh no_hand played.
+    leads_by_round (record { patience = patience; turns = turns; m = m; n = n; mesh = mesh; no_hand = no_hand; played = played })
     c.a_router_sends_or_dumps.ensures c.a_copy_is_taken_at_one_port.ensures
 
 pub returns-clause-hands : goal.returns-clause-hands

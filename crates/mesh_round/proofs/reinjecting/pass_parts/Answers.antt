@@ -3,7 +3,7 @@ use Rattle.std.proofs.Common.{rules, ◌<◌, ℕ, length, arith, subst}
 use Rattle.std.specs.Prelude.{IfErr}
 use Rattle.std.proofs.lemmas.Result.{IfErr-weaker}
 use Rattle.mesh_core.specs.State.{State}
-use Rattle.round_flow.specs.RoundFlow.{HasRounds}
+use Rattle.mesh_round.specs.RoundFlow.{HasRounds}
 use Rattle.mesh_round.specs.Reinjecting.{HasPasses}
 use Rattle.mesh_round.proofs.FirstBack.{job_goes_back}
 use Rattle.mesh_round.proofs.Passes.{passes_then, rounds_pass, rounds_no_more}

@@ -1,6 +1,6 @@
 use Rattle.mesh_core.specs.Expected.{IsAtRest}
-use Rattle.round_flow.specs.Work.{work_in}
-use Rattle.mesh_round.specs.OnThreads.{IsReady}
+use Rattle.mesh_round.specs.Work.{work_in}
+use Rattle.mesh_round.specs.OnThreads.{MayGoOn}
 use Rattle.mesh_round.specs.Reinjecting.{HasPasses}
 use Rattle.mesh_round.proofs.reinjecting.pass_parts.Given as goal
 
@@ -8,7 +8,7 @@ use Rattle.mesh_round.proofs.reinjecting.pass_parts.Given as goal
 abbrev pub invariant-passes : goal.invariant-passes
 invariant-passes g l = record {
   passes : HasPasses l.pace.patience l.pace.turns l.fn.parts l.parts;
-  ready : IsReady l.parts;
+  ready : MayGoOn l.parts;
   at_rest : IsAtRest l.parts;
 }
 

@@ -1,8 +1,8 @@
 -- Each copy that is put back leaves less to be done.
 use Rattle.std.proofs.Common.{◌<◌, ◌∙◌, refl, sym, subst, inl, inr}
 use Rattle.mesh_core.specs.State.{State}
-use Rattle.round_flow.specs.Work.{work_in}
-use Rattle.mesh_round.specs.OnThreads.{IsReady}
+use Rattle.mesh_round.specs.Work.{work_in}
+use Rattle.mesh_round.specs.OnThreads.{MayGoOn}
 use Rattle.mesh_round.specs.Reinjecting.{HasPasses, none, put_back}
 use Rattle.mesh_round.proofs.PutBackParts.{ready_back}
 use Rattle.mesh_round.proofs.PutBackWork.{put_back_lighter, still_less}
@@ -16,7 +16,7 @@ returns-in-Idle-clause-passes c = λ patience turns.
     subst (λ (s : State). HasPasses patience turns c.args.mesh s) (sym c.in_ok-next.ensures.moves) (put_back c.copies.mesh (c.copies.invariant.passes patience turns))
 
 pub returns-in-Idle-clause-ready : goal.returns-in-Idle-clause-ready
-returns-in-Idle-clause-ready c = subst IsReady (sym c.in_ok-next.ensures.moves) (ready_back c.copies.mesh c.copies.invariant.ready)
+returns-in-Idle-clause-ready c = subst MayGoOn (sym c.in_ok-next.ensures.moves) (ready_back c.copies.mesh c.copies.invariant.ready)
 
 pub copies-smaller : goal.copies-smaller
 copies-smaller c =
@@ -30,6 +30,6 @@ copies-preserved c =
     record {
       passes = λ patience turns.
           subst (λ (s : State). HasPasses patience turns c.args.mesh s) (sym c.in_ok-next.ensures.moves) (put_back c.copies.mesh (c.copies.invariant.passes patience turns));
-      ready = subst IsReady (sym c.in_ok-next.ensures.moves) (ready_back c.copies.mesh c.copies.invariant.ready);
+      ready = subst MayGoOn (sym c.in_ok-next.ensures.moves) (ready_back c.copies.mesh c.copies.invariant.ready);
       less = inr (still_less c.args.mesh c.copies.mesh c.in_ok-next.next c.copies.invariant.less lighter);
     }

@@ -1,6 +1,6 @@
 use Rattle.std.proofs.Common.{◌≡◌, ℕ, ◌<◌, ◌⊎◌}
-use Rattle.round_flow.specs.Work.{work_in}
-use Rattle.mesh_round.specs.OnThreads.{IsReady}
+use Rattle.mesh_round.specs.Work.{work_in}
+use Rattle.mesh_round.specs.OnThreads.{MayGoOn}
 use Rattle.mesh_round.specs.Reinjecting.{HasPasses}
 use Rattle.mesh_round.proofs.reinjecting.put_all_back.Given as goal
 
@@ -8,7 +8,7 @@ use Rattle.mesh_round.proofs.reinjecting.put_all_back.Given as goal
 abbrev pub invariant-copies : goal.invariant-copies
 invariant-copies l = record {
   passes : (patience turns : ℕ) → HasPasses patience turns l.fn.mesh l.mesh;
-  ready : IsReady l.mesh;
+  ready : MayGoOn l.mesh;
   less : (l.mesh ≡ l.fn.mesh) ⊎ (work_in l.mesh < work_in l.fn.mesh);
 }
 

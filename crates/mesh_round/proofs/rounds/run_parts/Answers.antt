@@ -4,9 +4,9 @@ use Rattle.std.specs.Prelude.{IfErr}
 use Rattle.std.proofs.lemmas.Result.{IfErr-weaker}
 use Rattle.mesh_core.specs.State.{State}
 use Rattle.mesh_core.specs.Expected.{IsAtRest}
-use Rattle.round_flow.specs.RoundFlow.{HasRounds, none, more}
+use Rattle.mesh_round.specs.RoundFlow.{HasRounds, none, more}
 use Rattle.mesh_run.specs.Raised.{mesh_of}
-use Rattle.mesh_round.specs.OnThreads.{IsReady}
+use Rattle.mesh_round.specs.OnThreads.{MayGoOn}
 use Rattle.mesh_round.proofs.Resting.{rests, has_some}
 use Rattle.mesh_round.proofs.rounds.run_parts.Goals as goal
 
@@ -16,7 +16,7 @@ rounds-init g c =
     record {
       raised = c.in_ok-raised.ensures.raised;
       rounds = subst (λ (s : State). HasRounds c.args.pace.patience c.args.pace.turns c.args.parts s) same none;
-      ready = subst IsReady same c.requires.ready;
+      ready = subst MayGoOn same c.requires;
     }
 
 pub rounds-smaller : goal.rounds-smaller
@@ -25,9 +25,9 @@ rounds-smaller g c =
     let n = mesh_of c.in-Ok.next in
     let was = c.rounds.invariant.ready in
     let played = c.in-Ok.ensures.played in
-    let lead = c.a_round_on_threads_is_a_round.ensures.round c.args.pace.patience c.args.pace.turns m n was.mesh was.no_hand was.hops played in
-    let after = c.a_round_on_threads_is_a_round.ensures.mesh c.args.pace.patience c.args.pace.turns m n was.mesh was.no_hand was.hops played in
-    let turns = c.requires.turns in
+    let lead = c.a_round_on_threads_is_a_round.ensures.round c.args.pace.patience c.args.pace.turns m n was.mesh was.no_hand played in
+    let after = c.a_round_on_threads_is_a_round.ensures.mesh c.args.pace.patience c.args.pace.turns m n was.mesh was.no_hand played in
+    let turns = c.args.pace.some_turns in
     let moved = lead.moved (omega (arith, turns)) (has_some m (sym c.rounds-test.ensures)) in
     c.a_round_leaves_less_to_do.ensures.less m n lead.flow was.mesh after lead.round.passes moved
 
@@ -38,15 +38,14 @@ rounds-preserved g c =
     let was = c.rounds.invariant.ready in
     let played = c.in-Ok.ensures.played in
     let law = c.a_round_on_threads_is_a_round.ensures in
-    let lead = law.round c.args.pace.patience c.args.pace.turns m n was.mesh was.no_hand was.hops played in
-    let after = law.mesh c.args.pace.patience c.args.pace.turns m n was.mesh was.no_hand was.hops played in
+    let lead = law.round c.args.pace.patience c.args.pace.turns m n was.mesh was.no_hand played in
+    let after = law.mesh c.args.pace.patience c.args.pace.turns m n was.mesh was.no_hand played in
     record {
       raised = c.in-Ok.ensures.raised;
       rounds = more lead.flow m n c.rounds.invariant.rounds after lead.round;
       ready = record {
         mesh = after;
         no_hand = law.hands c.args.pace.patience c.args.pace.turns m n was.no_hand played;
-        hops = law.hops c.args.pace.patience c.args.pace.turns m n was.mesh was.no_hand was.hops played;
       };
     }
 

@@ -1,7 +1,7 @@
-use Rattle.round_flow.specs.RoundFlow.{HasRounds}
-use Rattle.round_flow.specs.Work.{work_in}
+use Rattle.mesh_round.specs.RoundFlow.{HasRounds}
+use Rattle.mesh_round.specs.Work.{work_in}
 use Rattle.mesh_run.specs.Raised.{IsRaised, mesh_of}
-use Rattle.mesh_round.specs.OnThreads.{IsReady}
+use Rattle.mesh_round.specs.OnThreads.{MayGoOn}
 use Rattle.mesh_round.proofs.rounds.run_parts.Given as goal
 
 -- the mesh was reached by rounds, and may go on, and its links are up
@@ -9,7 +9,7 @@ abbrev pub invariant-rounds : goal.invariant-rounds
 invariant-rounds g l = record {
   raised : IsRaised l.raised;
   rounds : HasRounds l.pace.patience l.pace.turns l.fn.parts (mesh_of l.raised);
-  ready : IsReady (mesh_of l.raised);
+  ready : MayGoOn (mesh_of l.raised);
 }
 
 abbrev pub decreases-rounds : goal.decreases-rounds

@@ -1,6 +1,6 @@
 use Rattle.std.proofs.Common.{◌<◌, ◌≤◌, arith}
 use Rattle.std.proofs.lemmas.List.Elements.{All-weaker}
-use Rattle.list_laws.proofs.Places.{All-at}
+use Rattle.spin_base.proofs.Places.{All-at}
 use Rattle.machine_desc.specs.Live.{IsSite}
 use Rattle.machine_desc.proofs.Sites.{site_parts}
 use Rattle.mesh_run.specs.Lending.{IsOnChip}

@@ -1,7 +1,7 @@
 use Rattle.std.proofs.Common.{◌≡◌, ◌&&◌, Bool, nat_eq, min, List, sym, ap, ◌∙◌, subst, arith}
 use Rattle.link_queue.specs.declared.links.LinkEnds.{LinkEnds}
 use Rattle.mesh_run.specs.declared.queues.Rested.{Rested}
-use Rattle.mesh_run.specs.Queues.{RestAll, WasUp, free_of}
+use Rattle.mesh_run.specs.Queues.{RestAll, WasUp, free_places_of}
 use Rattle.mesh_run.proofs.Holding.{only_ends}
 use Rattle.mesh_run.proofs.Resting.{all_rest, links_past, next_at, next_was, none_rest, one_rests, rest_fits, rest_inside, rest_places}
 use Rattle.mesh_run.proofs.queues.rest_all.Goals.{then-quiet, else-quiet}
@@ -35,7 +35,7 @@ loop-place-preserved g c =
     let h = c.loop-place.invariant in
     let n = next_at h.3.so_far h.1 (c.len-place-end.ensures ∙ c.args.standing.now.links.ok.0) c.loop-place-test.true in
     let r = c.rest_at-held.ensures h.3.so_far.now n.old h.3.so_far.holds n.stands in
-    let free : c.min-free.result ≡ min c.loop-place.free (free_of c.args.cap c.places.result c.rest_at-held.result) = c.min-free.ensures ∙ ap (min c.loop-place.free) c.free_places.ensures in
+    let free : c.min-free.result ≡ min c.loop-place.free (free_places_of c.args.cap c.places.result c.rest_at-held.result) = c.min-free.ensures ∙ ap (min c.loop-place.free) c.free_places.ensures in
     let quiet : c.if-quiet.quiet ≡ (c.loop-place.quiet && nat_eq c.rest_at-held.result 0) = elim c.if-quiet.branch [
       | then-quiet w ↦ w.quiet-is ∙ ap (λ (b : Bool). b && nat_eq c.rest_at-held.result 0) (sym w.if-quiet.true)
       | else-quiet w ↦ w.quiet-is ∙ (w.if-quiet.false ∙ ap (λ (b : Bool). b && nat_eq c.rest_at-held.result 0) (sym w.if-quiet.false))

@@ -1,3 +1,6 @@
+use Rattle.std.proofs.Common.{subst}
+use Rattle.link_queue.specs.declared.links.Link.{Link}
+use Rattle.link_queue.specs.Ends.{IsTx, IsRx}
 use Rattle.mesh_run.proofs.Resting.{rests_there}
 use Rattle.mesh_run.proofs.queues.rest_at.Goals as goal
 
@@ -7,6 +10,7 @@ take_ends-tx-requires g c = let r = c.requires in (r.0, r.1, r.2, r.3)
 pub returns : goal.returns
 returns g c = λ ends old holds at.
     let r = c.requires in
+    let link = c.rest-tx.ensures.link in
     let lacks = c.take_ends-tx.ensures.left ends holds in
-    rests_there ends r.0 c.args.place old r.1 c.args.standing.now c.take_ends-tx.new.self c.put_ends.new.self c.index.result.now c.take_ends-tx.result.0 c.rest-tx.result.0 c.take_ends-tx.result.1 c.rest-tx.result.1
-    c.rest-tx.result.2 holds at r.2 r.3 r.4 (c.take_ends-tx.ensures.ends ends old holds at) lacks c.index.ensures c.rest-tx.ensures.sending c.rest-tx.ensures.taking c.rest-tx.ensures.rests (c.put_ends.ensures ends old lacks at)
+    rests_there ends r.0 c.args.place old r.1 c.args.standing.now c.take_ends-tx.new.self c.put_ends.new.self c.index.result.now c.take_ends-tx.result.0 c.rest-tx.result.tx c.take_ends-tx.result.1 c.rest-tx.result.rx
+    c.rest-tx.result.held holds at r.2 r.3 r.4 (c.take_ends-tx.ensures.ends ends old holds at) lacks c.index.ensures (subst (λ (l : Link). IsTx l c.rest-tx.result.tx) link c.rest-tx.result.sends) (subst (λ (l : Link). IsRx l c.rest-tx.result.rx) link c.rest-tx.result.takes) c.rest-tx.ensures.rests (c.put_ends.ensures ends old lacks at)

@@ -1,11 +1,11 @@
 use Rattle.std.proofs.Common.{◌+◌, List, map}
 use Rattle.link_queue.specs.declared.links.LinkEnds.{LinkEnds}
 use Rattle.mesh_run.specs.Standing.{HoldsAll}
-use Rattle.mesh_run.specs.Queues.{AreUp, queue_of}
+use Rattle.mesh_run.specs.Queues.{AreUp, queue_of_link}
 use Rattle.mesh_run.proofs.Resting.{SoFar, StaysAs}
 use Rattle.mesh_run.proofs.queues.widen_all.Given as goal
 
 -- the links so far have places, and hold what they held
 abbrev pub invariant-loop-place : goal.invariant-loop-place
 invariant-loop-place g l =
-    (back : List LinkEnds) × HoldsAll back l.fn.standing × AreUp l.cap 0 (map queue_of back) back × SoFar (StaysAs l.cap (l.turns + 1)) back l.place l.standing
+    (back : List LinkEnds) × HoldsAll back l.fn.standing × AreUp l.cap 0 (map queue_of_link back) back × SoFar (StaysAs l.cap (l.turns + 1)) back l.place l.standing

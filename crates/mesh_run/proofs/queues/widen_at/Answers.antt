@@ -38,21 +38,28 @@ index-requires-2 g c =
     let many = c.take_ends-tx.new.self.links.ok.0 in
     omega (arith, inside, many)
 
-pub widened-requires : goal.widened-requires
-widened-requires g c =
+pub invariant_of-resting : goal.invariant_of-resting
+invariant_of-resting g c =
     let u = c.requires.up in
     let r = c.rest_at-held.ensures u.0 u.1 u.2 u.3 in
     let taken = c.take_ends-tx.ensures.ends _ r.now r.holds (rest_stands u.3 r) in
     let link = lent_link u.3 r (c.take_ends-tx.ensures.left _ r.holds) c.index-2.ensures in
+    record {
+      sends = subst (λ (l : Link). IsTx l c.take_ends-tx.result.0) (sym link) (subst (λ (x : Tx). IsTx r.now.link x) (sym taken.0) r.ends_are.tx);
+      takes = subst (λ (l : Link). IsRx l c.take_ends-tx.result.1) (sym link) (subst (λ (x : Rx). IsRx r.now.link x) (sym taken.1) r.ends_are.rx);
+      sent = rest_sent u.3 r taken.0;
+      took = rest_took u.3 r taken.0 taken.1;
+      counts = rest_count u.3 r taken.0;
+    }
+
+pub widened-requires : goal.widened-requires
+widened-requires g c =
+    let u = c.requires.up in
+    let r = c.rest_at-held.ensures u.0 u.1 u.2 u.3 in
     let short = held_short u.3 r u.4 in
     let is = c.link_places-wider.ensures in
     let some = c.requires.some in
     record {
-      sending = subst (λ (l : Link). IsTx l c.take_ends-tx.result.0) (sym link) (subst (λ (x : Tx). IsTx r.now.link x) (sym taken.0) r.ends_are.tx);
-      taking = subst (λ (l : Link). IsRx l c.take_ends-tx.result.1) (sym link) (subst (λ (x : Rx). IsRx r.now.link x) (sym taken.1) r.ends_are.rx);
-      sent = rest_sent u.3 r taken.0;
-      took = rest_took u.3 r taken.0 taken.1;
-      held = rest_count u.3 r taken.0;
       some = omega (arith, is, some);
       fits = omega (arith, short, is);
     }

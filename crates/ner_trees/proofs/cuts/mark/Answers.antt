@@ -1,29 +1,41 @@
-use Rattle.std.proofs.Common.{sym, ◌∙◌}
-use Rattle.std.proofs.Math.ListN.{length-set}
+use Rattle.std.proofs.Common.{◌≡◌, ◌*◌, Some, None, length, get_or, sym, subst, ◌∙◌}
 use Rattle.std.proofs.lemmas.List.{take_all}
+use Rattle.machine_desc.specs.Description.{Description}
+use Rattle.machine_desc.specs.RoutingTree.{end_of}
 use Rattle.machine_desc.proofs.Far.{far_inside}
 use Rattle.ner_trees.proofs.Cutting.{marked_more, marked_past}
 use Rattle.ner_trees.proofs.cuts.mark.Goals as goal
 use Rattle.ner_trees.proofs.cuts.mark.Goals.{in-Some, in_default}
 
-pub index-requires : goal.index-requires
-index-requires c = far_inside c.args.machine.now _ c.in-Some.chip _ (c.requires.inside _ _ c.loop-link-test.true) (sym c.far.ensures ∙ c.in-Some.is)
+pub far-requires : goal.far-requires
+far-requires c = rw c.machine-machine.ensures (c.requires _ _ c.loop-link-test.true)
+
+pub set-requires : goal.set-requires
+set-requires c =
+    rw c.loop-link.invariant.0
+    (far_inside c.args.on.now.machine.now _ c.in-Some.chip _ (c.requires _ _ c.loop-link-test.true) (rw c.machine-machine.ensures at (sym c.far.ensures ∙ c.in-Some.is)))
 
 pub loop-link-preserved : goal.loop-link-preserved
-loop-link-preserved c = elim c.match-far.branch [
-  | in-Some w ↦
-      rw (w.on-is, w.index.ensures.value) (
-        length-set _ _ _ ∙ c.loop-link.invariant.0,
-        marked_more c.args.machine.now c.args.on.now.items c.loop-link.on.items c.args.links.now c.loop-link.link-index _ w.in-Some.chip c.loop-link-test.true
-            c.loop-link.invariant.0 (c.requires.inside _ _ c.loop-link-test.true) (sym c.far.ensures ∙ w.in-Some.is) c.loop-link.invariant.1,
-      )
-  | in_default w ↦
-      rw w.on-is (
-        c.loop-link.invariant.0,
-        marked_past c.args.machine.now c.args.on.now.items c.loop-link.on.items c.args.links.now c.loop-link.link-index _ c.loop-link-test.true
-            (sym c.far.ensures ∙ w.in_default.is) c.loop-link.invariant.1,
-      )
-]
+loop-link-preserved c =
+    let m = c.args.on.now.machine.now in
+    elim c.match-far.branch [
+      | in-Some w ↦
+          let long : length c.loop-link.on.items.items ≡ m.width * m.height =
+          subst (λ (k : Description). length c.loop-link.on.items.items ≡ k.width * k.height) c.loop-link.invariant.0 c.loop-link.on.long in
+          let leads : end_of m (get_or c.args.links.now c.loop-link.link-index _) ≡ Some w.in-Some.chip = rw c.machine-machine.ensures at (sym c.far.ensures ∙ w.in-Some.is) in
+          rw w.on-is (
+            w.set.ensures.machine ∙ c.loop-link.invariant.0,
+            rw (w.set.ensures.items, c.loop-link.invariant.0)
+                (marked_more m c.args.on.now.items.items c.loop-link.on.items.items c.args.links.now c.loop-link.link-index _ w.in-Some.chip c.loop-link-test.true long
+                (c.requires _ _ c.loop-link-test.true) leads c.loop-link.invariant.1),
+          )
+      | in_default w ↦
+          let nowhere : end_of m (get_or c.args.links.now c.loop-link.link-index _) ≡ None = rw c.machine-machine.ensures at (sym c.far.ensures ∙ w.in_default.is) in
+          rw w.on-is (
+            c.loop-link.invariant.0,
+            marked_past m c.args.on.now.items.items c.loop-link.on.items.items c.args.links.now c.loop-link.link-index _ c.loop-link-test.true nowhere c.loop-link.invariant.1,
+          )
+    ]
 
 pub returns-clause-marked : goal.returns-clause-marked
 returns-clause-marked c = rw (take_all c.loop-link.link-index c.args.links.now c.loop-link-test.false) at c.loop-link.invariant.1

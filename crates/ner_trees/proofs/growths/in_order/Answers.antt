@@ -1,6 +1,6 @@
 use Rattle.std.proofs.Common.{rules}
 use Rattle.std.proofs.lemmas.List.Sorted.{answers_always}
-use Rattle.ner_trees.specs.Order.{edge_key}
+use Rattle.machine_desc.specs.EdgeOrder.{edge_key}
 use Rattle.ner_trees.proofs.Sorting.{never_falls}
 use Rattle.ner_trees.proofs.growths.in_order.Goals as goal
 

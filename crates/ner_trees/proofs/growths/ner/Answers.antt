@@ -1,35 +1,53 @@
-use Rattle.std.proofs.Common.{◌≡◌, ◌+◌, ◌*◌, List, false, replicate, take, refl, sym, ap, ◌∙◌, subst, rules}
+use Rattle.std.proofs.Common.{◌+◌, List, take, refl, sym, ◌∙◌, subst}
 use Rattle.std.specs.List.{All}
 use Rattle.spin_base.specs.declared.chips.Chip.{Chip}
+use Rattle.machine_desc.specs.Description.{Description, HasSize}
 use Rattle.machine_desc.specs.Live.{IsInside}
+use Rattle.ner_trees.specs.Growth.{IsJoinedBy}
+use Rattle.ner_trees.specs.Search.{TellsTree}
 use Rattle.ner_trees.proofs.Growing.{GrownSoFar, Finished, so_far_start, so_far_more, finished_at}
 use Rattle.ner_trees.proofs.growths.ner.Goals as goal
 
 pub loop-target-init : goal.loop-target-init
-loop-target-init c =
-    let made : c.in_ok-on.on.items ≡ replicate c.chips.result false = c.in_ok-on.ensures.items_if_clones_equal (λ y h. search rules) in
-    let clear : c.in_ok-on.on.items ≡ replicate (c.args.machine.now.width * c.args.machine.now.height) false =
-    made ∙ ap (λ n. replicate n false) c.chips.ensures.total in
-    rw (c.new-edges.ensures.items, c.new-joins.ensures)
-    (so_far_start c.args.machine.now c.args.root c.in_ok-on.on.items c.index.result c.requires.root_inside clear c.index.ensures.value)
+loop-target-init c = record {
+  machine = c.in_ok-tree.ensures.machine;
+  root = c.in_ok-tree.ensures.root;
+  grown =
+      so_far_start c.args.machine.now c.args.root c.in_ok-tree.tree.on.items.items c.in_ok-tree.tree.edges.items c.new-joins.result c.in_ok-tree.ensures.on_is
+      c.in_ok-tree.ensures.edges c.new-joins.ensures;
+}
 
 pub loop-target-preserved : goal.loop-target-preserved
 loop-target-preserved c =
-    subst (λ (ts : List Chip). GrownSoFar c.args.machine.now c.args.root c.add_target.new.on.items c.add_target.new.edges.items c.push.new.self (take (c.loop-target.target-index + 1) ts))
-    c.as_slice-target-items.ensures
-    (so_far_more c.args.machine.now c.args.root c.loop-target.on.items c.add_target.new.on.items c.loop-target.edges.items c.add_target.new.edges.items c.loop-target.joins
-    c.push.new.self c.as_slice-target-items.result.now c.loop-target.target-index _ c.in_ok-add_target.field-0 c.loop-target-test.true c.in_ok-add_target.ensures.long
-    c.in_ok-add_target.ensures.on_is c.in_ok-add_target.ensures.edges_inside c.in_ok-add_target.ensures.target c.in_ok-add_target.ensures.near
-    c.in_ok-add_target.ensures.added c.in_ok-push.ensures.ok
-    (subst (λ (ts : List Chip). GrownSoFar c.args.machine.now c.args.root c.loop-target.on.items c.loop-target.edges.items c.loop-target.joins (take c.loop-target.target-index ts))
-    (sym c.as_slice-target-items.ensures) c.loop-target.invariant))
+    let m = c.args.machine.now in
+    let root = c.args.root in
+    let old = c.loop-target.tree in
+    let new = c.add_target.new.tree in
+    let j = c.in_ok-add_target.field-0 in
+    let tells : TellsTree m root new.on.items.items new.edges.items =
+    subst (λ (k : Description). TellsTree k root new.on.items.items new.edges.items) c.loop-target.invariant.machine
+    (subst (λ (r : Chip). TellsTree old.on.machine.now r new.on.items.items new.edges.items) c.loop-target.invariant.root c.in_ok-add_target.ensures.on_is) in
+    let joined : IsJoinedBy m root old.edges.items j new.edges.items =
+    subst (λ (k : Description). IsJoinedBy k root old.edges.items j new.edges.items) c.loop-target.invariant.machine
+    (subst (λ (r : Chip). IsJoinedBy old.on.machine.now r old.edges.items j new.edges.items) c.loop-target.invariant.root c.in_ok-add_target.ensures.joined) in
+    record {
+      machine = c.in_ok-add_target.ensures.machine ∙ c.loop-target.invariant.machine;
+      root = c.in_ok-add_target.ensures.root ∙ c.loop-target.invariant.root;
+      grown =
+          subst (λ (ts : List Chip). GrownSoFar m root new.on.items.items new.edges.items c.push.new.self (take (c.loop-target.target-index + 1) ts)) c.as_slice-target-items.ensures
+          (so_far_more m root old.on.items.items new.on.items.items old.edges.items new.edges.items c.loop-target.joins c.push.new.self c.as_slice-target-items.result.now
+          c.loop-target.target-index _ j c.loop-target-test.true tells c.in_ok-add_target.ensures.target joined c.in_ok-push.ensures.ok
+          (subst (λ (ts : List Chip). GrownSoFar m root old.on.items.items old.edges.items c.loop-target.joins (take c.loop-target.target-index ts)) (sym c.as_slice-target-items.ensures)
+          c.loop-target.invariant.grown));
+    }
 
 pub returns : goal.returns
 returns c =
     let done : Finished c.args.machine.now c.args.root c.args.targets.now c.loop-target.joins c.from_vec.result =
-    finished_at c.args.machine.now c.args.root c.args.targets.now c.as_slice-target-items.result.now c.loop-target.joins c.loop-target.on.items c.loop-target.edges.items
-    c.in_ok-in_order.field-0.items c.from_vec.result c.loop-target.target-index c.chips.ensures.size c.requires.root_inside c.requires.targets_inside
-    c.as_slice-target-items.ensures c.loop-target-test.false c.loop-target.invariant c.in_ok-in_order.ensures.same_edges c.in_ok-in_order.ensures.in_order
+    finished_at c.args.machine.now c.args.root c.args.targets.now c.as_slice-target-items.result.now c.loop-target.joins c.loop-target.tree.on.items.items
+    c.loop-target.tree.edges.items c.in_ok-in_order.field-0.items c.from_vec.result c.loop-target.target-index
+    (subst HasSize c.loop-target.invariant.machine c.loop-target.tree.on.size) c.requires.root_inside c.requires.targets_inside
+    c.as_slice-target-items.ensures c.loop-target-test.false c.loop-target.invariant.grown c.in_ok-in_order.ensures.same_edges c.in_ok-in_order.ensures.in_order
     c.from_vec.ensures in
     record {
       root = refl;
@@ -43,10 +61,8 @@ returns c =
 
 pub add_target-requires-clause-target_inside : goal.add_target-requires-clause-target_inside
 add_target-requires-clause-target_inside c =
-    subst (All (IsInside c.args.machine.now)) (sym c.as_slice-target-items.ensures) c.requires.targets_inside c.loop-target.target-index _ c.loop-target-test.true
+    rw c.loop-target.invariant.machine
+    (subst (All (IsInside c.args.machine.now)) (sym c.as_slice-target-items.ensures) c.requires.targets_inside c.loop-target.target-index _ c.loop-target-test.true)
 
 pub add_target-requires-clause-on_is : goal.add_target-requires-clause-on_is
-add_target-requires-clause-on_is c = c.loop-target.invariant.on_is
-
-pub add_target-requires-clause-edges_inside : goal.add_target-requires-clause-edges_inside
-add_target-requires-clause-edges_inside c = c.loop-target.invariant.inside
+add_target-requires-clause-on_is c = rw (c.loop-target.invariant.machine, c.loop-target.invariant.root) c.loop-target.invariant.grown.on_is

@@ -6,24 +6,25 @@ use Rattle.ner_trees.proofs.searches.near_chip.Goals as goal
 
 pub returns-in-Some : goal.returns-in-Some
 returns-in-Some c =
-    near_is c.args.machine.now c.args.root c.args.on.now c.args.edges.now c.args.target c.in-Some.chip c.requires.root_inside c.requires.edges_inside c.requires.on_is
-    (inl (nearest_wider c.args.machine.now c.args.on.now c.args.target c.in-Some.chip 2 20 (lit≤ tt) c.in-Some.ensures))
+    near_is c.args.tree.now.on.machine.now c.args.tree.now.root c.args.tree.now.on.items.items c.args.tree.now.edges.items c.args.target c.in-Some.chip c.args.tree.now.root_inside c.args.tree.now.edges_inside c.requires.on_is
+    (inl (nearest_wider c.args.tree.now.on.machine.now c.args.tree.now.on.items.items c.args.target c.in-Some.chip 2 20 (lit≤ tt) c.in-Some.ensures))
 
 pub returns-in-Some-nearest_if_many : goal.returns-in-Some-nearest_if_many
 returns-in-Some-nearest_if_many c =
-    near_is c.args.machine.now c.args.root c.args.on.now c.args.edges.now c.args.target c.in-Some-nearest_if_many.chip c.requires.root_inside c.requires.edges_inside c.requires.on_is
-    (inl (nearest_wider c.args.machine.now c.args.on.now c.args.target c.in-Some-nearest_if_many.chip 6 20 (lit≤ tt) c.in-Some-nearest_if_many.ensures))
+    near_is c.args.tree.now.on.machine.now c.args.tree.now.root c.args.tree.now.on.items.items c.args.tree.now.edges.items c.args.target c.in-Some-nearest_if_many.chip c.args.tree.now.root_inside c.args.tree.now.edges_inside c.requires.on_is
+    (inl (nearest_wider c.args.tree.now.on.machine.now c.args.tree.now.on.items.items c.args.target c.in-Some-nearest_if_many.chip 6 20 (lit≤ tt) c.in-Some-nearest_if_many.ensures))
 
 pub returns-in-Some-nearest_of_edges : goal.returns-in-Some-nearest_of_edges
 returns-in-Some-nearest_of_edges c =
-    near_found c.args.machine.now c.args.root c.args.target c.args.edges.now c.in-Some-nearest_of_edges.found c.in-Some-nearest_of_edges.ensures
+    near_found c.args.tree.now.on.machine.now c.args.tree.now.root c.args.target c.args.tree.now.edges.items c.in-Some-nearest_of_edges.found
+    (rw (c.machine.ensures, c.deref-edges.ensures.value) at c.in-Some-nearest_of_edges.ensures)
 
 pub returns-in-Some-nearest_within : goal.returns-in-Some-nearest_within
 returns-in-Some-nearest_within c =
-    near_is c.args.machine.now c.args.root c.args.on.now c.args.edges.now c.args.target c.in-Some-nearest_within.chip c.requires.root_inside c.requires.edges_inside c.requires.on_is
+    near_is c.args.tree.now.on.machine.now c.args.tree.now.root c.args.tree.now.on.items.items c.args.tree.now.edges.items c.args.target c.in-Some-nearest_within.chip c.args.tree.now.root_inside c.args.tree.now.edges_inside c.requires.on_is
     (inl c.in-Some-nearest_within.ensures.found)
 
 pub returns-in-None-nearest_within : goal.returns-in-None-nearest_within
 returns-in-None-nearest_within c =
-    near_is c.args.machine.now c.args.root c.args.on.now c.args.edges.now c.args.target c.args.root c.requires.root_inside c.requires.edges_inside c.requires.on_is
+    near_is c.args.tree.now.on.machine.now c.args.tree.now.root c.args.tree.now.on.items.items c.args.tree.now.edges.items c.args.target c.args.tree.now.root c.args.tree.now.root_inside c.args.tree.now.edges_inside c.requires.on_is
     (inr (c.in-None-nearest_within.ensures.none, refl))

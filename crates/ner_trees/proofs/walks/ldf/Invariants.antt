@@ -1,8 +1,8 @@
 use Rattle.std.proofs.Common.{◌≡◌, take}
 use Rattle.std.specs.List.{flat_map}
-use Rattle.ner_trees.specs.LongestFirst.{steps_of, longest_first, runs_of}
+use Rattle.ner_trees.specs.LongestFirst.{run_links, longest_first, runs_of}
 use Rattle.ner_trees.proofs.walks.ldf.Given as goal
 
 -- the steps of the runs so far
 abbrev pub invariant-loop-next : goal.invariant-loop-next
-invariant-loop-next l = (l.walk.items ≡ flat_map steps_of (take l.next-index l.next-items)) × (l.next-items ≡ longest_first (runs_of l.fn.d))
+invariant-loop-next l = (l.walk.items ≡ flat_map run_links (take l.next-index l.next-items)) × (l.next-items ≡ longest_first (runs_of l.fn.d))

@@ -2,12 +2,12 @@ use Rattle.std.proofs.Common.{sym, subst, IfOk, IfErr, rules}
 use Rattle.std.proofs.lemmas.Result.{IfErr-weaker}
 use Rattle.machine_desc.specs.Live.{IsInside, IsLiveChip}
 use Rattle.machine_desc.specs.RoutingTree.{IsTreeTo}
-use Rattle.link_detours.specs.Cause.{IsCause as IsRepairCause}
+use Rattle.link_detours.specs.Cause.{IsRepairCause}
 use Rattle.net_plans.specs.Cause.{IsCauseOne}
 use Rattle.net_plans.specs.CutOffTargets.{HasNoneCutOff}
 use Rattle.net_plans.proofs.CutOffLaws.{none_cut_off, cause_one, refused_one}
 use Rattle.net_plans.proofs.Planning.{all_inside, source_lives, of_targets, of_chips, routes_targets, some_chip, plan_is}
-use Rattle.list_laws.proofs.Places.{All-at}
+use Rattle.spin_base.proofs.Places.{All-at}
 use Rattle.net_plans.proofs.nets.net_plan.Goals as goal
 
 pub target_chips-requires-clause-root_inside : goal.target_chips-requires-clause-root_inside

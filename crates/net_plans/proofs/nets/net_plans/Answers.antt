@@ -1,9 +1,9 @@
 use Rattle.std.specs.List.{All}
 use Rattle.std.proofs.lemmas.Result.{IfOk-weaker, IfErr-weaker}
 use Rattle.machine_desc.specs.RoutingTree.{IsRoutingTree}
-use Rattle.net_tables.specs.declared.nets.NetPlan.{NetPlan}
+use Rattle.machine_desc.specs.declared.nets.NetPlan.{NetPlan}
 use Rattle.net_plans.specs.declared.nets.RoutedNets.{RoutedNets}
-use Rattle.net_plans.specs.Cause.{IsCause}
+use Rattle.net_plans.specs.Cause.{IsNetCause}
 use Rattle.net_plans.specs.CutOffTargets.{HasNoneCutOff}
 use Rattle.net_plans.specs.NetPlans.{ArePlanned}
 use Rattle.net_plans.specs.Ways.{HaveWays, IsFirstWithout}
@@ -37,7 +37,7 @@ pub returns-clause-cause : goal.returns-clause-cause
 returns-clause-cause g c =
     let m = c.args.machine.now in
     let items = c.in-Ok.routed.items in
-    IfErr-weaker c.looked_through.result (IsFirstWithout items) (IsCause m c.args.spots.now c.args.graph.now.nets)
+    IfErr-weaker c.looked_through.result (IsFirstWithout items) (IsNetCause m c.args.spots.now c.args.graph.now.nets)
     (λ e first. cause_of m c.args.spots.now c.args.graph.now.nets c.args.blocks.now items c.in-Ok.ensures e first) c.looked_through.ensures.first
 
 pub returns-clause-cut_off : goal.returns-clause-cut_off

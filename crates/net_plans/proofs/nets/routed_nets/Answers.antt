@@ -4,7 +4,7 @@ use Rattle.rayon.specs.Numbers.{nat_range}
 use Rattle.rayon.proofs.ListFacts.{IfOk-then}
 use Rattle.rayon.proofs.ToStd.{nat_range-All}
 use Rattle.net_plans.specs.declared.nets.RoutedNet.{RoutedNet}
-use Rattle.net_plans.specs.Ways.{AreRouted, CanRoute}
+use Rattle.net_plans.specs.Ways.{AreRoutedNets, CanRoute}
 use Rattle.net_plans.proofs.Routing.{routed_all}
 use Rattle.net_plans.proofs.nets.routed_nets.Goals as goal
 
@@ -23,5 +23,5 @@ returns g c =
     IfOk-then c.collect.result _ _ c.collect.ensures (λ v h.
     let chain = rw (c.map.ensures.base, c.map.ensures.f) at h.1 in
     let places : chain.0 ≡ range_with_len 0 (length c.args.graph.now.nets) = chain.1 ∙ (λ i. nat_range (ends.0 i) (ends.1 i)) ∙ ap (range_with_len 0) whole ∙ ap (range_with_len 0) c.len.ensures in
-    subst (λ (items : List RoutedNet). AreRouted c.args.machine.now c.args.spots.now c.args.graph.now.nets c.args.blocks.now items) (sym h.2)
+    subst (λ (items : List RoutedNet). AreRoutedNets c.args.machine.now c.args.spots.now c.args.graph.now.nets c.args.blocks.now items) (sym h.2)
     (routed_all c.args.machine.now c.args.spots.now c.args.graph.now.nets c.args.blocks.now h.0 chain.0 places chain.2))

@@ -1,6 +1,6 @@
 use Rattle.std.proofs.Common.{ℕ, [], ◌∷◌, ◌++◌, map, take, take_all, sym, ap, ◌∙◌, arith}
 use Rattle.spin_base.specs.declared.chips.Spot.{Spot}
-use Rattle.list_laws.proofs.Places.{All-at, map_more_at}
+use Rattle.spin_base.proofs.Places.{All-at, map_more_at}
 use Rattle.machine_desc.specs.Live.{IsInside}
 use Rattle.net_plans.specs.Targets.{chip_key}
 use Rattle.net_plans.proofs.targets.chip_keys.Goals as goal

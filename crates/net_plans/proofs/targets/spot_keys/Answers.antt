@@ -1,7 +1,7 @@
 use Rattle.std.proofs.Common.{ℕ, ◌<◌, [], ◌∷◌, ◌++◌, length, map, take, take_all, sym, ap, ◌∙◌, arith}
 use Rattle.std.specs.List.{slice_index_or}
 use Rattle.std.proofs.lemmas.Option.{get_or_from_slice_get}
-use Rattle.list_laws.proofs.Places.{All-at, map_more_at}
+use Rattle.spin_base.proofs.Places.{All-at, map_more_at}
 use Rattle.net_plans.specs.Keys.{nowhere}
 use Rattle.net_plans.specs.Targets.{spot_key}
 use Rattle.net_plans.proofs.targets.spot_keys.Goals as goal

@@ -10,15 +10,15 @@ use Rattle.par_compile.proofs.compiling.compile.Goals as goal
 pub final_tables-requires-clause-routed : goal.final_tables-requires-clause-routed
 final_tables-requires-clause-routed g c κs within =
     let routing =
-    routing_is c.args.machine.now c.args.graph.now c.in-Ok.placement c.in-Ok-keys.blocks c.in-Ok-net_plans.routed.grown c.in-Ok-net_plans.routed.plans c.in-Ok.ensures.placed c.in-Ok.ensures.different c.in-Ok.ensures.sites
+    routing_is c.args.request.now.machine.now c.args.request.now.graph.now c.in-Ok.placement c.in-Ok-keys.blocks c.in-Ok-net_plans.routed.grown c.in-Ok-net_plans.routed.plans c.in-Ok.ensures.placed c.in-Ok.ensures.different c.in-Ok.ensures.sites
     c.in-Ok.ensures.cores c.in-Ok-keys.ensures.blocks c.in-Ok-keys.ensures.apart c.in-Ok-keys.ensures.enough c.in-Ok-net_plans.ensures.planned c.in-Ok-net_plans.ensures.routing
     in
-    routed_of c.args.machine.now c.in-Ok.placement.spots c.in-Ok-net_plans.routed.plans c.in-Ok.ensures.sites routing.stand
+    routed_of c.args.request.now.machine.now c.in-Ok.placement.spots c.in-Ok-net_plans.routed.plans c.in-Ok.ensures.sites routing.stand
 
 pub returns-in-None-clause-plan : goal.returns-in-None-clause-plan
 returns-in-None-clause-plan g c = record {
   routing =
-      routing_is c.args.machine.now c.args.graph.now c.in-Ok.placement c.in-Ok-keys.blocks c.in-Ok-net_plans.routed.grown c.in-Ok-net_plans.routed.plans c.in-Ok.ensures.placed c.in-Ok.ensures.different c.in-Ok.ensures.sites
+      routing_is c.args.request.now.machine.now c.args.request.now.graph.now c.in-Ok.placement c.in-Ok-keys.blocks c.in-Ok-net_plans.routed.grown c.in-Ok-net_plans.routed.plans c.in-Ok.ensures.placed c.in-Ok.ensures.different c.in-Ok.ensures.sites
       c.in-Ok.ensures.cores c.in-Ok-keys.ensures.blocks c.in-Ok-keys.ensures.apart c.in-Ok-keys.ensures.enough c.in-Ok-net_plans.ensures.planned c.in-Ok-net_plans.ensures.routing;
   one_table_each = c.in_ok-tables.ensures.long;
   tables = c.in_ok-tables.ensures.finals;
@@ -28,10 +28,10 @@ returns-in-None-clause-plan g c = record {
 }
 
 pub returns-in-None-clause-only : goal.returns-in-None-clause-only
-returns-in-None-clause-only g c = λ other is. one_plan c.args.machine.now c.args.graph.now c.args.target other _ is (returns-in-None-clause-plan g c)
+returns-in-None-clause-only g c = λ other is. one_plan c.args.request.now.machine.now c.args.request.now.graph.now c.args.request.now.target other _ is (returns-in-None-clause-plan g c)
 
 pub returns-in-None-clause-refused : goal.returns-in-None-clause-refused
-returns-in-None-clause-refused g c = refused_where c.args.machine.now c.args.graph.now c.args.target _ (returns-in-None-clause-plan g c) tt
+returns-in-None-clause-refused g c = refused_where c.args.request.now.machine.now c.args.request.now.graph.now c.args.request.now.target _ (returns-in-None-clause-plan g c) tt
 
 pub returns-in-Some-clause-cause : goal.returns-in-Some-clause-cause
 returns-in-Some-clause-cause g c =
@@ -41,7 +41,7 @@ returns-in-Some-clause-cause g c =
         grown = c.in-Ok-net_plans.routed.grown;
         nets = c.in-Ok-net_plans.routed.plans;
         routing =
-            routing_is c.args.machine.now c.args.graph.now c.in-Ok.placement c.in-Ok-keys.blocks c.in-Ok-net_plans.routed.grown c.in-Ok-net_plans.routed.plans c.in-Ok.ensures.placed c.in-Ok.ensures.different c.in-Ok.ensures.sites
+            routing_is c.args.request.now.machine.now c.args.request.now.graph.now c.in-Ok.placement c.in-Ok-keys.blocks c.in-Ok-net_plans.routed.grown c.in-Ok-net_plans.routed.plans c.in-Ok.ensures.placed c.in-Ok.ensures.different c.in-Ok.ensures.sites
             c.in-Ok.ensures.cores c.in-Ok-keys.ensures.blocks c.in-Ok-keys.ensures.apart c.in-Ok-keys.ensures.enough c.in-Ok-net_plans.ensures.planned c.in-Ok-net_plans.ensures.routing;
         finals = c.in_ok-tables.tables;
         one_each = c.in_ok-tables.ensures.long;
@@ -50,19 +50,19 @@ returns-in-Some-clause-cause g c =
         first = first ∙ ap Some (sym c.chip_at.ensures.back);
         at = subst (λ n. slice_get c.in_ok-tables.tables n ≡ Some c.table_at.result) (sym c.chip_at.ensures.back) c.table_at.ensures;
       },
-      long_has_no_pair c.args.target c.in_ok-tables.tables c.in-Some.index c.table_at.result c.requires.target c.in_ok-tables.ensures.ended first c.table_at.ensures,
-      long_has_many (length c.in-Ok-net_plans.routed.plans) (length c.args.graph.now.nets) c.in_ok-tables.tables c.in-Some.index c.table_at.result
+      long_has_no_pair c.args.request.now.target c.in_ok-tables.tables c.in-Some.index c.table_at.result c.args.request.now.few_rows c.in_ok-tables.ensures.ended first c.table_at.ensures,
+      long_has_many (length c.in-Ok-net_plans.routed.plans) (length c.args.request.now.graph.now.nets) c.in_ok-tables.tables c.in-Some.index c.table_at.result
           c.in-Ok-net_plans.ensures.planned.one_plan_each c.in_ok-tables.ensures.few_rows first c.table_at.ensures,
     )
 
 pub returns-in-Some-clause-refused : goal.returns-in-Some-clause-refused
-returns-in-Some-clause-refused g c = refused_where c.args.machine.now c.args.graph.now c.args.target _ tt (returns-in-Some-clause-cause g c)
+returns-in-Some-clause-refused g c = refused_where c.args.request.now.machine.now c.args.request.now.graph.now c.args.request.now.target _ tt (returns-in-Some-clause-cause g c)
 
 pub returns-in-Err-NoRoom-clause-refused : goal.returns-in-Err-NoRoom-clause-refused
-returns-in-Err-NoRoom-clause-refused g c = refused_where c.args.machine.now c.args.graph.now c.args.target _ tt (search rules)
+returns-in-Err-NoRoom-clause-refused g c = refused_where c.args.request.now.machine.now c.args.request.now.graph.now c.args.request.now.target _ tt (search rules)
 
 pub returns-in-Err-KeysOut-clause-refused : goal.returns-in-Err-KeysOut-clause-refused
-returns-in-Err-KeysOut-clause-refused g c = refused_where c.args.machine.now c.args.graph.now c.args.target _ tt (search rules)
+returns-in-Err-KeysOut-clause-refused g c = refused_where c.args.request.now.machine.now c.args.request.now.graph.now c.args.request.now.target _ tt (search rules)
 
 pub returns-in-Err-CutOff-clause-refused : goal.returns-in-Err-CutOff-clause-refused
-returns-in-Err-CutOff-clause-refused g c = refused_where c.args.machine.now c.args.graph.now c.args.target _ tt (search rules)
+returns-in-Err-CutOff-clause-refused g c = refused_where c.args.request.now.machine.now c.args.request.now.graph.now c.args.request.now.target _ tt (search rules)

@@ -1,5 +1,5 @@
 use Rattle.std.proofs.Common.{arith}
-use Rattle.list_laws.proofs.Places.{All-at}
+use Rattle.spin_base.proofs.Places.{All-at}
 use Rattle.par_compile.specs.Finals.{KeepsRows}
 use Rattle.par_compile.specs.Imaging.{image_in}
 use Rattle.par_compile.proofs.Imaged.{same_image, image_valid, image_rows, image_more, all_read, found_at, small_place}

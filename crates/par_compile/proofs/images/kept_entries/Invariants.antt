@@ -1,6 +1,6 @@
 use Rattle.std.proofs.Common.{◌≡◌, map, take}
 use Rattle.tern_word.specs.Entries.{entry_of}
-use Rattle.cover_checks.specs.Merge.{rows_at}
+use Rattle.cover_merge.specs.Merge.{rows_at}
 use Rattle.par_compile.proofs.images.kept_entries.Given as goal
 
 -- the entries of the places that were read

@@ -12,12 +12,12 @@ cover_all-requires-clause-ready g c κs within =
 
 pub returns-clause-finals : goal.returns-clause-finals
 returns-clause-finals g c =
-    IfOk-weaker c.finals_of.result _ (AllZip (λ (t : Table) f. IsFinalOf c.args.target t.rows f) c.args.tables)
-    (λ fs last. all_beside c.args.target (λ (t : Table) f. IsFinalOf c.args.target t.rows f) (λ t f both. both.0) c.args.tables fs _ _
+    IfOk-weaker c.finals_of.result _ (AllZip (λ (t : Table) f. IsFinalOf c.args.request.now.target t.rows f) c.args.tables)
+    (λ fs last. all_beside c.args.request.now.target (λ (t : Table) f. IsFinalOf c.args.request.now.target t.rows f) (λ t f both. both.0) c.args.tables fs _ _
     c.in_ok-works.ensures last c.cover_all.ensures.long c.cover_all.ensures.worked) c.finals_of.ensures
 
 pub returns-clause-stand : goal.returns-clause-stand
 returns-clause-stand g c =
-    IfOk-weaker c.finals_of.result _ (AllZip (λ (t : Table) f. StandsFor c.args.target t.rows f) c.args.tables)
-    (λ fs last. all_beside c.args.target (λ (t : Table) f. StandsFor c.args.target t.rows f) (λ t f both. both.1) c.args.tables fs _ _
+    IfOk-weaker c.finals_of.result _ (AllZip (λ (t : Table) f. StandsFor c.args.request.now.target t.rows f) c.args.tables)
+    (λ fs last. all_beside c.args.request.now.target (λ (t : Table) f. StandsFor c.args.request.now.target t.rows f) (λ t f both. both.1) c.args.tables fs _ _
     c.in_ok-works.ensures last c.cover_all.ensures.long c.cover_all.ensures.worked) c.finals_of.ensures

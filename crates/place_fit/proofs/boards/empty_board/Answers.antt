@@ -9,7 +9,7 @@ use Rattle.place_fit.proofs.boards.empty_board.Goals as goal
 
 pub loop-place-init : goal.loop-place-init
 loop-place-init c =
-    let n = c.args.level in
+    let n = c.level_of-level.result in
     let both : 2 * n ≡ n + n = omega arith in
     let wide : 2 ^ (2 * n) ≡ 2 ^ n * 2 ^ n = ap (λ (k : ℕ). 2 ^ k) both ∙ pow-add 2 n n in
     record {

@@ -5,4 +5,4 @@ use Rattle.place_fit.proofs.curves.add_quarter.Goals as goal
 pub returns : goal.returns
 returns c =
     c.loop-chip.invariant
-    ∙ ap (λ cs. c.args.all.now.items ++ map (in_quarter c.args.quarter c.args.side) cs) (take_all c.loop-chip.chip-index c.args.chips.now c.loop-chip-test.false)
+    ∙ ap (λ cs. c.args.all.now.items ++ map (in_quarter c.args.quarter c.args.square.side) cs) (take_all c.loop-chip.chip-index c.args.square.chips.now c.loop-chip-test.false)

@@ -10,14 +10,14 @@ pub loop-level-init : goal.loop-level-init
 loop-level-init c =
     (c.in_ok-push.ensures.items ∙ ap (λ (l : List Chip). l ++ record { x = 0; y = 0 } ∷ []) c.new-chips.ensures.items ∙ sym hilbert-zero, refl)
 
-pub next_level-requires-clause-small : goal.next_level-requires-clause-small
-next_level-requires-clause-small c =
-    let up : 2 ^ c.loop-level.level ≤ 2 ^ 5 = pow_mono {j = 5} (omega arith) in omega (arith, up, c.loop-level.invariant.1)
-
-pub next_level-requires-clause-inside : goal.next_level-requires-clause-inside
-next_level-requires-clause-inside c =
+pub invariant_of-square : goal.invariant_of-square
+invariant_of-square c =
+    let up : 2 ^ c.loop-level.level ≤ 2 ^ 5 = pow_mono {j = 5} (omega arith) in
     let here = subst (All (IsIn (2 ^ c.loop-level.level))) (sym (c.deref.ensures.value ∙ c.loop-level.invariant.0)) (hilbert_inside c.loop-level.level) in
-    subst (λ s. All (IsIn s) c.deref.result.now) (sym c.loop-level.invariant.1) here
+    record {
+      small = omega (arith, up, c.loop-level.invariant.1);
+      inside = subst (λ s. All (IsIn s) c.deref.result.now) (sym c.loop-level.invariant.1) here;
+    }
 
 pub overflow_mul-side : goal.overflow_mul-side
 overflow_mul-side c =

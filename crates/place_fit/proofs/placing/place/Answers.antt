@@ -2,8 +2,7 @@ use Rattle.std.proofs.Common.{◌≡◌, ◌+◌, ◌++◌, ◌∷◌, [], lengt
 use Rattle.std.proofs.lemmas.List.{length_push, take_more}
 use Rattle.std.proofs.lemmas.Option.{slice_get_read, slice_get_within, get_or_from_slice_get}
 use Rattle.machine_desc.specs.Live.{is_live_chip}
-use Rattle.place_fit.specs.Curve.{hilbert, IsLevel}
-use Rattle.place_fit.specs.Boards.{IsBoard}
+use Rattle.place_fit.specs.Curve.{hilbert, IsCurveLevel}
 use Rattle.place_fit.specs.Placement.{AreFirstSpots}
 use Rattle.place_fit.proofs.Standing.{Stands, stands_first}
 use Rattle.place_fit.proofs.SpotLaws.{fair, stood, finds_none, none_yet, no_memory_yet, spots_more, memories_more, all_sites, all_on_cores, all_differ}
@@ -18,9 +17,9 @@ loop-i-init c =
     let none = c.new-spots.ensures in
     let order = filter (is_live_chip m) (hilbert b.level) in
     record {
-      level = subst (IsLevel m) (sym told.board.same) c.level_of.ensures.level;
+      level = told.level;
       each_one = ap length none;
-      stands = subst (λ l. Stands m [] l b) (sym none) (stands_first m b (subst (λ n. IsBoard m n b) (sym told.board.same) told.board) told.empty);
+      stands = subst (λ l. Stands m [] l b) (sym none) (stands_first m b told.board told.empty);
       first = subst (AreFirstSpots m order vertices) (sym none) (none_yet m order vertices);
       memories = rw (none, c.new-memory.ensures) (no_memory_yet vertices);
     }
@@ -68,7 +67,7 @@ loop-i-preserved c =
     let stood = stood m (take i vertices) spots old inv.stands v new r c.in-Some.ensures.placed in
     let first = spots_more vertices i v is spots inv.each_one r.spot m order inv.first stood.spot in
     record {
-      level = subst (IsLevel m) (sym stood.level) inv.level;
+      level = subst (IsCurveLevel m) (sym stood.level) inv.level;
       each_one = omega (arith, ap length pushed, length_push spots r.spot, inv.each_one);
       stands = rw (taken, pushed) stood.stands_more;
       first = rw (pushed, stood.level) first;

@@ -1,13 +1,13 @@
 use Rattle.std.proofs.Common.{refl, arith}
 use Rattle.std.specs.Prelude.{All}
-use Rattle.list_laws.proofs.Tests.{fails, answers_no}
+use Rattle.spin_base.proofs.Tests.{fails, answers_no}
 use Rattle.machine_desc.specs.declared.trees.Edge.{Edge}
-use Rattle.plan_check.specs.Marks.{IsMarked}
+use Rattle.plan_check.specs.Marks.{IsMarkedChip}
 use Rattle.plan_check.proofs.trees.all_begin.Goals as goal
 
 pub returns-then-not-is_marked : goal.returns-then-not-is_marked
 returns-then-not-is_marked c =
-    answers_no (All (λ (e : Edge). IsMarked c.args.machine.now c.args.marks.now e.chip) c.args.edges.now) (λ all.
+    answers_no (All (λ (e : Edge). IsMarkedChip c.args.marks.now.machine.now c.args.marks.now.items.items e.chip) c.args.edges.now) (λ all.
     fails _ c.is_marked.result c.is_marked.ensures c.if-not-is_marked.true (all c.loop-edge.edge-index _ c.loop-edge-test.true))
 
 pub returns : goal.returns

@@ -1,8 +1,8 @@
 -- The edges passed begin at chips with marks.
 use Rattle.std.proofs.Common.{ℕ, ◌<◌, get_or}
 use Rattle.machine_desc.specs.declared.trees.Edge.{Edge}
-use Rattle.plan_check.specs.Marks.{IsMarked}
+use Rattle.plan_check.specs.Marks.{IsMarkedChip}
 use Rattle.plan_check.proofs.trees.all_begin.Given as goal
 
 abbrev pub invariant-loop-edge : goal.invariant-loop-edge
-invariant-loop-edge l = (k : ℕ) (d : Edge) → k < l.edge-index → IsMarked l.machine l.marks (get_or l.edges k d).chip
+invariant-loop-edge l = (k : ℕ) (d : Edge) → k < l.edge-index → IsMarkedChip l.marks.machine.now l.marks.items.items (get_or l.edges k d).chip

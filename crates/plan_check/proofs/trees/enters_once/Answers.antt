@@ -1,20 +1,33 @@
-use Rattle.std.proofs.Common.{◌∙◌, rules}
-use Rattle.plan_check.proofs.Marking.{entered_none, entered_at, not_entered_at, entered_tells}
+use Rattle.std.proofs.Common.{◌*◌, refl, sym, ap, subst, ◌∙◌}
+use Rattle.machine_desc.specs.Description.{Description}
+use Rattle.machine_desc.specs.Live.{index_of}
+use Rattle.plan_check.proofs.Marking.{EnteredSoFar, entered_none, entered_at, not_entered_at, entered_tells}
 use Rattle.plan_check.proofs.trees.enters_once.Goals as goal
+
+pub set-requires : goal.set-requires
+set-requires c = rw c.in_ok-entered.ensures.machine c.requires
 
 pub loop-edge-init : goal.loop-edge-init
 loop-edge-init c =
-    entered_none c.args.machine.now c.args.root c.args.edges.now c.deref_mut-marks.result.now c.chips.result c.index.result
-    (c.deref_mut-marks.ensures.value ∙ c.in_ok-entered.ensures.items_if_clones_equal (search rules)) c.chips.ensures.total c.requires c.index.ensures.value
+    let m = c.args.machine.now in (
+      c.set.ensures.machine ∙ c.in_ok-entered.ensures.machine,
+      subst (EnteredSoFar m c.args.root c.args.edges.now 0) (sym c.set.ensures.items)
+          (entered_none m c.args.root c.args.edges.now c.in_ok-entered.entered.items.items (m.width * m.height) (index_of c.in_ok-entered.entered.machine.now c.args.root)
+          c.in_ok-entered.ensures.items refl c.requires (ap (λ (k : Description). index_of k c.args.root) c.in_ok-entered.ensures.machine)),
+    )
 
 pub returns-then-not-enters_anew : goal.returns-then-not-enters_anew
 returns-then-not-enters_anew c =
-    not_entered_at c.args.machine.now c.args.root c.args.edges.now c.loop-edge.edge-index _ c.loop-edge.marks c.loop-edge-test.true c.if-not-enters_anew.ensures c.loop-edge.invariant
+    not_entered_at c.args.machine.now c.args.root c.args.edges.now c.loop-edge.edge-index _ c.loop-edge.entered.items.items c.loop-edge-test.true
+    (rw c.loop-edge.invariant.0 at c.if-not-enters_anew.ensures.anew) c.loop-edge.invariant.1
 
 pub loop-edge-preserved : goal.loop-edge-preserved
-loop-edge-preserved c =
-    entered_at c.args.machine.now c.args.root c.args.edges.now c.loop-edge.edge-index _ c.loop-edge.marks c.enters_anew.new.marks c.loop-edge-test.true c.if-not-enters_anew.ensures
-    c.loop-edge.invariant
+loop-edge-preserved c = (
+  c.if-not-enters_anew.ensures.machine ∙ c.loop-edge.invariant.0,
+  entered_at c.args.machine.now c.args.root c.args.edges.now c.loop-edge.edge-index _ c.loop-edge.entered.items.items c.enters_anew.new.marks.items.items c.loop-edge-test.true
+      (rw c.loop-edge.invariant.0 at c.if-not-enters_anew.ensures.anew) c.loop-edge.invariant.1,
+)
 
 pub returns : goal.returns
-returns c = entered_tells c.args.machine.now c.args.root c.args.edges.now c.loop-edge.edge-index c.loop-edge.marks c.loop-edge-test.false c.loop-edge.invariant
+returns c =
+    entered_tells c.args.machine.now c.args.root c.args.edges.now c.loop-edge.edge-index c.loop-edge.entered.items.items c.loop-edge-test.false c.loop-edge.invariant.1

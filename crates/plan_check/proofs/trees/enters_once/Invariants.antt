@@ -1,6 +1,7 @@
 -- The edges passed enter each chip once, and the chips that they enter have marks.
+use Rattle.std.proofs.Common.{◌≡◌}
 use Rattle.plan_check.proofs.Marking.{EnteredSoFar}
 use Rattle.plan_check.proofs.trees.enters_once.Given as goal
 
 abbrev pub invariant-loop-edge : goal.invariant-loop-edge
-invariant-loop-edge l = EnteredSoFar l.machine l.fn.root l.edges l.edge-index l.marks
+invariant-loop-edge l = (l.entered.machine.now ≡ l.machine) × EnteredSoFar l.machine l.fn.root l.edges l.edge-index l.entered.items.items

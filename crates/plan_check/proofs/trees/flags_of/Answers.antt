@@ -1,4 +1,4 @@
-use Rattle.std.proofs.Common.{◌*◌, ap, subst, arith, rules}
+use Rattle.std.proofs.Common.{◌*◌, refl, subst, ◌∙◌}
 use Rattle.std.proofs.lemmas.List.{take_all}
 use Rattle.plan_check.specs.Marks.{AreFlags}
 use Rattle.plan_check.proofs.TreeLaws.{no_flags, flag_more}
@@ -6,18 +6,18 @@ use Rattle.plan_check.proofs.trees.flags_of.Goals as goal
 
 pub loop-edge-init : goal.loop-edge-init
 loop-edge-init c =
-    no_flags c.args.machine.now c.in_ok-flags.flags.items (c.chips.result * 6) (c.in_ok-flags.ensures.items_if_clones_equal (search rules)) (ap (λ n. n * 6) c.chips.ensures.total)
+    let m = c.args.machine.now in (c.in_ok-flags.ensures.machine, no_flags m c.in_ok-flags.flags.flags.items (m.width * m.height * 6) c.in_ok-flags.ensures.flags refl)
 
-pub index_mut-requires : goal.index_mut-requires
-index_mut-requires c = omega (arith, c.place_of.ensures.below, c.loop-edge.invariant.long)
+pub flag-requires : goal.flag-requires
+flag-requires c = rw c.loop-edge.invariant.0 (c.requires _ _ c.loop-edge-test.true)
 
 pub loop-edge-preserved : goal.loop-edge-preserved
-loop-edge-preserved c =
-    flag_more c.args.machine.now c.args.edges.now c.loop-edge.edge-index _ c.loop-edge.flags.items c.place_of.result c.loop-edge-test.true c.requires c.place_of.ensures.place
-    c.loop-edge.invariant
+loop-edge-preserved c = (
+  c.flag.ensures.machine ∙ c.loop-edge.invariant.0,
+  rw (c.flag.ensures.flags, c.loop-edge.invariant.0)
+      (flag_more c.args.machine.now c.args.edges.now c.loop-edge.edge-index _ c.loop-edge.flags.flags.items _ c.loop-edge-test.true c.requires refl c.loop-edge.invariant.1),
+)
 
-pub place_of-requires : goal.place_of-requires
-place_of-requires c = c.requires _ _ c.loop-edge-test.true
-
-pub returns : goal.returns
-returns c = subst (λ es. AreFlags c.args.machine.now es c.loop-edge.flags.items) (take_all c.loop-edge.edge-index c.args.edges.now c.loop-edge-test.false) c.loop-edge.invariant
+pub returns-clause-flags : goal.returns-clause-flags
+returns-clause-flags c =
+    subst (λ es. AreFlags c.args.machine.now es c.loop-edge.flags.flags.items) (take_all c.loop-edge.edge-index c.args.edges.now c.loop-edge-test.false) c.loop-edge.invariant.1

@@ -1,7 +1,7 @@
 -- The edges passed are flagged.
-use Rattle.std.proofs.Common.{take}
+use Rattle.std.proofs.Common.{◌≡◌, take}
 use Rattle.plan_check.specs.Marks.{AreFlags}
 use Rattle.plan_check.proofs.trees.flags_of.Given as goal
 
 abbrev pub invariant-loop-edge : goal.invariant-loop-edge
-invariant-loop-edge l = AreFlags l.machine (take l.edge-index l.edges) l.flags.items
+invariant-loop-edge l = (l.flags.machine.now ≡ l.machine) × AreFlags l.machine (take l.edge-index l.edges) l.flags.flags.items

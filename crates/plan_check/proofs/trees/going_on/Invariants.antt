@@ -1,10 +1,10 @@
 -- The chips of the edges passed have marks, and then those of the targets passed.
-use Rattle.std.proofs.Common.{[], take}
-use Rattle.plan_check.specs.Marks.{AreMarks, GoesOn}
+use Rattle.std.proofs.Common.{◌≡◌, [], take}
+use Rattle.plan_check.specs.Marks.{AreMarks, HasEdgeOrTarget}
 use Rattle.plan_check.proofs.trees.going_on.Given as goal
 
 abbrev pub invariant-loop-edge : goal.invariant-loop-edge
-invariant-loop-edge l = AreMarks l.machine (GoesOn (take l.edge-index l.edges) []) l.marks.items
+invariant-loop-edge l = (l.marks.machine.now ≡ l.machine) × AreMarks l.machine (HasEdgeOrTarget (take l.edge-index l.edges) []) l.marks.items.items
 
 abbrev pub invariant-loop-target : goal.invariant-loop-target
-invariant-loop-target l = AreMarks l.machine (GoesOn l.edges (take l.target-index l.targets)) l.marks.items
+invariant-loop-target l = (l.marks.machine.now ≡ l.machine) × AreMarks l.machine (HasEdgeOrTarget l.edges (take l.target-index l.targets)) l.marks.items.items

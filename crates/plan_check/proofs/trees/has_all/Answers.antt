@@ -1,13 +1,13 @@
 use Rattle.std.proofs.Common.{refl, arith}
 use Rattle.std.specs.Prelude.{All}
-use Rattle.list_laws.proofs.Tests.{fails, answers_no}
+use Rattle.spin_base.proofs.Tests.{fails, answers_no}
 use Rattle.spin_base.specs.declared.chips.Spot.{Spot}
-use Rattle.plan_check.specs.Marks.{IsMarked}
+use Rattle.plan_check.specs.Marks.{IsMarkedChip}
 use Rattle.plan_check.proofs.trees.has_all.Goals as goal
 
 pub returns-then-not-is_marked : goal.returns-then-not-is_marked
 returns-then-not-is_marked c =
-    answers_no (All (λ (s : Spot). IsMarked c.args.machine.now c.args.marks.now s.chip) c.args.targets.now) (λ all.
+    answers_no (All (λ (s : Spot). IsMarkedChip c.args.marks.now.machine.now c.args.marks.now.items.items s.chip) c.args.targets.now) (λ all.
     fails _ c.is_marked.result c.is_marked.ensures c.if-not-is_marked.true (all c.loop-target.target-index _ c.loop-target-test.true))
 
 pub returns : goal.returns

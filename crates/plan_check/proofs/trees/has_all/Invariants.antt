@@ -1,8 +1,8 @@
 -- The targets passed are on chips with marks.
 use Rattle.std.proofs.Common.{ℕ, ◌<◌, get_or}
 use Rattle.spin_base.specs.declared.chips.Spot.{Spot}
-use Rattle.plan_check.specs.Marks.{IsMarked}
+use Rattle.plan_check.specs.Marks.{IsMarkedChip}
 use Rattle.plan_check.proofs.trees.has_all.Given as goal
 
 abbrev pub invariant-loop-target : goal.invariant-loop-target
-invariant-loop-target l = (k : ℕ) (d : Spot) → k < l.target-index → IsMarked l.machine l.marks (get_or l.targets k d).chip
+invariant-loop-target l = (k : ℕ) (d : Spot) → k < l.target-index → IsMarkedChip l.marks.machine.now l.marks.items.items (get_or l.targets k d).chip

@@ -1,10 +1,11 @@
-use Rattle.std.proofs.Common.{◌≡◌, ℕ, ◌<◌, ◌↔◌, IsTrue, Bool, List, true, false, length, get_or, sym, subst}
+use Rattle.std.proofs.Common.{◌≡◌, ℕ, ◌<◌, ◌↔◌, IsTrue, List, Bool, true, false, length, get_or, sym, ◌∙◌, subst}
 use Rattle.std.specs.Prelude.{All}
-use Rattle.list_laws.proofs.Tests.{fails, answers_no}
+use Rattle.spin_base.proofs.Tests.{fails, answers_no}
 use Rattle.spin_base.specs.declared.chips.Spot.{Spot}
 use Rattle.machine_desc.specs.declared.trees.Edge.{Edge}
+use Rattle.machine_desc.specs.Description.{Description}
 use Rattle.machine_desc.specs.RoutingTree.{IsRoutingTree}
-use Rattle.plan_check.specs.Marks.{AreFlags, AreMarks, EntersOnce, IsMarked, IsReached}
+use Rattle.plan_check.specs.Marks.{AreMarks, EntersOnce, IsMarkedChip, IsReachedChip}
 use Rattle.plan_check.proofs.TreeLaws.{begins_marked, targets_marked, is_tree_tells, once_of, once_inside, has_inside}
 use Rattle.plan_check.proofs.trees.is_routed.Goals as goal
 
@@ -17,39 +18,61 @@ returns-then-not-branch c =
 pub flags_of-requires : goal.flags_of-requires
 flags_of-requires c = once_inside c.args.machine.now c.args.root c.args.edges.now (c.in_ok-enters_once.ensures.0 c.if-not-branch.false)
 
+pub reached_from-requires : goal.reached_from-requires
+reached_from-requires c = rw c.in_ok-flags.ensures.machine c.requires
+
 pub going_on-requires-clause-edges : goal.going_on-requires-clause-edges
 going_on-requires-clause-edges c = once_inside c.args.machine.now c.args.root c.args.edges.now (c.in_ok-enters_once.ensures.0 c.if-not-branch.false)
 
 pub going_on-requires-clause-targets : goal.going_on-requires-clause-targets
 going_on-requires-clause-targets c =
-    has_inside c.args.machine.now c.deref-3.result.now c.args.targets.now (c.has_all.ensures.0 c.if-not-has_all.false)
+    has_inside c.args.machine.now c.in_ok-reached.reached.items.items c.args.targets.now
+    (subst (λ (k : Description). All (λ (s : Spot). IsMarkedChip k c.in_ok-reached.reached.items.items s.chip) c.args.targets.now)
+    (c.in_ok-reached.ensures.machine ∙ c.in_ok-flags.ensures.machine) (c.has_all.ensures.0 c.if-not-has_all.false))
 
 pub returns-then-not-all_begin : goal.returns-then-not-all_begin
 returns-then-not-all_begin c =
-    let flags = subst (AreFlags c.args.machine.now c.args.edges.now) (sym c.deref.ensures.value) c.in_ok-flags.ensures in
-    let marks = subst (AreMarks c.args.machine.now (IsReached c.args.machine.now c.deref.result.now c.args.root)) (sym c.deref-2.ensures.value) c.in_ok-reached.ensures in
-    answers_no (IsRoutingTree c.args.machine.now c.args.root c.args.edges.now c.args.targets.now) (λ tree.
-    fails (All (λ (e : Edge). IsMarked c.args.machine.now c.deref-2.result.now e.chip) c.args.edges.now) c.all_begin.result c.all_begin.ensures c.if-not-all_begin.true
-    (begins_marked c.args.machine.now c.args.root c.args.edges.now c.args.targets.now c.deref.result.now c.deref-2.result.now c.requires flags marks tree))
+    let m = c.args.machine.now in
+    let flags = c.in_ok-flags.flags.flags.items in
+    let reached = c.in_ok-reached.reached.items.items in
+    let marks : AreMarks m (IsReachedChip m flags c.args.root) reached =
+    subst (λ (k : Description). AreMarks k (IsReachedChip k flags c.args.root) reached) c.in_ok-flags.ensures.machine c.in_ok-reached.ensures.marks in
+    answers_no (IsRoutingTree m c.args.root c.args.edges.now c.args.targets.now) (λ tree.
+    fails (All (λ (e : Edge). IsMarkedChip c.in_ok-reached.reached.machine.now reached e.chip) c.args.edges.now) c.all_begin.result c.all_begin.ensures c.if-not-all_begin.true
+    (subst (λ (k : Description). All (λ (e : Edge). IsMarkedChip k reached e.chip) c.args.edges.now) (sym (c.in_ok-reached.ensures.machine ∙ c.in_ok-flags.ensures.machine))
+    (begins_marked m c.args.root c.args.edges.now c.args.targets.now flags reached c.requires c.in_ok-flags.ensures.flags marks tree)))
 
 pub returns-then-not-has_all : goal.returns-then-not-has_all
 returns-then-not-has_all c =
-    let flags = subst (AreFlags c.args.machine.now c.args.edges.now) (sym c.deref.ensures.value) c.in_ok-flags.ensures in
-    let marks = subst (AreMarks c.args.machine.now (IsReached c.args.machine.now c.deref.result.now c.args.root)) (sym c.deref-3.ensures.value) c.in_ok-reached.ensures in
-    answers_no (IsRoutingTree c.args.machine.now c.args.root c.args.edges.now c.args.targets.now) (λ tree.
-    fails (All (λ (s : Spot). IsMarked c.args.machine.now c.deref-3.result.now s.chip) c.args.targets.now) c.has_all.result c.has_all.ensures c.if-not-has_all.true
-    (targets_marked c.args.machine.now c.args.root c.args.edges.now c.args.targets.now c.deref.result.now c.deref-3.result.now c.requires flags marks tree))
+    let m = c.args.machine.now in
+    let flags = c.in_ok-flags.flags.flags.items in
+    let reached = c.in_ok-reached.reached.items.items in
+    let marks : AreMarks m (IsReachedChip m flags c.args.root) reached =
+    subst (λ (k : Description). AreMarks k (IsReachedChip k flags c.args.root) reached) c.in_ok-flags.ensures.machine c.in_ok-reached.ensures.marks in
+    answers_no (IsRoutingTree m c.args.root c.args.edges.now c.args.targets.now) (λ tree.
+    fails (All (λ (s : Spot). IsMarkedChip c.in_ok-reached.reached.machine.now reached s.chip) c.args.targets.now) c.has_all.result c.has_all.ensures c.if-not-has_all.true
+    (subst (λ (k : Description). All (λ (s : Spot). IsMarkedChip k reached s.chip) c.args.targets.now) (sym (c.in_ok-reached.ensures.machine ∙ c.in_ok-flags.ensures.machine))
+    (targets_marked m c.args.root c.args.edges.now c.args.targets.now flags reached c.requires c.in_ok-flags.ensures.flags marks tree)))
+
+pub each_goes_on-requires : goal.each_goes_on-requires
+each_goes_on-requires c =
+    let marks = subst (λ (k : Description). AreMarks k (IsReachedChip k c.in_ok-flags.flags.flags.items c.args.root) c.in_ok-reached.reached.items.items) c.in_ok-flags.ensures.machine
+    c.in_ok-reached.ensures.marks in
+    rw (c.as_slice.ensures, c.as_slice-2.ensures) (c.in_ok-on.ensures.marks.long ∙ sym marks.long)
 
 pub returns : goal.returns
 returns c =
     let m = c.args.machine.now in
-    let reached : List Bool = c.in_ok-reached.reached.items in
-    let on : List Bool = c.in_ok-on.on.items in
-    let flags = subst (AreFlags m c.args.edges.now) (sym c.deref.ensures.value) c.in_ok-flags.ensures in
-    let begin = subst (λ l. All (λ (e : Edge). IsMarked m l e.chip) c.args.edges.now) c.deref-2.ensures.value (c.all_begin.ensures.0 c.if-not-all_begin.false) in
-    let has = subst (λ l. All (λ (s : Spot). IsMarked m l s.chip) c.args.targets.now) c.deref-3.ensures.value (c.has_all.ensures.0 c.if-not-has_all.false) in
-    let tells = subst (λ (l : List Bool). (IsTrue c.each_goes_on.result) ↔ ((i : ℕ) → i < length reached → get_or reached i false ≡ true → get_or l i false ≡ true)) c.deref-5.ensures.value
-    (subst (λ (l : List Bool). (IsTrue c.each_goes_on.result) ↔ ((i : ℕ) → i < length l → get_or l i false ≡ true → get_or c.deref-5.result.now i false ≡ true)) c.deref-4.ensures.value
+    let flags = c.in_ok-flags.flags.flags.items in
+    let reached : List Bool = c.in_ok-reached.reached.items.items in
+    let on : List Bool = c.in_ok-on.on.items.items in
+    let same = c.in_ok-reached.ensures.machine ∙ c.in_ok-flags.ensures.machine in
+    let marks : AreMarks m (IsReachedChip m flags c.args.root) reached =
+    subst (λ (k : Description). AreMarks k (IsReachedChip k flags c.args.root) reached) c.in_ok-flags.ensures.machine c.in_ok-reached.ensures.marks in
+    let begin = subst (λ (k : Description). All (λ (e : Edge). IsMarkedChip k reached e.chip) c.args.edges.now) same (c.all_begin.ensures.0 c.if-not-all_begin.false) in
+    let has = subst (λ (k : Description). All (λ (s : Spot). IsMarkedChip k reached s.chip) c.args.targets.now) same (c.has_all.ensures.0 c.if-not-has_all.false) in
+    let tells = subst (λ (l : List Bool). (IsTrue c.each_goes_on.result) ↔ ((i : ℕ) → i < length reached → get_or reached i false ≡ true → get_or l i false ≡ true)) c.as_slice-2.ensures
+    (subst (λ (l : List Bool). (IsTrue c.each_goes_on.result) ↔ ((i : ℕ) → i < length l → get_or l i false ≡ true → get_or c.as_slice-2.result.now i false ≡ true)) c.as_slice.ensures
     c.each_goes_on.ensures) in
-    is_tree_tells m c.args.root c.args.edges.now c.args.targets.now c.deref.result.now reached c.requires flags c.in_ok-reached.ensures on
-    (c.in_ok-enters_once.ensures.0 c.if-not-branch.false) begin has c.in_ok-on.ensures c.each_goes_on.result tells
+    is_tree_tells m c.args.root c.args.edges.now c.args.targets.now flags reached c.requires c.in_ok-flags.ensures.flags marks on
+    (c.in_ok-enters_once.ensures.0 c.if-not-branch.false) begin has c.in_ok-on.ensures.marks c.each_goes_on.result tells

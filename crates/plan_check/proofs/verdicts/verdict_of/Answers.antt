@@ -3,16 +3,16 @@ use Rattle.plan_check.proofs.verdicts.verdict_of.Goals as goal
 
 pub returns-in-Some : goal.returns-in-Some
 returns-in-Some c =
-    verdict_found c.args.machine.now c.args.image.now c.args.nets.now c.loop-at.at c.index-nets-at.result c.loop-at-test.true c.index-nets-at.is
-    c.first_flaw.result c.in-Some.chip c.in-Some.flaw c.told_of.result c.in-Some.is c.first_flaw.ensures c.loop-at.invariant.0 c.told_of.ensures
+    verdict_found c.args.tables.now.machine.now c.args.tables.now.image.now c.args.nets.now c.loop-at.at c.index-nets-at.result c.loop-at-test.true c.index-nets-at.is
+    c.first_flaw.result c.in-Some.chip c.in-Some.flaw c.verdict_from.result c.in-Some.is c.first_flaw.ensures c.loop-at.invariant.0 c.verdict_from.ensures
 
 pub loop-at-preserved : goal.loop-at-preserved
 loop-at-preserved c = (
-  nets_more c.args.machine.now c.args.image.now c.args.nets.now c.loop-at.at c.index-nets-at.result c.loop-at-test.true c.index-nets-at.is
+  nets_more c.args.tables.now.machine.now c.args.tables.now.image.now c.args.nets.now c.loop-at.at c.index-nets-at.result c.loop-at-test.true c.index-nets-at.is
       c.first_flaw.result c.in_default.is c.first_flaw.ensures c.loop-at.invariant.0,
   c.set_ports.ensures.long,
   c.set_routes.ensures.long,
 )
 
 pub returns : goal.returns
-returns c = all_fine c.args.machine.now c.args.image.now c.args.nets.now c.loop-at.at c.loop-at-test.false c.loop-at.invariant.0
+returns c = all_fine c.args.tables.now.machine.now c.args.tables.now.image.now c.args.nets.now c.loop-at.at c.loop-at-test.false c.loop-at.invariant.0

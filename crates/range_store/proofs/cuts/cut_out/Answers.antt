@@ -1,5 +1,5 @@
 use Rattle.std.proofs.Common.{arith, set, ◌-◌, Some, sym, ap, ◌∙◌, ◌++◌, take, drop, ◌+◌}
-use Rattle.range_store.specs.Regions.{rest_of, end_of}
+use Rattle.range_store.specs.Regions.{rest_of, hole_end}
 use Rattle.range_store.proofs.RunLemmas.{read_hole, cut_none, cut_left, cut_right, cut_both}
 use Rattle.range_store.proofs.cuts.cut_out.Goals as goal
 
@@ -49,7 +49,7 @@ pub returns-in_ok-insert-in_default-clause-ok : goal.returns-in_ok-insert-in_def
 returns-in_ok-insert-in_default-clause-ok c h is =
     let xs = c.args.holes.now.items in
     let f = read_hole xs c.args.at c.args.place c.args.size c.index-hole.result.now c.requires.fits c.index-hole.ensures c.requires.runs in
-    ap (λ l. set l (c.args.at + 1) (record { place = c.args.place + c.args.size; len = end_of c.index-hole.result.now - (c.args.place + c.args.size) }))
+    ap (λ l. set l (c.args.at + 1) (record { place = c.args.place + c.args.size; len = hole_end c.index-hole.result.now - (c.args.place + c.args.size) }))
     c.in_ok-insert-in_default.ensures.items
     ∙ cut_both xs c.args.at c.args.place c.args.size c.index-hole.result.now c.requires.fits.inside f.0 f.1 c.in_default.is-0.1 c.in_default.is-1.1
     (c.requires.fits.is ∙ ap Some (sym (f.3 c.requires.fits.hole c.requires.fits.is)))

@@ -3,9 +3,9 @@ use Rattle.std.specs.List.{zip}
 use Rattle.std.specs.Option.{option_map}
 use Rattle.std.proofs.lemmas.Option.{slice_get-map}
 use Rattle.spin_base.specs.declared.blocks.Block.{Block}
-use Rattle.net_tables.specs.declared.nets.NetPlan.{NetPlan}
+use Rattle.machine_desc.specs.declared.nets.NetPlan.{NetPlan}
 use Rattle.app_graph.specs.declared.graphs.Net.{Net}
-use Rattle.list_laws.proofs.Places.{zip_more}
+use Rattle.spin_base.proofs.Places.{zip_more}
 use Rattle.run_report.proofs.lists.keys_of.Goals as goal
 
 pub loop-i-preserved : goal.loop-i-preserved

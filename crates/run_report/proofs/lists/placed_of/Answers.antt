@@ -4,7 +4,7 @@ use Rattle.std.specs.Option.{option_map}
 use Rattle.std.proofs.lemmas.Option.{slice_get-map}
 use Rattle.spin_base.specs.declared.chips.Spot.{Spot}
 use Rattle.app_graph.specs.declared.graphs.Vertex.{Vertex}
-use Rattle.list_laws.proofs.Places.{zip_more}
+use Rattle.spin_base.proofs.Places.{zip_more}
 use Rattle.run_report.proofs.lists.placed_of.Goals as goal
 
 pub loop-i-preserved : goal.loop-i-preserved

@@ -1,5 +1,5 @@
 use Rattle.std.proofs.Common.{◌≡◌, ◌++◌, take, string_bytes}
-use Rattle.list_laws.specs.Gathered.{gathered}
+use Rattle.spin_base.specs.Gathered.{gathered}
 use Rattle.run_report.specs.ReportText.{event_line}
 use Rattle.run_report.proofs.texts.put_events.Given as goal
 

@@ -1,5 +1,5 @@
 use Rattle.std.proofs.Common.{◌≡◌, ◌++◌, take}
-use Rattle.list_laws.specs.Gathered.{gathered}
+use Rattle.spin_base.specs.Gathered.{gathered}
 use Rattle.run_report.specs.RunReport.{core_waits}
 use Rattle.run_report.proofs.waits.put_cores.Given as goal
 

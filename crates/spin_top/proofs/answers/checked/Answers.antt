@@ -1,6 +1,6 @@
 use Rattle.std.proofs.Common.{refl}
-use Rattle.job_bytes.specs.Inputs.{Reading}
-use Rattle.job_bytes.proofs.JobBytes.{err_carried}
+use Rattle.spin_input.specs.Inputs.{Reading}
+use Rattle.spin_input.proofs.JobBytes.{err_carried}
 use Rattle.spin_top.specs.Causes.{HasCause, of_request}
 use Rattle.spin_top.specs.Inputs.{no_value}
 use Rattle.spin_top.specs.Made.{checked}

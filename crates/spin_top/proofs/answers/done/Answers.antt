@@ -1,7 +1,7 @@
 use Rattle.std.proofs.Common.{refl}
-use Rattle.refusals.specs.declared.causes.Refusal.TheVariants as refusals
-use Rattle.job_bytes.specs.Inputs.{Reading}
-use Rattle.job_bytes.proofs.JobBytes.{err_carried}
+use Rattle.run_report.specs.declared.causes.Refusal.TheVariants as refusals
+use Rattle.spin_input.specs.Inputs.{Reading}
+use Rattle.spin_input.proofs.JobBytes.{err_carried}
 use Rattle.spin_top.specs.Causes.{HasCause, of_steps}
 use Rattle.spin_top.specs.Inputs.{no_value}
 use Rattle.spin_top.specs.Made.{done}

@@ -1,6 +1,6 @@
 use Rattle.std.proofs.Common.{refl}
-use Rattle.job_bytes.specs.Inputs.{Reading}
-use Rattle.job_bytes.proofs.JobBytes.{err_carried}
+use Rattle.spin_input.specs.Inputs.{Reading}
+use Rattle.spin_input.proofs.JobBytes.{err_carried}
 use Rattle.spin_top.specs.Causes.{HasCause}
 use Rattle.spin_top.specs.Made.{from_job}
 use Rattle.spin_top.proofs.EndLaws.{cause_with_job, cause_without_job, job_of_number}

@@ -1,9 +1,9 @@
 use Rattle.std.proofs.Common.{Option, refl, sym, subst, inl, inr}
 use Rattle.app_loads.specs.Host.{Host}
-use Rattle.command_words.specs.Commands.{texts_of}
-use Rattle.refusals.specs.declared.causes.Refusal.TheVariants as refusals
-use Rattle.job_bytes.specs.Inputs.{Reading}
-use Rattle.job_words.specs.declared.outcomes.Parts.{Parts}
+use Rattle.spin_words.specs.Commands.{texts_of}
+use Rattle.run_report.specs.declared.causes.Refusal.TheVariants as refusals
+use Rattle.spin_input.specs.Inputs.{Reading}
+use Rattle.spin_jobs.specs.declared.outcomes.Parts.{Parts}
 use Rattle.spin_top.specs.Causes.{no_memory}
 use Rattle.spin_top.specs.Ends.{made, refused}
 use Rattle.spin_top.specs.Made.{IsMade}

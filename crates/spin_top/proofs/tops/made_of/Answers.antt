@@ -1,5 +1,5 @@
 use Rattle.std.proofs.Common.{Some, sym, ap, ◌∙◌}
-use Rattle.command_words.specs.Commands.{texts_of}
+use Rattle.spin_words.specs.Commands.{texts_of}
 use Rattle.spin_top.proofs.tops.made_of.Goals as goal
 
 pub returns-in-OfJob-clause-made : goal.returns-in-OfJob-clause-made

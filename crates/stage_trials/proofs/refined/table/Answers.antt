@@ -1,6 +1,6 @@
 -- The size is 2 to the power 4. The four rows have the route that they were given.
 use Rattle.std.proofs.Common.{refl, sym, subst, ◌∷◌, [], ◌∙◌}
-use Rattle.cover_checks.specs.Merge.{IsOneRoute}
+use Rattle.cover_merge.specs.Merge.{IsOneRoute}
 use Rattle.stage_trials.proofs.FourOfFive.{four_of_five}
 use Rattle.stage_trials.proofs.refined.table.Goals as goal
 

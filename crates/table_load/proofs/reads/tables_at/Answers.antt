@@ -1,22 +1,22 @@
 use Rattle.std.proofs.Common.{None}
 use Rattle.std.proofs.lemmas.Result.{err_from_is_err_and}
-use Rattle.table_load.specs.Reading.{tables_at}
+use Rattle.table_load.specs.Reading.{read_tables}
 use Rattle.table_load.proofs.TableReads.{goes_on, ends, is_done}
 use Rattle.table_load.proofs.reads.tables_at.Goals as goal
 
 pub returns-in_err-table : goal.returns-in_err-table
 returns-in_err-table c =
     let p = err_from_is_err_and c.from_residual-in_err-table.result c.from_residual-in_err-table.ensures.1 in
-    rw (p.1, p.2) (ends c.args.width c.args.height c.loop.tables.items c.args.count c.loop.counter c.loop.before c.loop.rest.now (tables_at c.args.width c.args.height c.args.count None c.args.bytes.now)
+    rw (p.1, p.2) (ends c.args.width c.args.height c.loop.tables.items c.args.count c.loop.counter c.loop.before c.loop.rest.now (read_tables c.args.width c.args.height c.args.count None c.args.bytes.now)
     c.loop.invariant c.in_err-table.field-0.0 c.loop-test.true c.in_err-table.ensures)
 
 pub loop-preserved : goal.loop-preserved
 loop-preserved c =
     rw c.in_ok-push.ensures.items
-    (goes_on c.args.width c.args.height c.loop.tables.items c.args.count c.loop.counter c.loop.before c.loop.rest.now (tables_at c.args.width c.args.height c.args.count None c.args.bytes.now)
+    (goes_on c.args.width c.args.height c.loop.tables.items c.args.count c.loop.counter c.loop.before c.loop.rest.now (read_tables c.args.width c.args.height c.args.count None c.args.bytes.now)
     c.loop.invariant c.in_ok-table.table c.in_ok-table.after.now c.loop-test.true c.in_ok-table.ensures)
 
 pub returns : goal.returns
 returns c =
-    is_done c.args.width c.args.height c.loop.tables.items c.args.count c.loop.counter c.loop.before c.loop.rest.now (tables_at c.args.width c.args.height c.args.count None c.args.bytes.now)
+    is_done c.args.width c.args.height c.loop.tables.items c.args.count c.loop.counter c.loop.before c.loop.rest.now (read_tables c.args.width c.args.height c.args.count None c.args.bytes.now)
     c.loop.invariant c.loop-test.false

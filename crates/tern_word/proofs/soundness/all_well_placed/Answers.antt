@@ -1,7 +1,7 @@
 -- The table is sound where no row is badly placed.
 use Rattle.std.proofs.Common.{refl, arith}
 use borrow.Author.Count.{below_more}
-use Rattle.list_laws.proofs.Tests.{answers_no, fails}
+use Rattle.spin_base.proofs.Tests.{answers_no, fails}
 use Rattle.tern_word.specs.SoundTable.{IsSound}
 use Rattle.tern_word.specs.Placed.{IsWellPlaced}
 use Rattle.tern_word.proofs.Placing.{placed_from_sound, sound_from_placed}

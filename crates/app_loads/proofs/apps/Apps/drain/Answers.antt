@@ -1,5 +1,5 @@
 use Rattle.app_loads.proofs.Hosts.{apps_after_in, host_after, host_kept, host_moved}
-use Rattle.packet_runs.proofs.Moving.{after_moved}
+use Rattle.mesh_drain.proofs.Moving.{after_moved}
 use Rattle.app_loads.proofs.apps.Apps.drain.Goals as goal
 
 pub drain-requires : goal.drain-requires

@@ -13,10 +13,10 @@ use Rattle.app_loads.specs.Applications.{AreApps}
 use Rattle.app_loads.specs.Claims.{claims_of}
 use Rattle.app_loads.specs.Host.{Host, is_loaded}
 use Rattle.app_loads.specs.Inner.{host_of, mesh_in}
-use Rattle.app_loads.specs.Joining.{IsServed, IsSettled}
+use Rattle.app_loads.specs.Joining.{IsServedApp, IsSettled}
 use Rattle.app_loads.specs.Loading.{HasLoaded, IsWhyNotLoaded}
 use Rattle.app_loads.specs.Plans.{MayLoad}
-use Rattle.app_loads.specs.Regions.{AreApart, AreFreeBeside}
+use Rattle.app_loads.specs.Regions.{ShareNoPlace, AreFreeBeside}
 use Rattle.app_loads.specs.Taking.{IsDueAlways, frees}
 use Rattle.app_loads.proofs.LoadedParts.{can_join, err_host, err_same, err_why, never_none, on_ok, ok_apps, ok_host, ok_loaded, on_err, one_host, packets_fit, spots_inside, spots_numbered, still_host, table_long}
 use Rattle.app_loads.proofs.apps.Apps.load.Goals as goal
@@ -51,25 +51,23 @@ returns-in_default-clause-apps c = absurd (never_none c.self.inside.mesh c.take.
 pub join-mesh-requires : goal.join-mesh-requires
 join-mesh-requires c = can_join c.self.inside c.in-Some.mesh (sym c.take.ensures.value ∙ c.in-Some.is) c.self.invariant c.args.number c.args.plan.now (subst (λ (x : Host). MayLoad x c.args.plan.now) (sym c.self.view_is) c.requires) c.deref_mut.result.now c.deref_mut.ensures.value
 
-pub mark_spots-requires-clause-long : goal.mark_spots-requires-clause-long
-mark_spots-requires-clause-long c = table_long c.self.inside c.in-Some.mesh (sym c.take.ensures.value ∙ c.in-Some.is) c.self.invariant c.args.number c.args.plan.now (subst (λ (x : Host). MayLoad x c.args.plan.now) (sym c.self.view_is) c.requires) c.deref_mut.result.now c.deref_mut.ensures.value c.machine.result.now (c.machine.ensures ∙ ap (λ (s : State). s.setup.machine) (IfOk-at_ok (λ (a : LoadedApp). IsSettled a c.in-Some.mesh c.join-mesh.result.0) c.in-Ok.is c.join-mesh.ensures.settled).mesh) c.deref_mut-in-Ok.result.now c.deref_mut-in-Ok.ensures.value
-
-pub mark_spots-requires-clause-inside : goal.mark_spots-requires-clause-inside
-mark_spots-requires-clause-inside c = spots_inside c.self.inside c.in-Some.mesh (sym c.take.ensures.value ∙ c.in-Some.is) c.self.invariant c.args.number c.args.plan.now (subst (λ (x : Host). MayLoad x c.args.plan.now) (sym c.self.view_is) c.requires) c.deref_mut.result.now c.deref_mut.ensures.value c.in-Ok.app (IfOk-at_ok (λ (a : LoadedApp). IsServed c.in-Some.mesh.setup.machine c.deref_mut.result.now c.args.number c.self.inside.packets c.args.plan.now a c.join-mesh.new.regions) c.in-Ok.is c.join-mesh.ensures.served).plan_is c.machine.result.now (c.machine.ensures ∙ ap (λ (s : State). s.setup.machine) (IfOk-at_ok (λ (a : LoadedApp). IsSettled a c.in-Some.mesh c.join-mesh.result.0) c.in-Ok.is c.join-mesh.ensures.settled).mesh) c.as_slice.result.now c.as_slice.ensures
-
-pub mark_spots-requires-clause-numbered : goal.mark_spots-requires-clause-numbered
-mark_spots-requires-clause-numbered c = spots_numbered c.self.inside c.in-Some.mesh (sym c.take.ensures.value ∙ c.in-Some.is) c.self.invariant c.args.number c.args.plan.now (subst (λ (x : Host). MayLoad x c.args.plan.now) (sym c.self.view_is) c.requires) c.deref_mut.result.now c.deref_mut.ensures.value c.in-Ok.app (IfOk-at_ok (λ (a : LoadedApp). IsServed c.in-Some.mesh.setup.machine c.deref_mut.result.now c.args.number c.self.inside.packets c.args.plan.now a c.join-mesh.new.regions) c.in-Ok.is c.join-mesh.ensures.served).plan_is c.as_slice.result.now c.as_slice.ensures
+pub mark_spots-requires : goal.mark_spots-requires
+mark_spots-requires c = record {
+  long = table_long c.self.inside c.in-Some.mesh (sym c.take.ensures.value ∙ c.in-Some.is) c.self.invariant c.args.number c.args.plan.now (subst (λ (x : Host). MayLoad x c.args.plan.now) (sym c.self.view_is) c.requires) c.deref_mut.result.now c.deref_mut.ensures.value c.machine.result.now (c.machine.ensures ∙ ap (λ (s : State). s.setup.machine) (IfOk-at_ok (λ (a : LoadedApp). IsSettled a c.in-Some.mesh c.join-mesh.result.0) c.in-Ok.is c.join-mesh.ensures.settled).mesh) c.deref_mut-in-Ok.result.now c.deref_mut-in-Ok.ensures.value;
+  inside = spots_inside c.self.inside c.in-Some.mesh (sym c.take.ensures.value ∙ c.in-Some.is) c.self.invariant c.args.number c.args.plan.now (subst (λ (x : Host). MayLoad x c.args.plan.now) (sym c.self.view_is) c.requires) c.deref_mut.result.now c.deref_mut.ensures.value c.in-Ok.app (IfOk-at_ok (λ (a : LoadedApp). IsServedApp c.in-Some.mesh.setup.machine c.deref_mut.result.now c.args.number c.self.inside.packets c.args.plan.now a c.join-mesh.new.regions) c.in-Ok.is c.join-mesh.ensures.served).plan_is c.machine.result.now (c.machine.ensures ∙ ap (λ (s : State). s.setup.machine) (IfOk-at_ok (λ (a : LoadedApp). IsSettled a c.in-Some.mesh c.join-mesh.result.0) c.in-Ok.is c.join-mesh.ensures.settled).mesh) c.as_slice.result.now c.as_slice.ensures;
+  numbered = spots_numbered c.self.inside c.in-Some.mesh (sym c.take.ensures.value ∙ c.in-Some.is) c.self.invariant c.args.number c.args.plan.now (subst (λ (x : Host). MayLoad x c.args.plan.now) (sym c.self.view_is) c.requires) c.deref_mut.result.now c.deref_mut.ensures.value c.in-Ok.app (IfOk-at_ok (λ (a : LoadedApp). IsServedApp c.in-Some.mesh.setup.machine c.deref_mut.result.now c.args.number c.self.inside.packets c.args.plan.now a c.join-mesh.new.regions) c.in-Ok.is c.join-mesh.ensures.served).plan_is c.as_slice.result.now c.as_slice.ensures;
+}
 
 pub overflow_cast-self : goal.overflow_cast-self
 overflow_cast-self c =
     let fit = packets_fit c.self.inside c.in-Some.mesh (sym c.take.ensures.value ∙ c.in-Some.is) c.self.invariant c.args.number c.args.plan.now (subst (λ (x : Host). MayLoad x c.args.plan.now) (sym c.self.view_is) c.requires) c.deref_mut.result.now c.deref_mut.ensures.value in
-    let long = c.len.ensures ∙ ap (λ (p : AppPlan). length p.packets) (IfOk-at_ok (λ (a : LoadedApp). IsServed c.in-Some.mesh.setup.machine c.deref_mut.result.now c.args.number c.self.inside.packets c.args.plan.now a c.join-mesh.new.regions) c.in-Ok.is c.join-mesh.ensures.served).plan_is in
+    let long = c.len.ensures ∙ ap (λ (p : AppPlan). length p.packets) (IfOk-at_ok (λ (a : LoadedApp). IsServedApp c.in-Some.mesh.setup.machine c.deref_mut.result.now c.args.number c.self.inside.packets c.args.plan.now a c.join-mesh.new.regions) c.in-Ok.is c.join-mesh.ensures.served).plan_is in
     record { fits = omega (arith, fit, long) }
 
 pub overflow_add-self : goal.overflow_add-self
 overflow_add-self c =
     let fit = packets_fit c.self.inside c.in-Some.mesh (sym c.take.ensures.value ∙ c.in-Some.is) c.self.invariant c.args.number c.args.plan.now (subst (λ (x : Host). MayLoad x c.args.plan.now) (sym c.self.view_is) c.requires) c.deref_mut.result.now c.deref_mut.ensures.value in
-    let long = c.len.ensures ∙ ap (λ (p : AppPlan). length p.packets) (IfOk-at_ok (λ (a : LoadedApp). IsServed c.in-Some.mesh.setup.machine c.deref_mut.result.now c.args.number c.self.inside.packets c.args.plan.now a c.join-mesh.new.regions) c.in-Ok.is c.join-mesh.ensures.served).plan_is in
+    let long = c.len.ensures ∙ ap (λ (p : AppPlan). length p.packets) (IfOk-at_ok (λ (a : LoadedApp). IsServedApp c.in-Some.mesh.setup.machine c.deref_mut.result.now c.args.number c.self.inside.packets c.args.plan.now a c.join-mesh.new.regions) c.in-Ok.is c.join-mesh.ensures.served).plan_is in
     record { fits = omega (arith, fit, long) }
 
 pub push_reserved-requires : goal.push_reserved-requires
@@ -79,17 +77,17 @@ push_reserved-requires c =
 
 pub invariant_of-self-in-Ok : goal.invariant_of-self-in-Ok
 invariant_of-self-in-Ok c =
-    ok_host c.self.inside c.in-Some.mesh (sym c.take.ensures.value ∙ c.in-Some.is) c.self.invariant c.args.number c.args.plan.now (subst (λ (x : Host). MayLoad x c.args.plan.now) (sym c.self.view_is) c.requires) c.deref_mut.result.now c.deref_mut.ensures.value (ap (λ (x : Host). is_loaded x.apps c.args.number) c.self.view_is ∙ (sym c.loaded.ensures ∙ c.if-loaded.false)) c.join-mesh.new.regions c.in-Ok.app c.join-mesh.result.0 (IfOk-at_ok (λ (a : LoadedApp). IsServed c.in-Some.mesh.setup.machine c.deref_mut.result.now c.args.number c.self.inside.packets c.args.plan.now a c.join-mesh.new.regions) c.in-Ok.is c.join-mesh.ensures.served) (IfOk-at_ok (λ (a : LoadedApp). IsSettled a c.in-Some.mesh c.join-mesh.result.0) c.in-Ok.is c.join-mesh.ensures.settled) (record { mesh = c.put.new.held; regions = with_items c.self.inside.regions c.join-mesh.new.regions; apps = c.push_reserved.new.self; packets = c.self.inside.packets + c.len.result; taken = with_items c.self.inside.taken c.mark_spots.new.taken }) c.put.ensures (with_items_is c.self.inside.regions c.join-mesh.new.regions (let a = c.join-mesh.auto.regions in let b = ap length c.deref_mut.ensures.value in let d = c.self.inside.regions.ok in omega (arith, a, b, d))) (c.push_reserved.ensures.items ∙ ap (λ (l : List LoadedApp). l ++ c.in-Ok.app ∷ []) c.reserve.ensures.items) (ap (λ n. c.self.inside.packets + n) (c.len.ensures ∙ ap (λ (p : AppPlan). length p.packets) (IfOk-at_ok (λ (a : LoadedApp). IsServed c.in-Some.mesh.setup.machine c.deref_mut.result.now c.args.number c.self.inside.packets c.args.plan.now a c.join-mesh.new.regions) c.in-Ok.is c.join-mesh.ensures.served).plan_is)) c.machine.result.now c.deref_mut-in-Ok.result.now c.mark_spots.new.taken c.as_slice.result.now (c.machine.ensures ∙ ap (λ (s : State). s.setup.machine) (IfOk-at_ok (λ (a : LoadedApp). IsSettled a c.in-Some.mesh c.join-mesh.result.0) c.in-Ok.is c.join-mesh.ensures.settled).mesh) c.deref_mut-in-Ok.ensures.value c.as_slice.ensures c.mark_spots.ensures
+    ok_host c.self.inside c.in-Some.mesh (sym c.take.ensures.value ∙ c.in-Some.is) c.self.invariant c.args.number c.args.plan.now (subst (λ (x : Host). MayLoad x c.args.plan.now) (sym c.self.view_is) c.requires) c.deref_mut.result.now c.deref_mut.ensures.value (ap (λ (x : Host). is_loaded x.apps c.args.number) c.self.view_is ∙ (sym c.loaded.ensures ∙ c.if-loaded.false)) c.join-mesh.new.regions c.in-Ok.app c.join-mesh.result.0 (IfOk-at_ok (λ (a : LoadedApp). IsServedApp c.in-Some.mesh.setup.machine c.deref_mut.result.now c.args.number c.self.inside.packets c.args.plan.now a c.join-mesh.new.regions) c.in-Ok.is c.join-mesh.ensures.served) (IfOk-at_ok (λ (a : LoadedApp). IsSettled a c.in-Some.mesh c.join-mesh.result.0) c.in-Ok.is c.join-mesh.ensures.settled) (record { mesh = c.put.new.held; regions = with_items c.self.inside.regions c.join-mesh.new.regions; apps = c.push_reserved.new.self; packets = c.self.inside.packets + c.len.result; taken = with_items c.self.inside.taken c.mark_spots.new.taken }) c.put.ensures (with_items_is c.self.inside.regions c.join-mesh.new.regions (let a = c.join-mesh.auto.regions in let b = ap length c.deref_mut.ensures.value in let d = c.self.inside.regions.ok in omega (arith, a, b, d))) (c.push_reserved.ensures.items ∙ ap (λ (l : List LoadedApp). l ++ c.in-Ok.app ∷ []) c.reserve.ensures.items) (ap (λ n. c.self.inside.packets + n) (c.len.ensures ∙ ap (λ (p : AppPlan). length p.packets) (IfOk-at_ok (λ (a : LoadedApp). IsServedApp c.in-Some.mesh.setup.machine c.deref_mut.result.now c.args.number c.self.inside.packets c.args.plan.now a c.join-mesh.new.regions) c.in-Ok.is c.join-mesh.ensures.served).plan_is)) c.machine.result.now c.deref_mut-in-Ok.result.now c.mark_spots.new.taken c.as_slice.result.now (c.machine.ensures ∙ ap (λ (s : State). s.setup.machine) (IfOk-at_ok (λ (a : LoadedApp). IsSettled a c.in-Some.mesh c.join-mesh.result.0) c.in-Ok.is c.join-mesh.ensures.settled).mesh) c.deref_mut-in-Ok.ensures.value c.as_slice.ensures c.mark_spots.ensures
     (with_items_is c.self.inside.taken c.mark_spots.new.taken (let a = c.mark_spots.ensures.long in let b = ap length c.deref_mut-in-Ok.ensures.value in let d = c.self.inside.taken.ok in omega (arith, a, b, d)))
 
 pub invariant_of-self-in-Err : goal.invariant_of-self-in-Err
-invariant_of-self-in-Err c = err_host c.self.inside c.in-Some.mesh (sym c.take.ensures.value ∙ c.in-Some.is) c.self.invariant c.args.number c.args.plan.now (subst (λ (x : Host). MayLoad x c.args.plan.now) (sym c.self.view_is) c.requires) c.deref_mut.result.now c.deref_mut.ensures.value (record { mesh = c.put-in-Err.new.held; regions = with_items c.self.inside.regions c.join-mesh.new.regions; apps = c.reserve.new.self; packets = c.self.inside.packets; taken = c.self.inside.taken }) c.join-mesh.result.0 (on_err (c.join-mesh.result.0 ≡ c.in-Some.mesh) c.join-mesh.result.1 c.in-Err.refusal c.in-Err.is c.join-mesh.ensures.mesh_refused) c.join-mesh.new.regions (on_err ((m : Description) (taken : List Range) → AllPairs AreApart taken → AreFreeBeside m taken (frees c.deref_mut.result.now) → AreFreeBeside m taken (frees c.join-mesh.new.regions)) c.join-mesh.result.1 c.in-Err.refusal c.in-Err.is c.join-mesh.ensures.back) c.put-in-Err.ensures (with_items_is c.self.inside.regions c.join-mesh.new.regions (let a = c.join-mesh.auto.regions in let b = ap length c.deref_mut.ensures.value in let d = c.self.inside.regions.ok in omega (arith, a, b, d))) c.reserve.ensures.items refl refl
+invariant_of-self-in-Err c = err_host c.self.inside c.in-Some.mesh (sym c.take.ensures.value ∙ c.in-Some.is) c.self.invariant c.args.number c.args.plan.now (subst (λ (x : Host). MayLoad x c.args.plan.now) (sym c.self.view_is) c.requires) c.deref_mut.result.now c.deref_mut.ensures.value (record { mesh = c.put-in-Err.new.held; regions = with_items c.self.inside.regions c.join-mesh.new.regions; apps = c.reserve.new.self; packets = c.self.inside.packets; taken = c.self.inside.taken }) c.join-mesh.result.0 (on_err (c.join-mesh.result.0 ≡ c.in-Some.mesh) c.join-mesh.result.1 c.in-Err.refusal c.in-Err.is c.join-mesh.ensures.mesh_refused) c.join-mesh.new.regions (on_err ((m : Description) (taken : List Range) → AllPairs ShareNoPlace taken → AreFreeBeside m taken (frees c.deref_mut.result.now) → AreFreeBeside m taken (frees c.join-mesh.new.regions)) c.join-mesh.result.1 c.in-Err.refusal c.in-Err.is c.join-mesh.ensures.back) c.put-in-Err.ensures (with_items_is c.self.inside.regions c.join-mesh.new.regions (let a = c.join-mesh.auto.regions in let b = ap length c.deref_mut.ensures.value in let d = c.self.inside.regions.ok in omega (arith, a, b, d))) c.reserve.ensures.items refl refl
 
 pub returns-in-Ok-clause-loaded : goal.returns-in-Ok-clause-loaded
-returns-in-Ok-clause-loaded c = subst (λ (x : Host). HasLoaded x c.args.number c.args.plan.now (host_of (record { mesh = c.put.new.held; regions = with_items c.self.inside.regions c.join-mesh.new.regions; apps = c.push_reserved.new.self; packets = c.self.inside.packets + c.len.result; taken = with_items c.self.inside.taken c.mark_spots.new.taken }))) c.self.view_is (ok_loaded c.self.inside c.in-Some.mesh (sym c.take.ensures.value ∙ c.in-Some.is) c.self.invariant c.args.number c.args.plan.now (subst (λ (x : Host). MayLoad x c.args.plan.now) (sym c.self.view_is) c.requires) c.deref_mut.result.now c.deref_mut.ensures.value (ap (λ (x : Host). is_loaded x.apps c.args.number) c.self.view_is ∙ (sym c.loaded.ensures ∙ c.if-loaded.false)) c.join-mesh.new.regions c.in-Ok.app c.join-mesh.result.0 (IfOk-at_ok (λ (a : LoadedApp). IsServed c.in-Some.mesh.setup.machine c.deref_mut.result.now c.args.number c.self.inside.packets c.args.plan.now a c.join-mesh.new.regions) c.in-Ok.is c.join-mesh.ensures.served) (IfOk-at_ok (λ (a : LoadedApp). IsSettled a c.in-Some.mesh c.join-mesh.result.0) c.in-Ok.is c.join-mesh.ensures.settled) (record { mesh = c.put.new.held; regions = with_items c.self.inside.regions c.join-mesh.new.regions; apps = c.push_reserved.new.self; packets = c.self.inside.packets + c.len.result; taken = with_items c.self.inside.taken c.mark_spots.new.taken }) c.put.ensures (with_items_is c.self.inside.regions c.join-mesh.new.regions (let a = c.join-mesh.auto.regions in let b = ap length c.deref_mut.ensures.value in let d = c.self.inside.regions.ok in omega (arith, a, b, d))) (c.push_reserved.ensures.items ∙ ap (λ (l : List LoadedApp). l ++ c.in-Ok.app ∷ []) c.reserve.ensures.items) (ap (λ n. c.self.inside.packets + n) (c.len.ensures ∙ ap (λ (p : AppPlan). length p.packets) (IfOk-at_ok (λ (a : LoadedApp). IsServed c.in-Some.mesh.setup.machine c.deref_mut.result.now c.args.number c.self.inside.packets c.args.plan.now a c.join-mesh.new.regions) c.in-Ok.is c.join-mesh.ensures.served).plan_is)))
+returns-in-Ok-clause-loaded c = subst (λ (x : Host). HasLoaded x c.args.number c.args.plan.now (host_of (record { mesh = c.put.new.held; regions = with_items c.self.inside.regions c.join-mesh.new.regions; apps = c.push_reserved.new.self; packets = c.self.inside.packets + c.len.result; taken = with_items c.self.inside.taken c.mark_spots.new.taken }))) c.self.view_is (ok_loaded c.self.inside c.in-Some.mesh (sym c.take.ensures.value ∙ c.in-Some.is) c.self.invariant c.args.number c.args.plan.now (subst (λ (x : Host). MayLoad x c.args.plan.now) (sym c.self.view_is) c.requires) c.deref_mut.result.now c.deref_mut.ensures.value (ap (λ (x : Host). is_loaded x.apps c.args.number) c.self.view_is ∙ (sym c.loaded.ensures ∙ c.if-loaded.false)) c.join-mesh.new.regions c.in-Ok.app c.join-mesh.result.0 (IfOk-at_ok (λ (a : LoadedApp). IsServedApp c.in-Some.mesh.setup.machine c.deref_mut.result.now c.args.number c.self.inside.packets c.args.plan.now a c.join-mesh.new.regions) c.in-Ok.is c.join-mesh.ensures.served) (IfOk-at_ok (λ (a : LoadedApp). IsSettled a c.in-Some.mesh c.join-mesh.result.0) c.in-Ok.is c.join-mesh.ensures.settled) (record { mesh = c.put.new.held; regions = with_items c.self.inside.regions c.join-mesh.new.regions; apps = c.push_reserved.new.self; packets = c.self.inside.packets + c.len.result; taken = with_items c.self.inside.taken c.mark_spots.new.taken }) c.put.ensures (with_items_is c.self.inside.regions c.join-mesh.new.regions (let a = c.join-mesh.auto.regions in let b = ap length c.deref_mut.ensures.value in let d = c.self.inside.regions.ok in omega (arith, a, b, d))) (c.push_reserved.ensures.items ∙ ap (λ (l : List LoadedApp). l ++ c.in-Ok.app ∷ []) c.reserve.ensures.items) (ap (λ n. c.self.inside.packets + n) (c.len.ensures ∙ ap (λ (p : AppPlan). length p.packets) (IfOk-at_ok (λ (a : LoadedApp). IsServedApp c.in-Some.mesh.setup.machine c.deref_mut.result.now c.args.number c.self.inside.packets c.args.plan.now a c.join-mesh.new.regions) c.in-Ok.is c.join-mesh.ensures.served).plan_is)))
 
 pub returns-in-Ok-clause-apps : goal.returns-in-Ok-clause-apps
-returns-in-Ok-clause-apps c = ok_apps c.self.inside c.in-Some.mesh (sym c.take.ensures.value ∙ c.in-Some.is) c.self.invariant c.args.number c.args.plan.now (subst (λ (x : Host). MayLoad x c.args.plan.now) (sym c.self.view_is) c.requires) c.deref_mut.result.now c.deref_mut.ensures.value (ap (λ (x : Host). is_loaded x.apps c.args.number) c.self.view_is ∙ (sym c.loaded.ensures ∙ c.if-loaded.false)) c.join-mesh.new.regions c.in-Ok.app c.join-mesh.result.0 (IfOk-at_ok (λ (a : LoadedApp). IsServed c.in-Some.mesh.setup.machine c.deref_mut.result.now c.args.number c.self.inside.packets c.args.plan.now a c.join-mesh.new.regions) c.in-Ok.is c.join-mesh.ensures.served) (IfOk-at_ok (λ (a : LoadedApp). IsSettled a c.in-Some.mesh c.join-mesh.result.0) c.in-Ok.is c.join-mesh.ensures.settled) (record { mesh = c.put.new.held; regions = with_items c.self.inside.regions c.join-mesh.new.regions; apps = c.push_reserved.new.self; packets = c.self.inside.packets + c.len.result; taken = with_items c.self.inside.taken c.mark_spots.new.taken }) c.put.ensures (with_items_is c.self.inside.regions c.join-mesh.new.regions (let a = c.join-mesh.auto.regions in let b = ap length c.deref_mut.ensures.value in let d = c.self.inside.regions.ok in omega (arith, a, b, d))) (c.push_reserved.ensures.items ∙ ap (λ (l : List LoadedApp). l ++ c.in-Ok.app ∷ []) c.reserve.ensures.items) (ap (λ n. c.self.inside.packets + n) (c.len.ensures ∙ ap (λ (p : AppPlan). length p.packets) (IfOk-at_ok (λ (a : LoadedApp). IsServed c.in-Some.mesh.setup.machine c.deref_mut.result.now c.args.number c.self.inside.packets c.args.plan.now a c.join-mesh.new.regions) c.in-Ok.is c.join-mesh.ensures.served).plan_is))
+returns-in-Ok-clause-apps c = ok_apps c.self.inside c.in-Some.mesh (sym c.take.ensures.value ∙ c.in-Some.is) c.self.invariant c.args.number c.args.plan.now (subst (λ (x : Host). MayLoad x c.args.plan.now) (sym c.self.view_is) c.requires) c.deref_mut.result.now c.deref_mut.ensures.value (ap (λ (x : Host). is_loaded x.apps c.args.number) c.self.view_is ∙ (sym c.loaded.ensures ∙ c.if-loaded.false)) c.join-mesh.new.regions c.in-Ok.app c.join-mesh.result.0 (IfOk-at_ok (λ (a : LoadedApp). IsServedApp c.in-Some.mesh.setup.machine c.deref_mut.result.now c.args.number c.self.inside.packets c.args.plan.now a c.join-mesh.new.regions) c.in-Ok.is c.join-mesh.ensures.served) (IfOk-at_ok (λ (a : LoadedApp). IsSettled a c.in-Some.mesh c.join-mesh.result.0) c.in-Ok.is c.join-mesh.ensures.settled) (record { mesh = c.put.new.held; regions = with_items c.self.inside.regions c.join-mesh.new.regions; apps = c.push_reserved.new.self; packets = c.self.inside.packets + c.len.result; taken = with_items c.self.inside.taken c.mark_spots.new.taken }) c.put.ensures (with_items_is c.self.inside.regions c.join-mesh.new.regions (let a = c.join-mesh.auto.regions in let b = ap length c.deref_mut.ensures.value in let d = c.self.inside.regions.ok in omega (arith, a, b, d))) (c.push_reserved.ensures.items ∙ ap (λ (l : List LoadedApp). l ++ c.in-Ok.app ∷ []) c.reserve.ensures.items) (ap (λ n. c.self.inside.packets + n) (c.len.ensures ∙ ap (λ (p : AppPlan). length p.packets) (IfOk-at_ok (λ (a : LoadedApp). IsServedApp c.in-Some.mesh.setup.machine c.deref_mut.result.now c.args.number c.self.inside.packets c.args.plan.now a c.join-mesh.new.regions) c.in-Ok.is c.join-mesh.ensures.served).plan_is))
 
 pub returns-in-Err-clause-why : goal.returns-in-Err-clause-why
 returns-in-Err-clause-why c =
@@ -97,7 +95,7 @@ returns-in-Err-clause-why c =
     (err_why c.self.inside c.in-Some.mesh (sym c.take.ensures.value ∙ c.in-Some.is) c.self.invariant c.args.number c.args.plan.now (subst (λ (x : Host). MayLoad x c.args.plan.now) (sym c.self.view_is) c.requires) c.deref_mut.result.now c.deref_mut.ensures.value (ap (λ (x : Host). is_loaded x.apps c.args.number) c.self.view_is ∙ (sym c.loaded.ensures ∙ c.if-loaded.false)) c.in-Err.refusal (IfErr-at_err (IsDueAlways (claims_of c.in-Some.mesh.setup.machine c.args.plan.now) c.deref_mut.result.now) c.in-Err.is c.join-mesh.ensures.due))
 
 pub returns-in-Err-clause-refused : goal.returns-in-Err-clause-refused
-returns-in-Err-clause-refused c = err_same c.self.inside c.in-Some.mesh (sym c.take.ensures.value ∙ c.in-Some.is) c.self.invariant c.args.number c.args.plan.now (subst (λ (x : Host). MayLoad x c.args.plan.now) (sym c.self.view_is) c.requires) c.deref_mut.result.now c.deref_mut.ensures.value (record { mesh = c.put-in-Err.new.held; regions = with_items c.self.inside.regions c.join-mesh.new.regions; apps = c.reserve.new.self; packets = c.self.inside.packets; taken = c.self.inside.taken }) c.join-mesh.result.0 (on_err (c.join-mesh.result.0 ≡ c.in-Some.mesh) c.join-mesh.result.1 c.in-Err.refusal c.in-Err.is c.join-mesh.ensures.mesh_refused) c.join-mesh.new.regions (on_err ((m : Description) (taken : List Range) → AllPairs AreApart taken → AreFreeBeside m taken (frees c.deref_mut.result.now) → AreFreeBeside m taken (frees c.join-mesh.new.regions)) c.join-mesh.result.1 c.in-Err.refusal c.in-Err.is c.join-mesh.ensures.back) c.put-in-Err.ensures (with_items_is c.self.inside.regions c.join-mesh.new.regions (let a = c.join-mesh.auto.regions in let b = ap length c.deref_mut.ensures.value in let d = c.self.inside.regions.ok in omega (arith, a, b, d))) c.reserve.ensures.items refl ∙ c.self.view_is
+returns-in-Err-clause-refused c = err_same c.self.inside c.in-Some.mesh (sym c.take.ensures.value ∙ c.in-Some.is) c.self.invariant c.args.number c.args.plan.now (subst (λ (x : Host). MayLoad x c.args.plan.now) (sym c.self.view_is) c.requires) c.deref_mut.result.now c.deref_mut.ensures.value (record { mesh = c.put-in-Err.new.held; regions = with_items c.self.inside.regions c.join-mesh.new.regions; apps = c.reserve.new.self; packets = c.self.inside.packets; taken = c.self.inside.taken }) c.join-mesh.result.0 (on_err (c.join-mesh.result.0 ≡ c.in-Some.mesh) c.join-mesh.result.1 c.in-Err.refusal c.in-Err.is c.join-mesh.ensures.mesh_refused) c.join-mesh.new.regions (on_err ((m : Description) (taken : List Range) → AllPairs ShareNoPlace taken → AreFreeBeside m taken (frees c.deref_mut.result.now) → AreFreeBeside m taken (frees c.join-mesh.new.regions)) c.join-mesh.result.1 c.in-Err.refusal c.in-Err.is c.join-mesh.ensures.back) c.put-in-Err.ensures (with_items_is c.self.inside.regions c.join-mesh.new.regions (let a = c.join-mesh.auto.regions in let b = ap length c.deref_mut.ensures.value in let d = c.self.inside.regions.ok in omega (arith, a, b, d))) c.reserve.ensures.items refl ∙ c.self.view_is
 
 pub returns-in-Err-clause-apps : goal.returns-in-Err-clause-apps
-returns-in-Err-clause-apps c = subst AreApps (sym (err_same c.self.inside c.in-Some.mesh (sym c.take.ensures.value ∙ c.in-Some.is) c.self.invariant c.args.number c.args.plan.now (subst (λ (x : Host). MayLoad x c.args.plan.now) (sym c.self.view_is) c.requires) c.deref_mut.result.now c.deref_mut.ensures.value (record { mesh = c.put-in-Err.new.held; regions = with_items c.self.inside.regions c.join-mesh.new.regions; apps = c.reserve.new.self; packets = c.self.inside.packets; taken = c.self.inside.taken }) c.join-mesh.result.0 (on_err (c.join-mesh.result.0 ≡ c.in-Some.mesh) c.join-mesh.result.1 c.in-Err.refusal c.in-Err.is c.join-mesh.ensures.mesh_refused) c.join-mesh.new.regions (on_err ((m : Description) (taken : List Range) → AllPairs AreApart taken → AreFreeBeside m taken (frees c.deref_mut.result.now) → AreFreeBeside m taken (frees c.join-mesh.new.regions)) c.join-mesh.result.1 c.in-Err.refusal c.in-Err.is c.join-mesh.ensures.back) c.put-in-Err.ensures (with_items_is c.self.inside.regions c.join-mesh.new.regions (let a = c.join-mesh.auto.regions in let b = ap length c.deref_mut.ensures.value in let d = c.self.inside.regions.ok in omega (arith, a, b, d))) c.reserve.ensures.items refl)) c.self.invariant.apps
+returns-in-Err-clause-apps c = subst AreApps (sym (err_same c.self.inside c.in-Some.mesh (sym c.take.ensures.value ∙ c.in-Some.is) c.self.invariant c.args.number c.args.plan.now (subst (λ (x : Host). MayLoad x c.args.plan.now) (sym c.self.view_is) c.requires) c.deref_mut.result.now c.deref_mut.ensures.value (record { mesh = c.put-in-Err.new.held; regions = with_items c.self.inside.regions c.join-mesh.new.regions; apps = c.reserve.new.self; packets = c.self.inside.packets; taken = c.self.inside.taken }) c.join-mesh.result.0 (on_err (c.join-mesh.result.0 ≡ c.in-Some.mesh) c.join-mesh.result.1 c.in-Err.refusal c.in-Err.is c.join-mesh.ensures.mesh_refused) c.join-mesh.new.regions (on_err ((m : Description) (taken : List Range) → AllPairs ShareNoPlace taken → AreFreeBeside m taken (frees c.deref_mut.result.now) → AreFreeBeside m taken (frees c.join-mesh.new.regions)) c.join-mesh.result.1 c.in-Err.refusal c.in-Err.is c.join-mesh.ensures.back) c.put-in-Err.ensures (with_items_is c.self.inside.regions c.join-mesh.new.regions (let a = c.join-mesh.auto.regions in let b = ap length c.deref_mut.ensures.value in let d = c.self.inside.regions.ok in omega (arith, a, b, d))) c.reserve.ensures.items refl)) c.self.invariant.apps

@@ -34,14 +34,12 @@ returns-in_default-take-clause-refused c = absurd (never_none c.self.inside.mesh
 pub returns-in_default-take-clause-apps : goal.returns-in_default-take-clause-apps
 returns-in_default-take-clause-apps c = absurd (never_none c.self.inside.mesh c.take.result c.self.invariant.there c.take.ensures.value c.in_default-take.is)
 
-pub mark_spots-requires-clause-long : goal.mark_spots-requires-clause-long
-mark_spots-requires-clause-long c = table_long c.self.inside c.in-Some-take.mesh (sym c.take.ensures.value ∙ c.in-Some-take.is) c.self.invariant c.args.number c.in-Some.at (ap (λ (x : Host). position (λ (app : LoadedApp). app.number == c.args.number) x.apps) c.self.view_is ∙ (sym c.place_of.ensures ∙ c.in-Some.is)) c.index.result.now c.index.ensures c.deref_mut.result.now c.deref_mut.ensures.value c.machine.result.now (c.machine.ensures ∙ ap (λ (s : State). s.setup.machine) (IfOk-at_ok (λ (e : Ended). HasLeft c.index.result.now c.in-Some-take.mesh e c.leave-mesh.result.0) c.in-Ok.is c.leave-mesh.ensures.left).mesh) c.deref_mut-in-Ok.result.now c.deref_mut-in-Ok.ensures.value
-
-pub mark_spots-requires-clause-inside : goal.mark_spots-requires-clause-inside
-mark_spots-requires-clause-inside c = spots_inside c.self.inside c.in-Some-take.mesh (sym c.take.ensures.value ∙ c.in-Some-take.is) c.self.invariant c.args.number c.in-Some.at (ap (λ (x : Host). position (λ (app : LoadedApp). app.number == c.args.number) x.apps) c.self.view_is ∙ (sym c.place_of.ensures ∙ c.in-Some.is)) c.index.result.now c.index.ensures c.deref_mut.result.now c.deref_mut.ensures.value c.machine.result.now (c.machine.ensures ∙ ap (λ (s : State). s.setup.machine) (IfOk-at_ok (λ (e : Ended). HasLeft c.index.result.now c.in-Some-take.mesh e c.leave-mesh.result.0) c.in-Ok.is c.leave-mesh.ensures.left).mesh) c.as_slice.result.now (c.as_slice.ensures ∙ ap (λ (a : LoadedApp). a.plan.spots) (gone c.self.inside c.in-Some-take.mesh (sym c.take.ensures.value ∙ c.in-Some-take.is) c.self.invariant c.args.number c.in-Some.at (ap (λ (x : Host). position (λ (app : LoadedApp). app.number == c.args.number) x.apps) c.self.view_is ∙ (sym c.place_of.ensures ∙ c.in-Some.is)) c.index.result.now c.index.ensures c.deref_mut.result.now c.deref_mut.ensures.value c.remove-app.result c.remove-app.ensures.value))
-
-pub mark_spots-requires-clause-numbered : goal.mark_spots-requires-clause-numbered
-mark_spots-requires-clause-numbered c = spots_numbered c.self.inside c.in-Some-take.mesh (sym c.take.ensures.value ∙ c.in-Some-take.is) c.self.invariant c.args.number c.in-Some.at (ap (λ (x : Host). position (λ (app : LoadedApp). app.number == c.args.number) x.apps) c.self.view_is ∙ (sym c.place_of.ensures ∙ c.in-Some.is)) c.index.result.now c.index.ensures c.deref_mut.result.now c.deref_mut.ensures.value c.as_slice.result.now (c.as_slice.ensures ∙ ap (λ (a : LoadedApp). a.plan.spots) (gone c.self.inside c.in-Some-take.mesh (sym c.take.ensures.value ∙ c.in-Some-take.is) c.self.invariant c.args.number c.in-Some.at (ap (λ (x : Host). position (λ (app : LoadedApp). app.number == c.args.number) x.apps) c.self.view_is ∙ (sym c.place_of.ensures ∙ c.in-Some.is)) c.index.result.now c.index.ensures c.deref_mut.result.now c.deref_mut.ensures.value c.remove-app.result c.remove-app.ensures.value))
+pub mark_spots-requires : goal.mark_spots-requires
+mark_spots-requires c = record {
+  long = table_long c.self.inside c.in-Some-take.mesh (sym c.take.ensures.value ∙ c.in-Some-take.is) c.self.invariant c.args.number c.in-Some.at (ap (λ (x : Host). position (λ (app : LoadedApp). app.number == c.args.number) x.apps) c.self.view_is ∙ (sym c.place_of.ensures ∙ c.in-Some.is)) c.index.result.now c.index.ensures c.deref_mut.result.now c.deref_mut.ensures.value c.machine.result.now (c.machine.ensures ∙ ap (λ (s : State). s.setup.machine) (IfOk-at_ok (λ (e : Ended). HasLeft c.index.result.now c.in-Some-take.mesh e c.leave-mesh.result.0) c.in-Ok.is c.leave-mesh.ensures.left).mesh) c.deref_mut-in-Ok.result.now c.deref_mut-in-Ok.ensures.value;
+  inside = spots_inside c.self.inside c.in-Some-take.mesh (sym c.take.ensures.value ∙ c.in-Some-take.is) c.self.invariant c.args.number c.in-Some.at (ap (λ (x : Host). position (λ (app : LoadedApp). app.number == c.args.number) x.apps) c.self.view_is ∙ (sym c.place_of.ensures ∙ c.in-Some.is)) c.index.result.now c.index.ensures c.deref_mut.result.now c.deref_mut.ensures.value c.machine.result.now (c.machine.ensures ∙ ap (λ (s : State). s.setup.machine) (IfOk-at_ok (λ (e : Ended). HasLeft c.index.result.now c.in-Some-take.mesh e c.leave-mesh.result.0) c.in-Ok.is c.leave-mesh.ensures.left).mesh) c.as_slice.result.now (c.as_slice.ensures ∙ ap (λ (a : LoadedApp). a.plan.spots) (gone c.self.inside c.in-Some-take.mesh (sym c.take.ensures.value ∙ c.in-Some-take.is) c.self.invariant c.args.number c.in-Some.at (ap (λ (x : Host). position (λ (app : LoadedApp). app.number == c.args.number) x.apps) c.self.view_is ∙ (sym c.place_of.ensures ∙ c.in-Some.is)) c.index.result.now c.index.ensures c.deref_mut.result.now c.deref_mut.ensures.value c.remove-app.result c.remove-app.ensures.value));
+  numbered = spots_numbered c.self.inside c.in-Some-take.mesh (sym c.take.ensures.value ∙ c.in-Some-take.is) c.self.invariant c.args.number c.in-Some.at (ap (λ (x : Host). position (λ (app : LoadedApp). app.number == c.args.number) x.apps) c.self.view_is ∙ (sym c.place_of.ensures ∙ c.in-Some.is)) c.index.result.now c.index.ensures c.deref_mut.result.now c.deref_mut.ensures.value c.as_slice.result.now (c.as_slice.ensures ∙ ap (λ (a : LoadedApp). a.plan.spots) (gone c.self.inside c.in-Some-take.mesh (sym c.take.ensures.value ∙ c.in-Some-take.is) c.self.invariant c.args.number c.in-Some.at (ap (λ (x : Host). position (λ (app : LoadedApp). app.number == c.args.number) x.apps) c.self.view_is ∙ (sym c.place_of.ensures ∙ c.in-Some.is)) c.index.result.now c.index.ensures c.deref_mut.result.now c.deref_mut.ensures.value c.remove-app.result c.remove-app.ensures.value));
+}
 
 pub invariant_of-self-in-Ok : goal.invariant_of-self-in-Ok
 invariant_of-self-in-Ok c = ok_host c.self.inside c.in-Some-take.mesh (sym c.take.ensures.value ∙ c.in-Some-take.is) c.self.invariant c.args.number c.in-Some.at (ap (λ (x : Host). position (λ (app : LoadedApp). app.number == c.args.number) x.apps) c.self.view_is ∙ (sym c.place_of.ensures ∙ c.in-Some.is)) c.index.result.now c.index.ensures c.deref_mut.result.now c.deref_mut.ensures.value c.leave-mesh.new.regions (on_ok_is ((others : List Range) → AreTaken c.in-Some-take.mesh.setup.machine others c.index.result.now.ranges c.deref_mut.result.now → AreFreeBeside c.in-Some-take.mesh.setup.machine others (frees c.leave-mesh.new.regions)) c.leave-mesh.result.1 c.in-Ok.ended c.in-Ok.is c.leave-mesh.ensures.given) c.in-Ok.ended c.leave-mesh.result.0 (IfOk-at_ok (λ (e : Ended). HasLeft c.index.result.now c.in-Some-take.mesh e c.leave-mesh.result.0) c.in-Ok.is c.leave-mesh.ensures.left) (on_ok_is (NoneUnderWay c.in-Some-take.mesh c.index.result.now) c.leave-mesh.result.1 c.in-Ok.ended c.in-Ok.is c.leave-mesh.ensures.none) (record { mesh = c.put.new.held; regions = with_items c.self.inside.regions c.leave-mesh.new.regions; apps = c.remove-app.new.self; packets = c.self.inside.packets; taken = with_items c.self.inside.taken c.mark_spots.new.taken }) c.put.ensures (with_items_is c.self.inside.regions c.leave-mesh.new.regions (let a = c.leave-mesh.auto.regions in let b = ap length c.deref_mut.ensures.value in let d = c.self.inside.regions.ok in omega (arith, a, b, d))) c.remove-app.ensures.items refl c.machine.result.now c.deref_mut-in-Ok.result.now c.mark_spots.new.taken c.as_slice.result.now (c.machine.ensures ∙ ap (λ (s : State). s.setup.machine) (IfOk-at_ok (λ (e : Ended). HasLeft c.index.result.now c.in-Some-take.mesh e c.leave-mesh.result.0) c.in-Ok.is c.leave-mesh.ensures.left).mesh) c.deref_mut-in-Ok.ensures.value (c.as_slice.ensures ∙ ap (λ (a : LoadedApp). a.plan.spots) (gone c.self.inside c.in-Some-take.mesh (sym c.take.ensures.value ∙ c.in-Some-take.is) c.self.invariant c.args.number c.in-Some.at (ap (λ (x : Host). position (λ (app : LoadedApp). app.number == c.args.number) x.apps) c.self.view_is ∙ (sym c.place_of.ensures ∙ c.in-Some.is)) c.index.result.now c.index.ensures c.deref_mut.result.now c.deref_mut.ensures.value c.remove-app.result c.remove-app.ensures.value)) c.mark_spots.ensures (with_items_is c.self.inside.taken c.mark_spots.new.taken (let a = c.mark_spots.ensures.long in let b = ap length c.deref_mut-in-Ok.ensures.value in let d = c.self.inside.taken.ok in omega (arith, a, b, d)))

@@ -1,10 +1,10 @@
 use Rattle.std.proofs.Common.{◌≡◌}
 use Rattle.link_queue.specs.Ends.{sending}
 use Rattle.chip_node.specs.Ends.{IsOutEndOf}
-use Rattle.chip_node.specs.Offers.{Refuses}
+use Rattle.chip_node.specs.Offers.{RefusesOffers}
 use Rattle.chip_node.proofs.ends.OutEnd.send.Given as goal
 
 -- all offers so far were refused
 abbrev pub invariant-loop : goal.invariant-loop
 invariant-loop g l =
-    IsOutEndOf l.links l.self × (l.self.link ≡ l.fn.self.link) × Refuses l.counter (sending l.fn.self.tx) (sending l.self.tx)
+    IsOutEndOf l.links l.self × (l.self.link ≡ l.fn.self.link) × RefusesOffers l.counter (sending l.fn.self.tx) (sending l.self.tx)

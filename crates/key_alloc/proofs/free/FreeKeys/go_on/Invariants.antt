@@ -1,12 +1,12 @@
 use Rattle.std.proofs.Common.{◌-◌, ◌≤◌, List}
 use Rattle.spin_base.specs.declared.blocks.Block.{Block}
-use Rattle.key_alloc.specs.FreeKeys.{AreFreeBeside}
+use Rattle.key_alloc.specs.FreeKeys.{AreKeysFreeBeside}
 use Rattle.key_alloc.proofs.free.FreeKeys.go_on.Given as goal
 
 -- the same blocks are taken, and the frontier is not before its start
 abbrev pub invariant-loop-self : goal.invariant-loop-self
 invariant-loop-self l = record {
-  free : (taken : List Block) → AreFreeBeside taken l.initial.self → AreFreeBeside taken l.self;
+  free : (taken : List Block) → AreKeysFreeBeside taken l.initial.self → AreKeysFreeBeside taken l.self;
   further : l.initial.self.frontier ≤ l.self.frontier;
 }
 

@@ -2,7 +2,7 @@ use Rattle.std.proofs.Common.{◌≡◌, ◌≢◌, ◌<◌, ℕ, refl, sym, ◌
 use Rattle.spin_base.specs.declared.blocks.Block.{Block}
 use Rattle.range_store.specs.Regions.{AreRuns, is_hole_range, is_free, in_range}
 use Rattle.key_alloc.specs.KeyBlocks.{size_of}
-use Rattle.key_alloc.specs.FreeKeys.{AreFreeBeside}
+use Rattle.key_alloc.specs.FreeKeys.{AreKeysFreeBeside}
 use Rattle.key_alloc.specs.declared.free.FreeKeys.{FreeKeys}
 use Rattle.key_alloc.proofs.Taking.{below_frontier, least_from_fit, none_from_fit, taken_more}
 use Rattle.key_alloc.proofs.free.FreeKeys.take.Goals as goal
@@ -12,12 +12,12 @@ returns-in-Some-clause-small c =
     let taken = c.requires.state.0 in
     let state = c.loop-place.invariant taken c.requires.state.1 in
     let fit = rw c.in-Some.is at c.in_ok-place.ensures.found in
-    omega (arith, below_frontier taken c.loop-place.self state c.args.size c.requires.some c.in-Some.place fit.fits, state.limit, c.requires.some)
+    omega (arith, below_frontier taken c.loop-place.self state c.args.size.keys c.args.size.some c.in-Some.place fit.fits, state.limit, c.args.size.some)
 
 pub returns-in-Some-clause-least : goal.returns-in-Some-clause-least
 returns-in-Some-clause-least c taken state =
     let fit = rw c.in-Some.is at c.in_ok-place.ensures.found in
-    least_from_fit taken c.loop-place.self (c.loop-place.invariant taken state) c.args.size c.requires.some c.in-Some.place fit
+    least_from_fit taken c.loop-place.self (c.loop-place.invariant taken state) c.args.size.keys c.args.size.some c.in-Some.place fit
 
 pub returns-in-Some-clause-free : goal.returns-in-Some-clause-free
 returns-in-Some-clause-free c taken before b key size =
@@ -25,20 +25,20 @@ returns-in-Some-clause-free c taken before b key size =
     let state = c.loop-place.invariant taken before in
     let fit = rw c.in-Some.is at c.in_ok-place.ensures.found in
     let free_now = rw c.in-Some.is at c.in_ok-place.ensures.free in
-    let fits = subst (λ s. is_hole_range free.below.holes b.key s ≡ true) (sym size) (subst (λ p. is_hole_range free.below.holes p c.args.size ≡ true) (sym key) fit.fits) in
+    let fits = subst (λ s. is_hole_range free.below.holes b.key s ≡ true) (sym size) (subst (λ p. is_hole_range free.below.holes p c.args.size.keys ≡ true) (sym key) fit.fits) in
     let P : ℕ → ℕ → Type 0 = λ p s. (k : ℕ) → is_free c.take.new.self.holes k ≡ (is_free free.below.holes k && not (in_range p s k)) in
-    let now : P b.key (size_of b) = subst (P b.key) (sym size) (subst (λ p. P p c.args.size) (sym key) free_now) in
-    taken_more taken b free _ state (subst (λ s. 0 < s) (sym size) c.requires.some) fits
+    let now : P b.key (size_of b) = subst (P b.key) (sym size) (subst (λ p. P p c.args.size.keys) (sym key) free_now) in
+    taken_more taken b free _ state (subst (λ s. 0 < s) (sym size) c.args.size.some) fits
     (subst (λ n. AreRuns 0 n c.take.new.self.holes) (c.in_ok-place.ensures.size ∙ state.size) c.in_ok-place.ensures.runs)
     c.in_ok-place.ensures.size refl refl now
 
 pub returns-then-self-eq-ALL_KEYS-clause-none : goal.returns-then-self-eq-ALL_KEYS-clause-none
 returns-then-self-eq-ALL_KEYS-clause-none c taken state =
     let none = rw c.in_default.is at c.in_ok-place.ensures.none in
-    none_from_fit taken c.loop-place.self (c.loop-place.invariant taken state) c.args.size c.requires.some none.0 c.if-self-eq-ALL_KEYS.true
+    none_from_fit taken c.loop-place.self (c.loop-place.invariant taken state) c.args.size.keys c.args.size.some none.0 c.if-self-eq-ALL_KEYS.true
 
 -- nothing was taken from the region
-same_below : (taken : List Block) (free after : FreeKeys) → after.below ≡ free.below → after.frontier ≡ free.frontier → after.ahead ≡ free.ahead → AreFreeBeside taken free → AreFreeBeside taken after
+same_below : (taken : List Block) (free after : FreeKeys) → after.below ≡ free.below → after.frontier ≡ free.frontier → after.ahead ≡ free.ahead → AreKeysFreeBeside taken free → AreKeysFreeBeside taken after
 same_below taken free after below frontier ahead state = rw (below, frontier, ahead) state
 
 pub go_on-requires-clause-state : goal.go_on-requires-clause-state

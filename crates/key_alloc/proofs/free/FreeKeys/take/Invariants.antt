@@ -1,11 +1,11 @@
 use Rattle.std.proofs.Common.{◌-◌, List}
 use Rattle.spin_base.specs.declared.blocks.Block.{Block}
-use Rattle.key_alloc.specs.FreeKeys.{AreFreeBeside}
+use Rattle.key_alloc.specs.FreeKeys.{AreKeysFreeBeside}
 use Rattle.key_alloc.proofs.free.FreeKeys.take.Given as goal
 
 -- the same blocks are taken
 abbrev pub invariant-loop-place : goal.invariant-loop-place
-invariant-loop-place l = (taken : List Block) → AreFreeBeside taken l.initial.self → AreFreeBeside taken l.self
+invariant-loop-place l = (taken : List Block) → AreKeysFreeBeside taken l.initial.self → AreKeysFreeBeside taken l.self
 
 abbrev pub decreases-loop-place : goal.decreases-loop-place
 decreases-loop-place l = 4294967296 - l.self.frontier

@@ -4,7 +4,7 @@ use Rattle.std.specs.List.{slice_index_or}
 use Rattle.spin_base.specs.declared.copies.McCopy.{McCopy}
 use Rattle.machine_desc.specs.Live.{IsInside}
 use Rattle.mesh_core.specs.State.{State, IsMesh}
-use Rattle.net_tables.specs.NetsOn.{vertex_at}
+use Rattle.machine_desc.specs.NetsOn.{vertex_at}
 use Rattle.mesh_core.proofs.Searching.{delivery_has, core_has, core_lacks, none_from, core_queue_there}
 use Rattle.mesh_core.proofs.VertexTableLaws.{site_inside}
 use Rattle.mesh_core.proofs.meshes.Mesh.at_core.Goals as goal

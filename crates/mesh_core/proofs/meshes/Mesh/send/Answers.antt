@@ -5,10 +5,11 @@ use Rattle.std.specs.Vec.{with_items}
 use Rattle.std.proofs.lemmas.List.{with_items_is}
 use Rattle.spin_base.specs.declared.copies.Event.TheVariants.{Send}
 use Rattle.spin_base.specs.declared.copies.McCopy.{McCopy}
+use Rattle.spin_base.specs.Hops.{onward}
 use Rattle.machine_desc.specs.Live.{index_of}
-use Rattle.mesh_core.specs.Serving.{named, copy_served, inputs_after, cores_after, hands_after}
+use Rattle.mesh_core.specs.Serving.{queue_named, copy_served, inputs_after, cores_after, hands_after}
 use Rattle.mesh_core.specs.State.{State, Queue, behind}
-use Rattle.mesh_core.specs.Step.{onward, has_room_behind, step_of, after_event}
+use Rattle.mesh_core.specs.Step.{has_room_behind, step_of, after_event}
 use Rattle.mesh_core.specs.Whole.{state_of}
 use Rattle.mesh_core.proofs.Keeping.{IsMesh-step_of}
 use Rattle.mesh_core.proofs.StepParts.{step_of-send, after_event-moved}
@@ -32,11 +33,11 @@ moves c =
     let copy : Some k ≡ copy_served s c.args.c c.args.out (slice_get s.hands chip) =
     subst (λ (t : State). Some k ≡ copy_served t c.args.c c.args.out (slice_get t.hands (index_of t.setup.machine c.args.c))) (sym c.self.view_is) (sym c.in-Some.is ∙ c.copy_for.ensures.copy)
     in
-    let queue : named c.behind-queue.result ≡ to =
-    subst (λ (t : State). named c.behind-queue.result ≡ behind t.setup c.args.c c.args.out) (sym c.self.view_is) c.behind-queue.ensures.queue
+    let queue : queue_named c.behind-queue.result ≡ to =
+    subst (λ (t : State). queue_named c.behind-queue.result ≡ behind t.setup c.args.c c.args.out) (sym c.self.view_is) c.behind-queue.ensures.queue
     in
-    let room_named : has_room_behind s (named c.behind-queue.result) ≡ true =
-    subst (λ (t : State). has_room_behind t (named c.behind-queue.result) ≡ true) (sym c.self.view_is) (sym c.has_room_behind.ensures ∙ c.if-not-has_room_behind.false)
+    let room_named : has_room_behind s (queue_named c.behind-queue.result) ≡ true =
+    subst (λ (t : State). has_room_behind t (queue_named c.behind-queue.result) ≡ true) (sym c.self.view_is) (sym c.has_room_behind.ensures ∙ c.if-not-has_room_behind.false)
     in
     let room : has_room_behind s to ≡ true = ap (has_room_behind s) (sym queue) ∙ room_named in
     let is_inputs : (after c).inputs ≡ inputs_after s.inputs to (onward k) =

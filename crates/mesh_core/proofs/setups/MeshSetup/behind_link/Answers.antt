@@ -4,8 +4,8 @@ use Rattle.std.specs.List.{All}
 use Rattle.spin_base.specs.declared.chips.Spot.{Spot}
 use Rattle.spin_base.specs.declared.routes.Out.TheVariants.{Link}
 use Rattle.machine_desc.specs.Live.{far_of, is_live_link, IsSite}
-use Rattle.net_tables.specs.NetsOn.{vertex_at}
-use Rattle.mesh_core.specs.State.{Setup, vertex_behind, core_of, behind_link}
+use Rattle.machine_desc.specs.NetsOn.{vertex_at}
+use Rattle.mesh_core.specs.State.{Setup, vertex_behind, core_queue_of, behind_link}
 use Rattle.mesh_core.proofs.ServingLaws.{vertex_behind-link}
 use Rattle.mesh_core.proofs.setups.MeshSetup.behind_link.Goals as goal
 
@@ -21,5 +21,5 @@ returns-then-not-link_live-clause-queue c =
     vertex_behind-link u.machine u.spots spot c.args.link (ap (λ n. 18 + n) c.number.ensures.number) sites
     in
     c.queue_on.ensures.queue
-    ∙ (ap core_of (sym there)
+    ∙ (ap core_queue_of (sym there)
     ∙ sym (ap (λ b. behind_link u c.args.c c.args.link b (far_of u.machine c.args.c c.args.link)) dead))

@@ -1,7 +1,7 @@
 use Rattle.std.proofs.Common.{refl, sym, subst}
 use Rattle.mesh_core.specs.State.{State, IsMesh}
 use Rattle.mesh_run.specs.declared.raised.RaisedMesh.{RaisedMesh}
-use Rattle.mesh_run.specs.Casting.{IsPlayed}
+use Rattle.mesh_run.specs.Holders.{IsPlayed}
 use Rattle.std.specs.List.{All}
 use Rattle.mesh_run.specs.Queues.{RestAll, WasUp}
 use Rattle.mesh_run.specs.Raised.{IsRaised, mesh_of, queues_of}

@@ -1,12 +1,12 @@
 use Rattle.std.proofs.Common.{◌+◌, map, sym, subst}
-use Rattle.mesh_run.specs.Queues.{AreUp, StayUp, queue_of}
+use Rattle.mesh_run.specs.Queues.{AreUp, StayUp, queue_of_link}
 use Rattle.mesh_run.proofs.WholeRound.{can_widen, stays_raised}
 use Rattle.mesh_run.proofs.raised.RaisedMesh.with_places.Goals as goal
 
 pub widen_all-requires-clause-up : goal.widen_all-requires-clause-up
 widen_all-requires-clause-up g c =
     let r = c.requires.raised in
-    (r.ends, r.holds, subst (λ n. AreUp n 0 (map queue_of r.ends) r.ends) (sym c.capacity-cap.ensures) (can_widen c.args.self r))
+    (r.ends, r.holds, subst (λ n. AreUp n 0 (map queue_of_link r.ends) r.ends) (sym c.capacity-cap.ensures) (can_widen c.args.self r))
 
 pub returns-in-Ok-clause-raised : goal.returns-in-Ok-clause-raised
 returns-in-Ok-clause-raised g c =

@@ -1,6 +1,6 @@
 use Rattle.std.proofs.Common.{subst, ap, sym, ◌∙◌, ◌&&◌, not}
 use Rattle.range_store.specs.Fits.{FitsAt}
-use Rattle.range_store.specs.Regions.{AreRuns, without, is_free, in_range, is_hole_range}
+use Rattle.range_store.specs.Regions.{AreRuns, holes_without, is_free, in_range, is_hole_range}
 use Rattle.range_store.proofs.RunLemmas.{widen, cut_is, fits_any}
 use Rattle.range_store.proofs.ranges.Ranges.take_at.Goals as goal
 
@@ -18,7 +18,7 @@ invariant_of-self-2 c =
 pub returns-clause-taken : goal.returns-clause-taken
 returns-clause-taken c _ =
     let cut = cut_is c.self.inside.size c.args.place c.args.size c.in-Some.at c.self.inside.holes.items _ c.self.invariant.1 c.requires.some (subst (λ xs. FitsAt xs c.in-Some.at c.args.place c.args.size) c.as_slice.ensures.value c.in-Some.ensures.at) c.in_ok-cut_out.ensures.ok in
-    cut.rest ∙ ap (λ v. without c.args.place c.args.size v.holes) c.self.view_is
+    cut.rest ∙ ap (λ v. holes_without c.args.place c.args.size v.holes) c.self.view_is
 
 pub returns-clause-free : goal.returns-clause-free
 returns-clause-free c _ =

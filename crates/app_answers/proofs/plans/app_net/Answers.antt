@@ -1,9 +1,0 @@
-use Rattle.app_answers.proofs.Planning.{net_for, net_valid}
-use Rattle.app_answers.proofs.plans.app_net.Goals as goal
-
-pub returns-clause-net : goal.returns-clause-net
-returns-clause-net c = net_for c.args.machine.now c.args.spots.now c.args.net.now _ c.in_ok-routed.routed.grown c.in_ok-routed.routed.plan c.in_ok-routed.ensures.planned
-
-pub returns-clause-valid : goal.returns-clause-valid
-returns-clause-valid c =
-    net_valid c.args.machine.now c.args.spots.now c.args.net.now _ c.in_ok-routed.routed.grown c.in_ok-routed.routed.plan c.requires.valid c.in_ok-routed.ensures.planned c.in_ok-routed.ensures.routing

@@ -1,9 +1,0 @@
-pub use Rattle.app_graph.specs.ValidGraph
-pub use Rattle.app_loads.specs.Applications
-pub use Rattle.app_steps.specs.Valid
-pub mod Answers
-pub mod Free
-pub mod Hosting
-pub mod Lines
-pub mod Making
-pub mod Plans

@@ -1,4 +1,0 @@
-pub use Rattle.job_text.specs.Reading
-pub use Rattle.job_readers.specs.WholeJob
-pub mod Steps
-pub mod Valid

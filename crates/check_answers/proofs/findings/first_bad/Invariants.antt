@@ -1,6 +1,0 @@
--- The trees of the nets passed are good.
-use Rattle.check_answers.proofs.Growing.{AreGoodBelow}
-use Rattle.check_answers.proofs.findings.first_bad.Given as goal
-
-abbrev pub invariant-loop-i : goal.invariant-loop-i
-invariant-loop-i l = AreGoodBelow l.machine l.nets l.i

@@ -1,7 +1,0 @@
--- The nets passed have their plans.
-use Rattle.std.proofs.Common.{◌≡◌, length}
-use Rattle.check_answers.specs.Nets.{IsEachNetWith}
-use Rattle.check_answers.proofs.nets.plans_with.Given as goal
-
-abbrev pub invariant-loop-i : goal.invariant-loop-i
-invariant-loop-i l = (length l.plans ≡ l.i) × IsEachNetWith l.spots l.graph.nets l.blocks l.trees l.plans

@@ -1,3 +1,0 @@
-pub use Rattle.job_text.specs.Reading
-pub use Rattle.job_readers.specs.WholeJob
-pub mod Requests

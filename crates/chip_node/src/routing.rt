@@ -1,0 +1,29 @@
+// Where a router sends a copy, and the copy behind it.
+ghost use Rattle.std.specs.Prelude.{◌≡◌};
+ghost use Rattle.spin_base.specs.Hops.{onward};
+ghost use Rattle.chip_node.specs.Routing.{outputs_at};
+
+use spin_base::{McCopy, Outs, Port};
+use tcam_find::Tcam;
+
+/// The outputs that a table gives a copy that came in at this port: none where it has the greatest hop number.
+pub fn outputs_of(table: &Tcam, port: Port, copy: McCopy) -> Outs
+    ensures { result.items ≡ outputs_at table.now port copy }
+{
+    if copy.hop == u32::MAX {
+        return Outs::new();
+    }
+    table.find(copy.key, port).outs()
+}
+
+/// The copy behind a router: one hop more. One more than 4,294,967,295 is that number again.
+pub fn onward(copy: McCopy) -> McCopy
+    ensures { result ≡ onward copy }
+{
+    McCopy {
+        packet: copy.packet,
+        key: copy.key,
+        payload: copy.payload,
+        hop: copy.hop.saturating_add(1),
+    }
+}

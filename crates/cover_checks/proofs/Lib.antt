@@ -1,4 +1,0 @@
-pub mod Answering
-pub mod Legal
-pub mod Lists
-pub mod Positions

@@ -1,7 +1,0 @@
--- So far the merge is that of the rows at the first place and those passed.
-use Rattle.std.proofs.Common.{◌≡◌, ◌+◌, take}
-use Rattle.cover_checks.specs.Merge.{merged_block}
-use Rattle.cover_checks.proofs.checking.merged_block.Given as goal
-
-abbrev pub invariant-loop-place : goal.invariant-loop-place
-invariant-loop-place l = l.merged ≡ merged_block l.rows (take (l.place-index + 1) l.places)

@@ -1,7 +1,0 @@
--- The places passed pass the check.
-use Rattle.std.proofs.Common.{ℕ, ◌<◌, get_or}
-use Rattle.cover_checks.specs.Merge.{PassesUp, insert_place}
-use Rattle.cover_checks.proofs.checking.up_check.Given as goal
-
-abbrev pub invariant-loop-s : goal.invariant-loop-s
-invariant-loop-s l = (k : ℕ) → k < l.s-index → PassesUp l.table.rows l.places (get_or l.places k 0) (insert_place l.table.rows l.places)

@@ -1,2 +1,0 @@
-pub use Rattle.tern_word.specs.SoundTable
-pub mod Merge

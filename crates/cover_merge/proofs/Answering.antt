@@ -1,0 +1,47 @@
+-- What one turn of a check tells of the whole.
+use Rattle.std.proofs.Common.{◌≡◌, ℕ, ◌+◌, ◌<◌, ◌≤◌, ◌↔◌, IsTrue, Bool, true, false, List, length, get_or, refl, sym, ◌∙◌, subst, arith}
+use borrow.Author.Count.{below_more}
+use mathlib.Core.Bool.{true≢false, false≢true}
+use Rattle.tern_word.specs.declared.tables.Row.{Row}
+use Rattle.std.proofs.lemmas.List.{get_or_default}
+use Rattle.std.proofs.lemmas.List.Elements.{pair_read}
+use Rattle.tern_word.specs.SoundTable.{Misses}
+use Rattle.cover_merge.specs.Merge.{has_row, IsClearOf, insert_place, PassesUp, PassesUpCheck}
+use Rattle.cover_merge.proofs.Positions.{has-at, has-place}
+pub use Rattle.spin_base.proofs.Tests.{fails, answers_none, answers_no}
+
+module _ (rows : List Row) (places : List ℕ) (list : List Row) (same : list ≡ rows) (p : ℕ) (place : p ≡ insert_place rows places) where
+  -- what a place's check says, of the table's rows and the insertion place
+  at_table : (s : ℕ) → PassesUp list places s p → PassesUp rows places s (insert_place rows places)
+  at_table s h = subst (λ n. PassesUp rows places s n) place (subst (λ l. PassesUp l places s p) same h)
+
+  from_table : (s : ℕ) → PassesUp rows places s (insert_place rows places) → PassesUp list places s p
+  from_table s h = subst (λ n. PassesUp list places s n) (sym place) (subst (λ l. PassesUp l places s (insert_place rows places)) (sym same) h)
+
+  pub up_fails : (i : ℕ) (b : Bool) → i < length places → (IsTrue b) ↔ (PassesUp list places (get_or places i 0) p) → b ≡ false → (IsTrue false) ↔ (PassesUpCheck rows places)
+  up_fails i b within tells came =
+      answers_no (PassesUpCheck rows places) (λ up. fails (PassesUp list places (get_or places i 0) p) b tells came (from_table (get_or places i 0) (up (get_or places i 0) (has-at places i within))))
+
+  pub up_more : (i : ℕ) (b : Bool) → ((k : ℕ) → k < i → PassesUp rows places (get_or places k 0) (insert_place rows places)) → (IsTrue b) ↔ (PassesUp list places (get_or places i 0) p) → b ≡ true
+      → (k : ℕ) → k < i + 1 → PassesUp rows places (get_or places k 0) (insert_place rows places)
+  up_more i b before tells came = below_more (λ k. PassesUp rows places (get_or places k 0) (insert_place rows places)) i before (at_table (get_or places i 0) (tells.0 came))
+
+pub up_all : (rows : List Row) (places : List ℕ) (i : ℕ) → length places ≤ i → ((k : ℕ) → k < i → PassesUp rows places (get_or places k 0) (insert_place rows places)) → PassesUpCheck rows places
+up_all rows places i all before s found =
+    let at = has-place places s found in
+    subst (λ k. PassesUp rows places k (insert_place rows places)) at.2 (before at.0 (omega (arith, at.1)))
+
+-- ---- one row against another
+
+module _ (rows : List Row) (places : List ℕ) (s r : ℕ) (first later : Row) (in_s : s < length rows) (in_r : r < length rows) (is_first : first ≡ get_or rows s first) (is_later : later ≡ get_or rows r later) where
+  pub clear_from : Misses later.block first → IsClearOf rows places s r
+  clear_from missed d outside = pair_read rows (λ (x y : Row). Misses x.block y) r s later first in_r in_s is_later is_first missed d
+
+  pub missed_from : IsClearOf rows places s r → has_row places r ≡ false → Misses later.block first
+  missed_from clear outside =
+      let a : get_or rows r first ≡ later = get_or_default rows r first later in_r ∙ sym is_later in
+      subst (λ (x : Row). Misses later.block x) (sym is_first) (subst (λ (x : Row). Misses x.block (get_or rows s first)) a (clear first outside))
+
+  pub answer_of : (found missed : Bool) → found ≡ has_row places r → (IsTrue missed) ↔ (Misses later.block first) → missed ≡ false → (IsTrue found) ↔ (IsClearOf rows places s r)
+  answer_of true missed is tells came = (λ t d outside. absurd (true≢false (is ∙ outside)), λ clear. refl)
+  answer_of false missed is tells came = (λ t. absurd (false≢true t), λ clear. absurd (fails (Misses later.block first) missed tells came (missed_from clear (sym is))))

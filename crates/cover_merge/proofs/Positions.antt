@@ -1,0 +1,234 @@
+-- Places of rows: those of a set, and the insertion place of a merge.
+use Rattle.std.proofs.Common.{◌≡◌, ℕ, zero, suc, ◌+◌, ◌-◌, ◌<◌, ◌≤◌, true, false, cond, ◌||◌, Option, Some, None, List, [], ◌∷◌, ◌++◌, length, get_or, take, drop, refl, sym, ap, ◌∙◌, zero-add, add_comm, length-take, length-drop, get_or-take, get_or-drop, subst, inl, inr, ◌⊎◌, arith}
+use Rattle.std.specs.Prelude.{All, AllPairs, map, nat_le, ◌==◌, slice_get}
+use Rattle.std.specs.List.{cons_option}
+use Rattle.std.proofs.lemmas.List.{take_more, map-append, get_or_default}
+use Rattle.std.proofs.lemmas.Bool.{eqb-true, eq-eqb, or_right}
+use Rattle.std.proofs.lemmas.Bool.Decides.{leb_tells, eqb_tells, nat_tests}
+use Rattle.std.proofs.lemmas.List.Elements.{All-take, All-drop, filter_map-append, All-nil, All-cons, All-head, All-tail}
+use Rattle.std.proofs.lemmas.List.Sums.{sum_by-append, count_by-le-length}
+use Rattle.std.proofs.lemmas.Option.{slice_get-get_or, get_or_from_slice_get}
+use Rattle.spin_base.specs.declared.blocks.Block.{Block}
+use Rattle.tern_word.specs.declared.tables.Row.{Row}
+use Rattle.tern_word.specs.Ternary.{generality, merge_of, merge_two}
+use Rattle.tern_word.specs.SoundTable.{IsOrdered}
+use Rattle.tern_word.proofs.BlockLaws.{generality-merge, merge_of-push}
+use Rattle.spin_base.proofs.RouteBits.{same_route}
+use Rattle.cover_merge.specs.Merge.{SameRoute, has_row, rows_at, merged_block, place_for, insert_place, IsMergeSet}
+use Rattle.cover_merge.proofs.Lists.{All-from_map, AllPairs-head, AllPairs-tail}
+
+-- ---- places of a set
+
+-- each place of a set is found
+pub has-at : (places : List ℕ) (i : ℕ) → i < length places → has_row places (get_or places i 0) ≡ true
+has-at [] i in_range = absurd (omega arith)
+has-at (s ∷ places) zero in_range = rw (eq-eqb s s refl) refl
+has-at (s ∷ places) (suc i) in_range = or_right (s == get_or places i 0) (has_row places (get_or places i 0)) (has-at places i (omega arith))
+
+-- and what is found is a place of it
+pub has-place : (places : List ℕ) (k : ℕ) → has_row places k ≡ true → (i : ℕ) × (i < length places) × (get_or places i 0 ≡ k)
+has-place [] k found = absurd (grind (arith, found))
+has-place (s ∷ places) k found = by_head (eqb_tells s k) (λ rest. has-place places k rest)
+  where
+    by_head : ((s == k) ≡ true) × (s ≡ k) ⊎ ((s == k) ≡ false) × (s ≡ k → ⊥) → (has_row places k ≡ true → (i : ℕ) × (i < length places) × (get_or places i 0 ≡ k)) → (i : ℕ) × (i < suc (length places)) × (get_or (s ∷ places) i 0 ≡ k)
+    by_head (inl here) rest = (0, omega arith, here.1)
+    by_head (inr other) rest = let later = rest (subst (λ b. (b || has_row places k) ≡ true) other.0 found) in (suc later.0, omega (arith, later.1), later.2)
+
+pub has-later : (s : ℕ) (places : List ℕ) (k : ℕ) → has_row places k ≡ true → has_row (s ∷ places) k ≡ true
+has-later s places k found = or_right (s == k) (has_row places k) found
+
+-- what holds of all places holds of one that is found
+pub All-has : (P : ℕ → Type 0) (places : List ℕ) (k : ℕ) → All P places → has_row places k ≡ true → P k
+All-has P places k all found = let at = has-place places k found in subst P at.2 (all at.0 0 at.1)
+
+-- ---- rows of a set
+
+module _ (P : Row → Type 0) where
+  All-cons_option : (o : Option Row) (rows : List Row) → ((r : Row) → o ≡ Some r → P r) → All P rows → All P (cons_option o rows)
+  All-cons_option None rows here rest = rest
+  All-cons_option (Some r) rows here rest = All-cons P r rows (here r refl) rest
+
+  rest_of_cons_option : (o : Option Row) (rows : List Row) → All P (cons_option o rows) → All P rows
+  rest_of_cons_option None rows all = all
+  rest_of_cons_option (Some r) rows all = All-tail P r rows all
+
+  head_of_cons_option : (o : Option Row) (r : Row) (rows : List Row) → o ≡ Some r → All P (cons_option o rows) → P r
+  head_of_cons_option o r rows is all = All-head P r rows (subst (λ x. All P (cons_option x rows)) is all)
+
+  module _ (rows : List Row) where
+    -- what holds at each place of a set holds of its rows
+    pub rows_at-from : (places : List ℕ) → ((s : ℕ) (d : Row) → has_row places s ≡ true → P (get_or rows s d)) → All P (rows_at rows places)
+    rows_at-from [] h = All-nil P
+    rows_at-from (s ∷ places) h =
+        All-cons_option (slice_get rows s) (rows_at rows places)
+        (λ r is. subst P (get_or_from_slice_get rows s r r is) (h s r (has-at (s ∷ places) 0 (omega arith))))
+        (rows_at-from places (λ k d found. h k d (has-later s places k found)))
+
+    rows_at-nth : (places : List ℕ) → All (λ s. s < length rows) places → All P (rows_at rows places) → (i : ℕ) (d : Row) → i < length places → P (get_or rows (get_or places i 0) d)
+    rows_at-nth [] in_range all i d within = absurd (omega arith)
+    rows_at-nth (s ∷ places) in_range all zero d within =
+        head_of_cons_option (slice_get rows s) (get_or rows s d) (rows_at rows places) (slice_get-get_or rows s d (All-head (λ x. x < length rows) s places in_range)) all
+    rows_at-nth (s ∷ places) in_range all (suc i) d within =
+        rows_at-nth places (All-tail (λ x. x < length rows) s places in_range) (rest_of_cons_option (slice_get rows s) (rows_at rows places) all) i d (omega arith)
+
+    -- and what holds of its rows holds at each place
+    pub rows_at-has : (places : List ℕ) → All (λ s. s < length rows) places → All P (rows_at rows places) → (s : ℕ) (d : Row) → has_row places s ≡ true → P (get_or rows s d)
+    rows_at-has places in_range all s d found = let at = has-place places s found in subst (λ k. P (get_or rows k d)) at.2 (rows_at-nth places in_range all at.0 d at.1)
+
+slice_get_known : (rows : List Row) (s : ℕ) → s < length rows → (r : Row) × (slice_get rows s ≡ Some r)
+slice_get_known [] s within = absurd (omega arith)
+slice_get_known (r ∷ rows) zero within = (r, refl)
+slice_get_known (r ∷ rows) (suc s) within = slice_get_known rows s (omega arith)
+
+-- a set within the table has as many rows as places
+pub rows_at-length : (rows : List Row) (places : List ℕ) → All (λ s. s < length rows) places → length (rows_at rows places) ≡ length places
+rows_at-length rows [] in_range = refl
+rows_at-length rows (s ∷ places) in_range =
+    longer (slice_get rows s) (slice_get_known rows s (All-head (λ x. x < length rows) s places in_range)) (rows_at rows places)
+    ∙ ap suc (rows_at-length rows places (All-tail (λ x. x < length rows) s places in_range))
+  where
+    longer : (o : Option Row) → (r : Row) × (o ≡ Some r) → (xs : List Row) → length (cons_option o xs) ≡ suc (length xs)
+    longer o (r, is) xs = ap (λ x. length (cons_option x xs)) is
+
+-- one more place, one more row
+pub rows_at-push : (rows : List Row) (places : List ℕ) (s : ℕ) (r : Row) → slice_get rows s ≡ Some r → rows_at rows (places ++ s ∷ []) ≡ rows_at rows places ++ r ∷ []
+rows_at-push rows places s r is = filter_map-append (slice_get rows) places (s ∷ []) ∙ ap (λ o. rows_at rows places ++ cons_option o []) is
+
+-- rows have blocks
+pub some_blocks : (xs : List Row) → 0 < length xs → 0 < length (map (λ (x : Row). x.block) xs)
+some_blocks [] some = some
+some_blocks (x ∷ xs) some = omega arith
+
+pub merged_block-push : (rows : List Row) (places : List ℕ) (s : ℕ) (r : Row) → All (λ x. x < length rows) places → 0 < length places → slice_get rows s ≡ Some r
+    → merged_block rows (places ++ s ∷ []) ≡ merge_two (merged_block rows places) r.block
+merged_block-push rows places s r in_range some is =
+    ap (λ xs. merge_of (map (λ (x : Row). x.block) xs)) (rows_at-push rows places s r is)
+    ∙ ap merge_of (map-append (λ (x : Row). x.block) (rows_at rows places) (r ∷ []))
+    ∙ merge_of-push (map (λ (x : Row). x.block) (rows_at rows places)) r.block (some_blocks (rows_at rows places) (omega (arith, rows_at-length rows places in_range)))
+
+-- The places after the first, as the code takes them: each turn merges the row of the next.
+abbrev pub later : List ℕ → List ℕ
+later places = take (length places - 1) (drop 1 places)
+
+pub merged_block-more : (rows : List Row) (places : List ℕ) (i : ℕ) (r : Row) → All (λ x. x < length rows) places → i < length (later places) → slice_get rows (get_or (later places) i 0) ≡ Some r
+    → merge_two (merged_block rows (take (i + 1) places)) r.block ≡ merged_block rows (take (i + 1 + 1) places)
+merged_block-more rows places i r in_range within is =
+    let long : i + 1 < length places = omega (arith, length-take (length places - 1) (drop 1 places), length-drop 1 places) in
+    let here : get_or (later places) i 0 ≡ get_or places (i + 1) 0 = get_or-take (length places - 1) (drop 1 places) i 0 (omega arith) ∙ get_or-drop 1 places i 0 ∙ ap (λ j. get_or places j 0) (add_comm 1 i) in
+    sym (merged_block-push rows (take (i + 1) places) (get_or places (i + 1) 0) r (All-take (λ x. x < length rows) (i + 1) places in_range) (omega (arith, length-take (i + 1) places)) (ap (slice_get rows) (sym here) ∙ is))
+    ∙ ap (merged_block rows) (sym (take_more places (i + 1) 0 long))
+
+pub merged_block-turn : (rows : List Row) (places : List ℕ) (i : ℕ) (r : Row) (m n : Block) → All (λ x. x < length rows) places → i < length (later places) → m ≡ merged_block rows (take (i + 1) places)
+    → n ≡ merge_two m (get_or rows (get_or (later places) i 0) r).block → n ≡ merged_block rows (take (i + 1 + 1) places)
+merged_block-turn rows places i r m n in_range within before now =
+    let place = get_or (later places) i 0 in
+    let inside : place < length rows = All-take (λ x. x < length rows) (length places - 1) (drop 1 places) (All-drop (λ x. x < length rows) 1 places in_range) i 0 within in
+    now ∙ ap (λ x. merge_two x (get_or rows place r).block) before ∙ merged_block-more rows places i (get_or rows place r) in_range within (slice_get-get_or rows place r inside)
+
+-- ---- the insertion place
+
+place_for-cons : (r : Row) (rows : List Row) (g : ℕ) → place_for (r ∷ rows) g ≡ cond (nat_le (generality r.block) g) 1 0 + place_for rows g
+place_for-cons r rows g =
+    sum_by-append (λ (x : Row). cond (nat_le (generality x.block) g) 1 0) (r ∷ []) rows
+    ∙ ap (λ x. x + place_for rows g) (zero-add (cond (nat_le (generality r.block) g) 1 0))
+
+-- where all are more general, none counts
+place_for-none : (rows : List Row) (g : ℕ) → All (λ (r : Row). g < generality r.block) rows → place_for rows g ≡ 0
+place_for-none [] g all = refl
+place_for-none (r ∷ rows) g all =
+    let above : g < generality r.block = All-head (λ (x : Row). g < generality x.block) r rows all in
+    let rest = place_for-none rows g (All-tail (λ (x : Row). g < generality x.block) r rows all) in
+    place_for-cons r rows g ∙ grind (arith, nat_tests, above, rest)
+
+pub place_for-le : (rows : List Row) (g : ℕ) → place_for rows g ≤ length rows
+place_for-le rows g = count_by-le-length (λ (r : Row). nat_le (generality r.block) g) rows
+
+-- a row above g has none of generality g or less behind it
+behind : (r : Row) (rows : List Row) (g : ℕ) → IsOrdered (r ∷ rows) → g < generality r.block → place_for rows g ≡ 0
+behind r rows g ordered above = place_for-none rows g (λ k d in_range. omega (arith, AllPairs-head (λ (x y : Row). generality x.block ≤ generality y.block) r rows ordered k d in_range))
+
+-- in an ordered table, the rows before the place are those of lesser or equal generality
+pub place_for-below : (rows : List Row) (g : ℕ) → IsOrdered rows → (k : ℕ) (d : Row) → k < place_for rows g → generality (get_or rows k d).block ≤ g
+place_for-below [] g ordered k d before = absurd (omega arith)
+place_for-below (r ∷ rows) g ordered k d before = by_head k (leb_tells (generality r.block) g) before (λ j h. place_for-below rows g (AllPairs-tail (λ (x y : Row). generality x.block ≤ generality y.block) r rows ordered) j d h)
+  where
+    by_head : (k : ℕ) → ((nat_le (generality r.block) g ≡ true) × (generality r.block ≤ g)) ⊎ ((nat_le (generality r.block) g ≡ false) × (g < generality r.block))
+        → k < place_for (r ∷ rows) g → ((j : ℕ) → j < place_for rows g → generality (get_or rows j d).block ≤ g) → generality (get_or (r ∷ rows) k d).block ≤ g
+    by_head zero (inl low) h rest = low.1
+    by_head (suc k) (inl low) h rest =
+        let count = place_for-cons r rows g ∙ ap (λ b. cond b 1 0 + place_for rows g) low.0 in
+        rest k (omega (arith, count))
+    by_head k (inr high) h rest =
+        let count = place_for-cons r rows g ∙ ap (λ b. cond b 1 0 + place_for rows g) high.0 in
+        absurd (omega (arith, count, behind r rows g ordered high.1))
+
+pub place_for-above : (rows : List Row) (g : ℕ) → IsOrdered rows → (k : ℕ) (d : Row) → k < length rows → generality (get_or rows k d).block ≤ g → k < place_for rows g
+place_for-above [] g ordered k d in_range le = absurd (omega arith)
+place_for-above (r ∷ rows) g ordered k d in_range le = by_head k (leb_tells (generality r.block) g) in_range le (λ j within h. place_for-above rows g (AllPairs-tail (λ (x y : Row). generality x.block ≤ generality y.block) r rows ordered) j d within h)
+  where
+    by_head : (k : ℕ) → ((nat_le (generality r.block) g ≡ true) × (generality r.block ≤ g)) ⊎ ((nat_le (generality r.block) g ≡ false) × (g < generality r.block))
+        → k < length (r ∷ rows) → generality (get_or (r ∷ rows) k d).block ≤ g → ((j : ℕ) → j < length rows → generality (get_or rows j d).block ≤ g → j < place_for rows g) → k < place_for (r ∷ rows) g
+    by_head zero (inl low) within h rest =
+        let count = place_for-cons r rows g ∙ ap (λ b. cond b 1 0 + place_for rows g) low.0 in omega (arith, count)
+    by_head (suc k) (inl low) within h rest =
+        let count = place_for-cons r rows g ∙ ap (λ b. cond b 1 0 + place_for rows g) low.0 in omega (arith, count, rest k (omega arith) h)
+    by_head zero (inr high) within h rest = absurd (omega (arith, high.1))
+    by_head (suc k) (inr high) within h rest =
+        absurd (omega (arith, high.1, AllPairs-head (λ (x y : Row). generality x.block ≤ generality y.block) r rows ordered k d (omega arith)))
+
+-- ---- every member of a set stands before its insertion place
+
+module _ (rows : List Row) (places : List ℕ) (in_range : All (λ s. s < length rows) places) where
+  -- each member is at most as general as the merge
+  pub member_le : (s : ℕ) (d : Row) → has_row places s ≡ true → generality (get_or rows s d).block ≤ generality (merged_block rows places)
+  member_le = rows_at-has (λ (r : Row). generality r.block ≤ generality (merged_block rows places)) rows places in_range (All-from_map (λ b. generality b ≤ generality (merged_block rows places)) (λ (x : Row). x.block) (rows_at rows places) (generality-merge _))
+
+  pub member_before : IsOrdered rows → (s : ℕ) (d : Row) → has_row places s ≡ true → s < insert_place rows places
+  member_before ordered s d found = place_for-above rows _ ordered s d (All-has (λ x. x < length rows) places s in_range found) (member_le s d found)
+
+-- ---- a pair
+
+module _ (rows : List Row) (i j : ℕ) where
+  pub pair_in_range : i < j → j < length rows → All (λ s. s < length rows) (i ∷ j ∷ [])
+  pair_in_range less within zero d in_range = omega arith
+  pair_in_range less within (suc zero) d in_range = within
+  pair_in_range less within (suc (suc k)) d in_range = absurd (omega arith)
+
+  -- two rows of one route are a set
+  pub pair_set : i < j → j < length rows → (r s : Row) → r ≡ get_or rows i r → s ≡ get_or rows j s → r.route ≡ s.route → IsMergeSet rows (i ∷ j ∷ [])
+  pair_set less within r s first second same = record {
+    set = record {
+      ascending = ascends;
+      in_range = pair_in_range less within;
+      one_route = agree;
+    };
+    two = omega arith;
+  }
+    where
+      ascends : AllPairs (λ x y. x < y) (i ∷ j ∷ [])
+      ascends zero (suc zero) d before in_range = less
+      ascends zero zero d before in_range = absurd (omega arith)
+      ascends zero (suc (suc b)) d before in_range = absurd (omega arith)
+      ascends (suc a) zero d before in_range = absurd (omega arith)
+      ascends (suc a) (suc b) d before in_range = absurd (omega arith)
+
+      alike : SameRoute rows i j
+      alike d =
+          ap (λ (x : Row). x.route) (get_or_default rows i d r (omega arith) ∙ sym first)
+          ∙ same ∙ ap (λ (x : Row). x.route) (second ∙ get_or_default rows j s d within)
+
+      agree : AllPairs (SameRoute rows) (i ∷ j ∷ [])
+      agree zero (suc zero) d before in_range = alike
+      agree zero zero d before in_range = absurd (omega arith)
+      agree zero (suc (suc b)) d before in_range = absurd (omega arith)
+      agree (suc a) zero d before in_range = absurd (omega arith)
+      agree (suc a) (suc b) d before in_range = absurd (omega arith)
+
+-- ---- two rows with one route
+
+-- two rows that were read, whose routes came out equal, are a set
+pub pair_set_read : (list rows : List Row) → list ≡ rows → (i j : ℕ) (d e : Row) → i < j → j < length list → ((get_or list i d).route.bits == (get_or list j e).route.bits) ≡ true → IsMergeSet rows (i ∷ j ∷ [])
+pair_set_read list rows same i j d e less within equal =
+    subst (λ l. IsMergeSet l (i ∷ j ∷ [])) same
+    (pair_set list i j less within (get_or list i d) (get_or list j e) (get_or_default list i d (get_or list i d) (omega arith)) (get_or_default list j e (get_or list j e) within)
+    (same_route (get_or list i d).route (get_or list j e).route (eqb-true (get_or list i d).route.bits (get_or list j e).route.bits equal)))

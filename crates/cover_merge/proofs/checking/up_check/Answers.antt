@@ -1,0 +1,23 @@
+-- The check fails where one place fails it; a merge that is legal on a sound table fails none.
+use Rattle.std.proofs.Common.{refl}
+use Rattle.cover_merge.proofs.Answering.{up_fails, up_more, up_all}
+use Rattle.cover_merge.proofs.Legal.{up_from_legal}
+use Rattle.cover_merge.proofs.checking.up_check.Goals as goal
+
+pub returns-then-not-passes_up-clause-passes : goal.returns-then-not-passes_up-clause-passes
+returns-then-not-passes_up-clause-passes c =
+    up_fails c.args.table.now.rows c.args.places.now c.as_slice-rows.result.now c.as_slice-rows.ensures c.insert_place-place.result c.insert_place-place.ensures c.loop-s.s-index c.passes_up.result c.loop-s-test.true c.passes_up.ensures c.if-not-passes_up.true
+
+pub returns-then-not-passes_up-clause-legal : goal.returns-then-not-passes_up-clause-legal
+returns-then-not-passes_up-clause-legal c = λ sound legal.
+    (returns-then-not-passes_up-clause-passes c).1 (up_from_legal c.args.table.now.rows c.args.places.now sound c.requires.set.set.in_range legal)
+
+pub loop-s-preserved : goal.loop-s-preserved
+loop-s-preserved c =
+    up_more c.args.table.now.rows c.args.places.now c.as_slice-rows.result.now c.as_slice-rows.ensures c.insert_place-place.result c.insert_place-place.ensures c.loop-s.s-index c.passes_up.result c.loop-s.invariant c.passes_up.ensures c.if-not-passes_up.false
+
+pub returns-clause-passes : goal.returns-clause-passes
+returns-clause-passes c = (λ _. up_all c.args.table.now.rows c.args.places.now c.loop-s.s-index c.loop-s-test.false c.loop-s.invariant, λ _. refl)
+
+pub returns-clause-legal : goal.returns-clause-legal
+returns-clause-legal c = λ sound legal. refl

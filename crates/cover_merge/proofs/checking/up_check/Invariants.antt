@@ -1,0 +1,7 @@
+-- The places passed pass the check.
+use Rattle.std.proofs.Common.{ℕ, ◌<◌, get_or}
+use Rattle.cover_merge.specs.Merge.{PassesUp, insert_place}
+use Rattle.cover_merge.proofs.checking.up_check.Given as goal
+
+abbrev pub invariant-loop-s : goal.invariant-loop-s
+invariant-loop-s l = (k : ℕ) → k < l.s-index → PassesUp l.table.rows l.places (get_or l.places k 0) (insert_place l.table.rows l.places)

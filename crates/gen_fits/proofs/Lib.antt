@@ -1,5 +1,0 @@
-mod Joined
-mod Keyed
-mod Roomy
-pub mod Fitting
-mod FewRows

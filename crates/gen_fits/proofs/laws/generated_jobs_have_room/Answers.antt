@@ -1,6 +1,0 @@
--- The laws, as the lemmas say them.
-use Rattle.gen_fits.proofs.Fitting.{gen_room, gen_keys, gen_joined}
-use Rattle.gen_fits.proofs.laws.generated_jobs_have_room.Goals as goal
-
-pub returns : goal.returns
-returns c = record { room = gen_room; keys = gen_keys; joined = gen_joined }

@@ -1,0 +1,145 @@
+-- The chips of the board are joined by live links.
+use Rattle.std.proofs.Common.{◌≡◌, ℕ, zero, suc, ◌+◌, ◌<◌, ◌≤◌, List, [], ◌∷◌, ◌++◌, Bool, true, false, not, ◌&&◌, ◌||◌, Option, Some, None, if◌then◌else◌, inl, inr, ◌⊎◌, refl, sym, ap, ◌∙◌, subst, arith}
+use Rattle.std.specs.Prelude.{nat_lt}
+use Rattle.std.proofs.lemmas.Bool.{agree_below, agree_below_at, and_parts, or_cases, ltb-true, not-true, false≢true}
+use Rattle.spin_base.specs.declared.chips.Chip.{Chip}
+use Rattle.spin_base.specs.declared.chips.Dir.{Dir}
+use Rattle.spin_base.specs.declared.chips.Dir.TheVariants.{West, SouthWest, South}
+use Rattle.spin_base.specs.Equality.{chip_eq}
+use Rattle.spin_base.specs.Links.{opposite_of}
+use Rattle.spin_base.proofs.Equality.{chip_eq_true}
+use Rattle.machine_desc.specs.Description.{Description}
+use Rattle.machine_desc.specs.Live.{far_of, is_live_chip, is_live_link, IsLiveChip, IsLiveLink, LeadsTo, IsLiveWalk, live_count_of}
+use Rattle.machine_desc.proofs.Far.{inside_parts, live_inside, live_ends, far_back, live_back}
+use Rattle.link_detours.specs.Repair.{last_of, IsWalkTo, IsCutOff}
+use Rattle.job_gen.specs.Values.{dead_pairs}
+use Rattle.job_gen.specs.Board.{generated_board}
+
+pub live_chips : live_count_of generated_board ≡ 48
+unfolding generated_board dead_pairs
+live_chips = refl
+
+-- ---- from each chip a live link leads nearer to (0, 0), whose number of steps falls
+
+abbrev origin : Chip
+origin = record { x = 0; y = 0 }
+
+abbrev steps_of : Chip → ℕ
+steps_of c = c.x + c.y
+
+abbrev toward : Chip → Dir
+toward c = if is_live_link generated_board c West then West else (if is_live_link generated_board c South then South else SouthWest)
+
+abbrev is_nearer : Chip → Option Chip → Bool
+is_nearer c None = false
+is_nearer c (Some e) = nat_lt (steps_of e) (steps_of c)
+
+abbrev goes_nearer : Chip → Bool
+goes_nearer c = not (is_live_chip generated_board c) || (chip_eq c origin || (is_live_link generated_board c (toward c) && is_nearer c (far_of generated_board c (toward c))))
+
+abbrev chip : ℕ → ℕ → Chip
+chip x y = record { x = x; y = y }
+
+-- by computing over the board once
+each_goes : agree_below (λ (x : ℕ). agree_below (λ (y : ℕ). goes_nearer (chip x y)) (λ (y : ℕ). true) 8) (λ (x : ℕ). true) 8 ≡ true
+unfolding generated_board dead_pairs
+each_goes = refl
+
+inside : (c : Chip) → IsLiveChip generated_board c → (c.x < 8) × (c.y < 8)
+unfolding generated_board
+inside c live = inside_parts generated_board c (live_inside generated_board c live)
+
+goes : (c : Chip) → IsLiveChip generated_board c → goes_nearer c ≡ true
+goes c live =
+    let within = inside c live in
+    agree_below_at (λ (y : ℕ). goes_nearer (chip c.x y)) (λ (y : ℕ). true) 8 c.y
+    (agree_below_at (λ (x : ℕ). agree_below (λ (y : ℕ). goes_nearer (chip x y)) (λ (y : ℕ). true) 8) (λ (x : ℕ). true) 8 c.x each_goes within.0)
+    within.1
+
+-- the chip is (0, 0), or a live link leads from it to a nearer one
+pub record IsNearer (c : Chip) : Type 0 where
+  pub next : Chip
+  pub forth : LeadsTo generated_board c next
+  pub back : LeadsTo generated_board next c
+  pub live : IsLiveChip generated_board next
+  pub less : steps_of next < steps_of c
+
+nearer_at : (c e : Chip) (d : Dir) → IsLiveChip generated_board c → IsLiveLink generated_board c d → far_of generated_board c d ≡ Some e → IsLiveChip generated_board e → is_nearer c (far_of generated_board c d) ≡ true → IsNearer c
+nearer_at c e d live link far live_e less =
+    let fewer : is_nearer c (Some e) ≡ true = ap (is_nearer c) (sym far) ∙ less in
+    record {
+      next = e;
+      forth = (d, link, far);
+      back = (opposite_of d, live_back generated_board c e d far link, far_back generated_board c e d (live_inside generated_board c live) far);
+      live = live_e;
+      less = ltb-true (steps_of e) (steps_of c) fewer;
+    }
+
+step : (c : Chip) → IsLiveChip generated_board c → (c ≡ origin) ⊎ IsNearer c
+step c live =
+    elim (or_cases (not (is_live_chip generated_board c)) _ (goes c live)) [
+      | inl dead ↦ absurd (false≢true (sym (not-true (is_live_chip generated_board c) dead) ∙ live))
+      | inr rest ↦ elim (or_cases (chip_eq c origin) _ rest) [
+        | inl same ↦ inl (chip_eq_true c origin same)
+        | inr parts ↦ (
+            let both = and_parts (is_live_link generated_board c (toward c)) (is_nearer c (far_of generated_board c (toward c))) parts in
+            let ends = live_ends generated_board c (toward c) both.0 in
+            inr (nearer_at c ends.0 (toward c) live both.0 ends.1 ends.3 both.1)
+            )
+      ]
+    ]
+
+-- ---- walks
+
+walk_more : (m : Description) (a : Chip) (w : List Chip) (v : List Chip) → IsLiveWalk m (a ∷ w) → IsLiveWalk m (last_of a w ∷ v) → IsLiveWalk m (a ∷ (w ++ v))
+walk_more m a [] v first second = second
+walk_more m a (b ∷ w) v first second = (first.0, walk_more m b w v first.1 second)
+
+last_more : (a : Chip) (w v : List Chip) → last_of a (w ++ v) ≡ last_of (last_of a w) v
+last_more a [] v = refl
+last_more a (b ∷ w) v = last_more b w v
+
+unfoldable Joins : Chip → Chip → Type 0
+Joins a b = (walk : List Chip) × IsWalkTo generated_board a b walk
+
+join : (a b c : Chip) → Joins a b → Joins b c → Joins a c
+unfolding Joins
+join a b c one two = (
+  one.0 ++ two.0,
+  (
+    walk_more generated_board a one.0 two.0 one.1.0 (subst (λ e. IsLiveWalk generated_board (e ∷ two.0)) (sym one.1.1) two.1.0),
+    last_more a one.0 two.0 ∙ ap (λ e. last_of e two.0) one.1.1 ∙ two.1.1,
+  ),
+)
+
+by_link : (a b : Chip) → LeadsTo generated_board a b → Joins a b
+unfolding Joins
+by_link a b leads = (b ∷ [], ((leads, tt), refl))
+
+itself : (a : Chip) → Joins a a
+unfolding Joins
+itself a = ([], (tt, refl))
+
+-- walks to (0, 0) and back
+at_origin : (c : Chip) → c ≡ origin → Joins c origin × Joins origin c
+at_origin c same = (subst (λ e. Joins e origin) (sym same) (itself origin), subst (λ e. Joins origin e) (sym same) (itself origin))
+
+home : (k : ℕ) (c : Chip) → steps_of c ≤ k → IsLiveChip generated_board c → Joins c origin × Joins origin c
+home zero c few live = elim (step c live) [
+  | inl same ↦ at_origin c same
+  | inr nearer ↦ absurd (omega (arith, nearer.less))
+]
+home (suc k) c few live = elim (step c live) [
+  | inl same ↦ at_origin c same
+  | inr nearer ↦ (
+      let rest = home k nearer.next (omega (arith, nearer.less)) nearer.live in
+      (join c nearer.next origin (by_link c nearer.next nearer.forth) rest.0, join origin nearer.next c rest.1 (by_link nearer.next c nearer.back))
+      )
+]
+
+pub joined : (a b : Chip) → IsLiveChip generated_board a → IsLiveChip generated_board b → (walk : List Chip) × IsWalkTo generated_board a b walk
+unfolding Joins
+joined a b live also = join a origin b (home (steps_of a) a (omega arith) live).0 (home (steps_of b) b (omega arith) also).1
+
+pub not_cut_off : (a b : Chip) → IsLiveChip generated_board a → IsLiveChip generated_board b → IsCutOff generated_board a b → ⊥
+not_cut_off a b live also cut = let way = joined a b live also in cut way.0 way.1

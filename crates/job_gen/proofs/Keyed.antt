@@ -1,0 +1,155 @@
+-- Nets that need at most 16 keys each, and have none fixed: the first i nets take keys below 16 * i, so a range is left.
+use Rattle.std.proofs.Common.{◌≡◌, ℕ, zero, suc, ◌+◌, ◌-◌, ◌*◌, ◌%◌, ◌^◌, ◌<◌, ◌≤◌, List, [], ◌∷◌, ◌++◌, length, take, map, All, Bool, true, false, Option, Some, None, MatchOption, slice_get, inl, inr, ◌⊎◌, refl, sym, ap, ◌∙◌, subst, arith}
+use Rattle.std.specs.Int.{IsPowerOfTwo}
+use Rattle.std.specs.List.{filter_map}
+use Rattle.std.proofs.lemmas.Bool.{cases_lt}
+use Rattle.spin_base.specs.declared.blocks.Block.{Block}
+use Rattle.app_graph.specs.declared.graphs.Net.{Net}
+use Rattle.range_store.specs.Regions.{in_range}
+use Rattle.key_alloc.specs.KeyBlocks.{size_of, IsSizeFor, MissesRange, fixed_of, IsOpenPlace, IsLeastBlock, IsBlockFor, AreFirstBlocks, AreKeysOut}
+use Rattle.std.proofs.Math.Pow.{pow_mono}
+use Rattle.std.proofs.lemmas.Bool.{and_parts, leb-true, ltb-true}
+use Rattle.std.proofs.lemmas.List.{length-take, get_or-take, take_all}
+use Rattle.std.proofs.lemmas.Option.{slice_get_within, slice_get-get_or, get_or_from_slice_get}
+use Rattle.std.proofs.Common.{get_or, leb, ltb}
+
+-- ---- sizes
+
+-- a power of two is 1, 2, 4, 8, or at least 16
+powers : (k : ℕ) → (2 ^ k ≡ 1) ⊎ ((2 ^ k ≡ 2) ⊎ ((2 ^ k ≡ 4) ⊎ ((2 ^ k ≡ 8) ⊎ (16 ≤ 2 ^ k))))
+powers zero = inl refl
+powers (suc zero) = inr (inl refl)
+powers (suc (suc zero)) = inr (inr (inl refl))
+powers (suc (suc (suc zero))) = inr (inr (inr (inl refl)))
+powers (suc (suc (suc (suc k)))) = inr (inr (inr (inr (let more : 2 ^ 4 ≤ 2 ^ (suc (suc (suc (suc k)))) = pow_mono {i = 4} {j = suc (suc (suc (suc k)))} (omega arith) in omega (arith, more)))))
+
+power_cases : (p : ℕ) → IsPowerOfTwo p → (p ≡ 1) ⊎ ((p ≡ 2) ⊎ ((p ≡ 4) ⊎ ((p ≡ 8) ⊎ (16 ≤ p))))
+power_cases p (k, is) = subst (λ n. (n ≡ 1) ⊎ ((n ≡ 2) ⊎ ((n ≡ 4) ⊎ ((n ≡ 8) ⊎ (16 ≤ n))))) (sym is) (powers k)
+
+-- a size that no smaller power of two can take the place of
+least_size : (keys size : ℕ) → IsPowerOfTwo size → keys ≤ size → ((size ≡ 1) × (1 ≤ keys)) ⊎ (((size ≡ 2) × (2 ≤ keys)) ⊎ (((size ≡ 4) × (3 ≤ keys)) ⊎ (((size ≡ 8) × (5 ≤ keys)) ⊎ ((size ≡ 16) × (9 ≤ keys))))) → IsSizeFor keys size
+least_size keys size power enough which = record {
+  power = power;
+  enough = enough;
+  least = λ p is above. elim (power_cases p is) [
+    | inl one ↦ omega (arith, which)
+    | inr more ↦ elim more [
+      | inl two ↦ omega (arith, which)
+      | inr more ↦ elim more [
+        | inl four ↦ omega (arith, which)
+        | inr more ↦ elim more [ inl eight ↦ omega (arith, which) | inr large ↦ omega (arith, which) ]
+      ]
+    ]
+  ];
+}
+
+-- there is a size for 1 to 16 keys
+some_size : (keys : ℕ) → 1 ≤ keys → keys ≤ 16 → (size : ℕ) × IsSizeFor keys size
+some_size keys some few =
+    elim (cases_lt keys 2) [
+      | inl less ↦ (1, least_size keys 1 (0, refl) (omega arith) (inl (refl, some)))
+      | inr from2 ↦ elim (cases_lt keys 3) [
+        | inl less ↦ (2, least_size keys 2 (1, refl) (omega arith) (inr (inl (refl, from2))))
+        | inr from3 ↦ elim (cases_lt keys 5) [
+          | inl less ↦ (4, least_size keys 4 (2, refl) (omega arith) (inr (inr (inl (refl, from3)))))
+          | inr from5 ↦ elim (cases_lt keys 9) [
+            | inl less ↦ (8, least_size keys 8 (3, refl) (omega arith) (inr (inr (inr (inl (refl, from5))))))
+            | inr from9 ↦ (16, least_size keys 16 (4, refl) (omega arith) (inr (inr (inr (inr (refl, from9))))))
+          ]
+        ]
+      ]
+    ]
+
+-- such a size is at most 16, and divides 16
+size_small : (keys size : ℕ) → keys ≤ 16 → IsSizeFor keys size → size ≤ 16
+size_small keys size few is = is.least 16 (4, refl) few
+
+divides : (size i : ℕ) → IsPowerOfTwo size → size ≤ 16 → (16 * i) % size ≡ 0
+divides size i power small =
+    elim (power_cases size power) [
+      | inl one ↦ subst (λ s. (16 * i) % s ≡ 0) (sym one) (omega arith)
+      | inr more ↦ elim more [
+        | inl two ↦ subst (λ s. (16 * i) % s ≡ 0) (sym two) (omega arith)
+        | inr more ↦ elim more [
+          | inl four ↦ subst (λ s. (16 * i) % s ≡ 0) (sym four) (omega arith)
+          | inr more ↦ elim more [
+            | inl eight ↦ subst (λ s. (16 * i) % s ≡ 0) (sym eight) (omega arith)
+            | inr large ↦ (let same : size ≡ 16 = omega (arith, large, small) in subst (λ s. (16 * i) % s ≡ 0) (sym same) (omega arith))
+          ]
+        ]
+      ]
+    ]
+
+-- ---- blocks
+
+some_at : (xs : List Net) (i : ℕ) → i < length xs → (net : Net) × (slice_get xs i ≡ Some net)
+some_at [] i below = absurd (omega arith)
+some_at (x ∷ xs) zero below = (x, refl)
+some_at (x ∷ xs) (suc i) below = some_at xs i (omega arith)
+
+-- a block that ends at or below a place misses what begins there
+misses : (place size : ℕ) (b : Block) → b.key + size_of b ≤ place → MissesRange place size b
+misses place size b ends k mine its =
+    let upper : k < b.key + size_of b = ltb-true k (b.key + size_of b) (and_parts (leb b.key k) (ltb k (b.key + size_of b)) mine).1 in
+    let lower : place ≤ k = leb-true place k (and_parts (leb place k) (ltb k (place + size)) its).0 in
+    omega (arith, upper, lower, ends)
+
+abbrev EndAt : ℕ → List Block → Type 0
+EndAt i blocks = (k : ℕ) (b : Block) → k < i → slice_get blocks k ≡ Some b → b.key + size_of b ≤ 16 * (k + 1)
+
+-- what a net needs
+pub record NeedsFew (net : Net) : Type 0 where
+  pub free : net.fixed ≡ None
+  pub some : 1 ≤ net.keys
+  pub few : net.keys ≤ 16
+
+module _ (nets : List Net) (needs : (i : ℕ) (net : Net) → slice_get nets i ≡ Some net → NeedsFew net) (none_fixed : fixed_of nets ≡ []) (many : length nets ≤ 300) where
+  -- where the first blocks end low, a range behind them is open
+  open_behind : (blocks : List Block) (i size : ℕ) → i ≤ 300 → IsPowerOfTwo size → size ≤ 16 → EndAt i blocks → IsOpenPlace (fixed_of nets ++ take i blocks) size (16 * i)
+  open_behind blocks i size few power small ends = subst (λ l. IsOpenPlace (l ++ take i blocks) size (16 * i)) (sym none_fixed) (record {
+    aligned = divides size i power small;
+    within = omega arith;
+    apart = λ k d below. misses (16 * i) size (get_or (take i blocks) k d) (end_of k d below);
+  })
+    where
+      end_of : (k : ℕ) (d : Block) → k < length (take i blocks) → (get_or (take i blocks) k d).key + size_of (get_or (take i blocks) k d) ≤ 16 * i
+      end_of k d below =
+          let low : k < i = omega (arith, below, length-take i blocks) in
+          let here : k < length blocks = omega (arith, below, length-take i blocks) in
+          let same : get_or (take i blocks) k d ≡ get_or blocks k d = get_or-take i blocks k d low in
+          let bound = ends k (get_or blocks k d) low (slice_get-get_or blocks k d here) in
+          subst (λ (b : Block). b.key + size_of b ≤ 16 * i) (sym same) (omega (arith, bound, low))
+
+  module _ (blocks : List Block) (first : AreFirstBlocks nets blocks) where
+    block_ends : (i : ℕ) (b : Block) → slice_get blocks i ≡ Some b → EndAt i blocks → b.key + size_of b ≤ 16 * (i + 1)
+    block_ends i b at ends =
+        let below : i < length blocks = slice_get_within blocks i b at in
+        let in_nets : i < length nets = omega (arith, below, first.few) in
+        let net = some_at nets i in_nets in
+        let need = needs i net.0 net.1 in
+        let block : IsLeastBlock (fixed_of nets ++ take i blocks) net.0.keys b =
+        subst (λ o. MatchOption o (IsLeastBlock (fixed_of nets ++ take i blocks) net.0.keys b) (λ fixed. b ≡ fixed)) need.free (first.each i net.0 b net.1 at) in
+        let small : size_of b ≤ 16 = size_small net.0.keys (size_of b) need.few block.size in
+        let low : b.key ≤ 16 * i = block.least (16 * i) (open_behind blocks i (size_of b) (omega arith) block.size.power small ends) in
+        omega (arith, small, low)
+
+    all_end : (i : ℕ) → EndAt i blocks
+    all_end zero k b below at = absurd (omega arith)
+    all_end (suc i) k b below at = elim (cases_lt k i) [
+      | inl low ↦ all_end i k b low at
+      | inr high ↦ (
+          let same : k ≡ i = omega arith in
+          let here : slice_get blocks i ≡ Some b = ap (slice_get blocks) (sym same) ∙ at in
+          subst (λ j. b.key + size_of b ≤ 16 * (j + 1)) (sym same) (block_ends i b here (all_end i))
+          )
+    ]
+
+  pub keys_are_left : (i : ℕ) → AreKeysOut nets i → ⊥
+  keys_are_left i out =
+      let need = needs i out.net out.is in
+      let below : i < length nets = slice_get_within nets i out.net out.is in
+      let size = some_size out.net.keys need.some need.few in
+      let behind : IsOpenPlace (fixed_of nets ++ take i out.blocks) size.0 (16 * i) =
+      open_behind out.blocks i size.0 (omega arith) size.1.power (size_small out.net.keys size.0 need.few size.1) (all_end out.blocks out.before i) in
+      let whole : take i out.blocks ≡ out.blocks = take_all i out.blocks (omega (arith, out.here)) in
+      out.none size.0 (16 * i) size.1 (subst (λ l. IsOpenPlace (fixed_of nets ++ l) size.0 (16 * i)) whole behind)

@@ -1,0 +1,63 @@
+-- A job of version 1 or 2 has no device.
+use Rattle.std.proofs.Common.{◌≡◌, ℕ, ◌≤◌, ◌<◌, refl, sym, ap, ◌∙◌, subst, arith, inl, inr, List, [], ◌∷◌, ◌++◌, map, Bool, true, false, Option, Some, None, unwrap_or}
+use Rattle.std.specs.List.{All}
+use Rattle.std.specs.Prelude.{option_map, nat_le, codes, if◌then◌else◌}
+use Rattle.std.proofs.lemmas.Bool.{and_parts, leb-true, lt-leb}
+use Rattle.serde_json.specs.Data.{Data}
+use Rattle.spin_base.proofs.Members.{Contains-unmap}
+use Rattle.spin_base.proofs.Places.{All-each}
+use Rattle.machine_desc.specs.declared.trees.Edge.{Edge}
+use Rattle.app_graph.specs.declared.graphs.Vertex.{Vertex}
+use Rattle.job_text.specs.declared.faults.JobFault.{JobFault}
+use Rattle.job_text.specs.Members.{member_of, whole_number}
+use Rattle.job_text.specs.Paths.{member_at}
+use Rattle.job_text.specs.Reading.{◌▹◌}
+use Rattle.job_text.specs.Fields.{is_within, number_faults, number_value, object_value, range_unless, typed_faults}
+use Rattle.job_readers.specs.Entries.{link_value}
+use Rattle.job_readers.specs.Job.{job_own_faults, version_faults, version_value}
+use Rattle.job_readers.specs.GraphPart.{device_value, graph_members, graph_value, vertex_value, vertices_value}
+use Rattle.job_readers.specs.Members.{list_member, member_since, number_member, number_member_faults}
+use Rattle.job_readers.specs.WholeJob.{job_faults, job_value}
+
+-- a number without a fault is no greater than the greatest
+no_more : (path : List ℕ) (low high : ℕ) (o : Option Data) → number_faults path low high None o ≡ [] → number_value None o ≤ high
+no_more path low high None none = absurd cc
+no_more path low high (Some d) none = by_number (whole_number d) none
+  where
+    by_test : (b : Bool) → range_unless b path ≡ [] → b ≡ true
+    by_test true clear = refl
+    by_test false clear = absurd cc
+
+    by_number : (n : Option ℕ) → typed_faults (is_within low high) path n ≡ [] → unwrap_or n 0 ≤ high
+    by_number None clear = absurd cc
+    by_number (Some n) clear = leb-true _ _ (and_parts _ _ (by_test (is_within low high n) clear)).1
+
+low_version : (path : List ℕ) (d : Data) → version_faults path 2 d ≡ [] → version_value d ≤ 2
+unfolding version_faults version_value number_member_faults number_member
+low_version path d none = no_more (member_at path (codes "version")) 1 2 (member_of (codes "version") d) none
+
+-- the faults of a part, where all have none
+no_outer : (outer inner : List JobFault) → outer ▹ inner ≡ [] → inner ≡ []
+no_outer [] inner none = none
+no_outer (f ∷ fs) inner none = absurd cc
+
+no_first : (faults others : List JobFault) → faults ++ others ≡ [] → faults ≡ []
+no_first [] others none = refl
+no_first (f ∷ fs) others none = absurd cc
+
+no_device : (version : ℕ) (d : Data) → version ≤ 2 → device_value version d ≡ None
+unfolding device_value member_since
+no_device version d low =
+    let early : nat_le 3 version ≡ false = lt-leb 3 version (omega (arith, low)) in
+    ap (λ (b : Bool). option_map link_value (if b then member_of (codes "device") d else None)) early
+
+no_devices : (version : ℕ) (d : Data) → version ≤ 2 → All (λ (v : Vertex). v.device ≡ None) (vertices_value version d)
+unfolding vertices_value vertex_value
+no_devices version d low =
+    All-each (λ (v : Vertex). v.device ≡ None) (vertices_value version d) (λ v has.
+    let from = Contains-unmap (vertex_value version) (list_member (codes "vertices") d) v has in
+    subst (λ (w : Vertex). w.device ≡ None) from.2 (no_device version from.0 low))
+
+pub job_of_cores : (path : List ℕ) (d : Data) → job_faults path 2 d ≡ [] → All (λ (v : Vertex). v.device ≡ None) (job_value d).graph.vertices
+unfolding job_faults job_value graph_value graph_members
+job_of_cores path d none = no_devices (version_value d) (object_value (member_of (codes "graph") d)) (low_version path d (no_first (version_faults path 2 d) _ (no_outer (job_own_faults path d) _ none)))

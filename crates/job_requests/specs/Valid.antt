@@ -1,0 +1,20 @@
+-- Steps whose jobs are valid (this project's own).
+use Rattle.std.specs.Prelude.{◌≡◌, None, All}
+use Rattle.app_graph.specs.declared.graphs.Vertex.{Vertex}
+use Rattle.app_graph.specs.ValidGraph.{IsValidGraph}
+use Rattle.app_graph.specs.RunPart.{IsRunOf}
+use Rattle.job_readers.specs.declared.jobs.Job.{Job}
+use Rattle.job_requests.specs.declared.steps.Step.{Step}
+use Rattle.job_requests.specs.declared.steps.Step.TheVariants.{Load, Unload, Run}
+
+-- a job whose graph is valid and has no device, and whose run part is one of the graph
+pub record IsValidJob (job : Job) : Type 0 where
+  pub graph : IsValidGraph job.graph
+  pub cores : All (λ (v : Vertex). v.device ≡ None) job.graph.vertices
+  pub run : IsRunOf job.graph job.run
+
+-- the job of a load is valid
+abbrev pub IsValidStep : Step → Type 0
+IsValidStep (Load n job) = IsValidJob job
+IsValidStep (Unload n) = Unit {0}
+IsValidStep Run = Unit {0}

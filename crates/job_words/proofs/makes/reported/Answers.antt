@@ -1,4 +1,0 @@
-use Rattle.job_words.proofs.makes.reported.Goals as goal
-
-pub returns : goal.returns
-returns c = record { reported = c.in_ok-report.ensures.reported; text = c.in_ok-text.ensures }

@@ -1,0 +1,64 @@
+-- Events that drop no copy: what they leave as it is, and that they follow on each other.
+use Rattle.std.proofs.Common.{◌≡◌, refl, sym, ap, ◌∙◌, subst, List, [], ◌∷◌, ◌++◌}
+use Rattle.std.specs.List.{slice_get, All}
+use Rattle.std.proofs.lemmas.List.Elements.{All-head, All-tail, All-nil, All-cons, All-append}
+use Rattle.spin_base.specs.declared.copies.Event.{Event}
+use Rattle.spin_base.specs.declared.copies.Event.TheVariants.{Inject, Take, Send, Dump, Collect}
+use Rattle.machine_desc.specs.Live.{index_of}
+use Rattle.mesh_core.specs.State.{State, queue_at}
+use Rattle.mesh_core.specs.Step.{after_event, after_events}
+use Rattle.mesh_core.proofs.EventsLaw.{events_keep}
+use Rattle.mesh_core.proofs.Fixed.{setup_after, after_events-append, push_behind_leaves, by_take, by_send, by_collect, dumped_stays}
+use Rattle.mesh_core.specs.HasRun.{DropsNone}
+use Rattle.mesh_drain.specs.Draining.{MeetsSomeLedger, IsReachedDropless}
+
+-- ---- what stays
+
+-- an event of a packet under way sends no other packet, and drops no copy
+abbrev pub IsOnward : Event → Type 0
+IsOnward (Inject v) = ⊥
+IsOnward (Take c port) = Unit {0}
+IsOnward (Send c o) = Unit {0}
+IsOnward (Dump c o) = ⊥
+IsOnward (Collect v) = Unit {0}
+
+pub unsent_stays : (s : State) (e : Event) → IsOnward e → (after_event s e).unsent ≡ s.unsent
+unsent_stays s (Inject v) none = absurd none
+unsent_stays s (Take c port) is =
+    by_take (λ t. t.unsent ≡ s.unsent) s refl (λ l h. refl) c port (slice_get s.hands (index_of s.setup.machine c)) (slice_get s.inputs (queue_at s.setup.machine c port))
+unsent_stays s (Send c o) is =
+    by_send (λ t. t.unsent ≡ s.unsent) s refl (λ h b k. (push_behind_leaves (record s { hands = h }) b k).1) c o (slice_get s.hands (index_of s.setup.machine c))
+unsent_stays s (Dump c o) none = absurd none
+unsent_stays s (Collect v) is = by_collect (λ t. t.unsent ≡ s.unsent) s refl (λ l d. refl) v (slice_get s.cores v)
+
+-- ---- one after the other
+
+pub reached_none : (s : State) → IsReachedDropless s s
+reached_none s = record { events = []; dropless = All-nil DropsNone; is = refl }
+
+pub reached_by : (s t : State) (e : Event) → DropsNone e → t ≡ after_event s e → IsReachedDropless s t
+reached_by s t e drops is = record { events = e ∷ []; dropless = All-cons DropsNone e [] drops (All-nil DropsNone); is = is }
+
+pub reached_then : (s t u : State) → IsReachedDropless s t → IsReachedDropless t u → IsReachedDropless s u
+reached_then s t u first rest = record {
+  events = first.events ++ rest.events;
+  dropless = All-append DropsNone first.events rest.events first.dropless rest.dropless;
+  is = rest.is ∙ (ap (λ x. after_events x rest.events) first.is ∙ sym (after_events-append s first.events rest.events));
+}
+
+pub kept_reached : (s t : State) → MeetsSomeLedger s → IsReachedDropless s t → MeetsSomeLedger t
+kept_reached s t kept reached =
+    let keeps = events_keep s kept.nets kept.labels kept.mesh kept.right kept.ledger reached.events in
+    subst MeetsSomeLedger (sym reached.is)
+    (record { mesh = keeps.mesh; nets = kept.nets; labels = kept.labels; right = keeps.right; ledger = keeps.ledger })
+
+dumped_after : (s : State) (es : List Event) → All DropsNone es → (after_events s es).dumped ≡ s.dumped
+dumped_after s [] drops = refl
+dumped_after s (e ∷ es) drops =
+    dumped_after (after_event s e) es (All-tail DropsNone e es drops) ∙ dumped_stays s e (All-head DropsNone e es drops)
+
+pub dumped_reached : (s t : State) → IsReachedDropless s t → t.dumped ≡ s.dumped
+dumped_reached s t reached = ap (λ (x : State). x.dumped) reached.is ∙ dumped_after s reached.events reached.dropless
+
+pub setup_reached : (s t : State) → IsReachedDropless s t → t.setup ≡ s.setup
+setup_reached s t reached = ap (λ (x : State). x.setup) reached.is ∙ setup_after s reached.events

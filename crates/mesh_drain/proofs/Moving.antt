@@ -1,0 +1,187 @@
+-- A copy that waits can be moved, and is lighter then.
+use Rattle.std.proofs.Common.{◌≡◌, ℕ, ◌<◌, ◌≤◌, arith, length, refl, sym, ap, ◌∙◌, subst, inl, inr, Bool, true, false, ◌&&◌, not, if◌then◌else◌, List, [], ◌∷◌, ◌++◌, Option, Some, None}
+use Rattle.std.specs.Prelude.{unwrap_or, is_some, OnOk, Result, Ok, Err}
+use Rattle.spin_base.specs.declared.wants.Memory.{Memory}
+use Rattle.std.specs.List.{slice_get, list_any}
+use Rattle.std.proofs.lemmas.List.Elements.{All-append, All-nil}
+use Rattle.std.proofs.lemmas.Option.{same_Some, none-some}
+use Rattle.mesh_core.proofs.Fixed.{after_events-append, setup_after}
+use Rattle.spin_base.specs.declared.chips.Chip.{Chip}
+use Rattle.spin_base.specs.declared.chips.Spot.{Spot}
+use Rattle.spin_base.specs.declared.routes.Out.{Out}
+use Rattle.spin_base.specs.declared.copies.McCopy.{McCopy}
+use Rattle.spin_base.specs.declared.copies.Event.{Event}
+use Rattle.spin_base.specs.declared.copies.Event.TheVariants.{Send, Dump}
+use Rattle.spin_base.specs.Equality.{out_eq}
+use Rattle.spin_base.proofs.Equality.{out_eq_same}
+use Rattle.spin_base.proofs.Members.{Among, among_any}
+use Rattle.spin_base.proofs.Places.{All-at}
+use Rattle.machine_desc.specs.Live.{index_of, is_live_chip, IsInside}
+use Rattle.mesh_core.specs.State.{Setup, State, Hand, IsMesh, behind, queue_at}
+use Rattle.mesh_core.specs.Step.{has_room_behind, send_of, dump_of, step_of, after_event, after_events, answer}
+use Rattle.mesh_core.specs.declared.places.Did.TheVariants.{Moved, Idle}
+use Rattle.mesh_core.specs.HasRun.{DropsNone}
+use Rattle.mesh_core.specs.Expected.{NothingWaits}
+use Rattle.mesh_core.proofs.EventsLaw.{events_keep}
+use Rattle.mesh_drain.specs.Draining.{MeetsSomeLedger, IsReachedDropless, IsAfter, IsMoved}
+use Rattle.mesh_drain.specs.UnderWay.{weight_in}
+use Rattle.mesh_drain.specs.declared.waiting.Waits.{Waits}
+use Rattle.mesh_drain.specs.declared.waiting.Waits.TheVariants.{InCore, InHand, AtPort}
+use Rattle.mesh_drain.specs.Waiting.{HasCopies, IsNextOut, IsWaiting}
+use Rattle.mesh_drain.proofs.Frame.{dumped_reached}
+use Rattle.mesh_drain.proofs.Progress.{moved_lighter, event_lighter}
+
+-- ---- events, one after the other
+
+pub after_none : (s : State) → IsAfter s s
+after_none s = record { events = []; is = refl }
+
+pub after_one : (s t : State) (e : Event) → t ≡ after_event s e → IsAfter s t
+after_one s t e is = record { events = e ∷ []; is = is }
+
+pub kept_after : (s t : State) → MeetsSomeLedger s → IsAfter s t → MeetsSomeLedger t
+kept_after s t kept after =
+    let keeps = events_keep s kept.nets kept.labels kept.mesh kept.right kept.ledger after.events in
+    subst MeetsSomeLedger (sym after.is)
+    (record { mesh = keeps.mesh; nets = kept.nets; labels = kept.labels; right = keeps.right; ledger = keeps.ledger })
+
+pub after_then : (s t u : State) → IsAfter s t → IsAfter t u → IsAfter s u
+after_then s t u first rest = record {
+  events = first.events ++ rest.events;
+  is = rest.is ∙ (ap (λ x. after_events x rest.events) first.is ∙ sym (after_events-append s first.events rest.events));
+}
+
+pub after_reached : (s t : State) → IsReachedDropless s t → IsAfter s t
+after_reached s t reached = record { events = reached.events; is = reached.is }
+
+pub after_setup : (s t : State) → IsAfter s t → t.setup ≡ s.setup
+after_setup s t after = ap (λ (x : State). x.setup) after.is ∙ setup_after s after.events
+
+pub there_after : (s t : State) (v : ℕ) → IsAfter s t → v < length s.setup.spots → v < length t.setup.spots
+there_after s t v after below = subst (λ (u : Setup). v < length u.spots) (sym (after_setup s t after)) below
+
+-- events never make the marks heavier
+pub after_lighter : (s t : State) → MeetsSomeLedger s → IsAfter s t → weight_in t ≤ weight_in s
+after_lighter s t kept after = subst (λ x. weight_in x ≤ weight_in s) (sym after.is) (by_events s kept after.events)
+  where
+    by_events : (u : State) → MeetsSomeLedger u → (es : List Event) → weight_in (after_events u es) ≤ weight_in u
+    by_events u own [] = omega arith
+    by_events u own (e ∷ es) =
+        let one = event_lighter u e own in
+        let rest = by_events (after_event u e) (kept_after u (after_event u e) own (after_one u (after_event u e) e refl)) es in
+        omega (arith, one, rest)
+
+-- where something waited at the start, whatever comes
+pub moved_on : (s t u : State) → IsMoved s t → (NothingWaits s → ⊥) → IsAfter t u → IsMoved s u
+moved_on s t u first waits rest = record {
+  events = first.events ++ rest.events;
+  is = rest.is ∙ (ap (λ x. after_events x rest.events) first.is ∙ sym (after_events-append s first.events rest.events));
+  dropless = λ quiet. absurd (waits quiet);
+  no_record = λ quiet. absurd (waits quiet);
+}
+
+-- and then events that drop no copy
+pub moved_then : (s t u : State) → IsMoved s t → IsReachedDropless t u → IsMoved s u
+moved_then s t u first rest = record {
+  events = first.events ++ rest.events;
+  is = rest.is ∙ (ap (λ x. after_events x rest.events) first.is ∙ sym (after_events-append s first.events rest.events));
+  dropless = λ quiet. All-append DropsNone first.events rest.events (first.dropless quiet) rest.dropless;
+  no_record = λ quiet. dumped_reached t u rest ∙ first.no_record quiet;
+}
+
+pub moved_none : (s : State) → IsMoved s s
+moved_none s = record { events = []; is = refl; dropless = λ quiet. All-nil DropsNone; no_record = λ quiet. refl }
+
+pub after_moved : (s t : State) → IsMoved s t → IsAfter s t
+after_moved s t moved = record { events = moved.events; is = moved.is }
+
+pub kept_moved : (s t : State) → MeetsSomeLedger s → IsMoved s t → MeetsSomeLedger t
+kept_moved s t kept moved = kept_after s t kept (after_moved s t moved)
+
+-- what holds whatever the answer
+pub always : {A : Type 0} {P : Type 0} (r : Result A Memory) → P → OnOk r P
+always (Ok x) holds = holds
+always (Err want) holds = tt
+
+-- ---- an event that is enabled
+
+pub lighter : (s t : State) (e : Event) → MeetsSomeLedger s → is_some (step_of s e) ≡ true → t ≡ after_event s e → weight_in t < weight_in s
+lighter s t e kept enabled is = by_step (step_of s e) refl enabled
+  where
+    by_step : (u : Option State) → step_of s e ≡ u → is_some u ≡ true → weight_in t < weight_in s
+    by_step (Some u) at on = subst (λ x. weight_in x < weight_in s) (sym (is ∙ ap (λ o. unwrap_or o s) at)) (moved_lighter s u e kept at)
+    by_step None at on = cc
+
+pub idle_stays : (s : State) (e : Event) → answer s e ≡ Idle → after_event s e ≡ s
+idle_stays s e idle = by_step (step_of s e) refl (idle)
+  where
+    by_step : (u : Option State) → step_of s e ≡ u → (if is_some u then Moved else Idle) ≡ Idle → after_event s e ≡ s
+    by_step (Some u) at on = cc
+    by_step None at on = ap (λ o. unwrap_or o s) at
+
+pub moved_enabled : (s : State) (e : Event) → answer s e ≡ Moved → is_some (step_of s e) ≡ true
+moved_enabled s e moved = by_test (is_some (step_of s e)) refl moved
+  where
+    by_test : (b : Bool) → is_some (step_of s e) ≡ b → (if b then Moved else Idle) ≡ Moved → is_some (step_of s e) ≡ true
+    by_test true at on = at
+    by_test false at on = cc
+
+-- ---- chips where copies wait are live
+
+held_lives : (s : State) → IsMesh s → (c : Chip) (h : Hand) → IsInside s.setup.machine c → slice_get s.hands (index_of s.setup.machine c) ≡ Some (Some h) → is_live_chip s.setup.machine c ≡ true
+held_lives s mesh c h inside at = by_test (is_live_chip s.setup.machine c) refl
+  where
+    by_test : (b : Bool) → is_live_chip s.setup.machine c ≡ b → b ≡ true
+    by_test true is = refl
+    by_test false dead = let both : Some (Some h) ≡ Some None = sym at ∙ mesh.no_hand_on_dead_chips c dead inside in absurd (cc both)
+
+-- ---- what waits can be moved
+
+-- a hand whose copy cannot be sent by the output can drop it there
+pub dump_enabled : (s : State) (c : Chip) (o : Out) → MeetsSomeLedger s → IsWaiting s (InHand c o) → answer s (Send c o) ≡ Idle → is_some (step_of s (Dump c o)) ≡ true
+dump_enabled s c o kept waits idle = by_hand (slice_get s.hands (index_of s.setup.machine c)) refl waits.1 idle
+  where
+    by_room : (live served room : Bool) (t u : State) → live ≡ true → served ≡ true →
+        (if is_some (if (live && served) && room then Some t else None) then Moved else Idle) ≡ Idle →
+        is_some (if (live && served) && not room then Some u else None) ≡ true
+    by_room true true true t u l v on = cc
+    by_room true true false t u l v on = refl
+    by_room true false room t u l v on = cc
+    by_room false served room t u l v on = cc
+
+    by_hand : (hand : Option (Option Hand)) → slice_get s.hands (index_of s.setup.machine c) ≡ hand → IsNextOut o hand →
+        (if is_some (send_of s c o hand) then Moved else Idle) ≡ Idle → is_some (dump_of s c o hand) ≡ true
+    by_hand (Some (Some h)) at next on =
+        let first : Among o h.outs = subst (λ (l : List Out). Among o l) (sym next.1) (inl refl) in
+        let listed : list_any (out_eq o) h.outs ≡ true = among_any (out_eq o) o h.outs first (out_eq_same o) in
+        by_room (is_live_chip s.setup.machine c) (list_any (out_eq o) h.outs) (has_room_behind s (behind s.setup c o)) _ _
+        (held_lives s kept.mesh c h waits.0 at) listed on
+    by_hand (Some None) at none on = absurd none
+    by_hand None at none on = absurd none
+
+-- what waits, waits: not nothing does
+pub waits_somewhere : (s : State) (at : Waits) → IsWaiting s at → NothingWaits s → ⊥
+waits_somewhere s (InCore v) waits quiet = by_queue (slice_get s.cores v) refl waits
+  where
+    by_queue : (q : Option (List McCopy)) → slice_get s.cores v ≡ q → HasCopies q → ⊥
+    by_queue (Some (k ∷ rest)) at has = cons_nil (All-at (λ (l : List McCopy). l ≡ []) s.cores v (k ∷ rest) quiet.cores_empty at)
+      where
+        cons_nil : k ∷ rest ≡ [] → ⊥
+        cons_nil e = cc
+    by_queue (Some []) at none = none
+    by_queue None at none = none
+waits_somewhere s (InHand c o) waits quiet = by_hand (slice_get s.hands (index_of s.setup.machine c)) refl waits.1
+  where
+    by_hand : (h : Option (Option Hand)) → slice_get s.hands (index_of s.setup.machine c) ≡ h → IsNextOut o h → ⊥
+    by_hand (Some (Some h)) at next = none-some h (sym (All-at (λ (x : Option Hand). x ≡ None) s.hands (index_of s.setup.machine c) (Some h) quiet.hands_empty at))
+    by_hand (Some None) at none = none
+    by_hand None at none = none
+waits_somewhere s (AtPort c port) waits quiet = by_queue (slice_get s.inputs (queue_at s.setup.machine c port)) refl waits.1
+  where
+    by_queue : (q : Option (List McCopy)) → slice_get s.inputs (queue_at s.setup.machine c port) ≡ q → HasCopies q → ⊥
+    by_queue (Some (k ∷ rest)) at has = cons_nil (All-at (λ (l : List McCopy). l ≡ []) s.inputs (queue_at s.setup.machine c port) (k ∷ rest) quiet.inputs_empty at)
+      where
+        cons_nil : k ∷ rest ≡ [] → ⊥
+        cons_nil e = cc
+    by_queue (Some []) at none = none
+    by_queue None at none = none

@@ -1,0 +1,143 @@
+-- A packet is send_of, and at its end nothing waits.
+use Rattle.std.proofs.Common.{◌≡◌, ℕ, ◌+◌, ◌*◌, ◌<◌, ◌≤◌, ◌==◌, refl, sym, ap, ◌∙◌, subst, arith, List, [], ◌∷◌, length, map, get_or, Option, Some, None, Bool, true, false, if◌then◌else◌, nat_lt}
+use Rattle.std.specs.List.{slice_get, slice_index_or, slice_set, All}
+use Rattle.std.proofs.Math.Nat.{mul-le-mul_left}
+use Rattle.std.proofs.lemmas.Bool.{lt-ltb, ltb-true, ltb-false}
+use Rattle.std.proofs.lemmas.List.{get_or_default, get_or_past, get_or-map, length-map}
+use Rattle.std.proofs.lemmas.List.Elements.{All-nil, All-cons, All-set}
+use Rattle.spin_base.specs.declared.chips.Chip.{Chip}
+use Rattle.spin_base.specs.declared.chips.Spot.{Spot}
+use Rattle.spin_base.specs.declared.chips.Port.TheVariants.{Local}
+use Rattle.spin_base.specs.declared.copies.McCopy.{McCopy}
+use Rattle.spin_base.specs.declared.copies.Event.TheVariants.{Inject}
+use Rattle.spin_base.proofs.Equality.{nat_eq_same}
+use Rattle.machine_desc.specs.Live.{index_of, IsLiveChip, IsSite}
+use Rattle.machine_desc.proofs.Branches.{length_le_from_apart}
+use Rattle.machine_desc.proofs.Sites.{site_parts}
+use Rattle.mesh_core.specs.State.{State, IsMesh, Hand, queue_at}
+use Rattle.mesh_core.specs.Step.{has_room, inject_of, push_at, after_event}
+use Rattle.mesh_core.specs.VertexTable.{spot_place}
+use Rattle.spin_base.proofs.Counts.{count_by-cons}
+use Rattle.spin_base.proofs.Places.{All-at}
+use Rattle.mesh_core.proofs.VertexTableLaws.{site_inside, same_spot_place, spot_place-below}
+use Rattle.mesh_drain.specs.declared.draining.Waiting.{Waiting}
+use Rattle.mesh_drain.specs.Draining.{MeetsSomeLedger}
+use Rattle.mesh_core.specs.Expected.{NothingWaits}
+use Rattle.mesh_drain.specs.UnderWay.{times, IsAloneUnderWay, IsServing}
+use Rattle.mesh_drain.proofs.Steps.{kept_after, moved, written, queue_there}
+
+-- ---- a packet begins
+
+-- each queue is empty
+empty_at : (s : State) → NothingWaits s → (i : ℕ) → slice_index_or s.inputs i [] ≡ []
+empty_at s quiet i = by_place (nat_lt i (length s.inputs)) refl
+  where
+    by_place : (b : Bool) → nat_lt i (length s.inputs) ≡ b → slice_index_or s.inputs i [] ≡ []
+    by_place true e = quiet.inputs_empty i [] (ltb-true i (length s.inputs) e)
+    by_place false e = get_or_past s.inputs i [] (ltb-false i (length s.inputs) e)
+
+module _ (s : State) (kept : MeetsSomeLedger s) (quiet : NothingWaits s) (v : ℕ) (spot : Spot) (k : McCopy) (rest : List McCopy)
+    (stands : slice_get s.setup.spots v ≡ Some spot) (first : slice_get s.unsent v ≡ Some (k ∷ rest)) where
+  begun : Waiting
+  begun = record { chip = spot.chip; port = Local }
+
+  live_chip : IsLiveChip s.setup.machine spot.chip
+  live_chip = (site_parts s.setup.machine spot (All-at (IsSite s.setup.machine) s.setup.spots v spot kept.mesh.sites stands)).0
+
+  sent_mesh : State
+  sent_mesh = record s { unsent = slice_set s.unsent v rest; inputs = slice_set s.inputs (queue_at s.setup.machine spot.chip Local) (k ∷ []) }
+
+  injected_is : after_event s (Inject v) ≡ sent_mesh
+  unfolding sent_mesh
+  injected_is =
+      let i : ℕ = queue_at s.setup.machine spot.chip Local in
+      let there = queue_there s [] kept spot.chip Local live_chip in
+      let at : slice_get s.inputs i ≡ Some [] = there.1 ∙ ap Some (empty_at s quiet i) in
+      let room : has_room s.setup.capacity (slice_get s.inputs i) ≡ true = ap (has_room s.setup.capacity) at ∙ lt-ltb 0 s.setup.capacity kept.mesh.room in
+      let after : Option (List McCopy) → State = λ q. record s { unsent = slice_set s.unsent v rest; inputs = push_at s.inputs i k q } in
+      moved s sent_mesh (Inject v)
+      (ap (λ o. inject_of s v o (slice_get s.unsent v)) stands
+      ∙ (ap (inject_of s v (Some spot)) first
+      ∙ (ap (λ b. if b then Some (after (slice_get s.inputs i)) else None) room
+      ∙ ap (λ q. Some (after q)) at)))
+
+  pub inject_unsent : (after_event s (Inject v)).unsent ≡ slice_set s.unsent v rest
+  unfolding sent_mesh
+  inject_unsent = ap (λ (t : State). t.unsent) injected_is
+
+  pub inject_step : IsAloneUnderWay (after_event s (Inject v)) (record { chip = spot.chip; port = Local } ∷ [])
+  unfolding sent_mesh begun
+  inject_step =
+      let i : ℕ = queue_at s.setup.machine spot.chip Local in
+      let there = queue_there s [] kept spot.chip Local live_chip in
+      let Of : McCopy → Type 0 = λ (x : McCopy). x.packet ≡ k.packet in
+      subst (λ t. IsAloneUnderWay t (begun ∷ [])) (sym injected_is) (record {
+        kept = subst MeetsSomeLedger injected_is (kept_after s (Inject v) kept);
+        packet = k.packet;
+        free = quiet.hands_empty;
+        collected = quiet.cores_empty;
+        live = All-cons (λ (x : Waiting). IsLiveChip s.setup.machine x.chip) begun [] live_chip (All-nil (λ (x : Waiting). IsLiveChip s.setup.machine x.chip));
+        listed = λ j. written (λ q. length q ≤ times s.setup.machine j (begun ∷ [])) s.inputs i j (k ∷ []) there.0
+            (λ same. let one = count_by-cons (λ (x : Waiting). queue_at s.setup.machine x.chip x.port == j) begun [] ∙ ap (λ b. (if b then 1 else 0) + 0) (ap (λ n. i == n) (sym same) ∙ nat_eq_same i) in omega (arith, one))
+            (λ other. let none : length (slice_index_or s.inputs j []) ≡ 0 = ap length (empty_at s quiet j) in omega (arith, none));
+        of_packet = λ j. written (All Of) s.inputs i j (k ∷ []) there.0
+            (λ same. All-cons Of k [] refl (All-nil Of))
+            (λ other. subst (All Of) (sym (empty_at s quiet j)) (All-nil Of));
+      })
+
+-- ---- a packet ends
+
+pub serving_done : (s : State) (w : List Waiting) (c : Chip) → IsServing s w c [] → IsAloneUnderWay s w
+serving_done s w c u = record {
+  kept = u.kept;
+  packet = u.copy.packet;
+  free = subst (All (λ (h : Option Hand). h ≡ None)) (sym u.hand) (All-set (λ (h : Option Hand). h ≡ None) u.others (index_of s.setup.machine c) None refl u.free);
+  collected = u.collected;
+  live = u.live;
+  listed = u.listed;
+  of_packet = u.of_packet;
+}
+
+pub packet_done : (s : State) → IsAloneUnderWay s [] → NothingWaits s
+packet_done s u = record {
+  inputs_empty = λ i d below. get_or_default s.inputs i d [] below ∙ short (slice_index_or s.inputs i []) (u.listed i);
+  hands_empty = u.free;
+  cores_empty = u.collected;
+}
+  where
+    short : (q : List McCopy) → length q ≤ 0 → q ≡ []
+    short [] few = refl
+    short (x ∷ xs) few = absurd (omega (arith, few))
+
+-- ---- few vertices
+
+-- no two vertices stand on one core, so a mesh has fewer than 2 ^ 32
+pub few_in_mesh : (s : State) → IsMesh s → length s.setup.spots ≤ 98304
+few_in_mesh s mesh =
+    let number : Spot → ℕ = spot_place s.setup.machine in
+    let places : List ℕ = map number s.setup.spots in
+    let nowhere : Spot = record { chip = record { x = 0; y = 0 }; core = 0 } in
+    let long : length places ≡ length s.setup.spots = length-map s.setup.spots number in
+    let is : (i d : ℕ) → i < length places → get_or places i d ≡ number (get_or s.setup.spots i nowhere) = λ i d below. get_or-map number s.setup.spots i nowhere d (omega (arith, below, long)) in
+    let parts = λ (i : ℕ) (below : i < length s.setup.spots). site_inside s.setup.machine (get_or s.setup.spots i nowhere) (mesh.sites i nowhere below) in
+    let few = length_le_from_apart places (24 * (s.setup.machine.width * s.setup.machine.height))
+    (λ i j d before below same.
+    let below_j : j < length s.setup.spots = omega (arith, below, long) in
+    let below_i : i < length s.setup.spots = omega (arith, before, below_j) in
+    let a = parts i below_i in
+    let b = parts j below_j in
+    mesh.different i j nowhere before below_j
+    (same_spot_place s.setup.machine (get_or s.setup.spots i nowhere) (get_or s.setup.spots j nowhere) a.0 b.0 a.1 b.1
+    (sym (is i d (omega (arith, below_i, long))) ∙ (same ∙ is j d below))))
+    (λ i d below.
+    let below_i : i < length s.setup.spots = omega (arith, below, long) in
+    let a = parts i below_i in
+    subst (λ n. n < 24 * (s.setup.machine.width * s.setup.machine.height)) (sym (is i d below)) (spot_place-below s.setup.machine (get_or s.setup.spots i nowhere) a.0 a.1))
+    in
+    let w = mesh.size.width_to_64 in
+    let h = mesh.size.height_to_64 in
+    let area : s.setup.machine.width * s.setup.machine.height ≤ s.setup.machine.width * 64 = mul-le-mul_left s.setup.machine.width h in
+    omega (arith, few, long, w, area)
+
+pub few_spots : (s : State) → MeetsSomeLedger s → length s.setup.spots ≤ 98304
+few_spots s kept = few_in_mesh s kept.mesh

@@ -1,0 +1,163 @@
+-- Each event that is enabled makes the marks of a mesh lighter.
+use Rattle.std.proofs.Common.{◌≡◌, ℕ, suc, ◌+◌, ◌*◌, ◌-◌, ◌<◌, ◌≤◌, min, refl, sym, ap, ◌∙◌, subst, arith, inl, inr, List, [], ◌∷◌, ◌++◌, map, length, Option, Some, None, true, unwrap_or}
+use Rattle.std.specs.List.{sum_by}
+use Rattle.std.proofs.Math.Nat.{mul-le-mul_left}
+use Rattle.std.proofs.lemmas.List.Sums.{sum_by-append, sum_by-cons}
+use Rattle.std.proofs.lemmas.Option.{slice_get_within}
+use Rattle.spin_base.specs.declared.copies.Event.{Event}
+use Rattle.spin_base.specs.declared.copies.McCopy.{McCopy}
+use Rattle.spin_base.specs.declared.chips.Chip.{Chip}
+use Rattle.spin_base.specs.declared.chips.Port.{Port}
+use Rattle.spin_base.specs.declared.routes.Out.{Out}
+use Rattle.spin_base.specs.Links.{opposite_of}
+use Rattle.spin_base.specs.declared.chips.Port.TheVariants.{Link as ByLink, Local}
+use Rattle.spin_base.specs.Hops.{last_hop, onward}
+use Rattle.mesh_core.specs.State.{State}
+use Rattle.mesh_core.specs.Step.{outputs, step_of, after_event}
+use Rattle.mesh_core.specs.Trail.{Station, unsent, in_queue, in_hand, at_core, delivered, dumped, Mark, is_on_trail}
+use Rattle.mesh_core.specs.Ledger.{marks_of}
+use Rattle.mesh_core.proofs.Events.{event_exchange}
+use Rattle.spin_base.proofs.Exchange.{among_taken_out, TakenOut, PutIn}
+use Rattle.spin_base.proofs.Members.{Among, among_contains, among_only}
+use Rattle.mesh_core.proofs.LedgerLaw.{IsRight, right_before, right_small, stands}
+use Rattle.mesh_core.specs.Heavy.{heavy}
+use Rattle.mesh_core.proofs.FewMoves.{few_come}
+use Rattle.mesh_core.proofs.Heavy.{one_heavy, heavy_grows, light}
+use Rattle.mesh_core.proofs.Moves.{mark, IsMove, IsMoveOf, Crosses}
+use Rattle.mesh_core.proofs.Law.{leaves_parts}
+use Rattle.mesh_core.proofs.Ways.{short_branch}
+use Rattle.mesh_drain.specs.Draining.{MeetsSomeLedger}
+use Rattle.mesh_drain.specs.UnderWay.{stage, advance, advance_weight_of, weight_in}
+
+-- ---- weights
+
+advance_below : (x : Mark) → x.copy.hop ≤ last_hop → advance x < 4 * last_hop + 4
+unfolding advance
+advance_below x small = let most = stage_few x.station in omega (arith, most, small)
+  where
+    stage_few : (at : Station) → stage at ≤ 3
+    stage_few (unsent v) = omega arith
+    stage_few (in_queue c p) = omega arith
+    stage_few (in_hand c o) = omega arith
+    stage_few (at_core v) = omega arith
+    stage_few (delivered v) = omega arith
+    stage_few (dumped c o) = omega arith
+
+-- a copy behind a router has not the greatest hop number
+HasNext : McCopy → Station → Type 0
+HasNext k (in_hand c o) = k.hop < last_hop
+HasNext k (unsent v) = Unit {0}
+HasNext k (in_queue c port) = Unit {0}
+HasNext k (at_core v) = Unit {0}
+HasNext k (delivered v) = Unit {0}
+HasNext k (dumped c o) = k.hop < last_hop
+
+has_next : (s : State) (kept : MeetsSomeLedger s) (x : Mark) → IsRight s s kept.nets kept.labels kept.mesh kept.right kept.ledger x → HasNext x.copy x.station
+unfolding HasNext
+has_next s kept x r = by_station x.copy x.station r.trail.on
+  where
+    short : length r.trail.branch ≤ 4096
+    short = short_branch s r.net (stands s s kept.nets kept.labels kept.mesh kept.right kept.ledger r.net r.in_nets) r.trail.target r.trail.branch r.trail.way.is_branch
+
+    by_station : (k : McCopy) (at : Station) → is_on_trail r.trail.from r.trail.to r.trail.branch (mark k at) ≡ true → HasNext k at
+    by_station k (in_hand c o) on =
+        let below = slice_get_within r.trail.branch k.hop (record { chip = c; out = o }) (leaves_parts r.trail.branch k.hop c o on) in
+        omega (arith, below, short)
+    by_station k (unsent v) on = tt
+    by_station k (in_queue c port) on = tt
+    by_station k (at_core v) on = tt
+    by_station k (delivered v) on = tt
+    by_station k (dumped c o) on =
+        let below = slice_get_within r.trail.branch k.hop (record { chip = c; out = o }) (leaves_parts r.trail.branch k.hop c o on) in
+        omega (arith, below, short)
+
+-- each mark that comes is further on than the one that leaves
+move_advances : (s : State) (x : Mark) (come : List Mark) → HasNext x.copy x.station → IsMove s x come → (y : Mark) → Among y come → advance x < advance y
+unfolding advance HasNext
+move_advances s x come next move y is_come = by_station x.copy x.station next move
+  where
+    one : (k : McCopy) (at : Station) (z : Mark) → come ≡ z ∷ [] → 4 * k.hop + stage at < 4 * z.copy.hop + stage z.station → 4 * k.hop + stage at < 4 * y.copy.hop + stage y.station
+    one k at z is more = subst (λ (u : Mark). 4 * k.hop + stage at < 4 * u.copy.hop + stage u.station) (sym (among_only z y come is is_come)) more
+
+    further : (n i : ℕ) → i ≤ 3 → n < last_hop → 4 * n + i < 4 * min (n + 1) last_hop + 1
+    further n i low below = omega (arith, low, below)
+
+    crossing : (k : McCopy) (c : Chip) (o : Out) (at : Station) → stage at ≤ 3 → k.hop < last_hop → Crosses s k c o come → 4 * k.hop + stage at < 4 * y.copy.hop + stage y.station
+    crossing k c o at low below (inl (d, e, out, live, far, is)) = one k at (mark (onward k) (in_queue e (ByLink (opposite_of d)))) is (further k.hop (stage at) low below)
+    crossing k c o at low below (inr (v, dead, vertex, is)) = one k at (mark (onward k) (at_core v)) is (further k.hop (stage at) low below)
+
+    taking : (k : McCopy) (c : Chip) (port : Port) (os : List Out) → Among y (map (λ o. mark k (in_hand c o)) os) → 4 * k.hop + 1 < 4 * y.copy.hop + stage y.station
+    taking k c port [] a = absurd a
+    taking k c port (o ∷ os) (inl same) = subst (λ (u : Mark). 4 * k.hop + 1 < 4 * u.copy.hop + stage u.station) (sym same) (omega arith)
+    taking k c port (o ∷ os) (inr later) = taking k c port os later
+
+    by_station : (k : McCopy) (at : Station) → HasNext k at → IsMoveOf s k at come → 4 * k.hop + stage at < 4 * y.copy.hop + stage y.station
+    by_station k (unsent v) next' m = one k (unsent v) (mark k (in_queue m.0.chip Local)) m.2 (omega arith)
+    by_station k (in_queue c port) next' m = taking k c port (outputs s.setup c port k) (subst (λ (l : List Mark). Among y l) m is_come)
+    by_station k (in_hand c o) next' (inl m) = one k (in_hand c o) (mark k (dumped c o)) m (omega arith)
+    by_station k (in_hand c o) next' (inr m) = crossing k c o (in_hand c o) (omega arith) next' m
+    by_station k (at_core v) next' m = one k (at_core v) (mark k (delivered v)) m (omega arith)
+    by_station k (delivered v) next' m = absurd m
+    by_station k (dumped c o) next' m = crossing k c o (dumped c o) (omega arith) next' m
+
+-- what comes is lighter than what leaves
+come_lighter : (s : State) (x : Mark) (come : List Mark) → x.copy.hop ≤ last_hop → HasNext x.copy x.station → IsMove s x come → sum_by advance_weight_of come < advance_weight_of x
+unfolding advance_weight_of heavy
+come_lighter s x come small next move = by_bound (4 * last_hop + 4) (advance_below x small) refl
+  where
+    by_bound : (b : ℕ) → advance x < b → b ≡ 4 * last_hop + 4 → sum_by advance_weight_of come < advance_weight_of x
+    by_bound b below is =
+        let n : ℕ = b - (advance x + 1) in
+        let left : b - advance x ≡ suc n = omega (arith, below) in
+        let mine : advance_weight_of x ≡ 25 * heavy n = ap (λ k. heavy (k - advance x)) (sym is) ∙ ap heavy left in
+        let each : (y : Mark) → Among y come → advance_weight_of y ≤ heavy n =
+        λ y a.
+        let further = move_advances s x come next move y a in
+        let fewer : b - advance y ≤ n = omega (arith, further) in
+        subst (λ k. heavy (k - advance y) ≤ heavy n) is (heavy_grows (b - advance y) n fewer)
+        in
+        let all = light advance_weight_of come (heavy n) each in
+        let few = mul-le-mul_left (heavy n) (few_come s x come move) in
+        let one = one_heavy n in
+        omega (arith, mine, all, few, one)
+
+-- ---- events
+
+-- an event that is enabled makes the marks lighter
+pub moved_lighter : (s t : State) (e : Event) → MeetsSomeLedger s → step_of s e ≡ Some t → weight_in t < weight_in s
+unfolding weight_in
+moved_lighter s t e kept is =
+    let x = event_exchange s kept.mesh e t is in
+    let has = among_contains x.leaves (marks_of s) (among_taken_out x.leaves (marks_of s) x.rest x.out) in
+    let r = right_before s s kept.nets kept.labels kept.mesh kept.right kept.ledger x.leaves has in
+    let small = right_small s s kept.nets kept.labels kept.mesh kept.right kept.ledger x.leaves r in
+    let lighter = come_lighter s x.leaves x.come small (has_next s kept x.leaves r) x.move in
+    let before = sum_taken_out x.leaves (marks_of s) x.rest x.out in
+    let after = sum_put_in x.come x.rest (marks_of t) x.put in
+    omega (arith, lighter, before, after)
+  where
+    sum_taken_out : (y : Mark) (from rest : List Mark) → TakenOut y from rest → sum_by advance_weight_of from ≡ sum_by advance_weight_of rest + advance_weight_of y
+    sum_taken_out y from rest out =
+        let whole = sum_by-append advance_weight_of out.front (y ∷ out.back) in
+        let less = sum_by-append advance_weight_of out.front out.back in
+        let head = sum_by-cons advance_weight_of y out.back in
+        let b : sum_by advance_weight_of from ≡ sum_by advance_weight_of (out.front ++ y ∷ out.back) = ap (sum_by advance_weight_of) out.before_is in
+        let a : sum_by advance_weight_of rest ≡ sum_by advance_weight_of (out.front ++ out.back) = ap (sum_by advance_weight_of) out.after_is in
+        omega (arith, whole, less, head, a, b)
+
+    sum_put_in : (ys rest to : List Mark) → PutIn ys rest to → sum_by advance_weight_of to ≡ sum_by advance_weight_of rest + sum_by advance_weight_of ys
+    sum_put_in ys rest to put =
+        let whole = sum_by-append advance_weight_of put.front put.back in
+        let more = sum_by-append advance_weight_of put.front (ys ++ put.back) in
+        let inner = sum_by-append advance_weight_of ys put.back in
+        let b : sum_by advance_weight_of rest ≡ sum_by advance_weight_of (put.front ++ put.back) = ap (sum_by advance_weight_of) put.before_is in
+        let a : sum_by advance_weight_of to ≡ sum_by advance_weight_of (put.front ++ (ys ++ put.back)) = ap (sum_by advance_weight_of) put.after_is in
+        omega (arith, whole, more, inner, a, b)
+
+-- an event never makes them heavier
+pub event_lighter : (s : State) (e : Event) → MeetsSomeLedger s → weight_in (after_event s e) ≤ weight_in s
+event_lighter s e kept = by_answer (step_of s e) refl
+  where
+    by_answer : (t : Option State) → step_of s e ≡ t → weight_in (unwrap_or t s) ≤ weight_in s
+    by_answer None is = omega arith
+    by_answer (Some t) is = let less = moved_lighter s t e kept is in omega (arith, less)

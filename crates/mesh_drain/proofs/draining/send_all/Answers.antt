@@ -1,0 +1,43 @@
+use Rattle.mesh_drain.proofs.Frame.{reached_none, reached_then, kept_reached}
+use Rattle.mesh_drain.proofs.Turns.{one_less, all_sent_there, as_before, there_still, was_there, is_none, is_some'}
+use Rattle.mesh_drain.proofs.draining.send_all.Goals as goal
+
+pub packets-init : goal.packets-init
+packets-init c = record {
+  reached = reached_none c.args.mesh.now;
+  quiet = c.requires.quiet;
+  none = c.requires.none;
+  unsent = as_before c.args.mesh.now c.args.vertex;
+}
+
+pub unsent-requires : goal.unsent-requires
+unsent-requires c = there_still c.args.mesh.now c.packets.mesh c.args.vertex c.packets.invariant.reached c.requires.exists
+
+pub send_packet-requires-clause-exists : goal.send_packet-requires-clause-exists
+send_packet-requires-clause-exists c = there_still c.args.mesh.now c.packets.mesh c.args.vertex c.packets.invariant.reached c.requires.exists
+
+pub send_packet-requires-clause-kept : goal.send_packet-requires-clause-kept
+send_packet-requires-clause-kept c = kept_reached c.args.mesh.now c.packets.mesh c.requires.kept c.packets.invariant.reached
+
+pub packets-smaller : goal.packets-smaller
+packets-smaller c =
+    (one_less c.args.mesh.now.unsent c.packets.mesh.unsent c.send_packet.new.mesh.unsent c.args.vertex c.packets.invariant.unsent.0 c.unsent.result.now
+    c.packets.invariant.unsent.1 c.unsent.ensures (is_some' c.unsent.result.now c.packets-test.ensures) c.in_ok-send_packet.ensures.unsent).1
+
+pub packets-preserved : goal.packets-preserved
+packets-preserved c = record {
+  reached = reached_then c.args.mesh.now c.packets.mesh c.send_packet.new.mesh c.packets.invariant.reached c.send_packet.ensures.reached;
+  quiet = c.in_ok-send_packet.ensures.quiet;
+  none = c.in_ok-send_packet.ensures.none;
+  unsent = (one_less c.args.mesh.now.unsent c.packets.mesh.unsent c.send_packet.new.mesh.unsent c.args.vertex c.packets.invariant.unsent.0 c.unsent.result.now
+      c.packets.invariant.unsent.1 c.unsent.ensures (is_some' c.unsent.result.now c.packets-test.ensures) c.in_ok-send_packet.ensures.unsent).0;
+}
+
+pub returns-clause-unsent : goal.returns-clause-unsent
+returns-clause-unsent c =
+    all_sent_there c.args.mesh.now.unsent c.packets.mesh.unsent c.args.vertex c.packets.invariant.unsent.0 c.unsent.result.now
+    (was_there c.args.mesh.now c.args.vertex c.requires.kept c.requires.exists) c.packets.invariant.unsent.1 c.unsent.ensures (is_none c.unsent.result.now c.packets-test.ensures)
+
+pub returns-in_err-send_packet-clause-reached : goal.returns-in_err-send_packet-clause-reached
+returns-in_err-send_packet-clause-reached c =
+    reached_then c.args.mesh.now c.packets.mesh c.send_packet.new.mesh c.packets.invariant.reached c.send_packet.ensures.reached

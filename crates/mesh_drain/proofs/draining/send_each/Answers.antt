@@ -1,0 +1,43 @@
+use Rattle.std.proofs.Common.{◌<◌, ◌≤◌, length, ap, arith, subst}
+use Rattle.mesh_drain.proofs.Frame.{reached_then, kept_reached}
+use Rattle.mesh_drain.proofs.Packets.{few_spots}
+use Rattle.mesh_drain.proofs.Turns.{there_still, was_there, one_vertex_more, at_rest}
+use Rattle.mesh_drain.proofs.draining.send_each.Goals as goal
+
+pub overflow_cast-vertex : goal.overflow_cast-vertex
+overflow_cast-vertex c =
+    let few = few_spots c.args.mesh.now c.requires.kept in
+    let list = ap length c.spots-count.ensures in
+    let below = c.loop-vertex-test.true in
+    omega (arith, few, list, below)
+
+pub send_all-requires-clause-exists : goal.send_all-requires-clause-exists
+send_all-requires-clause-exists c =
+    there_still c.args.mesh.now c.loop-vertex.mesh c.loop-vertex.vertex c.loop-vertex.invariant.reached
+    (subst (λ l. c.loop-vertex.vertex < length l) c.spots-count.ensures c.loop-vertex-test.true)
+
+pub send_all-requires-clause-kept : goal.send_all-requires-clause-kept
+send_all-requires-clause-kept c = kept_reached c.args.mesh.now c.loop-vertex.mesh c.requires.kept c.loop-vertex.invariant.reached
+
+pub loop-vertex-preserved : goal.loop-vertex-preserved
+loop-vertex-preserved c =
+    let kept = kept_reached c.args.mesh.now c.loop-vertex.mesh c.requires.kept c.loop-vertex.invariant.reached in
+    let below = there_still c.args.mesh.now c.loop-vertex.mesh c.loop-vertex.vertex c.loop-vertex.invariant.reached
+    (subst (λ l. c.loop-vertex.vertex < length l) c.spots-count.ensures c.loop-vertex-test.true)
+    in
+    record {
+      reached = reached_then c.args.mesh.now c.loop-vertex.mesh c.send_all.new.mesh c.loop-vertex.invariant.reached c.send_all.ensures.reached;
+      quiet = c.in_ok-send_all.ensures.quiet;
+      none = c.in_ok-send_all.ensures.none;
+      sent = one_vertex_more c.loop-vertex.mesh.unsent c.send_all.new.mesh.unsent c.loop-vertex.vertex
+          (was_there c.loop-vertex.mesh c.loop-vertex.vertex kept below) c.in_ok-send_all.ensures.unsent c.loop-vertex.invariant.sent;
+    }
+
+pub returns-clause-at_rest : goal.returns-clause-at_rest
+returns-clause-at_rest c =
+    at_rest c.args.mesh.now c.loop-vertex.mesh c.loop-vertex.vertex c.requires.kept c.loop-vertex.invariant.reached c.loop-vertex.invariant.quiet
+    (subst (λ l. length l ≤ c.loop-vertex.vertex) c.spots-count.ensures c.loop-vertex-test.false) c.loop-vertex.invariant.sent
+
+pub returns-in_err-send_all-clause-reached : goal.returns-in_err-send_all-clause-reached
+returns-in_err-send_all-clause-reached c =
+    reached_then c.args.mesh.now c.loop-vertex.mesh c.send_all.new.mesh c.loop-vertex.invariant.reached c.send_all.ensures.reached

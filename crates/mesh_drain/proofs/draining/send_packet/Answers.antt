@@ -1,0 +1,32 @@
+use Rattle.std.proofs.Common.{◌∙◌, rules}
+use Rattle.spin_base.specs.declared.copies.Event.TheVariants.{Inject}
+use Rattle.mesh_drain.proofs.Frame.{reached_by, reached_then}
+use Rattle.mesh_drain.proofs.Turns.{begins, begins_unsent, ends_quiet, popped_smaller}
+use Rattle.mesh_drain.proofs.draining.send_packet.Goals as goal
+
+pub loop-next-init : goal.loop-next-init
+loop-next-init c = record {
+  reached = reached_by c.args.mesh.now c.step.new.self (Inject c.args.vertex) tt c.in_ok-step.ensures.moves;
+  under_way = begins c.args.mesh.now c.step.new.self c.args.vertex c.args.waiting.now.items c.push.new.self.items c.spots.result.now _
+      c.requires.kept c.requires.quiet c.requires.exists c.requires.some c.in_ok-step.ensures.moves c.spots.ensures c.requires.none c.in_ok-push.ensures.items;
+  unsent = begins_unsent c.args.mesh.now c.step.new.self c.args.vertex c.requires.kept c.requires.quiet c.requires.exists c.in_ok-step.ensures.moves;
+}
+
+pub loop-next-preserved : goal.loop-next-preserved
+loop-next-preserved c = record {
+  reached = reached_then c.args.mesh.now c.loop-next.mesh c.go_on.new.mesh c.loop-next.invariant.reached c.go_on.ensures.reached;
+  under_way = c.in_ok-go_on.ensures.under_way;
+  unsent = λ copy rest first. c.in_ok-go_on.ensures.unsent ∙ c.loop-next.invariant.unsent copy rest first;
+}
+
+pub loop-next-smaller : goal.loop-next-smaller
+loop-next-smaller c = popped_smaller c.loop-next.mesh c.go_on.new.mesh c.loop-next.waiting.items c.pop.new.self.items c.go_on.new.waiting.items c.in-Some.next c.in-Some.ensures.items c.in_ok-go_on.ensures.less
+
+pub returns-clause-quiet : goal.returns-clause-quiet
+returns-clause-quiet c = ends_quiet c.loop-next.mesh c.loop-next.waiting.items c.loop-next.invariant.under_way (search rules)
+
+pub returns-in_err-push-clause-reached : goal.returns-in_err-push-clause-reached
+returns-in_err-push-clause-reached c = reached_by c.args.mesh.now c.step.new.self (Inject c.args.vertex) tt c.in_ok-step.ensures.moves
+
+pub returns-in_err-go_on-clause-reached : goal.returns-in_err-go_on-clause-reached
+returns-in_err-go_on-clause-reached c = reached_then c.args.mesh.now c.loop-next.mesh c.go_on.new.mesh c.loop-next.invariant.reached c.go_on.ensures.reached

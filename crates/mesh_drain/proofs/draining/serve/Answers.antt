@@ -1,0 +1,77 @@
+use Rattle.std.proofs.Common.{ap, ◌∙◌, arith, length}
+use Rattle.mesh_core.specs.State.{State}
+use Rattle.mesh_core.specs.Step.{after_event}
+use Rattle.spin_base.specs.declared.copies.Event.TheVariants.{Send, Collect}
+use Rattle.mesh_drain.proofs.Frame.{reached_by, reached_then, unsent_stays}
+use Rattle.mesh_drain.proofs.Packets.{few_in_mesh}
+use Rattle.mesh_drain.proofs.Steps.{kept_after}
+use Rattle.mesh_drain.proofs.Turns.{on_ok, link_served, core_served, nowhere_served}
+use Rattle.mesh_drain.proofs.draining.serve.Goals as goal
+
+pub overflow_cast-vertex : goal.overflow_cast-vertex
+overflow_cast-vertex c =
+    let mesh = (kept_after c.args.mesh.now (Send c.args.chip c.args.out) c.requires.1.kept).mesh in
+    let few = few_in_mesh (after_event c.args.mesh.now (Send c.args.chip c.args.out)) mesh in
+    let lists = mesh.core_lists in
+    let same = ap (λ (s : State). length s.cores) c.in_ok-step.ensures.moves in
+    let below = c.in-Core.ensures.place in
+    omega (arith, few, lists, same, below)
+
+pub returns-in-Input-clause-reached : goal.returns-in-Input-clause-reached
+returns-in-Input-clause-reached c = reached_by c.args.mesh.now c.step.new.self (Send c.args.chip c.args.out) tt c.in_ok-step.ensures.moves
+
+pub returns-in-Input-clause-served : goal.returns-in-Input-clause-served
+returns-in-Input-clause-served c =
+    on_ok c.wait_beyond.result c.wait_beyond.ensures (λ more. λ rest u.
+    (link_served c.args.mesh.now c.step.new.self c.args.waiting.now.items c.args.chip c.args.out c.in_ok-step.ensures.moves
+    c.in-Input.field-0 c.in-Input.ensures.queue c.machine.result.now c.machine.ensures c.wait_beyond.new.waiting.items more rest u).0)
+
+pub returns-in-Input-clause-unsent : goal.returns-in-Input-clause-unsent
+returns-in-Input-clause-unsent c =
+    on_ok c.wait_beyond.result c.wait_beyond.ensures (λ more.
+    ap (λ (s : State). s.unsent) c.in_ok-step.ensures.moves ∙ unsent_stays c.args.mesh.now (Send c.args.chip c.args.out) tt)
+
+pub returns-in-Input-clause-less : goal.returns-in-Input-clause-less
+returns-in-Input-clause-less c =
+    on_ok c.wait_beyond.result c.wait_beyond.ensures (λ more.
+    (link_served c.args.mesh.now c.step.new.self c.args.waiting.now.items c.args.chip c.args.out c.in_ok-step.ensures.moves
+    c.in-Input.field-0 c.in-Input.ensures.queue c.machine.result.now c.machine.ensures c.wait_beyond.new.waiting.items more c.requires.0 c.requires.1).1)
+
+pub returns-in-Core-clause-reached : goal.returns-in-Core-clause-reached
+returns-in-Core-clause-reached c =
+    reached_then c.args.mesh.now c.step.new.self c.collect.new.mesh
+    (reached_by c.args.mesh.now c.step.new.self (Send c.args.chip c.args.out) tt c.in_ok-step.ensures.moves) c.collect.ensures.reached
+
+pub returns-in-Core-clause-served : goal.returns-in-Core-clause-served
+returns-in-Core-clause-served c =
+    on_ok c.collect.result c.collect.ensures.taken (λ last. λ rest u.
+    (core_served c.args.mesh.now c.step.new.self c.args.waiting.now.items c.args.chip c.args.out c.in_ok-step.ensures.moves
+    c.in-Core.vertex c.in-Core.ensures.queue c.collect.new.mesh last rest u).0)
+
+pub returns-in-Core-clause-unsent : goal.returns-in-Core-clause-unsent
+returns-in-Core-clause-unsent c =
+    on_ok c.collect.result c.collect.ensures.taken (λ last.
+    ap (λ (s : State). s.unsent) last ∙ (unsent_stays c.step.new.self (Collect c.in-Core.vertex) tt
+    ∙ (ap (λ (s : State). s.unsent) c.in_ok-step.ensures.moves ∙ unsent_stays c.args.mesh.now (Send c.args.chip c.args.out) tt)))
+
+pub returns-in-Core-clause-less : goal.returns-in-Core-clause-less
+returns-in-Core-clause-less c =
+    on_ok c.collect.result c.collect.ensures.taken (λ last.
+    (core_served c.args.mesh.now c.step.new.self c.args.waiting.now.items c.args.chip c.args.out c.in_ok-step.ensures.moves
+    c.in-Core.vertex c.in-Core.ensures.queue c.collect.new.mesh last c.requires.0 c.requires.1).1)
+
+pub returns-in-Nowhere-clause-reached : goal.returns-in-Nowhere-clause-reached
+returns-in-Nowhere-clause-reached c = reached_by c.args.mesh.now c.step.new.self (Send c.args.chip c.args.out) tt c.in_ok-step.ensures.moves
+
+pub returns-in-Nowhere-clause-served : goal.returns-in-Nowhere-clause-served
+returns-in-Nowhere-clause-served c = λ rest u.
+    absurd (nowhere_served c.args.mesh.now c.step.new.self c.args.waiting.now.items c.args.chip c.args.out c.in_ok-step.ensures.moves
+    c.in-Nowhere.ensures.queue rest u)
+
+pub returns-in-Nowhere-clause-unsent : goal.returns-in-Nowhere-clause-unsent
+returns-in-Nowhere-clause-unsent c = ap (λ (s : State). s.unsent) c.in_ok-step.ensures.moves ∙ unsent_stays c.args.mesh.now (Send c.args.chip c.args.out) tt
+
+pub returns-in-Nowhere-clause-less : goal.returns-in-Nowhere-clause-less
+returns-in-Nowhere-clause-less c =
+    absurd (nowhere_served c.args.mesh.now c.step.new.self c.args.waiting.now.items c.args.chip c.args.out c.in_ok-step.ensures.moves
+    c.in-Nowhere.ensures.queue c.requires.0 c.requires.1)

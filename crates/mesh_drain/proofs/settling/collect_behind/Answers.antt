@@ -1,0 +1,14 @@
+use Rattle.std.proofs.Common.{arith}
+use Rattle.mesh_drain.proofs.Moving.{after_reached}
+use Rattle.mesh_drain.proofs.Packets.{few_in_mesh}
+use Rattle.mesh_drain.proofs.settling.collect_behind.Goals as goal
+
+pub overflow_cast-vertex : goal.overflow_cast-vertex
+overflow_cast-vertex c =
+    let few = few_in_mesh c.args.mesh.now c.every_mesh_is_one.ensures in
+    let lists = c.every_mesh_is_one.ensures.core_lists in
+    let below = c.in-Core.ensures.place in
+    omega (arith, few, lists, below)
+
+pub returns-in-Core : goal.returns-in-Core
+returns-in-Core c = after_reached c.args.mesh.now c.collect.new.mesh c.collect.ensures.reached

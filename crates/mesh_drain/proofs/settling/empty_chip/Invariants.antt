@@ -1,0 +1,10 @@
+use Rattle.mesh_drain.specs.Draining.{IsAfter}
+use Rattle.mesh_drain.specs.UnderWay.{weight_in}
+use Rattle.mesh_drain.proofs.settling.empty_chip.Given as goal
+
+abbrev pub invariant-events : goal.invariant-events
+invariant-events l = IsAfter l.fn.mesh l.mesh
+
+-- what the marks weigh
+abbrev pub decreases-events : goal.decreases-events
+decreases-events l = weight_in l.mesh

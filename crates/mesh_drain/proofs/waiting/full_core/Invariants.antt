@@ -1,0 +1,7 @@
+use Rattle.std.proofs.Common.{◌≡◌, ◌<◌, ℕ, [], Some}
+use Rattle.std.specs.List.{slice_get}
+use Rattle.mesh_drain.proofs.waiting.full_core.Given as goal
+
+-- nothing waits for the vertices before this one
+abbrev pub invariant-loop-vertex : goal.invariant-loop-vertex
+invariant-loop-vertex l = (v : ℕ) → v < l.vertex → slice_get l.mesh.cores v ≡ Some []

@@ -1,0 +1,13 @@
+pub use Rattle.machine_desc.specs.Live
+pub use Rattle.machine_desc.specs.NetsOn
+pub use Rattle.machine_desc.specs.RightTables
+pub use Rattle.mesh_core.specs.Expected
+pub use Rattle.mesh_core.specs.HasRun
+pub use Rattle.mesh_core.specs.Ledger
+pub use Rattle.mesh_core.specs.Opened
+pub use Rattle.mesh_core.specs.State
+pub use Rattle.mesh_core.specs.Step
+pub mod Draining
+pub mod Opening
+pub mod UnderWay
+pub mod Waiting

@@ -1,0 +1,124 @@
+// What waits in a mesh, moved until nothing waits.
+ghost use Rattle.std.specs.Prelude.{◌≡◌, ◌<◌, true, OnOk, is_some, length};
+ghost use Rattle.mesh_core.specs.Expected.{NothingWaits};
+ghost use Rattle.mesh_core.specs.Step.{step_of};
+ghost use Rattle.mesh_drain.specs.Draining.{MeetsSomeLedger, IsAfter, IsMoved};
+ghost use Rattle.mesh_drain.specs.UnderWay.{weight_in};
+ghost use Rattle.mesh_drain.specs.Waiting.{IsWaiting};
+
+use crate::draining::collect;
+use crate::waiting::{Waits, waiting, waiting_on, waits_for};
+use mesh_core::laws::every_mesh_is_one;
+use mesh_core::{Did, Mesh, Queue};
+use spin_base::{Chip, Event, Memory, Out};
+
+// Moves what waits, until nothing waits. Each sweep takes every copy that waited before it over one link or more, so there are no
+// more sweeps than a branch has chips.
+pub fn settle(mesh: &mut Mesh) -> Result<(), Memory>
+    requires { MeetsSomeLedger mesh.old }
+    ensures quiet { OnOk result (NothingWaits mesh.new) }
+    ensures moved { IsMoved mesh.old mesh.new }
+{
+    'sweeps: while let Some(at) = waiting(mesh) {
+        move_on(mesh, at)?;
+        sweep(mesh)?;
+    }
+    Ok(())
+}
+
+// Goes once over all vertices and all chips, and moves what waits there.
+fn sweep(mesh: &mut Mesh) -> Result<(), Memory>
+    requires { MeetsSomeLedger mesh.old }
+    ensures { IsAfter mesh.old mesh.new }
+{
+    let vertices = mesh.spots().len();
+    for vertex in 0..vertices {
+        empty_core(mesh, vertex as u32)?;
+    }
+    empty_chips(mesh)
+}
+
+// A vertex takes all that waits for it.
+fn empty_core(mesh: &mut Mesh, vertex: u32) -> Result<(), Memory>
+    requires kept { MeetsSomeLedger mesh.old }
+    requires exists { vertex < length mesh.old.setup.spots }
+    ensures { IsAfter mesh.old mesh.new }
+{
+    'copies: while waits_for(mesh, vertex) {
+        take_event(mesh, Event::Collect(vertex))?;
+    }
+    Ok(())
+}
+
+// Each chip's router moves on all that waits there, chip after chip.
+fn empty_chips(mesh: &mut Mesh) -> Result<(), Memory>
+    requires { MeetsSomeLedger mesh.old }
+    ensures { IsAfter mesh.old mesh.new }
+{
+    let chips = mesh.machine().chips();
+    for index in 0..chips {
+        let chip = mesh.machine().chip_at(index as u32);
+        empty_chip(mesh, chip)?;
+    }
+    Ok(())
+}
+
+// A chip's router moves on all that waits there.
+fn empty_chip(mesh: &mut Mesh, chip: Chip) -> Result<(), Memory>
+    requires { MeetsSomeLedger mesh.old }
+    ensures { IsAfter mesh.old mesh.new }
+{
+    'events: while let Some(at) = waiting_on(mesh, chip) {
+        move_on(mesh, at)?;
+    }
+    Ok(())
+}
+
+// Moves a copy that waits.
+fn move_on(mesh: &mut Mesh, at: Waits) -> Result<(), Memory>
+    requires kept { MeetsSomeLedger mesh.old }
+    requires waits { IsWaiting mesh.old at }
+    ensures after { IsAfter mesh.old mesh.new }
+    ensures lighter { OnOk result (weight_in mesh.new < weight_in mesh.old) }
+{
+    match at {
+        Waits::InCore(vertex) => take_event(mesh, Event::Collect(vertex)),
+        Waits::InHand(chip, out) => serve(mesh, chip, out),
+        Waits::AtPort(chip, port) => take_event(mesh, Event::Take(chip, port)),
+    }
+}
+
+// Takes an event that is enabled.
+fn take_event(mesh: &mut Mesh, e: Event) -> Result<(), Memory>
+    requires kept { MeetsSomeLedger mesh.old }
+    requires enabled { is_some (step_of mesh.old e) ≡ true }
+    ensures after { IsAfter mesh.old mesh.new }
+    ensures lighter { OnOk result (weight_in mesh.new < weight_in mesh.old) }
+{
+    mesh.step(e)?;
+    Ok(())
+}
+
+// The chip's router sends the copy in its hand by an output, or drops it there where the queue behind it is full.
+fn serve(mesh: &mut Mesh, chip: Chip, out: Out) -> Result<(), Memory>
+    requires kept { MeetsSomeLedger mesh.old }
+    requires waits { IsWaiting mesh.old (Waits.InHand chip out) }
+    ensures after { IsAfter mesh.old mesh.new }
+    ensures lighter { OnOk result (weight_in mesh.new < weight_in mesh.old) }
+{
+    match mesh.step(Event::Send(chip, out))? {
+        Did::Moved => collect_behind(mesh, chip, out),
+        Did::Idle => take_event(mesh, Event::Dump(chip, out)),
+    }
+}
+
+// A vertex takes a copy at once that a router sent to it: so the queue of a core does not fill up within a sweep.
+fn collect_behind(mesh: &mut Mesh, chip: Chip, out: Out) -> Result<(), Memory>
+    ensures { IsAfter mesh.old mesh.new }
+{
+    every_mesh_is_one(mesh);
+    match mesh.behind(chip, out) {
+        Queue::Core(vertex) => collect(mesh, vertex as u32),
+        Queue::Input(_) | Queue::Nowhere => Ok(()),
+    }
+}

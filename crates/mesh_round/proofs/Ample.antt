@@ -1,0 +1,391 @@
+-- Where queues have room for a copy of each packet of a job, no round dumps a copy.
+use Rattle.std.proofs.Common.{◌≡◌, ◌≢◌, ℕ, ◌+◌, ◌-◌, ◌*◌, ◌/◌, ◌%◌, ◌<◌, ◌≤◌, ◌==◌, ◌&&◌, nat_lt, zero, suc, Bool, true, false, List, [], ◌∷◌, ◌++◌, map, filter, Some, length, refl, ap, sym, ◌∙◌, subst, arith, inl, inr, count_by, append-nil}
+use Rattle.std.specs.List.{All, Contains, slice_get, sum_by, range_with_len}
+use Rattle.std.proofs.Math.Nat.{mul-le-mul_left}
+use Rattle.std.proofs.lemmas.Bool.{cases_Bool, cases_lt, and_parts, and_from, eqb-true, eq-eqb, lt-ltb}
+use Rattle.std.proofs.lemmas.List.{get_or_past, length-append}
+use Rattle.std.proofs.lemmas.List.Elements.{All-contains, All-head}
+use Rattle.std.proofs.lemmas.List.Sums.{sum_by-cons}
+use Rattle.std.proofs.lemmas.Option.{slice_get_within, get_or_from_slice_get}
+use Rattle.spin_base.proofs.Counts.{count_by-append}
+use Rattle.spin_base.proofs.Members.{Among, among_contains, contains_among, map_among, among_left, among_right, among_either, Contains-filter}
+use Rattle.spin_base.proofs.Places.{slice_get_there}
+use Rattle.spin_base.specs.declared.chips.Chip.{Chip}
+use Rattle.spin_base.specs.declared.chips.Spot.{Spot}
+use Rattle.spin_base.specs.declared.routes.Out.{Out}
+use Rattle.spin_base.specs.declared.copies.McCopy.{McCopy}
+use Rattle.spin_base.specs.declared.copies.DumpRec.{DumpRec}
+use Rattle.spin_base.specs.declared.copies.Packet.{Packet}
+use Rattle.spin_base.specs.Equality.{chip_eq, out_eq}
+use Rattle.spin_base.specs.Outputs.{IsOutput}
+use Rattle.spin_base.proofs.Equality.{nat_eq_same, chip_eq_same, out_eq_same}
+use Rattle.spin_base.specs.Hops.{last_hop, onward}
+use Rattle.machine_desc.specs.Description.{Description}
+use Rattle.machine_desc.specs.Live.{chip_of, IsLiveChip}
+use Rattle.machine_desc.specs.Branch.{Exit}
+use Rattle.machine_desc.specs.declared.nets.NetPlan.{NetPlan}
+use Rattle.machine_desc.specs.NetsOn.{AreNetsOn, IsWayOn}
+use Rattle.machine_desc.specs.RightTables.{IsKeyOf, AreRight}
+use Rattle.mesh_core.specs.State.{Setup, State, IsMesh, Queue, input, core, nowhere, behind}
+use Rattle.mesh_core.specs.Trail.{Station, in_queue, in_hand, at_core, dumped, Mark, on_trail, is_on_trail}
+use Rattle.mesh_core.specs.Ledger.{marks_of, marks_at, port_of, unsent_marks, input_marks, all_hand_marks, core_marks, delivered_marks, dumped_marks, label_of, Label, MeetsLedger}
+use Rattle.mesh_core.specs.Opened.{asked_by, MeetsJobLedger}
+use Rattle.mesh_core.proofs.AskedPackets.{asked_parts}
+use Rattle.mesh_core.proofs.Law.{move_counts, comes_parts}
+use Rattle.mesh_core.proofs.LedgerLaw.{Bag, one_net, stands}
+use Rattle.mesh_core.proofs.Moves.{mark}
+use Rattle.mesh_core.proofs.Ways.{Stands, one_place, vertex_at_stands}
+use Rattle.mesh_round.specs.RoundFlow.{Flow, Passes, IsRound, IsFullAt, HasRounds, none as no_rounds, more, held_in, capacity_of, dumped_at}
+use Rattle.mesh_round.specs.Work.{moves_left, to_go}
+use Rattle.mesh_round.proofs.Arrivals.{Right, held_right, arrived_right, crossing_right, on_behind, somewhere}
+use Rattle.mesh_core.proofs.Counting.{counted}
+use Rattle.mesh_round.proofs.CountSums.{one_if, sum_within, part_of_sum_at, counts}
+use Rattle.mesh_round.proofs.Entered.{station_of}
+use Rattle.mesh_round.proofs.Nearer.{move_nears}
+use Rattle.mesh_round.proofs.PassedOnce.{here, before, passed_once}
+use Rattle.mesh_round.proofs.RoundBag.{bag_of_round, in_parts, crossing_comes}
+use Rattle.mesh_round.proofs.FlowLaw.{round_keeps, rounds_stand}
+use Rattle.mesh_round.proofs.Sources.{once_in_range, range_parts}
+use Rattle.mesh_round.proofs.Sums.{sum_agree, sum_swap, sum_gathered, sum_map}
+use Rattle.mesh_round.proofs.Weights.{back_onward}
+
+-- two ways of a net to one target are one
+abbrev pub HasOneWay : Type 0
+HasOneWay = (m : Description) (spots : List Spot) (nets : List NetPlan) (net : NetPlan) (target : Spot) (branch other : List Exit) (from begin to end : ℕ) →
+    AreNetsOn m spots nets → Contains nets net → IsWayOn m spots net target branch from to → IsWayOn m spots net target other begin end →
+    (branch ≡ other) × (from ≡ begin) × (to ≡ end)
+
+-- ---- items with numbers
+
+-- Where each number below a bound is of one item at most, there are at most as many items.
+few_numbers : {X : Type 0} (number : X → ℕ) (n : ℕ) (xs : List X) → ((x : X) → Among x xs → number x < n) → ((i : ℕ) → i < n → count_by (λ x. number x == i) xs ≤ 1) → length xs ≤ n
+few_numbers {X} number n xs below each =
+    let all = ones xs in
+    let spread = sum_agree one (λ x. sum_by (λ i. one_if (number x == i)) (range_with_len 0 n)) xs (λ x a. sym (once_in_range (number x) 0 n (omega arith) (let low = below x a in omega (arith, low)))) in
+    let swapped = sum_swap (λ x i. one_if (number x == i)) xs (range_with_len 0 n) in
+    let within = sum_within (λ i. sum_by (λ x. one_if (number x == i)) xs) (λ i. 1) (range_with_len 0 n) (λ i a. each i (let low = (range_parts 0 n i a).1 in omega (arith, low))) in
+    let long = many 0 n in
+    omega (arith, all, spread, swapped, within, long)
+  where
+    one : X → ℕ
+    one x = 1
+
+    ones : (ys : List X) → sum_by one ys ≡ length ys
+    ones [] = refl
+    ones (y ∷ ys) = let rest = ones ys in let first = sum_by-cons one y ys in omega (arith, rest, first)
+
+    many : (a l : ℕ) → sum_by (λ (i : ℕ). 1) (range_with_len a l) ≡ l
+    many a zero = refl
+    many a (suc l) = let rest = many (a + 1) l in let first = sum_by-cons (λ (i : ℕ). 1) a (range_with_len (a + 1) l) in omega (arith, rest, first)
+
+to_go_same : (x y : McCopy) (at : Station) → y.hop ≡ x.hop → to_go (mark y at) ≡ to_go (mark x at)
+unfolding to_go
+to_go_same x y at same = ap (λ h. moves_left (last_hop - h) at) same
+
+module _ (m : State) (f : Flow) (n : State) (nets : List NetPlan) (packets : List Packet) (mesh : IsMesh m) (after : IsMesh n) (passes : Passes m f n)
+    (right : AreRight m.setup.machine m.setup.tables nets) (job : MeetsJobLedger m nets packets) (one_way : HasOneWay) where
+  abbrev u : Setup
+  u = m.setup
+
+  abbrev labels : ℕ → Label
+  labels i = label_of (asked_by nets packets i)
+
+  abbrev ledger : MeetsLedger m nets labels
+  ledger = job.ledger.ledger
+
+  abbrev bag : Bag m n
+  bag = bag_of_round m f n mesh after passes
+
+  abbrev IsRight : Mark → Type 0
+  IsRight k = Right m f n nets labels mesh passes right ledger k
+
+  stand : (net : NetPlan) → Contains nets net → Stands m net
+  stand = stands m n nets labels mesh right ledger
+
+  -- two right marks of a packet are of one net
+  same_net : (x y : Mark) (r : IsRight x) (s : IsRight y) → y.copy.packet ≡ x.copy.packet → (s.net ≡ r.net) × (y.copy.key ≡ x.copy.key)
+  same_net x y r s same =
+      let key : y.copy.key ≡ x.copy.key = s.key ∙ (ap (λ i. (labels i).key) same ∙ sym r.key) in
+      (one_net nets ledger.nets_stand.disjoint s.net r.net s.in_nets r.in_nets y.copy.key s.is_key (subst (λ k. IsKeyOf r.net.block k) (sym key) r.is_key), key)
+
+  -- two copies of a packet that stand right at one vertex have passed as many routers
+  vertex_hop : (v : ℕ) (x y : McCopy) (r : IsRight (mark x (at_core v))) (s : IsRight (mark y (at_core v))) → y.packet ≡ x.packet → y.hop ≡ x.hop
+  vertex_hop v x y r s same =
+      let net = (same_net (mark x (at_core v)) (mark y (at_core v)) r s same).0 in
+      let way = subst (λ (k : NetPlan). IsWayOn u.machine u.spots k s.trail.target s.trail.branch s.trail.from s.trail.to) net s.trail.way in
+      let a = and_parts (v == r.trail.to) (x.hop == length r.trail.branch) r.trail.on in
+      let b = and_parts (v == s.trail.to) (y.hop == length s.trail.branch) s.trail.on in
+      let on_r = vertex_at_stands u.spots r.trail.target r.trail.to r.trail.way.ends in
+      let on_s = vertex_at_stands u.spots s.trail.target s.trail.to way.ends in
+      let ends : s.trail.to ≡ r.trail.to = sym (eqb-true v s.trail.to b.0) ∙ eqb-true v r.trail.to a.0 in
+      let both : Some s.trail.target ≡ Some r.trail.target = sym on_s ∙ (ap (slice_get u.spots) ends ∙ on_r) in
+      let target : s.trail.target ≡ r.trail.target = cc in
+      let its_way = subst (λ (t : Spot). IsWayOn u.machine u.spots r.net t s.trail.branch s.trail.from s.trail.to) target way in
+      let branch = (one_way u.machine u.spots nets r.net r.trail.target s.trail.branch r.trail.branch s.trail.from r.trail.from s.trail.to r.trail.to ledger.nets_stand r.in_nets its_way r.trail.way).0 in
+      eqb-true y.hop (length s.trail.branch) b.1 ∙ (ap length branch ∙ sym (eqb-true x.hop (length r.trail.branch) a.1))
+
+  -- and so have two in one queue
+  same_hop : (q : Queue) (x y : McCopy) (r : IsRight (mark x (station_of u q))) (s : IsRight (mark y (station_of u q))) → y.packet ≡ x.packet → y.hop ≡ x.hop
+  same_hop (input i) x y r s same =
+      let net = (same_net (mark x (station_of u (input i))) (mark y (station_of u (input i))) r s same).0 in
+      let way = subst (λ (k : NetPlan). IsWayOn u.machine u.spots k s.trail.target s.trail.branch s.trail.from s.trail.to) net s.trail.way in
+      let a = comes_parts r.trail.branch x.hop (chip_of u.machine (i / 7)) (port_of (i % 7)) r.trail.on in
+      let b = comes_parts s.trail.branch y.hop (chip_of u.machine (i / 7)) (port_of (i % 7)) s.trail.on in
+      (one_place m r.net (stand r.net r.in_nets) s.trail.target r.trail.target s.trail.branch r.trail.branch way.is_branch r.trail.way.is_branch y.hop x.hop b.exit a.exit b.at a.at (b.chip ∙ sym a.chip)).0
+  same_hop (core v) x y r s same = vertex_hop v x y r s same
+  same_hop nowhere x y r s same = vertex_hop 0 x y r s same
+
+  -- ---- the queue behind an output
+
+  -- marks of a queue are among all marks
+  queue_counts : (p : Mark → Bool) (q : Queue) → count_by p (marks_at (station_of u q) (held_in m q)) ≤ count_by p (marks_of m)
+  queue_counts p (input i) = elim (cases_lt i (length m.inputs)) [
+    | inl below ↦
+        let q = slice_get_there m.inputs i below in
+        let list : held_in m (input i) ≡ q.0 = get_or_from_slice_get m.inputs i q.0 [] q.1 in
+        let at : ℕ → List McCopy → List Mark = λ l copies. marks_at (in_queue (chip_of u.machine (l / 7)) (port_of (l % 7))) copies in
+        let all = sum_gathered (λ x. one_if (p x)) at 0 m.inputs in
+        let part = part_of_sum_at (λ l copies. sum_by (λ x. one_if (p x)) (at l copies)) 0 m.inputs i q.0 q.1 in
+        let place : 0 + i ≡ i = omega arith in
+        let here_it : sum_by (λ x. one_if (p x)) (at (0 + i) q.0) ≡ count_by p (marks_at (station_of u (input i)) (held_in m (input i))) =
+        ap (λ l. sum_by (λ x. one_if (p x)) (at l q.0)) place ∙ ap (λ copies. count_by p (marks_at (station_of u (input i)) copies)) (sym list) in
+        let parts = in_parts m f n mesh after passes p m in
+        omega (arith, all, part, here_it, parts)
+    | inr past ↦
+        let none : count_by p (marks_at (station_of u (input i)) (held_in m (input i))) ≡ 0 = ap (λ copies. count_by p (marks_at (station_of u (input i)) copies)) (get_or_past m.inputs i [] past) in
+        omega (arith, none)
+  ]
+  queue_counts p (core v) = elim (cases_lt v (length m.cores)) [
+    | inl below ↦
+        let q = slice_get_there m.cores v below in
+        let list : held_in m (core v) ≡ q.0 = get_or_from_slice_get m.cores v q.0 [] q.1 in
+        let at : ℕ → List McCopy → List Mark = λ l copies. marks_at (at_core l) copies in
+        let all = sum_gathered (λ x. one_if (p x)) at 0 m.cores in
+        let part = part_of_sum_at (λ l copies. sum_by (λ x. one_if (p x)) (at l copies)) 0 m.cores v q.0 q.1 in
+        let place : 0 + v ≡ v = omega arith in
+        let here_it : sum_by (λ x. one_if (p x)) (at (0 + v) q.0) ≡ count_by p (marks_at (station_of u (core v)) (held_in m (core v))) =
+        ap (λ l. sum_by (λ x. one_if (p x)) (at l q.0)) place ∙ ap (λ copies. count_by p (marks_at (station_of u (core v)) copies)) (sym list) in
+        let parts = in_parts m f n mesh after passes p m in
+        omega (arith, all, part, here_it, parts)
+    | inr past ↦
+        let none : count_by p (marks_at (station_of u (core v)) (held_in m (core v))) ≡ 0 = ap (λ copies. count_by p (marks_at (station_of u (core v)) copies)) (get_or_past m.cores v [] past) in
+        omega (arith, none)
+  ]
+  queue_counts p nowhere = omega arith
+
+  module _ (c : Chip) (o : Out) (live : IsLiveChip u.machine c) (is : IsOutput o) where
+    abbrev q : Queue
+    q = behind u c o
+
+    abbrev at : Station
+    at = station_of u (behind u c o)
+
+    -- all copies that were in the queue at some time of the round
+    abbrev all_in : List McCopy
+    all_in = held_in m (behind u c o) ++ f.entered (behind u c o)
+
+    right_in : (j : McCopy) → Among j all_in → IsRight (mark j at)
+    right_in j a = elim (among_either j (held_in m (behind u c o)) (f.entered (behind u c o)) a) [
+      | inl held ↦ held_right m f n nets labels mesh passes right ledger (behind u c o) j held
+      | inr came ↦ arrived_right m f n nets labels mesh passes right ledger c o live is j (among_left j (f.entered (behind u c o)) (map onward (dumped_at f c o)) came)
+    ]
+
+    module _ (x : McCopy) (r : IsRight (mark x at)) where
+      abbrev is_here : Mark → Bool
+      is_here = here m n nets labels mesh right ledger (round_keeps m n f nets mesh after passes right labels ledger) bag (mark x at) r
+
+      abbrev is_before : Mark → Bool
+      is_before = before m n nets labels mesh right ledger (round_keeps m n f nets mesh after passes right labels ledger) bag (mark x at) r
+
+      stands_here : (j : McCopy) → IsRight (mark j at) → j.packet ≡ x.packet → is_here (mark j at) ≡ true
+      stands_here j s same =
+          let hop = same_hop (behind u c o) x j r s same in
+          let key = (same_net (mark x at) (mark j at) r s same).1 in
+          let on : on_trail r.trail.from r.trail.to r.trail.branch j.hop at ≡ true = ap (λ h. on_trail r.trail.from r.trail.to r.trail.branch h at) hop ∙ r.trail.on in
+          let place = to_go_same x j at hop in
+          and_from (j.key == x.key) _ (eq-eqb j.key x.key key)
+          (and_from _ (to_go (mark j at) == to_go (mark x at)) (and_from (j.packet == x.packet) (is_on_trail r.trail.from r.trail.to r.trail.branch (mark j at)) (eq-eqb j.packet x.packet same) on)
+          (eq-eqb (to_go (mark j at)) (to_go (mark x at)) place))
+
+      fewer : (ks : List McCopy) → ((j : McCopy) → Among j ks → IsRight (mark j at)) → count_by (λ (j : McCopy). j.packet == x.packet) ks ≤ count_by is_here (marks_at at ks)
+      fewer ks each =
+          let mapped = sum_map (λ (j : McCopy). mark j at) (λ y. one_if (is_here y)) ks in
+          let within = sum_within (λ (j : McCopy). one_if (j.packet == x.packet)) (λ j. one_if (is_here (mark j at))) ks (λ j a. by_test j (each j a) (j.packet == x.packet) refl) in
+          omega (arith, mapped, within)
+        where
+          by_test : (j : McCopy) → IsRight (mark j at) → (b : Bool) → (j.packet == x.packet) ≡ b → one_if b ≤ one_if (is_here (mark j at))
+          by_test j s true same = let one : one_if (is_here (mark j at)) ≡ 1 = ap one_if (stands_here j s (eqb-true j.packet x.packet same)) in omega (arith, one)
+          by_test j s false other = omega arith
+
+      -- of a packet at most one copy was in the queue, and none where one is still before it
+      copies_once : count_by (λ (j : McCopy). j.packet == x.packet) all_in + count_by is_before (marks_of n) ≤ 1
+      copies_once =
+          let both = count_by-append (λ (j : McCopy). j.packet == x.packet) (held_in m (behind u c o)) (f.entered (behind u c o)) in
+          let held = fewer (held_in m (behind u c o)) (λ j a. right_in j (among_left j (held_in m (behind u c o)) (f.entered (behind u c o)) a)) in
+          let entered = fewer (f.entered (behind u c o)) (λ j a. right_in j (among_right j (held_in m (behind u c o)) (f.entered (behind u c o)) a)) in
+          let was = queue_counts is_here (behind u c o) in
+          let came = crossing_comes m f n mesh after passes is_here c o live is in
+          let once = passed_once m n nets labels mesh right ledger (round_keeps m n f nets mesh after passes right labels ledger) bag (mark x at) r in
+          omega (arith, both, held, entered, was, came, once)
+
+    -- ---- a dump record of the output
+
+    module _ (k : McCopy) (record_of : (d : DumpRec) × Among d f.dumped × (d ≡ record { chip = c; out = o; copy = k })) (small : k.hop < last_hop) where
+      abbrev next : McCopy
+      next = onward k
+
+      d : DumpRec
+      d = record { chip = c; out = o; copy = k }
+
+      in_flow : Among (record { chip = c; out = o; copy = k }) f.dumped
+      in_flow = subst (λ (e : DumpRec). Among e f.dumped) record_of.2 record_of.1
+
+      dumped_here : Among k (dumped_at f c o)
+      dumped_here =
+          let r : DumpRec = record { chip = c; out = o; copy = k } in
+          let mine = Contains-filter (λ (e : DumpRec). chip_eq e.chip c && out_eq e.out o) f.dumped r (among_contains r f.dumped in_flow) (and_from (chip_eq c c) (out_eq o o) (chip_eq_same c) (out_eq_same o)) in
+          map_among (λ (e : DumpRec). e.copy) r (filter (λ (e : DumpRec). chip_eq e.chip c && out_eq e.out o) f.dumped) (contains_among r (filter (λ (e : DumpRec). chip_eq e.chip c && out_eq e.out o) f.dumped) mine)
+
+      in_all : Among (onward k) (f.entered (behind u c o) ++ map onward (dumped_at f c o))
+      in_all = among_right (onward k) (f.entered (behind u c o)) (map onward (dumped_at f c o)) (map_among onward k (dumped_at f c o) dumped_here)
+
+      hand : IsRight (mark k (in_hand c o))
+      hand = subst (λ j. IsRight (mark j (in_hand c o))) (back_onward k small) (crossing_right m f n nets labels mesh passes right ledger c o live is (onward k) in_all).0
+
+      -- the copy as it would stand in the queue
+      ghost : IsRight (mark (onward k) at)
+      ghost = arrived_right m f n nets labels mesh passes right ledger c o live is (onward k) in_all
+
+      before_it : is_before (onward k) ghost (mark k (dumped c o)) ≡ true
+      before_it =
+          and_from (k.packet == k.packet && on (mark k (dumped c o))) (nat_lt (to_go (mark (onward k) at)) (to_go (mark k (dumped c o))))
+          (and_from (k.packet == k.packet) (on (mark k (dumped c o))) (nat_eq_same k.packet) on_it)
+          (lt-ltb (to_go (mark (onward k) at)) (to_go (mark k (dumped c o)))
+          (move_nears m (mark k (dumped c o)) (mark (onward k) at ∷ []) (omega (arith, small)) (on_behind m f n nets labels mesh passes right ledger c o live k hand) (mark (onward k) at) (inl refl)))
+        where
+          on : Mark → Bool
+          on = is_on_trail ghost.trail.from ghost.trail.to ghost.trail.branch
+
+          on_it : on (mark k (in_hand c o)) ≡ true
+          on_it =
+              let net = (same_net (mark k (in_hand c o)) (mark (onward k) at) hand ghost refl).0 in
+              let way = subst (λ (e : NetPlan). IsWayOn u.machine u.spots e ghost.trail.target ghost.trail.branch ghost.trail.from ghost.trail.to) net ghost.trail.way in
+              let kept = move_counts m hand.net (stand hand.net hand.in_nets) hand.trail.target ghost.trail.target hand.trail.branch ghost.trail.branch hand.trail.from ghost.trail.from hand.trail.to ghost.trail.to hand.trail.way way
+              (mark k (in_hand c o)) (mark (onward k) at ∷ []) (inr (on_behind m f n nets labels mesh passes right ledger c o live k hand)) hand.is_key hand.trail.on in
+              let single = sum_by-cons (λ y. one_if (on y)) (mark (onward k) at) [] in
+              let there : one_if (on (mark (onward k) at)) ≡ 1 = ap one_if ghost.trail.on in
+              is_true (on (mark k (in_hand c o))) (omega (arith, kept, single, there))
+            where
+              is_true : (b : Bool) → 1 ≤ one_if b → b ≡ true
+              is_true true one = refl
+              is_true false one = absurd (omega (arith, one))
+
+      still_there : Among (mark k (dumped c o)) (marks_of n)
+      still_there =
+          let r : DumpRec = record { chip = c; out = o; copy = k } in
+          let m' : Mark = mark k (dumped c o) in
+          let listed : Among r n.dumped = subst (λ rs. Among r rs) (sym passes.dumped) (among_right r m.dumped f.dumped in_flow) in
+          among_right m' (unsent_marks n) (input_marks n ++ (all_hand_marks n ++ (core_marks n ++ (delivered_marks n ++ dumped_marks n))))
+          (among_right m' (input_marks n) (all_hand_marks n ++ (core_marks n ++ (delivered_marks n ++ dumped_marks n)))
+          (among_right m' (all_hand_marks n) (core_marks n ++ (delivered_marks n ++ dumped_marks n))
+          (among_right m' (core_marks n) (delivered_marks n ++ dumped_marks n)
+          (among_right m' (delivered_marks n) (dumped_marks n) (map_among (λ (e : DumpRec). mark e.copy (dumped e.chip e.out)) r n.dumped listed)))))
+
+      number_below : (j : McCopy) → IsRight (mark j at) → j.packet < length packets
+      number_below j r =
+          let was = job.ledger.was_asked r.origin r.was_there in
+          let parts = asked_parts nets packets r.origin.copy.packet was.0 was.1 in
+          let low = slice_get_within packets r.origin.copy.packet parts.packet parts.is_packet in
+          subst (λ i. i < length packets) r.same_packet low
+
+      few_of : (i : ℕ) → count_by (λ (j : McCopy). j.packet == i) (onward k ∷ all_in) ≤ 1
+      few_of i =
+          let first = sum_by-cons (λ (j : McCopy). one_if (j.packet == i)) (onward k) all_in in
+          elim (cases_Bool (k.packet == i)) [
+            | inl same ↦
+                let number : k.packet ≡ i = eqb-true k.packet i same in
+                let none = copies_once (onward k) ghost in
+                let some = counts (is_before (onward k) ghost) (mark k (dumped c o)) (marks_of n) still_there before_it in
+                let its : count_by (λ (j : McCopy). j.packet == k.packet) all_in ≡ count_by (λ (j : McCopy). j.packet == i) all_in = ap (λ l. count_by (λ (j : McCopy). j.packet == l) all_in) number in
+                let one : one_if (k.packet == i) ≡ 1 = ap one_if same in
+                omega (arith, first, none, some, its, one)
+            | inr other ↦
+                let zero_it : one_if (k.packet == i) ≡ 0 = ap one_if other in
+                let rest = of_queue in
+                omega (arith, first, zero_it, rest)
+          ]
+        where
+          of_queue : count_by (λ (j : McCopy). j.packet == i) all_in ≤ 1
+          of_queue = elim (cases_lt 0 (count_by (λ (j : McCopy). j.packet == i) all_in)) [
+            | inl some ↦
+                let found = counted (λ (j : McCopy). j.packet == i) all_in (omega (arith, some)) in
+                let number : found.0.packet ≡ i = eqb-true found.0.packet i found.2 in
+                let once = copies_once found.0 (right_in found.0 found.1) in
+                let its : count_by (λ (j : McCopy). j.packet == found.0.packet) all_in ≡ count_by (λ (j : McCopy). j.packet == i) all_in = ap (λ l. count_by (λ (j : McCopy). j.packet == l) all_in) number in
+                omega (arith, once, its)
+            | inr none ↦ omega (arith, none)
+          ]
+
+      -- fewer copies were in the queue than there are packets
+      few_in : length all_in < length packets
+      few_in =
+          let few = few_numbers (λ (j : McCopy). j.packet) (length packets) (onward k ∷ all_in) below (λ i low. few_of i) in
+          omega (arith, few)
+        where
+          below : (j : McCopy) → Among j (onward k ∷ all_in) → j.packet < length packets
+          below j (inl same) = subst (λ (e : McCopy). e.packet < length packets) (sym same) (number_below (onward k) ghost)
+          below j (inr later) = number_below j (right_in j later)
+
+      -- so the queue was never full, where it has room for them all
+      never_full : length packets ≤ u.capacity → (e : ℕ × ℕ) → IsFullAt m f (behind u c o) e → ⊥
+      never_full roomy e full =
+          let few = few_in in
+          let both = length-append (held_in m (behind u c o)) (f.entered (behind u c o)) in
+          let room = room_of (behind u c o) (somewhere m f n nets labels mesh passes right ledger c o k hand) in
+          let come = full.0 in
+          let even = full.2 in
+          omega (arith, few, both, room, come, even, roomy)
+        where
+          room_of : (b : Queue) → b ≢ nowhere → capacity_of u b ≡ u.capacity
+          room_of (input i) there = refl
+          room_of (core v) there = refl
+          room_of nowhere there = absurd (there refl)
+
+pub no_dump : (patience turns : ℕ) (m n : State) (f : Flow) (nets : List NetPlan) (packets : List Packet) → HasOneWay → 1 ≤ patience → IsMesh m → IsMesh n → IsRound patience turns m f n →
+    AreRight m.setup.machine m.setup.tables nets → MeetsJobLedger m nets packets → length packets ≤ m.setup.capacity → f.dumped ≡ []
+no_dump patience turns m n f nets packets one_way patient mesh after round right job roomy = by_list f.dumped refl
+  where
+    no_record : (d : DumpRec) → Among d f.dumped → ⊥
+    no_record d a =
+        let fits = All-contains (λ (r : DumpRec). IsLiveChip m.setup.machine r.chip × IsOutput r.out × (r.copy.hop < last_hop)) f.dumped d round.passes.at_outputs (among_contains d f.dumped a) in
+        let here_it = dumped_here m f n nets packets mesh after round.passes right job one_way d.chip d.out fits.0 fits.1 d.copy (d, a, refl) fits.2 in
+        by_fulls (f.fulls (behind m.setup d.chip d.out)) (round.full (behind m.setup d.chip d.out))
+        (some_fulls (dumped_at f d.chip d.out) d.copy here_it (length (f.fulls (behind m.setup d.chip d.out))) (round.patient d.chip d.out fits.0 fits.1))
+        (never_full m f n nets packets mesh after round.passes right job one_way d.chip d.out fits.0 fits.1 d.copy (d, a, refl) fits.2 roomy)
+      where
+        some_fulls : (ks : List McCopy) (k : McCopy) → Among k ks → (many : ℕ) → patience * length ks ≤ many → 1 ≤ many
+        some_fulls [] k none many enough = absurd none
+        some_fulls (j ∷ ks) k there many enough =
+            let some : 1 ≤ length (j ∷ ks) = omega arith in
+            let times = mul-le-mul_left patience some in
+            omega (arith, patient, times, enough)
+
+        by_fulls : (es : List (ℕ × ℕ)) → All (IsFullAt m f (behind m.setup d.chip d.out)) es → 1 ≤ length es → ((e : ℕ × ℕ) → IsFullAt m f (behind m.setup d.chip d.out) e → ⊥) → ⊥
+        by_fulls [] all some never = absurd (omega (arith, some))
+        by_fulls (e ∷ es) all some never = never e (All-head (IsFullAt m f (behind m.setup d.chip d.out)) e es all)
+
+    by_list : (ds : List DumpRec) → f.dumped ≡ ds → f.dumped ≡ []
+    by_list [] none = none
+    by_list (d ∷ ds) some = absurd (no_record d (subst (λ rs. Among d rs) (sym some) (inl refl)))
+
+-- Nor do rounds one after the other.
+pub rounds_no_dump : (patience turns : ℕ) (m n : State) (nets : List NetPlan) (packets : List Packet) → HasOneWay → 1 ≤ patience → IsMesh m →
+    AreRight m.setup.machine m.setup.tables nets → MeetsJobLedger m nets packets → length packets ≤ m.setup.capacity → HasRounds patience turns m n → n.dumped ≡ m.dumped
+rounds_no_dump patience turns m n nets packets one_way patient mesh right job roomy no_rounds = refl
+rounds_no_dump patience turns m n nets packets one_way patient mesh right job roomy (more f k n' before after round) =
+    let was = rounds_stand patience turns m k nets packets mesh right job before in
+    let no_record = no_dump patience turns k n' f nets packets one_way patient was.mesh after round
+    (subst (λ (s : Setup). AreRight s.machine s.tables nets) (sym was.setup) right) was.job (subst (λ (s : Setup). length packets ≤ s.capacity) (sym was.setup) roomy) in
+    round.passes.dumped
+    ∙ (ap (λ ds. k.dumped ++ ds) no_record
+    ∙ (append-nil k.dumped ∙ rounds_no_dump patience turns m k nets packets one_way patient mesh right job roomy before))

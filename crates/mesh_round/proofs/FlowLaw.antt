@@ -1,0 +1,64 @@
+-- Rounds keep the ledger of copies, since each is a bag of moves.
+use Rattle.std.proofs.Common.{◌≡◌, ℕ, List, Option, refl, sym, subst, ◌∙◌, ap}
+use Rattle.spin_base.specs.declared.copies.Packet.{Packet}
+use Rattle.machine_desc.specs.declared.nets.NetPlan.{NetPlan}
+use Rattle.machine_desc.specs.RightTables.{AreRight}
+use Rattle.mesh_core.specs.State.{Setup, State, IsMesh}
+use Rattle.mesh_core.specs.Ledger.{Asked, Label, label_of, MeetsLedger, MeetsLedgerFor}
+use Rattle.mesh_core.specs.Opened.{asked_by, MeetsJobLedger}
+use Rattle.mesh_core.proofs.LedgerLaw.{bag_keeps_ledger, bag_adds_no_packet, bag_keeps_packets}
+use Rattle.mesh_round.specs.RoundFlow.{Flow, Passes, HasRounds, none, more}
+use Rattle.mesh_round.proofs.RoundBag.{bag_of_round}
+
+module _ (m n : State) (f : Flow) (nets : List NetPlan) (mesh : IsMesh m) (after : IsMesh n) (passes : Passes m f n)
+    (right : AreRight m.setup.machine m.setup.tables nets) where
+  pub round_keeps : (labels : ℕ → Label) → MeetsLedger m nets labels → MeetsLedger n nets labels
+  round_keeps labels ledger = bag_keeps_ledger m n nets labels mesh right ledger (bag_of_round m f n mesh after passes)
+
+  pub round_keeps_for : (asked : ℕ → Option Asked) → MeetsLedgerFor m nets asked → MeetsLedgerFor n nets asked
+  round_keeps_for asked job =
+      let labels : ℕ → Label = λ i. label_of (asked i) in
+      let bag = bag_of_round m f n mesh after passes in
+      record {
+        ledger = round_keeps labels job.ledger;
+        of_its_net = job.of_its_net;
+        was_asked = λ k has.
+            let old = bag_adds_no_packet m n nets labels mesh right job.ledger bag k has in
+            let was = job.was_asked old.0 old.1 in
+            (was.0, ap asked (sym old.2) ∙ was.1);
+        each_asked = λ i a is.
+            let old = job.each_asked i a is in
+            let new = bag_keeps_packets m n nets labels mesh right job.ledger bag old.0 old.1 in
+            (new.0, new.1, new.2 ∙ old.2);
+      }
+
+  pub round_keeps_job : (packets : List Packet) → MeetsJobLedger m nets packets → MeetsJobLedger n nets packets
+  round_keeps_job packets job = record { of_nets = job.of_nets; ledger = round_keeps_for (asked_by nets packets) job.ledger }
+
+-- what holds after rounds
+pub record Stands (m n : State) (nets : List NetPlan) (packets : List Packet) : Type 0 where
+  pub mesh : IsMesh n
+  pub setup : n.setup ≡ m.setup
+  pub job : MeetsJobLedger n nets packets
+
+pub rounds_stand : (patience turns : ℕ) (m n : State) (nets : List NetPlan) (packets : List Packet) → IsMesh m → AreRight m.setup.machine m.setup.tables nets →
+    MeetsJobLedger m nets packets → HasRounds patience turns m n → Stands m n nets packets
+rounds_stand patience turns m n nets packets mesh right job none = record { mesh = mesh; setup = refl; job = job }
+rounds_stand patience turns m n nets packets mesh right job (more f k n' before after round) =
+    let was = rounds_stand patience turns m k nets packets mesh right job before in
+    record {
+      mesh = after;
+      setup = round.passes.setup ∙ was.setup;
+      job = round_keeps_job k n' f nets was.mesh after round.passes (subst (λ (s : Setup). AreRight s.machine s.tables nets) (sym was.setup) right) packets was.job;
+    }
+
+-- Rounds lead from a mesh to a mesh of the same machine, vertices, tables and capacity.
+pub rounds_keep_mesh : (patience turns : ℕ) (m n : State) → IsMesh m → HasRounds patience turns m n → IsMesh n × (n.setup ≡ m.setup)
+rounds_keep_mesh patience turns m n mesh none = (mesh, refl)
+rounds_keep_mesh patience turns m n mesh (more f k n' before after round) =
+    let was = rounds_keep_mesh patience turns m k mesh before in
+    (after, round.passes.setup ∙ was.1)
+
+pub rounds_keep_job : (patience turns : ℕ) (m n : State) (nets : List NetPlan) (packets : List Packet) → IsMesh m → AreRight m.setup.machine m.setup.tables nets →
+    MeetsJobLedger m nets packets → HasRounds patience turns m n → MeetsJobLedger n nets packets
+rounds_keep_job patience turns m n nets packets mesh right job rounds = (rounds_stand patience turns m n nets packets mesh right job rounds).job

@@ -1,0 +1,120 @@
+-- A round leaves less to be done: each of its moves makes the marks lighter.
+use Rattle.std.proofs.Common.{◌≡◌, ℕ, zero, suc, ◌+◌, ◌*◌, ◌-◌, ◌<◌, ◌≤◌, refl, ap, arith, List, [], ◌∷◌, ◌++◌, length, Bool, count_by}
+use Rattle.std.specs.List.{sum_by}
+use Rattle.std.proofs.Math.Nat.{mul-le-mul_left}
+use Rattle.std.proofs.lemmas.List.Sums.{sum_by-append, sum_by-cons}
+use Rattle.spin_base.proofs.Counts.{count_by-append}
+use Rattle.spin_base.proofs.Members.{Among}
+use Rattle.spin_base.specs.declared.copies.McCopy.{McCopy}
+use Rattle.mesh_core.specs.State.{State, IsMesh}
+use Rattle.mesh_core.specs.Trail.{Station, unsent, in_queue, in_hand, at_core, delivered, dumped, Mark}
+use Rattle.mesh_core.specs.Ledger.{marks_of}
+use Rattle.mesh_core.specs.Heavy.{heavy}
+use Rattle.mesh_core.proofs.Moves.{IsMoveOf}
+use Rattle.mesh_core.proofs.LedgerLaw.{Bag, Moved, count_left, count_come}
+use Rattle.mesh_round.specs.RoundFlow.{Flow, Passes, HasMoved}
+use Rattle.mesh_round.specs.Work.{moves_left, to_go, work_weight_of, work_in}
+use Rattle.mesh_round.proofs.CountSums.{one_if, same_sums}
+use Rattle.mesh_core.proofs.FewMoves.{few_come}
+use Rattle.mesh_core.proofs.Heavy.{one_heavy, heavy_grows, light}
+use Rattle.mesh_round.proofs.Nearer.{move_nears}
+use Rattle.mesh_round.proofs.RoundBag.{bag_of_round, some_moves}
+
+-- ---- one move
+
+-- a mark that moves has somewhere to go
+some_to_go : {s : State} (v : Moved s) → 1 ≤ to_go v.leaves
+unfolding to_go
+some_to_go {s} v = by_station v.leaves.copy v.leaves.station v.is_move
+  where
+    by_station : (k : McCopy) (at : Station) → IsMoveOf s k at v.come → 1 ≤ moves_left (4294967295 - k.hop) at
+    by_station k (unsent w) m = omega arith
+    by_station k (in_queue c port) m = omega arith
+    by_station k (in_hand c o) m = omega arith
+    by_station k (at_core w) m = omega arith
+    by_station k (delivered w) m = absurd m
+    by_station k (dumped c o) m = omega arith
+
+-- what comes is lighter than what leaves
+come_lighter : {s : State} (v : Moved s) → sum_by work_weight_of v.come < work_weight_of v.leaves
+unfolding work_weight_of heavy
+come_lighter {s} v = by_far (to_go v.leaves) refl (some_to_go v)
+  where
+    by_far : (n : ℕ) → to_go v.leaves ≡ n → 1 ≤ n → sum_by work_weight_of v.come < work_weight_of v.leaves
+    by_far zero is some = absurd (omega (arith, some))
+    by_far (suc n) is some =
+        let mine : work_weight_of v.leaves ≡ 25 * heavy n = ap heavy is in
+        let each : (y : Mark) → Among y v.come → work_weight_of y ≤ heavy n =
+        λ y a.
+        let nearer = move_nears s v.leaves v.come v.small v.is_move y a in
+        heavy_grows (to_go y) n (omega (arith, nearer, is))
+        in
+        let all = light work_weight_of v.come (heavy n) each in
+        let few = mul-le-mul_left (heavy n) (few_come s v.leaves v.come v.is_move) in
+        let one = one_heavy n in
+        omega (arith, mine, all, few, one)
+
+-- ---- all moves of a bag
+
+all_left : {s : State} → List (Moved s) → List Mark
+all_left [] = []
+all_left (v ∷ vs) = v.leaves ∷ all_left vs
+
+all_come : {s : State} → List (Moved s) → List Mark
+all_come [] = []
+all_come (v ∷ vs) = v.come ++ all_come vs
+
+left_counts : {s : State} (p : Mark → Bool) (vs : List (Moved s)) → count_left p vs ≡ count_by p (all_left vs)
+unfolding all_left
+left_counts p [] = refl
+left_counts p (v ∷ vs) =
+    let rest = left_counts p vs in
+    let all = sum_by-cons (λ x. one_if (p x)) v.leaves (all_left vs) in
+    omega arith
+
+come_counts : {s : State} (p : Mark → Bool) (vs : List (Moved s)) → count_come p vs ≡ count_by p (all_come vs)
+unfolding all_come
+come_counts p [] = refl
+come_counts p (v ∷ vs) =
+    let rest = come_counts p vs in
+    let both = count_by-append p v.come (all_come vs) in
+    omega arith
+
+lighter : {s : State} (vs : List (Moved s)) → sum_by work_weight_of (all_come vs) + length vs ≤ sum_by work_weight_of (all_left vs)
+unfolding all_left all_come
+lighter [] = omega arith
+lighter (v ∷ vs) =
+    let rest = lighter vs in
+    let first = come_lighter v in
+    let both = sum_by-append work_weight_of v.come (all_come vs) in
+    let all = sum_by-cons work_weight_of v.leaves (all_left vs) in
+    omega arith
+
+-- A bag of moves takes at least one a move from what is to be done.
+bag_lighter : (s t : State) (bag : Bag s t) → work_in t + length bag.moves ≤ work_in s
+unfolding work_in
+bag_lighter s t bag =
+    let out = all_left bag.moves in
+    let put = all_come bag.moves in
+    let even = same_sums (marks_of t ++ out) (marks_of s ++ put) (λ p.
+    let balance = bag.balance p in
+    let left = left_counts p bag.moves in
+    let come = come_counts p bag.moves in
+    let after = count_by-append p (marks_of t) out in
+    let before = count_by-append p (marks_of s) put in
+    omega (arith, balance, left, come, after, before)) work_weight_of in
+    let after = sum_by-append work_weight_of (marks_of t) out in
+    let before = sum_by-append work_weight_of (marks_of s) put in
+    let less = lighter bag.moves in
+    omega (arith, even, after, before, less)
+
+pub round_lighter : (m n : State) (f : Flow) → IsMesh m → IsMesh n → Passes m f n → work_in n ≤ work_in m
+round_lighter m n f mesh after passes =
+    let less = bag_lighter m n (bag_of_round m f n mesh after passes) in
+    omega (arith, less)
+
+pub moved_lighter : (m n : State) (f : Flow) → IsMesh m → IsMesh n → Passes m f n → HasMoved m f → work_in n < work_in m
+moved_lighter m n f mesh after passes moved =
+    let less = bag_lighter m n (bag_of_round m f n mesh after passes) in
+    let some = some_moves m f n mesh after passes moved in
+    omega (arith, less, some)

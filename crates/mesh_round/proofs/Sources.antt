@@ -1,0 +1,172 @@
+-- Each queue into which copies come has one source: an output of a live chip, or the cores of one. So what entered the queues
+-- behind all sources is what entered all queues.
+use Rattle.std.proofs.Common.{◌≡◌, ℕ, ◌+◌, ◌*◌, ◌<◌, ◌≤◌, suc, zero, Bool, true, false, cond, ◌==◌, ◌&&◌, List, ◌∷◌, map, Option, Some, None, refl, ap, sym, ◌∙◌, arith, inl, inr, count_by}
+use Rattle.std.specs.List.{sum_by, filter, range_with_len}
+use Rattle.std.proofs.lemmas.Bool.{cases_Bool, eqb-true}
+use Rattle.std.proofs.lemmas.List.Sums.{sum_by-cons}
+use Rattle.spin_base.specs.Gathered.{gathered}
+use Rattle.spin_base.proofs.Members.{Among, among_filter}
+use Rattle.spin_base.proofs.Tests.{answers_none}
+use Rattle.spin_base.specs.declared.chips.Chip.{Chip}
+use Rattle.spin_base.specs.declared.routes.Out.{Out}
+use Rattle.spin_base.specs.Equality.{chip_eq, out_eq}
+use Rattle.spin_base.specs.Outputs.{all_outs, IsOutput}
+use Rattle.spin_base.proofs.Equality.{nat_eq_same, chip_eq_same, chip_eq_true, out_eq_same, out_eq_true}
+use Rattle.spin_base.proofs.Once.{all_once}
+use Rattle.machine_desc.specs.Description.{Description}
+use Rattle.machine_desc.specs.Live.{index_of, chip_of, grid_chips, is_live_chip, IsLiveChip}
+use Rattle.machine_desc.proofs.Far.{live_inside, index_below}
+use Rattle.machine_desc.proofs.Live.{index_of-chip_of, chip_of-index_of}
+use Rattle.mesh_round.proofs.Sums.{sum_agree, sum_none, sum_filter, sum_map, sum_gathered, sum_at-plain}
+
+-- ---- each number stands once in a range
+
+before_range : (i a n : ℕ) → i < a → count_by (λ j. i == j) (range_with_len a n) ≡ 0
+before_range i a n below = sum_none (λ j. cond (i == j) 1 0) (range_with_len a n) (λ j in_range. elim (cases_Bool (i == j)) [
+  | inl same ↦ absurd (later a n j in_range (omega (arith, below, eqb-true i j same)))
+  | inr other ↦ ap (λ (b : Bool). zero_or b) other
+])
+  where
+    zero_or : Bool → ℕ
+    zero_or b = cond b 1 0
+
+    later : (a n j : ℕ) → Among j (range_with_len a n) → j < a → ⊥
+    later a zero j none low = none
+    later a (suc n) j (inl here) low = omega (arith, here, low)
+    later a (suc n) j (inr there) low = later (a + 1) n j there (omega (arith, low))
+
+pub once_in_range : (i a n : ℕ) → a ≤ i → i < a + n → count_by (λ j. i == j) (range_with_len a n) ≡ 1
+once_in_range i a zero from below = absurd (omega (arith, from, below))
+once_in_range i a (suc n) from below =
+    let all = sum_by-cons (λ j. first (i == j)) a (range_with_len (a + 1) n) in
+    elim (cases_Bool (i == a)) [
+      | inl same ↦
+          let one : first (i == a) ≡ 1 = ap first same in
+          let rest = before_range i (a + 1) n (omega (arith, eqb-true i a same)) in
+          omega (arith, all, one, rest)
+      | inr other ↦
+          let none : first (i == a) ≡ 0 = ap first other in
+          let apart = differ i a other in
+          let rest = once_in_range i (a + 1) n (omega (arith, from, apart)) (omega (arith, below)) in
+          omega (arith, all, none, rest)
+    ]
+  where
+    first : Bool → ℕ
+    first b = cond b 1 0
+
+    differ : (i a : ℕ) → (i == a) ≡ false → i ≡ a → ⊥
+    differ i a other same =
+        let yes' : (i == a) ≡ true = ap (λ k. i == k) (sym same) ∙ nat_eq_same i in
+        cc
+
+-- what stands in a range is within it
+pub range_parts : (a n j : ℕ) → Among j (range_with_len a n) → (a ≤ j) × (j < a + n)
+range_parts a zero j none = absurd none
+range_parts a (suc n) j (inl here) = (omega (arith, here), omega (arith, here))
+range_parts a (suc n) j (inr there) =
+    let parts = range_parts (a + 1) n j there in
+    (omega (arith, parts.0), omega (arith, parts.1))
+
+-- ---- each live chip stands once among the live chips, and each output once among the outputs
+
+abbrev pub live_chips : Description → List Chip
+live_chips m = filter (is_live_chip m) (grid_chips m)
+
+pub live_of_live_chips : (m : Description) (c : Chip) → Among c (live_chips m) → IsLiveChip m c
+live_of_live_chips m c a = (among_filter (is_live_chip m) c (grid_chips m) a).1
+
+abbrev one_where : Bool → ℕ
+one_where b = cond b 1 0
+
+pub live_chip_once : (m : Description) (c : Chip) → IsLiveChip m c → count_by (chip_eq c) (live_chips m) ≡ 1
+live_chip_once m c live =
+    sum_filter (is_live_chip m) (λ e. one_where (chip_eq c e)) (grid_chips m)
+    ∙ (sum_agree (λ e. cond (is_live_chip m e) (one_where (chip_eq c e)) 0) (λ e. one_where (chip_eq c e)) (grid_chips m) (λ e a. same e)
+    ∙ (sum_map (chip_of m) (λ e. one_where (chip_eq c e)) (range_with_len 0 (m.width * m.height))
+    ∙ (sum_agree (λ j. one_where (chip_eq c (chip_of m j))) (λ j. one_where (index_of m c == j)) (range_with_len 0 (m.width * m.height)) by_index
+    ∙ once_in_range (index_of m c) 0 (m.width * m.height) (omega arith) (omega (arith, index_below m c (live_inside m c live))))))
+  where
+    same : (e : Chip) → cond (is_live_chip m e) (one_where (chip_eq c e)) 0 ≡ one_where (chip_eq c e)
+    same e = elim (cases_Bool (chip_eq c e)) [
+      | inl is ↦ ap (λ x. cond (is_live_chip m x) (one_where (chip_eq c e)) 0) (sym (chip_eq_true c e is)) ∙ ap (λ b. cond b (one_where (chip_eq c e)) 0) live
+      | inr other ↦ none (is_live_chip m e) (chip_eq c e) other
+    ]
+      where
+        none : (b t : Bool) → t ≡ false → cond b (one_where t) 0 ≡ one_where t
+        none true t is = refl
+        none false t is = sym (ap one_where is)
+
+    by_index : (j : ℕ) → Among j (range_with_len 0 (m.width * m.height)) → one_where (chip_eq c (chip_of m j)) ≡ one_where (index_of m c == j)
+    by_index j a = elim (cases_Bool (chip_eq c (chip_of m j))) [
+      | inl is ↦
+          let index : index_of m c ≡ j = ap (index_of m) (chip_eq_true c (chip_of m j) is) ∙ index_of-chip_of m j in
+          let yes' : (index_of m c == j) ≡ true = ap (λ k. index_of m c == k) (sym index) ∙ nat_eq_same (index_of m c) in
+          ap one_where is ∙ sym (ap one_where yes')
+      | inr other ↦ elim (cases_Bool (index_of m c == j)) [
+        | inl index ↦
+            let at : chip_of m j ≡ c = ap (chip_of m) (sym (eqb-true (index_of m c) j index)) ∙ chip_of-index_of m c (live_inside m c live) in
+            let yes' : chip_eq c (chip_of m j) ≡ true = ap (chip_eq c) at ∙ chip_eq_same c in
+            absurd (answers_none (chip_eq c (chip_of m j)) yes' other)
+        | inr apart ↦ ap one_where other ∙ sym (ap one_where apart)
+      ]
+    ]
+
+-- what a chip's copies come from: its cores, or an output of its router
+abbrev pub choices : List (Option Out)
+choices = None ∷ map Some all_outs
+
+abbrev pub choice_eq : Option Out → Option Out → Bool
+choice_eq None None = true
+choice_eq None (Some o) = false
+choice_eq (Some o) None = false
+choice_eq (Some o) (Some p) = out_eq o p
+
+pub choice_eq_true : (x y : Option Out) → choice_eq x y ≡ true → x ≡ y
+choice_eq_true None None is = refl
+choice_eq_true None (Some o) is = cc
+choice_eq_true (Some o) None is = cc
+choice_eq_true (Some o) (Some p) is = ap Some (out_eq_true o p is)
+
+pub choice_eq_same : (x : Option Out) → choice_eq x x ≡ true
+choice_eq_same None = refl
+choice_eq_same (Some o) = out_eq_same o
+
+abbrev pub IsChoice : Option Out → Type 0
+IsChoice None = Unit {0}
+IsChoice (Some o) = IsOutput o
+
+pub choice_once : (x : Option Out) → IsChoice x → count_by (choice_eq x) choices ≡ 1
+choice_once None is =
+    let all = sum_by-cons (λ y. one_where (choice_eq None y)) None (map Some all_outs) in
+    let rest = sum_map Some (λ y. one_where (choice_eq None y)) all_outs in
+    let none = sum_none (λ (o : Out). one_where (choice_eq None (Some o))) all_outs (λ o a. refl) in
+    omega (arith, all, rest, none)
+choice_once (Some o) is =
+    let all = sum_by-cons (λ y. one_where (choice_eq (Some o) y)) None (map Some all_outs) in
+    let rest = sum_map Some (λ y. one_where (choice_eq (Some o) y)) all_outs in
+    let one = all_once o is in
+    omega (arith, all, rest, one)
+
+-- each chip with each of its sources
+abbrev pub sources : Description → List (Chip × Option Out)
+sources m = gathered (λ i c. map (λ x. (c, x)) choices) 0 (live_chips m)
+
+pub sum_sources : (m : Description) (g : Chip × Option Out → ℕ) → sum_by g (sources m) ≡ sum_by (λ c. sum_by (λ x. g (c, x)) choices) (live_chips m)
+sum_sources m g =
+    sum_gathered g (λ i c. map (λ x. (c, x)) choices) 0 (live_chips m)
+    ∙ (sum_at-plain (λ c. sum_by g (map (λ x. (c, x)) choices)) 0 (live_chips m)
+    ∙ sum_agree (λ c. sum_by g (map (λ x. (c, x)) choices)) (λ c. sum_by (λ x. g (c, x)) choices) (live_chips m) (λ c a. sum_map (λ x. (c, x)) g choices))
+
+-- the source is this chip's and this choice
+abbrev pub source_eq : Chip × Option Out → Chip × Option Out → Bool
+source_eq s t = chip_eq s.0 t.0 && choice_eq s.1 t.1
+
+pub source_once : (m : Description) (c : Chip) (x : Option Out) → IsLiveChip m c → IsChoice x → count_by (source_eq (c, x)) (sources m) ≡ 1
+source_once m c x live is =
+    sum_sources m (λ t. one_where (source_eq (c, x) t))
+    ∙ (sum_agree (λ e. sum_by (λ y. one_where (chip_eq c e && choice_eq x y)) choices) (λ e. one_where (chip_eq c e)) (live_chips m) (λ e a. each (chip_eq c e))
+    ∙ live_chip_once m c live)
+  where
+    each : (b : Bool) → sum_by (λ y. one_where (b && choice_eq x y)) choices ≡ one_where b
+    each true = choice_once x is
+    each false = sum_none (λ y. one_where (false && choice_eq x y)) choices (λ y a. refl)

@@ -1,0 +1,11 @@
+use Rattle.std.proofs.Common.{◌≢◌, List, sym, subst}
+use Rattle.std.specs.List.{AllPairs}
+use Rattle.chip_node.specs.declared.banks.BankVertex.{BankVertex}
+use Rattle.chip_node.specs.Numbers.{vertex_numbers_of}
+use Rattle.mesh_run.proofs.Apart.{vertices_differ}
+use Rattle.mesh_run.proofs.dealing.deal_bank.Goals as goal
+
+pub new-requires : goal.new-requires
+new-requires c =
+    subst (λ (l : List BankVertex). AllPairs (λ a b. a ≢ b) (vertex_numbers_of l)) (sym c.into_seq.ensures)
+    (vertices_differ c.args.setup.now c.args.chip c.lend_vertices.new.vertices.items c.args.standing.now.rxs.items c.lend_vertices.new.rxs.items c.lend_vertices.ensures.each c.lend_vertices.ensures.rxs)

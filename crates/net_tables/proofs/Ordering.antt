@@ -1,0 +1,57 @@
+-- Rows in the order of their blocks' generality and key.
+use Rattle.std.proofs.Common.{◌≡◌, ℕ, zero, suc, ◌+◌, ◌-◌, ◌<◌, ◌≤◌, false, List, length, get_or, map, sym, ap, ◌∙◌, subst, arith, inl, inr, ◌⊎◌, Less, Equal, Ordering, nat_cmp, is_lt}
+use Rattle.std.specs.Ordering.{ordering_then}
+use Rattle.std.specs.Cmp.{nat_cmp_is}
+use Rattle.std.specs.List.{AllPairs}
+use Rattle.std.specs.List.Sorted.{IsPermutation, IsSortedByKey}
+use Rattle.std.proofs.lemmas.Bool.{cases_order, false≢true}
+use Rattle.std.proofs.lemmas.Map.Keys.{ge_from_not_lt}
+use Rattle.spin_base.proofs.Pairs.{AllPairs-map}
+use Rattle.tern_word.specs.declared.tables.Row.{Row}
+use Rattle.net_tables.specs.declared.marks.Mark.{Mark}
+use Rattle.net_tables.specs.PlainTable.{IsRowNotAfter}
+use Rattle.net_tables.specs.Marks.{row_of_mark, mark_numbers, IsTableOf}
+
+-- of two pairs of numbers, the second is not less
+not_less : (g k h l : ℕ) → is_lt (ordering_then (nat_cmp h g) (nat_cmp l k)) ≡ false → (g < h) ⊎ ((g ≡ h) × (k ≤ l))
+not_less g k h l e = elim (cases_order g h) [
+  | inl same ↦
+      let equal : nat_cmp h g ≡ Equal = sym (nat_cmp_is h g Equal (sym same)) in
+      inr (same, ge_from_not_lt l k (ap (λ (o : Ordering). is_lt (ordering_then o (nat_cmp l k))) (sym equal) ∙ e))
+  | inr (inl less) ↦ inl less
+  | inr (inr more) ↦
+      let before : nat_cmp h g ≡ Less = sym (nat_cmp_is h g Less more) in
+      absurd (false≢true (sym e ∙ ap (λ (o : Ordering). is_lt (ordering_then o (nat_cmp l k))) before))
+]
+
+after_both : (r s t : Row) → IsRowNotAfter r s → IsRowNotAfter s t → IsRowNotAfter r t
+after_both r s t (inl a) (inl b) = inl (omega (arith, a, b))
+after_both r s t (inl a) (inr b) = inl (omega (arith, a, b.0))
+after_both r s t (inr a) (inl b) = inl (omega (arith, a.0, b))
+after_both r s t (inr a) (inr b) = inr (a.0 ∙ b.0, omega (arith, a.1, b.1))
+
+-- pairs by the numbers that order rows
+abbrev pub cmp_two : ℕ × ℕ → ℕ × ℕ → Ordering
+cmp_two x y = ordering_then (nat_cmp x.0 y.0) (nat_cmp x.1 y.1)
+
+pub sorted_marks : (marks : List Mark) → IsSortedByKey mark_numbers cmp_two marks → AllPairs (λ (a b : Mark). IsRowNotAfter (row_of_mark a) (row_of_mark b)) marks
+sorted_marks marks sorted i j d less below =
+    subst (λ n. IsRowNotAfter (row_of_mark (get_or marks i d)) (row_of_mark (get_or marks n d))) (omega arith) (farther (j - suc i) i (omega arith))
+  where
+    next : (k : ℕ) → k + 1 < length marks → IsRowNotAfter (row_of_mark (get_or marks k d)) (row_of_mark (get_or marks (k + 1) d))
+    next k h = not_less _ _ _ _ (sorted k d (omega arith) h)
+
+    farther : (n k : ℕ) → k + suc n < length marks → IsRowNotAfter (row_of_mark (get_or marks k d)) (row_of_mark (get_or marks (k + suc n) d))
+    farther zero k h = next k h
+    farther (suc n) k h =
+        after_both (row_of_mark (get_or marks k d)) (row_of_mark (get_or marks (k + 1) d)) (row_of_mark (get_or marks (k + suc (suc n)) d)) (next k (omega arith))
+        (subst (λ p. IsRowNotAfter (row_of_mark (get_or marks (k + 1) d)) (row_of_mark (get_or marks p d))) (omega arith) (farther n (k + 1) (omega arith)))
+
+pub table_sorted : (marks sorted : List Mark) (rows : List Row) → IsPermutation marks sorted → AllPairs (λ (a b : Mark). IsRowNotAfter (row_of_mark a) (row_of_mark b)) sorted →
+    rows ≡ map row_of_mark sorted → IsTableOf marks (record { rows = rows })
+table_sorted marks sorted rows moved up is = record {
+  sorted = sorted;
+  same = moved;
+  rows_are = is;
+  in_order = subst (AllPairs IsRowNotAfter) (sym is) (AllPairs-map row_of_mark (λ (a b : Mark). IsRowNotAfter (row_of_mark a) (row_of_mark b)) IsRowNotAfter (λ a b up. up) sorted up);
+}

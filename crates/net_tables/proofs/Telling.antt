@@ -1,0 +1,230 @@
+-- What ports and routes tell, as a tree's edges and targets are read one by one.
+use Rattle.std.proofs.Common.{◌≡◌, ◌≢◌, ℕ, ◌+◌, ◌*◌, ◌<◌, ◌≤◌, ◌==◌, Bool, true, false, ◌||◌, List, [], ◌∷◌, ◌++◌, length, get_or, take, set, Option, Some, None, refl, sym, ap, ◌∙◌, subst, inl, inr}
+use Rattle.std.specs.List.{list_any}
+use Rattle.std.proofs.lemmas.Bool.{cases_eq, cases_Bool, or_right, false_from_ne_true, false≢true}
+use Rattle.std.proofs.Math.Bool.{or-false, or_assoc}
+use Rattle.std.proofs.lemmas.Nat.Bits.{bit_at-zero}
+use Rattle.std.proofs.lemmas.List.{get_or-set_same, get_or-set_other, get_or_default, take_all, take_more}
+use Rattle.std.proofs.Math.ListN.{length-set}
+use Rattle.std.proofs.lemmas.List.Elements.{Contains-append_left, Contains-push, Contains-push_cases}
+use Rattle.std.proofs.lemmas.List.Folds.{list_any_more}
+use Rattle.std.proofs.lemmas.Option.{none-some, same_Some}
+use Rattle.spin_base.proofs.Members.{Contains-none}
+use Rattle.spin_base.specs.declared.chips.Chip.{Chip}
+use Rattle.spin_base.specs.declared.chips.Spot.{Spot}
+use Rattle.spin_base.specs.declared.chips.Port.{Port}
+use Rattle.spin_base.specs.declared.chips.Port.TheVariants.{Link as ByLink, Local}
+use Rattle.spin_base.specs.declared.routes.Out.{Out}
+use Rattle.spin_base.specs.declared.routes.Out.TheVariants.{Link, Core}
+use Rattle.spin_base.specs.declared.routes.Route.{Route}
+use Rattle.spin_base.specs.Links.{opposite_of}
+use Rattle.spin_base.specs.Outputs.{has, IsOutput, nothing, WithOut, out_number, out_of}
+use Rattle.machine_desc.specs.declared.trees.Edge.{Edge}
+use Rattle.machine_desc.specs.Description.{Description}
+use Rattle.machine_desc.specs.Live.{IsInside, index_of}
+use Rattle.machine_desc.specs.RoutingTree.{end_of}
+use Rattle.machine_desc.specs.Equality.{edge_eq}
+use Rattle.machine_desc.proofs.Far.{same_index, far_inside}
+use Rattle.machine_desc.proofs.Same.{edge_eq-true, edge_eq_self}
+use Rattle.machine_desc.proofs.TreeLemmas.{tree_cases}
+use Rattle.machine_desc.specs.Outputs.{is_wanted, is_edge_out, leads_to_spot}
+use Rattle.machine_desc.proofs.Wanted.{spot_of_out, leads_to_own}
+use Rattle.machine_desc.specs.declared.nets.NetPlan.{NetPlan}
+use Rattle.net_tables.specs.PlainTable.{HasChip}
+use Rattle.net_tables.specs.Marks.{IsBlank, IsClearOff, TellsPort, TellsPorts, TellsRoutes}
+
+-- ---- ports
+
+ports_start : (m : Description) (root : Chip) (edges : List Edge) (p : ℕ) (ports : List (Option Port)) → IsBlank m None ports → IsInside m root → p ≡ index_of m root →
+    p < length ports → TellsPorts m root (take 0 edges) (set ports p (Some Local))
+ports_start m root edges p ports clear root_in at below c inside = elim (cases_eq (index_of m c) p) [
+  | inl here ↦
+      let is : c ≡ root = same_index m c root inside root_in (here ∙ at) in
+      subst (TellsPort m root [] c) (sym (ap (λ j. get_or (set ports p (Some Local)) j None) here ∙ get_or-set_same ports p (Some Local) None below))
+      (inl (is, refl))
+  | inr other ↦
+      subst (TellsPort m root [] c) (sym (get_or-set_other ports p (index_of m c) (Some Local) None other ∙ clear.clear c inside))
+      (λ on. elim (tree_cases m root [] c on) [
+        | inl is ↦ other (ap (index_of m) is ∙ sym at)
+        | inr into ↦ Contains-none into.0 into.1
+      ])
+]
+
+pub ports_first : (m : Description) (root : Chip) (edges : List Edge) (p : ℕ) (ports : List (Option Port)) → IsBlank m None ports →
+    IsInside m root → p ≡ index_of m root → p < m.width * m.height →
+    (length (set ports p (Some Local)) ≡ m.width * m.height) × TellsPorts m root (take 0 edges) (set ports p (Some Local))
+ports_first m root edges p ports clear root_in at below =
+    (length-set ports p (Some Local) ∙ clear.long, ports_start m root edges p ports clear root_in at (subst (λ k. p < k) (sym clear.long) below))
+
+-- an edge that leads elsewhere changes nothing at a chip
+kept : (m : Description) (root : Chip) (es : List Edge) (e : Edge) (c : Chip) (o : Option Port) → (end_of m e ≢ Some c) →
+    TellsPort m root es c o → TellsPort m root (es ++ e ∷ []) c o
+kept m root es e c (Some port) other told = elim told [
+  | inl at ↦ inl at
+  | inr by ↦ inr (by.0, Contains-append_left es (e ∷ []) by.0 by.1, by.2, by.3)
+]
+kept m root es e c None other told = λ on. elim (tree_cases m root (es ++ e ∷ []) c on) [
+  | inl is ↦ told (inl is)
+  | inr into ↦ elim (Contains-push_cases es e into.0 into.1) [
+    | inl before ↦ told (inr (before.0, into.0, before.1, before.2, into.2))
+    | inr last ↦ other (subst (λ (x : Edge). end_of m x ≡ Some c) (sym last) into.2)
+  ]
+]
+
+ports_push : (m : Description) (root : Chip) (es : List Edge) (e : Edge) (far : Chip) (p : ℕ) (ports : List (Option Port)) →
+    end_of m e ≡ Some far → IsInside m far → p ≡ index_of m far → p < length ports → TellsPorts m root es ports →
+    TellsPorts m root (es ++ e ∷ []) (set ports p (Some (ByLink (opposite_of e.dir))))
+ports_push m root es e far p ports leads far_in at below told c inside = elim (cases_eq (index_of m c) p) [
+  | inl here ↦
+      let is : c ≡ far = same_index m c far inside far_in (here ∙ at) in
+      subst (TellsPort m root (es ++ e ∷ []) c) (sym (ap (λ j. get_or (set ports p (Some (ByLink (opposite_of e.dir)))) j None) here ∙ get_or-set_same ports p (Some (ByLink (opposite_of e.dir))) None below))
+      (inr (e, Contains-push es e, leads ∙ ap Some (sym is), refl))
+  | inr other ↦
+      let elsewhere : end_of m e ≢ Some c = λ same. other (ap (index_of m) (same_Some c far (sym same ∙ leads)) ∙ sym at) in
+      subst (TellsPort m root (es ++ e ∷ []) c) (sym (get_or-set_other ports p (index_of m c) (Some (ByLink (opposite_of e.dir))) None other))
+      (kept m root es e c (get_or ports (index_of m c) None) elsewhere (told c inside))
+]
+
+ports_nowhere : (m : Description) (root : Chip) (es : List Edge) (e : Edge) (ports : List (Option Port)) → end_of m e ≡ None →
+    TellsPorts m root es ports → TellsPorts m root (es ++ e ∷ []) ports
+ports_nowhere m root es e ports none told c inside =
+    kept m root es e c (get_or ports (index_of m c) None) (λ same. none-some c (sym none ∙ same)) (told c inside)
+
+-- one more thing of a list is read, which is the same as another
+pub reads : {X : Type 0} (items xs : List X) (i : ℕ) (d : X) → items ≡ xs → i < length items → take (i + 1) xs ≡ take i xs ++ get_or items i d ∷ []
+reads items xs i d same within = sym (ap (take (i + 1)) same) ∙ (take_more items i d within ∙ ap (λ l. take i l ++ get_or items i d ∷ []) same)
+
+-- one more edge is read
+pub ports_more : (m : Description) (root : Chip) (items edges : List Edge) (i : ℕ) (d : Edge) (far : Chip) (p : ℕ) (ports : List (Option Port)) → items ≡ edges →
+    i < length items → end_of m (get_or items i d) ≡ Some far → IsInside m (get_or items i d).chip → p ≡ index_of m far → p < length ports →
+    TellsPorts m root (take i edges) ports → TellsPorts m root (take (i + 1) edges) (set ports p (Some (ByLink (opposite_of (get_or items i d).dir))))
+ports_more m root items edges i d far p ports same within leads inside at below told =
+    subst (λ es. TellsPorts m root es (set ports p (Some (ByLink (opposite_of (get_or items i d).dir))))) (sym (reads items edges i d same within))
+    (ports_push m root (take i edges) (get_or items i d) far p ports leads (far_inside m (get_or items i d).chip far (get_or items i d).dir inside leads) at below told)
+
+pub ports_same : (m : Description) (root : Chip) (items edges : List Edge) (i : ℕ) (d : Edge) (ports : List (Option Port)) → items ≡ edges → i < length items →
+    end_of m (get_or items i d) ≡ None → TellsPorts m root (take i edges) ports → TellsPorts m root (take (i + 1) edges) ports
+ports_same m root items edges i d ports same within none told =
+    subst (λ es. TellsPorts m root es ports) (sym (reads items edges i d same within)) (ports_nowhere m root (take i edges) (get_or items i d) ports none told)
+
+-- the edges were read to the end
+pub ports_all : (m : Description) (root : Chip) (items edges : List Edge) (i : ℕ) (ports : List (Option Port)) → items ≡ edges → length items ≤ i →
+    TellsPorts m root (take i edges) ports → TellsPorts m root edges ports
+ports_all m root items edges i ports same past =
+    subst (λ es. TellsPorts m root es ports) (take_all i edges (subst (λ (es : List Edge). length es ≤ i) same past))
+
+-- ---- routes
+
+has_nothing : (o : Out) → has nothing o ≡ false
+has_nothing o = ap (λ n. n == 1) (bit_at-zero (out_number o))
+
+none_wanted : (c : Chip) (o : Out) → is_wanted [] [] c o ≡ false
+none_wanted c (Link d) = refl
+none_wanted c (Core p) = refl
+
+pub routes_start : (m : Description) (edges : List Edge) (routes : List Route) → IsBlank m nothing routes → TellsRoutes m (take 0 edges) [] routes
+routes_start m edges routes clear c o inside valid = ap (λ r. has r o) (clear.clear c inside) ∙ (has_nothing o ∙ sym (none_wanted c o))
+
+-- where the route of a chip of the tree is written, chips off the tree have none as before
+pub off_kept : (m : Description) (net : NetPlan) (k : Chip) (p : ℕ) (r : Route) (routes : List Route) → IsInside m k → HasChip m net k → p ≡ index_of m k →
+    IsClearOff m net routes → IsClearOff m net (set routes p r)
+off_kept m net k p r routes k_in on at none c inside off =
+    get_or-set_other routes p (index_of m c) r nothing (λ here. off (subst (HasChip m net) (sym (same_index m c k inside k_in (here ∙ at))) on)) ∙ none c inside off
+
+-- one output more at one chip
+module _ (m : Description) (k : Chip) (x : Out) (added : Chip → Out → Bool) (is : added k x ≡ true)
+    (only : (c : Chip) (o : Out) → added c o ≡ true → (c ≡ k) × (o ≡ x)) where
+  added_one : (routes : List Route) (p : ℕ) (r : Route) (want more : Chip → Out → Bool) → IsInside m k → p ≡ index_of m k → p < length routes →
+      WithOut (get_or routes p nothing) x r → ((c : Chip) (o : Out) → more c o ≡ (want c o || added c o)) →
+      ((c : Chip) (o : Out) → IsInside m c → IsOutput o → has (get_or routes (index_of m c) nothing) o ≡ want c o) →
+      (c : Chip) (o : Out) → IsInside m c → IsOutput o → has (get_or (set routes p r) (index_of m c) nothing) o ≡ more c o
+  added_one routes p r want more k_in at below withs says told c o inside valid = elim (cases_eq (index_of m c) p) [
+    | inl here ↦
+        let same : c ≡ k = same_index m c k inside k_in (here ∙ at) in
+        let value : get_or (set routes p r) (index_of m c) nothing ≡ r =
+        ap (λ j. get_or (set routes p r) j nothing) here ∙ get_or-set_same routes p r nothing below in
+        elim (cases_Bool (added c o)) [
+          | inl hit ↦
+              ap (λ s. has s o) value ∙ (ap (has r) (only c o hit).1 ∙ (withs.has_it ∙ sym (says c o ∙ or_right _ _ hit)))
+          | inr miss ↦
+              let apart : o ≢ x = λ e. false≢true (sym miss ∙ (ap (added c) e ∙ (ap (λ d. added d x) same ∙ is))) in
+              ap (λ s. has s o) value ∙ (withs.same_else o apart ∙ (ap (λ j. has (get_or routes j nothing) o) (sym here) ∙ (told c o inside valid ∙ not_hit c o miss)))
+        ]
+    | inr other ↦
+        let miss : added c o ≡ false = false_from_ne_true (added c o) (λ hit. other (ap (index_of m) (only c o hit).0 ∙ sym at)) in
+        ap (λ s. has s o) (get_or-set_other routes p (index_of m c) r nothing other) ∙ (told c o inside valid ∙ not_hit c o miss)
+  ]
+    where
+      not_hit : (c : Chip) (o : Out) → added c o ≡ false → want c o ≡ more c o
+      not_hit c o miss = sym (says c o ∙ (ap (λ b. want c o || b) miss ∙ or-false (want c o)))
+
+edge_adds : Edge → Chip → Out → Bool
+edge_adds e c (Link d) = edge_eq (record { chip = c; dir = d }) e
+edge_adds e c (Core p) = false
+
+edge_only : (e : Edge) (c : Chip) (o : Out) → edge_adds e c o ≡ true → (c ≡ e.chip) × (o ≡ Link e.dir)
+unfolding edge_adds
+edge_only e c (Link d) hit =
+    let same : record { chip = c; dir = d } ≡ e = edge_eq-true (record { chip = c; dir = d }) e hit in
+    (ap (λ (f : Edge). f.chip) same, ap (λ (f : Edge). Link f.dir) same)
+edge_only e c (Core p) hit = absurd (false≢true hit)
+
+end_only : (s : Spot) (c : Chip) (o : Out) → leads_to_spot c o s ≡ true → (c ≡ s.chip) × (o ≡ out_of s.core)
+end_only s c o hit = let leads = spot_of_out c o s hit in (sym leads.0, leads.1)
+
+edge_more : (edges : List Edge) (i : ℕ) (d : Edge) → i < length edges → (c : Chip) (o : Out) →
+    is_wanted (take (i + 1) edges) [] c o ≡ (is_wanted (take i edges) [] c o || edge_adds (get_or edges i d) c o)
+unfolding edge_adds
+edge_more edges i d within c (Link l) =
+    let same : Edge → Bool = edge_eq (record { chip = c; dir = l }) in
+    or-false (list_any same (take (i + 1) edges))
+    ∙ (list_any_more same edges i d within
+    ∙ ap (λ b. b || same (get_or edges i d)) (sym (or-false (list_any same (take i edges)))))
+edge_more edges i d within c (Core p) = refl
+
+end_more : (edges : List Edge) (targets : List Spot) (i : ℕ) (d : Spot) → i < length targets → (c : Chip) (o : Out) →
+    is_wanted edges (take (i + 1) targets) c o ≡ (is_wanted edges (take i targets) c o || leads_to_spot c o (get_or targets i d))
+end_more edges targets i d within c o =
+    ap (λ b. is_edge_out edges c o || b) (list_any_more (leads_to_spot c o) targets i d within)
+    ∙ sym (or_assoc (is_edge_out edges c o) (list_any (leads_to_spot c o) (take i targets)) (leads_to_spot c o (get_or targets i d)))
+
+links_read : (m : Description) (edges : List Edge) (i : ℕ) (d : Edge) (p : ℕ) (routes : List Route) (old r : Route) → i < length edges →
+    IsInside m (get_or edges i d).chip → p ≡ index_of m (get_or edges i d).chip → p < length routes → old ≡ get_or routes p old →
+    WithOut old (Link (get_or edges i d).dir) r → TellsRoutes m (take i edges) [] routes →
+    TellsRoutes m (take (i + 1) edges) [] (set routes p r)
+unfolding edge_adds
+links_read m edges i d p routes old r within inside at below is withs told =
+    let e : Edge = get_or edges i d in
+    let before : old ≡ get_or routes p nothing = is ∙ get_or_default routes p old nothing below in
+    added_one m e.chip (Link e.dir) (edge_adds e) (edge_eq_self e) (edge_only e) routes p r
+    (is_wanted (take i edges) []) (is_wanted (take (i + 1) edges) []) inside at below
+    (subst (λ (o : Route). WithOut o (Link e.dir) r) before withs) (edge_more edges i d within) told
+
+-- the same where the edges are read from a list that is theirs
+pub links_more : (m : Description) (items edges : List Edge) (i : ℕ) (d : Edge) (p : ℕ) (routes : List Route) (old r : Route) → items ≡ edges → i < length items →
+    IsInside m (get_or items i d).chip → p ≡ index_of m (get_or items i d).chip → p < length routes → old ≡ get_or routes p old →
+    WithOut old (Link (get_or items i d).dir) r → TellsRoutes m (take i edges) [] routes →
+    TellsRoutes m (take (i + 1) edges) [] (set routes p r)
+links_more m items edges i d p routes old r same within inside at below is withs =
+    subst (λ es. TellsRoutes m (take i es) [] routes → TellsRoutes m (take (i + 1) es) [] (set routes p r)) same
+    (links_read m items i d p routes old r within inside at below is withs)
+
+ends_read : (m : Description) (edges : List Edge) (targets : List Spot) (i : ℕ) (d : Spot) (p : ℕ) (routes : List Route) (old r : Route) → i < length targets →
+    IsInside m (get_or targets i d).chip → p ≡ index_of m (get_or targets i d).chip → p < length routes → old ≡ get_or routes p old →
+    WithOut old (out_of (get_or targets i d).core) r → TellsRoutes m edges (take i targets) routes →
+    TellsRoutes m edges (take (i + 1) targets) (set routes p r)
+ends_read m edges targets i d p routes old r within inside at below is withs told =
+    let s : Spot = get_or targets i d in
+    let before : old ≡ get_or routes p nothing = is ∙ get_or_default routes p old nothing below in
+    added_one m s.chip (out_of s.core) (λ c o. leads_to_spot c o s) (leads_to_own s) (end_only s) routes p r
+    (is_wanted edges (take i targets)) (is_wanted edges (take (i + 1) targets)) inside at below
+    (subst (λ (o : Route). WithOut o (out_of s.core) r) before withs) (end_more edges targets i d within) told
+
+-- the same where the targets are read from a list that is theirs
+pub ends_more : (m : Description) (edges : List Edge) (items targets : List Spot) (i : ℕ) (d : Spot) (p : ℕ) (routes : List Route) (old r : Route) → items ≡ targets → i < length items →
+    IsInside m (get_or items i d).chip → p ≡ index_of m (get_or items i d).chip → p < length routes → old ≡ get_or routes p old →
+    WithOut old (out_of (get_or items i d).core) r → TellsRoutes m edges (take i targets) routes →
+    TellsRoutes m edges (take (i + 1) targets) (set routes p r)
+ends_more m edges items targets i d p routes old r same within inside at below is withs =
+    subst (λ ts. TellsRoutes m edges (take i ts) routes → TellsRoutes m edges (take (i + 1) ts) (set routes p r)) same
+    (ends_read m edges items i d p routes old r within inside at below is withs)

@@ -1,0 +1,70 @@
+-- A routing tree is inside the grid, and what is told of its chips is what their lists get.
+use Rattle.std.proofs.Common.{◌≡◌, ℕ, ◌<◌, List, length, get_or, Option, Some, None, refl, sym, subst, inl, inr}
+use Rattle.std.specs.List.{All}
+use Rattle.std.proofs.Math.ListN.{get_or-map}
+use Rattle.std.proofs.lemmas.List.{length-map}
+use Rattle.std.proofs.lemmas.List.Elements.{All-contains}
+use Rattle.spin_base.specs.declared.chips.Chip.{Chip}
+use Rattle.spin_base.specs.declared.chips.Spot.{Spot}
+use Rattle.spin_base.specs.declared.chips.Port.{Port}
+use Rattle.spin_base.specs.declared.routes.Out.{Out}
+use Rattle.spin_base.specs.declared.routes.Route.{Route}
+use Rattle.spin_base.specs.Outputs.{has, IsOutput}
+use Rattle.machine_desc.specs.declared.trees.Edge.{Edge}
+use Rattle.machine_desc.specs.Description.{Description}
+use Rattle.machine_desc.specs.Live.{IsInside}
+use Rattle.machine_desc.specs.RoutingTree.{IsTreeChip, IsRoutingTree}
+use Rattle.machine_desc.proofs.Far.{far_inside, live_inside, live_ends}
+use Rattle.machine_desc.proofs.TreeLemmas.{tree_cases}
+use Rattle.machine_desc.specs.declared.nets.NetPlan.{NetPlan}
+use Rattle.machine_desc.specs.Outputs.{is_wanted, ComesIn}
+use Rattle.net_tables.specs.declared.marks.Mark.{Mark}
+use Rattle.net_tables.specs.Marks.{TellsPort, GainsMark, with_mark}
+
+module _ (m : Description) (root : Chip) (edges : List Edge) (targets : List Spot) (tree : IsRoutingTree m root edges targets) where
+  pub edges_inside : All (λ (e : Edge). IsInside m e.chip) edges
+  edges_inside k d below =
+      let ends = live_ends m (get_or edges k d).chip (get_or edges k d).dir (tree.edges_live k d below) in
+      live_inside m (get_or edges k d).chip ends.2
+
+  pub chips_inside : IsInside m root → (c : Chip) → IsTreeChip m root edges c → IsInside m c
+  chips_inside root_in c on = elim (tree_cases m root edges c on) [
+    | inl at ↦ subst (IsInside m) (sym at) root_in
+    | inr into ↦ far_inside m into.0.chip c into.0.dir (All-contains (λ (e : Edge). IsInside m e.chip) edges into.0 edges_inside into.1) into.2
+  ]
+
+  targets_on : All (λ (s : Spot). IsTreeChip m root edges s.chip) targets
+  targets_on k d below =
+      subst (IsTreeChip m root edges) (get_or-map (λ (s : Spot). s.chip) targets k d)
+      (tree.has_targets k d.chip (subst (λ n. k < n) (sym (length-map targets (λ (s : Spot). s.chip))) below))
+
+  -- the same of an edge or a target that is read from a list that is theirs
+  module _ (items : List Edge) (same : items ≡ edges) (k : ℕ) (d : Edge) (below : k < length items) where
+    pub edge_inside : IsInside m (get_or items k d).chip
+    edge_inside = subst (All (λ (e : Edge). IsInside m e.chip)) (sym same) edges_inside k d below
+
+    pub edge_on : IsTreeChip m root edges (get_or items k d).chip
+    edge_on = subst (All (λ (e : Edge). IsTreeChip m root edges e.chip)) (sym same) tree.edges_begin k d below
+
+  module _ (items : List Spot) (same : items ≡ targets) (k : ℕ) (d : Spot) (below : k < length items) where
+    pub target_on : IsTreeChip m root edges (get_or items k d).chip
+    target_on = subst (All (λ (s : Spot). IsTreeChip m root edges s.chip)) (sym same) targets_on k d below
+
+    pub target_inside : IsInside m root → IsInside m (get_or items k d).chip
+    target_inside root_in = chips_inside root_in (get_or items k d).chip target_on
+
+-- where packets come in is a chip of the tree
+pub comes_in_tree : (m : Description) (root : Chip) (edges : List Edge) (c : Chip) (port : Port) → ComesIn m root edges c port → IsTreeChip m root edges c
+comes_in_tree m root edges c port (inl at) = inl at.0
+comes_in_tree m root edges c port (inr by) = inr (by.1.0, by.0, by.1.1, by.1.2, by.2)
+
+pub grows : (m : Description) (net : NetPlan) (c : Chip) (o : Option Port) (route : Route) (before after : List Mark) → TellsPort m net.tree.root net.tree.edges c o →
+    ((out : Out) → IsOutput out → has route out ≡ is_wanted net.tree.edges net.targets c out) → after ≡ with_mark net.block o route before → GainsMark m net c before after
+grows m net c (Some port) route before after told outputs is =
+    inl (
+      comes_in_tree m net.tree.root net.tree.edges c port told,
+      record { block = net.block; port = port; route = route },
+      record { keys = refl; port = told; outputs = outputs },
+      is,
+    )
+grows m net c None route before after told outputs is = inr (told, is)

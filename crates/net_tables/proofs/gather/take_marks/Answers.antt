@@ -1,0 +1,78 @@
+use Rattle.std.proofs.Common.{◌<◌, ◌∙◌, sym, subst}
+use Rattle.machine_desc.proofs.Far.{far_inside}
+use Rattle.net_tables.proofs.Trees.{edge_inside}
+use Rattle.net_tables.proofs.Taking.{taken_first, taken_more, taken_same, taken_all, ports_clear, routes_clear, all_grown}
+use Rattle.net_tables.proofs.gather.take_marks.Goals as goal
+use Rattle.net_tables.proofs.gather.take_marks.Goals.{in-Some+in_ok-take_mark-2, in_default}
+
+pub index-place-requires : goal.index-place-requires
+index-place-requires c = far_inside c.args.machine.now _ c.in-Some.chip _ (
+    edge_inside c.args.machine.now c.args.net.now.tree.root c.args.net.now.tree.edges c.args.net.now.targets c.requires.routed.tree
+    c.as_slice-edge-items.result.now c.as_slice-edge-items.ensures c.loop-edge.edge-index _ c.loop-edge-test.true
+    ) (sym c.far.ensures ∙ c.in-Some.is)
+
+pub loop-edge-init : goal.loop-edge-init
+loop-edge-init c =
+    taken_first c.args.machine.now c.args.net.now.tree.root c.args.net.now.tree.edges c.args.net.now.block _ _ c.index-root.result c.index-root.ensures.value
+    (record {
+      ports = subst (λ n. c.index-root.result < n) (sym c.requires.ports_long) c.index-root.ensures.below;
+      routes = subst (λ n. c.index-root.result < n) (sym c.requires.routes_long) c.index-root.ensures.below;
+      lists = subst (λ n. c.index-root.result < n) (sym c.requires.lists_long) c.index-root.ensures.below;
+    })
+    (record {
+      ports = c.in_ok-take_mark.ensures.port;
+      routes = c.in_ok-take_mark.ensures.route;
+      lists = c.in_ok-take_mark.ensures.mark;
+    })
+
+pub loop-edge-preserved : goal.loop-edge-preserved
+loop-edge-preserved c = elim c.match-far.branch [
+  | in-Some+in_ok-take_mark-2 w ↦
+      rw (w.ports-is, w.routes-is, w.lists-is) (
+      taken_more c.args.machine.now c.args.net.now.tree.root c.as_slice-edge-items.result.now c.args.net.now.tree.edges c.loop-edge.edge-index _ w.in-Some.chip
+      c.args.net.now.block _ _ _ w.index-place.result c.as_slice-edge-items.ensures c.loop-edge-test.true (sym c.far.ensures ∙ w.in-Some.is)
+      w.index-place.ensures.value
+      (record {
+        ports = subst (λ n. w.index-place.result < n) (sym (c.loop-edge.invariant.ports_long ∙ c.requires.ports_long)) w.index-place.ensures.below;
+        routes = subst (λ n. w.index-place.result < n) (sym (c.loop-edge.invariant.routes_long ∙ c.requires.routes_long)) w.index-place.ensures.below;
+        lists = subst (λ n. w.index-place.result < n) (sym (c.loop-edge.invariant.lists_long ∙ c.requires.lists_long)) w.index-place.ensures.below;
+      })
+      (record {
+        ports = w.in_ok-take_mark-2.ensures.port;
+        routes = w.in_ok-take_mark-2.ensures.route;
+        lists = w.in_ok-take_mark-2.ensures.mark;
+      })
+      c.loop-edge.invariant
+      )
+  | in_default w ↦
+      rw (w.ports-is, w.routes-is, w.lists-is) (
+      taken_same c.args.machine.now c.args.net.now.tree.root c.as_slice-edge-items.result.now c.args.net.now.tree.edges c.loop-edge.edge-index _ c.args.net.now.block _ _
+      c.as_slice-edge-items.ensures c.loop-edge-test.true (sym c.far.ensures ∙ w.in_default.is) c.loop-edge.invariant
+      )
+]
+
+pub returns-clause-no_port : goal.returns-clause-no_port
+returns-clause-no_port c =
+    ports_clear c.args.machine.now c.args.net.now _ _ c.requires.ports_told c.requires.clear_off
+    (taken_all c.args.machine.now c.args.net.now.tree.root c.as_slice-edge-items.result.now c.args.net.now.tree.edges c.loop-edge.edge-index c.args.net.now.block _ _
+    c.as_slice-edge-items.ensures c.loop-edge-test.false c.loop-edge.invariant)
+    c.requires.ports_long
+
+pub returns-clause-no_route : goal.returns-clause-no_route
+returns-clause-no_route c =
+    routes_clear c.args.machine.now c.args.net.now _ _ c.requires.ports_told c.requires.clear_off
+    (taken_all c.args.machine.now c.args.net.now.tree.root c.as_slice-edge-items.result.now c.args.net.now.tree.edges c.loop-edge.edge-index c.args.net.now.block _ _
+    c.as_slice-edge-items.ensures c.loop-edge-test.false c.loop-edge.invariant)
+    c.requires.routes_long
+
+pub returns-clause-grown : goal.returns-clause-grown
+returns-clause-grown c =
+    all_grown c.args.machine.now c.args.net.now _ _ c.requires.ports_told c.requires.clear_off
+    (taken_all c.args.machine.now c.args.net.now.tree.root c.as_slice-edge-items.result.now c.args.net.now.tree.edges c.loop-edge.edge-index c.args.net.now.block _ _
+    c.as_slice-edge-items.ensures c.loop-edge-test.false c.loop-edge.invariant)
+    c.requires.routes_told
+
+pub far-requires : goal.far-requires
+far-requires c =
+    edge_inside c.args.machine.now c.args.net.now.tree.root c.args.net.now.tree.edges c.args.net.now.targets c.requires.routed.tree
+    c.as_slice-edge-items.result.now c.as_slice-edge-items.ensures c.loop-edge.edge-index _ c.loop-edge-test.true

@@ -1,0 +1,26 @@
+use Rattle.std.proofs.Common.{◌<◌, ◌∙◌, sym, subst}
+use Rattle.std.proofs.Math.ListN.{length-set}
+use Rattle.net_tables.proofs.Telling.{links_more, off_kept}
+use Rattle.net_tables.proofs.Trees.{edge_inside, edge_on}
+use Rattle.net_tables.proofs.marks.set_links.Goals as goal
+
+pub index-place-requires : goal.index-place-requires
+index-place-requires c =
+    edge_inside c.args.machine.now c.args.net.now.tree.root c.args.net.now.tree.edges c.args.net.now.targets c.requires.routed.tree
+    c.as_slice-edge-items.result.now c.as_slice-edge-items.ensures c.loop-edge.edge-index _ c.loop-edge-test.true
+
+pub loop-edge-preserved : goal.loop-edge-preserved
+loop-edge-preserved c =
+    let inside =
+    edge_inside c.args.machine.now c.args.net.now.tree.root c.args.net.now.tree.edges c.args.net.now.targets c.requires.routed.tree
+    c.as_slice-edge-items.result.now c.as_slice-edge-items.ensures c.loop-edge.edge-index _ c.loop-edge-test.true in
+    let on =
+    edge_on c.args.machine.now c.args.net.now.tree.root c.args.net.now.tree.edges c.args.net.now.targets c.requires.routed.tree
+    c.as_slice-edge-items.result.now c.as_slice-edge-items.ensures c.loop-edge.edge-index _ c.loop-edge-test.true in (
+      length-set _ _ _ ∙ c.loop-edge.invariant.0,
+      links_more c.args.machine.now c.as_slice-edge-items.result.now c.args.net.now.tree.edges c.loop-edge.edge-index _ c.index-place.result c.loop-edge.routes
+          c.index-routes-place.result c.with.result c.as_slice-edge-items.ensures c.loop-edge-test.true inside c.index-place.ensures.value
+          (subst (λ n. c.index-place.result < n) (sym c.loop-edge.invariant.0) c.index-place.ensures.below)
+          c.index-routes-place.is c.with.ensures c.loop-edge.invariant.1,
+      off_kept c.args.machine.now c.args.net.now _ c.index-place.result c.with.result c.loop-edge.routes inside on c.index-place.ensures.value c.loop-edge.invariant.2,
+    )

@@ -1,0 +1,7 @@
+use Rattle.std.proofs.Common.{◌≡◌, ◌*◌, length, take}
+use Rattle.net_tables.specs.Marks.{TellsPorts}
+use Rattle.net_tables.proofs.marks.set_ports.Given as goal
+
+-- the ports tell of the edges that were read
+abbrev pub invariant-loop-edge : goal.invariant-loop-edge
+invariant-loop-edge l = (length l.ports ≡ l.machine.width * l.machine.height) × TellsPorts l.machine l.net.tree.root (take l.edge-index l.net.tree.edges) l.ports

@@ -1,0 +1,9 @@
+use Rattle.std.proofs.Common.{rules}
+use Rattle.std.proofs.lemmas.List.Sorted.{answers_always}
+use Rattle.net_tables.specs.Marks.{mark_numbers}
+use Rattle.net_tables.proofs.Ordering.{sorted_marks}
+use Rattle.net_tables.proofs.rows.sort_marks.Goals as goal
+
+pub returns-clause-in_order : goal.returns-clause-in_order
+returns-clause-in_order c =
+    sorted_marks _ (c.in_ok-sort_by_key.ensures.sorted mark_numbers (answers_always _ _ _ (λ f a r g h. search rules)))

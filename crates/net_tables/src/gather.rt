@@ -1,0 +1,160 @@
+// The original blocks of all chips, gathered net by net.
+ghost use Rattle.std.specs.Prelude.{◌≡◌, ◌*◌, ◌<◌, ◌++◌, ◌∷◌, [], length, map, All, IfOk, OnOk, None, replicate, slice_index_or, slice_set};
+ghost use Rattle.spin_base.specs.declared.chips.Chip.{Chip};
+ghost use Rattle.spin_base.specs.Outputs.{nothing};
+ghost use Rattle.machine_desc.specs.Live.{IsInside, index_of};
+ghost use Rattle.net_tables.specs.PlainTable.{AreOriginals};
+ghost use Rattle.net_tables.specs.Marks.{IsBlank, IsClearOff, IsRouted, GainsMark, TellsPorts, TellsRoutes, with_mark, original_of};
+
+use crate::marks::{Mark, no_ports, no_routes, set_links, set_ports, set_targets};
+use machine_desc::{Machine, NetPlan};
+use spin_base::{Block, Memory, Port, Route, Seq};
+use std::alloc::Global;
+
+// The original blocks of each chip, by the chip's index, in the order of the nets. The two boards are made once: a net
+// costs no more than its tree and targets.
+pub fn marks_of(
+    alloc: Global,
+    machine: &Machine,
+    nets: &[NetPlan],
+) -> Result<Vec<Seq<Mark>>, Memory>
+    requires { All (IsRouted machine.now) nets.now }
+    ensures long { IfOk result (λ v. length v.items ≡ machine.now.width * machine.now.height) }
+    ensures gathered { IfOk result (λ v. (c : Chip) → IsInside machine.now c →
+        AreOriginals machine.now c nets.now (map original_of (slice_index_or v.items
+        (index_of machine.now c) []))) }
+{
+    let mut ports = no_ports(alloc, machine)?;
+    let mut routes = no_routes(alloc, machine)?;
+    let mut lists = empty_lists(alloc, machine.chips())?;
+    add_nets(machine, nets, &mut ports, &mut routes, &mut lists)?;
+    Ok(lists)
+}
+
+// So many empty lists.
+fn empty_lists(alloc: Global, count: usize) -> Result<Vec<Seq<Mark>>, Memory>
+    ensures { IfOk result (λ v. v.items ≡ replicate count []) }
+{
+    let mut lists = Vec::new(alloc);
+    for _ in 0..count {
+        lists.push(Seq::new(alloc))?;
+    }
+    Ok(lists)
+}
+
+// Adds the nets' original blocks to the empty lists of the chips. The boards are clear between nets.
+fn add_nets(
+    machine: &Machine,
+    nets: &[NetPlan],
+    ports: &mut [Option<Port>],
+    routes: &mut [Route],
+    lists: &mut [Seq<Mark>],
+) -> Result<(), Memory>
+    requires routed { All (IsRouted machine.now) nets.now }
+    requires no_port { IsBlank machine.now None ports.old }
+    requires no_route { IsBlank machine.now nothing routes.old }
+    requires empty { lists.old ≡ replicate (machine.now.width * machine.now.height) [] }
+    ensures long { OnOk result (length lists.new ≡ machine.now.width * machine.now.height) }
+    ensures gathered { OnOk result ((c : Chip) → IsInside machine.now c →
+        AreOriginals machine.now c nets.now (map original_of (slice_index_or lists.new
+        (index_of machine.now c) []))) }
+{
+    for net in nets {
+        add_net(machine, net, ports, routes, lists)?;
+    }
+    Ok(())
+}
+
+// Adds the net's original block at each chip of its tree. It leaves the boards clear.
+fn add_net(
+    machine: &Machine,
+    net: &NetPlan,
+    ports: &mut [Option<Port>],
+    routes: &mut [Route],
+    lists: &mut [Seq<Mark>],
+) -> Result<(), Memory>
+    requires routed { IsRouted machine.now net.now }
+    requires no_port { IsBlank machine.now None ports.old }
+    requires no_route { IsBlank machine.now nothing routes.old }
+    requires long { length lists.old ≡ machine.now.width * machine.now.height }
+    ensures no_port { OnOk result (IsBlank machine.now None ports.new) }
+    ensures no_route { OnOk result (IsBlank machine.now nothing routes.new) }
+    ensures long { OnOk result (length lists.new ≡ machine.now.width * machine.now.height) }
+    ensures grown { OnOk result ((c : Chip) → IsInside machine.now c →
+        GainsMark machine.now net.now c (slice_index_or lists.old (index_of machine.now c) [])
+        (slice_index_or lists.new (index_of machine.now c) [])) }
+{
+    set_ports(machine, net, ports);
+    set_links(machine, net, routes);
+    set_targets(machine, net, routes);
+    take_marks(machine, net, ports, routes, lists)
+}
+
+// Moves what the boards have at the chips of the net's tree to their lists.
+fn take_marks(
+    machine: &Machine,
+    net: &NetPlan,
+    ports: &mut [Option<Port>],
+    routes: &mut [Route],
+    lists: &mut [Seq<Mark>],
+) -> Result<(), Memory>
+    requires routed { IsRouted machine.now net.now }
+    requires ports_long { length ports.old ≡ machine.now.width * machine.now.height }
+    requires routes_long { length routes.old ≡ machine.now.width * machine.now.height }
+    requires lists_long { length lists.old ≡ machine.now.width * machine.now.height }
+    requires ports_told { TellsPorts machine.now net.now.tree.root net.now.tree.edges ports.old }
+    requires routes_told { TellsRoutes machine.now net.now.tree.edges net.now.targets routes.old }
+    requires clear_off { IsClearOff machine.now net.now routes.old }
+    ensures no_port { OnOk result (IsBlank machine.now None ports.new) }
+    ensures no_route { OnOk result (IsBlank machine.now nothing routes.new) }
+    ensures long { OnOk result (length lists.new ≡ machine.now.width * machine.now.height) }
+    ensures grown { OnOk result ((c : Chip) → IsInside machine.now c →
+        GainsMark machine.now net.now c (slice_index_or lists.old (index_of machine.now c) [])
+        (slice_index_or lists.new (index_of machine.now c) [])) }
+{
+    let root = machine.index(net.tree.root) as usize;
+    take_mark(root, net.block, ports, routes, lists)?;
+    for edge in net.tree.edges.as_slice() {
+        if let Some(chip) = machine.far(edge.chip, edge.dir) {
+            let place = machine.index(chip) as usize;
+            take_mark(place, net.block, ports, routes, lists)?;
+        }
+    }
+    Ok(())
+}
+
+// Moves what the boards have at a place to the list there, as an original block, and leaves the place clear.
+fn take_mark(
+    place: usize,
+    block: Block,
+    ports: &mut [Option<Port>],
+    routes: &mut [Route],
+    lists: &mut [Seq<Mark>],
+) -> Result<(), Memory>
+    requires in_ports { place < length ports.old }
+    requires in_routes { place < length routes.old }
+    requires in_lists { place < length lists.old }
+    ensures port { ports.new ≡ slice_set ports.old place None }
+    ensures route { routes.new ≡ slice_set routes.old place nothing }
+    ensures mark { OnOk result (lists.new ≡ slice_set lists.old place
+        (with_mark block (slice_index_or ports.old place None)
+        (slice_index_or routes.old place nothing) (slice_index_or lists.old place []))) }
+{
+    let port = ports[place];
+    let route = routes[place];
+    ports[place] = None;
+    routes[place] = Route::nothing();
+    match port {
+        None => Ok(()),
+        Some(port) => push_mark(lists, place, Mark { block, port, route }),
+    }
+}
+
+// Puts an original block at the back of the list at a place.
+fn push_mark(lists: &mut [Seq<Mark>], place: usize, mark: Mark) -> Result<(), Memory>
+    requires { place < length lists.old }
+    ensures { OnOk result (lists.new
+        ≡ slice_set lists.old place (slice_index_or lists.old place [] ++ mark ∷ [])) }
+{
+    lists[place].push(mark)
+}

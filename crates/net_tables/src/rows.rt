@@ -1,0 +1,69 @@
+// The rows of original blocks, in order.
+ghost use Rattle.std.specs.Prelude.{◌≡◌, map, IfOk, OnOk};
+ghost use Rattle.std.specs.List.{AllZip, AllPairs};
+ghost use Rattle.std.specs.List.Sorted.{IsPermutation};
+ghost use Rattle.net_tables.specs.PlainTable.{row_of, IsRowNotAfter};
+ghost use Rattle.net_tables.specs.Marks.{original_of, row_of_mark, IsTableOf};
+
+use crate::marks::Mark;
+use spin_base::{Memory, Seq};
+use std::alloc::Global;
+use tern_word::{Alias, Row, Table, generality};
+
+// The table of each list.
+pub fn tables_of(alloc: Global, lists: &[Seq<Mark>]) -> Result<Seq<Table>, Memory>
+    ensures { IfOk result (λ tables. AllZip IsTableOf lists.now tables) }
+{
+    let mut tables = Seq::new(alloc);
+    for list in lists {
+        tables.push(table_of(alloc, list.as_slice())?)?;
+    }
+    Ok(tables)
+}
+
+// The table with one row for each original block.
+fn table_of(alloc: Global, marks: &[Mark]) -> Result<Table, Memory>
+    ensures { IfOk result (IsTableOf marks.now) }
+{
+    let mut sorted = Vec::from_slice(alloc, marks)?;
+    sort_marks(&mut sorted)?;
+    let rows = rows_of(alloc, sorted.as_slice())?;
+    Ok(Table { rows })
+}
+
+// Sorts original blocks by generality, then by key.
+fn sort_marks(marks: &mut Vec<Mark>) -> Result<(), Memory>
+    ensures same { OnOk result (IsPermutation marks.old.items marks.new.items) }
+    ensures in_order { OnOk result (AllPairs (λ a b. IsRowNotAfter (row_of_mark a)
+        (row_of_mark b)) marks.new.items) }
+{
+    marks.sort_by_key(|mark| (generality(mark.block), mark.block.key))?;
+    Ok(())
+}
+
+// The rows of the original blocks, in their order.
+fn rows_of(alloc: Global, marks: &[Mark]) -> Result<Seq<Row>, Memory>
+    ensures { IfOk result (λ rows. rows ≡ map row_of_mark marks.now) }
+{
+    let mut rows = Seq::new(alloc);
+    for mark in marks {
+        rows.push(row_of(alloc, *mark)?)?;
+    }
+    Ok(rows)
+}
+
+// The row of one original block, its only alias.
+fn row_of(alloc: Global, mark: Mark) -> Result<Row, Memory>
+    ensures { IfOk result (λ row. row ≡ row_of (original_of mark)) }
+{
+    let mut aliases = Seq::new(alloc);
+    aliases.push(Alias {
+        block: mark.block,
+        port: mark.port,
+    })?;
+    Ok(Row {
+        block: mark.block,
+        route: mark.route,
+        aliases,
+    })
+}

@@ -1,8 +1,0 @@
-use Rattle.std.proofs.Common.{◌≡◌, take}
-use Rattle.mesh_core.specs.Opened.{opened_mesh}
-use Rattle.packet_runs.proofs.opening.add_packets.Given as goal
-
-abbrev pub invariant-loop-number : goal.invariant-loop-number
-invariant-loop-number l = record {
-  opened : l.mesh ≡ opened_mesh l.fn.mesh.setup l.nets (take l.number l.packets);
-}

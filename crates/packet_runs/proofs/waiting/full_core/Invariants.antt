@@ -1,7 +1,0 @@
-use Rattle.std.proofs.Common.{◌≡◌, ◌<◌, ℕ, [], Some}
-use Rattle.std.specs.List.{slice_get}
-use Rattle.packet_runs.proofs.waiting.full_core.Given as goal
-
--- nothing waits for the vertices before this one
-abbrev pub invariant-loop-vertex : goal.invariant-loop-vertex
-invariant-loop-vertex l = (v : ℕ) → v < l.vertex → slice_get l.mesh.cores v ≡ Some []

@@ -1,8 +1,0 @@
-use Rattle.std.proofs.Common.{◌≡◌, ◌<◌, ℕ, Some, None}
-use Rattle.std.specs.List.{slice_get}
-use Rattle.machine_desc.specs.Live.{index_of, chip_of}
-use Rattle.packet_runs.proofs.waiting.full_hand.Given as goal
-
--- the hands of the chips before this one are free
-abbrev pub invariant-loop-index : goal.invariant-loop-index
-invariant-loop-index l = (i : ℕ) → i < l.index → slice_get l.mesh.hands (index_of l.mesh.setup.machine (chip_of l.mesh.setup.machine i)) ≡ Some None

@@ -1,7 +1,0 @@
-pub mod Determined
-mod Marking
-mod Ordering
-mod Taking
-pub mod Telling
-pub mod Trees
-pub mod Whole

@@ -1,6 +1,0 @@
-pub use Rattle.spin_base.specs.Outputs
-pub use Rattle.machine_desc.specs.Live
-pub use Rattle.tern_word.specs.SoundTable
-pub use Rattle.net_tables.specs.RightTables
-pub mod Marks
-pub mod PlainTable

@@ -1,0 +1,108 @@
+// What is amiss with a block of keys in the rows of one chip.
+ghost use Rattle.std.specs.Prelude.{◌≡◌, ◌≢◌, ◌↔◌, ◌≤◌, ◌<◌, ℕ, IsTrue, All, MatchOption, length};
+ghost use Rattle.spin_base.specs.declared.blocks.Entry.{Entry};
+ghost use Rattle.spin_base.specs.Lookup.{default_route};
+ghost use Rattle.spin_base.specs.declared.sizes.TheConstants.{ROUTER_ENTRIES};
+ghost use Rattle.table_load.specs.Images.{IsRow};
+ghost use Rattle.plan_check.specs.Boards.{IsAmiss, IsFlawBy};
+ghost use Rattle.plan_check.specs.Verdicts.{Meets, LiesInside, NoneMeets, IsFirstToMeet};
+
+use spin_base::{Block, Dir, Entry, Port, Route};
+use tern_word::{intersects, lies_in};
+
+// What is amiss with a net at a chip.
+#[derive(Clone, Copy, PartialEq, Eq)]
+pub enum Flaw {
+    // All its keys get one route, which is not the tree's.
+    Wrong,
+    // The first row that meets its keys stands at this place, and does not match all of them.
+    Split { row: u32 },
+}
+
+// What is amiss with a block in rows where its packets come in at that port: `None` where all its keys get the wanted route.
+pub fn flaw_in(rows: &[Entry], block: Block, port: Port, wanted: Route) -> Option<Flaw>
+    requires valid { All IsRow rows.now }
+    requires few { length rows.now ≤ ROUTER_ENTRIES }
+    ensures { IsAmiss block rows.now port wanted result }
+{
+    match first_to_meet(rows, block) {
+        None => flaw_by(default_route(port), wanted),
+        Some(place) => {
+            let row = rows[place as usize];
+            if !lies_inside(block, row) {
+                return Some(Flaw::Split { row: place });
+            }
+            flaw_by(row.route, wanted)
+        }
+    }
+}
+
+// What is amiss where a route is got in place of the wanted one.
+fn flaw_by(route: Route, wanted: Route) -> Option<Flaw>
+    ensures { IsFlawBy route wanted result }
+{
+    if route.bits == wanted.bits {
+        None
+    } else {
+        Some(Flaw::Wrong)
+    }
+}
+
+// The place of the first row that meets the block.
+fn first_to_meet(rows: &[Entry], block: Block) -> Option<u32>
+    requires valid { All IsRow rows.now }
+    requires few { length rows.now ≤ ROUTER_ENTRIES }
+    ensures { MatchOption result (NoneMeets block rows.now)
+        (λ place. (e : Entry) × IsFirstToMeet block rows.now place e) }
+{
+    for place in 0..rows.len() {
+        if meets(block, rows[place]) {
+            return Some(place as u32);
+        }
+    }
+    None
+}
+
+// Whether the row matches some key of the block.
+fn meets(block: Block, row: Entry) -> bool
+    requires { IsRow row }
+    ensures { IsTrue result ↔ Meets block row }
+{
+    intersects(block, keys_of(row))
+}
+
+// Whether the row matches each key of the block.
+fn lies_inside(block: Block, row: Entry) -> bool
+    requires { IsRow row }
+    ensures { IsTrue result ↔ LiesInside block row }
+{
+    lies_in(block, keys_of(row))
+}
+
+// The keys that the row matches.
+fn keys_of(row: Entry) -> Block
+    requires { IsRow row }
+    ensures key { result.key ≡ row.key }
+    ensures mask { result.mask ≡ row.mask }
+{
+    Block {
+        key: row.key,
+        mask: row.mask,
+    }
+}
+
+// Where a packet goes on that no entry matches: by the link opposite its port's, and nowhere from the chip's own cores
+// (SpiNNaker datasheet).
+fn default_route(port: Port) -> Route
+    ensures { result ≡ default_route port }
+{
+    match port {
+        Port::Link(Dir::East) => Route { bits: 8 },
+        Port::Link(Dir::NorthEast) => Route { bits: 16 },
+        Port::Link(Dir::North) => Route { bits: 32 },
+        Port::Link(Dir::West) => Route { bits: 1 },
+        Port::Link(Dir::SouthWest) => Route { bits: 2 },
+        Port::Link(Dir::South) => Route { bits: 4 },
+        Port::Local => Route { bits: 0 },
+    }
+}

@@ -1,2 +1,0 @@
-pub use Rattle.run_report.specs.ReportText
-pub mod Refusals

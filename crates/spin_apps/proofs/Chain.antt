@@ -1,0 +1,150 @@
+-- Steps answered one after the other.
+use Rattle.std.proofs.Common.{◌≡◌, ℕ, zero, suc, ◌+◌, ◌≤◌, refl, sym, ap, ◌∙◌, subst, arith, List, [], ◌∷◌, ◌++◌, length, drop, ◌||◌, Option, Some, None, Result, Ok, Err, IfOk, IfSome, OnOk}
+use Rattle.std.specs.List.{All, list_any, slice_get}
+use Rattle.std.specs.Prelude.{is_some}
+use Rattle.std.proofs.lemmas.Bool.{false≢true}
+use Rattle.std.proofs.Math.Bool.{or_assoc, or-false, or-true}
+use Rattle.std.proofs.lemmas.List.{append-nil, append_assoc, drop_all}
+use Rattle.job_requests.specs.declared.steps.Step.{Step}
+use Rattle.job_requests.specs.declared.steps.Step.TheVariants.{Load, Unload, Run}
+use Rattle.job_requests.specs.Valid.{IsValidJob, IsValidStep}
+use Rattle.job_readers.specs.declared.jobs.Job.{Job}
+use Rattle.app_loads.specs.Applications.{AreApps}
+use Rattle.app_loads.specs.Host.{Host}
+use Rattle.spin_apps.specs.declared.hosts.LoadAnswer.{LoadAnswer}
+use Rattle.spin_apps.specs.declared.hosts.LoadAnswer.TheVariants.{Done, Loaded, NoRoom, CutOff, MemoryOut, KeysOut, RowsOut}
+use Rattle.spin_apps.specs.declared.hosts.UnloadAnswer.{UnloadAnswer}
+use Rattle.spin_apps.specs.declared.hosts.UnloadAnswer.TheVariants.{Got, NotLoaded, Waiting}
+use Rattle.spin_apps.specs.Answers.{Answers, AreAnswered, AreAnsweredFrom, AreAnsweredThrough, IsLoadAnswer, IsUnloadAnswer, host_at, is_load}
+use Rattle.spin_apps.specs.Hosting.{IsAnsweredBy, HasAddedLine, packet_count_of}
+use Rattle.spin_apps.specs.Lines.{load_line}
+use Rattle.spin_apps.specs.declared.answers.Answered.{Answered}
+use Rattle.spin_apps.proofs.OneLine.{one_text}
+use Rattle.spin_base.specs.declared.wants.Memory.{Memory}
+
+-- What the steps that are left are answered, behind the text so far, is what all steps are answered.
+abbrev pub GoesOn : List Step → Option Host → List Step → List ℕ → Type 0
+GoesOn all state left text = (more : List ℕ) (last : Option Host) → AreAnsweredFrom state left more last → AreAnsweredFrom None all (text ++ more) last
+
+pub goes_first : (all : List Step) (state : Option Host) (text : List ℕ) → state ≡ None → text ≡ [] → GoesOn all state all text
+goes_first all state text fresh none more last answered =
+    subst (λ t. AreAnsweredFrom None all (t ++ more) last) (sym none) (subst (λ (o : Option Host). AreAnsweredFrom o all more last) fresh answered)
+
+dropped : (all : List Step) (i : ℕ) (step : Step) → slice_get all i ≡ Some step → drop i all ≡ step ∷ drop (i + 1) all
+dropped [] i step at = cc
+dropped (x ∷ xs) zero step at = let same : x ≡ step = cc in ap (λ y. y ∷ xs) same
+dropped (x ∷ xs) (suc i) step at =
+    let more : suc (i + 1) ≡ suc i + 1 = omega arith in
+    dropped xs i step at ∙ ap (λ n. step ∷ drop n (x ∷ xs)) more
+
+pub goes_more : (all : List Step) (i : ℕ) (step : Step) (before after : Option Host) (old new : List ℕ) → slice_get all i ≡ Some step →
+    HasAddedLine step before old new after → GoesOn all before (drop i all) old → GoesOn all after (drop (i + 1) all) new
+goes_more all i step before after old new at told goes more last answered =
+    let left : AreAnsweredFrom before (drop i all) (told.told ++ more) last =
+    subst (λ l. AreAnsweredFrom before l (told.told ++ more) last) (sym (dropped all i step at)) (told.told, more, after, told.answers, told.apps, refl, answered) in
+    subst (λ t. AreAnsweredFrom None all t last) (sym (append_assoc old told.told more) ∙ ap (λ t. t ++ more) (sym told.longer)) (goes (told.told ++ more) last left)
+
+pub goes_all : (all : List Step) (i : ℕ) (state : Option Host) (text : List ℕ) → length all ≤ i → GoesOn all state (drop i all) text → AreAnsweredFrom None all text state
+goes_all all i state text past goes =
+    subst (λ t. AreAnsweredFrom None all t state) (append-nil text)
+    (goes [] state (subst (λ l. AreAnsweredFrom state l [] state) (sym (drop_all i all past)) (refl, refl)))
+
+-- ---- where there is a state
+
+-- a step leaves a state where one was before, and where it is a load
+one_given : (step : Step) (before : Option Host) (told : List ℕ) (between : Option Host) → Answers step before told between → is_some between ≡ (is_some before || is_load step)
+one_given (Load number job) before told between is = ap is_some is.left ∙ sym (or-true (is_some before))
+one_given (Unload number) None told between is = ap is_some is.1
+one_given (Unload number) (Some h) told between is = ap is_some is.left
+one_given Run None told between is = ap is_some is.1
+one_given Run (Some h) told between is = ap is_some is.1.1
+
+given_from : (before : Option Host) (steps : List Step) (text : List ℕ) (after : Option Host) → AreAnsweredFrom before steps text after →
+    is_some after ≡ (is_some before || list_any is_load steps)
+given_from before [] text after is = ap is_some is.1 ∙ sym (or-false (is_some before))
+given_from before (step ∷ steps) text after is =
+    given_from is.2 steps is.1 after is.6
+    ∙ (ap (λ b. b || list_any is_load steps) (one_given step before is.0 is.2 is.3) ∙ or_assoc (is_some before) (is_load step) (list_any is_load steps))
+
+-- ---- all steps
+
+-- what is answered where all steps were done
+pub all_told : (steps : List Step) (taken : Result Unit Memory) (text : List ℕ) (apps : Option Host) (r : Result Answered Memory) → OnOk taken (AreAnswered steps text apps) →
+    IfOk r (IsAnsweredBy taken text apps) → IfOk r (λ a. AreAnswered steps a.text a.apps)
+all_told steps (Ok u) text apps (Ok a) told is = subst (λ t. AreAnswered steps t a.apps) (sym is.text_is) (subst (AreAnswered steps text) (sym is.apps_is) told)
+all_told steps (Err e) text apps (Ok a) told is = absurd (false≢true is.done)
+all_told steps taken text apps (Err e) told is = is
+
+pub all_given : (steps : List Step) (r : Result Answered Memory) → IfOk r (λ a. AreAnswered steps a.text a.apps) → IfOk r (λ a. is_some a.apps ≡ list_any is_load steps)
+all_given steps (Ok a) is = given_from None steps a.text a.apps is
+all_given steps (Err e) is = is
+
+pub all_apps : (taken : Result Unit Memory) (text : List ℕ) (apps : Option Host) (r : Result Answered Memory) → IfSome apps AreApps → IfOk r (IsAnsweredBy taken text apps) →
+    IfOk r (λ a. IfSome a.apps AreApps)
+all_apps taken text apps (Ok a) hold is = subst (λ (o : Option Host). IfSome o AreApps) (sym is.apps_is) hold
+all_apps taken text apps (Err e) hold is = is
+
+-- no other text is their answer
+pub all_only : (steps : List Step) (r : Result Answered Memory) → All IsValidStep steps →
+    IfOk r (λ a. (states : List (Option Host)) (other : List ℕ) → AreAnsweredThrough None steps states a.text → AreAnsweredThrough None steps states other → other ≡ a.text)
+all_only steps (Ok a) valid = λ states other through also. one_text steps states a.text other valid through also
+all_only steps (Err e) valid = tt
+
+-- ---- how many packets there are
+
+at_load : (before : Option Host) (job : Job) → (host_at before job).packets ≡ packet_count_of before
+at_load None job = refl
+at_load (Some h) job = refl
+
+load_packets : (h : Host) (number : ℕ) (job : Job) (answer : LoadAnswer) (new : Host) → IsValidJob job → IsLoadAnswer h number job answer new → new.packets ≤ h.packets + 65536
+load_packets h number job Done new valid is =
+    let more = is.loaded.packets in
+    let same : length is.plan.packets ≡ length job.run.packets = ap length is.is.packets in
+    let few = valid.run.few_packets in
+    omega (arith, more, same, few)
+load_packets h number job Loaded new valid is = let same = ap (λ (x : Host). x.packets) is.1 in omega (arith, same)
+load_packets h number job (NoRoom vertex) new valid is = let same = ap (λ (x : Host). x.packets) is.2 in omega (arith, same)
+load_packets h number job (CutOff net target) new valid is = let same = ap (λ (x : Host). x.packets) is.2 in omega (arith, same)
+load_packets h number job (MemoryOut vertex) new valid is = let same = ap (λ (x : Host). x.packets) is.same in omega (arith, same)
+load_packets h number job (KeysOut net) new valid is = let same = ap (λ (x : Host). x.packets) is.same in omega (arith, same)
+load_packets h number job (RowsOut chip) new valid is = let same = ap (λ (x : Host). x.packets) is.same in omega (arith, same)
+
+unload_packets : (h : Host) (number : ℕ) (answer : UnloadAnswer) (new : Host) → IsUnloadAnswer h number answer new → new.packets ≡ h.packets
+unload_packets h number (Got delivered dumped) new is = is.unloaded.packets
+unload_packets h number NotLoaded new is = ap (λ (x : Host). x.packets) is.1
+unload_packets h number (Waiting packet) new is = ap (λ (x : Host). x.packets) is.1
+
+-- a step adds at most 65,536 packets
+pub packets_more : (step : Step) (before : Option Host) (old new : List ℕ) (after : Option Host) → IsValidStep step → HasAddedLine step before old new after →
+    packet_count_of after ≤ packet_count_of before + 65536
+packets_more (Load number job) before old new after valid told =
+    let is = told.answers in
+    let left = ap packet_count_of is.left in
+    let more = load_packets (host_at before job) number job is.answer is.new valid is.is in
+    let first = at_load before job in
+    omega (arith, left, more, first)
+packets_more (Unload number) None old new after valid told = let left = ap packet_count_of told.answers.1 in omega (arith, left)
+packets_more (Unload number) (Some h) old new after valid told =
+    let is = told.answers in
+    let left = ap packet_count_of is.left in
+    let same = unload_packets h number is.answer is.new is.is in
+    omega (arith, left, same)
+packets_more Run None old new after valid told = let left = ap packet_count_of told.answers.1 in omega (arith, left)
+packets_more Run (Some h) old new after valid told =
+    let is = told.answers.1 in
+    let left = ap packet_count_of is.1 in
+    let same = ap (λ (x : Host). x.packets) is.2.moved.others in
+    omega (arith, left, same)
+
+-- ---- one step told
+
+-- where a load's line was put at the end
+pub told_load : {E : Type 0} (put : Result Unit E) (before : Option Host) (number : ℕ) (job : Job) (old new : List ℕ) (h : Host) (answer : LoadAnswer) (after : Host) → h ≡ host_at before job →
+    IsLoadAnswer h number job answer after → AreApps after → OnOk put (new ≡ old ++ load_line number job.graph answer) → OnOk put (HasAddedLine (Load number job) before old new (Some after))
+told_load (Ok u) before number job old new h answer after is answers apps longer = record {
+  told = load_line number job.graph answer;
+  longer = longer;
+  answers = record { new = after; left = refl; answer = answer; is = subst (λ (x : Host). IsLoadAnswer x number job answer after) is answers; told = refl };
+  apps = apps;
+}
+told_load (Err e) before number job old new h answer after is answers apps longer = longer

@@ -1,0 +1,123 @@
+-- The cores that are free, as a machine.
+use Rattle.std.proofs.Common.{◌≡◌, ℕ, ◌+◌, ◌-◌, ◌*◌, ◌/◌, ◌%◌, ◌<◌, ◌≤◌, refl, sym, ap, ◌∙◌, subst, arith, inl, inr, List, [], ◌∷◌, ◌++◌, map, take, Bool, true, false, not, cond, Option, Some, None}
+use Rattle.std.specs.Prelude.{MatchOption}
+use Rattle.std.specs.List.{All, Contains, filter, list_any, range_with_len, slice_get}
+use Rattle.std.proofs.lemmas.Bool.{and_parts, cases_Bool, leb-true, not-true}
+use Rattle.std.proofs.lemmas.List.FromFn.{filter_of_map_range_with_len_more, get_or-map-range_with_len, length-map-range_with_len}
+use Rattle.std.proofs.lemmas.List.Elements.{All-weaker}
+use Rattle.std.proofs.lemmas.Option.{slice_get-get_or}
+use Rattle.spin_base.proofs.Members.{Contains-at, Contains-filter, Contains-from_filter, among_any, contains_among}
+use Rattle.spin_base.proofs.Places.{All-at, All-each, slice_get_there}
+use Rattle.spin_base.proofs.Ranges.{slice_get-map_range}
+use Rattle.spin_base.specs.declared.chips.Spot.{Spot}
+use Rattle.spin_base.specs.Equality.{spot_eq}
+use Rattle.spin_base.proofs.Equality.{spot_eq_same}
+use Rattle.machine_desc.specs.declared.trees.Edge.{Edge}
+use Rattle.machine_desc.specs.Description.{Description}
+use Rattle.machine_desc.specs.Live.{index_of, chip_of, IsInside, IsSite, IsUsable}
+use Rattle.machine_desc.proofs.Far.{index_below}
+use Rattle.machine_desc.proofs.Live.{chip_of-inside}
+use Rattle.machine_desc.proofs.Same.{same_spot}
+use Rattle.machine_desc.proofs.Sites.{usable_site}
+use Rattle.app_graph.specs.declared.graphs.Vertex.{Vertex}
+use Rattle.mesh_core.proofs.Moves.{chip_of-index_of}
+use Rattle.place_fit.specs.Placement.{HasDeviceRoom, IsCoreFor, IsPlacement, device_spot}
+use Rattle.app_loads.specs.Host.{Host, is_free_spot, is_spot_taken}
+use Rattle.app_loads.specs.Opening.{spot_of, grid_spots}
+use Rattle.spin_apps.specs.Free.{free_machine}
+
+-- those of one spot more that pass a test
+pub one_spot_more : (p : Spot → Bool) (m : Description) (n : ℕ) (spot : Spot) (before after : List Spot) → spot ≡ spot_of m n →
+    before ≡ filter p (map (spot_of m) (range_with_len 0 n)) → after ≡ before ++ filter p (spot ∷ []) →
+    after ≡ filter p (map (spot_of m) (range_with_len 0 (n + 1)))
+one_spot_more p m n spot before after is so_far new =
+    new
+    ∙ (ap (λ l. l ++ filter p (spot ∷ [])) so_far
+    ∙ (ap (λ s. filter p (map (spot_of m) (range_with_len 0 n)) ++ filter p (s ∷ [])) is
+    ∙ (ap (λ l. filter p (map (spot_of m) (range_with_len 0 n)) ++ l) (one (p (spot_of m n)) refl)
+    ∙ sym (filter_of_map_range_with_len_more p (spot_of m) 0 n n (omega arith)))))
+  where
+    one : (b : Bool) → p (spot_of m n) ≡ b → filter p (spot_of m n ∷ []) ≡ cond (p (spot_of m n)) (spot_of m n ∷ []) []
+    one true is' = grind arith
+    one false is' = grind arith
+
+-- the number of a core gives the core
+spot_is : (m : Description) (s : Spot) → IsInside m s.chip → 1 ≤ s.core → s.core ≤ 17 → spot_of m (17 * index_of m s.chip + (s.core - 1)) ≡ s
+spot_is m s inside low high =
+    let i : ℕ = index_of m s.chip in
+    let k : ℕ = 17 * i + (s.core - 1) in
+    let quotient : k / 17 ≡ i = omega (arith, low, high) in
+    let remainder : k % 17 + 1 ≡ s.core = omega (arith, low, high) in
+    same_spot (spot_of m k) s (ap (chip_of m) quotient ∙ chip_of-index_of m s.chip inside) remainder
+
+-- each core of 1 to 17 inside the grid is one of the grid
+on_grid : (m : Description) (s : Spot) → IsInside m s.chip → 1 ≤ s.core → s.core ≤ 17 → Contains (grid_spots m) s
+on_grid m s inside low high =
+    let i : ℕ = index_of m s.chip in
+    let k : ℕ = 17 * i + (s.core - 1) in
+    let n : ℕ = m.width * m.height in
+    let below : i < n = index_below m s.chip inside in
+    let less : k < 17 * n = omega (arith, low, high, below) in
+    let from_zero : 0 + k ≡ k = omega arith in
+    Contains-at (grid_spots m) k s (slice_get-map_range (spot_of m) 0 (17 * n) k less ∙ (ap (λ j. Some (spot_of m j)) from_zero ∙ ap Some (spot_is m s inside low high)))
+
+-- the cores of the grid that pass a test are inside it
+pub grid_inside : (p : Spot → Bool) (m : Description) → All (λ (s : Spot). IsInside m s.chip) (filter p (grid_spots m))
+grid_inside p m = All-each (λ (s : Spot). IsInside m s.chip) (filter p (grid_spots m)) (λ s has.
+    let on = (Contains-from_filter p (grid_spots m) s has).0 in
+    let n : ℕ = m.width * m.height in
+    let k : ℕ = on.0 in
+    let within = on.1 in
+    let long = length-map-range_with_len (spot_of m) 0 (17 * n) in
+    let below : k < 17 * n = omega (arith, within, long) in
+    let is : spot_of m k ≡ s = sym (get_or-map-range_with_len (spot_of m) 0 (17 * n) k k s below (omega arith)) ∙ on.2 in
+    let chip : k / 17 < n = omega (arith, below) in
+    subst (λ (t : Spot). IsInside m t.chip) is (chip_of-inside m (k / 17) chip))
+
+-- What is usable where each core that is not free is dead, is free.
+pub usable_free : (h : Host) (s : Spot) → IsUsable (free_machine h) s → is_free_spot h s ≡ true
+usable_free h s usable =
+    let m : Description = h.mesh.setup.machine in
+    let parts = and_parts _ _ usable in
+    let inside : IsInside m s.chip = (and_parts _ _ parts.0).0 in
+    let rest = and_parts _ _ parts.1 in
+    let core = and_parts _ _ rest.0 in
+    let clear : list_any (spot_eq s) (free_machine h).dead_cores ≡ false = not-true _ rest.1 in
+    elim (cases_Bool (is_free_spot h s)) [
+      | inl free ↦ free
+      | inr taken ↦
+          let has : Contains (free_machine h).dead_cores s =
+          Contains-filter (λ (t : Spot). not (is_free_spot h t)) (grid_spots m) s (on_grid m s inside (leb-true _ _ core.0) (leb-true _ _ core.1)) (ap not taken) in
+          let listed : list_any (spot_eq s) (free_machine h).dead_cores ≡ true = among_any (spot_eq s) s (free_machine h).dead_cores (contains_among s (free_machine h).dead_cores has) (spot_eq_same s) in
+          let never : true ≡ false = sym listed ∙ clear in
+          cc
+    ]
+
+-- a free core is usable, and no loaded application's
+pub free_parts : (h : Host) (s : Spot) → is_free_spot h s ≡ true → IsUsable h.mesh.setup.machine s × (is_spot_taken h.apps s ≡ false)
+free_parts h s free = let parts = and_parts _ _ free in (parts.0, not-true _ parts.1)
+
+-- vertices that are no devices are placed on free cores
+pub placed_free : (h : Host) (vertices : List Vertex) (spots : List Spot) (memory : List ℕ) → IsPlacement (free_machine h) vertices spots memory →
+    All (λ (v : Vertex). v.device ≡ None) vertices → All (λ s. is_free_spot h s ≡ true) spots
+placed_free h vertices spots memory placed none =
+    All-each (λ s. is_free_spot h s ≡ true) spots (λ s has.
+    let at : slice_get spots has.0 ≡ Some s = slice_get-get_or spots has.0 s has.1 ∙ ap Some has.2 in
+    let of = slice_get_there vertices has.0 (subst (λ n. has.0 < n) placed.all has.1) in
+    let core : IsCoreFor (free_machine h) placed.order (take has.0 vertices) (take has.0 spots) of.0 s =
+    subst (λ (o : Option Edge). MatchOption o (IsCoreFor (free_machine h) placed.order (take has.0 vertices) (take has.0 spots) of.0 s) (λ device. HasDeviceRoom (free_machine h) device × (s ≡ device_spot device)))
+    (All-at (λ (v : Vertex). v.device ≡ None) vertices has.0 of.0 none of.1) (placed.first.each has.0 of.0 s of.1 at)
+    in
+    usable_free h s (and_parts _ _ core.free).0)
+
+-- so they are usable on the host's machine, and no loaded application's
+pub free_usable : (h : Host) (spots : List Spot) → All (λ s. is_free_spot h s ≡ true) spots → All (IsUsable h.mesh.setup.machine) spots
+free_usable h spots free = All-weaker (λ s. is_free_spot h s ≡ true) (IsUsable h.mesh.setup.machine) (λ s f. (free_parts h s f).0) spots free
+
+pub free_sites : (h : Host) (m : Description) (spots : List Spot) → h.mesh.setup.machine ≡ m → All (λ s. is_free_spot h s ≡ true) spots → All (IsSite m) spots
+free_sites h m spots is free =
+    subst (λ (x : Description). All (IsSite x) spots) is
+    (All-weaker (λ s. is_free_spot h s ≡ true) (IsSite h.mesh.setup.machine) (λ s f. usable_site h.mesh.setup.machine s (free_parts h s f).0) spots free)
+
+pub free_untaken : (h : Host) (spots : List Spot) → All (λ s. is_free_spot h s ≡ true) spots → All (λ s. is_spot_taken h.apps s ≡ false) spots
+free_untaken h spots free = All-weaker (λ s. is_free_spot h s ≡ true) (λ s. is_spot_taken h.apps s ≡ false) (λ s f. (free_parts h s f).1) spots free

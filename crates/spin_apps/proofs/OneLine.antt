@@ -1,0 +1,247 @@
+-- Each step has one line on the state before it.
+use Rattle.std.proofs.Common.{◌≡◌, ℕ, ◌≤◌, ◌==◌, refl, sym, ap, ◌∙◌, subst, arith, inl, inr, List, [], ◌∷◌, ◌++◌, length, get_or, true, false, Option, Some, None, IfSome}
+use Rattle.std.specs.List.{All, AllZip, Contains, filter, slice_get}
+use Rattle.std.proofs.lemmas.Bool.{cases_Bool, cases_order, eq-eqb, true≢false}
+use Rattle.std.proofs.lemmas.List.{get_or_default}
+use Rattle.std.proofs.lemmas.List.Elements.{All-head, All-tail}
+use Rattle.std.proofs.lemmas.Option.{slice_get-get_or}
+use Rattle.std.proofs.lemmas.Slice.Zip.{AllZip-long}
+use Rattle.spin_base.proofs.Members.{among_any, contains_among}
+use Rattle.spin_base.proofs.Places.{AllZip-at_first, AllZip-at_second, one_item_at}
+use Rattle.spin_base.specs.declared.blocks.Block.{Block}
+use Rattle.spin_base.specs.declared.chips.Chip.{Chip}
+use Rattle.spin_base.specs.declared.chips.Spot.{Spot}
+use Rattle.machine_desc.specs.Description.{Description}
+use Rattle.machine_desc.specs.Live.{IsSite}
+use Rattle.app_graph.specs.declared.graphs.Net.{Net}
+use Rattle.machine_desc.specs.declared.nets.NetPlan.{NetPlan}
+use Rattle.net_plans.proofs.CutOffLaws.{one_first_net}
+use Rattle.net_plans.proofs.Determined as plans
+use Rattle.net_plans.specs.CutOffTargets.{IsFirstNetCutOff}
+use Rattle.place_fit.proofs.Determined as places
+use Rattle.place_fit.specs.Placement.{HasNoRoom}
+use Rattle.job_readers.specs.declared.jobs.Job.{Job}
+use Rattle.job_requests.specs.declared.steps.Step.{Step}
+use Rattle.job_requests.specs.declared.steps.Step.TheVariants.{Load, Unload, Run}
+use Rattle.job_requests.specs.Valid.{IsValidJob, IsValidStep}
+use Rattle.app_loads.specs.declared.answers.LoadErr.{LoadErr}
+use Rattle.app_loads.specs.declared.answers.LoadErr.TheVariants as refusals
+use Rattle.app_loads.specs.declared.loaded.LoadedApp.{LoadedApp}
+use Rattle.app_loads.specs.declared.plans.AppNet.{AppNet}
+use Rattle.app_loads.specs.declared.plans.AppPlan.{AppPlan}
+use Rattle.app_loads.specs.Applications.{AreApps}
+use Rattle.app_loads.specs.Claims.{IsRefusalDue, claims_of}
+use Rattle.app_loads.specs.Host.{Host, all_ranges, is_loaded, net_with}
+use Rattle.app_loads.specs.Leaving.{is_delivery_of, is_record_of}
+use Rattle.app_loads.specs.Loading.{HasLoaded}
+use Rattle.app_loads.specs.Unloading.{WaitsFor}
+use Rattle.spin_apps.specs.declared.hosts.LoadAnswer.{LoadAnswer}
+use Rattle.spin_apps.specs.declared.hosts.LoadAnswer.TheVariants.{Done, Loaded, NoRoom, CutOff, MemoryOut, KeysOut, RowsOut}
+use Rattle.spin_apps.specs.declared.hosts.UnloadAnswer.{UnloadAnswer}
+use Rattle.spin_apps.specs.declared.hosts.UnloadAnswer.TheVariants.{Got, NotLoaded, Waiting}
+use Rattle.spin_apps.specs.Answers.{Answers, AreAnsweredThrough, IsLoadAnswer, IsUnloadAnswer, host_at}
+use Rattle.spin_apps.specs.Free.{free_machine}
+use Rattle.spin_apps.specs.Lines.{load_line, unload_line}
+use Rattle.spin_apps.specs.Plans.{HasCutOffOnHost, IsNetFor, IsPlanFor}
+use Rattle.spin_apps.proofs.FreeSpots.{free_sites, placed_free}
+use Rattle.spin_apps.proofs.Joined.{planned_joined}
+use Rattle.spin_apps.proofs.OneRefusal.{one_refusal, served_not_refused}
+
+same_net : (a b : AppNet) → a.source ≡ b.source → a.targets ≡ b.targets → a.tree ≡ b.tree → a.keys ≡ b.keys → a.fixed ≡ b.fixed → a ≡ b
+same_net a b source targets tree keys fixed = λ i. record { source = source i; targets = targets i; tree = tree i; keys = keys i; fixed = fixed i }
+
+same_plan : (p q : AppPlan) → p.spots ≡ q.spots → p.sdram ≡ q.sdram → p.nets ≡ q.nets → p.packets ≡ q.packets → p ≡ q
+same_plan p q spots sdram nets packets = λ i. record { spots = spots i; sdram = sdram i; nets = nets i; packets = packets i }
+
+any_block : Block
+any_block = record { key = 0; mask = 0; within = refl; small = omega arith }
+
+module _ (h : Host) (job : Job) (valid : IsValidJob job) where
+  abbrev grid : Description
+  grid = h.mesh.setup.machine
+
+  its_sites : (p : AppPlan) → IsPlanFor h job p → All (IsSite grid) p.spots
+  its_sites p is = free_sites h grid p.spots refl (placed_free h job.graph.vertices p.spots is.memory is.placed valid.cores)
+
+  one_net : (spots : List Spot) → All (IsSite grid) spots → (net : Net) (a b : AppNet) → IsNetFor grid spots net a → IsNetFor grid spots net b → a ≡ b
+  one_net spots sites net a b x y =
+      let same : net_with a any_block ≡ net_with b any_block =
+      (plans.one_plan grid spots sites net any_block x.grown y.grown (net_with a any_block) (net_with b any_block) (x.planned any_block) (y.planned any_block)).1
+      in
+      same_net a b (ap (λ (p : NetPlan). p.source) same) (ap (λ (p : NetPlan). p.targets) same) (ap (λ (p : NetPlan). p.tree) same) (x.keys ∙ sym y.keys) (x.fixed ∙ sym y.fixed)
+
+  one_list : (spots : List Spot) → All (IsSite grid) spots → (nets : List Net) (xs ys : List AppNet) → AllZip (IsNetFor grid spots) nets xs → AllZip (IsNetFor grid spots) nets ys → xs ≡ ys
+  one_list spots sites nets xs ys x y =
+      plans.same_places xs ys (AllZip-long (IsNetFor grid spots) nets xs x ∙ sym (AllZip-long (IsNetFor grid spots) nets ys y)) (λ i a b a_at b_at.
+      let of = AllZip-at_second (IsNetFor grid spots) nets xs x i a a_at in
+      let also = AllZip-at_second (IsNetFor grid spots) nets ys y i b b_at in
+      let net : also.0 ≡ of.0 = one_item_at nets i i also.0 of.0 refl also.1 of.1 in
+      one_net spots sites of.0 a b of.2 (subst (λ n. IsNetFor grid spots n b) net also.2))
+
+  -- a job has one plan
+  one_plan : (p q : AppPlan) → IsPlanFor h job p → IsPlanFor h job q → p ≡ q
+  one_plan p q a b =
+      let spots : q.spots ≡ p.spots = (places.one_placement (free_machine h) job.graph.vertices q.spots p.spots b.memory a.memory b.placed a.placed).0 in
+      same_plan p q (sym spots) (a.sdram ∙ sym b.sdram)
+      (one_list p.spots (its_sites p a) job.graph.nets p.nets q.nets a.nets (subst (λ l. AllZip (IsNetFor grid l) job.graph.nets q.nets) spots b.nets))
+      (a.packets ∙ sym b.packets)
+
+  -- and none where a vertex has no room, or a target is cut off
+  room_not_cut : (v i : ℕ) (target : Chip) → HasNoRoom (free_machine h) job.graph.vertices v → HasCutOffOnHost h job i target → ⊥
+  room_not_cut v i target none cut = places.not_both (free_machine h) job.graph.vertices cut.spots cut.memory v cut.placed none
+
+  room_not_planned : (v : ℕ) (p : AppPlan) → HasNoRoom (free_machine h) job.graph.vertices v → IsPlanFor h job p → ⊥
+  room_not_planned v p none is = places.not_both (free_machine h) job.graph.vertices p.spots is.memory v is.placed none
+
+  cut_at : (i : ℕ) (target : Chip) (cut : HasCutOffOnHost h job i target) (spots : List Spot) → cut.spots ≡ spots → IsFirstNetCutOff grid spots job.graph.nets i target
+  cut_at i target cut spots same = subst (λ l. IsFirstNetCutOff grid l job.graph.nets i target) same cut.first
+
+  cut_not_planned : (i : ℕ) (target : Chip) (p : AppPlan) → HasCutOffOnHost h job i target → IsPlanFor h job p → ⊥
+  cut_not_planned i target p cut is =
+      let same = (places.one_placement (free_machine h) job.graph.vertices cut.spots p.spots cut.memory is.memory cut.placed is.placed).0 in
+      let first = cut_at i target cut p.spots same in
+      let app = AllZip-at_first (IsNetFor grid p.spots) job.graph.nets p.nets is.nets i first.net first.is in
+      planned_joined grid p.spots first.net any_block app.2.grown (net_with app.0 any_block) (app.2.planned any_block) first.target.source target first.target.is
+
+  one_cut : (i j : ℕ) (a b : Chip) → HasCutOffOnHost h job i a → HasCutOffOnHost h job j b → (i ≡ j) × (a ≡ b)
+  one_cut i j a b x y =
+      let same = (places.one_placement (free_machine h) job.graph.vertices x.spots y.spots x.memory y.memory x.placed y.placed).0 in
+      one_first_net grid y.spots job.graph.nets i j a b (cut_at i a x y.spots same) y.first
+
+  -- ---- loads
+
+  abbrev AreAsked : AppPlan → LoadErr → Type 0
+  AreAsked p e = IsRefusalDue grid (all_ranges h.apps) (claims_of grid p) e
+
+  served_not_due : (p q : AppPlan) (n : ℕ) (new : Host) (e : LoadErr) → IsPlanFor h job p → IsPlanFor h job q → HasLoaded h n p new → AreAsked q e → ⊥
+  served_not_due p q n new e a b loaded due =
+      served_not_refused grid (all_ranges h.apps) (claims_of grid p) e loaded.app.ranges loaded.served (subst (λ x. AreAsked x e) (one_plan q p b a) due)
+
+  one_due : (p q : AppPlan) (e f : LoadErr) → IsPlanFor h job p → IsPlanFor h job q → AreAsked p e → AreAsked q f → e ≡ f
+  one_due p q e f a b x y = one_refusal grid (all_ranges h.apps) (claims_of grid p) e f x (subst (λ r. AreAsked r f) (one_plan q p b a) y)
+
+  abbrev answer_to : LoadErr → LoadAnswer
+  answer_to refusals.Loaded = Loaded
+  answer_to (refusals.MemoryOut vertex) = MemoryOut vertex
+  answer_to (refusals.KeysOut net) = KeysOut net
+  answer_to (refusals.RowsOut chip) = RowsOut chip
+  answer_to refusals.Memory = Loaded
+
+  -- why a load of a number that is not loaded is answered so
+  data Why (a : LoadAnswer) : Type 0 where
+    without_room : (v : ℕ) → HasNoRoom (free_machine h) job.graph.vertices v → a ≡ NoRoom v → Why a
+    cut : (i : ℕ) (target : Chip) → HasCutOffOnHost h job i target → a ≡ CutOff i target → Why a
+    loads : (p : AppPlan) (n : ℕ) (new : Host) → IsPlanFor h job p → HasLoaded h n p new → a ≡ Done → Why a
+    refused : (p : AppPlan) (e : LoadErr) → IsPlanFor h job p → AreAsked p e → a ≡ answer_to e → Why a
+
+  one_why : (a b : LoadAnswer) → Why a → Why b → a ≡ b
+  one_why a b (without_room v none is) (without_room w other also) = is ∙ (ap NoRoom (places.one_vertex (free_machine h) job.graph.vertices v w none other) ∙ sym also)
+  one_why a b (without_room v none is) (cut i t off also) = absurd (room_not_cut v i t none off)
+  one_why a b (without_room v none is) (loads p n new planned loaded also) = absurd (room_not_planned v p none planned)
+  one_why a b (without_room v none is) (refused p e planned due also) = absurd (room_not_planned v p none planned)
+  one_why a b (cut i t off is) (without_room w other also) = absurd (room_not_cut w i t other off)
+  one_why a b (cut i t off is) (cut j u other also) = let same = one_cut i j t u off other in is ∙ ((λ k. CutOff (same.0 k) (same.1 k)) ∙ sym also)
+  one_why a b (cut i t off is) (loads p n new planned loaded also) = absurd (cut_not_planned i t p off planned)
+  one_why a b (cut i t off is) (refused p e planned due also) = absurd (cut_not_planned i t p off planned)
+  one_why a b (loads p n new planned loaded is) (without_room w other also) = absurd (room_not_planned w p other planned)
+  one_why a b (loads p n new planned loaded is) (cut j u other also) = absurd (cut_not_planned j u p other planned)
+  one_why a b (loads p n new planned loaded is) (loads q k next other load also) = is ∙ sym also
+  one_why a b (loads p n new planned loaded is) (refused q f other due also) = absurd (served_not_due p q n new f planned other loaded due)
+  one_why a b (refused p e planned due is) (without_room w other also) = absurd (room_not_planned w p other planned)
+  one_why a b (refused p e planned due is) (cut j u other also) = absurd (cut_not_planned j u p other planned)
+  one_why a b (refused p e planned due is) (loads q n new other loaded also) = absurd (served_not_due q p n new e other planned loaded due)
+  one_why a b (refused p e planned due is) (refused q f other asked also) = is ∙ (ap answer_to (one_due p q e f planned other due asked) ∙ sym also)
+
+  module _ (n : ℕ) where
+    -- where the number is loaded, that is answered
+    only_loaded : is_loaded h.apps n ≡ true → (a : LoadAnswer) (new : Host) → IsLoadAnswer h n job a new → a ≡ Loaded
+    only_loaded here Done new is = absurd (true≢false (sym here ∙ is.loaded.was_not))
+    only_loaded here Loaded new is = refl
+    only_loaded here (NoRoom v) new is = absurd (true≢false (sym here ∙ is.0))
+    only_loaded here (CutOff i t) new is = absurd (true≢false (sym here ∙ is.0))
+    only_loaded here (MemoryOut v) new is = absurd (true≢false (sym here ∙ is.due.0))
+    only_loaded here (KeysOut i) new is = absurd (true≢false (sym here ∙ is.due.0))
+    only_loaded here (RowsOut c) new is = absurd (true≢false (sym here ∙ is.due.0))
+
+    why : is_loaded h.apps n ≡ false → (a : LoadAnswer) (new : Host) → IsLoadAnswer h n job a new → Why a
+    why gone Done new is = loads is.plan n new is.is is.loaded refl
+    why gone Loaded new is = absurd (true≢false (sym is.0 ∙ gone))
+    why gone (NoRoom v) new is = without_room v is.1 refl
+    why gone (CutOff i t) new is = cut i t is.1 refl
+    why gone (MemoryOut v) new is = refused is.plan (refusals.MemoryOut v) is.is is.due.1 refl
+    why gone (KeysOut i) new is = refused is.plan (refusals.KeysOut i) is.is is.due.1 refl
+    why gone (RowsOut c) new is = refused is.plan (refusals.RowsOut c) is.is is.due.1 refl
+
+    one_load : (a b : LoadAnswer) (new other : Host) → IsLoadAnswer h n job a new → IsLoadAnswer h n job b other → a ≡ b
+    one_load a b new other x y = elim (cases_Bool (is_loaded h.apps n)) [
+      | inl here ↦ only_loaded here a new x ∙ sym (only_loaded here b other y)
+      | inr gone ↦ one_why a b (why gone a new x) (why gone b other y)
+    ]
+
+-- ---- unloads
+
+module _ (h : Host) (apps : AreApps h) (n : ℕ) where
+  -- one application has a number
+  one_app : (a b : LoadedApp) → Contains h.apps a → Contains h.apps b → a.number ≡ n → b.number ≡ n → a ≡ b
+  one_app a b x y is also = elim (cases_order x.0 y.0) [
+    | inl same ↦ one_item_at h.apps x.0 y.0 a b same (at a x) (at b y)
+    | inr (inl less) ↦ absurd (apps.numbers x.0 y.0 a less y.1 (numbered a x a is ∙ sym (numbered b y a also)))
+    | inr (inr more) ↦ absurd (apps.numbers y.0 x.0 a more x.1 (numbered b y a also ∙ sym (numbered a x a is)))
+  ]
+    where
+      at : (c : LoadedApp) (has : Contains h.apps c) → slice_get h.apps has.0 ≡ Some c
+      at c has = slice_get-get_or h.apps has.0 c has.1 ∙ ap Some has.2
+
+      numbered : (c : LoadedApp) (has : Contains h.apps c) (d : LoadedApp) → c.number ≡ n → (get_or h.apps has.0 d).number ≡ n
+      numbered c has d number = ap (λ (e : LoadedApp). e.number) (get_or_default h.apps has.0 d c has.1 ∙ has.2) ∙ number
+
+  there : (a : LoadedApp) → Contains h.apps a → a.number ≡ n → is_loaded h.apps n ≡ true
+  there a has is = among_any (λ (app : LoadedApp). app.number == n) a h.apps (contains_among a h.apps has) (eq-eqb a.number n is)
+
+  one_unload : (a b : UnloadAnswer) (new other : Host) → IsUnloadAnswer h n a new → IsUnloadAnswer h n b other → a ≡ b
+  one_unload (Got d r) (Got e s) new other x y =
+      let app = one_app x.unloaded.app y.unloaded.app x.unloaded.is y.unloaded.is x.unloaded.number_is y.unloaded.number_is in
+      let delivered : d ≡ e =
+      x.deliveries ∙ (ap length (x.unloaded.delivered ∙ (ap (λ (p : LoadedApp). filter (is_delivery_of p) h.mesh.delivered) app ∙ sym y.unloaded.delivered)) ∙ sym y.deliveries)
+      in
+      let dumped : r ≡ s = x.records ∙ (ap length (x.unloaded.dumped ∙ (ap (λ (p : LoadedApp). filter (is_record_of p) h.mesh.dumped) app ∙ sym y.unloaded.dumped)) ∙ sym y.records) in
+      λ i. Got (delivered i) (dumped i)
+  one_unload (Got d r) NotLoaded new other x y = absurd (true≢false (sym (there x.unloaded.app x.unloaded.is x.unloaded.number_is) ∙ y.0))
+  one_unload (Got d r) (Waiting p) new other x y = absurd (x.none_waits y.0.app y.0.is y.0.number_is p y.0.waits)
+  one_unload NotLoaded (Got e s) new other x y = absurd (true≢false (sym (there y.unloaded.app y.unloaded.is y.unloaded.number_is) ∙ x.0))
+  one_unload NotLoaded NotLoaded new other x y = refl
+  one_unload NotLoaded (Waiting p) new other x y = absurd (true≢false (sym (there y.0.app y.0.is y.0.number_is) ∙ x.0))
+  one_unload (Waiting p) (Got e s) new other x y = absurd (y.none_waits x.0.app x.0.is x.0.number_is p x.0.waits)
+  one_unload (Waiting p) NotLoaded new other x y = absurd (true≢false (sym (there x.0.app x.0.is x.0.number_is) ∙ y.0))
+  one_unload (Waiting p) (Waiting q) new other x y =
+      let app = one_app x.0.app y.0.app x.0.is y.0.is x.0.number_is y.0.number_is in
+      let up : p ≤ q = x.0.least q (subst (λ a. WaitsFor h a q) (sym app) y.0.waits) in
+      let down : q ≤ p = y.0.least p (subst (λ a. WaitsFor h a p) app x.0.waits) in
+      let same : p ≡ q = omega (arith, up, down) in
+      ap Waiting same
+
+-- ---- steps
+
+one_line : (step : Step) (before : Option Host) (told other : List ℕ) (after next : Option Host) → IsValidStep step → IfSome before AreApps → Answers step before told after →
+    Answers step before other next → told ≡ other
+one_line (Load number job) before told other after next valid apps x y =
+    x.told ∙ (ap (load_line number job.graph) (one_load (host_at before job) job valid number x.answer y.answer x.new y.new x.is y.is) ∙ sym y.told)
+one_line (Unload number) None told other after next valid apps x y = x.0 ∙ sym y.0
+one_line (Unload number) (Some h) told other after next valid apps x y = x.told ∙ (ap (unload_line number) (one_unload h apps number x.answer y.answer x.new y.new x.is y.is) ∙ sym y.told)
+one_line Run None told other after next valid apps x y = x.0 ∙ sym y.0
+one_line Run (Some h) told other after next valid apps x y = x.0 ∙ sym y.0
+
+one_text_from : (before : Option Host) (steps : List Step) (states : List (Option Host)) (text other : List ℕ) → All IsValidStep steps → IfSome before AreApps →
+    AreAnsweredThrough before steps states text → AreAnsweredThrough before steps states other → other ≡ text
+one_text_from before [] [] text other valid apps x y = y ∙ sym x
+one_text_from before [] (state ∷ states) text other valid apps x y = absurd x
+one_text_from before (step ∷ steps) [] text other valid apps x y = absurd x
+one_text_from before (step ∷ steps) (state ∷ states) text other valid apps x y =
+    let line : y.0 ≡ x.0 = one_line step before y.0 x.0 state state (All-head IsValidStep step steps valid) apps y.2 x.2 in
+    let rest : y.1 ≡ x.1 = one_text_from state steps states x.1 y.1 (All-tail IsValidStep step steps valid) x.3 x.5 y.5 in
+    y.4 ∙ (ap (λ l. l ++ y.1) line ∙ (ap (λ l. x.0 ++ l) rest ∙ sym x.4))
+
+-- steps have one text, where they lead through the same states
+pub one_text : (steps : List Step) (states : List (Option Host)) (text other : List ℕ) → All IsValidStep steps → AreAnsweredThrough None steps states text →
+    AreAnsweredThrough None steps states other → other ≡ text
+one_text steps states text other valid = one_text_from None steps states text other valid tt

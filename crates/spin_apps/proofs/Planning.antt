@@ -1,0 +1,188 @@
+-- The plan of a job on free cores.
+use Rattle.std.proofs.Common.{◌≡◌, ℕ, zero, suc, ◌+◌, ◌^◌, ◌<◌, refl, sym, ap, ◌∙◌, subst, arith, inl, inr, List, [], ◌∷◌, ◌++◌, length, map, take, false, Some}
+use Rattle.std.specs.List.{All, AllZip, Contains, slice_get}
+use Rattle.std.proofs.lemmas.Bool.{cases_lt}
+use Rattle.std.proofs.lemmas.List.{length-map}
+use Rattle.std.proofs.lemmas.List.Elements.{All-push, All-weaker}
+use Rattle.std.proofs.lemmas.Slice.Zip.{AllZip-long, all_zipped_more}
+use Rattle.spin_base.proofs.Members.{Contains-at}
+use Rattle.spin_base.proofs.Places.{All-each, AllZip-at_first, one_item_at, slice_get_there, take_more_at}
+use Rattle.spin_base.specs.declared.blocks.Block.{Block}
+use Rattle.spin_base.specs.declared.chips.Spot.{Spot}
+use Rattle.spin_base.specs.declared.copies.Packet.{Packet}
+use Rattle.machine_desc.specs.Description.{Description}
+use Rattle.machine_desc.specs.Live.{IsUsable}
+use Rattle.machine_desc.specs.RoutingTree.{IsRoutingTree}
+use Rattle.app_graph.specs.declared.graphs.Net.{Net}
+use Rattle.app_graph.specs.declared.graphs.Vertex.{Vertex}
+use Rattle.app_graph.proofs.Keys.{keys_of-at}
+use Rattle.app_graph.specs.RunPart.{IsPacketOf as IsRunPacket, key_count_of}
+use Rattle.app_graph.specs.ValidGraph.{IsValidNet}
+use Rattle.machine_desc.specs.declared.nets.NetPlan.{NetPlan}
+use Rattle.ner_trees.specs.declared.growths.Grown.{Grown}
+use Rattle.net_plans.specs.CutOffTargets.{HasNoneCutOff, IsFirstNetCutOff}
+use Rattle.net_plans.specs.NetPlans.{IsPlannedNet}
+use Rattle.app_loads.specs.declared.plans.AppNet.{AppNet}
+use Rattle.app_loads.specs.declared.plans.AppPlan.{AppPlan}
+use Rattle.app_loads.specs.Host.{Host, is_spot_taken}
+use Rattle.app_loads.specs.Plans.{IsAppNet, IsPacketOfApp, IsPlan, MayLoad}
+use Rattle.job_requests.specs.Valid.{IsValidJob}
+use Rattle.job_readers.specs.declared.jobs.Job.{Job}
+use Rattle.spin_apps.specs.declared.hosts.LoadAnswer.{LoadAnswer}
+use Rattle.spin_apps.specs.declared.hosts.LoadAnswer.TheVariants.{Done, Loaded, NoRoom, CutOff, MemoryOut, KeysOut, RowsOut}
+use Rattle.spin_apps.specs.Answers.{IsLoadAnswer}
+use Rattle.spin_apps.specs.Hosting.{IsTaken}
+use Rattle.spin_apps.specs.Free.{free_machine}
+use Rattle.spin_apps.specs.Making.{IsPlaced, unplaced, unrouted, unrouted_net}
+use Rattle.spin_apps.specs.Plans.{IsNetFor, IsPlanFor, IsWhyUnplanned}
+use Rattle.spin_apps.proofs.FreeSpots.{free_usable, placed_free}
+use Rattle.link_detours.specs.declared.repairs.RepairErr.{RepairErr}
+use Rattle.link_detours.specs.declared.repairs.RepairErr.TheVariants as repairs
+use Rattle.net_plans.specs.Cause.{IsNetCause, IsCauseOne}
+use Rattle.net_plans.specs.declared.nets.NetErr.{NetErr}
+use Rattle.net_plans.specs.declared.nets.NetErr.TheVariants as nets
+use Rattle.place_fit.specs.Cause.{IsPlacementCause as IsPlaceCause}
+use Rattle.place_fit.specs.Placement.{HasNoRoom}
+use Rattle.place_fit.specs.declared.placing.PlaceErr.{PlaceErr}
+use Rattle.place_fit.specs.declared.placing.PlaceErr.TheVariants as places
+
+-- a net with the source, the targets and the tree of a plan
+abbrev pub net_of : Net → NetPlan → AppNet
+net_of net p = record { source = p.source; targets = p.targets; tree = p.tree; keys = net.keys; fixed = net.fixed }
+
+pub net_for : (m : Description) (spots : List Spot) (net : Net) (block : Block) (g : Grown) (p : NetPlan) → IsPlannedNet m spots net block g p → IsNetFor m spots net (net_of net p)
+net_for m spots net block g p planned = record {
+  grown = g;
+  planned = λ other. record {
+    block = refl;
+    source = planned.source;
+    targets = planned.targets;
+    chips = planned.chips;
+    grows_from = planned.grows_from;
+    grown = planned.grown;
+    few_edges = planned.few_edges;
+    root = planned.root;
+    repaired = planned.repaired;
+  };
+  keys = refl;
+  fixed = refl;
+}
+
+pub net_valid : (m : Description) (spots : List Spot) (net : Net) (block : Block) (g : Grown) (p : NetPlan) → IsValidNet (length spots) net → IsPlannedNet m spots net block g p →
+    IsRoutingTree m p.tree.root p.tree.edges p.targets → IsAppNet m spots (net_of net p)
+net_valid m spots net block g p valid planned routing = record {
+  source = Contains-at spots net.source p.source planned.source;
+  targets = All-each (Contains spots) p.targets (λ s has. let of = planned.targets.only s has in Contains-at spots of.0 s of.2);
+  in_order = planned.targets.ascending;
+  root = planned.root;
+  tree = routing;
+  some_key = valid.some_key;
+  few_keys = valid.few_keys;
+  fixed = valid.fixed;
+}
+
+-- ---- nets one by one
+
+pub nets_more : (m : Description) (spots : List Spot) (nets : List Net) (i : ℕ) (net : Net) (old new : List AppNet) (app : AppNet) → slice_get nets i ≡ Some net →
+    AllZip (IsNetFor m spots) (take i nets) old → IsNetFor m spots net app → new ≡ old ++ app ∷ [] → AllZip (IsNetFor m spots) (take (i + 1) nets) new
+nets_more m spots nets i net old new app at so_far is pushed =
+    rw (pushed, take_more_at nets i net at) (all_zipped_more (IsNetFor m spots) (take i nets) old net app so_far is)
+
+pub valid_more : (m : Description) (spots : List Spot) (old new : List AppNet) (app : AppNet) → All (IsAppNet m spots) old → IsAppNet m spots app → new ≡ old ++ app ∷ [] → All (IsAppNet m spots) new
+valid_more m spots old new app so_far is pushed = rw pushed (All-push (IsAppNet m spots) old app so_far is)
+
+-- no net before a place has a target that is cut off
+abbrev pub AreReachedBelow : Description → List Spot → List Net → ℕ → Type 0
+AreReachedBelow m spots nets i = (j : ℕ) (earlier : Net) → j < i → slice_get nets j ≡ Some earlier → HasNoneCutOff m spots earlier
+
+pub reached_more : (m : Description) (spots : List Spot) (nets : List Net) (i : ℕ) (net : Net) → AreReachedBelow m spots nets i → slice_get nets i ≡ Some net → HasNoneCutOff m spots net →
+    AreReachedBelow m spots nets (i + 1)
+reached_more m spots nets i net before at reached j other less there = elim (cases_lt j i) [
+  | inl earlier ↦ before j other earlier there
+  | inr later ↦
+      let here : i ≡ j = omega (arith, less, later) in
+      let same : net ≡ other = one_item_at nets i j net other here at there in
+      subst (HasNoneCutOff m spots) same reached
+]
+
+-- ---- the whole plan
+
+pub packets_are : (m : Description) (spots : List Spot) (nets : List Net) (apps : List AppNet) (packets : List Packet) → AllZip (IsNetFor m spots) nets apps →
+    All (IsRunPacket nets) packets → All (IsPacketOfApp apps) packets
+packets_are m spots nets apps packets are all = All-weaker (IsRunPacket nets) (IsPacketOfApp apps) one packets all
+  where
+    one : (p : Packet) → IsRunPacket nets p → IsPacketOfApp apps p
+    one p is =
+        let net = slice_get_there nets p.net is.0 in
+        let app = AllZip-at_first (IsNetFor m spots) nets apps are p.net net.0 net.1 in
+        let keys : app.0.keys ≡ key_count_of nets p.net = app.2.keys ∙ keys_of-at nets p.net net.0 net.1 in
+        let below = is.1 in
+        (app.0, app.1, omega (arith, keys, below))
+
+-- nets of a graph with so many vertices are nets on so many spots
+pub nets_on : (n : ℕ) (spots : List Spot) (nets : List Net) → length spots ≡ n → All (IsValidNet n) nets → All (IsValidNet (length spots)) nets
+nets_on n spots nets same valid = subst (λ k. All (IsValidNet k) nets) (sym same) valid
+
+module _ (h : Host) (m : Description) (job : Job) (spots : List Spot) (sdram : List ℕ) (apps : List AppNet) (packets : List Packet) (machine : h.mesh.setup.machine ≡ m) (placed : IsPlaced h job spots)
+    (bytes : sdram ≡ map (λ (v : Vertex). v.sdram) job.graph.vertices) (are : AllZip (IsNetFor m spots) job.graph.nets apps) (copied : packets ≡ job.run.packets) where
+  abbrev made : AppPlan
+  made = record { spots = spots; sdram = sdram; nets = apps; packets = packets }
+
+  pub plan_for : IsPlanFor h job made
+  plan_for = record {
+    memory = placed.memory;
+    placed = placed.is;
+    sdram = bytes;
+    nets = subst (λ (x : Description). AllZip (IsNetFor x spots) job.graph.nets apps) (sym machine) are;
+    packets = copied;
+  }
+
+  pub plan_valid : IsValidJob job → All (IsAppNet m spots) apps → IsPlan m made
+  plan_valid valid nets = record {
+    different = placed.different;
+    usable = subst (λ (x : Description). All (IsUsable x) spots) machine (free_usable h spots (placed_free h job.graph.vertices spots placed.memory placed.is valid.cores));
+    sdram = ap length bytes ∙ (length-map job.graph.vertices (λ (v : Vertex). v.sdram) ∙ sym placed.is.all);
+    few_nets = (let few = valid.graph.few_nets in let as_many = AllZip-long (IsNetFor m spots) job.graph.nets apps are in omega (arith, few, as_many));
+    nets = nets;
+    packets = subst (All (IsPacketOfApp apps)) (sym copied) (packets_are m spots job.graph.nets apps job.run.packets are valid.run.packets);
+  }
+
+-- ---- refusals
+
+pub why_unplaced : (h : Host) (free : Description) (job : Job) (e : PlaceErr) → free ≡ free_machine h → IsPlaceCause free job.graph.vertices e → IsWhyUnplanned h job (unplaced e)
+why_unplaced h free job (places.NoRoom vertex) is none = subst (λ (x : Description). HasNoRoom x job.graph.vertices vertex) is none
+why_unplaced h free job places.Memory is none = tt
+
+pub why_unrouted : (h : Host) (m : Description) (job : Job) (spots : List Spot) (e : NetErr) → h.mesh.setup.machine ≡ m → IsPlaced h job spots → IsNetCause m spots job.graph.nets e →
+    IsWhyUnplanned h job (unrouted e)
+why_unrouted h m job spots (nets.CutOff net target) machine placed first = record {
+  spots = spots;
+  memory = placed.memory;
+  placed = placed.is;
+  first = subst (λ (x : Description). IsFirstNetCutOff x spots job.graph.nets net target) (sym machine) first;
+}
+why_unrouted h m job spots nets.Memory machine placed first = tt
+
+pub why_net : (m : Description) (spots : List Spot) (all : List Net) (i : ℕ) (net : Net) (e : RepairErr) → slice_get all i ≡ Some net → AreReachedBelow m spots all i →
+    IsCauseOne m spots net e → IsNetCause m spots all (unrouted_net i e)
+why_net m spots all i net (repairs.CutOff target) at before first = record { net = net; is = at; target = first; before = before }
+why_net m spots all i net repairs.Memory at before first = tt
+
+pub may_load : (h : Host) (m : Description) (job : Job) (plan : AppPlan) → h.mesh.setup.machine ≡ m → IsPlanFor h job plan → IsPlan m plan →
+    All (λ s. is_spot_taken h.apps s ≡ false) plan.spots → h.packets + length job.run.packets < 2 ^ 32 → MayLoad h plan
+may_load h m job plan is planned valid free numbers = record {
+  valid = subst (λ (x : Description). IsPlan x plan) (sym is) valid;
+  free = free;
+  numbers = (let same = ap length planned.packets in omega (arith, same, numbers));
+}
+
+-- what a plan of the job is answered is what the job is answered
+pub taken_answer : (h : Host) (number : ℕ) (job : Job) (plan : AppPlan) (answer : LoadAnswer) (new : Host) → IsPlanFor h job plan → IsTaken h number plan answer new →
+    IsLoadAnswer h number job answer new
+taken_answer h number job plan Done new planned taken = record { plan = plan; is = planned; loaded = taken }
+taken_answer h number job plan Loaded new planned taken = taken
+taken_answer h number job plan (NoRoom vertex) new planned taken = absurd taken
+taken_answer h number job plan (CutOff net target) new planned taken = absurd taken
+taken_answer h number job plan (MemoryOut vertex) new planned taken = record { plan = plan; is = planned; due = taken.0; same = taken.1 }
+taken_answer h number job plan (KeysOut net) new planned taken = record { plan = plan; is = planned; due = taken.0; same = taken.1 }
+taken_answer h number job plan (RowsOut chip) new planned taken = record { plan = plan; is = planned; due = taken.0; same = taken.1 }

@@ -1,0 +1,43 @@
+-- A host after what was done on it.
+use Rattle.std.proofs.Common.{◌≡◌, ℕ, List, ◌++◌, Option, Some, refl, sym, subst, ap, ◌∙◌, Result, Ok, Err, IfOk, OnOk, OnErr}
+use Rattle.mesh_core.specs.State.{Setup, State}
+use Rattle.mesh_core.proofs.Fixed.{setup_after}
+use Rattle.app_loads.specs.Applications.{AreApps}
+use Rattle.app_loads.specs.Host.{Host}
+use Rattle.app_loads.specs.Running.{HasMovedMesh}
+use Rattle.app_loads.specs.Loading.{HasLoaded}
+use Rattle.app_loads.specs.Unloading.{HasUnloaded}
+use Rattle.app_loads.specs.declared.answers.Ended.{Ended}
+use Rattle.app_loads.specs.declared.plans.AppPlan.{AppPlan}
+use Rattle.job_requests.specs.declared.steps.Step.TheVariants.{Run}
+use Rattle.spin_apps.specs.Answers.{HasDrained}
+use Rattle.spin_apps.specs.Hosting.{HasAddedLine}
+use Rattle.spin_apps.specs.Lines.{run_line}
+
+pub moved_machine : (old new : Host) → HasMovedMesh old new → new.mesh.setup.machine ≡ old.mesh.setup.machine
+moved_machine old new moved =
+    ap (λ (s : State). s.setup.machine) moved.mesh.is ∙ ap (λ (u : Setup). u.machine) (setup_after old.mesh moved.mesh.events)
+
+loaded_machine : (old new : Host) (number : ℕ) (plan : AppPlan) → HasLoaded old number plan new → new.mesh.setup.machine ≡ old.mesh.setup.machine
+loaded_machine old new number plan loaded = ap (λ (s : State). s.setup.machine) loaded.mesh
+
+unloaded_machine : (old new : Host) (number : ℕ) (ended : Ended) → HasUnloaded old number ended new → new.mesh.setup.machine ≡ old.mesh.setup.machine
+unloaded_machine old new number ended unloaded = ap (λ (s : State). s.setup.machine) unloaded.mesh
+
+-- whatever a load or an unload answers, the machine is the same
+pub machine_after_load : {X E : Type 0} (r : Result X E) (old new : Host) (number : ℕ) (plan : AppPlan) → OnOk r (HasLoaded old number plan new) → OnErr r (new ≡ old) →
+    new.mesh.setup.machine ≡ old.mesh.setup.machine
+machine_after_load (Ok u) old new number plan loaded refused = loaded_machine old new number plan loaded
+machine_after_load (Err e) old new number plan loaded refused = ap (λ (h : Host). h.mesh.setup.machine) refused
+
+pub machine_after_unload : {E : Type 0} (r : Result Ended E) (old new : Host) (number : ℕ) → IfOk r (λ ended. HasUnloaded old number ended new) → OnErr r (new ≡ old) →
+    new.mesh.setup.machine ≡ old.mesh.setup.machine
+machine_after_unload (Ok ended) old new number unloaded refused = unloaded_machine old new number ended unloaded
+machine_after_unload (Err e) old new number unloaded refused = ap (λ (h : Host). h.mesh.setup.machine) refused
+
+-- a run that was told
+pub told_run : {X E : Type 0} (r : Result X E) (before : Option Host) (old new : Host) (text longer : List ℕ) → before ≡ Some old → HasDrained old new → AreApps new →
+    OnOk r (longer ≡ text ++ run_line) → OnOk r (HasAddedLine Run before text longer (Some new))
+told_run (Ok u) before old new text longer is drained apps told =
+    subst (λ (h : Option Host). HasAddedLine Run h text longer (Some new)) (sym is) (record { told = run_line; longer = told; answers = (refl, (new, refl, drained)); apps = apps })
+told_run (Err e) before old new text longer is drained apps told = tt

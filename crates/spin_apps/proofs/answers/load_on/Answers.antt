@@ -1,0 +1,14 @@
+use Rattle.std.proofs.Common.{string_bytes, arith}
+use Rattle.spin_apps.proofs.Chain.{told_load}
+use Rattle.spin_apps.proofs.answers.load_on.Goals as goal
+
+pub load-requires-clause-numbers : goal.load-requires-clause-numbers
+load-requires-clause-numbers c =
+    let few = c.requires.valid.run.few_packets in
+    let numbers = c.requires.numbers in
+    omega (arith, few, numbers)
+
+pub returns : goal.returns
+returns c = λ before is.
+    told_load c.put_load.result before c.args.number c.args.job.now (string_bytes c.args.text.now) (string_bytes c.put_load.new.text) c.args.host.now c.in_ok-answer.answer c.load.new.self is
+    c.in_ok-answer.ensures.answer c.load.ensures.apps c.put_load.ensures

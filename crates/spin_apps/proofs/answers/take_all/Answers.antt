@@ -1,0 +1,39 @@
+use Rattle.std.proofs.Common.{◌≡◌, refl, ap, arith, Some, string_bytes, rules}
+use Rattle.std.specs.List.{slice_get}
+use Rattle.std.proofs.lemmas.Option.{slice_get_read}
+use Rattle.spin_base.proofs.Places.{All-at}
+use Rattle.job_requests.specs.Valid.{IsValidStep}
+use Rattle.spin_apps.specs.Hosting.{packet_count_of}
+use Rattle.spin_apps.proofs.Chain.{goes_all, goes_first, goes_more, packets_more}
+use Rattle.spin_apps.proofs.answers.take_all.Goals as goal
+
+pub loop-step-init : goal.loop-step-init
+loop-step-init c = record {
+  goes = goes_first c.args.steps.now c.args.hosted.now (string_bytes c.args.text.now) c.requires.none c.requires.no_text;
+  few = (let none = ap packet_count_of c.requires.none in omega (arith, none));
+}
+
+pub take-requires-clause-numbers : goal.take-requires-clause-numbers
+take-requires-clause-numbers c =
+    let few = c.loop-step.invariant.few in
+    let below = c.loop-step-test.true in
+    let most = c.requires.few in
+    omega (arith, few, below, most)
+
+pub loop-step-preserved : goal.loop-step-preserved
+loop-step-preserved c =
+    let steps = c.args.steps.now in
+    let i = c.loop-step.step-index in
+    let step = c.step-item.result in
+    let at : slice_get steps i ≡ Some step = slice_get_read steps _ i step refl c.loop-step-test.true c.step-item.is in
+    let valid = All-at IsValidStep steps i step c.requires.valid at in
+    let told = c.in_ok-take.ensures in
+    let more = packets_more step c.loop-step.hosted (string_bytes c.loop-step.text) (string_bytes c.take.new.text) c.take.new.hosted valid told in
+    let few = c.loop-step.invariant.few in
+    record {
+      goes = goes_more steps i step c.loop-step.hosted c.take.new.hosted (string_bytes c.loop-step.text) (string_bytes c.take.new.text) at told c.loop-step.invariant.goes;
+      few = omega (arith, more, few);
+    }
+
+pub returns : goal.returns
+returns c = goes_all c.args.steps.now c.loop-step.step-index c.loop-step.hosted (string_bytes c.loop-step.text) (search rules) c.loop-step.invariant.goes

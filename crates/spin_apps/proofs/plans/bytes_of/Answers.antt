@@ -1,0 +1,14 @@
+use Rattle.std.proofs.Common.{◌++◌, ◌∷◌, [], ◌∙◌, sym, ap, map, rules}
+use Rattle.std.proofs.lemmas.List.{take_all}
+use Rattle.spin_base.proofs.Places.{map_more_at}
+use Rattle.app_graph.specs.declared.graphs.Vertex.{Vertex}
+use Rattle.spin_apps.proofs.plans.bytes_of.Goals as goal
+
+pub loop-i-preserved : goal.loop-i-preserved
+loop-i-preserved c =
+    c.in_ok-push.ensures.ok
+    ∙ (ap (λ l. l ++ c.get-vertex.result.now.sdram ∷ []) c.loop-i.invariant
+    ∙ sym (map_more_at (λ (v : Vertex). v.sdram) c.args.vertices.now c.loop-i.i c.get-vertex.result.now c.get-vertex.ensures))
+
+pub returns : goal.returns
+returns c = c.loop-i.invariant ∙ ap (map (λ (v : Vertex). v.sdram)) (take_all c.loop-i.i c.args.vertices.now (search rules))

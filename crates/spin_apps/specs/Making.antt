@@ -1,0 +1,34 @@
+-- Where vertices are placed, and what refusals are made of, as the private functions say it.
+use Rattle.std.specs.Prelude.{◌≢◌, ℕ, List, AllPairs}
+use Rattle.spin_base.specs.declared.chips.Spot.{Spot}
+use Rattle.job_readers.specs.declared.jobs.Job.{Job}
+use Rattle.link_detours.specs.declared.repairs.RepairErr.{RepairErr}
+use Rattle.link_detours.specs.declared.repairs.RepairErr.TheVariants as repairs
+use Rattle.net_plans.specs.declared.nets.NetErr.{NetErr}
+use Rattle.net_plans.specs.declared.nets.NetErr.TheVariants as nets
+use Rattle.place_fit.specs.Placement.{IsPlacement}
+use Rattle.place_fit.specs.declared.placing.PlaceErr.{PlaceErr}
+use Rattle.place_fit.specs.declared.placing.PlaceErr.TheVariants as places
+use Rattle.app_loads.specs.Host.{Host}
+use Rattle.spin_apps.specs.Free.{free_machine}
+use Rattle.spin_apps.specs.declared.plans.PlanErr.{PlanErr}
+use Rattle.spin_apps.specs.declared.plans.PlanErr.TheVariants.{NoRoom, CutOff, Memory}
+
+-- The vertices of a job have these cores: all of them free, and no two the same.
+pub record IsPlaced (h : Host) (job : Job) (spots : List Spot) : Type 0 where
+  pub memory : List ℕ
+  pub is : IsPlacement (free_machine h) job.graph.vertices spots memory
+  pub different : AllPairs (λ a b. a ≢ b) spots
+
+-- the same refusal, in the words of each caller
+abbrev pub unplaced : PlaceErr → PlanErr
+unplaced (places.NoRoom vertex) = NoRoom vertex
+unplaced places.Memory = Memory
+
+abbrev pub unrouted : NetErr → PlanErr
+unrouted (nets.CutOff net target) = CutOff net target
+unrouted nets.Memory = Memory
+
+abbrev pub unrouted_net : ℕ → RepairErr → NetErr
+unrouted_net net (repairs.CutOff target) = nets.CutOff net target
+unrouted_net net repairs.Memory = nets.Memory

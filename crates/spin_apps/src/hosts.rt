@@ -1,0 +1,154 @@
+// A machine with its applications, and what it answers.
+ghost use Rattle.std.specs.Prelude.{◌≡◌, ◌+◌, ◌^◌, ◌<◌, ◌≤◌, IfOk, OnOk, length};
+ghost use Rattle.job_requests.specs.Valid.{IsValidJob};
+ghost use Rattle.app_loads.specs.Applications.{AreApps};
+ghost use Rattle.app_loads.specs.Opening.{bare_host};
+ghost use Rattle.app_loads.specs.Plans.{MayLoad};
+ghost use Rattle.spin_apps.specs.Answers.{HasDrained, IsLoadAnswer, IsUnloadAnswer};
+ghost use Rattle.spin_apps.specs.Hosting.{IsTaken};
+
+use crate::plans::{PlanErr, plan_of};
+use app_loads::{AppPlan, Apps, LoadErr, UnloadErr};
+use job_readers::Job;
+use link_detours::Roads;
+use machine_desc::Machine;
+use spin_base::{Chip, Memory};
+use std::alloc::Global;
+use std::marker::Model;
+
+/// What a load is answered.
+#[derive(Clone, Copy)]
+pub enum LoadAnswer {
+    /// The application is loaded.
+    Done,
+    /// One of that number is loaded already.
+    Loaded,
+    /// No chip on which this vertex may stand has room for it, the first such.
+    NoRoom { vertex: u32 },
+    /// No walk of live links joins the source's chip and this target chip of the net, the first such net and target.
+    CutOff { net: u32, target: Chip },
+    /// No hole in the memory of the vertex's chip has its bytes.
+    MemoryOut { vertex: u32 },
+    /// The net's fixed block is not wholly free, or no block of its size is.
+    KeysOut { net: u32 },
+    /// No hole among the chip's entries has room for the application's rows there.
+    RowsOut { chip: Chip },
+}
+
+/// What an unload is answered.
+#[derive(Clone, Copy)]
+pub enum UnloadAnswer {
+    /// The application is unloaded, and so many deliveries and dump records were handed back.
+    Got { delivered: usize, dumped: usize },
+    /// No application of that number is loaded.
+    NotLoaded,
+    /// This is the application's least packet of which a copy is unsent or waits.
+    Waiting { packet: u32 },
+}
+
+// A machine, its live links, and the applications on it.
+#[derive(Drop)]
+pub(crate) struct Hosted {
+    machine: Machine,
+    roads: Roads,
+    apps: Apps,
+}
+
+impl Model for Hosted {
+    ghost use Rattle.app_loads.specs.Host.{Host};
+
+    ghost Value = { Host };
+
+    ghost use Rattle.spin_apps.specs.Hosting.{hosted_of, IsHosted};
+
+    ghost view = { hosted_of };
+
+    ghost invariant = { IsHosted };
+}
+
+impl Hosted {
+    // The machine without an application.
+    pub(crate) fn bare(alloc: Global, machine: &Machine, queue: u32) -> Result<Hosted, Memory>
+        requires { 1 ≤ queue }
+        ensures { IfOk result (λ hosted. hosted ≡ bare_host machine.now queue) }
+    {
+        let roads = Roads::of(alloc, machine)?;
+        let machine = machine.copy(alloc)?;
+        let apps = Apps::new(alloc, &machine, queue)?;
+        Ok(Hosted {
+            machine,
+            roads,
+            apps,
+        })
+    }
+
+    // The applications alone.
+    pub(crate) fn into_apps(self) -> Apps
+        ensures { result ≡ self }
+    {
+        self.apps
+    }
+
+    // Loads a job under a number.
+    pub(crate) fn load(
+        &mut self,
+        alloc: Global,
+        number: u32,
+        job: &Job,
+    ) -> Result<LoadAnswer, Memory>
+        requires valid { IsValidJob job.now }
+        requires numbers { self.old.packets + length job.now.run.packets < 2 ^ 32 }
+        ensures answer { IfOk result (λ a. IsLoadAnswer self.old number job.now a self.new) }
+        ensures apps { AreApps self.new }
+    {
+        if self.apps.loaded(number) {
+            return Ok(LoadAnswer::Loaded);
+        }
+        match plan_of(alloc, &self.machine, &self.roads, &self.apps, job) {
+            Ok(plan) => self.take(alloc, number, &plan),
+            Err(PlanErr::NoRoom { vertex }) => Ok(LoadAnswer::NoRoom { vertex }),
+            Err(PlanErr::CutOff { net, target }) => Ok(LoadAnswer::CutOff { net, target }),
+            Err(PlanErr::Memory) => Err(Memory),
+        }
+    }
+
+    // Loads a plan under a number.
+    fn take(&mut self, alloc: Global, number: u32, plan: &AppPlan) -> Result<LoadAnswer, Memory>
+        requires { MayLoad self.old plan.now }
+        ensures taken { IfOk result (λ a. IsTaken self.old number plan.now a self.new) }
+        ensures apps { AreApps self.new }
+    {
+        match self.apps.load(alloc, number, plan) {
+            Ok(()) => Ok(LoadAnswer::Done),
+            Err(LoadErr::Loaded) => Ok(LoadAnswer::Loaded),
+            Err(LoadErr::MemoryOut { vertex }) => Ok(LoadAnswer::MemoryOut { vertex }),
+            Err(LoadErr::KeysOut { net }) => Ok(LoadAnswer::KeysOut { net }),
+            Err(LoadErr::RowsOut { chip }) => Ok(LoadAnswer::RowsOut { chip }),
+            Err(LoadErr::Memory) => Err(Memory),
+        }
+    }
+
+    // Unloads the application of a number.
+    pub(crate) fn unload(&mut self, alloc: Global, number: u32) -> Result<UnloadAnswer, Memory>
+        ensures answer { IfOk result (λ a. IsUnloadAnswer self.old number a self.new) }
+        ensures apps { AreApps self.new }
+    {
+        match self.apps.unload(alloc, number) {
+            Ok(ended) => Ok(UnloadAnswer::Got {
+                delivered: ended.delivered.len(),
+                dumped: ended.dumped.len(),
+            }),
+            Err(UnloadErr::NotLoaded) => Ok(UnloadAnswer::NotLoaded),
+            Err(UnloadErr::Waiting { packet }) => Ok(UnloadAnswer::Waiting { packet }),
+            Err(UnloadErr::Memory) => Err(Memory),
+        }
+    }
+
+    // Brings all packets to their targets.
+    pub(crate) fn run(&mut self, alloc: Global) -> Result<(), Memory>
+        ensures drained { OnOk result (HasDrained self.old self.new) }
+        ensures apps { AreApps self.new }
+    {
+        self.apps.drain(alloc)
+    }
+}

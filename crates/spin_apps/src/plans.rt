@@ -1,0 +1,203 @@
+// The plan by which a job is loaded.
+ghost use Rattle.std.specs.Prelude.{◌≡◌, ◌≤◌, All, IfOk, IfErr, false, length, map};
+ghost use Rattle.std.specs.List.{AllZip};
+ghost use Rattle.machine_desc.specs.Live.{IsSite, IsUsable};
+ghost use Rattle.app_graph.specs.declared.graphs.Vertex.{Vertex as VertexOf};
+ghost use Rattle.app_graph.specs.ValidGraph.{IsValidNet};
+ghost use Rattle.link_detours.specs.LiveRoads.{AreRoadsOf};
+ghost use Rattle.net_plans.specs.Cause.{IsNetCause, IsCauseOne};
+ghost use Rattle.net_plans.specs.CutOffTargets.{HasNoneCutOff};
+ghost use Rattle.job_requests.specs.Valid.{IsValidJob};
+ghost use Rattle.app_loads.specs.Plans.{IsAppNet, IsPlan};
+ghost use Rattle.app_loads.specs.Host.{is_spot_taken};
+ghost use Rattle.spin_apps.specs.Making.{IsPlaced, unplaced, unrouted, unrouted_net};
+ghost use Rattle.spin_apps.specs.Plans.{IsNetFor, IsPlanFor, IsWhyUnplanned};
+
+use crate::free::free_machine;
+use app_graph::{Net, Vertex};
+use app_loads::{AppNet, AppPlan, Apps};
+use job_readers::Job;
+use link_detours::{RepairErr, Roads};
+use machine_desc::{Machine, NetPlan};
+use net_plans::{NetErr, net_plan};
+use place_fit::{PlaceErr, place};
+use spin_base::{Block, Chip, Memory, Packet, Seq, Spot};
+use std::alloc::Global;
+
+// A net is routed before it has keys.
+const NO_KEYS: Block = Block { key: 0, mask: 0 };
+
+// Why a job has no plan.
+#[derive(Clone, Copy)]
+pub(crate) enum PlanErr {
+    // No chip on which this vertex may stand has room for it, the first such.
+    NoRoom { vertex: u32 },
+    // No walk of live links joins the source's chip and this target chip of the net, the first such net and target.
+    CutOff { net: u32, target: Chip },
+    Memory,
+}
+
+impl From<Memory> for PlanErr {
+    ghost use Rattle.std.specs.Prelude.{◌≡◌};
+    ghost use Rattle.spin_apps.specs.declared.plans.PlanErr.TheVariants.{Memory as NoMemory};
+
+    ghost from_gives = { λ _ e. e ≡ NoMemory };
+
+    fn from(_: Memory) -> Self {
+        PlanErr::Memory
+    }
+}
+
+// The plan of a job on the cores that are free. `roads` are the machine's live links.
+pub(crate) fn plan_of(
+    alloc: Global,
+    machine: &Machine,
+    roads: &Roads,
+    apps: &Apps,
+    job: &Job,
+) -> Result<AppPlan, PlanErr>
+    requires machine { apps.now.mesh.setup.machine ≡ machine.now }
+    requires roads { AreRoadsOf machine.now roads.now }
+    requires valid { IsValidJob job.now }
+    ensures plan { IfOk result (IsPlanFor apps.now job.now) }
+    ensures valid { IfOk result (IsPlan machine.now) }
+    ensures free { IfOk result (λ plan. All (λ s. is_spot_taken apps.now.apps s
+        ≡ false) plan.spots) }
+    ensures why { IfErr result (IsWhyUnplanned apps.now job.now) }
+{
+    let sdram = bytes_of(alloc, &job.graph.vertices)?;
+    let packets = copied(alloc, &job.run.packets)?;
+    let spots = placed(alloc, machine, apps, job)?;
+    match app_nets(alloc, machine, roads, &spots, &job.graph.nets) {
+        Ok(nets) => Ok(AppPlan {
+            spots,
+            sdram,
+            nets,
+            packets,
+        }),
+        Err(e) => Err(unrouted(e)),
+    }
+}
+
+// The cores of a job's vertices, of those that are free.
+fn placed(alloc: Global, machine: &Machine, apps: &Apps, job: &Job) -> Result<Seq<Spot>, PlanErr>
+    requires machine { apps.now.mesh.setup.machine ≡ machine.now }
+    requires valid { IsValidJob job.now }
+    ensures placed { IfOk result (IsPlaced apps.now job.now) }
+    ensures why { IfErr result (IsWhyUnplanned apps.now job.now) }
+{
+    let free = free_machine(alloc, machine, apps)?;
+    match place(alloc, &free, &job.graph) {
+        Ok(placement) => Ok(placement.spots),
+        Err(e) => Err(unplaced(e)),
+    }
+}
+
+// Why there is no plan where vertices are not placed.
+fn unplaced(e: PlaceErr) -> PlanErr
+    ensures { result ≡ unplaced e }
+{
+    match e {
+        PlaceErr::NoRoom { vertex } => PlanErr::NoRoom { vertex },
+        PlaceErr::Memory => PlanErr::Memory,
+    }
+}
+
+// Why there is no plan where nets are not routed.
+fn unrouted(e: NetErr) -> PlanErr
+    ensures { result ≡ unrouted e }
+{
+    match e {
+        NetErr::CutOff { net, target } => PlanErr::CutOff { net, target },
+        NetErr::Memory => PlanErr::Memory,
+    }
+}
+
+// The same packets once more.
+fn copied(alloc: Global, packets: &Seq<Packet>) -> Result<Seq<Packet>, Memory>
+    ensures { IfOk result (λ copy. copy ≡ packets.now) }
+{
+    Ok(Seq::from_vec(Vec::from_slice(alloc, packets.as_slice())?))
+}
+
+// The bytes of shared memory that each vertex needs.
+fn bytes_of(alloc: Global, vertices: &Seq<Vertex>) -> Result<Seq<u32>, Memory>
+    ensures { IfOk result (λ bytes. bytes ≡ map (λ (v : VertexOf). v.sdram) vertices.now) }
+{
+    let mut bytes = Seq::new(alloc);
+    for i in 0..vertices.len() {
+        let vertex = vertices.get(i);
+        bytes.push(vertex.sdram)?;
+    }
+    Ok(bytes)
+}
+
+// The nets of an application whose vertices have these cores, or the first net with a target that is cut off.
+fn app_nets(
+    alloc: Global,
+    machine: &Machine,
+    roads: &Roads,
+    spots: &Seq<Spot>,
+    nets: &Seq<Net>,
+) -> Result<Seq<AppNet>, NetErr>
+    requires roads { AreRoadsOf machine.now roads.now }
+    requires few { length nets.now ≤ 4096 }
+    requires valid { All (IsValidNet (length spots.now)) nets.now }
+    requires sites { All (IsSite machine.now) spots.now }
+    ensures nets { IfOk result (λ apps. AllZip (IsNetFor machine.now spots.now) nets.now apps) }
+    ensures valid { IfOk result (All (IsAppNet machine.now spots.now)) }
+    ensures why { IfErr result (IsNetCause machine.now spots.now nets.now) }
+{
+    let mut routed = Seq::new(alloc);
+    for i in 0..nets.len() {
+        let net = nets.get(i);
+        let app = match app_net(alloc, machine, roads, spots, net) {
+            Ok(app) => app,
+            Err(e) => return Err(unrouted_net(i as u32, e)),
+        };
+        routed.push(app)?;
+    }
+    Ok(routed)
+}
+
+// Why nets are not routed where this net is not.
+fn unrouted_net(net: u32, e: RepairErr) -> NetErr
+    ensures { result ≡ unrouted_net net e }
+{
+    match e {
+        RepairErr::CutOff { target } => NetErr::CutOff { net, target },
+        RepairErr::Memory => NetErr::Memory,
+    }
+}
+
+// A net with its source, its targets and its tree.
+fn app_net(
+    alloc: Global,
+    machine: &Machine,
+    roads: &Roads,
+    spots: &Seq<Spot>,
+    net: &Net,
+) -> Result<AppNet, RepairErr>
+    requires roads { AreRoadsOf machine.now roads.now }
+    requires valid { IsValidNet (length spots.now) net.now }
+    requires sites { All (IsSite machine.now) spots.now }
+    ensures net { IfOk result (IsNetFor machine.now spots.now net.now) }
+    ensures valid { IfOk result (IsAppNet machine.now spots.now) }
+    ensures reached { IfOk result (λ _. HasNoneCutOff machine.now spots.now net.now) }
+    ensures why { IfErr result (IsCauseOne machine.now spots.now net.now) }
+{
+    let routed = net_plan(alloc, machine, roads, spots, net, NO_KEYS)?;
+    let NetPlan {
+        block: _,
+        source,
+        targets,
+        tree,
+    } = routed.plan;
+    Ok(AppNet {
+        source,
+        targets,
+        tree,
+        keys: net.keys,
+        fixed: net.fixed,
+    })
+}

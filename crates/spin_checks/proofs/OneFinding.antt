@@ -1,0 +1,88 @@
+-- Nets and bytes have one finding.
+use Rattle.std.proofs.Common.{◌≡◌, ℕ, List, [], ◌++◌, Option, Some, None, refl, sym, ap, subst, inl, inr, append-nil}
+use Rattle.std.specs.List.{All}
+use Rattle.std.proofs.lemmas.Bool.{cases_order}
+use Rattle.spin_base.proofs.Places.{All-at}
+use Rattle.machine_desc.specs.Description.{Description}
+use Rattle.machine_desc.specs.Live.{IsInside}
+use Rattle.machine_desc.specs.RoutingTree.{IsRoutingTree}
+use Rattle.machine_desc.specs.declared.nets.NetPlan.{NetPlan}
+use Rattle.net_tables.specs.Marks.{IsRouted}
+use Rattle.table_load.specs.declared.tables.Image.{Image}
+use Rattle.table_load.specs.Images.{Spells}
+use Rattle.table_load.specs.Reading.{fault_of}
+use Rattle.plan_check.specs.declared.verdicts.Verdict.{Verdict}
+use Rattle.plan_check.specs.Verdicts.{IsVerdict}
+use Rattle.spin_checks.specs.declared.findings.Finding.{Finding}
+use Rattle.spin_checks.specs.declared.findings.Finding.TheVariants.{BadTree, BadImage, OtherMachine, Judged}
+use Rattle.spin_checks.specs.Findings.{HasGoodTree, IsFinding, IsFirstBad, IsOfGrid}
+use Rattle.spin_checks.specs.Nets.{StandsOnSites}
+use Rattle.spin_checks.proofs.OneVerdict.{one_verdict}
+
+-- a net with a good tree, on sites, is routed
+pub routed_net : (m : Description) (net : NetPlan) → HasGoodTree m net → StandsOnSites m net → IsRouted m net
+routed_net m net good sites = record {
+  tree = subst (λ root. IsRoutingTree m root net.tree.edges net.targets) (sym good.begins) good.routes;
+  root = subst (IsInside m) (sym good.begins) sites.source;
+  cores = sites.cores;
+}
+
+pub routed_nets : (m : Description) (nets : List NetPlan) → All (HasGoodTree m) nets → All (StandsOnSites m) nets → All (IsRouted m) nets
+routed_nets m nets good sites k d below = routed_net m _ (good k d below) (sites k d below)
+
+-- ---- what is known of images
+
+-- bytes that spell an image have no fault, and spell one image
+pub record AreLaws : Type 0 where
+  pub spelled : (v : Image) (bytes : List ℕ) → Spells v bytes → fault_of bytes ≡ None
+  pub apart : (v w : Image) (bytes more : List ℕ) → Spells v bytes → Spells w (bytes ++ more) → (more ≡ []) × (v ≡ w)
+
+pub one_image : AreLaws → (v w : Image) (bytes : List ℕ) → Spells v bytes → Spells w bytes → v ≡ w
+one_image laws v w bytes one other = (laws.apart v w bytes [] one (subst (Spells w) (sym (append-nil bytes)) other)).1
+
+no_fault : AreLaws → (v : Image) (bytes : List ℕ) (at : ℕ) → Spells v bytes → fault_of bytes ≡ Some at → ⊥
+no_fault laws v bytes at is fault = not_both (fault_of bytes) (laws.spelled v bytes is) fault
+  where
+    not_both : (o : Option ℕ) → o ≡ None → o ≡ Some at → ⊥
+    not_both o none some = cc
+
+one_fault : (o : Option ℕ) (a b : ℕ) → o ≡ Some a → o ≡ Some b → a ≡ b
+one_fault o a b one other = cc
+
+-- ---- findings
+
+module _ (laws : AreLaws) (m : Description) (nets : List NetPlan) (bytes : List ℕ) (sites : All (StandsOnSites m) nets) where
+  one_bad : (i j : ℕ) → IsFirstBad m nets i → IsFirstBad m nets j → i ≡ j
+  one_bad i j x y = elim (cases_order i j) [
+    | inl same ↦ same
+    | inr (inl less) ↦ absurd (x.bad (y.before i x.net less x.there))
+    | inr (inr more) ↦ absurd (y.bad (x.before j y.net more y.there))
+  ]
+
+  not_good : (i : ℕ) → IsFirstBad m nets i → All (HasGoodTree m) nets → ⊥
+  not_good i x good = x.bad (All-at (HasGoodTree m) nets i x.net good x.there)
+
+  judged_once : (a b : Verdict) → IsFinding m nets bytes (Judged a) → IsFinding m nets bytes (Judged b) → a ≡ b
+  judged_once a b x y =
+      one_verdict m y.1 nets (routed_nets m nets x.0 sites) a b (subst (λ v. IsVerdict m nets v a) (one_image laws x.1 y.1 bytes x.2 y.2) x.4) y.4
+
+  not_other : (a : Verdict) → IsFinding m nets bytes OtherMachine → IsFinding m nets bytes (Judged a) → ⊥
+  not_other a x y = x.3 (subst (IsOfGrid m) (sym (one_image laws x.1 y.1 bytes x.2 y.2)) y.3)
+
+  pub one_finding : (f g : Finding) → IsFinding m nets bytes f → IsFinding m nets bytes g → f ≡ g
+  one_finding (BadTree i) (BadTree j) x y = ap BadTree (one_bad i j x y)
+  one_finding (BadTree i) (BadImage at) x y = absurd (not_good i x y.0)
+  one_finding (BadTree i) OtherMachine x y = absurd (not_good i x y.0)
+  one_finding (BadTree i) (Judged b) x y = absurd (not_good i x y.0)
+  one_finding (BadImage at) (BadTree j) x y = absurd (not_good j y x.0)
+  one_finding (BadImage at) (BadImage other) x y = ap BadImage (one_fault (fault_of bytes) at other x.1 y.1)
+  one_finding (BadImage at) OtherMachine x y = absurd (no_fault laws y.1 bytes at y.2 x.1)
+  one_finding (BadImage at) (Judged b) x y = absurd (no_fault laws y.1 bytes at y.2 x.1)
+  one_finding OtherMachine (BadTree j) x y = absurd (not_good j y x.0)
+  one_finding OtherMachine (BadImage at) x y = absurd (no_fault laws x.1 bytes at x.2 y.1)
+  one_finding OtherMachine OtherMachine x y = refl
+  one_finding OtherMachine (Judged b) x y = absurd (not_other b x y)
+  one_finding (Judged a) (BadTree j) x y = absurd (not_good j y x.0)
+  one_finding (Judged a) (BadImage at) x y = absurd (no_fault laws x.1 bytes at x.2 y.1)
+  one_finding (Judged a) OtherMachine x y = absurd (not_other a y x)
+  one_finding (Judged a) (Judged b) x y = ap Judged (judged_once a b x y)

@@ -1,0 +1,48 @@
+use Rattle.std.proofs.Common.{Ok, rules}
+use Rattle.spin_checks.proofs.Compiled.{right_or_memory}
+use Rattle.spin_checks.proofs.Meaning.{right_means, wrong_means}
+use Rattle.spin_checks.proofs.OneAnswer.{one_answer}
+use Rattle.spin_checks.proofs.Refusing.{refused_answer}
+use Rattle.spin_checks.proofs.answers.answer.Goals as goal
+
+pub returns-in_err-nets-clause-refused : goal.returns-in_err-nets-clause-refused
+returns-in_err-nets-clause-refused c = refused_answer c.args.machine.now c.args.graph.now c.args.trees.now c.args.image.now c.from_residual.result (search rules) (search rules)
+
+pub returns-in-Ok-line_of-clause-only : goal.returns-in-Ok-line_of-clause-only
+returns-in-Ok-line_of-clause-only c = λ other is.
+    one_answer (record { spelled = c.a_fault_is_where_no_image_is_spelled.ensures.spelled; apart = c.an_image_has_one_spelling.ensures.apart })
+    c.args.machine.now c.args.graph.now c.args.trees.now c.args.image.now c.in_ok-nets.nets c.in_ok-nets.ensures.sites c.in_ok-nets.ensures.nets c.in-Ok.finding c.in-Ok-line_of.text other
+    c.in-Ok.ensures.finding c.in-Ok-line_of.ensures is
+
+pub returns-in-Ok-line_of-clause-right : goal.returns-in-Ok-line_of-clause-right
+returns-in-Ok-line_of-clause-right c =
+    right_means c.args.machine.now c.args.graph.now c.args.trees.now c.args.image.now c.in_ok-nets.nets c.in_ok-nets.ensures.nets c.in-Ok.finding c.in-Ok-line_of.text c.in-Ok-line_of.ensures
+    c.in-Ok.ensures.right
+
+pub returns-in-Ok-line_of-clause-wrong : goal.returns-in-Ok-line_of-clause-wrong
+returns-in-Ok-line_of-clause-wrong c =
+    wrong_means c.args.machine.now c.args.graph.now c.args.trees.now c.args.image.now c.in_ok-nets.nets c.in_ok-nets.ensures.nets c.in-Ok.finding c.in-Ok-line_of.text c.in-Ok-line_of.ensures
+    c.in-Ok.ensures.wrong
+
+pub returns-in-Ok-line_of-clause-answer : goal.returns-in-Ok-line_of-clause-answer
+returns-in-Ok-line_of-clause-answer c = record {
+  nets = c.in_ok-nets.nets;
+  are = c.in_ok-nets.ensures.nets;
+  finding = c.in-Ok.finding;
+  found = c.in-Ok.ensures.finding;
+  told = c.in-Ok-line_of.ensures;
+}
+
+pub returns-in-Ok-line_of-clause-refused : goal.returns-in-Ok-line_of-clause-refused
+returns-in-Ok-line_of-clause-refused c =
+    refused_answer c.args.machine.now c.args.graph.now c.args.trees.now c.args.image.now _ (returns-in-Ok-line_of-clause-answer c) tt
+
+pub returns-in_err-nets-clause-made : goal.returns-in_err-nets-clause-made
+returns-in_err-nets-clause-made c = λ target plan v is kept same spelled.
+    right_or_memory c.args.machine.now c.args.graph.now target plan is v c.args.image.now kept spelled (c.made_images_are_right.ensures c.args.machine.now plan.nets target plan.tables v) c.args.trees.now
+    c.from_residual.result same (search rules) (search rules)
+
+pub returns-in-Ok-line_of-clause-made : goal.returns-in-Ok-line_of-clause-made
+returns-in-Ok-line_of-clause-made c = λ target plan v is kept same spelled.
+    right_or_memory c.args.machine.now c.args.graph.now target plan is v c.args.image.now kept spelled (c.made_images_are_right.ensures c.args.machine.now plan.nets target plan.tables v) c.args.trees.now
+    (Ok c.in-Ok-line_of.text) same (returns-in-Ok-line_of-clause-only c) tt

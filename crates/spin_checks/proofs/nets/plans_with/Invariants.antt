@@ -1,0 +1,7 @@
+-- The nets passed have their plans.
+use Rattle.std.proofs.Common.{◌≡◌, length}
+use Rattle.spin_checks.specs.Nets.{IsEachNetWith}
+use Rattle.spin_checks.proofs.nets.plans_with.Given as goal
+
+abbrev pub invariant-loop-i : goal.invariant-loop-i
+invariant-loop-i l = (length l.plans ≡ l.i) × IsEachNetWith l.spots l.graph.nets l.blocks l.trees l.plans

@@ -1,0 +1,90 @@
+// What is found of nets with their trees and of the bytes of an image.
+ghost use Rattle.std.specs.Prelude.{◌≡◌, ◌<◌, ◌^◌, ◌↔◌, ℕ, List, All, IfOk, IsTrue, MatchOption, Some, length, slice_get};
+ghost use Rattle.spin_base.specs.declared.blocks.Entry.{Entry};
+ghost use Rattle.spin_base.specs.declared.chips.Chip.{Chip as ChipOf};
+ghost use Rattle.machine_desc.specs.declared.nets.NetPlan.{NetPlan as Plan};
+ghost use Rattle.machine_desc.specs.RightTables.{AreRight};
+ghost use Rattle.table_load.specs.Images.{Spells};
+ghost use Rattle.table_load.specs.Memories.{IsLoaded};
+ghost use Rattle.table_load.specs.declared.tables.Image.{Image as ImageOf};
+ghost use Rattle.plan_check.specs.Verdicts.{IsMisrouted};
+ghost use Rattle.plan_check.specs.declared.verdicts.Verdict.TheVariants.{Right, Wrong};
+ghost use Rattle.spin_checks.specs.Findings.{HasGoodTree, IsFinding, IsFirstBad, IsOfGrid};
+ghost use Rattle.spin_checks.specs.Nets.{StandsOnSites};
+
+use machine_desc::{Machine, NetPlan};
+use plan_check::{Verdict, check, good};
+use spin_base::{Memory, Seq};
+use std::alloc::Global;
+use table_load::{Image, ImageErr, decode};
+
+/// What is found of nets, each with the tree that was handed in for it, and of bytes of tables.
+#[derive(Clone, Copy)]
+pub enum Finding {
+    /// This net is the first whose edges are no routing tree from the chip of its source to its targets.
+    BadTree { net: u32 },
+    /// The bytes are no image: at this place stands the first byte of the first field that is not there whole or is not
+    /// allowed.
+    BadImage { at: u64 },
+    /// The image is of a grid of another size, or of one that wraps otherwise.
+    OtherMachine,
+    /// The trees are good, the image is of the machine's grid, and this is said of its tables.
+    Judged(Verdict),
+}
+
+// What is found of nets and bytes.
+pub(crate) fn finding_on(
+    alloc: Global,
+    machine: &Machine,
+    nets: &Seq<NetPlan>,
+    bytes: &[u8],
+) -> Result<Finding, Memory>
+    requires few { length nets.now < 2 ^ 32 }
+    requires sites { All (StandsOnSites machine.now) nets.now }
+    ensures finding { IfOk result (IsFinding machine.now nets.now bytes.now) }
+    ensures right { IfOk result (λ f. f ≡ Finding.Judged Right
+        → (v : ImageOf) (memories : List (List Entry)) → Spells v bytes.now
+        → IsLoaded v memories → AreRight machine.now memories nets.now) }
+    ensures wrong { IfOk result (λ f. (i : ℕ) (c : ChipOf) (key : ℕ)
+        → f ≡ Finding.Judged (Wrong i c key)
+        → (net : Plan) × (slice_get nets.now i ≡ Some net)
+        × ((v : ImageOf) (memories : List (List Entry)) → Spells v bytes.now
+        → IsLoaded v memories → IsMisrouted machine.now memories net c key)) }
+{
+    if let Some(net) = first_bad(alloc, machine, nets)? {
+        return Ok(Finding::BadTree { net });
+    }
+    let image = match decode(alloc, bytes) {
+        Ok(image) => image,
+        Err(ImageErr::Fault { at }) => return Ok(Finding::BadImage { at }),
+        Err(ImageErr::Memory) => return Err(Memory),
+    };
+    if !is_of_grid(machine, &image) {
+        return Ok(Finding::OtherMachine);
+    }
+    Ok(Finding::Judged(check(machine, nets, &image)))
+}
+
+// The first net whose tree is not good.
+fn first_bad(alloc: Global, machine: &Machine, nets: &Seq<NetPlan>) -> Result<Option<u32>, Memory>
+    requires { length nets.now < 2 ^ 32 }
+    ensures { IfOk result (λ o. MatchOption o (All (HasGoodTree machine.now) nets.now)
+        (IsFirstBad machine.now nets.now)) }
+{
+    for i in 0..nets.len() {
+        let net = nets.get(i);
+        if !good(alloc, machine, &net.tree, net.source.chip, &net.targets)? {
+            return Ok(Some(i as u32));
+        }
+    }
+    Ok(None)
+}
+
+// Whether the image is of the machine's grid.
+fn is_of_grid(machine: &Machine, image: &Image) -> bool
+    ensures { IsTrue result ↔ IsOfGrid machine.now image.now }
+{
+    image.width == machine.width()
+        && image.height == machine.height()
+        && image.wrap == machine.wrap()
+}

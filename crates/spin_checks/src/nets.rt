@@ -1,0 +1,132 @@
+// The nets of a graph, each with the tree that was handed in for it.
+ghost use Rattle.std.specs.Prelude.{◌≡◌, ◌⊎◌, ◌<◌, All, IfOk, IfErr, Some, length, slice_get};
+ghost use Rattle.app_graph.specs.ValidGraph.{IsValidGraph, IsValidNet};
+ghost use Rattle.app_graph.specs.declared.graphs.Net.{Net as NetOf};
+ghost use Rattle.app_graph.specs.declared.graphs.Vertex.{Vertex};
+ghost use Rattle.net_plans.specs.Cause.{IsRefusedBy};
+ghost use Rattle.run_report.specs.declared.causes.Refusal.{Refusal as Cause};
+ghost use Rattle.run_report.specs.declared.causes.Refusal.TheVariants.{NoRoom, KeysOut, Memory as NoMemory};
+ghost use Rattle.spin_checks.specs.Answers.{IsJobRefusal, HasNoAnswer};
+ghost use Rattle.spin_checks.specs.Nets.{AreNetsWith, IsEachNetWith, IsNetWith, IsTreeOf, StandsOnSites};
+
+use app_graph::{Graph, Net};
+use key_alloc::{KeyErr, keys};
+use machine_desc::{Edge, Machine, NetPlan, Tree};
+use net_plans::targets_of;
+use place_fit::{PlaceErr, place};
+use run_report::Refusal;
+use spin_base::{Block, Chip, Memory, Name, Seq, Spot};
+use std::alloc::Global;
+
+// The nets, placed and with blocks as compiling does it, or the refusal that compiling has for these causes.
+pub(crate) fn nets_with(
+    alloc: Global,
+    machine: &Machine,
+    graph: &Graph,
+    trees: &[Seq<Edge>],
+) -> Result<Seq<NetPlan>, Refusal>
+    requires graph { IsValidGraph graph.now }
+    requires one_tree_each { length trees.now ≡ length graph.now.nets }
+    ensures nets { IfOk result (AreNetsWith machine.now graph.now trees.now) }
+    ensures sites { IfOk result (All (StandsOnSites machine.now)) }
+    ensures none { IfErr result (HasNoAnswer machine.now graph.now) }
+    ensures refused { (r : Cause) → IsJobRefusal machine.now graph.now r
+        → IsRefusedBy result r NoMemory }
+{
+    let placement = match place(alloc, machine, graph) {
+        Ok(placement) => placement,
+        Err(PlaceErr::NoRoom { vertex }) => return Err(no_room(alloc, graph, vertex)),
+        Err(PlaceErr::Memory) => return Err(Refusal::Memory),
+    };
+    let blocks = match keys(alloc, graph) {
+        Ok(blocks) => blocks,
+        Err(KeyErr::KeysOut { net }) => return Err(keys_out(alloc, graph, net)),
+        Err(KeyErr::Memory) => return Err(Refusal::Memory),
+    };
+    match plans_with(alloc, graph, &placement.spots, &blocks, trees) {
+        Ok(plans) => Ok(plans),
+        Err(Memory) => Err(Refusal::Memory),
+    }
+}
+
+// The refusal that names this vertex.
+fn no_room(alloc: Global, graph: &Graph, vertex: u32) -> Refusal
+    requires { vertex < length graph.now.vertices }
+    ensures { ((v : Vertex) → slice_get graph.now.vertices vertex ≡ Some v → result ≡ NoRoom v.name)
+        ⊎ (result ≡ NoMemory) }
+{
+    let vertex = graph.vertices.get(vertex as usize);
+    match Name::of(alloc, vertex.name.as_str()) {
+        Ok(name) => Refusal::NoRoom(name),
+        Err(Memory) => Refusal::Memory,
+    }
+}
+
+// The refusal that names this net.
+fn keys_out(alloc: Global, graph: &Graph, net: u32) -> Refusal
+    requires { net < length graph.now.nets }
+    ensures { ((n : NetOf) → slice_get graph.now.nets net ≡ Some n → result ≡ KeysOut n.name)
+        ⊎ (result ≡ NoMemory) }
+{
+    let net = graph.nets.get(net as usize);
+    match Name::of(alloc, net.name.as_str()) {
+        Ok(name) => Refusal::KeysOut(name),
+        Err(Memory) => Refusal::Memory,
+    }
+}
+
+// Each net with its block and the edges that were handed in for it.
+fn plans_with(
+    alloc: Global,
+    graph: &Graph,
+    spots: &Seq<Spot>,
+    blocks: &Seq<Block>,
+    trees: &[Seq<Edge>],
+) -> Result<Seq<NetPlan>, Memory>
+    requires graph { IsValidGraph graph.now }
+    requires a_spot_each { length spots.now ≡ length graph.now.vertices }
+    requires a_block_each { length blocks.now ≡ length graph.now.nets }
+    requires a_tree_each { length trees.now ≡ length graph.now.nets }
+    ensures long { IfOk result (λ plans. length plans ≡ length graph.now.nets) }
+    ensures each { IfOk result (IsEachNetWith spots.now graph.now.nets blocks.now trees.now) }
+{
+    let mut plans = Seq::new(alloc);
+    for i in 0..graph.nets.len() {
+        plans.push(net_with(alloc, graph.nets.get(i), spots, *blocks.get(i), &trees[i])?)?;
+    }
+    Ok(plans)
+}
+
+// One net with its block and the edges that were handed in for it.
+fn net_with(
+    alloc: Global,
+    net: &Net,
+    spots: &Seq<Spot>,
+    block: Block,
+    edges: &Seq<Edge>,
+) -> Result<NetPlan, Memory>
+    requires { IsValidNet (length spots.now) net.now }
+    ensures { IfOk result (IsNetWith spots.now net.now block edges.now) }
+{
+    let source = *spots.get(net.source as usize);
+    let targets = targets_of(alloc, spots, &net.targets)?;
+    let tree = tree_of(alloc, source.chip, edges)?;
+    Ok(NetPlan {
+        block,
+        source,
+        targets,
+        tree,
+    })
+}
+
+// The tree of these edges, which begins at this chip.
+fn tree_of(alloc: Global, root: Chip, edges: &Seq<Edge>) -> Result<Tree, Memory>
+    ensures { IfOk result (IsTreeOf root edges.now) }
+{
+    let mut edges = Vec::from_slice(alloc, edges.as_slice())?;
+    edges.sort_by_key(|edge| (edge.chip.x, edge.chip.y, edge.dir.number()))?;
+    Ok(Tree {
+        root,
+        edges: Seq::from_vec(edges),
+    })
+}

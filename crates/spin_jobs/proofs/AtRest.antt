@@ -1,0 +1,203 @@
+-- The report of a mesh at rest.
+use Rattle.std.proofs.Common.{◌≡◌, ℕ, ◌+◌, ◌^◌, ◌-◌, List, [], ◌∷◌, ◌++◌, map, length, refl, ap, sym, subst, ◌∙◌, Option, Some, None, Result, Ok, Err, IfOk, codes, decimal}
+use Rattle.std.specs.Prelude.{min}
+use Rattle.std.specs.List.{All, flat_map, slice_get, range_with_len}
+use Rattle.std.specs.List.Sorted.{IsPermutation}
+use Rattle.std.proofs.lemmas.List.{length-map, nil_from_length}
+use Rattle.std.proofs.lemmas.List.Sorted.{length_permutation}
+use Rattle.spin_base.specs.Gathered.{gathered}
+use Rattle.spin_base.proofs.Places.{All-at}
+use Rattle.mesh_round.proofs.Sums.{sum_none}
+use Rattle.spin_base.specs.declared.blocks.Block.{Block}
+use Rattle.spin_base.specs.declared.blocks.ChipTable.{ChipTable}
+use Rattle.spin_base.specs.declared.chips.Chip.{Chip}
+use Rattle.spin_base.specs.declared.chips.Spot.{Spot}
+use Rattle.spin_base.specs.declared.copies.Delivery.{Delivery}
+use Rattle.spin_base.specs.declared.copies.DumpRec.{DumpRec}
+use Rattle.spin_base.specs.declared.copies.McCopy.{McCopy}
+use Rattle.spin_base.specs.declared.copies.Packet.{Packet}
+use Rattle.spin_base.specs.declared.wants.Memory.{Memory}
+use Rattle.machine_desc.specs.Live.{grid_chips, index_of}
+use Rattle.machine_desc.specs.declared.nets.NetPlan.{NetPlan}
+use Rattle.mesh_core.specs.State.{Hand, Setup, State, IsMesh, queue_at}
+use Rattle.mesh_core.specs.Ledger.{all_ports}
+use Rattle.mesh_core.specs.Opened.{MeetsJobLedger}
+use Rattle.mesh_core.specs.Expected.{AreAsExpected, IsAtRest, expected_deliveries, without_hop}
+use Rattle.mesh_core.specs.declared.places.Did.{Did}
+use Rattle.mesh_core.specs.declared.places.Place.{Place}
+use Rattle.mesh_core.specs.declared.places.Place.TheVariants.{InQueue, CoreQueue}
+use Rattle.mesh_core.proofs.DeliveredLaw.{delivered_as_expected}
+use Rattle.mesh_core.proofs.ExpectedList.{in_order_is_list}
+use Rattle.job_readers.specs.declared.jobs.Job.{Job}
+use Rattle.run_report.specs.declared.reports.Report.{Report}
+use Rattle.run_report.specs.Listed.{placed_of}
+use Rattle.run_report.specs.ReportText.{dump_line, event_lines, got_line, keys_line, line, place_line, report_text, table_lines, wait_line}
+use Rattle.run_report.specs.RunReport.{chip_waits, copies_at, core_waits, hand_waits, held_waits, named_delivery, queue_waits, unsent_by, unsent_total, waits_at, waits_of, IsDeliveredOf}
+use Rattle.run_report.proofs.GotLines.{got_lines, none_after}
+use Rattle.par_compile.specs.declared.compiling.Plan.{Plan}
+use Rattle.spin_jobs.specs.declared.outcomes.WordOutput.{WordOutput}
+use Rattle.spin_jobs.specs.declared.outcomes.Parts.{Parts}
+use Rattle.spin_jobs.specs.Parts.{parts_with}
+use Rattle.spin_jobs.specs.Planned.{IsMeshOf}
+use Rattle.spin_jobs.specs.Reinjecting.{HasKeptPasses, HasReinjected}
+use Rattle.spin_jobs.specs.Runs.{HasKeptRounds, HasLostNothing, HasRunOut, IsRoomy, full_report}
+use Rattle.spin_jobs.specs.Words.{IsRunKept, IsReported, Reports, TellsRun}
+
+-- ---- lists
+
+-- what has no item in another order has none
+none_in_order : {X : Type 0} (xs ys : List X) → IsPermutation xs ys → xs ≡ [] → ys ≡ []
+none_in_order xs ys same none = nil_from_length ys (length_permutation xs ys same ∙ ap length none)
+
+flat_map_none : {X Y : Type 0} (f : X → List Y) → ((x : X) → f x ≡ []) → (xs : List X) → flat_map f xs ≡ []
+flat_map_none f none [] = refl
+flat_map_none f none (x ∷ xs) = ap (λ l. l ++ flat_map f xs) (none x) ∙ flat_map_none f none xs
+
+gathered_none : {X Y : Type 0} (f : ℕ → X → List Y) → ((i : ℕ) (x : X) → f i x ≡ []) → (i : ℕ) (xs : List X) → gathered f i xs ≡ []
+gathered_none f none i [] = refl
+gathered_none f none i (x ∷ xs) = ap (λ l. l ++ gathered f (i + 1) xs) (none i x) ∙ gathered_none f none (i + 1) xs
+
+-- ---- nothing waits, and nothing is unsent
+
+no_copies : (qs : List (List McCopy)) → All (λ q. q ≡ []) qs → (i : ℕ) → copies_at (slice_get qs i) ≡ []
+no_copies qs empty i = at_place (slice_get qs i) refl
+  where
+    at_place : (o : Option (List McCopy)) → slice_get qs i ≡ o → copies_at o ≡ []
+    at_place (Some q) is = All-at (λ x. x ≡ []) qs i q empty is
+    at_place None is = refl
+
+no_hand : (c : Chip) (hands : List (Option Hand)) → All (λ h. h ≡ None) hands → (i : ℕ) → held_waits c (slice_get hands i) ≡ []
+no_hand c hands empty i = at_place (slice_get hands i) refl
+  where
+    at_place : (o : Option (Option Hand)) → slice_get hands i ≡ o → held_waits c o ≡ []
+    at_place (Some h) is = ap (λ x. held_waits c (Some x)) (All-at (λ x. x ≡ None) hands i h empty is)
+    at_place None is = refl
+
+module _ (s : State) (rest : IsAtRest s) where
+  none_at : (place : Place) (qs : List (List McCopy)) → All (λ q. q ≡ []) qs → (i : ℕ) → waits_at place (copies_at (slice_get qs i)) ≡ []
+  none_at place qs empty i = ap (waits_at place) (no_copies qs empty i)
+
+  on_chip : (c : Chip) → chip_waits s c ≡ []
+  on_chip c =
+      ap (λ l. l ++ hand_waits s c) (flat_map_none (queue_waits s c) (λ port. none_at (InQueue c port) s.inputs rest.waits.inputs_empty (queue_at s.setup.machine c port)) all_ports)
+      ∙ no_hand c s.hands rest.waits.hands_empty (index_of s.setup.machine c)
+
+  pub none_waits : waits_of s ≡ []
+  none_waits =
+      ap (λ l. l ++ gathered (core_waits s) 0 s.setup.spots) (flat_map_none (chip_waits s) on_chip (grid_chips s.setup.machine))
+      ∙ gathered_none (core_waits s) (λ v spot. none_at (CoreQueue spot.chip spot.core) s.cores rest.waits.cores_empty v) 0 s.setup.spots
+
+  pub none_unsent : min (unsent_total s) (2 ^ 32 - 1) ≡ 0
+  none_unsent =
+      ap (λ n. min n (2 ^ 32 - 1)) (sum_none (unsent_by s) (range_with_len 0 (length s.setup.spots)) (λ v among. ap length (no_copies s.unsent rest.all_sent v)))
+
+-- ---- as many deliveries as are asked for
+
+as_many : (s : State) (nets : List NetPlan) (packets : List Packet) (placed : List (List ℕ × Spot)) (delivered : List (List ℕ × McCopy)) → IsMesh s → MeetsJobLedger s nets packets →
+    AreAsExpected s nets packets → IsDeliveredOf placed s.delivered delivered → length delivered ≡ length (map (named_delivery placed) (expected_deliveries s.setup.spots nets packets))
+as_many s nets packets placed delivered mesh job expected is =
+    let all : List Delivery = expected_deliveries s.setup.spots nets packets in
+    ap length is.named_each
+    ∙ (length-map is.sorted (named_delivery placed)
+    ∙ (sym (length-map is.sorted without_hop)
+    ∙ (ap length (in_order_is_list s nets packets mesh job.ledger.ledger.nets_stand expected is.sorted is.in_order.same_items (none_after placed s.delivered delivered is))
+    ∙ sym (length-map all (named_delivery placed)))))
+
+-- a report tells as many deliveries as there are
+pub told_count : (job : Job) (plan : Plan) (mesh : State) (did : List Did) (report : Report) → IsReported job plan mesh did report → length report.delivered ≡ length mesh.delivered
+told_count job plan mesh did report reported =
+    let placed : List (List ℕ × Spot) = placed_of job.graph plan.placement.spots in
+    ap length reported.delivered.named_each
+    ∙ (length-map reported.delivered.sorted (named_delivery placed)
+    ∙ length_permutation mesh.delivered reported.delivered.sorted reported.delivered.in_order.same_items)
+
+-- and, where there is no dump record, none
+pub told_none : (job : Job) (plan : Plan) (mesh : State) (did : List Did) (report : Report) → mesh.dumped ≡ [] → IsReported job plan mesh did report → length report.dumped ≡ 0
+told_none job plan mesh did report none reported = length_permutation mesh.dumped report.dumped reported.dumped.same_items ∙ ap length none
+
+-- ---- the text
+
+-- the text of a report, by the lines of its deliveries and how many they are
+unfoldable text_with : List (List ℕ × Spot) → List (List ℕ × Block) → List ChipTable → List Did → List ℕ → ℕ → List DumpRec → List (ℕ × Place) → ℕ → List ℕ
+text_with placed keys tables did got many dumped waiting unsent =
+    flat_map place_line placed ++ flat_map keys_line keys ++ flat_map table_lines tables ++ event_lines did ++ got ++ flat_map dump_line dumped
+    ++ flat_map wait_line waiting
+    ++ line (codes "end" ∷ codes "delivered" ∷ decimal many ∷ codes "dumped" ∷ decimal (length dumped) ∷ codes "waiting" ∷ decimal (length waiting) ∷ codes "unsent" ∷ decimal unsent ∷ [])
+
+text_of : (r : Report) → report_text r ≡ text_with r.placed r.keys r.tables r.did (flat_map got_line r.delivered) (length r.delivered) r.dumped r.waiting r.unsent
+unfolding text_with
+text_of r = refl
+
+-- the text of a report tells of its deliveries the lines and how many they are
+same_text : (r t : Report) → r.placed ≡ t.placed → r.keys ≡ t.keys → r.tables ≡ t.tables → r.did ≡ t.did → flat_map got_line r.delivered ≡ flat_map got_line t.delivered →
+    length r.delivered ≡ length t.delivered → r.dumped ≡ t.dumped → r.waiting ≡ t.waiting → r.unsent ≡ t.unsent → report_text r ≡ report_text t
+same_text r t placed keys tables did got many dumped waiting unsent =
+    let same : text_with r.placed r.keys r.tables r.did (flat_map got_line r.delivered) (length r.delivered) r.dumped r.waiting r.unsent
+    ≡ text_with t.placed t.keys t.tables t.did (flat_map got_line t.delivered) (length t.delivered) t.dumped t.waiting t.unsent
+    = cc
+    in
+    text_of r ∙ (same ∙ sym (text_of t))
+
+-- ---- what is told
+
+-- what is known of a mesh at rest, and of its report, which tells no events
+pub record IsTold (job : Job) (plan : Plan) (mesh : State) (report : Report) : Type 0 where
+  pub kept : IsMeshOf job plan mesh
+  pub at_rest : IsAtRest mesh
+  pub reported : IsReported job plan mesh [] report
+
+module _ (job : Job) (plan : Plan) (mesh : State) where
+  -- the report of a mesh that keeps the ledger
+  pub is_kept : (did : List Did) (report : Report) → MeetsJobLedger mesh plan.nets job.run.packets → IsReported job plan mesh did report → IsRunKept job plan mesh report
+  is_kept did report ledger is = record { ledger = ledger; reported = subst (λ (answers : List Did). IsReported job plan mesh answers report) (sym is.same_did) is }
+
+  -- what is said of each report of the mesh is said of the one that is told
+  pub reports : (P : Job → Plan → State → Report → Type 0) (did : List Did) (parts : Parts) (text : List ℕ) → MeetsJobLedger mesh plan.nets job.run.packets →
+      ((report : Report) → IsReported job plan mesh did report → P job plan mesh report) → TellsRun job plan mesh did parts text → Reports P job plan parts text
+  reports P did parts text ledger holds tells = (mesh, tells.0, is_kept did tells.0 ledger tells.1, holds tells.0 tells.1, tells.2, tells.3)
+
+  -- the same of a mesh at rest, where no events are told
+  pub reports_at_rest : (P : Job → Plan → State → Report → Type 0) (made : Result WordOutput Memory) → IsMeshOf job plan mesh → IsAtRest mesh →
+      ((report : Report) → IsTold job plan mesh report → P job plan mesh report) → IfOk made (λ t. TellsRun job plan mesh [] (parts_with job plan t.mesh t.report) t.text) →
+      IfOk made (λ t. Reports P job plan (parts_with job plan t.mesh t.report) t.text)
+  reports_at_rest P (Ok t) kept rest holds tells =
+      reports P [] (parts_with job plan t.mesh t.report) t.text kept.ledger (λ report is. holds report (record { kept = kept; at_rest = rest; reported = is })) tells
+  reports_at_rest P (Err e) kept rest holds tells = tells
+
+  module _ (report : Report) (told : IsTold job plan mesh report) where
+    -- Without a dump record nothing is lost.
+    lost_nothing : mesh.dumped ≡ [] → HasLostNothing job plan mesh report
+    lost_nothing no_record =
+        let placed : List (List ℕ × Spot) = placed_of job.graph plan.placement.spots in
+        let expected : AreAsExpected mesh plan.nets job.run.packets = delivered_as_expected mesh plan.nets job.run.packets told.kept.ledger told.at_rest no_record in
+        let asked_for : Setup → List (List ℕ × McCopy) = λ u. map (named_delivery placed) (expected_deliveries u.spots plan.nets job.run.packets) in
+        record {
+          no_record = no_record;
+          delivered = expected;
+          text =
+              same_text report (full_report job.machine job.graph job.run.packets plan) told.reported.same_placed told.reported.same_keys told.reported.same_tables
+              told.reported.same_did
+              (got_lines placed mesh plan.nets job.run.packets report.delivered told.kept.is_mesh told.kept.ledger told.at_rest no_record told.reported.delivered
+              ∙ ap (λ u. flat_map got_line (asked_for u)) told.kept.setup)
+              (as_many mesh plan.nets job.run.packets placed report.delivered told.kept.is_mesh told.kept.ledger expected told.reported.delivered
+              ∙ ap (λ u. length (asked_for u)) told.kept.setup)
+              (none_in_order mesh.dumped report.dumped told.reported.dumped.same_items no_record)
+              (none_in_order (waits_of mesh) report.waiting told.reported.waiting.same_items (none_waits mesh told.at_rest))
+              (told.reported.unsent ∙ none_unsent mesh told.at_rest);
+        }
+
+    pub ran_out : HasKeptRounds job plan mesh → (IsRoomy job → mesh.dumped ≡ []) → HasRunOut job plan mesh report
+    ran_out reached no_record = record {
+      reached = reached;
+      at_rest = told.at_rest;
+      no_event = told.reported.same_did;
+      roomy = λ is_roomy. lost_nothing (no_record is_roomy);
+    }
+
+    pub reinjected_as : HasKeptPasses job plan mesh → mesh.dumped ≡ [] → HasReinjected job plan mesh report
+    reinjected_as reached no_record = record {
+      reached = reached;
+      at_rest = told.at_rest;
+      no_event = told.reported.same_did;
+      lost_nothing = lost_nothing no_record;
+    }

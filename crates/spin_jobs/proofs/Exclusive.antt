@@ -1,0 +1,83 @@
+-- A job has a plan or one reason why it has none, since the compiler has one answer.
+use Rattle.std.proofs.Common.{◌≡◌, ◌⊎◌, ℕ, Result, Ok, Err, refl, sym, ap, ◌∙◌, subst, inl, inr}
+use Rattle.spin_base.proofs.Places.{one_item_at}
+use Rattle.spin_base.specs.declared.chips.Chip.{Chip}
+use Rattle.app_graph.specs.declared.graphs.Graph.{Graph}
+use Rattle.app_graph.specs.declared.graphs.Net.{Net}
+use Rattle.app_graph.specs.declared.graphs.Vertex.{Vertex}
+use Rattle.machine_desc.specs.Description.{Description}
+use Rattle.place_fit.proofs.Determined as places
+use Rattle.key_alloc.proofs.Determined as blocks
+use Rattle.job_readers.specs.declared.jobs.Job.{Job}
+use Rattle.par_compile.specs.declared.compiling.Plan.{Plan}
+use Rattle.par_compile.specs.declared.compiling.CompileErr.{CompileErr}
+use Rattle.par_compile.specs.declared.compiling.CompileErr.TheVariants.{NoRoom, KeysOut, CutOff, TableLong, Memory}
+use Rattle.default_routes.specs.declared.stripping.Final.{Final}
+use Rattle.par_compile.specs.Compiled.{HasCutOff, HasLongTable, HasPlacement, IsCompileCause, IsPlanOf}
+use Rattle.par_compile.proofs.Refusing.{refused_where}
+use Rattle.run_report.specs.declared.causes.Refusal.{Refusal}
+use Rattle.run_report.specs.declared.causes.Refusal.TheVariants as refusals
+use Rattle.spin_jobs.specs.Planned.{IsPlanOfJob}
+use Rattle.spin_jobs.specs.Unplanned.{CanBePlanned, HasBlocks, HasNoPlan, Names}
+
+-- ---- the compiler
+
+not_ok : (plan : Plan) (e f : CompileErr) → (◌≡◌ {A = Result Plan CompileErr} (Ok plan) (Err e)) ⊎ (◌≡◌ {A = Result Plan CompileErr} (Ok plan) (Err f)) → ⊥
+not_ok plan e f (inl is) = cc
+not_ok plan e f (inr is) = cc
+
+same_error : (e f m : CompileErr) → (◌≡◌ {A = Result Plan CompileErr} (Err e) (Err f)) ⊎ (◌≡◌ {A = Result Plan CompileErr} (Err e) (Err m)) → (e ≡ f) ⊎ (e ≡ m)
+same_error e f m (inl is) = inl cc
+same_error e f m (inr is) = inr cc
+
+-- an error is called what the same error is called
+pub names_same : (graph : Graph) (e f : CompileErr) (r : Refusal) → e ≡ f → Names graph f r → Names graph e r
+names_same graph e f r same names = subst (λ x. Names graph x r) (sym same) names
+
+module _ (m : Description) (graph : Graph) (target : ℕ) where
+  -- a graph with a plan has no cause
+  none_of_plan : (plan : Plan) → IsPlanOf m graph target plan → (e : CompileErr) → IsCompileCause m graph target e → (r : Refusal) → Names graph e r → ⊥
+  none_of_plan plan is (NoRoom v) cause r names = not_ok plan (NoRoom v) Memory ((refused_where m graph target (Ok plan) is tt).no_room v cause)
+  none_of_plan plan is (KeysOut n) cause r names = not_ok plan (KeysOut n) Memory ((refused_where m graph target (Ok plan) is tt).keys_out n cause.0 cause.1)
+  none_of_plan plan is (CutOff n t) cause r names = not_ok plan (CutOff n t) Memory ((refused_where m graph target (Ok plan) is tt).cut_off n t cause)
+  none_of_plan plan is (TableLong c t) cause r names = not_ok plan (TableLong c t) Memory ((refused_where m graph target (Ok plan) is tt).table_long c t cause.0)
+  none_of_plan plan is Memory cause r names = absurd names
+
+  one_cause : (e f : CompileErr) → IsCompileCause m graph target e → IsCompileCause m graph target f → (r : Refusal) → Names graph f r → (e ≡ f) ⊎ (e ≡ Memory)
+  one_cause e (NoRoom v) cause other r names = same_error e (NoRoom v) Memory ((refused_where m graph target (Err e) tt cause).no_room v other)
+  one_cause e (KeysOut n) cause other r names = same_error e (KeysOut n) Memory ((refused_where m graph target (Err e) tt cause).keys_out n other.0 other.1)
+  one_cause e (CutOff n t) cause other r names = same_error e (CutOff n t) Memory ((refused_where m graph target (Err e) tt cause).cut_off n t other)
+  one_cause e (TableLong c t) cause other r names = same_error e (TableLong c t) Memory ((refused_where m graph target (Err e) tt cause).table_long c t other.0)
+  one_cause e Memory cause other r names = absurd names
+
+  -- what an error is called has one name
+  one_name : (e : CompileErr) (r s : Refusal) → Names graph e r → Names graph e s → r ≡ s
+  one_name (NoRoom i) r s a b = let same : a.0 ≡ b.0 = one_item_at graph.vertices i i a.0 b.0 refl a.1 b.1 in a.2 ∙ (ap (λ (v : Vertex). refusals.NoRoom v.name) same ∙ sym b.2)
+  one_name (KeysOut i) r s a b = let same : a.0 ≡ b.0 = one_item_at graph.nets i i a.0 b.0 refl a.1 b.1 in a.2 ∙ (ap (λ (n : Net). refusals.KeysOut n.name) same ∙ sym b.2)
+  one_name (CutOff i t) r s a b = let same : a.0 ≡ b.0 = one_item_at graph.nets i i a.0 b.0 refl a.1 b.1 in a.2 ∙ (ap (λ (n : Net). refusals.CutOff n.name t) same ∙ sym b.2)
+  one_name (TableLong c t) r s a b = a ∙ sym b
+  one_name Memory r s a b = absurd a
+
+  -- a graph whose vertices have places and whose nets have keys, and where no target is cut off, has no cause
+  none_served : HasPlacement m graph → HasBlocks graph → ((i : ℕ) (chip : Chip) → HasCutOff m graph i chip → ⊥) →
+      ((chip : Chip) (table : Final) → HasLongTable m graph target chip table → ⊥) → (e : CompileErr) → IsCompileCause m graph target e →
+      (r : Refusal) → Names graph e r → ⊥
+  none_served placed keyed joined short (NoRoom v) cause r names = places.not_both m graph.vertices placed.0 placed.1 v placed.2 cause
+  none_served placed keyed joined short (KeysOut n) cause r names = blocks.not_both graph.nets keyed.0 n keyed.1 cause.1
+  none_served placed keyed joined short (CutOff n t) cause r names = joined n t cause
+  none_served placed keyed joined short (TableLong c t) cause r names = short c t cause.0
+  none_served placed keyed joined short Memory cause r names = absurd names
+
+-- ---- jobs
+
+pub one_no_plan : (job : Job) (r s : Refusal) → HasNoPlan job r → HasNoPlan job s → r ≡ s
+one_no_plan job r s a b = elim (one_cause job.machine job.graph job.run.target a.error b.error a.cause b.cause s b.names) [
+  | inl same ↦ one_name job.machine job.graph job.run.target b.error r s (subst (λ e. Names job.graph e r) same a.names) b.names
+  | inr memory ↦ absurd (subst (λ e. Names job.graph e r) memory a.names)
+]
+
+pub planned_has_plan : (job : Job) (plan : Plan) (r : Refusal) → IsPlanOfJob job plan → HasNoPlan job r → ⊥
+planned_has_plan job plan r is none = none_of_plan job.machine job.graph job.run.target plan is none.error none.cause r none.names
+
+pub plannable_has_plan : (job : Job) (r : Refusal) → CanBePlanned job → HasNoPlan job r → ⊥
+plannable_has_plan job r can none = none_served job.machine job.graph job.run.target can.placed can.keyed can.joined can.short none.error none.cause r none.names

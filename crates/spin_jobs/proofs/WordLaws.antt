@@ -1,0 +1,88 @@
+-- What holds of the parts that a word makes of a job.
+use Rattle.std.proofs.Common.{◌≡◌, ℕ, List, Result, Ok, Err, IfOk, sym, subst}
+use Rattle.mesh_core.specs.State.{State}
+use Rattle.mesh_core.specs.Opened.{MeetsJobLedger}
+use Rattle.job_readers.specs.declared.jobs.Job.{Job}
+use Rattle.run_report.specs.declared.reports.Report.{Report}
+use Rattle.par_compile.specs.declared.compiling.Plan.{Plan}
+use Rattle.spin_words.specs.declared.commands.JobWord.{JobWord}
+use Rattle.spin_words.specs.declared.commands.JobWord.TheVariants.{Run, Reinject, Trace, Gen}
+use Rattle.spin_jobs.specs.declared.outcomes.Parts.{Parts}
+use Rattle.spin_jobs.specs.Parts.{plan_parts, run_parts, WhereGiven, WhereRun}
+use Rattle.spin_jobs.specs.Planned.{IsThePlan}
+use Rattle.spin_jobs.specs.Reinjecting.{HasReinjected}
+use Rattle.spin_jobs.specs.Runs.{HasRunOut}
+use Rattle.spin_jobs.specs.Words.{IsTraced, IsRunKept, Makes, ran, reinjected, traced, imaged, listed, generated, IsMadeOf}
+
+-- what each value has, each value has that has more
+pub ok_weaker : {A E : Type 0} (r : Result A E) (P Q : A → Type 0) → ((x : A) → P x → Q x) → IfOk r P → IfOk r Q
+ok_weaker (Ok x) P Q more has = more x has
+ok_weaker (Err e) P Q more has = has
+
+-- ---- one word at a time
+
+reinject_not_run : (w : JobWord) → w ≡ Reinject → w ≡ Run → ⊥
+reinject_not_run w reinject run = cc
+
+trace_not_run : (w : JobWord) → w ≡ Trace → w ≡ Run → ⊥
+trace_not_run w trace run = cc
+
+reinject_not_trace : (w : JobWord) → w ≡ Reinject → w ≡ Trace → ⊥
+reinject_not_trace w reinject trace = cc
+
+gen_not_reinject : (w : JobWord) (n : ℕ) → w ≡ Gen n → w ≡ Reinject → ⊥
+gen_not_reinject w n gen reinject = cc
+
+gen_not_trace : (w : JobWord) (n : ℕ) → w ≡ Gen n → w ≡ Trace → ⊥
+gen_not_trace w n gen trace = cc
+
+-- what holds of the parts that each word makes holds of the parts
+by_word : (P : Parts → Type 0) (w : JobWord) (job : Job) (plan : Plan) (parts : Parts) (text : List ℕ) → Makes w job plan parts text →
+    (w ≡ Run → (mesh : State) (report : Report) → IsRunKept job plan mesh report → HasRunOut job plan mesh report → P (run_parts job plan mesh report)) →
+    (w ≡ Reinject → (mesh : State) (report : Report) → IsRunKept job plan mesh report → HasReinjected job plan mesh report → P (run_parts job plan mesh report)) →
+    (w ≡ Trace → (mesh : State) (report : Report) → IsRunKept job plan mesh report → IsTraced job plan mesh report → P (run_parts job plan mesh report)) →
+    ((n : ℕ) → w ≡ Gen n → (mesh : State) (report : Report) → IsRunKept job plan mesh report → HasRunOut job plan mesh report → P (run_parts job plan mesh report)) →
+    P (plan_parts job plan) → P parts
+by_word P w job plan parts text makes on_run on_reinject on_trace on_gen on_tables = elim makes [
+  | ran is r ↦ subst P (sym r.4) (on_run is r.0 r.1 r.2 r.3)
+  | reinjected is r ↦ subst P (sym r.4) (on_reinject is r.0 r.1 r.2 r.3)
+  | traced is r ↦ subst P (sym r.4) (on_trace is r.0 r.1 r.2 r.3)
+  | imaged is l ↦ subst P (sym l.0) on_tables
+  | listed is l ↦ subst P (sym l.0) on_tables
+  | generated n is r ↦ subst P (sym r.4) (on_gen n is r.0 r.1 r.2 r.3)
+]
+
+-- ---- what is given
+
+-- the mesh of a report keeps the ledger of the job
+abbrev KeepsLedger : Job → Plan → State → Report → Type 0
+KeepsLedger job plan mesh report = MeetsJobLedger mesh plan.nets job.run.packets
+
+module _ {w : JobWord} {job : Job} {parts : Parts} {text : List ℕ} (m : IsMadeOf w job parts text) where
+  pub plan_given : WhereGiven parts IsThePlan
+  plan_given = by_word (λ p. WhereGiven p IsThePlan) w job m.plan parts text m.makes
+      (λ is mesh report kept run. m.planned) (λ is mesh report kept run. m.planned) (λ is mesh report kept trace. m.planned) (λ n is mesh report kept run. m.planned) m.planned
+
+  pub ledger_given : WhereRun parts KeepsLedger
+  ledger_given = by_word (λ p. WhereRun p KeepsLedger) w job m.plan parts text m.makes
+      (λ is mesh report kept run. kept.ledger) (λ is mesh report kept run. kept.ledger) (λ is mesh report kept trace. kept.ledger) (λ n is mesh report kept run. kept.ledger) tt
+
+  pub run_given : w ≡ Run → WhereRun parts HasRunOut
+  run_given asked = by_word (λ p. WhereRun p HasRunOut) w job m.plan parts text m.makes
+      (λ is mesh report kept run. run) (λ is mesh report kept run. absurd (reinject_not_run w is asked))
+      (λ is mesh report kept trace. absurd (trace_not_run w is asked)) (λ n is mesh report kept run. run) tt
+
+  pub reinject_given : w ≡ Reinject → WhereRun parts HasReinjected
+  reinject_given asked = by_word (λ p. WhereRun p HasReinjected) w job m.plan parts text m.makes
+      (λ is mesh report kept run. absurd (reinject_not_run w asked is)) (λ is mesh report kept run. run)
+      (λ is mesh report kept trace. absurd (reinject_not_trace w asked is)) (λ n is mesh report kept run. absurd (gen_not_reinject w n is asked)) tt
+
+  pub trace_given : w ≡ Trace → WhereRun parts IsTraced
+  trace_given asked = by_word (λ p. WhereRun p IsTraced) w job m.plan parts text m.makes
+      (λ is mesh report kept run. absurd (trace_not_run w asked is)) (λ is mesh report kept run. absurd (reinject_not_trace w is asked))
+      (λ is mesh report kept trace. trace) (λ n is mesh report kept run. absurd (gen_not_trace w n is asked)) tt
+
+  pub generated_given : (n : ℕ) → w ≡ Gen n → WhereRun parts HasRunOut
+  generated_given n asked = by_word (λ p. WhereRun p HasRunOut) w job m.plan parts text m.makes
+      (λ is mesh report kept run. run) (λ is mesh report kept run. absurd (gen_not_reinject w n asked is))
+      (λ is mesh report kept trace. absurd (gen_not_trace w n asked is)) (λ k is mesh report kept run. run) tt

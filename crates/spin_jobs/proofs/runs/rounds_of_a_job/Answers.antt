@@ -1,0 +1,15 @@
+use Rattle.std.proofs.Common.{subst}
+use Rattle.mesh_core.specs.State.{State, IsMesh}
+use Rattle.mesh_round.specs.RoundFlow.{HasRounds}
+use Rattle.spin_jobs.specs.Planned.{opened_of}
+use Rattle.spin_jobs.proofs.Running.{by_rounds, kept_rounds, none_dropped}
+use Rattle.spin_jobs.proofs.runs.rounds_of_a_job.Goals as goal
+
+pub returns : goal.returns
+returns c = λ job plan m n run planned is_mesh is_opened rounds.
+    let mesh : IsMesh (opened_of job plan) = subst IsMesh is_opened is_mesh in
+    let led : HasRounds job.run.patience job.run.turns (opened_of job plan) n = subst (λ (s : State). HasRounds job.run.patience job.run.turns s n) is_opened rounds in (
+      kept_rounds job plan run planned mesh c.rounds_keep_the_ledger.ensures c.rounds_lead_to_a_mesh.ensures n led,
+      by_rounds job plan run planned mesh c.rounds_keep_the_ledger.ensures c.rounds_lead_to_a_mesh.ensures n led,
+      none_dropped job plan run planned mesh c.roomy_rounds_deliver_all.ensures.no_record n led,
+    )

@@ -1,0 +1,14 @@
+pub use Rattle.app_graph.specs.RunPart
+pub use Rattle.app_graph.specs.ValidGraph
+pub use Rattle.mesh_core.specs.State
+pub use Rattle.mesh_round.specs.RoundFlow
+pub use Rattle.par_compile.specs.Compiled
+pub use Rattle.run_report.specs.ReportText
+pub use Rattle.job_gen.specs.Generated
+pub mod Making
+pub mod Parts
+pub mod Planned
+pub mod Reinjecting
+pub mod Runs
+pub mod Unplanned
+pub mod Words

@@ -1,0 +1,173 @@
+// What each word makes of a planned job.
+ghost use Rattle.std.specs.Prelude.{◌≡◌, ◌<◌, ◌^◌, [], IfOk};
+ghost use Rattle.run_report.specs.ReportText.{row_total};
+ghost use Rattle.job_gen.specs.Generated.{gen_job};
+ghost use Rattle.spin_jobs.specs.Making.{IsReportedAs, IsSummarised, IsOutputAs, IsOutputOf, IsTracedTo};
+ghost use Rattle.spin_jobs.specs.Planned.{setup_of};
+ghost use Rattle.spin_jobs.specs.Words.{Images, IsReported, IsTraced, Lists, Reports, Summarises, TellsRun};
+
+use crate::outcomes::{Reported, WordOutput};
+use crate::planned_jobs::PlannedJob;
+use crate::runs::{open_job, run_job, take_events};
+use mesh_core::laws::deliveries_are_as_many_as_expected;
+use mesh_core::{Did, Mesh};
+use par_compile::image_of;
+use run_report::{Report, plan_text, report_of, summary_text, text_of};
+use spin_base::{Gate, Memory, Seq};
+use std::alloc::Global;
+use std::sync::Wait;
+use std::thread::Threads;
+use table_load::encode;
+
+// A run of the job of a number, and its summary.
+pub(crate) fn generated<R: Threads + Wait + Sync, G: Gate>(
+    rt: &R,
+    alloc: Global,
+    number: u64,
+    planned: &PlannedJob<'_>,
+    gate: &G,
+) -> Result<WordOutput, Memory>
+    requires of_number { planned.now.job ≡ gen_job number }
+    ensures { IfOk result (IsOutputAs (Summarises number) planned.now) }
+{
+    deliveries_are_as_many_as_expected();
+    let mesh = run_job(rt, alloc, planned, gate)?;
+    let made = summarised(alloc, number, planned, &mesh);
+    told(mesh, made)
+}
+
+// The report of a mesh to which no event led, and its summary.
+fn summarised(
+    alloc: Global,
+    number: u64,
+    planned: &PlannedJob<'_>,
+    mesh: &Mesh,
+) -> Result<Reported, Memory>
+    requires setup { mesh.now.setup ≡ setup_of planned.now.job planned.now.plan }
+    ensures { IfOk result (IsSummarised number planned.now.job planned.now.plan mesh.now) }
+{
+    let report = report(alloc, planned, mesh, Seq::new(alloc))?;
+    let text = summary_text(
+        alloc,
+        number,
+        &planned.job.machine,
+        &planned.job.graph,
+        &planned.job.run,
+        &report,
+    )?;
+    Ok(Reported { report, text })
+}
+
+// The mesh after all events of the job, its report, and the report's text.
+pub(crate) fn trace(alloc: Global, planned: &PlannedJob<'_>) -> Result<WordOutput, Memory>
+    ensures { IfOk result (IsOutputAs (Reports IsTraced) planned.now) }
+{
+    // Read, so that what holds of each planned job is known here.
+    let _job = planned.job;
+    let mut mesh = open_job(alloc, planned)?;
+    let made = traced(alloc, planned, &mut mesh);
+    told(mesh, made)
+}
+
+// The report of a mesh after all events of the job, one by one, and the report's text.
+fn traced(alloc: Global, planned: &PlannedJob<'_>, mesh: &mut Mesh) -> Result<Reported, Memory>
+    requires setup { mesh.old.setup ≡ setup_of planned.now.job planned.now.plan }
+    ensures { IfOk result (IsTracedTo planned.now.job planned.now.plan mesh.old mesh.new) }
+{
+    let did = take_events(alloc, mesh, planned.job.run.events.as_slice())?;
+    reported(alloc, planned, mesh, did)
+}
+
+// The text of the plan.
+pub(crate) fn list(alloc: Global, planned: &PlannedJob<'_>) -> Result<WordOutput, Memory>
+    ensures { IfOk result (IsOutputAs Lists planned.now) }
+{
+    let image = image_of(alloc, &planned.job.machine, &planned.plan.tables)?;
+    let spots = &planned.plan.placement.spots;
+    let text = plan_text(alloc, &planned.job.graph, spots, &planned.plan.nets, &image)?;
+    Ok(WordOutput {
+        mesh: None,
+        report: None,
+        text,
+    })
+}
+
+// The bytes of the image of the plan's tables.
+pub(crate) fn image(alloc: Global, planned: &PlannedJob<'_>) -> Result<WordOutput, Memory>
+    ensures { IfOk result (IsOutputAs Images planned.now) }
+{
+    let image = image_of(alloc, &planned.job.machine, &planned.plan.tables)?;
+    let text = encode(alloc, &image)?;
+    Ok(WordOutput {
+        mesh: None,
+        report: None,
+        text,
+    })
+}
+
+// The mesh after all packets of the job, its report, and the report's text.
+pub(crate) fn output_at_rest(
+    alloc: Global,
+    planned: &PlannedJob<'_>,
+    mesh: Mesh,
+) -> Result<WordOutput, Memory>
+    requires setup { mesh.setup ≡ setup_of planned.now.job planned.now.plan }
+    ensures { IfOk result (IsOutputAs (λ job plan. TellsRun job plan mesh []) planned.now) }
+{
+    let made = reported(alloc, planned, &mesh, Seq::new(alloc));
+    told(mesh, made)
+}
+
+// The report of a mesh after events with these answers, and the report's text.
+fn reported(
+    alloc: Global,
+    planned: &PlannedJob<'_>,
+    mesh: &Mesh,
+    did: Seq<Did>,
+) -> Result<Reported, Memory>
+    requires setup { mesh.now.setup ≡ setup_of planned.now.job planned.now.plan }
+    ensures { IfOk result (IsReportedAs planned.now.job planned.now.plan mesh.now did) }
+{
+    let report = report(alloc, planned, mesh, did)?;
+    let text = text_of(alloc, &report)?;
+    Ok(Reported { report, text })
+}
+
+// The mesh with what was made of it.
+fn told(mesh: Mesh, made: Result<Reported, Memory>) -> Result<WordOutput, Memory>
+    ensures { IfOk result (IsOutputOf mesh made) }
+{
+    match made {
+        Ok(made) => Ok(WordOutput {
+            mesh: Some(mesh),
+            report: Some(made.report),
+            text: made.text,
+        }),
+        Err(memory) => Err(memory),
+    }
+}
+
+// The report of a job's plan, of a mesh, and of the answers to the events that led there.
+fn report(
+    alloc: Global,
+    planned: &PlannedJob<'_>,
+    mesh: &Mesh,
+    did: Seq<Did>,
+) -> Result<Report, Memory>
+    requires setup { mesh.now.setup ≡ setup_of planned.now.job planned.now.plan }
+    ensures reported { IfOk result (IsReported planned.now.job planned.now.plan mesh.now did) }
+    ensures few { IfOk result (λ report. row_total report.tables < 2 ^ 64) }
+{
+    let image = image_of(alloc, &planned.job.machine, &planned.plan.tables)?;
+    let spots = &planned.plan.placement.spots;
+    let tables = image.chips;
+    report_of(
+        alloc,
+        &planned.job.graph,
+        spots,
+        &planned.plan.nets,
+        tables,
+        mesh,
+        did,
+    )
+}
