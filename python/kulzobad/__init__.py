@@ -6,20 +6,28 @@
     for delivery in run(job).deliveries:
         print(delivery.vertex, delivery.packet)
 
-The package has no rules of its own: placements, keys, tables and refusals are those of the program.
+The package has no rules of its own: placements, keys, tables and refusals are those of the program. Where `verify` says that tables are
+right, the program has said so of each key; the ways of keys that go wrong are found here.
 """
 from .applications import RUN, Answer, AlreadyLoaded, CutOff, KeysOut, Loaded, MemoryOut, NoRoom, NotLoaded, Ran, RowsOut, Unloaded
 from .applications import Waiting, load, unload
 from .checks import BadImage, BadTree, OtherMachine, Right, Split, Verdict, Wrong
+from .explaining import explain
 from .images import Image, decode, encode
 from .jobs import Job, Machine, Net, Packet, Vertex, collect, dump, inject, send, take
-from .program import Refused, apps, check, compile, gen, reinject, run, tables, trace
+from .kinds import BrokenAnswer
+from .members import Slip, UnknownMembers
+from .program import NoProgram, Refused, apps, check, compile, gen, reinject, run, tables, trace
 from .reports import Delivery, Dump, Keys, Place, Plan, Report, Row, Summary, Table, Wait, links_of, cores_of
+from .trees import trees
+from .verdicts import Dies, Loops, Misses, OffTree, Strays, TooLong, Twice
+from .verifying import KeyedNet, notes, verify
 
 __all__ = [
-    "AlreadyLoaded", "Answer", "BadImage", "BadTree", "CutOff", "Delivery", "Dump", "Image", "Job", "Keys", "KeysOut", "Loaded",
-    "Machine", "MemoryOut", "Net", "NoRoom", "NotLoaded", "OtherMachine", "Packet", "Place", "Plan", "RUN", "Ran", "Refused",
-    "Report", "Right", "Row", "RowsOut", "Split", "Summary", "Table", "Unloaded", "Verdict", "Vertex", "Wait", "Waiting", "Wrong",
-    "apps", "check", "collect", "compile", "cores_of", "decode", "dump", "encode", "gen", "inject", "links_of", "load", "reinject",
-    "run", "send", "tables", "take", "trace", "unload",
+    "AlreadyLoaded", "Answer", "BadImage", "BadTree", "BrokenAnswer", "CutOff", "Delivery", "Dump", "Image", "Job", "Keys", "KeysOut",
+    "Loaded", "Machine", "MemoryOut", "Net", "NoProgram", "NoRoom", "NotLoaded", "OtherMachine", "Packet", "Place", "Plan", "RUN",
+    "Ran", "Refused", "Report", "Right", "Row", "RowsOut", "Slip", "Split", "Summary", "Table", "UnknownMembers", "Unloaded", "Verdict",
+    "Vertex", "Wait", "Waiting", "Wrong", "apps", "check", "collect", "compile", "cores_of", "decode", "dump", "encode", "explain",
+    "gen", "inject", "links_of", "load", "reinject", "run", "send", "tables", "take", "trace", "trees", "unload",
+    "Dies", "KeyedNet", "Loops", "Misses", "OffTree", "Strays", "TooLong", "Twice", "notes", "verify",
 ]

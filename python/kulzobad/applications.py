@@ -3,9 +3,10 @@ from __future__ import annotations
 
 import re
 from dataclasses import dataclass, fields
-from typing import Any, List, Tuple
+from typing import Any, Dict, List, Optional, Sequence, Tuple
 
 from .jobs import Job
+from .kinds import BrokenAnswer, one, shown, whole
 
 Step = Tuple[Any, ...]
 
@@ -19,12 +20,12 @@ RUN: Step = ("run",)
 def load(number: int, job: Job) -> Step:
     """The graph and the packets of a job are loaded as the application of this number, beside the others. The first load of a list
     also gives the machine, and how many copies its queues hold."""
-    return ("load", number, job)
+    return ("load", whole("load: number", number), one("load: job", job, Job))
 
 
 def unload(number: int) -> Step:
     """The application of this number leaves: its cores, memory, keys and entries are free again."""
-    return ("unload", number)
+    return ("unload", whole("unload: number", number))
 
 
 class Answer:
@@ -123,8 +124,16 @@ class Ran(Answer):
     """Every packet has come to rest."""
 
 
-def read_answer(line: str) -> Answer:
-    """Reads a line of `apps`, without its end."""
+# The answers to each kind of step.
+ANSWERS: Dict[str, Tuple[type, ...]] = {
+    "load": (Loaded, AlreadyLoaded, NoRoom, CutOff, MemoryOut, KeysOut, RowsOut),
+    "unload": (Unloaded, NotLoaded, Waiting),
+    "run": (Ran,),
+}
+
+
+def read_answer(line: str, at: int = 1) -> Answer:
+    """Reads a line of `apps`, without its end, which is the line of this number."""
     for pattern, made in (
         (r"load (\d+) ok", Loaded),
         (r"load (\d+) loaded", AlreadyLoaded),
@@ -143,11 +152,20 @@ def read_answer(line: str) -> Answer:
             # (a name may have digits alone)
             items = zip((it.name for it in fields(made)), found.groups())
             return made(**{name: item if name in NAMES else int(item) for name, item in items})
-    raise ValueError(f"no line of apps: {line!r}")
+    raise BrokenAnswer(f"line {at} is {shown(line)}: no line of apps")
 
 
-def read_answers(text: str) -> List[Answer]:
-    """Reads what `apps` writes: a line for each step."""
-    if text and not text.endswith("\n"):
-        raise ValueError(f"the last line has no end: {text!r}")
-    return [read_answer(line) for line in text.splitlines()]
+def read_answers(text: str, steps: Optional[Sequence[Step]] = None) -> List[Answer]:
+    """Reads what `apps` writes: a line for each step. Where steps are given, there have to be as many lines, each of its step.
+    ValueError, with the line, where that is not so."""
+    *lines, rest = text.split("\n")
+    if rest:
+        raise BrokenAnswer(f"line {len(lines) + 1} is {shown(rest)}: it has no end")
+    answers = [read_answer(line, at) for at, line in enumerate(lines, 1)]
+    if steps is not None and len(answers) != len(steps):
+        last = f", and the last is {shown(lines[-1])}" if lines else ""
+        raise BrokenAnswer(f"line {min(len(answers), len(steps)) + 1}: there are {len(answers)} lines for {len(steps)} steps{last}")
+    for at, (line, answer, step) in enumerate(zip(lines, answers, steps or [])):
+        if not isinstance(answer, ANSWERS[step[0]]) or [getattr(answer, "number", None)] != [*step[1:2], None][:1]:
+            raise BrokenAnswer(f"line {at + 1} is {shown(line)}: it answers no step {shown(step[:2])}")
+    return answers

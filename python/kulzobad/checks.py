@@ -4,6 +4,8 @@ from __future__ import annotations
 import re
 from dataclasses import dataclass
 
+from .kinds import BrokenAnswer, InHexadecimal, shown
+
 
 class Verdict:
     """What is said of trees and an image: one of the classes below. It counts as true where it is `Right`, and as false elsewhere."""
@@ -17,8 +19,8 @@ class Right(Verdict):
     """At each chip of a net's tree each key of the net is sent to the links and cores that the tree wants, and no others."""
 
 
-@dataclass(frozen=True)
-class Wrong(Verdict):
+@dataclass(frozen=True, repr=False)
+class Wrong(InHexadecimal, Verdict):
     """At chip (x, y) the net's keys, the first of which is `key`, get another route than the tree's."""
 
     net: str
@@ -70,4 +72,4 @@ def read_verdict(text: str) -> Verdict:
         found = re.fullmatch(pattern, text)
         if found:
             return made(*found.groups())
-    raise ValueError(f"no line of a check: {text!r}")
+    raise BrokenAnswer(f"line 1 is {shown(text)}: no line of a check")

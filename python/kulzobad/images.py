@@ -6,6 +6,7 @@ from dataclasses import dataclass, field
 from typing import Dict, Iterable, Mapping, Tuple
 
 from .jobs import Chip, Machine
+from .kinds import BrokenAnswer, lists_of_numbers, one, wrong
 from .reports import Row, Table
 
 MAGIC = b"SPNT"
@@ -30,8 +31,10 @@ class Image:
 def decode(data: bytes) -> Image:
     """The image that these bytes spell. It reads what the program writes: a ValueError says of other bytes that they are none,
     as far as their length and head tell."""
+    if not isinstance(data, (bytes, bytearray, memoryview)):
+        raise wrong("decode: data", data, "bytes")
     if len(data) < 10 or data[:4] != MAGIC or data[4] != 1:
-        raise ValueError("no image of version 1")
+        raise BrokenAnswer("no image of version 1")
     image = Image(data[5], data[6], data[7] == 1, bytes(data))
     at = 10
     try:
@@ -41,9 +44,9 @@ def decode(data: bytes) -> Image:
             image.tables[x, y] = Table(x, y, rows)
             at += 4 + 12 * count
     except struct.error:
-        raise ValueError(f"the image ends in the middle of a table, at {len(data)}") from None
+        raise BrokenAnswer(f"the image ends in the middle of a table, at {len(data)}") from None
     if at != len(data):
-        raise ValueError(f"bytes after the image, at {at}")
+        raise BrokenAnswer(f"bytes after the image, at {at}")
     return image
 
 
@@ -51,7 +54,9 @@ def encode(machine: Machine, tables: Mapping[Chip, Iterable[Tuple[int, int, int]
     """The bytes that spell tables of a machine. Of each chip it takes the rows in the order in which the router looks, each a key,
     a mask and a route word (bits 0 to 5 the links, 6 to 23 the cores). A chip without rows may be left out. It spells what it is
     given: whether that is an image is for `check` to say."""
-    chips = [(chip, rows) for chip, rows in ((chip, list(tables[chip])) for chip in sorted(tables)) if rows]
+    one("encode: machine", machine, Machine)
+    listed = ((chip, lists_of_numbers(f"encode: tables[{chip}]", tables[chip], "key mask route")) for chip in sorted(tables))
+    chips = [(chip, rows) for chip, rows in listed if rows]
     parts = [MAGIC, struct.pack("<BBBBH", 1, machine.width, machine.height, machine.wrap, len(chips))]
     for (x, y), rows in chips:
         parts.append(struct.pack("<BBH", x, y, len(rows)))

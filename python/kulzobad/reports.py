@@ -3,13 +3,36 @@ from __future__ import annotations
 
 import re
 from dataclasses import dataclass, field
-from typing import Dict, List, Optional, Tuple
+from typing import Dict, List, Mapping, Optional, Tuple
+
+from .kinds import BrokenAnswer, InHexadecimal, shown
 
 LINKS = ("E", "NE", "N", "W", "SW", "S")
 
 FOUR_LINES = re.compile(
     r"gen (\d+)\nchips (\d+) vertices (\d+) nets (\d+) packets (\d+)\nrows (\d+)\ndelivered (\d+) dumped (\d+)\n"
 )
+
+# What items of lines look like: numbers, names, 8 hexadecimal digits, outputs and ports.
+N, NAME, HEX, OUT = r"(0|[1-9][0-9]{0,19})", r"([!-~]{1,64})", r"([0-9a-f]{8})", r"(?:E|NE|N|W|SW|S|c[0-9]|c1[0-7])"
+PLACE_OF_COPY = rf"(in (?:E|NE|N|W|SW|S|L)|hand {OUT}|core (?:[0-9]|1[0-9]|2[0-3]))"
+
+# The lines of a report by their first word, in the order in which they come.
+FORMS = {
+    word: [re.compile(form) for form in forms]
+    for word, forms in {
+        "place": [rf"place {NAME} {N} {N} {N}"],
+        "keys": [rf"keys {NAME} {HEX} {HEX}"],
+        "table": [rf"table {N} {N} ([1-9][0-9]{{0,3}})"],
+        "event": [rf"event {N} (moved|idle)"],
+        "got": [rf"got {NAME} {N} {HEX} ({HEX[1:-1]}|-)"],
+        "dump": [rf"dump {N} {N} ({OUT}) {N}"],
+        "wait": [rf"wait {N} at {N} {N} {PLACE_OF_COPY}"],
+        "end": [rf"end rows {N}", rf"end delivered {N} dumped {N} waiting {N} unsent {N}"],
+    }.items()
+}
+SECTIONS = tuple(FORMS)
+ROW = re.compile(rf"{HEX} {HEX} ([0-9a-f]{{6}})")
 
 
 def links_of(route: int) -> List[str]:
@@ -32,8 +55,8 @@ class Place:
     core: int
 
 
-@dataclass(frozen=True)
-class Keys:
+@dataclass(frozen=True, repr=False)
+class Keys(InHexadecimal):
     """A net's block of keys: those whose bits under the mask are `key`."""
 
     net: str
@@ -41,8 +64,8 @@ class Keys:
     mask: int
 
 
-@dataclass(frozen=True)
-class Row:
+@dataclass(frozen=True, repr=False)
+class Row(InHexadecimal):
     """An entry of a router's table."""
 
     key: int
@@ -59,8 +82,8 @@ class Table:
     rows: Tuple[Row, ...]
 
 
-@dataclass(frozen=True)
-class Delivery:
+@dataclass(frozen=True, repr=False)
+class Delivery(InHexadecimal):
     """A copy of a packet, by the packet's place in the job's list, that reached a vertex."""
 
     vertex: str
@@ -135,35 +158,112 @@ def read_summary(text: str) -> Summary:
     """Reads the four lines of a generated job."""
     found = FOUR_LINES.fullmatch(text)
     if not found:
-        raise ValueError(f"no four lines of a generated job: {text!r}")
+        raise BrokenAnswer(f"no four lines of a generated job: {shown(text, 200)}")
     return Summary(*map(int, found.groups()))
 
 
-def read(text: str) -> Report:
-    """Reads a report, or the text of `tables`, which has a plan alone."""
-    found = Report()
-    lines = iter(text.splitlines())
-    for line in lines:
-        word, *rest = line.split(" ")
+class Reading:
+    """The lines of a report, read one by one. Each fault is a ValueError that names the line."""
+
+    def __init__(self, text: str) -> None:
+        *self.lines, rest = text.split("\n")
+        self.at = 0
+        self.section = 0
+        self.found = Report()
+        if rest:
+            self.at = len(self.lines) + 1
+            raise self.wrong(rest, "it has no end")
+        if not self.lines:
+            raise BrokenAnswer("line 1: nothing is there, and a report ends with a line `end ..`")
+
+    def wrong(self, line: str, why: str) -> BrokenAnswer:
+        """The error of the line that was read last."""
+        return BrokenAnswer(f"line {self.at} is {shown(line)}: {why}")
+
+    def next(self) -> str:
+        """The next line, which has to be there."""
+        if self.at == len(self.lines):
+            raise BrokenAnswer(f"line {self.at + 1} is not there: the report was cut off behind {shown(self.lines[-1])}")
+        self.at += 1
+        return self.lines[self.at - 1]
+
+    def whole(self) -> Report:
+        """The report that all lines are."""
+        ended = False
+        while not ended:
+            line = self.next()
+            word = line.split(" ", 1)[0]
+            if word not in SECTIONS:
+                raise self.wrong(line, "no line of a report begins so")
+            if SECTIONS.index(word) < self.section:
+                raise self.wrong(line, f"it comes behind a line of {SECTIONS[self.section]}")
+            self.section = SECTIONS.index(word)
+            items = next((made for made in (form.fullmatch(line) for form in FORMS[word]) if made), None)
+            if items is None:
+                raise self.wrong(line, f"a line of {word} has another form")
+            ended = self.take(word, line, items.groups())
+        if self.at < len(self.lines):
+            line = self.next()
+            raise self.wrong(line, "it comes behind the last line of a report")
+        return self.found
+
+    def take(self, word: str, line: str, items: Tuple[str, ...]) -> bool:
+        """Takes a line, and says whether it is the last."""
+        found, plan = self.found, self.found.plan
         if word == "place":
-            found.plan.places[rest[0]] = Place(rest[0], *map(int, rest[1:]))
+            self.once(items[0], plan.places, line)
+            plan.places[items[0]] = Place(items[0], *map(int, items[1:]))
         elif word == "keys":
-            found.plan.keys[rest[0]] = Keys(rest[0], int(rest[1], 16), int(rest[2], 16))
+            self.once(items[0], plan.keys, line)
+            plan.keys[items[0]] = Keys(items[0], int(items[1], 16), int(items[2], 16))
         elif word == "table":
-            x, y, count = map(int, rest)
-            rows = tuple(Row(*(int(it, 16) for it in next(lines).split(" "))) for _ in range(count))
-            found.plan.tables[x, y] = Table(x, y, rows)
+            x, y, count = map(int, items)
+            if plan.tables and next(reversed(plan.tables)) >= (x, y):
+                raise self.wrong(line, "the chip does not come after the one before it")
+            plan.tables[x, y] = Table(x, y, tuple(self.row() for _ in range(count)))
         elif word == "event":
-            found.moved.append(rest[1] == "moved")
+            found.moved.append(items[1] == "moved")
+            if int(items[0]) != len(found.moved):
+                raise self.wrong(line, f"it should be event {len(found.moved)}")
         elif word == "got":
-            payload = None if rest[3] == "-" else int(rest[3], 16)
-            found.deliveries.append(Delivery(rest[0], int(rest[1]), int(rest[2], 16), payload))
+            payload = None if items[3] == "-" else int(items[3], 16)
+            found.deliveries.append(Delivery(items[0], int(items[1]), int(items[2], 16), payload))
         elif word == "dump":
-            found.dumps.append(Dump(int(rest[0]), int(rest[1]), rest[2], int(rest[3])))
+            found.dumps.append(Dump(int(items[0]), int(items[1]), items[2], int(items[3])))
         elif word == "wait":
-            found.waiting.append(Wait(int(rest[0]), int(rest[2]), int(rest[3]), rest[4], rest[5]))
-        elif word == "end" and rest[0] == "delivered":
-            found.unsent = int(rest[7])
-        elif word != "end":
-            raise ValueError(f"no line of a report: {line!r}")
-    return found
+            found.waiting.append(Wait(int(items[0]), int(items[1]), int(items[2]), *items[3].split(" ")))
+        else:
+            self.end(line, tuple(map(int, items)))
+        return word == "end"
+
+    def once(self, name: str, named: Mapping[str, object], line: str) -> None:
+        """A name stands in one line alone."""
+        if name in named:
+            raise self.wrong(line, "the name stands in a line before it")
+
+    def row(self) -> Row:
+        """A row of a table."""
+        line = self.next()
+        items = ROW.fullmatch(line)
+        if items is None:
+            raise self.wrong(line, "it is no row, and the table has more rows")
+        return Row(*(int(it, 16) for it in items.groups()))
+
+    def end(self, line: str, counts: Tuple[int, ...]) -> None:
+        """The last line, whose numbers have to be those of the lines before it."""
+        found = self.found
+        if len(counts) == 1:
+            if found.moved or found.deliveries or found.dumps or found.waiting:
+                raise self.wrong(line, "so ends the text of tables, which has no lines of copies or events")
+            wanted = (found.plan.rows,)
+        else:
+            found.unsent = counts[3]
+            wanted = (len(found.deliveries), len(found.dumps), len(found.waiting), found.unsent)
+        if counts != wanted:
+            raise self.wrong(line, f"before it are {', '.join(map(str, wanted[:3]))}")
+
+
+def read(text: str) -> Report:
+    """Reads a report, or the text of `tables`, which has a plan alone. ValueError, with the line, where it is not whole: it was cut
+    off, its last line has other numbers than there are lines, or a line has not the form or the place that it has in a report."""
+    return Reading(text).whole()

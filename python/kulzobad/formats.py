@@ -1,0 +1,464 @@
+"""Ways in and out: networks and tables as other tools have them. Nothing of these tools is imported.
+
+- the 16 bytes for each entry that SpiNNaker's system software takes to load a router, and keeps of one: `write_router_entries`,
+  `read_router_entries`;
+- the objects of Rig, by their attributes alone: `from_rig`, `to_rig`;
+- rows as text, as comma-separated values or as a plain dump: `read_rows`, `write_csv`, `write_dump`;
+- a network, that is a machine with places and nets, as JSON: `read_network`, `write_network`.
+"""
+from __future__ import annotations
+
+import csv
+import io
+import json
+import re
+import struct
+from dataclasses import dataclass, field
+from typing import Any, Callable, Dict, Hashable, Iterable, List, Mapping, NamedTuple, Optional, Sequence, Tuple, Union
+
+from .blocks import USUAL, WORD, block_of, cut
+from .grid import STEPS, Grid, opposite
+from .images import Image
+from .jobs import Chip, Job, Machine, Net, Vertex
+from .program import tables as compiled_tables
+from .reports import LINKS, Row, Table
+from .verifying import KeyedNet, Place, Rows, number_of, words_of
+from .walks import DEVICES
+
+ENTRY = struct.Struct("<HHIII")
+# Entries that are not in use have ones in the highest byte of their route.
+UNUSED = 0xFF000000
+COLUMNS = ("x", "y", "key", "mask", "route")
+
+RowsByChip = Dict[Chip, Tuple[Row, ...]]
+AnyTables = Union[Image, Mapping[Chip, Rows]]
+
+
+@dataclass
+class Network:
+    """A machine, places by the names of vertices, nets with their keys, tables by chip, and trees by the names of nets, if any: what
+    `verify` takes."""
+
+    machine: Machine
+    places: Dict[Any, Place] = field(default_factory=dict)
+    nets: List[KeyedNet] = field(default_factory=list)
+    tables: Dict[Chip, Sequence[Row]] = field(default_factory=dict)
+    trees: Dict[Any, List[Tuple[int, int, int]]] = field(default_factory=dict)
+
+    def __iter__(self) -> Any:
+        """What `verify` takes, in its order: `verify(*network)`."""
+        return iter((self.machine, self.places, self.nets, self.tables, self.trees))
+
+    def job(self, target: Optional[int] = None) -> Job:
+        """A job of the same machine and nets, whose vertices get the same places and whose nets get the same keys. Names that a job can't
+        have are replaced by `v` or `n` and a number. A net with several blocks becomes several, one for each; so does one whose mask is no
+        ones followed by zeros."""
+        numbers = {name: number_of(name, place)[2] for name, place in self.places.items()}
+        names = names_for(self.places, "v")
+        dead = {tuple(it) for it in self.machine.dead_cores}
+        taken = {(self.places[name][0], self.places[name][1], number) for name, number in numbers.items() if number < DEVICES}
+        dead |= {(x, y, core) for x, y in {it[:2] for it in taken} for core in range(1, 18) if (x, y, core) not in taken}
+        vertices = []
+        for name in sorted(self.places, key=lambda it: (self.places[it][:2], numbers[it])):
+            x, y = self.places[name][:2]
+            is_device = numbers[name] >= DEVICES
+            vertices.append(Vertex(names[name], device=(x, y, numbers[name] - DEVICES)) if is_device else Vertex(names[name], at=(x, y)))
+        nets, net_names = [], names_for([it.name for it in self.nets], "n")
+        for net in self.nets:
+            blocks = [part for it in net.blocks for part in cut(block_of(*it), USUAL.opened(it[1]))]
+            for i, block in enumerate(blocks):
+                name = net_names[net.name] if len(blocks) == 1 else f"{net_names[net.name]}.{i}"
+                nets.append(Net(name, names[net.source], [names[it] for it in net.targets], WORD - block.mask + 1, (block.key, block.mask)))
+        machine = Machine(
+            self.machine.width, self.machine.height, self.machine.wrap, None, self.machine.dead_chips, sorted(dead), self.machine.dead_links
+        )
+        return Job(machine, vertices, nets, target=target)
+
+
+def names_for(things: Iterable[Hashable], letter: str) -> Dict[Any, str]:
+    """A name of a job for each thing: its own where that is text that a job can have, else the letter and a number."""
+    listed = list(things)
+    found = {it: it for it in listed if isinstance(it, str) and re.fullmatch(r"[!-~]{1,56}", it)}
+    free = (f"{letter}{i}" for i in range(2 * len(listed) + 1) if f"{letter}{i}" not in found)
+    return {it: found[it] if it in found else next(free) for it in listed}
+
+
+def network_of_job(job: Job, program: Optional[str] = None) -> Network:
+    """The network of a job: the places and keys that the program gives, and its tables. Refused where the program does not compile the
+    job."""
+    plan = compiled_tables(job, program)
+    places: Dict[Any, Place] = {name: (it.x, it.y, it.core) for name, it in plan.places.items()}
+    nets = [KeyedNet(it.name, it.source, it.targets, [(plan.keys[it.name].key, plan.keys[it.name].mask)]) for it in job.nets]
+    return Network(job.machine, places, nets, {chip: table.rows for chip, table in plan.tables.items()})
+
+
+def rows_by_chip(tables: AnyTables) -> RowsByChip:
+    """Rows as objects, by chip."""
+    given = tables.tables if isinstance(tables, Image) else tables
+    return {chip: tuple(Row(*words_of(row)) for row in (it.rows if isinstance(it, Table) else it)) for chip, it in given.items()}
+
+
+# ---- the router's own entries
+
+
+def write_router_entries(tables: AnyTables) -> Dict[Chip, bytes]:
+    """The bytes that SpiNNaker's system software takes to load the router of each chip (`rtr_load`): 16 for each entry, in the order of
+    the rows. They are, each with its lowest byte first, the entry's place and a zero in 16 bits each, then route, key and mask in 32.
+    ValueError where a chip has more than 1,024 rows."""
+    found = {}
+    for chip, rows in rows_by_chip(tables).items():
+        if len(rows) > 1024:
+            raise ValueError(f"chip {chip} has {len(rows)} rows, and a router 1,024 entries")
+        found[chip] = b"".join(ENTRY.pack(i, 0, row.route, row.key, row.mask) for i, row in enumerate(rows))
+    return found
+
+
+def read_router_entries(entries: Mapping[Chip, bytes]) -> RowsByChip:
+    """The rows that such bytes spell, as they are loaded, or read back from a board. Entries that are not in use are left out: those with
+    ones in the highest byte of their route. ValueError where the bytes of a chip are no whole entries."""
+    found = {}
+    for chip, data in entries.items():
+        if len(data) % ENTRY.size:
+            raise ValueError(f"the {len(data)} bytes of chip {chip} are no whole entries of 16 bytes")
+        unpacked = [ENTRY.unpack_from(data, at) for at in range(0, len(data), ENTRY.size)]
+        found[chip] = tuple(Row(key, mask, route) for _, _, route, key, mask in unpacked if route & UNUSED != UNUSED)
+    return found
+
+
+# ---- Rig's objects
+
+
+@dataclass
+class RigMachine:
+    """A machine as Rig has it: a torus, of which what is not there is listed as dead."""
+
+    width: int
+    height: int
+    chip_resources: Dict[Any, int] = field(default_factory=dict)
+    chip_resource_exceptions: Dict[Chip, Dict[Any, int]] = field(default_factory=dict)
+    dead_chips: Any = field(default_factory=set)
+    dead_links: Any = field(default_factory=set)
+
+
+@dataclass(eq=False)
+class RigNet:
+    """A net as Rig has it: two are the same only where they are one."""
+
+    source: Any
+    sinks: List[Any]
+    weight: float = 1.0
+
+
+class RigEntry(NamedTuple):
+    """A row as Rig has it: its route is the set of the outputs, 0 to 5 for links and 6 to 23 for cores."""
+
+    route: Any
+    key: int
+    mask: int
+
+
+class RigEndpoint(NamedTuple):
+    """A vertex that hangs on a link, or stands on a core, by its number in routes."""
+
+    vertex: Any
+    route: int
+
+
+class Rig(NamedTuple):
+    """A network as Rig has it."""
+
+    machine: Any
+    placements: Dict[Any, Chip]
+    allocations: Dict[Any, Dict[Any, slice]]
+    nets: List[Any]
+    net_keys: Dict[Any, Tuple[int, int]]
+    routing_tables: Dict[Chip, List[Any]]
+    constraints: List[Any]
+
+
+def from_rig(
+    machine: Any,
+    placements: Mapping[Any, Chip],
+    allocations: Mapping[Any, Mapping[Any, slice]],
+    nets: Iterable[Any],
+    net_keys: Mapping[Any, Tuple[int, int]],
+    routing_tables: Mapping[Chip, Iterable[Any]],
+    constraints: Iterable[Any] = (),
+    cores: Any = None,
+) -> Network:
+    """The network of Rig's objects, by their attributes alone; `.job()` of it is a job with the same places and keys.
+
+    The machine has `width`, `height`, `chip_resources`, `chip_resource_exceptions`, `dead_chips` and `dead_links`; nets have `source`,
+    `sinks` and `weight`; rows have `route` as a set of numbers, `key` and `mask`. Names of vertices are the objects themselves, and names
+    of nets their places in the list. `cores` is the key for cores among resources; where it is None, it is the one that shows itself as
+    `Cores`. A vertex with several cores becomes as many, named (vertex, 0), (vertex, 1) and so on, all of them targets where the vertex is
+    a sink. Of constraints those count that have a `vertex` and a `route`: the vertex hangs on that link, or stands on that core. A link
+    that Rig lists as dead at one of its ends is dead from both. A vertex without cores has no place. ValueError where a net names one, or
+    has no keys."""
+    places: Dict[Any, Place] = {}
+    names: Dict[Any, List[Any]] = {}
+    endpoints = {it.vertex: int(it.route) for it in constraints if hasattr(it, "vertex") and hasattr(it, "route")}
+    for vertex, (x, y) in placements.items():
+        if vertex in endpoints:
+            route = endpoints[vertex]
+            places[vertex] = (x, y, LINKS[route] if route < 6 else route - 6)
+            names[vertex] = [vertex]
+            continue
+        ranges = [it for key, it in allocations.get(vertex, {}).items() if is_cores(key, cores)]
+        if len(ranges) != 1 or not 0 <= ranges[0].start < ranges[0].stop:
+            continue
+        listed = range(ranges[0].start, ranges[0].stop)
+        names[vertex] = [vertex] if len(listed) == 1 else [(vertex, i) for i in range(len(listed))]
+        places.update({name: (x, y, core) for name, core in zip(names[vertex], listed)})
+    found = []
+    for i, net in enumerate(nets):
+        for vertex in (net.source, *net.sinks):
+            if vertex not in names:
+                raise ValueError(f"vertex {vertex!r} of net {i} has no cores")
+        if net not in net_keys:
+            raise ValueError(f"net {i} has no keys")
+        found.append(KeyedNet(i, names[net.source][0], [name for it in net.sinks for name in names[it]], [tuple(net_keys[net])]))
+    tables = {
+        chip: tuple(Row(row.key, row.mask, sum(1 << out for out in {int(it) for it in row.route})) for row in rows)
+        for chip, rows in routing_tables.items()
+    }
+    return Network(machine_of_rig(machine, cores), places, found, tables)
+
+
+def is_cores(key: Any, cores: Any) -> bool:
+    """Whether a key of resources is that for cores."""
+    return key == cores if cores is not None else str(key).strip("<>") == "Cores"
+
+
+def machine_of_rig(machine: Any, cores: Any = None) -> Machine:
+    """The machine of one of Rig's: without wrap where no live link goes round the edge."""
+    dead_cores = []
+    usual = next((count for key, count in machine.chip_resources.items() if is_cores(key, cores)), 18)
+    exceptions = dict(getattr(machine, "chip_resource_exceptions", None) or {})
+    for x in range(machine.width):
+        for y in range(machine.height):
+            resources = exceptions.get((x, y), {})
+            count = next((it for key, it in resources.items() if is_cores(key, cores)), usual)
+            dead_cores += [(x, y, core) for core in range(max(count, 0), 18)]
+    chips = sorted((x, y) for x, y in machine.dead_chips)
+    links = sorted((x, y, int(link)) for x, y, link in machine.dead_links)
+    torus = Machine(machine.width, machine.height, True, None, chips, dead_cores, links)
+    grid, round_the_edge = Grid(torus), set(links_round_the_edge(machine.width, machine.height))
+    if any(grid.next_chip((x, y), link) is not None for x, y, link in round_the_edge):
+        return torus
+    return Machine(machine.width, machine.height, False, None, chips, dead_cores, [it for it in links if it not in round_the_edge])
+
+
+def links_round_the_edge(width: int, height: int) -> List[Tuple[int, int, int]]:
+    """The links of a torus that a grid of this size has not."""
+    chips = [(x, y) for x in range(width) for y in range(height)]
+    return [(x, y, d) for x, y in chips for d, (a, b) in enumerate(STEPS) if not (0 <= x + a < width and 0 <= y + b < height)]
+
+
+def to_rig(
+    network: Network,
+    cores: Any = "Cores",
+    machine: Callable[..., Any] = RigMachine,
+    net: Callable[..., Any] = RigNet,
+    entry: Callable[..., Any] = RigEntry,
+    endpoint: Callable[..., Any] = RigEndpoint,
+) -> Rig:
+    """A network as Rig has it. `cores` is the key for cores among resources, and the others make the objects, with the arguments that
+    Rig's own classes take: `to_rig(network, Cores, Machine, Net, RoutingTableEntry, RouteEndpointConstraint)`. ValueError where a net has
+    several blocks of keys, which Rig's have not."""
+    part = network.machine
+    dead_links = {tuple(it) for it in part.dead_links}
+    dead_links |= {(*far, opposite(d)) for x, y, d in dead_links for far in [Grid(part).far((x, y), d)] if far}
+    if not part.wrap:
+        dead_links |= set(links_round_the_edge(part.width, part.height))
+    least: Dict[Chip, int] = {}
+    for x, y, core in part.dead_cores:
+        least[x, y] = min(core, least.get((x, y), 18))
+    dead_cores = {tuple(it) for it in part.dead_cores}
+    for (x, y), core in least.items():
+        if any((x, y, it) not in dead_cores for it in range(core, 18)):
+            raise ValueError(f"core {core} of chip ({x}, {y}) is dead, and one behind it is not: of Rig's chips the last cores are missing")
+    exceptions = {chip: {cores: core} for chip, core in least.items()}
+    made = machine(part.width, part.height, {cores: 18}, exceptions, {tuple(it) for it in part.dead_chips}, dead_links)
+    placements, allocations, constraints = {}, {}, []
+    for name, place in network.places.items():
+        placements[name], number = place[:2], number_of(name, place)[2]
+        if number >= DEVICES:
+            constraints.append(endpoint(name, number - DEVICES))
+            allocations[name] = {}
+        else:
+            allocations[name] = {cores: slice(number, number + 1)}
+    nets, net_keys = [], {}
+    for it in network.nets:
+        if len(it.blocks) != 1:
+            raise ValueError(f"net {it.name!r} has {len(it.blocks)} blocks of keys, and Rig's nets have one")
+        nets.append(net(it.source, list(it.targets), 1.0))
+        net_keys[nets[-1]] = tuple(it.blocks[0])
+    tables = {
+        chip: [entry({out for out in range(24) if row.route >> out & 1}, row.key, row.mask) for row in rows]
+        for chip, rows in rows_by_chip(network.tables).items()
+    }
+    return Rig(made, placements, allocations, nets, net_keys, tables, constraints)
+
+
+# ---- rows as text
+
+
+def number_in(text: str, least_base: int = 10) -> int:
+    """A number of digits, or of 0x and hexadecimal digits. ValueError where it is none."""
+    if least_base == 16 and re.fullmatch(r"[0-9a-fA-F]+", text):
+        return int(text, 16)
+    if re.fullmatch(r"[0-9]+", text):
+        return int(text)
+    if re.fullmatch(r"0[xX][0-9a-fA-F]+", text):
+        return int(text, 16)
+    raise ValueError(f"no number: {text!r}")
+
+
+def read_rows(text: str) -> RowsByChip:
+    """Rows of text, in the order of its lines: comma-separated values where the first line has a comma, else a dump."""
+    return read_csv(text) if "," in text.lstrip().partition("\n")[0] else read_dump(text)
+
+
+def read_csv(text: str) -> RowsByChip:
+    """Rows of comma-separated values, below a line with the names x, y, key, mask and route in any order. Numbers are decimal, or
+    hexadecimal behind 0x. ValueError where the names are others or a line has no such numbers."""
+    lines = [line for line in csv.reader(io.StringIO(text), skipinitialspace=True)]
+    names = [it.strip() for it in lines[0]] if lines else []
+    if sorted(names) != sorted(COLUMNS):
+        raise ValueError(f"the first line names {', '.join(names) or 'nothing'}, and not {', '.join(COLUMNS)}")
+    return rows_of(((i, dict(zip(names, map(str.strip, line))), len(line)) for i, line in enumerate(lines) if i and line), 10)
+
+
+def read_dump(text: str) -> RowsByChip:
+    """Rows of a dump: a line for each, with the chip in decimal numbers and then key, mask and route in hexadecimal digits. ValueError
+    where a line has no such numbers."""
+    lines = ((i, line.split()) for i, line in enumerate(text.splitlines()))
+    return rows_of(((i, dict(zip(COLUMNS, line)), len(line)) for i, line in lines if line), 16)
+
+
+def rows_of(lines: Iterable[Tuple[int, Mapping[str, str], int]], base: int) -> RowsByChip:
+    """The rows of lines: each with its place, the items by their names, and how many there are."""
+    found: Dict[Chip, List[Row]] = {}
+    for i, items, count in lines:
+        try:
+            if count != len(COLUMNS):
+                raise ValueError(f"{count} items, and not {len(COLUMNS)}")
+            x, y = (number_in(items[name]) for name in COLUMNS[:2])
+            row = Row(*(number_in(items[name], base) for name in COLUMNS[2:]))
+        except ValueError as error:
+            raise ValueError(f"line {i + 1}: {error}") from None
+        found.setdefault((x, y), []).append(row)
+    return {chip: tuple(rows) for chip, rows in found.items()}
+
+
+def write_csv(tables: AnyTables) -> str:
+    """Rows as comma-separated values, with keys, masks and routes in hexadecimal."""
+    lines = [",".join(COLUMNS)]
+    lines += [f"{x},{y},0x{it.key:08x},0x{it.mask:08x},0x{it.route:06x}" for (x, y), rows in rows_by_chip(tables).items() for it in rows]
+    return "\n".join([*lines, ""])
+
+
+def write_dump(tables: AnyTables) -> str:
+    """Rows as a dump."""
+    return "".join(f"{x} {y} {it.key:08x} {it.mask:08x} {it.route:06x}\n" for (x, y), rows in rows_by_chip(tables).items() for it in rows)
+
+
+# ---- networks as JSON
+
+
+def read_network(text: str) -> Network:
+    """The network that JSON text has. It is an object with these members:
+
+    - `machine`: as in a job;
+    - `places`: an object that has, by the names of vertices, [x, y, core], or [x, y, "N"] for a device on that link;
+    - `nets`: a list of objects with `name`, `source`, `targets`, and either `blocks`, a list of [key, mask], or `first` and `count`;
+    - `trees`, which may be absent: an object that has, by the names of nets, lists of links [x, y, link].
+
+    Keys and masks are numbers, or text as "0x1000". ValueError says of other text where it is none."""
+    whole = json.loads(text)
+    members(whole, "", ("machine", "places", "nets"), ("trees",))
+    part = whole["machine"]
+    names = ("width", "height", "wrap", "sdram", "dead_chips", "dead_cores", "dead_links")
+    members(part, "machine", names[:2], names[2:])
+    lists = [[tuple(it) for it in listed(part.get(name), f"machine.{name}", (list,))] for name in names[4:]]
+    try:
+        machine = Machine(part["width"], part["height"], part.get("wrap") or False, part.get("sdram"), *lists)
+    except TypeError as error:
+        raise ValueError(str(error)) from None
+    members(whole["places"], "places", (), None)
+    places: Dict[Any, Place] = {}
+    for name, it in whole["places"].items():
+        x, y, number = listed(it, f"places.{name}", (int, str), 3)
+        places[name] = (x, y, number)
+    nets = [net_of(it, f"nets[{i}]") for i, it in enumerate(listed(whole["nets"], "nets", (dict,)))]
+    trees = whole.get("trees") or {}
+    members(trees, "trees", (), None)
+    return Network(machine, places, nets, {}, {name: links_of_text(links, f"trees.{name}") for name, links in trees.items()})
+
+
+def links_of_text(value: Any, path: str) -> List[Tuple[int, int, int]]:
+    """The links that a JSON value has."""
+    return [(x, y, d) for x, y, d in (listed(it, path, (int,), 3) for it in listed(value, path, (list,)))]
+
+
+def net_of(part: Any, path: str) -> KeyedNet:
+    """The net that a JSON value has."""
+    members(part, path, ("name", "source", "targets"), ("blocks", "first", "count"))
+    if not all(isinstance(part[name], str) for name in ("name", "source")):
+        raise ValueError(f"{path}: name and source are texts")
+    name, source, targets = part["name"], part["source"], listed(part["targets"], f"{path}.targets", (str,))
+    if ("blocks" in part) == ("first" in part) or ("first" in part) != ("count" in part):
+        raise ValueError(f"{path} has either blocks, or first and count")
+    if "first" in part:
+        return KeyedNet.counted(name, source, targets, word_in(part["first"], f"{path}.first"), word_in(part["count"], f"{path}.count"))
+    blocks = [listed(it, f"{path}.blocks", (int, str), 2) for it in listed(part["blocks"], f"{path}.blocks", (list,))]
+    return KeyedNet(name, source, targets, [(word_in(key, f"{path}.blocks"), word_in(mask, f"{path}.blocks")) for key, mask in blocks])
+
+
+def word_in(value: Any, path: str) -> int:
+    """A number, or one as text."""
+    if isinstance(value, int) and not isinstance(value, bool):
+        return value
+    try:
+        return number_in(value)
+    except (TypeError, ValueError):
+        raise ValueError(f"{path}: no number: {value!r}") from None
+
+
+def members(part: Any, path: str, needed: Sequence[str], others: Optional[Sequence[str]]) -> None:
+    """ValueError where a value is no object, lacks a member, or has one that is neither needed nor among the others; None stands for
+    any."""
+    where = path or "the network"
+    if not isinstance(part, dict):
+        raise ValueError(f"{where} is no object")
+    for name in needed:
+        if name not in part:
+            raise ValueError(f"{where} has no {name}")
+    for name in part:
+        if others is not None and name not in (*needed, *others):
+            raise ValueError(f"{where} has a member {name}, which is none of {', '.join((*needed, *others))}")
+
+
+def listed(value: Any, path: str, kinds: Tuple[type, ...], count: Optional[int] = None) -> List[Any]:
+    """A list of values of these kinds, and of so many; where it is absent and any number will do, an empty one."""
+    if value is None and count is None:
+        return []
+    if not isinstance(value, list) or (count is not None and len(value) != count):
+        raise ValueError(f"{path} is no list" + ("" if count is None else f" of {count}"))
+    if not all(isinstance(it, kinds) and not isinstance(it, bool) for it in value):
+        raise ValueError(f"{path} has an item of another kind: {value!r}")
+    return value
+
+
+def write_network(network: Network) -> str:
+    """A network as JSON text, without its tables."""
+    nets: List[Dict[str, Any]] = []
+    for it in network.nets:
+        blocks = [[f"0x{key:08x}", f"0x{mask:08x}"] for key, mask in it.blocks]
+        nets.append({"name": it.name, "source": it.source, "targets": list(it.targets), "blocks": blocks})
+    places = {name: list(place) for name, place in network.places.items()}
+    whole: Dict[str, Any] = {"machine": network.machine.as_json(), "places": places, "nets": nets}
+    if network.trees:
+        whole["trees"] = {name: [list(link) for link in links] for name, links in network.trees.items()}
+    return json.dumps(whole)

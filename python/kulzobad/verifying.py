@@ -1,0 +1,534 @@
+"""Whether tables, whoever made them, bring each key of each net to just the net's targets.
+
+    from kulzobad import KeyedNet, Machine, verify
+
+    places = {"eye": (0, 0, 1), "left": (1, 0, 3), "motor": (1, 0, "N")}
+    nets = [KeyedNet("spikes", "eye", ["left", "motor"], [(0x1000, 0xFFFFFFF0)])]
+    print(verify(Machine(2, 1), places, nets, {(0, 0): [(0x1000, 0xFFFFFFF0, 0x1)], (1, 0): [(0x1000, 0xFFFFFFF0, 0x204)]}))
+
+What the program's `check` asks of a job, and so what is done here before it is asked:
+
+- It places the job's vertices by its own rule. A vertex with a chip gets the chip's least free core, so each vertex is asked for with
+  its chip, vertices in the order of their cores, and every other core of these chips is listed dead: there is one core left for each.
+- Keys are fixed blocks, whose masks are ones followed by zeros, and no two share a key. A block with another mask is asked for in
+  parts that are such blocks, each as a net of its own; where that would be many parts, the bits of all words of a request change their
+  places in the same way, so that its masks become such. Nets that share keys are asked for in several requests.
+- A tree is good if its links are live, none leads into the source's chip and no two into one chip, all of them can be reached from the
+  source's chip, and its ends are chips of targets, all of which it has. So packets that cross each other's way at a chip have no tree.
+- `split` is its answer where the first row that meets a net's block takes some of its keys and not all: this it does not decide. Here
+  each block is cut first by the rows that it meets on its way, always at the highest bit that the row cares for and the block does not.
+  Where the answer still comes, the block is cut by the row that it names, and the rest is asked again. There are as many parts as rows
+  cut out of the net: few where nets have keys by population and neuron. A net of 2^32 keys, and rows that care for bits here and there,
+  may be millions.
+- A request has at most 4,096 nets, 16,384 vertices and 16 MiB. More goes into several requests, each with all rows; where all rows
+  together are too many for a request, with those of the chips that the request's trees have; and of a block that is too much for one
+  even then, with the rows that its keys meet, up to the first that takes all of them. The whole is right if all answers are.
+- An image has no rows that send nowhere, and none whose key has a bit outside the mask. The latter match no packet and are left out.
+  The former become rows to core 0, which no vertex has, so that no tree wants what they say.
+- A device sends no packets in a job. Where one is a net's source, the net's packets come in by its link. Only where no row of that chip
+  takes them is that not the same as from a core: then a last row is added there that sends these keys straight on.
+
+`Right()` is given only where the program said `right` to each part. An answer that names a key was found by walking this key from its
+source over the rows, and has its way.
+"""
+from __future__ import annotations
+
+from dataclasses import dataclass
+from operator import index
+from typing import Any, Dict, Hashable, Iterable, Iterator, List, Mapping, Optional, Sequence, Set, Tuple, Union
+
+from . import asking
+from .asking import ENTRIES, Batch, KnownNet, Part, Wire, Words, answer_to, bytes_of_rows, compact, layers, met
+from .blocks import USUAL, WORD, Block, Meeting, Order, block_of, blocks_of_range, cut, halves, order_of
+from .checks import BadImage, BadTree, Right, Split, Verdict, Wrong
+from .grid import Grid
+from .images import Image
+from .jobs import Chip, Machine, Net
+from .kinds import lists_of_numbers, numbers
+from .reports import LINKS, Table
+from .trees import Link
+from .verdicts import KINDS, Foreign, Full, Misses, Note, OffTree, OffTrees, TooLong, Unmet
+from .walks import DEVICES, MISSES, Hops, Row, Spot, Walk, Walker, straight_on
+
+Name = Hashable
+# Where a vertex stands: a chip and a core from 1 to 17; of a device a chip and a link, by its letters or as 18 and its number.
+Place = Tuple[int, int, Union[int, str]]
+Rows = Union[Table, Iterable[Any]]
+Tables = Union[Image, Mapping[Chip, Rows]]
+Places = Mapping[Any, Place]
+Trees = Mapping[Any, Iterable[Link]]
+
+MOST_BYTES = 2**24
+# Of the bytes of a request, so many are left for what is not counted one by one.
+SPARE = 65536
+# Rows of all chips go into each request as long as they take no more bytes than this.
+MOST_FOR_ROWS = 11 * 2**20
+# A block is cut into as many parts as this for its mask; where it would be more, bits change places.
+MOST_PARTS = 64
+
+
+@dataclass
+class KeyedNet:
+    """A net whose keys are known: its name, its source, its targets, and blocks of keys, each a key and a mask with any bits."""
+
+    name: Name
+    source: Name
+    targets: Sequence[Name]
+    blocks: Sequence[Tuple[int, int]]
+
+    @classmethod
+    def counted(cls, name: Name, source: Name, targets: Sequence[Name], first: int, count: int) -> "KeyedNet":
+        """A net with `count` keys from `first` on. ValueError where there are none, or some beyond 32 bits."""
+        return cls(name, source, targets, list(blocks_of_range(first, count)))
+
+
+# ---- what is handed in
+
+
+def number_of(name: Name, place: Place) -> Spot:
+    """A place as numbers: a device's link is 18 and the link's number. ValueError where its letters are no link's."""
+    *chip, last = place
+    if isinstance(last, str):
+        if last not in LINKS:
+            raise ValueError(f"{name!r} hangs on {last!r}, which is none of the links {', '.join(LINKS)}")
+        last = DEVICES + LINKS.index(last)
+    x, y, number = numbers(f"the place of {name!r}", (*chip, last), "x y number")
+    return x, y, number
+
+
+def spot_of(name: Name, place: Place, machine: Machine, grid: Grid) -> Spot:
+    """The spot of a vertex. ValueError where nothing can stand there."""
+    x, y, number = number_of(name, place)
+    if not grid.has((x, y)):
+        raise ValueError(f"{name!r} stands outside the grid, at ({x}, {y})")
+    if not grid.is_live((x, y)):
+        raise ValueError(f"{name!r} stands on the dead chip ({x}, {y})")
+    if number >= DEVICES:
+        if number >= DEVICES + 6:
+            raise ValueError(f"{name!r} stands at {number}, which is no core and no link")
+        if grid.next_chip((x, y), number - DEVICES) is not None:
+            raise ValueError(f"the device {name!r} hangs on the live link {LINKS[number - DEVICES]} of ({x}, {y})")
+    elif not 1 <= number <= 17:
+        raise ValueError(f"{name!r} stands on core {number}, and vertices stand on cores 1 to 17")
+    return x, y, number
+
+
+def spots_of(machine: Machine, grid: Grid, places: Places) -> Dict[Any, Spot]:
+    """The spots of all vertices. ValueError where one can't stand where it does, or two stand at one place."""
+    dead, taken, found = {tuple(it) for it in machine.dead_cores}, {}, {}
+    for name, place in places.items():
+        spot = spot_of(name, place, machine, grid)
+        if spot in dead:
+            raise ValueError(f"{name!r} stands on the dead core {spot[2]} of ({spot[0]}, {spot[1]})")
+        if spot in taken:
+            raise ValueError(f"{name!r} and {taken[spot]!r} stand at one place, {spot}")
+        taken[spot] = name
+        found[name] = spot
+    return found
+
+
+def known_nets(nets: Iterable[Union[KeyedNet, Net]], spots: Mapping[Any, Spot]) -> List[KnownNet]:
+    """The nets by the spots of their vertices. ValueError where a net has no keys or no targets, a vertex has no place, or two nets have
+    one name."""
+    found: List[KnownNet] = []
+    names: Set[Any] = set()
+    for net in nets:
+        if net.name in names:
+            raise ValueError(f"two nets are called {net.name!r}")
+        names.add(net.name)
+        if isinstance(net, Net) and net.fixed is None:
+            raise ValueError(f"net {net.name!r} has no keys: `fixed` says which")
+        blocks = [net.fixed] if isinstance(net, Net) else list(net.blocks)
+        if isinstance(net.targets, str) or not net.targets or not blocks:
+            raise ValueError(f"net {net.name!r} needs a list of targets and a list of blocks of keys, with one of each at least")
+        for name in (net.source, *net.targets):
+            if name not in spots:
+                raise ValueError(f"{name!r}, of net {net.name!r}, has no place")
+        if len(set(net.targets)) >= asking.MOST_VERTICES:
+            raise ValueError(f"net {net.name!r} has more targets than a request can name: {len(net.targets)}")
+        targets = {spots[name]: name for name in net.targets}
+        found.append(KnownNet(len(found), net.name, spots[net.source], targets, [block_of(*it) for it in blocks]))
+    return found
+
+
+def known_links(name: Any, links: Iterable[Link], grid: Grid) -> List[Link]:
+    """The links of a net's tree. ValueError where one is none of the grid's."""
+    found = []
+    for x, y, link in lists_of_numbers(f"the tree of {name!r}", links, "x y link"):
+        if not grid.has((x, y)) or not 0 <= link <= 5:
+            raise ValueError(f"the tree of {name!r} has ({x}, {y}, {link}), which is no link of the grid")
+        found.append((x, y, link))
+    return found
+
+
+def words_of(row: Any) -> Words:
+    """Key, mask and route of a row, which has them as items or under these names."""
+    key, mask, route = (row.key, row.mask, row.route) if hasattr(row, "route") else row
+    return key, mask, route
+
+
+def known_rows(tables: Tables, grid: Grid) -> Dict[Chip, List[Row]]:
+    """The rows that can match, by chip. ValueError where a chip lies outside the grid, or a row has words of more than 32 bits."""
+    found: Dict[Chip, List[Row]] = {}
+    given = tables.tables if isinstance(tables, Image) else tables
+    for chip in sorted(given):
+        if not grid.has(chip):
+            raise ValueError(f"chip {chip} has rows, and lies outside the grid")
+        listed = given[chip]
+        rows = []
+        for place, row in enumerate(listed.rows if isinstance(listed, Table) else listed):
+            try:
+                key, mask, route = map(index, words_of(row))
+            except (TypeError, ValueError):
+                raise TypeError(f"row {place} of chip {chip} is {row!r}, and should be a key, a mask and a route") from None
+            if min(key, mask, route) < 0 or max(key, mask, route) > WORD:
+                raise ValueError(f"row {place} of chip {chip} has no words of 32 bits: {row!r}")
+            if not key & ~mask:
+                rows.append(Row(key, mask, route, place))
+        if rows:
+            found[chip] = rows
+    return found
+
+
+# ---- the question
+
+
+class Verifier:
+    """A question about tables: what `verify` and `notes` say of a machine, places, nets and tables. ValueError where places, nets and
+    rows are none on this machine."""
+
+    def __init__(
+        self,
+        machine: Machine,
+        places: Places,
+        nets: Iterable[Union[KeyedNet, Net]],
+        tables: Tables,
+        trees: Optional[Trees] = None,
+        program: Optional[str] = None,
+    ) -> None:
+        self.machine, self.program = machine, program
+        self.grid = Grid(machine)
+        self.spots = spots_of(machine, self.grid, places)
+        self.nets = known_nets(nets, self.spots)
+        self.rows = known_rows(tables, self.grid)
+        unknown = set(trees or ()) - {net.name for net in self.nets}
+        if unknown:
+            raise ValueError(f"trees of nets that are none: {', '.join(sorted(map(repr, unknown)))}")
+        self.trees = {name: known_links(name, links, self.grid) for name, links in (trees or {}).items()}
+        self.walker = Walker(self.grid, self.rows, set(self.spots.values()))
+        # How many requests were made, and how many parts they asked for.
+        self.requests = self.asked = 0
+        self._link_texts: Dict[Link, str] = {}
+        self._wire = Wire(machine, USUAL)
+        size = sum(map(bytes_of_rows, self.rows.values()))
+        self._has_all_rows = size <= MOST_FOR_ROWS
+        self._room = MOST_BYTES - SPARE - len(compact(machine.as_json())) - (size if self._has_all_rows else 0)
+        self._all_rows: Optional[str] = None
+        # Of each chip that packets come to, the places of rows that take them, and the nets of these packets; None stands for default
+        # routing. It is whole once all nets were walked.
+        self._takers: Dict[Chip, Dict[Optional[int], Set[int]]] = {}
+        self._has_all_takers = self._are_rows_judged = False
+        # What is to be asked for in the usual order of bits, and what has other masks.
+        self._usual = self._batch()
+        self._others: List[Batch] = []
+
+    def _batch(self) -> Batch:
+        return Batch(self.rows, self._has_all_rows)
+
+    # -- walks
+
+    def walk(self, net: KnownNet, block: Block) -> Walk:
+        """The walk of a block of a net."""
+        return self.walker.walk(net.source, list(net.targets), block)
+
+    def told(self, net: KnownNet, key: int) -> Optional[Verdict]:
+        """What is amiss with a key of a net, if anything."""
+        walk = self.walk(net, Block(key, WORD))
+        if walk.fault == MISSES:
+            assert walk.target is not None
+            return Misses(net.name, key, net.targets[walk.target], walk.way())
+        return KINDS[walk.fault](net.name, key, walk.way()) if walk.fault else None
+
+    def parts_of(self, net: KnownNet, block: Block) -> Iterator[Union[Part, Verdict]]:
+        """The parts of a block, each of which every row on its way takes or leaves as a whole, with their trees; and what is amiss in place
+        of the first part with which something is."""
+        ahead = [block]
+        while ahead:
+            block = ahead.pop()
+            walk = self.walk(net, block)
+            if walk.cut is not None:
+                ahead += reversed(halves(block, walk.cut.mask))
+            elif walk.fault:
+                found = self.told(net, block.key)
+                assert found is not None
+                yield found
+                return
+            else:
+                self._note_takers(net, walk)
+                came = straight_on(net.source)
+                yield Part(net, block, self.trees.get(net.name, walk.links), 1 << came if came >= 0 and walk.rows[0] is None else None)
+
+    # -- the verdict
+
+    def verdict(self) -> Verdict:
+        """`Right`, or what is amiss with the first net that something is amiss with."""
+        for chip, rows in self.rows.items():
+            if len(rows) > ENTRIES:
+                return TooLong(*chip, len(rows))
+        self._judge_rows()
+        for net in self.nets:
+            for block in net.blocks:
+                found = self._take(net, block)
+                if found is not None:
+                    return found
+        self._has_all_takers = True
+        while self._usual.parts or self._others:
+            found = self._ask_usual() if self._usual.parts else self._ask_other(self._others[0])
+            if found is not None:
+                return found
+        return Right()
+
+    def _take(self, net: KnownNet, block: Block) -> Optional[Verdict]:
+        """Walks a block, and asks for its parts where there are many. What is amiss, if anything."""
+        for part in self.parts_of(net, block):
+            found = part if isinstance(part, Verdict) else self._add(part)
+            if found is not None:
+                return found
+        return None
+
+    def _add(self, part: Part) -> Optional[Verdict]:
+        """Puts a part among those that are to be asked for, and asks for them where they are many."""
+        opened = USUAL.opened(part.block.mask)
+        if 1 << bin(opened).count("1") <= MOST_PARTS:
+            self._usual.add(part, list(cut(part.block, opened)))
+            return self._ask_usual() if self._is_full(self._usual) else None
+        batch = next((it for it in self._others if it.fits(part.block.mask)), None)
+        if batch is None:
+            batch = self._batch()
+            self._others.append(batch)
+        batch.add(part, [part.block])
+        return self._ask_other(batch) if self._is_full(batch) else None
+
+    def _is_full(self, batch: Batch) -> bool:
+        return len(batch.parts) >= asking.MOST_NETS - MOST_PARTS or batch.is_over(self._room * 3 // 4)
+
+    def _ask_usual(self) -> Optional[Verdict]:
+        batch, self._usual = self._usual, self._batch()
+        return self._ask(batch.parts, USUAL)
+
+    def _ask_other(self, batch: Batch) -> Optional[Verdict]:
+        self._others.remove(batch)
+        return self._ask(batch.parts, order_of(list(batch.masks)))
+
+    def _ask(self, parts: Sequence[Part], order: Order) -> Optional[Verdict]:
+        """Asks for parts, in as many requests as they need. What is amiss, if anything."""
+        for layer in layers(parts, order):
+            batch = self._batch()
+            for part in layer:
+                batch.add(part, [part.block])
+                if batch.is_over(self._room) and len(batch.parts) > 1:
+                    found = self._decide(batch.parts[:-1], order)
+                    if found is not None:
+                        return found
+                    batch = self._batch()
+                    batch.add(part, [part.block])
+            found = self._decide(batch.parts, order)
+            if found is not None:
+                return found
+        return None
+
+    def _decide(self, parts: List[Part], order: Order) -> Optional[Verdict]:
+        """Asks for parts that one request has room for, again and again as long as one of them is split, which then is cut. What is amiss,
+        if anything."""
+        while parts:
+            rows = self._rows_for(parts)
+            verdict = self._answer(parts, rows, order)
+            if isinstance(verdict, Right):
+                return None
+            if not isinstance(verdict, (Split, Wrong, BadTree)):
+                raise RuntimeError(f"the program answers {verdict} to rows that it has taken")
+            place = int(verdict.net[1:])
+            part = parts[place]
+            if isinstance(verdict, Split):
+                row = rows[verdict.x, verdict.y][verdict.row]
+                parts = parts[:place] + parts[place + 1:]
+                for half in halves(part.block, row[1]):
+                    found = self._take(part.net, half)
+                    if found is not None:
+                        return found
+                continue
+            return self._amiss(part, verdict, order)
+        return None
+
+    def _amiss(self, part: Part, verdict: Union[Wrong, BadTree], order: Order) -> Verdict:
+        """What the program's answer says in terms of a way."""
+        has_tree = part.net.name in self.trees
+        if isinstance(verdict, BadTree):
+            if has_tree:
+                return BadTree(part.net.name)
+            raise RuntimeError(f"net {part.net.name!r}: the program takes no tree that a walk has found")
+        key = order.back(verdict.key)
+        found = self.told(part.net, key)
+        if found is None and has_tree:
+            return OffTree(part.net.name, key, self._way_off(part, key))
+        if found is None:
+            raise RuntimeError(f"net {part.net.name!r}: the program says that {key:08x} goes wrong at ({verdict.x}, {verdict.y})")
+        return found
+
+    def _way_off(self, part: Part, key: int) -> Hops:
+        """The way to the first chip at which a key leaves its tree."""
+        walk = self.walk(part.net, Block(key, WORD))
+        tree, made = set(part.links), set(walk.links)
+        apart = {link[:2] for link in tree ^ made}
+        off = next(at for at, chip in enumerate(walk.chips) if chip in apart)
+        link = next((d for d in range(6) if (*walk.chips[off], d) in made - tree), None)
+        return walk.way_to(off, None if link is None else LINKS[link])
+
+    # -- notes
+
+    def notes(self) -> List[Note]:
+        """What `notes` says."""
+        self._walk_for_takers()
+        takers, meeting = self._takers, Meeting((block, net.place) for net in self.nets for block in net.blocks)
+        found: List[Note] = []
+        for chip, rows in self.rows.items():
+            if len(rows) > ENTRIES - 1:
+                found.append(Full(*chip, len(rows)))
+            if chip not in takers:
+                found.append(OffTrees(*chip, len(rows)))
+            here = takers.get(chip, {})
+            come: Set[int] = set().union(*here.values())
+            for row in rows:
+                nets = meeting.of(Block(row.key, row.mask))
+                if row.place in here:
+                    stranger = next((it for it in nets if it not in come), None)
+                    if stranger is not None:
+                        found.append(Foreign(self.nets[stranger].name, *chip, row.place, self.nets[min(here[row.place])].name))
+                elif next(nets, None) is None:
+                    found.append(Unmet(*chip, row.place))
+        return found
+
+    def _walk_for_takers(self) -> None:
+        """Walks all nets, if that was not done."""
+        if not self._has_all_takers:
+            self._judge_rows()
+        for net in self.nets if not self._has_all_takers else ():
+            ahead = list(net.blocks)
+            while ahead:
+                block = ahead.pop()
+                walk = self.walk(net, block)
+                if walk.cut is not None:
+                    ahead += halves(block, walk.cut.mask)
+                else:
+                    self._note_takers(net, walk)
+        self._has_all_takers = True
+
+    def _note_takers(self, net: KnownNet, walk: Walk) -> None:
+        """Notes which rows take packets of a net."""
+        for chip, row in zip(walk.chips, walk.rows):
+            self._takers.setdefault(chip, {}).setdefault(None if row is None else row.place, set()).add(net.place)
+
+    # -- requests
+
+    def _judge_rows(self) -> None:
+        """Asks whether the machine and the rows are such at all, once. ValueError where a row is none."""
+        if self._are_rows_judged:
+            return
+        chips: List[Chip] = []
+        size = 0
+        for chip in [*self.rows, None]:
+            size += bytes_of_rows(self.rows[chip]) if chip else 0
+            if chip is None or size > MOST_FOR_ROWS:
+                listed = {it: [row[:3] for row in self.rows[it]] for it in chips}
+                verdict = self._answer([], listed, USUAL)
+                if isinstance(verdict, BadImage):
+                    raise ValueError(self._bad_row(chips, verdict.at))
+                if not isinstance(verdict, Right):
+                    raise RuntimeError(f"the program answers {verdict} to rows without nets")
+                chips, size = [], bytes_of_rows(self.rows[chip]) if chip else 0
+            if chip is not None:
+                chips.append(chip)
+        self._are_rows_judged = True
+
+    def _bad_row(self, chips: Sequence[Chip], at: int) -> str:
+        """Which row stands at this byte of an image of these chips."""
+        start = 10
+        for chip in chips:
+            place, start = (at - start - 4) // 12, start + 4 + 12 * len(self.rows[chip])
+            if at < start:
+                row = self.rows[chip][max(place, 0)]
+                return f"row {row.place} of chip {chip} is none that a router has: {row.key:08x} {row.mask:08x} {row.route:06x}"
+        return f"the rows are none that routers have, from byte {at} of their image on"
+
+    def _rows_for(self, parts: Sequence[Part]) -> Dict[Chip, List[Words]]:
+        """The rows that go into a request: all, or those of the chips on its trees, with what is added. Of a part that is too large for
+        that the rows that its keys meet, up to the first that takes them all."""
+        chips: Iterable[Chip] = self.rows
+        if not self._has_all_rows:
+            ends = {self.grid.far((x, y), d) for part in parts for x, y, d in part.links} | {part.net.source[:2] for part in parts}
+            chips = [chip for chip in self.rows if chip in ends]
+        found = {chip: [row[:3] for row in self.rows[chip]] for chip in chips}
+        if len(parts) == 1 and self._is_too_large(parts[0]):
+            found = {chip: list(met(rows, parts[0].block)) for chip, rows in found.items()}
+        for part in parts:
+            if part.added:
+                found.setdefault(part.net.source[:2], []).append((*part.block, part.added))
+        return found
+
+    def _is_too_large(self, part: Part) -> bool:
+        """Whether a part is too large for a request of its own with all rows of its chips."""
+        batch = self._batch()
+        batch.add(part, [part.block])
+        return batch.is_over(self._room)
+
+    def _answer(self, parts: Sequence[Part], rows: Mapping[Chip, Sequence[Words]], order: Order) -> Verdict:
+        """What the program says to parts and rows."""
+        wire = self._wire if order.is_usual else Wire(self.machine, order)
+        is_all = order.is_usual and self._has_all_rows and not any(it.added for it in parts)
+        if is_all and self._all_rows is None:
+            self._all_rows = wire.image(rows)
+        image = self._all_rows if is_all else wire.image(rows)
+        trees = ",".join(f'[{",".join(map(self._link_text, part.links))}]' for part in parts)
+        self.requests, self.asked = self.requests + 1, self.asked + len(parts)
+        text = f'{{"job":{wire.job(parts)},"trees":[{trees}],"image":{image}}}'
+        return answer_to(text, {"job": {"machine": self.machine.as_json()}}, self.program)
+
+    def _link_text(self, link: Link) -> str:
+        found = self._link_texts.get(link)
+        if found is None:
+            found = self._link_texts[link] = compact(link)
+        return found
+
+
+def verify(
+    machine: Machine,
+    places: Places,
+    nets: Iterable[Union[KeyedNet, Net]],
+    tables: Tables,
+    trees: Optional[Trees] = None,
+    program: Optional[str] = None,
+) -> Verdict:
+    """Whether the tables bring each key of each net to just the net's targets, by live links.
+
+    `places` has, by the names of vertices, (x, y, core) with cores 1 to 17, or for a device (x, y, link) with the link's letters. `nets`
+    are of `KeyedNet`, or of `Net` with `fixed`. `tables` has, by chips, the rows in the order in which the router looks: each a key, a mask
+    and a route word, or an object with these names; or it is an image. `trees` has, by the names of nets, the links as (x, y, link) that a
+    net's keys have to go by; of a net that it has not, any tree will do.
+
+    The answer is `Right()`, or it is false and names a key and its way: `Strays`, `Dies`, `Loops`, `Twice`, `Misses`, `OffTree`; or
+    `BadTree` of a tree that was given, or `TooLong`. ValueError where places, nets or rows are none on this machine, Refused where the
+    program takes no such machine."""
+    return Verifier(machine, places, nets, tables, trees, program).verdict()
+
+
+def notes(
+    machine: Machine,
+    places: Places,
+    nets: Iterable[Union[KeyedNet, Net]],
+    tables: Tables,
+    trees: Optional[Trees] = None,
+    program: Optional[str] = None,
+) -> List[Note]:
+    """What else there is to be said of tables: by chips, and there by rows. None of it makes them wrong. The program is asked whether the
+    machine and the rows are such at all; errors are those of `verify`."""
+    return Verifier(machine, places, nets, tables, trees, program).notes()

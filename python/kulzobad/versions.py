@@ -1,0 +1,54 @@
+"""Which package this is, which program it calls, and what that was compiled from."""
+from __future__ import annotations
+
+import json
+import shutil
+import subprocess
+from pathlib import Path
+from typing import Dict, Optional
+
+from .program import NoProgram, program_of
+
+VERSION = "0.1.0"
+
+PROVED = (
+    "The program was compiled from these sources, and is not proved on this machine:"
+    " the proofs are those of the gate (rt ci) over the sources."
+)
+
+
+def built_from(program: Path) -> Dict[str, str]:
+    """What is known of a program: the checksum of its sources (`sources`), the commit and the toolchain. Beside a program of
+    tools/release.py this is in a file, and in a clone beside the launcher's build."""
+    told = program.with_name("built.json")
+    if told.is_file():
+        found: Dict[str, str] = json.loads(told.read_text(encoding="utf-8"))
+        return found
+    for kept in (program.with_name(f"{program.name}.sum"), program.with_name("out") / f"{program.name}.sum"):
+        if kept.is_file():
+            return {"sources": kept.read_text(encoding="utf-8").strip(), **toolchain()}
+    return {}
+
+
+def toolchain() -> Dict[str, str]:
+    """The toolchain on the path, if there is one."""
+    tool = shutil.which("rt")
+    if tool is None:
+        return {}
+    done = subprocess.run([tool, "version"], stdin=subprocess.DEVNULL, capture_output=True, text=True, check=False)
+    lines = done.stdout.split("\n")
+    return {"toolchain": lines[0]} if done.returncode == 0 and lines[0] else {}
+
+
+def version_text(program: Optional[str] = None) -> str:
+    """The lines of `--version`."""
+    try:
+        path = program_of(program)
+    except NoProgram as missing:
+        return f"kulzobad {VERSION}\nno program: {missing}\n"
+    found = shutil.which(path) or path
+    built = built_from(Path(found).resolve())
+    lines = [f"kulzobad {VERSION}", f"program {path}"]
+    lines += [f"{name} {built[name]}" for name in ("sources", "commit", "toolchain") if name in built]
+    lines.append(PROVED if "sources" in built else "What it was compiled from is not known.")
+    return "".join(f"{line}\n" for line in lines)

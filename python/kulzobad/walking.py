@@ -1,0 +1,75 @@
+"""The way of one key over tables, visit by visit, with the row that takes it at each."""
+from __future__ import annotations
+
+from dataclasses import dataclass
+from typing import Iterable, List, Mapping, Optional, Set, Tuple
+
+from .grid import Grid, opposite
+from .jobs import Chip
+from .reports import Row
+from .trees import Link, Lookup
+
+# A router's ports are numbered as its links, and this is the one of its own cores.
+LOCAL = 6
+
+
+@dataclass(frozen=True)
+class Visit:
+    """A packet at a chip: the port at which it came in, the place of the row that takes it (None: default routing), the links by
+    which it leaves, by number, and the cores that get it."""
+
+    chip: Chip
+    port: int
+    row: Optional[int]
+    links: Tuple[int, ...]
+    cores: Tuple[int, ...]
+
+
+def row_of(lookup: Lookup, key: int) -> Optional[Tuple[int, Row]]:
+    """The first row that matches a key, with its place: None where none does."""
+    matches = [rows[key & mask] for mask, rows in lookup.items() if key & mask in rows]
+    return min(matches, key=lambda match: match[0]) if matches else None
+
+
+def visit(looks: Mapping[Chip, Lookup], chip: Chip, port: int, key: int) -> Visit:
+    """What the router of a chip does with a packet that comes in at a port."""
+    found = row_of(looks.get(chip, {}), key)
+    if found is None:
+        return Visit(chip, port, None, () if port == LOCAL else (opposite(port),), ())
+    place, row = found
+    links = tuple(link for link in range(6) if row.route >> link & 1)
+    return Visit(chip, port, place, links, tuple(core for core in range(18) if row.route >> (6 + core) & 1))
+
+
+def walk(grid: Grid, looks: Mapping[Chip, Lookup], key: int, chip: Chip, port: int = LOCAL) -> List[Visit]:
+    """The visits of a packet with this key that comes in at this port of this chip, each branch as a whole, in the order of the links.
+    A visit at the same port of the same chip is told once, though packets may go in a circle."""
+    visits: List[Visit] = []
+    seen: Set[Tuple[Chip, int]] = set()
+    ahead = [(chip, port)]
+    while ahead:
+        at, came = ahead.pop()
+        if (at, came) in seen:
+            continue
+        seen.add((at, came))
+        visits.append(visit(looks, at, came, key))
+        for link in reversed(visits[-1].links):
+            end = grid.next_chip(at, link)
+            if end is not None:
+                ahead.append((end, opposite(link)))
+    return visits
+
+
+def links_behind(grid: Grid, visits: Iterable[Visit], chip: Chip, link: int) -> List[Link]:
+    """Of the visits of a tree, the links that a copy does not pass which is lost as it leaves a chip by a link: that one, and all
+    behind it."""
+    by_chip = {it.chip: it for it in visits}
+    lost: List[Link] = []
+    ahead = [(chip, link)]
+    while ahead:
+        at, out = ahead.pop()
+        lost.append((*at, out))
+        end = grid.next_chip(at, out)
+        if end in by_chip:
+            ahead += [(end, further) for further in by_chip[end].links]
+    return lost
