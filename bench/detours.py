@@ -23,7 +23,7 @@ PROGRAM = r"""
 #![tactic(auto)]
 
 use link_detours::{RepairErr, Roads, repair};
-use machine_desc::{Edge, Machine, Tree};
+use machine_desc::{Edge, Machine, MachineParts, Tree};
 use ner_trees::{Grown, ner};
 use spin_base::{Chip, Dir, Memory, Seq};
 use std::alloc::Global;
@@ -53,7 +53,16 @@ fn dead_links(alloc: Global) -> Result<Seq<Edge>, Memory> {
 
 fn torus(alloc: Global, dead: bool) -> Result<Machine, Memory> {
     let links = if dead { dead_links(alloc)? } else { Seq::new(alloc) };
-    Machine::new(alloc, 64, 64, true, 134217728, &Seq::new(alloc), &Seq::new(alloc), &links)
+    let parts = MachineParts {
+        width: 64,
+        height: 64,
+        wrap: true,
+        sdram: 134217728,
+        dead_chips: Seq::new(alloc),
+        dead_cores: Seq::new(alloc),
+        dead_links: links,
+    };
+    Machine::new(alloc, parts)
 }
 
 // So many chips in a square round the root whose side is so long.

@@ -31,7 +31,7 @@ PROGRAM = r"""
 
 use app_graph::{Graph, Net, Vertex};
 use key_alloc::{KeyErr, keys};
-use machine_desc::{Edge, Machine};
+use machine_desc::{Edge, Machine, MachineParts};
 use place_fit::{PlaceErr, curve, place};
 use spin_base::{Block, Chip, Dir, Memory, Name, Seq};
 use std::alloc::Global;
@@ -63,14 +63,22 @@ fn link_east(task: &Task, number: u32) -> Edge {
 
 // Where there are devices, the link E of each chip is dead.
 fn machine(alloc: Global, task: &Task) -> Result<Machine, Memory> {
-    let none = Seq::new(alloc);
     let mut links = Seq::new(alloc);
     if task.what == "devices" {
         for number in 0..u32::from(task.width) * u32::from(task.height) {
             links.push(link_east(task, number))?;
         }
     }
-    Machine::new(alloc, task.width, task.height, false, ALL_MEMORY, &none, &Seq::new(alloc), &links)
+    let parts = MachineParts {
+        width: task.width,
+        height: task.height,
+        wrap: false,
+        sdram: ALL_MEMORY,
+        dead_chips: Seq::new(alloc),
+        dead_cores: Seq::new(alloc),
+        dead_links: links,
+    };
+    Machine::new(alloc, parts)
 }
 
 // So many vertices that need no memory. Every fourth is a device on a chip of its own.

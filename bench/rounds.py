@@ -29,7 +29,7 @@ ROOT = os.path.dirname(os.path.dirname(os.path.realpath(__file__)))
 sys.path.insert(0, f"{ROOT}/tools")
 import compile as launcher  # noqa: E402
 
-LINE = "bench_rounds: mesh_round packet_runs mesh_core machine_desc tcam_find spin_base\n"
+LINE = "bench_rounds: mesh_round mesh_run mesh_drain mesh_core machine_desc tcam_find spin_base\n"
 RUNS = 9
 LONG = 5
 IDLE_ROUNDS = 10
@@ -37,10 +37,11 @@ IDLE_ROUNDS = 10
 PROGRAM = r"""
 #![tactic(auto)]
 
-use machine_desc::Machine;
-use mesh_core::Mesh;
+use machine_desc::{Machine, MachineParts};
+use mesh_core::{Mesh, MeshSetup};
 use mesh_round::{round, run_out};
-use packet_runs::drain;
+use mesh_run::Pace;
+use mesh_drain::drain;
 use spin_base::{Chip, Entry, FreeGate, McCopy, Memory, Route, Seq, Spot};
 use std::alloc::Global;
 use std::env;
@@ -57,8 +58,16 @@ fn spot(x: u8, y: u8, core: u8) -> Spot {
 }
 
 fn torus(alloc: Global, width: u8, height: u8) -> Result<Machine, Memory> {
-    let (chips, cores, links) = (Seq::new(alloc), Seq::new(alloc), Seq::new(alloc));
-    Machine::new(alloc, width, height, true, 1024, &chips, &cores, &links)
+    let parts = MachineParts {
+        width,
+        height,
+        wrap: true,
+        sdram: 1024,
+        dead_chips: Seq::new(alloc),
+        dead_cores: Seq::new(alloc),
+        dead_links: Seq::new(alloc),
+    };
+    Machine::new(alloc, parts)
 }
 
 fn send(table: &mut Tcam, place: u32, key: u32, bit: u32) {
@@ -88,7 +97,7 @@ fn idle(alloc: Global, capacity: u32) -> Result<Mesh, Memory> {
     for _ in 0..4096 {
         tables.push(Tcam::empty())?;
     }
-    Mesh::new(alloc, torus(alloc, 64, 64)?, spots(alloc, 64, 64, 4)?, tables, capacity)
+    Mesh::new(alloc, MeshSetup::new(alloc, torus(alloc, 64, 64)?, spots(alloc, 64, 64, 4)?, tables, capacity)?)
 }
 
 // Packets along columns (link 2) or rows (link 0), from the first chip to the last. Chips between have no entry: packets go on.
@@ -106,7 +115,8 @@ fn board(alloc: Global, capacity: u32, rows: bool) -> Result<Mesh, Memory> {
             tables.push(table)?;
         }
     }
-    let mut mesh = Mesh::new(alloc, torus(alloc, 8, 6)?, spots(alloc, 8, 6, 1)?, tables, capacity)?;
+    let setup = MeshSetup::new(alloc, torus(alloc, 8, 6)?, spots(alloc, 8, 6, 1)?, tables, capacity)?;
+    let mut mesh = Mesh::new(alloc, setup)?;
     let (senders, packets) = if rows { (6, 16667) } else { (8, 15625) };
     for key in 0..senders {
         let vertex = if rows { key } else { 6 * key };
@@ -125,7 +135,8 @@ fn chip(alloc: Global, capacity: u32) -> Result<Mesh, Memory> {
     }
     let mut tables = Seq::new(alloc);
     tables.push(table)?;
-    let mut mesh = Mesh::new(alloc, torus(alloc, 1, 1)?, spots(alloc, 1, 1, 17)?, tables, capacity)?;
+    let setup = MeshSetup::new(alloc, torus(alloc, 1, 1)?, spots(alloc, 1, 1, 17)?, tables, capacity)?;
+    let mut mesh = Mesh::new(alloc, setup)?;
     for packet in 0..65536 {
         let net = packet % 1024;
         put(&mut mesh, net % 17, packet, net)?;
@@ -145,9 +156,10 @@ fn opened(alloc: Global, what: &str, capacity: u32) -> Result<Mesh, Memory> {
 // No worker: the drain; no turn: nothing.
 fn moved<R: Threads + Wait + Sync>(rt: &R, alloc: Global, mesh: Mesh, what: &str, workers: u32, turns: u32) -> Result<Mesh, Memory> {
     let mut mesh = mesh;
+    let pace = Pace { patience: PATIENCE, workers, turns };
     if what == "idle" {
         for number in 1..11 {
-            mesh = match round(rt, alloc, mesh, PATIENCE, workers, turns, number, &FreeGate) {
+            mesh = match round(rt, alloc, mesh, pace, number, &FreeGate) {
                 Ok(after) => after,
                 Err((_, e)) => return Err(e),
             };
@@ -160,7 +172,7 @@ fn moved<R: Threads + Wait + Sync>(rt: &R, alloc: Global, mesh: Mesh, what: &str
         }
         return Ok(mesh);
     }
-    match run_out(rt, alloc, mesh, PATIENCE, workers, turns, &FreeGate) {
+    match run_out(rt, alloc, mesh, pace, &FreeGate) {
         Ok(after) => Ok(after),
         Err((_, e)) => Err(e),
     }

@@ -15,7 +15,7 @@ ROOT = os.path.dirname(os.path.dirname(os.path.realpath(__file__)))
 sys.path.insert(0, f"{ROOT}/tools")
 import compile as launcher  # noqa: E402
 
-LINE = "bench_tables: default_routes cover_merge cover_checks table_load tcam_find tern_word range_store spin_base\n"
+LINE = "bench_tables: default_routes cover_merge table_load tcam_find tern_word range_store spin_base\n"
 
 PROGRAM = r"""
 #![tactic(auto)]

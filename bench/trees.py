@@ -18,15 +18,15 @@ ROOT = os.path.dirname(os.path.dirname(os.path.realpath(__file__)))
 sys.path.insert(0, f"{ROOT}/tools")
 import compile as launcher  # noqa: E402
 
-LINE = "bench_trees: plain_tables ner_trees net_tables tern_word machine_desc spin_base\n"
+LINE = "bench_trees: net_tables ner_trees tern_word machine_desc spin_base\n"
 
 PROGRAM = r"""
 #![tactic(auto)]
 
-use machine_desc::Machine;
+use machine_desc::{Machine, MachineParts};
 use ner_trees::ner;
-use net_tables::NetPlan;
-use plain_tables::plain_tables;
+use machine_desc::NetPlan;
+use net_tables::plain_tables;
 use spin_base::{Block, Chip, Memory, Seq, Spot};
 use std::alloc::Global;
 use std::env;
@@ -37,7 +37,16 @@ fn next(seed: u32) -> u32 {
 }
 
 fn torus(alloc: Global) -> Result<Machine, Memory> {
-    Machine::new(alloc, 64, 64, true, 134217728, &Seq::new(alloc), &Seq::new(alloc), &Seq::new(alloc))
+    let parts = MachineParts {
+        width: 64,
+        height: 64,
+        wrap: true,
+        sdram: 134217728,
+        dead_chips: Seq::new(alloc),
+        dead_cores: Seq::new(alloc),
+        dead_links: Seq::new(alloc),
+    };
+    Machine::new(alloc, parts)
 }
 
 fn chip_of(number: u32) -> Chip {

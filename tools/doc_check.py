@@ -1,17 +1,21 @@
-"""Runs the commands of README.md, docs/guide.md and docs/refusals.md, and compares what they write with what stands there.
+"""Runs the commands of README.md and of each document of docs/ that has some, and compares what they write with what stands there.
 
     python3 tools/doc_check.py [--write] [PROGRAM]
 
-PROGRAM is ./spin where none is named. With --write the outputs in docs/guide.md, and its pictures, are made anew. Those of
-README.md and docs/refusals.md are worked out by hand from docs/formats.md, and always only compared. Each difference is printed.
-The last line is 'N passed, M failed', and the status 1 where one failed.
+PROGRAM is ./spin where none is named. With --write the outputs in docs/guide.md, and its pictures, are made anew. Those of all
+others are worked out by hand from docs/formats.md, and always only compared. Each difference is printed. The last line is
+'N passed, M failed', and the status 1 where one failed.
 
-Each document has a folder of its own, in which `spin` is PROGRAM and all else is the repository's. Its parts that count, in order:
+Each document has a folder of its own, in which `spin` is PROGRAM and all else is the repository's. The commands of docs/guide.md are
+given in an empty folder beside it, with the folder's path in KULZOBAD, and PATH and PYTHONPATH as the guide sets them. The parts of a
+document that count, in order:
 
     ```json row.json            a block with a file's name is written to that file
     ```console                  a line `$ COMMAND` is run by sh; the lines behind it are what it writes
     ```console in a new clone   the same, in a clone without a build, on a machine without the toolchain
     <!-- a.svg is docs/b.svg -->    the first file, made before, has the bytes of the second
+
+Commands that are not to be run here, as those of the toolchain, stand in blocks of another kind: ```sh or ```text.
 
 A command has to end with status 0, unless the next one is `echo $?`, and to write nothing to standard error. One line `...`
 stands for at least two lines of output that are left out; --write leaves as many lines before and after it as there were.
@@ -24,11 +28,19 @@ import sys
 import tempfile
 
 ROOT = os.path.dirname(os.path.dirname(os.path.realpath(__file__)))
-MADE, BY_HAND = "docs/guide.md", ("README.md", "docs/refusals.md")
+MADE = "docs/guide.md"
 CUT = "..."
 MOST_SECONDS = 100
 # What the launcher needs beside the toolchain.
 TOOLS = ("cat", "dirname", "find", "readlink", "sh")
+
+
+def documents():
+    """README.md, and the documents of docs/ that have a command with its output."""
+    for file in ("README.md", *(f"docs/{it}" for it in sorted(os.listdir(f"{ROOT}/docs")) if it.endswith(".md"))):
+        with open(f"{ROOT}/{file}", encoding="utf-8") as text:
+            if re.search(r"^```console", text.read(), re.M):
+                yield file
 
 
 def folder_of(room, program):
@@ -73,6 +85,11 @@ class Document:
         self.file, self.room, self.is_made = file, room, is_made
         self.environment = {**os.environ, "KULZOBAD_SPIN": program, "PYTHONDONTWRITEBYTECODE": "1"}
         self.folder = folder_of(room, program)
+        if file == MADE:
+            path = {"KULZOBAD": self.folder, "PATH": f"{self.folder}:{os.environ['PATH']}", "PYTHONPATH": f"{self.folder}/python"}
+            self.environment.update(path)
+            self.folder = f"{room}/own"
+            os.mkdir(self.folder)
         self.lines, self.passed, self.failed, self.status = [], 0, 0, 0
 
     def note(self, place, what, *told):
@@ -156,7 +173,7 @@ def main(words):
     is_made = "--write" in words
     program = os.path.realpath(next((it for it in words if not it.startswith("--")), f"{ROOT}/spin"))
     passed = failed = 0
-    for file in (MADE, *BY_HAND):
+    for file in documents():
         with tempfile.TemporaryDirectory(prefix="doc-check-") as room:
             document = Document(file, room, program, is_made and file == MADE)
             document.go()

@@ -3,8 +3,8 @@
     python3 tools/house.py [--check]
 
 With --check it compares the picture with what stands there; docs/definitions.md with the files of definitions, each of which it has
-to name; and docs/promises.md with the sources: what carries a promise has to be there, with the clauses that are named. The status
-is 1 where something differs.
+to name; and docs/promises.md with the sources: what carries a promise has to be there, with the clauses that are named, and what is
+said to call it has to name it. The status is 1 where something differs.
 
 A crate's layer is one more than the highest layer below it, among the crates of this repository. A chain of crates is as long
 as the number of layers. Lines: code without tests, definitions, proofs.
@@ -16,6 +16,7 @@ import sys
 
 ROOT = os.path.dirname(os.path.dirname(os.path.realpath(__file__)))
 BEGIN, END = "<!-- made by tools/house.py -->\n", "<!-- end -->\n"
+PROMISES = "| promise | carried by | called by |"
 
 
 def crates():
@@ -83,27 +84,71 @@ def clauses():
     return found
 
 
+def calls():
+    """The names before a bracket in the text of each function, by crate and name: what it may call."""
+    found = {}
+    for crate in os.listdir(f"{ROOT}/crates"):
+        parts = re.split(r"\bfn (\w+)", re.sub(r"//.*", "", text_of(f"crates/{crate}/src/**/*.rt")))
+        for name, text in zip(parts[1::2], parts[2::2]):
+            found.setdefault(f"{crate}::{name}", set()).update(re.findall(r"(\w+)\(", text))
+    return found
+
+
+def promises(text):
+    """The rows of the tables of promises, each as its cells."""
+    rows, is_row = [], False
+    for line in text.splitlines():
+        is_row = line.startswith("| ") and (is_row or line == PROMISES) or is_row and line.startswith("|-")
+        if is_row and line.startswith("| ") and line != PROMISES:
+            rows.append(line.strip("| ").split(" | "))
+    return rows
+
+
+def wrong_row(carried, callers, labels, called, defined):
+    """What two cells of a promise say of the sources that is not so: what carries it, and which functions call that."""
+    function, is_clause, depth, carriers = None, False, 0, set()
+    for name, word, mark in re.findall(r"`([^`]+)`|\b(clauses?|of)\b|([();])", carried):
+        depth += {"(": 1, ")": -1}.get(mark, 0)
+        is_clause = (is_clause or word.startswith("clause")) and word != "of" and mark != ";"
+        last = name.rpartition("::")[2]
+        if name and not depth and is_clause:
+            if name not in labels.get(function, ()):
+                yield f"{function} has no clause {name}"
+        elif name and not set(re.findall(r"\w+", name)) <= defined:
+            yield f"there is no {name}"
+        elif name and not depth and last in labels:
+            function = last
+            carriers.add(last)
+    for name in sorted(callers):
+        if name not in called:
+            yield f"there is no {name}"
+        elif carriers and not carriers & called[name]:
+            yield f"{name} calls none of {', '.join(sorted(carriers))}"
+    for name in sorted(carriers - set().union(*(called.get(it, ()) for it in callers)) if callers else ()):
+        yield f"none of {', '.join(sorted(callers))} calls {name}"
+
+
 def wrong_promises():
-    """What the first table of docs/promises.md says of the sources that is not so. The second cell of a row names functions, each with its clauses
-    after the word 'clause' or 'clauses', up to a semicolon; in brackets and elsewhere it names whatever is defined, a lemma too."""
-    labels, defined = clauses(), set(re.findall(r"\w+", text_of("crates/*/src/**/*.rt") + text_of("crates/*/specs/**/*.antt")))
+    """What docs/promises.md says of the sources that is not so. In the tables of promises, the second cell of a row names functions, each with
+    its clauses after the word 'clause' or 'clauses', up to a semicolon; in brackets and elsewhere it names whatever is defined, a lemma too.
+    The third cell names crates, and functions of crates that call those of the second, so that each is called by one. Each clause of `spin`
+    has a heading."""
+    labels, called, crate_names = clauses(), calls(), set(os.listdir(f"{ROOT}/crates"))
+    defined = set(re.findall(r"\w+", text_of("crates/*/src/**/*.rt") + text_of("crates/*/specs/**/*.antt"))) | crate_names
     defined |= set(re.findall(r"^pub (\w+) :", text_of("crates/*/proofs/**/*.antt"), re.M))
     with open(f"{ROOT}/docs/promises.md", encoding="utf-8") as text:
-        table = text.read().partition("\n## ")[0].splitlines()
-    carriers = [line.split(" | ")[1] for line in table if line.startswith("| ")][1:]
-    for carrier in carriers:
-        function, is_clause, depth = None, False, 0
-        for name, word, mark in re.findall(r"`([^`]+)`|\b(clauses?|of)\b|([();])", carrier):
-            depth += {"(": 1, ")": -1}.get(mark, 0)
-            is_clause = (is_clause or word.startswith("clause")) and word != "of" and mark != ";"
-            last = name.rpartition("::")[2]
-            if name and not depth and is_clause:
-                if name not in labels.get(function, ()):
-                    yield f"docs/promises.md: {function} has no clause {name}"
-            elif name and not set(re.findall(r"\w+", name)) <= defined | set(os.listdir(f"{ROOT}/crates")):
-                yield f"docs/promises.md: there is no {name}"
-            elif name and not depth and last in labels:
-                function = last
+        text = text.read()
+    wrong, rows = [], promises(text)
+    if not rows:
+        wrong.append("there is no table of promises")
+    for row in rows:
+        if len(row) == 3:
+            wrong += wrong_row(row[1], set(re.findall(r"`([^`]+)`", row[2])) - crate_names, labels, called, defined)
+        else:
+            wrong.append(f"a row has {len(row)} cells and not 3: {row[0]}")
+    headings = set(re.findall(r"^### `(\w+)`$", text, re.M))
+    wrong += [f"the clauses of spin and the headings differ in {name}" for name in sorted(headings ^ labels["spin"])]
+    return [f"docs/promises.md: {it}" for it in wrong]
 
 
 def main(words):

@@ -78,11 +78,10 @@ class Machine:
         return [(x, y) for x in range(self.width) for y in range(self.height)]
 
     def far(self, chip, link):
-        """The chip to which a link leads, dead or not. None where it leads out of the grid."""
+        """The chip to which a link leads, dead or not. None where it would lead out of the grid, or to its own chip."""
         x, y = chip[0] + STEPS[link][0], chip[1] + STEPS[link][1]
-        if self.wrap:
-            return x % self.width, y % self.height
-        return (x, y) if (x, y) in self else None
+        end = (x % self.width, y % self.height) if self.wrap else (x, y)
+        return end if end in self and end != chip else None
 
     def __contains__(self, chip):
         return 0 <= chip[0] < self.width and 0 <= chip[1] < self.height
@@ -504,9 +503,9 @@ class Dice(random.Random):
             part["dead_cores"] = [[*chip, self.randint(0, 17)] for chip in chips if self.now_and_then(0.3)]
         return part
 
-    def vertices(self, part, asking):
-        """Vertices for a machine, of which such a share ask for a chip, and some devices. Where memory is small, few of them stand
-        on a chip. There may be too many for a small machine."""
+    def vertices(self, part, asking, devices=(0, 0, 1, 3)):
+        """Vertices for a machine, of which such a share ask for a chip, and devices, one of these numbers of them. Where memory is
+        small, few of them stand on a chip. There may be too many for a small machine."""
         machine = Machine(part)
         live = [chip for chip in machine.chips() if machine.is_live(chip)]
         is_small = "sdram" in part
@@ -518,7 +517,7 @@ class Dice(random.Random):
             if is_small or self.now_and_then(0.1):
                 vertex["sdram"] = self.choice([0, 1, 50, 51, 100] if is_small else [0, 1, 1000000, 60000000])
         links = [[*chip, link] for chip in live for link in range(6) if not machine.is_live_link(chip, link)]
-        for device in self.sample(links, min(len(links), self.choice([0, 0, 1, 3]))):
+        for device in self.sample(links, min(len(links), self.choice(devices))):
             vertices.insert(self.randint(0, len(vertices)), {"name": "d%d_%d_%d" % tuple(device), "device": device})
         return vertices
 
@@ -564,6 +563,23 @@ class Dice(random.Random):
         vertices = self.vertices(machine, 1)
         return machine, vertices, self.nets(vertices, 12)
 
+    def narrow_job(self):
+        """A torus with a side of 1 or 2, where links lead nowhere or two lead to one chip, with devices on some of those that are
+        not live, and one on any link at all."""
+        sides = [self.randint(1, 2), self.randint(1, 6)]
+        self.shuffle(sides)
+        machine = {**self.machine(*sides), "wrap": True}
+        vertices = self.vertices(machine, 0.3, (1, 3, 6))
+        device = [*self.choice(Machine(machine).chips()), self.randrange(6)]
+        if self.now_and_then(0.5) and device not in [vertex.get("device") for vertex in vertices]:
+            vertices.append({"name": "d%d_%d_%d" % tuple(device), "device": device})
+        nets = self.nets(vertices, self.choice([4, 16]))
+        names = [vertex["name"] for vertex in vertices if "device" in vertex]
+        for net in nets if names else []:
+            if self.now_and_then(0.5):
+                net["targets"] = [*net["targets"], self.choice(names)]
+        return machine, vertices, nets
+
     def crowded_job(self):
         """Many nets on few chips, so that tables are long, and many merges are made or refused."""
         machine = {"width": self.randint(1, 3), "height": self.randint(1, 2), "wrap": self.now_and_then(0.3)}
@@ -588,7 +604,7 @@ class Dice(random.Random):
 
     def job(self, number):
         """The job of a number, by which the kinds of jobs take turns."""
-        kinds = [self.any_job] * 8 + [self.wide_job] * 3 + [self.crowded_job] * 2 + [self.greedy_job, self.long_job]
+        kinds = [self.any_job] * 8 + [self.wide_job] * 3 + [self.crowded_job] * 2 + [self.greedy_job, self.long_job, self.narrow_job]
         machine, vertices, nets = kinds[number % len(kinds)]()
         packets = self.packets(nets)
         run = {"packets": packets, "queue": self.choice([1, 2, 16]) * max(1, len(packets)), "workers": self.choice([1, 1, 2, 3, 8, 64])}

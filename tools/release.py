@@ -1,0 +1,167 @@
+"""Makes dist/ for people who have no toolchain: the compiled program, a wheel of the package that carries it, and checksums.
+
+    python3 tools/release.py            dist/ of this clone
+    python3 tools/release.py --try      the same in a folder of its own, installed and run where there is no toolchain
+    python3 tools/release.py --tests    the package as `pip install ./python` installs it, with its tests
+
+The program is that of the launcher, which compiles it where that is due. The wheel says which sources, commit and toolchain it was
+compiled from (`kulzobad --version`). --try installs the wheel into an empty virtual environment, with a path on which nothing of the
+toolchain lies and no network, and runs examples, whose bytes have to be those that stand beside them. --tests runs python/tests from a
+folder without the package. Where pip or venv is missing both say that they were skipped. Each ends with status 1 where something fails.
+"""
+import glob
+import hashlib
+import json
+import os
+import shutil
+import subprocess
+import sys
+import tempfile
+
+ROOT = os.path.dirname(os.path.dirname(os.path.realpath(__file__)))
+sys.path.insert(0, f"{ROOT}/python")
+
+import building  # noqa: E402
+
+# The program needs a C library as new as that for which the toolchain links.
+TAG = "py3-none-linux_x86_64"
+EXAMPLES = ("one_chip", "image", "reinject_fan_out", "trace_fan_out", "check_right", "apps_used_again", "long_table")
+
+
+def output_of(words):
+    """What a command writes; empty where it fails or is not there."""
+    try:
+        done = subprocess.run(words, cwd=ROOT, stdin=subprocess.DEVNULL, capture_output=True, text=True, check=False)
+    except OSError:
+        return ""
+    return done.stdout.strip() if done.returncode == 0 else ""
+
+
+def read(file):
+    with open(file, "rb") as data:
+        return data.read()
+
+
+def built_from():
+    """What is known of the launcher's build."""
+    commit = output_of(["git", "rev-parse", "HEAD"])
+    changed = output_of(["git", "status", "--porcelain", "--", "crates", "crates.txt", "tools/compile.py"])
+    with open(f"{ROOT}/out/spin.sum", encoding="utf-8") as kept:
+        told = {"sources": kept.read().strip(), "toolchain": output_of(["rt", "version"]).split("\n")[0]}
+    if commit:
+        told["commit"] = commit + (" with changes" if changed else "")
+    return told
+
+
+def make(folder):
+    """Writes the program, the wheel and the checksums into a folder, and gives the wheel's name."""
+    if subprocess.run([f"{ROOT}/spin", "gen", "0"], stdout=subprocess.DEVNULL, check=False).returncode:
+        sys.exit("release: the launcher gives no program")
+    os.makedirs(folder, exist_ok=True)
+    shutil.copy(f"{ROOT}/out/spin", f"{folder}/spin")
+    told = json.dumps(built_from(), indent=1) + "\n"
+    inside = [("kulzobad/compiled/built.json", told.encode()), ("kulzobad/compiled/spin", read(f"{folder}/spin"))]
+    wheel = building.write_wheel(folder, TAG, more=inside)
+    with open(f"{folder}/SHA256SUMS", "w", encoding="utf-8") as sums:
+        sums.writelines(f"{hashlib.sha256(read(f'{folder}/{name}')).hexdigest()}  {name}\n" for name in sorted(("spin", wheel)))
+    return wheel
+
+
+def environment_in(room):
+    """An empty virtual environment, and a pip that installs into it without a network; None where there is none of the two."""
+    made = subprocess.run([sys.executable, "-m", "venv", "--without-pip", f"{room}/environment"], capture_output=True, check=False)
+    python = f"{room}/environment/bin/python"
+    pip = [sys.executable, "-m", "pip", "--python", python, "--disable-pip-version-check", "install", "--quiet", "--no-index", "--no-deps"]
+    if made.returncode or subprocess.run([*pip[:5], "--version"], capture_output=True, check=False).returncode:
+        print("release: skipped, for pip or venv is missing, or pip is older than 22.3")
+        return None
+    return python, pip
+
+
+def installed(pip, what):
+    """Installs something; it says whether that was done."""
+    done = subprocess.run([*pip, what], capture_output=True, text=True, check=False)
+    if done.returncode:
+        print(f"FAILED: pip install {what}\n{done.stdout}{done.stderr}")
+    return done.returncode == 0
+
+
+def bare(room):
+    """The variables of an environment in which nothing of a toolchain is on the path."""
+    return {"PATH": f"{room}/environment/bin", "HOME": room, "LANG": "C.UTF-8"}
+
+
+def failures_of_release(room, wheel, python):
+    """What goes wrong with the wheel once it is installed."""
+    command = f"{os.path.dirname(python)}/kulzobad"
+
+    def call(*words):
+        return subprocess.run([command, *words], cwd=room, env=bare(room), stdin=subprocess.DEVNULL, capture_output=True, check=False)
+
+    for name in EXAMPLES:
+        example = f"{ROOT}/examples/{name}"
+        word, wanted, status = read(f"{example}.words").decode().strip(), read(f"{example}.report"), int(read(f"{example}.status"))
+        done = call(word, f"{example}.json")
+        given = done.stderr.split(b"\n", 1)[0] + b"\n" if status else done.stdout
+        if (done.returncode, given) != (status, wanted):
+            yield f"kulzobad {word} of examples/{name}.json: status {done.returncode}, {given[:200]}, {done.stderr[:200]}"
+    told, known = call("--version").stdout.decode(), built_from()
+    for line in (f"sources {known['sources']}", f"toolchain {known['toolchain']}", "not proved on this machine"):
+        if line not in told:
+            yield f"kulzobad --version does not say {line!r}: {told}"
+    sums = "".join(f"{hashlib.sha256(read(f'{room}/dist/{name}')).hexdigest()}  {name}\n" for name in sorted(("spin", wheel)))
+    if read(f"{room}/dist/SHA256SUMS").decode() != sums:
+        yield "SHA256SUMS has other sums than the files"
+
+
+def try_release(room):
+    """Makes a release, installs it, and runs it. It gives what fails."""
+    wheel, found = make(f"{room}/dist"), environment_in(room)
+    if found is None:
+        return []
+    python, pip = found
+    return list(failures_of_release(room, wheel, python)) if installed(pip, f"{room}/dist/{wheel}") else ["the wheel can't be installed"]
+
+
+def try_tests(room):
+    """Installs the package as it stands, and runs its tests from a folder without it. It gives what fails."""
+    found = environment_in(room)
+    if found is None:
+        return []
+    python, pip = found
+    if not installed(pip, f"{ROOT}/python"):
+        return ["the package can't be installed"]
+    os.makedirs(f"{room}/copy/python")
+    shutil.copytree(f"{ROOT}/python/tests", f"{room}/copy/python/tests", ignore=shutil.ignore_patterns("__pycache__"))
+    for name in ("examples", "docs", "tools"):
+        os.symlink(f"{ROOT}/{name}", f"{room}/copy/{name}")
+    environment = {**os.environ, "KULZOBAD_SPIN": os.environ.get("KULZOBAD_SPIN", f"{ROOT}/spin"), "PYTHONDONTWRITEBYTECODE": "1"}
+    folder, ask = f"{room}/copy/python", "import kulzobad; print(kulzobad.__file__)"
+    where = subprocess.run([python, "-c", ask], cwd=folder, env=environment, capture_output=True, text=True, check=False)
+    if not where.stdout.startswith(f"{room}/environment/"):
+        return [f"the package that is tested is {where.stdout or where.stderr}"]
+    done = subprocess.run([python, "-m", "unittest", "-q"], cwd=folder, env=environment, check=False)
+    return ["a test of the installed package fails"] if done.returncode else []
+
+
+def main(words):
+    if not words:
+        wheel = make(f"{ROOT}/dist")
+        print(f"dist/spin\ndist/{wheel}\ndist/SHA256SUMS")
+        for old in glob.glob(f"{ROOT}/dist/*.whl"):
+            if os.path.basename(old) != wheel:
+                print(f"{os.path.relpath(old, ROOT)} is of another version")
+        return 0
+    failures = []
+    for word in words:
+        with tempfile.TemporaryDirectory(prefix="release-") as room:
+            failures += {"--try": try_release, "--tests": try_tests}[word](os.path.realpath(room))
+    for failure in failures:
+        print(f"FAILED: {failure}")
+    return 1 if failures else 0
+
+
+if __name__ == "__main__":
+    if not set(sys.argv[1:]) <= {"--try", "--tests"}:
+        sys.exit(__doc__)
+    sys.exit(main(sys.argv[1:]))
