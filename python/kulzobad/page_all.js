@@ -2,10 +2,19 @@
 
 // ---- All together.
 
+/** The boxes in which somebody types: an answer that comes meanwhile, as of a trace that is played, leaves them alone. */
+const typedIn = new Set();
+const setBox = (box, text) => { if (!typedIn.has(box)) by(box).value = text; };
+function listenToTyping(box) {
+  by(box).addEventListener("input", () => typedIn.add(box));
+  by(box).addEventListener("blur", () => typedIn.delete(box));
+  by(box).form.addEventListener("submit", () => typedIn.delete(box));
+}
+
 const say = words => { by("said").textContent = words; };
 function render() {
   const what = asked(), answer = by("answer");
-  document.body.dataset.answered = location.hash;
+  document.body.dataset.answered = question;
   if (!machine) {
     answer.replaceChildren(...[refusalPart()].flat(Infinity).filter(it => it),
       make("p", {}, "The machine of the job can't be read, so there is no mesh to show."));
@@ -20,9 +29,9 @@ function render() {
   const wasInside = answer !== document.activeElement && answer.contains(document.activeElement);
   answer.replaceChildren(make("div", {}, parts));
   if (wasInside) answer.focus({ preventScroll: true });
-  by("net").value = what.get("net") || "";
-  by("chip").value = what.get("chip") || "";
-  if (what.has("key")) by("key").value = what.get("key").split("@")[0];
+  setBox("net", what.get("net") || "");
+  setBox("chip", what.get("chip") || "");
+  if (what.has("key")) setBox("key", what.get("key").split("@")[0]);
   if (trace) showEvent();
   paint();
 }
@@ -38,7 +47,7 @@ function choices(form, input, list, names, chosen) {
     if (active >= 0) { input.setAttribute("aria-activedescendant", list.children[active].id);
       list.children[active].scrollIntoView({ block: "nearest" }); } else input.removeAttribute("aria-activedescendant");
   };
-  const choose = text => { close(); chosen(text); };
+  const choose = text => { close(); typedIn.delete(input.id); chosen(text); };
   input.addEventListener("input", () => {
     const typed = input.value.toLowerCase(), starts = [], others = [];
     if (typed) for (const it of names) { const found = it[0].toLowerCase().indexOf(typed); if (found === 0) starts.push(it);
@@ -121,10 +130,11 @@ function listenToBoxes() {
   by("whole").addEventListener("click", whole);
   by("skip").addEventListener("click", () => by("answer").focus());
   by("show").addEventListener("change",
-    () => { const what = asked(); what.set("show", by("show").value); location.hash = what.toString(); });
+    () => { const what = asked(); what.set("show", by("show").value); ask(what); });
   by("help-open").addEventListener("click", () => by("help").showModal());
   addEventListener("resize", () => { if (!view.moved) whole(); });
-  addEventListener("hashchange", render);
+  addEventListener("hashchange", readAddress);
+  for (const box of ["net", "chip", "key"]) listenToTyping(box);
   choices(by("ask-net"), by("net"), by("net-list"),
     nets.map(it => [it.name, `${nameOf(it.source)}, ${many(it.targets.length, "target")}`]), name => go("net", name));
   choices(by("ask-chip"), by("chip"), by("chip-list"), vertices.map(it => [it[0], `${at(it[1])} ${coreWord(it[2])}`]),
@@ -142,7 +152,6 @@ function listenToKeys() {
       if (event.target.matches("input, select")) event.target.blur();
       if (event.target.matches("select")) return;
       go("", "");
-      render();
       return;
     }
     if (event.ctrlKey || event.metaKey || event.altKey || event.target.matches("input:not([type=range]), select, textarea")

@@ -2,11 +2,26 @@
 
 // ---- What is asked: it stands behind the # of the address, so that going back and links work.
 
-const asked = () => new URLSearchParams(location.hash.slice(1));
+let question = location.hash.slice(1);
+const asked = () => new URLSearchParams(question);
+/** Asks something, and answers at once: an event that told of the address could come after the next key. It takes the place of what
+    was asked before where going back is not to lead there. */
+function ask(wanted, inPlace) {
+  const isNew = question !== `${wanted}`;
+  question = `${wanted}`;
+  try {
+    if (inPlace) history.replaceState(null, "", `#${question}`); else if (isNew) history.pushState(null, "", `#${question}`);
+  } catch { /* (a browser takes only so many addresses in a while; the answer stands without) */ }
+  render();
+}
+function readAddress() {
+  question = location.hash.slice(1);
+  render();
+}
 function go(what, value) {
   const show = asked().get("show"), wanted = new URLSearchParams(what ? { [what]: value } : {});
   if (show) wanted.set("show", show);
-  location.hash = wanted.toString();
+  ask(wanted);
   if (what) by("answer").scrollTop = 0;
 }
 const hrefOf = (what, value) => `#${new URLSearchParams({ [what]: value, ...(asked().get("show") ? { show: asked().get("show") } : {}) })}`;

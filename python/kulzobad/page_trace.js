@@ -87,9 +87,8 @@ function showEvent() {
   by("event").textContent = words;
 }
 function step(wanted) {
-  const to = Math.max(0, Math.min(trace.events.length, wanted)), wants = new URLSearchParams({ event: to, show: "trace" });
-  history.replaceState(null, "", `#${wants}`);
-  render();
+  const to = Math.max(0, Math.min(trace.events.length, wanted));
+  ask(new URLSearchParams({ event: to, show: "trace" }), true);
 }
 function play(on) {
   if (timer) clearInterval(timer);

@@ -17,7 +17,16 @@ CODES = {
     "Enter": 13, "Escape": 27, "Tab": 9, " ": 32, "ArrowLeft": 37, "ArrowUp": 38, "ArrowRight": 39, "ArrowDown": 40, "Home": 36, "End": 35,
 }
 SHIFT = 8
-LONGEST_SECONDS = 30
+# An answer, or a state of the page, that has not come by then does not come.
+LONGEST_SECONDS = 120
+
+
+def turns():
+    """Turns of a wait: a little while lies between them, and the last is late."""
+    until = time.monotonic() + LONGEST_SECONDS
+    while time.monotonic() < until:
+        yield
+        time.sleep(0.01)
 
 
 class Browser:
@@ -35,7 +44,7 @@ class Browser:
         os.close(to_write[1])
         self.out, self.into = to_read[1], to_write[0]
         self.number, self.rest, self.told, self.events = 0, b"", [], []
-        target = next(it for it in self.call("Target.getTargets", session=None)["targetInfos"] if it["type"] == "page")
+        target = self.first_page()
         self.session = self.call("Target.attachToTarget", {"targetId": target["targetId"], "flatten": True}, session=None)["sessionId"]
         for domain in ("Page", "Runtime", "Log", "Network"):
             self.call(f"{domain}.enable")
@@ -53,17 +62,25 @@ class Browser:
         """Ends the browser."""
         os.close(self.out)
         try:
-            self.process.wait(10)
+            self.process.wait(LONGEST_SECONDS)
         except subprocess.TimeoutExpired:
             self.process.kill()
             self.process.wait()
         os.close(self.into)
-        for _ in range(20):
+        for _ in range(100):
             try:
                 self.folder.cleanup()
                 break
             except OSError:
                 time.sleep(0.1)
+
+    def first_page(self):
+        """The page that the browser opens by itself; it may take its time."""
+        for _ in turns():
+            for it in self.call("Target.getTargets", session=None)["targetInfos"]:
+                if it["type"] == "page":
+                    return it
+        raise TimeoutError("the browser opens no page")
 
     def message(self, until):
         """The next message of the browser."""
@@ -118,13 +135,25 @@ class Browser:
 
     def open(self, path, part=""):
         """Opens a file, and gives the seconds until it had answered."""
-        self.told, self.events = [], []
+        self.leave()
         begun = time.monotonic()
-        self.call("Page.navigate", {"url": "about:blank"})
         self.call("Page.navigate", {"url": f"file://{os.path.realpath(path)}{part}"})
-        while not self.ask("document.readyState === 'complete'"):
-            time.sleep(0.01)
+        self.stands("location.protocol + ' ' + document.readyState", "file: complete")
         return time.monotonic() - begun
+
+    def leave(self):
+        """Leaves the page for an empty one, and forgets what the console told of it."""
+        self.call("Page.navigate", {"url": "about:blank"})
+        self.stands("location.href + ' ' + document.readyState", "about:blank complete")
+        self.told, self.events = [], []
+
+    def stands(self, script, wanted):
+        """Waits until a script in the page gives what is wanted. Where it never does, the error tells what it gave instead."""
+        for _ in turns():
+            found = self.ask(script)
+            if found == wanted:
+                return
+        raise AssertionError(f"{wanted!r} never stood in {script}: {found!r}")
 
     def ask(self, script):
         """The value of a script in the page."""

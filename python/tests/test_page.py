@@ -9,7 +9,6 @@ import random
 import re
 import sys
 import tempfile
-import time
 import unittest
 from html.parser import HTMLParser
 from pathlib import Path
@@ -27,7 +26,7 @@ from kulzobad.stepping import steps_of
 from kulzobad.trees import lookups, trees
 from kulzobad.walking import walk
 
-from .browser import CHROMIUM, Browser
+from .browser import CHROMIUM, Browser, turns
 from .random_jobs import drawn_events, drawn_job, spoiled_job
 from .test_cli import called
 
@@ -334,39 +333,52 @@ class Pages(unittest.TestCase):
         return self.browser
 
     def tearDown(self):
+        self.browser.ask("0")  # (what was told before this is taken with it)
         self.assertEqual(self.browser.told, [])
 
     def board(self, part=""):
         return self.open("board", BOARD.read_bytes(), part)
 
-    def asked_for(self, box, text):
-        """Types into a box and presses Enter; gives the heading of the answer."""
-        browser = self.browser
+    def asks(self, key, text, heading):
+        """Types into the box of a key and presses Enter, and waits for the heading of the answer. The page shows the overview before."""
+        browser, box = self.browser, {"n": "net", "c": "chip", "k": "key"}[key]
         browser.press("Escape")
-        self.settle()
-        browser.press(box)
+        self.until("[...document.querySelectorAll('#answer h2')].some(it => it.textContent === 'Overview')")
+        browser.press(key)
+        self.focuses(box)
         browser.type(text)
+        self.stands(f"document.querySelector('#{box}').value", text)
         browser.press("Enter")
-        return self.heading()
+        self.shows(heading)
 
-    def settle(self):
-        """Waits until the page has answered what stands in its address."""
-        self.until("document.body.dataset.answered === location.hash")
+    def goes(self, part):
+        """Writes into the page's address, and waits until the page has answered it."""
+        self.browser.ask(f"location.hash = {json.dumps(part)}")
+        self.until("'#' + document.body.dataset.answered === (location.hash || '#')")
 
-    def heading(self):
-        self.settle()
-        return self.browser.ask("document.querySelector('#answer h2')?.textContent || document.querySelector('#none')?.textContent")
+    def shows(self, heading):
+        """Waits for the heading of an answer, or for what is told where there is none."""
+        self.stands("document.querySelector('#answer h2')?.textContent || document.querySelector('#none')?.textContent", heading)
 
-    def focus(self):
-        return self.browser.ask("(it => it.id || it.getAttribute('aria-label') || it.tagName)(document.activeElement)")
+    def focuses(self, name):
+        """Waits until the focus is on what has this name."""
+        self.stands("document.activeElement.id || document.activeElement.tagName", name)
+
+    def focuses_chip(self, name):
+        """Waits until the focus is on a chip of the mesh, by what its label begins with."""
+        self.stands(f"document.activeElement.getAttribute('aria-label').slice(0, {len(name)})", name)
+
+    def texts(self, selector, wanted):
+        """Waits until the elements that a selector names have these texts."""
+        self.stands(f"[...document.querySelectorAll({json.dumps(selector)})].map(it => it.textContent)", wanted)
+
+    def stands(self, script, wanted):
+        """Waits until a script in the page gives what is wanted."""
+        self.browser.stands(script, wanted)
 
     def until(self, script):
-        """Waits until a script is true."""
-        for _ in range(500):
-            if self.browser.ask(script):
-                return
-            time.sleep(0.02)
-        self.fail(f"never true: {script}")
+        """Waits until a script in the page is true."""
+        self.browser.stands(f"Boolean({script})", True)
 
     def test_pages_open_and_fetch_nothing(self):
         for name in ("one_chip", "torus_back", "trace_all_links", "long_table", "bad_name"):
@@ -375,8 +387,8 @@ class Pages(unittest.TestCase):
             browser = self.open(name)
             self.assertEqual(browser.told, [])
             fetched = [told["request"]["url"] for method, told in browser.events if method == "Network.requestWillBeSent"]
-            self.assertEqual([it.split("/")[-1] for it in fetched if it != "about:blank"], [f"{name}.html"])
-            self.assertIsNotNone(self.heading())
+            self.assertEqual([it.split("/")[-1] for it in fetched], [f"{name}.html"])
+            self.until("document.querySelector('#answer h2')")
             dark = browser.ask("getComputedStyle(document.body).backgroundColor") == "rgb(23, 24, 27)"
             self.assertEqual(dark, scheme == "dark")
         self.browser.scheme("light")
@@ -388,27 +400,60 @@ class Pages(unittest.TestCase):
         grid, trees = grid_of(job), trees_of(job, report.plan)
         for net in ("n0", "n53", "n138", "n299"):
             visits = trees[net]
-            self.assertEqual(self.asked_for("n", net), f"Net {net}")
+            self.asks("n", net, f"Net {net}")
             edges = [(visit.chip, link) for visit in visits for link in visit.links if grid.next_chip(visit.chip, link)]
             self.assertEqual((self.browser.count(".hop"), self.browser.count("#overlay .hop-line")), (len(edges), len(edges)))
             self.assertEqual(self.browser.count(".visit"), len(visits))
             self.assertEqual(self.browser.count(".visit .straight"), sum(it.row is None for it in visits))
             self.assertEqual(self.browser.count("#cells .straight-on"), sum(it.row is None for it in visits))
-        self.assertEqual(self.asked_for("n", "no-such"), "No net is named no-such.")
+        self.asks("n", "no-such", "No net is named no-such.")
 
     def test_names_that_match_are_listed_as_one_types(self):
         browser = self.board()
         browser.press("n")
+        self.focuses("net")
         browser.type("n29")
-        self.assertEqual([it.split("v")[0] for it in browser.texts("#net-list li")], ["n29", *[f"n{i}" for i in range(290, 300)]])
+        names = ["n29", *[f"n{i}" for i in range(290, 300)]]
+        self.stands("[...document.querySelectorAll('#net-list li')].map(it => it.firstChild.textContent)", names)
         browser.press("ArrowDown", "ArrowDown", "Enter")
-        self.assertEqual(self.heading(), "Net n290")
+        self.shows("Net n290")
+        self.stands("document.querySelector('#net').value", "n290")
+
+    def test_what_is_typed_stays_while_a_trace_plays(self):
+        browser = self.open("trace_four_chips")
+        browser.ask("document.querySelector('#pace').value = '60'")
+        browser.press("p", "c")
+        self.focuses("chip")
+        browser.type("0, 0")
+        self.until("document.querySelector('#slider').value === document.querySelector('#slider').max")
+        self.stands("document.querySelector('#chip').value", "0, 0")
+        browser.press("Enter")
+        self.shows("Chip (0, 0)")
+
+    def test_an_address_that_comes_late_takes_nothing_away(self):
+        browser = self.board()
+        # (all in one turn of the page, so that what tells of the address comes after it)
+        browser.ask("""(() => {
+            document.querySelector("a[href*='net=']").click();
+            const box = document.querySelector("#net");
+            box.focus();
+            box.value = "n53";
+            box.dispatchEvent(new Event("input", { bubbles: true }));
+        })()""")
+        self.until("document.querySelector('#answer h2').textContent.startsWith('Net ')")
+        self.stands("document.querySelector('#net').value", "n53")
+        browser.press("Enter")
+        self.shows("Net n53")
+        browser.ask("history.back()")
+        self.until("document.querySelector('#answer h2').textContent !== 'Net n53'")
+        browser.ask("history.back()")
+        self.shows("Overview")
 
     def test_a_chip_shows_its_table(self):
         self.board()
         report = asked("tables", BOARD.read_bytes(), None)
         table = report.plan.tables[2, 2]
-        self.assertEqual(self.asked_for("c", "2, 2"), "Chip (2, 2)")
+        self.asks("c", "2, 2", "Chip (2, 2)")
         rows = self.browser.ask("[...document.querySelectorAll('tr.row')].map(it => [...it.cells].slice(0, 4).map(its => its.textContent))")
         routes = [" ".join([*links_of(row.route), *(f"c{core}" for core in cores_of(row.route))]) for row in table.rows]
         self.assertEqual(rows, [[str(i), f"{row.key:08x}", f"{row.mask:08x}", routes[i]] for i, row in enumerate(table.rows)])
@@ -426,8 +471,8 @@ class Pages(unittest.TestCase):
             self.assertEqual(sorted(named[place]), sorted(matched))
             here = [net for net, visits in trees.items() if any((it.chip, it.row) == ((2, 2), place) for it in visits)]
             self.assertEqual(sorted(taken[place]), sorted(here))
-        self.assertEqual(self.asked_for("c", "v0"), "Chip (6, 4)")
-        self.assertEqual(self.asked_for("c", "8, 0"), "The machine has no chip (8, 0).")
+        self.asks("c", "v0", "Chip (6, 4)")
+        self.asks("c", "8, 0", "The machine has no chip (8, 0).")
 
     def test_a_key_ends_at_its_targets(self):
         browser = self.board()
@@ -435,16 +480,18 @@ class Pages(unittest.TestCase):
         keys = asked("tables", text_of(job), None).plan.keys
         for number in (7, 138):
             net = job["graph"]["nets"][number]
-            for written in (str(keys[net["name"]].key), hex(keys[net["name"]].key)):
-                self.asked_for("k", written)
+            key = keys[net["name"]].key
+            for written in (str(key), hex(key)):
+                self.asks("k", written, f"Key {key:08x} ({key})")
                 self.assertEqual(sorted(browser.texts("#reached a")), sorted(set(net["targets"])))
                 self.assertIn("It reaches just the", browser.texts("dd .good")[0])
-        self.assertEqual(self.asked_for("k", "4294967296")[:24], "4294967296 is no key: wr")
-        self.asked_for("k", "0xffffffff")
+        form = "write a number up to 4294967295, or 0x and up to eight digits"
+        self.asks("k", "4294967296", f"4294967296 is no key: {form}.")
+        self.asks("k", "0xffffffff", "Key ffffffff (4294967295)")
         self.assertIn("no net has this key", browser.ask("document.querySelector('#answer').textContent"))
         # (from another chip: with no row it goes straight on to the edge, and is lost there)
-        browser.ask("location.hash = '#key=0xffffffff@4,4,W'")
-        self.until("document.querySelectorAll('.visit').length === 4")
+        self.goes("#key=0xffffffff@4,4,W")
+        self.assertEqual(browser.count(".visit"), 4)
         self.assertIn("(7, 4): link E leads nowhere", browser.texts(".lost-end")[0])
 
     def test_rows_are_found_as_by_the_program(self):
@@ -480,7 +527,7 @@ class Pages(unittest.TestCase):
             report = (EXAMPLES / f"{name}.report").read_text().splitlines()
             browser.press("t", "End")
             last = re.sub(r"^end ", "", report[-1])
-            self.assertEqual(browser.texts("#sums"), [last])
+            self.texts("#sums", [last])
             waits = sorted(re.sub(r"wait (\d+) at (\d+) (\d+) (.*)", r"\1 (\2, \3) \4", it) for it in report if it.startswith("wait"))
             words = "({ cells }) => cells[0].textContent + ' ' + cells[2].textContent"
             rows = browser.ask(f"[...document.querySelectorAll('tr.copy')].map({words})")
@@ -492,9 +539,9 @@ class Pages(unittest.TestCase):
             self.assertEqual(sum("delivered to" in it for it in rows), sum(it.startswith("got") for it in report))
             browser.press("ArrowLeft")
             count = sum(it.startswith("event") for it in report)
-            self.assertEqual(self.heading(), f"After event {count - 1} of {count}")
+            self.shows(f"After event {count - 1} of {count}")
             browser.press("Home")
-            self.assertEqual(self.heading(), f"After event 0 of {count}")
+            self.shows(f"After event 0 of {count}")
 
     def test_a_trace_is_played(self):
         browser = self.open("trace_four_chips")
@@ -510,7 +557,7 @@ class Pages(unittest.TestCase):
         rows = {int(chip): len(base64.b64decode(it)) // 12 for chip, it in found["tables"].items()}
         for name, word, counts in (("deliveries", "copies delivered", dict(found["outcome"]["deliveries"])), ("rows", "rows", rows)):
             browser.ask(f"(it => {{ it.value = '{name}'; it.dispatchEvent(new Event('change')); }})(document.querySelector('#show'))")
-            self.until(f"location.hash.includes('{name}')")
+            self.until(f"document.body.dataset.answered.includes('{name}')")
             chip, most = max(counts.items(), key=lambda it: it[1])
             self.until(f"document.querySelector('[data-chip=\"{chip}\"]').getAttribute('aria-label').includes('{most} {word}')")
             self.assertIn(str(most), browser.texts("#answer td.n"))
@@ -519,49 +566,57 @@ class Pages(unittest.TestCase):
 
     def test_the_keyboard_alone_reaches_all(self):
         browser = self.board()
-        self.assertEqual(self.asked_for("n", "n53"), "Net n53")
+        self.asks("n", "n53", "Net n53")
         browser.press("Escape")
-        self.assertEqual(self.heading(), "Overview")
+        self.shows("Overview")
         browser.press("m")
-        self.assertEqual(self.focus(), "mesh")
-        before = browser.ask("document.querySelector('#world').getAttribute('transform')")
+        self.focuses("mesh")
+        transform = "document.querySelector('#world').getAttribute('transform')"
         for key in ("ArrowLeft", "ArrowUp", "+", "-"):
+            before = browser.ask(transform)
             browser.press(key)
-            now = browser.ask("document.querySelector('#world').getAttribute('transform')")
-            self.assertNotEqual(now, before)
-            before = now
+            self.until(f"{transform} !== {json.dumps(before)}")
         browser.press("Tab")
-        self.assertTrue(self.focus().startswith("Chip (0, 0)"))
+        self.focuses_chip("Chip (0, 0):")
         browser.press("Tab")
-        self.assertTrue(self.focus().startswith("Chip (0, 1)"))
+        self.focuses_chip("Chip (0, 1):")
         browser.press("ArrowRight", shift=True)
-        self.assertTrue(self.focus().startswith("Chip (1, 1)"))
+        self.focuses_chip("Chip (1, 1):")
         browser.press("Enter")
-        self.until("document.querySelector('#answer h2').textContent === 'Chip (1, 1)'")
+        self.shows("Chip (1, 1)")
         browser.press("?")
-        self.assertTrue(browser.ask("document.querySelector('#help').open"))
+        self.until("document.querySelector('#help').open")
         browser.press("Escape")
-        self.assertFalse(browser.ask("document.querySelector('#help').open"))
-        browser.press("a", "Tab")
-        self.assertEqual(browser.ask("document.activeElement.closest('#answer') !== null"), True)
+        self.until("!document.querySelector('#help').open")
+        browser.press("a")
+        self.focuses("answer")
+        browser.press("Tab")
+        self.until("document.activeElement.matches('#answer a')")
         browser.press("Enter")
-        self.settle()
-        self.assertEqual(self.focus(), "answer")
+        self.until("document.querySelector('#answer h2').textContent !== 'Chip (1, 1)'")
+        self.focuses("answer")
         browser.press("s")
-        self.assertEqual(self.focus(), "show")
-        browser.press("Escape", "k")
+        self.focuses("show")
+        browser.press("Escape")
+        self.focuses("BODY")
+        browser.press("k")
+        self.focuses("key")
         browser.type("0xffffffff")
         browser.press("Tab")
+        self.focuses("from")
         browser.type("4, 4")
         browser.press("Tab", "W", "Tab", "Enter")
-        self.assertEqual(browser.ask("location.hash"), "#key=0xffffffff%404%2C4%2CW")
-        self.assertEqual((self.heading(), browser.count(".visit")), ("Key ffffffff (4294967295)", 4))
+        self.stands("location.hash", "#key=0xffffffff%404%2C4%2CW")
+        self.shows("Key ffffffff (4294967295)")
+        self.assertEqual(browser.count(".visit"), 4)
         # (each part that answers is reached by Tab too)
         parts = "[...document.querySelectorAll('input, select, button, a[href]')]"
         self.assertEqual(browser.ask(f"{parts}.filter(it => it.tabIndex < 0 && it.offsetParent).length"), 0)
         self.open("trace_two_chips")
-        browser.press("t", "ArrowRight", "ArrowRight")
-        self.assertEqual(self.heading(), "After event 2 of 14")
+        browser.press("t")
+        self.focuses("slider")
+        browser.press("ArrowRight", "ArrowRight")
+        self.shows("After event 2 of 14")
 
     def test_wheel_and_drag_move_the_mesh(self):
         browser = self.board()
@@ -572,13 +627,13 @@ class Pages(unittest.TestCase):
         before = browser.ask(transform)
         for kind, x in (("mousePressed", 300), ("mouseMoved", 330), ("mouseMoved", 360), ("mouseReleased", 360)):
             browser.call("Input.dispatchMouseEvent", {"type": kind, "x": x, "y": 400, "button": "left", "buttons": 1, "clickCount": 1})
-        self.assertNotEqual(browser.ask(transform), before)
-        self.assertEqual(self.heading(), "Overview")
+        self.until(f"{transform} !== {json.dumps(before)}")
+        self.shows("Overview")
         box = "document.querySelector('[data-chip=\"18\"]').getBoundingClientRect()"
         x, y = browser.ask(f"(it => [it.x + it.width / 2, it.y + it.height / 2])({box})")
         for kind in ("mousePressed", "mouseReleased"):
             browser.call("Input.dispatchMouseEvent", {"type": kind, "x": x, "y": y, "button": "left", "clickCount": 1})
-        self.until("document.querySelector('#answer h2').textContent === 'Chip (2, 2)'")
+        self.shows("Chip (2, 2)")
 
     def test_hostile_names_inject_nothing(self):
         browser = self.open("hostile", text_of(hostile_job()))
@@ -586,11 +641,10 @@ class Pages(unittest.TestCase):
         elements = f"[document.scripts.length, document.images.length, {named}.length]"
         markup = ("%3Cimg%2Fsrc%3Dx%2Fonerror%3Dbad()%3E", "%3Cscript%3Ebad()%3C%2Fscript%3E")
         for part in ("#", "#event=4", "#chip=0,0", "#key=1", *(f"#net={it}" for it in markup)):
-            browser.ask(f"location.hash = {json.dumps(part)}")
-            self.settle()
+            self.goes(part)
             self.assertEqual(browser.ask(elements), [2, 0, 0])
         for name in HOSTILE:
-            self.assertEqual(self.asked_for("n", name), f"Net {name}")
+            self.asks("n", name, f"Net {name}")
             self.assertIn(name, browser.texts("#targets a"))
         self.assertEqual(browser.ask("typeof bad"), "undefined")
         refused = hostile_job()
@@ -605,8 +659,14 @@ class Pages(unittest.TestCase):
         browser.ask("document.body.insertAdjacentHTML('beforeend', '<img src=\"x.png\" onerror=\"globalThis.ran = true\">')")
         self.assertEqual(browser.ask("fetch('http://localhost:9/').then(() => 'fetched', () => 'refused')"), "refused")
         self.assertEqual(browser.ask("typeof ran"), "undefined")
-        self.assertGreaterEqual(sum("Content Security Policy" in it for it in browser.told), 3)
-        browser.told.clear()
+        for _ in turns():
+            browser.ask("0")
+            if sum("Content Security Policy" in it for it in browser.told) >= 3:
+                break
+        else:
+            self.fail(f"the console tells less than three refusals: {browser.told}")
+        # (the rest that it tells of them is taken too)
+        browser.leave()
 
     def test_refusals_show_their_line_and_place(self):
         for name in ("cut_off", "long_table", "no_room", "keys_out", "bad_name"):
@@ -616,7 +676,7 @@ class Pages(unittest.TestCase):
             self.assertEqual(browser.count(".mark") > 0, place is not None)
             if place:
                 browser.ask("document.querySelector('#answer .place a').click()")
-                self.until(f"document.querySelector('#answer h2').textContent === {json.dumps(place)}")
+                self.shows(place)
                 self.assertEqual(browser.count("#answer p.bad"), 1)
         browser = self.open("none", b"{")
         self.assertEqual(browser.texts("#line"), ["bad job: not json"])
@@ -629,17 +689,16 @@ class Pages(unittest.TestCase):
             path = Path(self.folder.name) / "verdict.html"
             path.write_bytes(verified_page(network, "network.json").encode())
             self.browser.open(path)
-            self.settle()
             self.assertEqual((self.browser.texts("#verdict"), self.browser.count(".way-step")), ([line], steps))
             self.assertEqual(self.browser.count("#overlay .hop-line"), max(0, steps - 1))
-            self.asked_for("k", "0x1010")
+            self.asks("k", "0x1010", "Key 00001010 (4112)")
             self.assertEqual(self.browser.texts("#reached a"), ["left", "right"] if steps else ["left"])
             self.assertEqual(self.browser.count("dd .bad"), 1 if steps else 0)
-            self.asked_for("k", "0x125000")
+            self.asks("k", "0x125000", "Key 00125000 (1200128)")
             self.assertEqual(self.browser.texts("dl a")[0], "spikes")
-            self.assertEqual(self.asked_for("n", "spikes"), "Net spikes")
+            self.asks("n", "spikes", "Net spikes")
             self.assertIn("272 keys", self.browser.texts("dl")[0])
-            self.assertEqual(self.asked_for("c", "led"), "Chip (2, 1)")
+            self.asks("c", "led", "Chip (2, 1)")
 
     def test_the_largest_machine_opens(self):
         names = [f"v{i}" for i in range(4096)]
@@ -649,8 +708,8 @@ class Pages(unittest.TestCase):
         job = {"version": 1, "machine": {"width": 64, "height": 64, "wrap": True}, "graph": {"vertices": vertices, "nets": nets}}
         browser = self.open("largest", text_of(job), "#show=rows")
         self.assertEqual(browser.count("[data-chip]"), 4096)
-        self.assertEqual(self.asked_for("n", "n4095"), "Net n4095")
-        self.assertEqual(self.asked_for("c", "63 63"), "Chip (63, 63)")
+        self.asks("n", "n4095", "Net n4095")
+        self.asks("c", "63 63", "Chip (63, 63)")
 
 
 def first_wrong(job, plan, trees, tables):
