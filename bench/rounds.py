@@ -1,9 +1,25 @@
-"""Times what rounds on threads cost, and beside them the drain of the same mesh by one thread.
+"""Times what rounds on threads cost: in whole commands, and in calls beside the drain of the same mesh by one thread.
 
+    python3 bench/rounds.py runs [--program PROGRAM] [--beside OTHER] [--runs RUNS] [--row ROW ..] [--part PART]
     python3 bench/rounds.py [idle] [board] [chip]
 
-The calls are made by a small program that stands below as text. It is compiled as the launcher's program is, without a
-proof, from a copy of the repository that has it as one crate more; the crates that it calls are those that `rt ci` proves.
+`runs` times `run` and `reinject` of whole jobs: of PROGRAM (out/spin, where none is named), and of OTHER in turn with it, which is what
+PROGRAM is compared with. Beside each is `tables` of the same job: reading, compiling and writing the plan are in every time. With a PART
+of 10 each job has a tenth of its packets.
+
+    packets      65,536 packets on 48 chips with the vertices and nets of `gen 1`: queue 31,300, 64 turns, 4 workers
+    short        the same with queue 1,200
+    tight        4,000 packets there: queue 1, patience 1, turns 1, 2 workers
+    few          370 packets on a torus of 64 by 64 chips to four targets anywhere: queue 370, 64 turns, 4 workers
+    near         1,000, 10,000 and 65,536 packets on that torus to four targets near: queue 370, 16 turns, 1 worker
+    near_turns   65,536 of these at turns 1
+    across       2,048 packets of one net from corner to corner of 64 by 64 chips: queue 1, patience 255, turns 1
+    ring         `reinject` of 1,920 packets round a ring of 64 chips: queue 1, patience 1, 64 turns, with 1, 8 and 64 workers
+    one          `reinject` of 1,920 packets, all to one vertex of 8 by 8 chips: queue 1, patience 1, 64 turns, with 1 and 64 workers
+    fan          `reinject` of 100 packets on 64 by 64 chips from a core to the 16 others of its chip: queue 1; and `run` with ample queues
+
+The other words time calls, which are made by a small program that stands below as text. It is compiled as the launcher's program is,
+without a proof, from a copy of the repository that has it as one crate more; the crates that it calls are those that `rt ci` proves.
 
     idle     a torus of 64 by 64 chips, 16,384 vertices, no copy: what one call of `round` takes beside its moves: it makes all links,
              plays, and brings them down. A run makes its links once
@@ -19,7 +35,9 @@ least wall-clock time; the least processor time of the whole program less what o
 number of copies delivered. Where other programs keep the processors busy, threads wait for one at each round: `chrt -f 1` before
 the command lets these pass first.
 """
+import argparse
 import os
+import random
 import resource
 import subprocess
 import sys
@@ -28,6 +46,8 @@ import tempfile
 ROOT = os.path.dirname(os.path.dirname(os.path.realpath(__file__)))
 sys.path.insert(0, f"{ROOT}/tools")
 import compile as launcher  # noqa: E402
+import gen_reference  # noqa: E402
+from in_turn import add_programs, programs_of, show as show_programs  # noqa: E402
 
 LINE = "bench_rounds: mesh_round mesh_run mesh_drain mesh_core machine_desc tcam_find spin_base\n"
 RUNS = 9
@@ -213,6 +233,97 @@ fn main(rt: HostRuntime) -> ExitCode {
 """
 
 
+# ---- jobs that are run
+
+SIDE = 64
+
+
+def sent(nets, packets, **run):
+    """The members of a job that say what is sent: so many packets, net by net in turn."""
+    return {"run": {**run, "packets": [{"net": nets[i % len(nets)]["name"], "index": 0} for i in range(packets)]}}
+
+
+def on_board(packets, **run):
+    job = gen_reference.job(1)
+    return {**job, **sent(job["graph"]["nets"], packets, target=1024, **run)}
+
+
+def on_machine(side, height, wrap, vertices, nets, packets, **run):
+    machine = {"width": side, "height": height, "wrap": wrap}
+    return {"version": 1, "machine": machine, "graph": {"vertices": vertices, "nets": nets}, **sent(nets, packets, **run)}
+
+
+def named(count):
+    return [{"name": f"v{i}"} for i in range(count)]
+
+
+def net(number, source, targets):
+    return {"name": f"n{number}", "source": f"v{source}", "targets": [f"v{it}" for it in targets]}
+
+
+def anywhere(packets, **run):
+    draw, count = random.Random(5), 4 * SIDE * SIDE
+    nets = [net(i, draw.randrange(count), [draw.randrange(count) for _ in range(4)]) for i in range(512)]
+    return on_machine(SIDE, SIDE, True, named(count), nets, packets, **run)
+
+
+def to_near(packets, **run):
+    count = 4 * SIDE * SIDE
+    nets = [net(i, 16 * i, [(16 * i + 11 * k) % count for k in range(1, 5)]) for i in range(1024)]
+    return on_machine(SIDE, SIDE, True, named(count), nets, packets, queue=370, workers=1, **run)
+
+
+def across(packets, **run):
+    vertices = [{"name": "v0", "at": [0, 0]}, {"name": "v1", "at": [SIDE - 1, 0]}, {"name": "v2", "at": [SIDE - 1, SIDE - 1]}]
+    return on_machine(SIDE, SIDE, False, vertices, [net(0, 0, [1, 2])], packets, **run)
+
+
+def round_a_ring(packets, **run):
+    vertices = [{"name": f"v{i}", "at": [i, 0]} for i in range(SIDE)]
+    return on_machine(SIDE, 1, True, vertices, [net(i, i, [(i + 13) % SIDE]) for i in range(SIDE)], packets, **run)
+
+
+def to_one(packets, **run):
+    vertices = [{"name": f"v{i}", "at": [i // 8, i % 8]} for i in range(64)]
+    return on_machine(8, 8, False, vertices, [net(i, i, [0]) for i in range(1, 64)], packets, **run)
+
+
+def to_a_fan(packets, **run):
+    vertices = [{"name": f"v{i}", "at": [0, 0]} for i in range(17)]
+    return on_machine(SIDE, SIDE, False, vertices, [net(0, 0, range(1, 17))], packets, **run)
+
+
+SHORT = {"queue": 1, "patience": 1, "turns": 64}
+# Of each row the command, the kind of job, how many packets, and how they are run.
+ROWS = {
+    "packets": [("run", on_board, 65536, {"queue": 31300, "turns": 64, "workers": 4})],
+    "short": [("run", on_board, 65536, {"queue": 1200, "turns": 64, "workers": 4})],
+    "tight": [("run", on_board, 4000, {"queue": 1, "patience": 1, "turns": 1, "workers": 2})],
+    "few": [("run", anywhere, 370, {"queue": 370, "turns": 64, "workers": 4})],
+    "near": [("run", to_near, packets, {"turns": 16}) for packets in (1000, 10000, 65536)],
+    "near_turns": [("run", to_near, 65536, {"turns": 1})],
+    "across": [("run", across, 2048, {"queue": 1, "patience": 255, "turns": 1})],
+    "ring": [("reinject", round_a_ring, 1920, {**SHORT, "workers": workers}) for workers in (1, 8, 64)],
+    "one": [("reinject", to_one, 1920, {**SHORT, "workers": workers}) for workers in (1, 64)],
+    "fan": [("reinject", to_a_fan, 100, {"queue": 1}), ("run", to_a_fan, 100, {"queue": 370})],
+}
+
+
+def whole_commands(asked):
+    programs = programs_of(asked)
+    print(f"load {os.getloadavg()[0]:.1f}; least of {asked.runs} runs of {' and of '.join(programs)}")
+    for row in asked.row:
+        for word, kind, packets, run in ROWS[row]:
+            count = max(1, packets // asked.part)
+            job = kind(count, **run)
+            show_programs(f"{row}: tables alone", programs, ["tables"], job, asked.runs)
+            how = ", ".join(f"{name} {number}" for name, number in run.items())
+            show_programs(f"{row}: {word}, {count} packets, {how}", programs, [word], job, asked.runs)
+
+
+# ---- calls
+
+
 def program_in(room):
     """Compiles the program in a copy of the repository with one crate more."""
     os.makedirs(f"{room}/crates/bench_rounds/src")
@@ -259,8 +370,7 @@ def show(program, what, capacity, workers, turns, rounds=1):
     print(f"{text:50} {times}, {len(found)} runs, delivered {delivered[0]} to {delivered[-1]}", flush=True)
 
 
-def main():
-    parts = sys.argv[1:] or ["idle", "board", "chip"]
+def calls(parts):
     with tempfile.TemporaryDirectory(prefix="bench-rounds-") as room:
         program = program_in(room)
         if "idle" in parts:
@@ -278,6 +388,20 @@ def main():
                 show(program, "chip", capacity, 0, 1)
                 for workers in (1, 2):
                     show(program, "chip", capacity, workers, 64)
+
+
+def main():
+    parser = argparse.ArgumentParser(description="Times what rounds on threads cost (see the head of this file).")
+    parser.add_argument("parts", nargs="*", metavar="PART", help="runs, idle, board, chip; all where none is named")
+    parser.add_argument("--row", nargs="+", choices=ROWS, default=list(ROWS), help="of runs")
+    parser.add_argument("--part", type=int, default=1, help="the part of its packets that each job of runs has: 10 for a tenth")
+    add_programs(parser, 3)
+    asked = parser.parse_args()
+    parts = asked.parts or ["runs", "idle", "board", "chip"]
+    if "runs" in parts:
+        whole_commands(asked)
+    if set(parts) & {"idle", "board", "chip"}:
+        calls(parts)
 
 
 if __name__ == "__main__":
