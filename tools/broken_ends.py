@@ -27,7 +27,7 @@ from collections import namedtuple
 
 ROOT = os.path.dirname(os.path.dirname(os.path.realpath(__file__)))
 MOST_BYTES = 512
-MOST_SECONDS = 60
+MOST_SECONDS = 600
 PAGE = 4096
 # The example of each word that reads, and of a word that writes more than a page.
 EXAMPLES = (

@@ -28,7 +28,7 @@ import tempfile
 from collections import Counter, namedtuple
 
 ROOT = os.path.dirname(os.path.dirname(os.path.realpath(__file__)))
-MOST_SECONDS = 60
+MOST_SECONDS = 600
 SHOWN = 20
 EVERY = ("one_chip", "check_right", "apps_unsent")
 THREADED = ("ample_queues", "reinject_fan_out")

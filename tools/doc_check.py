@@ -30,7 +30,7 @@ import tempfile
 ROOT = os.path.dirname(os.path.dirname(os.path.realpath(__file__)))
 MADE = "docs/guide.md"
 CUT = "..."
-MOST_SECONDS = 100
+MOST_SECONDS = 1000
 # What the launcher needs beside the toolchain.
 TOOLS = ("cat", "dirname", "find", "readlink", "sh")
 

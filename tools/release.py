@@ -7,12 +7,14 @@
 The program is that of the launcher, which compiles it where that is due. The wheel says which sources, commit and toolchain it was
 compiled from (`kulzobad --version`). --try installs the wheel into an empty virtual environment, with a path on which nothing of the
 toolchain lies and no network, and runs examples, whose bytes have to be those that stand beside them. --tests runs python/tests from a
-folder without the package. Where pip or venv is missing both say that they were skipped. Each ends with status 1 where something fails.
+folder without the package. Where pip or venv is missing both say so: --try is skipped, and --tests runs the tests of the package as it
+stands. Each ends with status 1 where something fails, and names the tests that failed.
 """
 import glob
 import hashlib
 import json
 import os
+import re
 import shutil
 import subprocess
 import sys
@@ -73,7 +75,7 @@ def environment_in(room):
     python = f"{room}/environment/bin/python"
     pip = [sys.executable, "-m", "pip", "--python", python, "--disable-pip-version-check", "install", "--quiet", "--no-index", "--no-deps"]
     if made.returncode or subprocess.run([*pip[:5], "--version"], capture_output=True, check=False).returncode:
-        print("release: skipped, for pip or venv is missing, or pip is older than 22.3")
+        print("release: nothing is installed, for pip or venv is missing, or pip is older than 22.3")
         return None
     return python, pip
 
@@ -125,9 +127,10 @@ def try_release(room):
 
 def try_tests(room):
     """Installs the package as it stands, and runs its tests from a folder without it. It gives what fails."""
+    environment = {**os.environ, "KULZOBAD_SPIN": os.environ.get("KULZOBAD_SPIN", f"{ROOT}/spin"), "PYTHONDONTWRITEBYTECODE": "1"}
     found = environment_in(room)
     if found is None:
-        return []
+        return tests_that_fail(sys.executable, f"{ROOT}/python", environment)
     python, pip = found
     if not installed(pip, f"{ROOT}/python"):
         return ["the package can't be installed"]
@@ -135,13 +138,19 @@ def try_tests(room):
     shutil.copytree(f"{ROOT}/python/tests", f"{room}/copy/python/tests", ignore=shutil.ignore_patterns("__pycache__"))
     for name in ("examples", "docs", "tools"):
         os.symlink(f"{ROOT}/{name}", f"{room}/copy/{name}")
-    environment = {**os.environ, "KULZOBAD_SPIN": os.environ.get("KULZOBAD_SPIN", f"{ROOT}/spin"), "PYTHONDONTWRITEBYTECODE": "1"}
     folder, ask = f"{room}/copy/python", "import kulzobad; print(kulzobad.__file__)"
     where = subprocess.run([python, "-c", ask], cwd=folder, env=environment, capture_output=True, text=True, check=False)
     if not where.stdout.startswith(f"{room}/environment/"):
         return [f"the package that is tested is {where.stdout or where.stderr}"]
-    done = subprocess.run([python, "-m", "unittest", "-q"], cwd=folder, env=environment, check=False)
-    return ["a test of the installed package fails"] if done.returncode else []
+    return tests_that_fail(python, folder, environment)
+
+
+def tests_that_fail(python, folder, environment):
+    """Runs the tests of a folder, and gives the names of those that fail."""
+    done = subprocess.run([python, "-m", "unittest", "-q"], cwd=folder, env=environment, stderr=subprocess.PIPE, text=True, check=False)
+    sys.stderr.write(done.stderr)
+    named = re.findall(r"^(?:FAIL|ERROR): (.*)$", done.stderr, re.M)
+    return named or (["a test of the installed package fails"] if done.returncode else [])
 
 
 def main(words):

@@ -45,7 +45,7 @@ ROOT = model.ROOT
 LINKS = ("E", "NE", "N", "W", "SW", "S")
 # The outputs of a router by their bits.
 OUTS = (*LINKS, *(f"c{core}" for core in range(18)))
-MOST_SECONDS = 100
+MOST_SECONDS = 1000
 # One job in so many is a large one.
 LARGE = 10
 
