@@ -1,0 +1,148 @@
+"""Times the worst that a user can do: small texts of legal jobs that take the program long, or much memory.
+
+    python3 bench/worst.py [--program PROGRAM] [--beside OTHER] [--runs RUNS] [--limit MIB] [KIND[=SIZE] ..]
+
+PROGRAM is out/spin where none is named; OTHER is run in turn with it, and is what it is compared with. A SIZE is a number, or `most` for
+what a job may have at most. Without one a kind has a size that takes seconds, and without KINDs all are run. A program that wants more
+than MIB of memory, 4,096 where no number is given, ends with status 9. Told are processor time, wall-clock time and peak memory.
+
+    loads          `apps`: so many loads of an empty graph on 64 by 64 chips
+    small_loads    `apps`: the same with four vertices, two nets and two packets each, while there is room
+    empty_runs     `apps`: a load, and so many runs in which nothing is to do
+    in_turn        `apps`: so many times a load of a small application, a run and an unload
+    across         `run`: so many packets of one net across 64 by 64 chips: queue 1, patience 255, turns 1
+    into_one       `reinject`: so many nets into one vertex of 64 by 64 chips: queue 1, patience 1, turns 1
+    ring           `reinject`: so many packets round a ring of 64 chips: queue 1, patience 1, 64 turns, 64 workers
+    behind_a_long  `compile`: so many nets of 740 targets on 64 by 64 chips with 1,200 dead links, target 0: a table is too long
+    serpentine     `tables`: so many nets of two targets along a serpentine of live links through 64 by 64 chips, target 0
+    uncovered      `tables`: the same where rows have no target to get below: 1,024
+    deep_lists     `tables`: so many MiB of lists, 126 deep, in a member that nobody reads
+    thin_objects   `tables`: so many MiB of objects with one member each, in such a member
+"""
+import argparse
+import json
+import os
+import random
+
+from in_turn import MEBI, add_programs, programs_of, show
+from rounds import SHORT, across, net, on_machine, round_a_ring
+
+SIDE = 64
+SMALLEST = {"version": 1, "machine": {"width": 1, "height": 1}, "graph": {"vertices": [], "nets": []}}
+
+
+# ---- applications
+
+
+def application(vertices, nets, packets):
+    machine = {"width": SIDE, "height": SIDE}
+    return {"version": 1, "machine": machine, "graph": {"vertices": vertices, "nets": nets}, "run": {"packets": packets}}
+
+
+NOTHING = application([], [], [])
+SMALL = application(
+    [{"name": f"v{i}"} for i in range(4)], [net(0, 0, [1, 2, 3]), net(1, 3, [0])], [{"net": "n0", "index": 0}, {"net": "n1", "index": 0}]
+)
+
+
+def loads(size, job=NOTHING):
+    return [["load", i, job] for i in range(size)]
+
+
+def empty_runs(size):
+    return [["load", 0, SMALL], *[["run"]] * size]
+
+
+def in_turn(size):
+    return [step for i in range(size) for step in (["load", i, SMALL], ["run"], ["unload", i])]
+
+
+# ---- runs
+
+
+def into_one(size):
+    """Sixteen vertices on each of 256 chips, the first of them the target of the nets of all others."""
+    vertices = [{"name": f"v{i}", "at": [4 * (i // 16 % 16), 4 * (i // 256 % 16)]} for i in range(size + 1)]
+    return on_machine(SIDE, SIDE, False, vertices, [net(i, i, [0]) for i in range(1, size + 1)], size, queue=1, patience=1, turns=1)
+
+
+# ---- tables
+
+
+def behind_a_long(size):
+    draw = random.Random(6)
+    vertices = 4 * SIDE * SIDE
+    dead = random.Random(7).sample([[x, y, link] for x in range(SIDE) for y in range(SIDE) for link in range(3)], 1200)
+    nets = [net(i, 4 * i, draw.sample(range(vertices), 740)) for i in range(size)]
+    return {
+        "version": 1, "machine": {"width": SIDE, "height": SIDE, "wrap": True, "dead_links": dead},
+        "graph": {"vertices": [{"name": f"v{i}"} for i in range(vertices)], "nets": nets}, "run": {"target": 0},
+    }
+
+
+def serpentine(size, target):
+    """Along each row to its end, and then up: all other links are dead. Each net goes from the first chip to the middle and the last."""
+    path = [(x if y % 2 == 0 else SIDE - 1 - x, y) for y in range(SIDE) for x in range(SIDE)]
+    steps = {frozenset(pair) for pair in zip(path, path[1:])}
+    east, up = ((1, 0), (1, 1), (0, 1)), []
+    for x, y in path:
+        for link, (right, above) in enumerate(east):
+            end = (x + right, y + above)
+            if max(end) < SIDE and frozenset([(x, y), end]) not in steps:
+                up.append([x, y, link])
+    ends = [path[0]] * 8 + [path[len(path) // 2], path[-1]]
+    vertices = [{"name": f"v{i}", "at": list(chip)} for i, chip in enumerate(ends)]
+    nets = [net(i, i % 8, [8, 9]) for i in range(size)]
+    return {"version": 1, "machine": {"width": SIDE, "height": SIDE, "dead_links": up}, "graph": {"vertices": vertices, "nets": nets},
+            "run": {"target": target}}
+
+
+# ---- texts
+
+
+def text_with(part, size):
+    """A job with a member that nobody reads, a list of so many MiB of such parts."""
+    listed = ",".join([part] * (size * MEBI // (len(part) + 1) - 1))
+    text = json.dumps({**SMALLEST, "more": []}, separators=(",", ":"))
+    return text.replace('"more":[]', f'"more":[{listed}]').encode()
+
+
+DEEP = 124
+# Of each kind the word, what makes it of a size, the size for a try, and the most.
+KINDS = {
+    "loads": ("apps", loads, 2048, 65535),
+    "small_loads": ("apps", lambda size: loads(size, SMALL), 1024, 16384),
+    "empty_runs": ("apps", empty_runs, 1024, 65534),
+    "in_turn": ("apps", in_turn, 512, 21845),
+    "across": ("run", lambda size: across(size, queue=1, patience=255, turns=1), 128, 65536),
+    "into_one": ("reinject", into_one, 32, 4095),
+    "ring": ("reinject", lambda size: round_a_ring(size, **SHORT, workers=64), 64, 65536),
+    "behind_a_long": ("compile", behind_a_long, 128, 4096),
+    "serpentine": ("tables", lambda size: serpentine(size, 0), 64, 4096),
+    "uncovered": ("tables", lambda size: serpentine(size, 1024), 64, 4096),
+    "deep_lists": ("tables", lambda size: text_with("[" * DEEP + "]" * DEEP, size), 1, 16),
+    "thin_objects": ("tables", lambda size: text_with('{"a":' * DEEP + "0" + "}" * DEEP, size), 1, 16),
+}
+
+
+def main():
+    parser = argparse.ArgumentParser(description="Times the worst that a user can do (see the head of this file).")
+    parser.add_argument("kinds", nargs="*", metavar="KIND[=SIZE]", help=", ".join(KINDS))
+    parser.add_argument("--limit", type=int, default=4096, help="MiB of memory that a program may take")
+    add_programs(parser, 1)
+    asked = parser.parse_args()
+    programs = programs_of(asked)
+    print(f"load {os.getloadavg()[0]:.1f}; least of {asked.runs} runs of {' and of '.join(programs)}")
+    for kind in asked.kinds or KINDS:
+        name, _, size = kind.partition("=")
+        if name not in KINDS or not (size in ("", "most") or size.isdigit()):
+            parser.error(f"{kind} is no kind, or its size no number")
+        word, make, small, most = KINDS[name]
+        size = most if size == "most" else int(size or small)
+        job = make(size)
+        text = job if isinstance(job, bytes) else json.dumps(job, separators=(",", ":")).encode()
+        show(f"{name}={size}: {word}, {len(text) / 1e6:.2f} MB", programs, [word], text, asked.runs, asked.limit * MEBI)
+
+
+if __name__ == "__main__":
+    main()
