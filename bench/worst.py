@@ -13,7 +13,8 @@ than MIB of memory, 4,096 where no number is given, ends with status 9. Told are
     across         `run`: so many packets of one net across 64 by 64 chips: queue 1, patience 255, turns 1
     into_one       `reinject`: so many nets into one vertex of 64 by 64 chips: queue 1, patience 1, turns 1
     ring           `reinject`: so many packets round a ring of 64 chips: queue 1, patience 1, 64 turns, 64 workers
-    behind_a_long  `compile`: so many nets of 740 targets on 64 by 64 chips with 1,200 dead links, target 0: a table is too long
+    behind_a_long  `compile`: so many nets of 100 targets on a torus of 16 by 16 chips, target 0: from 2,048 on most tables are too long
+    far_and_wide   `compile`: so many nets of 740 targets on a torus of 64 by 64 chips with 1,200 dead links, target 0
     serpentine     `tables`: so many nets of two targets along a serpentine of live links through 64 by 64 chips, target 0
     uncovered      `tables`: the same where rows have no target to get below: 1,024
     deep_lists     `tables`: so many MiB of lists, 126 deep, in a member that nobody reads
@@ -69,31 +70,30 @@ def into_one(size):
 # ---- tables
 
 
-def behind_a_long(size):
-    draw = random.Random(6)
-    vertices = 4 * SIDE * SIDE
-    dead = random.Random(7).sample([[x, y, link] for x in range(SIDE) for y in range(SIDE) for link in range(3)], 1200)
-    nets = [net(i, 4 * i, draw.sample(range(vertices), 740)) for i in range(size)]
-    return {
-        "version": 1, "machine": {"width": SIDE, "height": SIDE, "wrap": True, "dead_links": dead},
-        "graph": {"vertices": [{"name": f"v{i}"} for i in range(vertices)], "nets": nets}, "run": {"target": 0},
-    }
+def long_tables(size, side, targets, dead_links):
+    """Nets of so many targets anywhere on a torus, and a target of no row."""
+    draw, vertices = random.Random(6), 4 * side * side
+    dead = random.Random(7).sample([[x, y, link] for x in range(side) for y in range(side) for link in range(3)], dead_links)
+    nets = [net(i, 4 * i % vertices, draw.sample(range(vertices), targets)) for i in range(size)]
+    machine = {"width": side, "height": side, "wrap": True, "dead_links": dead}
+    graph = {"vertices": [{"name": f"v{i}"} for i in range(vertices)], "nets": nets}
+    return {"version": 1, "machine": machine, "graph": graph, "run": {"target": 0}}
 
 
 def serpentine(size, target):
     """Along each row to its end, and then up: all other links are dead. Each net goes from the first chip to the middle and the last."""
     path = [(x if y % 2 == 0 else SIDE - 1 - x, y) for y in range(SIDE) for x in range(SIDE)]
     steps = {frozenset(pair) for pair in zip(path, path[1:])}
-    east, up = ((1, 0), (1, 1), (0, 1)), []
+    dead = []
     for x, y in path:
-        for link, (right, above) in enumerate(east):
+        for link, (right, above) in enumerate(((1, 0), (1, 1), (0, 1))):
             end = (x + right, y + above)
             if max(end) < SIDE and frozenset([(x, y), end]) not in steps:
-                up.append([x, y, link])
+                dead.append([x, y, link])
     ends = [path[0]] * 8 + [path[len(path) // 2], path[-1]]
     vertices = [{"name": f"v{i}", "at": list(chip)} for i, chip in enumerate(ends)]
     nets = [net(i, i % 8, [8, 9]) for i in range(size)]
-    return {"version": 1, "machine": {"width": SIDE, "height": SIDE, "dead_links": up}, "graph": {"vertices": vertices, "nets": nets},
+    return {"version": 1, "machine": {"width": SIDE, "height": SIDE, "dead_links": dead}, "graph": {"vertices": vertices, "nets": nets},
             "run": {"target": target}}
 
 
@@ -117,7 +117,8 @@ KINDS = {
     "across": ("run", lambda size: across(size, queue=1, patience=255, turns=1), 128, 65536),
     "into_one": ("reinject", into_one, 32, 4095),
     "ring": ("reinject", lambda size: round_a_ring(size, **SHORT, workers=64), 64, 65536),
-    "behind_a_long": ("compile", behind_a_long, 128, 4096),
+    "behind_a_long": ("compile", lambda size: long_tables(size, 16, 100, 0), 2048, 4096),
+    "far_and_wide": ("compile", lambda size: long_tables(size, SIDE, 740, 1200), 128, 4096),
     "serpentine": ("tables", lambda size: serpentine(size, 0), 64, 4096),
     "uncovered": ("tables", lambda size: serpentine(size, 1024), 64, 4096),
     "deep_lists": ("tables", lambda size: text_with("[" * DEEP + "]" * DEEP, size), 1, 16),
