@@ -1,5 +1,5 @@
 -- Final tables that are loaded route every net's packets by its tree.
-use Rattle.std.proofs.Common.{◌≡◌, ℕ, zero, suc, ◌-◌, ◌*◌, ◌^◌, ◌<◌, ◌≤◌, ◌==◌, false, bit_and, List, [], length, get_or, map, replicate, Some, sym, ap, ◌∙◌, subst, arith, inl, inr}
+use Rattle.std.proofs.Common.{◌≡◌, ℕ, zero, suc, ◌-◌, ◌*◌, ◌^◌, ◌<◌, ◌≤◌, bit_and, List, [], ◌∷◌, length, get_or, map, replicate, take, Some, sym, ap, ◌∙◌, subst, arith, inl, inr}
 use Rattle.std.specs.List.{All, AllZip, slice_get, slice_index_or}
 use Rattle.std.proofs.lemmas.List.Elements.{All-nil, All-cons, All-contains, All-map}
 use Rattle.std.proofs.lemmas.List.Sorted.{Contains-permutation}
@@ -10,7 +10,7 @@ use Rattle.spin_base.specs.declared.blocks.Entry.{Entry}
 use Rattle.spin_base.specs.declared.chips.Chip.{Chip}
 use Rattle.spin_base.specs.declared.chips.Port.{Port}
 use Rattle.spin_base.specs.declared.routes.Route.{Route}
-use Rattle.spin_base.specs.Lookup.{lookup, matches}
+use Rattle.spin_base.specs.Lookup.{lookup}
 use Rattle.spin_base.specs.Outputs.{has}
 use Rattle.std.proofs.lemmas.Nat.{mul-le}
 use Rattle.machine_desc.specs.Description.{Description, HasSize}
@@ -77,7 +77,7 @@ module _ (m : Description) (nets : List NetPlan) (target : ℕ) (tables : List T
 
 -- ---- what stands at each place
 
-module _ (m : Description) (nets : List NetPlan) (tables : List Table) (many : length tables ≡ m.width * m.height) where
+module _ (m : Description) (nets : List NetPlan) (tables : List Table) (many : length tables ≤ m.width * m.height) where
   -- what holds of each chip's table holds of each table
   pub each_table : (P : List Row → Type 0) → AtEach m tables (λ c rows. P rows) → All (λ (t : Table). P t.rows) tables
   each_table P at = All-each (λ (t : Table). P t.rows) tables (λ t has_t. one t has_t.0 has_t.1 has_t.2)
@@ -85,7 +85,7 @@ module _ (m : Description) (nets : List NetPlan) (tables : List Table) (many : l
       one : (t : Table) (i : ℕ) → i < length tables → get_or tables i t ≡ t → P t.rows
       one t i below is =
           let chip : Chip = chip_of m i in
-          let inside = chip_of-inside m i (subst (λ n. i < n) many below) in
+          let inside = chip_of-inside m i (omega (arith, many, below)) in
           let there = slice_get_there tables i below in
           let same : there.0 ≡ t = sym (get_or_from_slice_get tables i there.0 t there.1) ∙ is in
           at chip t inside (ap (slice_get tables) (index_of-chip_of m i) ∙ (there.1 ∙ ap Some same))
@@ -105,7 +105,7 @@ module _ (m : Description) (nets : List NetPlan) (target : ℕ) (tables : List T
       record { rows = t.0.rows; plain = plain c t.0 inside t.1; is_final = t.2 }
 
   -- the kept rows have outputs, since those of the plain table have
-  pub all_keep : length tables ≡ m.width * m.height → AreRoutedApart m nets → AtEach m tables (IsPlainTable m nets) → AllZip (λ (t : Table) f. StandsFor target t.rows f) tables finals → All KeepsRows finals
+  pub all_keep : length tables ≤ m.width * m.height → AreRoutedApart m nets → AtEach m tables (IsPlainTable m nets) → AllZip (λ (t : Table) f. StandsFor target t.rows f) tables finals → All KeepsRows finals
   all_keep many routed plain each = All-each KeepsRows finals (λ f has_f. one f has_f.0 has_f.1 has_f.2)
     where
       lead : (t : Table) (f : Final) → All (λ (r : Row). 0 < r.route.bits) t.rows → StandsFor target t.rows f → KeepsRows f
@@ -129,11 +129,12 @@ module _ (m : Description) (nets : List NetPlan) (target : ℕ) (tables : List T
           lead_all : (t : Table) (j : ℕ) → slice_get tables j ≡ Some t → All (λ (r : Row). 0 < r.route.bits) t.rows
           lead_all t j at =
               let chip : Chip = chip_of m j in
-              let inside = chip_of-inside m j (subst (λ n. j < n) many (slice_get_within tables j t at)) in
+              let within = slice_get_within tables j t at in
+              let inside = chip_of-inside m j (omega (arith, many, within)) in
               rows_lead m nets routed chip t.rows (plain chip t inside (ap (slice_get tables) (index_of-chip_of m j) ∙ at))
 
 -- no table keeps more rows than there are nets
-pub few_kept : (m : Description) (nets : List NetPlan) (target : ℕ) (tables : List Table) (finals : List Final) → length tables ≡ m.width * m.height →
+pub few_kept : (m : Description) (nets : List NetPlan) (target : ℕ) (tables : List Table) (finals : List Final) → length tables ≤ m.width * m.height →
     AtEach m tables (λ c rows. length rows ≤ length nets) → AllZip (λ (t : Table) f. StandsFor target t.rows f) tables finals → All (λ (f : Final). length f.kept ≤ length nets) finals
 few_kept m nets target tables finals many few each k d below =
     let f : Final = slice_index_or finals k d in
@@ -152,6 +153,33 @@ all_ended target tables finals each k d below =
       | inl short ↦ inl (let few = t.2.few.0 in omega (arith, few, short))
       | inr none ↦ inr none
     ]
+
+-- ---- the tables of the chips from the first on
+
+slice_get-taken : {X : Type 0} (xs : List X) (n i : ℕ) (x : X) → slice_get (take n xs) i ≡ Some x → slice_get xs i ≡ Some x
+slice_get-taken xs zero i x at = cc
+slice_get-taken [] (suc n) i x at = at
+slice_get-taken (y ∷ ys) (suc n) zero x at = at
+slice_get-taken (y ∷ ys) (suc n) (suc i) x at = slice_get-taken ys n i x at
+
+taken_within : {X : Type 0} (n : ℕ) (xs : List X) → length (take n xs) ≤ length xs
+taken_within zero xs = omega arith
+taken_within (suc n) [] = omega arith
+taken_within (suc n) (x ∷ xs) = let rest = taken_within n xs in omega (arith, rest)
+
+-- what holds of each chip's table holds of those of the first chips
+pub of_first : (m : Description) (tables : List Table) (n : ℕ) (P : Chip → List Row → Type 0) → AtEach m tables P → AtEach m (take n tables) P
+of_first m tables n P at c t inside there = at c t inside (slice_get-taken tables n (index_of m c) t there)
+
+pub first_within : (n chips : ℕ) (tables : List Table) → length tables ≡ chips → length (take n tables) ≤ chips
+first_within n chips tables many = let within = taken_within n tables in omega (arith, within, many)
+
+-- what is promised of each pair
+pub zip_weaker : (P Q : Table → Final → Type 0) → ((t : Table) (f : Final) → P t f → Q t f) → (ts : List Table) (fs : List Final) → AllZip P ts fs → AllZip Q ts fs
+zip_weaker P Q from [] [] each = tt
+zip_weaker P Q from [] (f ∷ fs) each = absurd each
+zip_weaker P Q from (t ∷ ts) [] each = absurd each
+zip_weaker P Q from (t ∷ ts) (f ∷ fs) each = (from t f each.0, zip_weaker P Q from ts fs each.1)
 
 -- a machine has few chips
 pub few_chips : (m : Description) → HasSize m → (n : ℕ) → n ≡ m.width * m.height → n < 2 ^ 32

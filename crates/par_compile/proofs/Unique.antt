@@ -1,5 +1,5 @@
 -- A graph has one routing and one list of final tables: so one plan, or one long table.
-use Rattle.std.proofs.Common.{◌≡◌, ℕ, ◌*◌, ◌<◌, ◌≤◌, List, map, length, get_or, nat_lt, true, false, Option, Some, None, inl, inr, sym, ap, ◌∙◌, subst, arith}
+use Rattle.std.proofs.Common.{◌≡◌, ℕ, ◌<◌, ◌≤◌, List, length, get_or, nat_lt, true, false, Some, None, inl, inr, sym, ap, ◌∙◌, subst, arith}
 use Rattle.std.specs.List.{All, Contains, position, position_or_len, slice_get}
 use Rattle.std.proofs.lemmas.Bool.{cases_order, lt-ltb, ltb-true, true≢false}
 use Rattle.std.proofs.lemmas.List.Elements.{All-contains}
@@ -11,14 +11,14 @@ use Rattle.spin_base.specs.declared.chips.Chip.{Chip}
 use Rattle.spin_base.specs.declared.chips.Spot.{Spot}
 use Rattle.machine_desc.specs.Description.{Description}
 use Rattle.machine_desc.specs.Live.{IsInside, IsSite, chip_of, index_of}
-use Rattle.machine_desc.proofs.Far.{live_inside, same_index}
+use Rattle.machine_desc.proofs.Far.{index_below, live_inside, same_index}
 use Rattle.machine_desc.proofs.Live.{chip_of-inside, index_of-chip_of}
 use Rattle.machine_desc.proofs.Sites.{site_parts}
 use Rattle.app_graph.specs.declared.graphs.Graph.{Graph}
 use Rattle.machine_desc.specs.declared.nets.NetPlan.{NetPlan}
 use Rattle.machine_desc.specs.NetsOn.{AreNetsOn}
 use Rattle.ner_trees.specs.declared.growths.Grown.{Grown}
-use Rattle.spin_base.proofs.Places.{All-at, All-each}
+use Rattle.spin_base.proofs.Places.{All-at, All-each, slice_get_there}
 use Rattle.place_fit.specs.declared.placing.Placement.{Placement}
 use Rattle.place_fit.proofs.Determined as places
 use Rattle.key_alloc.proofs.Determined as keys
@@ -31,9 +31,9 @@ use Rattle.default_routes.specs.FinalTable.{IsFinalOf}
 use Rattle.default_routes.proofs.Determined as final
 use Rattle.tern_word.specs.declared.tables.Row.{Row}
 use Rattle.par_compile.specs.declared.compiling.Plan.{Plan}
-use Rattle.par_compile.specs.Compiled.{blocks_of, HasLongTable, IsPlanOf, IsRoutingOf, is_long}
+use Rattle.par_compile.specs.Compiled.{blocks_of, HasLongTable, IsPlanOf, IsRoutingOf}
 use Rattle.cover_merge.specs.Covering.{HasNoLegalPair}
-use Rattle.par_compile.specs.Finals.{AreFinals, HasEnded}
+use Rattle.par_compile.specs.Finals.{AreFinals, HasEnded, HasFinal, is_long}
 
 -- nets that stand on sites of a machine are what plain tables ask for
 pub routed_of : (m : Description) (spots : List Spot) (nets : List NetPlan) → All (IsSite m) spots → AreNetsOn m spots nets → AreRoutedApart m nets
@@ -58,17 +58,11 @@ same_placement p q spots memory = λ i. record { spots = spots i; memory = memor
 same_plan : (p q : Plan) → p.placement ≡ q.placement → p.grown ≡ q.grown → p.nets ≡ q.nets → p.tables ≡ q.tables → p ≡ q
 same_plan p q placement grown nets tables = λ i. record { placement = placement i; grown = grown i; nets = nets i; tables = tables i }
 
--- final tables are determined by the nets
-pub one_finals : (m : Description) (nets : List NetPlan) → AreRoutedApart m nets → (target : ℕ) (fs gs : List Final) → length fs ≡ m.width * m.height → length gs ≡ m.width * m.height →
-    AreFinals m nets target fs → AreFinals m nets target gs → fs ≡ gs
-one_finals m nets routed target fs gs many also are others =
-    same_places fs gs (many ∙ sym also) (λ i f g at_f at_g.
-    let c : Chip = chip_of m i in
-    let inside : IsInside m c = chip_of-inside m i (subst (λ n. i < n) many (slice_get_within fs i f at_f)) in
-    let a = are c f inside (ap (slice_get fs) (index_of-chip_of m i) ∙ at_f) in
-    let b = others c g inside (ap (slice_get gs) (index_of-chip_of m i) ∙ at_g) in
+-- a chip's final table is determined by the nets
+one_final : (m : Description) (nets : List NetPlan) → AreRoutedApart m nets → (target : ℕ) (c : Chip) (f g : Final) → HasFinal m nets target c f → HasFinal m nets target c g → f ≡ g
+one_final m nets routed target c f g a b =
     let rows : a.rows ≡ b.rows = plain.one_table m nets routed c a.rows b.rows a.plain b.plain in
-    final.one_table target b.rows f g (subst (λ (rs : List Row). IsFinalOf target rs f) rows a.is_final) b.is_final)
+    final.one_table target b.rows f g (subst (λ (rs : List Row). IsFinalOf target rs f) rows a.is_final) b.is_final
 
 le_from_ltb : (n : ℕ) → nat_lt 1024 n ≡ false → n ≤ 1024
 le_from_ltb n not = elim (cases_order n 1024) [
@@ -83,12 +77,14 @@ none_long fs none k d below =
     let past : length fs ≤ position_or_len is_long fs = grind (arith, common_steps) in
     le_from_ltb (length (get_or fs k d).kept) (fails_before_first is_long fs k d (omega arith))
 
--- a long table keeps more rows than a router has entries
-is_more : (fs : List Final) (i : ℕ) (t : Final) → position is_long fs ≡ Some i → slice_get fs i ≡ Some t → 1024 < length t.kept
-is_more fs i t first at =
-    let long = (position-Some is_long fs i t first).1 in
+-- the first table that is long is long: it keeps more rows than a router has entries
+long_at : (fs : List Final) (i : ℕ) (t : Final) → position is_long fs ≡ Some i → slice_get fs i ≡ Some t → is_long t ≡ true
+long_at fs i t first at =
     let it : get_or fs i t ≡ t = get_or_from_slice_get fs i t t at in
-    ltb-true 1024 (length t.kept) (subst (λ (f : Final). is_long f ≡ true) it long)
+    subst (λ (f : Final). is_long f ≡ true) it (position-Some is_long fs i t first).1
+
+is_more : (fs : List Final) (i : ℕ) (t : Final) → position is_long fs ≡ Some i → slice_get fs i ≡ Some t → 1024 < length t.kept
+is_more fs i t first at = ltb-true 1024 (length t.kept) (long_at fs i t first at)
 
 -- so there are more nets than entries
 pub long_has_many : (nets fits : ℕ) (fs : List Final) (i : ℕ) (t : Final) → nets ≡ fits → All (λ (f : Final). length f.kept ≤ nets) fs → position is_long fs ≡ Some i → slice_get fs i ≡ Some t →
@@ -106,12 +102,6 @@ long_has_no_pair target fs i t small ended first at = elim (All-at (HasEnded tar
   | inr none ↦ none
 ]
 
-same_some : (a b : ℕ) (o : Option ℕ) → o ≡ Some a → o ≡ Some b → a ≡ b
-same_some a b o is also = cc
-
-same_item : (fs : List Final) (i : ℕ) (t u : Final) → slice_get fs i ≡ Some t → slice_get fs i ≡ Some u → t ≡ u
-same_item fs i t u at also = cc
-
 module _ (m : Description) (graph : Graph) where
   pub one_routing : (p q : Placement) (gs hs : List Grown) (ns os : List NetPlan) → IsRoutingOf m graph p gs ns → IsRoutingOf m graph q hs os → (p ≡ q) × (gs ≡ hs) × (ns ≡ os)
   one_routing p q gs hs ns os a b =
@@ -124,36 +114,58 @@ module _ (m : Description) (graph : Graph) where
       (same_placement p q placed.0 placed.1, both.0, both.1)
 
   module _ (target : ℕ) where
-    -- two routings of a graph have the same final tables
-    same_finals : (p q : Placement) (gs hs : List Grown) (ns os : List NetPlan) (fs es : List Final) → IsRoutingOf m graph p gs ns → IsRoutingOf m graph q hs os →
-        length fs ≡ m.width * m.height → length es ≡ m.width * m.height → AreFinals m ns target fs → AreFinals m os target es → fs ≡ es
-    same_finals p q gs hs ns os fs es a b many also are others =
+    -- two routings of a graph have the same final table at a chip
+    same_final : (p q : Placement) (gs hs : List Grown) (ns os : List NetPlan) (fs es : List Final) → IsRoutingOf m graph p gs ns → IsRoutingOf m graph q hs os →
+        AreFinals m ns target fs → AreFinals m os target es → (c : Chip) (f g : Final) → IsInside m c → slice_get fs (index_of m c) ≡ Some f → slice_get es (index_of m c) ≡ Some g → f ≡ g
+    same_final p q gs hs ns os fs es a b are others c f g inside at also =
         let nets : ns ≡ os = (one_routing p q gs hs ns os a b).2 in
-        one_finals m ns (routed_of m p.spots ns a.sites a.stand) target fs es many also are (subst (λ (l : List NetPlan). AreFinals m l target es) (sym nets) others)
+        one_final m ns (routed_of m p.spots ns a.sites a.stand) target c f g
+        (are c f inside at) (subst (λ (l : List NetPlan). HasFinal m l target c g) (sym nets) (others c g inside also))
 
     pub one_plan : (p q : Plan) → IsPlanOf m graph target p → IsPlanOf m graph target q → p ≡ q
     one_plan p q a b =
         let same = one_routing p.placement q.placement p.grown q.grown p.nets q.nets a.routing b.routing in
         same_plan p q same.0 same.1 same.2
-        (same_finals p.placement q.placement p.grown q.grown p.nets q.nets p.tables q.tables a.routing b.routing a.one_table_each b.one_table_each a.tables b.tables)
+        (same_places p.tables q.tables (a.one_table_each ∙ sym b.one_table_each) (λ i f g at also.
+        let c : Chip = chip_of m i in
+        let inside : IsInside m c = chip_of-inside m i (subst (λ n. i < n) a.one_table_each (slice_get_within p.tables i f at)) in
+        same_final p.placement q.placement p.grown q.grown p.nets q.nets p.tables q.tables a.routing b.routing a.tables b.tables c f g inside
+        (ap (slice_get p.tables) (index_of-chip_of m i) ∙ at) (ap (slice_get q.tables) (index_of-chip_of m i) ∙ also)))
 
     -- a graph with a long table has no plan
     pub long_not_planned : (chip : Chip) (table : Final) (plan : Plan) → HasLongTable m graph target chip table → IsPlanOf m graph target plan → ⊥
     long_not_planned chip table plan has is =
-        let same : plan.tables ≡ has.finals =
-        same_finals plan.placement has.placement plan.grown has.grown plan.nets has.nets plan.tables has.finals is.routing has.routing is.one_table_each has.one_each is.tables has.are
+        let there = slice_get_there plan.tables (index_of m chip) (subst (λ n. index_of m chip < n) (sym is.one_table_each) (index_below m chip has.inside)) in
+        let same : there.0 ≡ table =
+        same_final plan.placement has.placement plan.grown has.grown plan.nets has.nets plan.tables has.finals is.routing has.routing is.tables has.are chip there.0 table has.inside there.1 has.at
         in
-        let short : length table.kept ≤ 1024 = All-at (λ (f : Final). length f.kept ≤ 1024) has.finals (index_of m chip) table (subst (All (λ (f : Final). length f.kept ≤ 1024)) same is.short) has.at in
+        let short : length there.0.kept ≤ 1024 = All-at (λ (f : Final). length f.kept ≤ 1024) plan.tables (index_of m chip) there.0 is.short there.1 in
+        let few : length table.kept ≤ 1024 = subst (λ (f : Final). length f.kept ≤ 1024) same short in
         let more = is_more has.finals (index_of m chip) table has.first has.at in
-        omega (arith, short, more)
+        omega (arith, few, more)
+
+    -- no chip before the first that is long is long
+    not_before : (c d : Chip) (t u : Final) → HasLongTable m graph target c t → HasLongTable m graph target d u → index_of m c < index_of m d → ⊥
+    not_before c d t u a b less =
+        let first = position-Some is_long b.finals (index_of m d) u b.first in
+        let inside = first.0 in
+        let there = slice_get_there b.finals (index_of m c) (omega (arith, less, inside)) in
+        let same : t ≡ there.0 =
+        same_final a.placement b.placement a.grown b.grown a.nets b.nets a.finals b.finals a.routing b.routing a.are b.are c t there.0 a.inside a.at there.1
+        in
+        let it : get_or b.finals (index_of m c) u ≡ there.0 = get_or_from_slice_get b.finals (index_of m c) there.0 u there.1 in
+        let long : is_long there.0 ≡ true = subst (λ (f : Final). is_long f ≡ true) same (long_at a.finals (index_of m c) t a.first a.at) in
+        true≢false (sym long ∙ (ap is_long (sym it) ∙ first.2 (index_of m c) less))
 
     -- a graph has one first long table
     pub one_long : (c d : Chip) (t u : Final) → HasLongTable m graph target c t → HasLongTable m graph target d u → (c ≡ d) × (t ≡ u)
-    one_long c d t u a b =
-        let same : a.finals ≡ b.finals =
-        same_finals a.placement b.placement a.grown b.grown a.nets b.nets a.finals b.finals a.routing b.routing a.one_each b.one_each a.are b.are
-        in
-        let first : position is_long b.finals ≡ Some (index_of m c) = subst (λ (fs : List Final). position is_long fs ≡ Some (index_of m c)) same a.first in
-        let place : index_of m c ≡ index_of m d = same_some (index_of m c) (index_of m d) (position is_long b.finals) first b.first in
-        let at : slice_get b.finals (index_of m d) ≡ Some t = subst (λ n. slice_get b.finals n ≡ Some t) place (subst (λ (fs : List Final). slice_get fs (index_of m c) ≡ Some t) same a.at) in
-        (same_index m c d a.inside b.inside place, same_item b.finals (index_of m d) t u at b.at)
+    one_long c d t u a b = elim (cases_order (index_of m c) (index_of m d)) [
+      | inl place ↦
+          let same : c ≡ d = same_index m c d a.inside b.inside place in (
+            same,
+            same_final a.placement b.placement a.grown b.grown a.nets b.nets a.finals b.finals a.routing b.routing a.are b.are c t u a.inside a.at
+                (ap (slice_get b.finals) place ∙ b.at),
+          )
+      | inr (inl less) ↦ absurd (not_before c d t u a b less)
+      | inr (inr more) ↦ absurd (not_before d c u t b a more)
+    ]

@@ -1,15 +1,18 @@
 -- Runs of tables that workers cover, table by table.
-use Rattle.std.proofs.Common.{◌≡◌, ℕ, suc, ◌+◌, ◌<◌, ◌≤◌, List, [], ◌∷◌, length, get_or, set, map, refl, sym, ap, ◌∙◌, subst, arith, inl, inr}
-use Rattle.std.specs.List.{All, AllZip}
+use Rattle.std.proofs.Common.{◌≡◌, ℕ, suc, ◌+◌, ◌<◌, ◌≤◌, true, None, List, [], ◌∷◌, ◌++◌, length, get_or, set, map, take, refl, sym, ap, ◌∙◌, subst, arith, inl, inr}
+use Rattle.std.specs.List.{All, AllZip, position}
 use Rattle.std.proofs.Math.ListN.{length-set}
-use Rattle.std.proofs.lemmas.Bool.{cases_eq}
-use Rattle.std.proofs.lemmas.List.{get_or_default, get_or-set_same, get_or-set_other, length-map}
-use Rattle.std.proofs.lemmas.List.Elements.{All-map}
+use Rattle.std.proofs.Math.Seq.{take-append_seam}
+use Rattle.std.proofs.lemmas.Bool.{cases_eq, cases_order, ltb-true}
+use Rattle.std.proofs.lemmas.List.{append_assoc, get_or_default, get_or_push, get_or-set_same, get_or-set_other, length-append, length-map}
+use Rattle.std.proofs.lemmas.List.Elements.{All-head, All-map, All-tail}
+use Rattle.std.proofs.lemmas.Slice.Zip.{AllZip-long, all_zipped_more}
 use Rattle.default_routes.specs.declared.stripping.Final.{Final}
 use Rattle.tern_word.specs.declared.tables.Table.{Table}
 use Rattle.par_compile.specs.declared.workers.Work.{Work}
 use Rattle.par_compile.specs.declared.workers.Work.TheVariants.{Plain, Done, Refused}
-use Rattle.par_compile.specs.Finals.{IsCoverable, IsPlainWork, IsWorked}
+use Rattle.par_compile.specs.Finals.{GivesFinal, IsCoverable, IsFinalFor, IsLeft, IsPlainWork, IsWorked, is_long}
+use Rattle.par_compile.proofs.Unique.{none_long}
 
 -- the tables before place k are worked on, and the others are as they were
 pub record IsWorkedTo (target : ℕ) (start now : List Work) (k : ℕ) : Type 0 where
@@ -36,9 +39,20 @@ worked_more target start now new k old w so_far below read is done = subst (λ l
   left = λ j d from. get_or-set_other now k j w d (λ here. omega (arith, from, here)) ∙ so_far.left j d (omega (arith, from));
 })
 
-pub all_worked : (target : ℕ) (start now : List Work) (k : ℕ) → IsWorkedTo target start now k → length now ≤ k →
+-- a table that is left stands as it was
+plain_stays : (target : ℕ) (w : Work) → IsPlainWork w → IsWorked target w w
+plain_stays target (Plain t) plain = refl
+plain_stays target (Done f) plain = absurd plain
+plain_stays target Refused plain = absurd plain
+
+-- so all are worked on, wherever a worker ends
+pub all_worked : (target : ℕ) (start now : List Work) (k : ℕ) → IsWorkedTo target start now k → All IsPlainWork start →
     (j : ℕ) (d : Work) → j < length start → IsWorked target (get_or start j d) (get_or now j d)
-all_worked target start now k so_far past j d inside = let long = so_far.long in so_far.worked j d (omega (arith, past, long, inside)) inside
+all_worked target start now k so_far ready j d inside = elim (cases_order j k) [
+  | inl same ↦ subst (IsWorked target (get_or start j d)) (sym (so_far.left j d (omega (arith, same)))) (plain_stays target (get_or start j d) (ready j d inside))
+  | inr (inl before) ↦ so_far.worked j d before inside
+  | inr (inr behind) ↦ subst (IsWorked target (get_or start j d)) (sym (so_far.left j d (omega (arith, behind)))) (plain_stays target (get_or start j d) (ready j d inside))
+]
 
 -- the work at a place is ready
 pub ready_at : (target : ℕ) (start now : List Work) (k : ℕ) (old : Work) → IsWorkedTo target start now k → All IsPlainWork start → k < length now → old ≡ get_or now k old → IsPlainWork old
@@ -50,24 +64,90 @@ ready_at target start now k old so_far ready below read =
 pub all_ready : (tables : List Table) (works : List Work) → works ≡ map Plain tables → All IsCoverable tables → All IsPlainWork works
 all_ready tables works is all = subst (All IsPlainWork) (sym is) (All-map IsPlainWork Plain tables all)
 
--- final tables beside the tables
-module _ (target : ℕ) (P : Table → Final → Type 0) (from : (t : Table) (f : Final) → IsWorked target (Plain t) (Done f) → P t f) where
-  beside : (ts : List Table) (fs : List Final) → length fs ≡ length ts →
-      ((i : ℕ) (d : Work) → i < length ts → IsWorked target (get_or (map Plain ts) i d) (get_or (map Done fs) i d)) → AllZip P ts fs
-  beside [] [] long each = tt
-  beside [] (f ∷ fs) long each = absurd (omega (arith, long))
-  beside (t ∷ ts) [] long each = absurd (omega (arith, long))
-  beside (t ∷ ts) (f ∷ fs) long each = (from t f (each 0 Refused (omega arith)), beside ts fs (omega (arith, long)) (λ i d below. each (suc i) d (omega (arith, below))))
+-- a table that a worker left can still be covered
+left_one : (target : ℕ) (old new : Work) → IsPlainWork old → IsWorked target old new → IsLeft new
+left_one target (Plain t) (Plain u) plain worked = subst IsCoverable worked plain
+left_one target (Plain t) (Done f) plain worked = tt
+left_one target (Plain t) Refused plain worked = tt
+left_one target (Done g) new plain worked = absurd plain
+left_one target Refused new plain worked = absurd plain
 
-  pub all_beside : (ts : List Table) (fs : List Final) (olds news : List Work) → olds ≡ map Plain ts → news ≡ map Done fs → length news ≡ length olds →
-      ((i : ℕ) (d : Work) → i < length olds → IsWorked target (get_or olds i d) (get_or news i d)) → AllZip P ts fs
-  all_beside ts fs olds news first last long each =
-      beside ts fs lengths
-      (λ i d below. subst (λ (l : List Work). IsWorked target (get_or (map Plain ts) i d) (get_or l i d)) last
-      (subst (λ (l : List Work). IsWorked target (get_or l i d) (get_or news i d)) first (each i d (subst (λ n. i < n) (sym many) below))))
+pub all_left : (target : ℕ) (olds news : List Work) → length news ≡ length olds → All IsPlainWork olds →
+    ((i : ℕ) (d : Work) → i < length olds → IsWorked target (get_or olds i d) (get_or news i d)) → All IsLeft news
+all_left target olds news long ready each k d below =
+    let inside : k < length olds = subst (λ n. k < n) long below in
+    left_one target (get_or olds k d) (get_or news k d) (ready k d inside) (each k d inside)
+
+-- the final tables that work gives are those of the tables
+module _ (target : ℕ) where
+  gives_one : (t : Table) (w : Work) (f : Final) → IsWorked target (Plain t) w → GivesFinal target w f → IsFinalFor target t f
+  gives_one t (Plain u) f worked gives = subst (λ (x : Table). IsFinalFor target x f) (sym worked) gives
+  gives_one t (Done g) f worked gives = subst (IsFinalFor target t) gives worked
+  gives_one t Refused f worked gives = absurd gives
+
+  beside : (ts : List Table) (ws : List Work) (fs : List Final) → ((i : ℕ) (d : Work) → i < length ts → IsWorked target (get_or (map Plain ts) i d) (get_or ws i d)) →
+      length ws ≡ length ts → AllZip (GivesFinal target) (take (length fs) ws) fs → AllZip (IsFinalFor target) (take (length fs) ts) fs
+  beside ts ws [] each long gives = tt
+  beside [] [] (f ∷ fs) each long gives = absurd gives
+  beside [] (w ∷ ws) (f ∷ fs) each long gives = absurd (omega (arith, long))
+  beside (t ∷ ts) [] (f ∷ fs) each long gives = absurd (omega (arith, long))
+  beside (t ∷ ts) (w ∷ ws) (f ∷ fs) each long gives =
+      (gives_one t w f (each 0 Refused (omega arith)) gives.0, beside ts ws fs (λ i d below. each (suc i) d (omega (arith, below))) (omega (arith, long)) gives.1)
+
+  pub all_beside : (ts : List Table) (fs : List Final) (olds news : List Work) → olds ≡ map Plain ts → length news ≡ length olds →
+      ((i : ℕ) (d : Work) → i < length olds → IsWorked target (get_or olds i d) (get_or news i d)) → AllZip (GivesFinal target) (take (length fs) news) fs →
+      AllZip (IsFinalFor target) (take (length fs) ts) fs
+  all_beside ts fs olds news first long each gives =
+      beside ts news fs (λ i d below. subst (λ (l : List Work). IsWorked target (get_or l i d) (get_or news i d)) first (each i d (subst (λ n. i < n) (sym many) below))) (long ∙ many) gives
     where
       many : length olds ≡ length ts
       many = ap length first ∙ length-map ts Plain
 
-      lengths : length fs ≡ length ts
-      lengths = sym (length-map fs Done) ∙ (sym (ap length last) ∙ (long ∙ many))
+-- ---- the final tables so far
+
+-- the work so far gives these final tables, and the rest is left
+pub record AreGiven (target : ℕ) (works rest : List Work) (finals : List Final) : Type 0 where
+  pub front : List Work
+  pub whole : front ++ rest ≡ works
+  pub gives : AllZip (GivesFinal target) front finals
+  pub left : All IsLeft rest
+
+pub none_given : (target : ℕ) (works : List Work) → All IsLeft works → AreGiven target works works []
+none_given target works left = record { front = []; whole = refl; gives = tt; left = left }
+
+-- one more
+pub given_more : (target : ℕ) (works rest : List Work) (finals : List Final) (w : Work) (f : Final) → AreGiven target works (w ∷ rest) finals → GivesFinal target w f → AreGiven target works rest (finals ++ f ∷ [])
+given_more target works rest finals w f so_far more = record {
+  front = so_far.front ++ w ∷ [];
+  whole = append_assoc so_far.front (w ∷ []) rest ∙ so_far.whole;
+  gives = all_zipped_more (GivesFinal target) so_far.front finals w f so_far.gives more;
+  left = All-tail IsLeft w rest so_far.left;
+}
+
+pub next_left : (target : ℕ) (works rest : List Work) (finals : List Final) (w : Work) → AreGiven target works (w ∷ rest) finals → IsLeft w
+next_left target works rest finals w so_far = All-head IsLeft w rest so_far.left
+
+pub all_given : (target : ℕ) (works rest : List Work) (finals : List Final) → AreGiven target works rest finals → AllZip (GivesFinal target) (take (length finals) works) finals
+all_given target works rest finals so_far =
+    let long : length finals ≡ length so_far.front = AllZip-long (GivesFinal target) so_far.front finals so_far.gives in
+    let mine : take (length finals) works ≡ so_far.front =
+    ap (λ n. take n works) long ∙ (ap (take (length so_far.front)) (sym so_far.whole) ∙ take-append_seam so_far.front rest)
+    in
+    subst (λ (ws : List Work). AllZip (GivesFinal target) ws finals) (sym mine) so_far.gives
+
+pub given_at_end : (target : ℕ) (works rest : List Work) (finals : List Final) → length rest ≡ 0 → AreGiven target works rest finals → length finals ≡ length works
+given_at_end target works rest finals none so_far =
+    let long : length finals ≡ length so_far.front = AllZip-long (GivesFinal target) so_far.front finals so_far.gives in
+    let both : length (so_far.front ++ rest) ≡ length so_far.front + length rest = length-append so_far.front rest in
+    let whole : length (so_far.front ++ rest) ≡ length works = ap length so_far.whole in
+    omega (arith, long, both, whole, none)
+
+-- final tables of which the last is long are not without a long one
+pub last_is_long : (finals : List Final) (f : Final) → is_long f ≡ true → position is_long (finals ++ f ∷ []) ≡ None → ⊥
+last_is_long finals f long none =
+    let size : length (finals ++ f ∷ []) ≡ length finals + 1 = length-append finals (f ∷ []) in
+    let short : length (get_or (finals ++ f ∷ []) (length finals) f).kept ≤ 1024 = none_long (finals ++ f ∷ []) none (length finals) f (omega (arith, size)) in
+    let it : get_or (finals ++ f ∷ []) (length finals) f ≡ f = get_or_push finals f f (length finals) refl in
+    let few : length f.kept ≤ 1024 = subst (λ (g : Final). length g.kept ≤ 1024) it short in
+    let many : 1024 < length f.kept = ltb-true 1024 (length f.kept) long in
+    omega (arith, few, many)

@@ -1,5 +1,5 @@
 -- What a plan of a graph on a machine is, and when compiling is refused (this project's own).
-use Rattle.std.specs.Prelude.{◌≡◌, ◌≢◌, ℕ, ◌*◌, ◌<◌, ◌≤◌, List, length, map, All, AllPairs, Some, None, Result, nat_lt, Bool, position, slice_get}
+use Rattle.std.specs.Prelude.{◌≡◌, ◌≢◌, ℕ, ◌*◌, ◌<◌, ◌≤◌, List, length, map, All, AllPairs, Some, None, Result, position, slice_get}
 use Rattle.std.specs.List.{AllZip}
 use Rattle.spin_base.specs.declared.blocks.Block.{Block}
 use Rattle.spin_base.specs.declared.chips.Chip.{Chip}
@@ -21,7 +21,7 @@ use Rattle.net_plans.specs.CutOffTargets.{IsFirstNetCutOff}
 use Rattle.net_plans.specs.NetPlans.{ArePlanned}
 use Rattle.cover_merge.specs.Covering.{HasNoLegalPair}
 use Rattle.default_routes.specs.declared.stripping.Final.{Final}
-use Rattle.par_compile.specs.Finals.{AreFinals, KeepsRows, loaded_of}
+use Rattle.par_compile.specs.Finals.{AreFinals, KeepsRows, is_long, loaded_of}
 use Rattle.par_compile.specs.declared.compiling.Plan.{Plan}
 use Rattle.par_compile.specs.declared.compiling.CompileErr.{CompileErr}
 use Rattle.par_compile.specs.declared.compiling.CompileErr.TheVariants.{NoRoom, KeysOut, CutOff, TableLong, Memory}
@@ -57,19 +57,14 @@ pub record IsRoutingOf (m : Description) (graph : Graph) (placement : Placement)
   pub planned : ArePlanned m placement.spots graph.nets (blocks_of nets) grown nets
   pub stand : AreNetsOn m placement.spots nets
 
--- A router's lookup memory has 1,024 entries (SpiNNaker datasheet). A final table is long where it keeps more rows.
-abbrev pub is_long : Final → Bool
-is_long f = nat_lt ROUTER_ENTRIES (length f.kept)
-
--- The graph is placed, keyed and routed; of the final tables of all chips, this chip's is the first, by the chips' indices, that
--- is long, and it is this table.
+-- The graph is placed, keyed and routed; of the final tables of the chips, from the first on by the chips' indices, this chip's is
+-- the first that is long, and it is this table.
 pub record HasLongTable (m : Description) (graph : Graph) (target : ℕ) (chip : Chip) (table : Final) : Type 0 where
   pub placement : Placement
   pub grown : List Grown
   pub nets : List NetPlan
   pub routing : IsRoutingOf m graph placement grown nets
   pub finals : List Final
-  pub one_each : length finals ≡ m.width * m.height
   pub are : AreFinals m nets target finals
   pub inside : IsInside m chip
   pub first : position is_long finals ≡ Some (index_of m chip)

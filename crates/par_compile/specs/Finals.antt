@@ -1,7 +1,8 @@
 -- The final tables of chips: each chip's plain table, covered, and the places of the rows that are loaded (this project's own).
-use Rattle.std.specs.Prelude.{◌≡◌, ℕ, ◌<◌, ◌≤◌, ◌^◌, ◌⊎◌, List, All, Some, length, map, slice_get}
+use Rattle.std.specs.Prelude.{◌≡◌, ℕ, ◌<◌, ◌≤◌, ◌^◌, ◌⊎◌, Bool, List, All, None, Some, length, map, nat_lt, position, slice_get, true}
 use Rattle.spin_base.specs.declared.blocks.Entry.{Entry}
 use Rattle.spin_base.specs.declared.chips.Chip.{Chip}
+use Rattle.spin_base.specs.declared.sizes.TheConstants.{ROUTER_ENTRIES}
 use Rattle.machine_desc.specs.Description.{Description}
 use Rattle.machine_desc.specs.Live.{IsInside, index_of}
 use Rattle.machine_desc.specs.declared.nets.NetPlan.{NetPlan}
@@ -60,6 +61,15 @@ pub record KeepsRows (f : Final) : Type 0 where
 abbrev pub HasEnded : ℕ → Final → Type 0
 HasEnded target f = (length f.kept ≤ target) ⊎ HasNoLegalPair f.covered.table.rows
 
+-- A router's lookup memory has 1,024 entries (SpiNNaker datasheet). A final table is long where it keeps more rows.
+abbrev pub is_long : Final → Bool
+is_long f = nat_lt ROUTER_ENTRIES (length f.kept)
+
+-- Final tables from the first chip on, by the chips' indices, end where all have one, or behind one that is long: where none is
+-- long, these are all.
+abbrev pub AreAllUnlessLong : ℕ → List Final → Type 0
+AreAllUnlessLong count finals = position is_long finals ≡ None → length finals ≡ count
+
 -- ---- what workers find and leave
 
 -- a table that waits to be covered
@@ -68,10 +78,33 @@ IsPlainWork (Plain t) = IsCoverable t
 IsPlainWork (Done f) = ⊥
 IsPlainWork Refused = ⊥
 
--- in its place stands its final table, or a refusal where there was not enough memory
+-- the final table of a table
+pub record IsFinalFor (target : ℕ) (t : Table) (f : Final) : Type 0 where
+  pub is_final : IsFinalOf target t.rows f
+  pub stands : StandsFor target t.rows f
+
+-- In its place stands its final table, or a refusal where there was not enough memory, or the table, where it is not yet covered.
 abbrev pub IsWorked : ℕ → Work → Work → Type 0
-IsWorked target (Plain t) (Done f) = IsFinalOf target t.rows f × StandsFor target t.rows f
-IsWorked target (Plain t) (Plain u) = ⊥
+IsWorked target (Plain t) (Done f) = IsFinalFor target t f
+IsWorked target (Plain t) (Plain u) = t ≡ u
 IsWorked target (Plain t) Refused = Unit {0}
 IsWorked target (Done f) w = ⊥
 IsWorked target Refused w = ⊥
+
+-- a table that is left can be covered
+abbrev pub IsLeft : Work → Type 0
+IsLeft (Plain t) = IsCoverable t
+IsLeft (Done f) = Unit {0}
+IsLeft Refused = Unit {0}
+
+-- the final table that work gives: that of the table that is left, or the one that stands there
+abbrev pub GivesFinal : ℕ → Work → Final → Type 0
+GivesFinal target (Plain t) f = IsFinalFor target t f
+GivesFinal target (Done g) f = g ≡ f
+GivesFinal target Refused f = ⊥
+
+-- a long final table stands there
+abbrev pub HasLong : Work → Type 0
+HasLong (Plain t) = ⊥
+HasLong (Done f) = is_long f ≡ true
+HasLong Refused = ⊥

@@ -2,7 +2,8 @@
 ghost use Rattle.std.specs.Prelude.{◌≡◌, ◌<◌, ◌≤◌, IfOk, IfErr, Some, length, position, slice_get};
 ghost use Rattle.app_graph.specs.ValidGraph.{IsValidGraph};
 ghost use Rattle.par_compile.specs.declared.compiling.Plan.{Plan};
-ghost use Rattle.par_compile.specs.Compiled.{IsCompileCause, IsPlanOf, IsRefusedWhere, is_long};
+ghost use Rattle.par_compile.specs.Compiled.{IsCompileCause, IsPlanOf, IsRefusedWhere};
+ghost use Rattle.par_compile.specs.Finals.{is_long};
 
 use crate::chip_tables::final_tables;
 use crate::requests::CompileRequest;

@@ -1,14 +1,13 @@
 // The final tables of all chips, by workers.
-ghost use Rattle.std.specs.Prelude.{◌≡◌, ℕ, ◌<◌, ◌≤◌, ◌^◌, All, IfOk, length, map, slice_index_or};
+ghost use Rattle.std.specs.Prelude.{◌≡◌, ℕ, ◌<◌, ◌≤◌, ◌^◌, ◌↔◌, All, IfOk, IsTrue, length, map, slice_index_or, take};
 ghost use Rattle.std.specs.List.{AllZip};
 ghost use Rattle.par_compile.specs.declared.workers.Work.{Work};
 ghost use Rattle.par_compile.specs.declared.workers.Work.TheVariants.{Plain, Done};
-ghost use Rattle.default_routes.specs.FinalTable.{IsFinalOf};
-ghost use Rattle.par_compile.specs.Finals.{IsCoverable, StandsFor, IsPlainWork, IsWorked};
+ghost use Rattle.par_compile.specs.Finals.{AreAllUnlessLong, GivesFinal, IsCoverable, IsFinalFor, IsLeft, HasLong, IsPlainWork, IsWorked, is_long};
 
 use crate::requests::CompileRequest;
 use default_routes::{Final, shorten};
-use spin_base::{Gate, Memory, Seq};
+use spin_base::{Gate, Memory, ROUTER_ENTRIES, Seq};
 use std::alloc::Global;
 use std::thread::Threads;
 use std::{mem, thread};
@@ -23,8 +22,8 @@ enum Work {
 }
 
 /// The final table of each table, in their order: covered to at most the request's target of rows, as far as rows can be merged,
-/// and then without the rows that default routing replaces. The tables are cut in runs, one for each of the request's workers,
-/// of equal length, the last shorter.
+/// and then without the rows that default routing replaces. Those behind the first that is long are not given. The tables are cut
+/// in runs, one for each of the request's workers, of equal length, the last shorter. A worker ends with the first long table.
 /// Each worker enters the gate in phase 0, with step 0, before its first table. One worker is this thread alone. The answer
 /// is the same for every number of workers.
 pub(crate) fn finals<R: Threads + Sync, G: Gate>(
@@ -36,14 +35,13 @@ pub(crate) fn finals<R: Threads + Sync, G: Gate>(
 ) -> Result<Seq<Final>, Memory>
     requires few { length tables < 2 ^ 32 }
     requires coverable { All IsCoverable tables }
-    ensures finals { IfOk result
-        (AllZip (λ (t : Table) f. IsFinalOf request.now.target t.rows f) tables) }
-    ensures stand { IfOk result
-        (AllZip (λ (t : Table) f. StandsFor request.now.target t.rows f) tables) }
+    ensures finals { IfOk result (λ finals. AllZip (IsFinalFor request.now.target)
+        (take (length finals) tables) finals) }
+    ensures all { IfOk result (AreAllUnlessLong (length tables)) }
 {
     let mut works = works_of(alloc, tables)?;
     cover_all(rt, alloc, &mut works, request, gate);
-    finals_of(alloc, works)
+    finals_of(alloc, works, request.target)
 }
 
 // The tables, each as work to be done.
@@ -57,18 +55,42 @@ fn works_of(alloc: Global, tables: Seq<Table>) -> Result<Vec<Work>, Memory>
     Ok(works)
 }
 
-// The final tables, where memory was refused at none.
-fn finals_of(alloc: Global, works: Vec<Work>) -> Result<Seq<Final>, Memory>
-    ensures { IfOk result (λ finals. works.items ≡ map Done finals) }
+// The final tables, up to the first that is long, where memory was refused at none of them.
+fn finals_of(alloc: Global, works: Vec<Work>, target: u32) -> Result<Seq<Final>, Memory>
+    requires { All IsLeft works.items }
+    ensures finals { IfOk result (λ finals. AllZip (GivesFinal target)
+        (take (length finals) works.items) finals) }
+    ensures all { IfOk result (AreAllUnlessLong (length works.items)) }
 {
     let mut finals = Seq::new(alloc);
     for work in works {
-        let Work::Done(done) = work else {
-            return Err(Memory);
-        };
+        let done = done_of(alloc, work, target)?;
+        let long = is_long(&done);
         finals.push(done)?;
+        if long {
+            return Ok(finals);
+        }
     }
     Ok(finals)
+}
+
+// The final table that work gives. A table that a worker left is covered here: there is none before the first long one.
+fn done_of(alloc: Global, work: Work, target: u32) -> Result<Final, Memory>
+    requires { IsLeft work }
+    ensures { IfOk result (GivesFinal target work) }
+{
+    match work {
+        Work::Plain(table) => final_of(alloc, table, target),
+        Work::Done(done) => Ok(done),
+        Work::Refused => Err(Memory),
+    }
+}
+
+// Whether a final table keeps more rows than a router has entries.
+fn is_long(done: &Final) -> bool
+    ensures { result ≡ is_long done.now }
+{
+    done.kept.len() > ROUTER_ENTRIES
 }
 
 // Lets each worker do its run.
@@ -99,7 +121,7 @@ fn cover_all<R: Threads + Sync, G: Gate>(
     );
 }
 
-// One worker's run.
+// One worker's run. It ends with the first long table: what stands behind it is not asked for.
 fn cover_run<G: Gate>(alloc: Global, part: &mut [Work], target: u32, worker: u32, gate: &G)
     requires { All IsPlainWork part.old }
     ensures { (k : ℕ) (d : Work) → k < length part.old → IsWorked target
@@ -107,27 +129,33 @@ fn cover_run<G: Gate>(alloc: Global, part: &mut [Work], target: u32, worker: u32
 {
     gate.enter(0, worker, 0);
     for k in 0..part.len() {
-        cover_at(alloc, &mut part[k], target);
+        if cover_at(alloc, &mut part[k], target) {
+            return;
+        }
     }
 }
 
-// Shortens one table.
-fn cover_at(alloc: Global, work: &mut Work, target: u32)
+// Shortens one table, and says whether it is long all the same.
+fn cover_at(alloc: Global, work: &mut Work, target: u32) -> bool
     requires { IsPlainWork work.old }
-    ensures { IsWorked target work.old work.new }
+    ensures worked { IsWorked target work.old work.new }
+    ensures long { IsTrue result ↔ HasLong work.new }
 {
-    if let Work::Plain(table) = mem::replace(work, Work::Refused) {
-        if let Ok(done) = final_of(alloc, table, target) {
-            *work = Work::Done(done);
-        }
-    }
+    let Work::Plain(table) = mem::replace(work, Work::Refused) else {
+        return false;
+    };
+    let Ok(done) = final_of(alloc, table, target) else {
+        return false;
+    };
+    let long = is_long(&done);
+    *work = Work::Done(done);
+    long
 }
 
 // The final table of a table.
 fn final_of(alloc: Global, table: Table, target: u32) -> Result<Final, Memory>
     requires { IsCoverable table }
-    ensures is_final { IfOk result (IsFinalOf target table.rows) }
-    ensures stands { IfOk result (StandsFor target table.rows) }
+    ensures { IfOk result (IsFinalFor target table) }
 {
     let done = shorten(alloc, table, target)?;
     Ok(done)

@@ -1,7 +1,6 @@
 use Rattle.std.proofs.Common.{◌≡◌, ◌∙◌, length, ap, sym, subst, Some, rules}
 use Rattle.std.specs.List.{position, slice_get}
-use Rattle.default_routes.specs.declared.stripping.Final.{Final}
-use Rattle.par_compile.specs.Compiled.{is_long}
+use Rattle.par_compile.specs.Finals.{is_long}
 use Rattle.par_compile.proofs.Refusing.{refused_where}
 use Rattle.par_compile.proofs.Standing.{routing_is}
 use Rattle.par_compile.proofs.Unique.{long_has_many, long_has_no_pair, none_long, one_plan, routed_of}
@@ -20,11 +19,11 @@ returns-in-None-clause-plan g c = record {
   routing =
       routing_is c.args.request.now.machine.now c.args.request.now.graph.now c.in-Ok.placement c.in-Ok-keys.blocks c.in-Ok-net_plans.routed.grown c.in-Ok-net_plans.routed.plans c.in-Ok.ensures.placed c.in-Ok.ensures.different c.in-Ok.ensures.sites
       c.in-Ok.ensures.cores c.in-Ok-keys.ensures.blocks c.in-Ok-keys.ensures.apart c.in-Ok-keys.ensures.enough c.in-Ok-net_plans.ensures.planned c.in-Ok-net_plans.ensures.routing;
-  one_table_each = c.in_ok-tables.ensures.long;
+  one_table_each = c.in_ok-tables.ensures.all (ap (position is_long) (sym c.as_slice.ensures) ∙ sym c.in-None.ensures);
   tables = c.in_ok-tables.ensures.finals;
   keep = c.in_ok-tables.ensures.kept;
   short = none_long c.in_ok-tables.tables (ap (position is_long) (sym c.as_slice.ensures) ∙ sym c.in-None.ensures);
-  right = c.in_ok-tables.ensures.right;
+  right = c.in_ok-tables.ensures.right (c.in_ok-tables.ensures.all (ap (position is_long) (sym c.as_slice.ensures) ∙ sym c.in-None.ensures));
 }
 
 pub returns-in-None-clause-only : goal.returns-in-None-clause-only
@@ -44,7 +43,6 @@ returns-in-Some-clause-cause g c =
             routing_is c.args.request.now.machine.now c.args.request.now.graph.now c.in-Ok.placement c.in-Ok-keys.blocks c.in-Ok-net_plans.routed.grown c.in-Ok-net_plans.routed.plans c.in-Ok.ensures.placed c.in-Ok.ensures.different c.in-Ok.ensures.sites
             c.in-Ok.ensures.cores c.in-Ok-keys.ensures.blocks c.in-Ok-keys.ensures.apart c.in-Ok-keys.ensures.enough c.in-Ok-net_plans.ensures.planned c.in-Ok-net_plans.ensures.routing;
         finals = c.in_ok-tables.tables;
-        one_each = c.in_ok-tables.ensures.long;
         are = c.in_ok-tables.ensures.finals;
         inside = c.chip_at.ensures.inside;
         first = first ∙ ap Some (sym c.chip_at.ensures.back);

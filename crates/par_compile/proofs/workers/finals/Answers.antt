@@ -1,23 +1,30 @@
+use Rattle.std.proofs.Common.{◌∙◌, List, length, take, ap}
 use Rattle.std.specs.List.{AllZip}
+use Rattle.std.proofs.lemmas.List.{length-map}
 use Rattle.std.proofs.lemmas.Result.{IfOk-weaker}
-use Rattle.tern_word.specs.declared.tables.Table.{Table}
-use Rattle.default_routes.specs.FinalTable.{IsFinalOf}
-use Rattle.par_compile.specs.Finals.{StandsFor}
-use Rattle.par_compile.proofs.Working.{all_ready, all_beside}
+use Rattle.default_routes.specs.declared.stripping.Final.{Final}
+use Rattle.par_compile.specs.declared.workers.Work.TheVariants.{Plain}
+use Rattle.par_compile.specs.Finals.{AreAllUnlessLong, GivesFinal, IsFinalFor}
+use Rattle.par_compile.proofs.Working.{all_beside, all_left, all_ready}
 use Rattle.par_compile.proofs.workers.finals.Goals as goal
 
 pub cover_all-requires-clause-ready : goal.cover_all-requires-clause-ready
 cover_all-requires-clause-ready g c κs within =
     all_ready c.args.tables c.in_ok-works.works.items c.in_ok-works.ensures c.requires.coverable
 
+pub finals_of-requires : goal.finals_of-requires
+finals_of-requires g c κs within =
+    all_left c.args.request.now.target c.in_ok-works.works.items c.cover_all.new.works.items c.cover_all.ensures.long
+    (all_ready c.args.tables c.in_ok-works.works.items c.in_ok-works.ensures c.requires.coverable) c.cover_all.ensures.worked κs within
+
 pub returns-clause-finals : goal.returns-clause-finals
 returns-clause-finals g c =
-    IfOk-weaker c.finals_of.result _ (AllZip (λ (t : Table) f. IsFinalOf c.args.request.now.target t.rows f) c.args.tables)
-    (λ fs last. all_beside c.args.request.now.target (λ (t : Table) f. IsFinalOf c.args.request.now.target t.rows f) (λ t f both. both.0) c.args.tables fs _ _
-    c.in_ok-works.ensures last c.cover_all.ensures.long c.cover_all.ensures.worked) c.finals_of.ensures
+    IfOk-weaker c.finals_of.result (λ (fs : List Final). AllZip (GivesFinal c.args.request.now.target) (take (length fs) c.cover_all.new.works.items) fs)
+    (λ (fs : List Final). AllZip (IsFinalFor c.args.request.now.target) (take (length fs) c.args.tables) fs)
+    (λ fs gives. all_beside c.args.request.now.target c.args.tables fs c.in_ok-works.works.items c.cover_all.new.works.items
+    c.in_ok-works.ensures c.cover_all.ensures.long c.cover_all.ensures.worked gives) c.finals_of.ensures.finals
 
-pub returns-clause-stand : goal.returns-clause-stand
-returns-clause-stand g c =
-    IfOk-weaker c.finals_of.result _ (AllZip (λ (t : Table) f. StandsFor c.args.request.now.target t.rows f) c.args.tables)
-    (λ fs last. all_beside c.args.request.now.target (λ (t : Table) f. StandsFor c.args.request.now.target t.rows f) (λ t f both. both.1) c.args.tables fs _ _
-    c.in_ok-works.ensures last c.cover_all.ensures.long c.cover_all.ensures.worked) c.finals_of.ensures
+pub returns-clause-all : goal.returns-clause-all
+returns-clause-all g c =
+    IfOk-weaker c.finals_of.result (AreAllUnlessLong (length c.cover_all.new.works.items)) (AreAllUnlessLong (length c.args.tables))
+    (λ fs all none. all none ∙ (c.cover_all.ensures.long ∙ (ap length c.in_ok-works.ensures ∙ length-map c.args.tables Plain))) c.finals_of.ensures.all
