@@ -59,8 +59,8 @@ impl From<Memory> for CompileErr {
 /// that default routing replaces. The tables, loaded, are right for the nets.
 ///
 /// Nets are routed side by side by threads. Tables are covered by the request's workers, each on a run of chips of equal length,
-/// the last shorter; each worker enters the gate in phase 0, with step 0, before its first chip. The plan is the only one: the
-/// same for every number of workers and every schedule.
+/// the last shorter; each worker enters the gate in phase 0, with step 0, before its first chip, and ends with its first long table.
+/// The plan is the only one: the same for every number of workers and every schedule.
 ///
 /// It may wait for the gate and for threads; it keeps its promises if it returns.
 ///
