@@ -33,3 +33,7 @@ mod Passes
 mod PutBackParts
 mod PutBackWork
 mod FirstBack
+mod Ahead
+mod AheadMoves
+mod NetWays
+mod FewRounds

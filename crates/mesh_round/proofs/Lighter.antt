@@ -56,24 +56,22 @@ come_lighter {s} v = by_far (to_go v.leaves) refl (some_to_go v)
 
 -- ---- all moves of a bag
 
-all_left : {s : State} → List (Moved s) → List Mark
+abbrev pub all_left : {s : State} → List (Moved s) → List Mark
 all_left [] = []
 all_left (v ∷ vs) = v.leaves ∷ all_left vs
 
-all_come : {s : State} → List (Moved s) → List Mark
+abbrev pub all_come : {s : State} → List (Moved s) → List Mark
 all_come [] = []
 all_come (v ∷ vs) = v.come ++ all_come vs
 
-left_counts : {s : State} (p : Mark → Bool) (vs : List (Moved s)) → count_left p vs ≡ count_by p (all_left vs)
-unfolding all_left
+pub left_counts : {s : State} (p : Mark → Bool) (vs : List (Moved s)) → count_left p vs ≡ count_by p (all_left vs)
 left_counts p [] = refl
 left_counts p (v ∷ vs) =
     let rest = left_counts p vs in
     let all = sum_by-cons (λ x. one_if (p x)) v.leaves (all_left vs) in
     omega arith
 
-come_counts : {s : State} (p : Mark → Bool) (vs : List (Moved s)) → count_come p vs ≡ count_by p (all_come vs)
-unfolding all_come
+pub come_counts : {s : State} (p : Mark → Bool) (vs : List (Moved s)) → count_come p vs ≡ count_by p (all_come vs)
 come_counts p [] = refl
 come_counts p (v ∷ vs) =
     let rest = come_counts p vs in
@@ -81,7 +79,6 @@ come_counts p (v ∷ vs) =
     omega arith
 
 lighter : {s : State} (vs : List (Moved s)) → sum_by work_weight_of (all_come vs) + length vs ≤ sum_by work_weight_of (all_left vs)
-unfolding all_left all_come
 lighter [] = omega arith
 lighter (v ∷ vs) =
     let rest = lighter vs in
@@ -90,10 +87,9 @@ lighter (v ∷ vs) =
     let all = sum_by-cons work_weight_of v.leaves (all_left vs) in
     omega arith
 
--- A bag of moves takes at least one a move from what is to be done.
-bag_lighter : (s t : State) (bag : Bag s t) → work_in t + length bag.moves ≤ work_in s
-unfolding work_in
-bag_lighter s t bag =
+-- What marks weigh after a bag of moves and what those that left weigh is what was there weighed, and what came, by any weight.
+pub even_weights : (s t : State) (bag : Bag s t) (w : Mark → ℕ) → sum_by w (marks_of t) + sum_by w (all_left bag.moves) ≡ sum_by w (marks_of s) + sum_by w (all_come bag.moves)
+even_weights s t bag w =
     let out = all_left bag.moves in
     let put = all_come bag.moves in
     let even = same_sums (marks_of t ++ out) (marks_of s ++ put) (λ p.
@@ -102,11 +98,18 @@ bag_lighter s t bag =
     let come = come_counts p bag.moves in
     let after = count_by-append p (marks_of t) out in
     let before = count_by-append p (marks_of s) put in
-    omega (arith, balance, left, come, after, before)) work_weight_of in
-    let after = sum_by-append work_weight_of (marks_of t) out in
-    let before = sum_by-append work_weight_of (marks_of s) put in
+    omega (arith, balance, left, come, after, before)) w in
+    let after = sum_by-append w (marks_of t) out in
+    let before = sum_by-append w (marks_of s) put in
+    omega (arith, even, after, before)
+
+-- A bag of moves takes at least one a move from what is to be done.
+bag_lighter : (s t : State) (bag : Bag s t) → work_in t + length bag.moves ≤ work_in s
+unfolding work_in
+bag_lighter s t bag =
+    let even = even_weights s t bag work_weight_of in
     let less = lighter bag.moves in
-    omega (arith, even, after, before, less)
+    omega (arith, even, less)
 
 pub round_lighter : (m n : State) (f : Flow) → IsMesh m → IsMesh n → Passes m f n → work_in n ≤ work_in m
 round_lighter m n f mesh after passes =

@@ -1,5 +1,5 @@
 -- What passes the queues of a mesh in a round is a bag of moves.
-use Rattle.std.proofs.Common.{◌≡◌, ◌≢◌, ℕ, ◌+◌, ◌*◌, ◌/◌, ◌%◌, ◌<◌, ◌≤◌, Bool, true, false, cond, ◌==◌, List, [], ◌∷◌, ◌++◌, map, filter, Some, None, length, suc, refl, ap, ap₂, sym, ◌∙◌, subst, arith, inl, inr, count_by, append-nil, zero-add}
+use Rattle.std.proofs.Common.{◌≡◌, ◌≢◌, ℕ, ◌+◌, ◌*◌, ◌/◌, ◌%◌, ◌<◌, ◌≤◌, Bool, true, false, cond, ◌==◌, List, [], ◌∷◌, ◌++◌, map, filter, Some, None, length, suc, refl, ap, ap₂, sym, ◌∙◌, subst, arith, inl, inr, count_by, if◌then◌else◌, append-nil, zero-add}
 use Rattle.std.specs.List.{All, sum_by, range_with_len, slice_get, slice_index_or}
 use Rattle.std.proofs.lemmas.Bool.{cases_Bool, eqb-true}
 use Rattle.std.proofs.lemmas.List.{map-append, length-append, length-map}
@@ -40,7 +40,8 @@ use Rattle.mesh_round.proofs.Sums.{sum_agree, sum_none, sum_map, sum_filter, sum
 use Rattle.mesh_round.proofs.Balance.{queues_balance, passing, passing_in}
 use Rattle.mesh_round.proofs.Sources.{once_in_range, range_parts, live_chips, live_of_live_chips, live_chip_once, choices, sum_sources}
 use Rattle.mesh_round.proofs.Entered.{from, station_of, station_is, crosses_behind, came, all_came, has_bit}
-use Rattle.mesh_round.proofs.Parts.{Part, both_parts, part_each, part_at, part_of, count_come-append}
+use Rattle.mesh_round.proofs.Ahead.{is_step, is_step_at}
+use Rattle.mesh_round.proofs.Parts.{Part, both_parts, part_each, part_at, part_of, count_come-append, count_left-append}
 use Rattle.mesh_round.proofs.Weights.{one_where, back, entered_is}
 use Rattle.mesh_round.proofs.Taken.{weight, taken_from, hands_balance}
 
@@ -403,48 +404,46 @@ module _ (m : State) (f : Flow) (n : State) (mesh : IsMesh m) (after : IsMesh n)
 
   -- ---- some moves
 
-  abbrev everything : Mark → Bool
-  everything k = true
-
-  all_copies : (at : Station) (ks : List McCopy) → count_by everything (marks_at at ks) ≡ length ks
-  all_copies at [] = refl
-  all_copies at (k ∷ ks) = let rest = all_copies at ks in let first = sum_by-cons (λ x. one_where (everything x)) (mark k at) (marks_at at ks) in omega (arith, rest, first)
+  all_copies : (at : Station) (ks : List McCopy) → is_step_at at ≡ true → count_by is_step (marks_at at ks) ≡ length ks
+  all_copies at [] is = refl
+  all_copies at (k ∷ ks) is =
+      let rest = all_copies at ks is in
+      let first = sum_by-cons (λ x. one_where (is_step x)) (mark k at) (marks_at at ks) in
+      let one : one_where (is_step_at at) ≡ 1 = ap one_where is in
+      omega (arith, rest, first, one)
 
   some_items : {X : Type 0} (xs : List X) → xs ≢ [] → 1 ≤ length xs
   some_items [] none = absurd (none refl)
   some_items (x ∷ xs) some = omega arith
 
-  by_part : (moves : List (Moved m)) (sum part : ℕ) → count_left everything moves ≡ sum → part ≤ sum → 1 ≤ part → 1 ≤ length moves
-  by_part moves sum part left within some = let all = left_all moves in omega (arith, all, left, within, some)
-    where
-      left_all : (vs : List (Moved m)) → count_left everything vs ≡ length vs
-      left_all [] = refl
-      left_all (v ∷ vs) = let rest = left_all vs in omega (arith, rest)
-
-  lengths : length bag_of_round.moves ≡ length sent_part.moves + (length taken_part.moves + (length crossed_part.moves + (length dumped_part.moves + length delivered_part.moves)))
+  steps : count_left is_step bag_of_round.moves
+      ≡ count_left is_step sent_part.moves + (count_left is_step taken_part.moves + (count_left is_step crossed_part.moves + (count_left is_step dumped_part.moves + count_left is_step delivered_part.moves)))
   unfolding bag_of_round both_parts
-  lengths =
-      let a = length-append sent_part.moves (taken_part.moves ++ (crossed_part.moves ++ (dumped_part.moves ++ delivered_part.moves))) in
-      let b = length-append taken_part.moves (crossed_part.moves ++ (dumped_part.moves ++ delivered_part.moves)) in
-      let c = length-append crossed_part.moves (dumped_part.moves ++ delivered_part.moves) in
-      let d = length-append dumped_part.moves delivered_part.moves in
-      let whole : length bag_of_round.moves ≡ length (sent_part.moves ++ (taken_part.moves ++ (crossed_part.moves ++ (dumped_part.moves ++ delivered_part.moves)))) = refl in
+  steps =
+      let a = count_left-append is_step sent_part.moves (taken_part.moves ++ (crossed_part.moves ++ (dumped_part.moves ++ delivered_part.moves))) in
+      let b = count_left-append is_step taken_part.moves (crossed_part.moves ++ (dumped_part.moves ++ delivered_part.moves)) in
+      let c = count_left-append is_step crossed_part.moves (dumped_part.moves ++ delivered_part.moves) in
+      let d = count_left-append is_step dumped_part.moves delivered_part.moves in
+      let whole : count_left is_step bag_of_round.moves ≡ count_left is_step (sent_part.moves ++ (taken_part.moves ++ (crossed_part.moves ++ (dumped_part.moves ++ delivered_part.moves)))) = refl in
       omega (arith, a, b, c, d, whole)
 
-  -- where a copy moved there is a move
-  pub some_moves : HasMoved m f → 1 ≤ length bag_of_round.moves
-  some_moves (inl (input i, is, left)) =
+  by_part : (moves sum part : ℕ) → moves ≡ sum → part ≤ sum → 1 ≤ part → 1 ≤ moves
+  by_part moves sum part left within some = omega (arith, left, within, some)
+
+  -- where a copy moved, one was sent, taken or got
+  pub some_steps : HasMoved m f → 1 ≤ count_left is_step bag_of_round.moves
+  some_steps (inl (input i, is, left)) =
       let below : i < 7 * (u.machine.width * u.machine.height) = omega (arith, is, mesh.input_lists) in
       let one = once_in_range i 0 (7 * (u.machine.width * u.machine.height)) (omega arith) (omega (arith, below)) in
       let found = counted (λ j. i == j) (range_with_len 0 (7 * (u.machine.width * u.machine.height))) (omega (arith, one)) in
       let there : Among i (range_with_len 0 (7 * (u.machine.width * u.machine.height))) = subst (λ j. Among j (range_with_len 0 (7 * (u.machine.width * u.machine.height)))) (sym (eqb-true i found.0 found.2)) found.1 in
       let some = some_items (f.left (input i)) left in
-      let all = all_copies (station_of u (input i)) (f.left (input i)) in
-      let part = by_part taken_part.moves _ (count_by everything (marks_at (station_of u (input i)) (f.left (input i)))) (taken_part.leaving everything)
-      (part_of_sum (λ j. count_by everything (marks_at (station_of u (input j)) (f.left (input j)))) i (range_with_len 0 (7 * (u.machine.width * u.machine.height))) there) (omega (arith, all, some)) in
-      let long = lengths in
+      let all = all_copies (station_of u (input i)) (f.left (input i)) refl in
+      let part = by_part (count_left is_step taken_part.moves) _ (count_by is_step (marks_at (station_of u (input i)) (f.left (input i)))) (taken_part.leaving is_step)
+      (part_of_sum (λ j. count_by is_step (marks_at (station_of u (input j)) (f.left (input j)))) i (range_with_len 0 (7 * (u.machine.width * u.machine.height))) there) (omega (arith, all, some)) in
+      let long = steps in
       omega (arith, long, part)
-  some_moves (inl (core v, is, left)) =
+  some_steps (inl (core v, is, left)) =
       let below : v < length u.spots = omega (arith, is, mesh.core_lists) in
       let some = some_items (f.left (core v)) left in
       let same = ap length (passes.collected v below) in
@@ -452,25 +451,37 @@ module _ (m : State) (f : Flow) (n : State) (mesh : IsMesh m) (after : IsMesh n)
       let filtered = length-filter (λ (d : Delivery). d.vertex == v) f.delivered in
       let few = count_by-le-length (λ (d : Delivery). d.vertex == v) f.delivered in
       let all = sum_ones f.delivered in
-      let part = by_part delivered_part.moves _ (length f.delivered) (delivered_part.leaving everything) (omega (arith, all)) (omega (arith, some, same, mapped, filtered, few)) in
-      let long = lengths in
+      let part = by_part (count_left is_step delivered_part.moves) _ (length f.delivered) (delivered_part.leaving is_step) (omega (arith, all)) (omega (arith, some, same, mapped, filtered, few)) in
+      let long = steps in
       omega (arith, long, part)
     where
-      sum_ones : (ds : List Delivery) → sum_by (λ (d : Delivery). count_by everything (mark d.copy (at_core d.vertex) ∷ [])) ds ≡ length ds
+      sum_ones : (ds : List Delivery) → sum_by (λ (d : Delivery). count_by is_step (mark d.copy (at_core d.vertex) ∷ [])) ds ≡ length ds
       sum_ones [] = refl
-      sum_ones (d ∷ ds) = let rest = sum_ones ds in let first = sum_by-cons (λ (e : Delivery). count_by everything (mark e.copy (at_core e.vertex) ∷ [])) d ds in omega (arith, rest, first)
-  some_moves (inl (nowhere, is, left)) = absurd is
-  some_moves (inr (v, below, sent)) =
+      sum_ones (d ∷ ds) = let rest = sum_ones ds in let first = sum_by-cons (λ (e : Delivery). count_by is_step (mark e.copy (at_core e.vertex) ∷ [])) d ds in omega (arith, rest, first)
+  some_steps (inl (nowhere, is, left)) = absurd is
+  some_steps (inr (v, below, sent)) =
       let some = some_items (f.sent v) sent in
-      let all = all_copies (unsent v) (f.sent v) in
+      let all = all_copies (unsent v) (f.sent v) refl in
       let spot = slice_get_there u.spots v below in
-      let part = by_part sent_part.moves _ (count_by everything (marks_at (unsent (0 + v)) (f.sent (0 + v)))) (sent_part.leaving everything)
-      (part_of_sum_at (λ w (spot : Spot). count_by everything (marks_at (unsent w) (f.sent w))) 0 u.spots v spot.0 spot.1) (omega (arith, all, some, zero_plus v)) in
-      let long = lengths in
+      let part = by_part (count_left is_step sent_part.moves) _ (count_by is_step (marks_at (unsent (0 + v)) (f.sent (0 + v)))) (sent_part.leaving is_step)
+      (part_of_sum_at (λ w (spot : Spot). count_by is_step (marks_at (unsent w) (f.sent w))) 0 u.spots v spot.0 spot.1) (omega (arith, all, some, zero_plus v)) in
+      let long = steps in
       omega (arith, long, part)
     where
-      zero_plus : (w : ℕ) → count_by everything (marks_at (unsent (0 + w)) (f.sent (0 + w))) ≡ count_by everything (marks_at (unsent w) (f.sent w))
-      zero_plus w = let same : 0 + w ≡ w = omega arith in ap (λ n. count_by everything (marks_at (unsent n) (f.sent n))) same
+      zero_plus : (w : ℕ) → count_by is_step (marks_at (unsent (0 + w)) (f.sent (0 + w))) ≡ count_by is_step (marks_at (unsent w) (f.sent w))
+      zero_plus w = let same : 0 + w ≡ w = omega arith in ap (λ n. count_by is_step (marks_at (unsent n) (f.sent n))) same
+
+  left_within : (vs : List (Moved m)) → count_left is_step vs ≤ length vs
+  left_within [] = omega arith
+  left_within (v ∷ vs) = by_test (is_step v.leaves) (left_within vs)
+    where
+      by_test : (b : Bool) → count_left is_step vs ≤ length vs → (if b then 1 else 0) + count_left is_step vs ≤ suc (length vs)
+      by_test true rest = omega (arith, rest)
+      by_test false rest = omega (arith, rest)
+
+  -- so there is a move
+  pub some_moves : HasMoved m f → 1 ≤ length bag_of_round.moves
+  some_moves moved = let some = some_steps moved in let within = left_within bag_of_round.moves in omega (arith, some, within)
 
   -- ---- what came behind an output
 

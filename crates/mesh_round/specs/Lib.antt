@@ -4,5 +4,6 @@ pub use Rattle.mesh_core.specs.Opened
 pub use Rattle.mesh_run.specs.Holders
 pub mod RoundFlow
 pub mod Work
+pub mod Bound
 pub mod OnThreads
 pub mod Reinjecting

@@ -10,6 +10,7 @@ ghost use Rattle.mesh_core.specs.Opened.{opened_mesh, AreOfNets, MeetsJobLedger}
 ghost use Rattle.mesh_core.specs.Expected.{IsAtRest, AreAsExpected};
 ghost use Rattle.mesh_round.specs.RoundFlow.{Flow, Passes, IsRound, HasMoved, HasRounds};
 ghost use Rattle.mesh_round.specs.Work.{work_in};
+ghost use Rattle.mesh_round.specs.Bound.{HasMovingRounds, LeadsSoon};
 
 use mesh_core::laws::{
     a_mesh_at_rest_has_delivered_all, each_target_has_one_way, opened_mesh_meets_its_ledger,
@@ -54,6 +55,15 @@ pub fn a_round_leaves_less_to_do()
     ensures less { (m n : State) (f : Flow) → IsMesh m → IsMesh n → Passes m f n → HasMoved m f
         → work_in n < work_in m }
 {}
+
+/// Rounds in each of which a copy moves are no more than copies of a job's packets can move. A packet is sent once, the router of
+/// each chip of its net's tree takes it once, and each target gets it once.
+pub fn rounds_that_move_copies_are_few()
+    ensures { (patience turns : ℕ) (m n : State) → IsMesh m
+        → HasMovingRounds patience turns m n → LeadsSoon patience turns m n }
+{
+    each_target_has_one_way();
+}
 
 /// Where a queue has room for a copy of each packet of a job, no round dumps a copy, in whatever order routers and vertices take
 /// their turns: no queue can be full while a copy still comes to it. Nor do rounds one after the other.

@@ -4,8 +4,9 @@ ghost use Rattle.mesh_core.specs.State.{IsMesh};
 ghost use Rattle.mesh_core.specs.Expected.{IsAtRest};
 ghost use Rattle.mesh_round.specs.RoundFlow.{HasNoHand, HasRounds};
 ghost use Rattle.mesh_round.specs.OnThreads.{MayGoOn, LeadsByRound};
+ghost use Rattle.mesh_round.specs.Bound.{HasMovingRounds, LeadsSoon};
 
-use crate::flow_laws::a_round_leaves_less_to_do;
+use crate::flow_laws::{a_round_leaves_less_to_do, rounds_that_move_copies_are_few};
 use crate::laws::a_round_on_threads_is_a_round;
 use mesh_core::{Mesh, MeshParts};
 use mesh_run::{Pace, RaisedMesh, play_parts};
@@ -41,7 +42,9 @@ pub fn round<R: Threads + Wait + Sync, G: Gate>(
     }
 }
 
-/// Rounds, numbered from 1, until nothing waits and nothing is unsent. Numbers stay at the greatest, should it come to that.
+/// Rounds, numbered from 1, until nothing waits and nothing is unsent. Numbers stay at the greatest, should it come to that. In the mesh
+/// of a job there are at most as many as copies can move: for each packet one, one for each chip of its net's tree, and one for each
+/// target.
 ///
 /// # Errors
 ///
@@ -55,10 +58,12 @@ pub fn run_out<R: Threads + Wait + Sync, G: Gate>(
 ) -> Result<Mesh, (Mesh, Memory)>
     requires { HasNoHand mesh }
     ensures rounds { IfOk result (HasRounds pace.patience pace.turns mesh) }
+    ensures soon { IfOk result (LeadsSoon pace.patience pace.turns mesh) }
     ensures at_rest { IfOk result IsAtRest }
     ensures refused { IfErr result (λ b. HasRounds pace.patience pace.turns mesh b.0) }
     ensures ready { IfErr result (λ b. MayGoOn b.0) }
 {
+    rounds_that_move_copies_are_few();
     match run_parts(rt, alloc, mesh.take_apart(), pace, gate) {
         Ok(parts) => Ok(Mesh::put_together(parts)),
         Err((parts, e)) => Err((Mesh::put_together(parts), e)),
@@ -74,7 +79,7 @@ pub(crate) fn run_parts<R: Threads + Wait + Sync, G: Gate>(
     gate: &G,
 ) -> Result<MeshParts, (MeshParts, Memory)>
     requires { MayGoOn parts }
-    ensures rounds { IfOk result (HasRounds pace.patience pace.turns parts) }
+    ensures rounds { IfOk result (HasMovingRounds pace.patience pace.turns parts) }
     ensures ready { IfOk result MayGoOn }
     ensures at_rest { IfOk result IsAtRest }
     ensures refused { IfErr result (λ b. HasRounds pace.patience pace.turns parts b.0) }

@@ -18,7 +18,7 @@ returns-in_err-parts-clause-refused g c =
 
 pub passes-init : goal.passes-init
 passes-init g c = record {
-  passes = rounds_pass c.args.pace.patience c.args.pace.turns c.args.parts c.in_ok-parts.parts c.in_ok-parts.ensures.rounds;
+  passes = rounds_pass c.args.pace.patience c.args.pace.turns c.args.parts c.in_ok-parts.parts c.in_ok-parts.ensures.rounds.rounds;
   ready = c.in_ok-parts.ensures.ready;
   at_rest = c.in_ok-parts.ensures.at_rest;
 }
@@ -51,7 +51,7 @@ passes-smaller g c =
     let kept = law.ledger p t c.args.parts m job.0 job.1 c.requires.ready.mesh job.2 job.3 c.passes.invariant.passes in
     let some : 0 < length m.dumped = subst (λ (s : State). 0 < length s.dumped) c.parts.view_is (omega (arith, c.len.ensures, c.passes-test.true)) in
     let less = c.in_ok-filled.ensures.less (job_goes_back m c.passes.invariant.ready.mesh job.0 job.1 kept c.passes.invariant.at_rest some) in
-    let no_more = rounds_no_more c.a_round_leaves_less_to_do.ensures.no_more p t filled c.in_ok-parts-2.parts c.in_ok-filled.ensures.ready.mesh c.in_ok-parts-2.ensures.rounds in
+    let no_more = rounds_no_more c.a_round_leaves_less_to_do.ensures.no_more p t filled c.in_ok-parts-2.parts c.in_ok-filled.ensures.ready.mesh c.in_ok-parts-2.ensures.rounds.rounds in
     omega (arith, less, no_more)
 
 pub passes-preserved : goal.passes-preserved
@@ -62,7 +62,7 @@ passes-preserved g c =
     let n : State = c.in_ok-parts-2.parts in
     let back = passes_then p t c.args.parts c.passes.parts filled c.passes.invariant.passes (c.in_ok-filled.ensures.passes p t) in
     record {
-      passes = passes_then p t c.args.parts filled n back (rounds_pass p t filled n c.in_ok-parts-2.ensures.rounds);
+      passes = passes_then p t c.args.parts filled n back (rounds_pass p t filled n c.in_ok-parts-2.ensures.rounds.rounds);
       ready = c.in_ok-parts-2.ensures.ready;
       at_rest = c.in_ok-parts-2.ensures.at_rest;
     }

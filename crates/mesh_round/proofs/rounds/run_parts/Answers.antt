@@ -5,6 +5,7 @@ use Rattle.std.proofs.lemmas.Result.{IfErr-weaker}
 use Rattle.mesh_core.specs.State.{State}
 use Rattle.mesh_core.specs.Expected.{IsAtRest}
 use Rattle.mesh_round.specs.RoundFlow.{HasRounds, none, more}
+use Rattle.mesh_round.specs.Bound.{HasMovingRounds}
 use Rattle.mesh_run.specs.Raised.{mesh_of}
 use Rattle.mesh_round.specs.OnThreads.{MayGoOn}
 use Rattle.mesh_round.proofs.Resting.{rests, has_some}
@@ -15,7 +16,7 @@ rounds-init g c =
     let same = sym c.in_ok-raised.ensures.same in
     record {
       raised = c.in_ok-raised.ensures.raised;
-      rounds = subst (λ (s : State). HasRounds c.args.pace.patience c.args.pace.turns c.args.parts s) same none;
+      rounds = subst (λ (s : State). HasMovingRounds c.args.pace.patience c.args.pace.turns c.args.parts s) same (record { rounds = none; each = tt });
       ready = subst MayGoOn same c.requires;
     }
 
@@ -42,7 +43,10 @@ rounds-preserved g c =
     let after = law.mesh c.args.pace.patience c.args.pace.turns m n was.mesh was.no_hand played in
     record {
       raised = c.in-Ok.ensures.raised;
-      rounds = more lead.flow m n c.rounds.invariant.rounds after lead.round;
+      rounds = record {
+        rounds = more lead.flow m n c.rounds.invariant.rounds.rounds after lead.round;
+        each = (c.rounds.invariant.rounds.each, lead.moved (let turns = c.args.pace.some_turns in omega (arith, turns)) (has_some m (sym c.rounds-test.ensures)));
+      };
       ready = record {
         mesh = after;
         no_hand = law.hands c.args.pace.patience c.args.pace.turns m n was.no_hand played;
