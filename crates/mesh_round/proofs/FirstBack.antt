@@ -107,8 +107,3 @@ module _ (s : State) (mesh : IsMesh s) (nets : List NetPlan) (labels : ℕ → L
     -- Where a record is left, its copy can be put back.
     pub first_goes_back : s.dumped ≢ [] → put_back_answer s ≡ Moved
     first_goes_back some = by_records s.dumped refl some
-
--- The same of the mesh of a job.
-pub job_goes_back : (s : State) → IsMesh s → (nets : List NetPlan) (packets : List Packet) → MeetsJobLedger s nets packets → IsAtRest s → 0 < length s.dumped → put_back_answer s ≡ Moved
-job_goes_back s mesh nets packets job rest some =
-    first_goes_back s mesh nets (labels_of (asked_by nets packets)) job.ledger.ledger rest (λ none. let no = ap length none in omega (arith, some, no))

@@ -5,8 +5,9 @@ use Rattle.machine_desc.specs.declared.nets.NetPlan.{NetPlan}
 use Rattle.machine_desc.specs.RightTables.{AreRight}
 use Rattle.mesh_core.specs.State.{Setup, State, IsMesh}
 use Rattle.mesh_core.specs.PutBack.{put_back_of, after_put_back}
+use Rattle.mesh_core.specs.Ledger.{Label, MeetsLedger}
 use Rattle.mesh_core.specs.Opened.{MeetsJobLedger}
-use Rattle.mesh_core.proofs.EventsLaw.{put_back_is, IsMesh-after_put_back, put_back_keeps_job}
+use Rattle.mesh_core.proofs.EventsLaw.{put_back_is, IsMesh-after_put_back, put_back_keeps, put_back_keeps_job}
 use Rattle.mesh_round.specs.RoundFlow.{Flow, Passes, HasRounds, none as no_round, more}
 use Rattle.mesh_round.specs.Work.{work_in}
 use Rattle.mesh_round.specs.Reinjecting.{HasPasses, none, round, put_back}
@@ -43,6 +44,23 @@ passes_keep_job keep patience turns m n nets packets mesh right job (put_back k 
     let was = passes_keep_mesh patience turns m k mesh before in
     put_back_keeps_job k nets packets was.0 (subst (λ (u : Setup). AreRight u.machine u.tables nets) (sym was.1) right)
     (passes_keep_job keep patience turns m k nets packets mesh right job before)
+
+-- that a round keeps the ledger of nets
+abbrev RoundsKeepNets : Type 0
+RoundsKeepNets = (m n : State) (f : Flow) (nets : List NetPlan) (labels : ℕ → Label) → IsMesh m → IsMesh n → Passes m f n →
+    AreRight m.setup.machine m.setup.tables nets → MeetsLedger m nets labels → MeetsLedger n nets labels
+
+pub passes_keep_nets : RoundsKeepNets → (patience turns : ℕ) (m n : State) (nets : List NetPlan) (labels : ℕ → Label) → IsMesh m → AreRight m.setup.machine m.setup.tables nets →
+    MeetsLedger m nets labels → HasPasses patience turns m n → MeetsLedger n nets labels
+passes_keep_nets keep patience turns m n nets labels mesh right ledger none = ledger
+passes_keep_nets keep patience turns m n nets labels mesh right ledger (round f k n' before after is) =
+    let was = passes_keep_mesh patience turns m k mesh before in
+    keep k n' f nets labels was.0 after is.passes (subst (λ (u : Setup). AreRight u.machine u.tables nets) (sym was.1) right)
+    (passes_keep_nets keep patience turns m k nets labels mesh right ledger before)
+passes_keep_nets keep patience turns m n nets labels mesh right ledger (put_back k before) =
+    let was = passes_keep_mesh patience turns m k mesh before in
+    (put_back_keeps k nets labels was.0 (subst (λ (u : Setup). AreRight u.machine u.tables nets) (sym was.1) right)
+    (passes_keep_nets keep patience turns m k nets labels mesh right ledger before)).ledger
 
 -- passes may follow each other
 pub passes_then : (patience turns : ℕ) (a b c : State) → HasPasses patience turns a b → HasPasses patience turns b c → HasPasses patience turns a c

@@ -1,13 +1,12 @@
 -- Dumped copies put back between rounds (this project's own).
 use Rattle.std.specs.Prelude.{ℕ, List, is_some, if◌then◌else◌}
-use Rattle.spin_base.specs.declared.copies.Packet.{Packet}
 use Rattle.machine_desc.specs.declared.nets.NetPlan.{NetPlan}
 use Rattle.machine_desc.specs.RightTables.{AreRight}
 use Rattle.mesh_core.specs.declared.places.Did.{Did}
 use Rattle.mesh_core.specs.declared.places.Did.TheVariants.{Moved, Idle}
 use Rattle.mesh_core.specs.State.{State, IsMesh}
 use Rattle.mesh_core.specs.PutBack.{put_back_of, after_put_back}
-use Rattle.mesh_core.specs.Opened.{MeetsJobLedger}
+use Rattle.mesh_core.specs.Ledger.{Label, MeetsLedger}
 use Rattle.mesh_round.specs.RoundFlow.{Flow, IsRound}
 
 -- whether the first dumped copy can be put back: there is one, and the queue behind its output isn't full
@@ -20,7 +19,7 @@ pub data HasPasses (patience turns : ℕ) (m : State) : State → Type 0 where
   round : (flow : Flow) (k n : State) → HasPasses patience turns m k → IsMesh n → IsRound patience turns k flow n → HasPasses patience turns m n
   put_back : (k : State) → HasPasses patience turns m k → HasPasses patience turns m (after_put_back k)
 
--- A mesh is of some job: its tables are right for the job's nets, and it meets the ledger of the job's packets.
-abbrev pub IsOfJob : State → Type 0
-IsOfJob s =
-    (nets : List NetPlan) × (packets : List Packet) × AreRight s.setup.machine s.setup.tables nets × MeetsJobLedger s nets packets
+-- A mesh is of some nets: its tables are right for them, and it meets their ledger.
+abbrev pub IsOfNets : State → Type 0
+IsOfNets s =
+    (nets : List NetPlan) × (labels : ℕ → Label) × AreRight s.setup.machine s.setup.tables nets × MeetsLedger s nets labels

@@ -4,6 +4,7 @@ ghost use Rattle.spin_base.specs.declared.copies.Packet.{Packet};
 ghost use Rattle.machine_desc.specs.declared.nets.NetPlan.{NetPlan};
 ghost use Rattle.machine_desc.specs.RightTables.{AreRight};
 ghost use Rattle.mesh_core.specs.State.{State, IsMesh};
+ghost use Rattle.mesh_core.specs.Ledger.{Label, MeetsLedger};
 ghost use Rattle.mesh_core.specs.Opened.{MeetsJobLedger};
 ghost use Rattle.mesh_core.specs.Expected.{AreAsExpected, IsAtRest, NothingWaits};
 ghost use Rattle.mesh_run.specs.Holders.{IsPlayed};
@@ -46,7 +47,7 @@ pub fn a_quiet_mesh_is_ready()
 {}
 
 /// Rounds and copies put back, in any order, lead from a mesh to a mesh of the same machine, vertices, tables and capacity. They
-/// keep the ledger of a job, where the tables are right for its nets.
+/// keep the ledger of a job, and that of nets, where the tables are right for the nets.
 pub fn passes_keep_the_ledger()
     ensures mesh { (patience turns : ℕ) (m n : State) → IsMesh m → HasPasses patience turns m n
         → IsMesh n × (n.setup ≡ m.setup) }
@@ -54,6 +55,10 @@ pub fn passes_keep_the_ledger()
         (packets : List Packet) → IsMesh m →
         AreRight m.setup.machine m.setup.tables nets → MeetsJobLedger m nets packets
         → HasPasses patience turns m n → MeetsJobLedger n nets packets }
+    ensures of_nets { (patience turns : ℕ) (m n : State) (nets : List NetPlan) (labels : ℕ → Label)
+        → IsMesh m →
+        AreRight m.setup.machine m.setup.tables nets → MeetsLedger m nets labels
+        → HasPasses patience turns m n → MeetsLedger n nets labels }
 {
     a_round_keeps_the_ledger();
 }

@@ -10,7 +10,7 @@ ghost use Rattle.mesh_core.specs.Expected.{IsAtRest};
 ghost use Rattle.mesh_round.specs.RoundFlow.{HasNoHand};
 ghost use Rattle.mesh_round.specs.Work.{work_in};
 ghost use Rattle.mesh_round.specs.OnThreads.{MayGoOn};
-ghost use Rattle.mesh_round.specs.Reinjecting.{put_back_answer, HasPasses, IsOfJob};
+ghost use Rattle.mesh_round.specs.Reinjecting.{put_back_answer, HasPasses, IsOfNets};
 
 use crate::flow_laws::a_round_leaves_less_to_do;
 use crate::laws::passes_keep_the_ledger;
@@ -43,8 +43,8 @@ pub fn put_back(mesh: Mesh) -> Result<(Mesh, Did), (Mesh, Memory)>
 }
 
 /// Rounds until nothing waits and nothing is unsent, then dumped copies put back, first ones first, until the first one can't be;
-/// and so on until no dump record is left. In the mesh of a job each dumped copy has a queue behind its output, which is empty
-/// after the rounds: so there is an end. Each time rounds are numbered anew, from 1.
+/// and so on until no dump record is left. In a mesh that meets the ledger of its nets each dumped copy has a queue behind its output,
+/// which is empty after the rounds: so there is an end. Each time rounds are numbered anew, from 1.
 ///
 /// # Errors
 ///
@@ -57,7 +57,7 @@ pub fn reinject<R: Threads + Wait + Sync, G: Gate>(
     gate: &G,
 ) -> Result<Mesh, (Mesh, Memory)>
     requires no_hand { HasNoHand mesh }
-    requires ledger { IsOfJob mesh }
+    requires ledger { IsOfNets mesh }
     ensures passes { IfOk result (HasPasses pace.patience pace.turns mesh) }
     ensures at_rest { IfOk result IsAtRest }
     ensures no_record { IfOk result (λ n. n.dumped ≡ []) }
@@ -79,7 +79,7 @@ fn pass_parts<R: Threads + Wait + Sync, G: Gate>(
     gate: &G,
 ) -> Result<MeshParts, (MeshParts, Memory)>
     requires ready { MayGoOn parts }
-    requires ledger { IsOfJob parts }
+    requires ledger { IsOfNets parts }
     ensures passes { IfOk result (HasPasses pace.patience pace.turns parts) }
     ensures ready { IfOk result MayGoOn }
     ensures at_rest { IfOk result IsAtRest }

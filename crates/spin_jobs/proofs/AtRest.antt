@@ -40,7 +40,7 @@ use Rattle.spin_jobs.specs.declared.outcomes.Parts.{Parts}
 use Rattle.spin_jobs.specs.Parts.{parts_with}
 use Rattle.spin_jobs.specs.Planned.{IsMeshOf}
 use Rattle.spin_jobs.specs.Reinjecting.{HasKeptPasses, HasReinjected}
-use Rattle.spin_jobs.specs.Runs.{HasKeptRounds, HasLostNothing, HasRunOut, IsRoomy, full_report}
+use Rattle.spin_jobs.specs.Runs.{HasLostNothing, HasRunOut, IsReachedSoon, IsRoomy, full_report}
 use Rattle.spin_jobs.specs.Words.{IsRunKept, IsReported, Reports, TellsRun}
 
 -- ---- lists
@@ -186,7 +186,7 @@ module _ (job : Job) (plan : Plan) (mesh : State) where
               (told.reported.unsent ∙ none_unsent mesh told.at_rest);
         }
 
-    pub ran_out : HasKeptRounds job plan mesh → (IsRoomy job → mesh.dumped ≡ []) → HasRunOut job plan mesh report
+    pub ran_out : IsReachedSoon job plan mesh → (IsRoomy job → mesh.dumped ≡ []) → HasRunOut job plan mesh report
     ran_out reached no_record = record {
       reached = reached;
       at_rest = told.at_rest;

@@ -1,5 +1,5 @@
 -- Rounds from the opened mesh of a job, and copies put back between them: what is kept after each of these.
-use Rattle.std.proofs.Common.{◌≡◌, ℕ, ◌≤◌, List, [], length}
+use Rattle.std.proofs.Common.{◌≡◌, ℕ, ◌≤◌, List, [], ap, arith, length, refl, suc}
 use Rattle.spin_base.specs.declared.copies.Packet.{Packet}
 use Rattle.app_graph.specs.RunPart.{IsRunOf}
 use Rattle.machine_desc.specs.declared.nets.NetPlan.{NetPlan}
@@ -8,13 +8,14 @@ use Rattle.machine_desc.specs.RightTables.{AreRight}
 use Rattle.mesh_core.specs.State.{Setup, State, IsMesh}
 use Rattle.mesh_core.specs.Opened.{opened_mesh, AreOfNets, MeetsJobLedger}
 use Rattle.mesh_core.specs.PutBack.{after_put_back}
+use Rattle.mesh_round.specs.Bound.{LeadsSoon, rounds_in}
 use Rattle.mesh_round.specs.RoundFlow.{HasRounds, none, more}
 use Rattle.mesh_round.specs.Reinjecting.{HasPasses, none as no_pass, round as by_round, put_back as by_putting_back}
 use Rattle.par_compile.specs.declared.compiling.Plan.{Plan}
 use Rattle.job_readers.specs.declared.jobs.Job.{Job}
 use Rattle.spin_jobs.specs.Planned.{opened_of, setup_of, IsMeshOf, IsPlanOfJob}
 use Rattle.spin_jobs.specs.Reinjecting.{HasKeptPasses, opened as first_opened, round as then_round, put_back as then_put_back}
-use Rattle.spin_jobs.specs.Runs.{HasKeptRounds, opened, round, IsRoomy}
+use Rattle.spin_jobs.specs.Runs.{HasKeptRounds, IsReachedSoon, IsRoomy, kept_in, opened, round}
 use Rattle.spin_jobs.proofs.Opening.{job_of_nets, opened_keeps}
 
 -- the law that what leads from mesh to mesh keeps the ledger of a job
@@ -51,6 +52,22 @@ module _ (job : Job) (plan : Plan) (run : IsRunOf job.graph job.run) (planned : 
     pub kept_rounds : (n : State) → HasRounds job.run.patience job.run.turns (opened_of job plan) n → HasKeptRounds job plan n
     kept_rounds n none = opened (opened_keeps job plan run planned)
     kept_rounds n (more f k n' before after passed) = round f k n' (kept_rounds k before) after passed (by_rounds n' (more f k n' before after passed)).ledger
+
+    kept_as_many : (n : State) (rounds : HasRounds job.run.patience job.run.turns (opened_of job plan) n) → kept_in (kept_rounds n rounds) ≡ rounds_in rounds
+    unfolding kept_rounds
+    kept_as_many n none = refl
+    kept_as_many n (more f k n' before after passed) = ap suc (kept_as_many k before)
+
+    pub reached_soon : (n : State) → LeadsSoon job.run.patience job.run.turns (opened_of job plan) n → IsReachedSoon job plan n
+    reached_soon n soon =
+        let led = soon plan.nets job.run.packets planned.right (opened_keeps job plan run planned) in
+        let many = kept_as_many n led.rounds in
+        let few = led.few in
+        record { rounds = kept_rounds n led.rounds; few = omega (arith, many, few) }
+
+    -- what leads there soon leads there
+    pub soon_leads : (n : State) → LeadsSoon job.run.patience job.run.turns (opened_of job plan) n → HasRounds job.run.patience job.run.turns (opened_of job plan) n
+    soon_leads n soon = (soon plan.nets job.run.packets planned.right (opened_keeps job plan run planned)).rounds
 
   pub none_dropped : RoomyRoundsDropNone → (n : State) → HasRounds job.run.patience job.run.turns (opened_of job plan) n → IsRoomy job → n.dumped ≡ []
   none_dropped law n led roomy =

@@ -4,14 +4,14 @@ ghost use Rattle.app_graph.specs.RunPart.{IsRunOf};
 ghost use Rattle.mesh_core.specs.State.{State, IsMesh};
 ghost use Rattle.mesh_core.specs.Step.{after_events, answers_of};
 ghost use Rattle.mesh_core.specs.Expected.{IsAtRest};
-ghost use Rattle.mesh_round.specs.RoundFlow.{HasRounds};
+ghost use Rattle.mesh_round.specs.Bound.{LeadsSoon};
 ghost use Rattle.mesh_round.specs.OnThreads.{MayGoOn};
 ghost use Rattle.mesh_round.specs.Reinjecting.{HasPasses};
 ghost use Rattle.job_readers.specs.declared.jobs.Job.{Job};
 ghost use Rattle.par_compile.specs.declared.compiling.Plan.{Plan};
 ghost use Rattle.spin_jobs.specs.Planned.{opened_of, setup_of, IsMeshOf, IsPlanOfJob};
 ghost use Rattle.spin_jobs.specs.Reinjecting.{HasKeptPasses};
-ghost use Rattle.spin_jobs.specs.Runs.{HasKeptRounds, IsRoomy};
+ghost use Rattle.spin_jobs.specs.Runs.{IsReachedSoon, IsRoomy};
 
 use crate::planned_jobs::PlannedJob;
 use mesh_core::{Did, Mesh, MeshSetup};
@@ -35,7 +35,7 @@ pub(crate) fn run_job<R: Threads + Wait + Sync, G: Gate>(
     planned: &PlannedJob<'_>,
     gate: &G,
 ) -> Result<Mesh, Memory>
-    ensures reached { IfOk result (HasKeptRounds planned.now.job planned.now.plan) }
+    ensures reached { IfOk result (IsReachedSoon planned.now.job planned.now.plan) }
     ensures kept { IfOk result (IsMeshOf planned.now.job planned.now.plan) }
     ensures at_rest { IfOk result IsAtRest }
     ensures no_record { IfOk result (λ mesh. IsRoomy planned.now.job → mesh.dumped ≡ []) }
@@ -91,12 +91,12 @@ fn mesh_alone(ran: Result<Mesh, (Mesh, Memory)>) -> Result<Mesh, Memory>
     }
 }
 
-// Rounds from the opened mesh of a planned job, of the job's patience and turns, lead to a mesh of the job and keep its ledger;
+// Few rounds from the opened mesh of a planned job, of the job's patience and turns, lead to a mesh of the job and keep its ledger;
 // and where queues have room for all packets, they make no dump record.
 fn rounds_of_a_job()
     ensures { (job : Job) (plan : Plan) (m n : State) → IsRunOf job.graph job.run
         → IsPlanOfJob job plan → IsMesh m → m ≡ opened_of job plan →
-        HasRounds job.run.patience job.run.turns m n → HasKeptRounds job plan n
+        LeadsSoon job.run.patience job.run.turns m n → IsReachedSoon job plan n
         × IsMeshOf job plan n × (IsRoomy job → n.dumped ≡ []) }
 {
     rounds_keep_the_ledger();

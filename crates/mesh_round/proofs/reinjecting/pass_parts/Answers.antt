@@ -1,11 +1,11 @@
 -- After rounds the first dumped copy goes back, so each pass leaves less to be done, until no record is left.
-use Rattle.std.proofs.Common.{rules, ◌<◌, ℕ, length, arith, subst}
+use Rattle.std.proofs.Common.{rules, ◌<◌, ℕ, length, ap, arith, subst}
 use Rattle.std.specs.Prelude.{IfErr}
 use Rattle.std.proofs.lemmas.Result.{IfErr-weaker}
 use Rattle.mesh_core.specs.State.{State}
 use Rattle.mesh_round.specs.RoundFlow.{HasRounds}
 use Rattle.mesh_round.specs.Reinjecting.{HasPasses}
-use Rattle.mesh_round.proofs.FirstBack.{job_goes_back}
+use Rattle.mesh_round.proofs.FirstBack.{first_goes_back}
 use Rattle.mesh_round.proofs.Passes.{passes_then, rounds_pass, rounds_no_more}
 use Rattle.mesh_round.proofs.reinjecting.pass_parts.Goals as goal
 
@@ -48,9 +48,9 @@ passes-smaller g c =
     let filled : State = c.in_ok-filled.filled in
     let job = c.requires.ledger in
     let law = c.passes_keep_the_ledger.ensures in
-    let kept = law.ledger p t c.args.parts m job.0 job.1 c.requires.ready.mesh job.2 job.3 c.passes.invariant.passes in
+    let kept = law.of_nets p t c.args.parts m job.0 job.1 c.requires.ready.mesh job.2 job.3 c.passes.invariant.passes in
     let some : 0 < length m.dumped = subst (λ (s : State). 0 < length s.dumped) c.parts.view_is (omega (arith, c.len.ensures, c.passes-test.true)) in
-    let less = c.in_ok-filled.ensures.less (job_goes_back m c.passes.invariant.ready.mesh job.0 job.1 kept c.passes.invariant.at_rest some) in
+    let less = c.in_ok-filled.ensures.less (first_goes_back m c.passes.invariant.ready.mesh job.0 job.1 kept c.passes.invariant.at_rest (λ none. let no = ap length none in omega (arith, some, no))) in
     let no_more = rounds_no_more c.a_round_leaves_less_to_do.ensures.no_more p t filled c.in_ok-parts-2.parts c.in_ok-filled.ensures.ready.mesh c.in_ok-parts-2.ensures.rounds.rounds in
     omega (arith, less, no_more)
 

@@ -1,7 +1,7 @@
 use Rattle.std.proofs.Common.{◌≡◌, [], ℕ, IfOk, ap, sym, subst, ◌∙◌}
 use Rattle.mesh_core.specs.Expected.{IsAtRest}
 use Rattle.mesh_core.specs.State.{State}
-use Rattle.mesh_round.specs.Reinjecting.{HasPasses, IsOfJob}
+use Rattle.mesh_round.specs.Reinjecting.{HasPasses, IsOfNets}
 use Rattle.spin_jobs.specs.Planned.{opened_of, IsMeshOf, JobWithPlan}
 use Rattle.spin_jobs.specs.Reinjecting.{HasKeptPasses}
 use Rattle.spin_jobs.proofs.Making.{alone}
@@ -17,7 +17,8 @@ reinject-ran-requires-clause-ledger g c κs within =
     let job = c.planned.inside.job.now in
     let plan = c.planned.inside.plan.now in
     let opened = c.in_ok-mesh.ensures.opened ∙ ap (λ (p : JobWithPlan). opened_of p.job p.plan) (sym c.planned.view_is) in
-    subst IsOfJob (sym opened) (plan.nets, job.run.packets, c.planned.invariant.planned.right, opened_keeps job plan c.planned.invariant.run c.planned.invariant.planned)
+    let ledger = (opened_keeps job plan c.planned.invariant.run c.planned.invariant.planned).ledger in
+    subst IsOfNets (sym opened) (plan.nets, _, c.planned.invariant.planned.right, ledger.ledger)
 
 pub returns : goal.returns
 returns g c =
