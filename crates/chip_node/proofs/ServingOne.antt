@@ -45,9 +45,9 @@ module _ (o : Out) (xs : List (Out × OutEnd)) (i : ℕ) (a : Out × OutEnd) (fo
   -- the end was offered the copy, and no other
   pub offered_by : (patience : ℕ) (k : McCopy) (s : Served) (e : OutEnd) → AllPairs (λ x y. x ≢ y) (outs_with_ends xs) → IsServedAs patience k s (sending a.1.tx) (sending e.tx) → e.link ≡ a.1.link
       → AllZip (OffersBy patience o k s) xs (set xs i (a.0, e))
-  offered_by patience k s e different fares link =
+  offered_by patience k s e different served link =
       AllZip-set (OffersBy patience o k s) xs i a (a.0, e) found_there
-      (record { out = refl; link = link; here = λ _. fares; elsewhere = λ other. absurd (other found_out) })
+      (record { out = refl; link = link; here = λ _. served; elsewhere = λ other. absurd (other found_out) })
       (λ j z apart at. record {
         out = refl;
         link = refl;

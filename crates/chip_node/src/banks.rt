@@ -84,7 +84,7 @@ impl CoreBank {
     /// One turn: offers the next unsent copy of one vertex once, where there is one, and looks at the queues of its
     /// vertices, from a start that goes round with the turn's number, until one gives a copy, which is logged. A refused offer
     /// leaves the copy unsent, in its place. It takes nothing exactly where each of its vertices' queues was found empty in this
-    /// call.
+    /// call. No clause says at which vertex it begins.
     pub fn turn<R: Wait>(&mut self, rt: &R, links: &[Link], number: u32) -> BankTurn
         requires inject { IsOutEndOf links.now self.old.inject }
         requires ends { HaveInEndsOf links.now self.old.vertices.items }

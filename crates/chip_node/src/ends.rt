@@ -68,7 +68,7 @@ impl OutEnd {
         patience: u32,
     ) -> Served
         requires { IsOutEndOf links.now self.old }
-        ensures fares { IsServedAs patience copy result (sending self.old.tx)
+        ensures served { IsServedAs patience copy result (sending self.old.tx)
             (sending self.new.tx) }
         ensures link { self.new.link ≡ self.old.link }
         ensures end { IsOutEndOf links.now self.new }

@@ -137,6 +137,7 @@ impl RouterNode {
     /// One turn: looks at the input queues, from a start that goes round with the turn's number, until one gives a copy, and
     /// serves each output that the table gives the copy at its port once, in order; none where its hop number is 4,294,967,295.
     /// It answers these outputs, and `None` where it took nothing: exactly where each of its queues was found empty in this call.
+    /// No clause says at which queue it begins: a mesh may not rest on that.
     pub fn turn<R: Wait>(
         &mut self,
         rt: &R,

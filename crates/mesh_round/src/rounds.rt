@@ -15,8 +15,8 @@ use std::alloc::Global;
 use std::sync::Wait;
 use std::thread::Threads;
 
-/// One round: the router and the bank of cores of each live chip take `pace.turns` turns, in `pace.workers` workers, of which each
-/// enters the gate in phase `number`. A router offers a copy `pace.patience` times before it dumps it. A round moves a copy where
+/// One round: the router and the bank of cores of each live chip take at most `pace.turns` turns, in `pace.workers` workers, of which
+/// each enters the gate in phase `number`. A router offers a copy `pace.patience` times before it dumps it. A round moves a copy where
 /// one waits or is unsent. All memory is taken before the first turn.
 ///
 /// # Errors

@@ -22,7 +22,7 @@ use mesh_core::MeshSetup;
 use spin_base::{Chip, Fifo, McCopy, Room};
 use std::alloc::Global;
 
-/// The router and then the bank of each kit's chip.
+/// The router and then the bank of each chip that has a space.
 pub(crate) fn deal(
     alloc: Global,
     spaces: Vec<ActorSpace>,

@@ -83,8 +83,8 @@ impl RaisedMesh {
         }
     }
 
-    /// One round: the router and the bank of each live chip take `pace.turns` turns, in `pace.workers` workers, of which each
-    /// enters the gate in phase `number`. All memory is taken before the first turn.
+    /// One round: the router and the bank of each live chip take at most `pace.turns` turns, in `pace.workers` workers, of which
+    /// each enters the gate in phase `number`. All memory is taken before the first turn.
     ///
     /// # Errors
     ///

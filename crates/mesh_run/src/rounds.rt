@@ -24,8 +24,8 @@ use std::alloc::Global;
 use std::sync::Wait;
 use std::thread::Threads;
 
-/// How rounds go: how often a router offers a copy, how many workers there are, and how many turns each of their actors takes,
-/// each of them at least once.
+/// How rounds go: how often a router offers a copy, how many workers there are, and how many turns each of their actors takes
+/// at most. Each is at least 1.
 #[derive(Clone, Copy)]
 pub struct Pace {
     pub patience: u32,
@@ -43,8 +43,8 @@ pub(crate) struct Logs {
     pub dumped: Room<DumpRec>,
 }
 
-/// One round: the router and the bank of each live chip take `pace.turns` turns, in `pace.workers` workers, of which each enters
-/// the gate in phase `number`. All memory is taken before. After a refusal the mesh is as before.
+/// One round: the router and the bank of each live chip take at most `pace.turns` turns, in `pace.workers` workers, of which each
+/// enters the gate in phase `number`. All memory is taken before. After a refusal the mesh is as before.
 pub fn play_parts<R: Threads + Wait + Sync, G: Gate>(
     rt: &R,
     alloc: Global,

@@ -8,7 +8,7 @@ pub send-requires : goal.send-requires
 send-requires g c = found_is_end c.args.out c.args.self.now.outputs.items c.in-Some.place c.index_mut.result.now (sym c.in-Some.ensures) c.index_mut.ensures.value _ c.requires.ends
 
 pub returns-in-Some-clause-offers : goal.returns-in-Some-clause-offers
-returns-in-Some-clause-offers g c = offered_by c.args.out c.args.self.now.outputs.items c.in-Some.place c.index_mut.result.now (sym c.in-Some.ensures) c.index_mut.ensures.value _ _ _ _ c.args.self.now.outs_differ c.send.ensures.fares c.send.ensures.link
+returns-in-Some-clause-offers g c = offered_by c.args.out c.args.self.now.outputs.items c.in-Some.place c.index_mut.result.now (sym c.in-Some.ensures) c.index_mut.ensures.value _ _ _ _ c.args.self.now.outs_differ c.send.ensures.served c.send.ensures.link
 
 pub returns-in-Some-clause-by_an_end : goal.returns-in-Some-clause-by_an_end
 returns-in-Some-clause-by_an_end g c sent = found_listed c.args.out c.args.self.now.outputs.items c.in-Some.place c.index_mut.result.now (sym c.in-Some.ensures) c.index_mut.ensures.value
