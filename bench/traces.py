@@ -20,9 +20,11 @@ import tempfile
 import time
 
 ROOT = os.path.dirname(os.path.dirname(os.path.realpath(__file__)))
-sys.path[:0] = [f"{ROOT}/tools", f"{ROOT}/python"]
-import picture  # noqa: E402
+sys.path.insert(0, f"{ROOT}/python")
+from kulzobad.grid import Grid, opposite  # noqa: E402
+from kulzobad.jobs import Job  # noqa: E402
 from kulzobad.reports import LINKS, read  # noqa: E402
+from kulzobad.trees import root_of, ways_of_nets  # noqa: E402
 
 TURNS = 5
 
@@ -38,31 +40,29 @@ def written(word, text):
     return subprocess.run([f"{ROOT}/out/spin", word], input=text, stdout=subprocess.PIPE, check=True).stdout.decode()
 
 
-def events_of(paper, source, ways, collected):
+def events_of(grid, source, ways, collected):
     """The events that bring a packet of a net from its source to all its targets."""
     events, ahead = [["inject", source[0]]], [(source[1], "L")]
     while ahead:
         at, port = ahead.pop(0)
-        links, cores, _ = ways[at]
+        links, cores = ways[at].links, ways[at].cores
         events.append(["take", *at, port])
-        events += [["send", *at, link] for link in links] + [["send", *at, f"c{core}"] for core in cores]
+        events += [["send", *at, LINKS[link]] for link in links] + [["send", *at, f"c{core}"] for core in cores]
         events += [["collect", collected[(*at, core)]] for core in cores]
-        ends = [(paper.next_chip(*at, link), link) for link in links]
-        ahead += [(end, LINKS[(LINKS.index(link) + 3) % 6]) for end, link in ends]
+        ahead += [(grid.next_chip(at, link), LINKS[opposite(link)]) for link in links]
     return events
 
 
 def traced(count):
     """The job with its packets and so many events."""
     job = board()
-    report = read(written("tables", json.dumps(job).encode()))
-    paper, rows, places = picture.Picture(job, ""), picture.first_rows(report.plan.tables), report.plan.places
-    collected = {(it.x, it.y, it.core): it.vertex for it in places.values()}
+    plan = read(written("tables", json.dumps(job).encode())).plan
+    whole = Job.from_json(job)
+    grid = Grid(whole.machine)
+    collected = {(it.x, it.y, it.core): it.vertex for it in plan.places.values()}
     nets = []
-    for net in job["graph"]["nets"]:
-        root = picture.source_of(net, places)
-        ways = picture.ways_of(paper, rows, report.plan.keys[net["name"]].key, root)
-        nets.append((net["name"], events_of(paper, (net["source"], root), ways, collected)))
+    for net, ways in ways_of_nets(whole, plan):
+        nets.append((net.name, events_of(grid, (net.source, root_of(plan, net)), ways, collected)))
     packets, events = [], []
     while len(events) < count:
         name, of_net = nets[len(packets) % len(nets)]

@@ -3,11 +3,12 @@ ghost use Rattle.std.specs.Prelude.{◌≡◌, ◌<◌, IfOk, Some};
 ghost use Rattle.serde_json.specs.View.{view};
 ghost use Rattle.job_text.specs.Reading.{GivesOrFaults};
 ghost use Rattle.job_readers.specs.Entries.{pair_of, triple_of, link_of, chip_faults, chip_value, numbered_faults, core_faults, core_value, link_faults, link_value};
+ghost use Rattle.job_text.specs.Paths.{path_text};
 
-use job_text::{TextErr, range, shape};
+use job_text::{Path, TextErr, range, shape};
 use machine_desc::Edge;
 use serde_json::Value;
-use spin_base::{Chip, Dir, Name, Spot};
+use spin_base::{Chip, Dir, Spot};
 use std::alloc::Global;
 
 // A list of exactly two whole numbers.
@@ -49,11 +50,11 @@ fn link(number: u8) -> Dir
 pub(crate) fn chip_in(
     alloc: Global,
     item: &Value,
-    path: &Name,
+    path: &Path<'_>,
     width: u8,
     height: u8,
 ) -> Result<Chip, TextErr>
-    ensures read { GivesOrFaults (λ c. c) result (chip_faults width height path.now (view item.now))
+    ensures read { GivesOrFaults (λ c. c) result (chip_faults width height (path_text path.now) (view item.now))
         (chip_value (view item.now)) }
     ensures inside { IfOk result (λ c. (c.x < width) × (c.y < height)) }
 {
@@ -77,13 +78,13 @@ pub(crate) fn chip_in(
 fn chip_and_number(
     alloc: Global,
     item: &Value,
-    path: &Name,
+    path: &Path<'_>,
     width: u8,
     height: u8,
     most: u8,
 ) -> Result<(Chip, u8), TextErr>
     ensures read { GivesOrFaults (λ t. Some (t.0.x, t.0.y, t.1)) result
-        (numbered_faults width height most path.now (view item.now)) (triple_of (view item.now)) }
+        (numbered_faults width height most (path_text path.now) (view item.now)) (triple_of (view item.now)) }
     ensures inside { IfOk result (λ t. (t.0.x < width) × (t.0.y < height)) }
 {
     let Some((x, y, number)) = triple(item) else {
@@ -110,11 +111,11 @@ fn chip_and_number(
 pub(crate) fn core_in(
     alloc: Global,
     item: &Value,
-    path: &Name,
+    path: &Path<'_>,
     width: u8,
     height: u8,
 ) -> Result<Spot, TextErr>
-    ensures read { GivesOrFaults (λ s. s) result (core_faults width height path.now (view item.now))
+    ensures read { GivesOrFaults (λ s. s) result (core_faults width height (path_text path.now) (view item.now))
         (core_value (view item.now)) }
     ensures inside { IfOk result (λ s. (s.chip.x < width) × (s.chip.y < height)) }
 {
@@ -127,11 +128,11 @@ pub(crate) fn core_in(
 pub(crate) fn link_in(
     alloc: Global,
     item: &Value,
-    path: &Name,
+    path: &Path<'_>,
     width: u8,
     height: u8,
 ) -> Result<Edge, TextErr>
-    ensures read { GivesOrFaults (λ e. e) result (link_faults width height path.now (view item.now))
+    ensures read { GivesOrFaults (λ e. e) result (link_faults width height (path_text path.now) (view item.now))
         (link_value (view item.now)) }
     ensures inside { IfOk result (λ e. (e.chip.x < width) × (e.chip.y < height)) }
 {

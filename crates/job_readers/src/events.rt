@@ -6,15 +6,16 @@ ghost use Rattle.job_text.specs.Reading.{GivesOrFaults};
 ghost use Rattle.app_graph.specs.ValidGraph.{IsValidGraph};
 ghost use Rattle.app_graph.specs.RunPart.{IsEventOf};
 ghost use Rattle.job_readers.specs.RunPart.{link_named, core_named, port_named, out_named, one_text, chip_and_text, items_in, at_vertex_faults, at_vertex, at_chip_faults, chip_of_event, word_of_event, event_word_faults, worded_event, events_faults, events_value};
+ghost use Rattle.job_text.specs.Paths.{path_text};
 
 use crate::graph_parts::names_of_vertices;
 use crate::items::{ItemReader, each_item};
 use crate::members::long_list_of;
 use crate::names::{Names, unknown};
 use app_graph::Graph;
-use job_text::{TextErr, may_name, member_path, range, shape};
+use job_text::{Path, TextErr, may_name, range, shape};
 use serde_json::Value;
-use spin_base::{Chip, Dir, Event, Name, Out, Port, Seq};
+use spin_base::{Chip, Dir, Event, Out, Port, Seq};
 use std::alloc::Global;
 
 // The link that a word names.
@@ -91,9 +92,14 @@ fn out_named(word: &str) -> Option<Out>
 
 // The vertex of an event, by its name.
 #[tactic(auto, using(crate::proofs::Firsts::firsts, crate::proofs::PlaceSteps::bounds), unfolding(crate::specs::RunPart::at_vertex_faults, crate::specs::RunPart::at_vertex))]
-fn vertex_of(alloc: Global, rest: &[Value], path: &Name, vertices: &Names) -> Result<u32, TextErr>
+fn vertex_of(
+    alloc: Global,
+    rest: &[Value],
+    path: &Path<'_>,
+    vertices: &Names,
+) -> Result<u32, TextErr>
     ensures read { GivesOrFaults (λ v. v) result
-        (at_vertex_faults vertices.now path.now (map view rest.now))
+        (at_vertex_faults vertices.now (path_text path.now) (map view rest.now))
         (at_vertex vertices.now (map view rest.now)) }
     ensures below { IfOk result (λ v. v < length vertices.now) }
 {
@@ -172,10 +178,10 @@ impl EventWord for Out {
 fn chip_and_named<W: EventWord>(
     alloc: Global,
     rest: &[Value],
-    path: &Name,
+    path: &Path<'_>,
 ) -> Result<(Chip, W), TextErr>
     ensures chip { GivesOrFaults (λ t. t.0) result
-        (at_chip_faults W.named path.now (map view rest.now)) (chip_of_event (map view rest.now)) }
+        (at_chip_faults W.named (path_text path.now) (map view rest.now)) (chip_of_event (map view rest.now)) }
     ensures named { IfOk result
         (λ t. W.named (word_of_event (map view rest.now)) ≡ Some t.1) }
     ensures right { IfOk result (λ t. W.IsRight t.1) }
@@ -205,10 +211,10 @@ fn worded(
     alloc: Global,
     word: &str,
     rest: &[Value],
-    path: &Name,
+    path: &Path<'_>,
     vertices: &Names,
 ) -> Result<Event, TextErr>
-    ensures read { GivesOrFaults (λ e. e) result (event_word_faults vertices.now path.now word.now
+    ensures read { GivesOrFaults (λ e. e) result (event_word_faults vertices.now (path_text path.now) word.now
         (map view rest.now)) (worded_event vertices.now word.now (map view rest.now)) }
     ensures valid { IfOk result (IsEventOf (length vertices.now)) }
 {
@@ -265,7 +271,7 @@ impl<'a, 'b> ItemReader for Listed<'a, 'b> {
     ghost Holds = { λ among. IsEventOf (length among.vertices.now) };
 
     #[tactic(auto, unfolding(crate::specs::RunPart::event_faults, crate::specs::RunPart::event_value))]
-    fn read(&self, alloc: Global, item: &Value, path: &Name) -> Result<Event, TextErr> {
+    fn read(&self, alloc: Global, item: &Value, path: &Path<'_>) -> Result<Event, TextErr> {
         let [head, rest @ ..] = items_in(item) else {
             return Err(shape(alloc, path));
         };
@@ -281,17 +287,17 @@ impl<'a, 'b> ItemReader for Listed<'a, 'b> {
 pub(crate) fn events(
     alloc: Global,
     run: &Value,
-    path: &Name,
+    path: &Path<'_>,
     graph: &Graph,
 ) -> Result<Seq<Event>, TextErr>
     requires { IsValidGraph graph.now }
-    ensures read { GivesOrFaults (λ e. e) result (events_faults graph.now.vertices path.now
+    ensures read { GivesOrFaults (λ e. e) result (events_faults graph.now.vertices (path_text path.now)
         (view run.now))
         (events_value graph.now.vertices (view run.now)) }
     ensures valid { IfOk result (λ es. All (IsEventOf (length graph.now.vertices)) es) }
 {
     let items = long_list_of(alloc, run, path, "events", false)?;
-    let path = member_path(alloc, path, "events")?;
+    let path = Path::Member(path, "events");
     let names = names_of_vertices(alloc, graph.vertices.as_slice())?;
     each_item(alloc, items, &path, &Listed { vertices: &names })
 }

@@ -11,6 +11,7 @@ ghost use Rattle.job_readers.specs.Blocks.{shares_key};
 ghost use Rattle.job_readers.specs.Hung.{is_among};
 ghost use Rattle.job_readers.specs.Job.{job_own_faults};
 ghost use Rattle.job_readers.specs.GraphPart.{name_value, name_faults, at_faults, at_value, device_faults, device_value, vertex_faults, vertex_value, next_vertex_faults, vertices_faults, vertices_value, vertex_names_of, sender_in, net_source_faults, source_value, some_faults, targets_faults, targets_value, fixed_faults, fixed_value, net_faults, net_value, next_net_faults, nets_faults, nets_value, graph_members_faults, graph_members, graph_faults, graph_value};
+ghost use Rattle.job_text.specs.Paths.{path_text};
 
 use crate::blocks::{block_for, meets_any, put_behind};
 use crate::devices::Devices;
@@ -20,9 +21,7 @@ use crate::members::{list_of, member_from, number_of};
 use crate::named_vertices::NamedVertices;
 use crate::names::{Names, clash, new_name, reference, said_name, unknown};
 use app_graph::{Graph, Net, Vertex};
-use job_text::{
-    TextErr, field, item_path, list, member, member_path, object, range, shape, text_in,
-};
+use job_text::{Path, TextErr, field, list, member, object, range, shape, text_in};
 use machine_desc::Edge;
 use serde_json::Value;
 use spin_base::{Block, Chip, Memory, Name, Seq};
@@ -48,23 +47,23 @@ const MOST_KEYS: u64 = 4294967296;
 fn item_name<'a>(
     alloc: Global,
     item: &'a Value,
-    path: &Name,
+    path: &Path<'_>,
     before: &Names,
 ) -> Result<&'a str, TextErr>
-    ensures { GivesOrFaults (λ s. s.now) result (name_faults before.now path.now (view item.now))
+    ensures { GivesOrFaults (λ s. s.now) result (name_faults before.now (path_text path.now) (view item.now))
         (name_value (view item.now)) }
 {
-    let path = member_path(alloc, path, "name")?;
+    let path = Path::Member(path, "name");
     new_name(alloc, member(item, "name"), &path, before)
 }
 
 // The chip on which a vertex must stand.
 #[tactic(auto, unfolding(crate::specs::GraphPart::at_faults, crate::specs::GraphPart::at_value))]
-fn vertex_place(alloc: Global, item: &Value, path: &Name) -> Result<Option<Chip>, TextErr>
-    ensures { GivesOrFaults (λ c. c) result (at_faults path.now (view item.now))
+fn vertex_place(alloc: Global, item: &Value, path: &Path<'_>) -> Result<Option<Chip>, TextErr>
+    ensures { GivesOrFaults (λ c. c) result (at_faults (path_text path.now) (view item.now))
         (at_value (view item.now)) }
 {
-    let path = member_path(alloc, path, "at")?;
+    let path = Path::Member(path, "at");
     let Some(at) = member(item, "at") else {
         return Ok(None);
     };
@@ -76,16 +75,16 @@ fn vertex_place(alloc: Global, item: &Value, path: &Name) -> Result<Option<Chip>
 fn vertex_device(
     alloc: Global,
     item: &Value,
-    path: &Name,
+    path: &Path<'_>,
     version: u32,
     before: &Devices,
 ) -> Result<Option<Edge>, TextErr>
-    ensures read { GivesOrFaults (λ e. e) result (device_faults version before.now path.now
+    ensures read { GivesOrFaults (λ e. e) result (device_faults version before.now (path_text path.now)
         (view item.now))
         (device_value version (view item.now)) }
     ensures fresh { IfOk result (λ o. IfSome o (λ e. is_among before.now e ≡ false)) }
 {
-    let path = member_path(alloc, path, "device")?;
+    let path = Path::Member(path, "device");
     let Some(found) = member_from(item, "device", 3, version) else {
         return Ok(None);
     };
@@ -100,13 +99,13 @@ fn vertex_device(
 fn vertex(
     alloc: Global,
     item: &Value,
-    path: &Name,
+    path: &Path<'_>,
     version: u32,
     names: &Names,
     devices: &Devices,
 ) -> Result<Vertex, TextErr>
     ensures read { GivesOrFaults (λ v. v) result
-        (vertex_faults version names.now devices.now path.now
+        (vertex_faults version names.now devices.now (path_text path.now)
         (view item.now)) (vertex_value version (view item.now)) }
     ensures valid { IfOk result IsValidVertex }
     ensures fresh { IfOk result (λ v. IfSome v.device (λ e. is_among devices.now e ≡ false)) }
@@ -128,12 +127,12 @@ fn vertex(
 fn each_vertex(
     alloc: Global,
     items: &[Value],
-    path: &Name,
+    path: &Path<'_>,
     version: u32,
 ) -> Result<Seq<Vertex>, TextErr>
     requires { length items.now ≤ 16384 }
     ensures read { GivesOrFaults (λ v. v) result (following_faults (next_vertex_faults version)
-        (vertex_value version) [] path.now 0 (map view items.now))
+        (vertex_value version) [] (path_text path.now) 0 (map view items.now))
         (map (vertex_value version) (map view items.now)) }
     ensures valid { IfOk result (λ vs. All IsValidVertex vs) }
     ensures devices { IfOk result (λ vs. AllPairs HaveDifferentDevices vs) }
@@ -142,7 +141,7 @@ fn each_vertex(
     let mut devices = Devices::new(alloc);
     let mut vertices = Seq::new(alloc);
     for (i, item) in items.iter().enumerate() {
-        let path = item_path(alloc, path, i as u64)?;
+        let path = Path::Item(&*path, i as u64);
         let vertex = vertex(alloc, item, &path, version, &names, &devices)?;
         names = names.with(said_name(item))?;
         devices = devices.and(vertex.device)?;
@@ -152,15 +151,20 @@ fn each_vertex(
 }
 
 #[tactic(auto, using(crate::proofs::Firsts::firsts), unfolding(crate::specs::GraphPart::vertices_faults, crate::specs::GraphPart::vertices_value))]
-fn vertices(alloc: Global, graph: &Value, path: &Name, version: u32) -> Result<Seq<Vertex>, TextErr>
-    ensures read { GivesOrFaults (λ v. v) result (vertices_faults version path.now (view graph.now))
+fn vertices(
+    alloc: Global,
+    graph: &Value,
+    path: &Path<'_>,
+    version: u32,
+) -> Result<Seq<Vertex>, TextErr>
+    ensures read { GivesOrFaults (λ v. v) result (vertices_faults version (path_text path.now) (view graph.now))
         (vertices_value version (view graph.now)) }
     ensures valid { IfOk result (λ vs. All IsValidVertex vs) }
     ensures devices { IfOk result (λ vs. AllPairs HaveDifferentDevices vs) }
     ensures few { IfOk result (λ vs. length vs ≤ 16384) }
 {
     let items = list_of(alloc, graph, path, "vertices", true, MOST_VERTICES)?;
-    let path = member_path(alloc, path, "vertices")?;
+    let path = Path::Member(path, "vertices");
     each_vertex(alloc, items, &path, version)
 }
 
@@ -184,17 +188,17 @@ fn sender(said: &str, among: &NamedVertices<'_, '_>) -> Option<u32>
 fn source(
     alloc: Global,
     item: &Value,
-    path: &Name,
+    path: &Path<'_>,
     among: &NamedVertices<'_, '_>,
 ) -> Result<u32, TextErr>
-    ensures read { GivesOrFaults (λ i. i) result (net_source_faults among.now.vertices.now path.now
+    ensures read { GivesOrFaults (λ i. i) result (net_source_faults among.now.vertices.now (path_text path.now)
         (view item.now))
         (source_value among.now.vertices.now (view item.now)) }
     ensures below { IfOk result (λ i. i < length among.now.vertices.now) }
     ensures sends { IfOk result (λ i. (v : Vertex) → slice_get among.now.vertices.now i ≡ Some v
         → v.device ≡ None) }
 {
-    let path = member_path(alloc, path, "source")?;
+    let path = Path::Member(path, "source");
     let said = text_in(alloc, member(item, "source"), &path)?;
     match sender(said, among) {
         Some(i) => Ok(i),
@@ -223,16 +227,20 @@ impl<'a, 'b> ItemReader for Named<'a, 'b> {
     ghost Holds = { λ among t. t < length among.vertices.now };
 
     #[tactic(auto, unfolding(crate::specs::GraphPart::target_faults, crate::specs::GraphPart::target_value))]
-    fn read(&self, alloc: Global, item: &Value, path: &Name) -> Result<u32, TextErr> {
+    fn read(&self, alloc: Global, item: &Value, path: &Path<'_>) -> Result<u32, TextErr> {
         reference(alloc, Some(item), path, self.vertices)
     }
 }
 
 // The list of a net's targets, which has an item.
 #[tactic(auto, using(crate::proofs::Firsts::firsts), unfolding(crate::specs::GraphPart::some_faults))]
-fn some_items<'a>(alloc: Global, v: Option<&'a Value>, path: &Name) -> Result<&'a [Value], TextErr>
+fn some_items<'a>(
+    alloc: Global,
+    v: Option<&'a Value>,
+    path: &Path<'_>,
+) -> Result<&'a [Value], TextErr>
     ensures read { GivesOrFaults (λ items. map view items.now) result
-        (some_faults path.now (option_map (λ d. view d.now) v.entry))
+        (some_faults (path_text path.now) (option_map (λ d. view d.now) v.entry))
         (list_value (option_map (λ d. view d.now) v.entry)) }
     ensures some { IfOk result (λ items. 0 < length items.now) }
 {
@@ -244,14 +252,19 @@ fn some_items<'a>(alloc: Global, v: Option<&'a Value>, path: &Name) -> Result<&'
 }
 
 #[tactic(auto, using(crate::proofs::Firsts::firsts), unfolding(crate::specs::GraphPart::targets_faults, crate::specs::GraphPart::targets_value, crate::specs::Members::list_member))]
-fn targets(alloc: Global, item: &Value, path: &Name, vertices: &Names) -> Result<Seq<u32>, TextErr>
-    ensures read { GivesOrFaults (λ t. t) result (targets_faults vertices.now path.now
+fn targets(
+    alloc: Global,
+    item: &Value,
+    path: &Path<'_>,
+    vertices: &Names,
+) -> Result<Seq<u32>, TextErr>
+    ensures read { GivesOrFaults (λ t. t) result (targets_faults vertices.now (path_text path.now)
         (view item.now))
         (targets_value vertices.now (view item.now)) }
     ensures below { IfOk result (λ ts. All (λ t. t < length vertices.now) ts) }
     ensures some { IfOk result (λ ts. 0 < length ts) }
 {
-    let path = member_path(alloc, path, "targets")?;
+    let path = Path::Member(path, "targets");
     let items = some_items(alloc, member(item, "targets"), &path)?;
     each_item(alloc, items, &path, &Named { vertices })
 }
@@ -261,17 +274,17 @@ fn targets(alloc: Global, item: &Value, path: &Name, vertices: &Names) -> Result
 fn fixed_block(
     alloc: Global,
     item: &Value,
-    path: &Name,
+    path: &Path<'_>,
     version: u32,
     keys: u64,
     before: &[Block],
 ) -> Result<Option<Block>, TextErr>
-    ensures read { GivesOrFaults (λ b. b) result (fixed_faults version before.now keys path.now
+    ensures read { GivesOrFaults (λ b. b) result (fixed_faults version before.now keys (path_text path.now)
         (view item.now)) (fixed_value version (view item.now)) }
     ensures fixed { IfOk result (λ o. IfSome o (IsFixedFor keys)) }
     ensures fresh { IfOk result (λ o. IfSome o (λ b. list_any (shares_key b) before.now ≡ false)) }
 {
-    let path = member_path(alloc, path, "fixed")?;
+    let path = Path::Member(path, "fixed");
     let Some(found) = member_from(item, "fixed", 2, version) else {
         return Ok(None);
     };
@@ -299,14 +312,14 @@ struct NetsBefore<'a, 'b> {
 fn net(
     alloc: Global,
     item: &Value,
-    path: &Name,
+    path: &Path<'_>,
     version: u32,
     before: &NetsBefore<'_, '_>,
     among: &NamedVertices<'_, '_>,
 ) -> Result<Net, TextErr>
     ensures read { GivesOrFaults (λ n. n) result
         (net_faults version among.now.vertices.now before.now.names.now before.now.blocks.now
-        path.now (view item.now))
+        (path_text path.now) (view item.now))
         (net_value version among.now.vertices.now (view item.now)) }
     ensures valid { IfOk result (IsValidNet (length among.now.vertices.now)) }
     ensures sends { IfOk result (HasSendingSource among.now.vertices.now) }
@@ -332,7 +345,7 @@ fn net(
 fn each_net(
     alloc: Global,
     items: &[Value],
-    path: &Name,
+    path: &Path<'_>,
     version: u32,
     among: &NamedVertices<'_, '_>,
 ) -> Result<Seq<Net>, TextErr>
@@ -340,7 +353,7 @@ fn each_net(
     ensures read { GivesOrFaults (λ n. n) result
         (following_faults (next_net_faults version among.now.vertices.now)
         (net_value version among.now.vertices.now)
-        [] path.now 0 (map view items.now))
+        [] (path_text path.now) 0 (map view items.now))
         (map (net_value version among.now.vertices.now) (map view items.now)) }
     ensures valid { IfOk result (λ ns. All (IsValidNet (length among.now.vertices.now)) ns) }
     ensures sources { IfOk result (λ ns. All (HasSendingSource among.now.vertices.now) ns) }
@@ -350,7 +363,7 @@ fn each_net(
     let mut blocks = Vec::new(alloc);
     let mut nets = Seq::new(alloc);
     for (i, item) in items.iter().enumerate() {
-        let path = item_path(alloc, path, i as u64)?;
+        let path = Path::Item(&*path, i as u64);
         let others = blocks.as_slice();
         let before = NetsBefore {
             names: &names,
@@ -368,12 +381,12 @@ fn each_net(
 fn nets(
     alloc: Global,
     graph: &Value,
-    path: &Name,
+    path: &Path<'_>,
     version: u32,
     among: &NamedVertices<'_, '_>,
 ) -> Result<Seq<Net>, TextErr>
     ensures read { GivesOrFaults (λ n. n) result
-        (nets_faults version among.now.vertices.now path.now
+        (nets_faults version among.now.vertices.now (path_text path.now)
         (view graph.now))
         (nets_value version among.now.vertices.now (view graph.now)) }
     ensures valid { IfOk result (λ ns. All (IsValidNet (length among.now.vertices.now)) ns) }
@@ -382,7 +395,7 @@ fn nets(
     ensures few { IfOk result (λ ns. length ns ≤ 4096) }
 {
     let items = list_of(alloc, graph, path, "nets", true, MOST_NETS)?;
-    let path = member_path(alloc, path, "nets")?;
+    let path = Path::Member(path, "nets");
     each_net(alloc, items, &path, version, among)
 }
 
@@ -406,12 +419,12 @@ pub(crate) fn names_of_vertices<'a>(
 fn nets_among(
     alloc: Global,
     graph: &Value,
-    path: &Name,
+    path: &Path<'_>,
     version: u32,
     vertices: &Seq<Vertex>,
 ) -> Result<Seq<Net>, TextErr>
     requires { length vertices.now ≤ 16384 }
-    ensures read { GivesOrFaults (λ n. n) result (nets_faults version vertices.now path.now
+    ensures read { GivesOrFaults (λ n. n) result (nets_faults version vertices.now (path_text path.now)
         (view graph.now)) (nets_value version vertices.now (view graph.now)) }
     ensures valid { IfOk result (λ ns. All (IsValidNet (length vertices.now)) ns) }
     ensures sources { IfOk result (λ ns. All (HasSendingSource vertices.now) ns) }
@@ -427,8 +440,13 @@ fn nets_among(
 }
 
 #[tactic(auto, using(crate::proofs::Firsts::firsts), unfolding(crate::specs::GraphPart::graph_members_faults, crate::specs::GraphPart::graph_members))]
-fn graph_members(alloc: Global, graph: &Value, path: &Name, version: u32) -> Result<Graph, TextErr>
-    ensures read { GivesOrFaults (λ g. g) result (graph_members_faults version path.now
+fn graph_members(
+    alloc: Global,
+    graph: &Value,
+    path: &Path<'_>,
+    version: u32,
+) -> Result<Graph, TextErr>
+    ensures read { GivesOrFaults (λ g. g) result (graph_members_faults version (path_text path.now)
         (view graph.now))
         (graph_members version (view graph.now)) }
     ensures valid { IfOk result IsValidGraph }
@@ -445,14 +463,14 @@ fn graph_members(alloc: Global, graph: &Value, path: &Name, version: u32) -> Res
 ///
 /// `Fault` with the first fault of the job's own shape and of its graph; `Memory`.
 #[tactic(auto, using(crate::proofs::Firsts::firsts), unfolding(crate::specs::Job::job_own_faults, crate::specs::GraphPart::graph_faults, crate::specs::GraphPart::graph_value))]
-pub fn graph_of(alloc: Global, job: &Value, path: &Name, version: u32) -> Result<Graph, TextErr>
+pub fn graph_of(alloc: Global, job: &Value, path: &Path<'_>, version: u32) -> Result<Graph, TextErr>
     ensures graph { GivesOrFaults (λ g. g) result
-        (job_own_faults path.now (view job.now) ▹ graph_faults path.now version (view job.now))
+        (job_own_faults (path_text path.now) (view job.now) ▹ graph_faults (path_text path.now) version (view job.now))
         (graph_value version (view job.now)) }
     ensures valid { IfOk result IsValidGraph }
 {
     let found = field(alloc, job, path, "graph")?;
-    let path = member_path(alloc, path, "graph")?;
+    let path = Path::Member(path, "graph");
     let graph = object(alloc, found, &path)?;
     graph_members(alloc, graph, &path, version)
 }

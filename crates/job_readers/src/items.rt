@@ -5,10 +5,11 @@ ghost use Rattle.serde_json.specs.Data.{Data};
 ghost use Rattle.job_text.specs.declared.faults.JobFault.{JobFault};
 ghost use Rattle.job_text.specs.Reading.{GivesOrFaults};
 ghost use Rattle.job_readers.specs.Items.{items_faults};
+ghost use Rattle.job_text.specs.Paths.{path_text};
 
-use job_text::{TextErr, item_path};
+use job_text::{Path, TextErr};
 use serde_json::Value;
-use spin_base::{Name, Seq};
+use spin_base::Seq;
 use std::alloc::Global;
 
 /// What reads items of one kind: the faults of an item at a path, what the item is, and what holds of each that is read.
@@ -24,9 +25,9 @@ pub trait ItemReader {
     ghost Holds: { Self → Self.Item → Type 0 };
 
     /// What an item is, which stands at a path.
-    fn read(&self, alloc: Global, item: &Value, path: &Name) -> Result<Self::Item, TextErr>
+    fn read(&self, alloc: Global, item: &Value, path: &Path<'_>) -> Result<Self::Item, TextErr>
         requires { IsReady self.now }
-        ensures read { GivesOrFaults (λ x. x) result (faults self.now path.now (view item.now))
+        ensures read { GivesOrFaults (λ x. x) result (faults self.now (path_text path.now) (view item.now))
             (value self.now (view item.now)) }
         ensures holds { IfOk result (Holds self.now) };
 }
@@ -39,18 +40,18 @@ pub trait ItemReader {
 pub fn each_item<R: ItemReader>(
     alloc: Global,
     items: &[Value],
-    path: &Name,
+    path: &Path<'_>,
     reader: &R,
 ) -> Result<Seq<R::Item>, TextErr>
     requires { R.IsReady reader.now }
-    ensures read { GivesOrFaults (λ xs. xs) result (items_faults (R.faults reader.now) path.now 0
+    ensures read { GivesOrFaults (λ xs. xs) result (items_faults (R.faults reader.now) (path_text path.now) 0
         (map view items.now)) (map (R.value reader.now) (map view items.now)) }
     ensures holds { IfOk result (λ xs. All (R.Holds reader.now) xs) }
     ensures count { IfOk result (λ xs. length xs ≡ length items.now) }
 {
     let mut found = Seq::new(alloc);
     for (i, item) in items.iter().enumerate() {
-        let path = item_path(alloc, path, i as u64)?;
+        let path = Path::Item(&*path, i as u64);
         let next = reader.read(alloc, item, &path)?;
         found.push(next)?;
     }

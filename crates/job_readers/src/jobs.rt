@@ -5,16 +5,16 @@ ghost use Rattle.job_text.specs.Reading.{GivesOrFaults};
 ghost use Rattle.app_graph.specs.ValidGraph.{IsValidGraph};
 ghost use Rattle.app_graph.specs.RunPart.{IsRunOf};
 ghost use Rattle.job_readers.specs.WholeJob.{job_faults, job_value};
+ghost use Rattle.job_text.specs.Paths.{path_text};
 
 use crate::graph_parts::graph_of;
 use crate::machine_parts::machine_of;
 use crate::run_parts::run_of;
 use crate::versions::version_of;
 use app_graph::{Graph, RunPart};
-use job_text::TextErr;
+use job_text::{Path, TextErr};
 use machine_desc::Machine;
 use serde_json::Value;
-use spin_base::Name;
 use std::alloc::Global;
 
 /// The greatest version of the text of a job.
@@ -34,8 +34,8 @@ pub struct Job {
 ///
 /// `Fault` with the job's first fault in the order of reading; `Memory`.
 #[tactic(auto, using(crate::proofs::Parts::parts), unfolding(crate::specs::WholeJob::job_faults, crate::specs::WholeJob::job_value))]
-pub fn job_of(alloc: Global, value: &Value, path: &Name, greatest: u32) -> Result<Job, TextErr>
-    ensures job { GivesOrFaults (λ j. j) result (job_faults path.now greatest (view value.now))
+pub fn job_of(alloc: Global, value: &Value, path: &Path<'_>, greatest: u32) -> Result<Job, TextErr>
+    ensures job { GivesOrFaults (λ j. j) result (job_faults (path_text path.now) greatest (view value.now))
         (job_value (view value.now)) }
     ensures graph { IfOk result (λ j. IsValidGraph j.graph) }
     ensures run { IfOk result (λ j. IsRunOf j.graph j.run) }

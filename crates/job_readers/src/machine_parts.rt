@@ -5,14 +5,15 @@ ghost use Rattle.job_text.specs.Reading.{GivesOrFaults, ◌▹◌};
 ghost use Rattle.job_readers.specs.MachinePart.{machine_members_faults, machine_members, entries_faults, machine_faults, machine_value};
 ghost use Rattle.job_readers.specs.Members.{list_member};
 ghost use Rattle.job_readers.specs.Job.{job_own_faults};
+ghost use Rattle.job_text.specs.Paths.{path_text};
 
 use crate::entries::{chip_in, core_in, link_in};
 use crate::items::{ItemReader, each_item};
 use crate::members::{flag_of, long_list_of, number_of};
-use job_text::{TextErr, field, member_path, object};
+use job_text::{Path, TextErr, field, object};
 use machine_desc::{Edge, Machine, MachineParts};
 use serde_json::Value;
-use spin_base::{Chip, Name, Seq, Spot};
+use spin_base::{Chip, Seq, Spot};
 use std::alloc::Global;
 
 // A grid, whose chips are read.
@@ -36,7 +37,7 @@ impl ItemReader for Chips {
 
     ghost Holds = { λ grid c. (c.x < grid.width) × (c.y < grid.height) };
 
-    fn read(&self, alloc: Global, item: &Value, path: &Name) -> Result<Chip, TextErr> {
+    fn read(&self, alloc: Global, item: &Value, path: &Path<'_>) -> Result<Chip, TextErr> {
         chip_in(alloc, item, path, self.width, self.height)
     }
 }
@@ -62,7 +63,7 @@ impl ItemReader for Cores {
 
     ghost Holds = { λ grid s. (s.chip.x < grid.width) × (s.chip.y < grid.height) };
 
-    fn read(&self, alloc: Global, item: &Value, path: &Name) -> Result<Spot, TextErr> {
+    fn read(&self, alloc: Global, item: &Value, path: &Path<'_>) -> Result<Spot, TextErr> {
         core_in(alloc, item, path, self.width, self.height)
     }
 }
@@ -88,7 +89,7 @@ impl ItemReader for Links {
 
     ghost Holds = { λ grid e. (e.chip.x < grid.width) × (e.chip.y < grid.height) };
 
-    fn read(&self, alloc: Global, item: &Value, path: &Name) -> Result<Edge, TextErr> {
+    fn read(&self, alloc: Global, item: &Value, path: &Path<'_>) -> Result<Edge, TextErr> {
         link_in(alloc, item, path, self.width, self.height)
     }
 }
@@ -98,18 +99,18 @@ impl ItemReader for Links {
 fn listed<R: ItemReader>(
     alloc: Global,
     machine: &Value,
-    path: &Name,
+    path: &Path<'_>,
     name: &str,
     reader: &R,
 ) -> Result<Seq<R::Item>, TextErr>
     requires { R.IsReady reader.now }
     ensures read { GivesOrFaults (λ ps. ps) result (entries_faults
-        (R.faults reader.now) path.now name.now
+        (R.faults reader.now) (path_text path.now) name.now
         (view machine.now)) (map (R.value reader.now) (list_member name.now (view machine.now))) }
     ensures holds { IfOk result (λ ps. All (R.Holds reader.now) ps) }
 {
     let items = long_list_of(alloc, machine, path, name, false)?;
-    let path = member_path(alloc, path, name)?;
+    let path = Path::Member(path, name);
     each_item(alloc, items, &path, reader)
 }
 
@@ -117,8 +118,8 @@ fn listed<R: ItemReader>(
 const CHIP_MEMORY: u64 = 134217728;
 
 #[tactic(auto, using(crate::proofs::Firsts::firsts), unfolding(crate::specs::MachinePart::machine_members_faults, crate::specs::MachinePart::machine_members))]
-fn machine_members(alloc: Global, machine: &Value, path: &Name) -> Result<Machine, TextErr>
-    ensures { GivesOrFaults (λ m. m) result (machine_members_faults path.now (view machine.now))
+fn machine_members(alloc: Global, machine: &Value, path: &Path<'_>) -> Result<Machine, TextErr>
+    ensures { GivesOrFaults (λ m. m) result (machine_members_faults (path_text path.now) (view machine.now))
         (machine_members (view machine.now)) }
 {
     let width = number_of(alloc, machine, path, "width", (1, 64), None)? as u8;
@@ -153,13 +154,13 @@ fn machine_members(alloc: Global, machine: &Value, path: &Name) -> Result<Machin
 ///
 /// `Fault` with the first fault of the job's own shape and of its machine; `Memory`.
 #[tactic(auto, using(crate::proofs::Firsts::firsts), unfolding(crate::specs::Job::job_own_faults, crate::specs::MachinePart::machine_faults, crate::specs::MachinePart::machine_value))]
-pub fn machine_of(alloc: Global, job: &Value, path: &Name) -> Result<Machine, TextErr>
-    ensures { GivesOrFaults (λ m. m) result (job_own_faults path.now
-        (view job.now) ▹ machine_faults path.now
+pub fn machine_of(alloc: Global, job: &Value, path: &Path<'_>) -> Result<Machine, TextErr>
+    ensures { GivesOrFaults (λ m. m) result (job_own_faults (path_text path.now)
+        (view job.now) ▹ machine_faults (path_text path.now)
         (view job.now)) (machine_value (view job.now)) }
 {
     let found = field(alloc, job, path, "machine")?;
-    let path = member_path(alloc, path, "machine")?;
+    let path = Path::Member(path, "machine");
     let machine = object(alloc, found, &path)?;
     machine_members(alloc, machine, &path)
 }

@@ -6,10 +6,11 @@ ghost use Rattle.job_text.specs.Fields.{text_value};
 ghost use Rattle.job_text.specs.declared.faults.JobFault.TheVariants.{UnknownName, DoubleName, Clash};
 ghost use Rattle.job_readers.specs.Places.{name_place_in, reference_faults, reference_value, new_name_faults};
 ghost use Rattle.job_readers.specs.GraphPart.{name_value};
+ghost use Rattle.job_text.specs.Paths.{path_text};
 
-use job_text::{JobFault, TextErr, member, text_in};
+use job_text::{JobFault, Path, TextErr, member, text_in};
 use serde_json::Value;
-use spin_base::{Memory, Name};
+use spin_base::Memory;
 use std::alloc::Global;
 use std::collections::HashMap;
 use std::marker::Model;
@@ -71,30 +72,30 @@ impl<'a> Names<'a> {
 }
 
 // The error of a name that refers to nothing.
-pub(crate) fn unknown(alloc: Global, path: &Name) -> TextErr
-    ensures { IsFirstFault result (UnknownName path.now ∷ []) }
+pub(crate) fn unknown(alloc: Global, path: &Path<'_>) -> TextErr
+    ensures { IsFirstFault result (UnknownName (path_text path.now) ∷ []) }
 {
-    match Name::of(alloc, path.as_str()) {
+    match path.text(alloc) {
         Ok(path) => TextErr::Fault(JobFault::UnknownName(path)),
         Err(_) => TextErr::Memory,
     }
 }
 
 // The error of a name that stands earlier.
-fn double(alloc: Global, path: &Name) -> TextErr
-    ensures { IsFirstFault result (DoubleName path.now ∷ []) }
+fn double(alloc: Global, path: &Path<'_>) -> TextErr
+    ensures { IsFirstFault result (DoubleName (path_text path.now) ∷ []) }
 {
-    match Name::of(alloc, path.as_str()) {
+    match path.text(alloc) {
         Ok(path) => TextErr::Fault(JobFault::DoubleName(path)),
         Err(_) => TextErr::Memory,
     }
 }
 
 // The error of what an earlier item has already.
-pub(crate) fn clash(alloc: Global, path: &Name) -> TextErr
-    ensures { IsFirstFault result (Clash path.now ∷ []) }
+pub(crate) fn clash(alloc: Global, path: &Path<'_>) -> TextErr
+    ensures { IsFirstFault result (Clash (path_text path.now) ∷ []) }
 {
-    match Name::of(alloc, path.as_str()) {
+    match path.text(alloc) {
         Ok(path) => TextErr::Fault(JobFault::Clash(path)),
         Err(_) => TextErr::Memory,
     }
@@ -105,11 +106,11 @@ pub(crate) fn clash(alloc: Global, path: &Name) -> TextErr
 pub(crate) fn reference(
     alloc: Global,
     v: Option<&Value>,
-    path: &Name,
+    path: &Path<'_>,
     names: &Names,
 ) -> Result<u32, TextErr>
     ensures read { GivesOrFaults (λ i. i) result
-        (reference_faults names.now path.now (option_map (λ d. view d.now) v.entry))
+        (reference_faults names.now (path_text path.now) (option_map (λ d. view d.now) v.entry))
         (reference_value names.now (option_map (λ d. view d.now) v.entry)) }
     ensures below { IfOk result (λ i. i < length names.now) }
 {
@@ -125,11 +126,11 @@ pub(crate) fn reference(
 pub(crate) fn new_name<'a>(
     alloc: Global,
     v: Option<&'a Value>,
-    path: &Name,
+    path: &Path<'_>,
     before: &Names,
 ) -> Result<&'a str, TextErr>
     ensures { GivesOrFaults (λ s. s.now) result
-        (new_name_faults before.now path.now (option_map (λ d. view d.now) v.entry))
+        (new_name_faults before.now (path_text path.now) (option_map (λ d. view d.now) v.entry))
         (text_value (option_map (λ d. view d.now) v.entry)) }
 {
     let said = text_in(alloc, v, path)?;

@@ -11,16 +11,17 @@ ghost use Rattle.job_readers.specs.Members.{number_member_faults, number_member,
 ghost use Rattle.job_readers.specs.Job.{job_own_faults};
 ghost use Rattle.job_readers.specs.GraphPart.{net_names};
 ghost use Rattle.job_readers.specs.RunPart.{packet_net_faults, packet_net, packets_faults, packets_value, events_faults, events_value, places_faults, run_members_faults, run_members, optional_object_faults, run_faults, run_value};
+ghost use Rattle.job_text.specs.Paths.{path_text};
 
 use crate::events::events;
 use crate::items::{ItemReader, each_item};
 use crate::members::{list_of, number_of};
 use crate::names::{Names, reference};
 use app_graph::{Graph, Net, RunPart};
-use job_text::{TextErr, count_to, field, member, member_path, number_in, object};
+use job_text::{Path, TextErr, count_to, field, member, number_in, object};
 use machine_desc::Machine;
 use serde_json::Value;
-use spin_base::{Memory, Name, Packet, Port, Seq};
+use spin_base::{Memory, Packet, Port, Seq};
 use std::alloc::Global;
 
 /// The most packets of a job.
@@ -34,17 +35,17 @@ const MOST_PLACES: u64 = 16777216;
 fn net_of_packet(
     alloc: Global,
     item: &Value,
-    path: &Name,
+    path: &Path<'_>,
     names: &Names,
     graph: &Graph,
 ) -> Result<u32, TextErr>
     requires { names.now ≡ net_names graph.now.nets }
-    ensures read { GivesOrFaults (λ i. i) result (packet_net_faults graph.now.nets path.now
+    ensures read { GivesOrFaults (λ i. i) result (packet_net_faults graph.now.nets (path_text path.now)
         (view item.now))
         (packet_net graph.now.nets (view item.now)) }
     ensures below { IfOk result (λ i. i < length graph.now.nets) }
 {
-    let path = member_path(alloc, path, "net")?;
+    let path = Path::Member(path, "net");
     reference(alloc, member(item, "net"), &path, names)
 }
 
@@ -61,12 +62,12 @@ fn last_key(graph: &Graph, net: u32) -> u64
 
 // The payload of a packet.
 #[tactic(auto, unfolding(crate::specs::Members::number_member_faults, crate::specs::Members::optional_number))]
-fn payload_of(alloc: Global, item: &Value, path: &Name) -> Result<Option<u32>, TextErr>
-    ensures { GivesOrFaults (λ p. p) result (number_member_faults path.now
+fn payload_of(alloc: Global, item: &Value, path: &Path<'_>) -> Result<Option<u32>, TextErr>
+    ensures { GivesOrFaults (λ p. p) result (number_member_faults (path_text path.now)
         (codes "payload") 0 4294967295
         (Some 0) (view item.now)) (optional_number (codes "payload") (view item.now)) }
 {
-    let path = member_path(alloc, path, "payload")?;
+    let path = Path::Member(path, "payload");
     let Some(found) = member(item, "payload") else {
         return Ok(None);
     };
@@ -100,7 +101,7 @@ impl<'a, 'b> ItemReader for Senders<'a, 'b> {
     ghost Holds = { λ among. IsPacketOf among.graph.now.nets };
 
     #[tactic(auto, using(crate::proofs::Firsts::firsts), unfolding(crate::specs::RunPart::packet_faults, crate::specs::RunPart::packet_value))]
-    fn read(&self, alloc: Global, item: &Value, path: &Name) -> Result<Packet, TextErr> {
+    fn read(&self, alloc: Global, item: &Value, path: &Path<'_>) -> Result<Packet, TextErr> {
         let item = object(alloc, Some(item), path)?;
         let net = net_of_packet(alloc, item, path, self.names, self.graph)?;
         let last = last_key(self.graph, net);
@@ -128,16 +129,21 @@ fn names_of_nets<'a>(alloc: Global, nets: &'a [Net]) -> Result<Names<'a>, Memory
 }
 
 #[tactic(auto, using(crate::proofs::Firsts::firsts), unfolding(crate::specs::RunPart::packets_faults, crate::specs::RunPart::packets_value))]
-fn packets(alloc: Global, run: &Value, path: &Name, graph: &Graph) -> Result<Seq<Packet>, TextErr>
+fn packets(
+    alloc: Global,
+    run: &Value,
+    path: &Path<'_>,
+    graph: &Graph,
+) -> Result<Seq<Packet>, TextErr>
     requires { IsValidGraph graph.now }
-    ensures read { GivesOrFaults (λ p. p) result (packets_faults graph.now.nets path.now
+    ensures read { GivesOrFaults (λ p. p) result (packets_faults graph.now.nets (path_text path.now)
         (view run.now))
         (packets_value graph.now.nets (view run.now)) }
     ensures found { IfOk result (λ ps. All (IsPacketOf graph.now.nets) ps) }
     ensures few { IfOk result (λ ps. length ps ≤ 65536) }
 {
     let items = list_of(alloc, run, path, "packets", false, MOST_PACKETS)?;
-    let path = member_path(alloc, path, "packets")?;
+    let path = Path::Member(path, "packets");
     let names = names_of_nets(alloc, graph.nets.as_slice())?;
     let senders = Senders {
         names: &names,
@@ -151,7 +157,7 @@ fn packets(alloc: Global, run: &Value, path: &Name, graph: &Graph) -> Result<Seq
 fn places_to(
     alloc: Global,
     run: &Value,
-    path: &Name,
+    path: &Path<'_>,
     queue: u32,
     live: u32,
     vertices: u32,
@@ -159,10 +165,10 @@ fn places_to(
     requires queue { queue ≡ number_member (codes "queue") (Some 16) (view run.now) }
     requires few { queue ≤ 65536 }
     requires vertices { vertices ≤ 16384 }
-    ensures { GivesOrFaults (λ u. u) result (places_faults live vertices path.now
+    ensures { GivesOrFaults (λ u. u) result (places_faults live vertices (path_text path.now)
         (view run.now)) tt }
 {
-    let path = member_path(alloc, path, "queue")?;
+    let path = Path::Member(path, "queue");
     let places = u64::from(queue)
         * (u64::from(Port::COUNT) * u64::from(live) + u64::from(vertices));
     count_to(alloc, &path, MOST_PLACES, places)
@@ -172,13 +178,13 @@ fn places_to(
 fn run_members(
     alloc: Global,
     run: &Value,
-    path: &Name,
+    path: &Path<'_>,
     machine: &Machine,
     graph: &Graph,
 ) -> Result<RunPart, TextErr>
     requires { IsValidGraph graph.now }
     ensures read { GivesOrFaults (λ r. r) result
-        (run_members_faults (live_count_of machine.now) graph.now path.now (view run.now))
+        (run_members_faults (live_count_of machine.now) graph.now (path_text path.now) (view run.now))
         (run_members graph.now (view run.now)) }
     ensures found { IfOk result (IsRunOf graph.now) }
 {
@@ -207,12 +213,12 @@ fn run_members(
 fn optional_object<'a>(
     alloc: Global,
     v: Option<&'a Value>,
-    path: &Name,
+    path: &Path<'_>,
     absent: &'a Value,
 ) -> Result<&'a Value, TextErr>
     requires { view absent.now ≡ null }
     ensures { GivesOrFaults (λ d. view d.now) result
-        (optional_object_faults path.now (option_map (λ d. view d.now) v.entry))
+        (optional_object_faults (path_text path.now) (option_map (λ d. view d.now) v.entry))
         (object_value (option_map (λ d. view d.now) v.entry)) }
 {
     match v {
@@ -230,18 +236,18 @@ fn optional_object<'a>(
 pub fn run_of(
     alloc: Global,
     job: &Value,
-    path: &Name,
+    path: &Path<'_>,
     machine: &Machine,
     graph: &Graph,
 ) -> Result<RunPart, TextErr>
     requires { IsValidGraph graph.now }
     ensures run { GivesOrFaults (λ r. r) result
-        (job_own_faults path.now (view job.now) ▹ run_faults path.now machine.now graph.now
+        (job_own_faults (path_text path.now) (view job.now) ▹ run_faults (path_text path.now) machine.now graph.now
         (view job.now)) (run_value graph.now (view job.now)) }
     ensures found { IfOk result (IsRunOf graph.now) }
 {
     let found = field(alloc, job, path, "run")?;
-    let path = member_path(alloc, path, "run")?;
+    let path = Path::Member(path, "run");
     let absent = Value::Null;
     let run = optional_object(alloc, found, &path, &absent)?;
     run_members(alloc, run, &path, machine, graph)

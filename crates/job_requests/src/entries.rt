@@ -4,13 +4,13 @@ ghost use Rattle.serde_json.specs.View.{view};
 ghost use Rattle.job_text.specs.Reading.{GivesOrFaults};
 ghost use Rattle.job_readers.specs.Items.{items_faults};
 ghost use Rattle.job_requests.specs.Requests.{byte_faults, byte_value};
-ghost use Rattle.job_text.specs.Paths.{item_at};
+ghost use Rattle.job_text.specs.Paths.{path_text, item_at};
 
 use job_readers::{ItemReader, Links, each_item};
-use job_text::{TextErr, item_path, list, range, shape};
+use job_text::{Path, TextErr, list, range, shape};
 use machine_desc::Edge;
 use serde_json::Value;
-use spin_base::{Name, Seq};
+use spin_base::Seq;
 use std::alloc::Global;
 
 // A grid, whose trees are read: each is a list of links.
@@ -35,7 +35,7 @@ impl ItemReader for Trees {
     ghost Holds = { λ _ _. ⊤ };
 
     #[tactic(auto, using(job_readers::proofs::Firsts::firsts), unfolding(crate::specs::Requests::tree_faults, crate::specs::Requests::tree_value))]
-    fn read(&self, alloc: Global, item: &Value, path: &Name) -> Result<Seq<Edge>, TextErr> {
+    fn read(&self, alloc: Global, item: &Value, path: &Path<'_>) -> Result<Seq<Edge>, TextErr> {
         let items = list(alloc, Some(item), path, true)?;
         let links = Links {
             width: self.width,
@@ -46,20 +46,20 @@ impl ItemReader for Trees {
 }
 
 // The byte that an item is. Its path is made where it is none.
-fn byte_in(alloc: Global, item: &Value, path: &Name, i: u64) -> Result<u8, TextErr>
-    ensures { GivesOrFaults (λ b. b) result (byte_faults (item_at path.now i) (view item.now))
+fn byte_in(alloc: Global, item: &Value, path: &Path<'_>, i: u64) -> Result<u8, TextErr>
+    ensures { GivesOrFaults (λ b. b) result (byte_faults (item_at (path_text path.now) i) (view item.now))
         (byte_value (view item.now)) }
 {
     match item.as_u64() {
         Some(n) if n < 256 => Ok(n as u8),
-        Some(_) => Err(range(alloc, &item_path(alloc, path, i)?)),
-        None => Err(shape(alloc, &item_path(alloc, path, i)?)),
+        Some(_) => Err(range(alloc, &Path::Item(path, i))),
+        None => Err(shape(alloc, &Path::Item(path, i))),
     }
 }
 
 // The bytes that the items of a list are.
-pub(crate) fn bytes_in(alloc: Global, items: &[Value], path: &Name) -> Result<Seq<u8>, TextErr>
-    ensures { GivesOrFaults (λ bs. bs) result (items_faults byte_faults path.now 0
+pub(crate) fn bytes_in(alloc: Global, items: &[Value], path: &Path<'_>) -> Result<Seq<u8>, TextErr>
+    ensures { GivesOrFaults (λ bs. bs) result (items_faults byte_faults (path_text path.now) 0
         (map view items.now)) (map byte_value (map view items.now)) }
 {
     let mut bytes = Seq::from_vec(Vec::with_capacity(alloc, items.len())?);

@@ -4,13 +4,14 @@ ghost use Rattle.serde_json.specs.View.{view};
 ghost use Rattle.app_graph.specs.ValidGraph.{IsValidGraph};
 ghost use Rattle.job_text.specs.Reading.{GivesOrFaults};
 ghost use Rattle.job_requests.specs.Requests.{request_own_faults, job_member, one_each_faults, trees_faults, trees_value, image_faults, image_value, request_faults, request_value};
+ghost use Rattle.job_text.specs.Paths.{path_text};
 
 use crate::entries::{Trees, bytes_in};
 use job_readers::{GREATEST_VERSION, Job, each_item, job_of};
-use job_text::{TextErr, list, member, member_path, range, shape};
+use job_text::{Path, TextErr, list, member, range, shape};
 use machine_desc::Edge;
 use serde_json::Value;
-use spin_base::{Name, Seq};
+use spin_base::Seq;
 use std::alloc::Global;
 
 /// What is to be checked: a job, the links of a tree for each of its nets, and the bytes of an image.
@@ -34,8 +35,8 @@ pub fn request_of(alloc: Global, value: &Value) -> Result<Request, TextErr>
     ensures graph { IfOk result (λ r. IsValidGraph r.job.graph) }
     ensures one_each { IfOk result (λ r. length r.trees ≡ length r.job.graph.nets) }
 {
-    let path = Name::of(alloc, "in")?;
-    let job_path = Name::of(alloc, "job")?;
+    let path = Path::Whole("in");
+    let job_path = Path::Whole("job");
     let job = job_member_of(alloc, value, &path)?;
     let job = job_of(alloc, job, &job_path, GREATEST_VERSION)?;
     let trees = trees_of(alloc, value, &path, &job)?;
@@ -45,8 +46,8 @@ pub fn request_of(alloc: Global, value: &Value) -> Result<Request, TextErr>
 
 // The value that is the job of a request.
 #[tactic(auto, unfolding(crate::specs::Requests::request_own_faults, crate::specs::Requests::job_member))]
-fn job_member_of<'a>(alloc: Global, value: &'a Value, path: &Name) -> Result<&'a Value, TextErr>
-    ensures { GivesOrFaults (λ d. view d.now) result (request_own_faults path.now (view value.now))
+fn job_member_of<'a>(alloc: Global, value: &'a Value, path: &Path<'_>) -> Result<&'a Value, TextErr>
+    ensures { GivesOrFaults (λ d. view d.now) result (request_own_faults (path_text path.now) (view value.now))
         (job_member (view value.now)) }
 {
     match member(value, "job") {
@@ -56,8 +57,8 @@ fn job_member_of<'a>(alloc: Global, value: &'a Value, path: &Name) -> Result<&'a
 }
 
 // Tests that there is one tree for each net.
-fn one_each(alloc: Global, trees: &[Value], nets: u64, path: &Name) -> Result<(), TextErr>
-    ensures faults { GivesOrFaults (λ u. u) result (one_each_faults nets path.now
+fn one_each(alloc: Global, trees: &[Value], nets: u64, path: &Path<'_>) -> Result<(), TextErr>
+    ensures faults { GivesOrFaults (λ u. u) result (one_each_faults nets (path_text path.now)
         (map view trees.now)) tt }
     ensures as_many { IfOk result (λ _. length trees.now ≡ nets) }
 {
@@ -69,13 +70,18 @@ fn one_each(alloc: Global, trees: &[Value], nets: u64, path: &Name) -> Result<()
 
 // The trees of a request, one for each net of its job.
 #[tactic(auto, using(job_readers::proofs::Firsts::firsts), unfolding(crate::specs::Requests::trees_faults, crate::specs::Requests::trees_value))]
-fn trees_of(alloc: Global, value: &Value, path: &Name, job: &Job) -> Result<Seq<Seq<Edge>>, TextErr>
+fn trees_of(
+    alloc: Global,
+    value: &Value,
+    path: &Path<'_>,
+    job: &Job,
+) -> Result<Seq<Seq<Edge>>, TextErr>
     ensures read { GivesOrFaults (λ ts. ts) result (trees_faults
-        (length job.now.graph.nets) job.now.machine.width job.now.machine.height path.now
+        (length job.now.graph.nets) job.now.machine.width job.now.machine.height (path_text path.now)
         (view value.now)) (trees_value (view value.now)) }
     ensures one_each { IfOk result (λ ts. length ts ≡ length job.now.graph.nets) }
 {
-    let path = member_path(alloc, path, "trees")?;
+    let path = Path::Member(path, "trees");
     let items = list(alloc, member(value, "trees"), &path, true)?;
     one_each(alloc, items, job.graph.nets.len() as u64, &path)?;
     let trees = Trees {
@@ -87,11 +93,11 @@ fn trees_of(alloc: Global, value: &Value, path: &Name, job: &Job) -> Result<Seq<
 
 // The bytes of the image of a request.
 #[tactic(auto, using(job_readers::proofs::Firsts::firsts), unfolding(crate::specs::Requests::image_faults, crate::specs::Requests::image_value))]
-fn image_of(alloc: Global, value: &Value, path: &Name) -> Result<Seq<u8>, TextErr>
-    ensures { GivesOrFaults (λ bs. bs) result (image_faults path.now (view value.now)) (image_value
+fn image_of(alloc: Global, value: &Value, path: &Path<'_>) -> Result<Seq<u8>, TextErr>
+    ensures { GivesOrFaults (λ bs. bs) result (image_faults (path_text path.now) (view value.now)) (image_value
         (view value.now)) }
 {
-    let path = member_path(alloc, path, "image")?;
+    let path = Path::Member(path, "image");
     let items = list(alloc, member(value, "image"), &path, true)?;
     bytes_in(alloc, items, &path)
 }

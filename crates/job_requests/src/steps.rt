@@ -5,11 +5,12 @@ ghost use Rattle.job_text.specs.Reading.{GivesOrFaults};
 ghost use Rattle.job_requests.specs.Steps.{number_of, step_number_faults, load_faults, load_of, unload_faults, unload_of, run_step_faults, step_word_faults, worded_step, steps_faults, steps_value};
 ghost use Rattle.job_requests.specs.declared.steps.Step.TheVariants.{Run};
 ghost use Rattle.job_requests.specs.Valid.{IsValidStep};
+ghost use Rattle.job_text.specs.Paths.{path_text};
 
 use job_readers::{ItemReader, Job, each_item, items_in, job_of};
-use job_text::{TextErr, count_to, item_path, list, range, shape};
+use job_text::{Path, TextErr, count_to, list, range, shape};
 use serde_json::Value;
-use spin_base::{Name, Seq};
+use spin_base::Seq;
 use std::alloc::Global;
 
 /// The most steps.
@@ -42,7 +43,7 @@ pub fn steps_of(alloc: Global, value: &Value) -> Result<Seq<Step>, TextErr>
     ensures valid { IfOk result (All IsValidStep) }
     ensures few { IfOk result (λ s. length s ≤ 65535) }
 {
-    let path = Name::of(alloc, "job")?;
+    let path = Path::Whole("job");
     let items = list(alloc, Some(value), &path, true)?;
     count_to(alloc, &path, MOST_STEPS, items.len() as u64)?;
     each_item(alloc, items, &path, &StepReader)
@@ -68,7 +69,7 @@ impl ItemReader for StepReader {
     ghost Holds = { λ _. IsValidStep };
 
     #[tactic(auto, unfolding(crate::specs::Steps::step_faults, crate::specs::Steps::step_value))]
-    fn read(&self, alloc: Global, item: &Value, path: &Name) -> Result<Step, TextErr> {
+    fn read(&self, alloc: Global, item: &Value, path: &Path<'_>) -> Result<Step, TextErr> {
         let [head, rest @ ..] = items_in(item) else {
             return Err(shape(alloc, path));
         };
@@ -81,8 +82,8 @@ impl ItemReader for StepReader {
 
 // The step that begins with a word.
 #[tactic(auto, unfolding(crate::specs::Steps::step_word_faults, crate::specs::Steps::worded_step))]
-fn worded(alloc: Global, word: &str, rest: &[Value], path: &Name) -> Result<Step, TextErr>
-    ensures read { GivesOrFaults (λ s. s) result (step_word_faults path.now word.now
+fn worded(alloc: Global, word: &str, rest: &[Value], path: &Path<'_>) -> Result<Step, TextErr>
+    ensures read { GivesOrFaults (λ s. s) result (step_word_faults (path_text path.now) word.now
         (map view rest.now)) (worded_step word.now (map view rest.now)) }
     ensures valid { IfOk result IsValidStep }
 {
@@ -100,8 +101,8 @@ fn worded(alloc: Global, word: &str, rest: &[Value], path: &Name) -> Result<Step
 
 // A number and a job.
 #[tactic(auto, unfolding(crate::specs::Steps::load_faults))]
-fn load_in(alloc: Global, rest: &[Value], path: &Name) -> Result<Step, TextErr>
-    ensures read { GivesOrFaults (λ s. s) result (load_faults path.now (map view rest.now)) (load_of
+fn load_in(alloc: Global, rest: &[Value], path: &Path<'_>) -> Result<Step, TextErr>
+    ensures read { GivesOrFaults (λ s. s) result (load_faults (path_text path.now) (map view rest.now)) (load_of
         (map view rest.now)) }
     ensures valid { IfOk result IsValidStep }
 {
@@ -109,15 +110,15 @@ fn load_in(alloc: Global, rest: &[Value], path: &Name) -> Result<Step, TextErr>
         return Err(shape(alloc, path));
     };
     let number = number(alloc, said, path)?;
-    let path = item_path(alloc, path, 2)?;
+    let path = Path::Item(path, 2);
     let job = job_of(alloc, job, &path, GREATEST_VERSION)?;
     Ok(Step::Load(number, job))
 }
 
 // A number alone.
 #[tactic(auto, unfolding(crate::specs::Steps::unload_faults))]
-fn unload_in(alloc: Global, rest: &[Value], path: &Name) -> Result<Step, TextErr>
-    ensures read { GivesOrFaults (λ s. s) result (unload_faults path.now (map view rest.now))
+fn unload_in(alloc: Global, rest: &[Value], path: &Path<'_>) -> Result<Step, TextErr>
+    ensures read { GivesOrFaults (λ s. s) result (unload_faults (path_text path.now) (map view rest.now))
         (unload_of (map view rest.now)) }
     ensures valid { IfOk result IsValidStep }
 {
@@ -129,8 +130,8 @@ fn unload_in(alloc: Global, rest: &[Value], path: &Name) -> Result<Step, TextErr
 
 // Nothing.
 #[tactic(auto, unfolding(crate::specs::Steps::run_step_faults))]
-fn run_in(alloc: Global, rest: &[Value], path: &Name) -> Result<Step, TextErr>
-    ensures read { GivesOrFaults (λ s. s) result (run_step_faults path.now
+fn run_in(alloc: Global, rest: &[Value], path: &Path<'_>) -> Result<Step, TextErr>
+    ensures read { GivesOrFaults (λ s. s) result (run_step_faults (path_text path.now)
         (map view rest.now)) Run }
     ensures valid { IfOk result IsValidStep }
 {
@@ -141,8 +142,8 @@ fn run_in(alloc: Global, rest: &[Value], path: &Name) -> Result<Step, TextErr>
 }
 
 // The number of an application.
-fn number(alloc: Global, said: &Value, path: &Name) -> Result<u32, TextErr>
-    ensures { GivesOrFaults (λ n. n) result (step_number_faults path.now (view said.now)) (number_of
+fn number(alloc: Global, said: &Value, path: &Path<'_>) -> Result<u32, TextErr>
+    ensures { GivesOrFaults (λ n. n) result (step_number_faults (path_text path.now) (view said.now)) (number_of
         (view said.now)) }
 {
     match said.as_u64() {

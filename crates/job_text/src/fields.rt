@@ -7,28 +7,30 @@ ghost use Rattle.job_text.specs.Reading.{GivesOrFaults, IsFirstFault};
 ghost use Rattle.job_text.specs.Fields.{object_faults, object_value, number_faults, number_value, text_faults, text_value, flag_faults, flag_value, list_faults, list_value, count_faults, is_name, is_printable_byte};
 ghost use Rattle.std.specs.Prelude.{[], ◌∷◌, Ok, Err};
 ghost use Rattle.job_text.specs.declared.faults.JobFault.TheVariants.{Shape, Range};
+ghost use Rattle.job_text.specs.Paths.{path_text};
 
 use crate::faults::{JobFault, TextErr};
 use crate::members::member;
+use crate::paths::Path;
 use serde_json::Value;
 use spin_base::Name;
 use std::alloc::Global;
 
 /// The error of a part with a Shape fault: that fault, or want of memory.
-pub fn shape(alloc: Global, path: &Name) -> TextErr
-    ensures { IsFirstFault result (Shape path.now ∷ []) }
+pub fn shape(alloc: Global, path: &Path<'_>) -> TextErr
+    ensures { IsFirstFault result (Shape (path_text path.now) ∷ []) }
 {
-    match Name::of(alloc, path.as_str()) {
+    match path.text(alloc) {
         Ok(path) => TextErr::Fault(JobFault::Shape(path)),
         Err(_) => TextErr::Memory,
     }
 }
 
 /// The error of a part with a Range fault: that fault, or want of memory.
-pub fn range(alloc: Global, path: &Name) -> TextErr
-    ensures { IsFirstFault result (Range path.now ∷ []) }
+pub fn range(alloc: Global, path: &Path<'_>) -> TextErr
+    ensures { IsFirstFault result (Range (path_text path.now) ∷ []) }
 {
-    match Name::of(alloc, path.as_str()) {
+    match path.text(alloc) {
         Ok(path) => TextErr::Fault(JobFault::Range(path)),
         Err(_) => TextErr::Memory,
     }
@@ -39,8 +41,12 @@ pub fn range(alloc: Global, path: &Name) -> TextErr
 /// # Errors
 ///
 /// `Shape` of the path exactly where it is absent or no object; `Memory`.
-pub fn object<'a>(alloc: Global, v: Option<&'a Value>, path: &Name) -> Result<&'a Value, TextErr>
-    ensures { GivesOrFaults (λ d. view d.now) result (object_faults path.now (option_map (λ d.
+pub fn object<'a>(
+    alloc: Global,
+    v: Option<&'a Value>,
+    path: &Path<'_>,
+) -> Result<&'a Value, TextErr>
+    ensures { GivesOrFaults (λ d. view d.now) result (object_faults (path_text path.now) (option_map (λ d.
         view d.now) v.entry)) (object_value (option_map (λ d. view d.now) v.entry)) }
 {
     match v {
@@ -63,10 +69,10 @@ pub fn object<'a>(alloc: Global, v: Option<&'a Value>, path: &Name) -> Result<&'
 pub fn field<'a>(
     alloc: Global,
     v: &'a Value,
-    path: &Name,
+    path: &Path<'_>,
     name: &str,
 ) -> Result<Option<&'a Value>, TextErr>
-    ensures { GivesOrFaults (option_map (λ d. view d.now)) result (object_faults path.now (Some
+    ensures { GivesOrFaults (option_map (λ d. view d.now)) result (object_faults (path_text path.now) (Some
         (view v.now))) (member_of name.now (view v.now)) }
 {
     if !v.is_object() {
@@ -84,12 +90,12 @@ pub fn field<'a>(
 pub fn number_in(
     alloc: Global,
     v: Option<&Value>,
-    path: &Name,
+    path: &Path<'_>,
     low: u64,
     high: u64,
     default: Option<u64>,
 ) -> Result<u64, TextErr>
-    ensures number { GivesOrFaults (λ n. n) result (number_faults path.now low high default
+    ensures number { GivesOrFaults (λ n. n) result (number_faults (path_text path.now) low high default
         (option_map (λ d. view d.now) v.entry)) (number_value default (option_map (λ d.
         view d.now) v.entry)) }
     ensures within { IfOk result (λ n. IfSome default (λ d. (low ≤ d) × (d ≤ high))
@@ -129,8 +135,8 @@ fn is_printable(bytes: &[u8]) -> bool
 /// # Errors
 ///
 /// `Shape` exactly where it is absent or no text; `Range` exactly where it is a text and no name; `Memory`.
-pub fn text_in<'a>(alloc: Global, v: Option<&'a Value>, path: &Name) -> Result<&'a str, TextErr>
-    ensures { GivesOrFaults (λ s. s.now) result (text_faults path.now (option_map (λ d.
+pub fn text_in<'a>(alloc: Global, v: Option<&'a Value>, path: &Path<'_>) -> Result<&'a str, TextErr>
+    ensures { GivesOrFaults (λ s. s.now) result (text_faults (path_text path.now) (option_map (λ d.
         view d.now) v.entry)) (text_value (option_map (λ d. view d.now) v.entry)) }
 {
     let Some(found) = v else {
@@ -150,8 +156,8 @@ pub fn text_in<'a>(alloc: Global, v: Option<&'a Value>, path: &Name) -> Result<&
 /// # Errors
 ///
 /// Those of `text_in`.
-pub fn text(alloc: Global, v: Option<&Value>, path: &Name) -> Result<Name, TextErr>
-    ensures { GivesOrFaults (λ s. s) result (text_faults path.now (option_map (λ d.
+pub fn text(alloc: Global, v: Option<&Value>, path: &Path<'_>) -> Result<Name, TextErr>
+    ensures { GivesOrFaults (λ s. s) result (text_faults (path_text path.now) (option_map (λ d.
         view d.now) v.entry)) (text_value (option_map (λ d. view d.now) v.entry)) }
 {
     let said = text_in(alloc, v, path)?;
@@ -163,8 +169,13 @@ pub fn text(alloc: Global, v: Option<&Value>, path: &Name) -> Result<Name, TextE
 /// # Errors
 ///
 /// `Shape` exactly where it is present and no truth value; `Memory`.
-pub fn flag(alloc: Global, v: Option<&Value>, path: &Name, default: bool) -> Result<bool, TextErr>
-    ensures { GivesOrFaults (λ b. b) result (flag_faults path.now (option_map (λ d.
+pub fn flag(
+    alloc: Global,
+    v: Option<&Value>,
+    path: &Path<'_>,
+    default: bool,
+) -> Result<bool, TextErr>
+    ensures { GivesOrFaults (λ b. b) result (flag_faults (path_text path.now) (option_map (λ d.
         view d.now) v.entry)) (flag_value default (option_map (λ d. view d.now) v.entry)) }
 {
     let Some(found) = v else {
@@ -184,10 +195,10 @@ pub fn flag(alloc: Global, v: Option<&Value>, path: &Name, default: bool) -> Res
 pub fn list<'a>(
     alloc: Global,
     v: Option<&'a Value>,
-    path: &Name,
+    path: &Path<'_>,
     needed: bool,
 ) -> Result<&'a [Value], TextErr>
-    ensures { GivesOrFaults (λ items. map view items.now) result (list_faults path.now needed
+    ensures { GivesOrFaults (λ items. map view items.now) result (list_faults (path_text path.now) needed
         (option_map (λ d. view d.now) v.entry)) (list_value (option_map (λ d.
         view d.now) v.entry)) }
 {
@@ -208,12 +219,12 @@ pub fn list<'a>(
 /// # Errors
 ///
 /// `TooMany` with the number exactly where it is above `limit`; `Memory`.
-pub fn count_to(alloc: Global, path: &Name, limit: u64, count: u64) -> Result<(), TextErr>
-    ensures faults { GivesOrFaults (λ u. u) result (count_faults path.now limit count) tt }
+pub fn count_to(alloc: Global, path: &Path<'_>, limit: u64, count: u64) -> Result<(), TextErr>
+    ensures faults { GivesOrFaults (λ u. u) result (count_faults (path_text path.now) limit count) tt }
     ensures within { IfOk result (λ _. count ≤ limit) }
 {
     if count > limit {
-        let path = Name::of(alloc, path.as_str())?;
+        let path = path.text(alloc)?;
         return Err(TextErr::Fault(JobFault::TooMany(path, count)));
     }
     Ok(())

@@ -17,4 +17,4 @@ pub use fields::{
 };
 pub use members::member;
 pub use parses::{ParseErr, parse};
-pub use paths::{item_path, member_path};
+pub use paths::Path;

@@ -1,22 +1,50 @@
 // Paths of parts.
-ghost use Rattle.std.specs.Prelude.{◌≡◌, IfOk};
-ghost use Rattle.job_text.specs.Paths.{member_at, item_at};
+ghost use Rattle.std.specs.Prelude.{◌≡◌, ◌++◌, IfOk, OnOk, string_bytes};
+ghost use Rattle.job_text.specs.Paths.{path_text};
 
 use spin_base::{Memory, Name};
 use std::alloc::Global;
 
-/// The path of a member: `PATH.NAME`.
-pub fn member_path(alloc: Global, path: &Name, name: &str) -> Result<Name, Memory>
-    ensures { IfOk result (λ p. p ≡ member_at path.now name.now) }
-{
-    let path = path.as_str();
-    Ok(Name::from_string(format!(in alloc; "{path}.{name}")?))
+/// The path of a part, as a chain of what leads to it. It takes no memory: its text is made where a fault is told.
+#[derive(Clone, Copy)]
+pub enum Path<'a> {
+    /// The whole, under its name.
+    Whole(&'a str),
+    /// The member of that name of the part at a path.
+    Member(&'a Path<'a>, &'a str),
+    /// The item of the list at a path, counted from 0.
+    Item(&'a Path<'a>, u64),
 }
 
-/// The path of an item of a list, counted from 0: `PATH[I]`.
-pub fn item_path(alloc: Global, path: &Name, i: u64) -> Result<Name, Memory>
-    ensures { IfOk result (λ p. p ≡ item_at path.now i) }
+impl<'a> Path<'a> {
+    /// The text of the path: `NAME` of the whole, `PATH.NAME` of a member, `PATH[I]` of an item.
+    pub fn text(&self, alloc: Global) -> Result<Name, Memory>
+        ensures { IfOk result (λ text. text ≡ path_text self.now) }
+    {
+        let mut text = String::new(alloc);
+        put_path(&mut text, self)?;
+        Ok(Name::from_string(text))
+    }
+}
+
+// Puts the text of a path at the end.
+fn put_path(text: &mut String, path: &Path<'_>) -> Result<(), Memory>
+    ensures { OnOk result (string_bytes text.new ≡ string_bytes text.old ++ path_text path.now) }
 {
-    let path = path.as_str();
-    Ok(Name::from_string(format!(in alloc; "{path}[{i}]")?))
+    match path {
+        Path::Whole(name) => {
+            text.push_str(name)?;
+            Ok(())
+        }
+        Path::Member(above, name) => {
+            put_path(text, above)?;
+            write!(text, ".{name}")?;
+            Ok(())
+        }
+        Path::Item(above, i) => {
+            put_path(text, above)?;
+            write!(text, "[{i}]")?;
+            Ok(())
+        }
+    }
 }

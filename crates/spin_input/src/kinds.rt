@@ -7,9 +7,9 @@ ghost use Rattle.job_text.specs.Reading.{GivesOrFaults};
 
 use job_readers::{GREATEST_VERSION, Job, job_of};
 use job_requests::{Request, Step, request_of, steps_of};
-use job_text::TextErr;
+use job_text::{Path, TextErr};
 use serde_json::Value;
-use spin_base::{Name, Seq};
+use spin_base::Seq;
 use std::alloc::Global;
 
 // What a source may be read as: the faults of a value, which input it is, and what holds of each input.
@@ -40,7 +40,7 @@ impl Input for Job {
     ghost IsSound = { λ job. (IsValidGraph job.graph) × (IsRunOf job.graph job.run) };
 
     fn of_value(alloc: Global, value: &Value) -> Result<Job, TextErr> {
-        job_of(alloc, value, &Name::of(alloc, "job")?, GREATEST_VERSION)
+        job_of(alloc, value, &Path::Whole("job"), GREATEST_VERSION)
     }
 }
 

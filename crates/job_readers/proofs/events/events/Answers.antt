@@ -7,4 +7,4 @@ pub returns-clause-read : goal.returns-clause-read
 unfolding events_faults events_value
 returns-clause-read c =
     let names : c.in_ok-names.names ≡ vertex_names_of c.args.graph.now.vertices = c.in_ok-names.ensures ∙ ap vertex_names_of c.as_slice.ensures in
-    rw (c.in_ok-items.ensures.0, ← names, ← c.in_ok-path.ensures, ← c.in_ok-items.ensures.1) c.each_item.ensures.read
+    rw (c.in_ok-items.ensures.0, ← names, ← c.in_ok-items.ensures.1) c.each_item.ensures.read

@@ -1,10 +1,11 @@
-use Rattle.std.proofs.Common.{◌≡◌, ◌+◌, ◌<◌, ◌≤◌, [], ◌∷◌, ◌++◌, length, map, ap, sym, subst, ◌∙◌, arith, length-append}
+use Rattle.std.proofs.Common.{refl, ◌≡◌, ◌+◌, ◌<◌, ◌≤◌, [], ◌∷◌, ◌++◌, length, map, ap, sym, subst, ◌∙◌, arith, length-append}
 use Rattle.std.proofs.lemmas.List.Elements.{All-push}
 use Rattle.std.proofs.lemmas.Result.{err_from_is_err_and}
 use Rattle.serde_json.specs.View.{view}
 use Rattle.app_graph.specs.declared.graphs.Net.{Net}
 use Rattle.app_graph.specs.ValidGraph.{IsValidNet, HasSendingSource}
 use Rattle.job_text.specs.Reading.{IsFirstFault}
+use Rattle.job_text.specs.Paths.{path_text, item_at}
 use Rattle.job_readers.specs.Items.{following_faults}
 use Rattle.job_readers.specs.GraphPart.{net_value, next_net_faults, fixed_blocks_of}
 use Rattle.job_readers.proofs.ItemSteps.{values-more, values-all}
@@ -19,8 +20,8 @@ returns-in_err-net-clause-read c =
     let f = next_net_faults c.args.version c.args.among.now.vertices.now in
     let value = net_value c.args.version c.args.among.now.vertices.now in
     let held = c.as_slice-others.ensures.value ∙ c.loop-i.invariant.held in
-    let same = next_net c.args.version c.args.among.now.vertices.now c.loop-i.names c.as_slice-others.result.now c.loop-i.nets c.in_ok-path.path (view c.index-items-i.result) c.loop-i.invariant.called held in
-    rw (p.1, p.2) (following-fail view xs c.loop-i.i c.index-items-i.result (omega arith) c.index-items-i.is f value c.loop-i.nets c.args.path.now c.in_ok-path.path (following_faults f value [] c.args.path.now 0 (map view xs)) c.in_ok-path.ensures c.in_err-net.field-0.0 (subst (IsFirstFault c.in_err-net.field-0.0) same c.in_err-net.ensures.read) c.loop-i.invariant.left)
+    let same = next_net c.args.version c.args.among.now.vertices.now c.loop-i.names c.as_slice-others.result.now c.loop-i.nets (item_at (path_text c.args.path.now) c.loop-i.i) (view c.index-items-i.result) c.loop-i.invariant.called held in
+    rw (p.1, p.2) (following-fail view xs c.loop-i.i c.index-items-i.result (omega arith) c.index-items-i.is f value c.loop-i.nets (path_text c.args.path.now) (item_at (path_text c.args.path.now) c.loop-i.i) (following_faults f value [] (path_text c.args.path.now) 0 (map view xs)) refl c.in_err-net.field-0.0 (subst (IsFirstFault c.in_err-net.field-0.0) same c.in_err-net.ensures.read) c.loop-i.invariant.left)
 
 pub loop-i-preserved : goal.loop-i-preserved
 loop-i-preserved c =
@@ -31,13 +32,13 @@ loop-i-preserved c =
     let ns = c.loop-i.nets in
     let n = c.in_ok-net.net in
     let held = c.as_slice-others.ensures.value ∙ c.loop-i.invariant.held in
-    let same = next_net c.args.version vertices c.loop-i.names c.as_slice-others.result.now ns c.in_ok-path.path (view c.index-items-i.result) c.loop-i.invariant.called held in
+    let same = next_net c.args.version vertices c.loop-i.names c.as_slice-others.result.now ns (item_at (path_text c.args.path.now) c.loop-i.i) (view c.index-items-i.result) c.loop-i.invariant.called held in
     let is : n ≡ net_value c.args.version vertices (view c.index-items-i.result) = c.in_ok-net.ensures.read.1 in
     let pushed : c.push.new.self ≡ ns ++ n ∷ [] = c.in_ok-push.ensures.ok in
     let pushed_value : c.push.new.self ≡ ns ++ net_value c.args.version vertices (view c.index-items-i.result) ∷ [] = rw (← is) pushed in
     let said = c.said_name.ensures ∙ sym (net_name c.args.version vertices (view c.index-items-i.result)) ∙ ap (λ (m : Net). m.name) (sym is) in
     record {
-      left = following-more view xs c.loop-i.i c.index-items-i.result (omega arith) c.index-items-i.is f value ns c.args.path.now c.in_ok-path.path (following_faults f value [] c.args.path.now 0 (map view xs)) c.in_ok-path.ensures c.push.new.self pushed_value (sym same ∙ c.in_ok-net.ensures.read.0) c.loop-i.invariant.left;
+      left = following-more view xs c.loop-i.i c.index-items-i.result (omega arith) c.index-items-i.is f value ns (path_text c.args.path.now) (item_at (path_text c.args.path.now) c.loop-i.i) (following_faults f value [] (path_text c.args.path.now) 0 (map view xs)) refl c.push.new.self pushed_value (sym same ∙ c.in_ok-net.ensures.read.0) c.loop-i.invariant.left;
       read = values-more view xs c.loop-i.i c.index-items-i.result (omega arith) c.index-items-i.is value ns c.push.new.self c.loop-i.invariant.read pushed_value;
       counted = rw (c.in_ok-names.ensures, length-append) (omega arith);
       called = net_names_more ns c.push.new.self n c.loop-i.names c.in_ok-names.names c.said_name.result.now pushed c.loop-i.invariant.called c.in_ok-names.ensures said;
@@ -52,4 +53,4 @@ returns-clause-read c =
     let xs = c.args.items.now in
     let f = next_net_faults c.args.version c.args.among.now.vertices.now in
     let value = net_value c.args.version c.args.among.now.vertices.now in
-    (following-none view xs c.loop-i.i f value c.loop-i.nets c.args.path.now (following_faults f value [] c.args.path.now 0 (map view xs)) (omega arith) c.loop-i.invariant.left, values-all view xs c.loop-i.i value c.loop-i.nets (omega arith) c.loop-i.invariant.read)
+    (following-none view xs c.loop-i.i f value c.loop-i.nets (path_text c.args.path.now) (following_faults f value [] (path_text c.args.path.now) 0 (map view xs)) (omega arith) c.loop-i.invariant.left, values-all view xs c.loop-i.i value c.loop-i.nets (omega arith) c.loop-i.invariant.read)

@@ -1,10 +1,11 @@
-use Rattle.std.proofs.Common.{◌≡◌, ◌+◌, ◌<◌, ◌≤◌, [], ◌∷◌, ◌++◌, length, map, ap, sym, subst, ◌∙◌, arith, length-append}
+use Rattle.std.proofs.Common.{refl, ◌≡◌, ◌+◌, ◌<◌, ◌≤◌, [], ◌∷◌, ◌++◌, length, map, ap, sym, subst, ◌∙◌, arith, length-append}
 use Rattle.std.proofs.lemmas.List.Elements.{All-push}
 use Rattle.std.proofs.lemmas.Result.{err_from_is_err_and}
 use Rattle.serde_json.specs.View.{view}
 use Rattle.app_graph.specs.declared.graphs.Vertex.{Vertex}
 use Rattle.app_graph.specs.ValidGraph.{IsValidVertex}
 use Rattle.job_text.specs.Reading.{IsFirstFault}
+use Rattle.job_text.specs.Paths.{path_text, item_at}
 use Rattle.job_readers.specs.Items.{following_faults}
 use Rattle.job_readers.specs.GraphPart.{vertex_value, next_vertex_faults}
 use Rattle.job_readers.proofs.ItemSteps.{values-more, values-all}
@@ -18,8 +19,8 @@ returns-in_err-vertex-clause-read c =
     let xs = c.args.items.now in
     let f = next_vertex_faults c.args.version in
     let value = vertex_value c.args.version in
-    let same = next_vertex c.args.version c.loop-i.names c.loop-i.devices c.loop-i.vertices c.in_ok-path.path (view c.index-items-i.result) c.loop-i.invariant.named c.loop-i.invariant.hung in
-    rw (p.1, p.2) (following-fail view xs c.loop-i.i c.index-items-i.result (omega arith) c.index-items-i.is f value c.loop-i.vertices c.args.path.now c.in_ok-path.path (following_faults f value [] c.args.path.now 0 (map view xs)) c.in_ok-path.ensures c.in_err-vertex.field-0.0 (subst (IsFirstFault c.in_err-vertex.field-0.0) same c.in_err-vertex.ensures.read) c.loop-i.invariant.left)
+    let same = next_vertex c.args.version c.loop-i.names c.loop-i.devices c.loop-i.vertices (item_at (path_text c.args.path.now) c.loop-i.i) (view c.index-items-i.result) c.loop-i.invariant.named c.loop-i.invariant.hung in
+    rw (p.1, p.2) (following-fail view xs c.loop-i.i c.index-items-i.result (omega arith) c.index-items-i.is f value c.loop-i.vertices (path_text c.args.path.now) (item_at (path_text c.args.path.now) c.loop-i.i) (following_faults f value [] (path_text c.args.path.now) 0 (map view xs)) refl c.in_err-vertex.field-0.0 (subst (IsFirstFault c.in_err-vertex.field-0.0) same c.in_err-vertex.ensures.read) c.loop-i.invariant.left)
 
 pub loop-i-preserved : goal.loop-i-preserved
 loop-i-preserved c =
@@ -28,13 +29,13 @@ loop-i-preserved c =
     let value = vertex_value c.args.version in
     let vs = c.loop-i.vertices in
     let v = c.in_ok-vertex.vertex in
-    let same = next_vertex c.args.version c.loop-i.names c.loop-i.devices vs c.in_ok-path.path (view c.index-items-i.result) c.loop-i.invariant.named c.loop-i.invariant.hung in
+    let same = next_vertex c.args.version c.loop-i.names c.loop-i.devices vs (item_at (path_text c.args.path.now) c.loop-i.i) (view c.index-items-i.result) c.loop-i.invariant.named c.loop-i.invariant.hung in
     let is : v ≡ vertex_value c.args.version (view c.index-items-i.result) = c.in_ok-vertex.ensures.read.1 in
     let pushed : c.push.new.self ≡ vs ++ v ∷ [] = c.in_ok-push.ensures.ok in
     let pushed_value : c.push.new.self ≡ vs ++ vertex_value c.args.version (view c.index-items-i.result) ∷ [] = rw (← is) pushed in
     let said = c.said_name.ensures ∙ sym (vertex_name c.args.version (view c.index-items-i.result)) ∙ ap (λ (w : Vertex). w.name) (sym is) in
     record {
-      left = following-more view xs c.loop-i.i c.index-items-i.result (omega arith) c.index-items-i.is f value vs c.args.path.now c.in_ok-path.path (following_faults f value [] c.args.path.now 0 (map view xs)) c.in_ok-path.ensures c.push.new.self pushed_value (sym same ∙ c.in_ok-vertex.ensures.read.0) c.loop-i.invariant.left;
+      left = following-more view xs c.loop-i.i c.index-items-i.result (omega arith) c.index-items-i.is f value vs (path_text c.args.path.now) (item_at (path_text c.args.path.now) c.loop-i.i) (following_faults f value [] (path_text c.args.path.now) 0 (map view xs)) refl c.push.new.self pushed_value (sym same ∙ c.in_ok-vertex.ensures.read.0) c.loop-i.invariant.left;
       read = values-more view xs c.loop-i.i c.index-items-i.result (omega arith) c.index-items-i.is value vs c.push.new.self c.loop-i.invariant.read pushed_value;
       counted = rw (c.in_ok-names.ensures, length-append) (omega arith);
       named = names_more vs c.push.new.self v c.loop-i.names c.in_ok-names.names c.said_name.result.now pushed c.loop-i.invariant.named c.in_ok-names.ensures said;
@@ -48,4 +49,4 @@ returns-clause-read c =
     let xs = c.args.items.now in
     let f = next_vertex_faults c.args.version in
     let value = vertex_value c.args.version in
-    (following-none view xs c.loop-i.i f value c.loop-i.vertices c.args.path.now (following_faults f value [] c.args.path.now 0 (map view xs)) (omega arith) c.loop-i.invariant.left, values-all view xs c.loop-i.i value c.loop-i.vertices (omega arith) c.loop-i.invariant.read)
+    (following-none view xs c.loop-i.i f value c.loop-i.vertices (path_text c.args.path.now) (following_faults f value [] (path_text c.args.path.now) 0 (map view xs)) (omega arith) c.loop-i.invariant.left, values-all view xs c.loop-i.i value c.loop-i.vertices (omega arith) c.loop-i.invariant.read)

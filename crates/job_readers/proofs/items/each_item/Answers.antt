@@ -1,8 +1,9 @@
-use Rattle.std.proofs.Common.{◌≡◌, ◌∙◌, ◌<◌, ◌≤◌, ap, length, map, arith}
+use Rattle.std.proofs.Common.{refl, ◌≡◌, ◌∙◌, ◌<◌, ◌≤◌, ap, length, map, arith}
 use Rattle.std.proofs.lemmas.List.{length-map}
 use Rattle.std.proofs.lemmas.List.Elements.{All-push}
 use Rattle.std.proofs.lemmas.Result.{err_from_is_err_and}
 use Rattle.serde_json.specs.View.{view}
+use Rattle.job_text.specs.Paths.{path_text, item_at}
 use Rattle.job_readers.specs.Items.{items_faults}
 use Rattle.job_readers.proofs.ItemSteps.{items-more, items-fail, values-more, items-none, values-all}
 use Rattle.job_readers.proofs.items.each_item.Goals as goal
@@ -12,14 +13,14 @@ returns-in_err-next-clause-read g c =
     let p = err_from_is_err_and c.from_residual-in_err-next.result c.from_residual-in_err-next.ensures.1 in
     let xs = c.args.items.now in
     let f = g.R.ItemReader.faults c.args.reader.now in
-    rw (p.1, p.2) (items-fail view xs c.loop-i.i c.index-items-i.result (omega arith) c.index-items-i.is f c.args.path.now c.in_ok-path.path (items_faults f c.args.path.now 0 (map view xs)) c.in_err-next.field-0.0 c.in_ok-path.ensures c.in_err-next.ensures.read c.loop-i.invariant.left)
+    rw (p.1, p.2) (items-fail view xs c.loop-i.i c.index-items-i.result (omega arith) c.index-items-i.is f (path_text c.args.path.now) (item_at (path_text c.args.path.now) c.loop-i.i) (items_faults f (path_text c.args.path.now) 0 (map view xs)) c.in_err-next.field-0.0 refl c.in_err-next.ensures.read c.loop-i.invariant.left)
 
 pub loop-i-preserved : goal.loop-i-preserved
 loop-i-preserved g c =
     let xs = c.args.items.now in
     let f = g.R.ItemReader.faults c.args.reader.now in
     record {
-      left = items-more view xs c.loop-i.i c.index-items-i.result (omega arith) c.index-items-i.is f c.args.path.now c.in_ok-path.path (items_faults f c.args.path.now 0 (map view xs)) c.in_ok-path.ensures c.in_ok-next.ensures.read.0 c.loop-i.invariant.left;
+      left = items-more view xs c.loop-i.i c.index-items-i.result (omega arith) c.index-items-i.is f (path_text c.args.path.now) (item_at (path_text c.args.path.now) c.loop-i.i) (items_faults f (path_text c.args.path.now) 0 (map view xs)) refl c.in_ok-next.ensures.read.0 c.loop-i.invariant.left;
       read = values-more view xs c.loop-i.i c.index-items-i.result (omega arith) c.index-items-i.is (g.R.ItemReader.value c.args.reader.now) c.loop-i.found c.push.new.self c.loop-i.invariant.read (rw (← c.in_ok-next.ensures.read.1) c.in_ok-push.ensures.ok);
       holds = rw c.in_ok-push.ensures.ok (All-push (g.R.ItemReader.Holds c.args.reader.now) c.loop-i.found c.in_ok-next.next c.loop-i.invariant.holds c.in_ok-next.ensures.holds);
     }
@@ -28,7 +29,7 @@ pub returns-clause-read : goal.returns-clause-read
 returns-clause-read g c =
     let xs = c.args.items.now in
     let f = g.R.ItemReader.faults c.args.reader.now in
-    (items-none view xs c.loop-i.i f c.args.path.now (items_faults f c.args.path.now 0 (map view xs)) (omega arith) c.loop-i.invariant.left, values-all view xs c.loop-i.i (g.R.ItemReader.value c.args.reader.now) c.loop-i.found (omega arith) c.loop-i.invariant.read)
+    (items-none view xs c.loop-i.i f (path_text c.args.path.now) (items_faults f (path_text c.args.path.now) 0 (map view xs)) (omega arith) c.loop-i.invariant.left, values-all view xs c.loop-i.i (g.R.ItemReader.value c.args.reader.now) c.loop-i.found (omega arith) c.loop-i.invariant.read)
 
 pub returns-clause-count : goal.returns-clause-count
 returns-clause-count g c =

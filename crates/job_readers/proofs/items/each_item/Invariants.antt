@@ -1,12 +1,13 @@
 use Rattle.std.proofs.Common.{◌≡◌, map, take, drop}
 use Rattle.std.specs.Prelude.{All}
 use Rattle.serde_json.specs.View.{view}
+use Rattle.job_text.specs.Paths.{path_text}
 use Rattle.job_readers.specs.Items.{items_faults}
 use Rattle.job_readers.proofs.items.each_item.Given as goal
 
 abbrev pub invariant-loop-i : goal.invariant-loop-i
 invariant-loop-i g l = record {
-  left : items_faults (g.R.ItemReader.faults l.reader) l.path l.i (map view (drop l.i l.items)) ≡ items_faults (g.R.ItemReader.faults l.reader) l.path 0 (map view l.items);
+  left : items_faults (g.R.ItemReader.faults l.reader) (path_text l.path) l.i (map view (drop l.i l.items)) ≡ items_faults (g.R.ItemReader.faults l.reader) (path_text l.path) 0 (map view l.items);
   read : l.found ≡ map (g.R.ItemReader.value l.reader) (map view (take l.i l.items));
   holds : All (g.R.ItemReader.Holds l.reader) l.found;
 }
