@@ -27,8 +27,8 @@ PROGRAM = r"""
 
 use app_graph::Net;
 use job_readers::{Job, job_of};
-use job_text::parse;
-use spin_base::{Name, StdSource, read_all};
+use job_text::{Path, parse};
+use spin_base::{StdSource, read_all};
 use std::env;
 use std::process::ExitCode;
 
@@ -74,8 +74,7 @@ fn main(rt: HostRuntime) -> ExitCode {
     if words[0].as_str() == "parse" {
         return ExitCode::from(0);
     }
-    let Ok(path) = Name::of(rt.alloc(), "job") else { return ExitCode::from(5) };
-    let Ok(job) = job_of(rt.alloc(), &value, &path, 3) else { return ExitCode::from(5) };
+    let Ok(job) = job_of(rt.alloc(), &value, &Path::Whole("job"), 3) else { return ExitCode::from(5) };
     let Counts { vertices, nets, targets, packets, events } = counts(&job);
     let Ok(_) = println!(rt; "{vertices} vertices, {nets} nets, {targets} targets, {packets} packets, {events} events")
     else { return ExitCode::from(6) };

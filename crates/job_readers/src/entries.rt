@@ -54,7 +54,8 @@ pub(crate) fn chip_in(
     width: u8,
     height: u8,
 ) -> Result<Chip, TextErr>
-    ensures read { GivesOrFaults (λ c. c) result (chip_faults width height (path_text path.now) (view item.now))
+    ensures read { GivesOrFaults (λ c. c) result
+        (chip_faults width height (path_text path.now) (view item.now))
         (chip_value (view item.now)) }
     ensures inside { IfOk result (λ c. (c.x < width) × (c.y < height)) }
 {
@@ -84,7 +85,8 @@ fn chip_and_number(
     most: u8,
 ) -> Result<(Chip, u8), TextErr>
     ensures read { GivesOrFaults (λ t. Some (t.0.x, t.0.y, t.1)) result
-        (numbered_faults width height most (path_text path.now) (view item.now)) (triple_of (view item.now)) }
+        (numbered_faults width height most (path_text path.now) (view item.now))
+        (triple_of (view item.now)) }
     ensures inside { IfOk result (λ t. (t.0.x < width) × (t.0.y < height)) }
 {
     let Some((x, y, number)) = triple(item) else {
@@ -115,7 +117,8 @@ pub(crate) fn core_in(
     width: u8,
     height: u8,
 ) -> Result<Spot, TextErr>
-    ensures read { GivesOrFaults (λ s. s) result (core_faults width height (path_text path.now) (view item.now))
+    ensures read { GivesOrFaults (λ s. s) result
+        (core_faults width height (path_text path.now) (view item.now))
         (core_value (view item.now)) }
     ensures inside { IfOk result (λ s. (s.chip.x < width) × (s.chip.y < height)) }
 {
@@ -132,7 +135,8 @@ pub(crate) fn link_in(
     width: u8,
     height: u8,
 ) -> Result<Edge, TextErr>
-    ensures read { GivesOrFaults (λ e. e) result (link_faults width height (path_text path.now) (view item.now))
+    ensures read { GivesOrFaults (λ e. e) result
+        (link_faults width height (path_text path.now) (view item.now))
         (link_value (view item.now)) }
     ensures inside { IfOk result (λ e. (e.chip.x < width) × (e.chip.y < height)) }
 {

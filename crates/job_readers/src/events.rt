@@ -181,7 +181,8 @@ fn chip_and_named<W: EventWord>(
     path: &Path<'_>,
 ) -> Result<(Chip, W), TextErr>
     ensures chip { GivesOrFaults (λ t. t.0) result
-        (at_chip_faults W.named (path_text path.now) (map view rest.now)) (chip_of_event (map view rest.now)) }
+        (at_chip_faults W.named (path_text path.now) (map view rest.now))
+        (chip_of_event (map view rest.now)) }
     ensures named { IfOk result
         (λ t. W.named (word_of_event (map view rest.now)) ≡ Some t.1) }
     ensures right { IfOk result (λ t. W.IsRight t.1) }
@@ -214,7 +215,8 @@ fn worded(
     path: &Path<'_>,
     vertices: &Names,
 ) -> Result<Event, TextErr>
-    ensures read { GivesOrFaults (λ e. e) result (event_word_faults vertices.now (path_text path.now) word.now
+    ensures read { GivesOrFaults (λ e. e) result
+        (event_word_faults vertices.now (path_text path.now) word.now
         (map view rest.now)) (worded_event vertices.now word.now (map view rest.now)) }
     ensures valid { IfOk result (IsEventOf (length vertices.now)) }
 {
@@ -291,7 +293,8 @@ pub(crate) fn events(
     graph: &Graph,
 ) -> Result<Seq<Event>, TextErr>
     requires { IsValidGraph graph.now }
-    ensures read { GivesOrFaults (λ e. e) result (events_faults graph.now.vertices (path_text path.now)
+    ensures read { GivesOrFaults (λ e. e) result
+        (events_faults graph.now.vertices (path_text path.now)
         (view run.now))
         (events_value graph.now.vertices (view run.now)) }
     ensures valid { IfOk result (λ es. All (IsEventOf (length graph.now.vertices)) es) }

@@ -50,7 +50,8 @@ fn item_name<'a>(
     path: &Path<'_>,
     before: &Names,
 ) -> Result<&'a str, TextErr>
-    ensures { GivesOrFaults (λ s. s.now) result (name_faults before.now (path_text path.now) (view item.now))
+    ensures { GivesOrFaults (λ s. s.now) result
+        (name_faults before.now (path_text path.now) (view item.now))
         (name_value (view item.now)) }
 {
     let path = Path::Member(path, "name");
@@ -79,7 +80,8 @@ fn vertex_device(
     version: u32,
     before: &Devices,
 ) -> Result<Option<Edge>, TextErr>
-    ensures read { GivesOrFaults (λ e. e) result (device_faults version before.now (path_text path.now)
+    ensures read { GivesOrFaults (λ e. e) result
+        (device_faults version before.now (path_text path.now)
         (view item.now))
         (device_value version (view item.now)) }
     ensures fresh { IfOk result (λ o. IfSome o (λ e. is_among before.now e ≡ false)) }
@@ -157,7 +159,8 @@ fn vertices(
     path: &Path<'_>,
     version: u32,
 ) -> Result<Seq<Vertex>, TextErr>
-    ensures read { GivesOrFaults (λ v. v) result (vertices_faults version (path_text path.now) (view graph.now))
+    ensures read { GivesOrFaults (λ v. v) result
+        (vertices_faults version (path_text path.now) (view graph.now))
         (vertices_value version (view graph.now)) }
     ensures valid { IfOk result (λ vs. All IsValidVertex vs) }
     ensures devices { IfOk result (λ vs. AllPairs HaveDifferentDevices vs) }
@@ -191,7 +194,8 @@ fn source(
     path: &Path<'_>,
     among: &NamedVertices<'_, '_>,
 ) -> Result<u32, TextErr>
-    ensures read { GivesOrFaults (λ i. i) result (net_source_faults among.now.vertices.now (path_text path.now)
+    ensures read { GivesOrFaults (λ i. i) result
+        (net_source_faults among.now.vertices.now (path_text path.now)
         (view item.now))
         (source_value among.now.vertices.now (view item.now)) }
     ensures below { IfOk result (λ i. i < length among.now.vertices.now) }
@@ -279,7 +283,8 @@ fn fixed_block(
     keys: u64,
     before: &[Block],
 ) -> Result<Option<Block>, TextErr>
-    ensures read { GivesOrFaults (λ b. b) result (fixed_faults version before.now keys (path_text path.now)
+    ensures read { GivesOrFaults (λ b. b) result
+        (fixed_faults version before.now keys (path_text path.now)
         (view item.now)) (fixed_value version (view item.now)) }
     ensures fixed { IfOk result (λ o. IfSome o (IsFixedFor keys)) }
     ensures fresh { IfOk result (λ o. IfSome o (λ b. list_any (shares_key b) before.now ≡ false)) }
@@ -424,7 +429,8 @@ fn nets_among(
     vertices: &Seq<Vertex>,
 ) -> Result<Seq<Net>, TextErr>
     requires { length vertices.now ≤ 16384 }
-    ensures read { GivesOrFaults (λ n. n) result (nets_faults version vertices.now (path_text path.now)
+    ensures read { GivesOrFaults (λ n. n) result
+        (nets_faults version vertices.now (path_text path.now)
         (view graph.now)) (nets_value version vertices.now (view graph.now)) }
     ensures valid { IfOk result (λ ns. All (IsValidNet (length vertices.now)) ns) }
     ensures sources { IfOk result (λ ns. All (HasSendingSource vertices.now) ns) }
@@ -465,7 +471,8 @@ fn graph_members(
 #[tactic(auto, using(crate::proofs::Firsts::firsts), unfolding(crate::specs::Job::job_own_faults, crate::specs::GraphPart::graph_faults, crate::specs::GraphPart::graph_value))]
 pub fn graph_of(alloc: Global, job: &Value, path: &Path<'_>, version: u32) -> Result<Graph, TextErr>
     ensures graph { GivesOrFaults (λ g. g) result
-        (job_own_faults (path_text path.now) (view job.now) ▹ graph_faults (path_text path.now) version (view job.now))
+        (job_own_faults (path_text path.now) (view job.now) ▹ graph_faults
+        (path_text path.now) version (view job.now))
         (graph_value version (view job.now)) }
     ensures valid { IfOk result IsValidGraph }
 {

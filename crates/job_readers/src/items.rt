@@ -27,7 +27,8 @@ pub trait ItemReader {
     /// What an item is, which stands at a path.
     fn read(&self, alloc: Global, item: &Value, path: &Path<'_>) -> Result<Self::Item, TextErr>
         requires { IsReady self.now }
-        ensures read { GivesOrFaults (λ x. x) result (faults self.now (path_text path.now) (view item.now))
+        ensures read { GivesOrFaults (λ x. x) result
+            (faults self.now (path_text path.now) (view item.now))
             (value self.now (view item.now)) }
         ensures holds { IfOk result (Holds self.now) };
 }
@@ -44,7 +45,8 @@ pub fn each_item<R: ItemReader>(
     reader: &R,
 ) -> Result<Seq<R::Item>, TextErr>
     requires { R.IsReady reader.now }
-    ensures read { GivesOrFaults (λ xs. xs) result (items_faults (R.faults reader.now) (path_text path.now) 0
+    ensures read { GivesOrFaults (λ xs. xs) result
+        (items_faults (R.faults reader.now) (path_text path.now) 0
         (map view items.now)) (map (R.value reader.now) (map view items.now)) }
     ensures holds { IfOk result (λ xs. All (R.Holds reader.now) xs) }
     ensures count { IfOk result (λ xs. length xs ≡ length items.now) }

@@ -35,7 +35,8 @@ pub struct Job {
 /// `Fault` with the job's first fault in the order of reading; `Memory`.
 #[tactic(auto, using(crate::proofs::Parts::parts), unfolding(crate::specs::WholeJob::job_faults, crate::specs::WholeJob::job_value))]
 pub fn job_of(alloc: Global, value: &Value, path: &Path<'_>, greatest: u32) -> Result<Job, TextErr>
-    ensures job { GivesOrFaults (λ j. j) result (job_faults (path_text path.now) greatest (view value.now))
+    ensures job { GivesOrFaults (λ j. j) result
+        (job_faults (path_text path.now) greatest (view value.now))
         (job_value (view value.now)) }
     ensures graph { IfOk result (λ j. IsValidGraph j.graph) }
     ensures run { IfOk result (λ j. IsRunOf j.graph j.run) }

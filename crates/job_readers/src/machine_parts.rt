@@ -119,7 +119,8 @@ const CHIP_MEMORY: u64 = 134217728;
 
 #[tactic(auto, using(crate::proofs::Firsts::firsts), unfolding(crate::specs::MachinePart::machine_members_faults, crate::specs::MachinePart::machine_members))]
 fn machine_members(alloc: Global, machine: &Value, path: &Path<'_>) -> Result<Machine, TextErr>
-    ensures { GivesOrFaults (λ m. m) result (machine_members_faults (path_text path.now) (view machine.now))
+    ensures { GivesOrFaults (λ m. m) result
+        (machine_members_faults (path_text path.now) (view machine.now))
         (machine_members (view machine.now)) }
 {
     let width = number_of(alloc, machine, path, "width", (1, 64), None)? as u8;

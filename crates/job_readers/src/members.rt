@@ -37,7 +37,8 @@ pub(crate) fn number_of(
     default: Option<u64>,
 ) -> Result<u64, TextErr>
     ensures read { GivesOrFaults (λ n. n) result
-        (number_member_faults (path_text path.now) name.now bounds.0 bounds.1 default (view object.now))
+        (number_member_faults (path_text path.now) name.now bounds.0 bounds.1 default
+        (view object.now))
         (number_member name.now default (view object.now)) }
     ensures within { IfOk result (λ n. IfSome default (λ d. (bounds.0 ≤ d) × (d ≤ bounds.1))
         → (bounds.0 ≤ n) × (n ≤ bounds.1)) }
@@ -62,7 +63,8 @@ pub(crate) fn flag_of(
     name: &str,
     default: bool,
 ) -> Result<bool, TextErr>
-    ensures { GivesOrFaults (λ b. b) result (flag_member_faults (path_text path.now) name.now (view object.now))
+    ensures { GivesOrFaults (λ b. b) result
+        (flag_member_faults (path_text path.now) name.now (view object.now))
         (flag_member name.now default (view object.now)) }
 {
     let path = Path::Member(path, name);

@@ -40,7 +40,8 @@ fn net_of_packet(
     graph: &Graph,
 ) -> Result<u32, TextErr>
     requires { names.now ≡ net_names graph.now.nets }
-    ensures read { GivesOrFaults (λ i. i) result (packet_net_faults graph.now.nets (path_text path.now)
+    ensures read { GivesOrFaults (λ i. i) result
+        (packet_net_faults graph.now.nets (path_text path.now)
         (view item.now))
         (packet_net graph.now.nets (view item.now)) }
     ensures below { IfOk result (λ i. i < length graph.now.nets) }
@@ -184,7 +185,8 @@ fn run_members(
 ) -> Result<RunPart, TextErr>
     requires { IsValidGraph graph.now }
     ensures read { GivesOrFaults (λ r. r) result
-        (run_members_faults (live_count_of machine.now) graph.now (path_text path.now) (view run.now))
+        (run_members_faults (live_count_of machine.now) graph.now (path_text path.now)
+        (view run.now))
         (run_members graph.now (view run.now)) }
     ensures found { IfOk result (IsRunOf graph.now) }
 {
@@ -242,7 +244,8 @@ pub fn run_of(
 ) -> Result<RunPart, TextErr>
     requires { IsValidGraph graph.now }
     ensures run { GivesOrFaults (λ r. r) result
-        (job_own_faults (path_text path.now) (view job.now) ▹ run_faults (path_text path.now) machine.now graph.now
+        (job_own_faults (path_text path.now) (view job.now) ▹ run_faults
+        (path_text path.now) machine.now graph.now
         (view job.now)) (run_value graph.now (view job.now)) }
     ensures found { IfOk result (IsRunOf graph.now) }
 {

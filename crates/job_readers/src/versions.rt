@@ -23,7 +23,8 @@ pub fn version_of(
     greatest: u32,
 ) -> Result<u32, TextErr>
     ensures version { GivesOrFaults (λ n. n) result
-        (job_own_faults (path_text path.now) (view job.now) ▹ version_faults (path_text path.now) greatest (view job.now))
+        (job_own_faults (path_text path.now) (view job.now) ▹ version_faults
+        (path_text path.now) greatest (view job.now))
         (version_value (view job.now)) }
     ensures within { IfOk result (λ n. (1 ≤ n) × (n ≤ greatest)) }
 {

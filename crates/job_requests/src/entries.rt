@@ -47,7 +47,8 @@ impl ItemReader for Trees {
 
 // The byte that an item is. Its path is made where it is none.
 fn byte_in(alloc: Global, item: &Value, path: &Path<'_>, i: u64) -> Result<u8, TextErr>
-    ensures { GivesOrFaults (λ b. b) result (byte_faults (item_at (path_text path.now) i) (view item.now))
+    ensures { GivesOrFaults (λ b. b) result
+        (byte_faults (item_at (path_text path.now) i) (view item.now))
         (byte_value (view item.now)) }
 {
     match item.as_u64() {

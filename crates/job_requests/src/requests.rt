@@ -47,7 +47,8 @@ pub fn request_of(alloc: Global, value: &Value) -> Result<Request, TextErr>
 // The value that is the job of a request.
 #[tactic(auto, unfolding(crate::specs::Requests::request_own_faults, crate::specs::Requests::job_member))]
 fn job_member_of<'a>(alloc: Global, value: &'a Value, path: &Path<'_>) -> Result<&'a Value, TextErr>
-    ensures { GivesOrFaults (λ d. view d.now) result (request_own_faults (path_text path.now) (view value.now))
+    ensures { GivesOrFaults (λ d. view d.now) result
+        (request_own_faults (path_text path.now) (view value.now))
         (job_member (view value.now)) }
 {
     match member(value, "job") {
@@ -77,7 +78,8 @@ fn trees_of(
     job: &Job,
 ) -> Result<Seq<Seq<Edge>>, TextErr>
     ensures read { GivesOrFaults (λ ts. ts) result (trees_faults
-        (length job.now.graph.nets) job.now.machine.width job.now.machine.height (path_text path.now)
+        (length job.now.graph.nets) job.now.machine.width job.now.machine.height
+        (path_text path.now)
         (view value.now)) (trees_value (view value.now)) }
     ensures one_each { IfOk result (λ ts. length ts ≡ length job.now.graph.nets) }
 {
@@ -94,7 +96,8 @@ fn trees_of(
 // The bytes of the image of a request.
 #[tactic(auto, using(job_readers::proofs::Firsts::firsts), unfolding(crate::specs::Requests::image_faults, crate::specs::Requests::image_value))]
 fn image_of(alloc: Global, value: &Value, path: &Path<'_>) -> Result<Seq<u8>, TextErr>
-    ensures { GivesOrFaults (λ bs. bs) result (image_faults (path_text path.now) (view value.now)) (image_value
+    ensures { GivesOrFaults (λ bs. bs) result (image_faults (path_text path.now) (view value.now))
+        (image_value
         (view value.now)) }
 {
     let path = Path::Member(path, "image");

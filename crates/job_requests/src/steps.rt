@@ -102,7 +102,8 @@ fn worded(alloc: Global, word: &str, rest: &[Value], path: &Path<'_>) -> Result<
 // A number and a job.
 #[tactic(auto, unfolding(crate::specs::Steps::load_faults))]
 fn load_in(alloc: Global, rest: &[Value], path: &Path<'_>) -> Result<Step, TextErr>
-    ensures read { GivesOrFaults (λ s. s) result (load_faults (path_text path.now) (map view rest.now)) (load_of
+    ensures read { GivesOrFaults (λ s. s) result
+        (load_faults (path_text path.now) (map view rest.now)) (load_of
         (map view rest.now)) }
     ensures valid { IfOk result IsValidStep }
 {
@@ -118,7 +119,8 @@ fn load_in(alloc: Global, rest: &[Value], path: &Path<'_>) -> Result<Step, TextE
 // A number alone.
 #[tactic(auto, unfolding(crate::specs::Steps::unload_faults))]
 fn unload_in(alloc: Global, rest: &[Value], path: &Path<'_>) -> Result<Step, TextErr>
-    ensures read { GivesOrFaults (λ s. s) result (unload_faults (path_text path.now) (map view rest.now))
+    ensures read { GivesOrFaults (λ s. s) result
+        (unload_faults (path_text path.now) (map view rest.now))
         (unload_of (map view rest.now)) }
     ensures valid { IfOk result IsValidStep }
 {
@@ -143,7 +145,8 @@ fn run_in(alloc: Global, rest: &[Value], path: &Path<'_>) -> Result<Step, TextEr
 
 // The number of an application.
 fn number(alloc: Global, said: &Value, path: &Path<'_>) -> Result<u32, TextErr>
-    ensures { GivesOrFaults (λ n. n) result (step_number_faults (path_text path.now) (view said.now)) (number_of
+    ensures { GivesOrFaults (λ n. n) result
+        (step_number_faults (path_text path.now) (view said.now)) (number_of
         (view said.now)) }
 {
     match said.as_u64() {

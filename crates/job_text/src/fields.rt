@@ -46,7 +46,8 @@ pub fn object<'a>(
     v: Option<&'a Value>,
     path: &Path<'_>,
 ) -> Result<&'a Value, TextErr>
-    ensures { GivesOrFaults (λ d. view d.now) result (object_faults (path_text path.now) (option_map (λ d.
+    ensures { GivesOrFaults (λ d. view d.now) result
+        (object_faults (path_text path.now) (option_map (λ d.
         view d.now) v.entry)) (object_value (option_map (λ d. view d.now) v.entry)) }
 {
     match v {
@@ -72,7 +73,8 @@ pub fn field<'a>(
     path: &Path<'_>,
     name: &str,
 ) -> Result<Option<&'a Value>, TextErr>
-    ensures { GivesOrFaults (option_map (λ d. view d.now)) result (object_faults (path_text path.now) (Some
+    ensures { GivesOrFaults (option_map (λ d. view d.now)) result
+        (object_faults (path_text path.now) (Some
         (view v.now))) (member_of name.now (view v.now)) }
 {
     if !v.is_object() {
@@ -95,7 +97,8 @@ pub fn number_in(
     high: u64,
     default: Option<u64>,
 ) -> Result<u64, TextErr>
-    ensures number { GivesOrFaults (λ n. n) result (number_faults (path_text path.now) low high default
+    ensures number { GivesOrFaults (λ n. n) result
+        (number_faults (path_text path.now) low high default
         (option_map (λ d. view d.now) v.entry)) (number_value default (option_map (λ d.
         view d.now) v.entry)) }
     ensures within { IfOk result (λ n. IfSome default (λ d. (low ≤ d) × (d ≤ high))
@@ -198,7 +201,8 @@ pub fn list<'a>(
     path: &Path<'_>,
     needed: bool,
 ) -> Result<&'a [Value], TextErr>
-    ensures { GivesOrFaults (λ items. map view items.now) result (list_faults (path_text path.now) needed
+    ensures { GivesOrFaults (λ items. map view items.now) result
+        (list_faults (path_text path.now) needed
         (option_map (λ d. view d.now) v.entry)) (list_value (option_map (λ d.
         view d.now) v.entry)) }
 {
@@ -220,7 +224,8 @@ pub fn list<'a>(
 ///
 /// `TooMany` with the number exactly where it is above `limit`; `Memory`.
 pub fn count_to(alloc: Global, path: &Path<'_>, limit: u64, count: u64) -> Result<(), TextErr>
-    ensures faults { GivesOrFaults (λ u. u) result (count_faults (path_text path.now) limit count) tt }
+    ensures faults { GivesOrFaults (λ u. u) result
+        (count_faults (path_text path.now) limit count) tt }
     ensures within { IfOk result (λ _. count ≤ limit) }
 {
     if count > limit {

@@ -15,7 +15,7 @@ use Rattle.job_readers.proofs.graph_parts.each_net.Goals as goal
 
 pub returns-in_err-net-clause-read : goal.returns-in_err-net-clause-read
 returns-in_err-net-clause-read c =
-    let p = err_from_is_err_and c.from_residual-in_err-net.result c.from_residual-in_err-net.ensures.1 in
+    let p = err_from_is_err_and c.from_residual.result c.from_residual.ensures.1 in
     let xs = c.args.items.now in
     let f = next_net_faults c.args.version c.args.among.now.vertices.now in
     let value = net_value c.args.version c.args.among.now.vertices.now in

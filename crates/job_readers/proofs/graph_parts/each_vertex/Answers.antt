@@ -15,7 +15,7 @@ use Rattle.job_readers.proofs.graph_parts.each_vertex.Goals as goal
 
 pub returns-in_err-vertex-clause-read : goal.returns-in_err-vertex-clause-read
 returns-in_err-vertex-clause-read c =
-    let p = err_from_is_err_and c.from_residual-in_err-vertex.result c.from_residual-in_err-vertex.ensures.1 in
+    let p = err_from_is_err_and c.from_residual.result c.from_residual.ensures.1 in
     let xs = c.args.items.now in
     let f = next_vertex_faults c.args.version in
     let value = vertex_value c.args.version in
