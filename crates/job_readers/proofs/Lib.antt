@@ -7,3 +7,4 @@ mod BlockSteps
 mod GraphSteps
 mod RunSteps
 mod Parts
+mod Named

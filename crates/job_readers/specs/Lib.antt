@@ -17,3 +17,4 @@ pub mod GraphPart
 pub mod RunPart
 pub mod Job
 pub mod WholeJob
+pub mod Named

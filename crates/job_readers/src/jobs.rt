@@ -4,6 +4,7 @@ ghost use Rattle.serde_json.specs.View.{view};
 ghost use Rattle.job_text.specs.Reading.{GivesOrFaults};
 ghost use Rattle.app_graph.specs.ValidGraph.{IsValidGraph};
 ghost use Rattle.app_graph.specs.RunPart.{IsRunOf};
+ghost use Rattle.job_readers.specs.Named.{HasNamesApart};
 ghost use Rattle.job_readers.specs.WholeJob.{job_faults, job_value};
 ghost use Rattle.job_text.specs.Paths.{path_text};
 
@@ -39,6 +40,7 @@ pub fn job_of(alloc: Global, value: &Value, path: &Path<'_>, greatest: u32) -> R
         (job_faults (path_text path.now) greatest (view value.now))
         (job_value (view value.now)) }
     ensures graph { IfOk result (λ j. IsValidGraph j.graph) }
+    ensures names { IfOk result (λ j. HasNamesApart j.graph) }
     ensures run { IfOk result (λ j. IsRunOf j.graph j.run) }
 {
     let version = version_of(alloc, value, path, greatest)?;
