@@ -1,7 +1,7 @@
 -- The kept edges are a whole tree, and a whole tree stays one as targets are joined.
-use Rattle.std.proofs.Common.{◌≡◌, ◌≢◌, ℕ, zero, suc, ◌+◌, ◌<◌, ltb, List, [], ◌∷◌, ◌++◌, length, get_or, take, Some, sym, ap, ◌∙◌, subst, arith, inl, inr, ◌↔◌}
+use Rattle.std.proofs.Common.{◌≡◌, ◌≢◌, ℕ, zero, suc, ◌+◌, ◌<◌, Bool, true, List, [], ◌∷◌, ◌++◌, length, get_or, take, Some, sym, ap, ◌∙◌, subst, arith, inl, inr, ◌↔◌}
 use Rattle.std.specs.List.{Contains, All, AllPairs, filter, slice_get}
-use Rattle.std.proofs.lemmas.Bool.{cases_order, lt-ltb, ltb-true}
+use Rattle.std.proofs.lemmas.Bool.{cases_order}
 use Rattle.std.proofs.lemmas.List.{get_or_default, append-nil, take_more, get_or-take, length-take}
 use Rattle.std.proofs.lemmas.List.Elements.{All-contains, All-push, All-weaker, Contains-get_or}
 use Rattle.std.proofs.lemmas.Option.{get_or_from_slice_get, slice_get_within}
@@ -11,7 +11,7 @@ use Rattle.machine_desc.specs.Description.{Description}
 use Rattle.machine_desc.specs.Live.{IsInside, IsLiveLink, is_live_link}
 use Rattle.machine_desc.specs.RoutingTree.{end_of, IsTreeChip}
 use Rattle.link_detours.specs.Steps.{Steps}
-use Rattle.link_detours.specs.Usable.{number_at}
+use Rattle.link_detours.specs.Usable.{is_marked}
 use Rattle.link_detours.specs.Repair.{EdgeStep, LiveEdgeStep, IsKeptEdge, IsDetour, Joins, IsCutOff, IsFirstTargetCutOff}
 use Rattle.link_detours.specs.Whole.{IsWholeTree}
 use Rattle.link_detours.proofs.Reaching.{link_inside}
@@ -22,12 +22,12 @@ use Rattle.link_detours.proofs.Putting.{TellsTree}
 use Rattle.link_detours.proofs.Walks.{steps_walk}
 use Rattle.link_detours.proofs.Wholes.{steps_on_tree, live_steps, whole_joined, detour_reached, Joins-more}
 
-module _ (m : Description) (root : Chip) (edges : List Edge) (counts : List ℕ) (top : ℕ) where
+module _ (m : Description) (root : Chip) (edges : List Edge) (marks : List Bool) where
   abbrev pub live_of : List Edge
   live_of = filter (λ e. is_live_link m e.chip e.dir) edges
 
   abbrev pub kept_of : List Edge
-  kept_of = filter (λ e. ltb (number_at m counts e.chip) top) live_of
+  kept_of = filter (λ e. is_marked m marks e.chip) live_of
 
 -- live edges begin inside the grid
 pub live_edges_inside : (m : Description) (edges : List Edge) → All (λ e. IsInside m e.chip) (filter (λ e. is_live_link m e.chip e.dir) edges)
@@ -36,45 +36,45 @@ live_edges_inside m edges k d h =
     let known = Contains-from_filter (λ f. is_live_link m f.chip f.dir) edges e (Contains-get_or (filter (λ f. is_live_link m f.chip f.dir) edges) k d h) in
     link_inside m e.chip e.dir known.1
 
-module _ (m : Description) (root : Chip) (edges : List Edge) (counts : List ℕ) (top : ℕ) (root_inside : IsInside m root)
+module _ (m : Description) (root : Chip) (edges : List Edge) (marks : List Bool) (root_inside : IsInside m root)
     (none_into : All (λ e. end_of m e ≢ Some root) edges)
     (one_into : AllPairs (λ e f. (c : Chip) → end_of m e ≡ Some c → end_of m f ≢ Some c) edges)
-    (reach : (c : Chip) → IsInside m c → (number_at m counts c < top) ↔ ((n : ℕ) × Steps (EdgeStep m (live_of m root edges counts top)) n root c)) where
+    (reach : (c : Chip) → IsInside m c → (is_marked m marks c ≡ true) ↔ ((n : ℕ) × Steps (EdgeStep m (live_of m root edges marks)) n root c)) where
   -- a kept edge is a live edge whose chip is reached
-  kept_has : (e : Edge) → Contains (kept_of m root edges counts top) e →
-      Contains (live_of m root edges counts top) e × Contains edges e × IsLiveLink m e.chip e.dir × ((n : ℕ) × Steps (EdgeStep m (live_of m root edges counts top)) n root e.chip)
+  kept_has : (e : Edge) → Contains (kept_of m root edges marks) e →
+      Contains (live_of m root edges marks) e × Contains edges e × IsLiveLink m e.chip e.dir × ((n : ℕ) × Steps (EdgeStep m (live_of m root edges marks)) n root e.chip)
   kept_has e has =
-      let kept = Contains-from_filter (λ f. ltb (number_at m counts f.chip) top) (live_of m root edges counts top) e has in
+      let kept = Contains-from_filter (λ f. is_marked m marks f.chip) (live_of m root edges marks) e has in
       let live = Contains-from_filter (λ f. is_live_link m f.chip f.dir) edges e kept.0 in
-      (kept.0, live.0, live.1, (reach e.chip (link_inside m e.chip e.dir live.1)).0 (ltb-true (number_at m counts e.chip) top kept.1))
+      (kept.0, live.0, live.1, (reach e.chip (link_inside m e.chip e.dir live.1)).0 kept.1)
 
-  has_kept : (e : Edge) → Contains (live_of m root edges counts top) e → ((n : ℕ) × Steps (EdgeStep m (live_of m root edges counts top)) n root e.chip) →
-      Contains (kept_of m root edges counts top) e
+  has_kept : (e : Edge) → Contains (live_of m root edges marks) e → ((n : ℕ) × Steps (EdgeStep m (live_of m root edges marks)) n root e.chip) →
+      Contains (kept_of m root edges marks) e
   has_kept e has way =
       let live = Contains-from_filter (λ f. is_live_link m f.chip f.dir) edges e has in
-      Contains-filter (λ f. ltb (number_at m counts f.chip) top) (live_of m root edges counts top) e has
-      (lt-ltb (number_at m counts e.chip) top ((reach e.chip (link_inside m e.chip e.dir live.1)).1 way))
+      Contains-filter (λ f. is_marked m marks f.chip) (live_of m root edges marks) e has
+      ((reach e.chip (link_inside m e.chip e.dir live.1)).1 way)
 
-  kept_steps : (n : ℕ) (c : Chip) → Steps (EdgeStep m (live_of m root edges counts top)) n root c → Steps (EdgeStep m (kept_of m root edges counts top)) n root c
+  kept_steps : (n : ℕ) (c : Chip) → Steps (EdgeStep m (live_of m root edges marks)) n root c → Steps (EdgeStep m (kept_of m root edges marks)) n root c
   kept_steps zero c walk = walk
   kept_steps (suc n) c walk =
       (walk.0, kept_steps n walk.0 walk.1, (walk.2.0, has_kept (record { chip = walk.0; dir = walk.2.0 }) walk.2.1 (n, walk.1), walk.2.2))
 
   -- a chip of the kept tree is reached by live edges
-  chip_reached : (c : Chip) → IsTreeChip m root (kept_of m root edges counts top) c → (n : ℕ) × Steps (EdgeStep m (live_of m root edges counts top)) n root c
-  chip_reached c on = elim (tree_cases m root (kept_of m root edges counts top) c on) [
+  chip_reached : (c : Chip) → IsTreeChip m root (kept_of m root edges marks) c → (n : ℕ) × Steps (EdgeStep m (live_of m root edges marks)) n root c
+  chip_reached c on = elim (tree_cases m root (kept_of m root edges marks) c on) [
     | inl at ↦ (0, sym at)
     | inr into ↦
         let known = kept_has into.0 into.1 in
         (suc known.3.0, (into.0.chip, known.3.1, (into.0.dir, known.0, into.2)))
   ]
 
-  pub kept_whole : IsWholeTree m root (kept_of m root edges counts top)
+  pub kept_whole : IsWholeTree m root (kept_of m root edges marks)
   kept_whole = record {
     live = λ e has. (kept_has e has).2;
     reached = λ c on. let way = chip_reached c on in (way.0, kept_steps way.0 c way.1);
     none_into_root = λ e has. All-contains (λ f. end_of m f ≢ Some root) edges e none_into (kept_has e has).1;
-    begins = λ e has. let way = (kept_has e has).3 in steps_on_tree m root (kept_of m root edges counts top) way.0 e.chip (kept_steps way.0 e.chip way.1);
+    begins = λ e has. let way = (kept_has e has).3 in steps_on_tree m root (kept_of m root edges marks) way.0 e.chip (kept_steps way.0 e.chip way.1);
     one_into = λ e f c has too leads also. same e f c (kept_has e has).1 (kept_has f too).1 leads also;
   }
     where
@@ -89,7 +89,7 @@ module _ (m : Description) (root : Chip) (edges : List Edge) (counts : List ℕ)
             absurd (one_into too.0 has.0 f after has.1 c (ap (end_of m) too.2 ∙ also) (ap (end_of m) second ∙ leads))
       ]
 
-  pub kept_is : (e : Edge) → Contains (kept_of m root edges counts top) e ↔ IsKeptEdge m root edges e
+  pub kept_is : (e : Edge) → Contains (kept_of m root edges marks) e ↔ IsKeptEdge m root edges e
   kept_is e = (
     λ has.
         let known = kept_has e has in (
@@ -97,7 +97,7 @@ module _ (m : Description) (root : Chip) (edges : List Edge) (counts : List ℕ)
           known.2,
           (
             known.3.0,
-            Steps-map (EdgeStep m (live_of m root edges counts top)) (LiveEdgeStep m edges)
+            Steps-map (EdgeStep m (live_of m root edges marks)) (LiveEdgeStep m edges)
                 (λ a b step. let live = Contains-from_filter (λ f. is_live_link m f.chip f.dir) edges (record { chip = a; dir = step.0 }) step.1 in
                 (step.0, live.0, live.1, step.2)) known.3.0 root e.chip known.3.1,
           ),
@@ -106,7 +106,7 @@ module _ (m : Description) (root : Chip) (edges : List Edge) (counts : List ℕ)
         let live = Contains-filter (λ f. is_live_link m f.chip f.dir) edges e known.0 known.1 in
         has_kept e live (
           known.2.0,
-          Steps-map (LiveEdgeStep m edges) (EdgeStep m (live_of m root edges counts top))
+          Steps-map (LiveEdgeStep m edges) (EdgeStep m (live_of m root edges marks))
               (λ a b step. (step.0, Contains-filter (λ f. is_live_link m f.chip f.dir) edges (record { chip = a; dir = step.0 }) step.1 step.2, step.3)) known.2.0 root e.chip known.2.1,
         ),
   )

@@ -1,4 +1,4 @@
--- What tables of steps say of trees and levels.
+-- What tables of flagged links and of marked chips say of trees.
 use Rattle.std.proofs.Common.{◌≡◌, ℕ, zero, suc, ◌<◌, Bool, true, List, [], ◌∷◌, get_or, Some, refl, sym, subst, arith, inl, inr, ◌↔◌}
 use Rattle.std.specs.List.{Contains, All}
 use Rattle.std.proofs.lemmas.List.Elements.{All-contains, Contains-get_or}
@@ -10,9 +10,9 @@ use Rattle.machine_desc.specs.Description.{Description}
 use Rattle.machine_desc.specs.Live.{far_of, IsInside, IsLiveLink}
 use Rattle.machine_desc.specs.RoutingTree.{IsTreeChip}
 use Rattle.machine_desc.proofs.Far.{live_ends, live_inside, live_back, far_inside, far_back, opposite_of-opposite}
-use Rattle.link_detours.specs.Steps.{Steps, IsReachedBy, IsStepLevel}
+use Rattle.link_detours.specs.Steps.{Steps, IsReachedBy}
 use Rattle.machine_desc.specs.Flags.{is_flagged}
-use Rattle.link_detours.specs.Usable.{FlaggedStep, number_at}
+use Rattle.link_detours.specs.Usable.{FlaggedStep, is_marked}
 use Rattle.link_detours.specs.Repair.{EdgeStep}
 use Rattle.link_detours.specs.Whole.{IsWholeTree}
 use Rattle.link_detours.proofs.Stepping.{Steps-map}
@@ -53,22 +53,24 @@ pub only_root : (root a : Chip) → Contains (root ∷ []) a → a ≡ root
 only_root root a (zero, within, same) = sym same
 only_root root a (suc k, within, same) = absurd (omega arith)
 
--- a chip is reached by a table of a list of edges exactly where the edges join it to the root
-pub reach_edges : (m : Description) (root : Chip) (table : List Bool) (edges : List Edge) (counts : List ℕ) (top : ℕ) →
+-- a table marks a chip exactly where the edges that another table flags join it to the root
+pub reach_edges : (m : Description) (root : Chip) (table : List Bool) (edges : List Edge) (marks : List Bool) →
     ((e : Edge) → IsInside m e.chip → (is_flagged m table e.chip e.dir ≡ true) ↔ Contains edges e) → All (λ e. IsInside m e.chip) edges →
-    ((c : Chip) → IsInside m c → number_at m counts c < top → IsStepLevel (FlaggedStep m table) (Contains (root ∷ [])) c (number_at m counts c)) →
-    ((c : Chip) (n : ℕ) → IsReachedBy (FlaggedStep m table) (Contains (root ∷ [])) n c → number_at m counts c < top) →
-    (c : Chip) → IsInside m c → (number_at m counts c < top) ↔ ((n : ℕ) × Steps (EdgeStep m edges) n root c)
-reach_edges m root table edges counts top flags inside levels reached c c_inside = (
-  λ low. let by = (levels c c_inside low).reached in (
-    number_at m counts c,
-    subst (λ (a : Chip). Steps (EdgeStep m edges) (number_at m counts c) a c) (only_root root by.0 by.1)
-        (Steps-map (FlaggedStep m table) (EdgeStep m edges) (flagged_edges m table edges flags) (number_at m counts c) by.0 c by.2),
+    ((c : Chip) → IsInside m c → (is_marked m marks c ≡ true) ↔ ((n : ℕ) × IsReachedBy (FlaggedStep m table) (Contains (root ∷ [])) n c)) →
+    (c : Chip) → IsInside m c → (is_marked m marks c ≡ true) ↔ ((n : ℕ) × Steps (EdgeStep m edges) n root c)
+reach_edges m root table edges marks flags inside reached c c_inside = (
+  λ marked. let by = (reached c c_inside).0 marked in (
+    by.0,
+    subst (λ (a : Chip). Steps (EdgeStep m edges) by.0 a c) (only_root root by.1.0 by.1.1)
+        (Steps-map (FlaggedStep m table) (EdgeStep m edges) (flagged_edges m table edges flags) by.0 by.1.0 c by.1.2),
   ),
-  λ way. reached c way.0 (
-    root,
-    (0, omega arith, refl),
-    Steps-map (EdgeStep m edges) (FlaggedStep m table) (edges_flagged m table edges flags inside) way.0 root c way.1,
+  λ way. (reached c c_inside).1 (
+    way.0,
+    (
+      root,
+      (0, omega arith, refl),
+      Steps-map (EdgeStep m edges) (FlaggedStep m table) (edges_flagged m table edges flags inside) way.0 root c way.1,
+    ),
   ),
 )
 

@@ -1,5 +1,5 @@
--- A search that lowers the numbers of chips until no flagged link leads to a number more than one greater.
-use Rattle.std.proofs.Common.{◌≡◌, ◌≢◌, ℕ, zero, suc, ◌+◌, ◌*◌, ◌<◌, ◌≤◌, Bool, true, cond, List, [], ◌∷◌, ◌++◌, length, get_or, set, Some, None, add-one, refl, sym, ap, ◌∙◌, subst, arith, inl, inr, ◌⊎◌}
+-- A search that marks chips until no flagged link leads from a marked chip to another.
+use Rattle.std.proofs.Common.{◌≡◌, ◌≢◌, ℕ, zero, suc, ◌+◌, ◌*◌, ◌<◌, ◌≤◌, Bool, true, false, cond, List, [], ◌∷◌, ◌++◌, length, get_or, set, Some, None, refl, sym, ap, ◌∙◌, subst, arith, inl, inr, ◌⊎◌, ◌↔◌}
 use Rattle.std.specs.List.{Contains, All, sum_by}
 use Rattle.std.proofs.lemmas.Bool.{cases_eq, cases_Bool, cond-true, cond-false, false≢true}
 use Rattle.std.proofs.lemmas.List.{get_or-set_same, get_or-set_other, get_or_append_left, get_or_at, get_or_default, length-append, length-set}
@@ -12,11 +12,11 @@ use Rattle.spin_base.specs.Links.{dir_number, all_dirs}
 use Rattle.spin_base.proofs.Equality.{chip_eq_true}
 use Rattle.machine_desc.specs.Description.{Description}
 use Rattle.machine_desc.specs.Live.{far_of, index_of, IsInside}
-use Rattle.machine_desc.proofs.Far.{far_inside, far_parts, same_index, index_below}
+use Rattle.machine_desc.proofs.Far.{far_inside, same_index, index_below}
 use Rattle.machine_desc.proofs.Same.{chip_eq-from_same, same_dir}
-use Rattle.link_detours.specs.Steps.{Steps, IsReachedBy, IsStepLevel}
+use Rattle.link_detours.specs.Steps.{Steps, IsReachedBy}
 use Rattle.machine_desc.specs.Flags.{is_flagged}
-use Rattle.link_detours.specs.Usable.{FlaggedStep, number_at}
+use Rattle.link_detours.specs.Usable.{FlaggedStep, is_marked}
 
 -- two chips are the same or not
 pub cases_chip : (a b : Chip) → (a ≡ b) ⊎ (a ≢ b)
@@ -25,73 +25,79 @@ cases_chip a b = elim (cases_Bool (chip_eq a b)) [
   | inr other ↦ inr (λ e. false≢true (sym other ∙ chip_eq-from_same a b e))
 ]
 
--- a link leads to another chip
-pub far_other : (m : Description) (c e : Chip) (d : Dir) → far_of m c d ≡ Some e → c ≢ e
-far_other m c e d leads same = false≢true (sym (far_parts m c e d leads).2 ∙ chip_eq-from_same c e same)
-
 -- the chip stands in the queue at next or behind
 abbrev pub Waits : List Chip → ℕ → Chip → Type 0
 Waits queue next c = (k : ℕ) × (next ≤ k) × (k < length queue) × (get_or queue k c ≡ c)
 
-module _ (m : Description) (table : List Bool) (seeds : List Chip) (top : ℕ) where
-  -- what holds of the numbers and the queue while links are still to be looked at: those that the last argument names
-  pub record Ongoing (levels : List ℕ) (queue : List Chip) (Waiting : Chip → ℕ → Type 0) : Type 0 where
-    pub long : length levels ≡ m.width * m.height
+-- what a place of a table weighs: less once it is marked
+abbrev pub unmarked : Bool → ℕ
+unmarked true = 0
+unmarked false = 1
+
+module _ (m : Description) (table : List Bool) (seeds : List Chip) where
+  -- what holds of the marks and the queue while links are still to be looked at: those that the last argument names
+  pub record Ongoing (marks : List Bool) (queue : List Chip) (Waiting : Chip → ℕ → Type 0) : Type 0 where
+    pub long : length marks ≡ m.width * m.height
     pub inside : All (IsInside m) queue
-    pub known : All (λ c. number_at m levels c < top) queue
-    pub at_seeds : (a : Chip) → Contains seeds a → number_at m levels a ≡ 0
-    pub walks : (c : Chip) → IsInside m c → number_at m levels c < top →
-        IsReachedBy (FlaggedStep m table) (Contains seeds) (number_at m levels c) c
-    pub few : (c : Chip) → IsInside m c → number_at m levels c < top → number_at m levels c ≤ length queue
-    pub near : (c e : Chip) (d : Dir) → IsInside m c → number_at m levels c < top → is_flagged m table c d ≡ true →
-        far_of m c d ≡ Some e → Waiting c (dir_number d) ⊎ (number_at m levels e ≤ number_at m levels c + 1)
+    pub known : All (λ c. is_marked m marks c ≡ true) queue
+    pub at_seeds : (a : Chip) → Contains seeds a → is_marked m marks a ≡ true
+    pub walks : (c : Chip) → IsInside m c → is_marked m marks c ≡ true → (n : ℕ) × IsReachedBy (FlaggedStep m table) (Contains seeds) n c
+    pub near : (c e : Chip) (d : Dir) → IsInside m c → is_marked m marks c ≡ true → is_flagged m table c d ≡ true →
+        far_of m c d ≡ Some e → Waiting c (dir_number d) ⊎ (is_marked m marks e ≡ true)
 
   -- the links that wait while the chip at next is looked at, from link number i on
   abbrev pub WaitsFrom : List Chip → ℕ → Chip → ℕ → Chip → ℕ → Type 0
   WaitsFrom queue next at i c j = Waits queue (next + 1) c ⊎ ((c ≡ at) × (i ≤ j))
 
   -- what holds while the links of the chip at next are looked at, from link number i on
-  pub record Looking (levels : List ℕ) (queue : List Chip) (next : ℕ) (at : Chip) (i count : ℕ) : Type 0 where
+  pub record Looking (marks : List Bool) (queue : List Chip) (next : ℕ) (at : Chip) (i : ℕ) : Type 0 where
     pub within : next < length queue
     pub is_at : get_or queue next at ≡ at
     pub at_inside : IsInside m at
-    pub at_low : number_at m levels at < top
-    pub count_is : count ≡ number_at m levels at + 1
-    pub ongoing : Ongoing levels queue (WaitsFrom queue next at i)
+    pub at_marked : is_marked m marks at ≡ true
+    pub ongoing : Ongoing marks queue (WaitsFrom queue next at i)
 
-  -- the numbers after a chip gets a lower one
-  number_same : (levels : List ℕ) (e c : Chip) (n : ℕ) → length levels ≡ m.width * m.height → IsInside m e → IsInside m c → c ≡ e →
-      number_at m (set levels (index_of m e) n) c ≡ n
-  number_same levels e c n long inside _ same =
-      let below : index_of m e < length levels = subst (λ k. index_of m e < k) (sym long) (index_below m e inside) in
-      ap (λ (x : Chip). number_at m (set levels (index_of m e) n) x) same ∙ get_or-set_same levels (index_of m e) n 0 below
+  -- the marks after one chip more is marked
+  marked_here : (marks : List Bool) (e c : Chip) → length marks ≡ m.width * m.height → IsInside m e → c ≡ e →
+      is_marked m (set marks (index_of m e) true) c ≡ true
+  marked_here marks e c long inside same =
+      let below : index_of m e < length marks = subst (λ k. index_of m e < k) (sym long) (index_below m e inside) in
+      ap (λ (x : Chip). is_marked m (set marks (index_of m e) true) x) same ∙ get_or-set_same marks (index_of m e) true false below
 
-  number_other : (levels : List ℕ) (e c : Chip) (n : ℕ) → IsInside m e → IsInside m c → c ≢ e →
-      number_at m (set levels (index_of m e) n) c ≡ number_at m levels c
-  number_other levels e c n at inside other =
-      get_or-set_other levels (index_of m e) (index_of m c) n 0 (λ same. other (same_index m c e inside at same))
+  marked_other : (marks : List Bool) (e c : Chip) → IsInside m e → IsInside m c → c ≢ e →
+      is_marked m (set marks (index_of m e) true) c ≡ is_marked m marks c
+  marked_other marks e c at inside other =
+      get_or-set_other marks (index_of m e) (index_of m c) true false (λ same. other (same_index m c e inside at same))
 
-  -- other links wait: each that waited does, or leads to no number more than one greater
-  others_wait : (levels : List ℕ) (queue : List Chip) (Was Now : Chip → ℕ → Type 0) →
+  still_marked : (marks : List Bool) (e c : Chip) → length marks ≡ m.width * m.height → IsInside m e → is_marked m marks c ≡ true →
+      is_marked m (set marks (index_of m e) true) c ≡ true
+  still_marked marks e c long inside marked = elim (cases_eq (index_of m c) (index_of m e)) [
+    | inl same ↦
+        let below : index_of m e < length marks = subst (λ k. index_of m e < k) (sym long) (index_below m e inside) in
+        ap (λ k. get_or (set marks (index_of m e) true) k false) same ∙ get_or-set_same marks (index_of m e) true false below
+    | inr apart ↦ get_or-set_other marks (index_of m e) (index_of m c) true false apart ∙ marked
+  ]
+
+  -- other links wait: each that waited does, or leads to a marked chip
+  others_wait : (marks : List Bool) (queue : List Chip) (Was Now : Chip → ℕ → Type 0) →
       ((c e : Chip) (d : Dir) → is_flagged m table c d ≡ true → far_of m c d ≡ Some e → Was c (dir_number d) →
-      Now c (dir_number d) ⊎ (number_at m levels e ≤ number_at m levels c + 1)) → Ongoing levels queue Was → Ongoing levels queue Now
-  others_wait levels queue Was Now to now = record {
+      Now c (dir_number d) ⊎ (is_marked m marks e ≡ true)) → Ongoing marks queue Was → Ongoing marks queue Now
+  others_wait marks queue Was Now to now = record {
     long = now.long;
     inside = now.inside;
     known = now.known;
     at_seeds = now.at_seeds;
     walks = now.walks;
-    few = now.few;
-    near = λ c e d inside low flagged leads. elim (now.near c e d inside low flagged leads) [
+    near = λ c e d inside marked flagged leads. elim (now.near c e d inside marked flagged leads) [
       | inr done ↦ inr done
       | inl waits ↦ to c e d flagged leads waits
     ];
   }
 
   -- the first link of the chip at next
-  pub start_links : (levels : List ℕ) (queue : List Chip) (next : ℕ) (at : Chip) → next < length queue → get_or queue next at ≡ at →
-      Ongoing levels queue (λ c j. Waits queue next c) → Ongoing levels queue (WaitsFrom queue next at 0)
-  start_links levels queue next at within is = others_wait levels queue (λ c j. Waits queue next c) (WaitsFrom queue next at 0) (λ c e d flagged leads waits.
+  start_links : (marks : List Bool) (queue : List Chip) (next : ℕ) (at : Chip) → next < length queue → get_or queue next at ≡ at →
+      Ongoing marks queue (λ c j. Waits queue next c) → Ongoing marks queue (WaitsFrom queue next at 0)
+  start_links marks queue next at within is = others_wait marks queue (λ c j. Waits queue next c) (WaitsFrom queue next at 0) (λ c e d flagged leads waits.
       elim (cases_eq waits.0 next) [
         | inl here ↦
             let same : c ≡ at = sym waits.3 ∙ (ap (λ k. get_or queue k c) here ∙ (get_or_default queue next c at within ∙ is)) in
@@ -100,19 +106,19 @@ module _ (m : Description) (table : List Bool) (seeds : List Chip) (top : ℕ) w
       ])
 
   -- all six links of the chip at next were looked at
-  pub end_links : (levels : List ℕ) (queue : List Chip) (next : ℕ) (at : Chip) (i : ℕ) → 6 ≤ i → ((d : Dir) → dir_number d < 6) →
-      Ongoing levels queue (WaitsFrom queue next at i) → Ongoing levels queue (λ c j. Waits queue (next + 1) c)
-  end_links levels queue next at i past six = others_wait levels queue (WaitsFrom queue next at i) (λ c j. Waits queue (next + 1) c) (λ c e d flagged leads waits.
+  pub end_links : (marks : List Bool) (queue : List Chip) (next : ℕ) (at : Chip) (i : ℕ) → 6 ≤ i → ((d : Dir) → dir_number d < 6) →
+      Ongoing marks queue (WaitsFrom queue next at i) → Ongoing marks queue (λ c j. Waits queue (next + 1) c)
+  end_links marks queue next at i past six = others_wait marks queue (WaitsFrom queue next at i) (λ c j. Waits queue (next + 1) c) (λ c e d flagged leads waits.
       elim waits [
         | inl waits ↦ inl waits
         | inr here ↦ absurd (let below : dir_number d < 6 = six d in let beyond : i ≤ dir_number d = here.1 in omega arith)
       ])
 
-  -- a link that leads to no number more than one greater
-  pub pass_link : (levels : List ℕ) (queue : List Chip) (next : ℕ) (at : Chip) (d : Dir) →
-      ((e : Chip) → is_flagged m table at d ≡ true → far_of m at d ≡ Some e → number_at m levels e ≤ number_at m levels at + 1) →
-      Ongoing levels queue (WaitsFrom queue next at (dir_number d)) → Ongoing levels queue (WaitsFrom queue next at (dir_number d + 1))
-  pass_link levels queue next at d fine = others_wait levels queue (WaitsFrom queue next at (dir_number d)) (WaitsFrom queue next at (dir_number d + 1)) (λ c e f flagged leads waits.
+  -- a link that leads to no chip but a marked one
+  pass_link : (marks : List Bool) (queue : List Chip) (next : ℕ) (at : Chip) (d : Dir) →
+      ((e : Chip) → is_flagged m table at d ≡ true → far_of m at d ≡ Some e → is_marked m marks e ≡ true) →
+      Ongoing marks queue (WaitsFrom queue next at (dir_number d)) → Ongoing marks queue (WaitsFrom queue next at (dir_number d + 1))
+  pass_link marks queue next at d fine = others_wait marks queue (WaitsFrom queue next at (dir_number d)) (WaitsFrom queue next at (dir_number d + 1)) (λ c e f flagged leads waits.
       elim waits [
         | inl waits ↦ inl (inl waits)
         | inr here ↦ elim (cases_eq (dir_number f) (dir_number d)) [
@@ -123,80 +129,44 @@ module _ (m : Description) (table : List Bool) (seeds : List Chip) (top : ℕ) w
               ap (λ (o : Dir). is_flagged m table at o) (sym link) ∙ (ap (λ (x : Chip). is_flagged m table x f) (sym here.0) ∙ flagged) in
               let leads_here : far_of m at d ≡ Some e =
               ap (λ (o : Dir). far_of m at o) (sym link) ∙ (ap (λ (x : Chip). far_of m x f) (sym here.0) ∙ leads) in
-              inr (subst (λ (x : Chip). number_at m levels e ≤ number_at m levels x + 1) (sym here.0) (fine e flagged_here leads_here))
+              inr (fine e flagged_here leads_here)
         ]
       ])
 
-  -- a link that leads to a greater number: that number is lowered, and its chip waits
-  pub lower : (levels : List ℕ) (queue : List Chip) (next : ℕ) (at e : Chip) (d : Dir) → IsInside m at →
-      is_flagged m table at d ≡ true → far_of m at d ≡ Some e → next < length queue → get_or queue next at ≡ at →
-      number_at m levels at < top → number_at m levels at + 1 < number_at m levels e → number_at m levels at + 1 < top →
-      Ongoing levels queue (WaitsFrom queue next at (dir_number d)) →
-      Ongoing (set levels (index_of m e) (number_at m levels at + 1)) (queue ++ e ∷ []) (WaitsFrom (queue ++ e ∷ []) next at (dir_number d + 1))
-  lower levels queue next at e d at_inside flag leads within is at_low more fits now = record {
-    long = length-set levels (index_of m e) n ∙ now.long;
+  -- a link that leads to an unmarked chip: it is marked, and waits
+  mark_end : (marks : List Bool) (queue : List Chip) (next : ℕ) (at e : Chip) (d : Dir) → IsInside m at →
+      is_flagged m table at d ≡ true → far_of m at d ≡ Some e → next < length queue → is_marked m marks at ≡ true →
+      Ongoing marks queue (WaitsFrom queue next at (dir_number d)) →
+      Ongoing (set marks (index_of m e) true) (queue ++ e ∷ []) (WaitsFrom (queue ++ e ∷ []) next at (dir_number d + 1))
+  mark_end marks queue next at e d at_inside flag leads within at_marked now = record {
+    long = length-set marks (index_of m e) true ∙ now.long;
     inside = All-push (IsInside m) queue e now.inside e_inside;
-    known = All-push (λ c. number_at m after c < top) queue e (λ k x h. known_after (get_or queue k x) (now.inside k x h) (now.known k x h))
-        (subst (λ k. k < top) (sym (number_same levels e e n now.long e_inside e_inside refl)) (omega arith));
-    at_seeds = λ a has. elim (cases_chip a e) [
-      | inl same ↦ absurd (let none : number_at m levels e ≡ 0 = subst (λ (x : Chip). number_at m levels x ≡ 0) same (now.at_seeds a has) in omega arith)
-      | inr other ↦ elim (cases_eq (index_of m a) (index_of m e)) [
-        | inl same ↦ absurd (let none : number_at m levels e ≡ 0 = ap (λ k. get_or levels k 0) (sym same) ∙ now.at_seeds a has in omega arith)
-        | inr apart ↦ get_or-set_other levels (index_of m e) (index_of m a) n 0 apart ∙ now.at_seeds a has
-      ]
-    ];
-    walks = λ c inside low. elim (cases_chip c e) [
+    known = All-push (λ c. is_marked m (set marks (index_of m e) true) c ≡ true) queue e (λ k x h. still (get_or queue k x) (now.known k x h))
+        (marked_here marks e e now.long e_inside refl);
+    at_seeds = λ a has. still a (now.at_seeds a has);
+    walks = λ c inside marked. elim (cases_chip c e) [
       | inl same ↦
-          let number : number_at m after c ≡ n = number_same levels e c n now.long e_inside inside same in
-          let walk = now.walks at at_inside at_low in
-          subst (λ k. IsReachedBy (FlaggedStep m table) (Contains seeds) k c) (sym number)
-          (subst (λ (k : ℕ). IsReachedBy (FlaggedStep m table) (Contains seeds) k c) (sym (add-one (number_at m levels at)))
-          (walk.0, walk.1, (at, walk.2, (at_inside, (d, flag, leads ∙ ap Some (sym same))))))
-      | inr other ↦
-          let number : number_at m after c ≡ number_at m levels c = number_other levels e c n e_inside inside other in
-          subst (λ k. IsReachedBy (FlaggedStep m table) (Contains seeds) k c) (sym number) (now.walks c inside (subst (λ k. k < top) number low))
+          let walk = now.walks at at_inside at_marked in
+          (suc walk.0, (walk.1.0, walk.1.1, (at, walk.1.2, (at_inside, (d, flag, leads ∙ ap Some (sym same))))))
+      | inr other ↦ now.walks c inside (sym (marked_other marks e c e_inside inside other) ∙ marked)
     ];
-    few = λ c inside low. let longer : length (queue ++ e ∷ []) ≡ length queue + 1 = length-append queue (e ∷ []) in
-        elim (cases_chip c e) [
-          | inl same ↦
-              let number : number_at m after c ≡ n = number_same levels e c n now.long e_inside inside same in
-              let bound : number_at m levels at ≤ length queue = now.few at at_inside at_low in omega arith
-          | inr other ↦
-              let number : number_at m after c ≡ number_at m levels c = number_other levels e c n e_inside inside other in
-              let bound : number_at m levels c ≤ length queue = now.few c inside (subst (λ k. k < top) number low) in omega arith
-        ];
-    near = λ c f g inside low flagged goes. elim (cases_chip c e) [
+    near = λ c f g inside marked flagged goes. elim (cases_chip c e) [
       | inl same ↦ inl (inl (
         length queue,
         (let lt : next < length queue = within in omega arith),
         (let longer : length (queue ++ e ∷ []) ≡ length queue + 1 = length-append queue (e ∷ []) in omega arith),
         get_or_at queue e [] c (length queue) refl ∙ sym same,
       ))
-      | inr other ↦
-          let number : number_at m after c ≡ number_at m levels c = number_other levels e c n e_inside inside other in
-          let low_before : number_at m levels c < top = subst (λ k. k < top) number low in
-          let f_inside : IsInside m f = far_inside m c f g inside goes in
-          near_after c f g inside number f_inside flagged goes (now.near c f g inside low_before flagged goes)
+      | inr other ↦ near_after c f g flagged goes
+          (now.near c f g inside (sym (marked_other marks e c e_inside inside other) ∙ marked) flagged goes)
     ];
   }
     where
-      n : ℕ
-      n = number_at m levels at + 1
-
-      after : List ℕ
-      after = set levels (index_of m e) n
-
       e_inside : IsInside m e
       e_inside = far_inside m at e d at_inside leads
 
-      known_after : (c : Chip) → IsInside m c → number_at m levels c < top → number_at m (set levels (index_of m e) (number_at m levels at + 1)) c < top
-      known_after c inside low = elim (cases_chip c e) [
-        | inl same ↦ subst (λ k. k < top) (sym (number_same levels e c (number_at m levels at + 1) now.long (far_inside m at e d at_inside leads) inside same)) (omega arith)
-        | inr other ↦ subst (λ k. k < top) (sym (number_other levels e c (number_at m levels at + 1) (far_inside m at e d at_inside leads) inside other)) low
-      ]
-
-      at_same : number_at m (set levels (index_of m e) (number_at m levels at + 1)) at ≡ number_at m levels at
-      at_same = number_other levels e at (number_at m levels at + 1) (far_inside m at e d at_inside leads) at_inside (far_other m at e d leads)
+      still : (c : Chip) → is_marked m marks c ≡ true → is_marked m (set marks (index_of m e) true) c ≡ true
+      still c marked = still_marked marks e c now.long (far_inside m at e d at_inside leads) marked
 
       further : (c : Chip) → Waits queue (next + 1) c → Waits (queue ++ e ∷ []) (next + 1) c
       further c waits = (
@@ -207,160 +177,118 @@ module _ (m : Description) (table : List Bool) (seeds : List Chip) (top : ℕ) w
         get_or_append_left queue (e ∷ []) c waits.0 waits.2 ∙ waits.3,
       )
 
-      near_after : (c f : Chip) (g : Dir) → IsInside m c →
-          number_at m (set levels (index_of m e) (number_at m levels at + 1)) c ≡ number_at m levels c → IsInside m f →
-          is_flagged m table c g ≡ true → far_of m c g ≡ Some f →
-          WaitsFrom queue next at (dir_number d) c (dir_number g) ⊎ (number_at m levels f ≤ number_at m levels c + 1) →
-          WaitsFrom (queue ++ e ∷ []) next at (dir_number d + 1) c (dir_number g)
-          ⊎ (number_at m (set levels (index_of m e) (number_at m levels at + 1)) f ≤ number_at m (set levels (index_of m e) (number_at m levels at + 1)) c + 1)
-      near_after c f g inside number f_inside flagged goes (inl (inl waits)) = inl (inl (further c waits))
-      near_after c f g inside number f_inside flagged goes (inl (inr here)) = elim (cases_eq (dir_number g) (dir_number d)) [
+      near_after : (c f : Chip) (g : Dir) → is_flagged m table c g ≡ true → far_of m c g ≡ Some f →
+          WaitsFrom queue next at (dir_number d) c (dir_number g) ⊎ (is_marked m marks f ≡ true) →
+          WaitsFrom (queue ++ e ∷ []) next at (dir_number d + 1) c (dir_number g) ⊎ (is_marked m (set marks (index_of m e) true) f ≡ true)
+      near_after c f g flagged goes (inl (inl waits)) = inl (inl (further c waits))
+      near_after c f g flagged goes (inl (inr here)) = elim (cases_eq (dir_number g) (dir_number d)) [
         | inr other ↦ inl (inr (here.0, (let from : dir_number d ≤ dir_number g = here.1 in omega arith)))
         | inl same ↦
             let leads_here : far_of m at d ≡ Some f =
             ap (λ (o : Dir). far_of m at o) (sym (same_dir g d same)) ∙ (ap (λ (x : Chip). far_of m x g) (sym here.0) ∙ goes) in
             let is_e : Some f ≡ Some e = sym leads_here ∙ leads in
             let f_is : f ≡ e = cc in
-            let is_at : number_at m levels c ≡ number_at m levels at = ap (λ (x : Chip). number_at m levels x) here.0 in
-            let now_f : number_at m (set levels (index_of m e) (number_at m levels at + 1)) f ≡ number_at m levels at + 1 =
-            number_same levels e f (number_at m levels at + 1) now.long (far_inside m at e d at_inside leads) f_inside f_is in
-            inr (omega arith)
+            inr (marked_here marks e f now.long (far_inside m at e d at_inside leads) f_is)
       ]
-      near_after c f g inside number f_inside flagged goes (inr done) = elim (cases_chip f e) [
-        | inl same ↦
-            let now_f : number_at m (set levels (index_of m e) (number_at m levels at + 1)) f ≡ number_at m levels at + 1 =
-            number_same levels e f (number_at m levels at + 1) now.long (far_inside m at e d at_inside leads) f_inside same in
-            let before : number_at m levels f ≡ number_at m levels e = ap (λ (x : Chip). number_at m levels x) same in
-            inr (omega arith)
-        | inr other ↦
-            let now_f : number_at m (set levels (index_of m e) (number_at m levels at + 1)) f ≡ number_at m levels f =
-            number_other levels e f (number_at m levels at + 1) (far_inside m at e d at_inside leads) f_inside other in
-            inr (omega arith)
-      ]
+      near_after c f g flagged goes (inr done) = inr (still_marked marks e f now.long (far_inside m at e d at_inside leads) done)
 
-  -- the numbers before the search: 0 at the seeds, top elsewhere
-  pub start : (levels : List ℕ) → 0 < top → length levels ≡ m.width * m.height → All (IsInside m) seeds →
-      ((a : Chip) → Contains seeds a → number_at m levels a ≡ 0) → ((c : Chip) → IsInside m c → number_at m levels c < top → Contains seeds c) →
-      Ongoing levels seeds (λ c j. Waits seeds 0 c)
-  start levels some long inside zero_at only = record {
+  -- the marks before the search: those of the seeds
+  pub start : (marks : List Bool) → length marks ≡ m.width * m.height → All (IsInside m) seeds →
+      ((c : Chip) → IsInside m c → (is_marked m marks c ≡ true) ↔ Contains seeds c) → Ongoing marks seeds (λ c j. Waits seeds 0 c)
+  start marks long inside told = record {
     long = long;
     inside = inside;
-    known = λ k x h. subst (λ n. n < top) (sym (zero_at (get_or seeds k x) (Contains-get_or seeds k x h))) some;
-    at_seeds = zero_at;
-    walks = λ c c_inside low.
-        subst (λ n. IsReachedBy (FlaggedStep m table) (Contains seeds) n c) (sym (zero_at c (only c c_inside low))) (c, only c c_inside low, refl);
-    few = λ c c_inside low. subst (λ n. n ≤ length seeds) (sym (zero_at c (only c c_inside low))) (omega arith);
-    near = λ c e d c_inside low flagged leads. let has = only c c_inside low in inl (has.0, omega arith, has.1, has.2);
+    known = λ k x h. (told (get_or seeds k x) (inside k x h)).1 (Contains-get_or seeds k x h);
+    at_seeds = λ a has. (told a (All-contains (IsInside m) seeds a inside has)).1 has;
+    walks = λ c c_inside marked. (0, (c, (told c c_inside).0 marked, refl));
+    near = λ c e d c_inside marked flagged leads. let has = (told c c_inside).0 marked in inl (has.0, omega arith, has.1, has.2);
   }
 
-  -- when no link waits, each chip that a walk reaches has a number of at most the walk's steps
-  pub reached_low : (levels : List ℕ) (queue : List Chip) (next : ℕ) → length queue ≤ next → length queue + 1 < top → All (IsInside m) seeds →
-      Ongoing levels queue (λ c j. Waits queue next c) → (k : ℕ) (a c : Chip) → Contains seeds a → Steps (FlaggedStep m table) k a c →
-      IsInside m c × (number_at m levels c ≤ k) × (number_at m levels c < top)
-  reached_low levels queue next done high seeds_inside now zero a c has walk =
-      let at_zero : number_at m levels c ≡ 0 = subst (λ (x : Chip). number_at m levels x ≡ 0) walk (now.at_seeds a has) in
-      (subst (λ (x : Chip). IsInside m x) walk (All-contains (IsInside m) seeds a seeds_inside has), omega arith, omega arith)
-  reached_low levels queue next done high seeds_inside now (suc k) a c has walk =
-      let before = reached_low levels queue next done high seeds_inside now k a walk.0 has walk.1 in
-      let few : number_at m levels walk.0 ≤ length queue = now.few walk.0 before.0 before.2 in
-      let at_most : number_at m levels walk.0 ≤ k = before.1 in
-      let link = walk.2.1 in
-      let near : number_at m levels c ≤ number_at m levels walk.0 + 1 = elim (now.near walk.0 c link.0 before.0 before.2 link.1 link.2) [
-        | inl waits ↦ absurd (let from : next ≤ waits.0 = waits.1 in let to : waits.0 < length queue = waits.2 in omega arith)
-        | inr close ↦ close
-      ] in
-      (far_inside m walk.0 c link.0 before.0 link.2, omega arith, omega arith)
+  -- when no link waits, each chip that a walk reaches is marked
+  reached_marked : (marks : List Bool) (queue : List Chip) (next : ℕ) → length queue ≤ next → All (IsInside m) seeds →
+      Ongoing marks queue (λ c j. Waits queue next c) → (k : ℕ) (a c : Chip) → Contains seeds a → Steps (FlaggedStep m table) k a c →
+      IsInside m c × (is_marked m marks c ≡ true)
+  reached_marked marks queue next done seeds_inside now zero a c has walk = (
+    subst (λ (x : Chip). IsInside m x) walk (All-contains (IsInside m) seeds a seeds_inside has),
+    subst (λ (x : Chip). is_marked m marks x ≡ true) walk (now.at_seeds a has),
+  )
+  reached_marked marks queue next done seeds_inside now (suc k) a c has walk =
+      let before = reached_marked marks queue next done seeds_inside now k a walk.0 has walk.1 in
+      let link = walk.2.1 in (
+        far_inside m walk.0 c link.0 before.0 link.2,
+        elim (now.near walk.0 c link.0 before.0 before.1 link.1 link.2) [
+          | inl waits ↦ absurd (let from : next ≤ waits.0 = waits.1 in let to : waits.0 < length queue = waits.2 in omega arith)
+          | inr marked ↦ marked
+        ],
+      )
 
-  -- then the numbers are the levels
-  pub level_found : (levels : List ℕ) (queue : List Chip) (next : ℕ) → length queue ≤ next → length queue + 1 < top → All (IsInside m) seeds →
-      Ongoing levels queue (λ c j. Waits queue next c) → (c : Chip) → IsInside m c → number_at m levels c < top →
-      IsStepLevel (FlaggedStep m table) (Contains seeds) c (number_at m levels c)
-  level_found levels queue next done high seeds_inside now c inside low = record {
-    reached = now.walks c inside low;
-    least = λ k by. (reached_low levels queue next done high seeds_inside now k by.0 c by.1 by.2).1;
+  -- then the marked chips are those that walks reach
+  pub marked_reached : (marks : List Bool) (queue : List Chip) (next : ℕ) → length queue ≤ next → All (IsInside m) seeds →
+      Ongoing marks queue (λ c j. Waits queue next c) → (c : Chip) → IsInside m c →
+      (is_marked m marks c ≡ true) ↔ ((n : ℕ) × IsReachedBy (FlaggedStep m table) (Contains seeds) n c)
+  marked_reached marks queue next done seeds_inside now c inside = (
+    λ marked. now.walks c inside marked,
+    λ way. (reached_marked marks queue next done seeds_inside now way.0 way.1.0 c way.1.1 way.1.2).1,
+  )
+
+  -- the chip at next is taken, and its links are still to be looked at
+  pub start_looking : (marks : List Bool) (queue : List Chip) (next : ℕ) (at : Chip) → next < length queue →
+      at ≡ get_or queue next at → Ongoing marks queue (λ c j. Waits queue next c) → Looking marks queue next at 0
+  start_looking marks queue next at within at_is now = record {
+    within = within;
+    is_at = sym at_is;
+    at_inside = subst (λ (x : Chip). IsInside m x) (sym at_is) (now.inside next at within);
+    at_marked = subst (λ (x : Chip). is_marked m marks x ≡ true) (sym at_is) (now.known next at within);
+    ongoing = start_links marks queue next at within (sym at_is) now;
   }
 
-  pub reached_known : (levels : List ℕ) (queue : List Chip) (next : ℕ) → length queue ≤ next → length queue + 1 < top → All (IsInside m) seeds →
-      Ongoing levels queue (λ c j. Waits queue next c) → (c : Chip) (k : ℕ) → IsReachedBy (FlaggedStep m table) (Contains seeds) k c →
-      number_at m levels c < top
-  reached_known levels queue next done high seeds_inside now c k by =
-      (reached_low levels queue next done high seeds_inside now k by.0 c by.1 by.2).2
-
-  -- the chip at next is taken: its number is read, and its links are still to be looked at
-  pub start_looking : (levels : List ℕ) (queue : List Chip) (next : ℕ) (at : Chip) (place number : ℕ) → next < length queue →
-      at ≡ get_or queue next at → place ≡ index_of m at → number ≡ get_or levels place number →
-      Ongoing levels queue (λ c j. Waits queue next c) → Looking levels queue next at 0 (number + 1)
-  start_looking levels queue next at place number within at_is place_is number_is now =
-      let inside : IsInside m at = subst (λ (x : Chip). IsInside m x) (sym at_is) (now.inside next at within) in
-      let below : place < length levels = let grid : index_of m at < m.width * m.height = index_below m at inside in
-      let long : length levels ≡ m.width * m.height = now.long in omega arith in
-      let is : number ≡ number_at m levels at =
-      number_is ∙ (get_or_default levels place number 0 below ∙ ap (λ k. get_or levels k 0) place_is) in
-      record {
-        within = within;
-        is_at = sym at_is;
-        at_inside = inside;
-        at_low = subst (λ (x : Chip). number_at m levels x < top) (sym at_is) (now.known next at within);
-        count_is = ap (λ n. n + 1) is;
-        ongoing = start_links levels queue next at within (sym at_is) now;
-      }
-
-  -- a link that leads nowhere, or to no greater number
-  pub look_past : (levels : List ℕ) (queue : List Chip) (next : ℕ) (at : Chip) (i count : ℕ) (d : Dir) → dir_number d ≡ i →
-      ((e : Chip) → is_flagged m table at d ≡ true → far_of m at d ≡ Some e → number_at m levels e ≤ count) →
-      Looking levels queue next at i count → Looking levels queue next at (i + 1) count
-  look_past levels queue next at i count d link fine now = record {
+  -- a link that leads nowhere, or to a marked chip
+  pub look_past : (marks : List Bool) (queue : List Chip) (next : ℕ) (at : Chip) (i : ℕ) (d : Dir) → dir_number d ≡ i →
+      ((e : Chip) → is_flagged m table at d ≡ true → far_of m at d ≡ Some e → is_marked m marks e ≡ true) →
+      Looking marks queue next at i → Looking marks queue next at (i + 1)
+  look_past marks queue next at i d link fine now = record {
     within = now.within;
     is_at = now.is_at;
     at_inside = now.at_inside;
-    at_low = now.at_low;
-    count_is = now.count_is;
-    ongoing = subst (λ k. Ongoing levels queue (WaitsFrom queue next at (k + 1))) link
-        (pass_link levels queue next at d (λ e flagged leads. subst (λ n. number_at m levels e ≤ n) now.count_is (fine e flagged leads))
-        (subst (λ k. Ongoing levels queue (WaitsFrom queue next at k)) (sym link) now.ongoing));
+    at_marked = now.at_marked;
+    ongoing = subst (λ k. Ongoing marks queue (WaitsFrom queue next at (k + 1))) link
+        (pass_link marks queue next at d fine
+        (subst (λ k. Ongoing marks queue (WaitsFrom queue next at k)) (sym link) now.ongoing));
   }
 
-  -- the number read of the chip to which a link leads
-  pub number_read : (levels : List ℕ) (e : Chip) (place number : ℕ) → length levels ≡ m.width * m.height → IsInside m e → place ≡ index_of m e →
-      number ≡ get_or levels place number → number ≡ number_at m levels e
-  number_read levels e place number long inside place_is number_is =
-      let below : place < length levels = let grid : index_of m e < m.width * m.height = index_below m e inside in omega arith in
-      number_is ∙ (get_or_default levels place number 0 below ∙ ap (λ k. get_or levels k 0) place_is)
+  -- the mark read of the chip to which a link leads
+  pub mark_read : (marks : List Bool) (e : Chip) (place : ℕ) (marked : Bool) → length marks ≡ m.width * m.height → IsInside m e → place ≡ index_of m e →
+      marked ≡ get_or marks place marked → marked ≡ is_marked m marks e
+  mark_read marks e place marked long inside place_is marked_is =
+      let below : place < length marks = let grid : index_of m e < m.width * m.height = index_below m e inside in omega arith in
+      marked_is ∙ (get_or_default marks place marked false below ∙ ap (λ k. get_or marks k false) place_is)
 
-  -- a link that leads to a greater number
-  pub look_lower : (levels : List ℕ) (queue : List Chip) (next : ℕ) (at e : Chip) (i count place : ℕ) (d : Dir) → dir_number d ≡ i →
-      is_flagged m table at d ≡ true → far_of m at d ≡ Some e → place ≡ index_of m e → count < number_at m levels e → length queue + 1 < top →
-      Looking levels queue next at i count → Looking (set levels place count) (queue ++ e ∷ []) next at (i + 1) count
-  look_lower levels queue next at e i count place d link flagged leads place_is more high now =
+  -- a link that leads to an unmarked chip
+  pub look_at_end : (marks : List Bool) (queue : List Chip) (next : ℕ) (at e : Chip) (i place : ℕ) (d : Dir) → dir_number d ≡ i →
+      is_flagged m table at d ≡ true → far_of m at d ≡ Some e → place ≡ index_of m e →
+      Looking marks queue next at i → Looking (set marks place true) (queue ++ e ∷ []) next at (i + 1)
+  look_at_end marks queue next at e i place d link flagged leads place_is now =
       let inside : IsInside m e = far_inside m at e d now.at_inside leads in
       let longer : length (queue ++ e ∷ []) ≡ length queue + 1 = length-append queue (e ∷ []) in
-      let lowered : List ℕ = set levels (index_of m e) (number_at m levels at + 1) in
-      let same : set levels place count ≡ lowered =
-      ap (λ k. set levels k count) place_is ∙ ap (λ n. set levels (index_of m e) n) now.count_is in
-      let kept : number_at m lowered at ≡ number_at m levels at =
-      number_other levels e at (number_at m levels at + 1) inside now.at_inside (far_other m at e d leads) in
-      subst (λ ns. Looking ns (queue ++ e ∷ []) next at (i + 1) count) (sym same) (record {
+      subst (λ p. Looking (set marks p true) (queue ++ e ∷ []) next at (i + 1)) (sym place_is) (record {
         within = let before : next < length queue = now.within in omega arith;
         is_at = get_or_append_left queue (e ∷ []) at next now.within ∙ now.is_at;
         at_inside = now.at_inside;
-        at_low = subst (λ n. n < top) (sym kept) now.at_low;
-        count_is = now.count_is ∙ ap (λ n. n + 1) (sym kept);
-        ongoing = subst (λ k. Ongoing lowered (queue ++ e ∷ []) (WaitsFrom (queue ++ e ∷ []) next at (k + 1))) link
-            (lower levels queue next at e d now.at_inside flagged leads now.within now.is_at now.at_low
-            (subst (λ n. n < number_at m levels e) now.count_is more)
-            (let few : number_at m levels at ≤ length queue = now.ongoing.few at now.at_inside now.at_low in omega arith)
-            (subst (λ k. Ongoing levels queue (WaitsFrom queue next at k)) (sym link) now.ongoing));
+        at_marked = still_marked marks e at now.ongoing.long inside now.at_marked;
+        ongoing = subst (λ k. Ongoing (set marks (index_of m e) true) (queue ++ e ∷ []) (WaitsFrom (queue ++ e ∷ []) next at (k + 1))) link
+            (mark_end marks queue next at e d now.at_inside flagged leads now.within now.at_marked
+            (subst (λ k. Ongoing marks queue (WaitsFrom queue next at k)) (sym link) now.ongoing));
       })
 
-  -- a number that is lowered weighs more than the place that its chip takes in the queue
-  pub weight_falls : (levels : List ℕ) (queue : List Chip) (e : Chip) (place count most : ℕ) → length levels ≡ m.width * m.height → IsInside m e →
-      place ≡ index_of m e → count < number_at m levels e → 2 * sum_by (λ n. n) levels + length queue ≤ most →
-      2 * sum_by (λ n. n) (set levels place count) + length (queue ++ e ∷ []) ≤ most
-  weight_falls levels queue e place count most long inside place_is more before =
-      let below : place < length levels = let grid : index_of m e < m.width * m.height = index_below m e inside in omega arith in
-      let moved : sum_by (λ n. n) (set levels place count) + get_or levels place 0 ≡ sum_by (λ n. n) levels + count =
-      sum_by-set (λ n. n) levels place count 0 below in
-      let old : get_or levels place 0 ≡ number_at m levels e = ap (λ k. get_or levels k 0) place_is in
+  -- a mark more weighs as much less as two chips in the queue
+  pub weight_falls : (marks : List Bool) (queue : List Chip) (e : Chip) (place most : ℕ) → length marks ≡ m.width * m.height → IsInside m e →
+      place ≡ index_of m e → is_marked m marks e ≡ false → 2 * sum_by unmarked marks + length queue ≤ most →
+      2 * sum_by unmarked (set marks place true) + length (queue ++ e ∷ []) ≤ most
+  weight_falls marks queue e place most long inside place_is clear before =
+      let below : place < length marks = let grid : index_of m e < m.width * m.height = index_below m e inside in omega arith in
+      let moved : sum_by unmarked (set marks place true) + unmarked (get_or marks place false) ≡ sum_by unmarked marks + 0 =
+      sum_by-set unmarked marks place true false below in
+      let old : unmarked (get_or marks place false) ≡ 1 = ap (λ k. unmarked (get_or marks k false)) place_is ∙ ap unmarked clear in
       let longer : length (queue ++ e ∷ []) ≡ length queue + 1 = length-append queue (e ∷ []) in
       omega arith
 

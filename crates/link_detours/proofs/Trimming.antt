@@ -1,5 +1,5 @@
 -- Trees of which nothing has to be taken off.
-use Rattle.std.proofs.Common.{◌≡◌, ℕ, zero, suc, ◌+◌, ◌<◌, ◌≤◌, List, [], ◌∷◌, ◌++◌, length, get_or, map, take, Some, refl, sym, ap, ◌∙◌, subst, arith, inl, inr, ◌↔◌}
+use Rattle.std.proofs.Common.{◌≡◌, ℕ, zero, suc, ◌+◌, ◌<◌, ◌≤◌, Bool, true, List, [], ◌∷◌, ◌++◌, length, get_or, map, take, Some, refl, sym, ap, ◌∙◌, subst, arith, inl, inr, ◌↔◌}
 use Rattle.std.specs.List.{Contains, All, Any}
 use Rattle.std.proofs.lemmas.List.{take_more, get_or_default, get_or-map, length-map}
 use Rattle.std.proofs.lemmas.List.Elements.{All-contains, Contains-get_or, Contains-append_cases, All-more}
@@ -13,7 +13,7 @@ use Rattle.machine_desc.specs.RoutingTree.{end_of, IsTreeChip, IsPath, IsTreeTo}
 use Rattle.machine_desc.proofs.Far.{live_ends, far_inside}
 use Rattle.link_detours.specs.Steps.{Steps}
 use Rattle.machine_desc.specs.Flags.{link_place}
-use Rattle.link_detours.specs.Usable.{number_at}
+use Rattle.link_detours.specs.Usable.{is_marked}
 use Rattle.link_detours.specs.Repair.{EdgeStep, LeadsToTarget, AreInPlaceOrder}
 use Rattle.link_detours.specs.Whole.{IsWholeTree, GoesOnFrom}
 use Rattle.link_detours.proofs.Stepping.{Steps-first}
@@ -56,13 +56,13 @@ chips_inside m edges targets inside targets_inside k d h =
     ]
 
 -- edges that end at chips which a table lists go on
-pub goes_on : (m : Description) (edges : List Edge) (targets chips : List Chip) (table : List ℕ) (top : ℕ) → chips ≡ targets ++ map (λ e. e.chip) edges →
-    All (λ e. IsInside m e.chip) edges → ((c : Chip) → IsInside m c → number_at m table c < top → Contains chips c) →
-    All (λ e. (c : Chip) → end_of m e ≡ Some c → number_at m table c < top) edges →
+pub goes_on : (m : Description) (edges : List Edge) (targets chips : List Chip) (table : List Bool) → chips ≡ targets ++ map (λ e. e.chip) edges →
+    All (λ e. IsInside m e.chip) edges → ((c : Chip) → IsInside m c → is_marked m table c ≡ true → Contains chips c) →
+    All (λ e. (c : Chip) → end_of m e ≡ Some c → is_marked m table c ≡ true) edges →
     All (λ e. (c : Chip) → end_of m e ≡ Some c → GoesOnFrom edges targets c) edges
-goes_on m edges targets chips table top is inside listed low k d h c leads =
+goes_on m edges targets chips table is inside listed marked k d h c leads =
     let e : Edge = get_or edges k d in
-    let has : Contains chips c = listed c (far_inside m e.chip c e.dir (inside k d h) leads) (low k d h c leads) in
+    let has : Contains chips c = listed c (far_inside m e.chip c e.dir (inside k d h) leads) (marked k d h c leads) in
     elim (Contains-append_cases targets (map (λ e. e.chip) edges) c (subst (λ cs. Contains cs c) is has)) [
       | inl target ↦ inr target
       | inr begin ↦ inl (map_has edges c begin)

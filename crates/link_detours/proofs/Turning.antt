@@ -1,8 +1,7 @@
 -- Edges from their other ends, and which of them a search from the targets reaches.
-use Rattle.std.proofs.Common.{◌≡◌, ℕ, ◌<◌, Bool, true, ltb, List, get_or, Option, Some, None, refl, sym, ap, ◌∙◌, subst, ◌↔◌}
+use Rattle.std.proofs.Common.{◌≡◌, ℕ, Bool, true, List, get_or, Option, Some, None, refl, sym, ap, ◌∙◌, subst, ◌↔◌}
 use Rattle.std.specs.List.{Contains, All, filter, filter_map}
 use Rattle.std.specs.Option.{option_map}
-use Rattle.std.proofs.lemmas.Bool.{lt-ltb, ltb-true}
 use Rattle.std.proofs.lemmas.List.Elements.{All-contains, Contains-get_or}
 use Rattle.spin_base.specs.declared.chips.Chip.{Chip}
 use Rattle.spin_base.specs.declared.chips.Dir.{Dir}
@@ -14,9 +13,9 @@ use Rattle.machine_desc.specs.RoutingTree.{end_of}
 use Rattle.machine_desc.proofs.Far.{far_inside, far_back, opposite_of-opposite}
 use Rattle.machine_desc.proofs.Same.{same_edge}
 use Rattle.spin_base.proofs.Members.{Contains-from_filter, Contains-filter, Contains-from_filter_map, Contains-filter_map}
-use Rattle.link_detours.specs.Steps.{IsReachedBy, IsStepLevel}
+use Rattle.link_detours.specs.Steps.{IsReachedBy}
 use Rattle.machine_desc.specs.Flags.{is_flagged}
-use Rattle.link_detours.specs.Usable.{FlaggedStep, number_at, other_end_of}
+use Rattle.link_detours.specs.Usable.{FlaggedStep, is_marked, other_end_of}
 use Rattle.link_detours.specs.Repair.{EdgeStep, LeadsToTarget}
 use Rattle.link_detours.proofs.Reaching.{flagged_edges, edges_flagged}
 use Rattle.link_detours.proofs.Stepping.{Steps-map, Steps-turn}
@@ -76,28 +75,28 @@ module _ (m : Description) (whole : List Edge) (inside : All (λ e. IsInside m e
       )
 
   -- the turned edges that a search from the targets reaches, turned again, are the edges that lead to a target
-  pub left_leads : (table : List Bool) (targets : List Chip) (counts : List ℕ) (top : ℕ) →
+  pub left_leads : (table : List Bool) (targets : List Chip) (marks : List Bool) →
       ((e : Edge) → IsInside m e.chip → (is_flagged m table e.chip e.dir ≡ true) ↔ Contains (filter_map (other_end_of m) whole) e) →
-      ((c : Chip) → IsInside m c → number_at m counts c < top → IsStepLevel (FlaggedStep m table) (Contains targets) c (number_at m counts c)) →
-      ((c : Chip) (n : ℕ) → IsReachedBy (FlaggedStep m table) (Contains targets) n c → number_at m counts c < top) →
-      (e : Edge) → Contains (filter_map (other_end_of m) (filter (λ f. ltb (number_at m counts f.chip) top) (filter_map (other_end_of m) whole))) e ↔
+      ((c : Chip) → IsInside m c → (is_marked m marks c ≡ true) ↔ ((n : ℕ) × IsReachedBy (FlaggedStep m table) (Contains targets) n c)) →
+      (e : Edge) → Contains (filter_map (other_end_of m) (filter (λ f. is_marked m marks f.chip) (filter_map (other_end_of m) whole))) e ↔
       (Contains whole e × LeadsToTarget m whole targets e)
-  left_leads table targets counts top flags levels reached e = (
+  left_leads table targets marks flags reached e = (
     λ has.
-        let f = Contains-from_filter_map (other_end_of m) (filter (λ g. ltb (number_at m counts g.chip) top) (filter_map (other_end_of m) whole)) e has in
-        let kept = Contains-from_filter (λ g. ltb (number_at m counts g.chip) top) (filter_map (other_end_of m) whole) f.0 f.1 in
+        let f = Contains-from_filter_map (other_end_of m) (filter (λ g. is_marked m marks g.chip) (filter_map (other_end_of m) whole)) e has in
+        let kept = Contains-from_filter (λ g. is_marked m marks g.chip) (filter_map (other_end_of m) whole) f.0 f.1 in
         let from = Contains-from_filter_map (other_end_of m) whole f.0 kept.0 in
         let from_in = edge_in from.0 from.1 in
         let same : Some from.0 ≡ Some e = sym (turned_back m from.0 f.0 from_in from.2) ∙ f.2 in
         let one : from.0 ≡ e = cc in
         let parts = turned_leads m from.0 f.0 from.2 in
         let f_in = far_inside m from.0.chip f.0.chip from.0.dir from_in parts.0 in
-        let by = (levels f.0.chip f_in (ltb-true (number_at m counts f.0.chip) top kept.1)).reached in
+        let way = (reached f.0.chip f_in).0 kept.1 in
+        let by = way.1 in
         let up = Steps-map (FlaggedStep m table) (EdgeStep m (filter_map (other_end_of m) whole)) (flagged_edges m table (filter_map (other_end_of m) whole) flags)
-        (number_at m counts f.0.chip) by.0 f.0.chip by.2 in
-        let down = Steps-turn (EdgeStep m (filter_map (other_end_of m) whole)) (EdgeStep m whole) step_turned (number_at m counts f.0.chip) by.0 f.0.chip up in (
+        way.0 by.0 f.0.chip by.2 in
+        let down = Steps-turn (EdgeStep m (filter_map (other_end_of m) whole)) (EdgeStep m whole) step_turned way.0 by.0 f.0.chip up in (
           subst (λ (g : Edge). Contains whole g) one from.1,
-          (f.0.chip, ap (λ (g : Edge). end_of m g) (sym one) ∙ parts.0, (by.0, by.1, (number_at m counts f.0.chip, down))),
+          (f.0.chip, ap (λ (g : Edge). end_of m g) (sym one) ∙ parts.0, (by.0, by.1, (way.0, down))),
         ),
     λ known.
         let lead = known.1 in
@@ -108,7 +107,7 @@ module _ (m : Description) (whole : List Edge) (inside : All (λ e. IsInside m e
         let up = Steps-turn (EdgeStep m whole) (EdgeStep m (filter_map (other_end_of m) whole)) (λ a b step. turned_step b a step) lead.2.2.0 lead.0 lead.2.0 lead.2.2.1 in
         let flagged = Steps-map (EdgeStep m (filter_map (other_end_of m) whole)) (FlaggedStep m table)
         (edges_flagged m table (filter_map (other_end_of m) whole) flags turned_inside) lead.2.2.0 lead.2.0 lead.0 up in
-        let low = reached lead.0 lead.2.2.0 (lead.2.0, lead.2.1, flagged) in
-        let kept = Contains-filter (λ g. ltb (number_at m counts g.chip) top) (filter_map (other_end_of m) whole) f f_has (lt-ltb (number_at m counts lead.0) top low) in
-        Contains-filter_map (other_end_of m) (filter (λ g. ltb (number_at m counts g.chip) top) (filter_map (other_end_of m) whole)) f e kept (turned_back m e f e_in is),
+        let marked = (reached lead.0 (far_inside m e.chip lead.0 e.dir e_in lead.1)).1 (lead.2.2.0, (lead.2.0, lead.2.1, flagged)) in
+        let kept = Contains-filter (λ g. is_marked m marks g.chip) (filter_map (other_end_of m) whole) f f_has marked in
+        Contains-filter_map (other_end_of m) (filter (λ g. is_marked m marks g.chip) (filter_map (other_end_of m) whole)) f e kept (turned_back m e f e_in is),
   )

@@ -1,5 +1,5 @@
 -- The steps that flagged links allow.
-use Rattle.std.specs.Prelude.{◌≡◌, ℕ, Bool, true, List, slice_index, Option, Some}
+use Rattle.std.specs.Prelude.{◌≡◌, Bool, true, false, List, slice_index_or, Option, Some}
 use Rattle.std.specs.Option.{option_map}
 use Rattle.spin_base.specs.declared.chips.Chip.{Chip}
 use Rattle.spin_base.specs.declared.chips.Dir.{Dir}
@@ -13,9 +13,9 @@ use Rattle.machine_desc.specs.Live.{far_of, index_of, IsInside}
 abbrev pub FlaggedStep : Description → List Bool → Chip → Chip → Type 0
 FlaggedStep m table a b = IsInside m a × ((d : Dir) × (is_flagged m table a d ≡ true) × (far_of m a d ≡ Some b))
 
--- the number that a table has for a chip
-abbrev pub number_at : Description → List ℕ → Chip → ℕ
-number_at m table c = slice_index table (index_of m c)
+-- whether a table with a place for each chip marks a chip
+abbrev pub is_marked : Description → List Bool → Chip → Bool
+is_marked m marks c = slice_index_or marks (index_of m c) false
 
 -- the same link from its other end, where it leads anywhere
 abbrev pub other_end_of : Description → Edge → Option Edge

@@ -1,9 +1,9 @@
 // Detours: the shortest way over live links from a tree to a chip that it doesn't have.
-ghost use Rattle.std.specs.Prelude.{◌≡◌, ℕ, ◌+◌, ◌*◌, ◌<◌, ◌≤◌, ◌↔◌, List, ◌++◌, length, map, All, IfOk, IfSome, IfNone, IsTrue, false};
+ghost use Rattle.std.specs.Prelude.{◌≡◌, ℕ, ◌+◌, ◌*◌, ◌<◌, ◌≤◌, ◌↔◌, List, ◌++◌, length, map, All, IfOk, IfSome, IfNone, IsTrue, true, false};
 ghost use Rattle.machine_desc.specs.Live.{IsInside, LeadsTo};
 ghost use Rattle.machine_desc.specs.RoutingTree.{IsTreeChip};
 ghost use Rattle.link_detours.specs.Steps.{Steps, IsReachedBy, IsStepLevel};
-ghost use Rattle.link_detours.specs.Usable.{number_at};
+ghost use Rattle.link_detours.specs.Usable.{is_marked};
 ghost use Rattle.link_detours.specs.Repair.{EdgeStep, IsTreeLevel, IsDetour, IsCutOff};
 ghost use Rattle.link_detours.specs.LiveRoads.{AreRoadsOf};
 ghost use Rattle.link_detours.specs.Waves.{IsIn, AreWaves, IsStepFrom, IsBestStep};
@@ -11,29 +11,29 @@ ghost use Rattle.spin_base.specs.declared.chips.Chip.{Chip};
 ghost use Rattle.machine_desc.specs.declared.trees.Edge.{Edge};
 
 use crate::roads::Roads;
-use crate::searches::{UNREACHED, step_counts};
+use crate::searches::reached_chips;
 use crate::sets::{has, put, same_sets, spread};
 use crate::tables::link_table;
 use machine_desc::{Edge, Machine};
 use spin_base::{Chip, Dir, Memory};
 use std::alloc::Global;
 
-// The number of edges from the root to each chip that the edges join to it.
+// A table that marks the chips that the edges join to the root.
 pub fn tree_reach(
     alloc: Global,
     machine: &Machine,
     root: Chip,
     edges: &[Edge],
-) -> Result<Vec<u64>, Memory>
+) -> Result<Vec<bool>, Memory>
     requires root_inside { IsInside machine.now root }
     requires inside { All (λ e. IsInside machine.now e.chip) edges.now }
     ensures long { IfOk result (λ t. length t.items ≡ machine.now.width * machine.now.height) }
     ensures reach { IfOk result (λ t. (c : Chip) → IsInside machine.now c →
-        (number_at machine.now t.items c < UNREACHED)
+        (is_marked machine.now t.items c ≡ true)
         ↔ ((n : ℕ) × Steps (EdgeStep machine.now edges.now) n root c)) }
 {
     let table = link_table(alloc, machine, edges)?;
-    let reach = step_counts(alloc, machine, &table, &[root])?;
+    let reach = reached_chips(alloc, machine, &table, &[root])?;
     Ok(reach)
 }
 

@@ -1,13 +1,12 @@
 // Lists of edges: those that are live, those that a search reached, and the same links from their other ends.
-ghost use Rattle.std.specs.Prelude.{◌≡◌, ◌+◌, ◌*◌, ◌<◌, ◌≤◌, ◌↔◌, length, All, IfOk, Contains, filter, nat_lt, map, Some, ℕ};
+ghost use Rattle.std.specs.Prelude.{◌≡◌, ◌+◌, ◌*◌, ◌<◌, ◌≤◌, ◌↔◌, length, All, IfOk, Contains, filter, map, Some, ℕ};
 ghost use Rattle.machine_desc.specs.Live.{IsInside, is_live_link, far_of, index_of};
 ghost use Rattle.machine_desc.specs.RoutingTree.{end_of};
 ghost use Rattle.std.specs.List.{filter_map};
-ghost use Rattle.link_detours.specs.Usable.{number_at, other_end_of};
+ghost use Rattle.link_detours.specs.Usable.{is_marked, other_end_of};
 ghost use Rattle.spin_base.specs.declared.chips.Chip.{Chip};
 ghost use Rattle.machine_desc.specs.declared.trees.Edge.{Edge};
 
-use crate::searches::UNREACHED;
 use machine_desc::{Edge, Machine};
 use spin_base::{Chip, Memory};
 use std::alloc::Global;
@@ -25,21 +24,21 @@ pub fn live_edges(alloc: Global, machine: &Machine, edges: &[Edge]) -> Result<Ve
     Ok(live)
 }
 
-// The edges that begin at a chip that the search reached.
+// The edges that begin at a chip that the table marks.
 pub fn reached_edges(
     alloc: Global,
     machine: &Machine,
-    counts: &[u64],
+    marks: &[bool],
     edges: &[Edge],
 ) -> Result<Vec<Edge>, Memory>
     requires inside { All (λ e. IsInside machine.now e.chip) edges.now }
-    requires long { length counts.now ≡ machine.now.width * machine.now.height }
+    requires long { length marks.now ≡ machine.now.width * machine.now.height }
     ensures { IfOk result (λ v. v.items
-        ≡ filter (λ e. nat_lt (number_at machine.now counts.now e.chip) UNREACHED) edges.now) }
+        ≡ filter (λ e. is_marked machine.now marks.now e.chip) edges.now) }
 {
-    let mut reached = Vec::new(alloc);
+    let mut reached = Vec::with_capacity(alloc, edges.len())?;
     for edge in edges {
-        if counts[machine.index(edge.chip) as usize] < UNREACHED {
+        if marks[machine.index(edge.chip) as usize] {
             reached.push(*edge)?;
         }
     }
@@ -51,7 +50,7 @@ pub fn turned_edges(alloc: Global, machine: &Machine, edges: &[Edge]) -> Result<
     requires { All (λ e. IsInside machine.now e.chip) edges.now }
     ensures { IfOk result (λ v. v.items ≡ filter_map (other_end_of machine.now) edges.now) }
 {
-    let mut turned = Vec::new(alloc);
+    let mut turned = Vec::with_capacity(alloc, edges.len())?;
     for edge in edges {
         if let Some(chip) = machine.far(edge.chip, edge.dir) {
             turned.push(Edge {

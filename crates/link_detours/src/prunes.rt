@@ -6,8 +6,8 @@ ghost use Rattle.spin_base.specs.declared.chips.Chip.{Chip};
 ghost use Rattle.machine_desc.specs.declared.trees.Edge.{Edge};
 
 use crate::edges::{reached_edges, turned_edges};
-use crate::searches::step_counts;
-use crate::tables::{flagged_links, link_table};
+use crate::searches::reached_chips;
+use crate::tables::{in_place_order, link_table};
 use machine_desc::{Edge, Machine};
 use spin_base::{Chip, Memory};
 use std::alloc::Global;
@@ -28,10 +28,9 @@ pub fn pruned(
 {
     let turned = turned_edges(alloc, machine, whole)?;
     let table = link_table(alloc, machine, &turned)?;
-    let counts = step_counts(alloc, machine, &table, targets)?;
-    let wanted = reached_edges(alloc, machine, &counts, &turned)?;
+    let marks = reached_chips(alloc, machine, &table, targets)?;
+    let wanted = reached_edges(alloc, machine, &marks, &turned)?;
     let left = turned_edges(alloc, machine, &wanted)?;
-    let flags = link_table(alloc, machine, &left)?;
-    let edges = flagged_links(alloc, machine, &flags)?;
+    let edges = in_place_order(alloc, machine, &left)?;
     Ok(edges)
 }

@@ -2,14 +2,14 @@
 ghost use Rattle.std.specs.Prelude.{◌≡◌, ℕ, ◌*◌, ◌<◌, ◌↔◌, ◌++◌, true, Some, length, map, All, IfOk, Contains};
 ghost use Rattle.machine_desc.specs.Live.{IsInside};
 ghost use Rattle.machine_desc.specs.RoutingTree.{end_of, IsTreeChip};
-ghost use Rattle.link_detours.specs.Usable.{number_at};
+ghost use Rattle.link_detours.specs.Usable.{is_marked};
 ghost use Rattle.link_detours.specs.Repair.{LeadsToTarget, AreInPlaceOrder};
 ghost use Rattle.link_detours.specs.Whole.{IsWholeTree, GoesOnFrom};
 ghost use Rattle.spin_base.specs.declared.chips.Chip.{Chip};
 ghost use Rattle.machine_desc.specs.declared.trees.Edge.{Edge};
 
 use crate::prunes::pruned;
-use crate::searches::{UNREACHED, seed_table};
+use crate::searches::seed_table;
 use crate::tables::link_place;
 use machine_desc::{Edge, Machine};
 use spin_base::{Chip, Memory};
@@ -91,7 +91,7 @@ fn ends_go_on(
 {
     let chips = chips_before(alloc, edges, targets)?;
     let table = seed_table(alloc, machine, &chips)?;
-    Ok(ends_are_low(machine, &table, edges))
+    Ok(ends_are_marked(machine, &table, edges))
 }
 
 // The targets, and the chips at which edges begin.
@@ -105,31 +105,31 @@ fn chips_before(alloc: Global, edges: &[Edge], targets: &[Chip]) -> Result<Vec<C
     Ok(chips)
 }
 
-// Whether the table has a number for each chip at which an edge ends.
-fn ends_are_low(machine: &Machine, table: &[u64], edges: &[Edge]) -> bool
+// Whether the table marks each chip at which an edge ends.
+fn ends_are_marked(machine: &Machine, table: &[bool], edges: &[Edge]) -> bool
     requires inside { All (λ e. IsInside machine.now e.chip) edges.now }
     requires long { length table.now ≡ machine.now.width * machine.now.height }
     ensures { result ≡ true
         → All (λ e. (c : Chip) → end_of machine.now e ≡ Some c
-        → number_at machine.now table.now c < UNREACHED) edges.now }
+        → is_marked machine.now table.now c ≡ true) edges.now }
 {
     for edge in edges {
-        if !end_is_low(machine, table, *edge) {
+        if !end_is_marked(machine, table, *edge) {
             return false;
         }
     }
     true
 }
 
-// Whether the table has a number for the chip at which the edge ends.
-fn end_is_low(machine: &Machine, table: &[u64], edge: Edge) -> bool
+// Whether the table marks the chip at which the edge ends.
+fn end_is_marked(machine: &Machine, table: &[bool], edge: Edge) -> bool
     requires inside { IsInside machine.now edge.chip }
     requires long { length table.now ≡ machine.now.width * machine.now.height }
     ensures { result ≡ true → (c : Chip) → end_of machine.now edge ≡ Some c
-        → number_at machine.now table.now c < UNREACHED }
+        → is_marked machine.now table.now c ≡ true }
 {
     match machine.far(edge.chip, edge.dir) {
-        Some(far) => table[machine.index(far) as usize] < UNREACHED,
+        Some(far) => table[machine.index(far) as usize],
         None => true,
     }
 }

@@ -13,13 +13,13 @@ reached_edges-requires-clause-inside c =
 pub returns-clause-kept : goal.returns-clause-kept
 returns-clause-kept c =
     rw (c.in_ok-kept.ensures, c.deref-2.ensures.value, c.deref-3.ensures.value, c.in_ok-live.ensures)
-    (kept_is c.args.machine.now c.args.root c.args.edges.now c.in_ok-reach.reach.items 18446744073709551615
+    (kept_is c.args.machine.now c.args.root c.args.edges.now c.in_ok-reach.reach.items
     (live_inside c.args.machine.now c.args.root c.requires.root_lives) c.requires.none_into_root c.requires.one_into_each
     (rw (c.deref.ensures.value, c.in_ok-live.ensures) at c.in_ok-reach.ensures.reach))
 
 pub returns-clause-is_whole : goal.returns-clause-is_whole
 returns-clause-is_whole c =
     rw (c.in_ok-kept.ensures, c.deref-2.ensures.value, c.deref-3.ensures.value, c.in_ok-live.ensures)
-    (kept_whole c.args.machine.now c.args.root c.args.edges.now c.in_ok-reach.reach.items 18446744073709551615
+    (kept_whole c.args.machine.now c.args.root c.args.edges.now c.in_ok-reach.reach.items
     (live_inside c.args.machine.now c.args.root c.requires.root_lives) c.requires.none_into_root c.requires.one_into_each
     (rw (c.deref.ensures.value, c.in_ok-live.ensures) at c.in_ok-reach.ensures.reach))

@@ -6,7 +6,7 @@ seed_table-requires c =
     rw (c.deref.ensures.value, c.in_ok-chips.ensures) (chips_inside c.args.machine.now c.args.edges.now c.args.targets.now c.requires.inside c.requires.targets_inside)
 
 pub returns : goal.returns
-returns c low =
-    goes_on c.args.machine.now c.args.edges.now c.args.targets.now c.in_ok-chips.chips.items c.in_ok-table.table.items 18446744073709551615
-    c.in_ok-chips.ensures c.requires.inside (rw c.deref.ensures.value at c.in_ok-table.ensures.elsewhere)
-    (rw c.deref-2.ensures.value at (c.ends_are_low.ensures low))
+returns c marked =
+    goes_on c.args.machine.now c.args.edges.now c.args.targets.now c.in_ok-chips.chips.items c.in_ok-table.table.items
+    c.in_ok-chips.ensures c.requires.inside (λ x inside. ((rw c.deref.ensures.value at c.in_ok-table.ensures.seeds) x inside).0)
+    (rw c.deref-2.ensures.value at (c.ends_are_marked.ensures marked))
