@@ -1,5 +1,5 @@
 -- Signed numbers as what is above 0 and what is below.
-use Rattle.std.proofs.Common.{◌≡◌, ℕ, ◌+◌, max, min, [], ◌∷◌, true, false, sym, ap, ◌∙◌, arith}
+use Rattle.std.proofs.Common.{◌≡◌, ℕ, ◌+◌, max, min, [], ◌∷◌, true, false, refl, sym, ap, ◌∙◌, arith}
 use Rattle.std.proofs.lemmas.Bool.{cond-true, cond-false}
 use Rattle.std.proofs.lemmas.Int.{ints}
 use Rattle.std.specs.Prelude.{ℤ, pos, negsuc, ◌-ℤ◌, neg_ℤ, unsigned_abs}
@@ -9,7 +9,7 @@ use Rattle.spin_base.specs.declared.chips.Dir.TheVariants.{East, North, SouthWes
 use Rattle.machine_desc.specs.Description.{Description}
 use Rattle.ner_trees.specs.declared.displacements.Disp.{Disp}
 use Rattle.ner_trees.specs.declared.walks.Run.{Run}
-use Rattle.ner_trees.specs.Geometry.{length_of, forth, back, disp, lesser_disp, ahead_by, on_torus, displacement_of}
+use Rattle.ner_trees.specs.Geometry.{length_of, forth, back, disp, lesser_disp, ahead_by, on_torus, displacement_of, distance_of}
 use Rattle.ner_trees.specs.LongestFirst.{median, link_run_of, runs_of, longest_first}
 
 pub length_is : (d : Disp) → length_of d ≡ max (forth d.a) (forth d.b) + max (back d.a) (back d.b)
@@ -58,6 +58,11 @@ displaced_on_torus m p q w h x y r wraps ew eh ex ey er =
     let fy : y ≡ ahead_by m.height p.y q.y = ey ∙ ap (λ k. ahead_by k p.y q.y) eh in
     er ∙ (ap (λ k. on_torus k h x y) ew ∙ (ap (λ k. on_torus m.width k x y) eh ∙ (ap (λ k. on_torus m.width m.height k y) fx ∙ (ap (λ k. on_torus m.width m.height (ahead_by m.width p.x q.x) k) fy
     ∙ sym (cond-true m.wrap (on_torus m.width m.height (ahead_by m.width p.x q.x) (ahead_by m.height p.y q.y)) (disp (pos q.x -ℤ pos p.x) (pos q.y -ℤ pos p.y)) wraps)))))
+
+pub distant_on_torus : (m : Description) (p q : Chip) (w h x y r : ℕ) → m.wrap ≡ true → w ≡ m.width → h ≡ m.height → x ≡ ahead_by w p.x q.x →
+    y ≡ ahead_by h p.y q.y → r ≡ length_of (on_torus w h x y) → r ≡ distance_of m p q
+distant_on_torus m p q w h x y r wraps ew eh ex ey er =
+    er ∙ ap length_of (displaced_on_torus m p q w h x y (on_torus w h x y) wraps ew eh ex ey refl)
 
 pub displaced_on_grid : (m : Description) (p q : Chip) (a b : ℤ) → m.wrap ≡ false → a ≡ pos q.x -ℤ pos p.x → b ≡ pos q.y -ℤ pos p.y →
     disp a b ≡ displacement_of m p q

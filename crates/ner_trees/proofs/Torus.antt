@@ -1,5 +1,5 @@
 -- The displacement on a torus never leads all the way round.
-use Rattle.std.proofs.Common.{◌≡◌, ℕ, ◌+◌, ◌-◌, ◌*◌, ◌<◌, ◌≤◌, max, Bool, true, false, ltb, eqb, refl, sym, ap, ◌∙◌, subst, arith, inl, inr, ◌⊎◌}
+use Rattle.std.proofs.Common.{◌≡◌, ℕ, ◌+◌, ◌-◌, ◌*◌, ◌<◌, ◌≤◌, max, min, Bool, true, false, ltb, eqb, refl, sym, ap, ◌∙◌, subst, arith, inl, inr, ◌⊎◌}
 use Rattle.std.proofs.lemmas.Bool.{cases_eq, cases_Bool, ltb-true, ltb-false, eqb-true, eqb-false, cond-true, cond-false}
 use Rattle.std.proofs.lemmas.Int.{ints}
 use Rattle.std.specs.Prelude.{ℤ, pos, negsuc, ◌-ℤ◌, unsigned_abs}
@@ -86,6 +86,21 @@ weight_is d =
     let b : unsigned_abs d.b ≡ forth d.b + back d.b = abs_is d.b in
     rw (l, a, b) refl
 
+-- the first of two in order is the shorter
+shorter : (d e : Disp) → length_of (lesser_disp d e) ≡ min (length_of d) (length_of e)
+shorter d e = elim (cases_Bool (is_before e d)) [
+  | inl before ↦
+      ap length_of (cond-true (is_before e d) e d before) ∙ elim (differs_true (length_of e) (length_of d) _ before) [
+        | inl less ↦ omega arith
+        | inr same ↦ (let one : length_of e ≡ length_of d = same.0 in omega arith)
+      ]
+  | inr after ↦
+      ap length_of (cond-false (is_before e d) e d after) ∙ elim (differs_false (length_of e) (length_of d) _ after) [
+        | inl less ↦ omega arith
+        | inr same ↦ (let one : length_of e ≡ length_of d = same.0 in omega arith)
+      ]
+]
+
 -- to lead back all the way is heavier than to stay
 round_a : (w : ℕ) (z y : ℤ) → 0 < w → forth z ≡ 0 → back z ≡ w → weight (disp (pos 0) y) < weight (disp z y)
 round_a w z y some f b =
@@ -108,6 +123,24 @@ behind a w less = parts (pos a -ℤ pos w) refl
     parts : (z : ℤ) → z ≡ pos a -ℤ pos w → (forth z ≡ 0) × (back z ≡ w - a)
     parts (pos k) e = (omega (arith, ints, e), omega (arith, ints, e))
     parts (negsuc k) e = (refl, omega (arith, ints, e))
+
+-- the length of the displacement on a torus: the least of the lengths of the four
+pub torus_length : (w h a b : ℕ) → a < w → b < h →
+    length_of (on_torus w h a b) ≡ min (min (min (max a b) ((w - a) + b)) (a + (h - b))) (max (w - a) (h - b))
+unfolding on_torus
+torus_length w h a b aw bh =
+    let x : ℤ = pos a -ℤ pos w in
+    let y : ℤ = pos b -ℤ pos h in
+    let bx = behind a w aw in
+    let by = behind b h bh in
+    let one : length_of (disp (pos a) (pos b)) ≡ max a b = length_is (disp (pos a) (pos b)) ∙ omega arith in
+    let two : length_of (disp x (pos b)) ≡ (w - a) + b = length_is (disp x (pos b)) ∙ rw (bx.0, bx.1) (omega arith) in
+    let three : length_of (disp (pos a) y) ≡ a + (h - b) = length_is (disp (pos a) y) ∙ rw (by.0, by.1) (omega arith) in
+    let four : length_of (disp x y) ≡ max (w - a) (h - b) = length_is (disp x y) ∙ rw (bx.0, bx.1, by.0, by.1) (omega arith) in
+    shorter (lesser_disp (lesser_disp (disp (pos a) (pos b)) (disp x (pos b))) (disp (pos a) y)) (disp x y)
+    ∙ (ap (λ n. min n (length_of (disp x y))) (shorter (lesser_disp (disp (pos a) (pos b)) (disp x (pos b))) (disp (pos a) y)
+    ∙ ap (λ n. min n (length_of (disp (pos a) y))) (shorter (disp (pos a) (pos b)) (disp x (pos b))))
+    ∙ rw (one, two, three, four) refl)
 
 -- along each axis the displacement leads ahead, or back by what is left where that is not the whole axis
 abbrev pub AheadOrBack : ℕ → ℕ → ℤ → Type 0

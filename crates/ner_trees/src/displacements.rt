@@ -96,7 +96,11 @@ fn ahead_by(places: u8, from: u8, to: u8) -> u8
     ensures value { result ≡ ahead_by places from to }
     ensures below { result < places }
 {
-    (to + (places - from)) % places
+    if to < from {
+        to + (places - from)
+    } else {
+        to - from
+    }
 }
 
 // Of displacements that lead ahead along each axis, or back by what is then left of it, the first in order.
@@ -117,6 +121,24 @@ fn on_torus(width: u8, height: u8, a: u8, b: u8) -> Disp
             a: behind,
             b: below,
         })
+}
+
+// The length of that displacement: the least of the lengths of the four.
+fn length_on_torus(width: u8, height: u8, a: u8, b: u8) -> u32
+    requires width { width ≤ 64 }
+    requires height { height ≤ 64 }
+    requires across { a < width }
+    requires up { b < height }
+    ensures value { result ≡ length_of (on_torus width height a b) }
+    ensures few { result ≤ 64 }
+{
+    let (behind, below) = (width - a, height - b);
+    let length = a
+        .max(b)
+        .min(behind + b)
+        .min(a + below)
+        .min(behind.max(below));
+    u32::from(length)
 }
 
 /// The displacement from `p` to `q`. On an open grid it is the difference of their coordinates. On a torus it is, of
@@ -151,5 +173,15 @@ pub fn distance(machine: &Machine, p: Chip, q: Chip) -> u32
     ensures value { result ≡ distance_of machine.now p q }
     ensures few { result ≤ 128 }
 {
-    displacement(machine, p, q).length()
+    if machine.wrap() {
+        let (width, height) = (machine.width(), machine.height());
+        length_on_torus(
+            width,
+            height,
+            ahead_by(width, p.x, q.x),
+            ahead_by(height, p.y, q.y),
+        )
+    } else {
+        displacement(machine, p, q).length()
+    }
 }

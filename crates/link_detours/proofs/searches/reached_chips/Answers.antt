@@ -1,4 +1,4 @@
-use Rattle.std.proofs.Common.{◌≡◌, ◌+◌, ◌<◌, ◌≤◌, ◌++◌, ◌∷◌, [], Some, true, false, sym, ◌∙◌, subst, arith, rules}
+use Rattle.std.proofs.Common.{◌≡◌, ◌++◌, ◌∷◌, [], Some, true, false, sym, ◌∙◌, subst, arith, rules}
 use Rattle.machine_desc.specs.Live.{IsInside}
 use Rattle.spin_base.specs.declared.chips.Chip.{Chip}
 use Rattle.link_detours.specs.Usable.{is_marked}
