@@ -1,9 +1,9 @@
 -- Words whose bits tell which links live.
-use Rattle.std.proofs.Common.{◌≡◌, ℕ, ◌+◌, ◌*◌, ◌%◌, ◌^◌, ◌<◌, ◌≤◌, ◌↔◌, false, List, [], ◌∷◌, ◌++◌, length, get_or, sym, ap, ◌∙◌, subst, arith, inl, inr}
+use Rattle.std.proofs.Common.{◌≡◌, ℕ, ◌+◌, ◌*◌, ◌%◌, ◌^◌, ◌<◌, ◌≤◌, ◌↔◌, Bool, true, false, List, [], ◌∷◌, ◌++◌, length, get_or, sym, ap, ◌∙◌, subst, arith, inl, inr}
 use Rattle.std.specs.Int.{bit_at, w64}
 use Rattle.std.specs.Int.RustNames.{bit_or}
 use mir.Val.{bits}
-use Rattle.std.proofs.lemmas.Bool.{cases_eq, false≢true}
+use Rattle.std.proofs.lemmas.Bool.{cases_eq, cases_Bool, false≢true, false_from_ne_true}
 use Rattle.std.proofs.lemmas.List.{get_or_append_left, get_or_at, length-append}
 use Rattle.std.proofs.lemmas.Nat.{same_from_place}
 use Rattle.std.proofs.lemmas.Nat.Bits.{bit_at_set_same, bit_at_set_other, bit_at-zero}
@@ -12,7 +12,8 @@ use Rattle.spin_base.specs.declared.chips.Dir.{Dir}
 use Rattle.spin_base.specs.Links.{dir_number}
 use Rattle.machine_desc.specs.Description.{Description}
 use Rattle.machine_desc.proofs.Same.{same_dir, below_six}
-use Rattle.machine_desc.specs.Live.{IsLiveLink, is_live_link}
+use Rattle.machine_desc.specs.Live.{IsLiveLink, is_live_link, is_inside}
+use Rattle.machine_desc.proofs.Far.{live_ends, live_inside}
 
 abbrev pub chip_of_column : ℕ → ℕ → Chip
 chip_of_column x y = record { x = x; y = y }
@@ -88,3 +89,17 @@ RoadsTo-more m words i x word d at tells so_far = record {
         (λ set. known.0 (ap (λ n. bit_at n y) (sym same) ∙ set), λ live. ap (λ n. bit_at n y) same ∙ known.1 live)
   ];
 }
+
+-- a test that a bit is set tells whether a link lives, where the bit does
+pub same_from_bit : (b live : Bool) (n : ℕ) → (b ≡ true) ↔ (n ≡ 1) → (n ≡ 1) ↔ (live ≡ true) → b ≡ live
+same_from_bit b live n set told = elim (cases_Bool live) [
+  | inl lives ↦ set.1 (told.1 lives) ∙ sym lives
+  | inr dead ↦ elim (cases_Bool b) [
+    | inl has ↦ absurd (false≢true (sym dead ∙ told.0 (set.0 has)))
+    | inr none ↦ none ∙ sym dead
+  ]
+]
+
+-- a link of a chip outside the grid doesn't live
+pub dead_outside : (m : Description) (c : Chip) (d : Dir) → is_inside m c ≡ false → is_live_link m c d ≡ false
+dead_outside m c d outside = false_from_ne_true (is_live_link m c d) (λ lives. false≢true (sym outside ∙ live_inside m c (live_ends m c d lives).2))

@@ -71,7 +71,7 @@ pub fn repair(
         IfErr result (λ e. e ≡ NoMemory) }
 {
     let root = tree.root;
-    let kept = kept_edges(alloc, machine, root, tree.edges.as_slice())?;
+    let kept = kept_edges(alloc, machine, roads, root, tree.edges.as_slice())?;
     let whole = join_all(alloc, machine, roads, root, kept, targets.as_slice())?;
     let left = trimmed(alloc, machine, root, whole, targets.as_slice())?;
     Ok(Tree {
@@ -84,9 +84,11 @@ pub fn repair(
 fn kept_edges(
     alloc: Global,
     machine: &Machine,
+    roads: &Roads,
     root: Chip,
     edges: &[Edge],
 ) -> Result<Vec<Edge>, Memory>
+    requires roads_are { AreRoadsOf machine.now roads.now }
     requires root_lives { IsLiveChip machine.now root }
     requires none_into_root { All (λ e. end_of machine.now e ≢ Some root) edges.now }
     requires one_into_each { AllPairs (λ e f. (c : Chip) → end_of machine.now e ≡ Some c
@@ -95,7 +97,7 @@ fn kept_edges(
         → Contains v.items e ↔ IsKeptEdge machine.now root edges.now e) }
     ensures is_whole { IfOk result (λ v. IsWholeTree machine.now root v.items) }
 {
-    let live = live_edges(alloc, machine, edges)?;
+    let live = live_edges(alloc, machine, roads, edges)?;
     let reach = tree_reach(alloc, machine, root, &live)?;
     let kept = reached_edges(alloc, machine, &reach, &live)?;
     Ok(kept)

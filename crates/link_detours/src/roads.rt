@@ -1,11 +1,11 @@
 // The live links of a machine.
-ghost use Rattle.std.specs.Prelude.{◌≡◌, ◌<◌, ◌+◌, ◌*◌, ◌↔◌, ℕ, IfOk, length, slice_index};
+ghost use Rattle.std.specs.Prelude.{◌≡◌, ◌<◌, ◌+◌, ◌*◌, ◌↔◌, ℕ, IfOk, length, slice_index, true};
 ghost use Rattle.spin_base.specs.Links.{dir_number};
 ghost use Rattle.std.specs.Int.{bit_at};
-ghost use Rattle.machine_desc.specs.Live.{IsLiveLink};
+ghost use Rattle.machine_desc.specs.Live.{IsInside, IsLiveLink, is_live_link};
 ghost use Rattle.link_detours.specs.LiveRoads.{AreRoadsOf};
 
-use machine_desc::Machine;
+use machine_desc::{Edge, Machine};
 use spin_base::{Chip, Dir, Memory, Shared};
 use std::alloc::Global;
 
@@ -33,6 +33,23 @@ impl Roads {
         Ok(Roads { words })
     }
 
+    // Whether the edge is a live link.
+    pub(crate) fn has(&self, machine: &Machine, edge: Edge) -> bool
+        requires { AreRoadsOf machine.now self.now }
+        ensures { result ≡ is_live_link machine.now edge.chip edge.dir }
+    {
+        machine.is_inside(edge.chip) && self.has_inside(machine, edge)
+    }
+
+    // Whether an edge that begins inside the grid is a live link.
+    fn has_inside(&self, machine: &Machine, edge: Edge) -> bool
+        requires roads_are { AreRoadsOf machine.now self.now }
+        requires inside { IsInside machine.now edge.chip }
+        ensures { result ≡ is_live_link machine.now edge.chip edge.dir }
+    {
+        bit_is_set(self.word(usize::from(edge.chip.x), edge.dir), edge.chip.y)
+    }
+
     // The word of a column and a link.
     pub(crate) fn word(&self, x: usize, d: Dir) -> u64
         requires { x * 6 + dir_number d < length self.now.words.items }
@@ -40,6 +57,14 @@ impl Roads {
     {
         self.words[x * 6 + usize::from(d.number())]
     }
+}
+
+// Whether the bit of this place is set.
+fn bit_is_set(word: u64, y: u8) -> bool
+    requires { y < 64 }
+    ensures { (result ≡ true) ↔ (bit_at word y ≡ 1) }
+{
+    (word >> y) & 1 == 1
 }
 
 // The word of a column and a link: bit y is set exactly where that link of the chip at y lives.

@@ -98,7 +98,8 @@ fn ends_go_on(
 fn chips_before(alloc: Global, edges: &[Edge], targets: &[Chip]) -> Result<Vec<Chip>, Memory>
     ensures { IfOk result (λ v. v.items ≡ targets.now ++ map (λ e. e.chip) edges.now) }
 {
-    let mut chips = Vec::from_slice(alloc, targets)?;
+    let mut chips = Vec::with_capacity(alloc, targets.len() + edges.len())?;
+    chips.extend_from_slice(targets)?;
     for edge in edges {
         chips.push(edge.chip)?;
     }

@@ -42,7 +42,7 @@ pub fn new_branch(
     let machine = on.machine();
     let mut at = near;
     let mut start = near;
-    let mut links = Vec::new(alloc);
+    let mut links = Vec::with_capacity(alloc, walk.len())?;
     for dir in walk {
         links.push(Edge {
             chip: at,

@@ -57,7 +57,7 @@ fn is_less_or(m: u32, n: u32, if_equal: bool) -> bool
 
 impl Disp {
     // The number of links that it takes: the greatest of a, b and 0 less the least of them.
-    fn length(self) -> u32
+    pub(crate) fn length(self) -> u32
         requires { IsSmall self }
         ensures value { result ≡ length_of self }
         ensures few { result ≤ 128 }

@@ -78,7 +78,7 @@ pub fn ldf(alloc: Global, d: Disp) -> Result<Seq<Dir>, Memory>
     ensures as_many_as_the_length { IfOk result (λ s. length s ≡ length_of d) }
     ensures adds_up { IfOk result (λ s. sum_of s ≡ d) }
 {
-    let mut walk = Vec::new(alloc);
+    let mut walk = Vec::with_capacity(alloc, d.length() as usize)?;
     for next in runs(d) {
         add_run(&mut walk, next)?;
     }

@@ -60,7 +60,7 @@ fn spot_keys(
     ensures { IfOk result (λ keys. keys.items
         ≡ map (λ v. spot_key (slice_index_or spots.now v nowhere)) vertices.now) }
 {
-    let mut keys = Vec::new(alloc);
+    let mut keys = Vec::with_capacity(alloc, vertices.len())?;
     for i in 0..vertices.len() {
         let vertex = *vertices.get(i);
         let Spot { chip, core } = *spots.get(vertex as usize);
@@ -72,13 +72,13 @@ fn spot_keys(
 fn spots_at(alloc: Global, keys: &[(u8, u8, u8)]) -> Result<Seq<Spot>, Memory>
     ensures { IfOk result (λ spots. spots ≡ map spot_at keys.now) }
 {
-    let mut spots = Seq::new(alloc);
+    let mut spots = Vec::with_capacity(alloc, keys.len())?;
     for key in keys {
         let (x, y, core) = *key;
         let chip = Chip { x, y };
         spots.push(Spot { chip, core })?;
     }
-    Ok(spots)
+    Ok(Seq::from_vec(spots))
 }
 
 // Of each target the distance from the root, and its chip's x and y.
@@ -93,7 +93,7 @@ fn chip_keys(
     ensures { IfOk result (λ keys. keys.items
         ≡ map (λ (s : Spot). chip_key machine.now root s.chip) targets.now) }
 {
-    let mut keys = Vec::new(alloc);
+    let mut keys = Vec::with_capacity(alloc, targets.len())?;
     for i in 0..targets.len() {
         let chip = targets.get(i).chip;
         keys.push((distance(machine, root, chip), chip.x, chip.y))?;
@@ -104,10 +104,10 @@ fn chip_keys(
 fn chips_at(alloc: Global, keys: &[(u32, u8, u8)]) -> Result<Seq<Chip>, Memory>
     ensures { IfOk result (λ chips. chips ≡ map chip_of_key keys.now) }
 {
-    let mut chips = Seq::new(alloc);
+    let mut chips = Vec::with_capacity(alloc, keys.len())?;
     for key in keys {
         let (_, x, y) = *key;
         chips.push(Chip { x, y })?;
     }
-    Ok(chips)
+    Ok(Seq::from_vec(chips))
 }

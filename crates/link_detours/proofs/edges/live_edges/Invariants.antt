@@ -1,0 +1,8 @@
+use Rattle.std.proofs.Common.{◌≡◌, take}
+use Rattle.std.specs.Prelude.{filter}
+use Rattle.machine_desc.specs.Live.{is_live_link}
+use Rattle.link_detours.proofs.edges.live_edges.Given as goal
+
+-- the live ones of the edges so far
+abbrev pub invariant-loop-edge : goal.invariant-loop-edge
+invariant-loop-edge l = l.live.items ≡ filter (λ e. is_live_link l.machine e.chip e.dir) (take l.edge-index l.edges)
