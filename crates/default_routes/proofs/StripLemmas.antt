@@ -1,12 +1,13 @@
 -- Kept rows route as all rows do.
-use Rattle.std.proofs.Common.{◌≡◌, ℕ, suc, ◌+◌, ◌-◌, ◌^◌, ◌<◌, ◌≤◌, ◌⊎◌, inl, inr, ◌==◌, Bool, true, false, cond, Some, List, [], ◌∷◌, ◌++◌, reverse, length, get_or, refl, sym, ap, ◌∙◌, subst, arith}
+use Rattle.std.proofs.Common.{◌≡◌, ℕ, suc, ◌+◌, ◌-◌, ◌^◌, ◌<◌, ◌≤◌, ◌⊎◌, inl, inr, ◌==◌, Bool, true, false, cond, Some, List, [], ◌∷◌, ◌++◌, reverse, length, get_or, take, refl, sym, ap, ◌∙◌, subst, arith}
 use Rattle.std.specs.Prelude.{All, AllPairs, map, find, slice_get, bit_and, MatchBool, IsTrue, ◌↔◌, if◌then◌else◌}
 use Rattle.std.specs.List.{cons_option}
 use Rattle.std.specs.Option.{option_map_or}
 use Rattle.std.proofs.lemmas.Bool.{cases_lt, eq-eqb}
 use Rattle.std.proofs.lemmas.Bool.Decides.{eqb_tells}
-use Rattle.std.proofs.lemmas.List.{get_or_default, get_or-reverse, length-reverse, reverse-append, reverse-reverse}
-use Rattle.std.proofs.lemmas.List.Elements.{All-nil, All-append, All-cons, All-head, All-tail, All-weaker, All-map}
+use Rattle.std.proofs.lemmas.List.{get_or_default, get_or-reverse, length-reverse, reverse-append, reverse-reverse, take_more}
+use Rattle.std.proofs.lemmas.List.Quantifiers.{all_pairs_push}
+use Rattle.std.proofs.lemmas.List.Elements.{All-nil, All-append, All-cons, All-head, All-tail, All-weaker, All-map, All-more}
 use Rattle.std.proofs.lemmas.List.Kept.{AllPairs-cons}
 use Rattle.std.proofs.lemmas.Option.{slice_get_read, get_or_from_slice_get, slice_get_within}
 use Rattle.spin_base.specs.declared.chips.Dir.{Dir}
@@ -20,7 +21,7 @@ use Rattle.tern_word.specs.declared.tables.Alias.{Alias}
 use Rattle.tern_word.specs.declared.tables.Row.{Row}
 use Rattle.tern_word.specs.Entries.{entry_of}
 use Rattle.tern_word.specs.Ternary.{Matches}
-use Rattle.tern_word.specs.SoundTable.{Misses, IsSound, Original, served_by, served}
+use Rattle.tern_word.specs.SoundTable.{HoldsItsAliases, Misses, IsSound, Original, served_by, served}
 use Rattle.cover_merge.specs.Merge.{has_row, rows_at}
 use Rattle.cover_merge.proofs.Answering.{fails}
 use Rattle.cover_merge.proofs.Lists.{AllPairs-nil, All-flat_map}
@@ -238,3 +239,47 @@ none_kept rows new is = subst (λ l. KeptFrom rows (length rows) (reverse l)) (s
 
 pub in_range_none : (n : ℕ) (new : List ℕ) → new ≡ [] → All (λ s. s < n) new
 in_range_none n new is = subst (All (λ s. s < n)) (sym is) (All-nil (λ s. s < n))
+
+-- ---- rows that are apart
+
+-- one row more, under the same mask and with a key no less than the least that may come
+pub ascends_more : (rows : List Row) (i : ℕ) (d : Row) (least mask key : ℕ) → i < length rows → key ≡ (get_or rows i d).block.key →
+    (get_or rows i d).block.mask ≡ mask → least ≤ key → AllPairs (λ (r s : Row). r.block.key < s.block.key) (take i rows) →
+    All (λ (r : Row). (r.block.key < least) × (r.block.mask ≡ mask)) (take i rows) →
+    AllPairs (λ (r s : Row). r.block.key < s.block.key) (take (i + 1) rows)
+    × All (λ (r : Row). (r.block.key < key + 1) × (r.block.mask ≡ mask)) (take (i + 1) rows)
+ascends_more rows i d least mask key within is masked low ascending below = (
+  subst (λ rs. AllPairs (λ (r s : Row). r.block.key < s.block.key) rs) (sym (take_more rows i d within))
+      (all_pairs_push (λ (r s : Row). r.block.key < s.block.key) (take i rows) (get_or rows i d) ascending
+      (λ k f h. let before : (get_or (take i rows) k f).block.key < least = (below k f h).0 in
+      subst (λ n. (get_or (take i rows) k f).block.key < n) is (omega (arith, before, low)))),
+  All-more (λ (r : Row). (r.block.key < key + 1) × (r.block.mask ≡ mask)) rows i d within
+      (λ k f h. let before : (get_or (take i rows) k f).block.key < least = (below k f h).0 in (omega (arith, before, low), (below k f h).1))
+      (subst (λ n. n < key + 1) is (omega arith), masked),
+)
+
+-- rows of one mask whose keys ascend are apart
+pub apart_from_keys : (rows : List Row) (mask : ℕ) → All HoldsItsAliases rows → AllPairs (λ (r s : Row). r.block.key < s.block.key) rows →
+    All (λ (r : Row). r.block.mask ≡ mask) rows → AllPairs (λ (r s : Row). Misses s.block r) rows
+apart_from_keys rows mask hold ascending masked i j d less inside m e among met =
+    let here : i < length rows = omega (arith, less, inside) in
+    let in_row : Matches (get_or rows i d).block met.key = hold i d here m e among met.key met.small met.second in
+    let masks : (get_or rows i d).block.mask ≡ (get_or rows j d).block.mask = masked i d here ∙ sym (masked j d inside) in
+    let same : (get_or rows i d).block.key ≡ (get_or rows j d).block.key = sym in_row ∙ (ap (λ n. bit_and met.key n) masks ∙ met.first) in
+    let below : (get_or rows i d).block.key < (get_or rows j d).block.key = ascending i j d less inside in
+    omega (arith, same, below)
+
+-- then no later kept row meets an alias of the row before
+pub later_clear : (rows : List Row) (kept : List ℕ) (i : ℕ) (d : Row) → AllPairs (λ (r s : Row). Misses s.block r) rows →
+    All (λ s. s < length rows) kept → 0 < i → i ≤ length rows → KeptFrom rows i (reverse kept) →
+    All (λ (r : Row). Misses r.block (get_or rows (i - 1) d)) (rows_at rows kept)
+later_clear rows kept i d apart in_range some within from =
+    misses_all rows kept (get_or rows (i - 1) d) (length kept) (omega arith) (λ k e less.
+    let behind : i ≤ get_or kept k 0 = subst (λ s. i ≤ s) (get_or-reverse-reverse k less)
+    ((places_from rows i (reverse kept) from).behind (length kept - 1 - k) 0 (rw (length-reverse kept) (omega arith))) in
+    let at : i - 1 < length rows = omega arith in
+    subst (λ (r : Row). Misses (get_or rows (get_or kept k 0) e).block r) (get_or_default rows (i - 1) e d at)
+    (apart (i - 1) (get_or kept k 0) e (omega arith) (in_range k 0 less)))
+  where
+    get_or-reverse-reverse : (k : ℕ) → k < length kept → get_or (reverse kept) (length kept - 1 - k) 0 ≡ get_or kept k 0
+    get_or-reverse-reverse k less = get_or-reverse kept (length kept - 1 - k) 0 (omega arith) ∙ ap (λ n. get_or kept n 0) (omega arith)

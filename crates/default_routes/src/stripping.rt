@@ -1,6 +1,6 @@
 // Leaving out the rows that default routing replaces.
-ghost use Rattle.std.specs.Prelude.{◌≡◌, ◌<◌, ◌^◌, IfOk, All, MatchOption, MatchBool, length};
-ghost use Rattle.tern_word.specs.SoundTable.{IsSound, Misses, served};
+ghost use Rattle.std.specs.Prelude.{◌≡◌, ◌<◌, ◌^◌, IfOk, All, AllPairs, MatchOption, MatchBool, length, true};
+ghost use Rattle.tern_word.specs.SoundTable.{IsSound, HoldsItsAliases, Misses, served};
 ghost use Rattle.cover_merge.specs.Merge.{rows_at};
 ghost use Rattle.spin_base.specs.Lookup.{straight_on};
 ghost use Rattle.spin_base.specs.declared.chips.Dir.{Dir};
@@ -39,14 +39,16 @@ pub fn strip(alloc: Global, covered: Covered) -> Result<Final, Memory>
 
 // The places of the kept rows, ascending: found from the last row to the first, and then turned round.
 fn kept_places(alloc: Global, rows: &[Row]) -> Result<Seq<u32>, Memory>
-    requires { length rows.now < 2 ^ 32 }
+    requires few { length rows.now < 2 ^ 32 }
+    requires hold { All HoldsItsAliases rows.now }
     ensures { IfOk result (λ kept. AreKept rows.now kept) }
 {
+    let apart = are_apart(rows);
     let mut kept = Vec::new(alloc);
     let mut i = rows.len();
     while i > 0 {
         i -= 1;
-        if !can_go(&rows[i], rows, &kept) {
+        if !can_go(&rows[i], rows, &kept, apart) {
             kept.push(i as u32)?;
         }
     }
@@ -54,14 +56,44 @@ fn kept_places(alloc: Global, rows: &[Row]) -> Result<Seq<u32>, Memory>
     Ok(Seq::from_vec(kept))
 }
 
-// Whether the row can go, where these later rows are kept.
-fn can_go(row: &Row, rows: &[Row], kept: &[u32]) -> bool
-    requires { All (λ s. s < length rows.now) kept.now }
+// Whether all rows have one mask, and their keys ascend: then no row meets an alias of another.
+fn are_apart(rows: &[Row]) -> bool
+    requires { All HoldsItsAliases rows.now }
+    ensures { result ≡ true → AllPairs (λ (r s : Row). Misses s.block r) rows.now }
+{
+    !rows.is_empty() && keys_ascend(rows, rows[0].block.mask)
+}
+
+// Whether all rows have this mask, and their keys ascend.
+fn keys_ascend(rows: &[Row], mask: u32) -> bool
+    ensures { result ≡ true → AllPairs (λ (r s : Row). r.block.key < s.block.key) rows.now
+        × All (λ (r : Row). r.block.mask ≡ mask) rows.now }
+{
+    let mut least = 0;
+    for row in rows {
+        if row.block.mask != mask {
+            return false;
+        }
+        let key = u64::from(row.block.key);
+        if key < least {
+            return false;
+        }
+        least = key + 1;
+    }
+    true
+}
+
+// Whether the row can go, where these later rows are kept. Where rows are apart, none of them meets it.
+fn can_go(row: &Row, rows: &[Row], kept: &[u32], apart: bool) -> bool
+    requires in_range { All (λ s. s < length rows.now) kept.now }
+    requires apart { apart ≡ true → All (λ r. Misses r.block row.now) (rows_at rows.now kept.now) }
     ensures { MatchBool result (IsStrippable row.now (rows_at rows.now kept.now))
         (IsStrippable row.now (rows_at rows.now kept.now) → ⊥) }
 {
     match arrival_of(row.route.bits) {
-        Some(arrival) => all_arrive(row.aliases.as_slice(), arrival) && all_clear(row, rows, kept),
+        Some(arrival) => {
+            all_arrive(row.aliases.as_slice(), arrival) && is_clear(row, rows, kept, apart)
+        }
         None => false,
     }
 }
@@ -103,6 +135,16 @@ fn is_link(port: Port, link: Dir) -> bool
         Port::Link(other) => other.number() == link.number(),
         Port::Local => false,
     }
+}
+
+// The same as `all_clear`, which need not be asked where rows are apart.
+fn is_clear(row: &Row, rows: &[Row], kept: &[u32], apart: bool) -> bool
+    requires in_range { All (λ s. s < length rows.now) kept.now }
+    requires apart { apart ≡ true → All (λ r. Misses r.block row.now) (rows_at rows.now kept.now) }
+    ensures { MatchBool result (All (λ r. Misses r.block row.now) (rows_at rows.now kept.now))
+        (All (λ r. Misses r.block row.now) (rows_at rows.now kept.now) → ⊥) }
+{
+    apart || all_clear(row, rows, kept)
 }
 
 // Whether no row at the places meets an alias of the row.

@@ -9,5 +9,5 @@ use Rattle.default_routes.proofs.stripping.can_go.Goals as goal
 
 pub returns-then-all_arrive : goal.returns-then-all_arrive
 returns-then-all_arrive c =
-    match_strip c.args.row.now (rows_at c.args.rows.now c.args.kept.now) c.in-Some.arrival c.all_clear.result c.in-Some.ensures
-    (subst (All (λ (a : Alias). a.port ≡ Link c.in-Some.arrival)) c.as_slice.ensures c.if-all_arrive.ensures) c.all_clear.ensures
+    match_strip c.args.row.now (rows_at c.args.rows.now c.args.kept.now) c.in-Some.arrival c.is_clear.result c.in-Some.ensures
+    (subst (All (λ (a : Alias). a.port ≡ Link c.in-Some.arrival)) c.as_slice.ensures c.if-all_arrive.ensures) c.is_clear.ensures

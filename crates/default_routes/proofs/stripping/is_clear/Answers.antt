@@ -1,0 +1,12 @@
+-- Rows that are apart are clear.
+use Rattle.std.proofs.Common.{sym, subst, MatchBool}
+use Rattle.std.specs.Prelude.{All}
+use Rattle.tern_word.specs.declared.tables.Row.{Row}
+use Rattle.tern_word.specs.SoundTable.{Misses}
+use Rattle.cover_merge.specs.Merge.{rows_at}
+use Rattle.default_routes.proofs.stripping.is_clear.Goals as goal
+
+pub returns-then-apart : goal.returns-then-apart
+returns-then-apart c =
+    subst (λ b. MatchBool b (All (λ (r : Row). Misses r.block c.args.row.now) (rows_at c.args.rows.now c.args.kept.now))
+    (All (λ (r : Row). Misses r.block c.args.row.now) (rows_at c.args.rows.now c.args.kept.now) → ⊥)) (sym c.if-apart.true) (c.requires.apart c.if-apart.true)
