@@ -77,6 +77,3 @@ hex_text k n low few =
 
 pub word_text : (n : ℕ) → n < 2 ^ 32 → padded_integral (format_spec 32 0 4 8 (2 ^ 64 - 1)) false [] (digits 16 false n) ≡ hex 8 n
 word_text n small = hex_text 7 n (omega arith) (omega arith)
-
-pub route_text : (n : ℕ) → n < 2 ^ 24 → padded_integral (format_spec 32 0 4 6 (2 ^ 64 - 1)) false [] (digits 16 false n) ≡ hex 6 n
-route_text n small = hex_text 5 n (omega arith) (omega arith)

@@ -12,6 +12,7 @@
 #![tactic(auto)]
 
 mod causes;
+mod digits;
 pub mod laws;
 mod lines;
 mod lists;

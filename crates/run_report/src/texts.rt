@@ -1,10 +1,12 @@
 // The text of a report.
-ghost use Rattle.std.specs.Prelude.{◌≡◌, ◌<◌, ◌^◌, ◌++◌, ◌∷◌, OnOk, IfOk, string_bytes, decimal};
+ghost use Rattle.std.specs.Prelude.{◌≡◌, ◌<◌, ◌^◌, [], ◌++◌, ◌∷◌, OnOk, IfOk, codes, decimal};
 ghost use Rattle.std.specs.List.{flat_map};
 ghost use Rattle.mesh_core.specs.declared.places.Place.TheVariants.{InQueue, Hand, CoreQueue};
 ghost use Rattle.run_report.specs.ReportText.{report_text, listed_text, row_total, word, hex, payload_word, place_line, keys_line, row_line, table_head, table_lines, did_word, event_line, event_lines, got_line, dump_line, wait_line, end_line, out_letters, port_letters, dir_letters};
 
+use crate::digits::{route_digits, word_digits};
 use crate::reports::Report;
+use itoa::Buffer;
 use mesh_core::{Did, Place};
 use spin_base::{
     Block, Chip, ChipTable, Dir, DumpRec, Entry, McCopy, Memory, Name, Out, Port, Route, Seq, Spot,
@@ -24,14 +26,14 @@ use std::alloc::Global;
 pub fn text_of(alloc: Global, report: &Report) -> Result<Seq<u8>, Memory>
     ensures { IfOk result (λ text. text ≡ report_text report.now) }
 {
-    let mut text = String::new(alloc);
+    let mut text = Vec::new(alloc);
     put_report(&mut text, report)?;
-    Ok(Seq::from_vec(text.into_bytes()))
+    Ok(Seq::from_vec(text))
 }
 
-fn put_report(text: &mut String, report: &Report) -> Result<(), Memory>
-    ensures { OnOk result (string_bytes text.new
-        ≡ string_bytes text.old ++ report_text report.now) }
+fn put_report(text: &mut Vec<u8>, report: &Report) -> Result<(), Memory>
+    ensures { OnOk result (text.new.items
+        ≡ text.old.items ++ report_text report.now) }
 {
     put_listed(
         text,
@@ -49,13 +51,13 @@ fn put_report(text: &mut String, report: &Report) -> Result<(), Memory>
 
 // Puts the lines of vertices, nets and tables at the end.
 fn put_listed(
-    text: &mut String,
+    text: &mut Vec<u8>,
     placed: &[(Name, Spot)],
     keys: &[(Name, Block)],
     tables: &[ChipTable],
 ) -> Result<(), Memory>
-    ensures { OnOk result (string_bytes text.new
-        ≡ string_bytes text.old
+    ensures { OnOk result (text.new.items
+        ≡ text.old.items
         ++ (flat_map place_line placed.now ++ flat_map keys_line keys.now
         ++ flat_map table_lines tables.now)) }
 {
@@ -75,11 +77,11 @@ pub(crate) fn listed_text(
     requires { row_total tables.now < 2 ^ 64 }
     ensures { IfOk result (λ text. text ≡ listed_text placed.now keys.now tables.now) }
 {
-    let mut text = String::new(alloc);
+    let mut text = Vec::new(alloc);
     put_listed(&mut text, placed, keys, tables)?;
-    let rows = row_total(tables);
-    writeln!(text, "end rows {rows}")?;
-    Ok(Seq::from_vec(text.into_bytes()))
+    put(&mut text, "end rows ")?;
+    put_number(&mut text, row_total(tables), b'\n')?;
+    Ok(Seq::from_vec(text))
 }
 
 // The number of rows of all tables.
@@ -94,9 +96,9 @@ pub(crate) fn row_total(tables: &[ChipTable]) -> u64
     rows
 }
 
-fn put_places(text: &mut String, placed: &[(Name, Spot)]) -> Result<(), Memory>
-    ensures { OnOk result (string_bytes text.new
-        ≡ string_bytes text.old ++ flat_map place_line placed.now) }
+fn put_places(text: &mut Vec<u8>, placed: &[(Name, Spot)]) -> Result<(), Memory>
+    ensures { OnOk result (text.new.items
+        ≡ text.old.items ++ flat_map place_line placed.now) }
 {
     for vertex in placed {
         put_place(text, vertex)?;
@@ -104,20 +106,19 @@ fn put_places(text: &mut String, placed: &[(Name, Spot)]) -> Result<(), Memory>
     Ok(())
 }
 
-fn put_place(text: &mut String, vertex: &(Name, Spot)) -> Result<(), Memory>
-    ensures { OnOk result (string_bytes text.new ≡ string_bytes text.old ++ place_line vertex.now) }
+fn put_place(text: &mut Vec<u8>, vertex: &(Name, Spot)) -> Result<(), Memory>
+    ensures { OnOk result (text.new.items ≡ text.old.items ++ place_line vertex.now) }
 {
-    let name = vertex.0.as_str();
-    let x = vertex.1.chip.x;
-    let y = vertex.1.chip.y;
-    let core = vertex.1.core;
-    writeln!(text, "place {name} {x} {y} {core}")?;
-    Ok(())
+    put(text, "place ")?;
+    put(text, vertex.0.as_str())?;
+    put(text, " ")?;
+    put_chip(text, vertex.1.chip)?;
+    put_number(text, u64::from(vertex.1.core), b'\n')
 }
 
-fn put_all_keys(text: &mut String, keys: &[(Name, Block)]) -> Result<(), Memory>
-    ensures { OnOk result (string_bytes text.new
-        ≡ string_bytes text.old ++ flat_map keys_line keys.now) }
+fn put_all_keys(text: &mut Vec<u8>, keys: &[(Name, Block)]) -> Result<(), Memory>
+    ensures { OnOk result (text.new.items
+        ≡ text.old.items ++ flat_map keys_line keys.now) }
 {
     for net in keys {
         put_keys(text, net)?;
@@ -125,21 +126,19 @@ fn put_all_keys(text: &mut String, keys: &[(Name, Block)]) -> Result<(), Memory>
     Ok(())
 }
 
-fn put_keys(text: &mut String, net: &(Name, Block)) -> Result<(), Memory>
-    ensures { OnOk result (string_bytes text.new ≡ string_bytes text.old ++ keys_line net.now) }
+fn put_keys(text: &mut Vec<u8>, net: &(Name, Block)) -> Result<(), Memory>
+    ensures { OnOk result (text.new.items ≡ text.old.items ++ keys_line net.now) }
 {
-    let name = net.0.as_str();
-    write!(text, "keys {name} ")?;
-    put_word(text, net.1.key)?;
-    text.push_str(" ")?;
-    put_word(text, net.1.mask)?;
-    text.push_str("\n")?;
-    Ok(())
+    put(text, "keys ")?;
+    put(text, net.0.as_str())?;
+    put(text, " ")?;
+    put_word(text, net.1.key, b' ')?;
+    put_word(text, net.1.mask, b'\n')
 }
 
-fn put_tables(text: &mut String, tables: &[ChipTable]) -> Result<(), Memory>
-    ensures { OnOk result (string_bytes text.new
-        ≡ string_bytes text.old ++ flat_map table_lines tables.now) }
+fn put_tables(text: &mut Vec<u8>, tables: &[ChipTable]) -> Result<(), Memory>
+    ensures { OnOk result (text.new.items
+        ≡ text.old.items ++ flat_map table_lines tables.now) }
 {
     for table in tables {
         put_table(text, table)?;
@@ -147,26 +146,24 @@ fn put_tables(text: &mut String, tables: &[ChipTable]) -> Result<(), Memory>
     Ok(())
 }
 
-fn put_table(text: &mut String, table: &ChipTable) -> Result<(), Memory>
-    ensures { OnOk result (string_bytes text.new ≡ string_bytes text.old ++ table_lines table.now) }
+fn put_table(text: &mut Vec<u8>, table: &ChipTable) -> Result<(), Memory>
+    ensures { OnOk result (text.new.items ≡ text.old.items ++ table_lines table.now) }
 {
     put_head(text, table)?;
     put_rows(text, table.entries.as_slice())
 }
 
-fn put_head(text: &mut String, table: &ChipTable) -> Result<(), Memory>
-    ensures { OnOk result (string_bytes text.new ≡ string_bytes text.old ++ table_head table.now) }
+fn put_head(text: &mut Vec<u8>, table: &ChipTable) -> Result<(), Memory>
+    ensures { OnOk result (text.new.items ≡ text.old.items ++ table_head table.now) }
 {
-    let x = table.chip.x;
-    let y = table.chip.y;
-    let rows = table.entries.len();
-    writeln!(text, "table {x} {y} {rows}")?;
-    Ok(())
+    put(text, "table ")?;
+    put_chip(text, table.chip)?;
+    put_number(text, table.entries.len() as u64, b'\n')
 }
 
-fn put_rows(text: &mut String, entries: &[Entry]) -> Result<(), Memory>
-    ensures { OnOk result (string_bytes text.new
-        ≡ string_bytes text.old ++ flat_map row_line entries.now) }
+fn put_rows(text: &mut Vec<u8>, entries: &[Entry]) -> Result<(), Memory>
+    ensures { OnOk result (text.new.items
+        ≡ text.old.items ++ flat_map row_line entries.now) }
 {
     for entry in entries {
         put_row(text, entry)?;
@@ -174,21 +171,17 @@ fn put_rows(text: &mut String, entries: &[Entry]) -> Result<(), Memory>
     Ok(())
 }
 
-fn put_row(text: &mut String, entry: &Entry) -> Result<(), Memory>
-    ensures { OnOk result (string_bytes text.new ≡ string_bytes text.old ++ row_line entry.now) }
+fn put_row(text: &mut Vec<u8>, entry: &Entry) -> Result<(), Memory>
+    ensures { OnOk result (text.new.items ≡ text.old.items ++ row_line entry.now) }
 {
-    put_word(text, entry.key)?;
-    text.push_str(" ")?;
-    put_word(text, entry.mask)?;
-    text.push_str(" ")?;
-    put_route(text, entry.route)?;
-    text.push_str("\n")?;
-    Ok(())
+    put_word(text, entry.key, b' ')?;
+    put_word(text, entry.mask, b' ')?;
+    put_route(text, entry.route)
 }
 
-fn put_events(text: &mut String, answers: &[Did]) -> Result<(), Memory>
-    ensures { OnOk result (string_bytes text.new
-        ≡ string_bytes text.old ++ event_lines answers.now) }
+fn put_events(text: &mut Vec<u8>, answers: &[Did]) -> Result<(), Memory>
+    ensures { OnOk result (text.new.items
+        ≡ text.old.items ++ event_lines answers.now) }
 {
     for (before, did) in answers.iter().enumerate() {
         put_event(text, before + 1, *did)?;
@@ -196,12 +189,13 @@ fn put_events(text: &mut String, answers: &[Did]) -> Result<(), Memory>
     Ok(())
 }
 
-fn put_event(text: &mut String, number: usize, did: Did) -> Result<(), Memory>
-    ensures { OnOk result (string_bytes text.new ≡ string_bytes text.old ++ event_line number did) }
+fn put_event(text: &mut Vec<u8>, number: usize, did: Did) -> Result<(), Memory>
+    ensures { OnOk result (text.new.items ≡ text.old.items ++ event_line number did) }
 {
-    let word = did_word(did);
-    writeln!(text, "event {number} {word}")?;
-    Ok(())
+    put(text, "event ")?;
+    put_number(text, number as u64, b' ')?;
+    put(text, did_word(did))?;
+    put(text, "\n")
 }
 
 fn did_word(did: Did) -> &'static str
@@ -213,9 +207,9 @@ fn did_word(did: Did) -> &'static str
     }
 }
 
-fn put_gots(text: &mut String, delivered: &[(Name, McCopy)]) -> Result<(), Memory>
-    ensures { OnOk result (string_bytes text.new
-        ≡ string_bytes text.old ++ flat_map got_line delivered.now) }
+fn put_gots(text: &mut Vec<u8>, delivered: &[(Name, McCopy)]) -> Result<(), Memory>
+    ensures { OnOk result (text.new.items
+        ≡ text.old.items ++ flat_map got_line delivered.now) }
 {
     for delivery in delivered {
         put_got(text, delivery)?;
@@ -223,22 +217,20 @@ fn put_gots(text: &mut String, delivered: &[(Name, McCopy)]) -> Result<(), Memor
     Ok(())
 }
 
-fn put_got(text: &mut String, delivery: &(Name, McCopy)) -> Result<(), Memory>
-    ensures { OnOk result (string_bytes text.new ≡ string_bytes text.old ++ got_line delivery.now) }
+fn put_got(text: &mut Vec<u8>, delivery: &(Name, McCopy)) -> Result<(), Memory>
+    ensures { OnOk result (text.new.items ≡ text.old.items ++ got_line delivery.now) }
 {
-    let name = delivery.0.as_str();
-    let packet = delivery.1.packet;
-    write!(text, "got {name} {packet} ")?;
-    put_word(text, delivery.1.key)?;
-    text.push_str(" ")?;
-    put_payload(text, delivery.1.payload)?;
-    text.push_str("\n")?;
-    Ok(())
+    put(text, "got ")?;
+    put(text, delivery.0.as_str())?;
+    put(text, " ")?;
+    put_number(text, u64::from(delivery.1.packet), b' ')?;
+    put_word(text, delivery.1.key, b' ')?;
+    put_payload(text, delivery.1.payload)
 }
 
-fn put_dumps(text: &mut String, dumped: &[DumpRec]) -> Result<(), Memory>
-    ensures { OnOk result (string_bytes text.new
-        ≡ string_bytes text.old ++ flat_map dump_line dumped.now) }
+fn put_dumps(text: &mut Vec<u8>, dumped: &[DumpRec]) -> Result<(), Memory>
+    ensures { OnOk result (text.new.items
+        ≡ text.old.items ++ flat_map dump_line dumped.now) }
 {
     for record in dumped {
         put_dump(text, record)?;
@@ -246,22 +238,19 @@ fn put_dumps(text: &mut String, dumped: &[DumpRec]) -> Result<(), Memory>
     Ok(())
 }
 
-fn put_dump(text: &mut String, record: &DumpRec) -> Result<(), Memory>
-    ensures { OnOk result (string_bytes text.new
-        ≡ string_bytes text.old ++ dump_line «record».now) }
+fn put_dump(text: &mut Vec<u8>, record: &DumpRec) -> Result<(), Memory>
+    ensures { OnOk result (text.new.items
+        ≡ text.old.items ++ dump_line «record».now) }
 {
-    let x = record.chip.x;
-    let y = record.chip.y;
-    let packet = record.copy.packet;
-    write!(text, "dump {x} {y} ")?;
-    put_out(text, record.out)?;
-    writeln!(text, " {packet}")?;
-    Ok(())
+    put(text, "dump ")?;
+    put_chip(text, record.chip)?;
+    put_out(text, record.out, b' ')?;
+    put_number(text, u64::from(record.copy.packet), b'\n')
 }
 
-fn put_waits(text: &mut String, waiting: &[(u32, Place)]) -> Result<(), Memory>
-    ensures { OnOk result (string_bytes text.new
-        ≡ string_bytes text.old ++ flat_map wait_line waiting.now) }
+fn put_waits(text: &mut Vec<u8>, waiting: &[(u32, Place)]) -> Result<(), Memory>
+    ensures { OnOk result (text.new.items
+        ≡ text.old.items ++ flat_map wait_line waiting.now) }
 {
     for wait in waiting {
         put_wait(text, wait)?;
@@ -269,8 +258,8 @@ fn put_waits(text: &mut String, waiting: &[(u32, Place)]) -> Result<(), Memory>
     Ok(())
 }
 
-fn put_wait(text: &mut String, wait: &(u32, Place)) -> Result<(), Memory>
-    ensures { OnOk result (string_bytes text.new ≡ string_bytes text.old ++ wait_line wait.now) }
+fn put_wait(text: &mut Vec<u8>, wait: &(u32, Place)) -> Result<(), Memory>
+    ensures { OnOk result (text.new.items ≡ text.old.items ++ wait_line wait.now) }
 {
     let packet = wait.0;
     match wait.1 {
@@ -280,97 +269,151 @@ fn put_wait(text: &mut String, wait: &(u32, Place)) -> Result<(), Memory>
     }
 }
 
-fn put_wait_in(text: &mut String, packet: u32, chip: Chip, port: Port) -> Result<(), Memory>
-    ensures { OnOk result (string_bytes text.new
-        ≡ string_bytes text.old ++ wait_line (packet, InQueue chip port)) }
+fn put_wait_in(text: &mut Vec<u8>, packet: u32, chip: Chip, port: Port) -> Result<(), Memory>
+    ensures { OnOk result (text.new.items
+        ≡ text.old.items ++ wait_line (packet, InQueue chip port)) }
 {
-    let x = chip.x;
-    let y = chip.y;
-    let letters = port_letters(port);
-    writeln!(text, "wait {packet} at {x} {y} in {letters}")?;
-    Ok(())
+    put_waiting(text, packet, chip)?;
+    put(text, "in ")?;
+    put(text, port_letters(port))?;
+    put(text, "\n")
 }
 
-fn put_wait_hand(text: &mut String, packet: u32, chip: Chip, out: Out) -> Result<(), Memory>
-    ensures { OnOk result (string_bytes text.new
-        ≡ string_bytes text.old ++ wait_line (packet, Hand chip out)) }
+fn put_wait_hand(text: &mut Vec<u8>, packet: u32, chip: Chip, out: Out) -> Result<(), Memory>
+    ensures { OnOk result (text.new.items
+        ≡ text.old.items ++ wait_line (packet, Hand chip out)) }
 {
-    let x = chip.x;
-    let y = chip.y;
-    write!(text, "wait {packet} at {x} {y} hand ")?;
-    put_out(text, out)?;
-    text.push_str("\n")?;
-    Ok(())
+    put_waiting(text, packet, chip)?;
+    put(text, "hand ")?;
+    put_out(text, out, b'\n')
 }
 
-fn put_wait_core(text: &mut String, packet: u32, chip: Chip, core: u8) -> Result<(), Memory>
-    ensures { OnOk result (string_bytes text.new
-        ≡ string_bytes text.old ++ wait_line (packet, CoreQueue chip core)) }
+fn put_wait_core(text: &mut Vec<u8>, packet: u32, chip: Chip, core: u8) -> Result<(), Memory>
+    ensures { OnOk result (text.new.items
+        ≡ text.old.items ++ wait_line (packet, CoreQueue chip core)) }
 {
-    let x = chip.x;
-    let y = chip.y;
-    writeln!(text, "wait {packet} at {x} {y} core {core}")?;
-    Ok(())
+    put_waiting(text, packet, chip)?;
+    put(text, "core ")?;
+    put_number(text, u64::from(core), b'\n')
 }
 
-fn put_out(text: &mut String, out: Out) -> Result<(), Memory>
-    ensures { OnOk result (string_bytes text.new ≡ string_bytes text.old ++ out_letters out) }
+// Puts what a line on a waiting copy begins with at the end: the word, the packet, and the chip.
+fn put_waiting(text: &mut Vec<u8>, packet: u32, chip: Chip) -> Result<(), Memory>
+    ensures { OnOk result (text.new.items
+        ≡ text.old.items
+        ++ (codes "wait " ++ decimal packet ++ codes " at " ++ decimal chip.x ++ 32 ∷
+        decimal chip.y ++ 32 ∷ [])) }
+{
+    put(text, "wait ")?;
+    put_number(text, u64::from(packet), b' ')?;
+    put(text, "at ")?;
+    put_chip(text, chip)
+}
+
+// Puts an output at the end, and a byte after it.
+fn put_out(text: &mut Vec<u8>, out: Out, after: u8) -> Result<(), Memory>
+    ensures { OnOk result (text.new.items ≡ text.old.items ++ out_letters out ++ after ∷ []) }
 {
     match out {
-        Out::Link(link) => text.push_str(link_letters(link))?,
-        Out::Core(core) => write!(text, "c{core}")?,
-    }
-    Ok(())
-}
-
-fn put_end(text: &mut String, report: &Report) -> Result<(), Memory>
-    ensures { OnOk result (string_bytes text.new ≡ string_bytes text.old ++ end_line report.now) }
-{
-    text.push_str("end")?;
-    put_count(text, "delivered", report.delivered.len())?;
-    put_count(text, "dumped", report.dumped.len())?;
-    put_count(text, "waiting", report.waiting.len())?;
-    put_count(text, "unsent", report.unsent as usize)?;
-    text.push_str("\n")?;
-    Ok(())
-}
-
-// Puts a word and a number at the end, each after a space.
-fn put_count(text: &mut String, word: &str, count: usize) -> Result<(), Memory>
-    ensures { OnOk result (string_bytes text.new
-        ≡ string_bytes text.old ++ 32 ∷ (word.now ++ 32 ∷ decimal count)) }
-{
-    write!(text, " {word} {count}")?;
-    Ok(())
-}
-
-// Puts eight hexadecimal digits at the end.
-fn put_word(text: &mut String, number: u32) -> Result<(), Memory>
-    ensures { OnOk result (string_bytes text.new ≡ string_bytes text.old ++ word number) }
-{
-    write!(text, "{number:08x}")?;
-    Ok(())
-}
-
-// Puts the six hexadecimal digits of a route at the end.
-fn put_route(text: &mut String, route: Route) -> Result<(), Memory>
-    ensures { OnOk result (string_bytes text.new ≡ string_bytes text.old ++ hex 6 route.bits) }
-{
-    let bits = route.bits;
-    write!(text, "{bits:06x}")?;
-    Ok(())
-}
-
-fn put_payload(text: &mut String, payload: Option<u32>) -> Result<(), Memory>
-    ensures { OnOk result (string_bytes text.new ≡ string_bytes text.old ++ payload_word payload) }
-{
-    match payload {
-        Some(payload) => put_word(text, payload),
-        None => {
-            text.push_str("-")?;
-            Ok(())
+        Out::Link(link) => {
+            put(text, link_letters(link))?;
+            put_byte(text, after)
+        }
+        Out::Core(core) => {
+            put(text, "c")?;
+            put_number(text, u64::from(core), after)
         }
     }
+}
+
+fn put_end(text: &mut Vec<u8>, report: &Report) -> Result<(), Memory>
+    ensures { OnOk result (text.new.items ≡ text.old.items ++ end_line report.now) }
+{
+    put(text, "end")?;
+    put_count(text, " delivered ", report.delivered.len() as u64)?;
+    put_count(text, " dumped ", report.dumped.len() as u64)?;
+    put_count(text, " waiting ", report.waiting.len() as u64)?;
+    put_count(text, " unsent ", report.unsent as u64)?;
+    put(text, "\n")?;
+    Ok(())
+}
+
+// Puts words and a number at the end.
+fn put_count(text: &mut Vec<u8>, words: &str, count: u64) -> Result<(), Memory>
+    ensures { OnOk result (text.new.items ≡ text.old.items ++ (words.now ++ decimal count)) }
+{
+    put(text, words)?;
+    put_decimal(text, count)
+}
+
+// Puts a number at the end, and a byte after it.
+fn put_number(text: &mut Vec<u8>, number: u64, after: u8) -> Result<(), Memory>
+    ensures { OnOk result (text.new.items ≡ text.old.items ++ (decimal number ++ after ∷ [])) }
+{
+    put_decimal(text, number)?;
+    put_byte(text, after)
+}
+
+// Puts a number at the end.
+fn put_decimal(text: &mut Vec<u8>, number: u64) -> Result<(), Memory>
+    ensures { OnOk result (text.new.items ≡ text.old.items ++ decimal number) }
+{
+    let mut buffer = Buffer::new();
+    put(text, buffer.format(number))
+}
+
+// Puts a chip's numbers at the end, a space after each.
+fn put_chip(text: &mut Vec<u8>, chip: Chip) -> Result<(), Memory>
+    ensures { OnOk result (text.new.items
+        ≡ text.old.items ++ (decimal chip.x ++ 32 ∷ (decimal chip.y ++ 32 ∷ []))) }
+{
+    put_number(text, u64::from(chip.x), b' ')?;
+    put_number(text, u64::from(chip.y), b' ')
+}
+
+// Puts eight hexadecimal digits at the end, and a byte after them.
+fn put_word(text: &mut Vec<u8>, number: u32, after: u8) -> Result<(), Memory>
+    ensures { OnOk result (text.new.items ≡ text.old.items ++ (word number ++ after ∷ [])) }
+{
+    let digits = word_digits(number);
+    text.extend_from_slice(&digits)?;
+    put_byte(text, after)
+}
+
+// Puts the six hexadecimal digits of a route at the end, and a line feed.
+fn put_route(text: &mut Vec<u8>, route: Route) -> Result<(), Memory>
+    ensures { OnOk result (text.new.items ≡ text.old.items ++ (hex 6 route.bits ++ 10 ∷ [])) }
+{
+    let digits = route_digits(route.bits);
+    text.extend_from_slice(&digits)?;
+    put_byte(text, b'\n')
+}
+
+// Puts a payload at the end, and a line feed.
+fn put_payload(text: &mut Vec<u8>, payload: Option<u32>) -> Result<(), Memory>
+    ensures { OnOk result (text.new.items
+        ≡ text.old.items ++ (payload_word payload ++ 10 ∷ [])) }
+{
+    match payload {
+        Some(payload) => put_word(text, payload, b'\n'),
+        None => put(text, "-\n"),
+    }
+}
+
+// Puts words at the end.
+fn put(text: &mut Vec<u8>, words: &str) -> Result<(), Memory>
+    ensures { OnOk result (text.new.items ≡ text.old.items ++ words.now) }
+{
+    text.extend_from_slice(words.as_bytes())?;
+    Ok(())
+}
+
+// Puts a byte at the end.
+fn put_byte(text: &mut Vec<u8>, byte: u8) -> Result<(), Memory>
+    ensures { OnOk result (text.new.items ≡ text.old.items ++ byte ∷ []) }
+{
+    text.push(byte)?;
+    Ok(())
 }
 
 fn port_letters(port: Port) -> &'static str

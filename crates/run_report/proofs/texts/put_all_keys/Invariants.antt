@@ -1,8 +1,8 @@
-use Rattle.std.proofs.Common.{◌≡◌, ◌++◌, take, string_bytes}
+use Rattle.std.proofs.Common.{◌≡◌, ◌++◌, take}
 use Rattle.std.specs.List.{flat_map}
 use Rattle.run_report.specs.ReportText.{keys_line}
 use Rattle.run_report.proofs.texts.put_all_keys.Given as goal
 
 -- the lines so far are written
 abbrev pub invariant-loop-net : goal.invariant-loop-net
-invariant-loop-net l = string_bytes l.text ≡ string_bytes l.fn.text ++ flat_map keys_line (take l.net-index l.keys)
+invariant-loop-net l = l.text.items ≡ l.fn.text.items ++ flat_map keys_line (take l.net-index l.keys)

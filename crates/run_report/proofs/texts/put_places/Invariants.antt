@@ -1,8 +1,8 @@
-use Rattle.std.proofs.Common.{◌≡◌, ◌++◌, take, string_bytes}
+use Rattle.std.proofs.Common.{◌≡◌, ◌++◌, take}
 use Rattle.std.specs.List.{flat_map}
 use Rattle.run_report.specs.ReportText.{place_line}
 use Rattle.run_report.proofs.texts.put_places.Given as goal
 
 -- the lines so far are written
 abbrev pub invariant-loop-vertex : goal.invariant-loop-vertex
-invariant-loop-vertex l = string_bytes l.text ≡ string_bytes l.fn.text ++ flat_map place_line (take l.vertex-index l.placed)
+invariant-loop-vertex l = l.text.items ≡ l.fn.text.items ++ flat_map place_line (take l.vertex-index l.placed)

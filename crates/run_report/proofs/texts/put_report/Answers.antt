@@ -1,4 +1,4 @@
-use Rattle.std.proofs.Common.{ℕ, List, ◌++◌, ◌∙◌, ap, string_bytes}
+use Rattle.std.proofs.Common.{ℕ, List, ◌++◌, ◌∙◌, ap}
 use Rattle.std.specs.List.{flat_map}
 use Rattle.spin_base.specs.declared.blocks.Block.{Block}
 use Rattle.spin_base.specs.declared.blocks.ChipTable.{ChipTable}
@@ -10,7 +10,7 @@ use Rattle.run_report.proofs.texts.put_report.Goals as goal
 pub returns : goal.returns
 returns c =
     let r = c.args.report.now in
-    let old : List ℕ = string_bytes c.args.text.now in
+    let old : List ℕ = c.args.text.now.items in
     let listed : List (List ℕ × Spot) → List (List ℕ × Block) → List ChipTable → List ℕ =
     λ placed keys tables. old ++ (flat_map place_line placed ++ flat_map keys_line keys ++ flat_map table_lines tables)
     in
@@ -19,8 +19,8 @@ returns c =
     ∙ (ap (λ placed. listed placed c.as_slice-2.result.now c.as_slice-3.result.now) c.as_slice.ensures
     ∙ (ap (λ keys. listed r.placed keys c.as_slice-3.result.now) c.as_slice-2.ensures
     ∙ ap (λ tables. listed r.placed r.keys tables) c.as_slice-3.ensures)))
-    (c.in_ok-put_events.ensures ∙ ap (λ did. string_bytes c.put_listed.new.text ++ event_lines did) c.as_slice-4.ensures))
-    (c.in_ok-put_gots.ensures ∙ ap (λ gots. string_bytes c.put_events.new.text ++ flat_map got_line gots) c.as_slice-5.ensures))
-    (c.in_ok-put_dumps.ensures ∙ ap (λ dumps. string_bytes c.put_gots.new.text ++ flat_map dump_line dumps) c.as_slice-6.ensures))
-    (c.in_ok-put_waits.ensures ∙ ap (λ waits. string_bytes c.put_dumps.new.text ++ flat_map wait_line waits) c.as_slice-7.ensures))
+    (c.in_ok-put_events.ensures ∙ ap (λ did. c.put_listed.new.text.items ++ event_lines did) c.as_slice-4.ensures))
+    (c.in_ok-put_gots.ensures ∙ ap (λ gots. c.put_events.new.text.items ++ flat_map got_line gots) c.as_slice-5.ensures))
+    (c.in_ok-put_dumps.ensures ∙ ap (λ dumps. c.put_gots.new.text.items ++ flat_map dump_line dumps) c.as_slice-6.ensures))
+    (c.in_ok-put_waits.ensures ∙ ap (λ waits. c.put_dumps.new.text.items ++ flat_map wait_line waits) c.as_slice-7.ensures))
     c.in_ok-put_end.ensures

@@ -1,8 +1,8 @@
-use Rattle.std.proofs.Common.{◌≡◌, ◌++◌, take, string_bytes}
+use Rattle.std.proofs.Common.{◌≡◌, ◌++◌, take}
 use Rattle.std.specs.List.{flat_map}
 use Rattle.run_report.specs.ReportText.{wait_line}
 use Rattle.run_report.proofs.texts.put_waits.Given as goal
 
 -- the lines so far are written
 abbrev pub invariant-loop-wait : goal.invariant-loop-wait
-invariant-loop-wait l = string_bytes l.text ≡ string_bytes l.fn.text ++ flat_map wait_line (take l.wait-index l.waiting)
+invariant-loop-wait l = l.text.items ≡ l.fn.text.items ++ flat_map wait_line (take l.wait-index l.waiting)
