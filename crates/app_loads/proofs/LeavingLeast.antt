@@ -207,11 +207,11 @@ module _ (s : State) where
           (m.0, among_right m.0 (unsent_marks s) (after_unsent s) (among_right m.0 (input_marks s) (after_inputs s) (among_right m.0 (all_hand_marks s) (after_hands s) (among_left m.0 (core_marks s) (after_cores s) m.1))), m.2, m.3)
 
   -- the application's packets of which a copy waits are those of its own among all that are under way
-  waits_listed : (app : LoadedApp) (n : ℕ) → WaitsIn s app n → Among n (under_way s)
+  pub waits_listed : (app : LoadedApp) (n : ℕ) → WaitsIn s app n → Among n (under_way s)
   waits_listed app n (own, (k, has, is, under)) =
       subst (λ m. Among m (under_way s)) is (listed k.copy k.station under (mark_stands s k (contains_among k (marks_of s) has)))
 
-  listed_waits : IsMesh s → (app : LoadedApp) (n : ℕ) → is_packet_of app n ≡ true → Among n (under_way s) → WaitsIn s app n
+  pub listed_waits : IsMesh s → (app : LoadedApp) (n : ℕ) → is_packet_of app n ≡ true → Among n (under_way s) → WaitsIn s app n
   listed_waits mesh app n own a = let m = has_mark mesh n a in (own, (m.0, among_contains m.0 (marks_of s) m.1, m.2, m.3))
 
   -- what a scan of all lists finds

@@ -28,6 +28,7 @@ use Rattle.app_loads.specs.Regions.{AreFreeBeside}
 use Rattle.app_loads.specs.Removing.{CanLeave, HasLeft, IsWhyHere}
 use Rattle.app_loads.specs.Taking.{AreTaken, frees}
 use Rattle.app_loads.specs.Unloading.{HasUnloaded, IsWhyNotUnloaded, NoneWaits}
+use Rattle.app_loads.proofs.FewClaims.{few_ranges}
 use Rattle.app_loads.proofs.LeftHost.{apps_left, has_unloaded, loaded_one, none_waits, taken_beside, tells_less}
 use Rattle.app_loads.proofs.LoadedParts.{one_host, still_host}
 use Rattle.app_loads.proofs.Others.{without_one}
@@ -90,6 +91,7 @@ module _ (i : Inside) (mesh : State) (is : i.mesh ≡ Some mesh) (host : IsHost 
   can_leave = subst (λ (s : State). CanLeave s given app) mesh_h (record {
     others = all_ranges (others_than number h.apps);
     taken = taken_beside h host.apps number app in_apps its given old_is;
+    few = few_ranges h.mesh.setup.machine host.apps.mesh.size app (loaded_one h host.apps number app in_apps its);
     long = host.apps.rows.long;
   })
 

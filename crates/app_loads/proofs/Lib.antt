@@ -1,5 +1,8 @@
+pub mod Alike
 mod AppNets
 mod Bare
+mod Delivered
+mod FewClaims
 mod FewSpots
 mod Holes
 mod Hosts
@@ -15,6 +18,7 @@ mod LeftParts
 mod LoadedHost
 mod LoadedParts
 mod MarkedSpots
+pub mod OneClaim
 mod Others
 mod PacketLedger
 mod RegionLaws

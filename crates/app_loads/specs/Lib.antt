@@ -8,6 +8,7 @@ pub use Rattle.mesh_core.specs.Opened
 pub use Rattle.mesh_core.specs.State
 pub use Rattle.mesh_core.specs.Step
 pub use Rattle.mesh_drain.specs.Draining
+pub mod Alike
 pub mod Applications
 pub mod Claims
 pub mod Counting

@@ -33,13 +33,13 @@ pub record IsAppNet (m : Description) (spots : List Spot) (net : AppNet) : Type 
 abbrev pub IsPacketOfApp : List AppNet → Packet → Type 0
 IsPacketOfApp nets p = (net : AppNet) × (slice_get nets p.net ≡ Some net) × (p.index < net.keys)
 
--- A plan is one for the machine where its spots are different usable cores, with the bytes of memory for each, and each of its nets and
--- packets is as above.
+-- A plan is one for the machine where its spots are different usable cores, with the bytes of memory for each, it has at most 65,536
+-- nets, and each of its nets and packets is as above. So it asks the regions for at most 262,144 ranges.
 pub record IsPlan (m : Description) (plan : AppPlan) : Type 0 where
   pub different : AllPairs (λ a b. a ≢ b) plan.spots
   pub usable : All (IsUsable m) plan.spots
   pub sdram : length plan.sdram ≡ length plan.spots
-  pub few_nets : length plan.nets < 2 ^ 32
+  pub few_nets : length plan.nets ≤ 65536
   pub nets : All (IsAppNet m plan.spots) plan.nets
   pub packets : All (IsPacketOfApp plan.nets) plan.packets
 

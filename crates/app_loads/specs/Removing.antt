@@ -1,5 +1,5 @@
 -- What unloading an application makes of the parts of a host, as the private functions say it.
-use Rattle.std.specs.Prelude.{◌≡◌, List, filter, length}
+use Rattle.std.specs.Prelude.{◌≡◌, ◌≤◌, List, filter, length}
 use Rattle.spin_base.specs.declared.chips.Chip.{Chip}
 use Rattle.spin_base.specs.declared.sizes.TheConstants.{ROUTER_ENTRIES}
 use Rattle.machine_desc.specs.Live.{IsInside}
@@ -15,10 +15,12 @@ use Rattle.app_loads.specs.Leaving.{IsLeastUnderWay, is_delivery_of, is_record_o
 use Rattle.app_loads.specs.Taking.{AreTaken}
 use Rattle.app_loads.specs.Writing.{AreUnused}
 
--- The application's ranges are taken of the regions, beside others, and each table has its entries.
+-- The application's ranges are taken of the regions, beside others, and are no more than a plan can ask for; and each table has
+-- its entries.
 pub record CanLeave (s : State) (regions : List Region) (app : LoadedApp) : Type 0 where
   pub others : List Range
   pub taken : AreTaken s.setup.machine others app.ranges regions
+  pub few : length app.ranges ≤ 262144
   pub long : (c : Chip) → IsInside s.setup.machine c → length (table_at s.setup.machine s.setup.tables c) ≡ ROUTER_ENTRIES
 
 -- The mesh has the application's rows, deliveries and dump records no more.

@@ -28,7 +28,8 @@ pub const ALL_KEYS: u64 = 4_294_967_296;
 // its other nets, and entries chip by chip.
 pub fn claims_of(alloc: Global, machine: &Machine, plan: &AppPlan) -> Result<Vec<Claim>, Memory>
     requires { IsPlan machine.now plan.now }
-    ensures { IfOk result (λ claims. claims.items ≡ claims_of machine.now plan.now) }
+    ensures claims { IfOk result (λ claims. claims.items ≡ claims_of machine.now plan.now) }
+    ensures few { IfOk result (λ claims. length claims.items ≤ 262144) }
 {
     // Its spots are different, so that each vertex has a number of 32 bits.
     let chips = machine.chips();

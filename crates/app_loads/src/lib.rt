@@ -10,6 +10,7 @@ mod answers;
 mod apps;
 mod claims;
 mod drains;
+pub mod laws;
 mod leaving;
 mod loaded;
 mod loads;

@@ -12,16 +12,14 @@ use range_store::Ranges;
 use spin_base::Memory;
 use std::alloc::Global;
 
-// No more ranges than these are held of a region: so many have no place in memory.
-const MOST_HELD: u32 = 4_000_000_000;
-
 // Serves the claims in order. At the first that cannot be served all is given back.
 pub fn take_all(
     alloc: Global,
     regions: &mut [Ranges],
     claims: &[Claim],
 ) -> Result<Vec<Range>, LoadErr>
-    requires { CanServe claims.now regions.old }
+    requires can { CanServe claims.now regions.old }
+    requires few { length claims.now ≤ 262144 }
     ensures served { IfOk result (λ ranges. AreServedAlways claims.now regions.old ranges.items) }
     ensures taken { IfOk result (λ ranges. AreTakenAlways regions.old ranges.items regions.new) }
     ensures room { IfOk result (λ ranges. HaveRoom ranges.items regions.new) }
@@ -55,6 +53,7 @@ fn take_each(
     requires counts { counts.old ≡ replicate (length regions.old) 0 }
     requires none { ranges.old.items ≡ [] }
     requires room { length claims.now ≤ vec_capacity ranges.old }
+    requires few { length claims.now ≤ 262144 }
     ensures served { OnOk result (AreServedAlways claims.now regions.old ranges.new.items) }
     ensures refused { IfErr result (IsDueAlways claims.now regions.old) }
     ensures taken { AreTakenAlways regions.old ranges.new.items regions.new }
@@ -80,18 +79,15 @@ fn take_each(
 
 // Serves one claim, where so many ranges of its region were taken before: room is made first, so that they can be given back.
 fn take_claim(region: &mut Ranges, claim: &Claim, held: u32) -> Result<u64, LoadErr>
-    requires { IsFairFor claim.now region.old }
+    requires fair { IsFairFor claim.now region.old }
+    requires few { held ≤ 262144 }
     ensures taken { IfOk result (ServesClaim claim.now region.old region.new) }
     ensures refused { IfErr result (IsDueOf claim.now region.old) }
     ensures unchanged { OnErr result (free_places_in region.new ≡ free_places_in region.old) }
     ensures room { OnOk result (held + 1 ≤ region.new.spare) }
-    ensures few { OnOk result (held < 4000000000) }
     ensures room_stays { OnErr result ((n : ℕ) →
         n ≤ held → n ≤ region.old.spare → n ≤ region.new.spare) }
 {
-    if held >= MOST_HELD {
-        return Err(LoadErr::Memory);
-    }
     match take_with_room(region, claim, held + 2) {
         Ok(Some(place)) => Ok(place),
         Ok(None) => Err(claim.refusal),
@@ -143,7 +139,8 @@ fn take_fixed(region: &mut Ranges, place: u64, size: u64) -> Result<Option<u64>,
 
 // Makes room in each region to give back those of the ranges that are its own. What is free stays as it is.
 pub fn make_room(alloc: Global, regions: &mut [Ranges], ranges: &[Range]) -> Result<(), Memory>
-    requires { All (λ (range : ARange). range.region < length regions.old) ranges.now }
+    requires there { All (λ (range : ARange). range.region < length regions.old) ranges.now }
+    requires few { length ranges.now ≤ 262144 }
     ensures room { OnOk result (HaveRoom ranges.now regions.new) }
     ensures same { frees regions.new ≡ frees regions.old }
 {
@@ -159,15 +156,13 @@ fn make_room_for_each(
 ) -> Result<(), Memory>
     requires there { All (λ (range : ARange). range.region < length regions.old) ranges.now }
     requires none { counts.old ≡ replicate (length regions.old) 0 }
+    requires few { length ranges.now ≤ 262144 }
     ensures room { OnOk result (HaveRoom ranges.now regions.new) }
     ensures same { frees regions.new ≡ frees regions.old }
 {
     for range in ranges {
         let at = range.region;
         let count = counts[at];
-        if count >= MOST_HELD {
-            return Err(Memory);
-        }
         counts[at] = count + 1;
         regions[at].reserve(count + 1)?;
     }

@@ -113,7 +113,8 @@ fn make_ready(
     parts: &MeshParts,
     app: &LoadedApp,
 ) -> Result<Parted, Memory>
-    requires { All (λ (range : ARange). range.region < length regions.old) app.now.ranges }
+    requires there { All (λ (range : ARange). range.region < length regions.old) app.now.ranges }
+    requires few { length app.now.ranges ≤ 262144 }
     ensures parted { IfOk result (IsPartedBy app.now parts.now) }
     ensures room { OnOk result (HaveRoom app.now.ranges regions.new) }
     ensures same { frees regions.new ≡ frees regions.old }

@@ -3,7 +3,7 @@ use Rattle.std.proofs.Common.{◌≡◌, ℕ, zero, suc, ◌+◌, ◌*◌, ◌/�
 use Rattle.std.specs.List.{All, AllPairs, slice_get}
 use Rattle.std.specs.Prelude.{MatchResult}
 use Rattle.std.proofs.lemmas.Bool.{cases_order, eqb-true, eq-eqb, false_from_ne_true, cond-true, cond-false}
-use Rattle.std.proofs.lemmas.List.{length-append, length-map, map_push, take_all, take_more}
+use Rattle.std.proofs.lemmas.List.{append-nil, length-append, length-map, map_push, take_all, take_more}
 use Rattle.std.proofs.lemmas.List.Elements.{All-nil, All-cons, All-append, All-map, All-head, All-tail}
 use Rattle.std.proofs.lemmas.List.Kept.{AllPairs-cons}
 use Rattle.std.proofs.lemmas.Nat.{mul-le, mod_below}
@@ -30,7 +30,7 @@ use Rattle.table_load.specs.declared.faults.ImageErr.TheVariants.{Memory as NoMe
 use Rattle.table_load.specs.Images.{IsRow, IsChipBefore, IsTable, IsValid, Spells}
 use Rattle.table_load.specs.Memories.{IsLoaded, loaded, rows_of_index}
 use Rattle.par_compile.specs.Finals.{KeepsRows, kept_entries, loaded_of}
-use Rattle.par_compile.specs.Imaging.{listed, tables_from}
+use Rattle.par_compile.specs.Imaging.{AreFilledFrom, CanBeImaged, FillTables, image_in, listed, tables_from}
 
 abbrev IsShort : Final → Type 0
 IsShort f = length f.kept ≤ 1024
@@ -221,6 +221,40 @@ all_loaded m finals v memories many width height rows is = same_lists memories (
         is.each i (subst (λ n. i < n) (sym size) below)
         ∙ (ap (λ (es : List Entry). Some (loaded es)) (rows i f.0 f.1)
         ∙ (sym (slice_get-mapped loaded_of finals i f.0 f.1) ∙ at))
+
+-- an image with these rows loads them
+has_loaded : (m : Description) (finals : List Final) (v : Image) → length finals ≡ m.width * m.height → v.width ≡ m.width → v.height ≡ m.height →
+    ((i : ℕ) (f : Final) → slice_get finals i ≡ Some f → rows_of_index v.height v.chips i ≡ kept_entries f) → IsLoaded v (map loaded_of finals)
+has_loaded m finals v many width height rows = record {
+  count = length-map finals loaded_of ∙ sym size;
+  each = λ i below.
+      let f = slice_get_there finals i (subst (λ n. i < n) size below) in
+      slice_get-mapped loaded_of finals i f.0 f.1 ∙ ap (λ (es : List Entry). Some (loaded es)) (sym (rows i f.0 f.1));
+}
+  where
+    size : v.width * v.height ≡ length finals
+    size = ap (λ w. w * v.height) width ∙ (ap (λ h. m.width * h) height ∙ sym many)
+
+-- from the bytes of the image of final tables their memories are filled, and no other ones, since bytes spell one image
+pub fill_tables : ((v w : Image) (bytes more : List ℕ) → Spells v bytes → Spells w (bytes ++ more) → (more ≡ []) × (v ≡ w)) →
+    (m : Description) (finals : List Final) (bytes : List ℕ) → CanBeImaged m finals → Spells (image_in m finals) bytes → FillTables bytes finals
+fill_tables apart m finals bytes can spelled = record {
+  filled = record { image = image_in m finals; spelled = spelled; loaded = has_loaded m finals (image_in m finals) can.one_each refl refl rows };
+  only = λ memories filled.
+      let same : filled.image ≡ image_in m finals = (apart filled.image (image_in m finals) bytes [] filled.spelled (subst (Spells (image_in m finals)) (sym (append-nil bytes)) spelled)).1 in
+      all_loaded m finals (image_in m finals) memories can.one_each refl refl rows (subst (λ (v : Image). IsLoaded v memories) same filled.loaded);
+}
+  where
+    size : HasSize m
+    size = record {
+      width_from_one = spelled.valid.across.0;
+      width_to_64 = spelled.valid.across.1;
+      height_from_one = spelled.valid.down.0;
+      height_to_64 = spelled.valid.down.1;
+    }
+
+    rows : (i : ℕ) (f : Final) → slice_get finals i ≡ Some f → rows_of_index m.height (tables_from m 0 finals) i ≡ kept_entries f
+    rows = image_rows m size finals can.one_each (image_in m finals) refl refl refl
 
 -- ---- the entries of the kept rows
 

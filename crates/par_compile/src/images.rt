@@ -1,18 +1,19 @@
 // The image of final tables, and what it loads.
 ghost use Rattle.std.specs.Prelude.{◌≡◌, ℕ, ◌*◌, ◌<◌, ◌≤◌, ◌++◌, List, All, IfOk, OnOk, Some, length, map, slice_get};
+ghost use Rattle.machine_desc.specs.Description.{Description};
 ghost use Rattle.machine_desc.specs.declared.nets.NetPlan.{NetPlan};
 ghost use Rattle.machine_desc.specs.RightTables.{AreRight};
 ghost use Rattle.default_routes.specs.declared.stripping.Final.{Final};
-ghost use Rattle.table_load.specs.Images.{IsValid};
+ghost use Rattle.table_load.specs.Images.{IsValid, Spells};
 ghost use Rattle.table_load.specs.Memories.{rows_of_index};
 ghost use Rattle.par_compile.specs.Finals.{KeepsRows, kept_entries, loaded_of};
-ghost use Rattle.par_compile.specs.Imaging.{CanBeImaged, image_in, listed};
+ghost use Rattle.par_compile.specs.Imaging.{CanBeImaged, FillTables, image_in, listed};
 
 use default_routes::Final;
 use machine_desc::Machine;
 use spin_base::{Chip, ChipTable, Entry, Memory, Seq};
 use std::alloc::Global;
-use table_load::{Image, decode, encode, load};
+use table_load::{Image, an_image_has_one_spelling, decode, encode, load};
 use tcam_find::Tcam;
 
 /// The image of the final tables of a machine's chips, one for each chip by the chip's index: the kept rows of each chip
@@ -87,4 +88,13 @@ pub fn memories_of(
         Ok(read) => load(alloc, &read),
         Err(_) => Err(Memory),
     }
+}
+
+/// From the bytes that spell the image of final tables a loader fills one memory a chip: the chip's kept rows from place 0
+/// on, and unused entries after them. Nothing else can be filled from these bytes.
+pub fn images_fill_their_tables()
+    ensures { (m : Description) (finals : List Final) (bytes : List ℕ) → CanBeImaged m finals
+        → Spells (image_in m finals) bytes → FillTables bytes finals }
+{
+    an_image_has_one_spelling();
 }

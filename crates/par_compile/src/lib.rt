@@ -13,5 +13,5 @@ mod requests;
 mod workers;
 
 pub use compiling::{CompileErr, Plan, compile};
-pub use images::{image_of, memories_of};
+pub use images::{image_of, images_fill_their_tables, memories_of};
 pub use requests::CompileRequest;

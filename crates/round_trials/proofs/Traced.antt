@@ -31,7 +31,7 @@ made_no_hand job parts text made none = elim made.makes [
   | ran is r ↦ absurd (let no : ⊥ = cc in no)
   | reinjected is r ↦ absurd (let no : ⊥ = cc in no)
   | traced is r ↦ subst (λ p. IfSome p.mesh HasNoHand) (sym r.4) (no_hand job made.plan r.0 r.1 r.3 none)
-  | imaged is l ↦ subst (λ p. IfSome p.mesh HasNoHand) (sym l.0) tt
+  | imaged is l ↦ subst (λ p. IfSome p.mesh HasNoHand) (sym l.given) tt
   | listed is l ↦ subst (λ p. IfSome p.mesh HasNoHand) (sym l.0) tt
   | generated n is r ↦ absurd (let no : ⊥ = cc in no)
 ]

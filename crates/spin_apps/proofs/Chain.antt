@@ -15,11 +15,10 @@ use Rattle.spin_apps.specs.declared.hosts.LoadAnswer.{LoadAnswer}
 use Rattle.spin_apps.specs.declared.hosts.LoadAnswer.TheVariants.{Done, Loaded, NoRoom, CutOff, MemoryOut, KeysOut, RowsOut}
 use Rattle.spin_apps.specs.declared.hosts.UnloadAnswer.{UnloadAnswer}
 use Rattle.spin_apps.specs.declared.hosts.UnloadAnswer.TheVariants.{Got, NotLoaded, Waiting}
-use Rattle.spin_apps.specs.Answers.{Answers, AreAnswered, AreAnsweredFrom, AreAnsweredThrough, IsLoadAnswer, IsUnloadAnswer, host_at, is_load}
+use Rattle.spin_apps.specs.Answers.{Answers, AreAnswered, AreAnsweredFrom, IsLoadAnswer, IsUnloadAnswer, host_at, is_load}
 use Rattle.spin_apps.specs.Hosting.{IsAnsweredBy, HasAddedLine, packet_count_of}
 use Rattle.spin_apps.specs.Lines.{load_line}
 use Rattle.spin_apps.specs.declared.answers.Answered.{Answered}
-use Rattle.spin_apps.proofs.OneLine.{one_text}
 use Rattle.spin_base.specs.declared.wants.Memory.{Memory}
 
 -- What the steps that are left are answered, behind the text so far, is what all steps are answered.
@@ -85,10 +84,10 @@ all_apps taken text apps (Ok a) hold is = subst (λ (o : Option Host). IfSome o 
 all_apps taken text apps (Err e) hold is = is
 
 -- no other text is their answer
-pub all_only : (steps : List Step) (r : Result Answered Memory) → All IsValidStep steps →
-    IfOk r (λ a. (states : List (Option Host)) (other : List ℕ) → AreAnsweredThrough None steps states a.text → AreAnsweredThrough None steps states other → other ≡ a.text)
-all_only steps (Ok a) valid = λ states other through also. one_text steps states a.text other valid through also
-all_only steps (Err e) valid = tt
+pub all_only : (steps : List Step) (r : Result Answered Memory) → ((text other : List ℕ) (after last : Option Host) → AreAnswered steps text after → AreAnswered steps other last → other ≡ text) →
+    IfOk r (λ a. AreAnswered steps a.text a.apps) → IfOk r (λ a. (other : List ℕ) (last : Option Host) → AreAnswered steps other last → other ≡ a.text)
+all_only steps (Ok a) one answered = λ other last also. one a.text other a.apps last answered also
+all_only steps (Err e) one answered = tt
 
 -- ---- how many packets there are
 

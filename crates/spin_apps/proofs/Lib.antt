@@ -3,5 +3,6 @@ mod FreeSpots
 mod Joined
 mod OneLine
 mod OneRefusal
+mod OneText
 mod Planning
 mod Serving

@@ -1,9 +1,8 @@
--- Each step has one line on the state before it.
-use Rattle.std.proofs.Common.{◌≡◌, ℕ, ◌≤◌, ◌==◌, refl, sym, ap, ◌∙◌, subst, arith, inl, inr, List, [], ◌∷◌, ◌++◌, length, get_or, true, false, Option, Some, None, IfSome}
+-- On machines with the same applications a load or an unload has one answer.
+use Rattle.std.proofs.Common.{◌≡◌, ℕ, ◌≤◌, ◌==◌, ◌&&◌, not, refl, sym, ap, ◌∙◌, subst, arith, inl, inr, List, [], length, get_or, true, false, Some}
 use Rattle.std.specs.List.{All, AllZip, Contains, filter, slice_get}
 use Rattle.std.proofs.lemmas.Bool.{cases_Bool, cases_order, eq-eqb, true≢false}
 use Rattle.std.proofs.lemmas.List.{get_or_default}
-use Rattle.std.proofs.lemmas.List.Elements.{All-head, All-tail}
 use Rattle.std.proofs.lemmas.Option.{slice_get-get_or}
 use Rattle.std.proofs.lemmas.Slice.Zip.{AllZip-long}
 use Rattle.spin_base.proofs.Members.{among_any, contains_among}
@@ -12,36 +11,36 @@ use Rattle.spin_base.specs.declared.blocks.Block.{Block}
 use Rattle.spin_base.specs.declared.chips.Chip.{Chip}
 use Rattle.spin_base.specs.declared.chips.Spot.{Spot}
 use Rattle.machine_desc.specs.Description.{Description}
-use Rattle.machine_desc.specs.Live.{IsSite}
+use Rattle.machine_desc.specs.Live.{is_usable, IsSite}
 use Rattle.app_graph.specs.declared.graphs.Net.{Net}
 use Rattle.machine_desc.specs.declared.nets.NetPlan.{NetPlan}
 use Rattle.net_plans.proofs.CutOffLaws.{one_first_net}
 use Rattle.net_plans.proofs.Determined as plans
 use Rattle.net_plans.specs.CutOffTargets.{IsFirstNetCutOff}
 use Rattle.place_fit.proofs.Determined as places
-use Rattle.place_fit.specs.Placement.{HasNoRoom}
+use Rattle.place_fit.specs.Placement.{HasNoRoom, IsPlacement}
 use Rattle.job_readers.specs.declared.jobs.Job.{Job}
-use Rattle.job_requests.specs.declared.steps.Step.{Step}
-use Rattle.job_requests.specs.declared.steps.Step.TheVariants.{Load, Unload, Run}
-use Rattle.job_requests.specs.Valid.{IsValidJob, IsValidStep}
+use Rattle.job_requests.specs.Valid.{IsValidJob}
 use Rattle.app_loads.specs.declared.answers.LoadErr.{LoadErr}
 use Rattle.app_loads.specs.declared.answers.LoadErr.TheVariants as refusals
 use Rattle.app_loads.specs.declared.loaded.LoadedApp.{LoadedApp}
+use Rattle.app_loads.specs.declared.loaded.Range.{Range}
 use Rattle.app_loads.specs.declared.plans.AppNet.{AppNet}
 use Rattle.app_loads.specs.declared.plans.AppPlan.{AppPlan}
+use Rattle.app_loads.specs.Alike.{AreAlike}
 use Rattle.app_loads.specs.Applications.{AreApps}
-use Rattle.app_loads.specs.Claims.{IsRefusalDue, claims_of}
-use Rattle.app_loads.specs.Host.{Host, all_ranges, is_loaded, net_with}
-use Rattle.app_loads.specs.Leaving.{is_delivery_of, is_record_of}
-use Rattle.app_loads.specs.Loading.{HasLoaded}
+use Rattle.app_loads.specs.Claims.{AreServed, IsRefusalDue, claims_of}
+use Rattle.app_loads.specs.Host.{Host, all_ranges, is_loaded, is_spot_taken, net_with}
+use Rattle.app_loads.specs.Leaving.{is_delivery_of, is_record_of, NoneUnderWay}
+use Rattle.app_loads.specs.Opening.{grid_spots}
 use Rattle.app_loads.specs.Unloading.{WaitsFor}
+use Rattle.app_loads.proofs.Alike.{alike_too, waits_too}
 use Rattle.spin_apps.specs.declared.hosts.LoadAnswer.{LoadAnswer}
 use Rattle.spin_apps.specs.declared.hosts.LoadAnswer.TheVariants.{Done, Loaded, NoRoom, CutOff, MemoryOut, KeysOut, RowsOut}
 use Rattle.spin_apps.specs.declared.hosts.UnloadAnswer.{UnloadAnswer}
 use Rattle.spin_apps.specs.declared.hosts.UnloadAnswer.TheVariants.{Got, NotLoaded, Waiting}
-use Rattle.spin_apps.specs.Answers.{Answers, AreAnsweredThrough, IsLoadAnswer, IsUnloadAnswer, host_at}
+use Rattle.spin_apps.specs.Answers.{IsLoadAnswer, IsUnloadAnswer}
 use Rattle.spin_apps.specs.Free.{free_machine}
-use Rattle.spin_apps.specs.Lines.{load_line, unload_line}
 use Rattle.spin_apps.specs.Plans.{HasCutOffOnHost, IsNetFor, IsPlanFor}
 use Rattle.spin_apps.proofs.FreeSpots.{free_sites, placed_free}
 use Rattle.spin_apps.proofs.Joined.{planned_joined}
@@ -113,9 +112,12 @@ module _ (h : Host) (job : Job) (valid : IsValidJob job) where
   abbrev AreAsked : AppPlan → LoadErr → Type 0
   AreAsked p e = IsRefusalDue grid (all_ranges h.apps) (claims_of grid p) e
 
-  served_not_due : (p q : AppPlan) (n : ℕ) (new : Host) (e : LoadErr) → IsPlanFor h job p → IsPlanFor h job q → HasLoaded h n p new → AreAsked q e → ⊥
-  served_not_due p q n new e a b loaded due =
-      served_not_refused grid (all_ranges h.apps) (claims_of grid p) e loaded.app.ranges loaded.served (subst (λ x. AreAsked x e) (one_plan q p b a) due)
+  abbrev Get : AppPlan → List Range → Type 0
+  Get p ranges = AreServed grid (all_ranges h.apps) (claims_of grid p) ranges
+
+  served_not_due : (p q : AppPlan) (ranges : List Range) (e : LoadErr) → IsPlanFor h job p → IsPlanFor h job q → Get p ranges → AreAsked q e → ⊥
+  served_not_due p q ranges e a b served due =
+      served_not_refused grid (all_ranges h.apps) (claims_of grid p) e ranges served (subst (λ x. AreAsked x e) (one_plan q p b a) due)
 
   one_due : (p q : AppPlan) (e f : LoadErr) → IsPlanFor h job p → IsPlanFor h job q → AreAsked p e → AreAsked q f → e ≡ f
   one_due p q e f a b x y = one_refusal grid (all_ranges h.apps) (claims_of grid p) e f x (subst (λ r. AreAsked r f) (one_plan q p b a) y)
@@ -131,25 +133,25 @@ module _ (h : Host) (job : Job) (valid : IsValidJob job) where
   data Why (a : LoadAnswer) : Type 0 where
     without_room : (v : ℕ) → HasNoRoom (free_machine h) job.graph.vertices v → a ≡ NoRoom v → Why a
     cut : (i : ℕ) (target : Chip) → HasCutOffOnHost h job i target → a ≡ CutOff i target → Why a
-    loads : (p : AppPlan) (n : ℕ) (new : Host) → IsPlanFor h job p → HasLoaded h n p new → a ≡ Done → Why a
+    loads : (p : AppPlan) (ranges : List Range) → IsPlanFor h job p → Get p ranges → a ≡ Done → Why a
     refused : (p : AppPlan) (e : LoadErr) → IsPlanFor h job p → AreAsked p e → a ≡ answer_to e → Why a
 
   one_why : (a b : LoadAnswer) → Why a → Why b → a ≡ b
   one_why a b (without_room v none is) (without_room w other also) = is ∙ (ap NoRoom (places.one_vertex (free_machine h) job.graph.vertices v w none other) ∙ sym also)
   one_why a b (without_room v none is) (cut i t off also) = absurd (room_not_cut v i t none off)
-  one_why a b (without_room v none is) (loads p n new planned loaded also) = absurd (room_not_planned v p none planned)
+  one_why a b (without_room v none is) (loads p ranges planned served also) = absurd (room_not_planned v p none planned)
   one_why a b (without_room v none is) (refused p e planned due also) = absurd (room_not_planned v p none planned)
   one_why a b (cut i t off is) (without_room w other also) = absurd (room_not_cut w i t other off)
   one_why a b (cut i t off is) (cut j u other also) = let same = one_cut i j t u off other in is ∙ ((λ k. CutOff (same.0 k) (same.1 k)) ∙ sym also)
-  one_why a b (cut i t off is) (loads p n new planned loaded also) = absurd (cut_not_planned i t p off planned)
+  one_why a b (cut i t off is) (loads p ranges planned served also) = absurd (cut_not_planned i t p off planned)
   one_why a b (cut i t off is) (refused p e planned due also) = absurd (cut_not_planned i t p off planned)
-  one_why a b (loads p n new planned loaded is) (without_room w other also) = absurd (room_not_planned w p other planned)
-  one_why a b (loads p n new planned loaded is) (cut j u other also) = absurd (cut_not_planned j u p other planned)
-  one_why a b (loads p n new planned loaded is) (loads q k next other load also) = is ∙ sym also
-  one_why a b (loads p n new planned loaded is) (refused q f other due also) = absurd (served_not_due p q n new f planned other loaded due)
+  one_why a b (loads p ranges planned served is) (without_room w other also) = absurd (room_not_planned w p other planned)
+  one_why a b (loads p ranges planned served is) (cut j u other also) = absurd (cut_not_planned j u p other planned)
+  one_why a b (loads p ranges planned served is) (loads q others other got also) = is ∙ sym also
+  one_why a b (loads p ranges planned served is) (refused q f other due also) = absurd (served_not_due p q ranges f planned other served due)
   one_why a b (refused p e planned due is) (without_room w other also) = absurd (room_not_planned w p other planned)
   one_why a b (refused p e planned due is) (cut j u other also) = absurd (cut_not_planned j u p other planned)
-  one_why a b (refused p e planned due is) (loads q n new other loaded also) = absurd (served_not_due q p n new e other planned loaded due)
+  one_why a b (refused p e planned due is) (loads q ranges other served also) = absurd (served_not_due q p ranges e other planned served due)
   one_why a b (refused p e planned due is) (refused q f other asked also) = is ∙ (ap answer_to (one_due p q e f planned other due asked) ∙ sym also)
 
   module _ (n : ℕ) where
@@ -164,7 +166,7 @@ module _ (h : Host) (job : Job) (valid : IsValidJob job) where
     only_loaded here (RowsOut c) new is = absurd (true≢false (sym here ∙ is.due.0))
 
     why : is_loaded h.apps n ≡ false → (a : LoadAnswer) (new : Host) → IsLoadAnswer h n job a new → Why a
-    why gone Done new is = loads is.plan n new is.is is.loaded refl
+    why gone Done new is = loads is.plan is.loaded.app.ranges is.is is.loaded.served refl
     why gone Loaded new is = absurd (true≢false (sym is.0 ∙ gone))
     why gone (NoRoom v) new is = without_room v is.1 refl
     why gone (CutOff i t) new is = cut i t is.1 refl
@@ -172,13 +174,71 @@ module _ (h : Host) (job : Job) (valid : IsValidJob job) where
     why gone (KeysOut i) new is = refused is.plan (refusals.KeysOut i) is.is is.due.1 refl
     why gone (RowsOut c) new is = refused is.plan (refusals.RowsOut c) is.is is.due.1 refl
 
-    one_load : (a b : LoadAnswer) (new other : Host) → IsLoadAnswer h n job a new → IsLoadAnswer h n job b other → a ≡ b
-    one_load a b new other x y = elim (cases_Bool (is_loaded h.apps n)) [
-      | inl here ↦ only_loaded here a new x ∙ sym (only_loaded here b other y)
-      | inr gone ↦ one_why a b (why gone a new x) (why gone b other y)
-    ]
+-- ---- machines with the same applications
+
+module _ (h g : Host) (machine : h.mesh.setup.machine ≡ g.mesh.setup.machine) (apps : h.apps ≡ g.apps) (job : Job) (valid : IsValidJob job) where
+  same_free : free_machine h ≡ free_machine g
+  same_free = λ i. free_on (machine i) (apps i)
+    where
+      abbrev free_on : Description → List LoadedApp → Description
+      free_on m loaded = record {
+        width = m.width;
+        height = m.height;
+        wrap = m.wrap;
+        sdram = m.sdram;
+        dead_chips = [];
+        dead_cores = filter (λ (s : Spot). not (is_usable m s && not (is_spot_taken loaded s))) (grid_spots m);
+        dead_links = [];
+      }
+
+  pub plan_there : (p : AppPlan) → IsPlanFor g job p → IsPlanFor h job p
+  plan_there p is = record {
+    memory = is.memory;
+    placed = subst (λ (m : Description). IsPlacement m job.graph.vertices p.spots is.memory) (sym same_free) is.placed;
+    sdram = is.sdram;
+    nets = subst (λ (m : Description). AllZip (IsNetFor m p.spots) job.graph.nets p.nets) (sym machine) is.nets;
+    packets = is.packets;
+  }
+
+  cut_there : (i : ℕ) (t : Chip) → HasCutOffOnHost g job i t → HasCutOffOnHost h job i t
+  cut_there i t is = record {
+    spots = is.spots;
+    memory = is.memory;
+    placed = subst (λ (m : Description). IsPlacement m job.graph.vertices is.spots is.memory) (sym same_free) is.placed;
+    first = subst (λ (m : Description). IsFirstNetCutOff m is.spots job.graph.nets i t) (sym machine) is.first;
+  }
+
+  pub served_there : (p : AppPlan) (ranges : List Range) → Get g job valid p ranges → Get h job valid p ranges
+  served_there p ranges is =
+      subst (λ (m : Description). AreServed m (all_ranges h.apps) (claims_of m p) ranges) (sym machine)
+      (subst (λ (l : List LoadedApp). AreServed g.mesh.setup.machine (all_ranges l) (claims_of g.mesh.setup.machine p) ranges) (sym apps) is)
+
+  asked_there : (p : AppPlan) (e : LoadErr) → AreAsked g job valid p e → AreAsked h job valid p e
+  asked_there p e is =
+      subst (λ (m : Description). IsRefusalDue m (all_ranges h.apps) (claims_of m p) e) (sym machine)
+      (subst (λ (l : List LoadedApp). IsRefusalDue g.mesh.setup.machine (all_ranges l) (claims_of g.mesh.setup.machine p) e) (sym apps) is)
+
+  why_there : (a : LoadAnswer) → Why g job valid a → Why h job valid a
+  why_there a (without_room v none is) = without_room v (subst (λ (m : Description). HasNoRoom m job.graph.vertices v) (sym same_free) none) is
+  why_there a (cut i t off is) = cut i t (cut_there i t off) is
+  why_there a (loads p ranges planned served is) = loads p ranges (plan_there p planned) (served_there p ranges served) is
+  why_there a (refused p e planned due is) = refused p e (plan_there p planned) (asked_there p e due) is
+
+  -- a load is answered the same
+  pub one_load : (n : ℕ) (a b : LoadAnswer) (new other : Host) → IsLoadAnswer h n job a new → IsLoadAnswer g n job b other → a ≡ b
+  one_load n a b new other x y =
+      let same : is_loaded g.apps n ≡ is_loaded h.apps n = ap (λ (l : List LoadedApp). is_loaded l n) (sym apps) in
+      elim (cases_Bool (is_loaded h.apps n)) [
+        | inl here ↦ only_loaded h job valid n here a new x ∙ sym (only_loaded g job valid n (same ∙ here) b other y)
+        | inr gone ↦ one_why h job valid a b (why h job valid n gone a new x) (why_there b (why g job valid n (same ∙ gone) b other y))
+      ]
 
 -- ---- unloads
+
+-- that machines with the same applications have as many deliveries of an application of which nothing waits
+abbrev pub HaveAsManyDeliveries : Type 0
+HaveAsManyDeliveries = (h g : Host) (app : LoadedApp) → AreApps h → AreApps g → AreAlike h g → NoneUnderWay h.mesh app →
+    length (filter (is_delivery_of app) h.mesh.delivered) ≡ length (filter (is_delivery_of app) g.mesh.delivered)
 
 module _ (h : Host) (apps : AreApps h) (n : ℕ) where
   -- one application has a number
@@ -198,50 +258,48 @@ module _ (h : Host) (apps : AreApps h) (n : ℕ) where
   there : (a : LoadedApp) → Contains h.apps a → a.number ≡ n → is_loaded h.apps n ≡ true
   there a has is = among_any (λ (app : LoadedApp). app.number == n) a h.apps (contains_among a h.apps has) (eq-eqb a.number n is)
 
-  one_unload : (a b : UnloadAnswer) (new other : Host) → IsUnloadAnswer h n a new → IsUnloadAnswer h n b other → a ≡ b
+module _ (counted : HaveAsManyDeliveries) (h g : Host) (apps : AreApps h) (also : AreApps g) (alike : AreAlike h g) (n : ℕ) where
+  -- an application of the one is one of the other
+  here_too : (app : LoadedApp) → Contains g.apps app → Contains h.apps app
+  here_too app has = subst (λ (l : List LoadedApp). Contains l app) (sym alike.apps) has
+
+  loaded_too : is_loaded h.apps n ≡ is_loaded g.apps n
+  loaded_too = ap (λ (l : List LoadedApp). is_loaded l n) alike.apps
+
+  waits_here : (app : LoadedApp) (p : ℕ) → WaitsFor g app p → WaitsFor h app p
+  waits_here app p waits = waits_too g h (alike_too h g alike) apps.mesh app p waits
+
+  waits_there : (app : LoadedApp) (p : ℕ) → WaitsFor h app p → WaitsFor g app p
+  waits_there app p waits = waits_too h g alike also.mesh app p waits
+
+  -- an unload is answered the same
+  pub one_unload : (a b : UnloadAnswer) (new other : Host) → IsUnloadAnswer h n a new → IsUnloadAnswer g n b other → a ≡ b
   one_unload (Got d r) (Got e s) new other x y =
-      let app = one_app x.unloaded.app y.unloaded.app x.unloaded.is y.unloaded.is x.unloaded.number_is y.unloaded.number_is in
+      let app = one_app h apps n x.unloaded.app y.unloaded.app x.unloaded.is (here_too y.unloaded.app y.unloaded.is) x.unloaded.number_is y.unloaded.number_is in
+      let none = λ p waits. x.none_waits x.unloaded.app x.unloaded.is x.unloaded.number_is p waits in
       let delivered : d ≡ e =
-      x.deliveries ∙ (ap length (x.unloaded.delivered ∙ (ap (λ (p : LoadedApp). filter (is_delivery_of p) h.mesh.delivered) app ∙ sym y.unloaded.delivered)) ∙ sym y.deliveries)
+      x.deliveries
+      ∙ (ap length x.unloaded.delivered
+      ∙ (counted h g x.unloaded.app apps also alike none
+      ∙ (ap (λ (p : LoadedApp). length (filter (is_delivery_of p) g.mesh.delivered)) app ∙ (ap length (sym y.unloaded.delivered) ∙ sym y.deliveries))))
       in
-      let dumped : r ≡ s = x.records ∙ (ap length (x.unloaded.dumped ∙ (ap (λ (p : LoadedApp). filter (is_record_of p) h.mesh.dumped) app ∙ sym y.unloaded.dumped)) ∙ sym y.records) in
+      let dumped : r ≡ s =
+      x.records
+      ∙ (ap length (x.unloaded.dumped ∙ ap (filter (is_record_of x.unloaded.app)) alike.quiet.no_record)
+      ∙ (ap length (sym (y.unloaded.dumped ∙ ap (filter (is_record_of y.unloaded.app)) alike.other_quiet.no_record)) ∙ sym y.records))
+      in
       λ i. Got (delivered i) (dumped i)
-  one_unload (Got d r) NotLoaded new other x y = absurd (true≢false (sym (there x.unloaded.app x.unloaded.is x.unloaded.number_is) ∙ y.0))
-  one_unload (Got d r) (Waiting p) new other x y = absurd (x.none_waits y.0.app y.0.is y.0.number_is p y.0.waits)
-  one_unload NotLoaded (Got e s) new other x y = absurd (true≢false (sym (there y.unloaded.app y.unloaded.is y.unloaded.number_is) ∙ x.0))
+  one_unload (Got d r) NotLoaded new other x y = absurd (true≢false (sym (there h apps n x.unloaded.app x.unloaded.is x.unloaded.number_is) ∙ (loaded_too ∙ y.0)))
+  one_unload (Got d r) (Waiting p) new other x y = absurd (x.none_waits y.0.app (here_too y.0.app y.0.is) y.0.number_is p (waits_here y.0.app p y.0.waits))
+  one_unload NotLoaded (Got e s) new other x y = absurd (true≢false (sym (there g also n y.unloaded.app y.unloaded.is y.unloaded.number_is) ∙ (sym loaded_too ∙ x.0)))
   one_unload NotLoaded NotLoaded new other x y = refl
-  one_unload NotLoaded (Waiting p) new other x y = absurd (true≢false (sym (there y.0.app y.0.is y.0.number_is) ∙ x.0))
-  one_unload (Waiting p) (Got e s) new other x y = absurd (y.none_waits x.0.app x.0.is x.0.number_is p x.0.waits)
-  one_unload (Waiting p) NotLoaded new other x y = absurd (true≢false (sym (there x.0.app x.0.is x.0.number_is) ∙ y.0))
+  one_unload NotLoaded (Waiting p) new other x y = absurd (true≢false (sym (there g also n y.0.app y.0.is y.0.number_is) ∙ (sym loaded_too ∙ x.0)))
+  one_unload (Waiting p) (Got e s) new other x y =
+      absurd (y.none_waits x.0.app (subst (λ (l : List LoadedApp). Contains l x.0.app) alike.apps x.0.is) x.0.number_is p (waits_there x.0.app p x.0.waits))
+  one_unload (Waiting p) NotLoaded new other x y = absurd (true≢false (sym (there h apps n x.0.app x.0.is x.0.number_is) ∙ (loaded_too ∙ y.0)))
   one_unload (Waiting p) (Waiting q) new other x y =
-      let app = one_app x.0.app y.0.app x.0.is y.0.is x.0.number_is y.0.number_is in
-      let up : p ≤ q = x.0.least q (subst (λ a. WaitsFor h a q) (sym app) y.0.waits) in
-      let down : q ≤ p = y.0.least p (subst (λ a. WaitsFor h a p) app x.0.waits) in
+      let app = one_app h apps n x.0.app y.0.app x.0.is (here_too y.0.app y.0.is) x.0.number_is y.0.number_is in
+      let up : p ≤ q = x.0.least q (subst (λ a. WaitsFor h a q) (sym app) (waits_here y.0.app q y.0.waits)) in
+      let down : q ≤ p = y.0.least p (subst (λ a. WaitsFor g a p) app (waits_there x.0.app p x.0.waits)) in
       let same : p ≡ q = omega (arith, up, down) in
       ap Waiting same
-
--- ---- steps
-
-one_line : (step : Step) (before : Option Host) (told other : List ℕ) (after next : Option Host) → IsValidStep step → IfSome before AreApps → Answers step before told after →
-    Answers step before other next → told ≡ other
-one_line (Load number job) before told other after next valid apps x y =
-    x.told ∙ (ap (load_line number job.graph) (one_load (host_at before job) job valid number x.answer y.answer x.new y.new x.is y.is) ∙ sym y.told)
-one_line (Unload number) None told other after next valid apps x y = x.0 ∙ sym y.0
-one_line (Unload number) (Some h) told other after next valid apps x y = x.told ∙ (ap (unload_line number) (one_unload h apps number x.answer y.answer x.new y.new x.is y.is) ∙ sym y.told)
-one_line Run None told other after next valid apps x y = x.0 ∙ sym y.0
-one_line Run (Some h) told other after next valid apps x y = x.0 ∙ sym y.0
-
-one_text_from : (before : Option Host) (steps : List Step) (states : List (Option Host)) (text other : List ℕ) → All IsValidStep steps → IfSome before AreApps →
-    AreAnsweredThrough before steps states text → AreAnsweredThrough before steps states other → other ≡ text
-one_text_from before [] [] text other valid apps x y = y ∙ sym x
-one_text_from before [] (state ∷ states) text other valid apps x y = absurd x
-one_text_from before (step ∷ steps) [] text other valid apps x y = absurd x
-one_text_from before (step ∷ steps) (state ∷ states) text other valid apps x y =
-    let line : y.0 ≡ x.0 = one_line step before y.0 x.0 state state (All-head IsValidStep step steps valid) apps y.2 x.2 in
-    let rest : y.1 ≡ x.1 = one_text_from state steps states x.1 y.1 (All-tail IsValidStep step steps valid) x.3 x.5 y.5 in
-    y.4 ∙ (ap (λ l. l ++ y.1) line ∙ (ap (λ l. x.0 ++ l) rest ∙ sym x.4))
-
--- steps have one text, where they lead through the same states
-pub one_text : (steps : List Step) (states : List (Option Host)) (text other : List ℕ) → All IsValidStep steps → AreAnsweredThrough None steps states text →
-    AreAnsweredThrough None steps states other → other ≡ text
-one_text steps states text other valid = one_text_from None steps states text other valid tt

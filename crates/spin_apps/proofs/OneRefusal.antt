@@ -35,6 +35,14 @@ module _ (m : Description) (taken : List Range) (claims : List Claim) where
       subst (λ k. take k rs ≡ take k ss) next
       (take_more_at rs n r.0 r.1 ∙ (ap (λ l. l ++ r.0 ∷ []) before ∙ (ap (λ x. take n ss ++ x ∷ []) range ∙ sym (take_more_at ss n s.0 s.1))))
 
+  -- all claims get one list of ranges
+  pub one_served : (rs ss : List Range) → AreServed m taken claims rs → AreServed m taken claims ss → rs ≡ ss
+  one_served rs ss a b =
+      let n : ℕ = length claims in
+      let all = a.all in
+      let also = b.all in
+      sym (take_all n rs (omega (arith, all))) ∙ (same_ranges rs ss a.first b.first n (omega (arith, all)) (omega (arith, also)) ∙ take_all n ss (omega (arith, also)))
+
   -- a claim that is refused gets no range
   refused_not_served : (refusal : LoadErr) (due : IsRefusalDue m taken claims refusal) (ss : List Range) → AreFirstServed m taken claims ss → length due.ranges < length ss → ⊥
   refused_not_served refusal due ss served longer =

@@ -116,11 +116,3 @@ AreAnsweredFrom before (step ∷ steps) text after =
 
 abbrev pub AreAnswered : List Step → List ℕ → Option Host → Type 0
 AreAnswered steps text after = AreAnsweredFrom None steps text after
-
--- The same, where the steps lead through these states, one after each step.
-abbrev pub AreAnsweredThrough : Option Host → List Step → List (Option Host) → List ℕ → Type 0
-AreAnsweredThrough before [] [] text = text ≡ []
-AreAnsweredThrough before [] (state ∷ states) text = ⊥
-AreAnsweredThrough before (step ∷ steps) [] text = ⊥
-AreAnsweredThrough before (step ∷ steps) (state ∷ states) text =
-    (told : List ℕ) × (rest : List ℕ) × Answers step before told state × IfSome state AreApps × (text ≡ told ++ rest) × AreAnsweredThrough state steps states rest

@@ -5,10 +5,11 @@ ghost use Rattle.job_requests.specs.declared.steps.Step.TheVariants.{Load, Unloa
 ghost use Rattle.job_requests.specs.Valid.{IsValidJob, IsValidStep};
 ghost use Rattle.app_loads.specs.Applications.{AreApps};
 ghost use Rattle.app_loads.specs.Host.{Host};
-ghost use Rattle.spin_apps.specs.Answers.{AreAnswered, AreAnsweredThrough, host_at, is_load};
+ghost use Rattle.spin_apps.specs.Answers.{AreAnswered, host_at, is_load};
 ghost use Rattle.spin_apps.specs.Hosting.{IsAnsweredBy, HasAddedLine, packet_count_of};
 
 use crate::hosts::{Hosted, UnloadAnswer};
+use crate::laws::steps_have_one_text;
 use crate::lines::{put_load, put_run, put_unload};
 use app_loads::Apps;
 use job_readers::Job;
@@ -29,8 +30,8 @@ pub struct Answered {
 /// and the chip of its first such target; `load N memory out VERTEX`, `load N keys out NET` and `load N rows out X Y`, for what
 /// could not be taken first. An unload is answered `unload N got G dumped U`, with how many deliveries and dump records were
 /// handed back, `unload N not loaded`, or `unload N waiting P`, with the application's least packet that has not arrived. A run
-/// brings all packets to their targets, and is answered `run`. What was refused has changed nothing. On the state that the steps before
-/// it left, each step has one line: so where the steps lead through the same states, no other text is their answer.
+/// brings all packets to their targets, and is answered `run`. What was refused has changed nothing. No other text is the answer to
+/// these steps.
 ///
 /// # Errors
 ///
@@ -41,10 +42,10 @@ pub fn answer(alloc: Global, steps: &[Step]) -> Result<Answered, Memory>
     ensures answered { IfOk result (λ a. AreAnswered steps.now a.text a.apps) }
     ensures given { IfOk result (λ a. is_some a.apps ≡ list_any is_load steps.now) }
     ensures apps { IfOk result (λ a. IfSome a.apps AreApps) }
-    ensures only { IfOk result (λ a. (states : List (Option Host)) (other : List ℕ)
-        → AreAnsweredThrough None steps.now states a.text
-        → AreAnsweredThrough None steps.now states other → other ≡ a.text) }
+    ensures only { IfOk result (λ a. (other : List ℕ) (last : Option Host)
+        → AreAnswered steps.now other last → other ≡ a.text) }
 {
+    steps_have_one_text();
     let mut text = String::new(alloc);
     let mut hosted = None;
     let taken = take_all(alloc, &mut hosted, steps, &mut text);

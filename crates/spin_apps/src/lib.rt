@@ -7,8 +7,10 @@
 mod answers;
 mod free;
 mod hosts;
+mod laws;
 mod lines;
 mod plans;
 
 pub use answers::{Answered, answer};
 pub use hosts::{LoadAnswer, UnloadAnswer};
+pub use laws::steps_have_one_text;

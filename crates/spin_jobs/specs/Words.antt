@@ -1,5 +1,7 @@
 -- What each word makes of a job (this project's own).
-use Rattle.std.specs.Prelude.{◌≡◌, ℕ, List, length, take}
+use Rattle.std.specs.Prelude.{◌≡◌, ℕ, List, length, map, take}
+use Rattle.spin_base.specs.declared.blocks.Entry.{Entry}
+use Rattle.machine_desc.specs.RightTables.{AreRight}
 use Rattle.mesh_core.specs.State.{State}
 use Rattle.mesh_core.specs.Step.{after_events, answers_of}
 use Rattle.mesh_core.specs.Opened.{MeetsJobLedger}
@@ -10,6 +12,8 @@ use Rattle.run_report.specs.declared.reports.Report.{Report}
 use Rattle.run_report.specs.ReportText.{plan_text, report_text, summary_text}
 use Rattle.run_report.specs.RunReport.{IsReportOf}
 use Rattle.par_compile.specs.declared.compiling.Plan.{Plan}
+use Rattle.par_compile.specs.Finals.{loaded_of}
+use Rattle.par_compile.specs.Imaging.{AreFilledFrom}
 use Rattle.table_load.specs.Images.{Spells}
 use Rattle.spin_words.specs.declared.commands.JobWord.{JobWord}
 use Rattle.spin_words.specs.declared.commands.JobWord.TheVariants.{Run, Reinject, Trace, Compile, Tables, Gen}
@@ -61,9 +65,15 @@ abbrev pub Lists : Job → Plan → Parts → List ℕ → Type 0
 Lists job plan parts text = (parts ≡ plan_parts job plan)
     × (text ≡ plan_text job.graph plan.placement.spots plan.nets (tables_image job plan).chips)
 
--- Job and plan are given, and the text is the bytes that spell the image of the plan's tables.
-abbrev pub Images : Job → Plan → Parts → List ℕ → Type 0
-Images job plan parts text = (parts ≡ plan_parts job plan) × Spells (tables_image job plan) text
+-- Job and plan are given, and the text is the bytes that spell the image of the plan's tables. From these bytes a loader fills
+-- the memories of these tables, each with the chip's kept rows and unused entries after them. It can fill no other memories, and
+-- so what it fills is right for all nets of the plan.
+pub record Images (job : Job) (plan : Plan) (parts : Parts) (text : List ℕ) : Type 0 where
+  pub given : parts ≡ plan_parts job plan
+  pub spelled : Spells (tables_image job plan) text
+  pub filled : AreFilledFrom text (map loaded_of plan.tables)
+  pub only : (memories : List (List Entry)) → AreFilledFrom text memories → memories ≡ map loaded_of plan.tables
+  pub right : (memories : List (List Entry)) → AreFilledFrom text memories → AreRight job.machine memories plan.nets
 
 -- What a word makes of a planned job, a constructor a word: the parts of the outcome, and the whole text.
 pub data Makes (w : JobWord) (job : Job) (plan : Plan) (parts : Parts) (text : List ℕ) : Type 0 where

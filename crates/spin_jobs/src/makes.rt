@@ -11,7 +11,7 @@ use crate::planned_jobs::PlannedJob;
 use crate::runs::{open_job, run_job, take_events};
 use mesh_core::laws::deliveries_are_as_many_as_expected;
 use mesh_core::{Did, Mesh};
-use par_compile::image_of;
+use par_compile::{image_of, images_fill_their_tables};
 use run_report::{Report, plan_text, report_of, summary_text, text_of};
 use spin_base::{Gate, Memory, Seq};
 use std::alloc::Global;
@@ -96,6 +96,7 @@ pub(crate) fn list(alloc: Global, planned: &PlannedJob<'_>) -> Result<WordOutput
 pub(crate) fn image(alloc: Global, planned: &PlannedJob<'_>) -> Result<WordOutput, Memory>
     ensures { IfOk result (IsOutputAs Images planned.now) }
 {
+    images_fill_their_tables();
     let image = image_of(alloc, &planned.job.machine, &planned.plan.tables)?;
     let text = encode(alloc, &image)?;
     Ok(WordOutput {

@@ -1,7 +1,7 @@
 -- What a call makes (this project's own).
 use Rattle.std.specs.Prelude.{◌≡◌, ◌∷◌, ℕ, List, Option, Some, None, IfSome, is_some, codes}
 use Rattle.std.specs.List.{list_any}
-use Rattle.spin_apps.specs.Answers.{AreAnswered, AreAnsweredThrough, is_load}
+use Rattle.spin_apps.specs.Answers.{AreAnswered, is_load}
 use Rattle.app_loads.specs.Applications.{AreApps}
 use Rattle.app_loads.specs.Host.{Host}
 use Rattle.job_requests.specs.declared.steps.Step.{Step}
@@ -79,13 +79,13 @@ pub record IsChecked (request : Request) (text : List ℕ) : Type 0 where
 
 -- ---- applications
 
--- where the steps lead through some states with this text as their lines, they lead through the same ones with no other
+-- no other text is the lines of the steps, whatever machine they leave
 abbrev pub HaveOneText : List Step → List ℕ → Type 0
-HaveOneText steps text = (states : List (Option Host)) (other : List ℕ) → AreAnsweredThrough None steps states text → AreAnsweredThrough None steps states other → other ≡ text
+HaveOneText steps text = (other : List ℕ) (last : Option Host) → AreAnswered steps other last → other ≡ text
 
 -- The text is the lines of the steps, each the answer to its step on the state that the steps before it left, and the machine with
 -- its applications is the state after the last. It is given where one of the steps is a load, and all that applications keep
--- holds of it. Whatever states the steps lead through, no other text is their lines.
+-- holds of it. No other text is the lines of these steps: so the text is a function of the steps.
 pub record AreDone (steps : List Step) (apps : Option Host) (text : List ℕ) : Type 0 where
   pub answers : AreAnswered steps text apps
   pub given : is_some apps ≡ list_any is_load steps

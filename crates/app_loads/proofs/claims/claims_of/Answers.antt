@@ -1,10 +1,12 @@
-use Rattle.std.proofs.Common.{subst, sym, arith, List}
+use Rattle.std.proofs.Common.{◌≤◌, length, subst, sym, arith, List}
 use Rattle.std.specs.List.{All}
 use Rattle.std.proofs.lemmas.List.Elements.{All-weaker}
+use Rattle.app_loads.specs.declared.loaded.Claim.{Claim}
 use Rattle.app_loads.specs.declared.plans.AppNet.{AppNet}
 use Rattle.app_loads.specs.Counting.{IsKeyCount}
 use Rattle.app_loads.specs.Plans.{IsAppNet}
 use Rattle.app_loads.proofs.Claiming.{claims_joined}
+use Rattle.app_loads.proofs.FewClaims.{few_claims}
 use Rattle.app_loads.proofs.FewSpots.{few_spots}
 use Rattle.app_loads.proofs.claims.claims_of.Goals as goal
 
@@ -21,6 +23,10 @@ claim_keys-requires-clause-keys c =
     subst (λ (l : List AppNet). All (λ (net : AppNet). IsKeyCount net.keys) l) (sym c.as_slice-4.ensures)
     (All-weaker (IsAppNet c.args.machine.now c.args.plan.now.spots) (λ (net : AppNet). IsKeyCount net.keys) (λ net is. record { some = is.some_key; few = is.few_keys }) c.args.plan.now.nets c.requires.nets)
 
-pub returns : goal.returns
-returns c =
+pub returns-clause-claims : goal.returns-clause-claims
+returns-clause-claims c =
     claims_joined c.args.machine.now c.args.plan.now _ _ _ _ _ _ _ _ _ _ c.new-claims.ensures.items c.as_slice.ensures c.as_slice-2.ensures c.in_ok-claim_memory.ensures c.as_slice-3.ensures c.in_ok-claim_fixed.ensures c.as_slice-4.ensures c.in_ok-claim_keys.ensures c.as_slice-5.ensures c.in_ok-claim_rows.ensures
+
+pub returns-clause-few : goal.returns-clause-few
+returns-clause-few c =
+    subst (λ (l : List Claim). length l ≤ 262144) (sym (returns-clause-claims c)) (few_claims c.args.machine.now c.chips-chips.ensures.size c.args.plan.now c.requires)

@@ -7,15 +7,15 @@ use Rattle.app_loads.specs.Taking.{AreServedAlways, AreTaken, AreTakenAlways}
 use Rattle.app_loads.proofs.Served.{can_serve, keyed_from}
 use Rattle.app_loads.proofs.loads.serve.Goals as goal
 
-pub take_all-requires : goal.take_all-requires
-take_all-requires c = can_serve c.args.machine.now c.args.plan.now c.args.regions.now c.deref.result.now c.requires.plan c.requires.regions (c.deref.ensures.value ∙ c.in-Ok.ensures)
+pub take_all-requires-clause-can : goal.take_all-requires-clause-can
+take_all-requires-clause-can c = can_serve c.args.machine.now c.args.plan.now c.args.regions.now c.deref.result.now c.requires.plan c.requires.regions (c.deref.ensures.value ∙ c.in-Ok.ensures.claims)
 
 pub app_of-requires : goal.app_of-requires
 app_of-requires c =
     let own = c.requires.regions in
-    let served = subst (λ (l : List Claim). AreServed c.args.machine.now own.taken l c.in-Ok-take_all.ranges.items) (c.deref.ensures.value ∙ c.in-Ok.ensures)
+    let served = subst (λ (l : List Claim). AreServed c.args.machine.now own.taken l c.in-Ok-take_all.ranges.items) (c.deref.ensures.value ∙ c.in-Ok.ensures.claims)
     (c.in-Ok-take_all.ensures.served c.args.machine.now own.taken own.apart own.free) in
-    subst (λ (l : List Claim). AreKeyed l c.deref-3.result.now (length c.args.plan.now.nets)) (sym (c.deref-2.ensures.value ∙ c.in-Ok.ensures))
+    subst (λ (l : List Claim). AreKeyed l c.deref-3.result.now (length c.args.plan.now.nets)) (sym (c.deref-2.ensures.value ∙ c.in-Ok.ensures.claims))
     (subst (λ (l : List Range). AreKeyed (claims_of c.args.machine.now c.args.plan.now) l (length c.args.plan.now.nets)) (sym c.deref-3.ensures.value)
     (keyed_from c.args.machine.now c.args.plan.now c.requires.plan own.taken c.in-Ok-take_all.ranges.items served))
 
@@ -29,7 +29,7 @@ returns-in-Ok-app_of-clause-served c =
       plan_is = made.plan;
       first_is = made.first;
       served = subst (λ (l : List Range). AreServedAlways (claims_of c.args.machine.now c.args.plan.now) c.args.regions.now l) (sym ranges)
-          (subst (λ (l : List Claim). AreServedAlways l c.args.regions.now c.in-Ok-take_all.ranges.items) (c.deref.ensures.value ∙ c.in-Ok.ensures) c.in-Ok-take_all.ensures.served);
+          (subst (λ (l : List Claim). AreServedAlways l c.args.regions.now c.in-Ok-take_all.ranges.items) (c.deref.ensures.value ∙ c.in-Ok.ensures.claims) c.in-Ok-take_all.ensures.served);
       taken = subst (λ (l : List Range). AreTakenAlways c.args.regions.now l c.take_all.new.regions) (sym ranges) c.in-Ok-take_all.ensures.taken;
       blocks = subst (λ (l : List Claim). AreBlocks l c.in-Ok-app_of.app.ranges c.args.plan.now.nets c.in-Ok-app_of.app.blocks) claims
           (subst (λ (l : List Range). AreBlocks c.deref-2.result.now l c.args.plan.now.nets c.in-Ok-app_of.app.blocks) (sym made.ranges) made.blocks);

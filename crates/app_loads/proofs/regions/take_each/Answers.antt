@@ -13,8 +13,8 @@ loop-claim-init c = record {
   counted = λ k n at. none_counted (length c.args.regions.now) k n (ap (λ l. slice_get l k) (sym c.requires.counts) ∙ at) ∙ ap (of_region k) (sym c.requires.none);
 }
 
-pub take_claim-requires : goal.take_claim-requires
-take_claim-requires c =
+pub take_claim-requires-clause-fair : goal.take_claim-requires-clause-fair
+take_claim-requires-clause-fair c =
     claim_fair c.args.claims.now c.args.regions.now c.loop-claim.regions c.loop-claim.ranges.items c.loop-claim.claim-index _ c.index-regions-at.result c.loop-claim-test.true
     c.loop-claim.invariant.each_one c.loop-claim.invariant.served c.requires.can
 

@@ -24,8 +24,8 @@ returns-in-Some-clause-why c = subst (λ (s : State). IsLeastUnderWay s c.args.a
 pub returns-in-Some-clause-mesh_refused : goal.returns-in-Some-clause-mesh_refused
 returns-in-Some-clause-mesh_refused c = c.put_together.ensures ∙ c.take_apart-parts.ensures.parts
 
-pub make_ready-requires : goal.make_ready-requires
-make_ready-requires c =
+pub make_ready-requires-clause-there : goal.make_ready-requires-clause-there
+make_ready-requires-clause-there c =
     All-weaker (IsRangeWithin c.args.mesh.setup.machine (length c.args.regions.now)) (λ (r : Range). r.region < length c.args.regions.now) (λ r within. within.there) c.args.app.now.ranges c.requires.taken.within
 
 pub returns-in-Err-clause-back : goal.returns-in-Err-clause-back

@@ -14,5 +14,5 @@ returns c =
       answered = answered;
       given = all_given steps c.finished.result answered;
       apps = all_apps c.take_all-taken.result text c.apps_of.result c.finished.result c.apps_of.ensures.apps c.finished.ensures;
-      only = all_only steps c.finished.result c.requires.valid;
+      only = all_only steps c.finished.result (λ one other after last. c.steps_have_one_text.ensures steps one other after last c.requires.valid) answered;
     }

@@ -1,0 +1,142 @@
+-- What machines with the same applications have in common, and that unloads and runs keep it.
+use Rattle.std.proofs.Common.{◌≡◌, ℕ, List, [], ◌∷◌, ◌++◌, length, map, refl, sym, ap, ◌∙◌, subst, arith, not, true, Option, None}
+use Rattle.std.specs.List.{All, Contains, filter, flat_map, slice_get}
+use Rattle.std.proofs.lemmas.List.Elements.{All-head, All-tail}
+use Rattle.spin_base.proofs.Members.{Among}
+use Rattle.spin_base.specs.declared.chips.Spot.{Spot}
+use Rattle.spin_base.specs.declared.copies.McCopy.{McCopy}
+use Rattle.spin_base.specs.declared.copies.DumpRec.{DumpRec}
+use Rattle.machine_desc.specs.Description.{Description}
+use Rattle.mesh_core.specs.State.{Hand, Setup, State, IsMesh}
+use Rattle.mesh_core.specs.Trail.{Mark}
+use Rattle.mesh_core.specs.Ledger.{marks_of, MeetsLedgerFor}
+use Rattle.mesh_core.specs.Expected.{IsAtRest, NothingWaits}
+use Rattle.mesh_core.proofs.Fixed.{setup_after}
+use Rattle.app_loads.specs.declared.answers.Ended.{Ended}
+use Rattle.app_loads.specs.declared.loaded.LoadedApp.{LoadedApp}
+use Rattle.app_loads.specs.Alike.{AreAlike, IsQuiet}
+use Rattle.app_loads.specs.Applications.{AreApps}
+use Rattle.app_loads.specs.Host.{Host, all_nets, asked_of}
+use Rattle.app_loads.specs.Leaving.{held_packets, is_delivery_of, is_packet_of, is_record_of, IsUnderWayAt, mesh_without, NoneUnderWay, others_than, packet_numbers_of, WaitsIn}
+use Rattle.app_loads.specs.Opening.{usable_spots}
+use Rattle.app_loads.specs.Running.{HasMovedMesh}
+use Rattle.app_loads.specs.Unloading.{HasUnloaded}
+use Rattle.app_loads.proofs.Delivered.{HasOneWay, no_more}
+use Rattle.app_loads.proofs.LeavingLeast.{listed_waits, under_way, waits_listed}
+
+pub alike_too : (h g : Host) → AreAlike h g → AreAlike g h
+alike_too h g alike = record {
+  machine = sym alike.machine;
+  apps = sym alike.apps;
+  packets = sym alike.packets;
+  unsent = sym alike.unsent;
+  quiet = alike.other_quiet;
+  other_quiet = alike.quiet;
+}
+
+-- the vertices are the same
+pub same_spots : (h g : Host) → AreApps h → AreApps g → h.mesh.setup.machine ≡ g.mesh.setup.machine → h.mesh.setup.spots ≡ g.mesh.setup.spots
+same_spots h g apps also machine = apps.vertices ∙ (ap usable_spots machine ∙ sym also.vertices)
+
+-- ---- the packets under way
+
+flat_of_none : {X Y : Type 0} (f : X → List Y) (e : X) → f e ≡ [] → (xs : List X) → All (λ x. x ≡ e) xs → flat_map f xs ≡ []
+flat_of_none f e none [] all = refl
+flat_of_none {X} {Y} f e none (x ∷ xs) all =
+    ap (λ (l : List Y). l ++ flat_map f xs) (ap f (All-head (λ y. y ≡ e) x xs all) ∙ none) ∙ flat_of_none f e none xs (All-tail (λ y. y ≡ e) x xs all)
+
+-- only unsent packets are under way where no copy waits
+only_unsent : (s : State) → NothingWaits s → under_way s ≡ ((flat_map packet_numbers_of s.unsent ++ []) ++ []) ++ []
+only_unsent s quiet =
+    let inputs = flat_of_none packet_numbers_of [] refl s.inputs quiet.inputs_empty in
+    let hands = flat_of_none held_packets None refl s.hands quiet.hands_empty in
+    let cores = flat_of_none packet_numbers_of [] refl s.cores quiet.cores_empty in
+    rw (inputs, hands, cores) refl
+
+module _ (h g : Host) (alike : AreAlike h g) where
+  same_under_way : under_way h.mesh ≡ under_way g.mesh
+  same_under_way =
+      only_unsent h.mesh alike.quiet.waits
+      ∙ (ap (λ (l : List (List McCopy)). ((flat_map packet_numbers_of l ++ []) ++ []) ++ []) alike.unsent
+      ∙ sym (only_unsent g.mesh alike.other_quiet.waits))
+
+  -- what waits on the one waits on the other
+  pub waits_too : IsMesh g.mesh → (app : LoadedApp) (n : ℕ) → WaitsIn h.mesh app n → WaitsIn g.mesh app n
+  waits_too mesh app n waits = listed_waits g.mesh mesh app n waits.0 (subst (Among n) same_under_way (waits_listed h.mesh app n waits))
+
+  pub none_too : IsMesh h.mesh → (app : LoadedApp) → NoneUnderWay h.mesh app → NoneUnderWay g.mesh app
+  none_too mesh app none n waits =
+      none n (listed_waits h.mesh mesh app n waits.0 (subst (Among n) (sym same_under_way) (waits_listed g.mesh app n waits)))
+
+-- ---- deliveries
+
+-- no copy of a packet of the application is under way
+no_mark : (s : State) (app : LoadedApp) → NoneUnderWay s app → (k : Mark) → Contains (marks_of s) k → is_packet_of app k.copy.packet ≡ true → IsUnderWayAt k.station → ⊥
+no_mark s app none k has own under = none k.copy.packet (own, (k, has, refl, under))
+
+module _ (one_way : HasOneWay) (h g : Host) (app : LoadedApp) (apps : AreApps h) (also : AreApps g) (alike : AreAlike h g) (none : NoneUnderWay h.mesh app) where
+  pub same_count : length (filter (is_delivery_of app) h.mesh.delivered) ≡ length (filter (is_delivery_of app) g.mesh.delivered)
+  same_count =
+      let spots = same_spots h g apps also alike.machine in
+      let ledger : MeetsLedgerFor g.mesh (all_nets h.apps) (asked_of h.apps) =
+      subst (λ (l : List LoadedApp). MeetsLedgerFor g.mesh (all_nets l) (asked_of l)) (sym alike.apps) also.ledger
+      in
+      let there = none_too h g alike apps.mesh app none in
+      let few = no_more one_way h.mesh g.mesh (all_nets h.apps) (asked_of h.apps) alike.machine spots apps.ledger ledger (is_packet_of app) (no_mark g.mesh app there) alike.other_quiet.no_record in
+      let many = no_more one_way g.mesh h.mesh (all_nets h.apps) (asked_of h.apps) (sym alike.machine) (sym spots) ledger apps.ledger (is_packet_of app) (no_mark h.mesh app none) alike.quiet.no_record in
+      omega (arith, few, many)
+
+-- ---- unloads
+
+quiet_without : (app : LoadedApp) (s t : State) → t ≡ mesh_without app t.setup.tables s → IsQuiet s → IsQuiet t
+quiet_without app s t is quiet = record {
+  waits = record {
+    inputs_empty = subst (All (λ (q : List McCopy). q ≡ [])) (sym (ap (λ (m : State). m.inputs) is)) quiet.waits.inputs_empty;
+    hands_empty = subst (All (λ (x : Option Hand). x ≡ None)) (sym (ap (λ (m : State). m.hands) is)) quiet.waits.hands_empty;
+    cores_empty = subst (All (λ (q : List McCopy). q ≡ [])) (sym (ap (λ (m : State). m.cores) is)) quiet.waits.cores_empty;
+  };
+  no_record = ap (λ (m : State). m.dumped) is ∙ ap (filter (λ (r : DumpRec). not (is_record_of app r))) quiet.no_record;
+}
+
+pub alike_unloaded : (h g new other : Host) (number : ℕ) (ended end : Ended) → AreAlike h g → HasUnloaded h number ended new → HasUnloaded g number end other → AreAlike new other
+alike_unloaded h g new other number ended end alike a b = record {
+  machine = ap (λ (m : State). m.setup.machine) a.mesh ∙ (alike.machine ∙ sym (ap (λ (m : State). m.setup.machine) b.mesh));
+  apps = a.apps ∙ (ap (others_than number) alike.apps ∙ sym b.apps);
+  packets = a.packets ∙ (alike.packets ∙ sym b.packets);
+  unsent = ap (λ (m : State). m.unsent) a.mesh ∙ (alike.unsent ∙ sym (ap (λ (m : State). m.unsent) b.mesh));
+  quiet = quiet_without a.app h.mesh new.mesh a.mesh alike.quiet;
+  other_quiet = quiet_without b.app g.mesh other.mesh b.mesh alike.other_quiet;
+}
+
+-- ---- runs
+
+-- lists of empty lists of one length are the same
+same_empty : (xs ys : List (List McCopy)) → length xs ≡ length ys → All (λ q. q ≡ []) xs → All (λ q. q ≡ []) ys → xs ≡ ys
+same_empty [] [] long none also = refl
+same_empty [] (y ∷ ys) long none also = absurd (omega (arith, long))
+same_empty (x ∷ xs) [] long none also = absurd (omega (arith, long))
+same_empty (x ∷ xs) (y ∷ ys) long none also =
+    ap (λ (q : List McCopy). q ∷ xs) (All-head (λ q. q ≡ []) x xs none ∙ sym (All-head (λ q. q ≡ []) y ys also))
+    ∙ ap (λ (l : List (List McCopy)). y ∷ l) (same_empty xs ys (omega (arith, long)) (All-tail (λ q. q ≡ []) x xs none) (All-tail (λ q. q ≡ []) y ys also))
+
+moved_machine : (old new : Host) → HasMovedMesh old new → new.mesh.setup.machine ≡ old.mesh.setup.machine
+moved_machine old new moved =
+    ap (λ (s : State). s.setup.machine) moved.mesh.is ∙ ap (λ (u : Setup). u.machine) (setup_after old.mesh moved.mesh.events)
+
+quiet_moved : (old new : Host) → IsQuiet old.mesh → IsAtRest new.mesh → HasMovedMesh old new → IsQuiet new.mesh
+quiet_moved old new quiet rest moved = record { waits = rest.waits; no_record = moved.mesh.no_record quiet.waits ∙ quiet.no_record }
+
+pub alike_moved : (h g new other : Host) → AreAlike h g → AreApps new → AreApps other → IsAtRest new.mesh → IsAtRest other.mesh → HasMovedMesh h new → HasMovedMesh g other →
+    AreAlike new other
+alike_moved h g new other alike apps also rest rests a b = record {
+  machine = machine;
+  apps = ap (λ (x : Host). x.apps) a.others ∙ (alike.apps ∙ sym (ap (λ (x : Host). x.apps) b.others));
+  packets = ap (λ (x : Host). x.packets) a.others ∙ (alike.packets ∙ sym (ap (λ (x : Host). x.packets) b.others));
+  unsent = same_empty new.mesh.unsent other.mesh.unsent
+      (apps.mesh.unsent_lists ∙ (ap length (same_spots new other apps also machine) ∙ sym also.mesh.unsent_lists)) rest.all_sent rests.all_sent;
+  quiet = quiet_moved h new alike.quiet rest a;
+  other_quiet = quiet_moved g other alike.other_quiet rests b;
+}
+  where
+    machine : new.mesh.setup.machine ≡ other.mesh.setup.machine
+    machine = moved_machine h new a ∙ (alike.machine ∙ sym (moved_machine g other b))

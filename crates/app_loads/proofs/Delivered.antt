@@ -1,0 +1,189 @@
+-- Of packets of which no copy is under way, two meshes that meet the ledger of the same packets have as many deliveries.
+use Rattle.std.proofs.Common.{◌≡◌, ℕ, ◌≤◌, ◌==◌, ◌&&◌, Bool, true, List, [], ◌++◌, length, refl, sym, ap, ◌∙◌, subst, arith, Option, Some, None, count_by}
+use Rattle.std.specs.List.{filter, Contains}
+use Rattle.std.proofs.lemmas.Bool.{and_from, and_parts, eqb-true, eq-eqb}
+use Rattle.std.proofs.lemmas.List.Sums.{length-filter}
+use Rattle.std.proofs.lemmas.Option.{same_Some}
+use Rattle.spin_base.proofs.Counts.{count_by-append, count_by-map}
+use Rattle.spin_base.proofs.Members.{Among, among_contains, among_filter, contains_among, Contains-filter}
+use Rattle.spin_base.specs.declared.chips.Spot.{Spot}
+use Rattle.spin_base.specs.declared.copies.McCopy.{McCopy}
+use Rattle.spin_base.specs.declared.copies.Delivery.{Delivery}
+use Rattle.spin_base.specs.declared.copies.DumpRec.{DumpRec}
+use Rattle.machine_desc.specs.Description.{Description}
+use Rattle.machine_desc.specs.Branch.{Exit}
+use Rattle.machine_desc.specs.declared.nets.NetPlan.{NetPlan}
+use Rattle.machine_desc.specs.RightTables.{IsKeyOf}
+use Rattle.machine_desc.specs.NetsOn.{AreNetsOn, IsWayOn}
+use Rattle.mesh_core.specs.State.{State}
+use Rattle.mesh_core.specs.Trail.{Station, unsent, in_queue, in_hand, at_core, delivered, dumped, Mark, on_trail, is_packet_on_trail}
+use Rattle.mesh_core.specs.Ledger.{marks_of, unsent_marks, input_marks, all_hand_marks, core_marks, delivered_marks, dumped_marks, Asked, Label, label_of, MeetsLedgerFor}
+use Rattle.mesh_core.proofs.Counting.{count_covered, count_le, counted}
+use Rattle.mesh_core.proofs.ExpectedList.{is_of, is_of_from, is_of_parts}
+use Rattle.mesh_core.proofs.LedgerLaw.{one_net}
+use Rattle.mesh_core.proofs.Moves.{mark}
+use Rattle.mesh_core.proofs.Standing.{StandsAt, delivered_mark, mark_stands}
+use Rattle.mesh_core.proofs.Ways.{vertex_at_stands}
+use Rattle.app_loads.specs.Leaving.{IsUnderWayAt}
+use Rattle.app_loads.proofs.LeavingLists.{after_cores, after_hands, after_inputs, after_unsent}
+
+abbrev mark_of : Delivery → Mark
+mark_of d = mark d.copy (delivered d.vertex)
+
+-- The marks of deliveries are some of all marks.
+few_delivered : (p : Mark → Bool) (s : State) → count_by (λ d. p (mark_of d)) s.delivered ≤ count_by p (marks_of s)
+few_delivered p s =
+    let mapped : count_by p (delivered_marks s) ≡ count_by (λ d. p (mark_of d)) s.delivered = count_by-map p mark_of s.delivered in
+    let first = count_by-append p (unsent_marks s) (after_unsent s) in
+    let second = count_by-append p (input_marks s) (after_inputs s) in
+    let third = count_by-append p (all_hand_marks s) (after_hands s) in
+    let fourth = count_by-append p (core_marks s) (after_cores s) in
+    let fifth = count_by-append p (delivered_marks s) (dumped_marks s) in
+    omega (arith, mapped, first, second, third, fourth, fifth)
+
+-- What the ledger says of a delivery: the way on which it came, and what was asked for.
+record HasArrived (s : State) (nets : List NetPlan) (asked : ℕ → Option Asked) (d : Delivery) : Type 0 where
+  net : NetPlan
+  in_nets : Contains nets net
+  is_key : IsKeyOf net.block d.copy.key
+  target : Spot
+  branch : List Exit
+  from : ℕ
+  way : IsWayOn s.setup.machine s.setup.spots net target branch from d.vertex
+  hops : d.copy.hop ≡ length branch
+  for : Asked
+  was_asked : asked d.copy.packet ≡ Some for
+  key : d.copy.key ≡ for.label.key
+
+module _ (s : State) (nets : List NetPlan) (asked : ℕ → Option Asked) (meets : MeetsLedgerFor s nets asked) where
+  has_arrived : (d : Delivery) → Among d s.delivered → HasArrived s nets asked d
+  has_arrived d a =
+      let has = among_contains (mark_of d) (marks_of s) (delivered_mark s d a) in
+      let on = meets.ledger.on_a_trail (mark_of d) has in
+      let parts = and_parts (d.vertex == on.3.3) (d.copy.hop == length on.3.1) on.3.5 in
+      let vertex : d.vertex ≡ on.3.3 = eqb-true d.vertex on.3.3 parts.0 in
+      let what = meets.was_asked (mark_of d) has in
+      record {
+        net = on.0;
+        in_nets = on.1;
+        is_key = on.2;
+        target = on.3.0;
+        branch = on.3.1;
+        from = on.3.2;
+        way = subst (λ v. IsWayOn s.setup.machine s.setup.spots on.0 on.3.0 on.3.1 on.3.2 v) (sym vertex) on.3.4;
+        hops = eqb-true d.copy.hop (length on.3.1) parts.1;
+        for = what.0;
+        was_asked = what.1;
+        key = (meets.ledger.labelled (mark_of d) has).0 ∙ ap (λ (o : Option Asked). (label_of o).key) what.1;
+      }
+
+  -- of each packet that was asked for, one mark is on each way of its net
+  one_on_way : (i : ℕ) (a : Asked) → asked i ≡ Some a → (net : NetPlan) → Contains nets net → IsKeyOf net.block a.label.key →
+      (target : Spot) (branch : List Exit) (from to : ℕ) → IsWayOn s.setup.machine s.setup.spots net target branch from to →
+      count_by (is_packet_on_trail i from to branch) (marks_of s) ≡ 1
+  one_on_way i a is net in_nets key target branch from to way =
+      let k = meets.each_asked i a is in
+      let its : k.0.copy.key ≡ a.label.key =
+      (meets.ledger.labelled k.0 k.1).0 ∙ (ap (λ n. (label_of (asked n)).key) k.2 ∙ ap (λ (o : Option Asked). (label_of o).key) is)
+      in
+      ap (λ n. count_by (is_packet_on_trail n from to branch) (marks_of s)) (sym k.2)
+      ∙ meets.ledger.once_on_each k.0 k.1 net in_nets (subst (λ n. IsKeyOf net.block n) (sym its) key) target branch from to way
+
+-- that each target has one way
+abbrev pub HasOneWay : Type 0
+HasOneWay = (m : Description) (spots : List Spot) (nets : List NetPlan) (net : NetPlan) (target : Spot) (branch other : List Exit) (from begin to end : ℕ) →
+    AreNetsOn m spots nets → Contains nets net → IsWayOn m spots net target branch from to → IsWayOn m spots net target other begin end →
+    (branch ≡ other) × (from ≡ begin) × (to ≡ end)
+
+module _ (one_way : HasOneWay) (s t : State) (nets : List NetPlan) (asked : ℕ → Option Asked) (machine : s.setup.machine ≡ t.setup.machine) (spots : s.setup.spots ≡ t.setup.spots)
+    (meets : MeetsLedgerFor s nets asked) (also : MeetsLedgerFor t nets asked) (own : ℕ → Bool)
+    (none : (k : Mark) → Contains (marks_of t) k → own k.copy.packet ≡ true → IsUnderWayAt k.station → ⊥) (no_record : t.dumped ≡ []) where
+  abbrev is_own : Delivery → Bool
+  is_own d = own d.copy.packet
+
+  abbrev IsWayAt : Description → List Spot → NetPlan → Spot → List Exit → ℕ → ℕ → Type 0
+  IsWayAt m on net target branch from to = IsWayOn m on net target branch from to
+
+  there : (net : NetPlan) (target : Spot) (branch : List Exit) (from to : ℕ) → IsWayOn s.setup.machine s.setup.spots net target branch from to →
+      IsWayOn t.setup.machine t.setup.spots net target branch from to
+  there net target branch from to way =
+      subst (λ (l : List Spot). IsWayOn t.setup.machine l net target branch from to) spots
+      (subst (λ (m : Description). IsWayOn m s.setup.spots net target branch from to) machine way)
+
+  back : (net : NetPlan) (target : Spot) (branch : List Exit) (from to : ℕ) → IsWayOn t.setup.machine t.setup.spots net target branch from to →
+      IsWayOn s.setup.machine s.setup.spots net target branch from to
+  back net target branch from to way =
+      subst (λ (m : Description). IsWayOn m s.setup.spots net target branch from to) (sym machine)
+      (subst (λ (l : List Spot). IsWayOn t.setup.machine l net target branch from to) (sym spots) way)
+
+  -- a delivery on the other mesh, of the same packet at the same vertex
+  abbrev IsMatched : Delivery → Type 0
+  IsMatched d = (w : Delivery) × Among w (filter is_own t.delivered) × (is_of w.copy.packet w.vertex d ≡ true)
+
+  matched : (d : Delivery) → Among d s.delivered → is_own d ≡ true → IsMatched d
+  matched d a passes =
+      let v = has_arrived s nets asked meets d a in
+      let one =
+      one_on_way t nets asked also d.copy.packet v.for v.was_asked v.net v.in_nets (subst (λ n. IsKeyOf v.net.block n) v.key v.is_key) v.target v.branch v.from d.vertex
+      (there v.net v.target v.branch v.from d.vertex v.way)
+      in
+      let k = counted (is_packet_on_trail d.copy.packet v.from d.vertex v.branch) (marks_of t) (omega (arith, one)) in
+      let parts = and_parts (k.0.copy.packet == d.copy.packet) (on_trail v.from d.vertex v.branch k.0.copy.hop k.0.station) k.2 in
+      let number : k.0.copy.packet ≡ d.copy.packet = eqb-true k.0.copy.packet d.copy.packet parts.0 in
+      let mine : own k.0.copy.packet ≡ true = ap own number ∙ passes in
+      by_station k.0.copy k.0.station number mine (none k.0 (among_contains k.0 (marks_of t) k.1) mine) (mark_stands t k.0 k.1) v.from v.branch parts.1
+    where
+      by_station : (c : McCopy) (at : Station) → c.packet ≡ d.copy.packet → own c.packet ≡ true → (IsUnderWayAt at → ⊥) → StandsAt t c at →
+          (from : ℕ) (branch : List Exit) → on_trail from d.vertex branch c.hop at ≡ true → IsMatched d
+      by_station c (unsent v) number mine never stands from branch on = absurd (never tt)
+      by_station c (in_queue x port) number mine never stands from branch on = absurd (never tt)
+      by_station c (in_hand x o) number mine never stands from branch on = absurd (never tt)
+      by_station c (at_core v) number mine never stands from branch on = absurd (never tt)
+      by_station c (dumped x o) number mine never stands from branch on =
+          absurd (subst (λ (rs : List DumpRec). Among (record { chip = x; out = o; copy = c }) rs) no_record stands)
+      by_station c (delivered v) number mine never stands from branch on =
+          let w : Delivery = record { vertex = v; copy = c } in
+          let at : v ≡ d.vertex = eqb-true v d.vertex ((and_parts (v == d.vertex) (c.hop == length branch) on).0) in
+          (w, contains_among w (filter is_own t.delivered) (Contains-filter is_own t.delivered w (among_contains w t.delivered stands) mine), is_of_from c.packet v d (sym number) (sym at))
+
+  -- and no two of one packet are at one vertex
+  once : (w : Delivery) → Among w (filter is_own t.delivered) → count_by (is_of w.copy.packet w.vertex) s.delivered ≤ 1
+  once w a =
+      let v = has_arrived t nets asked also w (among_filter is_own w t.delivered a).0 in
+      let way = back v.net v.target v.branch v.from w.vertex v.way in
+      let its : IsKeyOf v.net.block v.for.label.key = subst (λ n. IsKeyOf v.net.block n) v.key v.is_key in
+      let one = one_on_way s nets asked meets w.copy.packet v.for v.was_asked v.net v.in_nets its v.target v.branch v.from w.vertex way in
+      let trail : Mark → Bool = is_packet_on_trail w.copy.packet v.from w.vertex v.branch in
+      let fewer : count_by (is_of w.copy.packet w.vertex) s.delivered ≤ count_by (λ d. trail (mark_of d)) s.delivered =
+      count_le (is_of w.copy.packet w.vertex) (λ d. trail (mark_of d)) s.delivered (λ d has passes.
+      let same = is_of_parts w.copy.packet w.vertex d passes in
+      let u = has_arrived s nets asked meets d has in
+      let what : u.for ≡ v.for = same_Some u.for v.for (sym u.was_asked ∙ (ap asked same.0 ∙ v.was_asked)) in
+      let key : IsKeyOf u.net.block v.for.label.key = subst (λ (x : Asked). IsKeyOf u.net.block x.label.key) what (subst (λ n. IsKeyOf u.net.block n) u.key u.is_key) in
+      let net : u.net ≡ v.net = one_net nets meets.ledger.nets_stand.disjoint u.net v.net u.in_nets v.in_nets v.for.label.key key its in
+      let at_w : IsWayOn s.setup.machine s.setup.spots u.net u.target u.branch u.from w.vertex =
+      subst (λ n. IsWayOn s.setup.machine s.setup.spots u.net u.target u.branch u.from n) same.1 u.way
+      in
+      let target : u.target ≡ v.target =
+      same_Some u.target v.target (sym (vertex_at_stands s.setup.spots u.target w.vertex at_w.ends) ∙ vertex_at_stands s.setup.spots v.target w.vertex way.ends)
+      in
+      let along : IsWayOn s.setup.machine s.setup.spots v.net v.target u.branch u.from w.vertex =
+      subst (λ (x : Spot). IsWayOn s.setup.machine s.setup.spots v.net x u.branch u.from w.vertex) target
+      (subst (λ (n : NetPlan). IsWayOn s.setup.machine s.setup.spots n u.target u.branch u.from w.vertex) net at_w)
+      in
+      let branch : u.branch ≡ v.branch =
+      (one_way s.setup.machine s.setup.spots nets v.net v.target u.branch v.branch u.from v.from w.vertex w.vertex meets.ledger.nets_stand v.in_nets along way).0
+      in
+      and_from (d.copy.packet == w.copy.packet) ((d.vertex == w.vertex) && (d.copy.hop == length v.branch)) (eq-eqb d.copy.packet w.copy.packet same.0)
+      (and_from (d.vertex == w.vertex) (d.copy.hop == length v.branch) (eq-eqb d.vertex w.vertex same.1)
+      (eq-eqb d.copy.hop (length v.branch) (u.hops ∙ ap length branch))))
+      in
+      let all = few_delivered trail s in
+      omega (arith, one, fewer, all)
+
+  -- so there are no more of them than on the other mesh
+  pub no_more : length (filter is_own s.delivered) ≤ length (filter is_own t.delivered)
+  no_more =
+      let long : length (filter is_own s.delivered) ≡ count_by is_own s.delivered = length-filter is_own s.delivered in
+      let few = count_covered (λ w d. is_of w.copy.packet w.vertex d) (filter is_own t.delivered) is_own s.delivered matched once in
+      omega (arith, long, few)

@@ -1,0 +1,83 @@
+-- A plan asks the regions for few ranges: at most 262,144.
+use Rattle.std.proofs.Common.{◌≡◌, ℕ, ◌+◌, ◌*◌, ◌≤◌, ◌==◌, min, Bool, true, false, List, [], ◌∷◌, ◌++◌, length, arith, Option, Some, None, if◌then◌else◌, count_by}
+use Rattle.std.specs.Prelude.{zip}
+use Rattle.std.specs.List.{flat_map, range_with_len}
+use Rattle.std.proofs.lemmas.List.{length-append}
+use Rattle.std.proofs.lemmas.List.FromFn.{length-range_with_len}
+use Rattle.std.proofs.lemmas.Nat.{mul-le}
+use Rattle.std.proofs.lemmas.Slice.Zip.{AllZip-long, length-zip}
+use Rattle.spin_base.specs.Gathered.{gathered}
+use Rattle.spin_base.specs.declared.blocks.Block.{Block}
+use Rattle.machine_desc.specs.Description.{Description, HasSize}
+use Rattle.machine_desc.specs.Live.{chip_of}
+use Rattle.app_loads.specs.declared.answers.LoadErr.TheVariants.{MemoryOut, RowsOut}
+use Rattle.app_loads.specs.declared.loaded.Claim.{Claim}
+use Rattle.app_loads.specs.declared.loaded.LoadedApp.{LoadedApp}
+use Rattle.app_loads.specs.declared.plans.AppNet.{AppNet}
+use Rattle.app_loads.specs.declared.plans.AppPlan.{AppPlan}
+use Rattle.app_loads.specs.Applications.{IsLoadedOn, IsRangeFor}
+use Rattle.app_loads.specs.Claims.{claims_of, fixed_claim, has_chip, key_claim, memory_claim, row_claim}
+use Rattle.app_loads.specs.Plans.{IsPlan}
+use Rattle.app_loads.specs.Regions.{chip_count, memory_region, rows_region}
+use Rattle.app_loads.proofs.FewSpots.{few_spots}
+
+one_unless : (b : Bool) (claim : Claim) → length (if b then [] else claim ∷ []) ≤ 1
+one_unless true claim = omega arith
+one_unless false claim = omega arith
+
+one_fixed : (j : ℕ) (o : Option Block) → length (fixed_claim j o) ≤ 1
+one_fixed j (Some block) = omega arith
+one_fixed j None = omega arith
+
+one_of_keys : (j keys : ℕ) (o : Option Block) → length (key_claim j keys o) ≤ 1
+one_of_keys j keys (Some block) = omega arith
+one_of_keys j keys None = omega arith
+
+few_gathered : {X : Type 0} (f : ℕ → X → List Claim) → ((j : ℕ) (x : X) → length (f j x) ≤ 1) → (i : ℕ) (xs : List X) → length (gathered f i xs) ≤ length xs
+few_gathered f one i [] = omega arith
+few_gathered f one i (x ∷ xs) =
+    let whole = length-append (f i x) (gathered f (i + 1) xs) in
+    let here = one i x in
+    let rest = few_gathered f one (i + 1) xs in
+    omega (arith, whole, here, rest)
+
+few_mapped : {X : Type 0} (f : X → List Claim) → ((x : X) → length (f x) ≤ 1) → (xs : List X) → length (flat_map f xs) ≤ length xs
+few_mapped f one [] = omega arith
+few_mapped f one (x ∷ xs) =
+    let whole = length-append (f x) (flat_map f xs) in
+    let here = one x in
+    let rest = few_mapped f one xs in
+    omega (arith, whole, here, rest)
+
+module _ (m : Description) (size : HasSize m) (plan : AppPlan) (valid : IsPlan m plan) where
+  pub few_claims : length (claims_of m plan) ≤ 262144
+  few_claims =
+      let memory : List Claim = gathered (memory_claim m) 0 (zip plan.spots plan.sdram) in
+      let fixed : List Claim = gathered (λ j (net : AppNet). fixed_claim j net.fixed) 0 plan.nets in
+      let keys : List Claim = gathered (λ j (net : AppNet). key_claim j net.keys net.fixed) 0 plan.nets in
+      let rows : List Claim = flat_map (row_claim m plan.nets) (range_with_len 0 (chip_count m)) in
+      let first = length-append memory (fixed ++ (keys ++ rows)) in
+      let second = length-append fixed (keys ++ rows) in
+      let third = length-append keys rows in
+      let of_memory : length memory ≤ length (zip plan.spots plan.sdram) = few_gathered (memory_claim m) (λ j need.
+      one_unless (need.1 == 0) (record { region = memory_region m need.0.chip; size = need.1; align = 1; fixed = None; refusal = MemoryOut j })) 0 (zip plan.spots plan.sdram)
+      in
+      let of_fixed : length fixed ≤ length plan.nets = few_gathered (λ j (net : AppNet). fixed_claim j net.fixed) (λ j net. one_fixed j net.fixed) 0 plan.nets in
+      let of_keys : length keys ≤ length plan.nets = few_gathered (λ j (net : AppNet). key_claim j net.keys net.fixed) (λ j net. one_of_keys j net.keys net.fixed) 0 plan.nets in
+      let of_rows : length rows ≤ length (range_with_len 0 (chip_count m)) = few_mapped (row_claim m plan.nets) (λ i.
+      let long : ℕ = count_by (has_chip m (chip_of m i)) plan.nets in
+      one_unless (long == 0) (record { region = rows_region m (chip_of m i); size = long; align = 1; fixed = None; refusal = RowsOut (chip_of m i) })) (range_with_len 0 (chip_count m))
+      in
+      let pairs = length-zip plan.spots plan.sdram in
+      let spots = few_spots m plan.spots valid.different valid.usable in
+      let chips : chip_count m ≤ 64 * 64 = mul-le m.width m.height 64 64 size.width_to_64 size.height_to_64 in
+      let indices : length (range_with_len 0 (chip_count m)) ≡ chip_count m = length-range_with_len 0 (chip_count m) in
+      let nets = valid.few_nets in
+      omega (arith, first, second, third, of_memory, of_fixed, of_keys, of_rows, pairs, spots, chips, indices, nets)
+
+-- an application has as few
+pub few_ranges : (m : Description) → HasSize m → (app : LoadedApp) → IsLoadedOn m app → length app.ranges ≤ 262144
+few_ranges m size app is =
+    let same = AllZip-long IsRangeFor (claims_of m app.plan) app.ranges is.ranges in
+    let few = few_claims m size app.plan is.plan in
+    omega (arith, same, few)
