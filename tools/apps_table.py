@@ -204,6 +204,15 @@ def entry_cases():
         ["load 1 ok", "load 2 rows out 1 0", "load 3 ok", "load 4 rows out 0 0", "unload 1 got 0 dumped 0", "load 4 rows out 0 0", "unload 3 got 0 dumped 0", "load 4 ok", "run", "unload 4 got 1 dumped 0"],
     )
 
+    most = job(
+        [{"name": f"a{i}", "at": [i, 0]} for i in range(4)], [(f"n{i}", f"a{i % 4}", [f"a{i % 4}"], {}) for i in range(4096)], machine={"width": 4}
+    )
+    yield (
+        "4,096 nets, 1,024 on each of four chips, are loaded at once, and so they are when they were unloaded; on one chip they have no room",
+        [load(1, most), load(2, many_nets(1)), unload(1), load(2, many_nets(4096)), load(3, most), unload(3)],
+        ["load 1 ok", "load 2 rows out 0 0", "unload 1 got 0 dumped 0", "load 2 rows out 0 0", "load 3 ok", "unload 3 got 0 dumped 0"],
+    )
+
 
 def order_cases():
     """Memory is asked for before keys, and keys before entries."""

@@ -5,6 +5,7 @@ use Rattle.std.proofs.lemmas.Bool.{cases_Bool, cases_eq, eqb-true, eq-eqb, and_p
 use Rattle.std.proofs.lemmas.List.{length-set, length_push, take_at, take-append-le, map-set, drop_more}
 use Rattle.std.proofs.lemmas.List.Elements.{All-nil, All-cons, All-head, All-tail, All-append, All-contains}
 use Rattle.std.proofs.lemmas.List.Folds.{list_any-append}
+use Rattle.std.proofs.lemmas.List.Sums.{count_by-le-length}
 use Rattle.std.proofs.lemmas.Option.{slice_get_within, slice_get-get_or, same_Some, none-some}
 use Rattle.key_alloc.proofs.Ranges.{in_facts}
 use Rattle.spin_base.proofs.Counts.{count_by-append, count_by-cons}
@@ -446,6 +447,13 @@ module _ (claims : List Claim) (old mid : List Region) (ranges : List Range) (i 
 
     pub count_held : get_or counts claim.region f ≡ of_region claim.region ranges
     count_held = counted claim.region (get_or counts claim.region f) (slice_get-get_or counts claim.region f count_there)
+
+    -- which are fewer than the claims
+    pub few_held : length claims ≤ 262144 → get_or counts claim.region f < 262144
+    few_held few =
+        let held = count_held in
+        let some : of_region claim.region ranges ≤ length ranges = count_by-le-length (λ (range : Range). range.region == claim.region) ranges in
+        omega (arith, below, each_one, few, held, some)
 
     pub counts_more : (place : ℕ) (list : List Range) → list ≡ ranges ++ range_at claim place ∷ [] → (next : ℕ) → next ≡ get_or counts claim.region f + 1 →
         (k n : ℕ) → slice_get (slice_set counts claim.region next) k ≡ Some n → n ≡ of_region k list

@@ -1,5 +1,5 @@
 // An application unloaded.
-ghost use Rattle.std.specs.Prelude.{◌≡◌, ◌==◌, ◌<◌, All, IfOk, IfErr, OnOk, OnErr, length, position};
+ghost use Rattle.std.specs.Prelude.{◌≡◌, ◌==◌, ◌<◌, ◌≤◌, All, IfOk, IfErr, OnOk, OnErr, length, position};
 ghost use Rattle.app_loads.specs.declared.loaded.LoadedApp.{LoadedApp as AnApp};
 ghost use Rattle.app_loads.specs.declared.loaded.Range.{Range as ARange};
 ghost use Rattle.app_loads.specs.Applications.{AreApps};

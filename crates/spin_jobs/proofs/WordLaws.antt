@@ -47,7 +47,7 @@ by_word P w job plan parts text makes on_run on_reinject on_trace on_gen on_tabl
   | ran is r ↦ subst P (sym r.4) (on_run is r.0 r.1 r.2 r.3)
   | reinjected is r ↦ subst P (sym r.4) (on_reinject is r.0 r.1 r.2 r.3)
   | traced is r ↦ subst P (sym r.4) (on_trace is r.0 r.1 r.2 r.3)
-  | imaged is l ↦ subst P (sym l.0) on_tables
+  | imaged is l ↦ subst P (sym l.given) on_tables
   | listed is l ↦ subst P (sym l.0) on_tables
   | generated n is r ↦ subst P (sym r.4) (on_gen n is r.0 r.1 r.2 r.3)
 ]

@@ -35,11 +35,11 @@ use Rattle.spin_jobs.proofs.Exclusive.{one_no_plan, planned_has_plan, plannable_
 use Rattle.spin_jobs.proofs.Generating.{generated_planned}
 use Rattle.spin_jobs.proofs.WordLaws.{plan_given, ledger_given, run_given, reinject_given, trace_given, generated_given}
 use Rattle.spin_top.specs.declared.outcomes.Outcome.{Outcome}
-use Rattle.spin_top.specs.Causes.{HasCause, usage, of_job, of_request, of_steps, no_memory, AskForApps, AskForCheck, AskForJob, HasNoNets, HaveNoLines, IsReadAsAsked}
-use Rattle.spin_top.specs.Ends.{Ends, made, refused, Says, IsExact, IsGenerated, IsOfApps, IsOfCheck, HasAnswer, has_plan, has_nets, has_steps}
+use Rattle.spin_top.specs.Causes.{HasCause, usage, of_job, of_request, of_steps, no_memory, AreCommand, AskForApps, AskForCheck, AskForJob, HasNoNets, HaveNoLines, IsReadAsAsked}
+use Rattle.spin_top.specs.Ends.{Ends, made, refused, Says, SaysSurely, IsExact, IsGenerated, IsOfApps, IsOfCheck, HasAnswer, has_plan, has_nets, has_steps}
 use Rattle.spin_top.specs.Inputs.{AreRefused, no_value, no_answer}
 use Rattle.spin_top.specs.Made.{HasNoJob, IsJobOf, from_job, checked, done, IsMadeOfJob}
-use Rattle.spin_top.specs.Writing.{Writing, IsWritten}
+use Rattle.spin_top.specs.Writing.{IsWritten, TakesMemory, Writing}
 use Rattle.spin_top.proofs.AppLaws.{IsSpared, bytes_refused_spared, fault_spared, memory_spared, none_refused, zero_spared}
 use Rattle.spin_top.proofs.CheckLaws.{checked_has_nets, fault_other, IsOther, memory_other, one_due, refused_other, with_nets, zero_other}
 use Rattle.spin_top.proofs.InputLaws.{answered_not_refused, read_told, refusal_due, refused_in_part, served_memory}
@@ -122,20 +122,26 @@ module _ {words : List (List ℕ)} {reading : Reading} {writing : Writing} {o : 
   says r s (inl whole) (inr (inr memory)) = inr (inr (inr (whole.0 ∙ ap Some memory)))
 
   -- words that are no command
-  say_usage : spelled words ≡ None → Says o.refusal refusals.Usage
+  say_usage : spelled words ≡ None → SaysSurely o.refusal refusals.Usage
   say_usage none = elim ends [
     | made text m written ↦ elim m [
       | from_job j unloaded ↦ absurd (none_some (spelled words) (OfJob j.word) none j.is_word)
       | checked asks request read is parts unloaded ↦ absurd (none_some (spelled words) Check none asks)
       | done asks steps read are parts ↦ absurd (none_some (spelled words) Apps none asks)
     ]
-    | refused r cause parts unloaded written ↦ says refusals.Usage r written (elim cause [
-      | usage asked untouched is ↦ inl is
-      | of_job asks none' ↦ absurd (none_some (spelled words) (OfJob asks.0) none asks.1)
-      | of_request asks none' ↦ absurd (none_some (spelled words) Check none asks)
-      | of_steps asks none' ↦ absurd (none_some (spelled words) Apps none asks)
-      | no_memory part is ↦ inr (inr is)
-    ])
+    | refused r cause parts unloaded written ↦
+        let same : r ≡ refusals.Usage = elim cause [
+          | usage asked untouched is ↦ is
+          | of_job asks none' ↦ absurd (none_some (spelled words) (OfJob asks.0) none asks.1)
+          | of_request asks none' ↦ absurd (none_some (spelled words) Check none asks)
+          | of_steps asks none' ↦ absurd (none_some (spelled words) Apps none asks)
+          | no_memory command part is ↦ absurd (command none)
+        ]
+        in
+        elim written [
+          | inl whole ↦ inl (whole.0 ∙ ap Some same)
+          | inr part ↦ inr part.0
+        ]
   ]
 
   -- bytes that are refused as a job
@@ -154,7 +160,7 @@ module _ {words : List (List ℕ)} {reading : Reading} {writing : Writing} {o : 
       | of_job asked none ↦ refusal_due job_in HasNoPlan (told_long job_of) one_no_plan reading bytes told r s are none
       | of_request check none ↦ absurd (job_not_check (spelled words) asks.0 asks.1 check)
       | of_steps apps none ↦ absurd (job_not_apps (spelled words) asks.0 asks.1 apps)
-      | no_memory part is ↦ inr (inr is)
+      | no_memory command part is ↦ inr (inr is)
     ])
   ]
 
@@ -172,7 +178,7 @@ module _ {words : List (List ℕ)} {reading : Reading} {writing : Writing} {o : 
       | of_job asked none ↦ absurd (job_not_check (spelled words) asked.0 asked.1 asks)
       | of_request check none ↦ refusal_due request_in HasNoNets (told_long request_of) one_due reading bytes told r s are none
       | of_steps apps none ↦ absurd (check_not_apps (spelled words) asks apps)
-      | no_memory part is ↦ inr (inr is)
+      | no_memory command part is ↦ inr (inr is)
     ])
   ]
 
@@ -190,7 +196,7 @@ module _ {words : List (List ℕ)} {reading : Reading} {writing : Writing} {o : 
       | of_job asked none ↦ absurd (job_not_apps (spelled words) asked.0 asked.1 asks)
       | of_request check none ↦ absurd (check_not_apps (spelled words) check asks)
       | of_steps apps none ↦ refusal_due steps_in HaveNoLines (told_long app_steps_of) none_refused reading bytes told r s are none
-      | no_memory part is ↦ inr (inr is)
+      | no_memory command part is ↦ inr (inr is)
     ])
   ]
 
@@ -230,7 +236,7 @@ module _ {words : List (List ℕ)} {reading : Reading} {writing : Writing} {o : 
           | of_job asks none ↦ absurd (gen_reads_none words n asked asks)
           | of_request check none ↦ absurd (job_not_check (spelled words) (Gen n) asked check)
           | of_steps apps none ↦ absurd (job_not_apps (spelled words) (Gen n) asked apps)
-          | no_memory part is ↦ (
+          | no_memory command part is ↦ (
             elim part [
               | inl read ↦ elim read.0 [
                 | inl asks ↦ absurd (gen_reads_none words n asked asks)
@@ -275,7 +281,7 @@ module _ {words : List (List ℕ)} {reading : Reading} {writing : Writing} {o : 
           | of_job asks none ↦ absurd (job_not_check (spelled words) asks.0 asks.1 asked)
           | of_request check none ↦ refused_other reading r none
           | of_steps apps none ↦ absurd (check_not_apps (spelled words) asked apps)
-          | no_memory part is ↦ memory_other r is
+          | no_memory command part is ↦ memory_other r is
         ])) parts
   ]
 
@@ -301,7 +307,7 @@ module _ {words : List (List ℕ)} {reading : Reading} {writing : Writing} {o : 
           | of_job asks none ↦ absurd (job_not_apps (spelled words) asks.0 asks.1 asked)
           | of_request check none ↦ absurd (check_not_apps (spelled words) check asked)
           | of_steps apps none ↦ bytes_refused_spared reading r none
-          | no_memory part is ↦ memory_spared r is
+          | no_memory command part is ↦ memory_spared r is
         ])) parts (subst (λ (x : Option Host). IfSome x AreApps) (sym unloaded) tt)
   ]
 
@@ -315,21 +321,21 @@ module _ {words : List (List ℕ)} {reading : Reading} {writing : Writing} {o : 
       | of_job asked none ↦ served_memory job_in HasNoPlan (told_long job_of) reading served.bytes served.value served.told served.read quiet r (plannable_has_plan served.value r served.can) none
       | of_request check none ↦ absurd (job_not_check (spelled words) asks.0 asks.1 check)
       | of_steps apps none ↦ absurd (job_not_apps (spelled words) asks.0 asks.1 apps)
-      | no_memory part is ↦ is
+      | no_memory command part is ↦ is
     ]
     | has_nets asks served ↦ elim cause [
       | usage none untouched is ↦ absurd (none_some (spelled words) Check none asks)
       | of_job asked none ↦ absurd (job_not_check (spelled words) asked.0 asked.1 asks)
       | of_request check none ↦ served_memory request_in HasNoNets (told_long request_of) reading served.bytes served.value served.told served.read quiet r (with_nets served.value r served.can) none
       | of_steps apps none ↦ absurd (check_not_apps (spelled words) asks apps)
-      | no_memory part is ↦ is
+      | no_memory command part is ↦ is
     ]
     | has_steps asks served ↦ elim cause [
       | usage none untouched is ↦ absurd (none_some (spelled words) Apps none asks)
       | of_job asked none ↦ absurd (job_not_apps (spelled words) asked.0 asked.1 asks)
       | of_request check none ↦ absurd (check_not_apps (spelled words) check asks)
       | of_steps apps none ↦ served_memory steps_in HaveNoLines (told_long app_steps_of) reading served.bytes served.value served.told served.read quiet r (λ never. never) none
-      | no_memory part is ↦ is
+      | no_memory command part is ↦ is
     ]
   ]
 
@@ -355,12 +361,25 @@ read_as_asked words reading r cause = elim cause [
   | of_job asks none ↦ inl (inl asks, refused_in_part job_in HasNoPlan reading r none)
   | of_request asks none ↦ inl (inr (inl asks), refused_in_part request_in HasNoNets reading r none)
   | of_steps asks none ↦ inl (inr (inr asks), refused_in_part steps_in HaveNoLines reading r none)
-  | no_memory part is ↦ part
+  | no_memory command part is ↦ part
+]
+
+-- where there is a refusal for which memory is taken, the words are a command
+pub told_command : (words : List (List ℕ)) (reading : Reading) (r : Refusal) → HasCause words reading r → TakesMemory r → AreCommand words
+told_command words reading r cause takes none = elim cause [
+  | usage asked untouched is ↦ subst TakesMemory is takes
+  | of_job asks without ↦ none_some (spelled words) (OfJob asks.0) none asks.1
+  | of_request asks without ↦ none_some (spelled words) Check none asks
+  | of_steps asks without ↦ none_some (spelled words) Apps none asks
+  | no_memory command part is ↦ command none
 ]
 
 -- ---- words of a job
 
 module _ (words : List (List ℕ)) (reading : Reading) where
+  spells : (c : Command) → spelled words ≡ Some c → AreCommand words
+  spells c is none = none_some (spelled words) c none is
+
   -- why a word has no job
   pub cause_without_job : (w : JobWord) → spelled words ≡ Some (OfJob w) → (r : Refusal) → HasNoJob w reading r → HasCause words reading r
   cause_without_job Run is r none = of_job (Run, is, tt) (no_value none)
@@ -368,7 +387,7 @@ module _ (words : List (List ℕ)) (reading : Reading) where
   cause_without_job Trace is r none = of_job (Trace, is, tt) (no_value none)
   cause_without_job Compile is r none = of_job (Compile, is, tt) (no_value none)
   cause_without_job Tables is r none = of_job (Tables, is, tt) (no_value none)
-  cause_without_job (Gen n) is r none = no_memory (inr none.0) none.1
+  cause_without_job (Gen n) is r none = no_memory (spells (OfJob (Gen n)) is) (inr none.0) none.1
 
   -- why the job of a word has no plan: that of a number has one
   without_plan : (w : JobWord) (job : Job) → spelled words ≡ Some (OfJob w) → IsJobOf w reading job → (r : Refusal) → HasNoPlan job r → HasCause words reading r
@@ -391,13 +410,13 @@ module _ (words : List (List ℕ)) (reading : Reading) where
   -- why nothing is made of the job of a word
   pub cause_with_job : (w : JobWord) (job : Job) → spelled words ≡ Some (OfJob w) → IsJobOf w reading job → (r : Refusal) → HasNoPlan job r ⊎ (r ≡ refusals.Memory) → HasCause words reading r
   cause_with_job w job is its r (inl none) = without_plan w job is its r none
-  cause_with_job w job is its r (inr memory) = no_memory (read_for_job w job is its) memory
+  cause_with_job w job is its r (inr memory) = no_memory (spells (OfJob w) is) (read_for_job w job is its) memory
 
   -- why a request has no answer
   pub cause_with_request : AskForCheck words → (request : Request) → IsReadAs request_in reading request → (r : Refusal) → HasNoNets request r ⊎ (r ≡ refusals.Memory) → HasCause words reading r
   cause_with_request asks request read r (inl none) = of_request asks (no_answer request read none)
-  cause_with_request asks request read r (inr memory) = no_memory (inl (inr (inl asks), (read.bytes, read.all.gives))) memory
+  cause_with_request asks request read r (inr memory) = no_memory (spells Check asks) (inl (inr (inl asks), (read.bytes, read.all.gives))) memory
 
   -- why steps have no answer
   pub cause_with_steps : AskForApps words → (steps : List Step) → IsReadAs steps_in reading steps → (r : Refusal) → r ≡ refusals.Memory → HasCause words reading r
-  cause_with_steps asks steps read r memory = no_memory (inl (inr (inr asks), (read.bytes, read.all.gives))) memory
+  cause_with_steps asks steps read r memory = no_memory (spells Apps asks) (inl (inr (inr asks), (read.bytes, read.all.gives))) memory

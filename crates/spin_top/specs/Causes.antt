@@ -35,6 +35,10 @@ AskToRead words = AskForJob words ⊎ (AskForCheck words ⊎ AskForApps words)
 abbrev pub IsReadAsAsked : List (List ℕ) → Reading → Type 0
 IsReadAsAsked words reading = (AskToRead words × IsReadInPart reading) ⊎ IsUntouched reading
 
+-- The words are a command. Words that are none need no memory to be told so.
+abbrev pub AreCommand : List (List ℕ) → Type 0
+AreCommand words = spelled words ≡ None → ⊥
+
 -- Why a request has no answer: a vertex of its job has no room, or all have, and a net has no keys.
 abbrev pub HasNoNets : Request → Refusal → Type 0
 HasNoNets request r = IsJobRefusal request.job.machine request.job.graph r
@@ -45,10 +49,10 @@ HaveNoLines steps r = ⊥
 
 -- Why a call gives no text of its own, with what was read of the source. The words are no command, and nothing was read. Or they
 -- ask for a job, and there is none, or one without a plan; or for a request, and there is none, or one without an answer; or for
--- steps, and there are none. Or memory ran out, which may come at any time.
+-- steps, and there are none. Or memory ran out, which may come at any time to words that are a command.
 pub data HasCause (words : List (List ℕ)) (reading : Reading) (r : Refusal) : Type 0 where
   usage : spelled words ≡ None → IsUntouched reading → r ≡ refusals.Usage → HasCause words reading r
   of_job : AskForJob words → IsRefusedFor job_in HasNoPlan reading r → HasCause words reading r
   of_request : AskForCheck words → IsRefusedFor request_in HasNoNets reading r → HasCause words reading r
   of_steps : AskForApps words → IsRefusedFor steps_in HaveNoLines reading r → HasCause words reading r
-  no_memory : IsReadAsAsked words reading → r ≡ refusals.Memory → HasCause words reading r
+  no_memory : AreCommand words → IsReadAsAsked words reading → r ≡ refusals.Memory → HasCause words reading r

@@ -38,10 +38,14 @@ Says said r = (said ≡ Some r) ⊎ ((said ≡ Some WriteFault) ⊎ ((said ≡ S
 abbrev pub SaysOf : {A : Type 0} → (List ℕ → Result A Refusal) → (A → Refusal → Type 0) → Option (List ℕ) → Option Refusal → Type 0
 SaysOf value_in HasNone left said = (bytes : List ℕ) → left ≡ Some bytes → (r : Refusal) → AreRefused value_in HasNone bytes r → Says said r
 
--- Each cause has its answer. Words that are no command are answered so. Where they ask for a job, for a request or for steps, and the
+-- the call says this, or a fault of writing stands in its place
+abbrev pub SaysSurely : Option Refusal → Refusal → Type 0
+SaysSurely said r = (said ≡ Some r) ⊎ (said ≡ Some WriteFault)
+
+-- Each cause has its answer. Words that are no command are always answered so. Where they ask for a job, for a request or for steps, and the
 -- source tells its bytes, each refusal that these have is the answer.
 pub record IsExact (words : List (List ℕ)) (left : Option (List ℕ)) (said : Option Refusal) : Type 0 where
-  pub no_command : spelled words ≡ None → Says said Usage
+  pub no_command : spelled words ≡ None → SaysSurely said Usage
   pub of_job : AskForJob words → SaysOf job_in HasNoPlan left said
   pub of_request : AskForCheck words → SaysOf request_in HasNoNets left said
   pub of_steps : AskForApps words → SaysOf steps_in HaveNoLines left said

@@ -2,6 +2,7 @@
 use Rattle.std.specs.Prelude.{◌≡◌, ◌⊎◌, ℕ, List, Option, Some}
 use Rattle.spin_base.specs.Outside.{FaultsRose, Takes, TakesProperPrefix}
 use Rattle.run_report.specs.declared.causes.Refusal.{Refusal}
+use Rattle.run_report.specs.declared.causes.Refusal.TheVariants as refusals
 use Rattle.run_report.specs.declared.causes.Refusal.TheVariants.{WriteFault}
 
 -- A sink before and after a call: what it had taken and has taken, where it tells that, and its counts of faults.
@@ -26,3 +27,18 @@ abbrev pub IsWritten : Writing → List ℕ → Option Refusal → Option Refusa
 IsWritten w text then_said said =
     ((said ≡ then_said) × Takes w.written text w.written')
     ⊎ ((said ≡ Some WriteFault) × TakesProperPrefix w.written text w.written' × FaultsRose w.faults w.faults')
+
+-- The line of a refusal is made in memory. But those of words that are no command, and of a fault of reading, always are the same,
+-- and stand there.
+abbrev pub TakesMemory : Refusal → Type 0
+TakesMemory refusals.Usage = ⊥
+TakesMemory refusals.ReadFault = ⊥
+TakesMemory refusals.WriteFault = Unit {0}
+TakesMemory refusals.TooLong = Unit {0}
+TakesMemory refusals.NotJson = Unit {0}
+TakesMemory (refusals.Job fault) = Unit {0}
+TakesMemory (refusals.NoRoom vertex) = Unit {0}
+TakesMemory (refusals.KeysOut net) = Unit {0}
+TakesMemory (refusals.CutOff net target) = Unit {0}
+TakesMemory (refusals.TableLong chip table) = Unit {0}
+TakesMemory refusals.Memory = Unit {0}

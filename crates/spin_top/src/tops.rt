@@ -16,7 +16,7 @@ ghost use Rattle.spin_input.specs.Inputs.{reading_of};
 ghost use Rattle.spin_top.specs.Causes.{AskForApps, AskForCheck, HasCause};
 ghost use Rattle.spin_top.specs.Ends.{Ends, EndsGenerated, HasAnswer, IsExact, IsOfApps, IsOfCheck};
 ghost use Rattle.spin_top.specs.Made.{IsMade};
-ghost use Rattle.spin_top.specs.Writing.{IsWritten, writing_of};
+ghost use Rattle.spin_top.specs.Writing.{IsWritten, TakesMemory, writing_of};
 
 use crate::answers::{checked, done, from_job};
 use crate::outcomes::{Outcome, Output, no_parts};
@@ -26,6 +26,10 @@ use spin_words::{Command, command_of};
 use std::alloc::Global;
 use std::sync::Wait;
 use std::thread::Threads;
+
+// The lines for which no memory is needed.
+const USAGE: &str = "usage: run, trace, compile, tables, gen N, apps, reinject or check\n";
+const READ_FAULT: &str = "read fault\n";
 
 /// Does what the words ask for, with the source's bytes as the input, and writes the text or one line to the sink.
 ///
@@ -152,8 +156,25 @@ fn write_text<K: Sink>(made: Output, sink: &mut K) -> Outcome
     }
 }
 
-// Writes the line of a refusal, or that of want of memory where there is no memory for it.
+// Writes the line of a refusal. Where a line is made in memory, and there is none, that of want of memory is written.
 fn write_refusal<K: Sink>(alloc: Global, refusal: Refusal, sink: &mut K) -> Outcome
+    ensures status { result.status ≡ status_at result.refusal }
+    ensures parts { result.parts ≡ no_parts }
+    ensures apps { result.apps ≡ None }
+    ensures written { IsWritten (writing_of K.written K.faults sink.old sink.new)
+        (line_of_refusal refusal) (Some refusal) result.refusal
+        ⊎ (TakesMemory refusal × IsWritten (writing_of K.written K.faults sink.old sink.new)
+        (line_of_refusal NoMemory) (Some NoMemory) result.refusal) }
+{
+    match refusal {
+        Refusal::Usage => write_line(Refusal::Usage, USAGE.as_bytes(), sink),
+        Refusal::ReadFault => write_line(Refusal::ReadFault, READ_FAULT.as_bytes(), sink),
+        other => write_made_line(alloc, other, sink),
+    }
+}
+
+// Writes the line of a refusal, made in memory, or that of want of memory.
+fn write_made_line<K: Sink>(alloc: Global, refusal: Refusal, sink: &mut K) -> Outcome
     ensures status { result.status ≡ status_at result.refusal }
     ensures parts { result.parts ≡ no_parts }
     ensures apps { result.apps ≡ None }

@@ -22,7 +22,7 @@ app_of-requires c =
 pub returns-in-Ok-app_of-clause-served : goal.returns-in-Ok-app_of-clause-served
 returns-in-Ok-app_of-clause-served c =
     let made = c.in-Ok-app_of.ensures in
-    let claims = c.deref-2.ensures.value ∙ c.in-Ok.ensures in
+    let claims = c.deref-2.ensures.value ∙ c.in-Ok.ensures.claims in
     let ranges = made.ranges ∙ c.deref-3.ensures.value in
     record {
       number_is = made.number;

@@ -1,6 +1,7 @@
-use Rattle.std.proofs.Common.{◌∙◌, ◌≤◌, refl, subst, length}
+use Rattle.std.proofs.Common.{◌∙◌, ◌≤◌, refl, subst, length, arith}
 use Rattle.std.proofs.lemmas.List.{length-set}
-use Rattle.app_loads.proofs.RoomToGive.{count_here, counted_more, frees_still, region_there, room_more}
+use Rattle.app_loads.specs.declared.loaded.Range.{Range}
+use Rattle.app_loads.proofs.RoomToGive.{count_here, counted_more, few_counted, frees_still, region_there, room_more}
 use Rattle.app_loads.proofs.regions.make_room_for_each.Goals as goal
 
 pub returns-in_err-reserve-clause-same : goal.returns-in_err-reserve-clause-same
@@ -21,3 +22,17 @@ loop-range-preserved c =
       counts = length-set c.loop-range.counts _ _ ∙ c.loop-range.invariant.counts;
       counted = counted_more c.args.ranges.now c.loop-range.range-index _ c.loop-range-test.true c.loop-range.counts _ counted c.loop-range.invariant.counted _ refl;
     }
+
+pub overflow_add-counts : goal.overflow_add-counts
+overflow_add-counts c =
+    let none : Range = record { region = 0; place = 0; size = 0 } in
+    let counted = region_there c.args.ranges.now c.loop-range.range-index none c.loop-range-test.true c.loop-range.counts (length c.args.regions.now) c.requires.there c.loop-range.invariant.counts in
+    let few = few_counted c.args.ranges.now c.loop-range.range-index none c.loop-range-test.true c.loop-range.counts 0 counted c.loop-range.invariant.counted c.requires.few in
+    omega (arith, few)
+
+pub overflow_add-count : goal.overflow_add-count
+overflow_add-count c =
+    let none : Range = record { region = 0; place = 0; size = 0 } in
+    let counted = region_there c.args.ranges.now c.loop-range.range-index none c.loop-range-test.true c.loop-range.counts (length c.args.regions.now) c.requires.there c.loop-range.invariant.counts in
+    let few = few_counted c.args.ranges.now c.loop-range.range-index none c.loop-range-test.true c.loop-range.counts 0 counted c.loop-range.invariant.counted c.requires.few in
+    omega (arith, few)

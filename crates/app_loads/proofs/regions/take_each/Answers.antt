@@ -1,7 +1,9 @@
-use Rattle.std.proofs.Common.{◌∙◌, ap, arith, length, refl, sym}
+use Rattle.std.proofs.Common.{None, ◌∙◌, ap, arith, length, refl, sym}
 use Rattle.std.specs.List.{slice_get}
 use Rattle.std.proofs.lemmas.List.{length-replicate, length-set}
-use Rattle.app_loads.proofs.Serving.{pushed_long, claim_fair, claim_served, claim_due, claim_taken, claim_room, count_held, counts_more, none_counted, none_served, of_region, all_served}
+use Rattle.app_loads.specs.declared.answers.LoadErr.TheVariants.{Loaded}
+use Rattle.app_loads.specs.declared.loaded.Claim.{Claim}
+use Rattle.app_loads.proofs.Serving.{few_held, pushed_long, claim_fair, claim_served, claim_due, claim_taken, claim_room, count_held, counts_more, none_counted, none_served, of_region, all_served}
 use Rattle.app_loads.proofs.regions.take_each.Goals as goal
 
 pub loop-claim-init : goal.loop-claim-init
@@ -58,3 +60,17 @@ loop-claim-preserved c =
 pub returns-clause-served : goal.returns-clause-served
 returns-clause-served c =
     all_served c.args.claims.now c.args.regions.now c.loop-claim.regions c.loop-claim.ranges.items c.loop-claim.claim-index c.loop-claim-test.false c.loop-claim.invariant.each_one c.loop-claim.invariant.served
+
+pub take_claim-requires-clause-few : goal.take_claim-requires-clause-few
+take_claim-requires-clause-few c =
+    let none : Claim = record { region = 0; size = 0; align = 0; fixed = None; refusal = Loaded } in
+    let few = few_held c.args.claims.now c.args.regions.now c.loop-claim.regions c.loop-claim.ranges.items c.loop-claim.claim-index none c.index-regions-at.result c.loop-claim-test.true
+    c.loop-claim.invariant.each_one c.loop-claim.invariant.served c.requires.can c.loop-claim.counts 0 c.loop-claim.invariant.counts c.loop-claim.invariant.counted c.requires.few in
+    omega (arith, few)
+
+pub overflow_add-counts : goal.overflow_add-counts
+overflow_add-counts c =
+    let none : Claim = record { region = 0; size = 0; align = 0; fixed = None; refusal = Loaded } in
+    let few = few_held c.args.claims.now c.args.regions.now c.loop-claim.regions c.loop-claim.ranges.items c.loop-claim.claim-index none c.index-regions-at.result c.loop-claim-test.true
+    c.loop-claim.invariant.each_one c.loop-claim.invariant.served c.requires.can c.loop-claim.counts 0 c.loop-claim.invariant.counts c.loop-claim.invariant.counted c.requires.few in
+    omega (arith, few)

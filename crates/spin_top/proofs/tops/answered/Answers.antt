@@ -7,7 +7,7 @@ use Rattle.spin_jobs.specs.declared.outcomes.Parts.{Parts}
 use Rattle.spin_top.specs.Causes.{no_memory}
 use Rattle.spin_top.specs.Ends.{made, refused}
 use Rattle.spin_top.specs.Made.{IsMade}
-use Rattle.spin_top.proofs.EndLaws.{read_as_asked}
+use Rattle.spin_top.proofs.EndLaws.{read_as_asked, told_command}
 use Rattle.spin_top.proofs.tops.answered.Goals as goal
 
 pub returns-in-Ok-clause-ends : goal.returns-in-Ok-clause-ends
@@ -36,5 +36,7 @@ returns-in-Err-clause-ends g c =
     let cause = c.in-Err.ensures.err in
     elim c.write_refusal.ensures.written [
       | inl line ↦ refused c.in-Err.refusal cause c.write_refusal.ensures.parts c.write_refusal.ensures.apps line
-      | inr line ↦ refused refusals.Memory (no_memory (read_as_asked (texts_of c.args.words.now) reading c.in-Err.refusal cause) refl) c.write_refusal.ensures.parts c.write_refusal.ensures.apps line
+      | inr line ↦ refused refusals.Memory
+          (no_memory (told_command (texts_of c.args.words.now) reading c.in-Err.refusal cause line.0) (read_as_asked (texts_of c.args.words.now) reading c.in-Err.refusal cause) refl)
+          c.write_refusal.ensures.parts c.write_refusal.ensures.apps line.1
     ]
