@@ -78,7 +78,7 @@ module _ (h : Host) (job : Job) (valid : IsValidJob job) where
       one_net spots sites of.0 a b of.2 (subst (λ n. IsNetFor grid spots n b) net also.2))
 
   -- a job has one plan
-  one_plan : (p q : AppPlan) → IsPlanFor h job p → IsPlanFor h job q → p ≡ q
+  pub one_plan : (p q : AppPlan) → IsPlanFor h job p → IsPlanFor h job q → p ≡ q
   one_plan p q a b =
       let spots : q.spots ≡ p.spots = (places.one_placement (free_machine h) job.graph.vertices q.spots p.spots b.memory a.memory b.placed a.placed).0 in
       same_plan p q (sym spots) (a.sdram ∙ sym b.sdram)
@@ -176,20 +176,21 @@ module _ (h : Host) (job : Job) (valid : IsValidJob job) where
 
 -- ---- machines with the same applications
 
+-- the cores that are free beside applications
+abbrev free_on : Description → List LoadedApp → Description
+free_on m loaded = record {
+  width = m.width;
+  height = m.height;
+  wrap = m.wrap;
+  sdram = m.sdram;
+  dead_chips = [];
+  dead_cores = filter (λ (s : Spot). not (is_usable m s && not (is_spot_taken loaded s))) (grid_spots m);
+  dead_links = [];
+}
+
 module _ (h g : Host) (machine : h.mesh.setup.machine ≡ g.mesh.setup.machine) (apps : h.apps ≡ g.apps) (job : Job) (valid : IsValidJob job) where
   same_free : free_machine h ≡ free_machine g
   same_free = λ i. free_on (machine i) (apps i)
-    where
-      abbrev free_on : Description → List LoadedApp → Description
-      free_on m loaded = record {
-        width = m.width;
-        height = m.height;
-        wrap = m.wrap;
-        sdram = m.sdram;
-        dead_chips = [];
-        dead_cores = filter (λ (s : Spot). not (is_usable m s && not (is_spot_taken loaded s))) (grid_spots m);
-        dead_links = [];
-      }
 
   pub plan_there : (p : AppPlan) → IsPlanFor g job p → IsPlanFor h job p
   plan_there p is = record {
@@ -276,7 +277,7 @@ module _ (counted : HaveAsManyDeliveries) (h g : Host) (apps : AreApps h) (also 
   pub one_unload : (a b : UnloadAnswer) (new other : Host) → IsUnloadAnswer h n a new → IsUnloadAnswer g n b other → a ≡ b
   one_unload (Got d r) (Got e s) new other x y =
       let app = one_app h apps n x.unloaded.app y.unloaded.app x.unloaded.is (here_too y.unloaded.app y.unloaded.is) x.unloaded.number_is y.unloaded.number_is in
-      let none = λ p waits. x.none_waits x.unloaded.app x.unloaded.is x.unloaded.number_is p waits in
+      let none : NoneUnderWay h.mesh x.unloaded.app = x.none_waits x.unloaded.app x.unloaded.is x.unloaded.number_is in
       let delivered : d ≡ e =
       x.deliveries
       ∙ (ap length x.unloaded.delivered
