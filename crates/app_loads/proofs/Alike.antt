@@ -1,12 +1,10 @@
 -- What machines with the same applications have in common, and that unloads and runs keep it.
-use Rattle.std.proofs.Common.{◌≡◌, ℕ, List, [], ◌∷◌, ◌++◌, length, map, refl, sym, ap, ◌∙◌, subst, arith, not, true, Option, None}
-use Rattle.std.specs.List.{All, Contains, filter, flat_map, slice_get}
+use Rattle.std.proofs.Common.{◌≡◌, ℕ, List, [], ◌∷◌, ◌++◌, length, refl, sym, ap, ◌∙◌, subst, arith, not, true, Option, None}
+use Rattle.std.specs.List.{All, Contains, filter, flat_map}
 use Rattle.std.proofs.lemmas.List.Elements.{All-head, All-tail}
 use Rattle.spin_base.proofs.Members.{Among}
-use Rattle.spin_base.specs.declared.chips.Spot.{Spot}
 use Rattle.spin_base.specs.declared.copies.McCopy.{McCopy}
 use Rattle.spin_base.specs.declared.copies.DumpRec.{DumpRec}
-use Rattle.machine_desc.specs.Description.{Description}
 use Rattle.mesh_core.specs.State.{Hand, Setup, State, IsMesh}
 use Rattle.mesh_core.specs.Trail.{Mark}
 use Rattle.mesh_core.specs.Ledger.{marks_of, MeetsLedgerFor}

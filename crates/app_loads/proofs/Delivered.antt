@@ -1,5 +1,5 @@
 -- Of packets of which no copy is under way, two meshes that meet the ledger of the same packets have as many deliveries.
-use Rattle.std.proofs.Common.{◌≡◌, ℕ, ◌≤◌, ◌==◌, ◌&&◌, Bool, true, List, [], ◌++◌, length, refl, sym, ap, ◌∙◌, subst, arith, Option, Some, None, count_by}
+use Rattle.std.proofs.Common.{◌≡◌, ℕ, ◌≤◌, ◌==◌, ◌&&◌, Bool, true, List, [], length, sym, ap, ◌∙◌, subst, arith, Option, Some, count_by}
 use Rattle.std.specs.List.{filter, Contains}
 use Rattle.std.proofs.lemmas.Bool.{and_from, and_parts, eqb-true, eq-eqb}
 use Rattle.std.proofs.lemmas.List.Sums.{length-filter}
@@ -17,7 +17,7 @@ use Rattle.machine_desc.specs.RightTables.{IsKeyOf}
 use Rattle.machine_desc.specs.NetsOn.{AreNetsOn, IsWayOn}
 use Rattle.mesh_core.specs.State.{State}
 use Rattle.mesh_core.specs.Trail.{Station, unsent, in_queue, in_hand, at_core, delivered, dumped, Mark, on_trail, is_packet_on_trail}
-use Rattle.mesh_core.specs.Ledger.{marks_of, unsent_marks, input_marks, all_hand_marks, core_marks, delivered_marks, dumped_marks, Asked, Label, label_of, MeetsLedgerFor}
+use Rattle.mesh_core.specs.Ledger.{marks_of, unsent_marks, input_marks, all_hand_marks, core_marks, delivered_marks, dumped_marks, Asked, label_of, MeetsLedgerFor}
 use Rattle.mesh_core.proofs.Counting.{count_covered, count_le, counted}
 use Rattle.mesh_core.proofs.ExpectedList.{is_of, is_of_from, is_of_parts}
 use Rattle.mesh_core.proofs.LedgerLaw.{one_net}

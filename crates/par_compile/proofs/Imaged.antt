@@ -30,7 +30,7 @@ use Rattle.table_load.specs.declared.faults.ImageErr.TheVariants.{Memory as NoMe
 use Rattle.table_load.specs.Images.{IsRow, IsChipBefore, IsTable, IsValid, Spells}
 use Rattle.table_load.specs.Memories.{IsLoaded, loaded, rows_of_index}
 use Rattle.par_compile.specs.Finals.{KeepsRows, kept_entries, loaded_of}
-use Rattle.par_compile.specs.Imaging.{AreFilledFrom, CanBeImaged, FillTables, image_in, listed, tables_from}
+use Rattle.par_compile.specs.Imaging.{CanBeImaged, FillTables, image_in, listed, tables_from}
 
 abbrev IsShort : Final → Type 0
 IsShort f = length f.kept ≤ 1024

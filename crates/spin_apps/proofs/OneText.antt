@@ -1,9 +1,9 @@
 -- Steps have one text: whatever states they lead through, these are states of machines with the same applications.
-use Rattle.std.proofs.Common.{◌≡◌, ℕ, zero, suc, ◌<◌, refl, sym, ap, ◌∙◌, subst, arith, inl, inr, List, [], ◌∷◌, ◌++◌, length, true, false, Bool, Option, Some, None, IfSome}
+use Rattle.std.proofs.Common.{◌≡◌, ℕ, zero, suc, ◌<◌, refl, sym, ap, ◌∙◌, subst, arith, inl, List, [], ◌∷◌, ◌++◌, length, true, false, Bool, Option, Some, None, IfSome}
 use Rattle.std.specs.Prelude.{replicate}
-use Rattle.std.specs.List.{All, AllZip, Contains, slice_get}
+use Rattle.std.specs.List.{All, Contains, slice_get}
 use Rattle.std.proofs.lemmas.Bool.{true≢false}
-use Rattle.std.proofs.lemmas.List.{length-replicate, take_all}
+use Rattle.std.proofs.lemmas.List.{length-replicate}
 use Rattle.std.proofs.lemmas.List.Elements.{All-contains, All-cons, All-head, All-nil, All-tail}
 use Rattle.std.proofs.lemmas.Option.{same_Some, slice_get_within}
 use Rattle.spin_base.proofs.Members.{among_contains, among_right}
@@ -133,8 +133,8 @@ module _ (h g new other : Host) (n : ℕ) (job : Job) (valid : IsValidJob job) (
       (apps.mesh.unsent_lists ∙ (ap length (same_spots new other apps also new_machine) ∙ sym also.mesh.unsent_lists)) (λ v x y at there.
       let below : v < length h.mesh.unsent =
       (let within = slice_get_within new.mesh.unsent v x at in
-       let long = apps.mesh.unsent_lists ∙ (ap length spots_of_new ∙ sym lists) in
-       subst (λ k. v < k) long within)
+      let long = apps.mesh.unsent_lists ∙ (ap length spots_of_new ∙ sym lists) in
+      subst (λ k. v < k) long within)
       in
       let q = slice_get_there h.mesh.unsent v below in
       let first : slice_get new.mesh.unsent v ≡ Some (q.0 ++ sent_by_vertex h.mesh.setup.spots one v) = a.loaded.unsent v q.0 q.1 in

@@ -1,10 +1,8 @@
 -- A host after what was done on it.
-use Rattle.std.proofs.Common.{◌≡◌, ℕ, List, ◌++◌, Option, Some, refl, sym, subst, ap, ◌∙◌, Result, Ok, Err, IfOk, OnOk, OnErr}
-use Rattle.mesh_core.specs.State.{Setup, State}
-use Rattle.mesh_core.proofs.Fixed.{setup_after}
+use Rattle.std.proofs.Common.{◌≡◌, ℕ, List, ◌++◌, Option, Some, refl, sym, subst, ap, Result, Ok, Err, IfOk, OnOk, OnErr}
+use Rattle.mesh_core.specs.State.{State}
 use Rattle.app_loads.specs.Applications.{AreApps}
 use Rattle.app_loads.specs.Host.{Host}
-use Rattle.app_loads.specs.Running.{HasMovedMesh}
 use Rattle.app_loads.specs.Loading.{HasLoaded}
 use Rattle.app_loads.specs.Unloading.{HasUnloaded}
 use Rattle.app_loads.specs.declared.answers.Ended.{Ended}
@@ -13,10 +11,6 @@ use Rattle.job_requests.specs.declared.steps.Step.TheVariants.{Run}
 use Rattle.spin_apps.specs.Answers.{HasDrained}
 use Rattle.spin_apps.specs.Hosting.{HasAddedLine}
 use Rattle.spin_apps.specs.Lines.{run_line}
-
-pub moved_machine : (old new : Host) → HasMovedMesh old new → new.mesh.setup.machine ≡ old.mesh.setup.machine
-moved_machine old new moved =
-    ap (λ (s : State). s.setup.machine) moved.mesh.is ∙ ap (λ (u : Setup). u.machine) (setup_after old.mesh moved.mesh.events)
 
 loaded_machine : (old new : Host) (number : ℕ) (plan : AppPlan) → HasLoaded old number plan new → new.mesh.setup.machine ≡ old.mesh.setup.machine
 loaded_machine old new number plan loaded = ap (λ (s : State). s.setup.machine) loaded.mesh

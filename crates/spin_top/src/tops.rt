@@ -29,6 +29,7 @@ use std::thread::Threads;
 
 // The lines for which no memory is needed.
 const USAGE: &str = "usage: run, trace, compile, tables, gen N, apps, reinject or check\n";
+
 const READ_FAULT: &str = "read fault\n";
 
 /// Does what the words ask for, with the source's bytes as the input, and writes the text or one line to the sink.

@@ -1,4 +1,3 @@
-use Rattle.app_loads.proofs.OneClaim.{one_block}
 use Rattle.app_loads.proofs.Alike.{same_count}
 use Rattle.app_loads.proofs.laws.alike_machines_have_as_many_deliveries.Goals as goal
 

@@ -1,9 +1,8 @@
-use Rattle.std.proofs.Common.{List, map, refl, sym, ap, ◌∙◌, subst}
+use Rattle.std.proofs.Common.{List, refl, sym, ap, ◌∙◌, subst}
 use Rattle.spin_base.specs.declared.blocks.Entry.{Entry}
 use Rattle.machine_desc.specs.RightTables.{AreRight}
 use Rattle.table_load.specs.declared.tables.Image.{Image}
 use Rattle.table_load.specs.Images.{Spells}
-use Rattle.par_compile.specs.Finals.{loaded_of}
 use Rattle.spin_jobs.specs.Planned.{IsValidWithPlan, JobWithPlan, tables_image}
 use Rattle.spin_jobs.proofs.makes.image.Goals as goal
 
@@ -15,7 +14,7 @@ returns c =
     let of = c.in_ok-image.ensures.image ∙ ap (λ (p : JobWithPlan). tables_image p.job p.plan) c.planned.view_is in
     let spelled = subst (λ (v : Image). Spells v c.in_ok-text.text) of c.in_ok-text.ensures in
     let fill = c.images_fill_their_tables.ensures job.machine plan.tables c.in_ok-text.text
-        (record { one_each = valid.planned.one_table_each; kept = valid.planned.keep; short = valid.planned.short }) spelled
+    (record { one_each = valid.planned.one_table_each; kept = valid.planned.keep; short = valid.planned.short }) spelled
     in
     record {
       given = refl;
