@@ -150,7 +150,7 @@ packet_short nets p few is =
     let index = member_short (codes "index") (number (unsigned p.index)) 5 10 (omega arith) (decimal_short p.index (omega (arith, is.index, few))) net in
     object_short 4000 index (omega arith)
 
-keys_few : (nets : List DrawnNet) (i : ℕ) → All IsDrawnNet nets → i < length nets → keys_at nets i ≤ 16
+pub keys_few : (nets : List DrawnNet) (i : ℕ) → All IsDrawnNet nets → i < length nets → keys_at nets i ≤ 16
 unfolding keys_at
 keys_few nets i all below =
     All-get_or (λ k. k ≤ 16) (map (λ (net : DrawnNet). net.keys) nets) i 0

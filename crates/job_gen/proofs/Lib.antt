@@ -1,6 +1,7 @@
 mod DrawLemmas
 pub mod DrawnLaws
 mod TextLemmas
+mod TextReading
 mod ValueLemmas
 mod NameLemmas
 pub mod ListReading

@@ -170,7 +170,15 @@ fn write_refusal<K: Sink>(alloc: Global, refusal: Refusal, sink: &mut K) -> Outc
     match refusal {
         Refusal::Usage => write_line(Refusal::Usage, USAGE.as_bytes(), sink),
         Refusal::ReadFault => write_line(Refusal::ReadFault, READ_FAULT.as_bytes(), sink),
-        other => write_made_line(alloc, other, sink),
+        Refusal::WriteFault
+        | Refusal::TooLong
+        | Refusal::NotJson
+        | Refusal::Job(_)
+        | Refusal::NoRoom(_)
+        | Refusal::KeysOut(_)
+        | Refusal::CutOff(..)
+        | Refusal::TableLong(..)
+        | Refusal::Memory => write_made_line(alloc, refusal, sink),
     }
 }
 

@@ -1,7 +1,8 @@
 -- The laws, as the lemmas say them.
 use Rattle.job_gen.proofs.DrawnLaws.{is_drawn}
 use Rattle.job_gen.proofs.JobReading.{generated_clean, generated_is}
+use Rattle.job_gen.proofs.TextReading.{generated_text_is_read}
 use Rattle.job_gen.proofs.laws.generated_jobs_are_read.Goals as goal
 
 pub returns : goal.returns
-returns c = record { drawn = is_drawn; no_fault = generated_clean; job = generated_is }
+returns c = record { drawn = is_drawn; text = generated_text_is_read; no_fault = generated_clean; job = generated_is }
