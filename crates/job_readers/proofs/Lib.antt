@@ -1,4 +1,5 @@
 pub mod Firsts
+pub mod NoFaults
 pub mod ItemSteps
 mod FollowingSteps
 pub mod EntryLengths

@@ -19,20 +19,7 @@ use Rattle.job_readers.specs.Members.{list_member, list_member_faults}
 use Rattle.job_readers.specs.Places.{double_faults, name_place_in, new_name_faults}
 use Rattle.job_readers.specs.GraphPart.{graph_faults, graph_members, graph_members_faults, graph_value, name_faults, name_value, net_faults, net_names, net_value, nets_faults, nets_value, next_net_faults, next_vertex_faults, vertex_faults, vertex_names_of, vertex_value, vertices_faults, vertices_value}
 use Rattle.job_readers.specs.Named.{HasNamesApart}
-
--- ---- no faults in all, none in a part
-
-none_first : (a b : List JobFault) → a ++ b ≡ [] → a ≡ []
-none_first [] b none = refl
-none_first (x ∷ a) b none = cc
-
-none_second : (a b : List JobFault) → a ++ b ≡ [] → b ≡ []
-none_second [] b none = none
-none_second (x ∷ a) b none = cc
-
-none_inside : (a b : List JobFault) → a ▹ b ≡ [] → b ≡ []
-none_inside [] b none = none
-none_inside (x ∷ a) b none = cc
+use Rattle.job_readers.proofs.NoFaults.{none_first, none_inside, none_second}
 
 unmapped : (o : Option ℕ) → option_map (λ i. i + 1) o ≡ None → o ≡ None
 unmapped None none = refl

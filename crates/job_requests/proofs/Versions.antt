@@ -18,6 +18,7 @@ use Rattle.job_readers.specs.Job.{job_own_faults, version_faults, version_value}
 use Rattle.job_readers.specs.GraphPart.{device_value, graph_members, graph_value, vertex_value, vertices_value}
 use Rattle.job_readers.specs.Members.{list_member, member_since, number_member, number_member_faults}
 use Rattle.job_readers.specs.WholeJob.{job_faults, job_value}
+use Rattle.job_readers.proofs.NoFaults.{none_first, none_inside}
 
 -- a number without a fault is no greater than the greatest
 no_more : (path : List ℕ) (low high : ℕ) (o : Option Data) → number_faults path low high None o ≡ [] → number_value None o ≤ high
@@ -36,15 +37,6 @@ low_version : (path : List ℕ) (d : Data) → version_faults path 2 d ≡ [] �
 unfolding version_faults version_value number_member_faults number_member
 low_version path d none = no_more (member_at path (codes "version")) 1 2 (member_of (codes "version") d) none
 
--- the faults of a part, where all have none
-no_outer : (outer inner : List JobFault) → outer ▹ inner ≡ [] → inner ≡ []
-no_outer [] inner none = none
-no_outer (f ∷ fs) inner none = absurd cc
-
-no_first : (faults others : List JobFault) → faults ++ others ≡ [] → faults ≡ []
-no_first [] others none = refl
-no_first (f ∷ fs) others none = absurd cc
-
 no_device : (version : ℕ) (d : Data) → version ≤ 2 → device_value version d ≡ None
 unfolding device_value member_since
 no_device version d low =
@@ -60,4 +52,4 @@ no_devices version d low =
 
 pub job_of_cores : (path : List ℕ) (d : Data) → job_faults path 2 d ≡ [] → All (λ (v : Vertex). v.device ≡ None) (job_value d).graph.vertices
 unfolding job_faults job_value graph_value graph_members
-job_of_cores path d none = no_devices (version_value d) (object_value (member_of (codes "graph") d)) (low_version path d (no_first (version_faults path 2 d) _ (no_outer (job_own_faults path d) _ none)))
+job_of_cores path d none = no_devices (version_value d) (object_value (member_of (codes "graph") d)) (low_version path d (none_first (version_faults path 2 d) _ (none_inside (job_own_faults path d) _ none)))
