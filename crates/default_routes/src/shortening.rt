@@ -1,13 +1,15 @@
 // Covering and default routing, one after the other.
 ghost use Rattle.std.specs.Prelude.{◌≡◌, ◌<◌, ◌≤◌, ◌^◌, ◌⊎◌, IfOk, All, length};
 ghost use Rattle.tern_word.specs.SoundTable.{IsSound, served};
-ghost use Rattle.cover_merge.specs.Covering.{HasNoLegalPair, HasRoutesOf};
+ghost use Rattle.cover_merge.specs.Covering.{Covers, HasNoLegalPair, HasRoutesOf};
+ghost use Rattle.cover_merge.specs.Merges.{sets_of};
+ghost use Rattle.std.specs.List.Sorted.{IsPermutation};
 ghost use Rattle.default_routes.specs.KeptRows.{ArePlaces};
 ghost use Rattle.default_routes.specs.FinalTable.{IsFinalOf, RoutesAlone, loaded_rows};
 
 use crate::stripping::{Final, strip};
-use cover_merge::cover;
-use spin_base::Memory;
+use cover_merge::{Covered, cover};
+use spin_base::{Memory, Seq};
 use std::alloc::Global;
 use tern_word::Table;
 
@@ -29,7 +31,26 @@ pub fn shorten(alloc: Global, table: Table, target: u32) -> Result<Final, Memory
     ensures ended { IfOk result (λ f. (length f.covered.table.rows ≤ target)
         ⊎ (HasNoLegalPair f.covered.table.rows)) }
 {
-    let covered = cover(alloc, table, target)?;
+    let covered = cover_long(alloc, table, target)?;
     let shortened = strip(alloc, covered)?;
     Ok(shortened)
+}
+
+// The covered table. Of a table that has at most `target` rows nothing is worked out: it is covered as it stands.
+fn cover_long(alloc: Global, table: Table, target: u32) -> Result<Covered, Memory>
+    requires few { length table.rows < 2 ^ 32 }
+    requires sound { IsSound table.rows }
+    ensures covered { IfOk result (λ c. Covers target table.rows (sets_of c.merges) c.table.rows) }
+    ensures sound { IfOk result (λ c. IsSound c.table.rows) }
+    ensures serves { IfOk result (λ c. IsPermutation (served table.rows) (served c.table.rows)) }
+    ensures few { IfOk result (λ c. length c.table.rows ≤ length table.rows) }
+    ensures routes { IfOk result (λ c. HasRoutesOf table.rows c.table.rows) }
+    ensures ended { IfOk result (λ c. (length c.table.rows ≤ target)
+        ⊎ (HasNoLegalPair c.table.rows)) }
+{
+    if table.rows.len() > target as usize {
+        return cover(alloc, table, target);
+    }
+    let merges = Seq::new(alloc);
+    Ok(Covered { table, merges })
 }

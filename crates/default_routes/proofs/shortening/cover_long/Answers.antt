@@ -1,0 +1,28 @@
+-- A table that is short enough is covered.
+use Rattle.std.proofs.Common.{◌≤◌, List, length, get_or, sym, subst, inl, arith}
+use Rattle.std.proofs.lemmas.List.Elements.{Contains-get_or}
+use Rattle.std.proofs.lemmas.List.Sorted.{IsPermutation-refl}
+use Rattle.spin_base.proofs.Members.{Contains-map}
+use Rattle.tern_word.specs.declared.tables.Row.{Row}
+use Rattle.tern_word.specs.SoundTable.{served}
+use Rattle.cover_merge.specs.declared.covering.Merge.{Merge}
+use Rattle.cover_merge.specs.Covering.{Covers, short}
+use Rattle.cover_merge.specs.Merges.{sets_of}
+use Rattle.default_routes.proofs.shortening.cover_long.Goals as goal
+
+pub returns-clause-covered : goal.returns-clause-covered
+returns-clause-covered c =
+    let rows = c.args.table.rows in
+    let enough : length rows ≤ c.args.target = omega (arith, c.len.ensures) in
+    subst (λ (merges : List Merge). Covers c.args.target rows (sets_of merges) rows) (sym c.new-merges.ensures) (short rows enough)
+
+pub returns-clause-serves : goal.returns-clause-serves
+returns-clause-serves c = IsPermutation-refl (served c.args.table.rows)
+
+pub returns-clause-routes : goal.returns-clause-routes
+returns-clause-routes c = λ k d h.
+    let rows = c.args.table.rows in
+    Contains-map (λ (r : Row). r.route) rows (get_or rows k d) (Contains-get_or rows k d h)
+
+pub returns-clause-ended : goal.returns-clause-ended
+returns-clause-ended c = inl (omega (arith, c.len.ensures))
