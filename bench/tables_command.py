@@ -1,15 +1,18 @@
 """Times `out/spin tables` on jobs at the limits: 16,384 vertices on a torus of 64 by 64 chips, and 4,096 nets.
 
     python3 bench/tables_command.py
+    python3 bench/tables_command.py --eight PROGRAM OTHER..     nets of eight targets anywhere alone, by each program in turn
 
 `./spin` must have built the program. Nets have four targets anywhere, or eight near their source; then some links are dead:
 5% of them and four targets anywhere, and 10% of them and 680 targets anywhere. Each job is run three times; the least
-processor time and wall-clock time are told, with the greatest memory.
+processor time and wall-clock time are told, with the greatest memory. With `--eight` there are seven turns, in each of which
+each program runs once, and what they write must be the same.
 """
 import json
 import os
 import resource
 import subprocess
+import sys
 import tempfile
 import time
 
@@ -48,6 +51,10 @@ def anywhere(_, drawn):
     return [f"v{next(drawn) % VERTICES}" for _ in range(4)]
 
 
+def eight_anywhere(_, drawn):
+    return [f"v{next(drawn) % VERTICES}" for _ in range(8)]
+
+
 def to_680(_, drawn):
     return [f"v{next(drawn) % VERTICES}" for _ in range(680)]
 
@@ -72,7 +79,28 @@ def timed(name, value):
         print(f"{name}: {min(spent):.2f} s of a processor, {min(taken):.2f} s in all, {most} MiB, status {done.returncode}: {last}")
 
 
+def in_turn(name, value, programs):
+    """The least processor time of each program over seven turns."""
+    with tempfile.TemporaryFile() as source:
+        source.write(json.dumps(value, separators=(",", ":")).encode())
+        spent, written = {program: [] for program in programs}, set()
+        for _ in range(7):
+            for program in programs:
+                source.seek(0)
+                before = resource.getrusage(resource.RUSAGE_CHILDREN).ru_utime
+                written.add(subprocess.run([program, "tables"], stdin=source, capture_output=True).stdout)
+                spent[program].append(resource.getrusage(resource.RUSAGE_CHILDREN).ru_utime - before)
+    for program in programs:
+        print(f"{name}: {min(spent[program]):.3f} s of a processor, {program}")
+    if len(written) != 1:
+        print(f"{name}: not the same bytes")
+
+
 def main():
+    if sys.argv[1:2] == ["--eight"]:
+        for percent in [0, 1, 5]:
+            in_turn(f"{percent}% of the links dead", job(4096, eight_anywhere, percent), sys.argv[2:])
+        return
     for nets in [1024, 2048, 4096]:
         timed(f"{nets} nets, eight targets near their source", job(nets, near))
     for nets in [1024, 2048, 4096]:
