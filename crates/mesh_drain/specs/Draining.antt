@@ -1,11 +1,14 @@
 -- Meshes that can be drained, and what is reached by events (this project's own).
-use Rattle.std.specs.Prelude.{◌≡◌, ℕ, List, All}
+use Rattle.std.specs.Prelude.{◌≡◌, ◌≤◌, ℕ, List, All, length}
 use Rattle.spin_base.specs.declared.copies.Event.{Event}
+use Rattle.spin_base.specs.declared.copies.Packet.{Packet}
 use Rattle.machine_desc.specs.declared.nets.NetPlan.{NetPlan}
 use Rattle.machine_desc.specs.RightTables.{AreRight}
-use Rattle.mesh_core.specs.State.{State, IsMesh}
-use Rattle.mesh_core.specs.Step.{after_events}
+use Rattle.spin_base.specs.declared.copies.Event.TheVariants.{Collect}
+use Rattle.mesh_core.specs.State.{State, IsMesh, Queue, input, core, nowhere}
+use Rattle.mesh_core.specs.Step.{after_event, after_events}
 use Rattle.mesh_core.specs.Ledger.{Label, MeetsLedger}
+use Rattle.mesh_core.specs.Opened.{MeetsJobLedger}
 use Rattle.mesh_core.specs.Expected.{NothingWaits}
 use Rattle.mesh_core.specs.HasRun.{DropsNone}
 
@@ -28,9 +31,21 @@ pub record IsAfter (before after : State) : Type 0 where
   pub events : List Event
   pub is : after ≡ after_events before events
 
+-- Where each queue has a place for every packet of a job whose ledger the mesh meets, no dump record has come.
+abbrev pub DropsNoneWhereRoomy : State → State → Type 0
+DropsNoneWhereRoomy before after =
+    (nets : List NetPlan) (packets : List Packet) → AreRight before.setup.machine before.setup.tables nets → MeetsJobLedger before nets packets →
+    length packets ≤ before.setup.capacity → after.dumped ≡ before.dumped
+
 -- It is reached so, and where nothing waited before, none of the events drops a copy, and no dump record has come.
 pub record IsMoved (before after : State) : Type 0 where
   pub events : List Event
   pub is : after ≡ after_events before events
   pub dropless : NothingWaits before → All DropsNone events
   pub no_record : NothingWaits before → after.dumped ≡ before.dumped
+
+-- The mesh after the vertex of a queue took a copy from it, where the queue is a vertex's.
+abbrev pub collected_from : State → Queue → State
+collected_from s (input i) = s
+collected_from s (core v) = after_event s (Collect v)
+collected_from s nowhere = s

@@ -7,18 +7,20 @@ ghost use Rattle.spin_base.specs.declared.copies.Event.TheVariants.{Collect};
 ghost use Rattle.machine_desc.specs.Live.{index_of, IsInside};
 ghost use Rattle.mesh_core.specs.Step.{after_event};
 ghost use Rattle.mesh_core.specs.Expected.{IsAtRest, NothingWaits};
-ghost use Rattle.mesh_drain.specs.Draining.{MeetsSomeLedger, IsReachedDropless, IsMoved};
+ghost use Rattle.mesh_drain.specs.Draining.{MeetsSomeLedger, IsReachedDropless, IsMoved, DropsNoneWhereRoomy};
 ghost use Rattle.mesh_drain.specs.UnderWay.{work, outs_in, next_place, IsAloneUnderWay, IsServing};
 
 use crate::settling::settle;
 use machine_desc::Machine;
+use mesh_core::laws::a_roomy_mesh_drops_nothing;
 use mesh_core::{Mesh, Queue};
 use spin_base::{Chip, Event, Memory, Out, Outs, Port};
 use std::alloc::Global;
 
 /// Empties what waits, and then brings all packets to their targets, one after the other, until no event is enabled. No copy is
-/// dropped where nothing waited before. Besides what it moves it takes memory for a list of where the packet under way waits; and
-/// time as chips and vertices for each link of the longest way that a copy still had to go which waited before.
+/// dropped where nothing waited before, nor where each queue has a place for every packet. Besides what it moves it takes memory
+/// for a list of where the packet under way waits; and time as chips and vertices for each link of the longest way that a copy
+/// still had to go which waited before.
 ///
 /// # Errors
 ///
@@ -27,7 +29,9 @@ pub fn drain(alloc: Global, mesh: &mut Mesh) -> Result<(), Memory>
     requires { MeetsSomeLedger mesh.old }
     ensures at_rest { OnOk result (IsAtRest mesh.new) }
     ensures moved { IsMoved mesh.old mesh.new }
+    ensures roomy { DropsNoneWhereRoomy mesh.old mesh.new }
 {
+    a_roomy_mesh_drops_nothing();
     settle(mesh)?;
     send_each(alloc, mesh)
 }

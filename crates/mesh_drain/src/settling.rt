@@ -1,8 +1,9 @@
 // What waits in a mesh, moved until nothing waits.
 ghost use Rattle.std.specs.Prelude.{◌≡◌, ◌<◌, true, OnOk, is_some, length};
 ghost use Rattle.mesh_core.specs.Expected.{NothingWaits};
+ghost use Rattle.mesh_core.specs.State.{behind};
 ghost use Rattle.mesh_core.specs.Step.{step_of};
-ghost use Rattle.mesh_drain.specs.Draining.{MeetsSomeLedger, IsAfter, IsMoved};
+ghost use Rattle.mesh_drain.specs.Draining.{MeetsSomeLedger, IsAfter, IsMoved, collected_from};
 ghost use Rattle.mesh_drain.specs.UnderWay.{weight_in};
 ghost use Rattle.mesh_drain.specs.Waiting.{IsWaiting};
 
@@ -114,7 +115,9 @@ fn serve(mesh: &mut Mesh, chip: Chip, out: Out) -> Result<(), Memory>
 
 // A vertex takes a copy at once that a router sent to it: so the queue of a core does not fill up within a sweep.
 fn collect_behind(mesh: &mut Mesh, chip: Chip, out: Out) -> Result<(), Memory>
-    ensures { IsAfter mesh.old mesh.new }
+    ensures after { IsAfter mesh.old mesh.new }
+    ensures collected { OnOk result (mesh.new
+        ≡ collected_from mesh.old (behind mesh.old.setup chip out)) }
 {
     every_mesh_is_one(mesh);
     match mesh.behind(chip, out) {

@@ -1,3 +1,5 @@
+use Rattle.std.proofs.Common.{◌∙◌, ap}
+use Rattle.mesh_core.specs.State.{State}
 use Rattle.mesh_drain.proofs.Moving.{moved_then, kept_moved}
 use Rattle.mesh_drain.proofs.draining.drain.Goals as goal
 
@@ -6,3 +8,14 @@ send_each-requires-clause-kept c = kept_moved c.args.mesh.now c.settle.new.mesh 
 
 pub returns-clause-moved : goal.returns-clause-moved
 returns-clause-moved c = moved_then c.args.mesh.now c.settle.new.mesh c.send_each.new.mesh c.settle.ensures.moved c.send_each.ensures.reached
+
+pub returns-clause-roomy : goal.returns-clause-roomy
+returns-clause-roomy c = λ nets packets right job roomy.
+    let moved = moved_then c.args.mesh.now c.settle.new.mesh c.send_each.new.mesh c.settle.ensures.moved c.send_each.ensures.reached in
+    ap (λ (s : State). s.dumped) moved.is
+    ∙ c.a_roomy_mesh_drops_nothing.ensures.no_record c.args.mesh.now nets packets moved.events c.requires.mesh right job roomy
+
+pub returns-in_err-settle-clause-roomy : goal.returns-in_err-settle-clause-roomy
+returns-in_err-settle-clause-roomy c = λ nets packets right job roomy.
+    ap (λ (s : State). s.dumped) c.settle.ensures.moved.is
+    ∙ c.a_roomy_mesh_drops_nothing.ensures.no_record c.args.mesh.now nets packets c.settle.ensures.moved.events c.requires.mesh right job roomy

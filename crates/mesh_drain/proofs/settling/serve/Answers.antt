@@ -9,7 +9,7 @@ use Rattle.mesh_drain.proofs.settling.serve.Goals as goal
 pub returns-in-Moved-clause-after : goal.returns-in-Moved-clause-after
 returns-in-Moved-clause-after c =
     after_then c.args.mesh.now c.step.new.self c.collect_behind.new.mesh
-    (after_one c.args.mesh.now c.step.new.self (Send c.args.chip c.args.out) c.in_ok-step.ensures.moves) c.collect_behind.ensures
+    (after_one c.args.mesh.now c.step.new.self (Send c.args.chip c.args.out) c.in_ok-step.ensures.moves) c.collect_behind.ensures.after
 
 pub returns-in-Moved-clause-lighter : goal.returns-in-Moved-clause-lighter
 returns-in-Moved-clause-lighter c =
@@ -17,7 +17,7 @@ returns-in-Moved-clause-lighter c =
     let sent = lighter c.args.mesh.now c.step.new.self (Send c.args.chip c.args.out) c.requires.kept
     (moved_enabled c.args.mesh.now (Send c.args.chip c.args.out) (sym c.in_ok-step.ensures.answer ∙ c.in-Moved.is)) c.in_ok-step.ensures.moves
     in
-    let rest = after_lighter c.step.new.self c.collect_behind.new.mesh kept c.collect_behind.ensures in
+    let rest = after_lighter c.step.new.self c.collect_behind.new.mesh kept c.collect_behind.ensures.after in
     always c.collect_behind.result (omega (arith, sent, rest))
 
 pub take_event-requires-clause-kept : goal.take_event-requires-clause-kept
