@@ -52,6 +52,31 @@ def long_request_cases():
     yield "the last of them is above 255", last, f"bad job: range in.image[{zeros - 1}]", BAD_JOB
 
 
+# The image of examples/one_chip.json, and where each of its fields begins.
+IMAGE = b"SPNT" + bytes([1, 1, 1, 0, 1, 0, 0, 0, 1, 0, 0, 0, 0, 0, 255, 255, 255, 255, 0, 1, 0, 0])
+FIELDS = (0, 4, 5, 6, 7, 8, 10, 11, 12, 14, 18, 22)
+
+
+def image_cases():
+    """Each front of an image stops in a field that is not whole, and that field is the fault; and each of its first letters spoiled.
+
+    (Each field with a number that is not allowed stands in requests.json.)
+    """
+    with open(f"{ROOT}/examples/one_chip.json", encoding="utf-8") as example:
+        front = '{"job":%s,"trees":[[]],"image":' % example.read().rstrip()
+
+    def asked(image):
+        return f"{front}{list(image)}}}".encode()
+
+    for length in range(len(IMAGE)):
+        place = max(field for field in FIELDS if field <= length)
+        yield f"the first {length} bytes of an image", asked(IMAGE[:length]), f"bad image {place}", 0
+    yield "all bytes of the image", asked(IMAGE), "right", 0
+    for place in range(4):
+        spoiled = bytes(byte ^ (32 if i == place else 0) for i, byte in enumerate(IMAGE))
+        yield f"another letter at {place}", asked(spoiled), "bad image 0", 0
+
+
 def step_cases():
     yield from written_cases("steps.json", "steps")
 
@@ -164,7 +189,7 @@ def main():
         ("run", (job_cases, prefix_cases, byte_cases, long_cases, list_cases)),
         # (what `reinject` reads is read as for `run`)
         ("reinject", (job_cases,)),
-        ("check", (request_cases, long_request_cases)),
+        ("check", (request_cases, image_cases, long_request_cases)),
         ("apps", (step_cases, many_step_cases)),
     ):
         for case in (case for cases in kinds for case in cases()):

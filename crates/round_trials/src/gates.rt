@@ -1,4 +1,4 @@
-// A gate that holds workers in an order.
+// A gate that holds workers in an order, and one that looks on.
 use spin_base::Gate;
 use std::sync::atomic::{AtomicU64, Ordering};
 use std::thread;
@@ -49,9 +49,11 @@ impl InOrder {
         self.late.fetch_add(1, Ordering::SeqCst);
     }
 
-    /// Whether no worker gave up.
+    /// Whether both workers entered all steps, and none gave up.
     pub fn held(&self) -> bool {
-        self.late.load(Ordering::SeqCst) == 0
+        self.first.load(Ordering::SeqCst) == 5
+            && self.second.load(Ordering::SeqCst) == 5
+            && self.late.load(Ordering::SeqCst) == 0
     }
 }
 
@@ -63,5 +65,30 @@ impl Gate for InOrder {
         let (own, other) = self.sides(worker);
         own.store(u64::from(step) + 1, Ordering::SeqCst);
         self.wait_for(other, self.waits[worker as usize][step as usize]);
+    }
+}
+
+/// A gate that stops nobody, and keeps the greatest phase that was entered.
+#[derive(Drop)]
+pub struct Greatest {
+    phase: AtomicU64,
+}
+
+impl Greatest {
+    pub fn new() -> Greatest {
+        Greatest {
+            phase: AtomicU64::new(0),
+        }
+    }
+
+    /// The greatest phase so far.
+    pub fn phase(&self) -> u64 {
+        self.phase.load(Ordering::SeqCst)
+    }
+}
+
+impl Gate for Greatest {
+    fn enter(&self, phase: u32, _worker: u32, _step: u32) {
+        self.phase.fetch_max(u64::from(phase), Ordering::SeqCst);
     }
 }

@@ -6,8 +6,8 @@ ghost use Rattle.mesh_round.specs.RoundFlow.{HasNoHand};
 ghost use Rattle.spin_jobs.specs.Parts.{WhereRun};
 ghost use Rattle.round_trials.specs.Kept.{KeepsLedger};
 
+use crate::calls::THREE_PACKETS;
 use crate::gates::InOrder;
-use crate::runs::THREE_PACKETS;
 use job_readers::Job;
 use mesh_core::{Mesh, Place, Where};
 use mesh_round::round;
