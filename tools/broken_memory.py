@@ -12,13 +12,15 @@ A refused run may write two things: the example's own report with the example's 
 status 9. Where nothing was read yet, status 9 may come without the line: there was no memory for the command's words. Anything else is
 wrong: a part of a report, another status, the end by a signal, a byte on standard error, no end at all.
 
-Each N is tried of three examples. Of jobs with threads, whose count may differ from run to run, a sample of N is tried, and each of
-their threads: two examples, and the generated job of tools/gen_reference.py, compiled and run. Its report is what the program writes
-where nothing is refused. With --all each N is tried of every example, or some 2,000 where it asks for memory more often. The last line
+Each N is tried of three examples, and of two jobs of two chips: one compiled, whose image is that of tools/model.py, and one run with
+queues of one copy, whose report may be any that tools/stress_runs.py finds right. Of other jobs with threads, whose count may
+differ from run to run, a sample of N is tried, and each of their threads: two examples, and the generated job of
+tools/gen_reference.py, compiled and run. Its report is what the program writes where nothing is refused. With --all each N is tried of every example, or some 2,000 where it asks for memory more often. The last line
 is 'N passed, M failed', and the status 1 where one failed. Python's standard library alone.
 """
 import argparse
 import concurrent.futures
+import json
 import os
 import shutil
 import struct
@@ -27,12 +29,16 @@ import sys
 import tempfile
 from collections import Counter, namedtuple
 
+import model
+import stress_runs
+
 ROOT = os.path.dirname(os.path.dirname(os.path.realpath(__file__)))
 MOST_SECONDS = 600
 SHOWN = 20
 EVERY = ("one_chip", "check_right", "apps_unsent")
 THREADED = ("ample_queues", "reinject_fan_out")
 GENERATED = ("compile", "run")
+COMPILED, SHORT = "compile of two_chips", "run of two_chips with short queues"
 SAMPLE = 60
 SAMPLE_OF_ALL = 2000
 
@@ -160,7 +166,7 @@ STAND_IN_REPORT = b"got p v 0 0\nend delivered 1 dumped 0 waiting 0 unsent 0\n"
 RIGHT = ("line", "goes-on", "no-words")
 WRONG = ("half", "half-then-line", "write-fault", "nothing", "zero", "other-status", "signal", "error", "always")
 
-# What is run, and what it says where nothing is refused.
+# What is run, and what it says where nothing is refused: a report, or whatever this function finds right.
 Case = namedtuple("Case", "name words job report status")
 # What is refused: memory or threads, from the first to the last of them; none where the first is 0.
 Refusal = namedtuple("Refusal", "kind first last")
@@ -187,6 +193,26 @@ def generated(program, word):
     job = subprocess.run([sys.executable, f"{ROOT}/tools/gen_reference.py", "1"], stdout=subprocess.PIPE, check=True).stdout
     report = subprocess.run([program, word], input=job, stdout=subprocess.PIPE, check=True).stdout
     return Case(f"{word} of a generated job", [word], job, report, 0)
+
+
+def two_chips():
+    """A job of two chips, compiled; and with three packets and queues of one copy, run by two workers."""
+    text = read(f"{ROOT}/examples/two_chips.json")
+    job = json.loads(text)
+    plan = model.plan_of(job)
+    yield Case(COMPILED, ["compile"], text, model.image_of(job["machine"], plan.tables), 0)
+    short = stress_runs.with_run(job, packets=job["run"]["packets"] * 3, queue=1, patience=1, workers=2, turns=4)
+
+    def is_right(report):
+        return not stress_runs.faults_of(short, plan, report.decode(errors="backslashreplace"))
+
+    yield Case(SHORT, ["run"], json.dumps(short).encode(), is_right, 0)
+
+
+def is_own(case, came):
+    """Whether the case's own report came, with its own status."""
+    right = case.report(came.text) if callable(case.report) else came.text == case.report
+    return right and (came.status, came.error) == (case.status, b"")
 
 
 def compiled(folder, name, text, *options):
@@ -236,12 +262,12 @@ class Trials:
     def whole(self, case):
         """A run without a refusal: it has to be right, and to have been counted."""
         came = self.came(case, NONE)
-        right = (came.status, came.text, came.error) == (case.status, case.report, b"")
+        right = is_own(case, came)
         self.told(right and came.memory > 0, "whole" if right else "nothing was refused", case, NONE, came)
         return came
 
     def judge(self, case, refusal, came):
-        own = (came.status, came.text, came.error) == (case.status, case.report, b"")
+        own = is_own(case, came)
         line = (came.status, came.text, came.error) == (9, b"out of memory\n", b"")
         if not came.refused:
             self.told(own, "never came to it", case, refusal, came)
@@ -316,10 +342,10 @@ def main():
             names = EVERY + THREADED
             if given.all:
                 names = sorted(name[:-5] for name in os.listdir(f"{ROOT}/examples") if name.endswith(".json"))
-            cases = [case_of(name) for name in names] + [generated(program, word) for word in GENERATED]
+            cases = [*map(case_of, names), *two_chips(), *(generated(program, word) for word in GENERATED)]
             threads = 0
             for case in cases:
-                most = SAMPLE_OF_ALL if given.all else EVER if case.name in EVERY else SAMPLE
+                most = SAMPLE_OF_ALL if given.all else EVER if case.name in (*EVERY, COMPILED, SHORT) else SAMPLE
                 whole = try_case(trials, case, most)
                 threads += whole.threads
                 print(f"{case.name}: {whole.memory} requests for memory, {whole.threads} for a thread", flush=True)

@@ -25,6 +25,9 @@ With --reinject each job has queues of one copy, and `reinject` has to write the
 queues for all packets. With --selftest reports are made by tools/model.py, and what arrives and is dropped by a plain play of the
 turns in a random order: the check has to find nothing amiss, and to object to each that is spoiled in one place.
 
+First of all comes a crowd: a thousand packets of one net from a chip to the next, through queues of one copy, by two workers of one
+turn, without patience.
+
 A job that fails is written to out/stress-SEED.json, and what was answered to out/stress-SEED.out. The last line is 'N passed, M
 failed', and the status 1 where one failed. No code is shared with the program or with python/kulzobad. Python's standard library
 alone.
@@ -587,10 +590,24 @@ def reinject_faults(program, job, plan):
     return faults, given[1], run_faults(program, with_run(job, queue=1), plan)[2]
 
 
+def crowd():
+    """A thousand packets of one net, of which some may be dropped."""
+    ends = [{"name": "a", "at": [0, 0]}, {"name": "b", "at": [1, 0]}]
+    graph = {"vertices": ends, "nets": [{"name": "n", "source": "a", "targets": ["b"]}]}
+    run = {"queue": 1, "patience": 1, "workers": 2, "turns": 1, "packets": [{"net": "n", "index": 0}] * 1000}
+    return {"version": 1, "machine": {"width": 2, "height": 1}, "graph": graph, "run": run}
+
+
+def jobs(asked):
+    """The name of each job, the job and its plan."""
+    yield "crowd", crowd(), model.plan_of(crowd())
+    for seed in range(asked.seed, asked.seed + asked.count):
+        yield seed, *Dice(seed).planned_job(asked.large or seed % LARGE == LARGE - 1)
+
+
 def stress(asked):
     results, dropped = Counter(), 0
-    for seed in range(asked.seed, asked.seed + asked.count):
-        job, plan = Dice(seed).planned_job(asked.large or seed % LARGE == LARGE - 1)
+    for seed, job, plan in jobs(asked):
         try:
             faults, answer, dumps = (reinject_faults if asked.reinject else run_faults)(asked.program, job, plan)
         except subprocess.TimeoutExpired:
