@@ -113,22 +113,36 @@ fn answers<R: Threads + Wait + Sync, G: Gate>(
 }
 
 // Whether the three packets give this text under a gate that held its order.
-fn tells<R: Threads + Wait + Sync>(rt: &R, alloc: Global, waits: [[u64; 5]; 2], text: &str) -> bool {
+fn tells<R: Threads + Wait + Sync>(
+    rt: &R,
+    alloc: Global,
+    waits: [[u64; 5]; 2],
+    text: &str,
+) -> bool {
     let gate = InOrder::new(waits);
     let ends = (ample(), ample());
     answers(rt, alloc, THREE_PACKETS, ends, &gate, (0, text.as_bytes())) && gate.held()
 }
 
-// The second chip's turns come after the first chip's four, of which each finds the queue East full but the first that sends.
+// The second chip's turns come after the first chip's; then they come between, where each worker waits for the other.
 #[test]
-fn a_run_tells_the_copies_that_were_dumped(rt: HostRuntime) {
-    assert!(rt; tells(&rt, rt.alloc(), [[0, 0, 0, 0, 0], [5, 0, 0, 0, 0]], ONE_ARRIVES));
-}
-
-// Each worker waits for the other: so no worker's turns can come after all of the other's.
-#[test]
-fn a_run_delivers_all_where_the_workers_take_turns(rt: HostRuntime) {
-    assert!(rt; tells(&rt, rt.alloc(), [[0, 2, 3, 4, 5], [2, 3, 4, 5, 0]], ALL_ARRIVE));
+fn a_run_goes_in_the_order_of_its_gate(rt: HostRuntime) {
+    assert!(rt;
+        tells(
+            &rt,
+            rt.alloc(),
+            [[0, 0, 0, 0, 0], [5, 0, 0, 0, 0]],
+            ONE_ARRIVES
+        )
+    );
+    assert!(rt;
+        tells(
+            &rt,
+            rt.alloc(),
+            [[0, 2, 3, 4, 5], [2, 3, 4, 5, 0]],
+            ALL_ARRIVE
+        )
+    );
 }
 
 // A job of forty packets on one chip.
@@ -147,7 +161,11 @@ fn phases<R: Threads + Wait + Sync>(rt: &R, alloc: Global) -> Option<u64> {
     let job = forty_packets(alloc)?;
     let gate = Greatest::new();
     let (status, _sink) = ran(rt, alloc, job.as_str(), (ample(), ample()), &gate)?;
-    if status == 0 { Some(gate.phase()) } else { None }
+    if status == 0 {
+        Some(gate.phase())
+    } else {
+        None
+    }
 }
 
 // A router takes one copy a turn, and all forty pass the one router.
@@ -160,7 +178,11 @@ fn each_round_has_a_phase_of_its_own(rt: HostRuntime) {
 fn breaks_at_each_read<R: Threads + Wait + Sync>(rt: &R, alloc: Global) -> bool {
     for failing in 1..=14 {
         let from = End { piece: 16, failing };
-        let wanted = if failing < 14 { (2, "read fault\n") } else { (0, ONE_CHIP_TEXT) };
+        let wanted = if failing < 14 {
+            (2, "read fault\n")
+        } else {
+            (0, ONE_CHIP_TEXT)
+        };
         let wanted = (wanted.0, wanted.1.as_bytes());
         if !answers(rt, alloc, ONE_CHIP, (from, ample()), &FreeGate, wanted) {
             return false;
@@ -169,17 +191,19 @@ fn breaks_at_each_read<R: Threads + Wait + Sync>(rt: &R, alloc: Global) -> bool 
     true
 }
 
-#[test]
-fn a_read_that_fails_ends_the_call(rt: HostRuntime) {
-    assert!(rt; breaks_at_each_read(&rt, rt.alloc()));
-}
-
 // Of a text of 153 bytes in pieces of 10 there are sixteen writes.
 fn breaks_at_each_write<R: Threads + Wait + Sync>(rt: &R, alloc: Global) -> bool {
     let text = ONE_CHIP_TEXT.as_bytes();
     for failing in 1..=17 {
-        let to = End { piece: 10, failing: failing as u64 };
-        let wanted = if failing < 17 { (3, &text[..10 * (failing - 1)]) } else { (0, text) };
+        let to = End {
+            piece: 10,
+            failing: failing as u64,
+        };
+        let wanted = if failing < 17 {
+            (3, &text[..10 * (failing - 1)])
+        } else {
+            (0, text)
+        };
         if !answers(rt, alloc, ONE_CHIP, (ample(), to), &FreeGate, wanted) {
             return false;
         }
@@ -188,6 +212,7 @@ fn breaks_at_each_write<R: Threads + Wait + Sync>(rt: &R, alloc: Global) -> bool
 }
 
 #[test]
-fn a_write_that_fails_leaves_what_was_written_before(rt: HostRuntime) {
+fn a_read_or_a_write_that_fails_ends_the_call(rt: HostRuntime) {
+    assert!(rt; breaks_at_each_read(&rt, rt.alloc()));
     assert!(rt; breaks_at_each_write(&rt, rt.alloc()));
 }

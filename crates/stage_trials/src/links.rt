@@ -126,7 +126,11 @@ fn looks_again<R: Wait>(rt: &R, alloc: Global) -> bool {
     let offers_full = comes_back(rt, &link, &mut tx, 3);
     let first = taken(rt, &link, &mut rx);
     let offers_room = comes_back(rt, &link, &mut tx, 3);
-    let others = [taken(rt, &link, &mut rx), taken(rt, &link, &mut rx), taken(rt, &link, &mut rx)];
+    let others = [
+        taken(rt, &link, &mut rx),
+        taken(rt, &link, &mut rx),
+        taken(rt, &link, &mut rx),
+    ];
     let held = link_down(rt, link, tx, rx, room);
     offers_full == Some(true)
         && first == Some(1)
