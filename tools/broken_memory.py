@@ -2,7 +2,6 @@
 
     python3 tools/broken_memory.py [PROGRAM]          the examples named below; the gate runs this
     python3 tools/broken_memory.py --all [PROGRAM]    every example; takes minutes
-    python3 tools/broken_memory.py --rounds TESTS     calls for rounds, in a test of round_trials; the gate runs this, too
     python3 tools/broken_memory.py --selftest         the check itself, on stand-ins for the program
 
 PROGRAM is out/spin where none is named. A small library is compiled with `cc` and loaded before the C library. It counts what is
@@ -16,12 +15,7 @@ wrong: a part of a report, another status, the end by a signal, a byte on standa
 Each N is tried of three examples, and of two jobs of two chips: one compiled, whose image is that of tools/model.py, and one run with
 queues of one copy, whose report may be any that tools/stress_runs.py finds right. Of other jobs with threads, whose count may
 differ from run to run, a sample of N is tried, and each of their threads: two examples, and the generated job of
-tools/gen_reference.py, compiled and run. Its report is what the program writes where nothing is refused. With --rounds TESTS is what `rt ci` or `rt test` built of the tests of round_trials (crates/round_trials/out/round_trials_tests). Each
-N is refused once, in the test that makes a round on a mesh of three copies and then calls for rounds twice. Whichever call is
-refused hands the mesh back, so that all three copies arrive or are dropped in the end. Only where there was no memory to open
-the mesh may the test say so.
-
-With --all each N is tried of every example, or some 2,000 where it asks for memory more often. The last line
+tools/gen_reference.py, compiled and run. Its report is what the program writes where nothing is refused. With --all each N is tried of every example, or some 2,000 where it asks for memory more often. The last line
 is 'N passed, M failed', and the status 1 where one failed. Python's standard library alone.
 """
 import argparse
@@ -44,7 +38,6 @@ SHOWN = 20
 EVERY = ("one_chip", "check_right", "apps_unsent")
 THREADED = ("ample_queues", "reinject_fan_out")
 GENERATED = ("compile", "run")
-ROUNDS, NOT_OPENED = "meshes::rounds_go_on_after_a_refusal", b"assertion failed: copies.is_some()"
 COMPILED, SHORT = "compile of two_chips", "run of two_chips with short queues"
 SAMPLE = 60
 SAMPLE_OF_ALL = 2000
@@ -308,22 +301,6 @@ def try_case(trials, case, most):
     return whole
 
 
-def try_rounds(trials):
-    """The test of rounds without a refusal, then with each request refused once."""
-    case = Case(ROUNDS, [ROUNDS], b"", lambda text: text.endswith(b"test result: ok\n"), 0)
-    whole, went_on = trials.whole(case), 0
-    numbers = range(1, whole.memory + 1)
-    with concurrent.futures.ThreadPoolExecutor(os.cpu_count()) as pool:
-        for refusal, came in zip(numbers, pool.map(lambda number: trials.came(case, Refusal("MEMORY", number, number)), numbers)):
-            own = is_own(case, came)
-            went_on += own and came.refused
-            trials.told(own or came.error.startswith(NOT_OPENED), "went on" if own else "no mesh was opened", case, refusal, came)
-    # The test makes some ten requests a round: where none was refused, nothing is shown.
-    if went_on < 20:
-        trials.failed += 1
-        print(f"FAILED: {went_on} refusals came after the mesh was opened")
-
-
 def selftest(folder, library):
     """Whether each stand-in that is right passes, and each that is wrong is found out."""
     stand_in = compiled(folder, "stand_in", STAND_IN)
@@ -350,7 +327,6 @@ def main():
     words = argparse.ArgumentParser(description="The program where memory or a thread is refused.")
     words.add_argument("program", nargs="?", default=f"{ROOT}/out/spin")
     words.add_argument("--all", action="store_true", help="every example")
-    words.add_argument("--rounds", metavar="TESTS", help="calls for rounds, in this program of tests")
     words.add_argument("--selftest", action="store_true", help="the check itself, on stand-ins")
     given = words.parse_args()
     if not shutil.which("cc"):
@@ -360,11 +336,6 @@ def main():
         library = compiled(folder, "broken.so", LIBRARY, "-shared", "-fPIC")
         if given.selftest:
             passed, failed = selftest(folder, library)
-        elif given.rounds:
-            trials = Trials(os.path.realpath(given.rounds), folder, library)
-            try_rounds(trials)
-            print(", ".join(f"{way}: {count}" for way, count in sorted(trials.ways.items())))
-            passed, failed = trials.passed, trials.failed
         else:
             program = os.path.realpath(given.program)
             trials = Trials(program, folder, library)

@@ -10,8 +10,7 @@ use crate::calls::THREE_PACKETS;
 use crate::gates::InOrder;
 use job_readers::Job;
 use mesh_core::{Mesh, Place, Where};
-use mesh_round::laws::a_quiet_mesh_is_ready;
-use mesh_round::{round, run_out};
+use mesh_round::round;
 use mesh_run::Pace;
 use spin_base::{Chip, Delivery, Dir, DumpRec, FreeGate, McCopy, Out, Port};
 use spin_input::job_of_text;
@@ -220,47 +219,4 @@ fn a_round_ends_with_its_turns(rt: HostRuntime) {
             &[]
         )
     );
-}
-
-// The mesh after one round, or the one that is handed back where there is no memory for it.
-fn round_or_same<R: Threads + Wait + Sync>(rt: &R, alloc: Global, mesh: Mesh) -> Mesh
-    requires { HasNoHand mesh }
-    ensures { HasNoHand result }
-{
-    match round(rt, alloc, mesh, pace(), 1, &FreeGate) {
-        Ok(mesh) => mesh,
-        Err((mesh, _)) => mesh,
-    }
-}
-
-// The mesh after all rounds, or after those before there was no memory.
-fn rounds_or_some<R: Threads + Wait + Sync>(rt: &R, alloc: Global, mesh: Mesh) -> Mesh
-    requires { HasNoHand mesh }
-    ensures { HasNoHand result }
-{
-    a_quiet_mesh_is_ready();
-    match run_out(rt, alloc, mesh, pace(), &FreeGate) {
-        Ok(mesh) => mesh,
-        Err((mesh, _)) => mesh,
-    }
-}
-
-// How many copies arrive or are dropped, where memory may be refused once.
-fn told<R: Threads + Wait + Sync>(rt: &R, alloc: Global) -> Option<usize> {
-    let mesh = opened(rt, alloc)?;
-    let mesh = round_or_same(rt, alloc, mesh);
-    let mesh = rounds_or_some(rt, alloc, mesh);
-    let mesh = rounds_or_some(rt, alloc, mesh);
-    let arrived = mesh.delivered().len();
-    let dropped = mesh.dumped().len();
-    mem::forget(mesh);
-    arrived.checked_add(dropped)
-}
-
-// Here tools/broken_memory.py refuses each request for memory in turn. There is no number where that comes before the mesh.
-#[test]
-fn rounds_go_on_after_a_refusal(rt: HostRuntime) {
-    let copies = told(&rt, rt.alloc());
-    assert!(rt; copies.is_some());
-    assert!(rt; copies == Some(3));
 }
