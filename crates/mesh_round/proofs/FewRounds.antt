@@ -95,10 +95,10 @@ module _ (u : Setup) (nets : List NetPlan) (packets : List Packet) (stand : AreN
   from_packet i [] x a = absurd a
   from_packet i (p ∷ ps) x a = elim (among_either x (map (of_packet i) (ways_of p)) (ways_from (suc i) ps) a) [
     | inl here ↦ (let of = among_map (of_packet i) x (ways_of p) here in (
-        0,
-        ap (λ (y : PacketWay). y.packet) of.2 ∙ omega arith,
-        (p, refl, subst (λ (w : Counted). IsAWay w p) (sym (ap (λ (y : PacketWay). y.way) of.2)) (way_is p (slice_get nets p.net) refl of.0 of.1)),
-      ))
+      0,
+      ap (λ (y : PacketWay). y.packet) of.2 ∙ omega arith,
+      (p, refl, subst (λ (w : Counted). IsAWay w p) (sym (ap (λ (y : PacketWay). y.way) of.2)) (way_is p (slice_get nets p.net) refl of.0 of.1)),
+    ))
     | inr later ↦ (let rest = from_packet (suc i) ps x later in let number = rest.1 in (suc rest.0, omega (arith, number), rest.2))
   ]
 

@@ -21,6 +21,12 @@ mod TheFlow
 mod Links
 mod Turns
 mod Services
+mod Served
+mod TakenBack
+mod OneMove
+mod RoutedMove
+mod VertexMoves
+mod TurnMoves
 mod Routers
 mod Banks
 mod Senders

@@ -119,7 +119,7 @@ IsApart (c ∷ cs) = (Among c cs → ⊥) × IsApart cs
 apart_both : (xs ys : List Chip) → IsApart xs → IsApart ys → ((c : Chip) → Among c xs → Among c ys → ⊥) → IsApart (xs ++ ys)
 apart_both [] ys apart also not_both = also
 apart_both (x ∷ xs) ys apart also not_both = (
-  λ a. elim (among_either x xs ys a) [ | inl first ↦ apart.0 first | inr second ↦ not_both x (inl refl) second ],
+  λ a. elim (among_either x xs ys a) [ inl first ↦ apart.0 first | inr second ↦ not_both x (inl refl) second ],
   apart_both xs ys apart.1 also (λ c a b. not_both c (inr a) b),
 )
 

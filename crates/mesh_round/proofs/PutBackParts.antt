@@ -1,8 +1,6 @@
 -- What putting the first dumped copy back does to a mesh, and when it does nothing.
 use Rattle.std.proofs.Common.{◌≡◌, List, [], ◌∷◌, Bool, true, false, if◌then◌else◌, Option, Some, None, refl, ap, sym, ◌∙◌, subst, unwrap_or}
-use Rattle.std.specs.List.{All, slice_get}
-use Rattle.spin_base.specs.declared.chips.Chip.{Chip}
-use Rattle.spin_base.specs.declared.routes.Out.{Out}
+use Rattle.std.specs.List.{All}
 use Rattle.spin_base.specs.declared.copies.McCopy.{McCopy}
 use Rattle.spin_base.specs.declared.copies.DumpRec.{DumpRec}
 use Rattle.mesh_core.specs.State.{State, Hand, IsMesh, Queue, input, core, nowhere, behind}

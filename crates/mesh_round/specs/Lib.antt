@@ -7,3 +7,4 @@ pub mod Work
 pub mod Bound
 pub mod OnThreads
 pub mod Reinjecting
+pub mod Turning

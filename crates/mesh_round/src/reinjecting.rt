@@ -13,12 +13,14 @@ ghost use Rattle.mesh_round.specs.OnThreads.{MayGoOn};
 ghost use Rattle.mesh_round.specs.Reinjecting.{put_back_answer, HasPasses, IsOfNets};
 
 use crate::flow_laws::a_round_leaves_less_to_do;
+use crate::gates::RoundGate;
 use crate::laws::passes_keep_the_ledger;
 use crate::rounds::run_parts;
+use crate::waking::Awake;
 use mesh_core::laws::a_mesh_stays_a_mesh;
 use mesh_core::{Did, Mesh, MeshParts, Queue};
 use mesh_run::Pace;
-use spin_base::{Chip, Gate, McCopy, Memory, Out};
+use spin_base::{Chip, McCopy, Memory, Out};
 use std::alloc::Global;
 use std::sync::Wait;
 use std::thread::Threads;
@@ -49,7 +51,7 @@ pub fn put_back(mesh: Mesh) -> Result<(Mesh, Did), (Mesh, Memory)>
 /// # Errors
 ///
 /// `Memory` where memory runs out, with the mesh after the last whole round or copy that was put back, which may go on from there.
-pub fn reinject<R: Threads + Wait + Sync, G: Gate>(
+pub fn reinject<R: Threads + Wait + Sync, G: RoundGate>(
     rt: &R,
     alloc: Global,
     mesh: Mesh,
@@ -64,19 +66,21 @@ pub fn reinject<R: Threads + Wait + Sync, G: Gate>(
     ensures refused { IfErr result (λ b. HasPasses pace.patience pace.turns mesh b.0) }
     ensures ready { IfErr result (λ b. MayGoOn b.0) }
 {
-    match pass_parts(rt, alloc, mesh.take_apart(), pace, gate) {
+    let mut awake = Awake::all();
+    match pass_parts(rt, alloc, mesh.take_apart(), pace, gate, &mut awake) {
         Ok(parts) => Ok(Mesh::put_together(parts)),
         Err((parts, e)) => Err((Mesh::put_together(parts), e)),
     }
 }
 
 // Rounds and copies put back, in turn, on the parts of a mesh.
-fn pass_parts<R: Threads + Wait + Sync, G: Gate>(
+fn pass_parts<R: Threads + Wait + Sync, G: RoundGate>(
     rt: &R,
     alloc: Global,
     parts: MeshParts,
     pace: Pace,
     gate: &G,
+    awake: &mut Awake,
 ) -> Result<MeshParts, (MeshParts, Memory)>
     requires ready { MayGoOn parts }
     requires ledger { IsOfNets parts }
@@ -89,16 +93,16 @@ fn pass_parts<R: Threads + Wait + Sync, G: Gate>(
 {
     passes_keep_the_ledger();
     a_round_leaves_less_to_do();
-    let mut parts = run_parts(rt, alloc, parts, pace, gate)?;
+    let mut parts = run_parts(rt, alloc, parts, pace, gate, awake)?;
     'passes: while parts.dumped.len() > 0 {
-        let filled = put_parts_back(parts)?;
-        parts = run_parts(rt, alloc, filled, pace, gate)?;
+        let filled = put_parts_back(parts, awake)?;
+        parts = run_parts(rt, alloc, filled, pace, gate, awake)?;
     }
     Ok(parts)
 }
 
 // Puts dumped copies back, first ones first, until the first one can't be, on the parts of a mesh.
-fn put_parts_back(parts: MeshParts) -> Result<MeshParts, (MeshParts, Memory)>
+fn put_parts_back(parts: MeshParts, awake: &mut Awake) -> Result<MeshParts, (MeshParts, Memory)>
     requires ready { MayGoOn parts }
     ensures passes { IfOk result (λ n. (patience turns : ℕ) → HasPasses patience turns parts n) }
     ensures ready { IfOk result MayGoOn }
@@ -107,14 +111,14 @@ fn put_parts_back(parts: MeshParts) -> Result<MeshParts, (MeshParts, Memory)>
         → HasPasses patience turns parts b.0) }
     ensures ready_still { IfErr result (λ b. MayGoOn b.0) }
 {
-    match put_all_back(Mesh::put_together(parts)) {
+    match put_all_back(Mesh::put_together(parts), awake) {
         Ok(mesh) => Ok(mesh.take_apart()),
         Err((mesh, e)) => Err((mesh.take_apart(), e)),
     }
 }
 
 // Puts dumped copies back, first ones first, until the first one can't be.
-fn put_all_back(mesh: Mesh) -> Result<Mesh, (Mesh, Memory)>
+fn put_all_back(mesh: Mesh, awake: &mut Awake) -> Result<Mesh, (Mesh, Memory)>
     requires ready { MayGoOn mesh }
     ensures passes { IfOk result (λ n. (patience turns : ℕ) → HasPasses patience turns mesh n) }
     ensures ready { IfOk result MayGoOn }
@@ -124,12 +128,21 @@ fn put_all_back(mesh: Mesh) -> Result<Mesh, (Mesh, Memory)>
 {
     let mut mesh = mesh;
     'copies: loop {
+        wake_behind_first(&mesh, awake);
         let (next, did) = put_back(mesh)?;
         mesh = next;
         match did {
             Did::Moved => {}
             Did::Idle => return Ok(mesh),
         }
+    }
+}
+
+// Who takes from the queue behind the first record's output is awake.
+fn wake_behind_first(mesh: &Mesh, awake: &mut Awake) {
+    if let Some(record) = mesh.dumped().first() {
+        let queue = mesh.behind(record.chip, record.out);
+        awake.wake(mesh.machine(), mesh.spots(), queue);
     }
 }
 
@@ -156,7 +169,7 @@ fn put_first_back(parts: MeshParts) -> Result<(MeshParts, Did), (MeshParts, Memo
 }
 
 // The queue behind an output.
-fn queue_behind(parts: &MeshParts, chip: Chip, out: Out) -> Queue
+pub(crate) fn queue_behind(parts: &MeshParts, chip: Chip, out: Out) -> Queue
     requires { IsMesh parts.now }
     ensures queue { queue_named result ≡ behind parts.now.setup chip out }
     ensures place { IsPlace (length parts.now.inputs) (length parts.now.cores) result }
@@ -165,7 +178,7 @@ fn queue_behind(parts: &MeshParts, chip: Chip, out: Out) -> Queue
 }
 
 // Whether a queue has room.
-fn has_room(parts: &MeshParts, queue: Queue) -> bool
+pub(crate) fn has_room(parts: &MeshParts, queue: Queue) -> bool
     requires { IsPlace (length parts.now.inputs) (length parts.now.cores) queue }
     ensures { result ≡ has_room_behind parts.now (queue_named queue) }
 {
@@ -178,7 +191,7 @@ fn has_room(parts: &MeshParts, queue: Queue) -> bool
 }
 
 // Puts a copy at the back of a queue.
-fn push_behind(parts: &mut MeshParts, queue: Queue, copy: McCopy) -> Result<(), Memory>
+pub(crate) fn push_behind(parts: &mut MeshParts, queue: Queue, copy: McCopy) -> Result<(), Memory>
     requires { IsPlace (length parts.old.inputs) (length parts.old.cores) queue }
     ensures ok { OnOk result (parts.new ≡ push_behind parts.old (queue_named queue) copy) }
     ensures err { OnErr result (parts.new ≡ parts.old) }
@@ -191,7 +204,7 @@ fn push_behind(parts: &mut MeshParts, queue: Queue, copy: McCopy) -> Result<(), 
 }
 
 // The copy behind a router: one hop more.
-fn onward(copy: McCopy) -> McCopy
+pub(crate) fn onward(copy: McCopy) -> McCopy
     ensures { result ≡ onward copy }
 {
     McCopy {

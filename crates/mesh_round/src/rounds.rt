@@ -1,16 +1,23 @@
 // Rounds of a mesh on threads: one, and as many as it takes.
 ghost use Rattle.std.specs.Prelude.{◌≡◌, IfErr, IfOk};
+ghost use Rattle.std.specs.List.{list_all};
+ghost use Rattle.mesh_run.specs.Queues.{is_empty};
+ghost use Rattle.mesh_run.specs.Raised.{has_none};
 ghost use Rattle.mesh_core.specs.State.{IsMesh};
 ghost use Rattle.mesh_core.specs.Expected.{IsAtRest};
 ghost use Rattle.mesh_round.specs.RoundFlow.{HasNoHand, HasRounds};
 ghost use Rattle.mesh_round.specs.OnThreads.{MayGoOn, LeadsByRound};
 ghost use Rattle.mesh_round.specs.Bound.{HasMovingRounds, LeadsSoon};
+ghost use Rattle.mesh_round.specs.Turning.{GoesTo};
 
 use crate::flow_laws::{a_round_leaves_less_to_do, rounds_that_move_copies_are_few};
+use crate::gates::RoundGate;
 use crate::laws::a_round_on_threads_is_a_round;
+use crate::turning::turn_all;
+use crate::waking::Awake;
 use mesh_core::{Mesh, MeshParts};
 use mesh_run::{Pace, RaisedMesh, play_parts};
-use spin_base::{Gate, Memory};
+use spin_base::{Fifo, Gate, McCopy, Memory};
 use std::alloc::Global;
 use std::sync::Wait;
 use std::thread::Threads;
@@ -49,7 +56,7 @@ pub fn round<R: Threads + Wait + Sync, G: Gate>(
 /// # Errors
 ///
 /// `Memory` where memory runs out, with the mesh after the last whole round, which may go on from there.
-pub fn run_out<R: Threads + Wait + Sync, G: Gate>(
+pub fn run_out<R: Threads + Wait + Sync, G: RoundGate>(
     rt: &R,
     alloc: Global,
     mesh: Mesh,
@@ -64,14 +71,101 @@ pub fn run_out<R: Threads + Wait + Sync, G: Gate>(
     ensures ready { IfErr result (λ b. MayGoOn b.0) }
 {
     rounds_that_move_copies_are_few();
-    match run_parts(rt, alloc, mesh.take_apart(), pace, gate) {
+    let mut awake = Awake::all();
+    match run_parts(rt, alloc, mesh.take_apart(), pace, gate, &mut awake) {
         Ok(parts) => Ok(Mesh::put_together(parts)),
         Err((parts, e)) => Err((Mesh::put_together(parts), e)),
     }
 }
 
-// Rounds on the parts of a mesh, numbered from 1.
-pub(crate) fn run_parts<R: Threads + Wait + Sync, G: Gate>(
+// Rounds on the parts of a mesh, numbered from 1. Where no worker may be held, and there is too little for threads, the calling
+// thread gives the turns, to those who are awake.
+pub(crate) fn run_parts<R: Threads + Wait + Sync, G: RoundGate>(
+    rt: &R,
+    alloc: Global,
+    parts: MeshParts,
+    pace: Pace,
+    gate: &G,
+    awake: &mut Awake,
+) -> Result<MeshParts, (MeshParts, Memory)>
+    requires { MayGoOn parts }
+    ensures rounds { IfOk result (HasMovingRounds pace.patience pace.turns parts) }
+    ensures ready { IfOk result MayGoOn }
+    ensures at_rest { IfOk result IsAtRest }
+    ensures refused { IfErr result (λ b. HasRounds pace.patience pace.turns parts b.0) }
+    ensures ready_still { IfErr result (λ b. MayGoOn b.0) }
+{
+    if gate.may_hold() || is_for_threads(&parts, pace.workers) {
+        return run_raised(rt, alloc, parts, pace, gate);
+    }
+    let mut parts = parts;
+    if let Err(e) = turn_out(alloc, &mut parts, pace.turns, awake) {
+        return Err((parts, e));
+    }
+    if is_at_rest(&parts) {
+        return Ok(parts);
+    }
+    run_raised(rt, alloc, parts, pace, gate)
+}
+
+/// For so many copies a worker, rounds are given to the workers that are asked for. For fewer, one thread is sooner done than
+/// threads are made.
+const COPIES_A_WORKER: usize = 4096;
+
+// Whether rounds are given to threads: more than one is asked for, and there are enough copies that wait or are unsent.
+fn is_for_threads(parts: &MeshParts, workers: u32) -> bool {
+    if workers < 2 {
+        return false;
+    }
+    let mut missing = COPIES_A_WORKER * workers as usize;
+    missing = missing.saturating_sub(count_to(&parts.unsent, missing));
+    missing = missing.saturating_sub(count_to(&parts.inputs, missing));
+    missing = missing.saturating_sub(count_to(&parts.cores, missing));
+    missing == 0
+}
+
+// How many copies queues hold, as far as they are no more than so many.
+fn count_to(queues: &[Fifo<McCopy>], most: usize) -> usize {
+    let mut left = most;
+    for queue in queues {
+        left = left.saturating_sub(queue.len());
+    }
+    most.saturating_sub(left)
+}
+
+// Turns of those who are awake until none of them moves a copy.
+fn turn_out(
+    alloc: Global,
+    parts: &mut MeshParts,
+    turns: u32,
+    awake: &mut Awake,
+) -> Result<(), Memory>
+    requires { MayGoOn parts.old }
+    ensures { GoesTo parts.old parts.new }
+{
+    'turns: loop {
+        if !turn_all(alloc, parts, turns, awake)? {
+            return Ok(());
+        }
+    }
+}
+
+// Whether no copy waits in a queue and none is unsent.
+fn is_at_rest(parts: &MeshParts) -> bool
+    ensures { result ≡ has_none parts.now }
+{
+    are_empty(&parts.inputs) && are_empty(&parts.cores) && are_empty(&parts.unsent)
+}
+
+// Whether each queue is empty.
+fn are_empty(queues: &[Fifo<McCopy>]) -> bool
+    ensures { result ≡ list_all is_empty queues.now }
+{
+    queues.iter().all(|queue| queue.len() == 0)
+}
+
+// Rounds on links, numbered from 1.
+fn run_raised<R: Threads + Wait + Sync, G: RoundGate>(
     rt: &R,
     alloc: Global,
     parts: MeshParts,

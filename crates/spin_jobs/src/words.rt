@@ -15,9 +15,10 @@ use crate::planned_jobs::PlannedJob;
 use crate::plans::plan_of;
 use crate::runs::{reinject_job, run_job};
 use job_readers::Job;
+use mesh_round::RoundGate;
 use par_compile::Plan;
 use run_report::Refusal;
-use spin_base::{Gate, Memory};
+use spin_base::Memory;
 use spin_words::JobWord;
 use std::alloc::Global;
 use std::sync::Wait;
@@ -29,7 +30,7 @@ use std::thread::Threads;
 /// # Errors
 ///
 /// `NoRoom`, `KeysOut`, `CutOff` or `TableLong`, with what it names, where the job has no plan. `Memory` where memory runs out.
-pub fn made_of_job<R: Threads + Wait + Sync, G: Gate>(
+pub fn made_of_job<R: Threads + Wait + Sync, G: RoundGate>(
     rt: &R,
     alloc: Global,
     word: JobWord,
@@ -47,7 +48,7 @@ pub fn made_of_job<R: Threads + Wait + Sync, G: Gate>(
 }
 
 // The plan of a job, and what a word makes of it.
-fn planned<R: Threads + Wait + Sync, G: Gate>(
+fn planned<R: Threads + Wait + Sync, G: RoundGate>(
     rt: &R,
     alloc: Global,
     word: JobWord,
@@ -88,7 +89,7 @@ fn made(job: Job, planned: Result<(Plan, WordOutput), Refusal>) -> Result<Made, 
 }
 
 // What a word makes of a planned job.
-fn make<R: Threads + Wait + Sync, G: Gate>(
+fn make<R: Threads + Wait + Sync, G: RoundGate>(
     rt: &R,
     alloc: Global,
     word: JobWord,

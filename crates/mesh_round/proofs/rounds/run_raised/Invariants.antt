@@ -2,7 +2,7 @@ use Rattle.mesh_round.specs.Bound.{HasMovingRounds}
 use Rattle.mesh_round.specs.Work.{work_in}
 use Rattle.mesh_run.specs.Raised.{IsRaised, mesh_of}
 use Rattle.mesh_round.specs.OnThreads.{MayGoOn}
-use Rattle.mesh_round.proofs.rounds.run_parts.Given as goal
+use Rattle.mesh_round.proofs.rounds.run_raised.Given as goal
 
 -- the mesh was reached by rounds in which copies moved, and may go on, and its links are up
 abbrev pub invariant-rounds : goal.invariant-rounds

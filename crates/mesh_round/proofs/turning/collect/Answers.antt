@@ -1,0 +1,10 @@
+-- Until a copy was got the mesh is as it was.
+use Rattle.std.proofs.Common.{◌∙◌}
+use Rattle.mesh_round.proofs.OneMove.{goes_same, on_any}
+use Rattle.mesh_round.proofs.turning.collect.Goals as goal
+
+pub returns-in_err-collect_at-clause-err : goal.returns-in_err-collect_at-clause-err
+returns-in_err-collect_at-clause-err c = on_any _ (goes_same c.args.parts.now c.collect_at.new.parts c.requires (c.in_err-collect_at.ensures.err ∙ c.loop-step.invariant))
+
+pub returns-clause-turn : goal.returns-clause-turn
+returns-clause-turn c = (goes_same c.args.parts.now c.loop-step.parts c.requires c.loop-step.invariant, λ is. cc)
