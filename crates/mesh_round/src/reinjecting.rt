@@ -46,7 +46,7 @@ pub fn put_back(mesh: Mesh) -> Result<(Mesh, Did), (Mesh, Memory)>
 
 /// Rounds until nothing waits and nothing is unsent, then dumped copies put back, first ones first, until the first one can't be;
 /// and so on until no dump record is left. In a mesh that meets the ledger of its nets each dumped copy has a queue behind its output,
-/// which is empty after the rounds: so there is an end. Each time rounds are numbered anew, from 1.
+/// which is empty after the rounds: so there is an end. Each time rounds are numbered anew, from 1. They go as those of `run_out`.
 ///
 /// # Errors
 ///

@@ -53,6 +53,9 @@ pub fn round<R: Threads + Wait + Sync, G: Gate>(
 /// of a job there are at most as many as copies can move: for each packet one, one for each chip of its net's tree, and one for each
 /// target.
 ///
+/// Where the gate never holds anybody, and one worker is asked for or there is little to move, the calling thread gives all turns:
+/// each move is a round then, and no thread is made.
+///
 /// # Errors
 ///
 /// `Memory` where memory runs out, with the mesh after the last whole round, which may go on from there.

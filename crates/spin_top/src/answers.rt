@@ -8,8 +8,8 @@ ghost use Rattle.spin_top.specs.Made.{IsMade};
 
 use crate::inputs::job_for;
 use crate::outcomes::{Output, no_parts};
-use run_report::Refusal;
 use mesh_round::RoundGate;
+use run_report::Refusal;
 use spin_base::{Memory, Source};
 use spin_input::{read_request, read_steps};
 use spin_jobs::made_of_job;

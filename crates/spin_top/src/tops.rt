@@ -20,8 +20,8 @@ ghost use Rattle.spin_top.specs.Writing.{IsWritten, TakesMemory, writing_of};
 
 use crate::answers::{checked, done, from_job};
 use crate::outcomes::{Outcome, Output, no_parts};
-use run_report::{OUT_OF_MEMORY, Refusal, line_of};
 use mesh_round::RoundGate;
+use run_report::{OUT_OF_MEMORY, Refusal, line_of};
 use spin_base::{Memory, Sink, Source, write_all};
 use spin_words::{Command, command_of};
 use std::alloc::Global;
