@@ -20,7 +20,7 @@ use Rattle.cover_merge.specs.Guards.{HasRival, here, behind, IsGuard, IsGuardAt,
 use Rattle.cover_merge.proofs.ApplyLemmas.{left, members_before, after_is, block_is}
 
 -- what a block misses, a narrower one misses
-narrower_misses : (b x : Block) (r : Row) → LiesIn x b → Misses b r → Misses x r
+pub narrower_misses : (b x : Block) (r : Row) → LiesIn x b → Misses b r → Misses x r
 narrower_misses b x r lies misses k d within meets =
     let a = (get_or r.aliases k d).block in
     misses k d within (Intersects-sym a b (Intersects-wider a x b lies (Intersects-sym x a meets)))
@@ -143,6 +143,11 @@ but_set b rows gs new s g inside is told each k e within misses = subst (λ l. I
 
 -- ---- the table after a merge
 
+-- each member lies in the merge
+pub member_lies : (rows : List Row) (places : List ℕ) → IsMergeSet rows places → (b : Block) → b ≡ merged_block rows places → (s : ℕ) (d : Row) → has_row places s ≡ true → LiesIn (get_or rows s d).block b
+member_lies rows places merge b is = rows_at-has (λ (r : Row). LiesIn r.block b) rows places merge.set.in_range
+    (subst (λ x. All (λ (r : Row). LiesIn r.block x) (rows_at rows places)) (sym is) (All-from_map (λ x. LiesIn x (merged_block rows places)) (λ (x : Row). x.block) (rows_at rows places) (LiesIn-merge (map (λ (x : Row). x.block) (rows_at rows places)))))
+
 module _ (rows : List Row) (places : List ℕ) (ordered : IsOrdered rows) (merge : IsMergeSet rows places) (b : Block) (is : b ≡ merged_block rows places) (g p : ℕ) (general : g ≡ generality b) (place : p ≡ place_for rows g) (nothing : Guard) (silent : IsSilent nothing) (gs : List Guard) (same : length gs ≡ length rows) where
   place_is : p ≡ insert_place rows places
   place_is = place ∙ ap (place_for rows) (general ∙ ap generality is)
@@ -150,16 +155,12 @@ module _ (rows : List Row) (places : List ℕ) (ordered : IsOrdered rows) (merge
   m_block : (merged_row rows places).block ≡ b
   m_block = block_is rows places ordered merge ∙ sym is
 
-  member_lies : (s : ℕ) (d : Row) → has_row places s ≡ true → LiesIn (get_or rows s d).block b
-  member_lies = rows_at-has (λ (r : Row). LiesIn r.block b) rows places merge.set.in_range
-      (subst (λ x. All (λ (r : Row). LiesIn r.block x) (rows_at rows places)) (sym is) (All-from_map (λ x. LiesIn x (merged_block rows places)) (λ (x : Row). x.block) (rows_at rows places) (LiesIn-merge (map (λ (x : Row). x.block) (rows_at rows places)))))
-
   dropped : (k j : ℕ) (d : Row) → j ≡ 0 + k → k < length (insert rows (insert_place rows places) (merged_row rows places)) → not (has_row places j) ≡ false → LiesIn (get_or (insert rows (insert_place rows places) (merged_row rows places)) k d).block b
   dropped k j d at within out =
       let here : j ≡ k = omega (arith, at) in
       let member : has_row places k ≡ true = ap (has_row places) (sym here) ∙ from_not_false (has_row places j) out in
       let before : k < insert_place rows places = All-has (λ t. t < insert_place rows places) places k (members_before rows places ordered merge) member in
-      subst (λ (x : Row). LiesIn x.block b) (sym (get_or-insert_below rows (insert_place rows places) (merged_row rows places) d k before (place_for-le rows (generality (merged_block rows places))))) (member_lies k d member)
+      subst (λ (x : Row). LiesIn x.block b) (sym (get_or-insert_below rows (insert_place rows places) (merged_row rows places) d k before (place_for-le rows (generality (merged_block rows places))))) (member_lies rows places merge b is k d member)
     where
       from_not_false : (t : Bool) → not t ≡ false → t ≡ true
       from_not_false true e = refl

@@ -1,30 +1,32 @@
 -- Pairs that were refused stay refused until one of their rows changes.
-use Rattle.std.proofs.Common.{◌≡◌, ◌≢◌, ℕ, zero, suc, ◌+◌, ◌-◌, ◌<◌, ◌≤◌, ◌⊎◌, ◌↔◌, IsTrue, Bool, true, false, cond, List, [], ◌∷◌, length, get_or, take, drop, inl, inr, sym, ap, ◌∙◌, subst, set, length-append, length-drop, length-take, get_or-take, get_or-drop, arith}
+use Rattle.std.proofs.Common.{◌≡◌, ◌≢◌, ◌==◌, ◌&&◌, ℕ, zero, suc, ◌+◌, ◌-◌, ◌<◌, ◌≤◌, ◌⊎◌, ◌↔◌, IsTrue, Bool, true, false, cond, List, [], ◌∷◌, length, get_or, take, drop, inl, inr, refl, sym, ap, ◌∙◌, subst, set, length-append, length-drop, length-take, get_or-take, get_or-drop, arith}
 use Rattle.std.specs.Prelude.{All, not, insert, map}
 use Rattle.std.specs.List.{cons_option}
 use Rattle.std.proofs.lemmas.List.Elements.{All-cons, All-append, All-take, All-drop, All-head}
-use Rattle.std.proofs.lemmas.Bool.{cases_Bool, cases_lt, cases_eq, cases_order, not-true}
+use Rattle.std.proofs.lemmas.Bool.{cases_Bool, cases_lt, cases_eq, cases_order, not-true, false_from_ne_true, eq-eqb}
+use mathlib.Core.Bool.{true≢false}
 use Rattle.std.proofs.lemmas.Grind.{get_or-set_at}
 use Rattle.std.proofs.lemmas.List.{get_or_default, get_or-set_other, length-set}
 use Rattle.std.proofs.lemmas.Option.{slice_get-get_or}
 use Rattle.spin_base.specs.declared.blocks.Block.{Block}
+use Rattle.spin_base.specs.declared.routes.Route.{Route}
 use Rattle.tern_word.specs.declared.tables.Row.{Row}
 use Rattle.tern_word.specs.Ternary.{generality, merge_two, merge_of}
 use Rattle.tern_word.specs.SoundTable.{IsOrdered, IsSound, Misses}
 use Rattle.tern_word.proofs.BlockLaws.{generality-merge, generality_le}
-use Rattle.cover_merge.specs.Merge.{has_row, picked, kept, rows_at, merge_rows, merged_row, merged_block, insert_place, place_for, after, IsMergeSet, IsLegal, PassesDown}
+use Rattle.cover_merge.specs.Merge.{has_row, picked, kept, rows_at, merge_rows, merged_row, merged_block, insert_place, place_for, after, IsMergeSet, IsLegal, PassesUp, PassesDown}
 use Rattle.cover_merge.proofs.Lists.{All-picked, All-left, All-right, picked-at, All-from_map}
-use Rattle.cover_merge.proofs.Positions.{has-at, rows_at-has, place_for-below, place_for-above}
+use Rattle.cover_merge.proofs.Positions.{has-at, has-place, rows_at-has, place_for-below, place_for-above}
 use Rattle.cover_merge.proofs.Answering.{fails}
 use Rattle.cover_merge.proofs.Legal.{Misses-members, up_from_legal, down_from_legal}
 use Rattle.cover_merge.specs.declared.guards.Guard.{Guard}
 use Rattle.cover_merge.specs.Guards.{HasRival, IsGuardAt, AreGuards}
 use Rattle.cover_merge.specs.Links.{IsNextOfRoute}
 use Rattle.cover_merge.specs.Covering.{IsLegalPair}
-use Rattle.cover_merge.specs.Tried.{HasMet, IsRefusedPair, IsRefusedAt, AreTried, AreTriedUpTo, IsFresh, IsNoLaxer, IsTriedNow, IsLatest, AreLatest}
+use Rattle.cover_merge.specs.Tried.{HasMet, IsHolder, IsHeld, IsStuck, IsUntouched, AreTouched, IsRefusedPair, IsRefusedAt, AreTried, AreTriedUpTo, IsFresh, IsNoLaxer, IsTriedNow, IsLatest, AreLatest}
 use Rattle.cover_merge.proofs.ApplyLemmas.{left, after_is, block_is}
 use Rattle.cover_merge.proofs.GuardLemmas.{guard_refuses, one_route}
-use Rattle.cover_merge.proofs.CarryLemmas.{guard_set}
+use Rattle.cover_merge.proofs.CarryLemmas.{guard_set, narrower_misses, member_lies}
 
 -- ---- pairs in two lists at once
 
@@ -130,10 +132,10 @@ nearer rows r m k s n l first second refused bits = by_case (refused bits)
     b : Block
     b = merge_two r.block s.block
 
-    by_case : (m ≤ generality b) ⊎ ((n ≤ generality b) ⊎ HasMet rows b) → (k ≤ generality b) ⊎ ((l ≤ generality b) ⊎ HasMet rows b)
+    by_case : (m ≤ generality b) ⊎ ((n ≤ generality b) ⊎ IsStuck rows r s) → (k ≤ generality b) ⊎ ((l ≤ generality b) ⊎ IsStuck rows r s)
     by_case (inl low) = inl (omega (arith, low, first))
     by_case (inr (inl low)) = inr (inl (omega (arith, low, second)))
-    by_case (inr (inr met)) = inr (inr met)
+    by_case (inr (inr stuck)) = inr (inr stuck)
 
 -- ---- one guard in place of another
 
@@ -180,6 +182,14 @@ module _ (now : ℕ) (rows : List Row) (gs : List Guard) (s : ℕ) (g old : Guar
   same_guard : g ≡ old → IsNoLaxer old g
   same_guard same = record { rival = omega (arith, ap (λ (x : Guard). x.rival) same); tried = ap (λ (x : Guard). x.tried) same; changed = ap (λ (x : Guard). x.changed) same }
 
+  -- the same guard, or that of a row that a merge touches
+  pub touched_set : (bits : ℕ) (merged : Block) (row : Row) (new : List Guard) → new ≡ set gs s g → ((g ≡ old) × (IsUntouched bits merged row)) ⊎ (IsFresh now g) → AreTriedUpTo now rows new
+  touched_set bits merged row new is told = fresh_set new is (by_case told)
+    where
+      by_case : ((g ≡ old) × (IsUntouched bits merged row)) ⊎ (IsFresh now g) → (IsNoLaxer old g) ⊎ (IsFresh now g)
+      by_case (inl still) = inl (same_guard still.0)
+      by_case (inr fresh) = inr fresh
+
   -- the guard of a row that is refused with each later one
   tried_put : (settled : Bool) → (IsTrue settled → (b : ℕ) → s < b → b < length rows → IsRefusedAt rows gs s b) → length gs ≡ length rows → (g ≡ old) ⊎ ((IsTrue settled) × (IsTriedNow now old g)) → AreTriedUpTo now rows (set gs s g)
   tried_put settled refused same (inl kept) = fresh_put (inl (same_guard kept))
@@ -211,6 +221,31 @@ marked_guard now rows gs new s g old settled inside is_old is told each = guard_
       passes = subst (λ n. All (λ (x : Row). generality x.block < n → Misses x.block (get_or rows s d)) (drop (suc s) rows)) (sym mark.clear) (here d).passes;
     }
 
+pub touched_guard : (rows : List Row) (gs new : List Guard) (s : ℕ) (g old : Guard) → s < length gs → old ≡ get_or gs s old → new ≡ set gs s g → g.rival ≡ old.rival → g.clear ≡ old.clear → AreGuards rows gs → AreGuards rows new
+touched_guard rows gs new s g old inside is_old is rival clear each = guard_set rows gs new s g inside is each (λ d. record {
+  refuses = subst (λ n. n ≤ 32 → HasRival (get_or rows s d) n (drop (suc s) rows)) (sym rival) (here d).refuses;
+  passes = subst (λ n. All (λ (x : Row). generality x.block < n → Misses x.block (get_or rows s d)) (drop (suc s) rows)) (sym clear) (here d).passes;
+})
+  where
+    here : IsGuardAt rows s old
+    here = subst (IsGuardAt rows s) (sym is_old) (each s old inside)
+
+-- one row more that is untouched, or changed now
+pub touched_more : (bits : ℕ) (merged : Block) (now : ℕ) (rows : List Row) (gs new : List Guard) (s : ℕ) (g old : Guard) (row : Row) → s < length gs → s < length rows → new ≡ set gs s g → row ≡ get_or rows s row
+    → ((g ≡ old) × (IsUntouched bits merged row)) ⊎ (IsFresh now g)
+    → ((k : ℕ) (d : Row) (e : Guard) → k < s → (IsUntouched bits merged (get_or rows k d)) ⊎ (IsFresh now (get_or gs k e)))
+    → (k : ℕ) (d : Row) (e : Guard) → k < s + 1 → (IsUntouched bits merged (get_or rows k d)) ⊎ (IsFresh now (get_or new k e))
+touched_more bits merged now rows gs new s g old row inside in_rows is is_row told before k d e less =
+    subst (λ l. (IsUntouched bits merged (get_or rows k d)) ⊎ (IsFresh now (get_or l k e))) (sym is) (by_case (cases_lt k s))
+  where
+    own : k ≡ s → ((g ≡ old) × (IsUntouched bits merged row)) ⊎ (IsFresh now g) → (IsUntouched bits merged (get_or rows k d)) ⊎ (IsFresh now (get_or (set gs s g) k e))
+    own same (inl still) = inl (subst (IsUntouched bits merged) (is_row ∙ get_or_default rows s row d in_rows ∙ ap (λ n. get_or rows n d) (sym same)) still.1)
+    own same (inr fresh) = inr (subst (IsFresh now) (sym (get_or-set_at gs s k g e same inside)) fresh)
+
+    by_case : (k < s) ⊎ (s ≤ k) → (IsUntouched bits merged (get_or rows k d)) ⊎ (IsFresh now (get_or (set gs s g) k e))
+    by_case (inl earlier) = subst (λ x. (IsUntouched bits merged (get_or rows k d)) ⊎ (IsFresh now x)) (sym (get_or-set_other gs s k g e (λ same. omega (arith, same, earlier)))) (before k d e earlier)
+    by_case (inr last) = own (omega (arith, last, less)) told
+
 pub fresh_marked : (rows : List Row) (gs : List Guard) → All (IsFresh 0) gs → AreTriedUpTo 0 rows gs
 fresh_marked rows gs all = record {
   tried = λ i j d e less within told. absurd (omega (arith, told, (all i e (omega (arith, less, within))).tried));
@@ -223,28 +258,18 @@ marked_later now rows gs then le marks = record { tried = marks.tried; bound = �
 -- ---- the table after a merge
 
 module _ (rows : List Row) (places : List ℕ) (ordered : IsOrdered rows) (merge : IsMergeSet rows places) where
-  -- what was met is met in the table after the merge
-  met_after : (b : Block) → HasMet rows b → HasMet (after rows places) b
-  met_after b met all = met each
+  -- what holds of the rows of the table after the merge held of all rows, where it follows of the members
+  all_before : (P : Row → Type 0) → (P (merged_row rows places) → (k : ℕ) (d : Row) → has_row places k ≡ true → P (get_or rows k d)) → All P (after rows places) → All P rows
+  all_before P members all k d within = by_case (cases_Bool (has_row places k))
     where
       n : ℕ
       n = insert_place rows places
-
-      P : Row → Type 0
-      P x = generality b < generality x.block → Misses b x
 
       front : All P (kept places 0 (take n rows))
       front = All-left P (kept places 0 (take n rows)) (merged_row rows places ∷ kept places n (drop n rows)) all
 
       back : All P (merged_row rows places ∷ kept places n (drop n rows))
       back = All-right P (kept places 0 (take n rows)) (merged_row rows places ∷ kept places n (drop n rows)) all
-
-      member : (k : ℕ) (d : Row) → has_row places k ≡ true → P (get_or rows k d)
-      member k d found above =
-          let lower = rows_at-has (λ (r : Row). generality r.block ≤ generality (merged_block rows places)) rows places merge.set.in_range
-          (All-from_map (λ x. generality x ≤ generality (merged_block rows places)) (λ (x : Row). x.block) (rows_at rows places) (generality-merge (map (λ (x : Row). x.block) (rows_at rows places)))) k d found in
-          rows_at-has (Misses b) rows places merge.set.in_range
-          (Misses-members b (rows_at rows places) (All-head P (merged_row rows places) (kept places n (drop n rows)) back (omega (arith, above, lower, ap generality (block_is rows places ordered merge))))) k d found
 
       outside : (k : ℕ) (d : Row) → k < length rows → not (has_row places k) ≡ true → (k < n) ⊎ (n ≤ k) → P (get_or rows k d)
       outside k d within out (inl before) =
@@ -254,48 +279,99 @@ module _ (rows : List Row) (places : List ℕ) (ordered : IsOrdered rows) (merge
           subst P (get_or-drop n rows (k - n) d ∙ ap (λ i. get_or rows i d) at)
           (picked-at P (λ j. not (has_row places j)) n (drop n rows) (λ i e inside. back (suc i) e (omega (arith, inside))) (k - n) k d (sym at) (omega (arith, length-drop n rows, from, within)) out)
 
-      each : All P rows
-      each k d within = by_case (cases_Bool (has_row places k))
-        where
-          by_case : (has_row places k ≡ true) ⊎ (has_row places k ≡ false) → P (get_or rows k d)
-          by_case (inl found) = member k d found
-          by_case (inr out) = outside k d within (ap not out) (cases_lt k n)
+      by_case : (has_row places k ≡ true) ⊎ (has_row places k ≡ false) → P (get_or rows k d)
+      by_case (inl found) = members (All-head P (merged_row rows places) (kept places n (drop n rows)) back) k d found
+      by_case (inr out) = outside k d within (ap not out) (cases_lt k n)
 
-  refused_after : (r : Row) (m : ℕ) (s : Row) (n : ℕ) → IsRefusedPair rows r m s n → IsRefusedPair (after rows places) r m s n
-  refused_after r m s n refused bits = by_case (refused bits)
+  -- what was met is met in the table after the merge
+  met_after : (b : Block) → HasMet rows b → HasMet (after rows places) b
+  met_after b met all = met (all_before (λ x. generality b < generality x.block → Misses b x) member all)
     where
-      by_case : (m ≤ generality (merge_two r.block s.block)) ⊎ ((n ≤ generality (merge_two r.block s.block)) ⊎ HasMet rows (merge_two r.block s.block))
-          → (m ≤ generality (merge_two r.block s.block)) ⊎ ((n ≤ generality (merge_two r.block s.block)) ⊎ HasMet (after rows places) (merge_two r.block s.block))
-      by_case (inl low) = inl low
-      by_case (inr (inl low)) = inr (inl low)
-      by_case (inr (inr met)) = inr (inr (met_after (merge_two r.block s.block) met))
+      member : (generality b < generality (merged_row rows places).block → Misses b (merged_row rows places)) → (k : ℕ) (d : Row) → has_row places k ≡ true → generality b < generality (get_or rows k d).block → Misses b (get_or rows k d)
+      member of_merge k d found above =
+          let lower = rows_at-has (λ (r : Row). generality r.block ≤ generality (merged_block rows places)) rows places merge.set.in_range
+          (All-from_map (λ x. generality x ≤ generality (merged_block rows places)) (λ (x : Row). x.block) (rows_at rows places) (generality-merge (map (λ (x : Row). x.block) (rows_at rows places)))) k d found in
+          rows_at-has (Misses b) rows places merge.set.in_range
+          (Misses-members b (rows_at rows places) (of_merge (omega (arith, above, lower, ap generality (block_is rows places ordered merge))))) k d found
 
-  pub marks_carried : (now p : ℕ) (nothing : Guard) (gs new : List Guard) → p ≡ insert_place rows places → IsFresh now nothing → length gs ≡ length rows → AreTriedUpTo now rows gs → new ≡ left places 0 (insert gs p nothing) → AreTriedUpTo now (after rows places) new
-  marks_carried now p nothing gs new place fresh same marks is =
-      subst (AreTriedUpTo now (after rows places)) (sym (is ∙ ap (λ q. left places 0 (insert gs q nothing)) place)) (record {
-        tried = λ i j d e less within told. refused_after (get_or (after rows places) i d) (get_or kept_gs i e).rival (get_or (after rows places) j d) (get_or kept_gs j e).rival (moved i j d e less within told);
-        bound = All-picked (λ (x : Guard). x.tried ≤ now) (λ k. not (has_row places k)) 0 (insert gs n nothing)
-            (All-append (λ (x : Guard). x.tried ≤ now) (take n gs) (nothing ∷ drop n gs) (All-take (λ (x : Guard). x.tried ≤ now) n gs marks.bound)
-            (All-cons (λ (x : Guard). x.tried ≤ now) nothing (drop n gs) (omega (arith, fresh.tried)) (All-drop (λ (x : Guard). x.tried ≤ now) n gs marks.bound)));
-      })
-    where
-      n : ℕ
-      n = insert_place rows places
+  -- all members have the route of the first
+  module _ (bits : ℕ) (z : Row) (is_bits : bits ≡ (get_or rows (get_or places 0 0) z).route.bits) where
+    member_bits : (k : ℕ) (d : Row) → has_row places k ≡ true → (get_or rows k d).route.bits ≡ bits
+    member_bits k d found = by_place (has-place places k found)
+      where
+        first : (e : Row) → (get_or rows (get_or places 0 0) e).route.bits ≡ bits
+        first e = sym (is_bits ∙ ap (λ (x : Row). x.route.bits) (get_or_default rows (get_or places 0 0) z e (merge.set.in_range 0 0 (omega (arith, merge.two)))))
 
-      kept_gs : List Guard
-      kept_gs = left places 0 (insert gs (insert_place rows places) nothing)
+        by_place : (i : ℕ) × (i < length places) × (get_or places i 0 ≡ k) → (get_or rows k d).route.bits ≡ bits
+        by_place (zero, inside, at) = subst (λ n. (get_or rows n d).route.bits ≡ bits) at (first d)
+        by_place (suc i, inside, at) = subst (λ n. (get_or rows n d).route.bits ≡ bits) at (sym (ap (λ (x : Route). x.bits) (merge.set.one_route 0 (suc i) 0 (omega arith) inside d)) ∙ first d)
 
-      longer : length (insert gs n nothing) ≡ length (insert rows n (merged_row rows places))
-      longer = omega (arith, same, length-append (take n gs) (nothing ∷ drop n gs), length-append (take n rows) (merged_row rows places ∷ drop n rows), length-take n gs, length-take n rows, length-drop n gs, length-drop n rows)
+    -- who is held is held in the table after a merge that leaves the row untouched
+    held_after : (row r s : Row) (n : ℕ) → IsUntouched bits (merged_block rows places) row → IsHeld rows row r s n → IsHeld (after rows places) row r s n
+    held_after row r s n untouched held all = held (all_before (λ x. generality x.block ≤ n → IsHolder row r s x → ⊥) member all)
+      where
+        member : (generality (merged_row rows places).block ≤ n → IsHolder row r s (merged_row rows places) → ⊥) → (k : ℕ) (d : Row) → has_row places k ≡ true → generality (get_or rows k d).block ≤ n → IsHolder row r s (get_or rows k d) → ⊥
+        member of_merge k d found low holder =
+            holder.meets (narrower_misses (merged_block rows places) (get_or rows k d).block row
+            (member_lies rows places merge (merged_block rows places) refl k d found)
+            (untouched (sym holder.same ∙ member_bits k d found)))
 
-      inserted : Pairs (Told rows) (insert rows n (merged_row rows places)) (insert gs n nothing)
-      inserted = pairs_insert (Told rows) (merged_row rows places) nothing rows gs n same
-          (λ k d e within told. absurd (omega (arith, told, fresh.changed, marks.bound k e within)))
-          (λ s h told. absurd (omega (arith, told, fresh.tried)))
-          marks.tried
+    refused_after : (r : Row) (m : ℕ) (s : Row) (n : ℕ) → IsUntouched bits (merged_block rows places) r → IsUntouched bits (merged_block rows places) s → IsRefusedPair rows r m s n → IsRefusedPair (after rows places) r m s n
+    refused_after r m s n first second refused equal = by_case (refused equal)
+      where
+        b : Block
+        b = merge_two r.block s.block
 
-      moved : Pairs (Told rows) (after rows places) kept_gs
-      moved = subst (λ l. Pairs (Told rows) l kept_gs) (after_is rows places ordered merge) (pairs_picked (Told rows) (λ k. not (has_row places k)) 0 (insert rows n (merged_row rows places)) (insert gs n nothing) longer inserted)
+        by_case : (m ≤ generality b) ⊎ ((n ≤ generality b) ⊎ IsStuck rows r s) → (m ≤ generality b) ⊎ ((n ≤ generality b) ⊎ IsStuck (after rows places) r s)
+        by_case (inl low) = inl low
+        by_case (inr (inl low)) = inr (inl low)
+        by_case (inr (inr (inl met))) = inr (inr (inl (met_after b met)))
+        by_case (inr (inr (inr (inl held)))) = inr (inr (inr (inl (held_after r r s (generality b) first held))))
+        by_case (inr (inr (inr (inr held)))) = inr (inr (inr (inr (held_after s r s (generality b) second held))))
+
+    -- what is told of two rows that were tried, and that no merge touches which comes now
+    abbrev Lasts : Row → Guard → Row → Guard → Type 0
+    Lasts r g s h = h.changed < g.tried → (IsRefusedPair rows r g.rival s h.rival) × ((IsUntouched bits (merged_block rows places) r) × (IsUntouched bits (merged_block rows places) s))
+
+    lasting : (now : ℕ) (gs : List Guard) → AreTriedUpTo now rows gs → AreTouched bits (merged_block rows places) now rows gs → Pairs Lasts rows gs
+    lasting now gs marks touched i j d e less within told = (marks.tried i j d e less within told, (first (touched i d e (omega (arith, less, within))), second (touched j d e within)))
+      where
+        first : (IsUntouched bits (merged_block rows places) (get_or rows i d)) ⊎ (IsFresh now (get_or gs i e)) → IsUntouched bits (merged_block rows places) (get_or rows i d)
+        first (inl still) = still
+        first (inr fresh) = absurd (omega (arith, told, fresh.tried))
+
+        second : (IsUntouched bits (merged_block rows places) (get_or rows j d)) ⊎ (IsFresh now (get_or gs j e)) → IsUntouched bits (merged_block rows places) (get_or rows j d)
+        second (inl still) = still
+        second (inr fresh) = absurd (omega (arith, told, fresh.changed, marks.bound i e (omega (arith, less, within))))
+
+    pub marks_carried : (now p : ℕ) (nothing : Guard) (gs new : List Guard) → p ≡ insert_place rows places → IsFresh now nothing → length gs ≡ length rows → AreTriedUpTo now rows gs → AreTouched bits (merged_block rows places) now rows gs → new ≡ left places 0 (insert gs p nothing) → AreTriedUpTo now (after rows places) new
+    marks_carried now p nothing gs new place fresh same marks touched is =
+        subst (AreTriedUpTo now (after rows places)) (sym (is ∙ ap (λ q. left places 0 (insert gs q nothing)) place)) (record {
+          tried = λ i j d e less within told.
+              let lasts = moved i j d e less within told in
+              refused_after (get_or (after rows places) i d) (get_or kept_gs i e).rival (get_or (after rows places) j d) (get_or kept_gs j e).rival lasts.1.0 lasts.1.1 lasts.0;
+          bound = All-picked (λ (x : Guard). x.tried ≤ now) (λ k. not (has_row places k)) 0 (insert gs n nothing)
+              (All-append (λ (x : Guard). x.tried ≤ now) (take n gs) (nothing ∷ drop n gs) (All-take (λ (x : Guard). x.tried ≤ now) n gs marks.bound)
+              (All-cons (λ (x : Guard). x.tried ≤ now) nothing (drop n gs) (omega (arith, fresh.tried)) (All-drop (λ (x : Guard). x.tried ≤ now) n gs marks.bound)));
+        })
+      where
+        n : ℕ
+        n = insert_place rows places
+
+        kept_gs : List Guard
+        kept_gs = left places 0 (insert gs (insert_place rows places) nothing)
+
+        longer : length (insert gs n nothing) ≡ length (insert rows n (merged_row rows places))
+        longer = omega (arith, same, length-append (take n gs) (nothing ∷ drop n gs), length-append (take n rows) (merged_row rows places ∷ drop n rows), length-take n gs, length-take n rows, length-drop n gs, length-drop n rows)
+
+        inserted : Pairs (Lasts) (insert rows n (merged_row rows places)) (insert gs n nothing)
+        inserted = pairs_insert (Lasts) (merged_row rows places) nothing rows gs n same
+            (λ k d e within told. absurd (omega (arith, told, fresh.changed, marks.bound k e within)))
+            (λ s h told. absurd (omega (arith, told, fresh.tried)))
+            (lasting now gs marks touched)
+
+        moved : Pairs (Lasts) (after rows places) kept_gs
+        moved = subst (λ l. Pairs (Lasts) l kept_gs) (after_is rows places ordered merge) (pairs_picked (Lasts) (λ k. not (has_row places k)) 0 (insert rows n (merged_row rows places)) (insert gs n nothing) longer inserted)
 
 -- ---- a pair
 
@@ -346,10 +422,44 @@ module _ (rows : List Row) (i j : ℕ) (set : IsMergeSet rows (i ∷ j ∷ [])) 
           behind k x above at (inl before) = absurd (omega (arith, above, at, place_for-below rows (generality (merged_block rows (i ∷ j ∷ []))) sound.ordered k x before))
           behind k x above at (inr from) = from
 
-      by_case : ((get_or gs i e).rival ≤ generality m) ⊎ (((get_or gs j e).rival ≤ generality m) ⊎ HasMet rows m) → ⊥
+      -- a third row that is no more general stands before the merge's place, and would be found before it
+      held_by : (s : ℕ) → has_row (i ∷ j ∷ []) s ≡ true → s < length rows → IsHeld rows (get_or rows s d) (get_or rows i d) (get_or rows j d) (generality m) → ⊥
+      held_by s member inside held = held (λ k x within low holder. by_place k x within low holder (cases_order k s))
+        where
+          up : PassesUp rows (i ∷ j ∷ []) s (insert_place rows (i ∷ j ∷ []))
+          up = up_from_legal rows (i ∷ j ∷ []) sound set.set.in_range legal s member
+
+          by_place : (k : ℕ) (x : Row) → k < length rows → generality (get_or rows k x).block ≤ generality m → IsHolder (get_or rows s d) (get_or rows i d) (get_or rows j d) (get_or rows k x) → (k ≡ s) ⊎ ((k < s) ⊎ (s < k)) → ⊥
+          by_place k x within low holder (inl at) = own (has-place (i ∷ j ∷ []) s member)
+            where
+              block_at : (n : ℕ) → n ≡ s → (get_or rows k x).block ≡ (get_or rows n d).block
+              block_at n same = ap (λ (y : Row). y.block) (get_or_default rows k x d within) ∙ ap (λ l. (get_or rows l d).block) (at ∙ sym same)
+
+              own : (l : ℕ) × (l < length (i ∷ j ∷ [])) × (get_or (i ∷ j ∷ []) l 0 ≡ s) → ⊥
+              own (zero, in_pair, same) = holder.not_first (block_at i same)
+              own (suc zero, in_pair, same) = holder.not_second (block_at j same)
+              own (suc (suc l), in_pair, same) = absurd (omega arith)
+          by_place k x within low holder (inr (inl before)) =
+              holder.meets (subst (λ (y : Row). Misses y.block (get_or rows s d)) (get_or_default rows k d x within) (sound.unmet k s d before inside))
+          by_place k x within low holder (inr (inr behind)) =
+              holder.meets (subst (λ (y : Row). Misses y.block (get_or rows s d)) (get_or_default rows k d x within)
+              (up k behind (place_for-above rows (generality (merged_block rows (i ∷ j ∷ []))) sound.ordered k x within (omega (arith, low, ap generality (pair_block d)))) d
+              (false_from_ne_true (has_row (i ∷ j ∷ []) k) (λ found. apart (has-place (i ∷ j ∷ []) k found)))))
+            where
+              block_at : (n : ℕ) → n ≡ k → (get_or rows k x).block ≡ (get_or rows n d).block
+              block_at n same = ap (λ (y : Row). y.block) (get_or_default rows k x d within) ∙ ap (λ l. (get_or rows l d).block) (sym same)
+
+              apart : (l : ℕ) × (l < length (i ∷ j ∷ [])) × (get_or (i ∷ j ∷ []) l 0 ≡ k) → ⊥
+              apart (zero, in_pair, same) = holder.not_first (block_at i same)
+              apart (suc zero, in_pair, same) = holder.not_second (block_at j same)
+              apart (suc (suc l), in_pair, same) = absurd (omega arith)
+
+      by_case : ((get_or gs i e).rival ≤ generality m) ⊎ (((get_or gs j e).rival ≤ generality m) ⊎ IsStuck rows (get_or rows i d) (get_or rows j d)) → ⊥
       by_case (inl low) = by_guard i (has-at (i ∷ j ∷ []) 0 (omega arith)) (omega (arith, same, first_within)) low
       by_case (inr (inl low)) = by_guard j (has-at (i ∷ j ∷ []) 1 (omega arith)) (omega (arith, same, second_within)) low
-      by_case (inr (inr met)) = met_by met
+      by_case (inr (inr (inl met))) = met_by met
+      by_case (inr (inr (inr (inl held)))) = held_by i (has-at (i ∷ j ∷ []) 0 (omega arith)) first_within held
+      by_case (inr (inr (inr (inr held)))) = held_by j (has-at (i ∷ j ∷ []) 1 (omega arith)) second_within held
 
   -- ---- what the code reads
 
@@ -363,8 +473,13 @@ module _ (rows : List Row) (i j : ℕ) (set : IsMergeSet rows (i ∷ j ∷ [])) 
     pub tried_read : AreTried rows gs → (get_or gs j z).changed < (get_or gs i z).tried → IsRefusedAt rows gs i j
     tried_read tried less d e = tried i j d e in_order (omega (arith, same, second_within)) (omega (arith, less, ap (λ (x : Guard). x.changed) (second_at e), ap (λ (x : Guard). x.tried) (first_at e)))
 
+    -- why the code finds the two stuck
+    abbrev IsStuckRead : List Row → Block → ℕ → Type 0
+    IsStuckRead list m g =
+        (HasMet list m) ⊎ (((d : Row) → IsHeld list (get_or list i d) (get_or list i d) (get_or list j d) g) ⊎ ((d : Row) → IsHeld list (get_or list j d) (get_or list i d) (get_or list j d) g))
+
     pub refused_read : (list : List Row) → list ≡ rows → (a b : Row) (m : Block) → m ≡ merge_two (get_or list i a).block (get_or list j b).block → (g : ℕ) → g ≡ generality m
-        → ((get_or gs i z).rival ≤ g) ⊎ (((get_or gs j z).rival ≤ g) ⊎ HasMet list m) → IsRefusedAt rows gs i j
+        → ((get_or gs i z).rival ≤ g) ⊎ (((get_or gs j z).rival ≤ g) ⊎ IsStuckRead list m g) → IsRefusedAt rows gs i j
     refused_read list is a b m is_m g is_g cause d e bits = by_case cause
       where
         a_at : get_or list i a ≡ get_or rows i d
@@ -379,11 +494,18 @@ module _ (rows : List Row) (i j : ℕ) (set : IsMergeSet rows (i ∷ j ∷ [])) 
         level : g ≡ generality (merge_two (get_or rows i d).block (get_or rows j d).block)
         level = is_g ∙ ap generality m_at
 
-        by_case : ((get_or gs i z).rival ≤ g) ⊎ (((get_or gs j z).rival ≤ g) ⊎ HasMet list m)
-            → ((get_or gs i e).rival ≤ generality (merge_two (get_or rows i d).block (get_or rows j d).block)) ⊎ (((get_or gs j e).rival ≤ generality (merge_two (get_or rows i d).block (get_or rows j d).block)) ⊎ HasMet rows (merge_two (get_or rows i d).block (get_or rows j d).block))
+        held_at : (k : ℕ) → IsHeld list (get_or list k d) (get_or list i d) (get_or list j d) g → IsHeld rows (get_or rows k d) (get_or rows i d) (get_or rows j d) (generality (merge_two (get_or rows i d).block (get_or rows j d).block))
+        held_at k held =
+            subst (λ n. IsHeld rows (get_or rows k d) (get_or rows i d) (get_or rows j d) n) level
+            (subst (λ l. IsHeld l (get_or l k d) (get_or l i d) (get_or l j d) g) is held)
+
+        by_case : ((get_or gs i z).rival ≤ g) ⊎ (((get_or gs j z).rival ≤ g) ⊎ IsStuckRead list m g)
+            → ((get_or gs i e).rival ≤ generality (merge_two (get_or rows i d).block (get_or rows j d).block)) ⊎ (((get_or gs j e).rival ≤ generality (merge_two (get_or rows i d).block (get_or rows j d).block)) ⊎ IsStuck rows (get_or rows i d) (get_or rows j d))
         by_case (inl low) = inl (omega (arith, low, level, ap (λ (x : Guard). x.rival) (first_at e)))
         by_case (inr (inl low)) = inr (inl (omega (arith, low, level, ap (λ (x : Guard). x.rival) (second_at e))))
-        by_case (inr (inr met)) = inr (inr (subst (λ l. HasMet l (merge_two (get_or rows i d).block (get_or rows j d).block)) is (subst (HasMet list) m_at met)))
+        by_case (inr (inr (inl met))) = inr (inr (inl (subst (λ l. HasMet l (merge_two (get_or rows i d).block (get_or rows j d).block)) is (subst (HasMet list) m_at met))))
+        by_case (inr (inr (inr (inl held)))) = inr (inr (inr (inl (held_at i (held d)))))
+        by_case (inr (inr (inr (inr held)))) = inr (inr (inr (inr (held_at j (held d)))))
 
 -- where the down-check is false, the merge meets an alias of a row of greater generality
 pub met_read : (list : List Row) (m : Block) (g p : ℕ) (t : Bool) → IsOrdered list → g ≡ generality m → p ≡ place_for list g → (IsTrue t) ↔ (PassesDown list m p) → not t ≡ true → HasMet list m
@@ -393,6 +515,23 @@ met_read list m g p t ordered is_g is_p tells came all =
     above : (r : ℕ) (d : Row) → p ≤ r → r < length list → (generality m < generality (get_or list r d).block) ⊎ (generality (get_or list r d).block ≤ generality m) → generality m < generality (get_or list r d).block
     above r d from within (inl high) = high
     above r d from within (inr low) = absurd (omega (arith, is_p, from, place_for-above list g ordered r d within (omega (arith, low, is_g))))
+
+-- two blocks that the test tells apart
+pub blocks_differ : (a b : Block) (t : Bool) → t ≡ ((a.key == b.key) && (a.mask == b.mask)) → t ≡ false → a ≡ b → ⊥
+blocks_differ a b t is came same =
+    let both : ((a.key == b.key) && (a.mask == b.mask)) ≡ true = ap (λ u. u && (a.mask == b.mask)) (eq-eqb a.key b.key (ap (λ (x : Block). x.key) same)) ∙ eq-eqb a.mask b.mask (ap (λ (x : Block). x.mask) same) in
+    true≢false (sym both ∙ sym is ∙ came)
+
+-- a third row that was read
+module _ (rows : List Row) (i j s r : ℕ) (in_i : i < length rows) (in_j : j < length rows) (in_s : s < length rows) (in_r : r < length rows) where
+  pub holder_read : (x y z a b w : Row) → (get_or rows r x).route.bits ≡ (get_or rows s y).route.bits → ((get_or rows r z).block ≡ (get_or rows i a).block → ⊥) → ((get_or rows r z).block ≡ (get_or rows j b).block → ⊥)
+      → w ≡ get_or rows s w → (Misses (get_or rows r z).block w → ⊥) → (d : Row) → IsHolder (get_or rows s d) (get_or rows i d) (get_or rows j d) (get_or rows r d)
+  holder_read x y z a b w bits first second is_w meets d = record {
+    same = ap (λ (l : Row). l.route.bits) (get_or_default rows r d x in_r) ∙ bits ∙ ap (λ (l : Row). l.route.bits) (get_or_default rows s y d in_s);
+    not_first = λ equal. first (ap (λ (l : Row). l.block) (get_or_default rows r z d in_r) ∙ equal ∙ ap (λ (l : Row). l.block) (get_or_default rows i d a in_i));
+    not_second = λ equal. second (ap (λ (l : Row). l.block) (get_or_default rows r z d in_r) ∙ equal ∙ ap (λ (l : Row). l.block) (get_or_default rows j d b in_j));
+    meets = λ misses. meets (subst (λ (l : Row). Misses (get_or rows r z).block l) (get_or_default rows s d w in_s ∙ sym is_w) (subst (λ (l : Row). Misses l.block (get_or rows s d)) (get_or_default rows r d z in_r) misses));
+  }
 
 -- ---- the pairs of a row
 

@@ -10,11 +10,32 @@ use Rattle.cover_merge.specs.declared.guards.Guard.{Guard}
 abbrev pub HasMet : List Row → Block → Type 0
 HasMet rows b = All (λ (x : Row). generality b < generality x.block → Misses b x) rows → ⊥
 
+-- A third row of the route of two rows, by its block, meets an alias of one of them.
+pub record IsHolder (row first second x : Row) : Type 0 where
+  pub same : x.route.bits ≡ row.route.bits
+  pub not_first : x.block ≡ first.block → ⊥
+  pub not_second : x.block ≡ second.block → ⊥
+  pub meets : Misses x.block row → ⊥
+
+-- one of at most generality n does
+abbrev pub IsHeld : List Row → Row → Row → Row → ℕ → Type 0
+IsHeld rows row first second n = All (λ (x : Row). generality x.block ≤ n → IsHolder row first second x → ⊥) rows → ⊥
+
+-- the merge of two rows meets an alias of a row of greater generality, or a third row of their route and of at most its
+-- generality meets an alias of one of them
+abbrev pub IsStuck : List Row → Row → Row → Type 0
+IsStuck rows r s =
+    (HasMet rows (merge_two r.block s.block)) ⊎ ((IsHeld rows r r s (generality (merge_two r.block s.block))) ⊎ (IsHeld rows s r s (generality (merge_two r.block s.block))))
+
 -- Two rows of one route are refused where one of them has a rival of at most the generality of their merge, or where
--- the merge meets an alias of a row of greater generality. The numbers are the generalities of their first rivals.
+-- they are stuck. The numbers are the generalities of their first rivals.
 abbrev pub IsRefusedPair : List Row → Row → ℕ → Row → ℕ → Type 0
 IsRefusedPair rows r m s n =
-    r.route.bits ≡ s.route.bits → (m ≤ generality (merge_two r.block s.block)) ⊎ ((n ≤ generality (merge_two r.block s.block)) ⊎ HasMet rows (merge_two r.block s.block))
+    r.route.bits ≡ s.route.bits → (m ≤ generality (merge_two r.block s.block)) ⊎ ((n ≤ generality (merge_two r.block s.block)) ⊎ IsStuck rows r s)
+
+-- A merge of this block and route leaves a row untouched where it misses the row, or is of another route.
+abbrev pub IsUntouched : ℕ → Block → Row → Type 0
+IsUntouched bits block row = row.route.bits ≡ bits → Misses block row
 
 -- the same of the rows at two places, by what their guards tell
 abbrev pub IsRefusedAt : List Row → List Guard → ℕ → ℕ → Type 0
@@ -35,6 +56,11 @@ pub record AreTriedUpTo (now : ℕ) (rows : List Row) (guards : List Guard) : Ty
 pub record IsFresh (now : ℕ) (guard : Guard) : Type 0 where
   pub tried : guard.tried ≡ 0
   pub changed : guard.changed ≡ now
+
+-- each row is untouched, or changed now
+abbrev pub AreTouched : ℕ → Block → ℕ → List Row → List Guard → Type 0
+AreTouched bits block now rows guards =
+    (s : ℕ) (d : Row) (e : Guard) → s < length guards → (IsUntouched bits block (slice_index_or rows s d)) ⊎ (IsFresh now (slice_index_or guards s e))
 
 -- the guard of a row whose first rival is no more general than before
 pub record IsNoLaxer (old new : Guard) : Type 0 where

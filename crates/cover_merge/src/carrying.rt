@@ -4,7 +4,7 @@ ghost use Rattle.tern_word.specs.declared.tables.Row.{Row as ARow};
 ghost use Rattle.tern_word.specs.SoundTable.{IsOrdered, IsSound, Misses};
 ghost use Rattle.cover_merge.specs.Merge.{IsMergeSet, after, merged_block};
 ghost use Rattle.cover_merge.specs.Guards.{AreGuards, AreGuardsBut, AreNextJoined, IsGuardAt};
-ghost use Rattle.cover_merge.specs.Tried.{AreTriedUpTo, IsFresh, IsNoLaxer};
+ghost use Rattle.cover_merge.specs.Tried.{AreTouched, AreTriedUpTo, IsFresh, IsNoLaxer, IsUntouched};
 
 use crate::applying::take_out_all;
 use crate::guards::{Guard, guard_of, joined_behind, place_in, unknown};
@@ -34,9 +34,52 @@ pub(crate) fn carry(
     ensures marks { OnOk result (AreTriedUpTo now (after rows.now places.now) guards.new.items) }
 {
     let place = place_in(rows, generality(merged));
+    touch(
+        rows,
+        guards,
+        merged,
+        rows[places[0] as usize].route.bits,
+        now,
+    );
     guards.insert(place as usize, unknown(now))?;
     take_out_all(guards, places);
     Ok(())
+}
+
+// Says that the rows changed now that a merge of this block and route touches: a row that it takes in may have refused pairs
+// of these.
+fn touch(rows: &[Row], guards: &mut Vec<Guard>, merged: Block, bits: u32, now: usize)
+    requires one_each { length guards.old.items ≡ length rows.now }
+    requires guards { AreGuards rows.now guards.old.items }
+    requires marks { AreTriedUpTo now rows.now guards.old.items }
+    ensures one_each { length guards.new.items ≡ length rows.now }
+    ensures guards { AreGuards rows.now guards.new.items }
+    ensures marks { AreTriedUpTo now rows.now guards.new.items }
+    ensures touched { AreTouched bits merged now rows.now guards.new.items }
+{
+    for s in 0..rows.len() {
+        guards[s] = touched(&rows[s], guards[s], merged, bits, now);
+    }
+}
+
+// The guard of a row, which changed now where the merge touches it.
+fn touched(row: &Row, guard: Guard, merged: Block, bits: u32, now: usize) -> Guard
+    ensures rival { result.rival ≡ guard.rival }
+    ensures clear { result.clear ≡ guard.clear }
+    ensures marks { ((result ≡ guard) × (IsUntouched bits merged row.now)) ⊎ (IsFresh now result) }
+{
+    if row.route.bits != bits {
+        return guard;
+    }
+    if misses(merged, row) {
+        return guard;
+    }
+    Guard {
+        rival: guard.rival,
+        clear: guard.clear,
+        tried: 0,
+        changed: now,
+    }
 }
 
 /// Finds the guards anew of rows with an alias that the merged block meets.

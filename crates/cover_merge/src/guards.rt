@@ -5,7 +5,7 @@ ghost use Rattle.tern_word.specs.Ternary.{generality};
 ghost use Rattle.tern_word.specs.SoundTable.{IsOrdered, IsSound, Misses};
 ghost use Rattle.cover_merge.specs.Merge.{has_row, place_for, SameRoute, IsMergeSet, IsLegal, IsClearOf, PassesUp};
 ghost use Rattle.cover_merge.specs.Guards.{IsRival, HasRival, IsGuardAt, AreGuards, IsSilent, IsOriginal, AreNextJoined};
-ghost use Rattle.cover_merge.specs.Tried.{IsFresh, IsRefusedAt, AreTried, AreTriedUpTo, IsTriedNow};
+ghost use Rattle.cover_merge.specs.Tried.{IsFresh, IsHeld, IsHolder, IsRefusedAt, AreTried, AreTriedUpTo, IsTriedNow};
 
 use crate::{is_clear, merged_block, passes_down};
 use spin_base::Memory;
@@ -312,7 +312,8 @@ pub(crate) fn try_pair(table: &Table, guards: &[Guard], i: u32, j: u32) -> Trial
 }
 
 // Whether the merge of two rows is refused until one of them changes: then it is. They were tried since, or one has a
-// rival that the merge comes to stand behind, or the merge meets an alias of a row that it comes to stand before.
+// rival or a third row of their route that the merge comes to stand behind, or the merge meets an alias of a row that it
+// comes to stand before.
 fn is_refused(table: &Table, guards: &[Guard], i: u32, j: u32) -> bool
     requires few { length table.now.rows < 2 ^ 32 }
     requires sound { IsSound table.now.rows }
@@ -335,7 +336,57 @@ fn is_refused(table: &Table, guards: &[Guard], i: u32, j: u32) -> bool
     if second.rival <= general {
         return true;
     }
+    if is_held(rows, i, j, i, first.clear, general) {
+        return true;
+    }
+    if is_held(rows, i, j, j, second.clear, general) {
+        return true;
+    }
     !passes_down(rows, merged, place_in(rows, general))
+}
+
+// Whether a third row of the route of a pair, of generality at most `general`, meets an alias of row `s`: then one does. It
+// looks at no row of a generality below `clear`.
+fn is_held(rows: &[Row], i: u32, j: u32, s: u32, clear: u32, general: u32) -> bool
+    requires few { length rows.now < 2 ^ 32 }
+    requires ordered { IsOrdered rows.now }
+    requires first { i < length rows.now }
+    requires second { j < length rows.now }
+    requires inside { s < length rows.now }
+    ensures { IsTrue result → (d : ARow) → IsHeld rows.now (slice_index_or rows.now s d)
+        (slice_index_or rows.now i d) (slice_index_or rows.now j d) general }
+{
+    if general < clear {
+        return false;
+    }
+    for r in place_below(rows, clear)..place_in(rows, general) {
+        if holds(rows, i, j, s, r) {
+            return true;
+        }
+    }
+    false
+}
+
+// Whether row `r` is another row of the route of a pair than both, and meets an alias of row `s`: then it is.
+fn holds(rows: &[Row], i: u32, j: u32, s: u32, r: u32) -> bool
+    requires first { i < length rows.now }
+    requires second { j < length rows.now }
+    requires inside { s < length rows.now }
+    requires row { r < length rows.now }
+    ensures { IsTrue result → (d : ARow) → IsHolder (slice_index_or rows.now s d)
+        (slice_index_or rows.now i d) (slice_index_or rows.now j d) (slice_index_or rows.now r d) }
+{
+    let block = rows[r as usize].block;
+    if rows[r as usize].route.bits != rows[s as usize].route.bits {
+        return false;
+    }
+    if block == rows[i as usize].block {
+        return false;
+    }
+    if block == rows[j as usize].block {
+        return false;
+    }
+    !misses(block, &rows[s as usize])
 }
 
 /// The guard of a row that was tried now, where each pair of it is refused until it changes.
