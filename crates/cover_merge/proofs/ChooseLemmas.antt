@@ -286,21 +286,3 @@ places_next rows k place x d old new in_k inside same next before now =
 
 pub places_end : (rows : List Row) (bits place : ℕ) (found : List ℕ) → length rows ≤ place → found ≡ places_of bits 0 (take place rows) → found ≡ places_of bits 0 rows
 places_end rows bits place found all is = is ∙ ap (places_of bits 0) (take_all place rows all)
-
--- the rows of a pair have one route
-pair_bits : (rows : List Row) (i b : ℕ) (d : Row) → IsLegalPair rows i b → (get_or rows b d).route.bits ≡ (get_or rows i d).route.bits
-pair_bits rows i b d pair = sym (ap (λ (r : Route). r.bits) (pair.set.set.one_route 0 1 0 (omega arith) (omega arith) d))
-
--- up to the next row of the route none is a partner
-pub none_first : (rows : List Row) (i j : ℕ) → IsNextOfRoute rows i j → (b : ℕ) → i < b → b < j → IsLegalPair rows i b → ⊥
-none_first rows i j next b from before pair = next.between b (merge_rows []) from before (pair_inside rows i b pair) (pair_bits rows i b (merge_rows []) pair)
-
-pub none_next : (rows : List Row) (i j x : ℕ) → ((d : Row) → (get_or rows j d).route.bits ≡ (get_or rows i d).route.bits) → IsNextOfRoute rows j x → (IsLegalPair rows i j → ⊥) → ((b : ℕ) → i < b → b < j → IsLegalPair rows i b → ⊥)
-    → (b : ℕ) → i < b → b < x → IsLegalPair rows i b → ⊥
-none_next rows i j x same next refused none b from before pair = elim (cases_order b j) [
-  | inl here ↦ refused (subst (IsLegalPair rows i) here pair)
-  | inr apart ↦ elim apart [
-    | inl earlier ↦ none b from earlier pair
-    | inr later ↦ next.between b (merge_rows []) later before (pair_inside rows i b pair) (pair_bits rows i b (merge_rows []) pair ∙ sym (same (merge_rows [])))
-  ]
-]

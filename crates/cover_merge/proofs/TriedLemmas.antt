@@ -23,7 +23,7 @@ use Rattle.cover_merge.specs.declared.guards.Guard.{Guard}
 use Rattle.cover_merge.specs.Guards.{HasRival, IsGuardAt, AreGuards}
 use Rattle.cover_merge.specs.Links.{IsNextOfRoute}
 use Rattle.cover_merge.specs.Covering.{IsLegalPair}
-use Rattle.cover_merge.specs.Tried.{HasMet, IsHolder, IsHeld, IsStuck, IsUntouched, AreTouched, IsRefusedPair, IsRefusedAt, AreTried, AreTriedUpTo, IsFresh, IsNoLaxer, IsTriedNow, IsLatest, AreLatest}
+use Rattle.cover_merge.specs.Tried.{HasMet, IsHolder, IsHeld, IsStuck, IsLeftClear, AreTouched, IsRefusedPair, IsRefusedAt, AreTried, AreTriedUpTo, IsFresh, IsNoLaxer, IsTriedNow, IsNextSince, AreNewerFrom}
 use Rattle.cover_merge.proofs.ApplyLemmas.{left, after_is, block_is}
 use Rattle.cover_merge.proofs.GuardLemmas.{guard_refuses, one_route}
 use Rattle.cover_merge.proofs.CarryLemmas.{guard_set, narrower_misses, member_lies}
@@ -183,10 +183,10 @@ module _ (now : ℕ) (rows : List Row) (gs : List Guard) (s : ℕ) (g old : Guar
   same_guard same = record { rival = omega (arith, ap (λ (x : Guard). x.rival) same); tried = ap (λ (x : Guard). x.tried) same; changed = ap (λ (x : Guard). x.changed) same }
 
   -- the same guard, or that of a row that a merge touches
-  pub touched_set : (bits : ℕ) (merged : Block) (row : Row) (new : List Guard) → new ≡ set gs s g → ((g ≡ old) × (IsUntouched bits merged row)) ⊎ (IsFresh now g) → AreTriedUpTo now rows new
+  pub touched_set : (bits : ℕ) (merged : Block) (row : Row) (new : List Guard) → new ≡ set gs s g → ((g ≡ old) × (IsLeftClear bits merged row)) ⊎ (IsFresh now g) → AreTriedUpTo now rows new
   touched_set bits merged row new is told = fresh_set new is (by_case told)
     where
-      by_case : ((g ≡ old) × (IsUntouched bits merged row)) ⊎ (IsFresh now g) → (IsNoLaxer old g) ⊎ (IsFresh now g)
+      by_case : ((g ≡ old) × (IsLeftClear bits merged row)) ⊎ (IsFresh now g) → (IsNoLaxer old g) ⊎ (IsFresh now g)
       by_case (inl still) = inl (same_guard still.0)
       by_case (inr fresh) = inr fresh
 
@@ -232,18 +232,18 @@ touched_guard rows gs new s g old inside is_old is rival clear each = guard_set 
 
 -- one row more that is untouched, or changed now
 pub touched_more : (bits : ℕ) (merged : Block) (now : ℕ) (rows : List Row) (gs new : List Guard) (s : ℕ) (g old : Guard) (row : Row) → s < length gs → s < length rows → new ≡ set gs s g → row ≡ get_or rows s row
-    → ((g ≡ old) × (IsUntouched bits merged row)) ⊎ (IsFresh now g)
-    → ((k : ℕ) (d : Row) (e : Guard) → k < s → (IsUntouched bits merged (get_or rows k d)) ⊎ (IsFresh now (get_or gs k e)))
-    → (k : ℕ) (d : Row) (e : Guard) → k < s + 1 → (IsUntouched bits merged (get_or rows k d)) ⊎ (IsFresh now (get_or new k e))
+    → ((g ≡ old) × (IsLeftClear bits merged row)) ⊎ (IsFresh now g)
+    → ((k : ℕ) (d : Row) (e : Guard) → k < s → (IsLeftClear bits merged (get_or rows k d)) ⊎ (IsFresh now (get_or gs k e)))
+    → (k : ℕ) (d : Row) (e : Guard) → k < s + 1 → (IsLeftClear bits merged (get_or rows k d)) ⊎ (IsFresh now (get_or new k e))
 touched_more bits merged now rows gs new s g old row inside in_rows is is_row told before k d e less =
-    subst (λ l. (IsUntouched bits merged (get_or rows k d)) ⊎ (IsFresh now (get_or l k e))) (sym is) (by_case (cases_lt k s))
+    subst (λ l. (IsLeftClear bits merged (get_or rows k d)) ⊎ (IsFresh now (get_or l k e))) (sym is) (by_case (cases_lt k s))
   where
-    own : k ≡ s → ((g ≡ old) × (IsUntouched bits merged row)) ⊎ (IsFresh now g) → (IsUntouched bits merged (get_or rows k d)) ⊎ (IsFresh now (get_or (set gs s g) k e))
-    own same (inl still) = inl (subst (IsUntouched bits merged) (is_row ∙ get_or_default rows s row d in_rows ∙ ap (λ n. get_or rows n d) (sym same)) still.1)
+    own : k ≡ s → ((g ≡ old) × (IsLeftClear bits merged row)) ⊎ (IsFresh now g) → (IsLeftClear bits merged (get_or rows k d)) ⊎ (IsFresh now (get_or (set gs s g) k e))
+    own same (inl still) = inl (subst (IsLeftClear bits merged) (is_row ∙ get_or_default rows s row d in_rows ∙ ap (λ n. get_or rows n d) (sym same)) still.1)
     own same (inr fresh) = inr (subst (IsFresh now) (sym (get_or-set_at gs s k g e same inside)) fresh)
 
-    by_case : (k < s) ⊎ (s ≤ k) → (IsUntouched bits merged (get_or rows k d)) ⊎ (IsFresh now (get_or (set gs s g) k e))
-    by_case (inl earlier) = subst (λ x. (IsUntouched bits merged (get_or rows k d)) ⊎ (IsFresh now x)) (sym (get_or-set_other gs s k g e (λ same. omega (arith, same, earlier)))) (before k d e earlier)
+    by_case : (k < s) ⊎ (s ≤ k) → (IsLeftClear bits merged (get_or rows k d)) ⊎ (IsFresh now (get_or (set gs s g) k e))
+    by_case (inl earlier) = subst (λ x. (IsLeftClear bits merged (get_or rows k d)) ⊎ (IsFresh now x)) (sym (get_or-set_other gs s k g e (λ same. omega (arith, same, earlier)))) (before k d e earlier)
     by_case (inr last) = own (omega (arith, last, less)) told
 
 pub fresh_marked : (rows : List Row) (gs : List Guard) → All (IsFresh 0) gs → AreTriedUpTo 0 rows gs
@@ -307,7 +307,7 @@ module _ (rows : List Row) (places : List ℕ) (ordered : IsOrdered rows) (merge
         by_place (suc i, inside, at) = subst (λ n. (get_or rows n d).route.bits ≡ bits) at (sym (ap (λ (x : Route). x.bits) (merge.set.one_route 0 (suc i) 0 (omega arith) inside d)) ∙ first d)
 
     -- who is held is held in the table after a merge that leaves the row untouched
-    held_after : (row r s : Row) (n : ℕ) → IsUntouched bits (merged_block rows places) row → IsHeld rows row r s n → IsHeld (after rows places) row r s n
+    held_after : (row r s : Row) (n : ℕ) → IsLeftClear bits (merged_block rows places) row → IsHeld rows row r s n → IsHeld (after rows places) row r s n
     held_after row r s n untouched held all = held (all_before (λ x. generality x.block ≤ n → IsHolder row r s x → ⊥) member all)
       where
         member : (generality (merged_row rows places).block ≤ n → IsHolder row r s (merged_row rows places) → ⊥) → (k : ℕ) (d : Row) → has_row places k ≡ true → generality (get_or rows k d).block ≤ n → IsHolder row r s (get_or rows k d) → ⊥
@@ -316,7 +316,7 @@ module _ (rows : List Row) (places : List ℕ) (ordered : IsOrdered rows) (merge
             (member_lies rows places merge (merged_block rows places) refl k d found)
             (untouched (sym holder.same ∙ member_bits k d found)))
 
-    refused_after : (r : Row) (m : ℕ) (s : Row) (n : ℕ) → IsUntouched bits (merged_block rows places) r → IsUntouched bits (merged_block rows places) s → IsRefusedPair rows r m s n → IsRefusedPair (after rows places) r m s n
+    refused_after : (r : Row) (m : ℕ) (s : Row) (n : ℕ) → IsLeftClear bits (merged_block rows places) r → IsLeftClear bits (merged_block rows places) s → IsRefusedPair rows r m s n → IsRefusedPair (after rows places) r m s n
     refused_after r m s n first second refused equal = by_case (refused equal)
       where
         b : Block
@@ -331,16 +331,16 @@ module _ (rows : List Row) (places : List ℕ) (ordered : IsOrdered rows) (merge
 
     -- what is told of two rows that were tried, and that no merge touches which comes now
     abbrev Lasts : Row → Guard → Row → Guard → Type 0
-    Lasts r g s h = h.changed < g.tried → (IsRefusedPair rows r g.rival s h.rival) × ((IsUntouched bits (merged_block rows places) r) × (IsUntouched bits (merged_block rows places) s))
+    Lasts r g s h = h.changed < g.tried → (IsRefusedPair rows r g.rival s h.rival) × ((IsLeftClear bits (merged_block rows places) r) × (IsLeftClear bits (merged_block rows places) s))
 
     lasting : (now : ℕ) (gs : List Guard) → AreTriedUpTo now rows gs → AreTouched bits (merged_block rows places) now rows gs → Pairs Lasts rows gs
     lasting now gs marks touched i j d e less within told = (marks.tried i j d e less within told, (first (touched i d e (omega (arith, less, within))), second (touched j d e within)))
       where
-        first : (IsUntouched bits (merged_block rows places) (get_or rows i d)) ⊎ (IsFresh now (get_or gs i e)) → IsUntouched bits (merged_block rows places) (get_or rows i d)
+        first : (IsLeftClear bits (merged_block rows places) (get_or rows i d)) ⊎ (IsFresh now (get_or gs i e)) → IsLeftClear bits (merged_block rows places) (get_or rows i d)
         first (inl still) = still
         first (inr fresh) = absurd (omega (arith, told, fresh.tried))
 
-        second : (IsUntouched bits (merged_block rows places) (get_or rows j d)) ⊎ (IsFresh now (get_or gs j e)) → IsUntouched bits (merged_block rows places) (get_or rows j d)
+        second : (IsLeftClear bits (merged_block rows places) (get_or rows j d)) ⊎ (IsFresh now (get_or gs j e)) → IsLeftClear bits (merged_block rows places) (get_or rows j d)
         second (inl still) = still
         second (inr fresh) = absurd (omega (arith, told, fresh.changed, marks.bound i e (omega (arith, less, within))))
 
@@ -533,67 +533,85 @@ module _ (rows : List Row) (i j s r : ℕ) (in_i : i < length rows) (in_j : j < 
     meets = λ misses. meets (subst (λ (l : Row). Misses (get_or rows r z).block l) (get_or_default rows s d w in_s ∙ sym is_w) (subst (λ (l : Row). Misses l.block (get_or rows s d)) (get_or_default rows r d z in_r) misses));
   }
 
--- ---- the pairs of a row
+-- ---- the rows that changed since a row was tried
 
 -- up to the next row of the route there is none of it
-pub refused_first : (rows : List Row) (gs : List Guard) (i j : ℕ) → IsNextOfRoute rows i j → (b : ℕ) → i < b → b < j → b < length rows → IsRefusedAt rows gs i b
-refused_first rows gs i j next b from before within d e bits = absurd (next.between b d from before within (sym bits))
+pub since_first : (rows : List Row) (gs : List Guard) (k x time : ℕ) → IsNextOfRoute rows k x → IsNextSince rows gs k time x
+since_first rows gs k x time next = record {
+  behind = next.behind;
+  same = next.same;
+  between = λ j d e from to within bits. absurd (next.between j d from to within bits);
+}
 
-pub refused_next : (rows : List Row) (gs : List Guard) (i j x : ℕ) → j < length rows → ((d : Row) → (get_or rows j d).route.bits ≡ (get_or rows i d).route.bits) → IsNextOfRoute rows j x → IsRefusedAt rows gs i j
-    → ((b : ℕ) → i < b → b < j → b < length rows → IsRefusedAt rows gs i b) → (b : ℕ) → i < b → b < x → b < length rows → IsRefusedAt rows gs i b
-refused_next rows gs i j x inside same next here before b from to within = elim (cases_order b j) [
-  | inl at ↦ subst (IsRefusedAt rows gs i) (sym at) here
-  | inr apart ↦ elim apart [
-    | inl earlier ↦ before b from earlier within
-    | inr later ↦ λ d e bits. absurd (next.between b d later to within (sym bits ∙ sym (same d)))
-  ]
-]
+-- from a row that changed no later on to the next that did
+since_more : (rows : List Row) (gs : List Guard) (k x y time t : ℕ) → x < length rows → IsNextSince rows gs k time x → ((e : Guard) → (get_or gs x e).changed < time) → t ≤ time → IsNextSince rows gs x t y → IsNextSince rows gs k time y
+since_more rows gs k x y time t inside old low le next = record {
+  behind = omega (arith, old.behind, next.behind);
+  same = λ d within. next.same d within ∙ old.same d inside;
+  between = λ j d e from to within bits. elim (cases_order j x) [
+    | inl at ↦ subst (λ n. (get_or gs n e).changed < time) (sym at) (low e)
+    | inr apart ↦ elim apart [
+      | inl before ↦ old.between j d e from before within bits
+      | inr after ↦ omega (arith, le, next.between j d e after to within (bits ∙ sym (old.same d inside)))
+    ]
+  ];
+}
 
--- ---- the rows that changed last
+pub since_turn : (rows : List Row) (gs : List Guard) (newer : List ℕ) (k x y time h : ℕ) (z : Guard) → AreNewerFrom (suc k) rows gs newer → x < length rows → IsNextSince rows gs k (suc time) x
+    → ((e : Guard) → (get_or gs x e).changed ≡ h) → h ≤ time → y ≡ get_or newer x 0 → IsNextSince rows gs k (suc time) y
+since_turn rows gs newer k x y time h z newer_are inside old is_h le is =
+    since_more rows gs k x y (suc time) (suc (get_or gs x z).changed) inside old (λ e. omega (arith, is_h e, le)) (omega (arith, is_h z, le))
+    (subst (IsNextSince rows gs x (suc (get_or gs x z).changed)) (sym is) (newer_are x z (omega (arith, old.behind)) inside))
 
--- one row more, by the next of its route
-latest_here : (rows : List Row) (gs : List Guard) (k x v t : ℕ) → length gs ≡ length rows → IsNextOfRoute rows k x → ((e : Guard) → x < length gs → (get_or gs x e).changed ≤ v) → (x < length gs → t ≤ v) → (x < length rows → IsLatest rows gs x t) → IsLatest rows gs k v
-latest_here rows gs k x v t same next here later rest b d e behind within bits = elim (cases_order b x) [
-  | inl at ↦ subst (λ n. (get_or gs n e).changed ≤ v) (sym at) (here e (omega (arith, at, same, within)))
-  | inr apart ↦ elim apart [
-    | inl before ↦ absurd (next.between b d behind before within (sym bits))
-    | inr after ↦
-        let inside : x < length rows = omega (arith, after, within) in
-        omega (arith, later (omega (arith, inside, same)), rest inside b d e after within (next.same d inside ∙ bits))
-  ]
-]
-
-pub latest_more : (rows : List Row) (gs : List Guard) (now new : List ℕ) (k x v : ℕ) → length gs ≡ length rows → length now ≡ length rows → k < length rows → IsNextOfRoute rows k x → ((e : Guard) → x < length gs → (get_or gs x e).changed ≤ v) → (x < length gs → get_or now x 0 ≤ v)
-    → new ≡ set now k v → ((j : ℕ) → k + 1 ≤ j → j < length rows → IsLatest rows gs j (get_or now j 0)) → (j : ℕ) → k ≤ j → j < length rows → IsLatest rows gs j (get_or new j 0)
-latest_more rows gs now new k x v same times inside next here later is done j from within = subst (λ l. IsLatest rows gs j (get_or l j 0)) (sym is) (by_case (cases_order j k))
+-- one row more with the next that changed later
+pub newer_more : (rows : List Row) (gs : List Guard) (now new : List ℕ) (k v h : ℕ) → length now ≡ length rows → k < length rows → ((e : Guard) → (get_or gs k e).changed ≡ h) → IsNextSince rows gs k (suc h) v → new ≡ set now k v
+    → AreNewerFrom (suc k) rows gs now → AreNewerFrom k rows gs new
+newer_more rows gs now new k v h places inside is_h next is done j e from within = subst (λ l. IsNextSince rows gs j (suc (get_or gs j e).changed) (get_or l j 0)) (sym is) (by_case (cases_order j k))
   where
-    by_case : (j ≡ k) ⊎ ((j < k) ⊎ (k < j)) → IsLatest rows gs j (get_or (set now k v) j 0)
+    by_case : (j ≡ k) ⊎ ((j < k) ⊎ (k < j)) → IsNextSince rows gs j (suc (get_or gs j e).changed) (get_or (set now k v) j 0)
     by_case (inl at) =
-        subst (IsLatest rows gs j) (sym (get_or-set_at now k j v 0 at (omega (arith, times, inside))))
-        (subst (λ n. IsLatest rows gs n v) (sym at) (latest_here rows gs k x v (get_or now x 0) same next here later (λ in_rows. done x (omega (arith, next.behind)) in_rows)))
+        subst (IsNextSince rows gs j (suc (get_or gs j e).changed)) (sym (get_or-set_at now k j v 0 at (omega (arith, places, inside))))
+        (subst (λ n. IsNextSince rows gs n (suc (get_or gs n e).changed) v) (sym at) (subst (λ n. IsNextSince rows gs k (suc n) v) (sym (is_h e)) next))
     by_case (inr (inl before)) = absurd (omega (arith, before, from))
-    by_case (inr (inr after)) = subst (IsLatest rows gs j) (sym (get_or-set_other now k j v 0 (λ at. omega (arith, at, after)))) (done j (omega (arith, after)) within)
+    by_case (inr (inr after)) = subst (IsNextSince rows gs j (suc (get_or gs j e).changed)) (sym (get_or-set_other now k j v 0 (λ at. omega (arith, at, after)))) (done j e (omega (arith, after)) within)
 
 -- a mark changes no time
-pub latest_kept : (now : ℕ) (rows : List Row) (gs new : List Guard) (latest : List ℕ) (s : ℕ) (g old : Guard) (settled : Bool) → length gs ≡ length rows → s < length gs → old ≡ get_or gs s old → new ≡ set gs s g → (g ≡ old) ⊎ ((IsTrue settled) × (IsTriedNow now old g))
-    → AreLatest rows gs latest → AreLatest rows new latest
-latest_kept now rows gs new latest s g old settled same inside is_old is told each k in_rows b d e behind within bits = subst (λ l. (get_or l b e).changed ≤ get_or latest k 0) (sym is) (by_case (cases_eq b s))
+pub newer_kept : (now : ℕ) (rows : List Row) (gs new : List Guard) (newer : List ℕ) (s : ℕ) (g old : Guard) (settled : Bool) → s < length gs → old ≡ get_or gs s old → new ≡ set gs s g → (g ≡ old) ⊎ ((IsTrue settled) × (IsTriedNow now old g))
+    → AreNewerFrom 0 rows gs newer → AreNewerFrom 0 rows new newer
+newer_kept now rows gs new newer s g old settled inside is_old is told each k e from within =
+    let next = each k e from within in record {
+      behind = next.behind;
+      same = next.same;
+      between = λ j d f after to in_rows bits. omega (arith, kept j f, kept k e, next.between j d f after to in_rows bits);
+    }
   where
-    before : (get_or gs b e).changed ≤ get_or latest k 0
-    before = each k in_rows b d e behind within bits
+    changed_at : (e : Guard) → (g ≡ old) ⊎ ((IsTrue settled) × (IsTriedNow now old g)) → g.changed ≡ (get_or gs s e).changed
+    changed_at e (inl same) = ap (λ (x : Guard). x.changed) (same ∙ is_old ∙ get_or_default gs s old e inside)
+    changed_at e (inr (yes_settled, mark)) = mark.changed ∙ ap (λ (x : Guard). x.changed) (is_old ∙ get_or_default gs s old e inside)
 
-    changed_at : (g ≡ old) ⊎ ((IsTrue settled) × (IsTriedNow now old g)) → g.changed ≡ (get_or gs s e).changed
-    changed_at (inl kept) = ap (λ (x : Guard). x.changed) (kept ∙ is_old ∙ get_or_default gs s old e inside)
-    changed_at (inr (yes_settled, mark)) = mark.changed ∙ ap (λ (x : Guard). x.changed) (is_old ∙ get_or_default gs s old e inside)
+    kept : (b : ℕ) (e : Guard) → (get_or new b e).changed ≡ (get_or gs b e).changed
+    kept b e = ap (λ l. (get_or l b e).changed) is ∙ by_case (cases_eq b s)
+      where
+        by_case : (b ≡ s) ⊎ (b ≢ s) → (get_or (set gs s g) b e).changed ≡ (get_or gs b e).changed
+        by_case (inl at) = ap (λ (x : Guard). x.changed) (get_or-set_at gs s b g e at inside) ∙ changed_at e told ∙ ap (λ n. (get_or gs n e).changed) (sym at)
+        by_case (inr apart) = ap (λ (x : Guard). x.changed) (get_or-set_other gs s b g e apart)
 
-    by_case : (b ≡ s) ⊎ (b ≢ s) → (get_or (set gs s g) b e).changed ≤ get_or latest k 0
-    by_case (inl at) = subst (λ (x : Guard). x.changed ≤ get_or latest k 0) (sym (get_or-set_at gs s b g e at inside)) (omega (arith, changed_at told, ap (λ n. (get_or gs n e).changed) at, before))
-    by_case (inr apart) = subst (λ (x : Guard). x.changed ≤ get_or latest k 0) (sym (get_or-set_other gs s b g e apart)) before
+-- a row is refused with each that did not change since it was tried
+pub skipped : (rows : List Row) (gs : List Guard) (i k x t : ℕ) → length gs ≡ length rows → AreTried rows gs → i ≤ k → ((d : Row) → (get_or rows k d).route.bits ≡ (get_or rows i d).route.bits) → ((e : Guard) → (get_or gs i e).tried ≡ t) → IsNextSince rows gs k t x
+    → (b : ℕ) → k < b → b < x → b < length rows → IsRefusedAt rows gs i b
+skipped rows gs i k x t same tried le route is_t next b from to within d e bits =
+    tried i b d e (omega (arith, le, from)) (omega (arith, same, within)) (omega (arith, next.between b d e from to within (sym bits ∙ sym (route d)), is_t e)) bits
 
--- where none behind it changed since it was tried, a row is still refused with each
-pub still_refused : (rows : List Row) (gs : List Guard) (i t : ℕ) (z : Guard) → length gs ≡ length rows → i < length rows → AreTried rows gs → IsLatest rows gs i t → t < (get_or gs i z).tried → (b : ℕ) → i < b → b < length rows → IsRefusedAt rows gs i b
-still_refused rows gs i t z same inside tried latest less b behind within d e bits =
-    tried i b d e behind (omega (arith, same, within)) (omega (arith, less, latest b d e behind within bits, ap (λ (x : Guard). x.tried) (get_or_default gs i z e (omega (arith, same, inside))))) bits
+-- and is no legal pair with it
+pub skipped_none : (rows : List Row) (gs : List Guard) (i k x : ℕ) → IsSound rows → length gs ≡ length rows → AreGuards rows gs → ((b : ℕ) → k < b → b < x → b < length rows → IsRefusedAt rows gs i b) → (b : ℕ) → k < b → b < x → IsLegalPair rows i b → ⊥
+skipped_none rows gs i k x sound same guards refused b from to pair = refused_illegal rows i b pair.set gs sound same guards (refused b from to (second_within rows i b pair.set)) pair.legal
 
-pub refused_alone : (rows : List Row) (gs : List Guard) (i : ℕ) → IsSound rows → length gs ≡ length rows → AreGuards rows gs → ((b : ℕ) → i < b → b < length rows → IsRefusedAt rows gs i b) → (b : ℕ) → IsLegalPair rows i b → ⊥
-refused_alone rows gs i sound same guards all b pair = refused_illegal rows i b pair.set gs sound same guards (all b (in_order rows i b pair.set) (second_within rows i b pair.set)) pair.legal
+-- what holds before a place, there, and behind it
+pub each_on : (P : ℕ → Type 0) (i j x : ℕ) → ((b : ℕ) → i < b → b < j → P b) → P j → ((b : ℕ) → j < b → b < x → P b) → (b : ℕ) → i < b → b < x → P b
+each_on P i j x before here after b from to = elim (cases_order b j) [
+  | inl at ↦ subst P (sym at) here
+  | inr apart ↦ elim apart [
+    | inl earlier ↦ before b from earlier
+    | inr later ↦ after b later to
+  ]
+]

@@ -1,5 +1,5 @@
 -- Which pairs of rows were tried and stay refused. It saves trying them again after each merge.
-use Rattle.std.specs.Prelude.{◌≡◌, ℕ, ◌<◌, ◌≤◌, ◌⊎◌, List, All, length, slice_index, slice_index_or}
+use Rattle.std.specs.Prelude.{◌≡◌, ℕ, suc, ◌<◌, ◌≤◌, ◌⊎◌, List, All, length, slice_index, slice_index_or}
 use Rattle.spin_base.specs.declared.blocks.Block.{Block}
 use Rattle.tern_word.specs.declared.tables.Row.{Row}
 use Rattle.tern_word.specs.Ternary.{generality, merge_two}
@@ -34,8 +34,8 @@ IsRefusedPair rows r m s n =
     r.route.bits ≡ s.route.bits → (m ≤ generality (merge_two r.block s.block)) ⊎ ((n ≤ generality (merge_two r.block s.block)) ⊎ IsStuck rows r s)
 
 -- A merge of this block and route leaves a row untouched where it misses the row, or is of another route.
-abbrev pub IsUntouched : ℕ → Block → Row → Type 0
-IsUntouched bits block row = row.route.bits ≡ bits → Misses block row
+abbrev pub IsLeftClear : ℕ → Block → Row → Type 0
+IsLeftClear bits block row = row.route.bits ≡ bits → Misses block row
 
 -- the same of the rows at two places, by what their guards tell
 abbrev pub IsRefusedAt : List Row → List Guard → ℕ → ℕ → Type 0
@@ -60,7 +60,7 @@ pub record IsFresh (now : ℕ) (guard : Guard) : Type 0 where
 -- each row is untouched, or changed now
 abbrev pub AreTouched : ℕ → Block → ℕ → List Row → List Guard → Type 0
 AreTouched bits block now rows guards =
-    (s : ℕ) (d : Row) (e : Guard) → s < length guards → (IsUntouched bits block (slice_index_or rows s d)) ⊎ (IsFresh now (slice_index_or guards s e))
+    (s : ℕ) (d : Row) (e : Guard) → s < length guards → (IsLeftClear bits block (slice_index_or rows s d)) ⊎ (IsFresh now (slice_index_or guards s e))
 
 -- the guard of a row whose first rival is no more general than before
 pub record IsNoLaxer (old new : Guard) : Type 0 where
@@ -75,11 +75,13 @@ pub record IsTriedNow (now : ℕ) (old new : Guard) : Type 0 where
   pub changed : new.changed ≡ old.changed
   pub tried : new.tried ≡ now
 
--- no row behind row k of its route changed after the time
-abbrev pub IsLatest : List Row → List Guard → ℕ → ℕ → Type 0
-IsLatest rows guards k time =
-    (b : ℕ) (d : Row) (e : Guard) → k < b → b < length rows → (slice_index_or rows k d).route.bits ≡ (slice_index_or rows b d).route.bits → (slice_index_or guards b e).changed ≤ time
+-- The next row behind row k of its route that changed at the time or later is that at the place, and there is none where
+-- the place is not in the table.
+pub record IsNextSince (rows : List Row) (guards : List Guard) (k time place : ℕ) : Type 0 where
+  pub behind : k < place
+  pub same : (d : Row) → place < length rows → (slice_index_or rows place d).route.bits ≡ (slice_index_or rows k d).route.bits
+  pub between : (j : ℕ) (d : Row) (e : Guard) → k < j → j < place → j < length rows → (slice_index_or rows j d).route.bits ≡ (slice_index_or rows k d).route.bits → (slice_index_or guards j e).changed < time
 
--- for each row such a time
-abbrev pub AreLatest : List Row → List Guard → List ℕ → Type 0
-AreLatest rows guards latest = (k : ℕ) → k < length rows → IsLatest rows guards k (slice_index latest k)
+-- for each row from the place on, the next one of its route that changed later
+abbrev pub AreNewerFrom : ℕ → List Row → List Guard → List ℕ → Type 0
+AreNewerFrom place rows guards newer = (k : ℕ) (e : Guard) → place ≤ k → k < length rows → IsNextSince rows guards k (suc (slice_index_or guards k e).changed) (slice_index newer k)

@@ -4,7 +4,7 @@ ghost use Rattle.tern_word.specs.declared.tables.Row.{Row as ARow};
 ghost use Rattle.tern_word.specs.SoundTable.{IsOrdered, IsSound, Misses};
 ghost use Rattle.cover_merge.specs.Merge.{IsMergeSet, after, merged_block};
 ghost use Rattle.cover_merge.specs.Guards.{AreGuards, AreGuardsBut, AreNextJoined, IsGuardAt};
-ghost use Rattle.cover_merge.specs.Tried.{AreTouched, AreTriedUpTo, IsFresh, IsNoLaxer, IsUntouched};
+ghost use Rattle.cover_merge.specs.Tried.{AreTouched, AreTriedUpTo, IsFresh, IsNoLaxer, IsLeftClear};
 
 use crate::applying::take_out_all;
 use crate::guards::{Guard, guard_of, joined_behind, place_in, unknown};
@@ -66,7 +66,7 @@ fn touch(rows: &[Row], guards: &mut Vec<Guard>, merged: Block, bits: u32, now: u
 fn touched(row: &Row, guard: Guard, merged: Block, bits: u32, now: usize) -> Guard
     ensures rival { result.rival ≡ guard.rival }
     ensures clear { result.clear ≡ guard.clear }
-    ensures marks { ((result ≡ guard) × (IsUntouched bits merged row.now)) ⊎ (IsFresh now result) }
+    ensures marks { ((result ≡ guard) × (IsLeftClear bits merged row.now)) ⊎ (IsFresh now result) }
 {
     if row.route.bits != bits {
         return guard;

@@ -1,9 +1,9 @@
 // Which rows are merged next.
-ghost use Rattle.std.specs.Prelude.{◌≡◌, ◌+◌, ◌<◌, ◌≤◌, ◌^◌, ◌↔◌, ◌==◌, ℕ, [], ◌∷◌, IfOk, OnOk, IsTrue, MatchOption, MatchBool, length, slice_index, slice_index_or, ◌⊎◌};
+ghost use Rattle.std.specs.Prelude.{◌≡◌, ◌+◌, ◌<◌, ◌≤◌, ◌^◌, ◌↔◌, ◌==◌, ℕ, suc, [], ◌∷◌, IfOk, OnOk, IsTrue, MatchOption, MatchBool, length, slice_index, slice_index_or, ◌⊎◌};
 ghost use Rattle.tern_word.specs.SoundTable.{IsSound};
 ghost use Rattle.tern_word.specs.declared.tables.Row.{Row as ARow};
 ghost use Rattle.cover_merge.specs.Guards.{AreGuards};
-ghost use Rattle.cover_merge.specs.Tried.{IsRefusedAt, AreTried, AreTriedUpTo, AreLatest};
+ghost use Rattle.cover_merge.specs.Tried.{IsRefusedAt, AreTried, AreTriedUpTo, IsNextSince, AreNewerFrom};
 ghost use Rattle.cover_merge.specs.declared.guards.Guard.{Guard as AGuard};
 ghost use Rattle.cover_merge.specs.Links.{AreLinks};
 ghost use Rattle.cover_merge.specs.Covering.{places_of, IsBestBefore, StandsBefore, IsFirstPartner, IsLargest, HasNoLargest, IsLegalPair, HasNoLegalPair, IsFirstLegalPair, IsChosen, HasNoChosen};
@@ -153,9 +153,9 @@ fn first_pair(
     ensures guards { OnOk result (AreGuards table.now.rows guards.new.items) }
     ensures marks { OnOk result (AreTriedUpTo now table.now.rows guards.new.items) }
 {
-    let latest = latest_of(alloc, table, guards, links)?;
+    let newer = newer_of(alloc, table, guards, links)?;
     for i in 0..table.rows.len() {
-        let search = partner(table, guards, links, &latest, i as u32);
+        let search = partner(table, guards, links, &newer, i as u32);
         if let Some(j) = search.place {
             return Ok(Some(two_places(alloc, i as u32, j)?));
         }
@@ -164,40 +164,100 @@ fn first_pair(
     Ok(None)
 }
 
-// For each row when one of those behind it of its route last changed.
-fn latest_of(
+// For each row the next of its route that changed later.
+fn newer_of(
     alloc: Global,
     table: &Table,
     guards: &[Guard],
     links: &Links,
-) -> Result<Vec<usize>, Memory>
+) -> Result<Vec<u32>, Memory>
+    requires few { length table.now.rows < 2 ^ 32 }
     requires one_each { length guards.now ≡ length table.now.rows }
     requires links { AreLinks table.now.rows links.now.next.items links.now.first.items }
-    ensures latest { IfOk result (λ v. AreLatest table.now.rows guards.now v.items) }
-    ensures times { IfOk result (λ v. length v.items ≡ length table.now.rows) }
+    ensures newer { IfOk result (λ v. AreNewerFrom 0 table.now.rows guards.now v.items) }
+    ensures places { IfOk result (λ v. length v.items ≡ length table.now.rows) }
 {
-    let mut latest = vec![in alloc; 0usize; table.rows.len()]?;
+    let mut newer = vec![in alloc; 0u32; table.rows.len()]?;
     let mut k = table.rows.len();
     while k > 0 {
         k -= 1;
-        latest[k] = latest_from(guards, &latest, links.next[k]);
+        newer[k] = changed_after(
+            table,
+            guards,
+            links,
+            &newer,
+            k as u32,
+            changed_at(guards, k),
+        );
     }
-    Ok(latest)
+    Ok(newer)
 }
 
-// When the row at the place or one behind it of its route last changed, where there is a row.
-fn latest_from(guards: &[Guard], latest: &[usize], place: u32) -> usize
-    requires times { length latest.now ≡ length guards.now }
-    ensures here { (e : AGuard) → place < length guards.now
-        → (slice_index_or guards.now place e).changed ≤ result }
-    ensures behind { place < length guards.now → slice_index latest.now place ≤ result }
+// When the row at the place last changed.
+fn changed_at(guards: &[Guard], place: usize) -> usize
+    requires { place < length guards.now }
+    ensures { (e : AGuard) → (slice_index_or guards.now place e).changed ≡ result }
 {
-    if (place as usize) >= guards.len() {
-        return 0;
+    guards[place].changed
+}
+
+// When the row at the place was last tried.
+fn tried_at(guards: &[Guard], place: usize) -> usize
+    requires { place < length guards.now }
+    ensures { (e : AGuard) → (slice_index_or guards.now place e).tried ≡ result }
+{
+    guards[place].tried
+}
+
+// The next row of the route of row `k` that changed after the time.
+fn changed_after(
+    table: &Table,
+    guards: &[Guard],
+    links: &Links,
+    newer: &[u32],
+    k: u32,
+    time: usize,
+) -> u32
+    requires one_each { length guards.now ≡ length table.now.rows }
+    requires links { AreLinks table.now.rows links.now.next.items links.now.first.items }
+    requires newer { AreNewerFrom (suc k) table.now.rows guards.now newer.now }
+    requires places { length newer.now ≡ length table.now.rows }
+    requires inside { k < length table.now.rows }
+    ensures { IsNextSince table.now.rows guards.now k (suc time) result }
+{
+    let mut place = links.next[k as usize];
+    while (place as usize) < table.rows.len() {
+        let changed = changed_at(guards, place as usize);
+        if changed > time {
+            return place;
+        }
+        place = newer[place as usize];
     }
-    let here = guards[place as usize].changed;
-    let behind = latest[place as usize];
-    if here < behind { behind } else { here }
+    place
+}
+
+// The next row of the route of row `k` that changed at the time or later: only such a row need be tried with one that was
+// tried then.
+fn next_to_try(
+    table: &Table,
+    guards: &[Guard],
+    links: &Links,
+    newer: &[u32],
+    k: u32,
+    time: usize,
+) -> u32
+    requires one_each { length guards.now ≡ length table.now.rows }
+    requires links { AreLinks table.now.rows links.now.next.items links.now.first.items }
+    requires newer { AreNewerFrom 0 table.now.rows guards.now newer.now }
+    requires places { length newer.now ≡ length table.now.rows }
+    requires inside { k < length table.now.rows }
+    ensures { IsNextSince table.now.rows guards.now k time result }
+{
+    let next = links.next[k as usize];
+    if time == 0 {
+        return next;
+    }
+    changed_after(table, guards, links, newer, k, time - 1)
 }
 
 // The list of two places.
@@ -217,30 +277,25 @@ struct Search {
     settled: bool,
 }
 
-// The first row behind row `i` that can be merged with it: only those of its route can.
-fn partner(table: &Table, guards: &[Guard], links: &Links, latest: &[usize], i: u32) -> Search
+// The first row behind row `i` that can be merged with it: only those of its route can that changed since it was tried.
+fn partner(table: &Table, guards: &[Guard], links: &Links, newer: &[u32], i: u32) -> Search
     requires few { length table.now.rows < 2 ^ 32 }
     requires sound { IsSound table.now.rows }
     requires one_each { length guards.now ≡ length table.now.rows }
     requires guards { AreGuards table.now.rows guards.now }
     requires tried { AreTried table.now.rows guards.now }
     requires links { AreLinks table.now.rows links.now.next.items links.now.first.items }
-    requires latest { AreLatest table.now.rows guards.now latest.now }
-    requires times { length latest.now ≡ length table.now.rows }
+    requires newer { AreNewerFrom 0 table.now.rows guards.now newer.now }
+    requires places { length newer.now ≡ length table.now.rows }
     requires inside { i < length table.now.rows }
     ensures place { MatchOption result.place ((b : ℕ) → IsLegalPair table.now.rows i b
         → ⊥) (λ j. IsFirstPartner table.now.rows i j) }
     ensures settled { IsTrue result.settled → (b : ℕ) → i < b → b < length table.now.rows
         → IsRefusedAt table.now.rows guards.now i b }
 {
-    if latest[i as usize] < guards[i as usize].tried {
-        return Search {
-            place: None,
-            settled: true,
-        };
-    }
+    let tried = tried_at(guards, i as usize);
     let mut settled = true;
-    let mut j = links.next[i as usize];
+    let mut j = next_to_try(table, guards, links, newer, i, tried);
     while (j as usize) < table.rows.len() {
         let trial = try_pair(table, guards, i, j);
         if trial.legal {
@@ -250,7 +305,7 @@ fn partner(table: &Table, guards: &[Guard], links: &Links, latest: &[usize], i: 
             };
         }
         settled &= trial.lasting;
-        j = links.next[j as usize];
+        j = next_to_try(table, guards, links, newer, j, tried);
     }
     Search {
         place: None,

@@ -2,7 +2,7 @@
 use Rattle.std.proofs.Common.{◌≡◌, ℕ, ◌<◌, length}
 use Rattle.cover_merge.specs.Covering.{IsLegalPair}
 use Rattle.cover_merge.specs.Guards.{AreGuards}
-use Rattle.cover_merge.specs.Tried.{AreTriedUpTo, AreLatest}
+use Rattle.cover_merge.specs.Tried.{AreTriedUpTo, AreNewerFrom}
 use Rattle.cover_merge.proofs.choosing.first_pair.Given as goal
 
 abbrev pub invariant-loop-i : goal.invariant-loop-i
@@ -11,5 +11,5 @@ invariant-loop-i l = record {
   one_each : length l.guards.items ≡ length l.table.rows;
   told : AreGuards l.table.rows l.guards.items;
   marks : AreTriedUpTo l.now l.table.rows l.guards.items;
-  latest : AreLatest l.table.rows l.guards.items l.latest.items;
+  newer : AreNewerFrom 0 l.table.rows l.guards.items l.newer.items;
 }

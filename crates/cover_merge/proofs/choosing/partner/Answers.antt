@@ -1,26 +1,23 @@
 -- The first row of the route that may pair is the first partner.
-use Rattle.std.proofs.Common.{◌<◌, ◌∙◌, ◌∷◌, [], length, refl, sym, arith}
+use Rattle.std.proofs.Common.{ℕ, ◌<◌, ◌∙◌, ◌∷◌, [], length, refl, sym, arith}
 use Rattle.std.proofs.lemmas.Bool.{and_parts}
 use Rattle.cover_merge.specs.Merge.{merge_rows, IsLegal}
+use Rattle.cover_merge.specs.Covering.{IsLegalPair}
+use Rattle.cover_merge.specs.Tried.{IsRefusedAt}
 use Rattle.cover_merge.proofs.Answering.{fails}
-use Rattle.cover_merge.proofs.ChooseLemmas.{link_next, pair_made, none_first, none_next, partner_found, no_partner}
-use Rattle.cover_merge.proofs.TriedLemmas.{refused_first, refused_next, still_refused, refused_alone}
+use Rattle.cover_merge.proofs.ChooseLemmas.{pair_made, partner_found, no_partner}
+use Rattle.cover_merge.proofs.TriedLemmas.{skipped, skipped_none, each_on}
 use Rattle.cover_merge.proofs.choosing.partner.Goals as goal
-
-pub returns-then-latest-i-clause-place : goal.returns-then-latest-i-clause-place
-returns-then-latest-i-clause-place c =
-    let rows = c.args.table.now.rows in
-    refused_alone rows c.args.guards.now c.args.i c.requires.sound c.requires.one_each c.requires.guards
-    (still_refused rows c.args.guards.now c.args.i _ _ c.requires.one_each c.requires.inside c.requires.tried (c.requires.latest c.args.i c.requires.inside) c.if-latest-i.true)
 
 pub loop-j-init : goal.loop-j-init
 loop-j-init c =
     let rows = c.args.table.now.rows in
-    let next = link_next rows c.args.links.now.next.items c.args.links.now.first.items c.requires.links c.args.i c.index-j.result.now c.requires.inside c.index-j.ensures in record {
+    let next = c.next_to_try-j.ensures in
+    let refused = skipped rows c.args.guards.now c.args.i c.args.i c.next_to_try-j.result c.tried_at-tried.result c.requires.one_each c.requires.tried (omega arith) (λ d. refl) c.tried_at-tried.ensures next in record {
       behind = next.behind;
       same = next.same;
-      none = none_first rows c.args.i c.index-j.result.now next;
-      refused = λ settled. refused_first rows c.args.guards.now c.args.i c.index-j.result.now next;
+      none = skipped_none rows c.args.guards.now c.args.i c.args.i c.next_to_try-j.result c.requires.sound c.requires.one_each c.requires.guards refused;
+      refused = λ settled. refused;
     }
 
 pub try_pair-trial-requires-clause-set : goal.try_pair-trial-requires-clause-set
@@ -39,15 +36,21 @@ returns-then-trial-clause-place c =
 pub loop-j-preserved : goal.loop-j-preserved
 loop-j-preserved c =
     let rows = c.args.table.now.rows in
+    let gs = c.args.guards.now in
+    let i = c.args.i in
+    let j = c.loop-j.j in
+    let x = c.next_to_try-j-in-loop-j.result in
     let old = c.loop-j.invariant in
-    let inside : c.loop-j.j < length rows = omega (arith, c.len.ensures, c.loop-j-test.true) in
-    let next = link_next rows c.args.links.now.next.items c.args.links.now.first.items c.requires.links c.loop-j.j c.index-j-in-loop-j.result.now inside c.index-j-in-loop-j.ensures in record {
+    let inside : j < length rows = omega (arith, c.len.ensures, c.loop-j-test.true) in
+    let next = c.next_to_try-j-in-loop-j.ensures in
+    let refused = skipped rows gs i j x c.tried_at-tried.result c.requires.one_each c.requires.tried (omega (arith, old.behind)) (λ d. old.same d inside) c.tried_at-tried.ensures next in record {
       behind = omega (arith, old.behind, next.behind);
       same = λ d within. next.same d within ∙ old.same d inside;
-      none = none_next rows c.args.i c.loop-j.j c.index-j-in-loop-j.result.now (λ d. old.same d inside) next (λ pair. fails (IsLegal rows (c.args.i ∷ c.loop-j.j ∷ [])) c.try_pair-trial.result.legal c.try_pair-trial.ensures.legal c.if-trial.false pair.legal) old.none;
+      none = each_on (λ b. IsLegalPair rows i b → ⊥) i j x old.none (λ pair. fails (IsLegal rows (i ∷ j ∷ [])) c.try_pair-trial.result.legal c.try_pair-trial.ensures.legal c.if-trial.false pair.legal)
+          (skipped_none rows gs i j x c.requires.sound c.requires.one_each c.requires.guards refused);
       refused = λ settled.
           let parts = and_parts _ _ settled in
-          refused_next rows c.args.guards.now c.args.i c.loop-j.j c.index-j-in-loop-j.result.now inside (λ d. old.same d inside) next (c.try_pair-trial.ensures.lasting parts.1) (old.refused parts.0);
+          each_on (λ b. b < length rows → IsRefusedAt rows gs i b) i j x (old.refused parts.0) (λ within. c.try_pair-trial.ensures.lasting parts.1) refused;
     }
 
 pub returns-clause-place : goal.returns-clause-place
