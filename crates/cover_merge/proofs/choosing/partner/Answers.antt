@@ -1,5 +1,5 @@
 -- The first row of the route that may pair is the first partner.
-use Rattle.std.proofs.Common.{ℕ, ◌<◌, ◌∙◌, ◌∷◌, [], length, refl, sym, arith}
+use Rattle.std.proofs.Common.{◌<◌, ◌∙◌, ◌∷◌, [], length, refl, sym, arith}
 use Rattle.std.proofs.lemmas.Bool.{and_parts}
 use Rattle.cover_merge.specs.Merge.{merge_rows, IsLegal}
 use Rattle.cover_merge.specs.Covering.{IsLegalPair}
