@@ -1,5 +1,5 @@
 // Where bytes come from and where they go, and the gate that workers enter.
-ghost use Rattle.std.specs.Prelude.{◌≡◌, ◌<◌, ◌≤◌, ℕ, List, Option, length, take, IfOk, OnErr};
+ghost use Rattle.std.specs.Prelude.{◌≡◌, ◌<◌, ◌≤◌, ℕ, List, Option, length, take, IfOk, OnOk, OnErr};
 ghost use Rattle.spin_base.specs.Outside.{FaultsRose, Reads, Takes};
 
 use crate::wants::Failed;
@@ -9,7 +9,7 @@ pub trait Source {
     /// The bytes still to come, where the source tells them.
     ghost left: { Self → Option (List ℕ) };
 
-    /// How often reading has failed. The counter stops at its last value, 2^64 - 1.
+    /// How often reading has failed, and nothing else. The counter stops at its last value, 2^64 - 1.
     ghost faults: { Self → ℕ };
 
     /// Reads up to as many bytes as the buffer has. 0 is the end of input. After `Failed` no byte is lost.
@@ -19,6 +19,7 @@ pub trait Source {
         ensures reads { IfOk result (λ n. Reads (left self.old) n buffer.new (left self.new)) }
         ensures failed { OnErr result (FaultsRose (faults self.old) (faults self.new)) }
         ensures kept { OnErr result (left self.new ≡ left self.old) }
+        ensures no_fault { OnOk result (faults self.new ≡ faults self.old) }
         ensures counted { faults self.old ≤ faults self.new };
 }
 

@@ -30,7 +30,8 @@ impl From<AllocError> for ReadErr {
 const PIECE: usize = 65536;
 
 /// The bytes up to the end of input, at most `limit` of them. It is `TooLong` exactly where the source gave more, and
-/// those are not read into memory. A source has lost just the bytes that it gave.
+/// those are not read into memory. A source has lost just the bytes that it gave, and counts a fault only where the answer is
+/// one.
 pub fn read_all<S: Source>(alloc: Global, src: &mut S, limit: u64) -> Result<Seq<u8>, ReadErr>
     ensures all { IfOk result (λ bytes. GivesAll (S.left src.old) bytes (S.left src.new)) }
     ensures within { IfOk result (λ bytes. length bytes ≤ limit) }
@@ -43,6 +44,7 @@ pub fn read_all<S: Source>(alloc: Global, src: &mut S, limit: u64) -> Result<Seq
         ⊎ LosesAtMost limit (S.left src.old) (S.left src.new) }
     ensures lost { LosesFront (S.left src.old) (S.left src.new) }
     ensures counted { S.faults src.old ≤ S.faults src.new }
+    ensures no_fault { IsErrOf result ReadErr.Fault ⊎ (S.faults src.new ≡ S.faults src.old) }
 {
     let mut buffer = make_buffer(alloc)?;
     let piece: &mut [u8] = &mut buffer;

@@ -1,4 +1,4 @@
-use Rattle.std.proofs.Common.{◌≡◌, ◌≤◌, length, take, arith, inr, length-take-le}
+use Rattle.std.proofs.Common.{◌≡◌, ◌≤◌, ◌∙◌, length, take, arith, inr, length-take-le}
 use Rattle.spin_base.proofs.Bytes.{gives_nothing, gives_then, gives_end, gives_too_many, loses_too_many, loses_few, rose_since}
 use Rattle.spin_base.proofs.reading.read_all.Goals as goal
 
@@ -11,7 +11,7 @@ loop-count-init g c = record {
 }
 
 pub returns-in-Err-clause-fault : goal.returns-in-Err-clause-fault
-returns-in-Err-clause-fault g c = λ _. rose_since _ _ _ c.loop-count.invariant.counted c.in-Err.ensures.failed
+returns-in-Err-clause-fault g c = λ _. rose_since _ _ _ (omega (arith, c.loop-count.invariant.counted)) c.in-Err.ensures.failed
 
 pub returns-then-count-eq0-clause-all : goal.returns-then-count-eq0-clause-all
 returns-then-count-eq0-clause-all g c =
@@ -44,7 +44,7 @@ loop-count-preserved g c =
           (gives_then _ _ _ _ _ c.loop-count.invariant.gives c.in-Ok.ensures.reads.gives);
       within = omega (arith, c.in_ok-extend_from_slice.ensures.len, taken);
       room = omega arith;
-      counted = omega (arith, c.in-Ok.ensures.counted);
+      counted = c.in-Ok.ensures.no_fault ∙ c.loop-count.invariant.counted;
     }
 
 pub returns-in_err-extend_from_slice-clause-lost :

@@ -7,7 +7,7 @@ invariant-loop-count g l = record {
   gives : GivesFirst (g.S.Source.left l.initial.src) l.bytes.items (g.S.Source.left l.src);
   within : vec_len l.bytes ≤ l.limit;
   room : length l.piece ≡ 65536;
-  counted : g.S.Source.faults l.initial.src ≤ g.S.Source.faults l.src;
+  counted : g.S.Source.faults l.src ≡ g.S.Source.faults l.initial.src;
 }
 
 abbrev pub decreases-loop-count : goal.decreases-loop-count
