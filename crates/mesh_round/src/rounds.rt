@@ -53,8 +53,8 @@ pub fn round<R: Threads + Wait + Sync, G: Gate>(
 /// of a job there are at most as many as copies can move: for each packet one, one for each chip of its net's tree, and one for each
 /// target.
 ///
-/// Where the gate never holds anybody, and one worker is asked for or there is little to move, the calling thread gives all turns:
-/// each move is a round then, and no thread is made.
+/// Where the gate never holds anybody, the calling thread gives all turns, however many workers are asked for: each move is a round
+/// then, and no thread is made.
 ///
 /// # Errors
 ///
@@ -81,8 +81,8 @@ pub fn run_out<R: Threads + Wait + Sync, G: RoundGate>(
     }
 }
 
-// Rounds on the parts of a mesh, numbered from 1. Where no worker may be held, and there is too little for threads, the calling
-// thread gives the turns, to those who are awake.
+// Rounds on the parts of a mesh, numbered from 1. Where no worker may be held the calling thread gives the turns, to those who are
+// awake: at every size of a job it is sooner done than workers, who take several times as long for a move.
 pub(crate) fn run_parts<R: Threads + Wait + Sync, G: RoundGate>(
     rt: &R,
     alloc: Global,
@@ -98,7 +98,7 @@ pub(crate) fn run_parts<R: Threads + Wait + Sync, G: RoundGate>(
     ensures refused { IfErr result (λ b. HasRounds pace.patience pace.turns parts b.0) }
     ensures ready_still { IfErr result (λ b. MayGoOn b.0) }
 {
-    if gate.may_hold() || is_for_threads(&parts, pace.workers) {
+    if gate.may_hold() {
         return run_raised(rt, alloc, parts, pace, gate);
     }
     let mut parts = parts;
@@ -109,31 +109,6 @@ pub(crate) fn run_parts<R: Threads + Wait + Sync, G: RoundGate>(
         return Ok(parts);
     }
     run_raised(rt, alloc, parts, pace, gate)
-}
-
-/// For so many copies a worker, rounds are given to the workers that are asked for. For fewer, one thread is sooner done than
-/// threads are made.
-const COPIES_A_WORKER: usize = 4096;
-
-// Whether rounds are given to threads: more than one is asked for, and there are enough copies that wait or are unsent.
-fn is_for_threads(parts: &MeshParts, workers: u32) -> bool {
-    if workers < 2 {
-        return false;
-    }
-    let mut missing = COPIES_A_WORKER * workers as usize;
-    missing = missing.saturating_sub(count_to(&parts.unsent, missing));
-    missing = missing.saturating_sub(count_to(&parts.inputs, missing));
-    missing = missing.saturating_sub(count_to(&parts.cores, missing));
-    missing == 0
-}
-
-// How many copies queues hold, as far as they are no more than so many.
-fn count_to(queues: &[Fifo<McCopy>], most: usize) -> usize {
-    let mut left = most;
-    for queue in queues {
-        left = left.saturating_sub(queue.len());
-    }
-    most.saturating_sub(left)
 }
 
 // Turns of those who are awake until none of them moves a copy.

@@ -3,44 +3,31 @@
 // A router that found each of its queues empty, and a chip whose vertices had nothing to send and found each of their queues empty,
 // find the same again until a copy comes for them. They are asleep until then. No promise rests on it: whether all is at rest is
 // looked up in the queues themselves.
-ghost use Rattle.std.specs.Prelude.{◌≡◌, ◌<◌, ◌≤◌, ◌*◌, IfSome};
+ghost use Rattle.std.specs.Prelude.{◌<◌, ◌≤◌, IfSome};
 
 use machine_desc::Machine;
 use mesh_core::Queue;
+use mesh_run::Flags;
 use spin_base::{Port, Spot};
-
-/// How many words of 64 flags there are: two flags for each of 4,096 chips.
-const WORDS: usize = 128;
 
 /// Which routers, and the vertices of which chips, are awake: a flag for the router of the chip of index i at place 2 * i, and one
 /// for its vertices behind it.
 #[derive(Drop)]
 pub(crate) struct Awake {
-    flags: [u64; WORDS],
+    flags: Flags,
 }
 
 impl Awake {
     /// Everybody is awake.
     pub fn all() -> Awake {
         Awake {
-            flags: [u64::MAX; WORDS],
-        }
-    }
-
-    // From now on the flag at a place stands.
-    fn set(&mut self, place: usize) {
-        let word = place / 64;
-        if word < WORDS {
-            self.flags[word] |= 1 << (place % 64);
+            flags: Flags::all(),
         }
     }
 
     /// From now on nobody is awake at a place.
     pub fn clear(&mut self, place: usize) {
-        let word = place / 64;
-        if word < WORDS {
-            self.flags[word] &= !(1 << (place % 64));
-        }
+        self.flags.clear(place);
     }
 
     /// The first place from one on where somebody is awake.
@@ -48,32 +35,13 @@ impl Awake {
         ensures from { IfSome result (λ place. from ≤ place) }
         ensures below { IfSome result (λ place. place < 8192) }
     {
-        let first = from / 64;
-        if first >= WORDS {
-            return None;
-        }
-        let here = self.flags[first] >> (from % 64);
-        if here != 0 {
-            let place = from + here.trailing_zeros() as usize;
-            return if place < 64 * WORDS {
-                Some(place)
-            } else {
-                None
-            };
-        }
-        for word in first + 1..WORDS {
-            if self.flags[word] != 0 {
-                let place = 64 * word + (self.flags[word].trailing_zeros() % 64) as usize;
-                return Some(place);
-            }
-        }
-        None
+        self.flags.next(from)
     }
 
     /// Who takes from a queue is awake: a router, or the vertices of a chip.
     pub fn wake(&mut self, machine: &Machine, spots: &[Spot], queue: Queue) {
         match queue {
-            Queue::Input(place) => self.set(place / Port::COUNT as usize * 2),
+            Queue::Input(place) => self.flags.set(place / Port::COUNT as usize * 2),
             Queue::Core(vertex) => self.wake_vertex(machine, spots, vertex),
             Queue::Nowhere => {}
         }
@@ -84,14 +52,14 @@ impl Awake {
         if let Some(spot) = spots.get(vertex) {
             if machine.is_inside(spot.chip) {
                 let index = machine.index(spot.chip) as usize;
-                self.set(index.saturating_mul(2).saturating_add(1));
+                self.flags.set(index.saturating_mul(2).saturating_add(1));
             }
         }
     }
 
     /// The router of the chip of this index falls asleep.
     pub fn rest_router(&mut self, index: usize) {
-        self.clear(index.saturating_mul(2));
+        self.flags.clear(index.saturating_mul(2));
     }
 
     /// The vertices of the chip of this index had their turn. They fall asleep where they had nothing to offer and took nothing; and
@@ -99,10 +67,10 @@ impl Awake {
     pub fn note_vertices(&mut self, index: usize, offered: bool, sent: bool, collected: bool) {
         let router = index.saturating_mul(2);
         if !offered && !collected {
-            self.clear(router.saturating_add(1));
+            self.flags.clear(router.saturating_add(1));
         }
         if sent {
-            self.set(router);
+            self.flags.set(router);
         }
     }
 }

@@ -6,6 +6,7 @@
 
 mod actors;
 mod dealing;
+mod flags;
 mod gathering;
 pub mod laws;
 mod lending;
@@ -19,6 +20,7 @@ mod standing;
 mod waking;
 
 pub use actors::Actor;
+pub use flags::Flags;
 pub use raised::RaisedMesh;
 pub use rounds::{Pace, play_parts};
 pub use shares::play;

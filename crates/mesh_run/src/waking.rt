@@ -3,26 +3,25 @@
 // A router that found each of its queues empty, and a bank that had nothing to offer and found each of its queues empty, find the
 // same again until a copy comes for them. Such an actor is asleep until one is sent to a queue of it. An actor with a queue that
 // is fed from another worker's share is always awake: nobody tells its worker what comes.
-ghost use Rattle.std.specs.Prelude.{◌≡◌, ◌<◌, ◌≤◌, true, slice_index_or, slice_set};
+ghost use Rattle.std.specs.Prelude.{◌<◌, ◌≤◌};
 
 use crate::actors::Actor;
+use crate::flags::{FLAGS, Flags};
 use chip_node::{BankTurn, Injection, RouterNode};
 use spin_base::{Dir, Out, Outs, Port};
 
-/// How many chips a machine has at most, and how many actors these have.
+/// How many chips a machine has at most. Each has two actors.
 const CHIPS: usize = 4096;
 
-const ACTORS: usize = 8192;
-
 /// The place of a router that isn't there.
-const NOWHERE: usize = usize::MAX;
+const NOWHERE: u16 = u16::MAX;
 
 /// Where the router of each chip stands among the actors, and which actors are always awake.
 #[derive(Drop)]
 pub(crate) struct ActorPlaces {
     chips: usize,
-    routers: [usize; CHIPS],
-    watched: [bool; ACTORS],
+    routers: [u16; CHIPS],
+    watched: Flags,
     ghost few: { chips ≤ 4096 },
 }
 
@@ -31,7 +30,7 @@ fn no_places(chips: usize) -> ActorPlaces {
     ActorPlaces {
         chips: chips.min(CHIPS),
         routers: [NOWHERE; CHIPS],
-        watched: [false; ACTORS],
+        watched: Flags::none(),
     }
 }
 
@@ -58,8 +57,8 @@ impl ActorPlaces {
     }
 
     fn note_router(&mut self, index: usize, place: usize) {
-        if index < CHIPS {
-            self.routers[index] = place;
+        if index < CHIPS && place < FLAGS {
+            self.routers[index] = place as u16;
         }
     }
 
@@ -92,8 +91,8 @@ impl ActorPlaces {
     fn watch(&mut self, feeder: usize, taker: usize, share: usize)
         requires { 0 < share }
     {
-        if feeder / share != taker / share && taker < ACTORS {
-            self.watched[taker] = true;
+        if feeder / share != taker / share {
+            self.watched.set(taker);
         }
     }
 
@@ -102,21 +101,15 @@ impl ActorPlaces {
     pub fn taker(&self, feeder: usize, link: u32) -> usize {
         let index = link as usize / Port::COUNT as usize;
         if index < self.chips {
-            self.routers[index]
+            usize::from(self.routers[index])
         } else {
             feeder.saturating_add(1)
         }
     }
 
     /// Whether the actor at a place is always awake. One that has no flag always is.
-    pub fn watches(&self, place: usize) -> bool
-        ensures { result ≡ slice_index_or self.now.watched place true }
-    {
-        if place < ACTORS {
-            self.watched[place]
-        } else {
-            true
-        }
+    pub fn watches(&self, place: usize) -> bool {
+        place >= FLAGS || self.watched.has(place)
     }
 }
 
@@ -124,7 +117,7 @@ impl ActorPlaces {
 #[derive(Drop)]
 pub(crate) struct Awake {
     start: usize,
-    flags: [bool; ACTORS],
+    flags: Flags,
 }
 
 impl Awake {
@@ -132,24 +125,21 @@ impl Awake {
     pub fn all(start: usize) -> Awake {
         Awake {
             start,
-            flags: [true; ACTORS],
+            flags: Flags::all(),
         }
     }
 
     /// Whether an actor of the share is awake. One that has no flag always is.
-    pub fn has(&self, k: usize) -> bool
-        ensures { result ≡ slice_index_or self.now.flags k true }
-    {
-        if k < ACTORS { self.flags[k] } else { true }
+    pub fn has(&self, k: usize) -> bool {
+        k >= FLAGS || self.flags.has(k)
     }
 
     // From now on an actor of the share is awake, or asleep.
-    fn set(&mut self, k: usize, awake: bool)
-        ensures flags { self.new.flags ≡ slice_set self.old.flags k awake }
-        ensures start { self.new.start ≡ self.old.start }
-    {
-        if k < ACTORS {
-            self.flags[k] = awake;
+    fn set(&mut self, k: usize, awake: bool) {
+        if awake {
+            self.flags.set(k);
+        } else {
+            self.flags.clear(k);
         }
     }
 
