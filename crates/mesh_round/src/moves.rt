@@ -9,6 +9,7 @@ ghost use Rattle.mesh_core.specs.Step.{after_event, has_room_behind, outputs, st
 ghost use Rattle.mesh_round.specs.Turning.{router_step, served_at, served_at_all, served_or_dumped};
 
 use crate::reinjecting::{has_room, onward, push_behind, queue_behind};
+use crate::waking::Awake;
 use mesh_core::{MeshParts, Queue};
 use spin_base::{Chip, Delivery, DumpRec, Fifo, McCopy, Memory, Out, Outs, Port, Seq};
 use std::alloc::Global;
@@ -59,31 +60,32 @@ pub(crate) fn collect_first(parts: &mut MeshParts, vertex: u32) -> Result<bool, 
     Ok(true)
 }
 
-/// A live chip's router takes the first copy at a port, and serves each output that its table gives: these outputs, and `None`
-/// where it found no copy.
+/// A live chip's router takes the first copy at a port, and serves each output that its table gives. Who takes what it sends is awake.
+/// Whether there was a copy.
 pub(crate) fn route_first(
     alloc: Global,
     parts: &mut MeshParts,
+    awake: &mut Awake,
     chip: Chip,
     port: Port,
-) -> Result<Option<Outs>, Memory>
+) -> Result<bool, Memory>
     requires mesh { IsMesh parts.old }
     requires inside { IsInside parts.old.setup.machine chip }
-    ensures answer { IfOk result (λ outs. is_some outs ≡ is_some (router_step parts.old chip port)) }
+    ensures answer { IfOk result (λ took. took ≡ is_some (router_step parts.old chip port)) }
     ensures moves { OnOk result (parts.new ≡ unwrap_or (router_step parts.old chip port) parts.old) }
     ensures err { OnErr result (parts.new ≡ parts.old) }
 {
     let place = input_place(parts, chip, port);
     if !parts.setup.machine().live(chip) {
-        return Ok(None);
+        return Ok(false);
     }
     let Some(copy) = front(&parts.inputs, place) else {
-        return Ok(None);
+        return Ok(false);
     };
     let outs = outputs_of(parts, chip, port, copy);
-    serve_all(alloc, parts, chip, copy, outs.as_slice())?;
+    serve_all(alloc, parts, awake, chip, copy, outs.as_slice())?;
     drop_input(parts, place);
-    Ok(Some(outs))
+    Ok(true)
 }
 
 // Takes the first unsent copy off a vertex's list.
@@ -130,6 +132,7 @@ fn looked_up(table: &Tcam, port: Port, copy: McCopy) -> Outs
 fn serve_all(
     alloc: Global,
     parts: &mut MeshParts,
+    awake: &mut Awake,
     chip: Chip,
     copy: McCopy,
     outs: &[Out],
@@ -143,8 +146,8 @@ fn serve_all(
     let Some((out, rest)) = outs.split_first() else {
         return Ok(());
     };
-    let sent = serve(parts, chip, copy, *out)?;
-    match serve_all(alloc, parts, chip, copy, rest) {
+    let sent = serve(parts, awake, chip, copy, *out)?;
+    match serve_all(alloc, parts, awake, chip, copy, rest) {
         Ok(()) => Ok(()),
         Err(e) => {
             take_back(alloc, parts, chip, *out, sent);
@@ -153,8 +156,14 @@ fn serve_all(
     }
 }
 
-// Serves a copy at an output. Whether it went on.
-fn serve(parts: &mut MeshParts, chip: Chip, copy: McCopy, out: Out) -> Result<bool, Memory>
+// Serves a copy at an output. Whether it went on: then who takes it is awake.
+fn serve(
+    parts: &mut MeshParts,
+    awake: &mut Awake,
+    chip: Chip,
+    copy: McCopy,
+    out: Out,
+) -> Result<bool, Memory>
     requires mesh { IsMesh parts.old }
     requires inside { IsInside parts.old.setup.machine chip }
     ensures sent { IfOk result (λ sent. sent
@@ -167,6 +176,7 @@ fn serve(parts: &mut MeshParts, chip: Chip, copy: McCopy, out: Out) -> Result<bo
     let queue = queue_behind(parts, chip, out);
     if has_room(parts, queue) {
         push_behind(parts, queue, onward(copy))?;
+        awake.wake(parts.setup.machine(), parts.setup.spots(), queue);
         return Ok(true);
     }
     parts.dumped.push(DumpRec { chip, out, copy })?;

@@ -7,7 +7,7 @@ ghost use Rattle.mesh_round.specs.Turning.{GoesTo, TakesTurn};
 use crate::moves::{collect_first, route_first, send_first};
 use crate::waking::Awake;
 use mesh_core::{MeshParts, MeshSetup};
-use spin_base::{Chip, Memory, Outs, Port, Spot};
+use spin_base::{Chip, Memory, Port, Spot};
 use std::alloc::Global;
 
 /// How many vertices a chip has at most: one on each core, and one device on each link.
@@ -127,18 +127,8 @@ fn route(
     ensures none { IfOk result (λ moved. moved ≡ false → parts.new ≡ parts.old) }
     ensures err { OnErr result (parts.new ≡ parts.old) }
 {
-    let given = route_first(alloc, parts, chip, port)?;
-    wake_takers(&parts.setup, awake, chip, &given);
-    Ok(given.is_some())
-}
-
-// Who takes what a router sent by these outputs is awake.
-fn wake_takers(setup: &MeshSetup, awake: &mut Awake, chip: Chip, given: &Option<Outs>) {
-    if let Some(outs) = given {
-        for out in outs.as_slice() {
-            awake.wake(setup.machine(), setup.spots(), setup.behind(chip, *out));
-        }
-    }
+    let took = route_first(alloc, parts, awake, chip, port)?;
+    Ok(took)
 }
 
 // The vertices of a chip, in order of their cores.
