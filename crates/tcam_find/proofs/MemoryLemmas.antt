@@ -1,7 +1,7 @@
 -- The entries of a memory whose keys, masks and routes stand in three rows.
 use Rattle.std.proofs.Common.{◌≡◌, ℕ, ◌+◌, ◌<◌, eqb, true, false, List, [], ◌∷◌, length, get_or, set, replicate, bit_and, refl, ap, ◌∙◌, subst, arith, zero, suc, Some, slice_get, drop, add-one, inl, inr, ◌-◌}
 use Rattle.std.proofs.lemmas.Bool.{cases_lt}
-use Rattle.std.proofs.lemmas.List.{length-replicate}
+use Rattle.std.proofs.lemmas.List.{get_or-replicate, length-replicate}
 use Rattle.std.specs.Int.Bits.{and_zero_r}
 use Rattle.spin_base.specs.declared.routes.Route.{Route}
 use Rattle.spin_base.specs.declared.chips.Port.{Port}
@@ -9,7 +9,7 @@ use Rattle.spin_base.specs.declared.blocks.Entry.{Entry}
 use Rattle.spin_base.specs.declared.sizes.TheConstants.{ROUTER_ENTRIES}
 use Rattle.spin_base.specs.Lookup.{lookup, matches}
 use Rattle.spin_base.specs.Outputs.{nothing}
-use Rattle.tcam_find.specs.Memory.{entries_of, empty_memory, unused}
+use Rattle.tcam_find.specs.Memory.{NoneMatchesFrom, entries_of, empty_memory, unused}
 
 pub length-entries_of : (keys masks : List ℕ) (routes : List Route) → length masks ≡ length keys → length routes ≡ length keys
     → length (entries_of keys masks routes) ≡ length keys
@@ -104,3 +104,20 @@ scan_stops es i e key port got here = rw (got_drop es i e got, here) refl
 pub scan_goes_on : (es : List Entry) (i : ℕ) (e : Entry) (key : ℕ) (port : Port) → slice_get es i ≡ Some e
     → matches e key ≡ false → lookup (drop (i + 1) es) key port ≡ lookup (drop i es) key port
 scan_goes_on es i e key port got here = rw (got_drop es i e got, here, add-one) refl
+
+-- no place of rows that say unused everywhere matches
+pub none_of_unused : (n : ℕ) → NoneMatchesFrom 0 (replicate n 0xffff_ffff) (replicate n 0)
+none_of_unused n k key from inside =
+    let long = length-replicate {A = ℕ} n 0xffff_ffff in
+    rw (get_or-replicate {A = ℕ} n k 0 0 (omega (arith, inside, long)), get_or-replicate {A = ℕ} n k 0xffff_ffff 0 (omega (arith, inside, long)))
+    (unused_matches key)
+
+-- where no place below matches, and none from there on, none does
+pub none_at_all : (keys masks : List ℕ) (key from : ℕ)
+    → ((k : ℕ) → k < from → eqb (bit_and key (get_or masks k 0)) (get_or keys k 0) ≡ false) → NoneMatchesFrom from keys masks
+    → (k : ℕ) → k < length keys → eqb (bit_and key (get_or masks k 0)) (get_or keys k 0) ≡ false
+none_at_all keys masks key from below rest k inside =
+    elim (cases_lt k from) [
+      | inl early ↦ below k early
+      | inr late ↦ rest k key (omega (arith, late)) inside
+    ]

@@ -1,5 +1,5 @@
 -- The lookup memory of a router.
-use Rattle.std.specs.Prelude.{ℕ, List, [], ◌∷◌, replicate}
+use Rattle.std.specs.Prelude.{◌≡◌, ℕ, ◌<◌, ◌≤◌, ◌==◌, false, List, [], ◌∷◌, bit_and, length, replicate, slice_index_or}
 use Rattle.spin_base.specs.declared.routes.Route.{Route}
 use Rattle.spin_base.specs.declared.sizes.TheConstants.{ROUTER_ENTRIES}
 use Rattle.spin_base.specs.declared.blocks.Entry.{Entry}
@@ -20,3 +20,8 @@ entries_of (key ∷ keys) [] routes = []
 entries_of (key ∷ keys) (mask ∷ masks) [] = []
 entries_of (key ∷ keys) (mask ∷ masks) (route ∷ routes) =
     record { key = key; mask = mask; route = route } ∷ entries_of keys masks routes
+
+-- no key is that of an entry at a place from this one on, as keys and masks stand in two rows
+abbrev pub NoneMatchesFrom : ℕ → List ℕ → List ℕ → Type 0
+NoneMatchesFrom from keys masks =
+    (k key : ℕ) → from ≤ k → k < length keys → (bit_and key (slice_index_or masks k 0) == slice_index_or keys k 0) ≡ false

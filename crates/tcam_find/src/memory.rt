@@ -1,23 +1,25 @@
 // The memory itself.
 ghost use Rattle.spin_base.specs.Links.{dir_number};
 ghost use Rattle.spin_base.specs.Lookup.{default_route};
-ghost use Rattle.std.specs.Prelude.{◌≡◌, ◌^◌, []};
+ghost use Rattle.std.specs.Prelude.{◌≡◌, ◌*◌, ◌≤◌, ◌^◌, []};
+ghost use Rattle.tcam_find.specs.Memory.{NoneMatchesFrom};
 
 use crate::lanes::{LANES, first_match};
 use spin_base::{Dir, Entry, Port, ROUTER_ENTRIES, Route, Shared};
 use std::marker::Model;
 
-/// How many groups of eight entries these are.
-const GROUPS: usize = ROUTER_ENTRIES / LANES;
-
 /// The lookup memory of a router: 1,024 entries, seen as their list.
 ///
-/// Keys, masks and routes stand in three rows of 1,024 words.
+/// Keys, masks and routes stand in three rows of 1,024 words. Behind the groups of eight in which an entry was set no entry matches,
+/// so nobody looks there.
 #[derive(Drop)]
 pub struct Tcam {
+    groups: usize,
     keys: [u32; ROUTER_ENTRIES],
     masks: [u32; ROUTER_ENTRIES],
     routes: [Route; ROUTER_ENTRIES],
+    ghost few: { groups ≤ 128 },
+    ghost rest: { NoneMatchesFrom (8 * groups) keys masks },
 }
 
 impl Shared for Tcam {}
@@ -44,6 +46,7 @@ impl Tcam {
         ensures unused_matches_no_key { (key : ℕ) → matches unused key ≡ false }
     {
         Tcam {
+            groups: 0,
             keys: [u32::MAX; ROUTER_ENTRIES],
             masks: [0; ROUTER_ENTRIES],
             routes: [Route::nothing(); ROUTER_ENTRIES],
@@ -57,6 +60,7 @@ impl Tcam {
         ensures size { length self.new ≡ ROUTER_ENTRIES }
     {
         let place = place as usize;
+        self.groups = self.groups.max(place / LANES + 1);
         self.keys[place] = e.key;
         self.masks[place] = e.mask;
         self.routes[place] = e.route;
@@ -81,7 +85,7 @@ impl Tcam {
     pub fn find(&self, key: u32, port: Port) -> Route
         ensures { result ≡ lookup self.now key port }
     {
-        for group in 0..GROUPS {
+        for group in 0..self.groups {
             let at = LANES * group;
             let lane = first_match(&self.keys, &self.masks, at, key);
             if lane < LANES {
