@@ -1,5 +1,6 @@
 -- The fields of a host are those of one after events of its mesh.
-use Rattle.std.proofs.Common.{◌≡◌, refl, sym, ap, subst, Some, Result, Ok, Err, OnOk, OnErr}
+use Rattle.std.proofs.Common.{◌≡◌, ℕ, List, refl, sym, ap, subst, Option, Some, Result, Ok, Err, OnOk, OnErr}
+use Rattle.std.specs.Prelude.{IfSome}
 use Rattle.spin_base.specs.declared.copies.Event.{Event}
 use Rattle.spin_base.specs.declared.wants.Memory.{Memory}
 use Rattle.mesh_core.specs.declared.places.Did.{Did}
@@ -10,7 +11,7 @@ use Rattle.app_loads.specs.Host.{Host}
 use Rattle.app_loads.specs.Applications.{AreApps}
 use Rattle.app_loads.specs.Inner.{mesh_in, host_of, TellsTaken, IsHost}
 use Rattle.app_loads.specs.Running.{HasMovedMesh}
-use Rattle.mesh_drain.specs.Draining.{MeetsSomeLedger, IsAfter, IsMoved}
+use Rattle.mesh_drain.specs.Draining.{MeetsSomeLedger, IsAfter, IsMoved, SendAlone}
 use Rattle.app_loads.proofs.Keeping.{apps_after, apps_kept}
 use Rattle.mesh_drain.proofs.Moving.{after_none, after_one, after_setup}
 
@@ -21,17 +22,21 @@ mesh_is i m e = ap mesh_in e
 pub host_kept : (i : Inside) (m : State) → IsHost i → i.mesh ≡ Some m → MeetsSomeLedger m
 host_kept i m host e = subst MeetsSomeLedger (mesh_is i m e) (apps_kept (host_of i) host.apps)
 
+pub known_in : (i : Inside) (m : State) → IsHost i → i.mesh ≡ Some m → IfSome i.senders (λ vertices. SendAlone vertices m)
+known_in i m host e = subst (λ (s : State). IfSome i.senders (λ vertices. SendAlone vertices s)) (mesh_is i m e) host.rest
+
 after_in : (i : Inside) (m t : State) → i.mesh ≡ Some m → IsAfter m t → IsAfter (host_of i).mesh t
 after_in i m t e after = subst (λ x. IsAfter x t) (sym (mesh_is i m e)) after
 
 pub apps_after_in : (i : Inside) (m t : State) → IsHost i → i.mesh ≡ Some m → IsAfter m t → AreApps (host_of (record i { mesh = Some t }))
 apps_after_in i m t host e after = apps_after (host_of i) t host.apps (after_in i m t e after)
 
-pub host_after : (i : Inside) (m t : State) → IsHost i → i.mesh ≡ Some m → IsAfter m t → IsHost (record i { mesh = Some t })
-host_after i m t host e after = record {
+pub host_after : (i : Inside) (m t : State) (senders : Option (List ℕ)) → IsHost i → i.mesh ≡ Some m → IsAfter m t → IfSome senders (λ vertices. SendAlone vertices t) → IsHost (record i { mesh = Some t; senders = senders })
+host_after i m t senders host e after alone = record {
   there = refl;
   apps = apps_after_in i m t host e after;
   taken = subst (λ (u : Setup). TellsTaken u.machine i.apps.items i.taken.items) (sym (after_setup (host_of i).mesh t (after_in i m t e after))) host.taken;
+  rest = alone;
 }
 
 -- what moved in the mesh, moved in the host

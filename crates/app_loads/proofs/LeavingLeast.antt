@@ -1,11 +1,12 @@
 -- The least packet of an application that is under way, from the lists of the mesh.
 use Rattle.std.proofs.Common.{◌≡◌, ℕ, ◌+◌, ◌/◌, ◌%◌, ◌<◌, ◌≤◌, min, Bool, true, false, if◌then◌else◌, List, [], ◌∷◌, ◌++◌, take, length, get_or, refl, sym, ap, ◌∙◌, subst, inl, inr, ◌⊎◌, arith, Option, None, Some, append-nil}
-use Rattle.std.specs.List.{slice_get, flat_map}
+use Rattle.std.specs.List.{slice_get, flat_map, All, Contains}
 use Rattle.std.specs.Prelude.{IfSome, IfNone}
 use Rattle.std.proofs.lemmas.Bool.{cases_lt}
-use Rattle.std.proofs.lemmas.List.{take_more, take_all}
+use Rattle.std.proofs.lemmas.List.{get_or_default, take_more, take_all}
 use Rattle.std.proofs.lemmas.List.Concat.{flat_map-append}
-use Rattle.std.proofs.lemmas.Option.{slice_get-get_or}
+use Rattle.std.proofs.lemmas.Option.{get_or_from_slice_get, slice_get-get_or}
+use Rattle.std.proofs.lemmas.List.Elements.{All-contains}
 use Rattle.spin_base.specs.Gathered.{gathered}
 use Rattle.spin_base.proofs.Members.{Among, among_contains, contains_among, among_left, among_right, among_either, among_map, map_among, among_at}
 use Rattle.spin_base.proofs.Gathering.{gathered_among}
@@ -19,9 +20,10 @@ use Rattle.mesh_core.specs.Trail.{Station, unsent, in_queue, in_hand, at_core, d
 use Rattle.mesh_core.specs.Ledger.{marks_of, marks_at, hand_marks, port_of, unsent_marks, input_marks, all_hand_marks, core_marks}
 use Rattle.mesh_core.proofs.Moves.{mark}
 use Rattle.mesh_core.proofs.Standing.{mark_stands, StandsAt}
+use Rattle.mesh_drain.specs.Draining.{SendAlone}
 use Rattle.app_loads.proofs.ClaimCases.{among_flat, flat_among}
 use Rattle.app_loads.specs.declared.loaded.LoadedApp.{LoadedApp}
-use Rattle.app_loads.specs.Leaving.{is_packet_of, IsUnderWayAt, WaitsIn, NoneUnderWay, IsLeastUnderWay, own_packet, lesser_of, least_own_packet, packet_numbers_of, held_packets}
+use Rattle.app_loads.specs.Leaving.{is_packet_of, IsUnderWayAt, WaitsIn, NoneUnderWay, IsLeastUnderWay, own_packet, lesser_of, least_own_packet, packet_numbers_of, held_packets, unsent_numbers}
 use Rattle.app_loads.proofs.LeavingLists.{after_cores, after_hands, after_inputs, after_unsent}
 
 -- ---- the least of some numbers
@@ -104,6 +106,14 @@ module _ (app : LoadedApp) (so_far least next : Option ℕ) where
   pub all_lists : {X : Type 0} (f : X → List ℕ) (xs : List X) (i : ℕ) → length xs ≤ i → least ≡ lesser_of so_far (least_own_packet app (flat_map f (take i xs))) →
       least ≡ lesser_of so_far (least_own_packet app (flat_map f xs))
   all_lists f xs i all was = was ∙ ap (λ l. lesser_of so_far (least_own_packet app (flat_map f l))) (take_all i xs all)
+
+-- one more vertex of those that may have packets unsent
+pub sender_more : (app : LoadedApp) (queues : List (List McCopy)) (vertices : List ℕ) (i d : ℕ) (least next : Option ℕ) (q lent : List McCopy) → i < length vertices → All (λ v. v < length queues) vertices →
+    lent ≡ q → q ≡ get_or queues (get_or vertices i d) q → least ≡ least_own_packet app (flat_map (unsent_numbers queues) (take i vertices)) → next ≡ lesser_of least (least_own_packet app (packet_numbers_of lent)) →
+    next ≡ least_own_packet app (flat_map (unsent_numbers queues) (take (i + 1) vertices))
+sender_more app queues vertices i d least next q lent below there lent_is is was found =
+    list_more app None least next (unsent_numbers queues) vertices i (get_or vertices i d) below (get_or_default vertices i d (get_or vertices i d) below) was
+    (found ∙ ap (λ (l : List McCopy). lesser_of least (least_own_packet app (packet_numbers_of l))) (lent_is ∙ (is ∙ get_or_default queues (get_or vertices i d) q [] (there i d below))))
 
 -- ---- the packets under way
 
@@ -229,6 +239,47 @@ module _ (s : State) where
       ∙ (ap (λ l. ((flat_map packet_numbers_of s.unsent ++ flat_map packet_numbers_of s.inputs) ++ flat_map held_packets l) ++ flat_map packet_numbers_of at_cores) is_hands
       ∙ ap (λ l. ((flat_map packet_numbers_of s.unsent ++ flat_map packet_numbers_of s.inputs) ++ flat_map held_packets s.hands) ++ flat_map packet_numbers_of l) is_cores))))
 
+  -- what these vertices have unsent is all that is under way, where they alone have packets unsent
+  in_sender : (vertices : List ℕ) → SendAlone vertices s → (n : ℕ) → Among n (under_way s) → Among n (flat_map (unsent_numbers s.unsent) vertices)
+  in_sender vertices alone n a = elim (among_either n ((flat_map packet_numbers_of s.unsent ++ flat_map packet_numbers_of s.inputs) ++ flat_map held_packets s.hands) (flat_map packet_numbers_of s.cores) a) [
+    | inr b ↦ absurd (no_copies s.cores n alone.quiet.cores_empty b)
+    | inl b ↦ elim (among_either n (flat_map packet_numbers_of s.unsent ++ flat_map packet_numbers_of s.inputs) (flat_map held_packets s.hands) b) [
+      | inr d ↦ absurd (no_hands s.hands n alone.quiet.hands_empty d)
+      | inl d ↦ elim (among_either n (flat_map packet_numbers_of s.unsent) (flat_map packet_numbers_of s.inputs) d) [
+        | inr e ↦ absurd (no_copies s.inputs n alone.quiet.inputs_empty e)
+        | inl e ↦
+            let queue = among_flat packet_numbers_of n s.unsent e in
+            let at = place_of queue.0 s.unsent queue.1 in
+            let own = sender_of at.0 queue.0 at.1 queue.2 in
+            flat_among (unsent_numbers s.unsent) n vertices at.0 (contains_among at.0 vertices own) (subst (λ (q : List McCopy). Among n (packet_numbers_of q)) (sym (get_or_from_slice_get s.unsent at.0 queue.0 [] at.1)) queue.2)
+      ]
+    ]
+  ]
+    where
+      no_copies : (queues : List (List McCopy)) (m : ℕ) → All (λ (q : List McCopy). q ≡ []) queues → Among m (flat_map packet_numbers_of queues) → ⊥
+      no_copies queues m empty b =
+          let queue = among_flat packet_numbers_of m queues b in
+          let none = All-contains (λ (q : List McCopy). q ≡ []) queues queue.0 empty (among_contains queue.0 queues queue.1) in
+          subst (λ (q : List McCopy). Among m (packet_numbers_of q)) none queue.2
+
+      no_hands : (hands : List (Option Hand)) (m : ℕ) → All (λ (h : Option Hand). h ≡ None) hands → Among m (flat_map held_packets hands) → ⊥
+      no_hands hands m empty b =
+          let hand = among_flat held_packets m hands b in
+          let none = All-contains (λ (h : Option Hand). h ≡ None) hands hand.0 empty (among_contains hand.0 hands hand.1) in
+          subst (λ (h : Option Hand). Among m (held_packets h)) none hand.2
+
+      sender_of : (v : ℕ) (q : List McCopy) → slice_get s.unsent v ≡ Some q → Among n (packet_numbers_of q) → Contains vertices v
+      sender_of v [] at b = absurd b
+      sender_of v (k ∷ rest) at b = alone.others v k rest at
+
+  of_sender : IsMesh s → (vertices : List ℕ) → SendAlone vertices s → (n : ℕ) → Among n (flat_map (unsent_numbers s.unsent) vertices) → Among n (under_way s)
+  of_sender mesh vertices alone n a =
+      let v = among_flat (unsent_numbers s.unsent) n vertices a in
+      let there = All-contains (λ w. w < length s.setup.spots) vertices v.0 alone.there (among_contains v.0 vertices v.1) in
+      let long = mesh.unsent_lists in
+      let at = slice_get-get_or s.unsent v.0 [] (omega (arith, there, long)) in
+      in_unsent n (flat_among packet_numbers_of n s.unsent (get_or s.unsent v.0 []) (among_at s.unsent v.0 (get_or s.unsent v.0 []) at) v.2)
+
   -- so the least found is the least that waits, and where none is found, none waits
   pub least_waits : IsMesh s → (app : LoadedApp) (o : Option ℕ) → o ≡ least_own_packet app (under_way s) → IfSome o (IsLeastUnderWay s app)
   least_waits mesh app o is = subst (λ (r : Option ℕ). IfSome r (IsLeastUnderWay s app)) (sym is) (by_least (least_own_packet app (under_way s)) (least_is app (under_way s)))
@@ -243,3 +294,23 @@ module _ (s : State) where
       by_least : (r : Option ℕ) → IsLeastIn app (under_way s) r → IfNone r (NoneUnderWay s app)
       by_least None none = λ q waits. none q (waits_listed app q waits) waits.0
       by_least (Some p) least = tt
+
+  -- the same where only vertices that may have packets unsent were looked at
+  module _ (mesh : IsMesh s) (app : LoadedApp) (vertices : List ℕ) (alone : SendAlone vertices s) (o : Option ℕ) (is : o ≡ least_own_packet app (flat_map (unsent_numbers s.unsent) vertices)) where
+    abbrev own : List ℕ
+    own = flat_map (unsent_numbers s.unsent) vertices
+
+    pub least_of_senders : IfSome o (IsLeastUnderWay s app)
+    least_of_senders = subst (λ (r : Option ℕ). IfSome r (IsLeastUnderWay s app)) (sym is) (by_least (least_own_packet app own) (least_is app own))
+      where
+        by_least : (r : Option ℕ) → IsLeastIn app own r → IfSome r (IsLeastUnderWay s app)
+        by_least None none = tt
+        by_least (Some p) least =
+            (listed_waits mesh app p least.1 (of_sender mesh vertices alone p least.0), λ q waits. least.2 q (in_sender vertices alone q (waits_listed app q waits)) waits.0)
+
+    pub none_of_senders : IfNone o (NoneUnderWay s app)
+    none_of_senders = subst (λ (r : Option ℕ). IfNone r (NoneUnderWay s app)) (sym is) (by_least (least_own_packet app own) (least_is app own))
+      where
+        by_least : (r : Option ℕ) → IsLeastIn app own r → IfNone r (NoneUnderWay s app)
+        by_least None none = λ q waits. none q (in_sender vertices alone q (waits_listed app q waits)) waits.0
+        by_least (Some p) least = tt

@@ -1,6 +1,6 @@
 -- The fields of a host that an application left, or left not.
-use Rattle.std.proofs.Common.{◌≡◌, ℕ, suc, ◌+◌, ◌*◌, ◌<◌, ◌==◌, Bool, false, List, ◌++◌, length, take, drop, get_or, sym, ap, ◌∙◌, subst, arith, None, Some, Result, Ok, OnOk, inl, inr}
-use Rattle.std.specs.Prelude.{is_some, position}
+use Rattle.std.proofs.Common.{◌≡◌, ℕ, suc, ◌*◌, ◌<◌, ◌==◌, Bool, false, List, ◌++◌, length, take, drop, get_or, sym, ap, ◌∙◌, subst, arith, Option, None, Some, Result, Ok, OnOk, inl, inr}
+use Rattle.std.specs.Prelude.{IfSome, is_some, position}
 use Rattle.std.specs.List.{slice_get, All, Contains}
 use Rattle.std.proofs.lemmas.Bool.{cases_Bool, eqb-true}
 use Rattle.std.proofs.lemmas.List.Elements.{All-weaker}
@@ -13,6 +13,7 @@ use Rattle.machine_desc.proofs.Far.{live_inside}
 use Rattle.machine_desc.proofs.Sites.{usable_parts}
 use Rattle.range_store.specs.Views.{Region}
 use Rattle.mesh_core.specs.State.{State}
+use Rattle.mesh_drain.specs.Draining.{SendAlone}
 use Rattle.app_loads.specs.declared.answers.Ended.{Ended}
 use Rattle.app_loads.specs.declared.answers.UnloadErr.{UnloadErr}
 use Rattle.app_loads.specs.declared.answers.UnloadErr.TheVariants.{NotLoaded, Waiting, Memory}
@@ -32,6 +33,7 @@ use Rattle.app_loads.proofs.FewClaims.{few_ranges}
 use Rattle.app_loads.proofs.LeftHost.{apps_left, has_unloaded, loaded_one, none_waits, taken_beside, tells_less}
 use Rattle.app_loads.proofs.LoadedParts.{one_host, still_host}
 use Rattle.app_loads.proofs.Others.{without_one}
+use Rattle.app_loads.proofs.Resting.{left_alone}
 
 -- where no place is found, the number is not loaded
 pub not_loaded : (apps : List LoadedApp) (number : ℕ) → position (λ (app : LoadedApp). app.number == number) apps ≡ None → is_loaded apps number ≡ false
@@ -95,6 +97,11 @@ module _ (i : Inside) (mesh : State) (is : i.mesh ≡ Some mesh) (host : IsHost 
     long = host.apps.rows.long;
   })
 
+  pub senders_known : (lent : Option (List ℕ)) → lent ≡ i.senders → IfSome lent (λ vertices. SendAlone vertices mesh)
+  senders_known lent lent_is =
+      subst (λ (o : Option (List ℕ)). IfSome o (λ vertices. SendAlone vertices mesh)) (sym lent_is)
+      (subst (λ (s : State). IfSome i.senders (λ vertices. SendAlone vertices s)) mesh_h host.rest)
+
   pub ok_none : NoneUnderWay mesh app → NoneWaits h number
   ok_none none = none_waits h host.apps number app in_apps its (subst (λ (s : State). NoneUnderWay s app) (sym mesh_h) none)
 
@@ -139,14 +146,17 @@ module _ (i : Inside) (mesh : State) (is : i.mesh ≡ Some mesh) (host : IsHost 
     pub ok_unloaded : HasUnloaded h number ended (host_of j)
     ok_unloaded = subst (HasUnloaded h number ended) (sym is_now) (has_unloaded h host.apps number app in_apps its given new old_is back_h ended result left_h none_h)
 
-    pub ok_host : (m : Description) (lent marked : List Bool) (spots : List Spot) → m ≡ mesh.setup.machine → lent ≡ i.taken.items → spots ≡ app.plan.spots → AreSpotsMarked m false spots lent marked → j.taken.items ≡ marked → IsHost j
-    ok_host m lent marked spots m_is lent_is spots_is marks j_taken = record {
+    pub ok_host : (m : Description) (lent marked : List Bool) (spots : List Spot) → m ≡ mesh.setup.machine → lent ≡ i.taken.items → spots ≡ app.plan.spots → AreSpotsMarked m false spots lent marked → j.taken.items ≡ marked → j.senders ≡ i.senders → IsHost j
+    ok_host m lent marked spots m_is lent_is spots_is marks j_taken j_senders = record {
       there = ap is_some j_mesh;
       apps = ok_apps;
       taken = subst (λ (l : List Bool). TellsTaken (host_of j).mesh.setup.machine j.apps.items l) (sym j_taken)
           (subst (λ (l : List LoadedApp). TellsTaken (host_of j).mesh.setup.machine l marked) (sym others_are)
           (subst (λ (d : Description). TellsTaken d (others_than number i.apps.items) marked) (sym same_machine)
           (tells_less h host.apps number app in_apps its i.taken.items marked host.taken marks_h)));
+      rest = subst (λ (o : Option State). IfSome j.senders (λ vertices. SendAlone vertices (mesh_in o))) (sym j_mesh)
+          (subst (λ (o : Option (List ℕ)). IfSome o (λ vertices. SendAlone vertices result)) (sym j_senders)
+          (left_alone app h.mesh result result.setup.tables i.senders left_h.mesh host.rest));
     }
       where
         same_machine : (host_of j).mesh.setup.machine ≡ h.mesh.setup.machine
@@ -164,8 +174,8 @@ module _ (i : Inside) (mesh : State) (is : i.mesh ≡ Some mesh) (host : IsHost 
     stays_same =
         one_host (mesh_in j.mesh) h.mesh (frees j.regions.items) h.regions j.apps.items h.apps j.packets h.packets (ap mesh_in j_mesh ∙ (refused ∙ sym mesh_h)) (ap frees j_regions ∙ (same ∙ old_is)) j_apps j_packets
 
-    pub stays_host : j.taken.items ≡ i.taken.items → IsHost j
-    stays_host table = still_host i j host (ap is_some j_mesh) stays_same table
+    pub stays_host : j.taken.items ≡ i.taken.items → j.senders ≡ i.senders → IsHost j
+    stays_host table senders = still_host i j host (ap is_some j_mesh) stays_same table senders
 
   pub why_stays : (cause : UnloadErr) → IsWhyHere mesh app cause → IsWhyNotUnloaded h number cause
   why_stays cause why = by_cause cause (subst (λ (s : State). IsWhyHere s app cause) (sym mesh_h) why)

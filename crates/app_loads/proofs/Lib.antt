@@ -22,6 +22,7 @@ pub mod OneClaim
 mod Others
 mod PacketLedger
 mod RegionLaws
+mod Resting
 mod RightRows
 mod RowClaims
 mod Unsent

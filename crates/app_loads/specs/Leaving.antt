@@ -1,6 +1,6 @@
 -- The packets of one application among all that a mesh has: which of them are under way, and what leaves with the application
 -- when it is unloaded (this project's own).
-use Rattle.std.specs.Prelude.{◌≡◌, ℕ, ◌+◌, ◌≤◌, ◌==◌, Bool, true, not, ◌&&◌, nat_le, nat_lt, min, List, [], ◌∷◌, Option, Some, None, if◌then◌else◌, Contains, length, map, filter}
+use Rattle.std.specs.Prelude.{◌≡◌, ℕ, ◌+◌, ◌≤◌, ◌==◌, Bool, true, not, ◌&&◌, nat_le, nat_lt, min, List, [], ◌∷◌, Option, Some, None, if◌then◌else◌, Contains, length, map, filter, slice_index_or}
 use Rattle.spin_base.specs.declared.blocks.Entry.{Entry}
 use Rattle.spin_base.specs.declared.copies.Delivery.{Delivery}
 use Rattle.spin_base.specs.declared.copies.DumpRec.{DumpRec}
@@ -54,6 +54,10 @@ least_own_packet app (packet ∷ packets) = lesser_of (own_packet app packet) (l
 -- the packets of the copies of a queue
 abbrev pub packet_numbers_of : List McCopy → List ℕ
 packet_numbers_of copies = map (λ (k : McCopy). k.packet) copies
+
+-- the packets of the copies that a vertex has unsent
+abbrev pub unsent_numbers : List (List McCopy) → ℕ → List ℕ
+unsent_numbers queues v = packet_numbers_of (slice_index_or queues v [])
 
 -- the packet of the copy in a router's hand, if it has one
 abbrev pub held_packets : Option Hand → List ℕ

@@ -1,12 +1,15 @@
 -- Packets put to the vertices of their nets' sources, as the private functions say it.
-use Rattle.std.specs.Prelude.{◌≡◌, ℕ, ◌+◌, ◌^◌, ◌<◌, List, [], All, Contains, Some, length, slice_get}
+use Rattle.std.specs.Prelude.{◌≡◌, ℕ, ◌+◌, ◌^◌, ◌<◌, List, [], ◌++◌, All, Contains, Option, Some, length, slice_get}
 use Rattle.spin_base.specs.declared.blocks.Block.{Block}
 use Rattle.spin_base.specs.declared.chips.Spot.{Spot}
 use Rattle.spin_base.specs.declared.copies.McCopy.{McCopy}
 use Rattle.spin_base.specs.declared.copies.Packet.{Packet}
 use Rattle.machine_desc.specs.Live.{IsInside}
 use Rattle.machine_desc.specs.NetsOn.{vertex_at}
-use Rattle.mesh_core.specs.State.{Setup}
+use Rattle.mesh_core.specs.State.{Setup, State, vertex_behind}
+use Rattle.std.specs.List.{flat_map}
+use Rattle.std.specs.Option.{option_to_list}
+use Rattle.spin_base.specs.declared.routes.Out.TheVariants.{Core}
 use Rattle.app_loads.specs.declared.loaded.LoadedApp.{LoadedApp}
 use Rattle.app_loads.specs.declared.plans.AppNet.{AppNet}
 use Rattle.app_loads.specs.Joining.{NoneUnsent}
@@ -17,6 +20,16 @@ pub record IsSendingFrom (u : Setup) (net : AppNet) : Type 0 where
   pub core : net.source.core < 24
   pub vertex : ℕ
   pub is : vertex_at u.spots net.source ≡ Some vertex
+
+-- the vertex of a net's source, if there is one
+abbrev pub source_vertex : List Spot → AppNet → List ℕ
+source_vertex spots net = option_to_list (vertex_behind spots net.source.chip (Core net.source.core))
+
+-- The vertices were known before, and those of the nets' sources came to them.
+pub record AreWithSources (s : State) (nets : List AppNet) (before : Option (List ℕ)) (vertices : List ℕ) : Type 0 where
+  pub was : List ℕ
+  pub is : before ≡ Some was
+  pub all : vertices ≡ was ++ flat_map (source_vertex s.setup.spots) nets
 
 -- each net's source has the vertex of its place in the list
 pub record AreSources (spots : List Spot) (nets : List AppNet) (sources : List ℕ) : Type 0 where

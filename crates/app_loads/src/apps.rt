@@ -10,7 +10,7 @@ use crate::opening::{bare_mesh, none_taken, open_regions};
 use machine_desc::Machine;
 use mesh_core::Mesh;
 use range_store::Ranges;
-use spin_base::{Memory, Spot};
+use spin_base::{Memory, Seq, Spot};
 use std::alloc::Global;
 use std::marker::Model;
 
@@ -31,6 +31,8 @@ pub struct Apps {
     pub(crate) packets: u32,
     // Whether a loaded application has the spot, by the spot's place: 24 a chip.
     pub(crate) taken: Vec<bool>,
+    // Where it is known that no copy waits: the vertices that may have packets unsent.
+    pub(crate) senders: Option<Seq<usize>>,
 }
 
 impl Model for Apps {
@@ -68,6 +70,7 @@ impl Apps {
             apps: Vec::new(alloc),
             packets: 0,
             taken,
+            senders: None,
         })
     }
 

@@ -1,8 +1,9 @@
 // What leaves a mesh with an application: its deliveries and dump records, once none of its packets is under way.
-ghost use Rattle.std.specs.Prelude.{◌≡◌, [], ◌∷◌, ◌++◌, not, if◌then◌else◌, filter, IfOk, IfSome, IfNone, OnOk};
+ghost use Rattle.std.specs.Prelude.{◌≡◌, [], ◌∷◌, ◌++◌, not, if◌then◌else◌, ◌<◌, filter, All, length, IfOk, IfSome, IfNone, OnOk};
 ghost use Rattle.std.specs.List.{flat_map};
 ghost use Rattle.mesh_core.specs.State.{IsMesh};
-ghost use Rattle.app_loads.specs.Leaving.{is_packet_of, is_delivery_of, is_record_of, IsPartedBy, IsLeastUnderWay, NoneUnderWay, lesser_of, own_packet, least_own_packet, packet_numbers_of, held_packets};
+ghost use Rattle.mesh_drain.specs.Draining.{SendAlone};
+ghost use Rattle.app_loads.specs.Leaving.{is_packet_of, is_delivery_of, is_record_of, IsPartedBy, IsLeastUnderWay, NoneUnderWay, lesser_of, own_packet, least_own_packet, packet_numbers_of, held_packets, unsent_numbers};
 
 use crate::answers::Ended;
 use crate::loaded::LoadedApp;
@@ -88,8 +89,39 @@ fn is_packet_of(app: &LoadedApp, packet: u32) -> bool
     packet >= app.first && ((packet - app.first) as usize) < app.plan.packets.len()
 }
 
-// The least number of a packet of the application of which a copy is unsent or waits, if there is one.
-pub fn least_waiting(parts: &MeshParts, app: &LoadedApp) -> Option<u32>
+// The least number of a packet of the application of which a copy is unsent or waits, if there is one. Where it is known that no
+// copy waits, only the vertices that may have packets unsent are looked at.
+pub fn least_waiting(
+    parts: &MeshParts,
+    senders: &Option<Seq<usize>>,
+    app: &LoadedApp,
+) -> Option<u32>
+    requires mesh { IsMesh parts.now }
+    requires known { IfSome senders.now (λ vertices. SendAlone vertices parts.now) }
+    ensures some { IfSome result (IsLeastUnderWay parts.now app.now) }
+    ensures none { IfNone result (NoneUnderWay parts.now app.now) }
+{
+    match senders {
+        Some(vertices) => least_unsent(parts.unsent.as_slice(), vertices.as_slice(), app),
+        None => least_of_all(parts, app),
+    }
+}
+
+// The least of the application's packets that these vertices have not sent.
+fn least_unsent(unsent: &[Fifo<McCopy>], vertices: &[usize], app: &LoadedApp) -> Option<u32>
+    requires { All (λ v. v < length unsent.now) vertices.now }
+    ensures { result
+        ≡ least_own_packet app.now (flat_map (unsent_numbers unsent.now) vertices.now) }
+{
+    let mut least = None;
+    for vertex in vertices {
+        least = least_in(unsent[*vertex].as_slice(), app, least);
+    }
+    least
+}
+
+// The least of all packets of the application that are unsent or wait anywhere.
+fn least_of_all(parts: &MeshParts, app: &LoadedApp) -> Option<u32>
     requires { IsMesh parts.now }
     ensures some { IfSome result (IsLeastUnderWay parts.now app.now) }
     ensures none { IfNone result (NoneUnderWay parts.now app.now) }

@@ -15,7 +15,7 @@ use crate::loaded::{Claim, LoadedApp, Range};
 use crate::plans::AppPlan;
 use crate::regions::{give_all, take_all};
 use crate::rows::{tables_of, write_rows};
-use crate::sends::send;
+use crate::sends::{send, with_sources};
 use machine_desc::Machine;
 use mesh_core::{Mesh, MeshSetup};
 use range_store::Ranges;
@@ -60,6 +60,7 @@ impl Apps {
                     true,
                 );
                 self.packets += app.plan.packets.len() as u32;
+                self.senders = with_sources(self.senders.take(), &mesh, app.plan.nets.as_slice());
                 put(&mut self.mesh, mesh);
                 self.apps.push_reserved(app);
                 Ok(())

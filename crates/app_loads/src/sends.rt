@@ -1,13 +1,16 @@
 // An application's packets put to the vertices that send them.
-ghost use Rattle.std.specs.Prelude.{◌≡◌, ◌+◌, ◌<◌, List, All, IfOk, OnOk, OnErr, length};
-ghost use Rattle.spin_base.specs.declared.chips.Spot.{Spot};
+ghost use Rattle.std.specs.Prelude.{◌≡◌, ◌+◌, ◌<◌, ◌++◌, List, All, IfOk, IfSome, OnOk, OnErr, length};
+ghost use Rattle.std.specs.Option.{option_to_list};
+ghost use Rattle.mesh_core.specs.State.{vertex_behind};
+ghost use Rattle.spin_base.specs.declared.routes.Out.TheVariants.{Core};
+ghost use Rattle.spin_base.specs.declared.chips.Spot.{Spot as ASpot};
 ghost use Rattle.app_loads.specs.Joining.{AreAllSent};
-ghost use Rattle.app_loads.specs.Sending.{AreCleared, AreSources, CanAdd, CanSend, IsSameBeside, IsSendingFrom};
+ghost use Rattle.app_loads.specs.Sending.{AreCleared, AreSources, AreWithSources, CanAdd, CanSend, IsSameBeside, IsSendingFrom};
 
 use crate::loaded::LoadedApp;
 use crate::plans::AppNet;
-use mesh_core::MeshSetup;
-use spin_base::{Fifo, McCopy, Memory};
+use mesh_core::{Mesh, MeshSetup, Queue};
+use spin_base::{Fifo, McCopy, Memory, Out, Seq, Spot};
 use std::alloc::Global;
 
 // Puts the application's packets to the vertices of their nets' sources. After a refusal these have sent none.
@@ -52,7 +55,7 @@ fn add_packets(
     app: &LoadedApp,
 ) -> Result<(), Memory>
     requires { CanAdd sources.now app.now unsent.old }
-    ensures sent { OnOk result ((spots : List Spot) →
+    ensures sent { OnOk result ((spots : List ASpot) →
         AreSources spots app.now.plan.nets sources.now
         → AreAllSent spots app.now unsent.old unsent.new) }
     ensures refused { OnErr result (IsSameBeside sources.now unsent.old unsent.new) }
@@ -77,5 +80,27 @@ fn clear(alloc: Global, unsent: &mut [Fifo<McCopy>], sources: &[usize])
 {
     for source in sources {
         unsent[*source] = Fifo::new(alloc);
+    }
+}
+
+// The vertices that may have packets unsent, with those of the nets' sources, where they are known and there is memory to add these.
+pub fn with_sources(senders: Option<Seq<usize>>, mesh: &Mesh, nets: &[AppNet]) -> Option<Seq<usize>>
+    ensures { IfSome result (AreWithSources mesh.now nets.now senders) }
+{
+    let mut vertices = senders?;
+    for net in nets {
+        push_source(&mut vertices, mesh, net.source).ok()?;
+    }
+    Some(vertices)
+}
+
+// The vertex on a spot at the back of the list, if there is one.
+fn push_source(vertices: &mut Seq<usize>, mesh: &Mesh, source: Spot) -> Result<(), Memory>
+    ensures { OnOk result (vertices.new ≡ vertices.old
+        ++ option_to_list (vertex_behind mesh.now.setup.spots source.chip (Core source.core))) }
+{
+    match mesh.behind(source.chip, Out::Core(source.core)) {
+        Queue::Core(vertex) => vertices.push(vertex),
+        Queue::Input(_) | Queue::Nowhere => Ok(()),
     }
 }

@@ -21,6 +21,7 @@ impl Apps {
         ensures err { OnErr result (self.new ≡ self.old) }
         ensures apps { AreApps self.new }
     {
+        self.senders = None;
         let Some(mesh) = &mut self.mesh else {
             return Ok(Did::Idle);
         };

@@ -1,5 +1,6 @@
 // An application unloaded.
-ghost use Rattle.std.specs.Prelude.{◌≡◌, ◌==◌, ◌<◌, ◌≤◌, All, IfOk, IfErr, OnOk, OnErr, length, position};
+ghost use Rattle.std.specs.Prelude.{◌≡◌, ◌==◌, ◌<◌, ◌≤◌, All, IfOk, IfErr, IfSome, OnOk, OnErr, length, position};
+ghost use Rattle.mesh_drain.specs.Draining.{SendAlone};
 ghost use Rattle.app_loads.specs.declared.loaded.LoadedApp.{LoadedApp as AnApp};
 ghost use Rattle.app_loads.specs.declared.loaded.Range.{Range as ARange};
 ghost use Rattle.app_loads.specs.Applications.{AreApps};
@@ -42,7 +43,13 @@ impl Apps {
         let Some(mesh) = self.mesh.take() else {
             return Err(UnloadErr::Memory);
         };
-        let (mesh, left) = leave(alloc, mesh, &mut self.regions, &self.apps[at]);
+        let (mesh, left) = leave(
+            alloc,
+            mesh,
+            &mut self.regions,
+            &self.senders,
+            &self.apps[at],
+        );
         match left {
             Ok(ended) => {
                 let app = self.apps.remove(at);
@@ -76,9 +83,11 @@ fn leave(
     alloc: Global,
     mesh: Mesh,
     regions: &mut [Ranges],
+    senders: &Option<Seq<usize>>,
     app: &LoadedApp,
 ) -> (Mesh, Result<Ended, UnloadErr>)
-    requires { CanLeave mesh regions.old app.now }
+    requires can { CanLeave mesh regions.old app.now }
+    requires known { IfSome senders.now (λ vertices. SendAlone vertices mesh) }
     ensures left { IfOk result.1 (λ ended. HasLeft app.now mesh ended result.0) }
     ensures none { OnOk result.1 (NoneUnderWay mesh app.now) }
     ensures given { OnOk result.1
@@ -88,7 +97,7 @@ fn leave(
     ensures back { OnErr result.1 (frees regions.new ≡ frees regions.old) }
 {
     let mut parts = mesh.take_apart();
-    if let Some(packet) = least_waiting(&parts, app) {
+    if let Some(packet) = least_waiting(&parts, senders, app) {
         return (
             Mesh::put_together(parts),
             Err(UnloadErr::Waiting { packet }),

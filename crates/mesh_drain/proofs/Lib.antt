@@ -7,3 +7,4 @@ pub mod Progress
 mod Steps
 mod Turns
 mod Unsent
+pub mod Senders

@@ -1,5 +1,5 @@
 -- What the calls of a packet under way leave, as they follow on each other.
-use Rattle.std.proofs.Common.{◌≡◌, ◌≢◌, ◌==◌, true, false, ℕ, suc, ◌+◌, ◌<◌, ◌≤◌, set, get_or, drop, refl, sym, ap, ◌∙◌, subst, arith, List, [], ◌∷◌, ◌++◌, length, Option, Some, None, Bool}
+use Rattle.std.proofs.Common.{◌≡◌, ◌≢◌, ◌==◌, true, false, ℕ, suc, ◌+◌, ◌<◌, ◌≤◌, set, get_or, drop, refl, sym, ap, ◌∙◌, subst, arith, List, [], ◌∷◌, ◌++◌, length, Some}
 use Rattle.std.specs.List.{slice_get, All}
 use Rattle.std.specs.Option.{option_to_list}
 use Rattle.std.specs.Prelude.{OnOk, Result, Ok, Err}
@@ -7,17 +7,15 @@ use Rattle.std.proofs.Math.Seq.{drop-cons}
 use Rattle.std.proofs.lemmas.List.{length-append, get_or-set_same, get_or_default, set-get_or}
 use Rattle.std.proofs.lemmas.Option.{slice_get-get_or, slice_get_within, get_or_from_slice_get}
 use Rattle.spin_base.specs.declared.chips.Chip.{Chip}
-use Rattle.spin_base.specs.declared.chips.Dir.{Dir}
 use Rattle.spin_base.specs.declared.chips.Spot.{Spot}
 use Rattle.spin_base.specs.declared.chips.Port.TheVariants.{Local}
 use Rattle.spin_base.specs.declared.routes.Out.{Out}
-use Rattle.spin_base.specs.declared.routes.Out.TheVariants.{Link, Core}
 use Rattle.spin_base.specs.declared.copies.McCopy.{McCopy}
 use Rattle.spin_base.specs.declared.copies.Event.TheVariants.{Inject, Take, Send, Collect}
 use Rattle.std.proofs.lemmas.Bool.{eqb-true}
 use Rattle.machine_desc.specs.Description.{Description}
-use Rattle.machine_desc.specs.Live.{far_of, index_of, is_live_link}
-use Rattle.mesh_core.specs.State.{Setup, State, Queue, input, core, nowhere, behind, behind_link}
+use Rattle.machine_desc.specs.Live.{index_of}
+use Rattle.mesh_core.specs.State.{Setup, State, Queue, input, core, nowhere, behind}
 use Rattle.mesh_core.proofs.Fixed.{after_event_setup}
 use Rattle.mesh_core.specs.Step.{after_event}
 use Rattle.mesh_drain.specs.declared.draining.Waiting.{Waiting}

@@ -1,6 +1,7 @@
 -- Meshes that can be drained, and what is reached by events (this project's own).
-use Rattle.std.specs.Prelude.{◌≡◌, ◌≤◌, ℕ, List, All, length}
+use Rattle.std.specs.Prelude.{◌≡◌, ◌<◌, ◌≤◌, ℕ, List, ◌∷◌, All, Contains, Some, length, slice_get}
 use Rattle.spin_base.specs.declared.copies.Event.{Event}
+use Rattle.spin_base.specs.declared.copies.McCopy.{McCopy}
 use Rattle.spin_base.specs.declared.copies.Packet.{Packet}
 use Rattle.machine_desc.specs.declared.nets.NetPlan.{NetPlan}
 use Rattle.machine_desc.specs.RightTables.{AreRight}
@@ -30,6 +31,12 @@ pub record IsReachedDropless (before after : State) : Type 0 where
 pub record IsAfter (before after : State) : Type 0 where
   pub events : List Event
   pub is : after ≡ after_events before events
+
+-- No copy waits, and no vertex but these has packets unsent.
+pub record SendAlone (vertices : List ℕ) (s : State) : Type 0 where
+  pub quiet : NothingWaits s
+  pub there : All (λ v. v < length s.setup.spots) vertices
+  pub others : (v : ℕ) (k : McCopy) (rest : List McCopy) → slice_get s.unsent v ≡ Some (k ∷ rest) → Contains vertices v
 
 -- Where each queue has a place for every packet of a job whose ledger the mesh meets, no dump record has come.
 abbrev pub DropsNoneWhereRoomy : State → State → Type 0

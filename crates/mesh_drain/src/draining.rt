@@ -7,7 +7,7 @@ ghost use Rattle.spin_base.specs.declared.copies.Event.TheVariants.{Collect};
 ghost use Rattle.machine_desc.specs.Live.{index_of, IsInside};
 ghost use Rattle.mesh_core.specs.Step.{after_event};
 ghost use Rattle.mesh_core.specs.Expected.{IsAtRest, NothingWaits};
-ghost use Rattle.mesh_drain.specs.Draining.{MeetsSomeLedger, IsReachedDropless, IsMoved, DropsNoneWhereRoomy};
+ghost use Rattle.mesh_drain.specs.Draining.{MeetsSomeLedger, IsReachedDropless, IsMoved, DropsNoneWhereRoomy, SendAlone};
 ghost use Rattle.mesh_drain.specs.UnderWay.{work, outs_in, next_place, IsAloneUnderWay, IsServing};
 
 use crate::settling::settle;
@@ -34,6 +34,24 @@ pub fn drain(alloc: Global, mesh: &mut Mesh) -> Result<(), Memory>
     a_roomy_mesh_drops_nothing();
     settle(mesh)?;
     send_each(alloc, mesh)
+}
+
+/// The same where no copy waits, and no vertex but these has packets unsent. Besides what it moves it takes time as these vertices.
+///
+/// # Errors
+///
+/// `Memory` where memory runs out. Each copy is then where some events brought it.
+pub fn drain_from(alloc: Global, mesh: &mut Mesh, vertices: &[usize]) -> Result<(), Memory>
+    requires kept { MeetsSomeLedger mesh.old }
+    requires alone { SendAlone vertices.now mesh.old }
+    ensures at_rest { OnOk result (IsAtRest mesh.new) }
+    ensures moved { IsMoved mesh.old mesh.new }
+{
+    let mut waiting = Vec::new(alloc);
+    for vertex in vertices {
+        send_all(mesh, &mut waiting, *vertex as u32)?;
+    }
+    Ok(())
 }
 
 // All vertices send all their packets, one after the other.

@@ -1,20 +1,23 @@
-use Rattle.std.proofs.Common.{◌≡◌, ap, ◌∙◌}
+use Rattle.std.proofs.Common.{◌≡◌, ◌∙◌, ℕ, List, Option, ap, subst}
+use Rattle.std.specs.Prelude.{IfSome}
+use Rattle.std.specs.List.{flat_map}
 use Rattle.mesh_core.specs.State.{State}
-use Rattle.app_loads.specs.Leaving.{least_own_packet}
-use Rattle.app_loads.proofs.LeavingLeast.{under_way, scanned, least_waits, none_waits}
+use Rattle.mesh_drain.specs.Draining.{SendAlone}
+use Rattle.app_loads.specs.Leaving.{least_own_packet, unsent_numbers}
+use Rattle.app_loads.proofs.LeavingLeast.{least_of_senders, none_of_senders}
 use Rattle.app_loads.proofs.leaving.least_waiting.Goals as goal
 
--- the four scans together find the least of all
-least_is : (c : goal.After-least_in_queues) → c.least_in_queues.result ≡ least_own_packet c.args.app.now (under_way c.args.parts.now)
+alone : (c : goal.After-least_unsent) → SendAlone c.in-Some.vertices c.args.parts.now
+alone c = subst (λ (o : Option (List ℕ)). IfSome o (λ vertices. SendAlone vertices c.args.parts.now)) c.in-Some.is c.requires.known
+
+least_is : (c : goal.After-least_unsent) → c.least_unsent.result ≡ least_own_packet c.args.app.now (flat_map (unsent_numbers c.args.parts.now.unsent) c.in-Some.vertices)
 least_is c =
-    scanned c.args.parts.now c.args.app.now c.as_slice.result.now c.as_slice-2.result.now c.as_slice-4.result.now c.as_slice-3.result.now
-    c.least_in_queues-unsent.result c.least_in_queues-inputs.result c.least_in_hands-hands.result c.least_in_queues.result
-    (c.as_slice.ensures.value ∙ ap (λ (s : State). s.unsent) c.parts.view_is) (c.as_slice-2.ensures.value ∙ ap (λ (s : State). s.inputs) c.parts.view_is)
-    (c.as_slice-3.ensures.value ∙ ap (λ (s : State). s.hands) c.parts.view_is) (c.as_slice-4.ensures.value ∙ ap (λ (s : State). s.cores) c.parts.view_is)
-    c.least_in_queues-unsent.ensures c.least_in_queues-inputs.ensures c.least_in_hands-hands.ensures c.least_in_queues.ensures
+    c.least_unsent.ensures
+    ∙ (ap (λ q. least_own_packet c.args.app.now (flat_map (unsent_numbers q) c.as_slice-in-Some.result.now)) (c.as_slice.ensures.value ∙ ap (λ (s : State). s.unsent) c.parts.view_is)
+    ∙ ap (λ l. least_own_packet c.args.app.now (flat_map (unsent_numbers c.args.parts.now.unsent) l)) c.as_slice-in-Some.ensures)
 
-pub returns-clause-some : goal.returns-clause-some
-returns-clause-some c = least_waits c.args.parts.now c.requires c.args.app.now c.least_in_queues.result (least_is c)
+pub returns-in-Some-clause-some : goal.returns-in-Some-clause-some
+returns-in-Some-clause-some c = least_of_senders c.args.parts.now c.requires.mesh c.args.app.now c.in-Some.vertices (alone c) c.least_unsent.result (least_is c)
 
-pub returns-clause-none : goal.returns-clause-none
-returns-clause-none c = none_waits c.args.parts.now c.args.app.now c.least_in_queues.result (least_is c)
+pub returns-in-Some-clause-none : goal.returns-in-Some-clause-none
+returns-in-Some-clause-none c = none_of_senders c.args.parts.now c.requires.mesh c.args.app.now c.in-Some.vertices (alone c) c.least_unsent.result (least_is c)

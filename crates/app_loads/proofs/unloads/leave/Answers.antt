@@ -1,7 +1,9 @@
 use Rattle.std.proofs.Common.{◌∙◌, ◌<◌, sym, subst, List, length}
+use Rattle.std.specs.Prelude.{IfSome}
 use Rattle.std.proofs.lemmas.List.Elements.{All-weaker}
 use Rattle.mesh_core.specs.InParts.{state_in}
 use Rattle.mesh_core.specs.State.{State, IsMesh}
+use Rattle.mesh_drain.specs.Draining.{SendAlone}
 use Rattle.app_loads.specs.declared.loaded.Range.{Range}
 use Rattle.app_loads.specs.Leaving.{IsLeastUnderWay}
 use Rattle.app_loads.specs.Regions.{IsRangeWithin}
@@ -10,7 +12,10 @@ use Rattle.app_loads.proofs.LeftMesh.{can_clear, parted_whole, taken_still}
 use Rattle.app_loads.proofs.unloads.leave.Goals as goal
 
 pub least_waiting-requires : goal.least_waiting-requires
-least_waiting-requires c = subst IsMesh (sym c.take_apart-parts.ensures.parts) c.take_apart-parts.ensures.mesh
+least_waiting-requires c = record {
+  mesh = subst IsMesh (sym c.take_apart-parts.ensures.parts) c.take_apart-parts.ensures.mesh;
+  known = subst (λ (s : State). IfSome c.args.senders.now (λ vertices. SendAlone vertices s)) (sym c.take_apart-parts.ensures.parts) c.requires.known;
+}
 
 pub put_together-requires : goal.put_together-requires
 put_together-requires c = subst IsMesh (sym c.take_apart-parts.ensures.parts) c.take_apart-parts.ensures.mesh
@@ -26,7 +31,7 @@ returns-in-Some-clause-mesh_refused c = c.put_together.ensures ∙ c.take_apart-
 
 pub make_ready-requires-clause-there : goal.make_ready-requires-clause-there
 make_ready-requires-clause-there c =
-    All-weaker (IsRangeWithin c.args.mesh.setup.machine (length c.args.regions.now)) (λ (r : Range). r.region < length c.args.regions.now) (λ r within. within.there) c.args.app.now.ranges c.requires.taken.within
+    All-weaker (IsRangeWithin c.args.mesh.setup.machine (length c.args.regions.now)) (λ (r : Range). r.region < length c.args.regions.now) (λ r within. within.there) c.args.app.now.ranges c.requires.can.taken.within
 
 pub returns-in-Err-clause-back : goal.returns-in-Err-clause-back
 returns-in-Err-clause-back c = c.make_ready.ensures.same
@@ -34,8 +39,8 @@ returns-in-Err-clause-back c = c.make_ready.ensures.same
 pub give_all-requires-clause-taken : goal.give_all-requires-clause-taken
 give_all-requires-clause-taken c = (
   c.args.mesh.setup.machine,
-  c.requires.others,
-  taken_still c.args.mesh.setup.machine c.requires.others c.args.app.now.ranges c.as_slice.result.now c.args.regions.now c.make_ready.new.regions c.make_ready.ensures.same c.as_slice.ensures c.requires.taken,
+  c.requires.can.others,
+  taken_still c.args.mesh.setup.machine c.requires.can.others c.args.app.now.ranges c.as_slice.result.now c.args.regions.now c.make_ready.new.regions c.make_ready.ensures.same c.as_slice.ensures c.requires.can.taken,
 )
 
 pub give_all-requires-clause-room : goal.give_all-requires-clause-room
@@ -43,7 +48,7 @@ give_all-requires-clause-room c = subst (λ (l : List Range). HaveRoom l c.make_
 
 pub uninstall-requires : goal.uninstall-requires
 uninstall-requires c =
-    can_clear (state_in c.parts.inside) c.args.mesh (c.parts.view_is ∙ c.take_apart-parts.ensures.parts) c.take_apart-parts.ensures.mesh c.args.regions.now c.args.app.now c.requires c.as_slice-in-Ok.result.now c.as_slice-in-Ok.ensures
+    can_clear (state_in c.parts.inside) c.args.mesh (c.parts.view_is ∙ c.take_apart-parts.ensures.parts) c.take_apart-parts.ensures.mesh c.args.regions.now c.args.app.now c.requires.can c.as_slice-in-Ok.result.now c.as_slice-in-Ok.ensures
 
 pub put_together-requires-in-Ok : goal.put_together-requires-in-Ok
 put_together-requires-in-Ok c =

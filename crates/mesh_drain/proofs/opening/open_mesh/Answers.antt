@@ -1,9 +1,8 @@
-use Rattle.std.proofs.Common.{◌≡◌, sym, ap, ◌∙◌, subst, []}
+use Rattle.std.proofs.Common.{◌≡◌, sym, ap, subst, []}
 use Rattle.std.specs.List.{All, Contains}
 use Rattle.machine_desc.specs.declared.nets.NetPlan.{NetPlan}
 use Rattle.mesh_core.specs.State.{State, Setup}
 use Rattle.mesh_core.specs.Opened.{opened_mesh}
-use Rattle.mesh_drain.specs.Opening.{source_vertex_of}
 use Rattle.mesh_drain.proofs.Opened.{opens}
 use Rattle.mesh_drain.proofs.opening.open_mesh.Goals as goal
 

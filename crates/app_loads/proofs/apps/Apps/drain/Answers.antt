@@ -1,20 +1,23 @@
-use Rattle.app_loads.proofs.Hosts.{apps_after_in, host_after, host_kept, host_moved}
+use Rattle.app_loads.proofs.Hosts.{apps_after_in, host_after, host_kept, host_moved, known_in}
 use Rattle.mesh_drain.proofs.Moving.{after_moved}
 use Rattle.app_loads.proofs.apps.Apps.drain.Goals as goal
 
-pub drain-requires : goal.drain-requires
-drain-requires c = host_kept c.self.inside c.in-Some.mesh c.self.invariant c.in-Some.is
+pub drain_known-requires : goal.drain_known-requires
+drain_known-requires c = record {
+  kept = host_kept c.self.inside c.in-Some.mesh c.self.invariant c.in-Some.is;
+  known = known_in c.self.inside c.in-Some.mesh c.self.invariant c.in-Some.is;
+}
 
 pub invariant_of-self-2 : goal.invariant_of-self-2
 invariant_of-self-2 c =
-    host_after c.self.inside c.in-Some.mesh c.drain.new.mesh c.self.invariant c.in-Some.is
-    (after_moved c.in-Some.mesh c.drain.new.mesh c.drain.ensures.moved)
+    host_after c.self.inside c.in-Some.mesh c.drain_known.new.mesh c.drain_known.new.senders c.self.invariant c.in-Some.is
+    (after_moved c.in-Some.mesh c.drain_known.new.mesh c.drain_known.ensures.moved) c.drain_known.ensures.known
 
 pub returns-clause-moved : goal.returns-clause-moved
 returns-clause-moved c =
-    host_moved c.self.inside c.in-Some.mesh c.drain.new.mesh c.args.self.now c.self.view_is c.in-Some.is c.drain.ensures.moved
+    host_moved c.self.inside c.in-Some.mesh c.drain_known.new.mesh c.args.self.now c.self.view_is c.in-Some.is c.drain_known.ensures.moved
 
 pub returns-clause-apps : goal.returns-clause-apps
 returns-clause-apps c =
-    apps_after_in c.self.inside c.in-Some.mesh c.drain.new.mesh c.self.invariant c.in-Some.is
-    (after_moved c.in-Some.mesh c.drain.new.mesh c.drain.ensures.moved)
+    apps_after_in c.self.inside c.in-Some.mesh c.drain_known.new.mesh c.self.invariant c.in-Some.is
+    (after_moved c.in-Some.mesh c.drain_known.new.mesh c.drain_known.ensures.moved)

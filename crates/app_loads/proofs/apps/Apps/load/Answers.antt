@@ -1,6 +1,6 @@
-use Rattle.std.proofs.Common.{◌≡◌, ◌∙◌, ◌+◌, ◌≤◌, ◌++◌, ◌∷◌, [], refl, sym, ap, subst, arith, length, List}
+use Rattle.std.proofs.Common.{◌≡◌, ◌∙◌, ◌+◌, ◌≤◌, ◌++◌, ◌∷◌, [], refl, sym, ap, subst, arith, length, List, Option, ℕ}
 use Rattle.std.specs.List.{AllPairs}
-use Rattle.std.specs.Prelude.{vec_capacity, vec_len}
+use Rattle.std.specs.Prelude.{IfSome, vec_capacity, vec_len}
 use Rattle.std.specs.Vec.{with_items}
 use Rattle.std.proofs.lemmas.List.{with_items_is}
 use Rattle.std.proofs.lemmas.Result.{IfOk-at_ok, IfErr-at_err}
@@ -17,6 +17,7 @@ use Rattle.app_loads.specs.Joining.{IsServedApp, IsSettled}
 use Rattle.app_loads.specs.Loading.{HasLoaded, IsWhyNotLoaded}
 use Rattle.app_loads.specs.Plans.{MayLoad}
 use Rattle.app_loads.specs.Regions.{ShareNoPlace, AreFreeBeside}
+use Rattle.app_loads.specs.Sending.{AreWithSources}
 use Rattle.app_loads.specs.Taking.{IsDueAlways, frees}
 use Rattle.app_loads.proofs.LoadedParts.{can_join, err_host, err_same, err_why, never_none, on_ok, ok_apps, ok_host, ok_loaded, on_err, one_host, packets_fit, spots_inside, spots_numbered, still_host, table_long}
 use Rattle.app_loads.proofs.apps.Apps.load.Goals as goal
@@ -31,7 +32,7 @@ pub returns-then-loaded-clause-apps : goal.returns-then-loaded-clause-apps
 returns-then-loaded-clause-apps c = subst AreApps c.self.view_is c.self.invariant.apps
 
 pub invariant_of-self : goal.invariant_of-self
-invariant_of-self c = still_host c.self.inside (record { mesh = c.self.inside.mesh; regions = c.self.inside.regions; apps = c.reserve.new.self; packets = c.self.inside.packets; taken = c.self.inside.taken }) c.self.invariant c.self.invariant.there (one_host (mesh_in c.self.inside.mesh) (mesh_in c.self.inside.mesh) (frees c.self.inside.regions.items) (frees c.self.inside.regions.items) c.reserve.new.self.items c.self.inside.apps.items c.self.inside.packets c.self.inside.packets refl refl c.reserve.ensures.items refl) refl
+invariant_of-self c = still_host c.self.inside (record { mesh = c.self.inside.mesh; regions = c.self.inside.regions; apps = c.reserve.new.self; packets = c.self.inside.packets; taken = c.self.inside.taken; senders = c.self.inside.senders }) c.self.invariant c.self.invariant.there (one_host (mesh_in c.self.inside.mesh) (mesh_in c.self.inside.mesh) (frees c.self.inside.regions.items) (frees c.self.inside.regions.items) c.reserve.new.self.items c.self.inside.apps.items c.self.inside.packets c.self.inside.packets refl refl c.reserve.ensures.items refl) refl refl
 
 pub returns-then-is_err-clause-refused : goal.returns-then-is_err-clause-refused
 returns-then-is_err-clause-refused c = (one_host (mesh_in c.self.inside.mesh) (mesh_in c.self.inside.mesh) (frees c.self.inside.regions.items) (frees c.self.inside.regions.items) c.reserve.new.self.items c.self.inside.apps.items c.self.inside.packets c.self.inside.packets refl refl c.reserve.ensures.items refl) ∙ c.self.view_is
@@ -77,17 +78,19 @@ push_reserved-requires c =
 
 pub invariant_of-self-in-Ok : goal.invariant_of-self-in-Ok
 invariant_of-self-in-Ok c =
-    ok_host c.self.inside c.in-Some.mesh (sym c.take.ensures.value ∙ c.in-Some.is) c.self.invariant c.args.number c.args.plan.now (subst (λ (x : Host). MayLoad x c.args.plan.now) (sym c.self.view_is) c.requires) c.deref_mut.result.now c.deref_mut.ensures.value (ap (λ (x : Host). is_loaded x.apps c.args.number) c.self.view_is ∙ (sym c.loaded.ensures ∙ c.if-loaded.false)) c.join-mesh.new.regions c.in-Ok.app c.join-mesh.result.0 (IfOk-at_ok (λ (a : LoadedApp). IsServedApp c.in-Some.mesh.setup.machine c.deref_mut.result.now c.args.number c.self.inside.packets c.args.plan.now a c.join-mesh.new.regions) c.in-Ok.is c.join-mesh.ensures.served) (IfOk-at_ok (λ (a : LoadedApp). IsSettled a c.in-Some.mesh c.join-mesh.result.0) c.in-Ok.is c.join-mesh.ensures.settled) (record { mesh = c.put.new.held; regions = with_items c.self.inside.regions c.join-mesh.new.regions; apps = c.push_reserved.new.self; packets = c.self.inside.packets + c.len.result; taken = with_items c.self.inside.taken c.mark_spots.new.taken }) c.put.ensures (with_items_is c.self.inside.regions c.join-mesh.new.regions (let a = c.join-mesh.auto.regions in let b = ap length c.deref_mut.ensures.value in let d = c.self.inside.regions.ok in omega (arith, a, b, d))) (c.push_reserved.ensures.items ∙ ap (λ (l : List LoadedApp). l ++ c.in-Ok.app ∷ []) c.reserve.ensures.items) (ap (λ n. c.self.inside.packets + n) (c.len.ensures ∙ ap (λ (p : AppPlan). length p.packets) (IfOk-at_ok (λ (a : LoadedApp). IsServedApp c.in-Some.mesh.setup.machine c.deref_mut.result.now c.args.number c.self.inside.packets c.args.plan.now a c.join-mesh.new.regions) c.in-Ok.is c.join-mesh.ensures.served).plan_is)) c.machine.result.now c.deref_mut-in-Ok.result.now c.mark_spots.new.taken c.as_slice.result.now (c.machine.ensures ∙ ap (λ (s : State). s.setup.machine) (IfOk-at_ok (λ (a : LoadedApp). IsSettled a c.in-Some.mesh c.join-mesh.result.0) c.in-Ok.is c.join-mesh.ensures.settled).mesh) c.deref_mut-in-Ok.ensures.value c.as_slice.ensures c.mark_spots.ensures
+    ok_host c.self.inside c.in-Some.mesh (sym c.take.ensures.value ∙ c.in-Some.is) c.self.invariant c.args.number c.args.plan.now (subst (λ (x : Host). MayLoad x c.args.plan.now) (sym c.self.view_is) c.requires) c.deref_mut.result.now c.deref_mut.ensures.value (ap (λ (x : Host). is_loaded x.apps c.args.number) c.self.view_is ∙ (sym c.loaded.ensures ∙ c.if-loaded.false)) c.join-mesh.new.regions c.in-Ok.app c.join-mesh.result.0 (IfOk-at_ok (λ (a : LoadedApp). IsServedApp c.in-Some.mesh.setup.machine c.deref_mut.result.now c.args.number c.self.inside.packets c.args.plan.now a c.join-mesh.new.regions) c.in-Ok.is c.join-mesh.ensures.served) (IfOk-at_ok (λ (a : LoadedApp). IsSettled a c.in-Some.mesh c.join-mesh.result.0) c.in-Ok.is c.join-mesh.ensures.settled) (record { mesh = c.put.new.held; regions = with_items c.self.inside.regions c.join-mesh.new.regions; apps = c.push_reserved.new.self; packets = c.self.inside.packets + c.len.result; taken = with_items c.self.inside.taken c.mark_spots.new.taken; senders = c.with_sources.result }) c.put.ensures (with_items_is c.self.inside.regions c.join-mesh.new.regions (let a = c.join-mesh.auto.regions in let b = ap length c.deref_mut.ensures.value in let d = c.self.inside.regions.ok in omega (arith, a, b, d))) (c.push_reserved.ensures.items ∙ ap (λ (l : List LoadedApp). l ++ c.in-Ok.app ∷ []) c.reserve.ensures.items) (ap (λ n. c.self.inside.packets + n) (c.len.ensures ∙ ap (λ (p : AppPlan). length p.packets) (IfOk-at_ok (λ (a : LoadedApp). IsServedApp c.in-Some.mesh.setup.machine c.deref_mut.result.now c.args.number c.self.inside.packets c.args.plan.now a c.join-mesh.new.regions) c.in-Ok.is c.join-mesh.ensures.served).plan_is)) c.machine.result.now c.deref_mut-in-Ok.result.now c.mark_spots.new.taken c.as_slice.result.now (c.machine.ensures ∙ ap (λ (s : State). s.setup.machine) (IfOk-at_ok (λ (a : LoadedApp). IsSettled a c.in-Some.mesh c.join-mesh.result.0) c.in-Ok.is c.join-mesh.ensures.settled).mesh) c.deref_mut-in-Ok.ensures.value c.as_slice.ensures c.mark_spots.ensures
     (with_items_is c.self.inside.taken c.mark_spots.new.taken (let a = c.mark_spots.ensures.long in let b = ap length c.deref_mut-in-Ok.ensures.value in let d = c.self.inside.taken.ok in omega (arith, a, b, d)))
+    c.as_slice-in-Ok.result.now c.as_slice-in-Ok.ensures
+    (subst (λ (o : Option (List ℕ)). IfSome c.with_sources.result (AreWithSources c.join-mesh.result.0 c.as_slice-in-Ok.result.now o)) c.take-in-Ok.ensures.value c.with_sources.ensures)
 
 pub invariant_of-self-in-Err : goal.invariant_of-self-in-Err
-invariant_of-self-in-Err c = err_host c.self.inside c.in-Some.mesh (sym c.take.ensures.value ∙ c.in-Some.is) c.self.invariant c.args.number c.args.plan.now (subst (λ (x : Host). MayLoad x c.args.plan.now) (sym c.self.view_is) c.requires) c.deref_mut.result.now c.deref_mut.ensures.value (record { mesh = c.put-in-Err.new.held; regions = with_items c.self.inside.regions c.join-mesh.new.regions; apps = c.reserve.new.self; packets = c.self.inside.packets; taken = c.self.inside.taken }) c.join-mesh.result.0 (on_err (c.join-mesh.result.0 ≡ c.in-Some.mesh) c.join-mesh.result.1 c.in-Err.refusal c.in-Err.is c.join-mesh.ensures.mesh_refused) c.join-mesh.new.regions (on_err ((m : Description) (taken : List Range) → AllPairs ShareNoPlace taken → AreFreeBeside m taken (frees c.deref_mut.result.now) → AreFreeBeside m taken (frees c.join-mesh.new.regions)) c.join-mesh.result.1 c.in-Err.refusal c.in-Err.is c.join-mesh.ensures.back) c.put-in-Err.ensures (with_items_is c.self.inside.regions c.join-mesh.new.regions (let a = c.join-mesh.auto.regions in let b = ap length c.deref_mut.ensures.value in let d = c.self.inside.regions.ok in omega (arith, a, b, d))) c.reserve.ensures.items refl refl
+invariant_of-self-in-Err c = err_host c.self.inside c.in-Some.mesh (sym c.take.ensures.value ∙ c.in-Some.is) c.self.invariant c.args.number c.args.plan.now (subst (λ (x : Host). MayLoad x c.args.plan.now) (sym c.self.view_is) c.requires) c.deref_mut.result.now c.deref_mut.ensures.value (record { mesh = c.put-in-Err.new.held; regions = with_items c.self.inside.regions c.join-mesh.new.regions; apps = c.reserve.new.self; packets = c.self.inside.packets; taken = c.self.inside.taken; senders = c.self.inside.senders }) c.join-mesh.result.0 (on_err (c.join-mesh.result.0 ≡ c.in-Some.mesh) c.join-mesh.result.1 c.in-Err.refusal c.in-Err.is c.join-mesh.ensures.mesh_refused) c.join-mesh.new.regions (on_err ((m : Description) (taken : List Range) → AllPairs ShareNoPlace taken → AreFreeBeside m taken (frees c.deref_mut.result.now) → AreFreeBeside m taken (frees c.join-mesh.new.regions)) c.join-mesh.result.1 c.in-Err.refusal c.in-Err.is c.join-mesh.ensures.back) c.put-in-Err.ensures (with_items_is c.self.inside.regions c.join-mesh.new.regions (let a = c.join-mesh.auto.regions in let b = ap length c.deref_mut.ensures.value in let d = c.self.inside.regions.ok in omega (arith, a, b, d))) c.reserve.ensures.items refl refl refl
 
 pub returns-in-Ok-clause-loaded : goal.returns-in-Ok-clause-loaded
-returns-in-Ok-clause-loaded c = subst (λ (x : Host). HasLoaded x c.args.number c.args.plan.now (host_of (record { mesh = c.put.new.held; regions = with_items c.self.inside.regions c.join-mesh.new.regions; apps = c.push_reserved.new.self; packets = c.self.inside.packets + c.len.result; taken = with_items c.self.inside.taken c.mark_spots.new.taken }))) c.self.view_is (ok_loaded c.self.inside c.in-Some.mesh (sym c.take.ensures.value ∙ c.in-Some.is) c.self.invariant c.args.number c.args.plan.now (subst (λ (x : Host). MayLoad x c.args.plan.now) (sym c.self.view_is) c.requires) c.deref_mut.result.now c.deref_mut.ensures.value (ap (λ (x : Host). is_loaded x.apps c.args.number) c.self.view_is ∙ (sym c.loaded.ensures ∙ c.if-loaded.false)) c.join-mesh.new.regions c.in-Ok.app c.join-mesh.result.0 (IfOk-at_ok (λ (a : LoadedApp). IsServedApp c.in-Some.mesh.setup.machine c.deref_mut.result.now c.args.number c.self.inside.packets c.args.plan.now a c.join-mesh.new.regions) c.in-Ok.is c.join-mesh.ensures.served) (IfOk-at_ok (λ (a : LoadedApp). IsSettled a c.in-Some.mesh c.join-mesh.result.0) c.in-Ok.is c.join-mesh.ensures.settled) (record { mesh = c.put.new.held; regions = with_items c.self.inside.regions c.join-mesh.new.regions; apps = c.push_reserved.new.self; packets = c.self.inside.packets + c.len.result; taken = with_items c.self.inside.taken c.mark_spots.new.taken }) c.put.ensures (with_items_is c.self.inside.regions c.join-mesh.new.regions (let a = c.join-mesh.auto.regions in let b = ap length c.deref_mut.ensures.value in let d = c.self.inside.regions.ok in omega (arith, a, b, d))) (c.push_reserved.ensures.items ∙ ap (λ (l : List LoadedApp). l ++ c.in-Ok.app ∷ []) c.reserve.ensures.items) (ap (λ n. c.self.inside.packets + n) (c.len.ensures ∙ ap (λ (p : AppPlan). length p.packets) (IfOk-at_ok (λ (a : LoadedApp). IsServedApp c.in-Some.mesh.setup.machine c.deref_mut.result.now c.args.number c.self.inside.packets c.args.plan.now a c.join-mesh.new.regions) c.in-Ok.is c.join-mesh.ensures.served).plan_is)))
+returns-in-Ok-clause-loaded c = subst (λ (x : Host). HasLoaded x c.args.number c.args.plan.now (host_of (record { mesh = c.put.new.held; regions = with_items c.self.inside.regions c.join-mesh.new.regions; apps = c.push_reserved.new.self; packets = c.self.inside.packets + c.len.result; taken = with_items c.self.inside.taken c.mark_spots.new.taken; senders = c.with_sources.result }))) c.self.view_is (ok_loaded c.self.inside c.in-Some.mesh (sym c.take.ensures.value ∙ c.in-Some.is) c.self.invariant c.args.number c.args.plan.now (subst (λ (x : Host). MayLoad x c.args.plan.now) (sym c.self.view_is) c.requires) c.deref_mut.result.now c.deref_mut.ensures.value (ap (λ (x : Host). is_loaded x.apps c.args.number) c.self.view_is ∙ (sym c.loaded.ensures ∙ c.if-loaded.false)) c.join-mesh.new.regions c.in-Ok.app c.join-mesh.result.0 (IfOk-at_ok (λ (a : LoadedApp). IsServedApp c.in-Some.mesh.setup.machine c.deref_mut.result.now c.args.number c.self.inside.packets c.args.plan.now a c.join-mesh.new.regions) c.in-Ok.is c.join-mesh.ensures.served) (IfOk-at_ok (λ (a : LoadedApp). IsSettled a c.in-Some.mesh c.join-mesh.result.0) c.in-Ok.is c.join-mesh.ensures.settled) (record { mesh = c.put.new.held; regions = with_items c.self.inside.regions c.join-mesh.new.regions; apps = c.push_reserved.new.self; packets = c.self.inside.packets + c.len.result; taken = with_items c.self.inside.taken c.mark_spots.new.taken; senders = c.with_sources.result }) c.put.ensures (with_items_is c.self.inside.regions c.join-mesh.new.regions (let a = c.join-mesh.auto.regions in let b = ap length c.deref_mut.ensures.value in let d = c.self.inside.regions.ok in omega (arith, a, b, d))) (c.push_reserved.ensures.items ∙ ap (λ (l : List LoadedApp). l ++ c.in-Ok.app ∷ []) c.reserve.ensures.items) (ap (λ n. c.self.inside.packets + n) (c.len.ensures ∙ ap (λ (p : AppPlan). length p.packets) (IfOk-at_ok (λ (a : LoadedApp). IsServedApp c.in-Some.mesh.setup.machine c.deref_mut.result.now c.args.number c.self.inside.packets c.args.plan.now a c.join-mesh.new.regions) c.in-Ok.is c.join-mesh.ensures.served).plan_is)))
 
 pub returns-in-Ok-clause-apps : goal.returns-in-Ok-clause-apps
-returns-in-Ok-clause-apps c = ok_apps c.self.inside c.in-Some.mesh (sym c.take.ensures.value ∙ c.in-Some.is) c.self.invariant c.args.number c.args.plan.now (subst (λ (x : Host). MayLoad x c.args.plan.now) (sym c.self.view_is) c.requires) c.deref_mut.result.now c.deref_mut.ensures.value (ap (λ (x : Host). is_loaded x.apps c.args.number) c.self.view_is ∙ (sym c.loaded.ensures ∙ c.if-loaded.false)) c.join-mesh.new.regions c.in-Ok.app c.join-mesh.result.0 (IfOk-at_ok (λ (a : LoadedApp). IsServedApp c.in-Some.mesh.setup.machine c.deref_mut.result.now c.args.number c.self.inside.packets c.args.plan.now a c.join-mesh.new.regions) c.in-Ok.is c.join-mesh.ensures.served) (IfOk-at_ok (λ (a : LoadedApp). IsSettled a c.in-Some.mesh c.join-mesh.result.0) c.in-Ok.is c.join-mesh.ensures.settled) (record { mesh = c.put.new.held; regions = with_items c.self.inside.regions c.join-mesh.new.regions; apps = c.push_reserved.new.self; packets = c.self.inside.packets + c.len.result; taken = with_items c.self.inside.taken c.mark_spots.new.taken }) c.put.ensures (with_items_is c.self.inside.regions c.join-mesh.new.regions (let a = c.join-mesh.auto.regions in let b = ap length c.deref_mut.ensures.value in let d = c.self.inside.regions.ok in omega (arith, a, b, d))) (c.push_reserved.ensures.items ∙ ap (λ (l : List LoadedApp). l ++ c.in-Ok.app ∷ []) c.reserve.ensures.items) (ap (λ n. c.self.inside.packets + n) (c.len.ensures ∙ ap (λ (p : AppPlan). length p.packets) (IfOk-at_ok (λ (a : LoadedApp). IsServedApp c.in-Some.mesh.setup.machine c.deref_mut.result.now c.args.number c.self.inside.packets c.args.plan.now a c.join-mesh.new.regions) c.in-Ok.is c.join-mesh.ensures.served).plan_is))
+returns-in-Ok-clause-apps c = ok_apps c.self.inside c.in-Some.mesh (sym c.take.ensures.value ∙ c.in-Some.is) c.self.invariant c.args.number c.args.plan.now (subst (λ (x : Host). MayLoad x c.args.plan.now) (sym c.self.view_is) c.requires) c.deref_mut.result.now c.deref_mut.ensures.value (ap (λ (x : Host). is_loaded x.apps c.args.number) c.self.view_is ∙ (sym c.loaded.ensures ∙ c.if-loaded.false)) c.join-mesh.new.regions c.in-Ok.app c.join-mesh.result.0 (IfOk-at_ok (λ (a : LoadedApp). IsServedApp c.in-Some.mesh.setup.machine c.deref_mut.result.now c.args.number c.self.inside.packets c.args.plan.now a c.join-mesh.new.regions) c.in-Ok.is c.join-mesh.ensures.served) (IfOk-at_ok (λ (a : LoadedApp). IsSettled a c.in-Some.mesh c.join-mesh.result.0) c.in-Ok.is c.join-mesh.ensures.settled) (record { mesh = c.put.new.held; regions = with_items c.self.inside.regions c.join-mesh.new.regions; apps = c.push_reserved.new.self; packets = c.self.inside.packets + c.len.result; taken = with_items c.self.inside.taken c.mark_spots.new.taken; senders = c.with_sources.result }) c.put.ensures (with_items_is c.self.inside.regions c.join-mesh.new.regions (let a = c.join-mesh.auto.regions in let b = ap length c.deref_mut.ensures.value in let d = c.self.inside.regions.ok in omega (arith, a, b, d))) (c.push_reserved.ensures.items ∙ ap (λ (l : List LoadedApp). l ++ c.in-Ok.app ∷ []) c.reserve.ensures.items) (ap (λ n. c.self.inside.packets + n) (c.len.ensures ∙ ap (λ (p : AppPlan). length p.packets) (IfOk-at_ok (λ (a : LoadedApp). IsServedApp c.in-Some.mesh.setup.machine c.deref_mut.result.now c.args.number c.self.inside.packets c.args.plan.now a c.join-mesh.new.regions) c.in-Ok.is c.join-mesh.ensures.served).plan_is))
 
 pub returns-in-Err-clause-why : goal.returns-in-Err-clause-why
 returns-in-Err-clause-why c =
@@ -95,7 +98,7 @@ returns-in-Err-clause-why c =
     (err_why c.self.inside c.in-Some.mesh (sym c.take.ensures.value ∙ c.in-Some.is) c.self.invariant c.args.number c.args.plan.now (subst (λ (x : Host). MayLoad x c.args.plan.now) (sym c.self.view_is) c.requires) c.deref_mut.result.now c.deref_mut.ensures.value (ap (λ (x : Host). is_loaded x.apps c.args.number) c.self.view_is ∙ (sym c.loaded.ensures ∙ c.if-loaded.false)) c.in-Err.refusal (IfErr-at_err (IsDueAlways (claims_of c.in-Some.mesh.setup.machine c.args.plan.now) c.deref_mut.result.now) c.in-Err.is c.join-mesh.ensures.due))
 
 pub returns-in-Err-clause-refused : goal.returns-in-Err-clause-refused
-returns-in-Err-clause-refused c = err_same c.self.inside c.in-Some.mesh (sym c.take.ensures.value ∙ c.in-Some.is) c.self.invariant c.args.number c.args.plan.now (subst (λ (x : Host). MayLoad x c.args.plan.now) (sym c.self.view_is) c.requires) c.deref_mut.result.now c.deref_mut.ensures.value (record { mesh = c.put-in-Err.new.held; regions = with_items c.self.inside.regions c.join-mesh.new.regions; apps = c.reserve.new.self; packets = c.self.inside.packets; taken = c.self.inside.taken }) c.join-mesh.result.0 (on_err (c.join-mesh.result.0 ≡ c.in-Some.mesh) c.join-mesh.result.1 c.in-Err.refusal c.in-Err.is c.join-mesh.ensures.mesh_refused) c.join-mesh.new.regions (on_err ((m : Description) (taken : List Range) → AllPairs ShareNoPlace taken → AreFreeBeside m taken (frees c.deref_mut.result.now) → AreFreeBeside m taken (frees c.join-mesh.new.regions)) c.join-mesh.result.1 c.in-Err.refusal c.in-Err.is c.join-mesh.ensures.back) c.put-in-Err.ensures (with_items_is c.self.inside.regions c.join-mesh.new.regions (let a = c.join-mesh.auto.regions in let b = ap length c.deref_mut.ensures.value in let d = c.self.inside.regions.ok in omega (arith, a, b, d))) c.reserve.ensures.items refl ∙ c.self.view_is
+returns-in-Err-clause-refused c = err_same c.self.inside c.in-Some.mesh (sym c.take.ensures.value ∙ c.in-Some.is) c.self.invariant c.args.number c.args.plan.now (subst (λ (x : Host). MayLoad x c.args.plan.now) (sym c.self.view_is) c.requires) c.deref_mut.result.now c.deref_mut.ensures.value (record { mesh = c.put-in-Err.new.held; regions = with_items c.self.inside.regions c.join-mesh.new.regions; apps = c.reserve.new.self; packets = c.self.inside.packets; taken = c.self.inside.taken; senders = c.self.inside.senders }) c.join-mesh.result.0 (on_err (c.join-mesh.result.0 ≡ c.in-Some.mesh) c.join-mesh.result.1 c.in-Err.refusal c.in-Err.is c.join-mesh.ensures.mesh_refused) c.join-mesh.new.regions (on_err ((m : Description) (taken : List Range) → AllPairs ShareNoPlace taken → AreFreeBeside m taken (frees c.deref_mut.result.now) → AreFreeBeside m taken (frees c.join-mesh.new.regions)) c.join-mesh.result.1 c.in-Err.refusal c.in-Err.is c.join-mesh.ensures.back) c.put-in-Err.ensures (with_items_is c.self.inside.regions c.join-mesh.new.regions (let a = c.join-mesh.auto.regions in let b = ap length c.deref_mut.ensures.value in let d = c.self.inside.regions.ok in omega (arith, a, b, d))) c.reserve.ensures.items refl ∙ c.self.view_is
 
 pub returns-in-Err-clause-apps : goal.returns-in-Err-clause-apps
-returns-in-Err-clause-apps c = subst AreApps (sym (err_same c.self.inside c.in-Some.mesh (sym c.take.ensures.value ∙ c.in-Some.is) c.self.invariant c.args.number c.args.plan.now (subst (λ (x : Host). MayLoad x c.args.plan.now) (sym c.self.view_is) c.requires) c.deref_mut.result.now c.deref_mut.ensures.value (record { mesh = c.put-in-Err.new.held; regions = with_items c.self.inside.regions c.join-mesh.new.regions; apps = c.reserve.new.self; packets = c.self.inside.packets; taken = c.self.inside.taken }) c.join-mesh.result.0 (on_err (c.join-mesh.result.0 ≡ c.in-Some.mesh) c.join-mesh.result.1 c.in-Err.refusal c.in-Err.is c.join-mesh.ensures.mesh_refused) c.join-mesh.new.regions (on_err ((m : Description) (taken : List Range) → AllPairs ShareNoPlace taken → AreFreeBeside m taken (frees c.deref_mut.result.now) → AreFreeBeside m taken (frees c.join-mesh.new.regions)) c.join-mesh.result.1 c.in-Err.refusal c.in-Err.is c.join-mesh.ensures.back) c.put-in-Err.ensures (with_items_is c.self.inside.regions c.join-mesh.new.regions (let a = c.join-mesh.auto.regions in let b = ap length c.deref_mut.ensures.value in let d = c.self.inside.regions.ok in omega (arith, a, b, d))) c.reserve.ensures.items refl)) c.self.invariant.apps
+returns-in-Err-clause-apps c = subst AreApps (sym (err_same c.self.inside c.in-Some.mesh (sym c.take.ensures.value ∙ c.in-Some.is) c.self.invariant c.args.number c.args.plan.now (subst (λ (x : Host). MayLoad x c.args.plan.now) (sym c.self.view_is) c.requires) c.deref_mut.result.now c.deref_mut.ensures.value (record { mesh = c.put-in-Err.new.held; regions = with_items c.self.inside.regions c.join-mesh.new.regions; apps = c.reserve.new.self; packets = c.self.inside.packets; taken = c.self.inside.taken; senders = c.self.inside.senders }) c.join-mesh.result.0 (on_err (c.join-mesh.result.0 ≡ c.in-Some.mesh) c.join-mesh.result.1 c.in-Err.refusal c.in-Err.is c.join-mesh.ensures.mesh_refused) c.join-mesh.new.regions (on_err ((m : Description) (taken : List Range) → AllPairs ShareNoPlace taken → AreFreeBeside m taken (frees c.deref_mut.result.now) → AreFreeBeside m taken (frees c.join-mesh.new.regions)) c.join-mesh.result.1 c.in-Err.refusal c.in-Err.is c.join-mesh.ensures.back) c.put-in-Err.ensures (with_items_is c.self.inside.regions c.join-mesh.new.regions (let a = c.join-mesh.auto.regions in let b = ap length c.deref_mut.ensures.value in let d = c.self.inside.regions.ok in omega (arith, a, b, d))) c.reserve.ensures.items refl)) c.self.invariant.apps
