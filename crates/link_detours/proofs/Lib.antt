@@ -11,7 +11,7 @@ mod Tabling
 mod Trimming
 mod TurnedWords
 mod Turning
-mod Unchanged
+pub mod Unchanged
 mod Walks
 mod Waving
 mod Wholes

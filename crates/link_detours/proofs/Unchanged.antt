@@ -101,6 +101,34 @@ tree_leads m root edges targets tree e has =
     core_is_no_link : (d : Dir) → out_of 0 ≡ Link d → ⊥
     core_is_no_link d same = let wrong : Core 0 ≡ Link d = same in cc
 
+-- a tree that has all targets is joined to them as it is
+joins_none : (m : Description) (root : Chip) (tree : List Edge) (targets : List Chip) → ((t : Chip) → Contains targets t → IsTreeChip m root tree t) →
+    Joins m root tree targets tree
+joins_none m root tree [] on = refl
+joins_none m root tree (t ∷ targets) on = (
+  [],
+  on t (0, omega arith, refl),
+  subst (λ es. Joins m root es targets tree) (sym (append-nil tree)) (joins_none m root tree targets (λ u has. on u (Contains-later t targets u has))),
+)
+
+-- So a tree over live parts alone, in order, is repaired by itself.
+pub whole_repaired : (m : Description) (root : Chip) (edges : List Edge) (targets : List Chip) → IsTreeTo m root edges targets → AreInPlaceOrder m edges →
+    IsRepaired m root edges targets edges
+whole_repaired m root edges targets tree ordered = record {
+  kept = edges;
+  kept_is = λ e. (
+    λ has.
+        let begins : IsTreeChip m root edges e.chip = All-contains (λ f. IsTreeChip m root edges f.chip) edges e tree.edges_begin has in
+        let path = tree.reached e.chip begins in
+        (has, All-contains (λ f. IsLiveLink m f.chip f.dir) edges e tree.edges_live has, path_steps m edges tree.edges_live root e.chip path.0 path.1),
+    λ is. is.0,
+  );
+  whole = edges;
+  joined = joins_none m root edges targets (λ t has. All-contains (IsTreeChip m root edges) targets t tree.has_targets has);
+  result_is = λ e. (λ has. (has, tree_leads m root edges targets tree e has), λ is. is.0);
+  in_order = ordered;
+}
+
 module _ (m : Description) (root : Chip) (edges : List Edge) (targets : List Chip) (result : List Edge) (tree : IsTreeTo m root edges targets)
     (repaired : IsRepaired m root edges targets result) where
   -- all edges are kept

@@ -1,5 +1,5 @@
 // The live links of a machine.
-ghost use Rattle.std.specs.Prelude.{◌≡◌, ◌<◌, ◌+◌, ◌*◌, ◌↔◌, ℕ, IfOk, length, slice_index, true};
+ghost use Rattle.std.specs.Prelude.{◌≡◌, ◌<◌, ◌+◌, ◌*◌, ◌↔◌, ℕ, All, IfOk, IsTrue, length, slice_index, true};
 ghost use Rattle.spin_base.specs.Links.{dir_number};
 ghost use Rattle.std.specs.Int.{bit_at};
 ghost use Rattle.machine_desc.specs.Live.{IsInside, IsLiveLink, is_live_link};
@@ -31,6 +31,19 @@ impl Roads {
             words.push(road_word(machine, (place / 6) as u8, Dir::ALL[place % 6]))?;
         }
         Ok(Roads { words })
+    }
+
+    /// Whether all edges are live links. `machine` is the one whose roads these are.
+    pub fn carry(&self, machine: &Machine, edges: &[Edge]) -> bool
+        requires { AreRoadsOf machine.now self.now }
+        ensures { IsTrue result ↔ All (λ e. IsLiveLink machine.now e.chip e.dir) edges.now }
+    {
+        for edge in edges {
+            if !self.has(machine, *edge) {
+                return false;
+            }
+        }
+        true
     }
 
     // Whether the edge is a live link.

@@ -188,6 +188,7 @@ pub record Finished (m : Description) (root : Chip) (targets : List Chip) (joins
   pub none_into_root : All (λ e. end_of m e ≢ Some root) edges
   pub one_into_each : AllPairs (λ e f. (c : Chip) → end_of m e ≡ Some c → end_of m f ≢ Some c) edges
   pub few : length edges ≤ distance_sum m root targets
+  pub live : All (λ e. IsLiveLink m e.chip e.dir) edges → 0 < length targets → IsTreeTo m root edges targets
   pub routing : IsWithoutDead m → 0 < length targets → IsTreeTo m root edges targets
 
 path_map : (m : Description) (es fs : List Edge) → ((e : Edge) → Contains es e → Contains fs e) → (from : Chip) (path : List Edge) (to : Chip) → IsPath m es from path to → IsPath m fs from path to
@@ -227,6 +228,26 @@ finished m root targets joins on whole edges size root_in targets_in so_far perm
     let long : length edges ≡ length whole = length_permutation whole edges perm in
     let most : length whole ≤ length {A = Edge} [] + sum_by (distance_of m root) (map (λ j. j.target) joins) = out.few in
     let sums : sum_by (distance_of m root) (map (λ j. j.target) joins) ≡ sum_by (distance_of m root) targets = ap (sum_by (distance_of m root)) so_far.targets in
+    let whole_where_live : All (λ e. IsLiveLink m e.chip e.dir) edges → 0 < length targets → IsTreeTo m root edges targets = λ lives some. record {
+      edges_live = lives;
+      edges_begin = λ k d within. chip_map m root whole edges back' (get_or edges k d).chip (out.spans.begins (get_or edges k d) (at k d within));
+      none_into_root = none_into;
+      one_into_each = apart;
+      reached = λ c on'.
+          let way = out.spans.reached c (chip_map m root edges whole to c on') in
+          (way.0, path_map m whole edges back' root way.0 c way.1);
+      has_targets = λ k d within. chip_map m root whole edges back' (get_or targets k d) (has_target (get_or targets k d) (Contains-get_or targets k d within));
+      ends_are_targets = λ c on'. elim (out.ended c (chip_map m root edges whole to c on')) [
+        | inr (inl goes) ↦ (let has = back' goes.0 goes.1 in inl (has.0, goes.0, has.1, has.2, goes.2))
+        | inr (inr target) ↦ inr target
+        | inl is_root ↦
+            let t : Chip = get_or targets 0 root in
+            let has : Contains targets t = Contains-get_or targets 0 root some in
+            let way = out.spans.reached t (has_target t has) in
+            subst (λ (x : Chip). Any (λ e. e.chip ≡ x) edges ⊎ Contains targets x) (sym is_root)
+            (root_goes m root targets edges t way.0 (path_map m whole edges back' root way.0 t way.1) has)
+      ];
+    } in
     record {
       is_grown = record {
         each_joined = so_far.targets;
@@ -240,29 +261,11 @@ finished m root targets joins on whole edges size root_in targets_in so_far perm
       none_into_root = none_into;
       one_into_each = λ i j d less short c p q. apart i j d less short (p ∙ sym q);
       few = omega (arith, long, most, sums);
-      routing = λ dead some. record {
-        edges_live = λ k d within.
-            let e : Edge = get_or edges k d in
-            let leads = out.spans.leads e (at k d within) in
-            live_link m e.chip leads.0 e.dir dead (inside k d within) (far_inside m e.chip leads.0 e.dir (inside k d within) leads.1) leads.1;
-        edges_begin = λ k d within. chip_map m root whole edges back' (get_or edges k d).chip (out.spans.begins (get_or edges k d) (at k d within));
-        none_into_root = none_into;
-        one_into_each = apart;
-        reached = λ c on'.
-            let way = out.spans.reached c (chip_map m root edges whole to c on') in
-            (way.0, path_map m whole edges back' root way.0 c way.1);
-        has_targets = λ k d within. chip_map m root whole edges back' (get_or targets k d) (has_target (get_or targets k d) (Contains-get_or targets k d within));
-        ends_are_targets = λ c on'. elim (out.ended c (chip_map m root edges whole to c on')) [
-          | inr (inl goes) ↦ (let has = back' goes.0 goes.1 in inl (has.0, goes.0, has.1, has.2, goes.2))
-          | inr (inr target) ↦ inr target
-          | inl is_root ↦
-              let t : Chip = get_or targets 0 root in
-              let has : Contains targets t = Contains-get_or targets 0 root some in
-              let way = out.spans.reached t (has_target t has) in
-              subst (λ (x : Chip). Any (λ e. e.chip ≡ x) edges ⊎ Contains targets x) (sym is_root)
-              (root_goes m root targets edges t way.0 (path_map m whole edges back' root way.0 t way.1) has)
-        ];
-      };
+      live = whole_where_live;
+      routing = λ dead. whole_where_live (λ k d within.
+          let e : Edge = get_or edges k d in
+          let leads = out.spans.leads e (at k d within) in
+          live_link m e.chip leads.0 e.dir dead (inside k d within) (far_inside m e.chip leads.0 e.dir (inside k d within) leads.1) leads.1);
     }
 
 pub finished_at : (m : Description) (root : Chip) (targets items : List Chip) (joins : List Join) (on : List Bool) (whole edges result : List Edge) (i : ℕ) → HasSize m → IsInside m root →

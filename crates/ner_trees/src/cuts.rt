@@ -4,7 +4,8 @@ ghost use Rattle.machine_desc.specs.Live.{IsInside};
 ghost use Rattle.ner_trees.specs.Growth.{next_of};
 ghost use Rattle.ner_trees.specs.Search.{is_on, IsCutAt, IsMarkedBy};
 
-use machine_desc::{Edge, Machine, PerChip};
+use crate::marks::Marks;
+use machine_desc::{Edge, Machine};
 use spin_base::{Chip, Dir, Memory};
 use std::alloc::Global;
 
@@ -28,12 +29,7 @@ fn next(machine: &Machine, at: Chip, dir: Dir) -> Chip
 }
 
 // The part of a walk after the last of its chips that is in the tree.
-pub fn new_branch(
-    alloc: Global,
-    on: &PerChip<bool>,
-    near: Chip,
-    walk: &[Dir],
-) -> Result<Branch, Memory>
+pub fn new_branch(alloc: Global, on: &Marks, near: Chip, walk: &[Dir]) -> Result<Branch, Memory>
     requires inside { IsInside on.now.machine.now near }
     requires on_tree { is_on on.now.machine.now on.now.items.items near ≡ true }
     ensures { IfOk result (λ b.
@@ -58,7 +54,7 @@ pub fn new_branch(
 }
 
 // Notes in the table the chips where links lead.
-pub fn mark(on: &mut PerChip<bool>, links: &[Edge])
+pub fn mark(on: &mut Marks, links: &[Edge])
     requires { All (λ e. IsInside on.old.machine.now e.chip) links.now }
     ensures machine { on.new.machine.now ≡ on.old.machine.now }
     ensures marked { IsMarkedBy on.old.machine.now on.old.items.items on.new.items.items links.now }
@@ -66,7 +62,7 @@ pub fn mark(on: &mut PerChip<bool>, links: &[Edge])
     let machine = on.machine();
     for link in links {
         if let Some(chip) = machine.far(link.chip, link.dir) {
-            on.set(chip, true);
+            on.set(chip);
         }
     }
 }

@@ -1,7 +1,7 @@
 // Trees that grow from target to target.
 ghost use Rattle.std.specs.Prelude.{◌≡◌, ◌≢◌, ℕ, ◌<◌, ◌≤◌, List, [], Some, length, IfOk, All, AllPairs};
 ghost use Rattle.std.specs.List.Sorted.{IsPermutation};
-ghost use Rattle.machine_desc.specs.Live.{IsInside};
+ghost use Rattle.machine_desc.specs.Live.{IsInside, IsLiveLink};
 ghost use Rattle.machine_desc.specs.RoutingTree.{end_of, IsTreeTo};
 ghost use Rattle.ner_trees.specs.Growth.{IsJoinedBy, IsGrown, IsWithoutDead, distance_sum};
 ghost use Rattle.machine_desc.specs.EdgeOrder.{IsEdgeBefore};
@@ -10,10 +10,11 @@ ghost use Rattle.spin_base.specs.declared.chips.Chip.{Chip};
 
 use crate::cuts::{mark, new_branch};
 use crate::displacements::displacement;
+use crate::marks::Marks;
 use crate::partial_trees::GrowingTree;
 use crate::searches::near_chip;
 use crate::walks::ldf;
-use machine_desc::{Edge, Machine, PerChip, Tree};
+use machine_desc::{Edge, Machine, Tree};
 use spin_base::{Chip, Memory, Seq, Shared};
 use std::alloc::Global;
 
@@ -80,8 +81,8 @@ fn tree_of_root(alloc: Global, machine: &Machine, root: Chip) -> Result<GrowingT
     ensures edges { IfOk result (λ t. t.edges.items ≡ []) }
     ensures on_is { IfOk result (λ t. TellsTree machine.now root t.on.items.items []) }
 {
-    let mut on = PerChip::filled(alloc, machine, false)?;
-    on.set(root, true);
+    let mut on = Marks::none(alloc, machine)?;
+    on.set(root);
     Ok(GrowingTree {
         root,
         edges: Vec::new(alloc),
@@ -112,6 +113,8 @@ pub fn ner(
         g.tree.edges) }
     ensures few_edges { IfOk result (λ g.
         length g.tree.edges ≤ distance_sum machine.now root targets.now) }
+    ensures whole { IfOk result (λ g. All (λ e. IsLiveLink machine.now e.chip e.dir) g.tree.edges →
+        0 < length targets.now → IsTreeTo machine.now root g.tree.edges targets.now) }
     ensures routing { IfOk result (λ g. IsWithoutDead machine.now → 0 < length targets.now →
         IsTreeTo machine.now root g.tree.edges targets.now) }
 {

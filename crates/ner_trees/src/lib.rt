@@ -10,6 +10,7 @@ mod cuts;
 mod displacements;
 mod growths;
 mod laws;
+mod marks;
 mod partial_trees;
 mod searches;
 mod walks;

@@ -2,7 +2,8 @@
 ghost use Rattle.std.specs.Prelude.{◌≤◌, All};
 ghost use Rattle.machine_desc.specs.Live.{IsInside};
 
-use machine_desc::{Edge, PerChip};
+use crate::marks::Marks;
+use machine_desc::Edge;
 use spin_base::Chip;
 
 // A tree that grows: its root, its edges so far, and for each chip whether the tree has it.
@@ -10,7 +11,7 @@ use spin_base::Chip;
 pub struct GrowingTree<'m> {
     pub root: Chip,
     pub edges: Vec<Edge>,
-    pub on: PerChip<'m, bool>,
+    pub on: Marks<'m>,
     ghost root_inside: { IsInside on.machine.now root },
     ghost edges_inside: { All (λ e. IsInside on.machine.now e.chip) edges.items },
 }

@@ -7,8 +7,9 @@ ghost use Rattle.ner_trees.specs.Search.{place_at, window_chip, IsOnWithin, IsNe
 ghost use Rattle.spin_base.specs.declared.chips.Chip.{Chip};
 
 use crate::displacements::distance;
+use crate::marks::Marks;
 use crate::partial_trees::{GrowingTree, Radius};
-use machine_desc::{Edge, Machine, PerChip};
+use machine_desc::{Edge, Machine};
 use spin_base::Chip;
 
 // How many chips a window of 20 to each side has.
@@ -67,7 +68,7 @@ fn window_chip(machine: &Machine, centre: Chip, radius: Radius, number: u16) -> 
 }
 
 // The chip of a number in the window, where it is in the tree and the target is at most `radius` links from it.
-fn candidate(on: &PerChip<bool>, target: Chip, radius: Radius, number: u16) -> Option<Chip>
+fn candidate(on: &Marks, target: Chip, radius: Radius, number: u16) -> Option<Chip>
     requires inside { IsInside on.now.machine.now target }
     requires below { number < (2 * radius.chips + 1) * (2 * radius.chips + 1) }
     ensures found { IfSome result
@@ -104,7 +105,7 @@ fn is_nearer(machine: &Machine, target: Chip, c: Chip, e: Chip) -> bool
 }
 
 // The nearest chip of the tree from which the target is at most `radius` links away.
-fn nearest_within(on: &PerChip<bool>, target: Chip, radius: Radius) -> Option<Chip>
+fn nearest_within(on: &Marks, target: Chip, radius: Radius) -> Option<Chip>
     requires { IsInside on.now.machine.now target }
     ensures found { IfSome result
         (IsNearestOn on.now.machine.now on.now.items.items target radius.chips) }
@@ -205,7 +206,7 @@ fn nearest_of_edges(machine: &Machine, root: Chip, edges: &[Edge], target: Chip)
 }
 
 // The same as `nearest_within` where the tree has at least as many edges as the window has chips; else nothing.
-fn nearest_if_many(on: &PerChip<bool>, edges: usize, target: Chip, radius: Radius) -> Option<Chip>
+fn nearest_if_many(on: &Marks, edges: usize, target: Chip, radius: Radius) -> Option<Chip>
     requires { IsInside on.now.machine.now target }
     ensures { IfSome result
         (IsNearestOn on.now.machine.now on.now.items.items target radius.chips) }

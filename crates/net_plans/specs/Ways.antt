@@ -1,11 +1,12 @@
 -- What threads find when they route nets side by side.
-use Rattle.std.specs.Prelude.{◌≡◌, ℕ, ◌<◌, List, length, All, Some, Result, Ok, Err, slice_get}
+use Rattle.std.specs.Prelude.{◌≡◌, ◌≢◌, ℕ, ◌<◌, List, length, All, AllPairs, Some, Result, Ok, Err, slice_get}
 use Rattle.spin_base.specs.declared.chips.Chip.{Chip}
 use Rattle.spin_base.specs.declared.chips.Spot.{Spot}
 use Rattle.spin_base.specs.declared.blocks.Block.{Block}
 use Rattle.machine_desc.specs.Description.{Description}
-use Rattle.machine_desc.specs.Live.{IsSite}
-use Rattle.machine_desc.specs.RoutingTree.{IsRoutingTree}
+use Rattle.machine_desc.specs.Live.{IsLiveLink, IsSite}
+use Rattle.machine_desc.specs.RoutingTree.{end_of, IsRoutingTree, IsTreeTo}
+use Rattle.machine_desc.specs.declared.trees.Tree.{Tree}
 use Rattle.app_graph.specs.declared.graphs.Graph.{Graph}
 use Rattle.app_graph.specs.declared.graphs.Net.{Net}
 use Rattle.app_graph.specs.ValidGraph.{IsValidGraph}
@@ -15,6 +16,7 @@ use Rattle.link_detours.specs.declared.roads.Roads.{Roads}
 use Rattle.ner_trees.specs.declared.growths.Grown.{Grown}
 use Rattle.machine_desc.specs.declared.nets.NetPlan.{NetPlan}
 use Rattle.link_detours.specs.LiveRoads.{AreRoadsOf}
+use Rattle.link_detours.specs.Repair.{AreInPlaceOrder}
 use Rattle.net_plans.specs.declared.nets.Routed.{Routed}
 use Rattle.net_plans.specs.declared.nets.RoutedNet.{RoutedNet}
 use Rattle.net_plans.specs.declared.nets.NetErr.{NetErr}
@@ -31,6 +33,14 @@ pub record CanRoute (m : Description) (roads : Roads) (graph : Graph) (spots : L
   pub a_spot_each : length spots ≡ length graph.vertices
   pub sites : All (IsSite m) spots
   pub a_block_each : length blocks ≡ length graph.nets
+
+-- What is known of a tree that grew: no edge leads into the root, one into each other chip, edges are in order, and where all
+-- of them live it is a tree to its targets.
+pub record IsGrownTree (m : Description) (tree : Tree) (chips : List Chip) : Type 0 where
+  pub none_into_root : All (λ e. end_of m e ≢ Some tree.root) tree.edges
+  pub one_into_each : AllPairs (λ e f. (c : Chip) → end_of m e ≡ Some c → end_of m f ≢ Some c) tree.edges
+  pub in_order : AreInPlaceOrder m tree.edges
+  pub whole : All (λ e. IsLiveLink m e.chip e.dir) tree.edges → IsTreeTo m tree.root tree.edges chips
 
 -- a net's tree and plan, with no target cut off
 pub record HasTreeAndPlan (m : Description) (spots : List Spot) (net : Net) (block : Block) (r : Routed) : Type 0 where

@@ -1,19 +1,21 @@
 // The plan of each net.
 ghost use Rattle.std.specs.Prelude.{◌≡◌, ℕ, ◌<◌, All, length, IfOk, IfErr};
 ghost use Rattle.spin_base.specs.declared.chips.Chip.{Chip};
-ghost use Rattle.machine_desc.specs.Live.{IsSite};
-ghost use Rattle.machine_desc.specs.RoutingTree.{IsRoutingTree};
+ghost use Rattle.machine_desc.specs.Live.{IsInside, IsLiveChip, IsSite};
+ghost use Rattle.machine_desc.specs.RoutingTree.{IsRoutingTree, IsTreeTo};
 ghost use Rattle.app_graph.specs.ValidGraph.{IsValidGraph, IsValidNet};
+ghost use Rattle.link_detours.specs.Cause.{IsRepairCause};
 ghost use Rattle.link_detours.specs.LiveRoads.{AreRoadsOf};
+ghost use Rattle.link_detours.specs.Repair.{IsRepaired};
 ghost use Rattle.net_plans.specs.Cause.{IsNetCause, IsCauseOne, IsRefusedBy};
 ghost use Rattle.net_plans.specs.CutOffTargets.{HasNoneCutOff, IsFirstCutOffIn, IsFirstNetCutOff};
 ghost use Rattle.net_plans.specs.NetPlans.{IsPlannedNet, ArePlanned};
-ghost use Rattle.net_plans.specs.Ways.{AreRoutedNets, CanRoute, HaveWays, IsFirstWithout, IsRoutedNet};
+ghost use Rattle.net_plans.specs.Ways.{AreRoutedNets, CanRoute, HaveWays, IsFirstWithout, IsGrownTree, IsRoutedNet};
 
 use crate::targets::{target_chips, targets_of};
 use app_graph::{Graph, Net};
 use link_detours::{RepairErr, Roads, repair};
-use machine_desc::{Machine, NetPlan};
+use machine_desc::{Machine, NetPlan, Tree};
 use ner_trees::{Grown, ner};
 use rayon::prelude::*;
 use spin_base::{Block, Chip, Memory, Seq, Shared, Spot};
@@ -198,7 +200,7 @@ pub fn net_plan(
     let targets = targets_of(alloc, spots, &net.targets)?;
     let chips = target_chips(alloc, machine, source.chip, &targets)?;
     let grown = ner(alloc, machine, source.chip, &chips)?;
-    let tree = repair(alloc, machine, roads, &grown.tree, &chips)?;
+    let tree = with_detours(alloc, machine, roads, &grown.tree, &chips)?;
     Ok(Routed {
         grown,
         plan: NetPlan {
@@ -207,5 +209,42 @@ pub fn net_plan(
             targets,
             tree,
         },
+    })
+}
+
+// The tree of a net with its detours. A tree without a dead link is itself that tree, and is not searched.
+fn with_detours(
+    alloc: Global,
+    machine: &Machine,
+    roads: &Roads,
+    tree: &Tree,
+    chips: &Seq<Chip>,
+) -> Result<Tree, RepairErr>
+    requires roads_are { AreRoadsOf machine.now roads.now }
+    requires root_lives { IsLiveChip machine.now tree.now.root }
+    requires grown { IsGrownTree machine.now tree.now chips.now }
+    requires some_target { 0 < length chips.now }
+    requires targets_inside { All (IsInside machine.now) chips.now }
+    ensures root { IfOk result (λ t. t.root ≡ tree.now.root) }
+    ensures repaired { IfOk result (λ t.
+        IsRepaired machine.now tree.now.root tree.now.edges chips.now t.edges) }
+    ensures routing { IfOk result (λ t. IsTreeTo machine.now tree.now.root t.edges chips.now) }
+    ensures cut_off { IfErr result (IsRepairCause machine.now tree.now.root chips.now) }
+{
+    if roads.carry(machine, tree.edges.as_slice()) {
+        let same = copied(alloc, tree)?;
+        return Ok(same);
+    }
+    repair(alloc, machine, roads, tree, chips)
+}
+
+// The same tree once more.
+fn copied(alloc: Global, tree: &Tree) -> Result<Tree, Memory>
+    ensures { IfOk result (λ copy. copy ≡ tree.now) }
+{
+    let edges = Seq::from_vec(Vec::from_slice(alloc, tree.edges.as_slice())?);
+    Ok(Tree {
+        root: tree.root,
+        edges,
     })
 }

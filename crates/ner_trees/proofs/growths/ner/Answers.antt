@@ -56,6 +56,7 @@ returns c =
       none_into_root = done.none_into_root;
       one_into_each = done.one_into_each;
       few_edges = done.few;
+      whole = done.live;
       routing = done.routing;
     }
 

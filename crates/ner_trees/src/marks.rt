@@ -1,0 +1,58 @@
+// The chips of a machine that a tree has.
+ghost use Rattle.std.specs.Prelude.{◌≡◌, ◌*◌, length};
+ghost use Rattle.machine_desc.specs.Description.{HasSize};
+
+use machine_desc::Machine;
+use spin_base::{Chip, Memory};
+use std::alloc::Global;
+
+// A mark for each chip of a machine, in the order of the chips' indices. To make them costs no turn for each chip.
+#[derive(Drop)]
+pub struct Marks<'m> {
+    machine: &'m Machine,
+    items: Vec<bool>,
+    pub ghost size: { HasSize machine.now },
+    pub ghost long: { length items.items ≡ machine.now.width * machine.now.height },
+}
+
+impl<'m> Marks<'m> {
+    ghost use Rattle.std.specs.Prelude.{Bool, IfOk, replicate, slice_index_or, slice_set, false, true};
+    ghost use Rattle.machine_desc.specs.Live.{IsInside, index_of};
+
+    // No chip is marked.
+    pub fn none(alloc: Global, machine: &'m Machine) -> Result<Marks<'m>, Memory>
+        ensures machine { IfOk result (λ t. t.machine.now ≡ machine.now) }
+        ensures items { IfOk result (λ t.
+            t.items.items ≡ replicate (machine.now.width * machine.now.height) false) }
+    {
+        let items = vec![in alloc; false; machine.chips()]?;
+        Ok(Marks { machine, items })
+    }
+
+    // The machine whose chips these are.
+    pub fn machine(&self) -> &'m Machine
+        ensures { result.now ≡ self.now.machine.now }
+    {
+        self.machine
+    }
+
+    // Whether a chip is marked.
+    pub fn at(&self, chip: Chip) -> bool
+        requires { IsInside self.now.machine.now chip }
+        ensures { (d : Bool) →
+            result ≡ slice_index_or self.now.items.items (index_of self.now.machine.now chip) d }
+    {
+        self.items[self.machine.index(chip) as usize]
+    }
+
+    // Marks a chip.
+    pub fn set(&mut self, chip: Chip)
+        requires { IsInside self.old.machine.now chip }
+        ensures machine { self.new.machine.now ≡ self.old.machine.now }
+        ensures items { self.new.items.items ≡
+            slice_set self.old.items.items (index_of self.old.machine.now chip) true }
+    {
+        let place = self.machine.index(chip) as usize;
+        self.items[place] = true;
+    }
+}
