@@ -6,13 +6,11 @@ use Rattle.std.proofs.lemmas.Bool.Decides.{eqb_tells}
 use Rattle.std.proofs.lemmas.List.{take_more, take_all, get_or_default}
 use Rattle.std.proofs.lemmas.List.Elements.{All-nil, All-cons}
 use Rattle.std.proofs.lemmas.List.Kept.{AllPairs-cons}
-use Rattle.spin_base.specs.declared.routes.Route.{Route}
 use Rattle.tern_word.specs.declared.tables.Row.{Row}
 use Rattle.cover_merge.specs.Merge.{IsOneRoute, IsMergeSet, merge_rows}
 use Rattle.cover_merge.proofs.Positions.{pair_set_read}
 use Rattle.spin_base.proofs.RouteBits.{same_route}
 use Rattle.cover_merge.proofs.Lists.{AllPairs-nil}
-use Rattle.cover_merge.specs.Refinement.{Refines, ends_empty}
 use Rattle.cover_merge.specs.Links.{AreNexts, IsNextOfRoute, IsFirstOfRoute}
 use Rattle.cover_merge.specs.Covering.{places_of, IsLegalPair, IsFirstPartner, HasNoLegalPair, IsFirstLegalPair}
 

@@ -46,12 +46,7 @@ pub(crate) fn chosen(
 }
 
 // Refines the rows of each route of which nothing is kept, and keeps how many places are left.
-fn keep_all(
-    alloc: Global,
-    table: &Table,
-    known: &mut Known,
-    links: &Links,
-) -> Result<(), Memory>
+fn keep_all(alloc: Global, table: &Table, known: &mut Known, links: &Links) -> Result<(), Memory>
     requires few { length table.now.rows < 2 ^ 32 }
     requires sound { IsSound table.now.rows }
     requires known { IsKnown table.now.rows known.old }
@@ -121,12 +116,7 @@ fn largest(
 }
 
 // The places of all rows of a route whose first is that at the place.
-fn places_from(
-    alloc: Global,
-    rows: &[Row],
-    links: &Links,
-    first: u32,
-) -> Result<Seq<u32>, Memory>
+fn places_from(alloc: Global, rows: &[Row], links: &Links, first: u32) -> Result<Seq<u32>, Memory>
     requires few { length rows.now < 2 ^ 32 }
     requires nexts { AreNexts rows.now links.now.next.items }
     ensures { IfOk result (λ places. (bits : ℕ) → IsFirstOfRoute rows.now bits first

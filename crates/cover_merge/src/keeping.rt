@@ -105,12 +105,7 @@ fn apart(kept: Option<Kept>, merged: Block) -> Option<Kept>
 }
 
 /// Forgets what is kept of routes with a row of which the block meets an alias.
-pub(crate) fn forget_met(
-    rows: &[Row],
-    numbers: &[u32],
-    kept: &mut Vec<Option<Kept>>,
-    merged: Block,
-)
+pub(crate) fn forget_met(rows: &[Row], numbers: &[u32], kept: &mut Vec<Option<Kept>>, merged: Block)
     requires inside { All HoldsItsAliases rows.now }
     requires one_each { length numbers.now ≡ length rows.now }
     requires below { All (λ c. c < length kept.old.items) numbers.now }

@@ -1,5 +1,5 @@
 -- The route comes last, or stands there.
-use Rattle.std.proofs.Common.{◌≡◌, ◌∙◌, ap, subst, length, arith}
+use Rattle.std.proofs.Common.{◌≡◌, ◌∙◌, ap, arith}
 use Rattle.cover_merge.specs.Links.{place_of_route}
 use Rattle.cover_merge.proofs.LinkLemmas.{added_again, added_last, place_le}
 use Rattle.cover_merge.proofs.links.add_route.Goals as goal

@@ -1,8 +1,8 @@
 -- Each round is a step of the refinement.
-use Rattle.std.proofs.Common.{◌≡◌, ◌<◌, ◌≤◌, ◌∙◌, length, inr, sym, ap, subst, arith}
+use Rattle.std.proofs.Common.{◌≡◌, ◌<◌, ◌≤◌, ◌∙◌, length, inr, sym, subst, arith}
 use Rattle.std.specs.Prelude.{MatchOption}
 use Rattle.spin_base.specs.declared.blocks.Block.{Block}
-use Rattle.tern_word.specs.SoundTable.{IsOrdered, IsSound}
+use Rattle.tern_word.specs.SoundTable.{IsSound}
 use Rattle.cover_merge.specs.Merge.{IsOneRoute, IsMergeSet, IsLegal, PassesUpCheck, merged_block}
 use Rattle.cover_merge.specs.Guards.{AreGuards}
 use Rattle.cover_merge.specs.Kept.{IsGone, RefinesWithin}
@@ -54,7 +54,7 @@ loop-rows-preserved-else-narrow c =
     record {
       set = one_route_after rows left c.in_ok-merged.ensures.one_route c.narrow.new.set.items (inr step);
       gone = turn_down rows c.args.places c.loop-rows.set.items left c.loop-rows.outer c.outermost-outer.result c.in-Some.merged c.loop-rows.low c.generality-low.result c.loop-rows.invariant.gone c.loop-rows.invariant.set c.in_ok-merged.ensures.steps
-    sifted c.outermost-outer.ensures c.generality-low.ensures.value
+          sifted c.outermost-outer.ensures c.generality-low.ensures.value
           c.in_ok-merged.ensures.one_route.in_range c.narrow.new.set.items step;
     }
 
