@@ -8,6 +8,10 @@ mod ChooseLemmas
 mod CoverLemmas
 pub mod Determined
 mod GuardLemmas
+mod KeepLemmas
+mod KeptLemmas
+mod KeptLemmasMoved
+mod KeptLemmasSteps
 mod LinkLemmas
 mod RefineLemmas
 mod SiftLemmas
