@@ -1,5 +1,6 @@
 mod Keeping
 mod Pruning
+mod Naming
 mod Putting
 mod Reaching
 mod RoadBits

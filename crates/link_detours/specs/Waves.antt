@@ -1,5 +1,5 @@
 -- Sets of chips as bits, and waves: the chips within so many live links of a start.
-use Rattle.std.specs.Prelude.{◌≡◌, ℕ, ◌<◌, ◌≤◌, List, [], length, slice_index, slice_index_or, Some, ◌⊎◌}
+use Rattle.std.specs.Prelude.{◌≡◌, ℕ, ◌^◌, ◌<◌, ◌≤◌, ◌↔◌, List, [], length, slice_index, slice_index_or, slice_set, Some, ◌⊎◌}
 use Rattle.std.specs.Int.{bit_at}
 use Rattle.spin_base.specs.declared.chips.Chip.{Chip}
 use Rattle.spin_base.specs.declared.chips.Dir.{Dir}
@@ -9,6 +9,7 @@ use Rattle.machine_desc.specs.Description.{Description}
 use Rattle.machine_desc.specs.Live.{far_of, IsInside, IsLiveLink, LeadsTo}
 use Rattle.machine_desc.specs.RoutingTree.{end_of}
 use Rattle.link_detours.specs.Steps.{IsReachedBy}
+use Rattle.link_detours.specs.declared.sets.Wave.{Wave}
 
 -- A set has one word a column of chips, and bit y of it tells of the chip at y.
 abbrev pub IsIn : List ℕ → Chip → Type 0
@@ -21,6 +22,21 @@ LeadsInto m set c d = (e : Chip) × IsLiveLink m c d × (far_of m c d ≡ Some e
 -- the chip is in the set, or some live link leads from it to one that is
 abbrev pub IsSpread : Description → List ℕ → Chip → Type 0
 IsSpread m set c = IsIn set c ⊎ ((d : Dir) × LeadsInto m set c d)
+
+-- outside the columns that a word names the set has each chip from which a live link leads to one of it
+abbrev pub IsSpreadBut : Description → List ℕ → ℕ → Type 0
+IsSpreadBut m set columns = (c : Chip) → IsInside m c → (bit_at columns c.x ≡ 1 → ⊥) → IsSpread m set c → IsIn set c
+
+-- A column's word in place of the old one: the chips of the column in a set, and those from which a live link leads to one of it.
+-- The column is named where it has more than in the set.
+pub record IsSpreadAt (m : Description) (set : List ℕ) (x : ℕ) (old new : Wave) : Type 0 where
+  pub word : ℕ
+  pub is : new.set.items ≡ slice_set old.set.items x word
+  pub fits : word < 2 ^ 64
+  pub rises : slice_index set x ≤ word
+  pub spread : (y : ℕ) → y < m.height → (bit_at word y ≡ 1) ↔ IsSpread m set (record { x = x; y = y })
+  pub named : (k : ℕ) → bit_at old.grown k ≡ 1 → bit_at new.grown k ≡ 1
+  pub told : (bit_at new.grown x ≡ 1 → ⊥) → word ≡ slice_index set x
 
 -- at most n live links lead from a start to the chip
 abbrev pub IsWithinLinks : Description → (Chip → Type 0) → ℕ → Chip → Type 0

@@ -12,7 +12,7 @@ ghost use Rattle.machine_desc.specs.declared.trees.Edge.{Edge};
 
 use crate::roads::Roads;
 use crate::searches::reached_chips;
-use crate::sets::{has, put, same_sets, spread};
+use crate::sets::{empty_set, has, near_columns, put, same_sets, spread};
 use crate::tables::link_table;
 use machine_desc::{Edge, Machine};
 use spin_base::{Chip, Dir, Memory};
@@ -56,15 +56,18 @@ fn waves(
     ensures cut_off { IfOk result (λ o. IfNone o ((n : ℕ)
         → IsReachedBy (LeadsTo machine.now) (IsIn tree.now) n target → ⊥)) }
 {
+    let width = machine.width();
+    let mut near = u64::MAX;
     let mut waves = Vec::new(alloc);
     let mut last = Vec::from_slice(alloc, tree)?;
     'spreading: while !has(&last, target) {
-        let next = spread(alloc, machine, roads, &last)?;
-        if same_sets(next.as_slice(), last.as_slice()) {
+        let next = spread(alloc, machine, roads, &last, near)?;
+        if same_sets(next.set.as_slice(), last.as_slice()) {
             return Ok(None);
         }
+        near = near_columns(width, next.grown);
         waves.push(last)?;
-        last = next;
+        last = next.set;
     }
     Ok(Some(waves))
 }

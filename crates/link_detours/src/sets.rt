@@ -1,13 +1,14 @@
 // Sets of chips as bits: one word a column of chips, and bit y of it is of the chip at y.
-ghost use Rattle.std.specs.Prelude.{◌≡◌, ◌<◌, ◌≤◌, ◌+◌, ◌*◌, ◌-◌, ◌^◌, ◌↔◌, ℕ, length, All, IfOk, IsTrue, Some, Bool, slice_index};
+ghost use Rattle.std.specs.Prelude.{◌≡◌, ◌<◌, ◌≤◌, ◌+◌, ◌*◌, ◌-◌, ◌^◌, ◌↔◌, ℕ, length, All, IfOk, IsTrue, Some, Bool, true, slice_index};
 ghost use Rattle.std.specs.Int.{bit_at};
 ghost use Rattle.spin_base.specs.declared.chips.Chip.{Chip};
 ghost use Rattle.spin_base.specs.declared.chips.Dir.{Dir};
 ghost use Rattle.spin_base.specs.Links.{dir_number};
+ghost use Rattle.machine_desc.specs.declared.steps.Step.{Step};
 ghost use Rattle.machine_desc.specs.Live.{IsInside, IsLiveLink, far_of, x_step, y_step, stepped};
 ghost use Rattle.machine_desc.specs.RoutingTree.{IsTreeChip};
 ghost use Rattle.link_detours.specs.LiveRoads.{AreRoadsOf};
-ghost use Rattle.link_detours.specs.Waves.{IsIn, LeadsInto, IsSpread};
+ghost use Rattle.link_detours.specs.Waves.{IsIn, LeadsInto, IsSpread, IsSpreadBut, IsSpreadAt};
 
 use crate::roads::Roads;
 use machine_desc::{Edge, Machine};
@@ -149,24 +150,78 @@ fn spread_word(machine: &Machine, roads: &Roads, set: &[u64], x: usize) -> u64
     word
 }
 
-// The set with the chips from which a live link leads to one of it.
+// A set that has spread from another: its words, and a word that names the columns in which it has more.
+#[derive(Drop)]
+pub struct Wave {
+    pub set: Vec<u64>,
+    pub grown: u64,
+}
+
+// The word with the column named, where it is to be.
+fn with_column(columns: u64, x: u32, named: bool) -> u64
+    requires { x < 64 }
+    ensures same { (k : ℕ) → bit_at columns k ≡ 1 → bit_at result k ≡ 1 }
+    ensures named { named ≡ true → bit_at result x ≡ 1 }
+{
+    if named { columns | 1 << x } else { columns }
+}
+
+// Spreads one column of a set.
+fn spread_column(machine: &Machine, roads: &Roads, set: &[u64], x: u32, wave: &mut Wave)
+    requires roads_are { AreRoadsOf machine.now roads.now }
+    requires long { length set.now ≡ machine.now.width }
+    requires wave_long { length wave.old.set.items ≡ machine.now.width }
+    requires column { x < machine.now.width }
+    requires few { x < 64 }
+    ensures { IsSpreadAt machine.now set.now x wave.old wave.new }
+{
+    let place = x as usize;
+    let word = spread_word(machine, roads, set, place);
+    wave.grown = with_column(wave.grown, x, word != set[place]);
+    wave.set[place] = word;
+}
+
+// The set with the chips from which a live link leads to one of it. Only columns that are named are looked at.
 pub fn spread(
     alloc: Global,
     machine: &Machine,
     roads: &Roads,
     set: &[u64],
-) -> Result<Vec<u64>, Memory>
+    near: u64,
+) -> Result<Wave, Memory>
     requires roads_are { AreRoadsOf machine.now roads.now }
     requires long { length set.now ≡ machine.now.width }
-    ensures long { IfOk result (λ t. length t.items ≡ machine.now.width) }
-    ensures fits { IfOk result (λ t. All (λ w. w < 2 ^ 64) t.items) }
-    ensures rises { IfOk result (λ t. (x : ℕ) → slice_index set.now x ≤ slice_index t.items x) }
+    requires others { IsSpreadBut machine.now set.now near }
+    ensures long { IfOk result (λ t. length t.set.items ≡ machine.now.width) }
+    ensures fits { IfOk result (λ t. All (λ w. w < 2 ^ 64) t.set.items) }
+    ensures rises { IfOk result (λ t. (x : ℕ) → slice_index set.now x ≤ slice_index t.set.items x) }
     ensures spread { IfOk result (λ t. (c : Chip) → IsInside machine.now c
-        → IsIn t.items c ↔ IsSpread machine.now set.now c) }
+        → IsIn t.set.items c ↔ IsSpread machine.now set.now c) }
+    ensures grown { IfOk result (λ t. (x : ℕ) → (bit_at t.grown x ≡ 1 → ⊥)
+        → slice_index set.now x ≡ slice_index t.set.items x) }
 {
-    let mut more = Vec::with_capacity(alloc, set.len())?;
-    for x in 0..set.len() {
-        more.push(spread_word(machine, roads, set, x))?;
+    let mut wave = Wave {
+        set: Vec::from_slice(alloc, set)?,
+        grown: 0,
+    };
+    let width = u32::from(machine.width());
+    let mut left = near;
+    while left != 0 {
+        let x = left.trailing_zeros();
+        left &= !(1 << x);
+        if x < width {
+            spread_column(machine, roads, set, x, &mut wave);
+        }
     }
-    Ok(more)
+    Ok(wave)
+}
+
+// The columns that a word names, and those beside them on a ring of so many.
+pub fn near_columns(width: u8, columns: u64) -> u64
+    requires some { 0 < width }
+    requires few { width ≤ 64 }
+    ensures { (wrap : Bool) (step : Step) (x k : ℕ) → x < width → stepped wrap width step x ≡ Some k
+        → bit_at columns k ≡ 1 → bit_at result x ≡ 1 }
+{
+    columns | up(width, columns) | down(width, columns)
 }

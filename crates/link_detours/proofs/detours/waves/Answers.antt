@@ -1,6 +1,7 @@
 use Rattle.std.proofs.Common.{◌≡◌, ℕ, ◌+◌, ◌<◌, length, Vec, Global, refl, sym, ap, ◌∙◌, subst, arith, length-append}
 use Rattle.std.proofs.lemmas.Bool.{false≢true}
 use Rattle.link_detours.specs.Waves.{IsIn, IsWave}
+use Rattle.link_detours.proofs.Naming.{all_named, spread_but}
 use Rattle.link_detours.proofs.Waving.{first_wave, next_wave, dry, level_is, off_wave, waves_none, waves_push, sum_rises}
 use Rattle.link_detours.proofs.detours.waves.Goals as goal
 
@@ -11,6 +12,7 @@ spreading-init c =
       wave = subst (λ n. IsWave c.args.machine.now (IsIn c.args.tree.now) n c.in_ok-last.last.items) (sym none)
           (subst (λ s. IsWave c.args.machine.now (IsIn c.args.tree.now) 0 s) (sym c.in_ok-last.ensures.items)
           (first_wave c.args.machine.now (IsIn c.args.tree.now) c.args.tree.now c.requires.long (λ x. (λ b. b, λ b. b))));
+      near = all_named c.args.machine.now c.in_ok-last.last.items c.width-width.ensures.size.width_to_64;
       off = λ k below. absurd (omega (arith, below, none));
     }
 
@@ -22,9 +24,13 @@ spreading-preserved c =
     ap length c.in_ok-push.ensures.items ∙ length-append c.spreading.waves.items _ in record {
       waves = waves_push c.args.machine.now (IsIn c.args.tree.now) (λ (w : Vec ℕ Global). w.items) c.spreading.waves.items c.push.new.self.items
           c.spreading.last c.in_ok-push.ensures.items c.spreading.invariant.waves c.spreading.invariant.wave;
-      wave = subst (λ n. IsWave c.args.machine.now (IsIn c.args.tree.now) n c.in_ok-next.next.items) (sym longer)
-          (next_wave c.args.machine.now (IsIn c.args.tree.now) (length c.spreading.waves.items) c.spreading.last.items c.in_ok-next.next.items
+      wave = subst (λ n. IsWave c.args.machine.now (IsIn c.args.tree.now) n c.in_ok-next.next.set.items) (sym longer)
+          (next_wave c.args.machine.now (IsIn c.args.tree.now) (length c.spreading.waves.items) c.spreading.last.items c.in_ok-next.next.set.items
           c.spreading.invariant.wave c.in_ok-next.ensures.long (rw c.deref-in-spreading.ensures.value at c.in_ok-next.ensures.spread));
+      near = spread_but c.args.machine.now c.spreading.last.items c.in_ok-next.next.set.items c.in_ok-next.next.grown c.near_columns-near.result
+          (λ x inside by. ((rw c.deref-in-spreading.ensures.value at c.in_ok-next.ensures.spread) x inside).1 by)
+          (rw c.deref-in-spreading.ensures.value at c.in_ok-next.ensures.grown)
+          (rw c.width-width.ensures.value at c.near_columns-near.ensures);
       off = λ k below.
           off_wave c.args.machine.now (IsIn c.args.tree.now) (length c.spreading.waves.items) c.spreading.last.items c.args.target c.requires.inside
           c.spreading.invariant.wave off_last k (subst (λ n. k < n) longer below);
@@ -32,16 +38,16 @@ spreading-preserved c =
 
 pub spreading-smaller : goal.spreading-smaller
 spreading-smaller c =
-    sum_rises c.args.machine.now c.spreading.last.items c.in_ok-next.next.items c.spreading.invariant.wave.long c.in_ok-next.ensures.long
+    sum_rises c.args.machine.now c.spreading.last.items c.in_ok-next.next.set.items c.spreading.invariant.wave.long c.in_ok-next.ensures.long
     c.in_ok-next.ensures.fits (rw c.deref-in-spreading.ensures.value at c.in_ok-next.ensures.rises)
     (λ same. false≢true (sym c.if-same_sets.false ∙ c.same_sets.ensures.1 (c.as_slice.ensures.value ∙ (same ∙ sym c.as_slice-in-spreading.ensures.value))))
 
 pub returns-then-same_sets-clause-cut_off : goal.returns-then-same_sets-clause-cut_off
 returns-then-same_sets-clause-cut_off c = λ n by.
-    let same : c.in_ok-next.next.items ≡ c.spreading.last.items =
+    let same : c.in_ok-next.next.set.items ≡ c.spreading.last.items =
     sym c.as_slice.ensures.value ∙ (c.same_sets.ensures.0 c.if-same_sets.true ∙ c.as_slice-in-spreading.ensures.value) in
     let bit : IsIn c.spreading.last.items c.args.target =
-    dry c.args.machine.now (IsIn c.args.tree.now) c.spreading.last.items c.in_ok-next.next.items
+    dry c.args.machine.now (IsIn c.args.tree.now) c.spreading.last.items c.in_ok-next.next.set.items
     (λ x inside start. (c.spreading.invariant.wave.told x inside).1 (0, omega arith, (x, start, refl))) same
     (rw c.deref-in-spreading.ensures.value at c.in_ok-next.ensures.spread) n c.args.target c.requires.inside by in
     false≢true (sym c.spreading-test.true ∙ c.has.ensures.1 (subst (λ s. IsIn s c.args.target) (sym c.deref.ensures.value) bit))
@@ -50,3 +56,6 @@ pub returns-clause-level : goal.returns-clause-level
 returns-clause-level c =
     level_is c.args.machine.now (IsIn c.args.tree.now) (length c.spreading.waves.items) c.spreading.last.items c.args.target c.requires.inside
     c.spreading.invariant.wave (subst (λ s. IsIn s c.args.target) c.deref.ensures.value (c.has.ensures.0 c.spreading-test.false)) c.spreading.invariant.off
+
+pub spread-requires-clause-others : goal.spread-requires-clause-others
+spread-requires-clause-others c = rw c.deref-in-spreading.ensures.value c.spreading.invariant.near

@@ -2,14 +2,15 @@ use Rattle.std.proofs.Common.{ℕ, ◌*◌, ◌-◌, ◌<◌, map, length}
 use Rattle.std.specs.List.{sum_by}
 use Rattle.machine_desc.specs.Live.{LeadsTo}
 use Rattle.link_detours.specs.Steps.{IsReachedBy}
-use Rattle.link_detours.specs.Waves.{IsIn, IsWave, AreWaves}
+use Rattle.link_detours.specs.Waves.{IsIn, IsSpreadBut, IsWave, AreWaves}
 use Rattle.link_detours.proofs.detours.waves.Given as goal
 
--- the waves so far and the next of them, and the target is in none of those so far
+-- the waves so far and the next of them, the columns in which it can spread, and the target is in none of those so far
 abbrev pub invariant-spreading : goal.invariant-spreading
 invariant-spreading l = record {
   waves : AreWaves l.machine (IsIn l.tree) (map (λ w. w.items) l.waves.items);
   wave : IsWave l.machine (IsIn l.tree) (length l.waves.items) l.last.items;
+  near : IsSpreadBut l.machine l.last.items l.near;
   off : (k : ℕ) → k < length l.waves.items → IsReachedBy (LeadsTo l.machine) (IsIn l.tree) k l.target → ⊥;
 }
 

@@ -1,11 +1,30 @@
-use Rattle.link_detours.proofs.Spreading.{ColumnsTo-none, ColumnsTo-more}
+use Rattle.std.proofs.Common.{◌≡◌, ◌<◌, ◌≤◌, arith}
+use Rattle.std.specs.Int.{bit_at, trailing_zeros, w64}
+use Rattle.std.proofs.lemmas.Nat.Bits.{bit_at-trailing_zeros}
+use Rattle.link_detours.proofs.Naming.{fewer, spreading_more, spreading_skip}
 use Rattle.link_detours.proofs.sets.spread.Goals as goal
 
-pub loop-x-preserved : goal.loop-x-preserved
-loop-x-preserved c =
-    rw c.in_ok-push.ensures.items
-    (ColumnsTo-more c.args.machine.now c.args.set.now c.loop-x.more.items c.loop-x.x c.spread_word.result c.spread_word.type_inv c.spread_word.ensures.rises
-    c.spread_word.ensures.old c.spread_word.ensures.new c.spread_word.ensures.only c.loop-x.invariant)
+pub loop-left-smaller-then-x-width : goal.loop-left-smaller-then-x-width
+loop-left-smaller-then-x-width c =
+    let low = bit_at-trailing_zeros w64 c.loop-left.left (omega (arith, c.loop-left-test.true)) c.loop-left.auto.left-fits.fits in
+    fewer c.loop-left.left (trailing_zeros w64 c.loop-left.left) low.0 low.1
 
-pub loop-x-init : goal.loop-x-init
-loop-x-init c = ColumnsTo-none c.args.machine.now c.args.set.now c.in_ok-more.more.items c.in_ok-more.ensures.items
+pub loop-left-smaller : goal.loop-left-smaller
+loop-left-smaller c =
+    let low = bit_at-trailing_zeros w64 c.loop-left.left (omega (arith, c.loop-left-test.true)) c.loop-left.auto.left-fits.fits in
+    fewer c.loop-left.left (trailing_zeros w64 c.loop-left.left) low.0 low.1
+
+pub loop-left-preserved-then-x-width : goal.loop-left-preserved-then-x-width
+loop-left-preserved-then-x-width c =
+    let low = bit_at-trailing_zeros w64 c.loop-left.left (omega (arith, c.loop-left-test.true)) c.loop-left.auto.left-fits.fits in
+    let x = trailing_zeros w64 c.loop-left.left in
+    let within : x < c.args.machine.now.width = omega (arith, c.if-x-width.true, c.from-width.ensures, c.width.ensures.value) in
+    spreading_more c.loop-left.left x low.0 low.1 c.args.machine.now c.args.set.now c.loop-left.wave c.width.ensures.size.width_to_64 c.loop-left.invariant
+    c.spread_column.new.wave within c.spread_column.ensures
+
+pub loop-left-preserved : goal.loop-left-preserved
+loop-left-preserved c =
+    let low = bit_at-trailing_zeros w64 c.loop-left.left (omega (arith, c.loop-left-test.true)) c.loop-left.auto.left-fits.fits in
+    let x = trailing_zeros w64 c.loop-left.left in
+    let beyond : c.args.machine.now.width ≤ x = omega (arith, c.if-x-width.false, c.from-width.ensures, c.width.ensures.value) in
+    spreading_skip c.loop-left.left x low.0 low.1 c.args.machine.now c.args.set.now c.loop-left.wave c.width.ensures.size.width_to_64 c.loop-left.invariant beyond

@@ -1,6 +1,9 @@
-use Rattle.link_detours.proofs.Spreading.{ColumnsTo}
+use Rattle.link_detours.proofs.Naming.{Spreading}
 use Rattle.link_detours.proofs.sets.spread.Given as goal
 
--- the columns so far have spread
-abbrev pub invariant-loop-x : goal.invariant-loop-x
-invariant-loop-x l = ColumnsTo l.machine l.set l.more.items l.x
+-- the columns that are left are as they were, and the others have spread
+abbrev pub invariant-loop-left : goal.invariant-loop-left
+invariant-loop-left l = Spreading l.machine l.set l.wave l.left
+
+abbrev pub decreases-loop-left : goal.decreases-loop-left
+decreases-loop-left l = l.left

@@ -1,0 +1,171 @@
+-- Words that name columns: those in which a set has more, and those beside them.
+use Rattle.std.proofs.Common.{◌≡◌, ℕ, Bool, ◌≢◌, ◌+◌, ◌-◌, ◌*◌, ◌%◌, ◌^◌, ◌<◌, ◌≤◌, ◌↔◌, List, length, get_or, Some, max, min, refl, sym, ap, ◌∙◌, subst, arith, inl, inr}
+use Rattle.std.specs.Int.{bit_at, bit_not, w64}
+use Rattle.std.specs.Int.RustNames.{bit_or}
+use lib.Bits.{bit_and}
+use mir.Val.{bits}
+use Rattle.std.specs.List.{All}
+use Rattle.std.proofs.lemmas.Bool.{cases_eq}
+use Rattle.std.proofs.lemmas.List.{get_or-set_same, get_or-set_other, length-set}
+use Rattle.std.proofs.lemmas.Nat.{and_le_l}
+use Rattle.std.proofs.lemmas.List.Elements.{All-set}
+use Rattle.std.proofs.lemmas.Nat.Bits.{bit_at_and, bit_at_or, bit_at_ones, bit_at-lt, bit_at-zero, bit_at_clear_same, bit_at_clear_other}
+use Rattle.spin_base.specs.declared.chips.Chip.{Chip}
+use Rattle.spin_base.specs.declared.chips.Dir.{Dir}
+use Rattle.machine_desc.specs.declared.steps.Step.{Step}
+use Rattle.machine_desc.specs.declared.steps.Step.TheVariants.{Back, Stay, Ahead}
+use Rattle.machine_desc.specs.Description.{Description}
+use Rattle.machine_desc.specs.Live.{far_of, x_step, stepped, IsInside}
+use Rattle.machine_desc.proofs.Far.{far_inside, far_parts, inside_parts}
+use Rattle.link_detours.specs.declared.sets.Wave.{Wave}
+use Rattle.link_detours.specs.Waves.{IsIn, IsSpread, IsSpreadBut, IsSpreadAt}
+use Rattle.link_detours.proofs.RoadBits.{chip_of_column}
+use Rattle.link_detours.proofs.TurnedWords.{turned_ahead, turned_back, turned_stay}
+
+-- a bit of one of two words, or of both
+max_left : (a b : ℕ) → b < 2 → a ≡ 1 → max a b ≡ 1
+max_left a b p q = omega (arith, p, q)
+
+max_right : (a b : ℕ) → a < 2 → b ≡ 1 → max a b ≡ 1
+max_right a b p q = omega (arith, p, q)
+
+pub or_left : (a b y : ℕ) → bit_at a y ≡ 1 → bit_at (bit_or a b) y ≡ 1
+or_left a b y bit = bit_at_or a b y ∙ max_left (bit_at a y) (bit_at b y) (bit_at-lt b y) bit
+
+or_right : (a b y : ℕ) → bit_at b y ≡ 1 → bit_at (bit_or a b) y ≡ 1
+or_right a b y bit = bit_at_or a b y ∙ max_right (bit_at a y) (bit_at b y) (bit_at-lt a y) bit
+
+-- the columns from which a step leads to one that is named
+pub beside : (columns up down width : ℕ) →
+    ((y : ℕ) → y + 1 < width → bit_at up y ≡ bit_at columns (y + 1)) → ((y : ℕ) → y + 1 ≡ width → bit_at up y ≡ bit_at columns 0) →
+    ((y : ℕ) → 0 < y → y < width → bit_at down y ≡ bit_at columns (y - 1)) → bit_at down 0 ≡ bit_at columns (width - 1) →
+    (wrap : Bool) (step : Step) (x k : ℕ) → x < width → stepped wrap width step x ≡ Some k → bit_at columns k ≡ 1 → bit_at (bit_or (bit_or columns up) down) x ≡ 1
+beside columns up down width ahead ahead_round back back_round wrap Ahead x k within leads bit =
+    or_left (bit_or columns up) down x (or_right columns up x (turned_ahead columns up width ahead ahead_round wrap x k within leads ∙ bit))
+beside columns up down width ahead ahead_round back back_round wrap Stay x k within leads bit =
+    or_left (bit_or columns up) down x (or_left columns up x (turned_stay columns width wrap x k leads ∙ bit))
+beside columns up down width ahead ahead_round back back_round wrap Back x k within leads bit =
+    or_right (bit_or columns up) down x (turned_back columns down width back back_round wrap x k within leads ∙ bit)
+
+-- outside the columns beside those that grew nothing changed beside a chip, so the newer set has spread there
+pub spread_but : (m : Description) (old new : List ℕ) (grown near : ℕ) → ((c : Chip) → IsInside m c → IsSpread m old c → IsIn new c) →
+    ((x : ℕ) → (bit_at grown x ≡ 1 → ⊥) → get_or old x 0 ≡ get_or new x 0) →
+    ((wrap : Bool) (step : Step) (x k : ℕ) → x < m.width → stepped wrap m.width step x ≡ Some k → bit_at grown k ≡ 1 → bit_at near x ≡ 1) →
+    IsSpreadBut m new near
+spread_but m old new grown near spread told names c inside off (inl bit) = bit
+spread_but m old new grown near spread told names c inside off (inr by) =
+    let d : Dir = by.0 in
+    let e : Chip = by.1.0 in
+    let parts = far_parts m c e d by.1.2 in
+    let not_new : bit_at grown e.x ≡ 1 → ⊥ = λ bit. off (names m.wrap (x_step d) c.x e.x (inside_parts m c inside).0 parts.0 bit) in
+    let same : get_or old e.x 0 ≡ get_or new e.x 0 = told e.x not_new in
+    spread c inside (inr (d, (e, by.1.1, by.1.2, ap (λ w. bit_at w e.y) same ∙ by.1.3)))
+
+-- A set that is spreading: the columns that are left are as they were, and the others have spread.
+pub record Spreading (m : Description) (set : List ℕ) (wave : Wave) (left : ℕ) : Type 0 where
+  pub long : length wave.set.items ≡ m.width
+  pub fits : All (λ w. w < 2 ^ 64) wave.set.items
+  pub rises : (x : ℕ) → get_or set x 0 ≤ get_or wave.set.items x 0
+  pub done : (c : Chip) → IsInside m c → (bit_at left c.x ≡ 1 → ⊥) → IsIn wave.set.items c ↔ IsSpread m set c
+  pub rest : (x : ℕ) → bit_at left x ≡ 1 → get_or wave.set.items x 0 ≡ get_or set x 0
+  pub told : (x : ℕ) → (bit_at wave.grown x ≡ 1 → ⊥) → get_or set x 0 ≡ get_or wave.set.items x 0
+
+pub spreading_start : (m : Description) (set : List ℕ) (wave : Wave) (near : ℕ) → wave.set.items ≡ set → length set ≡ m.width → All (λ w. w < 2 ^ 64) set →
+    IsSpreadBut m set near → Spreading m set wave near
+spreading_start m set wave near same long fits others = record {
+  long = ap length same ∙ long;
+  fits = subst (All (λ w. w < 2 ^ 64)) (sym same) fits;
+  rises = λ x. (let is : get_or wave.set.items x 0 ≡ get_or set x 0 = ap (λ s. get_or s x 0) same in omega (arith, is));
+  done = λ c inside off. (λ bit. inl (subst (λ s. IsIn s c) same bit), λ by. subst (λ s. IsIn s c) (sym same) (others c inside off by));
+  rest = λ x bit. ap (λ s. get_or s x 0) same;
+  told = λ x off. ap (λ s. get_or s x 0) (sym same);
+}
+
+abbrev pub without : ℕ → ℕ → ℕ
+without left x = bit_and left (bit_not w64 (1 * 2 ^ x % 2 ^ bits w64))
+
+module _ (left x : ℕ) (few : x < 64) (here : bit_at left x ≡ 1) where
+  gone : bit_at (without left x) x ≡ 0
+  gone = bit_at_clear_same w64 left x few
+
+  still : (k : ℕ) → k < 64 → k ≢ x → bit_at left k ≡ 1 → bit_at (without left x) k ≡ 1
+  still k within other bit = bit_at_clear_other w64 left x few k within other ∙ bit
+
+  was : (k : ℕ) → bit_at (without left x) k ≡ 1 → (k ≢ x) × (bit_at left k ≡ 1)
+  was k bit = (
+    λ same. (let none : bit_at (without left x) x ≡ 0 = gone in let one : bit_at (without left x) x ≡ 1 = subst (λ j. bit_at (without left x) j ≡ 1) same bit in omega (arith, none, one)),
+    first_set (bit_at left k) (bit_at (bit_not w64 (1 * 2 ^ x % 2 ^ bits w64)) k) (bit_at-lt left k) (sym (bit_at_and left (bit_not w64 (1 * 2 ^ x % 2 ^ bits w64)) k) ∙ bit),
+  )
+    where
+      first_set : (a b : ℕ) → a < 2 → min a b ≡ 1 → a ≡ 1
+      first_set a b p h = omega (arith, p, h)
+
+  -- a column less is left
+  pub fewer : without left x < left
+  fewer = elim (cases_eq (without left x) left) [
+    | inl same ↦ absurd (let none : bit_at (without left x) x ≡ 0 = gone in let one : bit_at (without left x) x ≡ 1 = ap (λ n. bit_at n x) same ∙ here in omega (arith, none, one))
+    | inr other ↦ (let low : without left x ≤ left = and_le_l left (bit_not w64 (1 * 2 ^ x % 2 ^ bits w64)) in omega (arith, low, other))
+  ]
+
+  module _ (m : Description) (set_of : List ℕ) (wave : Wave) (narrow : m.width ≤ 64) (now : Spreading m set_of wave left) where
+    -- a column is spread
+    pub spreading_more : (new : Wave) → x < m.width → IsSpreadAt m set_of x wave new → Spreading m set_of new (without left x)
+    spreading_more new within at = record {
+      long = ap length at.is ∙ (length-set wave.set.items x at.word ∙ now.long);
+      fits = subst (All (λ w. w < 2 ^ 64)) (sym at.is) (All-set (λ w. w < 2 ^ 64) wave.set.items x at.word at.fits now.fits);
+      rises = λ k. elim (cases_eq k x) [
+        | inl same ↦ (let low : get_or set_of x 0 ≤ at.word = at.rises in subst (λ j. get_or set_of j 0 ≤ get_or new.set.items j 0) (sym same) (subst (λ n. get_or set_of x 0 ≤ n) (sym read) low))
+        | inr other ↦ subst (λ n. get_or set_of k 0 ≤ n) (sym (unread k other)) (now.rises k)
+      ];
+      done = λ c inside off. elim (cases_eq c.x x) [
+        | inl same ↦
+            let high : c.y < m.height = (inside_parts m c inside).1 in
+            let is : bit_at (get_or new.set.items c.x 0) c.y ≡ bit_at at.word c.y = ap (λ n. bit_at n c.y) (ap (λ k. get_or new.set.items k 0) same ∙ read) in (
+              λ bit. subst (λ k. IsSpread m set_of (chip_of_column k c.y)) (sym same) ((at.spread c.y high).0 (sym is ∙ bit)),
+              λ by. is ∙ (at.spread c.y high).1 (subst (λ k. IsSpread m set_of (chip_of_column k c.y)) same by),
+            )
+        | inr other ↦
+            let low : c.x < m.width = (inside_parts m c inside).0 in
+            let known = now.done c inside (λ bit. off (still c.x (omega (arith, low, narrow)) other bit)) in
+            let is : bit_at (get_or new.set.items c.x 0) c.y ≡ bit_at (get_or wave.set.items c.x 0) c.y = ap (λ n. bit_at n c.y) (unread c.x other) in
+            (λ bit. known.0 (sym is ∙ bit), λ by. is ∙ known.1 by)
+      ];
+      rest = λ k bit. let before = was k bit in unread k before.0 ∙ now.rest k before.1;
+      told = λ k off. elim (cases_eq k x) [
+        | inl same ↦
+            let unnamed : bit_at new.grown x ≡ 1 → ⊥ = λ bit. off (subst (λ j. bit_at new.grown j ≡ 1) (sym same) bit) in
+            subst (λ j. get_or set_of j 0 ≡ get_or new.set.items j 0) (sym same) (sym (read ∙ at.told unnamed))
+        | inr other ↦ now.told k (λ bit. off (at.named k bit)) ∙ sym (unread k other)
+      ];
+    }
+      where
+        read : get_or new.set.items x 0 ≡ at.word
+        read = ap (λ s. get_or s x 0) at.is ∙ get_or-set_same wave.set.items x at.word 0 (subst (λ n. x < n) (sym now.long) within)
+
+        unread : (k : ℕ) → k ≢ x → get_or new.set.items k 0 ≡ get_or wave.set.items k 0
+        unread k other = ap (λ s. get_or s k 0) at.is ∙ get_or-set_other wave.set.items x k at.word 0 other
+
+    -- a place beyond the last column is passed over
+    pub spreading_skip : m.width ≤ x → Spreading m set_of wave (without left x)
+    spreading_skip beyond = record {
+      long = now.long;
+      fits = now.fits;
+      rises = now.rises;
+      done = λ c inside off.
+          let low : c.x < m.width = (inside_parts m c inside).0 in
+          now.done c inside (λ bit. off (still c.x (omega (arith, low, narrow)) (λ same. omega (arith, low, beyond, same)) bit));
+      rest = λ k bit. now.rest k (was k bit).1;
+      told = now.told;
+    }
+
+-- no column is left
+pub spreading_end : (m : Description) (set : List ℕ) (wave : Wave) (left : ℕ) → left ≡ 0 → Spreading m set wave left →
+    (c : Chip) → IsInside m c → IsIn wave.set.items c ↔ IsSpread m set c
+spreading_end m set wave left none now c inside = now.done c inside (λ bit.
+    let clear : bit_at left c.x ≡ 0 = ap (λ n. bit_at n c.x) none ∙ bit_at-zero c.x in omega (arith, clear, bit))
+
+-- where all columns are named nothing is asked
+pub all_named : (m : Description) (set : List ℕ) → m.width ≤ 64 → IsSpreadBut m set 18446744073709551615
+all_named m set narrow c inside off by =
+    let low : c.x < m.width = (inside_parts m c inside).0 in
+    absurd (off (bit_at_ones 64 c.x (omega (arith, low, narrow))))

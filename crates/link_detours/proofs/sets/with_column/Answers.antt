@@ -1,0 +1,10 @@
+use Rattle.std.specs.Int.{w64}
+use Rattle.std.proofs.lemmas.Nat.Bits.{bit_at_set_same}
+use Rattle.link_detours.proofs.Naming.{or_left}
+use Rattle.link_detours.proofs.sets.with_column.Goals as goal
+
+pub returns-then-named-clause-same : goal.returns-then-named-clause-same
+returns-then-named-clause-same c = λ k bit. or_left c.args.columns _ k bit
+
+pub returns-then-named-clause-named : goal.returns-then-named-clause-named
+returns-then-named-clause-named c = λ _. bit_at_set_same w64 c.args.columns c.args.x c.requires
