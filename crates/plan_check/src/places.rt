@@ -15,7 +15,7 @@ use table_load::Image;
 pub struct PlacedTables<'a> {
     pub machine: &'a Machine,
     pub image: &'a Image,
-    pub places: &'a [usize],
+    pub places: &'a [u16],
     pub ghost valid: { IsValid image.now } by { Prim.hlevel (props, IsChipBefore-prop) },
     pub ghost width: { image.now.width ≡ machine.now.width },
     pub ghost height: { image.now.height ≡ machine.now.height },
@@ -25,30 +25,30 @@ pub struct PlacedTables<'a> {
 }
 
 // Writes, for each chip by its index, the place of the chip's table in the image, and the number of tables where it has none.
-pub fn set_places(image: &Image, places: &mut [usize])
+pub fn set_places(image: &Image, places: &mut [u16])
     requires valid { IsValid image.now }
     requires long { length places.old ≡ image.now.width * image.now.height }
     ensures long { length places.new ≡ length places.old }
     ensures told { TellsTables image.now.height image.now.chips places.new }
 {
     let tables = image.chips.as_slice();
-    places.fill(tables.len());
-    let mut at = tables.len();
+    let mut at = tables.len() as u16;
+    places.fill(at);
     while at > 0 {
         at -= 1;
-        let chip = tables[at].chip;
+        let chip = tables[usize::from(at)].chip;
         let index = usize::from(chip.x) * usize::from(image.height) + usize::from(chip.y);
         places[index] = at;
     }
 }
 
 // The rows of the chip of an index, and none where it has no table.
-pub fn rows_of<'a>(image: &'a Image, places: &[usize], index: usize) -> &'a [Entry]
+pub fn rows_of<'a>(image: &'a Image, places: &[u16], index: usize) -> &'a [Entry]
     requires told { TellsTables image.now.height image.now.chips places.now }
     requires within { index < length places.now }
     ensures { result.now ≡ rows_of_index image.now.height image.now.chips index }
 {
-    match image.chips.as_slice().get(places[index]) {
+    match image.chips.as_slice().get(usize::from(places[index])) {
         Some(table) => table.entries.as_slice(),
         None => &[],
     }

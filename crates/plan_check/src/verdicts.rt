@@ -59,7 +59,7 @@ pub fn check(machine: &Machine, nets: &Seq<NetPlan>, image: &Image) -> Verdict
     let count = machine.chips();
     let ports: &mut [Option<Port>] = &mut ports[..count];
     let routes: &mut [Route] = &mut routes[..count];
-    let places: &mut [usize] = &mut places[..count];
+    let places: &mut [u16] = &mut places[..count];
     set_places(image, places);
     let tables = PlacedTables {
         machine,
@@ -80,7 +80,7 @@ fn route_board() -> [Route; MOST_CHIPS] {
 }
 
 // A board of places.
-fn place_board() -> [usize; MOST_CHIPS] {
+fn place_board() -> [u16; MOST_CHIPS] {
     [0; MOST_CHIPS]
 }
 

@@ -1,4 +1,5 @@
-use Rattle.std.proofs.Common.{◌*◌, length, ap, rules}
+use Rattle.std.proofs.Common.{◌*◌, length, ap, ◌∙◌, get_or, rules}
+use Rattle.spin_base.specs.declared.blocks.ChipTable.{ChipTable}
 use Rattle.plan_check.proofs.TablePlaces.{tells_none, table_read}
 use Rattle.plan_check.proofs.places.set_places.Goals as goal
 
@@ -9,5 +10,8 @@ loop-at-init c =
 
 pub loop-at-preserved : goal.loop-at-preserved
 loop-at-preserved c =
-    table_read c.args.image.now c.as_slice-tables.result.now c.loop-at.places c.loop-at.at _ _ _ c.index-tables-at.result c.requires.valid c.as_slice-tables.ensures
-    c.from.ensures c.from-in-loop-at.ensures c.from-in-loop-at-2.ensures c.loop-at-test.true c.loop-at.invariant
+    let items = c.as_slice-tables.result.now in
+    let table : ChipTable = c.index-tables-from.result in
+    table_read c.args.image.now items c.loop-at.places c.loop-at.at _ _ _ table c.requires.valid c.as_slice-tables.ensures
+    (c.from-in-loop-at.ensures ∙ ap (λ k. (get_or items k table).chip.x) c.from.ensures) c.from-in-loop-at-2.ensures
+    (c.from-in-loop-at-3.ensures ∙ ap (λ k. (get_or items k table).chip.y) c.from.ensures) c.loop-at-test.true c.loop-at.invariant
