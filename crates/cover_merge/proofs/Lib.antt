@@ -8,6 +8,8 @@ mod ChooseLemmas
 mod CoverLemmas
 pub mod Determined
 mod GuardLemmas
+mod KeptLemmas
+mod KeptLemmasMoved
 mod LinkLemmas
 mod RefineLemmas
 mod SiftLemmas

@@ -4,6 +4,7 @@ pub mod Merge
 pub mod Aliases
 pub mod Covering
 pub mod Guards
+pub mod Kept
 pub mod Links
 pub mod Merges
 pub mod Refinement

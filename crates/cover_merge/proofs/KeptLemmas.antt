@@ -1,0 +1,422 @@
+-- What is kept of a route is true in the table after a merge that leaves it alone.
+use Rattle.std.proofs.Common.{◌≡◌, ◌≢◌, ◌==◌, ◌||◌, ℕ, suc, ◌+◌, ◌<◌, ◌≤◌, ◌⊎◌, Bool, true, false, cond, Option, Some, List, [], ◌∷◌, length, get_or, inl, inr, refl, sym, ap, ◌∙◌, subst, arith}
+use Rattle.std.specs.Prelude.{All, not, map, filter, slice_get}
+use Rattle.std.specs.List.{cons_option}
+use Rattle.std.specs.Option.{option_map_or}
+use mathlib.Core.Bool.{true≢false}
+use Rattle.std.proofs.lemmas.Bool.{cases_Bool, cases_lt, cases_order, eq-eqb, ne_eqb}
+use Rattle.std.proofs.lemmas.Bool.Decides.{eqb_tells}
+use Rattle.std.proofs.lemmas.List.{length-map}
+use Rattle.std.proofs.lemmas.List.Elements.{All-nil, All-cons, All-head, All-tail, All-map, All-filter}
+use Rattle.std.proofs.lemmas.Option.{slice_get-get_or, get_or_from_slice_get, slice_get_within}
+use Rattle.spin_base.specs.declared.blocks.Block.{Block}
+use Rattle.tern_word.specs.declared.tables.Alias.{Alias}
+use Rattle.tern_word.specs.declared.tables.Row.{Row}
+use Rattle.tern_word.specs.Ternary.{Intersects, LiesIn, Wants, generality, merge_of}
+use Rattle.tern_word.specs.SoundTable.{IsSound, Misses, HoldsItsAliases}
+use Rattle.tern_word.proofs.BlockLaws.{Intersects-sym, Intersects-wider, LiesIn-trans, LiesIn-from_wants, generality-mono, merge_of-is_merge}
+use Rattle.cover_merge.specs.Merge.{has_row, rows_at, merged_row, merged_block, place_for, insert_place, after, IsMergeSet, IsLegal, PassesUp, PassesUpCheck, PassesDown, PassesDownCheck}
+use Rattle.cover_merge.specs.Refinement.{IsLastFailing, IsUpStep, IsFirstMetFrom, can_choose, parts, keeps, kept_by, kept_count, IsNarrowed, IsDownStep, Refines}
+use Rattle.cover_merge.specs.Covering.{places_of, IsNoRival}
+use Rattle.cover_merge.specs.Kept.{RefinesWithin, IsKept, IsLeftBy}
+use Rattle.cover_merge.proofs.Positions.{has-at, has-place, has-later, All-has, rows_at-from, rows_at-has, rows_at-length, some_blocks, place_for-le, place_for-below, place_for-above, member_le}
+use Rattle.cover_merge.proofs.Lists.{All-from_map}
+use Rattle.cover_merge.proofs.Legal.{HoldsItsAliases-merge}
+use Rattle.cover_merge.proofs.ApplyLemmas.{block_is}
+use Rattle.cover_merge.proofs.CarryLemmas.{narrower_misses, member_lies}
+use Rattle.cover_merge.proofs.Determined.{one_refined}
+use Rattle.cover_merge.proofs.KeptLemmasMoved.{moved, moved_less, moved_get, moved_onto, moved_places}
+
+-- ---- lists of places
+
+-- what holds of each place of a route's rows holds of all
+places_each : (P : ℕ → Type 0) (bits i : ℕ) (rows : List Row) → ((k j : ℕ) → j ≡ i + k → k < length rows → ((d : Row) → (get_or rows k d).route.bits ≡ bits) → P j) → All P (places_of bits i rows)
+places_each P bits i [] each = All-nil P
+places_each P bits i (r ∷ rows) each = by_test (eqb_tells r.route.bits bits) (places_each P bits (suc i) rows (λ k j at within same. each (suc k) j (omega (arith, at)) (omega (arith, within)) same))
+  where
+    by_test : ((r.route.bits == bits) ≡ true) × (r.route.bits ≡ bits) ⊎ ((r.route.bits == bits) ≡ false) × (r.route.bits ≢ bits) → All P (places_of bits (suc i) rows) → All P (places_of bits i (r ∷ rows))
+    by_test (inl same) rest = subst (λ b. All P (cond b (i ∷ places_of bits (suc i) rows) (places_of bits (suc i) rows))) (sym same.0) (All-cons P i (places_of bits (suc i) rows) (each 0 i (omega arith) (omega arith) (λ d. same.1)) rest)
+    by_test (inr other) rest = subst (λ b. All P (cond b (i ∷ places_of bits (suc i) rows) (places_of bits (suc i) rows))) (sym other.0) rest
+
+module _ (to : ℕ → ℕ) where
+  -- what a test lets pass of the images are the images of what passes
+  filter_to : (f h : ℕ → Bool) (places : List ℕ) → All (λ s. f (to s) ≡ h s) places → filter f (map to places) ≡ map to (filter h places)
+  filter_to f h [] same = refl
+  filter_to f h (s ∷ places) same =
+      ap (λ b. cond b (to s ∷ filter f (map to places)) (filter f (map to places))) (All-head (λ x. f (to x) ≡ h x) s places same)
+      ∙ ap (λ l. cond (h s) (to s ∷ l) l) (filter_to f h places (All-tail (λ x. f (to x) ≡ h x) s places same))
+      ∙ by_test (h s)
+    where
+      by_test : (b : Bool) → cond b (to s ∷ map to (filter h places)) (map to (filter h places)) ≡ map to (cond b (s ∷ filter h places) (filter h places))
+      by_test true = refl
+      by_test false = refl
+
+  -- an image that is found is that of a place of the set
+  has_from : (places : List ℕ) (l : ℕ) → has_row (map to places) l ≡ true → (s : ℕ) × (has_row places s ≡ true) × (to s ≡ l)
+  has_from [] l found = absurd (true≢false (sym found))
+  has_from (s ∷ places) l found = by_head (eqb_tells (to s) l) (λ rest. has_from places l rest)
+    where
+      by_head : ((to s == l) ≡ true) × (to s ≡ l) ⊎ ((to s == l) ≡ false) × (to s ≢ l) → (has_row (map to places) l ≡ true → (k : ℕ) × (has_row places k ≡ true) × (to k ≡ l)) → (k : ℕ) × (has_row (s ∷ places) k ≡ true) × (to k ≡ l)
+      by_head (inl here) rest = (s, has-at (s ∷ places) 0 (omega arith), here.1)
+      by_head (inr other) rest =
+          let behind = rest (subst (λ b. (b || has_row (map to places) l) ≡ true) other.0 found) in
+          (behind.0, has-later s places behind.0 behind.1, behind.2)
+
+-- ---- rows that a merge takes in, and others
+
+-- a row that lies in a block with all its aliases, and is no more general
+record IsUnder (b : Block) (row : Row) : Type 0 where
+  lies : LiesIn row.block b
+  holds : HoldsItsAliases row
+  low : generality row.block ≤ generality b
+
+under_misses : (b : Block) (row other : Row) → IsUnder b row → Misses b other → Misses row.block other
+under_misses b row other under misses = narrower_misses b row.block other under.lies misses
+
+-- a block that was down-checked misses such a row, or is no less general
+under_apart : (joined outer b : Block) (low : ℕ) → (Intersects joined outer → ⊥) ⊎ (generality joined ≤ low) → LiesIn b outer → low ≤ generality b → (row : Row) → IsUnder joined row → (Misses b row) ⊎ (generality row.block ≤ generality b)
+under_apart joined outer b low (inl apart) lies high row under = inl (λ k d within meets.
+    let a = (get_or row.aliases k d).block in
+    apart (Intersects-wider joined b outer lies (Intersects-sym b joined (Intersects-wider b a joined (LiesIn-trans a row.block joined (under.holds k d within) under.lies) meets))))
+under_apart joined outer b low (inr less) lies high row under = inr (omega (arith, under.low, less, high))
+
+-- a row outside the merge, whose aliases it misses
+record IsLeft (rows : List Row) (merge : List ℕ) (s : ℕ) : Type 0 where
+  inside : s < length rows
+  out : has_row merge s ≡ false
+  clear : (d : Row) → Misses (merged_block rows merge) (get_or rows s d)
+
+module _ (rows : List Row) (merge : List ℕ) (sound : IsSound rows) (set : IsMergeSet rows merge) (legal : IsLegal rows merge) where
+  abbrev new : List Row
+  new = after rows merge
+
+  abbrev to : ℕ → ℕ
+  to = moved rows merge
+
+  member_under : (k : ℕ) (d : Row) → k < length rows → has_row merge k ≡ true → IsUnder (merged_block rows merge) (get_or rows k d)
+  member_under k d within found = record {
+    lies = member_lies rows merge set (merged_block rows merge) refl k d found;
+    holds = sound.inside k d within;
+    low = member_le rows merge set.set.in_range k d found;
+  }
+
+  merged_under : IsUnder (merged_block rows merge) (merged_row rows merge)
+  merged_under =
+      let same = block_is rows merge sound.ordered set in record {
+        lies = subst (λ b. LiesIn b (merged_block rows merge)) (sym same) (λ k small inside. inside);
+        holds = HoldsItsAliases-merge (rows_at rows merge) (rows_at-from HoldsItsAliases rows merge (λ s d found. sound.inside s d (All-has (λ x. x < length rows) merge s set.set.in_range found)));
+        low = omega (arith, ap generality same);
+      }
+
+  -- ---- places
+
+  to_less : (j k : ℕ) → has_row merge j ≡ false → j < k → to j < to k
+  to_less j k out less = moved_less rows merge sound.ordered set j k out less
+
+  from_less : (j k : ℕ) → has_row merge k ≡ false → to j < to k → j < k
+  from_less j k out less = elim (cases_order j k) [
+    | inl same ↦ absurd (omega (arith, ap to same, less))
+    | inr apart ↦ elim apart [
+      | inl low ↦ low
+      | inr high ↦ absurd (omega (arith, to_less k j out high, less))
+    ]
+  ]
+
+  same_test : (s k : ℕ) → has_row merge s ≡ false → has_row merge k ≡ false → (to s == to k) ≡ (s == k)
+  same_test s k out gone = elim (cases_order s k) [
+    | inl same ↦ eq-eqb (to s) (to k) (ap to same) ∙ sym (eq-eqb s k same)
+    | inr apart ↦ elim apart [
+      | inl low ↦ ne_eqb (to s) (to k) (λ is. omega (arith, to_less s k out low, is)) ∙ sym (ne_eqb s k (λ is. omega (arith, low, is)))
+      | inr high ↦ ne_eqb (to s) (to k) (λ is. omega (arith, to_less k s gone high, is)) ∙ sym (ne_eqb s k (λ is. omega (arith, high, is)))
+    ]
+  ]
+
+  get_to : (s : ℕ) (d : Row) → s < length rows → has_row merge s ≡ false → get_or new (to s) d ≡ get_or rows s d
+  get_to s d inside out = (moved_get rows merge sound.ordered set s d inside out).1
+
+  to_inside : (s : ℕ) → s < length rows → has_row merge s ≡ false → to s < length new
+  to_inside s inside out = (moved_get rows merge sound.ordered set s (merged_row rows merge) inside out).0
+
+  slice_to : (s : ℕ) → s < length rows → has_row merge s ≡ false → slice_get new (to s) ≡ slice_get rows s
+  slice_to s inside out =
+      let d = merged_row rows merge in
+      slice_get-get_or new (to s) d (to_inside s inside out) ∙ ap Some (get_to s d inside out) ∙ sym (slice_get-get_or rows s d inside)
+
+  -- a row stands before an insertion place where it stood before it
+  before_to : (g k : ℕ) → k < length rows → has_row merge k ≡ false → k < place_for rows g → to k < place_for new g
+  before_to g k inside out before =
+      let d = merged_row rows merge in
+      place_for-above new g legal.ordered (to k) d (to_inside k inside out) (subst (λ (r : Row). generality r.block ≤ g) (sym (get_to k d inside out)) (place_for-below rows g sound.ordered k d before))
+
+  before_from : (g k : ℕ) → k < length rows → has_row merge k ≡ false → to k < place_for new g → k < place_for rows g
+  before_from g k inside out before =
+      let d = merged_row rows merge in
+      place_for-above rows g sound.ordered k d inside (subst (λ (r : Row). generality r.block ≤ g) (get_to k d inside out) (place_for-below new g legal.ordered (to k) d before))
+
+  -- ---- sets of places
+
+  has_to : (places : List ℕ) (k : ℕ) → All (IsLeft rows merge) places → has_row merge k ≡ false → has_row (map to places) (to k) ≡ has_row places k
+  has_to [] k left out = refl
+  has_to (s ∷ places) k left out =
+      ap (λ b. b || has_row (map to places) (to k)) (same_test s k (All-head (IsLeft rows merge) s places left).out out)
+      ∙ ap (λ b. (s == k) || b) (has_to places k (All-tail (IsLeft rows merge) s places left) out)
+
+  rows_to : (places : List ℕ) → All (IsLeft rows merge) places → rows_at new (map to places) ≡ rows_at rows places
+  rows_to [] left = refl
+  rows_to (s ∷ places) left =
+      let here = All-head (IsLeft rows merge) s places left in
+      ap (λ o. cons_option o (rows_at new (map to places))) (slice_to s here.inside here.out)
+      ∙ ap (cons_option (slice_get rows s)) (rows_to places (All-tail (IsLeft rows merge) s places left))
+
+  block_to : (places : List ℕ) → All (IsLeft rows merge) places → merged_block new (map to places) ≡ merged_block rows places
+  block_to places left = ap (λ l. merge_of (map (λ (x : Row). x.block) l)) (rows_to places left)
+
+  -- ---- the up-check
+
+  module _ (places : List ℕ) (left : All (IsLeft rows merge) places) where
+    left_at : (s : ℕ) → has_row places s ≡ true → IsLeft rows merge s
+    left_at s found = All-has (IsLeft rows merge) places s left found
+
+    up_to : (g s : ℕ) → IsLeft rows merge s → PassesUp rows places s (place_for rows g) → PassesUp new (map to places) (to s) (place_for new g)
+    up_to g s stays up l behind before d out = by_place (moved_onto rows merge sound.ordered set l (omega (arith, before, place_for-le new g)))
+      where
+        by_place : ((k : ℕ) × (k < length rows) × (has_row merge k ≡ false) × (to k ≡ l)) ⊎ ((e : Row) → get_or new l e ≡ merged_row rows merge) → Misses (get_or new l d).block (get_or new (to s) d)
+        by_place (inl (k, inside, gone, at)) =
+            subst (Misses (get_or new l d).block) (sym (get_to s d stays.inside stays.out))
+            (subst (λ (r : Row). Misses r.block (get_or rows s d)) (sym (get_to k d inside gone) ∙ ap (λ n. get_or new n d) at)
+            (up k (from_less s k gone (subst (λ n. to s < n) (sym at) behind)) (before_from g k inside gone (subst (λ n. n < place_for new g) (sym at) before)) d
+            (sym (has_to places k left gone) ∙ ap (has_row (map to places)) at ∙ out)))
+        by_place (inr is) =
+            subst (Misses (get_or new l d).block) (sym (get_to s d stays.inside stays.out))
+            (subst (λ (r : Row). Misses r.block (get_or rows s d)) (sym (is d)) (under_misses (merged_block rows merge) (merged_row rows merge) (get_or rows s d) merged_under (stays.clear d)))
+
+    up_from : (g s : ℕ) → IsLeft rows merge s → PassesUp new (map to places) (to s) (place_for new g) → PassesUp rows places s (place_for rows g)
+    up_from g s stays up k behind before d out =
+        let inside : k < length rows = omega (arith, before, place_for-le rows g) in
+        elim (cases_Bool (has_row merge k)) [
+          | inl found ↦ under_misses (merged_block rows merge) (get_or rows k d) (get_or rows s d) (member_under k d inside found) (stays.clear d)
+          | inr gone ↦
+              subst (Misses (get_or rows k d).block) (get_to s d stays.inside stays.out)
+              (subst (λ (r : Row). Misses r.block (get_or new (to s) d)) (get_to k d inside gone)
+              (up (to k) (to_less s k stays.out behind) (before_to g k inside gone before) d (has_to places k left gone ∙ out)))
+        ]
+
+    up_check_to : PassesUpCheck rows places → PassesUpCheck new (map to places)
+    up_check_to up l found =
+        let at = has_from to places l found in
+        subst (λ n. PassesUp new (map to places) n (insert_place new (map to places))) at.2
+        (subst (λ b. PassesUp new (map to places) (to at.0) (place_for new (generality b))) (sym (block_to places left))
+        (up_to (generality (merged_block rows places)) at.0 (left_at at.0 at.1) (up at.0 at.1)))
+
+    last_to : (g s : ℕ) → IsLastFailing rows places (place_for rows g) s → IsLastFailing new (map to places) (place_for new g) (to s)
+    last_to g s last = record {
+      member = has_to places s left (left_at s last.member).out ∙ last.member;
+      failing = λ passes. last.failing (up_from g s (left_at s last.member) passes);
+      behind = λ l found less.
+          let at = has_from to places l found in
+          subst (λ n. PassesUp new (map to places) n (place_for new g)) at.2
+          (up_to g at.0 (left_at at.0 at.1) (last.behind at.0 at.1 (from_less s at.0 (left_at at.0 at.1).out (subst (λ n. to s < n) (sym at.2) less))));
+    }
+
+    up_step_to : (next : List ℕ) → IsUpStep rows places next → IsUpStep new (map to places) (map to next)
+    up_step_to next step = record {
+      place = to step.place;
+      last = subst (λ b. IsLastFailing new (map to places) (place_for new (generality b)) (to step.place)) (sym (block_to places left)) (last_to (generality (merged_block rows places)) step.place step.last);
+      result = ap (map to) step.result
+          ∙ sym (filter_to to (λ t. not (t == to step.place)) (λ t. not (t == step.place)) places (λ k d within. ap not (same_test (get_or places k d) step.place (left k d within).out (left_at step.place step.last.member).out)));
+    }
+
+    -- ---- the down-check
+
+    module _ (b : Block) (apart : (row : Row) → IsUnder (merged_block rows merge) row → (Misses b row) ⊎ (generality row.block ≤ generality b)) where
+      abbrev old_place : ℕ
+      old_place = place_for rows (generality b)
+
+      abbrev new_place : ℕ
+      new_place = place_for new (generality b)
+
+      row_behind : (l : ℕ) (d : Row) → new_place ≤ l → l < length new → ((k : ℕ) → k < length rows → has_row merge k ≡ false → to k ≡ l → old_place ≤ k → Misses b (get_or rows k d)) → Misses b (get_or new l d)
+      row_behind l d from within each = by_place (moved_onto rows merge sound.ordered set l within)
+        where
+          behind : (k : ℕ) → k < length rows → has_row merge k ≡ false → to k ≡ l → (k < old_place) ⊎ (old_place ≤ k) → old_place ≤ k
+          behind k inside gone at (inl low) = absurd (omega (arith, before_to (generality b) k inside gone low, at, from))
+          behind k inside gone at (inr high) = high
+
+          by_case : ((e : Row) → get_or new l e ≡ merged_row rows merge) → (Misses b (merged_row rows merge)) ⊎ (generality (merged_row rows merge).block ≤ generality b) → Misses b (get_or new l d)
+          by_case is (inl misses) = subst (Misses b) (sym (is d)) misses
+          by_case is (inr low) = absurd (omega (arith, from, place_for-above new (generality b) legal.ordered l d within (subst (λ (r : Row). generality r.block ≤ generality b) (sym (is d)) low)))
+
+          by_place : ((k : ℕ) × (k < length rows) × (has_row merge k ≡ false) × (to k ≡ l)) ⊎ ((e : Row) → get_or new l e ≡ merged_row rows merge) → Misses b (get_or new l d)
+          by_place (inl (k, inside, gone, at)) =
+              subst (Misses b) (sym (get_to k d inside gone) ∙ ap (λ n. get_or new n d) at) (each k inside gone at (behind k inside gone at (cases_lt k old_place)))
+          by_place (inr is) = by_case is (apart (merged_row rows merge) merged_under)
+
+      down_to : PassesDown rows b old_place → PassesDown new b new_place
+      down_to down l d from within = row_behind l d from within (λ k inside gone at le. down k d le inside)
+
+      -- the first row that has an alias which the block meets is no member
+      first_out : (met : Block) (first : IsFirstMetFrom rows b old_place met) → first.at < length rows → (has_row merge first.at ≡ true) ⊎ (has_row merge first.at ≡ false) → has_row merge first.at ≡ false
+      first_out met first inside (inr out) = out
+      first_out met first inside (inl found) = absurd (by_case (apart (get_or rows first.at first.row) (member_under first.at first.row inside found)))
+        where
+          row_is : get_or rows first.at first.row ≡ first.row
+          row_is = get_or_from_slice_get rows first.at first.row first.row first.found
+
+          by_case : (Misses b (get_or rows first.at first.row)) ⊎ (generality (get_or rows first.at first.row).block ≤ generality b) → ⊥
+          by_case (inl misses) =
+              subst (Misses b) row_is misses first.first.at first.first.alias (slice_get_within first.row.aliases first.first.at first.first.alias first.first.found)
+              (subst (Intersects b) (sym (ap (λ (a : Alias). a.block) (get_or_from_slice_get first.row.aliases first.first.at first.first.alias first.first.alias first.first.found) ∙ first.first.block)) first.first.meets)
+          by_case (inr low) = omega (arith, first.from, place_for-above rows (generality b) sound.ordered first.at first.row inside low)
+
+      met_to : (met : Block) → IsFirstMetFrom rows b old_place met → IsFirstMetFrom new b new_place met
+      met_to met first =
+          let inside : first.at < length rows = slice_get_within rows first.at first.row first.found in
+          let out = first_out met first inside (cases_Bool (has_row merge first.at)) in
+          record {
+            at = to first.at;
+            row = first.row;
+            from = behind inside out (cases_lt (to first.at) new_place);
+            found = slice_to first.at inside out ∙ first.found;
+            first = first.first;
+            before = λ l d from less. row_behind l d from (omega (arith, less, to_inside first.at inside out))
+                (λ k within gone at le. first.before k d le (from_less k first.at out (omega (arith, at, less))));
+          }
+        where
+          behind : first.at < length rows → has_row merge first.at ≡ false → (to first.at < new_place) ⊎ (new_place ≤ to first.at) → new_place ≤ to first.at
+          behind inside out (inl low) = absurd (omega (arith, first.from, before_from (generality b) first.at inside out low))
+          behind inside out (inr high) = high
+
+    -- ---- the best bit
+
+    kept_to : (met : Block) (i : ℕ) → kept_by new met i (map to places) ≡ map to (kept_by rows met i places)
+    kept_to met i =
+        filter_to to (keeps new met i) (keeps rows met i) places (λ k d within.
+        ap (λ (o : Option Row). option_map_or (λ (r : Row). parts r.block met i) o false) (slice_to (get_or places k d) (left k d within).inside (left k d within).out))
+
+    count_to : (joined met : Block) (i : ℕ) → kept_count new (map to places) joined met i ≡ kept_count rows places joined met i
+    count_to joined met i = ap (λ n. cond (can_choose joined met i) n 0) (ap length (kept_to met i) ∙ length-map (kept_by rows met i places) to)
+
+    narrowed_to : (joined met : Block) (next : List ℕ) → IsNarrowed rows places joined met next → IsNarrowed new (map to places) joined met (map to next)
+    narrowed_to joined met next (inl (i, low, best, is)) = inl (
+      i,
+      low,
+      record {
+        some = omega (arith, best.some, count_to joined met i);
+        most = λ j below. omega (arith, best.most j below, count_to joined met i, count_to joined met j);
+        highest = λ j below behind. omega (arith, best.highest j below behind, count_to joined met i, count_to joined met j);
+      },
+      ap (map to) is ∙ sym (kept_to met i),
+    )
+    narrowed_to joined met next (inr none) = inr (λ j below. count_to joined met j ∙ none.0 j below, ap (map to) none.1)
+
+    module _ (outer : Block) (low : ℕ) (apart : (Intersects (merged_block rows merge) outer → ⊥) ⊎ (generality (merged_block rows merge) ≤ low)) (lies : LiesIn (merged_block rows places) outer) (high : low ≤ generality (merged_block rows places)) where
+      apart_here : (row : Row) → IsUnder (merged_block rows merge) row → (Misses (merged_block rows places) row) ⊎ (generality row.block ≤ generality (merged_block rows places))
+      apart_here = under_apart (merged_block rows merge) outer (merged_block rows places) low apart lies high
+
+      down_check_to : PassesDownCheck rows places → PassesDownCheck new (map to places)
+      down_check_to down = subst (λ b. PassesDown new b (place_for new (generality b))) (sym (block_to places left)) (down_to (merged_block rows places) apart_here down)
+
+      down_step_to : (next : List ℕ) → IsDownStep rows places next → IsDownStep new (map to places) (map to next)
+      down_step_to next step = record {
+        up = up_check_to step.up;
+        met = step.met;
+        first = subst (λ b. IsFirstMetFrom new b (place_for new (generality b)) step.met) (sym (block_to places left)) (met_to (merged_block rows places) apart_here step.met step.first);
+        narrowed = subst (λ b. IsNarrowed new (map to places) b step.met (map to next)) (sym (block_to places left)) (narrowed_to (merged_block rows places) step.met next step.narrowed);
+      }
+
+  -- ---- the refined set
+
+  module _ (outer : Block) (low : ℕ) (apart : (Intersects (merged_block rows merge) outer → ⊥) ⊎ (generality (merged_block rows merge) ≤ low)) where
+    narrowed_left : (places : List ℕ) (joined met : Block) (next : List ℕ) → All (IsLeft rows merge) places → IsNarrowed rows places joined met next → All (IsLeft rows merge) next
+    narrowed_left places joined met next left (inl (i, below, best, is)) = subst (All (IsLeft rows merge)) (sym is) (All-filter (keeps rows met i) (IsLeft rows merge) places left)
+    narrowed_left places joined met next left (inr none) = subst (All (IsLeft rows merge)) (sym none.1) (All-nil (IsLeft rows merge))
+
+    refines_to : (places answer : List ℕ) → All (IsLeft rows merge) places → RefinesWithin rows outer low places answer → RefinesWithin new outer low (map to places) (map to answer)
+    refines_to places answer left (RefinesWithin.ends_empty p few) = RefinesWithin.ends_empty (map to p) (omega (arith, few, length-map p to))
+    refines_to places answer left (RefinesWithin.ends_legal p two up down lies high) =
+        RefinesWithin.ends_legal (map to p) (omega (arith, two, length-map p to)) (up_check_to p left up) (down_check_to p left outer low apart lies high down)
+        (subst (λ b. LiesIn b outer) (sym (block_to p left)) lies) (omega (arith, high, ap generality (block_to p left)))
+    refines_to places answer left (RefinesWithin.goes_up p next a two step rest) =
+        RefinesWithin.goes_up (map to p) (map to next) (map to a) (omega (arith, two, length-map p to)) (up_step_to p left next step)
+        (refines_to next a (subst (All (IsLeft rows merge)) (sym step.result) (All-filter (λ t. not (t == step.place)) (IsLeft rows merge) p left)) rest)
+    refines_to places answer left (RefinesWithin.goes_down p next a two step lies high rest) =
+        RefinesWithin.goes_down (map to p) (map to next) (map to a) (omega (arith, two, length-map p to)) (down_step_to p left outer low apart lies high next step)
+        (subst (λ b. LiesIn b outer) (sym (block_to p left)) lies) (omega (arith, high, ap generality (block_to p left)))
+        (refines_to next a (narrowed_left p (merged_block rows p) step.met next left step.narrowed) rest)
+
+-- ---- what is kept
+
+-- What is kept of a route is true in the table after a merge that leaves it alone.
+pub kept_after : (rows : List Row) (merge : List ℕ) (bits size : ℕ) (outer : Block) (low : ℕ) → IsSound rows → IsMergeSet rows merge → IsLegal rows merge → IsLeftBy rows merge bits outer low → IsKept rows bits size outer low → IsKept (after rows merge) bits size outer low
+kept_after rows merge bits size outer low sound set legal leaves keeps_it = record {
+  set = map (moved rows merge) keeps_it.set;
+  refined = subst (λ l. RefinesWithin (after rows merge) outer low l (map (moved rows merge) keeps_it.set)) (sym (moved_places rows merge sound.ordered set bits leaves.other))
+      (refines_to rows merge sound set legal outer low leaves.apart (places_of bits 0 rows) keeps_it.set left keeps_it.refined);
+  size_is = length-map keeps_it.set (moved rows merge) ∙ keeps_it.size_is;
+}
+  where
+    out : (s : ℕ) → ((d : Row) → (get_or rows s d).route.bits ≡ bits) → (has_row merge s ≡ true) ⊎ (has_row merge s ≡ false) → has_row merge s ≡ false
+    out s same (inl found) = absurd (leaves.other s (merged_row rows merge) found (same (merged_row rows merge)))
+    out s same (inr gone) = gone
+
+    left : All (IsLeft rows merge) (places_of bits 0 rows)
+    left = places_each (IsLeft rows merge) bits 0 rows (λ k j at within same.
+        subst (IsLeft rows merge) (omega (arith, at)) (record { inside = within; out = out k same (cases_Bool (has_row merge k)); clear = λ d. leaves.misses k d within (same d) }))
+
+module _ (rows : List Row) (outer : Block) (low : ℕ) where
+  -- A refinement within bounds is a refinement.
+  pub forgets : (places answer : List ℕ) → RefinesWithin rows outer low places answer → Refines rows places answer
+  forgets places answer (RefinesWithin.ends_empty p few) = Refines.ends_empty p few
+  forgets places answer (RefinesWithin.ends_legal p two up down lies high) = Refines.ends_legal p two up down
+  forgets places answer (RefinesWithin.goes_up p next a two step rest) = Refines.goes_up p next a two step (forgets next a rest)
+  forgets places answer (RefinesWithin.goes_down p next a two step lies high rest) = Refines.goes_down p next a two step (forgets next a rest)
+
+  -- With wider bounds it is one, too.
+  pub widens : (wide : Block) (least : ℕ) → LiesIn outer wide → least ≤ low → (places answer : List ℕ) → RefinesWithin rows outer low places answer → RefinesWithin rows wide least places answer
+  widens wide least inside less places answer (RefinesWithin.ends_empty p few) = RefinesWithin.ends_empty p few
+  widens wide least inside less places answer (RefinesWithin.ends_legal p two up down lies high) =
+      RefinesWithin.ends_legal p two up down (LiesIn-trans (merged_block rows p) outer wide lies inside) (omega (arith, less, high))
+  widens wide least inside less places answer (RefinesWithin.goes_up p next a two step rest) = RefinesWithin.goes_up p next a two step (widens wide least inside less next a rest)
+  widens wide least inside less places answer (RefinesWithin.goes_down p next a two step lies high rest) =
+      RefinesWithin.goes_down p next a two step (LiesIn-trans (merged_block rows p) outer wide lies inside) (omega (arith, less, high)) (widens wide least inside less next a rest)
+
+  module _ (bits size : ℕ) (is_kept : IsKept rows bits size outer low) where
+    -- The refined set of the route's rows has as many places as was kept.
+    pub size_of_kept : (set : List ℕ) → Refines rows (places_of bits 0 rows) set → length set ≡ size
+    size_of_kept set refined =
+        ap length (one_refined rows (places_of bits 0 rows) set is_kept.set refined (forgets (places_of bits 0 rows) is_kept.set is_kept.refined)) ∙ is_kept.size_is
+
+    -- A route whose kept number loses to another route's set is no rival of it.
+    pub no_rival_kept : (other n : ℕ) → size ≤ n → (0 < n → bits < other → size < n) → IsNoRival rows bits other n
+    no_rival_kept other n no_larger smaller = record {
+      set = is_kept.set;
+      refined = forgets (places_of bits 0 rows) is_kept.set is_kept.refined;
+      no_larger = omega (arith, no_larger, is_kept.size_is);
+      smaller = λ some less. omega (arith, smaller some less, is_kept.size_is);
+    }
+
+-- ---- fewer places
+
+-- The merge of some places of a set lies in that of all, and is no more general.
+pub fewer_lies : (rows : List Row) (some all : List ℕ) → All (λ s. s < length rows) all → 0 < length some → All (λ s. has_row all s ≡ true) some → (LiesIn (merged_block rows some) (merged_block rows all)) × (generality (merged_block rows some) ≤ generality (merged_block rows all))
+fewer_lies rows some all in_range one members = (LiesIn-from_wants (merged_block rows some) (merged_block rows all) wants, generality-mono (merged_block rows some) (merged_block rows all) wants)
+  where
+    blocks : List ℕ → List Block
+    blocks places = map (λ (x : Row). x.block) (rows_at rows places)
+
+    few_in : All (λ s. s < length rows) some
+    few_in k d within = All-has (λ s. s < length rows) all (get_or some k d) in_range (members k d within)
+
+    many : 0 < length all
+    many = some_place all (has-place all (get_or some 0 0) (members 0 0 one))
+      where
+        some_place : (l : List ℕ) → (i : ℕ) × (i < length l) × (get_or l i 0 ≡ get_or some 0 0) → 0 < length l
+        some_place l at = omega (arith, at.1)
+
+    wants : (i v : ℕ) → Wants (merged_block rows all) i v → Wants (merged_block rows some) i v
+    wants i v w =
+        let each = rows_at-has (λ (r : Row). Wants r.block i v) rows all in_range
+        (All-from_map (λ b. Wants b i v) (λ (x : Row). x.block) (rows_at rows all)
+        ((merge_of-is_merge (map (λ (x : Row). x.block) (rows_at rows all)) (some_blocks (rows_at rows all) (omega (arith, rows_at-length rows all in_range, many))) i v).0 w)) in
+        (merge_of-is_merge (map (λ (x : Row). x.block) (rows_at rows some)) (some_blocks (rows_at rows some) (omega (arith, rows_at-length rows some few_in, one))) i v).1
+        (All-map (λ b. Wants b i v) (λ (x : Row). x.block) (rows_at rows some) (rows_at-from (λ (r : Row). Wants r.block i v) rows some (λ s d found. each s d (All-has (λ t. has_row all t ≡ true) some s members found))))

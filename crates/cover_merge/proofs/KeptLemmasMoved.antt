@@ -1,0 +1,265 @@
+-- Where the rows outside a merge stand in the table after it.
+use Rattle.std.proofs.Common.{◌≡◌, ◌≢◌, ◌==◌, ℕ, zero, suc, ◌+◌, ◌<◌, ◌≤◌, ◌⊎◌, Bool, true, false, cond, List, [], ◌∷◌, length, get_or, inl, inr, refl, sym, ap, ◌∙◌, subst, arith}
+use Rattle.std.specs.Prelude.{not, insert, map}
+use Rattle.std.proofs.lemmas.Bool.{cases_Bool, cases_lt, cases_eq, not-true, not-false, not_from_false, ne_eqb}
+use Rattle.std.proofs.lemmas.List.Edits.{get_or-insert_at, get_or-insert_below, length-insert}
+use Rattle.std.proofs.lemmas.Simd.{map-map}
+use Rattle.tern_word.specs.declared.tables.Row.{Row}
+use Rattle.tern_word.specs.Ternary.{generality}
+use Rattle.tern_word.specs.SoundTable.{IsOrdered}
+use Rattle.cover_merge.specs.Merge.{has_row, picked, kept, merge_rows, merged_row, merged_block, insert_place, after, IsMergeSet}
+use Rattle.cover_merge.specs.Covering.{places_of}
+use Rattle.cover_merge.proofs.Positions.{has-at, All-has, place_for-le}
+use Rattle.cover_merge.proofs.ApplyLemmas.{none_from, members_before, after_is, route_is}
+
+-- ---- the place of a picked item
+
+-- how many of the places below k pass the test
+abbrev pub rank : (ℕ → Bool) → ℕ → ℕ
+rank q zero = 0
+rank q (suc k) = cond (q k) (suc (rank q k)) (rank q k)
+
+-- the item y stands at place n, behind x where that is kept
+abbrev Stands : {X : Type 0} → X → List X → X → X → Bool → ℕ → Type 0
+Stands x ys d y b n = (n < length (cond b (x ∷ ys) ys)) × (get_or (cond b (x ∷ ys) ys) n d ≡ y)
+
+module _ (q : ℕ → Bool) where
+  rank_in : (k : ℕ) → q k ≡ true → rank q (suc k) ≡ suc (rank q k)
+  rank_in k pass = ap (λ b. cond b (suc (rank q k)) (rank q k)) pass
+
+  rank_out : (k : ℕ) → q k ≡ false → rank q (suc k) ≡ rank q k
+  rank_out k fail = ap (λ b. cond b (suc (rank q k)) (rank q k)) fail
+
+  rank_le : (i k : ℕ) → i ≤ k → rank q i ≤ rank q k
+  rank_le i zero le = let same : i ≡ 0 = omega arith in omega (arith, ap (rank q) same)
+  rank_le i (suc k) le = elim (cases_lt i (suc k)) [
+    | inl less ↦ step (q k) (rank_le i k (omega arith))
+    | inr all ↦ let same : i ≡ suc k = omega arith in omega (arith, ap (rank q) same)
+  ]
+    where
+      step : (b : Bool) → rank q i ≤ rank q k → rank q i ≤ cond b (suc (rank q k)) (rank q k)
+      step true low = omega arith
+      step false low = low
+
+  pub rank_less : (i k : ℕ) → i < k → q i ≡ true → rank q i < rank q k
+  rank_less i k less pass = omega (arith, rank_in i pass, rank_le (suc i) k (omega arith))
+
+  -- a picked item stands at its rank
+  picked_get : {X : Type 0} (i : ℕ) (xs : List X) (k j l : ℕ) (d : X) → j ≡ i + k → rank q j ≡ rank q i + l → k < length xs → q j ≡ true
+      → (l < length (picked q i xs)) × (get_or (picked q i xs) l d ≡ get_or xs k d)
+  picked_get i [] k j l d at rank_is within pass = absurd (omega arith)
+  picked_get i (x ∷ xs) zero j l d at rank_is within pass =
+      let here : j ≡ i = omega arith in
+      let first : l ≡ 0 = omega (arith, rank_is, ap (rank q) here) in
+      subst (λ n. Stands x (picked q (suc i) xs) d x (q i) n) (sym first)
+      (subst (λ b. Stands x (picked q (suc i) xs) d x b 0) (sym (ap q (sym here) ∙ pass)) (omega arith, refl))
+  picked_get i (x ∷ xs) (suc k) j l d at rank_is within pass = elim (cases_Bool (q i)) [
+    | inl kept ↦ in_case l kept (rank_le (suc i) j (omega arith)) rank_is (λ n is. picked_get (suc i) xs k j n d (omega arith) is (omega arith) pass)
+    | inr out ↦ subst (λ b. Stands x (picked q (suc i) xs) d (get_or xs k d) b l) (sym out) (picked_get (suc i) xs k j l d (omega arith) (rank_is ∙ ap (λ n. n + l) (sym (rank_out i out))) (omega arith) pass)
+  ]
+    where
+      in_case : (n : ℕ) → q i ≡ true → rank q (suc i) ≤ rank q j → rank q j ≡ rank q i + n
+          → ((m : ℕ) → rank q j ≡ rank q (suc i) + m → (m < length (picked q (suc i) xs)) × (get_or (picked q (suc i) xs) m d ≡ get_or xs k d)) → Stands x (picked q (suc i) xs) d (get_or xs k d) (q i) n
+      in_case zero kept le is behind = absurd (omega (arith, le, is, rank_in i kept))
+      in_case (suc n) kept le is behind =
+          let rest = behind n (omega (arith, is, rank_in i kept)) in
+          subst (λ b. Stands x (picked q (suc i) xs) d (get_or xs k d) b (suc n)) (sym kept) (omega (arith, rest.0), rest.1)
+
+  -- and each item that was picked is one of the list
+  picked_onto : {X : Type 0} (i : ℕ) (xs : List X) (l : ℕ) → l < length (picked q i xs) → (k : ℕ) × (j : ℕ) × (j ≡ i + k) × (k < length xs) × (q j ≡ true) × (rank q j ≡ rank q i + l)
+  picked_onto i [] l within = absurd (omega arith)
+  picked_onto i (x ∷ xs) l within = elim (cases_Bool (q i)) [
+    | inl kept ↦ in_case l kept (subst (λ b. l < length (cond b (x ∷ picked q (suc i) xs) (picked q (suc i) xs))) kept within) (λ n low. picked_onto (suc i) xs n low)
+    | inr out ↦
+        let rest = picked_onto (suc i) xs l (subst (λ b. l < length (cond b (x ∷ picked q (suc i) xs) (picked q (suc i) xs))) out within) in
+        (suc rest.0, rest.1, omega (arith, rest.2), omega (arith, rest.3), rest.4, rest.5 ∙ ap (λ n. n + l) (rank_out i out))
+  ]
+    where
+      in_case : (n : ℕ) → q i ≡ true → n < suc (length (picked q (suc i) xs))
+          → ((m : ℕ) → m < length (picked q (suc i) xs) → (k : ℕ) × (j : ℕ) × (j ≡ suc i + k) × (k < length xs) × (q j ≡ true) × (rank q j ≡ rank q (suc i) + m))
+          → (k : ℕ) × (j : ℕ) × (j ≡ i + k) × (k < suc (length xs)) × (q j ≡ true) × (rank q j ≡ rank q i + n)
+      in_case zero kept low behind = (0, i, omega arith, omega arith, kept, omega arith)
+      in_case (suc n) kept low behind =
+          let rest = behind n (omega arith) in
+          (suc rest.0, rest.1, omega (arith, rest.2), omega (arith, rest.3), rest.4, omega (arith, rest.5, rank_in i kept))
+
+  -- places of a route, where all its rows are picked
+  places_picked : (bits i n : ℕ) (xs : List Row) → n ≡ rank q i → ((k j : ℕ) (d : Row) → j ≡ i + k → k < length xs → q j ≡ false → (get_or xs k d).route.bits ≢ bits) → places_of bits n (picked q i xs) ≡ map (rank q) (places_of bits i xs)
+  places_picked bits i n [] is out = refl
+  places_picked bits i n (x ∷ xs) is out = elim (cases_Bool (q i)) [
+    | inl kept ↦
+        let rest = places_picked bits (suc i) (suc n) xs (omega (arith, is, rank_in i kept)) later in
+        ap (λ b. places_of bits n (cond b (x ∷ picked q (suc i) xs) (picked q (suc i) xs))) kept
+        ∙ ap (λ l. cond (x.route.bits == bits) (n ∷ l) l) rest
+        ∙ ap (λ m. cond (x.route.bits == bits) (m ∷ map (rank q) (places_of bits (suc i) xs)) (map (rank q) (places_of bits (suc i) xs))) is
+        ∙ by_test (x.route.bits == bits)
+    | inr gone ↦
+        ap (λ b. places_of bits n (cond b (x ∷ picked q (suc i) xs) (picked q (suc i) xs))) gone
+        ∙ places_picked bits (suc i) n xs (is ∙ sym (rank_out i gone)) later
+        ∙ sym (ap (λ b. map (rank q) (cond b (i ∷ places_of bits (suc i) xs) (places_of bits (suc i) xs))) (ne_eqb x.route.bits bits (out 0 i x (omega arith) (omega arith) gone)))
+  ]
+    where
+      later : (k j : ℕ) (d : Row) → j ≡ suc i + k → k < length xs → q j ≡ false → (get_or xs k d).route.bits ≢ bits
+      later k j d at within gone = out (suc k) j d (omega (arith, at)) (omega (arith, within)) gone
+
+      by_test : (b : Bool) → cond b (rank q i ∷ map (rank q) (places_of bits (suc i) xs)) (map (rank q) (places_of bits (suc i) xs)) ≡ map (rank q) (cond b (i ∷ places_of bits (suc i) xs) (places_of bits (suc i) xs))
+      by_test true = refl
+      by_test false = refl
+
+-- ---- the place of an item when one is put in
+
+-- the place of the item of place k, when another is put in at place p
+abbrev pub put : ℕ → ℕ → ℕ
+put zero k = suc k
+put (suc p) zero = zero
+put (suc p) (suc k) = suc (put p k)
+
+put_low : (p k : ℕ) → k < p → put p k ≡ k
+put_low zero k less = absurd (omega arith)
+put_low (suc p) zero less = refl
+put_low (suc p) (suc k) less = ap suc (put_low p k (omega arith))
+
+put_high : (p k : ℕ) → p ≤ k → put p k ≡ suc k
+put_high zero k le = refl
+put_high (suc p) zero le = absurd (omega arith)
+put_high (suc p) (suc k) le = ap suc (put_high p k (omega arith))
+
+put_less : (p j k : ℕ) → j < k → put p j < put p k
+put_less p j k less = elim (cases_lt j p) [
+  | inl low ↦ elim (cases_lt k p) [
+    | inl also ↦ omega (arith, put_low p j low, put_low p k also)
+    | inr high ↦ omega (arith, put_low p j low, put_high p k high)
+  ]
+  | inr high ↦ omega (arith, put_high p j high, put_high p k (omega arith))
+]
+
+put_onto : (p j : ℕ) → j ≢ p → (k : ℕ) × (put p k ≡ j)
+put_onto zero zero apart = absurd (apart refl)
+put_onto zero (suc j) apart = (j, refl)
+put_onto (suc p) zero apart = (0, refl)
+put_onto (suc p) (suc j) apart = let rest = put_onto p j (λ same. apart (ap suc same)) in (suc rest.0, ap suc rest.1)
+
+put_get : {X : Type 0} (xs : List X) (p k : ℕ) (m d : X) → p ≤ length xs → get_or (insert xs p m) (put p k) d ≡ get_or xs k d
+put_get xs zero k m d le = refl
+put_get [] (suc p) k m d le = absurd (omega arith)
+put_get (x ∷ xs) (suc p) zero m d le = refl
+put_get (x ∷ xs) (suc p) (suc k) m d le = put_get xs p k m d (omega arith)
+
+places_shifted : (bits i n : ℕ) (xs : List Row) → n ≤ i → places_of bits (suc i) xs ≡ map (put n) (places_of bits i xs)
+places_shifted bits i n [] le = refl
+places_shifted bits i n (x ∷ xs) le =
+    ap (λ l. cond (x.route.bits == bits) (suc i ∷ l) l) (places_shifted bits (suc i) n xs (omega arith))
+    ∙ ap (λ m. cond (x.route.bits == bits) (m ∷ map (put n) (places_of bits (suc i) xs)) (map (put n) (places_of bits (suc i) xs))) (sym (put_high n i le))
+    ∙ by_test (x.route.bits == bits)
+  where
+    by_test : (b : Bool) → cond b (put n i ∷ map (put n) (places_of bits (suc i) xs)) (map (put n) (places_of bits (suc i) xs)) ≡ map (put n) (cond b (i ∷ places_of bits (suc i) xs) (places_of bits (suc i) xs))
+    by_test true = refl
+    by_test false = refl
+
+-- places of a route, where a row of another one is put in
+places_put : (bits i n : ℕ) (xs : List Row) (p : ℕ) (m : Row) → n ≡ i + p → p ≤ length xs → m.route.bits ≢ bits → places_of bits i (insert xs p m) ≡ map (put n) (places_of bits i xs)
+places_put bits i n xs zero m at le other =
+    ap (λ b. cond b (i ∷ places_of bits (suc i) xs) (places_of bits (suc i) xs)) (ne_eqb m.route.bits bits other) ∙ places_shifted bits i n xs (omega arith)
+places_put bits i n [] (suc p) m at le other = absurd (omega arith)
+places_put bits i n (x ∷ xs) (suc p) m at le other =
+    ap (λ l. cond (x.route.bits == bits) (i ∷ l) l) (places_put bits (suc i) n xs p m (omega arith) (omega arith) other)
+    ∙ ap (λ k. cond (x.route.bits == bits) (k ∷ map (put n) (places_of bits (suc i) xs)) (map (put n) (places_of bits (suc i) xs))) (sym (put_low n i (omega arith)))
+    ∙ by_test (x.route.bits == bits)
+  where
+    by_test : (b : Bool) → cond b (put n i ∷ map (put n) (places_of bits (suc i) xs)) (map (put n) (places_of bits (suc i) xs)) ≡ map (put n) (cond b (i ∷ places_of bits (suc i) xs) (places_of bits (suc i) xs))
+    by_test true = refl
+    by_test false = refl
+
+-- ---- the place of a row outside a merge
+
+-- The place of the row of place k in the table after the merge: less by the members before it, and one more behind the
+-- merged row.
+abbrev pub moved : List Row → List ℕ → ℕ → ℕ
+moved rows merge k = rank (λ j. not (has_row merge j)) (put (insert_place rows merge) k)
+
+module _ (rows : List Row) (merge : List ℕ) (ordered : IsOrdered rows) (set : IsMergeSet rows merge) where
+  abbrev p : ℕ
+  p = insert_place rows merge
+
+  abbrev q : ℕ → Bool
+  q = λ j. not (has_row merge j)
+
+  abbrev grown : List Row
+  grown = insert rows (insert_place rows merge) (merged_row rows merge)
+
+  p_le : p ≤ length rows
+  p_le = place_for-le rows (generality (merged_block rows merge))
+
+  -- no member stands at the insertion place or behind it
+  none_behind : (k : ℕ) → p ≤ k → has_row merge k ≡ false
+  none_behind k le = none_from merge k (λ i d within. omega (arith, le, members_before rows merge ordered set i d within))
+
+  member_low : (k : ℕ) → has_row merge k ≡ true → k < p
+  member_low k found = All-has (λ t. t < p) merge k (members_before rows merge ordered set) found
+
+  stays_put : (k : ℕ) → has_row merge k ≡ false → q (put p k) ≡ true
+  stays_put k out = elim (cases_lt k p) [
+    | inl low ↦ subst (λ n. q n ≡ true) (sym (put_low p k low)) (not_from_false (has_row merge k) out)
+    | inr high ↦ subst (λ n. q n ≡ true) (sym (put_high p k high)) (not_from_false (has_row merge (suc k)) (none_behind (suc k) (omega arith)))
+  ]
+
+  pub moved_less : (j k : ℕ) → has_row merge j ≡ false → j < k → moved rows merge j < moved rows merge k
+  moved_less j k out less = rank_less q (put p j) (put p k) (put_less p j k less) (stays_put j out)
+
+  grown_length : length grown ≡ suc (length rows)
+  grown_length = omega (arith, length-insert rows p (merged_row rows merge) p_le)
+
+  put_within : (k : ℕ) → k < length rows → put p k < length grown
+  put_within k within = elim (cases_lt k p) [
+    | inl low ↦ omega (arith, grown_length, put_low p k low)
+    | inr high ↦ omega (arith, grown_length, put_high p k high)
+  ]
+
+  pub moved_get : (k : ℕ) (d : Row) → k < length rows → has_row merge k ≡ false → (moved rows merge k < length (after rows merge)) × (get_or (after rows merge) (moved rows merge k) d ≡ get_or rows k d)
+  moved_get k d within out =
+      let found = picked_get q 0 grown (put p k) (put p k) (moved rows merge k) d (omega arith) (omega arith) (put_within k within) (stays_put k out) in
+      subst (λ l. (moved rows merge k < length l) × (get_or l (moved rows merge k) d ≡ get_or rows k d)) (after_is rows merge ordered set)
+      (found.0, found.1 ∙ put_get rows p k (merged_row rows merge) d p_le)
+
+  -- each row after the merge is one that moved, or the merged one
+  pub moved_onto : (l : ℕ) → l < length (after rows merge) → ((k : ℕ) × (k < length rows) × (has_row merge k ≡ false) × (moved rows merge k ≡ l)) ⊎ ((d : Row) → get_or (after rows merge) l d ≡ merged_row rows merge)
+  moved_onto l within = by_place (picked_onto q 0 grown l (subst (λ x. l < length x) (sym (after_is rows merge ordered set)) within))
+    where
+      by_place : (k : ℕ) × (j : ℕ) × (j ≡ 0 + k) × (k < length grown) × (q j ≡ true) × (rank q j ≡ rank q 0 + l)
+          → ((k : ℕ) × (k < length rows) × (has_row merge k ≡ false) × (moved rows merge k ≡ l)) ⊎ ((d : Row) → get_or (after rows merge) l d ≡ merged_row rows merge)
+      by_place (k, j, at, inside, pass, rank_is) = elim (cases_eq j p) [
+        | inl same ↦ inr (λ d.
+            subst (λ x. get_or x l d ≡ merged_row rows merge) (after_is rows merge ordered set)
+            ((picked_get q 0 grown k j l d at rank_is inside pass).1
+            ∙ ap (λ n. get_or grown n d) (omega (arith, at, same)) ∙ get_or-insert_at rows p (merged_row rows merge) d p_le))
+        | inr apart ↦
+            let from = put_onto p j apart in
+            inl (from.0, small from.0 from.1, out from.0 from.1 (cases_lt from.0 p), ap (rank q) from.1 ∙ omega (arith, rank_is))
+      ]
+        where
+          small : (i : ℕ) → put p i ≡ j → i < length rows
+          small i is = elim (cases_lt i p) [
+            | inl low ↦ omega (arith, low, p_le)
+            | inr high ↦ omega (arith, put_high p i high, is, at, inside, grown_length)
+          ]
+
+          out : (i : ℕ) → put p i ≡ j → (i < p) ⊎ (p ≤ i) → has_row merge i ≡ false
+          out i is (inl low) = not-true (has_row merge i) (ap q (sym (put_low p i low) ∙ is) ∙ pass)
+          out i is (inr high) = none_behind i high
+
+  -- the places of a route of which no row was merged
+  pub moved_places : (bits : ℕ) → ((s : ℕ) (d : Row) → has_row merge s ≡ true → (get_or rows s d).route.bits ≢ bits) → places_of bits 0 (after rows merge) ≡ map (moved rows merge) (places_of bits 0 rows)
+  moved_places bits other =
+      ap (places_of bits 0) (sym (after_is rows merge ordered set))
+      ∙ places_picked q bits 0 0 grown refl gone
+      ∙ ap (map (rank q)) (places_put bits 0 p rows p (merged_row rows merge) (omega arith) p_le merged_other)
+      ∙ map-map (rank q) (put p) (places_of bits 0 rows)
+    where
+      merged_other : (merged_row rows merge).route.bits ≢ bits
+      merged_other same = other (get_or merge 0 0) (merge_rows []) (has-at merge 0 (omega (arith, set.two))) (ap (λ r. r.bits) (sym (route_is rows merge (merge_rows []) set.set.in_range (omega (arith, set.two)))) ∙ same)
+
+      gone : (k j : ℕ) (d : Row) → j ≡ 0 + k → k < length grown → q j ≡ false → (get_or grown k d).route.bits ≢ bits
+      gone k j d at within out same =
+          let here : j ≡ k = omega (arith, at) in
+          let member : has_row merge k ≡ true = ap (has_row merge) (sym here) ∙ not-false (has_row merge j) out in
+          other k d member (ap (λ (r : Row). r.route.bits) (sym (get_or-insert_below rows p (merged_row rows merge) d k (member_low k member) p_le)) ∙ same)

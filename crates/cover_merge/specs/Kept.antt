@@ -1,0 +1,34 @@
+-- What is kept of a route from merge to merge. It saves refining the rows of a route anew where a merge left them alone.
+use Rattle.std.specs.Prelude.{◌≡◌, ◌≢◌, ℕ, ◌<◌, ◌≤◌, ◌⊎◌, true, List, [], length, slice_index_or}
+use Rattle.spin_base.specs.declared.blocks.Block.{Block}
+use Rattle.tern_word.specs.declared.tables.Row.{Row}
+use Rattle.tern_word.specs.Ternary.{Intersects, LiesIn, generality}
+use Rattle.tern_word.specs.SoundTable.{Misses}
+use Rattle.cover_merge.specs.Merge.{has_row, merged_block, PassesUpCheck, PassesDownCheck}
+use Rattle.cover_merge.specs.Refinement.{IsUpStep, IsDownStep}
+use Rattle.cover_merge.specs.Covering.{places_of}
+
+-- The places refine to the answer, and each block that is down-checked on the way lies in `outer` and is at least as
+-- general as `low`.
+pub data RefinesWithin (rows : List Row) (outer : Block) (low : ℕ) : List ℕ → List ℕ → Type 0 where
+  ends_empty : (places : List ℕ) → length places < 2 → RefinesWithin rows outer low places []
+  ends_legal : (places : List ℕ) → 2 ≤ length places → PassesUpCheck rows places → PassesDownCheck rows places
+      → LiesIn (merged_block rows places) outer → low ≤ generality (merged_block rows places) → RefinesWithin rows outer low places places
+  goes_up : (places next answer : List ℕ) → 2 ≤ length places → IsUpStep rows places next → RefinesWithin rows outer low next answer
+      → RefinesWithin rows outer low places answer
+  goes_down : (places next answer : List ℕ) → 2 ≤ length places → IsDownStep rows places next → LiesIn (merged_block rows places) outer
+      → low ≤ generality (merged_block rows places) → RefinesWithin rows outer low next answer → RefinesWithin rows outer low places answer
+
+-- What is kept of a route: how many places the refined set of its rows has, and bounds of the blocks that were
+-- down-checked for it.
+pub record IsKept (rows : List Row) (bits size : ℕ) (outer : Block) (low : ℕ) : Type 0 where
+  pub set : List ℕ
+  pub refined : RefinesWithin rows outer low (places_of bits 0 rows) set
+  pub size_is : length set ≡ size
+
+-- A merge leaves alone what is kept of a route: it is of another route, its block meets no alias of a row of the route,
+-- and meets no block that was down-checked or is no more general than each.
+pub record IsLeftBy (rows : List Row) (merge : List ℕ) (bits : ℕ) (outer : Block) (low : ℕ) : Type 0 where
+  pub other : (s : ℕ) (d : Row) → has_row merge s ≡ true → (slice_index_or rows s d).route.bits ≢ bits
+  pub misses : (s : ℕ) (d : Row) → s < length rows → (slice_index_or rows s d).route.bits ≡ bits → Misses (merged_block rows merge) (slice_index_or rows s d)
+  pub apart : (Intersects (merged_block rows merge) outer → ⊥) ⊎ (generality (merged_block rows merge) ≤ low)
