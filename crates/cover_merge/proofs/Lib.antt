@@ -10,6 +10,7 @@ pub mod Determined
 mod GuardLemmas
 mod KeptLemmas
 mod KeptLemmasMoved
+mod KeptLemmasSteps
 mod LinkLemmas
 mod RefineLemmas
 mod SiftLemmas

@@ -32,3 +32,19 @@ pub record IsLeftBy (rows : List Row) (merge : List ℕ) (bits : ℕ) (outer : B
   pub other : (s : ℕ) (d : Row) → has_row merge s ≡ true → (slice_index_or rows s d).route.bits ≢ bits
   pub misses : (s : ℕ) (d : Row) → s < length rows → (slice_index_or rows s d).route.bits ≡ bits → Misses (merged_block rows merge) (slice_index_or rows s d)
   pub apart : (Intersects (merged_block rows merge) outer → ⊥) ⊎ (generality (merged_block rows merge) ≤ low)
+
+-- Steps of refinement lead from places to others, and each block that is down-checked on the way is within the same
+-- bounds.
+pub data LeadsWithin (rows : List Row) (outer : Block) (low : ℕ) : List ℕ → List ℕ → Type 0 where
+  stands : (places : List ℕ) → LeadsWithin rows outer low places places
+  leads_up : (places next last : List ℕ) → 2 ≤ length places → IsUpStep rows places next → LeadsWithin rows outer low next last
+      → LeadsWithin rows outer low places last
+  leads_down : (places next last : List ℕ) → 2 ≤ length places → IsDownStep rows places next → LiesIn (merged_block rows places) outer
+      → low ≤ generality (merged_block rows places) → LeadsWithin rows outer low next last → LeadsWithin rows outer low places last
+
+-- Steps lead from the places at the start to those of the set. Where `low` is at most 32, a block was down-checked: `outer`
+-- is the first and `low` the generality of the last, and the merge of the set lies in the one and is no more general than
+-- the other.
+pub record IsGone (rows : List Row) (start set : List ℕ) (outer : Block) (low : ℕ) : Type 0 where
+  pub leads : (wide : Block) (least : ℕ) → (low ≤ 32 → LiesIn outer wide) → least ≤ low → LeadsWithin rows wide least start set
+  pub within : low ≤ 32 → 0 < length set → (LiesIn (merged_block rows set) outer) × (generality (merged_block rows set) ≤ low)
