@@ -1,15 +1,16 @@
 -- What is kept of a route is true in the table after a merge that leaves it alone.
-use Rattle.std.proofs.Common.{◌≡◌, ◌≢◌, ◌==◌, ◌||◌, ℕ, suc, ◌+◌, ◌<◌, ◌≤◌, ◌⊎◌, Bool, true, false, cond, Option, Some, List, [], ◌∷◌, length, get_or, inl, inr, refl, sym, ap, ◌∙◌, subst, arith}
+use Rattle.std.proofs.Common.{◌≡◌, ◌≢◌, ◌==◌, ◌||◌, ℕ, zero, suc, ◌+◌, ◌<◌, ◌≤◌, ◌⊎◌, Bool, true, false, cond, Option, Some, List, [], ◌∷◌, length, get_or, inl, inr, refl, sym, ap, ◌∙◌, subst, arith}
 use Rattle.std.specs.Prelude.{All, not, map, filter, slice_get}
 use Rattle.std.specs.List.{cons_option}
 use Rattle.std.specs.Option.{option_map_or}
 use mathlib.Core.Bool.{true≢false}
 use Rattle.std.proofs.lemmas.Bool.{cases_Bool, cases_lt, cases_order, eq-eqb, ne_eqb}
 use Rattle.std.proofs.lemmas.Bool.Decides.{eqb_tells}
-use Rattle.std.proofs.lemmas.List.{length-map}
+use Rattle.std.proofs.lemmas.List.{get_or_default, length-map}
 use Rattle.std.proofs.lemmas.List.Elements.{All-nil, All-cons, All-head, All-tail, All-map, All-filter}
 use Rattle.std.proofs.lemmas.Option.{slice_get-get_or, get_or_from_slice_get, slice_get_within}
 use Rattle.spin_base.specs.declared.blocks.Block.{Block}
+use Rattle.spin_base.specs.declared.routes.Route.{Route}
 use Rattle.tern_word.specs.declared.tables.Alias.{Alias}
 use Rattle.tern_word.specs.declared.tables.Row.{Row}
 use Rattle.tern_word.specs.Ternary.{Intersects, LiesIn, Wants, generality, merge_of}
@@ -394,6 +395,22 @@ module _ (rows : List Row) (outer : Block) (low : ℕ) where
       no_larger = omega (arith, no_larger, is_kept.size_is);
       smaller = λ some less. omega (arith, smaller some less, is_kept.size_is);
     }
+
+    -- and where it has fewer than two, there is nothing to merge
+    pub few_kept : size < 2 → (set : List ℕ) × (Refines rows (places_of bits 0 rows) set) × (length set < 2)
+    few_kept less = (is_kept.set, forgets (places_of bits 0 rows) is_kept.set is_kept.refined, omega (arith, less, is_kept.size_is))
+
+-- A merge is of another route where its first row is.
+pub merge_other : (rows : List Row) (merge : List ℕ) (first bits : ℕ) (z : Row) → IsMergeSet rows merge → (get_or rows (get_or merge 0 0) z).route.bits ≡ first → first ≢ bits
+    → (s : ℕ) (d : Row) → has_row merge s ≡ true → (get_or rows s d).route.bits ≢ bits
+merge_other rows merge first bits z set is differ s d found same = differ (sym (by_place (has-place merge s found)) ∙ same)
+  where
+    first_is : (e : Row) → (get_or rows (get_or merge 0 0) e).route.bits ≡ first
+    first_is e = ap (λ (x : Row). x.route.bits) (get_or_default rows (get_or merge 0 0) e z (set.set.in_range 0 0 (omega (arith, set.two)))) ∙ is
+
+    by_place : (i : ℕ) × (i < length merge) × (get_or merge i 0 ≡ s) → (get_or rows s d).route.bits ≡ first
+    by_place (zero, inside, at) = subst (λ n. (get_or rows n d).route.bits ≡ first) at (first_is d)
+    by_place (suc i, inside, at) = subst (λ n. (get_or rows n d).route.bits ≡ first) at (sym (ap (λ (x : Route). x.bits) (set.set.one_route 0 (suc i) 0 (omega arith) inside d)) ∙ first_is d)
 
 -- ---- fewer places
 
