@@ -203,6 +203,10 @@ pub on_ok : {T E : Type 0} (r : Result T E) (P Q : Type 0) → (P → Q) → OnO
 on_ok (Ok x) P Q h p = h p
 on_ok (Err e) P Q h p = p
 
+pub both_ok : {T E : Type 0} (r : Result T E) (P Q S : Type 0) → (P → Q → S) → OnOk r P → OnOk r Q → OnOk r S
+both_ok (Ok x) P Q S h p q = h p q
+both_ok (Err e) P Q S h p q = p
+
 -- the merge has the route of its first row
 pub route_is : (rows : List Row) (places : List ℕ) (d : Row) → All (λ s. s < length rows) places → 0 < length places → (merged_row rows places).route ≡ (get_or rows (get_or places 0 0) d).route
 route_is rows [] d in_range some = absurd (omega arith)

@@ -1,4 +1,4 @@
--- The places of a route, the best of the refined sets, and pairs.
+-- The places of a route, and pairs.
 use Rattle.std.proofs.Common.{◌≡◌, ◌≢◌, ℕ, zero, suc, ◌+◌, ◌-◌, ◌<◌, ◌≤◌, ◌==◌, Bool, true, false, cond, List, [], ◌∷◌, ◌++◌, length, get_or, take, inl, inr, ◌⊎◌, refl, sym, ap, ◌∙◌, subst, length-take, append-nil, arith}
 use Rattle.std.specs.Prelude.{All, AllPairs}
 use Rattle.std.proofs.lemmas.Bool.{cases_lt, eqb-true, eq-eqb}
@@ -6,15 +6,13 @@ use Rattle.std.proofs.lemmas.Bool.Decides.{eqb_tells}
 use Rattle.std.proofs.lemmas.List.{take_more, take_all, get_or_default}
 use Rattle.std.proofs.lemmas.List.Elements.{All-nil, All-cons}
 use Rattle.std.proofs.lemmas.List.Kept.{AllPairs-cons}
-use Rattle.spin_base.specs.declared.routes.Route.{Route}
 use Rattle.tern_word.specs.declared.tables.Row.{Row}
 use Rattle.cover_merge.specs.Merge.{IsOneRoute, IsMergeSet, merge_rows}
 use Rattle.cover_merge.proofs.Positions.{pair_set_read}
 use Rattle.spin_base.proofs.RouteBits.{same_route}
 use Rattle.cover_merge.proofs.Lists.{AllPairs-nil}
-use Rattle.cover_merge.specs.Refinement.{Refines, ends_empty}
-use Rattle.cover_merge.specs.Links.{AreLinks, IsNextOfRoute, IsFirstOfRoute}
-use Rattle.cover_merge.specs.Covering.{places_of, IsNoRival, IsBestBefore, StandsBefore, IsLargest, HasNoLargest, IsLegalPair, IsFirstPartner, HasNoLegalPair, IsFirstLegalPair}
+use Rattle.cover_merge.specs.Links.{AreNexts, IsNextOfRoute, IsFirstOfRoute}
+use Rattle.cover_merge.specs.Covering.{places_of, IsLegalPair, IsFirstPartner, HasNoLegalPair, IsFirstLegalPair}
 
 -- ---- the places of a route
 
@@ -101,80 +99,6 @@ places_of-one_route bits rows = record {
         let whole : get_or (places_of bits 0 rows) k d - 0 ≡ get_or (places_of bits 0 rows) k d = omega arith in
         subst (λ n. (get_or rows n e).route.bits ≡ bits) whole (place.route e)
 
--- ---- the best so far
-
-module _ (rows : List Row) (k : ℕ) (within : k < length rows) (bits : ℕ) (set : List ℕ) (best : IsBestBefore rows k bits set) where
-  -- a route that stood before brings nothing new
-  pub best_again : (d : Row) → StandsBefore rows (get_or rows k d).route.bits k → IsBestBefore rows (k + 1) bits set
-  best_again d stands = record {
-    refined = best.refined;
-    rivals = λ j e less inside. elim (cases_lt j k) [
-      | inl earlier ↦ best.rivals j e earlier inside
-      | inr here ↦ let same : k ≡ j = omega arith in
-          subst (λ n. IsNoRival rows n bits (length set)) (stands.same e ∙ ap (λ (r : Row). r.route.bits) (get_or_default rows k d e within) ∙ ap (λ n. (get_or rows n e).route.bits) same)
-          (best.rivals stands.at e stands.before stands.inside)
-    ];
-  }
-
-  -- a set that does not beat the best
-  pub best_stays : (d : Row) (new : List ℕ) → Refines rows (places_of (get_or rows k d).route.bits 0 rows) new
-      → (length new < length set) ⊎ ((length new ≡ length set) × (bits ≤ (get_or rows k d).route.bits)) → IsBestBefore rows (k + 1) bits set
-  best_stays d new refined loses = record {
-    refined = best.refined;
-    rivals = λ j e less inside. elim (cases_lt j k) [
-      | inl earlier ↦ best.rivals j e earlier inside
-      | inr here ↦ let same : k ≡ j = omega arith in
-          subst (λ n. IsNoRival rows n bits (length set)) (ap (λ (r : Row). r.route.bits) (get_or_default rows k d e within) ∙ ap (λ n. (get_or rows n e).route.bits) same) (own loses)
-    ];
-  }
-    where
-      own : (length new < length set) ⊎ ((length new ≡ length set) × (bits ≤ (get_or rows k d).route.bits)) → IsNoRival rows (get_or rows k d).route.bits bits (length set)
-      own (inl less) = record { set = new; refined = refined; no_larger = omega arith; smaller = λ some low. less }
-      own (inr tie) = record { set = new; refined = refined; no_larger = omega (arith, tie.0); smaller = λ some low. absurd (omega (arith, tie.1)) }
-
-  -- a set that beats the best
-  pub best_new : (d : Row) (new : List ℕ) → Refines rows (places_of (get_or rows k d).route.bits 0 rows) new
-      → (length set < length new) ⊎ ((length new ≡ length set) × ((get_or rows k d).route.bits < bits)) → IsBestBefore rows (k + 1) (get_or rows k d).route.bits new
-  best_new d new refined wins = record {
-    refined = λ some. refined;
-    rivals = λ j e less inside. elim (cases_lt j k) [
-      | inl earlier ↦ old (best.rivals j e earlier inside) wins
-      | inr here ↦ let same : k ≡ j = omega arith in
-          subst (λ n. IsNoRival rows n (get_or rows k d).route.bits (length new)) (ap (λ (r : Row). r.route.bits) (get_or_default rows k d e within) ∙ ap (λ n. (get_or rows n e).route.bits) same)
-          (record { set = new; refined = refined; no_larger = omega arith; smaller = λ some low. absurd (omega arith) })
-    ];
-  }
-    where
-      old : {other : ℕ} → IsNoRival rows other bits (length set) → (length set < length new) ⊎ ((length new ≡ length set) × ((get_or rows k d).route.bits < bits)) → IsNoRival rows other (get_or rows k d).route.bits (length new)
-      old rival (inl less) = record { set = rival.set; refined = rival.refined; no_larger = omega (arith, rival.no_larger); smaller = λ some low. omega (arith, rival.no_larger) }
-      old rival (inr tie) = record { set = rival.set; refined = rival.refined; no_larger = omega (arith, rival.no_larger, tie.0); smaller = λ some low. let s = rival.smaller (omega (arith, tie.0)) (omega (arith, tie.1)) in omega (arith, s, tie.0) }
-
--- the same as the code reads it
-module _ (rows list : List Row) (same : list ≡ rows) (k : ℕ) (within : k < length rows) (bits : ℕ) (set : List ℕ) (best : IsBestBefore rows k bits set) (d : Row) where
-  pub read_one_route : (places : List ℕ) → places ≡ places_of (get_or list k d).route.bits 0 list → IsOneRoute rows places
-  read_one_route places is = subst (IsOneRoute rows) (sym (is ∙ ap (places_of (get_or list k d).route.bits 0) same)) (places_of-one_route (get_or list k d).route.bits rows)
-
-  module _ (places : List ℕ) (is : places ≡ places_of (get_or list k d).route.bits 0 list) (new : List ℕ) (refined : Refines rows places new) (n m : ℕ) (count : n ≡ length new) (old : m ≡ length set) where
-    refined_here : Refines rows (places_of (get_or rows k d).route.bits 0 rows) new
-    refined_here = subst (λ l. Refines rows (places_of (get_or l k d).route.bits 0 l) new) same (subst (λ p. Refines rows p new) is refined)
-
-    pub read_stays : (n < m) ⊎ ((n ≡ m) × (bits ≤ (get_or list k d).route.bits)) → IsBestBefore rows (k + 1) bits set
-    read_stays loses = best_stays rows k within bits set best d new refined_here (by_case loses)
-      where
-        by_case : (n < m) ⊎ ((n ≡ m) × (bits ≤ (get_or list k d).route.bits)) → (length new < length set) ⊎ ((length new ≡ length set) × (bits ≤ (get_or rows k d).route.bits))
-        by_case (inl less) = inl (omega (arith, less))
-        by_case (inr tie) = inr (sym count ∙ tie.0 ∙ old, subst (λ l. bits ≤ (get_or l k d).route.bits) same tie.1)
-
-    pub read_new : (m < n) ⊎ ((n ≡ m) × ((get_or list k d).route.bits < bits)) → IsBestBefore rows (k + 1) (get_or list k d).route.bits new
-    read_new wins = subst (λ l. IsBestBefore rows (k + 1) (get_or l k d).route.bits new) (sym same) (best_new rows k within bits set best d new refined_here (by_case wins))
-      where
-        by_case : (m < n) ⊎ ((n ≡ m) × ((get_or list k d).route.bits < bits)) → (length set < length new) ⊎ ((length new ≡ length set) × ((get_or rows k d).route.bits < bits))
-        by_case (inl less) = inl (omega (arith, less))
-        by_case (inr tie) = inr (sym count ∙ tie.0 ∙ old, subst (λ l. (get_or l k d).route.bits < bits) same tie.1)
-
-pub best_first : (rows : List Row) (bits : ℕ) → IsBestBefore rows 0 bits []
-best_first rows bits = record { refined = λ some. absurd (omega arith); rivals = λ j d less inside. absurd (omega arith) }
-
 -- a route stands in the table, or has no places
 pub route_cases : (bits i : ℕ) (rows : List Row) → ((j : ℕ) × (j < length rows) × ((d : Row) → (get_or rows j d).route.bits ≡ bits)) ⊎ (places_of bits i rows ≡ [])
 route_cases bits i [] = inr refl
@@ -186,20 +110,6 @@ route_cases bits i (r ∷ rows) = by_test (eqb_tells r.route.bits bits) (route_c
     by_test (inl same) rest = inl (0, omega arith, λ d. same.1)
     by_test (inr other) (inl found) = inl (suc found.0, omega (arith, found.1), found.2)
     by_test (inr other) (inr none) = inr (ap (λ b. cond b (i ∷ places_of bits (suc i) rows) (places_of bits (suc i) rows)) other.0 ∙ none)
-
-module _ (rows : List Row) (k bits : ℕ) (set : List ℕ) (best : IsBestBefore rows k bits set) (all : length rows ≤ k) where
-  no_rival : (route : Route) → IsNoRival rows route.bits bits (length set)
-  no_rival route = by_cases (route_cases route.bits 0 rows)
-    where
-      by_cases : ((j : ℕ) × (j < length rows) × ((d : Row) → (get_or rows j d).route.bits ≡ route.bits)) ⊎ (places_of route.bits 0 rows ≡ []) → IsNoRival rows route.bits bits (length set)
-      by_cases (inl found) = subst (λ n. IsNoRival rows n bits (length set)) (found.2 (merge_rows [])) (best.rivals found.0 (merge_rows []) (omega (arith, found.1)) found.1)
-      by_cases (inr none) = record { set = []; refined = subst (λ l. Refines rows l []) (sym none) (ends_empty [] (omega arith)); no_larger = omega arith; smaller = λ some low. some }
-
-  pub none_largest : length set < 2 → HasNoLargest rows
-  none_largest less route = let rival = no_rival route in (rival.set, rival.refined, omega (arith, rival.no_larger))
-
-  pub best_largest : 2 ≤ length set → IsLargest rows set
-  best_largest two = record { bits = bits; refined = best.refined (omega arith); two = two; others = no_rival }
 
 -- ---- pairs
 
@@ -234,21 +144,8 @@ no_pair rows i all none a b other = none a (omega (arith, pair_order rows a b ot
 
 -- ---- links
 
-module _ (rows : List Row) (nexts firsts : List ℕ) (links : AreLinks rows nexts firsts) (k x : ℕ) (inside : k < length rows) where
-  pub link_next : x ≡ get_or nexts k x → IsNextOfRoute rows k x
-  link_next is = subst (IsNextOfRoute rows k) (get_or_default nexts k 0 x (omega (arith, links.one_next, inside)) ∙ sym is) (links.next k inside)
-
-  pub link_first : x ≡ get_or firsts k x → IsFirstOfRoute rows k x
-  link_first is = subst (IsFirstOfRoute rows k) (get_or_default firsts k 0 x (omega (arith, links.one_first, inside)) ∙ sym is) (links.first k inside)
-
--- a row that is not the first of its route stands behind that
-pub first_stands : (rows : List Row) (k x : ℕ) (d : Row) → k < length rows → IsFirstOfRoute rows k x → x < k → StandsBefore rows (get_or rows k d).route.bits k
-first_stands rows k x d inside first less = record {
-  at = x;
-  before = less;
-  inside = omega (arith, less, inside);
-  same = λ e. first.same e ∙ ap (λ (r : Row). r.route.bits) (get_or_default rows k e d inside);
-}
+pub link_next : (rows : List Row) (nexts : List ℕ) → AreNexts rows nexts → (k x : ℕ) → k < length rows → x ≡ get_or nexts k x → IsNextOfRoute rows k x
+link_next rows nexts links k x inside is = subst (IsNextOfRoute rows k) (get_or_default nexts k 0 x (omega (arith, links.one_each, inside)) ∙ sym is) (links.next k inside)
 
 -- rows of other routes add no place
 places_gap : (bits : ℕ) (rows : List Row) (i n : ℕ) → ((m : ℕ) (d : Row) → i ≤ m → m < i + n → m < length rows → (get_or rows m d).route.bits ≡ bits → ⊥) → places_of bits 0 (take (i + n) rows) ≡ places_of bits 0 (take i rows)
@@ -264,24 +161,20 @@ places_gap bits rows i (suc n) none =
     one_more (inr all) = ap (places_of bits 0) (take_all (i + n + 1) rows (omega (arith, all)) ∙ sym (take_all (i + n) rows all))
 
 -- the first row of a route begins its places
-pub places_begin : (rows : List Row) (k x : ℕ) (d : Row) → k < length rows → IsFirstOfRoute rows k x → k ≤ x → [] ≡ places_of (get_or rows k d).route.bits 0 (take k rows)
-places_begin rows k x d inside first from =
-    let bits = (get_or rows k d).route.bits in
-    let whole : 0 + k ≡ k = omega arith in
-    sym (ap (λ j. places_of bits 0 (take j rows)) (sym whole)
-    ∙ places_gap bits rows 0 k (λ m e low less within same.
-    first.before m e (omega (arith, less, from)) (same ∙ ap (λ (r : Row). r.route.bits) (get_or_default rows k d e inside))))
+pub places_begin : (rows : List Row) (bits x : ℕ) → IsFirstOfRoute rows bits x → [] ≡ places_of bits 0 (take x rows)
+places_begin rows bits x first =
+    let whole : 0 + x ≡ x = omega arith in
+    sym (ap (λ j. places_of bits 0 (take j rows)) (sym whole) ∙ places_gap bits rows 0 x (λ m e low less within same. first.before m e (omega (arith, less)) within same))
 
 -- one row of the route more, and then on to the next
-pub places_next : (rows : List Row) (k place x : ℕ) (d : Row) (old new : List ℕ) → k < length rows → place < length rows → ((e : Row) → (get_or rows place e).route.bits ≡ (get_or rows k e).route.bits) → IsNextOfRoute rows place x
-    → old ≡ places_of (get_or rows k d).route.bits 0 (take place rows) → new ≡ old ++ place ∷ [] → new ≡ places_of (get_or rows k d).route.bits 0 (take x rows)
-places_next rows k place x d old new in_k inside same next before now =
-    let bits = (get_or rows k d).route.bits in
+pub places_next : (rows : List Row) (bits place x : ℕ) (old new : List ℕ) → place < length rows → ((e : Row) → (get_or rows place e).route.bits ≡ bits) → IsNextOfRoute rows place x
+    → old ≡ places_of bits 0 (take place rows) → new ≡ old ++ place ∷ [] → new ≡ places_of bits 0 (take x rows)
+places_next rows bits place x old new inside same next before now =
     let there : place + 1 + (x - (place + 1)) ≡ x = omega (arith, next.behind) in
     now ∙ ap (λ l. l ++ place ∷ []) before
-    ∙ sym (places_of-here bits place rows d inside (same d))
+    ∙ sym (places_of-here bits place rows (merge_rows []) inside (same (merge_rows [])))
     ∙ sym (places_gap bits rows (place + 1) (x - (place + 1)) (λ m e from less within equal.
-    next.between m e (omega (arith, from)) (omega (arith, less, there)) within (equal ∙ ap (λ (r : Row). r.route.bits) (get_or_default rows k d e in_k) ∙ sym (same e))))
+    next.between m e (omega (arith, from)) (omega (arith, less, there)) within (equal ∙ sym (same e))))
     ∙ ap (λ j. places_of bits 0 (take j rows)) there
 
 pub places_end : (rows : List Row) (bits place : ℕ) (found : List ℕ) → length rows ≤ place → found ≡ places_of bits 0 (take place rows) → found ≡ places_of bits 0 rows

@@ -8,6 +8,7 @@ mod ChooseLemmas
 mod CoverLemmas
 pub mod Determined
 mod GuardLemmas
+mod KeepLemmas
 mod KeptLemmas
 mod KeptLemmasMoved
 mod KeptLemmasSteps

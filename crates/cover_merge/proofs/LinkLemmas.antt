@@ -1,123 +1,183 @@
 -- Numbers of routes, and the rows of one route one after another.
-use Rattle.std.proofs.Common.{◌≡◌, ◌≢◌, ℕ, zero, suc, ◌+◌, ◌<◌, ◌≤◌, ◌⊎◌, ◌==◌, Bool, true, false, cond, List, [], ◌∷◌, length, get_or, take, drop, set, inl, inr, refl, sym, ap, ◌∙◌, subst, arith}
+use Rattle.std.proofs.Common.{◌≡◌, ◌≢◌, ℕ, zero, suc, ◌+◌, ◌<◌, ◌≤◌, ◌⊎◌, ◌==◌, Bool, true, false, cond, List, [], ◌∷◌, ◌++◌, length, length-append, get_or, take, drop, set, inl, inr, refl, sym, ap, ◌∙◌, subst, arith}
 use Rattle.std.specs.Prelude.{All, map, not, insert}
 use Rattle.std.proofs.lemmas.Bool.{cases_lt, eq-eqb}
 use Rattle.std.proofs.lemmas.Bool.Decides.{eqb_tells}
 use Rattle.std.proofs.lemmas.Grind.{get_or-set_at}
-use Rattle.std.proofs.lemmas.List.{get_or_default, get_or-set_other, take_all}
+use Rattle.std.proofs.lemmas.List.{get_or_default, get_or-set_other, get_or_append_left, take_all}
+use Rattle.std.proofs.Math.Seq.{get_or-append_seam}
 use Rattle.std.proofs.lemmas.List.Elements.{All-cons, All-append, All-take, All-drop}
 use Rattle.spin_base.specs.declared.routes.Route.{Route}
 use Rattle.tern_word.specs.declared.tables.Row.{Row}
 use Rattle.tern_word.specs.SoundTable.{IsOrdered}
 use Rattle.cover_merge.specs.Merge.{has_row, picked, merged_row, insert_place, after, IsMergeSet, merge_rows}
 use Rattle.cover_merge.proofs.Lists.{All-picked}
-use Rattle.cover_merge.specs.Links.{place_of_route, AreNumbers, IsAhead, IsNextOfRoute, IsFirstOfRoute, AreLinks}
+use Rattle.cover_merge.specs.Links.{place_of_route, IsEachOnce, AreRoutes, IsRouteAdded, AreNumbers, IsAhead, IsNextOfRoute, IsFirstOfRoute, AreLinks}
 use Rattle.cover_merge.proofs.ApplyLemmas.{left, after_is, route_is}
 
 -- ---- the place of a route
 
--- the row at the place has the route
-route_there : (rows : List Row) (bits : ℕ) (d : Row) → place_of_route rows bits < length rows → (get_or rows (place_of_route rows bits) d).route.bits ≡ bits
-route_there [] bits d inside = absurd (omega arith)
-route_there (r ∷ rows) bits d inside = by_test (eqb_tells r.route.bits bits) inside (route_there rows bits d)
+-- that route stands there
+pub route_there : (routes : List ℕ) (bits : ℕ) → place_of_route routes bits < length routes → get_or routes (place_of_route routes bits) 0 ≡ bits
+route_there [] bits inside = absurd (omega arith)
+route_there (r ∷ routes) bits inside = by_test (eqb_tells r bits) inside (route_there routes bits)
   where
-    by_test : ((r.route.bits == bits) ≡ true) × (r.route.bits ≡ bits) ⊎ ((r.route.bits == bits) ≡ false) × (r.route.bits ≢ bits) → cond (r.route.bits == bits) 0 (suc (place_of_route rows bits)) < suc (length rows)
-        → (place_of_route rows bits < length rows → (get_or rows (place_of_route rows bits) d).route.bits ≡ bits) → (get_or (r ∷ rows) (cond (r.route.bits == bits) 0 (suc (place_of_route rows bits))) d).route.bits ≡ bits
-    by_test (inl same) within rest = subst (λ b. (get_or (r ∷ rows) (cond b 0 (suc (place_of_route rows bits))) d).route.bits ≡ bits) (sym same.0) same.1
+    by_test : ((r == bits) ≡ true) × (r ≡ bits) ⊎ ((r == bits) ≡ false) × (r ≢ bits) → cond (r == bits) 0 (suc (place_of_route routes bits)) < suc (length routes)
+        → (place_of_route routes bits < length routes → get_or routes (place_of_route routes bits) 0 ≡ bits) → get_or (r ∷ routes) (cond (r == bits) 0 (suc (place_of_route routes bits))) 0 ≡ bits
+    by_test (inl same) within rest = subst (λ b. get_or (r ∷ routes) (cond b 0 (suc (place_of_route routes bits))) 0 ≡ bits) (sym same.0) same.1
     by_test (inr other) within rest =
-        subst (λ b. (get_or (r ∷ rows) (cond b 0 (suc (place_of_route rows bits))) d).route.bits ≡ bits) (sym other.0)
-        (rest (omega (arith, subst (λ b. cond b 0 (suc (place_of_route rows bits)) < suc (length rows)) other.0 within)))
+        subst (λ b. get_or (r ∷ routes) (cond b 0 (suc (place_of_route routes bits))) 0 ≡ bits) (sym other.0)
+        (rest (omega (arith, subst (λ b. cond b 0 (suc (place_of_route routes bits)) < suc (length routes)) other.0 within)))
 
--- the first row that has the route tells its place
-pub route_found : (rows : List Row) (bits k : ℕ) (d : Row) → k < length rows → (get_or rows k d).route.bits ≡ bits → ((j : ℕ) → j < k → (get_or rows j d).route.bits ≡ bits → ⊥) → k ≡ place_of_route rows bits
+-- the first of the routes that is it tells its place
+pub route_found : (routes : List ℕ) (bits k d : ℕ) → k < length routes → get_or routes k d ≡ bits → ((j : ℕ) → j < k → get_or routes j d ≡ bits → ⊥) → k ≡ place_of_route routes bits
 route_found [] bits k d inside same before = absurd (omega arith)
-route_found (r ∷ rows) bits zero d inside same before = sym (ap (λ b. cond b 0 (suc (place_of_route rows bits))) (eq-eqb r.route.bits bits same))
-route_found (r ∷ rows) bits (suc k) d inside same before =
-    by_test (eqb_tells r.route.bits bits) (route_found rows bits k d (omega arith) same (λ j less. before (suc j) (omega arith)))
+route_found (r ∷ routes) bits zero d inside same before = sym (ap (λ b. cond b 0 (suc (place_of_route routes bits))) (eq-eqb r bits same))
+route_found (r ∷ routes) bits (suc k) d inside same before =
+    by_test (eqb_tells r bits) (route_found routes bits k d (omega arith) same (λ j less. before (suc j) (omega arith)))
   where
-    by_test : ((r.route.bits == bits) ≡ true) × (r.route.bits ≡ bits) ⊎ ((r.route.bits == bits) ≡ false) × (r.route.bits ≢ bits) → k ≡ place_of_route rows bits → suc k ≡ cond (r.route.bits == bits) 0 (suc (place_of_route rows bits))
+    by_test : ((r == bits) ≡ true) × (r ≡ bits) ⊎ ((r == bits) ≡ false) × (r ≢ bits) → k ≡ place_of_route routes bits → suc k ≡ cond (r == bits) 0 (suc (place_of_route routes bits))
     by_test (inl here) rest = absurd (before 0 (omega arith) here.1)
-    by_test (inr other) rest = ap suc rest ∙ sym (ap (λ b. cond b 0 (suc (place_of_route rows bits))) other.0)
+    by_test (inr other) rest = ap suc rest ∙ sym (ap (λ b. cond b 0 (suc (place_of_route routes bits))) other.0)
 
-pub route_nowhere : (rows : List Row) (bits : ℕ) (d : Row) → ((j : ℕ) → j < length rows → (get_or rows j d).route.bits ≡ bits → ⊥) → length rows ≡ place_of_route rows bits
+pub route_nowhere : (routes : List ℕ) (bits d : ℕ) → ((j : ℕ) → j < length routes → get_or routes j d ≡ bits → ⊥) → length routes ≡ place_of_route routes bits
 route_nowhere [] bits d none = refl
-route_nowhere (r ∷ rows) bits d none = by_test (eqb_tells r.route.bits bits) (route_nowhere rows bits d (λ j less. none (suc j) (omega arith)))
+route_nowhere (r ∷ routes) bits d none = by_test (eqb_tells r bits) (route_nowhere routes bits d (λ j less. none (suc j) (omega arith)))
   where
-    by_test : ((r.route.bits == bits) ≡ true) × (r.route.bits ≡ bits) ⊎ ((r.route.bits == bits) ≡ false) × (r.route.bits ≢ bits) → length rows ≡ place_of_route rows bits → suc (length rows) ≡ cond (r.route.bits == bits) 0 (suc (place_of_route rows bits))
+    by_test : ((r == bits) ≡ true) × (r ≡ bits) ⊎ ((r == bits) ≡ false) × (r ≢ bits) → length routes ≡ place_of_route routes bits → suc (length routes) ≡ cond (r == bits) 0 (suc (place_of_route routes bits))
     by_test (inl here) rest = absurd (none 0 (omega arith) here.1)
-    by_test (inr other) rest = ap suc rest ∙ sym (ap (λ b. cond b 0 (suc (place_of_route rows bits))) other.0)
+    by_test (inr other) rest = ap suc rest ∙ sym (ap (λ b. cond b 0 (suc (place_of_route routes bits))) other.0)
 
--- a route that a row has stands in the table
-pub route_inside : (rows : List Row) (bits k : ℕ) (d : Row) → k < length rows → (get_or rows k d).route.bits ≡ bits → place_of_route rows bits < length rows
-route_inside [] bits k d inside same = absurd (omega arith)
-route_inside (r ∷ rows) bits k d inside same = by_test (eqb_tells r.route.bits bits) k inside same (λ j within there. route_inside rows bits j d within there)
+-- ---- one route more
+
+-- a route that stands among them stays where it is
+route_stays : (routes : List ℕ) (new bits : ℕ) → place_of_route routes bits < length routes → place_of_route (routes ++ new ∷ []) bits ≡ place_of_route routes bits
+route_stays [] new bits inside = absurd (omega arith)
+route_stays (r ∷ routes) new bits inside = by_test (eqb_tells r bits) inside (route_stays routes new bits)
   where
-    by_test : ((r.route.bits == bits) ≡ true) × (r.route.bits ≡ bits) ⊎ ((r.route.bits == bits) ≡ false) × (r.route.bits ≢ bits) → (k : ℕ) → k < suc (length rows) → (get_or (r ∷ rows) k d).route.bits ≡ bits
-        → ((j : ℕ) → j < length rows → (get_or rows j d).route.bits ≡ bits → place_of_route rows bits < length rows) → cond (r.route.bits == bits) 0 (suc (place_of_route rows bits)) < suc (length rows)
-    by_test (inl here) k within there rest = subst (λ b. cond b 0 (suc (place_of_route rows bits)) < suc (length rows)) (sym here.0) (omega arith)
-    by_test (inr other) zero within there rest = absurd (other.1 there)
-    by_test (inr other) (suc k) within there rest = let less = rest k (omega arith) there in subst (λ b. cond b 0 (suc (place_of_route rows bits)) < suc (length rows)) (sym other.0) (omega (arith, less))
+    by_test : ((r == bits) ≡ true) × (r ≡ bits) ⊎ ((r == bits) ≡ false) × (r ≢ bits) → cond (r == bits) 0 (suc (place_of_route routes bits)) < suc (length routes)
+        → (place_of_route routes bits < length routes → place_of_route (routes ++ new ∷ []) bits ≡ place_of_route routes bits)
+        → cond (r == bits) 0 (suc (place_of_route (routes ++ new ∷ []) bits)) ≡ cond (r == bits) 0 (suc (place_of_route routes bits))
+    by_test (inl same) within rest = subst (λ b. cond b 0 (suc (place_of_route (routes ++ new ∷ []) bits)) ≡ cond b 0 (suc (place_of_route routes bits))) (sym same.0) refl
+    by_test (inr other) within rest =
+        subst (λ b. cond b 0 (suc (place_of_route (routes ++ new ∷ []) bits)) ≡ cond b 0 (suc (place_of_route routes bits))) (sym other.0)
+        (ap suc (rest (omega (arith, subst (λ b. cond b 0 (suc (place_of_route routes bits)) < suc (length routes)) other.0 within))))
+
+-- and one that does not comes behind them
+route_last : (routes : List ℕ) (bits : ℕ) → place_of_route routes bits ≡ length routes → place_of_route (routes ++ bits ∷ []) bits ≡ length routes
+route_last [] bits none = ap (λ b. cond b 0 1) (eq-eqb bits bits refl)
+route_last (r ∷ routes) bits none = by_test (eqb_tells r bits) none (route_last routes bits)
+  where
+    by_test : ((r == bits) ≡ true) × (r ≡ bits) ⊎ ((r == bits) ≡ false) × (r ≢ bits) → cond (r == bits) 0 (suc (place_of_route routes bits)) ≡ suc (length routes)
+        → (place_of_route routes bits ≡ length routes → place_of_route (routes ++ bits ∷ []) bits ≡ length routes)
+        → cond (r == bits) 0 (suc (place_of_route (routes ++ bits ∷ []) bits)) ≡ suc (length routes)
+    by_test (inl same) whole rest = let low = ap (λ b. cond b 0 (suc (place_of_route routes bits))) same.0 in absurd (omega (arith, whole, low))
+    by_test (inr other) whole rest =
+        let high = ap (λ b. cond b 0 (suc (place_of_route routes bits))) other.0 in
+        subst (λ b. cond b 0 (suc (place_of_route (routes ++ bits ∷ []) bits)) ≡ suc (length routes)) (sym other.0) (ap suc (rest (omega (arith, whole, high))))
+
+pub added_last : (bits n : ℕ) (old new : List ℕ) → n ≡ place_of_route old bits → n ≡ length old → new ≡ old ++ bits ∷ [] → IsRouteAdded bits old new
+added_last bits n old new is none now =
+    let many = ap length now ∙ length-append old (bits ∷ []) in
+    let there : place_of_route new bits ≡ length old = ap (λ l. place_of_route l bits) now ∙ route_last old bits (sym is ∙ none) in record {
+      found = omega (arith, there, many);
+      stays = λ other before. let same = ap (λ l. place_of_route l other) now ∙ route_stays old bits other before in omega (arith, same, before, many);
+      one_more = omega (arith, many);
+      once = λ each c within. elim (cases_lt c (length old)) [
+        | inl earlier ↦
+            let read : get_or new c 0 ≡ get_or old c 0 = ap (λ l. get_or l c 0) now ∙ get_or_append_left old (bits ∷ []) 0 c earlier in
+            ap (place_of_route new) read ∙ ap (λ l. place_of_route l (get_or old c 0)) now ∙ route_stays old bits (get_or old c 0) (omega (arith, each c earlier, earlier)) ∙ each c earlier
+        | inr behind ↦
+            let last : length old ≡ c = omega (arith, behind, within, many) in
+            let read : get_or new c 0 ≡ bits = ap (λ l. get_or l c 0) now ∙ ap (λ i. get_or (old ++ bits ∷ []) i 0) (sym last) ∙ get_or-append_seam old bits [] 0 in
+            ap (place_of_route new) read ∙ there ∙ last
+      ];
+    }
+
+pub added_again : (bits n : ℕ) (old : List ℕ) → n ≡ place_of_route old bits → n ≢ length old → n ≤ length old → IsRouteAdded bits old old
+added_again bits n old is there most = record {
+  found = by_case (cases_lt n (length old));
+  stays = λ other before. before;
+  one_more = omega arith;
+  once = λ each. each;
+}
+  where
+    by_case : (n < length old) ⊎ (length old ≤ n) → place_of_route old bits < length old
+    by_case (inl less) = omega (arith, is, less)
+    by_case (inr all) = absurd (there (omega (arith, all, most)))
+
+pub place_le : (routes : List ℕ) (bits : ℕ) → place_of_route routes bits ≤ length routes
+place_le [] bits = omega arith
+place_le (r ∷ routes) bits = by_test (r == bits) (place_le routes bits)
+  where
+    by_test : (t : Bool) → place_of_route routes bits ≤ length routes → cond t 0 (suc (place_of_route routes bits)) ≤ suc (length routes)
+    by_test true rest = omega arith
+    by_test false rest = omega (arith, rest)
 
 -- ---- numbers
 
-abbrev pub numbers_for : List Row → List Row → List ℕ
-numbers_for start rows = map (λ (r : Row). place_of_route start r.route.bits) rows
+abbrev pub numbers_for : List ℕ → List Row → List ℕ
+numbers_for routes rows = map (λ (r : Row). place_of_route routes r.route.bits) rows
 
-numbers_read : (start rows : List Row) (k : ℕ) (d : Row) → k < length rows → get_or (numbers_for start rows) k 0 ≡ place_of_route start (get_or rows k d).route.bits
-numbers_read start [] k d inside = absurd (omega arith)
-numbers_read start (r ∷ rows) zero d inside = refl
-numbers_read start (r ∷ rows) (suc k) d inside = numbers_read start rows k d (omega arith)
+numbers_read : (routes : List ℕ) (rows : List Row) (k : ℕ) (d : Row) → k < length rows → get_or (numbers_for routes rows) k 0 ≡ place_of_route routes (get_or rows k d).route.bits
+numbers_read routes [] k d inside = absurd (omega arith)
+numbers_read routes (r ∷ rows) zero d inside = refl
+numbers_read routes (r ∷ rows) (suc k) d inside = numbers_read routes rows k d (omega arith)
 
-numbers_length : (start rows : List Row) → length (numbers_for start rows) ≡ length rows
-numbers_length start [] = refl
-numbers_length start (r ∷ rows) = ap suc (numbers_length start rows)
+numbers_length : (routes : List ℕ) (rows : List Row) → length (numbers_for routes rows) ≡ length rows
+numbers_length routes [] = refl
+numbers_length routes (r ∷ rows) = ap suc (numbers_length routes rows)
 
-numbers_picked : (start : List Row) (q : ℕ → Bool) (i : ℕ) (rows : List Row) → picked q i (numbers_for start rows) ≡ numbers_for start (picked q i rows)
-numbers_picked start q i [] = refl
-numbers_picked start q i (r ∷ rows) = by_test (q i) (numbers_picked start q (suc i) rows)
+numbers_picked : (routes : List ℕ) (q : ℕ → Bool) (i : ℕ) (rows : List Row) → picked q i (numbers_for routes rows) ≡ numbers_for routes (picked q i rows)
+numbers_picked routes q i [] = refl
+numbers_picked routes q i (r ∷ rows) = by_test (q i) (numbers_picked routes q (suc i) rows)
   where
-    by_test : (t : Bool) → picked q (suc i) (numbers_for start rows) ≡ numbers_for start (picked q (suc i) rows)
-        → cond t (place_of_route start r.route.bits ∷ picked q (suc i) (numbers_for start rows)) (picked q (suc i) (numbers_for start rows)) ≡ numbers_for start (cond t (r ∷ picked q (suc i) rows) (picked q (suc i) rows))
-    by_test true rest = ap (λ l. place_of_route start r.route.bits ∷ l) rest
+    by_test : (t : Bool) → picked q (suc i) (numbers_for routes rows) ≡ numbers_for routes (picked q (suc i) rows)
+        → cond t (place_of_route routes r.route.bits ∷ picked q (suc i) (numbers_for routes rows)) (picked q (suc i) (numbers_for routes rows)) ≡ numbers_for routes (cond t (r ∷ picked q (suc i) rows) (picked q (suc i) rows))
+    by_test true rest = ap (λ l. place_of_route routes r.route.bits ∷ l) rest
     by_test false rest = rest
 
-numbers_insert : (start : List Row) (m : Row) (p : ℕ) (rows : List Row) → insert (numbers_for start rows) p (place_of_route start m.route.bits) ≡ numbers_for start (insert rows p m)
-numbers_insert start m zero rows = refl
-numbers_insert start m (suc p) [] = refl
-numbers_insert start m (suc p) (r ∷ rows) = ap (λ l. place_of_route start r.route.bits ∷ l) (numbers_insert start m p rows)
+numbers_insert : (routes : List ℕ) (m : Row) (p : ℕ) (rows : List Row) → insert (numbers_for routes rows) p (place_of_route routes m.route.bits) ≡ numbers_for routes (insert rows p m)
+numbers_insert routes m zero rows = refl
+numbers_insert routes m (suc p) [] = refl
+numbers_insert routes m (suc p) (r ∷ rows) = ap (λ l. place_of_route routes r.route.bits ∷ l) (numbers_insert routes m p rows)
 
-pub numbers_done : (rows : List Row) (numbers : List ℕ) (s : ℕ) → length rows ≤ s → numbers ≡ numbers_for rows (take s rows) → AreNumbers (length rows) rows numbers
-numbers_done rows numbers s all is =
-    let whole : numbers ≡ numbers_for rows rows = is ∙ ap (numbers_for rows) (take_all s rows all) in record {
-      start = rows;
-      many = refl;
+pub numbers_done : (routes : List ℕ) (rows : List Row) (numbers : List ℕ) (s : ℕ) → AreRoutes rows routes → length rows ≤ s → numbers ≡ numbers_for routes (take s rows) → AreNumbers routes rows numbers
+numbers_done routes rows numbers s are all is =
+    let whole : numbers ≡ numbers_for routes rows = is ∙ ap (numbers_for routes) (take_all s rows all) in record {
       each = whole;
-      below = subst (All (λ c. c < length rows)) (sym whole) (λ k d within.
-          let inside : k < length rows = omega (arith, within, numbers_length rows rows) in
-          let row = get_or rows k (merge_rows []) in
-          subst (λ n. n < length rows) (sym (get_or_default (numbers_for rows rows) k d 0 within ∙ numbers_read rows rows k (merge_rows []) inside)) (route_inside rows row.route.bits k (merge_rows []) inside refl));
+      below = subst (All (λ c. c < length routes)) (sym whole) (λ k d within.
+          let inside : k < length rows = omega (arith, within, numbers_length routes rows) in
+          subst (λ n. n < length routes) (sym (get_or_default (numbers_for routes rows) k d 0 within ∙ numbers_read routes rows k (merge_rows []) inside)) (are.found k (merge_rows []) inside));
     }
 
 -- two rows have one number exactly where they have one route
-module _ (limit : ℕ) (rows : List Row) (numbers : List ℕ) (are : AreNumbers limit rows numbers) where
+module _ (routes : List ℕ) (rows : List Row) (numbers : List ℕ) (are : AreNumbers routes rows numbers) where
   pub as_many : length numbers ≡ length rows
-  as_many = ap length are.each ∙ numbers_length are.start rows
+  as_many = ap length are.each ∙ numbers_length routes rows
 
-  number_at : (k : ℕ) (d : Row) → k < length rows → get_or numbers k 0 ≡ place_of_route are.start (get_or rows k d).route.bits
-  number_at k d inside = ap (λ l. get_or l k 0) are.each ∙ numbers_read are.start rows k d inside
+  number_at : (k : ℕ) (d : Row) → k < length rows → get_or numbers k 0 ≡ place_of_route routes (get_or rows k d).route.bits
+  number_at k d inside = ap (λ l. get_or l k 0) are.each ∙ numbers_read routes rows k d inside
+
+  -- the route of a row stands at its number
+  pub route_of : (k : ℕ) (d : Row) → k < length rows → get_or routes (get_or numbers k 0) 0 ≡ (get_or rows k d).route.bits
+  route_of k d inside =
+      let at = number_at k d inside in
+      ap (λ n. get_or routes n 0) at ∙ route_there routes (get_or rows k d).route.bits (omega (arith, at, are.below k 0 (omega (arith, as_many, inside))))
+
+  -- and its number is the place of that
+  pub number_of_route : IsEachOnce routes → (k c : ℕ) (d : Row) → k < length rows → c < length routes → (get_or rows k d).route.bits ≡ get_or routes c 0 → get_or numbers k 0 ≡ c
+  number_of_route once k c d inside low same = number_at k d inside ∙ ap (place_of_route routes) same ∙ once c low
+
+  -- a route that is none of them is that of no row
+  pub routes_all : (bits k : ℕ) (d : Row) → k < length rows → (get_or rows k d).route.bits ≡ bits → place_of_route routes bits < length routes
+  routes_all bits k d inside same = let at = number_at k d inside ∙ ap (place_of_route routes) same in omega (arith, at, are.below k 0 (omega (arith, as_many, inside)))
 
   pub same_route : (j k : ℕ) (d : Row) → j < length rows → k < length rows → get_or numbers j 0 ≡ get_or numbers k 0 → (get_or rows j d).route.bits ≡ (get_or rows k d).route.bits
-  same_route j k d in_j in_k same =
-      let first = number_at j d in_j in
-      let second = number_at k d in_k in
-      let low_j : place_of_route are.start (get_or rows j d).route.bits < length are.start = omega (arith, first, are.many, are.below j 0 (omega (arith, as_many, in_j))) in
-      let low_k : place_of_route are.start (get_or rows k d).route.bits < length are.start = omega (arith, second, are.many, are.below k 0 (omega (arith, as_many, in_k))) in
-      sym (route_there are.start (get_or rows j d).route.bits d low_j)
-      ∙ ap (λ n. (get_or are.start n d).route.bits) (sym first ∙ same ∙ second)
-      ∙ route_there are.start (get_or rows k d).route.bits d low_k
+  same_route j k d in_j in_k same = sym (route_of j d in_j) ∙ ap (λ n. get_or routes n 0) same ∙ route_of k d in_k
 
   pub same_number : (j k : ℕ) (d : Row) → j < length rows → k < length rows → (get_or rows j d).route.bits ≡ (get_or rows k d).route.bits → get_or numbers j 0 ≡ get_or numbers k 0
-  same_number j k d in_j in_k same = number_at j d in_j ∙ ap (place_of_route are.start) same ∙ sym (number_at k d in_k)
+  same_number j k d in_j in_k same = number_at j d in_j ∙ ap (place_of_route routes) same ∙ sym (number_at k d in_k)
 
   pub next_from : (k x : ℕ) → k < length rows → IsAhead numbers (k + 1) (get_or numbers k 0) x → IsNextOfRoute rows k x
   next_from k x inside ahead = record {
@@ -126,32 +186,25 @@ module _ (limit : ℕ) (rows : List Row) (numbers : List ℕ) (are : AreNumbers 
     between = λ j d after before within same. ahead.none j (omega (arith, after)) before (omega (arith, as_many, within)) (same_number j k d within inside same);
   }
 
-  pub first_from : (k x : ℕ) → k < length rows → IsAhead numbers 0 (get_or numbers k 0) x → IsFirstOfRoute rows k x
-  first_from k x inside ahead =
-      let up : x ≤ k = not_after (cases_lt k x) in record {
-        up_to = up;
-        same = λ d. same_route x k d (omega (arith, up, inside)) inside (ahead.same (omega (arith, up, inside, as_many)));
-        before = λ j d before same. ahead.none j (omega arith) before (omega (arith, before, up, inside, as_many)) (same_number j k d (omega (arith, before, up, inside)) inside same);
-      }
-    where
-      not_after : (k < x) ⊎ (x ≤ k) → x ≤ k
-      not_after (inr le) = le
-      not_after (inl less) = absurd (ahead.none k (omega arith) less (omega (arith, as_many, inside)) refl)
+  pub first_from : IsEachOnce routes → (c x : ℕ) → c < length routes → IsAhead numbers 0 c x → IsFirstOfRoute rows (get_or routes c 0) x
+  first_from once c x low ahead = record {
+    same = λ d within. sym (route_of x d within) ∙ ap (λ n. get_or routes n 0) (ahead.same (omega (arith, as_many, within)));
+    before = λ j d less within same. ahead.none j (omega arith) less (omega (arith, as_many, within)) (number_of_route once j c d within low same);
+  }
 
-pub links_made : (limit : ℕ) (rows : List Row) (numbers : List ℕ) → AreNumbers limit rows numbers → (heads nexts firsts : List ℕ)
-    → length nexts ≡ length numbers → length firsts ≡ length numbers
-    → ((c : ℕ) → c < limit → IsAhead numbers 0 c (get_or heads c 0))
+pub links_made : (routes : List ℕ) (rows : List Row) (numbers : List ℕ) → IsEachOnce routes → AreNumbers routes rows numbers → (nexts heads : List ℕ)
+    → length nexts ≡ length numbers → length heads ≡ length routes
+    → ((c : ℕ) → c < length routes → IsAhead numbers 0 c (get_or heads c 0))
     → ((k : ℕ) → k < length numbers → IsAhead numbers (k + 1) (get_or numbers k 0) (get_or nexts k 0))
-    → ((k : ℕ) → k < length numbers → get_or firsts k 0 ≡ get_or heads (get_or numbers k 0) 0)
-    → AreLinks rows nexts firsts
-links_made limit rows numbers are heads nexts firsts one_next one_first first next read =
-    let many = as_many limit rows numbers are in record {
-      one_next = one_next ∙ many;
-      one_first = one_first ∙ many;
-      next = λ k inside. next_from limit rows numbers are k (get_or nexts k 0) inside (next k (omega (arith, many, inside)));
-      first = λ k inside.
-          let within : k < length numbers = omega (arith, many, inside) in
-          subst (IsFirstOfRoute rows k) (sym (read k within)) (first_from limit rows numbers are k (get_or heads (get_or numbers k 0) 0) inside (first (get_or numbers k 0) (are.below k 0 within)));
+    → AreLinks routes rows nexts heads
+links_made routes rows numbers once are nexts heads one_next one_head first next =
+    let many = as_many routes rows numbers are in record {
+      next = record {
+        one_each = one_next ∙ many;
+        next = λ k inside. next_from routes rows numbers are k (get_or nexts k 0) inside (next k (omega (arith, many, inside)));
+      };
+      one_each = one_head;
+      head = λ c low. first_from routes rows numbers are once c (get_or heads c 0) low (first c low);
     }
 
 -- ---- the loop that links
@@ -202,27 +255,25 @@ module _ (numbers : List ℕ) (k : ℕ) (inside : k < length numbers) (heads : L
 
 -- ---- the numbers after a merge
 
-module _ (limit : ℕ) (rows : List Row) (numbers : List ℕ) (are : AreNumbers limit rows numbers) (places : List ℕ) (ordered : IsOrdered rows) (merge : IsMergeSet rows places) (p number : ℕ) (place : p ≡ insert_place rows places) (read : number ≡ get_or numbers (get_or places 0 0) number) where
+module _ (routes : List ℕ) (rows : List Row) (numbers : List ℕ) (are : AreNumbers routes rows numbers) (places : List ℕ) (ordered : IsOrdered rows) (merge : IsMergeSet rows places) (p number : ℕ) (place : p ≡ insert_place rows places) (read : number ≡ get_or numbers (get_or places 0 0) number) where
   member_inside : get_or places 0 0 < length rows
   member_inside = merge.set.in_range 0 0 (omega (arith, merge.two))
 
   first : number ≡ get_or numbers (get_or places 0 0) 0
-  first = read ∙ get_or_default numbers (get_or places 0 0) number 0 (omega (arith, as_many limit rows numbers are, member_inside))
+  first = read ∙ get_or_default numbers (get_or places 0 0) number 0 (omega (arith, as_many routes rows numbers are, member_inside))
 
-  number_is : number ≡ place_of_route are.start (merged_row rows places).route.bits
-  number_is = first ∙ number_at limit rows numbers are (get_or places 0 0) (merge_rows []) member_inside ∙ ap (λ (r : Route). place_of_route are.start r.bits) (sym (route_is rows places (merge_rows []) merge.set.in_range (omega (arith, merge.two))))
+  number_is : number ≡ place_of_route routes (merged_row rows places).route.bits
+  number_is = first ∙ number_at routes rows numbers are (get_or places 0 0) (merge_rows []) member_inside ∙ ap (λ (r : Route). place_of_route routes r.bits) (sym (route_is rows places (merge_rows []) merge.set.in_range (omega (arith, merge.two))))
 
-  pub numbers_after : AreNumbers limit (after rows places) (left places 0 (insert numbers p number))
+  pub numbers_after : AreNumbers routes (after rows places) (left places 0 (insert numbers p number))
   numbers_after =
       let n = insert_place rows places in
       let m = merged_row rows places in
       let q = λ (k : ℕ). not (has_row places k) in
-      let low : number < limit = subst (λ x. x < limit) (sym first) (are.below (get_or places 0 0) 0 (omega (arith, as_many limit rows numbers are, member_inside))) in record {
-        start = are.start;
-        many = are.many;
+      let low : number < length routes = subst (λ x. x < length routes) (sym first) (are.below (get_or places 0 0) 0 (omega (arith, as_many routes rows numbers are, member_inside))) in record {
         each =
-            ap (λ l. picked q 0 l) (ap (λ l. insert l p number) are.each ∙ ap (λ i. insert (numbers_for are.start rows) i number) place ∙ ap (insert (numbers_for are.start rows) n) number_is ∙ numbers_insert are.start m n rows)
-            ∙ numbers_picked are.start q 0 (insert rows n m)
-            ∙ ap (numbers_for are.start) (after_is rows places ordered merge);
-        below = All-picked (λ c. c < limit) q 0 (insert numbers p number) (All-append (λ c. c < limit) (take p numbers) (number ∷ drop p numbers) (All-take (λ c. c < limit) p numbers are.below) (All-cons (λ c. c < limit) number (drop p numbers) low (All-drop (λ c. c < limit) p numbers are.below)));
+            ap (λ l. picked q 0 l) (ap (λ l. insert l p number) are.each ∙ ap (λ i. insert (numbers_for routes rows) i number) place ∙ ap (insert (numbers_for routes rows) n) number_is ∙ numbers_insert routes m n rows)
+            ∙ numbers_picked routes q 0 (insert rows n m)
+            ∙ ap (numbers_for routes) (after_is rows places ordered merge);
+        below = All-picked (λ c. c < length routes) q 0 (insert numbers p number) (All-append (λ c. c < length routes) (take p numbers) (number ∷ drop p numbers) (All-take (λ c. c < length routes) p numbers are.below) (All-cons (λ c. c < length routes) number (drop p numbers) low (All-drop (λ c. c < length routes) p numbers are.below)));
       }

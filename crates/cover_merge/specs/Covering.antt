@@ -1,6 +1,6 @@
 -- Covering: which merges are made, one after another (after Mundy, Heathcote, Garside, HPSR 2016; the ties and the
 -- pairs are this project's own).
-use Rattle.std.specs.Prelude.{◌≡◌, ◌==◌, ℕ, suc, ◌<◌, ◌≤◌, ◌⊎◌, if◌then◌else◌, List, [], ◌∷◌, All, length, map, slice_index_or}
+use Rattle.std.specs.Prelude.{◌≡◌, ◌==◌, ℕ, suc, ◌<◌, ◌≤◌, ◌⊎◌, if◌then◌else◌, List, [], ◌∷◌, All, length, map}
 use Rattle.std.specs.List.{Contains}
 use Rattle.spin_base.specs.declared.routes.Route.{Route}
 use Rattle.tern_word.specs.declared.tables.Row.{Row}
@@ -25,18 +25,6 @@ pub record IsLargest (rows : List Row) (set : List ℕ) : Type 0 where
   pub refined : Refines rows (places_of bits 0 rows) set
   pub two : 2 ≤ length set
   pub others : (route : Route) → IsNoRival rows route.bits bits (length set)
-
--- no route of a row before place k has a refined set of more places than the best, or as many and a lesser number
-pub record IsBestBefore (rows : List Row) (k bits : ℕ) (set : List ℕ) : Type 0 where
-  pub refined : 0 < length set → Refines rows (places_of bits 0 rows) set
-  pub rivals : (j : ℕ) (d : Row) → j < k → j < length rows → IsNoRival rows (slice_index_or rows j d).route.bits bits (length set)
-
--- a row before place k has the route of these bits
-pub record StandsBefore (rows : List Row) (bits k : ℕ) : Type 0 where
-  pub at : ℕ
-  pub before : at < k
-  pub inside : at < length rows
-  pub same : (d : Row) → (slice_index_or rows at d).route.bits ≡ bits
 
 -- no refined set has two places
 abbrev pub HasNoLargest : List Row → Type 0

@@ -5,6 +5,7 @@ pub mod Aliases
 pub mod Covering
 pub mod Guards
 pub mod Kept
+pub mod Known
 pub mod Links
 pub mod Merges
 pub mod Refinement

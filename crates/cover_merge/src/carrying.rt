@@ -7,7 +7,7 @@ ghost use Rattle.cover_merge.specs.Guards.{AreGuards, AreGuardsBut, AreNextJoine
 ghost use Rattle.cover_merge.specs.Tried.{AreTouched, AreTriedUpTo, IsFresh, IsNoLaxer, IsLeftClear};
 
 use crate::applying::take_out_all;
-use crate::guards::{Guard, guard_of, joined_behind, place_in, unknown};
+use crate::guards::{Guard, guard_of, is_missed, joined_behind, place_in, unknown};
 use spin_base::{Block, Memory};
 use std::alloc::Global;
 use tern_word::{Row, generality, misses};
@@ -123,7 +123,7 @@ fn renewed(
     ensures guard { IsGuardAt rows.now s result }
     ensures marks { (IsNoLaxer guard result) ⊎ (IsFresh now result) }
 {
-    if misses(merged, &rows[s]) {
+    if is_missed(merged, &rows[s]) {
         return guard;
     }
     let found = guard_of(rows, joined, s, now);

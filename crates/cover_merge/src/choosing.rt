@@ -5,12 +5,16 @@ ghost use Rattle.tern_word.specs.declared.tables.Row.{Row as ARow};
 ghost use Rattle.cover_merge.specs.Guards.{AreGuards};
 ghost use Rattle.cover_merge.specs.Tried.{IsRefusedAt, AreTried, AreTriedUpTo, IsNextSince, AreNewerFrom};
 ghost use Rattle.cover_merge.specs.declared.guards.Guard.{Guard as AGuard};
-ghost use Rattle.cover_merge.specs.Links.{AreLinks};
-ghost use Rattle.cover_merge.specs.Covering.{places_of, IsBestBefore, StandsBefore, IsFirstPartner, IsLargest, HasNoLargest, IsLegalPair, HasNoLegalPair, IsFirstLegalPair, IsChosen, HasNoChosen};
+ghost use Rattle.cover_merge.specs.Links.{AreLinks, AreNexts, IsFirstOfRoute};
+ghost use Rattle.cover_merge.specs.Kept.{IsKept};
+ghost use Rattle.cover_merge.specs.Known.{AreAllKept, IsKnown};
+ghost use Rattle.cover_merge.specs.Covering.{places_of, IsFirstPartner, IsLargest, HasNoLargest, IsLegalPair, HasNoLegalPair, IsFirstLegalPair, IsChosen, HasNoChosen};
 
 use crate::guards::{Guard, marked, try_pair};
-use crate::links::Links;
-use crate::refining::refine_by;
+use crate::keeping::{Kept, most_of};
+use crate::knowing::Known;
+use crate::links::{Links, links_of};
+use crate::refining::{Refined, refine_within};
 use spin_base::{Memory, Seq};
 use std::alloc::Global;
 use tern_word::{Row, Table};
@@ -20,112 +24,106 @@ use tern_word::{Row, Table};
 pub(crate) fn chosen(
     alloc: Global,
     table: &Table,
-    guards: &mut Vec<Guard>,
-    links: &Links,
+    known: &mut Known,
     now: usize,
 ) -> Result<Option<Seq<u32>>, Memory>
     requires few { length table.now.rows < 2 ^ 32 }
     requires sound { IsSound table.now.rows }
-    requires one_each { length guards.old.items ≡ length table.now.rows }
-    requires guards { AreGuards table.now.rows guards.old.items }
-    requires marks { AreTriedUpTo now table.now.rows guards.old.items }
-    requires links { AreLinks table.now.rows links.now.next.items links.now.first.items }
+    requires known { IsKnown table.now.rows known.old }
+    requires marks { AreTriedUpTo now table.now.rows known.old.guards.items }
     ensures found { IfOk result (λ found. MatchOption found (HasNoChosen table.now.rows) (λ set.
         IsChosen table.now.rows set)) }
-    ensures one_each { OnOk result (length guards.new.items ≡ length table.now.rows) }
-    ensures guards { OnOk result (AreGuards table.now.rows guards.new.items) }
-    ensures marks { OnOk result (AreTriedUpTo now table.now.rows guards.new.items) }
+    ensures known { OnOk result (IsKnown table.now.rows known.new) }
+    ensures marks { OnOk result (AreTriedUpTo now table.now.rows known.new.guards.items) }
 {
-    match largest(alloc, table, guards, links)? {
+    let rows = table.rows.as_slice();
+    let links = links_of(alloc, rows, &known.numbers, &known.routes)?;
+    keep_all(alloc, table, known, &links)?;
+    match largest(alloc, table, known, &links)? {
         Some(set) => Ok(Some(set)),
-        None => first_pair(alloc, table, guards, links, now),
+        None => first_pair(alloc, table, &mut known.guards, &links, now),
     }
 }
 
-// The best refined set so far, and the bits of its route.
-#[derive(Drop)]
-struct Best {
-    set: Seq<u32>,
-    bits: u32,
+// Refines the rows of each route of which nothing is kept, and keeps how many places are left.
+fn keep_all(alloc: Global, table: &Table, known: &mut Known, links: &Links) -> Result<(), Memory>
+    requires few { length table.now.rows < 2 ^ 32 }
+    requires sound { IsSound table.now.rows }
+    requires known { IsKnown table.now.rows known.old }
+    requires links { AreLinks known.old.routes.items table.now.rows links.now.next.items
+        links.now.heads.items }
+    ensures known { OnOk result (IsKnown table.now.rows known.new) }
+    ensures all { OnOk result (AreAllKept known.new.routes.items known.new.kept.items) }
+    ensures guards { OnOk result (known.new.guards.items ≡ known.old.guards.items) }
+    ensures routes { OnOk result (known.new.routes.items ≡ known.old.routes.items) }
+{
+    for c in 0..known.routes.len() {
+        let it = kept_of(alloc, table, known, links, c)?;
+        known.kept[c] = Some(it);
+    }
+    Ok(())
 }
 
-// The largest refined set, where one has two places.
+// What is kept of the route of this number, or what comes of refining its rows.
+fn kept_of(
+    alloc: Global,
+    table: &Table,
+    known: &Known,
+    links: &Links,
+    c: usize,
+) -> Result<Kept, Memory>
+    requires few { length table.now.rows < 2 ^ 32 }
+    requires sound { IsSound table.now.rows }
+    requires known { IsKnown table.now.rows known.now }
+    requires links { AreLinks known.now.routes.items table.now.rows links.now.next.items
+        links.now.heads.items }
+    requires inside { c < length known.now.routes.items }
+    ensures { IfOk result (λ it. IsKept table.now.rows (slice_index known.now.routes.items c) it.size
+        it.outer it.low) }
+{
+    if let Some(it) = known.kept[c] {
+        return Ok(it);
+    }
+    let places = places_from(alloc, table.rows.as_slice(), links, links.heads[c])?;
+    let Refined { set: _, kept } = refine_within(alloc, table, &known.guards, places)?;
+    Ok(kept)
+}
+
+// The largest refined set, where one has two places: that of the route of which most places are kept.
 fn largest(
     alloc: Global,
     table: &Table,
-    guards: &[Guard],
+    known: &Known,
     links: &Links,
 ) -> Result<Option<Seq<u32>>, Memory>
     requires few { length table.now.rows < 2 ^ 32 }
     requires sound { IsSound table.now.rows }
-    requires guards { AreGuards table.now.rows guards.now }
-    requires links { AreLinks table.now.rows links.now.next.items links.now.first.items }
+    requires known { IsKnown table.now.rows known.now }
+    requires all { AreAllKept known.now.routes.items known.now.kept.items }
+    requires links { AreLinks known.now.routes.items table.now.rows links.now.next.items
+        links.now.heads.items }
     ensures { IfOk result (λ found. MatchOption found (HasNoLargest table.now.rows) (λ set.
         IsLargest table.now.rows set)) }
 {
-    let mut best = Best {
-        set: Seq::new(alloc),
-        bits: 0,
-    };
-    for k in 0..table.rows.len() {
-        best = better(alloc, table, guards, links, k, best)?;
+    let most = most_of(&known.routes, &known.kept);
+    if most.size < 2 {
+        return Ok(None);
     }
-    let Best { set, bits: _ } = best;
-    if set.len() < 2 {
-        Ok(None)
-    } else {
-        Ok(Some(set))
-    }
+    let first = links.heads[most.number];
+    let places = places_from(alloc, table.rows.as_slice(), links, first)?;
+    let Refined { set, kept: _ } = refine_within(alloc, table, &known.guards, places)?;
+    Ok(Some(set))
 }
 
-// The better of the best set so far and that of the route of row `k`.
-fn better(
-    alloc: Global,
-    table: &Table,
-    guards: &[Guard],
-    links: &Links,
-    k: usize,
-    best: Best,
-) -> Result<Best, Memory>
-    requires few { length table.now.rows < 2 ^ 32 }
-    requires sound { IsSound table.now.rows }
-    requires guards { AreGuards table.now.rows guards.now }
-    requires links { AreLinks table.now.rows links.now.next.items links.now.first.items }
-    requires inside { k < length table.now.rows }
-    requires best { IsBestBefore table.now.rows k best.bits best.set }
-    ensures { IfOk result (λ new. IsBestBefore table.now.rows (k + 1) new.bits new.set) }
-{
-    if (links.first[k] as usize) < k {
-        return Ok(best);
-    }
-    let rows = table.rows.as_slice();
-    let bits = rows[k].route.bits;
-    let set = refine_by(alloc, table, guards, places_from(alloc, rows, links, k)?)?;
-    if beats(set.len(), bits, best.set.len(), best.bits) {
-        return Ok(Best { set, bits });
-    }
-    Ok(best)
-}
-
-// Whether n places of one route are more than m of another, or as many and of the lesser route.
-fn beats(n: usize, bits: u32, m: usize, other: u32) -> bool
-    ensures { MatchBool result ((m < n) ⊎ ((n ≡ m) × (bits < other))) ((n < m)
-        ⊎ ((n ≡ m) × (other ≤ bits))) }
-{
-    m < n || (n == m && bits < other)
-}
-
-// The places of all rows of the route of row `k`, which is the first of them.
-fn places_from(alloc: Global, rows: &[Row], links: &Links, k: usize) -> Result<Seq<u32>, Memory>
+// The places of all rows of a route whose first is that at the place.
+fn places_from(alloc: Global, rows: &[Row], links: &Links, first: u32) -> Result<Seq<u32>, Memory>
     requires few { length rows.now < 2 ^ 32 }
-    requires links { AreLinks rows.now links.now.next.items links.now.first.items }
-    requires inside { k < length rows.now }
-    requires first { k ≤ slice_index links.now.first.items k }
-    ensures { IfOk result (λ places. (d : ARow)
-        → places ≡ places_of (slice_index_or rows.now k d).route.bits 0 rows.now) }
+    requires nexts { AreNexts rows.now links.now.next.items }
+    ensures { IfOk result (λ places. (bits : ℕ) → IsFirstOfRoute rows.now bits first
+        → places ≡ places_of bits 0 rows.now) }
 {
     let mut places = Vec::new(alloc);
-    let mut place = k;
+    let mut place = first as usize;
     while place < rows.len() {
         places.push(place as u32)?;
         place = links.next[place] as usize;
@@ -146,7 +144,7 @@ fn first_pair(
     requires one_each { length guards.old.items ≡ length table.now.rows }
     requires guards { AreGuards table.now.rows guards.old.items }
     requires marks { AreTriedUpTo now table.now.rows guards.old.items }
-    requires links { AreLinks table.now.rows links.now.next.items links.now.first.items }
+    requires links { AreNexts table.now.rows links.now.next.items }
     ensures found { IfOk result (λ found. MatchOption found (HasNoLegalPair table.now.rows) (λ set.
         IsFirstLegalPair table.now.rows set)) }
     ensures one_each { OnOk result (length guards.new.items ≡ length table.now.rows) }
@@ -173,7 +171,7 @@ fn newer_of(
 ) -> Result<Vec<u32>, Memory>
     requires few { length table.now.rows < 2 ^ 32 }
     requires one_each { length guards.now ≡ length table.now.rows }
-    requires links { AreLinks table.now.rows links.now.next.items links.now.first.items }
+    requires links { AreNexts table.now.rows links.now.next.items }
     ensures newer { IfOk result (λ v. AreNewerFrom 0 table.now.rows guards.now v.items) }
     ensures places { IfOk result (λ v. length v.items ≡ length table.now.rows) }
 {
@@ -219,7 +217,7 @@ fn changed_after(
     time: usize,
 ) -> u32
     requires one_each { length guards.now ≡ length table.now.rows }
-    requires links { AreLinks table.now.rows links.now.next.items links.now.first.items }
+    requires links { AreNexts table.now.rows links.now.next.items }
     requires newer { AreNewerFrom (suc k) table.now.rows guards.now newer.now }
     requires places { length newer.now ≡ length table.now.rows }
     requires inside { k < length table.now.rows }
@@ -247,7 +245,7 @@ fn next_to_try(
     time: usize,
 ) -> u32
     requires one_each { length guards.now ≡ length table.now.rows }
-    requires links { AreLinks table.now.rows links.now.next.items links.now.first.items }
+    requires links { AreNexts table.now.rows links.now.next.items }
     requires newer { AreNewerFrom 0 table.now.rows guards.now newer.now }
     requires places { length newer.now ≡ length table.now.rows }
     requires inside { k < length table.now.rows }
@@ -284,7 +282,7 @@ fn partner(table: &Table, guards: &[Guard], links: &Links, newer: &[u32], i: u32
     requires one_each { length guards.now ≡ length table.now.rows }
     requires guards { AreGuards table.now.rows guards.now }
     requires tried { AreTried table.now.rows guards.now }
-    requires links { AreLinks table.now.rows links.now.next.items links.now.first.items }
+    requires links { AreNexts table.now.rows links.now.next.items }
     requires newer { AreNewerFrom 0 table.now.rows guards.now newer.now }
     requires places { length newer.now ≡ length table.now.rows }
     requires inside { i < length table.now.rows }

@@ -1,10 +1,9 @@
 // Covering a table.
-ghost use Rattle.std.specs.Prelude.{◌≡◌, ◌<◌, ◌≤◌, ◌^◌, ◌⊎◌, IfOk, OnOk, MatchOption, length, map};
+ghost use Rattle.std.specs.Prelude.{◌≡◌, ◌<◌, ◌≤◌, ◌^◌, ◌⊎◌, IfOk, OnOk, MatchOption, length};
 ghost use Rattle.tern_word.specs.SoundTable.{IsOrdered, IsSound, served};
 ghost use Rattle.std.specs.List.Sorted.{IsPermutation};
-ghost use Rattle.cover_merge.specs.Merge.{IsLegal, IsMergeSet, after};
-ghost use Rattle.cover_merge.specs.Guards.{AreGuards};
-ghost use Rattle.cover_merge.specs.Links.{AreNumbers};
+ghost use Rattle.cover_merge.specs.Merge.{IsLegal, IsMergeSet, after, merged_block};
+ghost use Rattle.cover_merge.specs.Known.{AreRoutesKept, IsKnown};
 ghost use Rattle.cover_merge.specs.Tried.{AreTriedUpTo};
 ghost use Rattle.cover_merge.specs.Covering.{Covers, HasNoChosen, HasNoLegalPair, HasRoutesOf, IsChosen};
 ghost use Rattle.cover_merge.specs.Merges.{sets_of};
@@ -12,12 +11,13 @@ ghost use Rattle.cover_merge.specs.Merges.{sets_of};
 use crate::applying::apply;
 use crate::carrying::{carry, renew};
 use crate::choosing::chosen;
-use crate::guards::{Guard, guards_of};
-use crate::links::{carry_numbers, links_of, numbers_of};
+use crate::keeping::{forget_met, forget_near, forget_own};
+use crate::knowing::{Known, known_of};
+use crate::links::carry_numbers;
 use crate::merged_block;
-use spin_base::{Memory, Seq, Shared};
+use spin_base::{Block, Memory, Seq, Shared};
 use std::alloc::Global;
-use tern_word::Table;
+use tern_word::{Row, Table};
 
 /// A merge that was made: the places of the rows in the table before it.
 #[derive(Drop)]
@@ -48,13 +48,11 @@ pub fn cover(alloc: Global, mut table: Table, target: u32) -> Result<Covered, Me
     ensures ended { IfOk result (λ c. (length c.table.rows ≤ target)
         ⊎ (HasNoLegalPair c.table.rows)) }
 {
-    let mut guards = guards_of(alloc, table.rows.as_slice())?;
-    let limit = table.rows.len();
-    let mut numbers = numbers_of(alloc, table.rows.as_slice())?;
+    let mut known = known_of(alloc, table.rows.as_slice())?;
     let mut merges = Seq::new(alloc);
     'merging: while table.rows.len() > target as usize {
         let now = merges.len();
-        match merge_next(alloc, &mut table, &mut guards, &mut numbers, limit, now)? {
+        match merge_next(alloc, &mut table, &mut known, now)? {
             Some(places) => merges.push(Merge { places })?,
             None => return Ok(Covered { table, merges }),
         }
@@ -66,61 +64,70 @@ pub fn cover(alloc: Global, mut table: Table, target: u32) -> Result<Covered, Me
 fn merge_next(
     alloc: Global,
     table: &mut Table,
-    guards: &mut Vec<Guard>,
-    numbers: &mut Vec<u32>,
-    limit: usize,
+    known: &mut Known,
     now: usize,
 ) -> Result<Option<Seq<u32>>, Memory>
     requires few { length table.old.rows < 2 ^ 32 }
     requires sound { IsSound table.old.rows }
-    requires one_each { length guards.old.items ≡ length table.old.rows }
-    requires guards { AreGuards table.old.rows guards.old.items }
-    requires marks { AreTriedUpTo now table.old.rows guards.old.items }
-    requires numbers { AreNumbers limit table.old.rows numbers.old.items }
+    requires known { IsKnown table.old.rows known.old }
+    requires marks { AreTriedUpTo now table.old.rows known.old.guards.items }
     ensures found { IfOk result (λ made. MatchOption made (HasNoChosen table.old.rows)
         (IsChosen table.old.rows)) }
     ensures table { IfOk result (λ made. MatchOption made (table.new.rows
         ≡ table.old.rows) (λ places. table.new.rows ≡ after table.old.rows places)) }
-    ensures one_each { OnOk result (length guards.new.items ≡ length table.new.rows) }
-    ensures guards { OnOk result (AreGuards table.new.rows guards.new.items) }
-    ensures marks { OnOk result (AreTriedUpTo now table.new.rows guards.new.items) }
-    ensures numbers { OnOk result (AreNumbers limit table.new.rows numbers.new.items) }
+    ensures known { OnOk result (IsKnown table.new.rows known.new) }
+    ensures marks { OnOk result (AreTriedUpTo now table.new.rows known.new.guards.items) }
 {
-    let links = links_of(alloc, table.rows.as_slice(), numbers, limit)?;
-    match chosen(alloc, table, guards, &links, now)? {
+    match chosen(alloc, table, known, now)? {
         Some(places) => {
-            carry_numbers(table.rows.as_slice(), numbers, places.as_slice(), limit)?;
-            merge_at(alloc, table, guards, &places, now)?;
+            merge_at(alloc, table, known, &places, now)?;
             Ok(Some(places))
         }
         None => Ok(None),
     }
 }
 
-// Merges the rows at the places, and finds the guards of the table after it.
+// Merges the rows at the places, and finds what is known of the table after it.
 fn merge_at(
     alloc: Global,
     table: &mut Table,
-    guards: &mut Vec<Guard>,
+    known: &mut Known,
     places: &Seq<u32>,
     now: usize,
 ) -> Result<(), Memory>
     requires few { length table.old.rows < 2 ^ 32 }
-    requires ordered { IsOrdered table.old.rows }
-    requires one_each { length guards.old.items ≡ length table.old.rows }
-    requires guards { AreGuards table.old.rows guards.old.items }
-    requires marks { AreTriedUpTo now table.old.rows guards.old.items }
-    requires set { IsMergeSet table.old.rows places.now }
-    requires legal { IsLegal table.old.rows places.now }
+    requires sound { IsSound table.old.rows }
+    requires known { IsKnown table.old.rows known.old }
+    requires marks { AreTriedUpTo now table.old.rows known.old.guards.items }
+    requires merge { (IsMergeSet table.old.rows places.now) × (IsLegal table.old.rows places.now) }
     ensures table { OnOk result (table.new.rows ≡ after table.old.rows places.now) }
-    ensures one_each { OnOk result (length guards.new.items ≡ length table.new.rows) }
-    ensures guards { OnOk result (AreGuards table.new.rows guards.new.items) }
-    ensures marks { OnOk result (AreTriedUpTo now table.new.rows guards.new.items) }
+    ensures known { OnOk result (IsKnown table.new.rows known.new) }
+    ensures marks { OnOk result (AreTriedUpTo now table.new.rows known.new.guards.items) }
 {
     let rows = table.rows.as_slice();
     let members = places.as_slice();
     let merged = merged_block(rows, members);
-    carry(rows, guards, members, merged, now)?;
+    forget(rows, known, members, merged);
+    carry_numbers(rows, &mut known.numbers, members)?;
+    carry(rows, &mut known.guards, members, merged, now)?;
     apply(alloc, table, places)?;
-    renew(alloc, table.rows.as_slice(), guards, merged, now)
+    renew(alloc, table.rows.as_slice(), &mut known.guards, merged, now)
+}
+
+// Forgets what is kept of routes that the merge of the rows at the places does not leave alone.
+fn forget(rows: &[Row], known: &mut Known, places: &[u32], merged: Block)
+    requires sound { IsSound rows.now }
+    requires known { IsKnown rows.now known.old }
+    requires merge { (IsMergeSet rows.now places.now) × (IsLegal rows.now places.now) }
+    requires merged { merged ≡ merged_block rows.now places.now }
+    ensures kept { AreRoutesKept known.new.routes.items (after rows.now places.now) known.new.kept.items }
+    ensures one_route { length known.new.kept.items ≡ length known.new.routes.items }
+    ensures guards { known.new.guards.items ≡ known.old.guards.items }
+    ensures numbers { known.new.numbers.items ≡ known.old.numbers.items }
+    ensures routes { known.new.routes.items ≡ known.old.routes.items }
+{
+    let own = known.numbers[places[0] as usize] as usize;
+    forget_own(&mut known.kept, own);
+    forget_near(&mut known.kept, merged);
+    forget_met(rows, &known.numbers, &mut known.kept, merged);
 }

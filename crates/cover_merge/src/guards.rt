@@ -2,15 +2,15 @@
 ghost use Rattle.std.specs.Prelude.{◌≡◌, ◌<◌, ◌≤◌, ◌^◌, ◌↔◌, ◌⊎◌, ◌∷◌, [], ℕ, suc, true, List, IfOk, IsTrue, drop, length, slice_index_or};
 ghost use Rattle.tern_word.specs.declared.tables.Row.{Row as ARow};
 ghost use Rattle.tern_word.specs.Ternary.{generality};
-ghost use Rattle.tern_word.specs.SoundTable.{IsOrdered, IsSound, Misses};
+ghost use Rattle.tern_word.specs.SoundTable.{HoldsItsAliases, IsOrdered, IsSound, Misses};
 ghost use Rattle.cover_merge.specs.Merge.{has_row, place_for, SameRoute, IsMergeSet, IsLegal, IsClearOf, PassesUp};
 ghost use Rattle.cover_merge.specs.Guards.{IsRival, HasRival, IsGuardAt, AreGuards, IsSilent, IsOriginal, AreNextJoined};
 ghost use Rattle.cover_merge.specs.Tried.{IsFresh, IsHeld, IsHolder, IsRefusedAt, AreTried, AreTriedUpTo, IsTriedNow};
 
 use crate::{is_clear, merged_block, passes_down};
-use spin_base::Memory;
+use spin_base::{Block, Memory};
 use std::alloc::Global;
-use tern_word::{Row, Table, generality, merge_two, misses};
+use tern_word::{Row, Table, generality, intersects, merge_two, misses};
 
 /// What is known of the rows behind a row: the generality of the first of another route that meets an alias of it, and
 /// that of the first of any route; 33 where there is none. 33 and 0 say nothing. And when the row was last tried with all
@@ -176,6 +176,17 @@ fn guard_at(guards: &[Guard], s: u32) -> Guard
         return guards[s as usize];
     }
     NOTHING
+}
+
+/// Whether the block meets no alias of the row: none lies outside the row's block.
+pub(crate) fn is_missed(block: Block, row: &Row) -> bool
+    requires { HoldsItsAliases row.now }
+    ensures { IsTrue result ↔ Misses block row.now }
+{
+    if !intersects(block, row.block) {
+        return true;
+    }
+    misses(block, row)
 }
 
 /// Whether no row behind row `s`, of generality at most `general` and not at one of the places, meets an alias of it. The
@@ -377,6 +388,9 @@ fn holds(rows: &[Row], i: u32, j: u32, s: u32, r: u32) -> bool
         (slice_index_or rows.now i d) (slice_index_or rows.now j d) (slice_index_or rows.now r d) }
 {
     let block = rows[r as usize].block;
+    if misses(block, &rows[s as usize]) {
+        return false;
+    }
     if rows[r as usize].route.bits != rows[s as usize].route.bits {
         return false;
     }
@@ -386,7 +400,7 @@ fn holds(rows: &[Row], i: u32, j: u32, s: u32, r: u32) -> bool
     if block == rows[j as usize].block {
         return false;
     }
-    !misses(block, &rows[s as usize])
+    true
 }
 
 /// The guard of a row that was tried now, where each pair of it is refused until it changes.

@@ -20,6 +20,8 @@ mod checking;
 mod choosing;
 mod covering;
 mod guards;
+mod keeping;
+mod knowing;
 mod laws;
 mod links;
 mod refining;

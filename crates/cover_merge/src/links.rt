@@ -1,8 +1,8 @@
 // The rows of one route, one after another.
-ghost use Rattle.std.specs.Prelude.{◌≡◌, ◌+◌, ◌<◌, ◌≤◌, ◌^◌, ℕ, All, IfOk, OnOk, length, slice_index};
+ghost use Rattle.std.specs.Prelude.{◌≡◌, ◌+◌, ◌<◌, ◌≤◌, ◌^◌, ℕ, List, All, IfOk, OnOk, length, slice_index};
 ghost use Rattle.tern_word.specs.SoundTable.{IsOrdered};
 ghost use Rattle.cover_merge.specs.Merge.{IsMergeSet, after};
-ghost use Rattle.cover_merge.specs.Links.{place_of_route, AreNumbers, IsAhead, AreLinks};
+ghost use Rattle.cover_merge.specs.Links.{place_of_route, AreRoutes, IsRouteAdded, IsEachOnce, AreNumbers, IsAhead, AreLinks};
 
 use crate::applying::take_out_all;
 use crate::guards::place_in;
@@ -11,36 +11,58 @@ use spin_base::Memory;
 use std::alloc::Global;
 use tern_word::{Row, generality};
 
-/// For each row the place of the next row of its route, and of the first.
+/// For each row the place of the next row of its route, and for each route that of the first.
 #[derive(Drop)]
 pub(crate) struct Links {
     pub(crate) next: Vec<u32>,
-    pub(crate) first: Vec<u32>,
+    pub(crate) heads: Vec<u32>,
 }
 
-/// The number of each row's route: the place of the first row that has it.
-pub(crate) fn numbers_of(alloc: Global, rows: &[Row]) -> Result<Vec<u32>, Memory>
-    requires few { length rows.now < 2 ^ 32 }
-    ensures { IfOk result (λ v. AreNumbers (length rows.now) rows.now v.items) }
+/// The routes of the rows, each once.
+pub(crate) fn routes_of(alloc: Global, rows: &[Row]) -> Result<Vec<u32>, Memory>
+    ensures routes { IfOk result (λ v. AreRoutes rows.now v.items) }
+    ensures once { IfOk result (λ v. IsEachOnce v.items) }
+{
+    let mut routes = Vec::new(alloc);
+    for s in 0..rows.len() {
+        add_route(&mut routes, rows[s].route.bits)?;
+    }
+    Ok(routes)
+}
+
+// Adds the route of these bits where it is not there yet.
+fn add_route(routes: &mut Vec<u32>, bits: u32) -> Result<(), Memory>
+    ensures { OnOk result (IsRouteAdded bits routes.old.items routes.new.items) }
+{
+    if number_of(routes, bits) == routes.len() {
+        routes.push(bits)?;
+    }
+    Ok(())
+}
+
+/// The number of each row's route: its place among the routes.
+pub(crate) fn numbers_of(alloc: Global, rows: &[Row], routes: &[u32]) -> Result<Vec<u32>, Memory>
+    requires few { length routes.now < 2 ^ 32 }
+    requires routes { AreRoutes rows.now routes.now }
+    ensures { IfOk result (λ v. AreNumbers routes.now rows.now v.items) }
 {
     let mut numbers = Vec::with_capacity(alloc, rows.len())?;
     for s in 0..rows.len() {
-        numbers.push(number_of(rows, rows[s].route.bits))?;
+        numbers.push(number_of(routes, rows[s].route.bits) as u32)?;
     }
     Ok(numbers)
 }
 
-// The place of the first row whose route has these bits.
-fn number_of(rows: &[Row], bits: u32) -> u32
-    requires few { length rows.now < 2 ^ 32 }
-    ensures { result ≡ place_of_route rows.now bits }
+// The place of the route of these bits among the routes, and their number where it is not there.
+fn number_of(routes: &[u32], bits: u32) -> usize
+    ensures { result ≡ place_of_route routes.now bits }
 {
-    for k in 0..rows.len() {
-        if rows[k].route.bits == bits {
-            return k as u32;
+    for k in 0..routes.len() {
+        if routes[k] == bits {
+            return k;
         }
     }
-    rows.len() as u32
+    routes.len()
 }
 
 /// The numbers of the rows of the table after the merge of the rows at the places.
@@ -48,13 +70,13 @@ pub(crate) fn carry_numbers(
     rows: &[Row],
     numbers: &mut Vec<u32>,
     places: &[u32],
-    limit: usize,
 ) -> Result<(), Memory>
     requires few { length rows.now < 2 ^ 32 }
     requires ordered { IsOrdered rows.now }
-    requires numbers { AreNumbers limit rows.now numbers.old.items }
+    requires one_each { length numbers.old.items ≡ length rows.now }
     requires set { IsMergeSet rows.now places.now }
-    ensures { OnOk result (AreNumbers limit (after rows.now places.now) numbers.new.items) }
+    ensures { OnOk result ((routes : List ℕ) → AreNumbers routes rows.now numbers.old.items
+        → AreNumbers routes (after rows.now places.now) numbers.new.items) }
 {
     let place = place_in(rows, generality(merged_block(rows, places)));
     let number = numbers[places[0] as usize];
@@ -63,23 +85,24 @@ pub(crate) fn carry_numbers(
     Ok(())
 }
 
-/// The next and the first row of the route of each row.
+/// The next row of the route of each row, and the first row of each route.
 pub(crate) fn links_of(
     alloc: Global,
     rows: &[Row],
     numbers: &[u32],
-    limit: usize,
+    routes: &[u32],
 ) -> Result<Links, Memory>
     requires few { length rows.now < 2 ^ 32 }
-    requires numbers { AreNumbers limit rows.now numbers.now }
-    ensures { IfOk result (λ links. AreLinks rows.now links.next.items links.first.items) }
+    requires once { IsEachOnce routes.now }
+    requires numbers { AreNumbers routes.now rows.now numbers.now }
+    ensures { IfOk result (λ links. AreLinks routes.now rows.now links.next.items
+        links.heads.items) }
 {
     let none = rows.len() as u32;
-    let mut heads = vec![in alloc; none; limit]?;
+    let mut heads = vec![in alloc; none; routes.len()]?;
     let mut next = vec![in alloc; none; numbers.len()]?;
     link(numbers, &mut heads, &mut next);
-    let first = firsts(alloc, numbers, &heads)?;
-    Ok(Links { next, first })
+    Ok(Links { next, heads })
 }
 
 // Writes the next place of the same number behind each place, and the first place of each number.
@@ -102,18 +125,4 @@ fn link(numbers: &[u32], heads: &mut Vec<u32>, next: &mut Vec<u32>)
         next[k] = heads[number];
         heads[number] = k as u32;
     }
-}
-
-// The first place of the number at each place.
-fn firsts(alloc: Global, numbers: &[u32], heads: &[u32]) -> Result<Vec<u32>, Memory>
-    requires below { All (λ c. c < length heads.now) numbers.now }
-    ensures one_each { IfOk result (λ v. length v.items ≡ length numbers.now) }
-    ensures heads { IfOk result (λ v. (k : ℕ) → k < length numbers.now
-        → slice_index v.items k ≡ slice_index heads.now (slice_index numbers.now k)) }
-{
-    let mut first = Vec::with_capacity(alloc, numbers.len())?;
-    for k in 0..numbers.len() {
-        first.push(heads[numbers[k] as usize])?;
-    }
-    Ok(first)
 }

@@ -5,9 +5,11 @@ ghost use Rattle.tern_word.specs.Ternary.{Intersects};
 ghost use Rattle.tern_word.specs.SoundTable.{IsOrdered, IsSound, Misses};
 ghost use Rattle.cover_merge.specs.Merge.{has_row, IsOneRoute, IsMergeSet, IsLegal, merged_block, insert_place, place_for, PassesUp, PassesUpCheck, PassesDown, PassesDownCheck};
 ghost use Rattle.cover_merge.specs.Guards.{AreGuards};
+ghost use Rattle.cover_merge.specs.Kept.{LeadsWithin, RefinesWithin};
 ghost use Rattle.cover_merge.specs.Refinement.{AreMerges, IsLastFailing, IsFirstMet, IsFirstMetFrom, can_choose, keeps, parts, kept_by, kept_count, IsBestBit, IsNarrowed, IsDownStep, Refines};
 
 use crate::guards::{Guard, passes, place_in};
+use crate::keeping::Kept;
 use crate::merged_block;
 use spin_base::{Block, Memory, Seq};
 use std::alloc::Global;
@@ -24,35 +26,75 @@ pub fn refine(alloc: Global, table: &Table, places: Seq<u32>) -> Result<Seq<u32>
     ensures legal { IfOk result (λ answer. (answer ≡ [])
         ⊎ ((IsMergeSet table.now.rows answer) × (IsLegal table.now.rows answer))) }
 {
-    refine_by(alloc, table, &[], places)
+    let Refined { set, kept: _ } = refine_within(alloc, table, &[], places)?;
+    Ok(set)
+}
+
+/// A refined set, and what is kept of its route.
+#[derive(Drop)]
+pub(crate) struct Refined {
+    pub(crate) set: Seq<u32>,
+    pub(crate) kept: Kept,
 }
 
 /// The same, by what the guards tell.
-pub(crate) fn refine_by(
+pub(crate) fn refine_within(
     alloc: Global,
     table: &Table,
     guards: &[Guard],
     places: Seq<u32>,
-) -> Result<Seq<u32>, Memory>
+) -> Result<Refined, Memory>
     requires few { length table.now.rows < 2 ^ 32 }
     requires sound { IsSound table.now.rows }
     requires guards { AreGuards table.now.rows guards.now }
     requires set { IsOneRoute table.now.rows places }
-    ensures refined { IfOk result (λ answer. Refines table.now.rows places answer) }
-    ensures legal { IfOk result (λ answer. (answer ≡ [])
-        ⊎ ((IsMergeSet table.now.rows answer) × (IsLegal table.now.rows answer))) }
+    ensures refined { IfOk result (λ r. RefinesWithin table.now.rows r.kept.outer r.kept.low places
+        r.set) }
+    ensures size { IfOk result (λ r. length r.set ≡ r.kept.size) }
+    ensures legal { IfOk result (λ r. (r.set ≡ [])
+        ⊎ ((IsMergeSet table.now.rows r.set) × (IsLegal table.now.rows r.set))) }
 {
     let rows = table.rows.as_slice();
     let mut set = places.into_vec();
+    let mut outer = all_keys();
+    let mut low = 33;
     while set.len() >= 2 {
         if let Some(merged) = sift(alloc, rows, guards, &mut set)? {
+            outer = outermost(outer, low, merged);
+            low = generality(merged);
             if narrow(rows, &mut set, merged) {
-                return Ok(Seq::from_vec(set));
+                return Ok(with_bounds(set, outer, low));
             }
         }
     }
     set.clear();
-    Ok(Seq::from_vec(set))
+    Ok(with_bounds(set, outer, low))
+}
+
+// The block in which each key lies.
+fn all_keys() -> Block {
+    Block { key: 0, mask: 0 }
+}
+
+// The first block that was down-checked: this one, where none was before.
+fn outermost(outer: Block, low: u32, merged: Block) -> Block
+    ensures { ((32 < low) × (result ≡ merged)) ⊎ ((low ≤ 32) × (result ≡ outer)) }
+{
+    if low > 32 { merged } else { outer }
+}
+
+// The refined set, with what is kept of it.
+fn with_bounds(set: Vec<u32>, outer: Block, low: u32) -> Refined
+    ensures set { result.set ≡ set.items }
+    ensures size { length result.set ≡ result.kept.size }
+    ensures outer { result.kept.outer ≡ outer }
+    ensures low { result.kept.low ≡ low }
+{
+    let size = set.len();
+    Refined {
+        set: Seq::from_vec(set),
+        kept: Kept { size, outer, low },
+    }
 }
 
 // Takes out the places for which the up-check fails, the greatest first, each time with the merge of those that are
@@ -70,8 +112,8 @@ fn sift(
     requires set { IsMergeSet rows.now set.old.items }
     ensures one_route { IfOk result (λ found. IsOneRoute rows.now set.new.items) }
     ensures fewer { length set.new.items ≤ length set.old.items }
-    ensures steps { IfOk result (λ found. (answer : List ℕ) → Refines rows.now set.new.items answer
-        → Refines rows.now set.old.items answer) }
+    ensures steps { IfOk result (λ found. (outer : ABlock) (low : ℕ) → LeadsWithin rows.now outer
+        low set.old.items set.new.items) }
     ensures found { IfOk result (λ found. MatchOption found (length set.new.items < 2) (λ merged.
         (2 ≤ length set.new.items) × (merged ≡ merged_block rows.now set.new.items)
         × (PassesUpCheck rows.now set.new.items))) }

@@ -1,10 +1,44 @@
--- At the end all routes of the table were looked at.
-use Rattle.std.proofs.Common.{arith}
-use Rattle.cover_merge.proofs.ChooseLemmas.{none_largest, best_largest}
+-- The route of which most places are kept has the largest set.
+use Rattle.std.proofs.Common.{length, get_or, sym, subst, arith}
+use Rattle.cover_merge.specs.Merge.{IsOneRoute}
+use Rattle.cover_merge.specs.Guards.{AreGuards}
+use Rattle.cover_merge.specs.Kept.{RefinesWithin}
+use Rattle.cover_merge.specs.Known.{IsMostBefore}
+use Rattle.cover_merge.proofs.ChooseLemmas.{places_of-one_route}
+use Rattle.cover_merge.proofs.KeepLemmas.{none_largest, best_largest, places_read}
 use Rattle.cover_merge.proofs.choosing.largest.Goals as goal
 
-pub returns-then-len-lt2 : goal.returns-then-len-lt2
-returns-then-len-lt2 c = none_largest c.args.table.now.rows c.loop-k.k c.loop-k.best.bits c.loop-k.best.set c.loop-k.invariant (omega (arith, c.len-k-end.ensures)) (omega (arith, c.len.ensures))
+pub returns-then-most-lt2 : goal.returns-then-most-lt2
+returns-then-most-lt2 c =
+    let known = c.args.known.now in
+    let most = c.most_of-most.result in
+    let is : IsMostBefore known.routes.items known.kept.items (length known.routes.items) most =
+    subst (λ l. IsMostBefore known.routes.items l (length known.routes.items) most) c.deref-2.ensures.value (subst (λ l. IsMostBefore l c.deref-2.result.now (length l) most) c.deref.ensures.value c.most_of-most.ensures) in
+    none_largest known.routes.items c.args.table.now.rows known.numbers.items c.requires.known.numbers known.kept.items c.requires.known.kept c.requires.all most is c.if-most-lt2.true
 
-pub returns-else-len-lt2 : goal.returns-else-len-lt2
-returns-else-len-lt2 c = best_largest c.args.table.now.rows c.loop-k.k c.loop-k.best.bits c.loop-k.best.set c.loop-k.invariant (omega (arith, c.len-k-end.ensures)) (omega (arith, c.len.ensures))
+pub refine_within-requires-clause-guards : goal.refine_within-requires-clause-guards
+refine_within-requires-clause-guards c = subst (AreGuards c.args.table.now.rows) (sym c.deref-3.ensures.value) c.requires.known.guards
+
+pub refine_within-requires-clause-set : goal.refine_within-requires-clause-set
+refine_within-requires-clause-set c =
+    let rows = c.args.table.now.rows in
+    let known = c.args.known.now in
+    let most = c.most_of-most.result in
+    let routes = known.routes.items in
+    let is : IsMostBefore known.routes.items known.kept.items (length known.routes.items) most =
+    subst (λ l. IsMostBefore known.routes.items l (length known.routes.items) most) c.deref-2.ensures.value (subst (λ l. IsMostBefore l c.deref-2.result.now (length l) most) c.deref.ensures.value c.most_of-most.ensures) in
+    let read = places_read routes rows c.args.links.now.next.items c.args.links.now.heads.items c.requires.links most.number (is.inside (omega (arith, c.if-most-lt2.false))) c.index-first.result.now c.index-first.ensures c.as_slice.result.now c.as_slice.ensures c.in_ok-places.places c.in_ok-places.ensures in
+    subst (IsOneRoute rows) (sym read) (places_of-one_route (get_or routes most.number 0) rows)
+
+pub returns : goal.returns
+returns c =
+    let rows = c.args.table.now.rows in
+    let known = c.args.known.now in
+    let most = c.most_of-most.result in
+    let routes = known.routes.items in
+    let found = c.in_ok-set.field-0 in
+    let is : IsMostBefore known.routes.items known.kept.items (length known.routes.items) most =
+    subst (λ l. IsMostBefore known.routes.items l (length known.routes.items) most) c.deref-2.ensures.value (subst (λ l. IsMostBefore l c.deref-2.result.now (length l) most) c.deref.ensures.value c.most_of-most.ensures) in
+    let read = places_read routes rows c.args.links.now.next.items c.args.links.now.heads.items c.requires.links most.number (is.inside (omega (arith, c.if-most-lt2.false))) c.index-first.result.now c.index-first.ensures c.as_slice.result.now c.as_slice.ensures c.in_ok-places.places c.in_ok-places.ensures in
+    best_largest routes rows known.numbers.items c.requires.known.numbers known.kept.items c.requires.known.kept c.requires.all most is found.set (omega (arith, c.if-most-lt2.false)) found.kept.outer found.kept.low
+    (subst (λ l. RefinesWithin rows found.kept.outer found.kept.low l found.set) read c.in_ok-set.ensures.refined)

@@ -9,7 +9,7 @@ pub returns-then-time-eq0 : goal.returns-then-time-eq0
 returns-then-time-eq0 c =
     let rows = c.args.table.now.rows in
     since_first rows c.args.guards.now c.args.k c.index-next.result.now c.args.time
-    (link_next rows c.args.links.now.next.items c.args.links.now.first.items c.requires.links c.args.k c.index-next.result.now c.requires.inside c.index-next.ensures)
+    (link_next rows c.args.links.now.next.items c.requires.links c.args.k c.index-next.result.now c.requires.inside c.index-next.ensures)
 
 pub changed_after-requires-clause-newer : goal.changed_after-requires-clause-newer
 changed_after-requires-clause-newer c j e from within = c.requires.newer j e (omega arith) within

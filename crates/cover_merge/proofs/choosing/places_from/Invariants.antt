@@ -1,14 +1,14 @@
 -- So far the places of the rows of the route before the place at hand, which is of the route too.
-use Rattle.std.proofs.Common.{◌≡◌, ◌-◌, ◌<◌, ◌≤◌, length, get_or, take}
+use Rattle.std.proofs.Common.{◌≡◌, ◌-◌, ◌<◌, ℕ, length, get_or, take}
 use Rattle.tern_word.specs.declared.tables.Row.{Row}
 use Rattle.cover_merge.specs.Covering.{places_of}
+use Rattle.cover_merge.specs.Links.{IsFirstOfRoute}
 use Rattle.cover_merge.proofs.choosing.places_from.Given as goal
 
 abbrev pub invariant-loop-place : goal.invariant-loop-place
-invariant-loop-place l = record {
-  from : l.k ≤ l.place;
-  same : (d : Row) → l.place < length l.rows → (get_or l.rows l.place d).route.bits ≡ (get_or l.rows l.k d).route.bits;
-  found : (d : Row) → l.places.items ≡ places_of (get_or l.rows l.k d).route.bits 0 (take l.place l.rows);
+invariant-loop-place l = (bits : ℕ) → IsFirstOfRoute l.rows bits l.fn.first → record {
+  same : (d : Row) → l.place < length l.rows → (get_or l.rows l.place d).route.bits ≡ bits;
+  found : l.places.items ≡ places_of bits 0 (take l.place l.rows);
 }
 
 abbrev pub decreases-loop-place : goal.decreases-loop-place

@@ -1,13 +1,12 @@
 -- Each round makes a chosen merge, which is legal.
-use Rattle.std.proofs.Common.{◌≡◌, ◌<◌, ◌≤◌, ◌++◌, ◌∷◌, [], ap, length, length-append, sym, subst, inr, ◌⊎◌, ◌∙◌, arith}
+use Rattle.std.proofs.Common.{◌≡◌, ◌<◌, ◌≤◌, ◌++◌, ◌∷◌, [], ap, length, length-append, sym, subst, inr, ◌⊎◌, arith}
 use Rattle.std.specs.Prelude.{MatchOption}
 use Rattle.std.specs.List.Sorted.{IsPermutation}
 use Rattle.tern_word.specs.SoundTable.{IsSound, served}
 use Rattle.cover_merge.specs.Covering.{Covers, IsChosen, HasNoChosen, HasNoLegalPair, HasRoutesOf}
 use Rattle.cover_merge.specs.Merges.{sets_of}
 use Rattle.cover_merge.specs.Merge.{after}
-use Rattle.cover_merge.specs.Guards.{AreGuards}
-use Rattle.cover_merge.specs.Links.{AreNumbers}
+use Rattle.cover_merge.specs.Known.{IsKnown}
 use Rattle.cover_merge.specs.Tried.{AreTriedUpTo}
 use Rattle.cover_merge.proofs.TriedLemmas.{marked_later}
 use Rattle.cover_merge.proofs.CoverLemmas.{IsCoveredSoFar, chosen_shorter, so_far_first, so_far_more, covered_short, covered_stuck}
@@ -16,10 +15,8 @@ use Rattle.cover_merge.proofs.covering.cover.Goals as goal
 pub merging-init : goal.merging-init
 merging-init c = record {
   so_far = subst (IsCoveredSoFar c.args.target c.args.table.rows c.args.table.rows) (sym c.new-merges.ensures) (so_far_first c.args.target c.args.table.rows c.requires.few c.requires.sound);
-  one_each = c.in_ok-guards.ensures.one_each ∙ ap length c.as_slice.ensures;
-  guards = subst (λ l. AreGuards l c.in_ok-guards.guards.items) c.as_slice.ensures c.in_ok-guards.ensures.guards;
-  marks = subst (λ n. AreTriedUpTo n c.args.table.rows c.in_ok-guards.guards.items) (sym (ap length c.new-merges.ensures)) (subst (λ l. AreTriedUpTo 0 l c.in_ok-guards.guards.items) c.as_slice.ensures c.in_ok-guards.ensures.marks);
-  numbers = subst (λ n. AreNumbers n c.args.table.rows c.in_ok-numbers.numbers.items) (sym c.len-limit.ensures) (subst (λ l. AreNumbers (length l) l c.in_ok-numbers.numbers.items) c.as_slice-2.ensures c.in_ok-numbers.ensures);
+  told = subst (λ l. IsKnown l c.in_ok-known.known) c.as_slice.ensures c.in_ok-known.ensures.known;
+  marks = subst (λ n. AreTriedUpTo n c.args.table.rows c.in_ok-known.known.guards.items) (sym (ap length c.new-merges.ensures)) (subst (λ l. AreTriedUpTo 0 l c.in_ok-known.known.guards.items) c.as_slice.ensures c.in_ok-known.ensures.marks);
 }
 
 pub merging-smaller : goal.merging-smaller
@@ -39,12 +36,10 @@ merging-preserved c =
     let more : c.args.target < length rows = omega (arith, c.len.ensures) in record {
       so_far = subst (IsCoveredSoFar c.args.target c.args.table.rows c.merge_next.new.table.rows) (sym c.in_ok-push-in-Some.ensures.ok)
           (so_far_more c.args.target c.args.table.rows rows c.merge_next.new.table.rows c.merging.merges (record { places = c.in-Some.places }) c.merging.invariant.so_far more chosen next);
-      one_each = c.in_ok-places.ensures.one_each;
-      guards = c.in_ok-places.ensures.guards;
-      marks = subst (λ l. AreTriedUpTo (length l) c.merge_next.new.table.rows c.merge_next.new.guards.items) (sym c.in_ok-push-in-Some.ensures.ok)
-          (marked_later c.len-now.result c.merge_next.new.table.rows c.merge_next.new.guards.items (length (c.merging.merges ++ record { places = c.in-Some.places } ∷ []))
+      told = c.in_ok-places.ensures.known;
+      marks = subst (λ l. AreTriedUpTo (length l) c.merge_next.new.table.rows c.merge_next.new.known.guards.items) (sym c.in_ok-push-in-Some.ensures.ok)
+          (marked_later c.len-now.result c.merge_next.new.table.rows c.merge_next.new.known.guards.items (length (c.merging.merges ++ record { places = c.in-Some.places } ∷ []))
           (omega (arith, c.len-now.ensures, length-append c.merging.merges (record { places = c.in-Some.places } ∷ []))) c.in_ok-places.ensures.marks);
-      numbers = c.in_ok-places.ensures.numbers;
     }
 
 pub returns-in-None : goal.returns-in-None

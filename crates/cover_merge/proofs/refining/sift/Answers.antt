@@ -4,9 +4,11 @@ use Rattle.std.specs.Prelude.{All}
 use Rattle.std.proofs.lemmas.List.{take_all, take-append-drop, take_rest, take-set-le}
 use Rattle.tern_word.specs.Ternary.{generality}
 use Rattle.cover_merge.specs.Merge.{IsOneRoute, PassesUp, PassesUpCheck, has_row, merged_block, place_for}
-use Rattle.cover_merge.specs.Refinement.{AreMerges, IsLastFailing, Refines}
+use Rattle.cover_merge.specs.Kept.{LeadsWithin}
+use Rattle.cover_merge.specs.Refinement.{AreMerges, IsLastFailing}
+use Rattle.cover_merge.proofs.KeptLemmasSteps.{leads_on, sift_leads}
 use Rattle.cover_merge.proofs.RefineLemmas.{last_more, none_fails}
-use Rattle.cover_merge.proofs.SiftLemmas.{all_pass, alike_behind, begins_less, begins_twice, kept_now, last_within, left_many, out_count, out_in_range, out_last, out_now, sift_behind, sift_goes, sift_one, up_of}
+use Rattle.cover_merge.proofs.SiftLemmas.{all_pass, alike_behind, begins_less, begins_twice, kept_now, last_within, left_many, out_count, out_in_range, out_last, out_now, sift_behind, sift_one, up_of}
 use Rattle.cover_merge.proofs.refining.sift.Goals as goal
 use Rattle.cover_merge.proofs.refining.sift.Goals.{then-loop-i-test+else-i-len-ge2, else-loop-i-test}
 
@@ -37,7 +39,7 @@ loop-i-init c =
           ∙ ap (merged_block rows) (take_all (c.len.result - 1 + 1) xs (omega (arith, c.len.ensures)) ∙ sym whole);
       before = refl;
       behind = λ k low high. absurd (omega (arith, low, subst (λ l. k < length l) whole high, c.len-i.ensures));
-      goes_on = λ answer rest. subst (λ l. Refines rows l answer) whole rest;
+      leads = λ outer low. subst (LeadsWithin rows outer low xs) (sym whole) (LeadsWithin.stands xs);
     }
 
 pub passes-requires-clause-inside : goal.passes-requires-clause-inside
@@ -81,7 +83,7 @@ loop-i-preserved-then-passes c =
       merge = old.merge ∙ ap (merged_block rows) (sym same);
       before = take-set-le (i - 1) xs (w - 1) x (omega (arith, old.gap, some)) ∙ begins_less (i - 1) i xs c.args.set.now.items (omega (arith, some)) old.before;
       behind = subst (λ l. (k : ℕ) → i - 1 ≤ k → k < length l → PassesUp rows l (get_or l k 0) p) (sym same) behind;
-      goes_on = λ answer rest. old.goes_on answer (subst (λ l. Refines rows l answer) same rest);
+      leads = λ outer low. subst (LeadsWithin rows outer low c.args.set.now.items) (sym same) (old.leads outer low);
     }
 
 pub merge_from-merged-requires-clause-in_range : goal.merge_from-merged-requires-clause-in_range
@@ -143,7 +145,8 @@ loop-i-preserved c =
       merge = merge;
       before = begins_less (i - 1) i xs c.args.set.now.items (omega (arith, some)) old.before;
       behind = sift_behind rows now old.set c.requires.ordered c.loop-i.merged old.merge g general (i - 1) inside last new gone count two c.merge_from-merged.result merge _ refl;
-      goes_on = λ answer rest. old.goes_on answer (sift_goes rows now old.set c.requires.ordered c.loop-i.merged old.merge g general (i - 1) inside last new gone count two answer rest);
+      leads = λ outer low.
+          leads_on rows outer low c.args.set.now.items now new (old.leads outer low) (sift_leads rows now old.set c.requires.ordered c.loop-i.merged old.merge g general (i - 1) inside last new gone count two outer low);
     }
 
 pub returns-clause-found : goal.returns-clause-found

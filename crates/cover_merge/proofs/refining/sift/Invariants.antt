@@ -1,8 +1,9 @@
 -- The places left are those before `i` and those from `kept` on, which pass the up-check; the first stand as they did.
-use Rattle.std.proofs.Common.{◌≡◌, ◌<◌, ◌≤◌, ◌++◌, ℕ, List, length, get_or, take, drop}
+use Rattle.std.proofs.Common.{◌≡◌, ◌<◌, ◌≤◌, ◌++◌, ℕ, length, get_or, take, drop}
+use Rattle.spin_base.specs.declared.blocks.Block.{Block}
 use Rattle.tern_word.specs.Ternary.{generality}
 use Rattle.cover_merge.specs.Merge.{IsOneRoute, PassesUp, merged_block, place_for}
-use Rattle.cover_merge.specs.Refinement.{Refines}
+use Rattle.cover_merge.specs.Kept.{LeadsWithin}
 use Rattle.cover_merge.proofs.refining.sift.Given as goal
 
 abbrev pub invariant-loop-i : goal.invariant-loop-i
@@ -15,7 +16,7 @@ invariant-loop-i l = let now = take l.i l.set.items ++ drop l.kept l.set.items i
   merge : l.merged ≡ merged_block l.rows now;
   before : take l.i l.set.items ≡ take l.i l.fn.set.items;
   behind : (k : ℕ) → l.i ≤ k → k < length now → PassesUp l.rows now (get_or now k 0) (place_for l.rows (generality l.merged));
-  goes_on : (answer : List ℕ) → Refines l.rows now answer → Refines l.rows l.fn.set.items answer;
+  leads : (outer : Block) (low : ℕ) → LeadsWithin l.rows outer low l.fn.set.items now;
 }
 
 abbrev pub decreases-loop-i : goal.decreases-loop-i

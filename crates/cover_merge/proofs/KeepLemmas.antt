@@ -1,0 +1,264 @@
+-- What is kept of routes: the greatest, and what a merge leaves.
+use Rattle.std.proofs.Common.{◌≡◌, ◌≢◌, ℕ, ◌+◌, ◌<◌, ◌≤◌, ◌⊎◌, List, [], length, get_or, set, inl, inr, refl, sym, ap, ◌∙◌, subst, arith}
+use Rattle.std.specs.Prelude.{All, Option, Some, None}
+use Rattle.std.proofs.Math.ListN.{get_or-eq_default}
+use Rattle.std.proofs.lemmas.Bool.{cases_lt, cases_eq}
+use Rattle.std.proofs.lemmas.Grind.{get_or-set_at}
+use Rattle.std.proofs.lemmas.List.{get_or_default, get_or-set_other, length-set}
+use Rattle.spin_base.specs.declared.blocks.Block.{Block}
+use Rattle.tern_word.specs.declared.tables.Row.{Row}
+use Rattle.tern_word.specs.SoundTable.{IsSound, Misses}
+use Rattle.tern_word.specs.Ternary.{generality}
+use Rattle.cover_merge.specs.Merge.{after, merged_block, merge_rows, IsOneRoute, IsMergeSet, IsLegal, PassesUpCheck, PassesDownCheck}
+use Rattle.cover_merge.specs.Refinement.{IsDownStep, Refines, ends_empty}
+use Rattle.cover_merge.specs.Kept.{IsKept, IsGone, LeadsWithin, RefinesWithin}
+use Rattle.cover_merge.specs.Covering.{places_of, IsNoRival, IsLargest, HasNoLargest}
+use Rattle.cover_merge.specs.Links.{place_of_route, IsEachOnce, AreLinks, AreNumbers, IsFirstOfRoute}
+use Rattle.cover_merge.specs.Known.{AreAllKept, AreRoutesKept, AreStillKept, IsApart, MissesAllOf, IsMostBefore}
+use Rattle.cover_merge.specs.declared.keeping.Kept.{Kept}
+use Rattle.cover_merge.specs.declared.keeping.Most.{Most}
+use Rattle.cover_merge.proofs.LinkLemmas.{number_of_route, route_there, routes_all}
+use Rattle.cover_merge.proofs.KeptLemmas.{forgets, kept_after, merge_other, no_rival_kept, size_of_kept}
+use Rattle.cover_merge.proofs.ChooseLemmas.{route_cases}
+use Rattle.cover_merge.proofs.KeptLemmasSteps.{gone_checked, gone_down, gone_legal, gone_up}
+
+pub none_some : (it : Kept) → None ≡ Some it → ⊥
+none_some it is = cc
+
+some_same : (it other : Kept) → ◌≡◌ {A = Option Kept} (Some it) (Some other) → it ≡ other
+some_same it other is = cc
+
+-- what is kept is kept of some route
+pub inside_some : (xs : List (Option Kept)) (k : ℕ) (it : Kept) → get_or xs k None ≡ Some it → k < length xs
+inside_some xs k it is = by_case (cases_lt k (length xs))
+  where
+    by_case : (k < length xs) ⊎ (length xs ≤ k) → k < length xs
+    by_case (inl less) = less
+    by_case (inr all) = absurd (none_some it (sym (get_or-eq_default xs None all) ∙ is))
+
+pub less_of : (k c : ℕ) → k ≢ c → k < c + 1 → k < c
+less_of k c apart less = by_case (cases_lt k c)
+  where
+    by_case : (k < c) ⊎ (c ≤ k) → k < c
+    by_case (inl before) = before
+    by_case (inr from) = absurd (apart (omega (arith, less, from)))
+
+-- ---- the greatest
+
+pub most_first : (routes : List ℕ) (kept : List (Option Kept)) (most : Most) → most.size ≡ 0 → IsMostBefore routes kept 0 most
+most_first routes kept most none = record {
+  inside = λ some. absurd (omega (arith, none, some));
+  own = λ some. absurd (omega (arith, none, some));
+  bits = λ some. absurd (omega (arith, none, some));
+  no_larger = λ c it less. absurd (omega (arith, less));
+  smaller = λ c it less. absurd (omega (arith, less));
+}
+
+module _ (routes : List ℕ) (kept : List (Option Kept)) (c : ℕ) (most : Most) (old : IsMostBefore routes kept c most) where
+  pub most_none : get_or kept c None ≡ None → IsMostBefore routes kept (c + 1) most
+  most_none none = record {
+    inside = old.inside;
+    own = old.own;
+    bits = old.bits;
+    no_larger = λ k it less is. elim (cases_lt k c) [
+      | inl before ↦ old.no_larger k it before is
+      | inr here ↦ let same : k ≡ c = omega (arith, less, here) in absurd (none_some it (sym none ∙ sym (ap (λ i. get_or kept i None) same) ∙ is))
+    ];
+    smaller = λ k it less is. elim (cases_lt k c) [
+      | inl before ↦ old.smaller k it before is
+      | inr here ↦ let same : k ≡ c = omega (arith, less, here) in absurd (none_some it (sym none ∙ sym (ap (λ i. get_or kept i None) same) ∙ is))
+    ];
+  }
+
+  module _ (own : Kept) (here_is : get_or kept c None ≡ Some own) (bits : ℕ) (read : bits ≡ get_or routes c 0) where
+    last_is : (k : ℕ) (it : Kept) → k < c + 1 → c ≤ k → get_or kept k None ≡ Some it → (it ≡ own) × (get_or routes k 0 ≡ bits)
+    last_is k it less from is =
+        let same : k ≡ c = omega (arith, less, from) in
+        (some_same it own (sym is ∙ ap (λ i. get_or kept i None) same ∙ here_is), ap (λ i. get_or routes i 0) same ∙ sym read)
+
+    pub most_stays : (own.size < most.size) ⊎ ((own.size ≡ most.size) × (most.bits ≤ bits)) → IsMostBefore routes kept (c + 1) most
+    most_stays loses = record {
+      inside = old.inside;
+      own = old.own;
+      bits = old.bits;
+      no_larger = λ k it less is. elim (cases_lt k c) [
+        | inl before ↦ old.no_larger k it before is
+        | inr from ↦ let same = last_is k it less from is in subst (λ (x : Kept). x.size ≤ most.size) (sym same.0) (no_more loses)
+      ];
+      smaller = λ k it less is. elim (cases_lt k c) [
+        | inl before ↦ old.smaller k it before is
+        | inr from ↦ λ some low. let same = last_is k it less from is in subst (λ (x : Kept). x.size < most.size) (sym same.0) (fewer loses (omega (arith, low, same.1)))
+      ];
+    }
+      where
+        no_more : (own.size < most.size) ⊎ ((own.size ≡ most.size) × (most.bits ≤ bits)) → own.size ≤ most.size
+        no_more (inl less) = omega (arith, less)
+        no_more (inr tie) = omega (arith, tie.0)
+
+        fewer : (own.size < most.size) ⊎ ((own.size ≡ most.size) × (most.bits ≤ bits)) → bits < most.bits → own.size < most.size
+        fewer (inl less) low = less
+        fewer (inr tie) low = absurd (omega (arith, tie.1, low))
+
+    pub most_new : (new : Most) → new.number ≡ c → new.bits ≡ bits → new.size ≡ own.size → c < length routes → (most.size < own.size) ⊎ ((own.size ≡ most.size) × (bits < most.bits)) → IsMostBefore routes kept (c + 1) new
+    most_new new at bits_is size_is within wins = record {
+      inside = λ some. subst (λ i. i < length routes) (sym at) within;
+      own = λ some. (own, ap (λ i. get_or kept i None) at ∙ here_is, sym size_is);
+      bits = λ some. ap (λ i. get_or routes i 0) at ∙ sym read ∙ sym bits_is;
+      no_larger = λ k it less is. elim (cases_lt k c) [
+        | inl before ↦ omega (arith, old.no_larger k it before is, size_is, no_fewer wins)
+        | inr from ↦ let same = last_is k it less from is in subst (λ (x : Kept). x.size ≤ new.size) (sym same.0) (omega (arith, size_is))
+      ];
+      smaller = λ k it less is some low. elim (cases_lt k c) [
+        | inl before ↦ earlier k it before is (subst (λ b. get_or routes k 0 < b) bits_is low) (omega (arith, size_is, some)) wins
+        | inr from ↦ let same = last_is k it less from is in absurd (omega (arith, low, same.1, bits_is))
+      ];
+    }
+      where
+        no_fewer : (most.size < own.size) ⊎ ((own.size ≡ most.size) × (bits < most.bits)) → most.size ≤ own.size
+        no_fewer (inl less) = omega (arith, less)
+        no_fewer (inr tie) = omega (arith, tie.0)
+
+        earlier : (k : ℕ) (it : Kept) → k < c → get_or kept k None ≡ Some it → get_or routes k 0 < bits → 0 < own.size → (most.size < own.size) ⊎ ((own.size ≡ most.size) × (bits < most.bits)) → it.size < new.size
+        earlier k it before is low some (inl less) = omega (arith, old.no_larger k it before is, less, size_is)
+        earlier k it before is low some (inr tie) = let s = old.smaller k it before is (omega (arith, tie.0, some)) (omega (arith, low, tie.1)) in omega (arith, s, tie.0, size_is)
+
+-- ---- the largest
+
+-- of each route it is known how many places its refined set has
+module _ (routes : List ℕ) (rows : List Row) (numbers : List ℕ) (are : AreNumbers routes rows numbers) (kept : List (Option Kept)) (keeps : AreRoutesKept routes rows kept) (all : AreAllKept routes kept) (most : Most) (is : IsMostBefore routes kept (length routes) most) where
+  -- a route that no row has has no place
+  nothing_of : (bits other n : ℕ) → places_of bits 0 rows ≡ [] → IsNoRival rows bits other n
+  nothing_of bits other n none = record { set = []; refined = subst (λ l. Refines rows l []) (sym none) (ends_empty [] (omega arith)); no_larger = omega arith; smaller = λ some low. some }
+
+  rival_at : (bits : ℕ) → place_of_route routes bits < length routes → IsNoRival rows bits most.bits most.size
+  rival_at bits low =
+      let c = place_of_route routes bits in
+      let own = all c low in
+      subst (λ n. IsNoRival rows n most.bits most.size) (route_there routes bits low)
+      (no_rival_kept rows own.0.outer own.0.low (get_or routes c 0) own.0.size (keeps c own.0 low own.1) most.bits most.size (is.no_larger c own.0 low own.1) (is.smaller c own.0 low own.1))
+
+  pub no_rival : (bits : ℕ) → IsNoRival rows bits most.bits most.size
+  no_rival bits = by_cases (route_cases bits 0 rows)
+    where
+      by_cases : ((j : ℕ) × (j < length rows) × ((d : Row) → (get_or rows j d).route.bits ≡ bits)) ⊎ (places_of bits 0 rows ≡ []) → IsNoRival rows bits most.bits most.size
+      by_cases (inl found) = rival_at bits (routes_all routes rows numbers are bits found.0 (merge_rows []) found.1 (found.2 (merge_rows [])))
+      by_cases (inr none) = nothing_of bits most.bits most.size none
+
+  pub none_largest : most.size < 2 → HasNoLargest rows
+  none_largest less route = let rival = no_rival route.bits in (rival.set, rival.refined, omega (arith, rival.no_larger))
+
+  pub best_largest : (set : List ℕ) → 2 ≤ most.size → (outer : Block) (low : ℕ) → RefinesWithin rows outer low (places_of (get_or routes most.number 0) 0 rows) set → IsLargest rows set
+  best_largest set two outer low refined =
+      let some : 0 < most.size = omega (arith, two) in
+      let own = is.own some in
+      let bits = is.bits some in
+      let found : Refines rows (places_of (get_or routes most.number 0) 0 rows) set = forgets rows outer low (places_of (get_or routes most.number 0) 0 rows) set refined in
+      let many : length set ≡ most.size =
+      size_of_kept rows own.0.outer own.0.low (get_or routes most.number 0) own.0.size (keeps most.number own.0 (is.inside some) own.1) set found ∙ own.2 in record {
+        bits = most.bits;
+        refined = subst (λ n. Refines rows (places_of n 0 rows) set) bits found;
+        two = omega (arith, two, many);
+        others = λ route. subst (IsNoRival rows route.bits most.bits) (sym many) (no_rival route.bits);
+      }
+
+-- the places of a route that were gathered from its first row on
+pub places_read : (routes : List ℕ) (rows : List Row) (nexts heads : List ℕ) → AreLinks routes rows nexts heads → (c : ℕ) → c < length routes → (x : ℕ) → x ≡ get_or heads c x → (list : List Row) → list ≡ rows → (places : List ℕ)
+    → ((bits : ℕ) → IsFirstOfRoute list bits x → places ≡ places_of bits 0 list) → places ≡ places_of (get_or routes c 0) 0 rows
+places_read routes rows nexts heads links c low x read list same places =
+    let at : get_or heads c 0 ≡ x = get_or_default heads c 0 x (omega (arith, links.one_each, low)) ∙ sym read in
+    subst (λ l. ((bits : ℕ) → IsFirstOfRoute l bits x → places ≡ places_of bits 0 l) → places ≡ places_of (get_or routes c 0) 0 rows) (sym same)
+    (λ found. found (get_or routes c 0) (subst (IsFirstOfRoute rows (get_or routes c 0)) at (links.head c low)))
+
+-- ---- one route more of which something is kept
+
+pub kept_put : (routes : List ℕ) (rows : List Row) (kept : List (Option Kept)) (c : ℕ) (own : Kept) → c < length kept → IsKept rows (get_or routes c 0) own.size own.outer own.low → AreRoutesKept routes rows kept → AreRoutesKept routes rows (set kept c (Some own))
+kept_put routes rows kept c own inside here keeps k it low is = by_case (cases_eq k c)
+  where
+    by_case : (k ≡ c) ⊎ (k ≢ c) → IsKept rows (get_or routes k 0) it.size it.outer it.low
+    by_case (inl same) =
+        let equal : own ≡ it = some_same own it (sym (get_or-set_at kept c k (Some own) None same inside) ∙ is) in
+        subst (λ (x : Kept). IsKept rows (get_or routes k 0) x.size x.outer x.low) equal (subst (λ i. IsKept rows (get_or routes i 0) own.size own.outer own.low) (sym same) here)
+    by_case (inr apart) = keeps k it low (sym (get_or-set_other kept c k (Some own) None apart) ∙ is)
+
+pub all_more : (kept : List (Option Kept)) (c : ℕ) (own : Kept) → c < length kept → ((k : ℕ) → k < c → (it : Kept) × (get_or kept k None ≡ Some it)) → (k : ℕ) → k < c + 1 → (it : Kept) × (get_or (set kept c (Some own)) k None ≡ Some it)
+all_more kept c own inside all k less = by_case (cases_eq k c)
+  where
+    by_case : (k ≡ c) ⊎ (k ≢ c) → (it : Kept) × (get_or (set kept c (Some own)) k None ≡ Some it)
+    by_case (inl same) = (own, get_or-set_at kept c k (Some own) None same inside)
+    by_case (inr apart) = let old = all k (less_of k c apart less) in (old.0, get_or-set_other kept c k (Some own) None apart ∙ old.1)
+
+-- ---- what is left
+
+pub left_all : (P : ℕ → Kept → Type 0) (xs : List (Option Kept)) → ((k : ℕ) (it : Kept) → get_or xs k None ≡ Some it → P k it) → AreStillKept P xs xs
+left_all P xs all = record { one_each = refl; each = λ k it is. (is, all k it is) }
+
+-- one place is written anew
+pub left_set : (P Q : ℕ → Kept → Type 0) (old now new : List (Option Kept)) (c : ℕ) (v : Option Kept) → c < length now → new ≡ set now c v → AreStillKept P old now
+    → ((k : ℕ) (it : Kept) → k ≢ c → P k it → Q k it) → ((it : Kept) → v ≡ Some it → (get_or now c None ≡ Some it) × (P c it → Q c it)) → AreStillKept Q old new
+left_set P Q old now new c v inside is before others here = record {
+  one_each = ap length is ∙ length-set now c v ∙ before.one_each;
+  each = λ k it found. by_case k it (ap (λ l. get_or l k None) (sym is) ∙ found) (cases_eq k c);
+}
+  where
+    by_case : (k : ℕ) (it : Kept) → get_or (set now c v) k None ≡ Some it → (k ≡ c) ⊎ (k ≢ c) → (get_or old k None ≡ Some it) × (Q k it)
+    by_case k it found (inl same) =
+        let own = here it (sym (get_or-set_at now c k v None same inside) ∙ found) in
+        let was = before.each c it own.0 in
+        subst (λ i. (get_or old i None ≡ Some it) × (Q i it)) (sym same) (was.0, own.1 was.1)
+    by_case k it found (inr apart) =
+        let was = before.each k it (sym (get_or-set_other now c k v None apart) ∙ found) in
+        (was.0, others k it apart was.1)
+
+-- one row more
+module _ (b : Block) (rows : List Row) (numbers : List ℕ) (s k : ℕ) (old : MissesAllOf b rows numbers s k) where
+  pub misses_others : k ≢ get_or numbers s 0 → MissesAllOf b rows numbers (s + 1) k
+  misses_others apart t d less within same = elim (cases_lt t s) [
+    | inl before ↦ old t d before within same
+    | inr from ↦ let here : t ≡ s = omega (arith, less, from) in absurd (apart (sym same ∙ ap (λ i. get_or numbers i 0) here))
+  ]
+
+  pub misses_more : (row : Row) → s < length rows → row ≡ get_or rows s row → Misses b row → MissesAllOf b rows numbers (s + 1) k
+  misses_more row inside is misses t d less within same = elim (cases_lt t s) [
+    | inl before ↦ old t d before within same
+    | inr from ↦ let here : t ≡ s = omega (arith, less, from) in subst (Misses b) (is ∙ get_or_default rows s row d inside ∙ ap (λ i. get_or rows i d) (sym here)) misses
+  ]
+
+-- What is left of what was kept is so in the table after the merge.
+pub kept_over : (routes : List ℕ) (rows : List Row) (numbers : List ℕ) (old mid near new : List (Option Kept)) (places : List ℕ) (merged : Block) (own : ℕ)
+    → IsEachOnce routes → AreNumbers routes rows numbers → IsSound rows → IsMergeSet rows places → IsLegal rows places → merged ≡ merged_block rows places → own ≡ get_or numbers (get_or places 0 0) 0
+    → AreRoutesKept routes rows old → AreStillKept (λ c it. c ≡ own → ⊥) old mid → AreStillKept (λ c it. IsApart merged it) mid near → AreStillKept (λ c it. MissesAllOf merged rows numbers (length rows) c) near new
+    → AreRoutesKept routes (after rows places) new
+kept_over routes rows numbers old mid near new places merged own once are sound merge legal block number keeps first second third c it low is =
+    let far = third.each c it is in
+    let close = second.each c it far.0 in
+    let other = first.each c it close.0 in
+    let bits = get_or routes c 0 in
+    let d : Row = merge_rows [] in
+    let member : get_or places 0 0 < length rows = merge.set.in_range 0 0 (omega (arith, merge.two)) in
+    kept_after rows places bits it.size it.outer it.low sound merge legal (record {
+      other = merge_other rows places (get_or rows (get_or places 0 0) d).route.bits bits d merge refl (λ same. other.1 (sym (number_of_route routes rows numbers are once (get_or places 0 0) c d member low same) ∙ sym number));
+      misses = λ s e within same. subst (λ b. Misses b (get_or rows s e)) block (far.1 s e within within (number_of_route routes rows numbers are once s c e within low same));
+      apart = subst (λ b. IsApart b it) block close.1;
+    }) (keeps c it low other.0)
+
+-- ---- one turn of the loop of a refinement
+
+-- What the up-steps left is down-checked: the first block that was, and the generality of this one.
+module _ (rows : List Row) (start set left : List ℕ) (outer wide joined : Block) (low g : ℕ) (gone : IsGone rows start set outer low) (one : IsOneRoute rows set) (leads : (b : Block) (least : ℕ) → LeadsWithin rows b least set left) where
+  pub turned : (2 ≤ length left) × (joined ≡ merged_block rows left) × (PassesUpCheck rows left) → ((32 < low) × (wide ≡ joined)) ⊎ ((low ≤ 32) × (wide ≡ outer)) → IsGone rows start left wide (generality (merged_block rows left))
+  turned sifted first = gone_checked rows start left outer low (gone_up rows start set outer low gone left one.in_range leads) wide sifted.0 (by_case first)
+    where
+      by_case : ((32 < low) × (wide ≡ joined)) ⊎ ((low ≤ 32) × (wide ≡ outer)) → ((32 < low) × (wide ≡ merged_block rows left)) ⊎ ((low ≤ 32) × (wide ≡ outer))
+      by_case (inl none) = inl (none.0, none.1 ∙ sifted.1)
+      by_case (inr some) = inr some
+
+  module _ (sifted : (2 ≤ length left) × (joined ≡ merged_block rows left) × (PassesUpCheck rows left)) (first : ((32 < low) × (wide ≡ joined)) ⊎ ((low ≤ 32) × (wide ≡ outer))) (general : g ≡ generality joined) where
+    low_is : generality (merged_block rows left) ≡ g
+    low_is = sym (general ∙ ap generality sifted.1)
+
+    pub turn_legal : (answer : List ℕ) → (PassesDownCheck rows left) × (answer ≡ left) → RefinesWithin rows wide g start answer
+    turn_legal answer ends = subst (λ n. RefinesWithin rows wide n start answer) low_is
+        (subst (RefinesWithin rows wide (generality (merged_block rows left)) start) (sym ends.1) (gone_legal rows start left wide sifted.0 (turned sifted first) sifted.2 ends.0))
+
+    pub turn_down : (all : All (λ s. s < length rows) left) → (new : List ℕ) → IsDownStep rows left new → IsGone rows start new wide g
+    turn_down all new step = subst (IsGone rows start new wide) low_is (gone_down rows start left wide sifted.0 (turned sifted first) new all step)

@@ -1,0 +1,14 @@
+-- Of each route passed something is kept.
+use Rattle.std.proofs.Common.{◌≡◌, ◌<◌, ℕ, get_or}
+use Rattle.std.specs.Prelude.{Some, None}
+use Rattle.cover_merge.specs.Known.{IsKnown}
+use Rattle.cover_merge.specs.declared.keeping.Kept.{Kept}
+use Rattle.cover_merge.proofs.choosing.keep_all.Given as goal
+
+abbrev pub invariant-loop-c : goal.invariant-loop-c
+invariant-loop-c l = record {
+  told : IsKnown l.table.rows l.known;
+  guards : l.known.guards.items ≡ l.fn.known.guards.items;
+  routes : l.known.routes.items ≡ l.fn.known.routes.items;
+  all : (k : ℕ) → k < l.c → (it : Kept) × (get_or l.known.kept.items k None ≡ Some it);
+}

@@ -1,0 +1,7 @@
+-- Of no route yet is anything known.
+use Rattle.std.proofs.Common.{refl}
+use Rattle.cover_merge.proofs.KeepLemmas.{most_first}
+use Rattle.cover_merge.proofs.keeping.most_of.Goals as goal
+
+pub loop-c-init : goal.loop-c-init
+loop-c-init c = most_first c.args.routes.now c.args.kept.now _ refl

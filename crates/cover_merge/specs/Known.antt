@@ -1,0 +1,51 @@
+-- What is known of a table from one merge to the next.
+use Rattle.std.specs.Prelude.{◌≡◌, ℕ, ◌<◌, ◌≤◌, ◌⊎◌, List, Option, Some, None, length, slice_index, slice_index_or}
+use Rattle.spin_base.specs.declared.blocks.Block.{Block}
+use Rattle.tern_word.specs.declared.tables.Row.{Row}
+use Rattle.tern_word.specs.Ternary.{Intersects, generality}
+use Rattle.tern_word.specs.SoundTable.{Misses}
+use Rattle.cover_merge.specs.Guards.{AreGuards}
+use Rattle.cover_merge.specs.Kept.{IsKept}
+use Rattle.cover_merge.specs.Links.{IsEachOnce, AreNumbers}
+use Rattle.cover_merge.specs.declared.keeping.Kept.{Kept}
+use Rattle.cover_merge.specs.declared.keeping.Most.{Most}
+use Rattle.cover_merge.specs.declared.knowing.Known.{Known}
+
+-- What is kept of the routes is so, for each of which something is kept.
+abbrev pub AreRoutesKept : List ℕ → List Row → List (Option Kept) → Type 0
+AreRoutesKept routes rows kept =
+    (c : ℕ) (it : Kept) → c < length routes → slice_index_or kept c None ≡ Some it → IsKept rows (slice_index routes c) it.size it.outer it.low
+
+-- for each route something is kept
+abbrev pub AreAllKept : List ℕ → List (Option Kept) → Type 0
+AreAllKept routes kept = (c : ℕ) → c < length routes → (it : Kept) × (slice_index_or kept c None ≡ Some it)
+
+-- Each row has its guard, its number, and its route, of which something may be kept.
+pub record IsKnown (rows : List Row) (known : Known) : Type 0 where
+  pub one_each : length known.guards.items ≡ length rows
+  pub guards : AreGuards rows known.guards.items
+  pub once : IsEachOnce known.routes.items
+  pub numbers : AreNumbers known.routes.items rows known.numbers.items
+  pub one_route : length known.kept.items ≡ length known.routes.items
+  pub kept : AreRoutesKept known.routes.items rows known.kept.items
+
+-- What is still kept was kept before, and passes the test.
+pub record AreStillKept (P : ℕ → Kept → Type 0) (old new : List (Option Kept)) : Type 0 where
+  pub one_each : length new ≡ length old
+  pub each : (c : ℕ) (it : Kept) → slice_index_or new c None ≡ Some it → (slice_index_or old c None ≡ Some it) × (P c it)
+
+-- the block meets no block that was down-checked, or is no more general than each
+abbrev pub IsApart : Block → Kept → Type 0
+IsApart block it = (Intersects block it.outer → ⊥) ⊎ (generality block ≤ it.low)
+
+-- the block meets no alias of the first n rows of this number
+abbrev pub MissesAllOf : Block → List Row → List ℕ → ℕ → ℕ → Type 0
+MissesAllOf block rows numbers n number = (s : ℕ) (d : Row) → s < n → s < length rows → slice_index numbers s ≡ number → Misses block (slice_index_or rows s d)
+
+-- Of the first k routes none has more places kept than this one, or as many and lesser bits.
+pub record IsMostBefore (routes : List ℕ) (kept : List (Option Kept)) (k : ℕ) (most : Most) : Type 0 where
+  pub inside : 0 < most.size → most.number < length routes
+  pub own : 0 < most.size → (it : Kept) × (slice_index_or kept most.number None ≡ Some it) × (it.size ≡ most.size)
+  pub bits : 0 < most.size → slice_index routes most.number ≡ most.bits
+  pub no_larger : (c : ℕ) (it : Kept) → c < k → slice_index_or kept c None ≡ Some it → it.size ≤ most.size
+  pub smaller : (c : ℕ) (it : Kept) → c < k → slice_index_or kept c None ≡ Some it → 0 < most.size → slice_index routes c < most.bits → it.size < most.size

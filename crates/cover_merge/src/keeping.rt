@@ -1,0 +1,130 @@
+// What is kept of each route from one merge to the next: how many places its refined set has. The set itself is not kept,
+// so no place changes.
+ghost use Rattle.std.specs.Prelude.{◌≡◌, ◌+◌, ◌<◌, ◌≤◌, ◌⊎◌, ℕ, All, Some, MatchBool, length, slice_index};
+ghost use Rattle.tern_word.specs.SoundTable.{HoldsItsAliases, Misses};
+ghost use Rattle.cover_merge.specs.Known.{AreStillKept, IsApart, IsMostBefore, MissesAllOf};
+ghost use Rattle.cover_merge.specs.declared.keeping.Kept.{Kept as AKept};
+
+use crate::guards::is_missed;
+use spin_base::Block;
+use tern_word::{Row, generality, intersects};
+
+/// What is kept of a route: how many places its refined set has, the first block that was down-checked for it, and the
+/// generality of the last. All others lie in the first. Where none was down-checked, the generality is 33.
+#[derive(Clone, Copy)]
+pub(crate) struct Kept {
+    pub(crate) size: usize,
+    pub(crate) outer: Block,
+    pub(crate) low: u32,
+}
+
+/// The route of which most places are kept, of equal ones the least: its number, its bits, and how many.
+#[derive(Clone, Copy)]
+pub(crate) struct Most {
+    pub(crate) number: usize,
+    pub(crate) bits: u32,
+    pub(crate) size: usize,
+}
+
+/// The route of which most places are kept.
+pub(crate) fn most_of(routes: &[u32], kept: &[Option<Kept>]) -> Most
+    requires { length kept.now ≡ length routes.now }
+    ensures { IsMostBefore routes.now kept.now (length routes.now) result }
+{
+    let mut most = Most {
+        number: 0,
+        bits: 0,
+        size: 0,
+    };
+    for c in 0..routes.len() {
+        most = greater(routes, kept, c, most);
+    }
+    most
+}
+
+// The greater one of that of the routes so far and the next.
+fn greater(routes: &[u32], kept: &[Option<Kept>], c: usize, most: Most) -> Most
+    requires one_each { length kept.now ≡ length routes.now }
+    requires inside { c < length routes.now }
+    requires most { IsMostBefore routes.now kept.now c most }
+    ensures { IsMostBefore routes.now kept.now (c + 1) result }
+{
+    let Some(it) = kept[c] else {
+        return most;
+    };
+    let bits = routes[c];
+    if beats(it.size, bits, most.size, most.bits) {
+        return Most {
+            number: c,
+            bits,
+            size: it.size,
+        };
+    }
+    most
+}
+
+// Whether n places of one route are more than m of another, or as many and of the lesser route.
+fn beats(n: usize, bits: u32, m: usize, other: u32) -> bool
+    ensures { MatchBool result ((m < n) ⊎ ((n ≡ m) × (bits < other))) ((n < m)
+        ⊎ ((n ≡ m) × (other ≤ bits))) }
+{
+    m < n || (n == m && bits < other)
+}
+
+/// Forgets what is kept of the route of this number.
+pub(crate) fn forget_own(kept: &mut Vec<Option<Kept>>, own: usize)
+    requires { own < length kept.old.items }
+    ensures { AreStillKept (λ c it. c ≡ own → ⊥) kept.old.items kept.new.items }
+{
+    kept[own] = None;
+}
+
+/// Forgets what is kept of routes for which a block was down-checked that a merge of this block may meet.
+pub(crate) fn forget_near(kept: &mut Vec<Option<Kept>>, merged: Block)
+    ensures { AreStillKept (λ c it. IsApart merged it) kept.old.items kept.new.items }
+{
+    for c in 0..kept.len() {
+        kept[c] = apart(kept[c], merged);
+    }
+}
+
+// What is kept, where the block is apart from all that was down-checked.
+fn apart(kept: Option<Kept>, merged: Block) -> Option<Kept>
+    ensures { (it : AKept) → result ≡ Some it → (kept ≡ Some it) × (IsApart merged it) }
+{
+    let Some(it) = kept else {
+        return None;
+    };
+    if generality(merged) <= it.low {
+        return kept;
+    }
+    if intersects(merged, it.outer) {
+        return None;
+    }
+    kept
+}
+
+/// Forgets what is kept of routes with a row of which the block meets an alias.
+pub(crate) fn forget_met(rows: &[Row], numbers: &[u32], kept: &mut Vec<Option<Kept>>, merged: Block)
+    requires inside { All HoldsItsAliases rows.now }
+    requires one_each { length numbers.now ≡ length rows.now }
+    requires below { All (λ c. c < length kept.old.items) numbers.now }
+    ensures { AreStillKept (λ c it. MissesAllOf merged rows.now numbers.now (length rows.now) c)
+        kept.old.items kept.new.items }
+{
+    for s in 0..rows.len() {
+        let number = numbers[s] as usize;
+        kept[number] = missed(kept[number], &rows[s], merged);
+    }
+}
+
+// What is kept, where the block meets no alias of the row.
+fn missed(kept: Option<Kept>, row: &Row, merged: Block) -> Option<Kept>
+    requires { HoldsItsAliases row.now }
+    ensures { (it : AKept) → result ≡ Some it → (kept ≡ Some it) × (Misses merged row.now) }
+{
+    if is_missed(merged, row) {
+        return kept;
+    }
+    None
+}

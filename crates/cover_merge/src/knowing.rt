@@ -1,0 +1,40 @@
+// What covering knows of a table from one merge to the next.
+ghost use Rattle.std.specs.Prelude.{◌≡◌, ◌<◌, ◌^◌, IfOk, OnOk, length};
+ghost use Rattle.tern_word.specs.SoundTable.{IsSound};
+ghost use Rattle.cover_merge.specs.Known.{IsKnown};
+ghost use Rattle.cover_merge.specs.Tried.{AreTriedUpTo};
+
+use crate::guards::{Guard, guards_of};
+use crate::keeping::Kept;
+use crate::links::{numbers_of, routes_of};
+use spin_base::Memory;
+use std::alloc::Global;
+use tern_word::Row;
+
+/// A guard and the number of its route for each row, and for each route its bits and what is kept of it.
+#[derive(Drop)]
+pub(crate) struct Known {
+    pub(crate) guards: Vec<Guard>,
+    pub(crate) numbers: Vec<u32>,
+    pub(crate) routes: Vec<u32>,
+    pub(crate) kept: Vec<Option<Kept>>,
+}
+
+/// What is known of a table before any merge.
+pub(crate) fn known_of(alloc: Global, rows: &[Row]) -> Result<Known, Memory>
+    requires few { length rows.now < 2 ^ 32 }
+    requires sound { IsSound rows.now }
+    ensures known { IfOk result (IsKnown rows.now) }
+    ensures marks { IfOk result (λ known. AreTriedUpTo 0 rows.now known.guards.items) }
+{
+    let guards = guards_of(alloc, rows)?;
+    let routes = routes_of(alloc, rows)?;
+    let numbers = numbers_of(alloc, rows, &routes)?;
+    let kept = vec![in alloc; None::<Kept>; routes.len()]?;
+    Ok(Known {
+        guards,
+        numbers,
+        routes,
+        kept,
+    })
+}
