@@ -14,7 +14,7 @@ use Rattle.cover_merge.specs.Refinement.{IsDownStep, Refines, ends_empty}
 use Rattle.cover_merge.specs.Kept.{IsKept, IsGone, LeadsWithin, RefinesWithin}
 use Rattle.cover_merge.specs.Covering.{places_of, IsNoRival, IsLargest, HasNoLargest}
 use Rattle.cover_merge.specs.Links.{place_of_route, IsEachOnce, AreLinks, AreNumbers, IsFirstOfRoute}
-use Rattle.cover_merge.specs.Known.{AreAllKept, AreKept, AreLeft, IsApart, MissesAllOf, IsMostBefore}
+use Rattle.cover_merge.specs.Known.{AreAllKept, AreRoutesKept, AreStillKept, IsApart, MissesAllOf, IsMostBefore}
 use Rattle.cover_merge.specs.declared.keeping.Kept.{Kept}
 use Rattle.cover_merge.specs.declared.keeping.Most.{Most}
 use Rattle.cover_merge.proofs.LinkLemmas.{number_of_route, route_there, routes_all}
@@ -125,7 +125,7 @@ module _ (routes : List ℕ) (kept : List (Option Kept)) (c : ℕ) (most : Most)
 -- ---- the largest
 
 -- of each route it is known how many places its refined set has
-module _ (routes : List ℕ) (rows : List Row) (numbers : List ℕ) (are : AreNumbers routes rows numbers) (kept : List (Option Kept)) (keeps : AreKept routes rows kept) (all : AreAllKept routes kept) (most : Most) (is : IsMostBefore routes kept (length routes) most) where
+module _ (routes : List ℕ) (rows : List Row) (numbers : List ℕ) (are : AreNumbers routes rows numbers) (kept : List (Option Kept)) (keeps : AreRoutesKept routes rows kept) (all : AreAllKept routes kept) (most : Most) (is : IsMostBefore routes kept (length routes) most) where
   -- a route that no row has has no place
   nothing_of : (bits other n : ℕ) → places_of bits 0 rows ≡ [] → IsNoRival rows bits other n
   nothing_of bits other n none = record { set = []; refined = subst (λ l. Refines rows l []) (sym none) (ends_empty [] (omega arith)); no_larger = omega arith; smaller = λ some low. some }
@@ -171,7 +171,7 @@ places_read routes rows nexts heads links c low x read list same places =
 
 -- ---- one route more of which something is kept
 
-pub kept_put : (routes : List ℕ) (rows : List Row) (kept : List (Option Kept)) (c : ℕ) (own : Kept) → c < length kept → IsKept rows (get_or routes c 0) own.size own.outer own.low → AreKept routes rows kept → AreKept routes rows (set kept c (Some own))
+pub kept_put : (routes : List ℕ) (rows : List Row) (kept : List (Option Kept)) (c : ℕ) (own : Kept) → c < length kept → IsKept rows (get_or routes c 0) own.size own.outer own.low → AreRoutesKept routes rows kept → AreRoutesKept routes rows (set kept c (Some own))
 kept_put routes rows kept c own inside here keeps k it low is = by_case (cases_eq k c)
   where
     by_case : (k ≡ c) ⊎ (k ≢ c) → IsKept rows (get_or routes k 0) it.size it.outer it.low
@@ -189,12 +189,12 @@ all_more kept c own inside all k less = by_case (cases_eq k c)
 
 -- ---- what is left
 
-pub left_all : (P : ℕ → Kept → Type 0) (xs : List (Option Kept)) → ((k : ℕ) (it : Kept) → get_or xs k None ≡ Some it → P k it) → AreLeft P xs xs
+pub left_all : (P : ℕ → Kept → Type 0) (xs : List (Option Kept)) → ((k : ℕ) (it : Kept) → get_or xs k None ≡ Some it → P k it) → AreStillKept P xs xs
 left_all P xs all = record { one_each = refl; each = λ k it is. (is, all k it is) }
 
 -- one place is written anew
-pub left_set : (P Q : ℕ → Kept → Type 0) (old now new : List (Option Kept)) (c : ℕ) (v : Option Kept) → c < length now → new ≡ set now c v → AreLeft P old now
-    → ((k : ℕ) (it : Kept) → k ≢ c → P k it → Q k it) → ((it : Kept) → v ≡ Some it → (get_or now c None ≡ Some it) × (P c it → Q c it)) → AreLeft Q old new
+pub left_set : (P Q : ℕ → Kept → Type 0) (old now new : List (Option Kept)) (c : ℕ) (v : Option Kept) → c < length now → new ≡ set now c v → AreStillKept P old now
+    → ((k : ℕ) (it : Kept) → k ≢ c → P k it → Q k it) → ((it : Kept) → v ≡ Some it → (get_or now c None ≡ Some it) × (P c it → Q c it)) → AreStillKept Q old new
 left_set P Q old now new c v inside is before others here = record {
   one_each = ap length is ∙ length-set now c v ∙ before.one_each;
   each = λ k it found. by_case k it (ap (λ l. get_or l k None) (sym is) ∙ found) (cases_eq k c);
@@ -226,8 +226,8 @@ module _ (b : Block) (rows : List Row) (numbers : List ℕ) (s k : ℕ) (old : M
 -- What is left of what was kept is so in the table after the merge.
 pub kept_over : (routes : List ℕ) (rows : List Row) (numbers : List ℕ) (old mid near new : List (Option Kept)) (places : List ℕ) (merged : Block) (own : ℕ)
     → IsEachOnce routes → AreNumbers routes rows numbers → IsSound rows → IsMergeSet rows places → IsLegal rows places → merged ≡ merged_block rows places → own ≡ get_or numbers (get_or places 0 0) 0
-    → AreKept routes rows old → AreLeft (λ c it. c ≡ own → ⊥) old mid → AreLeft (λ c it. IsApart merged it) mid near → AreLeft (λ c it. MissesAllOf merged rows numbers (length rows) c) near new
-    → AreKept routes (after rows places) new
+    → AreRoutesKept routes rows old → AreStillKept (λ c it. c ≡ own → ⊥) old mid → AreStillKept (λ c it. IsApart merged it) mid near → AreStillKept (λ c it. MissesAllOf merged rows numbers (length rows) c) near new
+    → AreRoutesKept routes (after rows places) new
 kept_over routes rows numbers old mid near new places merged own once are sound merge legal block number keeps first second third c it low is =
     let far = third.each c it is in
     let close = second.each c it far.0 in

@@ -372,15 +372,6 @@ module _ (rows : List Row) (outer : Block) (low : ℕ) where
   forgets places answer (RefinesWithin.goes_up p next a two step rest) = Refines.goes_up p next a two step (forgets next a rest)
   forgets places answer (RefinesWithin.goes_down p next a two step lies high rest) = Refines.goes_down p next a two step (forgets next a rest)
 
-  -- With wider bounds it is one, too.
-  pub widens : (wide : Block) (least : ℕ) → LiesIn outer wide → least ≤ low → (places answer : List ℕ) → RefinesWithin rows outer low places answer → RefinesWithin rows wide least places answer
-  widens wide least inside less places answer (RefinesWithin.ends_empty p few) = RefinesWithin.ends_empty p few
-  widens wide least inside less places answer (RefinesWithin.ends_legal p two up down lies high) =
-      RefinesWithin.ends_legal p two up down (LiesIn-trans (merged_block rows p) outer wide lies inside) (omega (arith, less, high))
-  widens wide least inside less places answer (RefinesWithin.goes_up p next a two step rest) = RefinesWithin.goes_up p next a two step (widens wide least inside less next a rest)
-  widens wide least inside less places answer (RefinesWithin.goes_down p next a two step lies high rest) =
-      RefinesWithin.goes_down p next a two step (LiesIn-trans (merged_block rows p) outer wide lies inside) (omega (arith, less, high)) (widens wide least inside less next a rest)
-
   module _ (bits size : ℕ) (is_kept : IsKept rows bits size outer low) where
     -- The refined set of the route's rows has as many places as was kept.
     pub size_of_kept : (set : List ℕ) → Refines rows (places_of bits 0 rows) set → length set ≡ size
@@ -395,10 +386,6 @@ module _ (rows : List Row) (outer : Block) (low : ℕ) where
       no_larger = omega (arith, no_larger, is_kept.size_is);
       smaller = λ some less. omega (arith, smaller some less, is_kept.size_is);
     }
-
-    -- and where it has fewer than two, there is nothing to merge
-    pub few_kept : size < 2 → (set : List ℕ) × (Refines rows (places_of bits 0 rows) set) × (length set < 2)
-    few_kept less = (is_kept.set, forgets (places_of bits 0 rows) is_kept.set is_kept.refined, omega (arith, less, is_kept.size_is))
 
 -- A merge is of another route where its first row is.
 pub merge_other : (rows : List Row) (merge : List ℕ) (first bits : ℕ) (z : Row) → IsMergeSet rows merge → (get_or rows (get_or merge 0 0) z).route.bits ≡ first → first ≢ bits

@@ -12,7 +12,7 @@ use Rattle.tern_word.specs.declared.tables.Row.{Row}
 use Rattle.tern_word.specs.SoundTable.{IsOrdered}
 use Rattle.cover_merge.specs.Merge.{has_row, picked, merged_row, insert_place, after, IsMergeSet, merge_rows}
 use Rattle.cover_merge.proofs.Lists.{All-picked}
-use Rattle.cover_merge.specs.Links.{place_of_route, IsEachOnce, AreRoutes, IsAdded, AreNumbers, IsAhead, IsNextOfRoute, IsFirstOfRoute, AreLinks}
+use Rattle.cover_merge.specs.Links.{place_of_route, IsEachOnce, AreRoutes, IsRouteAdded, AreNumbers, IsAhead, IsNextOfRoute, IsFirstOfRoute, AreLinks}
 use Rattle.cover_merge.proofs.ApplyLemmas.{left, after_is, route_is}
 
 -- ---- the place of a route
@@ -76,7 +76,7 @@ route_last (r ∷ routes) bits none = by_test (eqb_tells r bits) none (route_las
         let high = ap (λ b. cond b 0 (suc (place_of_route routes bits))) other.0 in
         subst (λ b. cond b 0 (suc (place_of_route (routes ++ bits ∷ []) bits)) ≡ suc (length routes)) (sym other.0) (ap suc (rest (omega (arith, whole, high))))
 
-pub added_last : (bits n : ℕ) (old new : List ℕ) → n ≡ place_of_route old bits → n ≡ length old → new ≡ old ++ bits ∷ [] → IsAdded bits old new
+pub added_last : (bits n : ℕ) (old new : List ℕ) → n ≡ place_of_route old bits → n ≡ length old → new ≡ old ++ bits ∷ [] → IsRouteAdded bits old new
 added_last bits n old new is none now =
     let many = ap length now ∙ length-append old (bits ∷ []) in
     let there : place_of_route new bits ≡ length old = ap (λ l. place_of_route l bits) now ∙ route_last old bits (sym is ∙ none) in record {
@@ -94,7 +94,7 @@ added_last bits n old new is none now =
       ];
     }
 
-pub added_again : (bits n : ℕ) (old : List ℕ) → n ≡ place_of_route old bits → n ≢ length old → n ≤ length old → IsAdded bits old old
+pub added_again : (bits n : ℕ) (old : List ℕ) → n ≡ place_of_route old bits → n ≢ length old → n ≤ length old → IsRouteAdded bits old old
 added_again bits n old is there most = record {
   found = by_case (cases_lt n (length old));
   stays = λ other before. before;

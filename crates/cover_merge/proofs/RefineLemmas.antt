@@ -21,7 +21,7 @@ use Rattle.cover_merge.proofs.Legal.{legal_from_checks}
 use Rattle.cover_merge.proofs.Answering.{fails}
 use Rattle.cover_merge.proofs.Positions.{has-at, has-place, All-has, rows_at-from, rows_at-length, some_blocks}
 use Rattle.spin_base.proofs.RouteBits.{zero_of}
-use Rattle.cover_merge.specs.Refinement.{can_choose, parts, keeps, kept_by, IsLastFailing, IsUpStep, IsFirstMetFrom, IsNarrowed, IsDownStep, Refines, ends_empty, ends_legal, goes_up, goes_down}
+use Rattle.cover_merge.specs.Refinement.{can_choose, parts, keeps, kept_by, IsLastFailing, IsUpStep, IsFirstMetFrom, IsNarrowed, IsDownStep}
 
 -- ---- the tests of bits
 
@@ -198,16 +198,6 @@ module _ (rows : List Row) (old : List ℕ) (set : IsOneRoute rows old) where
       after_choice (inl (i, low, best, is)) = subst (IsOneRoute rows) (sym is) (filtered (keeps rows step.met i))
       after_choice (inr none) = subst (IsOneRoute rows) (sym none.1) emptied
 
-  pub refines_after : 2 ≤ length old → (new answer : List ℕ) → (IsUpStep rows old new) ⊎ (IsDownStep rows old new) → Refines rows new answer → Refines rows old answer
-  refines_after two new answer (inl step) rest = goes_up old new answer two step rest
-  refines_after two new answer (inr step) rest = goes_down old new answer two step rest
-
-  pub refines_here : 2 ≤ length old → (new answer : List ℕ) → (PassesUpCheck rows old) × (PassesDownCheck rows old) × (new ≡ old) → answer ≡ new → Refines rows old answer
-  refines_here two new answer both is = subst (Refines rows old) (sym (is ∙ both.2)) (ends_legal old two both.0 both.1)
-
   pub legal_here : IsSound rows → 2 ≤ length old → (new answer : List ℕ) → (PassesUpCheck rows old) × (PassesDownCheck rows old) × (new ≡ old) → answer ≡ new → (IsMergeSet rows answer) × (IsLegal rows answer)
   legal_here sound two new answer both is =
       subst (λ a. (IsMergeSet rows a) × (IsLegal rows a)) (sym (is ∙ both.2)) (record { set = set; two = two }, legal_from_checks rows old sound set.in_range both.0 both.1)
-
-pub refines_few : (rows : List Row) (old new answer : List ℕ) → length old < 2 → new ≡ [] → answer ≡ new → Refines rows old answer
-refines_few rows old new answer less none is = subst (Refines rows old) (sym (is ∙ none)) (ends_empty old less)

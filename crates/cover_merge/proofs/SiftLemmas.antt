@@ -16,7 +16,7 @@ use Rattle.tern_word.proofs.BlockLaws.{generality-mono, merge_of-is_merge}
 use Rattle.cover_merge.specs.Merge.{has_row, merge_rows, rows_at, merged_block, place_for, insert_place, SameRoute, IsOneRoute, PassesUp, PassesUpCheck}
 use Rattle.cover_merge.proofs.Lists.{All-from_map, All-left, All-right, AllPairs-head, AllPairs-tail}
 use Rattle.cover_merge.proofs.Positions.{All-has, has-at, merged_block-push, place_for-above, place_for-below, place_for-le, rows_at-from, rows_at-has, rows_at-length, some_blocks}
-use Rattle.cover_merge.specs.Refinement.{IsLastFailing, IsUpStep, Refines, goes_up, set_without}
+use Rattle.cover_merge.specs.Refinement.{IsLastFailing, IsUpStep, set_without}
 use Rattle.cover_merge.proofs.RefineLemmas.{last_found, one_route_after}
 use Rattle.cover_merge.proofs.GuardLemmas.{one_route}
 
@@ -150,9 +150,6 @@ module _ (rows : List Row) (set : List ℕ) (one : IsOneRoute rows set) (ordered
 
     pub sift_one : IsOneRoute rows new
     sift_one = one_route_after rows set one new (inl sift_step)
-
-    pub sift_goes : (answer : List ℕ) → Refines rows new answer → Refines rows set answer
-    sift_goes answer rest = goes_up set new answer two sift_step rest
 
     pub sift_behind : (m : Block) → m ≡ merged_block rows new → (h : ℕ) → h ≡ generality m → (k : ℕ) → i ≤ k → k < length new → PassesUp rows new (get_or new k 0) (place_for rows h)
     sift_behind m m_is h h_is k from within =

@@ -12,8 +12,8 @@ use Rattle.cover_merge.specs.declared.keeping.Most.{Most}
 use Rattle.cover_merge.specs.declared.knowing.Known.{Known}
 
 -- What is kept of the routes is so, for each of which something is kept.
-abbrev pub AreKept : List ℕ → List Row → List (Option Kept) → Type 0
-AreKept routes rows kept =
+abbrev pub AreRoutesKept : List ℕ → List Row → List (Option Kept) → Type 0
+AreRoutesKept routes rows kept =
     (c : ℕ) (it : Kept) → c < length routes → slice_index_or kept c None ≡ Some it → IsKept rows (slice_index routes c) it.size it.outer it.low
 
 -- for each route something is kept
@@ -27,10 +27,10 @@ pub record IsKnown (rows : List Row) (known : Known) : Type 0 where
   pub once : IsEachOnce known.routes.items
   pub numbers : AreNumbers known.routes.items rows known.numbers.items
   pub one_route : length known.kept.items ≡ length known.routes.items
-  pub kept : AreKept known.routes.items rows known.kept.items
+  pub kept : AreRoutesKept known.routes.items rows known.kept.items
 
 -- What is still kept was kept before, and passes the test.
-pub record AreLeft (P : ℕ → Kept → Type 0) (old new : List (Option Kept)) : Type 0 where
+pub record AreStillKept (P : ℕ → Kept → Type 0) (old new : List (Option Kept)) : Type 0 where
   pub one_each : length new ≡ length old
   pub each : (c : ℕ) (it : Kept) → slice_index_or new c None ≡ Some it → (slice_index_or old c None ≡ Some it) × (P c it)
 

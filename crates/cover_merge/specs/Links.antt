@@ -17,7 +17,7 @@ pub record AreRoutes (rows : List Row) (routes : List ℕ) : Type 0 where
   pub no_more : length routes ≤ length rows
 
 -- the route of these bits is one of the new routes, and each that was there is there
-pub record IsAdded (bits : ℕ) (old new : List ℕ) : Type 0 where
+pub record IsRouteAdded (bits : ℕ) (old new : List ℕ) : Type 0 where
   pub found : place_of_route new bits < length new
   pub stays : (other : ℕ) → place_of_route old other < length old → place_of_route new other < length new
   pub one_more : length new ≤ length old + 1

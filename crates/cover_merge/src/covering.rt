@@ -3,7 +3,7 @@ ghost use Rattle.std.specs.Prelude.{◌≡◌, ◌<◌, ◌≤◌, ◌^◌, ◌�
 ghost use Rattle.tern_word.specs.SoundTable.{IsOrdered, IsSound, served};
 ghost use Rattle.std.specs.List.Sorted.{IsPermutation};
 ghost use Rattle.cover_merge.specs.Merge.{IsLegal, IsMergeSet, after, merged_block};
-ghost use Rattle.cover_merge.specs.Known.{AreKept, IsKnown};
+ghost use Rattle.cover_merge.specs.Known.{AreRoutesKept, IsKnown};
 ghost use Rattle.cover_merge.specs.Tried.{AreTriedUpTo};
 ghost use Rattle.cover_merge.specs.Covering.{Covers, HasNoChosen, HasNoLegalPair, HasRoutesOf, IsChosen};
 ghost use Rattle.cover_merge.specs.Merges.{sets_of};
@@ -120,7 +120,7 @@ fn forget(rows: &[Row], known: &mut Known, places: &[u32], merged: Block)
     requires known { IsKnown rows.now known.old }
     requires merge { (IsMergeSet rows.now places.now) × (IsLegal rows.now places.now) }
     requires merged { merged ≡ merged_block rows.now places.now }
-    ensures kept { AreKept known.new.routes.items (after rows.now places.now) known.new.kept.items }
+    ensures kept { AreRoutesKept known.new.routes.items (after rows.now places.now) known.new.kept.items }
     ensures one_route { length known.new.kept.items ≡ length known.new.routes.items }
     ensures guards { known.new.guards.items ≡ known.old.guards.items }
     ensures numbers { known.new.numbers.items ≡ known.old.numbers.items }

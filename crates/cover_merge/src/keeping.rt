@@ -2,7 +2,7 @@
 // so no place changes.
 ghost use Rattle.std.specs.Prelude.{◌≡◌, ◌+◌, ◌<◌, ◌≤◌, ◌⊎◌, ℕ, All, Some, MatchBool, length, slice_index};
 ghost use Rattle.tern_word.specs.SoundTable.{HoldsItsAliases, Misses};
-ghost use Rattle.cover_merge.specs.Known.{AreLeft, IsApart, IsMostBefore, MissesAllOf};
+ghost use Rattle.cover_merge.specs.Known.{AreStillKept, IsApart, IsMostBefore, MissesAllOf};
 ghost use Rattle.cover_merge.specs.declared.keeping.Kept.{Kept as AKept};
 
 use crate::guards::is_missed;
@@ -74,14 +74,14 @@ fn beats(n: usize, bits: u32, m: usize, other: u32) -> bool
 /// Forgets what is kept of the route of this number.
 pub(crate) fn forget_own(kept: &mut Vec<Option<Kept>>, own: usize)
     requires { own < length kept.old.items }
-    ensures { AreLeft (λ c it. c ≡ own → ⊥) kept.old.items kept.new.items }
+    ensures { AreStillKept (λ c it. c ≡ own → ⊥) kept.old.items kept.new.items }
 {
     kept[own] = None;
 }
 
 /// Forgets what is kept of routes for which a block was down-checked that a merge of this block may meet.
 pub(crate) fn forget_near(kept: &mut Vec<Option<Kept>>, merged: Block)
-    ensures { AreLeft (λ c it. IsApart merged it) kept.old.items kept.new.items }
+    ensures { AreStillKept (λ c it. IsApart merged it) kept.old.items kept.new.items }
 {
     for c in 0..kept.len() {
         kept[c] = apart(kept[c], merged);
@@ -109,7 +109,7 @@ pub(crate) fn forget_met(rows: &[Row], numbers: &[u32], kept: &mut Vec<Option<Ke
     requires inside { All HoldsItsAliases rows.now }
     requires one_each { length numbers.now ≡ length rows.now }
     requires below { All (λ c. c < length kept.old.items) numbers.now }
-    ensures { AreLeft (λ c it. MissesAllOf merged rows.now numbers.now (length rows.now) c)
+    ensures { AreStillKept (λ c it. MissesAllOf merged rows.now numbers.now (length rows.now) c)
         kept.old.items kept.new.items }
 {
     for s in 0..rows.len() {

@@ -2,7 +2,7 @@
 ghost use Rattle.std.specs.Prelude.{◌≡◌, ◌+◌, ◌<◌, ◌≤◌, ◌^◌, ℕ, List, All, IfOk, OnOk, length, slice_index};
 ghost use Rattle.tern_word.specs.SoundTable.{IsOrdered};
 ghost use Rattle.cover_merge.specs.Merge.{IsMergeSet, after};
-ghost use Rattle.cover_merge.specs.Links.{place_of_route, AreRoutes, IsAdded, IsEachOnce, AreNumbers, IsAhead, AreLinks};
+ghost use Rattle.cover_merge.specs.Links.{place_of_route, AreRoutes, IsRouteAdded, IsEachOnce, AreNumbers, IsAhead, AreLinks};
 
 use crate::applying::take_out_all;
 use crate::guards::place_in;
@@ -32,7 +32,7 @@ pub(crate) fn routes_of(alloc: Global, rows: &[Row]) -> Result<Vec<u32>, Memory>
 
 // Adds the route of these bits where it is not there yet.
 fn add_route(routes: &mut Vec<u32>, bits: u32) -> Result<(), Memory>
-    ensures { OnOk result (IsAdded bits routes.old.items routes.new.items) }
+    ensures { OnOk result (IsRouteAdded bits routes.old.items routes.new.items) }
 {
     if number_of(routes, bits) == routes.len() {
         routes.push(bits)?;

@@ -2,7 +2,7 @@
 use Rattle.std.proofs.Common.{◌≡◌, ◌∙◌, ap, sym, subst, length}
 use Rattle.cover_merge.specs.Merge.{IsLegal, IsMergeSet, after}
 use Rattle.cover_merge.specs.Guards.{AreGuards, AreGuardsBut}
-use Rattle.cover_merge.specs.Known.{AreKept}
+use Rattle.cover_merge.specs.Known.{AreRoutesKept}
 use Rattle.cover_merge.specs.Links.{AreNumbers, IsEachOnce}
 use Rattle.cover_merge.specs.Tried.{AreTriedUpTo}
 use Rattle.cover_merge.proofs.ApplyLemmas.{both_ok}
@@ -53,5 +53,5 @@ returns-clause-known c =
       once = subst IsEachOnce (sym c.forget.ensures.routes) c.requires.known.once;
       numbers = subst (λ l. AreNumbers new.routes.items l c.carry_numbers.new.numbers.items) read (c.in_ok-carry_numbers.ensures new.routes.items before);
       one_route = c.forget.ensures.one_route;
-      kept = subst (λ l. AreKept new.routes.items l new.kept.items) read c.forget.ensures.kept;
+      kept = subst (λ l. AreRoutesKept new.routes.items l new.kept.items) read c.forget.ensures.kept;
     }) c.renew.ensures.one_each c.renew.ensures.guards
