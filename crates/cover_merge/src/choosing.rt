@@ -1,7 +1,6 @@
 // Which rows are merged next.
-ghost use Rattle.std.specs.Prelude.{◌≡◌, ◌+◌, ◌<◌, ◌≤◌, ◌^◌, ◌↔◌, ◌==◌, ℕ, suc, [], ◌∷◌, IfOk, OnOk, IsTrue, MatchOption, MatchBool, length, slice_index, slice_index_or, ◌⊎◌};
+ghost use Rattle.std.specs.Prelude.{◌≡◌, ◌<◌, ◌^◌, ◌==◌, ℕ, suc, [], ◌∷◌, IfOk, OnOk, IsTrue, MatchOption, length, slice_index, slice_index_or};
 ghost use Rattle.tern_word.specs.SoundTable.{IsSound};
-ghost use Rattle.tern_word.specs.declared.tables.Row.{Row as ARow};
 ghost use Rattle.cover_merge.specs.Guards.{AreGuards};
 ghost use Rattle.cover_merge.specs.Tried.{IsRefusedAt, AreTried, AreTriedUpTo, IsNextSince, AreNewerFrom};
 ghost use Rattle.cover_merge.specs.declared.guards.Guard.{Guard as AGuard};

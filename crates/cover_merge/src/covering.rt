@@ -1,6 +1,6 @@
 // Covering a table.
 ghost use Rattle.std.specs.Prelude.{◌≡◌, ◌<◌, ◌≤◌, ◌^◌, ◌⊎◌, IfOk, OnOk, MatchOption, length};
-ghost use Rattle.tern_word.specs.SoundTable.{IsOrdered, IsSound, served};
+ghost use Rattle.tern_word.specs.SoundTable.{IsSound, served};
 ghost use Rattle.std.specs.List.Sorted.{IsPermutation};
 ghost use Rattle.cover_merge.specs.Merge.{IsLegal, IsMergeSet, after, merged_block};
 ghost use Rattle.cover_merge.specs.Known.{AreRoutesKept, IsKnown};

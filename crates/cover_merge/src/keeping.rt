@@ -1,6 +1,6 @@
 // What is kept of each route from one merge to the next: how many places its refined set has. The set itself is not kept,
 // so no place changes.
-ghost use Rattle.std.specs.Prelude.{◌≡◌, ◌+◌, ◌<◌, ◌≤◌, ◌⊎◌, ℕ, All, Some, MatchBool, length, slice_index};
+ghost use Rattle.std.specs.Prelude.{◌≡◌, ◌+◌, ◌<◌, ◌≤◌, ◌⊎◌, All, Some, MatchBool, length};
 ghost use Rattle.tern_word.specs.SoundTable.{HoldsItsAliases, Misses};
 ghost use Rattle.cover_merge.specs.Known.{AreStillKept, IsApart, IsMostBefore, MissesAllOf};
 ghost use Rattle.cover_merge.specs.declared.keeping.Kept.{Kept as AKept};

@@ -1,5 +1,5 @@
 // What covering knows of a table from one merge to the next.
-ghost use Rattle.std.specs.Prelude.{◌≡◌, ◌<◌, ◌^◌, IfOk, OnOk, length};
+ghost use Rattle.std.specs.Prelude.{◌<◌, ◌^◌, IfOk, length};
 ghost use Rattle.tern_word.specs.SoundTable.{IsSound};
 ghost use Rattle.cover_merge.specs.Known.{IsKnown};
 ghost use Rattle.cover_merge.specs.Tried.{AreTriedUpTo};
