@@ -146,7 +146,7 @@ def answer_to(word: str, job: Job, program: Optional[str]) -> bytes:
 
 
 def run(job: Job, program: Optional[str] = None) -> Report:
-    """Compiles the job and runs its packets, on as many workers as the job says. Where the job's queues hold fewer copies than there
+    """Compiles the job, on as many workers as it says, and runs its packets. Where the job's queues hold fewer copies than there
     are packets, some may be dropped; `dumps` of the report tells them."""
     return read(answer_to("run", job, program).decode())
 
