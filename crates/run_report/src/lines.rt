@@ -1,9 +1,10 @@
 // The lines of refusals.
-ghost use Rattle.std.specs.Prelude.{◌≡◌, ◌∷◌, [], IfOk, codes, decimal};
+ghost use Rattle.std.specs.Prelude.{◌≡◌, ◌++◌, ◌∷◌, [], IfOk, OnOk, codes, decimal};
 ghost use Rattle.run_report.specs.ReportText.{line};
 ghost use Rattle.run_report.specs.Refusals.{fault_line as line_of_fault, line_of as line_of_refusal};
 
 use crate::causes::Refusal;
+use crate::texts::{put, put_number};
 use job_text::JobFault;
 use spin_base::{Chip, Memory, Seq};
 use std::alloc::Global;
@@ -19,82 +20,86 @@ pub const OUT_OF_MEMORY: &str = "out of memory\n";
 pub fn line_of(alloc: Global, refusal: &Refusal) -> Result<Seq<u8>, Memory>
     ensures { IfOk result (λ line. line ≡ line_of_refusal refusal.now) }
 {
-    match refusal {
-        Refusal::Usage => fixed(
-            alloc,
-            "usage: run, trace, compile, tables, gen N, apps, reinject or check\n",
-        ),
-        Refusal::ReadFault => fixed(alloc, "read fault\n"),
-        Refusal::WriteFault => Ok(Seq::new(alloc)),
-        Refusal::TooLong => fixed(alloc, "bad job: too long\n"),
-        Refusal::NotJson => fixed(alloc, "bad job: not json\n"),
-        Refusal::Job(fault) => fault_line(alloc, fault),
-        Refusal::NoRoom(vertex) => line_about(alloc, "no room:", vertex.as_str()),
-        Refusal::KeysOut(net) => line_about(alloc, "keys out:", net.as_str()),
-        Refusal::CutOff(net, target) => cut_off_line(alloc, net.as_str(), *target),
-        Refusal::TableLong(chip, table) => table_long_line(alloc, *chip, table.kept.len()),
-        Refusal::Memory => fixed(alloc, OUT_OF_MEMORY),
-    }
+    let mut text = Vec::new(alloc);
+    put_refusal(&mut text, refusal)?;
+    Ok(Seq::from_vec(text))
 }
 
-fn fixed(alloc: Global, text: &str) -> Result<Seq<u8>, Memory>
-    ensures { IfOk result (λ line. line ≡ text.now) }
+fn put_refusal(text: &mut Vec<u8>, refusal: &Refusal) -> Result<(), Memory>
+    ensures { OnOk result (text.new.items ≡ text.old.items ++ line_of_refusal refusal.now) }
 {
-    Ok(Seq::from_vec(Vec::from_slice(alloc, text.as_bytes())?))
+    match refusal {
+        Refusal::Usage => put(
+            text,
+            "usage: run, trace, compile, tables, gen N, apps, reinject or check\n",
+        ),
+        Refusal::ReadFault => put(text, "read fault\n"),
+        Refusal::WriteFault => Ok(()),
+        Refusal::TooLong => put(text, "bad job: too long\n"),
+        Refusal::NotJson => put(text, "bad job: not json\n"),
+        Refusal::Job(fault) => put_fault(text, fault),
+        Refusal::NoRoom(vertex) => put_about(text, "no room: ", vertex.as_str()),
+        Refusal::KeysOut(net) => put_about(text, "keys out: ", net.as_str()),
+        Refusal::CutOff(net, target) => put_cut_off(text, net.as_str(), *target),
+        Refusal::TableLong(chip, table) => put_table_long(text, *chip, table.kept.len()),
+        Refusal::Memory => put(text, OUT_OF_MEMORY),
+    }
 }
 
 // The kind of the fault, its path, and the count where there are too many.
-fn fault_line(alloc: Global, fault: &JobFault) -> Result<Seq<u8>, Memory>
-    ensures { IfOk result (λ line. line ≡ line_of_fault fault.now) }
+fn put_fault(text: &mut Vec<u8>, fault: &JobFault) -> Result<(), Memory>
+    ensures { OnOk result (text.new.items ≡ text.old.items ++ line_of_fault fault.now) }
 {
     match fault {
-        JobFault::Shape(path) => line_about(alloc, "bad job: shape", path.as_str()),
-        JobFault::Range(path) => line_about(alloc, "bad job: range", path.as_str()),
-        JobFault::UnknownName(path) => line_about(alloc, "bad job: unknown name", path.as_str()),
-        JobFault::DoubleName(path) => line_about(alloc, "bad job: double name", path.as_str()),
-        JobFault::TooMany(path, count) => too_many_line(alloc, path.as_str(), *count),
-        JobFault::Clash(path) => line_about(alloc, "bad job: clash", path.as_str()),
+        JobFault::Shape(path) => put_about(text, "bad job: shape ", path.as_str()),
+        JobFault::Range(path) => put_about(text, "bad job: range ", path.as_str()),
+        JobFault::UnknownName(path) => put_about(text, "bad job: unknown name ", path.as_str()),
+        JobFault::DoubleName(path) => put_about(text, "bad job: double name ", path.as_str()),
+        JobFault::TooMany(path, count) => put_too_many(text, path.as_str(), *count),
+        JobFault::Clash(path) => put_about(text, "bad job: clash ", path.as_str()),
     }
 }
 
-// What is wrong, and the path or the name of what is wrong.
-fn line_about(alloc: Global, what: &str, name: &str) -> Result<Seq<u8>, Memory>
-    ensures { IfOk result (λ text. text ≡ line (what.now ∷ name.now ∷ [])) }
+// What is wrong, with a space behind it, and the path or the name of what is wrong.
+fn put_about(text: &mut Vec<u8>, what: &str, name: &str) -> Result<(), Memory>
+    ensures { OnOk result (text.new.items
+        ≡ text.old.items ++ (what.now ++ (name.now ++ 10 ∷ []))) }
 {
-    let mut text = String::new(alloc);
-    writeln!(text, "{what} {name}")?;
-    Ok(Seq::from_vec(text.into_bytes()))
+    put(text, what)?;
+    put(text, name)?;
+    put(text, "\n")
 }
 
-fn too_many_line(alloc: Global, path: &str, count: u64) -> Result<Seq<u8>, Memory>
-    ensures { IfOk result (λ text. text
-        ≡ line (codes "bad" ∷ codes "job:" ∷ codes "too" ∷ codes "many" ∷ path.now ∷ decimal count ∷
-        [])) }
+fn put_too_many(text: &mut Vec<u8>, path: &str, count: u64) -> Result<(), Memory>
+    ensures { OnOk result (text.new.items
+        ≡ text.old.items ++ line (codes "bad" ∷ codes "job:" ∷ codes "too" ∷ codes "many"
+        ∷ path.now ∷ decimal count ∷ [])) }
 {
-    let mut text = String::new(alloc);
-    writeln!(text, "bad job: too many {path} {count}")?;
-    Ok(Seq::from_vec(text.into_bytes()))
+    put(text, "bad job: too many ")?;
+    put(text, path)?;
+    put(text, " ")?;
+    put_number(text, count, b'\n')
 }
 
-fn cut_off_line(alloc: Global, net: &str, target: Chip) -> Result<Seq<u8>, Memory>
-    ensures { IfOk result (λ text. text
-        ≡ line (codes "cut" ∷ codes "off:" ∷ net.now ∷ decimal target.x ∷ decimal target.y ∷ [])) }
+fn put_cut_off(text: &mut Vec<u8>, net: &str, target: Chip) -> Result<(), Memory>
+    ensures { OnOk result (text.new.items
+        ≡ text.old.items ++ line (codes "cut" ∷ codes "off:" ∷ net.now ∷ decimal target.x
+        ∷ decimal target.y ∷ [])) }
 {
-    let mut text = String::new(alloc);
-    let x = target.x;
-    let y = target.y;
-    writeln!(text, "cut off: {net} {x} {y}")?;
-    Ok(Seq::from_vec(text.into_bytes()))
+    put(text, "cut off: ")?;
+    put(text, net)?;
+    put(text, " ")?;
+    put_number(text, u64::from(target.x), b' ')?;
+    put_number(text, u64::from(target.y), b'\n')
 }
 
-fn table_long_line(alloc: Global, chip: Chip, rows: usize) -> Result<Seq<u8>, Memory>
-    ensures { IfOk result (λ text. text
-        ≡ line (codes "table" ∷ codes "long:" ∷ decimal chip.x ∷ decimal chip.y ∷ decimal rows ∷
-        [])) }
+fn put_table_long(text: &mut Vec<u8>, chip: Chip, rows: usize) -> Result<(), Memory>
+    ensures { OnOk result (text.new.items
+        ≡ text.old.items ++ line (codes "table" ∷ codes "long:" ∷ decimal chip.x
+        ∷ decimal chip.y ∷ decimal rows ∷ [])) }
 {
-    let mut text = String::new(alloc);
-    let x = chip.x;
-    let y = chip.y;
-    writeln!(text, "table long: {x} {y} {rows}")?;
-    Ok(Seq::from_vec(text.into_bytes()))
+    put(text, "table long: ")?;
+    put_number(text, u64::from(chip.x), b' ')?;
+    put_number(text, u64::from(chip.y), b' ')?;
+    put_number(text, rows as u64, b'\n')
 }

@@ -1,10 +1,10 @@
 // The text of a generated job that was run.
-ghost use Rattle.std.specs.Prelude.{◌≡◌, ◌<◌, ◌^◌, ◌++◌, OnOk, IfOk, length, string_bytes};
+ghost use Rattle.std.specs.Prelude.{◌≡◌, ◌<◌, ◌^◌, ◌++◌, ◌∷◌, [], OnOk, IfOk, decimal, length};
 ghost use Rattle.machine_desc.specs.Live.{live_count_of};
 ghost use Rattle.run_report.specs.ReportText.{number_line, parts_line, rows_line, counts_line, row_total, summary_text};
 
 use crate::reports::Report;
-use crate::texts::row_total;
+use crate::texts::{put, put_number, row_total};
 use app_graph::{Graph, RunPart};
 use machine_desc::Machine;
 use spin_base::{Memory, Seq};
@@ -29,57 +29,57 @@ pub fn summary_text(
     ensures { IfOk result (λ text. text
         ≡ summary_text number machine.now graph.now run.now report.now) }
 {
-    let mut text = String::new(alloc);
-    put_number(&mut text, number)?;
+    let mut text = Vec::new(alloc);
+    put_job(&mut text, number)?;
     put_parts(&mut text, machine, graph, run)?;
-    put_row_total(&mut text, row_total(report.tables.as_slice()))?;
+    put_rows(&mut text, row_total(report.tables.as_slice()))?;
     put_counts(&mut text, report)?;
-    Ok(Seq::from_vec(text.into_bytes()))
+    Ok(Seq::from_vec(text))
 }
 
-fn put_number(text: &mut String, number: u64) -> Result<(), Memory>
-    ensures { OnOk result (string_bytes text.new ≡ string_bytes text.old ++ number_line number) }
+fn put_job(text: &mut Vec<u8>, number: u64) -> Result<(), Memory>
+    ensures { OnOk result (text.new.items ≡ text.old.items ++ number_line number) }
 {
-    writeln!(text, "gen {number}")?;
-    Ok(())
+    put_count(text, "gen ", number, b'\n')
 }
 
 fn put_parts(
-    text: &mut String,
+    text: &mut Vec<u8>,
     machine: &Machine,
     graph: &Graph,
     run: &RunPart,
 ) -> Result<(), Memory>
-    ensures { OnOk result (string_bytes text.new
-        ≡ string_bytes text.old
+    ensures { OnOk result (text.new.items
+        ≡ text.old.items
         ++ parts_line (live_count_of machine.now) (length graph.now.vertices)
         (length graph.now.nets) (length run.now.packets)) }
 {
-    let chips = machine.live_count();
-    let vertices = graph.vertices.len();
-    let nets = graph.nets.len();
-    let packets = run.packets.len();
-    writeln!(
-        text,
-        "chips {chips} vertices {vertices} nets {nets} packets {packets}"
-    )?;
-    Ok(())
+    put_count(text, "chips ", u64::from(machine.live_count()), b' ')?;
+    put_count(text, "vertices ", graph.vertices.len() as u64, b' ')?;
+    put_count(text, "nets ", graph.nets.len() as u64, b' ')?;
+    put_count(text, "packets ", run.packets.len() as u64, b'\n')
 }
 
-fn put_row_total(text: &mut String, rows: u64) -> Result<(), Memory>
-    ensures { OnOk result (string_bytes text.new ≡ string_bytes text.old ++ rows_line rows) }
+// What is counted, how many there are, and a byte after them.
+fn put_count(text: &mut Vec<u8>, what: &str, count: u64, after: u8) -> Result<(), Memory>
+    ensures { OnOk result (text.new.items
+        ≡ text.old.items ++ (what.now ++ (decimal count ++ after ∷ []))) }
 {
-    writeln!(text, "rows {rows}")?;
-    Ok(())
+    put(text, what)?;
+    put_number(text, count, after)
 }
 
-fn put_counts(text: &mut String, report: &Report) -> Result<(), Memory>
-    ensures { OnOk result (string_bytes text.new
-        ≡ string_bytes text.old
+fn put_rows(text: &mut Vec<u8>, rows: u64) -> Result<(), Memory>
+    ensures { OnOk result (text.new.items ≡ text.old.items ++ rows_line rows) }
+{
+    put_count(text, "rows ", rows, b'\n')
+}
+
+fn put_counts(text: &mut Vec<u8>, report: &Report) -> Result<(), Memory>
+    ensures { OnOk result (text.new.items
+        ≡ text.old.items
         ++ counts_line (length report.now.delivered) (length report.now.dumped)) }
 {
-    let delivered = report.delivered.len();
-    let dumped = report.dumped.len();
-    writeln!(text, "delivered {delivered} dumped {dumped}")?;
-    Ok(())
+    put_count(text, "delivered ", report.delivered.len() as u64, b' ')?;
+    put_count(text, "dumped ", report.dumped.len() as u64, b'\n')
 }

@@ -347,7 +347,7 @@ fn put_count(text: &mut Vec<u8>, words: &str, count: u64) -> Result<(), Memory>
 }
 
 // Puts a number at the end, and a byte after it.
-fn put_number(text: &mut Vec<u8>, number: u64, after: u8) -> Result<(), Memory>
+pub(crate) fn put_number(text: &mut Vec<u8>, number: u64, after: u8) -> Result<(), Memory>
     ensures { OnOk result (text.new.items ≡ text.old.items ++ (decimal number ++ after ∷ [])) }
 {
     put_decimal(text, number)?;
@@ -401,7 +401,7 @@ fn put_payload(text: &mut Vec<u8>, payload: Option<u32>) -> Result<(), Memory>
 }
 
 // Puts words at the end.
-fn put(text: &mut Vec<u8>, words: &str) -> Result<(), Memory>
+pub(crate) fn put(text: &mut Vec<u8>, words: &str) -> Result<(), Memory>
     ensures { OnOk result (text.new.items ≡ text.old.items ++ words.now) }
 {
     text.extend_from_slice(words.as_bytes())?;
