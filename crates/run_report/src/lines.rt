@@ -4,7 +4,7 @@ ghost use Rattle.run_report.specs.ReportText.{line};
 ghost use Rattle.run_report.specs.Refusals.{fault_line as line_of_fault, line_of as line_of_refusal};
 
 use crate::causes::Refusal;
-use crate::texts::{put, put_number};
+use crate::texts::{put, put_chip_and_count, put_number};
 use job_text::JobFault;
 use spin_base::{Chip, Memory, Seq};
 use std::alloc::Global;
@@ -99,7 +99,5 @@ fn put_table_long(text: &mut Vec<u8>, chip: Chip, rows: usize) -> Result<(), Mem
         ∷ decimal chip.y ∷ decimal rows ∷ [])) }
 {
     put(text, "table long: ")?;
-    put_number(text, u64::from(chip.x), b' ')?;
-    put_number(text, u64::from(chip.y), b' ')?;
-    put_number(text, rows as u64, b'\n')
+    put_chip_and_count(text, chip, rows as u64)
 }

@@ -157,8 +157,16 @@ fn put_head(text: &mut Vec<u8>, table: &ChipTable) -> Result<(), Memory>
     ensures { OnOk result (text.new.items ≡ text.old.items ++ table_head table.now) }
 {
     put(text, "table ")?;
-    put_chip(text, table.chip)?;
-    put_number(text, table.entries.len() as u64, b'\n')
+    put_chip_and_count(text, table.chip, table.entries.len() as u64)
+}
+
+// A chip, and how many there are of what is told of it, at the end of a line.
+pub(crate) fn put_chip_and_count(text: &mut Vec<u8>, chip: Chip, count: u64) -> Result<(), Memory>
+    ensures { OnOk result (text.new.items ≡ text.old.items
+        ++ (decimal chip.x ++ 32 ∷ (decimal chip.y ++ 32 ∷ (decimal count ++ 10 ∷ [])))) }
+{
+    put_chip(text, chip)?;
+    put_number(text, count, b'\n')
 }
 
 fn put_rows(text: &mut Vec<u8>, entries: &[Entry]) -> Result<(), Memory>
