@@ -13,7 +13,8 @@ use Rattle.app_loads.specs.declared.answers.LoadErr.TheVariants.{Loaded, MemoryO
 use Rattle.app_loads.specs.declared.loaded.LoadedApp.{LoadedApp}
 use Rattle.app_loads.specs.declared.plans.AppPlan.{AppPlan}
 use Rattle.app_loads.specs.Host.{Host, all_ranges, is_loaded, nets_of}
-use Rattle.app_loads.specs.Regions.{rows_region, is_taken}
+use Rattle.app_loads.specs.declared.places.Region.TheVariants.{Rows}
+use Rattle.app_loads.specs.Regions.{is_taken, place_of}
 use Rattle.app_loads.specs.Claims.{claims_of, AreServed, IsRefusalDue}
 
 -- An application's vertex sends the copies of its nets' packets, in the order of the list.
@@ -33,7 +34,7 @@ pub record HasLoaded (old : Host) (number : ℕ) (plan : AppPlan) (new : Host) :
   pub packets : new.packets ≡ old.packets + length plan.packets
   pub mesh : new.mesh ≡ record old.mesh { setup = record old.mesh.setup { tables = new.mesh.setup.tables }; unsent = new.mesh.unsent }
   pub unsent : (v : ℕ) (q : List McCopy) → slice_get old.mesh.unsent v ≡ Some q → slice_get new.mesh.unsent v ≡ Some (q ++ sent_by_vertex old.mesh.setup.spots app v)
-  pub tables : (c : Chip) (k : ℕ) → IsInside old.mesh.setup.machine c → is_taken app.ranges (rows_region old.mesh.setup.machine c) k ≡ false →
+  pub tables : (c : Chip) (k : ℕ) → IsInside old.mesh.setup.machine c → is_taken app.ranges (place_of old.mesh.setup.machine (Rows c)) k ≡ false →
       slice_get (table_at old.mesh.setup.machine new.mesh.setup.tables c) k ≡ slice_get (table_at old.mesh.setup.machine old.mesh.setup.tables c) k
 
 -- why an application is not loaded: its number is loaded, or else the first of its claims that cannot be served is refused

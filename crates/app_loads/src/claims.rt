@@ -13,13 +13,11 @@ ghost use Rattle.app_loads.specs.Regions.{chip_count};
 
 use crate::answers::LoadErr;
 use crate::loaded::Claim;
+use crate::places::{KEYS, Region};
 use crate::plans::{AppNet, AppPlan};
 use machine_desc::{Edge, Machine};
 use spin_base::{Block, Memory, Spot};
 use std::alloc::Global;
-
-// The region of all keys.
-const KEYS: usize = 0;
 
 // How many keys there are: those of 32 bits.
 pub const ALL_KEYS: u64 = 4_294_967_296;
@@ -80,7 +78,7 @@ fn push_memory(
 {
     if bytes > 0 {
         claims.push(Claim {
-            region: 1 + machine.index(spot.chip) as usize,
+            region: Region::Memory(spot.chip).place(machine),
             size: u64::from(bytes),
             align: 1,
             fixed: None,
@@ -205,14 +203,13 @@ fn push_rows(
     ensures { OnOk result (claims.new.items ≡ claims.old.items
         ++ entries_claim machine.now index rows) }
 {
+    let chip = machine.chip_at(index);
     claims.push(Claim {
-        region: 1 + machine.chips() + index as usize,
+        region: Region::Rows(chip).place(machine),
         size: rows,
         align: 1,
         fixed: None,
-        refusal: LoadErr::RowsOut {
-            chip: machine.chip_at(index),
-        },
+        refusal: LoadErr::RowsOut { chip },
     })?;
     Ok(())
 }
