@@ -15,12 +15,13 @@ use Rattle.machine_desc.proofs.Far.{index_below, live_inside}
 use Rattle.machine_desc.proofs.Live.{index_of-chip_of}
 use Rattle.machine_desc.proofs.Sites.{usable_parts}
 use Rattle.key_alloc.specs.KeyBlocks.{size_of}
-use Rattle.app_loads.specs.declared.answers.LoadErr.TheVariants.{Loaded, MemoryOut, KeysOut, RowsOut}
+use Rattle.app_loads.specs.declared.answers.LoadRefusal.TheVariants.{Loaded, MemoryOut, KeysOut, RowsOut}
 use Rattle.app_loads.specs.declared.loaded.Claim.{Claim}
 use Rattle.app_loads.specs.declared.plans.AppNet.{AppNet}
 use Rattle.app_loads.specs.declared.plans.AppPlan.{AppPlan}
 use Rattle.app_loads.specs.Plans.{IsPlan, IsAppNet}
-use Rattle.app_loads.specs.Regions.{chip_count, keys_region, memory_region, rows_region}
+use Rattle.app_loads.specs.declared.places.Region.TheVariants.{Memory, Rows}
+use Rattle.app_loads.specs.Regions.{chip_count, keys_place, place_of}
 use Rattle.app_loads.specs.Claims.{claims_of, memory_claim, fixed_claim, key_claim, row_claim, has_chip, size_for}
 use Rattle.app_loads.specs.Taking.{IsFair}
 use Rattle.app_loads.proofs.Blocks.{block_aligned, block_room}
@@ -123,7 +124,7 @@ module _ (m : Description) (plan : AppPlan) (valid : IsPlan m plan) where
   pub record IsKeyClaim (claim : Claim) (j : ℕ) : Type 0 where
     pub net : AppNet
     pub is : slice_get plan.nets j ≡ Some net
-    pub region : claim.region ≡ keys_region
+    pub region : claim.region ≡ keys_place
     pub e : ℕ
     pub few : e ≤ 32
     pub size : claim.size ≡ 2 ^ e
@@ -141,7 +142,7 @@ module _ (m : Description) (plan : AppPlan) (valid : IsPlan m plan) where
   of_memory : (claim : Claim) → Among claim memory → Facts claim
   of_memory claim a =
       let found = among_gathered (memory_claim m) claim (zip plan.spots plan.sdram) a in
-      let is = unless_zero found.1.1 (record { region = memory_region m found.1.0.chip; size = found.1.1; align = 1; fixed = None; refusal = MemoryOut found.0 }) claim found.3 in
+      let is = unless_zero found.1.1 (record { region = place_of m (Memory found.1.0.chip); size = found.1.1; align = 1; fixed = None; refusal = MemoryOut found.0 }) claim found.3 in
       let usable = All-at (IsUsable m) plan.spots found.0 found.1.0 valid.usable (zip-first_at plan.spots plan.sdram found.0 found.1 found.2) in
       let below = index_below m found.1.0.chip (live_inside m found.1.0.chip (usable_parts m found.1.0 usable).0) in
       subst Facts (sym is.0) (record {
@@ -217,7 +218,7 @@ module _ (m : Description) (plan : AppPlan) (valid : IsPlan m plan) where
       let found = among_flat (row_claim m plan.nets) claim (range_with_len 0 n) a in
       let i : ℕ = found.0 in
       let below = (among_range i 0 n found.1).1 in
-      let is = unless_zero (count_by (has_chip m (chip_of m i)) plan.nets) (record { region = rows_region m (chip_of m i); size = count_by (has_chip m (chip_of m i)) plan.nets; align = 1; fixed = None; refusal = RowsOut (chip_of m i) }) claim found.2 in
+      let is = unless_zero (count_by (has_chip m (chip_of m i)) plan.nets) (record { region = place_of m (Rows (chip_of m i)); size = count_by (has_chip m (chip_of m i)) plan.nets; align = 1; fixed = None; refusal = RowsOut (chip_of m i) }) claim found.2 in
       let index = index_of-chip_of m i in
       subst Facts (sym is.0) (record {
         fair = record { there = omega (arith, below, index); some = is.1; step = omega arith; fixed = tt };
@@ -246,14 +247,14 @@ module _ (m : Description) (plan : AppPlan) (valid : IsPlan m plan) where
     where
       by_fixed : (net : AppNet) → slice_get plan.nets j ≡ Some net → (o : Option Block) → net.fixed ≡ o → (claim : Claim) × Contains (claims_of m plan) claim × (claim.refusal ≡ KeysOut j)
       by_fixed net is (Some block) e =
-          let claim : Claim = record { region = keys_region; size = size_of block; align = 1; fixed = Some block.key; refusal = KeysOut j } in (
+          let claim : Claim = record { region = keys_place; size = size_of block; align = 1; fixed = Some block.key; refusal = KeysOut j } in (
             claim,
             among_contains claim (claims_of m plan) (among_right claim memory (fixed ++ (keys ++ rows)) (among_left claim fixed (keys ++ rows)
                 (gathered_among (λ i (x : AppNet). fixed_claim i x.fixed) claim plan.nets j net is (subst (λ o. Among claim (fixed_claim j o)) (sym e) (inl refl))))),
             refl,
           )
       by_fixed net is None e =
-          let claim : Claim = record { region = keys_region; size = size_for net.keys; align = size_for net.keys; fixed = None; refusal = KeysOut j } in (
+          let claim : Claim = record { region = keys_place; size = size_for net.keys; align = size_for net.keys; fixed = None; refusal = KeysOut j } in (
             claim,
             among_contains claim (claims_of m plan) (among_right claim memory (fixed ++ (keys ++ rows)) (among_right claim fixed (keys ++ rows) (among_left claim keys rows
                 (gathered_among (λ i (x : AppNet). key_claim i x.keys x.fixed) claim plan.nets j net is (subst (λ o. Among claim (key_claim j net.keys o)) (sym e) (inl refl)))))),
@@ -262,10 +263,10 @@ module _ (m : Description) (plan : AppPlan) (valid : IsPlan m plan) where
 
   -- each chip of a tree has a claim
   pub chip_claim : (i : ℕ) → i < n → 0 < count_by (has_chip m (chip_of m i)) plan.nets →
-      (claim : Claim) × Contains (claims_of m plan) claim × (claim.region ≡ rows_region m (chip_of m i)) × (claim.size ≡ count_by (has_chip m (chip_of m i)) plan.nets)
+      (claim : Claim) × Contains (claims_of m plan) claim × (claim.region ≡ place_of m (Rows (chip_of m i))) × (claim.size ≡ count_by (has_chip m (chip_of m i)) plan.nets)
   chip_claim i below some =
       let rows_there : ℕ = count_by (has_chip m (chip_of m i)) plan.nets in
-      let claim : Claim = record { region = rows_region m (chip_of m i); size = rows_there; align = 1; fixed = None; refusal = RowsOut (chip_of m i) } in (
+      let claim : Claim = record { region = place_of m (Rows (chip_of m i)); size = rows_there; align = 1; fixed = None; refusal = RowsOut (chip_of m i) } in (
         claim,
         among_contains claim (claims_of m plan) (among_right claim memory (fixed ++ (keys ++ rows)) (among_right claim fixed (keys ++ rows) (among_right claim keys rows
             (flat_among (row_claim m plan.nets) claim (range_with_len 0 n) i (range_among i 0 n (omega arith) (omega (arith, below))) (in_unless rows_there claim some))))),
@@ -278,7 +279,7 @@ module _ (m : Description) (plan : AppPlan) (valid : IsPlan m plan) where
   row_size claim has i below region = elim (among_either claim memory (fixed ++ (keys ++ rows)) (contains_among claim (claims_of m plan) has)) [
     | inl a ↦ (
         let found = among_gathered (memory_claim m) claim (zip plan.spots plan.sdram) a in
-        let is = unless_zero found.1.1 (record { region = memory_region m found.1.0.chip; size = found.1.1; align = 1; fixed = None; refusal = MemoryOut found.0 }) claim found.3 in
+        let is = unless_zero found.1.1 (record { region = place_of m (Memory found.1.0.chip); size = found.1.1; align = 1; fixed = None; refusal = MemoryOut found.0 }) claim found.3 in
         let usable = All-at (IsUsable m) plan.spots found.0 found.1.0 valid.usable (zip-first_at plan.spots plan.sdram found.0 found.1 found.2) in
         let low = index_below m found.1.0.chip (live_inside m found.1.0.chip (usable_parts m found.1.0 usable).0) in
         let r : claim.region ≡ 1 + index_of m found.1.0.chip = ap (λ (x : Claim). x.region) is.0 in
@@ -290,7 +291,7 @@ module _ (m : Description) (plan : AppPlan) (valid : IsPlan m plan) where
         | inl a ↦ (let k = keys_region_of claim a in absurd (omega (arith, k, region)))
         | inr a ↦ (
             let found = among_flat (row_claim m plan.nets) claim (range_with_len 0 n) a in
-            let is = unless_zero (count_by (has_chip m (chip_of m found.0)) plan.nets) (record { region = rows_region m (chip_of m found.0); size = count_by (has_chip m (chip_of m found.0)) plan.nets; align = 1; fixed = None; refusal = RowsOut (chip_of m found.0) }) claim found.2 in
+            let is = unless_zero (count_by (has_chip m (chip_of m found.0)) plan.nets) (record { region = place_of m (Rows (chip_of m found.0)); size = count_by (has_chip m (chip_of m found.0)) plan.nets; align = 1; fixed = None; refusal = RowsOut (chip_of m found.0) }) claim found.2 in
             let r : claim.region ≡ 1 + (n + index_of m (chip_of m found.0)) = ap (λ (x : Claim). x.region) is.0 in
             let index = index_of-chip_of m found.0 in
             let same : found.0 ≡ i = omega (arith, r, region, index) in

@@ -1,5 +1,5 @@
 -- Entries made unused.
-use Rattle.std.proofs.Common.{◌≡◌, ◌≢◌, ℕ, ◌+◌, ◌-◌, ◌<◌, ◌≤◌, Bool, true, false, ◌||◌, ◌&&◌, ◌==◌, List, take, get_or, length, refl, sym, ap, ◌∙◌, inl, inr, arith, Some}
+use Rattle.std.proofs.Common.{◌≡◌, ◌≢◌, ℕ, ◌+◌, ◌<◌, ◌≤◌, Bool, true, false, ◌||◌, ◌&&◌, ◌==◌, List, take, get_or, length, refl, sym, ap, ◌∙◌, inl, inr, arith, Some}
 use Rattle.std.specs.List.{slice_get, slice_set}
 use Rattle.std.proofs.lemmas.Bool.{cases_Bool, cases_eq, eq-eqb, ne_eqb}
 use Rattle.std.proofs.lemmas.List.{length-set}
@@ -7,12 +7,13 @@ use Rattle.std.proofs.lemmas.Option.{slice_get-get_or}
 use Rattle.spin_base.specs.declared.blocks.Entry.{Entry}
 use Rattle.spin_base.specs.declared.chips.Chip.{Chip}
 use Rattle.machine_desc.specs.Description.{Description}
-use Rattle.machine_desc.specs.Live.{index_of, chip_of, IsInside}
-use Rattle.machine_desc.proofs.Live.{index_of-chip_of, chip_of-inside}
+use Rattle.machine_desc.specs.Live.{index_of, IsInside}
+use Rattle.machine_desc.proofs.Far.{index_below}
 use Rattle.machine_desc.specs.RightTables.{table_at}
 use Rattle.range_store.specs.Regions.{in_range}
 use Rattle.app_loads.specs.declared.loaded.Range.{Range}
-use Rattle.app_loads.specs.Regions.{IsRangeWithin, chip_count, range_has, is_taken, rows_region}
+use Rattle.app_loads.specs.declared.places.Region.TheVariants.{Rows}
+use Rattle.app_loads.specs.Regions.{IsRangeWithin, chip_count, range_has, is_taken, place_of}
 use Rattle.app_loads.specs.Writing.{AreUnused, AreUnusedFrom, CanClear}
 use Rattle.app_loads.proofs.Copying.{changed_here, same_elsewhere, was_here, none_more, taken_more}
 use Rattle.std.proofs.Math.Bool.{or-false}
@@ -46,35 +47,32 @@ module _ (m : Description) (old : List (List Entry)) (ranges : List Range) (can 
   unused_skip none = record {
     all = so_far.all;
     long = so_far.long;
-    cleared = λ c k inside small hit. so_far.cleared c k inside small (before (rows_region m c) k hit (of_other (rows_region m c) k (λ e. absurd (omega (arith, e, none)))));
-    others = λ c k inside free. so_far.others c k inside (none_more ranges i range (rows_region m c) k at free).0;
+    cleared = λ c k inside small hit. so_far.cleared c k inside small (before (place_of m (Rows c)) k hit (of_other (place_of m (Rows c)) k (λ e. let r : range.region ≡ 1 + (n + index_of m c) = e in absurd (omega (arith, r, none)))));
+    others = λ c k inside free. so_far.others c k inside (none_more ranges i range (place_of m (Rows c)) k at free).0;
   }
 
-  module _ (chips : ℕ) (total : chips ≡ n) (some : chips < range.region) where
-    abbrev j : ℕ
-    j = range.region - 1 - chips
+  module _ (c0 : Chip) (inside0 : IsInside m c0) (is_rows : place_of m (Rows c0) ≡ range.region) (j : ℕ) (is_index : j ≡ index_of m c0) where
+    index0 : index_of m c0 ≡ j
+    index0 = sym is_index
 
     pub table_below : j < n
-    table_below = let t = within.there in omega (arith, t, some, total)
+    table_below = let b = index_below m c0 inside0 in omega (arith, b, is_index)
 
-    abbrev c0 : Chip
-    c0 = chip_of m j
-
-    index0 : index_of m c0 ≡ j
-    index0 = index_of-chip_of m j
+    region_at : range.region ≡ 1 + (n + j)
+    region_at = sym is_rows ∙ ap (λ k. 1 + (n + k)) index0
 
     cur_long : length cur ≡ n
     cur_long = so_far.all ∙ can.tables_long
 
-    region_of : (c : Chip) → index_of m c ≡ j → range.region ≡ rows_region m c
-    region_of c same = let s = some in omega (arith, same, s, total)
+    region_of : (c : Chip) → index_of m c ≡ j → range.region ≡ place_of m (Rows c)
+    region_of c same = region_at ∙ ap (λ k. 1 + (n + k)) (sym same)
 
     module _ (dt : List Entry) where
       abbrev T : List Entry
       T = get_or cur j dt
 
       pub T_long : length T ≡ 1024
-      T_long = ap length (sym (was_here m cur cur_long j table_below dt T c0 index0)) ∙ so_far.long c0 (chip_of-inside m j table_below)
+      T_long = ap length (sym (was_here m cur cur_long j table_below dt T c0 index0)) ∙ so_far.long c0 inside0
 
       pub unused_more : (table : List Entry) → AreUnusedFrom range.place range.size T table → AreUnused m (take (i + 1) ranges) old (slice_set cur j table)
       unused_more table done = record {
@@ -86,14 +84,14 @@ module _ (m : Description) (old : List (List Entry)) (ranges : List Range) (can 
         cleared = λ c k inside small hit. elim (cases_eq (index_of m c) j) [
           | inl same ↦ ap (λ l. slice_get l k) (here c same) ∙ elim (cases_Bool (in_range range.place range.size k)) [
             | inl mine ↦ done.cleared k (let l = T_long in omega (arith, l, small)) mine
-            | inr out ↦ done.others k out ∙ (ap (λ l. slice_get l k) (sym (was c same)) ∙ so_far.cleared c k inside small (before (rows_region m c) k hit (out_of c k same out)))
+            | inr out ↦ done.others k out ∙ (ap (λ l. slice_get l k) (sym (was c same)) ∙ so_far.cleared c k inside small (before (place_of m (Rows c)) k hit (out_of c k same out)))
           ]
           | inr other ↦
               ap (λ l. slice_get l k) (elsewhere c inside other)
-              ∙ so_far.cleared c k inside small (before (rows_region m c) k hit (of_other (rows_region m c) k (λ e. other (let s = some in omega (arith, e, s, total)))))
+              ∙ so_far.cleared c k inside small (before (place_of m (Rows c)) k hit (of_other (place_of m (Rows c)) k (λ e. other (let r : range.region ≡ 1 + (n + index_of m c) = e in let s = region_at in omega (arith, r, s)))))
         ];
         others = λ c k inside free.
-            let p = none_more ranges i range (rows_region m c) k at free in
+            let p = none_more ranges i range (place_of m (Rows c)) k at free in
             elim (cases_eq (index_of m c) j) [
               | inl same ↦
                   ap (λ l. slice_get l k) (here c same)
@@ -115,8 +113,8 @@ module _ (m : Description) (old : List (List Entry)) (ranges : List Range) (can 
           and_false true = refl
           and_false false = refl
 
-          out_of : (c : Chip) (k : ℕ) → index_of m c ≡ j → in_range range.place range.size k ≡ false → range_has (rows_region m c) k range ≡ false
-          out_of c k same out = ap (λ q. (range.region == rows_region m c) && q) out ∙ and_false (range.region == rows_region m c)
+          out_of : (c : Chip) (k : ℕ) → index_of m c ≡ j → in_range range.place range.size k ≡ false → range_has (place_of m (Rows c)) k range ≡ false
+          out_of c k same out = ap (λ q. (range.region == place_of m (Rows c)) && q) out ∙ and_false (range.region == place_of m (Rows c))
 
-          in_of : (c : Chip) (k : ℕ) → index_of m c ≡ j → range_has (rows_region m c) k range ≡ false → in_range range.place range.size k ≡ false
-          in_of c k same free = sym (ap (λ q. q && in_range range.place range.size k) (eq-eqb range.region (rows_region m c) (region_of c same))) ∙ free
+          in_of : (c : Chip) (k : ℕ) → index_of m c ≡ j → range_has (place_of m (Rows c)) k range ≡ false → in_range range.place range.size k ≡ false
+          in_of c k same free = sym (ap (λ q. q && in_range range.place range.size k) (eq-eqb range.region (place_of m (Rows c)) (region_of c same))) ∙ free

@@ -1,5 +1,5 @@
 -- Rows put into ranges of entries.
-use Rattle.std.proofs.Common.{◌≡◌, ◌≢◌, ℕ, zero, suc, ◌+◌, ◌-◌, ◌<◌, ◌≤◌, true, false, ◌||◌, ◌&&◌, ◌==◌, List, [], ◌∷◌, ◌++◌, take, drop, get_or, length, map, set, refl, sym, ap, ◌∙◌, subst, inl, inr, ◌⊎◌, arith, Some, append_assoc}
+use Rattle.std.proofs.Common.{◌≡◌, ◌≢◌, ℕ, zero, suc, ◌+◌, ◌<◌, ◌≤◌, true, false, ◌||◌, ◌&&◌, ◌==◌, List, [], ◌∷◌, ◌++◌, take, drop, get_or, length, map, set, refl, sym, ap, ◌∙◌, subst, inl, inr, ◌⊎◌, arith, Some, append_assoc}
 use Rattle.std.specs.List.{slice_get, slice_set, Contains}
 use Rattle.std.proofs.Math.Seq.{drop-cons}
 use Rattle.std.proofs.lemmas.Bool.{cases_Bool, cases_eq, cases_lt, eq-eqb, and_from, or_parts}
@@ -12,16 +12,17 @@ use Rattle.spin_base.proofs.Places.{slice_get-set_same, slice_get-set_other, tak
 use Rattle.spin_base.specs.declared.blocks.Entry.{Entry}
 use Rattle.spin_base.specs.declared.chips.Chip.{Chip}
 use Rattle.machine_desc.specs.Description.{Description}
-use Rattle.machine_desc.specs.Live.{index_of, chip_of, IsInside}
+use Rattle.machine_desc.specs.Live.{index_of, IsInside}
 use Rattle.machine_desc.proofs.Far.{index_below}
-use Rattle.machine_desc.proofs.Live.{index_of-chip_of, chip_of-inside}
 use Rattle.machine_desc.specs.RightTables.{table_at}
 use Rattle.range_store.specs.Regions.{in_range}
 use Rattle.tern_word.specs.declared.tables.Row.{Row}
 use Rattle.tern_word.specs.declared.tables.Table.{Table}
 use Rattle.tern_word.specs.Entries.{entry_of}
 use Rattle.app_loads.specs.declared.loaded.Range.{Range}
-use Rattle.app_loads.specs.Regions.{ShareNoPlace, chip_count, range_has, is_taken, rows_region}
+use Rattle.app_loads.specs.declared.places.Region.{Region}
+use Rattle.app_loads.specs.declared.places.Region.TheVariants.{Keys, Memory, Rows}
+use Rattle.app_loads.specs.Regions.{ShareNoPlace, IsRegion, chip_count, range_has, is_taken, place_of}
 use Rattle.app_loads.specs.Writing.{AreCopied, CanCopy}
 use Rattle.range_store.proofs.HolePlaces.{clash}
 
@@ -145,6 +146,25 @@ module _ (m : Description) (cur : List (List Entry)) (long : length cur ≡ chip
   pub was_here : (c : Chip) → index_of m c ≡ j → table_at m cur c ≡ get_or cur j d
   was_here c same = ap (λ k. get_or cur k []) same ∙ get_or_from_slice_get cur j (get_or cur j d) [] (slice_get-get_or cur j d (omega (arith, below, long)))
 
+-- a table with rows put into it, where these are other rows' list
+pub put_same : (table old : List Entry) (first : ℕ) (rows other : List Row) → table ≡ take first old ++ (map entry_of rows ++ drop (first + length rows) old) → rows ≡ other →
+    table ≡ take first old ++ (map entry_of other ++ drop (first + length other) old)
+put_same table old first rows other is same = subst (λ (l : List Row). table ≡ take first old ++ (map entry_of l ++ drop (first + length l) old)) same is
+
+-- a region that is a chip's entries
+module _ (m : Description) (r : Region) (c : Chip) where
+  pub inside_of : r ≡ Rows c → IsRegion m r → IsInside m c
+  inside_of is its = subst (IsRegion m) is its
+
+  pub rows_at : (k : ℕ) → r ≡ Rows c → place_of m r ≡ k → place_of m (Rows c) ≡ k
+  rows_at k is at = sym (ap (place_of m) is) ∙ at
+
+-- the place of a region of no table is at most as great as there are chips
+pub place_of_no_rows : (m : Description) (r : Region) → ((c : Chip) → r ≡ Rows c → ⊥) → IsRegion m r → (k : ℕ) → place_of m r ≡ k → k ≤ chip_count m
+place_of_no_rows m Keys other is k at = let zero_is : 0 ≡ k = at in omega (arith, zero_is)
+place_of_no_rows m (Memory c) other is k at = let b = index_below m c is in let at' : 1 + index_of m c ≡ k = at in omega (arith, b, at')
+place_of_no_rows m (Rows c) other is k at = absurd (other c refl)
+
 -- ---- rows copied
 
 module _ (m : Description) (old : List (List Entry)) (rows : List Table) (ranges : List Range) (can : CanCopy m old rows ranges) (cur : List (List Entry)) (i : ℕ) (d : Range) (below : i < length ranges)
@@ -158,7 +178,7 @@ module _ (m : Description) (old : List (List Entry)) (rows : List Table) (ranges
   at : slice_get ranges i ≡ Some range
   at = slice_get-get_or ranges i d below
 
-  there : range.region < 1 + (n + n)
+  pub there : range.region < 1 + (n + n)
   there = can.there range (Contains-at ranges i range at)
 
   -- a range of no table changes nothing
@@ -168,29 +188,23 @@ module _ (m : Description) (old : List (List Entry)) (rows : List Table) (ranges
     long = so_far.long;
     copied = λ other has c t inside region is. elim (member_more ranges i range other at has) [
       | inl before ↦ so_far.copied other before c t inside region is
-      | inr same ↦ let r : range.region ≡ rows_region m c = ap (λ (x : Range). x.region) (sym same) ∙ region in absurd (omega (arith, r, none))
+      | inr same ↦ let r : range.region ≡ 1 + (n + index_of m c) = ap (λ (x : Range). x.region) (sym same) ∙ region in absurd (omega (arith, r, none))
     ];
-    others = λ c k inside free. so_far.others c k inside (none_more ranges i range (rows_region m c) k at free).0;
+    others = λ c k inside free. so_far.others c k inside (none_more ranges i range (place_of m (Rows c)) k at free).0;
   }
 
-  module _ (chips : ℕ) (total : chips ≡ n) (some : chips < range.region) where
-    abbrev j : ℕ
-    j = range.region - 1 - chips
+  module _ (c0 : Chip) (inside0 : IsInside m c0) (is_rows : place_of m (Rows c0) ≡ range.region) (j : ℕ) (is_index : j ≡ index_of m c0) where
+    index0 : index_of m c0 ≡ j
+    index0 = sym is_index
 
     pub j_below : j < n
-    j_below = let t = there in omega (arith, t, some, total)
+    j_below = let b = index_below m c0 inside0 in omega (arith, b, is_index)
 
-    abbrev c0 : Chip
-    c0 = chip_of m j
+    region0 : range.region ≡ place_of m (Rows c0)
+    region0 = sym is_rows
 
-    inside0 : IsInside m c0
-    inside0 = chip_of-inside m j j_below
-
-    index0 : index_of m c0 ≡ j
-    index0 = index_of-chip_of m j
-
-    region0 : range.region ≡ rows_region m c0
-    region0 = let e = index0 in let s = some in omega (arith, e, s, total)
+    region_at : range.region ≡ 1 + (n + j)
+    region_at = region0 ∙ ap (λ k. 1 + (n + k)) index0
 
     pub j_in_tables : j < length cur
     j_in_tables = let a = so_far.all in let b = can.tables_long in let c = j_below in omega (arith, a, b, c)
@@ -266,7 +280,7 @@ module _ (m : Description) (old : List (List Entry)) (rows : List Table) (ranges
         cur_at : (c : Chip) → index_of m c ≡ j → table_at m cur c ≡ T
         cur_at = was_here m cur cur_long j j_below dt table
 
-        region_of : (c : Chip) → index_of m c ≡ j → range.region ≡ rows_region m c
+        region_of : (c : Chip) → index_of m c ≡ j → range.region ≡ place_of m (Rows c)
         region_of c same = region0 ∙ ap (λ k. 1 + (n + k)) (index0 ∙ sym same)
 
         -- an earlier range is apart from this one
@@ -302,16 +316,16 @@ module _ (m : Description) (old : List (List Entry)) (rows : List Table) (ranges
             | inr differ ↦ elim (member_more ranges i range other at has) [
               | inl before ↦ ap (λ l. take other.size (drop other.place l)) (else_at c inside differ) ∙ so_far.copied other before c t inside region is_t
               | inr mine ↦
-                  let r : range.region ≡ rows_region m c = ap (λ (x : Range). x.region) (sym mine) ∙ region in
-                  absurd (differ (let s = some in omega (arith, r, s, total)))
+                  let r : range.region ≡ 1 + (n + index_of m c) = ap (λ (x : Range). x.region) (sym mine) ∙ region in
+                  absurd (differ (let s = region_at in omega (arith, r, s)))
             ]
           ];
           others = λ c k inside free.
-              let parts = none_more ranges i range (rows_region m c) k at free in
+              let parts = none_more ranges i range (place_of m (Rows c)) k at free in
               elim (cases_eq (index_of m c) j) [
                 | inl same ↦
                     ap (λ l. slice_get l k) (here_at c same)
-                    ∙ (outside k (out_of (rows_region m c) k (region_of c same) parts.1) ∙ (ap (λ l. slice_get l k) (sym (cur_at c same)) ∙ so_far.others c k inside parts.0))
+                    ∙ (outside k (out_of (place_of m (Rows c)) k (region_of c same) parts.1) ∙ (ap (λ l. slice_get l k) (sym (cur_at c same)) ∙ so_far.others c k inside parts.0))
                 | inr differ ↦ ap (λ l. slice_get l k) (else_at c inside differ) ∙ so_far.others c k inside parts.0
               ];
         }
@@ -319,12 +333,12 @@ module _ (m : Description) (old : List (List Entry)) (rows : List Table) (ranges
             out_of : (region k : ℕ) → range.region ≡ region → range_has region k range ≡ false → in_range range.place range.size k ≡ false
             out_of region k r f = sym (ap (λ q. q && in_range range.place range.size k) (eq-eqb range.region region r)) ∙ f
 
-            apart_here : (c : Chip) (other : Range) → Contains (take i ranges) other → index_of m c ≡ j → other.region ≡ rows_region m c → (k : ℕ) → other.place ≤ k → k < other.place + other.size → in_range range.place range.size k ≡ false
+            apart_here : (c : Chip) (other : Range) → Contains (take i ranges) other → index_of m c ≡ j → other.region ≡ place_of m (Rows c) → (k : ℕ) → other.place ≤ k → k < other.place + other.size → in_range range.place range.size k ≡ false
             apart_here c other before same region k low high = elim (cases_Bool (in_range range.place range.size k)) [
               | inr out ↦ out
               | inl within ↦
-                  absurd (earlier_apart other before (rows_region m c) k (mine_at other (rows_region m c) k region low high)
-                  (and_from (range.region == rows_region m c) (in_range range.place range.size k) (eq-eqb range.region (rows_region m c) (region_of c same)) within))
+                  absurd (earlier_apart other before (place_of m (Rows c)) k (mine_at other (place_of m (Rows c)) k region low high)
+                  (and_from (range.region == place_of m (Rows c)) (in_range range.place range.size k) (eq-eqb range.region (place_of m (Rows c)) (region_of c same)) within))
             ]
 
 pub all_copied : (m : Description) (rows : List Table) (ranges : List Range) (old cur : List (List Entry)) (i : ℕ) → length ranges ≤ i → AreCopied m rows (take i ranges) old cur → AreCopied m rows ranges old cur

@@ -10,7 +10,7 @@ use Rattle.spin_base.specs.Gathered.{gathered}
 use Rattle.spin_base.specs.declared.blocks.Block.{Block}
 use Rattle.machine_desc.specs.Description.{Description, HasSize}
 use Rattle.machine_desc.specs.Live.{chip_of}
-use Rattle.app_loads.specs.declared.answers.LoadErr.TheVariants.{MemoryOut, RowsOut}
+use Rattle.app_loads.specs.declared.answers.LoadRefusal.TheVariants.{MemoryOut, RowsOut}
 use Rattle.app_loads.specs.declared.loaded.Claim.{Claim}
 use Rattle.app_loads.specs.declared.loaded.LoadedApp.{LoadedApp}
 use Rattle.app_loads.specs.declared.plans.AppNet.{AppNet}
@@ -18,7 +18,8 @@ use Rattle.app_loads.specs.declared.plans.AppPlan.{AppPlan}
 use Rattle.app_loads.specs.Applications.{IsLoadedOn, IsRangeFor}
 use Rattle.app_loads.specs.Claims.{claims_of, fixed_claim, has_chip, key_claim, memory_claim, row_claim}
 use Rattle.app_loads.specs.Plans.{IsPlan}
-use Rattle.app_loads.specs.Regions.{chip_count, memory_region, rows_region}
+use Rattle.app_loads.specs.declared.places.Region.TheVariants.{Memory, Rows}
+use Rattle.app_loads.specs.Regions.{chip_count, place_of}
 use Rattle.app_loads.proofs.FewSpots.{few_spots}
 
 one_unless : (b : Bool) (claim : Claim) → length (if b then [] else claim ∷ []) ≤ 1
@@ -60,13 +61,13 @@ module _ (m : Description) (size : HasSize m) (plan : AppPlan) (valid : IsPlan m
       let second = length-append fixed (keys ++ rows) in
       let third = length-append keys rows in
       let of_memory : length memory ≤ length (zip plan.spots plan.sdram) = few_gathered (memory_claim m) (λ j need.
-      one_unless (need.1 == 0) (record { region = memory_region m need.0.chip; size = need.1; align = 1; fixed = None; refusal = MemoryOut j })) 0 (zip plan.spots plan.sdram)
+      one_unless (need.1 == 0) (record { region = place_of m (Memory need.0.chip); size = need.1; align = 1; fixed = None; refusal = MemoryOut j })) 0 (zip plan.spots plan.sdram)
       in
       let of_fixed : length fixed ≤ length plan.nets = few_gathered (λ j (net : AppNet). fixed_claim j net.fixed) (λ j net. one_fixed j net.fixed) 0 plan.nets in
       let of_keys : length keys ≤ length plan.nets = few_gathered (λ j (net : AppNet). key_claim j net.keys net.fixed) (λ j net. one_of_keys j net.keys net.fixed) 0 plan.nets in
       let of_rows : length rows ≤ length (range_with_len 0 (chip_count m)) = few_mapped (row_claim m plan.nets) (λ i.
       let long : ℕ = count_by (has_chip m (chip_of m i)) plan.nets in
-      one_unless (long == 0) (record { region = rows_region m (chip_of m i); size = long; align = 1; fixed = None; refusal = RowsOut (chip_of m i) })) (range_with_len 0 (chip_count m))
+      one_unless (long == 0) (record { region = place_of m (Rows (chip_of m i)); size = long; align = 1; fixed = None; refusal = RowsOut (chip_of m i) })) (range_with_len 0 (chip_count m))
       in
       let pairs = length-zip plan.spots plan.sdram in
       let spots = few_spots m plan.spots valid.different valid.usable in

@@ -29,7 +29,8 @@ use Rattle.app_loads.specs.Host.{Host, all_nets, all_ranges, asked_of, is_spot_t
 use Rattle.app_loads.specs.Inner.{TellsTaken}
 use Rattle.app_loads.specs.Leaving.{NoneUnderWay, mesh_without, others_than}
 use Rattle.app_loads.specs.Marking.{AreSpotsMarked}
-use Rattle.app_loads.specs.Regions.{ShareNoPlace, AreFreeBeside, IsRangeWithin, range_has, is_taken, rows_region}
+use Rattle.app_loads.specs.declared.places.Region.TheVariants.{Rows}
+use Rattle.app_loads.specs.Regions.{ShareNoPlace, AreFreeBeside, IsRangeWithin, range_has, is_taken, place_of}
 use Rattle.app_loads.specs.Removing.{HasLeft}
 use Rattle.app_loads.specs.Taking.{AreTaken, free_places_in, frees}
 use Rattle.app_loads.specs.Unloading.{HasUnloaded, NoneWaits}
@@ -165,7 +166,7 @@ module _ (h : Host) (apps : AreApps h) (number : ℕ) (app : LoadedApp) (in_apps
     disjoint_now = AllPairs-left_in nets_of (λ (a : LoadedApp). not (a.number == number)) (λ (a b : NetPlan). (key : ℕ) → IsKeyOf a.block key → IsKeyOf b.block key → ⊥) h.apps apps.disjoint
 
     abbrev RowsOf : LoadedApp → List (List Entry) → Range → Type 0
-    RowsOf a tables r = (c : Chip) → IsInside m c → r.region ≡ rows_region m c → HasRows m (nets_of a) c (table_at m tables c) r
+    RowsOf a tables r = (c : Chip) → IsInside m c → r.region ≡ place_of m (Rows c) → HasRows m (nets_of a) c (table_at m tables c) r
 
     rows_now : HaveRows m t others
     rows_now = record {
@@ -178,9 +179,9 @@ module _ (h : Host) (apps : AreApps h) (number : ℕ) (app : LoadedApp) (in_apps
             rows = was.rows;
             plain = was.plain;
             entries = same_part (table_at m t c) (table_at m h.mesh.setup.tables c) r.place r.size (left.cleared.long c inside ∙ sym (apps.rows.long c inside))
-                (λ k low high. left.cleared.others c k inside (none_of_mine r (of_other a in_others r in_a) (rows_region m c) k (mine_at r (rows_region m c) k region low high))) ∙ was.entries;
+                (λ k low high. left.cleared.others c k inside (none_of_mine r (of_other a in_others r in_a) (place_of m (Rows c)) k (mine_at r (place_of m (Rows c)) k region low high))) ∙ was.entries;
           }));
-      others = λ c k inside below free. elim (cases_Bool (is_taken app.ranges (rows_region m c) k)) [
+      others = λ c k inside below free. elim (cases_Bool (is_taken app.ranges (place_of m (Rows c)) k)) [
         | inl mine ↦ left.cleared.cleared c k inside below mine
         | inr not_mine ↦ left.cleared.others c k inside not_mine ∙ apps.rows.others c k inside below (nobodys c k free not_mine)
       ];
@@ -189,14 +190,14 @@ module _ (h : Host) (apps : AreApps h) (number : ℕ) (app : LoadedApp) (in_apps
         of_other : (a : LoadedApp) → Contains others a → (r : Range) → Contains a.ranges r → Contains (all_ranges others) r
         of_other a has r in_a = own_item others (AllPairs-filter (λ (x y : LoadedApp). x.number ≢ y.number) (λ (x : LoadedApp). not (x.number == number)) h.apps apps.numbers) a.number a has refl ranges_in r in_a
 
-        nobodys : (c : Chip) (k : ℕ) → is_taken (all_ranges others) (rows_region m c) k ≡ false → is_taken app.ranges (rows_region m c) k ≡ false → is_taken (all_ranges h.apps) (rows_region m c) k ≡ false
-        nobodys c k free not_mine = elim (cases_Bool (is_taken (all_ranges h.apps) (rows_region m c) k)) [
+        nobodys : (c : Chip) (k : ℕ) → is_taken (all_ranges others) (place_of m (Rows c)) k ≡ false → is_taken app.ranges (place_of m (Rows c)) k ≡ false → is_taken (all_ranges h.apps) (place_of m (Rows c)) k ≡ false
+        nobodys c k free not_mine = elim (cases_Bool (is_taken (all_ranges h.apps) (place_of m (Rows c)) k)) [
           | inr no_one ↦ no_one
           | inl some ↦
-              let found = by_taken (all_ranges h.apps) (rows_region m c) k some in
+              let found = by_taken (all_ranges h.apps) (place_of m (Rows c)) k some in
               elim (item_of h.apps apps.numbers number app in_apps its ranges_in found.0 found.1) [
-                | inl own ↦ absurd (false≢true (sym not_mine ∙ taken_by app.ranges (rows_region m c) k found.0 own found.2))
-                | inr other ↦ absurd (false≢true (sym free ∙ taken_by (all_ranges others) (rows_region m c) k found.0 other found.2))
+                | inl own ↦ absurd (false≢true (sym not_mine ∙ taken_by app.ranges (place_of m (Rows c)) k found.0 own found.2))
+                | inr other ↦ absurd (false≢true (sym free ∙ taken_by (all_ranges others) (place_of m (Rows c)) k found.0 other found.2))
               ]
         ]
 

@@ -33,7 +33,9 @@ use Rattle.mesh_core.proofs.Ways.{vertex_at_stands}
 use Rattle.spin_base.proofs.Gathering.{gathered_among}
 use Rattle.mesh_core.specs.Opened.{copy_from, first_copy}
 use Rattle.app_loads.specs.declared.answers.LoadErr.{LoadErr}
-use Rattle.app_loads.specs.declared.answers.LoadErr.TheVariants.{Loaded, MemoryOut, KeysOut, RowsOut, Memory}
+use Rattle.app_loads.specs.declared.answers.LoadErr.TheVariants.{Refused, Memory}
+use Rattle.app_loads.specs.declared.answers.LoadRefusal.{LoadRefusal}
+use Rattle.app_loads.specs.declared.answers.LoadRefusal.TheVariants.{Loaded, MemoryOut, KeysOut, RowsOut}
 use Rattle.app_loads.specs.declared.loaded.LoadedApp.{LoadedApp}
 use Rattle.app_loads.specs.declared.loaded.Range.{Range}
 use Rattle.app_loads.specs.declared.plans.AppNet.{AppNet}
@@ -42,9 +44,10 @@ use Rattle.app_loads.specs.Applications.{AreApps, HasRows, HaveOtherNumbers, Hav
 use Rattle.app_loads.specs.Claims.{AreServed, claims_of, IsRefusalDue}
 use Rattle.app_loads.specs.Host.{Free, Host, all_nets, all_ranges, all_spots, asked_of, is_loaded, is_spot_taken, nets_of}
 use Rattle.app_loads.specs.Joining.{AreSent, IsSent, IsServedApp, IsSettled, NoneUnsent}
-use Rattle.app_loads.specs.Loading.{HasLoaded, IsWhyNotLoaded}
+use Rattle.app_loads.specs.Loading.{HasLoaded, IsLoadRefusal, IsWhyNotLoaded}
 use Rattle.app_loads.specs.Plans.{IsAppNet, IsPlan, IsPacketOfApp, MayLoad}
-use Rattle.app_loads.specs.Regions.{ShareNoPlace, AreFreeBeside, range_has, is_taken, rows_region, region_size, IsRangeWithin}
+use Rattle.app_loads.specs.declared.places.Region.TheVariants.{Rows}
+use Rattle.app_loads.specs.Regions.{ShareNoPlace, AreFreeBeside, range_has, is_taken, region_size, IsRangeWithin, place_of}
 use Rattle.app_loads.specs.Taking.{AreTaken, IsDueAlways, frees}
 use Rattle.app_loads.proofs.AppNets.{apps_disjoint, different_of, facts_at, facts_of, key_of_index, own_disjoint, roots_of, sources_in, targets_in, trees_of, usable_spot}
 use Rattle.app_loads.proofs.ClaimCases.{among_flat, flat_among, facts}
@@ -209,21 +212,21 @@ module _ (h : Host) (apps : AreApps h) (number : ℕ) (plan : AppPlan) (may : Ma
   rows_now : HaveRows m t all
   rows_now = record {
     long = settled.written.long;
-    rows = All-push (λ (a : LoadedApp). All (λ (r : Range). (c : Chip) → IsInside m c → r.region ≡ rows_region m c → HasRows m (nets_of a) c (table_at m t c) r) a.ranges) h.apps app
-        (All-each (λ (a : LoadedApp). All (λ (r : Range). (c : Chip) → IsInside m c → r.region ≡ rows_region m c → HasRows m (nets_of a) c (table_at m t c) r) a.ranges) h.apps (λ a in_apps.
-        All-each (λ (r : Range). (c : Chip) → IsInside m c → r.region ≡ rows_region m c → HasRows m (nets_of a) c (table_at m t c) r) a.ranges (λ r in_a c inside region.
-        let was = All-contains (λ (r' : Range). (d : Chip) → IsInside m d → r'.region ≡ rows_region m d → HasRows m (nets_of a) d (table_at m h.mesh.setup.tables d) r') a.ranges r
-        (All-contains (λ (b : LoadedApp). All (λ (r' : Range). (d : Chip) → IsInside m d → r'.region ≡ rows_region m d → HasRows m (nets_of b) d (table_at m h.mesh.setup.tables d) r') b.ranges) h.apps a apps.rows.rows in_apps) in_a c inside region in
+    rows = All-push (λ (a : LoadedApp). All (λ (r : Range). (c : Chip) → IsInside m c → r.region ≡ place_of m (Rows c) → HasRows m (nets_of a) c (table_at m t c) r) a.ranges) h.apps app
+        (All-each (λ (a : LoadedApp). All (λ (r : Range). (c : Chip) → IsInside m c → r.region ≡ place_of m (Rows c) → HasRows m (nets_of a) c (table_at m t c) r) a.ranges) h.apps (λ a in_apps.
+        All-each (λ (r : Range). (c : Chip) → IsInside m c → r.region ≡ place_of m (Rows c) → HasRows m (nets_of a) c (table_at m t c) r) a.ranges (λ r in_a c inside region.
+        let was = All-contains (λ (r' : Range). (d : Chip) → IsInside m d → r'.region ≡ place_of m (Rows d) → HasRows m (nets_of a) d (table_at m h.mesh.setup.tables d) r') a.ranges r
+        (All-contains (λ (b : LoadedApp). All (λ (r' : Range). (d : Chip) → IsInside m d → r'.region ≡ place_of m (Rows d) → HasRows m (nets_of b) d (table_at m h.mesh.setup.tables d) r') b.ranges) h.apps a apps.rows.rows in_apps) in_a c inside region in
         record {
           rows = was.rows;
           plain = was.plain;
           entries = same_part (table_at m t c) (table_at m h.mesh.setup.tables c) r.place r.size (settled.written.long c inside ∙ sym (apps.rows.long c inside))
-              (λ k low high. settled.written.others c k inside (none_of_others r (in_ranges a in_apps r in_a) (rows_region m c) k (mine_at r (rows_region m c) k region low high))) ∙ was.entries;
+              (λ k low high. settled.written.others c k inside (none_of_others r (in_ranges a in_apps r in_a) (place_of m (Rows c)) k (mine_at r (place_of m (Rows c)) k region low high))) ∙ was.entries;
         })))
-        (All-each (λ (r : Range). (c : Chip) → IsInside m c → r.region ≡ rows_region m c → HasRows m (nets_of app) c (table_at m t c) r) app.ranges (λ r in_app. settled.written.rows r in_app));
+        (All-each (λ (r : Range). (c : Chip) → IsInside m c → r.region ≡ place_of m (Rows c) → HasRows m (nets_of app) c (table_at m t c) r) app.ranges (λ r in_app. settled.written.rows r in_app));
     others = λ c k inside below free.
-        let parts = or_parts (is_taken (all_ranges h.apps) (rows_region m c) k) (is_taken app.ranges (rows_region m c) k)
-        (sym (list_any-append (range_has (rows_region m c) k) (all_ranges h.apps) app.ranges) ∙ (ap (λ l. is_taken l (rows_region m c) k) (sym ranges_are) ∙ free)) in
+        let parts = or_parts (is_taken (all_ranges h.apps) (place_of m (Rows c)) k) (is_taken app.ranges (place_of m (Rows c)) k)
+        (sym (list_any-append (range_has (place_of m (Rows c)) k) (all_ranges h.apps) app.ranges) ∙ (ap (λ l. is_taken l (place_of m (Rows c)) k) (sym ranges_are) ∙ free)) in
         settled.written.others c k inside parts.1 ∙ apps.rows.others c k inside below parts.0;
   }
 
@@ -316,15 +319,14 @@ module _ (h : Host) (apps : AreApps h) (number : ℕ) (plan : AppPlan) (may : Ma
 -- why an application is not loaded
 pub why_not : (h : Host) (apps : AreApps h) (number : ℕ) (plan : AppPlan) (old : List Region) → frees old ≡ h.regions → is_loaded h.apps number ≡ false → IsPlan h.mesh.setup.machine plan → (err : LoadErr) →
     IsDueAlways (claims_of h.mesh.setup.machine plan) old err → IsWhyNotLoaded h number plan err
-why_not h apps number plan old same none valid err (inl memory) = subst (IsWhyNotLoaded h number plan) (sym memory) tt
-why_not h apps number plan old same none valid err (inr due) = by_kind err (due h.mesh.setup.machine (all_ranges h.apps) apps.apart (subst (AreFreeBeside h.mesh.setup.machine (all_ranges h.apps)) (sym same) apps.free))
+why_not h apps number plan old same none valid Memory due = tt
+why_not h apps number plan old same none valid (Refused refusal) due = by_kind refusal (due h.mesh.setup.machine (all_ranges h.apps) apps.apart (subst (AreFreeBeside h.mesh.setup.machine (all_ranges h.apps)) (sym same) apps.free))
   where
-    by_kind : (e : LoadErr) → IsRefusalDue h.mesh.setup.machine (all_ranges h.apps) (claims_of h.mesh.setup.machine plan) e → IsWhyNotLoaded h number plan e
+    by_kind : (e : LoadRefusal) → IsRefusalDue h.mesh.setup.machine (all_ranges h.apps) (claims_of h.mesh.setup.machine plan) e → IsLoadRefusal h number plan e
     by_kind Loaded d = absurd ((facts h.mesh.setup.machine plan valid d.claim (Contains-at (claims_of h.mesh.setup.machine plan) (length d.ranges) d.claim d.is)).due d.refusal_is)
     by_kind (MemoryOut v) d = (none, d)
     by_kind (KeysOut n) d = (none, d)
     by_kind (RowsOut c) d = (none, d)
-    by_kind Memory d = tt
 
 -- the sources of a plan's nets have nothing unsent
 pub none_unsent : (h : Host) (apps : AreApps h) (plan : AppPlan) → MayLoad h plan → NoneUnsent h.mesh.setup.spots plan.nets h.mesh.unsent

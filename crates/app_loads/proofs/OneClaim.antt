@@ -13,22 +13,22 @@ use Rattle.machine_desc.specs.Live.{chip_of}
 use Rattle.tern_word.proofs.BlockLaws.{same_block}
 use Rattle.key_alloc.specs.KeyBlocks.{size_of}
 use Rattle.mesh_core.proofs.Counting.{count_some, counts_one}
-use Rattle.app_loads.specs.declared.answers.LoadErr.{LoadErr}
-use Rattle.app_loads.specs.declared.answers.LoadErr.TheVariants as refusals
+use Rattle.app_loads.specs.declared.answers.LoadRefusal.{LoadRefusal}
+use Rattle.app_loads.specs.declared.answers.LoadRefusal.TheVariants as refusals
 use Rattle.app_loads.specs.declared.loaded.Claim.{Claim}
 use Rattle.app_loads.specs.declared.loaded.Range.{Range}
 use Rattle.app_loads.specs.declared.plans.AppNet.{AppNet}
 use Rattle.app_loads.specs.declared.plans.AppPlan.{AppPlan}
 use Rattle.app_loads.specs.Claims.{claims_of, fixed_claim, has_chip, IsBlockOf, key_claim, memory_claim, row_claim, size_for}
-use Rattle.app_loads.specs.Regions.{chip_count, keys_region, memory_region, rows_region}
+use Rattle.app_loads.specs.declared.places.Region.TheVariants.{Memory, Rows}
+use Rattle.app_loads.specs.Regions.{chip_count, keys_place, place_of}
 
 -- whether a claim is for the keys of a net
-abbrev names_net : ℕ → LoadErr → Bool
+abbrev names_net : ℕ → LoadRefusal → Bool
 names_net n refusals.Loaded = false
 names_net n (refusals.MemoryOut vertex) = false
 names_net n (refusals.KeysOut net) = net == n
 names_net n (refusals.RowsOut chip) = false
-names_net n refusals.Memory = false
 
 module _ (n : ℕ) where
   abbrev is_for : Claim → Bool
@@ -63,10 +63,10 @@ module _ (n : ℕ) where
   -- each net claims its own keys once
   its_own : (j k : ℕ) (o : Option Block) → count_by is_for (fixed_claim j o) + count_by is_for (key_claim j k o) ≡ (if j == n then 1 else 0)
   its_own j k (Some block) =
-      let one = count_by-cons is_for (record { region = keys_region; size = size_of block; align = 1; fixed = Some block.key; refusal = refusals.KeysOut j }) [] in
+      let one = count_by-cons is_for (record { region = keys_place; size = size_of block; align = 1; fixed = Some block.key; refusal = refusals.KeysOut j }) [] in
       omega (arith, one)
   its_own j k None =
-      let one = count_by-cons is_for (record { region = keys_region; size = size_for k; align = size_for k; fixed = None; refusal = refusals.KeysOut j }) [] in
+      let one = count_by-cons is_for (record { region = keys_place; size = size_for k; align = size_for k; fixed = None; refusal = refusals.KeysOut j }) [] in
       omega (arith, one)
 
   none_above : (j : ℕ) (nets : List AppNet) → n < j → count_by is_for (fixed j nets) + count_by is_for (keys j nets) ≡ 0
@@ -110,11 +110,11 @@ module _ (n : ℕ) where
         let second = count_by-append is_for (fixed 0 plan.nets) (keys 0 plan.nets ++ rows) in
         let third = count_by-append is_for (keys 0 plan.nets) rows in
         let none : count_by is_for memory ≡ 0 = none_gathered (memory_claim m) (λ j need.
-        none_unless (need.1 == 0) (record { region = memory_region m need.0.chip; size = need.1; align = 1; fixed = None; refusal = refusals.MemoryOut j }) refl) 0 (zip plan.spots plan.sdram)
+        none_unless (need.1 == 0) (record { region = place_of m (Memory need.0.chip); size = need.1; align = 1; fixed = None; refusal = refusals.MemoryOut j }) refl) 0 (zip plan.spots plan.sdram)
         in
         let no_row : count_by is_for rows ≡ 0 = none_mapped (row_claim m plan.nets) (λ i.
         let long : ℕ = count_by (has_chip m (chip_of m i)) plan.nets in
-        none_unless (long == 0) (record { region = rows_region m (chip_of m i); size = long; align = 1; fixed = None; refusal = refusals.RowsOut (chip_of m i) }) refl) (range_with_len 0 (chip_count m))
+        none_unless (long == 0) (record { region = place_of m (Rows (chip_of m i)); size = long; align = 1; fixed = None; refusal = refusals.RowsOut (chip_of m i) }) refl) (range_with_len 0 (chip_count m))
         in
         let one = at_most_one 0 plan.nets in
         omega (arith, first, second, third, none, no_row, one)

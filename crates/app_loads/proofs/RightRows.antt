@@ -40,7 +40,8 @@ use Rattle.app_loads.specs.declared.loaded.Range.{Range}
 use Rattle.app_loads.specs.Applications.{HasRows, HaveRows, IsLoadedOn, IsRangeFor}
 use Rattle.app_loads.specs.Claims.{claims_of, has_chip}
 use Rattle.app_loads.specs.Host.{all_nets, all_ranges, nets_of}
-use Rattle.app_loads.specs.Regions.{range_has, is_taken, rows_region}
+use Rattle.app_loads.specs.declared.places.Region.TheVariants.{Rows}
+use Rattle.app_loads.specs.Regions.{range_has, is_taken, place_of}
 use Rattle.app_loads.proofs.AppNets.{facts_of, member_at, spot_inside}
 use Rattle.app_loads.proofs.ClaimCases.{among_flat, flat_among, chip_claim}
 use Rattle.app_loads.proofs.Serving.{by_taken}
@@ -119,10 +120,10 @@ module _ (m : Description) (tables : List (List Entry)) (apps : List LoadedApp) 
   loaded_at : (app : LoadedApp) → Contains apps app → IsLoadedOn m app
   loaded_at app has' = All-contains (IsLoadedOn m) apps app loaded has'
 
-  rows_at : (app : LoadedApp) → Contains apps app → (range : Range) → Contains app.ranges range → (c : Chip) → IsInside m c → range.region ≡ rows_region m c → HasRows m (nets_of app) c (table_at m tables c) range
+  rows_at : (app : LoadedApp) → Contains apps app → (range : Range) → Contains app.ranges range → (c : Chip) → IsInside m c → range.region ≡ place_of m (Rows c) → HasRows m (nets_of app) c (table_at m tables c) range
   rows_at app in_apps range in_ranges =
-      All-contains (λ (r : Range). (c : Chip) → IsInside m c → r.region ≡ rows_region m c → HasRows m (nets_of app) c (table_at m tables c) r) app.ranges range
-      (All-contains (λ (a : LoadedApp). All (λ (r : Range). (c : Chip) → IsInside m c → r.region ≡ rows_region m c → HasRows m (nets_of a) c (table_at m tables c) r) a.ranges) apps app rows.rows in_apps) in_ranges
+      All-contains (λ (r : Range). (c : Chip) → IsInside m c → r.region ≡ place_of m (Rows c) → HasRows m (nets_of app) c (table_at m tables c) r) app.ranges range
+      (All-contains (λ (a : LoadedApp). All (λ (r : Range). (c : Chip) → IsInside m c → r.region ≡ place_of m (Rows c) → HasRows m (nets_of a) c (table_at m tables c) r) a.ranges) apps app rows.rows in_apps) in_ranges
 
   module _ (x : NetPlan) (in_x : Contains (all_nets apps) x) (c : Chip) (inside : IsInside m c) (on : HasChip m x c) (key : ℕ) (keyed : IsKeyOf x.block key) (o : Out) (valid : IsOutput o) where
     abbrev T : List Entry
@@ -149,12 +150,12 @@ module _ (m : Description) (tables : List (List Entry)) (apps : List LoadedApp) 
         ap (λ (z : Row). has z.route o) (sym made.2) ∙ (its.outputs o valid ∙ ap (λ (n : NetPlan). is_wanted n.tree.edges n.targets c o) same)
 
     each : (e : Entry) → Contains T e → matches e key ≡ true → has e.route o ≡ w
-    each e has' hit = elim (cases_Bool (is_taken (all_ranges apps) (rows_region m c) k)) [
+    each e has' hit = elim (cases_Bool (is_taken (all_ranges apps) (place_of m (Rows c)) k)) [
       | inl taken ↦ (
-          let owned = by_taken (all_ranges apps) (rows_region m c) k taken in
+          let owned = by_taken (all_ranges apps) (place_of m (Rows c)) k taken in
           let f = among_flat (λ (a : LoadedApp). a.ranges) owned.0 apps (contains_among owned.0 (all_ranges apps) owned.1) in
           let in_apps = among_contains f.0 apps f.1 in
-          let parts = in_parts owned.0 (rows_region m c) k owned.2 in
+          let parts = in_parts owned.0 (place_of m (Rows c)) k owned.2 in
           let r = rows_at f.0 in_apps owned.0 (among_contains owned.0 f.0.ranges f.2) c inside parts.0 in
           let there = part_at T owned.0.place owned.0.size k e parts.1 parts.2 at in
           let row = unmapped entry_of r.rows (k - owned.0.place) e (sym (ap (λ l. slice_get l (k - owned.0.place)) r.entries) ∙ there) in
@@ -192,7 +193,7 @@ module _ (m : Description) (tables : List (List Entry)) (apps : List LoadedApp) 
         let claimed = chip_claim m app.plan load.plan i (index_below m c inside) counted in
         let ranged = AllZip-at_first IsRangeFor (claims_of m app.plan) app.ranges load.ranges claimed.1.0 claimed.0 (member_at (claims_of m app.plan) claimed.0 claimed.1) in
         let range : Range = ranged.0 in
-        let region : range.region ≡ rows_region m c = ranged.2.0 ∙ (claimed.2 ∙ ap (rows_region m) back) in
+        let region : range.region ≡ place_of m (Rows c) = ranged.2.0 ∙ (claimed.2 ∙ ap (λ d. place_of m (Rows d)) back) in
         let r = rows_at app own.in_apps range (Contains-at app.ranges claimed.1.0 range ranged.1) c inside region in
         let j : ℕ = own.in_app.0 in
         let mine = has_original m c (nets_of app) r.plain.originals r.plain.originals_are j x own.in_app.1 (subst (λ (n : NetPlan). HasChip m n c) (sym own.in_app.2) on) in

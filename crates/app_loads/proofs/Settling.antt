@@ -46,7 +46,8 @@ use Rattle.app_loads.specs.Host.{net_with, nets_with, nets_of}
 use Rattle.app_loads.specs.Joining.{AreSent, AreWritten, CanSettle, IsSettled}
 use Rattle.app_loads.specs.Opening.{grid_spots, spot_of, usable_spots}
 use Rattle.app_loads.specs.Plans.{IsAppNet, IsPacketOfApp}
-use Rattle.app_loads.specs.Regions.{chip_count, region_size, rows_region, IsRangeWithin}
+use Rattle.app_loads.specs.declared.places.Region.TheVariants.{Rows}
+use Rattle.app_loads.specs.Regions.{chip_count, region_size, IsRangeWithin, place_of}
 use Rattle.app_loads.specs.Sending.{CanSend, IsPacketOn, IsSendingFrom}
 use Rattle.app_loads.specs.Writing.{AreCopied, CanCopy}
 use Rattle.app_loads.proofs.AppNets.{facts_at, key_of_index, member_at, spot_inside, usable_spot}
@@ -173,7 +174,7 @@ module _ (s : State) (app : LoadedApp) (can : CanSettle s app) (mesh : IsMesh s)
   }
 
   module _ (rows : List Table) (rows_long : length rows ≡ m.width * m.height) (plain : AtEach m rows (IsPlainTable m (nets_of app))) where
-    range_size : (range : Range) → Contains app.ranges range → (c : Chip) → IsInside m c → range.region ≡ rows_region m c → range.size ≡ count_by (has_chip m c) app.plan.nets
+    range_size : (range : Range) → Contains app.ranges range → (c : Chip) → IsInside m c → range.region ≡ place_of m (Rows c) → range.size ≡ count_by (has_chip m c) app.plan.nets
     range_size range has c inside region =
         let claimed = AllZip-at_second IsRangeFor (claims_of m app.plan) app.ranges can.loaded.ranges has.0 range (member_at app.ranges range has) in
         let of_region : claimed.0.region ≡ 1 + (chip_count m + index_of m c) = sym claimed.2.0 ∙ region in

@@ -19,7 +19,8 @@ use Rattle.app_loads.specs.declared.loaded.LoadedApp.{LoadedApp}
 use Rattle.app_loads.specs.declared.loaded.Range.{Range}
 use Rattle.app_loads.specs.declared.loaded.Claim.{Claim}
 use Rattle.app_loads.specs.Host.{Host, all_nets, all_ranges, all_spots, asked_of, nets_of}
-use Rattle.app_loads.specs.Regions.{AreFreeBeside, ShareNoPlace, IsRangeWithin, chip_count, rows_region, is_taken}
+use Rattle.app_loads.specs.declared.places.Region.TheVariants.{Rows}
+use Rattle.app_loads.specs.Regions.{AreFreeBeside, ShareNoPlace, IsRangeWithin, chip_count, is_taken, place_of}
 use Rattle.app_loads.specs.Claims.{claims_of, AreBlocks}
 use Rattle.app_loads.specs.Opening.{usable_spots}
 use Rattle.app_loads.specs.Plans.{IsPlan}
@@ -46,8 +47,8 @@ pub record HasRows (m : Description) (nets : List NetPlan) (c : Chip) (table : L
 -- every entry in no application's range is unused.
 pub record HaveRows (m : Description) (tables : List (List Entry)) (apps : List LoadedApp) : Type 0 where
   pub long : (c : Chip) → IsInside m c → length (table_at m tables c) ≡ ROUTER_ENTRIES
-  pub rows : All (λ (app : LoadedApp). All (λ (range : Range). (c : Chip) → IsInside m c → range.region ≡ rows_region m c → HasRows m (nets_of app) c (table_at m tables c) range) app.ranges) apps
-  pub others : (c : Chip) (k : ℕ) → IsInside m c → k < ROUTER_ENTRIES → is_taken (all_ranges apps) (rows_region m c) k ≡ false → slice_get (table_at m tables c) k ≡ Some unused
+  pub rows : All (λ (app : LoadedApp). All (λ (range : Range). (c : Chip) → IsInside m c → range.region ≡ place_of m (Rows c) → HasRows m (nets_of app) c (table_at m tables c) range) app.ranges) apps
+  pub others : (c : Chip) (k : ℕ) → IsInside m c → k < ROUTER_ENTRIES → is_taken (all_ranges apps) (place_of m (Rows c)) k ≡ false → slice_get (table_at m tables c) k ≡ Some unused
 
 -- the packets of two applications have no number in common
 abbrev pub HaveOtherNumbers : LoadedApp → LoadedApp → Type 0

@@ -13,22 +13,23 @@ use Rattle.machine_desc.specs.Live.{chip_of}
 use Rattle.machine_desc.specs.RoutingTree.{end_of}
 use Rattle.range_store.specs.Regions.{in_range}
 use Rattle.key_alloc.specs.KeyBlocks.{size_of}
-use Rattle.app_loads.specs.declared.answers.LoadErr.{LoadErr}
-use Rattle.app_loads.specs.declared.answers.LoadErr.TheVariants.{MemoryOut, KeysOut, RowsOut}
+use Rattle.app_loads.specs.declared.answers.LoadRefusal.{LoadRefusal}
+use Rattle.app_loads.specs.declared.answers.LoadRefusal.TheVariants.{MemoryOut, KeysOut, RowsOut}
 use Rattle.app_loads.specs.declared.plans.AppNet.{AppNet}
 use Rattle.app_loads.specs.declared.plans.AppPlan.{AppPlan}
 use Rattle.app_loads.specs.declared.loaded.Claim.{Claim}
 use Rattle.app_loads.specs.declared.loaded.Range.{Range}
-use Rattle.app_loads.specs.Regions.{keys_region, memory_region, rows_region, region_size, is_taken, chip_count}
+use Rattle.app_loads.specs.declared.places.Region.TheVariants.{Memory, Rows}
+use Rattle.app_loads.specs.Regions.{region_size, is_taken, chip_count, keys_place, place_of}
 
 -- A vertex asks for its bytes in the memory of its chip, and for nothing where it needs none.
 abbrev pub memory_claim : Description → ℕ → Spot × ℕ → List Claim
 memory_claim m vertex need =
-    if need.1 == 0 then [] else record { region = memory_region m need.0.chip; size = need.1; align = 1; fixed = None; refusal = MemoryOut vertex } ∷ []
+    if need.1 == 0 then [] else record { region = place_of m (Memory need.0.chip); size = need.1; align = 1; fixed = None; refusal = MemoryOut vertex } ∷ []
 
 -- A net with a fixed block asks for that block's keys.
 abbrev pub fixed_claim : ℕ → Option Block → List Claim
-fixed_claim net (Some block) = record { region = keys_region; size = size_of block; align = 1; fixed = Some block.key; refusal = KeysOut net } ∷ []
+fixed_claim net (Some block) = record { region = keys_place; size = size_of block; align = 1; fixed = Some block.key; refusal = KeysOut net } ∷ []
 fixed_claim net None = []
 
 -- the least power of two, up to 2^32, that is not below a number of keys
@@ -38,7 +39,7 @@ size_for keys = unwrap_or (find (nat_le keys) (map (λ n. 2 ^ n) (range_with_len
 -- Any other net asks for so many keys from a multiple of their number on.
 abbrev pub key_claim : ℕ → ℕ → Option Block → List Claim
 key_claim net keys (Some block) = []
-key_claim net keys None = record { region = keys_region; size = size_for keys; align = size_for keys; fixed = None; refusal = KeysOut net } ∷ []
+key_claim net keys None = record { region = keys_place; size = size_for keys; align = size_for keys; fixed = None; refusal = KeysOut net } ∷ []
 
 -- whether a net's tree has the chip
 abbrev pub has_chip : Description → Chip → AppNet → Bool
@@ -47,7 +48,7 @@ has_chip m c net = chip_eq c net.tree.root || list_any (λ (e : Edge). option_ma
 -- So many entries of the chip of an index are asked for, where there are any.
 abbrev pub entries_claim : Description → ℕ → ℕ → List Claim
 entries_claim m i rows =
-    if rows == 0 then [] else record { region = rows_region m (chip_of m i); size = rows; align = 1; fixed = None; refusal = RowsOut (chip_of m i) } ∷ []
+    if rows == 0 then [] else record { region = place_of m (Rows (chip_of m i)); size = rows; align = 1; fixed = None; refusal = RowsOut (chip_of m i) } ∷ []
 
 -- A chip is asked for as many entries as nets have it in their trees.
 abbrev pub row_claim : Description → List AppNet → ℕ → List Claim
@@ -94,7 +95,7 @@ pub record AreServed (m : Description) (taken : List Range) (claims : List Claim
   pub all : length ranges ≡ length claims
 
 -- A refusal is due where it is that of the first claim that cannot be served.
-pub record IsRefusalDue (m : Description) (taken : List Range) (claims : List Claim) (refusal : LoadErr) : Type 0 where
+pub record IsRefusalDue (m : Description) (taken : List Range) (claims : List Claim) (refusal : LoadRefusal) : Type 0 where
   pub ranges : List Range
   pub before : AreFirstServed m taken claims ranges
   pub claim : Claim

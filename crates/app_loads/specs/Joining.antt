@@ -16,14 +16,15 @@ use Rattle.machine_desc.specs.NetsOn.{vertex_at}
 use Rattle.machine_desc.specs.RightTables.{table_at}
 use Rattle.mesh_core.specs.State.{State}
 use Rattle.mesh_core.specs.Opened.{first_copy}
-use Rattle.app_loads.specs.declared.answers.LoadErr.TheVariants.{KeysOut}
+use Rattle.app_loads.specs.declared.answers.LoadRefusal.TheVariants.{KeysOut}
 use Rattle.app_loads.specs.declared.loaded.Claim.{Claim}
 use Rattle.app_loads.specs.declared.loaded.LoadedApp.{LoadedApp}
 use Rattle.app_loads.specs.declared.loaded.Range.{Range}
 use Rattle.app_loads.specs.declared.plans.AppNet.{AppNet}
 use Rattle.app_loads.specs.declared.plans.AppPlan.{AppPlan}
 use Rattle.app_loads.specs.Host.{nets_of}
-use Rattle.app_loads.specs.Regions.{ShareNoPlace, rows_region, is_taken}
+use Rattle.app_loads.specs.declared.places.Region.TheVariants.{Rows}
+use Rattle.app_loads.specs.Regions.{ShareNoPlace, is_taken, place_of}
 use Rattle.app_loads.specs.Claims.{claims_of, AreBlocks, IsBlockOf}
 use Rattle.app_loads.specs.Taking.{AreRegionsOf, AreServedAlways, AreTakenAlways}
 use Rattle.app_loads.specs.Applications.{HasRows, IsLoadedOn}
@@ -68,8 +69,8 @@ AreAllSent spots app before after = AreSent spots app (length app.plan.packets) 
 pub record AreWritten (m : Description) (app : LoadedApp) (old new : List (List Entry)) : Type 0 where
   pub all : length new ≡ length old
   pub long : (c : Chip) → IsInside m c → length (table_at m new c) ≡ ROUTER_ENTRIES
-  pub rows : (range : Range) → Contains app.ranges range → (c : Chip) → IsInside m c → range.region ≡ rows_region m c → HasRows m (nets_of app) c (table_at m new c) range
-  pub others : (c : Chip) (k : ℕ) → IsInside m c → is_taken app.ranges (rows_region m c) k ≡ false → slice_get (table_at m new c) k ≡ slice_get (table_at m old c) k
+  pub rows : (range : Range) → Contains app.ranges range → (c : Chip) → IsInside m c → range.region ≡ place_of m (Rows c) → HasRows m (nets_of app) c (table_at m new c) range
+  pub others : (c : Chip) (k : ℕ) → IsInside m c → is_taken app.ranges (place_of m (Rows c)) k ≡ false → slice_get (table_at m new c) k ≡ slice_get (table_at m old c) k
 
 -- The plan's application has its ranges and blocks.
 pub record IsServedApp (m : Description) (old : List Region) (number first : ℕ) (plan : AppPlan) (app : LoadedApp) (new : List Region) : Type 0 where

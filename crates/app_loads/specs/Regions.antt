@@ -1,31 +1,37 @@
 -- The regions of a machine, and which of their places are taken.
 use Rattle.std.specs.Prelude.{◌≡◌, ℕ, ◌+◌, ◌*◌, ◌<◌, ◌≤◌, ◌==◌, Bool, true, not, ◌&&◌, nat_lt, nat_le, List, ◌∷◌, ◌++◌, length, replicate, Some, slice_get, if◌then◌else◌}
 use Rattle.std.specs.List.{list_any}
-use Rattle.spin_base.specs.declared.chips.Chip.{Chip}
 use Rattle.spin_base.specs.declared.sizes.TheConstants.{ROUTER_ENTRIES}
 use Rattle.machine_desc.specs.Description.{Description}
-use Rattle.machine_desc.specs.Live.{index_of}
+use Rattle.machine_desc.specs.Live.{index_of, IsInside}
 use Rattle.range_store.specs.Regions.{hole_of, is_free, in_range, AreRuns}
 use Rattle.app_loads.specs.declared.loaded.Range.{Range}
+use Rattle.app_loads.specs.declared.places.Region.{Region}
+use Rattle.app_loads.specs.declared.places.Region.TheVariants.{Keys, Memory, Rows}
 use Rattle.app_loads.specs.Host.{Free}
 
--- Region 0 has the keys of the machine. Then come, by the chips' indices, the shared memory of each chip, and the entries of each
--- chip's table (this project's own).
+-- The regions stand in a list: first the keys of the machine, then, by the chips' indices, the shared memory of each chip, and the
+-- entries of each chip's table (this project's own).
 abbrev pub chip_count : Description → ℕ
 chip_count m = m.width * m.height
 
-abbrev pub keys_region : ℕ
-keys_region = 0
+abbrev pub keys_place : ℕ
+keys_place = 0
 
-abbrev pub memory_region : Description → Chip → ℕ
-memory_region m c = 1 + index_of m c
+abbrev pub place_of : Description → Region → ℕ
+place_of m Keys = keys_place
+place_of m (Memory c) = 1 + index_of m c
+place_of m (Rows c) = 1 + (chip_count m + index_of m c)
 
-abbrev pub rows_region : Description → Chip → ℕ
-rows_region m c = 1 + (chip_count m + index_of m c)
+-- a region of the machine: its chip, if it is one of a chip, is inside the grid
+abbrev pub IsRegion : Description → Region → Type 0
+IsRegion m Keys = Unit {0}
+IsRegion m (Memory c) = IsInside m c
+IsRegion m (Rows c) = IsInside m c
 
 -- There are 2^32 keys, each chip has the machine's bytes of memory, and each table has 1,024 entries (SpiNNaker datasheet).
 abbrev pub region_size : Description → ℕ → ℕ
-region_size m region = if region == 0 then 4294967296 else (if nat_le region (chip_count m) then m.sdram else ROUTER_ENTRIES)
+region_size m region = if region == keys_place then 4294967296 else (if nat_le region (chip_count m) then m.sdram else ROUTER_ENTRIES)
 
 -- a region without a place that is taken
 abbrev pub all_free : ℕ → Free

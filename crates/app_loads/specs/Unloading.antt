@@ -11,7 +11,8 @@ use Rattle.app_loads.specs.declared.answers.UnloadErr.TheVariants.{NotLoaded, Wa
 use Rattle.app_loads.specs.declared.loaded.LoadedApp.{LoadedApp}
 use Rattle.app_loads.specs.Host.{Host, is_loaded}
 use Rattle.app_loads.specs.Leaving.{is_delivery_of, is_record_of, others_than, mesh_without, WaitsIn}
-use Rattle.app_loads.specs.Regions.{rows_region, is_taken}
+use Rattle.app_loads.specs.declared.places.Region.TheVariants.{Rows}
+use Rattle.app_loads.specs.Regions.{is_taken, place_of}
 
 -- The host has the application of that number no more. Its deliveries and dump records left the mesh and were handed back, its
 -- entries are unused, and nothing else has changed.
@@ -24,9 +25,9 @@ pub record HasUnloaded (old : Host) (number : ℕ) (ended : Ended) (new : Host) 
   pub dumped : ended.dumped ≡ filter (is_record_of app) old.mesh.dumped
   pub packets : new.packets ≡ old.packets
   pub mesh : new.mesh ≡ mesh_without app new.mesh.setup.tables old.mesh
-  pub entries : (c : Chip) (k : ℕ) → IsInside old.mesh.setup.machine c → k < ROUTER_ENTRIES → is_taken app.ranges (rows_region old.mesh.setup.machine c) k ≡ true →
+  pub entries : (c : Chip) (k : ℕ) → IsInside old.mesh.setup.machine c → k < ROUTER_ENTRIES → is_taken app.ranges (place_of old.mesh.setup.machine (Rows c)) k ≡ true →
       slice_get (table_at old.mesh.setup.machine new.mesh.setup.tables c) k ≡ Some unused
-  pub tables : (c : Chip) (k : ℕ) → IsInside old.mesh.setup.machine c → is_taken app.ranges (rows_region old.mesh.setup.machine c) k ≡ false →
+  pub tables : (c : Chip) (k : ℕ) → IsInside old.mesh.setup.machine c → is_taken app.ranges (place_of old.mesh.setup.machine (Rows c)) k ≡ false →
       slice_get (table_at old.mesh.setup.machine new.mesh.setup.tables c) k ≡ slice_get (table_at old.mesh.setup.machine old.mesh.setup.tables c) k
 
 -- a copy of one of the application's packets, of this number, is unsent or waits

@@ -11,12 +11,13 @@ use Rattle.tcam_find.specs.Memory.{unused}
 use Rattle.tern_word.specs.Entries.{entry_of}
 use Rattle.tern_word.specs.declared.tables.Table.{Table}
 use Rattle.app_loads.specs.declared.loaded.Range.{Range}
-use Rattle.app_loads.specs.Regions.{ShareNoPlace, IsRangeWithin, chip_count, is_taken, rows_region}
+use Rattle.app_loads.specs.declared.places.Region.TheVariants.{Rows}
+use Rattle.app_loads.specs.Regions.{ShareNoPlace, IsRangeWithin, chip_count, is_taken, place_of}
 
 -- the range lies within the chip's table, and has as many places as the chip has rows
 abbrev pub FitsTable : Description → List Table → Range → Type 0
 FitsTable m rows range =
-    (c : Chip) (t : Table) → IsInside m c → range.region ≡ rows_region m c → slice_get rows (index_of m c) ≡ Some t →
+    (c : Chip) (t : Table) → IsInside m c → range.region ≡ place_of m (Rows c) → slice_get rows (index_of m c) ≡ Some t →
     (range.place + length t.rows ≤ ROUTER_ENTRIES) × (range.size ≡ length t.rows)
 
 -- there are a table and rows for each chip, and the ranges share no entry and fit
@@ -32,9 +33,9 @@ pub record CanCopy (m : Description) (tables : List (List Entry)) (rows : List T
 pub record AreCopied (m : Description) (rows : List Table) (ranges : List Range) (old new : List (List Entry)) : Type 0 where
   pub all : length new ≡ length old
   pub long : (c : Chip) → IsInside m c → length (table_at m new c) ≡ ROUTER_ENTRIES
-  pub copied : (range : Range) → Contains ranges range → (c : Chip) (t : Table) → IsInside m c → range.region ≡ rows_region m c → slice_get rows (index_of m c) ≡ Some t →
+  pub copied : (range : Range) → Contains ranges range → (c : Chip) (t : Table) → IsInside m c → range.region ≡ place_of m (Rows c) → slice_get rows (index_of m c) ≡ Some t →
       take range.size (drop range.place (table_at m new c)) ≡ map entry_of t.rows
-  pub others : (c : Chip) (k : ℕ) → IsInside m c → is_taken ranges (rows_region m c) k ≡ false → slice_get (table_at m new c) k ≡ slice_get (table_at m old c) k
+  pub others : (c : Chip) (k : ℕ) → IsInside m c → is_taken ranges (place_of m (Rows c)) k ≡ false → slice_get (table_at m new c) k ≡ slice_get (table_at m old c) k
 
 -- so many entries from a place on are unused, and all others as they were
 pub record AreUnusedFrom (first count : ℕ) (old new : List Entry) : Type 0 where
@@ -52,5 +53,5 @@ pub record CanClear (m : Description) (tables : List (List Entry)) (ranges : Lis
 pub record AreUnused (m : Description) (ranges : List Range) (old new : List (List Entry)) : Type 0 where
   pub all : length new ≡ length old
   pub long : (c : Chip) → IsInside m c → length (table_at m new c) ≡ ROUTER_ENTRIES
-  pub cleared : (c : Chip) (k : ℕ) → IsInside m c → k < ROUTER_ENTRIES → is_taken ranges (rows_region m c) k ≡ true → slice_get (table_at m new c) k ≡ Some unused
-  pub others : (c : Chip) (k : ℕ) → IsInside m c → is_taken ranges (rows_region m c) k ≡ false → slice_get (table_at m new c) k ≡ slice_get (table_at m old c) k
+  pub cleared : (c : Chip) (k : ℕ) → IsInside m c → k < ROUTER_ENTRIES → is_taken ranges (place_of m (Rows c)) k ≡ true → slice_get (table_at m new c) k ≡ Some unused
+  pub others : (c : Chip) (k : ℕ) → IsInside m c → is_taken ranges (place_of m (Rows c)) k ≡ false → slice_get (table_at m new c) k ≡ slice_get (table_at m old c) k

@@ -11,15 +11,13 @@ ghost use Rattle.app_loads.specs.Counting.{HasTree, IsKeyCount, IsRunEnd, end_pl
 ghost use Rattle.app_loads.specs.Plans.{IsPlan, IsAppNet};
 ghost use Rattle.app_loads.specs.Regions.{chip_count};
 
-use crate::answers::LoadErr;
+use crate::answers::LoadRefusal;
 use crate::loaded::Claim;
+use crate::places::{KEYS, Region};
 use crate::plans::{AppNet, AppPlan};
 use machine_desc::{Edge, Machine};
 use spin_base::{Block, Memory, Spot};
 use std::alloc::Global;
-
-// The region of all keys.
-const KEYS: usize = 0;
 
 // How many keys there are: those of 32 bits.
 pub const ALL_KEYS: u64 = 4_294_967_296;
@@ -80,11 +78,11 @@ fn push_memory(
 {
     if bytes > 0 {
         claims.push(Claim {
-            region: 1 + machine.index(spot.chip) as usize,
+            region: Region::Memory(spot.chip).place(machine),
             size: u64::from(bytes),
             align: 1,
             fixed: None,
-            refusal: LoadErr::MemoryOut { vertex },
+            refusal: LoadRefusal::MemoryOut { vertex },
         })?;
     }
     Ok(())
@@ -112,7 +110,7 @@ fn push_fixed(claims: &mut Vec<Claim>, net: u32, fixed: Option<Block>) -> Result
             size: ALL_KEYS - u64::from(block.mask),
             align: 1,
             fixed: Some(u64::from(block.key)),
-            refusal: LoadErr::KeysOut { net },
+            refusal: LoadRefusal::KeysOut { net },
         })?;
     }
     Ok(())
@@ -148,7 +146,7 @@ fn push_keys(
             size,
             align: size,
             fixed: None,
-            refusal: LoadErr::KeysOut { net },
+            refusal: LoadRefusal::KeysOut { net },
         })?;
     }
     Ok(())
@@ -205,14 +203,13 @@ fn push_rows(
     ensures { OnOk result (claims.new.items ≡ claims.old.items
         ++ entries_claim machine.now index rows) }
 {
+    let chip = machine.chip_at(index);
     claims.push(Claim {
-        region: 1 + machine.chips() + index as usize,
+        region: Region::Rows(chip).place(machine),
         size: rows,
         align: 1,
         fixed: None,
-        refusal: LoadErr::RowsOut {
-            chip: machine.chip_at(index),
-        },
+        refusal: LoadRefusal::RowsOut { chip },
     })?;
     Ok(())
 }

@@ -15,6 +15,7 @@ mod leaving;
 mod loaded;
 mod loads;
 mod opening;
+mod places;
 mod plans;
 mod regions;
 mod rows;
@@ -22,7 +23,8 @@ mod sends;
 mod steps;
 mod unloads;
 
-pub use answers::{Ended, LoadErr, UnloadErr};
+pub use answers::{Ended, LoadErr, LoadRefusal, UnloadErr};
 pub use apps::Apps;
 pub use loaded::{Claim, LoadedApp, Range};
+pub use places::Region;
 pub use plans::{AppNet, AppPlan};

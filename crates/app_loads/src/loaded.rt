@@ -1,10 +1,10 @@
 // An application that is loaded, and what it holds.
-use crate::answers::LoadErr;
+use crate::answers::LoadRefusal;
 use crate::plans::AppPlan;
 use spin_base::{Block, Seq};
 
-/// So many places of a region, from a place on. Region 0 has the keys of the machine; region 1 + i the shared memory of the chip of
-/// index i; and region 1 + n + i, on a machine of n chips, the entries of that chip's table.
+/// So many places of a region, from a place on. The region is named by where it stands in the list of all regions
+/// (`Region::place`).
 #[derive(Clone, Copy)]
 pub struct Range {
     pub region: usize,
@@ -13,14 +13,14 @@ pub struct Range {
 }
 
 /// What a plan asks a region for: so many places from a multiple of `align` on, or from the fixed place on; and the refusal where
-/// the region has none.
+/// the region has none. The region is named as in a range.
 #[derive(Clone, Copy)]
 pub struct Claim {
     pub region: usize,
     pub size: u64,
     pub align: u64,
     pub fixed: Option<u64>,
-    pub refusal: LoadErr,
+    pub refusal: LoadRefusal,
 }
 
 /// An application that is loaded: its number and plan, the number of its first packet, the range that each claim of its plan got,

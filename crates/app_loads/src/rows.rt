@@ -9,6 +9,7 @@ ghost use Rattle.app_loads.specs.Host.{net_with, nets_of};
 ghost use Rattle.app_loads.specs.Writing.{AreCopied, AreUnused, AreUnusedFrom, CanClear, CanCopy};
 
 use crate::loaded::{LoadedApp, Range};
+use crate::places::Region;
 use crate::plans::AppNet;
 use machine_desc::{Machine, NetPlan};
 use net_tables::plain_tables;
@@ -65,10 +66,9 @@ pub fn write_rows(machine: &Machine, tables: &mut [Tcam], rows: &[Table], ranges
     requires { CanCopy machine.now tables.old rows.now ranges.now }
     ensures { AreCopied machine.now rows.now ranges.now tables.old tables.new }
 {
-    let chips = machine.chips();
     for range in ranges {
-        if range.region > chips {
-            let at = range.region - 1 - chips;
+        if let Region::Rows(chip) = Region::at(machine, range.region) {
+            let at = machine.index(chip) as usize;
             put_rows(
                 &mut tables[at],
                 range.place as u32,
@@ -95,11 +95,10 @@ pub fn clear_rows(machine: &Machine, tables: &mut [Tcam], ranges: &[Range])
     requires { CanClear machine.now tables.old ranges.now }
     ensures { AreUnused machine.now ranges.now tables.old tables.new }
 {
-    let chips = machine.chips();
     for range in ranges {
-        if range.region > chips {
+        if let Region::Rows(chip) = Region::at(machine, range.region) {
             clear_entries(
-                &mut tables[range.region - 1 - chips],
+                &mut tables[machine.index(chip) as usize],
                 range.place as u32,
                 range.size as u32,
             );
