@@ -6,7 +6,7 @@ use Rattle.spin_base.proofs.Members.{Among}
 use Rattle.spin_base.specs.declared.copies.McCopy.{McCopy}
 use Rattle.spin_base.specs.declared.copies.DumpRec.{DumpRec}
 use Rattle.mesh_core.specs.State.{Hand, Setup, State, IsMesh}
-use Rattle.mesh_core.specs.Trail.{Mark}
+use Rattle.mesh_core.specs.Trail.{Mark, IsUnderWayAt}
 use Rattle.mesh_core.specs.Ledger.{marks_of, MeetsLedgerFor}
 use Rattle.mesh_core.specs.Expected.{IsAtRest, NothingWaits}
 use Rattle.mesh_core.proofs.Fixed.{setup_after}
@@ -15,7 +15,7 @@ use Rattle.app_loads.specs.declared.loaded.LoadedApp.{LoadedApp}
 use Rattle.app_loads.specs.Alike.{AreAlike, IsQuiet}
 use Rattle.app_loads.specs.Applications.{AreApps}
 use Rattle.app_loads.specs.Host.{Host, all_nets, asked_of}
-use Rattle.app_loads.specs.Leaving.{held_packets, is_delivery_of, is_packet_of, is_record_of, IsUnderWayAt, mesh_without, NoneUnderWay, others_than, packet_numbers_of, WaitsIn}
+use Rattle.app_loads.specs.Leaving.{held_packets, is_delivery_of, is_packet_of, is_record_of, mesh_without, NoneUnderWay, others_than, packet_numbers_of, WaitsIn}
 use Rattle.app_loads.specs.Opening.{usable_spots}
 use Rattle.app_loads.specs.Running.{HasMovedMesh}
 use Rattle.app_loads.specs.Unloading.{HasUnloaded}

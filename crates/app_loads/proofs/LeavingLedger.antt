@@ -20,7 +20,7 @@ use Rattle.machine_desc.specs.declared.nets.NetPlan.{NetPlan}
 use Rattle.machine_desc.specs.RightTables.{IsKeyOf}
 use Rattle.machine_desc.specs.NetsOn.{AreNetsOn, IsWayOn}
 use Rattle.mesh_core.specs.State.{State, Hand}
-use Rattle.mesh_core.specs.Trail.{Station, unsent, in_queue, in_hand, at_core, delivered, dumped, Mark, is_on_trail, is_packet_on_trail}
+use Rattle.mesh_core.specs.Trail.{Station, unsent, in_queue, in_hand, at_core, delivered, dumped, Mark, is_on_trail, is_packet_on_trail, IsUnderWayAt}
 use Rattle.mesh_core.specs.Ledger.{marks_of, marks_at, hand_marks, port_of, unsent_marks, input_marks, all_hand_marks, core_marks, delivered_marks, dumped_marks, Asked, label_of, MeetsLedgerFor}
 use Rattle.mesh_core.specs.Opened.{asked_at, asked_by}
 use Rattle.mesh_core.proofs.AskedPackets.{asked_parts, net_in_list}
@@ -29,7 +29,7 @@ use Rattle.mesh_core.proofs.Moves.{mark}
 use Rattle.app_loads.specs.declared.loaded.LoadedApp.{LoadedApp}
 use Rattle.app_loads.specs.Host.{Host, all_nets, asked_of, asked_of_app, either, nets_of}
 use Rattle.app_loads.specs.Applications.{AreApps, HaveOtherNumbers}
-use Rattle.app_loads.specs.Leaving.{is_packet_of, IsUnderWayAt, NoneUnderWay, others_than, mesh_without}
+use Rattle.app_loads.specs.Leaving.{is_packet_of, NoneUnderWay, others_than, mesh_without}
 use Rattle.app_loads.proofs.Ledgers.{own_net}
 use Rattle.app_loads.proofs.LeavingLists.{after_cores, after_hands, after_inputs, after_unsent, filter_stays, filter_of_map, count_of_filter, either_pair}
 use Rattle.app_loads.proofs.Others.{All-left_in, AllPairs-left_in, Contains-left_in}

@@ -7,22 +7,13 @@ use Rattle.spin_base.specs.declared.copies.DumpRec.{DumpRec}
 use Rattle.spin_base.specs.declared.copies.McCopy.{McCopy}
 use Rattle.mesh_core.specs.State.{State, Hand}
 use Rattle.mesh_core.specs.Ledger.{marks_of}
-use Rattle.mesh_core.specs.Trail.{Station, unsent, in_queue, in_hand, at_core, delivered, dumped, Mark}
+use Rattle.mesh_core.specs.Trail.{Mark, IsUnderWayAt}
 use Rattle.app_loads.specs.declared.leaving.Parted.{Parted}
 use Rattle.app_loads.specs.declared.loaded.LoadedApp.{LoadedApp}
 
 -- whether a packet number is one of the application's
 abbrev pub is_packet_of : LoadedApp → ℕ → Bool
 is_packet_of app i = nat_le app.first i && nat_lt i (app.first + length app.plan.packets)
-
--- a copy at this station is unsent, or waits
-abbrev pub IsUnderWayAt : Station → Type 0
-IsUnderWayAt (unsent v) = Unit {0}
-IsUnderWayAt (in_queue c port) = Unit {0}
-IsUnderWayAt (in_hand c o) = Unit {0}
-IsUnderWayAt (at_core v) = Unit {0}
-IsUnderWayAt (delivered v) = ⊥
-IsUnderWayAt (dumped c o) = ⊥
 
 -- a copy of one of the application's packets, of this number, is unsent or waits in the mesh
 abbrev pub WaitsIn : State → LoadedApp → ℕ → Type 0

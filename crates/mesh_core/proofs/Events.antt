@@ -1,4 +1,4 @@
--- Each event that is enabled is one move of marks.
+-- Each event that is enabled is one move of a copy that is under way.
 use Rattle.std.proofs.Common.{◌≡◌, ℕ, List, [], ◌∷◌, ◌++◌, map, Bool, true, false, ◌&&◌, not, if◌then◌else◌, Option, Some, None, refl, ap, sym, ◌∙◌, subst, inl, inr, ◌||◌, append-nil}
 use Rattle.std.specs.List.{slice_get, slice_set, slice_index_or, list_any}
 use Rattle.std.proofs.lemmas.Option.{slice_get_within, get_or_from_slice_get}
@@ -23,10 +23,14 @@ use Rattle.machine_desc.proofs.Far.{live_ends, live_inside, far_inside}
 use Rattle.machine_desc.proofs.Sites.{site_parts}
 use Rattle.mesh_core.specs.State.{State, Hand, IsMesh, Queue, input, core, behind, behind_link, core_queue_of, queue_at, vertex_behind}
 use Rattle.mesh_core.specs.Step.{step_of, inject_of, take_of, send_of, dump_of, collect_of, has_room, has_room_behind, push_behind, push_at, in_hand as held_for, outs_without, serves, after_serving, outputs}
-use Rattle.mesh_core.specs.Trail.{unsent, in_queue, in_hand, at_core, delivered, dumped, Mark}
+use Rattle.mesh_core.specs.Trail.{unsent, in_queue, in_hand, at_core, delivered, dumped, Mark, IsUnderWayAt}
 use Rattle.mesh_core.specs.Ledger.{marks_of, hand_marks}
 use Rattle.mesh_core.proofs.Fixed.{push_behind_leaves}
 use Rattle.mesh_core.proofs.Moves.{mark, Crosses, Exchange, unsent_out, input_out, input_in, hand_out, hand_in, core_out, core_in, delivered_in, dumped_in, hand_marks-held}
+
+-- what an event that is enabled does
+abbrev pub MovesOn : State → State → Type 0
+MovesOn s t = (x : Exchange s t) × IsUnderWayAt x.leaves.station
 
 -- ---- a queue with room is there
 
@@ -70,24 +74,27 @@ inject_by_room : (s : State) (v : ℕ) (spot : Spot) (k : McCopy) (rest : List M
     slice_get s.setup.spots v ≡ Some spot → slice_get s.unsent v ≡ Some (k ∷ rest) →
     (room : Bool) → has_room_behind s (input (queue_at s.setup.machine spot.chip Local)) ≡ room → (t : State) →
     (if room then Some (push_behind (record s { unsent = slice_set s.unsent v rest }) (input (queue_at s.setup.machine spot.chip Local)) k) else None) ≡ Some t →
-    Exchange s t
+    MovesOn s t
 inject_by_room s v spot k rest inside is_spot is_unsent false full t e = cc
 inject_by_room s v spot k rest inside is_spot is_unsent true room t e =
     let between : State = record s { unsent = slice_set s.unsent v rest } in
     let next : State = push_behind between (input (queue_at s.setup.machine spot.chip Local)) k in
     let same : next ≡ t = cc in
-    subst (λ (u : State). Exchange s u) same (record {
-      leaves = mark k (unsent v);
-      come = mark k (in_queue spot.chip Local) ∷ [];
-      rest = marks_of between;
-      out = unsent_out s v k rest is_unsent;
-      put = arrives_at_input between spot.chip Local inside k room;
-      move = (spot, is_spot, refl);
-      setup = refl;
-    })
+    subst (λ (u : State). MovesOn s u) same (
+      record {
+        leaves = mark k (unsent v);
+        come = mark k (in_queue spot.chip Local) ∷ [];
+        rest = marks_of between;
+        out = unsent_out s v k rest is_unsent;
+        put = arrives_at_input between spot.chip Local inside k room;
+        move = (spot, is_spot, refl);
+        setup = refl;
+      },
+      tt,
+    )
 
 inject_exchange : (s : State) → IsMesh s → (v : ℕ) (spot : Option Spot) (copies : Option (List McCopy)) →
-    slice_get s.setup.spots v ≡ spot → slice_get s.unsent v ≡ copies → (t : State) → inject_of s v spot copies ≡ Some t → Exchange s t
+    slice_get s.setup.spots v ≡ spot → slice_get s.unsent v ≡ copies → (t : State) → inject_of s v spot copies ≡ Some t → MovesOn s t
 inject_exchange s mesh v (Some spot) (Some (k ∷ rest)) is_spot is_unsent t e =
     inject_by_room s v spot k rest (vertex_inside s mesh v spot is_spot) is_spot is_unsent
     (has_room_behind s (input (queue_at s.setup.machine spot.chip Local))) refl t e
@@ -104,7 +111,7 @@ take_by_life : (s : State) (c : Chip) (port : Port) (k : McCopy) (rest : List Mc
       inputs = slice_set s.inputs (queue_at s.setup.machine c port) rest;
       hands = slice_set s.hands (index_of s.setup.machine c) (held_for k port (outputs s.setup c port k));
     }) else None) ≡ Some t →
-    Exchange s t
+    MovesOn s t
 take_by_life s c port k rest is_free is_queue false dead t e = cc
 take_by_life s c port k rest is_free is_queue true live t e =
     let inside : IsInside s.setup.machine c = live_inside s.setup.machine c live in
@@ -113,24 +120,27 @@ take_by_life s c port k rest is_free is_queue true live t e =
     let next : State = record between { hands = slice_set s.hands (index_of s.setup.machine c) (held_for k port outs) } in
     let same : next ≡ t = cc in
     let come : List Mark = map (λ o. mark k (in_hand c o)) outs in
-    subst (λ (u : State). Exchange s u) same (record {
-      leaves = mark k (in_queue c port);
-      come = come;
-      rest = marks_of between;
-      out = input_out s c port inside k rest is_queue;
-      put = hand_in between c inside None (held_for k port outs) come is_free (record {
-        front = [];
-        back = [];
-        before_is = refl;
-        after_is = hand_marks-held c k port outs ∙ sym (append-nil come);
-      });
-      move = refl;
-      setup = refl;
-    })
+    subst (λ (u : State). MovesOn s u) same (
+      record {
+        leaves = mark k (in_queue c port);
+        come = come;
+        rest = marks_of between;
+        out = input_out s c port inside k rest is_queue;
+        put = hand_in between c inside None (held_for k port outs) come is_free (record {
+          front = [];
+          back = [];
+          before_is = refl;
+          after_is = hand_marks-held c k port outs ∙ sym (append-nil come);
+        });
+        move = refl;
+        setup = refl;
+      },
+      tt,
+    )
 
 take_exchange : (s : State) (c : Chip) (port : Port) (hand : Option (Option Hand)) (queue : Option (List McCopy)) →
     slice_get s.hands (index_of s.setup.machine c) ≡ hand → slice_get s.inputs (queue_at s.setup.machine c port) ≡ queue →
-    (t : State) → take_of s c port hand queue ≡ Some t → Exchange s t
+    (t : State) → take_of s c port hand queue ≡ Some t → MovesOn s t
 take_exchange s c port (Some None) (Some (k ∷ rest)) is_free is_queue t e = take_by_life s c port k rest is_free is_queue (is_live_chip s.setup.machine c) refl t e
 take_exchange s c port (Some None) (Some []) is_free is_queue t e = cc
 take_exchange s c port (Some None) None is_free is_queue t e = cc
@@ -209,7 +219,7 @@ serves_parts s c o h serving = (
 send_by : (s : State) (c : Chip) (o : Out) (h : Hand) → slice_get s.hands (index_of s.setup.machine c) ≡ Some (Some h) →
     (serving room : Bool) → serves s c o (Some (Some h)) ≡ serving → has_room_behind s (behind s.setup c o) ≡ room → (t : State) →
     (if serving && room then Some (push_behind (after_serving s c o h) (behind s.setup c o) (onward h.copy)) else None) ≡ Some t →
-    Exchange s t
+    MovesOn s t
 send_by s c o h is_hand false room idle is_room t e = cc
 send_by s c o h is_hand true false serving full t e = cc
 send_by s c o h is_hand true true serving room t e =
@@ -218,18 +228,21 @@ send_by s c o h is_hand true true serving room t e =
     let arrival = arrives between c o h.copy room in
     let next : State = push_behind between (behind s.setup c o) (onward h.copy) in
     let same : next ≡ t = cc in
-    subst (λ (u : State). Exchange s u) same (record {
-      leaves = mark h.copy (in_hand c o);
-      come = arrival.0;
-      rest = marks_of between;
-      out = hand_serves s c o h parts.0 is_hand parts.1;
-      put = arrival.1;
-      move = inr arrival.2;
-      setup = (push_behind_leaves between (behind s.setup c o) (onward h.copy)).0;
-    })
+    subst (λ (u : State). MovesOn s u) same (
+      record {
+        leaves = mark h.copy (in_hand c o);
+        come = arrival.0;
+        rest = marks_of between;
+        out = hand_serves s c o h parts.0 is_hand parts.1;
+        put = arrival.1;
+        move = inr arrival.2;
+        setup = (push_behind_leaves between (behind s.setup c o) (onward h.copy)).0;
+      },
+      tt,
+    )
 
 send_exchange : (s : State) (c : Chip) (o : Out) (hand : Option (Option Hand)) → slice_get s.hands (index_of s.setup.machine c) ≡ hand →
-    (t : State) → send_of s c o hand ≡ Some t → Exchange s t
+    (t : State) → send_of s c o hand ≡ Some t → MovesOn s t
 send_exchange s c o (Some (Some h)) is_hand t e =
     send_by s c o h is_hand (serves s c o (Some (Some h))) (has_room_behind s (behind s.setup c o)) refl refl t e
 send_exchange s c o (Some None) is_hand t e = cc
@@ -238,7 +251,7 @@ send_exchange s c o None is_hand t e = cc
 dump_by : (s : State) (c : Chip) (o : Out) (h : Hand) → slice_get s.hands (index_of s.setup.machine c) ≡ Some (Some h) →
     (serving room : Bool) → serves s c o (Some (Some h)) ≡ serving → (t : State) →
     (if serving && room then Some (record (after_serving s c o h) { dumped = s.dumped ++ record { chip = c; out = o; copy = h.copy } ∷ [] }) else None) ≡ Some t →
-    Exchange s t
+    MovesOn s t
 dump_by s c o h is_hand false room idle t e = cc
 dump_by s c o h is_hand true false serving t e = cc
 dump_by s c o h is_hand true true serving t e =
@@ -246,18 +259,21 @@ dump_by s c o h is_hand true true serving t e =
     let between : State = after_serving s c o h in
     let next : State = record between { dumped = s.dumped ++ record { chip = c; out = o; copy = h.copy } ∷ [] } in
     let same : next ≡ t = cc in
-    subst (λ (u : State). Exchange s u) same (record {
-      leaves = mark h.copy (in_hand c o);
-      come = mark h.copy (dumped c o) ∷ [];
-      rest = marks_of between;
-      out = hand_serves s c o h parts.0 is_hand parts.1;
-      put = dumped_in between c o h.copy;
-      move = inl refl;
-      setup = refl;
-    })
+    subst (λ (u : State). MovesOn s u) same (
+      record {
+        leaves = mark h.copy (in_hand c o);
+        come = mark h.copy (dumped c o) ∷ [];
+        rest = marks_of between;
+        out = hand_serves s c o h parts.0 is_hand parts.1;
+        put = dumped_in between c o h.copy;
+        move = inl refl;
+        setup = refl;
+      },
+      tt,
+    )
 
 dump_exchange : (s : State) (c : Chip) (o : Out) (hand : Option (Option Hand)) → slice_get s.hands (index_of s.setup.machine c) ≡ hand →
-    (t : State) → dump_of s c o hand ≡ Some t → Exchange s t
+    (t : State) → dump_of s c o hand ≡ Some t → MovesOn s t
 dump_exchange s c o (Some (Some h)) is_hand t e =
     dump_by s c o h is_hand (serves s c o (Some (Some h))) (not (has_room_behind s (behind s.setup c o))) refl t e
 dump_exchange s c o (Some None) is_hand t e = cc
@@ -266,25 +282,28 @@ dump_exchange s c o None is_hand t e = cc
 -- ---- Collect
 
 collect_exchange : (s : State) (v : ℕ) (queue : Option (List McCopy)) → slice_get s.cores v ≡ queue →
-    (t : State) → collect_of s v queue ≡ Some t → Exchange s t
+    (t : State) → collect_of s v queue ≡ Some t → MovesOn s t
 collect_exchange s v (Some (k ∷ rest)) is_queue t e =
     let between : State = record s { cores = slice_set s.cores v rest } in
     let next : State = record between { delivered = s.delivered ++ record { vertex = v; copy = k } ∷ [] } in
     let same : next ≡ t = cc in
-    subst (λ (u : State). Exchange s u) same (record {
-      leaves = mark k (at_core v);
-      come = mark k (delivered v) ∷ [];
-      rest = marks_of between;
-      out = core_out s v k rest is_queue;
-      put = delivered_in between v k;
-      move = refl;
-      setup = refl;
-    })
+    subst (λ (u : State). MovesOn s u) same (
+      record {
+        leaves = mark k (at_core v);
+        come = mark k (delivered v) ∷ [];
+        rest = marks_of between;
+        out = core_out s v k rest is_queue;
+        put = delivered_in between v k;
+        move = refl;
+        setup = refl;
+      },
+      tt,
+    )
 collect_exchange s v (Some []) is_queue t e = cc
 collect_exchange s v None is_queue t e = cc
 
 -- Each event that is enabled is one move.
-pub event_exchange : (s : State) → IsMesh s → (e : Event) (t : State) → step_of s e ≡ Some t → Exchange s t
+pub event_exchange : (s : State) → IsMesh s → (e : Event) (t : State) → step_of s e ≡ Some t → MovesOn s t
 event_exchange s mesh (Inject v) t e = inject_exchange s mesh v (slice_get s.setup.spots v) (slice_get s.unsent v) refl refl t e
 event_exchange s mesh (Take c port) t e =
     take_exchange s c port (slice_get s.hands (index_of s.setup.machine c)) (slice_get s.inputs (queue_at s.setup.machine c port)) refl refl t e

@@ -66,7 +66,7 @@ event_keeps s nets labels mesh right ledger e = by_answer (step_of s e) refl
   where
     by_answer : (t : Option State) → step_of s e ≡ t → Keeps s (unwrap_or t s) nets labels
     by_answer None is = keeps_itself s nets labels mesh right ledger
-    by_answer (Some t) is = move_keeps s t nets labels mesh right ledger (IsMesh-step_of s t e mesh is) (event_exchange s mesh e t is)
+    by_answer (Some t) is = move_keeps s t nets labels mesh right ledger (IsMesh-step_of s t e mesh is) (event_exchange s mesh e t is).0
 
 -- what each event leaves as it is, a list of events leaves as it is
 pub events_keep : (s : State) (nets : List NetPlan) (labels : ℕ → Label) → IsMesh s → AreRight s.setup.machine s.setup.tables nets → MeetsLedger s nets labels →

@@ -19,6 +19,7 @@ pub mod Moves
 mod NoDump
 mod OneWay
 pub mod OpenedLaw
+pub mod OnlyUnderWay
 mod Ordered
 mod QueueLists
 pub mod Queued

@@ -1,9 +1,10 @@
--- Where a queue has room for a copy of each packet of a job, no copy is dumped.
-use Rattle.std.proofs.Common.{◌≡◌, ◌≢◌, ℕ, ◌+◌, ◌*◌, ◌<◌, ◌≤◌, List, ◌∷◌, Bool, true, false, not, ◌==◌, ◌&&◌, if◌then◌else◌, Option, Some, None, is_some, refl, ap, sym, ◌∙◌, subst, arith, inl, inr, length, count_by}
+-- Where a queue has room for a copy of each packet that is under way, no copy is dumped.
+use Rattle.std.proofs.Common.{◌≡◌, ◌≢◌, ℕ, ◌+◌, ◌<◌, ◌≤◌, List, ◌∷◌, Bool, true, false, not, ◌==◌, ◌&&◌, if◌then◌else◌, Option, Some, None, is_some, refl, ap, sym, ◌∙◌, subst, arith, inl, inr, length, count_by}
 use Rattle.std.specs.Prelude.{Result, Ok, Err, IfOk}
-use Rattle.std.specs.List.{slice_get, list_any, Contains}
-use Rattle.std.proofs.lemmas.Bool.{lt-ltb, and_parts, eqb-true}
+use Rattle.std.specs.List.{slice_get, list_any, range_with_len, Contains}
+use Rattle.std.proofs.lemmas.Bool.{lt-ltb, and_parts, eq-eqb, eqb-true}
 use Rattle.std.proofs.lemmas.List.Elements.{All-contains}
+use Rattle.std.proofs.lemmas.List.FromFn.{length-range_with_len}
 use Rattle.std.proofs.lemmas.List.Folds.{Any-from_list_any}
 use Rattle.spin_base.proofs.Counts.{count_by-cons, count_by-none}
 use Rattle.spin_base.proofs.Members.{Among, among_contains, contains_among}
@@ -23,12 +24,12 @@ use Rattle.mesh_core.specs.declared.places.Did.TheVariants.{Moved, Idle}
 use Rattle.mesh_core.specs.State.{State, Hand, IsMesh, Queue, input, core, nowhere, behind}
 use Rattle.mesh_core.specs.Step.{dump_of, serves, has_room, has_room_behind, answer}
 use Rattle.mesh_core.specs.Trail.{in_hand, Mark}
-use Rattle.mesh_core.specs.Ledger.{marks_of, label_of}
+use Rattle.mesh_core.specs.Ledger.{marks_of, label_of, Label, MeetsLedger, OnlyUnderWay}
 use Rattle.mesh_core.specs.Opened.{asked_by, MeetsJobLedger}
 use Rattle.mesh_core.specs.Waiting.{queue_of}
-use Rattle.mesh_core.proofs.Counting.{count_all, count_le, count_numbered}
-use Rattle.mesh_core.proofs.FewMarks.{number_below}
+use Rattle.mesh_core.proofs.Counting.{count_all, count_covered, count_le}
 use Rattle.mesh_core.proofs.Moves.{mark}
+use Rattle.mesh_core.proofs.OnlyUnderWay.{of_job}
 use Rattle.mesh_core.proofs.Queued.{FreeBehind, free_behind, once_in_queue, waiting_mark}
 use Rattle.mesh_core.proofs.Standing.{held_mark}
 
@@ -42,31 +43,37 @@ one_more : (b : Bool) (n : ℕ) → (b ≡ true → n ≤ 0) → n ≤ 1 → (if
 one_more true n none few = let zero_more = none refl in omega arith
 one_more false n none few = omega arith
 
-module _ (s : State) (nets : List NetPlan) (packets : List Packet) (mesh : IsMesh s) (job : MeetsJobLedger s nets packets) (roomy : length packets ≤ s.setup.capacity) where
+module _ (s : State) (nets : List NetPlan) (labels : ℕ → Label) (numbers : List ℕ) (mesh : IsMesh s) (ledger : MeetsLedger s nets labels)
+    (only : OnlyUnderWay numbers s) (roomy : length numbers ≤ s.setup.capacity) where
+  -- the copies in a queue are of these packets
+  listed_in : (b : Queue) (q : List McCopy) → queue_of s b ≡ Some q → (j : McCopy) → Among j q → Contains numbers j.packet
+  listed_in (input i) q at j among = only _ (waiting_mark s nets labels ledger (input i) q at j among) tt
+  listed_in (core v) q at j among = only _ (waiting_mark s nets labels ledger (core v) q at j among) tt
+  listed_in nowhere q at j among = cc
+
   module _ (c : Chip) (o : Out) (k : McCopy) (has : Contains (marks_of s) (mark k (in_hand c o))) where
     free : FreeBehind s c o k.packet
-    free = free_behind s nets (λ i. label_of (asked_by nets packets i)) job.ledger.ledger mesh c o k has
+    free = free_behind s nets labels ledger mesh c o k has
 
-    -- the packet in hand and those in the queue behind it are different ones of the job
-    short : length free.0 < length packets
+    -- the packet in hand and those in the queue behind it are different ones of these
+    short : length free.0 < length numbers
     short =
         let q : List McCopy = free.0 in
         let all : count_by (λ (j : McCopy). true) (k ∷ q) ≡ length (k ∷ q) = count_all (λ (j : McCopy). true) (k ∷ q) (λ j a. refl) in
-        let few : count_by (λ (j : McCopy). true) (k ∷ q) ≤ length packets * 1 = count_numbered (λ (j : McCopy). j.packet) (length packets) 1 (λ j. true) (k ∷ q) below each in
+        let few : count_by (λ (j : McCopy). true) (k ∷ q) ≤ length numbers =
+        count_covered (λ n (j : McCopy). j.packet == n) numbers (λ j. true) (k ∷ q)
+        (λ j a yes'. (j.packet, contains_among j.packet numbers (listed j a), eq-eqb j.packet j.packet refl)) (λ n a. each n)
+        in
         omega (arith, all, few)
       where
-        below : (j : McCopy) → Among j (k ∷ free.0) → true ≡ true → j.packet < length packets
-        below j (inl same) yes' =
-            subst (λ (i : McCopy). i.packet < length packets) (sym same) (number_below s nets packets job (mark k (in_hand c o)) has)
-        below j (inr later) yes' =
-            let there = waiting_mark s nets (λ i. label_of (asked_by nets packets i)) job.ledger.ledger (behind s.setup c o) free.0 free.1 j later in
-            number_below s nets packets job _ there
+        listed : (j : McCopy) → Among j (k ∷ free.0) → Contains numbers j.packet
+        listed j (inl same) = subst (λ (i : McCopy). Contains numbers i.packet) (sym same) (only (mark k (in_hand c o)) has tt)
+        listed j (inr later) = listed_in (behind s.setup c o) free.0 free.1 j later
 
-        each : (i : ℕ) → i < length packets → count_by (λ (j : McCopy). j.packet == i) (k ∷ free.0) ≤ 1
-        each i low =
+        each : (i : ℕ) → count_by (λ (j : McCopy). j.packet == i) (k ∷ free.0) ≤ 1
+        each i =
             subst (λ n. n ≤ 1) (sym (count_by-cons (λ (j : McCopy). j.packet == i) k free.0))
-            (one_more (k.packet == i) (count_by (λ (j : McCopy). j.packet == i) free.0) none
-            (once_in_queue s nets (λ n. label_of (asked_by nets packets n)) job.ledger.ledger (behind s.setup c o) free.0 free.1 i))
+            (one_more (k.packet == i) (count_by (λ (j : McCopy). j.packet == i) free.0) none (once_in_queue s nets labels ledger (behind s.setup c o) free.0 free.1 i))
           where
             none : (k.packet == i) ≡ true → count_by (λ (j : McCopy). j.packet == i) free.0 ≤ 0
             none is =
@@ -108,7 +115,10 @@ module _ (s : State) (nets : List NetPlan) (packets : List Packet) (mesh : IsMes
 pub idle_answer : (did : Did) (s : State) (e is_e : Event) → e ≡ is_e → IsMesh s → did ≡ answer s is_e →
     (nets : List NetPlan) (packets : List Packet) (c : Chip) (o : Out) → MeetsJobLedger s nets packets → length packets ≤ s.setup.capacity → e ≡ Dump c o → did ≡ Idle
 idle_answer did s e is_e same mesh told nets packets c o job roomy is =
-    told ∙ (ap (answer s) (sym same ∙ is) ∙ no_dump s nets packets mesh job roomy c o)
+    let packets_long = length-range_with_len 0 (length packets) in
+    told ∙ (ap (answer s) (sym same ∙ is)
+    ∙ no_dump s nets (λ i. label_of (asked_by nets packets i)) (range_with_len 0 (length packets)) mesh job.ledger.ledger (of_job s nets packets job)
+    (omega (arith, packets_long, roomy)) c o)
 
 pub idle_result : {E : Type 0} (r : Result Did E) (s : State) (e is_e : Event) → e ≡ is_e → IsMesh s → IfOk r (λ did. did ≡ answer s is_e) →
     (nets : List NetPlan) (packets : List Packet) (c : Chip) (o : Out) → MeetsJobLedger s nets packets → length packets ≤ s.setup.capacity → e ≡ Dump c o →

@@ -1,8 +1,9 @@
--- Where a queue has room for a copy of each packet of a job, no list of events makes a dump record, so that a mesh at rest has
--- delivered all.
-use Rattle.std.proofs.Common.{◌≡◌, ◌≤◌, refl, ap, sym, ◌∙◌, subst, List, [], ◌∷◌, length, Option}
+-- Where a queue has room for a copy of each packet that is under way, no list of events makes a dump record. So a run that comes
+-- to rest has delivered all, where it has room for a copy of each packet of the job.
+use Rattle.std.proofs.Common.{◌≡◌, ◌≤◌, ℕ, refl, ap, sym, ◌∙◌, subst, arith, List, [], ◌∷◌, length, Option}
 use Rattle.std.specs.Prelude.{unwrap_or}
-use Rattle.std.specs.List.{slice_get}
+use Rattle.std.specs.List.{slice_get, range_with_len}
+use Rattle.std.proofs.lemmas.List.FromFn.{length-range_with_len}
 use Rattle.spin_base.specs.declared.copies.Event.{Event}
 use Rattle.spin_base.specs.declared.copies.Event.TheVariants.{Inject, Take, Send, Dump, Collect}
 use Rattle.spin_base.specs.declared.copies.Packet.{Packet}
@@ -12,42 +13,43 @@ use Rattle.machine_desc.specs.NetsOn.{AreNetsOn}
 use Rattle.machine_desc.specs.RightTables.{AreRight}
 use Rattle.mesh_core.specs.State.{Setup, State, IsMesh}
 use Rattle.mesh_core.specs.Step.{after_event, after_events}
-use Rattle.mesh_core.specs.Opened.{opened_mesh, AreOfNets, MeetsJobLedger}
+use Rattle.mesh_core.specs.Ledger.{label_of, Label, MeetsLedger, OnlyUnderWay}
+use Rattle.mesh_core.specs.Opened.{asked_by, opened_mesh, AreOfNets, MeetsJobLedger}
 use Rattle.mesh_core.specs.Expected.{IsAtRest, AreAsExpected}
 use Rattle.mesh_core.proofs.DeliveredLaw.{delivered_as_expected}
-use Rattle.mesh_core.proofs.EventsLaw.{events_keep_job, IsMesh-after_events}
+use Rattle.mesh_core.proofs.EventsLaw.{event_keeps, events_keep_job}
 use Rattle.mesh_core.proofs.Fixed.{after_event_setup, dumped_stays}
 use Rattle.mesh_core.proofs.NoDump.{dump_none}
+use Rattle.mesh_core.proofs.OnlyUnderWay.{of_job, only_after}
 use Rattle.mesh_core.proofs.OpenedLaw.{opened_meets_ledger}
 
-module _ (nets : List NetPlan) (packets : List Packet) where
-  pub records_stay : (s : State) → IsMesh s → MeetsJobLedger s nets packets → length packets ≤ s.setup.capacity → (e : Event) → (after_event s e).dumped ≡ s.dumped
-  records_stay s mesh job roomy (Inject v) = dumped_stays s (Inject v) tt
-  records_stay s mesh job roomy (Take c port) = dumped_stays s (Take c port) tt
-  records_stay s mesh job roomy (Send c o) = dumped_stays s (Send c o) tt
-  records_stay s mesh job roomy (Dump c o) =
-      ap (λ (t : Option State). (unwrap_or t s).dumped) (dump_none s nets packets mesh job roomy c o (slice_get s.hands (index_of s.setup.machine c)) refl)
-  records_stay s mesh job roomy (Collect v) = dumped_stays s (Collect v) tt
+module _ (nets : List NetPlan) (labels : ℕ → Label) (numbers : List ℕ) where
+  records_stay : (s : State) → IsMesh s → MeetsLedger s nets labels → OnlyUnderWay numbers s → length numbers ≤ s.setup.capacity → (e : Event) → (after_event s e).dumped ≡ s.dumped
+  records_stay s mesh ledger only roomy (Inject v) = dumped_stays s (Inject v) tt
+  records_stay s mesh ledger only roomy (Take c port) = dumped_stays s (Take c port) tt
+  records_stay s mesh ledger only roomy (Send c o) = dumped_stays s (Send c o) tt
+  records_stay s mesh ledger only roomy (Dump c o) =
+      ap (λ (t : Option State). (unwrap_or t s).dumped) (dump_none s nets labels numbers mesh ledger only roomy c o (slice_get s.hands (index_of s.setup.machine c)) refl)
+  records_stay s mesh ledger only roomy (Collect v) = dumped_stays s (Collect v) tt
 
   -- Nor does a list of events.
-  pub records_after : (s : State) → IsMesh s → AreRight s.setup.machine s.setup.tables nets → MeetsJobLedger s nets packets → length packets ≤ s.setup.capacity →
-      (es : List Event) → (after_events s es).dumped ≡ s.dumped
-  records_after s mesh right job roomy [] = refl
-  records_after s mesh right job roomy (e ∷ es) =
-      let next : State = after_event s e in
-      let same : next.setup ≡ s.setup = after_event_setup s e in
-      records_after next (IsMesh-after_events s (e ∷ []) mesh)
-      (subst (λ (u : Setup). AreRight u.machine u.tables nets) (sym same) right)
-      (events_keep_job s nets packets mesh right job (e ∷ []))
-      (subst (λ (u : Setup). length packets ≤ u.capacity) (sym same) roomy) es
-      ∙ records_stay s mesh job roomy e
+  pub records_after : (s : State) → IsMesh s → AreRight s.setup.machine s.setup.tables nets → MeetsLedger s nets labels → OnlyUnderWay numbers s →
+      length numbers ≤ s.setup.capacity → (es : List Event) → (after_events s es).dumped ≡ s.dumped
+  records_after s mesh right ledger only roomy [] = refl
+  records_after s mesh right ledger only roomy (e ∷ es) =
+      let keeps = event_keeps s nets labels mesh right ledger e in
+      records_after (after_event s e) keeps.mesh keeps.right keeps.ledger (only_after numbers s mesh only e)
+      (subst (λ (u : Setup). length numbers ≤ u.capacity) (sym (after_event_setup s e)) roomy) es
+      ∙ records_stay s mesh ledger only roomy e
 
-  -- From the opened mesh of a job, whatever events come: at rest the mesh has delivered all that the job asks for.
-  pub run_delivers_all : (setup : Setup) → IsMesh (opened_mesh setup nets packets) → AreRight setup.machine setup.tables nets →
-      AreNetsOn setup.machine setup.spots nets → AreOfNets nets packets → length packets ≤ setup.capacity →
-      (es : List Event) → IsAtRest (after_events (opened_mesh setup nets packets) es) → AreAsExpected (after_events (opened_mesh setup nets packets) es) nets packets
-  run_delivers_all setup mesh right stand of_nets roomy es rest =
-      let opened : State = opened_mesh setup nets packets in
-      let job : MeetsJobLedger opened nets packets = opened_meets_ledger setup nets packets stand of_nets in
-      delivered_as_expected (after_events opened es) nets packets (events_keep_job opened nets packets mesh right job es) rest
-      (records_after opened mesh right job roomy es)
+-- From the opened mesh of a job, whatever events come: at rest the mesh has delivered all that the job asks for.
+pub run_delivers_all : (nets : List NetPlan) (packets : List Packet) (setup : Setup) → IsMesh (opened_mesh setup nets packets) → AreRight setup.machine setup.tables nets →
+    AreNetsOn setup.machine setup.spots nets → AreOfNets nets packets → length packets ≤ setup.capacity →
+    (es : List Event) → IsAtRest (after_events (opened_mesh setup nets packets) es) → AreAsExpected (after_events (opened_mesh setup nets packets) es) nets packets
+run_delivers_all nets packets setup mesh right stand of_nets roomy es rest =
+    let opened : State = opened_mesh setup nets packets in
+    let job : MeetsJobLedger opened nets packets = opened_meets_ledger setup nets packets stand of_nets in
+    let packets_long = length-range_with_len 0 (length packets) in
+    delivered_as_expected (after_events opened es) nets packets (events_keep_job opened nets packets mesh right job es) rest
+    (records_after nets (λ i. label_of (asked_by nets packets i)) (range_with_len 0 (length packets)) opened mesh right job.ledger.ledger
+    (of_job opened nets packets job) (omega (arith, packets_long, roomy)) es)

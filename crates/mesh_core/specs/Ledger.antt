@@ -15,7 +15,7 @@ use Rattle.machine_desc.specs.declared.nets.NetPlan.{NetPlan}
 use Rattle.machine_desc.specs.RightTables.{IsKeyOf}
 use Rattle.machine_desc.specs.NetsOn.{AreNetsOn, IsWayOn}
 use Rattle.mesh_core.specs.State.{State, Hand}
-use Rattle.mesh_core.specs.Trail.{Station, unsent, in_queue, in_hand, at_core, delivered, dumped, Mark, is_on_trail, is_packet_on_trail}
+use Rattle.mesh_core.specs.Trail.{Station, unsent, in_queue, in_hand, at_core, delivered, dumped, Mark, IsUnderWayAt, is_on_trail, is_packet_on_trail}
 
 -- the ports of a chip, in the order of their numbers
 abbrev pub all_ports : List Port
@@ -56,6 +56,10 @@ dumped_marks s = map (λ (r : DumpRec). record { copy = r.copy; station = dumped
 -- each dump record (this project's own).
 abbrev pub marks_of : State → List Mark
 marks_of s = unsent_marks s ++ (input_marks s ++ (all_hand_marks s ++ (core_marks s ++ (delivered_marks s ++ dumped_marks s))))
+
+-- Only packets of these numbers are under way: each copy that is unsent or waits is of one of them.
+abbrev pub OnlyUnderWay : List ℕ → State → Type 0
+OnlyUnderWay numbers s = (k : Mark) → Contains (marks_of s) k → IsUnderWayAt k.station → Contains numbers k.copy.packet
 
 -- what all copies of a packet have in common
 pub record Label : Type 0 where

@@ -22,6 +22,15 @@ pub record Mark : Type 0 where
   pub copy : McCopy
   pub station : Station
 
+-- a copy at this station is unsent, or waits
+abbrev pub IsUnderWayAt : Station → Type 0
+IsUnderWayAt (unsent v) = Unit {0}
+IsUnderWayAt (in_queue c port) = Unit {0}
+IsUnderWayAt (in_hand c o) = Unit {0}
+IsUnderWayAt (at_core v) = Unit {0}
+IsUnderWayAt (delivered v) = ⊥
+IsUnderWayAt (dumped c o) = ⊥
+
 -- whether the place of a branch is this chip, where packets come in at this port
 abbrev pub comes_in_there : List Exit → ℕ → Chip → Port → Option Exit → Bool
 comes_in_there branch i c port (Some exit) = chip_eq exit.chip c && port_eq (arrival_at branch i) port

@@ -1,5 +1,6 @@
 //! Laws of the core. Each function does nothing: its clauses are the law, for every mesh.
 ghost use Rattle.std.specs.Prelude.{◌≡◌, ◌≢◌, ◌≤◌, ◌+◌, ◌*◌, ◌^◌, ◌==◌, ℕ, List, [], Option, Some, count_by, map, All, AllPairs, Contains, length};
+ghost use Rattle.std.specs.List.{range_with_len};
 ghost use Rattle.std.specs.List.Sorted.{IsPermutation};
 ghost use Rattle.spin_base.specs.declared.chips.Chip.{Chip};
 ghost use Rattle.spin_base.specs.declared.chips.Spot.{Spot};
@@ -19,7 +20,7 @@ ghost use Rattle.mesh_core.specs.State.{Setup, State, IsMesh, Queue, behind};
 ghost use Rattle.mesh_core.specs.declared.places.Did.TheVariants.{Idle};
 ghost use Rattle.mesh_core.specs.Step.{after_events, answer};
 ghost use Rattle.mesh_core.specs.PutBack.{after_put_back};
-ghost use Rattle.mesh_core.specs.Ledger.{marks_of, Label, Asked, MeetsLedger, MeetsLedgerFor};
+ghost use Rattle.mesh_core.specs.Ledger.{marks_of, Label, Asked, MeetsLedger, MeetsLedgerFor, OnlyUnderWay};
 ghost use Rattle.mesh_core.specs.Trail.{in_hand};
 ghost use Rattle.mesh_core.specs.Waiting.{queue_of};
 ghost use Rattle.mesh_core.specs.Opened.{opened_mesh, AreOfNets, MeetsJobLedger};
@@ -152,20 +153,25 @@ pub fn a_packet_waits_once()
         → count_by (λ j. j.packet == number) q ≤ 1 }
 {}
 
-/// Where a queue has room for a copy of each packet of a job, no Dump is enabled, and no list of events makes a dump record.
+/// Where a queue has room for a copy of each packet that is under way (unsent or waiting), no Dump is enabled, and no list of events
+/// makes a dump record. The packets of a job have the numbers below their number.
 pub fn a_roomy_mesh_drops_nothing()
-    ensures idle { (s : State) (nets : List NetPlan) (packets : List Packet) (c : Chip) (o : Out) →
-        IsMesh s → MeetsJobLedger s nets packets → length packets ≤ s.setup.capacity
-        → answer s (Dump c o) ≡ Idle }
-    ensures no_record { (s : State) (nets : List NetPlan) (packets : List Packet)
+    ensures idle { (s : State) (nets : List NetPlan) (labels : ℕ → Label) (numbers : List ℕ)
+        (c : Chip) (o : Out) →
+        IsMesh s → MeetsLedger s nets labels → OnlyUnderWay numbers s
+        → length numbers ≤ s.setup.capacity → answer s (Dump c o) ≡ Idle }
+    ensures no_record { (s : State) (nets : List NetPlan) (labels : ℕ → Label) (numbers : List ℕ)
         (events : List Event) →
-        IsMesh s → AreRight s.setup.machine s.setup.tables nets → MeetsJobLedger s nets packets
-        → length packets ≤ s.setup.capacity →
+        IsMesh s → AreRight s.setup.machine s.setup.tables nets → MeetsLedger s nets labels
+        → OnlyUnderWay numbers s → length numbers ≤ s.setup.capacity →
         (after_events s events).dumped ≡ s.dumped }
+    ensures of_job { (s : State) (nets : List NetPlan) (packets : List Packet) →
+        MeetsJobLedger s nets packets → OnlyUnderWay (range_with_len 0 (length packets)) s }
 {}
 
-/// So it has delivered all that the job asks for, and nothing else, after every list of events from the opened mesh of the job
-/// that leaves nothing waiting and nothing unsent: in whatever order routers, cores and vertices take their turns.
+/// A mesh with room for a copy of each packet of a job has delivered all that the job asks for, and nothing else, after every list
+/// of events from the opened mesh of the job that leaves nothing waiting and nothing unsent: in whatever order routers, cores and
+/// vertices take their turns.
 pub fn a_roomy_mesh_delivers_all()
     ensures { (setup : Setup) (nets : List NetPlan) (packets : List Packet) (events : List Event) →
         IsMesh (opened_mesh setup nets packets) → AreRight setup.machine setup.tables nets

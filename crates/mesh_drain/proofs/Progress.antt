@@ -127,7 +127,7 @@ come_lighter s x come small next move = by_bound (4 * last_hop + 4) (advance_bel
 pub moved_lighter : (s t : State) (e : Event) → MeetsSomeLedger s → step_of s e ≡ Some t → weight_in t < weight_in s
 unfolding weight_in
 moved_lighter s t e kept is =
-    let x = event_exchange s kept.mesh e t is in
+    let x = (event_exchange s kept.mesh e t is).0 in
     let has = among_contains x.leaves (marks_of s) (among_taken_out x.leaves (marks_of s) x.rest x.out) in
     let r = right_before s s kept.nets kept.labels kept.mesh kept.right kept.ledger x.leaves has in
     let small = right_small s s kept.nets kept.labels kept.mesh kept.right kept.ledger x.leaves r in

@@ -2,14 +2,12 @@
 use Rattle.std.specs.Prelude.{◌≡◌, ◌<◌, ◌≤◌, ℕ, List, ◌∷◌, All, Contains, Some, length, slice_get}
 use Rattle.spin_base.specs.declared.copies.Event.{Event}
 use Rattle.spin_base.specs.declared.copies.McCopy.{McCopy}
-use Rattle.spin_base.specs.declared.copies.Packet.{Packet}
 use Rattle.machine_desc.specs.declared.nets.NetPlan.{NetPlan}
 use Rattle.machine_desc.specs.RightTables.{AreRight}
 use Rattle.spin_base.specs.declared.copies.Event.TheVariants.{Collect}
 use Rattle.mesh_core.specs.State.{State, IsMesh, Queue, input, core, nowhere}
 use Rattle.mesh_core.specs.Step.{after_event, after_events}
-use Rattle.mesh_core.specs.Ledger.{Label, MeetsLedger}
-use Rattle.mesh_core.specs.Opened.{MeetsJobLedger}
+use Rattle.mesh_core.specs.Ledger.{Label, MeetsLedger, OnlyUnderWay}
 use Rattle.mesh_core.specs.Expected.{NothingWaits}
 use Rattle.mesh_core.specs.HasRun.{DropsNone}
 
@@ -38,11 +36,10 @@ pub record SendAlone (vertices : List ℕ) (s : State) : Type 0 where
   pub there : All (λ v. v < length s.setup.spots) vertices
   pub others : (v : ℕ) (k : McCopy) (rest : List McCopy) → slice_get s.unsent v ≡ Some (k ∷ rest) → Contains vertices v
 
--- Where each queue has a place for every packet of a job whose ledger the mesh meets, no dump record has come.
+-- Where the packets of which a copy is unsent or waits are no more than a queue has places, no dump record has come.
 abbrev pub DropsNoneWhereRoomy : State → State → Type 0
 DropsNoneWhereRoomy before after =
-    (nets : List NetPlan) (packets : List Packet) → AreRight before.setup.machine before.setup.tables nets → MeetsJobLedger before nets packets →
-    length packets ≤ before.setup.capacity → after.dumped ≡ before.dumped
+    (numbers : List ℕ) → OnlyUnderWay numbers before → length numbers ≤ before.setup.capacity → after.dumped ≡ before.dumped
 
 -- It is reached so, and where nothing waited before, none of the events drops a copy, and no dump record has come.
 pub record IsMoved (before after : State) : Type 0 where

@@ -18,9 +18,9 @@ use spin_base::{Chip, Event, Memory, Out, Outs, Port};
 use std::alloc::Global;
 
 /// Empties what waits, and then brings all packets to their targets, one after the other, until no event is enabled. No copy is
-/// dropped where nothing waited before, nor where each queue has a place for every packet. Besides what it moves it takes memory
-/// for a list of where the packet under way waits; and time as chips and vertices for each link of the longest way that a copy
-/// still had to go which waited before.
+/// dropped where nothing waited before, nor where each queue has a place for every packet of which a copy is unsent or waits. Besides
+/// what it moves it takes memory for a list of where the packet under way waits; and time as chips and vertices for each link of the
+/// longest way that a copy still had to go which waited before.
 ///
 /// # Errors
 ///

@@ -10,12 +10,15 @@ pub returns-clause-moved : goal.returns-clause-moved
 returns-clause-moved c = moved_then c.args.mesh.now c.settle.new.mesh c.send_each.new.mesh c.settle.ensures.moved c.send_each.ensures.reached
 
 pub returns-clause-roomy : goal.returns-clause-roomy
-returns-clause-roomy c = λ nets packets right job roomy.
+returns-clause-roomy c = λ numbers only roomy.
+    let kept = c.requires in
     let moved = moved_then c.args.mesh.now c.settle.new.mesh c.send_each.new.mesh c.settle.ensures.moved c.send_each.ensures.reached in
     ap (λ (s : State). s.dumped) moved.is
-    ∙ c.a_roomy_mesh_drops_nothing.ensures.no_record c.args.mesh.now nets packets moved.events c.requires.mesh right job roomy
+    ∙ c.a_roomy_mesh_drops_nothing.ensures.no_record c.args.mesh.now kept.nets kept.labels numbers moved.events kept.mesh kept.right kept.ledger only roomy
 
 pub returns-in_err-settle-clause-roomy : goal.returns-in_err-settle-clause-roomy
-returns-in_err-settle-clause-roomy c = λ nets packets right job roomy.
-    ap (λ (s : State). s.dumped) c.settle.ensures.moved.is
-    ∙ c.a_roomy_mesh_drops_nothing.ensures.no_record c.args.mesh.now nets packets c.settle.ensures.moved.events c.requires.mesh right job roomy
+returns-in_err-settle-clause-roomy c = λ numbers only roomy.
+    let kept = c.requires in
+    let moved = c.settle.ensures.moved in
+    ap (λ (s : State). s.dumped) moved.is
+    ∙ c.a_roomy_mesh_drops_nothing.ensures.no_record c.args.mesh.now kept.nets kept.labels numbers moved.events kept.mesh kept.right kept.ledger only roomy
