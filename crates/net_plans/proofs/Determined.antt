@@ -36,9 +36,6 @@ one_target_chips m root targets xs ys a b =
 pub same_source : (spots : List Spot) (i : ℕ) (s t : Spot) → slice_get spots i ≡ Some s → slice_get spots i ≡ Some t → s ≡ t
 same_source spots i s t at also = cc
 
-same_grown : (g h : Grown) → g.tree.root ≡ h.tree.root → g.tree.edges ≡ h.tree.edges → g.joins ≡ h.joins → g ≡ h
-same_grown g h root edges joins = λ i. record { tree = record { root = root i; edges = edges i }; joins = joins i }
-
 same_plan : (p q : NetPlan) → p.block ≡ q.block → p.source ≡ q.source → p.targets ≡ q.targets → p.tree.root ≡ q.tree.root → p.tree.edges ≡ q.tree.edges → p ≡ q
 same_plan p q block source targets root edges = λ i. record { block = block i; source = source i; targets = targets i; tree = record { root = root i; edges = edges i } }
 
@@ -53,8 +50,10 @@ same_places (x ∷ xs) (y ∷ ys) long each =
     each i (get_or (x ∷ xs) i x) (get_or (y ∷ ys) i x) (slice_get-get_or (x ∷ xs) i x less) (slice_get-get_or (y ∷ ys) i x also))
 
 module _ (m : Description) (spots : List Spot) (sites : All (IsSite m) spots) where
-  pub one_plan : (net : Net) (block : Block) (g h : Grown) (p q : NetPlan) → IsPlannedNet m spots net block g p → IsPlannedNet m spots net block h q → (g ≡ h) × (p ≡ q)
-  one_plan net block g h p q a b =
+  pub one_plan : (net : Net) (block : Block) (p q : NetPlan) → IsPlannedNet m spots net block p → IsPlannedNet m spots net block q → p ≡ q
+  one_plan net block p q a b =
+      let g : Grown = a.growth in
+      let h : Grown = b.growth in
       let source : p.source ≡ q.source = same_source spots net.source p.source q.source a.source b.source in
       let targets : p.targets ≡ q.targets = one_targets spots net.targets p.targets q.targets a.targets b.targets in
       let chips : joined_chips g ≡ joined_chips h =
@@ -63,34 +62,19 @@ module _ (m : Description) (spots : List Spot) (sites : All (IsSite m) spots) wh
       let inside : IsInside m q.source.chip = All-at (λ (s : Spot). IsInside m s.chip) spots net.source q.source (all_inside m spots sites) b.source in
       let grown : IsGrown m q.source.chip (joined_chips h) g.joins g.tree.edges =
       subst (λ (s : Spot). IsGrown m s.chip (joined_chips h) g.joins g.tree.edges) source (subst (λ cs. IsGrown m p.source.chip cs g.joins g.tree.edges) chips a.grown) in
-      let tree = one_tree m q.source.chip (joined_chips h) g.joins h.joins g.tree.edges h.tree.edges inside grown b.grown in
+      let edges : g.tree.edges ≡ h.tree.edges = (one_tree m q.source.chip (joined_chips h) g.joins h.joins g.tree.edges h.tree.edges inside grown b.grown).1 in
       let repaired : IsRepaired m q.source.chip h.tree.edges (joined_chips h) p.tree.edges =
       subst (λ (s : Spot). IsRepaired m s.chip h.tree.edges (joined_chips h) p.tree.edges) source
-      (subst (λ cs. IsRepaired m p.source.chip h.tree.edges cs p.tree.edges) chips (subst (λ es. IsRepaired m p.source.chip es (joined_chips g) p.tree.edges) tree.1 a.repaired)) in
-      let root : p.source.chip ≡ q.source.chip = ap (λ (s : Spot). s.chip) source in (
-        same_grown g h (a.grows_from ∙ (root ∙ sym b.grows_from)) tree.1 tree.0,
-        same_plan p q (a.block ∙ sym b.block) source targets (a.root ∙ (root ∙ sym b.root))
-            (one_repair m q.source.chip h.tree.edges (joined_chips h) p.tree.edges q.tree.edges repaired b.repaired),
-      )
+      (subst (λ cs. IsRepaired m p.source.chip h.tree.edges cs p.tree.edges) chips (subst (λ es. IsRepaired m p.source.chip es (joined_chips g) p.tree.edges) edges a.repaired)) in
+      let root : p.source.chip ≡ q.source.chip = ap (λ (s : Spot). s.chip) source in
+      same_plan p q (a.block ∙ sym b.block) source targets (a.root ∙ (root ∙ sym b.root))
+      (one_repair m q.source.chip h.tree.edges (joined_chips h) p.tree.edges q.tree.edges repaired b.repaired)
 
-  module _ (nets : List Net) (blocks : List Block) (long : length blocks ≡ length nets) (gs hs : List Grown) (ps qs : List NetPlan) (a : ArePlanned m spots nets blocks gs ps)
-      (b : ArePlanned m spots nets blocks hs qs) where
-    at_place : (i : ℕ) → i < length nets → (g h : Grown) (p q : NetPlan) → slice_get gs i ≡ Some g → slice_get hs i ≡ Some h → slice_get ps i ≡ Some p → slice_get qs i ≡ Some q → (g ≡ h) × (p ≡ q)
-    at_place i below g h p q g_at h_at p_at q_at =
-        let net = slice_get_there nets i below in
-        let block = slice_get_there blocks i (subst (λ n. i < n) (sym long) below) in
-        one_plan net.0 block.0 g h p q (a.each i net.0 block.0 g p net.1 block.1 g_at p_at) (b.each i net.0 block.0 h q net.1 block.1 h_at q_at)
-
-    pub one_list_of_plans : (gs ≡ hs) × (ps ≡ qs)
-    one_list_of_plans = (
-      same_places gs hs (a.one_tree_each ∙ sym b.one_tree_each) (λ i g h g_at h_at.
-          let below : i < length nets = subst (λ n. i < n) a.one_tree_each (slice_get_within gs i g g_at) in
-          let p = slice_get_there ps i (subst (λ n. i < n) (sym a.one_plan_each) below) in
-          let q = slice_get_there qs i (subst (λ n. i < n) (sym b.one_plan_each) below) in
-          (at_place i below g h p.0 q.0 g_at h_at p.1 q.1).0),
+  pub one_list_of_plans : (nets : List Net) (blocks : List Block) → length blocks ≡ length nets → (ps qs : List NetPlan) →
+      ArePlanned m spots nets blocks ps → ArePlanned m spots nets blocks qs → ps ≡ qs
+  one_list_of_plans nets blocks long ps qs a b =
       same_places ps qs (a.one_plan_each ∙ sym b.one_plan_each) (λ i p q p_at q_at.
-          let below : i < length nets = subst (λ n. i < n) a.one_plan_each (slice_get_within ps i p p_at) in
-          let g = slice_get_there gs i (subst (λ n. i < n) (sym a.one_tree_each) below) in
-          let h = slice_get_there hs i (subst (λ n. i < n) (sym b.one_tree_each) below) in
-          (at_place i below g.0 h.0 p q g.1 h.1 p_at q_at).1),
-    )
+      let below : i < length nets = subst (λ n. i < n) a.one_plan_each (slice_get_within ps i p p_at) in
+      let net = slice_get_there nets i below in
+      let block = slice_get_there blocks i (subst (λ n. i < n) (sym long) below) in
+      one_plan net.0 block.0 p q (a.each i net.0 block.0 p net.1 block.1 p_at) (b.each i net.0 block.0 q net.1 block.1 q_at))

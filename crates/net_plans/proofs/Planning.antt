@@ -1,10 +1,9 @@
 -- What one net's plan gives, and what all plans give.
 use Rattle.std.proofs.Common.{◌≡◌, ℕ, ◌+◌, ◌<◌, ◌≤◌, List, [], ◌∷◌, ◌++◌, map, length, refl, sym, ap, ◌∙◌, subst, arith, inl, inr, Some}
 use Rattle.std.specs.List.{All, Contains, slice_get, slice_index_or}
-use Rattle.std.proofs.lemmas.Bool.{cases_order}
 use Rattle.std.proofs.lemmas.List.{length-append}
 use Rattle.std.proofs.lemmas.List.Elements.{All-contains, All-contains_itself}
-use Rattle.std.proofs.lemmas.Option.{slice_get_within, slice_get-get_or}
+use Rattle.std.proofs.lemmas.Option.{slice_get-get_or}
 use Rattle.spin_base.specs.declared.chips.Chip.{Chip}
 use Rattle.spin_base.specs.declared.chips.Spot.{Spot}
 use Rattle.spin_base.specs.declared.blocks.Block.{Block}
@@ -16,15 +15,13 @@ use Rattle.machine_desc.specs.RoutingTree.{IsTreeChip, IsTreeTo}
 use Rattle.machine_desc.proofs.Far.{live_inside}
 use Rattle.machine_desc.proofs.Sites.{site_parts}
 use Rattle.app_graph.specs.declared.graphs.Net.{Net}
-use Rattle.machine_desc.specs.declared.nets.NetPlan.{NetPlan}
 use Rattle.ner_trees.specs.declared.growths.Grown.{Grown}
 use Rattle.ner_trees.specs.Growth.{IsGrown, distance_sum}
 use Rattle.link_detours.specs.Repair.{IsRepaired}
 use Rattle.spin_base.proofs.Members.{Contains-map, Contains-unmap}
-use Rattle.spin_base.proofs.Places.{All-at, All-each, slice_get-push_cases}
+use Rattle.spin_base.proofs.Places.{All-at, All-each}
 use Rattle.net_plans.specs.Keys.{nowhere}
-use Rattle.net_plans.specs.CutOffTargets.{HasNoneCutOff}
-use Rattle.net_plans.specs.NetPlans.{joined_chips, IsPlannedNet, IsEachPlanned}
+use Rattle.net_plans.specs.NetPlans.{joined_chips, IsPlannedNet}
 use Rattle.net_plans.specs.Targets.{AreTargets, AreTargetChips}
 
 -- sites are on chips of the grid
@@ -89,10 +86,11 @@ some_chip m root spots vertices targets chips are are_chips some within =
 pub plan_is : (m : Description) (spots : List Spot) (net : Net) (keys : Block) (source : Spot) (targets : List Spot) (chips : List Chip) (growth : Grown) (tree : Tree) →
     slice_get spots net.source ≡ Some source → AreTargets spots net.targets targets → AreTargetChips m source.chip targets chips → growth.tree.root ≡ source.chip →
     IsGrown m source.chip chips growth.joins growth.tree.edges → length growth.tree.edges ≤ distance_sum m source.chip chips → tree.root ≡ growth.tree.root →
-    IsRepaired m growth.tree.root growth.tree.edges chips tree.edges → IsPlannedNet m spots net keys growth (record { block = keys; source = source; targets = targets; tree = tree })
+    IsRepaired m growth.tree.root growth.tree.edges chips tree.edges → IsPlannedNet m spots net keys (record { block = keys; source = source; targets = targets; tree = tree })
 plan_is m spots net keys source targets chips growth tree at are are_chips from grown few root repaired =
     let joined : chips ≡ joined_chips growth = sym grown.each_joined in
     record {
+      growth = growth;
       block = refl;
       source = at;
       targets = are;
@@ -108,56 +106,3 @@ plan_is m spots net keys source targets chips growth tree at are are_chips from 
 
 pub long_more : {X : Type 0} (xs ys : List X) (x : X) (i : ℕ) → length xs ≡ i → ys ≡ xs ++ x ∷ [] → length ys ≡ i + 1
 long_more xs ys x i long is = ap length is ∙ (length-append xs (x ∷ []) ∙ ap (λ n. n + 1) long)
-
-module _ (m : Description) (spots : List Spot) (nets : List Net) where
-  -- no target of any net before this place is cut off
-  pub NoneBefore : ℕ → Type 0
-  NoneBefore i = (j : ℕ) (net : Net) → j < i → slice_get nets j ≡ Some net → HasNoneCutOff m spots net
-
-  pub none_before_first : NoneBefore 0
-  unfolding NoneBefore
-  none_before_first j net less at = absurd (omega (arith, less))
-
-  pub none_before_more : (i : ℕ) (net : Net) → NoneBefore i → slice_get nets i ≡ Some net → HasNoneCutOff m spots net → NoneBefore (i + 1)
-  unfolding NoneBefore
-  none_before_more i net before at none j other less other_at = elim (cases_order j i) [
-    | inl same ↦
-        let there : slice_get nets i ≡ Some other = subst (λ k. slice_get nets k ≡ Some other) same other_at in
-        let one : net ≡ other = cc in
-        subst (HasNoneCutOff m spots) one none
-    | inr (inl earlier) ↦ before j other earlier other_at
-    | inr (inr later) ↦ absurd (omega (arith, less, later))
-  ]
-
-  pub none_before_at : (i : ℕ) → NoneBefore i → (j : ℕ) (net : Net) → j < i → slice_get nets j ≡ Some net → HasNoneCutOff m spots net
-  unfolding NoneBefore
-  none_before_at i before = before
-
-  pub none_at_all : (i : ℕ) → length nets ≤ i → NoneBefore i → All (HasNoneCutOff m spots) nets
-  unfolding NoneBefore
-  none_at_all i past before k d below = before k (slice_index_or nets k d) (omega (arith, past, below)) (slice_get-get_or nets k d below)
-
-  pub plans_none : (blocks : List Block) (grown : List Grown) (plans : List NetPlan) → length grown ≡ 0 → IsEachPlanned m spots nets blocks grown plans
-  plans_none blocks grown plans long j n b t p n_at b_at t_at p_at = let within = slice_get_within grown j t t_at in absurd (omega (arith, within, long))
-
-  pub plans_more : (blocks : List Block) (grown : List Grown) (plans : List NetPlan) (i : ℕ) (net : Net) (block : Block) (tree : Grown) (plan : NetPlan) →
-      length grown ≡ i → length plans ≡ i → slice_get nets i ≡ Some net → slice_get blocks i ≡ Some block → IsEachPlanned m spots nets blocks grown plans →
-      IsPlannedNet m spots net block tree plan → IsEachPlanned m spots nets blocks (grown ++ tree ∷ []) (plans ++ plan ∷ [])
-  plans_more blocks grown plans i net block tree plan trees_long plans_long net_at block_at each new j n b t p n_at b_at t_at p_at =
-      elim (slice_get-push_cases grown tree t j t_at) [
-        | inl old_tree ↦ elim (slice_get-push_cases plans plan p j p_at) [
-          | inl old_plan ↦ each j n b t p n_at b_at old_tree.1 old_plan.1
-          | inr new_plan ↦ (let less = old_tree.0 in let here = new_plan.0 in absurd (omega (arith, less, here, trees_long, plans_long)))
-        ]
-        | inr new_tree ↦ elim (slice_get-push_cases plans plan p j p_at) [
-          | inl old_plan ↦ (let less = old_plan.0 in let here = new_tree.0 in absurd (omega (arith, less, here, trees_long, plans_long)))
-          | inr new_plan ↦
-              let here : j ≡ i = new_tree.0 ∙ trees_long in
-              let n_here : slice_get nets i ≡ Some n = subst (λ k. slice_get nets k ≡ Some n) here n_at in
-              let b_here : slice_get blocks i ≡ Some b = subst (λ k. slice_get blocks k ≡ Some b) here b_at in
-              let same_net : net ≡ n = cc in
-              let same_block : block ≡ b = cc in
-              subst (λ x. IsPlannedNet m spots x b t p) same_net (subst (λ x. IsPlannedNet m spots net x t p) same_block
-              (subst (λ x. IsPlannedNet m spots net block x p) new_tree.1 (subst (IsPlannedNet m spots net block tree) new_plan.1 new)))
-        ]
-      ]

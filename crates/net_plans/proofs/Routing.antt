@@ -10,13 +10,11 @@ use Rattle.machine_desc.specs.Description.{Description}
 use Rattle.machine_desc.specs.RoutingTree.{IsRoutingTree}
 use Rattle.app_graph.specs.declared.graphs.Net.{Net}
 use Rattle.machine_desc.specs.declared.nets.NetPlan.{NetPlan}
-use Rattle.ner_trees.specs.declared.growths.Grown.{Grown}
 use Rattle.link_detours.specs.declared.repairs.RepairErr.{RepairErr}
 use Rattle.link_detours.specs.declared.repairs.RepairErr.TheVariants as repairs
 use Rattle.spin_base.proofs.Places.{AllZip-at_second, slice_get_there, slice_get-push_cases}
 use Rattle.net_plans.specs.declared.nets.NetErr.{NetErr}
 use Rattle.net_plans.specs.declared.nets.NetErr.TheVariants.{CutOff, Memory}
-use Rattle.net_plans.specs.declared.nets.Routed.{Routed}
 use Rattle.net_plans.specs.declared.nets.RoutedNet.{RoutedNet}
 use Rattle.net_plans.specs.Cause.{IsNetCause, IsCauseOne}
 use Rattle.net_plans.specs.CutOffTargets.{HasNoneCutOff, IsFirstNetCutOff}
@@ -42,68 +40,51 @@ dropped_none [] k is = omega arith
 dropped_none (x ∷ xs) zero is = cc
 dropped_none (x ∷ xs) (suc k) is = let deeper = dropped_none xs k is in omega (arith, deeper)
 
--- the trees and plans of the first so many items
-pub record HaveWaysTo (items : List RoutedNet) (grown : List Grown) (plans : List NetPlan) (k : ℕ) : Type 0 where
+-- the plans of the first so many items
+pub record HaveWaysTo (items : List RoutedNet) (plans : List NetPlan) (k : ℕ) : Type 0 where
   pub within : k ≤ length items
-  pub trees_long : length grown ≡ k
   pub plans_long : length plans ≡ k
-  pub each : (i : ℕ) (item : RoutedNet) (tree : Grown) (plan : NetPlan) → slice_get items i ≡ Some item → slice_get grown i ≡ Some tree → slice_get plans i ≡ Some plan →
-      item.way ≡ Ok (record { grown = tree; plan = plan })
+  pub each : (i : ℕ) (item : RoutedNet) (plan : NetPlan) → slice_get items i ≡ Some item → slice_get plans i ≡ Some plan → item.way ≡ Ok plan
 
-pub no_ways : (items : List RoutedNet) → HaveWaysTo items [] [] 0
-no_ways items = record { within = omega arith; trees_long = refl; plans_long = refl; each = λ i item tree plan at tree_at plan_at. cc }
+pub no_ways : (items : List RoutedNet) → HaveWaysTo items [] 0
+no_ways items = record { within = omega arith; plans_long = refl; each = λ i item plan at plan_at. cc }
 
-pub one_way_more : (items : List RoutedNet) (grown more : List Grown) (plans also : List NetPlan) (k : ℕ) (item : RoutedNet) (tree : Grown) (plan : NetPlan) → HaveWaysTo items grown plans k →
-    slice_get items k ≡ Some item → item.way ≡ Ok (record { grown = tree; plan = plan }) → more ≡ grown ++ tree ∷ [] → also ≡ plans ++ plan ∷ [] → HaveWaysTo items more also (k + 1)
-one_way_more items grown more plans also k item tree plan so_far at way trees_are plans_are = record {
+pub one_way_more : (items : List RoutedNet) (plans more : List NetPlan) (k : ℕ) (item : RoutedNet) (plan : NetPlan) → HaveWaysTo items plans k →
+    slice_get items k ≡ Some item → item.way ≡ Ok plan → more ≡ plans ++ plan ∷ [] → HaveWaysTo items more (k + 1)
+one_way_more items plans more k item plan so_far at way are = record {
   within = let below = slice_get_within items k item at in omega (arith, below);
-  trees_long = long_more grown more tree k so_far.trees_long trees_are;
-  plans_long = long_more plans also plan k so_far.plans_long plans_are;
-  each = λ i other g p other_at g_at p_at.
-      let trees_long = so_far.trees_long in
-      let plans_long = so_far.plans_long in
-      elim (slice_get-push_cases grown tree g i (subst (λ l. slice_get l i ≡ Some g) trees_are g_at)) [
-        | inl old_tree ↦ elim (slice_get-push_cases plans plan p i (subst (λ l. slice_get l i ≡ Some p) plans_are p_at)) [
-          | inl old_plan ↦ so_far.each i other g p other_at old_tree.1 old_plan.1
-          | inr new_plan ↦ (let less = old_tree.0 in let here = new_plan.0 in absurd (omega (arith, less, here, trees_long, plans_long)))
-        ]
-        | inr new_tree ↦ elim (slice_get-push_cases plans plan p i (subst (λ l. slice_get l i ≡ Some p) plans_are p_at)) [
-          | inl old_plan ↦ (let less = old_plan.0 in let here = new_tree.0 in absurd (omega (arith, less, here, trees_long, plans_long)))
-          | inr new_plan ↦
-              let here : i ≡ k = new_tree.0 ∙ trees_long in
-              let there : slice_get items k ≡ Some other = subst (λ n. slice_get items n ≡ Some other) here other_at in
-              let same : item ≡ other = cc in
-              let is_tree : tree ≡ g = new_tree.1 in
-              let is_plan : plan ≡ p = new_plan.1 in
-              ap (λ (x : RoutedNet). x.way) (sym same) ∙ (way ∙ (λ n. Ok (record { grown = is_tree n; plan = is_plan n })))
-        ]
+  plans_long = long_more plans more plan k so_far.plans_long are;
+  each = λ i other p other_at p_at.
+      elim (slice_get-push_cases plans plan p i (subst (λ l. slice_get l i ≡ Some p) are p_at)) [
+        | inl old ↦ so_far.each i other p other_at old.1
+        | inr last ↦
+            let here : i ≡ k = last.0 ∙ so_far.plans_long in
+            let there : slice_get items k ≡ Some other = subst (λ n. slice_get items n ≡ Some other) here other_at in
+            let same : item ≡ other = cc in
+            ap (λ (x : RoutedNet). x.way) (sym same) ∙ (way ∙ ap Ok last.1)
       ];
 }
 
-pub all_ways : (items : List RoutedNet) (grown : List Grown) (plans : List NetPlan) (k : ℕ) → HaveWaysTo items grown plans k → length items ≤ k → HaveWays items grown plans
-all_ways items grown plans k have past =
+pub all_ways : (items : List RoutedNet) (plans : List NetPlan) (k : ℕ) → HaveWaysTo items plans k → length items ≤ k → HaveWays items plans
+all_ways items plans k have past =
     let within = have.within in
-    let trees_long = have.trees_long in
     let plans_long = have.plans_long in
-    record { trees_long = omega (arith, past, within, trees_long); plans_long = omega (arith, past, within, plans_long); each = have.each }
+    record { plans_long = omega (arith, past, within, plans_long); each = have.each }
 
--- each of the first items has a tree and a plan
-pub ways_before : (items : List RoutedNet) (grown : List Grown) (plans : List NetPlan) (k : ℕ) → HaveWaysTo items grown plans k → (j : ℕ) (other : RoutedNet) → j < k → slice_get items j ≡ Some other →
-    (r : Routed) × (other.way ≡ Ok r)
-ways_before items grown plans k have j other less at =
-    let trees_long = have.trees_long in
+-- each of the first items has a plan
+pub ways_before : (items : List RoutedNet) (plans : List NetPlan) (k : ℕ) → HaveWaysTo items plans k → (j : ℕ) (other : RoutedNet) → j < k → slice_get items j ≡ Some other →
+    (plan : NetPlan) × (other.way ≡ Ok plan)
+ways_before items plans k have j other less at =
     let plans_long = have.plans_long in
-    let g = slice_get_there grown j (omega (arith, less, trees_long)) in
     let p = slice_get_there plans j (omega (arith, less, plans_long)) in
-    let r : Routed = record { grown = g.0; plan = p.0 } in
-    (r, have.each j other g.0 p.0 at g.1 p.1)
+    (p.0, have.each j other p.0 at p.1)
 
 -- ---- what the items say of the nets
 
 -- what one net's routing answers
-pub way_of : (m : Description) (spots : List Spot) (net : Net) (block : Block) (w : Result Routed RepairErr) → IfOk w (λ r. IsPlannedNet m spots net block r.grown r.plan) →
-    IfOk w (λ r. IsRoutingTree m r.plan.tree.root r.plan.tree.edges r.plan.targets) → IfOk w (λ _. HasNoneCutOff m spots net) → IfErr w (IsCauseOne m spots net) → IsRoutingAnswer m spots net block w
-way_of m spots net block (Ok r) planned routing reached cause = record { planned = planned; routing = routing; reached = reached }
+pub way_of : (m : Description) (spots : List Spot) (net : Net) (block : Block) (w : Result NetPlan RepairErr) → IfOk w (IsPlannedNet m spots net block) →
+    IfOk w (λ p. IsRoutingTree m p.tree.root p.tree.edges p.targets) → IfOk w (λ _. HasNoneCutOff m spots net) → IfErr w (IsCauseOne m spots net) → IsRoutingAnswer m spots net block w
+way_of m spots net block (Ok p) planned routing reached cause = record { planned = planned; routing = routing; reached = reached }
 way_of m spots net block (Err e) planned routing reached cause = cause
 
 zero_more : (i : ℕ) → 0 + i ≡ i
@@ -129,64 +110,59 @@ module _ (m : Description) (spots : List Spot) (nets : List Net) (blocks : List 
       long (n ∷ ns) [] h = absurd h
       long (n ∷ ns) (x ∷ is) h = ap suc (long ns is h.1)
 
-  way_is : (net : Net) (block : Block) (w : Result Routed RepairErr) (r : Routed) → w ≡ Ok r → IsRoutingAnswer m spots net block w → HasTreeAndPlan m spots net block r
-  way_is net block w r is way = subst (IsRoutingAnswer m spots net block) is way
+  way_is : (net : Net) (block : Block) (w : Result NetPlan RepairErr) (p : NetPlan) → w ≡ Ok p → IsRoutingAnswer m spots net block w → HasTreeAndPlan m spots net block p
+  way_is net block w p is way = subst (IsRoutingAnswer m spots net block) is way
 
-  cut_is : (net : Net) (block : Block) (w : Result Routed RepairErr) (target : Chip) → w ≡ Err (repairs.CutOff target) → IsRoutingAnswer m spots net block w → IsRoutingAnswer m spots net block (Err (repairs.CutOff target))
+  cut_is : (net : Net) (block : Block) (w : Result NetPlan RepairErr) (target : Chip) → w ≡ Err (repairs.CutOff target) → IsRoutingAnswer m spots net block w → IsRoutingAnswer m spots net block (Err (repairs.CutOff target))
   cut_is net block w target is way = subst (IsRoutingAnswer m spots net block) is way
 
   module _ (are : AreRoutedNets m spots nets blocks items) where
-    -- the net at a place where an item has a tree and a plan
-    routed_at : (i : ℕ) (item : RoutedNet) (r : Routed) (net : Net) (block : Block) → slice_get items i ≡ Some item → item.way ≡ Ok r → slice_get nets i ≡ Some net → slice_get blocks i ≡ Some block →
-        HasTreeAndPlan m spots net block r
-    routed_at i item r net block at way net_at block_at =
+    -- the net at a place where an item has a plan
+    routed_at : (i : ℕ) (item : RoutedNet) (p : NetPlan) (net : Net) (block : Block) → slice_get items i ≡ Some item → item.way ≡ Ok p → slice_get nets i ≡ Some net → slice_get blocks i ≡ Some block →
+        HasTreeAndPlan m spots net block p
+    routed_at i item p net block at way net_at block_at =
         let one = are.each i item at in
         let here = one.at in
         let keyed = one.keyed in
         let same_net : one.net ≡ net = cc in
         let same_block : one.block ≡ block = cc in
-        subst (λ n. HasTreeAndPlan m spots n block r) same_net (subst (λ b. HasTreeAndPlan m spots one.net b r) same_block (way_is one.net one.block item.way r way one.way))
+        subst (λ n. HasTreeAndPlan m spots n block p) same_net (subst (λ b. HasTreeAndPlan m spots one.net b p) same_block (way_is one.net one.block item.way p way one.way))
 
-    -- no target of a net is cut off where its item has a tree and a plan
-    reached_at : (i : ℕ) (item : RoutedNet) (r : Routed) (net : Net) → slice_get items i ≡ Some item → item.way ≡ Ok r → slice_get nets i ≡ Some net → HasNoneCutOff m spots net
-    reached_at i item r net at way net_at =
+    -- no target of a net is cut off where its item has a plan
+    reached_at : (i : ℕ) (item : RoutedNet) (p : NetPlan) (net : Net) → slice_get items i ≡ Some item → item.way ≡ Ok p → slice_get nets i ≡ Some net → HasNoneCutOff m spots net
+    reached_at i item p net at way net_at =
         let one = are.each i item at in
         let here = one.at in
         let same_net : one.net ≡ net = cc in
-        subst (HasNoneCutOff m spots) same_net (way_is one.net one.block item.way r way one.way).reached
+        subst (HasNoneCutOff m spots) same_net (way_is one.net one.block item.way p way one.way).reached
 
-    module _ (grown : List Grown) (plans : List NetPlan) (have : HaveWays items grown plans) where
-      pub planned_of : ArePlanned m spots nets blocks grown plans
+    module _ (plans : List NetPlan) (have : HaveWays items plans) where
+      pub planned_of : ArePlanned m spots nets blocks plans
       planned_of = record {
-        one_tree_each = have.trees_long ∙ are.one_each;
         one_plan_each = have.plans_long ∙ are.one_each;
-        each = λ i net block tree plan net_at block_at tree_at plan_at.
-            let within = slice_get_within grown i tree tree_at in
-            let trees_long = have.trees_long in
-            let item = slice_get_there items i (omega (arith, within, trees_long)) in
-            (routed_at i item.0 (record { grown = tree; plan = plan }) net block item.1 (have.each i item.0 tree plan item.1 tree_at plan_at) net_at block_at).planned;
+        each = λ i net block plan net_at block_at plan_at.
+            let within = slice_get_within plans i plan plan_at in
+            let plans_long = have.plans_long in
+            let item = slice_get_there items i (omega (arith, within, plans_long)) in
+            (routed_at i item.0 plan net block item.1 (have.each i item.0 plan item.1 plan_at) net_at block_at).planned;
       }
 
       pub routing_of : All (λ (p : NetPlan). IsRoutingTree m p.tree.root p.tree.edges p.targets) plans
       routing_of k d below =
           let plans_long = have.plans_long in
-          let trees_long = have.trees_long in
           let item = slice_get_there items k (omega (arith, below, plans_long)) in
-          let tree = slice_get_there grown k (omega (arith, below, plans_long, trees_long)) in
           let plan : NetPlan = get_or plans k d in
-          let way = have.each k item.0 tree.0 plan item.1 tree.1 (slice_get-get_or plans k d below) in
+          let way = have.each k item.0 plan item.1 (slice_get-get_or plans k d below) in
           let one = are.each k item.0 item.1 in
-          (way_is one.net one.block item.0.way (record { grown = tree.0; plan = plan }) way one.way).routing
+          (way_is one.net one.block item.0.way plan way one.way).routing
 
       pub reached_of : All (HasNoneCutOff m spots) nets
       reached_of k d below =
           let one_each = are.one_each in
           let plans_long = have.plans_long in
-          let trees_long = have.trees_long in
           let item = slice_get_there items k (omega (arith, below, one_each)) in
-          let tree = slice_get_there grown k (omega (arith, below, one_each, trees_long)) in
           let plan = slice_get_there plans k (omega (arith, below, one_each, plans_long)) in
-          reached_at k item.0 (record { grown = tree.0; plan = plan.0 }) (get_or nets k d) item.1 (have.each k item.0 tree.0 plan.0 item.1 tree.1 plan.1) (slice_get-get_or nets k d below)
+          reached_at k item.0 plan.0 (get_or nets k d) item.1 (have.each k item.0 plan.0 item.1 plan.1) (slice_get-get_or nets k d below)
 
     cut_of : (net : ℕ) (target : Chip) → IsFirstCut items net target → IsFirstNetCutOff m spots nets net target
     cut_of net target first =

@@ -20,7 +20,8 @@ joined_chips grown = map (λ (j : Join). j.target) grown.joins
 -- The plan of a net has its block, the core of its source, and its targets. A tree grows from the source's chip to the
 -- target chips, whatever is dead, with no more edges than the target chips are far from the root, all together. The net's
 -- tree is that tree with its detours round dead links.
-pub record IsPlannedNet (m : Description) (spots : List Spot) (net : Net) (keys : Block) (growth : Grown) (plan : NetPlan) : Type 0 where
+pub record IsPlannedNet (m : Description) (spots : List Spot) (net : Net) (keys : Block) (plan : NetPlan) : Type 0 where
+  pub growth : Grown
   pub block : plan.block ≡ keys
   pub source : slice_get spots net.source ≡ Some plan.source
   pub targets : AreTargets spots net.targets plan.targets
@@ -31,14 +32,13 @@ pub record IsPlannedNet (m : Description) (spots : List Spot) (net : Net) (keys 
   pub root : plan.tree.root ≡ plan.source.chip
   pub repaired : IsRepaired m plan.source.chip growth.tree.edges (joined_chips growth) plan.tree.edges
 
--- at each place, the net with its block has the tree that grew for it and its plan
-abbrev pub IsEachPlanned : Description → List Spot → List Net → List Block → List Grown → List NetPlan → Type 0
-IsEachPlanned m spots nets blocks grown plans =
-    (i : ℕ) (net : Net) (block : Block) (tree : Grown) (plan : NetPlan) → slice_get nets i ≡ Some net → slice_get blocks i ≡ Some block →
-    slice_get grown i ≡ Some tree → slice_get plans i ≡ Some plan → IsPlannedNet m spots net block tree plan
+-- at each place, the net with its block has its plan
+abbrev pub IsEachPlanned : Description → List Spot → List Net → List Block → List NetPlan → Type 0
+IsEachPlanned m spots nets blocks plans =
+    (i : ℕ) (net : Net) (block : Block) (plan : NetPlan) → slice_get nets i ≡ Some net → slice_get blocks i ≡ Some block →
+    slice_get plans i ≡ Some plan → IsPlannedNet m spots net block plan
 
--- The plans of nets: each net has a tree that grew and a plan, at the net's place in the list.
-pub record ArePlanned (m : Description) (spots : List Spot) (nets : List Net) (blocks : List Block) (grown : List Grown) (plans : List NetPlan) : Type 0 where
-  pub one_tree_each : length grown ≡ length nets
+-- The plans of nets: each net has a plan, at the net's place in the list.
+pub record ArePlanned (m : Description) (spots : List Spot) (nets : List Net) (blocks : List Block) (plans : List NetPlan) : Type 0 where
   pub one_plan_each : length plans ≡ length nets
-  pub each : IsEachPlanned m spots nets blocks grown plans
+  pub each : IsEachPlanned m spots nets blocks plans

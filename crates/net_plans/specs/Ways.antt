@@ -13,11 +13,9 @@ use Rattle.app_graph.specs.ValidGraph.{IsValidGraph}
 use Rattle.link_detours.specs.declared.repairs.RepairErr.{RepairErr}
 use Rattle.link_detours.specs.declared.repairs.RepairErr.TheVariants.{CutOff}
 use Rattle.link_detours.specs.declared.roads.Roads.{Roads}
-use Rattle.ner_trees.specs.declared.growths.Grown.{Grown}
 use Rattle.machine_desc.specs.declared.nets.NetPlan.{NetPlan}
 use Rattle.link_detours.specs.LiveRoads.{AreRoadsOf}
 use Rattle.link_detours.specs.Repair.{AreInPlaceOrder}
-use Rattle.net_plans.specs.declared.nets.Routed.{Routed}
 use Rattle.net_plans.specs.declared.nets.RoutedNet.{RoutedNet}
 use Rattle.net_plans.specs.declared.nets.NetErr.{NetErr}
 use Rattle.net_plans.specs.declared.nets.NetErr.TheVariants as errors
@@ -42,15 +40,15 @@ pub record IsGrownTree (m : Description) (tree : Tree) (chips : List Chip) : Typ
   pub in_order : AreInPlaceOrder m tree.edges
   pub whole : All (λ e. IsLiveLink m e.chip e.dir) tree.edges → IsTreeTo m tree.root tree.edges chips
 
--- a net's tree and plan, with no target cut off
-pub record HasTreeAndPlan (m : Description) (spots : List Spot) (net : Net) (block : Block) (r : Routed) : Type 0 where
-  pub planned : IsPlannedNet m spots net block r.grown r.plan
-  pub routing : IsRoutingTree m r.plan.tree.root r.plan.tree.edges r.plan.targets
+-- a net's plan, whose tree leads to its targets, with no target cut off
+pub record HasTreeAndPlan (m : Description) (spots : List Spot) (net : Net) (block : Block) (plan : NetPlan) : Type 0 where
+  pub planned : IsPlannedNet m spots net block plan
+  pub routing : IsRoutingTree m plan.tree.root plan.tree.edges plan.targets
   pub reached : HasNoneCutOff m spots net
 
 -- what routing a net may answer
-abbrev pub IsRoutingAnswer : Description → List Spot → Net → Block → Result Routed RepairErr → Type 0
-IsRoutingAnswer m spots net block (Ok r) = HasTreeAndPlan m spots net block r
+abbrev pub IsRoutingAnswer : Description → List Spot → Net → Block → Result NetPlan RepairErr → Type 0
+IsRoutingAnswer m spots net block (Ok plan) = HasTreeAndPlan m spots net block plan
 IsRoutingAnswer m spots net block (Err e) = IsCauseOne m spots net e
 
 -- what came of routing the net at this place
@@ -69,23 +67,21 @@ pub record AreRoutedNets (m : Description) (spots : List Spot) (nets : List Net)
 
 -- ---- looked through in order
 
--- each item has a tree and a plan, which stand at its place
-pub record HaveWays (items : List RoutedNet) (grown : List Grown) (plans : List NetPlan) : Type 0 where
-  pub trees_long : length grown ≡ length items
+-- each item has a plan, which stands at its place
+pub record HaveWays (items : List RoutedNet) (plans : List NetPlan) : Type 0 where
   pub plans_long : length plans ≡ length items
-  pub each : (i : ℕ) (item : RoutedNet) (tree : Grown) (plan : NetPlan) → slice_get items i ≡ Some item → slice_get grown i ≡ Some tree → slice_get plans i ≡ Some plan →
-      item.way ≡ Ok (record { grown = tree; plan = plan })
+  pub each : (i : ℕ) (item : RoutedNet) (plan : NetPlan) → slice_get items i ≡ Some item → slice_get plans i ≡ Some plan → item.way ≡ Ok plan
 
--- an item has a target that is cut off, and each before it has a tree and a plan
+-- an item has a target that is cut off, and each before it has a plan
 pub record IsFirstCut (items : List RoutedNet) (net : ℕ) (target : Chip) : Type 0 where
   pub place : ℕ
   pub item : RoutedNet
   pub at : slice_get items place ≡ Some item
   pub names : item.net ≡ net
   pub cut_off : item.way ≡ Err (CutOff target)
-  pub before : (j : ℕ) (other : RoutedNet) → j < place → slice_get items j ≡ Some other → (r : Routed) × (other.way ≡ Ok r)
+  pub before : (j : ℕ) (other : RoutedNet) → j < place → slice_get items j ≡ Some other → (plan : NetPlan) × (other.way ≡ Ok plan)
 
--- the first item without a tree and a plan has a target that is cut off; want of memory is free
+-- the first item without a plan has a target that is cut off; want of memory is free
 abbrev pub IsFirstWithout : List RoutedNet → NetErr → Type 0
 IsFirstWithout items (errors.CutOff net target) = IsFirstCut items net target
 IsFirstWithout items errors.Memory = Unit {0}

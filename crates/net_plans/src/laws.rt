@@ -7,7 +7,6 @@ ghost use Rattle.machine_desc.specs.Description.{Description};
 ghost use Rattle.machine_desc.specs.Live.{IsSite};
 ghost use Rattle.app_graph.specs.declared.graphs.Net.{Net};
 ghost use Rattle.machine_desc.specs.declared.nets.NetPlan.{NetPlan};
-ghost use Rattle.ner_trees.specs.declared.growths.Grown.{Grown};
 ghost use Rattle.net_plans.specs.CutOffTargets.{IsFirstCutOffIn, IsFirstNetCutOff};
 ghost use Rattle.net_plans.specs.NetPlans.{IsPlannedNet, ArePlanned};
 ghost use Rattle.net_plans.specs.Targets.{AreTargets, AreTargetChips};
@@ -27,15 +26,13 @@ pub fn targets_are_determined()
         → (i ≡ j) × (a ≡ b) }
 {}
 
-/// A net whose source stands on a site has one tree that grows for it and one plan, and nets have one list of them. So
-/// the plans are the same in whatever order, and by however many threads, they are made.
+/// A net whose source stands on a site has one plan, and nets have one list of plans. So the plans are the same in
+/// whatever order, and by however many threads, they are made.
 pub fn plans_are_determined()
     ensures one_plan { (m : Description) (spots : List Spot) (net : Net) (block : Block)
-        (g h : Grown) (p q : NetPlan) → All (IsSite m) spots
-        → IsPlannedNet m spots net block g p → IsPlannedNet m spots net block h q
-        → (g ≡ h) × (p ≡ q) }
+        (p q : NetPlan) → All (IsSite m) spots
+        → IsPlannedNet m spots net block p → IsPlannedNet m spots net block q → p ≡ q }
     ensures one_list { (m : Description) (spots : List Spot) (nets : List Net) (blocks : List Block)
-        (gs hs : List Grown) (ps qs : List NetPlan) → All (IsSite m) spots
-        → length blocks ≡ length nets → ArePlanned m spots nets blocks gs ps
-        → ArePlanned m spots nets blocks hs qs → (gs ≡ hs) × (ps ≡ qs) }
+        (ps qs : List NetPlan) → All (IsSite m) spots → length blocks ≡ length nets
+        → ArePlanned m spots nets blocks ps → ArePlanned m spots nets blocks qs → ps ≡ qs }
 {}

@@ -11,5 +11,5 @@ mod orders;
 mod targets;
 
 pub use laws::{plans_are_determined, targets_are_determined};
-pub use nets::{NetErr, Routed, RoutedNets, net_plan, net_plans};
+pub use nets::{NetErr, net_plan, net_plans};
 pub use targets::{target_chips, targets_of};

@@ -22,25 +22,11 @@ use spin_base::{Block, Chip, Memory, Seq, Shared, Spot};
 use std::alloc::{AllocError, Global};
 use std::thread::Threads;
 
-/// A net on the machine: the tree that grew to its targets, whatever is dead, and its plan, whose tree has the detours.
-#[derive(Drop)]
-pub struct Routed {
-    pub grown: Grown,
-    pub plan: NetPlan,
-}
-
-/// Of each net, by its place in their list, the tree that grew and the plan.
-#[derive(Drop)]
-pub struct RoutedNets {
-    pub grown: Seq<Grown>,
-    pub plans: Seq<NetPlan>,
-}
-
-// What came of routing a net: the net's place in the list of nets, and its tree and plan, or why it has none.
+// What came of routing a net: the net's place in the list of nets, and its plan, or why it has none.
 #[derive(Drop)]
 pub struct RoutedNet {
     pub net: u32,
-    pub way: Result<Routed, RepairErr>,
+    pub way: Result<NetPlan, RepairErr>,
 }
 
 impl Shared for RoutedNet {}
@@ -66,9 +52,9 @@ impl From<Memory> for NetErr {
 }
 
 /// The plan of each net of a graph: its block, the core of its source, its targets, and the tree that grows from the
-/// source's chip to the target chips, with detours round what is dead; and that tree as it grew. `spots` has the core of
-/// each vertex, and `blocks` the keys of each net. Threads route the nets side by side. What came of each net is collected
-/// whole, in the order of the nets, before it is looked through: so the answer does not depend on which net was done first.
+/// source's chip to the target chips, with detours round what is dead. `spots` has the core of each vertex, and `blocks`
+/// the keys of each net. Threads route the nets side by side. What came of each net is collected whole, in the order of
+/// the nets, before it is looked through: so the answer does not depend on which net was done first.
 ///
 /// # Errors
 ///
@@ -81,15 +67,15 @@ pub fn net_plans<R: Threads + Sync>(
     graph: &Graph,
     spots: &Seq<Spot>,
     blocks: &Seq<Block>,
-) -> Result<RoutedNets, NetErr>
+) -> Result<Seq<NetPlan>, NetErr>
     requires valid { IsValidGraph graph.now }
     requires a_spot_each { length spots.now ≡ length graph.now.vertices }
     requires sites { All (IsSite machine.now) spots.now }
     requires a_block_each { length blocks.now ≡ length graph.now.nets }
-    ensures planned { IfOk result (λ r.
-        ArePlanned machine.now spots.now graph.now.nets blocks.now r.grown r.plans) }
-    ensures routing { IfOk result (λ r.
-        All (λ p. IsRoutingTree machine.now p.tree.root p.tree.edges p.targets) r.plans) }
+    ensures planned { IfOk result (λ plans.
+        ArePlanned machine.now spots.now graph.now.nets blocks.now plans) }
+    ensures routing { IfOk result (λ plans.
+        All (λ p. IsRoutingTree machine.now p.tree.root p.tree.edges p.targets) plans) }
     ensures reached { IfOk result (λ _. All (HasNoneCutOff machine.now spots.now) graph.now.nets) }
     ensures cause { IfErr result (IsNetCause machine.now spots.now graph.now.nets) }
     ensures cut_off { (i : ℕ) (target : Chip) →
@@ -103,24 +89,22 @@ pub fn net_plans<R: Threads + Sync>(
     looked_through(alloc, routed)
 }
 
-// The trees and plans of all nets, or the first net of which a target is cut off, or which wanted memory.
-fn looked_through(alloc: Global, routed: Vec<RoutedNet>) -> Result<RoutedNets, NetErr>
-    ensures all { IfOk result (λ r. HaveWays routed.items r.grown r.plans) }
+// The plans of all nets, or the first net of which a target is cut off, or which wanted memory.
+fn looked_through(alloc: Global, routed: Vec<RoutedNet>) -> Result<Seq<NetPlan>, NetErr>
+    ensures all { IfOk result (HaveWays routed.items) }
     ensures first { IfErr result (IsFirstWithout routed.items) }
 {
-    let mut grown = Seq::new(alloc);
     let mut plans = Seq::new(alloc);
     for item in routed {
         let RoutedNet { net, way } = item;
-        let Routed { grown: tree, plan } = match way {
-            Ok(routed) => routed,
+        let plan = match way {
+            Ok(plan) => plan,
             Err(RepairErr::CutOff { target }) => return Err(NetErr::CutOff { net, target }),
             Err(RepairErr::Memory) => return Err(NetErr::Memory),
         };
-        grown.push(tree)?;
         plans.push(plan)?;
     }
-    Ok(RoutedNets { grown, plans })
+    Ok(plans)
 }
 
 // What came of routing each net, in the order of the nets.
@@ -169,8 +153,8 @@ fn routed_net(
     RoutedNet { net: i as u32, way }
 }
 
-/// The plan of one net, which has these keys, and the tree that grew for it. `roads` are the machine's live links. All
-/// that it is lent it only reads, so nets may be planned side by side.
+/// The plan of one net, which has these keys. `roads` are the machine's live links. All that it is lent it only reads, so
+/// nets may be planned side by side.
 ///
 /// # Errors
 ///
@@ -183,14 +167,13 @@ pub fn net_plan(
     spots: &Seq<Spot>,
     net: &Net,
     block: Block,
-) -> Result<Routed, RepairErr>
+) -> Result<NetPlan, RepairErr>
     requires roads_are { AreRoadsOf machine.now roads.now }
     requires valid { IsValidNet (length spots.now) net.now }
     requires sites { All (IsSite machine.now) spots.now }
-    ensures planned { IfOk result (λ r.
-        IsPlannedNet machine.now spots.now net.now block r.grown r.plan) }
-    ensures routing { IfOk result (λ r.
-        IsRoutingTree machine.now r.plan.tree.root r.plan.tree.edges r.plan.targets) }
+    ensures planned { IfOk result (IsPlannedNet machine.now spots.now net.now block) }
+    ensures routing { IfOk result (λ plan.
+        IsRoutingTree machine.now plan.tree.root plan.tree.edges plan.targets) }
     ensures reached { IfOk result (λ _. HasNoneCutOff machine.now spots.now net.now) }
     ensures cause { IfErr result (IsCauseOne machine.now spots.now net.now) }
     ensures cut_off { (target : Chip) → IsFirstCutOffIn machine.now spots.now net.now target →
@@ -199,52 +182,40 @@ pub fn net_plan(
     let source = *spots.get(net.source as usize);
     let targets = targets_of(alloc, spots, &net.targets)?;
     let chips = target_chips(alloc, machine, source.chip, &targets)?;
-    let grown = ner(alloc, machine, source.chip, &chips)?;
-    let tree = with_detours(alloc, machine, roads, &grown.tree, &chips)?;
-    Ok(Routed {
-        grown,
-        plan: NetPlan {
-            block,
-            source,
-            targets,
-            tree,
-        },
+    let Grown {
+        tree: grown,
+        joins: _,
+    } = ner(alloc, machine, source.chip, &chips)?;
+    let tree = with_detours(alloc, machine, roads, grown, &chips)?;
+    Ok(NetPlan {
+        block,
+        source,
+        targets,
+        tree,
     })
 }
 
-// The tree of a net with its detours. A tree without a dead link is itself that tree, and is not searched.
+// The tree of a net with its detours. A tree without a dead link is itself that tree: it is handed on, and not searched.
 fn with_detours(
     alloc: Global,
     machine: &Machine,
     roads: &Roads,
-    tree: &Tree,
+    tree: Tree,
     chips: &Seq<Chip>,
 ) -> Result<Tree, RepairErr>
     requires roads_are { AreRoadsOf machine.now roads.now }
-    requires root_lives { IsLiveChip machine.now tree.now.root }
-    requires grown { IsGrownTree machine.now tree.now chips.now }
+    requires root_lives { IsLiveChip machine.now tree.root }
+    requires grown { IsGrownTree machine.now tree chips.now }
     requires some_target { 0 < length chips.now }
     requires targets_inside { All (IsInside machine.now) chips.now }
-    ensures root { IfOk result (λ t. t.root ≡ tree.now.root) }
+    ensures root { IfOk result (λ t. t.root ≡ tree.root) }
     ensures repaired { IfOk result (λ t.
-        IsRepaired machine.now tree.now.root tree.now.edges chips.now t.edges) }
-    ensures routing { IfOk result (λ t. IsTreeTo machine.now tree.now.root t.edges chips.now) }
-    ensures cut_off { IfErr result (IsRepairCause machine.now tree.now.root chips.now) }
+        IsRepaired machine.now tree.root tree.edges chips.now t.edges) }
+    ensures routing { IfOk result (λ t. IsTreeTo machine.now tree.root t.edges chips.now) }
+    ensures cut_off { IfErr result (IsRepairCause machine.now tree.root chips.now) }
 {
     if roads.carry(machine, tree.edges.as_slice()) {
-        let same = copied(alloc, tree)?;
-        return Ok(same);
+        return Ok(tree);
     }
-    repair(alloc, machine, roads, tree, chips)
-}
-
-// The same tree once more.
-fn copied(alloc: Global, tree: &Tree) -> Result<Tree, Memory>
-    ensures { IfOk result (λ copy. copy ≡ tree.now) }
-{
-    let edges = Seq::from_vec(Vec::from_slice(alloc, tree.edges.as_slice())?);
-    Ok(Tree {
-        root: tree.root,
-        edges,
-    })
+    repair(alloc, machine, roads, &tree, chips)
 }

@@ -10,14 +10,13 @@ loop-item-preserved c =
     let items = c.args.routed.items in
     let left : drop (length c.loop-item.plans) items ≡ c.in-Some.item ∷ into_iter_items c.next.new.self = sym c.loop-item.invariant.3 ∙ c.in-Some.ensures.steps.0 in
     let head = dropped_head items (length c.loop-item.plans) c.in-Some.item (into_iter_items c.next.new.self) left in
-    let more : length c.push-in-loop-item.new.self ≡ length c.loop-item.plans + 1 =
-    long_more c.loop-item.plans c.push-in-loop-item.new.self c.in-Ok.routed.plan (length c.loop-item.plans) refl c.in_ok-push-2.ensures.ok
+    let more : length c.push.new.self ≡ length c.loop-item.plans + 1 =
+    long_more c.loop-item.plans c.push.new.self c.in-Ok.plan (length c.loop-item.plans) refl c.in_ok-push.ensures.ok
     in (
       tt,
       tt,
-      subst (HaveWaysTo items c.push.new.self c.push-in-loop-item.new.self) (sym more)
-          (one_way_more items c.loop-item.grown c.push.new.self c.loop-item.plans c.push-in-loop-item.new.self (length c.loop-item.plans) c.in-Some.item c.in-Ok.routed.grown c.in-Ok.routed.plan
-          c.loop-item.invariant.2 head.0 c.in-Ok.is c.in_ok-push.ensures.ok c.in_ok-push-2.ensures.ok),
+      subst (HaveWaysTo items c.push.new.self) (sym more)
+          (one_way_more items c.loop-item.plans c.push.new.self (length c.loop-item.plans) c.in-Some.item c.in-Ok.plan c.loop-item.invariant.2 head.0 c.in-Ok.is c.in_ok-push.ensures.ok),
       sym head.1 ∙ ap (λ n. drop n items) (sym more),
     )
 
@@ -33,5 +32,5 @@ returns-in-Err-CutOff-clause-first c =
       at = head.0;
       names = refl;
       cut_off = cut;
-      before = ways_before items c.loop-item.grown c.loop-item.plans (length c.loop-item.plans) c.loop-item.invariant.2;
+      before = ways_before items c.loop-item.plans (length c.loop-item.plans) c.loop-item.invariant.2;
     }

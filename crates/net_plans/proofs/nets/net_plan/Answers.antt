@@ -46,8 +46,8 @@ with_detours-requires-clause-targets_inside c =
 
 pub returns-in_err-tree-clause-cause : goal.returns-in_err-tree-clause-cause
 returns-in_err-tree-clause-cause c =
-    let cause : IfErr c.from_residual-in_err-tree.result (IsRepairCause c.args.machine.now c.in_ok-grown.grown.tree.root c.in_ok-chips.chips) = search rules in
-    IfErr-weaker c.from_residual-in_err-tree.result (IsRepairCause c.args.machine.now c.in_ok-grown.grown.tree.root c.in_ok-chips.chips) (IsCauseOne c.args.machine.now c.args.spots.now c.args.net.now)
+    let cause : IfErr c.from_residual-in_err-tree.result (IsRepairCause c.args.machine.now c.in_ok-grown.field-0.tree.root c.in_ok-chips.chips) = search rules in
+    IfErr-weaker c.from_residual-in_err-tree.result (IsRepairCause c.args.machine.now c.in_ok-grown.field-0.tree.root c.in_ok-chips.chips) (IsCauseOne c.args.machine.now c.args.spots.now c.args.net.now)
     (λ e found. cause_one c.args.machine.now c.args.spots.now c.args.net.now c.get-source.result.now c.in_ok-targets.targets c.in_ok-chips.chips c.get-source.ensures c.in_ok-targets.ensures c.in_ok-chips.ensures e
     (subst (λ r. IsRepairCause c.args.machine.now r c.in_ok-chips.chips e) c.in_ok-grown.ensures.root found)) cause
 
@@ -58,7 +58,7 @@ returns-in_err-tree-clause-cut_off c =
 
 pub returns-clause-planned : goal.returns-clause-planned
 returns-clause-planned c =
-    plan_is c.args.machine.now c.args.spots.now c.args.net.now c.args.block c.get-source.result.now c.in_ok-targets.targets c.in_ok-chips.chips c.in_ok-grown.grown c.in_ok-tree.tree
+    plan_is c.args.machine.now c.args.spots.now c.args.net.now c.args.block c.get-source.result.now c.in_ok-targets.targets c.in_ok-chips.chips c.in_ok-grown.field-0 c.in_ok-tree.tree
     c.get-source.ensures c.in_ok-targets.ensures c.in_ok-chips.ensures c.in_ok-grown.ensures.root c.in_ok-grown.ensures.grown c.in_ok-grown.ensures.few_edges
     c.in_ok-tree.ensures.root c.in_ok-tree.ensures.repaired
 
@@ -79,7 +79,7 @@ returns-clause-cut_off c = λ target first. absurd (returns-clause-reached c fir
 pub with_detours-requires-clause-grown : goal.with_detours-requires-clause-grown
 with_detours-requires-clause-grown c =
     let m = c.args.machine.now in
-    let edges = c.in_ok-grown.grown.tree.edges in
+    let edges = c.in_ok-grown.field-0.tree.edges in
     let root = c.in_ok-grown.ensures.root in
     let some : 0 < length c.in_ok-chips.chips =
     some_chip m c.get-source.result.now.chip c.args.spots.now c.args.net.now.targets c.in_ok-targets.targets c.in_ok-chips.chips

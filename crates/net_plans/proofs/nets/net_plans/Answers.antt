@@ -2,7 +2,6 @@ use Rattle.std.specs.List.{All}
 use Rattle.std.proofs.lemmas.Result.{IfOk-weaker, IfErr-weaker}
 use Rattle.machine_desc.specs.RoutingTree.{IsRoutingTree}
 use Rattle.machine_desc.specs.declared.nets.NetPlan.{NetPlan}
-use Rattle.net_plans.specs.declared.nets.RoutedNets.{RoutedNets}
 use Rattle.net_plans.specs.Cause.{IsNetCause}
 use Rattle.net_plans.specs.CutOffTargets.{HasNoneCutOff}
 use Rattle.net_plans.specs.NetPlans.{ArePlanned}
@@ -15,23 +14,23 @@ pub returns-clause-planned : goal.returns-clause-planned
 returns-clause-planned g c =
     let m = c.args.machine.now in
     let items = c.in-Ok.routed.items in
-    IfOk-weaker c.looked_through.result (λ (r : RoutedNets). HaveWays items r.grown r.plans) (λ (r : RoutedNets). ArePlanned m c.args.spots.now c.args.graph.now.nets c.args.blocks.now r.grown r.plans)
-    (λ r have. planned_of m c.args.spots.now c.args.graph.now.nets c.args.blocks.now items c.in-Ok.ensures r.grown r.plans have) c.looked_through.ensures.all
+    IfOk-weaker c.looked_through.result (HaveWays items) (ArePlanned m c.args.spots.now c.args.graph.now.nets c.args.blocks.now)
+    (λ plans have. planned_of m c.args.spots.now c.args.graph.now.nets c.args.blocks.now items c.in-Ok.ensures plans have) c.looked_through.ensures.all
 
 pub returns-clause-routing : goal.returns-clause-routing
 returns-clause-routing g c =
     let m = c.args.machine.now in
     let items = c.in-Ok.routed.items in
-    IfOk-weaker c.looked_through.result (λ (r : RoutedNets). HaveWays items r.grown r.plans)
-    (λ (r : RoutedNets). All (λ (p : NetPlan). IsRoutingTree m p.tree.root p.tree.edges p.targets) r.plans)
-    (λ r have. routing_of m c.args.spots.now c.args.graph.now.nets c.args.blocks.now items c.in-Ok.ensures r.grown r.plans have) c.looked_through.ensures.all
+    IfOk-weaker c.looked_through.result (HaveWays items)
+    (All (λ (p : NetPlan). IsRoutingTree m p.tree.root p.tree.edges p.targets))
+    (λ plans have. routing_of m c.args.spots.now c.args.graph.now.nets c.args.blocks.now items c.in-Ok.ensures plans have) c.looked_through.ensures.all
 
 pub returns-clause-reached : goal.returns-clause-reached
 returns-clause-reached g c =
     let m = c.args.machine.now in
     let items = c.in-Ok.routed.items in
-    IfOk-weaker c.looked_through.result (λ (r : RoutedNets). HaveWays items r.grown r.plans) (λ (r : RoutedNets). All (HasNoneCutOff m c.args.spots.now) c.args.graph.now.nets)
-    (λ r have. reached_of m c.args.spots.now c.args.graph.now.nets c.args.blocks.now items c.in-Ok.ensures r.grown r.plans have) c.looked_through.ensures.all
+    IfOk-weaker c.looked_through.result (HaveWays items) (λ _. All (HasNoneCutOff m c.args.spots.now) c.args.graph.now.nets)
+    (λ plans have. reached_of m c.args.spots.now c.args.graph.now.nets c.args.blocks.now items c.in-Ok.ensures plans have) c.looked_through.ensures.all
 
 pub returns-clause-cause : goal.returns-clause-cause
 returns-clause-cause g c =
