@@ -1,14 +1,18 @@
 -- Which input bytes are, and what a source that tells its bytes gave.
-use Rattle.std.proofs.Common.{◌≡◌, ℕ, ◌<◌, ◌≤◌, List, [], ◌++◌, length, nat_lt, Bool, true, false, Option, Some, None, Result, Ok, Err, IfErr, refl, sym, ap, ◌∙◌, subst, arith}
+use Rattle.std.proofs.Common.{◌≡◌, ◌⊎◌, inl, inr, ℕ, ◌<◌, ◌≤◌, List, [], ◌++◌, length, nat_lt, Bool, true, false, Option, Some, None, Result, Ok, Err, IfErr, refl, sym, ap, ◌∙◌, subst, arith}
 use Rattle.std.specs.Result.{IsErr, IsErrAnd}
 use Rattle.std.proofs.lemmas.Bool.{cond-true, cond-false, lt-ltb, ltb-true}
 use Rattle.std.proofs.lemmas.List.{append-nil, length-append}
 use Rattle.serde_json.specs.Data.{Data}
 use Rattle.job_text.specs.Json.{json_of}
-use Rattle.spin_base.specs.Outside.{GivesAll, LosesMoreThan}
+use Rattle.spin_base.specs.Outside.{FaultsRose, GivesAll, LosesAtMost, LosesFront, LosesMoreThan}
+use Rattle.spin_base.specs.declared.reading.ReadErr.{ReadErr}
+use Rattle.spin_base.specs.declared.reading.ReadErr.TheVariants as reads
 use Rattle.run_report.specs.declared.causes.Refusal.{Refusal}
 use Rattle.run_report.specs.declared.causes.Refusal.TheVariants as refusals
+use Rattle.spin_input.specs.Inputs.{HasNoFault, HasNoInput, Reading, no_memory, read_fault, too_long}
 use Rattle.spin_input.specs.Kinds.{input_from, input_in}
+use Rattle.spin_input.specs.Refusals.{unread}
 
 -- ---- bytes
 
@@ -46,6 +50,53 @@ told_long kind (Some b) None bytes long told = absurd long.1
 told_long kind (Some b) (Some r) bytes long told =
     let same : b ≡ bytes = cc in
     ap (input_in kind) (sym same) ∙ input_in-long kind b (omega (arith, long.2, ap length long.1, length-append long.0 r))
+
+-- ---- errors
+
+-- an answer that is no failed read leaves the count of faults
+no_failed_read : {A : Type 0} (o : Result A ReadErr) (reading : Reading) → (o ≡ Err reads.Fault → ⊥) → (o ≡ Err reads.Fault) ⊎ HasNoFault reading → HasNoFault reading
+no_failed_read o reading other (inl failed) = absurd (other failed)
+no_failed_read o reading other (inr quiet) = quiet
+
+never_failed : {A : Type 0} (x : A) → (◌≡◌ {A = Result A ReadErr} (Ok x) (Err reads.Fault)) → ⊥
+never_failed x failed = cc
+
+-- bytes that were read leave it
+pub read_quiet : {A : Type 0} (x : A) (reading : Reading) → (◌≡◌ {A = Result A ReadErr} (Ok x) (Err reads.Fault)) ⊎ HasNoFault reading → HasNoFault reading
+read_quiet x reading = no_failed_read (Ok x) reading (never_failed x)
+
+-- what was read, where there was no memory for more
+within_limit : {A : Type 0} (o : Result A ReadErr) (reading : Reading) → (o ≡ Err reads.TooLong → ⊥) → (o ≡ Err reads.TooLong) ⊎ LosesAtMost 16777216 reading.left reading.rest →
+    LosesAtMost 16777216 reading.left reading.rest
+within_limit o reading other (inl long) = absurd (other long)
+within_limit o reading other (inr few) = few
+
+-- an answer of reading that is this error
+abbrev Failed : (B : Type 0) → ReadErr → ReadErr → Type 0
+Failed B e f = ◌≡◌ {A = Result B ReadErr} (Err e) (Err f)
+
+apart : {B : Type 0} (e f : ReadErr) → (e ≡ f → ⊥) → Failed B e f → ⊥
+apart e f other same = let equal : e ≡ f = cc in other equal
+
+-- a source that was not read, by the refusal of its error
+pub unread_input : {A B : Type 0} (value_in : List ℕ → Result A Refusal) (reading : Reading) (e : ReadErr) → LosesFront reading.left reading.rest →
+    (Failed B e reads.Fault → FaultsRose reading.faults reading.faults') → (Failed B e reads.TooLong → LosesMoreThan 16777216 reading.left reading.rest) →
+    Failed B e reads.TooLong ⊎ LosesAtMost 16777216 reading.left reading.rest → Failed B e reads.Fault ⊎ HasNoFault reading → HasNoInput value_in reading (unread e)
+unread_input value_in reading reads.Fault lost rose long few quiet = read_fault lost (rose refl) refl
+unread_input {B = B} value_in reading reads.TooLong lost rose long few quiet =
+    too_long (long refl) (no_failed_read {A = B} (Err reads.TooLong) reading (apart reads.TooLong reads.Fault too_long_other) quiet) refl
+  where
+    too_long_other : reads.TooLong ≡ reads.Fault → ⊥
+    too_long_other same = cc
+unread_input {B = B} value_in reading reads.OutOfMemory lost rose long few quiet =
+    no_memory (within_limit {A = B} (Err reads.OutOfMemory) reading (apart reads.OutOfMemory reads.TooLong memory_not_long) few)
+    (no_failed_read {A = B} (Err reads.OutOfMemory) reading (apart reads.OutOfMemory reads.Fault memory_no_fault) quiet) refl
+  where
+    memory_not_long : reads.OutOfMemory ≡ reads.TooLong → ⊥
+    memory_not_long same = cc
+
+    memory_no_fault : reads.OutOfMemory ≡ reads.Fault → ⊥
+    memory_no_fault same = cc
 
 -- an error that is handed on is the same
 pub err_carried : {A E : Type 0} (r : Result A E) (e : E) (P : E → Type 0) → IsErr r × IsErrAnd r (λ f. f ≡ e) → P e → IfErr r P

@@ -3,6 +3,7 @@ pub use Rattle.app_graph.specs.RunPart
 pub use Rattle.app_graph.specs.ValidGraph
 pub mod Inputs
 pub mod Kinds
+pub mod Refusals
 pub mod Jobs
 pub mod Requests
 pub mod Steps

@@ -7,6 +7,7 @@ ghost use Rattle.run_report.specs.declared.causes.Refusal.TheVariants.{Memory};
 ghost use Rattle.job_text.specs.Json.{json_of};
 ghost use Rattle.spin_input.specs.Inputs.{IsReadAs, HasNoInput, reading_of};
 ghost use Rattle.spin_input.specs.Kinds.{input_of, input_from, input_in};
+ghost use Rattle.spin_input.specs.Refusals.{unread, unparsed, unfit};
 ghost use Rattle.spin_input.specs.Jobs.{job_from, job_in};
 ghost use Rattle.spin_input.specs.Requests.{request_in};
 ghost use Rattle.spin_input.specs.Steps.{steps_in};
@@ -88,9 +89,18 @@ fn read_input<I: Input, S: Source>(alloc: Global, source: &mut S) -> Result<I, R
 {
     match read_all(alloc, source, MOST_BYTES) {
         Ok(bytes) => input_of_bytes(alloc, bytes.as_slice()),
-        Err(ReadErr::Fault) => Err(Refusal::ReadFault),
-        Err(ReadErr::TooLong) => Err(Refusal::TooLong),
-        Err(ReadErr::OutOfMemory) => Err(Refusal::Memory),
+        Err(error) => Err(unread(error)),
+    }
+}
+
+// The refusal of a source that was not read.
+fn unread(error: ReadErr) -> Refusal
+    ensures { result ≡ unread error }
+{
+    match error {
+        ReadErr::Fault => Refusal::ReadFault,
+        ReadErr::TooLong => Refusal::TooLong,
+        ReadErr::OutOfMemory => Refusal::Memory,
     }
 }
 
@@ -132,8 +142,17 @@ fn input_of_text<I: Input>(alloc: Global, bytes: &[u8]) -> Result<I, Refusal>
 {
     match parse(alloc, bytes) {
         Ok(value) => input_of_value(alloc, &value),
-        Err(ParseErr::NotJson) => Err(Refusal::NotJson),
-        Err(ParseErr::Memory) => Err(Refusal::Memory),
+        Err(error) => Err(unparsed(error)),
+    }
+}
+
+// The refusal of bytes that are no JSON.
+fn unparsed(error: ParseErr) -> Refusal
+    ensures { result ≡ unparsed error }
+{
+    match error {
+        ParseErr::NotJson => Refusal::NotJson,
+        ParseErr::Memory => Refusal::Memory,
     }
 }
 
@@ -147,7 +166,16 @@ fn input_of_value<I: Input>(alloc: Global, value: &Value) -> Result<I, Refusal>
 {
     match I::of_value(alloc, value) {
         Ok(input) => Ok(input),
-        Err(TextErr::Fault(fault)) => Err(Refusal::Job(fault)),
-        Err(TextErr::Memory) => Err(Refusal::Memory),
+        Err(error) => Err(unfit(error)),
+    }
+}
+
+// The refusal of a value with a fault.
+fn unfit(error: TextErr) -> Refusal
+    ensures { result ≡ unfit error }
+{
+    match error {
+        TextErr::Fault(fault) => Refusal::Job(fault),
+        TextErr::Memory => Refusal::Memory,
     }
 }

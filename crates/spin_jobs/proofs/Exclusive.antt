@@ -1,7 +1,8 @@
 -- A job has a plan or one reason why it has none, since the compiler has one answer.
-use Rattle.std.proofs.Common.{◌≡◌, ◌⊎◌, ℕ, Result, Ok, Err, refl, sym, ap, ◌∙◌, subst, inl, inr}
+use Rattle.std.proofs.Common.{◌≡◌, ◌⊎◌, ℕ, List, Result, Ok, Err, IfOk, refl, sym, ap, ◌∙◌, subst, inl, inr}
 use Rattle.spin_base.proofs.Places.{one_item_at}
 use Rattle.spin_base.specs.declared.chips.Chip.{Chip}
+use Rattle.spin_base.specs.declared.wants.Memory.{Memory as NoMemory}
 use Rattle.app_graph.specs.declared.graphs.Graph.{Graph}
 use Rattle.app_graph.specs.declared.graphs.Net.{Net}
 use Rattle.app_graph.specs.declared.graphs.Vertex.{Vertex}
@@ -18,7 +19,7 @@ use Rattle.par_compile.proofs.Refusing.{refused_where}
 use Rattle.run_report.specs.declared.causes.Refusal.{Refusal}
 use Rattle.run_report.specs.declared.causes.Refusal.TheVariants as refusals
 use Rattle.spin_jobs.specs.Planned.{IsPlanOfJob}
-use Rattle.spin_jobs.specs.Unplanned.{CanBePlanned, HasBlocks, HasNoPlan, Names}
+use Rattle.spin_jobs.specs.Unplanned.{CanBePlanned, HasBlocks, HasNoPlan, IsNameIn, Names, refusal_of}
 
 -- ---- the compiler
 
@@ -29,10 +30,6 @@ not_ok plan e f (inr is) = cc
 same_error : (e f m : CompileErr) → (◌≡◌ {A = Result Plan CompileErr} (Err e) (Err f)) ⊎ (◌≡◌ {A = Result Plan CompileErr} (Err e) (Err m)) → (e ≡ f) ⊎ (e ≡ m)
 same_error e f m (inl is) = inl cc
 same_error e f m (inr is) = inr cc
-
--- an error is called what the same error is called
-pub names_same : (graph : Graph) (e f : CompileErr) (r : Refusal) → e ≡ f → Names graph f r → Names graph e r
-names_same graph e f r same names = subst (λ x. Names graph x r) (sym same) names
 
 module _ (m : Description) (graph : Graph) (target : ℕ) where
   -- a graph with a plan has no cause
@@ -69,6 +66,28 @@ module _ (m : Description) (graph : Graph) (target : ℕ) where
   none_served placed keyed joined short Memory cause r names = absurd names
 
 -- ---- jobs
+
+-- an error numbers what the same error numbers
+pub name_in_same : (graph : Graph) (e f : CompileErr) (name : List ℕ) → e ≡ f → IsNameIn graph f name → IsNameIn graph e name
+name_in_same graph e f name same is = subst (λ x. IsNameIn graph x name) (sym same) is
+
+-- a refusal by the name that the compiler's error numbers
+by_name : (graph : Graph) (e : CompileErr) (name : Result (List ℕ) NoMemory) → IfOk name (IsNameIn graph e) → Names graph e (refusal_of e name) ⊎ (refusal_of e name ≡ refusals.Memory)
+by_name graph (NoRoom i) (Ok name) is = inl (is.0, is.1, ap refusals.NoRoom is.2)
+by_name graph (NoRoom i) (Err memory) is = inr refl
+by_name graph (KeysOut i) (Ok name) is = inl (is.0, is.1, ap refusals.KeysOut is.2)
+by_name graph (KeysOut i) (Err memory) is = inr refl
+by_name graph (CutOff i target) (Ok name) is = inl (is.0, is.1, ap (λ n. refusals.CutOff n target) is.2)
+by_name graph (CutOff i target) (Err memory) is = inr refl
+by_name graph (TableLong chip table) name is = inl refl
+by_name graph Memory name is = inr refl
+
+pub no_plan_by_name : (job : Job) (e : CompileErr) (name : Result (List ℕ) NoMemory) (r : Refusal) → IsCompileCause job.machine job.graph job.run.target e →
+    IfOk name (IsNameIn job.graph e) → r ≡ refusal_of e name → HasNoPlan job r ⊎ (r ≡ refusals.Memory)
+no_plan_by_name job e name r cause named is = elim (by_name job.graph e name named) [
+  | inl names ↦ inl (record { error = e; cause = cause; names = subst (Names job.graph e) (sym is) names })
+  | inr memory ↦ inr (is ∙ memory)
+]
 
 pub one_no_plan : (job : Job) (r s : Refusal) → HasNoPlan job r → HasNoPlan job s → r ≡ s
 one_no_plan job r s a b = elim (one_cause job.machine job.graph job.run.target a.error b.error a.cause b.cause s b.names) [

@@ -1,7 +1,8 @@
 -- Why a job has no plan, and when it has one (this project's own).
-use Rattle.std.specs.Prelude.{◌≡◌, ℕ, List, Some, slice_get}
+use Rattle.std.specs.Prelude.{◌≡◌, ℕ, List, Some, Result, Ok, Err, slice_get}
 use Rattle.spin_base.specs.declared.blocks.Block.{Block}
 use Rattle.spin_base.specs.declared.chips.Chip.{Chip}
+use Rattle.spin_base.specs.declared.wants.Memory.{Memory as NoMemory}
 use Rattle.app_graph.specs.declared.graphs.Vertex.{Vertex}
 use Rattle.app_graph.specs.declared.graphs.Net.{Net}
 use Rattle.app_graph.specs.declared.graphs.Graph.{Graph}
@@ -21,6 +22,26 @@ Names graph (KeysOut i) r = (net : Net) × (slice_get graph.nets i ≡ Some net)
 Names graph (CutOff i target) r = (net : Net) × (slice_get graph.nets i ≡ Some net) × (r ≡ refusals.CutOff net.name target)
 Names graph (TableLong chip table) r = r ≡ refusals.TableLong chip table
 Names graph Memory r = ⊥
+
+-- the name of the vertex or net that the compiler's error numbers
+abbrev pub IsNameIn : Graph → CompileErr → List ℕ → Type 0
+IsNameIn graph (NoRoom i) name = (vertex : Vertex) × (slice_get graph.vertices i ≡ Some vertex) × (name ≡ vertex.name)
+IsNameIn graph (KeysOut i) name = (net : Net) × (slice_get graph.nets i ≡ Some net) × (name ≡ net.name)
+IsNameIn graph (CutOff i target) name = (net : Net) × (slice_get graph.nets i ≡ Some net) × (name ≡ net.name)
+IsNameIn graph (TableLong chip table) name = Unit {0}
+IsNameIn graph Memory name = Unit {0}
+
+-- The refusal of the compiler's error, with the name of the vertex or net that it numbers. Want of memory is told where memory
+-- ran out, also for the name, and nowhere else.
+abbrev pub refusal_of : CompileErr → Result (List ℕ) NoMemory → Refusal
+refusal_of (NoRoom i) (Ok name) = refusals.NoRoom name
+refusal_of (NoRoom i) (Err memory) = refusals.Memory
+refusal_of (KeysOut i) (Ok name) = refusals.KeysOut name
+refusal_of (KeysOut i) (Err memory) = refusals.Memory
+refusal_of (CutOff i target) (Ok name) = refusals.CutOff name target
+refusal_of (CutOff i target) (Err memory) = refusals.Memory
+refusal_of (TableLong chip table) name = refusals.TableLong chip table
+refusal_of Memory name = refusals.Memory
 
 -- Why a job has no plan: a vertex has no room; or all have, and a net has no keys; or all have keys, and a target of a net is
 -- cut off; or none is, and a chip's final table does not fit into its router. The refusal names the first.

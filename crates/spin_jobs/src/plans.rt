@@ -5,7 +5,7 @@ ghost use Rattle.app_graph.specs.ValidGraph.{IsValidGraph};
 ghost use Rattle.par_compile.specs.Compiled.{IsCompileCause};
 ghost use Rattle.run_report.specs.declared.causes.Refusal.TheVariants.{Memory as NoMemory};
 ghost use Rattle.spin_jobs.specs.Planned.{IsThePlan};
-ghost use Rattle.spin_jobs.specs.Unplanned.{HasNoPlan, Names};
+ghost use Rattle.spin_jobs.specs.Unplanned.{HasNoPlan, IsNameIn, refusal_of};
 
 use job_readers::Job;
 use par_compile::{CompileErr, CompileRequest, Plan, compile};
@@ -34,33 +34,56 @@ pub(crate) fn plan_of<R: Threads + Sync, G: Gate>(
     };
     match compile(rt, alloc, &request, gate) {
         Ok(plan) => Ok(plan),
-        Err(error) => match refusal_for(alloc, job, error) {
-            Ok(refusal) => Err(refusal),
-            Err(Memory) => Err(Refusal::Memory),
-        },
+        Err(cause) => {
+            let name = name_in(alloc, job, &cause);
+            Err(refusal_of(cause, name))
+        }
     }
 }
 
-// The refusal that names the vertex or net which the compiler's error numbers, or has its chip and table.
-fn refusal_for(alloc: Global, job: &Job, error: CompileErr) -> Result<Refusal, Memory>
-    requires { IsCompileCause job.now.machine job.now.graph job.now.run.target error }
-    ensures { IfOk result (λ r. Names job.now.graph error r ⊎ (r ≡ NoMemory)) }
+// The name of the vertex or net that a cause numbers. One that numbers none has no text, and takes no memory.
+fn name_in(alloc: Global, job: &Job, cause: &CompileErr) -> Result<Name, Memory>
+    requires { IsCompileCause job.now.machine job.now.graph job.now.run.target cause.now }
+    ensures { IfOk result (IsNameIn job.now.graph cause.now) }
 {
     let graph = &job.graph;
-    match error {
+    match cause {
         CompileErr::NoRoom { vertex } => {
-            let vertex = graph.vertices.get(vertex as usize);
-            Ok(Refusal::NoRoom(Name::of(alloc, vertex.name.as_str())?))
+            let vertex = graph.vertices.get(*vertex as usize);
+            Name::of(alloc, vertex.name.as_str())
         }
         CompileErr::KeysOut { net } => {
-            let net = graph.nets.get(net as usize);
-            Ok(Refusal::KeysOut(Name::of(alloc, net.name.as_str())?))
+            let net = graph.nets.get(*net as usize);
+            Name::of(alloc, net.name.as_str())
         }
-        CompileErr::CutOff { net, target } => {
-            let net = graph.nets.get(net as usize);
-            Ok(Refusal::CutOff(Name::of(alloc, net.name.as_str())?, target))
+        CompileErr::CutOff { net, .. } => {
+            let net = graph.nets.get(*net as usize);
+            Name::of(alloc, net.name.as_str())
         }
-        CompileErr::TableLong { chip, table } => Ok(Refusal::TableLong(chip, table)),
-        CompileErr::Memory => Ok(Refusal::Memory),
+        CompileErr::TableLong { .. } | CompileErr::Memory => {
+            Ok(Name::from_string(String::new(alloc)))
+        }
+    }
+}
+
+// The refusal of a cause, with the name of the vertex or net that it numbers.
+fn refusal_of(cause: CompileErr, name: Result<Name, Memory>) -> Refusal
+    ensures { result ≡ refusal_of cause name }
+{
+    match cause {
+        CompileErr::NoRoom { .. } => match name {
+            Ok(name) => Refusal::NoRoom(name),
+            Err(Memory) => Refusal::Memory,
+        },
+        CompileErr::KeysOut { .. } => match name {
+            Ok(name) => Refusal::KeysOut(name),
+            Err(Memory) => Refusal::Memory,
+        },
+        CompileErr::CutOff { target, .. } => match name {
+            Ok(name) => Refusal::CutOff(name, target),
+            Err(Memory) => Refusal::Memory,
+        },
+        CompileErr::TableLong { chip, table } => Refusal::TableLong(chip, table),
+        CompileErr::Memory => Refusal::Memory,
     }
 }

@@ -1,7 +1,6 @@
-use Rattle.std.proofs.Common.{◌≡◌, ◌*◌, ◌∙◌, All, List, length, ap, sym, subst}
+use Rattle.std.proofs.Common.{◌≡◌, ◌*◌, ◌∙◌, All, length, ap, sym, subst}
 use Rattle.std.specs.List.{Contains}
 use Rattle.std.proofs.lemmas.List.{length-map}
-use Rattle.spin_base.specs.declared.chips.Spot.{Spot}
 use Rattle.machine_desc.specs.declared.nets.NetPlan.{NetPlan}
 use Rattle.mesh_core.specs.State.{Setup}
 use Rattle.mesh_core.specs.Opened.{AreOfNets}
