@@ -16,10 +16,10 @@ use Rattle.machine_desc.specs.declared.nets.NetPlan.{NetPlan}
 use Rattle.machine_desc.specs.Outputs.{is_wanted, ComesIn}
 use Rattle.tern_word.specs.declared.tables.Row.{Row}
 use Rattle.tern_word.specs.declared.tables.Table.{Table}
-use Rattle.tern_word.specs.Ternary.{generality}
+use Rattle.tern_word.specs.Ternary.{Intersects, generality}
 use Rattle.tern_word.specs.SoundTable.{Original}
 use Rattle.net_tables.specs.declared.marks.Mark.{Mark}
-use Rattle.net_tables.specs.PlainTable.{HasChip, IsOriginalOf, IsRowNotAfter, row_of}
+use Rattle.net_tables.specs.PlainTable.{AreOriginals, HasChip, IsOriginalOf, IsRowNotAfter, row_of}
 
 -- the port is one at which packets come in at the chip, and there is none only at a chip off the tree
 abbrev pub TellsPort : Description → Chip → List Edge → Chip → Option Port → Type 0
@@ -56,6 +56,15 @@ pub record IsBlank {X : Type 0} (m : Description) (x : X) (board : List X) : Typ
 -- a chip off the net's tree has no route
 abbrev pub IsClearOff : Description → NetPlan → List Route → Type 0
 IsClearOff m net routes = (c : Chip) → IsInside m c → (HasChip m net c → ⊥) → slice_index_or routes (index_of m c) nothing ≡ nothing
+
+-- no key is in two of the blocks
+abbrev pub AreApart : List Mark → Type 0
+AreApart marks = AllPairs (λ (a b : Mark). ¬ (Intersects a.block b.block)) marks
+
+-- each chip's original blocks, by the chip's index
+pub record AreBlocksOf (m : Description) (nets : List NetPlan) (lists : List (List Mark)) : Type 0 where
+  pub long : length lists ≡ m.width * m.height
+  pub blocks : (c : Chip) → IsInside m c → AreOriginals m c nets (map original_of (slice_index_or lists (index_of m c) []))
 
 -- the list of a chip has the net's original block more, exactly where the net's tree has the chip
 abbrev pub GainsMark : Description → NetPlan → Chip → List Mark → List Mark → Type 0

@@ -1,5 +1,5 @@
 -- Plain tables: one row for each net whose tree has the chip.
-use Rattle.std.specs.Prelude.{◌≡◌, ◌<◌, ◌≤◌, ◌⊎◌, List, [], ◌∷◌, Some, All, AllPairs, map, slice_get}
+use Rattle.std.specs.Prelude.{◌≡◌, ◌*◌, ◌<◌, ◌≤◌, ◌⊎◌, List, [], ◌∷◌, ◌++◌, Some, All, AllPairs, length, map, slice_get}
 use Rattle.std.specs.List.Sorted.{IsPermutation}
 use Rattle.spin_base.specs.declared.chips.Chip.{Chip}
 use Rattle.spin_base.specs.declared.chips.Spot.{Spot}
@@ -11,11 +11,12 @@ use Rattle.machine_desc.specs.Live.{IsInside, index_of}
 use Rattle.machine_desc.specs.RoutingTree.{IsTreeChip, IsRoutingTree}
 use Rattle.machine_desc.specs.declared.nets.NetPlan.{NetPlan}
 use Rattle.machine_desc.specs.Outputs.{is_wanted, ComesIn}
+use Rattle.machine_desc.specs.RightTables.{AreRight}
 use Rattle.tern_word.specs.declared.tables.Row.{Row}
 use Rattle.tern_word.specs.declared.tables.Table.{Table}
 use Rattle.tern_word.specs.Ternary.{Intersects, generality}
 pub use Rattle.tern_word.specs.Entries.{entry_of}
-use Rattle.tern_word.specs.SoundTable.{Original, Serves}
+use Rattle.tern_word.specs.SoundTable.{IsSound, Original, Serves}
 
 -- the chip is one of the net's tree
 abbrev pub HasChip : Description → NetPlan → Chip → Type 0
@@ -71,3 +72,14 @@ pub record AreRoutedApart (m : Description) (nets : List NetPlan) : Type 0 where
 -- the entries of a table's rows, in order
 abbrev pub entries : Table → List Entry
 entries t = map entry_of t.rows
+
+-- What the plain tables of all chips are, by the chip's index: plain, and so no longer than there are nets, sound, and right
+-- for the nets, alone and with any entries after theirs.
+pub record ArePlainTables (m : Description) (nets : List NetPlan) (tables : List Table) : Type 0 where
+  pub long : length tables ≡ m.width * m.height
+  pub plain : AtEach m tables (IsPlainTable m nets)
+  pub few : AtEach m tables (λ c rows. length rows ≤ length nets)
+  pub sound : AtEach m tables (λ c rows. IsSound rows)
+  pub serves : AtEach m tables (ServesOriginals m nets)
+  pub right : AreRight m (map entries tables) nets
+  pub followed : (rest : Table → List Entry) → AreRight m (map (λ (t : Table). entries t ++ rest t) tables) nets

@@ -1,28 +1,38 @@
 // The original blocks of all chips, gathered net by net.
-ghost use Rattle.std.specs.Prelude.{◌≡◌, ◌*◌, ◌<◌, ◌++◌, ◌∷◌, [], length, map, All, IfOk, OnOk, None, replicate, slice_index_or, slice_set};
+ghost use Rattle.std.specs.Prelude.{◌≡◌, ◌*◌, ◌<◌, ◌≤◌, ◌++◌, ◌∷◌, List, [], length, map, All, IfOk, OnOk, None, replicate, slice_index_or, slice_set};
 ghost use Rattle.spin_base.specs.declared.chips.Chip.{Chip};
 ghost use Rattle.spin_base.specs.Outputs.{nothing};
 ghost use Rattle.machine_desc.specs.Live.{IsInside, index_of};
-ghost use Rattle.net_tables.specs.PlainTable.{AreOriginals};
-ghost use Rattle.net_tables.specs.Marks.{IsBlank, IsClearOff, IsRouted, GainsMark, TellsPorts, TellsRoutes, with_mark, original_of};
+ghost use Rattle.net_tables.specs.PlainTable.{AreOriginals, AreRoutedApart};
+ghost use Rattle.net_tables.specs.declared.marks.Mark.{Mark};
+ghost use Rattle.net_tables.specs.Marks.{AreApart, AreBlocksOf, IsBlank, IsClearOff, IsRouted, GainsMark, TellsPorts, TellsRoutes, with_mark, original_of};
 
 use crate::marks::{Mark, no_ports, no_routes, set_links, set_ports, set_targets};
 use machine_desc::{Machine, NetPlan};
 use spin_base::{Block, Memory, Port, Route, Seq};
 use std::alloc::Global;
 
-// The original blocks of each chip, by the chip's index, in the order of the nets. The two boards are made once: a net
-// costs no more than its tree and targets.
-pub fn marks_of(
+/// The original blocks of each chip, by the chip's index, in the order of the nets: one for each net whose tree has the chip.
+/// No key is in two blocks of a chip. It costs no more than the nets' trees and targets, and a place for each chip.
+pub fn original_blocks(
     alloc: Global,
     machine: &Machine,
-    nets: &[NetPlan],
-) -> Result<Vec<Seq<Mark>>, Memory>
+    nets: &Seq<NetPlan>,
+) -> Result<Seq<Seq<Mark>>, Memory>
+    requires { AreRoutedApart machine.now nets.now }
+    ensures blocks { IfOk result (AreBlocksOf machine.now nets.now) }
+    ensures long { IfOk result (λ lists. length lists ≡ machine.now.width * machine.now.height) }
+    ensures few { IfOk result (All (λ (marks : List Mark). length marks ≤ length nets.now)) }
+    ensures apart { IfOk result (All AreApart) }
+{
+    let lists = marks_of(alloc, machine, nets.as_slice())?;
+    Ok(Seq::from_vec(lists))
+}
+
+// The same for nets whose trees are routing trees. The two boards are made once: a net costs no more than its tree and targets.
+fn marks_of(alloc: Global, machine: &Machine, nets: &[NetPlan]) -> Result<Vec<Seq<Mark>>, Memory>
     requires { All (IsRouted machine.now) nets.now }
-    ensures long { IfOk result (λ v. length v.items ≡ machine.now.width * machine.now.height) }
-    ensures gathered { IfOk result (λ v. (c : Chip) → IsInside machine.now c →
-        AreOriginals machine.now c nets.now (map original_of (slice_index_or v.items
-        (index_of machine.now c) []))) }
+    ensures { IfOk result (λ v. AreBlocksOf machine.now nets.now v.items) }
 {
     let mut ports = no_ports(alloc, machine)?;
     let mut routes = no_routes(alloc, machine)?;

@@ -10,5 +10,7 @@ pub mod marks;
 mod plain;
 mod rows;
 
-pub use laws::plain_tables_are_determined;
+pub use gather::original_blocks;
+pub use laws::{plain_tables_are_determined, tables_of_original_blocks_are_plain};
 pub use plain::plain_tables;
+pub use rows::plain_table;

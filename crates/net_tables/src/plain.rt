@@ -6,7 +6,7 @@ ghost use Rattle.tern_word.specs.declared.tables.Table.{Table};
 ghost use Rattle.tern_word.specs.SoundTable.{IsSound};
 ghost use Rattle.net_tables.specs.PlainTable.{IsPlainTable, ServesOriginals, AtEach, AreRoutedApart, entries};
 
-use crate::gather::marks_of;
+use crate::gather::original_blocks;
 use crate::rows::tables_of;
 use machine_desc::{Machine, NetPlan};
 use spin_base::{Memory, Seq};
@@ -34,7 +34,7 @@ pub fn plain_tables(
     ensures followed { IfOk result (λ ts. (rest : Table → List Entry)
         → AreRight machine.now (map (λ (t : Table). entries t ++ rest t) ts) nets.now) }
 {
-    let marks = marks_of(alloc, machine, nets.as_slice())?;
-    let tables = tables_of(alloc, marks.as_slice())?;
+    let blocks = original_blocks(alloc, machine, nets)?;
+    let tables = tables_of(alloc, blocks.as_slice())?;
     Ok(tables)
 }

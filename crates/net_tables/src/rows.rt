@@ -1,9 +1,10 @@
 // The rows of original blocks, in order.
-ghost use Rattle.std.specs.Prelude.{◌≡◌, map, IfOk, OnOk};
+ghost use Rattle.std.specs.Prelude.{◌≡◌, length, map, IfOk, OnOk};
 ghost use Rattle.std.specs.List.{AllZip, AllPairs};
 ghost use Rattle.std.specs.List.Sorted.{IsPermutation};
+ghost use Rattle.tern_word.specs.SoundTable.{IsSound};
 ghost use Rattle.net_tables.specs.PlainTable.{row_of, IsRowNotAfter};
-ghost use Rattle.net_tables.specs.Marks.{original_of, row_of_mark, IsTableOf};
+ghost use Rattle.net_tables.specs.Marks.{AreApart, original_of, row_of_mark, IsTableOf};
 
 use crate::marks::Mark;
 use spin_base::{Memory, Seq};
@@ -16,14 +17,17 @@ pub fn tables_of(alloc: Global, lists: &[Seq<Mark>]) -> Result<Seq<Table>, Memor
 {
     let mut tables = Seq::new(alloc);
     for list in lists {
-        tables.push(table_of(alloc, list.as_slice())?)?;
+        tables.push(plain_table(alloc, list.as_slice())?)?;
     }
     Ok(tables)
 }
 
-// The table with one row for each original block.
-fn table_of(alloc: Global, marks: &[Mark]) -> Result<Table, Memory>
-    ensures { IfOk result (IsTableOf marks.now) }
+/// The plain table of original blocks: a row for each, with the block, its route, and the block with its port as the only
+/// alias. Rows stand by their block's generality, then by its key. Where no key is in two of the blocks, the table is sound.
+pub fn plain_table(alloc: Global, marks: &[Mark]) -> Result<Table, Memory>
+    ensures table { IfOk result (IsTableOf marks.now) }
+    ensures few { IfOk result (λ table. length table.rows ≡ length marks.now) }
+    ensures sound { IfOk result (λ table. AreApart marks.now → IsSound table.rows) }
 {
     let mut sorted = Vec::from_slice(alloc, marks)?;
     sort_marks(&mut sorted)?;
