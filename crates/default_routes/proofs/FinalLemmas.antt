@@ -1,5 +1,5 @@
 -- The loaded rows route as the table given does.
-use Rattle.std.proofs.Common.{◌≡◌, ℕ, ◌+◌, ◌<◌, Bool, true, false, cond, Some, List, [], ◌∷◌, ◌++◌, ◌≤◌, ◌⊎◌, length, get_or, take, refl, sym, ap, ◌∙◌, subst}
+use Rattle.std.proofs.Common.{◌≡◌, ℕ, ◌+◌, ◌<◌, arith, Bool, true, false, cond, Some, List, [], ◌∷◌, ◌++◌, ◌≤◌, ◌⊎◌, length, get_or, take, refl, sym, ap, ◌∙◌, subst}
 use Rattle.std.specs.Prelude.{All, map, find}
 use Rattle.std.specs.List.{Contains}
 use Rattle.std.specs.List.Sorted.{IsPermutation}
@@ -14,12 +14,13 @@ use Rattle.spin_base.specs.Lookup.{matches, default_route, lookup}
 use Rattle.tern_word.specs.declared.tables.Row.{Row}
 use Rattle.tern_word.specs.Entries.{entry_of}
 use Rattle.tern_word.specs.SoundTable.{IsSound, Original, served}
-use Rattle.cover_merge.specs.Merge.{rows_at}
+use Rattle.cover_merge.specs.Merge.{after, rows_at}
 use Rattle.cover_merge.proofs.Positions.{All-has, rows_at-from, rows_at-length, rows_at-push}
-use Rattle.cover_merge.specs.Covering.{Covers, HasNoLegalPair, HasRoutesOf}
+use Rattle.cover_merge.specs.Covering.{Covers, HasNoLegalPair, HasRoutesOf, merged, short, stuck}
 use Rattle.default_routes.specs.declared.stripping.Final.{Final}
 use Rattle.default_routes.specs.KeptRows.{AreKept, ArePlaces, Routes}
-use Rattle.default_routes.specs.FinalTable.{HaveRoutesOf, IsShortened, MatchesNoKey, RoutesAlone}
+use Rattle.default_routes.specs.FinalTable.{HaveRoutesOf, IsFinalOf, IsShortened, MatchesNoKey, RoutesAlone}
+use Rattle.default_routes.proofs.StripLemmas.{kept_places}
 
 -- entries that match no key change no lookup
 lookup_past : (rest : List Entry) (key : ℕ) (port : Port) → All MatchesNoKey rest → lookup rest key port ≡ default_route port
@@ -87,3 +88,18 @@ module _ (rows list : List Row) (kept places : List ℕ) (entries : List Entry) 
         one_each = as_many rows kept f.entries (is ∙ of_kept) placed.in_range;
         ended = ended;
       }
+
+-- ---- a final table of more entries than wanted
+
+-- covering ends only where the table is short enough, or where no pair is legal
+covered_ends : (target : ℕ) (rows : List Row) (sets : List (List ℕ)) (covered : List Row) → Covers target rows sets covered → target < length covered → HasNoLegalPair covered
+covered_ends target rows sets covered (short r few) more = absurd (omega (arith, few, more))
+covered_ends target rows sets covered (stuck r many none) more = none.1
+covered_ends target rows sets covered (merged r set rest c many chosen covers) more = covered_ends target (after r set) rest c covers more
+
+pub ended_where_long : (target : ℕ) (table : List Row) (f : Final) (is : IsFinalOf target table f) → target < length f.entries → HasNoLegalPair is.rows
+ended_where_long target table f is more =
+    let places = kept_places is.rows is.kept is.are_kept in
+    let long : length f.entries ≡ length is.kept = as_many is.rows is.kept f.entries is.entries places.in_range in
+    let few = places.few in
+    covered_ends target table is.sets is.rows is.covered (omega (arith, long, few, more))

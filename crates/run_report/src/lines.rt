@@ -32,7 +32,7 @@ pub fn line_of(alloc: Global, refusal: &Refusal) -> Result<Seq<u8>, Memory>
         Refusal::NoRoom(vertex) => line_about(alloc, "no room:", vertex.as_str()),
         Refusal::KeysOut(net) => line_about(alloc, "keys out:", net.as_str()),
         Refusal::CutOff(net, target) => cut_off_line(alloc, net.as_str(), *target),
-        Refusal::TableLong(chip, table) => table_long_line(alloc, *chip, table.kept.len()),
+        Refusal::TableLong(chip, table) => table_long_line(alloc, *chip, table.entries.len()),
         Refusal::Memory => fixed(alloc, OUT_OF_MEMORY),
     }
 }
