@@ -1,10 +1,10 @@
 -- What tables are, once each has a row for each original block of its chip.
 use Rattle.std.proofs.Common.{◌≡◌, ℕ, zero, suc, ◌*◌, ◌<◌, ◌≤◌, true, Bool, cond, bit_and, List, [], ◌∷◌, ◌++◌, length, get_or, map, find, Some, refl, sym, ap, ◌∙◌, subst, arith, inl, inr}
 use Rattle.std.specs.Option.{option_map_or}
-use Rattle.std.specs.List.{All, AllPairs, AllZip, Contains, slice_get, slice_index_or}
+use Rattle.std.specs.List.{All, AllPairs, AllZip, Contains, slice_get}
 use Rattle.std.specs.List.Sorted.{IsPermutation}
 use Rattle.std.proofs.lemmas.Bool.{cases_Bool, cases_eq, cases_lt, eqb-true, eq-eqb, false≢true}
-use Rattle.std.proofs.lemmas.List.{append-nil, length-map}
+use Rattle.std.proofs.lemmas.List.{append-nil, get_or_default, length-map}
 use Rattle.std.proofs.lemmas.List.Elements.{All-nil, All-cons, All-head, All-tail}
 use Rattle.std.proofs.lemmas.List.Kept.{AllPairs-cons}
 use Rattle.std.proofs.lemmas.List.Sorted.{IsPermutation-map, length_permutation, IsPermutation-sym, Contains-permutation}
@@ -19,8 +19,9 @@ use Rattle.spin_base.specs.declared.blocks.Entry.{Entry}
 use Rattle.spin_base.specs.Lookup.{lookup, matches, default_route}
 use Rattle.spin_base.specs.Outputs.{has, IsOutput}
 use Rattle.machine_desc.specs.Description.{Description}
-use Rattle.machine_desc.specs.Live.{IsInside, index_of}
+use Rattle.machine_desc.specs.Live.{IsInside, chip_of, index_of}
 use Rattle.machine_desc.proofs.Far.{index_below}
+use Rattle.machine_desc.proofs.Live.{chip_of-inside, index_of-chip_of}
 use Rattle.machine_desc.specs.declared.nets.NetPlan.{NetPlan}
 use Rattle.machine_desc.specs.Outputs.{is_wanted}
 use Rattle.machine_desc.specs.RightTables.{IsKeyOf, AreRight}
@@ -31,8 +32,8 @@ use Rattle.tern_word.specs.Ternary.{Intersects, LiesIn, generality}
 use Rattle.tern_word.specs.SoundTable.{Original, Misses, HoldsItsAliases, IsSound, Serves, served}
 use Rattle.tern_word.proofs.BlockLaws.{Intersects-sym}
 use Rattle.net_tables.specs.declared.marks.Mark.{Mark}
-use Rattle.net_tables.specs.PlainTable.{HasChip, IsOriginalOf, AreOriginals, IsRowNotAfter, IsPlainTable, ServesOriginals, AtEach, AreRoutedApart, row_of, entry_of, entries}
-use Rattle.net_tables.specs.Marks.{original_of, row_of_mark, IsTableOf}
+use Rattle.net_tables.specs.PlainTable.{HasChip, IsOriginalOf, AreOriginals, IsRowNotAfter, IsPlainTable, ServesOriginals, AtEach, AreRoutedApart, ArePlainTables, row_of, entry_of, entries}
+use Rattle.net_tables.specs.Marks.{AreApart, AreBlocksOf, original_of, row_of_mark, IsTableOf}
 use Rattle.net_tables.proofs.Trees.{chips_inside, comes_in_tree}
 
 -- ---- lists
@@ -139,14 +140,34 @@ few_originals m c (n ∷ nets) os (inl on) =
     omega (arith, rest, long)
 few_originals m c (n ∷ nets) os (inr off) = let rest : length os ≤ length nets = few_originals m c nets os off.1 in omega (arith, rest)
 
+-- the original blocks of a chip are no more than the nets, and no key is in two of them
+module _ (m : Description) (nets : List NetPlan) (c : Chip) (marks : List Mark) (are : AreOriginals m c nets (map original_of marks)) where
+  few_marks : length marks ≤ length nets
+  few_marks = subst (λ n. n ≤ length nets) (length-map marks original_of) (few_originals m c nets (map original_of marks) are)
+
+  marks_apart : AllPairs (λ (a b : NetPlan). ¬ (Intersects a.block b.block)) nets → AreApart marks
+  marks_apart apart =
+      AllPairs-from_map original_of (λ (a b : Original). ¬ (Intersects a.block b.block)) marks (originals_apart m c nets (map original_of marks) are apart)
+
+-- the table of original blocks has as many rows, and is sound where no key is in two of them
+module _ (marks : List Mark) (t : Table) (is : IsTableOf marks t) where
+  pub as_many_rows : length t.rows ≡ length marks
+  as_many_rows = ap length is.rows_are ∙ (length-map is.sorted row_of_mark ∙ length_permutation marks is.sorted is.same)
+
+  pub sound_table : AreApart marks → IsSound t.rows
+  sound_table apart =
+      let on_sorted : AreApart is.sorted =
+      AllPairs-permutation (λ (a b : Mark). ¬ (Intersects a.block b.block)) (λ a b none meet. none (Intersects-sym b.block a.block meet)) marks is.sorted is.same apart in
+      record {
+        ordered = λ i j d less below. not_after (get_or t.rows i d) (get_or t.rows j d) (is.in_order i j d less below);
+        inside = subst (All HoldsItsAliases) (sym is.rows_are) (each_holds is.sorted);
+        unmet = subst (AllPairs (λ (r s : Row). Misses r.block s)) (sym is.rows_are)
+            (AllPairs-map row_of_mark (λ (a b : Mark). ¬ (Intersects a.block b.block)) (λ (r s : Row). Misses r.block s) (λ a b none. misses_other a b none) is.sorted on_sorted);
+      }
+
 module _ (m : Description) (nets : List NetPlan) (c : Chip) (marks : List Mark) (t : Table) (are : AreOriginals m c nets (map original_of marks)) (is : IsTableOf marks t) where
   pub few_rows : length t.rows ≤ length nets
-  few_rows =
-      let few : length (map original_of marks) ≤ length nets = few_originals m c nets (map original_of marks) are in
-      let many : length (map original_of marks) ≡ length marks = length-map marks original_of in
-      let same : length marks ≡ length is.sorted = sym (length_permutation marks is.sorted is.same) in
-      let long : length t.rows ≡ length is.sorted = ap length is.rows_are ∙ length-map is.sorted row_of_mark in
-      omega (arith, few, many, same, long)
+  few_rows = subst (λ n. n ≤ length nets) (sym (as_many_rows marks t is)) (few_marks m nets c marks are)
 
   pub is_plain : IsPlainTable m nets c t.rows
   is_plain = record {
@@ -166,17 +187,7 @@ module _ (m : Description) (nets : List NetPlan) (c : Chip) (marks : List Mark) 
   }
 
   pub is_sound : AllPairs (λ (a b : NetPlan). ¬ (Intersects a.block b.block)) nets → IsSound t.rows
-  is_sound apart =
-      let on_marks : AllPairs (λ (a b : Mark). ¬ (Intersects a.block b.block)) marks =
-      AllPairs-from_map original_of (λ (a b : Original). ¬ (Intersects a.block b.block)) marks (originals_apart m c nets (map original_of marks) are apart) in
-      let on_sorted : AllPairs (λ (a b : Mark). ¬ (Intersects a.block b.block)) is.sorted =
-      AllPairs-permutation (λ (a b : Mark). ¬ (Intersects a.block b.block)) (λ a b none meet. none (Intersects-sym b.block a.block meet)) marks is.sorted is.same on_marks in
-      record {
-        ordered = λ i j d less below. not_after (get_or t.rows i d) (get_or t.rows j d) (is.in_order i j d less below);
-        inside = subst (All HoldsItsAliases) (sym is.rows_are) (each_holds is.sorted);
-        unmet = subst (AllPairs (λ (r s : Row). Misses r.block s)) (sym is.rows_are)
-            (AllPairs-map row_of_mark (λ (a b : Mark). ¬ (Intersects a.block b.block)) (λ (r s : Row). Misses r.block s) (λ a b none. misses_other a b none) is.sorted on_sorted);
-      }
+  is_sound apart = sound_table marks t is (marks_apart m nets c marks are apart)
 
 -- ---- lookup
 
@@ -241,30 +252,43 @@ module _ (m : Description) (nets : List NetPlan) (c : Chip) (marks : List Mark) 
 
 -- ---- all tables
 
-module _ (m : Description) (nets : List NetPlan) (lists : List (List Mark)) (tables : List Table) (routed : AreRoutedApart m nets)
-    (many : length lists ≡ m.width * m.height)
-    (gathered : (c : Chip) → IsInside m c → AreOriginals m c nets (map original_of (slice_index_or lists (index_of m c) [])))
+module _ (m : Description) (nets : List NetPlan) (lists : List (List Mark)) (routed : AreRoutedApart m nets) (are : AreBlocksOf m nets lists) where
+  -- what holds of each chip's original blocks holds of each list
+  each_list : (P : List Mark → Type 0) → ((c : Chip) (marks : List Mark) → AreOriginals m c nets (map original_of marks) → P marks) → All P lists
+  each_list P from k d below =
+      let at : index_of m (chip_of m k) ≡ k = index_of-chip_of m k in
+      from (chip_of m k) (get_or lists k d)
+      (subst (λ (marks : List Mark). AreOriginals m (chip_of m k) nets (map original_of marks)) (ap (λ j. get_or lists j []) at ∙ get_or_default lists k [] d below)
+      (are.blocks (chip_of m k) (chip_of-inside m k (subst (λ n. k < n) are.long below))))
+
+  pub all_few_marks : All (λ (marks : List Mark). length marks ≤ length nets) lists
+  all_few_marks = each_list (λ marks. length marks ≤ length nets) (λ c marks originals. few_marks m nets c marks originals)
+
+  pub all_apart : All AreApart lists
+  all_apart = each_list AreApart (λ c marks originals. marks_apart m nets c marks originals routed.apart)
+
+module _ (m : Description) (nets : List NetPlan) (lists : List (List Mark)) (tables : List Table) (routed : AreRoutedApart m nets) (are : AreBlocksOf m nets lists)
     (each : AllZip IsTableOf lists tables) where
-  pub all_long : length tables ≡ m.width * m.height
-  all_long = same_length lists tables each ∙ many
+  all_long : length tables ≡ m.width * m.height
+  all_long = same_length lists tables each ∙ are.long
 
-  pub all_plain : AtEach m tables (IsPlainTable m nets)
+  all_plain : AtEach m tables (IsPlainTable m nets)
   all_plain c t inside at =
-      is_plain m nets c (get_or lists (index_of m c) []) t (gathered c inside) (table_of_list lists tables each (index_of m c) t at)
+      is_plain m nets c (get_or lists (index_of m c) []) t (are.blocks c inside) (table_of_list lists tables each (index_of m c) t at)
 
-  pub all_serve : AtEach m tables (ServesOriginals m nets)
+  all_serve : AtEach m tables (ServesOriginals m nets)
   all_serve c t inside at =
-      serves_them m nets c (get_or lists (index_of m c) []) t (gathered c inside) (table_of_list lists tables each (index_of m c) t at)
+      serves_them m nets c (get_or lists (index_of m c) []) t (are.blocks c inside) (table_of_list lists tables each (index_of m c) t at)
 
-  pub all_few : AtEach m tables (λ c rows. length rows ≤ length nets)
+  all_few : AtEach m tables (λ c rows. length rows ≤ length nets)
   all_few c t inside at =
-      few_rows m nets c (get_or lists (index_of m c) []) t (gathered c inside) (table_of_list lists tables each (index_of m c) t at)
+      few_rows m nets c (get_or lists (index_of m c) []) t (are.blocks c inside) (table_of_list lists tables each (index_of m c) t at)
 
-  pub all_sound : AtEach m tables (λ c rows. IsSound rows)
+  all_sound : AtEach m tables (λ c rows. IsSound rows)
   all_sound c t inside at =
-      is_sound m nets c (get_or lists (index_of m c) []) t (gathered c inside) (table_of_list lists tables each (index_of m c) t at) routed.apart
+      is_sound m nets c (get_or lists (index_of m c) []) t (are.blocks c inside) (table_of_list lists tables each (index_of m c) t at) routed.apart
 
-  pub all_followed : (rest : Table → List Entry) → AreRight m (map (λ (t : Table). entries t ++ rest t) tables) nets
+  all_followed : (rest : Table → List Entry) → AreRight m (map (λ (t : Table). entries t ++ rest t) tables) nets
   all_followed rest i d i_in c port key o comes k valid =
       let net : NetPlan = get_or nets i d in
       let on : HasChip m net c = comes_in_tree m net.tree.root net.tree.edges c port comes in
@@ -272,11 +296,22 @@ module _ (m : Description) (nets : List NetPlan) (lists : List (List Mark)) (tab
       let below : index_of m c < length tables = subst (λ n. index_of m c < n) (sym all_long) (index_below m c inside) in
       let at = at_map (λ (t : Table). entries t ++ rest t) tables (index_of m c) below in
       ap (λ (es : List Entry). has (lookup es key port) o) at.2
-      ∙ looked_up m nets c (get_or lists (index_of m c) []) at.0 (gathered c inside) (table_of_list lists tables each (index_of m c) at.0 at.1) routed.apart
+      ∙ looked_up m nets c (get_or lists (index_of m c) []) at.0 (are.blocks c inside) (table_of_list lists tables each (index_of m c) at.0 at.1) routed.apart
       i d key port o (rest at.0) i_in on k valid
 
-  pub all_right : AreRight m (map entries tables) nets
+  all_right : AreRight m (map entries tables) nets
   all_right = subst (λ (f : Table → List Entry). AreRight m (map f tables) nets) alike (all_followed (λ t. []))
     where
       alike : ◌≡◌ {A = Table → List Entry} (λ t. entries t ++ []) entries
       alike = λ i t. append-nil (entries t) i
+
+  pub all_plain_tables : ArePlainTables m nets tables
+  all_plain_tables = record {
+    long = all_long;
+    plain = all_plain;
+    few = all_few;
+    sound = all_sound;
+    serves = all_serve;
+    right = all_right;
+    followed = all_followed;
+  }

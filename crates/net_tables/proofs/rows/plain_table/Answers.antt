@@ -1,0 +1,16 @@
+use Rattle.std.proofs.Common.{◌∙◌, ap, map}
+use Rattle.net_tables.specs.Marks.{row_of_mark}
+use Rattle.net_tables.proofs.Ordering.{table_sorted}
+use Rattle.net_tables.proofs.Whole.{as_many_rows, sound_table}
+use Rattle.net_tables.proofs.rows.plain_table.Goals as goal
+
+pub returns-clause-table : goal.returns-clause-table
+returns-clause-table c = table_sorted c.args.marks.now c.sort_marks.new.marks.items c.in_ok-rows.rows
+    (rw c.in_ok-sorted.ensures.items at c.in_ok-sort_marks.ensures.same) c.in_ok-sort_marks.ensures.in_order
+    (c.in_ok-rows.ensures ∙ ap (map row_of_mark) c.as_slice.ensures.value)
+
+pub returns-clause-few : goal.returns-clause-few
+returns-clause-few c = as_many_rows c.args.marks.now (record { rows = c.in_ok-rows.rows }) (returns-clause-table c)
+
+pub returns-clause-sound : goal.returns-clause-sound
+returns-clause-sound c = sound_table c.args.marks.now (record { rows = c.in_ok-rows.rows }) (returns-clause-table c)
