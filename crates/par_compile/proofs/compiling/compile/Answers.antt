@@ -48,7 +48,7 @@ returns-in-Some-clause-cause g c =
         first = first ∙ ap Some (sym c.chip_at.ensures.back);
         at = subst (λ n. slice_get c.in_ok-tables.tables n ≡ Some c.table_at.result) (sym c.chip_at.ensures.back) c.table_at.ensures;
       },
-      long_has_no_pair c.args.request.now.target c.in_ok-tables.tables c.in-Some.index c.table_at.result c.args.request.now.few_rows c.in_ok-tables.ensures.ended first c.table_at.ensures,
+      long_has_no_pair c.args.request.now.target _ c.in_ok-tables.tables c.in-Some.index c.table_at.result c.args.request.now.few_rows first c.table_at.ensures _,
       long_has_many (length c.in-Ok-net_plans.routed.plans) (length c.args.request.now.graph.now.nets) c.in_ok-tables.tables c.in-Some.index c.table_at.result
           c.in-Ok-net_plans.ensures.planned.one_plan_each c.in_ok-tables.ensures.few_rows first c.table_at.ensures,
     )
