@@ -1,11 +1,12 @@
 -- At most one list of kept places, and one final table.
 use Rattle.std.proofs.Common.{◌≡◌, ℕ, suc, Some, List, [], ◌∷◌, length, refl, sym, ap, ◌∙◌, subst, arith}
-use Rattle.std.specs.Prelude.{slice_get}
+use Rattle.std.specs.Prelude.{map, slice_get}
 use Rattle.std.proofs.lemmas.Option.{slice_get_within, same_Some}
+use Rattle.spin_base.specs.declared.blocks.Entry.{Entry}
 use Rattle.tern_word.specs.declared.tables.Row.{Row}
+use Rattle.tern_word.specs.Entries.{entry_of}
 use Rattle.cover_merge.specs.Merge.{rows_at}
-use Rattle.cover_merge.specs.declared.covering.Covered.{Covered}
-use Rattle.cover_merge.proofs.Determined.{one_covered}
+use Rattle.cover_merge.proofs.Determined.{one_covering}
 use Rattle.default_routes.specs.declared.stripping.Final.{Final}
 use Rattle.default_routes.specs.KeptRows.{IsStrippable, KeptFrom, ends, goes, stays, AreKept}
 use Rattle.default_routes.specs.FinalTable.{IsFinalOf}
@@ -40,8 +41,15 @@ module _ (rows : List Row) where
   pub one_list : (xs ys : List ℕ) → AreKept rows xs → AreKept rows ys → xs ≡ ys
   one_list xs ys one other = one_from 0 xs ys one other
 
+-- a final table is its entries
+same_entries : (f g : Final) → f.entries ≡ g.entries → f ≡ g
+same_entries f g same = ap (λ (l : List Entry). let v : Final = record { entries = l } in v) same
+
 pub one_table : (target : ℕ) (table : List Row) (f g : Final) → IsFinalOf target table f → IsFinalOf target table g → f ≡ g
 one_table target table f g one other =
-    let same : f.covered ≡ g.covered = one_covered target table f.covered g.covered one.covered other.covered in
-    let places : f.kept ≡ g.kept = one_list g.covered.table.rows f.kept g.kept (subst (λ (c : Covered). AreKept c.table.rows f.kept) same one.kept) other.kept in
-    ap (λ (c : Covered). let v : Final = record { covered = c; kept = f.kept } in v) same ∙ ap (λ (l : List ℕ). let v : Final = record { covered = g.covered; kept = l } in v) places
+    let rows : one.rows ≡ other.rows = (one_covering target table one.sets other.sets one.rows other.rows one.covered other.covered).1 in
+    let places : one.kept ≡ other.kept = one_list other.rows one.kept other.kept (subst (λ (rs : List Row). AreKept rs one.kept) rows one.are_kept) other.are_kept in
+    same_entries f g (one.entries
+    ∙ (ap (λ (rs : List Row). map entry_of (rows_at rs one.kept)) rows
+    ∙ (ap (λ (l : List ℕ). map entry_of (rows_at other.rows l)) places
+    ∙ sym other.entries)))

@@ -1,22 +1,26 @@
 -- The loaded rows route as the table given does.
-use Rattle.std.proofs.Common.{◌≡◌, ℕ, ◌<◌, Bool, true, false, cond, Some, List, [], ◌∷◌, ◌++◌, length, refl, ap, ◌∙◌}
+use Rattle.std.proofs.Common.{◌≡◌, ℕ, ◌+◌, ◌<◌, arith, Bool, true, false, cond, Some, List, [], ◌∷◌, ◌++◌, ◌≤◌, ◌⊎◌, length, get_or, take, refl, sym, ap, ◌∙◌, subst}
 use Rattle.std.specs.Prelude.{All, map, find}
 use Rattle.std.specs.List.{Contains}
 use Rattle.std.specs.List.Sorted.{IsPermutation}
 use Rattle.std.specs.Option.{option_map_or}
-use Rattle.std.proofs.lemmas.List.Elements.{All-head, All-tail}
+use Rattle.std.proofs.lemmas.List.{length-map, map_push, take_more}
+use Rattle.std.proofs.lemmas.List.Elements.{All-head, All-map, All-tail}
 use Rattle.std.proofs.lemmas.List.Sorted.{All-permutation, IsPermutation-sym}
+use Rattle.std.proofs.lemmas.Option.{slice_get-get_or}
 use Rattle.spin_base.specs.declared.chips.Port.{Port}
 use Rattle.spin_base.specs.declared.blocks.Entry.{Entry}
 use Rattle.spin_base.specs.Lookup.{matches, default_route, lookup}
 use Rattle.tern_word.specs.declared.tables.Row.{Row}
 use Rattle.tern_word.specs.Entries.{entry_of}
-use Rattle.tern_word.specs.SoundTable.{Original, served}
-use Rattle.cover_merge.specs.Merge.{rows_at}
-use Rattle.cover_merge.proofs.Positions.{All-has, rows_at-from}
-use Rattle.cover_merge.specs.Covering.{HasRoutesOf}
-use Rattle.default_routes.specs.KeptRows.{ArePlaces, Routes}
-use Rattle.default_routes.specs.FinalTable.{MatchesNoKey, RoutesAlone}
+use Rattle.tern_word.specs.SoundTable.{IsSound, Original, served}
+use Rattle.cover_merge.specs.Merge.{after, rows_at}
+use Rattle.cover_merge.proofs.Positions.{All-has, rows_at-from, rows_at-length, rows_at-push}
+use Rattle.cover_merge.specs.Covering.{Covers, HasNoLegalPair, HasRoutesOf, merged, short, stuck}
+use Rattle.default_routes.specs.declared.stripping.Final.{Final}
+use Rattle.default_routes.specs.KeptRows.{AreKept, ArePlaces, Routes}
+use Rattle.default_routes.specs.FinalTable.{HaveRoutesOf, IsFinalOf, IsShortened, MatchesNoKey, RoutesAlone}
+use Rattle.default_routes.proofs.StripLemmas.{kept_places}
 
 -- entries that match no key change no lookup
 lookup_past : (rest : List Entry) (key : ℕ) (port : Port) → All MatchesNoKey rest → lookup rest key port ≡ default_route port
@@ -36,12 +40,66 @@ lookup_alone (e ∷ entries) rest key port none = by_test (matches e key) (looku
     by_test false same = same
 
 -- what the covered table serves, the table given serves, in another order
-pub serves_given : (given covered loaded : List Row) → IsPermutation (served given) (served covered) → All (λ (o : Original). Routes loaded o) (served covered) → All (RoutesAlone loaded) (served given)
-serves_given given covered loaded moved serves k d within rest none key small hit =
-    let all = All-permutation (λ (o : Original). Routes loaded o) (served covered) (served given) (IsPermutation-sym (served given) (served covered) moved) serves in
-    lookup_alone (map entry_of loaded) rest key _ none ∙ all k d within key small hit
+pub serves_given : (given covered loaded : List Row) (entries : List Entry) → entries ≡ map entry_of loaded → IsPermutation (served given) (served covered) →
+    All (λ (o : Original). Routes loaded o) (served covered) → All (RoutesAlone entries) (served given)
+serves_given given covered loaded entries same moved serves = subst (λ es. All (RoutesAlone es) (served given)) (sym same) of_rows
+  where
+    of_rows : All (RoutesAlone (map entry_of loaded)) (served given)
+    of_rows k d within rest none key small hit =
+        let all = All-permutation (λ (o : Original). Routes loaded o) (served covered) (served given) (IsPermutation-sym (served given) (served covered) moved) serves in
+        lookup_alone (map entry_of loaded) rest key _ none ∙ all k d within key small hit
 
--- each loaded row is one of the covered table
-pub loaded_routes : (given covered : List Row) (kept : List ℕ) → ArePlaces covered kept → HasRoutesOf given covered → HasRoutesOf given (rows_at covered kept)
-loaded_routes given covered kept places from =
-    rows_at-from (λ (r : Row). Contains (map (λ (x : Row). x.route) given) r.route) covered kept (λ s d found. from s d (All-has (λ n. n < length covered) kept s places.in_range found))
+-- each loaded entry is that of a row of the covered table
+pub loaded_routes : (given covered : List Row) (kept : List ℕ) (entries : List Entry) → entries ≡ map entry_of (rows_at covered kept) → All (λ s. s < length covered) kept →
+    HasRoutesOf given covered → HaveRoutesOf given entries
+loaded_routes given covered kept entries same in_range from = subst (HaveRoutesOf given) (sym same) (All-map (λ (e : Entry). Contains (map (λ (r : Row). r.route) given) e.route) entry_of (rows_at covered kept)
+    (rows_at-from (λ (r : Row). Contains (map (λ (x : Row). x.route) given) r.route) covered kept (λ s d found. from s d (All-has (λ n. n < length covered) kept s in_range found))))
+
+-- so many entries as places
+pub as_many : (covered : List Row) (kept : List ℕ) (entries : List Entry) → entries ≡ map entry_of (rows_at covered kept) → All (λ s. s < length covered) kept → length entries ≡ length kept
+as_many covered kept entries same in_range = ap length same ∙ (length-map (rows_at covered kept) entry_of ∙ rows_at-length covered kept in_range)
+
+-- the entry of one more place
+pub entries_more : (rows : List Row) (places : List ℕ) (i : ℕ) (r : Row) (e : Entry) (old new : List Entry) → All (λ s. s < length rows) places → i < length places →
+    r ≡ get_or rows (get_or places i 0) r → e ≡ entry_of r → old ≡ map entry_of (rows_at rows (take i places)) → new ≡ old ++ e ∷ [] →
+    new ≡ map entry_of (rows_at rows (take (i + 1) places))
+entries_more rows places i r e old new in_range within read entry so_far is =
+    let s : ℕ = get_or places i 0 in
+    let there = slice_get-get_or rows s r (in_range i 0 within) ∙ ap Some (sym read) in
+    is
+    ∙ (ap (λ (x : Entry). old ++ x ∷ []) entry
+    ∙ (ap (λ (l : List Entry). l ++ entry_of r ∷ []) so_far
+    ∙ (sym (map_push entry_of (rows_at rows (take i places)) r)
+    ∙ ap (map entry_of) (sym (ap (rows_at rows) (take_more places i 0 within) ∙ rows_at-push rows (take i places) s r there)))))
+
+-- covered, and without the rows that default routing replaces
+module _ (rows list : List Row) (kept places : List ℕ) (entries : List Entry) (same : list ≡ rows) (also : places ≡ kept) (are : entries ≡ map entry_of (rows_at list places)) where
+  pub of_kept : entries ≡ map entry_of (rows_at rows kept)
+  of_kept = are ∙ (ap (λ (rs : List Row). map entry_of (rows_at rs places)) same ∙ ap (λ (l : List ℕ). map entry_of (rows_at rows l)) also)
+
+  pub shortened : (target : ℕ) (table : List Row) (sets : List (List ℕ)) → Covers target table sets rows → IsSound rows → length rows ≤ length table →
+      (length rows ≤ target) ⊎ HasNoLegalPair rows → AreKept list kept → ArePlaces list kept → (f : Final) → f.entries ≡ entries → IsShortened target table f
+  shortened target table sets covers sound no_more ended are_kept are_places f is =
+      let placed : ArePlaces rows kept = subst (λ rs. ArePlaces rs kept) same are_places in record {
+        final = record { rows = rows; sets = sets; covered = covers; kept = kept; are_kept = subst (λ rs. AreKept rs kept) same are_kept; entries = is ∙ of_kept };
+        sound = sound;
+        no_more = no_more;
+        places = placed;
+        one_each = as_many rows kept f.entries (is ∙ of_kept) placed.in_range;
+        ended = ended;
+      }
+
+-- ---- a final table of more entries than wanted
+
+-- covering ends only where the table is short enough, or where no pair is legal
+covered_ends : (target : ℕ) (rows : List Row) (sets : List (List ℕ)) (covered : List Row) → Covers target rows sets covered → target < length covered → HasNoLegalPair covered
+covered_ends target rows sets covered (short r few) more = absurd (omega (arith, few, more))
+covered_ends target rows sets covered (stuck r many none) more = none.1
+covered_ends target rows sets covered (merged r set rest c many chosen covers) more = covered_ends target (after r set) rest c covers more
+
+pub ended_where_long : (target : ℕ) (table : List Row) (f : Final) (is : IsFinalOf target table f) → target < length f.entries → HasNoLegalPair is.rows
+ended_where_long target table f is more =
+    let places = kept_places is.rows is.kept is.are_kept in
+    let long : length f.entries ≡ length is.kept = as_many is.rows is.kept f.entries is.entries places.in_range in
+    let few = places.few in
+    covered_ends target table is.sets is.rows is.covered (omega (arith, long, few, more))

@@ -1,3 +1,3 @@
 pub mod Determined
-mod FinalLemmas
+pub mod FinalLemmas
 mod StripLemmas

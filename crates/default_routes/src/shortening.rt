@@ -1,13 +1,12 @@
 // Covering and default routing, one after the other.
-ghost use Rattle.std.specs.Prelude.{◌≡◌, ◌<◌, ◌≤◌, ◌^◌, ◌⊎◌, IfOk, All, length};
+ghost use Rattle.std.specs.Prelude.{◌<◌, ◌≤◌, ◌^◌, ◌⊎◌, IfOk, All, length};
 ghost use Rattle.tern_word.specs.SoundTable.{IsSound, served};
 ghost use Rattle.cover_merge.specs.Covering.{Covers, HasNoLegalPair, HasRoutesOf};
 ghost use Rattle.cover_merge.specs.Merges.{sets_of};
 ghost use Rattle.std.specs.List.Sorted.{IsPermutation};
-ghost use Rattle.default_routes.specs.KeptRows.{ArePlaces};
-ghost use Rattle.default_routes.specs.FinalTable.{IsFinalOf, RoutesAlone, loaded_rows};
+ghost use Rattle.default_routes.specs.FinalTable.{HaveRoutesOf, IsShortened, RoutesAlone};
 
-use crate::stripping::{Final, strip};
+use crate::stripping::{Final, final_at, strip};
 use cover_merge::{Covered, cover};
 use spin_base::{Memory, Seq};
 use std::alloc::Global;
@@ -16,24 +15,19 @@ use tern_word::Table;
 /// Merges rows while the table has more than `target`, and leaves out those that default routing replaces. What is loaded
 /// routes each original block of the table given as that table does: alone, and followed by entries that match no key. It
 /// has no more rows than the table given and no route that it has not; where it has more than `target`, no two rows of the
-/// covered table can be merged.
+/// covered table can be merged. The covered table is not kept.
 pub fn shorten(alloc: Global, table: Table, target: u32) -> Result<Final, Memory>
     requires few { length table.rows < 2 ^ 32 }
     requires sound { IsSound table.rows }
-    ensures table { IfOk result (λ f. IsFinalOf target table.rows f) }
-    ensures sound { IfOk result (λ f. IsSound f.covered.table.rows) }
-    ensures places { IfOk result (λ f. ArePlaces f.covered.table.rows f.kept) }
-    ensures one_each { IfOk result (λ f. length (loaded_rows f) ≡ length f.kept) }
-    ensures few { IfOk result (λ f. (length f.kept ≤ length f.covered.table.rows)
-        × (length f.covered.table.rows ≤ length table.rows)) }
-    ensures routes { IfOk result (λ f. HasRoutesOf table.rows (loaded_rows f)) }
-    ensures serves { IfOk result (λ f. All (RoutesAlone (loaded_rows f)) (served table.rows)) }
-    ensures ended { IfOk result (λ f. (length f.covered.table.rows ≤ target)
-        ⊎ (HasNoLegalPair f.covered.table.rows)) }
+    ensures table { IfOk result (IsShortened target table.rows) }
+    ensures routes { IfOk result (λ f. HaveRoutesOf table.rows f.entries) }
+    ensures serves { IfOk result (λ f. All (RoutesAlone f.entries) (served table.rows)) }
 {
     let covered = cover_long(alloc, table, target)?;
-    let shortened = strip(alloc, covered)?;
-    Ok(shortened)
+    let rows = covered.table.rows.as_slice();
+    let kept = strip(alloc, rows)?;
+    let done = final_at(alloc, rows, kept.as_slice())?;
+    Ok(done)
 }
 
 // The covered table. Of a table that has at most `target` rows nothing is worked out: it is covered as it stands.

@@ -1,5 +1,6 @@
 // Leaving out the rows that default routing replaces.
-ghost use Rattle.std.specs.Prelude.{◌≡◌, ◌<◌, ◌^◌, IfOk, All, AllPairs, MatchOption, MatchBool, length, true};
+ghost use Rattle.std.specs.Prelude.{◌≡◌, ◌<◌, ◌^◌, IfOk, All, AllPairs, MatchOption, MatchBool, length, map, true};
+ghost use Rattle.tern_word.specs.Entries.{entry_of};
 ghost use Rattle.tern_word.specs.SoundTable.{IsSound, HoldsItsAliases, Misses, served};
 ghost use Rattle.cover_merge.specs.Merge.{rows_at};
 ghost use Rattle.spin_base.specs.Lookup.{straight_on};
@@ -7,34 +8,43 @@ ghost use Rattle.spin_base.specs.declared.chips.Dir.{Dir};
 ghost use Rattle.spin_base.specs.declared.chips.Port.TheVariants.{Link};
 ghost use Rattle.default_routes.specs.KeptRows.{IsStrippable, AreKept, ArePlaces, RoutesAll, Routes};
 
-use cover_merge::Covered;
-use spin_base::{Dir, Memory, Port, Seq, Shared};
+use spin_base::{Dir, Entry, Memory, Port, Seq, Shared};
 use std::alloc::Global;
 use tern_word::{Alias, Row, misses};
 
-/// A covered table, and the places of the rows that are loaded, ascending.
+/// The entries that are loaded of a table, in its order.
 #[derive(Drop)]
 pub struct Final {
-    pub covered: Covered,
-    pub kept: Seq<u32>,
+    pub entries: Seq<Entry>,
 }
 
 impl Shared for Final {}
 
-/// Leaves out the rows that default routing replaces. From the last row to the first, a row goes where its route is
-/// one link, each alias arrives at the opposite link, and no later kept row meets an alias of it.
-pub fn strip(alloc: Global, covered: Covered) -> Result<Final, Memory>
-    requires few { length covered.table.rows < 2 ^ 32 }
-    requires sound { IsSound covered.table.rows }
-    ensures covered { IfOk result (λ f. f.covered ≡ covered) }
-    ensures kept { IfOk result (λ f. AreKept covered.table.rows f.kept) }
-    ensures places { IfOk result (λ f. ArePlaces covered.table.rows f.kept) }
-    ensures routes { IfOk result (λ f. RoutesAll covered.table.rows f.kept) }
-    ensures serves { IfOk result (λ f. All (λ o. Routes (rows_at covered.table.rows f.kept) o)
-        (served covered.table.rows)) }
+/// The places of the rows that default routing does not replace, ascending. From the last row to the first, a row goes where its
+/// route is one link, each alias arrives at the opposite link, and no later kept row meets an alias of it.
+pub fn strip(alloc: Global, rows: &[Row]) -> Result<Seq<u32>, Memory>
+    requires few { length rows.now < 2 ^ 32 }
+    requires sound { IsSound rows.now }
+    ensures kept { IfOk result (AreKept rows.now) }
+    ensures places { IfOk result (ArePlaces rows.now) }
+    ensures routes { IfOk result (RoutesAll rows.now) }
+    ensures serves { IfOk result (λ kept. All (λ o. Routes (rows_at rows.now kept) o)
+        (served rows.now)) }
 {
-    let kept = kept_places(alloc, covered.table.rows.as_slice())?;
-    Ok(Final { covered, kept })
+    let kept = kept_places(alloc, rows)?;
+    Ok(kept)
+}
+
+// The final table of the entries of the rows at these places.
+pub fn final_at(alloc: Global, rows: &[Row], places: &[u32]) -> Result<Final, Memory>
+    requires { All (λ s. s < length rows.now) places.now }
+    ensures { IfOk result (λ f. f.entries ≡ map entry_of (rows_at rows.now places.now)) }
+{
+    let mut entries = Seq::new(alloc);
+    for place in places {
+        entries.push(rows[*place as usize].entry())?;
+    }
+    Ok(Final { entries })
 }
 
 // The places of the kept rows, ascending: found from the last row to the first, and then turned round.

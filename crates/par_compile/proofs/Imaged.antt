@@ -1,10 +1,10 @@
--- The image of final tables is valid, has the kept rows of each chip, and loads them.
+-- The image of final tables is valid, has the entries of each chip, and loads them.
 use Rattle.std.proofs.Common.{◌≡◌, ℕ, zero, suc, ◌+◌, ◌*◌, ◌/◌, ◌%◌, ◌<◌, ◌≤◌, ◌==◌, false, List, [], ◌∷◌, ◌++◌, length, get_or, take, map, Some, Result, Ok, refl, sym, ap, ◌∙◌, subst, arith, inl, inr}
 use Rattle.std.specs.List.{All, AllPairs, slice_get}
 use Rattle.std.specs.Prelude.{MatchResult}
 use Rattle.std.proofs.lemmas.Bool.{cases_order, eqb-true, eq-eqb, false_from_ne_true, cond-true, cond-false}
-use Rattle.std.proofs.lemmas.List.{append-nil, length-append, length-map, map_push, take_all, take_more}
-use Rattle.std.proofs.lemmas.List.Elements.{All-nil, All-cons, All-append, All-map, All-head, All-tail}
+use Rattle.std.proofs.lemmas.List.{append-nil, length-append, length-map, take_all}
+use Rattle.std.proofs.lemmas.List.Elements.{All-nil, All-cons, All-append, All-head, All-tail}
 use Rattle.std.proofs.lemmas.List.Kept.{AllPairs-cons}
 use Rattle.std.proofs.lemmas.Nat.{mul-le, mod_below}
 use Rattle.std.proofs.lemmas.Option.{slice_get_within, slice_get-get_or}
@@ -18,31 +18,19 @@ use Rattle.machine_desc.specs.Description.{Description, HasSize}
 use Rattle.machine_desc.specs.Live.{chip_of, index_of}
 use Rattle.machine_desc.proofs.Far.{inside_parts}
 use Rattle.machine_desc.proofs.Live.{chip_of-inside, index_of-chip_of}
-use Rattle.tern_word.specs.declared.tables.Row.{Row}
-use Rattle.tern_word.specs.Entries.{entry_of}
-use Rattle.cover_merge.specs.Merge.{rows_at as rows_at_places}
-use Rattle.cover_merge.proofs.Positions.{rows_at-length, rows_at-push}
 use Rattle.default_routes.specs.declared.stripping.Final.{Final}
-use Rattle.default_routes.specs.FinalTable.{loaded_rows}
 use Rattle.table_load.specs.declared.tables.Image.{Image}
 use Rattle.table_load.specs.declared.faults.ImageErr.{ImageErr}
 use Rattle.table_load.specs.declared.faults.ImageErr.TheVariants.{Memory as NoMemory}
 use Rattle.table_load.specs.Images.{IsRow, IsChipBefore, IsTable, IsValid, Spells}
 use Rattle.table_load.specs.Memories.{IsLoaded, loaded, rows_of_index}
-use Rattle.par_compile.specs.Finals.{KeepsRows, kept_entries, loaded_of}
+use Rattle.par_compile.specs.Finals.{KeepsRows, loaded_of}
 use Rattle.par_compile.specs.Imaging.{CanBeImaged, FillTables, image_in, listed, tables_from}
 
 abbrev IsShort : Final → Type 0
-IsShort f = length f.kept ≤ 1024
+IsShort f = length f.entries ≤ 1024
 
 -- ---- one chip's table
-
-entries_long : (f : Final) → KeepsRows f → length (kept_entries f) ≡ length f.kept
-entries_long f keeps = length-map (loaded_rows f) entry_of ∙ rows_at-length f.covered.table.rows f.kept keeps.places
-
-are_rows : (f : Final) → KeepsRows f → All IsRow (kept_entries f)
-are_rows f keeps = All-map IsRow entry_of (loaded_rows f) (λ k d below.
-    let r : Row = get_or (loaded_rows f) k d in (r.block.within, r.block.small, keeps.lead k d below))
 
 -- a chip's table is valid where it has rows
 listed_valid : (w h : ℕ) (c : Chip) (es : List Entry) → c.x < w → c.y < h → length es ≤ 1024 → All IsRow es → All (IsTable w h) (listed c es)
@@ -81,12 +69,12 @@ before m i j some less =
 
 module _ (m : Description) (some : 0 < m.height) where
   abbrev at_place : ℕ → Final → List ChipTable
-  at_place j f = listed (chip_of m j) (kept_entries f)
+  at_place j f = listed (chip_of m j) f.entries
 
   few_tables : (n : ℕ) (fs : List Final) → length (tables_from m n fs) ≤ length fs
   few_tables n [] = omega arith
   few_tables n (f ∷ fs) =
-      let here : length (at_place n f) ≤ 1 = few_listed (chip_of m n) (kept_entries f) in
+      let here : length (at_place n f) ≤ 1 = few_listed (chip_of m n) f.entries in
       let rest : length (tables_from m (n + 1) fs) ≤ length fs = few_tables (n + 1) fs in
       let whole : length (at_place n f ++ tables_from m (n + 1) fs) ≡ length (at_place n f) + length (tables_from m (n + 1) fs) = length-append (at_place n f) (tables_from m (n + 1) fs) in
       omega (arith, here, rest, whole)
@@ -94,12 +82,10 @@ module _ (m : Description) (some : 0 < m.height) where
   valid_tables : (n : ℕ) (fs : List Final) → n + length fs ≤ m.width * m.height → All KeepsRows fs → All IsShort fs → All (IsTable m.width m.height) (tables_from m n fs)
   valid_tables n [] below keep short = All-nil (IsTable m.width m.height)
   valid_tables n (f ∷ fs) below keep short =
-      let mine : KeepsRows f = All-head KeepsRows f fs keep in
       let parts = inside_parts m (chip_of m n) (chip_of-inside m n (omega (arith, below))) in
       All-append (IsTable m.width m.height) (at_place n f) (tables_from m (n + 1) fs)
-      (listed_valid m.width m.height (chip_of m n) (kept_entries f) parts.0 parts.1
-      (let long = entries_long f mine in let few : length f.kept ≤ 1024 = All-head IsShort f fs short in omega (arith, long, few))
-      (are_rows f mine))
+      (listed_valid m.width m.height (chip_of m n) f.entries parts.0 parts.1
+      (All-head IsShort f fs short) (All-head KeepsRows f fs keep))
       (valid_tables (n + 1) fs (omega (arith, below)) (All-tail KeepsRows f fs keep) (All-tail IsShort f fs short))
 
   -- a chip of a lesser index comes before all tables
@@ -107,7 +93,7 @@ module _ (m : Description) (some : 0 < m.height) where
   before_all i n [] less = All-nil (λ (t : ChipTable). IsChipBefore (chip_of m i) t.chip)
   before_all i n (f ∷ fs) less =
       All-append (λ (t : ChipTable). IsChipBefore (chip_of m i) t.chip) (at_place n f) (tables_from m (n + 1) fs)
-      (listed_of (λ (t : ChipTable). IsChipBefore (chip_of m i) t.chip) (chip_of m n) (kept_entries f) (λ t is. subst (IsChipBefore (chip_of m i)) (sym is) (before m i n some less)))
+      (listed_of (λ (t : ChipTable). IsChipBefore (chip_of m i) t.chip) (chip_of m n) f.entries (λ t is. subst (IsChipBefore (chip_of m i)) (sym is) (before m i n some less)))
       (before_all i (n + 1) fs (omega (arith, less)))
 
   abbrev Ordered : ChipTable → ChipTable → Type 0
@@ -115,7 +101,7 @@ module _ (m : Description) (some : 0 < m.height) where
 
   in_order : (n : ℕ) (fs : List Final) → AllPairs Ordered (tables_from m n fs)
   in_order n [] = AllPairs-nil Ordered
-  in_order n (f ∷ fs) = by (kept_entries f) (in_order (n + 1) fs)
+  in_order n (f ∷ fs) = by f.entries (in_order (n + 1) fs)
     where
       by : (es : List Entry) → AllPairs Ordered (tables_from m (n + 1) fs) → AllPairs Ordered (listed (chip_of m n) es ++ tables_from m (n + 1) fs)
       by [] rest = rest
@@ -126,7 +112,7 @@ module _ (m : Description) (some : 0 < m.height) where
   -- no table is of an earlier chip
   none_before : (i n : ℕ) (fs : List Final) → i < n → rows_of_index m.height (tables_from m n fs) i ≡ []
   none_before i n [] less = refl
-  none_before i n (f ∷ fs) less = by (kept_entries f) (none_before i (n + 1) fs (omega (arith, less)))
+  none_before i n (f ∷ fs) less = by f.entries (none_before i (n + 1) fs (omega (arith, less)))
     where
       by : (es : List Entry) → rows_of_index m.height (tables_from m (n + 1) fs) i ≡ [] → rows_of_index m.height (listed (chip_of m n) es ++ tables_from m (n + 1) fs) i ≡ []
       by [] rest = rest
@@ -135,22 +121,22 @@ module _ (m : Description) (some : 0 < m.height) where
           let other : (index_of m (chip_of m n) == i) ≡ false = false_from_ne_true (index_of m (chip_of m n) == i) (λ hit. let is : index_of m (chip_of m n) ≡ i = eqb-true (index_of m (chip_of m n)) i hit in omega (arith, at, is, less)) in
           cond-false (index_of m (chip_of m n) == i) (e ∷ es) (rows_of_index m.height (tables_from m (n + 1) fs) i) other ∙ rest
 
-  -- the rows of a chip are the kept entries of its final table
-  rows_there : (n k i : ℕ) (fs : List Final) (g : Final) → n + k ≡ i → slice_get fs k ≡ Some g → rows_of_index m.height (tables_from m n fs) i ≡ kept_entries g
+  -- the rows of a chip are the entries of its final table
+  rows_there : (n k i : ℕ) (fs : List Final) (g : Final) → n + k ≡ i → slice_get fs k ≡ Some g → rows_of_index m.height (tables_from m n fs) i ≡ g.entries
   rows_there n k i [] g at is = cc
-  rows_there n zero i (f ∷ fs) g at is = by (kept_entries f) (ap kept_entries same)
+  rows_there n zero i (f ∷ fs) g at is = by f.entries (ap (λ (x : Final). x.entries) same)
     where
       same : f ≡ g
       same = cc
 
-      by : (es : List Entry) → es ≡ kept_entries g → rows_of_index m.height (listed (chip_of m n) es ++ tables_from m (n + 1) fs) i ≡ kept_entries g
+      by : (es : List Entry) → es ≡ g.entries → rows_of_index m.height (listed (chip_of m n) es ++ tables_from m (n + 1) fs) i ≡ g.entries
       by [] are = none_before i (n + 1) fs (omega (arith, at)) ∙ are
       by (e ∷ es) are =
           let place : index_of m (chip_of m n) ≡ i = index_of-chip_of m n ∙ omega (arith, at) in
           cond-true (index_of m (chip_of m n) == i) (e ∷ es) (rows_of_index m.height (tables_from m (n + 1) fs) i) (eq-eqb (index_of m (chip_of m n)) i place) ∙ are
-  rows_there n (suc k) i (f ∷ fs) g at is = by (kept_entries f) (rows_there (n + 1) k i fs g (omega (arith, at)) is)
+  rows_there n (suc k) i (f ∷ fs) g at is = by f.entries (rows_there (n + 1) k i fs g (omega (arith, at)) is)
     where
-      by : (es : List Entry) → rows_of_index m.height (tables_from m (n + 1) fs) i ≡ kept_entries g → rows_of_index m.height (listed (chip_of m n) es ++ tables_from m (n + 1) fs) i ≡ kept_entries g
+      by : (es : List Entry) → rows_of_index m.height (tables_from m (n + 1) fs) i ≡ g.entries → rows_of_index m.height (listed (chip_of m n) es ++ tables_from m (n + 1) fs) i ≡ g.entries
       by [] rest = rest
       by (e ∷ es) rest =
           let place : index_of m (chip_of m n) ≡ n = index_of-chip_of m n in
@@ -177,7 +163,7 @@ module _ (m : Description) (size : HasSize m) (finals : List Final) (many : leng
     ordered = subst (AllPairs (λ (s t : ChipTable). IsChipBefore s.chip t.chip)) (sym tables) (in_order m size.height_from_one 0 finals);
   }
 
-  pub image_rows : (i : ℕ) (f : Final) → slice_get finals i ≡ Some f → rows_of_index v.height v.chips i ≡ kept_entries f
+  pub image_rows : (i : ℕ) (f : Final) → slice_get finals i ≡ Some f → rows_of_index v.height v.chips i ≡ f.entries
   image_rows i f at =
       ap (λ h. rows_of_index h v.chips i) height
       ∙ (ap (λ (ts : List ChipTable). rows_of_index m.height ts i) tables
@@ -185,12 +171,12 @@ module _ (m : Description) (size : HasSize m) (finals : List Final) (many : leng
 
 -- one more chip
 pub image_more : (m : Description) (finals : List Final) (i : ℕ) (f : Final) (c : Chip) (old new : List ChipTable) → slice_get finals i ≡ Some f → c ≡ chip_of m i →
-    old ≡ tables_from m 0 (take i finals) → new ≡ old ++ listed c (kept_entries f) → new ≡ tables_from m 0 (take (i + 1) finals)
+    old ≡ tables_from m 0 (take i finals) → new ≡ old ++ listed c f.entries → new ≡ tables_from m 0 (take (i + 1) finals)
 image_more m finals i f c old new at chip so_far is =
     is
-    ∙ (ap (λ (k : Chip). old ++ listed k (kept_entries f)) chip
-    ∙ (ap (λ (ts : List ChipTable). ts ++ listed (chip_of m i) (kept_entries f)) so_far
-    ∙ sym (gathered_more (λ j (g : Final). listed (chip_of m j) (kept_entries g)) 0 finals i i f at (omega arith))))
+    ∙ (ap (λ (k : Chip). old ++ listed k f.entries) chip
+    ∙ (ap (λ (ts : List ChipTable). ts ++ listed (chip_of m i) f.entries) so_far
+    ∙ sym (gathered_more (λ j (g : Final). listed (chip_of m j) g.entries) 0 finals i i f at (omega arith))))
 
 -- ---- what it loads
 
@@ -205,7 +191,7 @@ same_lists {X} (x ∷ xs) (y ∷ ys) long each =
     ap (λ (z : X). z ∷ xs) same ∙ ap (λ (l : List X). y ∷ l) (same_lists xs ys (omega (arith, long)) (λ i. each (suc i)))
 
 pub all_loaded : (m : Description) (finals : List Final) (v : Image) (memories : List (List Entry)) → length finals ≡ m.width * m.height → v.width ≡ m.width → v.height ≡ m.height →
-    ((i : ℕ) (f : Final) → slice_get finals i ≡ Some f → rows_of_index v.height v.chips i ≡ kept_entries f) → IsLoaded v memories → memories ≡ map loaded_of finals
+    ((i : ℕ) (f : Final) → slice_get finals i ≡ Some f → rows_of_index v.height v.chips i ≡ f.entries) → IsLoaded v memories → memories ≡ map loaded_of finals
 all_loaded m finals v memories many width height rows is = same_lists memories (map loaded_of finals) long each
   where
     size : v.width * v.height ≡ length finals
@@ -224,7 +210,7 @@ all_loaded m finals v memories many width height rows is = same_lists memories (
 
 -- an image with these rows loads them
 has_loaded : (m : Description) (finals : List Final) (v : Image) → length finals ≡ m.width * m.height → v.width ≡ m.width → v.height ≡ m.height →
-    ((i : ℕ) (f : Final) → slice_get finals i ≡ Some f → rows_of_index v.height v.chips i ≡ kept_entries f) → IsLoaded v (map loaded_of finals)
+    ((i : ℕ) (f : Final) → slice_get finals i ≡ Some f → rows_of_index v.height v.chips i ≡ f.entries) → IsLoaded v (map loaded_of finals)
 has_loaded m finals v many width height rows = record {
   count = length-map finals loaded_of ∙ sym size;
   each = λ i below.
@@ -253,25 +239,8 @@ fill_tables apart m finals bytes can spelled = record {
       height_to_64 = spelled.valid.down.1;
     }
 
-    rows : (i : ℕ) (f : Final) → slice_get finals i ≡ Some f → rows_of_index m.height (tables_from m 0 finals) i ≡ kept_entries f
+    rows : (i : ℕ) (f : Final) → slice_get finals i ≡ Some f → rows_of_index m.height (tables_from m 0 finals) i ≡ f.entries
     rows = image_rows m size finals can.one_each (image_in m finals) refl refl refl
-
--- ---- the entries of the kept rows
-
--- one more
-pub entries_more : (rows list : List Row) (places items : List ℕ) (i : ℕ) (r : Row) (e : Entry) (old new : List Entry) → list ≡ rows → items ≡ places →
-    All (λ s. s < length rows) places → i < length items → r ≡ get_or list (get_or items i 0) r → e ≡ entry_of r →
-    old ≡ map entry_of (rows_at_places rows (take i places)) → new ≡ old ++ e ∷ [] → new ≡ map entry_of (rows_at_places rows (take (i + 1) places))
-entries_more rows list places items i r e old new list_is items_are in_range below read entry so_far is =
-    let s : ℕ = get_or places i 0 in
-    let within : i < length places = subst (λ (l : List ℕ). i < length l) items_are below in
-    let found : r ≡ get_or rows s r = read ∙ (ap (λ (l : List Row). get_or l (get_or items i 0) r) list_is ∙ ap (λ (l : List ℕ). get_or rows (get_or l i 0) r) items_are) in
-    let there = slice_get-get_or rows s r (in_range i 0 within) ∙ ap Some (sym found) in
-    is
-    ∙ (ap (λ (x : Entry). old ++ x ∷ []) entry
-    ∙ (ap (λ (l : List Entry). l ++ entry_of r ∷ []) so_far
-    ∙ (sym (map_push entry_of (rows_at_places rows (take i places)) r)
-    ∙ ap (map entry_of) (sym (ap (rows_at_places rows) (take_more places i 0 within) ∙ rows_at-push rows (take i places) s r there)))))
 
 -- ---- the loop over the chips
 

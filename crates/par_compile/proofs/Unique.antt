@@ -29,11 +29,12 @@ use Rattle.net_tables.proofs.Determined as plain
 use Rattle.default_routes.specs.declared.stripping.Final.{Final}
 use Rattle.default_routes.specs.FinalTable.{IsFinalOf}
 use Rattle.default_routes.proofs.Determined as final
+use Rattle.default_routes.proofs.FinalLemmas.{ended_where_long}
 use Rattle.tern_word.specs.declared.tables.Row.{Row}
 use Rattle.par_compile.specs.declared.compiling.Plan.{Plan}
 use Rattle.par_compile.specs.Compiled.{blocks_of, HasLongTable, IsPlanOf, IsRoutingOf}
 use Rattle.cover_merge.specs.Covering.{HasNoLegalPair}
-use Rattle.par_compile.specs.Finals.{AreFinals, HasEnded, HasFinal, is_long}
+use Rattle.par_compile.specs.Finals.{AreFinals, HasFinal, is_long}
 
 -- nets that stand on sites of a machine are what plain tables ask for
 pub routed_of : (m : Description) (spots : List Spot) (nets : List NetPlan) → All (IsSite m) spots → AreNetsOn m spots nets → AreRoutedApart m nets
@@ -72,35 +73,32 @@ le_from_ltb n not = elim (cases_order n 1024) [
 ]
 
 -- where none is long, each is short
-pub none_long : (fs : List Final) → position is_long fs ≡ None → All (λ (f : Final). length f.kept ≤ 1024) fs
+pub none_long : (fs : List Final) → position is_long fs ≡ None → All (λ (f : Final). length f.entries ≤ 1024) fs
 none_long fs none k d below =
     let past : length fs ≤ position_or_len is_long fs = grind (arith, common_steps) in
-    le_from_ltb (length (get_or fs k d).kept) (fails_before_first is_long fs k d (omega arith))
+    le_from_ltb (length (get_or fs k d).entries) (fails_before_first is_long fs k d (omega arith))
 
--- the first table that is long is long: it keeps more rows than a router has entries
+-- the first table that is long is long: it has more entries than a router
 long_at : (fs : List Final) (i : ℕ) (t : Final) → position is_long fs ≡ Some i → slice_get fs i ≡ Some t → is_long t ≡ true
 long_at fs i t first at =
     let it : get_or fs i t ≡ t = get_or_from_slice_get fs i t t at in
     subst (λ (f : Final). is_long f ≡ true) it (position-Some is_long fs i t first).1
 
-is_more : (fs : List Final) (i : ℕ) (t : Final) → position is_long fs ≡ Some i → slice_get fs i ≡ Some t → 1024 < length t.kept
-is_more fs i t first at = ltb-true 1024 (length t.kept) (long_at fs i t first at)
+is_more : (fs : List Final) (i : ℕ) (t : Final) → position is_long fs ≡ Some i → slice_get fs i ≡ Some t → 1024 < length t.entries
+is_more fs i t first at = ltb-true 1024 (length t.entries) (long_at fs i t first at)
 
 -- so there are more nets than entries
-pub long_has_many : (nets fits : ℕ) (fs : List Final) (i : ℕ) (t : Final) → nets ≡ fits → All (λ (f : Final). length f.kept ≤ nets) fs → position is_long fs ≡ Some i → slice_get fs i ≡ Some t →
+pub long_has_many : (nets fits : ℕ) (fs : List Final) (i : ℕ) (t : Final) → nets ≡ fits → All (λ (f : Final). length f.entries ≤ nets) fs → position is_long fs ≡ Some i → slice_get fs i ≡ Some t →
     1024 < fits
 long_has_many nets fits fs i t same few first at =
     let more = is_more fs i t first at in
-    let fewer : length t.kept ≤ nets = All-at (λ (f : Final). length f.kept ≤ nets) fs i t few at in
+    let fewer : length t.entries ≤ nets = All-at (λ (f : Final). length f.entries ≤ nets) fs i t few at in
     omega (arith, more, fewer, same)
 
 -- so covering has come to its end there
-pub long_has_no_pair : (target : ℕ) (fs : List Final) (i : ℕ) (t : Final) → target ≤ 1024 → All (HasEnded target) fs → position is_long fs ≡ Some i → slice_get fs i ≡ Some t →
-    HasNoLegalPair t.covered.table.rows
-long_has_no_pair target fs i t small ended first at = elim (All-at (HasEnded target) fs i t ended at) [
-  | inl short ↦ (let more = is_more fs i t first at in absurd (omega (arith, small, short, more)))
-  | inr none ↦ none
-]
+pub long_has_no_pair : (target : ℕ) (table : List Row) (fs : List Final) (i : ℕ) (t : Final) → target ≤ 1024 → position is_long fs ≡ Some i → slice_get fs i ≡ Some t →
+    (is : IsFinalOf target table t) → HasNoLegalPair is.rows
+long_has_no_pair target table fs i t small first at is = let more = is_more fs i t first at in ended_where_long target table t is (omega (arith, small, more))
 
 module _ (m : Description) (graph : Graph) where
   pub one_routing : (p q : Placement) (gs hs : List Grown) (ns os : List NetPlan) → IsRoutingOf m graph p gs ns → IsRoutingOf m graph q hs os → (p ≡ q) × (gs ≡ hs) × (ns ≡ os)
@@ -139,8 +137,8 @@ module _ (m : Description) (graph : Graph) where
         let same : there.0 ≡ table =
         same_final plan.placement has.placement plan.grown has.grown plan.nets has.nets plan.tables has.finals is.routing has.routing is.tables has.are chip there.0 table has.inside there.1 has.at
         in
-        let short : length there.0.kept ≤ 1024 = All-at (λ (f : Final). length f.kept ≤ 1024) plan.tables (index_of m chip) there.0 is.short there.1 in
-        let few : length table.kept ≤ 1024 = subst (λ (f : Final). length f.kept ≤ 1024) same short in
+        let short : length there.0.entries ≤ 1024 = All-at (λ (f : Final). length f.entries ≤ 1024) plan.tables (index_of m chip) there.0 is.short there.1 in
+        let few : length table.entries ≤ 1024 = subst (λ (f : Final). length f.entries ≤ 1024) same short in
         let more = is_more has.finals (index_of m chip) table has.first has.at in
         omega (arith, few, more)
 

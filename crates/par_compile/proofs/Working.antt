@@ -1,4 +1,4 @@
--- Runs of tables that workers cover, table by table.
+-- Runs of chips whose tables workers cover, chip by chip.
 use Rattle.std.proofs.Common.{◌≡◌, ℕ, suc, ◌+◌, ◌<◌, ◌≤◌, true, None, List, [], ◌∷◌, ◌++◌, length, get_or, set, map, take, refl, sym, ap, ◌∙◌, subst, arith, inl, inr}
 use Rattle.std.specs.List.{All, AllZip, position}
 use Rattle.std.proofs.Math.ListN.{length-set}
@@ -8,10 +8,10 @@ use Rattle.std.proofs.lemmas.List.{append_assoc, get_or_default, get_or_push, ge
 use Rattle.std.proofs.lemmas.List.Elements.{All-head, All-map, All-tail}
 use Rattle.std.proofs.lemmas.Slice.Zip.{AllZip-long, all_zipped_more}
 use Rattle.default_routes.specs.declared.stripping.Final.{Final}
-use Rattle.tern_word.specs.declared.tables.Table.{Table}
+use Rattle.net_tables.specs.declared.marks.Mark.{Mark}
 use Rattle.par_compile.specs.declared.workers.Work.{Work}
 use Rattle.par_compile.specs.declared.workers.Work.TheVariants.{Plain, Done, Refused}
-use Rattle.par_compile.specs.Finals.{GivesFinal, IsCoverable, IsFinalFor, IsLeft, IsPlainWork, IsWorked, is_long}
+use Rattle.par_compile.specs.Finals.{AreCoverable, GivesFinal, IsFinalFor, IsLeft, IsPlainWork, IsWorked, is_long}
 use Rattle.par_compile.proofs.Unique.{none_long}
 
 -- the tables before place k are worked on, and the others are as they were
@@ -39,7 +39,7 @@ worked_more target start now new k old w so_far below read is done = subst (λ l
   left = λ j d from. get_or-set_other now k j w d (λ here. omega (arith, from, here)) ∙ so_far.left j d (omega (arith, from));
 })
 
--- a table that is left stands as it was
+-- original blocks that are left stand as they were
 plain_stays : (target : ℕ) (w : Work) → IsPlainWork w → IsWorked target w w
 plain_stays target (Plain t) plain = refl
 plain_stays target (Done f) plain = absurd plain
@@ -60,13 +60,13 @@ ready_at target start now k old so_far ready below read =
     let long = so_far.long in
     subst IsPlainWork (sym (read ∙ so_far.left k old (omega arith))) (ready k old (omega (arith, below, long)))
 
--- tables that can be covered are ready
-pub all_ready : (tables : List Table) (works : List Work) → works ≡ map Plain tables → All IsCoverable tables → All IsPlainWork works
-all_ready tables works is all = subst (All IsPlainWork) (sym is) (All-map IsPlainWork Plain tables all)
+-- original blocks whose tables can be covered are ready
+pub all_ready : (blocks : List (List Mark)) (works : List Work) → works ≡ map Plain blocks → All AreCoverable blocks → All IsPlainWork works
+all_ready blocks works is all = subst (All IsPlainWork) (sym is) (All-map IsPlainWork Plain blocks all)
 
--- a table that a worker left can still be covered
+-- what a worker left can still be covered
 left_one : (target : ℕ) (old new : Work) → IsPlainWork old → IsWorked target old new → IsLeft new
-left_one target (Plain t) (Plain u) plain worked = subst IsCoverable worked plain
+left_one target (Plain t) (Plain u) plain worked = subst AreCoverable worked plain
 left_one target (Plain t) (Done f) plain worked = tt
 left_one target (Plain t) Refused plain worked = tt
 left_one target (Done g) new plain worked = absurd plain
@@ -78,14 +78,14 @@ all_left target olds news long ready each k d below =
     let inside : k < length olds = subst (λ n. k < n) long below in
     left_one target (get_or olds k d) (get_or news k d) (ready k d inside) (each k d inside)
 
--- the final tables that work gives are those of the tables
+-- the final tables that work gives are those of the original blocks
 module _ (target : ℕ) where
-  gives_one : (t : Table) (w : Work) (f : Final) → IsWorked target (Plain t) w → GivesFinal target w f → IsFinalFor target t f
-  gives_one t (Plain u) f worked gives = subst (λ (x : Table). IsFinalFor target x f) (sym worked) gives
+  gives_one : (t : List Mark) (w : Work) (f : Final) → IsWorked target (Plain t) w → GivesFinal target w f → IsFinalFor target t f
+  gives_one t (Plain u) f worked gives = subst (λ (x : List Mark). IsFinalFor target x f) (sym worked) gives
   gives_one t (Done g) f worked gives = subst (IsFinalFor target t) gives worked
   gives_one t Refused f worked gives = absurd gives
 
-  beside : (ts : List Table) (ws : List Work) (fs : List Final) → ((i : ℕ) (d : Work) → i < length ts → IsWorked target (get_or (map Plain ts) i d) (get_or ws i d)) →
+  beside : (ts : List (List Mark)) (ws : List Work) (fs : List Final) → ((i : ℕ) (d : Work) → i < length ts → IsWorked target (get_or (map Plain ts) i d) (get_or ws i d)) →
       length ws ≡ length ts → AllZip (GivesFinal target) (take (length fs) ws) fs → AllZip (IsFinalFor target) (take (length fs) ts) fs
   beside ts ws [] each long gives = tt
   beside [] [] (f ∷ fs) each long gives = absurd gives
@@ -94,7 +94,7 @@ module _ (target : ℕ) where
   beside (t ∷ ts) (w ∷ ws) (f ∷ fs) each long gives =
       (gives_one t w f (each 0 Refused (omega arith)) gives.0, beside ts ws fs (λ i d below. each (suc i) d (omega (arith, below))) (omega (arith, long)) gives.1)
 
-  pub all_beside : (ts : List Table) (fs : List Final) (olds news : List Work) → olds ≡ map Plain ts → length news ≡ length olds →
+  pub all_beside : (ts : List (List Mark)) (fs : List Final) (olds news : List Work) → olds ≡ map Plain ts → length news ≡ length olds →
       ((i : ℕ) (d : Work) → i < length olds → IsWorked target (get_or olds i d) (get_or news i d)) → AllZip (GivesFinal target) (take (length fs) news) fs →
       AllZip (IsFinalFor target) (take (length fs) ts) fs
   all_beside ts fs olds news first long each gives =
@@ -146,8 +146,8 @@ given_at_end target works rest finals none so_far =
 pub last_is_long : (finals : List Final) (f : Final) → is_long f ≡ true → position is_long (finals ++ f ∷ []) ≡ None → ⊥
 last_is_long finals f long none =
     let size : length (finals ++ f ∷ []) ≡ length finals + 1 = length-append finals (f ∷ []) in
-    let short : length (get_or (finals ++ f ∷ []) (length finals) f).kept ≤ 1024 = none_long (finals ++ f ∷ []) none (length finals) f (omega (arith, size)) in
+    let short : length (get_or (finals ++ f ∷ []) (length finals) f).entries ≤ 1024 = none_long (finals ++ f ∷ []) none (length finals) f (omega (arith, size)) in
     let it : get_or (finals ++ f ∷ []) (length finals) f ≡ f = get_or_push finals f f (length finals) refl in
-    let few : length f.kept ≤ 1024 = subst (λ (g : Final). length g.kept ≤ 1024) it short in
-    let many : 1024 < length f.kept = ltb-true 1024 (length f.kept) long in
+    let few : length f.entries ≤ 1024 = subst (λ (g : Final). length g.entries ≤ 1024) it short in
+    let many : 1024 < length f.entries = ltb-true 1024 (length f.entries) long in
     omega (arith, few, many)

@@ -71,13 +71,14 @@ pub record HasLongTable (m : Description) (graph : Graph) (target : ℕ) (chip :
   pub at : slice_get finals (index_of m chip) ≡ Some table
 
 -- A vertex has no room; or all have, and keys are out at a net; or all have keys, and a target of a net is cut off; or none is,
--- and a final table is long, of which no two rows can be merged: then there are more nets than a router has entries. Want of
--- memory is free.
+-- and a final table is long, where no two rows of the covered table can be merged: then there are more nets than a router has
+-- entries. Want of memory is free.
 abbrev pub IsCompileCause : Description → Graph → ℕ → CompileErr → Type 0
 IsCompileCause m graph target (NoRoom vertex) = HasNoRoom m graph.vertices vertex
 IsCompileCause m graph target (KeysOut net) = HasPlacement m graph × AreKeysOut graph.nets net
 IsCompileCause m graph target (CutOff net chip) = HasCutOff m graph net chip
-IsCompileCause m graph target (TableLong chip table) = HasLongTable m graph target chip table × HasNoLegalPair table.covered.table.rows × (ROUTER_ENTRIES < length graph.nets)
+IsCompileCause m graph target (TableLong chip table) =
+    (long : HasLongTable m graph target chip table) × HasNoLegalPair (long.are chip table long.inside long.at).is_final.rows × (ROUTER_ENTRIES < length graph.nets)
 IsCompileCause m graph target Memory = Unit {0}
 
 -- The other way round: where there is a cause, the answer names it, or wants memory.
@@ -88,12 +89,12 @@ pub record IsRefusedWhere (m : Description) (graph : Graph) (target : ℕ) (resu
   pub table_long : (chip : Chip) (table : Final) → HasLongTable m graph target chip table → IsRefusedBy result (TableLong chip table) Memory
 
 -- What a plan of a graph on a machine is, for a number of rows at which covering stops: the graph is placed, keyed and routed,
--- and each chip has its final table, whose kept rows fit into its router. Loaded, with unused entries after the kept rows, the
--- tables are right for the nets.
+-- and each chip has its final table, whose entries fit into its router. Loaded, with unused entries after these, the tables are
+-- right for the nets.
 pub record IsPlanOf (m : Description) (graph : Graph) (target : ℕ) (plan : Plan) : Type 0 where
   pub routing : IsRoutingOf m graph plan.placement plan.grown plan.nets
   pub one_table_each : length plan.tables ≡ m.width * m.height
   pub tables : AreFinals m plan.nets target plan.tables
   pub keep : All KeepsRows plan.tables
-  pub short : All (λ (f : Final). length f.kept ≤ ROUTER_ENTRIES) plan.tables
+  pub short : All (λ (f : Final). length f.entries ≤ ROUTER_ENTRIES) plan.tables
   pub right : AreRight m (map loaded_of plan.tables) plan.nets

@@ -3,19 +3,19 @@ ghost use Rattle.std.specs.Prelude.{◌≡◌, ◌*◌, ◌<◌, ◌≤◌, ◌^
 ghost use Rattle.machine_desc.specs.RightTables.{AreRight};
 ghost use Rattle.net_tables.specs.PlainTable.{AreRoutedApart};
 ghost use Rattle.default_routes.specs.declared.stripping.Final.{Final};
-ghost use Rattle.par_compile.specs.Finals.{AreAllUnlessLong, AreFinals, HasEnded, KeepsRows, loaded_of};
+ghost use Rattle.par_compile.specs.Finals.{AreAllUnlessLong, AreFinals, KeepsRows, loaded_of};
 
 use crate::requests::CompileRequest;
 use crate::workers::finals;
 use default_routes::Final;
 use machine_desc::NetPlan;
-use net_tables::plain_tables;
+use net_tables::original_blocks;
 use spin_base::{Gate, Memory, Seq};
 use std::alloc::Global;
 use std::thread::Threads;
 
 /// The final table of each chip, by the chip's index, up to the first that is long: that of the nets' plain table there. Loaded, with
-/// unused entries after the kept rows, those of all chips are right for the nets. They are the same for every number of workers.
+/// unused entries after their own, those of all chips are right for the nets. They are the same for every number of workers.
 pub(crate) fn final_tables<R: Threads + Sync, G: Gate>(
     rt: &R,
     alloc: Global,
@@ -32,15 +32,14 @@ pub(crate) fn final_tables<R: Threads + Sync, G: Gate>(
     ensures few_chips { IfOk result (λ finals. length finals ≤ 4096) }
     ensures finals { IfOk result (AreFinals request.now.machine.now nets.now request.now.target) }
     ensures kept { IfOk result (All KeepsRows) }
-    ensures few_rows { IfOk result (All (λ (f : Final). length f.kept ≤ length nets.now)) }
-    ensures ended { IfOk result (All (HasEnded request.now.target)) }
+    ensures few_rows { IfOk result (All (λ (f : Final). length f.entries ≤ length nets.now)) }
     ensures right { IfOk result (λ finals. length finals
         ≡ request.now.machine.now.width * request.now.machine.now.height
         → AreRight request.now.machine.now (map loaded_of finals) nets.now) }
 {
     let machine = request.machine;
-    let tables = plain_tables(alloc, machine, nets)?;
+    let blocks = original_blocks(alloc, machine, nets)?;
     let chips = machine.chips();
-    prove!(tables.len() == chips);
-    finals(rt, alloc, tables, request, gate)
+    prove!(blocks.len() == chips);
+    finals(rt, alloc, blocks, request, gate)
 }

@@ -36,7 +36,7 @@ pub enum CompileErr {
     KeysOut { net: u32 },
     /// The first net with a target chip that no walk of live links joins to its source's, and its first such target.
     CutOff { net: u32, target: Chip },
-    /// The first chip, by its index, whose final table keeps more than 1,024 rows, and that table.
+    /// The first chip, by its index, whose final table has more than 1,024 entries, and that table.
     TableLong { chip: Chip, table: Final },
     /// There was not enough memory.
     Memory,
@@ -68,8 +68,8 @@ impl From<Memory> for CompileErr {
 ///
 /// `NoRoom` names the first vertex without room; `KeysOut` the first net without keys where all vertices have room; `CutOff`
 /// the first net with a target that is cut off where all nets have keys, with its first such target; `TableLong` the first
-/// chip whose final table keeps more rows than a router has entries where no target is cut off, with that table, of which no
-/// two rows can be merged. Each comes exactly where there is such a vertex, net or chip, unless memory runs out before, which
+/// chip whose final table has more entries than a router where no target is cut off, with that table; no two rows of the covered
+/// table can be merged. Each comes exactly where there is such a vertex, net or chip, unless memory runs out before, which
 /// `Memory` says.
 pub fn compile<R: Threads + Sync, G: Gate>(
     rt: &R,
@@ -120,13 +120,13 @@ pub fn compile<R: Threads + Sync, G: Gate>(
     }
 }
 
-// The place of the first table that keeps more rows than a router has entries.
+// The place of the first table that has more entries than a router.
 fn first_long(tables: &[Final]) -> Option<usize>
     ensures { result ≡ position is_long tables.now }
 {
     tables
         .iter()
-        .position(|table| table.kept.len() > ROUTER_ENTRIES)
+        .position(|table| table.entries.len() > ROUTER_ENTRIES)
 }
 
 // The table at this place.

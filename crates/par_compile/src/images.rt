@@ -6,24 +6,24 @@ ghost use Rattle.machine_desc.specs.RightTables.{AreRight};
 ghost use Rattle.default_routes.specs.declared.stripping.Final.{Final};
 ghost use Rattle.table_load.specs.Images.{IsValid, Spells};
 ghost use Rattle.table_load.specs.Memories.{rows_of_index};
-ghost use Rattle.par_compile.specs.Finals.{KeepsRows, kept_entries, loaded_of};
+ghost use Rattle.par_compile.specs.Finals.{KeepsRows, loaded_of};
 ghost use Rattle.par_compile.specs.Imaging.{CanBeImaged, FillTables, image_in, listed};
 
 use default_routes::Final;
 use machine_desc::Machine;
-use spin_base::{Chip, ChipTable, Entry, Memory, Seq};
+use spin_base::{Chip, ChipTable, Memory, Seq};
 use std::alloc::Global;
 use table_load::{Image, an_image_has_one_spelling, decode, encode, load};
 use tcam_find::Tcam;
 
-/// The image of the final tables of a machine's chips, one for each chip by the chip's index: the kept rows of each chip
-/// that has any, of which no chip has more than 1,024.
+/// The image of the final tables of a machine's chips, one for each chip by the chip's index: the entries of each chip that has
+/// any, of which no chip has more than 1,024.
 pub fn image_of(alloc: Global, machine: &Machine, finals: &Seq<Final>) -> Result<Image, Memory>
     requires { CanBeImaged machine.now finals.now }
     ensures valid { IfOk result IsValid }
     ensures image { IfOk result (λ v. v ≡ image_in machine.now finals.now) }
     ensures rows { IfOk result (λ v. (i : ℕ) (f : Final) → slice_get finals.now i ≡ Some f
-        → rows_of_index v.height v.chips i ≡ kept_entries f) }
+        → rows_of_index v.height v.chips i ≡ f.entries) }
 {
     let mut chips = Seq::new(alloc);
     let count = machine.chips();
@@ -39,39 +39,25 @@ pub fn image_of(alloc: Global, machine: &Machine, finals: &Seq<Final>) -> Result
     })
 }
 
-// Puts a chip's table at the back, where it has rows.
+// Puts a chip's table at the back, where it has entries.
 fn push_table(
     alloc: Global,
     chips: &mut Seq<ChipTable>,
     chip: Chip,
     done: &Final,
 ) -> Result<(), Memory>
-    requires { KeepsRows done.now }
-    ensures { OnOk result (chips.new ≡ chips.old ++ listed chip (kept_entries done.now)) }
+    ensures { OnOk result (chips.new ≡ chips.old ++ listed chip done.now.entries) }
 {
-    let entries = kept_entries(alloc, done)?;
-    if entries.is_empty() {
+    if done.entries.is_empty() {
         return Ok(());
     }
+    let entries = Seq::from_vec(Vec::from_slice(alloc, done.entries.as_slice())?);
     chips.push(ChipTable { chip, entries })
 }
 
-/// The entries of the rows that are loaded, in order.
-fn kept_entries(alloc: Global, done: &Final) -> Result<Seq<Entry>, Memory>
-    requires { KeepsRows done.now }
-    ensures { IfOk result (λ entries. entries ≡ kept_entries done.now) }
-{
-    let rows = done.covered.table.rows.as_slice();
-    let mut entries = Seq::new(alloc);
-    for place in done.kept.as_slice() {
-        entries.push(rows[*place as usize].entry())?;
-    }
-    Ok(entries)
-}
-
 /// The lookup memories that a loader fills from the bytes of the image of final tables, one for each chip by the chip's
-/// index: each has the chip's kept rows from place 0 on, and unused entries after them. Where these are right for nets, so
-/// are the memories.
+/// index: each has the entries of the chip's final table from place 0 on, and unused entries after them. Where these are right
+/// for nets, so are the memories.
 pub fn memories_of(
     alloc: Global,
     machine: &Machine,
@@ -90,8 +76,8 @@ pub fn memories_of(
     }
 }
 
-/// From the bytes that spell the image of final tables a loader fills one memory a chip: the chip's kept rows from place 0
-/// on, and unused entries after them. Nothing else can be filled from these bytes.
+/// From the bytes that spell the image of final tables a loader fills one memory a chip: the entries of the chip's final table
+/// from place 0 on, and unused entries after them. Nothing else can be filled from these bytes.
 pub fn images_fill_their_tables()
     ensures { (m : Description) (finals : List Final) (bytes : List ℕ) → CanBeImaged m finals
         → Spells (image_in m finals) bytes → FillTables bytes finals }

@@ -3,54 +3,56 @@ ghost use Rattle.std.specs.Prelude.{◌≡◌, ℕ, ◌<◌, ◌≤◌, ◌^◌,
 ghost use Rattle.std.specs.List.{AllZip};
 ghost use Rattle.par_compile.specs.declared.workers.Work.{Work};
 ghost use Rattle.par_compile.specs.declared.workers.Work.TheVariants.{Plain, Done};
-ghost use Rattle.par_compile.specs.Finals.{AreAllUnlessLong, GivesFinal, IsCoverable, IsFinalFor, IsLeft, HasLong, IsPlainWork, IsWorked, is_long};
+ghost use Rattle.par_compile.specs.Finals.{AreAllUnlessLong, AreCoverable, GivesFinal, IsFinalFor, IsLeft, HasLong, IsPlainWork, IsWorked, is_long};
 
 use crate::requests::CompileRequest;
 use default_routes::{Final, shorten};
+use net_tables::marks::Mark;
+use net_tables::plain_table;
 use spin_base::{Gate, Memory, ROUTER_ENTRIES, Seq};
 use std::alloc::Global;
 use std::thread::Threads;
 use std::{mem, thread};
-use tern_word::Table;
 
-// What stands at a chip's place: a table that is to be covered, its final table, or that memory was refused there.
+// What stands at a chip's place: the original blocks whose table is to be covered, its final table, or that memory was refused
+// there. So of plain tables there are no more at a time than workers.
 #[derive(Drop)]
 enum Work {
-    Plain(Table),
+    Plain(Seq<Mark>),
     Done(Final),
     Refused,
 }
 
-/// The final table of each table, in their order: covered to at most the request's target of rows, as far as rows can be merged,
-/// and then without the rows that default routing replaces. Those behind the first that is long are not given. The tables are cut
-/// in runs, one for each of the request's workers, of equal length, the last shorter. A worker ends with the first long table.
-/// Each worker enters the gate in phase 0, with step 0, before its first table. One worker is this thread alone. The answer
-/// is the same for every number of workers.
+/// The final table of each chip's original blocks, in their order: of their plain table, covered to at most the request's target of
+/// rows, as far as rows can be merged, and then without the rows that default routing replaces. Those behind the first that is long
+/// are not given. The chips are cut in runs, one for each of the request's workers, of equal length, the last shorter. A worker
+/// makes each plain table just before it is covered, and ends with the first long table. It enters the gate in phase 0, with step 0,
+/// before its first chip. One worker is this thread alone. The answer is the same for every number of workers.
 pub(crate) fn finals<R: Threads + Sync, G: Gate>(
     rt: &R,
     alloc: Global,
-    tables: Seq<Table>,
+    blocks: Seq<Seq<Mark>>,
     request: &CompileRequest<'_>,
     gate: &G,
 ) -> Result<Seq<Final>, Memory>
-    requires few { length tables < 2 ^ 32 }
-    requires coverable { All IsCoverable tables }
+    requires few { length blocks < 2 ^ 32 }
+    requires coverable { All AreCoverable blocks }
     ensures finals { IfOk result (λ finals. AllZip (IsFinalFor request.now.target)
-        (take (length finals) tables) finals) }
-    ensures all { IfOk result (AreAllUnlessLong (length tables)) }
+        (take (length finals) blocks) finals) }
+    ensures all { IfOk result (AreAllUnlessLong (length blocks)) }
 {
-    let mut works = works_of(alloc, tables)?;
+    let mut works = works_of(alloc, blocks)?;
     cover_all(rt, alloc, &mut works, request, gate);
     finals_of(alloc, works, request.target)
 }
 
-// The tables, each as work to be done.
-fn works_of(alloc: Global, tables: Seq<Table>) -> Result<Vec<Work>, Memory>
-    ensures { IfOk result (λ v. v.items ≡ map Plain tables) }
+// The original blocks of each chip, as work to be done.
+fn works_of(alloc: Global, blocks: Seq<Seq<Mark>>) -> Result<Vec<Work>, Memory>
+    ensures { IfOk result (λ v. v.items ≡ map Plain blocks) }
 {
     let mut works = Vec::new(alloc);
-    for table in tables.into_vec() {
-        works.push(Work::Plain(table))?;
+    for marks in blocks.into_vec() {
+        works.push(Work::Plain(marks))?;
     }
     Ok(works)
 }
@@ -74,23 +76,23 @@ fn finals_of(alloc: Global, works: Vec<Work>, target: u32) -> Result<Seq<Final>,
     Ok(finals)
 }
 
-// The final table that work gives. A table that a worker left is covered here: there is none before the first long one.
+// The final table that work gives. What a worker left is covered here: there is none before the first long one.
 fn done_of(alloc: Global, work: Work, target: u32) -> Result<Final, Memory>
     requires { IsLeft work }
     ensures { IfOk result (GivesFinal target work) }
 {
     match work {
-        Work::Plain(table) => final_of(alloc, table, target),
+        Work::Plain(marks) => final_of(alloc, marks, target),
         Work::Done(done) => Ok(done),
         Work::Refused => Err(Memory),
     }
 }
 
-// Whether a final table keeps more rows than a router has entries.
+// Whether a final table has more entries than a router.
 fn is_long(done: &Final) -> bool
     ensures { result ≡ is_long done.now }
 {
-    done.kept.len() > ROUTER_ENTRIES
+    done.entries.len() > ROUTER_ENTRIES
 }
 
 // Lets each worker do its run.
@@ -135,16 +137,16 @@ fn cover_run<G: Gate>(alloc: Global, part: &mut [Work], target: u32, worker: u32
     }
 }
 
-// Shortens one table, and says whether it is long all the same.
+// Makes the final table at one place, and says whether it is long.
 fn cover_at(alloc: Global, work: &mut Work, target: u32) -> bool
     requires { IsPlainWork work.old }
     ensures worked { IsWorked target work.old work.new }
     ensures long { IsTrue result ↔ HasLong work.new }
 {
-    let Work::Plain(table) = mem::replace(work, Work::Refused) else {
+    let Work::Plain(marks) = mem::replace(work, Work::Refused) else {
         return false;
     };
-    let Ok(done) = final_of(alloc, table, target) else {
+    let Ok(done) = final_of(alloc, marks, target) else {
         return false;
     };
     let long = is_long(&done);
@@ -152,11 +154,12 @@ fn cover_at(alloc: Global, work: &mut Work, target: u32) -> bool
     long
 }
 
-// The final table of a table.
-fn final_of(alloc: Global, table: Table, target: u32) -> Result<Final, Memory>
-    requires { IsCoverable table }
-    ensures { IfOk result (IsFinalFor target table) }
+// The final table of the plain table of original blocks. The plain table is gone at the end.
+fn final_of(alloc: Global, marks: Seq<Mark>, target: u32) -> Result<Final, Memory>
+    requires { AreCoverable marks }
+    ensures { IfOk result (IsFinalFor target marks) }
 {
+    let table = plain_table(alloc, marks.as_slice())?;
     let done = shorten(alloc, table, target)?;
     Ok(done)
 }

@@ -25,9 +25,8 @@ use Rattle.net_tables.specs.PlainTable.{IsPlainTable, AreRoutedApart, row_of}
 use Rattle.net_tables.proofs.Trees.{chips_inside}
 use Rattle.net_tables.proofs.Whole.{not_after, originals_apart, has_original}
 use Rattle.default_routes.specs.declared.stripping.Final.{Final}
-use Rattle.default_routes.specs.FinalTable.{loaded_rows}
 use Rattle.table_load.specs.declared.tables.Image.{Image}
-use Rattle.cover_merge.specs.Merges.{sets_of}
+use Rattle.cover_merge.specs.Merge.{rows_at}
 use Rattle.plan_check.specs.declared.verdicts.Verdict.TheVariants.{Right}
 use Rattle.plan_check.specs.MadeImages.{IsFinalAt, IsImageOf}
 use Rattle.plan_check.specs.Verdicts.{GetsRoute, IsVerdict}
@@ -61,15 +60,22 @@ plain_sound m nets c rows routed is =
 module _ (m : Description) (nets : List NetPlan) (routed : AreRoutedApart m nets) (target : ℕ) (c : Chip) (f : Final) (at : IsFinalAt m nets target c f) where
   -- the block of an original gets its route
   abbrev Gets : Original → Type 0
-  Gets o = GetsRoute o.block (map entry_of (loaded_rows f)) o.port o.route
+  Gets o = GetsRoute o.block f.entries o.port o.route
+
+  -- in the entries of the kept rows
+  abbrev GetsKept : Original → Type 0
+  GetsKept o = GetsRoute o.block (map entry_of (rows_at at.final.rows at.final.kept)) o.port o.route
 
   all_get : All Gets (served at.rows)
   all_get =
-      let covered = covered_sound target at.rows (sets_of f.covered.merges) f.covered.table.rows at.final.covered (plain_sound m nets c at.rows routed at.plain) in
-      covered.1 Gets (All-flat_map Gets served_by f.covered.table.rows (λ j d below.
-      let r : Row = get_or f.covered.table.rows j d in
-      All-map Gets (λ (a : Alias). let o : Original = record { block = a.block; port = a.port; route = r.route } in o) r.aliases
-      (λ k e within. kept_gets f.covered.table.rows covered.0 f.kept at.final.kept j d (omega arith) below k e within)))
+      let covered = covered_sound target at.rows at.final.sets at.final.rows at.final.covered (plain_sound m nets c at.rows routed at.plain) in
+      let kept : All GetsKept (served at.rows) =
+      covered.1 GetsKept (All-flat_map GetsKept served_by at.final.rows (λ j d below.
+      let r : Row = get_or at.final.rows j d in
+      All-map GetsKept (λ (a : Alias). let o : Original = record { block = a.block; port = a.port; route = r.route } in o) r.aliases
+      (λ k e within. kept_gets at.final.rows covered.0 at.final.kept at.final.are_kept j d (omega arith) below k e within)))
+      in
+      subst (λ (es : List Entry). All (λ (o : Original). GetsRoute o.block es o.port o.route) (served at.rows)) (sym at.final.entries) kept
 
   pub original_gets : (o : Original) → Contains at.plain.originals o → Gets o
   original_gets o mine =
@@ -93,6 +99,6 @@ made_right m nets target finals v routed is k d below c on =
       comes_in = mine.2.port;
       route = o.route;
       gets = subst (λ (l : List Entry). GetsRoute net.block l o.port o.route) (sym (is.rows_are (index_of m c) f there.1))
-          (subst (λ (b : Block). GetsRoute b (map entry_of (loaded_rows f)) o.port o.route) mine.2.keys (original_gets m nets routed target c f at o mine.1));
+          (subst (λ (b : Block). GetsRoute b f.entries o.port o.route) mine.2.keys (original_gets m nets routed target c f at o mine.1));
       is = mine.2.outputs;
     }

@@ -9,8 +9,8 @@ ghost use Rattle.plan_check.specs.declared.verdicts.Verdict.TheVariants.{Right};
 ghost use Rattle.plan_check.specs.MadeImages.{IsImageOf};
 ghost use Rattle.plan_check.specs.Verdicts.{IsVerdict};
 
-/// An image that has the kept rows of the final tables of nets gets the verdict `Right` with these nets: each key of a net
-/// gets its route by one row, inside which the net's block lies, or no kept row meets the block and default routing does it.
+/// An image that has the entries of the final tables of nets gets the verdict `Right` with these nets: each key of a net
+/// gets its route by one row, inside which the net's block lies, or no row meets the block and default routing does it.
 pub fn made_images_are_right()
     ensures { (m : Description) (nets : List NetPlan) (target : ℕ) (finals : List Final) (v : Image)
         → AreRoutedApart m nets → IsImageOf m nets target finals v → IsVerdict m nets v Right }

@@ -40,7 +40,7 @@ line_of (Job fault) = fault_line fault
 line_of (NoRoom vertex) = line (codes "no" ∷ codes "room:" ∷ vertex ∷ [])
 line_of (KeysOut net) = line (codes "keys" ∷ codes "out:" ∷ net ∷ [])
 line_of (CutOff net target) = line (codes "cut" ∷ codes "off:" ∷ net ∷ decimal target.x ∷ decimal target.y ∷ [])
-line_of (TableLong chip table) = line (codes "table" ∷ codes "long:" ∷ decimal chip.x ∷ decimal chip.y ∷ decimal (length table.kept) ∷ [])
+line_of (TableLong chip table) = line (codes "table" ∷ codes "long:" ∷ decimal chip.x ∷ decimal chip.y ∷ decimal (length table.entries) ∷ [])
 line_of Memory = codes "out of memory\n"
 
 -- the status of an outcome: 0 where there is no refusal

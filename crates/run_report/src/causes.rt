@@ -26,7 +26,7 @@ pub enum Refusal {
     KeysOut(Name),
     /// The name of the first net with a target that is cut off, and the chip of its first such target. Status 7.
     CutOff(Name, Chip),
-    /// The first chip, by its index, whose final table keeps more rows than a router has entries, and that table. Status 8.
+    /// The first chip, by its index, whose final table has more entries than a router, and that table. Status 8.
     TableLong(Chip, Final),
     /// There was not enough memory. Status 9.
     Memory,

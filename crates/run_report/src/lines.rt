@@ -41,7 +41,7 @@ fn put_refusal(text: &mut Vec<u8>, refusal: &Refusal) -> Result<(), Memory>
         Refusal::NoRoom(vertex) => put_about(text, "no room: ", vertex.as_str()),
         Refusal::KeysOut(net) => put_about(text, "keys out: ", net.as_str()),
         Refusal::CutOff(net, target) => put_cut_off(text, net.as_str(), *target),
-        Refusal::TableLong(chip, table) => put_table_long(text, *chip, table.kept.len()),
+        Refusal::TableLong(chip, table) => put_table_long(text, *chip, table.entries.len()),
         Refusal::Memory => put(text, OUT_OF_MEMORY),
     }
 }

@@ -1,6 +1,4 @@
 use Rattle.std.proofs.Common.{arith}
-use Rattle.spin_base.proofs.Places.{All-at}
-use Rattle.par_compile.specs.Finals.{KeepsRows}
 use Rattle.par_compile.specs.Imaging.{image_in}
 use Rattle.par_compile.proofs.Imaged.{same_image, image_valid, image_rows, image_more, all_read, found_at, small_place}
 use Rattle.par_compile.proofs.images.image_of.Goals as goal
@@ -11,11 +9,6 @@ overflow_cast-i c =
     small_place c.args.machine.now c.args.finals.now c.as_slice-done-items.result.now c.loop-i.i c.chips-count.result c.chips-count.ensures.few c.chips-count.ensures.total c.requires.one_each
     c.as_slice-done-items.ensures c.loop-i-test.true in
     omega (arith, small)
-
-pub push_table-requires : goal.push_table-requires
-push_table-requires c =
-    All-at KeepsRows c.args.finals.now c.loop-i.i c.done-item.result c.requires.kept
-    (found_at c.args.finals.now c.as_slice-done-items.result.now c.loop-i.i c.done-item.result c.as_slice-done-items.ensures c.loop-i-test.true c.done-item.is)
 
 pub loop-i-preserved : goal.loop-i-preserved
 loop-i-preserved c =

@@ -1,13 +1,19 @@
+use Rattle.std.proofs.Common.{sym, subst}
+use Rattle.std.specs.Prelude.{List}
+use Rattle.net_tables.specs.declared.marks.Mark.{Mark}
+use Rattle.net_tables.specs.Marks.{AreApart, IsTableOf}
 use Rattle.par_compile.proofs.workers.final_of.Goals as goal
+
+pub shorten-requires-clause-sound : goal.shorten-requires-clause-sound
+shorten-requires-clause-sound c = c.in_ok-table.ensures.sound (subst AreApart (sym c.as_slice.ensures) c.requires.apart)
 
 pub returns : goal.returns
 returns c = record {
-  is_final = c.in_ok-done.ensures.table;
+  table = c.in_ok-table.table;
+  plain = subst (λ (marks : List Mark). IsTableOf marks c.in_ok-table.table) c.as_slice.ensures c.in_ok-table.ensures.table;
   stands = record {
-    few = c.in_ok-done.ensures.few;
-    places = c.in_ok-done.ensures.places;
+    shortened = c.in_ok-done.ensures.table;
     routes = c.in_ok-done.ensures.routes;
     serves = c.in_ok-done.ensures.serves;
-    ended = c.in_ok-done.ensures.ended;
   };
 }

@@ -10,21 +10,21 @@ use Rattle.par_compile.proofs.workers.finals.Goals as goal
 
 pub cover_all-requires-clause-ready : goal.cover_all-requires-clause-ready
 cover_all-requires-clause-ready g c κs within =
-    all_ready c.args.tables c.in_ok-works.works.items c.in_ok-works.ensures c.requires.coverable
+    all_ready c.args.blocks c.in_ok-works.works.items c.in_ok-works.ensures c.requires.coverable
 
 pub finals_of-requires : goal.finals_of-requires
 finals_of-requires g c κs within =
     all_left c.args.request.now.target c.in_ok-works.works.items c.cover_all.new.works.items c.cover_all.ensures.long
-    (all_ready c.args.tables c.in_ok-works.works.items c.in_ok-works.ensures c.requires.coverable) c.cover_all.ensures.worked κs within
+    (all_ready c.args.blocks c.in_ok-works.works.items c.in_ok-works.ensures c.requires.coverable) c.cover_all.ensures.worked κs within
 
 pub returns-clause-finals : goal.returns-clause-finals
 returns-clause-finals g c =
     IfOk-weaker c.finals_of.result (λ (fs : List Final). AllZip (GivesFinal c.args.request.now.target) (take (length fs) c.cover_all.new.works.items) fs)
-    (λ (fs : List Final). AllZip (IsFinalFor c.args.request.now.target) (take (length fs) c.args.tables) fs)
-    (λ fs gives. all_beside c.args.request.now.target c.args.tables fs c.in_ok-works.works.items c.cover_all.new.works.items
+    (λ (fs : List Final). AllZip (IsFinalFor c.args.request.now.target) (take (length fs) c.args.blocks) fs)
+    (λ fs gives. all_beside c.args.request.now.target c.args.blocks fs c.in_ok-works.works.items c.cover_all.new.works.items
     c.in_ok-works.ensures c.cover_all.ensures.long c.cover_all.ensures.worked gives) c.finals_of.ensures.finals
 
 pub returns-clause-all : goal.returns-clause-all
 returns-clause-all g c =
-    IfOk-weaker c.finals_of.result (AreAllUnlessLong (length c.cover_all.new.works.items)) (AreAllUnlessLong (length c.args.tables))
-    (λ fs all none. all none ∙ (c.cover_all.ensures.long ∙ (ap length c.in_ok-works.ensures ∙ length-map c.args.tables Plain))) c.finals_of.ensures.all
+    IfOk-weaker c.finals_of.result (AreAllUnlessLong (length c.cover_all.new.works.items)) (AreAllUnlessLong (length c.args.blocks))
+    (λ fs all none. all none ∙ (c.cover_all.ensures.long ∙ (ap length c.in_ok-works.ensures ∙ length-map c.args.blocks Plain))) c.finals_of.ensures.all
