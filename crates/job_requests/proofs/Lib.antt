@@ -1,1 +1,2 @@
+mod FirstMachine
 mod Versions

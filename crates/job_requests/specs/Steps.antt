@@ -1,5 +1,5 @@
 -- A list of steps with applications: all its faults in the order of reading, and what it is (this project's own).
-use Rattle.std.specs.Prelude.{ℕ, List, [], ◌∷◌, map, length, true, Option, Some, None, unwrap_or, if◌then◌else◌, bytes_eq, codes, nat_le}
+use Rattle.std.specs.Prelude.{ℕ, List, [], ◌∷◌, map, length, Bool, true, false, Option, Some, None, unwrap_or, if◌then◌else◌, bytes_eq, codes, nat_le}
 use Rattle.serde_json.specs.Data.{Data}
 use Rattle.job_text.specs.declared.faults.JobFault.{JobFault}
 use Rattle.job_text.specs.declared.faults.JobFault.TheVariants.{Shape, Range}
@@ -9,7 +9,9 @@ use Rattle.job_text.specs.Reading.{◌▹◌}
 use Rattle.job_text.specs.Fields.{count_faults, list_faults, list_value, typed_faults}
 use Rattle.job_readers.specs.Items.{items_faults}
 use Rattle.job_readers.specs.RunPart.{items_in, head_word, after_head}
+use Rattle.job_readers.specs.declared.jobs.Job.{Job}
 use Rattle.job_readers.specs.WholeJob.{job_faults, job_value}
+use Rattle.job_requests.specs.declared.steps.AppJob.{AppJob}
 use Rattle.job_requests.specs.declared.steps.Step.{Step}
 use Rattle.job_requests.specs.declared.steps.Step.TheVariants.{Load, Unload, Run}
 
@@ -27,10 +29,14 @@ load_faults path (n ∷ []) = Shape path ∷ []
 load_faults path (n ∷ (d ∷ [])) = step_number_faults path n ▹ job_faults (item_at path 2) 2 d
 load_faults path (n ∷ (d ∷ (e ∷ ds))) = Shape path ∷ []
 
+-- a job with its machine
+abbrev pub whole_job : Job → AppJob
+whole_job job = record { machine = Some job.machine; graph = job.graph; run = job.run }
+
 abbrev pub load_of : List Data → Step
 load_of [] = Run
 load_of (n ∷ []) = Run
-load_of (n ∷ (d ∷ ds)) = Load (number_of n) (job_value d)
+load_of (n ∷ (d ∷ ds)) = Load (number_of n) (whole_job (job_value d))
 
 -- After `unload` stands a number.
 unfoldable pub unload_faults : List ℕ → List Data → List JobFault
@@ -80,5 +86,31 @@ steps_faults d =
     ▹ (count_faults (codes "job") 65535 (length (list_value (Some d)))
     ▹ items_faults step_faults (codes "job") 0 (list_value (Some d)))
 
+-- whether a step is a load
+abbrev pub is_load : Step → Bool
+is_load (Load number job) = true
+is_load (Unload number) = false
+is_load Run = false
+
+-- a step whose job has no machine
+abbrev pub job_without_machine : AppJob → AppJob
+job_without_machine job = record { machine = None; graph = job.graph; run = job.run }
+
+abbrev pub without_machine : Step → Step
+without_machine (Load number job) = Load number (job_without_machine job)
+without_machine (Unload number) = Unload number
+without_machine Run = Run
+
+-- Applications share the machine of the first load. So the first load has its machine, and no later one has.
+abbrev pub first_machine_alone : List Step → List Step
+first_machine_alone [] = []
+first_machine_alone (Load number job ∷ steps) = Load number job ∷ map without_machine steps
+first_machine_alone (Unload number ∷ steps) = Unload number ∷ first_machine_alone steps
+first_machine_alone (Run ∷ steps) = Run ∷ first_machine_alone steps
+
+-- what is kept of a step, where a load was before and where none was
+abbrev pub kept : Bool → Step → Step
+kept loaded step = if loaded then without_machine step else step
+
 unfoldable pub steps_value : Data → List Step
-steps_value d = map step_value (list_value (Some d))
+steps_value d = first_machine_alone (map step_value (list_value (Some d)))

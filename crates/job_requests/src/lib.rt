@@ -12,4 +12,4 @@ mod requests;
 mod steps;
 
 pub use requests::{Request, request_of};
-pub use steps::{Step, steps_of};
+pub use steps::{AppJob, Step, steps_of};

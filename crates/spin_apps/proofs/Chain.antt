@@ -1,23 +1,27 @@
 -- Steps answered one after the other.
 use Rattle.std.proofs.Common.{◌≡◌, ℕ, zero, suc, ◌+◌, ◌≤◌, refl, sym, ap, ◌∙◌, subst, arith, List, [], ◌∷◌, ◌++◌, length, drop, ◌||◌, Option, Some, None, Result, Ok, Err, IfOk, IfSome, OnOk}
 use Rattle.std.specs.List.{list_any, slice_get}
-use Rattle.std.specs.Prelude.{is_some}
+use Rattle.std.specs.Prelude.{is_some, option_map, true}
 use Rattle.std.proofs.lemmas.Bool.{false≢true}
 use Rattle.std.proofs.Math.Bool.{or_assoc, or-false, or-true}
 use Rattle.std.proofs.lemmas.List.{append-nil, append_assoc, drop_all}
+use Rattle.std.proofs.lemmas.Option.{same_Some}
+use Rattle.machine_desc.specs.Description.{Description}
 use Rattle.job_requests.specs.declared.steps.Step.{Step}
 use Rattle.job_requests.specs.declared.steps.Step.TheVariants.{Load, Unload, Run}
-use Rattle.job_requests.specs.Valid.{IsValidJob, IsValidStep}
-use Rattle.job_readers.specs.declared.jobs.Job.{Job}
+use Rattle.job_requests.specs.Steps.{is_load}
+use Rattle.job_requests.specs.Valid.{HasFirstMachine, IsValidJob, IsValidStep}
+use Rattle.job_requests.specs.declared.steps.AppJob.{AppJob}
 use Rattle.app_loads.specs.Applications.{AreApps}
 use Rattle.app_loads.specs.Host.{Host}
 use Rattle.app_loads.specs.declared.answers.LoadRefusal.TheVariants.{Loaded, MemoryOut, KeysOut, RowsOut}
+use Rattle.app_loads.specs.Opening.{bare_host}
 use Rattle.spin_apps.specs.declared.hosts.LoadAnswer.{LoadAnswer}
 use Rattle.spin_apps.specs.declared.hosts.LoadAnswer.TheVariants.{Done, NoRoom, CutOff, Refused}
 use Rattle.spin_apps.specs.declared.hosts.UnloadAnswer.{UnloadAnswer}
 use Rattle.spin_apps.specs.declared.hosts.UnloadAnswer.TheVariants.{Got, NotLoaded, Waiting}
-use Rattle.spin_apps.specs.Answers.{Answers, AreAnswered, AreAnsweredFrom, IsLoadAnswer, IsUnloadAnswer, host_at, is_load}
-use Rattle.spin_apps.specs.Hosting.{IsAnsweredBy, HasAddedLine, packet_count_of}
+use Rattle.spin_apps.specs.Answers.{Answers, AreAnswered, AreAnsweredFrom, IsLoadAnswer, IsUnloadAnswer, host_at}
+use Rattle.spin_apps.specs.Hosting.{IsAnsweredBy, HasAddedLine, FindHosts, FindsHost, packet_count_of}
 use Rattle.spin_apps.specs.Lines.{load_line}
 use Rattle.spin_apps.specs.declared.answers.Answered.{Answered}
 use Rattle.spin_base.specs.declared.wants.Memory.{Memory}
@@ -66,6 +70,40 @@ given_from before (step ∷ steps) text after is =
     given_from is.2 steps is.1 after is.6
     ∙ (ap (λ b. b || list_any is_load steps) (one_given step before is.0 is.2 is.3) ∙ or_assoc (is_some before) (is_load step) (list_any is_load steps))
 
+-- ---- hosts of loads
+
+some_map : {A B : Type 0} (f : A → B) (o : Option A) → is_some o ≡ true → is_some (option_map f o) ≡ true
+some_map f None some = some
+some_map f (Some x) some = refl
+
+-- a step finds a host where the first load of it and those behind it does
+pub finds_host : (all : List Step) (i : ℕ) (step : Step) (before : Option Host) → slice_get all i ≡ Some step → FindHosts before (drop i all) → FindsHost before step
+finds_host all i step before at find = first before step (subst (FindHosts before) (dropped all i step at) find)
+  where
+    first : (before : Option Host) (step : Step) → FindHosts before (step ∷ drop (i + 1) all) → FindsHost before step
+    first None (Load number job) find = some_map (λ (m : Description). bare_host m job.run.queue) job.machine find
+    first (Some h) (Load number job) find = refl
+    first before (Unload number) find = tt
+    first before Run find = tt
+
+-- so does the first load behind it
+pub find_after : (all : List Step) (i : ℕ) (step : Step) (before : Option Host) (old new : List ℕ) (after : Option Host) → slice_get all i ≡ Some step →
+    HasAddedLine step before old new after → FindHosts before (drop i all) → FindHosts after (drop (i + 1) all)
+find_after all i step before old new after at told find = next step before told.answers (subst (FindHosts before) (dropped all i step at) find)
+  where
+    left : (new : Host) → after ≡ Some new → FindHosts after (drop (i + 1) all)
+    left new is = subst (λ (o : Option Host). FindHosts o (drop (i + 1) all)) (sym is) tt
+
+    none : after ≡ None → HasFirstMachine (drop (i + 1) all) → FindHosts after (drop (i + 1) all)
+    none is find = subst (λ (o : Option Host). FindHosts o (drop (i + 1) all)) (sym is) find
+
+    next : (step : Step) (before : Option Host) → Answers step before told.told after → FindHosts before (step ∷ drop (i + 1) all) → FindHosts after (drop (i + 1) all)
+    next (Load number job) before is find = left is.new is.left
+    next (Unload number) None is find = none is.1 find
+    next (Unload number) (Some h) is find = left is.new is.left
+    next Run None is find = none is.1 find
+    next Run (Some h) is find = left is.1.0 is.1.1
+
 -- ---- all steps
 
 -- what is answered where all steps were done
@@ -92,11 +130,15 @@ all_only steps (Err e) one answered = tt
 
 -- ---- how many packets there are
 
-at_load : (before : Option Host) (job : Job) → (host_at before job).packets ≡ packet_count_of before
-at_load None job = refl
-at_load (Some h) job = refl
+at_load : (before : Option Host) (job : AppJob) (h : Host) → host_at before job ≡ Some h → h.packets ≡ packet_count_of before
+at_load None job h on = bare job.machine on
+  where
+    bare : (o : Option Description) → option_map (λ (m : Description). bare_host m job.run.queue) o ≡ Some h → h.packets ≡ 0
+    bare None none = absurd cc
+    bare (Some m) is = ap (λ (x : Host). x.packets) (sym (same_Some (bare_host m job.run.queue) h is))
+at_load (Some g) job h on = ap (λ (x : Host). x.packets) (sym (same_Some g h on))
 
-load_packets : (h : Host) (number : ℕ) (job : Job) (answer : LoadAnswer) (new : Host) → IsValidJob job → IsLoadAnswer h number job answer new → new.packets ≤ h.packets + 65536
+load_packets : (h : Host) (number : ℕ) (job : AppJob) (answer : LoadAnswer) (new : Host) → IsValidJob job → IsLoadAnswer h number job answer new → new.packets ≤ h.packets + 65536
 load_packets h number job Done new valid is =
     let more = is.loaded.packets in
     let same : length is.plan.packets ≡ length job.run.packets = ap length is.is.packets in
@@ -120,8 +162,8 @@ pub packets_more : (step : Step) (before : Option Host) (old new : List ℕ) (af
 packets_more (Load number job) before old new after valid told =
     let is = told.answers in
     let left = ap packet_count_of is.left in
-    let more = load_packets (host_at before job) number job is.answer is.new valid is.is in
-    let first = at_load before job in
+    let more = load_packets is.host number job is.answer is.new valid is.is in
+    let first = at_load before job is.host is.on in
     omega (arith, left, more, first)
 packets_more (Unload number) None old new after valid told = let left = ap packet_count_of told.answers.1 in omega (arith, left)
 packets_more (Unload number) (Some h) old new after valid told =
@@ -139,12 +181,12 @@ packets_more Run (Some h) old new after valid told =
 -- ---- one step told
 
 -- where a load's line was put at the end
-pub told_load : {E : Type 0} (put : Result Unit E) (before : Option Host) (number : ℕ) (job : Job) (old new : List ℕ) (h : Host) (answer : LoadAnswer) (after : Host) → h ≡ host_at before job →
+pub told_load : {E : Type 0} (put : Result Unit E) (before : Option Host) (number : ℕ) (job : AppJob) (old new : List ℕ) (h : Host) (answer : LoadAnswer) (after : Host) → host_at before job ≡ Some h →
     IsLoadAnswer h number job answer after → AreApps after → OnOk put (new ≡ old ++ load_line number job.graph answer) → OnOk put (HasAddedLine (Load number job) before old new (Some after))
-told_load (Ok u) before number job old new h answer after is answers apps longer = record {
+told_load (Ok u) before number job old new h answer after on answers apps longer = record {
   told = load_line number job.graph answer;
   longer = longer;
-  answers = record { new = after; left = refl; answer = answer; is = subst (λ (x : Host). IsLoadAnswer x number job answer after) is answers; told = refl };
+  answers = record { host = h; on = on; new = after; left = refl; answer = answer; is = answers; told = refl };
   apps = apps;
 }
-told_load (Err e) before number job old new h answer after is answers apps longer = longer
+told_load (Err e) before number job old new h answer after on answers apps longer = longer

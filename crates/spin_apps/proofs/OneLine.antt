@@ -19,7 +19,7 @@ use Rattle.net_plans.proofs.Determined as plans
 use Rattle.net_plans.specs.CutOffTargets.{IsFirstNetCutOff}
 use Rattle.place_fit.proofs.Determined as places
 use Rattle.place_fit.specs.Placement.{HasNoRoom, IsPlacement}
-use Rattle.job_readers.specs.declared.jobs.Job.{Job}
+use Rattle.job_requests.specs.declared.steps.AppJob.{AppJob}
 use Rattle.job_requests.specs.Valid.{IsValidJob}
 use Rattle.app_loads.specs.declared.answers.LoadRefusal.{LoadRefusal}
 use Rattle.app_loads.specs.declared.answers.LoadRefusal.TheVariants.{Loaded, MemoryOut, KeysOut, RowsOut}
@@ -55,7 +55,7 @@ same_plan p q spots sdram nets packets = λ i. record { spots = spots i; sdram =
 any_block : Block
 any_block = record { key = 0; mask = 0; within = refl; small = omega arith }
 
-module _ (h : Host) (job : Job) (valid : IsValidJob job) where
+module _ (h : Host) (job : AppJob) (valid : IsValidJob job) where
   abbrev grid : Description
   grid = h.mesh.setup.machine
 
@@ -181,7 +181,7 @@ free_on m loaded = record {
   dead_links = [];
 }
 
-module _ (h g : Host) (machine : h.mesh.setup.machine ≡ g.mesh.setup.machine) (apps : h.apps ≡ g.apps) (job : Job) (valid : IsValidJob job) where
+module _ (h g : Host) (machine : h.mesh.setup.machine ≡ g.mesh.setup.machine) (apps : h.apps ≡ g.apps) (job : AppJob) (valid : IsValidJob job) where
   same_free : free_machine h ≡ free_machine g
   same_free = λ i. free_on (machine i) (apps i)
 

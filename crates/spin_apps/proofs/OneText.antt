@@ -1,6 +1,6 @@
 -- Steps have one text: whatever states they lead through, these are states of machines with the same applications.
 use Rattle.std.proofs.Common.{◌≡◌, ℕ, zero, suc, ◌<◌, refl, sym, ap, ◌∙◌, subst, arith, inl, List, [], ◌∷◌, ◌++◌, length, true, false, Bool, Option, Some, None, IfSome}
-use Rattle.std.specs.Prelude.{replicate}
+use Rattle.std.specs.Prelude.{option_map, replicate}
 use Rattle.std.specs.List.{All, Contains, slice_get}
 use Rattle.std.proofs.lemmas.Bool.{true≢false}
 use Rattle.std.proofs.lemmas.List.{length-replicate}
@@ -13,7 +13,7 @@ use Rattle.spin_base.specs.declared.copies.McCopy.{McCopy}
 use Rattle.machine_desc.specs.Description.{Description}
 use Rattle.mesh_core.specs.State.{Hand, State}
 use Rattle.net_plans.proofs.Determined.{same_places}
-use Rattle.job_readers.specs.declared.jobs.Job.{Job}
+use Rattle.job_requests.specs.declared.steps.AppJob.{AppJob}
 use Rattle.job_requests.specs.declared.steps.Step.{Step}
 use Rattle.job_requests.specs.declared.steps.Step.TheVariants.{Load, Unload, Run}
 use Rattle.job_requests.specs.Valid.{IsValidJob, IsValidStep}
@@ -48,11 +48,11 @@ is_done (CutOff net target) = false
 is_done (Refused refusal) = false
 
 -- what a load leaves: a plan of the job was loaded, or nothing has changed
-data LeftByLoad (h : Host) (n : ℕ) (job : Job) (a : LoadAnswer) (new : Host) : Type 0 where
+data LeftByLoad (h : Host) (n : ℕ) (job : AppJob) (a : LoadAnswer) (new : Host) : Type 0 where
   changed : is_done a ≡ true → IsDone h n job new → LeftByLoad h n job a new
   unchanged : is_done a ≡ false → new ≡ h → LeftByLoad h n job a new
 
-left_by_load : (h : Host) (n : ℕ) (job : Job) (a : LoadAnswer) (new : Host) → IsLoadAnswer h n job a new → LeftByLoad h n job a new
+left_by_load : (h : Host) (n : ℕ) (job : AppJob) (a : LoadAnswer) (new : Host) → IsLoadAnswer h n job a new → LeftByLoad h n job a new
 left_by_load h n job Done new is = changed refl is
 left_by_load h n job (Refused Loaded) new is = unchanged refl is.1
 left_by_load h n job (NoRoom vertex) new is = unchanged refl is.2
@@ -71,7 +71,7 @@ same_quiet s t inputs hands cores dumped quiet = record {
   no_record = dumped ∙ quiet.no_record;
 }
 
-module _ (h g new other : Host) (n : ℕ) (job : Job) (valid : IsValidJob job) (alike : AreAlike h g) (lists : length h.mesh.unsent ≡ length h.mesh.setup.spots)
+module _ (h g new other : Host) (n : ℕ) (job : AppJob) (valid : IsValidJob job) (alike : AreAlike h g) (lists : length h.mesh.unsent ≡ length h.mesh.setup.spots)
     (a : IsDone h n job new) (b : IsDone g n job other) (apps : AreApps new) (also : AreApps other) where
   abbrev one : LoadedApp
   one = a.loaded.app
@@ -161,7 +161,7 @@ module _ (h g new other : Host) (n : ℕ) (job : Job) (valid : IsValidJob job) (
     other_quiet = same_quiet g.mesh other.mesh (ap (λ (m : State). m.inputs) b.loaded.mesh) (ap (λ (m : State). m.hands) b.loaded.mesh) (ap (λ (m : State). m.cores) b.loaded.mesh) (ap (λ (m : State). m.dumped) b.loaded.mesh) alike.other_quiet;
   }
 
-alike_after_load : (h g new other : Host) (n : ℕ) (job : Job) (a b : LoadAnswer) → IsValidJob job → AreAlike h g → length h.mesh.unsent ≡ length h.mesh.setup.spots → a ≡ b →
+alike_after_load : (h g new other : Host) (n : ℕ) (job : AppJob) (a b : LoadAnswer) → IsValidJob job → AreAlike h g → length h.mesh.unsent ≡ length h.mesh.setup.spots → a ≡ b →
     AreApps new → AreApps other → LeftByLoad h n job a new → LeftByLoad g n job b other → AreAlike new other
 alike_after_load h g new other n job a b valid alike lists same apps also (changed x is) (changed y be) = alike_loaded h g new other n job valid alike lists is be apps also
 alike_after_load h g new other n job a b valid alike lists same apps also (changed x is) (unchanged y be) = absurd (true≢false (sym x ∙ (ap is_done same ∙ y)))
@@ -211,19 +211,31 @@ quiet_bare m queue = record {
   no_record = refl;
 }
 
-at_loads : (before next : Option Host) (job : Job) → AlikeStates before next → AreAlike (host_at before job) (host_at next job)
-at_loads None None job are =
-    let quiet = quiet_bare job.machine job.run.queue in
-    record { machine = refl; apps = refl; packets = refl; unsent = refl; quiet = quiet; other_quiet = quiet }
-at_loads None (Some g) job are = absurd are
-at_loads (Some h) None job are = absurd are
-at_loads (Some h) (Some g) job are = are.0
+-- what is known of the hosts on which one load is done
+record AtLoad (h g : Host) : Type 0 where
+  alike : AreAlike h g
+  lists : length h.mesh.unsent ≡ length h.mesh.setup.spots
 
-list_for_each : (before next : Option Host) (job : Job) → AlikeStates before next → length (host_at before job).mesh.unsent ≡ length (host_at before job).mesh.setup.spots
-list_for_each None None job are = length-replicate (length (bare_host job.machine job.run.queue).mesh.setup.spots) []
-list_for_each None (Some g) job are = absurd are
-list_for_each (Some h) None job are = absurd are
-list_for_each (Some h) (Some g) job are = are.1.mesh.unsent_lists
+at_bare : (m : Description) (queue : ℕ) → AtLoad (bare_host m queue) (bare_host m queue)
+at_bare m queue =
+    let quiet = quiet_bare m queue in
+    record {
+      alike = record { machine = refl; apps = refl; packets = refl; unsent = refl; quiet = quiet; other_quiet = quiet };
+      lists = length-replicate (length (bare_host m queue).mesh.setup.spots) [];
+    }
+
+at_loads : (before next : Option Host) (job : AppJob) (h g : Host) → AlikeStates before next → host_at before job ≡ Some h → host_at next job ≡ Some g → AtLoad h g
+at_loads None None job h g are on also = bare job.machine on also
+  where
+    bare : (o : Option Description) → option_map (λ (m : Description). bare_host m job.run.queue) o ≡ Some h → option_map (λ (m : Description). bare_host m job.run.queue) o ≡ Some g → AtLoad h g
+    bare None none also = absurd cc
+    bare (Some m) is be =
+        let k : Host = bare_host m job.run.queue in
+        subst (λ (x : Host). AtLoad x g) (same_Some k h is) (subst (λ (x : Host). AtLoad k x) (same_Some k g be) (at_bare m job.run.queue))
+at_loads None (Some k) job h g are on also = absurd are
+at_loads (Some k) None job h g are on also = absurd are
+at_loads (Some k) (Some l) job h g are on also =
+    subst (λ (x : Host). AtLoad x g) (same_Some k h on) (subst (λ (x : Host). AtLoad k x) (same_Some l g also) (record { alike = are.0; lists = are.1.mesh.unsent_lists }))
 
 apps_at : (after : Option Host) (new : Host) → after ≡ Some new → IfSome after AreApps → AreApps new
 apps_at after new is apps = subst (λ (o : Option Host). IfSome o AreApps) is apps
@@ -239,14 +251,14 @@ module _ (counted : HaveAsManyDeliveries) where
   one_step : (step : Step) (before next : Option Host) (told other : List ℕ) (after last : Option Host) → IsValidStep step → AlikeStates before next → Answers step before told after →
       Answers step next other last → IfSome after AreApps → IfSome last AreApps → (told ≡ other) × AlikeStates after last
   one_step (Load n job) before next told other after last valid are x y apps also =
-      let alike = at_loads before next job are in
+      let at = at_loads before next job x.host y.host are x.on y.on in
       let new_apps = apps_at after x.new x.left apps in
       let other_apps = apps_at last y.new y.left also in
-      let answer = one_load (host_at before job) (host_at next job) alike.machine alike.apps job valid n x.answer y.answer x.new y.new x.is y.is in (
+      let answer = one_load x.host y.host at.alike.machine at.alike.apps job valid n x.answer y.answer x.new y.new x.is y.is in (
         x.told ∙ (ap (load_line n job.graph) answer ∙ sym y.told),
         both_left after last x.new y.new x.left y.left
-            (alike_after_load (host_at before job) (host_at next job) x.new y.new n job x.answer y.answer valid alike (list_for_each before next job are) answer new_apps other_apps
-            (left_by_load (host_at before job) n job x.answer x.new x.is) (left_by_load (host_at next job) n job y.answer y.new y.is)) new_apps other_apps,
+            (alike_after_load x.host y.host x.new y.new n job x.answer y.answer valid at.alike at.lists answer new_apps other_apps (left_by_load x.host n job x.answer x.new x.is)
+            (left_by_load y.host n job y.answer y.new y.is)) new_apps other_apps,
       )
   one_step (Unload n) None None told other after last valid are x y apps also = (x.0 ∙ sym y.0, none_left after last x.1 y.1)
   one_step (Unload n) None (Some g) told other after last valid are x y apps also = absurd are

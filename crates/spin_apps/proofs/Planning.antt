@@ -27,8 +27,8 @@ use Rattle.app_loads.specs.declared.plans.AppPlan.{AppPlan}
 use Rattle.app_loads.specs.Host.{Host, is_spot_taken}
 use Rattle.app_loads.specs.Plans.{IsAppNet, IsPacketOfApp, IsPlan, MayLoad}
 use Rattle.job_requests.specs.Valid.{IsValidJob}
-use Rattle.job_readers.specs.declared.jobs.Job.{Job}
 use Rattle.app_loads.specs.declared.answers.LoadRefusal.TheVariants.{Loaded, MemoryOut, KeysOut, RowsOut}
+use Rattle.job_requests.specs.declared.steps.AppJob.{AppJob}
 use Rattle.spin_apps.specs.declared.hosts.LoadAnswer.{LoadAnswer}
 use Rattle.spin_apps.specs.declared.hosts.LoadAnswer.TheVariants.{Done, NoRoom, CutOff, Refused}
 use Rattle.spin_apps.specs.Answers.{IsLoadAnswer}
@@ -124,7 +124,7 @@ packets_are m spots nets apps packets are all = All-weaker (IsRunPacket nets) (I
 pub nets_on : (n : ℕ) (spots : List Spot) (nets : List Net) → length spots ≡ n → All (IsValidNet n) nets → All (IsValidNet (length spots)) nets
 nets_on n spots nets same valid = subst (λ k. All (IsValidNet k) nets) (sym same) valid
 
-module _ (h : Host) (m : Description) (job : Job) (spots : List Spot) (sdram : List ℕ) (apps : List AppNet) (packets : List Packet) (machine : h.mesh.setup.machine ≡ m) (placed : IsPlaced h job spots)
+module _ (h : Host) (m : Description) (job : AppJob) (spots : List Spot) (sdram : List ℕ) (apps : List AppNet) (packets : List Packet) (machine : h.mesh.setup.machine ≡ m) (placed : IsPlaced h job spots)
     (bytes : sdram ≡ map (λ (v : Vertex). v.sdram) job.graph.vertices) (are : AllZip (IsNetFor m spots) job.graph.nets apps) (copied : packets ≡ job.run.packets) where
   abbrev made : AppPlan
   made = record { spots = spots; sdram = sdram; nets = apps; packets = packets }
@@ -150,11 +150,11 @@ module _ (h : Host) (m : Description) (job : Job) (spots : List Spot) (sdram : L
 
 -- ---- refusals
 
-pub why_unplaced : (h : Host) (free : Description) (job : Job) (e : PlaceErr) → free ≡ free_machine h → IsPlaceCause free job.graph.vertices e → IsWhyUnplanned h job (unplaced e)
+pub why_unplaced : (h : Host) (free : Description) (job : AppJob) (e : PlaceErr) → free ≡ free_machine h → IsPlaceCause free job.graph.vertices e → IsWhyUnplanned h job (unplaced e)
 why_unplaced h free job (places.NoRoom vertex) is none = subst (λ (x : Description). HasNoRoom x job.graph.vertices vertex) is none
 why_unplaced h free job places.Memory is none = tt
 
-pub why_unrouted : (h : Host) (m : Description) (job : Job) (spots : List Spot) (e : NetErr) → h.mesh.setup.machine ≡ m → IsPlaced h job spots → IsNetCause m spots job.graph.nets e →
+pub why_unrouted : (h : Host) (m : Description) (job : AppJob) (spots : List Spot) (e : NetErr) → h.mesh.setup.machine ≡ m → IsPlaced h job spots → IsNetCause m spots job.graph.nets e →
     IsWhyUnplanned h job (unrouted e)
 why_unrouted h m job spots (nets.CutOff net target) machine placed first = record {
   spots = spots;
@@ -169,7 +169,7 @@ pub why_net : (m : Description) (spots : List Spot) (all : List Net) (i : ℕ) (
 why_net m spots all i net (repairs.CutOff target) at before first = record { net = net; is = at; target = first; before = before }
 why_net m spots all i net repairs.Memory at before first = tt
 
-pub may_load : (h : Host) (m : Description) (job : Job) (plan : AppPlan) → h.mesh.setup.machine ≡ m → IsPlanFor h job plan → IsPlan m plan →
+pub may_load : (h : Host) (m : Description) (job : AppJob) (plan : AppPlan) → h.mesh.setup.machine ≡ m → IsPlanFor h job plan → IsPlan m plan →
     All (λ s. is_spot_taken h.apps s ≡ false) plan.spots → h.packets + length job.run.packets < 2 ^ 32 → MayLoad h plan
 may_load h m job plan is planned valid free numbers = record {
   valid = subst (λ (x : Description). IsPlan x plan) (sym is) valid;
@@ -178,7 +178,7 @@ may_load h m job plan is planned valid free numbers = record {
 }
 
 -- what a plan of the job is answered is what the job is answered
-pub taken_answer : (h : Host) (number : ℕ) (job : Job) (plan : AppPlan) (answer : LoadAnswer) (new : Host) → IsPlanFor h job plan → IsTaken h number plan answer new →
+pub taken_answer : (h : Host) (number : ℕ) (job : AppJob) (plan : AppPlan) (answer : LoadAnswer) (new : Host) → IsPlanFor h job plan → IsTaken h number plan answer new →
     IsLoadAnswer h number job answer new
 taken_answer h number job plan Done new planned taken = record { plan = plan; is = planned; loaded = taken }
 taken_answer h number job plan (NoRoom vertex) new planned taken = absurd taken

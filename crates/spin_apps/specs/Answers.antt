@@ -1,9 +1,11 @@
 -- What steps with applications are answered, each on the state that the steps before it left (this project's own).
-use Rattle.std.specs.Prelude.{◌≡◌, ℕ, Bool, true, false, List, [], ◌∷◌, ◌++◌, length, Option, Some, None, IfSome, unwrap_or}
+use Rattle.std.specs.Prelude.{◌≡◌, ℕ, true, false, List, [], ◌∷◌, ◌++◌, length, Option, Some, None, IfSome, option_map}
 use Rattle.mesh_core.specs.Expected.{IsAtRest}
-use Rattle.job_readers.specs.declared.jobs.Job.{Job}
+use Rattle.machine_desc.specs.Description.{Description}
+use Rattle.job_requests.specs.declared.steps.AppJob.{AppJob}
 use Rattle.job_requests.specs.declared.steps.Step.{Step}
 use Rattle.job_requests.specs.declared.steps.Step.TheVariants.{Load, Unload, Run}
+pub use Rattle.job_requests.specs.Steps.{is_load}
 use Rattle.place_fit.specs.Placement.{HasNoRoom}
 use Rattle.app_loads.specs.declared.answers.Ended.{Ended}
 use Rattle.app_loads.specs.declared.answers.LoadRefusal.{LoadRefusal}
@@ -26,13 +28,13 @@ use Rattle.spin_apps.specs.Plans.{IsPlanFor, HasCutOffOnHost}
 -- ---- loads
 
 -- a plan of the job was loaded
-pub record IsDone (h : Host) (number : ℕ) (job : Job) (new : Host) : Type 0 where
+pub record IsDone (h : Host) (number : ℕ) (job : AppJob) (new : Host) : Type 0 where
   pub plan : AppPlan
   pub is : IsPlanFor h job plan
   pub loaded : HasLoaded h number plan new
 
 -- a plan of the job was refused for this cause, and nothing has changed
-pub record IsRefusedPlan (h : Host) (number : ℕ) (job : Job) (why : LoadRefusal) (new : Host) : Type 0 where
+pub record IsRefusedPlan (h : Host) (number : ℕ) (job : AppJob) (why : LoadRefusal) (new : Host) : Type 0 where
   pub plan : AppPlan
   pub is : IsPlanFor h job plan
   pub due : IsLoadRefusal h number plan why
@@ -40,7 +42,7 @@ pub record IsRefusedPlan (h : Host) (number : ℕ) (job : Job) (why : LoadRefusa
 
 -- What is asked first is whether the number is loaded. Then all vertices are to have room, then no target to be cut off; then the
 -- application is loaded, or refused for what loading asks for first.
-abbrev pub IsLoadAnswer : Host → ℕ → Job → LoadAnswer → Host → Type 0
+abbrev pub IsLoadAnswer : Host → ℕ → AppJob → LoadAnswer → Host → Type 0
 IsLoadAnswer h number job Done new = IsDone h number job new
 IsLoadAnswer h number job (NoRoom vertex) new =
     (is_loaded h.apps number ≡ false) × HasNoRoom (free_machine h) job.graph.vertices vertex × (new ≡ h)
@@ -67,27 +69,25 @@ IsUnloadAnswer h number (Waiting packet) new = IsLeastWaiting h number packet ×
 
 -- ---- steps
 
--- whether a step is a load
-abbrev pub is_load : Step → Bool
-is_load (Load number job) = true
-is_load (Unload number) = false
-is_load Run = false
-
 -- all packets were brought to their targets by events, and nothing else has changed
 pub record HasDrained (old new : Host) : Type 0 where
   pub at_rest : IsAtRest new.mesh
   pub moved : HasMovedMesh old new
 
--- The host at a load: where none was before, that of the job's machine and queues, without an application.
-abbrev pub host_at : Option Host → Job → Host
-host_at before job = unwrap_or before (bare_host job.machine job.run.queue)
+-- The host on which a load is done: the one before, or, where there was none, that of the job's machine and queues, without an
+-- application. There is none where the job has no machine.
+abbrev pub host_at : Option Host → AppJob → Option Host
+host_at (Some h) job = Some h
+host_at None job = option_map (λ (m : Description). bare_host m job.run.queue) job.machine
 
 -- A load's answer, its line, and the host after it.
-pub record AnswersLoad (before : Option Host) (number : ℕ) (job : Job) (text : List ℕ) (after : Option Host) : Type 0 where
+pub record AnswersLoad (before : Option Host) (number : ℕ) (job : AppJob) (text : List ℕ) (after : Option Host) : Type 0 where
+  pub host : Host
+  pub on : host_at before job ≡ Some host
   pub new : Host
   pub left : after ≡ Some new
   pub answer : LoadAnswer
-  pub is : IsLoadAnswer (host_at before job) number job answer new
+  pub is : IsLoadAnswer host number job answer new
   pub told : text ≡ load_line number job.graph answer
 
 -- An unload's answer, its line, and the host after it. Before the first load nothing is loaded.

@@ -1,7 +1,9 @@
 -- A machine with its applications, as the private functions say it.
-use Rattle.std.specs.Prelude.{◌≡◌, ℕ, ◌++◌, List, Option, Some, None, IfSome, IsOk, Result, true}
+use Rattle.std.specs.Prelude.{◌≡◌, ℕ, ◌++◌, List, Option, Some, None, IfSome, IsOk, Result, is_some, true}
 use Rattle.link_detours.specs.LiveRoads.{AreRoadsOf}
 use Rattle.job_requests.specs.declared.steps.Step.{Step}
+use Rattle.job_requests.specs.declared.steps.Step.TheVariants.{Load, Unload, Run}
+use Rattle.job_requests.specs.Valid.{HasFirstMachine}
 use Rattle.app_loads.specs.Applications.{AreApps}
 use Rattle.app_loads.specs.declared.plans.AppPlan.{AppPlan}
 use Rattle.app_loads.specs.Host.{Host, is_loaded}
@@ -11,7 +13,7 @@ use Rattle.spin_apps.specs.declared.answers.Answered.{Answered}
 use Rattle.spin_apps.specs.declared.hosts.Hosted.TheInside.{Inside}
 use Rattle.spin_apps.specs.declared.hosts.LoadAnswer.{LoadAnswer}
 use Rattle.spin_apps.specs.declared.hosts.LoadAnswer.TheVariants.{Done, NoRoom, CutOff, Refused}
-use Rattle.spin_apps.specs.Answers.{Answers}
+use Rattle.spin_apps.specs.Answers.{Answers, host_at}
 
 -- what is seen is the host of the applications
 abbrev pub hosted_of : Inside → Host
@@ -36,6 +38,17 @@ pub record HasAddedLine (step : Step) (before : Option Host) (old new : List ℕ
   pub longer : new ≡ old ++ told
   pub answers : Answers step before told after
   pub apps : IfSome after AreApps
+
+-- a load finds a host, or has the machine for one
+abbrev pub FindsHost : Option Host → Step → Type 0
+FindsHost before (Load number job) = is_some (host_at before job) ≡ true
+FindsHost before (Unload number) = Unit {0}
+FindsHost before Run = Unit {0}
+
+-- where there is no host yet, the first load of these steps has the machine for one
+abbrev pub FindHosts : Option Host → List Step → Type 0
+FindHosts None steps = HasFirstMachine steps
+FindHosts (Some h) steps = Unit {0}
 
 -- how many packets all loads so far had
 abbrev pub packet_count_of : Option Host → ℕ

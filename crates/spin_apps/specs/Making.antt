@@ -1,7 +1,7 @@
 -- Where vertices are placed, and what refusals are made of, as the private functions say it.
 use Rattle.std.specs.Prelude.{◌≢◌, ℕ, List, AllPairs}
 use Rattle.spin_base.specs.declared.chips.Spot.{Spot}
-use Rattle.job_readers.specs.declared.jobs.Job.{Job}
+use Rattle.job_requests.specs.declared.steps.AppJob.{AppJob}
 use Rattle.link_detours.specs.declared.repairs.RepairErr.{RepairErr}
 use Rattle.link_detours.specs.declared.repairs.RepairErr.TheVariants as repairs
 use Rattle.net_plans.specs.declared.nets.NetErr.{NetErr}
@@ -15,7 +15,7 @@ use Rattle.spin_apps.specs.declared.plans.PlanErr.{PlanErr}
 use Rattle.spin_apps.specs.declared.plans.PlanErr.TheVariants.{NoRoom, CutOff, Memory}
 
 -- The vertices of a job have these cores: all of them free, and no two the same.
-pub record IsPlaced (h : Host) (job : Job) (spots : List Spot) : Type 0 where
+pub record IsPlaced (h : Host) (job : AppJob) (spots : List Spot) : Type 0 where
   pub memory : List ℕ
   pub is : IsPlacement (free_machine h) job.graph.vertices spots memory
   pub different : AllPairs (λ a b. a ≢ b) spots

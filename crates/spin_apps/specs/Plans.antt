@@ -11,7 +11,7 @@ use Rattle.ner_trees.specs.declared.growths.Grown.{Grown}
 use Rattle.net_plans.specs.CutOffTargets.{IsFirstNetCutOff}
 use Rattle.net_plans.specs.NetPlans.{IsPlannedNet}
 use Rattle.place_fit.specs.Placement.{IsPlacement, HasNoRoom}
-use Rattle.job_readers.specs.declared.jobs.Job.{Job}
+use Rattle.job_requests.specs.declared.steps.AppJob.{AppJob}
 use Rattle.app_loads.specs.declared.plans.AppNet.{AppNet}
 use Rattle.app_loads.specs.declared.plans.AppPlan.{AppPlan}
 use Rattle.app_loads.specs.Host.{Host, net_with}
@@ -29,7 +29,7 @@ pub record IsNetFor (m : Description) (spots : List Spot) (net : Net) (app : App
 
 -- Vertices are placed on free cores, each with the memory that it needs; nets are routed on the host's machine; and all packets
 -- are the plan's.
-pub record IsPlanFor (h : Host) (job : Job) (plan : AppPlan) : Type 0 where
+pub record IsPlanFor (h : Host) (job : AppJob) (plan : AppPlan) : Type 0 where
   pub memory : List ℕ
   pub placed : IsPlacement (free_machine h) job.graph.vertices plan.spots memory
   pub sdram : plan.sdram ≡ map (λ (v : Vertex). v.sdram) job.graph.vertices
@@ -37,14 +37,14 @@ pub record IsPlanFor (h : Host) (job : Job) (plan : AppPlan) : Type 0 where
   pub packets : plan.packets ≡ job.run.packets
 
 -- all vertices have free cores, and of this net, the first such, this target, its first such, is cut off
-pub record HasCutOffOnHost (h : Host) (job : Job) (net : ℕ) (target : Chip) : Type 0 where
+pub record HasCutOffOnHost (h : Host) (job : AppJob) (net : ℕ) (target : Chip) : Type 0 where
   pub spots : List Spot
   pub memory : List ℕ
   pub placed : IsPlacement (free_machine h) job.graph.vertices spots memory
   pub first : IsFirstNetCutOff h.mesh.setup.machine spots job.graph.nets net target
 
 -- Why there is no plan: a vertex finds no free core with room, or, where all do, a target is cut off. Want of memory is free.
-abbrev pub IsWhyUnplanned : Host → Job → PlanErr → Type 0
+abbrev pub IsWhyUnplanned : Host → AppJob → PlanErr → Type 0
 IsWhyUnplanned h job (NoRoom vertex) = HasNoRoom (free_machine h) job.graph.vertices vertex
 IsWhyUnplanned h job (CutOff net target) = HasCutOffOnHost h job net target
 IsWhyUnplanned h job Memory = Unit {0}

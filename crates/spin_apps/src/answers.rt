@@ -1,19 +1,19 @@
 // The answers of steps, one after the other.
-ghost use Rattle.std.specs.Prelude.{◌≡◌, ◌≤◌, ◌<◌, ◌+◌, ◌^◌, ℕ, List, [], All, IfOk, IfSome, OnOk, Option, Some, None, is_some, length, string_bytes};
+ghost use Rattle.std.specs.Prelude.{◌≡◌, ◌≤◌, ◌<◌, ◌+◌, ◌^◌, ℕ, List, [], All, IfOk, IfSome, OnOk, Option, Some, None, is_some, length, string_bytes, true};
 ghost use Rattle.std.specs.List.{list_any};
 ghost use Rattle.job_requests.specs.declared.steps.Step.TheVariants.{Load, Unload, Run};
-ghost use Rattle.job_requests.specs.Valid.{IsValidJob, IsValidStep};
+ghost use Rattle.job_requests.specs.Steps.{is_load};
+ghost use Rattle.job_requests.specs.Valid.{HasFirstMachine, IsValidJob, IsValidStep};
 ghost use Rattle.app_loads.specs.Applications.{AreApps};
 ghost use Rattle.app_loads.specs.Host.{Host};
-ghost use Rattle.spin_apps.specs.Answers.{AreAnswered, host_at, is_load};
-ghost use Rattle.spin_apps.specs.Hosting.{IsAnsweredBy, HasAddedLine, packet_count_of};
+ghost use Rattle.spin_apps.specs.Answers.{AreAnswered, host_at};
+ghost use Rattle.spin_apps.specs.Hosting.{IsAnsweredBy, HasAddedLine, FindsHost, packet_count_of};
 
 use crate::hosts::{Hosted, UnloadAnswer};
 use crate::laws::steps_have_one_text;
 use crate::lines::{put_load, put_run, put_unload};
 use app_loads::Apps;
-use job_readers::Job;
-use job_requests::Step;
+use job_requests::{AppJob, Step};
 use spin_base::{Memory, Seq};
 use std::alloc::Global;
 
@@ -24,7 +24,7 @@ pub struct Answered {
     pub apps: Option<Apps>,
 }
 
-/// Does each step, and answers it with a line. Machine and queues are those of the first load's job. A load is answered `load N
+/// Does each step, and answers it with a line. Machine and queues are those of the first load's job, which has its machine. A load is answered `load N
 /// ok`, or the first that comes of `load N loaded`, exactly where the number is loaded; `load N no room VERTEX`, with the first
 /// vertex that finds no chip with room and a free core; `load N cut off NET X Y`, with the first net of which a target is cut off,
 /// and the chip of its first such target; `load N memory out VERTEX`, `load N keys out NET` and `load N rows out X Y`, for what
@@ -39,6 +39,7 @@ pub struct Answered {
 pub fn answer(alloc: Global, steps: &[Step]) -> Result<Answered, Memory>
     requires valid { All IsValidStep steps.now }
     requires few { length steps.now ≤ 65535 }
+    requires machine { HasFirstMachine steps.now }
     ensures answered { IfOk result (λ a. AreAnswered steps.now a.text a.apps) }
     ensures given { IfOk result (λ a. is_some a.apps ≡ list_any is_load steps.now) }
     ensures apps { IfOk result (λ a. IfSome a.apps AreApps) }
@@ -95,6 +96,7 @@ fn take_all(
 ) -> Result<(), Memory>
     requires valid { All IsValidStep steps.now }
     requires few { length steps.now ≤ 65535 }
+    requires machine { HasFirstMachine steps.now }
     requires none { hosted.old ≡ None }
     requires no_text { string_bytes text.old ≡ [] }
     ensures { OnOk result (AreAnswered steps.now (string_bytes text.new) hosted.new) }
@@ -113,6 +115,7 @@ fn take(
     text: &mut String,
 ) -> Result<(), Memory>
     requires valid { IsValidStep step.now }
+    requires host { FindsHost hosted.old step.now }
     requires numbers { packet_count_of hosted.old + 65536 < 2 ^ 32 }
     ensures { OnOk result (HasAddedLine step.now hosted.old (string_bytes text.old)
         (string_bytes text.new) hosted.new) }
@@ -129,10 +132,11 @@ fn load(
     alloc: Global,
     hosted: &mut Option<Hosted>,
     number: u32,
-    job: &Job,
+    job: &AppJob,
     text: &mut String,
 ) -> Result<(), Memory>
     requires valid { IsValidJob job.now }
+    requires host { is_some (host_at hosted.old job.now) ≡ true }
     requires numbers { packet_count_of hosted.old + 65536 < 2 ^ 32 }
     ensures { OnOk result (HasAddedLine (Load number job.now) hosted.old (string_bytes text.old)
         (string_bytes text.new) hosted.new) }
@@ -140,23 +144,24 @@ fn load(
     match hosted {
         Some(host) => load_on(alloc, host, number, job, text),
         None => {
-            let bare = Hosted::bare(alloc, &job.machine, job.run.queue)?;
+            let machine = job.machine.as_ref().unwrap();
+            let bare = Hosted::bare(alloc, machine, job.run.queue)?;
             load_on(alloc, hosted.insert(bare), number, job, text)
         }
     }
 }
 
-// A load on a machine: the one that the state before it has, or gives.
+// A load on a machine: the one that the state before it has, or the job.
 fn load_on(
     alloc: Global,
     host: &mut Hosted,
     number: u32,
-    job: &Job,
+    job: &AppJob,
     text: &mut String,
 ) -> Result<(), Memory>
     requires valid { IsValidJob job.now }
     requires numbers { host.old.packets + 65536 < 2 ^ 32 }
-    ensures { (before : Option Host) → host.old ≡ host_at before job.now →
+    ensures { (before : Option Host) → host_at before job.now ≡ Some host.old →
         OnOk result (HasAddedLine (Load number job.now) before (string_bytes text.old)
         (string_bytes text.new) (Some host.new)) }
 {

@@ -9,7 +9,7 @@ ghost use Rattle.spin_apps.specs.Hosting.{IsTaken};
 
 use crate::plans::{PlanErr, plan_of};
 use app_loads::{AppPlan, Apps, LoadErr, LoadRefusal, UnloadErr};
-use job_readers::Job;
+use job_requests::AppJob;
 use link_detours::Roads;
 use machine_desc::Machine;
 use spin_base::{Chip, Memory};
@@ -88,7 +88,7 @@ impl Hosted {
         &mut self,
         alloc: Global,
         number: u32,
-        job: &Job,
+        job: &AppJob,
     ) -> Result<LoadAnswer, Memory>
         requires valid { IsValidJob job.now }
         requires numbers { self.old.packets + length job.now.run.packets < 2 ^ 32 }

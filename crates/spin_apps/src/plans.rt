@@ -16,7 +16,7 @@ ghost use Rattle.spin_apps.specs.Plans.{IsNetFor, IsPlanFor, IsWhyUnplanned};
 use crate::free::free_machine;
 use app_graph::{Net, Vertex};
 use app_loads::{AppNet, AppPlan, Apps};
-use job_readers::Job;
+use job_requests::AppJob;
 use link_detours::{RepairErr, Roads};
 use machine_desc::{Machine, NetPlan};
 use net_plans::{NetErr, net_plan};
@@ -54,7 +54,7 @@ pub(crate) fn plan_of(
     machine: &Machine,
     roads: &Roads,
     apps: &Apps,
-    job: &Job,
+    job: &AppJob,
 ) -> Result<AppPlan, PlanErr>
     requires machine { apps.now.mesh.setup.machine ≡ machine.now }
     requires roads { AreRoadsOf machine.now roads.now }
@@ -80,7 +80,7 @@ pub(crate) fn plan_of(
 }
 
 // The cores of a job's vertices, of those that are free.
-fn placed(alloc: Global, machine: &Machine, apps: &Apps, job: &Job) -> Result<Seq<Spot>, PlanErr>
+fn placed(alloc: Global, machine: &Machine, apps: &Apps, job: &AppJob) -> Result<Seq<Spot>, PlanErr>
     requires machine { apps.now.mesh.setup.machine ≡ machine.now }
     requires valid { IsValidJob job.now }
     ensures placed { IfOk result (IsPlaced apps.now job.now) }

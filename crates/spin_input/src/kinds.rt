@@ -64,13 +64,14 @@ impl Input for Request {
 impl Input for Seq<Step> {
     ghost use Rattle.std.specs.Prelude.{◌≤◌, All, length};
     ghost use Rattle.job_requests.specs.Steps.{steps_faults, steps_value};
-    ghost use Rattle.job_requests.specs.Valid.{IsValidStep};
+    ghost use Rattle.job_requests.specs.Valid.{HasFirstMachine, IsValidStep};
 
     ghost faults = { steps_faults };
 
     ghost value_of = { steps_value };
 
-    ghost IsSound = { λ steps. (All IsValidStep steps) × (length steps ≤ 65535) };
+    ghost IsSound = { λ steps. (All IsValidStep steps) × (length steps ≤ 65535)
+        × HasFirstMachine steps };
 
     fn of_value(alloc: Global, value: &Value) -> Result<Seq<Step>, TextErr> {
         steps_of(alloc, value)

@@ -11,7 +11,7 @@ ghost use Rattle.spin_input.specs.Refusals.{unread, unparsed, unfit};
 ghost use Rattle.spin_input.specs.Jobs.{job_from, job_in};
 ghost use Rattle.spin_input.specs.Requests.{request_in};
 ghost use Rattle.spin_input.specs.Steps.{steps_in};
-ghost use Rattle.job_requests.specs.Valid.{IsValidStep};
+ghost use Rattle.job_requests.specs.Valid.{HasFirstMachine, IsValidStep};
 
 use crate::kinds::Input;
 use job_readers::Job;
@@ -73,6 +73,7 @@ pub fn read_steps<S: Source>(alloc: Global, source: &mut S) -> Result<Seq<Step>,
         (IsReadAs steps_in (reading_of S.left S.faults source.old source.new)) }
     ensures valid { IfOk result (All IsValidStep) }
     ensures few { IfOk result (λ steps. length steps ≤ 65535) }
+    ensures machine { IfOk result HasFirstMachine }
     ensures err { IfErr result
         (HasNoInput steps_in (reading_of S.left S.faults source.old source.new)) }
 {

@@ -2,12 +2,13 @@ use Rattle.std.proofs.Common.{◌≡◌, sym, subst, None}
 use Rattle.std.specs.List.{All}
 use Rattle.app_graph.specs.declared.graphs.Vertex.{Vertex}
 use Rattle.job_readers.specs.declared.jobs.Job.{Job}
+use Rattle.job_requests.specs.Valid.{IsValidJob}
 use Rattle.job_requests.proofs.Versions.{job_of_cores}
 use Rattle.job_requests.proofs.steps.load_in.Goals as goal
 
 pub returns-clause-valid : goal.returns-clause-valid
-returns-clause-valid c = record {
+returns-clause-valid c = subst IsValidJob (sym c.whole_job.ensures) (record {
   graph = c.in_ok-job.ensures.graph;
   cores = subst (λ (j : Job). All (λ (v : Vertex). v.device ≡ None) j.graph.vertices) (sym c.in_ok-job.ensures.job.1) (job_of_cores _ _ c.in_ok-job.ensures.job.0);
   run = c.in_ok-job.ensures.run;
-}
+})

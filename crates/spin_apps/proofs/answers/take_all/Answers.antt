@@ -1,17 +1,26 @@
-use Rattle.std.proofs.Common.{◌≡◌, refl, ap, arith, Some, string_bytes, rules}
+use Rattle.std.proofs.Common.{◌≡◌, refl, sym, ap, subst, arith, Option, Some, string_bytes, rules}
 use Rattle.std.specs.List.{slice_get}
 use Rattle.std.proofs.lemmas.Option.{slice_get_read}
 use Rattle.spin_base.proofs.Places.{All-at}
 use Rattle.job_requests.specs.Valid.{IsValidStep}
-use Rattle.spin_apps.specs.Hosting.{packet_count_of}
-use Rattle.spin_apps.proofs.Chain.{goes_all, goes_first, goes_more, packets_more}
+use Rattle.app_loads.specs.Host.{Host}
+use Rattle.spin_apps.specs.Hosting.{FindHosts, packet_count_of}
+use Rattle.spin_apps.proofs.Chain.{find_after, finds_host, goes_all, goes_first, goes_more, packets_more}
 use Rattle.spin_apps.proofs.answers.take_all.Goals as goal
 
 pub loop-step-init : goal.loop-step-init
 loop-step-init c = record {
   goes = goes_first c.args.steps.now c.args.hosted.now (string_bytes c.args.text.now) c.requires.none c.requires.no_text;
+  find = subst (λ (o : Option Host). FindHosts o c.args.steps.now) (sym c.requires.none) c.requires.machine;
   few = (let none = ap packet_count_of c.requires.none in omega (arith, none));
 }
+
+pub take-requires-clause-host : goal.take-requires-clause-host
+take-requires-clause-host c =
+    let steps = c.args.steps.now in
+    let i = c.loop-step.step-index in
+    let at : slice_get steps i ≡ Some c.step-item.result = slice_get_read steps _ i c.step-item.result refl c.loop-step-test.true c.step-item.is in
+    finds_host steps i c.step-item.result c.loop-step.hosted at c.loop-step.invariant.find
 
 pub take-requires-clause-numbers : goal.take-requires-clause-numbers
 take-requires-clause-numbers c =
@@ -32,6 +41,7 @@ loop-step-preserved c =
     let few = c.loop-step.invariant.few in
     record {
       goes = goes_more steps i step c.loop-step.hosted c.take.new.hosted (string_bytes c.loop-step.text) (string_bytes c.take.new.text) at told c.loop-step.invariant.goes;
+      find = find_after steps i step c.loop-step.hosted (string_bytes c.loop-step.text) (string_bytes c.take.new.text) c.take.new.hosted at told c.loop-step.invariant.find;
       few = omega (arith, more, few);
     }
 
