@@ -9,7 +9,6 @@ use Rattle.machine_desc.specs.RoutingTree.{IsRoutingTree}
 use Rattle.app_graph.specs.declared.graphs.Graph.{Graph}
 use Rattle.app_graph.specs.declared.graphs.Net.{Net}
 use Rattle.machine_desc.specs.declared.nets.NetPlan.{NetPlan}
-use Rattle.ner_trees.specs.declared.growths.Grown.{Grown}
 use Rattle.place_fit.specs.declared.placing.Placement.{Placement}
 use Rattle.place_fit.proofs.Determined as places
 use Rattle.key_alloc.proofs.Determined as blocks
@@ -24,16 +23,14 @@ use Rattle.par_compile.proofs.Unique.{long_not_planned, one_long}
 
 module _ (m : Description) (graph : Graph) where
   -- no target of a net is cut off where all are routed
-  none_routed : (p : Placement) (gs : List Grown) (ns : List NetPlan) → IsRoutingOf m graph p gs ns → (i : ℕ) (net : Net) → slice_get graph.nets i ≡ Some net → HasNoneCutOff m p.spots net
-  none_routed p gs ns is i net at =
+  none_routed : (p : Placement) (ns : List NetPlan) → IsRoutingOf m graph p ns → (i : ℕ) (net : Net) → slice_get graph.nets i ≡ Some net → HasNoneCutOff m p.spots net
+  none_routed p ns is i net at =
       let within = slice_get_within graph.nets i net at in
       let plans_long = is.planned.one_plan_each in
-      let trees_long = is.planned.one_tree_each in
       let blocks_long = is.blocks.all in
       let b = slice_get_there (blocks_of ns) i (omega (arith, within, blocks_long)) in
-      let t = slice_get_there gs i (omega (arith, within, trees_long)) in
       let n = slice_get_there ns i (omega (arith, within, plans_long)) in
-      let planned = is.planned.each i net b.0 t.0 n.0 at b.1 t.1 n.1 in
+      let planned = is.planned.each i net b.0 n.0 at b.1 n.1 in
       let tree : IsRoutingTree m n.0.tree.root n.0.tree.edges n.0.targets = All-at (λ (x : NetPlan). IsRoutingTree m x.tree.root x.tree.edges x.targets) ns i n.0 is.stand.trees n.1 in
       none_cut_off m p.spots net n.0.source n.0.targets n.0.tree.edges planned.source planned.targets
       (subst (λ r. IsRoutingTree m r n.0.tree.edges n.0.targets) planned.root tree)
@@ -43,11 +40,11 @@ module _ (m : Description) (graph : Graph) where
   same_first i target has spots same = subst (λ s. IsFirstNetCutOff m s graph.nets i target) same has.first
 
   -- a graph with a target that is cut off is not routed
-  pub cut_not_routed : (i : ℕ) (target : Chip) (p : Placement) (gs : List Grown) (ns : List NetPlan) → HasCutOff m graph i target → IsRoutingOf m graph p gs ns → ⊥
-  cut_not_routed i target p gs ns has is =
+  pub cut_not_routed : (i : ℕ) (target : Chip) (p : Placement) (ns : List NetPlan) → HasCutOff m graph i target → IsRoutingOf m graph p ns → ⊥
+  cut_not_routed i target p ns has is =
       let same = (places.one_placement m graph.vertices has.spots p.spots has.memory p.memory has.placed is.placed).0 in
       let first = same_first i target has p.spots same in
-      none_routed p gs ns is i first.net first.is first.target.source target first.target.is
+      none_routed p ns is i first.net first.is first.target.source target first.target.is
 
   -- at most one net and target are the first that are cut off
   pub one_cut_off : (i j : ℕ) (a b : Chip) → HasCutOff m graph i a → HasCutOff m graph j b → (i ≡ j) × (a ≡ b)
@@ -61,7 +58,7 @@ module _ (m : Description) (graph : Graph) where
     refused_where (Ok plan) is cause = record {
       no_room = λ v room. absurd (places.not_both m graph.vertices plan.placement.spots plan.placement.memory v is.routing.placed room);
       keys_out = λ n placed out. absurd (blocks.not_both graph.nets (blocks_of plan.nets) n is.routing.blocks out);
-      cut_off = λ n t has. absurd (cut_not_routed n t plan.placement plan.grown plan.nets has is.routing);
+      cut_off = λ n t has. absurd (cut_not_routed n t plan.placement plan.nets has is.routing);
       table_long = λ c t has. absurd (long_not_planned m graph target c t plan has is);
     }
     refused_where (Err (NoRoom w)) is cause = record {
@@ -80,12 +77,12 @@ module _ (m : Description) (graph : Graph) where
       no_room = λ v room. absurd (places.not_both m graph.vertices cause.spots cause.memory v cause.placed room);
       keys_out = λ n placed out. absurd (blocks.not_both graph.nets cause.blocks n cause.keyed out);
       cut_off = λ n t has. let one = one_cut_off i n a t cause has in inl (λ k. Err (CutOff (one.0 k) (one.1 k)));
-      table_long = λ c t has. absurd (cut_not_routed i a has.placement has.grown has.nets cause has.routing);
+      table_long = λ c t has. absurd (cut_not_routed i a has.placement has.nets cause has.routing);
     }
     refused_where (Err (TableLong c t)) is cause = record {
       no_room = λ v room. absurd (places.not_both m graph.vertices cause.0.placement.spots cause.0.placement.memory v cause.0.routing.placed room);
       keys_out = λ n placed out. absurd (blocks.not_both graph.nets (blocks_of cause.0.nets) n cause.0.routing.blocks out);
-      cut_off = λ n a has. absurd (cut_not_routed n a cause.0.placement cause.0.grown cause.0.nets has cause.0.routing);
+      cut_off = λ n a has. absurd (cut_not_routed n a cause.0.placement cause.0.nets has cause.0.routing);
       table_long = λ d u has. let one = one_long m graph target c d t u cause.0 has in inl (λ k. Err (TableLong (one.0 k) (one.1 k)));
     }
     refused_where (Err Memory) is cause = record { no_room = λ v room. inr refl; keys_out = λ n placed out. inr refl; cut_off = λ n t has. inr refl; table_long = λ c t has. inr refl }

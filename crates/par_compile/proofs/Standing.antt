@@ -12,7 +12,6 @@ use Rattle.machine_desc.proofs.Sites.{site_parts}
 use Rattle.app_graph.specs.declared.graphs.Net.{Net}
 use Rattle.machine_desc.specs.declared.nets.NetPlan.{NetPlan}
 use Rattle.machine_desc.specs.NetsOn.{HaveDisjointBlocks, AreNetsOn}
-use Rattle.ner_trees.specs.declared.growths.Grown.{Grown}
 use Rattle.tern_word.specs.Ternary.{Intersects}
 use Rattle.spin_base.proofs.Members.{Contains-at}
 use Rattle.spin_base.proofs.Pairs.{AllPairs-from_map}
@@ -34,20 +33,19 @@ use Rattle.par_compile.specs.Compiled.{blocks_of, IsRoutingOf}
 
 module _ (m : Description) (spots : List Spot) where
   -- the nets' blocks are those that were given
-  blocks_each : (ns : List Net) (bs : List Block) (ts : List Grown) (ps : List NetPlan) → length bs ≡ length ns → length ts ≡ length ns → length ps ≡ length ns →
-      IsEachPlanned m spots ns bs ts ps → blocks_of ps ≡ bs
-  blocks_each [] [] ts [] b t p each = refl
-  blocks_each [] (c ∷ bs) ts ps b t p each = absurd (omega (arith, b))
-  blocks_each [] [] ts (q ∷ ps) b t p each = absurd (omega (arith, p))
-  blocks_each (n ∷ ns) [] ts ps b t p each = absurd (omega (arith, b))
-  blocks_each (n ∷ ns) (c ∷ bs) [] ps b t p each = absurd (omega (arith, t))
-  blocks_each (n ∷ ns) (c ∷ bs) (g ∷ ts) [] b t p each = absurd (omega (arith, p))
-  blocks_each (n ∷ ns) (c ∷ bs) (g ∷ ts) (q ∷ ps) b t p each =
-      ap (λ x. x ∷ blocks_of ps) (each 0 n c g q refl refl refl refl).block
-      ∙ ap (λ l. c ∷ l) (blocks_each ns bs ts ps (omega (arith, b)) (omega (arith, t)) (omega (arith, p)) (λ i. each (suc i)))
+  blocks_each : (ns : List Net) (bs : List Block) (ps : List NetPlan) → length bs ≡ length ns → length ps ≡ length ns →
+      IsEachPlanned m spots ns bs ps → blocks_of ps ≡ bs
+  blocks_each [] [] [] b p each = refl
+  blocks_each [] (c ∷ bs) ps b p each = absurd (omega (arith, b))
+  blocks_each [] [] (q ∷ ps) b p each = absurd (omega (arith, p))
+  blocks_each (n ∷ ns) [] ps b p each = absurd (omega (arith, b))
+  blocks_each (n ∷ ns) (c ∷ bs) [] b p each = absurd (omega (arith, p))
+  blocks_each (n ∷ ns) (c ∷ bs) (q ∷ ps) b p each =
+      ap (λ x. x ∷ blocks_of ps) (each 0 n c q refl refl refl).block
+      ∙ ap (λ l. c ∷ l) (blocks_each ns bs ps (omega (arith, b)) (omega (arith, p)) (λ i. each (suc i)))
 
-  pub blocks_same : (ns : List Net) (bs : List Block) (ts : List Grown) (ps : List NetPlan) → length bs ≡ length ns → ArePlanned m spots ns bs ts ps → blocks_of ps ≡ bs
-  blocks_same ns bs ts ps long are = blocks_each ns bs ts ps long are.one_tree_each are.one_plan_each are.each
+  pub blocks_same : (ns : List Net) (bs : List Block) (ps : List NetPlan) → length bs ≡ length ns → ArePlanned m spots ns bs ps → blocks_of ps ≡ bs
+  blocks_same ns bs ps long are = blocks_each ns bs ps long are.one_plan_each are.each
 
   -- no key is in two blocks
   blocks_apart : (nets : List NetPlan) → AllPairs (λ a b. Intersects a b → ⊥) (blocks_of nets) → AllPairs (λ (a b : NetPlan). Intersects a.block b.block → ⊥) nets
@@ -58,32 +56,30 @@ module _ (m : Description) (spots : List Spot) where
       blocks_apart nets apart i j d before within (record { key = key; small = a.fits; first = a.matches; second = b.matches })
 
   -- different targets
-  differ : (n : Net) (b : Block) (t : Grown) (p : NetPlan) → IsPlannedNet m spots n b t p → AllPairs (λ a b. a ≢ b) p.targets
-  differ n b t p plan i j d before within = λ same.
+  differ : (n : Net) (b : Block) (p : NetPlan) → IsPlannedNet m spots n b p → AllPairs (λ a b. a ≢ b) p.targets
+  differ n b p plan i j d before within = λ same.
       let below : IsBelow (spot_key (slice_index_or p.targets j d)) (spot_key (slice_index_or p.targets j d)) =
       subst (λ (s : Spot). IsBelow (spot_key s) (spot_key (slice_index_or p.targets j d))) same (plan.targets.ascending i j d before within)
       in
       not_both (spot_key (slice_index_or p.targets j d)) (spot_key (slice_index_or p.targets j d)) below below
 
-  module _ (ns : List Net) (bs : List Block) (ts : List Grown) (ps : List NetPlan) (long : length bs ≡ length ns) (are : ArePlanned m spots ns bs ts ps) where
+  module _ (ns : List Net) (bs : List Block) (ps : List NetPlan) (long : length bs ≡ length ns) (are : ArePlanned m spots ns bs ps) where
     -- what holds of each plan
-    each_plan : (P : NetPlan → Type 0) → ((n : Net) (b : Block) (t : Grown) (p : NetPlan) → IsPlannedNet m spots n b t p → P p) → All P ps
+    each_plan : (P : NetPlan → Type 0) → ((n : Net) (b : Block) (p : NetPlan) → IsPlannedNet m spots n b p → P p) → All P ps
     each_plan P from k d below =
         let plans_long = are.one_plan_each in
-        let trees_long = are.one_tree_each in
         let n = slice_get_there ns k (omega (arith, below, plans_long)) in
         let b = slice_get_there bs k (omega (arith, below, plans_long, long)) in
-        let t = slice_get_there ts k (omega (arith, below, plans_long, trees_long)) in
-        from n.0 b.0 t.0 (slice_index_or ps k d) (are.each k n.0 b.0 t.0 (slice_index_or ps k d) n.1 b.1 t.1 (slice_get-get_or ps k d below))
+        from n.0 b.0 (slice_index_or ps k d) (are.each k n.0 b.0 (slice_index_or ps k d) n.1 b.1 (slice_get-get_or ps k d below))
 
     -- the nets are what plain tables ask for
     pub routed : AllPairs (λ a b. Intersects a b → ⊥) (blocks_of ps) → All (λ (net : NetPlan). IsRoutingTree m net.tree.root net.tree.edges net.targets) ps → All (IsSite m) spots →
         AreRoutedApart m ps
     routed apart routing on_sites = record {
       trees = routing;
-      roots = each_plan (λ net. IsInside m net.tree.root) (λ n b t p plan.
+      roots = each_plan (λ net. IsInside m net.tree.root) (λ n b p plan.
           subst (IsInside m) (sym plan.root) (live_inside m p.source.chip (site_parts m p.source (All-at (IsSite m) spots n.source p.source on_sites plan.source)).0));
-      cores = each_plan (λ net. All (λ (s : Spot). s.core < 24) net.targets) (λ n b t p plan.
+      cores = each_plan (λ net. All (λ (s : Spot). s.core < 24) net.targets) (λ n b p plan.
           All-each (λ (s : Spot). s.core < 24) p.targets (λ s has. let from = plan.targets.only s has in (site_parts m s (All-at (IsSite m) spots from.0 s on_sites from.2)).1));
       apart = blocks_apart ps apart;
     }
@@ -92,20 +88,20 @@ module _ (m : Description) (spots : List Spot) where
     stands apart routing = record {
       disjoint = disjoint ps apart;
       trees = routing;
-      roots = each_plan (λ net. net.tree.root ≡ net.source.chip) (λ n b t p plan. plan.root);
-      sources = each_plan (λ net. Contains spots net.source) (λ n b t p plan. Contains-at spots n.source p.source plan.source);
-      targets = each_plan (λ net. All (Contains spots) net.targets) (λ n b t p plan.
+      roots = each_plan (λ net. net.tree.root ≡ net.source.chip) (λ n b p plan. plan.root);
+      sources = each_plan (λ net. Contains spots net.source) (λ n b p plan. Contains-at spots n.source p.source plan.source);
+      targets = each_plan (λ net. All (Contains spots) net.targets) (λ n b p plan.
           All-each (Contains spots) p.targets (λ s has. let from = plan.targets.only s has in Contains-at spots from.0 s from.2));
       different = each_plan (λ net. AllPairs (λ a b. a ≢ b) net.targets) differ;
     }
 
 -- the stages together: a graph placed, keyed and routed
-pub routing_is : (m : Description) (graph : Graph) (p : Placement) (bs : List Block) (gs : List Grown) (ns : List NetPlan) → IsPlacement m graph.vertices p.spots p.memory →
+pub routing_is : (m : Description) (graph : Graph) (p : Placement) (bs : List Block) (ns : List NetPlan) → IsPlacement m graph.vertices p.spots p.memory →
     AllPairs (λ a b. a ≢ b) p.spots → All (IsSite m) p.spots → AllZip (λ (v : Vertex) s. v.device ≡ None → IsUsable m s) graph.vertices p.spots → AreRightBlocks graph.nets bs →
-    AllPairs (λ a b. Intersects a b → ⊥) bs → AllZip HasKeys graph.nets bs → ArePlanned m p.spots graph.nets bs gs ns →
-    All (λ (net : NetPlan). IsRoutingTree m net.tree.root net.tree.edges net.targets) ns → IsRoutingOf m graph p gs ns
-routing_is m graph p bs gs ns placed different sites cores keyed apart enough planned routing =
-    let same : blocks_of ns ≡ bs = blocks_same m p.spots graph.nets bs gs ns keyed.all planned in
+    AllPairs (λ a b. Intersects a b → ⊥) bs → AllZip HasKeys graph.nets bs → ArePlanned m p.spots graph.nets bs ns →
+    All (λ (net : NetPlan). IsRoutingTree m net.tree.root net.tree.edges net.targets) ns → IsRoutingOf m graph p ns
+routing_is m graph p bs ns placed different sites cores keyed apart enough planned routing =
+    let same : blocks_of ns ≡ bs = blocks_same m p.spots graph.nets bs ns keyed.all planned in
     record {
       placed = placed;
       different = different;
@@ -113,6 +109,6 @@ routing_is m graph p bs gs ns placed different sites cores keyed apart enough pl
       cores = cores;
       blocks = subst (AreRightBlocks graph.nets) (sym same) keyed;
       enough = subst (AllZip HasKeys graph.nets) (sym same) enough;
-      planned = subst (λ l. ArePlanned m p.spots graph.nets l gs ns) (sym same) planned;
-      stand = stands m p.spots graph.nets bs gs ns keyed.all planned (subst (AllPairs (λ (a b : Block). Intersects a b → ⊥)) (sym same) apart) routing;
+      planned = subst (λ l. ArePlanned m p.spots graph.nets l ns) (sym same) planned;
+      stand = stands m p.spots graph.nets bs ns keyed.all planned (subst (AllPairs (λ (a b : Block). Intersects a b → ⊥)) (sym same) apart) routing;
     }

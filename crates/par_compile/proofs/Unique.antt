@@ -17,7 +17,6 @@ use Rattle.machine_desc.proofs.Sites.{site_parts}
 use Rattle.app_graph.specs.declared.graphs.Graph.{Graph}
 use Rattle.machine_desc.specs.declared.nets.NetPlan.{NetPlan}
 use Rattle.machine_desc.specs.NetsOn.{AreNetsOn}
-use Rattle.ner_trees.specs.declared.growths.Grown.{Grown}
 use Rattle.spin_base.proofs.Places.{All-at, All-each, slice_get_there}
 use Rattle.place_fit.specs.declared.placing.Placement.{Placement}
 use Rattle.place_fit.proofs.Determined as places
@@ -56,8 +55,8 @@ routed_of m spots nets sites stand = record {
 same_placement : (p q : Placement) → p.spots ≡ q.spots → p.memory ≡ q.memory → p ≡ q
 same_placement p q spots memory = λ i. record { spots = spots i; memory = memory i }
 
-same_plan : (p q : Plan) → p.placement ≡ q.placement → p.grown ≡ q.grown → p.nets ≡ q.nets → p.tables ≡ q.tables → p ≡ q
-same_plan p q placement grown nets tables = λ i. record { placement = placement i; grown = grown i; nets = nets i; tables = tables i }
+same_plan : (p q : Plan) → p.placement ≡ q.placement → p.nets ≡ q.nets → p.tables ≡ q.tables → p ≡ q
+same_plan p q placement nets tables = λ i. record { placement = placement i; nets = nets i; tables = tables i }
 
 -- a chip's final table is determined by the nets
 one_final : (m : Description) (nets : List NetPlan) → AreRoutedApart m nets → (target : ℕ) (c : Chip) (f g : Final) → HasFinal m nets target c f → HasFinal m nets target c g → f ≡ g
@@ -101,33 +100,32 @@ pub long_has_no_pair : (target : ℕ) (table : List Row) (fs : List Final) (i : 
 long_has_no_pair target table fs i t small first at is = let more = is_more fs i t first at in ended_where_long target table t is (omega (arith, small, more))
 
 module _ (m : Description) (graph : Graph) where
-  pub one_routing : (p q : Placement) (gs hs : List Grown) (ns os : List NetPlan) → IsRoutingOf m graph p gs ns → IsRoutingOf m graph q hs os → (p ≡ q) × (gs ≡ hs) × (ns ≡ os)
-  one_routing p q gs hs ns os a b =
+  pub one_routing : (p q : Placement) (ns os : List NetPlan) → IsRoutingOf m graph p ns → IsRoutingOf m graph q os → (p ≡ q) × (ns ≡ os)
+  one_routing p q ns os a b =
       let placed = places.one_placement m graph.vertices p.spots q.spots p.memory q.memory a.placed b.placed in
       let blocks : blocks_of ns ≡ blocks_of os = keys.one_list graph.nets (blocks_of ns) (blocks_of os) a.blocks b.blocks in
-      let its : ArePlanned m p.spots graph.nets (blocks_of ns) hs os =
-      subst (λ spots. ArePlanned m spots graph.nets (blocks_of ns) hs os) (sym placed.0) (subst (λ bs. ArePlanned m q.spots graph.nets bs hs os) (sym blocks) b.planned)
+      let its : ArePlanned m p.spots graph.nets (blocks_of ns) os =
+      subst (λ spots. ArePlanned m spots graph.nets (blocks_of ns) os) (sym placed.0) (subst (λ bs. ArePlanned m q.spots graph.nets bs os) (sym blocks) b.planned)
       in
-      let both = one_list_of_plans m p.spots a.sites graph.nets (blocks_of ns) a.blocks.all gs hs ns os a.planned its in
-      (same_placement p q placed.0 placed.1, both.0, both.1)
+      (same_placement p q placed.0 placed.1, one_list_of_plans m p.spots a.sites graph.nets (blocks_of ns) a.blocks.all ns os a.planned its)
 
   module _ (target : ℕ) where
     -- two routings of a graph have the same final table at a chip
-    same_final : (p q : Placement) (gs hs : List Grown) (ns os : List NetPlan) (fs es : List Final) → IsRoutingOf m graph p gs ns → IsRoutingOf m graph q hs os →
+    same_final : (p q : Placement) (ns os : List NetPlan) (fs es : List Final) → IsRoutingOf m graph p ns → IsRoutingOf m graph q os →
         AreFinals m ns target fs → AreFinals m os target es → (c : Chip) (f g : Final) → IsInside m c → slice_get fs (index_of m c) ≡ Some f → slice_get es (index_of m c) ≡ Some g → f ≡ g
-    same_final p q gs hs ns os fs es a b are others c f g inside at also =
-        let nets : ns ≡ os = (one_routing p q gs hs ns os a b).2 in
+    same_final p q ns os fs es a b are others c f g inside at also =
+        let nets : ns ≡ os = (one_routing p q ns os a b).1 in
         one_final m ns (routed_of m p.spots ns a.sites a.stand) target c f g
         (are c f inside at) (subst (λ (l : List NetPlan). HasFinal m l target c g) (sym nets) (others c g inside also))
 
     pub one_plan : (p q : Plan) → IsPlanOf m graph target p → IsPlanOf m graph target q → p ≡ q
     one_plan p q a b =
-        let same = one_routing p.placement q.placement p.grown q.grown p.nets q.nets a.routing b.routing in
-        same_plan p q same.0 same.1 same.2
+        let same = one_routing p.placement q.placement p.nets q.nets a.routing b.routing in
+        same_plan p q same.0 same.1
         (same_places p.tables q.tables (a.one_table_each ∙ sym b.one_table_each) (λ i f g at also.
         let c : Chip = chip_of m i in
         let inside : IsInside m c = chip_of-inside m i (subst (λ n. i < n) a.one_table_each (slice_get_within p.tables i f at)) in
-        same_final p.placement q.placement p.grown q.grown p.nets q.nets p.tables q.tables a.routing b.routing a.tables b.tables c f g inside
+        same_final p.placement q.placement p.nets q.nets p.tables q.tables a.routing b.routing a.tables b.tables c f g inside
         (ap (slice_get p.tables) (index_of-chip_of m i) ∙ at) (ap (slice_get q.tables) (index_of-chip_of m i) ∙ also)))
 
     -- a graph with a long table has no plan
@@ -135,7 +133,7 @@ module _ (m : Description) (graph : Graph) where
     long_not_planned chip table plan has is =
         let there = slice_get_there plan.tables (index_of m chip) (subst (λ n. index_of m chip < n) (sym is.one_table_each) (index_below m chip has.inside)) in
         let same : there.0 ≡ table =
-        same_final plan.placement has.placement plan.grown has.grown plan.nets has.nets plan.tables has.finals is.routing has.routing is.tables has.are chip there.0 table has.inside there.1 has.at
+        same_final plan.placement has.placement plan.nets has.nets plan.tables has.finals is.routing has.routing is.tables has.are chip there.0 table has.inside there.1 has.at
         in
         let short : length there.0.entries ≤ 1024 = All-at (λ (f : Final). length f.entries ≤ 1024) plan.tables (index_of m chip) there.0 is.short there.1 in
         let few : length table.entries ≤ 1024 = subst (λ (f : Final). length f.entries ≤ 1024) same short in
@@ -149,7 +147,7 @@ module _ (m : Description) (graph : Graph) where
         let inside = first.0 in
         let there = slice_get_there b.finals (index_of m c) (omega (arith, less, inside)) in
         let same : t ≡ there.0 =
-        same_final a.placement b.placement a.grown b.grown a.nets b.nets a.finals b.finals a.routing b.routing a.are b.are c t there.0 a.inside a.at there.1
+        same_final a.placement b.placement a.nets b.nets a.finals b.finals a.routing b.routing a.are b.are c t there.0 a.inside a.at there.1
         in
         let it : get_or b.finals (index_of m c) u ≡ there.0 = get_or_from_slice_get b.finals (index_of m c) there.0 u there.1 in
         let long : is_long there.0 ≡ true = subst (λ (f : Final). is_long f ≡ true) same (long_at a.finals (index_of m c) t a.first a.at) in
@@ -161,7 +159,7 @@ module _ (m : Description) (graph : Graph) where
       | inl place ↦
           let same : c ≡ d = same_index m c d a.inside b.inside place in (
             same,
-            same_final a.placement b.placement a.grown b.grown a.nets b.nets a.finals b.finals a.routing b.routing a.are b.are c t u a.inside a.at
+            same_final a.placement b.placement a.nets b.nets a.finals b.finals a.routing b.routing a.are b.are c t u a.inside a.at
                 (ap (slice_get b.finals) place ∙ b.at),
           )
       | inr (inl less) ↦ absurd (not_before c d t u a b less)

@@ -12,7 +12,6 @@ use Rattle.app_graph.specs.declared.graphs.Vertex.{Vertex}
 use Rattle.machine_desc.specs.declared.nets.NetPlan.{NetPlan}
 use Rattle.machine_desc.specs.NetsOn.{AreNetsOn}
 use Rattle.machine_desc.specs.RightTables.{AreRight}
-use Rattle.ner_trees.specs.declared.growths.Grown.{Grown}
 use Rattle.place_fit.specs.declared.placing.Placement.{Placement}
 use Rattle.place_fit.specs.Placement.{IsPlacement, HasNoRoom}
 use Rattle.key_alloc.specs.KeyBlocks.{AreKeysOut, AreRightBlocks, HasKeys}
@@ -45,25 +44,24 @@ pub record HasCutOff (m : Description) (graph : Graph) (net : ℕ) (target : Chi
   pub first : IsFirstNetCutOff m spots graph.nets net target
 
 -- A graph placed, keyed and routed on a machine. Each vertex stands on the first chip with room; each net has the least free
--- aligned range of keys, its targets, the tree that grew, and its tree with the detours round what is dead. With that the nets
+-- aligned range of keys, its targets, and the tree that grows to them, with the detours round what is dead. With that the nets
 -- stand on the machine.
-pub record IsRoutingOf (m : Description) (graph : Graph) (placement : Placement) (grown : List Grown) (nets : List NetPlan) : Type 0 where
+pub record IsRoutingOf (m : Description) (graph : Graph) (placement : Placement) (nets : List NetPlan) : Type 0 where
   pub placed : IsPlacement m graph.vertices placement.spots placement.memory
   pub different : AllPairs (λ a b. a ≢ b) placement.spots
   pub sites : All (IsSite m) placement.spots
   pub cores : AllZip (λ (v : Vertex) s. v.device ≡ None → IsUsable m s) graph.vertices placement.spots
   pub blocks : AreRightBlocks graph.nets (blocks_of nets)
   pub enough : AllZip HasKeys graph.nets (blocks_of nets)
-  pub planned : ArePlanned m placement.spots graph.nets (blocks_of nets) grown nets
+  pub planned : ArePlanned m placement.spots graph.nets (blocks_of nets) nets
   pub stand : AreNetsOn m placement.spots nets
 
 -- The graph is placed, keyed and routed; of the final tables of the chips, from the first on by the chips' indices, this chip's is
 -- the first that is long, and it is this table.
 pub record HasLongTable (m : Description) (graph : Graph) (target : ℕ) (chip : Chip) (table : Final) : Type 0 where
   pub placement : Placement
-  pub grown : List Grown
   pub nets : List NetPlan
-  pub routing : IsRoutingOf m graph placement grown nets
+  pub routing : IsRoutingOf m graph placement nets
   pub finals : List Final
   pub are : AreFinals m nets target finals
   pub inside : IsInside m chip
@@ -92,7 +90,7 @@ pub record IsRefusedWhere (m : Description) (graph : Graph) (target : ℕ) (resu
 -- and each chip has its final table, whose entries fit into its router. Loaded, with unused entries after these, the tables are
 -- right for the nets.
 pub record IsPlanOf (m : Description) (graph : Graph) (target : ℕ) (plan : Plan) : Type 0 where
-  pub routing : IsRoutingOf m graph plan.placement plan.grown plan.nets
+  pub routing : IsRoutingOf m graph plan.placement plan.nets
   pub one_table_each : length plan.tables ≡ m.width * m.height
   pub tables : AreFinals m plan.nets target plan.tables
   pub keep : All KeepsRows plan.tables

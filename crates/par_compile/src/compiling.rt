@@ -10,19 +10,17 @@ use crate::requests::CompileRequest;
 use default_routes::Final;
 use key_alloc::{KeyErr, keys};
 use machine_desc::NetPlan;
-use ner_trees::Grown;
-use net_plans::{NetErr, RoutedNets, net_plans};
+use net_plans::{NetErr, net_plans};
 use place_fit::{PlaceErr, Placement, place};
 use spin_base::{Chip, Gate, Memory, ROUTER_ENTRIES, Seq};
 use std::alloc::Global;
 use std::thread::Threads;
 
-/// What a graph needs on a machine: where each vertex stands; of each net the tree that grew whatever is dead, and its keys,
-/// cores and tree; and of each chip, by its index, its final table.
+/// What a graph needs on a machine: where each vertex stands; of each net its keys, cores and tree; and of each chip, by its
+/// index, its final table.
 #[derive(Drop)]
 pub struct Plan {
     pub placement: Placement,
-    pub grown: Seq<Grown>,
     pub nets: Seq<NetPlan>,
     pub tables: Seq<Final>,
 }
@@ -99,17 +97,15 @@ pub fn compile<R: Threads + Sync, G: Gate>(
         Err(KeyErr::KeysOut { net }) => return Err(CompileErr::KeysOut { net }),
         Err(KeyErr::Memory) => return Err(CompileErr::Memory),
     };
-    let routed = match net_plans(rt, alloc, machine, graph, &placement.spots, &blocks) {
-        Ok(routed) => routed,
+    let nets = match net_plans(rt, alloc, machine, graph, &placement.spots, &blocks) {
+        Ok(nets) => nets,
         Err(NetErr::CutOff { net, target }) => return Err(CompileErr::CutOff { net, target }),
         Err(NetErr::Memory) => return Err(CompileErr::Memory),
     };
-    let RoutedNets { grown, plans: nets } = routed;
     let tables = final_tables(rt, alloc, request, &nets, gate)?;
     match first_long(tables.as_slice()) {
         None => Ok(Plan {
             placement,
-            grown,
             nets,
             tables,
         }),

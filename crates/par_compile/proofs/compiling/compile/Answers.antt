@@ -10,15 +10,15 @@ use Rattle.par_compile.proofs.compiling.compile.Goals as goal
 pub final_tables-requires-clause-routed : goal.final_tables-requires-clause-routed
 final_tables-requires-clause-routed g c κs within =
     let routing =
-    routing_is c.args.request.now.machine.now c.args.request.now.graph.now c.in-Ok.placement c.in-Ok-keys.blocks c.in-Ok-net_plans.routed.grown c.in-Ok-net_plans.routed.plans c.in-Ok.ensures.placed c.in-Ok.ensures.different c.in-Ok.ensures.sites
+    routing_is c.args.request.now.machine.now c.args.request.now.graph.now c.in-Ok.placement c.in-Ok-keys.blocks c.in-Ok-net_plans.nets c.in-Ok.ensures.placed c.in-Ok.ensures.different c.in-Ok.ensures.sites
     c.in-Ok.ensures.cores c.in-Ok-keys.ensures.blocks c.in-Ok-keys.ensures.apart c.in-Ok-keys.ensures.enough c.in-Ok-net_plans.ensures.planned c.in-Ok-net_plans.ensures.routing
     in
-    routed_of c.args.request.now.machine.now c.in-Ok.placement.spots c.in-Ok-net_plans.routed.plans c.in-Ok.ensures.sites routing.stand
+    routed_of c.args.request.now.machine.now c.in-Ok.placement.spots c.in-Ok-net_plans.nets c.in-Ok.ensures.sites routing.stand
 
 pub returns-in-None-clause-plan : goal.returns-in-None-clause-plan
 returns-in-None-clause-plan g c = record {
   routing =
-      routing_is c.args.request.now.machine.now c.args.request.now.graph.now c.in-Ok.placement c.in-Ok-keys.blocks c.in-Ok-net_plans.routed.grown c.in-Ok-net_plans.routed.plans c.in-Ok.ensures.placed c.in-Ok.ensures.different c.in-Ok.ensures.sites
+      routing_is c.args.request.now.machine.now c.args.request.now.graph.now c.in-Ok.placement c.in-Ok-keys.blocks c.in-Ok-net_plans.nets c.in-Ok.ensures.placed c.in-Ok.ensures.different c.in-Ok.ensures.sites
       c.in-Ok.ensures.cores c.in-Ok-keys.ensures.blocks c.in-Ok-keys.ensures.apart c.in-Ok-keys.ensures.enough c.in-Ok-net_plans.ensures.planned c.in-Ok-net_plans.ensures.routing;
   one_table_each = c.in_ok-tables.ensures.all (ap (position is_long) (sym c.as_slice.ensures) ∙ sym c.in-None.ensures);
   tables = c.in_ok-tables.ensures.finals;
@@ -38,10 +38,9 @@ returns-in-Some-clause-cause g c =
     let first : position is_long c.in_ok-tables.tables ≡ Some c.in-Some.index = ap (position is_long) (sym c.as_slice.ensures) ∙ sym c.in-Some.ensures in
     let long : HasLongTable c.args.request.now.machine.now c.args.request.now.graph.now c.args.request.now.target c.chip_at.result c.table_at.result = record {
       placement = c.in-Ok.placement;
-      grown = c.in-Ok-net_plans.routed.grown;
-      nets = c.in-Ok-net_plans.routed.plans;
+      nets = c.in-Ok-net_plans.nets;
       routing =
-          routing_is c.args.request.now.machine.now c.args.request.now.graph.now c.in-Ok.placement c.in-Ok-keys.blocks c.in-Ok-net_plans.routed.grown c.in-Ok-net_plans.routed.plans c.in-Ok.ensures.placed c.in-Ok.ensures.different c.in-Ok.ensures.sites
+          routing_is c.args.request.now.machine.now c.args.request.now.graph.now c.in-Ok.placement c.in-Ok-keys.blocks c.in-Ok-net_plans.nets c.in-Ok.ensures.placed c.in-Ok.ensures.different c.in-Ok.ensures.sites
           c.in-Ok.ensures.cores c.in-Ok-keys.ensures.blocks c.in-Ok-keys.ensures.apart c.in-Ok-keys.ensures.enough c.in-Ok-net_plans.ensures.planned c.in-Ok-net_plans.ensures.routing;
       finals = c.in_ok-tables.tables;
       are = c.in_ok-tables.ensures.finals;
@@ -52,7 +51,7 @@ returns-in-Some-clause-cause g c =
     let has = long.are c.chip_at.result c.table_at.result long.inside long.at in (
       long,
       long_has_no_pair c.args.request.now.target has.rows c.in_ok-tables.tables c.in-Some.index c.table_at.result c.args.request.now.few_rows first c.table_at.ensures has.is_final,
-      long_has_many (length c.in-Ok-net_plans.routed.plans) (length c.args.request.now.graph.now.nets) c.in_ok-tables.tables c.in-Some.index c.table_at.result
+      long_has_many (length c.in-Ok-net_plans.nets) (length c.args.request.now.graph.now.nets) c.in_ok-tables.tables c.in-Some.index c.table_at.result
           c.in-Ok-net_plans.ensures.planned.one_plan_each c.in_ok-tables.ensures.few_rows first c.table_at.ensures,
     )
 
