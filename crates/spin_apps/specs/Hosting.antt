@@ -6,7 +6,7 @@ use Rattle.job_requests.specs.declared.steps.Step.TheVariants.{Load, Unload, Run
 use Rattle.job_requests.specs.Valid.{HasFirstMachine}
 use Rattle.app_loads.specs.Applications.{AreApps}
 use Rattle.app_loads.specs.declared.plans.AppPlan.{AppPlan}
-use Rattle.app_loads.specs.Host.{Host, is_loaded}
+use Rattle.app_loads.specs.Host.{Host}
 use Rattle.app_loads.specs.Loading.{HasLoaded, IsLoadRefusal}
 use Rattle.spin_base.specs.declared.wants.Memory.{Memory}
 use Rattle.spin_apps.specs.declared.answers.Answered.{Answered}

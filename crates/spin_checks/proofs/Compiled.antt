@@ -15,7 +15,6 @@ use Rattle.machine_desc.specs.RoutingTree.{IsRoutingTree}
 use Rattle.machine_desc.proofs.EdgePlaces.{before_place}
 use Rattle.app_graph.specs.declared.graphs.Graph.{Graph}
 use Rattle.app_graph.specs.declared.graphs.Net.{Net}
-use Rattle.ner_trees.specs.declared.growths.Grown.{Grown}
 use Rattle.link_detours.specs.Repair.{AreInPlaceOrder}
 use Rattle.machine_desc.specs.declared.nets.NetPlan.{NetPlan}
 use Rattle.net_plans.specs.NetPlans.{IsPlannedNet}
@@ -51,9 +50,9 @@ module _ (m : Description) (graph : Graph) (target : ℕ) (plan : Plan) (is : Is
   its_tree i p at = All-at (λ (n : NetPlan). IsRoutingTree m n.tree.root n.tree.edges n.targets) plan.nets i p is.routing.stand.trees at
 
   -- a planned net is one with its tree
-  net_with : (i : ℕ) (net : Net) (block : Block) (growth : Grown) (p : NetPlan) → IsPlannedNet m plan.placement.spots net block growth p → slice_get plan.nets i ≡ Some p →
+  net_with : (i : ℕ) (net : Net) (block : Block) (p : NetPlan) → IsPlannedNet m plan.placement.spots net block p → slice_get plan.nets i ≡ Some p →
       IsNetWith plan.placement.spots net block p.tree.edges p
-  net_with i net block growth p planned at = record {
+  net_with i net block p planned at = record {
     keyed = planned.block;
     source = planned.source;
     targets = planned.targets;
@@ -75,11 +74,9 @@ module _ (m : Description) (graph : Graph) (target : ℕ) (plan : Plan) (is : Is
     one_tree_each = length-map plan.nets (λ (net : NetPlan). net.tree.edges) ∙ is.routing.planned.one_plan_each;
     one_plan_each = is.routing.planned.one_plan_each;
     each = λ i net block edges p net_at block_at edges_at p_at.
-        let below : i < length graph.nets = slice_get_within graph.nets i net net_at in
-        let growth = slice_get_there plan.grown i (subst (λ n. i < n) (sym is.routing.planned.one_tree_each) below) in
-        let planned = is.routing.planned.each i net block growth.0 p net_at block_at growth.1 p_at in
+        let planned = is.routing.planned.each i net block p net_at block_at p_at in
         let same : p.tree.edges ≡ edges = one_item_at (trees_of plan.nets) i i p.tree.edges edges refl (slice_get-mapped (λ (n : NetPlan). n.tree.edges) plan.nets i p p_at) edges_at in
-        subst (λ es. IsNetWith plan.placement.spots net block es p) same (net_with i net block growth.0 p planned p_at);
+        subst (λ es. IsNetWith plan.placement.spots net block es p) same (net_with i net block p planned p_at);
   }
 
   all_good : All (HasGoodTree m) plan.nets
